@@ -1,5 +1,5 @@
 //! What one collection holds, and the sequential call on it.
-ghost use Rattle.std.specs.Prelude.{◌≡◌, ◌↔◌, ◌+◌, ◌≤◌, ℕ, Some, None, IsTrue, IfOk, IfErr, OnErr, length};
+ghost use Rattle.std.specs.Prelude.{◌≡◌, ◌↔◌, ◌+◌, ◌≤◌, ℕ, Some, None, is_some, IsTrue, IfOk, IfErr, OnErr, length};
 ghost use Rattle.seq_model.specs.Calls.{map_call, multiset_call, priority_queue_call, queue_call, held_call, add_call, value_reply, found_reply, IsRefusal, IsWithinLimits};
 ghost use Rattle.seq_model.specs.Counts.{HasFewCopies};
 
@@ -171,6 +171,22 @@ impl<V> Held<V> {
             Held::Bag(counts) | Held::Pq(counts) => counts.has_few_copies(),
             Held::Queue { head, items } => {
                 *head <= INDEX_LIMIT && items.len() as u64 <= INDEX_LIMIT - *head
+            }
+        }
+    }
+}
+
+impl<V> Held<V> {
+    /// Whether the call is one of this kind of collection.
+    pub fn serves(&self, op: &Op<V>) -> bool
+        ensures { result ≡ is_some (held_call op.now self.now) }
+    {
+        match self {
+            Held::Map(_) => matches!(op, Op::Get(_) | Op::Put(_, _) | Op::Remove(_) | Op::Len),
+            Held::Bag(_) => matches!(op, Op::Count(_) | Op::Add(_) | Op::Take(_)),
+            Held::Pq(_) => matches!(op, Op::Least | Op::Insert(_) | Op::TakeLeast),
+            Held::Queue { .. } => {
+                matches!(op, Op::Enqueue(_) | Op::Dequeue | Op::Peek | Op::Len)
             }
         }
     }
