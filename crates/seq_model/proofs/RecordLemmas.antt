@@ -25,7 +25,7 @@ module _ {V : Type 0} where
   not_before : (r x : ℕ × Record V) → stays r x ≡ true → comes_before r x ≡ false
   not_before r x h = elim (comes_before r x) as (λ b. not b ≡ true → b ≡ false) [ true ↦ λ e. sym e | false ↦ λ e. refl ] h
 
-  later : (r x y : ℕ × Record V) → comes_before r x ≡ true → comes_before y x ≡ false → comes_before r y ≡ true
+  pub later : (r x y : ℕ × Record V) → comes_before r x ≡ true → comes_before y x ≡ false → comes_before r y ≡ true
   later r x y h g = before_later r.1.number x.1.number y.1.number r.1.writes x.1.writes y.1.writes r.0 x.0 y.0 h g
 
   -- every place behind one that the record comes before is one too

@@ -1,6 +1,8 @@
 -- Transactions, the order of their commits, and runs of them.
 use Rattle.std.specs.Prelude.{◌≡◌, ℕ, Bool, true, false, nat_lt, nat_le, if◌then◌else◌, List, [], ◌∷◌, Option, Some, option_map, filter, ⊤}
 use Rattle.std.specs.Option.{option_map_or}
+use Rattle.std.specs.List.{list_any}
+use Rattle.seq_model.specs.Changes.{changes}
 use Rattle.seq_model.specs.declared.call.Call.{Call}
 use Rattle.seq_model.specs.declared.call.Reply.{Reply}
 use Rattle.seq_model.specs.declared.record.Record.{Record}
@@ -24,6 +26,10 @@ IsLegal (c ∷ cs) s = (reply_of c.0 s ≡ Some c.1) × IsLegal cs (after_call c
 abbrev pub after_calls : {V : Type 0} → List (Call V × Reply V) → Contents V → Contents V
 after_calls [] s = s
 after_calls (c ∷ cs) s = after_calls cs (after_call c.0 s)
+
+-- whether it changes something: such a transaction is a writer
+abbrev pub is_writer : {V : Type 0} → List (Call V × Reply V) → Bool
+is_writer calls = list_any (λ c. changes c.0.op c.1) calls
 
 -- ---- committed transactions: each with the actor that committed it
 -- by number; at one number the writer first, then readers by actor

@@ -1,2 +1,3 @@
 pub mod Worlds
-pub mod Cores
+pub mod Parts
+pub mod Serial

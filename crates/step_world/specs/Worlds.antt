@@ -107,16 +107,15 @@ abbrev pub is_writer : {V : Type 0} → List (Call V × Reply V) → Bool
 is_writer calls = list_any (λ c. changes c.0.op c.1) calls
 
 abbrev pub commit_at : {V : Type 0} → World V → Transaction V → Bool → ℕ → After V
-commit_at w t writes number =
-    (
-      record w {
-        clock = number;
-        contents = t.own;
-        seat = Free;
-        records = insert_record (t.actor, record { number = number; writes = writes; calls = t.calls }) w.records;
-      },
-      Answered t.actor (answer.Committed number),
-    )
+commit_at w t writes number = (
+  record w {
+    clock = number;
+    contents = t.own;
+    seat = Free;
+    records = insert_record (t.actor, record { number = number; writes = writes; calls = t.calls }) w.records;
+  },
+  Answered t.actor (answer.Committed number),
+)
 
 -- a writer's number is the clock after its commit, a reader's the clock as it began
 abbrev pub commit : {V : Type 0} → World V → Transaction V → After V

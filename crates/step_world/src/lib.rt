@@ -7,10 +7,10 @@
 //! For now one transaction is open at a time, over one map, and each request is answered by its first step.
 #![tactic(auto)]
 
-mod core;
+mod parts;
 mod seat;
 mod trace;
 mod world;
 
 pub use trace::{Ended, Trace};
-pub use world::{World, run_world};
+pub use world::World;

@@ -1,5 +1,5 @@
 //! The one transaction that may be open, and what its actor asks.
-ghost use Rattle.std.specs.Prelude.{◌≡◌, IfOk};
+ghost use Rattle.std.specs.Prelude.{◌≡◌, ◌↔◌, IsTrue};
 ghost use Rattle.std.specs.List.{list_any};
 ghost use Rattle.seq_model.specs.Changes.{changes};
 ghost use Rattle.step_world.specs.Worlds.{ask_call, ask_own, ask_seat, beside, starve_own, starve_seat, is_writer};

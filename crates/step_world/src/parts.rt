@@ -1,19 +1,23 @@
 //! A world's parts, and what an event does to them.
 ghost use Rattle.std.specs.Prelude.{◌≡◌, ◌≤◌, ◌<◌, ◌↔◌, ℕ, IsTrue, IfOk};
+ghost use Rattle.seq_model.specs.Contents.{call_of};
 ghost use Rattle.seq_model.specs.Runs.{IsInCommitOrder};
-ghost use Rattle.step_world.specs.Cores.{world_of};
+ghost use Rattle.step_world.specs.Parts.{world_of};
 ghost use Rattle.step_world.specs.Worlds.{begin, commit, reply, step_own, step_seat, happens, is_actor, end};
 
 use crate::seat::{Asked, Seat, Transaction};
 use crate::trace::Ended;
-use seq_model::{ACTOR_LIMIT, Answer, CLOCK_LIMIT, Call, Event, Items, Memory, Notice, Record, Refusal, State, Value, insert_record};
+use seq_model::{
+    ACTOR_LIMIT, Answer, CLOCK_LIMIT, Call, Event, Items, Memory, Notice, Record, Refusal, State,
+    Value, insert_record,
+};
 use std::alloc::Global;
 use std::mem;
 use std::snapshot::Snapshot;
 
 /// A world's parts.
 #[derive(Drop)]
-pub struct Core<V> {
+pub struct Parts<V> {
     pub opening: Snapshot<State<V>>,
     pub clock: u64,
     pub state: State<V>,
@@ -22,7 +26,7 @@ pub struct Core<V> {
     pub aborted: Vec<Ended<V>>,
 }
 
-impl<V: Value> Core<V> {
+impl<V: Value> Parts<V> {
     pub fn happen(&mut self, event: Event<V>) -> Result<Notice<V>, Memory>
         requires clock { self.old.clock ≤ CLOCK_LIMIT }
         requires ordered { IsInCommitOrder self.old.records.items }

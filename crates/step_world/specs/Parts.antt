@@ -1,8 +1,8 @@
 -- The world that a world's parts stand for.
-use Rattle.step_world.specs.declared.core.Core.{Core}
+use Rattle.step_world.specs.declared.parts.Parts.{Parts}
 use Rattle.step_world.specs.Worlds.{World}
 
-abbrev pub world_of : {V : Type 0} → Core V → World V
+abbrev pub world_of : {V : Type 0} → Parts V → World V
 world_of c =
     record {
       opening = c.opening.value;
