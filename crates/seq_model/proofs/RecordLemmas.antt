@@ -8,7 +8,7 @@ use Rattle.seq_model.specs.declared.record.Record.{Record}
 use Rattle.seq_model.specs.Runs.{comes_before, insert_record, IsInCommitOrder}
 
 -- the numbers and flags that decide
-abbrev before : ℕ → Bool → ℕ → ℕ → Bool → ℕ → Bool
+abbrev pub before : ℕ → Bool → ℕ → ℕ → Bool → ℕ → Bool
 before n w a m v b = cond (nat_lt n m) true (cond (nat_lt m n) false (cond w true (cond v false (nat_lt a b))))
 
 -- what comes before x comes before all that does not come before x

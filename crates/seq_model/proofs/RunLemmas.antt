@@ -9,14 +9,20 @@ use Rattle.seq_model.specs.declared.call.Call.{Call}
 use Rattle.seq_model.specs.declared.call.Reply.{Reply}
 use Rattle.seq_model.specs.declared.record.Record.{Record}
 use Rattle.seq_model.specs.Contents.{Contents, call_of}
-use Rattle.seq_model.specs.Runs.{reply_of, after_call, IsLegal, after_calls, comes_before, insert_record, IsInCommitOrder, IsRun, after_run, state_at, is_writer}
+use Rattle.seq_model.specs.Runs.{reply_of, after_call, IsLegal, after_calls, comes_before, insert_record, NoneComesBefore, IsInCommitOrder, IsRun, after_run, state_at, is_writer}
 use Rattle.seq_model.specs.Changes.{changes}
 use Rattle.seq_model.proofs.ChangeLemmas.{unchanged}
-use Rattle.seq_model.proofs.RecordLemmas.{later}
+use Rattle.seq_model.proofs.RecordLemmas.{before, later}
 
 either : (a b : Bool) → (a || b) ≡ false → (a ≡ false) × (b ≡ false)
 either true b h = cc
 either false b h = (refl, h)
+
+not_both : (n m : ℕ) (w v : Bool) (a b : ℕ) → before n w a m v b ≡ true → (w ≡ true → v ≡ true → n ≢ m) → before m v b n w a ≡ false
+not_both n m true true a b h clash = let apart : n ≢ m = clash refl refl in grind (arith, nat_tests)
+not_both n m true false a b h clash = grind (arith, nat_tests)
+not_both n m false true a b h clash = grind (arith, nat_tests)
+not_both n m false false a b h clash = grind (arith, nat_tests)
 
 module _ {V : Type 0} where
   -- ---- calls one after another
@@ -121,3 +127,29 @@ module _ {V : Type 0} where
     where
       passes : (k n m : ℕ) → k ≤ n → n ≤ m → nat_le k m ≡ true
       passes k n m h g = grind (arith, nat_tests)
+
+  -- ---- order
+  -- no other writer has the record's number
+  abbrev pub NoClash : ℕ × Record V → List (ℕ × Record V) → Type 0
+  NoClash r [] = Unit {0}
+  NoClash r (x ∷ xs) = (r.1.writes ≡ true → x.1.writes ≡ true → r.1.number ≢ x.1.number) × NoClash r xs
+
+  behind : (r x : ℕ × Record V) → comes_before r x ≡ true → (r.1.writes ≡ true → x.1.writes ≡ true → r.1.number ≢ x.1.number) → comes_before x r ≡ false
+  behind r x h clash = not_both r.1.number x.1.number r.1.writes x.1.writes r.0 x.0 h clash
+
+  none_behind : (r x : ℕ × Record V) (ys : List (ℕ × Record V)) → comes_before r x ≡ true → NoneComesBefore x ys → NoClash r ys → NoneComesBefore r ys
+  none_behind r x [] h none clash = tt
+  none_behind r x (y ∷ ys) h none clash = (behind r y (later r x y h none.0) clash.0, none_behind r x ys h none.1 clash.1)
+
+  none_inserted : (x r : ℕ × Record V) (xs : List (ℕ × Record V)) → comes_before r x ≡ false → NoneComesBefore x xs → NoneComesBefore x (insert_record r xs)
+  none_inserted x r [] h none = (h, tt)
+  none_inserted x r (y ∷ ys) h none =
+      elim (comes_before r y) as (λ b. NoneComesBefore x (cond b (r ∷ y ∷ ys) (y ∷ insert_record r ys))) [ true ↦ (h, none) | false ↦ (none.0, none_inserted x r ys h none.1) ]
+
+  pub order_inserted : (r : ℕ × Record V) (xs : List (ℕ × Record V)) → IsInCommitOrder xs → NoClash r xs → IsInCommitOrder (insert_record r xs)
+  order_inserted r [] ordered clash = (tt, tt)
+  order_inserted r (x ∷ xs) ordered clash =
+      elim (comes_before r x) as (λ b. comes_before r x ≡ b → IsInCommitOrder (cond b (r ∷ x ∷ xs) (x ∷ insert_record r xs))) [
+        | true ↦ λ e. ((behind r x e clash.0, none_behind r x xs e ordered.0 clash.1), ordered)
+        | false ↦ λ e. (none_inserted x r xs e ordered.0, order_inserted r xs ordered.1 clash.1)
+      ] refl

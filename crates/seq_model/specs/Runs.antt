@@ -46,14 +46,15 @@ abbrev pub insert_record : {V : Type 0} → ℕ × Record V → List (ℕ × Rec
 insert_record r [] = r ∷ []
 insert_record r (x ∷ xs) = if comes_before r x then r ∷ x ∷ xs else x ∷ insert_record r xs
 
+-- none of these records comes before x
+abbrev pub NoneComesBefore : {V : Type 0} → ℕ × Record V → List (ℕ × Record V) → Type 0
+NoneComesBefore x [] = ⊤
+NoneComesBefore x (r ∷ rs) = (comes_before r x ≡ false) × NoneComesBefore x rs
+
 -- no record comes before one that stands before it; so no two writers share a number
 abbrev pub IsInCommitOrder : {V : Type 0} → List (ℕ × Record V) → Type 0
 IsInCommitOrder [] = ⊤
-IsInCommitOrder (x ∷ xs) = NoneBefore x xs × IsInCommitOrder xs
-  where
-    NoneBefore : {V : Type 0} → ℕ × Record V → List (ℕ × Record V) → Type 0
-    NoneBefore x [] = ⊤
-    NoneBefore x (r ∷ rs) = (comes_before r x ≡ false) × NoneBefore x rs
+IsInCommitOrder (x ∷ xs) = NoneComesBefore x xs × IsInCommitOrder xs
 
 -- each record is legal at the state that those before it leave
 abbrev pub IsRun : {V : Type 0} → List (ℕ × Record V) → Contents V → Type 0

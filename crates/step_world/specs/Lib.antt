@@ -1,3 +1,4 @@
 pub mod Worlds
 pub mod Parts
 pub mod Serial
+pub mod Sound

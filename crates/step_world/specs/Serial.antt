@@ -1,24 +1,19 @@
--- Serial order: the committed transactions are a run of the sequential model.
-use Rattle.std.specs.Prelude.{◌≡◌, ℕ, ◌<◌, ◌≤◌, Bool, true, false, List, [], ◌∷◌, Option, ⊤}
+-- Serial order: the committed transactions are a run of the sequential model, and what the world holds is what it leaves.
+use Rattle.std.specs.Prelude.{◌≡◌, ℕ, ◌<◌, ◌≤◌, Bool, List, [], ◌∷◌, ⊤}
 use Rattle.seq_model.specs.declared.record.Record.{Record}
-use Rattle.seq_model.specs.declared.limits.TheConstants.{CLOCK_LIMIT}
 use Rattle.seq_model.specs.Contents.{Contents}
-use Rattle.seq_model.specs.Runs.{IsLegal, after_calls, IsInCommitOrder, IsRun, after_run, state_at}
+use Rattle.seq_model.specs.Runs.{IsLegal, IsInCommitOrder, IsRun, after_run, state_at}
 use Rattle.step_world.specs.declared.trace.Ended.{Ended}
 use Rattle.step_world.specs.declared.seat.Seat.{Seat}
 use Rattle.step_world.specs.declared.seat.Seat.TheVariants.{Free, Beginning, Open}
 use Rattle.step_world.specs.Worlds.{World}
-
-abbrev pub NumbersUpTo : {V : Type 0} → ℕ → List (ℕ × Record V) → Type 0
-NumbersUpTo n [] = ⊤
-NumbersUpTo n (r ∷ rs) = (r.1.number ≤ n) × NumbersUpTo n rs
 
 -- each aborted transaction saw the state at the number that it began with
 abbrev pub AllSaw : {V : Type 0} → Contents V → List (ℕ × Record V) → List (Ended V) → Type 0
 AllSaw opening records [] = ⊤
 AllSaw opening records (e ∷ es) = IsLegal e.calls (state_at e.rv records opening) × AllSaw opening records es
 
--- the open transaction saw the state at the number that it began with
+-- so did the open one
 abbrev pub OpenSaw : {V : Type 0} → Contents V → List (ℕ × Record V) → Seat V → Type 0
 OpenSaw opening records Free = ⊤
 OpenSaw opening records (Beginning a) = ⊤
@@ -26,13 +21,12 @@ OpenSaw opening records (Open t) = IsLegal t.calls (state_at t.rv records openin
 
 pub record IsSerial {V : Type 0} (w : World V) : Type 0 where
   pub ordered : IsInCommitOrder w.records
-  pub numbered : NumbersUpTo w.clock w.records
   pub run : IsRun w.records w.opening
   pub left : w.contents ≡ after_run w.records w.opening
   pub open_saw : OpenSaw w.opening w.records w.seat
   pub aborted_saw : AllSaw w.opening w.records w.aborted
 
--- What a world is to its callers: what has come of its events, or a growth was refused to one of them, and it answers
+-- What a world is to its callers: what has come of its events; or a growth was refused to one of them, and it answers
 -- Memory from then on.
 pub record Shown (V : Type 0) : Type 0 where
   pub failed : Bool

@@ -1,6 +1,5 @@
 -- A world in which one transaction is open at a time: what each event changes, and what it tells.
 use Rattle.std.specs.Prelude.{◌≡◌, ℕ, ◌+◌, Bool, true, false, ◌==◌, ◌&&◌, nat_lt, nat_le, if◌then◌else◌, List, [], ◌∷◌, ◌++◌, length, Option, Some, None, is_some}
-use Rattle.std.specs.List.{list_any}
 use Rattle.seq_model.specs.declared.call.Call.{Call}
 use Rattle.seq_model.specs.declared.call.Reply.{Reply}
 use Rattle.seq_model.specs.declared.record.Record.{Record}
@@ -15,8 +14,7 @@ use Rattle.seq_model.specs.declared.event.Notice.{Notice}
 use Rattle.seq_model.specs.declared.event.Notice.TheVariants.{Quiet, Answered, Refused}
 use Rattle.seq_model.specs.declared.limits.TheConstants.{ACTOR_LIMIT, CALL_LIMIT, CLOCK_LIMIT}
 use Rattle.seq_model.specs.Contents.{Contents, call_of}
-use Rattle.seq_model.specs.Runs.{comes_before, insert_record}
-use Rattle.seq_model.specs.Changes.{changes}
+use Rattle.seq_model.specs.Runs.{insert_record, is_writer}
 use Rattle.step_world.specs.declared.trace.Ended.{Ended}
 use Rattle.step_world.specs.declared.seat.Seat.{Seat}
 use Rattle.step_world.specs.declared.seat.Seat.TheVariants.{Free, Beginning, Open}
@@ -101,10 +99,6 @@ abbrev pub reply : {V : Type 0} → World V → Transaction V → Call V → Opt
 reply w t call None = (with_seat w (Open (record t { asked = asked.Nothing })), Refused t.actor refusal.NoSuch)
 reply w t call (Some r) =
     (with_seat w (Open (record t { own = r.1; calls = t.calls ++ (call, r.0) ∷ []; asked = asked.Nothing })), Answered t.actor (answer.Replied r.0))
-
--- whether a transaction with these calls is a writer
-abbrev pub is_writer : {V : Type 0} → List (Call V × Reply V) → Bool
-is_writer calls = list_any (λ c. changes c.0.op c.1) calls
 
 abbrev pub commit_at : {V : Type 0} → World V → Transaction V → Bool → ℕ → After V
 commit_at w t writes number = (

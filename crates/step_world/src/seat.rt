@@ -1,8 +1,7 @@
 //! The one transaction that may be open, and what its actor asks.
 ghost use Rattle.std.specs.Prelude.{◌≡◌, ◌↔◌, IsTrue};
-ghost use Rattle.std.specs.List.{list_any};
-ghost use Rattle.seq_model.specs.Changes.{changes};
-ghost use Rattle.step_world.specs.Worlds.{ask_call, ask_own, ask_seat, beside, starve_own, starve_seat, is_writer};
+ghost use Rattle.step_world.specs.Worlds.{ask_call, ask_own, ask_seat, beside, starve_own, starve_seat};
+ghost use Rattle.seq_model.specs.Runs.{is_writer};
 
 use seq_model::{CALL_LIMIT, Call, Items, Notice, Refusal, Reply, Request, State};
 

@@ -20,7 +20,8 @@ pub struct World<V> {
 impl<V> Model for World<V> {
     ghost use Rattle.std.specs.Prelude.{◌≡◌, false};
     ghost use Rattle.step_world.specs.Parts.{world_of};
-    ghost use Rattle.step_world.specs.Serial.{Shown, IsSerial};
+    ghost use Rattle.step_world.specs.Sound.{IsSound};
+    ghost use Rattle.step_world.specs.Serial.{Shown};
     ghost use Rattle.std.specs.Coded.{codes};
     ghost use Rattle.seq_model.specs.Contents.{contents_code};
 
@@ -30,7 +31,7 @@ impl<V> Model for World<V> {
 
     ghost view = { λ a. record { failed = a.failed; world = world_of a.parts } };
 
-    ghost invariant = { λ a. a.failed ≡ false → IsSerial (world_of a.parts) };
+    ghost invariant = { λ a. a.failed ≡ false → IsSound (world_of a.parts) };
 }
 
 impl<V: Value> World<V> {
