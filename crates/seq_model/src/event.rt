@@ -1,7 +1,10 @@
 //! What happens in a world, and what its actors are told.
+ghost use Rattle.std.specs.Prelude.{◌≡◌, IfOk};
+
 use crate::call::{Call, Reply};
 use crate::items::Items;
-use crate::refusal::Refusal;
+use crate::refusal::{Memory, Refusal};
+use crate::value::Value;
 
 /// How a world is laid out.
 #[derive(Drop)]
@@ -47,4 +50,29 @@ pub enum Notice<V> {
     Quiet,
     Answered(u32, Answer<V>),
     Refused(u32, Refusal),
+}
+
+impl<V: Value> Request<V> {
+    pub fn try_copy(&self) -> Result<Request<V>, Memory>
+        ensures { IfOk result (λ copy. copy ≡ self.now) }
+    {
+        Ok(match self {
+            Request::Begin => Request::Begin,
+            Request::Call(call) => Request::Call(call.try_copy()?),
+            Request::Commit => Request::Commit,
+            Request::Abort => Request::Abort,
+        })
+    }
+}
+
+impl<V: Value> Event<V> {
+    pub fn try_copy(&self) -> Result<Event<V>, Memory>
+        ensures { IfOk result (λ copy. copy ≡ self.now) }
+    {
+        Ok(match self {
+            Event::Ask(actor, request) => Event::Ask(*actor, request.try_copy()?),
+            Event::Step(actor) => Event::Step(*actor),
+            Event::Starve(actor) => Event::Starve(*actor),
+        })
+    }
 }

@@ -1,5 +1,5 @@
 -- Every event keeps a world sound, and so serial.
-use Rattle.std.proofs.Common.{◌≡◌, ◌≢◌, ℕ, ◌+◌, ◌<◌, ◌≤◌, Bool, true, false, cond, ◌&&◌, List, [], ◌∷◌, ◌++◌, Option, Some, None, refl, sym, ◌∙◌, ap, subst, arith}
+use Rattle.std.proofs.Common.{suc, get_or, drop, drop-cons, add-one, ◌≡◌, ◌≢◌, ℕ, ◌+◌, ◌<◌, ◌≤◌, Bool, true, false, cond, ◌&&◌, List, [], ◌∷◌, ◌++◌, Option, Some, None, refl, sym, ◌∙◌, ap, subst, arith}
 use Rattle.std.specs.Prelude.{nat_lt, nat_le, ◌==◌, option_map, is_some, length, filter}
 use Rattle.std.specs.Option.{option_map_or}
 use Rattle.std.proofs.lemmas.Bool.Decides.{nat_tests}
@@ -290,3 +290,39 @@ module _ {V : Type 0} where
     begun = tt;
     seat = tt;
   }
+
+  -- ---- the opening stays
+  abbrev OpenedAs : World V → World V × Notice V → Type 0
+  OpenedAs w r = r.0.opening ≡ w.opening
+
+  replies-opening : (w : World V) (t : Transaction V) (call : Call V) (answer : Option (Reply V × Contents V)) → OpenedAs w (reply w t call answer)
+  replies-opening w t call None = refl
+  replies-opening w t call (Some r) = refl
+
+  own-opening : (w : World V) (t : Transaction V) (before : Asked V) → OpenedAs w (step_own w t before)
+  own-opening w t asked.Nothing = refl
+  own-opening w t (asked.Call call) = replies-opening w t call (call_of call t.own)
+  own-opening w t asked.Commit = choose (OpenedAs w) (is_writer t.calls) _ _ refl refl
+  own-opening w t asked.Abort = refl
+  own-opening w t asked.Starved = refl
+
+  steps-opening : (w : World V) (a : ℕ) (seat : Seat V) → OpenedAs w (step_seat w a seat)
+  steps-opening w a Free = refl
+  steps-opening w a (Beginning b) = choose (OpenedAs w) (a == b) _ _ (choose (OpenedAs w) (nat_lt w.clock CLOCK_LIMIT) _ _ refl refl) refl
+  steps-opening w a (Open t) = choose (OpenedAs w) (a == t.actor) _ _ (own-opening w t t.asked) refl
+
+  happens-opening : (w : World V) (e : Event V) → OpenedAs w (happens w e)
+  happens-opening w (Ask a q) = choose (OpenedAs w) (is_actor a) _ _ refl refl
+  happens-opening w (Step a) = choose (OpenedAs w) (is_actor a) _ _ (steps-opening w a w.seat) refl
+  happens-opening w (Starve a) = choose (OpenedAs w) (is_actor a) _ _ refl refl
+
+  pub run-opening : (w : World V) (es : List (Event V)) → (run w es).opening ≡ w.opening
+  run-opening w [] = refl
+  run-opening w (e ∷ es) = run-opening (happens w e).0 es ∙ happens-opening w e
+
+  -- one event of a list
+  pub run_one : (w u : World V) (n : Notice V) (es : List (Event V)) (i : ℕ) (e : Event V) → i < length es → e ≡ get_or es i e → happens w e ≡ (u, n) → run u (drop (i + 1) es) ≡ run w (drop i es)
+  run_one w u n es i e lt at told =
+      ap (λ (r : World V × Notice V). run r.0 (drop (i + 1) es)) (sym told)
+      ∙ ap (λ k. run (happens w e).0 (drop k es)) (add-one i)
+      ∙ sym (ap (run w) (drop-cons es i e lt ∙ ap (λ d. d ∷ drop (suc i) es) (sym at)))

@@ -2,3 +2,4 @@ pub mod Worlds
 pub mod Parts
 pub mod Serial
 pub mod Sound
+pub mod Traces

@@ -7,10 +7,11 @@
 //! For now one transaction is open at a time, over one map, and each request is answered by its first step.
 #![tactic(auto)]
 
+pub mod laws;
 mod parts;
 mod seat;
 mod trace;
 mod world;
 
 pub use trace::{Ended, Trace};
-pub use world::World;
+pub use world::{World, run_world};

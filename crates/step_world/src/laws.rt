@@ -1,0 +1,16 @@
+//! The law of a world, over every list of events.
+ghost use Rattle.std.specs.Prelude.{ℕ, ◌≤◌, List};
+ghost use Rattle.seq_model.specs.declared.event.Event.{Event};
+ghost use Rattle.seq_model.specs.Contents.{Contents};
+ghost use Rattle.step_world.specs.Serial.{IsSerial};
+ghost use Rattle.step_world.specs.Worlds.{opened, run};
+
+use seq_model::CLOCK_LIMIT;
+
+/// Serial order: whatever the events, the committed transactions in commit order are a run of the sequential model from
+/// the opening, what the world holds is what they leave, and each open or aborted transaction saw the state at the
+/// number that it began with, now and after whatever events come.
+pub fn serial_order<V>()
+    ensures { (clock : ℕ) (opening : Contents V) (events : List (Event V)) → clock ≤ CLOCK_LIMIT →
+        IsSerial (run (opened clock opening) events) }
+{}
