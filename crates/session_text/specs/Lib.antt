@@ -1,0 +1,1 @@
+-- The readers and printers of texts need no definition of their own: their formats are shown by tests.

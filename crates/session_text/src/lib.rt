@@ -1,0 +1,16 @@
+//! Readers and printers of the program's texts.
+//!
+//! A step script lays out a world and says, event by event, what happens in it. `parse_steps` reads one, `run_script`
+//! feeds it to a world, and `print_trace` prints what came of it. The texts' grammar stands in docs/formats.md.
+#![tactic(auto)]
+
+mod collections;
+mod number;
+mod print;
+mod requests;
+mod run;
+mod script;
+
+pub use print::print_trace;
+pub use run::{ScriptRun, run_script};
+pub use script::{Collection, Line, Script, parse_steps};

@@ -1,0 +1,147 @@
+//! Runs a script.
+use crate::script::{Collection, Line, STEP_LIMIT, Script};
+use seq_model::{Event, Items, Memory, Notice, Refusal, Request, Shape, State};
+use std::alloc::Global;
+use step_world::{Trace, World};
+
+/// What came of a script.
+#[derive(Drop)]
+pub struct ScriptRun {
+    /// The notices other than `Quiet`, in their order.
+    pub notices: Items<Notice<u64>>,
+    pub opening: State<u64>,
+    pub trace: Trace<u64>,
+}
+
+/// Opens the script's world, and feeds it the script's events.
+///
+/// `NoSuch` and `TooLong` as `World::open`, `TooLong` also where a collection of the header is beyond a limit, and
+/// `OutOfMemory` where a growth was refused.
+pub fn run_script(alloc: Global, script: &Script) -> Result<ScriptRun, Refusal> {
+    let opening = opening_of(alloc, script)?;
+    let world = World::open(alloc, &shape_of(alloc, script)?, opening.try_copy(alloc)?)?;
+    let mut runner = Runner {
+        world,
+        notices: Items::new(alloc),
+        waiting: vec![in alloc; false; 65]?,
+    };
+    for line in script.lines.as_slice() {
+        runner.run_line(line)?;
+    }
+    let Runner {
+        world,
+        notices,
+        waiting: _,
+    } = runner;
+    let trace = world.into_trace()?;
+    Ok(ScriptRun {
+        notices,
+        opening,
+        trace,
+    })
+}
+
+fn opening_of(alloc: Global, script: &Script) -> Result<State<u64>, Refusal> {
+    let words = Vec::from_slice(alloc, script.words.as_slice())?;
+    let mut held = Vec::new(alloc);
+    for collection in script.collections.as_slice() {
+        held.push(collection.held.try_copy(alloc)?)?;
+    }
+    State::new(words, held)
+}
+
+fn shape_of(alloc: Global, script: &Script) -> Result<Shape, Memory> {
+    let mut stripes = Vec::new(alloc);
+    for collection in script.collections.as_slice() {
+        stripes.push(collection.stripes)?;
+    }
+    Ok(Shape {
+        stripes: Items::from_vec(stripes),
+        clock: script.clock,
+    })
+}
+
+#[derive(Drop)]
+struct Runner {
+    world: World<u64>,
+    notices: Items<Notice<u64>>,
+    /// By actor: whether a request of it is unanswered.
+    waiting: Vec<bool>,
+}
+
+impl Runner {
+    fn run_line(&mut self, line: &Line) -> Result<(), Memory> {
+        match line {
+            Line::Ask(actor, request) => {
+                self.ask(*actor, request)?;
+                Ok(())
+            }
+            Line::Do(actor, request) => {
+                if self.ask(*actor, request)? {
+                    self.steps(*actor, STEP_LIMIT)?;
+                }
+                Ok(())
+            }
+            Line::Steps(actor, count) => self.steps(*actor, *count),
+            Line::Starve(actor) => {
+                self.happen(*actor, Event::Starve(*actor))?;
+                Ok(())
+            }
+            Line::Alternate(first, second) => self.alternate(*first, *second),
+        }
+    }
+
+    // Whether the event told nothing.
+    fn happen(&mut self, actor: u32, event: Event<u64>) -> Result<bool, Memory> {
+        let notice = self.world.feed(event)?;
+        if let Notice::Quiet = notice {
+            return Ok(true);
+        }
+        self.notices.push(notice)?;
+        self.set_waiting(actor, false);
+        Ok(false)
+    }
+
+    fn ask(&mut self, actor: u32, request: &Request<u64>) -> Result<bool, Memory> {
+        let waited = self.is_waiting(actor);
+        let quiet = self.happen(actor, Event::Ask(actor, request.try_copy()?))?;
+        // A request that is refused beside an unanswered one leaves that one waiting.
+        self.set_waiting(actor, quiet || waited);
+        Ok(quiet)
+    }
+
+    fn steps(&mut self, actor: u32, count: u64) -> Result<(), Memory> {
+        for _ in 0..count {
+            if !self.happen(actor, Event::Step(actor))? {
+                return Ok(());
+            }
+        }
+        Ok(())
+    }
+
+    fn alternate(&mut self, first: u32, second: u32) -> Result<(), Memory> {
+        let mut actor = first;
+        let mut other = second;
+        for _ in 0..STEP_LIMIT {
+            if !self.is_waiting(actor) {
+                if !self.is_waiting(other) {
+                    return Ok(());
+                }
+                (actor, other) = (other, actor);
+            }
+            self.happen(actor, Event::Step(actor))?;
+            (actor, other) = (other, actor);
+        }
+        Ok(())
+    }
+
+    fn is_waiting(&self, actor: u32) -> bool {
+        self.waiting.get(actor as usize).copied().unwrap_or(false)
+    }
+
+    fn set_waiting(&mut self, actor: u32, waits: bool) {
+        if let Some(waiting) = self.waiting.get_mut(actor as usize) {
+            *waiting = waits;
+        }
+    }
+}
