@@ -1,0 +1,141 @@
+//! The values that a transaction read or is to write, by location.
+ghost use Rattle.std.specs.Prelude.{◌≡◌, ◌↔◌, ◌+◌, ◌<◌, ◌≤◌, [], Err, IsOk, IsSome, OnErr, OnOk, length};
+ghost use Rattle.tx_sets.specs.Entries.{IsRising, lookup, with_entry};
+ghost use Rattle.tx_sets.specs.AccessSet.{IsBeyondLimit, IsPlaceOf, LacksRoom};
+ghost use Rattle.tx_sets.specs.declared.set_refusal.SetRefusal.TheVariants.{OutOfMemory, TooLong};
+
+use crate::set_refusal::SetRefusal;
+use std::alloc::{AllocError, Global};
+use std::marker::{Model, PhantomData};
+
+/// How many locations a set has at most.
+pub const LOCATION_LIMIT: usize = 4096;
+
+/// Marks the set of what a transaction read.
+#[derive(Clone, Copy, Debug)]
+pub struct Reads;
+
+/// Marks the set of what a transaction is to write.
+#[derive(Clone, Copy, Debug)]
+pub struct Writes;
+
+/// The locations that a transaction read, each with the value that it read.
+pub type ReadSet = AccessSet<Reads>;
+
+/// The locations that a transaction is to write, each with the value that it last wrote.
+pub type WriteSet = AccessSet<Writes>;
+
+/// A finite map from locations to values, of at most `LOCATION_LIMIT` entries.
+#[derive(Drop)]
+pub struct AccessSet<Role> {
+    entries: Vec<(u32, u64)>,
+    role: PhantomData<Role>,
+}
+
+impl<Role> Model for AccessSet<Role> {
+    ghost use Rattle.std.specs.Prelude.{◌-◌};
+    ghost use Rattle.std.specs.Vec.{vec_capacity, vec_len};
+    ghost use Rattle.tx_sets.specs.AccessSet.{SetView};
+    ghost use Rattle.tx_sets.specs.Entries.{IsRising};
+
+    ghost Value = { SetView };
+
+    ghost view = { λ a. record { entries = a.entries.items; room = vec_capacity a.entries - vec_len a.entries } };
+
+    ghost invariant = { λ a. IsRising a.entries.items };
+}
+
+impl<Role> AccessSet<Role> {
+    /// The empty set. It allocates nothing.
+    pub fn new(alloc: Global) -> AccessSet<Role>
+        ensures entries { result.entries ≡ [] }
+        ensures room { result.room ≡ 0 }
+    {
+        AccessSet {
+            entries: Vec::new(alloc),
+            role: PhantomData,
+        }
+    }
+
+    /// How many locations there are.
+    pub fn len(&self) -> usize
+        ensures { result ≡ length self.now.entries }
+    {
+        self.entries.len()
+    }
+
+    /// The entries, rising by location.
+    pub fn in_order(&self) -> &[(u32, u64)]
+        ensures entries { result.now ≡ self.now.entries }
+        ensures rising { IsRising self.now.entries }
+    {
+        self.entries.as_slice()
+    }
+
+    /// The value of a location.
+    pub fn find(&self, location: u32) -> Option<u64>
+        ensures { result ≡ lookup self.now.entries location }
+    {
+        match self.place_of(location) {
+            Ok(at) => Some(self.entries[at].1),
+            Err(_) => None,
+        }
+    }
+
+    /// Sets the value of a location. Only a new location can be refused: `TooLong` beyond
+    /// `LOCATION_LIMIT` of them, and `OutOfMemory` where none was reserved. A refusal leaves the set
+    /// as it was.
+    pub fn put(&mut self, location: u32, value: u64) -> Result<(), SetRefusal>
+        ensures ok { OnOk result (self.new.entries ≡ with_entry self.old.entries location value) }
+        ensures too_long { (result ≡ Err TooLong) ↔ IsBeyondLimit self.old location }
+        ensures memory { result ≡ Err OutOfMemory → LacksRoom self.old location }
+        ensures err { OnErr result (self.new ≡ self.old) }
+
+        // It takes the room of one entry at most, and none where the location is there.
+        ensures there { IsSome (lookup self.old.entries location) → IsOk result }
+        ensures reserved { 0 < self.old.room → length self.old.entries < LOCATION_LIMIT → IsOk result }
+        ensures room { self.old.room ≤ self.new.room + 1 }
+        ensures room_there { IsSome (lookup self.old.entries location) → self.new.room ≡ self.old.room }
+    {
+        match self.place_of(location) {
+            Ok(at) => {
+                self.entries[at].1 = value;
+            }
+            Err(_) if self.entries.len() >= LOCATION_LIMIT => return Err(SetRefusal::TooLong),
+            Err(at) => self.entries.insert(at, (location, value))?,
+        }
+        Ok(())
+    }
+
+    /// Makes room for `more` further locations: within the limit, they are put without memory.
+    pub fn reserve(&mut self, more: usize) -> Result<(), AllocError>
+        ensures entries { self.new.entries ≡ self.old.entries }
+        ensures ok { OnOk result (more ≤ self.new.room) }
+        ensures room { self.old.room ≤ self.new.room }
+        ensures reserved { more ≤ self.old.room → IsOk result }
+        ensures err { OnErr result (self.new ≡ self.old) }
+    {
+        self.entries.reserve(more)
+    }
+
+    /// Takes all entries out, for the next transaction. The memory stays.
+    pub fn clear(&mut self)
+        ensures entries { self.new.entries ≡ [] }
+        ensures room { self.new.room ≡ self.old.room + length self.old.entries }
+    {
+        self.entries.clear();
+    }
+
+    // Where the location is, or where it would go. Locations often come in rising order, so the
+    // end is tried first.
+    fn place_of(&self, location: u32) -> Result<usize, usize>
+        ensures { IsPlaceOf location self.now.entries result }
+    {
+        let count = self.entries.len();
+        if count == 0 || self.entries[count - 1].0 < location {
+            return Err(count);
+        }
+        self.entries
+            .binary_search_by_key(&location, |entry| entry.0)
+    }
+}
