@@ -98,11 +98,14 @@ impl<Role> AccessSet<Role> {
         ensures room_there { IsSome (lookup self.old.entries location) → self.new.room ≡ self.old.room }
     {
         match self.place_of(location) {
-            Ok(at) => {
-                self.entries[at].1 = value;
+            Ok(at) => self.entries[at].1 = value,
+            Err(at) => {
+                if self.entries.len() >= LOCATION_LIMIT {
+                    return Err(SetRefusal::TooLong);
+                }
+                self.entries.reserve(1)?;
+                self.entries.insert(at, (location, value)).unwrap();
             }
-            Err(_) if self.entries.len() >= LOCATION_LIMIT => return Err(SetRefusal::TooLong),
-            Err(at) => self.entries.insert(at, (location, value))?,
         }
         Ok(())
     }

@@ -5,5 +5,4 @@ ghost use Rattle.tx_sets.specs.Entries.{AreFiniteMaps};
 /// location, and two lists on which it answers the same are one list.
 pub fn finite_maps()
     ensures { AreFiniteMaps }
-{
-}
+{}
