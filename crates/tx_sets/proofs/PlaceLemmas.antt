@@ -4,8 +4,8 @@ use Rattle.std.specs.List.{insert, AllWithin}
 use Rattle.std.specs.List.Sorted.{IsSearchInRange, IsBinarySearchResult, IsNonDecreasingBy}
 use Rattle.std.specs.Ordering.{nat_cmp, ordering_index}
 use Rattle.std.specs.declared.cmp.Ordering.TheVariants.{Less, Equal, Greater}
-use Rattle.std.specs.Prelude.{if◌then◌else◌, Bool, true, false, IsSome}
-use Rattle.std.proofs.lemmas.Bool.{cases_eq, cond-true}
+use Rattle.std.specs.Prelude.{true, false, IsSome}
+use Rattle.std.proofs.lemmas.Bool.{cases_eq}
 use Rattle.std.proofs.lemmas.Bool.Decides.{nat_tests}
 use Rattle.std.proofs.lemmas.Cmp.{ranked}
 use Rattle.std.proofs.lemmas.List.{get_or_default}
@@ -93,9 +93,8 @@ last_place l es n d rising all last = above_all l es n all below
         ]
 
 -- a new entry put where it goes
-pub put_new : (es fs gs : Entries) (l v i : ℕ) (b : Bool) → IsPlaceOf l es (Err i) → fs ≡ es → gs ≡ (if b then insert fs i (l, v) else fs) → b ≡ true → gs ≡ with_entry es l v
-put_new es fs gs l v i b place same is ok =
-    is ∙ cond-true b (insert fs i (l, v)) fs ok ∙ ap (λ (z : Entries). insert z i (l, v)) same ∙ insert_gap es l v i place.0 place.1.0 place.1.1
+pub put_new : (es fs gs : Entries) (l v i : ℕ) → IsPlaceOf l es (Err i) → fs ≡ es → gs ≡ insert fs i (l, v) → gs ≡ with_entry es l v
+put_new es fs gs l v i place same is = is ∙ ap (λ (z : Entries). insert z i (l, v)) same ∙ insert_gap es l v i place.0 place.1.0 place.1.1
 
 pub not_there : (o : Option ℕ) → o ≡ None → IsSome o → ⊥
 not_there o none some = let b : false ≡ true = subst (λ (x : Option ℕ). IsSome x) none some in cc

@@ -1,5 +1,6 @@
 //! The values that a transaction read or is to write, by location.
-ghost use Rattle.std.specs.Prelude.{◌≡◌, ◌↔◌, ◌+◌, ◌<◌, ◌≤◌, [], Err, IsOk, IsSome, OnErr, OnOk, length};
+ghost use Rattle.std.specs.Prelude.{◌≡◌, ◌↔◌, ◌+◌, ◌<◌, ◌≤◌, [], Err, IsOk, IsSome, OnErr, OnOk, insert, length};
+ghost use Rattle.std.specs.Vec.{vec_capacity, vec_len};
 ghost use Rattle.tx_sets.specs.Entries.{IsRising, lookup, with_entry};
 ghost use Rattle.tx_sets.specs.AccessSet.{IsBeyondLimit, IsPlaceOf, LacksRoom};
 ghost use Rattle.tx_sets.specs.declared.set_refusal.SetRefusal.TheVariants.{OutOfMemory, TooLong};
@@ -104,7 +105,7 @@ impl<Role> AccessSet<Role> {
                     return Err(SetRefusal::TooLong);
                 }
                 self.entries.reserve(1)?;
-                self.entries.insert(at, (location, value)).unwrap();
+                insert_reserved(&mut self.entries, at, (location, value));
             }
         }
         Ok(())
@@ -140,5 +141,20 @@ impl<Role> AccessSet<Role> {
         }
         self.entries
             .binary_search_by_key(&location, |entry| entry.0)
+    }
+}
+
+// Inserts an entry in the room that there is. The end is the most frequent place by far.
+fn insert_reserved(entries: &mut Vec<(u32, u64)>, at: usize, entry: (u32, u64))
+    requires place { at ≤ vec_len entries.old }
+    requires room { vec_len entries.old < vec_capacity entries.old }
+    ensures items { entries.new.items ≡ insert entries.old.items at entry }
+    ensures len { vec_len entries.new ≡ vec_len entries.old + 1 }
+    ensures capacity { vec_capacity entries.new ≡ vec_capacity entries.old }
+{
+    if at == entries.len() {
+        entries.push_reserved(entry);
+    } else {
+        entries.insert(at, entry).unwrap();
     }
 }

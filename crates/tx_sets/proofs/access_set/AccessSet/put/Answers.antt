@@ -1,5 +1,4 @@
 use Rattle.std.proofs.Common.{ℕ, ◌≡◌, ◌≤◌, ap, sym, ◌∙◌, subst, refl, arith, Option, Some, None, Ok, Err, length, get_or}
-use Rattle.std.specs.Prelude.{is_ok}
 use Rattle.tx_sets.specs.AccessSet.{IsPlaceOf, SetView}
 use Rattle.tx_sets.specs.Entries.{Entries, IsRising, lookup, with_entry}
 use Rattle.tx_sets.proofs.EntryLemmas.{IsRising-with_entry}
@@ -58,7 +57,7 @@ invariant_of-self-in-Err g c =
     let same : es ≡ c.args.self.now.entries = ap (λ (v : SetView). v.entries) c.self.view_is in
     let place = subst (λ (z : Entries). IsPlaceOf c.args.location z (Err c.in-Err.at)) (sym same) c.in-Err.ensures in
     subst IsRising
-    (sym (put_new es _ _ c.args.location c.args.value c.in-Err.at _ place c.in_ok-reserve-in-Err.ensures.items c.insert.ensures.items (ap (λ r. is_ok r) c.unwrap.ensures)))
+    (sym (put_new es _ _ c.args.location c.args.value c.in-Err.at place c.in_ok-reserve-in-Err.ensures.items c.insert_reserved.ensures.items))
     (IsRising-with_entry es c.args.location c.args.value c.self.invariant)
 
 pub returns-in_ok-reserve-in-Err-clause-ok : goal.returns-in_ok-reserve-in-Err-clause-ok
@@ -66,7 +65,7 @@ returns-in_ok-reserve-in-Err-clause-ok g c =
     let es = c.self.inside.entries.items in
     let same : es ≡ c.args.self.now.entries = ap (λ (v : SetView). v.entries) c.self.view_is in
     let place = subst (λ (z : Entries). IsPlaceOf c.args.location z (Err c.in-Err.at)) (sym same) c.in-Err.ensures in
-    put_new es _ _ c.args.location c.args.value c.in-Err.at _ place c.in_ok-reserve-in-Err.ensures.items c.insert.ensures.items (ap (λ r. is_ok r) c.unwrap.ensures)
+    put_new es _ _ c.args.location c.args.value c.in-Err.at place c.in_ok-reserve-in-Err.ensures.items c.insert_reserved.ensures.items
     ∙ ap (λ (z : Entries). with_entry z c.args.location c.args.value) same
 
 pub returns-in_ok-reserve-in-Err-clause-room_there : goal.returns-in_ok-reserve-in-Err-clause-room_there
