@@ -1,5 +1,5 @@
 -- The place of a location among entries that rise, and what an edit there does.
-use Rattle.std.proofs.Common.{◌≡◌, ℕ, zero, suc, ◌+◌, ◌<◌, ◌≤◌, ◌-◌, Option, Some, None, Result, Ok, Err, inl, inr, List, [], ◌∷◌, length, get_or, set, refl, sym, ap, ◌∙◌, arith, subst}
+use Rattle.std.proofs.Common.{◌≡◌, ℕ, zero, suc, ◌+◌, ◌<◌, ◌≤◌, ◌-◌, Option, Some, None, Result, Ok, Err, inl, inr, List, [], ◌∷◌, length, get_or, set, length-set, refl, sym, ap, ◌∙◌, arith, subst}
 use Rattle.std.specs.List.{insert, AllWithin}
 use Rattle.std.specs.List.Sorted.{IsSearchInRange, IsBinarySearchResult, IsNonDecreasingBy}
 use Rattle.std.specs.Ordering.{nat_cmp, ordering_index}
@@ -9,9 +9,10 @@ use Rattle.std.proofs.lemmas.Bool.{cases_eq}
 use Rattle.std.proofs.lemmas.Bool.Decides.{nat_tests}
 use Rattle.std.proofs.lemmas.Cmp.{ranked}
 use Rattle.std.proofs.lemmas.List.{get_or_default}
-use Rattle.tx_sets.specs.AccessSet.{IsPlaceOf}
+use Rattle.tx_sets.specs.AccessSet.{AreOrderly, IsPlaceOf}
+use Rattle.tx_sets.specs.declared.access_set.TheConstants.{LOCATION_LIMIT}
 use Rattle.tx_sets.specs.Entries.{Entries, lookup, with_entry, IsRising}
-use Rattle.tx_sets.proofs.EntryLemmas.{lookup-head, lookup-tail, lookup_absent, with_entry-nil, with_entry_below, with_entry_at, with_entry_above}
+use Rattle.tx_sets.proofs.EntryLemmas.{IsRising-with_entry, length-with_entry_new, lookup-head, lookup-tail, lookup_absent, with_entry-nil, with_entry_below, with_entry_at, with_entry_above}
 
 pub rising_at : (es : Entries) → IsRising es → (i j : ℕ) (d : ℕ × ℕ) → i < j → j < length es → (get_or es i d).0 < (get_or es j d).0
 rising_at [] rising i j d lt inside = absurd (omega (arith, inside))
@@ -95,6 +96,21 @@ last_place l es n d rising all last = above_all l es n all below
 -- a new entry put where it goes
 pub put_new : (es fs gs : Entries) (l v i : ℕ) → IsPlaceOf l es (Err i) → fs ≡ es → gs ≡ insert fs i (l, v) → gs ≡ with_entry es l v
 put_new es fs gs l v i place same is = is ∙ ap (λ (z : Entries). insert z i (l, v)) same ∙ insert_gap es l v i place.0 place.1.0 place.1.1
+
+-- both leave the entries orderly
+pub orderly_there : (es : Entries) (l v i : ℕ) (d : ℕ × ℕ) → AreOrderly es → IsPlaceOf l es (Ok i) → d ≡ get_or es i d → AreOrderly (set es i (d.0, v))
+orderly_there es l v i d orderly place is = record {
+  rising = subst IsRising (sym (write_there es l v i d orderly.rising place is)) (IsRising-with_entry es l v orderly.rising);
+  within = omega (arith, length-set es i (d.0, v), orderly.within);
+}
+
+pub orderly_new : (es fs gs : Entries) (l v i : ℕ) → AreOrderly es → IsPlaceOf l es (Err i) → fs ≡ es → gs ≡ insert fs i (l, v) → length es < LOCATION_LIMIT → AreOrderly gs
+orderly_new es fs gs l v i orderly place same is fewer =
+    let put = put_new es fs gs l v i place same is in
+    record {
+      rising = subst IsRising (sym put) (IsRising-with_entry es l v orderly.rising);
+      within = omega (arith, ap (λ (z : Entries). length z) put, length-with_entry_new es l v (lookup_gap es l i place.1.0 place.1.1), fewer);
+    }
 
 pub not_there : (o : Option ℕ) → o ≡ None → IsSome o → ⊥
 not_there o none some = let b : false ≡ true = subst (λ (x : Option ℕ). IsSome x) none some in cc

@@ -2,13 +2,18 @@
 use Rattle.std.specs.Prelude.{◌≡◌, ℕ, ◌<◌, ◌≤◌, List, length, None, Result, MatchResult}
 use Rattle.std.specs.List.{HoldsAt}
 use Rattle.std.specs.List.Sorted.{IsPartitionPoint}
-use Rattle.tx_sets.specs.Entries.{Entries, lookup}
+use Rattle.tx_sets.specs.Entries.{Entries, IsRising, lookup}
 use Rattle.tx_sets.specs.declared.access_set.TheConstants.{LOCATION_LIMIT}
 
 -- the entries, and how many more there is memory for
 pub record SetView : Type 0 where
   pub entries : Entries
   pub room : ℕ
+
+-- what the entries of a set keep to
+pub record AreOrderly (es : Entries) : Type 0 where
+  pub rising : IsRising es
+  pub within : length es ≤ LOCATION_LIMIT
 
 -- the location is new, and there are as many as there may be
 abbrev pub IsBeyondLimit : SetView → ℕ → Type 0

@@ -1,8 +1,8 @@
 //! The values that a transaction read or is to write, by location.
 ghost use Rattle.std.specs.Prelude.{◌≡◌, ◌↔◌, ◌+◌, ◌<◌, ◌≤◌, [], Err, IsOk, IsSome, OnErr, OnOk, insert, length};
 ghost use Rattle.std.specs.Vec.{vec_capacity, vec_len};
-ghost use Rattle.tx_sets.specs.Entries.{IsRising, lookup, with_entry};
-ghost use Rattle.tx_sets.specs.AccessSet.{IsBeyondLimit, IsPlaceOf, LacksRoom};
+ghost use Rattle.tx_sets.specs.Entries.{lookup, with_entry};
+ghost use Rattle.tx_sets.specs.AccessSet.{AreOrderly, IsBeyondLimit, IsPlaceOf, LacksRoom};
 ghost use Rattle.tx_sets.specs.declared.set_refusal.SetRefusal.TheVariants.{OutOfMemory, TooLong};
 
 use crate::set_refusal::SetRefusal;
@@ -36,14 +36,13 @@ pub struct AccessSet<Role> {
 impl<Role> Model for AccessSet<Role> {
     ghost use Rattle.std.specs.Prelude.{◌-◌};
     ghost use Rattle.std.specs.Vec.{vec_capacity, vec_len};
-    ghost use Rattle.tx_sets.specs.AccessSet.{SetView};
-    ghost use Rattle.tx_sets.specs.Entries.{IsRising};
+    ghost use Rattle.tx_sets.specs.AccessSet.{AreOrderly, SetView};
 
     ghost Value = { SetView };
 
     ghost view = { λ a. record { entries = a.entries.items; room = vec_capacity a.entries - vec_len a.entries } };
 
-    ghost invariant = { λ a. IsRising a.entries.items };
+    ghost invariant = { λ a. AreOrderly a.entries.items };
 }
 
 impl<Role> AccessSet<Role> {
@@ -65,10 +64,10 @@ impl<Role> AccessSet<Role> {
         self.entries.len()
     }
 
-    /// The entries, rising by location.
+    /// The entries, rising by location, `LOCATION_LIMIT` at most.
     pub fn in_order(&self) -> &[(u32, u64)]
         ensures entries { result.now ≡ self.now.entries }
-        ensures rising { IsRising self.now.entries }
+        ensures orderly { AreOrderly self.now.entries }
     {
         self.entries.as_slice()
     }
