@@ -1,8 +1,8 @@
 -- Entries in the order of their locations, as finite maps.
-use Rattle.std.proofs.Common.{◌≡◌, ℕ, zero, suc, ◌+◌, ◌<◌, ◌≤◌, cond, eqb, ltb, Option, Some, None, List, [], ◌∷◌, length, get_or, refl, sym, ap, ◌∙◌, arith, eq-eqb, ne_eqb, eqb-true, ltb-true, ltb-false, lt-ltb, le-ltb, ◌⊎◌, inl, inr, subst}
+use Rattle.std.proofs.Common.{◌≡◌, ℕ, zero, suc, ◌+◌, ◌<◌, ◌≤◌, cond, eqb, ltb, Option, Some, None, [], ◌∷◌, length, get_or, refl, sym, ap, ◌∙◌, arith, eq-eqb, ne_eqb, eqb-true, ltb-true, ltb-false, lt-ltb, le-ltb, inl, inr, subst}
 use Rattle.std.specs.List.{All, Contains}
 use Rattle.std.proofs.lemmas.Bool.{eqb-false, cond_both, cond-true, cond-false, cases_eq}
-use Rattle.tx_sets.specs.Entries.{Entries, lookup, with_entry, locations, IsRising, AreFiniteMaps}
+use Rattle.tx_sets.specs.Entries.{Entries, lookup, with_entry, IsRising, AreFiniteMaps}
 
 pub lookup-head : (e : ℕ × ℕ) (es : Entries) → lookup (e ∷ es) e.0 ≡ Some e.1
 unfolding lookup

@@ -1,5 +1,5 @@
 -- Finite maps from locations to values, as their entries in the order of the locations.
-use Rattle.std.specs.Prelude.{◌≡◌, ℕ, ◌+◌, ◌<◌, ◌==◌, ◌↔◌, Option, Some, None, List, [], ◌∷◌, length, nat_lt, is_some, if◌then◌else◌, All, Contains}
+use Rattle.std.specs.Prelude.{◌≡◌, ℕ, ◌+◌, ◌<◌, ◌==◌, ◌↔◌, Option, Some, None, List, [], ◌∷◌, length, nat_lt, if◌then◌else◌, All, Contains}
 
 abbrev pub Entries : Type 0
 Entries = List (ℕ × ℕ)

@@ -1,4 +1,4 @@
-use Rattle.std.proofs.Common.{ℕ, ◌≡◌, ◌<◌, ap, sym, ◌∙◌, subst, arith, rules, Err}
+use Rattle.std.proofs.Common.{ℕ, ◌≡◌, ◌<◌, ap, sym, ◌∙◌, subst, rules, Err}
 use Rattle.std.proofs.lemmas.List.Sorted.{answers_always}
 use Rattle.tx_sets.specs.AccessSet.{IsPlaceOf, SetView}
 use Rattle.tx_sets.specs.Entries.{Entries, IsRising}

@@ -1,4 +1,4 @@
-use Rattle.std.proofs.Common.{ℕ, ◌≡◌, ◌≤◌, ap, sym, ◌∙◌, subst, refl, arith, Option, Some, None, Ok, Err, length, get_or}
+use Rattle.std.proofs.Common.{◌≡◌, ap, sym, ◌∙◌, subst, refl, arith, Ok, Err, length}
 use Rattle.tx_sets.specs.AccessSet.{IsPlaceOf, SetView}
 use Rattle.tx_sets.specs.Entries.{Entries, IsRising, lookup, with_entry}
 use Rattle.tx_sets.proofs.PlaceLemmas.{lookup_there, lookup_gap, not_there, orderly_there, orderly_new, put_new, write_there}
