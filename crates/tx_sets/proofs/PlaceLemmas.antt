@@ -1,11 +1,13 @@
 -- The place of a location among entries that rise, and what an edit there does.
-use Rattle.std.proofs.Common.{◌≡◌, ℕ, zero, suc, ◌<◌, ◌≤◌, ◌-◌, Option, Some, None, Result, Ok, Err, inl, inr, [], ◌∷◌, length, get_or, set, length-set, sym, ap, ◌∙◌, arith, subst}
-use Rattle.std.specs.List.{insert, AllWithin}
+use Rattle.std.proofs.Common.{◌≡◌, ℕ, zero, suc, ◌+◌, ◌<◌, ◌≤◌, ◌-◌, cond, ltb, lt-ltb, le-ltb, refl, Option, Some, None, Result, Ok, Err, inl, inr, [], ◌∷◌, length, get_or, set, length-set, sym, ap, ◌∙◌, arith, subst}
+use Rattle.std.specs.List.{insert, All, AllWithin, count_by}
+use Rattle.std.proofs.lemmas.List.Elements.{All-cons}
+use Rattle.std.proofs.lemmas.List.Sums.{sum_by-cons}
 use Rattle.std.specs.List.Sorted.{IsSearchInRange, IsBinarySearchResult, IsNonDecreasingBy}
 use Rattle.std.specs.Ordering.{nat_cmp, ordering_index}
 use Rattle.std.specs.declared.cmp.Ordering.TheVariants.{Less, Equal, Greater}
 use Rattle.std.specs.Prelude.{true, false, IsSome}
-use Rattle.std.proofs.lemmas.Bool.{cases_eq}
+use Rattle.std.proofs.lemmas.Bool.{cases_eq, cases_lt, cond-true, cond-false}
 use Rattle.std.proofs.lemmas.Bool.Decides.{nat_tests}
 use Rattle.std.proofs.lemmas.Cmp.{ranked}
 use Rattle.std.proofs.lemmas.List.{get_or_default}
@@ -114,3 +116,76 @@ orderly_new es fs gs l v i orderly place same is fewer =
 
 pub not_there : (o : Option ℕ) → o ≡ None → IsSome o → ⊥
 not_there o none some = let b : false ≡ true = subst (λ (x : Option ℕ). IsSome x) none some in cc
+
+-- how many entries are below a location, by recursion
+below : ℕ → Entries → ℕ
+below l [] = 0
+below l (e ∷ es) = cond (ltb e.0 l) 1 0 + below l es
+
+below-count_by : (l : ℕ) (es : Entries) → count_by (λ e. ltb e.0 l) es ≡ below l es
+unfolding below
+below-count_by l [] = refl
+below-count_by l (e ∷ es) = sum_by-cons (λ x. cond (ltb x.0 l) 1 0) e es ∙ ap (λ (n : ℕ). cond (ltb e.0 l) 1 0 + n) (below-count_by l es)
+
+below_head : (l : ℕ) (e : ℕ × ℕ) (es : Entries) → e.0 < l → below l (e ∷ es) ≡ suc (below l es)
+unfolding below
+below_head l e es lt = ap (λ (n : ℕ). n + below l es) (cond-true (ltb e.0 l) 1 0 (lt-ltb e.0 l lt)) ∙ omega arith
+
+below_none : (l : ℕ) (es : Entries) → All (λ e. l ≤ e.0) es → below l es ≡ 0
+unfolding below
+below_none l [] above = refl
+below_none l (e ∷ es) above =
+    ap (λ (n : ℕ). n + below l es) (cond-false (ltb e.0 l) 1 0 (le-ltb e.0 l (above 0 e (omega arith))))
+    ∙ omega (arith, below_none l es (λ k d h. above (suc k) d (omega (arith, h))))
+
+first_and_rest : (P : ℕ × ℕ → Type 0) (e : ℕ × ℕ) (es : Entries) (n : ℕ) → P e → AllWithin P es 0 n → (k : ℕ) (d : ℕ × ℕ) → k < suc n → P (get_or (e ∷ es) k d)
+first_and_rest P e es n one all zero d lt = one
+first_and_rest P e es n one all (suc k) d lt = all k d (omega arith) (omega (arith, lt))
+
+rest_after : (P : ℕ × ℕ → Type 0) (e : ℕ × ℕ) (es : Entries) (n m : ℕ) → AllWithin P es n m → (k : ℕ) (d : ℕ × ℕ) → suc n ≤ k → k < suc m → P (get_or (e ∷ es) k d)
+rest_after P e es n m all zero d ge lt = absurd (omega (arith, ge))
+rest_after P e es n m all (suc k) d ge lt = all k d (omega (arith, ge)) (omega (arith, lt))
+
+-- as many entries as are below a location stand before the others
+parted : (l : ℕ) (es : Entries) → IsRising es → (below l es ≤ length es) × AllWithin (λ e. e.0 < l) es 0 (below l es) × AllWithin (λ e. l ≤ e.0) es (below l es) (length es)
+parted l [] rising =
+    let none = below_none l [] (λ k d h. absurd (omega (arith, h))) in
+    (omega (arith, none), (λ k d ge lt. absurd (omega (arith, lt, none))), (λ k d ge lt. absurd (omega (arith, lt))))
+parted l (e ∷ es) rising =
+    let rest = parted l es rising.1 in
+    elim (cases_lt e.0 l) [
+      | inl lt ↦
+          let head = below_head l e es lt in (
+            omega (arith, head, rest.0),
+            (λ k d ge h. first_and_rest (λ x. x.0 < l) e es (below l es) lt rest.1 k d (omega (arith, h, head))),
+            (λ k d ge h. rest_after (λ x. l ≤ x.0) e es (below l es) (length es) rest.2 k d (omega (arith, ge, head)) (omega (arith, h))),
+          )
+      | inr le ↦
+          let all : All (λ x. l ≤ x.0) (e ∷ es) = All-cons (λ x. l ≤ x.0) e es le (λ k d h. omega (arith, le, rising.0 k d h)) in
+          let none = below_none l (e ∷ es) all in
+          (omega (arith, none), (λ k d ge h. absurd (omega (arith, h, none))), (λ k d ge h. all k d h))
+    ]
+
+-- a location that none of the entries has goes behind those below it
+pub counted_gap : (l : ℕ) (es : Entries) (n : ℕ) → IsRising es → n ≡ count_by (λ e. ltb e.0 l) es → ((d : ℕ × ℕ) → n < length es → (get_or es n d).0 ≡ l → ⊥) → IsPlaceOf l es (Err n)
+counted_gap l es n rising counted other =
+    let parts = parted l es rising in
+    let same : n ≡ below l es = counted ∙ below-count_by l es in (
+      omega (arith, parts.0, same),
+      (
+        (λ k d ge lt. parts.1 k d ge (omega (arith, lt, same))),
+        (λ k d ge lt.
+            elim (cases_eq k n) [
+              | inl q ↦
+                  let apart : (get_or es k d).0 ≡ l → ⊥ = λ z. other d (omega (arith, lt, q)) (ap (λ (i : ℕ). (get_or es i d).0) (sym q) ∙ z) in
+                  omega (arith, parts.2 k d (omega (arith, ge, same)) lt, apart)
+              | inr ne ↦
+                  omega (
+                    arith,
+                    parts.2 n d (omega (arith, same)) (omega (arith, ge, lt)),
+                    rising_at es rising n k d (omega (arith, ge, ne)) lt,
+                  )
+            ]
+            ),
+      ),
+    )

@@ -1,7 +1,7 @@
 //! The values that a transaction read or is to write, by location.
-ghost use Rattle.std.specs.Prelude.{◌≡◌, ◌↔◌, ◌+◌, ◌<◌, ◌≤◌, [], Err, IsOk, IsSome, OnErr, OnOk, insert, length};
+ghost use Rattle.std.specs.Prelude.{◌≡◌, ◌↔◌, ◌+◌, ◌<◌, ◌≤◌, [], Err, IsOk, IsSome, OnErr, OnOk, count_by, insert, length, nat_lt};
 ghost use Rattle.std.specs.Vec.{vec_capacity, vec_len};
-ghost use Rattle.tx_sets.specs.Entries.{lookup, with_entry};
+ghost use Rattle.tx_sets.specs.Entries.{IsRising, lookup, with_entry};
 ghost use Rattle.tx_sets.specs.AccessSet.{AreOrderly, IsBeyondLimit, IsPlaceOf, LacksRoom};
 ghost use Rattle.tx_sets.specs.declared.set_refusal.SetRefusal.TheVariants.{OutOfMemory, TooLong};
 
@@ -11,6 +11,9 @@ use std::marker::{Model, PhantomData};
 
 /// How many locations a set has at most.
 pub const LOCATION_LIMIT: usize = 4096;
+
+// Up to so many entries a location is sought among all of them.
+const FEW: usize = 32;
 
 /// Marks the set of what a transaction read.
 #[derive(Clone, Copy, Debug)]
@@ -138,9 +141,31 @@ impl<Role> AccessSet<Role> {
         if count == 0 || self.entries[count - 1].0 < location {
             return Err(count);
         }
+        if count <= FEW {
+            return place_among_few(&self.entries, location);
+        }
         self.entries
             .binary_search_by_key(&location, |entry| entry.0)
     }
+}
+
+// The place of a location by the number of entries below it. All entries are compared, but no
+// comparison decides which is next, as in a search by halves, where the processor guesses wrongly.
+fn place_among_few(entries: &[(u32, u64)], location: u32) -> Result<usize, usize>
+    requires { IsRising entries.now }
+    ensures { IsPlaceOf location entries.now result }
+{
+    let at = count_below(entries, location);
+    if at < entries.len() && entries[at].0 == location {
+        return Ok(at);
+    }
+    Err(at)
+}
+
+fn count_below(entries: &[(u32, u64)], location: u32) -> usize
+    ensures { result ≡ count_by (λ entry. nat_lt entry.0 location) entries.now }
+{
+    entries.iter().filter(|entry| entry.0 < location).count()
 }
 
 // Inserts an entry in the room that there is. The end is the most frequent place by far.

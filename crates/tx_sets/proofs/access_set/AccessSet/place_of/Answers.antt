@@ -23,6 +23,6 @@ pub returns : goal.returns
 returns g c =
     let facts = c.binary_search_by_key.ensures in
     let by_key = facts.position (λ entry. entry.0) (answers_always _ _ _ (λ f a r g called. search rules)) in
-    let same : c.deref.result.now ≡ c.args.self.now.entries = c.deref.ensures.value ∙ ap (λ (v : SetView). v.entries) c.self.view_is in
+    let same : c.deref-2.result.now ≡ c.args.self.now.entries = c.deref-2.ensures.value ∙ ap (λ (v : SetView). v.entries) c.self.view_is in
     subst (λ es. IsPlaceOf c.args.location es c.binary_search_by_key.result) same
-    (searched c.args.location _ (subst IsRising (sym c.deref.ensures.value) c.self.invariant.rising) _ facts.bound by_key)
+    (searched c.args.location _ (subst IsRising (sym c.deref-2.ensures.value) c.self.invariant.rising) _ facts.bound by_key)
