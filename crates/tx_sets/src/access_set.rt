@@ -165,7 +165,11 @@ fn place_among_few(entries: &[(u32, u64)], location: u32) -> Result<usize, usize
 fn count_below(entries: &[(u32, u64)], location: u32) -> usize
     ensures { result ≡ count_by (λ entry. nat_lt entry.0 location) entries.now }
 {
-    entries.iter().filter(|entry| entry.0 < location).count()
+    let mut count = 0;
+    for entry in entries {
+        count += usize::from(entry.0 < location);
+    }
+    count
 }
 
 // Inserts an entry in the room that there is. The end is the most frequent place by far.
