@@ -1,0 +1,3 @@
+pub mod TableLemmas
+pub mod EditionLemmas
+pub mod LocationLemmas
