@@ -1,5 +1,7 @@
 pub mod Table
 pub mod Lookups
+pub mod BaseView
+pub mod Refusals
 pub mod Footprints
 pub mod Rules
 pub mod Commute

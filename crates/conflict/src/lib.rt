@@ -20,6 +20,7 @@ mod editions;
 pub mod laws;
 mod loc_set;
 mod outcome;
+mod stripes;
 mod table;
 
 pub use change::{Change, Changes};
@@ -27,4 +28,5 @@ pub use conflict::Conflict;
 pub use editions::Editions;
 pub use loc_set::{LocSet, conflicts};
 pub use outcome::{Note, Outcome};
+pub use stripes::{STRIPE_LIMIT, is_stripe_count};
 pub use table::Table;
