@@ -276,3 +276,90 @@ impl<V: Value> Conflict<V> for MapBase<V> {
 
     ghost laws = { laws };
 }
+
+#[cfg(test)]
+mod tests {
+    use super::*;
+    use seq_model::Counts;
+    use std::test::Fail;
+
+    fn two_puts(alloc: Global) -> Result<MapBase<u64>, Refusal>
+        ensures { IfOk result (λ base. base.stripes ≡ 2) }
+    {
+        let mut base = MapBase::new(alloc, 2)?;
+        let mut changes = Items::new(alloc);
+        changes.push(Change::Put(1, 10))?;
+        changes.push(Change::Put(3, 30))?;
+        base.prepare(changes.as_slice())?;
+        base.replay(changes, &LocSet::single(alloc, 1));
+        Ok(base)
+    }
+
+    #[test]
+    fn replays_two_puts(rt: HostRuntime) -> Result<(), Fail> {
+        let base = two_puts(rt.alloc())?;
+        assert_eq!(rt; base.edition(0), 0);
+        assert_eq!(rt; base.edition(1), 1);
+        let copy = base.try_copy()?;
+        assert_eq!(rt; copy.edition(0), 0);
+        assert_eq!(rt; copy.edition(1), 1);
+        match copy.held()? {
+            Held::Map(map) => assert_eq!(rt; map.as_slice(), [(1, 10), (3, 30)].as_slice()),
+            _ => assert!(rt; false, "no map"),
+        }
+        Ok(())
+    }
+
+    fn footprint(base: &MapBase<u64>, op: Op<u64>) -> Result<(LocSet, LocSet), Refusal> {
+        let outcome = base.outcome(&op)?;
+        Ok((base.reads(&outcome)?, base.writes(&outcome)?))
+    }
+
+    #[test]
+    fn a_put_writes_the_stripe_of_its_key(rt: HostRuntime) -> Result<(), Fail> {
+        let base = two_puts(rt.alloc())?;
+        let (reads, writes) = footprint(&base, Op::Put(3, 31))?;
+        assert_eq!(rt; reads.as_slice(), [1].as_slice());
+        assert_eq!(rt; writes.as_slice(), [1].as_slice());
+        Ok(())
+    }
+
+    #[test]
+    fn an_absent_remove_writes_nothing(rt: HostRuntime) -> Result<(), Fail> {
+        let base = two_puts(rt.alloc())?;
+        let (reads, writes) = footprint(&base, Op::Remove(4))?;
+        assert_eq!(rt; reads.as_slice(), [0].as_slice());
+        assert_eq!(rt; writes.as_slice().len(), 0);
+        Ok(())
+    }
+
+    #[test]
+    fn len_reads_every_stripe(rt: HostRuntime) -> Result<(), Fail> {
+        let base = MapBase::open(rt.alloc(), 9, two_puts(rt.alloc())?.held()?)?;
+        let (reads, writes) = footprint(&base, Op::Len)?;
+        assert_eq!(rt; reads.as_slice().len(), 9);
+        assert_eq!(rt; writes.as_slice().len(), 0);
+        Ok(())
+    }
+
+    #[test]
+    fn a_remove_changes_its_key(rt: HostRuntime) -> Result<(), Fail> {
+        let base = two_puts(rt.alloc())?;
+        let remove = base.outcome(&Op::Remove(3))?;
+        assert!(rt; matches!(&remove.reply, Reply::Value(30)));
+        assert!(rt; matches!(base.changes(&remove)?.as_slice(), [Change::Remove(3)]));
+        Ok(())
+    }
+
+    #[test]
+    fn refuses_the_kind_before_the_stripes(rt: HostRuntime) -> Result<(), Fail> {
+        let alloc = rt.alloc();
+        let bag: Held<u64> = Held::Bag(Counts::new(alloc));
+        assert!(rt; matches!(MapBase::open(alloc, 0, bag), Err(Refusal::NoSuch)));
+        let map: Held<u64> = Held::Map(Entries::new(alloc));
+        assert!(rt; matches!(MapBase::open(alloc, 65, map), Err(Refusal::TooLong)));
+        let base = MapBase::<u64>::new(alloc, 64)?;
+        assert!(rt; matches!(base.outcome(&Op::Count(1)), Err(Refusal::NoSuch)));
+        Ok(())
+    }
+}

@@ -125,3 +125,27 @@ impl<V: Value> Table<V> {
         Ok(entries)
     }
 }
+
+#[cfg(test)]
+mod tests {
+    use super::*;
+    use std::test::Fail;
+
+    #[test]
+    fn gives_its_entries_by_rising_key(rt: HostRuntime) -> Result<(), Fail> {
+        let mut table = Table::new(rt.alloc());
+        table.reserve(3)?;
+        table.insert_reserved(9, 90u64);
+        table.insert_reserved(1, 10);
+        table.insert_reserved(5, 50);
+        table.remove(1);
+        let copy = Table::of_entries(rt.alloc(), table.try_copy()?.to_entries()?)?;
+        assert_eq!(rt; copy.len(), 2);
+        assert!(rt; copy.get(1).is_none());
+        assert_eq!(rt;
+            copy.to_entries()?.as_slice(),
+            [(5, 50), (9, 90)].as_slice()
+        );
+        Ok(())
+    }
+}
