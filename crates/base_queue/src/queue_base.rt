@@ -304,3 +304,127 @@ impl<V: Value> Conflict<V> for QueueBase {
 
     ghost laws = { laws };
 }
+
+#[cfg(test)]
+mod tests {
+    use super::*;
+    use conflict::conflicts;
+    use seq_model::Counts;
+    use std::test::Fail;
+
+    // A queue of stripes whose first item, 8, has index 5.
+    fn holding_8(alloc: Global, stripes: u32) -> Result<QueueBase, Refusal> {
+        let mut items = Items::new(alloc);
+        items.push(8)?;
+        QueueBase::open(alloc, stripes, Held::<u64>::Queue { head: 5, items })
+    }
+
+    fn footprint(base: &QueueBase, op: Op<u64>) -> Result<(LocSet, LocSet), Refusal> {
+        let outcome = base.outcome(&op)?;
+        Ok((base.reads(&outcome)?, base.writes(&outcome)?))
+    }
+
+    // The call, replayed at once.
+    fn call(base: &mut QueueBase, op: Op<u64>) -> Result<Reply<u64>, Refusal> {
+        let outcome = base.outcome(&op)?;
+        let changes = base.changes(&outcome)?;
+        base.prepare(changes.as_slice())?;
+        let none = LocSet::empty(base.editions.allocator());
+        base.replay(changes, &none);
+        Ok(outcome.reply)
+    }
+
+    #[test]
+    fn both_ends_conflict_in_one_stripe_alone(rt: HostRuntime) -> Result<(), Fail> {
+        let one = holding_8(rt.alloc(), 1)?;
+        let (reads, writes) = footprint(&one, Op::Enqueue(9))?;
+        let (other_reads, other_writes) = footprint(&one, Op::Dequeue)?;
+        assert!(rt; conflicts(&reads, &writes, &other_reads, &other_writes));
+        Ok(())
+    }
+
+    #[test]
+    fn both_ends_of_two_stripes_do_not_conflict(rt: HostRuntime) -> Result<(), Fail> {
+        let two = holding_8(rt.alloc(), 2)?;
+        let (reads, writes) = footprint(&two, Op::Enqueue(9))?;
+        let (other_reads, other_writes) = footprint(&two, Op::Dequeue)?;
+        assert_eq!(rt; writes.as_slice(), [1, 2].as_slice());
+        assert_eq!(rt; other_writes.as_slice(), [0, 3].as_slice());
+        assert!(rt; !conflicts(&reads, &writes, &other_reads, &other_writes));
+        Ok(())
+    }
+
+    #[test]
+    fn items_go_in_order_round_the_stripes(rt: HostRuntime) -> Result<(), Fail> {
+        let mut base = holding_8(rt.alloc(), 2)?;
+        for item in 10..13 {
+            assert!(rt; matches!(call(&mut base, Op::Enqueue(item))?, Reply::Done));
+        }
+        assert!(rt; matches!(call(&mut base, Op::Dequeue)?, Reply::Found(8)));
+        assert!(rt; matches!(call(&mut base, Op::Peek)?, Reply::Found(10)));
+        assert!(rt; matches!(call(&mut base, Op::Len)?, Reply::Number(3)));
+        match base.try_copy()?.held::<u64>()? {
+            Held::Queue { head, items } => {
+                assert_eq!(rt; head, 6);
+                assert_eq!(rt; items.as_slice(), [10, 11, 12].as_slice());
+            }
+            _ => assert!(rt; false, "no queue"),
+        }
+        Ok(())
+    }
+
+    #[test]
+    fn an_empty_queue_finds_nothing(rt: HostRuntime) -> Result<(), Fail> {
+        let base = QueueBase::new(rt.alloc(), 3)?;
+        let dequeue = base.outcome(&Op::<u64>::Dequeue)?;
+        assert!(rt; matches!(&dequeue.reply, Reply::Nothing));
+        assert_eq!(rt; base.reads(&dequeue)?.as_slice(), [0, 2].as_slice());
+        assert_eq!(rt; base.writes(&dequeue)?.as_slice().len(), 0);
+        Ok(())
+    }
+
+    #[test]
+    fn is_full_at_the_last_index(rt: HostRuntime) -> Result<(), Fail> {
+        let items = Items::new(rt.alloc());
+        let held = Held::<u64>::Queue {
+            head: INDEX_LIMIT,
+            items,
+        };
+        let base = QueueBase::open(rt.alloc(), 1, held)?;
+        let (reads, writes) = footprint(&base, Op::Enqueue(1))?;
+        assert_eq!(rt; reads.as_slice(), [1].as_slice());
+        assert_eq!(rt; writes.as_slice().len(), 0);
+        Ok(())
+    }
+
+    #[test]
+    fn a_replay_raises_what_it_writes(rt: HostRuntime) -> Result<(), Fail> {
+        let mut base = QueueBase::new(rt.alloc(), 2)?;
+        let mut changes: Changes<u64> = Items::new(rt.alloc());
+        changes.push(Change::Enqueue(0, 7))?;
+        base.prepare(changes.as_slice())?;
+        base.replay(changes, &LocSet::pair(rt.alloc(), 1, 2));
+        let editions = [
+            base.edition(0),
+            base.edition(1),
+            base.edition(2),
+            base.edition(3),
+        ];
+        assert_eq!(rt; editions, [0, 1, 1, 0]);
+        Ok(())
+    }
+
+    #[test]
+    fn refuses_the_kind_before_the_limits(rt: HostRuntime) -> Result<(), Fail> {
+        let alloc = rt.alloc();
+        let bag: Held<u64> = Held::Bag(Counts::new(alloc));
+        assert!(rt; matches!(QueueBase::open(alloc, 0, bag), Err(Refusal::NoSuch)));
+        let past: Held<u64> = Held::Queue {
+            head: INDEX_LIMIT + 1,
+            items: Items::new(alloc),
+        };
+        assert!(rt; matches!(QueueBase::open(alloc, 1, past), Err(Refusal::TooLong)));
+        assert!(rt; matches!(QueueBase::new(alloc, 65), Err(Refusal::TooLong)));
+        Ok(())
+    }
+}
