@@ -6,8 +6,8 @@ use Rattle.seq_model.specs.declared.call.Op.{Op}
 use Rattle.seq_model.specs.declared.call.Op.TheVariants.{Get, Put, Remove, Len}
 use Rattle.seq_model.specs.declared.call.Reply.{Reply}
 use Rattle.seq_model.specs.declared.call.Reply.TheVariants.{Value}
-use Rattle.seq_model.specs.declared.state.Held.{Held}
-use Rattle.seq_model.specs.declared.state.Held.TheVariants.{Map}
+use Rattle.seq_model.specs.declared.held.Held.{Held}
+use Rattle.seq_model.specs.declared.held.Held.TheVariants.{Map}
 use Rattle.seq_model.specs.Calls.{map_call}
 use Rattle.conflict.specs.declared.change.Change.{Change}
 use Rattle.conflict.specs.declared.change.Change.TheVariants as change

@@ -23,8 +23,8 @@ use Rattle.conflict.specs.Footprints.{map_reads, map_writes}
 use Rattle.conflict.specs.Rules.{Rules, FrameLaws, Commute, applied, LegalWhereReadsAgree, ChangesOnlyWrites, ChangesByPart, FollowsCall, AnswersItsKind, WritesWithinReads, ReadsLocations, PointsLieOnLocations, PartsDecide, ViewsDecide}
 use Rattle.conflict.specs.Commute.{commute}
 use Rattle.conflict.specs.Places.{in_single, of_none, of_single, in_range, of_range, same_key, some_same, some_none}
-use Rattle.seq_model.specs.declared.state.Held.{Held}
-use Rattle.seq_model.specs.declared.state.Held.TheVariants.{Map, Bag, Pq, Queue}
+use Rattle.seq_model.specs.declared.held.Held.{Held}
+use Rattle.seq_model.specs.declared.held.Held.TheVariants.{Map, Bag, Pq, Queue}
 
 -- what a mapped option came from
 from_map : {A B : Type 0} (f : A → B) (o : Option A) (x : B) → option_map f o ≡ Some x → (r : A) × ((o ≡ Some r) × (f r ≡ x))

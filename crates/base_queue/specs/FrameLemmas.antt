@@ -11,9 +11,9 @@ use Rattle.seq_model.specs.declared.call.Op.{Op}
 use Rattle.seq_model.specs.declared.call.Op.TheVariants.{Enqueue, Dequeue, Peek, Len}
 use Rattle.seq_model.specs.declared.call.Reply.{Reply}
 use Rattle.seq_model.specs.declared.call.Reply.TheVariants.{Done, Full, Nothing, Found, Number}
-use Rattle.seq_model.specs.declared.state.Held.{Held}
-use Rattle.seq_model.specs.declared.state.Held.TheVariants.{Map, Bag, Pq, Queue}
-use Rattle.seq_model.specs.declared.state.TheConstants.{INDEX_LIMIT}
+use Rattle.seq_model.specs.declared.held.Held.{Held}
+use Rattle.seq_model.specs.declared.held.Held.TheVariants.{Map, Bag, Pq, Queue}
+use Rattle.seq_model.specs.declared.limits.TheConstants.{INDEX_LIMIT}
 use Rattle.seq_model.specs.Calls.{found_reply, peek_reply, enqueue_call, dequeue_call, held_call, IsWithinLimits}
 use Rattle.conflict.specs.declared.change.Change.{Change}
 use Rattle.conflict.specs.declared.change.Change.TheVariants as change

@@ -5,7 +5,7 @@ ghost use Rattle.seq_model.specs.Calls.{found_reply};
 ghost use Rattle.base_queue.specs.Conflicts.{change_shown, cells_from, queue_view};
 
 use conflict::{Change, Table};
-use seq_model::{INDEX_LIMIT, Items, Memory, Reply};
+use seq_model::{INDEX_LIMIT, Memory, QueueItems, Reply};
 use std::alloc::Global;
 use std::marker::Model;
 
@@ -19,7 +19,7 @@ pub struct Cells {
 
 impl Model for Cells {
     ghost use Rattle.std.specs.Prelude.{◌≤◌};
-    ghost use Rattle.seq_model.specs.declared.state.TheConstants.{INDEX_LIMIT};
+    ghost use Rattle.seq_model.specs.declared.limits.TheConstants.{INDEX_LIMIT};
     ghost use Rattle.conflict.specs.BaseView.{RoomyView, roomy_view_code};
     ghost use Rattle.base_queue.specs.Conflicts.{Shown, shown_code};
 
@@ -116,10 +116,10 @@ impl Cells {
     }
 
     /// The items, by rising index.
-    pub fn to_items(&self, alloc: Global) -> Result<Items<u64>, Memory>
+    pub fn to_items(&self, alloc: Global) -> Result<QueueItems, Memory>
         ensures { IfOk result (λ items. items ≡ values self.now.shown.cells) }
     {
-        let mut items = Items::new(alloc);
+        let mut items = QueueItems::new(alloc);
         for (_, item) in self.table.to_entries()?.into_vec() {
             items.push(item)?;
         }

@@ -79,7 +79,7 @@ impl QueueBase {
                 alloc,
                 stripes,
                 head,
-                items.as_slice(),
+                items.into_vec().as_slice(),
             ),
             _ => Err(Refusal::NoSuch),
         }
@@ -309,12 +309,12 @@ impl<V: Value> Conflict<V> for QueueBase {
 mod tests {
     use super::*;
     use conflict::conflicts;
-    use seq_model::Counts;
+    use seq_model::{Counts, QueueItems};
     use std::test::Fail;
 
     // A queue of stripes whose first item, 8, has index 5.
     fn holding_8(alloc: Global, stripes: u32) -> Result<QueueBase, Refusal> {
-        let mut items = Items::new(alloc);
+        let mut items = QueueItems::new(alloc);
         items.push(8)?;
         QueueBase::open(alloc, stripes, Held::<u64>::Queue { head: 5, items })
     }
@@ -366,7 +366,7 @@ mod tests {
         match base.try_copy()?.held::<u64>()? {
             Held::Queue { head, items } => {
                 assert_eq!(rt; head, 6);
-                assert_eq!(rt; items.as_slice(), [10, 11, 12].as_slice());
+                assert_eq!(rt; items.into_vec().as_slice(), [10, 11, 12].as_slice());
             }
             _ => assert!(rt; false, "no queue"),
         }
@@ -385,7 +385,7 @@ mod tests {
 
     #[test]
     fn is_full_at_the_last_index(rt: HostRuntime) -> Result<(), Fail> {
-        let items = Items::new(rt.alloc());
+        let items = QueueItems::new(rt.alloc());
         let held = Held::<u64>::Queue {
             head: INDEX_LIMIT,
             items,
@@ -421,7 +421,7 @@ mod tests {
         assert!(rt; matches!(QueueBase::open(alloc, 0, bag), Err(Refusal::NoSuch)));
         let past: Held<u64> = Held::Queue {
             head: INDEX_LIMIT + 1,
-            items: Items::new(alloc),
+            items: QueueItems::new(alloc),
         };
         assert!(rt; matches!(QueueBase::open(alloc, 1, past), Err(Refusal::TooLong)));
         assert!(rt; matches!(QueueBase::new(alloc, 65), Err(Refusal::TooLong)));

@@ -1,5 +1,4 @@
 -- An `IndexMap` with numbers as keys, as a finite map.
-use Rattle.std.specs.Prelude.{fold}
 use Rattle.std.proofs.Common.{◌≡◌, ℕ, ◌+◌, true, false, cond, List, [], ◌∷◌, length, Option, Some, None, is_some, nat_eq, refl, sym, ap, ◌∙◌, arith}
 use Rattle.std.specs.Cmp.{nat_cmp_total}
 use Rattle.std.specs.Ordering.{nat_cmp, eq_by_cmp}
@@ -9,6 +8,7 @@ use Rattle.seq_model.specs.Entries.{IsRising}
 use Rattle.seq_model.proofs.EntryLemmas.{find_below, below_at, both_true}
 use Rattle.std.specs.FinMap.{FinMap, find, entries, entries_sorted, empty, get-empty, get-entries, get, insert, remove, len, from_entries, get-from_entries, get-insert, get-remove, len-insert, len-empty, same_map, nat_cmp-IsAntisymmetric}
 use Rattle.std.proofs.lemmas.Bool.Decides.{nat_tests}
+use Rattle.conflict.specs.Table.{inserts}
 use Rattle.indexmap.specs.IndexMap as index
 
 -- the two tests of keys
@@ -50,9 +50,6 @@ len_of (e ∷ es) h =
     ∙ omega arith
 
 -- ---- entries inserted one after another
-abbrev pub inserts : {V : Type 0} → FinMap nat_cmp V → List (ℕ × V) → FinMap nat_cmp V
-inserts m es = fold (λ n e. insert n e.0 e.1) m es
-
 -- each key differs from those after it
 abbrev pub AreFresh : {V : Type 0} → List (ℕ × V) → Type 0
 AreFresh [] = Unit {0}

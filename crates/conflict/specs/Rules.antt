@@ -1,7 +1,7 @@
 -- A kind of collection, as the detection of conflicts sees it: what calls answer, read, write and change, in n stripes.
 use Rattle.std.specs.Prelude.{◌≡◌, ℕ, ◌<◌, ◌⊎◌, List, Option, Some, None, fold, Any, Contains}
 use Rattle.seq_model.specs.declared.call.Op.{Op}
-use Rattle.seq_model.specs.declared.state.Held.{Held}
+use Rattle.seq_model.specs.declared.held.Held.{Held}
 use Rattle.seq_model.specs.Calls.{held_call, IsWithinLimits}
 use Rattle.conflict.specs.declared.change.Change.{Change}
 use Rattle.conflict.specs.declared.outcome.Outcome.{Outcome}

@@ -108,17 +108,17 @@ impl<V: Value> Table<V> {
     pub fn to_entries(&self) -> Result<Entries<V>, Memory>
         ensures { IfOk result (λ entries. entries ≡ self.now.contents) }
     {
-        let alloc = self.alloc;
-        self.try_copy()?.into_entries(alloc)
+        self.try_copy()?.into_entries()
     }
 
-    // The keys are sorted first, so that each entry goes to the end.
-    fn into_entries(self, alloc: Global) -> Result<Entries<V>, Memory>
+    /// The entries, in the order of their keys.
+    pub fn into_entries(self) -> Result<Entries<V>, Memory>
         ensures { IfOk result (λ entries. entries ≡ self.contents) }
     {
+        let mut entries = Entries::new(self.alloc);
         let mut sorted = self.entries;
+        // so that each entry goes to the end of those before it
         sorted.sort_keys()?;
-        let mut entries = Entries::new(alloc);
         for (key, value) in sorted {
             entries.insert(key, value)?;
         }

@@ -1,5 +1,6 @@
 use Rattle.std.proofs.Common.{ap, ◌∙◌}
-use Rattle.conflict.proofs.TableLemmas.{inserts, inserts_distinct, reordered_same}
+use Rattle.conflict.specs.Table.{inserts}
+use Rattle.conflict.proofs.TableLemmas.{inserts_distinct, reordered_same}
 use Rattle.conflict.proofs.table.Table.into_entries.Goals as goal
 
 pub loop-key-init : goal.loop-key-init

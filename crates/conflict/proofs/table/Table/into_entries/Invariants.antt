@@ -1,5 +1,5 @@
 use Rattle.std.proofs.Common.{◌≡◌}
-use Rattle.conflict.proofs.TableLemmas.{inserts}
+use Rattle.conflict.specs.Table.{inserts}
 use Rattle.conflict.proofs.table.Table.into_entries.Given as goal
 
 abbrev pub invariant-loop-key : goal.invariant-loop-key

@@ -1,6 +1,7 @@
 use Rattle.std.proofs.Common.{◌≤◌, ap, sym, ◌∙◌, length, subst}
 use Rattle.std.specs.FinMap.{len-entries}
-use Rattle.conflict.proofs.TableLemmas.{inserts, inserts_all}
+use Rattle.conflict.specs.Table.{inserts}
+use Rattle.conflict.proofs.TableLemmas.{inserts_all}
 use Rattle.conflict.proofs.table.Table.of_entries.Goals as goal
 
 pub loop-key-init : goal.loop-key-init

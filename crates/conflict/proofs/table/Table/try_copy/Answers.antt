@@ -1,5 +1,6 @@
 use Rattle.std.proofs.Common.{◌≤◌, ap, sym, ◌∙◌, length, subst}
-use Rattle.conflict.proofs.TableLemmas.{inserts, inserts_distinct}
+use Rattle.conflict.specs.Table.{inserts}
+use Rattle.conflict.proofs.TableLemmas.{inserts_distinct}
 use Rattle.conflict.proofs.table.Table.try_copy.Goals as goal
 
 pub loop-key-init : goal.loop-key-init
