@@ -284,3 +284,105 @@ impl<V: Value> Conflict<V> for BagBase {
 
     ghost laws = { laws };
 }
+
+#[cfg(test)]
+mod tests {
+    use super::*;
+    use seq_model::Entries;
+    use std::test::Fail;
+
+    fn holding(alloc: Global, element: u64, copies: u64) -> Result<BagBase, Refusal> {
+        let mut counts = Counts::new(alloc);
+        counts.set_copies(element, copies)?;
+        BagBase::open(alloc, 2, Held::<u64>::Bag(counts))
+    }
+
+    fn footprint(base: &BagBase, op: Op<u64>) -> Result<(LocSet, LocSet), Refusal> {
+        let outcome = base.outcome(&op)?;
+        Ok((base.reads(&outcome)?, base.writes(&outcome)?))
+    }
+
+    // The call, replayed at once.
+    fn call(base: &mut BagBase, op: Op<u64>) -> Result<Reply<u64>, Refusal> {
+        let outcome = base.outcome(&op)?;
+        let changes = base.changes(&outcome)?;
+        base.prepare(changes.as_slice())?;
+        let none = LocSet::empty(base.editions.allocator());
+        base.replay(changes, &none);
+        Ok(outcome.reply)
+    }
+
+    #[test]
+    fn takes_what_was_added(rt: HostRuntime) -> Result<(), Fail> {
+        let mut base = BagBase::new(rt.alloc(), 1)?;
+        assert!(rt; matches!(call(&mut base, Op::Add(3))?, Reply::Done));
+        assert!(rt; matches!(call(&mut base, Op::Add(3))?, Reply::Done));
+        assert!(rt; matches!(call(&mut base, Op::Take(3))?, Reply::Yes));
+        assert!(rt; matches!(call(&mut base, Op::Take(3))?, Reply::Yes));
+        assert!(rt; matches!(call(&mut base, Op::Take(3))?, Reply::No));
+        Ok(())
+    }
+
+    #[test]
+    fn a_replay_keeps_two_equal_adds(rt: HostRuntime) -> Result<(), Fail> {
+        let mut base = BagBase::new(rt.alloc(), 1)?;
+        let mut changes: Changes<u64> = Items::new(rt.alloc());
+        changes.push(Change::Add(3))?;
+        changes.push(Change::Take(3))?;
+        changes.push(Change::Add(3))?;
+        changes.push(Change::Add(3))?;
+        base.prepare(changes.as_slice())?;
+        base.replay(changes, &LocSet::single(rt.alloc(), 0));
+        assert_eq!(rt; base.edition(0), 1);
+        assert_eq!(rt; base.elements.copies(3), 2);
+        Ok(())
+    }
+
+    #[test]
+    fn a_copy_holds_the_same(rt: HostRuntime) -> Result<(), Fail> {
+        let base = holding(rt.alloc(), 3, 2)?;
+        match base.try_copy()?.held::<u64>()? {
+            Held::Bag(counts) => assert_eq!(rt; counts.as_slice(), [(3, 2)].as_slice()),
+            _ => assert!(rt; false, "no multiset"),
+        }
+        Ok(())
+    }
+
+    #[test]
+    fn an_absent_take_writes_nothing(rt: HostRuntime) -> Result<(), Fail> {
+        let base = holding(rt.alloc(), 3, 2)?;
+        let (reads, writes) = footprint(&base, Op::Take(5))?;
+        assert_eq!(rt; reads.as_slice(), [1].as_slice());
+        assert_eq!(rt; writes.as_slice().len(), 0);
+        Ok(())
+    }
+
+    #[test]
+    fn an_add_writes_its_stripe(rt: HostRuntime) -> Result<(), Fail> {
+        let base = holding(rt.alloc(), 3, COPY_LIMIT - 1)?;
+        let (reads, writes) = footprint(&base, Op::Add(3))?;
+        assert_eq!(rt; reads.as_slice(), [1].as_slice());
+        assert_eq!(rt; writes.as_slice(), [1].as_slice());
+        Ok(())
+    }
+
+    #[test]
+    fn a_full_add_writes_nothing(rt: HostRuntime) -> Result<(), Fail> {
+        let base = holding(rt.alloc(), 3, COPY_LIMIT)?;
+        assert!(rt; matches!(&base.outcome(&Op::<u64>::Add(3))?.reply, Reply::Full));
+        let (reads, writes) = footprint(&base, Op::Add(3))?;
+        assert_eq!(rt; reads.as_slice(), [1].as_slice());
+        assert_eq!(rt; writes.as_slice().len(), 0);
+        Ok(())
+    }
+
+    #[test]
+    fn refuses_the_kind_before_the_limits(rt: HostRuntime) -> Result<(), Fail> {
+        let alloc = rt.alloc();
+        let map: Held<u64> = Held::Map(Entries::new(alloc));
+        assert!(rt; matches!(BagBase::open(alloc, 0, map), Err(Refusal::NoSuch)));
+        assert!(rt; matches!(holding(alloc, 3, COPY_LIMIT + 1), Err(Refusal::TooLong)));
+        assert!(rt; matches!(BagBase::new(alloc, 65), Err(Refusal::TooLong)));
+        Ok(())
+    }
+}
