@@ -1,0 +1,388 @@
+//! The collection of a multiset.
+ghost use Rattle.std.specs.Prelude.{◌≡◌, ◌^◌, ◌<◌, ◌≤◌, Some, None, All, IsOk, replicate, IfOk, IfErr, OnOk, length, slice_index};
+ghost use Rattle.std.specs.FinMap.{empty};
+ghost use Rattle.seq_model.specs.Calls.{IsRefusal, IsWithinLimits};
+ghost use Rattle.seq_model.specs.Counts.{HasFewCopies};
+ghost use Rattle.conflict.specs.Rules.{applied};
+ghost use Rattle.conflict.specs.Footprints.{key_place};
+ghost use Rattle.conflict.specs.Editions.{raised};
+ghost use Rattle.conflict.specs.Refusals.{IsTooLong, IsNoSuchOrTooLong, IsStripeCount};
+ghost use Rattle.base_bag.specs.Conflicts.{rules, view_of, outcome_of, reads_of, writes_of, changes_of};
+
+use crate::elements::Elements;
+use conflict::{Change, Changes, Conflict, Editions, LocSet, Note, Outcome, is_stripe_count};
+use seq_model::{COPY_LIMIT, Counts, Held, Items, Memory, Op, Refusal, Reply, Value};
+use std::alloc::Global;
+use std::marker::Model;
+
+/// A multiset in stripes, with an edition for each.
+#[derive(Drop)]
+pub struct BagBase {
+    elements: Elements,
+    stripes: u32,
+    editions: Editions,
+}
+
+impl Model for BagBase {
+    ghost use Rattle.std.specs.Prelude.{◌≡◌, ℕ, length};
+    ghost use Rattle.std.specs.Ordering.{nat_cmp};
+    ghost use Rattle.std.specs.FinMap as map;
+    ghost use Rattle.std.specs.Coded.{coded_ℕ};
+    ghost use Rattle.conflict.specs.BaseView.{BaseView, base_view_code};
+    ghost use Rattle.conflict.specs.Refusals.{IsStripeCount};
+
+    ghost Value = { BaseView (map.FinMap nat_cmp ℕ) };
+
+    ghost coded = { base_view_code (map.code coded_ℕ coded_ℕ) };
+
+    ghost view = { λ a. record {
+      shown = a.elements.shown;
+      stripes = a.stripes;
+      editions = a.editions;
+      room = a.elements.room;
+    } };
+
+    ghost invariant = { λ a. IsStripeCount a.stripes × (length a.editions ≡ a.stripes) };
+}
+
+impl BagBase {
+    /// An empty multiset in so many stripes, 1 to `STRIPE_LIMIT`, with edition 0 for each. Another number is refused as TooLong.
+    pub fn new(alloc: Global, stripes: u32) -> Result<BagBase, Refusal>
+        ensures empty { IfOk result (λ base. base.shown ≡ empty) }
+        ensures stripes { IfOk result (λ base. base.stripes ≡ stripes) }
+        ensures editions { IfOk result (λ base. base.editions ≡ replicate stripes 0) }
+        ensures refused { IfErr result (λ refusal. IsTooLong refusal (IsStripeCount stripes)) }
+        ensures fits { IsOk result → IsStripeCount stripes }
+    {
+        if !is_stripe_count(stripes) {
+            return Err(Refusal::TooLong);
+        }
+        let editions = Editions::new(alloc, stripes)?;
+        Ok(BagBase {
+            elements: Elements::new(alloc),
+            stripes,
+            editions,
+        })
+    }
+
+    /// A multiset that holds this, with edition 0 for each stripe. What another kind of collection holds is refused as NoSuch,
+    /// and else a number of stripes that `new` refuses, or too many copies of an element, as TooLong. Only then memory is asked
+    /// for.
+    pub fn open<V: Drop>(alloc: Global, stripes: u32, held: Held<V>) -> Result<BagBase, Refusal>
+        ensures shown { IfOk result (λ base. view_of held ≡ Some base.shown) }
+        ensures stripes { IfOk result (λ base. base.stripes ≡ stripes) }
+        ensures editions { IfOk result (λ base. base.editions ≡ replicate stripes 0) }
+        ensures refused { IfErr result
+            (λ refusal. IsNoSuchOrTooLong refusal (view_of held ≡ None) (IsStripeCount stripes × IsWithinLimits held)) }
+        ensures fits { IsOk result → IsStripeCount stripes × IsWithinLimits held }
+    {
+        match held {
+            Held::Bag(counts) => BagBase::of_counts(alloc, stripes, counts),
+            _ => Err(Refusal::NoSuch),
+        }
+    }
+
+    fn of_counts(alloc: Global, stripes: u32, counts: Counts) -> Result<BagBase, Refusal>
+        ensures shown { IfOk result (λ base. base.shown ≡ counts) }
+        ensures stripes { IfOk result (λ base. base.stripes ≡ stripes) }
+        ensures editions { IfOk result (λ base. base.editions ≡ replicate stripes 0) }
+        ensures refused { IfErr result (λ refusal. IsTooLong refusal (IsStripeCount stripes × HasFewCopies counts)) }
+        ensures fits { IsOk result → IsStripeCount stripes × HasFewCopies counts }
+    {
+        if !is_stripe_count(stripes) {
+            return Err(Refusal::TooLong);
+        }
+        if !counts.has_few_copies() {
+            return Err(Refusal::TooLong);
+        }
+        let editions = Editions::new(alloc, stripes)?;
+        let elements = Elements::of_counts(alloc, counts)?;
+        Ok(BagBase {
+            elements,
+            stripes,
+            editions,
+        })
+    }
+
+    /// What the multiset holds: copies of its elements.
+    pub fn held<V>(&self) -> Result<Held<V>, Memory>
+        ensures { IfOk result (λ held. held ≡ (rules V).held_of self.now.shown) }
+    {
+        let counts = self.elements.to_counts()?;
+        Ok(Held::Bag(counts))
+    }
+
+    /// The outcome that the call has here. A call of another kind is refused as NoSuch.
+    pub fn outcome<V>(&self, op: &Op<V>) -> Result<Outcome<V>, Refusal>
+        ensures ok { IfOk result (λ outcome. outcome_of op.now self.now.shown ≡ Some outcome) }
+        ensures refused { IfErr result (λ refusal. IsRefusal refusal (outcome_of op.now self.now.shown ≡ None)) }
+    {
+        let (op, reply) = match op {
+            Op::Count(element) => {
+                (
+                    Op::Count(*element),
+                    Reply::Number(self.elements.copies(*element)),
+                )
+            }
+            Op::Add(element) => {
+                let full = self.elements.copies(*element) >= COPY_LIMIT;
+                (
+                    Op::Add(*element),
+                    if full { Reply::Full } else { Reply::Done },
+                )
+            }
+            Op::Take(element) => {
+                let absent = self.elements.copies(*element) == 0;
+                (
+                    Op::Take(*element),
+                    if absent { Reply::No } else { Reply::Yes },
+                )
+            }
+            _ => return Err(Refusal::NoSuch),
+        };
+        Ok(Outcome {
+            op,
+            reply,
+            note: Note::Plain,
+        })
+    }
+
+    fn place(&self, element: u64) -> u32
+        ensures { result ≡ key_place self.now.stripes element }
+    {
+        (element % self.stripes as u64) as u32
+    }
+
+    /// The locations that the outcome reads.
+    pub fn reads<V>(&self, outcome: &Outcome<V>) -> Result<LocSet, Memory>
+        ensures { IfOk result (λ set. set ≡ reads_of self.now.stripes outcome.now) }
+    {
+        let alloc = self.editions.allocator();
+        Ok(match &outcome.op {
+            Op::Count(element) | Op::Add(element) | Op::Take(element) => {
+                LocSet::single(alloc, self.place(*element))
+            }
+            _ => LocSet::empty(alloc),
+        })
+    }
+
+    /// The locations that the outcome writes.
+    pub fn writes<V>(&self, outcome: &Outcome<V>) -> Result<LocSet, Memory>
+        ensures { IfOk result (λ set. set ≡ writes_of self.now.stripes outcome.now) }
+    {
+        let alloc = self.editions.allocator();
+        Ok(match (&outcome.op, &outcome.reply) {
+            (Op::Add(element), Reply::Done) | (Op::Take(element), Reply::Yes) => {
+                LocSet::single(alloc, self.place(*element))
+            }
+            _ => LocSet::empty(alloc),
+        })
+    }
+
+    /// What the outcome changes.
+    pub fn changes<V: Drop>(&self, outcome: &Outcome<V>) -> Result<Changes<V>, Memory>
+        ensures { IfOk result (λ changes. changes ≡ changes_of outcome.now) }
+    {
+        let mut changes = Items::new(self.editions.allocator());
+        match (&outcome.op, &outcome.reply) {
+            (Op::Add(element), Reply::Done) => changes.push(Change::Add(*element))?,
+            (Op::Take(element), Reply::Yes) => changes.push(Change::Take(*element))?,
+            _ => {}
+        }
+        Ok(changes)
+    }
+
+    /// Makes room for the changes. The multiset stays as it is, also where memory is refused.
+    pub fn prepare<V>(&mut self, changes: &[Change<V>]) -> Result<(), Memory>
+        ensures shown { self.new.shown ≡ self.old.shown }
+        ensures stripes { self.new.stripes ≡ self.old.stripes }
+        ensures editions { self.new.editions ≡ self.old.editions }
+        ensures ok { OnOk result (length changes.now ≤ self.new.room) }
+    {
+        self.elements.reserve(changes.len())
+    }
+
+    /// Applies the changes in order, and raises the edition of each written location by one. There has to be room for the
+    /// changes, so it takes no memory and is never refused.
+    pub fn replay<V: Drop>(&mut self, changes: Changes<V>, written: &LocSet)
+        requires prepared { length changes ≤ self.old.room }
+        requires within { All (λ location. location < self.old.stripes) written.now }
+        requires below { All (λ location. slice_index self.old.editions location < 2 ^ 63) written.now }
+        ensures shown { self.new.shown ≡ applied (rules V) changes self.old.shown }
+        ensures stripes { self.new.stripes ≡ self.old.stripes }
+        ensures editions { self.new.editions ≡ raised written.now self.old.editions }
+    {
+        apply_changes(&mut self.elements, changes);
+        self.editions.raise(written);
+    }
+
+    /// The edition of the location: how many replays have written it.
+    pub fn edition(&self, location: u32) -> u64
+        requires { location < self.now.stripes }
+        ensures { result ≡ slice_index self.now.editions location }
+    {
+        self.editions.edition(location)
+    }
+
+    /// A multiset that holds the same, with the same editions.
+    pub fn try_copy(&self) -> Result<BagBase, Memory>
+        ensures shown { IfOk result (λ copy. copy.shown ≡ self.now.shown) }
+        ensures stripes { IfOk result (λ copy. copy.stripes ≡ self.now.stripes) }
+        ensures editions { IfOk result (λ copy. copy.editions ≡ self.now.editions) }
+    {
+        Ok(BagBase {
+            elements: self.elements.try_copy()?,
+            stripes: self.stripes,
+            editions: self.editions.try_copy()?,
+        })
+    }
+}
+
+fn apply_changes<V: Drop>(elements: &mut Elements, changes: Changes<V>)
+    requires { length changes ≤ elements.old.room }
+    ensures { elements.new.shown ≡ applied (rules V) changes elements.old.shown }
+{
+    for change in changes.into_vec() {
+        elements.change(change);
+    }
+}
+
+impl<V: Value> Conflict<V> for BagBase {
+    ghost use Rattle.std.specs.Prelude.{ℕ, Option};
+    ghost use Rattle.std.specs.Ordering.{nat_cmp};
+    ghost use Rattle.std.specs.FinMap as map;
+    ghost use Rattle.base_bag.specs.Conflicts.{rules};
+    ghost use Rattle.base_bag.specs.FrameLemmas.{laws};
+
+    ghost Shown = { map.FinMap nat_cmp ℕ };
+
+    ghost Point = { ℕ };
+
+    ghost Answer = { Option ℕ };
+
+    ghost rules = { rules V };
+
+    ghost shown = { λ s. s.shown };
+
+    ghost stripes = { λ s. s.stripes };
+
+    fn outcome(&self, op: &Op<V>) -> Result<Outcome<V>, Refusal> {
+        BagBase::outcome(self, op)
+    }
+
+    fn reads(&self, outcome: &Outcome<V>) -> Result<LocSet, Memory> {
+        BagBase::reads(self, outcome)
+    }
+
+    fn writes(&self, outcome: &Outcome<V>) -> Result<LocSet, Memory> {
+        BagBase::writes(self, outcome)
+    }
+
+    fn changes(&self, outcome: &Outcome<V>) -> Result<Changes<V>, Memory> {
+        BagBase::changes(self, outcome)
+    }
+
+    ghost laws = { laws };
+}
+
+#[cfg(test)]
+mod tests {
+    use super::*;
+    use seq_model::Entries;
+    use std::test::Fail;
+
+    fn holding(alloc: Global, element: u64, copies: u64) -> Result<BagBase, Refusal> {
+        let mut counts = Counts::new(alloc);
+        counts.set_copies(element, copies)?;
+        BagBase::open(alloc, 2, Held::<u64>::Bag(counts))
+    }
+
+    fn footprint(base: &BagBase, op: Op<u64>) -> Result<(LocSet, LocSet), Refusal> {
+        let outcome = base.outcome(&op)?;
+        Ok((base.reads(&outcome)?, base.writes(&outcome)?))
+    }
+
+    // The call, replayed at once.
+    fn call(base: &mut BagBase, op: Op<u64>) -> Result<Reply<u64>, Refusal> {
+        let outcome = base.outcome(&op)?;
+        let changes = base.changes(&outcome)?;
+        base.prepare(changes.as_slice())?;
+        let none = LocSet::empty(base.editions.allocator());
+        base.replay(changes, &none);
+        Ok(outcome.reply)
+    }
+
+    #[test]
+    fn takes_what_was_added(rt: HostRuntime) -> Result<(), Fail> {
+        let mut base = BagBase::new(rt.alloc(), 1)?;
+        assert!(rt; matches!(call(&mut base, Op::Add(3))?, Reply::Done));
+        assert!(rt; matches!(call(&mut base, Op::Add(3))?, Reply::Done));
+        assert!(rt; matches!(call(&mut base, Op::Take(3))?, Reply::Yes));
+        assert!(rt; matches!(call(&mut base, Op::Take(3))?, Reply::Yes));
+        assert!(rt; matches!(call(&mut base, Op::Take(3))?, Reply::No));
+        Ok(())
+    }
+
+    #[test]
+    fn a_replay_keeps_two_equal_adds(rt: HostRuntime) -> Result<(), Fail> {
+        let mut base = BagBase::new(rt.alloc(), 1)?;
+        let mut changes: Changes<u64> = Items::new(rt.alloc());
+        changes.push(Change::Add(3))?;
+        changes.push(Change::Take(3))?;
+        changes.push(Change::Add(3))?;
+        changes.push(Change::Add(3))?;
+        base.prepare(changes.as_slice())?;
+        base.replay(changes, &LocSet::single(rt.alloc(), 0));
+        assert_eq!(rt; base.edition(0), 1);
+        assert_eq!(rt; base.elements.copies(3), 2);
+        Ok(())
+    }
+
+    #[test]
+    fn a_copy_holds_the_same(rt: HostRuntime) -> Result<(), Fail> {
+        let base = holding(rt.alloc(), 3, 2)?;
+        match base.try_copy()?.held::<u64>()? {
+            Held::Bag(counts) => assert_eq!(rt; counts.as_slice(), [(3, 2)].as_slice()),
+            _ => assert!(rt; false, "no multiset"),
+        }
+        Ok(())
+    }
+
+    #[test]
+    fn an_absent_take_writes_nothing(rt: HostRuntime) -> Result<(), Fail> {
+        let base = holding(rt.alloc(), 3, 2)?;
+        let (reads, writes) = footprint(&base, Op::Take(5))?;
+        assert_eq!(rt; reads.as_slice(), [1].as_slice());
+        assert_eq!(rt; writes.as_slice().len(), 0);
+        Ok(())
+    }
+
+    #[test]
+    fn an_add_writes_its_stripe(rt: HostRuntime) -> Result<(), Fail> {
+        let base = holding(rt.alloc(), 3, COPY_LIMIT - 1)?;
+        let (reads, writes) = footprint(&base, Op::Add(3))?;
+        assert_eq!(rt; reads.as_slice(), [1].as_slice());
+        assert_eq!(rt; writes.as_slice(), [1].as_slice());
+        Ok(())
+    }
+
+    #[test]
+    fn a_full_add_writes_nothing(rt: HostRuntime) -> Result<(), Fail> {
+        let base = holding(rt.alloc(), 3, COPY_LIMIT)?;
+        assert!(rt; matches!(&base.outcome(&Op::<u64>::Add(3))?.reply, Reply::Full));
+        let (reads, writes) = footprint(&base, Op::Add(3))?;
+        assert_eq!(rt; reads.as_slice(), [1].as_slice());
+        assert_eq!(rt; writes.as_slice().len(), 0);
+        Ok(())
+    }
+
+    #[test]
+    fn refuses_the_kind_before_the_limits(rt: HostRuntime) -> Result<(), Fail> {
+        let alloc = rt.alloc();
+        let map: Held<u64> = Held::Map(Entries::new(alloc));
+        assert!(rt; matches!(BagBase::open(alloc, 0, map), Err(Refusal::NoSuch)));
+        assert!(rt; matches!(holding(alloc, 3, COPY_LIMIT + 1), Err(Refusal::TooLong)));
+        assert!(rt; matches!(BagBase::new(alloc, 65), Err(Refusal::TooLong)));
+        Ok(())
+    }
+}

@@ -1,0 +1,365 @@
+//! The collection of a map.
+ghost use Rattle.std.specs.Prelude.{◌≡◌, ◌+◌, ◌^◌, ◌<◌, ◌≤◌, ◌%◌, Some, None, All, IsOk, replicate, IfOk, IfErr, OnOk, length, slice_index};
+ghost use Rattle.std.specs.FinMap as map;
+ghost use Rattle.seq_model.specs.Calls.{IsRefusal, value_reply};
+ghost use Rattle.conflict.specs.Rules.{applied};
+ghost use Rattle.conflict.specs.Footprints.{key_place};
+ghost use Rattle.conflict.specs.Editions.{raised};
+ghost use Rattle.conflict.specs.Refusals.{IsTooLong, IsNoSuchOrTooLong, IsStripeCount};
+ghost use Rattle.base_map.specs.Conflicts.{rules, view_of, outcome_of, reads_of, writes_of, changes_of};
+
+use conflict::{
+    Change, Changes, Conflict, Editions, LocSet, Note, Outcome, Table, is_stripe_count,
+};
+use seq_model::{Entries, Held, Items, Memory, Op, Refusal, Reply, Value};
+use std::alloc::Global;
+use std::marker::Model;
+
+/// A map in stripes, with an edition for each.
+#[derive(Drop)]
+pub struct MapBase<V> {
+    table: Table<V>,
+    stripes: u32,
+    editions: Editions,
+}
+
+impl<V> Model for MapBase<V> {
+    ghost use Rattle.std.specs.Prelude.{◌≡◌, length};
+    ghost use Rattle.std.specs.Ordering.{nat_cmp};
+    ghost use Rattle.std.specs.FinMap as map;
+    ghost use Rattle.std.specs.Coded.{coded_ℕ};
+    ghost use Rattle.conflict.specs.BaseView.{BaseView, base_view_code};
+    ghost use Rattle.conflict.specs.Refusals.{IsStripeCount};
+
+    ghost Value = { BaseView (map.FinMap nat_cmp V) };
+
+    ghost coded = { base_view_code (map.code coded_ℕ V.code) };
+
+    ghost view = { λ a. record {
+      shown = a.table.contents;
+      stripes = a.stripes;
+      editions = a.editions;
+      room = a.table.room;
+    } };
+
+    ghost invariant = { λ a. IsStripeCount a.stripes × (length a.editions ≡ a.stripes) };
+}
+
+impl<V: Value> MapBase<V> {
+    /// An empty map in so many stripes, 1 to `STRIPE_LIMIT`, with edition 0 for each. Another number is refused as TooLong.
+    pub fn new(alloc: Global, stripes: u32) -> Result<MapBase<V>, Refusal>
+        ensures empty { IfOk result (λ base. base.shown ≡ map.empty) }
+        ensures stripes { IfOk result (λ base. base.stripes ≡ stripes) }
+        ensures editions { IfOk result (λ base. base.editions ≡ replicate stripes 0) }
+        ensures refused { IfErr result (λ refusal. IsTooLong refusal (IsStripeCount stripes)) }
+        ensures fits { IsOk result → IsStripeCount stripes }
+    {
+        if !is_stripe_count(stripes) {
+            return Err(Refusal::TooLong);
+        }
+        let editions = Editions::new(alloc, stripes)?;
+        Ok(MapBase {
+            table: Table::new(alloc),
+            stripes,
+            editions,
+        })
+    }
+
+    /// A map that holds this, with edition 0 for each stripe. What another kind of collection holds is refused as NoSuch, and
+    /// else a number of stripes that `new` refuses as TooLong. Only then memory is asked for.
+    pub fn open(alloc: Global, stripes: u32, held: Held<V>) -> Result<MapBase<V>, Refusal>
+        ensures shown { IfOk result (λ base. view_of held ≡ Some base.shown) }
+        ensures stripes { IfOk result (λ base. base.stripes ≡ stripes) }
+        ensures editions { IfOk result (λ base. base.editions ≡ replicate stripes 0) }
+        ensures refused { IfErr result
+            (λ refusal. IsNoSuchOrTooLong refusal (view_of held ≡ None) (IsStripeCount stripes)) }
+        ensures fits { IsOk result → IsStripeCount stripes }
+    {
+        match held {
+            Held::Map(entries) => MapBase::of_entries(alloc, stripes, entries),
+            _ => Err(Refusal::NoSuch),
+        }
+    }
+
+    fn of_entries(alloc: Global, stripes: u32, entries: Entries<V>) -> Result<MapBase<V>, Refusal>
+        ensures shown { IfOk result (λ base. base.shown ≡ entries) }
+        ensures stripes { IfOk result (λ base. base.stripes ≡ stripes) }
+        ensures editions { IfOk result (λ base. base.editions ≡ replicate stripes 0) }
+        ensures refused { IfErr result (λ refusal. IsTooLong refusal (IsStripeCount stripes)) }
+        ensures fits { IsOk result → IsStripeCount stripes }
+    {
+        if !is_stripe_count(stripes) {
+            return Err(Refusal::TooLong);
+        }
+        let editions = Editions::new(alloc, stripes)?;
+        let table = Table::of_entries(alloc, entries)?;
+        Ok(MapBase {
+            table,
+            stripes,
+            editions,
+        })
+    }
+
+    /// What the map holds: copies of its entries.
+    pub fn held(&self) -> Result<Held<V>, Memory>
+        ensures { IfOk result (λ held. held ≡ (rules V).held_of self.now.shown) }
+    {
+        Ok(Held::Map(self.table.to_entries()?))
+    }
+
+    /// The outcome that the call has here. A call of another kind is refused as NoSuch.
+    pub fn outcome(&self, op: &Op<V>) -> Result<Outcome<V>, Refusal>
+        ensures ok { IfOk result (λ outcome. outcome_of op.now self.now.shown ≡ Some outcome) }
+        ensures refused { IfErr result (λ refusal. IsRefusal refusal (outcome_of op.now self.now.shown ≡ None)) }
+    {
+        let reply = match op {
+            Op::Get(key) | Op::Put(key, _) | Op::Remove(key) => self.value_at(*key)?,
+            Op::Len => Reply::Number(self.table.len() as u64),
+            _ => return Err(Refusal::NoSuch),
+        };
+        let op = op.try_copy()?;
+        Ok(Outcome {
+            op,
+            reply,
+            note: Note::Plain,
+        })
+    }
+
+    fn value_at(&self, key: u64) -> Result<Reply<V>, Memory>
+        ensures { IfOk result (λ reply. reply ≡ value_reply (map.get self.now.shown key)) }
+    {
+        match self.table.get(key) {
+            Some(value) => Ok(Reply::Value(value.try_copy()?)),
+            None => Ok(Reply::Nothing),
+        }
+    }
+
+    fn place(&self, key: u64) -> u32
+        ensures { result ≡ key_place self.now.stripes key }
+    {
+        (key % self.stripes as u64) as u32
+    }
+
+    /// The locations that the outcome reads.
+    pub fn reads(&self, outcome: &Outcome<V>) -> Result<LocSet, Memory>
+        ensures { IfOk result (λ set. set ≡ reads_of self.now.stripes outcome.now) }
+    {
+        let alloc = self.editions.allocator();
+        match &outcome.op {
+            Op::Get(key) | Op::Put(key, _) | Op::Remove(key) => {
+                Ok(LocSet::single(alloc, self.place(*key)))
+            }
+            Op::Len => LocSet::all_below(alloc, self.stripes),
+            _ => Ok(LocSet::empty(alloc)),
+        }
+    }
+
+    /// The locations that the outcome writes.
+    pub fn writes(&self, outcome: &Outcome<V>) -> Result<LocSet, Memory>
+        ensures { IfOk result (λ set. set ≡ writes_of self.now.stripes outcome.now) }
+    {
+        let alloc = self.editions.allocator();
+        Ok(match (&outcome.op, &outcome.reply) {
+            (Op::Put(key, _), _) | (Op::Remove(key), Reply::Value(_)) => {
+                LocSet::single(alloc, self.place(*key))
+            }
+            _ => LocSet::empty(alloc),
+        })
+    }
+
+    /// What the outcome changes.
+    pub fn changes(&self, outcome: &Outcome<V>) -> Result<Changes<V>, Memory>
+        ensures { IfOk result (λ changes. changes ≡ changes_of outcome.now) }
+    {
+        let mut changes = Items::new(self.editions.allocator());
+        match (&outcome.op, &outcome.reply) {
+            (Op::Put(key, value), _) => changes.push(Change::Put(*key, value.try_copy()?))?,
+            (Op::Remove(key), Reply::Value(_)) => changes.push(Change::Remove(*key))?,
+            _ => {}
+        }
+        Ok(changes)
+    }
+
+    /// Makes room for the changes. The map stays as it is, also where memory is refused.
+    pub fn prepare(&mut self, changes: &[Change<V>]) -> Result<(), Memory>
+        ensures shown { self.new.shown ≡ self.old.shown }
+        ensures stripes { self.new.stripes ≡ self.old.stripes }
+        ensures editions { self.new.editions ≡ self.old.editions }
+        ensures ok { OnOk result (length changes.now ≤ self.new.room) }
+    {
+        self.table.reserve(changes.len())
+    }
+
+    /// Applies the changes in order, and raises the edition of each written location by one. There has to be room for the
+    /// changes, so it takes no memory and is never refused.
+    pub fn replay(&mut self, changes: Changes<V>, written: &LocSet)
+        requires prepared { length changes ≤ self.old.room }
+        requires within { All (λ location. location < self.old.stripes) written.now }
+        requires below { All (λ location. slice_index self.old.editions location < 2 ^ 63) written.now }
+        ensures shown { self.new.shown ≡ applied (rules V) changes self.old.shown }
+        ensures stripes { self.new.stripes ≡ self.old.stripes }
+        ensures editions { self.new.editions ≡ raised written.now self.old.editions }
+    {
+        apply_changes(&mut self.table, changes);
+        self.editions.raise(written);
+    }
+
+    /// The edition of the location: how many replays have written it.
+    pub fn edition(&self, location: u32) -> u64
+        requires { location < self.now.stripes }
+        ensures { result ≡ slice_index self.now.editions location }
+    {
+        self.editions.edition(location)
+    }
+
+    /// A map that holds the same, with the same editions.
+    pub fn try_copy(&self) -> Result<MapBase<V>, Memory>
+        ensures shown { IfOk result (λ copy. copy.shown ≡ self.now.shown) }
+        ensures stripes { IfOk result (λ copy. copy.stripes ≡ self.now.stripes) }
+        ensures editions { IfOk result (λ copy. copy.editions ≡ self.now.editions) }
+    {
+        Ok(MapBase {
+            table: self.table.try_copy()?,
+            stripes: self.stripes,
+            editions: self.editions.try_copy()?,
+        })
+    }
+}
+
+fn apply_changes<V: Drop>(table: &mut Table<V>, changes: Changes<V>)
+    requires { length changes ≤ table.old.room }
+    ensures { table.new.contents ≡ applied (rules V) changes table.old.contents }
+{
+    for change in changes.into_vec() {
+        match change {
+            Change::Put(key, value) => table.insert_reserved(key, value),
+            Change::Remove(key) => table.remove(key),
+            _ => {}
+        }
+    }
+}
+
+impl<V: Value> Conflict<V> for MapBase<V> {
+    ghost use Rattle.std.specs.Prelude.{ℕ, Option};
+    ghost use Rattle.std.specs.Ordering.{nat_cmp};
+    ghost use Rattle.std.specs.FinMap as map;
+    ghost use Rattle.base_map.specs.Conflicts.{rules};
+    ghost use Rattle.base_map.specs.FrameLemmas.{laws};
+
+    ghost Shown = { map.FinMap nat_cmp V };
+
+    ghost Point = { ℕ };
+
+    ghost Answer = { Option V };
+
+    ghost rules = { rules V };
+
+    ghost shown = { λ s. s.shown };
+
+    ghost stripes = { λ s. s.stripes };
+
+    fn outcome(&self, op: &Op<V>) -> Result<Outcome<V>, Refusal> {
+        MapBase::outcome(self, op)
+    }
+
+    fn reads(&self, outcome: &Outcome<V>) -> Result<LocSet, Memory> {
+        MapBase::reads(self, outcome)
+    }
+
+    fn writes(&self, outcome: &Outcome<V>) -> Result<LocSet, Memory> {
+        MapBase::writes(self, outcome)
+    }
+
+    fn changes(&self, outcome: &Outcome<V>) -> Result<Changes<V>, Memory> {
+        MapBase::changes(self, outcome)
+    }
+
+    ghost laws = { laws };
+}
+
+#[cfg(test)]
+mod tests {
+    use super::*;
+    use seq_model::Counts;
+    use std::test::Fail;
+
+    fn two_puts(alloc: Global) -> Result<MapBase<u64>, Refusal>
+        ensures { IfOk result (λ base. base.stripes ≡ 2) }
+    {
+        let mut base = MapBase::new(alloc, 2)?;
+        let mut changes = Items::new(alloc);
+        changes.push(Change::Put(1, 10))?;
+        changes.push(Change::Put(3, 30))?;
+        base.prepare(changes.as_slice())?;
+        base.replay(changes, &LocSet::single(alloc, 1));
+        Ok(base)
+    }
+
+    #[test]
+    fn replays_two_puts(rt: HostRuntime) -> Result<(), Fail> {
+        let base = two_puts(rt.alloc())?;
+        assert_eq!(rt; base.edition(0), 0);
+        assert_eq!(rt; base.edition(1), 1);
+        let copy = base.try_copy()?;
+        assert_eq!(rt; copy.edition(0), 0);
+        assert_eq!(rt; copy.edition(1), 1);
+        match copy.held()? {
+            Held::Map(map) => assert_eq!(rt; map.as_slice(), [(1, 10), (3, 30)].as_slice()),
+            _ => assert!(rt; false, "no map"),
+        }
+        Ok(())
+    }
+
+    fn footprint(base: &MapBase<u64>, op: Op<u64>) -> Result<(LocSet, LocSet), Refusal> {
+        let outcome = base.outcome(&op)?;
+        Ok((base.reads(&outcome)?, base.writes(&outcome)?))
+    }
+
+    #[test]
+    fn a_put_writes_the_stripe_of_its_key(rt: HostRuntime) -> Result<(), Fail> {
+        let base = two_puts(rt.alloc())?;
+        let (reads, writes) = footprint(&base, Op::Put(3, 31))?;
+        assert_eq!(rt; reads.as_slice(), [1].as_slice());
+        assert_eq!(rt; writes.as_slice(), [1].as_slice());
+        Ok(())
+    }
+
+    #[test]
+    fn an_absent_remove_writes_nothing(rt: HostRuntime) -> Result<(), Fail> {
+        let base = two_puts(rt.alloc())?;
+        let (reads, writes) = footprint(&base, Op::Remove(4))?;
+        assert_eq!(rt; reads.as_slice(), [0].as_slice());
+        assert_eq!(rt; writes.as_slice().len(), 0);
+        Ok(())
+    }
+
+    #[test]
+    fn len_reads_every_stripe(rt: HostRuntime) -> Result<(), Fail> {
+        let base = MapBase::open(rt.alloc(), 9, two_puts(rt.alloc())?.held()?)?;
+        let (reads, writes) = footprint(&base, Op::Len)?;
+        assert_eq!(rt; reads.as_slice().len(), 9);
+        assert_eq!(rt; writes.as_slice().len(), 0);
+        Ok(())
+    }
+
+    #[test]
+    fn a_remove_changes_its_key(rt: HostRuntime) -> Result<(), Fail> {
+        let base = two_puts(rt.alloc())?;
+        let remove = base.outcome(&Op::Remove(3))?;
+        assert!(rt; matches!(&remove.reply, Reply::Value(30)));
+        assert!(rt; matches!(base.changes(&remove)?.as_slice(), [Change::Remove(3)]));
+        Ok(())
+    }
+
+    #[test]
+    fn refuses_the_kind_before_the_stripes(rt: HostRuntime) -> Result<(), Fail> {
+        let alloc = rt.alloc();
+        let bag: Held<u64> = Held::Bag(Counts::new(alloc));
+        assert!(rt; matches!(MapBase::open(alloc, 0, bag), Err(Refusal::NoSuch)));
+        let map: Held<u64> = Held::Map(Entries::new(alloc));
+        assert!(rt; matches!(MapBase::open(alloc, 65, map), Err(Refusal::TooLong)));
+        let base = MapBase::<u64>::new(alloc, 64)?;
+        assert!(rt; matches!(base.outcome(&Op::Count(1)), Err(Refusal::NoSuch)));
+        Ok(())
+    }
+}

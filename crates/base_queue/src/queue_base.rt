@@ -1,0 +1,430 @@
+//! The collection of a queue.
+ghost use Rattle.std.specs.Prelude.{◌≡◌, ◌+◌, ◌-◌, ◌^◌, [], ◌<◌, ◌≤◌, Some, None, All, IsOk, replicate, IfOk, IfErr, OnOk, length, slice_index};
+ghost use Rattle.std.specs.FinMap.{values};
+ghost use Rattle.seq_model.specs.Calls.{IsRefusal, IsWithinLimits};
+ghost use Rattle.conflict.specs.Rules.{applied};
+ghost use Rattle.conflict.specs.Footprints.{cell_place};
+ghost use Rattle.conflict.specs.Editions.{raised};
+ghost use Rattle.conflict.specs.Refusals.{IsTooLong, IsNoSuchOrTooLong, IsStripeCount};
+ghost use Rattle.base_queue.specs.Conflicts.{rules, queue_view, view_of, outcome_of, reads_of, writes_of, changes_of};
+
+use crate::cells::Cells;
+use conflict::{Change, Changes, Conflict, Editions, LocSet, Note, Outcome, is_stripe_count};
+use seq_model::{Held, INDEX_LIMIT, Items, Memory, Op, Refusal, Reply, Value};
+use std::alloc::Global;
+use std::marker::Model;
+
+/// A queue in stripes, with an edition for its head, its tail and each stripe.
+#[derive(Drop)]
+pub struct QueueBase {
+    cells: Cells,
+    stripes: u32,
+    editions: Editions,
+}
+
+impl Model for QueueBase {
+    ghost use Rattle.std.specs.Prelude.{◌≡◌, ◌+◌, length};
+    ghost use Rattle.conflict.specs.BaseView.{BaseView, base_view_code};
+    ghost use Rattle.conflict.specs.Refusals.{IsStripeCount};
+    ghost use Rattle.base_queue.specs.Conflicts.{Shown, shown_code};
+
+    ghost Value = { BaseView Shown };
+
+    ghost coded = { base_view_code shown_code };
+
+    ghost view = { λ a. record {
+      shown = a.cells.shown;
+      stripes = a.stripes;
+      editions = a.editions;
+      room = a.cells.room;
+    } };
+
+    ghost invariant = { λ a. IsStripeCount a.stripes × (length a.editions ≡ a.stripes + 2) };
+}
+
+impl QueueBase {
+    /// An empty queue whose first item will have index 0, in so many stripes, 1 to `STRIPE_LIMIT`, with edition 0 for each
+    /// location. Another number of stripes is refused as TooLong.
+    pub fn new(alloc: Global, stripes: u32) -> Result<QueueBase, Refusal>
+        ensures empty { IfOk result (λ base. base.shown ≡ queue_view 0 []) }
+        ensures stripes { IfOk result (λ base. base.stripes ≡ stripes) }
+        ensures editions { IfOk result (λ base. base.editions ≡ replicate (stripes + 2) 0) }
+        ensures refused { IfErr result (λ refusal. IsTooLong refusal (IsStripeCount stripes)) }
+        ensures fits { IsOk result → IsStripeCount stripes }
+    {
+        if !is_stripe_count(stripes) {
+            return Err(Refusal::TooLong);
+        }
+        let editions = Editions::new(alloc, stripes + 2)?;
+        Ok(QueueBase {
+            cells: Cells::new(alloc),
+            stripes,
+            editions,
+        })
+    }
+
+    /// A queue that holds this, with edition 0 for each location. What another kind of collection holds is refused as NoSuch,
+    /// and else a number of stripes that `new` refuses, or items whose indexes would pass `INDEX_LIMIT`, as TooLong. Only then
+    /// memory is asked for.
+    pub fn open<V: Drop>(alloc: Global, stripes: u32, held: Held<V>) -> Result<QueueBase, Refusal>
+        ensures shown { IfOk result (λ base. view_of held ≡ Some base.shown) }
+        ensures stripes { IfOk result (λ base. base.stripes ≡ stripes) }
+        ensures editions { IfOk result (λ base. base.editions ≡ replicate (stripes + 2) 0) }
+        ensures refused { IfErr result
+            (λ refusal. IsNoSuchOrTooLong refusal (view_of held ≡ None) (IsStripeCount stripes × IsWithinLimits held)) }
+        ensures fits { IsOk result → IsStripeCount stripes × IsWithinLimits held }
+    {
+        match held {
+            Held::Queue { head, items } => QueueBase::of_items(
+                alloc,
+                stripes,
+                head,
+                items.into_vec().as_slice(),
+            ),
+            _ => Err(Refusal::NoSuch),
+        }
+    }
+
+    fn of_items(alloc: Global, stripes: u32, head: u64, items: &[u64]) -> Result<QueueBase, Refusal>
+        ensures shown { IfOk result (λ base. base.shown ≡ queue_view head items.now) }
+        ensures stripes { IfOk result (λ base. base.stripes ≡ stripes) }
+        ensures editions { IfOk result (λ base. base.editions ≡ replicate (stripes + 2) 0) }
+        ensures refused { IfErr result
+            (λ refusal. IsTooLong refusal (IsStripeCount stripes × (head + length items.now ≤ INDEX_LIMIT))) }
+        ensures fits { IsOk result → IsStripeCount stripes × (head + length items.now ≤ INDEX_LIMIT) }
+    {
+        if !is_stripe_count(stripes) {
+            return Err(Refusal::TooLong);
+        }
+        if head > INDEX_LIMIT || items.len() as u64 > INDEX_LIMIT - head {
+            return Err(Refusal::TooLong);
+        }
+        let editions = Editions::new(alloc, stripes + 2)?;
+        let cells = Cells::of_items(alloc, head, items)?;
+        Ok(QueueBase {
+            cells,
+            stripes,
+            editions,
+        })
+    }
+
+    /// What the queue holds: its head, and the items by rising index.
+    pub fn held<V>(&self) -> Result<Held<V>, Memory>
+        ensures { IfOk result (λ held. held ≡ (rules V).held_of self.now.shown) }
+    {
+        let items = self.cells.to_items(self.editions.allocator())?;
+        Ok(Held::Queue {
+            head: self.cells.head(),
+            items,
+        })
+    }
+
+    /// The outcome that the call has here. A call of another kind is refused as NoSuch.
+    pub fn outcome<V>(&self, op: &Op<V>) -> Result<Outcome<V>, Refusal>
+        ensures ok { IfOk result (λ outcome. outcome_of op.now self.now.shown ≡ Some outcome) }
+        ensures refused { IfErr result (λ refusal. IsRefusal refusal (outcome_of op.now self.now.shown ≡ None)) }
+    {
+        let head = Note::Index(self.cells.head());
+        let (op, reply, note) = match op {
+            Op::Enqueue(item) => return Ok(self.enqueue_outcome(*item)),
+            Op::Dequeue => (Op::Dequeue, self.cells.first(), head),
+            Op::Peek => (Op::Peek, self.cells.first(), head),
+            Op::Len => (Op::Len, Reply::Number(self.len()), Note::Plain),
+            _ => return Err(Refusal::NoSuch),
+        };
+        Ok(Outcome { op, reply, note })
+    }
+
+    fn len(&self) -> u64
+        ensures { result ≡ self.now.shown.tail - self.now.shown.head }
+    {
+        self.cells.tail().saturating_sub(self.cells.head())
+    }
+
+    fn enqueue_outcome<V>(&self, item: u64) -> Outcome<V>
+        ensures { outcome_of (Op.Enqueue item) self.now.shown ≡ Some result }
+    {
+        let tail = self.cells.tail();
+        if tail < INDEX_LIMIT {
+            Outcome {
+                op: Op::Enqueue(item),
+                reply: Reply::Done,
+                note: Note::Index(tail),
+            }
+        } else {
+            Outcome {
+                op: Op::Enqueue(item),
+                reply: Reply::Full,
+                note: Note::Plain,
+            }
+        }
+    }
+
+    fn cell(&self, index: u64) -> u32
+        ensures place { result ≡ cell_place self.now.stripes index }
+        ensures after { 1 < result }
+    {
+        (index % self.stripes as u64) as u32 + 2
+    }
+
+    /// The locations that the outcome reads.
+    pub fn reads<V>(&self, outcome: &Outcome<V>) -> Result<LocSet, Memory>
+        ensures { IfOk result (λ set. set ≡ reads_of self.now.stripes outcome.now) }
+    {
+        let alloc = self.editions.allocator();
+        Ok(match (&outcome.op, outcome.note) {
+            (Op::Enqueue(_), Note::Index(tail)) => LocSet::pair(alloc, 1, self.cell(tail)),
+            (Op::Enqueue(_), _) => LocSet::single(alloc, 1),
+            (Op::Dequeue | Op::Peek, Note::Index(head)) => LocSet::pair(alloc, 0, self.cell(head)),
+            (Op::Len, _) => LocSet::pair(alloc, 0, 1),
+            _ => LocSet::empty(alloc),
+        })
+    }
+
+    /// The locations that the outcome writes.
+    pub fn writes<V>(&self, outcome: &Outcome<V>) -> Result<LocSet, Memory>
+        ensures { IfOk result (λ set. set ≡ writes_of self.now.stripes outcome.now) }
+    {
+        let alloc = self.editions.allocator();
+        Ok(match (&outcome.op, &outcome.reply, outcome.note) {
+            (Op::Enqueue(_), Reply::Done, Note::Index(tail)) => {
+                LocSet::pair(alloc, 1, self.cell(tail))
+            }
+            (Op::Dequeue, Reply::Found(_), Note::Index(head)) => {
+                LocSet::pair(alloc, 0, self.cell(head))
+            }
+            _ => LocSet::empty(alloc),
+        })
+    }
+
+    /// What the outcome changes.
+    pub fn changes<V: Drop>(&self, outcome: &Outcome<V>) -> Result<Changes<V>, Memory>
+        ensures { IfOk result (λ changes. changes ≡ changes_of outcome.now) }
+    {
+        let mut changes = Items::new(self.editions.allocator());
+        match (&outcome.op, &outcome.reply, outcome.note) {
+            (Op::Enqueue(item), Reply::Done, Note::Index(tail)) => {
+                changes.push(Change::Enqueue(tail, *item))?
+            }
+            (Op::Dequeue, Reply::Found(_), Note::Index(head)) => {
+                changes.push(Change::Dequeue(head))?
+            }
+            _ => {}
+        }
+        Ok(changes)
+    }
+
+    /// Makes room for the changes. The queue stays as it is, also where memory is refused.
+    pub fn prepare<V>(&mut self, changes: &[Change<V>]) -> Result<(), Memory>
+        ensures shown { self.new.shown ≡ self.old.shown }
+        ensures stripes { self.new.stripes ≡ self.old.stripes }
+        ensures editions { self.new.editions ≡ self.old.editions }
+        ensures ok { OnOk result (length changes.now ≤ self.new.room) }
+    {
+        self.cells.reserve(changes.len())
+    }
+
+    /// Applies the changes in order, and raises the edition of each written location by one. There has to be room for the
+    /// changes, so it takes no memory and is never refused.
+    pub fn replay<V: Drop>(&mut self, changes: Changes<V>, written: &LocSet)
+        requires prepared { length changes ≤ self.old.room }
+        requires within { All (λ location. location < self.old.stripes + 2) written.now }
+        requires below { All (λ location. slice_index self.old.editions location < 2 ^ 63) written.now }
+        ensures shown { self.new.shown ≡ applied (rules V) changes self.old.shown }
+        ensures stripes { self.new.stripes ≡ self.old.stripes }
+        ensures editions { self.new.editions ≡ raised written.now self.old.editions }
+    {
+        apply_changes(&mut self.cells, changes);
+        self.editions.raise(written);
+    }
+
+    /// The edition of the location: how many replays have written it.
+    pub fn edition(&self, location: u32) -> u64
+        requires { location < self.now.stripes + 2 }
+        ensures { result ≡ slice_index self.now.editions location }
+    {
+        self.editions.edition(location)
+    }
+
+    /// A queue that holds the same, with the same editions.
+    pub fn try_copy(&self) -> Result<QueueBase, Memory>
+        ensures shown { IfOk result (λ copy. copy.shown ≡ self.now.shown) }
+        ensures stripes { IfOk result (λ copy. copy.stripes ≡ self.now.stripes) }
+        ensures editions { IfOk result (λ copy. copy.editions ≡ self.now.editions) }
+    {
+        Ok(QueueBase {
+            cells: self.cells.try_copy()?,
+            stripes: self.stripes,
+            editions: self.editions.try_copy()?,
+        })
+    }
+}
+
+fn apply_changes<V: Drop>(cells: &mut Cells, changes: Changes<V>)
+    requires { length changes ≤ cells.old.room }
+    ensures { cells.new.shown ≡ applied (rules V) changes cells.old.shown }
+{
+    for change in changes.into_vec() {
+        cells.change(change);
+    }
+}
+
+impl<V: Value> Conflict<V> for QueueBase {
+    ghost use Rattle.std.specs.Prelude.{◌≡◌, ℕ, Option};
+    ghost use Rattle.base_queue.specs.Conflicts.{Shown, rules};
+    ghost use Rattle.base_queue.specs.FrameLemmas.{laws};
+
+    ghost Shown = { Shown };
+
+    ghost Point = { ℕ };
+
+    ghost Answer = { Option ℕ };
+
+    ghost rules = { rules V };
+
+    ghost shown = { λ s. s.shown };
+
+    ghost stripes = { λ s. s.stripes };
+
+    fn outcome(&self, op: &Op<V>) -> Result<Outcome<V>, Refusal> {
+        QueueBase::outcome(self, op)
+    }
+
+    fn reads(&self, outcome: &Outcome<V>) -> Result<LocSet, Memory> {
+        QueueBase::reads(self, outcome)
+    }
+
+    fn writes(&self, outcome: &Outcome<V>) -> Result<LocSet, Memory> {
+        QueueBase::writes(self, outcome)
+    }
+
+    fn changes(&self, outcome: &Outcome<V>) -> Result<Changes<V>, Memory> {
+        QueueBase::changes(self, outcome)
+    }
+
+    ghost laws = { laws };
+}
+
+#[cfg(test)]
+mod tests {
+    use super::*;
+    use conflict::conflicts;
+    use seq_model::{Counts, QueueItems};
+    use std::test::Fail;
+
+    // A queue of stripes whose first item, 8, has index 5.
+    fn holding_8(alloc: Global, stripes: u32) -> Result<QueueBase, Refusal> {
+        let mut items = QueueItems::new(alloc);
+        items.push(8)?;
+        QueueBase::open(alloc, stripes, Held::<u64>::Queue { head: 5, items })
+    }
+
+    fn footprint(base: &QueueBase, op: Op<u64>) -> Result<(LocSet, LocSet), Refusal> {
+        let outcome = base.outcome(&op)?;
+        Ok((base.reads(&outcome)?, base.writes(&outcome)?))
+    }
+
+    // The call, replayed at once.
+    fn call(base: &mut QueueBase, op: Op<u64>) -> Result<Reply<u64>, Refusal> {
+        let outcome = base.outcome(&op)?;
+        let changes = base.changes(&outcome)?;
+        base.prepare(changes.as_slice())?;
+        let none = LocSet::empty(base.editions.allocator());
+        base.replay(changes, &none);
+        Ok(outcome.reply)
+    }
+
+    #[test]
+    fn both_ends_conflict_in_one_stripe_alone(rt: HostRuntime) -> Result<(), Fail> {
+        let one = holding_8(rt.alloc(), 1)?;
+        let (reads, writes) = footprint(&one, Op::Enqueue(9))?;
+        let (other_reads, other_writes) = footprint(&one, Op::Dequeue)?;
+        assert!(rt; conflicts(&reads, &writes, &other_reads, &other_writes));
+        Ok(())
+    }
+
+    #[test]
+    fn both_ends_of_two_stripes_do_not_conflict(rt: HostRuntime) -> Result<(), Fail> {
+        let two = holding_8(rt.alloc(), 2)?;
+        let (reads, writes) = footprint(&two, Op::Enqueue(9))?;
+        let (other_reads, other_writes) = footprint(&two, Op::Dequeue)?;
+        assert_eq!(rt; writes.as_slice(), [1, 2].as_slice());
+        assert_eq!(rt; other_writes.as_slice(), [0, 3].as_slice());
+        assert!(rt; !conflicts(&reads, &writes, &other_reads, &other_writes));
+        Ok(())
+    }
+
+    #[test]
+    fn items_go_in_order_round_the_stripes(rt: HostRuntime) -> Result<(), Fail> {
+        let mut base = holding_8(rt.alloc(), 2)?;
+        for item in 10..13 {
+            assert!(rt; matches!(call(&mut base, Op::Enqueue(item))?, Reply::Done));
+        }
+        assert!(rt; matches!(call(&mut base, Op::Dequeue)?, Reply::Found(8)));
+        assert!(rt; matches!(call(&mut base, Op::Peek)?, Reply::Found(10)));
+        assert!(rt; matches!(call(&mut base, Op::Len)?, Reply::Number(3)));
+        match base.try_copy()?.held::<u64>()? {
+            Held::Queue { head, items } => {
+                assert_eq!(rt; head, 6);
+                assert_eq!(rt; items.into_vec().as_slice(), [10, 11, 12].as_slice());
+            }
+            _ => assert!(rt; false, "no queue"),
+        }
+        Ok(())
+    }
+
+    #[test]
+    fn an_empty_queue_finds_nothing(rt: HostRuntime) -> Result<(), Fail> {
+        let base = QueueBase::new(rt.alloc(), 3)?;
+        let dequeue = base.outcome(&Op::<u64>::Dequeue)?;
+        assert!(rt; matches!(&dequeue.reply, Reply::Nothing));
+        assert_eq!(rt; base.reads(&dequeue)?.as_slice(), [0, 2].as_slice());
+        assert_eq!(rt; base.writes(&dequeue)?.as_slice().len(), 0);
+        Ok(())
+    }
+
+    #[test]
+    fn is_full_at_the_last_index(rt: HostRuntime) -> Result<(), Fail> {
+        let items = QueueItems::new(rt.alloc());
+        let held = Held::<u64>::Queue {
+            head: INDEX_LIMIT,
+            items,
+        };
+        let base = QueueBase::open(rt.alloc(), 1, held)?;
+        let (reads, writes) = footprint(&base, Op::Enqueue(1))?;
+        assert_eq!(rt; reads.as_slice(), [1].as_slice());
+        assert_eq!(rt; writes.as_slice().len(), 0);
+        Ok(())
+    }
+
+    #[test]
+    fn a_replay_raises_what_it_writes(rt: HostRuntime) -> Result<(), Fail> {
+        let mut base = QueueBase::new(rt.alloc(), 2)?;
+        let mut changes: Changes<u64> = Items::new(rt.alloc());
+        changes.push(Change::Enqueue(0, 7))?;
+        base.prepare(changes.as_slice())?;
+        base.replay(changes, &LocSet::pair(rt.alloc(), 1, 2));
+        let editions = [
+            base.edition(0),
+            base.edition(1),
+            base.edition(2),
+            base.edition(3),
+        ];
+        assert_eq!(rt; editions, [0, 1, 1, 0]);
+        Ok(())
+    }
+
+    #[test]
+    fn refuses_the_kind_before_the_limits(rt: HostRuntime) -> Result<(), Fail> {
+        let alloc = rt.alloc();
+        let bag: Held<u64> = Held::Bag(Counts::new(alloc));
+        assert!(rt; matches!(QueueBase::open(alloc, 0, bag), Err(Refusal::NoSuch)));
+        let past: Held<u64> = Held::Queue {
+            head: INDEX_LIMIT + 1,
+            items: QueueItems::new(alloc),
+        };
+        assert!(rt; matches!(QueueBase::open(alloc, 1, past), Err(Refusal::TooLong)));
+        assert!(rt; matches!(QueueBase::new(alloc, 65), Err(Refusal::TooLong)));
+        Ok(())
+    }
+}

@@ -1,0 +1,4 @@
+pub mod TableLemmas
+pub mod EditionLemmas
+pub mod LocationLemmas
+pub mod MultisetLemmas

@@ -1,0 +1,7 @@
+use Rattle.std.proofs.Common.{◌≡◌, ◌≤◌, length}
+use Rattle.conflict.specs.Table.{inserts}
+use Rattle.conflict.proofs.table.Table.try_copy.Given as goal
+
+-- the entries that are left make the copy whole, and there is room for them
+abbrev pub invariant-loop-key : goal.invariant-loop-key
+invariant-loop-key g l = (inserts l.copy.contents l.key-iterator ≡ l.fn.self.contents) × (length l.key-iterator ≤ l.copy.room)

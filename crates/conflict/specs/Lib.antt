@@ -1,0 +1,10 @@
+pub mod Table
+pub mod Lookups
+pub mod BaseView
+pub mod Refusals
+pub mod Footprints
+pub mod Rules
+pub mod Commute
+pub mod Places
+pub mod Multisets
+pub mod Editions

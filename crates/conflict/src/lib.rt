@@ -1,0 +1,32 @@
+//! What a call on a collection reads and writes, so that calls which do not commute conflict.
+//!
+//! A transaction on words conflicts with another where one writes a word that the other reads. A call on a collection has no
+//! words, so each collection is given *locations*, counted from 0: the stripes of its keys, and where it has them its least
+//! element, its head and its tail. The *outcome* of a call is the call with its reply. From it the collection says which
+//! locations the call reads, which it writes, and which *changes* it makes; this is the conflict abstraction of Proust (2017),
+//! with rules of this project. Two outcomes *conflict* if a location that one writes is read by the other.
+//!
+//! The trait [`Conflict`] is kept by each kind of collection. Its law is the frame laws: what an outcome answers depends on
+//! the parts that it reads alone, and its changes lie within the parts that it writes. From them [`laws`] proves once, for
+//! every collection, that legal outcomes that do not conflict commute.
+//!
+//! Beside it stand the things that all four collections use: [`LocSet`], a small set of locations; [`Editions`], the number of
+//! commits that changed each location; and [`Table`], a hash map that says for how many more entries it has room.
+#![tactic(auto)]
+
+mod change;
+mod conflict;
+mod editions;
+pub mod laws;
+mod loc_set;
+mod outcome;
+mod stripes;
+mod table;
+
+pub use change::{Change, Changes};
+pub use conflict::Conflict;
+pub use editions::Editions;
+pub use loc_set::{LocSet, conflicts};
+pub use outcome::{Note, Outcome};
+pub use stripes::{STRIPE_LIMIT, is_stripe_count};
+pub use table::Table;

@@ -1,0 +1,134 @@
+//! Small sets of locations, and when two outcomes conflict by theirs.
+ghost use Rattle.std.specs.Prelude.{◌≡◌, ◌<◌, ◌↔◌, [], ◌∷◌, IsTrue, IfOk, Any, Contains};
+ghost use Rattle.std.specs.List.{range_with_len};
+ghost use Rattle.std.specs.List.Sorted.{IsStrictlyIncreasing};
+ghost use Rattle.conflict.specs.Rules.{AreConflicting};
+
+use seq_model::Memory;
+use smallvec::SmallVec;
+use std::alloc::Global;
+use std::marker::Model;
+
+/// A set of locations. Contracts see it as the list of its locations, which rises strictly. Up to eight take no memory.
+#[derive(Drop)]
+pub struct LocSet {
+    locations: SmallVec<u32, 8>,
+}
+
+impl Model for LocSet {
+    ghost use Rattle.std.specs.Prelude.{List, ℕ};
+    ghost use Rattle.std.specs.List.Sorted.{IsStrictlyIncreasing};
+
+    ghost Value = { List ℕ };
+
+    ghost view = { λ a. a.locations.items };
+
+    ghost invariant = { λ a. IsStrictlyIncreasing a.locations.items };
+}
+
+impl LocSet {
+    pub fn empty(alloc: Global) -> LocSet
+        ensures { result ≡ [] }
+    {
+        LocSet {
+            locations: SmallVec::new(alloc),
+        }
+    }
+
+    pub fn single(alloc: Global, location: u32) -> LocSet
+        ensures { result ≡ location ∷ [] }
+    {
+        let mut locations = SmallVec::new(alloc);
+        locations.push_reserved(location);
+        LocSet { locations }
+    }
+
+    /// Two locations, the lower one first.
+    pub fn pair(alloc: Global, lower: u32, higher: u32) -> LocSet
+        requires { lower < higher }
+        ensures { result ≡ lower ∷ higher ∷ [] }
+    {
+        let mut locations = SmallVec::new(alloc);
+        locations.push_reserved(lower);
+        locations.push_reserved(higher);
+        LocSet { locations }
+    }
+
+    /// The first `count` locations, from 0 on.
+    pub fn all_below(alloc: Global, count: u32) -> Result<LocSet, Memory>
+        ensures { IfOk result (λ set. set ≡ range_with_len 0 count) }
+    {
+        let mut locations = SmallVec::new(alloc);
+        for location in 0..count {
+            locations.push(location)?;
+        }
+        Ok(LocSet { locations })
+    }
+
+    /// The locations, rising.
+    pub fn as_slice(&self) -> &[u32]
+        ensures locations { result.now ≡ self.now }
+        ensures rising { IsStrictlyIncreasing self.now }
+    {
+        self.locations.as_slice()
+    }
+
+    pub fn contains(&self, location: u32) -> bool
+        ensures { IsTrue result ↔ Contains self.now location }
+    {
+        self.as_slice().contains(&location)
+    }
+
+    // Whether the two sets have a location in common.
+    fn meets(&self, other: &LocSet) -> bool
+        ensures { IsTrue result ↔ Any (Contains other.now) self.now }
+    {
+        self.as_slice()
+            .iter()
+            .any(|location| other.contains(*location))
+    }
+}
+
+/// Whether two outcomes conflict: a location that one of them writes is read by the other.
+pub fn conflicts(
+    reads: &LocSet,
+    writes: &LocSet,
+    other_reads: &LocSet,
+    other_writes: &LocSet,
+) -> bool
+    ensures { IsTrue result
+        ↔ AreConflicting reads.now writes.now other_reads.now other_writes.now }
+{
+    writes.meets(other_reads) || other_writes.meets(reads)
+}
+
+#[cfg(test)]
+mod tests {
+    use super::*;
+    use std::test::Fail;
+
+    #[test]
+    fn a_read_meets_a_write(rt: HostRuntime) -> Result<(), Fail> {
+        let alloc = rt.alloc();
+        let none = LocSet::empty(alloc);
+        let least = LocSet::single(alloc, 0);
+        let both = LocSet::pair(alloc, 0, 2);
+        let stripe = LocSet::single(alloc, 2);
+        // a look at the least element, beside an insert below it, above it, and beside another look
+        assert!(rt; conflicts(&least, &none, &both, &both));
+        assert!(rt; conflicts(&both, &both, &least, &none));
+        assert!(rt; !conflicts(&least, &none, &both, &stripe));
+        assert!(rt; !conflicts(&least, &none, &least, &none));
+        Ok(())
+    }
+
+    #[test]
+    fn holds_more_than_eight(rt: HostRuntime) -> Result<(), Fail> {
+        let all = LocSet::all_below(rt.alloc(), 65)?;
+        assert!(rt; all.contains(0));
+        assert!(rt; all.contains(64));
+        assert!(rt; !all.contains(65));
+        assert_eq!(rt; all.as_slice().len(), 65);
+        Ok(())
+    }
+}

@@ -1,0 +1,151 @@
+//! A hash map with numbers as keys, which contracts see as a finite map and the room for more entries. The room is what lets
+//! a replay be proved to take no memory: `reserve` promises it, and `insert_reserved` needs it.
+ghost use Rattle.std.specs.Prelude.{◌≡◌, ◌+◌, ◌<◌, ◌≤◌, IfOk, OnOk};
+ghost use Rattle.std.specs.Option.{option_copied};
+ghost use Rattle.std.specs.FinMap as map;
+
+use indexmap::IndexMap;
+use seq_model::{Entries, Memory, Value};
+use std::alloc::Global;
+use std::marker::Model;
+
+/// A finite map from numbers. Its order of entries is left open.
+#[derive(Drop)]
+pub struct Table<V> {
+    entries: IndexMap<u64, V>,
+    alloc: Global,
+}
+
+impl<V> Model for Table<V> {
+    ghost use Rattle.conflict.specs.Table.{Room, room_code, room_of};
+    ghost use Rattle.conflict.specs.Lookups.{IsUnique};
+
+    ghost Value = { Room V };
+
+    ghost coded = { room_code V.code };
+
+    ghost view = { λ a. room_of a.entries };
+
+    ghost invariant = { λ a. IsUnique a.entries };
+}
+
+impl<V: Drop> Table<V> {
+    pub fn new(alloc: Global) -> Table<V>
+        ensures { result.contents ≡ map.empty }
+    {
+        Table {
+            entries: IndexMap::new(alloc),
+            alloc,
+        }
+    }
+
+    pub fn len(&self) -> usize
+        ensures { result ≡ map.len self.now.contents }
+    {
+        self.entries.len()
+    }
+
+    pub fn get(&self, key: u64) -> Option<&V>
+        ensures { option_copied result ≡ map.get self.now.contents key }
+    {
+        self.entries.get(&key)
+    }
+
+    /// Makes room for this many more entries.
+    pub fn reserve(&mut self, more: usize) -> Result<(), Memory>
+        ensures contents { self.new.contents ≡ self.old.contents }
+        ensures ok { OnOk result (more ≤ self.new.room) }
+        ensures room { self.old.room ≤ self.new.room }
+    {
+        self.entries.reserve(more)?;
+        Ok(())
+    }
+
+    /// Gives the key the value. It takes no memory, and at most one place of the room.
+    pub fn insert_reserved(&mut self, key: u64, value: V)
+        requires { 0 < self.old.room }
+        ensures contents { self.new.contents ≡ map.insert self.old.contents key value }
+        ensures room { self.old.room ≤ self.new.room + 1 }
+    {
+        let _ = self.entries.insert(key, value).unwrap();
+    }
+
+    /// Takes the key out, if it is there. The room stays.
+    pub fn remove(&mut self, key: u64)
+        ensures contents { self.new.contents ≡ map.remove self.old.contents key }
+        ensures room { self.old.room ≤ self.new.room }
+    {
+        let _ = self.entries.swap_remove(&key);
+    }
+}
+
+impl<V: Value> Table<V> {
+    /// A table of these entries.
+    pub fn of_entries(alloc: Global, entries: Entries<V>) -> Result<Table<V>, Memory>
+        ensures { IfOk result (λ table. table.contents ≡ entries) }
+    {
+        let mut table = Table::new(alloc);
+        table.reserve(entries.len())?;
+        for (key, value) in entries.into_vec() {
+            table.insert_reserved(key, value);
+        }
+        Ok(table)
+    }
+
+    /// A table with copies of the values.
+    pub fn try_copy(&self) -> Result<Table<V>, Memory>
+        ensures { IfOk result (λ copy. copy.contents ≡ self.now.contents) }
+    {
+        let mut copy = Table::new(self.alloc);
+        copy.reserve(self.entries.len())?;
+        for (key, value) in self.entries.iter() {
+            copy.insert_reserved(*key, value.try_copy()?);
+        }
+        Ok(copy)
+    }
+
+    /// Copies of the entries, in the order of their keys.
+    pub fn to_entries(&self) -> Result<Entries<V>, Memory>
+        ensures { IfOk result (λ entries. entries ≡ self.now.contents) }
+    {
+        self.try_copy()?.into_entries()
+    }
+
+    /// The entries, in the order of their keys.
+    pub fn into_entries(self) -> Result<Entries<V>, Memory>
+        ensures { IfOk result (λ entries. entries ≡ self.contents) }
+    {
+        let mut entries = Entries::new(self.alloc);
+        let mut sorted = self.entries;
+        // so that each entry goes to the end of those before it
+        sorted.sort_keys()?;
+        for (key, value) in sorted {
+            entries.insert(key, value)?;
+        }
+        Ok(entries)
+    }
+}
+
+#[cfg(test)]
+mod tests {
+    use super::*;
+    use std::test::Fail;
+
+    #[test]
+    fn gives_its_entries_by_rising_key(rt: HostRuntime) -> Result<(), Fail> {
+        let mut table = Table::new(rt.alloc());
+        table.reserve(3)?;
+        table.insert_reserved(9, 90u64);
+        table.insert_reserved(1, 10);
+        table.insert_reserved(5, 50);
+        table.remove(1);
+        let copy = Table::of_entries(rt.alloc(), table.try_copy()?.to_entries()?)?;
+        assert_eq!(rt; copy.len(), 2);
+        assert!(rt; copy.get(1).is_none());
+        assert_eq!(rt;
+            copy.to_entries()?.as_slice(),
+            [(5, 50), (9, 90)].as_slice()
+        );
+        Ok(())
+    }
+}
