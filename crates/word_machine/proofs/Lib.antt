@@ -1,0 +1,12 @@
+pub mod Sets
+pub mod Calls
+pub mod Records
+pub mod Invariant
+pub mod Frame
+pub mod Quiet
+pub mod Moves
+pub mod Schedules
+pub mod Cells
+pub mod Alone
+pub mod Progress
+pub mod Order

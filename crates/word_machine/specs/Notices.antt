@@ -1,0 +1,103 @@
+-- What the steps answer.
+use Rattle.std.specs.Prelude.{◌≡◌, ℕ, ◌+◌, ◌*◌, length, Option, Some, None, List, [], ◌∷◌, ◌==◌, nat_le, nat_lt, if◌then◌else◌}
+use Rattle.word_machine.specs.Words.{LockWord, Free, Locked, bits, Entries, lookup, Place, Idle, Begin, Open, Look, Fetch, Again, Lock, Take, Check, Broken, First, Store, Release, Undo, Leave, Close, Actor, World, Event, Ask, Step, clock_limit}
+
+pub data Notice : Type 0 where
+  Quiet NoTransaction : Notice
+  Begun : (rv : ℕ) → Notice
+  Number : (value : ℕ) → Notice
+  LockedAt : (wv : ℕ) → Notice
+  Stored Released Cancelled Closed : Notice
+  Moved Busy Invalid : (location word : ℕ) → Notice
+  Exhausted : (clock : ℕ) → Notice
+
+-- a refusal that another transaction is the cause of
+abbrev pub IsConflict : Notice → Type 0
+IsConflict (Moved l w) = Unit {0}
+IsConflict (Busy l w) = Unit {0}
+IsConflict (Invalid l w) = Unit {0}
+IsConflict n = ⊥
+
+abbrev pub look_notice : ℕ → ℕ → LockWord → Notice
+look_notice rv l (Free k) = if nat_le k rv then Quiet else Moved l (bits (Free k))
+look_notice rv l (Locked k) = Moved l (bits (Locked k))
+
+abbrev pub again_notice : ℕ → ℕ → ℕ → LockWord → Notice
+again_notice l k v (Free j) = if j == k then Number v else Moved l (bits (Free j))
+again_notice l k v (Locked j) = Moved l (bits (Locked j))
+
+abbrev pub lock_notice : ℕ → LockWord → Notice
+lock_notice l (Free k) = Quiet
+lock_notice l (Locked k) = Busy l (bits (Locked k))
+
+abbrev pub take_notice : ℕ → ℕ → LockWord → Notice
+take_notice l k (Free j) = if j == k then Quiet else Busy l (bits (Free j))
+take_notice l k (Locked j) = Busy l (bits (Locked j))
+
+-- the answer, where nothing is left
+abbrev pub when_none_left : {A : Type 0} → List A → Notice → Notice
+when_none_left [] n = n
+when_none_left (x ∷ xs) n = Quiet
+
+abbrev pub rest : Entries → Entries
+rest [] = []
+rest (e ∷ es) = es
+
+abbrev pub check_notice : ℕ → ℕ → ℕ → List ℕ → LockWord → Option ℕ → Notice
+check_notice rv wv l ls (Free k) own = if nat_le k rv then when_none_left ls (LockedAt wv) else Invalid l (bits (Free k))
+check_notice rv wv l ls (Locked k) (Some old) = if nat_le k rv then when_none_left ls (LockedAt wv) else Invalid l (bits (Locked k))
+check_notice rv wv l ls (Locked k) None = Invalid l (bits (Locked k))
+
+-- a cancel with no lock left is over
+abbrev pub undo_notice : Entries → Notice
+undo_notice [] = NoTransaction
+undo_notice (e ∷ es) = when_none_left es Cancelled
+
+-- what the next step of an actor answers
+abbrev pub notice : World → Actor → Place → Notice
+notice s x Idle = NoTransaction
+notice s x Begin = if nat_lt s.clock clock_limit then Begun s.clock else Exhausted s.clock
+notice s x Open = NoTransaction
+notice s x (Look l) = look_notice x.rv l (s.locks l)
+notice s x (Fetch l k) = Quiet
+notice s x (Again l k v) = again_notice l k v (s.locks l)
+notice s x (Lock []) = when_none_left x.reads (LockedAt (s.clock + 1))
+notice s x (Lock (l ∷ ls)) = lock_notice l (s.locks l)
+notice s x (Take l k ls) = take_notice l k (s.locks l)
+notice s x (Check []) = NoTransaction
+notice s x (Check (l ∷ ls)) = check_notice x.rv x.wv l ls (s.locks l) (lookup x.held l)
+notice s x Broken = NoTransaction
+notice s x First = when_none_left (rest x.writes) Stored
+notice s x (Store []) = NoTransaction
+notice s x (Store (l ∷ ls)) = when_none_left ls Stored
+notice s x Release = when_none_left (rest x.held) Released
+notice s x Undo = undo_notice x.held
+notice s x Leave = Closed
+notice s x Close = Closed
+
+-- only a steps; others may ask
+abbrev pub IsAlone : ℕ → List Event → Type 0
+IsAlone a [] = Unit {0}
+IsAlone a (Ask b request ∷ es) = IsAlone a es
+IsAlone a (Step b ∷ es) = (b ≡ a) × IsAlone a es
+
+abbrev pub IsFree : LockWord → Type 0
+IsFree (Free k) = Unit {0}
+IsFree (Locked k) = ⊥
+
+-- how many of its own steps a request takes at most
+abbrev pub steps_left : Actor → Place → ℕ
+steps_left x Begin = 1
+steps_left x (Look l) = 3
+steps_left x (Fetch l k) = 2
+steps_left x (Again l k v) = 1
+steps_left x (Lock ls) = 2 * length ls + 1 + length x.reads
+steps_left x (Take l k ls) = 2 * length ls + 2 + length x.reads
+steps_left x (Check ls) = length ls
+steps_left x First = 1 + length (rest x.writes)
+steps_left x (Store ls) = length ls
+steps_left x Release = 1 + length (rest x.held)
+steps_left x Undo = length x.held
+steps_left x Leave = 1
+steps_left x Close = 1
+steps_left x p = 0
