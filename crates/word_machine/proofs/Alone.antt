@@ -1,8 +1,16 @@
 -- A transaction beside which no other steps is never refused for a conflict.
 use Rattle.std.proofs.Common.{◌≡◌, ℕ, ◌+◌, ◌<◌, ◌≤◌, cond, eqb, ltb, leb, Option, Some, None, List, [], ◌∷◌, ◌⊎◌, inl, inr, refl, sym, ap, ◌∙◌, subst, arith, ltb-true, ltb-false, eqb-true, leb-false}
 use Rattle.std.proofs.lemmas.Bool.{eqb-false, cond_both}
-use Rattle.word_machine.specs.Words.{LockWord, Free, Locked, version, bits, put, Entries, lookup, with_entry, locations, Place, Idle, Begin, Open, Look, Fetch, Again, Lock, Take, Check, Broken, First, Store, Release, Undo, Leave, Close, Actor, World, Request, AskBegin, AskLock, AskStore, AskRelease, AskCancel, AskAbort, AskClose, AskRead, AskWrite, Event, Ask, Step, now, goes, read, lock, close, abort, ask, opened, clock_limit, has_read, step, looked, looked_again, to_lock, exchanged, locked, checked, first, released, undone, happens, run}
-use Rattle.word_machine.specs.Notices.{Notice, Quiet, Begun, Exhausted, Moved, Busy, Invalid, Number, LockedAt, Stored, Released, Cancelled, IsConflict, notice, look_notice, again_notice, lock_notice, take_notice, check_notice, when_none_left, undo_notice, rest, IsAlone, IsFree}
+use Rattle.vlock_word.specs.declared.lock_word.LockWord.{LockWord}
+use Rattle.vlock_word.specs.declared.lock_word.LockWord.TheVariants.{Free, Locked}
+use Rattle.vlock_word.specs.LockWord.{version_of, bits}
+use Rattle.word_machine.specs.Entries.{Entries, lookup, with_entry, locations}
+use Rattle.word_machine.specs.Actor.{Place, Idle, Begin, Open, Look, Fetch, Again, Lock, Take, Check, Broken, First, Store, Release, Undo, Leave, Close, Actor, goes, opened, clock_limit, has_read}
+use Rattle.word_machine.specs.Requests.{Request, AskBegin, AskLock, AskStore, AskRelease, AskCancel, AskAbort, AskClose, AskRead, AskWrite, read, lock, close, abort, ask}
+use Rattle.word_machine.specs.World.{put, World, Event, Ask, Step, now, step, happens, run}
+use Rattle.word_machine.proofs.Worlds.{looked, looked_again, to_lock, tried, locked, checked, first, released, undone}
+use Rattle.word_machine.specs.Progress.{IsAlone, IsFree}
+use Rattle.word_machine.specs.Notices.{Notice, Quiet, Begun, Exhausted, Moved, Busy, Invalid, Number, LockedAt, Stored, Released, Cancelled, IsConflict, notice, look_notice, again_notice, lock_notice, take_notice, check_notice, when_none_left, undo_notice, rest}
 use Rattle.word_machine.proofs.Sets.{Member, put-same, put_both, lookup-with_entry_same, lookup-with_entry_other, lookup-tail}
 use Rattle.word_machine.proofs.Invariant.{PlaceOk, Inv}
 use Rattle.word_machine.proofs.Quiet.{none_if, lookup-none}
@@ -52,7 +60,7 @@ rising_distinct [] r = tt
 rising_distinct (e ∷ es) r = (λ m. (let h = above_member e.0 e.0 es r.0 m in omega (arith, h)), rising_distinct es r.1)
 
 abbrev pub Low : (ℕ → LockWord) → Actor → Type 0
-Low locks x = (l : ℕ) → version (locks l) ≤ x.rv
+Low locks x = (l : ℕ) → version_of (locks l) ≤ x.rv
 
 abbrev pub AlonePlace : (ℕ → LockWord) → Actor → Place → Type 0
 AlonePlace locks x Open = Low locks x × Rising x.writes
@@ -132,7 +140,7 @@ free_word w h l f none = elim f [ inl q ↦ q | inr q ↦ (let z : Some q.0 ≡ 
 look_alone : (s : World) (a l : ℕ) (w : LockWord) → AloneAt s a → (s.actors a).held ≡ [] → AlonePlace s.locks (s.actors a) (Look l) → s.locks l ≡ w → Good s (looked s a (s.actors a) l w) a (look_notice (s.actors a).rv l w)
 look_alone s a l (Free k) ok none pl is =
     let x = s.actors a in
-    let low : k ≤ x.rv = (let q = ap version is in omega (arith, q, pl.0 l)) in (
+    let low : k ≤ x.rv = (let q = ap version_of is in omega (arith, q, pl.0 l)) in (
       cond_both (leb k x.rv) (goes x (Fetch l k)) (goes x Undo) (λ (z : Actor). AloneAt (now s a z) a)
           (λ _. alone_put s.locks s.actors a (goes x (Fetch l k)) (goes_alone s.locks x (Fetch l k) ok (pl.0, pl.1, is)))
           (λ t. absurd (let q = leb-false k x.rv t in omega (arith, q, low))),
@@ -165,13 +173,13 @@ locked_alone s a l k ls ok pl =
           (λ q. inr (k, ap (lookup (with_entry x.held l k)) q ∙ lookup-with_entry_same x.held l k))
           (λ ne. elim (ok.free i) [ inl f ↦ inl f | inr h ↦ inr (h.0, lookup-with_entry_other x.held l k i ne ∙ h.1) ]);
       place = (
-        (λ i. put_both (λ (z : LockWord). version z ≤ x.rv) s.locks l (Locked k) i (λ q. let e = ap version pl.3 in omega (arith, e, pl.0 l)) (λ _. pl.0 i)),
+        (λ i. put_both (λ (z : LockWord). version_of z ≤ x.rv) s.locks l (Locked k) i (λ q. let e = ap version_of pl.3 in omega (arith, e, pl.0 l)) (λ _. pl.0 i)),
         (pl.1).1,
         λ i m. lookup-with_entry_other x.held l k i (λ q. (pl.1).0 (subst (λ (n : ℕ). Member n ls) q m)) ∙ pl.2 i (inr m),
       );
     })
 
-take_alone : (s : World) (a l k : ℕ) (ls : List ℕ) (w : LockWord) → AloneAt s a → AlonePlace s.locks (s.actors a) (Take l k ls) → s.locks l ≡ w → Good s (exchanged s a (s.actors a) l k ls w) a (take_notice l k w)
+take_alone : (s : World) (a l k : ℕ) (ls : List ℕ) (w : LockWord) → AloneAt s a → AlonePlace s.locks (s.actors a) (Take l k ls) → s.locks l ≡ w → Good s (tried s a (s.actors a) l k ls w) a (take_notice l k w)
 take_alone s a l k ls (Free j) ok pl is =
     let z : Free j ≡ Free k = sym is ∙ pl.3 in
     let same : j ≡ k = cc in (
@@ -194,13 +202,13 @@ passes s a l k ls ok pl low =
 check_alone : (s : World) (a l : ℕ) (ls : List ℕ) (w : LockWord) (own : Option ℕ) → AloneAt s a → Low s.locks (s.actors a) → s.locks l ≡ w → lookup (s.actors a).held l ≡ own → Good s (checked s a (s.actors a) l ls w own) a (check_notice (s.actors a).rv (s.actors a).wv l ls w own)
 check_alone s a l ls (Free k) own ok pl is mine =
     let x = s.actors a in
-    let low : k ≤ x.rv = (let q = ap version is in omega (arith, q, pl l)) in (
+    let low : k ≤ x.rv = (let q = ap version_of is in omega (arith, q, pl l)) in (
       (passes s a l k ls ok pl low).0,
       cond_both (leb k x.rv) (when_none_left ls (LockedAt x.wv)) (Invalid l (bits (Free k))) (λ (z : Notice). IsConflict z → ⊥) (λ _. quiet_list ls (LockedAt x.wv) (λ h. h)) (λ t _. let q = leb-false k x.rv t in omega (arith, q, low)),
     )
 check_alone s a l ls (Locked k) (Some old) ok pl is mine =
     let x = s.actors a in
-    let low : k ≤ x.rv = (let q = ap version is in omega (arith, q, pl l)) in (
+    let low : k ≤ x.rv = (let q = ap version_of is in omega (arith, q, pl l)) in (
       (passes s a l k ls ok pl low).0,
       cond_both (leb k x.rv) (when_none_left ls (LockedAt x.wv)) (Invalid l (bits (Locked k))) (λ (z : Notice). IsConflict z → ⊥) (λ _. quiet_list ls (LockedAt x.wv) (λ h. h)) (λ t _. let q = leb-false k x.rv t in omega (arith, q, low)),
     )
@@ -220,7 +228,7 @@ back_alone s a f fs v p ok has pl =
     })
 
 released_alone : (s : World) (a : ℕ) (h : Entries) → AloneAt s a → (s.actors a).held ≡ h → Good s (released s a (s.actors a) h) a (when_none_left (rest h) Released)
-released_alone s a [] ok has = (alone_put s.locks s.actors a (goes (s.actors a) Idle) (goes_alone s.locks (s.actors a) Idle ok tt), λ h. h)
+released_alone s a [] ok has = (ok, λ h. h)
 released_alone s a (f ∷ []) ok has = (back_alone s a f [] (s.actors a).wv Idle ok has tt, λ h. h)
 released_alone s a (f ∷ (g ∷ fs)) ok has = (back_alone s a f (g ∷ fs) (s.actors a).wv Release ok has tt, λ h. h)
 
@@ -229,7 +237,7 @@ undone_alone s a [] ok has = (ok, λ h. h)
 undone_alone s a (f ∷ fs) ok has = (back_alone s a f fs f.1 Undo ok has tt, quiet_list fs Cancelled (λ h. h))
 
 first_alone : (s : World) (a : ℕ) (w : Entries) → AloneAt s a → AloneAt (first s a (s.actors a) w) a
-first_alone s a [] ok = alone_put s.locks s.actors a (goes (s.actors a) (Store [])) (goes_alone s.locks (s.actors a) (Store []) ok tt)
+first_alone s a [] ok = ok
 first_alone s a (e ∷ es) ok = alone_put s.locks s.actors a (goes (s.actors a) (Store (locations es))) (goes_alone s.locks (s.actors a) (Store (locations es)) ok tt)
 
 pub step_alone : (s : World) (a : ℕ) (p : Place) → Inv s → AloneAt s a → AlonePlace s.locks (s.actors a) p → PlaceOk s (s.actors a) p → Good s (step s a (s.actors a) p) a (notice s (s.actors a) p)

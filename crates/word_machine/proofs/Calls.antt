@@ -2,7 +2,9 @@
 use Rattle.std.proofs.Common.{◌≡◌, ℕ, Bool, true, false, eqb, Some, None, List, [], ◌∷◌, ◌++◌, ◌==◌, inl, inr, refl, sym, ap, ◌∙◌, eq-eqb, ne_eqb, true≢false}
 use Rattle.std.specs.Prelude.{if◌then◌else◌}
 use Rattle.std.proofs.lemmas.Bool.{cond_both, cond-true, cond-false, cases_eq}
-use Rattle.word_machine.specs.Words.{Memory, put, Entries, lookup, with_entry, Call, Read, Write}
+use Rattle.word_machine.specs.Entries.{Entries, lookup, with_entry}
+use Rattle.word_machine.specs.Actor.{Call, Read, Write}
+use Rattle.word_machine.specs.World.{Memory, put}
 use Rattle.word_machine.specs.Opacity.{after, IsLegal}
 use Rattle.word_machine.proofs.Sets.{lookup-with_entry_same, lookup-with_entry_other, with_entry_cases}
 

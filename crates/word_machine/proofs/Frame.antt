@@ -1,6 +1,10 @@
 -- What a step of one actor leaves of all the rest.
 use Rattle.std.proofs.Common.{◌≡◌, ℕ, ◌-◌, ◌<◌, ◌≤◌, true, Some, None, List, [], ◌∷◌, ◌⊎◌, inl, inr, refl, sym, ap, ◌∙◌, subst, arith}
-use Rattle.word_machine.specs.Words.{Memory, LockWord, version, Entries, lookup, put, Call, Place, Idle, Begin, Open, Look, Fetch, Again, Lock, Take, Check, Broken, First, Store, Release, Undo, Leave, Close, Actor, Record, Ended, World, now}
+use Rattle.vlock_word.specs.declared.lock_word.LockWord.{LockWord}
+use Rattle.vlock_word.specs.LockWord.{version_of}
+use Rattle.word_machine.specs.Entries.{Entries, lookup}
+use Rattle.word_machine.specs.Actor.{Call, Place, Idle, Begin, Open, Look, Fetch, Again, Lock, Take, Check, Broken, First, Store, Release, Undo, Leave, Close, Actor}
+use Rattle.word_machine.specs.World.{Memory, put, Record, Ended, World, now}
 use Rattle.word_machine.specs.Opacity.{IsHalfDone, AllEnded}
 use Rattle.std.proofs.lemmas.Bool.{cases_eq}
 use Rattle.word_machine.proofs.Sets.{put_both, put-same, put-other}
@@ -11,8 +15,8 @@ use Rattle.word_machine.proofs.Invariant.{IsPending, Good, Saw, latest, Stamped,
 pub record Keeps (s t : World) : Type 0 where
   pub clock : s.clock ≤ t.clock
   pub good : (n l v : ℕ) → Good s n l v → Good t n l v
-  pub versions : (l : ℕ) → version (s.locks l) ≤ version (t.locks l)
-  pub latest : (l k : ℕ) → k ≤ version (s.locks l) → stamp t.history l ≤ k → (stamp s.history l ≤ k) × (latest t l ≡ latest s l)
+  pub versions : (l : ℕ) → version_of (s.locks l) ≤ version_of (t.locks l)
+  pub latest : (l k : ℕ) → k ≤ version_of (s.locks l) → stamp t.history l ≤ k → (stamp s.history l ≤ k) × (latest t l ≡ latest s l)
 
 -- What a step leaves of the words that another holds.
 pub record Same (s t : World) (held : Entries) : Type 0 where
@@ -28,6 +32,7 @@ Stamped-kept c d rv wv w h le g = record {
   newer = g.newer;
   after_rv = g.after_rv;
   made = omega (arith, le, g.made);
+  some = g.some;
 }
 
 Checked-kept : (s t : World) (wv : ℕ) (r : Entries) (ls : List ℕ) → Keeps s t → Checked s wv r ls → Checked t wv r ls
@@ -38,6 +43,7 @@ Done-kept s t wv w h ls k m g = record {
   newer = g.newer;
   last = λ l j q. m.stamps l j q ∙ g.last l j q;
   made = omega (arith, k.clock, g.made);
+  some = g.some;
   value = λ l j q.
       let f = g.value l j q in
       (f.0, f.1, m.latest l j q ∙ f.2, elim f.3 [ inl e ↦ inl (m.values l j q ∙ e) | inr i ↦ inr i ]);
@@ -107,7 +113,7 @@ pub stamp_of : (s : World) (b : ℕ) → Inv s → IsPending (s.actors b).place 
 stamp_of s b v h = pending_stamped s (s.actors b) (s.actors b).place (v.actors b).place h
 
 -- a step that commits nothing keeps what is good
-pub Keeps-no_commit : (s : World) (a : ℕ) (y : Actor) (c : ℕ) (locks : ℕ → LockWord) (values : Memory) (aborted : List Ended) → s.clock ≤ c → IsNumbered s a y → ((l : ℕ) → version (s.locks l) ≤ version (locks l)) → Keeps s (next s a y c locks values s.history aborted)
+pub Keeps-no_commit : (s : World) (a : ℕ) (y : Actor) (c : ℕ) (locks : ℕ → LockWord) (values : Memory) (aborted : List Ended) → s.clock ≤ c → IsNumbered s a y → ((l : ℕ) → version_of (s.locks l) ≤ version_of (locks l)) → Keeps s (next s a y c locks values s.history aborted)
 Keeps-no_commit s a y c locks values aborted le num ver = record {
   clock = le;
   versions = ver;

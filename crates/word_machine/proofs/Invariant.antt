@@ -1,6 +1,10 @@
 -- What holds of a world after every schedule.
 use Rattle.std.proofs.Common.{◌≡◌, ℕ, ◌-◌, ◌<◌, ◌≤◌, true, false, Some, None, List, [], ◌∷◌, ◌⊎◌}
-use Rattle.word_machine.specs.Words.{Memory, Locked, version, Entries, lookup, Call, Place, Idle, Begin, Open, Look, Fetch, Again, Lock, Take, Check, Broken, First, Store, Release, Undo, Leave, Close, Actor, Record, World}
+use Rattle.vlock_word.specs.declared.lock_word.LockWord.TheVariants.{Locked}
+use Rattle.vlock_word.specs.LockWord.{version_of}
+use Rattle.word_machine.specs.Entries.{Entries, lookup}
+use Rattle.word_machine.specs.Actor.{Call, Place, Idle, Begin, Open, Look, Fetch, Again, Lock, Take, Check, Broken, First, Store, Release, Undo, Leave, Close, Actor}
+use Rattle.word_machine.specs.World.{Memory, Record, World}
 use Rattle.word_machine.specs.Opacity.{IsLegal, IsInOrder, IsHalfDone, AllEnded}
 use Rattle.word_machine.proofs.Sets.{IsUnique, Member}
 use Rattle.word_machine.proofs.Calls.{touched, Agrees, Sets}
@@ -28,11 +32,17 @@ pub record Saw (s : World) (n : ℕ) (calls : List Call) : Type 0 where
 abbrev pub latest : World → ℕ → ℕ
 latest s l = finals s.history l (s.opening l)
 
+-- there is an entry
+abbrev pub IsSomeEntry : Entries → Type 0
+IsSomeEntry [] = ⊥
+IsSomeEntry (e ∷ es) = Unit {0}
+
 -- Each written location is locked, or still to be.
 pub record Locking (writes held : Entries) (ls : List ℕ) : Type 0 where
   pub covered : (l v : ℕ) → lookup writes l ≡ Some v → Member l ls ⊎ ((k : ℕ) × (lookup held l ≡ Some k))
   pub written : (l k : ℕ) → lookup held l ≡ Some k → (v : ℕ) × (lookup writes l ≡ Some v)
   pub within : (l : ℕ) → Member l ls → (v : ℕ) × (lookup writes l ≡ Some v)
+  pub some : IsSomeEntry writes
 
 -- A commit that has its number and all its locks.
 pub record Stamped (clock rv wv : ℕ) (writes held : Entries) : Type 0 where
@@ -41,6 +51,7 @@ pub record Stamped (clock rv wv : ℕ) (writes held : Entries) : Type 0 where
   pub newer : (l k : ℕ) → lookup held l ≡ Some k → k < wv
   pub after_rv : rv < wv
   pub made : wv ≤ clock
+  pub some : IsSomeEntry writes
 
 -- the reads, but for those still to be checked, are as good at the number of the commit
 abbrev pub Checked : World → ℕ → Entries → List ℕ → Type 0
@@ -51,6 +62,7 @@ pub record Done (s : World) (wv : ℕ) (writes held : Entries) (ls : List ℕ) :
   pub newer : (l k : ℕ) → lookup held l ≡ Some k → k < wv
   pub last : (l k : ℕ) → lookup held l ≡ Some k → stamp s.history l ≡ wv
   pub made : wv ≤ s.clock
+  pub some : IsSomeEntry held
   pub value : (l k : ℕ) → lookup held l ≡ Some k → (v : ℕ) × (lookup writes l ≡ Some v) × (latest s l ≡ v) × ((s.values l ≡ v) ⊎ Member l ls)
 
 abbrev pub Reading : Actor → ℕ → Type 0
@@ -62,8 +74,8 @@ PlaceOk s x Idle = x.held ≡ []
 PlaceOk s x Begin = x.held ≡ []
 PlaceOk s x Open = x.held ≡ []
 PlaceOk s x (Look l) = Reading x l
-PlaceOk s x (Fetch l k) = Reading x l × (k ≤ x.rv) × (k ≤ version (s.locks l))
-PlaceOk s x (Again l k v) = Reading x l × (k ≤ x.rv) × (k ≤ version (s.locks l)) × (stamp s.history l ≤ k → latest s l ≡ v)
+PlaceOk s x (Fetch l k) = Reading x l × (k ≤ x.rv) × (k ≤ version_of (s.locks l))
+PlaceOk s x (Again l k v) = Reading x l × (k ≤ x.rv) × (k ≤ version_of (s.locks l)) × (stamp s.history l ≤ k → latest s l ≡ v)
 PlaceOk s x (Lock ls) = Locking x.writes x.held ls
 PlaceOk s x (Take l k ls) = Locking x.writes x.held (l ∷ ls)
 PlaceOk s x (Check ls) = Stamped s.clock x.rv x.wv x.writes x.held × Checked s x.wv x.reads ls
@@ -96,11 +108,11 @@ pub record Inv (s : World) : Type 0 where
   -- a number is given once
   pub numbers : (a b : ℕ) → IsPending (s.actors a).place → IsPending (s.actors b).place → (s.actors a).wv ≡ (s.actors b).wv → a ≡ b
   pub unused : (a : ℕ) → IsPending (s.actors a).place → AllRecords (λ r. (r.writer ≡ true → (s.actors a).wv ≡ r.number → ⊥)) s.history
-  pub versions : (l : ℕ) → version (s.locks l) ≤ s.clock
+  pub versions : (l : ℕ) → version_of (s.locks l) ≤ s.clock
   -- a word whose version is not below its last commit holds that commit's value
-  pub current : (l : ℕ) → stamp s.history l ≤ version (s.locks l) → s.values l ≡ latest s l
+  pub current : (l : ℕ) → stamp s.history l ≤ version_of (s.locks l) → s.values l ≡ latest s l
   -- the version is not below the last commit, but where a half-done commit holds the lock
-  pub behind : (l : ℕ) → ((a : ℕ) → IsHalfDone (s.actors a).place → lookup (s.actors a).held l ≡ None) → stamp s.history l ≤ version (s.locks l)
+  pub behind : (l : ℕ) → ((a : ℕ) → IsHalfDone (s.actors a).place → lookup (s.actors a).held l ≡ None) → stamp s.history l ≤ version_of (s.locks l)
   pub ordered : IsInOrder s.history
   pub records : AllRecords (RecordOk s) s.history
   pub aborted : AllEnded (λ e. Saw s e.rv e.calls) s.aborted

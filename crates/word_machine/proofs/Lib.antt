@@ -1,3 +1,4 @@
+pub mod Worlds
 pub mod Sets
 pub mod Calls
 pub mod Records

@@ -1,14 +1,20 @@
 -- The steps that change a word, the clock or the history.
 use Rattle.std.proofs.Common.{◌≡◌, ℕ, ◌+◌, ◌-◌, ◌<◌, ◌≤◌, max, true, false, Option, Some, None, List, [], ◌∷◌, ◌⊎◌, inl, inr, refl, sym, ap, ◌∙◌, subst, arith, true≢false}
 use Rattle.std.proofs.lemmas.Bool.{cases_eq}
-use Rattle.word_machine.specs.Words.{Memory, LockWord, Free, Locked, version, Entries, lookup, with_entry, locations, put, Call, Place, Idle, Lock, Take, Check, First, Store, Release, Undo, Close, Actor, Record, World, insert, goes, locked, stamped, value_or, commits, first, stored, gives_back, released, undone, closed}
+use Rattle.vlock_word.specs.declared.lock_word.LockWord.{LockWord}
+use Rattle.vlock_word.specs.declared.lock_word.LockWord.TheVariants.{Free, Locked}
+use Rattle.vlock_word.specs.LockWord.{version_of}
+use Rattle.word_machine.specs.Entries.{Entries, lookup, with_entry, locations, value_or}
+use Rattle.word_machine.specs.Actor.{Call, Place, Idle, Lock, Take, Check, First, Store, Release, Undo, Close, Actor, goes}
+use Rattle.word_machine.specs.World.{Memory, put, Record, World, insert}
+use Rattle.word_machine.proofs.Worlds.{locked, stamped, commits, first, stored, gives_back, released, undone, closed}
 use Rattle.word_machine.specs.Opacity.{IsHalfDone}
 use Rattle.word_machine.proofs.Sets.{IsUnique, IsUnique-with_entry, Member, member_locations, locations_member, with_entry_cases, lookup-with_entry_same, lookup-with_entry_other, lookup-head, lookup-tail, rest_entry, put_both, put-same, put-other}
 use Rattle.word_machine.proofs.Calls.{touched}
 use Rattle.word_machine.proofs.Records.{stamp, AllRecords, AllRecords-insert, IsNew, IsInOrder-insert, stamp_untouched, stamp_touched, settled_untouched, settled_later, finals_untouched, finals_touched}
-use Rattle.word_machine.proofs.Invariant.{IsPending, latest, Locking, Done, PlaceOk, ActorOk, RecordOk, Inv}
-use Rattle.word_machine.proofs.Frame.{Moved, moved_none, Keeps, Same, Keeps-no_commit, ActorOk-kept, IsNumbered, quiet, next, actors_after, apart_after, numbers_after, unused_after, behind_before, records_kept, aborted_kept}
-use Rattle.word_machine.proofs.Quiet.{none_if, lookup-none, no_holder}
+use Rattle.word_machine.proofs.Invariant.{IsPending, latest, Locking, IsSomeEntry, Done, PlaceOk, ActorOk, RecordOk, Inv}
+use Rattle.word_machine.proofs.Frame.{Moved, moved_none, Keeps, Same, Keeps-no_commit, ActorOk-kept, IsNumbered, next, actors_after, apart_after, numbers_after, unused_after, behind_before, records_kept, aborted_kept}
+use Rattle.word_machine.proofs.Quiet.{none_if, no_holder}
 
 locked_is : (w : LockWord) (j k : ℕ) → w ≡ Locked j → w ≡ Locked k → j ≡ k
 locked_is w j k p q = cc
@@ -17,8 +23,8 @@ free_not_locked : (w : LockWord) (j k : ℕ) → w ≡ Free j → w ≡ Locked k
 free_not_locked w j k p q = cc
 
 -- a lock word put at l with the version that stands there
-version-put : (locks : ℕ → LockWord) (l : ℕ) (w : LockWord) (i : ℕ) → version w ≡ version (locks l) → version (put locks l w i) ≡ version (locks i)
-version-put locks l w i e = put_both (λ (z : LockWord). version z ≡ version (locks i)) locks l w i (λ q. e ∙ ap (λ (n : ℕ). version (locks n)) (sym q)) (λ _. refl)
+version-put : (locks : ℕ → LockWord) (l : ℕ) (w : LockWord) (i : ℕ) → version_of w ≡ version_of (locks l) → version_of (put locks l w i) ≡ version_of (locks i)
+version-put locks l w i e = put_both (λ (z : LockWord). version_of z ≡ version_of (locks i)) locks l w i (λ q. e ∙ ap (λ (n : ℕ). version_of (locks n)) (sym q)) (λ _. refl)
 
 -- a lock
 pub locked_ok : (s : World) (a l k : ℕ) (ls : List ℕ) → Inv s → (s.actors a).place ≡ Take l k ls → Locking (s.actors a).writes (s.actors a).held (l ∷ ls) → s.locks l ≡ Free k → Moved s a (locked s a (s.actors a) l k ls)
@@ -28,7 +34,7 @@ locked_ok s a l k ls v e pl free =
     let words : ℕ → LockWord = put s.locks l (Locked k) in
     let t : World = next s a y s.clock words s.values s.history s.aborted in
     let num : IsNumbered s a y = λ h. absurd h in
-    let ver : (i : ℕ) → version (words i) ≡ version (s.locks i) = λ i. version-put s.locks l (Locked k) i (sym (ap version free)) in
+    let ver : (i : ℕ) → version_of (words i) ≡ version_of (s.locks i) = λ i. version-put s.locks l (Locked k) i (sym (ap version_of free)) in
     let keeps : Keeps s t = Keeps-no_commit s a y s.clock words s.values s.aborted (omega arith) num (λ i. omega (arith, ver i)) in
     let others : (b : ℕ) → Same s t (s.actors b).held = λ b. record {
       locks = λ i j h. put-other s.locks l (Locked k) i (λ q. no_holder s l k v free b j (ap (lookup (s.actors b).held) (sym q) ∙ h));
@@ -59,6 +65,7 @@ locked_ok s a l k ls v e pl free =
           | inr q ↦ pl.written i j q.1
         ];
         within = λ i m. pl.within i (inr m);
+        some = pl.some;
       };
     } in
     record {
@@ -101,9 +108,10 @@ stamped_ok s a v e pl =
         record {
           all_held = λ i u h. elim (pl.covered i u h) [ inl m ↦ absurd m | inr q ↦ q ];
           written = pl.written;
-          newer = λ i j h. let q : version (s.locks i) ≡ j = ap version ((v.actors a).held i j h) in omega (arith, q, v.versions i);
+          newer = λ i j h. let q : version_of (s.locks i) ≡ j = ap version_of ((v.actors a).held i j h) in omega (arith, q, v.versions i);
           after_rv = omega (arith, (v.actors a).began);
           made = omega arith;
+          some = pl.some;
         },
         λ i u h. inl (member_locations x.reads i u h),
       );
@@ -128,9 +136,9 @@ stamped_ok s a v e pl =
 
 -- a lock given back, with a word whose version is not below the old one
 gives_back_ok : (s : World) (a : ℕ) (f : ℕ × ℕ) (fs : Entries) (w : LockWord) (p : Place) → Inv s → (s.actors a).held ≡ f ∷ fs → (IsPending p → ⊥)
-    → version (s.locks f.0) ≤ version w → version w ≤ s.clock
-    → (stamp s.history f.0 ≤ version w → s.values f.0 ≡ latest s f.0)
-    → (((b : ℕ) → IsHalfDone (s.actors b).place → (b ≡ a → ⊥) → lookup (s.actors b).held f.0 ≡ None) → stamp s.history f.0 ≤ version w)
+    → version_of (s.locks f.0) ≤ version_of w → version_of w ≤ s.clock
+    → (stamp s.history f.0 ≤ version_of w → s.values f.0 ≡ latest s f.0)
+    → (((b : ℕ) → IsHalfDone (s.actors b).place → (b ≡ a → ⊥) → lookup (s.actors b).held f.0 ≡ None) → stamp s.history f.0 ≤ version_of w)
     → ((i : ℕ) → (i ≡ f.0 → ⊥) → IsHalfDone (s.actors a).place → (IsHalfDone p → lookup fs i ≡ None) → lookup (s.actors a).held i ≡ None)
     → PlaceOk s (record { place = p; rv = (s.actors a).rv; wv = (s.actors a).wv; reads = (s.actors a).reads; writes = (s.actors a).writes; held = fs; calls = (s.actors a).calls }) p
     → Moved s a (gives_back s a (s.actors a) f.0 w fs p)
@@ -144,8 +152,8 @@ gives_back_ok s a f fs w p v has np up top cur beh still pl =
     let rest : (i j : ℕ) → lookup fs i ≡ Some j → (i ≡ f.0 → ⊥) × (lookup x.held i ≡ Some j) = λ i j h. (let q = rest_entry f fs i j uniq h in (q.0, ap (λ (z : Entries). lookup z i) has ∙ q.1)) in
     let num : IsNumbered s a y = λ h. absurd (np h) in
     let keeps : Keeps s t = Keeps-no_commit s a y s.clock words s.values s.aborted (omega arith) num
-    (λ i. put_both (λ (z : LockWord). version (s.locks i) ≤ version z) s.locks f.0 w i
-    (λ q. let z : version (s.locks i) ≡ version (s.locks f.0) = ap (λ (n : ℕ). version (s.locks n)) q in omega (arith, z, up)) (λ _. omega arith)) in
+    (λ i. put_both (λ (z : LockWord). version_of (s.locks i) ≤ version_of z) s.locks f.0 w i
+    (λ q. let z : version_of (s.locks i) ≡ version_of (s.locks f.0) = ap (λ (n : ℕ). version_of (s.locks n)) q in omega (arith, z, up)) (λ _. omega arith)) in
     let others : (b : ℕ) → (b ≡ a → ⊥) → Same s t (s.actors b).held = λ b ne. record {
       locks = λ i j h. put-other s.locks f.0 w i (λ q. ne (v.apart b a i j f.1 h (ap (lookup x.held) q ∙ hold)));
       values = λ i j h. refl;
@@ -172,12 +180,12 @@ gives_back_ok s a f fs w p v has np up top cur beh still pl =
         apart = apart_after s a y v (λ i j h. inl (rest i j h).1);
         numbers = numbers_after s a y v num;
         unused = unused_after s a y v num;
-        versions = λ i. put_both (λ (z : LockWord). version z ≤ s.clock) s.locks f.0 w i (λ q. top) (λ _. v.versions i);
-        current = λ i. put_both (λ (z : LockWord). stamp s.history i ≤ version z → s.values i ≡ latest s i) s.locks f.0 w i
-            (λ q. subst (λ (n : ℕ). stamp s.history n ≤ version w → s.values n ≡ latest s n) (sym q) cur)
+        versions = λ i. put_both (λ (z : LockWord). version_of z ≤ s.clock) s.locks f.0 w i (λ q. top) (λ _. v.versions i);
+        current = λ i. put_both (λ (z : LockWord). stamp s.history i ≤ version_of z → s.values i ≡ latest s i) s.locks f.0 w i
+            (λ q. subst (λ (n : ℕ). stamp s.history n ≤ version_of w → s.values n ≡ latest s n) (sym q) cur)
             (λ _. v.current i);
-        behind = λ i. put_both (λ (z : LockWord). ((b : ℕ) → IsHalfDone (put s.actors a y b).place → lookup (put s.actors a y b).held i ≡ None) → stamp s.history i ≤ version z) s.locks f.0 w i
-            (λ q h. subst (λ (n : ℕ). stamp s.history n ≤ version w) (sym q) (beh (λ b half ne.
+        behind = λ i. put_both (λ (z : LockWord). ((b : ℕ) → IsHalfDone (put s.actors a y b).place → lookup (put s.actors a y b).held i ≡ None) → stamp s.history i ≤ version_of z) s.locks f.0 w i
+            (λ q h. subst (λ (n : ℕ). stamp s.history n ≤ version_of w) (sym q) (beh (λ b half ne.
             ap (lookup (s.actors b).held) (sym q) ∙ (let P : Actor → Type 0 = λ z. (IsHalfDone z.place → lookup z.held i ≡ None) in subst P (put-other s.actors a y b ne) (h b)) half)))
             (λ ne h. v.behind i (behind_before s a y i (still i ne) h));
         ordered = v.ordered;
@@ -193,7 +201,7 @@ pub undone_ok : (s : World) (a : ℕ) (h : Entries) → Inv s → (s.actors a).p
 undone_ok s a [] v e has = moved_none s a v
 undone_ok s a (f ∷ fs) v e has =
     let hold : lookup (s.actors a).held f.0 ≡ Some f.1 = ap (λ (z : Entries). lookup z f.0) has ∙ lookup-head f fs in
-    let ver : version (s.locks f.0) ≡ f.1 = ap version ((v.actors a).held f.0 f.1 hold) in
+    let ver : version_of (s.locks f.0) ≡ f.1 = ap version_of ((v.actors a).held f.0 f.1 hold) in
     let none : IsHalfDone (s.actors a).place → ⊥ = λ half. (let z : IsHalfDone Undo = subst IsHalfDone e half in z) in
     gives_back_ok s a f fs (Free f.1) Undo v has (λ h. h) (omega (arith, ver)) (omega (arith, ver, v.versions f.0))
     (λ h. v.current f.0 (omega (arith, ver, h)))
@@ -202,11 +210,12 @@ undone_ok s a (f ∷ fs) v e has =
     tt
 
 -- what a half-done commit has left to give back
-rest_done : (s : World) (wv : ℕ) (w : Entries) (f : ℕ × ℕ) (fs : Entries) → IsUnique (f ∷ fs) → Done s wv w (f ∷ fs) [] → Done s wv w fs []
-rest_done s wv w f fs u d = record {
+rest_done : (s : World) (wv : ℕ) (w : Entries) (f : ℕ × ℕ) (fs : Entries) → IsSomeEntry fs → IsUnique (f ∷ fs) → Done s wv w (f ∷ fs) [] → Done s wv w fs []
+rest_done s wv w f fs some u d = record {
   newer = λ i j h. d.newer i j (rest_entry f fs i j u h).1;
   last = λ i j h. d.last i j (rest_entry f fs i j u h).1;
   made = d.made;
+  some = some;
   value = λ i j h. d.value i j (rest_entry f fs i j u h).1;
 }
 
@@ -216,7 +225,7 @@ release_ok : (s : World) (a : ℕ) (f : ℕ × ℕ) (fs : Entries) (p : Place) �
     → Moved s a (gives_back s a (s.actors a) f.0 (Free (s.actors a).wv) fs p)
 release_ok s a f fs p v d has np still pl =
     let hold : lookup (s.actors a).held f.0 ≡ Some f.1 = ap (λ (z : Entries). lookup z f.0) has ∙ lookup-head f fs in
-    let ver : version (s.locks f.0) ≡ f.1 = ap version ((v.actors a).held f.0 f.1 hold) in
+    let ver : version_of (s.locks f.0) ≡ f.1 = ap version_of ((v.actors a).held f.0 f.1 hold) in
     let new = d.newer f.0 f.1 (lookup-head f fs) in
     let is = d.last f.0 f.1 (lookup-head f fs) in
     let val = d.value f.0 f.1 (lookup-head f fs) in
@@ -228,19 +237,13 @@ release_ok s a f fs p v d has np still pl =
 
 pub released_ok : (s : World) (a : ℕ) (h : Entries) → Inv s → (s.actors a).place ≡ Release → PlaceOk s (s.actors a) Release → (s.actors a).held ≡ h → Moved s a (released s a (s.actors a) h)
 unfolding lookup
-released_ok s a [] v e d has =
-    quiet s a (goes (s.actors a) Idle) v (record {
-      numbered = λ h. absurd h;
-      still = λ l half n. ap (λ (z : Entries). lookup z l) has;
-      held = refl;
-      ok = record { began = (v.actors a).began; reads = (v.actors a).reads; sets = (v.actors a).sets; held = (v.actors a).held; unique = (v.actors a).unique; place = has };
-    })
+released_ok s a [] v e d has = absurd (let none : IsSomeEntry [] = subst IsSomeEntry has d.some in none)
 released_ok s a (f ∷ []) v e d has =
     release_ok s a f [] Idle v (subst (λ (z : Entries). Done s (s.actors a).wv (s.actors a).writes z []) has d) has (λ h. h) (λ i n. refl) refl
 released_ok s a (f ∷ (g ∷ fs)) v e d has =
     let d2 = subst (λ (z : Entries). Done s (s.actors a).wv (s.actors a).writes z []) has d in
     release_ok s a f (g ∷ fs) Release v d2 has (λ h. h) (λ i n. n tt)
-    (rest_done s (s.actors a).wv (s.actors a).writes f (g ∷ fs) (subst IsUnique has (v.actors a).unique) d2)
+    (rest_done s (s.actors a).wv (s.actors a).writes f (g ∷ fs) tt (subst IsUnique has (v.actors a).unique) d2)
 
 -- a value store after the first
 pub stored_ok : (s : World) (a l : ℕ) (ls : List ℕ) → Inv s → (s.actors a).place ≡ Store (l ∷ ls) → PlaceOk s (s.actors a) (Store (l ∷ ls)) → Moved s a (stored s a (s.actors a) l ls)
@@ -248,7 +251,7 @@ stored_ok s a l ls v e pl =
     let x = s.actors a in
     let d = pl.0 in
     let y : Actor = goes x (Store ls) in
-    let u : ℕ = value_or (lookup x.writes l) (s.values l) in
+    let u : ℕ = value_or (lookup x.writes l) 0 in
     let words : Memory = put s.values l u in
     let t : World = next s a y s.clock s.locks words s.history s.aborted in
     let hold = pl.1 l (inl refl) in
@@ -271,13 +274,14 @@ stored_ok s a l ls v e pl =
           newer = d.newer;
           last = d.last;
           made = d.made;
+          some = d.some;
           value = λ i j h.
               let f = d.value i j h in (
                 f.0,
                 f.1,
                 f.2,
                 elim (cases_eq i l) [
-                  | inl q ↦ inl (ap words q ∙ put-same s.values l u ∙ ap (λ (z : Option ℕ). value_or z (s.values l)) (ap (lookup x.writes) (sym q) ∙ f.1))
+                  | inl q ↦ inl (ap words q ∙ put-same s.values l u ∙ ap (λ (z : Option ℕ). value_or z 0) (ap (lookup x.writes) (sym q) ∙ f.1))
                   | inr ne ↦ elim f.3 [
                     | inl g ↦ inl (put-other s.values l u i ne ∙ g)
                     | inr (inl q) ↦ absurd (ne q)
@@ -299,7 +303,7 @@ stored_ok s a l ls v e pl =
         current = λ i h. elim (cases_eq i l) [
           | inl q ↦
               let mine : lookup x.held i ≡ Some hold.0 = ap (lookup x.held) q ∙ hold.1 in
-              let ver : version (s.locks i) ≡ hold.0 = ap version ((v.actors a).held i hold.0 mine) in
+              let ver : version_of (s.locks i) ≡ hold.0 = ap version_of ((v.actors a).held i hold.0 mine) in
               absurd (omega (arith, ver, h, d.last i hold.0 mine, d.newer i hold.0 mine))
           | inr ne ↦ put-other s.values l u i ne ∙ v.current i h
         ];
@@ -327,6 +331,13 @@ pub record FirstStored (s : World) (x : Actor) (values : Memory) (ls : List ℕ)
   pub value : (i u : ℕ) → lookup x.writes i ≡ Some u → (values i ≡ u) ⊎ Member i ls
   pub within : (i : ℕ) → Member i ls → (u : ℕ) × (lookup x.writes i ≡ Some u)
 
+-- each written location is held, so a commit that writes holds a lock
+some_lookup : (w h : Entries) → IsSomeEntry w → ((l v : ℕ) → lookup w l ≡ Some v → (k : ℕ) × (lookup h l ≡ Some k)) → IsSomeEntry h
+unfolding lookup
+some_lookup [] h n f = absurd n
+some_lookup (e ∷ es) [] n f = let q = f e.0 e.1 (lookup-head e es) in (let z : Some q.0 ≡ None = sym q.1 in absurd (let b : ⊥ = cc in b))
+some_lookup (e ∷ es) (g ∷ gs) n f = tt
+
 -- the commit of a writer
 commits_ok : (s : World) (a : ℕ) (values : Memory) (ls : List ℕ) → Inv s → (s.actors a).place ≡ First → PlaceOk s (s.actors a) First → FirstStored s (s.actors a) values ls → Moved s a (commits s a (s.actors a) values ls)
 commits_ok s a values ls v e pl fst =
@@ -340,9 +351,9 @@ commits_ok s a values ls v e pl fst =
     let not_half : IsHalfDone (s.actors a).place → ⊥ = λ half. (let z : IsHalfDone First = subst IsHalfDone e half in z) in
     let num : IsNumbered s a y = λ h. absurd h in
     let new : IsNew r s.history = isnew s.history x.wv a x.calls (v.unused a pend) in
-    let mine : (i u : ℕ) → lookup x.writes i ≡ Some u → (k : ℕ) × (lookup x.held i ≡ Some k) × (version (s.locks i) ≡ k) × (k < x.wv) × (stamp s.history i ≤ k) = λ i u h. (
+    let mine : (i u : ℕ) → lookup x.writes i ≡ Some u → (k : ℕ) × (lookup x.held i ≡ Some k) × (version_of (s.locks i) ≡ k) × (k < x.wv) × (stamp s.history i ≤ k) = λ i u h. (
     let q = st.all_held i u h in
-    let ver : version (s.locks i) ≡ q.0 = ap version ((v.actors a).held i q.0 q.1) in
+    let ver : version_of (s.locks i) ≡ q.0 = ap version_of ((v.actors a).held i q.0 q.1) in
     let b = v.behind i (λ b half. none_if (lookup (s.actors b).held i) (λ j g. not_half (subst (λ (n : ℕ). IsHalfDone (s.actors n).place) (v.apart b a i j q.0 g q.1) half))) in
     (q.0, q.1, ver, st.newer i q.0 q.1, omega (arith, b, ver))) in
     let stamps : (i u : ℕ) → lookup x.writes i ≡ Some u → touched x.calls i ≡ true → stamp h2 i ≡ x.wv = λ i u h w. (
@@ -378,6 +389,7 @@ commits_ok s a values ls v e pl fst =
       stamps = λ i j h. stamp_untouched r s.history i (free i j h).1;
       latest = λ i j h. finals_untouched r s.history i (s.opening i) (free i j h).1;
     }) in
+    let some_held : IsSomeEntry x.held = some_lookup x.writes x.held st.some st.all_held in
     let own : ActorOk t y = record {
       began = (v.actors a).began;
       reads = λ i u h. keeps.good x.rv i u ((v.actors a).reads i u h);
@@ -389,6 +401,7 @@ commits_ok s a values ls v e pl fst =
           newer = st.newer;
           last = λ i j h. (let w = st.written i j h in stamps i w.0 w.1 ((v.actors a).sets.written i w.0 w.1));
           made = st.made;
+          some = some_held;
           value = λ i j h. (
               let w = st.written i j h in
               let q = mine i w.0 w.1 in
@@ -449,11 +462,7 @@ commits_ok s a values ls v e pl fst =
     isnew (c ∷ h) n b cs g = ((λ _ w q. g.0 w q), isnew h n b cs g.1)
 
 pub first_ok : (s : World) (a : ℕ) (w : Entries) → Inv s → (s.actors a).place ≡ First → PlaceOk s (s.actors a) First → (s.actors a).writes ≡ w → Moved s a (first s a (s.actors a) w)
-first_ok s a [] v e pl hw = commits_ok s a s.values [] v e pl (record {
-  same = λ i h. refl;
-  value = λ i u h. absurd (lookup-none (s.actors a).writes i u hw h);
-  within = λ i m. absurd m;
-})
+first_ok s a [] v e pl hw = absurd (let none : IsSomeEntry [] = subst IsSomeEntry hw (pl.0).some in none)
 first_ok s a (f ∷ fs) v e pl hw =
     let has : (i : ℕ) → lookup (s.actors a).writes i ≡ lookup (f ∷ fs) i = λ i. ap (λ (z : Entries). lookup z i) hw in
     commits_ok s a (put s.values f.0 f.1) (locations fs) v e pl (record {

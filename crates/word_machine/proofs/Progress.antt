@@ -1,10 +1,15 @@
 -- Each own step of a request brings it nearer to its answer, whatever others do.
 use Rattle.std.proofs.Common.{◌≡◌, ℕ, suc, ◌+◌, ◌*◌, ◌<◌, eqb, ltb, leb, Option, Some, None, List, [], ◌∷◌, length, refl, sym, ap, subst, arith}
 use Rattle.std.proofs.lemmas.Bool.{cond_both}
-use Rattle.word_machine.specs.Words.{LockWord, Free, Locked, put, Entries, lookup, locations, Place, Idle, Begin, Open, Look, Fetch, Again, Lock, Take, Check, Broken, First, Store, Release, Undo, Leave, Close, Actor, World, Step, now, goes, opened, clock_limit, has_read, step, looked, looked_again, to_lock, exchanged, locked, checked, first, released, undone, happens}
-use Rattle.word_machine.specs.Notices.{steps_left, rest}
+use Rattle.vlock_word.specs.declared.lock_word.LockWord.{LockWord}
+use Rattle.vlock_word.specs.declared.lock_word.LockWord.TheVariants.{Free, Locked}
+use Rattle.word_machine.specs.Entries.{Entries, lookup, locations}
+use Rattle.word_machine.specs.Actor.{Place, Idle, Begin, Open, Look, Fetch, Again, Lock, Take, Check, Broken, First, Store, Release, Undo, Leave, Close, Actor, goes, opened, clock_limit, has_read}
+use Rattle.word_machine.specs.World.{put, World, Step, now, step, happens}
+use Rattle.word_machine.proofs.Worlds.{looked, looked_again, to_lock, tried, locked, checked, first, released, undone}
+use Rattle.word_machine.specs.Progress.{steps_left}
 use Rattle.word_machine.proofs.Sets.{put-same}
-use Rattle.word_machine.proofs.Invariant.{PlaceOk, Inv}
+use Rattle.word_machine.proofs.Invariant.{IsSomeEntry, PlaceOk, Inv}
 
 length-locations : (es : Entries) → length (locations es) ≡ length es
 unfolding locations
@@ -34,7 +39,7 @@ to_lock_nearer : (s : World) (a : ℕ) (x : Actor) (l : ℕ) (ls : List ℕ) (w 
 to_lock_nearer s a x l ls (Free k) = nearer_put (2 * length (l ∷ ls) + 1 + length x.reads) s.actors a (goes x (Take l k ls)) (omega arith)
 to_lock_nearer s a x l ls (Locked k) = nearer_put (2 * length (l ∷ ls) + 1 + length x.reads) s.actors a (goes x Broken) (omega arith)
 
-take_nearer : (s : World) (a : ℕ) (x : Actor) (l k : ℕ) (ls : List ℕ) (w : LockWord) → Nearer (2 * length ls + 2 + length x.reads) ((exchanged s a x l k ls w).actors a)
+take_nearer : (s : World) (a : ℕ) (x : Actor) (l k : ℕ) (ls : List ℕ) (w : LockWord) → Nearer (2 * length ls + 2 + length x.reads) ((tried s a x l k ls w).actors a)
 take_nearer s a x l k ls (Free j) = cond_both (eqb j k) (locked s a x l k ls) (now s a (goes x Broken)) (λ (z : World). Nearer (2 * length ls + 2 + length x.reads) (z.actors a))
     (λ _. subst (Nearer (2 * length ls + 2 + length x.reads)) (sym (put-same s.actors a _)) (omega arith))
     (λ _. nearer_put (2 * length ls + 2 + length x.reads) s.actors a (goes x Broken) (omega arith))
@@ -47,14 +52,14 @@ check_nearer s a x l ls (Locked k) (Some old) = cond_both (leb k x.rv) (goes x (
     (λ _. nearer_put (length (l ∷ ls)) s.actors a (goes x (Check ls)) (omega arith)) (λ _. nearer_put (length (l ∷ ls)) s.actors a (goes x Broken) (omega arith))
 check_nearer s a x l ls (Locked k) None = nearer_put (length (l ∷ ls)) s.actors a (goes x Broken) (omega arith)
 
-first_nearer : (s : World) (a : ℕ) (x : Actor) (w : Entries) → Nearer (1 + length (rest w)) ((first s a x w).actors a)
-first_nearer s a x [] = nearer_put 1 s.actors a (goes x (Store [])) (omega arith)
-first_nearer s a x (e ∷ es) = nearer_put (1 + length es) s.actors a (goes x (Store (locations es))) (let q = length-locations es in omega (arith, q))
+first_nearer : (s : World) (a : ℕ) (x : Actor) (w : Entries) → IsSomeEntry w → Nearer (length w) ((first s a x w).actors a)
+first_nearer s a x [] n = absurd n
+first_nearer s a x (e ∷ es) n = nearer_put (length (e ∷ es)) s.actors a (goes x (Store (locations es))) (let q = length-locations es in omega (arith, q))
 
-released_nearer : (s : World) (a : ℕ) (x : Actor) (h : Entries) → Nearer (1 + length (rest h)) ((released s a x h).actors a)
-released_nearer s a x [] = nearer_put 1 s.actors a (goes x Idle) (omega arith)
-released_nearer s a x (e ∷ []) = subst (Nearer 1) (sym (put-same s.actors a _)) (omega arith)
-released_nearer s a x (e ∷ (f ∷ es)) = subst (Nearer (1 + length (f ∷ es))) (sym (put-same s.actors a _)) (omega arith)
+released_nearer : (s : World) (a : ℕ) (x : Actor) (h : Entries) → IsSomeEntry h → Nearer (length h) ((released s a x h).actors a)
+released_nearer s a x [] n = absurd n
+released_nearer s a x (e ∷ []) n = subst (Nearer (length (e ∷ []))) (sym (put-same s.actors a _)) (omega arith)
+released_nearer s a x (e ∷ (f ∷ es)) n = subst (Nearer (length (e ∷ (f ∷ es)))) (sym (put-same s.actors a _)) (omega arith)
 
 undone_nearer : (s : World) (a : ℕ) (x : Actor) (h : Entries) → 0 < length h → Nearer (length h) ((undone s a x h).actors a)
 undone_nearer s a x [] p = absurd (omega (arith, p))
@@ -74,10 +79,10 @@ step_nearer s a x (Take l k ls) pl h = take_nearer s a x l k ls (s.locks l)
 step_nearer s a x (Check []) pl h = absurd (omega (arith, h))
 step_nearer s a x (Check (l ∷ ls)) pl h = check_nearer s a x l ls (s.locks l) (lookup x.held l)
 step_nearer s a x Broken pl h = absurd (omega (arith, h))
-step_nearer s a x First pl h = first_nearer s a x x.writes
+step_nearer s a x First pl h = first_nearer s a x x.writes (pl.0).some
 step_nearer s a x (Store []) pl h = absurd (omega (arith, h))
 step_nearer s a x (Store (l ∷ ls)) pl h = nearer_put (length (l ∷ ls)) s.actors a (goes x (Store ls)) (omega arith)
-step_nearer s a x Release pl h = released_nearer s a x x.held
+step_nearer s a x Release pl h = released_nearer s a x x.held pl.some
 step_nearer s a x Undo pl h = undone_nearer s a x x.held h
 step_nearer s a x Leave pl h = nearer_put 1 s.actors a (goes x Idle) (omega arith)
 step_nearer s a x Close pl h = nearer_put 1 s.actors a (goes x Idle) (omega arith)

@@ -2,12 +2,19 @@
 use Rattle.std.proofs.Common.{◌≡◌, ℕ, ◌-◌, ◌≤◌, eqb, ltb, leb, Option, Some, None, List, [], ◌∷◌, ◌++◌, inl, inr, refl, sym, ap, ◌∙◌, subst, arith, leb-true, eqb-true}
 use Rattle.std.specs.Prelude.{if◌then◌else◌}
 use Rattle.std.proofs.lemmas.Bool.{cond_both}
-use Rattle.word_machine.specs.Words.{LockWord, Free, Locked, version, Entries, lookup, with_entry, locations, Call, Read, Write, Place, Idle, Begin, Open, Look, Fetch, Again, Lock, Take, Check, Broken, First, Store, Release, Undo, Leave, Close, Actor, Ended, World, Request, AskBegin, AskLock, AskStore, AskRelease, AskCancel, AskAbort, AskClose, AskRead, AskWrite, now, goes, read, lock, close, abort, ask, opened, looked, has_read, looked_again, to_lock, checked, left, clock_limit}
+use Rattle.vlock_word.specs.declared.lock_word.LockWord.{LockWord}
+use Rattle.vlock_word.specs.declared.lock_word.LockWord.TheVariants.{Free, Locked}
+use Rattle.vlock_word.specs.LockWord.{version_of}
+use Rattle.word_machine.specs.Entries.{Entries, lookup, with_entry, locations}
+use Rattle.word_machine.specs.Actor.{Call, Read, Write, Place, Idle, Begin, Open, Look, Fetch, Again, Lock, Take, Check, Broken, First, Store, Release, Undo, Leave, Close, Actor, goes, opened, has_read, clock_limit}
+use Rattle.word_machine.specs.Requests.{Request, AskBegin, AskLock, AskStore, AskRelease, AskCancel, AskAbort, AskClose, AskRead, AskWrite, read, lock, close, abort, ask}
+use Rattle.word_machine.specs.World.{Ended, World, now}
+use Rattle.word_machine.proofs.Worlds.{looked, looked_again, to_lock, checked, left}
 use Rattle.word_machine.specs.Opacity.{IsHalfDone, AllEnded}
 use Rattle.word_machine.proofs.Sets.{member_locations, locations_member, with_entry_cases}
 use Rattle.word_machine.proofs.Calls.{Sets, Sets-none, Sets-own, Sets-seen, Sets-read, Sets-write}
 use Rattle.word_machine.proofs.Records.{settled, stamp, settled_all}
-use Rattle.word_machine.proofs.Invariant.{IsPending, Good, Saw, latest, Reading, PlaceOk, ActorOk, Inv}
+use Rattle.word_machine.proofs.Invariant.{IsPending, Good, Saw, latest, Reading, IsSomeEntry, PlaceOk, ActorOk, Inv}
 use Rattle.word_machine.proofs.Frame.{Moved, QuietOk, quiet, quiet_ended, stamp_of}
 
 pub none_if : (o : Option ℕ) → ((k : ℕ) → o ≡ Some k → ⊥) → o ≡ None
@@ -26,7 +33,7 @@ pub no_holder : (s : World) (l k : ℕ) → Inv s → s.locks l ≡ Free k → (
 no_holder s l k v free b j h = free_not_locked (s.locks l) k j free ((v.actors b).held l j h)
 
 -- A word of version at most n, which no one else changes before it has a greater number, is good at n.
-pub good_at : (s : World) (n l v : ℕ) → Inv s → n ≤ s.clock → version (s.locks l) ≤ n → stamp s.history l ≤ version (s.locks l) → latest s l ≡ v
+pub good_at : (s : World) (n l v : ℕ) → Inv s → n ≤ s.clock → version_of (s.locks l) ≤ n → stamp s.history l ≤ version_of (s.locks l) → latest s l ≡ v
     → ((b j : ℕ) → lookup (s.actors b).held l ≡ Some j → IsPending (s.actors b).place → (s.actors b).wv ≤ n → ⊥) → Good s n l v
 good_at s n l v i past low behind is holder = record {
   past = past;
@@ -35,12 +42,12 @@ good_at s n l v i past low behind is holder = record {
       let q = (stamp_of s b i p).all_held l u h in holder b q.0 q.1 p w);
 }
 
-pub free_behind : (s : World) (l k : ℕ) → Inv s → s.locks l ≡ Free k → stamp s.history l ≤ version (s.locks l)
+pub free_behind : (s : World) (l k : ℕ) → Inv s → s.locks l ≡ Free k → stamp s.history l ≤ version_of (s.locks l)
 free_behind s l k v free = v.behind l (λ b half. none_if (lookup (s.actors b).held l) (λ j h. no_holder s l k v free b j h))
 
 pub free_good : (s : World) (n l k u : ℕ) → Inv s → s.locks l ≡ Free k → k ≤ n → n ≤ s.clock → latest s l ≡ u → Good s n l u
 free_good s n l k u v free low past is =
-    let e : version (s.locks l) ≡ k = ap version free in
+    let e : version_of (s.locks l) ≡ k = ap version_of free in
     good_at s n l u v past (omega (arith, e, low)) (free_behind s l k v free) is (λ b j h p w. no_holder s l k v free b j h)
 
 -- the actor at another place, with the same transaction
@@ -90,6 +97,7 @@ lock_ok s a (f ∷ fs) v e none hw =
       covered = λ l u h. inl (member_locations (f ∷ fs) l u (ap (λ (z : Entries). lookup z l) (sym hw) ∙ h));
       written = λ l k h. absurd (lookup-none (s.actors a).held l k none h);
       within = λ l h. let t = locations_member (f ∷ fs) l h in (t.0, ap (λ (z : Entries). lookup z l) hw ∙ t.1);
+      some = subst IsSomeEntry (sym hw) tt;
     })
 
 close_ok : (s : World) (a : ℕ) (w : Entries) → Inv s → (s.actors a).place ≡ Open → (s.actors a).held ≡ [] → (s.actors a).writes ≡ w → QuietOk s a (close (s.actors a) w)
@@ -145,7 +153,7 @@ pub looked_ok : (s : World) (a l : ℕ) (w : LockWord) → Inv s → (s.actors a
 looked_ok s a l (Free k) v e pl is =
     cond_both (leb k (s.actors a).rv) (goes (s.actors a) (Fetch l k)) (goes (s.actors a) Undo) (λ (z : Actor). Moved s a (now s a z))
     (λ t. quiet s a (goes (s.actors a) (Fetch l k)) v (quiet_goes s a (Look l) (Fetch l k) v e (λ h. h) (λ h. h)
-    (pl, leb-true k (s.actors a).rv t, (let q = ap version is in omega (arith, q)))))
+    (pl, leb-true k (s.actors a).rv t, (let q = ap version_of is in omega (arith, q)))))
     (λ _. quiet s a (goes (s.actors a) Undo) v (quiet_goes s a (Look l) Undo v e (λ h. h) (λ h. h) tt))
 looked_ok s a l (Locked k) v e pl is = quiet s a (goes (s.actors a) Undo) v (quiet_goes s a (Look l) Undo v e (λ h. h) (λ h. h) tt)
 
@@ -161,7 +169,7 @@ looked_again_ok s a l k u (Free j) v e pl is =
     let x = s.actors a in
     let same = eqb-true j k t in
     let b = free_behind s l j v is in
-    let ver : version (s.locks l) ≡ j = ap version is in
+    let ver : version_of (s.locks l) ≡ j = ap version_of is in
     let value : latest s l ≡ u = pl.3 (omega (arith, b, ver, same)) in
     let good : Good s x.rv l u = free_good s x.rv l j u v is (omega (arith, same, pl.1)) (v.actors a).began value in
     quiet s a (has_read x l u) v (quiet_open s a (Again l k u) (with_entry x.reads l u) x.writes (x.calls ++ Read l u ∷ []) v e (λ h. h) (pl.0).0
@@ -182,7 +190,7 @@ broken_ok s a p v e h = quiet s a (goes (s.actors a) Broken) v (quiet_goes s a p
 
 -- one read less to check
 check_more : (s : World) (a l : ℕ) (ls : List ℕ) → Inv s → (s.actors a).place ≡ Check (l ∷ ls) → PlaceOk s (s.actors a) (Check (l ∷ ls))
-    → version (s.locks l) ≤ (s.actors a).rv → stamp s.history l ≤ version (s.locks l)
+    → version_of (s.locks l) ≤ (s.actors a).rv → stamp s.history l ≤ version_of (s.locks l)
     → ((b j : ℕ) → lookup (s.actors b).held l ≡ Some j → IsPending (s.actors b).place → (s.actors b).wv ≤ (s.actors a).wv - 1 → ⊥)
     → Moved s a (now s a (goes (s.actors a) (Check ls)))
 check_more s a l ls v e pl low behind holder =
@@ -206,12 +214,12 @@ check_more s a l ls v e pl low behind holder =
 pub checked_ok : (s : World) (a l : ℕ) (ls : List ℕ) (w : LockWord) (own : Option ℕ) → Inv s → (s.actors a).place ≡ Check (l ∷ ls) → PlaceOk s (s.actors a) (Check (l ∷ ls)) → s.locks l ≡ w → lookup (s.actors a).held l ≡ own → Moved s a (checked s a (s.actors a) l ls w own)
 checked_ok s a l ls (Free k) own v e pl is mine =
     cond_both (leb k (s.actors a).rv) (goes (s.actors a) (Check ls)) (goes (s.actors a) Broken) (λ (z : Actor). Moved s a (now s a z))
-    (λ t. let ver : version (s.locks l) ≡ k = ap version is in
+    (λ t. let ver : version_of (s.locks l) ≡ k = ap version_of is in
     check_more s a l ls v e pl (omega (arith, ver, leb-true k (s.actors a).rv t)) (free_behind s l k v is) (λ b j h p q. no_holder s l k v is b j h))
     (λ _. broken_ok s a (Check (l ∷ ls)) v e (λ h. h))
 checked_ok s a l ls (Locked k) (Some old) v e pl is mine =
     cond_both (leb k (s.actors a).rv) (goes (s.actors a) (Check ls)) (goes (s.actors a) Broken) (λ (z : Actor). Moved s a (now s a z))
-    (λ t. let ver : version (s.locks l) ≡ k = ap version is in
+    (λ t. let ver : version_of (s.locks l) ≡ k = ap version_of is in
     check_more s a l ls v e pl (omega (arith, ver, leb-true k (s.actors a).rv t))
     (v.behind l (λ b half. none_if (lookup (s.actors b).held l) (λ j h.
     let same = v.apart b a l j old h mine in

@@ -2,7 +2,7 @@
 use Rattle.std.proofs.Common.{◌≡◌, ℕ, ◌-◌, ◌<◌, ◌≤◌, max, Bool, true, false, ltb, leb, List, [], ◌∷◌, ◌⊎◌, inl, inr, refl, sym, ap, ◌∙◌, arith, true≢false, ltb-false, ltb-true, le-leb, leb-true}
 use Rattle.std.specs.Prelude.{nat_le, if◌then◌else◌}
 use Rattle.std.proofs.lemmas.Bool.{lt-leb, cond_both, cond-true, cond-false, cases_Bool, cases_lt}
-use Rattle.word_machine.specs.Words.{Memory, Record, insert, comes_before}
+use Rattle.word_machine.specs.World.{Memory, Record, insert, comes_before}
 use Rattle.word_machine.specs.Opacity.{after, memory_after, upto, IsLegal, IsRun, InOrder, AllFrom, IsInOrder}
 use Rattle.word_machine.proofs.Calls.{touched, final, after-final, final_untouched, final_touched, IsLegal-same}
 

@@ -1,7 +1,13 @@
 -- Every step, and every schedule.
 use Rattle.std.proofs.Common.{◌≡◌, ℕ, Some, List, [], ◌∷◌, refl, sym, ap, ◌∙◌, subst, arith, ltb}
 use Rattle.std.proofs.lemmas.Bool.{cond_both}
-use Rattle.word_machine.specs.Words.{Memory, LockWord, Free, lookup, put, Place, Idle, Begin, Open, Look, Fetch, Again, Lock, Take, Check, Broken, First, Store, Release, Undo, Leave, Close, Actor, Record, Ended, World, Event, Ask, Step, now, ask, step, exchanged, goes, opened, clock_limit, happens, run, start}
+use Rattle.vlock_word.specs.declared.lock_word.LockWord.{LockWord}
+use Rattle.vlock_word.specs.declared.lock_word.LockWord.TheVariants.{Free}
+use Rattle.word_machine.specs.Entries.{lookup}
+use Rattle.word_machine.specs.Actor.{Place, Idle, Begin, Open, Look, Fetch, Again, Lock, Take, Check, Broken, First, Store, Release, Undo, Leave, Close, Actor, goes, opened, clock_limit}
+use Rattle.word_machine.specs.Requests.{ask}
+use Rattle.word_machine.specs.World.{Memory, put, Record, Ended, World, Event, Ask, Step, now, step, happens, run, start}
+use Rattle.word_machine.proofs.Worlds.{tried}
 use Rattle.word_machine.specs.Opacity.{IsLegal, IsRun, IsNoneHalfDone, AllEnded, AllUpto, actor_of, memory_at, memory_after, upto}
 use Rattle.word_machine.proofs.Sets.{put-same}
 use Rattle.word_machine.proofs.Calls.{Sets-none}
@@ -11,14 +17,15 @@ use Rattle.word_machine.proofs.Frame.{Moved, moved_none, Saw-kept, quiet}
 use Rattle.word_machine.proofs.Quiet.{lookup-none, ask_ok, begin_ok, looked_ok, fetch_ok, looked_again_ok, to_lock_ok, broken_ok, checked_ok, left_ok}
 use Rattle.word_machine.proofs.Moves.{locked_ok, stamped_ok, undone_ok, released_ok, stored_ok, first_ok, closed_ok}
 use Rattle.std.proofs.Common.{eqb, eqb-true}
-use Rattle.word_machine.specs.Words.{Locked, locked}
+use Rattle.vlock_word.specs.declared.lock_word.LockWord.TheVariants.{Locked}
+use Rattle.word_machine.proofs.Worlds.{locked}
 
-exchanged_ok : (s : World) (a l k : ℕ) (ls : List ℕ) (w : LockWord) → Inv s → (s.actors a).place ≡ Take l k ls → Locking (s.actors a).writes (s.actors a).held (l ∷ ls) → s.locks l ≡ w → Moved s a (exchanged s a (s.actors a) l k ls w)
-exchanged_ok s a l k ls (Free j) v e pl is =
+tried_ok : (s : World) (a l k : ℕ) (ls : List ℕ) (w : LockWord) → Inv s → (s.actors a).place ≡ Take l k ls → Locking (s.actors a).writes (s.actors a).held (l ∷ ls) → s.locks l ≡ w → Moved s a (tried s a (s.actors a) l k ls w)
+tried_ok s a l k ls (Free j) v e pl is =
     cond_both (eqb j k) (locked s a (s.actors a) l k ls) (now s a (goes (s.actors a) Broken)) (Moved s a)
     (λ t. locked_ok s a l k ls v e pl (is ∙ ap Free (eqb-true j k t)))
     (λ _. broken_ok s a (Take l k ls) v e (λ h. h))
-exchanged_ok s a l k ls (Locked j) v e pl is = broken_ok s a (Take l k ls) v e (λ h. h)
+tried_ok s a l k ls (Locked j) v e pl is = broken_ok s a (Take l k ls) v e (λ h. h)
 
 pub step_ok : (s : World) (a : ℕ) (p : Place) → Inv s → (s.actors a).place ≡ p → PlaceOk s (s.actors a) p → Moved s a (step s a (s.actors a) p)
 step_ok s a Idle v e pl = moved_none s a v
@@ -29,7 +36,7 @@ step_ok s a (Fetch l k) v e pl = fetch_ok s a l k v e pl
 step_ok s a (Again l k u) v e pl = looked_again_ok s a l k u (s.locks l) v e pl refl
 step_ok s a (Lock []) v e pl = stamped_ok s a v e pl
 step_ok s a (Lock (l ∷ ls)) v e pl = to_lock_ok s a l ls (s.locks l) v e pl
-step_ok s a (Take l k ls) v e pl = exchanged_ok s a l k ls (s.locks l) v e pl refl
+step_ok s a (Take l k ls) v e pl = tried_ok s a l k ls (s.locks l) v e pl refl
 step_ok s a (Check []) v e pl = moved_none s a v
 step_ok s a (Check (l ∷ ls)) v e pl = checked_ok s a l ls (s.locks l) (lookup (s.actors a).held l) v e pl refl refl
 step_ok s a Broken v e pl = moved_none s a v
@@ -125,3 +132,10 @@ begins_at s a v e =
 
 pub idle_holds_none : (s : World) (a : ℕ) → Inv s → (s.actors a).place ≡ Idle → (s.actors a).held ≡ []
 idle_holds_none s a v e = (let h : PlaceOk s (s.actors a) Idle = subst (PlaceOk s (s.actors a)) e (v.actors a).place in h)
+
+-- every world that a schedule reaches is as the invariant says
+pub reached : (clock : ℕ) (memory : Memory) (events : List Event) → Inv (run events (start clock memory))
+reached clock memory events = run_ok events (start clock memory) (start_ok clock memory)
+
+pub opened_at : (clock : ℕ) (memory : Memory) (events : List Event) → (run events (start clock memory)).opening ≡ memory
+opened_at clock memory events = run-opening events (start clock memory) (start_ok clock memory)

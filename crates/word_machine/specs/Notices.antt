@@ -1,7 +1,13 @@
 -- What the steps answer.
-use Rattle.std.specs.Prelude.{◌≡◌, ℕ, ◌+◌, ◌*◌, length, Option, Some, None, List, [], ◌∷◌, ◌==◌, nat_le, nat_lt, if◌then◌else◌}
-use Rattle.word_machine.specs.Words.{LockWord, Free, Locked, bits, Entries, lookup, Place, Idle, Begin, Open, Look, Fetch, Again, Lock, Take, Check, Broken, First, Store, Release, Undo, Leave, Close, Actor, World, Event, Ask, Step, clock_limit}
+use Rattle.std.specs.Prelude.{ℕ, ◌+◌, Option, Some, None, List, [], ◌∷◌, ◌==◌, nat_le, nat_lt, if◌then◌else◌}
+use Rattle.vlock_word.specs.declared.lock_word.LockWord.{LockWord}
+use Rattle.vlock_word.specs.declared.lock_word.LockWord.TheVariants.{Free, Locked}
+use Rattle.vlock_word.specs.LockWord.{bits}
+use Rattle.word_machine.specs.Entries.{Entries, lookup}
+use Rattle.word_machine.specs.Actor.{Place, Idle, Begin, Open, Look, Fetch, Again, Lock, Take, Check, Broken, First, Store, Release, Undo, Leave, Close, Actor, clock_limit}
+use Rattle.word_machine.specs.World.{World}
 
+-- What a step answers to its request. A refusal carries the location and the word that the step found.
 pub data Notice : Type 0 where
   Quiet NoTransaction : Notice
   Begun : (rv : ℕ) → Notice
@@ -18,18 +24,26 @@ IsConflict (Busy l w) = Unit {0}
 IsConflict (Invalid l w) = Unit {0}
 IsConflict n = ⊥
 
+-- no transaction begins at the limit of the clock
+abbrev pub begin_notice : ℕ → Notice
+begin_notice clock = if nat_lt clock clock_limit then Begun clock else Exhausted clock
+
+-- a read is moved by a word that is locked or newer than its transaction
 abbrev pub look_notice : ℕ → ℕ → LockWord → Notice
 look_notice rv l (Free k) = if nat_le k rv then Quiet else Moved l (bits (Free k))
 look_notice rv l (Locked k) = Moved l (bits (Locked k))
 
+-- and by one that differs from the first load
 abbrev pub again_notice : ℕ → ℕ → ℕ → LockWord → Notice
 again_notice l k v (Free j) = if j == k then Number v else Moved l (bits (Free j))
 again_notice l k v (Locked j) = Moved l (bits (Locked j))
 
+-- a lock is busy where it is taken
 abbrev pub lock_notice : ℕ → LockWord → Notice
 lock_notice l (Free k) = Quiet
 lock_notice l (Locked k) = Busy l (bits (Locked k))
 
+-- and where it has changed since
 abbrev pub take_notice : ℕ → ℕ → LockWord → Notice
 take_notice l k (Free j) = if j == k then Quiet else Busy l (bits (Free j))
 take_notice l k (Locked j) = Busy l (bits (Locked j))
@@ -39,10 +53,12 @@ abbrev pub when_none_left : {A : Type 0} → List A → Notice → Notice
 when_none_left [] n = n
 when_none_left (x ∷ xs) n = Quiet
 
+-- all entries but the first
 abbrev pub rest : Entries → Entries
 rest [] = []
 rest (e ∷ es) = es
 
+-- the check fails at a word that is newer than its transaction, or locked by another
 abbrev pub check_notice : ℕ → ℕ → ℕ → List ℕ → LockWord → Option ℕ → Notice
 check_notice rv wv l ls (Free k) own = if nat_le k rv then when_none_left ls (LockedAt wv) else Invalid l (bits (Free k))
 check_notice rv wv l ls (Locked k) (Some old) = if nat_le k rv then when_none_left ls (LockedAt wv) else Invalid l (bits (Locked k))
@@ -56,7 +72,7 @@ undo_notice (e ∷ es) = when_none_left es Cancelled
 -- what the next step of an actor answers
 abbrev pub notice : World → Actor → Place → Notice
 notice s x Idle = NoTransaction
-notice s x Begin = if nat_lt s.clock clock_limit then Begun s.clock else Exhausted s.clock
+notice s x Begin = begin_notice s.clock
 notice s x Open = NoTransaction
 notice s x (Look l) = look_notice x.rv l (s.locks l)
 notice s x (Fetch l k) = Quiet
@@ -74,30 +90,3 @@ notice s x Release = when_none_left (rest x.held) Released
 notice s x Undo = undo_notice x.held
 notice s x Leave = Closed
 notice s x Close = Closed
-
--- only a steps; others may ask
-abbrev pub IsAlone : ℕ → List Event → Type 0
-IsAlone a [] = Unit {0}
-IsAlone a (Ask b request ∷ es) = IsAlone a es
-IsAlone a (Step b ∷ es) = (b ≡ a) × IsAlone a es
-
-abbrev pub IsFree : LockWord → Type 0
-IsFree (Free k) = Unit {0}
-IsFree (Locked k) = ⊥
-
--- how many of its own steps a request takes at most
-abbrev pub steps_left : Actor → Place → ℕ
-steps_left x Begin = 1
-steps_left x (Look l) = 3
-steps_left x (Fetch l k) = 2
-steps_left x (Again l k v) = 1
-steps_left x (Lock ls) = 2 * length ls + 1 + length x.reads
-steps_left x (Take l k ls) = 2 * length ls + 2 + length x.reads
-steps_left x (Check ls) = length ls
-steps_left x First = 1 + length (rest x.writes)
-steps_left x (Store ls) = length ls
-steps_left x Release = 1 + length (rest x.held)
-steps_left x Undo = length x.held
-steps_left x Leave = 1
-steps_left x Close = 1
-steps_left x p = 0

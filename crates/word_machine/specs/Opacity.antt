@@ -1,6 +1,7 @@
 -- What TL2 promises of its committed, open and aborted transactions.
 use Rattle.std.specs.Prelude.{◌≡◌, ℕ, ◌≤◌, false, List, [], ◌∷◌, nat_le, if◌then◌else◌}
-use Rattle.word_machine.specs.Words.{Memory, put, Call, Read, Write, Place, Store, Release, Record, Ended, World, Event, Ask, Step, run, start}
+use Rattle.word_machine.specs.Actor.{Call, Read, Write, Place, Store, Release}
+use Rattle.word_machine.specs.World.{Memory, put, Record, Ended, World, Event, Ask, Step, run, start}
 
 -- the memory after the calls
 unfoldable pub after : Memory → List Call → Memory

@@ -1,82 +1,30 @@
-//! TL2 on words: a pure machine and its opacity, over every schedule.
+//! Transactional Locking II on words, as a machine that a contract can speak of.
+//!
+//! Transactions read and write words that several actors share. Each location has a value word and,
+//! beside it, a *versioned lock*: a number that says at which commit the value was written, and
+//! whether a commit holds it just now. One more word is the *version clock*.
+//!
+//! A transaction begins by a load of the clock, its *read version* (`rv`). It reads a location by
+//! three loads, of the lock word, the value, and the lock word again; the value counts only if the
+//! lock was free, unchanged, and not newer than `rv`. What it writes it keeps in its *write set*.
+//! Its commit locks the write set in the order of the locations, advances the clock to its *write
+//! version* (`wv`), checks that nothing that it read is newer than `rv`, stores its values, and
+//! releases its locks with the version `wv`. A transaction that writes nothing takes no lock: it
+//! commits by one load of the clock, and counts as of `rv`.
+//!
+//! The machine is pure. An *event* is a request of an actor, or its next *atomic step*: one load,
+//! store, compare_exchange or fetch_add of one word. A *schedule* is a list of events, and any such
+//! list may happen. `specs/Actor.antt` has an actor's own record and what each step makes of it by
+//! the word that it found, `specs/Requests.antt` what a request makes of it, and `specs/World.antt`
+//! the words, the actors and the history. There are no limits in it: neither on actors and
+//! locations nor on the sizes of sets, and what a running machine refuses is no event.
+//!
+//! The module [`laws`] says what holds after every schedule: *opacity*, that the committed
+//! transactions are a serial run and that no transaction, committed or not, ever saw anything but
+//! the memory of one moment of that run.
+//!
+//! Source: Dice, Shalev and Shavit, Transactional Locking II, DISC 2006; for opacity, Guerraoui and
+//! Kapałka, On the Correctness of Transactional Memory, PPoPP 2008.
 #![tactic(auto)]
 
-ghost use Rattle.std.specs.Prelude.{◌≡◌, ◌≢◌, ◌<◌, [], ℕ, List, Some};
-ghost use Rattle.word_machine.specs.Words.{
-  Memory,
-  Event,
-  Ask,
-  Step,
-  Request,
-  Begin,
-  Open,
-  Idle,
-  happens,
-  lookup,
-  run,
-  World,
-  Cell,
-  cell,
-  word_of,
-};
-ghost use Rattle.word_machine.specs.Notices.{IsAlone, IsConflict, IsFree, notice, steps_left};
-ghost use Rattle.word_machine.specs.Opacity.{
-  IsRun,
-  IsInOrder,
-  IsLegal,
-  IsNoneHalfDone,
-  AllEnded,
-  AllUpto,
-  actor_of,
-  after_events,
-  memory_at,
-  memory_after,
-};
-
-/// TL2's opacity, over every schedule of any number of actors.
-///
-/// The committed transactions, in the order of their numbers, are a run of the words. Each other
-/// transaction saw the memory of the number at which it began, and this stays so. Where no commit
-/// is half done the words hold what the run leaves. A word that a transaction holds is changed by
-/// no other. A transaction begins at a number that is not below one committed before. A step changes
-/// at most the one word that its actor's place names, and a request none. A transaction beside which
-/// no other steps, and which begins with every lock free, is refused for no conflict. Each own
-/// step of a request brings it nearer to its answer, whatever others do, and an idle actor holds no lock.
-pub fn opacity()
-    ensures in_order { (clock : ℕ) (memory : Memory) (events : List Event) → IsInOrder (after_events clock memory events).history }
-    ensures serial { (clock : ℕ) (memory : Memory) (events : List Event) → IsRun memory (after_events clock memory events).history }
-    ensures saw { (clock : ℕ) (memory : Memory) (events later : List Event) (a : ℕ) →
-        let s = after_events clock memory events in
-        IsLegal (memory_at (run later s) (s.actors a).rv) (s.actors a).calls }
-    ensures aborted { (clock : ℕ) (memory : Memory) (events : List Event) →
-        let s = after_events clock memory events in
-        AllEnded (λ e. IsLegal (memory_at s e.rv) e.calls) s.aborted }
-    ensures words { (clock : ℕ) (memory : Memory) (events : List Event) →
-        let s = after_events clock memory events in
-        IsNoneHalfDone s → (l : ℕ) → s.values l ≡ memory_after memory s.history l }
-    ensures owned { (clock : ℕ) (memory : Memory) (events : List Event) (event : Event) (a l k : ℕ) →
-        let s = after_events clock memory events in
-        lookup (s.actors a).held l ≡ Some k → a ≢ actor_of event →
-        ((happens s event).locks l ≡ s.locks l) × ((happens s event).values l ≡ s.values l) }
-    ensures begins { (clock : ℕ) (memory : Memory) (events : List Event) (a : ℕ) →
-        let s = after_events clock memory events in
-        (s.actors a).place ≡ Begin →
-        ((happens s (Step a)).actors a).place ≡ Open →
-        AllUpto ((happens s (Step a)).actors a).rv s.history }
-    ensures alone { (clock : ℕ) (memory : Memory) (events later : List Event) (a : ℕ) →
-        let s = after_events clock memory events in
-        let t = run later s in
-        (s.actors a).place ≡ Begin → ((l : ℕ) → IsFree (s.locks l)) → IsAlone a later →
-        IsConflict (notice t (t.actors a) (t.actors a).place) → ⊥ }
-    ensures progress { (clock : ℕ) (memory : Memory) (events : List Event) (a : ℕ) →
-        let s = after_events clock memory events in
-        let t = happens s (Step a) in
-        0 < steps_left (s.actors a) (s.actors a).place →
-        steps_left (t.actors a) (t.actors a).place < steps_left (s.actors a) (s.actors a).place }
-    ensures idle { (clock : ℕ) (memory : Memory) (events : List Event) (a : ℕ) →
-        let s = after_events clock memory events in
-        (s.actors a).place ≡ Idle → (s.actors a).held ≡ [] }
-    ensures one_word { (s : World) (a : ℕ) (word : Cell) →
-        word_of (s.actors a) (s.actors a).place ≢ Some word → cell (happens s (Step a)) word ≡ cell s word }
-    ensures ask_no_word { (s : World) (a : ℕ) (request : Request) (word : Cell) → cell (happens s (Ask a request)) word ≡ cell s word }
-{}
+pub mod laws;
