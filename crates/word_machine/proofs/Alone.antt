@@ -10,7 +10,7 @@ use Rattle.word_machine.specs.Requests.{Request, AskBegin, AskLock, AskStore, As
 use Rattle.word_machine.specs.World.{put, World, Event, Ask, Step, now, step, happens, run}
 use Rattle.word_machine.proofs.Worlds.{looked, looked_again, to_lock, tried, locked, checked, first, released, undone}
 use Rattle.word_machine.specs.Progress.{IsAlone, IsFree}
-use Rattle.word_machine.specs.Notices.{Notice, Quiet, Begun, Exhausted, Moved, Busy, Invalid, Number, LockedAt, Stored, Released, Cancelled, IsConflict, notice, look_notice, again_notice, lock_notice, take_notice, check_notice, when_none_left, undo_notice, rest}
+use Rattle.word_machine.specs.Notices.{Notice, Quiet, Begun, Exhausted, Moved, Busy, Invalid, Number, LockedAt, Stored, Released, Cancelled, IsConflict, notice, look_notice, again_notice, lock_notice, take_notice, check_notice, when_none_left, last_notice}
 use Rattle.word_machine.proofs.Sets.{Member, put-same, put_both, lookup-with_entry_same, lookup-with_entry_other, lookup-tail}
 use Rattle.word_machine.proofs.Invariant.{PlaceOk, Inv}
 use Rattle.word_machine.proofs.Quiet.{none_if, lookup-none}
@@ -133,6 +133,10 @@ quiet_list : {A : Type 0} → (xs : List A) (n : Notice) → (IsConflict n → �
 quiet_list [] n h = h
 quiet_list (x ∷ xs) n h = λ g. g
 
+last_quiet : (es : Entries) (n : Notice) → (IsConflict n → ⊥) → IsConflict (last_notice es n) → ⊥
+last_quiet [] n h = λ g. g
+last_quiet (e ∷ es) n h = quiet_list es n h
+
 -- a free word of the lock table, where this actor holds none of it
 free_word : (w : LockWord) (h : Entries) (l : ℕ) → IsFree w ⊎ ((k : ℕ) × (lookup h l ≡ Some k)) → lookup h l ≡ None → IsFree w
 free_word w h l f none = elim f [ inl q ↦ q | inr q ↦ (let z : Some q.0 ≡ None = sym q.1 ∙ none in absurd (let b : ⊥ = cc in b)) ]
@@ -227,12 +231,12 @@ back_alone s a f fs v p ok has pl =
       place = pl;
     })
 
-released_alone : (s : World) (a : ℕ) (h : Entries) → AloneAt s a → (s.actors a).held ≡ h → Good s (released s a (s.actors a) h) a (when_none_left (rest h) Released)
+released_alone : (s : World) (a : ℕ) (h : Entries) → AloneAt s a → (s.actors a).held ≡ h → Good s (released s a (s.actors a) h) a (last_notice h Released)
 released_alone s a [] ok has = (ok, λ h. h)
 released_alone s a (f ∷ []) ok has = (back_alone s a f [] (s.actors a).wv Idle ok has tt, λ h. h)
 released_alone s a (f ∷ (g ∷ fs)) ok has = (back_alone s a f (g ∷ fs) (s.actors a).wv Release ok has tt, λ h. h)
 
-undone_alone : (s : World) (a : ℕ) (h : Entries) → AloneAt s a → (s.actors a).held ≡ h → Good s (undone s a (s.actors a) h) a (undo_notice h)
+undone_alone : (s : World) (a : ℕ) (h : Entries) → AloneAt s a → (s.actors a).held ≡ h → Good s (undone s a (s.actors a) h) a (last_notice h Cancelled)
 undone_alone s a [] ok has = (ok, λ h. h)
 undone_alone s a (f ∷ fs) ok has = (back_alone s a f fs f.1 Undo ok has tt, quiet_list fs Cancelled (λ h. h))
 
@@ -265,7 +269,7 @@ step_alone s a (Take l k ls) v ok pl pk = take_alone s a l k ls (s.locks l) ok p
 step_alone s a (Check []) v ok pl pk = (ok, λ h. h)
 step_alone s a (Check (l ∷ ls)) v ok pl pk = check_alone s a l ls (s.locks l) (lookup (s.actors a).held l) ok pl refl refl
 step_alone s a Broken v ok pl pk = (ok, λ h. h)
-step_alone s a First v ok pl pk = (first_alone s a (s.actors a).writes ok, quiet_list (rest (s.actors a).writes) Stored (λ h. h))
+step_alone s a First v ok pl pk = (first_alone s a (s.actors a).writes ok, last_quiet (s.actors a).writes Stored (λ h. h))
 step_alone s a (Store []) v ok pl pk = (ok, λ h. h)
 step_alone s a (Store (l ∷ ls)) v ok pl pk = (alone_put s.locks s.actors a (goes (s.actors a) (Store ls)) (goes_alone s.locks (s.actors a) (Store ls) ok tt), quiet_list ls Stored (λ h. h))
 step_alone s a Release v ok pl pk = released_alone s a (s.actors a).held ok refl

@@ -4,7 +4,7 @@ use Rattle.vlock_word.specs.declared.lock_word.LockWord.{LockWord}
 use Rattle.vlock_word.specs.declared.lock_word.LockWord.TheVariants.{Locked}
 use Rattle.word_machine.specs.Entries.{Entries, lookup, value_or}
 use Rattle.word_machine.specs.Actor.{Place, Idle, Broken, Store, Actor, goes, seen, seen_again, seen_to_lock, taken, stamped_at, seen_in_check, freed}
-use Rattle.word_machine.specs.World.{Memory, put, World, insert, now, does, noted, exchanged, first_store, release, undo, StoreValue, StoreLock, Commits}
+use Rattle.word_machine.specs.World.{Memory, put, World, insert, now, does, noted, exchanged, first_store, release, undo, StoreValue, StoreLock, first_outcome}
 
 abbrev pub looked : World → ℕ → Actor → ℕ → LockWord → World
 looked s a x l w = now s a (seen x l w)
@@ -35,7 +35,7 @@ commits s a x values ls =
     }
 
 abbrev pub first : World → ℕ → Actor → Entries → World
-first s a x w = noted (does s a (first_store x w)) (Commits (record { actor = a; number = x.wv; writer = true; calls = x.calls }))
+first s a x w = noted (does s a (first_store x w)) (first_outcome a x w)
 
 abbrev pub stored : World → ℕ → Actor → ℕ → List ℕ → World
 stored s a x l ls = does s a (StoreValue l (value_or (lookup x.writes l) 0) (goes x (Store ls)))

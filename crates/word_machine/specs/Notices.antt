@@ -5,6 +5,7 @@ use Rattle.vlock_word.specs.declared.lock_word.LockWord.TheVariants.{Free, Locke
 use Rattle.vlock_word.specs.LockWord.{bits}
 use Rattle.word_machine.specs.Entries.{Entries, lookup}
 use Rattle.word_machine.specs.Actor.{Place, Idle, Begin, Open, Look, Fetch, Again, Lock, Take, Check, Broken, First, Store, Release, Undo, Leave, Close, Actor, clock_limit}
+use Rattle.word_machine.specs.Requests.{Request, AskRead, AskWrite, AskCancel, AskAbort}
 use Rattle.word_machine.specs.World.{World}
 
 -- What a step answers to its request. A refusal carries the location and the word that the step found.
@@ -13,7 +14,7 @@ pub data Notice : Type 0 where
   Begun : (rv : ℕ) → Notice
   Number : (value : ℕ) → Notice
   LockedAt : (wv : ℕ) → Notice
-  Stored Released Cancelled Closed : Notice
+  Written Stored Released Cancelled Closed : Notice
   Moved Busy Invalid : (location word : ℕ) → Notice
   Exhausted : (clock : ℕ) → Notice
 
@@ -53,21 +54,33 @@ abbrev pub when_none_left : {A : Type 0} → List A → Notice → Notice
 when_none_left [] n = n
 when_none_left (x ∷ xs) n = Quiet
 
--- all entries but the first
-abbrev pub rest : Entries → Entries
-rest [] = []
-rest (e ∷ es) = es
-
 -- the check fails at a word that is newer than its transaction, or locked by another
 abbrev pub check_notice : ℕ → ℕ → ℕ → List ℕ → LockWord → Option ℕ → Notice
 check_notice rv wv l ls (Free k) own = if nat_le k rv then when_none_left ls (LockedAt wv) else Invalid l (bits (Free k))
 check_notice rv wv l ls (Locked k) (Some old) = if nat_le k rv then when_none_left ls (LockedAt wv) else Invalid l (bits (Locked k))
 check_notice rv wv l ls (Locked k) None = Invalid l (bits (Locked k))
 
--- a cancel with no lock left is over
-abbrev pub undo_notice : Entries → Notice
-undo_notice [] = NoTransaction
-undo_notice (e ∷ es) = when_none_left es Cancelled
+-- the answer of the step that takes the first of these entries, where it is the last
+abbrev pub last_notice : Entries → Notice → Notice
+last_notice [] n = NoTransaction
+last_notice (e ∷ es) n = when_none_left es n
+
+-- what a request answers without a step, Quiet where it takes steps: a read of a word in a set
+abbrev pub read_reply : Option ℕ → Option ℕ → Notice
+read_reply (Some v) seen = Number v
+read_reply None (Some v) = Number v
+read_reply None None = Quiet
+
+-- a write, a cancel with no lock taken, and an abort in place of a begin
+abbrev pub reply : Actor → Place → Request → Notice
+reply x Open (AskRead l) = read_reply (lookup x.writes l) (lookup x.reads l)
+reply x Open (AskWrite l v) = Written
+reply x Begin AskAbort = Closed
+reply x (Lock ls) AskCancel = when_none_left x.held Cancelled
+reply x (Take l k ls) AskCancel = when_none_left x.held Cancelled
+reply x (Check ls) AskCancel = when_none_left x.held Cancelled
+reply x Broken AskCancel = when_none_left x.held Cancelled
+reply x p request = Quiet
 
 -- what the next step of an actor answers
 abbrev pub notice : World → Actor → Place → Notice
@@ -83,10 +96,10 @@ notice s x (Take l k ls) = take_notice l k (s.locks l)
 notice s x (Check []) = NoTransaction
 notice s x (Check (l ∷ ls)) = check_notice x.rv x.wv l ls (s.locks l) (lookup x.held l)
 notice s x Broken = NoTransaction
-notice s x First = when_none_left (rest x.writes) Stored
+notice s x First = last_notice x.writes Stored
 notice s x (Store []) = NoTransaction
 notice s x (Store (l ∷ ls)) = when_none_left ls Stored
-notice s x Release = when_none_left (rest x.held) Released
-notice s x Undo = undo_notice x.held
+notice s x Release = last_notice x.held Released
+notice s x Undo = last_notice x.held Cancelled
 notice s x Leave = Closed
 notice s x Close = Closed

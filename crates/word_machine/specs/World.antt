@@ -130,9 +130,14 @@ pub data Outcome : Type 0 where
   Commits : (r : Record) → Outcome
   Aborts : (e : Ended) → Outcome
 
--- a writer commits by its first value store, a reader by the load of the clock that ends it
+-- a writer commits by its first value store
+abbrev pub first_outcome : ℕ → Actor → Entries → Outcome
+first_outcome a x [] = GoesOn
+first_outcome a x (e ∷ es) = Commits (record { actor = a; number = x.wv; writer = true; calls = x.calls })
+
+-- a reader commits by the load of the clock that ends it
 abbrev pub outcome : ℕ → Actor → Place → Outcome
-outcome a x First = Commits (record { actor = a; number = x.wv; writer = true; calls = x.calls })
+outcome a x First = first_outcome a x x.writes
 outcome a x Close = Commits (record { actor = a; number = x.rv; writer = false; calls = x.calls })
 outcome a x Leave = Aborts (record { actor = a; rv = x.rv; calls = x.calls })
 outcome a x p = GoesOn
