@@ -1,7 +1,7 @@
 -- The value of a location in a set, found from the front.
 use Rattle.std.proofs.Common.{◌≡◌, ℕ, zero, suc, ◌+◌, ◌<◌, ◌≤◌, List, [], ◌∷◌, length, get_or, drop, Some, None, refl, sym, ap, ◌∙◌, arith, eqb, eq-eqb, ne_eqb, add-one}
 use Rattle.std.proofs.lemmas.Bool.{cond-true, cond-false}
-use Rattle.word_machine.specs.Words.{Entries, lookup}
+use Rattle.word_machine.specs.Entries.{Entries, lookup}
 
 pub lookup_here : (es : Entries) (i l : ℕ) (d : ℕ × ℕ) → i < length es → (get_or es i d).0 ≡ l → lookup (drop i es) l ≡ Some (get_or es i d).1
 unfolding lookup

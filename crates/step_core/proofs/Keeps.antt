@@ -2,18 +2,18 @@
 use Rattle.std.proofs.Common.{◌≡◌, ℕ, ◌+◌, ◌<◌, ◌≤◌, ◌^◌, ap, sym, refl, subst, arith, ◌∙◌, Vec}
 use Rattle.std.specs.Vec.{vec_len, vec_capacity}
 use Rattle.std.specs.List.{All}
-use Rattle.word_machine.specs.Words.{Entries, with_entry}
+use Rattle.word_machine.specs.Entries.{Entries, with_entry}
 use Rattle.step_core.proofs.Ranks.{All-with_entry}
-use Rattle.step_core.specs.Shown.{FitsPlace, Fits, Keeps, owed, due}
-use Rattle.step_core.specs.declared.Actor.{Actor}
-use Rattle.step_core.specs.declared.Place.TheVariants.{Open, Again, Lock, Take}
+use Rattle.step_core.specs.Sound.{FitsPlace, Fits, Keeps, owed, due}
+use Rattle.step_core.specs.declared.actor.Actor.{Actor}
+use Rattle.step_core.specs.declared.actor.Place.TheVariants.{Open, Again, Lock, Take}
 
 pub lock_keeps : (x : Actor) (l k i : ℕ) → x.place ≡ Lock i → i < vec_len x.writes → ((n : ℕ) → Fits n x → l < n) → k < 2 ^ 63
     → Keeps x (record { place = Take l k (i + 1); rv = x.rv; wv = x.wv; reads = x.reads; writes = x.writes; held = x.held; calls = x.calls; ready = x.ready })
 lock_keeps x l k i at_p inn below small = record {
   fits = λ n f. record { reads = f.reads; writes = f.writes; held = f.held; wv = f.wv; place = (below n f, small, omega (arith, subst (FitsPlace n x) at_p f.place, inn)) };
   owed = (let q = ap owed at_p in omega (arith, q));
-  due = refl;
+  due = (let q = ap due at_p in omega (arith, q));
 }
 
 pub read_keeps : (x y : Actor) (l k v : ℕ) → x.place ≡ Again l k v → y.place ≡ Open → y.wv ≡ x.wv → y.reads.items ≡ with_entry x.reads.items l v → y.writes.items ≡ x.writes.items → y.held.items ≡ x.held.items → Keeps x y
@@ -26,7 +26,7 @@ read_keeps x y l k v at_p at_q wv rs ws hs = record {
     place = subst (FitsPlace n y) (sym at_q) tt;
   });
   owed = (let q = ap owed at_p in let r = ap owed at_q in omega (arith, q, r));
-  due = ap due at_q;
+  due = (let q = ap due at_p in let r = ap due at_q in omega (arith, q, r));
 }
 
 pub take_keeps : (x y : Actor) (l k i : ℕ) → x.place ≡ Take l k i → y.place ≡ Lock i → y.wv ≡ x.wv → y.held.items ≡ with_entry x.held.items l k → vec_len y.held ≤ vec_len x.held + 1 → vec_capacity x.held ≤ vec_capacity y.held
@@ -40,5 +40,5 @@ take_keeps x y l k i at_p at_q wv hs len most rs ws w = record {
     place = subst (FitsPlace n y) (sym at_q) (omega (arith, pl.2, len, most, w));
   });
   owed = (let q = ap owed at_p in let r = ap owed at_q in omega (arith, q, r));
-  due = ap due at_q;
+  due = (let q = ap due at_p in let r = ap due at_q in omega (arith, q, r));
 }

@@ -2,27 +2,30 @@
 use Rattle.std.proofs.Common.{◌≡◌, ℕ, zero, suc, ◌+◌, ◌<◌, ◌≤◌, ◌^◌, List, [], ◌∷◌, ◌++◌, length, map, get_or, refl, sym, ap, ◌∙◌, subst, arith}
 use Rattle.std.specs.Vec.{vec_len, vec_capacity}
 use Rattle.std.specs.List.{All}
-use Rattle.std.specs.Prelude.{slice_index_or}
-use Rattle.word_machine.specs.Words as machine
-use Rattle.word_machine.specs.Words.{Free, start}
-use Rattle.step_core.specs.Deeds.{unbits, in_order}
-use Rattle.step_core.specs.Shown.{actor_of, record_of, blank, shown, Fits, owed, due, total, Sound, Shows, Reached}
-use Rattle.step_core.specs.Held.{IsHeld}
+use Rattle.std.specs.Prelude.{slice_index_or, replicate}
+
+use Rattle.vlock_word.specs.declared.lock_word.LockWord.TheVariants.{Free}
+use Rattle.word_machine.specs.World.{start}
+use Rattle.vlock_word.specs.LockWord.{unbits}
+use Rattle.word_machine.specs.World.{in_order}
+use Rattle.word_machine.specs.World.{blank}
+use Rattle.step_core.specs.Shown.{actor_of, record_of, shown, Shows, Reached}
+use Rattle.step_core.specs.Sound.{Fits, owed, due, total, Sound}
 use Rattle.step_core.specs.Blank.{IsBlank, AreBlank, AreZero}
-use Rattle.step_core.specs.declared.Place.{Place}
-use Rattle.step_core.specs.declared.Place.TheVariants.{Idle}
-use Rattle.step_core.specs.declared.WordRecord.{WordRecord}
-use Rattle.step_core.specs.declared.Actor.{Actor}
-use Rattle.step_core.specs.declared.Core.{Core}
-use Rattle.step_core.proofs.Bits.{unbits_free}
+use Rattle.step_core.specs.declared.actor.Place.{Place}
+use Rattle.step_core.specs.declared.actor.Place.TheVariants.{Idle}
+use Rattle.step_core.specs.declared.record.WordRecord.{WordRecord}
+use Rattle.step_core.specs.declared.actor.Actor.{Actor}
+use Rattle.step_core.specs.declared.machine.Machine.{Machine}
+use Rattle.vlock_word.proofs.LockWordLemmas.{unbits_free}
 
 pub AreBlank-push : (xs : List Actor) (x : Actor) → AreBlank xs → IsBlank x → AreBlank (xs ++ x ∷ [])
 AreBlank-push [] x a b = (b, tt)
 AreBlank-push (y ∷ ys) x a b = (a.0, AreBlank-push ys x a.1 b)
 
-pub AreZero-push : (xs : List ℕ) → AreZero xs → AreZero (xs ++ 0 ∷ [])
-AreZero-push [] a = (refl, tt)
-AreZero-push (y ∷ ys) a = (a.0, AreZero-push ys a.1)
+pub zeros_are : (n : ℕ) → AreZero (replicate n 0)
+zeros_are zero = tt
+zeros_are (suc n) = (refl, zeros_are n)
 
 zero_at : (xs : List ℕ) (l : ℕ) → AreZero xs → get_or xs l 0 ≡ 0
 zero_at [] zero a = refl
@@ -45,21 +48,19 @@ all_fit n [] b k d h = absurd (omega (arith, h))
 all_fit n (x ∷ xs) b zero d h = b.0.fits n
 all_fit n (x ∷ xs) b (suc k) d h = all_fit n xs b.1 k d (omega (arith, h))
 
-pub reached_opening : (w : Core) → AreZero w.locks.items → AreBlank w.actors.items → w.history.items ≡ [] → Reached (shown w)
-reached_opening w z b h = record {
-  clock = w.clock;
-  opening = λ l. get_or w.values.items l 0;
-  events = [];
-  shows = record {
-    clock = refl;
-    locks = λ l. sym (ap unbits (zero_at w.locks.items l z) ∙ unbits_free 0);
-    values = λ l. refl;
-    actors = λ a. sym (blank_at w.actors.items a b);
-    history = sym (ap (λ (z : List WordRecord). in_order [] (map record_of z)) h);
-  };
+pub shows_opening : (w : Machine) → AreZero w.locks.items → AreBlank w.actors.items → w.history.items ≡ [] → Shows (shown w) (start w.clock (λ l. get_or w.values.items l 0))
+shows_opening w z b h = record {
+  clock = refl;
+  locks = λ l. sym (ap unbits (zero_at w.locks.items l z) ∙ unbits_free 0);
+  values = λ l. refl;
+  actors = λ a. sym (blank_at w.actors.items a b);
+  history = sym (ap (λ (z : List WordRecord). in_order [] (map record_of z)) h);
 }
 
-pub sound_opening : (w : Core) → length w.values.items ≡ length w.locks.items → length w.actors.items ≡ 65 → AreBlank w.actors.items → w.clock ≤ 2 ^ 62 → vec_len w.history ≡ 0 → Sound w
+pub reached_opening : (w : Machine) → AreZero w.locks.items → AreBlank w.actors.items → w.history.items ≡ [] → Reached (shown w)
+reached_opening w z b h = record { clock = w.clock; opening = λ l. get_or w.values.items l 0; events = []; shows = shows_opening w z b h }
+
+pub sound_opening : (w : Machine) → length w.values.items ≡ length w.locks.items → length w.actors.items ≡ 65 → AreBlank w.actors.items → w.clock ≤ 2 ^ 62 → vec_len w.history ≡ 0 → Sound w
 sound_opening w same seats b low h = record {
   same = same;
   seats = seats;

@@ -3,8 +3,8 @@ use Rattle.std.proofs.Common.{◌≡◌, ℕ, zero, suc, ◌+◌, ◌<◌, ◌�
 use Rattle.std.specs.List.{insert, All}
 use Rattle.std.specs.Prelude.{◌==◌, if◌then◌else◌}
 use Rattle.std.proofs.lemmas.Bool.{cond-true, cond-false, cond_both}
-use Rattle.word_machine.specs.Words.{Entries, with_entry}
-use Rattle.step_core.specs.Deeds.{rank_of}
+use Rattle.word_machine.specs.Entries.{Entries, with_entry}
+use Rattle.step_core.specs.Ranks.{rank_of}
 
 pub rank_inside : (es : Entries) (l : ℕ) → rank_of es l ≤ length es
 rank_inside [] l = omega arith

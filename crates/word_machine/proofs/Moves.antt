@@ -1,10 +1,11 @@
 -- The steps that change a word, the clock or the history.
+use Rattle.std.specs.Prelude.{unwrap_or}
 use Rattle.std.proofs.Common.{◌≡◌, ℕ, ◌+◌, ◌-◌, ◌<◌, ◌≤◌, max, true, false, Option, Some, None, List, [], ◌∷◌, ◌⊎◌, inl, inr, refl, sym, ap, ◌∙◌, subst, arith, true≢false}
 use Rattle.std.proofs.lemmas.Bool.{cases_eq}
 use Rattle.vlock_word.specs.declared.lock_word.LockWord.{LockWord}
 use Rattle.vlock_word.specs.declared.lock_word.LockWord.TheVariants.{Free, Locked}
 use Rattle.vlock_word.specs.LockWord.{version_of}
-use Rattle.word_machine.specs.Entries.{Entries, lookup, with_entry, locations, value_or}
+use Rattle.word_machine.specs.Entries.{Entries, lookup, with_entry, locations}
 use Rattle.word_machine.specs.Actor.{Call, Place, Idle, Lock, Take, Check, First, Store, Release, Undo, Close, Actor, goes}
 use Rattle.word_machine.specs.World.{Memory, put, Record, World, insert}
 use Rattle.word_machine.proofs.Worlds.{locked, stamped, commits, first, stored, gives_back, released, undone, closed}
@@ -251,7 +252,7 @@ stored_ok s a l ls v e pl =
     let x = s.actors a in
     let d = pl.0 in
     let y : Actor = goes x (Store ls) in
-    let u : ℕ = value_or (lookup x.writes l) 0 in
+    let u : ℕ = unwrap_or (lookup x.writes l) 0 in
     let words : Memory = put s.values l u in
     let t : World = next s a y s.clock s.locks words s.history s.aborted in
     let hold = pl.1 l (inl refl) in
@@ -281,7 +282,7 @@ stored_ok s a l ls v e pl =
                 f.1,
                 f.2,
                 elim (cases_eq i l) [
-                  | inl q ↦ inl (ap words q ∙ put-same s.values l u ∙ ap (λ (z : Option ℕ). value_or z 0) (ap (lookup x.writes) (sym q) ∙ f.1))
+                  | inl q ↦ inl (ap words q ∙ put-same s.values l u ∙ ap (λ (z : Option ℕ). unwrap_or z 0) (ap (lookup x.writes) (sym q) ∙ f.1))
                   | inr ne ↦ elim f.3 [
                     | inl g ↦ inl (put-other s.values l u i ne ∙ g)
                     | inr (inl q) ↦ absurd (ne q)

@@ -1,8 +1,9 @@
 -- The world after each kind of step, by the word that it found.
+use Rattle.std.specs.Prelude.{unwrap_or}
 use Rattle.std.proofs.Common.{ℕ, ◌+◌, true, false, Option, List, [], ◌∷◌, ◌++◌}
 use Rattle.vlock_word.specs.declared.lock_word.LockWord.{LockWord}
 use Rattle.vlock_word.specs.declared.lock_word.LockWord.TheVariants.{Locked}
-use Rattle.word_machine.specs.Entries.{Entries, lookup, value_or}
+use Rattle.word_machine.specs.Entries.{Entries, lookup}
 use Rattle.word_machine.specs.Actor.{Place, Idle, Broken, Store, Actor, goes, seen, seen_again, seen_to_lock, taken, stamped_at, seen_in_check, freed}
 use Rattle.word_machine.specs.World.{Memory, put, World, insert, now, does, noted, exchanged, first_store, release, undo, StoreValue, StoreLock, first_outcome}
 
@@ -38,7 +39,7 @@ abbrev pub first : World → ℕ → Actor → Entries → World
 first s a x w = noted (does s a (first_store x w)) (first_outcome a x w)
 
 abbrev pub stored : World → ℕ → Actor → ℕ → List ℕ → World
-stored s a x l ls = does s a (StoreValue l (value_or (lookup x.writes l) 0) (goes x (Store ls)))
+stored s a x l ls = does s a (StoreValue l (unwrap_or (lookup x.writes l) 0) (goes x (Store ls)))
 
 abbrev pub gives_back : World → ℕ → Actor → ℕ → LockWord → Entries → Place → World
 gives_back s a x l word rest p = does s a (StoreLock l word (freed x rest p))

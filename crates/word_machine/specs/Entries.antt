@@ -22,8 +22,3 @@ with_entry (e ∷ es) l v =
 unfoldable pub locations : Entries → List ℕ
 locations [] = []
 locations (e ∷ es) = e.0 ∷ locations es
-
--- a number, or the one in its place
-abbrev pub value_or : Option ℕ → ℕ → ℕ
-value_or (Some v) d = v
-value_or None d = d

@@ -1,8 +1,8 @@
 -- TL2 on words: any number of actors over a clock, lock words and value words, one atomic step at a time.
-use Rattle.std.specs.Prelude.{ℕ, ◌+◌, Bool, true, false, List, [], ◌∷◌, ◌++◌, ◌==◌, nat_lt, if◌then◌else◌}
+use Rattle.std.specs.Prelude.{ℕ, ◌+◌, Bool, true, false, List, [], ◌∷◌, ◌++◌, ◌==◌, nat_lt, unwrap_or, if◌then◌else◌}
 use Rattle.vlock_word.specs.declared.lock_word.LockWord.{LockWord}
 use Rattle.vlock_word.specs.declared.lock_word.LockWord.TheVariants.{Free, Locked}
-use Rattle.word_machine.specs.Entries.{Entries, lookup, locations, value_or}
+use Rattle.word_machine.specs.Entries.{Entries, lookup, locations}
 use Rattle.word_machine.specs.Actor.{Call, Place, Idle, Begin, Open, Look, Fetch, Again, Lock, Take, Check, Broken, First, Store, Release, Undo, Leave, Close, Actor, goes, begun, seen, seen_again, seen_to_lock, taken, stamped_at, seen_in_check, freed, after_release}
 use Rattle.word_machine.specs.Requests.{Request, ask}
 
@@ -98,7 +98,7 @@ plan x (Check (l ∷ ls)) = LoadLock l (λ w. seen_in_check x ls w (lookup x.hel
 plan x Broken = Rests
 plan x First = first_store x x.writes
 plan x (Store []) = Rests
-plan x (Store (l ∷ ls)) = StoreValue l (value_or (lookup x.writes l) 0) (goes x (Store ls))
+plan x (Store (l ∷ ls)) = StoreValue l (unwrap_or (lookup x.writes l) 0) (goes x (Store ls))
 plan x Release = release x x.held
 plan x Undo = undo x x.held
 plan x Leave = LoadClock (λ clock. goes x Idle)
