@@ -42,3 +42,13 @@ take_keeps x y l k i at_p at_q wv hs len most rs ws w = record {
   owed = (let q = ap owed at_p in let r = ap owed at_q in omega (arith, q, r));
   due = (let q = ap due at_p in let r = ap due at_q in omega (arith, q, r));
 }
+
+-- a write in the write set
+pub write_fits : (n : ℕ) (x y : Actor) (l v : ℕ) → x.place ≡ Open → l < n → y.writes.items ≡ with_entry x.writes.items l v → Fits n x → y.place ≡ x.place → y.wv ≡ x.wv → y.reads.items ≡ x.reads.items → y.held.items ≡ x.held.items → Fits n y
+write_fits n x y l v at_p below ws f same wv rs hs = record {
+  reads = subst (All (λ (e : ℕ × ℕ). e.0 < n)) (sym rs) f.reads;
+  writes = subst (All (λ (e : ℕ × ℕ). e.0 < n)) (sym ws) (All-with_entry (λ (e : ℕ × ℕ). e.0 < n) x.writes.items l v below f.writes);
+  held = subst (All (λ (e : ℕ × ℕ). (e.0 < n) × (e.1 < 2 ^ 63))) (sym hs) f.held;
+  wv = subst (λ (z : ℕ). z < 2 ^ 63) (sym wv) f.wv;
+  place = subst (FitsPlace n y) (sym (same ∙ at_p)) tt;
+}

@@ -1,5 +1,5 @@
 -- Steps of the running words are steps of the machine.
-use Rattle.std.proofs.Common.{◌≡◌, ℕ, zero, suc, ◌+◌, ◌<◌, ◌≤◌, ◌^◌, List, [], ◌∷◌, ◌++◌, Some, None, Ok, Err, Option, Result, length, map, get_or, set, refl, sym, ap, ◌∙◌, subst, inl, inr, arith, drop, Bool, true, false, ltb, ltb-true, eqb, eq-eqb, ne_eqb, ◌*◌, get_or-set_same, get_or-set_other}
+use Rattle.std.proofs.Common.{◌≡◌, ℕ, zero, suc, ◌+◌, ◌<◌, ◌≤◌, ◌^◌, List, [], ◌∷◌, ◌++◌, Some, None, Ok, Err, IfOk, OnErr, Option, Result, length, map, get_or, set, refl, sym, ap, ◌∙◌, subst, inl, inr, arith, drop, Bool, true, false, ltb, ltb-true, eqb, eq-eqb, ne_eqb, ◌*◌, get_or-set_same, get_or-set_other}
 use Rattle.std.specs.Prelude.{unwrap_or, slice_get, slice_set, nat_lt, if◌then◌else◌}
 use Rattle.std.specs.Vec.{vec_len, vec_capacity, with_item}
 use Rattle.std.specs.List.{All}
@@ -57,7 +57,7 @@ some_at (y ∷ ys) (suc i) h = some_at ys i (omega (arith, h))
 pub All-at : {X : Type 0} → (P : X → Type 0) (xs : List X) (i : ℕ) (x : X) → All P xs → slice_get xs i ≡ Some x → P x
 All-at P xs i x a h = subst P (get_or_from_slice_get xs i x x h) (a i x (inside xs i x h))
 
-actor_at_go : (xs : List Actor) (a : ℕ) (x : Actor) → slice_get xs a ≡ Some x → get_or (map actor_of xs) a blank ≡ actor_of x
+pub actor_at_go : (xs : List Actor) (a : ℕ) (x : Actor) → slice_get xs a ≡ Some x → get_or (map actor_of xs) a blank ≡ actor_of x
 actor_at_go [] a x h = absurd (let z : None ≡ Some x = h in cc)
 actor_at_go (y ∷ ys) zero x h = ap actor_of (let z : Some y ≡ Some x = h in let q : y ≡ x = cc in q)
 actor_at_go (y ∷ ys) (suc a) x h = actor_at_go ys a x h
@@ -425,6 +425,11 @@ reached_step v u a r h st = record {
   events = h.events ++ Step a ∷ [];
   shows = subst (Shows u) (sym (run_append h.events (Step a) (start h.clock h.opening))) (st (run h.events (start h.clock h.opening)) h.shows).0;
 }
+
+-- a request that is answered is one event, and one that is refused none
+pub reached_asked : (v u : Shown) (a : ℕ) (q : Request) (r : Answer) → Reached v → IfOk r (λ answer. Asks v a q u answer) → OnErr r (u ≡ v) → Reached u
+reached_asked v u a q (Ok answer) h asked same = reached_ask v u a q answer h asked
+reached_asked v u a q (Err e) h asked same = subst Reached (sym same) h
 
 -- who has no seat takes no step
 pub beyond_steps : (v : Shown) (a : ℕ) → length v.actors ≤ a → Steps v a v (Err refusal.NoTransaction)

@@ -1,9 +1,8 @@
 -- The words as they open.
-use Rattle.std.proofs.Common.{◌≡◌, ℕ, zero, suc, ◌+◌, ◌<◌, ◌≤◌, ◌^◌, List, [], ◌∷◌, ◌++◌, length, map, get_or, refl, sym, ap, ◌∙◌, subst, arith}
+use Rattle.std.proofs.Common.{Result, Ok, Err, IfOk, Vec, Global, ◌≡◌, ℕ, zero, suc, ◌+◌, ◌<◌, ◌≤◌, ◌^◌, List, [], ◌∷◌, ◌++◌, length, map, get_or, refl, sym, ap, ◌∙◌, subst, arith}
 use Rattle.std.specs.Vec.{vec_len, vec_capacity}
 use Rattle.std.specs.List.{All}
 use Rattle.std.specs.Prelude.{slice_index_or, replicate}
-
 use Rattle.vlock_word.specs.declared.lock_word.LockWord.TheVariants.{Free}
 use Rattle.word_machine.specs.World.{start}
 use Rattle.vlock_word.specs.LockWord.{unbits}
@@ -26,6 +25,11 @@ AreBlank-push (y ∷ ys) x a b = (a.0, AreBlank-push ys x a.1 b)
 pub zeros_are : (n : ℕ) → AreZero (replicate n 0)
 zeros_are zero = tt
 zeros_are (suc n) = (refl, zeros_are n)
+
+-- what a vector of zeros holds, where a number's clone is the number
+pub all_zero : {E : Type 0} → (n : ℕ) (r : Result (Vec ℕ Global) E) → IfOk r (λ v. ((y : ℕ) → y ≡ 0 → y ≡ 0) → v.items ≡ replicate n 0) → IfOk r (λ v. AreZero v.items)
+all_zero n (Ok v) h = subst AreZero (sym (h (λ y e. e))) (zeros_are n)
+all_zero n (Err e) h = h
 
 zero_at : (xs : List ℕ) (l : ℕ) → AreZero xs → get_or xs l 0 ≡ 0
 zero_at [] zero a = refl

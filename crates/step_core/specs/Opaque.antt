@@ -1,14 +1,12 @@
 -- What holds of the running words, by whatever schedule they were reached.
-use Rattle.std.specs.Prelude.{◌≡◌, ℕ, ◌≢◌, List, [], Some, get_or, Option, Result, Ok}
+use Rattle.std.specs.Prelude.{◌≡◌, ℕ, ◌≢◌, List, [], Some, get_or}
 use Rattle.word_machine.specs.Entries.{lookup}
+use Rattle.word_machine.specs.Actor.{Begin, Open}
 use Rattle.word_machine.specs.World.{Memory, run, start, in_order}
 use Rattle.word_machine.specs.Opacity.{IsRun, IsInOrder, IsLegal, IsHalfDone, AllEnded, AllUpto, memory_after, memory_at, upto}
 use Rattle.step_core.specs.Shown.{Shown, shown, actor_in, Reached}
 use Rattle.step_core.specs.Sound.{Sound}
 use Rattle.step_core.specs.declared.words.Words.TheInside.{Inside}
-use Rattle.step_core.specs.declared.answer.WordAnswer.{WordAnswer}
-use Rattle.step_core.specs.declared.answer.WordAnswer.TheVariants.{Begun}
-use Rattle.step_core.specs.declared.answer.WordRefusal.{WordRefusal}
 
 -- what callers see of the fields
 abbrev pub shown_in : Inside → Shown
@@ -31,7 +29,7 @@ IsAtRest v = (a : ℕ) → IsHalfDone (actor_in v a).place → ⊥
 -- commit is half done. Each transaction, open, committed or aborted, saw the words of the number at which it began.
 pub record Opaque (v : Shown) : Type 0 where
   pub reached : Reached v
-  pub in_order : IsInOrder (in_order [] v.history)
+  pub ordered : IsInOrder (in_order [] v.history)
   pub serial : (r : Reached v) → IsRun r.opening (in_order [] v.history)
   pub words : (r : Reached v) → IsAtRest v → (l : ℕ) → get_or v.values l 0 ≡ memory_after r.opening (in_order [] v.history) l
   pub saw : (r : Reached v) (a : ℕ) → IsLegal (words_at r.opening v (actor_in v a).rv) (actor_in v a).calls
@@ -47,5 +45,5 @@ KeepsOthers v a u =
     (b l k : ℕ) → lookup (actor_in v b).held l ≡ Some k → b ≢ a → (get_or u.locks l 0 ≡ get_or v.locks l 0) × (get_or u.values l 0 ≡ get_or v.values l 0)
 
 -- a transaction begins at a number that is not below any committed before
-abbrev pub BeginsAbove : Shown → Result (Option WordAnswer) WordRefusal → Type 0
-BeginsAbove v r = (rv : ℕ) → r ≡ Ok (Some (Begun rv)) → AllUpto rv (in_order [] v.history)
+abbrev pub BeginsAbove : Shown → ℕ → Shown → Type 0
+BeginsAbove v a u = (actor_in v a).place ≡ Begin → (actor_in u a).place ≡ Open → AllUpto (actor_in u a).rv (in_order [] v.history)

@@ -18,12 +18,11 @@ ghost use Rattle.step_core.specs.Sound.{Fits, Keeps, owed, due};
 ghost use Rattle.step_core.specs.declared.actor.Place.TheVariants.{Look, Fetch, Again, Lock, Take, Check, Store, Release, Undo};
 ghost use Rattle.step_core.specs.declared.answer.WordRefusal.TheVariants.{Invalid};
 
-use std::alloc::Global;
-use vlock_word::LockWord;
-
 use crate::answer::{WordAnswer, WordRefusal};
 use crate::entries::{find, put};
 use crate::record::WordCall;
+use std::alloc::Global;
+use vlock_word::LockWord;
 
 mod asks;
 
@@ -177,7 +176,12 @@ impl Actor {
     }
 
     /// The load of a lock word of the write set.
-    pub fn to_lock(&mut self, location: u32, i: usize, word: u64) -> Result<Option<WordAnswer>, WordRefusal>
+    pub fn to_lock(
+        &mut self,
+        location: u32,
+        i: usize,
+        word: u64,
+    ) -> Result<Option<WordAnswer>, WordRefusal>
         requires place { self.old.place ≡ Lock i }
         requires inside { i < vec_len self.old.writes }
         requires location { (n : ℕ) → Fits n self.old → location < n }
@@ -244,6 +248,7 @@ impl Actor {
 
     /// A check that failed.
     fn fail(&mut self, location: u32, word: u64) -> WordRefusal
+        requires due { due self.old.place ≡ 1 }
         ensures actor { actor_of self.new ≡ goes (actor_of self.old) machine.Broken }
         ensures answer { result ≡ Invalid location word }
         ensures keeps { Keeps self.old self.new }
@@ -253,7 +258,12 @@ impl Actor {
     }
 
     /// The load of a lock word of the read set.
-    pub fn check(&mut self, location: u32, i: usize, word: u64) -> Result<Option<WordAnswer>, WordRefusal>
+    pub fn check(
+        &mut self,
+        location: u32,
+        i: usize,
+        word: u64,
+    ) -> Result<Option<WordAnswer>, WordRefusal>
         requires place { self.old.place ≡ Check i }
         requires inside { i < vec_len self.old.reads }
         ensures actor { actor_of self.new ≡ seen_in_check (actor_of self.old) (drop (i + 1) (locations self.old.reads.items)) (unbits word) (lookup self.old.held.items location) }

@@ -51,27 +51,16 @@ pub enum WordAnswer {
 pub enum WordRefusal {
     /// A read found this lock word locked, newer than its transaction, or changed between two loads.
     #[error("Moved {location} {word}")]
-    Moved {
-        location: u32,
-        word: u64,
-    },
+    Moved { location: u32, word: u64 },
     /// A lock of the write set found this word taken or changed.
     #[error("Busy {location} {word}")]
-    Busy {
-        location: u32,
-        word: u64,
-    },
+    Busy { location: u32, word: u64 },
     /// The check of the read set found this word newer than the transaction, or locked by another.
     #[error("Invalid {location} {word}")]
-    Invalid {
-        location: u32,
-        word: u64,
-    },
+    Invalid { location: u32, word: u64 },
     /// No transaction begins at this reading of the clock, or above.
     #[error("Exhausted {clock}")]
-    Exhausted {
-        clock: u64,
-    },
+    Exhausted { clock: u64 },
     /// There is no such actor or location.
     #[error("NoSuch")]
     NoSuch,

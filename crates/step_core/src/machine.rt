@@ -4,24 +4,25 @@
 ghost use Rattle.std.specs.Prelude.{◌≡◌, ◌<◌, ◌≤◌, length, slice_get, Some, None, OnErr, IfOk, IfErr};
 ghost use Rattle.std.specs.Vec.{vec_len};
 ghost use Rattle.step_core.specs.Answers.{request_of};
-ghost use Rattle.step_core.specs.Shown.{shown, Steps, Asks, actor_in, snapshot_of};
-ghost use Rattle.step_core.specs.Phases.{refusal_at};
+ghost use Rattle.step_core.specs.Shown.{shown, Steps, Asks, actor_in, snapshot_of, refusal_of};
 ghost use Rattle.step_core.specs.Blank.{AreBlank, AreZero};
 ghost use Rattle.step_core.specs.Sound.{Sound, At};
 ghost use Rattle.step_core.specs.declared.actor.Actor.{Actor};
 ghost use Rattle.step_core.specs.declared.answer.WordRefusal.TheVariants.{OutOfMemory};
 ghost use Rattle.step_core.specs.declared.actor.Place.TheVariants.{Begin, Look, Fetch, Again, Lock, Take, Check, First, Store, Release, Undo, Leave, Close};
 
-use std::alloc::{AllocError, Global};
-use std::mem;
-
 use crate::actor::{Actor, Place};
 use crate::answer::{WordAnswer, WordRefusal, WordRequest};
 use crate::entries::find;
 use crate::record::WordRecord;
+use std::alloc::{AllocError, Global};
+use std::mem;
 
 /// The seats of the actors 1 to 64, and one that no actor takes, so that an actor's number is its index.
 const SEATS: usize = 65;
+
+/// The last actor.
+const LAST_ACTOR: usize = 64;
 
 /// The words, the actors and the history.
 #[derive(Drop)]
@@ -373,9 +374,12 @@ impl Machine {
 
     /// Why a request of an actor is refused, memory aside.
     pub fn refusal(&self, a: usize, request: WordRequest) -> Option<WordRefusal>
-        requires actor { a < length self.now.actors.items }
-        ensures { result ≡ refusal_at (length self.now.locks.items) (actor_in (shown self.now) a) (actor_in (shown self.now) a).place (request_of request) }
+        requires seats { length self.now.actors.items ≡ 65 }
+        ensures { result ≡ refusal_of (shown self.now) a (request_of request) }
     {
+        if a < 1 || a > LAST_ACTOR {
+            return Some(WordRefusal::NoSuch);
+        }
         let actor = &self.actors[a];
         actor.refusal(self.locks.len(), request)
     }
@@ -392,8 +396,7 @@ impl Machine {
     /// A request of an actor, which changes its own record alone.
     pub fn ask(&mut self, a: usize, request: WordRequest) -> Result<Option<WordAnswer>, WordRefusal>
         requires sound { Sound self.old }
-        requires actor { a < length self.old.actors.items }
-        requires allowed { refusal_at (length self.old.locks.items) (actor_in (shown self.old) a) (actor_in (shown self.old) a).place (request_of request) ≡ None }
+        requires allowed { refusal_of (shown self.old) a (request_of request) ≡ None }
         ensures asks { IfOk result (λ answer. Asks (shown self.old) a (request_of request) (shown self.new) answer) }
         ensures refused { IfErr result (λ refusal. refusal ≡ OutOfMemory) }
         ensures err { OnErr result (shown self.new ≡ shown self.old) }

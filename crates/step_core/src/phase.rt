@@ -44,7 +44,8 @@ impl Phase {
             (Phase::Locked, WordRequest::Store) => true,
             (Phase::Stored, WordRequest::Release) => true,
             (Phase::Locking | Phase::Locked | Phase::Broken, WordRequest::Cancel) => true,
-            (Phase::Reader | Phase::Writer | Phase::Waiting | Phase::Ended, WordRequest::Abort) => true,
+            (Phase::Reader | Phase::Writer | Phase::Waiting | Phase::Ended, WordRequest::Abort) =>
+                true,
             _ => false,
         }
     }

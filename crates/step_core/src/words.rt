@@ -1,17 +1,13 @@
 //! The running words, as callers see them.
+use crate::actor::CLOCK_LIMIT;
+use crate::answer::{WordAnswer, WordRefusal, WordRequest};
+use crate::machine::{Machine, seats, zeros};
+use crate::record::WordRecord;
 use std::alloc::Global;
 use std::marker::Model;
 
-use crate::actor::CLOCK_LIMIT;
-use crate::answer::{WordAnswer, WordRefusal, WordRequest};
-use crate::machine::{seats, zeros, Machine};
-use crate::record::WordRecord;
-
 /// The most locations.
 const LOCATIONS: usize = 65_536;
-
-/// The last actor.
-const LAST_ACTOR: usize = 64;
 
 /// A clock, a table of words, and 64 actors that run transactions on them, one atomic step at a time.
 #[derive(Drop)]
@@ -79,7 +75,11 @@ impl Words {
     /// `NoSuch` for a location that there is not, `TooLong` for one more than 4,096 in a set, in this
     /// order, and `OutOfMemory` where none of these holds and a growth was refused. A refused
     /// request changes nothing.
-    pub fn ask(&mut self, actor: u32, request: WordRequest) -> Result<Option<WordAnswer>, WordRefusal>
+    pub fn ask(
+        &mut self,
+        actor: u32,
+        request: WordRequest,
+    ) -> Result<Option<WordAnswer>, WordRefusal>
         ensures asks { IfOk result (λ answer. Asks self.old actor (request_of request) self.new answer) }
         ensures allowed { OnOk result (refusal_of self.old actor (request_of request) ≡ None) }
         ensures refused { IfErr result (λ refusal. IsRefusal (refusal_of self.old actor (request_of request)) refusal) }
@@ -87,9 +87,6 @@ impl Words {
         ensures reached { Reached self.new }
     {
         let a = actor as usize;
-        if a < 1 || a > LAST_ACTOR {
-            return Err(WordRefusal::NoSuch);
-        }
         if let Some(refusal) = self.machine.refusal(a, request) {
             return Err(refusal);
         }
@@ -103,7 +100,7 @@ impl Words {
     pub fn step(&mut self, actor: u32) -> Result<Option<WordAnswer>, WordRefusal>
         ensures steps { Steps self.old actor self.new result }
         ensures others { KeepsOthers self.old actor self.new }
-        ensures begins { BeginsAbove self.old result }
+        ensures begins { BeginsAbove self.old actor self.new }
         ensures reached { Reached self.new }
     {
         let a = actor as usize;
