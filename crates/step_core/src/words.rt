@@ -118,6 +118,13 @@ impl Words {
         &self.machine.history
     }
 
+    /// The words, as they stand.
+    pub fn values(&self) -> &[u64]
+        ensures { result.now ≡ self.now.values }
+    {
+        &self.machine.values
+    }
+
     /// The reading of the clock with which an actor's open transaction began.
     pub fn snapshot(&self, actor: u32) -> Option<u64>
         ensures is { result ≡ snapshot_of (actor_in self.now actor) (actor_in self.now actor).place }
@@ -131,3 +138,6 @@ impl Words {
         }
     }
 }
+
+#[cfg(test)]
+mod tests;

@@ -10,4 +10,6 @@ pub mod Schedules
 pub mod Cells
 pub mod Alone
 pub mod Progress
+pub mod Answered
+pub mod Short
 pub mod Order

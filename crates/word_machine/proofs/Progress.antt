@@ -11,7 +11,7 @@ use Rattle.word_machine.specs.Progress.{steps_left}
 use Rattle.word_machine.proofs.Sets.{put-same}
 use Rattle.word_machine.proofs.Invariant.{IsSomeEntry, PlaceOk, Inv}
 
-length-locations : (es : Entries) → length (locations es) ≡ length es
+pub length-locations : (es : Entries) → length (locations es) ≡ length es
 unfolding locations
 length-locations [] = refl
 length-locations (e ∷ es) = ap suc (length-locations es)

@@ -1,14 +1,14 @@
 //! What holds of the machine after every schedule.
 //!
 //! Each law is the contract of a function without parameters, whose body is empty.
-ghost use Rattle.std.specs.Prelude.{◌≡◌, ◌≢◌, ◌<◌, [], ℕ, List, Some};
+ghost use Rattle.std.specs.Prelude.{◌≡◌, ◌≢◌, ◌<◌, ◌≤◌, [], ℕ, List, Some, length};
 ghost use Rattle.word_machine.specs.Entries.{lookup};
 ghost use Rattle.word_machine.specs.Actor.{Begin, Open, Idle};
 ghost use Rattle.word_machine.specs.Requests.{Request};
 ghost use Rattle.word_machine.specs.World.{Memory, World, Event, Ask, Step, plan, happens, run};
 ghost use Rattle.word_machine.specs.Cells.{Cell, cell, word_of};
 ghost use Rattle.word_machine.specs.Notices.{IsConflict, notice};
-ghost use Rattle.word_machine.specs.Progress.{IsAlone, IsFree, steps_left};
+ghost use Rattle.word_machine.specs.Progress.{IsAlone, IsFree, steps_left, steps_of, AsksNothing, IsAnsweredWithin};
 ghost use Rattle.word_machine.specs.Opacity.{
   IsRun,
   IsInOrder,
@@ -74,11 +74,20 @@ pub fn alone()
         IsConflict (notice t (t.actors a) (t.actors a).place) → ⊥ }
 {}
 
-/// Each own step of a request brings it nearer to its answer, whatever the others do.
+/// Each request is answered within so many of its own steps as `steps_left` says, whatever the others
+/// do between them; and with sets of at most 4,096 locations that is fewer than 1,000,000.
 pub fn progress()
-    ensures { (clock : ℕ) (memory : Memory) (events : List Event) (a : ℕ) →
+    ensures nearer { (clock : ℕ) (memory : Memory) (events : List Event) (a : ℕ) →
         let s = after_events clock memory events in
         let t = happens s (Step a) in
         0 < steps_left (s.actors a) (s.actors a).place →
         steps_left (t.actors a) (t.actors a).place < steps_left (s.actors a) (s.actors a).place }
+    ensures answered { (clock : ℕ) (memory : Memory) (events later : List Event) (a : ℕ) →
+        let s = after_events clock memory events in
+        0 < steps_left (s.actors a) (s.actors a).place → AsksNothing a later →
+        steps_left (s.actors a) (s.actors a).place ≤ steps_of a later → IsAnsweredWithin a later s }
+    ensures few { (clock : ℕ) (memory : Memory) (events : List Event) (a : ℕ) →
+        let s = after_events clock memory events in
+        length (s.actors a).reads ≤ 4096 → length (s.actors a).writes ≤ 4096 →
+        steps_left (s.actors a) (s.actors a).place < 1000000 }
 {}
