@@ -18,7 +18,7 @@ impl LockWord {
         requires { version < 2 ^ 63 }
         ensures { result ≡ Free version }
     {
-        LockWord::Free(version)
+        Self::Free(version)
     }
 
     /// The word of a location that a commit holds, with the version that it had before.
@@ -26,7 +26,7 @@ impl LockWord {
         requires { version < 2 ^ 63 }
         ensures { result ≡ Locked version }
     {
-        LockWord::Locked(version)
+        Self::Locked(version)
     }
 
     /// The lock word of a number: its lowest bit is the lock, and the rest is the version.
@@ -36,9 +36,9 @@ impl LockWord {
         ensures version { version_of result < 2 ^ 63 }
     {
         if word % 2 == 0 {
-            LockWord::Free(word / 2)
+            Self::Free(word / 2)
         } else {
-            LockWord::Locked(word / 2)
+            Self::Locked(word / 2)
         }
     }
 

@@ -1,0 +1,110 @@
+//! Puts into sets of a transaction and finds in them, in nanoseconds a call.
+ghost use Rattle.std.specs.Prelude.{◌<◌};
+
+use rand::seq::SliceRandom;
+use rand_core::SeedableRng;
+use rand_xoshiro::Xoshiro256PlusPlus;
+use std::alloc::{AllocError, Global};
+use std::rt::Runtime;
+use std::time::{Duration, Instant};
+use tx_sets::{ReadSet, SetRefusal};
+
+/// All locations. They go into sets of one size, in one order, so that each set has its own.
+const LOCATIONS: u32 = 8192;
+
+/// How often each location is put and found.
+const ROUNDS: u32 = 1000;
+
+/// Prints the times at few locations a set and at as many as it may have, rising and in random order.
+pub fn measure(rt: &(impl Runtime + AllocGlobal)) -> anyhow::Result<()> {
+    let mut locations = all_locations(rt.alloc())?;
+    report(rt, "rising", 10, &locations)?;
+    report(rt, "rising", 4096, &locations)?;
+    locations.shuffle(&mut Xoshiro256PlusPlus::seed_from_u64(1));
+    report(rt, "random", 10, &locations)?;
+    report(rt, "random", 4096, &locations)
+}
+
+fn all_locations(alloc: Global) -> Result<Vec<u32>, AllocError> {
+    let mut locations = Vec::new(alloc);
+    for location in 0..LOCATIONS {
+        locations.push(location)?;
+    }
+    Ok(locations)
+}
+
+fn report(
+    rt: &(impl Runtime + AllocGlobal),
+    order: &str,
+    size: usize,
+    locations: &[u32],
+) -> anyhow::Result<()>
+    requires { 0 < size }
+{
+    let put = nanos_a_call(time_puts(rt, size, locations)?);
+    let find = nanos_a_call(time_finds(rt, size, locations)?);
+    println!(rt; "{size} locations, {order}: {put:.1} ns a put, {find:.1} ns a find")?;
+    Ok(())
+}
+
+fn nanos_a_call(time: Duration) -> f64 {
+    time.as_secs_f64() * 1e9 / f64::from(LOCATIONS) / f64::from(ROUNDS)
+}
+
+fn time_puts(
+    rt: &(impl Runtime + AllocGlobal),
+    size: usize,
+    locations: &[u32],
+) -> anyhow::Result<Duration>
+    requires { 0 < size }
+{
+    let mut set = ReadSet::new(rt.alloc());
+    set.reserve(size)?;
+    let start = Instant::now(rt)?;
+    for _ in 0..ROUNDS {
+        for chunk in locations.chunks(size) {
+            set.clear();
+            put_all(&mut set, chunk)?;
+        }
+    }
+    Ok(start.elapsed(rt)?)
+}
+
+fn time_finds(
+    rt: &(impl Runtime + AllocGlobal),
+    size: usize,
+    locations: &[u32],
+) -> anyhow::Result<Duration>
+    requires { 0 < size }
+{
+    let mut sets = Vec::new(rt.alloc());
+    for chunk in locations.chunks(size) {
+        let mut set = ReadSet::new(rt.alloc());
+        put_all(&mut set, chunk)?;
+        sets.push(set)?;
+    }
+    let start = Instant::now(rt)?;
+    let mut missing = 0;
+    for _ in 0..ROUNDS {
+        for (set, chunk) in sets.iter().zip(locations.chunks(size)) {
+            missing |= missing_in(set, chunk);
+        }
+    }
+    let time = start.elapsed(rt)?;
+    anyhow::ensure!(missing == 0, "not all locations were found");
+    Ok(time)
+}
+
+fn put_all(set: &mut ReadSet, locations: &[u32]) -> Result<(), SetRefusal> {
+    for location in locations {
+        set.put(*location, 1)?;
+    }
+    Ok(())
+}
+
+fn missing_in(set: &ReadSet, locations: &[u32]) -> usize {
+    locations
+        .iter()
+        .filter(|location| set.find(**location).is_none())
+        .count()
+}

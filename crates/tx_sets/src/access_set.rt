@@ -1,0 +1,184 @@
+//! The values that a transaction read or is to write, by location.
+ghost use Rattle.std.specs.Prelude.{◌≡◌, ◌↔◌, ◌+◌, ◌<◌, ◌≤◌, [], Err, IsOk, IsSome, OnErr, OnOk, count_by, insert, length, nat_lt};
+ghost use Rattle.std.specs.Vec.{vec_capacity, vec_len};
+ghost use Rattle.tx_sets.specs.Entries.{IsRising, lookup, with_entry};
+ghost use Rattle.tx_sets.specs.AccessSet.{AreOrderly, IsBeyondLimit, IsPlaceOf, LacksRoom};
+ghost use Rattle.tx_sets.specs.declared.set_refusal.SetRefusal.TheVariants.{OutOfMemory, TooLong};
+
+use crate::set_refusal::SetRefusal;
+use std::alloc::{AllocError, Global};
+use std::marker::{Model, PhantomData};
+
+/// How many locations a set has at most.
+pub const LOCATION_LIMIT: usize = 4096;
+
+// Up to so many entries a location is sought among all of them.
+const FEW: usize = 32;
+
+/// Marks the set of what a transaction read.
+#[derive(Clone, Copy, Debug)]
+pub struct Reads;
+
+/// Marks the set of what a transaction is to write.
+#[derive(Clone, Copy, Debug)]
+pub struct Writes;
+
+/// The locations that a transaction read, each with the value that it read.
+pub type ReadSet = AccessSet<Reads>;
+
+/// The locations that a transaction is to write, each with the value that it last wrote.
+pub type WriteSet = AccessSet<Writes>;
+
+/// A finite map from locations to values, of at most `LOCATION_LIMIT` entries.
+#[derive(Drop)]
+pub struct AccessSet<Role> {
+    entries: Vec<(u32, u64)>,
+    role: PhantomData<Role>,
+}
+
+impl<Role> Model for AccessSet<Role> {
+    ghost use Rattle.std.specs.Prelude.{◌-◌};
+    ghost use Rattle.std.specs.Vec.{vec_capacity, vec_len};
+    ghost use Rattle.tx_sets.specs.AccessSet.{AreOrderly, SetView};
+
+    ghost Value = { SetView };
+
+    ghost view = { λ a. record { entries = a.entries.items; room = vec_capacity a.entries - vec_len a.entries } };
+
+    ghost invariant = { λ a. AreOrderly a.entries.items };
+}
+
+impl<Role> AccessSet<Role> {
+    /// The empty set. It allocates nothing.
+    pub fn new(alloc: Global) -> AccessSet<Role>
+        ensures entries { result.entries ≡ [] }
+        ensures room { result.room ≡ 0 }
+    {
+        AccessSet {
+            entries: Vec::new(alloc),
+            role: PhantomData,
+        }
+    }
+
+    /// How many locations there are.
+    pub fn len(&self) -> usize
+        ensures { result ≡ length self.now.entries }
+    {
+        self.entries.len()
+    }
+
+    /// The entries, rising by location, `LOCATION_LIMIT` at most.
+    pub fn in_order(&self) -> &[(u32, u64)]
+        ensures entries { result.now ≡ self.now.entries }
+        ensures orderly { AreOrderly self.now.entries }
+    {
+        self.entries.as_slice()
+    }
+
+    /// The value of a location.
+    pub fn find(&self, location: u32) -> Option<u64>
+        ensures { result ≡ lookup self.now.entries location }
+    {
+        match self.place_of(location) {
+            Ok(at) => Some(self.entries[at].1),
+            Err(_) => None,
+        }
+    }
+
+    /// Sets the value of a location. Only a new location can be refused: `TooLong` beyond
+    /// `LOCATION_LIMIT` of them, and `OutOfMemory` where none was reserved. A refusal leaves the set
+    /// as it was.
+    pub fn put(&mut self, location: u32, value: u64) -> Result<(), SetRefusal>
+        ensures ok { OnOk result (self.new.entries ≡ with_entry self.old.entries location value) }
+        ensures too_long { (result ≡ Err TooLong) ↔ IsBeyondLimit self.old location }
+        ensures memory { result ≡ Err OutOfMemory → LacksRoom self.old location }
+        ensures err { OnErr result (self.new ≡ self.old) }
+
+        // It takes the room of one entry at most, and none where the location is there.
+        ensures there { IsSome (lookup self.old.entries location) → IsOk result }
+        ensures reserved { 0 < self.old.room → length self.old.entries < LOCATION_LIMIT → IsOk result }
+        ensures room { self.old.room ≤ self.new.room + 1 }
+        ensures room_there { IsSome (lookup self.old.entries location) → self.new.room ≡ self.old.room }
+    {
+        match self.place_of(location) {
+            Ok(at) => self.entries[at].1 = value,
+            Err(at) => {
+                if self.entries.len() >= LOCATION_LIMIT {
+                    return Err(SetRefusal::TooLong);
+                }
+                self.entries.reserve(1)?;
+                insert_reserved(&mut self.entries, at, (location, value));
+            }
+        }
+        Ok(())
+    }
+
+    /// Makes room for `more` further locations: within the limit, they are put without memory.
+    pub fn reserve(&mut self, more: usize) -> Result<(), AllocError>
+        ensures entries { self.new.entries ≡ self.old.entries }
+        ensures ok { OnOk result (more ≤ self.new.room) }
+        ensures room { self.old.room ≤ self.new.room }
+        ensures reserved { more ≤ self.old.room → IsOk result }
+        ensures err { OnErr result (self.new ≡ self.old) }
+    {
+        self.entries.reserve(more)
+    }
+
+    /// Takes all entries out, for the next transaction. The memory stays.
+    pub fn clear(&mut self)
+        ensures entries { self.new.entries ≡ [] }
+        ensures room { self.new.room ≡ self.old.room + length self.old.entries }
+    {
+        self.entries.clear();
+    }
+
+    // Where the location is, or where it would go. Locations often come in rising order, so the
+    // end is tried first.
+    fn place_of(&self, location: u32) -> Result<usize, usize>
+        ensures { IsPlaceOf location self.now.entries result }
+    {
+        let count = self.entries.len();
+        if count == 0 || self.entries[count - 1].0 < location {
+            return Err(count);
+        }
+        if count <= FEW {
+            return place_among_few(&self.entries, location);
+        }
+        self.entries
+            .binary_search_by_key(&location, |entry| entry.0)
+    }
+}
+
+// The place of a location by the number of entries below it. All entries are compared, but no
+// comparison decides which is next, as in a search by halves, where the processor guesses wrongly.
+fn place_among_few(entries: &[(u32, u64)], location: u32) -> Result<usize, usize>
+    requires { IsRising entries.now }
+    ensures { IsPlaceOf location entries.now result }
+{
+    let at = count_below(entries, location);
+    if at < entries.len() && entries[at].0 == location {
+        return Ok(at);
+    }
+    Err(at)
+}
+
+fn count_below(entries: &[(u32, u64)], location: u32) -> usize
+    ensures { result ≡ count_by (λ entry. nat_lt entry.0 location) entries.now }
+{
+    entries.iter().filter(|entry| entry.0 < location).count()
+}
+
+// Inserts an entry in the room that there is. The end is the most frequent place by far.
+fn insert_reserved(entries: &mut Vec<(u32, u64)>, at: usize, entry: (u32, u64))
+    requires place { at ≤ vec_len entries.old }
+    requires room { vec_len entries.old < vec_capacity entries.old }
+    ensures items { entries.new.items ≡ insert entries.old.items at entry }
+    ensures len { vec_len entries.new ≡ vec_len entries.old + 1 }
+    ensures capacity { vec_capacity entries.new ≡ vec_capacity entries.old }
+{
+    if at == entries.len() {
+        entries.push_reserved(entry);
+    } else {
+        entries.insert(at, entry).unwrap();
+    }
+}
