@@ -1,17 +1,17 @@
 -- A transaction beside which no other steps is never refused for a conflict.
-use Rattle.std.proofs.Common.{◌≡◌, ℕ, ◌+◌, ◌<◌, ◌≤◌, cond, eqb, ltb, leb, Option, Some, None, List, [], ◌∷◌, ◌⊎◌, inl, inr, refl, sym, ap, ◌∙◌, subst, arith, ltb-true, ltb-false, eqb-true, leb-false}
+use Rattle.std.proofs.Common.{◌≡◌, ℕ, ◌+◌, ◌<◌, ◌≤◌, cond, eqb, ltb, leb, Option, Some, None, List, [], ◌∷◌, ◌++◌, ◌⊎◌, inl, inr, refl, sym, ap, ◌∙◌, subst, arith, ltb-true, ltb-false, eqb-true, leb-false}
 use Rattle.std.proofs.lemmas.Bool.{eqb-false, cond_both}
 use Rattle.vlock_word.specs.declared.lock_word.LockWord.{LockWord}
 use Rattle.vlock_word.specs.declared.lock_word.LockWord.TheVariants.{Free, Locked}
 use Rattle.vlock_word.specs.LockWord.{version_of, bits}
-use Rattle.word_machine.specs.Entries.{Entries, lookup, with_entry, locations}
+use Rattle.tx_sets.specs.Entries.{Entries, lookup, with_entry, locations}
 use Rattle.word_machine.specs.Actor.{Place, Idle, Begin, Open, Look, Fetch, Again, Lock, Take, Check, Broken, First, Store, Release, Undo, Leave, Close, Actor, goes, opened, clock_limit, has_read}
 use Rattle.word_machine.specs.Requests.{Request, AskBegin, AskLock, AskStore, AskRelease, AskCancel, AskAbort, AskClose, AskRead, AskWrite, read, lock, close, abort, ask}
 use Rattle.word_machine.specs.World.{put, World, Event, Ask, Step, now, step, happens, run}
 use Rattle.word_machine.proofs.Worlds.{looked, looked_again, to_lock, tried, locked, checked, first, released, undone}
 use Rattle.word_machine.specs.Progress.{IsAlone, IsFree}
 use Rattle.word_machine.specs.Notices.{Notice, Quiet, Begun, Exhausted, Moved, Busy, Invalid, Number, LockedAt, Stored, Released, Cancelled, IsConflict, notice, look_notice, again_notice, lock_notice, take_notice, check_notice, when_none_left, last_notice}
-use Rattle.word_machine.proofs.Sets.{Member, put-same, put_both, lookup-with_entry_same, lookup-with_entry_other, lookup-tail}
+use Rattle.word_machine.proofs.Sets.{Member, put-same, put_both, lookup-push_same, lookup-push_other, lookup-tail}
 use Rattle.word_machine.proofs.Invariant.{PlaceOk, Inv}
 use Rattle.word_machine.proofs.Quiet.{none_if, lookup-none}
 use Rattle.word_machine.proofs.Schedules.{happens_ok}
@@ -172,14 +172,14 @@ to_lock_alone s a l ls (Locked k) ok pl is = absurd (subst IsFree is (free_word 
 locked_alone : (s : World) (a l k : ℕ) (ls : List ℕ) → AloneAt s a → AlonePlace s.locks (s.actors a) (Take l k ls) → AloneAt (locked s a (s.actors a) l k ls) a
 locked_alone s a l k ls ok pl =
     let x = s.actors a in
-    alone_put (put s.locks l (Locked k)) s.actors a (record { place = Lock ls; rv = x.rv; wv = x.wv; reads = x.reads; writes = x.writes; held = with_entry x.held l k; calls = x.calls }) (record {
-      free = λ i. put_both (λ (z : LockWord). IsFree z ⊎ ((j : ℕ) × (lookup (with_entry x.held l k) i ≡ Some j))) s.locks l (Locked k) i
-          (λ q. inr (k, ap (lookup (with_entry x.held l k)) q ∙ lookup-with_entry_same x.held l k))
-          (λ ne. elim (ok.free i) [ inl f ↦ inl f | inr h ↦ inr (h.0, lookup-with_entry_other x.held l k i ne ∙ h.1) ]);
+    alone_put (put s.locks l (Locked k)) s.actors a (record { place = Lock ls; rv = x.rv; wv = x.wv; reads = x.reads; writes = x.writes; held = x.held ++ (l, k) ∷ []; calls = x.calls }) (record {
+      free = λ i. put_both (λ (z : LockWord). IsFree z ⊎ ((j : ℕ) × (lookup (x.held ++ (l, k) ∷ []) i ≡ Some j))) s.locks l (Locked k) i
+          (λ q. inr (k, ap (lookup (x.held ++ (l, k) ∷ [])) q ∙ lookup-push_same x.held l k (pl.2 l (inl refl))))
+          (λ ne. elim (ok.free i) [ inl f ↦ inl f | inr h ↦ inr (h.0, lookup-push_other x.held l k i ne ∙ h.1) ]);
       place = (
         (λ i. put_both (λ (z : LockWord). version_of z ≤ x.rv) s.locks l (Locked k) i (λ q. let e = ap version_of pl.3 in omega (arith, e, pl.0 l)) (λ _. pl.0 i)),
         (pl.1).1,
-        λ i m. lookup-with_entry_other x.held l k i (λ q. (pl.1).0 (subst (λ (n : ℕ). Member n ls) q m)) ∙ pl.2 i (inr m),
+        λ i m. lookup-push_other x.held l k i (λ q. (pl.1).0 (subst (λ (n : ℕ). Member n ls) q m)) ∙ pl.2 i (inr m),
       );
     })
 
@@ -203,20 +203,20 @@ passes s a l k ls ok pl low =
       cond_both (leb k x.rv) (when_none_left ls (LockedAt x.wv)) (Invalid l k) (λ (z : Notice). IsConflict z → ⊥) (λ _. quiet_list ls (LockedAt x.wv) (λ h. h)) (λ t _. let q = leb-false k x.rv t in omega (arith, q, low)),
     )
 
-check_alone : (s : World) (a l : ℕ) (ls : List ℕ) (w : LockWord) (own : Option ℕ) → AloneAt s a → Low s.locks (s.actors a) → s.locks l ≡ w → lookup (s.actors a).held l ≡ own → Good s (checked s a (s.actors a) l ls w own) a (check_notice (s.actors a).rv (s.actors a).wv l ls w own)
-check_alone s a l ls (Free k) own ok pl is mine =
+check_alone : (s : World) (a l : ℕ) (ls : List ℕ) (w : LockWord) (own : Option ℕ) → AloneAt s a → Low s.locks (s.actors a) → s.locks l ≡ w → lookup (s.actors a).writes l ≡ own → (own ≡ None → lookup (s.actors a).held l ≡ None) → Good s (checked s a (s.actors a) l ls w own) a (check_notice (s.actors a).rv (s.actors a).wv l ls w own)
+check_alone s a l ls (Free k) own ok pl is mine unheld =
     let x = s.actors a in
     let low : k ≤ x.rv = (let q = ap version_of is in omega (arith, q, pl l)) in (
       (passes s a l k ls ok pl low).0,
       cond_both (leb k x.rv) (when_none_left ls (LockedAt x.wv)) (Invalid l (bits (Free k))) (λ (z : Notice). IsConflict z → ⊥) (λ _. quiet_list ls (LockedAt x.wv) (λ h. h)) (λ t _. let q = leb-false k x.rv t in omega (arith, q, low)),
     )
-check_alone s a l ls (Locked k) (Some old) ok pl is mine =
+check_alone s a l ls (Locked k) (Some old) ok pl is mine unheld =
     let x = s.actors a in
     let low : k ≤ x.rv = (let q = ap version_of is in omega (arith, q, pl l)) in (
       (passes s a l k ls ok pl low).0,
       cond_both (leb k x.rv) (when_none_left ls (LockedAt x.wv)) (Invalid l (bits (Locked k))) (λ (z : Notice). IsConflict z → ⊥) (λ _. quiet_list ls (LockedAt x.wv) (λ h. h)) (λ t _. let q = leb-false k x.rv t in omega (arith, q, low)),
     )
-check_alone s a l ls (Locked k) None ok pl is mine = absurd (subst IsFree is (free_word (s.locks l) (s.actors a).held l (ok.free l) mine))
+check_alone s a l ls (Locked k) None ok pl is mine unheld = absurd (subst IsFree is (free_word (s.locks l) (s.actors a).held l (ok.free l) (unheld refl)))
 
 -- a lock given back
 back_alone : (s : World) (a : ℕ) (f : ℕ × ℕ) (fs : Entries) (v : ℕ) (p : Place) → AloneAt s a → (s.actors a).held ≡ f ∷ fs
@@ -267,7 +267,8 @@ step_alone s a (Lock []) v ok pl pk =
 step_alone s a (Lock (l ∷ ls)) v ok pl pk = to_lock_alone s a l ls (s.locks l) ok pl refl
 step_alone s a (Take l k ls) v ok pl pk = take_alone s a l k ls (s.locks l) ok pl refl
 step_alone s a (Check []) v ok pl pk = (ok, λ h. h)
-step_alone s a (Check (l ∷ ls)) v ok pl pk = check_alone s a l ls (s.locks l) (lookup (s.actors a).held l) ok pl refl refl
+step_alone s a (Check (l ∷ ls)) v ok pl pk = check_alone s a l ls (s.locks l) (lookup (s.actors a).writes l) ok pl refl refl
+    (λ none. none_if (lookup (s.actors a).held l) (λ j h. let w = (pk.0).written l j h in let z : Some w.0 ≡ None = sym w.1 ∙ none in absurd (let b : ⊥ = cc in b)))
 step_alone s a Broken v ok pl pk = (ok, λ h. h)
 step_alone s a First v ok pl pk = (first_alone s a (s.actors a).writes ok, last_quiet (s.actors a).writes Stored (λ h. h))
 step_alone s a (Store []) v ok pl pk = (ok, λ h. h)

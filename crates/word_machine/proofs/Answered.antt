@@ -6,7 +6,7 @@ use Rattle.std.proofs.Common.{eq-eqb, ne_eqb}
 use Rattle.vlock_word.specs.declared.lock_word.LockWord.{LockWord}
 use Rattle.vlock_word.specs.declared.lock_word.LockWord.TheVariants.{Free, Locked}
 use Rattle.vlock_word.specs.LockWord.{bits}
-use Rattle.word_machine.specs.Entries.{Entries, lookup, locations}
+use Rattle.tx_sets.specs.Entries.{Entries, lookup, locations}
 use Rattle.word_machine.specs.Actor.{Place, Idle, Begin, Open, Look, Fetch, Again, Lock, Take, Check, Broken, First, Store, Release, Undo, Leave, Close, Actor, goes, opened, has_read, taken, clock_limit}
 use Rattle.word_machine.specs.World.{World, Event, Ask, Step, Deed, Rests, LoadClock, AddToClock, LoadLock, LoadValue, ExchangeLock, StoreValue, StoreLock, does, exchanged, Outcome, GoesOn, Commits, Aborts, noted, plan, outcome, put, now, step, happens, run}
 use Rattle.word_machine.specs.Notices.{Notice, Quiet, Moved, Busy, Invalid, Begun, Exhausted, Number, LockedAt, Stored, Released, Cancelled, notice, look_notice, again_notice, lock_notice, take_notice, check_notice, when_none_left, last_notice}
@@ -98,7 +98,7 @@ step_further s a x (Lock []) pl =
 step_further s a x (Lock (l ∷ ls)) pl = to_lock_further s a x l ls (s.locks l)
 step_further s a x (Take l k ls) pl = take_further s a x l k ls (s.locks l)
 step_further s a x (Check []) pl = inl tt
-step_further s a x (Check (l ∷ ls)) pl = check_further s a x l ls (s.locks l) (lookup x.held l)
+step_further s a x (Check (l ∷ ls)) pl = check_further s a x l ls (s.locks l) (lookup x.writes l)
 step_further s a x Broken pl = inl tt
 step_further s a x First pl = first_further s a x x.writes (pl.0).some
 step_further s a x (Store []) pl = inl tt

@@ -2,7 +2,7 @@
 use Rattle.std.proofs.Common.{◌≡◌, ℕ, Bool, true, false, eqb, Some, None, List, [], ◌∷◌, ◌++◌, ◌==◌, inl, inr, refl, sym, ap, ◌∙◌, eq-eqb, ne_eqb, true≢false}
 use Rattle.std.specs.Prelude.{if◌then◌else◌}
 use Rattle.std.proofs.lemmas.Bool.{cond_both, cond-true, cond-false, cases_eq}
-use Rattle.word_machine.specs.Entries.{Entries, lookup, with_entry}
+use Rattle.tx_sets.specs.Entries.{Entries, lookup, with_entry}
 use Rattle.word_machine.specs.Actor.{Call, Read, Write}
 use Rattle.word_machine.specs.World.{Memory, put}
 use Rattle.word_machine.specs.Opacity.{after, IsLegal}

@@ -1,16 +1,16 @@
 -- The steps that change a word, the clock or the history.
 use Rattle.std.specs.Prelude.{unwrap_or}
-use Rattle.std.proofs.Common.{◌≡◌, ℕ, ◌+◌, ◌-◌, ◌<◌, ◌≤◌, max, true, false, Option, Some, None, List, [], ◌∷◌, ◌⊎◌, inl, inr, refl, sym, ap, ◌∙◌, subst, arith, true≢false}
+use Rattle.std.proofs.Common.{◌≡◌, ℕ, ◌+◌, ◌-◌, ◌<◌, ◌≤◌, max, true, false, Option, Some, None, List, [], ◌∷◌, ◌++◌, ◌⊎◌, inl, inr, refl, sym, ap, ◌∙◌, subst, arith, true≢false}
 use Rattle.std.proofs.lemmas.Bool.{cases_eq}
 use Rattle.vlock_word.specs.declared.lock_word.LockWord.{LockWord}
 use Rattle.vlock_word.specs.declared.lock_word.LockWord.TheVariants.{Free, Locked}
 use Rattle.vlock_word.specs.LockWord.{version_of}
-use Rattle.word_machine.specs.Entries.{Entries, lookup, with_entry, locations}
+use Rattle.tx_sets.specs.Entries.{Entries, lookup, locations}
 use Rattle.word_machine.specs.Actor.{Call, Place, Idle, Lock, Take, Check, First, Store, Release, Undo, Close, Actor, goes}
 use Rattle.word_machine.specs.World.{Memory, put, Record, World, insert}
 use Rattle.word_machine.proofs.Worlds.{locked, stamped, commits, first, stored, gives_back, released, undone, closed}
 use Rattle.word_machine.specs.Opacity.{IsHalfDone}
-use Rattle.word_machine.proofs.Sets.{IsUnique, IsUnique-with_entry, Member, member_locations, locations_member, with_entry_cases, lookup-with_entry_same, lookup-with_entry_other, lookup-head, lookup-tail, rest_entry, put_both, put-same, put-other}
+use Rattle.word_machine.proofs.Sets.{IsUnique, IsUnique-push, Member, member_locations, locations_member, push_cases, lookup-push_same, lookup-push_other, lookup-head, lookup-tail, rest_entry, put_both, put-same, put-other}
 use Rattle.word_machine.proofs.Calls.{touched}
 use Rattle.word_machine.proofs.Records.{stamp, AllRecords, AllRecords-insert, IsNew, IsInOrder-insert, stamp_untouched, stamp_touched, settled_untouched, settled_later, finals_untouched, finals_touched}
 use Rattle.word_machine.proofs.Invariant.{IsPending, latest, Locking, IsSomeEntry, Done, PlaceOk, ActorOk, RecordOk, Inv}
@@ -31,7 +31,8 @@ version-put locks l w i e = put_both (λ (z : LockWord). version_of z ≡ versio
 pub locked_ok : (s : World) (a l k : ℕ) (ls : List ℕ) → Inv s → (s.actors a).place ≡ Take l k ls → Locking (s.actors a).writes (s.actors a).held (l ∷ ls) → s.locks l ≡ Free k → Moved s a (locked s a (s.actors a) l k ls)
 locked_ok s a l k ls v e pl free =
     let x = s.actors a in
-    let y : Actor = record { place = Lock ls; rv = x.rv; wv = x.wv; reads = x.reads; writes = x.writes; held = with_entry x.held l k; calls = x.calls } in
+    let y : Actor = record { place = Lock ls; rv = x.rv; wv = x.wv; reads = x.reads; writes = x.writes; held = x.held ++ (l, k) ∷ []; calls = x.calls } in
+    let none : lookup x.held l ≡ None = none_if (lookup x.held l) (λ j h. no_holder s l k v free a j h) in
     let words : ℕ → LockWord = put s.locks l (Locked k) in
     let t : World = next s a y s.clock words s.values s.history s.aborted in
     let num : IsNumbered s a y = λ h. absurd h in
@@ -47,21 +48,21 @@ locked_ok s a l k ls v e pl free =
       began = (v.actors a).began;
       reads = λ i u h. keeps.good x.rv i u ((v.actors a).reads i u h);
       sets = (v.actors a).sets;
-      held = λ i j h. elim (with_entry_cases x.held l k i j h) [
+      held = λ i j h. elim (push_cases x.held l k i j none h) [
         | inl q ↦ ap words q.0 ∙ put-same s.locks l (Locked k) ∙ ap Locked (sym q.1)
         | inr q ↦ put-other s.locks l (Locked k) i q.0 ∙ (v.actors a).held i j q.1
       ];
-      unique = IsUnique-with_entry x.held l k (v.actors a).unique (none_if (lookup x.held l) (λ j h. no_holder s l k v free a j h));
+      unique = IsUnique-push x.held l k (v.actors a).unique none;
       place = record {
         covered = λ i u h. elim (pl.covered i u h) [
-          | inl (inl q) ↦ inr (k, ap (lookup (with_entry x.held l k)) q ∙ lookup-with_entry_same x.held l k)
+          | inl (inl q) ↦ inr (k, ap (lookup (x.held ++ (l, k) ∷ [])) q ∙ lookup-push_same x.held l k none)
           | inl (inr m) ↦ inl m
           | inr q ↦ inr (elim (cases_eq i l) [
-            | inl z ↦ (k, ap (lookup (with_entry x.held l k)) z ∙ lookup-with_entry_same x.held l k)
-            | inr z ↦ (q.0, lookup-with_entry_other x.held l k i z ∙ q.1)
+            | inl z ↦ (k, ap (lookup (x.held ++ (l, k) ∷ [])) z ∙ lookup-push_same x.held l k none)
+            | inr z ↦ (q.0, lookup-push_other x.held l k i z ∙ q.1)
           ])
         ];
-        written = λ i j h. elim (with_entry_cases x.held l k i j h) [
+        written = λ i j h. elim (push_cases x.held l k i j none h) [
           | inl q ↦ pl.within i (inl q.0)
           | inr q ↦ pl.written i j q.1
         ];
@@ -72,7 +73,7 @@ locked_ok s a l k ls v e pl free =
     record {
       inv = record {
         actors = actors_after s t a y v keeps (λ b ne. others b) own;
-        apart = apart_after s a y v (λ i j h. elim (with_entry_cases x.held l k i j h) [
+        apart = apart_after s a y v (λ i j h. elim (push_cases x.held l k i j none h) [
           | inl q ↦ inr (λ b m g. no_holder s l k v free b m (ap (lookup (s.actors b).held) (sym q.0) ∙ g))
           | inr q ↦ inl q.1
         ]);

@@ -3,7 +3,7 @@ use Rattle.std.proofs.Common.{◌≡◌, ℕ, suc, ◌+◌, ◌*◌, ◌<◌, eq
 use Rattle.std.proofs.lemmas.Bool.{cond_both}
 use Rattle.vlock_word.specs.declared.lock_word.LockWord.{LockWord}
 use Rattle.vlock_word.specs.declared.lock_word.LockWord.TheVariants.{Free, Locked}
-use Rattle.word_machine.specs.Entries.{Entries, lookup, locations}
+use Rattle.tx_sets.specs.Entries.{Entries, lookup, locations}
 use Rattle.word_machine.specs.Actor.{Place, Idle, Begin, Open, Look, Fetch, Again, Lock, Take, Check, Broken, First, Store, Release, Undo, Leave, Close, Actor, goes, opened, clock_limit, has_read}
 use Rattle.word_machine.specs.World.{put, World, Step, now, step, happens}
 use Rattle.word_machine.proofs.Worlds.{looked, looked_again, to_lock, tried, locked, checked, first, released, undone}
@@ -77,7 +77,7 @@ step_nearer s a x (Lock []) pl h = subst (Nearer (2 * 0 + 1 + length x.reads)) (
 step_nearer s a x (Lock (l ∷ ls)) pl h = to_lock_nearer s a x l ls (s.locks l)
 step_nearer s a x (Take l k ls) pl h = take_nearer s a x l k ls (s.locks l)
 step_nearer s a x (Check []) pl h = absurd (omega (arith, h))
-step_nearer s a x (Check (l ∷ ls)) pl h = check_nearer s a x l ls (s.locks l) (lookup x.held l)
+step_nearer s a x (Check (l ∷ ls)) pl h = check_nearer s a x l ls (s.locks l) (lookup x.writes l)
 step_nearer s a x Broken pl h = absurd (omega (arith, h))
 step_nearer s a x First pl h = first_nearer s a x x.writes (pl.0).some
 step_nearer s a x (Store []) pl h = absurd (omega (arith, h))

@@ -5,7 +5,7 @@ use Rattle.std.proofs.lemmas.Bool.{cond_both}
 use Rattle.vlock_word.specs.declared.lock_word.LockWord.{LockWord}
 use Rattle.vlock_word.specs.declared.lock_word.LockWord.TheVariants.{Free, Locked}
 use Rattle.vlock_word.specs.LockWord.{version_of}
-use Rattle.word_machine.specs.Entries.{Entries, lookup, with_entry, locations}
+use Rattle.tx_sets.specs.Entries.{Entries, lookup, with_entry, locations}
 use Rattle.word_machine.specs.Actor.{Call, Read, Write, Place, Idle, Begin, Open, Look, Fetch, Again, Lock, Take, Check, Broken, First, Store, Release, Undo, Leave, Close, Actor, goes, opened, has_read, clock_limit}
 use Rattle.word_machine.specs.Requests.{Request, AskBegin, AskLock, AskStore, AskRelease, AskCancel, AskAbort, AskClose, AskRead, AskWrite, read, lock, close, abort, ask}
 use Rattle.word_machine.specs.World.{Ended, World, now}
@@ -211,20 +211,21 @@ check_more s a l ls v e pl low behind holder =
           ],
     ))
 
-pub checked_ok : (s : World) (a l : ℕ) (ls : List ℕ) (w : LockWord) (own : Option ℕ) → Inv s → (s.actors a).place ≡ Check (l ∷ ls) → PlaceOk s (s.actors a) (Check (l ∷ ls)) → s.locks l ≡ w → lookup (s.actors a).held l ≡ own → Moved s a (checked s a (s.actors a) l ls w own)
+pub checked_ok : (s : World) (a l : ℕ) (ls : List ℕ) (w : LockWord) (own : Option ℕ) → Inv s → (s.actors a).place ≡ Check (l ∷ ls) → PlaceOk s (s.actors a) (Check (l ∷ ls)) → s.locks l ≡ w → lookup (s.actors a).writes l ≡ own → Moved s a (checked s a (s.actors a) l ls w own)
 checked_ok s a l ls (Free k) own v e pl is mine =
     cond_both (leb k (s.actors a).rv) (goes (s.actors a) (Check ls)) (goes (s.actors a) Broken) (λ (z : Actor). Moved s a (now s a z))
     (λ t. let ver : version_of (s.locks l) ≡ k = ap version_of is in
     check_more s a l ls v e pl (omega (arith, ver, leb-true k (s.actors a).rv t)) (free_behind s l k v is) (λ b j h p q. no_holder s l k v is b j h))
     (λ _. broken_ok s a (Check (l ∷ ls)) v e (λ h. h))
 checked_ok s a l ls (Locked k) (Some old) v e pl is mine =
+    let hold = (pl.0).all_held l old mine in
     cond_both (leb k (s.actors a).rv) (goes (s.actors a) (Check ls)) (goes (s.actors a) Broken) (λ (z : Actor). Moved s a (now s a z))
     (λ t. let ver : version_of (s.locks l) ≡ k = ap version_of is in
     check_more s a l ls v e pl (omega (arith, ver, leb-true k (s.actors a).rv t))
     (v.behind l (λ b half. none_if (lookup (s.actors b).held l) (λ j h.
-    let same = v.apart b a l j old h mine in
+    let same = v.apart b a l j hold.0 h hold.1 in
     let z : IsHalfDone (Check (l ∷ ls)) = subst IsHalfDone e (subst (λ (n : ℕ). IsHalfDone (s.actors n).place) same half) in z)))
-    (λ b j h p q. let same = v.apart b a l j old h mine in
+    (λ b j h p q. let same = v.apart b a l j hold.0 h hold.1 in
     let w : (s.actors b).wv ≡ (s.actors a).wv = ap (λ (n : ℕ). (s.actors n).wv) same in
     omega (arith, w, q, (pl.0).after_rv)))
     (λ _. broken_ok s a (Check (l ∷ ls)) v e (λ h. h))

@@ -3,7 +3,7 @@ use Rattle.std.proofs.Common.{◌≡◌, ℕ, Some, List, [], ◌∷◌, refl, s
 use Rattle.std.proofs.lemmas.Bool.{cond_both}
 use Rattle.vlock_word.specs.declared.lock_word.LockWord.{LockWord}
 use Rattle.vlock_word.specs.declared.lock_word.LockWord.TheVariants.{Free}
-use Rattle.word_machine.specs.Entries.{lookup}
+use Rattle.tx_sets.specs.Entries.{lookup}
 use Rattle.word_machine.specs.Actor.{Place, Idle, Begin, Open, Look, Fetch, Again, Lock, Take, Check, Broken, First, Store, Release, Undo, Leave, Close, Actor, goes, opened, clock_limit}
 use Rattle.word_machine.specs.Requests.{ask}
 use Rattle.word_machine.specs.World.{Memory, put, Record, Ended, World, Event, Ask, Step, now, step, happens, run, start}
@@ -38,7 +38,7 @@ step_ok s a (Lock []) v e pl = stamped_ok s a v e pl
 step_ok s a (Lock (l ∷ ls)) v e pl = to_lock_ok s a l ls (s.locks l) v e pl
 step_ok s a (Take l k ls) v e pl = tried_ok s a l k ls (s.locks l) v e pl refl
 step_ok s a (Check []) v e pl = moved_none s a v
-step_ok s a (Check (l ∷ ls)) v e pl = checked_ok s a l ls (s.locks l) (lookup (s.actors a).held l) v e pl refl refl
+step_ok s a (Check (l ∷ ls)) v e pl = checked_ok s a l ls (s.locks l) (lookup (s.actors a).writes l) v e pl refl refl
 step_ok s a Broken v e pl = moved_none s a v
 step_ok s a First v e pl = first_ok s a (s.actors a).writes v e pl refl
 step_ok s a (Store []) v e pl = moved_none s a v

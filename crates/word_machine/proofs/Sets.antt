@@ -1,7 +1,7 @@
 -- Functions with a value put at a place, finite maps, lists of locations.
-use Rattle.std.proofs.Common.{◌≡◌, ℕ, cond, eqb, ltb, Option, Some, None, List, [], ◌∷◌, ◌⊎◌, inl, inr, refl, sym, ap, ◌∙◌, eq-eqb, ne_eqb, eqb-true}
+use Rattle.std.proofs.Common.{◌≡◌, ℕ, cond, eqb, ltb, Option, Some, None, List, [], ◌∷◌, ◌++◌, ◌⊎◌, inl, inr, refl, sym, ap, ◌∙◌, eq-eqb, ne_eqb, eqb-true}
 use Rattle.std.proofs.lemmas.Bool.{eqb-false, cond_both, cond-true, cond-false, cases_eq}
-use Rattle.word_machine.specs.Entries.{Entries, lookup, with_entry, locations}
+use Rattle.tx_sets.specs.Entries.{Entries, lookup, with_entry, locations}
 use Rattle.word_machine.specs.World.{put}
 
 pub put-same : {A : Type 0} → (f : ℕ → A) (k : ℕ) (x : A) → put f k x k ≡ x
@@ -58,18 +58,41 @@ abbrev pub IsUnique : Entries → Type 0
 IsUnique [] = Unit {0}
 IsUnique (e ∷ es) = (lookup es e.0 ≡ None) × IsUnique es
 
-pub IsUnique-with_entry : (es : Entries) (l v : ℕ) → IsUnique es → lookup es l ≡ None → IsUnique (with_entry es l v)
-unfolding lookup with_entry
-IsUnique-with_entry [] l v u h = (refl, tt)
-IsUnique-with_entry (e ∷ es) l v u h =
-    cond_both (ltb l e.0) ((l, v) ∷ (e ∷ es)) _ IsUnique
-    (λ _. (h, u))
-    (λ _. cond_both (eqb l e.0) ((l, v) ∷ es) (e ∷ with_entry es l v) IsUnique
-    (λ same. let x : Some e.1 ≡ None = sym (cond-true (eqb l e.0) (Some e.1) (lookup es l) same) ∙ h in cc)
-    (λ other. (
-      lookup-with_entry_other es l v e.0 (λ q. eqb-false l e.0 other (sym q)) ∙ u.0,
-      IsUnique-with_entry es l v u.1 (sym (cond-false (eqb l e.0) (Some e.1) (lookup es l) other) ∙ h),
-    )))
+-- an entry put at the end
+pub lookup-push_same : (es : Entries) (l v : ℕ) → lookup es l ≡ None → lookup (es ++ (l, v) ∷ []) l ≡ Some v
+unfolding lookup
+lookup-push_same [] l v none = cond-true (eqb l l) (Some v) None (eq-eqb l l refl)
+lookup-push_same (e ∷ es) l v none =
+    elim (cases_eq l e.0) [
+      | inl q ↦ let x : Some e.1 ≡ None = sym (cond-true (eqb l e.0) (Some e.1) (lookup es l) (eq-eqb l e.0 q)) ∙ none in absurd (let b : ⊥ = cc in b)
+      | inr ne ↦
+          cond-false (eqb l e.0) (Some e.1) (lookup (es ++ (l, v) ∷ []) l) (ne_eqb l e.0 ne)
+          ∙ lookup-push_same es l v (sym (cond-false (eqb l e.0) (Some e.1) (lookup es l) (ne_eqb l e.0 ne)) ∙ none)
+    ]
+
+pub lookup-push_other : (es : Entries) (l v k : ℕ) → (k ≡ l → ⊥) → lookup (es ++ (l, v) ∷ []) k ≡ lookup es k
+unfolding lookup
+lookup-push_other [] l v k ne = cond-false (eqb k l) (Some v) None (ne_eqb k l ne)
+lookup-push_other (e ∷ es) l v k ne = ap (λ (z : Option ℕ). cond (eqb k e.0) (Some e.1) z) (lookup-push_other es l v k ne)
+
+pub push_cases : (es : Entries) (l v k u : ℕ) → lookup es l ≡ None → lookup (es ++ (l, v) ∷ []) k ≡ Some u → ((k ≡ l) × (u ≡ v)) ⊎ ((k ≡ l → ⊥) × (lookup es k ≡ Some u))
+push_cases es l v k u none h =
+    elim (cases_eq k l) [
+      | inl e ↦ let same : Some u ≡ Some v = sym h ∙ ap (lookup (es ++ (l, v) ∷ [])) e ∙ lookup-push_same es l v none in inl (e, cc)
+      | inr ne ↦ inr (ne, sym (lookup-push_other es l v k ne) ∙ h)
+    ]
+
+pub IsUnique-push : (es : Entries) (l v : ℕ) → IsUnique es → lookup es l ≡ None → IsUnique (es ++ (l, v) ∷ [])
+unfolding lookup
+IsUnique-push [] l v u h = (refl, tt)
+IsUnique-push (e ∷ es) l v u h =
+    elim (cases_eq l e.0) [
+      | inl q ↦ let x : Some e.1 ≡ None = sym (cond-true (eqb l e.0) (Some e.1) (lookup es l) (eq-eqb l e.0 q)) ∙ h in absurd (let b : ⊥ = cc in b)
+      | inr ne ↦ (
+        lookup-push_other es l v e.0 (λ q. ne (sym q)) ∙ u.0,
+        IsUnique-push es l v u.1 (sym (cond-false (eqb l e.0) (Some e.1) (lookup es l) (ne_eqb l e.0 ne)) ∙ h),
+      )
+    ]
 
 -- an entry of the rest is one of the whole, elsewhere than at the head
 pub rest_entry : (e : ℕ × ℕ) (es : Entries) (l v : ℕ) → IsUnique (e ∷ es) → lookup es l ≡ Some v → (l ≡ e.0 → ⊥) × (lookup (e ∷ es) l ≡ Some v)

@@ -1,10 +1,10 @@
 -- What is left of a list of locations is no longer than the set that it came from.
-use Rattle.std.proofs.Common.{inl, inr, ◌≡◌, ℕ, suc, ◌+◌, ◌*◌, ◌<◌, ◌≤◌, Bool, true, false, cond, eqb, ltb, leb, Option, Some, None, List, [], ◌∷◌, length, refl, sym, ap, ◌∙◌, subst, arith}
+use Rattle.std.proofs.Common.{inl, inr, ◌≡◌, ℕ, suc, ◌+◌, ◌*◌, ◌<◌, ◌≤◌, Bool, true, false, cond, eqb, ltb, leb, Option, Some, None, List, [], ◌∷◌, length, length-append, refl, sym, ap, ◌∙◌, subst, arith}
 use Rattle.std.specs.Prelude.{if◌then◌else◌}
 use Rattle.std.proofs.lemmas.Bool.{cond_both, cases_eq}
 use Rattle.vlock_word.specs.declared.lock_word.LockWord.{LockWord}
 use Rattle.vlock_word.specs.declared.lock_word.LockWord.TheVariants.{Free, Locked}
-use Rattle.word_machine.specs.Entries.{Entries, lookup, with_entry, locations}
+use Rattle.tx_sets.specs.Entries.{Entries, lookup, with_entry, locations}
 use Rattle.word_machine.specs.Actor.{Place, Idle, Begin, Open, Look, Fetch, Again, Lock, Take, Check, Broken, First, Store, Release, Undo, Leave, Close, Actor, goes, opened, has_read, taken, freed, after_release, clock_limit}
 use Rattle.word_machine.specs.Requests.{Request, AskBegin, AskLock, AskStore, AskRelease, AskCancel, AskAbort, AskClose, AskRead, AskWrite, read, lock, close, abort, ask}
 use Rattle.word_machine.specs.World.{Memory, World, Event, Ask, Step, put, now, step, happens, run, start}
@@ -101,7 +101,7 @@ to_lock_short s a x l ls (Locked k) g = short_put s.actors a (goes x Broken) (om
 take_short : (s : World) (a : ℕ) (x : Actor) (l k : ℕ) (ls : List ℕ) (w : LockWord) → length x.held + (1 + length ls) ≤ length x.writes → ShortOk ((tried s a x l k ls w).actors a)
 take_short s a x l k ls (Free j) g =
     short_world (eqb j k) (locked s a x l k ls) (now s a (goes x Broken)) a
-    (short_put s.actors a (taken x l k ls) (let q = length-with_entry x.held l k in omega (arith, q.1, g)))
+    (short_put s.actors a (taken x l k ls) (let q = length-append x.held ((l, k) ∷ []) in omega (arith, q, g)))
     (short_put s.actors a (goes x Broken) (omega (arith, g)))
 take_short s a x l k ls (Locked j) g = short_put s.actors a (goes x Broken) (omega (arith, g))
 
@@ -137,7 +137,7 @@ step_short s a (Lock []) g h = subst ShortOk (sym (put-same s.actors a _)) ((let
 step_short s a (Lock (l ∷ ls)) g h = to_lock_short s a (s.actors a) l ls (s.locks l) g
 step_short s a (Take l k ls) g h = take_short s a (s.actors a) l k ls (s.locks l) g
 step_short s a (Check []) g h = h
-step_short s a (Check (l ∷ ls)) g h = check_short s a (s.actors a) l ls (s.locks l) (lookup (s.actors a).held l) g.0 g.1
+step_short s a (Check (l ∷ ls)) g h = check_short s a (s.actors a) l ls (s.locks l) (lookup (s.actors a).writes l) g.0 g.1
 step_short s a Broken g h = h
 step_short s a First g h = first_short s a (s.actors a).writes refl h g
 step_short s a (Store []) g h = h

@@ -2,7 +2,7 @@
 use Rattle.std.specs.Prelude.{ℕ, Option, Some, None, List, [], ◌∷◌, ◌++◌, ◌==◌, nat_le, nat_lt, if◌then◌else◌}
 use Rattle.vlock_word.specs.declared.lock_word.LockWord.{LockWord}
 use Rattle.vlock_word.specs.declared.lock_word.LockWord.TheVariants.{Free, Locked}
-use Rattle.word_machine.specs.Entries.{Entries, with_entry, locations}
+use Rattle.tx_sets.specs.Entries.{Entries, with_entry, locations}
 
 -- A call of a transaction, with its reply.
 pub data Call : Type 0 where
@@ -35,7 +35,7 @@ pub record Actor : Type 0 where
   pub wv : ℕ  -- the number of its commit
   pub reads : Entries  -- the read set: locations with the values that were read
   pub writes : Entries  -- the write set: locations with the values to be stored
-  pub held : Entries  -- the locks that it holds, with their old versions
+  pub held : Entries  -- the locks that it holds, with their old versions, in the order in which it took them
   pub calls : List Call
 
 -- the clock from which on no transaction begins
@@ -75,16 +75,17 @@ seen_to_lock x l ls (Locked k) = goes x Broken
 
 -- a lock was taken at version k
 abbrev pub taken : Actor → ℕ → ℕ → List ℕ → Actor
-taken x l k ls = record x { place = Lock ls; held = with_entry x.held l k }
+taken x l k ls = record x { place = Lock ls; held = x.held ++ (l, k) ∷ [] }
 
 -- the clock was advanced to the number of this commit
 abbrev pub stamped_at : Actor → ℕ → Actor
 stamped_at x clock = record x { place = Check (locations x.reads); wv = clock }
 
--- the lock word of a read location was loaded for the check; a word locked by this transaction is judged by its old version
+-- the lock word of a read location was loaded for the check; a word that this transaction itself has locked, as it is in its write set, is judged by
+-- its old version
 abbrev pub seen_in_check : Actor → List ℕ → LockWord → Option ℕ → Actor
 seen_in_check x ls (Free k) own = if nat_le k x.rv then goes x (Check ls) else goes x Broken
-seen_in_check x ls (Locked k) (Some old) = if nat_le k x.rv then goes x (Check ls) else goes x Broken
+seen_in_check x ls (Locked k) (Some value) = if nat_le k x.rv then goes x (Check ls) else goes x Broken
 seen_in_check x ls (Locked k) None = goes x Broken
 
 -- a lock was given back, and these are left

@@ -3,7 +3,7 @@ use Rattle.std.specs.Prelude.{ℕ, ◌+◌, Option, Some, None, List, [], ◌∷
 use Rattle.vlock_word.specs.declared.lock_word.LockWord.{LockWord}
 use Rattle.vlock_word.specs.declared.lock_word.LockWord.TheVariants.{Free, Locked}
 use Rattle.vlock_word.specs.LockWord.{bits}
-use Rattle.word_machine.specs.Entries.{Entries, lookup}
+use Rattle.tx_sets.specs.Entries.{Entries, lookup}
 use Rattle.word_machine.specs.Actor.{Place, Idle, Begin, Open, Look, Fetch, Again, Lock, Take, Check, Broken, First, Store, Release, Undo, Leave, Close, Actor, clock_limit}
 use Rattle.word_machine.specs.Requests.{Request, AskRead, AskWrite, AskCancel, AskAbort}
 use Rattle.word_machine.specs.World.{World}
@@ -57,7 +57,7 @@ when_none_left (x ∷ xs) n = Quiet
 -- the check fails at a word that is newer than its transaction, or locked by another
 abbrev pub check_notice : ℕ → ℕ → ℕ → List ℕ → LockWord → Option ℕ → Notice
 check_notice rv wv l ls (Free k) own = if nat_le k rv then when_none_left ls (LockedAt wv) else Invalid l (bits (Free k))
-check_notice rv wv l ls (Locked k) (Some old) = if nat_le k rv then when_none_left ls (LockedAt wv) else Invalid l (bits (Locked k))
+check_notice rv wv l ls (Locked k) (Some value) = if nat_le k rv then when_none_left ls (LockedAt wv) else Invalid l (bits (Locked k))
 check_notice rv wv l ls (Locked k) None = Invalid l (bits (Locked k))
 
 -- the answer of the step that takes the first of these entries, where it is the last
@@ -94,7 +94,7 @@ notice s x (Lock []) = when_none_left x.reads (LockedAt (s.clock + 1))
 notice s x (Lock (l ∷ ls)) = lock_notice l (s.locks l)
 notice s x (Take l k ls) = take_notice l k (s.locks l)
 notice s x (Check []) = NoTransaction
-notice s x (Check (l ∷ ls)) = check_notice x.rv x.wv l ls (s.locks l) (lookup x.held l)
+notice s x (Check (l ∷ ls)) = check_notice x.rv x.wv l ls (s.locks l) (lookup x.writes l)
 notice s x Broken = NoTransaction
 notice s x First = last_notice x.writes Stored
 notice s x (Store []) = NoTransaction

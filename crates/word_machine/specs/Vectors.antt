@@ -1,6 +1,6 @@
 -- Schedules worked by hand, computed by the definitions.
 use Rattle.std.specs.Prelude.{◌≡◌, ℕ, zero, suc, Bool, true, List, [], ◌∷◌, ◌++◌, refl}
-use Rattle.word_machine.specs.Entries.{lookup, with_entry, locations}
+use Rattle.tx_sets.specs.Entries.{lookup, with_entry, locations}
 use Rattle.word_machine.specs.Actor.{Call, Read, Write}
 use Rattle.word_machine.specs.Requests.{AskBegin, AskLock, AskStore, AskRelease, AskCancel, AskAbort, AskRead, AskWrite}
 use Rattle.word_machine.specs.World.{put, Record, comes_before, insert, World, Event, Ask, Step, run, start}

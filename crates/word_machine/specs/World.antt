@@ -2,7 +2,7 @@
 use Rattle.std.specs.Prelude.{ℕ, ◌+◌, Bool, true, false, List, [], ◌∷◌, ◌++◌, ◌==◌, nat_lt, unwrap_or, if◌then◌else◌}
 use Rattle.vlock_word.specs.declared.lock_word.LockWord.{LockWord}
 use Rattle.vlock_word.specs.declared.lock_word.LockWord.TheVariants.{Free, Locked}
-use Rattle.word_machine.specs.Entries.{Entries, lookup, locations}
+use Rattle.tx_sets.specs.Entries.{Entries, lookup, locations}
 use Rattle.word_machine.specs.Actor.{Call, Place, Idle, Begin, Open, Look, Fetch, Again, Lock, Take, Check, Broken, First, Store, Release, Undo, Leave, Close, Actor, goes, begun, seen, seen_again, seen_to_lock, taken, stamped_at, seen_in_check, freed, after_release}
 use Rattle.word_machine.specs.Requests.{Request, ask}
 
@@ -94,7 +94,7 @@ plan x (Lock []) = AddToClock (λ clock. stamped_at x (clock + 1))
 plan x (Lock (l ∷ ls)) = LoadLock l (seen_to_lock x l ls)
 plan x (Take l k ls) = ExchangeLock l k (taken x l k ls) (goes x Broken)
 plan x (Check []) = Rests
-plan x (Check (l ∷ ls)) = LoadLock l (λ w. seen_in_check x ls w (lookup x.held l))
+plan x (Check (l ∷ ls)) = LoadLock l (λ w. seen_in_check x ls w (lookup x.writes l))
 plan x Broken = Rests
 plan x First = first_store x x.writes
 plan x (Store []) = Rests

@@ -2,7 +2,7 @@
 //!
 //! Each law is the contract of a function without parameters, whose body is empty.
 ghost use Rattle.std.specs.Prelude.{◌≡◌, ◌≢◌, ◌<◌, ◌≤◌, [], ℕ, List, Some, length};
-ghost use Rattle.word_machine.specs.Entries.{lookup};
+ghost use Rattle.tx_sets.specs.Entries.{lookup};
 ghost use Rattle.word_machine.specs.Actor.{Begin, Open, Idle};
 ghost use Rattle.word_machine.specs.Requests.{Request};
 ghost use Rattle.word_machine.specs.World.{Memory, World, Event, Ask, Step, plan, happens, run};
