@@ -1,0 +1,6 @@
+use Rattle.std.proofs.Common.{◌≡◌, ℕ, refl}
+use Rattle.step_core.proofs.Keeps.{lock_keeps, read_keeps, take_keeps}
+use Rattle.step_core.proofs.actor.Actor.again.Goals as goal
+
+pub returns-in-Free-clause-keeps : goal.returns-in-Free-clause-keeps
+returns-in-Free-clause-keeps c = read_keeps c.args.self.now _ c.args.location c.args.version c.args.value c.requires.place refl refl c.put.ensures.items refl refl

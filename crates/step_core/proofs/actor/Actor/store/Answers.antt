@@ -1,0 +1,11 @@
+use Rattle.std.proofs.Common.{◌≡◌, ℕ, ◌+◌, arith, ap, sym}
+use Rattle.word_machine.specs.Notices.{Stored}
+use Rattle.step_core.specs.Answers.{result_of}
+use Rattle.step_core.proofs.Moves.{none_left, some_left}
+use Rattle.step_core.proofs.actor.Actor.store.Goals as goal
+
+pub returns-then-i-len-clause-answer : goal.returns-then-i-len-clause-answer
+returns-then-i-len-clause-answer c = ap result_of (sym (none_left c.args.self.now.writes.items (c.args.i + 1) Stored (omega arith)))
+
+pub returns-else-i-len-clause-answer : goal.returns-else-i-len-clause-answer
+returns-else-i-len-clause-answer c = ap result_of (sym (some_left c.args.self.now.writes.items (c.args.i + 1) Stored (omega arith)))

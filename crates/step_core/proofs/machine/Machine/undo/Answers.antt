@@ -1,0 +1,26 @@
+use Rattle.std.proofs.Common.{◌≡◌, ℕ, refl, arith, ◌<◌, ◌+◌, ◌*◌, ◌∙◌, ap, sym, subst, length, slice_get, slice_set, set, drop, get_or, Some, List, [], ◌∷◌}
+use Rattle.std.proofs.lemmas.Option.{slice_get_read, get_or_from_slice_get}
+use Rattle.std.specs.Vec.{vec_len}
+use Rattle.word_machine.specs.Notices.{Stored}
+use Rattle.step_core.specs.Answers.{result_of}
+use Rattle.step_core.specs.Shown.{call_of}
+use Rattle.step_core.specs.Sound.{due, owed, Fits}
+use Rattle.std.specs.Prelude.{map}
+use Rattle.step_core.specs.declared.record.WordCall.{WordCall}
+use Rattle.step_core.specs.declared.actor.Actor.{Actor}
+use Rattle.step_core.specs.declared.actor.Place.{Place}
+use Rattle.step_core.specs.declared.actor.Place.TheVariants.{First, Close, Release, Undo}
+use Rattle.step_core.proofs.Moves.{All-at, fits_at, head_tail, one_left, more_left, first_own, first_steps, close_steps, release_steps, undo_steps, undone_all, empty_of, due_here, sound_recorded, sound_locked, plain_fits, length_set, get_or_same, same_at, idle_keeps, sound_moved}
+use Rattle.step_core.proofs.machine.Machine.undo.Goals as goal
+
+pub returns-clause-steps : goal.returns-clause-steps
+returns-clause-steps c =
+    let got = slice_get_read c.args.self.now.actors.items _ c.args.a c.index_mut-actor.result.now refl c.requires.actor c.index_mut-actor.ensures.value in
+    let some = c.requires.held _ got in
+    let hs : c.index_mut-actor.result.now.held.items ≡ c.index-entry.result.now ∷ drop 1 c.index_mut-actor.result.now.held.items = head_tail c.index_mut-actor.result.now.held.items c.index-entry.result.now (omega (arith, some)) ∙ ap (λ (e : ℕ × ℕ). e ∷ drop 1 c.index_mut-actor.result.now.held.items) (sym c.index-entry.ensures) in
+    let low = (All-at (Fits (length c.args.self.now.locks.items)) c.args.self.now.actors.items c.args.a c.index_mut-actor.result.now c.requires.sound.actors got).held 0 c.index-entry.result.now (omega (arith, some)) in
+    let q = ap (λ (e : ℕ × ℕ). e.0) c.index-entry.ensures in
+    undo_steps c.args.self.now c.args.a c.index_mut-actor.result.now c.undo-answer.new.self _ c.index-entry.result.now (drop 1 c.index_mut-actor.result.now.held.items) _ got (c.requires.place _ got) hs (omega (arith, low.0, q)) refl c.undo-answer.ensures.actor c.undo-answer.ensures.answer
+
+pub returns-clause-sound : goal.returns-clause-sound
+returns-clause-sound c = sound_locked c.args.self.now c.args.a c.index_mut-actor.result.now c.undo-answer.new.self _ _ c.requires.sound (slice_get_read c.args.self.now.actors.items _ c.args.a c.index_mut-actor.result.now refl c.requires.actor c.index_mut-actor.ensures.value) c.undo-answer.ensures.keeps

@@ -1,0 +1,25 @@
+use Rattle.std.proofs.Common.{subst}
+use Rattle.step_core.specs.Shown.{Shown, shown}
+use Rattle.step_core.specs.Opaque.{KeepsOthers, BeginsAbove}
+use Rattle.step_core.proofs.Moves.{reached_step}
+use Rattle.step_core.proofs.Laws.{keeps_others, begins_above}
+use Rattle.step_core.proofs.words.Words.step.Goals as goal
+
+pub invariant_of-self : goal.invariant_of-self
+invariant_of-self c = record {
+  sound = c.step.ensures.sound;
+  reached = reached_step _ (shown c.step.new.self) c.args.actor c.step.result c.self.invariant.reached c.step.ensures.steps;
+}
+
+pub returns-clause-others : goal.returns-clause-others
+returns-clause-others c =
+    subst (λ (z : Shown). KeepsOthers z c.args.actor (shown c.step.new.self)) c.self.view_is
+    (keeps_others (shown c.self.inside.machine) (shown c.step.new.self) c.args.actor c.step.result c.self.invariant.reached c.step.ensures.steps)
+
+pub returns-clause-begins : goal.returns-clause-begins
+returns-clause-begins c =
+    subst (λ (z : Shown). BeginsAbove z c.args.actor (shown c.step.new.self)) c.self.view_is
+    (begins_above (shown c.self.inside.machine) (shown c.step.new.self) c.args.actor c.step.result c.self.invariant.reached c.step.ensures.steps)
+
+pub returns-clause-reached : goal.returns-clause-reached
+returns-clause-reached c = reached_step _ (shown c.step.new.self) c.args.actor c.step.result c.self.invariant.reached c.step.ensures.steps

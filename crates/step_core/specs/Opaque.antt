@@ -1,0 +1,49 @@
+-- What holds of the running words, by whatever schedule they were reached.
+use Rattle.std.specs.Prelude.{◌≡◌, ℕ, ◌≢◌, List, [], Some, get_or}
+use Rattle.word_machine.specs.Entries.{lookup}
+use Rattle.word_machine.specs.Actor.{Begin, Open}
+use Rattle.word_machine.specs.World.{Memory, run, start, in_order}
+use Rattle.word_machine.specs.Opacity.{IsRun, IsInOrder, IsLegal, IsHalfDone, AllEnded, AllUpto, memory_after, memory_at, upto}
+use Rattle.step_core.specs.Shown.{Shown, shown, actor_in, Reached}
+use Rattle.step_core.specs.Sound.{Sound}
+use Rattle.step_core.specs.declared.words.Words.TheInside.{Inside}
+
+-- what callers see of the fields
+abbrev pub shown_in : Inside → Shown
+shown_in w = shown w.machine
+
+-- What every value of the running words is.
+pub record IsHeld (w : Inside) : Type 0 where
+  pub sound : Sound w.machine
+  pub reached : Reached (shown w.machine)
+
+-- the words after the committed transactions with a number of at most n
+abbrev pub words_at : Memory → Shown → ℕ → Memory
+words_at opening v n = memory_after opening (upto n (in_order [] v.history))
+
+-- no commit has stored a value and still holds a lock
+abbrev pub IsAtRest : Shown → Type 0
+IsAtRest v = (a : ℕ) → IsHalfDone (actor_in v a).place → ⊥
+
+-- Opacity. The history, in the order of its numbers, is a run of the words from the opening ones, and leaves the words that stand there if no
+-- commit is half done. Each transaction, open, committed or aborted, saw the words of the number at which it began.
+pub record Opaque (v : Shown) : Type 0 where
+  pub reached : Reached v
+  pub ordered : IsInOrder (in_order [] v.history)
+  pub serial : (r : Reached v) → IsRun r.opening (in_order [] v.history)
+  pub words : (r : Reached v) → IsAtRest v → (l : ℕ) → get_or v.values l 0 ≡ memory_after r.opening (in_order [] v.history) l
+  pub saw : (r : Reached v) (a : ℕ) → IsLegal (words_at r.opening v (actor_in v a).rv) (actor_in v a).calls
+  pub aborted : (r : Reached v) → let s = run r.events (start r.clock r.opening) in AllEnded (λ e. IsLegal (memory_at s e.rv) e.calls) s.aborted
+
+-- the calls of actor a's transaction are legal at the words of number n
+abbrev pub Saw : Shown → ℕ → ℕ → Type 0
+Saw v a n = (r : Reached v) → IsLegal (words_at r.opening v n) (actor_in v a).calls
+
+-- from its lock to its release no other actor changes a word that a transaction holds
+abbrev pub KeepsOthers : Shown → ℕ → Shown → Type 0
+KeepsOthers v a u =
+    (b l k : ℕ) → lookup (actor_in v b).held l ≡ Some k → b ≢ a → (get_or u.locks l 0 ≡ get_or v.locks l 0) × (get_or u.values l 0 ≡ get_or v.values l 0)
+
+-- a transaction begins at a number that is not below any committed before
+abbrev pub BeginsAbove : Shown → ℕ → Shown → Type 0
+BeginsAbove v a u = (actor_in v a).place ≡ Begin → (actor_in u a).place ≡ Open → AllUpto (actor_in u a).rv (in_order [] v.history)

@@ -1,0 +1,343 @@
+//! An actor with its transaction, and what each step makes of its own record.
+//!
+//! A step finds one word, and what it then makes of the actor depends on the actor and that word
+//! alone. So each kind of step is a method here, which is given the word, and [`crate::machine`] has
+//! the loads and the stores.
+ghost use Rattle.std.specs.Prelude.{◌≡◌, ◌≢◌, ℕ, ◌+◌, ◌^◌, ◌<◌, ◌≤◌, Ok, drop, nat_lt, if◌then◌else◌};
+ghost use Rattle.std.specs.Vec.{vec_len, vec_capacity};
+ghost use Rattle.vlock_word.specs.LockWord.{unbits};
+ghost use Rattle.word_machine.specs.Entries.{lookup, locations};
+ghost use Rattle.word_machine.specs.Actor as machine;
+ghost use Rattle.word_machine.specs.Actor.{goes, begun, seen, seen_again, seen_to_lock, taken, stamped_at, seen_in_check, freed, after_release};
+ghost use Rattle.word_machine.specs.Notices as notice;
+ghost use Rattle.word_machine.specs.Notices.{begin_notice, look_notice, again_notice, lock_notice, check_notice, when_none_left};
+ghost use Rattle.step_core.specs.Answers.{result_of};
+ghost use Rattle.step_core.specs.Blank.{IsBlank};
+ghost use Rattle.step_core.specs.Shown.{actor_of};
+ghost use Rattle.step_core.specs.Sound.{Fits, Keeps, owed, due};
+ghost use Rattle.step_core.specs.declared.actor.Place.TheVariants.{Look, Fetch, Again, Lock, Take, Check, Store, Release, Undo};
+ghost use Rattle.step_core.specs.declared.answer.WordRefusal.TheVariants.{Invalid};
+
+use crate::answer::{WordAnswer, WordRefusal};
+use crate::entries::{find, put};
+use crate::record::WordCall;
+use std::alloc::Global;
+use vlock_word::LockWord;
+
+mod asks;
+
+/// The clock from which on no transaction begins.
+pub const CLOCK_LIMIT: u64 = 4_611_686_018_427_387_904;
+
+/// Where an actor stands: the atomic step that is next, or a resting place.
+///
+/// A number in place of a list of locations is an index into the read or the write set.
+#[derive(Clone, Copy)]
+pub enum Place {
+    Idle,
+    Begin,
+    Open,
+    Look(u32),
+    Fetch(u32, u64),
+    Again(u32, u64, u64),
+    Lock(usize),
+    Take(u32, u64, usize),
+    Check(usize),
+    Broken,
+    First,
+    Store(usize),
+    Release,
+    Undo,
+    Leave,
+    Close,
+}
+
+/// An actor with its transaction.
+#[derive(Drop)]
+pub struct Actor {
+    pub place: Place,
+    /// The reading of the clock with which the transaction began.
+    pub rv: u64,
+    /// The number of its commit.
+    pub wv: u64,
+    /// The locations that it read, with the values that it found.
+    pub reads: Vec<(u32, u64)>,
+    /// The locations that it wrote, with the values to be stored.
+    pub writes: Vec<(u32, u64)>,
+    /// The locks that it holds, with their old versions.
+    pub held: Vec<(u32, u64)>,
+    /// Its reads and writes so far.
+    pub calls: Vec<WordCall>,
+    /// The same, for the record of a commit that was asked for.
+    pub ready: Vec<WordCall>,
+}
+
+impl Actor {
+    /// An actor without a transaction.
+    pub fn new(alloc: Global) -> Actor
+        ensures { IsBlank result }
+    {
+        Actor {
+            place: Place::Idle,
+            rv: 0,
+            wv: 0,
+            reads: Vec::new(alloc),
+            writes: Vec::new(alloc),
+            held: Vec::new(alloc),
+            calls: Vec::new(alloc),
+            ready: Vec::new(alloc),
+        }
+    }
+
+    /// The load of the clock that begins a transaction.
+    pub fn begin(&mut self, clock: u64) -> Result<Option<WordAnswer>, WordRefusal>
+        ensures actor { actor_of self.new ≡ begun (actor_of self.old) clock }
+        ensures answer { result ≡ result_of (begin_notice clock) }
+        ensures fits { (n : ℕ) → Fits n self.old → Fits n self.new }
+        ensures owed { owed self.new.place ≤ (if nat_lt clock 4611686018427387904 then 1 else 0) }
+        ensures due { due self.new.place ≤ 1 }
+    {
+        if clock >= CLOCK_LIMIT {
+            self.place = Place::Idle;
+            return Err(WordRefusal::Exhausted { clock });
+        }
+        self.place = Place::Open;
+        self.rv = clock;
+        self.wv = 0;
+        self.reads.clear();
+        self.writes.clear();
+        self.held.clear();
+        self.calls.clear();
+        Ok(Some(WordAnswer::Begun(clock)))
+    }
+
+    /// The first load of a lock word.
+    pub fn look(&mut self, location: u32, word: u64) -> Result<Option<WordAnswer>, WordRefusal>
+        requires place { self.old.place ≡ Look location }
+        ensures actor { actor_of self.new ≡ seen (actor_of self.old) location (unbits word) }
+        ensures answer { result ≡ result_of (look_notice self.old.rv location (unbits word)) }
+        ensures keeps { Keeps self.old self.new }
+    {
+        match LockWord::read(word) {
+            LockWord::Free(version) if version <= self.rv => {
+                self.place = Place::Fetch(location, version);
+                Ok(None)
+            }
+            _ => {
+                self.place = Place::Undo;
+                Err(WordRefusal::Moved { location, word })
+            }
+        }
+    }
+
+    /// The load of a value.
+    pub fn fetch(
+        &mut self,
+        location: u32,
+        version: u64,
+        value: u64,
+    ) -> Result<Option<WordAnswer>, WordRefusal>
+        requires place { self.old.place ≡ Fetch location version }
+        ensures actor { actor_of self.new ≡ goes (actor_of self.old) (machine.Again location version value) }
+        ensures answer { result ≡ result_of notice.Quiet }
+        ensures keeps { Keeps self.old self.new }
+    {
+        self.place = Place::Again(location, version, value);
+        Ok(None)
+    }
+
+    /// The second load of a lock word.
+    pub fn again(
+        &mut self,
+        location: u32,
+        version: u64,
+        value: u64,
+        word: u64,
+    ) -> Result<Option<WordAnswer>, WordRefusal>
+        requires place { self.old.place ≡ Again location version value }
+        requires reads { vec_len self.old.reads < vec_capacity self.old.reads }
+        requires calls { vec_len self.old.calls < vec_capacity self.old.calls }
+        ensures actor { actor_of self.new ≡ seen_again (actor_of self.old) location version value (unbits word) }
+        ensures answer { result ≡ result_of (again_notice location version value (unbits word)) }
+        ensures keeps { Keeps self.old self.new }
+    {
+        match LockWord::read(word) {
+            LockWord::Free(found) if found == version => {
+                put(&mut self.reads, location, value);
+                self.calls.push_reserved(WordCall::Read(location, value));
+                self.place = Place::Open;
+                Ok(Some(WordAnswer::Number(value)))
+            }
+            _ => {
+                self.place = Place::Undo;
+                Err(WordRefusal::Moved { location, word })
+            }
+        }
+    }
+
+    /// The load of a lock word of the write set.
+    pub fn to_lock(
+        &mut self,
+        location: u32,
+        i: usize,
+        word: u64,
+    ) -> Result<Option<WordAnswer>, WordRefusal>
+        requires place { self.old.place ≡ Lock i }
+        requires inside { i < vec_len self.old.writes }
+        requires location { (n : ℕ) → Fits n self.old → location < n }
+        ensures actor { actor_of self.new ≡ seen_to_lock (actor_of self.old) location (drop (i + 1) (locations self.old.writes.items)) (unbits word) }
+        ensures answer { result ≡ result_of (lock_notice location (unbits word)) }
+        ensures keeps { Keeps self.old self.new }
+    {
+        match LockWord::read(word) {
+            LockWord::Free(version) => {
+                self.place = Place::Take(location, version, i + 1);
+                Ok(None)
+            }
+            LockWord::Locked(_) => {
+                self.place = Place::Broken;
+                Err(WordRefusal::Busy { location, word })
+            }
+        }
+    }
+
+    /// The number of the commit, from the clock.
+    pub fn stamp(&mut self, clock: u64) -> Result<Option<WordAnswer>, WordRefusal>
+        requires clock { clock < 2 ^ 63 }
+        ensures actor { actor_of self.new ≡ stamped_at (actor_of self.old) clock }
+        ensures answer { result ≡ result_of (when_none_left self.old.reads.items (notice.LockedAt clock)) }
+        ensures fits { (n : ℕ) → Fits n self.old → Fits n self.new }
+        ensures owed { owed self.new.place ≡ 0 }
+        ensures due { due self.new.place ≤ 1 }
+    {
+        self.place = Place::Check(0);
+        self.wv = clock;
+        if self.reads.is_empty() {
+            Ok(Some(WordAnswer::Locked(clock)))
+        } else {
+            Ok(None)
+        }
+    }
+
+    /// A lock that was taken.
+    pub fn take(&mut self, location: u32, version: u64, i: usize)
+        requires place { self.old.place ≡ Take location version i }
+        requires held { vec_len self.old.held < vec_capacity self.old.held }
+        ensures actor { actor_of self.new ≡ taken (actor_of self.old) location version (drop i (locations self.old.writes.items)) }
+        ensures keeps { Keeps self.old self.new }
+    {
+        put(&mut self.held, location, version);
+        self.place = Place::Lock(i);
+    }
+
+    /// The next place of a check that went on, and its answer.
+    fn pass(&mut self, i: usize) -> Option<WordAnswer>
+        requires place { self.old.place ≡ Check i }
+        requires inside { i < vec_len self.old.reads }
+        ensures actor { actor_of self.new ≡ goes (actor_of self.old) (machine.Check (drop (i + 1) (locations self.old.reads.items))) }
+        ensures answer { Ok result ≡ result_of (when_none_left (drop (i + 1) (locations self.old.reads.items)) (notice.LockedAt self.old.wv)) }
+        ensures keeps { Keeps self.old self.new }
+    {
+        self.place = Place::Check(i + 1);
+        if i + 1 == self.reads.len() {
+            Some(WordAnswer::Locked(self.wv))
+        } else {
+            None
+        }
+    }
+
+    /// A check that failed.
+    fn fail(&mut self, location: u32, word: u64) -> WordRefusal
+        requires due { due self.old.place ≡ 1 }
+        ensures actor { actor_of self.new ≡ goes (actor_of self.old) machine.Broken }
+        ensures answer { result ≡ Invalid location word }
+        ensures keeps { Keeps self.old self.new }
+    {
+        self.place = Place::Broken;
+        WordRefusal::Invalid { location, word }
+    }
+
+    /// The load of a lock word of the read set.
+    pub fn check(
+        &mut self,
+        location: u32,
+        i: usize,
+        word: u64,
+    ) -> Result<Option<WordAnswer>, WordRefusal>
+        requires place { self.old.place ≡ Check i }
+        requires inside { i < vec_len self.old.reads }
+        ensures actor { actor_of self.new ≡ seen_in_check (actor_of self.old) (drop (i + 1) (locations self.old.reads.items)) (unbits word) (lookup self.old.held.items location) }
+        ensures answer { result ≡ result_of (check_notice self.old.rv self.old.wv location (drop (i + 1) (locations self.old.reads.items)) (unbits word) (lookup self.old.held.items location)) }
+        ensures keeps { Keeps self.old self.new }
+    {
+        match LockWord::read(word) {
+            LockWord::Free(version) => {
+                if version <= self.rv {
+                    Ok(self.pass(i))
+                } else {
+                    Err(self.fail(location, word))
+                }
+            }
+            LockWord::Locked(version) => {
+                match find(&self.held, location) {
+                    Some(_) => {
+                        if version <= self.rv {
+                            Ok(self.pass(i))
+                        } else {
+                            Err(self.fail(location, word))
+                        }
+                    }
+                    None => Err(self.fail(location, word)),
+                }
+            }
+        }
+    }
+
+    /// The place after a value store, and its answer.
+    pub fn store(&mut self, i: usize) -> Option<WordAnswer>
+        requires place { self.old.place ≡ Store i }
+        requires inside { i < vec_len self.old.writes }
+        ensures actor { actor_of self.new ≡ goes (actor_of self.old) (machine.Store (drop (i + 1) (locations self.old.writes.items))) }
+        ensures answer { Ok result ≡ result_of (when_none_left (drop (i + 1) (locations self.old.writes.items)) notice.Stored) }
+        ensures keeps { Keeps self.old self.new }
+    {
+        self.place = Place::Store(i + 1);
+        if i + 1 == self.writes.len() {
+            Some(WordAnswer::Stored)
+        } else {
+            None
+        }
+    }
+
+    /// The place after a lock was given back by a commit, and its answer.
+    pub fn release(&mut self) -> Option<WordAnswer>
+        requires place { self.old.place ≡ Release }
+        requires held { 0 < vec_len self.old.held }
+        ensures actor { actor_of self.new ≡ freed (actor_of self.old) (drop 1 self.old.held.items) (after_release (drop 1 self.old.held.items)) }
+        ensures answer { Ok result ≡ result_of (when_none_left (drop 1 self.old.held.items) notice.Released) }
+        ensures keeps { Keeps self.old self.new }
+    {
+        let _ = self.held.remove(0);
+        if self.held.is_empty() {
+            self.place = Place::Idle;
+            return Some(WordAnswer::Released);
+        }
+        None
+    }
+
+    /// What is left once a lock was given back by a cancel, and its answer.
+    pub fn undo(&mut self) -> Option<WordAnswer>
+        requires place { self.old.place ≡ Undo }
+        requires held { 0 < vec_len self.old.held }
+        ensures actor { actor_of self.new ≡ freed (actor_of self.old) (drop 1 self.old.held.items) machine.Undo }
+        ensures answer { Ok result ≡ result_of (when_none_left (drop 1 self.old.held.items) notice.Cancelled) }
+        ensures keeps { Keeps self.old self.new }
+    {
+        let _ = self.held.remove(0);
+        if self.held.is_empty() {
+            Some(WordAnswer::Cancelled)
+        } else {
+            None
+        }
+    }
+}

@@ -1,0 +1,353 @@
+//! What a request makes of an actor's record. It makes the room that its steps will need.
+ghost use Rattle.std.specs.Prelude.{◌≡◌, ℕ, ◌≤◌, Ok, Err, Option, Some, None, true, OnOk, OnErr, IfOk, IfErr};
+ghost use Rattle.word_machine.specs.Requests.{ask, AskBegin, AskRelease, AskRead, AskWrite, AskLock, AskStore, AskCancel, AskAbort, AskClose};
+ghost use Rattle.word_machine.specs.Notices.{reply};
+ghost use Rattle.step_core.specs.Answers.{request_of, result_of};
+ghost use Rattle.step_core.specs.Phases.{phase_of, allows, if_full, if_new, location_refusal, refusal_at};
+ghost use Rattle.word_machine.specs.Entries.{lookup};
+ghost use Rattle.step_core.specs.Shown.{actor_of, snapshot_of};
+ghost use Rattle.step_core.specs.Sound.{Fits, IsWithin, owed};
+ghost use Rattle.step_core.specs.declared.answer.WordRefusal.TheVariants.{OutOfMemory};
+
+use crate::actor::{Actor, Place};
+use crate::answer::{WordAnswer, WordRefusal, WordRequest};
+use crate::entries::{find, put};
+use crate::phase::Phase;
+use crate::record::WordCall;
+
+/// The most locations that a set holds.
+const SET_LIMIT: usize = 4096;
+
+/// Whether a set has its most locations.
+fn if_full(entries: &[(u32, u64)]) -> Option<WordRefusal>
+    ensures { result ≡ if_full entries.now }
+{
+    if entries.len() < SET_LIMIT {
+        None
+    } else {
+        Some(WordRefusal::TooLong)
+    }
+}
+
+impl Actor {
+    /// What may be asked of it.
+    pub fn phase(&self) -> Phase
+        ensures { result ≡ phase_of (actor_of self.now) (actor_of self.now).place }
+    {
+        match self.place {
+            Place::Idle => Phase::Idle,
+            Place::Open => {
+                if self.writes.is_empty() {
+                    Phase::Reader
+                } else {
+                    Phase::Writer
+                }
+            }
+            Place::Begin => Phase::Waiting,
+            Place::Look(_) => Phase::Waiting,
+            Place::Fetch(_, _) => Phase::Waiting,
+            Place::Again(_, _, _) => Phase::Waiting,
+            Place::Close => Phase::Waiting,
+            Place::Lock(_) => Phase::Locking,
+            Place::Take(_, _, _) => Phase::Locking,
+            Place::Check(i) => {
+                if i < self.reads.len() {
+                    Phase::Locking
+                } else {
+                    Phase::Locked
+                }
+            }
+            Place::Broken => Phase::Broken,
+            Place::Store(i) => {
+                if i < self.writes.len() {
+                    Phase::Busy
+                } else {
+                    Phase::Stored
+                }
+            }
+            Place::Undo => {
+                if self.held.is_empty() {
+                    Phase::Ended
+                } else {
+                    Phase::Busy
+                }
+            }
+            Place::First => Phase::Busy,
+            Place::Release => Phase::Busy,
+            Place::Leave => Phase::Busy,
+        }
+    }
+
+    /// The reading of the clock with which its open transaction began.
+    pub fn snapshot(&self) -> Option<u64>
+        ensures { result ≡ snapshot_of (actor_of self.now) (actor_of self.now).place }
+    {
+        match self.place {
+            Place::Idle => None,
+            Place::Begin => None,
+            Place::Store(_) => None,
+            Place::Release => None,
+            Place::Open => Some(self.rv),
+            Place::Look(_) => Some(self.rv),
+            Place::Fetch(_, _) => Some(self.rv),
+            Place::Again(_, _, _) => Some(self.rv),
+            Place::Lock(_) => Some(self.rv),
+            Place::Take(_, _, _) => Some(self.rv),
+            Place::Check(_) => Some(self.rv),
+            Place::Broken => Some(self.rv),
+            Place::First => Some(self.rv),
+            Place::Undo => Some(self.rv),
+            Place::Leave => Some(self.rv),
+            Place::Close => Some(self.rv),
+        }
+    }
+
+    /// Why a read of a location is refused, if it is in neither set and the read set is full.
+    fn read_refusal(&self, location: u32) -> Option<WordRefusal>
+        ensures { result ≡ if_new (lookup self.now.writes.items location) (lookup self.now.reads.items location) self.now.reads.items }
+    {
+        match find(&self.writes, location) {
+            Some(_) => None,
+            None => match find(&self.reads, location) {
+                Some(_) => None,
+                None => if_full(&self.reads),
+            },
+        }
+    }
+
+    /// Why a write to a location is refused, if it is not in the write set and that is full.
+    fn write_refusal(&self, location: u32) -> Option<WordRefusal>
+        ensures { result ≡ if_new (lookup self.now.writes.items location) None self.now.writes.items }
+    {
+        match find(&self.writes, location) {
+            Some(_) => None,
+            None => if_full(&self.writes),
+        }
+    }
+
+    /// Why a request is refused for its location, where there are so many locations.
+    fn location_refusal(&self, locations: usize, request: WordRequest) -> Option<WordRefusal>
+        ensures { result ≡ location_refusal locations (actor_of self.now) (request_of request) }
+    {
+        match request {
+            WordRequest::Read(location) => {
+                if (location as usize) < locations {
+                    self.read_refusal(location)
+                } else {
+                    Some(WordRefusal::NoSuch)
+                }
+            }
+            WordRequest::Write(location, _) => {
+                if (location as usize) < locations {
+                    self.write_refusal(location)
+                } else {
+                    Some(WordRefusal::NoSuch)
+                }
+            }
+            WordRequest::Begin => None,
+            WordRequest::Lock => None,
+            WordRequest::Store => None,
+            WordRequest::Release => None,
+            WordRequest::Cancel => None,
+            WordRequest::Abort => None,
+            WordRequest::Close => None,
+        }
+    }
+
+    /// Why a request is refused, memory aside, where there are so many locations.
+    pub fn refusal(&self, locations: usize, request: WordRequest) -> Option<WordRefusal>
+        ensures { result ≡ refusal_at locations (actor_of self.now) (actor_of self.now).place (request_of request) }
+    {
+        let phase = self.phase();
+        if phase.allows(request) {
+            self.location_refusal(locations, request)
+        } else {
+            Some(phase.refusal(request))
+        }
+    }
+
+    /// A read: a set answers, or else the steps begin, with their room.
+    fn ask_read(&mut self, location: u32) -> Result<Option<WordAnswer>, WordRefusal>
+        requires allowed { allows (phase_of (actor_of self.old) (actor_of self.old).place) (AskRead location) ≡ true }
+        ensures ok { OnOk result (actor_of self.new ≡ ask (actor_of self.old) (actor_of self.old).place (AskRead location)) }
+        ensures answer { IfOk result (λ answer. Ok answer ≡ result_of (reply (actor_of self.old) (actor_of self.old).place (AskRead location))) }
+        ensures refused { IfErr result (λ refusal. refusal ≡ OutOfMemory) }
+        ensures err { OnErr result (actor_of self.new ≡ actor_of self.old) }
+        ensures keeps { (n : ℕ) → IsWithin n (AskRead location) → Fits n self.old → Fits n self.new }
+        ensures owed { owed self.new.place ≤ owed self.old.place }
+    {
+        if let Err(_) = self.calls.reserve(1) {
+            return Err(WordRefusal::OutOfMemory);
+        }
+        if let Some(value) = find(&self.writes, location) {
+            self.calls.push_reserved(WordCall::Read(location, value));
+            return Ok(Some(WordAnswer::Number(value)));
+        }
+        if let Some(value) = find(&self.reads, location) {
+            self.calls.push_reserved(WordCall::Read(location, value));
+            return Ok(Some(WordAnswer::Number(value)));
+        }
+        if let Err(_) = self.reads.reserve(1) {
+            return Err(WordRefusal::OutOfMemory);
+        }
+        self.place = Place::Look(location);
+        Ok(None)
+    }
+
+    /// A write: the write set keeps the value.
+    fn ask_write(&mut self, location: u32, value: u64) -> Result<Option<WordAnswer>, WordRefusal>
+        requires allowed { allows (phase_of (actor_of self.old) (actor_of self.old).place) (AskWrite location value) ≡ true }
+        ensures ok { OnOk result (actor_of self.new ≡ ask (actor_of self.old) (actor_of self.old).place (AskWrite location value)) }
+        ensures answer { IfOk result (λ answer. Ok answer ≡ result_of (reply (actor_of self.old) (actor_of self.old).place (AskWrite location value))) }
+        ensures refused { IfErr result (λ refusal. refusal ≡ OutOfMemory) }
+        ensures err { OnErr result (actor_of self.new ≡ actor_of self.old) }
+        ensures keeps { (n : ℕ) → IsWithin n (AskWrite location value) → Fits n self.old → Fits n self.new }
+        ensures owed { owed self.new.place ≤ owed self.old.place }
+    {
+        if let Err(_) = self.calls.reserve(1) {
+            return Err(WordRefusal::OutOfMemory);
+        }
+        if let Err(_) = self.writes.reserve(1) {
+            return Err(WordRefusal::OutOfMemory);
+        }
+        put(&mut self.writes, location, value);
+        self.calls.push_reserved(WordCall::Write(location, value));
+        Ok(Some(WordAnswer::Done))
+    }
+
+    /// The locks of a writer, from the first.
+    fn ask_lock(&mut self) -> Result<Option<WordAnswer>, WordRefusal>
+        requires allowed { allows (phase_of (actor_of self.old) (actor_of self.old).place) AskLock ≡ true }
+        ensures ok { OnOk result (actor_of self.new ≡ ask (actor_of self.old) (actor_of self.old).place AskLock) }
+        ensures answer { IfOk result (λ answer. Ok answer ≡ result_of (reply (actor_of self.old) (actor_of self.old).place AskLock)) }
+        ensures refused { IfErr result (λ refusal. refusal ≡ OutOfMemory) }
+        ensures err { OnErr result (actor_of self.new ≡ actor_of self.old) }
+        ensures keeps { (n : ℕ) → Fits n self.old → Fits n self.new }
+        ensures owed { owed self.new.place ≤ owed self.old.place }
+    {
+        if let Err(_) = self.held.reserve(self.writes.len()) {
+            return Err(WordRefusal::OutOfMemory);
+        }
+        self.place = Place::Lock(0);
+        Ok(None)
+    }
+
+    /// The values of a writer, whose record is made ready.
+    fn ask_store(&mut self) -> Result<Option<WordAnswer>, WordRefusal>
+        requires allowed { allows (phase_of (actor_of self.old) (actor_of self.old).place) AskStore ≡ true }
+        ensures ok { OnOk result (actor_of self.new ≡ ask (actor_of self.old) (actor_of self.old).place AskStore) }
+        ensures answer { IfOk result (λ answer. Ok answer ≡ result_of (reply (actor_of self.old) (actor_of self.old).place AskStore)) }
+        ensures refused { IfErr result (λ refusal. refusal ≡ OutOfMemory) }
+        ensures err { OnErr result (actor_of self.new ≡ actor_of self.old) }
+        ensures keeps { (n : ℕ) → Fits n self.old → Fits n self.new }
+        ensures owed { owed self.new.place ≤ owed self.old.place }
+    {
+        self.ready.clear();
+        if let Err(_) = self.ready.extend_from_slice(&self.calls) {
+            return Err(WordRefusal::OutOfMemory);
+        }
+        self.place = Place::First;
+        Ok(None)
+    }
+
+    /// The end of a reader, whose record is made ready.
+    fn ask_close(&mut self) -> Result<Option<WordAnswer>, WordRefusal>
+        requires allowed { allows (phase_of (actor_of self.old) (actor_of self.old).place) AskClose ≡ true }
+        ensures ok { OnOk result (actor_of self.new ≡ ask (actor_of self.old) (actor_of self.old).place AskClose) }
+        ensures answer { IfOk result (λ answer. Ok answer ≡ result_of (reply (actor_of self.old) (actor_of self.old).place AskClose)) }
+        ensures refused { IfErr result (λ refusal. refusal ≡ OutOfMemory) }
+        ensures err { OnErr result (actor_of self.new ≡ actor_of self.old) }
+        ensures keeps { (n : ℕ) → Fits n self.old → Fits n self.new }
+        ensures owed { owed self.new.place ≤ owed self.old.place }
+    {
+        self.ready.clear();
+        if let Err(_) = self.ready.extend_from_slice(&self.calls) {
+            return Err(WordRefusal::OutOfMemory);
+        }
+        self.place = Place::Close;
+        Ok(None)
+    }
+
+    /// The locks given back with their old versions, which is done where none was taken.
+    fn ask_cancel(&mut self) -> Option<WordAnswer>
+        requires allowed { allows (phase_of (actor_of self.old) (actor_of self.old).place) AskCancel ≡ true }
+        ensures actor { actor_of self.new ≡ ask (actor_of self.old) (actor_of self.old).place AskCancel }
+        ensures answer { Ok result ≡ result_of (reply (actor_of self.old) (actor_of self.old).place AskCancel) }
+        ensures keeps { (n : ℕ) → Fits n self.old → Fits n self.new }
+        ensures owed { owed self.new.place ≤ owed self.old.place }
+    {
+        self.place = Place::Undo;
+        if self.held.is_empty() {
+            Some(WordAnswer::Cancelled)
+        } else {
+            None
+        }
+    }
+
+    /// The end of a transaction, or of a begin that was not answered.
+    fn ask_abort(&mut self) -> Option<WordAnswer>
+        requires allowed { allows (phase_of (actor_of self.old) (actor_of self.old).place) AskAbort ≡ true }
+        ensures actor { actor_of self.new ≡ ask (actor_of self.old) (actor_of self.old).place AskAbort }
+        ensures answer { Ok result ≡ result_of (reply (actor_of self.old) (actor_of self.old).place AskAbort) }
+        ensures keeps { (n : ℕ) → Fits n self.old → Fits n self.new }
+        ensures owed { owed self.new.place ≤ owed self.old.place }
+    {
+        match self.place {
+            Place::Begin => {
+                self.place = Place::Idle;
+                Some(WordAnswer::Ended)
+            }
+            _ => {
+                self.place = Place::Leave;
+                None
+            }
+        }
+    }
+
+    /// A new transaction.
+    fn ask_begin(&mut self) -> Option<WordAnswer>
+        requires allowed { allows (phase_of (actor_of self.old) (actor_of self.old).place) AskBegin ≡ true }
+        ensures actor { actor_of self.new ≡ ask (actor_of self.old) (actor_of self.old).place AskBegin }
+        ensures answer { Ok result ≡ result_of (reply (actor_of self.old) (actor_of self.old).place AskBegin) }
+        ensures keeps { (n : ℕ) → Fits n self.old → Fits n self.new }
+        ensures owed { owed self.new.place ≤ owed self.old.place }
+    {
+        self.place = Place::Begin;
+        None
+    }
+
+    /// The locks given back with the number of the commit.
+    fn ask_release(&mut self) -> Option<WordAnswer>
+        requires allowed { allows (phase_of (actor_of self.old) (actor_of self.old).place) AskRelease ≡ true }
+        ensures actor { actor_of self.new ≡ ask (actor_of self.old) (actor_of self.old).place AskRelease }
+        ensures answer { Ok result ≡ result_of (reply (actor_of self.old) (actor_of self.old).place AskRelease) }
+        ensures keeps { (n : ℕ) → Fits n self.old → Fits n self.new }
+        ensures owed { owed self.new.place ≤ owed self.old.place }
+    {
+        self.place = Place::Release;
+        None
+    }
+
+    /// A request that its phase has. It is refused only for want of memory.
+    pub fn ask(&mut self, request: WordRequest) -> Result<Option<WordAnswer>, WordRefusal>
+        requires allowed { allows (phase_of (actor_of self.old) (actor_of self.old).place) (request_of request) ≡ true }
+        ensures ok { OnOk result (actor_of self.new ≡ ask (actor_of self.old) (actor_of self.old).place (request_of request)) }
+        ensures answer { IfOk result (λ answer. Ok answer ≡ result_of (reply (actor_of self.old) (actor_of self.old).place (request_of request))) }
+        ensures refused { IfErr result (λ refusal. refusal ≡ OutOfMemory) }
+        ensures err { OnErr result (actor_of self.new ≡ actor_of self.old) }
+        ensures keeps { (n : ℕ) → IsWithin n (request_of request) → Fits n self.old → Fits n self.new }
+        ensures owed { owed self.new.place ≤ owed self.old.place }
+    {
+        match request {
+            WordRequest::Begin => Ok(self.ask_begin()),
+            WordRequest::Read(location) => self.ask_read(location),
+            WordRequest::Write(location, value) => self.ask_write(location, value),
+            WordRequest::Lock => self.ask_lock(),
+            WordRequest::Store => self.ask_store(),
+            WordRequest::Release => Ok(self.ask_release()),
+            WordRequest::Cancel => Ok(self.ask_cancel()),
+            WordRequest::Abort => Ok(self.ask_abort()),
+            WordRequest::Close => self.ask_close(),
+        }
+    }
+}

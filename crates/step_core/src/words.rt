@@ -1,0 +1,143 @@
+//! The running words, as callers see them.
+use crate::actor::CLOCK_LIMIT;
+use crate::answer::{WordAnswer, WordRefusal, WordRequest};
+use crate::machine::{Machine, seats, zeros};
+use crate::record::WordRecord;
+use std::alloc::Global;
+use std::marker::Model;
+
+/// The most locations.
+const LOCATIONS: usize = 65_536;
+
+/// A clock, a table of words, and 64 actors that run transactions on them, one atomic step at a time.
+#[derive(Drop)]
+pub struct Words {
+    machine: Machine,
+}
+
+impl Model for Words {
+    ghost use Rattle.step_core.specs.Shown.{Shown};
+
+    ghost Value = { Shown };
+
+    ghost use Rattle.step_core.specs.Opaque.{shown_in, IsHeld};
+
+    ghost view = { shown_in };
+
+    ghost invariant = { IsHeld };
+}
+
+impl Words {
+    ghost use Rattle.std.specs.Prelude.{◌≡◌, ℕ, ◌≤◌, length, map, get_or, [], None, OnOk, OnErr, IfOk, IfErr, IfSome, replicate};
+    ghost use Rattle.word_machine.specs.World.{start};
+    ghost use Rattle.step_core.specs.Answers.{request_of};
+    ghost use Rattle.step_core.specs.Shown.{Steps, Asks, Shows, Reached, record_of, actor_in, refusal_of, IsRefusal, snapshot_of};
+    ghost use Rattle.step_core.specs.Opaque.{Opaque, Saw, KeepsOthers, BeginsAbove};
+    ghost use Rattle.step_core.specs.Openings.{opening_refusal};
+
+    /// A table of these values, each with a free lock word of version 0, a clock, and no history.
+    ///
+    /// `TooLong` for a clock above 2^62 or more than 65,536 values. The values are dropped where it
+    /// is refused.
+    pub fn new(alloc: Global, clock: u64, values: Vec<u64>) -> Result<Words, WordRefusal>
+        ensures shows { IfOk result (λ words. Shows words (start clock (λ l. get_or values.items l 0))) }
+        ensures words { IfOk result (λ words. words.values ≡ values.items) }
+        ensures allowed { OnOk result (opening_refusal clock (length values.items) ≡ None) }
+        ensures refused { IfErr result (λ refusal. IsRefusal (opening_refusal clock (length values.items)) refusal) }
+        ensures reached { IfOk result Reached }
+    {
+        if clock > CLOCK_LIMIT || values.len() > LOCATIONS {
+            return Err(WordRefusal::TooLong);
+        }
+        let locks = match zeros(alloc, values.len()) {
+            Ok(locks) => locks,
+            Err(_) => return Err(WordRefusal::OutOfMemory),
+        };
+        let actors = match seats(alloc) {
+            Ok(actors) => actors,
+            Err(_) => return Err(WordRefusal::OutOfMemory),
+        };
+        Ok(Words {
+            machine: Machine {
+                clock,
+                locks,
+                values,
+                actors,
+                history: Vec::new(alloc),
+            },
+        })
+    }
+
+    /// Asks an actor for something, and gives the answer where it takes no step.
+    ///
+    /// `NoSuch` for an actor that is not 1 to 64, `NotIdle` where a request is unanswered or a begin
+    /// is asked inside a transaction, `NoTransaction` for another request that the phase lacks,
+    /// `NoSuch` for a location that there is not, `TooLong` for one more than 4,096 in a set, in this
+    /// order, and `OutOfMemory` where none of these holds and a growth was refused. A refused
+    /// request changes nothing.
+    pub fn ask(
+        &mut self,
+        actor: u32,
+        request: WordRequest,
+    ) -> Result<Option<WordAnswer>, WordRefusal>
+        ensures asks { IfOk result (λ answer. Asks self.old actor (request_of request) self.new answer) }
+        ensures allowed { OnOk result (refusal_of self.old actor (request_of request) ≡ None) }
+        ensures refused { IfErr result (λ refusal. IsRefusal (refusal_of self.old actor (request_of request)) refusal) }
+        ensures err { OnErr result (self.new ≡ self.old) }
+        ensures reached { Reached self.new }
+    {
+        let a = actor as usize;
+        if let Some(refusal) = self.machine.refusal(a, request) {
+            return Err(refusal);
+        }
+        self.machine.ask(a, request)
+    }
+
+    /// The next atomic step of an actor, and the answer to its request, if this step brings it.
+    ///
+    /// `Moved`, `Busy` and `Invalid` name the location and the lock word that this step found,
+    /// `Exhausted` the clock; `NoTransaction` where no step is due. It takes no memory.
+    pub fn step(&mut self, actor: u32) -> Result<Option<WordAnswer>, WordRefusal>
+        ensures steps { Steps self.old actor self.new result }
+        ensures others { KeepsOthers self.old actor self.new }
+        ensures begins { BeginsAbove self.old actor self.new }
+        ensures reached { Reached self.new }
+    {
+        let a = actor as usize;
+        if a >= self.machine.actors.len() {
+            return Err(WordRefusal::NoTransaction);
+        }
+        self.machine.step(a)
+    }
+
+    /// The committed transactions, as committed.
+    pub fn history(&self) -> &[WordRecord]
+        ensures records { map record_of result.now ≡ self.now.history }
+        ensures opaque { Opaque self.now }
+    {
+        &self.machine.history
+    }
+
+    /// The words, as they stand.
+    pub fn values(&self) -> &[u64]
+        ensures { result.now ≡ self.now.values }
+    {
+        &self.machine.values
+    }
+
+    /// The reading of the clock with which an actor's open transaction began.
+    pub fn snapshot(&self, actor: u32) -> Option<u64>
+        ensures is { result ≡ snapshot_of (actor_in self.now actor) (actor_in self.now actor).place }
+        ensures saw { IfSome result (λ rv. Saw self.now actor rv) }
+    {
+        let a = actor as usize;
+        if a < self.machine.actors.len() {
+            self.machine.snapshot(a)
+        } else {
+            None
+        }
+    }
+}
+
+#[cfg(test)]
+mod tests;

@@ -1,0 +1,15 @@
+pub mod Worlds
+pub mod Sets
+pub mod Calls
+pub mod Records
+pub mod Invariant
+pub mod Frame
+pub mod Quiet
+pub mod Moves
+pub mod Schedules
+pub mod Cells
+pub mod Alone
+pub mod Progress
+pub mod Answered
+pub mod Short
+pub mod Order

@@ -1,0 +1,93 @@
+//! What holds of the machine after every schedule.
+//!
+//! Each law is the contract of a function without parameters, whose body is empty.
+ghost use Rattle.std.specs.Prelude.{◌≡◌, ◌≢◌, ◌<◌, ◌≤◌, [], ℕ, List, Some, length};
+ghost use Rattle.tx_sets.specs.Entries.{lookup};
+ghost use Rattle.word_machine.specs.Actor.{Begin, Open, Idle};
+ghost use Rattle.word_machine.specs.Requests.{Request};
+ghost use Rattle.word_machine.specs.World.{Memory, World, Event, Ask, Step, plan, happens, run};
+ghost use Rattle.word_machine.specs.Cells.{Cell, cell, word_of};
+ghost use Rattle.word_machine.specs.Notices.{IsConflict, notice};
+ghost use Rattle.word_machine.specs.Progress.{IsAlone, IsFree, steps_left, steps_of, AsksNothing, IsAnsweredWithin};
+ghost use Rattle.word_machine.specs.Opacity.{
+  IsRun,
+  IsInOrder,
+  IsLegal,
+  IsNoneHalfDone,
+  AllEnded,
+  AllUpto,
+  actor_of,
+  after_events,
+  memory_at,
+  memory_after,
+};
+
+/// Opacity, for every opening clock, opening memory and schedule, of any number of actors.
+///
+/// The committed transactions, in the order of their numbers, are a run of the words: every reply is
+/// the sequential one, and no two writers share a number. Each transaction, whether it commits, is
+/// open or was aborted, saw the memory of the number at which it began, and this stays so whatever
+/// happens later. Where no commit is half done the words hold what the run leaves. From its lock to
+/// its release no other actor changes a word that a transaction holds. A transaction begins at a
+/// number that is not below any committed before, so transactions that don't overlap keep their
+/// order in time. An idle actor holds no lock.
+pub fn opacity()
+    ensures in_order { (clock : ℕ) (memory : Memory) (events : List Event) → IsInOrder (after_events clock memory events).history }
+    ensures serial { (clock : ℕ) (memory : Memory) (events : List Event) → IsRun memory (after_events clock memory events).history }
+    ensures saw { (clock : ℕ) (memory : Memory) (events later : List Event) (a : ℕ) →
+        let s = after_events clock memory events in
+        IsLegal (memory_at (run later s) (s.actors a).rv) (s.actors a).calls }
+    ensures aborted { (clock : ℕ) (memory : Memory) (events : List Event) →
+        let s = after_events clock memory events in
+        AllEnded (λ e. IsLegal (memory_at s e.rv) e.calls) s.aborted }
+    ensures words { (clock : ℕ) (memory : Memory) (events : List Event) →
+        let s = after_events clock memory events in
+        IsNoneHalfDone s → (l : ℕ) → s.values l ≡ memory_after memory s.history l }
+    ensures owned { (clock : ℕ) (memory : Memory) (events : List Event) (event : Event) (a l k : ℕ) →
+        let s = after_events clock memory events in
+        lookup (s.actors a).held l ≡ Some k → a ≢ actor_of event →
+        ((happens s event).locks l ≡ s.locks l) × ((happens s event).values l ≡ s.values l) }
+    ensures begins { (clock : ℕ) (memory : Memory) (events : List Event) (a : ℕ) →
+        let s = after_events clock memory events in
+        (s.actors a).place ≡ Begin →
+        ((happens s (Step a)).actors a).place ≡ Open →
+        AllUpto ((happens s (Step a)).actors a).rv s.history }
+    ensures idle { (clock : ℕ) (memory : Memory) (events : List Event) (a : ℕ) →
+        let s = after_events clock memory events in
+        (s.actors a).place ≡ Idle → (s.actors a).held ≡ [] }
+{}
+
+/// An atomic step changes at most the one word that it touches, and a request changes none.
+pub fn one_word()
+    ensures step { (s : World) (a : ℕ) (word : Cell) →
+        word_of (plan (s.actors a) (s.actors a).place) ≢ Some word → cell (happens s (Step a)) word ≡ cell s word }
+    ensures ask { (s : World) (a : ℕ) (request : Request) (word : Cell) → cell (happens s (Ask a request)) word ≡ cell s word }
+{}
+
+/// A transaction beside which no other steps, and which begins with every lock free, is refused for
+/// no conflict.
+pub fn alone()
+    ensures { (clock : ℕ) (memory : Memory) (events later : List Event) (a : ℕ) →
+        let s = after_events clock memory events in
+        let t = run later s in
+        (s.actors a).place ≡ Begin → ((l : ℕ) → IsFree (s.locks l)) → IsAlone a later →
+        IsConflict (notice t (t.actors a) (t.actors a).place) → ⊥ }
+{}
+
+/// Each request is answered within so many of its own steps as `steps_left` says, whatever the others
+/// do between them; and with sets of at most 4,096 locations that is fewer than 1,000,000.
+pub fn progress()
+    ensures nearer { (clock : ℕ) (memory : Memory) (events : List Event) (a : ℕ) →
+        let s = after_events clock memory events in
+        let t = happens s (Step a) in
+        0 < steps_left (s.actors a) (s.actors a).place →
+        steps_left (t.actors a) (t.actors a).place < steps_left (s.actors a) (s.actors a).place }
+    ensures answered { (clock : ℕ) (memory : Memory) (events later : List Event) (a : ℕ) →
+        let s = after_events clock memory events in
+        0 < steps_left (s.actors a) (s.actors a).place → AsksNothing a later →
+        steps_left (s.actors a) (s.actors a).place ≤ steps_of a later → IsAnsweredWithin a later s }
+    ensures few { (clock : ℕ) (memory : Memory) (events : List Event) (a : ℕ) →
+        let s = after_events clock memory events in
+        length (s.actors a).reads ≤ 4096 → length (s.actors a).writes ≤ 4096 →
+        steps_left (s.actors a) (s.actors a).place < 1000000 }
+{}
