@@ -11,24 +11,38 @@ mod tool;
 use std::process::ExitCode;
 use std::{env, io};
 
-fn main(rt: HostRuntime) -> io::Result<ExitCode> {
+fn main(rt: HostRuntime) -> ExitCode {
+    let status = match words_of(&rt) {
+        Ok(words) => run(&rt, words.as_slice()),
+        Err(error) => refuse(&rt, error),
+    };
+    ExitCode::from(status)
+}
+
+// The words behind the program's own name.
+fn words_of(rt: &HostRuntime) -> io::Result<Vec<String>> {
+    let words = env::args(rt)?.skip(1).collect(rt.alloc())?;
+    Ok(words)
+}
+
+fn refuse(rt: &HostRuntime, error: io::Error) -> u8 {
+    let mut err = rt.stderr();
+    if error.kind() == io::ErrorKind::OutOfMemory {
+        return tool::fault(&mut err, tool::MEMORY, "Memory");
+    }
+    tool::fault(&mut err, tool::REFUSED, "cannot read the words")
+}
+
+fn run(rt: &HostRuntime, words: &[String]) -> u8 {
     let alloc = rt.alloc();
-    let words: Vec<String> = env::args(&rt)?.skip(1).collect(alloc)?;
     let mut out = rt.stdout();
     let mut err = rt.stderr();
-    let status = match tool::file_of(alloc, words.as_slice()) {
-        Ok(Some(file)) => match std::fs::open(&rt, file.as_str()) {
-            Ok(mut reader) => tool::run_tool(
-                alloc,
-                words.as_slice(),
-                &mut reader,
-                &mut out,
-                &mut err,
-            ),
+    match tool::file_of(alloc, words) {
+        Ok(Some(file)) => match std::fs::open(rt, file.as_str()) {
+            Ok(mut reader) => tool::run_tool(alloc, words, &mut reader, &mut out, &mut err),
             Err(_) => tool::fault(&mut err, tool::REFUSED, "cannot read the file"),
         },
-        Ok(None) => tool::run_tool(alloc, words.as_slice(), &mut rt.stdin(), &mut out, &mut err),
+        Ok(None) => tool::run_tool(alloc, words, &mut rt.stdin(), &mut out, &mut err),
         Err(_) => tool::fault(&mut err, tool::MEMORY, "Memory"),
-    };
-    Ok(ExitCode::from(status))
+    }
 }

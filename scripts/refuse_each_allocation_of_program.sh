@@ -1,0 +1,43 @@
+#!/usr/bin/env bash
+# Refuses each allocation of a program's stored run in turn.
+#
+#     scripts/refuse_each_allocation_of_program.sh CRATE [FIRST [LAST]]
+#
+# Runs the program of CRATE on its files args and stdin with the first allocation refused, then with the
+# second, and so on. Each run must print the file stdout with status 0, or nothing but the line `Memory`
+# with status 2. It ends after LAST, or once three runs in a row were refused nothing. RT names the
+# command, `rt` by default.
+set -u
+
+if [ $# -lt 1 ]; then
+    sed -n '2,9s/^# \{0,1\}//p' "$0"
+    exit 2
+fi
+crate=$1
+first=${2:-1}
+last=${3:-0}
+rt=${RT:-rt}
+cd "$(dirname "$0")/../crates/$crate" || exit 2
+mapfile -t words < args
+wanted=$(cat stdout)
+
+refused=0
+quiet=0
+n=$first
+while [ "$quiet" -lt 3 ] && { [ "$last" -eq 0 ] || [ "$n" -le "$last" ]; }; do
+    output=$("$rt" try --fail-alloc "$n" -- "${words[@]}" < stdin 2>&1)
+    status=$(sed -n 's/^checked: ended status=\([0-9]*\)$/\1/p' <<<"$output")
+    text=$(sed '/^allocations: /,$d' <<<"$output")
+    if [ "$status" = 0 ] && [ "$text" = "$wanted" ]; then
+        quiet=$((quiet + 1))
+    elif [ "$status" = 2 ] && [ "$text" = Memory ]; then
+        refused=$((refused + 1))
+        quiet=0
+    else
+        printf '%s\n' "$output" | tail -n 20
+        echo "$crate: with allocation $n refused the run ended otherwise"
+        exit 1
+    fi
+    n=$((n + 1))
+done
+echo "$crate: $refused refusals, each answered by Memory with status 2; none from allocation $((n - quiet)) on"
