@@ -27,7 +27,7 @@ n=$first
 while [ "$quiet" -lt 3 ] && { [ "$last" -eq 0 ] || [ "$n" -le "$last" ]; }; do
     output=$("$rt" try --fail-alloc "$n" -- "${words[@]}" < stdin 2>&1)
     status=$(sed -n 's/^checked: ended status=\([0-9]*\)$/\1/p' <<<"$output")
-    text=$(sed '/^allocations: /,$d' <<<"$output")
+    text=$(grep -vE '^(allocations: |interpreter: |checked: |run=)' <<<"$output")
     if [ "$status" = 0 ] && [ "$text" = "$wanted" ]; then
         quiet=$((quiet + 1))
     elif [ "$status" = 2 ] && [ "$text" = Memory ]; then
