@@ -5,7 +5,7 @@
 #
 # Runs the program of CRATE on its files args and stdin with the first allocation refused, then with the
 # second, and so on. Each run must print the file stdout with status 0, or nothing but the line `Memory`
-# with status 2. It ends after LAST, or once three runs in a row were refused nothing. RT names the
+# with status 2. It ends after LAST, or once eight runs in a row were refused nothing. RT names the
 # command, `rt` by default.
 set -u
 
@@ -24,7 +24,7 @@ wanted=$(cat stdout)
 refused=0
 quiet=0
 n=$first
-while [ "$quiet" -lt 3 ] && { [ "$last" -eq 0 ] || [ "$n" -le "$last" ]; }; do
+while [ "$quiet" -lt 8 ] && { [ "$last" -eq 0 ] || [ "$n" -le "$last" ]; }; do
     output=$("$rt" try --fail-alloc "$n" -- "${words[@]}" < stdin 2>&1)
     status=$(sed -n 's/^checked: ended status=\([0-9]*\)$/\1/p' <<<"$output")
     text=$(grep -vE '^(allocations: |interpreter: |checked: |run=)' <<<"$output")

@@ -40,8 +40,16 @@ fn matches_of<'a>(alloc: Global, words: &'a [String]) -> Result<ArgMatches<'a>, 
 pub fn file_of(alloc: Global, words: &[String]) -> Result<Option<String>, Memory> {
     match matches_of(alloc, words) {
         Ok(matches) => file_in(alloc, &matches),
-        Err(_error) => Ok(None),
+        Err(error) => none_for(error),
     }
+}
+
+// Refused words name no file; but words that could not be read for want of memory might.
+fn none_for(error: Error) -> Result<Option<String>, Memory> {
+    if error.kind() == ErrorKind::OutOfMemory {
+        return Err(Memory);
+    }
+    Ok(None)
 }
 
 fn file_in(alloc: Global, matches: &ArgMatches<'_>) -> Result<Option<String>, Memory> {

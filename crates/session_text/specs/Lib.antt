@@ -1,1 +1,2 @@
--- The readers and printers of texts need no definition of their own: their formats are shown by tests.
+pub mod Refusals
+pub mod Scripts

@@ -1,4 +1,7 @@
 //! The collections of a script's header.
+ghost use Rattle.std.specs.Prelude.{IfErr};
+ghost use Rattle.session_text.specs.Refusals.{IsUnreadable};
+
 use crate::number::{clamped, number, pair};
 use crate::script::Collection;
 use seq_model::{Counts, Entries, Held, QueueItems, Refusal};
@@ -11,7 +14,10 @@ pub fn read_collection(
     stripes: &[u8],
     items: &[&[u8]],
     bad: Refusal,
-) -> Result<Collection, Refusal> {
+) -> Result<Collection, Refusal>
+    requires { IsUnreadable bad }
+    ensures { IfErr result IsUnreadable }
+{
     let stripes = clamped(number(stripes).ok_or(bad)?);
     let held = match kind {
         b"map" => Held::Map(read_entries(alloc, items, bad)?),
@@ -26,7 +32,10 @@ pub fn read_collection(
     Ok(Collection { stripes, held })
 }
 
-fn read_entries(alloc: Global, tokens: &[&[u8]], bad: Refusal) -> Result<Entries<u64>, Refusal> {
+fn read_entries(alloc: Global, tokens: &[&[u8]], bad: Refusal) -> Result<Entries<u64>, Refusal>
+    requires { IsUnreadable bad }
+    ensures { IfErr result IsUnreadable }
+{
     let mut entries = Entries::new(alloc);
     let mut last = None;
     for token in tokens {
@@ -40,7 +49,10 @@ fn read_entries(alloc: Global, tokens: &[&[u8]], bad: Refusal) -> Result<Entries
     Ok(entries)
 }
 
-fn read_counts(alloc: Global, tokens: &[&[u8]], bad: Refusal) -> Result<Counts, Refusal> {
+fn read_counts(alloc: Global, tokens: &[&[u8]], bad: Refusal) -> Result<Counts, Refusal>
+    requires { IsUnreadable bad }
+    ensures { IfErr result IsUnreadable }
+{
     let mut counts = Counts::new(alloc);
     let mut last = None;
     for token in tokens {
@@ -54,7 +66,10 @@ fn read_counts(alloc: Global, tokens: &[&[u8]], bad: Refusal) -> Result<Counts, 
     Ok(counts)
 }
 
-fn read_items(alloc: Global, tokens: &[&[u8]], bad: Refusal) -> Result<QueueItems, Refusal> {
+fn read_items(alloc: Global, tokens: &[&[u8]], bad: Refusal) -> Result<QueueItems, Refusal>
+    requires { IsUnreadable bad }
+    ensures { IfErr result IsUnreadable }
+{
     let mut items = Vec::new(alloc);
     for token in tokens {
         items.push(number(token).ok_or(bad)?)?;

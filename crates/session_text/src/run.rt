@@ -1,4 +1,8 @@
 //! Runs a script.
+ghost use Rattle.std.specs.Prelude.{◌≡◌, IfOk, IfErr, OnOk};
+ghost use Rattle.step_world.specs.Traces.{IsSerialTrace};
+ghost use Rattle.session_text.specs.Scripts.{IsOpeningOf, IsRefusedOpening};
+
 use crate::script::{Collection, Line, STEP_LIMIT, Script};
 use seq_model::{Event, Items, Memory, Notice, Refusal, Request, Shape, State};
 use std::alloc::Global;
@@ -17,9 +21,15 @@ pub struct ScriptRun {
 ///
 /// `NoSuch` and `TooLong` as `World::open`, `TooLong` also where a collection of the header is beyond a limit, and
 /// `OutOfMemory` where a growth was refused.
-pub fn run_script(alloc: Global, script: &Script) -> Result<ScriptRun, Refusal> {
+pub fn run_script(alloc: Global, script: &Script) -> Result<ScriptRun, Refusal>
+    ensures opening { IfOk result (λ run. IsOpeningOf script.now run.opening) }
+    ensures serial { IfOk result (λ run. IsSerialTrace run.opening run.trace) }
+    ensures refused { IfErr result IsRefusedOpening }
+{
     let opening = opening_of(alloc, script)?;
-    let world = World::open(alloc, &shape_of(alloc, script)?, opening.try_copy(alloc)?)?;
+    let shape = shape_of(alloc, script)?;
+    let state = opening.try_copy(alloc)?;
+    let world = World::open(alloc, &shape, state)?;
     let mut runner = Runner {
         world,
         notices: Items::new(alloc),
@@ -41,13 +51,17 @@ pub fn run_script(alloc: Global, script: &Script) -> Result<ScriptRun, Refusal> 
     })
 }
 
-fn opening_of(alloc: Global, script: &Script) -> Result<State<u64>, Refusal> {
+fn opening_of(alloc: Global, script: &Script) -> Result<State<u64>, Refusal>
+    ensures opening { IfOk result (IsOpeningOf script.now) }
+    ensures refused { IfErr result IsRefusedOpening }
+{
     let words = Vec::from_slice(alloc, script.words.as_slice())?;
     let mut held = Vec::new(alloc);
     for collection in script.collections.as_slice() {
         held.push(collection.held.try_copy(alloc)?)?;
     }
-    State::new(words, held)
+    let state = State::new(words, held)?;
+    Ok(state)
 }
 
 fn shape_of(alloc: Global, script: &Script) -> Result<Shape, Memory> {
@@ -70,7 +84,9 @@ struct Runner {
 }
 
 impl Runner {
-    fn run_line(&mut self, line: &Line) -> Result<(), Memory> {
+    fn run_line(&mut self, line: &Line) -> Result<(), Memory>
+        ensures { OnOk result (self.new.world.world.opening ≡ self.old.world.world.opening) }
+    {
         match line {
             Line::Ask(actor, request) => {
                 self.ask(*actor, request)?;
@@ -92,7 +108,9 @@ impl Runner {
     }
 
     // Whether the event told nothing.
-    fn happen(&mut self, actor: u32, event: Event<u64>) -> Result<bool, Memory> {
+    fn happen(&mut self, actor: u32, event: Event<u64>) -> Result<bool, Memory>
+        ensures { OnOk result (self.new.world.world.opening ≡ self.old.world.world.opening) }
+    {
         let notice = self.world.feed(event)?;
         if let Notice::Quiet = notice {
             return Ok(true);
@@ -102,7 +120,9 @@ impl Runner {
         Ok(false)
     }
 
-    fn ask(&mut self, actor: u32, request: &Request<u64>) -> Result<bool, Memory> {
+    fn ask(&mut self, actor: u32, request: &Request<u64>) -> Result<bool, Memory>
+        ensures { OnOk result (self.new.world.world.opening ≡ self.old.world.world.opening) }
+    {
         let waited = self.is_waiting(actor);
         let quiet = self.happen(actor, Event::Ask(actor, request.try_copy()?))?;
         // A request that is refused beside an unanswered one leaves that one waiting.
@@ -110,7 +130,9 @@ impl Runner {
         Ok(quiet)
     }
 
-    fn steps(&mut self, actor: u32, count: u64) -> Result<(), Memory> {
+    fn steps(&mut self, actor: u32, count: u64) -> Result<(), Memory>
+        ensures { OnOk result (self.new.world.world.opening ≡ self.old.world.world.opening) }
+    {
         for _ in 0..count {
             if !self.happen(actor, Event::Step(actor))? {
                 return Ok(());
@@ -119,7 +141,9 @@ impl Runner {
         Ok(())
     }
 
-    fn alternate(&mut self, first: u32, second: u32) -> Result<(), Memory> {
+    fn alternate(&mut self, first: u32, second: u32) -> Result<(), Memory>
+        ensures { OnOk result (self.new.world.world.opening ≡ self.old.world.world.opening) }
+    {
         let mut actor = first;
         let mut other = second;
         for _ in 0..STEP_LIMIT {
@@ -139,7 +163,9 @@ impl Runner {
         self.waiting.get(actor as usize).copied().unwrap_or(false)
     }
 
-    fn set_waiting(&mut self, actor: u32, waits: bool) {
+    fn set_waiting(&mut self, actor: u32, waits: bool)
+        ensures { self.new.world ≡ self.old.world }
+    {
         if let Some(waiting) = self.waiting.get_mut(actor as usize) {
             *waiting = waits;
         }

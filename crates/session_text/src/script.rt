@@ -1,4 +1,7 @@
 //! Step scripts.
+ghost use Rattle.std.specs.Prelude.{IfErr};
+ghost use Rattle.session_text.specs.Refusals.{IsUnreadable};
+
 use crate::collections::read_collection;
 use crate::number::number;
 use crate::requests::read_request;
@@ -39,7 +42,9 @@ pub struct Script {
 }
 
 /// Reads a step script. `BadText` names the first line outside the grammar, counted from 1.
-pub fn parse_steps(alloc: Global, text: &[u8]) -> Result<Script, Refusal> {
+pub fn parse_steps(alloc: Global, text: &[u8]) -> Result<Script, Refusal>
+    ensures { IfErr result IsUnreadable }
+{
     let mut reader = ScriptReader {
         script: Script {
             words: Items::new(alloc),
@@ -85,7 +90,10 @@ struct ScriptReader {
 }
 
 impl ScriptReader {
-    fn read_line(&mut self, alloc: Global, tokens: &[&[u8]], bad: Refusal) -> Result<(), Refusal> {
+    fn read_line(&mut self, alloc: Global, tokens: &[&[u8]], bad: Refusal) -> Result<(), Refusal>
+        requires { IsUnreadable bad }
+        ensures { IfErr result IsUnreadable }
+    {
         match tokens {
             [b"words", values @ ..] => {
                 self.reach(Part::Words, Part::Clock, bad)?;
@@ -115,7 +123,10 @@ impl ScriptReader {
         }
     }
 
-    fn reach(&mut self, part: Part, next: Part, bad: Refusal) -> Result<(), Refusal> {
+    fn reach(&mut self, part: Part, next: Part, bad: Refusal) -> Result<(), Refusal>
+        requires { IsUnreadable bad }
+        ensures { IfErr result IsUnreadable }
+    {
         if part < self.part {
             return Err(bad);
         }
@@ -123,7 +134,10 @@ impl ScriptReader {
         Ok(())
     }
 
-    fn read_words(&mut self, tokens: &[&[u8]], bad: Refusal) -> Result<(), Refusal> {
+    fn read_words(&mut self, tokens: &[&[u8]], bad: Refusal) -> Result<(), Refusal>
+        requires { IsUnreadable bad }
+        ensures { IfErr result IsUnreadable }
+    {
         if tokens.is_empty() {
             return Err(bad);
         }

@@ -311,7 +311,7 @@ module _ {V : Type 0} where
   steps-opening w a (Beginning b) = choose (OpenedAs w) (a == b) _ _ (choose (OpenedAs w) (nat_lt w.clock CLOCK_LIMIT) _ _ refl refl) refl
   steps-opening w a (Open t) = choose (OpenedAs w) (a == t.actor) _ _ (own-opening w t t.asked) refl
 
-  happens-opening : (w : World V) (e : Event V) → OpenedAs w (happens w e)
+  pub happens-opening : (w : World V) (e : Event V) → OpenedAs w (happens w e)
   happens-opening w (Ask a q) = choose (OpenedAs w) (is_actor a) _ _ refl refl
   happens-opening w (Step a) = choose (OpenedAs w) (is_actor a) _ _ (steps-opening w a w.seat) refl
   happens-opening w (Starve a) = choose (OpenedAs w) (is_actor a) _ _ refl refl

@@ -77,6 +77,7 @@ impl<V: Value> World<V> {
         ensures ok { IfOk result (λ notice. happens self.old.world event ≡ (self.new.world, notice)) }
         ensures lasting { OnOk result ((self.old.failed ≡ false) × (self.new.failed ≡ false)) }
         ensures failed { OnErr result (self.new.failed ≡ true) }
+        ensures opening { OnOk result (self.new.world.opening ≡ self.old.world.opening) }
     {
         if self.failed {
             return Err(Memory);
