@@ -2,14 +2,15 @@
 //!
 //! A transaction keeps the values that it has read and those that it is to write by their
 //! locations, and touches no shared word for a location that it finds there. Its commit locks,
-//! checks, stores and releases location by location, rising, so that two commits never wait for
-//! each other in a circle.
+//! checks, stores and releases location by location, rising, so that no two commits refuse each
+//! other.
 //!
 //! Both sets are finite maps from locations to values, kept as one list of entries in the order of
-//! the locations. Most transactions touch a few locations, many of them in rising order: then each
-//! new entry goes to the end of the list, and no search is made. Else the place is found by halves.
-//! A set that is cleared keeps its memory for the next transaction, so a worker soon allocates no
-//! more; what a commit must not be refused is reserved beforehand.
+//! the locations. Locations often come in rising order: a new one then goes to the end of the list,
+//! and no search is made. Else, among a few entries, as most transactions have, the place of a
+//! location is the number of entries below it, counted without a branch; among more it is found by
+//! halves. A set that is cleared keeps its memory for the next transaction, so a worker soon
+//! allocates no more; what a commit must not be refused is reserved beforehand.
 //!
 //! Source: TL2, Dice, Shalev and Shavit, DISC 2006.
 #![tactic(auto)]
