@@ -1,7 +1,8 @@
 -- Editions, raised at locations that rise strictly.
-use Rattle.std.proofs.Common.{◌≡◌, ◌≢◌, ℕ, suc, ◌+◌, ◌<◌, List, [], ◌∷◌, length, get_or, set, take, Contains, refl, sym, ap, ◌∙◌, arith}
+use Rattle.std.proofs.Common.{◌≡◌, ◌≢◌, ℕ, zero, suc, ◌+◌, ◌<◌, List, [], ◌∷◌, length, get_or, set, take, Contains, refl, sym, ap, subst, ◌∙◌, arith}
+use Rattle.std.specs.List.{AllPairs}
 use Rattle.std.specs.List.Sorted.{IsStrictlyIncreasing}
-use Rattle.std.proofs.lemmas.List.{get_or-set_other, get_or-take, length-take-le}
+use Rattle.std.proofs.lemmas.List.{get_or-set_same, get_or-set_other, get_or-take, length-set, length-take-le}
 use Rattle.std.proofs.lemmas.List.Kept.{AllPairs-from_increasing}
 use Rattle.std.proofs.lemmas.Grind.{get_or_default_zero}
 use Rattle.conflict.specs.Editions.{raised}
@@ -28,3 +29,19 @@ not_before ws k rising lt (j, below, is) =
 pub raised_before : (ws es now : List ℕ) (k : ℕ) → IsStrictlyIncreasing ws → k < length ws → now ≡ raised (take k ws) es → get_or now (get_or ws k 0) 0 ≡ get_or es (get_or ws k 0) 0
 raised_before ws es now k rising lt is =
     ap (λ xs. get_or xs (get_or ws k 0) 0) is ∙ raised_other (take k ws) es (get_or ws k 0) (not_before ws k rising lt)
+
+-- each of these locations has its edition raised by one
+pub raised_written : (ws es : List ℕ) (l : ℕ) → IsStrictlyIncreasing ws → Contains ws l → l < length es → get_or (raised ws es) l 0 ≡ get_or es l 0 + 1
+raised_written ws es l rising there lt = raised_once ws es l (AllPairs-from_increasing ws rising) there lt
+  where
+    raised_once : (ws es : List ℕ) (l : ℕ) → AllPairs (λ x y. x < y) ws → Contains ws l → l < length es → get_or (raised ws es) l 0 ≡ get_or es l 0 + 1
+    raised_once [] es l h c lt = absurd (omega (arith, c.1))
+    raised_once (w ∷ ws) es l h (zero, below, is) lt =
+        let P : ℕ → Type 0 = λ x. get_or (set es w (get_or es w 0 + 1)) x 0 ≡ get_or es x 0 + 1 in
+        let gone : ¬ Contains ws l = λ c. let less = h zero (suc c.0) l (omega arith) (omega (arith, c.1)) in let at = c.2 in omega arith in
+        raised_other ws (set es w (get_or es w 0 + 1)) l gone ∙ subst P is (get_or-set_same es w (get_or es w 0 + 1) 0 (subst (λ x. x < length es) (sym is) lt))
+    raised_once (w ∷ ws) es l h (suc k, below, is) lt =
+        let less = h zero (suc k) l (omega arith) (omega (arith, below)) in
+        let other : l ≢ w = λ e. omega arith in
+        raised_once ws (set es w (get_or es w 0 + 1)) l (λ i j d first last. h (suc i) (suc j) d (omega arith) (omega (arith, last))) (k, omega (arith, below), is) (subst (λ n. l < n) (sym (length-set es w (get_or es w 0 + 1))) lt)
+        ∙ ap (λ n. n + 1) (get_or-set_other es w l (get_or es w 0 + 1) 0 other)

@@ -1,8 +1,8 @@
 -- Multisets without an element of 0 copies, as lists of entries.
-use Rattle.std.proofs.Common.{◌≡◌, ◌≢◌, ℕ, Bool, true, false, cond, ◌==◌, List, [], ◌∷◌, Some, None, refl, sym, ap, subst, ◌∙◌, arith}
+use Rattle.std.proofs.Common.{◌≡◌, ◌≢◌, ℕ, true, false, cond, ◌==◌, List, [], ◌∷◌, Some, None, refl, ap, ◌∙◌, arith}
 use Rattle.std.specs.Prelude.{fold}
 use Rattle.std.specs.Ordering.{nat_cmp, eq_by_cmp}
-use Rattle.std.specs.FinMap.{FinMap, empty, entries, entries_sorted, find, get, get-entries, insert, remove}
+use Rattle.std.specs.FinMap.{empty, entries, entries_sorted, find, get-entries, insert, remove}
 use Rattle.std.proofs.lemmas.Bool.Decides.{nat_tests}
 use Rattle.seq_model.specs.Counts.{Multiset, HasNoZero, with_copies}
 use Rattle.seq_model.specs.Entries.{IsRising}

@@ -1,5 +1,5 @@
 -- A collection, as contracts see it.
-use Rattle.std.specs.Prelude.{◌≡◌, ℕ, List, refl}
+use Rattle.std.specs.Prelude.{ℕ, List, refl}
 use Rattle.std.specs.Coded.{Coded, code_by, coded_ℕ, coded_list, coded×}
 
 -- what it shows to calls, the number of its stripes, the edition of each location, and for how many changes it has room

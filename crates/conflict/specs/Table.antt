@@ -1,5 +1,5 @@
 -- A finite map with room for more entries.
-use Rattle.std.specs.Prelude.{ℕ, List, ◌∷◌, fold, refl}
+use Rattle.std.specs.Prelude.{ℕ, List, fold, refl}
 use Rattle.std.specs.Coded.{Coded, code_by, coded_ℕ, coded×}
 use Rattle.std.specs.Ordering.{nat_cmp}
 use Rattle.std.specs.FinMap as map
