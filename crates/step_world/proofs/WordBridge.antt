@@ -1,6 +1,6 @@
 -- The words of the machine, a function of locations, and the words of a state, a list: calls and runs say the same of both.
-use Rattle.std.proofs.Common.{◌≡◌, ℕ, zero, suc, ◌+◌, ◌<◌, ◌≤◌, Bool, true, false, cond, ◌||◌, List, [], ◌∷◌, ◌++◌, map, length, get_or, set, filter, Option, Some, None, refl, sym, ◌∙◌, ap, subst, arith, length-set, get_or-set_same, get_or-set_other}
-use Rattle.std.specs.Prelude.{nat_lt, nat_le, option_map, slice_get}
+use Rattle.std.proofs.Common.{◌≡◌, ℕ, zero, suc, ◌+◌, ◌<◌, true, false, cond, List, [], ◌∷◌, ◌++◌, map, length, get_or, set, filter, Some, None, refl, sym, ◌∙◌, ap, subst, arith, length-set, get_or-set_same, get_or-set_other}
+use Rattle.std.specs.Prelude.{nat_lt, nat_le, option_map}
 use Rattle.std.proofs.lemmas.Option.{slice_get-get_or}
 use Rattle.std.proofs.lemmas.Bool.Decides.{nat_tests}
 use Rattle.std.proofs.lemmas.Bool.{cases_eq}
@@ -11,7 +11,7 @@ use Rattle.seq_model.specs.declared.call.Reply.TheVariants.{Done, Number}
 use Rattle.seq_model.specs.declared.held.Held.{Held}
 use Rattle.seq_model.specs.declared.record.Record.{Record}
 use Rattle.seq_model.specs.Contents.{Contents, call_of}
-use Rattle.seq_model.specs.Runs.{reply_of, after_call, after_calls, insert_record, IsInCommitOrder, after_run, state_at}
+use Rattle.seq_model.specs.Runs.{after_calls, insert_record, IsInCommitOrder, after_run, state_at}
 use Rattle.seq_model.specs.Runs.{IsLegal as AreLegal, IsRun as IsRunOf}
 use Rattle.seq_model.proofs.RunLemmas.{answered, NoClash, order_inserted}
 use Rattle.word_machine.specs.Actor as machine

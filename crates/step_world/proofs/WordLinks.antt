@@ -1,13 +1,12 @@
 -- What a world of words has of its machine: the seats, the records and the aborted transactions are the machine's.
-use Rattle.std.proofs.Common.{◌≡◌, ℕ, zero, suc, ◌+◌, ◌<◌, ◌≤◌, Bool, true, false, cond, not, ◌||◌, List, [], ◌∷◌, ◌++◌, map, length, get_or, Option, Some, None, Result, Ok, Err, refl, sym, ◌∙◌, ap, subst, arith, inl, inr, eqb}
-use Rattle.std.specs.Prelude.{nat_lt, nat_le, ◌==◌, if◌then◌else◌}
+use Rattle.std.proofs.Common.{◌≡◌, ℕ, ◌<◌, Bool, true, false, cond, ◌||◌, List, [], ◌∷◌, ◌++◌, map, length, get_or, refl, sym, ◌∙◌, ap, subst, inl, inr, eqb}
+use Rattle.std.specs.Prelude.{◌==◌, if◌then◌else◌}
 use Rattle.std.proofs.lemmas.Bool.{cases_eq}
-use Rattle.std.specs.List.{list_any}
 use Rattle.std.proofs.lemmas.List.{map-append}
 use Rattle.std.proofs.lemmas.List.Folds.{list_any-append}
 use Rattle.vlock_word.specs.declared.lock_word.LockWord.{LockWord}
 use Rattle.vlock_word.specs.declared.lock_word.LockWord.TheVariants.{Free, Locked}
-use Rattle.tx_sets.specs.Entries.{Entries, with_entry}
+use Rattle.tx_sets.specs.Entries.{Entries}
 use Rattle.word_machine.specs.Actor as machine
 use Rattle.word_machine.specs.Actor.{Place, Actor}
 use Rattle.word_machine.specs.Requests as word
@@ -17,27 +16,21 @@ use Rattle.word_machine.specs.World.{World, put, insert, plan, does, noted, step
 use Rattle.word_machine.specs.Notices as told
 use Rattle.word_machine.specs.Notices.{notice, reply}
 use Rattle.word_machine.specs.Opacity.{IsInOrder}
-use Rattle.word_machine.proofs.Sets.{put-same, put-other, put_both}
+use Rattle.word_machine.proofs.Sets.{put-same, put-other}
 use Rattle.word_machine.proofs.Invariant.{Inv}
 use Rattle.word_machine.proofs.Schedules.{happens_ok}
-use Rattle.step_core.specs.declared.answer.WordAnswer.{WordAnswer}
-use Rattle.step_core.specs.declared.answer.WordAnswer.TheVariants as answer
-use Rattle.step_core.specs.declared.answer.WordRefusal.{WordRefusal}
-use Rattle.step_core.specs.declared.answer.WordRefusal.TheVariants as because_of
 use Rattle.step_core.specs.Answers.{result_of}
 use Rattle.seq_model.specs.declared.call.Call.{Call}
 use Rattle.seq_model.specs.declared.call.Reply.{Reply}
 use Rattle.seq_model.specs.declared.call.Reply.TheVariants as replies
 use Rattle.seq_model.specs.declared.record.Record.{Record}
-use Rattle.seq_model.specs.declared.refusal.Refusal.{Refusal}
-use Rattle.seq_model.specs.Contents.{Contents}
 use Rattle.seq_model.specs.Changes.{changes}
 use Rattle.seq_model.specs.Runs.{insert_record, is_writer, IsInCommitOrder}
 use Rattle.step_world.specs.declared.trace.Ended.{Ended}
 use Rattle.step_world.specs.declared.word_seat.Stage.{Stage}
 use Rattle.step_world.specs.declared.word_seat.Stage.TheVariants.{Idle, Beginning, Open, Reading, Locking, Ready, Storing, Closing, Cancelling, Leaving}
 use Rattle.step_world.specs.declared.word_seat.WordSeat.{WordSeat}
-use Rattle.step_world.specs.WordWorlds.{WordWorld, StepResult, seated, at_stage, asks, moves, with_call, read_call, write_call, leaves, cancelled, cancels, recorded, because, has_read, closed, ended, answered, refused, settled, goes_on, stored, reply_to, answer_of}
+use Rattle.step_world.specs.WordWorlds.{WordWorld, seated, at_stage, asks, moves, with_call, read_call, write_call, leaves, cancelled, cancels}
 use Rattle.step_world.proofs.WordBridge.{Within, Within-append, AllWithin, AllWithin-insert, pair_of, record_of, insert_too, ordered_too}
 
 -- ---- what a step of the machine leaves of the rest

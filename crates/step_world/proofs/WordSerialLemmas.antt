@@ -1,17 +1,15 @@
 -- A world of words that has what its machine has is serial.
-use Rattle.std.proofs.Common.{◌≡◌, ℕ, ◌<◌, List, [], ◌∷◌, map, length, get_or, refl, sym, ◌∙◌, ap, subst}
+use Rattle.std.proofs.Common.{◌≡◌, ℕ, List, [], ◌∷◌, map, sym, ◌∙◌, ap, subst}
 use Rattle.word_machine.specs.Actor as machine
 use Rattle.word_machine.specs.Actor.{Place, Actor}
 use Rattle.word_machine.specs.World as world
 use Rattle.word_machine.specs.World.{Memory}
-use Rattle.word_machine.specs.Opacity.{IsLegal, AllEnded, memory_at, memory_after}
+use Rattle.word_machine.specs.Opacity.{IsLegal, AllEnded, memory_at}
 use Rattle.word_machine.specs.Opacity.{IsHalfDone as HoldsStored}
 use Rattle.word_machine.proofs.Schedules.{legal_of, serial, all_aborted, actor_saw, words_at_rest}
 use Rattle.seq_model.specs.declared.call.Call.{Call}
 use Rattle.seq_model.specs.declared.call.Reply.{Reply}
 use Rattle.seq_model.specs.declared.record.Record.{Record}
-use Rattle.seq_model.specs.declared.event.Event.{Event}
-use Rattle.seq_model.specs.Contents.{Contents}
 use Rattle.seq_model.specs.Runs.{IsInCommitOrder, after_run, state_at}
 use Rattle.seq_model.specs.Runs.{IsLegal as AreLegal, IsRun as IsRunOf}
 use Rattle.step_world.specs.declared.trace.Ended.{Ended}
@@ -21,8 +19,8 @@ use Rattle.step_world.specs.declared.word_seat.WordSeat.{WordSeat}
 use Rattle.step_world.specs.Serial.{AllSaw}
 use Rattle.step_world.specs.WordWorlds.{WordWorld, contents}
 use Rattle.step_world.specs.WordSerial.{SawAt, IsHalfDone, IsSerialWords}
-use Rattle.step_world.proofs.WordBridge.{Within, AllWithin, pair_of, record_of, Agrees, runs_agree, run_too, saw_too, contents_agree, opening_agrees}
-use Rattle.step_world.proofs.WordLinks.{InTx, AtReading, AtLocking, AtStoring, StageOk, SameEnded, size, Linked}
+use Rattle.step_world.proofs.WordBridge.{Within, pair_of, record_of, Agrees, runs_agree, run_too, saw_too, contents_agree, opening_agrees}
+use Rattle.step_world.proofs.WordLinks.{InTx, AtReading, AtLocking, StageOk, SameEnded, size, Linked}
 
 module _ {V : Type 0} where
   -- ---- stages and places

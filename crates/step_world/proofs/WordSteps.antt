@@ -1,5 +1,5 @@
 -- Each event keeps what a world of words has of its machine.
-use Rattle.std.proofs.Common.{◌≡◌, ℕ, ◌+◌, ◌<◌, ◌≤◌, Bool, true, false, cond, List, [], ◌∷◌, ◌++◌, map, length, get_or, Option, Some, None, Ok, Err, refl, sym, ◌∙◌, ap, subst, arith, eqb}
+use Rattle.std.proofs.Common.{◌≡◌, ℕ, ◌+◌, ◌<◌, Bool, true, false, cond, List, [], ◌∷◌, ◌++◌, map, length, get_or, Option, Some, None, Ok, Err, refl, sym, ◌∙◌, ap, subst, arith, eqb}
 use Rattle.std.specs.Prelude.{nat_lt, nat_le}
 use Rattle.std.proofs.lemmas.Bool.Decides.{nat_tests}
 use Rattle.vlock_word.specs.declared.lock_word.LockWord.{LockWord}
@@ -14,8 +14,8 @@ use Rattle.word_machine.specs.World as world
 use Rattle.word_machine.specs.World.{World, insert, plan, does, noted, step, outcome, first_outcome, first_store, release, undo}
 use Rattle.word_machine.specs.Notices as told
 use Rattle.word_machine.specs.Notices.{notice, reply, begin_notice, look_notice, again_notice, lock_notice, take_notice, check_notice, when_none_left, last_notice, read_reply}
-use Rattle.word_machine.proofs.Sets.{put-same, put-other}
-use Rattle.word_machine.proofs.Invariant.{Inv, PlaceOk, IsSomeEntry}
+use Rattle.word_machine.proofs.Sets.{put-same}
+use Rattle.word_machine.proofs.Invariant.{PlaceOk, IsSomeEntry}
 use Rattle.word_machine.proofs.Schedules.{happens_ok, start_ok}
 use Rattle.step_core.specs.declared.answer.WordAnswer.{WordAnswer}
 use Rattle.step_core.specs.declared.answer.WordAnswer.TheVariants as answer
@@ -39,9 +39,9 @@ use Rattle.step_world.specs.declared.word_seat.Stage.{Stage}
 use Rattle.step_world.specs.declared.word_seat.Stage.TheVariants.{Idle, Beginning, Open, Reading, Locking, Ready, Storing, Closing, Cancelling, Leaving}
 use Rattle.step_world.specs.declared.word_seat.WordSeat.{WordSeat}
 use Rattle.step_world.specs.Worlds.{is_actor}
-use Rattle.step_world.specs.WordWorlds.{WordWorld, After, StepResult, seated, at_stage, asks, moves, turns, with_call, read_call, write_call, leaves, cancels, recorded, because, has_read, closed, ended, answered, refused, settled, goes_on, stored, stores, reply_to, answer_of, reads, writes, if_allowed, ask_op, ask_commit, ask_idle, ask_open, ask_at, step_at, starve_at, happens, run, opened, no_one}
+use Rattle.step_world.specs.WordWorlds.{WordWorld, After, StepResult, seated, at_stage, asks, moves, turns, with_call, read_call, write_call, leaves, recorded, because, has_read, answered, refused, settled, goes_on, stored, stores, reply_to, reads, writes, if_allowed, ask_op, ask_commit, ask_idle, ask_open, ask_at, step_at, starve_at, happens, run, opened}
 use Rattle.step_world.proofs.WordBridge.{Within, pair_of, record_of}
-use Rattle.step_world.proofs.WordLinks.{Rest, does_rest, exchanges, learns, stepped, asked, is_some_entry, Tx, InTx, AtReading, AtLocking, AtStoring, StageOk, SeatOk, size, Base, Others, Linked, others_of, others_asks, others_moves, others_seated, linked, linked_seated, with_commit, with_abort, read_joins, write_joins, leaves_linked, MayCancel, cancels_linked}
+use Rattle.step_world.proofs.WordLinks.{Rest, does_rest, exchanges, learns, stepped, asked, is_some_entry, InTx, AtReading, AtLocking, AtStoring, StageOk, SeatOk, size, Others, Linked, others_of, others_asks, others_moves, others_seated, linked, linked_seated, with_commit, with_abort, read_joins, write_joins, leaves_linked, MayCancel, cancels_linked}
 
 -- ---- the steps that end a transaction
 pub record Committed (s t : World) (a : ℕ) (r : world.Record) : Type 0 where

@@ -1,10 +1,10 @@
 -- Serial order of a world of words.
-use Rattle.std.specs.Prelude.{◌≡◌, ℕ, ◌<◌, List, [], ◌∷◌, ⊤}
+use Rattle.std.specs.Prelude.{◌≡◌, ℕ, List, ⊤}
 use Rattle.seq_model.specs.declared.record.Record.{Record}
 use Rattle.seq_model.specs.Contents.{Contents}
 use Rattle.seq_model.specs.Runs.{IsLegal, IsInCommitOrder, IsRun, after_run, state_at}
 use Rattle.step_world.specs.declared.word_seat.Stage.{Stage}
-use Rattle.step_world.specs.declared.word_seat.Stage.TheVariants.{Idle, Beginning, Open, Reading, Locking, Ready, Storing, Closing, Cancelling, Leaving}
+use Rattle.step_world.specs.declared.word_seat.Stage.TheVariants.{Idle, Beginning, Storing}
 use Rattle.step_world.specs.declared.word_seat.WordSeat.{WordSeat}
 use Rattle.step_world.specs.WordWorlds.{WordWorld, contents}
 use Rattle.step_world.specs.Serial.{AllSaw}
