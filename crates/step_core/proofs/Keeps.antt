@@ -1,14 +1,21 @@
 -- What an actor's own steps keep.
-use Rattle.std.proofs.Common.{◌≡◌, ℕ, ◌+◌, ◌<◌, ◌≤◌, ◌^◌, ap, sym, refl, subst, arith, ◌∙◌, Vec}
+use Rattle.std.proofs.Common.{Result, Ok, Err, OnOk, IsOk, zero, suc, [], ◌∷◌, ◌++◌, length, ◌≡◌, ℕ, ◌+◌, ◌<◌, ◌≤◌, ◌^◌, ap, sym, refl, subst, arith, ◌∙◌, Vec}
 use Rattle.std.specs.Vec.{vec_len, vec_capacity}
 use Rattle.std.specs.List.{All}
-use Rattle.word_machine.specs.Entries.{Entries, with_entry}
-use Rattle.step_core.proofs.Ranks.{All-with_entry}
+use Rattle.tx_sets.specs.Entries.{Entries, with_entry}
+use Rattle.tx_sets.proofs.EntryLemmas.{All-with_entry}
+use Rattle.std.specs.VecDeque.{deque_len, deque_capacity}
+use Rattle.std.proofs.lemmas.List.Elements.{All-append}
 use Rattle.step_core.specs.Sound.{FitsPlace, Fits, Keeps, owed, due}
 use Rattle.step_core.specs.declared.actor.Actor.{Actor}
 use Rattle.step_core.specs.declared.actor.Place.TheVariants.{Open, Again, Lock, Take}
 
-pub lock_keeps : (x : Actor) (l k i : ℕ) → x.place ≡ Lock i → i < vec_len x.writes → ((n : ℕ) → Fits n x → l < n) → k < 2 ^ 63
+-- a list of one
+All-one : (P : ℕ × ℕ → Type 0) (e : ℕ × ℕ) → P e → All P (e ∷ [])
+All-one P e p zero d h = p
+All-one P e p (suc k) d h = absurd (omega (arith, h))
+
+pub lock_keeps : (x : Actor) (l k i : ℕ) → x.place ≡ Lock i → i < length x.writes.entries → ((n : ℕ) → Fits n x → l < n) → k < 2 ^ 63
     → Keeps x (record { place = Take l k (i + 1); rv = x.rv; wv = x.wv; reads = x.reads; writes = x.writes; held = x.held; calls = x.calls; ready = x.ready })
 lock_keeps x l k i at_p inn below small = record {
   fits = λ n f. record { reads = f.reads; writes = f.writes; held = f.held; wv = f.wv; place = (below n f, small, omega (arith, subst (FitsPlace n x) at_p f.place, inn)) };
@@ -16,10 +23,10 @@ lock_keeps x l k i at_p inn below small = record {
   due = (let q = ap due at_p in omega (arith, q));
 }
 
-pub read_keeps : (x y : Actor) (l k v : ℕ) → x.place ≡ Again l k v → y.place ≡ Open → y.wv ≡ x.wv → y.reads.items ≡ with_entry x.reads.items l v → y.writes.items ≡ x.writes.items → y.held.items ≡ x.held.items → Keeps x y
+pub read_keeps : (x y : Actor) (l k v : ℕ) → x.place ≡ Again l k v → y.place ≡ Open → y.wv ≡ x.wv → y.reads.entries ≡ with_entry x.reads.entries l v → y.writes.entries ≡ x.writes.entries → y.held.items ≡ x.held.items → Keeps x y
 read_keeps x y l k v at_p at_q wv rs ws hs = record {
   fits = λ n f. (let pl = subst (FitsPlace n x) at_p f.place in record {
-    reads = subst (All (λ (e : ℕ × ℕ). e.0 < n)) (sym rs) (All-with_entry (λ (e : ℕ × ℕ). e.0 < n) x.reads.items l v pl.0 f.reads);
+    reads = subst (All (λ (e : ℕ × ℕ). e.0 < n)) (sym rs) (All-with_entry (λ (e : ℕ × ℕ). e.0 < n) x.reads.entries l v pl.0 f.reads);
     writes = subst (All (λ (e : ℕ × ℕ). e.0 < n)) (sym ws) f.writes;
     held = subst (All (λ (e : ℕ × ℕ). (e.0 < n) × (e.1 < 2 ^ 63))) (sym hs) f.held;
     wv = subst (λ (z : ℕ). z < 2 ^ 63) (sym wv) f.wv;
@@ -29,13 +36,13 @@ read_keeps x y l k v at_p at_q wv rs ws hs = record {
   due = (let q = ap due at_p in let r = ap due at_q in omega (arith, q, r));
 }
 
-pub take_keeps : (x y : Actor) (l k i : ℕ) → x.place ≡ Take l k i → y.place ≡ Lock i → y.wv ≡ x.wv → y.held.items ≡ with_entry x.held.items l k → vec_len y.held ≤ vec_len x.held + 1 → vec_capacity x.held ≤ vec_capacity y.held
-    → y.reads.items ≡ x.reads.items → y.writes.items ≡ x.writes.items → vec_len y.writes ≡ vec_len x.writes → Keeps x y
+pub take_keeps : (x y : Actor) (l k i : ℕ) → x.place ≡ Take l k i → y.place ≡ Lock i → y.wv ≡ x.wv → y.held.items ≡ x.held.items ++ (l, k) ∷ [] → deque_len y.held ≡ deque_len x.held + 1 → deque_capacity y.held ≡ deque_capacity x.held
+    → y.reads.entries ≡ x.reads.entries → y.writes.entries ≡ x.writes.entries → length y.writes.entries ≡ length x.writes.entries → Keeps x y
 take_keeps x y l k i at_p at_q wv hs len most rs ws w = record {
   fits = λ n f. (let pl = subst (FitsPlace n x) at_p f.place in record {
     reads = subst (All (λ (e : ℕ × ℕ). e.0 < n)) (sym rs) f.reads;
     writes = subst (All (λ (e : ℕ × ℕ). e.0 < n)) (sym ws) f.writes;
-    held = subst (All (λ (e : ℕ × ℕ). (e.0 < n) × (e.1 < 2 ^ 63))) (sym hs) (All-with_entry (λ (e : ℕ × ℕ). (e.0 < n) × (e.1 < 2 ^ 63)) x.held.items l k (pl.0, pl.1) f.held);
+    held = subst (All (λ (e : ℕ × ℕ). (e.0 < n) × (e.1 < 2 ^ 63))) (sym hs) (All-append (λ (e : ℕ × ℕ). (e.0 < n) × (e.1 < 2 ^ 63)) x.held.items ((l, k) ∷ []) f.held (All-one (λ (e : ℕ × ℕ). (e.0 < n) × (e.1 < 2 ^ 63)) (l, k) (pl.0, pl.1)));
     wv = subst (λ (z : ℕ). z < 2 ^ 63) (sym wv) f.wv;
     place = subst (FitsPlace n y) (sym at_q) (omega (arith, pl.2, len, most, w));
   });
@@ -44,11 +51,16 @@ take_keeps x y l k i at_p at_q wv hs len most rs ws w = record {
 }
 
 -- a write in the write set
-pub write_fits : (n : ℕ) (x y : Actor) (l v : ℕ) → x.place ≡ Open → l < n → y.writes.items ≡ with_entry x.writes.items l v → Fits n x → y.place ≡ x.place → y.wv ≡ x.wv → y.reads.items ≡ x.reads.items → y.held.items ≡ x.held.items → Fits n y
+pub write_fits : (n : ℕ) (x y : Actor) (l v : ℕ) → x.place ≡ Open → l < n → y.writes.entries ≡ with_entry x.writes.entries l v → Fits n x → y.place ≡ x.place → y.wv ≡ x.wv → y.reads.entries ≡ x.reads.entries → y.held.items ≡ x.held.items → Fits n y
 write_fits n x y l v at_p below ws f same wv rs hs = record {
   reads = subst (All (λ (e : ℕ × ℕ). e.0 < n)) (sym rs) f.reads;
-  writes = subst (All (λ (e : ℕ × ℕ). e.0 < n)) (sym ws) (All-with_entry (λ (e : ℕ × ℕ). e.0 < n) x.writes.items l v below f.writes);
+  writes = subst (All (λ (e : ℕ × ℕ). e.0 < n)) (sym ws) (All-with_entry (λ (e : ℕ × ℕ). e.0 < n) x.writes.entries l v below f.writes);
   held = subst (All (λ (e : ℕ × ℕ). (e.0 < n) × (e.1 < 2 ^ 63))) (sym hs) f.held;
   wv = subst (λ (z : ℕ). z < 2 ^ 63) (sym wv) f.wv;
   place = subst (FitsPlace n y) (sym (same ∙ at_p)) tt;
 }
+
+-- what holds of a success
+pub was_ok : {A E P : Type 0} → (r : Result A E) → IsOk r → OnOk r P → P
+was_ok (Ok v) h p = p
+was_ok (Err e) h p = absurd (let b : ⊥ = cc in b)

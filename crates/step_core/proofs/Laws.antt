@@ -4,7 +4,7 @@ use Rattle.std.specs.Prelude.{IfSome, ◌≢◌}
 use Rattle.vlock_word.specs.LockWord.{bits, unbits}
 use Rattle.vlock_word.specs.declared.lock_word.LockWord.{LockWord}
 use Rattle.vlock_word.proofs.LockWordLemmas.{bits_unbits}
-use Rattle.word_machine.specs.Entries.{lookup}
+use Rattle.tx_sets.specs.Entries.{lookup}
 use Rattle.word_machine.specs.Actor as machine
 use Rattle.word_machine.specs.World.{World, Memory, Record, Step, happens, run, start, in_order}
 use Rattle.word_machine.specs.Opacity.{IsRun, IsInOrder, IsLegal, IsHalfDone, AllUpto, memory_after, memory_at, upto}

@@ -9,13 +9,13 @@ use Rattle.std.proofs.lemmas.Option.{get_or_from_slice_get, slice_get_read}
 use Rattle.std.proofs.lemmas.Bool.{cases_eq, cond-true, cond-false}
 use Rattle.word_machine.specs.Actor as machine
 use Rattle.word_machine.proofs.Worlds.{stored, left, gives_back, commits, released, undone, closed, stamped, first}
-use Rattle.word_machine.specs.Entries.{Entries}
+use Rattle.tx_sets.specs.Entries.{Entries}
 use Rattle.word_machine.specs.World as world
 use Rattle.word_machine.specs.Requests.{Request}
 use Rattle.vlock_word.specs.declared.lock_word.LockWord.{LockWord}
 use Rattle.vlock_word.specs.declared.lock_word.LockWord.TheVariants.{Free, Locked}
 use Rattle.vlock_word.specs.LockWord.{bits}
-use Rattle.word_machine.specs.Entries.{locations, lookup}
+use Rattle.tx_sets.specs.Entries.{locations, lookup}
 use Rattle.word_machine.specs.Actor.{goes}
 use Rattle.word_machine.specs.Requests.{ask}
 use Rattle.word_machine.specs.World.{World, Ask, Event, Step, happens, run, start, step, put, now}
@@ -96,16 +96,16 @@ pub shows_moved : (w : Machine) (s : World) (a : ℕ) (x y : Actor) → Shows (s
 shows_moved w s a x y h got = shows_next w (moved w a y) s (now s a (actor_of y)) a y h (inside w.actors.items a x got) refl refl h.clock h.locks h.values h.history
 
 -- what an actor does at a place is the machine's step there
-pub step_of : (s : World) (a : ℕ) (x : Actor) (p : Place) → s.actors a ≡ actor_of x → x.place ≡ p → happens s (Step a) ≡ step s a (actor_of x) (place_of x.reads.items x.writes.items p)
-step_of s a x p e q = ap (λ (z : machine.Actor). step s a z z.place) e ∙ ap (λ (z : Place). step s a (actor_of x) (place_of x.reads.items x.writes.items z)) q
+pub step_of : (s : World) (a : ℕ) (x : Actor) (p : Place) → s.actors a ≡ actor_of x → x.place ≡ p → happens s (Step a) ≡ step s a (actor_of x) (place_of x.reads.entries x.writes.entries p)
+step_of s a x p e q = ap (λ (z : machine.Actor). step s a z z.place) e ∙ ap (λ (z : Place). step s a (actor_of x) (place_of x.reads.entries x.writes.entries z)) q
 
-pub notice_of : (s : World) (a : ℕ) (x : Actor) (p : Place) → s.actors a ≡ actor_of x → x.place ≡ p → notice s (s.actors a) (s.actors a).place ≡ notice s (actor_of x) (place_of x.reads.items x.writes.items p)
-notice_of s a x p e q = ap (λ (z : machine.Actor). notice s z z.place) e ∙ ap (λ (z : Place). notice s (actor_of x) (place_of x.reads.items x.writes.items z)) q
+pub notice_of : (s : World) (a : ℕ) (x : Actor) (p : Place) → s.actors a ≡ actor_of x → x.place ≡ p → notice s (s.actors a) (s.actors a).place ≡ notice s (actor_of x) (place_of x.reads.entries x.writes.entries p)
+notice_of s a x p e q = ap (λ (z : machine.Actor). notice s z z.place) e ∙ ap (λ (z : Place). notice s (actor_of x) (place_of x.reads.entries x.writes.entries z)) q
 
 -- a step that changes the actor's own record alone
 pub steps_moved : (w : Machine) (a : ℕ) (x y : Actor) (p : Place) (r : Answer) → slice_get w.actors.items a ≡ Some x → x.place ≡ p
-    → ((s : World) → Shows (shown w) s → step s a (actor_of x) (place_of x.reads.items x.writes.items p) ≡ now s a (actor_of y))
-    → ((s : World) → Shows (shown w) s → r ≡ result_of (notice s (actor_of x) (place_of x.reads.items x.writes.items p)))
+    → ((s : World) → Shows (shown w) s → step s a (actor_of x) (place_of x.reads.entries x.writes.entries p) ≡ now s a (actor_of y))
+    → ((s : World) → Shows (shown w) s → r ≡ result_of (notice s (actor_of x) (place_of x.reads.entries x.writes.entries p)))
     → Steps (shown w) a (shown (moved w a y)) r
 steps_moved w a x y p r got at_p turn says s h = (
   subst (Shows (shown (moved w a y))) (sym (step_of s a x p (actor_at w s a x h got) at_p ∙ turn s h)) (shows_moved w s a x y h got),
@@ -205,27 +205,27 @@ none_left es i n h = ap (λ (z : List ℕ). when_none_left z n) (drop_end es i h
 pub some_left : (es : Entries) (i : ℕ) (n : Notice) → i < length es → when_none_left (drop i (locations es)) n ≡ Quiet
 some_left es i n h = ap (λ (z : List ℕ). when_none_left z n) (drop_here es i (0, 0) h)
 
-pub to_lock_steps : (w : Machine) (a : ℕ) (x y : Actor) (r : Answer) (i l word : ℕ) → slice_get w.actors.items a ≡ Some x → x.place ≡ Lock i → i < length x.writes.items → (get_or x.writes.items i (0, 0)).0 ≡ l → get_or w.locks.items l 0 ≡ word
-    → actor_of y ≡ seen_to_lock (actor_of x) l (drop (i + 1) (locations x.writes.items)) (unbits word) → r ≡ result_of (lock_notice l (unbits word)) → Steps (shown w) a (shown (moved w a y)) r
+pub to_lock_steps : (w : Machine) (a : ℕ) (x y : Actor) (r : Answer) (i l word : ℕ) → slice_get w.actors.items a ≡ Some x → x.place ≡ Lock i → i < length x.writes.entries → (get_or x.writes.entries i (0, 0)).0 ≡ l → get_or w.locks.items l 0 ≡ word
+    → actor_of y ≡ seen_to_lock (actor_of x) l (drop (i + 1) (locations x.writes.entries)) (unbits word) → r ≡ result_of (lock_notice l (unbits word)) → Steps (shown w) a (shown (moved w a y)) r
 to_lock_steps w a x y r i l word got at_p inn loc found own says =
-    let here : drop i (locations x.writes.items) ≡ l ∷ drop (i + 1) (locations x.writes.items) = drop_here x.writes.items i (0, 0) inn ∙ ap (λ (n : ℕ). n ∷ drop (i + 1) (locations x.writes.items)) loc in
+    let here : drop i (locations x.writes.entries) ≡ l ∷ drop (i + 1) (locations x.writes.entries) = drop_here x.writes.entries i (0, 0) inn ∙ ap (λ (n : ℕ). n ∷ drop (i + 1) (locations x.writes.entries)) loc in
     steps_moved w a x y (Lock i) r got at_p
-    (λ s h. ap (λ (ls : List ℕ). step s a (actor_of x) (machine.Lock ls)) here ∙ ap (to_lock s a (actor_of x) l (drop (i + 1) (locations x.writes.items))) (h.locks l ∙ ap unbits found) ∙ ap (now s a) (sym own))
+    (λ s h. ap (λ (ls : List ℕ). step s a (actor_of x) (machine.Lock ls)) here ∙ ap (to_lock s a (actor_of x) l (drop (i + 1) (locations x.writes.entries))) (h.locks l ∙ ap unbits found) ∙ ap (now s a) (sym own))
     (λ s h. says ∙ ap (λ (z : LockWord). result_of (lock_notice l z)) (sym (h.locks l ∙ ap unbits found)) ∙ ap (λ (ls : List ℕ). result_of (notice s (actor_of x) (machine.Lock ls))) (sym here))
 
-pub check_steps : (w : Machine) (a : ℕ) (x y : Actor) (r : Answer) (i l word : ℕ) → slice_get w.actors.items a ≡ Some x → x.place ≡ Check i → i < length x.reads.items → (get_or x.reads.items i (0, 0)).0 ≡ l → get_or w.locks.items l 0 ≡ word
-    → actor_of y ≡ seen_in_check (actor_of x) (drop (i + 1) (locations x.reads.items)) (unbits word) (lookup x.held.items l)
-    → r ≡ result_of (check_notice x.rv x.wv l (drop (i + 1) (locations x.reads.items)) (unbits word) (lookup x.held.items l)) → Steps (shown w) a (shown (moved w a y)) r
+pub check_steps : (w : Machine) (a : ℕ) (x y : Actor) (r : Answer) (i l word : ℕ) → slice_get w.actors.items a ≡ Some x → x.place ≡ Check i → i < length x.reads.entries → (get_or x.reads.entries i (0, 0)).0 ≡ l → get_or w.locks.items l 0 ≡ word
+    → actor_of y ≡ seen_in_check (actor_of x) (drop (i + 1) (locations x.reads.entries)) (unbits word) (lookup x.writes.entries l)
+    → r ≡ result_of (check_notice x.rv x.wv l (drop (i + 1) (locations x.reads.entries)) (unbits word) (lookup x.writes.entries l)) → Steps (shown w) a (shown (moved w a y)) r
 check_steps w a x y r i l word got at_p inn loc found own says =
-    let here : drop i (locations x.reads.items) ≡ l ∷ drop (i + 1) (locations x.reads.items) = drop_here x.reads.items i (0, 0) inn ∙ ap (λ (n : ℕ). n ∷ drop (i + 1) (locations x.reads.items)) loc in
+    let here : drop i (locations x.reads.entries) ≡ l ∷ drop (i + 1) (locations x.reads.entries) = drop_here x.reads.entries i (0, 0) inn ∙ ap (λ (n : ℕ). n ∷ drop (i + 1) (locations x.reads.entries)) loc in
     steps_moved w a x y (Check i) r got at_p
-    (λ s h. ap (λ (ls : List ℕ). step s a (actor_of x) (machine.Check ls)) here ∙ ap (λ (z : LockWord). checked s a (actor_of x) l (drop (i + 1) (locations x.reads.items)) z (lookup x.held.items l)) (h.locks l ∙ ap unbits found) ∙ ap (now s a) (sym own))
-    (λ s h. says ∙ ap (λ (z : LockWord). result_of (check_notice x.rv x.wv l (drop (i + 1) (locations x.reads.items)) z (lookup x.held.items l))) (sym (h.locks l ∙ ap unbits found))
+    (λ s h. ap (λ (ls : List ℕ). step s a (actor_of x) (machine.Check ls)) here ∙ ap (λ (z : LockWord). checked s a (actor_of x) l (drop (i + 1) (locations x.reads.entries)) z (lookup x.writes.entries l)) (h.locks l ∙ ap unbits found) ∙ ap (now s a) (sym own))
+    (λ s h. says ∙ ap (λ (z : LockWord). result_of (check_notice x.rv x.wv l (drop (i + 1) (locations x.reads.entries)) z (lookup x.writes.entries l))) (sym (h.locks l ∙ ap unbits found))
     ∙ ap (λ (ls : List ℕ). result_of (notice s (actor_of x) (machine.Check ls))) (sym here))
 
 -- a step at a place, from what the machine does there
 pub steps_next : (w t : Machine) (a : ℕ) (x : Actor) (p : Place) (r : Answer) → slice_get w.actors.items a ≡ Some x → x.place ≡ p
-    → ((s : World) → Shows (shown w) s → Shows (shown t) (step s a (actor_of x) (place_of x.reads.items x.writes.items p)) × (r ≡ result_of (notice s (actor_of x) (place_of x.reads.items x.writes.items p))))
+    → ((s : World) → Shows (shown w) s → Shows (shown t) (step s a (actor_of x) (place_of x.reads.entries x.writes.entries p)) × (r ≡ result_of (notice s (actor_of x) (place_of x.reads.entries x.writes.entries p))))
     → Steps (shown w) a (shown t) r
 steps_next w t a x p r got at_p turn s h = (
   subst (Shows (shown t)) (sym (step_of s a x p (actor_at w s a x h got) at_p)) (turn s h).0,
@@ -235,13 +235,13 @@ steps_next w t a x p r got at_p turn s h = (
 abbrev pub ticked : Machine → ℕ → Actor → Machine
 ticked w a y = record { clock = w.clock + 1; locks = w.locks; values = w.values; actors = with_item w.actors a y; history = w.history }
 
-pub stamp_steps : (w : Machine) (a : ℕ) (x y : Actor) (r : Answer) (i : ℕ) → slice_get w.actors.items a ≡ Some x → x.place ≡ Lock i → length x.writes.items ≤ i
-    → actor_of y ≡ stamped_at (actor_of x) (w.clock + 1) → r ≡ result_of (when_none_left x.reads.items (LockedAt (w.clock + 1))) → Steps (shown w) a (shown (ticked w a y)) r
+pub stamp_steps : (w : Machine) (a : ℕ) (x y : Actor) (r : Answer) (i : ℕ) → slice_get w.actors.items a ≡ Some x → x.place ≡ Lock i → length x.writes.entries ≤ i
+    → actor_of y ≡ stamped_at (actor_of x) (w.clock + 1) → r ≡ result_of (when_none_left x.reads.entries (LockedAt (w.clock + 1))) → Steps (shown w) a (shown (ticked w a y)) r
 stamp_steps w a x y r i got at_p out own says = steps_next w (ticked w a y) a x (Lock i) r got at_p (λ s h. (
-  subst (λ (ls : List ℕ). Shows (shown (ticked w a y)) (step s a (actor_of x) (machine.Lock ls))) (sym (drop_end x.writes.items i out))
+  subst (λ (ls : List ℕ). Shows (shown (ticked w a y)) (step s a (actor_of x) (machine.Lock ls))) (sym (drop_end x.writes.entries i out))
       (shows_next w (ticked w a y) s (stamped s a (actor_of x)) a y h (inside w.actors.items a x got) refl
       (ap (λ (n : ℕ). put s.actors a (stamped_at (actor_of x) (n + 1))) h.clock ∙ ap (put s.actors a) (sym own)) (ap (λ (n : ℕ). n + 1) h.clock) h.locks h.values h.history),
-  says ∙ ap (λ (n : ℕ). result_of (when_none_left x.reads.items (LockedAt (n + 1)))) (sym h.clock) ∙ ap (λ (ls : List ℕ). result_of (notice s (actor_of x) (machine.Lock ls))) (sym (drop_end x.writes.items i out)),
+  says ∙ ap (λ (n : ℕ). result_of (when_none_left x.reads.entries (LockedAt (n + 1)))) (sym h.clock) ∙ ap (λ (ls : List ℕ). result_of (notice s (actor_of x) (machine.Lock ls))) (sym (drop_end x.writes.entries i out)),
 ))
 
 pub sound_ticked : (w : Machine) (a : ℕ) (x y : Actor) → Sound w → slice_get w.actors.items a ≡ Some x → ((n : ℕ) → Fits n x → Fits n y) → owed x.place ≡ 1 → owed y.place ≡ 0 → due x.place ≡ 1 → due y.place ≤ 1 → Sound (ticked w a y)
@@ -270,27 +270,27 @@ sound_begun w a x y v got fits at_p owe quiet = record {
     go false e = (let q : owed y.place ≤ 0 = subst (λ (b : Bool). owed y.place ≤ (if b then 1 else 0)) e owe in omega (arith, v.clock, total-set owed w.actors.items a x y got, q, none))
 
 -- a location read from a set of the actor, and then its lock word
-pub to_lock_read : (w : Machine) (a : ℕ) (x z y : Actor) (r : Answer) (i : ℕ) (e : ℕ × ℕ) (word : ℕ) → slice_get w.actors.items a ≡ Some x → slice_get w.actors.items a ≡ Some z → x.place ≡ Lock i → i < length x.writes.items → Sound w
-    → e ≡ get_or z.writes.items i e → word ≡ get_or w.locks.items e.0 word
-    → actor_of y ≡ seen_to_lock (actor_of x) e.0 (drop (i + 1) (locations x.writes.items)) (unbits word) → r ≡ result_of (lock_notice e.0 (unbits word)) → Steps (shown w) a (shown (moved w a y)) r
+pub to_lock_read : (w : Machine) (a : ℕ) (x z y : Actor) (r : Answer) (i : ℕ) (e : ℕ × ℕ) (word : ℕ) → slice_get w.actors.items a ≡ Some x → slice_get w.actors.items a ≡ Some z → x.place ≡ Lock i → i < length x.writes.entries → Sound w
+    → e ≡ get_or z.writes.entries i e → word ≡ get_or w.locks.items e.0 word
+    → actor_of y ≡ seen_to_lock (actor_of x) e.0 (drop (i + 1) (locations x.writes.entries)) (unbits word) → r ≡ result_of (lock_notice e.0 (unbits word)) → Steps (shown w) a (shown (moved w a y)) r
 to_lock_read w a x z y r i e word got again at_p inn v en found own says =
     let same : x ≡ z = (let q : Some x ≡ Some z = sym got ∙ again in cc) in
-    let at_i : get_or x.writes.items i e ≡ e = ap (λ (u : Actor). get_or u.writes.items i e) same ∙ sym en in
-    let loc : (get_or x.writes.items i (0, 0)).0 ≡ e.0 = ap (λ (u : ℕ × ℕ). u.0) (get_or_same x.writes.items i (0, 0) e inn ∙ at_i) in
+    let at_i : get_or x.writes.entries i e ≡ e = ap (λ (u : Actor). get_or u.writes.entries i e) same ∙ sym en in
+    let loc : (get_or x.writes.entries i (0, 0)).0 ≡ e.0 = ap (λ (u : ℕ × ℕ). u.0) (get_or_same x.writes.entries i (0, 0) e inn ∙ at_i) in
     let below : e.0 < length w.locks.items = subst (λ (u : ℕ × ℕ). u.0 < length w.locks.items) at_i ((All-at (Fits (length w.locks.items)) w.actors.items a x v.actors got).writes i e inn) in
     to_lock_steps w a x y r i e.0 word got at_p inn loc (get_or_same w.locks.items e.0 0 word below ∙ sym found) own says
   where
     get_or_same : {X : Type 0} → (xs : List X) (i : ℕ) (d e : X) → i < length xs → get_or xs i d ≡ get_or xs i e
     get_or_same xs i d e h = (let q = some_at xs i h in get_or_from_slice_get xs i q.0 d q.1 ∙ sym (get_or_from_slice_get xs i q.0 e q.1))
 
-pub check_read : (w : Machine) (a : ℕ) (x z y : Actor) (r : Answer) (i : ℕ) (e : ℕ × ℕ) (word : ℕ) → slice_get w.actors.items a ≡ Some x → slice_get w.actors.items a ≡ Some z → x.place ≡ Check i → i < length x.reads.items → Sound w
-    → e ≡ get_or z.reads.items i e → word ≡ get_or w.locks.items e.0 word
-    → actor_of y ≡ seen_in_check (actor_of x) (drop (i + 1) (locations x.reads.items)) (unbits word) (lookup x.held.items e.0)
-    → r ≡ result_of (check_notice x.rv x.wv e.0 (drop (i + 1) (locations x.reads.items)) (unbits word) (lookup x.held.items e.0)) → Steps (shown w) a (shown (moved w a y)) r
+pub check_read : (w : Machine) (a : ℕ) (x z y : Actor) (r : Answer) (i : ℕ) (e : ℕ × ℕ) (word : ℕ) → slice_get w.actors.items a ≡ Some x → slice_get w.actors.items a ≡ Some z → x.place ≡ Check i → i < length x.reads.entries → Sound w
+    → e ≡ get_or z.reads.entries i e → word ≡ get_or w.locks.items e.0 word
+    → actor_of y ≡ seen_in_check (actor_of x) (drop (i + 1) (locations x.reads.entries)) (unbits word) (lookup x.writes.entries e.0)
+    → r ≡ result_of (check_notice x.rv x.wv e.0 (drop (i + 1) (locations x.reads.entries)) (unbits word) (lookup x.writes.entries e.0)) → Steps (shown w) a (shown (moved w a y)) r
 check_read w a x z y r i e word got again at_p inn v en found own says =
     let same : x ≡ z = (let q : Some x ≡ Some z = sym got ∙ again in cc) in
-    let at_i : get_or x.reads.items i e ≡ e = ap (λ (u : Actor). get_or u.reads.items i e) same ∙ sym en in
-    let loc : (get_or x.reads.items i (0, 0)).0 ≡ e.0 = ap (λ (u : ℕ × ℕ). u.0) (get_or_same x.reads.items i (0, 0) e inn ∙ at_i) in
+    let at_i : get_or x.reads.entries i e ≡ e = ap (λ (u : Actor). get_or u.reads.entries i e) same ∙ sym en in
+    let loc : (get_or x.reads.entries i (0, 0)).0 ≡ e.0 = ap (λ (u : ℕ × ℕ). u.0) (get_or_same x.reads.entries i (0, 0) e inn ∙ at_i) in
     let below : e.0 < length w.locks.items = subst (λ (u : ℕ × ℕ). u.0 < length w.locks.items) at_i ((All-at (Fits (length w.locks.items)) w.actors.items a x v.actors got).reads i e inn) in
     check_steps w a x y r i e.0 word got at_p inn loc (get_or_same w.locks.items e.0 0 word below ∙ sym found) own says
   where
@@ -308,9 +308,9 @@ locks_put w s l n k h inn is i = elim (cases_eq i l) [
 ]
 
 pub take_steps : (w : Machine) (a : ℕ) (x y : Actor) (l k i word : ℕ) → slice_get w.actors.items a ≡ Some x → x.place ≡ Take l k i → l < length w.locks.items → get_or w.locks.items l 0 ≡ word → word ≡ 2 * k
-    → actor_of y ≡ taken (actor_of x) l k (drop i (locations x.writes.items)) → Steps (shown w) a (shown (relocked w a y l (word + 1))) (Ok None)
+    → actor_of y ≡ taken (actor_of x) l k (drop i (locations x.writes.entries)) → Steps (shown w) a (shown (relocked w a y l (word + 1))) (Ok None)
 take_steps w a x y l k i word got at_p inn found free own = steps_next w (relocked w a y l (word + 1)) a x (Take l k i) (Ok None) got at_p (λ s h. (
-    let ls = drop i (locations x.writes.items) in
+    let ls = drop i (locations x.writes.entries) in
     let is_free : s.locks l ≡ Free k = h.locks l ∙ ap unbits (found ∙ free) ∙ unbits_free k in
     let won : tried s a (actor_of x) l k ls (Free k) ≡ locked s a (actor_of x) l k ls = cond-true (eqb k k) (locked s a (actor_of x) l k ls) (now s a (goes (actor_of x) machine.Broken)) (eq-eqb k k refl) in
     let quiet : take_notice l k (Free k) ≡ Quiet = cond-true (eqb k k) Quiet (Busy l (2 * k)) (eq-eqb k k refl) in (
@@ -337,7 +337,7 @@ pub lose_steps : (w : Machine) (a : ℕ) (x : Actor) (l k i word : ℕ) → slic
     → Steps (shown w) a (shown (moved w a (record { place = Broken; rv = x.rv; wv = x.wv; reads = x.reads; writes = x.writes; held = x.held; calls = x.calls; ready = x.ready }))) (Err (refusal.Busy l word))
 lose_steps w a x l k i word got at_p found ne =
     let y : Actor = record { place = Broken; rv = x.rv; wv = x.wv; reads = x.reads; writes = x.writes; held = x.held; calls = x.calls; ready = x.ready } in
-    let ls = drop i (locations x.writes.items) in
+    let ls = drop i (locations x.writes.entries) in
     steps_moved w a x y (Take l k i) (Err (refusal.Busy l word)) got at_p
     (λ s h. ap (tried s a (actor_of x) l k ls) (h.locks l ∙ ap unbits found) ∙ (lost s a (actor_of x) l k ls (unbits word) (λ q. ne (sym (bits_unbits word) ∙ q))).0)
     (λ s h. ap (λ (n : ℕ). result_of (Busy l n)) (sym (bits_unbits word)) ∙ ap result_of (sym (ap (take_notice l k) (h.locks l ∙ ap unbits found) ∙ (lost s a (actor_of x) l k ls (unbits word) (λ q. ne (sym (bits_unbits word) ∙ q))).1)))
@@ -365,22 +365,22 @@ idle_keeps x = record { fits = λ n f. record { reads = f.reads; writes = f.writ
 
 -- a resting place takes no step
 pub rest_steps : (w : Machine) (a : ℕ) (x : Actor) (p : Place) → slice_get w.actors.items a ≡ Some x → x.place ≡ p
-    → ((s : World) → step s a (actor_of x) (place_of x.reads.items x.writes.items p) ≡ s) → ((s : World) → notice s (actor_of x) (place_of x.reads.items x.writes.items p) ≡ NoTransaction)
+    → ((s : World) → step s a (actor_of x) (place_of x.reads.entries x.writes.entries p) ≡ s) → ((s : World) → notice s (actor_of x) (place_of x.reads.entries x.writes.entries p) ≡ NoTransaction)
     → Steps (shown w) a (shown w) (Err refusal.NoTransaction)
 rest_steps w a x p got at_p stays says s h = (
   subst (Shows (shown w)) (sym (step_of s a x p (actor_at w s a x h got) at_p ∙ stays s)) h,
   ap result_of (sym (notice_of s a x p (actor_at w s a x h got) at_p ∙ says s)),
 )
 
-pub checked_all : (w : Machine) (a : ℕ) (x : Actor) (i : ℕ) → slice_get w.actors.items a ≡ Some x → x.place ≡ Check i → length x.reads.items ≤ i → Steps (shown w) a (shown w) (Err refusal.NoTransaction)
+pub checked_all : (w : Machine) (a : ℕ) (x : Actor) (i : ℕ) → slice_get w.actors.items a ≡ Some x → x.place ≡ Check i → length x.reads.entries ≤ i → Steps (shown w) a (shown w) (Err refusal.NoTransaction)
 checked_all w a x i got at_p out = rest_steps w a x (Check i) got at_p
-    (λ s. ap (λ (ls : List ℕ). step s a (actor_of x) (machine.Check ls)) (drop_end x.reads.items i out))
-    (λ s. ap (λ (ls : List ℕ). notice s (actor_of x) (machine.Check ls)) (drop_end x.reads.items i out))
+    (λ s. ap (λ (ls : List ℕ). step s a (actor_of x) (machine.Check ls)) (drop_end x.reads.entries i out))
+    (λ s. ap (λ (ls : List ℕ). notice s (actor_of x) (machine.Check ls)) (drop_end x.reads.entries i out))
 
-pub stored_all : (w : Machine) (a : ℕ) (x : Actor) (i : ℕ) → slice_get w.actors.items a ≡ Some x → x.place ≡ Store i → length x.writes.items ≤ i → Steps (shown w) a (shown w) (Err refusal.NoTransaction)
+pub stored_all : (w : Machine) (a : ℕ) (x : Actor) (i : ℕ) → slice_get w.actors.items a ≡ Some x → x.place ≡ Store i → length x.writes.entries ≤ i → Steps (shown w) a (shown w) (Err refusal.NoTransaction)
 stored_all w a x i got at_p out = rest_steps w a x (Store i) got at_p
-    (λ s. ap (λ (ls : List ℕ). step s a (actor_of x) (machine.Store ls)) (drop_end x.writes.items i out))
-    (λ s. ap (λ (ls : List ℕ). notice s (actor_of x) (machine.Store ls)) (drop_end x.writes.items i out))
+    (λ s. ap (λ (ls : List ℕ). step s a (actor_of x) (machine.Store ls)) (drop_end x.writes.entries i out))
+    (λ s. ap (λ (ls : List ℕ). notice s (actor_of x) (machine.Store ls)) (drop_end x.writes.entries i out))
 
 -- the value of l is n now, and actor a is y
 abbrev pub restored : Machine → ℕ → Actor → ℕ → ℕ → Machine
@@ -392,16 +392,16 @@ values_put w s l n v h inn is i = elim (cases_eq i l) [
   | inr ne ↦ put-other s.values l v i ne ∙ h.values i ∙ sym (get_or-set_other w.values.items l i n 0 ne)
 ]
 
-pub store_steps : (w : Machine) (a : ℕ) (x y : Actor) (r : Answer) (i l n : ℕ) → slice_get w.actors.items a ≡ Some x → x.place ≡ Store i → i < length x.writes.items → (get_or x.writes.items i (0, 0)).0 ≡ l → l < length w.values.items
-    → n ≡ unwrap_or (lookup x.writes.items l) 0
-    → actor_of y ≡ goes (actor_of x) (machine.Store (drop (i + 1) (locations x.writes.items))) → r ≡ result_of (when_none_left (drop (i + 1) (locations x.writes.items)) Stored) → Steps (shown w) a (shown (restored w a y l n)) r
+pub store_steps : (w : Machine) (a : ℕ) (x y : Actor) (r : Answer) (i l n : ℕ) → slice_get w.actors.items a ≡ Some x → x.place ≡ Store i → i < length x.writes.entries → (get_or x.writes.entries i (0, 0)).0 ≡ l → l < length w.values.items
+    → n ≡ unwrap_or (lookup x.writes.entries l) 0
+    → actor_of y ≡ goes (actor_of x) (machine.Store (drop (i + 1) (locations x.writes.entries))) → r ≡ result_of (when_none_left (drop (i + 1) (locations x.writes.entries)) Stored) → Steps (shown w) a (shown (restored w a y l n)) r
 store_steps w a x y r i l n got at_p inn loc below is own says =
-    let ls = drop (i + 1) (locations x.writes.items) in
-    let here : drop i (locations x.writes.items) ≡ l ∷ ls = drop_here x.writes.items i (0, 0) inn ∙ ap (λ (n : ℕ). n ∷ ls) loc in
+    let ls = drop (i + 1) (locations x.writes.entries) in
+    let here : drop i (locations x.writes.entries) ≡ l ∷ ls = drop_here x.writes.entries i (0, 0) inn ∙ ap (λ (n : ℕ). n ∷ ls) loc in
     steps_next w (restored w a y l n) a x (Store i) r got at_p (λ s h. (
       subst (λ (z : List ℕ). Shows (shown (restored w a y l n)) (step s a (actor_of x) (machine.Store z))) (sym here)
           (shows_next w (restored w a y l n) s (stored s a (actor_of x) l ls) a y h (inside w.actors.items a x got) refl (ap (put s.actors a) (sym own)) h.clock h.locks
-          (values_put w s l n (unwrap_or (lookup x.writes.items l) 0) h below is) h.history),
+          (values_put w s l n (unwrap_or (lookup x.writes.entries l) 0) h below is) h.history),
       says ∙ ap (λ (z : List ℕ). result_of (notice s (actor_of x) (machine.Store z))) (sym here),
     ))
 
@@ -463,12 +463,12 @@ sound_restored w a x y l n v got k =
     length_set (z ∷ zs) (suc i) v = ap suc (length_set zs i v)
 
 -- a location read from the write set, its value, and the store
-pub store_read : (w : Machine) (a : ℕ) (x z y : Actor) (r : Answer) (i : ℕ) (e : ℕ × ℕ) (n : ℕ) → slice_get w.actors.items a ≡ Some x → slice_get w.actors.items a ≡ Some z → x.place ≡ Store i → i < length x.writes.items → Sound w
-    → e ≡ get_or z.writes.items i e → n ≡ unwrap_or (lookup x.writes.items e.0) 0
-    → actor_of y ≡ goes (actor_of x) (machine.Store (drop (i + 1) (locations x.writes.items))) → r ≡ result_of (when_none_left (drop (i + 1) (locations x.writes.items)) Stored) → Steps (shown w) a (shown (restored w a y e.0 n)) r
+pub store_read : (w : Machine) (a : ℕ) (x z y : Actor) (r : Answer) (i : ℕ) (e : ℕ × ℕ) (n : ℕ) → slice_get w.actors.items a ≡ Some x → slice_get w.actors.items a ≡ Some z → x.place ≡ Store i → i < length x.writes.entries → Sound w
+    → e ≡ get_or z.writes.entries i e → n ≡ unwrap_or (lookup x.writes.entries e.0) 0
+    → actor_of y ≡ goes (actor_of x) (machine.Store (drop (i + 1) (locations x.writes.entries))) → r ≡ result_of (when_none_left (drop (i + 1) (locations x.writes.entries)) Stored) → Steps (shown w) a (shown (restored w a y e.0 n)) r
 store_read w a x z y r i e n got again at_p inn v en is own says =
-    let at_i : get_or x.writes.items i e ≡ e = ap (λ (u : Actor). get_or u.writes.items i e) (same_at w.actors.items a x z got again) ∙ sym en in
-    let loc : (get_or x.writes.items i (0, 0)).0 ≡ e.0 = ap (λ (u : ℕ × ℕ). u.0) (get_or_same x.writes.items i (0, 0) e inn ∙ at_i) in
+    let at_i : get_or x.writes.entries i e ≡ e = ap (λ (u : Actor). get_or u.writes.entries i e) (same_at w.actors.items a x z got again) ∙ sym en in
+    let loc : (get_or x.writes.entries i (0, 0)).0 ≡ e.0 = ap (λ (u : ℕ × ℕ). u.0) (get_or_same x.writes.entries i (0, 0) e inn ∙ at_i) in
     let low : e.0 < length w.locks.items = subst (λ (u : ℕ × ℕ). u.0 < length w.locks.items) at_i ((All-at (Fits (length w.locks.items)) w.actors.items a x v.actors got).writes i e inn) in
     let below : e.0 < length w.values.items = omega (arith, low, v.same) in
     store_steps w a x y r i e.0 n got at_p inn loc below is own says
@@ -518,7 +518,7 @@ close_steps w t a x y rec got at_p c ls vs xs hs is own = steps_next w t a x Clo
   refl,
 ))
 
-pub first_steps : (w t : Machine) (a : ℕ) (x y : Actor) (r : Answer) (rec : WordRecord) (e : ℕ × ℕ) (es : Entries) → slice_get w.actors.items a ≡ Some x → x.place ≡ First → x.writes.items ≡ e ∷ es → e.0 < length w.values.items
+pub first_steps : (w t : Machine) (a : ℕ) (x y : Actor) (r : Answer) (rec : WordRecord) (e : ℕ × ℕ) (es : Entries) → slice_get w.actors.items a ≡ Some x → x.place ≡ First → x.writes.entries ≡ e ∷ es → e.0 < length w.values.items
     → t.clock ≡ w.clock → t.locks.items ≡ w.locks.items → t.values.items ≡ set w.values.items e.0 e.1
     → t.actors.items ≡ slice_set w.actors.items a y → t.history.items ≡ w.history.items ++ rec ∷ [] → record_of rec ≡ record { actor = a; number = x.wv; writer = true; calls = map call_of x.calls.items }
     → actor_of y ≡ goes (actor_of x) (machine.Store (locations es)) → r ≡ result_of (when_none_left es Stored) → Steps (shown w) a (shown t) r
@@ -531,7 +531,7 @@ first_steps w t a x y r rec e es got at_p ws below c ls vs xs hs is own says = s
   says ∙ ap (λ (z : Entries). result_of (last_notice z Stored)) (sym ws),
 ))
 
-pub first_own : (x : Actor) (e : ℕ × ℕ) (es : Entries) → x.writes.items ≡ e ∷ es → goes (actor_of x) (machine.Store (drop 1 (locations x.writes.items))) ≡ goes (actor_of x) (machine.Store (locations es))
+pub first_own : (x : Actor) (e : ℕ × ℕ) (es : Entries) → x.writes.entries ≡ e ∷ es → goes (actor_of x) (machine.Store (drop 1 (locations x.writes.entries))) ≡ goes (actor_of x) (machine.Store (locations es))
 unfolding locations
 first_own x e es ws = ap (λ (z : Entries). goes (actor_of x) (machine.Store (drop 1 (locations z)))) ws
 
@@ -565,7 +565,7 @@ sound_recorded w t a x y v got fits one none quiet rests c ls vs xs len room_ =
     }
 
 -- an actor with the same sets, at a place that asks nothing
-pub plain_fits : (x y : Actor) → y.reads.items ≡ x.reads.items → y.writes.items ≡ x.writes.items → y.held.items ≡ x.held.items → y.wv ≡ x.wv → ((n : ℕ) → FitsPlace n y y.place) → (n : ℕ) → Fits n x → Fits n y
+pub plain_fits : (x y : Actor) → y.reads.entries ≡ x.reads.entries → y.writes.entries ≡ x.writes.entries → y.held.items ≡ x.held.items → y.wv ≡ x.wv → ((n : ℕ) → FitsPlace n y y.place) → (n : ℕ) → Fits n x → Fits n y
 plain_fits x y rs ws hs wv pl n f = record {
   reads = subst (All (λ (e : ℕ × ℕ). e.0 < n)) (sym rs) f.reads;
   writes = subst (All (λ (e : ℕ × ℕ). e.0 < n)) (sym ws) f.writes;
@@ -584,7 +584,7 @@ released_all w a x got at_p hs = rest_steps w a x Release got at_p
     (λ s. ap (released s a (actor_of x)) hs)
     (λ s. ap (λ (z : Entries). last_notice z Released) hs)
 
-pub first_none : (w : Machine) (a : ℕ) (x : Actor) → slice_get w.actors.items a ≡ Some x → x.place ≡ First → x.writes.items ≡ [] → Steps (shown w) a (shown w) (Err refusal.NoTransaction)
+pub first_none : (w : Machine) (a : ℕ) (x : Actor) → slice_get w.actors.items a ≡ Some x → x.place ≡ First → x.writes.entries ≡ [] → Steps (shown w) a (shown w) (Err refusal.NoTransaction)
 first_none w a x got at_p ws = rest_steps w a x First got at_p
     (λ s. ap (first s a (actor_of x)) ws)
     (λ s. ap (λ (z : Entries). last_notice z Stored) ws)

@@ -1,7 +1,7 @@
 -- The phase of an actor, and what a request that is not refused says of it.
 use Rattle.std.proofs.Common.{◌≡◌, ℕ, ◌+◌, ◌<◌, ◌≤◌, Bool, true, false, Option, Some, None, List, [], ◌∷◌, length, refl, sym, ap, ◌∙◌, subst, drop, ltb, ltb-true, leb, leb-true, arith, true≢false, get_or}
 use Rattle.std.specs.Prelude.{nat_lt, nat_le, ◌&&◌, if◌then◌else◌, slice_get}
-use Rattle.word_machine.specs.Entries.{Entries, lookup, locations}
+use Rattle.tx_sets.specs.Entries.{Entries, lookup, locations}
 use Rattle.word_machine.specs.Actor as machine
 use Rattle.word_machine.specs.Requests.{Request, AskBegin, AskLock, AskStore, AskRelease, AskCancel, AskAbort, AskClose, AskRead, AskWrite}
 use Rattle.step_core.specs.Phases.{phase_of, allows, open_phase, undo_phase, wrong_phase, location_refusal, if_new, refusal_at}
@@ -18,20 +18,20 @@ use Rattle.step_core.specs.declared.machine.Machine.{Machine}
 use Rattle.step_core.proofs.Moves.{drop_here, drop_end, actor_at_go}
 
 -- the phase at a place
-phase_at : (x : Actor) (p : Place) → x.place ≡ p → phase_of (actor_of x) (actor_of x).place ≡ phase_of (actor_of x) (place_of x.reads.items x.writes.items p)
-phase_at x p e = ap (λ (z : Place). phase_of (actor_of x) (place_of x.reads.items x.writes.items z)) e
+phase_at : (x : Actor) (p : Place) → x.place ≡ p → phase_of (actor_of x) (actor_of x).place ≡ phase_of (actor_of x) (place_of x.reads.entries x.writes.entries p)
+phase_at x p e = ap (λ (z : Place). phase_of (actor_of x) (place_of x.reads.entries x.writes.entries z)) e
 
-pub checking : (x : Actor) (i : ℕ) → x.place ≡ Check i → i < length x.reads.items → Locking ≡ phase_of (actor_of x) (actor_of x).place
-checking x i e h = sym (phase_at x (Check i) e ∙ ap (λ (ls : List ℕ). phase_of (actor_of x) (machine.Check ls)) (drop_here x.reads.items i (0, 0) h))
+pub checking : (x : Actor) (i : ℕ) → x.place ≡ Check i → i < length x.reads.entries → Locking ≡ phase_of (actor_of x) (actor_of x).place
+checking x i e h = sym (phase_at x (Check i) e ∙ ap (λ (ls : List ℕ). phase_of (actor_of x) (machine.Check ls)) (drop_here x.reads.entries i (0, 0) h))
 
-pub checked : (x : Actor) (i : ℕ) → x.place ≡ Check i → length x.reads.items ≤ i → Locked ≡ phase_of (actor_of x) (actor_of x).place
-checked x i e h = sym (phase_at x (Check i) e ∙ ap (λ (ls : List ℕ). phase_of (actor_of x) (machine.Check ls)) (drop_end x.reads.items i h))
+pub checked : (x : Actor) (i : ℕ) → x.place ≡ Check i → length x.reads.entries ≤ i → Locked ≡ phase_of (actor_of x) (actor_of x).place
+checked x i e h = sym (phase_at x (Check i) e ∙ ap (λ (ls : List ℕ). phase_of (actor_of x) (machine.Check ls)) (drop_end x.reads.entries i h))
 
-pub storing : (x : Actor) (i : ℕ) → x.place ≡ Store i → i < length x.writes.items → Busy ≡ phase_of (actor_of x) (actor_of x).place
-storing x i e h = sym (phase_at x (Store i) e ∙ ap (λ (ls : List ℕ). phase_of (actor_of x) (machine.Store ls)) (drop_here x.writes.items i (0, 0) h))
+pub storing : (x : Actor) (i : ℕ) → x.place ≡ Store i → i < length x.writes.entries → Busy ≡ phase_of (actor_of x) (actor_of x).place
+storing x i e h = sym (phase_at x (Store i) e ∙ ap (λ (ls : List ℕ). phase_of (actor_of x) (machine.Store ls)) (drop_here x.writes.entries i (0, 0) h))
 
-pub stored : (x : Actor) (i : ℕ) → x.place ≡ Store i → length x.writes.items ≤ i → Stored ≡ phase_of (actor_of x) (actor_of x).place
-stored x i e h = sym (phase_at x (Store i) e ∙ ap (λ (ls : List ℕ). phase_of (actor_of x) (machine.Store ls)) (drop_end x.writes.items i h))
+pub stored : (x : Actor) (i : ℕ) → x.place ≡ Store i → length x.writes.entries ≤ i → Stored ≡ phase_of (actor_of x) (actor_of x).place
+stored x i e h = sym (phase_at x (Store i) e ∙ ap (λ (ls : List ℕ). phase_of (actor_of x) (machine.Store ls)) (drop_end x.writes.entries i h))
 
 no : {A : Type 0} → (b : Bool) → b ≡ false → b ≡ true → A
 no b f t = absurd (true≢false (sym t ∙ f))
@@ -94,7 +94,7 @@ lawful v a q h =
 pub allowed_here : (w : Machine) (a : ℕ) (x : Actor) (q : Request) → slice_get w.actors.items a ≡ Some x → refusal_of (shown w) a q ≡ None → allows (phase_of (actor_of x) (actor_of x).place) q ≡ true
 allowed_here w a x q got h = subst (λ (z : machine.Actor). allows (phase_of z z.place) q ≡ true) (actor_at_go w.actors.items a x got) (lawful (shown w) a q h).0
 
-within_of : (n : ℕ) (x : machine.Actor) (q : Request) → location_refusal n x q ≡ None → IsWithin n q
+pub within_of : (n : ℕ) (x : machine.Actor) (q : Request) → location_refusal n x q ≡ None → IsWithin n q
 within_of n x (AskRead l) h = ltb-true l n (if_none (nat_lt l n) (if_new (lookup x.writes l) (lookup x.reads l) x.reads) NoSuch h).0
 within_of n x (AskWrite l v) h = ltb-true l n (if_none (nat_lt l n) (if_new (lookup x.writes l) None x.writes) NoSuch h).0
 within_of n x AskBegin h = tt
@@ -105,6 +105,11 @@ within_of n x AskCancel h = tt
 within_of n x AskAbort h = tt
 within_of n x AskClose h = tt
 
--- and its location is there
-pub within_here : (w : Machine) (a : ℕ) (q : Request) → refusal_of (shown w) a q ≡ None → IsWithin (length w.locks.items) q
-within_here w a q h = within_of (length w.locks.items) (actor_in (shown w) a) q (lawful (shown w) a q h).1
+-- and its location is there, in a set or with a place left
+pub limit_here : (w : Machine) (a : ℕ) (x : Actor) (n : ℕ) (q : Request) → slice_get w.actors.items a ≡ Some x → n ≡ length w.locks.items → refusal_of (shown w) a q ≡ None → location_refusal n (actor_of x) q ≡ None
+limit_here w a x n q got same h =
+    subst (λ (m : ℕ). location_refusal m (actor_of x) q ≡ None) (sym same)
+    (subst (λ (z : machine.Actor). location_refusal (length w.locks.items) z q ≡ None) (actor_at_go w.actors.items a x got) (lawful (shown w) a q h).1)
+
+pub read_limit : (n : ℕ) (x : machine.Actor) (l : ℕ) → location_refusal n x (AskRead l) ≡ None → if_new (lookup x.writes l) (lookup x.reads l) x.reads ≡ None
+read_limit n x l h = (if_none (nat_lt l n) (if_new (lookup x.writes l) (lookup x.reads l) x.reads) NoSuch h).1

@@ -1,6 +1,6 @@
 -- What holds of the running words, by whatever schedule they were reached.
 use Rattle.std.specs.Prelude.{◌≡◌, ℕ, ◌≢◌, List, [], Some, get_or}
-use Rattle.word_machine.specs.Entries.{lookup}
+use Rattle.tx_sets.specs.Entries.{lookup}
 use Rattle.word_machine.specs.Actor.{Begin, Open}
 use Rattle.word_machine.specs.World.{Memory, run, start, in_order}
 use Rattle.word_machine.specs.Opacity.{IsRun, IsInOrder, IsLegal, IsHalfDone, AllEnded, AllUpto, memory_after, memory_at, upto}

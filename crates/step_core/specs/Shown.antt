@@ -1,7 +1,7 @@
 -- What callers see of the running words, and the worlds of the machine that it shows.
 use Rattle.std.specs.Prelude.{◌≡◌, ℕ, ◌≤◌, Bool, List, [], ◌∷◌, length, map, get_or, drop, Option, Some, None, Result, Ok, Err, nat_le, ◌&&◌, if◌then◌else◌}
 use Rattle.vlock_word.specs.LockWord.{unbits}
-use Rattle.word_machine.specs.Entries.{Entries, locations}
+use Rattle.tx_sets.specs.Entries.{Entries, locations}
 use Rattle.word_machine.specs.Actor as machine
 use Rattle.word_machine.specs.Requests.{Request}
 use Rattle.word_machine.specs.World as world
@@ -48,11 +48,11 @@ call_of (Write l v) = machine.Write l v
 abbrev pub actor_of : Actor → machine.Actor
 actor_of x =
     record {
-      place = place_of x.reads.items x.writes.items x.place;
+      place = place_of x.reads.entries x.writes.entries x.place;
       rv = x.rv;
       wv = x.wv;
-      reads = x.reads.items;
-      writes = x.writes.items;
+      reads = x.reads.entries;
+      writes = x.writes.entries;
       held = x.held.items;
       calls = map call_of x.calls.items;
     }

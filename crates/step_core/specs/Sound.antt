@@ -1,6 +1,7 @@
 -- What the code needs of its fields besides what they show: bounds, and the room for what the steps will push.
 use Rattle.std.specs.Prelude.{◌≡◌, ℕ, ◌+◌, ◌-◌, ◌^◌, ◌<◌, ◌≤◌, List, [], ◌∷◌, length, slice_get, Some}
 use Rattle.std.specs.Vec.{vec_len, vec_capacity}
+use Rattle.std.specs.VecDeque.{deque_len, deque_capacity}
 use Rattle.std.specs.List.{All}
 use Rattle.word_machine.specs.Requests.{Request, AskRead, AskWrite}
 use Rattle.step_core.specs.declared.actor.Place.{Place}
@@ -10,19 +11,19 @@ use Rattle.step_core.specs.declared.machine.Machine.{Machine}
 
 -- the room and the bounds that a place needs, with n locations
 abbrev pub FitsPlace : ℕ → Actor → Place → Type 0
-FitsPlace n x (Look l) = (l < n) × (vec_len x.reads < vec_capacity x.reads) × (vec_len x.calls < vec_capacity x.calls)
-FitsPlace n x (Fetch l k) = (l < n) × (vec_len x.reads < vec_capacity x.reads) × (vec_len x.calls < vec_capacity x.calls)
-FitsPlace n x (Again l k v) = (l < n) × (vec_len x.reads < vec_capacity x.reads) × (vec_len x.calls < vec_capacity x.calls)
-FitsPlace n x (Lock i) = vec_len x.held + (vec_len x.writes - i) ≤ vec_capacity x.held
-FitsPlace n x (Take l k i) = (l < n) × (k < 2 ^ 63) × (vec_len x.held + (1 + (vec_len x.writes - i)) ≤ vec_capacity x.held)
+FitsPlace n x (Look l) = (l < n) × (0 < x.reads.room) × (length x.reads.entries < 4096) × (vec_len x.calls < vec_capacity x.calls)
+FitsPlace n x (Fetch l k) = (l < n) × (0 < x.reads.room) × (length x.reads.entries < 4096) × (vec_len x.calls < vec_capacity x.calls)
+FitsPlace n x (Again l k v) = (l < n) × (0 < x.reads.room) × (length x.reads.entries < 4096) × (vec_len x.calls < vec_capacity x.calls)
+FitsPlace n x (Lock i) = deque_len x.held + (length x.writes.entries - i) ≤ deque_capacity x.held
+FitsPlace n x (Take l k i) = (l < n) × (k < 2 ^ 63) × (deque_len x.held + (1 + (length x.writes.entries - i)) ≤ deque_capacity x.held)
 FitsPlace n x First = x.ready.items ≡ x.calls.items
 FitsPlace n x Close = x.ready.items ≡ x.calls.items
 FitsPlace n x p = Unit {0}
 
 -- An actor's record, with n locations.
 pub record Fits (n : ℕ) (x : Actor) : Type 0 where
-  pub reads : All (λ e. e.0 < n) x.reads.items
-  pub writes : All (λ e. e.0 < n) x.writes.items
+  pub reads : All (λ e. e.0 < n) x.reads.entries
+  pub writes : All (λ e. e.0 < n) x.writes.entries
   pub held : All (λ e. (e.0 < n) × (e.1 < 2 ^ 63)) x.held.items
   pub wv : x.wv < 2 ^ 63
   pub place : FitsPlace n x x.place

@@ -3,10 +3,11 @@
 //! A step finds one word, and what it then makes of the actor depends on the actor and that word
 //! alone. So each kind of step is a method here, which is given the word, and [`crate::machine`] has
 //! the loads and the stores.
-ghost use Rattle.std.specs.Prelude.{◌≡◌, ◌≢◌, ℕ, ◌+◌, ◌^◌, ◌<◌, ◌≤◌, Ok, drop, nat_lt, if◌then◌else◌};
+ghost use Rattle.std.specs.Prelude.{◌≡◌, ◌≢◌, ℕ, ◌+◌, ◌^◌, ◌<◌, ◌≤◌, Ok, drop, length, slice_index_or, nat_lt, if◌then◌else◌};
 ghost use Rattle.std.specs.Vec.{vec_len, vec_capacity};
+ghost use Rattle.std.specs.VecDeque.{deque_len, deque_capacity};
 ghost use Rattle.vlock_word.specs.LockWord.{unbits};
-ghost use Rattle.word_machine.specs.Entries.{lookup, locations};
+ghost use Rattle.tx_sets.specs.Entries.{lookup, with_entry, locations};
 ghost use Rattle.word_machine.specs.Actor as machine;
 ghost use Rattle.word_machine.specs.Actor.{goes, begun, seen, seen_again, seen_to_lock, taken, stamped_at, seen_in_check, freed, after_release};
 ghost use Rattle.word_machine.specs.Notices as notice;
@@ -19,9 +20,10 @@ ghost use Rattle.step_core.specs.declared.actor.Place.TheVariants.{Look, Fetch, 
 ghost use Rattle.step_core.specs.declared.answer.WordRefusal.TheVariants.{Invalid};
 
 use crate::answer::{WordAnswer, WordRefusal};
-use crate::entries::{find, put};
 use crate::record::WordCall;
 use std::alloc::Global;
+use std::collections::VecDeque;
+use tx_sets::{ReadSet, WriteSet};
 use vlock_word::LockWord;
 
 mod asks;
@@ -61,15 +63,24 @@ pub struct Actor {
     /// The number of its commit.
     pub wv: u64,
     /// The locations that it read, with the values that it found.
-    pub reads: Vec<(u32, u64)>,
+    pub reads: ReadSet,
     /// The locations that it wrote, with the values to be stored.
-    pub writes: Vec<(u32, u64)>,
-    /// The locks that it holds, with their old versions.
-    pub held: Vec<(u32, u64)>,
+    pub writes: WriteSet,
+    /// The locks that it holds, with their old versions, in the order in which it took them.
+    pub held: VecDeque<(u32, u64)>,
     /// Its reads and writes so far.
     pub calls: Vec<WordCall>,
     /// The same, for the record of a commit that was asked for.
     pub ready: Vec<WordCall>,
+}
+
+/// Puts a value that was read into its set, which has the room.
+fn keep(reads: &mut ReadSet, location: u32, value: u64)
+    requires room { 0 < reads.old.room }
+    requires limit { length reads.old.entries < 4096 }
+    ensures { reads.new.entries ≡ with_entry reads.old.entries location value }
+{
+    let _ = reads.put(location, value);
 }
 
 impl Actor {
@@ -81,12 +92,28 @@ impl Actor {
             place: Place::Idle,
             rv: 0,
             wv: 0,
-            reads: Vec::new(alloc),
-            writes: Vec::new(alloc),
-            held: Vec::new(alloc),
+            reads: ReadSet::new(alloc),
+            writes: WriteSet::new(alloc),
+            held: VecDeque::new(alloc),
             calls: Vec::new(alloc),
             ready: Vec::new(alloc),
         }
+    }
+
+    /// An entry of the read set.
+    pub fn read_at(&self, i: usize) -> (u32, u64)
+        requires inside { i < length self.now.reads.entries }
+        ensures { result ≡ slice_index_or self.now.reads.entries i result }
+    {
+        self.reads.in_order()[i]
+    }
+
+    /// An entry of the write set.
+    pub fn write_at(&self, i: usize) -> (u32, u64)
+        requires inside { i < length self.now.writes.entries }
+        ensures { result ≡ slice_index_or self.now.writes.entries i result }
+    {
+        self.writes.in_order()[i]
     }
 
     /// The load of the clock that begins a transaction.
@@ -155,7 +182,8 @@ impl Actor {
         word: u64,
     ) -> Result<Option<WordAnswer>, WordRefusal>
         requires place { self.old.place ≡ Again location version value }
-        requires reads { vec_len self.old.reads < vec_capacity self.old.reads }
+        requires room { 0 < self.old.reads.room }
+        requires limit { length self.old.reads.entries < 4096 }
         requires calls { vec_len self.old.calls < vec_capacity self.old.calls }
         ensures actor { actor_of self.new ≡ seen_again (actor_of self.old) location version value (unbits word) }
         ensures answer { result ≡ result_of (again_notice location version value (unbits word)) }
@@ -163,7 +191,7 @@ impl Actor {
     {
         match LockWord::read(word) {
             LockWord::Free(found) if found == version => {
-                put(&mut self.reads, location, value);
+                keep(&mut self.reads, location, value);
                 self.calls.push_reserved(WordCall::Read(location, value));
                 self.place = Place::Open;
                 Ok(Some(WordAnswer::Number(value)))
@@ -183,9 +211,10 @@ impl Actor {
         word: u64,
     ) -> Result<Option<WordAnswer>, WordRefusal>
         requires place { self.old.place ≡ Lock i }
-        requires inside { i < vec_len self.old.writes }
+        requires inside { i < length self.old.writes.entries }
         requires location { (n : ℕ) → Fits n self.old → location < n }
-        ensures actor { actor_of self.new ≡ seen_to_lock (actor_of self.old) location (drop (i + 1) (locations self.old.writes.items)) (unbits word) }
+        requires next { i + 1 < 2 ^ 64 }
+        ensures actor { actor_of self.new ≡ seen_to_lock (actor_of self.old) location (drop (i + 1) (locations self.old.writes.entries)) (unbits word) }
         ensures answer { result ≡ result_of (lock_notice location (unbits word)) }
         ensures keeps { Keeps self.old self.new }
     {
@@ -205,14 +234,14 @@ impl Actor {
     pub fn stamp(&mut self, clock: u64) -> Result<Option<WordAnswer>, WordRefusal>
         requires clock { clock < 2 ^ 63 }
         ensures actor { actor_of self.new ≡ stamped_at (actor_of self.old) clock }
-        ensures answer { result ≡ result_of (when_none_left self.old.reads.items (notice.LockedAt clock)) }
+        ensures answer { result ≡ result_of (when_none_left self.old.reads.entries (notice.LockedAt clock)) }
         ensures fits { (n : ℕ) → Fits n self.old → Fits n self.new }
         ensures owed { owed self.new.place ≡ 0 }
         ensures due { due self.new.place ≤ 1 }
     {
         self.place = Place::Check(0);
         self.wv = clock;
-        if self.reads.is_empty() {
+        if self.reads.len() == 0 {
             Ok(Some(WordAnswer::Locked(clock)))
         } else {
             Ok(None)
@@ -222,20 +251,21 @@ impl Actor {
     /// A lock that was taken.
     pub fn take(&mut self, location: u32, version: u64, i: usize)
         requires place { self.old.place ≡ Take location version i }
-        requires held { vec_len self.old.held < vec_capacity self.old.held }
-        ensures actor { actor_of self.new ≡ taken (actor_of self.old) location version (drop i (locations self.old.writes.items)) }
+        requires held { deque_len self.old.held < deque_capacity self.old.held }
+        ensures actor { actor_of self.new ≡ taken (actor_of self.old) location version (drop i (locations self.old.writes.entries)) }
         ensures keeps { Keeps self.old self.new }
     {
-        put(&mut self.held, location, version);
+        self.held.push_back_reserved((location, version));
         self.place = Place::Lock(i);
     }
 
     /// The next place of a check that went on, and its answer.
     fn pass(&mut self, i: usize) -> Option<WordAnswer>
         requires place { self.old.place ≡ Check i }
-        requires inside { i < vec_len self.old.reads }
-        ensures actor { actor_of self.new ≡ goes (actor_of self.old) (machine.Check (drop (i + 1) (locations self.old.reads.items))) }
-        ensures answer { Ok result ≡ result_of (when_none_left (drop (i + 1) (locations self.old.reads.items)) (notice.LockedAt self.old.wv)) }
+        requires inside { i < length self.old.reads.entries }
+        requires next { i + 1 < 2 ^ 64 }
+        ensures actor { actor_of self.new ≡ goes (actor_of self.old) (machine.Check (drop (i + 1) (locations self.old.reads.entries))) }
+        ensures answer { Ok result ≡ result_of (when_none_left (drop (i + 1) (locations self.old.reads.entries)) (notice.LockedAt self.old.wv)) }
         ensures keeps { Keeps self.old self.new }
     {
         self.place = Place::Check(i + 1);
@@ -265,9 +295,10 @@ impl Actor {
         word: u64,
     ) -> Result<Option<WordAnswer>, WordRefusal>
         requires place { self.old.place ≡ Check i }
-        requires inside { i < vec_len self.old.reads }
-        ensures actor { actor_of self.new ≡ seen_in_check (actor_of self.old) (drop (i + 1) (locations self.old.reads.items)) (unbits word) (lookup self.old.held.items location) }
-        ensures answer { result ≡ result_of (check_notice self.old.rv self.old.wv location (drop (i + 1) (locations self.old.reads.items)) (unbits word) (lookup self.old.held.items location)) }
+        requires inside { i < length self.old.reads.entries }
+        requires next { i + 1 < 2 ^ 64 }
+        ensures actor { actor_of self.new ≡ seen_in_check (actor_of self.old) (drop (i + 1) (locations self.old.reads.entries)) (unbits word) (lookup self.old.writes.entries location) }
+        ensures answer { result ≡ result_of (check_notice self.old.rv self.old.wv location (drop (i + 1) (locations self.old.reads.entries)) (unbits word) (lookup self.old.writes.entries location)) }
         ensures keeps { Keeps self.old self.new }
     {
         match LockWord::read(word) {
@@ -279,7 +310,7 @@ impl Actor {
                 }
             }
             LockWord::Locked(version) => {
-                match find(&self.held, location) {
+                match self.writes.find(location) {
                     Some(_) => {
                         if version <= self.rv {
                             Ok(self.pass(i))
@@ -296,9 +327,10 @@ impl Actor {
     /// The place after a value store, and its answer.
     pub fn store(&mut self, i: usize) -> Option<WordAnswer>
         requires place { self.old.place ≡ Store i }
-        requires inside { i < vec_len self.old.writes }
-        ensures actor { actor_of self.new ≡ goes (actor_of self.old) (machine.Store (drop (i + 1) (locations self.old.writes.items))) }
-        ensures answer { Ok result ≡ result_of (when_none_left (drop (i + 1) (locations self.old.writes.items)) notice.Stored) }
+        requires inside { i < length self.old.writes.entries }
+        requires next { i + 1 < 2 ^ 64 }
+        ensures actor { actor_of self.new ≡ goes (actor_of self.old) (machine.Store (drop (i + 1) (locations self.old.writes.entries))) }
+        ensures answer { Ok result ≡ result_of (when_none_left (drop (i + 1) (locations self.old.writes.entries)) notice.Stored) }
         ensures keeps { Keeps self.old self.new }
     {
         self.place = Place::Store(i + 1);
@@ -312,12 +344,12 @@ impl Actor {
     /// The place after a lock was given back by a commit, and its answer.
     pub fn release(&mut self) -> Option<WordAnswer>
         requires place { self.old.place ≡ Release }
-        requires held { 0 < vec_len self.old.held }
+        requires held { 0 < deque_len self.old.held }
         ensures actor { actor_of self.new ≡ freed (actor_of self.old) (drop 1 self.old.held.items) (after_release (drop 1 self.old.held.items)) }
         ensures answer { Ok result ≡ result_of (when_none_left (drop 1 self.old.held.items) notice.Released) }
         ensures keeps { Keeps self.old self.new }
     {
-        let _ = self.held.remove(0);
+        let _ = self.held.pop_front();
         if self.held.is_empty() {
             self.place = Place::Idle;
             return Some(WordAnswer::Released);
@@ -328,12 +360,12 @@ impl Actor {
     /// What is left once a lock was given back by a cancel, and its answer.
     pub fn undo(&mut self) -> Option<WordAnswer>
         requires place { self.old.place ≡ Undo }
-        requires held { 0 < vec_len self.old.held }
+        requires held { 0 < deque_len self.old.held }
         ensures actor { actor_of self.new ≡ freed (actor_of self.old) (drop 1 self.old.held.items) machine.Undo }
         ensures answer { Ok result ≡ result_of (when_none_left (drop 1 self.old.held.items) notice.Cancelled) }
         ensures keeps { Keeps self.old self.new }
     {
-        let _ = self.held.remove(0);
+        let _ = self.held.pop_front();
         if self.held.is_empty() {
             Some(WordAnswer::Cancelled)
         } else {

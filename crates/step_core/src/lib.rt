@@ -25,7 +25,6 @@
 
 mod actor;
 mod answer;
-mod entries;
 mod machine;
 mod phase;
 mod record;

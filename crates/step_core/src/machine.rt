@@ -1,8 +1,9 @@
 //! The words, the actors and the history, and the atomic steps on them.
 //!
 //! These are plain fields, which a method may leave half changed; [`crate::words`] is what callers see.
-ghost use Rattle.std.specs.Prelude.{◌≡◌, ◌<◌, ◌≤◌, length, slice_get, Some, None, OnErr, IfOk, IfErr};
+ghost use Rattle.std.specs.Prelude.{◌≡◌, ◌+◌, ◌^◌, ◌<◌, ◌≤◌, length, slice_get, Some, None, OnErr, IfOk, IfErr};
 ghost use Rattle.std.specs.Vec.{vec_len};
+ghost use Rattle.std.specs.VecDeque.{deque_len};
 ghost use Rattle.step_core.specs.Answers.{request_of};
 ghost use Rattle.step_core.specs.Shown.{shown, Steps, Asks, actor_in, snapshot_of, refusal_of};
 ghost use Rattle.step_core.specs.Blank.{AreBlank, AreZero};
@@ -13,7 +14,6 @@ ghost use Rattle.step_core.specs.declared.actor.Place.TheVariants.{Begin, Look, 
 
 use crate::actor::{Actor, Place};
 use crate::answer::{WordAnswer, WordRefusal, WordRequest};
-use crate::entries::find;
 use crate::record::WordRecord;
 use std::alloc::{AllocError, Global};
 use std::mem;
@@ -126,11 +126,12 @@ impl Machine {
         requires sound { Sound self.old }
         requires actor { a < length self.old.actors.items }
         requires place { At self.old a (Lock i) }
-        requires inside { (x : Actor) → slice_get self.old.actors.items a ≡ Some x → i < vec_len x.writes }
+        requires inside { (x : Actor) → slice_get self.old.actors.items a ≡ Some x → i < length x.writes.entries }
+        requires next { i + 1 < 2 ^ 64 }
         ensures steps { Steps (shown self.old) a (shown self.new) result }
         ensures sound { Sound self.new }
     {
-        let location = self.actors[a].writes[i].0;
+        let location = self.actors[a].write_at(i).0;
         let word = self.locks[location as usize];
         let actor = &mut self.actors[a];
         actor.to_lock(location, i, word)
@@ -141,7 +142,7 @@ impl Machine {
         requires sound { Sound self.old }
         requires actor { a < length self.old.actors.items }
         requires place { At self.old a (Lock i) }
-        requires outside { (x : Actor) → slice_get self.old.actors.items a ≡ Some x → vec_len x.writes ≤ i }
+        requires outside { (x : Actor) → slice_get self.old.actors.items a ≡ Some x → length x.writes.entries ≤ i }
         ensures steps { Steps (shown self.old) a (shown self.new) result }
         ensures sound { Sound self.new }
     {
@@ -182,11 +183,12 @@ impl Machine {
         requires sound { Sound self.old }
         requires actor { a < length self.old.actors.items }
         requires place { At self.old a (Check i) }
-        requires inside { (x : Actor) → slice_get self.old.actors.items a ≡ Some x → i < vec_len x.reads }
+        requires inside { (x : Actor) → slice_get self.old.actors.items a ≡ Some x → i < length x.reads.entries }
+        requires next { i + 1 < 2 ^ 64 }
         ensures steps { Steps (shown self.old) a (shown self.new) result }
         ensures sound { Sound self.new }
     {
-        let location = self.actors[a].reads[i].0;
+        let location = self.actors[a].read_at(i).0;
         let word = self.locks[location as usize];
         let actor = &mut self.actors[a];
         actor.check(location, i, word)
@@ -210,12 +212,13 @@ impl Machine {
         requires sound { Sound self.old }
         requires actor { a < length self.old.actors.items }
         requires place { At self.old a (Store i) }
-        requires inside { (x : Actor) → slice_get self.old.actors.items a ≡ Some x → i < vec_len x.writes }
+        requires inside { (x : Actor) → slice_get self.old.actors.items a ≡ Some x → i < length x.writes.entries }
+        requires next { i + 1 < 2 ^ 64 }
         ensures steps { Steps (shown self.old) a (shown self.new) result }
         ensures sound { Sound self.new }
     {
-        let location = self.actors[a].writes[i].0;
-        let found = find(&self.actors[a].writes, location);
+        let location = self.actors[a].write_at(i).0;
+        let found = self.actors[a].writes.find(location);
         let value = found.unwrap_or(0);
         let actor = &mut self.actors[a];
         let answer = actor.store(i);
@@ -228,7 +231,7 @@ impl Machine {
         requires sound { Sound self.old }
         requires actor { a < length self.old.actors.items }
         requires place { At self.old a Release }
-        requires held { (x : Actor) → slice_get self.old.actors.items a ≡ Some x → 0 < vec_len x.held }
+        requires held { (x : Actor) → slice_get self.old.actors.items a ≡ Some x → 0 < deque_len x.held }
         ensures steps { Steps (shown self.old) a (shown self.new) result }
         ensures sound { Sound self.new }
     {
@@ -245,7 +248,7 @@ impl Machine {
         requires sound { Sound self.old }
         requires actor { a < length self.old.actors.items }
         requires place { At self.old a Undo }
-        requires held { (x : Actor) → slice_get self.old.actors.items a ≡ Some x → 0 < vec_len x.held }
+        requires held { (x : Actor) → slice_get self.old.actors.items a ≡ Some x → 0 < deque_len x.held }
         ensures steps { Steps (shown self.old) a (shown self.new) result }
         ensures sound { Sound self.new }
     {
@@ -261,12 +264,12 @@ impl Machine {
         requires sound { Sound self.old }
         requires actor { a < length self.old.actors.items }
         requires place { At self.old a First }
-        requires some { (x : Actor) → slice_get self.old.actors.items a ≡ Some x → 0 < vec_len x.writes }
+        requires some { (x : Actor) → slice_get self.old.actors.items a ≡ Some x → 0 < length x.writes.entries }
         ensures steps { Steps (shown self.old) a (shown self.new) result }
         ensures sound { Sound self.new }
     {
         let actor = &mut self.actors[a];
-        let entry = actor.writes[0];
+        let entry = actor.write_at(0);
         let number = actor.wv;
         let alloc = *actor.calls.allocator();
         let calls = mem::replace(&mut actor.ready, Vec::new(alloc));
@@ -359,7 +362,7 @@ impl Machine {
                 }
             }
             Place::First => {
-                if self.actors[a].writes.is_empty() {
+                if self.actors[a].writes.len() == 0 {
                     Err(WordRefusal::NoTransaction)
                 } else {
                     self.first(a)
@@ -405,7 +408,8 @@ impl Machine {
         if let Err(_) = self.history.reserve(SEATS) {
             return Err(WordRefusal::OutOfMemory);
         }
+        let locations = self.locks.len();
         let actor = &mut self.actors[a];
-        actor.ask(request)
+        actor.ask(locations, request)
     }
 }

@@ -1,1 +1,5 @@
 pub mod SoundLemmas
+pub mod WordBridge
+pub mod WordLinks
+pub mod WordSteps
+pub mod WordSerialLemmas

@@ -1,7 +1,6 @@
 -- Every event keeps a world sound, and so serial.
-use Rattle.std.proofs.Common.{suc, get_or, drop, drop-cons, add-one, ◌≡◌, ◌≢◌, ℕ, ◌+◌, ◌<◌, ◌≤◌, Bool, true, false, cond, ◌&&◌, List, [], ◌∷◌, ◌++◌, Option, Some, None, refl, sym, ◌∙◌, ap, subst, arith}
-use Rattle.std.specs.Prelude.{nat_lt, nat_le, ◌==◌, option_map, is_some, length, filter}
-use Rattle.std.specs.Option.{option_map_or}
+use Rattle.std.proofs.Common.{suc, get_or, drop, drop-cons, add-one, ◌≡◌, ℕ, ◌+◌, ◌<◌, ◌≤◌, Bool, true, false, cond, List, [], ◌∷◌, ◌++◌, Option, Some, None, refl, sym, ◌∙◌, ap, subst, arith}
+use Rattle.std.specs.Prelude.{nat_lt, nat_le, ◌==◌, is_some, length}
 use Rattle.std.proofs.lemmas.Bool.Decides.{nat_tests}
 use Rattle.std.proofs.lemmas.Bool.{false≢true}
 use Rattle.seq_model.specs.declared.call.Call.{Call}
@@ -13,7 +12,7 @@ use Rattle.seq_model.specs.declared.event.Event.TheVariants.{Ask, Step, Starve}
 use Rattle.seq_model.specs.declared.event.Request.{Request}
 use Rattle.seq_model.specs.declared.event.Request.TheVariants as request
 use Rattle.seq_model.specs.declared.event.Notice.{Notice}
-use Rattle.seq_model.specs.declared.limits.TheConstants.{ACTOR_LIMIT, CALL_LIMIT, CLOCK_LIMIT}
+use Rattle.seq_model.specs.declared.limits.TheConstants.{CALL_LIMIT, CLOCK_LIMIT}
 use Rattle.seq_model.specs.Contents.{Contents, call_of}
 use Rattle.seq_model.specs.Runs.{reply_of, after_call, IsLegal, after_calls, comes_before, insert_record, NoneComesBefore, IsInCommitOrder, IsRun, after_run, state_at, is_writer}
 use Rattle.seq_model.proofs.RunLemmas.{after_calls-append, IsLegal-append, answered, after_reads, IsRun-append, after_run-append, AllRead, AllReadBehind, reader_inserted, AllUpTo, inserted_last, up_to-inserted, up_to-all, NoClash, order_inserted}
@@ -25,7 +24,7 @@ use Rattle.step_world.specs.declared.seat.Transaction.{Transaction}
 use Rattle.step_world.specs.declared.seat.Asked.{Asked}
 use Rattle.step_world.specs.declared.seat.Asked.TheVariants as asked
 use Rattle.step_world.specs.Worlds.{World, with_seat, is_actor, waits, ask_call, ask_own, ask_seat, starve_own, starve_seat, begin, reply, commit, commit_at, end, step_own, step_seat, happens, run, opened}
-use Rattle.step_world.specs.Serial.{AllSaw, OpenSaw, IsSerial}
+use Rattle.step_world.specs.Serial.{AllSaw, OpenSaw}
 use Rattle.step_world.specs.Sound.{AllNumbered, AllBegun, IsOwn, IsOwnSeat, IsSound}
 
 choose : {A : Type 0} (P : A → Type 0) (b : Bool) (x y : A) → P x → P y → P (cond b x y)

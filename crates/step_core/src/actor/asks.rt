@@ -4,25 +4,22 @@ ghost use Rattle.word_machine.specs.Requests.{ask, AskBegin, AskRelease, AskRead
 ghost use Rattle.word_machine.specs.Notices.{reply};
 ghost use Rattle.step_core.specs.Answers.{request_of, result_of};
 ghost use Rattle.step_core.specs.Phases.{phase_of, allows, if_full, if_new, location_refusal, refusal_at};
-ghost use Rattle.word_machine.specs.Entries.{lookup};
+ghost use Rattle.tx_sets.specs.Entries.{lookup};
 ghost use Rattle.step_core.specs.Shown.{actor_of, snapshot_of};
 ghost use Rattle.step_core.specs.Sound.{Fits, IsWithin, owed};
 ghost use Rattle.step_core.specs.declared.answer.WordRefusal.TheVariants.{OutOfMemory};
 
 use crate::actor::{Actor, Place};
 use crate::answer::{WordAnswer, WordRefusal, WordRequest};
-use crate::entries::{find, put};
 use crate::phase::Phase;
 use crate::record::WordCall;
+use tx_sets::{AccessSet, LOCATION_LIMIT};
 
-/// The most locations that a set holds.
-const SET_LIMIT: usize = 4096;
-
-/// Whether a set has its most locations.
-fn if_full(entries: &[(u32, u64)]) -> Option<WordRefusal>
-    ensures { result ≡ if_full entries.now }
+/// Why a new location is refused, if a set has its most locations.
+fn if_full<Role>(set: &AccessSet<Role>) -> Option<WordRefusal>
+    ensures { result ≡ if_full set.now.entries }
 {
-    if entries.len() < SET_LIMIT {
+    if set.len() < LOCATION_LIMIT {
         None
     } else {
         Some(WordRefusal::TooLong)
@@ -37,7 +34,7 @@ impl Actor {
         match self.place {
             Place::Idle => Phase::Idle,
             Place::Open => {
-                if self.writes.is_empty() {
+                if self.writes.len() == 0 {
                     Phase::Reader
                 } else {
                     Phase::Writer
@@ -104,11 +101,11 @@ impl Actor {
 
     /// Why a read of a location is refused, if it is in neither set and the read set is full.
     fn read_refusal(&self, location: u32) -> Option<WordRefusal>
-        ensures { result ≡ if_new (lookup self.now.writes.items location) (lookup self.now.reads.items location) self.now.reads.items }
+        ensures { result ≡ if_new (lookup self.now.writes.entries location) (lookup self.now.reads.entries location) self.now.reads.entries }
     {
-        match find(&self.writes, location) {
+        match self.writes.find(location) {
             Some(_) => None,
-            None => match find(&self.reads, location) {
+            None => match self.reads.find(location) {
                 Some(_) => None,
                 None => if_full(&self.reads),
             },
@@ -117,9 +114,9 @@ impl Actor {
 
     /// Why a write to a location is refused, if it is not in the write set and that is full.
     fn write_refusal(&self, location: u32) -> Option<WordRefusal>
-        ensures { result ≡ if_new (lookup self.now.writes.items location) None self.now.writes.items }
+        ensures { result ≡ if_new (lookup self.now.writes.entries location) None self.now.writes.entries }
     {
-        match find(&self.writes, location) {
+        match self.writes.find(location) {
             Some(_) => None,
             None => if_full(&self.writes),
         }
@@ -169,6 +166,7 @@ impl Actor {
     /// A read: a set answers, or else the steps begin, with their room.
     fn ask_read(&mut self, location: u32) -> Result<Option<WordAnswer>, WordRefusal>
         requires allowed { allows (phase_of (actor_of self.old) (actor_of self.old).place) (AskRead location) ≡ true }
+        requires limit { if_new (lookup self.old.writes.entries location) (lookup self.old.reads.entries location) self.old.reads.entries ≡ None }
         ensures ok { OnOk result (actor_of self.new ≡ ask (actor_of self.old) (actor_of self.old).place (AskRead location)) }
         ensures answer { IfOk result (λ answer. Ok answer ≡ result_of (reply (actor_of self.old) (actor_of self.old).place (AskRead location))) }
         ensures refused { IfErr result (λ refusal. refusal ≡ OutOfMemory) }
@@ -179,11 +177,11 @@ impl Actor {
         if let Err(_) = self.calls.reserve(1) {
             return Err(WordRefusal::OutOfMemory);
         }
-        if let Some(value) = find(&self.writes, location) {
+        if let Some(value) = self.writes.find(location) {
             self.calls.push_reserved(WordCall::Read(location, value));
             return Ok(Some(WordAnswer::Number(value)));
         }
-        if let Some(value) = find(&self.reads, location) {
+        if let Some(value) = self.reads.find(location) {
             self.calls.push_reserved(WordCall::Read(location, value));
             return Ok(Some(WordAnswer::Number(value)));
         }
@@ -207,10 +205,9 @@ impl Actor {
         if let Err(_) = self.calls.reserve(1) {
             return Err(WordRefusal::OutOfMemory);
         }
-        if let Err(_) = self.writes.reserve(1) {
+        if let Err(_) = self.writes.put(location, value) {
             return Err(WordRefusal::OutOfMemory);
         }
-        put(&mut self.writes, location, value);
         self.calls.push_reserved(WordCall::Write(location, value));
         Ok(Some(WordAnswer::Done))
     }
@@ -328,14 +325,19 @@ impl Actor {
         None
     }
 
-    /// A request that its phase has. It is refused only for want of memory.
-    pub fn ask(&mut self, request: WordRequest) -> Result<Option<WordAnswer>, WordRefusal>
+    /// A request that is not refused where there are so many locations, but for want of memory.
+    pub fn ask(
+        &mut self,
+        locations: usize,
+        request: WordRequest,
+    ) -> Result<Option<WordAnswer>, WordRefusal>
         requires allowed { allows (phase_of (actor_of self.old) (actor_of self.old).place) (request_of request) ≡ true }
+        requires limit { location_refusal locations (actor_of self.old) (request_of request) ≡ None }
         ensures ok { OnOk result (actor_of self.new ≡ ask (actor_of self.old) (actor_of self.old).place (request_of request)) }
         ensures answer { IfOk result (λ answer. Ok answer ≡ result_of (reply (actor_of self.old) (actor_of self.old).place (request_of request))) }
         ensures refused { IfErr result (λ refusal. refusal ≡ OutOfMemory) }
         ensures err { OnErr result (actor_of self.new ≡ actor_of self.old) }
-        ensures keeps { (n : ℕ) → IsWithin n (request_of request) → Fits n self.old → Fits n self.new }
+        ensures keeps { Fits locations self.old → Fits locations self.new }
         ensures owed { owed self.new.place ≤ owed self.old.place }
     {
         match request {

@@ -4,7 +4,11 @@ use std::alloc::AllocError;
 use std::test::Fail;
 
 // Asks an actor for something, and steps it until that is answered.
-fn run(words: &mut Words, actor: u32, request: WordRequest) -> Result<Option<WordAnswer>, WordRefusal> {
+fn run(
+    words: &mut Words,
+    actor: u32,
+    request: WordRequest,
+) -> Result<Option<WordAnswer>, WordRefusal> {
     if let Some(answer) = words.ask(actor, request)? {
         return Ok(Some(answer));
     }
@@ -17,7 +21,12 @@ fn run(words: &mut Words, actor: u32, request: WordRequest) -> Result<Option<Wor
 }
 
 // A whole transaction that writes one value.
-fn write(words: &mut Words, actor: u32, location: u32, value: u64) -> Result<Option<WordAnswer>, WordRefusal> {
+fn write(
+    words: &mut Words,
+    actor: u32,
+    location: u32,
+    value: u64,
+) -> Result<Option<WordAnswer>, WordRefusal> {
     run(words, actor, WordRequest::Begin)?;
     run(words, actor, WordRequest::Write(location, value))?;
     commit(words, actor)
@@ -58,11 +67,23 @@ fn table(alloc: Global, clock: u64, values: &[u64]) -> Result<Words, WordRefusal
 #[test]
 fn write_skew(rt: HostRuntime) -> Result<(), Fail> {
     let mut words = table(rt.alloc(), 0, &[1, 1])?;
-    assert_eq!(rt; run(&mut words, 1, WordRequest::Begin), Ok(Some(WordAnswer::Begun(0))));
-    assert_eq!(rt; run(&mut words, 2, WordRequest::Begin), Ok(Some(WordAnswer::Begun(0))));
+    assert_eq!(rt;
+        run(&mut words, 1, WordRequest::Begin),
+        Ok(Some(WordAnswer::Begun(0)))
+    );
+    assert_eq!(rt;
+        run(&mut words, 2, WordRequest::Begin),
+        Ok(Some(WordAnswer::Begun(0)))
+    );
     skewed(&mut words)?;
     assert_eq!(rt; commit(&mut words, 1), Ok(Some(WordAnswer::Locked(1))));
-    assert_eq!(rt; commit(&mut words, 2), Err(WordRefusal::Invalid { location: 0, word: 2 }));
+    assert_eq!(rt;
+        commit(&mut words, 2),
+        Err(WordRefusal::Invalid {
+            location: 0,
+            word: 2
+        })
+    );
     assert_eq!(rt; give_up(&mut words, 2), Ok(Some(WordAnswer::Ended)));
     assert_eq!(rt; words.values(), [0, 1].as_slice());
     let history = words.history();
@@ -86,8 +107,20 @@ fn write_skew_both_refused(rt: HostRuntime) -> Result<(), Fail> {
         words.step(2)?;
     }
     assert_eq!(rt; words.step(1), Ok(None));
-    assert_eq!(rt; words.step(2), Err(WordRefusal::Invalid { location: 0, word: 1 }));
-    assert_eq!(rt; words.step(1), Err(WordRefusal::Invalid { location: 1, word: 1 }));
+    assert_eq!(rt;
+        words.step(2),
+        Err(WordRefusal::Invalid {
+            location: 0,
+            word: 1
+        })
+    );
+    assert_eq!(rt;
+        words.step(1),
+        Err(WordRefusal::Invalid {
+            location: 1,
+            word: 1
+        })
+    );
     assert_eq!(rt; give_up(&mut words, 1), Ok(Some(WordAnswer::Ended)));
     assert_eq!(rt; give_up(&mut words, 2), Ok(Some(WordAnswer::Ended)));
     assert_eq!(rt; words.values(), [1, 1, 9].as_slice());
@@ -97,14 +130,26 @@ fn write_skew_both_refused(rt: HostRuntime) -> Result<(), Fail> {
 #[test]
 fn begin_takes_the_clock_of_its_moment(rt: HostRuntime) -> Result<(), Fail> {
     let mut words = table(rt.alloc(), 3, &[0])?;
-    assert_eq!(rt; run(&mut words, 1, WordRequest::Begin), Ok(Some(WordAnswer::Begun(3))));
+    assert_eq!(rt;
+        run(&mut words, 1, WordRequest::Begin),
+        Ok(Some(WordAnswer::Begun(3)))
+    );
     assert_eq!(rt; write(&mut words, 2, 0, 5), Ok(Some(WordAnswer::Locked(4))));
-    assert_eq!(rt; run(&mut words, 64, WordRequest::Begin), Ok(Some(WordAnswer::Begun(4))));
+    assert_eq!(rt;
+        run(&mut words, 64, WordRequest::Begin),
+        Ok(Some(WordAnswer::Begun(4)))
+    );
     assert_eq!(rt; words.snapshot(1), Some(3));
     assert_eq!(rt; words.snapshot(2), None);
     assert_eq!(rt; words.snapshot(64), Some(4));
-    assert_eq!(rt; run(&mut words, 64, WordRequest::Read(0)), Ok(Some(WordAnswer::Number(5))));
-    assert_eq!(rt; run(&mut words, 64, WordRequest::Close), Ok(Some(WordAnswer::Ended)));
+    assert_eq!(rt;
+        run(&mut words, 64, WordRequest::Read(0)),
+        Ok(Some(WordAnswer::Number(5)))
+    );
+    assert_eq!(rt;
+        run(&mut words, 64, WordRequest::Close),
+        Ok(Some(WordAnswer::Ended))
+    );
     let history = words.history();
     assert_eq!(rt; history.len(), 2);
     assert_eq!(rt; history[1].number, 4);
@@ -116,10 +161,19 @@ fn begin_takes_the_clock_of_its_moment(rt: HostRuntime) -> Result<(), Fail> {
 fn the_last_number(rt: HostRuntime) -> Result<(), Fail> {
     let last = 4_611_686_018_427_387_904u64;
     let mut words = table(rt.alloc(), last, &[0])?;
-    assert_eq!(rt; run(&mut words, 1, WordRequest::Begin), Err(WordRefusal::Exhausted { clock: last }));
+    assert_eq!(rt;
+        run(&mut words, 1, WordRequest::Begin),
+        Err(WordRefusal::Exhausted { clock: last })
+    );
     let mut words = table(rt.alloc(), last - 1, &[0])?;
-    assert_eq!(rt; write(&mut words, 1, 0, 1), Ok(Some(WordAnswer::Locked(last))));
-    assert_eq!(rt; run(&mut words, 1, WordRequest::Begin), Err(WordRefusal::Exhausted { clock: last }));
+    assert_eq!(rt;
+        write(&mut words, 1, 0, 1),
+        Ok(Some(WordAnswer::Locked(last)))
+    );
+    assert_eq!(rt;
+        run(&mut words, 1, WordRequest::Begin),
+        Err(WordRefusal::Exhausted { clock: last })
+    );
     assert_eq!(rt; words.values(), [1].as_slice());
     assert!(rt; table(rt.alloc(), last + 1, &[0]).is_err());
     Ok(())
@@ -134,10 +188,28 @@ fn moved_at_either_load(rt: HostRuntime) -> Result<(), Fail> {
     assert_eq!(rt; words.step(2), Ok(None));
     assert_eq!(rt; words.step(2), Ok(None));
     assert_eq!(rt; write(&mut words, 3, 0, 5), Ok(Some(WordAnswer::Locked(1))));
-    assert_eq!(rt; words.step(2), Err(WordRefusal::Moved { location: 0, word: 2 }));
-    assert_eq!(rt; run(&mut words, 1, WordRequest::Read(0)), Err(WordRefusal::Moved { location: 0, word: 2 }));
-    assert_eq!(rt; words.ask(1, WordRequest::Read(1)), Err(WordRefusal::NoTransaction));
-    assert_eq!(rt; run(&mut words, 1, WordRequest::Abort), Ok(Some(WordAnswer::Ended)));
+    assert_eq!(rt;
+        words.step(2),
+        Err(WordRefusal::Moved {
+            location: 0,
+            word: 2
+        })
+    );
+    assert_eq!(rt;
+        run(&mut words, 1, WordRequest::Read(0)),
+        Err(WordRefusal::Moved {
+            location: 0,
+            word: 2
+        })
+    );
+    assert_eq!(rt;
+        words.ask(1, WordRequest::Read(1)),
+        Err(WordRefusal::NoTransaction)
+    );
+    assert_eq!(rt;
+        run(&mut words, 1, WordRequest::Abort),
+        Ok(Some(WordAnswer::Ended))
+    );
     Ok(())
 }
 
@@ -151,11 +223,23 @@ fn busy_at_load_and_exchange(rt: HostRuntime) -> Result<(), Fail> {
     words.ask(1, WordRequest::Lock)?;
     assert_eq!(rt; words.step(1), Ok(None));
     assert_eq!(rt; write(&mut words, 3, 0, 7), Ok(Some(WordAnswer::Locked(1))));
-    assert_eq!(rt; words.step(1), Err(WordRefusal::Busy { location: 0, word: 2 }));
+    assert_eq!(rt;
+        words.step(1),
+        Err(WordRefusal::Busy {
+            location: 0,
+            word: 2
+        })
+    );
     words.ask(2, WordRequest::Lock)?;
     words.step(2)?;
     words.step(2)?;
-    assert_eq!(rt; write(&mut words, 3, 0, 8), Err(WordRefusal::Busy { location: 0, word: 3 }));
+    assert_eq!(rt;
+        write(&mut words, 3, 0, 8),
+        Err(WordRefusal::Busy {
+            location: 0,
+            word: 3
+        })
+    );
     Ok(())
 }
 
@@ -166,10 +250,22 @@ fn cancel_gives_back_the_old_word(rt: HostRuntime) -> Result<(), Fail> {
     run(&mut words, 1, WordRequest::Begin)?;
     run(&mut words, 2, WordRequest::Begin)?;
     run(&mut words, 1, WordRequest::Write(0, 5))?;
-    assert_eq!(rt; run(&mut words, 1, WordRequest::Lock), Ok(Some(WordAnswer::Locked(2))));
-    assert_eq!(rt; run(&mut words, 1, WordRequest::Cancel), Ok(Some(WordAnswer::Cancelled)));
-    assert_eq!(rt; run(&mut words, 2, WordRequest::Read(0)), Ok(Some(WordAnswer::Number(7))));
-    assert_eq!(rt; run(&mut words, 1, WordRequest::Abort), Ok(Some(WordAnswer::Ended)));
+    assert_eq!(rt;
+        run(&mut words, 1, WordRequest::Lock),
+        Ok(Some(WordAnswer::Locked(2)))
+    );
+    assert_eq!(rt;
+        run(&mut words, 1, WordRequest::Cancel),
+        Ok(Some(WordAnswer::Cancelled))
+    );
+    assert_eq!(rt;
+        run(&mut words, 2, WordRequest::Read(0)),
+        Ok(Some(WordAnswer::Number(7)))
+    );
+    assert_eq!(rt;
+        run(&mut words, 1, WordRequest::Abort),
+        Ok(Some(WordAnswer::Ended))
+    );
     Ok(())
 }
 
@@ -179,15 +275,30 @@ fn half_done_seen_from_beside(rt: HostRuntime) -> Result<(), Fail> {
     run(&mut words, 1, WordRequest::Begin)?;
     run(&mut words, 1, WordRequest::Write(0, 5))?;
     run(&mut words, 1, WordRequest::Write(1, 6))?;
-    assert_eq!(rt; run(&mut words, 1, WordRequest::Lock), Ok(Some(WordAnswer::Locked(1))));
+    assert_eq!(rt;
+        run(&mut words, 1, WordRequest::Lock),
+        Ok(Some(WordAnswer::Locked(1)))
+    );
     words.ask(1, WordRequest::Store)?;
     assert_eq!(rt; words.step(1), Ok(None));
     assert_eq!(rt; words.history().len(), 1);
     assert_eq!(rt; words.values(), [5, 0, 0].as_slice());
-    assert_eq!(rt; run(&mut words, 2, WordRequest::Begin), Ok(Some(WordAnswer::Begun(1))));
-    assert_eq!(rt; run(&mut words, 2, WordRequest::Read(0)), Err(WordRefusal::Moved { location: 0, word: 1 }));
+    assert_eq!(rt;
+        run(&mut words, 2, WordRequest::Begin),
+        Ok(Some(WordAnswer::Begun(1)))
+    );
+    assert_eq!(rt;
+        run(&mut words, 2, WordRequest::Read(0)),
+        Err(WordRefusal::Moved {
+            location: 0,
+            word: 1
+        })
+    );
     assert_eq!(rt; words.step(1), Ok(Some(WordAnswer::Stored)));
-    assert_eq!(rt; run(&mut words, 1, WordRequest::Release), Ok(Some(WordAnswer::Released)));
+    assert_eq!(rt;
+        run(&mut words, 1, WordRequest::Release),
+        Ok(Some(WordAnswer::Released))
+    );
     assert_eq!(rt; words.values(), [5, 6, 0].as_slice());
     Ok(())
 }
@@ -198,14 +309,29 @@ fn requests_out_of_phase(rt: HostRuntime) -> Result<(), Fail> {
     assert_eq!(rt; words.ask(0, WordRequest::Begin), Err(WordRefusal::NoSuch));
     assert_eq!(rt; words.ask(65, WordRequest::Begin), Err(WordRefusal::NoSuch));
     assert_eq!(rt; words.step(1), Err(WordRefusal::NoTransaction));
-    assert_eq!(rt; words.ask(1, WordRequest::Read(9)), Err(WordRefusal::NoTransaction));
+    assert_eq!(rt;
+        words.ask(1, WordRequest::Read(9)),
+        Err(WordRefusal::NoTransaction)
+    );
     assert_eq!(rt; words.ask(1, WordRequest::Begin), Ok(None));
-    assert_eq!(rt; words.ask(1, WordRequest::Read(0)), Err(WordRefusal::NotIdle));
-    assert_eq!(rt; words.ask(1, WordRequest::Abort), Ok(Some(WordAnswer::Ended)));
+    assert_eq!(rt;
+        words.ask(1, WordRequest::Read(0)),
+        Err(WordRefusal::NotIdle)
+    );
+    assert_eq!(rt;
+        words.ask(1, WordRequest::Abort),
+        Ok(Some(WordAnswer::Ended))
+    );
     run(&mut words, 1, WordRequest::Begin)?;
     assert_eq!(rt; words.ask(1, WordRequest::Begin), Err(WordRefusal::NotIdle));
-    assert_eq!(rt; words.ask(1, WordRequest::Lock), Err(WordRefusal::NoTransaction));
-    assert_eq!(rt; words.ask(1, WordRequest::Write(1, 0)), Err(WordRefusal::NoSuch));
+    assert_eq!(rt;
+        words.ask(1, WordRequest::Lock),
+        Err(WordRefusal::NoTransaction)
+    );
+    assert_eq!(rt;
+        words.ask(1, WordRequest::Write(1, 0)),
+        Err(WordRefusal::NoSuch)
+    );
     Ok(())
 }
 
@@ -216,8 +342,17 @@ fn sets_are_limited(rt: HostRuntime) -> Result<(), Fail> {
     for location in 0..4096u32 {
         run(&mut words, 1, WordRequest::Write(location, 1))?;
     }
-    assert_eq!(rt; words.ask(1, WordRequest::Write(4096, 1)), Err(WordRefusal::TooLong));
-    assert_eq!(rt; words.ask(1, WordRequest::Write(7, 2)), Ok(Some(WordAnswer::Done)));
-    assert_eq!(rt; words.ask(1, WordRequest::Read(7)), Ok(Some(WordAnswer::Number(2))));
+    assert_eq!(rt;
+        words.ask(1, WordRequest::Write(4096, 1)),
+        Err(WordRefusal::TooLong)
+    );
+    assert_eq!(rt;
+        words.ask(1, WordRequest::Write(7, 2)),
+        Ok(Some(WordAnswer::Done))
+    );
+    assert_eq!(rt;
+        words.ask(1, WordRequest::Read(7)),
+        Ok(Some(WordAnswer::Number(2)))
+    );
     Ok(())
 }

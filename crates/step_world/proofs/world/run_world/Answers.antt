@@ -14,5 +14,5 @@ loop-event-preserved g c =
 pub returns-clause-serial : goal.returns-clause-serial
 returns-clause-serial g c =
     let all : c.loop-event.world.world ≡ run (opened c.args.shape.now.clock c.args.state) c.args.events.now =
-        sym (ap (run c.loop-event.world.world) (drop_of_length-le c.args.events.now (omega arith))) ∙ c.loop-event.invariant in
+    sym (ap (run c.loop-event.world.world) (drop_of_length-le c.args.events.now (omega arith))) ∙ c.loop-event.invariant in
     subst (λ s. IsSerialTrace s c.in_ok-trace.trace) (ap (λ (w : World g.row.V.Denot). w.opening) all ∙ run-opening (opened c.args.shape.now.clock c.args.state) c.args.events.now) c.in_ok-trace.ensures.serial

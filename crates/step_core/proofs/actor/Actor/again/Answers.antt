@@ -3,4 +3,4 @@ use Rattle.step_core.proofs.Keeps.{lock_keeps, read_keeps, take_keeps}
 use Rattle.step_core.proofs.actor.Actor.again.Goals as goal
 
 pub returns-in-Free-clause-keeps : goal.returns-in-Free-clause-keeps
-returns-in-Free-clause-keeps c = read_keeps c.args.self.now _ c.args.location c.args.version c.args.value c.requires.place refl refl c.put.ensures.items refl refl
+returns-in-Free-clause-keeps c = read_keeps c.args.self.now _ c.args.location c.args.version c.args.value c.requires.place refl refl c.keep.ensures refl refl

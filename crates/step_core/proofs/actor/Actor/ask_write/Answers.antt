@@ -1,5 +1,5 @@
 use Rattle.std.proofs.Common.{◌≡◌, refl, ap, ◌∙◌}
-use Rattle.word_machine.specs.Entries.{with_entry}
+use Rattle.tx_sets.specs.Entries.{with_entry}
 use Rattle.step_core.specs.declared.actor.Actor.{Actor}
 use Rattle.step_core.proofs.Phases.{write_open}
 use Rattle.step_core.proofs.Keeps.{write_fits}
@@ -9,5 +9,5 @@ use Rattle.step_core.proofs.actor.Actor.ask_write.Goals as goal
 pub returns-clause-keeps : goal.returns-clause-keeps
 returns-clause-keeps c n below f =
     let x = c.args.self.now in
-    let y : Actor = record { place = x.place; rv = x.rv; wv = x.wv; reads = x.reads; writes = c.put.new.entries; held = x.held; calls = c.push_reserved.new.self; ready = x.ready } in
-    write_fits n x y c.args.location c.args.value (write_open (actor_of x) x.reads.items x.writes.items x.place c.args.location c.args.value c.requires.allowed) below (c.put.ensures.items ∙ ap (λ z. with_entry z c.args.location c.args.value) c.reserve-2.ensures.items) f refl refl refl refl
+    let y : Actor = record { place = x.place; rv = x.rv; wv = x.wv; reads = x.reads; writes = c.put.new.self; held = x.held; calls = c.push_reserved.new.self; ready = x.ready } in
+    write_fits n x y c.args.location c.args.value (write_open (actor_of x) x.reads.entries x.writes.entries x.place c.args.location c.args.value c.requires.allowed) below c.in_default-put.ensures.ok f refl refl refl refl

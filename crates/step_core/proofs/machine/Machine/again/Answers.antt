@@ -9,7 +9,7 @@ pub index-word-requires : goal.index-word-requires
 index-word-requires c = let q = some_at c.args.self.now.actors.items c.args.a c.requires.actor in omega (arith, (fits_at c.args.self.now c.args.a q.0 (Again c.args.location c.args.version c.args.value) c.requires.sound q.1 (c.requires.place q.0 q.1)).0, c.requires.sound.same)
 
 pub again-requires : goal.again-requires
-again-requires c = (let got = slice_get_read c.args.self.now.actors.items _ c.args.a c.index_mut-actor.result.now refl c.requires.actor c.index_mut-actor.ensures.value in let f = fits_at c.args.self.now c.args.a c.index_mut-actor.result.now (Again c.args.location c.args.version c.args.value) c.requires.sound got (c.requires.place _ got) in record { place = c.requires.place _ got; reads = f.1; calls = f.2 })
+again-requires c = (let got = slice_get_read c.args.self.now.actors.items _ c.args.a c.index_mut-actor.result.now refl c.requires.actor c.index_mut-actor.ensures.value in let f = fits_at c.args.self.now c.args.a c.index_mut-actor.result.now (Again c.args.location c.args.version c.args.value) c.requires.sound got (c.requires.place _ got) in record { place = c.requires.place _ got; room = f.1; limit = f.2; calls = f.3 })
 
 pub returns-clause-steps : goal.returns-clause-steps
 returns-clause-steps c =

@@ -1,9 +1,10 @@
-use Rattle.std.proofs.Common.{◌≡◌, ℕ, ◌+◌, ◌≤◌, ◌<◌, Option, Some, Result, Ok, Err, OnOk, OnErr, IfOk, List, refl, sym, ap, ◌∙◌, arith, length, map}
+use Rattle.std.proofs.Common.{◌≡◌, ℕ, ◌+◌, ◌≤◌, ◌<◌, Option, Some, Result, Ok, Err, OnOk, OnErr, IfOk, List, refl, sym, ap, ◌∙◌, subst, arith, length, map}
 use Rattle.std.proofs.lemmas.Option.{slice_get_read}
 use Rattle.word_machine.specs.Requests.{Request, ask}
 use Rattle.word_machine.specs.Notices.{reply}
 use Rattle.step_core.specs.Answers.{request_of, result_of}
 use Rattle.step_core.specs.Shown.{actor_of, record_of, Shown, shown, Asks}
+use Rattle.step_core.specs.Sound.{Fits}
 use Rattle.step_core.specs.declared.answer.WordAnswer.{WordAnswer}
 use Rattle.step_core.specs.declared.answer.WordRefusal.{WordRefusal}
 use Rattle.step_core.specs.declared.record.WordRecord.{WordRecord}
@@ -11,7 +12,7 @@ use Rattle.step_core.specs.declared.actor.Actor.{Actor}
 use Rattle.step_core.specs.declared.machine.Machine.{Machine}
 use Rattle.std.proofs.Common.{slice_get}
 use Rattle.step_core.proofs.Moves.{moved, asks_moved, shown_same, sound_asked}
-use Rattle.step_core.proofs.Phases.{seat_of, allowed_here, within_here}
+use Rattle.step_core.proofs.Phases.{seat_of, allowed_here, limit_here}
 use Rattle.step_core.proofs.machine.Machine.ask.Goals as goal
 
 asks_ok : (w t : Machine) (a : ℕ) (x y : Actor) (q : Request) (r : Result (Option WordAnswer) WordRefusal) → slice_get w.actors.items a ≡ Some x → shown t ≡ shown (moved w a y)
@@ -30,7 +31,10 @@ pub ask-requires : goal.ask-requires
 ask-requires c =
     let h = seat_of (shown c.args.self.now) c.args.a (request_of c.args.request) c.requires.allowed in
     let got = slice_get_read c.args.self.now.actors.items _ c.args.a c.index_mut-actor.result.now refl (omega (arith, h, c.requires.sound.seats)) c.index_mut-actor.ensures.value in
-    record { allowed = allowed_here c.args.self.now c.args.a c.index_mut-actor.result.now (request_of c.args.request) got c.requires.allowed }
+    record {
+      allowed = allowed_here c.args.self.now c.args.a c.index_mut-actor.result.now (request_of c.args.request) got c.requires.allowed;
+      limit = limit_here c.args.self.now c.args.a c.index_mut-actor.result.now c.len-locations.result (request_of c.args.request) got (omega (arith, c.len-locations.ensures)) c.requires.allowed;
+    }
 
 pub returns-clause-asks : goal.returns-clause-asks
 returns-clause-asks c =
@@ -62,4 +66,4 @@ returns-clause-sound c =
     let m : Machine = moved w c.args.a c.ask.new.self in
     let t : Machine = record m { history = c.reserve.new.self } in
     sound_asked w t c.args.a c.index_mut-actor.result.now c.ask.new.self c.requires.sound got
-    (c.ask.ensures.keeps (length w.locks.items) (within_here w c.args.a (request_of c.args.request) c.requires.allowed)) c.ask.ensures.owed refl refl refl refl c.in_default.ensures.ok
+    (subst (λ (n : ℕ). Fits n c.index_mut-actor.result.now → Fits n c.ask.new.self) (let same : c.len-locations.result ≡ length w.locks.items = omega (arith, c.len-locations.ensures) in same) c.ask.ensures.keeps) c.ask.ensures.owed refl refl refl refl c.in_default.ensures.ok
