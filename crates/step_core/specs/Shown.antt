@@ -1,9 +1,9 @@
 -- What callers see of the running words, and the worlds of the machine that it shows.
-use Rattle.std.specs.Prelude.{◌≡◌, ℕ, ◌≤◌, Bool, List, [], ◌∷◌, length, map, get_or, drop, Option, Some, None, Result, Ok, Err, nat_le, ◌&&◌, if◌then◌else◌}
+use Rattle.std.specs.Prelude.{◌≡◌, ℕ, ◌≤◌, Bool, true, List, [], ◌∷◌, length, map, get_or, drop, Option, Some, None, Result, Ok, Err, nat_le, ◌&&◌, if◌then◌else◌}
 use Rattle.vlock_word.specs.LockWord.{unbits}
 use Rattle.tx_sets.specs.Entries.{Entries, locations}
 use Rattle.word_machine.specs.Actor as machine
-use Rattle.word_machine.specs.Requests.{Request}
+use Rattle.word_machine.specs.Requests.{Request, ask}
 use Rattle.word_machine.specs.World as world
 use Rattle.word_machine.specs.World.{World, Memory, Event, Ask, Step, happens, run, start, in_order, blank}
 use Rattle.word_machine.specs.Notices.{notice, reply}
@@ -18,7 +18,7 @@ use Rattle.step_core.specs.declared.answer.WordRefusal.TheVariants.{NoSuch, OutO
 use Rattle.step_core.specs.declared.actor.Actor.{Actor}
 use Rattle.step_core.specs.declared.machine.Machine.{Machine}
 use Rattle.step_core.specs.Answers.{result_of}
-use Rattle.step_core.specs.Phases.{refusal_at}
+use Rattle.step_core.specs.Phases.{phase_of, allows, refusal_at}
 
 -- a place names its next location by its index in the read or write set
 abbrev pub place_of : Entries → Entries → Place → machine.Place
@@ -56,6 +56,18 @@ actor_of x =
       held = x.held.items;
       calls = map call_of x.calls.items;
     }
+
+-- a request is one of the phase
+abbrev pub IsAllowed : Actor → Request → Type 0
+IsAllowed x request = allows (phase_of (actor_of x) (actor_of x).place) request ≡ true
+
+-- the machine's record after a request
+abbrev pub asked : Actor → Request → machine.Actor
+asked x request = ask (actor_of x) (actor_of x).place request
+
+-- the answer to a request is the machine's
+abbrev pub Replies : Actor → Request → Option WordAnswer → Type 0
+Replies x request answer = Ok answer ≡ result_of (reply (actor_of x) (actor_of x).place request)
 
 -- a committed transaction as the machine has it
 abbrev pub record_of : WordRecord → world.Record

@@ -1,14 +1,18 @@
 -- An atomic step changes no word but the one that it touches, and that one becomes what the step says.
+use Rattle.std.proofs.Common.{None, ◌+◌, ◌*◌, Bool, inl, inr, sym, subst, arith, cond, eq-eqb, ne_eqb}
+use Rattle.std.specs.Prelude.{◌==◌, if◌then◌else◌}
+use Rattle.std.proofs.lemmas.Bool.{cond-true, cond-false, cases_eq}
 use Rattle.std.proofs.Common.{◌≡◌, ℕ, Some, refl, sym, ap, ◌∙◌, eqb}
 use Rattle.std.proofs.lemmas.Bool.{cond_both}
 use Rattle.vlock_word.specs.declared.lock_word.LockWord.{LockWord}
 use Rattle.vlock_word.specs.declared.lock_word.LockWord.TheVariants.{Free, Locked}
-use Rattle.vlock_word.specs.LockWord.{bits}
+use Rattle.vlock_word.specs.LockWord.{bits, unbits}
+use Rattle.vlock_word.proofs.LockWordLemmas.{unbits_bits}
 use Rattle.word_machine.specs.Actor.{Place, Actor}
 use Rattle.word_machine.specs.Requests.{Request, ask}
 use Rattle.word_machine.specs.World.{World, now, exchanged, Deed, Rests, LoadClock, AddToClock, LoadLock, LoadValue, ExchangeLock, StoreValue, StoreLock, does, Outcome, GoesOn, Commits, Aborts, noted, plan, step, outcome, happens, Ask}
-use Rattle.word_machine.specs.Cells.{Cell, ClockCell, LockCell, ValueCell, cell, word_of}
-use Rattle.word_machine.proofs.Sets.{put-other}
+use Rattle.word_machine.specs.Cells.{Cell, ClockCell, LockCell, ValueCell, cell, word_of, becomes, learns}
+use Rattle.word_machine.proofs.Sets.{put-same, put-other}
 
 lock_kept : (s : World) (a l : ℕ) (w : LockWord) (x : Actor) (d : Cell) → (Some (LockCell l) ≡ Some d → ⊥) → cell (does s a (StoreLock l w x)) d ≡ cell s d
 lock_kept s a l w x ClockCell ne = refl
@@ -58,3 +62,77 @@ step_cell s a x p d ne = noted_cell (does s a (plan x p)) (outcome a x p) d ∙ 
 
 pub ask_cell : (s : World) (a : ℕ) (request : Request) (d : Cell) → cell (happens s (Ask a request)) d ≡ cell s d
 ask_cell s a request d = now_cell s a (ask (s.actors a) (s.actors a).place request) d
+
+-- the word that a step touches is determined
+the_cell : (c d : Cell) → Some c ≡ Some d → c ≡ d
+the_cell c d h = cc
+
+none_cell : {A : Type 0} → (d : Cell) → None ≡ Some d → A
+none_cell d h = absurd (let b : ⊥ = cc in b)
+
+twice : (j k : ℕ) → (j ≡ k → ⊥) → 2 * j ≡ 2 * k → ⊥
+twice j k ne h = ne (omega (arith, h))
+
+odd : (j k : ℕ) → 2 * j + 1 ≡ 2 * k → ⊥
+odd j k h = omega (arith, h)
+
+exchanged_becomes : (s : World) (a l k : ℕ) (x y : Actor) (w : LockWord) → s.locks l ≡ w → bits ((exchanged s a l k x y w).locks l) ≡ (if bits w == bits (Free k) then bits (Locked k) else bits w)
+exchanged_becomes s a l k x y (Free j) e =
+    elim (cases_eq j k) [
+      | inl q ↦
+          ap (λ (z : World). bits (z.locks l)) (cond-true (eqb j k) (does s a (StoreLock l (Locked k) x)) (now s a y) (eq-eqb j k q))
+          ∙ ap bits (put-same s.locks l (Locked k))
+          ∙ sym (cond-true (eqb (2 * j) (2 * k)) (2 * k + 1) (2 * j) (eq-eqb (2 * j) (2 * k) (ap (λ (n : ℕ). 2 * n) q)))
+      | inr ne ↦
+          ap (λ (z : World). bits (z.locks l)) (cond-false (eqb j k) (does s a (StoreLock l (Locked k) x)) (now s a y) (ne_eqb j k ne))
+          ∙ ap bits e
+          ∙ sym (cond-false (eqb (2 * j) (2 * k)) (2 * k + 1) (2 * j) (ne_eqb (2 * j) (2 * k) (twice j k ne)))
+    ]
+exchanged_becomes s a l k x y (Locked j) e = ap bits e ∙ sym (cond-false (eqb (2 * j + 1) (2 * k)) (2 * k + 1) (2 * j + 1) (ne_eqb (2 * j + 1) (2 * k) (odd j k)))
+
+exchanged_learns : (s : World) (a l k : ℕ) (x y : Actor) (w : LockWord) → (exchanged s a l k x y w).actors a ≡ (if bits w == bits (Free k) then x else y)
+exchanged_learns s a l k x y (Free j) =
+    elim (cases_eq j k) [
+      | inl q ↦
+          ap (λ (z : World). z.actors a) (cond-true (eqb j k) (does s a (StoreLock l (Locked k) x)) (now s a y) (eq-eqb j k q))
+          ∙ put-same s.actors a x
+          ∙ sym (cond-true (eqb (2 * j) (2 * k)) x y (eq-eqb (2 * j) (2 * k) (ap (λ (n : ℕ). 2 * n) q)))
+      | inr ne ↦
+          ap (λ (z : World). z.actors a) (cond-false (eqb j k) (does s a (StoreLock l (Locked k) x)) (now s a y) (ne_eqb j k ne))
+          ∙ put-same s.actors a y
+          ∙ sym (cond-false (eqb (2 * j) (2 * k)) x y (ne_eqb (2 * j) (2 * k) (twice j k ne)))
+    ]
+exchanged_learns s a l k x y (Locked j) = put-same s.actors a y ∙ sym (cond-false (eqb (2 * j + 1) (2 * k)) x y (ne_eqb (2 * j + 1) (2 * k) (odd j k)))
+
+does_becomes : (s : World) (a : ℕ) (deed : Deed) (d : Cell) → word_of deed ≡ Some d → cell (does s a deed) d ≡ becomes deed (cell s d)
+does_becomes s a Rests d h = none_cell d h
+does_becomes s a (LoadClock f) d h = subst (λ (z : Cell). cell (does s a (LoadClock f)) z ≡ cell s z) (the_cell ClockCell d h) refl
+does_becomes s a (AddToClock f) d h = subst (λ (z : Cell). cell (does s a (AddToClock f)) z ≡ cell s z + 1) (the_cell ClockCell d h) refl
+does_becomes s a (LoadLock l f) d h = subst (λ (z : Cell). cell (does s a (LoadLock l f)) z ≡ cell s z) (the_cell (LockCell l) d h) refl
+does_becomes s a (LoadValue l f) d h = subst (λ (z : Cell). cell (does s a (LoadValue l f)) z ≡ cell s z) (the_cell (ValueCell l) d h) refl
+does_becomes s a (ExchangeLock l k x y) d h =
+    subst (λ (z : Cell). cell (does s a (ExchangeLock l k x y)) z ≡ (if cell s z == bits (Free k) then bits (Locked k) else cell s z)) (the_cell (LockCell l) d h)
+    (exchanged_becomes s a l k x y (s.locks l) refl)
+does_becomes s a (StoreValue l v x) d h = subst (λ (z : Cell). cell (does s a (StoreValue l v x)) z ≡ v) (the_cell (ValueCell l) d h) (put-same s.values l v)
+does_becomes s a (StoreLock l w x) d h = subst (λ (z : Cell). cell (does s a (StoreLock l w x)) z ≡ bits w) (the_cell (LockCell l) d h) (ap bits (put-same s.locks l w))
+
+does_learns : (s : World) (a : ℕ) (deed : Deed) (d : Cell) → word_of deed ≡ Some d → (does s a deed).actors a ≡ learns deed (s.actors a) (cell s d)
+does_learns s a Rests d h = none_cell d h
+does_learns s a (LoadClock f) d h = put-same s.actors a (f s.clock) ∙ ap (λ (z : Cell). f (cell s z)) (the_cell ClockCell d h)
+does_learns s a (AddToClock f) d h = put-same s.actors a (f s.clock) ∙ ap (λ (z : Cell). f (cell s z)) (the_cell ClockCell d h)
+does_learns s a (LoadLock l f) d h = put-same s.actors a (f (s.locks l)) ∙ ap f (sym (unbits_bits (s.locks l))) ∙ ap (λ (z : Cell). f (unbits (cell s z))) (the_cell (LockCell l) d h)
+does_learns s a (LoadValue l f) d h = put-same s.actors a (f (s.values l)) ∙ ap (λ (z : Cell). f (cell s z)) (the_cell (ValueCell l) d h)
+does_learns s a (ExchangeLock l k x y) d h = exchanged_learns s a l k x y (s.locks l) ∙ ap (λ (z : Cell). if cell s z == bits (Free k) then x else y) (the_cell (LockCell l) d h)
+does_learns s a (StoreValue l v x) d h = put-same s.actors a x
+does_learns s a (StoreLock l w x) d h = put-same s.actors a x
+
+noted_actors : (s : World) (o : Outcome) (a : ℕ) → (noted s o).actors a ≡ s.actors a
+noted_actors s GoesOn a = refl
+noted_actors s (Commits r) a = refl
+noted_actors s (Aborts e) a = refl
+
+pub step_becomes : (s : World) (a : ℕ) (x : Actor) (p : Place) (d : Cell) → word_of (plan x p) ≡ Some d → cell (step s a x p) d ≡ becomes (plan x p) (cell s d)
+step_becomes s a x p d h = noted_cell (does s a (plan x p)) (outcome a x p) d ∙ does_becomes s a (plan x p) d h
+
+pub step_learns : (s : World) (a : ℕ) (x : Actor) (p : Place) (d : Cell) → word_of (plan x p) ≡ Some d → (step s a x p).actors a ≡ learns (plan x p) (s.actors a) (cell s d)
+step_learns s a x p d h = noted_actors (does s a (plan x p)) (outcome a x p) a ∙ does_learns s a (plan x p) d h

@@ -1,7 +1,8 @@
 -- The words of the table, and the one that a step touches.
 use Rattle.std.specs.Prelude.{ℕ, ◌+◌, Option, Some, None, ◌==◌, if◌then◌else◌}
 use Rattle.vlock_word.specs.declared.lock_word.LockWord.TheVariants.{Free, Locked}
-use Rattle.vlock_word.specs.LockWord.{bits}
+use Rattle.vlock_word.specs.LockWord.{bits, unbits}
+use Rattle.word_machine.specs.Actor.{Actor}
 use Rattle.word_machine.specs.World.{World, Deed, Rests, LoadClock, AddToClock, LoadLock, LoadValue, ExchangeLock, StoreValue, StoreLock}
 
 -- A word of the table.
@@ -34,3 +35,14 @@ becomes (ExchangeLock l k won lost) n = if n == bits (Free k) then bits (Locked 
 becomes (StoreValue l v after) n = v
 becomes (StoreLock l w after) n = bits w
 becomes deed n = n
+
+-- the actor's record, once it has found this number in that word
+abbrev pub learns : Deed → Actor → ℕ → Actor
+learns Rests x n = x
+learns (LoadClock found) x n = found n
+learns (AddToClock found) x n = found n
+learns (LoadLock l found) x n = found (unbits n)
+learns (LoadValue l found) x n = found n
+learns (ExchangeLock l k won lost) x n = if n == bits (Free k) then won else lost
+learns (StoreValue l v after) x n = after
+learns (StoreLock l w after) x n = after

@@ -6,7 +6,7 @@ ghost use Rattle.tx_sets.specs.Entries.{lookup};
 ghost use Rattle.word_machine.specs.Actor.{Begin, Open, Idle};
 ghost use Rattle.word_machine.specs.Requests.{Request};
 ghost use Rattle.word_machine.specs.World.{Memory, World, Event, Ask, Step, plan, happens, run};
-ghost use Rattle.word_machine.specs.Cells.{Cell, cell, word_of};
+ghost use Rattle.word_machine.specs.Cells.{Cell, cell, word_of, becomes, learns};
 ghost use Rattle.word_machine.specs.Notices.{IsConflict, notice};
 ghost use Rattle.word_machine.specs.Progress.{IsAlone, IsFree, steps_left, steps_of, AsksNothing, IsAnsweredWithin};
 ghost use Rattle.word_machine.specs.Opacity.{
@@ -57,10 +57,22 @@ pub fn opacity()
         (s.actors a).place ≡ Idle → (s.actors a).held ≡ [] }
 {}
 
-/// An atomic step changes at most the one word that it touches, and a request changes none.
+/// An atomic step changes at most the one word that it touches. What that word becomes depends on what
+/// it was, and what the actor's record becomes on that number and the record, alone. The other actors
+/// stay as they are. A request changes no word.
+///
+/// So a table of words shows the machine: to take a step is to load, store, exchange or add at one
+/// word of it, and to change one's own record by the number found.
 pub fn one_word()
-    ensures step { (s : World) (a : ℕ) (word : Cell) →
+    ensures others { (s : World) (a : ℕ) (word : Cell) →
         word_of (plan (s.actors a) (s.actors a).place) ≢ Some word → cell (happens s (Step a)) word ≡ cell s word }
+    ensures own { (s : World) (a : ℕ) (word : Cell) →
+        let deed = plan (s.actors a) (s.actors a).place in
+        word_of deed ≡ Some word → cell (happens s (Step a)) word ≡ becomes deed (cell s word) }
+    ensures actor { (s : World) (a : ℕ) (word : Cell) →
+        let deed = plan (s.actors a) (s.actors a).place in
+        word_of deed ≡ Some word → (happens s (Step a)).actors a ≡ learns deed (s.actors a) (cell s word) }
+    ensures actors { (s : World) (a b : ℕ) → b ≢ a → (happens s (Step a)).actors b ≡ s.actors b }
     ensures ask { (s : World) (a : ℕ) (request : Request) (word : Cell) → cell (happens s (Ask a request)) word ≡ cell s word }
 {}
 

@@ -1,11 +1,10 @@
 //! What a request makes of an actor's record. It makes the room that its steps will need.
 ghost use Rattle.std.specs.Prelude.{◌≡◌, ℕ, ◌≤◌, Ok, Err, Option, Some, None, true, OnOk, OnErr, IfOk, IfErr};
-ghost use Rattle.word_machine.specs.Requests.{ask, AskBegin, AskRelease, AskRead, AskWrite, AskLock, AskStore, AskCancel, AskAbort, AskClose};
-ghost use Rattle.word_machine.specs.Notices.{reply};
-ghost use Rattle.step_core.specs.Answers.{request_of, result_of};
-ghost use Rattle.step_core.specs.Phases.{phase_of, allows, if_full, if_new, location_refusal, refusal_at};
+ghost use Rattle.word_machine.specs.Requests.{AskBegin, AskRelease, AskRead, AskWrite, AskLock, AskStore, AskCancel, AskAbort, AskClose};
+ghost use Rattle.step_core.specs.Answers.{request_of};
+ghost use Rattle.step_core.specs.Phases.{phase_of, if_full, if_new, location_refusal, refusal_at};
 ghost use Rattle.tx_sets.specs.Entries.{lookup};
-ghost use Rattle.step_core.specs.Shown.{actor_of, snapshot_of};
+ghost use Rattle.step_core.specs.Shown.{actor_of, asked, snapshot_of, IsAllowed, Replies};
 ghost use Rattle.step_core.specs.Sound.{Fits, IsWithin, owed};
 ghost use Rattle.step_core.specs.declared.answer.WordRefusal.TheVariants.{OutOfMemory};
 
@@ -165,10 +164,10 @@ impl Actor {
 
     /// A read: a set answers, or else the steps begin, with their room.
     fn ask_read(&mut self, location: u32) -> Result<Option<WordAnswer>, WordRefusal>
-        requires allowed { allows (phase_of (actor_of self.old) (actor_of self.old).place) (AskRead location) ≡ true }
+        requires allowed { IsAllowed self.old (AskRead location) }
         requires limit { if_new (lookup self.old.writes.entries location) (lookup self.old.reads.entries location) self.old.reads.entries ≡ None }
-        ensures ok { OnOk result (actor_of self.new ≡ ask (actor_of self.old) (actor_of self.old).place (AskRead location)) }
-        ensures answer { IfOk result (λ answer. Ok answer ≡ result_of (reply (actor_of self.old) (actor_of self.old).place (AskRead location))) }
+        ensures ok { OnOk result (actor_of self.new ≡ asked self.old (AskRead location)) }
+        ensures answer { IfOk result (Replies self.old (AskRead location)) }
         ensures refused { IfErr result (λ refusal. refusal ≡ OutOfMemory) }
         ensures err { OnErr result (actor_of self.new ≡ actor_of self.old) }
         ensures keeps { (n : ℕ) → IsWithin n (AskRead location) → Fits n self.old → Fits n self.new }
@@ -194,9 +193,9 @@ impl Actor {
 
     /// A write: the write set keeps the value.
     fn ask_write(&mut self, location: u32, value: u64) -> Result<Option<WordAnswer>, WordRefusal>
-        requires allowed { allows (phase_of (actor_of self.old) (actor_of self.old).place) (AskWrite location value) ≡ true }
-        ensures ok { OnOk result (actor_of self.new ≡ ask (actor_of self.old) (actor_of self.old).place (AskWrite location value)) }
-        ensures answer { IfOk result (λ answer. Ok answer ≡ result_of (reply (actor_of self.old) (actor_of self.old).place (AskWrite location value))) }
+        requires allowed { IsAllowed self.old (AskWrite location value) }
+        ensures ok { OnOk result (actor_of self.new ≡ asked self.old (AskWrite location value)) }
+        ensures answer { IfOk result (Replies self.old (AskWrite location value)) }
         ensures refused { IfErr result (λ refusal. refusal ≡ OutOfMemory) }
         ensures err { OnErr result (actor_of self.new ≡ actor_of self.old) }
         ensures keeps { (n : ℕ) → IsWithin n (AskWrite location value) → Fits n self.old → Fits n self.new }
@@ -214,9 +213,9 @@ impl Actor {
 
     /// The locks of a writer, from the first.
     fn ask_lock(&mut self) -> Result<Option<WordAnswer>, WordRefusal>
-        requires allowed { allows (phase_of (actor_of self.old) (actor_of self.old).place) AskLock ≡ true }
-        ensures ok { OnOk result (actor_of self.new ≡ ask (actor_of self.old) (actor_of self.old).place AskLock) }
-        ensures answer { IfOk result (λ answer. Ok answer ≡ result_of (reply (actor_of self.old) (actor_of self.old).place AskLock)) }
+        requires allowed { IsAllowed self.old AskLock }
+        ensures ok { OnOk result (actor_of self.new ≡ asked self.old AskLock) }
+        ensures answer { IfOk result (Replies self.old AskLock) }
         ensures refused { IfErr result (λ refusal. refusal ≡ OutOfMemory) }
         ensures err { OnErr result (actor_of self.new ≡ actor_of self.old) }
         ensures keeps { (n : ℕ) → Fits n self.old → Fits n self.new }
@@ -231,9 +230,9 @@ impl Actor {
 
     /// The values of a writer, whose record is made ready.
     fn ask_store(&mut self) -> Result<Option<WordAnswer>, WordRefusal>
-        requires allowed { allows (phase_of (actor_of self.old) (actor_of self.old).place) AskStore ≡ true }
-        ensures ok { OnOk result (actor_of self.new ≡ ask (actor_of self.old) (actor_of self.old).place AskStore) }
-        ensures answer { IfOk result (λ answer. Ok answer ≡ result_of (reply (actor_of self.old) (actor_of self.old).place AskStore)) }
+        requires allowed { IsAllowed self.old AskStore }
+        ensures ok { OnOk result (actor_of self.new ≡ asked self.old AskStore) }
+        ensures answer { IfOk result (Replies self.old AskStore) }
         ensures refused { IfErr result (λ refusal. refusal ≡ OutOfMemory) }
         ensures err { OnErr result (actor_of self.new ≡ actor_of self.old) }
         ensures keeps { (n : ℕ) → Fits n self.old → Fits n self.new }
@@ -249,9 +248,9 @@ impl Actor {
 
     /// The end of a reader, whose record is made ready.
     fn ask_close(&mut self) -> Result<Option<WordAnswer>, WordRefusal>
-        requires allowed { allows (phase_of (actor_of self.old) (actor_of self.old).place) AskClose ≡ true }
-        ensures ok { OnOk result (actor_of self.new ≡ ask (actor_of self.old) (actor_of self.old).place AskClose) }
-        ensures answer { IfOk result (λ answer. Ok answer ≡ result_of (reply (actor_of self.old) (actor_of self.old).place AskClose)) }
+        requires allowed { IsAllowed self.old AskClose }
+        ensures ok { OnOk result (actor_of self.new ≡ asked self.old AskClose) }
+        ensures answer { IfOk result (Replies self.old AskClose) }
         ensures refused { IfErr result (λ refusal. refusal ≡ OutOfMemory) }
         ensures err { OnErr result (actor_of self.new ≡ actor_of self.old) }
         ensures keeps { (n : ℕ) → Fits n self.old → Fits n self.new }
@@ -267,9 +266,9 @@ impl Actor {
 
     /// The locks given back with their old versions, which is done where none was taken.
     fn ask_cancel(&mut self) -> Option<WordAnswer>
-        requires allowed { allows (phase_of (actor_of self.old) (actor_of self.old).place) AskCancel ≡ true }
-        ensures actor { actor_of self.new ≡ ask (actor_of self.old) (actor_of self.old).place AskCancel }
-        ensures answer { Ok result ≡ result_of (reply (actor_of self.old) (actor_of self.old).place AskCancel) }
+        requires allowed { IsAllowed self.old AskCancel }
+        ensures actor { actor_of self.new ≡ asked self.old AskCancel }
+        ensures answer { Replies self.old AskCancel result }
         ensures keeps { (n : ℕ) → Fits n self.old → Fits n self.new }
         ensures owed { owed self.new.place ≤ owed self.old.place }
     {
@@ -283,9 +282,9 @@ impl Actor {
 
     /// The end of a transaction, or of a begin that was not answered.
     fn ask_abort(&mut self) -> Option<WordAnswer>
-        requires allowed { allows (phase_of (actor_of self.old) (actor_of self.old).place) AskAbort ≡ true }
-        ensures actor { actor_of self.new ≡ ask (actor_of self.old) (actor_of self.old).place AskAbort }
-        ensures answer { Ok result ≡ result_of (reply (actor_of self.old) (actor_of self.old).place AskAbort) }
+        requires allowed { IsAllowed self.old AskAbort }
+        ensures actor { actor_of self.new ≡ asked self.old AskAbort }
+        ensures answer { Replies self.old AskAbort result }
         ensures keeps { (n : ℕ) → Fits n self.old → Fits n self.new }
         ensures owed { owed self.new.place ≤ owed self.old.place }
     {
@@ -303,9 +302,9 @@ impl Actor {
 
     /// A new transaction.
     fn ask_begin(&mut self) -> Option<WordAnswer>
-        requires allowed { allows (phase_of (actor_of self.old) (actor_of self.old).place) AskBegin ≡ true }
-        ensures actor { actor_of self.new ≡ ask (actor_of self.old) (actor_of self.old).place AskBegin }
-        ensures answer { Ok result ≡ result_of (reply (actor_of self.old) (actor_of self.old).place AskBegin) }
+        requires allowed { IsAllowed self.old AskBegin }
+        ensures actor { actor_of self.new ≡ asked self.old AskBegin }
+        ensures answer { Replies self.old AskBegin result }
         ensures keeps { (n : ℕ) → Fits n self.old → Fits n self.new }
         ensures owed { owed self.new.place ≤ owed self.old.place }
     {
@@ -315,9 +314,9 @@ impl Actor {
 
     /// The locks given back with the number of the commit.
     fn ask_release(&mut self) -> Option<WordAnswer>
-        requires allowed { allows (phase_of (actor_of self.old) (actor_of self.old).place) AskRelease ≡ true }
-        ensures actor { actor_of self.new ≡ ask (actor_of self.old) (actor_of self.old).place AskRelease }
-        ensures answer { Ok result ≡ result_of (reply (actor_of self.old) (actor_of self.old).place AskRelease) }
+        requires allowed { IsAllowed self.old AskRelease }
+        ensures actor { actor_of self.new ≡ asked self.old AskRelease }
+        ensures answer { Replies self.old AskRelease result }
         ensures keeps { (n : ℕ) → Fits n self.old → Fits n self.new }
         ensures owed { owed self.new.place ≤ owed self.old.place }
     {
@@ -331,10 +330,10 @@ impl Actor {
         locations: usize,
         request: WordRequest,
     ) -> Result<Option<WordAnswer>, WordRefusal>
-        requires allowed { allows (phase_of (actor_of self.old) (actor_of self.old).place) (request_of request) ≡ true }
+        requires allowed { IsAllowed self.old (request_of request) }
         requires limit { location_refusal locations (actor_of self.old) (request_of request) ≡ None }
-        ensures ok { OnOk result (actor_of self.new ≡ ask (actor_of self.old) (actor_of self.old).place (request_of request)) }
-        ensures answer { IfOk result (λ answer. Ok answer ≡ result_of (reply (actor_of self.old) (actor_of self.old).place (request_of request))) }
+        ensures ok { OnOk result (actor_of self.new ≡ asked self.old (request_of request)) }
+        ensures answer { IfOk result (Replies self.old (request_of request)) }
         ensures refused { IfErr result (λ refusal. refusal ≡ OutOfMemory) }
         ensures err { OnErr result (actor_of self.new ≡ actor_of self.old) }
         ensures keeps { Fits locations self.old → Fits locations self.new }

@@ -46,6 +46,15 @@ fn give_up(words: &mut Words, actor: u32) -> Result<Option<WordAnswer>, WordRefu
     run(words, actor, WordRequest::Abort)
 }
 
+// The refusal of a call, unless it is for want of memory; that is handed on.
+fn refused(answer: Result<Option<WordAnswer>, WordRefusal>) -> Result<WordRefusal, WordRefusal> {
+    match answer {
+        Err(WordRefusal::OutOfMemory) => Err(WordRefusal::OutOfMemory),
+        Err(refusal) => Ok(refusal),
+        Ok(_) => Ok(WordRefusal::OutOfMemory),
+    }
+}
+
 // Two actors that read words 0 and 1, of which actor 1 writes 0 to word 0 and actor 2 to word 1.
 fn skewed(words: &mut Words) -> Result<(), WordRefusal> {
     run(words, 1, WordRequest::Read(0))?;
@@ -68,23 +77,23 @@ fn table(alloc: Global, clock: u64, values: &[u64]) -> Result<Words, WordRefusal
 fn write_skew(rt: HostRuntime) -> Result<(), Fail> {
     let mut words = table(rt.alloc(), 0, &[1, 1])?;
     assert_eq!(rt;
-        run(&mut words, 1, WordRequest::Begin),
-        Ok(Some(WordAnswer::Begun(0)))
+        run(&mut words, 1, WordRequest::Begin)?,
+        Some(WordAnswer::Begun(0))
     );
     assert_eq!(rt;
-        run(&mut words, 2, WordRequest::Begin),
-        Ok(Some(WordAnswer::Begun(0)))
+        run(&mut words, 2, WordRequest::Begin)?,
+        Some(WordAnswer::Begun(0))
     );
     skewed(&mut words)?;
-    assert_eq!(rt; commit(&mut words, 1), Ok(Some(WordAnswer::Locked(1))));
+    assert_eq!(rt; commit(&mut words, 1)?, Some(WordAnswer::Locked(1)));
     assert_eq!(rt;
-        commit(&mut words, 2),
-        Err(WordRefusal::Invalid {
+        refused(commit(&mut words, 2))?,
+        WordRefusal::Invalid {
             location: 0,
             word: 2
-        })
+        }
     );
-    assert_eq!(rt; give_up(&mut words, 2), Ok(Some(WordAnswer::Ended)));
+    assert_eq!(rt; give_up(&mut words, 2)?, Some(WordAnswer::Ended));
     assert_eq!(rt; words.values(), [0, 1].as_slice());
     let history = words.history();
     assert_eq!(rt; history.len(), 1);
@@ -98,7 +107,7 @@ fn write_skew_both_refused(rt: HostRuntime) -> Result<(), Fail> {
     let mut words = table(rt.alloc(), 0, &[1, 1, 0])?;
     run(&mut words, 1, WordRequest::Begin)?;
     run(&mut words, 2, WordRequest::Begin)?;
-    assert_eq!(rt; write(&mut words, 3, 2, 9), Ok(Some(WordAnswer::Locked(1))));
+    assert_eq!(rt; write(&mut words, 3, 2, 9)?, Some(WordAnswer::Locked(1)));
     skewed(&mut words)?;
     words.ask(1, WordRequest::Lock)?;
     words.ask(2, WordRequest::Lock)?;
@@ -106,23 +115,23 @@ fn write_skew_both_refused(rt: HostRuntime) -> Result<(), Fail> {
         words.step(1)?;
         words.step(2)?;
     }
-    assert_eq!(rt; words.step(1), Ok(None));
+    assert_eq!(rt; words.step(1)?, None);
     assert_eq!(rt;
-        words.step(2),
-        Err(WordRefusal::Invalid {
+        refused(words.step(2))?,
+        WordRefusal::Invalid {
             location: 0,
             word: 1
-        })
+        }
     );
     assert_eq!(rt;
-        words.step(1),
-        Err(WordRefusal::Invalid {
+        refused(words.step(1))?,
+        WordRefusal::Invalid {
             location: 1,
             word: 1
-        })
+        }
     );
-    assert_eq!(rt; give_up(&mut words, 1), Ok(Some(WordAnswer::Ended)));
-    assert_eq!(rt; give_up(&mut words, 2), Ok(Some(WordAnswer::Ended)));
+    assert_eq!(rt; give_up(&mut words, 1)?, Some(WordAnswer::Ended));
+    assert_eq!(rt; give_up(&mut words, 2)?, Some(WordAnswer::Ended));
     assert_eq!(rt; words.values(), [1, 1, 9].as_slice());
     Ok(())
 }
@@ -131,24 +140,24 @@ fn write_skew_both_refused(rt: HostRuntime) -> Result<(), Fail> {
 fn begin_takes_the_clock_of_its_moment(rt: HostRuntime) -> Result<(), Fail> {
     let mut words = table(rt.alloc(), 3, &[0])?;
     assert_eq!(rt;
-        run(&mut words, 1, WordRequest::Begin),
-        Ok(Some(WordAnswer::Begun(3)))
+        run(&mut words, 1, WordRequest::Begin)?,
+        Some(WordAnswer::Begun(3))
     );
-    assert_eq!(rt; write(&mut words, 2, 0, 5), Ok(Some(WordAnswer::Locked(4))));
+    assert_eq!(rt; write(&mut words, 2, 0, 5)?, Some(WordAnswer::Locked(4)));
     assert_eq!(rt;
-        run(&mut words, 64, WordRequest::Begin),
-        Ok(Some(WordAnswer::Begun(4)))
+        run(&mut words, 64, WordRequest::Begin)?,
+        Some(WordAnswer::Begun(4))
     );
     assert_eq!(rt; words.snapshot(1), Some(3));
     assert_eq!(rt; words.snapshot(2), None);
     assert_eq!(rt; words.snapshot(64), Some(4));
     assert_eq!(rt;
-        run(&mut words, 64, WordRequest::Read(0)),
-        Ok(Some(WordAnswer::Number(5)))
+        run(&mut words, 64, WordRequest::Read(0))?,
+        Some(WordAnswer::Number(5))
     );
     assert_eq!(rt;
-        run(&mut words, 64, WordRequest::Close),
-        Ok(Some(WordAnswer::Ended))
+        run(&mut words, 64, WordRequest::Close)?,
+        Some(WordAnswer::Ended)
     );
     let history = words.history();
     assert_eq!(rt; history.len(), 2);
@@ -162,17 +171,14 @@ fn the_last_number(rt: HostRuntime) -> Result<(), Fail> {
     let last = 4_611_686_018_427_387_904u64;
     let mut words = table(rt.alloc(), last, &[0])?;
     assert_eq!(rt;
-        run(&mut words, 1, WordRequest::Begin),
-        Err(WordRefusal::Exhausted { clock: last })
+        refused(run(&mut words, 1, WordRequest::Begin))?,
+        WordRefusal::Exhausted { clock: last }
     );
     let mut words = table(rt.alloc(), last - 1, &[0])?;
+    assert_eq!(rt; write(&mut words, 1, 0, 1)?, Some(WordAnswer::Locked(last)));
     assert_eq!(rt;
-        write(&mut words, 1, 0, 1),
-        Ok(Some(WordAnswer::Locked(last)))
-    );
-    assert_eq!(rt;
-        run(&mut words, 1, WordRequest::Begin),
-        Err(WordRefusal::Exhausted { clock: last })
+        refused(run(&mut words, 1, WordRequest::Begin))?,
+        WordRefusal::Exhausted { clock: last }
     );
     assert_eq!(rt; words.values(), [1].as_slice());
     assert!(rt; table(rt.alloc(), last + 1, &[0]).is_err());
@@ -184,31 +190,31 @@ fn moved_at_either_load(rt: HostRuntime) -> Result<(), Fail> {
     let mut words = table(rt.alloc(), 0, &[0, 0])?;
     run(&mut words, 1, WordRequest::Begin)?;
     run(&mut words, 2, WordRequest::Begin)?;
-    assert_eq!(rt; words.ask(2, WordRequest::Read(0)), Ok(None));
-    assert_eq!(rt; words.step(2), Ok(None));
-    assert_eq!(rt; words.step(2), Ok(None));
-    assert_eq!(rt; write(&mut words, 3, 0, 5), Ok(Some(WordAnswer::Locked(1))));
+    assert_eq!(rt; words.ask(2, WordRequest::Read(0))?, None);
+    assert_eq!(rt; words.step(2)?, None);
+    assert_eq!(rt; words.step(2)?, None);
+    assert_eq!(rt; write(&mut words, 3, 0, 5)?, Some(WordAnswer::Locked(1)));
     assert_eq!(rt;
-        words.step(2),
-        Err(WordRefusal::Moved {
+        refused(words.step(2))?,
+        WordRefusal::Moved {
             location: 0,
             word: 2
-        })
+        }
     );
     assert_eq!(rt;
-        run(&mut words, 1, WordRequest::Read(0)),
-        Err(WordRefusal::Moved {
+        refused(run(&mut words, 1, WordRequest::Read(0)))?,
+        WordRefusal::Moved {
             location: 0,
             word: 2
-        })
+        }
     );
     assert_eq!(rt;
-        words.ask(1, WordRequest::Read(1)),
-        Err(WordRefusal::NoTransaction)
+        refused(words.ask(1, WordRequest::Read(1)))?,
+        WordRefusal::NoTransaction
     );
     assert_eq!(rt;
-        run(&mut words, 1, WordRequest::Abort),
-        Ok(Some(WordAnswer::Ended))
+        run(&mut words, 1, WordRequest::Abort)?,
+        Some(WordAnswer::Ended)
     );
     Ok(())
 }
@@ -221,24 +227,24 @@ fn busy_at_load_and_exchange(rt: HostRuntime) -> Result<(), Fail> {
     run(&mut words, 1, WordRequest::Write(0, 5))?;
     run(&mut words, 2, WordRequest::Write(0, 6))?;
     words.ask(1, WordRequest::Lock)?;
-    assert_eq!(rt; words.step(1), Ok(None));
-    assert_eq!(rt; write(&mut words, 3, 0, 7), Ok(Some(WordAnswer::Locked(1))));
+    assert_eq!(rt; words.step(1)?, None);
+    assert_eq!(rt; write(&mut words, 3, 0, 7)?, Some(WordAnswer::Locked(1)));
     assert_eq!(rt;
-        words.step(1),
-        Err(WordRefusal::Busy {
+        refused(words.step(1))?,
+        WordRefusal::Busy {
             location: 0,
             word: 2
-        })
+        }
     );
     words.ask(2, WordRequest::Lock)?;
     words.step(2)?;
     words.step(2)?;
     assert_eq!(rt;
-        write(&mut words, 3, 0, 8),
-        Err(WordRefusal::Busy {
+        refused(write(&mut words, 3, 0, 8))?,
+        WordRefusal::Busy {
             location: 0,
             word: 3
-        })
+        }
     );
     Ok(())
 }
@@ -246,25 +252,25 @@ fn busy_at_load_and_exchange(rt: HostRuntime) -> Result<(), Fail> {
 #[test]
 fn cancel_gives_back_the_old_word(rt: HostRuntime) -> Result<(), Fail> {
     let mut words = table(rt.alloc(), 0, &[0])?;
-    assert_eq!(rt; write(&mut words, 3, 0, 7), Ok(Some(WordAnswer::Locked(1))));
+    assert_eq!(rt; write(&mut words, 3, 0, 7)?, Some(WordAnswer::Locked(1)));
     run(&mut words, 1, WordRequest::Begin)?;
     run(&mut words, 2, WordRequest::Begin)?;
     run(&mut words, 1, WordRequest::Write(0, 5))?;
     assert_eq!(rt;
-        run(&mut words, 1, WordRequest::Lock),
-        Ok(Some(WordAnswer::Locked(2)))
+        run(&mut words, 1, WordRequest::Lock)?,
+        Some(WordAnswer::Locked(2))
     );
     assert_eq!(rt;
-        run(&mut words, 1, WordRequest::Cancel),
-        Ok(Some(WordAnswer::Cancelled))
+        run(&mut words, 1, WordRequest::Cancel)?,
+        Some(WordAnswer::Cancelled)
     );
     assert_eq!(rt;
-        run(&mut words, 2, WordRequest::Read(0)),
-        Ok(Some(WordAnswer::Number(7)))
+        run(&mut words, 2, WordRequest::Read(0))?,
+        Some(WordAnswer::Number(7))
     );
     assert_eq!(rt;
-        run(&mut words, 1, WordRequest::Abort),
-        Ok(Some(WordAnswer::Ended))
+        run(&mut words, 1, WordRequest::Abort)?,
+        Some(WordAnswer::Ended)
     );
     Ok(())
 }
@@ -276,28 +282,28 @@ fn half_done_seen_from_beside(rt: HostRuntime) -> Result<(), Fail> {
     run(&mut words, 1, WordRequest::Write(0, 5))?;
     run(&mut words, 1, WordRequest::Write(1, 6))?;
     assert_eq!(rt;
-        run(&mut words, 1, WordRequest::Lock),
-        Ok(Some(WordAnswer::Locked(1)))
+        run(&mut words, 1, WordRequest::Lock)?,
+        Some(WordAnswer::Locked(1))
     );
     words.ask(1, WordRequest::Store)?;
-    assert_eq!(rt; words.step(1), Ok(None));
+    assert_eq!(rt; words.step(1)?, None);
     assert_eq!(rt; words.history().len(), 1);
     assert_eq!(rt; words.values(), [5, 0, 0].as_slice());
     assert_eq!(rt;
-        run(&mut words, 2, WordRequest::Begin),
-        Ok(Some(WordAnswer::Begun(1)))
+        run(&mut words, 2, WordRequest::Begin)?,
+        Some(WordAnswer::Begun(1))
     );
     assert_eq!(rt;
-        run(&mut words, 2, WordRequest::Read(0)),
-        Err(WordRefusal::Moved {
+        refused(run(&mut words, 2, WordRequest::Read(0)))?,
+        WordRefusal::Moved {
             location: 0,
             word: 1
-        })
+        }
     );
-    assert_eq!(rt; words.step(1), Ok(Some(WordAnswer::Stored)));
+    assert_eq!(rt; words.step(1)?, Some(WordAnswer::Stored));
     assert_eq!(rt;
-        run(&mut words, 1, WordRequest::Release),
-        Ok(Some(WordAnswer::Released))
+        run(&mut words, 1, WordRequest::Release)?,
+        Some(WordAnswer::Released)
     );
     assert_eq!(rt; words.values(), [5, 6, 0].as_slice());
     Ok(())
@@ -306,31 +312,37 @@ fn half_done_seen_from_beside(rt: HostRuntime) -> Result<(), Fail> {
 #[test]
 fn requests_out_of_phase(rt: HostRuntime) -> Result<(), Fail> {
     let mut words = table(rt.alloc(), 0, &[0])?;
-    assert_eq!(rt; words.ask(0, WordRequest::Begin), Err(WordRefusal::NoSuch));
-    assert_eq!(rt; words.ask(65, WordRequest::Begin), Err(WordRefusal::NoSuch));
-    assert_eq!(rt; words.step(1), Err(WordRefusal::NoTransaction));
     assert_eq!(rt;
-        words.ask(1, WordRequest::Read(9)),
-        Err(WordRefusal::NoTransaction)
-    );
-    assert_eq!(rt; words.ask(1, WordRequest::Begin), Ok(None));
-    assert_eq!(rt;
-        words.ask(1, WordRequest::Read(0)),
-        Err(WordRefusal::NotIdle)
+        refused(words.ask(0, WordRequest::Begin))?,
+        WordRefusal::NoSuch
     );
     assert_eq!(rt;
-        words.ask(1, WordRequest::Abort),
-        Ok(Some(WordAnswer::Ended))
+        refused(words.ask(65, WordRequest::Begin))?,
+        WordRefusal::NoSuch
     );
+    assert_eq!(rt; refused(words.step(1))?, WordRefusal::NoTransaction);
+    assert_eq!(rt;
+        refused(words.ask(1, WordRequest::Read(9)))?,
+        WordRefusal::NoTransaction
+    );
+    assert_eq!(rt; words.ask(1, WordRequest::Begin)?, None);
+    assert_eq!(rt;
+        refused(words.ask(1, WordRequest::Read(0)))?,
+        WordRefusal::NotIdle
+    );
+    assert_eq!(rt; words.ask(1, WordRequest::Abort)?, Some(WordAnswer::Ended));
     run(&mut words, 1, WordRequest::Begin)?;
-    assert_eq!(rt; words.ask(1, WordRequest::Begin), Err(WordRefusal::NotIdle));
     assert_eq!(rt;
-        words.ask(1, WordRequest::Lock),
-        Err(WordRefusal::NoTransaction)
+        refused(words.ask(1, WordRequest::Begin))?,
+        WordRefusal::NotIdle
     );
     assert_eq!(rt;
-        words.ask(1, WordRequest::Write(1, 0)),
-        Err(WordRefusal::NoSuch)
+        refused(words.ask(1, WordRequest::Lock))?,
+        WordRefusal::NoTransaction
+    );
+    assert_eq!(rt;
+        refused(words.ask(1, WordRequest::Write(1, 0)))?,
+        WordRefusal::NoSuch
     );
     Ok(())
 }
@@ -343,16 +355,16 @@ fn sets_are_limited(rt: HostRuntime) -> Result<(), Fail> {
         run(&mut words, 1, WordRequest::Write(location, 1))?;
     }
     assert_eq!(rt;
-        words.ask(1, WordRequest::Write(4096, 1)),
-        Err(WordRefusal::TooLong)
+        refused(words.ask(1, WordRequest::Write(4096, 1)))?,
+        WordRefusal::TooLong
     );
     assert_eq!(rt;
-        words.ask(1, WordRequest::Write(7, 2)),
-        Ok(Some(WordAnswer::Done))
+        words.ask(1, WordRequest::Write(7, 2))?,
+        Some(WordAnswer::Done)
     );
     assert_eq!(rt;
-        words.ask(1, WordRequest::Read(7)),
-        Ok(Some(WordAnswer::Number(2)))
+        words.ask(1, WordRequest::Read(7))?,
+        Some(WordAnswer::Number(2))
     );
     Ok(())
 }
