@@ -1,4 +1,6 @@
 //! The program over a reader and two writers.
+ghost use Rattle.std.specs.Prelude.{◌≡◌, ◌≤◌};
+
 use clap::error::ErrorKind;
 use clap::{Arg, ArgAction, ArgMatches, Command, Error};
 use seq_model::{Memory, Refusal};
@@ -63,7 +65,9 @@ fn file_in(alloc: Global, matches: &ArgMatches<'_>) -> Result<Option<String>, Me
 }
 
 /// Writes a fault, and answers its status.
-pub fn fault<E: Write>(err: &mut E, status: u8, text: &str) -> u8 {
+pub fn fault<E: Write>(err: &mut E, status: u8, text: &str) -> u8
+    ensures { result ≡ status }
+{
     let _ = writeln!(err, "{text}");
     status
 }
@@ -78,7 +82,9 @@ pub fn run_tool<R: Read, W: Write, E: Write>(
     reader: &mut R,
     out: &mut W,
     err: &mut E,
-) -> u8 {
+) -> u8
+    ensures { result ≤ MEMORY }
+{
     if let Err(error) = matches_of(alloc, words) {
         return refuse_words(out, err, error);
     }
@@ -91,7 +97,9 @@ pub fn run_tool<R: Read, W: Write, E: Write>(
 }
 
 // A wish for help is no fault: its text goes to `out`.
-fn refuse_words<W: Write, E: Write>(out: &mut W, err: &mut E, error: Error) -> u8 {
+fn refuse_words<W: Write, E: Write>(out: &mut W, err: &mut E, error: Error) -> u8
+    ensures { result ≤ MEMORY }
+{
     match error.kind() {
         ErrorKind::OutOfMemory => fault(err, MEMORY, "Memory"),
         ErrorKind::DisplayHelp => match write!(out, "{error}") {
@@ -141,7 +149,9 @@ fn read_file<R: Read>(alloc: Global, reader: &mut R) -> Result<Vec<u8>, ReadFaul
     Ok(text)
 }
 
-fn step<W: Write, E: Write>(alloc: Global, text: &[u8], out: &mut W, err: &mut E) -> u8 {
+fn step<W: Write, E: Write>(alloc: Global, text: &[u8], out: &mut W, err: &mut E) -> u8
+    ensures { result ≤ MEMORY }
+{
     match output_of(alloc, text) {
         Ok(text) => match out.write_all(text.as_slice()) {
             Ok(()) => DONE,
