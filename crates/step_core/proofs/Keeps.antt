@@ -1,8 +1,7 @@
 -- What an actor's own steps keep.
-use Rattle.std.proofs.Common.{Result, Ok, Err, OnOk, IsOk, zero, suc, [], ◌∷◌, ◌++◌, length, ◌≡◌, ℕ, ◌+◌, ◌<◌, ◌≤◌, ◌^◌, ap, sym, refl, subst, arith, ◌∙◌, Vec}
-use Rattle.std.specs.Vec.{vec_len, vec_capacity}
+use Rattle.std.proofs.Common.{Result, Ok, Err, OnOk, IsOk, zero, suc, [], ◌∷◌, ◌++◌, length, ◌≡◌, ℕ, ◌+◌, ◌<◌, ◌^◌, ap, sym, subst, arith, ◌∙◌}
 use Rattle.std.specs.List.{All}
-use Rattle.tx_sets.specs.Entries.{Entries, with_entry}
+use Rattle.tx_sets.specs.Entries.{with_entry}
 use Rattle.tx_sets.proofs.EntryLemmas.{All-with_entry}
 use Rattle.std.specs.VecDeque.{deque_len, deque_capacity}
 use Rattle.std.proofs.lemmas.List.Elements.{All-append}

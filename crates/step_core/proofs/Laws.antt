@@ -1,16 +1,15 @@
 -- The laws of the machine, of the running words.
-use Rattle.std.proofs.Common.{◌≡◌, ℕ, List, [], Option, Some, None, Result, Ok, get_or, refl, sym, ap, ◌∙◌, subst}
-use Rattle.std.specs.Prelude.{IfSome, ◌≢◌}
+use Rattle.std.proofs.Common.{◌≡◌, ℕ, List, [], Option, Result, get_or, sym, ap, ◌∙◌, subst}
+use Rattle.std.specs.Prelude.{IfSome}
 use Rattle.vlock_word.specs.LockWord.{bits, unbits}
-use Rattle.vlock_word.specs.declared.lock_word.LockWord.{LockWord}
 use Rattle.vlock_word.proofs.LockWordLemmas.{bits_unbits}
 use Rattle.tx_sets.specs.Entries.{lookup}
 use Rattle.word_machine.specs.Actor as machine
-use Rattle.word_machine.specs.World.{World, Memory, Record, Step, happens, run, start, in_order}
+use Rattle.word_machine.specs.World.{Memory, Record, Step, happens, run, start, in_order}
 use Rattle.word_machine.specs.Opacity.{IsRun, IsInOrder, IsLegal, IsHalfDone, AllUpto, memory_after, memory_at, upto}
 use Rattle.word_machine.proofs.Invariant.{Inv}
 use Rattle.word_machine.proofs.Schedules.{reached, opened_at, legal_of, serial, all_aborted, actor_saw, words_at_rest, owned, begins_at}
-use Rattle.step_core.specs.Shown.{Shown, actor_in, Shows, Steps, Reached, snapshot_of}
+use Rattle.step_core.specs.Shown.{Shown, actor_in, Steps, Reached, snapshot_of}
 use Rattle.step_core.specs.Opaque.{words_at, IsAtRest, Opaque, Saw, KeepsOthers, BeginsAbove}
 use Rattle.step_core.specs.declared.answer.WordAnswer.{WordAnswer}
 use Rattle.step_core.specs.declared.answer.WordRefusal.{WordRefusal}

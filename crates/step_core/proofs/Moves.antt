@@ -5,7 +5,7 @@ use Rattle.std.specs.Vec.{vec_len, vec_capacity, with_item}
 use Rattle.std.specs.List.{All}
 use Rattle.std.proofs.lemmas.List.{map-set}
 use Rattle.std.proofs.lemmas.List.Elements.{All-set}
-use Rattle.std.proofs.lemmas.Option.{get_or_from_slice_get, slice_get_read}
+use Rattle.std.proofs.lemmas.Option.{get_or_from_slice_get}
 use Rattle.std.proofs.lemmas.Bool.{cases_eq, cond-true, cond-false}
 use Rattle.word_machine.specs.Actor as machine
 use Rattle.word_machine.proofs.Worlds.{stored, left, gives_back, commits, released, undone, closed, stamped, first}

@@ -1,9 +1,8 @@
 -- The words as they open.
-use Rattle.std.proofs.Common.{Result, Ok, Err, IfOk, Vec, Global, ◌≡◌, ℕ, zero, suc, ◌+◌, ◌<◌, ◌≤◌, ◌^◌, List, [], ◌∷◌, ◌++◌, length, map, get_or, refl, sym, ap, ◌∙◌, subst, arith}
-use Rattle.std.specs.Vec.{vec_len, vec_capacity}
+use Rattle.std.proofs.Common.{Result, Ok, Err, IfOk, Vec, Global, ◌≡◌, ℕ, zero, suc, ◌+◌, ◌≤◌, ◌^◌, List, [], ◌∷◌, ◌++◌, length, map, get_or, refl, sym, ap, ◌∙◌, subst, arith}
+use Rattle.std.specs.Vec.{vec_len}
 use Rattle.std.specs.List.{All}
-use Rattle.std.specs.Prelude.{slice_index_or, replicate}
-use Rattle.vlock_word.specs.declared.lock_word.LockWord.TheVariants.{Free}
+use Rattle.std.specs.Prelude.{replicate}
 use Rattle.word_machine.specs.World.{start}
 use Rattle.vlock_word.specs.LockWord.{unbits}
 use Rattle.word_machine.specs.World.{in_order}

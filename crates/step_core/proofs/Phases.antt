@@ -1,13 +1,12 @@
 -- The phase of an actor, and what a request that is not refused says of it.
-use Rattle.std.proofs.Common.{◌≡◌, ℕ, ◌+◌, ◌<◌, ◌≤◌, Bool, true, false, Option, Some, None, List, [], ◌∷◌, length, refl, sym, ap, ◌∙◌, subst, drop, ltb, ltb-true, leb, leb-true, arith, true≢false, get_or}
+use Rattle.std.proofs.Common.{◌≡◌, ℕ, ◌<◌, ◌≤◌, Bool, true, false, Option, Some, None, List, [], ◌∷◌, length, refl, sym, ap, ◌∙◌, subst, drop, ltb-true, leb-true, arith, true≢false}
 use Rattle.std.specs.Prelude.{nat_lt, nat_le, ◌&&◌, if◌then◌else◌, slice_get}
 use Rattle.tx_sets.specs.Entries.{Entries, lookup, locations}
 use Rattle.word_machine.specs.Actor as machine
 use Rattle.word_machine.specs.Requests.{Request, AskBegin, AskLock, AskStore, AskRelease, AskCancel, AskAbort, AskClose, AskRead, AskWrite}
-use Rattle.step_core.specs.Phases.{phase_of, allows, open_phase, undo_phase, wrong_phase, location_refusal, if_new, refusal_at}
+use Rattle.step_core.specs.Phases.{phase_of, allows, undo_phase, wrong_phase, location_refusal, if_new, refusal_at}
 use Rattle.step_core.specs.Shown.{place_of, actor_of, Shown, shown, actor_in, is_actor, refusal_of}
 use Rattle.step_core.specs.Sound.{IsWithin}
-use Rattle.step_core.specs.declared.phase.Phase.{Phase}
 use Rattle.step_core.specs.declared.phase.Phase.TheVariants.{Locking, Locked, Busy, Stored}
 use Rattle.step_core.specs.declared.answer.WordRefusal.{WordRefusal}
 use Rattle.step_core.specs.declared.answer.WordRefusal.TheVariants.{NoSuch}

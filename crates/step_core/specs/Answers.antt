@@ -1,5 +1,5 @@
 -- The requests, answers and refusals of the code, and those of the machine.
-use Rattle.std.specs.Prelude.{ℕ, Option, Some, None, Result, Ok, Err}
+use Rattle.std.specs.Prelude.{Option, Some, None, Result, Ok, Err}
 use Rattle.word_machine.specs.Requests.{Request, AskBegin, AskLock, AskStore, AskRelease, AskCancel, AskAbort, AskClose, AskRead, AskWrite}
 use Rattle.word_machine.specs.Notices as notice
 use Rattle.word_machine.specs.Notices.{Notice}

@@ -1,5 +1,5 @@
 -- What holds of the running words, by whatever schedule they were reached.
-use Rattle.std.specs.Prelude.{◌≡◌, ℕ, ◌≢◌, List, [], Some, get_or}
+use Rattle.std.specs.Prelude.{◌≡◌, ℕ, ◌≢◌, [], Some, get_or}
 use Rattle.tx_sets.specs.Entries.{lookup}
 use Rattle.word_machine.specs.Actor.{Begin, Open}
 use Rattle.word_machine.specs.World.{Memory, run, start, in_order}

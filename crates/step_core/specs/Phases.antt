@@ -1,5 +1,5 @@
 -- Which requests an actor may be asked where it stands, and why the others are refused.
-use Rattle.std.specs.Prelude.{ℕ, Bool, true, false, Option, Some, None, List, [], ◌∷◌, length, nat_lt, nat_le, if◌then◌else◌}
+use Rattle.std.specs.Prelude.{ℕ, Bool, true, false, Option, Some, None, [], ◌∷◌, length, nat_lt, if◌then◌else◌}
 use Rattle.tx_sets.specs.Entries.{Entries, lookup}
 use Rattle.word_machine.specs.Actor.{Place, Actor}
 use Rattle.word_machine.specs.Actor as machine

@@ -1,5 +1,5 @@
 -- A request is answered by the time that its steps are done.
-use Rattle.std.proofs.Common.{◌≡◌, ℕ, suc, ◌+◌, ◌*◌, ◌<◌, ◌≤◌, Bool, true, false, cond, eqb, ltb, leb, Option, Some, None, List, [], ◌∷◌, ◌⊎◌, inl, inr, length, refl, sym, ap, ◌∙◌, subst, arith}
+use Rattle.std.proofs.Common.{◌≡◌, ℕ, ◌+◌, ◌<◌, ◌≤◌, Bool, true, false, eqb, ltb, leb, Option, Some, None, List, [], ◌∷◌, ◌⊎◌, inl, inr, length, refl, sym, ap, ◌∙◌, subst, arith}
 use Rattle.std.specs.Prelude.{if◌then◌else◌}
 use Rattle.std.proofs.lemmas.Bool.{cond-true, cond-false, cases_eq}
 use Rattle.std.proofs.Common.{eq-eqb, ne_eqb}
@@ -7,11 +7,11 @@ use Rattle.vlock_word.specs.declared.lock_word.LockWord.{LockWord}
 use Rattle.vlock_word.specs.declared.lock_word.LockWord.TheVariants.{Free, Locked}
 use Rattle.vlock_word.specs.LockWord.{bits}
 use Rattle.tx_sets.specs.Entries.{Entries, lookup, locations}
-use Rattle.word_machine.specs.Actor.{Place, Idle, Begin, Open, Look, Fetch, Again, Lock, Take, Check, Broken, First, Store, Release, Undo, Leave, Close, Actor, goes, opened, has_read, taken, clock_limit}
-use Rattle.word_machine.specs.World.{World, Event, Ask, Step, Deed, Rests, LoadClock, AddToClock, LoadLock, LoadValue, ExchangeLock, StoreValue, StoreLock, does, exchanged, Outcome, GoesOn, Commits, Aborts, noted, plan, outcome, put, now, step, happens, run}
+use Rattle.word_machine.specs.Actor.{Place, Idle, Begin, Open, Look, Fetch, Again, Lock, Take, Check, Broken, First, Store, Release, Undo, Leave, Close, Actor, goes, taken, clock_limit}
+use Rattle.word_machine.specs.World.{World, Event, Ask, Step, Deed, Rests, LoadClock, AddToClock, LoadLock, LoadValue, ExchangeLock, StoreValue, StoreLock, does, exchanged, Outcome, GoesOn, Commits, Aborts, noted, plan, outcome, put, now, step, happens}
 use Rattle.word_machine.specs.Notices.{Notice, Quiet, Moved, Busy, Invalid, Begun, Exhausted, Number, LockedAt, Stored, Released, Cancelled, notice, look_notice, again_notice, lock_notice, take_notice, check_notice, when_none_left, last_notice}
 use Rattle.word_machine.specs.Progress.{steps_left, IsAnswered, steps_of, AsksNothing, IsAnsweredWithin}
-use Rattle.word_machine.proofs.Worlds.{looked, looked_again, to_lock, locked, tried, checked, first, released, undone}
+use Rattle.word_machine.proofs.Worlds.{looked, to_lock, locked, tried, checked, first, released, undone}
 use Rattle.word_machine.proofs.Sets.{put-same, put-other}
 use Rattle.word_machine.proofs.Invariant.{IsSomeEntry, PlaceOk, Inv}
 use Rattle.word_machine.proofs.Schedules.{happens_ok}

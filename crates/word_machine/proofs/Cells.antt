@@ -1,5 +1,5 @@
 -- An atomic step changes no word but the one that it touches, and that one becomes what the step says.
-use Rattle.std.proofs.Common.{None, ◌+◌, ◌*◌, Bool, inl, inr, sym, subst, arith, cond, eq-eqb, ne_eqb}
+use Rattle.std.proofs.Common.{None, ◌+◌, ◌*◌, inl, inr, sym, subst, arith, eq-eqb, ne_eqb}
 use Rattle.std.specs.Prelude.{◌==◌, if◌then◌else◌}
 use Rattle.std.proofs.lemmas.Bool.{cond-true, cond-false, cases_eq}
 use Rattle.std.proofs.Common.{◌≡◌, ℕ, Some, refl, sym, ap, ◌∙◌, eqb}

@@ -1,4 +1,3 @@
-use Rattle.std.proofs.Common.{Result, Ok, Err, OnOk, IsOk}
 use Rattle.step_core.proofs.Keeps.{was_ok}
 use Rattle.step_core.proofs.actor.keep.Goals as goal
 

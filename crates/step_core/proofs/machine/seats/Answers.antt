@@ -1,4 +1,4 @@
-use Rattle.std.proofs.Common.{◌≡◌, ap, sym, ◌∙◌, subst, arith, length, List}
+use Rattle.std.proofs.Common.{ap, sym, ◌∙◌, subst, arith, length, List}
 use Rattle.step_core.specs.Blank.{AreBlank}
 use Rattle.step_core.specs.declared.actor.Actor.{Actor}
 use Rattle.step_core.proofs.Openings.{AreBlank-push, length_push}

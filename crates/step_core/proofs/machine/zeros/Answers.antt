@@ -1,6 +1,3 @@
-use Rattle.std.proofs.Common.{◌≡◌, ℕ, Result, Ok, Err, IfOk, sym, subst}
-use Rattle.std.specs.Prelude.{replicate}
-use Rattle.step_core.specs.Blank.{AreZero}
 use Rattle.step_core.proofs.Openings.{all_zero}
 use Rattle.step_core.proofs.machine.zeros.Goals as goal
 

@@ -1,5 +1,5 @@
-use Rattle.std.proofs.Common.{◌≡◌, ℕ, refl}
-use Rattle.step_core.proofs.Keeps.{lock_keeps, read_keeps, take_keeps}
+use Rattle.std.proofs.Common.{refl}
+use Rattle.step_core.proofs.Keeps.{read_keeps}
 use Rattle.step_core.proofs.actor.Actor.again.Goals as goal
 
 pub returns-in-Free-clause-keeps : goal.returns-in-Free-clause-keeps

@@ -1,5 +1,4 @@
-use Rattle.std.proofs.Common.{◌≡◌, refl, ap, ◌∙◌}
-use Rattle.tx_sets.specs.Entries.{with_entry}
+use Rattle.std.proofs.Common.{refl}
 use Rattle.step_core.specs.declared.actor.Actor.{Actor}
 use Rattle.step_core.proofs.Phases.{write_open}
 use Rattle.step_core.proofs.Keeps.{write_fits}

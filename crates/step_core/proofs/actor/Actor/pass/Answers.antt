@@ -1,4 +1,4 @@
-use Rattle.std.proofs.Common.{◌≡◌, ℕ, ◌+◌, arith, ap, sym}
+use Rattle.std.proofs.Common.{◌+◌, arith, ap, sym}
 use Rattle.word_machine.specs.Notices.{LockedAt}
 use Rattle.step_core.specs.Answers.{result_of}
 use Rattle.step_core.proofs.Moves.{none_left, some_left}

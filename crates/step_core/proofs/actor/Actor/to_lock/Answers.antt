@@ -1,5 +1,4 @@
-use Rattle.std.proofs.Common.{◌≡◌, ℕ, refl}
-use Rattle.step_core.proofs.Keeps.{lock_keeps, read_keeps, take_keeps}
+use Rattle.step_core.proofs.Keeps.{lock_keeps}
 use Rattle.step_core.proofs.actor.Actor.to_lock.Goals as goal
 
 pub returns-in-Free-clause-keeps : goal.returns-in-Free-clause-keeps

@@ -1,4 +1,4 @@
-use Rattle.std.proofs.Common.{◌≡◌, ℕ, ◌+◌, ◌≤◌, ◌<◌, Option, Some, Result, Ok, Err, OnOk, OnErr, IfOk, List, refl, sym, ap, ◌∙◌, subst, arith, length, map}
+use Rattle.std.proofs.Common.{◌≡◌, ℕ, Option, Some, Result, Ok, Err, OnOk, OnErr, IfOk, List, refl, ap, ◌∙◌, subst, arith, length, map}
 use Rattle.std.proofs.lemmas.Option.{slice_get_read}
 use Rattle.word_machine.specs.Requests.{Request, ask}
 use Rattle.word_machine.specs.Notices.{reply}

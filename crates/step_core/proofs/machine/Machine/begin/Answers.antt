@@ -1,8 +1,6 @@
-use Rattle.std.proofs.Common.{◌≡◌, ℕ, refl, arith, ◌<◌, ◌∙◌, ap, sym, length, slice_get, Some}
-use Rattle.std.proofs.lemmas.Option.{slice_get_read, get_or_from_slice_get}
-use Rattle.std.specs.Vec.{vec_len}
-use Rattle.step_core.specs.declared.actor.Place.TheVariants.{Begin, Look, Fetch, Again, Lock, Take, Check}
-use Rattle.step_core.proofs.Moves.{some_at, fits_at, begin_steps, look_steps, fetch_steps, again_steps, to_lock_steps, stamp_steps, check_steps, sound_moved, sound_begun, sound_ticked}
+use Rattle.std.proofs.Common.{refl}
+use Rattle.std.proofs.lemmas.Option.{slice_get_read}
+use Rattle.step_core.proofs.Moves.{begin_steps, sound_begun}
 use Rattle.step_core.proofs.machine.Machine.begin.Goals as goal
 
 pub returns-clause-steps : goal.returns-clause-steps

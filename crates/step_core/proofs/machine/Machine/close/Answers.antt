@@ -1,22 +1,18 @@
-use Rattle.std.proofs.Common.{◌≡◌, ℕ, refl, arith, ◌<◌, ◌+◌, ◌*◌, ◌∙◌, ap, sym, subst, length, slice_get, slice_set, set, drop, get_or, Some, List, [], ◌∷◌}
-use Rattle.std.proofs.lemmas.Option.{slice_get_read, get_or_from_slice_get}
-use Rattle.std.specs.Vec.{vec_len}
-use Rattle.word_machine.specs.Notices.{Stored}
-use Rattle.step_core.specs.Answers.{result_of}
+use Rattle.std.proofs.Common.{◌≡◌, refl, ◌∙◌, ap, List}
+use Rattle.std.proofs.lemmas.Option.{slice_get_read}
 use Rattle.step_core.specs.Shown.{call_of}
-use Rattle.step_core.specs.Sound.{due, owed, Fits}
+use Rattle.step_core.specs.Sound.{due, owed}
 use Rattle.std.specs.Prelude.{map}
 use Rattle.step_core.specs.declared.record.WordCall.{WordCall}
 use Rattle.step_core.specs.declared.actor.Actor.{Actor}
-use Rattle.step_core.specs.declared.actor.Place.{Place}
-use Rattle.step_core.specs.declared.actor.Place.TheVariants.{First, Close, Release, Undo}
-use Rattle.step_core.proofs.Moves.{All-at, fits_at, head_tail, one_left, more_left, first_own, first_steps, close_steps, release_steps, undo_steps, undone_all, empty_of, due_here, sound_recorded, sound_locked, plain_fits, length_set, get_or_same, same_at, idle_keeps, sound_moved}
-use Rattle.std.proofs.Common.{vec_items, true, false, eqb-true, eq-eqb}
+use Rattle.step_core.specs.declared.actor.Place.TheVariants.{Close}
+use Rattle.step_core.proofs.Moves.{fits_at, close_steps, due_here, sound_recorded, plain_fits}
+use Rattle.std.proofs.Common.{vec_items, false}
 use Rattle.std.specs.Vec.{with_item}
 use Rattle.word_machine.specs.Actor as machine
 use Rattle.step_core.specs.declared.machine.Machine.{Machine}
 use Rattle.step_core.specs.declared.record.WordRecord.{WordRecord}
-use Rattle.step_core.specs.declared.actor.Place.TheVariants.{Idle, Store}
+use Rattle.step_core.specs.declared.actor.Place.TheVariants.{Idle}
 use Rattle.step_core.proofs.machine.Machine.close.Goals as goal
 
 pub push_reserved-requires : goal.push_reserved-requires

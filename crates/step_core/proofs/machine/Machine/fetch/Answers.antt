@@ -1,8 +1,7 @@
-use Rattle.std.proofs.Common.{◌≡◌, ℕ, refl, arith, ◌<◌, ◌∙◌, ap, sym, length, slice_get, Some}
+use Rattle.std.proofs.Common.{refl, arith}
 use Rattle.std.proofs.lemmas.Option.{slice_get_read, get_or_from_slice_get}
-use Rattle.std.specs.Vec.{vec_len}
-use Rattle.step_core.specs.declared.actor.Place.TheVariants.{Begin, Look, Fetch, Again, Lock, Take, Check}
-use Rattle.step_core.proofs.Moves.{some_at, fits_at, begin_steps, look_steps, fetch_steps, again_steps, to_lock_steps, stamp_steps, check_steps, sound_moved, sound_begun, sound_ticked}
+use Rattle.step_core.specs.declared.actor.Place.TheVariants.{Fetch}
+use Rattle.step_core.proofs.Moves.{some_at, fits_at, fetch_steps, sound_moved}
 use Rattle.step_core.proofs.machine.Machine.fetch.Goals as goal
 
 pub index-value-requires : goal.index-value-requires

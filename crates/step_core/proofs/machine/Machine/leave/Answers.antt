@@ -1,6 +1,5 @@
-use Rattle.std.proofs.Common.{◌≡◌, ℕ, refl, arith, ◌<◌, ◌+◌, ◌∙◌, ap, sym, length, slice_get, Some}
-use Rattle.std.proofs.lemmas.Option.{slice_get_read, get_or_from_slice_get}
-use Rattle.std.specs.Vec.{vec_len}
+use Rattle.std.proofs.Common.{refl}
+use Rattle.std.proofs.lemmas.Option.{slice_get_read}
 use Rattle.step_core.proofs.Moves.{leave_steps, idle_keeps, sound_moved}
 use Rattle.step_core.proofs.machine.Machine.leave.Goals as goal
 

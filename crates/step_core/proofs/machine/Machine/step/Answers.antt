@@ -1,10 +1,7 @@
-use Rattle.std.proofs.Common.{◌≡◌, ℕ, refl, arith, ◌<◌, ◌+◌, ◌∙◌, ap, sym, length, slice_get, Some}
-use Rattle.std.proofs.lemmas.Option.{slice_get_read, get_or_from_slice_get}
-use Rattle.std.specs.Vec.{vec_len}
-use Rattle.tx_sets.specs.Entries.{lookup}
+use Rattle.std.proofs.Common.{refl, arith, ◌∙◌, ap}
+use Rattle.std.proofs.lemmas.Option.{slice_get_read}
 use Rattle.step_core.specs.declared.actor.Actor.{Actor}
-use Rattle.step_core.specs.declared.actor.Place.{Place}
-use Rattle.step_core.proofs.Moves.{checked_all, stored_all, same_at, store_read, sound_restored, leave_steps, idle_keeps, sound_moved}
+use Rattle.step_core.proofs.Moves.{checked_all, stored_all, same_at}
 use Rattle.step_core.proofs.machine.Machine.step.Goals as goal
 
 pub returns-else-i-len-2-clause-steps : goal.returns-else-i-len-2-clause-steps

@@ -1,6 +1,6 @@
-use Rattle.std.proofs.Common.{◌≡◌, ℕ, refl, arith, ◌<◌, ◌+◌, ◌∙◌, ap, sym, length, slice_get, Some}
+use Rattle.std.proofs.Common.{refl, arith, ◌∙◌, ap}
 use Rattle.std.specs.Prelude.{unwrap_or}
-use Rattle.std.proofs.lemmas.Option.{slice_get_read, get_or_from_slice_get}
+use Rattle.std.proofs.lemmas.Option.{slice_get_read}
 use Rattle.tx_sets.specs.Entries.{lookup}
 use Rattle.step_core.specs.declared.actor.Actor.{Actor}
 use Rattle.step_core.proofs.Moves.{same_at, store_read, sound_restored}

@@ -1,10 +1,7 @@
-use Rattle.std.proofs.Common.{◌≡◌, ℕ, refl, arith, ◌<◌, ◌+◌, ◌∙◌, ap, sym, length, slice_get, Some}
-use Rattle.std.proofs.lemmas.Option.{slice_get_read, get_or_from_slice_get}
-use Rattle.std.specs.Vec.{vec_len}
-use Rattle.step_core.specs.Sound.{owed}
-use Rattle.step_core.specs.declared.actor.Place.TheVariants.{Begin, Look, Fetch, Again, Lock, Take, Check}
+use Rattle.std.proofs.Common.{refl, arith, length}
+use Rattle.std.proofs.lemmas.Option.{slice_get_read}
 use Rattle.step_core.specs.Sound.{Fits}
-use Rattle.step_core.proofs.Moves.{All-at, to_lock_read, some_at, fits_at, begin_steps, look_steps, fetch_steps, again_steps, to_lock_steps, stamp_steps, check_steps, take_steps, lose_steps, sound_moved, sound_begun, sound_ticked, sound_locked}
+use Rattle.step_core.proofs.Moves.{All-at, to_lock_read, sound_moved}
 use Rattle.step_core.proofs.machine.Machine.to_lock.Goals as goal
 
 pub returns-clause-steps : goal.returns-clause-steps
