@@ -94,7 +94,7 @@ module _ {V : Type 0} where
       let here = subst (λ (x : Record V). IsLegal x.calls (after_run (take i (run_order rs)) s0)) (sym e.record_is) (subst (IsLegal r.calls) h.1 legal) in (
         subst (λ n. IsRun (take n (run_order rs)) s0) (one_more i) (run_more (run_order rs) i s0 (place, r) e.below h.0 here),
         after ∙ ap (after_calls r.calls) h.1 ∙ ap (λ (x : Record V). after_calls x.calls (after_run (take i (run_order rs)) s0)) (sym e.record_is)
-        ∙ sym (after_run_more (run_order rs) i s0 (place, r) e.below) ∙ ap (λ n. after_run (take n (run_order rs)) s0) (one_more i),
+            ∙ sym (after_run_more (run_order rs) i s0 (place, r) e.below) ∙ ap (λ n. after_run (take n (run_order rs)) s0) (one_more i),
       )
 
   pub record_wrong : (rs : List (Record V)) (ts : List Turn) (i place call : ℕ) (r : Record V) (d : Turn) (s0 s : Contents V) → ts ≡ map turn_of (run_order rs) → i < length ts → (get_or ts i d).2 ≡ place → r ≡ get_or rs place r → RunSoFar rs i s0 s → IsFirstWrong call r.calls s → IsFirstWrongAt place call (run_order rs) s0

@@ -12,7 +12,7 @@ use Rattle.seq_model.proofs.auditing.replay.Goals as goal
 pub offset_bounds-records-place : goal.offset_bounds-records-place
 offset_bounds-records-place g c =
     let below : (get_or c.args.turns.now c.loop-place.place-index (0, false, 0)).2 < length c.args.records.now =
-        place_within c.args.records.now c.args.turns.now c.loop-place.place-index (0, false, 0) c.requires c.loop-place-test.true in
+    place_within c.args.records.now c.args.turns.now c.loop-place.place-index (0, false, 0) c.requires c.loop-place-test.true in
     first_of (search rules, omega arith, grind (arith, common_steps))
 
 pub bounds-records-place : goal.bounds-records-place

@@ -15,5 +15,5 @@ returns g c =
     let all : take c.loop-place.place c.args.records.now ≡ c.args.records.now = take_all c.loop-place.place c.args.records.now (omega arith) in
     record {
       turns = sorted_turns c.loop-place.turns.items c.sort.new.self.items c.in_ok-sort.ensures.sorted c.sort.ensures.stable
-      ∙ ap sort_turns (c.loop-place.invariant ∙ ap (λ l. turns_from 0 l) all) ∙ sym (turns_run_order 0 c.args.records.now);
+          ∙ ap sort_turns (c.loop-place.invariant ∙ ap (λ l. turns_from 0 l) all) ∙ sym (turns_run_order 0 c.args.records.now);
     }
