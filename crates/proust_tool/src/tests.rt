@@ -191,3 +191,5 @@ fn a_write_that_fails(rt: HostRuntime) -> Result<(), Fail> {
     assert_eq!(rt; status, REFUSED);
     Ok(())
 }
+
+mod words;

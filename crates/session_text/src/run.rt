@@ -1,5 +1,6 @@
 //! Runs a script.
 ghost use Rattle.std.specs.Prelude.{◌≡◌, IfOk, IfErr, OnOk};
+ghost use Rattle.step_world.specs.Forms.{opening_in};
 ghost use Rattle.step_world.specs.Traces.{IsSerialTrace};
 ghost use Rattle.session_text.specs.Scripts.{IsOpeningOf, IsRefusedOpening};
 
@@ -85,7 +86,7 @@ struct Runner {
 
 impl Runner {
     fn run_line(&mut self, line: &Line) -> Result<(), Memory>
-        ensures { OnOk result (self.new.world.world.opening ≡ self.old.world.world.opening) }
+        ensures { OnOk result (opening_in self.new.world.world ≡ opening_in self.old.world.world) }
     {
         match line {
             Line::Ask(actor, request) => {
@@ -109,7 +110,7 @@ impl Runner {
 
     // Whether the event told nothing.
     fn happen(&mut self, actor: u32, event: Event<u64>) -> Result<bool, Memory>
-        ensures { OnOk result (self.new.world.world.opening ≡ self.old.world.world.opening) }
+        ensures { OnOk result (opening_in self.new.world.world ≡ opening_in self.old.world.world) }
     {
         let notice = self.world.feed(event)?;
         if let Notice::Quiet = notice {
@@ -121,7 +122,7 @@ impl Runner {
     }
 
     fn ask(&mut self, actor: u32, request: &Request<u64>) -> Result<bool, Memory>
-        ensures { OnOk result (self.new.world.world.opening ≡ self.old.world.world.opening) }
+        ensures { OnOk result (opening_in self.new.world.world ≡ opening_in self.old.world.world) }
     {
         let waited = self.is_waiting(actor);
         let quiet = self.happen(actor, Event::Ask(actor, request.try_copy()?))?;
@@ -131,7 +132,7 @@ impl Runner {
     }
 
     fn steps(&mut self, actor: u32, count: u64) -> Result<(), Memory>
-        ensures { OnOk result (self.new.world.world.opening ≡ self.old.world.world.opening) }
+        ensures { OnOk result (opening_in self.new.world.world ≡ opening_in self.old.world.world) }
     {
         for _ in 0..count {
             if !self.happen(actor, Event::Step(actor))? {
@@ -142,7 +143,7 @@ impl Runner {
     }
 
     fn alternate(&mut self, first: u32, second: u32) -> Result<(), Memory>
-        ensures { OnOk result (self.new.world.world.opening ≡ self.old.world.world.opening) }
+        ensures { OnOk result (opening_in self.new.world.world ≡ opening_in self.old.world.world) }
     {
         let mut actor = first;
         let mut other = second;
