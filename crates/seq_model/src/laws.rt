@@ -1,4 +1,6 @@
 //! What follows from the definitions of runs and audits. The functions compute nothing: their contracts are the laws.
+ghost use Rattle.std.specs.Prelude.{◌≡◌, ◌+◌, ◌^◌};
+ghost use Rattle.seq_model.specs.declared.limits.TheConstants.{COPY_LIMIT, INDEX_LIMIT, CLOCK_LIMIT, CALL_LIMIT, ACTOR_LIMIT};
 ghost use Rattle.seq_model.specs.Laws.{
   CallsDetermineReplies,
   CallsCompose,
@@ -28,4 +30,13 @@ pub fn run_laws<V>()
 pub fn audit_laws<V>()
     ensures run { RunsHaveNoFault V }
     ensures fault { FaultsAreDetermined V }
+{}
+
+/// The limits, as numbers.
+pub fn limit_laws()
+    ensures copies { COPY_LIMIT + 1 ≡ 2 ^ 32 }
+    ensures indexes { INDEX_LIMIT ≡ 2 ^ 62 }
+    ensures clock { CLOCK_LIMIT ≡ 2 ^ 62 }
+    ensures calls { CALL_LIMIT ≡ 2 ^ 12 }
+    ensures actors { ACTOR_LIMIT ≡ 2 ^ 6 }
 {}
