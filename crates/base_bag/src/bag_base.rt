@@ -297,14 +297,21 @@ mod tests {
         BagBase::open(alloc, 2, Held::<u64>::Bag(counts))
     }
 
-    fn footprint(base: &BagBase, op: Op<u64>) -> Result<(LocSet, LocSet), Refusal> {
+    fn footprint<C: Conflict<u64>>(base: &C, op: Op<u64>) -> Result<(LocSet, LocSet), Refusal> {
         let outcome = base.outcome(&op)?;
         Ok((base.reads(&outcome)?, base.writes(&outcome)?))
     }
 
-    // The call, replayed at once.
-    fn call(base: &mut BagBase, op: Op<u64>) -> Result<Reply<u64>, Refusal> {
-        let outcome = base.outcome(&op)?;
+    // The call, replayed at once, with its changes added to a log.
+    fn call(
+        base: &mut BagBase,
+        op: &Op<u64>,
+        log: &mut Changes<u64>,
+    ) -> Result<Reply<u64>, Refusal> {
+        let outcome = base.outcome(op)?;
+        for change in Conflict::<u64>::changes(base, &outcome)?.into_vec() {
+            log.push(change)?;
+        }
         let changes = base.changes(&outcome)?;
         base.prepare(changes.as_slice())?;
         let none = LocSet::empty(base.editions.allocator());
@@ -312,39 +319,53 @@ mod tests {
         Ok(outcome.reply)
     }
 
+    // Adds twice, takes three times, adds twice; gives the log, and whether each was answered as it should be.
+    fn calls_on(base: &mut BagBase, alloc: Global) -> Result<(bool, Changes<u64>), Refusal> {
+        let calls = [
+            (Op::Add(3), Reply::Done),
+            (Op::Add(3), Reply::Done),
+            (Op::Take(3), Reply::Yes),
+            (Op::Take(3), Reply::Yes),
+            (Op::Take(3), Reply::No),
+            (Op::Add(3), Reply::Done),
+            (Op::Add(3), Reply::Done),
+        ];
+        let mut log = Items::new(alloc);
+        let mut answered = true;
+        for (op, reply) in calls.as_slice() {
+            let answer = call(base, op, &mut log)?;
+            answered = answered && answer.same(reply);
+        }
+        Ok((answered, log))
+    }
+
+    fn holds(base: &BagBase, elements: &[(u64, u64)]) -> Result<bool, Memory> {
+        match base.held::<u64>()? {
+            Held::Bag(counts) => Ok(counts.as_slice() == elements),
+            _ => Ok(false),
+        }
+    }
+
     #[test]
     fn takes_what_was_added(rt: HostRuntime) -> Result<(), Fail> {
         let mut base = BagBase::new(rt.alloc(), 1)?;
-        assert!(rt; matches!(call(&mut base, Op::Add(3))?, Reply::Done));
-        assert!(rt; matches!(call(&mut base, Op::Add(3))?, Reply::Done));
-        assert!(rt; matches!(call(&mut base, Op::Take(3))?, Reply::Yes));
-        assert!(rt; matches!(call(&mut base, Op::Take(3))?, Reply::Yes));
-        assert!(rt; matches!(call(&mut base, Op::Take(3))?, Reply::No));
+        let (answered, log) = calls_on(&mut base, rt.alloc())?;
+        assert!(rt; answered);
+        assert_eq!(rt; log.len(), 6);
+        assert!(rt; holds(&base, [(3, 2)].as_slice())?);
         Ok(())
     }
 
     #[test]
-    fn a_replay_keeps_two_equal_adds(rt: HostRuntime) -> Result<(), Fail> {
-        let mut base = BagBase::new(rt.alloc(), 1)?;
-        let mut changes: Changes<u64> = Items::new(rt.alloc());
-        changes.push(Change::Add(3))?;
-        changes.push(Change::Take(3))?;
-        changes.push(Change::Add(3))?;
-        changes.push(Change::Add(3))?;
-        base.prepare(changes.as_slice())?;
-        base.replay(changes, &LocSet::single(rt.alloc(), 0));
-        assert_eq!(rt; base.edition(0), 1);
-        assert_eq!(rt; base.elements.copies(3), 2);
-        Ok(())
-    }
-
-    #[test]
-    fn a_copy_holds_the_same(rt: HostRuntime) -> Result<(), Fail> {
-        let base = holding(rt.alloc(), 3, 2)?;
-        match base.try_copy()?.held::<u64>()? {
-            Held::Bag(counts) => assert_eq!(rt; counts.as_slice(), [(3, 2)].as_slice()),
-            _ => assert!(rt; false, "no multiset"),
-        }
+    fn a_whole_log_raises_its_stripe_once(rt: HostRuntime) -> Result<(), Fail> {
+        let mut base = BagBase::new(rt.alloc(), 2)?;
+        let (_, log) = calls_on(&mut base.try_copy()?, rt.alloc())?;
+        base.prepare(log.as_slice())?;
+        base.replay(log, &LocSet::single(rt.alloc(), 1));
+        let copy = base.try_copy()?;
+        assert_eq!(rt; [base.edition(0), base.edition(1)], [0, 1]);
+        assert_eq!(rt; [copy.edition(0), copy.edition(1)], [0, 1]);
+        assert!(rt; holds(&copy, [(3, 2)].as_slice())?);
         Ok(())
     }
 
@@ -367,9 +388,22 @@ mod tests {
     }
 
     #[test]
-    fn a_full_add_writes_nothing(rt: HostRuntime) -> Result<(), Fail> {
-        let base = holding(rt.alloc(), 3, COPY_LIMIT)?;
-        assert!(rt; matches!(&base.outcome(&Op::<u64>::Add(3))?.reply, Reply::Full));
+    fn counts_the_copies(rt: HostRuntime) -> Result<(), Fail> {
+        let base = holding(rt.alloc(), 3, 2)?;
+        let count = base.outcome(&Op::<u64>::Count(3))?;
+        assert!(rt; matches!(&count.reply, Reply::Number(2)));
+        assert!(rt; base.changes(&count)?.is_empty());
+        assert!(rt; matches!(&base.outcome(&Op::<u64>::Count(5))?.reply, Reply::Number(0)));
+        Ok(())
+    }
+
+    #[test]
+    fn a_full_add_changes_nothing(rt: HostRuntime) -> Result<(), Fail> {
+        let mut base = holding(rt.alloc(), 3, COPY_LIMIT)?;
+        let mut log = Items::new(rt.alloc());
+        assert!(rt; matches!(call(&mut base, &Op::Add(3), &mut log)?, Reply::Full));
+        assert!(rt; log.is_empty());
+        assert!(rt; holds(&base, [(3, COPY_LIMIT)].as_slice())?);
         let (reads, writes) = footprint(&base, Op::Add(3))?;
         assert_eq!(rt; reads.as_slice(), [1].as_slice());
         assert_eq!(rt; writes.as_slice().len(), 0);
@@ -381,8 +415,43 @@ mod tests {
         let alloc = rt.alloc();
         let map: Held<u64> = Held::Map(Entries::new(alloc));
         assert!(rt; matches!(BagBase::open(alloc, 0, map), Err(Refusal::NoSuch)));
-        assert!(rt; matches!(holding(alloc, 3, COPY_LIMIT + 1), Err(Refusal::TooLong)));
-        assert!(rt; matches!(BagBase::new(alloc, 65), Err(Refusal::TooLong)));
+        for stripes in [0, 65].as_slice() {
+            let bag: Held<u64> = Held::Bag(Counts::new(alloc));
+            assert!(rt; matches!(BagBase::open(alloc, *stripes, bag), Err(Refusal::TooLong)));
+            assert!(rt; matches!(BagBase::new(alloc, *stripes), Err(Refusal::TooLong)));
+        }
+        Ok(())
+    }
+
+    #[test]
+    fn refuses_one_copy_too_many(rt: HostRuntime) -> Result<(), Fail> {
+        let mut counts = Counts::new(rt.alloc());
+        counts.set_copies(3, COPY_LIMIT + 1)?;
+        let bag: Held<u64> = Held::Bag(counts);
+        assert!(rt; matches!(BagBase::open(rt.alloc(), 2, bag), Err(Refusal::TooLong)));
+        Ok(())
+    }
+
+    #[test]
+    fn refuses_calls_of_other_kinds(rt: HostRuntime) -> Result<(), Fail> {
+        let base = BagBase::new(rt.alloc(), 64)?;
+        let others: [Op<u64>; 12] = [
+            Op::Read,
+            Op::Write(1),
+            Op::Get(1),
+            Op::Put(1, 1),
+            Op::Remove(1),
+            Op::Len,
+            Op::Least,
+            Op::Insert(1),
+            Op::TakeLeast,
+            Op::Enqueue(1),
+            Op::Dequeue,
+            Op::Peek,
+        ];
+        for op in others.as_slice() {
+            assert!(rt; matches!(base.outcome(op), Err(Refusal::NoSuch)));
+        }
         Ok(())
     }
 }

@@ -310,7 +310,7 @@ mod tests {
         Ok(())
     }
 
-    fn footprint(base: &MapBase<u64>, op: Op<u64>) -> Result<(LocSet, LocSet), Refusal> {
+    fn footprint<C: Conflict<u64>>(base: &C, op: Op<u64>) -> Result<(LocSet, LocSet), Refusal> {
         let outcome = base.outcome(&op)?;
         Ok((base.reads(&outcome)?, base.writes(&outcome)?))
     }
@@ -336,6 +336,7 @@ mod tests {
     #[test]
     fn len_reads_every_stripe(rt: HostRuntime) -> Result<(), Fail> {
         let base = MapBase::open(rt.alloc(), 9, two_puts(rt.alloc())?.held()?)?;
+        assert!(rt; matches!(&base.outcome(&Op::Len)?.reply, Reply::Number(2)));
         let (reads, writes) = footprint(&base, Op::Len)?;
         assert_eq!(rt; reads.as_slice().len(), 9);
         assert_eq!(rt; writes.as_slice().len(), 0);
@@ -343,11 +344,52 @@ mod tests {
     }
 
     #[test]
+    fn answers_from_what_it_holds(rt: HostRuntime) -> Result<(), Fail> {
+        let base = two_puts(rt.alloc())?;
+        let get = base.outcome(&Op::Get(3))?;
+        assert!(rt; matches!(&get.reply, Reply::Value(30)));
+        assert!(rt; base.changes(&get)?.is_empty());
+        assert!(rt; matches!(&base.outcome(&Op::Get(4))?.reply, Reply::Nothing));
+        Ok(())
+    }
+
+    fn outcome_and_changes<C: Conflict<u64>>(
+        base: &C,
+        op: Op<u64>,
+    ) -> Result<(Outcome<u64>, Changes<u64>), Refusal> {
+        let outcome = base.outcome(&op)?;
+        let changes = base.changes(&outcome)?;
+        Ok((outcome, changes))
+    }
+
+    #[test]
+    fn a_put_changes_its_key(rt: HostRuntime) -> Result<(), Fail> {
+        let base = two_puts(rt.alloc())?;
+        let (put, changes) = outcome_and_changes(&base, Op::Put(1, 11))?;
+        assert!(rt; matches!(&put.reply, Reply::Value(10)));
+        assert!(rt; matches!(changes.as_slice(), [Change::Put(1, 11)]));
+        Ok(())
+    }
+
+    #[test]
     fn a_remove_changes_its_key(rt: HostRuntime) -> Result<(), Fail> {
         let base = two_puts(rt.alloc())?;
-        let remove = base.outcome(&Op::Remove(3))?;
+        let (remove, changes) = outcome_and_changes(&base, Op::Remove(3))?;
         assert!(rt; matches!(&remove.reply, Reply::Value(30)));
-        assert!(rt; matches!(base.changes(&remove)?.as_slice(), [Change::Remove(3)]));
+        assert!(rt; matches!(changes.as_slice(), [Change::Remove(3)]));
+        Ok(())
+    }
+
+    #[test]
+    fn a_replay_removes_what_is_there(rt: HostRuntime) -> Result<(), Fail> {
+        let mut base = two_puts(rt.alloc())?;
+        let (_, changes) = outcome_and_changes(&base, Op::Remove(1))?;
+        base.prepare(changes.as_slice())?;
+        base.replay(changes, &LocSet::empty(rt.alloc()));
+        match base.held()? {
+            Held::Map(map) => assert_eq!(rt; map.as_slice(), [(3, 30)].as_slice()),
+            _ => assert!(rt; false, "no map"),
+        }
         Ok(())
     }
 
@@ -356,10 +398,33 @@ mod tests {
         let alloc = rt.alloc();
         let bag: Held<u64> = Held::Bag(Counts::new(alloc));
         assert!(rt; matches!(MapBase::open(alloc, 0, bag), Err(Refusal::NoSuch)));
-        let map: Held<u64> = Held::Map(Entries::new(alloc));
-        assert!(rt; matches!(MapBase::open(alloc, 65, map), Err(Refusal::TooLong)));
-        let base = MapBase::<u64>::new(alloc, 64)?;
-        assert!(rt; matches!(base.outcome(&Op::Count(1)), Err(Refusal::NoSuch)));
+        for stripes in [0, 65].as_slice() {
+            let map: Held<u64> = Held::Map(Entries::new(alloc));
+            assert!(rt; matches!(MapBase::open(alloc, *stripes, map), Err(Refusal::TooLong)));
+            assert!(rt; matches!(MapBase::<u64>::new(alloc, *stripes), Err(Refusal::TooLong)));
+        }
+        Ok(())
+    }
+
+    #[test]
+    fn refuses_calls_of_other_kinds(rt: HostRuntime) -> Result<(), Fail> {
+        let base = MapBase::<u64>::new(rt.alloc(), 64)?;
+        let others = [
+            Op::Read,
+            Op::Write(1),
+            Op::Count(1),
+            Op::Add(1),
+            Op::Take(1),
+            Op::Least,
+            Op::Insert(1),
+            Op::TakeLeast,
+            Op::Enqueue(1),
+            Op::Dequeue,
+            Op::Peek,
+        ];
+        for op in others.as_slice() {
+            assert!(rt; matches!(base.outcome(op), Err(Refusal::NoSuch)));
+        }
         Ok(())
     }
 }

@@ -309,29 +309,149 @@ impl<V: Value> Conflict<V> for QueueBase {
 mod tests {
     use super::*;
     use conflict::conflicts;
-    use seq_model::{Counts, QueueItems};
+    use seq_model::{Call, Counts, QueueItems, State};
     use std::test::Fail;
+
+    fn queue(alloc: Global, head: u64, items: &[u64]) -> Result<Held<u64>, Memory> {
+        let items = QueueItems::from_vec(Vec::from_slice(alloc, items)?);
+        Ok(Held::Queue { head, items })
+    }
 
     // A queue of stripes whose first item, 8, has index 5.
     fn holding_8(alloc: Global, stripes: u32) -> Result<QueueBase, Refusal> {
-        let mut items = QueueItems::new(alloc);
-        items.push(8)?;
-        QueueBase::open(alloc, stripes, Held::<u64>::Queue { head: 5, items })
+        QueueBase::open(alloc, stripes, queue(alloc, 5, [8].as_slice())?)
     }
 
-    fn footprint(base: &QueueBase, op: Op<u64>) -> Result<(LocSet, LocSet), Refusal> {
+    fn footprint<C: Conflict<u64>>(base: &C, op: Op<u64>) -> Result<(LocSet, LocSet), Refusal> {
         let outcome = base.outcome(&op)?;
         Ok((base.reads(&outcome)?, base.writes(&outcome)?))
     }
 
-    // The call, replayed at once.
-    fn call(base: &mut QueueBase, op: Op<u64>) -> Result<Reply<u64>, Refusal> {
+    fn changes_of<C: Conflict<u64>>(base: &C, op: Op<u64>) -> Result<Changes<u64>, Refusal> {
         let outcome = base.outcome(&op)?;
+        Ok(base.changes(&outcome)?)
+    }
+
+    // The call, replayed at once.
+    fn call(base: &mut QueueBase, op: &Op<u64>) -> Result<Reply<u64>, Refusal> {
+        let outcome = base.outcome(op)?;
         let changes = base.changes(&outcome)?;
         base.prepare(changes.as_slice())?;
         let none = LocSet::empty(base.editions.allocator());
         base.replay(changes, &none);
         Ok(outcome.reply)
+    }
+
+    fn state_of(alloc: Global, held: Held<u64>) -> Result<State<u64>, Refusal> {
+        let mut collections = Vec::new(alloc);
+        collections.push(held)?;
+        State::new(Vec::new(alloc), collections)
+    }
+
+    // Whether the calls are answered as by the sequential model, and leave the same.
+    fn follows(
+        base: &mut QueueBase,
+        state: &mut State<u64>,
+        ops: &[Op<u64>],
+    ) -> Result<bool, Refusal> {
+        for op in ops {
+            let asked = Call {
+                target: 0,
+                op: op.try_copy()?,
+            };
+            let reply = state.apply(&asked)?;
+            if !call(base, op)?.same(&reply) {
+                return Ok(false);
+            }
+        }
+        let left = base.held()?;
+        Ok(state.held().iter().all(|held| held.same(&left)))
+    }
+
+    // The same in one stripe, in two and in three.
+    fn follows_in_all(
+        alloc: Global,
+        head: u64,
+        items: &[u64],
+        ops: &[Op<u64>],
+    ) -> Result<bool, Refusal> {
+        for stripes in 1..4 {
+            let mut base = QueueBase::open(alloc, stripes, queue(alloc, head, items)?)?;
+            let mut state = state_of(alloc, queue(alloc, head, items)?)?;
+            if !follows(&mut base, &mut state, ops)? {
+                return Ok(false);
+            }
+        }
+        Ok(true)
+    }
+
+    #[test]
+    fn follows_the_model_round_the_cells(rt: HostRuntime) -> Result<(), Fail> {
+        let ops = [
+            Op::Enqueue(1),
+            Op::Enqueue(2),
+            Op::Dequeue,
+            Op::Enqueue(3),
+            Op::Peek,
+            Op::Enqueue(4),
+            Op::Dequeue,
+            Op::Len,
+        ];
+        assert!(rt; follows_in_all(rt.alloc(), 0, [].as_slice(), ops.as_slice())?);
+        Ok(())
+    }
+
+    #[test]
+    fn follows_the_model_from_a_later_head(rt: HostRuntime) -> Result<(), Fail> {
+        let ops = [
+            Op::Dequeue,
+            Op::Dequeue,
+            Op::Enqueue(1),
+            Op::Len,
+            Op::Dequeue,
+            Op::Dequeue,
+            Op::Peek,
+            Op::Enqueue(2),
+        ];
+        assert!(rt; follows_in_all(rt.alloc(), 5, [8, 7, 8, 9].as_slice(), ops.as_slice())?);
+        Ok(())
+    }
+
+    #[test]
+    fn follows_the_model_past_its_last_item(rt: HostRuntime) -> Result<(), Fail> {
+        let ops = [
+            Op::Len,
+            Op::Peek,
+            Op::Dequeue,
+            Op::Dequeue,
+            Op::Peek,
+            Op::Enqueue(1),
+            Op::Dequeue,
+            Op::Dequeue,
+            Op::Len,
+        ];
+        assert!(rt; follows_in_all(rt.alloc(), 0, [].as_slice(), ops.as_slice())?);
+        assert!(rt; follows_in_all(rt.alloc(), 4, [3].as_slice(), ops.as_slice())?);
+        Ok(())
+    }
+
+    #[test]
+    fn follows_the_model_up_to_the_last_index(rt: HostRuntime) -> Result<(), Fail> {
+        let ops = [
+            Op::Enqueue(1),
+            Op::Enqueue(2),
+            Op::Len,
+            Op::Dequeue,
+            Op::Dequeue,
+            Op::Dequeue,
+            Op::Enqueue(3),
+            Op::Peek,
+            Op::Len,
+        ];
+        let alloc = rt.alloc();
+        assert!(rt; follows_in_all(alloc, INDEX_LIMIT - 2, [8].as_slice(), ops.as_slice())?);
+        assert!(rt; follows_in_all(alloc, INDEX_LIMIT, [].as_slice(), ops.as_slice())?);
+        Ok(())
     }
 
     #[test]
@@ -355,21 +475,25 @@ mod tests {
     }
 
     #[test]
-    fn items_go_in_order_round_the_stripes(rt: HostRuntime) -> Result<(), Fail> {
+    fn changes_the_cell_of_its_index(rt: HostRuntime) -> Result<(), Fail> {
+        let base = holding_8(rt.alloc(), 2)?;
+        let enqueue = changes_of(&base, Op::Enqueue(9))?;
+        assert!(rt; matches!(enqueue.as_slice(), [Change::Enqueue(6, 9)]));
+        let dequeue = changes_of(&base, Op::Dequeue)?;
+        assert!(rt; matches!(dequeue.as_slice(), [Change::Dequeue(5)]));
+        assert!(rt; changes_of(&base, Op::Peek)?.is_empty());
+        assert!(rt; changes_of(&base, Op::Len)?.is_empty());
+        Ok(())
+    }
+
+    #[test]
+    fn a_copy_holds_the_same(rt: HostRuntime) -> Result<(), Fail> {
         let mut base = holding_8(rt.alloc(), 2)?;
-        for item in 10..13 {
-            assert!(rt; matches!(call(&mut base, Op::Enqueue(item))?, Reply::Done));
-        }
-        assert!(rt; matches!(call(&mut base, Op::Dequeue)?, Reply::Found(8)));
-        assert!(rt; matches!(call(&mut base, Op::Peek)?, Reply::Found(10)));
-        assert!(rt; matches!(call(&mut base, Op::Len)?, Reply::Number(3)));
-        match base.try_copy()?.held::<u64>()? {
-            Held::Queue { head, items } => {
-                assert_eq!(rt; head, 6);
-                assert_eq!(rt; items.into_vec().as_slice(), [10, 11, 12].as_slice());
-            }
-            _ => assert!(rt; false, "no queue"),
-        }
+        assert!(rt; matches!(call(&mut base, &Op::Enqueue(9))?, Reply::Done));
+        let mut copy = base.try_copy()?;
+        assert!(rt; matches!(call(&mut copy, &Op::Dequeue)?, Reply::Found(8)));
+        assert!(rt; copy.held()?.same(&queue(rt.alloc(), 6, [9].as_slice())?));
+        assert!(rt; base.held()?.same(&queue(rt.alloc(), 5, [8, 9].as_slice())?));
         Ok(())
     }
 
@@ -378,19 +502,17 @@ mod tests {
         let base = QueueBase::new(rt.alloc(), 3)?;
         let dequeue = base.outcome(&Op::<u64>::Dequeue)?;
         assert!(rt; matches!(&dequeue.reply, Reply::Nothing));
-        assert_eq!(rt; base.reads(&dequeue)?.as_slice(), [0, 2].as_slice());
-        assert_eq!(rt; base.writes(&dequeue)?.as_slice().len(), 0);
+        let (reads, writes) = footprint(&base, Op::Dequeue)?;
+        assert_eq!(rt; reads.as_slice(), [0, 2].as_slice());
+        assert_eq!(rt; writes.as_slice().len(), 0);
         Ok(())
     }
 
     #[test]
     fn is_full_at_the_last_index(rt: HostRuntime) -> Result<(), Fail> {
-        let items = QueueItems::new(rt.alloc());
-        let held = Held::<u64>::Queue {
-            head: INDEX_LIMIT,
-            items,
-        };
+        let held = queue(rt.alloc(), INDEX_LIMIT, [].as_slice())?;
         let base = QueueBase::open(rt.alloc(), 1, held)?;
+        assert!(rt; matches!(&base.outcome(&Op::<u64>::Enqueue(1))?.reply, Reply::Full));
         let (reads, writes) = footprint(&base, Op::Enqueue(1))?;
         assert_eq!(rt; reads.as_slice(), [1].as_slice());
         assert_eq!(rt; writes.as_slice().len(), 0);
@@ -404,13 +526,23 @@ mod tests {
         changes.push(Change::Enqueue(0, 7))?;
         base.prepare(changes.as_slice())?;
         base.replay(changes, &LocSet::pair(rt.alloc(), 1, 2));
-        let editions = [
-            base.edition(0),
-            base.edition(1),
-            base.edition(2),
-            base.edition(3),
-        ];
-        assert_eq!(rt; editions, [0, 1, 1, 0]);
+        let copy = base.try_copy()?;
+        assert_eq!(rt; [copy.edition(0), copy.edition(1)], [0, 1]);
+        assert_eq!(rt; [copy.edition(2), copy.edition(3)], [1, 0]);
+        Ok(())
+    }
+
+    // A dequeue of an item whose enqueue waits for its replay.
+    #[test]
+    fn answers_what_is_stored_between_two_replays(rt: HostRuntime) -> Result<(), Fail> {
+        let mut base = holding_8(rt.alloc(), 2)?;
+        let mut changes: Changes<u64> = Items::new(rt.alloc());
+        changes.push(Change::Dequeue(7))?;
+        base.prepare(changes.as_slice())?;
+        base.replay(changes, &LocSet::empty(rt.alloc()));
+        assert!(rt; matches!(&base.outcome(&Op::<u64>::Peek)?.reply, Reply::Nothing));
+        assert!(rt; matches!(&base.outcome(&Op::<u64>::Len)?.reply, Reply::Number(0)));
+        assert!(rt; base.held()?.same(&queue(rt.alloc(), 8, [8].as_slice())?));
         Ok(())
     }
 
@@ -419,12 +551,48 @@ mod tests {
         let alloc = rt.alloc();
         let bag: Held<u64> = Held::Bag(Counts::new(alloc));
         assert!(rt; matches!(QueueBase::open(alloc, 0, bag), Err(Refusal::NoSuch)));
-        let past: Held<u64> = Held::Queue {
-            head: INDEX_LIMIT + 1,
-            items: QueueItems::new(alloc),
-        };
+        for stripes in [0, 65].as_slice() {
+            let empty = queue(alloc, 0, [].as_slice())?;
+            assert!(rt;
+                matches!(
+                    QueueBase::open(alloc, *stripes, empty),
+                    Err(Refusal::TooLong)
+                )
+            );
+            assert!(rt; matches!(QueueBase::new(alloc, *stripes), Err(Refusal::TooLong)));
+        }
+        Ok(())
+    }
+
+    #[test]
+    fn refuses_indexes_past_the_limit(rt: HostRuntime) -> Result<(), Fail> {
+        let alloc = rt.alloc();
+        let past = queue(alloc, INDEX_LIMIT + 1, [].as_slice())?;
         assert!(rt; matches!(QueueBase::open(alloc, 1, past), Err(Refusal::TooLong)));
-        assert!(rt; matches!(QueueBase::new(alloc, 65), Err(Refusal::TooLong)));
+        let long = queue(alloc, INDEX_LIMIT - 1, [8, 9].as_slice())?;
+        assert!(rt; matches!(QueueBase::open(alloc, 1, long), Err(Refusal::TooLong)));
+        Ok(())
+    }
+
+    #[test]
+    fn refuses_calls_of_other_kinds(rt: HostRuntime) -> Result<(), Fail> {
+        let base = QueueBase::new(rt.alloc(), 64)?;
+        let others: [Op<u64>; 11] = [
+            Op::Read,
+            Op::Write(1),
+            Op::Get(1),
+            Op::Put(1, 1),
+            Op::Remove(1),
+            Op::Count(1),
+            Op::Add(1),
+            Op::Take(1),
+            Op::Least,
+            Op::Insert(1),
+            Op::TakeLeast,
+        ];
+        for op in others.as_slice() {
+            assert!(rt; matches!(base.outcome(op), Err(Refusal::NoSuch)));
+        }
         Ok(())
     }
 }

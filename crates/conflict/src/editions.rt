@@ -86,4 +86,12 @@ mod tests {
         assert_eq!(rt; copy.edition(2), 1);
         Ok(())
     }
+
+    #[test]
+    fn opens_with_none_raised(rt: HostRuntime) -> Result<(), Fail> {
+        let editions = Editions::new(rt.alloc(), 2)?;
+        assert_eq!(rt; editions.edition(0), 0);
+        assert_eq!(rt; editions.edition(1), 0);
+        Ok(())
+    }
 }
