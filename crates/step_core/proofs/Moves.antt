@@ -1,5 +1,5 @@
 -- Steps of the running words are steps of the machine.
-use Rattle.std.proofs.Common.{◌≡◌, ℕ, zero, suc, ◌+◌, ◌<◌, ◌≤◌, ◌^◌, List, [], ◌∷◌, ◌++◌, Some, None, Ok, Err, IfOk, OnErr, Option, Result, length, map, get_or, set, refl, sym, ap, ◌∙◌, subst, inl, inr, arith, drop, Bool, true, false, ltb, ltb-true, eqb, eq-eqb, ne_eqb, ◌*◌, get_or-set_same, get_or-set_other}
+use Rattle.std.proofs.Common.{◌≡◌, ◌⊎◌, ℕ, zero, suc, ◌+◌, ◌<◌, ◌≤◌, ◌^◌, List, [], ◌∷◌, ◌++◌, Some, None, Ok, Err, IfOk, OnErr, Option, Result, length, map, get_or, set, refl, sym, ap, ◌∙◌, subst, inl, inr, arith, drop, Bool, true, false, ltb, ltb-true, eqb, eq-eqb, ne_eqb, ◌*◌, get_or-set_same, get_or-set_other}
 use Rattle.std.specs.Prelude.{unwrap_or, slice_get, slice_set, nat_lt, if◌then◌else◌}
 use Rattle.std.specs.Vec.{vec_len, vec_capacity, with_item}
 use Rattle.std.specs.List.{All}
@@ -9,7 +9,7 @@ use Rattle.std.proofs.lemmas.Option.{get_or_from_slice_get}
 use Rattle.std.proofs.lemmas.Bool.{cases_eq, cond-true, cond-false}
 use Rattle.word_machine.specs.Actor as machine
 use Rattle.word_machine.proofs.Worlds.{stored, left, gives_back, commits, released, undone, closed, stamped, first}
-use Rattle.tx_sets.specs.Entries.{Entries}
+use Rattle.tx_sets.specs.Entries.{Entries, IsRising}
 use Rattle.word_machine.specs.World as world
 use Rattle.word_machine.specs.Requests.{Request}
 use Rattle.vlock_word.specs.declared.lock_word.LockWord.{LockWord}
@@ -17,8 +17,8 @@ use Rattle.vlock_word.specs.declared.lock_word.LockWord.TheVariants.{Free, Locke
 use Rattle.vlock_word.specs.LockWord.{bits}
 use Rattle.tx_sets.specs.Entries.{locations, lookup}
 use Rattle.word_machine.specs.Actor.{goes}
-use Rattle.word_machine.specs.Requests.{ask}
-use Rattle.word_machine.specs.World.{World, Ask, Event, Step, happens, run, start, step, put, now}
+use Rattle.word_machine.specs.Requests.{ask, AskBegin, AskLock, AskStore, AskRelease, AskCancel, AskAbort, AskClose, AskRead, AskWrite}
+use Rattle.word_machine.specs.World.{World, Ask, Event, Step, Outcome, GoesOn, outcome, first_outcome, happens, run, start, step, put, now}
 use Rattle.word_machine.proofs.Worlds.{tried, locked, looked, looked_again, to_lock, checked}
 use Rattle.word_machine.specs.Notices.{Notice, LockedAt, Quiet, Busy, NoTransaction, Stored, Released, Cancelled, last_notice, take_notice, when_none_left, reply, notice, look_notice, again_notice, lock_notice, check_notice}
 use Rattle.word_machine.proofs.Sets.{put-same, put-other}
@@ -28,7 +28,7 @@ use Rattle.word_machine.specs.World.{in_order}
 use Rattle.word_machine.specs.Notices.{begin_notice}
 use Rattle.word_machine.specs.World.{blank}
 use Rattle.step_core.specs.Answers.{result_of}
-use Rattle.step_core.specs.Shown.{place_of, actor_of, call_of, record_of, Shown, shown, Shows, Steps, Asks, Reached}
+use Rattle.step_core.specs.Shown.{place_of, actor_of, call_of, record_of, Shown, shown, Shows, Steps, Asks, Lists, listed, Reached}
 use Rattle.step_core.specs.Sound.{FitsPlace, Fits, Keeps, owed, due, total, Sound}
 use Rattle.step_core.specs.declared.answer.WordAnswer.TheVariants as answer
 use Rattle.vlock_word.proofs.LockWordLemmas.{bits_unbits, unbits_free, unbits_locked}
@@ -102,39 +102,43 @@ step_of s a x p e q = ap (λ (z : machine.Actor). step s a z z.place) e ∙ ap (
 pub notice_of : (s : World) (a : ℕ) (x : Actor) (p : Place) → s.actors a ≡ actor_of x → x.place ≡ p → notice s (s.actors a) (s.actors a).place ≡ notice s (actor_of x) (place_of x.reads.entries x.writes.entries p)
 notice_of s a x p e q = ap (λ (z : machine.Actor). notice s z z.place) e ∙ ap (λ (z : Place). notice s (actor_of x) (place_of x.reads.entries x.writes.entries z)) q
 
+pub outcome_of : (s : World) (a : ℕ) (x : Actor) (p : Place) → s.actors a ≡ actor_of x → x.place ≡ p → outcome a (s.actors a) (s.actors a).place ≡ outcome a (actor_of x) (place_of x.reads.entries x.writes.entries p)
+outcome_of s a x p e q = ap (λ (z : machine.Actor). outcome a z z.place) e ∙ ap (λ (z : Place). outcome a (actor_of x) (place_of x.reads.entries x.writes.entries z)) q
+
 -- a step that changes the actor's own record alone
 pub steps_moved : (w : Machine) (a : ℕ) (x y : Actor) (p : Place) (r : Answer) → slice_get w.actors.items a ≡ Some x → x.place ≡ p
     → ((s : World) → Shows (shown w) s → step s a (actor_of x) (place_of x.reads.entries x.writes.entries p) ≡ now s a (actor_of y))
     → ((s : World) → Shows (shown w) s → r ≡ result_of (notice s (actor_of x) (place_of x.reads.entries x.writes.entries p)))
-    → Steps (shown w) a (shown (moved w a y)) r
-steps_moved w a x y p r got at_p turn says s h = (
+    → outcome a (actor_of x) (place_of x.reads.entries x.writes.entries p) ≡ GoesOn → Steps (shown w) a (shown (moved w a y)) r
+steps_moved w a x y p r got at_p turn says on s h = (
   subst (Shows (shown (moved w a y))) (sym (step_of s a x p (actor_at w s a x h got) at_p ∙ turn s h)) (shows_moved w s a x y h got),
   says s h ∙ ap result_of (sym (notice_of s a x p (actor_at w s a x h got) at_p)),
+  (refl, sym (ap (listed (map record_of w.history.items)) (outcome_of s a x p (actor_at w s a x h got) at_p ∙ on))),
 )
 
 pub begin_steps : (w : Machine) (a : ℕ) (x y : Actor) (r : Answer) → slice_get w.actors.items a ≡ Some x → x.place ≡ Begin
     → actor_of y ≡ begun (actor_of x) w.clock → r ≡ result_of (begin_notice w.clock) → Steps (shown w) a (shown (moved w a y)) r
 begin_steps w a x y r got at_p own says = steps_moved w a x y Begin r got at_p
     (λ s h. ap (λ (c : ℕ). now s a (begun (actor_of x) c)) h.clock ∙ ap (now s a) (sym own))
-    (λ s h. says ∙ ap (λ (c : ℕ). result_of (begin_notice c)) (sym h.clock))
+    (λ s h. says ∙ ap (λ (c : ℕ). result_of (begin_notice c)) (sym h.clock)) refl
 
 pub look_steps : (w : Machine) (a : ℕ) (x y : Actor) (r : Answer) (l word : ℕ) → slice_get w.actors.items a ≡ Some x → x.place ≡ Look l → get_or w.locks.items l 0 ≡ word
     → actor_of y ≡ seen (actor_of x) l (unbits word) → r ≡ result_of (look_notice x.rv l (unbits word)) → Steps (shown w) a (shown (moved w a y)) r
 look_steps w a x y r l word got at_p found own says = steps_moved w a x y (Look l) r got at_p
     (λ s h. ap (looked s a (actor_of x) l) (h.locks l ∙ ap unbits found) ∙ ap (now s a) (sym own))
-    (λ s h. says ∙ ap (λ (z : LockWord). result_of (look_notice x.rv l z)) (sym (h.locks l ∙ ap unbits found)))
+    (λ s h. says ∙ ap (λ (z : LockWord). result_of (look_notice x.rv l z)) (sym (h.locks l ∙ ap unbits found))) refl
 
 pub fetch_steps : (w : Machine) (a : ℕ) (x y : Actor) (r : Answer) (l k value : ℕ) → slice_get w.actors.items a ≡ Some x → x.place ≡ Fetch l k → get_or w.values.items l 0 ≡ value
     → actor_of y ≡ machine.goes (actor_of x) (machine.Again l k value) → r ≡ result_of Quiet → Steps (shown w) a (shown (moved w a y)) r
 fetch_steps w a x y r l k value got at_p found own says = steps_moved w a x y (Fetch l k) r got at_p
     (λ s h. ap (λ (v : ℕ). now s a (machine.goes (actor_of x) (machine.Again l k v))) (h.values l ∙ found) ∙ ap (now s a) (sym own))
-    (λ s h. says)
+    (λ s h. says) refl
 
 pub again_steps : (w : Machine) (a : ℕ) (x y : Actor) (r : Answer) (l k v word : ℕ) → slice_get w.actors.items a ≡ Some x → x.place ≡ Again l k v → get_or w.locks.items l 0 ≡ word
     → actor_of y ≡ seen_again (actor_of x) l k v (unbits word) → r ≡ result_of (again_notice l k v (unbits word)) → Steps (shown w) a (shown (moved w a y)) r
 again_steps w a x y r l k v word got at_p found own says = steps_moved w a x y (Again l k v) r got at_p
     (λ s h. ap (looked_again s a (actor_of x) l k v) (h.locks l ∙ ap unbits found) ∙ ap (now s a) (sym own))
-    (λ s h. says ∙ ap (λ (z : LockWord). result_of (again_notice l k v z)) (sym (h.locks l ∙ ap unbits found)))
+    (λ s h. says ∙ ap (λ (z : LockWord). result_of (again_notice l k v z)) (sym (h.locks l ∙ ap unbits found))) refl
 
 -- counts of places, after one actor has changed
 total-set : (f : Place → ℕ) (xs : List Actor) (a : ℕ) (x y : Actor) → slice_get xs a ≡ Some x → total f (slice_set xs a y) + f x.place ≡ total f xs + f y.place
@@ -211,7 +215,7 @@ to_lock_steps w a x y r i l word got at_p inn loc found own says =
     let here : drop i (locations x.writes.entries) ≡ l ∷ drop (i + 1) (locations x.writes.entries) = drop_here x.writes.entries i (0, 0) inn ∙ ap (λ (n : ℕ). n ∷ drop (i + 1) (locations x.writes.entries)) loc in
     steps_moved w a x y (Lock i) r got at_p
     (λ s h. ap (λ (ls : List ℕ). step s a (actor_of x) (machine.Lock ls)) here ∙ ap (to_lock s a (actor_of x) l (drop (i + 1) (locations x.writes.entries))) (h.locks l ∙ ap unbits found) ∙ ap (now s a) (sym own))
-    (λ s h. says ∙ ap (λ (z : LockWord). result_of (lock_notice l z)) (sym (h.locks l ∙ ap unbits found)) ∙ ap (λ (ls : List ℕ). result_of (notice s (actor_of x) (machine.Lock ls))) (sym here))
+    (λ s h. says ∙ ap (λ (z : LockWord). result_of (lock_notice l z)) (sym (h.locks l ∙ ap unbits found)) ∙ ap (λ (ls : List ℕ). result_of (notice s (actor_of x) (machine.Lock ls))) (sym here)) refl
 
 pub check_steps : (w : Machine) (a : ℕ) (x y : Actor) (r : Answer) (i l word : ℕ) → slice_get w.actors.items a ≡ Some x → x.place ≡ Check i → i < length x.reads.entries → (get_or x.reads.entries i (0, 0)).0 ≡ l → get_or w.locks.items l 0 ≡ word
     → actor_of y ≡ seen_in_check (actor_of x) (drop (i + 1) (locations x.reads.entries)) (unbits word) (lookup x.writes.entries l)
@@ -221,15 +225,16 @@ check_steps w a x y r i l word got at_p inn loc found own says =
     steps_moved w a x y (Check i) r got at_p
     (λ s h. ap (λ (ls : List ℕ). step s a (actor_of x) (machine.Check ls)) here ∙ ap (λ (z : LockWord). checked s a (actor_of x) l (drop (i + 1) (locations x.reads.entries)) z (lookup x.writes.entries l)) (h.locks l ∙ ap unbits found) ∙ ap (now s a) (sym own))
     (λ s h. says ∙ ap (λ (z : LockWord). result_of (check_notice x.rv x.wv l (drop (i + 1) (locations x.reads.entries)) z (lookup x.writes.entries l))) (sym (h.locks l ∙ ap unbits found))
-    ∙ ap (λ (ls : List ℕ). result_of (notice s (actor_of x) (machine.Check ls))) (sym here))
+    ∙ ap (λ (ls : List ℕ). result_of (notice s (actor_of x) (machine.Check ls))) (sym here)) refl
 
 -- a step at a place, from what the machine does there
-pub steps_next : (w t : Machine) (a : ℕ) (x : Actor) (p : Place) (r : Answer) → slice_get w.actors.items a ≡ Some x → x.place ≡ p
+pub steps_next : (w t : Machine) (a : ℕ) (x : Actor) (p : Place) (r : Answer) → slice_get w.actors.items a ≡ Some x → x.place ≡ p → Lists (shown w) (outcome a (actor_of x) (place_of x.reads.entries x.writes.entries p)) (shown t)
     → ((s : World) → Shows (shown w) s → Shows (shown t) (step s a (actor_of x) (place_of x.reads.entries x.writes.entries p)) × (r ≡ result_of (notice s (actor_of x) (place_of x.reads.entries x.writes.entries p))))
     → Steps (shown w) a (shown t) r
-steps_next w t a x p r got at_p turn s h = (
+steps_next w t a x p r got at_p lists turn s h = (
   subst (Shows (shown t)) (sym (step_of s a x p (actor_at w s a x h got) at_p)) (turn s h).0,
   (turn s h).1 ∙ ap result_of (sym (notice_of s a x p (actor_at w s a x h got) at_p)),
+  subst (λ (o : Outcome). Lists (shown w) o (shown t)) (sym (outcome_of s a x p (actor_at w s a x h got) at_p)) lists,
 )
 
 abbrev pub ticked : Machine → ℕ → Actor → Machine
@@ -237,7 +242,7 @@ ticked w a y = record { clock = w.clock + 1; locks = w.locks; values = w.values;
 
 pub stamp_steps : (w : Machine) (a : ℕ) (x y : Actor) (r : Answer) (i : ℕ) → slice_get w.actors.items a ≡ Some x → x.place ≡ Lock i → length x.writes.entries ≤ i
     → actor_of y ≡ stamped_at (actor_of x) (w.clock + 1) → r ≡ result_of (when_none_left x.reads.entries (LockedAt (w.clock + 1))) → Steps (shown w) a (shown (ticked w a y)) r
-stamp_steps w a x y r i got at_p out own says = steps_next w (ticked w a y) a x (Lock i) r got at_p (λ s h. (
+stamp_steps w a x y r i got at_p out own says = steps_next w (ticked w a y) a x (Lock i) r got at_p (refl, refl) (λ s h. (
   subst (λ (ls : List ℕ). Shows (shown (ticked w a y)) (step s a (actor_of x) (machine.Lock ls))) (sym (drop_end x.writes.entries i out))
       (shows_next w (ticked w a y) s (stamped s a (actor_of x)) a y h (inside w.actors.items a x got) refl
       (ap (λ (n : ℕ). put s.actors a (stamped_at (actor_of x) (n + 1))) h.clock ∙ ap (put s.actors a) (sym own)) (ap (λ (n : ℕ). n + 1) h.clock) h.locks h.values h.history),
@@ -309,7 +314,7 @@ locks_put w s l n k h inn is i = elim (cases_eq i l) [
 
 pub take_steps : (w : Machine) (a : ℕ) (x y : Actor) (l k i word : ℕ) → slice_get w.actors.items a ≡ Some x → x.place ≡ Take l k i → l < length w.locks.items → get_or w.locks.items l 0 ≡ word → word ≡ 2 * k
     → actor_of y ≡ taken (actor_of x) l k (drop i (locations x.writes.entries)) → Steps (shown w) a (shown (relocked w a y l (word + 1))) (Ok None)
-take_steps w a x y l k i word got at_p inn found free own = steps_next w (relocked w a y l (word + 1)) a x (Take l k i) (Ok None) got at_p (λ s h. (
+take_steps w a x y l k i word got at_p inn found free own = steps_next w (relocked w a y l (word + 1)) a x (Take l k i) (Ok None) got at_p (refl, refl) (λ s h. (
     let ls = drop i (locations x.writes.entries) in
     let is_free : s.locks l ≡ Free k = h.locks l ∙ ap unbits (found ∙ free) ∙ unbits_free k in
     let won : tried s a (actor_of x) l k ls (Free k) ≡ locked s a (actor_of x) l k ls = cond-true (eqb k k) (locked s a (actor_of x) l k ls) (now s a (goes (actor_of x) machine.Broken)) (eq-eqb k k refl) in
@@ -324,7 +329,7 @@ broken : Actor → Actor
 broken x = record { place = Broken; rv = x.rv; wv = x.wv; reads = x.reads; writes = x.writes; held = x.held; calls = x.calls; ready = x.ready }
 
 pub broken_keeps : (x : Actor) (l k i : ℕ) → x.place ≡ Take l k i → Keeps x (record { place = Broken; rv = x.rv; wv = x.wv; reads = x.reads; writes = x.writes; held = x.held; calls = x.calls; ready = x.ready })
-broken_keeps x l k i at_p = record { fits = λ n f. record { reads = f.reads; writes = f.writes; held = f.held; wv = f.wv; place = tt }; owed = omega arith; due = (let q = ap due at_p in omega (arith, q)) }
+broken_keeps x l k i at_p = record { fits = λ n f. record { reads = f.reads; writes = f.writes; reads_rise = f.reads_rise; writes_rise = f.writes_rise; reads_few = f.reads_few; writes_few = f.writes_few; held = f.held; wv = f.wv; place = tt }; owed = omega arith; due = (let q = ap due at_p in omega (arith, q)) }
 
 lost : (s : World) (a : ℕ) (x : machine.Actor) (l k : ℕ) (ls : List ℕ) (w : LockWord) → (bits w ≡ 2 * k → ⊥) → (tried s a x l k ls w ≡ now s a (goes x machine.Broken)) × (take_notice l k w ≡ Busy l (bits w))
 lost s a x l k ls (Free j) ne = (
@@ -340,7 +345,7 @@ lose_steps w a x l k i word got at_p found ne =
     let ls = drop i (locations x.writes.entries) in
     steps_moved w a x y (Take l k i) (Err (refusal.Busy l word)) got at_p
     (λ s h. ap (tried s a (actor_of x) l k ls) (h.locks l ∙ ap unbits found) ∙ (lost s a (actor_of x) l k ls (unbits word) (λ q. ne (sym (bits_unbits word) ∙ q))).0)
-    (λ s h. ap (λ (n : ℕ). result_of (Busy l n)) (sym (bits_unbits word)) ∙ ap result_of (sym (ap (take_notice l k) (h.locks l ∙ ap unbits found) ∙ (lost s a (actor_of x) l k ls (unbits word) (λ q. ne (sym (bits_unbits word) ∙ q))).1)))
+    (λ s h. ap (λ (n : ℕ). result_of (Busy l n)) (sym (bits_unbits word)) ∙ ap result_of (sym (ap (take_notice l k) (h.locks l ∙ ap unbits found) ∙ (lost s a (actor_of x) l k ls (unbits word) (λ q. ne (sym (bits_unbits word) ∙ q))).1))) refl
 
 pub sound_locked : (w : Machine) (a : ℕ) (x y : Actor) (l n : ℕ) → Sound w → slice_get w.actors.items a ≡ Some x → Keeps x y → Sound (relocked w a y l n)
 sound_locked w a x y l n v got k =
@@ -357,30 +362,36 @@ pub leave_steps : (w : Machine) (a : ℕ) (x : Actor) → slice_get w.actors.ite
     → Steps (shown w) a (shown (moved w a (record { place = Idle; rv = x.rv; wv = x.wv; reads = x.reads; writes = x.writes; held = x.held; calls = x.calls; ready = x.ready }))) (Ok (Some answer.Ended))
 leave_steps w a x got at_p =
     let y : Actor = record { place = Idle; rv = x.rv; wv = x.wv; reads = x.reads; writes = x.writes; held = x.held; calls = x.calls; ready = x.ready } in
-    steps_next w (moved w a y) a x Leave (Ok (Some answer.Ended)) got at_p
+    steps_next w (moved w a y) a x Leave (Ok (Some answer.Ended)) got at_p (refl, refl)
     (λ s h. (shows_next w (moved w a y) s (left s a (actor_of x)) a y h (inside w.actors.items a x got) refl refl h.clock h.locks h.values h.history, refl))
 
 pub idle_keeps : (x : Actor) → Keeps x (record { place = Idle; rv = x.rv; wv = x.wv; reads = x.reads; writes = x.writes; held = x.held; calls = x.calls; ready = x.ready })
-idle_keeps x = record { fits = λ n f. record { reads = f.reads; writes = f.writes; held = f.held; wv = f.wv; place = tt }; owed = omega arith; due = omega arith }
+idle_keeps x = record { fits = λ n f. record { reads = f.reads; writes = f.writes; reads_rise = f.reads_rise; writes_rise = f.writes_rise; reads_few = f.reads_few; writes_few = f.writes_few; held = f.held; wv = f.wv; place = tt }; owed = omega arith; due = omega arith }
 
 -- a resting place takes no step
 pub rest_steps : (w : Machine) (a : ℕ) (x : Actor) (p : Place) → slice_get w.actors.items a ≡ Some x → x.place ≡ p
     → ((s : World) → step s a (actor_of x) (place_of x.reads.entries x.writes.entries p) ≡ s) → ((s : World) → notice s (actor_of x) (place_of x.reads.entries x.writes.entries p) ≡ NoTransaction)
-    → Steps (shown w) a (shown w) (Err refusal.NoTransaction)
-rest_steps w a x p got at_p stays says s h = (
+    → outcome a (actor_of x) (place_of x.reads.entries x.writes.entries p) ≡ GoesOn → Steps (shown w) a (shown w) (Err refusal.NoTransaction)
+rest_steps w a x p got at_p stays says on s h = (
   subst (Shows (shown w)) (sym (step_of s a x p (actor_at w s a x h got) at_p ∙ stays s)) h,
   ap result_of (sym (notice_of s a x p (actor_at w s a x h got) at_p ∙ says s)),
+  (refl, sym (ap (listed (map record_of w.history.items)) (outcome_of s a x p (actor_at w s a x h got) at_p ∙ on))),
 )
 
 pub checked_all : (w : Machine) (a : ℕ) (x : Actor) (i : ℕ) → slice_get w.actors.items a ≡ Some x → x.place ≡ Check i → length x.reads.entries ≤ i → Steps (shown w) a (shown w) (Err refusal.NoTransaction)
 checked_all w a x i got at_p out = rest_steps w a x (Check i) got at_p
     (λ s. ap (λ (ls : List ℕ). step s a (actor_of x) (machine.Check ls)) (drop_end x.reads.entries i out))
-    (λ s. ap (λ (ls : List ℕ). notice s (actor_of x) (machine.Check ls)) (drop_end x.reads.entries i out))
+    (λ s. ap (λ (ls : List ℕ). notice s (actor_of x) (machine.Check ls)) (drop_end x.reads.entries i out)) refl
 
 pub stored_all : (w : Machine) (a : ℕ) (x : Actor) (i : ℕ) → slice_get w.actors.items a ≡ Some x → x.place ≡ Store i → length x.writes.entries ≤ i → Steps (shown w) a (shown w) (Err refusal.NoTransaction)
 stored_all w a x i got at_p out = rest_steps w a x (Store i) got at_p
     (λ s. ap (λ (ls : List ℕ). step s a (actor_of x) (machine.Store ls)) (drop_end x.writes.entries i out))
-    (λ s. ap (λ (ls : List ℕ). notice s (actor_of x) (machine.Store ls)) (drop_end x.writes.entries i out))
+    (λ s. ap (λ (ls : List ℕ). notice s (actor_of x) (machine.Store ls)) (drop_end x.writes.entries i out)) refl
+
+pub length_set : (xs : List ℕ) (i v : ℕ) → length (slice_set xs i v) ≡ length xs
+length_set [] i v = refl
+length_set (z ∷ zs) zero v = refl
+length_set (z ∷ zs) (suc i) v = ap suc (length_set zs i v)
 
 -- the value of l is n now, and actor a is y
 abbrev pub restored : Machine → ℕ → Actor → ℕ → ℕ → Machine
@@ -398,7 +409,7 @@ pub store_steps : (w : Machine) (a : ℕ) (x y : Actor) (r : Answer) (i l n : �
 store_steps w a x y r i l n got at_p inn loc below is own says =
     let ls = drop (i + 1) (locations x.writes.entries) in
     let here : drop i (locations x.writes.entries) ≡ l ∷ ls = drop_here x.writes.entries i (0, 0) inn ∙ ap (λ (n : ℕ). n ∷ ls) loc in
-    steps_next w (restored w a y l n) a x (Store i) r got at_p (λ s h. (
+    steps_next w (restored w a y l n) a x (Store i) r got at_p (length_set w.values.items l n, refl) (λ s h. (
       subst (λ (z : List ℕ). Shows (shown (restored w a y l n)) (step s a (actor_of x) (machine.Store z))) (sym here)
           (shows_next w (restored w a y l n) s (stored s a (actor_of x) l ls) a y h (inside w.actors.items a x got) refl (ap (put s.actors a) (sym own)) h.clock h.locks
           (values_put w s l n (unwrap_or (lookup x.writes.entries l) 0) h below is) h.history),
@@ -437,6 +448,7 @@ beyond_steps v a out s h =
     let idle : s.actors a ≡ blank = h.actors a ∙ past v.actors a out in (
       subst (Shows v) (sym (ap (λ (z : machine.Actor). step s a z z.place) idle)) h,
       ap result_of (sym (ap (λ (z : machine.Actor). notice s z z.place) idle)),
+      (refl, sym (ap (λ (z : machine.Actor). listed v.history (outcome a z z.place)) idle)),
     )
   where
     past : (xs : List machine.Actor) (i : ℕ) → length xs ≤ i → get_or xs i blank ≡ blank
@@ -479,7 +491,7 @@ released_is s a x e (f ∷ es) = refl
 
 pub release_steps : (w : Machine) (a : ℕ) (x y : Actor) (r : Answer) (e : ℕ × ℕ) (es : Entries) (word : ℕ) → slice_get w.actors.items a ≡ Some x → x.place ≡ Release → x.held.items ≡ e ∷ es → e.0 < length w.locks.items → word ≡ 2 * x.wv
     → actor_of y ≡ freed (actor_of x) es (after_release es) → r ≡ result_of (when_none_left es Released) → Steps (shown w) a (shown (relocked w a y e.0 word)) r
-release_steps w a x y r e es word got at_p hs inn is own says = steps_next w (relocked w a y e.0 word) a x Release r got at_p (λ s h. (
+release_steps w a x y r e es word got at_p hs inn is own says = steps_next w (relocked w a y e.0 word) a x Release r got at_p (refl, refl) (λ s h. (
   subst (Shows (shown (relocked w a y e.0 word))) (sym (ap (released s a (actor_of x)) hs ∙ released_is s a (actor_of x) e es))
       (shows_next w (relocked w a y e.0 word) s (gives_back s a (actor_of x) e.0 (Free x.wv) es (after_release es)) a y h (inside w.actors.items a x got) refl (ap (put s.actors a) (sym own)) h.clock
       (locks_put w s e.0 word (Free x.wv) h inn (ap unbits is ∙ unbits_free x.wv)) h.values h.history),
@@ -488,7 +500,7 @@ release_steps w a x y r e es word got at_p hs inn is own says = steps_next w (re
 
 pub undo_steps : (w : Machine) (a : ℕ) (x y : Actor) (r : Answer) (e : ℕ × ℕ) (es : Entries) (word : ℕ) → slice_get w.actors.items a ≡ Some x → x.place ≡ Undo → x.held.items ≡ e ∷ es → e.0 < length w.locks.items → word ≡ 2 * e.1
     → actor_of y ≡ freed (actor_of x) es machine.Undo → r ≡ result_of (when_none_left es Cancelled) → Steps (shown w) a (shown (relocked w a y e.0 word)) r
-undo_steps w a x y r e es word got at_p hs inn is own says = steps_next w (relocked w a y e.0 word) a x Undo r got at_p (λ s h. (
+undo_steps w a x y r e es word got at_p hs inn is own says = steps_next w (relocked w a y e.0 word) a x Undo r got at_p (refl, refl) (λ s h. (
   subst (Shows (shown (relocked w a y e.0 word))) (sym (ap (undone s a (actor_of x)) hs))
       (shows_next w (relocked w a y e.0 word) s (gives_back s a (actor_of x) e.0 (Free e.1) es machine.Undo) a y h (inside w.actors.items a x got) refl (ap (put s.actors a) (sym own)) h.clock
       (locks_put w s e.0 word (Free e.1) h inn (ap unbits is ∙ unbits_free e.1)) h.values h.history),
@@ -499,9 +511,14 @@ pub head_tail : {X : Type 0} → (xs : List X) (d : X) → 0 < length xs → xs 
 head_tail [] d h = absurd (omega (arith, h))
 head_tail (x ∷ xs) d h = refl
 
+-- a record more
+map_record : (h : List WordRecord) (r : WordRecord) → map record_of (h ++ r ∷ []) ≡ map record_of h ++ record_of r ∷ []
+map_record [] r = refl
+map_record (x ∷ h) r = ap (λ (rs : List world.Record). record_of x ∷ rs) (map_record h r)
+
 -- a record is listed last, and stands in the order of the numbers
-listed : (h : List WordRecord) (r : WordRecord) → in_order [] (map record_of (h ++ r ∷ [])) ≡ world.insert (record_of r) (in_order [] (map record_of h))
-listed h r = go [] h r
+inserted : (h : List WordRecord) (r : WordRecord) → in_order [] (map record_of (h ++ r ∷ [])) ≡ world.insert (record_of r) (in_order [] (map record_of h))
+inserted h r = go [] h r
   where
     go : (sorted : List world.Record) (h : List WordRecord) (r : WordRecord) → in_order sorted (map record_of (h ++ r ∷ [])) ≡ world.insert (record_of r) (in_order sorted (map record_of h))
     go sorted [] r = refl
@@ -510,26 +527,33 @@ listed h r = go [] h r
 pub close_steps : (w t : Machine) (a : ℕ) (x y : Actor) (rec : WordRecord) → slice_get w.actors.items a ≡ Some x → x.place ≡ Close → t.clock ≡ w.clock → t.locks.items ≡ w.locks.items → t.values.items ≡ w.values.items
     → t.actors.items ≡ slice_set w.actors.items a y → t.history.items ≡ w.history.items ++ rec ∷ [] → record_of rec ≡ record { actor = a; number = x.rv; writer = false; calls = map call_of x.calls.items }
     → actor_of y ≡ goes (actor_of x) machine.Idle → Steps (shown w) a (shown t) (Ok (Some answer.Ended))
-close_steps w t a x y rec got at_p c ls vs xs hs is own = steps_next w t a x Close (Ok (Some answer.Ended)) got at_p (λ s h. (
-  shows_next w t s (closed s a (actor_of x)) a y h (inside w.actors.items a x got) xs (ap (put s.actors a) (sym own)) (h.clock ∙ sym c)
-      (λ l. h.locks l ∙ ap (λ (z : List ℕ). unbits (get_or z l 0)) (sym ls)) (λ l. h.values l ∙ ap (λ (z : List ℕ). get_or z l 0) (sym vs))
-      (ap (world.insert (record { actor = a; number = x.rv; writer = false; calls = map call_of x.calls.items })) h.history ∙ ap (λ (z : world.Record). world.insert z (in_order [] (map record_of w.history.items))) (sym is)
-      ∙ sym (ap (λ (z : List WordRecord). in_order [] (map record_of z)) hs ∙ listed w.history.items rec)),
-  refl,
-))
+close_steps w t a x y rec got at_p c ls vs xs hs is own = steps_next w t a x Close (Ok (Some answer.Ended)) got at_p
+    (ap (λ (z : List ℕ). length z) vs, ap (map record_of) hs ∙ map_record w.history.items rec ∙ ap (λ (z : world.Record). map record_of w.history.items ++ z ∷ []) is)
+    (λ s h. (
+      shows_next w t s (closed s a (actor_of x)) a y h (inside w.actors.items a x got) xs (ap (put s.actors a) (sym own)) (h.clock ∙ sym c)
+          (λ l. h.locks l ∙ ap (λ (z : List ℕ). unbits (get_or z l 0)) (sym ls)) (λ l. h.values l ∙ ap (λ (z : List ℕ). get_or z l 0) (sym vs))
+          (ap (world.insert (record { actor = a; number = x.rv; writer = false; calls = map call_of x.calls.items })) h.history ∙ ap (λ (z : world.Record). world.insert z (in_order [] (map record_of w.history.items))) (sym is)
+          ∙ sym (ap (λ (z : List WordRecord). in_order [] (map record_of z)) hs ∙ inserted w.history.items rec)),
+      refl,
+    ))
 
 pub first_steps : (w t : Machine) (a : ℕ) (x y : Actor) (r : Answer) (rec : WordRecord) (e : ℕ × ℕ) (es : Entries) → slice_get w.actors.items a ≡ Some x → x.place ≡ First → x.writes.entries ≡ e ∷ es → e.0 < length w.values.items
     → t.clock ≡ w.clock → t.locks.items ≡ w.locks.items → t.values.items ≡ set w.values.items e.0 e.1
     → t.actors.items ≡ slice_set w.actors.items a y → t.history.items ≡ w.history.items ++ rec ∷ [] → record_of rec ≡ record { actor = a; number = x.wv; writer = true; calls = map call_of x.calls.items }
     → actor_of y ≡ goes (actor_of x) (machine.Store (locations es)) → r ≡ result_of (when_none_left es Stored) → Steps (shown w) a (shown t) r
-first_steps w t a x y r rec e es got at_p ws below c ls vs xs hs is own says = steps_next w t a x First r got at_p (λ s h. (
-  subst (Shows (shown t)) (sym (ap (first s a (actor_of x)) ws))
-      (shows_next w t s (commits s a (actor_of x) (put s.values e.0 e.1) (locations es)) a y h (inside w.actors.items a x got) xs (ap (put s.actors a) (sym own)) (h.clock ∙ sym c)
-      (λ l. h.locks l ∙ ap (λ (z : List ℕ). unbits (get_or z l 0)) (sym ls)) (λ l. values_put w s e.0 e.1 e.1 h below refl l ∙ ap (λ (z : List ℕ). get_or z l 0) (sym vs))
-      (ap (world.insert (record { actor = a; number = x.wv; writer = true; calls = map call_of x.calls.items })) h.history ∙ ap (λ (z : world.Record). world.insert z (in_order [] (map record_of w.history.items))) (sym is)
-      ∙ sym (ap (λ (z : List WordRecord). in_order [] (map record_of z)) hs ∙ listed w.history.items rec))),
-  says ∙ ap (λ (z : Entries). result_of (last_notice z Stored)) (sym ws),
-))
+first_steps w t a x y r rec e es got at_p ws below c ls vs xs hs is own says = steps_next w t a x First r got at_p (
+  ap (λ (z : List ℕ). length z) vs ∙ length_set w.values.items e.0 e.1,
+  ap (map record_of) hs ∙ map_record w.history.items rec ∙ ap (λ (z : world.Record). map record_of w.history.items ++ z ∷ []) is
+      ∙ sym (ap (λ (z : Entries). listed (map record_of w.history.items) (first_outcome a (actor_of x) z)) ws),
+)
+    (λ s h. (
+      subst (Shows (shown t)) (sym (ap (first s a (actor_of x)) ws))
+          (shows_next w t s (commits s a (actor_of x) (put s.values e.0 e.1) (locations es)) a y h (inside w.actors.items a x got) xs (ap (put s.actors a) (sym own)) (h.clock ∙ sym c)
+          (λ l. h.locks l ∙ ap (λ (z : List ℕ). unbits (get_or z l 0)) (sym ls)) (λ l. values_put w s e.0 e.1 e.1 h below refl l ∙ ap (λ (z : List ℕ). get_or z l 0) (sym vs))
+          (ap (world.insert (record { actor = a; number = x.wv; writer = true; calls = map call_of x.calls.items })) h.history ∙ ap (λ (z : world.Record). world.insert z (in_order [] (map record_of w.history.items))) (sym is)
+          ∙ sym (ap (λ (z : List WordRecord). in_order [] (map record_of z)) hs ∙ inserted w.history.items rec))),
+      says ∙ ap (λ (z : Entries). result_of (last_notice z Stored)) (sym ws),
+    ))
 
 pub first_own : (x : Actor) (e : ℕ × ℕ) (es : Entries) → x.writes.entries ≡ e ∷ es → goes (actor_of x) (machine.Store (drop 1 (locations x.writes.entries))) ≡ goes (actor_of x) (machine.Store (locations es))
 unfolding locations
@@ -569,30 +593,29 @@ pub plain_fits : (x y : Actor) → y.reads.entries ≡ x.reads.entries → y.wri
 plain_fits x y rs ws hs wv pl n f = record {
   reads = subst (All (λ (e : ℕ × ℕ). e.0 < n)) (sym rs) f.reads;
   writes = subst (All (λ (e : ℕ × ℕ). e.0 < n)) (sym ws) f.writes;
+  reads_rise = subst IsRising (sym rs) f.reads_rise;
+  writes_rise = subst IsRising (sym ws) f.writes_rise;
+  reads_few = subst (λ (es : Entries). length es ≤ 4096) (sym rs) f.reads_few;
+  writes_few = subst (λ (es : Entries). length es ≤ 4096) (sym ws) f.writes_few;
   held = subst (All (λ (e : ℕ × ℕ). (e.0 < n) × (e.1 < 2 ^ 63))) (sym hs) f.held;
   wv = subst (λ (z : ℕ). z < 2 ^ 63) (sym wv) f.wv;
   place = pl n;
 }
 
-pub length_set : (xs : List ℕ) (i v : ℕ) → length (slice_set xs i v) ≡ length xs
-length_set [] i v = refl
-length_set (z ∷ zs) zero v = refl
-length_set (z ∷ zs) (suc i) v = ap suc (length_set zs i v)
-
 pub released_all : (w : Machine) (a : ℕ) (x : Actor) → slice_get w.actors.items a ≡ Some x → x.place ≡ Release → x.held.items ≡ [] → Steps (shown w) a (shown w) (Err refusal.NoTransaction)
 released_all w a x got at_p hs = rest_steps w a x Release got at_p
     (λ s. ap (released s a (actor_of x)) hs)
-    (λ s. ap (λ (z : Entries). last_notice z Released) hs)
+    (λ s. ap (λ (z : Entries). last_notice z Released) hs) refl
 
 pub first_none : (w : Machine) (a : ℕ) (x : Actor) → slice_get w.actors.items a ≡ Some x → x.place ≡ First → x.writes.entries ≡ [] → Steps (shown w) a (shown w) (Err refusal.NoTransaction)
 first_none w a x got at_p ws = rest_steps w a x First got at_p
     (λ s. ap (first s a (actor_of x)) ws)
-    (λ s. ap (λ (z : Entries). last_notice z Stored) ws)
+    (λ s. ap (λ (z : Entries). last_notice z Stored) ws) (ap (first_outcome a (actor_of x)) ws)
 
 pub undone_all : (w : Machine) (a : ℕ) (x : Actor) → slice_get w.actors.items a ≡ Some x → x.place ≡ Undo → x.held.items ≡ [] → Steps (shown w) a (shown w) (Err refusal.NoTransaction)
 undone_all w a x got at_p hs = rest_steps w a x Undo got at_p
     (λ s. ap (undone s a (actor_of x)) hs)
-    (λ s. ap (λ (z : Entries). last_notice z Cancelled) hs)
+    (λ s. ap (λ (z : Entries). last_notice z Cancelled) hs) refl
 
 pub empty_of : {X : Type 0} → (xs : List X) → length xs ≡ 0 → xs ≡ []
 empty_of [] h = refl
@@ -606,6 +629,7 @@ asks_moved w t a x y q answer got same own says s h =
       subst (λ (v : Shown). Shows v (happens s (Ask a q))) (sym same)
           (subst (Shows (shown (moved w a y))) (ap (now s a) own ∙ sym (ap (λ (z : machine.Actor). now s a (ask z z.place q)) e)) (shows_moved w s a x y h got)),
       says ∙ ap (λ (z : machine.Actor). result_of (reply z z.place q)) (sym e),
+      (ap (λ (v : Shown). length v.values) same, ap (λ (v : Shown). v.history) same),
     )
 
 -- a refused request, which may have made room, shows what it showed
@@ -636,18 +660,35 @@ due_one Undo = omega arith
 due_one Leave = omega arith
 due_one Close = omega arith
 
-pub sound_asked : (w t : Machine) (a : ℕ) (x y : Actor) → Sound w → slice_get w.actors.items a ≡ Some x → (Fits (length w.locks.items) x → Fits (length w.locks.items) y) → owed y.place ≤ owed x.place
-    → t.clock ≡ w.clock → t.locks.items ≡ w.locks.items → t.values.items ≡ w.values.items → t.actors.items ≡ slice_set w.actors.items a y → vec_len t.history + 65 ≤ vec_capacity t.history → Sound t
-sound_asked w t a x y v got fits owe c ls vs xs room_ =
+is_begin : (q : Request) → (q ≡ AskBegin) ⊎ (q ≡ AskBegin → ⊥)
+is_begin AskBegin = inl refl
+is_begin AskLock = inr (λ e. let b : ⊥ = cc in b)
+is_begin AskStore = inr (λ e. let b : ⊥ = cc in b)
+is_begin AskRelease = inr (λ e. let b : ⊥ = cc in b)
+is_begin AskCancel = inr (λ e. let b : ⊥ = cc in b)
+is_begin AskAbort = inr (λ e. let b : ⊥ = cc in b)
+is_begin AskClose = inr (λ e. let b : ⊥ = cc in b)
+is_begin (AskRead l) = inr (λ e. let b : ⊥ = cc in b)
+is_begin (AskWrite l v) = inr (λ e. let b : ⊥ = cc in b)
+
+-- a begin makes room for a record of each actor, and no other request makes one due
+pub sound_asked : (w t : Machine) (a : ℕ) (x y : Actor) (q : Request) → Sound w → slice_get w.actors.items a ≡ Some x → (Fits (length w.locks.items) x → Fits (length w.locks.items) y) → owed y.place ≤ owed x.place
+    → ((q ≡ AskBegin → ⊥) → due y.place ≤ due x.place) → (q ≡ AskBegin → vec_len t.history + 65 ≤ vec_capacity t.history) → t.clock ≡ w.clock → t.locks.items ≡ w.locks.items → t.values.items ≡ w.values.items
+    → t.actors.items ≡ slice_set w.actors.items a y → vec_len t.history ≡ vec_len w.history → vec_capacity w.history ≤ vec_capacity t.history → Sound t
+sound_asked w t a x y q v got fits owe dues room_ c ls vs xs len most =
     let n : length t.locks.items ≡ length w.locks.items = ap (λ (z : List ℕ). length z) ls in
     let m : length t.actors.items ≡ 65 = ap (λ (z : List Actor). length z) xs ∙ length-set w.actors.items a y ∙ v.seats in
+    let d : total due t.actors.items ≡ total due (slice_set w.actors.items a y) = ap (total due) xs in
     record {
       same = ap (λ (z : List ℕ). length z) vs ∙ v.same ∙ sym n;
       seats = m;
       actors = subst (λ (k : ℕ). All (Fits k) t.actors.items) (sym n) (subst (All (Fits (length w.locks.items))) (sym xs)
           (All-set (Fits (length w.locks.items)) w.actors.items a y (fits (All-at (Fits (length w.locks.items)) w.actors.items a x v.actors got)) v.actors));
       clock = (let q = ap (total owed) xs in omega (arith, v.clock, total-set owed w.actors.items a x y got, owe, c, q));
-      room = omega (arith, room_, total_le due due_one t.actors.items, m);
+      room = elim (is_begin q) [
+        | inl e ↦ omega (arith, room_ e, total_le due due_one t.actors.items, m)
+        | inr ne ↦ omega (arith, v.room, total-set due w.actors.items a x y got, dues ne, d, len, most)
+      ];
     }
 
 -- more room for records

@@ -79,15 +79,15 @@ both_true false c h = no false refl h
 -- an actor has a seat
 pub seat_of : (v : Shown) (a : ℕ) (q : Request) → refusal_of v a q ≡ None → a < 65
 seat_of v a q h =
-    let t = (if_none (is_actor a) (refusal_at (length v.locks) (actor_in v a) (actor_in v a).place q) NoSuch h).0 in
+    let t = (if_none (is_actor a) (refusal_at (length v.values) (actor_in v a) (actor_in v a).place q) NoSuch h).0 in
     let low = leb-true a 64 (both_true (nat_le 1 a) (nat_le a 64) t).1 in omega (arith, low)
 
 lawful : (v : Shown) (a : ℕ) (q : Request) → refusal_of v a q ≡ None
-    → (allows (phase_of (actor_in v a) (actor_in v a).place) q ≡ true) × (location_refusal (length v.locks) (actor_in v a) q ≡ None)
+    → (allows (phase_of (actor_in v a) (actor_in v a).place) q ≡ true) × (location_refusal (length v.values) (actor_in v a) q ≡ None)
 lawful v a q h =
     let x = actor_in v a in
-    let t = (if_none (is_actor a) (refusal_at (length v.locks) x x.place q) NoSuch h).1 in
-    if_none (allows (phase_of x x.place) q) (location_refusal (length v.locks) x q) (wrong_phase (phase_of x x.place) q) t
+    let t = (if_none (is_actor a) (refusal_at (length v.values) x x.place q) NoSuch h).1 in
+    if_none (allows (phase_of x x.place) q) (location_refusal (length v.values) x q) (wrong_phase (phase_of x x.place) q) t
 
 -- a request that is not refused is one of the phase
 pub allowed_here : (w : Machine) (a : ℕ) (x : Actor) (q : Request) → slice_get w.actors.items a ≡ Some x → refusal_of (shown w) a q ≡ None → allows (phase_of (actor_of x) (actor_of x).place) q ≡ true
@@ -105,10 +105,13 @@ within_of n x AskAbort h = tt
 within_of n x AskClose h = tt
 
 -- and its location is there, in a set or with a place left
-pub limit_here : (w : Machine) (a : ℕ) (x : Actor) (n : ℕ) (q : Request) → slice_get w.actors.items a ≡ Some x → n ≡ length w.locks.items → refusal_of (shown w) a q ≡ None → location_refusal n (actor_of x) q ≡ None
+pub limit_here : (w : Machine) (a : ℕ) (x : Actor) (n : ℕ) (q : Request) → slice_get w.actors.items a ≡ Some x → n ≡ length w.values.items → refusal_of (shown w) a q ≡ None → location_refusal n (actor_of x) q ≡ None
 limit_here w a x n q got same h =
     subst (λ (m : ℕ). location_refusal m (actor_of x) q ≡ None) (sym same)
-    (subst (λ (z : machine.Actor). location_refusal (length w.locks.items) z q ≡ None) (actor_at_go w.actors.items a x got) (lawful (shown w) a q h).1)
+    (subst (λ (z : machine.Actor). location_refusal (length w.values.items) z q ≡ None) (actor_at_go w.actors.items a x got) (lawful (shown w) a q h).1)
 
 pub read_limit : (n : ℕ) (x : machine.Actor) (l : ℕ) → location_refusal n x (AskRead l) ≡ None → if_new (lookup x.writes l) (lookup x.reads l) x.reads ≡ None
 read_limit n x l h = (if_none (nat_lt l n) (if_new (lookup x.writes l) (lookup x.reads l) x.reads) NoSuch h).1
+
+pub write_limit : (n : ℕ) (x : machine.Actor) (l v : ℕ) → location_refusal n x (AskWrite l v) ≡ None → if_new (lookup x.writes l) None x.writes ≡ None
+write_limit n x l v h = (if_none (nat_lt l n) (if_new (lookup x.writes l) None x.writes) NoSuch h).1

@@ -1,9 +1,12 @@
 -- What holds of the running words, by whatever schedule they were reached.
-use Rattle.std.specs.Prelude.{◌≡◌, ℕ, ◌≢◌, [], Some, get_or}
+use Rattle.std.specs.Prelude.{◌≡◌, ℕ, ◌<◌, ◌≢◌, List, [], Option, Some, None, Result, Ok, get_or}
 use Rattle.tx_sets.specs.Entries.{lookup}
 use Rattle.word_machine.specs.Actor.{Begin, Open}
-use Rattle.word_machine.specs.World.{Memory, run, start, in_order}
+use Rattle.word_machine.specs.World.{Memory, World, Event, run, start, in_order}
 use Rattle.word_machine.specs.Opacity.{IsRun, IsInOrder, IsLegal, IsHalfDone, AllEnded, AllUpto, memory_after, memory_at, upto}
+use Rattle.word_machine.specs.Progress.{steps_left}
+use Rattle.step_core.specs.declared.answer.WordAnswer.{WordAnswer}
+use Rattle.step_core.specs.declared.answer.WordRefusal.{WordRefusal}
 use Rattle.step_core.specs.Shown.{Shown, shown, actor_in, Reached}
 use Rattle.step_core.specs.Sound.{Sound}
 use Rattle.step_core.specs.declared.words.Words.TheInside.{Inside}
@@ -16,6 +19,10 @@ shown_in w = shown w.machine
 pub record IsHeld (w : Inside) : Type 0 where
   pub sound : Sound w.machine
   pub reached : Reached (shown w.machine)
+
+-- the world that a schedule reached
+abbrev pub world_of : (v : Shown) → Reached v → World
+world_of v r = run r.events (start r.clock r.opening)
 
 -- the words after the committed transactions with a number of at most n
 abbrev pub words_at : Memory → Shown → ℕ → Memory
@@ -33,16 +40,27 @@ pub record Opaque (v : Shown) : Type 0 where
   pub serial : (r : Reached v) → IsRun r.opening (in_order [] v.history)
   pub words : (r : Reached v) → IsAtRest v → (l : ℕ) → get_or v.values l 0 ≡ memory_after r.opening (in_order [] v.history) l
   pub saw : (r : Reached v) (a : ℕ) → IsLegal (words_at r.opening v (actor_in v a).rv) (actor_in v a).calls
-  pub aborted : (r : Reached v) → let s = run r.events (start r.clock r.opening) in AllEnded (λ e. IsLegal (memory_at s e.rv) e.calls) s.aborted
+  pub aborted : (r : Reached v) → let s = world_of v r in AllEnded (λ e. IsLegal (memory_at s e.rv) e.calls) s.aborted
 
--- the calls of actor a's transaction are legal at the words of number n
-abbrev pub Saw : Shown → ℕ → ℕ → Type 0
-Saw v a n = (r : Reached v) → IsLegal (words_at r.opening v n) (actor_in v a).calls
+-- The calls of actor a's transaction are legal at the words of number n, and stay so whatever happens later.
+pub record Saw (v : Shown) (a n : ℕ) : Type 0 where
+  pub now : (r : Reached v) → IsLegal (words_at r.opening v n) (actor_in v a).calls
+  pub later : (r : Reached v) (events : List Event) → IsLegal (memory_at (run events (world_of v r)) n) (actor_in v a).calls
 
--- from its lock to its release no other actor changes a word that a transaction holds
-abbrev pub KeepsOthers : Shown → ℕ → Shown → Type 0
-KeepsOthers v a u =
-    (b l k : ℕ) → lookup (actor_in v b).held l ≡ Some k → b ≢ a → (get_or u.locks l 0 ≡ get_or v.locks l 0) × (get_or u.values l 0 ≡ get_or v.values l 0)
+-- A step of actor a leaves the records of the others, and each word that one of them holds, from its lock to its release.
+pub record KeepsOthers (v : Shown) (a : ℕ) (u : Shown) : Type 0 where
+  pub actors : (b : ℕ) → b ≢ a → actor_in u b ≡ actor_in v b
+  pub words :
+      (b l k : ℕ) → lookup (actor_in v b).held l ≡ Some k → b ≢ a → (get_or u.locks l 0 ≡ get_or v.locks l 0) × (get_or u.values l 0 ≡ get_or v.values l 0)
+
+-- how many of its own steps the request of actor a takes at most; 0 where none is under way
+abbrev pub steps_due : Shown → ℕ → ℕ
+steps_due v a = steps_left (actor_in v a) (actor_in v a).place
+
+-- A step brings its actor's request nearer to its answer: there are fewer to come, and some if this one brought no answer.
+pub record Nears (v : Shown) (a : ℕ) (u : Shown) (r : Result (Option WordAnswer) WordRefusal) : Type 0 where
+  pub fewer : 0 < steps_due v a → steps_due u a < steps_due v a
+  pub more : r ≡ Ok None → 0 < steps_due u a
 
 -- a transaction begins at a number that is not below any committed before
 abbrev pub BeginsAbove : Shown → ℕ → Shown → Type 0

@@ -68,6 +68,13 @@ wrong_phase Busy request = NotIdle
 wrong_phase phase AskBegin = NotIdle
 wrong_phase phase request = NoTransaction
 
+-- what gives back or ends takes no memory
+abbrev pub takes_memory : Request → Bool
+takes_memory AskRelease = false
+takes_memory AskCancel = false
+takes_memory AskAbort = false
+takes_memory request = true
+
 -- the most locations that a set holds
 abbrev pub set_limit : ℕ
 set_limit = 4096

@@ -1,11 +1,11 @@
 -- What callers see of the running words, and the worlds of the machine that it shows.
-use Rattle.std.specs.Prelude.{◌≡◌, ℕ, Bool, true, List, [], length, map, get_or, drop, Option, Some, None, Result, Ok, nat_le, ◌&&◌, if◌then◌else◌}
+use Rattle.std.specs.Prelude.{◌≡◌, ℕ, Bool, true, List, [], ◌∷◌, ◌++◌, length, map, get_or, drop, Option, Some, None, Result, Ok, nat_le, ◌&&◌, if◌then◌else◌}
 use Rattle.vlock_word.specs.LockWord.{unbits}
 use Rattle.tx_sets.specs.Entries.{Entries, locations}
 use Rattle.word_machine.specs.Actor as machine
 use Rattle.word_machine.specs.Requests.{Request, ask}
 use Rattle.word_machine.specs.World as world
-use Rattle.word_machine.specs.World.{World, Memory, Event, Ask, Step, happens, run, start, in_order, blank}
+use Rattle.word_machine.specs.World.{World, Memory, Event, Ask, Step, Outcome, GoesOn, Commits, Aborts, outcome, happens, run, start, in_order, blank}
 use Rattle.word_machine.specs.Notices.{notice, reply}
 use Rattle.step_core.specs.declared.actor.Place.{Place}
 use Rattle.step_core.specs.declared.actor.Place.TheVariants.{Idle, Begin, Open, Look, Fetch, Again, Lock, Take, Check, Broken, First, Store, Release, Undo, Leave, Close}
@@ -71,7 +71,7 @@ Replies x request answer = Ok answer ≡ result_of (reply (actor_of x) (actor_of
 
 -- a committed transaction as the machine has it
 abbrev pub record_of : WordRecord → world.Record
-record_of r = record { actor = r.actor; number = r.number; writer = r.writes; calls = map call_of r.calls.items }
+record_of r = record { actor = r.actor; number = r.number; writer = r.writes; calls = map call_of r.calls }
 
 -- What callers see.
 pub record Shown : Type 0 where
@@ -104,13 +104,27 @@ pub record Shows (v : Shown) (s : World) : Type 0 where
   pub actors : (a : ℕ) → s.actors a ≡ get_or v.actors a blank
   pub history : s.history ≡ in_order [] v.history
 
+-- what a step has committed is listed last
+abbrev pub listed : List world.Record → Outcome → List world.Record
+listed rs GoesOn = rs
+listed rs (Commits r) = rs ++ r ∷ []
+listed rs (Aborts e) = rs
+
+-- u has as many words as v, and lists behind the records of v what a step with this outcome has committed
+abbrev pub Lists : Shown → Outcome → Shown → Type 0
+Lists v o u = (length u.values ≡ length v.values) × (u.history ≡ listed v.history o)
+
 -- v becomes u by one step of actor a, which answers r
 abbrev pub Steps : Shown → ℕ → Shown → Result (Option WordAnswer) WordRefusal → Type 0
-Steps v a u r = (s : World) → Shows v s → Shows u (happens s (Step a)) × (r ≡ result_of (notice s (s.actors a) (s.actors a).place))
+Steps v a u r =
+    (s : World) → Shows v s
+    → Shows u (happens s (Step a)) × (r ≡ result_of (notice s (s.actors a) (s.actors a).place)) × Lists v (outcome a (s.actors a) (s.actors a).place) u
 
 -- v becomes u by a request of actor a, which is answered so, or by a step of its own where the answer is None
 abbrev pub Asks : Shown → ℕ → Request → Shown → Option WordAnswer → Type 0
-Asks v a request u answer = (s : World) → Shows v s → Shows u (happens s (Ask a request)) × (Ok answer ≡ result_of (reply (s.actors a) (s.actors a).place request))
+Asks v a request u answer =
+    (s : World) → Shows v s
+    → Shows u (happens s (Ask a request)) × (Ok answer ≡ result_of (reply (s.actors a) (s.actors a).place request)) × Lists v GoesOn u
 
 -- the actors are 1 to 64
 abbrev pub is_actor : ℕ → Bool
@@ -119,7 +133,7 @@ is_actor a = nat_le 1 a && nat_le a 64
 -- why a request of actor a is refused, memory aside
 abbrev pub refusal_of : Shown → ℕ → Request → Option WordRefusal
 refusal_of v a request =
-    if is_actor a then refusal_at (length v.locks) (actor_in v a) (actor_in v a).place request else Some NoSuch
+    if is_actor a then refusal_at (length v.values) (actor_in v a) (actor_in v a).place request else Some NoSuch
 
 -- a refusal is the one named, or else want of memory
 abbrev pub IsRefusal : Option WordRefusal → WordRefusal → Type 0

@@ -3,6 +3,7 @@ use Rattle.std.specs.Prelude.{◌≡◌, ℕ, ◌+◌, ◌-◌, ◌^◌, ◌<◌
 use Rattle.std.specs.Vec.{vec_len, vec_capacity}
 use Rattle.std.specs.VecDeque.{deque_len, deque_capacity}
 use Rattle.std.specs.List.{All}
+use Rattle.tx_sets.specs.Entries.{IsRising}
 use Rattle.word_machine.specs.Requests.{Request, AskRead, AskWrite}
 use Rattle.step_core.specs.declared.actor.Place.{Place}
 use Rattle.step_core.specs.declared.actor.Place.TheVariants.{Idle, Open, Look, Fetch, Again, Lock, Take, First, Store, Release, Close}
@@ -24,6 +25,10 @@ FitsPlace n x p = Unit {0}
 pub record Fits (n : ℕ) (x : Actor) : Type 0 where
   pub reads : All (λ e. e.0 < n) x.reads.entries
   pub writes : All (λ e. e.0 < n) x.writes.entries
+  pub reads_rise : IsRising x.reads.entries
+  pub writes_rise : IsRising x.writes.entries
+  pub reads_few : length x.reads.entries ≤ 4096
+  pub writes_few : length x.writes.entries ≤ 4096
   pub held : All (λ e. (e.0 < n) × (e.1 < 2 ^ 63)) x.held.items
   pub wv : x.wv < 2 ^ 63
   pub place : FitsPlace n x x.place

@@ -31,5 +31,5 @@ mod record;
 mod words;
 
 pub use answer::{WordAnswer, WordRefusal, WordRequest};
-pub use record::{WordCall, WordRecord};
+pub use record::{WordCall, WordCalls, WordRecord};
 pub use words::Words;

@@ -1,10 +1,12 @@
 //! The words, the actors and the history, and the atomic steps on them.
 //!
 //! These are plain fields, which a method may leave half changed; [`crate::words`] is what callers see.
-ghost use Rattle.std.specs.Prelude.{◌≡◌, ◌+◌, ◌^◌, ◌<◌, ◌≤◌, length, slice_get, Some, None, OnErr, IfOk, IfErr};
-ghost use Rattle.std.specs.Vec.{vec_len};
+ghost use Rattle.std.specs.Prelude.{◌≡◌, ◌+◌, ◌^◌, ◌<◌, ◌≤◌, false, length, slice_get, Some, None, IsOk, OnOk, OnErr, IfOk, IfErr};
+ghost use Rattle.std.specs.Vec.{vec_len, vec_capacity};
 ghost use Rattle.std.specs.VecDeque.{deque_len};
+ghost use Rattle.word_machine.specs.Requests.{AskBegin};
 ghost use Rattle.step_core.specs.Answers.{request_of};
+ghost use Rattle.step_core.specs.Phases.{takes_memory};
 ghost use Rattle.step_core.specs.Shown.{shown, Steps, Asks, actor_in, snapshot_of, refusal_of};
 ghost use Rattle.step_core.specs.Blank.{AreBlank, AreZero};
 ghost use Rattle.step_core.specs.Sound.{Sound, At};
@@ -14,7 +16,7 @@ ghost use Rattle.step_core.specs.declared.actor.Place.TheVariants.{Begin, Look, 
 
 use crate::actor::{Actor, Place};
 use crate::answer::{WordAnswer, WordRefusal, WordRequest};
-use crate::record::WordRecord;
+use crate::record::{WordCalls, WordRecord};
 use std::alloc::{AllocError, Global};
 use std::mem;
 
@@ -55,6 +57,20 @@ pub fn zeros(alloc: Global, count: usize) -> Result<Vec<u64>, AllocError>
     ensures zero { IfOk result (λ v. AreZero v.items) }
 {
     vec![in alloc; 0; count]
+}
+
+// Makes room for a record of each actor where a transaction is to begin. From there on one may come.
+fn make_room(history: &mut Vec<WordRecord>, request: WordRequest) -> Result<(), AllocError>
+    ensures items { history.new.items ≡ history.old.items }
+    ensures len { vec_len history.new ≡ vec_len history.old }
+    ensures capacity { vec_capacity history.old ≤ vec_capacity history.new }
+    ensures room { OnOk result (request_of request ≡ AskBegin → vec_len history.new + 65 ≤ vec_capacity history.new) }
+    ensures served { takes_memory (request_of request) ≡ false → IsOk result }
+{
+    match request {
+        WordRequest::Begin => history.reserve(SEATS),
+        _ => Ok(()),
+    }
 }
 
 impl Machine {
@@ -272,7 +288,8 @@ impl Machine {
         let entry = actor.write_at(0);
         let number = actor.wv;
         let alloc = *actor.calls.allocator();
-        let calls = mem::replace(&mut actor.ready, Vec::new(alloc));
+        let ready = mem::replace(&mut actor.ready, Vec::new(alloc));
+        let calls = WordCalls::from_vec(ready);
         actor.place = Place::Store(1);
         let done = actor.writes.len() == 1;
         self.values[entry.0 as usize] = entry.1;
@@ -300,7 +317,8 @@ impl Machine {
         let actor = &mut self.actors[a];
         let number = actor.rv;
         let alloc = *actor.calls.allocator();
-        let calls = mem::replace(&mut actor.ready, Vec::new(alloc));
+        let ready = mem::replace(&mut actor.ready, Vec::new(alloc));
+        let calls = WordCalls::from_vec(ready);
         actor.place = Place::Idle;
         self.history.push_reserved(WordRecord {
             actor: a as u32,
@@ -384,7 +402,7 @@ impl Machine {
             return Some(WordRefusal::NoSuch);
         }
         let actor = &self.actors[a];
-        actor.refusal(self.locks.len(), request)
+        actor.refusal(self.values.len(), request)
     }
 
     /// The reading of the clock with which an actor's open transaction began.
@@ -403,12 +421,13 @@ impl Machine {
         ensures asks { IfOk result (λ answer. Asks (shown self.old) a (request_of request) (shown self.new) answer) }
         ensures refused { IfErr result (λ refusal. refusal ≡ OutOfMemory) }
         ensures err { OnErr result (shown self.new ≡ shown self.old) }
+        ensures served { takes_memory (request_of request) ≡ false → IsOk result }
         ensures sound { Sound self.new }
     {
-        if let Err(_) = self.history.reserve(SEATS) {
+        if let Err(_) = make_room(&mut self.history, request) {
             return Err(WordRefusal::OutOfMemory);
         }
-        let locations = self.locks.len();
+        let locations = self.values.len();
         let actor = &mut self.actors[a];
         actor.ask(locations, request)
     }

@@ -1,4 +1,7 @@
 //! What a transaction did, and the record of one that committed.
+ghost use Rattle.std.specs.Prelude.{◌≡◌};
+
+use std::marker::Model;
 
 /// A read or a write of a word, with its reply.
 #[derive(Clone, Copy, Debug, PartialEq, Eq)]
@@ -7,6 +10,44 @@ pub enum WordCall {
     Read(u32, u64),
     /// The location, and the value that was written.
     Write(u32, u64),
+}
+
+/// The reads and writes of a transaction, in the order in which they were made.
+#[derive(Debug, Drop)]
+pub struct WordCalls {
+    calls: Vec<WordCall>,
+}
+
+impl Model for WordCalls {
+    ghost use Rattle.std.specs.Prelude.{List};
+    ghost use Rattle.step_core.specs.declared.record.WordCall.{WordCall};
+
+    ghost Value = { List WordCall };
+
+    ghost view = { λ a. a.calls.items };
+}
+
+impl WordCalls {
+    /// These calls, in this order.
+    pub fn from_vec(calls: Vec<WordCall>) -> WordCalls
+        ensures { result ≡ calls.items }
+    {
+        WordCalls { calls }
+    }
+
+    /// The calls, given back.
+    pub fn into_vec(self) -> Vec<WordCall>
+        ensures { result.items ≡ self }
+    {
+        self.calls
+    }
+
+    /// The calls.
+    pub fn as_slice(&self) -> &[WordCall]
+        ensures { result.now ≡ self.now }
+    {
+        self.calls.as_slice()
+    }
 }
 
 /// A committed transaction.
@@ -18,6 +59,6 @@ pub struct WordRecord {
     pub number: u64,
     /// Whether it wrote anything.
     pub writes: bool,
-    /// Its reads and writes, in the order in which they were made.
-    pub calls: Vec<WordCall>,
+    /// Its reads and writes.
+    pub calls: WordCalls,
 }

@@ -28,11 +28,12 @@ impl Model for Words {
 }
 
 impl Words {
-    ghost use Rattle.std.specs.Prelude.{◌≡◌, ℕ, ◌≤◌, length, map, get_or, [], None, OnOk, OnErr, IfOk, IfErr, IfSome, replicate};
+    ghost use Rattle.std.specs.Prelude.{◌≡◌, ℕ, ◌<◌, ◌≤◌, length, map, get_or, [], false, None, IsOk, OnOk, OnErr, IfOk, IfErr, IfSome, replicate};
     ghost use Rattle.word_machine.specs.World.{start};
     ghost use Rattle.step_core.specs.Answers.{request_of};
+    ghost use Rattle.step_core.specs.Phases.{takes_memory};
     ghost use Rattle.step_core.specs.Shown.{Steps, Asks, Shows, Reached, record_of, actor_in, refusal_of, IsRefusal, snapshot_of};
-    ghost use Rattle.step_core.specs.Opaque.{Opaque, Saw, KeepsOthers, BeginsAbove};
+    ghost use Rattle.step_core.specs.Opaque.{Opaque, Saw, KeepsOthers, BeginsAbove, Nears, steps_due};
     ghost use Rattle.step_core.specs.Openings.{opening_refusal};
 
     /// A table of these values, each with a free lock word of version 0, a clock, and no history.
@@ -42,6 +43,7 @@ impl Words {
     pub fn new(alloc: Global, clock: u64, values: Vec<u64>) -> Result<Words, WordRefusal>
         ensures shows { IfOk result (λ words. Shows words (start clock (λ l. get_or values.items l 0))) }
         ensures words { IfOk result (λ words. words.values ≡ values.items) }
+        ensures history { IfOk result (λ words. words.history ≡ []) }
         ensures allowed { OnOk result (opening_refusal clock (length values.items) ≡ None) }
         ensures refused { IfErr result (λ refusal. IsRefusal (opening_refusal clock (length values.items)) refusal) }
         ensures reached { IfOk result Reached }
@@ -74,7 +76,8 @@ impl Words {
     /// is asked inside a transaction, `NoTransaction` for another request that the phase lacks,
     /// `NoSuch` for a location that there is not, `TooLong` for one more than 4,096 in a set, in this
     /// order, and `OutOfMemory` where none of these holds and a growth was refused. A refused
-    /// request changes nothing.
+    /// request changes nothing. Release, Cancel and Abort take no memory, so what has stored a value
+    /// can always go on, and what holds a lock can always give it back.
     pub fn ask(
         &mut self,
         actor: u32,
@@ -84,6 +87,10 @@ impl Words {
         ensures allowed { OnOk result (refusal_of self.old actor (request_of request) ≡ None) }
         ensures refused { IfErr result (λ refusal. IsRefusal (refusal_of self.old actor (request_of request)) refusal) }
         ensures err { OnErr result (self.new ≡ self.old) }
+        ensures served { refusal_of self.old actor (request_of request) ≡ None → takes_memory (request_of request) ≡ false → IsOk result }
+
+        // Each request is answered by fewer than 1,000,000 of its own steps.
+        ensures soon { steps_due self.new actor < 1000000 }
         ensures reached { Reached self.new }
     {
         let a = actor as usize;
@@ -101,6 +108,7 @@ impl Words {
         ensures steps { Steps self.old actor self.new result }
         ensures others { KeepsOthers self.old actor self.new }
         ensures begins { BeginsAbove self.old actor self.new }
+        ensures nearer { Nears self.old actor self.new result }
         ensures reached { Reached self.new }
     {
         let a = actor as usize;
@@ -110,7 +118,7 @@ impl Words {
         self.machine.step(a)
     }
 
-    /// The committed transactions, as committed.
+    /// The committed transactions, in the order in which they were committed.
     pub fn history(&self) -> &[WordRecord]
         ensures records { map record_of result.now ≡ self.now.history }
         ensures opaque { Opaque self.now }

@@ -18,7 +18,7 @@ use Rattle.word_machine.proofs.Schedules.{happens_ok}
 use Rattle.word_machine.proofs.Progress.{progress, length-locations}
 
 -- the request is answered, or goes on
-abbrev Further : Notice → Actor → Type 0
+abbrev pub Further : Notice → Actor → Type 0
 Further n y = IsAnswered n ⊎ (0 < steps_left y y.place)
 
 further_put : (n : Notice) (actors : ℕ → Actor) (a : ℕ) (y : Actor) → Further n y → Further n (put actors a y a)
@@ -81,7 +81,7 @@ undone_further s a x [] = inl tt
 undone_further s a x (e ∷ []) = inl tt
 undone_further s a x (e ∷ (f ∷ es)) = subst (Further Quiet) (sym (put-same s.actors a _)) (inr (omega arith))
 
-step_further : (s : World) (a : ℕ) (x : Actor) (p : Place) → PlaceOk s x p → Further (notice s x p) ((step s a x p).actors a)
+pub step_further : (s : World) (a : ℕ) (x : Actor) (p : Place) → PlaceOk s x p → Further (notice s x p) ((step s a x p).actors a)
 step_further s a x Idle pl = inl tt
 step_further s a x Begin pl = inl (go (ltb s.clock clock_limit))
   where

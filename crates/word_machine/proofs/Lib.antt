@@ -13,3 +13,4 @@ pub mod Progress
 pub mod Answered
 pub mod Short
 pub mod Order
+pub mod Refusals

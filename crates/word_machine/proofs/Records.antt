@@ -108,8 +108,16 @@ finals_untouched r (x ∷ xs) l d f =
 -- order
 pub AllFrom_through : (r x : Record) (xs : List Record) → InOrder r x → AllFrom x xs → AllFrom r xs
 AllFrom_through r x [] o a = tt
-AllFrom_through r x (y ∷ ys) o a =
-    ((omega (arith, o.0, a.0.0), λ e. a.0.1 (omega (arith, o.0, a.0.0, e))), AllFrom_through r x ys o a.1)
+AllFrom_through r x (y ∷ ys) o a = (
+  (
+    omega (arith, o.0, a.0.0),
+    λ e. a.0.1 (omega (arith, o.0, a.0.0, e)),
+    λ e w.
+        let same : r.number ≡ x.number = omega (arith, o.0, a.0.0, e) in
+        omega (arith, o.2 same w, a.0.2 (omega (arith, o.0, a.0.0, e)) (o.1 same)),
+  ),
+  AllFrom_through r x ys o a.1,
+)
 
 -- no writer of h has r's number, if r is one
 abbrev pub IsNew : Record → List Record → Type 0
@@ -120,7 +128,7 @@ pub in_order-before : (r x : Record) → comes_before r x ≡ true → (r.writer
 unfolding comes_before
 in_order-before r x c new =
     elim (cases_Bool (ltb r.number x.number)) [
-      | inl t ↦ let h = ltb-true r.number x.number t in (omega (arith, h), λ e. absurd (omega (arith, h, e)))
+      | inl t ↦ let h = ltb-true r.number x.number t in (omega (arith, h), λ e. absurd (omega (arith, h, e)), λ e w. absurd (omega (arith, h, e)))
       | inr t ↦
           let h = ltb-false r.number x.number t in
           let c2 = sym (cond-false (ltb r.number x.number) true (if ltb x.number r.number then false else (if r.writer then true else (if x.writer then false else ltb r.actor x.actor))) t) ∙ c in
@@ -137,6 +145,12 @@ in_order-before r x c new =
                       | inr v ↦ absurd (true≢false (sym c3 ∙ cond-false r.writer true (if x.writer then false else ltb r.actor x.actor) v ∙ cond-true x.writer false (ltb r.actor x.actor) w))
                     ]
                   ],
+                  λ e v.
+                      let c4 = sym (cond-false r.writer true (if x.writer then false else ltb r.actor x.actor) v) ∙ c3 in
+                      elim (cases_Bool x.writer) [
+                        | inl w ↦ absurd (true≢false (sym c4 ∙ cond-true x.writer false (ltb r.actor x.actor) w))
+                        | inr w ↦ let less = ltb-true r.actor x.actor (sym (cond-false x.writer false (ltb r.actor x.actor) w) ∙ c4) in omega (arith, less)
+                      ],
                 )
           ]
     ]
@@ -150,13 +164,19 @@ in_order-after r x c =
           let h = ltb-false r.number x.number t in
           let c2 = sym (cond-false (ltb r.number x.number) true (if ltb x.number r.number then false else (if r.writer then true else (if x.writer then false else ltb r.actor x.actor))) t) ∙ c in
           elim (cases_Bool (ltb x.number r.number)) [
-            | inl u ↦ let k = ltb-true x.number r.number u in (omega (arith, h), λ e. absurd (omega (arith, k, e)))
+            | inl u ↦ let k = ltb-true x.number r.number u in (omega (arith, h), λ e. absurd (omega (arith, k, e)), λ e w. absurd (omega (arith, k, e)))
             | inr u ↦
                 let c3 = sym (cond-false (ltb x.number r.number) false (if r.writer then true else (if x.writer then false else ltb r.actor x.actor)) u) ∙ c2 in (
                   omega (arith, h),
                   λ e. elim (cases_Bool r.writer) [
                     | inr v ↦ v
                     | inl v ↦ absurd (true≢false (sym (cond-true r.writer true (if x.writer then false else ltb r.actor x.actor) v) ∙ c3))
+                  ],
+                  λ e w. elim (cases_Bool r.writer) [
+                    | inl v ↦ absurd (true≢false (sym (cond-true r.writer true (if x.writer then false else ltb r.actor x.actor) v) ∙ c3))
+                    | inr v ↦
+                        let c4 = sym (cond-false x.writer false (ltb r.actor x.actor) w) ∙ sym (cond-false r.writer true (if x.writer then false else ltb r.actor x.actor) v) ∙ c3 in
+                        let most = ltb-false r.actor x.actor c4 in omega (arith, most)
                   ],
                 )
           ]

@@ -35,13 +35,14 @@ memory_at s n = memory_after s.opening (upto n s.history)
 
 -- r may stand before x
 abbrev pub InOrder : Record → Record → Type 0
-InOrder r x = (r.number ≤ x.number) × (r.number ≡ x.number → x.writer ≡ false)
+InOrder r x =
+    (r.number ≤ x.number) × (r.number ≡ x.number → x.writer ≡ false) × (r.number ≡ x.number → r.writer ≡ false → r.actor ≤ x.actor)
 
 abbrev pub AllFrom : Record → List Record → Type 0
 AllFrom r [] = Unit {0}
 AllFrom r (x ∷ xs) = InOrder r x × AllFrom r xs
 
--- numbers rise, at one number the writer comes first, and no two writers share one
+-- numbers rise, at one number the writer comes first and then readers by actor, and no two writers share one
 abbrev pub IsInOrder : List Record → Type 0
 IsInOrder [] = Unit {0}
 IsInOrder (r ∷ rs) = AllFrom r rs × IsInOrder rs

@@ -1,13 +1,15 @@
 //! What holds of the machine after every schedule.
 //!
 //! Each law is the contract of a function without parameters, whose body is empty.
-ghost use Rattle.std.specs.Prelude.{◌≡◌, ◌≢◌, ◌<◌, ◌≤◌, [], ℕ, List, Some, length};
-ghost use Rattle.tx_sets.specs.Entries.{lookup};
-ghost use Rattle.word_machine.specs.Actor.{Begin, Open, Idle};
+ghost use Rattle.std.specs.Prelude.{◌≡◌, ◌≢◌, ◌<◌, ◌≤◌, ◌⊎◌, [], ◌∷◌, ℕ, List, Some, length};
+ghost use Rattle.tx_sets.specs.Entries.{Entries, lookup};
+ghost use Rattle.vlock_word.specs.declared.lock_word.LockWord.TheVariants.{Free, Locked};
+ghost use Rattle.word_machine.specs.Actor.{Begin, Open, Idle, Undo};
 ghost use Rattle.word_machine.specs.Requests.{Request};
 ghost use Rattle.word_machine.specs.World.{Memory, World, Event, Ask, Step, plan, happens, run};
 ghost use Rattle.word_machine.specs.Cells.{Cell, cell, word_of, becomes, learns};
 ghost use Rattle.word_machine.specs.Notices.{IsConflict, notice};
+ghost use Rattle.word_machine.specs.Refusals.{IsTrue, IsRefused, IsEnding, IsCommitting};
 ghost use Rattle.word_machine.specs.Progress.{IsAlone, IsFree, steps_left, steps_of, AsksNothing, IsAnsweredWithin};
 ghost use Rattle.word_machine.specs.Opacity.{
   IsRun,
@@ -74,6 +76,34 @@ pub fn one_word()
         word_of deed ≡ Some word → (happens s (Step a)).actors a ≡ learns deed (s.actors a) (cell s word) }
     ensures actors { (s : World) (a b : ℕ) → b ≢ a → (happens s (Step a)).actors b ≡ s.actors b }
     ensures ask { (s : World) (a : ℕ) (request : Request) (word : Cell) → cell (happens s (Ask a request)) word ≡ cell s word }
+{}
+
+/// Each refusal is true where it is answered, and names the word that its step found.
+///
+/// A transaction that was refused for a conflict can only end: none of its steps stores a value, and
+/// each gives a lock back as it was when it was taken (a held word keeps its old version until then,
+/// and [`opacity`] says that nobody else changes it). An idle actor holds none. From its first value
+/// store to its last release no step of a commit is refused.
+pub fn refusals()
+    ensures cause { (clock : ℕ) (memory : Memory) (events : List Event) (a : ℕ) →
+        let s = after_events clock memory events in
+        IsTrue s (s.actors a) (s.actors a).place (notice s (s.actors a) (s.actors a).place) }
+    ensures ends { (s : World) (a : ℕ) →
+        IsConflict (notice s (s.actors a) (s.actors a).place) → IsEnding ((happens s (Step a)).actors a).place }
+    ensures stays { (s : World) (event : Event) (a : ℕ) →
+        IsEnding (s.actors a).place →
+        IsEnding ((happens s event).actors a).place ⊎ (((happens s event).actors a).place ≡ Idle) }
+    ensures stores_nothing { (s : World) (a l : ℕ) →
+        IsEnding (s.actors a).place → (happens s (Step a)).values l ≡ s.values l }
+    ensures locked { (clock : ℕ) (memory : Memory) (events : List Event) (a l k : ℕ) →
+        let s = after_events clock memory events in
+        lookup (s.actors a).held l ≡ Some k → s.locks l ≡ Locked k }
+    ensures back { (s : World) (a l k : ℕ) (rest : Entries) →
+        (s.actors a).place ≡ Undo → (s.actors a).held ≡ (l, k) ∷ rest →
+        ((happens s (Step a)).locks l ≡ Free k) × (((happens s (Step a)).actors a).held ≡ rest) }
+    ensures committed { (clock : ℕ) (memory : Memory) (events : List Event) (a : ℕ) →
+        let s = after_events clock memory events in
+        IsCommitting (s.actors a).place → IsRefused (notice s (s.actors a) (s.actors a).place) → ⊥ }
 {}
 
 /// A transaction beside which no other steps, and which begins with every lock free, is refused for

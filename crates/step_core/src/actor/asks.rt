@@ -1,11 +1,11 @@
 //! What a request makes of an actor's record. It makes the room that its steps will need.
-ghost use Rattle.std.specs.Prelude.{◌≡◌, ℕ, ◌≤◌, Ok, Err, Option, Some, None, true, OnOk, OnErr, IfOk, IfErr};
+ghost use Rattle.std.specs.Prelude.{◌≡◌, ◌≢◌, ℕ, ◌≤◌, Ok, Err, Option, Some, None, true, false, IsOk, OnOk, OnErr, IfOk, IfErr};
 ghost use Rattle.word_machine.specs.Requests.{AskBegin, AskRelease, AskRead, AskWrite, AskLock, AskStore, AskCancel, AskAbort, AskClose};
 ghost use Rattle.step_core.specs.Answers.{request_of};
-ghost use Rattle.step_core.specs.Phases.{phase_of, if_full, if_new, location_refusal, refusal_at};
+ghost use Rattle.step_core.specs.Phases.{phase_of, takes_memory, if_full, if_new, location_refusal, refusal_at};
 ghost use Rattle.tx_sets.specs.Entries.{lookup};
 ghost use Rattle.step_core.specs.Shown.{actor_of, asked, snapshot_of, IsAllowed, Replies};
-ghost use Rattle.step_core.specs.Sound.{Fits, IsWithin, owed};
+ghost use Rattle.step_core.specs.Sound.{Fits, IsWithin, owed, due};
 ghost use Rattle.step_core.specs.declared.answer.WordRefusal.TheVariants.{OutOfMemory};
 
 use crate::actor::{Actor, Place};
@@ -172,6 +172,7 @@ impl Actor {
         ensures err { OnErr result (actor_of self.new ≡ actor_of self.old) }
         ensures keeps { (n : ℕ) → IsWithin n (AskRead location) → Fits n self.old → Fits n self.new }
         ensures owed { owed self.new.place ≤ owed self.old.place }
+        ensures due { due self.new.place ≤ due self.old.place }
     {
         if let Err(_) = self.calls.reserve(1) {
             return Err(WordRefusal::OutOfMemory);
@@ -194,12 +195,14 @@ impl Actor {
     /// A write: the write set keeps the value.
     fn ask_write(&mut self, location: u32, value: u64) -> Result<Option<WordAnswer>, WordRefusal>
         requires allowed { IsAllowed self.old (AskWrite location value) }
+        requires limit { if_new (lookup self.old.writes.entries location) None self.old.writes.entries ≡ None }
         ensures ok { OnOk result (actor_of self.new ≡ asked self.old (AskWrite location value)) }
         ensures answer { IfOk result (Replies self.old (AskWrite location value)) }
         ensures refused { IfErr result (λ refusal. refusal ≡ OutOfMemory) }
         ensures err { OnErr result (actor_of self.new ≡ actor_of self.old) }
         ensures keeps { (n : ℕ) → IsWithin n (AskWrite location value) → Fits n self.old → Fits n self.new }
         ensures owed { owed self.new.place ≤ owed self.old.place }
+        ensures due { due self.new.place ≤ due self.old.place }
     {
         if let Err(_) = self.calls.reserve(1) {
             return Err(WordRefusal::OutOfMemory);
@@ -220,6 +223,7 @@ impl Actor {
         ensures err { OnErr result (actor_of self.new ≡ actor_of self.old) }
         ensures keeps { (n : ℕ) → Fits n self.old → Fits n self.new }
         ensures owed { owed self.new.place ≤ owed self.old.place }
+        ensures due { due self.new.place ≤ due self.old.place }
     {
         if let Err(_) = self.held.reserve(self.writes.len()) {
             return Err(WordRefusal::OutOfMemory);
@@ -237,6 +241,7 @@ impl Actor {
         ensures err { OnErr result (actor_of self.new ≡ actor_of self.old) }
         ensures keeps { (n : ℕ) → Fits n self.old → Fits n self.new }
         ensures owed { owed self.new.place ≤ owed self.old.place }
+        ensures due { due self.new.place ≤ due self.old.place }
     {
         self.ready.clear();
         if let Err(_) = self.ready.extend_from_slice(&self.calls) {
@@ -255,6 +260,7 @@ impl Actor {
         ensures err { OnErr result (actor_of self.new ≡ actor_of self.old) }
         ensures keeps { (n : ℕ) → Fits n self.old → Fits n self.new }
         ensures owed { owed self.new.place ≤ owed self.old.place }
+        ensures due { due self.new.place ≤ due self.old.place }
     {
         self.ready.clear();
         if let Err(_) = self.ready.extend_from_slice(&self.calls) {
@@ -271,6 +277,7 @@ impl Actor {
         ensures answer { Replies self.old AskCancel result }
         ensures keeps { (n : ℕ) → Fits n self.old → Fits n self.new }
         ensures owed { owed self.new.place ≤ owed self.old.place }
+        ensures due { due self.new.place ≤ due self.old.place }
     {
         self.place = Place::Undo;
         if self.held.is_empty() {
@@ -287,6 +294,7 @@ impl Actor {
         ensures answer { Replies self.old AskAbort result }
         ensures keeps { (n : ℕ) → Fits n self.old → Fits n self.new }
         ensures owed { owed self.new.place ≤ owed self.old.place }
+        ensures due { due self.new.place ≤ due self.old.place }
     {
         match self.place {
             Place::Begin => {
@@ -319,6 +327,7 @@ impl Actor {
         ensures answer { Replies self.old AskRelease result }
         ensures keeps { (n : ℕ) → Fits n self.old → Fits n self.new }
         ensures owed { owed self.new.place ≤ owed self.old.place }
+        ensures due { due self.new.place ≤ due self.old.place }
     {
         self.place = Place::Release;
         None
@@ -338,6 +347,8 @@ impl Actor {
         ensures err { OnErr result (actor_of self.new ≡ actor_of self.old) }
         ensures keeps { Fits locations self.old → Fits locations self.new }
         ensures owed { owed self.new.place ≤ owed self.old.place }
+        ensures due { request_of request ≢ AskBegin → due self.new.place ≤ due self.old.place }
+        ensures served { takes_memory (request_of request) ≡ false → IsOk result }
     {
         match request {
             WordRequest::Begin => Ok(self.ask_begin()),

@@ -3,6 +3,10 @@ use super::*;
 use std::alloc::AllocError;
 use std::test::Fail;
 
+mod limits;
+mod overlaps;
+mod phases;
+
 // Asks an actor for something, and steps it until that is answered.
 fn run(
     words: &mut Words,
@@ -98,7 +102,7 @@ fn write_skew(rt: HostRuntime) -> Result<(), Fail> {
     let history = words.history();
     assert_eq!(rt; history.len(), 1);
     assert_eq!(rt; history[0].number, 1);
-    assert_eq!(rt; history[0].calls.len(), 3);
+    assert_eq!(rt; history[0].calls.as_slice().len(), 3);
     Ok(())
 }
 

@@ -1,7 +1,7 @@
 use Rattle.std.proofs.Common.{◌≡◌, None, subst}
 use Rattle.step_core.specs.Phases.{location_refusal}
 use Rattle.step_core.specs.Shown.{actor_of}
-use Rattle.step_core.proofs.Phases.{within_of, read_limit}
+use Rattle.step_core.proofs.Phases.{within_of, read_limit, write_limit}
 use Rattle.step_core.specs.Answers.{request_of}
 use Rattle.step_core.specs.Sound.{IsWithin}
 use Rattle.step_core.specs.declared.answer.WordRequest.{WordRequest}
@@ -38,3 +38,8 @@ pub ask_read-requires-clause-limit : goal.ask_read-requires-clause-limit
 ask_read-requires-clause-limit c =
     read_limit c.args.locations (actor_of c.args.self.now) c.in-Read.location
     (subst (λ (q : WordRequest). location_refusal c.args.locations (actor_of c.args.self.now) (request_of q) ≡ None) c.in-Read.is c.requires.limit)
+
+pub ask_write-requires-clause-limit : goal.ask_write-requires-clause-limit
+ask_write-requires-clause-limit c =
+    write_limit c.args.locations (actor_of c.args.self.now) c.in-Write.location c.in-Write.value
+    (subst (λ (q : WordRequest). location_refusal c.args.locations (actor_of c.args.self.now) (request_of q) ≡ None) c.in-Write.is c.requires.limit)

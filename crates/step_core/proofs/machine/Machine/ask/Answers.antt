@@ -42,9 +42,9 @@ returns-clause-asks c =
     let got = slice_get_read c.args.self.now.actors.items _ c.args.a c.index_mut-actor.result.now refl (omega (arith, h, c.requires.sound.seats)) c.index_mut-actor.ensures.value in
     let w : Machine = c.args.self.now in
     let m : Machine = moved w c.args.a c.ask.new.self in
-    let t : Machine = record m { history = c.reserve.new.self } in
+    let t : Machine = record m { history = c.make_room.new.history } in
     asks_ok w t c.args.a c.index_mut-actor.result.now c.ask.new.self (request_of c.args.request) c.ask.result got
-    (ap (λ (z : List WordRecord). let s : Shown = record { clock = w.clock; locks = w.locks.items; values = w.values.items; actors = map actor_of m.actors.items; history = map record_of z } in s) c.reserve.ensures.items)
+    (ap (λ (z : List WordRecord). let s : Shown = record { clock = w.clock; locks = w.locks.items; values = w.values.items; actors = map actor_of m.actors.items; history = map record_of z } in s) c.make_room.ensures.items)
     c.ask.ensures.ok c.ask.ensures.answer
 
 pub returns-clause-err : goal.returns-clause-err
@@ -53,9 +53,9 @@ returns-clause-err c =
     let got = slice_get_read c.args.self.now.actors.items _ c.args.a c.index_mut-actor.result.now refl (omega (arith, h, c.requires.sound.seats)) c.index_mut-actor.ensures.value in
     let w : Machine = c.args.self.now in
     let m : Machine = moved w c.args.a c.ask.new.self in
-    let t : Machine = record m { history = c.reserve.new.self } in
+    let t : Machine = record m { history = c.make_room.new.history } in
     err_same w t c.args.a c.index_mut-actor.result.now c.ask.new.self c.ask.result got
-    (ap (λ (z : List WordRecord). let s : Shown = record { clock = w.clock; locks = w.locks.items; values = w.values.items; actors = map actor_of m.actors.items; history = map record_of z } in s) c.reserve.ensures.items)
+    (ap (λ (z : List WordRecord). let s : Shown = record { clock = w.clock; locks = w.locks.items; values = w.values.items; actors = map actor_of m.actors.items; history = map record_of z } in s) c.make_room.ensures.items)
     c.ask.ensures.err
 
 pub returns-clause-sound : goal.returns-clause-sound
@@ -64,6 +64,7 @@ returns-clause-sound c =
     let got = slice_get_read c.args.self.now.actors.items _ c.args.a c.index_mut-actor.result.now refl (omega (arith, h, c.requires.sound.seats)) c.index_mut-actor.ensures.value in
     let w : Machine = c.args.self.now in
     let m : Machine = moved w c.args.a c.ask.new.self in
-    let t : Machine = record m { history = c.reserve.new.self } in
-    sound_asked w t c.args.a c.index_mut-actor.result.now c.ask.new.self c.requires.sound got
-    (subst (λ (n : ℕ). Fits n c.index_mut-actor.result.now → Fits n c.ask.new.self) (let same : c.len-locations.result ≡ length w.locks.items = omega (arith, c.len-locations.ensures) in same) c.ask.ensures.keeps) c.ask.ensures.owed refl refl refl refl c.in_default.ensures.ok
+    let t : Machine = record m { history = c.make_room.new.history } in
+    sound_asked w t c.args.a c.index_mut-actor.result.now c.ask.new.self (request_of c.args.request) c.requires.sound got
+    (subst (λ (n : ℕ). Fits n c.index_mut-actor.result.now → Fits n c.ask.new.self) (let same : c.len-locations.result ≡ length w.locks.items = omega (arith, c.len-locations.ensures, c.requires.sound.same) in same) c.ask.ensures.keeps) c.ask.ensures.owed
+    c.ask.ensures.due c.in_default.ensures.room refl refl refl refl c.make_room.ensures.len c.make_room.ensures.capacity

@@ -34,12 +34,12 @@ push_reserved-requires c = let got = slice_get_read c.args.self.now.actors.items
 pub returns-then-done-clause-steps : goal.returns-then-done-clause-steps
 returns-then-done-clause-steps c =
     let got = slice_get_read c.args.self.now.actors.items _ c.args.a c.index_mut-actor.result.now refl c.requires.actor c.index_mut-actor.ensures.value in
-    let y : Actor = record { place = Store 1; rv = c.index_mut-actor.result.now.rv; wv = c.index_mut-actor.result.now.wv; reads = c.index_mut-actor.result.now.reads; writes = c.index_mut-actor.result.now.writes; held = c.index_mut-actor.result.now.held; calls = c.index_mut-actor.result.now.calls; ready = c.replace-calls.new.dest } in
+    let y : Actor = record { place = Store 1; rv = c.index_mut-actor.result.now.rv; wv = c.index_mut-actor.result.now.wv; reads = c.index_mut-actor.result.now.reads; writes = c.index_mut-actor.result.now.writes; held = c.index_mut-actor.result.now.held; calls = c.index_mut-actor.result.now.calls; ready = c.replace-ready.new.dest } in
     let e = c.write_at-entry.result in
     let t : Machine = record { clock = c.args.self.now.clock; locks = c.args.self.now.locks; values = with_item c.args.self.now.values e.0 e.1; actors = with_item c.args.self.now.actors c.args.a y; history = c.push_reserved.new.self } in
-    let rec : WordRecord = record { actor = c.args.a; number = c.index_mut-actor.result.now.wv; writes = true; calls = c.replace-calls.result } in
+    let rec : WordRecord = record { actor = c.args.a; number = c.index_mut-actor.result.now.wv; writes = true; calls = c.from_vec-calls.result } in
     let f = fits_at c.args.self.now c.args.a c.index_mut-actor.result.now First c.requires.sound got (c.requires.place _ got) in
-    let given : map call_of c.replace-calls.result.items ≡ map call_of c.index_mut-actor.result.now.calls.items = ap (λ (z : List WordCall). map call_of z) (ap vec_items c.replace-calls.ensures.value ∙ f) in
+    let given : map call_of c.from_vec-calls.result ≡ map call_of c.index_mut-actor.result.now.calls.items = ap (λ (z : List WordCall). map call_of z) (c.from_vec-calls.ensures ∙ ap vec_items c.replace-ready.ensures.value ∙ f) in
     let some : 0 < length c.index_mut-actor.result.now.writes.entries = omega (arith, c.requires.some _ got) in
     let ws : c.index_mut-actor.result.now.writes.entries ≡ e ∷ drop 1 c.index_mut-actor.result.now.writes.entries = head_tail c.index_mut-actor.result.now.writes.entries e some ∙ ap (λ (z : ℕ × ℕ). z ∷ drop 1 c.index_mut-actor.result.now.writes.entries) (sym c.write_at-entry.ensures) in
     let low = (All-at (Fits (length c.args.self.now.locks.items)) c.args.self.now.actors.items c.args.a c.index_mut-actor.result.now c.requires.sound.actors got).writes 0 e some in
@@ -50,12 +50,12 @@ returns-then-done-clause-steps c =
 pub returns-else-done-clause-steps : goal.returns-else-done-clause-steps
 returns-else-done-clause-steps c =
     let got = slice_get_read c.args.self.now.actors.items _ c.args.a c.index_mut-actor.result.now refl c.requires.actor c.index_mut-actor.ensures.value in
-    let y : Actor = record { place = Store 1; rv = c.index_mut-actor.result.now.rv; wv = c.index_mut-actor.result.now.wv; reads = c.index_mut-actor.result.now.reads; writes = c.index_mut-actor.result.now.writes; held = c.index_mut-actor.result.now.held; calls = c.index_mut-actor.result.now.calls; ready = c.replace-calls.new.dest } in
+    let y : Actor = record { place = Store 1; rv = c.index_mut-actor.result.now.rv; wv = c.index_mut-actor.result.now.wv; reads = c.index_mut-actor.result.now.reads; writes = c.index_mut-actor.result.now.writes; held = c.index_mut-actor.result.now.held; calls = c.index_mut-actor.result.now.calls; ready = c.replace-ready.new.dest } in
     let e = c.write_at-entry.result in
     let t : Machine = record { clock = c.args.self.now.clock; locks = c.args.self.now.locks; values = with_item c.args.self.now.values e.0 e.1; actors = with_item c.args.self.now.actors c.args.a y; history = c.push_reserved.new.self } in
-    let rec : WordRecord = record { actor = c.args.a; number = c.index_mut-actor.result.now.wv; writes = true; calls = c.replace-calls.result } in
+    let rec : WordRecord = record { actor = c.args.a; number = c.index_mut-actor.result.now.wv; writes = true; calls = c.from_vec-calls.result } in
     let f = fits_at c.args.self.now c.args.a c.index_mut-actor.result.now First c.requires.sound got (c.requires.place _ got) in
-    let given : map call_of c.replace-calls.result.items ≡ map call_of c.index_mut-actor.result.now.calls.items = ap (λ (z : List WordCall). map call_of z) (ap vec_items c.replace-calls.ensures.value ∙ f) in
+    let given : map call_of c.from_vec-calls.result ≡ map call_of c.index_mut-actor.result.now.calls.items = ap (λ (z : List WordCall). map call_of z) (c.from_vec-calls.ensures ∙ ap vec_items c.replace-ready.ensures.value ∙ f) in
     let some : 0 < length c.index_mut-actor.result.now.writes.entries = omega (arith, c.requires.some _ got) in
     let ws : c.index_mut-actor.result.now.writes.entries ≡ e ∷ drop 1 c.index_mut-actor.result.now.writes.entries = head_tail c.index_mut-actor.result.now.writes.entries e some ∙ ap (λ (z : ℕ × ℕ). z ∷ drop 1 c.index_mut-actor.result.now.writes.entries) (sym c.write_at-entry.ensures) in
     let low = (All-at (Fits (length c.args.self.now.locks.items)) c.args.self.now.actors.items c.args.a c.index_mut-actor.result.now c.requires.sound.actors got).writes 0 e some in

@@ -1,6 +1,9 @@
+use Rattle.std.proofs.Common.{◌<◌, subst}
 use Rattle.step_core.specs.Answers.{request_of}
-use Rattle.step_core.specs.Shown.{shown}
+use Rattle.step_core.specs.Shown.{Shown, shown}
+use Rattle.step_core.specs.Opaque.{steps_due}
 use Rattle.step_core.proofs.Moves.{reached_asked}
+use Rattle.step_core.proofs.Laws.{soon}
 use Rattle.step_core.proofs.words.Words.ask.Goals as goal
 
 pub invariant_of-self : goal.invariant_of-self
@@ -11,3 +14,13 @@ invariant_of-self c = record {
 
 pub returns-clause-reached : goal.returns-clause-reached
 returns-clause-reached c = reached_asked (shown c.self.inside.machine) (shown c.ask.new.self) c.args.actor (request_of c.args.request) c.ask.result c.self.invariant.reached c.ask.ensures.asks c.ask.ensures.err
+
+pub returns-clause-soon : goal.returns-clause-soon
+returns-clause-soon c =
+    soon c.ask.new.self c.args.actor c.ask.ensures.sound
+    (reached_asked (shown c.self.inside.machine) (shown c.ask.new.self) c.args.actor (request_of c.args.request) c.ask.result c.self.invariant.reached c.ask.ensures.asks c.ask.ensures.err)
+
+pub returns-in-Some-clause-soon : goal.returns-in-Some-clause-soon
+returns-in-Some-clause-soon c =
+    subst (λ (v : Shown). steps_due v c.args.actor < 1000000) c.self.view_is
+    (soon c.self.inside.machine c.args.actor c.self.invariant.sound c.self.invariant.reached)

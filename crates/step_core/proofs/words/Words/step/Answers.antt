@@ -1,8 +1,8 @@
 use Rattle.std.proofs.Common.{subst}
 use Rattle.step_core.specs.Shown.{Shown, shown}
-use Rattle.step_core.specs.Opaque.{KeepsOthers, BeginsAbove}
+use Rattle.step_core.specs.Opaque.{KeepsOthers, BeginsAbove, Nears}
 use Rattle.step_core.proofs.Moves.{reached_step}
-use Rattle.step_core.proofs.Laws.{keeps_others, begins_above}
+use Rattle.step_core.proofs.Laws.{keeps_others, begins_above, nears}
 use Rattle.step_core.proofs.words.Words.step.Goals as goal
 
 pub invariant_of-self : goal.invariant_of-self
@@ -23,3 +23,8 @@ returns-clause-begins c =
 
 pub returns-clause-reached : goal.returns-clause-reached
 returns-clause-reached c = reached_step _ (shown c.step.new.self) c.args.actor c.step.result c.self.invariant.reached c.step.ensures.steps
+
+pub returns-clause-nearer : goal.returns-clause-nearer
+returns-clause-nearer c =
+    subst (λ (z : Shown). Nears z c.args.actor (shown c.step.new.self) c.step.result) c.self.view_is
+    (nears (shown c.self.inside.machine) (shown c.step.new.self) c.args.actor c.step.result c.self.invariant.reached c.step.ensures.steps)
