@@ -1,4 +1,9 @@
 //! Whole runs of the program, over readers and writers in memory.
+mod events;
+mod grammar;
+mod limits;
+mod prints;
+
 use crate::tool::{DONE, MEMORY, REFUSED, file_of, run_tool};
 use std::alloc::{AllocError, Global};
 use std::io;
@@ -27,6 +32,9 @@ fn run(alloc: Global, words: &[&str], text: &[u8]) -> Result<Left, AllocError> {
     let mut out = Vec::new(alloc);
     let mut err = Vec::new(alloc);
     let status = run_tool(alloc, words.as_slice(), &mut reader, &mut out, &mut err);
+    if status == MEMORY {
+        return Err(AllocError);
+    }
     Ok(Left { status, out, err })
 }
 
@@ -191,3 +199,5 @@ fn a_write_that_fails(rt: HostRuntime) -> Result<(), Fail> {
     assert_eq!(rt; status, REFUSED);
     Ok(())
 }
+
+mod words;

@@ -1,2 +1,5 @@
 pub mod Refusals
 pub mod Scripts
+pub mod Prints
+pub mod Worlds
+pub mod Plays

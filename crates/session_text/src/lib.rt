@@ -14,3 +14,6 @@ mod script;
 pub use print::print_trace;
 pub use run::{ScriptRun, run_script};
 pub use script::{Collection, Line, Script, parse_steps};
+
+#[cfg(test)]
+mod tests;

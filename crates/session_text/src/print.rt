@@ -1,4 +1,8 @@
 //! Prints what came of a script.
+ghost use Rattle.std.specs.Prelude.{◌≡◌, ◌++◌, ◌∷◌, [], IfOk, IfSome, OnOk, flat_map};
+ghost use Rattle.std.specs.String.{string_bytes};
+ghost use Rattle.session_text.specs.Prints.{number_text, pair_text, reply_text, answer_text, notice_text, notices_text, record_text, half_text, held_text, words_text, state_text, IsPrinted};
+
 use crate::run::ScriptRun;
 use seq_model::{Answer, Held, Memory, Notice, Record, Reply, State};
 use std::alloc::Global;
@@ -6,22 +10,47 @@ use std::fmt::Write;
 
 /// The text of what came of a script: a line for each notice, then the records, the half-done commits, and what words
 /// and collections hold.
-pub fn print_trace(alloc: Global, run: &ScriptRun) -> Result<Vec<u8>, Memory> {
+pub fn print_trace(alloc: Global, run: &ScriptRun) -> Result<Vec<u8>, Memory>
+    ensures { IfOk result (λ text. IsPrinted run.now text.items) }
+{
     let mut text = String::new(alloc);
-    for notice in run.notices.as_slice() {
-        print_notice(&mut text, notice)?;
-    }
-    for (actor, made) in run.trace.records.as_slice() {
-        print_record(&mut text, *actor, made)?;
-    }
-    for number in run.trace.half.as_slice() {
-        writeln!(text, "half {number}")?;
-    }
+    print_notices(&mut text, run.notices.as_slice())?;
+    print_records(&mut text, run.trace.records.as_slice())?;
+    print_halves(&mut text, run.trace.half.as_slice())?;
     print_state(&mut text, &run.trace.state)?;
     Ok(text.into_bytes())
 }
 
-fn print_notice(text: &mut String, notice: &Notice<u64>) -> Result<(), Memory> {
+fn print_notices(text: &mut String, notices: &[Notice<u64>]) -> Result<(), Memory>
+    ensures { OnOk result (IfSome (notices_text notices.now) (λ known. string_bytes text.new ≡ string_bytes text.old ++ known)) }
+{
+    for notice in notices {
+        print_notice(text, notice)?;
+    }
+    Ok(())
+}
+
+fn print_records(text: &mut String, records: &[(u32, Record<u64>)]) -> Result<(), Memory>
+    ensures { OnOk result (string_bytes text.new ≡ string_bytes text.old ++ flat_map record_text records.now) }
+{
+    for (actor, made) in records {
+        print_record(text, *actor, made)?;
+    }
+    Ok(())
+}
+
+fn print_halves(text: &mut String, half: &[u64]) -> Result<(), Memory>
+    ensures { OnOk result (string_bytes text.new ≡ string_bytes text.old ++ flat_map half_text half.now) }
+{
+    for number in half {
+        writeln!(text, "half {number}")?;
+    }
+    Ok(())
+}
+
+fn print_notice(text: &mut String, notice: &Notice<u64>) -> Result<(), Memory>
+    ensures { OnOk result (IfSome (notice_text notice.now) (λ known. string_bytes text.new ≡ string_bytes text.old ++ known)) }
+{
     match notice {
         Notice::Quiet => {}
         Notice::Answered(actor, answer) => {
@@ -34,7 +63,9 @@ fn print_notice(text: &mut String, notice: &Notice<u64>) -> Result<(), Memory> {
     Ok(())
 }
 
-fn print_answer(text: &mut String, answer: &Answer<u64>) -> Result<(), Memory> {
+fn print_answer(text: &mut String, answer: &Answer<u64>) -> Result<(), Memory>
+    ensures { OnOk result (string_bytes text.new ≡ string_bytes text.old ++ answer_text answer.now) }
+{
     match answer {
         Answer::Begun(clock) => write!(text, "begun {clock}")?,
         Answer::Replied(reply) => print_reply(text, reply)?,
@@ -44,7 +75,9 @@ fn print_answer(text: &mut String, answer: &Answer<u64>) -> Result<(), Memory> {
     Ok(())
 }
 
-fn print_reply(text: &mut String, reply: &Reply<u64>) -> Result<(), Memory> {
+fn print_reply(text: &mut String, reply: &Reply<u64>) -> Result<(), Memory>
+    ensures { OnOk result (string_bytes text.new ≡ string_bytes text.old ++ reply_text reply.now) }
+{
     match reply {
         Reply::Done => text.push_str("done")?,
         Reply::Full => text.push_str("full")?,
@@ -57,7 +90,9 @@ fn print_reply(text: &mut String, reply: &Reply<u64>) -> Result<(), Memory> {
     Ok(())
 }
 
-fn print_record(text: &mut String, actor: u32, made: &Record<u64>) -> Result<(), Memory> {
+fn print_record(text: &mut String, actor: u32, made: &Record<u64>) -> Result<(), Memory>
+    ensures { OnOk result (string_bytes text.new ≡ string_bytes text.old ++ record_text (actor, made.now)) }
+{
     let kind = if made.writes { "write" } else { "read" };
     let number = made.number;
     let calls = made.calls.len();
@@ -65,12 +100,10 @@ fn print_record(text: &mut String, actor: u32, made: &Record<u64>) -> Result<(),
     Ok(())
 }
 
-fn print_state(text: &mut String, state: &State<u64>) -> Result<(), Memory> {
-    if !state.words().is_empty() {
-        text.push_str("words")?;
-        print_numbers(text, state.words())?;
-        text.push('\n')?;
-    }
+fn print_state(text: &mut String, state: &State<u64>) -> Result<(), Memory>
+    ensures { OnOk result (string_bytes text.new ≡ string_bytes text.old ++ state_text state.now) }
+{
+    print_words(text, state.words())?;
     for held in state.held() {
         print_held(text, held)?;
         text.push('\n')?;
@@ -78,7 +111,20 @@ fn print_state(text: &mut String, state: &State<u64>) -> Result<(), Memory> {
     Ok(())
 }
 
-fn print_held(text: &mut String, held: &Held<u64>) -> Result<(), Memory> {
+fn print_words(text: &mut String, words: &[u64]) -> Result<(), Memory>
+    ensures { OnOk result (string_bytes text.new ≡ string_bytes text.old ++ words_text words.now) }
+{
+    if !words.is_empty() {
+        text.push_str("words")?;
+        print_numbers(text, words)?;
+        text.push('\n')?;
+    }
+    Ok(())
+}
+
+fn print_held(text: &mut String, held: &Held<u64>) -> Result<(), Memory>
+    ensures { OnOk result (string_bytes text.new ≡ string_bytes text.old ++ held_text held.now) }
+{
     match held {
         Held::Map(map) => {
             text.push_str("map")?;
@@ -102,14 +148,18 @@ fn print_held(text: &mut String, held: &Held<u64>) -> Result<(), Memory> {
     }
 }
 
-fn print_numbers(text: &mut String, numbers: &[u64]) -> Result<(), Memory> {
+fn print_numbers(text: &mut String, numbers: &[u64]) -> Result<(), Memory>
+    ensures { OnOk result (string_bytes text.new ≡ string_bytes text.old ++ flat_map number_text numbers.now) }
+{
     for number in numbers {
         write!(text, " {number}")?;
     }
     Ok(())
 }
 
-fn print_pairs(text: &mut String, pairs: &[(u64, u64)]) -> Result<(), Memory> {
+fn print_pairs(text: &mut String, pairs: &[(u64, u64)]) -> Result<(), Memory>
+    ensures { OnOk result (string_bytes text.new ≡ string_bytes text.old ++ flat_map pair_text pairs.now) }
+{
     for (key, value) in pairs {
         write!(text, " {key}:{value}")?;
     }

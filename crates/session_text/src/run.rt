@@ -1,7 +1,9 @@
 //! Runs a script.
-ghost use Rattle.std.specs.Prelude.{◌≡◌, IfOk, IfErr, OnOk};
+ghost use Rattle.std.specs.Prelude.{◌≡◌, map, IfOk, IfErr, OnOk};
 ghost use Rattle.step_world.specs.Traces.{IsSerialTrace};
 ghost use Rattle.session_text.specs.Scripts.{IsOpeningOf, IsRefusedOpening};
+ghost use Rattle.session_text.specs.Worlds.{opening_in};
+ghost use Rattle.session_text.specs.Plays.{AreSteps, AreStepsOfTwo, HasPlayed, IsOne, IsPlay, IsRunOf};
 
 use crate::script::{Collection, Line, STEP_LIMIT, Script};
 use seq_model::{Event, Items, Memory, Notice, Refusal, Request, Shape, State};
@@ -24,6 +26,7 @@ pub struct ScriptRun {
 pub fn run_script(alloc: Global, script: &Script) -> Result<ScriptRun, Refusal>
     ensures opening { IfOk result (λ run. IsOpeningOf script.now run.opening) }
     ensures serial { IfOk result (λ run. IsSerialTrace run.opening run.trace) }
+    ensures run { IfOk result (IsRunOf script.now) }
     ensures refused { IfErr result IsRefusedOpening }
 {
     let opening = opening_of(alloc, script)?;
@@ -64,7 +67,10 @@ fn opening_of(alloc: Global, script: &Script) -> Result<State<u64>, Refusal>
     Ok(state)
 }
 
-fn shape_of(alloc: Global, script: &Script) -> Result<Shape, Memory> {
+fn shape_of(alloc: Global, script: &Script) -> Result<Shape, Memory>
+    ensures stripes { IfOk result (λ shape. shape.stripes ≡ map (λ c. c.stripes) script.now.collections) }
+    ensures clock { IfOk result (λ shape. shape.clock ≡ script.now.clock) }
+{
     let mut stripes = Vec::new(alloc);
     for collection in script.collections.as_slice() {
         stripes.push(collection.stripes)?;
@@ -85,7 +91,8 @@ struct Runner {
 
 impl Runner {
     fn run_line(&mut self, line: &Line) -> Result<(), Memory>
-        ensures { OnOk result (self.new.world.world.opening ≡ self.old.world.world.opening) }
+        ensures opening { OnOk result (opening_in self.new.world.world ≡ opening_in self.old.world.world) }
+        ensures plays { OnOk result (HasPlayed (IsPlay line.now) self.old.world.world self.old.notices self.new.world.world self.new.notices) }
     {
         match line {
             Line::Ask(actor, request) => {
@@ -109,7 +116,8 @@ impl Runner {
 
     // Whether the event told nothing.
     fn happen(&mut self, actor: u32, event: Event<u64>) -> Result<bool, Memory>
-        ensures { OnOk result (self.new.world.world.opening ≡ self.old.world.world.opening) }
+        ensures opening { OnOk result (opening_in self.new.world.world ≡ opening_in self.old.world.world) }
+        ensures plays { IfOk result (λ quiet. HasPlayed (IsOne event quiet) self.old.world.world self.old.notices self.new.world.world self.new.notices) }
     {
         let notice = self.world.feed(event)?;
         if let Notice::Quiet = notice {
@@ -121,7 +129,8 @@ impl Runner {
     }
 
     fn ask(&mut self, actor: u32, request: &Request<u64>) -> Result<bool, Memory>
-        ensures { OnOk result (self.new.world.world.opening ≡ self.old.world.world.opening) }
+        ensures opening { OnOk result (opening_in self.new.world.world ≡ opening_in self.old.world.world) }
+        ensures plays { IfOk result (λ quiet. HasPlayed (IsOne (Event.Ask actor request.now) quiet) self.old.world.world self.old.notices self.new.world.world self.new.notices) }
     {
         let waited = self.is_waiting(actor);
         let quiet = self.happen(actor, Event::Ask(actor, request.try_copy()?))?;
@@ -131,9 +140,10 @@ impl Runner {
     }
 
     fn steps(&mut self, actor: u32, count: u64) -> Result<(), Memory>
-        ensures { OnOk result (self.new.world.world.opening ≡ self.old.world.world.opening) }
+        ensures opening { OnOk result (opening_in self.new.world.world ≡ opening_in self.old.world.world) }
+        ensures plays { OnOk result (HasPlayed (AreSteps actor count) self.old.world.world self.old.notices self.new.world.world self.new.notices) }
     {
-        for _ in 0..count {
+        for _taken in 0..count {
             if !self.happen(actor, Event::Step(actor))? {
                 return Ok(());
             }
@@ -142,7 +152,8 @@ impl Runner {
     }
 
     fn alternate(&mut self, first: u32, second: u32) -> Result<(), Memory>
-        ensures { OnOk result (self.new.world.world.opening ≡ self.old.world.world.opening) }
+        ensures opening { OnOk result (opening_in self.new.world.world ≡ opening_in self.old.world.world) }
+        ensures plays { OnOk result (HasPlayed (λ es told. AreStepsOfTwo first second es) self.old.world.world self.old.notices self.new.world.world self.new.notices) }
     {
         let mut actor = first;
         let mut other = second;
@@ -164,7 +175,8 @@ impl Runner {
     }
 
     fn set_waiting(&mut self, actor: u32, waits: bool)
-        ensures { self.new.world ≡ self.old.world }
+        ensures world { self.new.world ≡ self.old.world }
+        ensures notices { self.new.notices ≡ self.old.notices }
     {
         if let Some(waiting) = self.waiting.get_mut(actor as usize) {
             *waiting = waits;

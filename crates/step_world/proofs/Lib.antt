@@ -3,3 +3,5 @@ pub mod WordBridge
 pub mod WordLinks
 pub mod WordSteps
 pub mod WordSerialLemmas
+pub mod WordPartsLemmas
+pub mod FormLemmas

@@ -61,14 +61,14 @@ clash_of r x o w v e = (let no : x.writer ≡ false = o.1 e in let z : true ≡ 
 clash_before : (r x : machine_world.Record) → InOrder x r → r.writer ≡ true → x.writer ≡ true → r.number ≡ x.number → ⊥
 clash_before r x o w v e = (let no : r.writer ≡ false = o.1 (sym e) in let z : true ≡ false = sym w ∙ no in cc)
 
-listed : (n i : ℕ) (m : Memory) (xs : List ℕ) → length xs ≡ n → ((l : ℕ) → l < n → get_or xs l 0 ≡ m (i + l)) → listed_from n i m ≡ xs
-listed zero i m [] e same = refl
-listed zero i m (x ∷ xs) e same = absurd (omega (arith, e))
-listed (suc n) i m [] e same = absurd (omega (arith, e))
-listed (suc n) i m (x ∷ xs) e same =
+pub listed : {X : Type 0} → (z : X) (n i : ℕ) (m : ℕ → X) (xs : List X) → length xs ≡ n → ((l : ℕ) → l < n → get_or xs l z ≡ m (i + l)) → listed_from n i m ≡ xs
+listed z zero i m [] e same = refl
+listed z zero i m (x ∷ xs) e same = absurd (omega (arith, e))
+listed z (suc n) i m [] e same = absurd (omega (arith, e))
+listed z (suc n) i m (x ∷ xs) e same =
     let at_first : i + 0 ≡ i = omega arith in
     let first : x ≡ m i = same 0 (omega arith) ∙ ap m at_first in
-    let rest = listed n (i + 1) m xs (omega (arith, e)) (λ l lt. let at_next : i + suc l ≡ i + 1 + l = omega arith in same (suc l) (omega (arith, lt)) ∙ ap m at_next) in
+    let rest = listed z n (i + 1) m xs (omega (arith, e)) (λ l lt. let at_next : i + suc l ≡ i + 1 + l = omega arith in same (suc l) (omega (arith, lt)) ∙ ap m at_next) in
     ap (λ y. y ∷ listed_from n (i + 1) m) (sym first) ∙ ap (λ ys. x ∷ ys) rest
 
 module _ {V : Type 0} where
@@ -177,7 +177,7 @@ module _ {V : Type 0} where
 
   pub contents_agree : (n : ℕ) (h : List (Held V)) (m : Memory) (s : Contents V) → Agrees n h m s → listed_state n h m ≡ s
   contents_agree n h m s a =
-      ap (λ (ws : List ℕ). let t : Contents V = record { words = ws; held = h } in t) (listed n 0 m s.words a.count (λ l lt. let at_l : l ≡ 0 + l = omega arith in a.same l lt ∙ ap m at_l))
+      ap (λ (ws : List ℕ). let t : Contents V = record { words = ws; held = h } in t) (listed 0 n 0 m s.words a.count (λ l lt. let at_l : l ≡ 0 + l = omega arith in a.same l lt ∙ ap m at_l))
       ∙ ap (λ (hs : List (Held V)). let t : Contents V = record { words = s.words; held = hs } in t) (sym a.held)
 
   pub opening_agrees : (s : Contents V) → Agrees (length s.words) s.held (λ l. get_or s.words l 0) s

@@ -1,5 +1,5 @@
 -- A world of words that has what its machine has is serial.
-use Rattle.std.proofs.Common.{◌≡◌, ℕ, List, [], ◌∷◌, map, sym, ◌∙◌, ap, subst}
+use Rattle.std.proofs.Common.{◌≡◌, ℕ, true, false, List, [], ◌∷◌, map, refl, sym, ◌∙◌, ap, subst}
 use Rattle.word_machine.specs.Actor as machine
 use Rattle.word_machine.specs.Actor.{Place, Actor}
 use Rattle.word_machine.specs.World as world
@@ -17,8 +17,8 @@ use Rattle.step_world.specs.declared.word_seat.Stage.{Stage}
 use Rattle.step_world.specs.declared.word_seat.Stage.TheVariants.{Idle, Beginning, Open, Reading, Locking, Ready, Storing, Closing, Cancelling, Leaving}
 use Rattle.step_world.specs.declared.word_seat.WordSeat.{WordSeat}
 use Rattle.step_world.specs.Serial.{AllSaw}
-use Rattle.step_world.specs.WordWorlds.{WordWorld, contents}
-use Rattle.step_world.specs.WordSerial.{SawAt, IsHalfDone, IsSerialWords}
+use Rattle.step_world.specs.WordWorlds.{WordWorld, contents, is_half_done}
+use Rattle.step_world.specs.WordSerial.{SawAt, IsSerialWords}
 use Rattle.step_world.proofs.WordBridge.{Within, pair_of, record_of, Agrees, runs_agree, run_too, saw_too, contents_agree, opening_agrees}
 use Rattle.step_world.proofs.WordLinks.{InTx, AtReading, AtLocking, StageOk, SameEnded, size, Linked}
 
@@ -46,17 +46,17 @@ module _ {V : Type 0} where
   locking_none n x y machine.Release h g = h
   locking_none n x y p h g = g
 
-  half_too : (n : ℕ) (stage : Stage) (x : WordSeat V) (y : Actor) (p : Place) → StageOk n stage x y p → HoldsStored p → IsHalfDone stage
-  half_too n Idle x y p h g = subst HoldsStored h g
-  half_too n Beginning x y p h g = subst HoldsStored h g
-  half_too n Open x y p h g = subst HoldsStored h.0 g
-  half_too n (Reading l) x y p h g = reading_none n l x y p h g
-  half_too n Locking x y p h g = locking_none n x y p h g
-  half_too n Ready x y p h g = subst HoldsStored h.0 g
-  half_too n Storing x y p h g = tt
-  half_too n Closing x y p h g = subst HoldsStored h.0 g
-  half_too n Cancelling x y p h g = subst HoldsStored h.0 g
-  half_too n Leaving x y p h g = subst HoldsStored h.0 g
+  half_too : (n : ℕ) (stage : Stage) (x : WordSeat V) (y : Actor) (p : Place) → StageOk n stage x y p → HoldsStored p → is_half_done stage ≡ true
+  half_too n Idle x y p h g = absurd (subst HoldsStored h g)
+  half_too n Beginning x y p h g = absurd (subst HoldsStored h g)
+  half_too n Open x y p h g = absurd (subst HoldsStored h.0 g)
+  half_too n (Reading l) x y p h g = absurd (reading_none n l x y p h g)
+  half_too n Locking x y p h g = absurd (locking_none n x y p h g)
+  half_too n Ready x y p h g = absurd (subst HoldsStored h.0 g)
+  half_too n Storing x y p h g = refl
+  half_too n Closing x y p h g = absurd (subst HoldsStored h.0 g)
+  half_too n Cancelling x y p h g = absurd (subst HoldsStored h.0 g)
+  half_too n Leaving x y p h g = absurd (subst HoldsStored h.0 g)
 
   -- ---- what was seen
   agrees : (w : WordWorld V) → Linked w → Agrees (size w) w.opening.held w.words.opening w.opening
@@ -98,11 +98,11 @@ module _ {V : Type 0} where
   )
 
   -- ---- what is left
-  left : (w : WordWorld V) → Linked w → ((a : ℕ) → IsHalfDone (w.seats a).stage → ⊥) → contents w ≡ after_run w.records w.opening
+  left : (w : WordWorld V) → Linked w → ((a : ℕ) → is_half_done (w.seats a).stage ≡ false) → contents w ≡ after_run w.records w.opening
   left w k none =
       let s = w.words in
       let whole = runs_agree (size w) w.opening.held s.history s.opening w.opening (agrees w k) k.base.within in
-      let rest = words_at_rest s k.base.inv (λ a half. none a (half_too (size w) (w.seats a).stage (w.seats a) (s.actors a) (s.actors a).place (k.seats a) half)) in
+      let rest = words_at_rest s k.base.inv (λ a half. let z : true ≡ false = sym (half_too (size w) (w.seats a).stage (w.seats a) (s.actors a) (s.actors a).place (k.seats a) half) ∙ none a in cc) in
       let stand : Agrees (size w) w.opening.held s.values (after_run (map record_of s.history) w.opening) =
       record { count = whole.count; same = λ l lt. whole.same l lt ∙ sym (rest l); held = whole.held } in
       contents_agree (size w) w.opening.held s.values (after_run (map record_of s.history) w.opening) stand

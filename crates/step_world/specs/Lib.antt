@@ -5,3 +5,5 @@ pub mod Sound
 pub mod Traces
 pub mod WordWorlds
 pub mod WordSerial
+pub mod WordParts
+pub mod Forms

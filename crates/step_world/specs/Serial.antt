@@ -1,5 +1,5 @@
 -- Serial order: the committed transactions are a run of the sequential model, and what the world holds is what it leaves.
-use Rattle.std.specs.Prelude.{◌≡◌, ℕ, Bool, List, [], ◌∷◌, ⊤}
+use Rattle.std.specs.Prelude.{◌≡◌, ℕ, List, [], ◌∷◌, ⊤}
 use Rattle.seq_model.specs.declared.record.Record.{Record}
 use Rattle.seq_model.specs.Contents.{Contents}
 use Rattle.seq_model.specs.Runs.{IsLegal, IsInCommitOrder, IsRun, after_run, state_at}
@@ -25,9 +25,3 @@ pub record IsSerial {V : Type 0} (w : World V) : Type 0 where
   pub left : w.contents ≡ after_run w.records w.opening
   pub open_saw : OpenSaw w.opening w.records w.seat
   pub aborted_saw : AllSaw w.opening w.records w.aborted
-
--- What a world is to its callers: what has come of its events; or a growth was refused to one of them, and it answers
--- Memory from then on.
-pub record Shown (V : Type 0) : Type 0 where
-  pub failed : Bool
-  pub world : World V

@@ -241,11 +241,34 @@ opened clock opening =
       aborted = [];
     }
 
--- the first n words of a memory
-abbrev pub listed_from : ℕ → ℕ → machine.Memory → List ℕ
-listed_from zero i m = []
-listed_from (suc n) i m = m i ∷ listed_from n (i + 1) m
+-- what f gives from i on, n of them
+abbrev pub listed_from : {X : Type 0} → ℕ → ℕ → (ℕ → X) → List X
+listed_from zero i f = []
+listed_from (suc n) i f = f i ∷ listed_from n (i + 1) f
 
 -- what the world holds
 abbrev pub contents : {V : Type 0} → WordWorld V → Contents V
 contents w = record (w.opening) { words = listed_from (length w.opening.words) 0 w.words.values }
+
+-- ---- the commits whose last release has not been done
+abbrev pub is_half_done : Stage → Bool
+is_half_done Storing = true
+is_half_done stage = false
+
+-- a number comes to its place among rising ones
+abbrev pub insert_rising : ℕ → List ℕ → List ℕ
+insert_rising n [] = n ∷ []
+insert_rising n (m ∷ ms) = if nat_lt m n then m ∷ insert_rising n ms else n ∷ m ∷ ms
+
+-- the number of an actor's commit, where it is half done
+abbrev pub with_half : {V : Type 0} → WordSeat V → List ℕ → List ℕ
+with_half x found = if is_half_done x.stage then insert_rising x.wv found else found
+
+-- the numbers of the half done commits of these seats, with those found before
+abbrev pub half_done : {V : Type 0} → List ℕ → List (WordSeat V) → List ℕ
+half_done found [] = found
+half_done found (x ∷ xs) = half_done (with_half x found) xs
+
+-- by actor, from the seat that is no actor's
+abbrev pub half : {V : Type 0} → WordWorld V → List ℕ
+half w = half_done [] (listed_from 65 0 w.seats)

@@ -11,6 +11,7 @@ pub mod laws;
 mod parts;
 mod seat;
 mod trace;
+mod word_parts;
 mod word_seat;
 mod world;
 

@@ -3,10 +3,11 @@ ghost use Rattle.std.specs.Prelude.{◌≡◌, ◌≤◌, ◌<◌, ◌↔◌, �
 ghost use Rattle.seq_model.specs.Contents.{call_of};
 ghost use Rattle.seq_model.specs.Runs.{IsInCommitOrder};
 ghost use Rattle.step_world.specs.Parts.{world_of};
-ghost use Rattle.step_world.specs.Worlds.{begin, commit, reply, step_own, step_seat, happens, is_actor, end};
+ghost use Rattle.step_world.specs.Traces.{IsTraceOf};
+ghost use Rattle.step_world.specs.Worlds.{begin, commit, reply, step_own, step_seat, happens, is_actor, end, opened};
 
-use crate::seat::{Asked, Seat, Transaction};
-use crate::trace::Ended;
+use crate::seat::{Asked, Seat, Transaction, is_writer};
+use crate::trace::{Ended, Trace, copy_of_aborted, copy_of_records};
 use seq_model::{
     ACTOR_LIMIT, Answer, CLOCK_LIMIT, Call, Event, Items, Memory, Notice, Record, Refusal, State,
     Value, insert_record,
@@ -27,6 +28,43 @@ pub struct Parts<V> {
 }
 
 impl<V: Value> Parts<V> {
+    pub fn open(alloc: Global, clock: u64, state: State<V>) -> Parts<V>
+        ensures { world_of result ≡ opened clock state }
+    {
+        Parts {
+            opening: Snapshot::of(&state),
+            clock,
+            state,
+            seat: Seat::Free,
+            records: Vec::new(alloc),
+            aborted: Vec::new(alloc),
+        }
+    }
+
+    pub fn trace(&self) -> Result<Trace<V>, Memory>
+        ensures { IfOk result (IsTraceOf (world_of self.now)) }
+    {
+        let alloc = *self.records.allocator();
+        Ok(Trace {
+            records: Items::from_vec(copy_of_records(alloc, self.records.as_slice())?),
+            aborted: Items::from_vec(copy_of_aborted(alloc, self.aborted.as_slice())?),
+            state: self.state.try_copy(alloc)?,
+            half: Items::new(alloc),
+        })
+    }
+
+    pub fn into_trace(self) -> Trace<V>
+        ensures { IsTraceOf (world_of self) result }
+    {
+        let alloc = *self.records.allocator();
+        Trace {
+            records: Items::from_vec(self.records),
+            aborted: Items::from_vec(self.aborted),
+            state: self.state,
+            half: Items::new(alloc),
+        }
+    }
+
     pub fn happen(&mut self, event: Event<V>) -> Result<Notice<V>, Memory>
         requires clock { self.old.clock ≤ CLOCK_LIMIT }
         requires ordered { IsInCommitOrder self.old.records.items }
@@ -144,7 +182,7 @@ impl<V: Value> Parts<V> {
         requires free { self.old.seat ≡ Seat.Free }
         ensures { IfOk result (λ notice. commit (world_of self.old) transaction ≡ (world_of self.new, notice)) }
     {
-        let writes = transaction.is_writer();
+        let writes = is_writer(&transaction.calls);
         let number = if writes {
             self.clock + 1
         } else {
@@ -189,7 +227,7 @@ impl<V: Value> Parts<V> {
     }
 }
 
-fn is_actor(actor: u32) -> bool
+pub fn is_actor(actor: u32) -> bool
     ensures { result ≡ is_actor actor }
 {
     0 < actor && actor <= ACTOR_LIMIT

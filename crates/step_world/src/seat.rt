@@ -147,14 +147,14 @@ impl<V: Drop> Transaction<V> {
             Asked::Abort | Asked::Starved => Notice::Quiet,
         }
     }
+}
 
-    /// Whether it would commit as a writer.
-    pub fn is_writer(&self) -> bool
-        ensures { result ≡ is_writer self.now.calls }
-    {
-        self.calls
-            .as_slice()
-            .iter()
-            .any(|call| call.0.op.changes(&call.1))
-    }
+/// Whether a transaction of these calls commits as a writer.
+pub fn is_writer<V>(calls: &Items<(Call<V>, Reply<V>)>) -> bool
+    ensures { result ≡ is_writer calls.now }
+{
+    calls
+        .as_slice()
+        .iter()
+        .any(|call| call.0.op.changes(&call.1))
 }

@@ -1,5 +1,9 @@
 //! An actor's transaction in a world of words.
+ghost use Rattle.std.specs.Prelude.{◌≡◌};
+ghost use Rattle.step_world.specs.WordWorlds.{is_half_done, no_one};
+
 use seq_model::{Call, Items, Refusal, Reply};
+use std::alloc::Global;
 
 /// Where an actor's request stands.
 #[derive(Clone, Copy)]
@@ -26,6 +30,15 @@ pub enum Stage {
     Leaving,
 }
 
+impl Stage {
+    /// Whether a commit has stored a value, and still holds a lock.
+    pub fn is_half_done(self) -> bool
+        ensures { result ≡ is_half_done self }
+    {
+        matches!(self, Stage::Storing)
+    }
+}
+
 /// An actor, and its transaction.
 #[derive(Drop)]
 pub struct WordSeat<V> {
@@ -38,4 +51,19 @@ pub struct WordSeat<V> {
     pub cause: Option<Refusal>,
     /// Its calls with their replies, until it is committed or aborted.
     pub calls: Items<(Call<V>, Reply<V>)>,
+}
+
+impl<V> WordSeat<V> {
+    /// An actor without a transaction.
+    pub fn empty(alloc: Global) -> WordSeat<V>
+        ensures { result ≡ no_one }
+    {
+        WordSeat {
+            stage: Stage::Idle,
+            rv: 0,
+            wv: 0,
+            cause: None,
+            calls: Items::new(alloc),
+        }
+    }
 }

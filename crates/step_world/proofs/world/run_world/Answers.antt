@@ -1,18 +1,21 @@
-use Rattle.std.proofs.Common.{◌≡◌, ap, sym, ◌∙◌, subst, arith}
-use Rattle.std.proofs.Math.ListN.{drop_of_length-le}
-use Rattle.step_world.specs.Worlds.{World, happens, opened, run}
+use Rattle.std.proofs.Common.{ap, sym, ◌∙◌, subst, refl, arith, ◌≡◌, take}
+use Rattle.step_world.specs.Forms.{Feeds, IsAfter}
 use Rattle.step_world.specs.Traces.{IsSerialTrace}
-use Rattle.step_world.proofs.SoundLemmas.{run_one, run-opening}
+use Rattle.step_world.proofs.FormLemmas.{after_one, take_all, trace_after}
 use Rattle.step_world.proofs.world.run_world.Goals as goal
 
 pub loop-event-preserved : goal.loop-event-preserved
-loop-event-preserved g c =
-    run_one _ _ _ c.args.events.now c.loop-event.event-index c.event-item.result c.loop-event-test.true c.event-item.is
-    (ap (happens c.loop-event.world.world) (sym c.in_ok-try_copy.ensures) ∙ c.in_ok-_notice.ensures.ok)
-    ∙ c.loop-event.invariant
+loop-event-preserved g c = (
+  after_one c.args.shape.now.clock c.args.state c.args.events.now c.loop-event.event-index c.event-item.result c.loop-event.world.world c.feed.new.self.world c.in_ok-_notice._notice c.loop-event-test.true c.event-item.is c.loop-event.invariant.0
+      (subst (λ e. Feeds c.loop-event.world.world e c.feed.new.self.world c.in_ok-_notice._notice) c.in_ok-try_copy.ensures c.in_ok-_notice.ensures.ok),
+  c.in_ok-_notice.ensures.opening ∙ c.loop-event.invariant.1,
+)
+
+pub returns-clause-trace : goal.returns-clause-trace
+returns-clause-trace g c =
+    let whole = take_all c.args.events.now c.loop-event.event-index c.loop-event-test.false in
+    trace_after c.args.shape.now.clock c.args.state c.args.events.now c.loop-event.world.world c.in_ok-trace.trace c.args.state.held refl
+    (subst (λ es. IsAfter c.args.shape.now.clock c.args.state es c.loop-event.world.world) whole c.loop-event.invariant.0) c.in_ok-trace.ensures.trace
 
 pub returns-clause-serial : goal.returns-clause-serial
-returns-clause-serial g c =
-    let all : c.loop-event.world.world ≡ run (opened c.args.shape.now.clock c.args.state) c.args.events.now =
-    sym (ap (run c.loop-event.world.world) (drop_of_length-le c.args.events.now (omega arith))) ∙ c.loop-event.invariant in
-    subst (λ s. IsSerialTrace s c.in_ok-trace.trace) (ap (λ (w : World g.row.V.Denot). w.opening) all ∙ run-opening (opened c.args.shape.now.clock c.args.state) c.args.events.now) c.in_ok-trace.ensures.serial
+returns-clause-serial g c = subst (λ o. IsSerialTrace o c.in_ok-trace.trace) c.loop-event.invariant.1 c.in_ok-trace.ensures.serial

@@ -1,0 +1,2 @@
+mod PlayLemmas
+mod PrintLemmas
