@@ -6,6 +6,7 @@
 use anyhow::bail;
 use std::env;
 
+mod audit;
 mod sets;
 
 fn main(rt: HostRuntime) -> anyhow::Result<()> {
@@ -15,6 +16,7 @@ fn main(rt: HostRuntime) -> anyhow::Result<()> {
         return Ok(());
     };
     match name.as_str() {
+        "audit" => audit::measure(&rt),
         "sets" => sets::measure(&rt),
         _ => bail!("no benchmark has the name {name}"),
     }
