@@ -7,7 +7,7 @@ use Rattle.std.proofs.lemmas.Bool.{cases_Bool, cond-false}
 use Rattle.step_core.specs.declared.answer.WordRefusal.TheVariants.{TooLong}
 use Rattle.tx_sets.specs.Entries.{Entries, IsRising, lookup, with_entry}
 use Rattle.tx_sets.proofs.EntryLemmas.{All-with_entry, IsRising-with_entry, length-with_entry_new, length-with_entry_there}
-use Rattle.step_core.specs.Phases.{if_full, if_new}
+use Rattle.step_core.specs.Phases.{if_new}
 use Rattle.std.specs.VecDeque.{deque_len, deque_capacity}
 use Rattle.std.proofs.lemmas.List.Elements.{All-append}
 use Rattle.step_core.specs.Sound.{FitsPlace, Fits, Keeps, owed, due}

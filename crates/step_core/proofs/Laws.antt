@@ -1,5 +1,5 @@
 -- The laws of the machine, of the running words.
-use Rattle.std.proofs.Common.{◌≡◌, ℕ, zero, suc, ◌<◌, ◌≤◌, List, [], ◌∷◌, Option, Some, None, Result, Ok, get_or, length, map, inl, inr, refl, sym, ap, ◌∙◌, subst, arith}
+use Rattle.std.proofs.Common.{◌≡◌, ℕ, zero, suc, ◌<◌, List, [], ◌∷◌, Option, Some, None, Result, Ok, get_or, length, map, inl, inr, refl, sym, ap, ◌∙◌, subst, arith}
 use Rattle.std.specs.Prelude.{IfSome, slice_get}
 use Rattle.vlock_word.specs.LockWord.{bits, unbits}
 use Rattle.vlock_word.proofs.LockWordLemmas.{bits_unbits}
@@ -20,7 +20,7 @@ use Rattle.step_core.specs.Opaque.{words_at, world_of, IsAtRest, Opaque, Saw, Ke
 use Rattle.step_core.specs.Sound.{Fits, Sound}
 use Rattle.step_core.specs.declared.actor.Actor.{Actor}
 use Rattle.step_core.specs.declared.machine.Machine.{Machine}
-use Rattle.step_core.proofs.Moves.{All-at, actor_at_go, some_at}
+use Rattle.step_core.proofs.Moves.{All-at, actor_at_go}
 use Rattle.step_core.specs.declared.answer.WordAnswer.{WordAnswer}
 use Rattle.step_core.specs.declared.answer.WordRefusal.{WordRefusal}
 

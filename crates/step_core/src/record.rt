@@ -39,7 +39,8 @@ impl WordCalls {
     pub fn into_vec(self) -> Vec<WordCall>
         ensures { result.items ≡ self }
     {
-        self.calls
+        let calls = self.calls;
+        calls
     }
 
     /// The calls.
