@@ -168,12 +168,20 @@ fn entries_of(alloc: Global, pairs: &[(u64, u64)]) -> Result<Entries<u64>, Memor
     Ok(entries)
 }
 
+fn counts_of(alloc: Global, pairs: &[(u64, u64)]) -> Result<Counts, Memory> {
+    let mut counts = Counts::new(alloc);
+    for (element, copies) in pairs {
+        counts.set_copies(*element, *copies)?;
+    }
+    Ok(counts)
+}
+
 #[test]
 fn words_and_each_collection(rt: HostRuntime) -> Result<(), Fail> {
     let alloc = rt.alloc();
     let map = entries_of(alloc, &[(1, 0), (2, 18_446_744_073_709_551_615)])?;
-    let bag = Counts::from_entries(entries_of(alloc, &[(0, 3), (7, 1)])?);
-    let pq = Counts::from_entries(entries_of(alloc, &[(5, 1), (9, 2)])?);
+    let bag = counts_of(alloc, &[(0, 3), (7, 1)])?;
+    let pq = counts_of(alloc, &[(5, 1), (9, 2)])?;
     let items = QueueItems::from_vec(vec![in alloc; 8, 7, 8]?);
     let held = vec![in alloc;
         Held::Map(map),
