@@ -1,5 +1,5 @@
 -- What a world is to its callers, in each of its two forms.
-use Rattle.std.specs.Prelude.{◌≡◌, ℕ, Bool, List, [], ◌∷◌}
+use Rattle.std.specs.Prelude.{◌≡◌, ℕ, Bool, List, [], ◌∷◌, ⊤}
 use Rattle.seq_model.specs.declared.event.Event.{Event}
 use Rattle.seq_model.specs.declared.event.Notice.{Notice}
 use Rattle.seq_model.specs.declared.held.Held.{Held}
@@ -33,6 +33,10 @@ shown_in (OverWords c) = WordsAreShown (shown_of c)
 abbrev pub IsWell : {V : Type 0} → Form V → Type 0
 IsWell (OneMap c) = IsSound (world_of c)
 IsWell (OverWords c) = AreWordParts c
+
+abbrev pub IsOneMap : {V : Type 0} → FormShown V → Type 0
+IsOneMap (MapShown w) = ⊤
+IsOneMap (WordsAreShown v) = ⊥
 
 -- the state that it was opened on
 abbrev pub opening_in : {V : Type 0} → FormShown V → Contents V

@@ -1,6 +1,6 @@
 //! A world, fed event by event.
 ghost use Rattle.std.specs.Prelude.{◌≡◌, [], true, false, IsOk, IfOk, IfErr, OnOk, OnErr};
-ghost use Rattle.step_world.specs.Forms.{opening_in, IsAfter, Feeds, IsTraceIn, IsTraceAfter};
+ghost use Rattle.step_world.specs.Forms.{opening_in, IsAfter, IsOneMap, Feeds, IsTraceIn, IsTraceAfter};
 ghost use Rattle.step_world.specs.Traces.{IsSerialTrace, IsNoSuchOrTooLong, serves, fits};
 
 use crate::parts::Parts;
@@ -111,11 +111,13 @@ impl<V: Value> World<V> {
         }
     }
 
-    /// What has come of all events. The records and the aborted transactions are moved, not copied.
+    /// What has come of all events. The records and the aborted transactions are moved, not copied, so over one
+    /// map it takes no memory.
     pub fn into_trace(self) -> Result<Trace<V>, Memory>
         ensures lasting { IsOk result → self.failed ≡ false }
         ensures trace { IfOk result (IsTraceIn self.world) }
         ensures serial { IfOk result (IsSerialTrace (opening_in self.world)) }
+        ensures answers { self.failed ≡ false → IsOneMap self.world → IsOk result }
     {
         if self.failed {
             return Err(Memory);
