@@ -341,7 +341,7 @@ mod tests {
 
     fn holds(base: &BagBase, elements: &[(u64, u64)]) -> Result<bool, Memory> {
         match base.held::<u64>()? {
-            Held::Bag(counts) => Ok(counts.as_slice() == elements),
+            Held::Bag(counts) => Ok(counts.iter().map(|(x, n)| (*x, *n)).eq(elements.iter().copied())),
             _ => Ok(false),
         }
     }

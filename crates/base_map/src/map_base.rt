@@ -304,7 +304,7 @@ mod tests {
         assert_eq!(rt; copy.edition(0), 0);
         assert_eq!(rt; copy.edition(1), 1);
         match copy.held()? {
-            Held::Map(map) => assert_eq!(rt; map.as_slice(), [(1, 10), (3, 30)].as_slice()),
+            Held::Map(map) => assert!(rt; map.iter().map(|(k, v)| (*k, *v)).eq([(1, 10), (3, 30)])),
             _ => assert!(rt; false, "no map"),
         }
         Ok(())
@@ -387,7 +387,7 @@ mod tests {
         base.prepare(changes.as_slice())?;
         base.replay(changes, &LocSet::empty(rt.alloc()));
         match base.held()? {
-            Held::Map(map) => assert_eq!(rt; map.as_slice(), [(3, 30)].as_slice()),
+            Held::Map(map) => assert!(rt; map.iter().map(|(k, v)| (*k, *v)).eq([(3, 30)])),
             _ => assert!(rt; false, "no map"),
         }
         Ok(())

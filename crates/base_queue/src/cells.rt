@@ -120,7 +120,7 @@ impl Cells {
         ensures { IfOk result (λ items. items ≡ values self.now.shown.cells) }
     {
         let mut items = QueueItems::new(alloc);
-        for (_, item) in self.table.to_entries()?.into_vec() {
+        for (_, item) in self.table.to_entries()?.into_iter() {
             items.push(item)?;
         }
         Ok(items)

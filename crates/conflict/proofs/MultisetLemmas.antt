@@ -7,10 +7,9 @@ use Rattle.std.proofs.lemmas.Bool.Decides.{nat_tests}
 use Rattle.seq_model.specs.Counts.{Multiset, HasNoZero, with_copies}
 use Rattle.seq_model.specs.Entries.{IsRising}
 use Rattle.seq_model.proofs.CountsLemmas.{no_zero_remove, no_zero_insert}
-use Rattle.seq_model.proofs.EntryLemmas.{find_below, below_at, both_true}
+use Rattle.seq_model.proofs.EntryLemmas.{inserts_all, find_below, below_at, both_true}
 use Rattle.conflict.specs.Places.{same_key, key_itself}
-use Rattle.conflict.specs.Table.{inserts}
-use Rattle.conflict.proofs.TableLemmas.{inserts_all}
+use Rattle.seq_model.specs.Entries.{inserts}
 
 pub no_zero_with : (m : Multiset) (x c : ℕ) → HasNoZero m → HasNoZero (with_copies m x c)
 no_zero_with m x c none =

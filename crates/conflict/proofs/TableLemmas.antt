@@ -1,14 +1,13 @@
 -- An `IndexMap` with numbers as keys, as a finite map.
-use Rattle.std.proofs.Common.{◌≡◌, ℕ, ◌+◌, true, false, cond, List, [], ◌∷◌, length, Option, Some, None, is_some, nat_eq, refl, sym, ap, ◌∙◌, arith}
+use Rattle.std.proofs.Common.{◌≡◌, ℕ, ◌+◌, false, cond, List, [], ◌∷◌, length, Some, None, is_some, nat_eq, refl, sym, ap, ◌∙◌, arith}
 use Rattle.std.specs.Cmp.{nat_cmp_total}
 use Rattle.std.specs.Ordering.{nat_cmp, eq_by_cmp}
 use Rattle.std.specs.Map.{lookup, keys_of}
 use Rattle.std.specs.List.{IsDistinct, AllByRecursion}
-use Rattle.seq_model.specs.Entries.{IsRising}
-use Rattle.seq_model.proofs.EntryLemmas.{find_below, below_at, both_true}
-use Rattle.std.specs.FinMap.{FinMap, find, entries, entries_sorted, empty, get-empty, get-entries, get, insert, remove, len, from_entries, get-from_entries, get-insert, get-remove, len-insert, len-empty, same_map, nat_cmp-IsAntisymmetric}
+use Rattle.seq_model.specs.Entries.{inserts}
+use Rattle.seq_model.proofs.EntryLemmas.{AreFresh, or_else, or_none, get_inserts}
+use Rattle.std.specs.FinMap.{find, empty, get-empty, get, insert, remove, len, from_entries, get-from_entries, get-insert, get-remove, len-insert, len-empty, same_map, nat_cmp-IsAntisymmetric}
 use Rattle.std.proofs.lemmas.Bool.Decides.{nat_tests}
-use Rattle.conflict.specs.Table.{inserts}
 use Rattle.indexmap.specs.IndexMap as index
 
 -- the two tests of keys
@@ -50,58 +49,14 @@ len_of (e ∷ es) h =
     ∙ omega arith
 
 -- ---- entries inserted one after another
--- each key differs from those after it
-abbrev pub AreFresh : {V : Type 0} → List (ℕ × V) → Type 0
-AreFresh [] = Unit {0}
-AreFresh (e ∷ es) = (lookup (nat_eq e.0) es ≡ None) × AreFresh es
-
-abbrev pub or_else : {V : Type 0} → Option V → Option V → Option V
-or_else None d = d
-or_else (Some v) d = Some v
-
-same_key : (x y : ℕ) → nat_eq x y ≡ true → x ≡ y
-same_key x y h = grind (arith, nat_tests)
-
 module _ {V : Type 0} where
-  pub fresh_distinct : (es : List (ℕ × V)) → IsDistinct nat_eq (keys_of es) → AreFresh es
+  fresh_distinct : (es : List (ℕ × V)) → IsDistinct nat_eq (keys_of es) → AreFresh es
   unfolding IsDistinct
   fresh_distinct [] h = tt
-  fresh_distinct (e ∷ es) h = (absent e.0 es h.0, fresh_distinct es h.1)
+  fresh_distinct (e ∷ es) h = (find_is e.0 es ∙ absent e.0 es h.0, fresh_distinct es h.1)
 
-  pub fresh_rising : (es : List (ℕ × V)) → IsRising es → AreFresh es
-  fresh_rising [] h = tt
-  fresh_rising (e ∷ es) h =
-      (sym (find_is e.0 es) ∙ find_below e.0 es (below_at e.0 es (both_true _ _ h).0), fresh_rising es (both_true _ _ h).1)
-
-  pub get_inserts : (es : List (ℕ × V)) → AreFresh es → (m : FinMap nat_cmp V) (q : ℕ) → get (inserts m es) q ≡ or_else (lookup (nat_eq q) es) (get m q)
-  get_inserts [] h m q = refl
-  get_inserts (e ∷ es) h m q =
-      get_inserts es h.1 (insert m e.0 e.1) q
-      ∙ ap (or_else (lookup (nat_eq q) es)) (get-insert nat_cmp_total m e.0 e.1 q ∙ ap (λ b. cond b (Some e.1) (get m q)) (same_test q e.0))
-      ∙ elim (nat_eq q e.0) as (λ b. nat_eq q e.0 ≡ b → or_else (lookup (nat_eq q) es) (cond b (Some e.1) (get m q)) ≡ or_else (cond b (Some e.1) (lookup (nat_eq q) es)) (get m q)) [
-        | true ↦ λ is. ap (λ o. or_else o (Some e.1)) (ap (λ x. lookup (nat_eq x) es) (same_key q e.0 is) ∙ h.0)
-        | false ↦ λ is. refl
-      ] refl
-
-  -- the entries of a map, inserted into the empty one, give it back
-  pub inserts_all : (m : FinMap nat_cmp V) → inserts empty (entries m) ≡ m
-  inserts_all m = same_map nat_cmp_total nat_cmp-IsAntisymmetric _ _ (λ q.
-      get_inserts (entries m) (fresh_rising (entries m) (entries_sorted m)) empty q
-      ∙ (λ i. or_else (sym (find_is q (entries m)) i) (get-empty {X = V} nat_cmp q i)) ∙ or_none (find nat_cmp q (entries m)) ∙ sym (get-entries m q))
-    where
-      or_none : (o : Option V) → or_else o None ≡ o
-      or_none None = refl
-      or_none (Some v) = refl
-
-  -- and so do those of a list of distinct keys
+  -- the entries of a list of distinct keys, inserted into the empty map, give that list's map
   pub inserts_distinct : (es : List (ℕ × V)) → IsDistinct nat_eq (keys_of es) → inserts empty es ≡ from_entries es
   inserts_distinct es h = same_map nat_cmp_total nat_cmp-IsAntisymmetric _ _ (λ q.
-      get_inserts es (fresh_distinct es h) empty q ∙ ap (or_else (lookup (nat_eq q) es)) (get-empty {X = V} nat_cmp q) ∙ or_none (lookup (nat_eq q) es) ∙ sym (get_of es q))
-    where
-      or_none : (o : Option V) → or_else o None ≡ o
-      or_none None = refl
-      or_none (Some v) = refl
-
--- entries in another order are the same map
-pub reordered_same : {V S : Type 0} (m n : index.IndexMap ℕ V S) → index.IsReordered nat_eq m n → from_entries {R = nat_cmp} n.entries ≡ from_entries {R = nat_cmp} m.entries
-reordered_same m n same = same_map nat_cmp_total nat_cmp-IsAntisymmetric _ _ (λ q. get_of n.entries q ∙ same.2 q ∙ sym (get_of m.entries q))
+      get_inserts es (fresh_distinct es h) empty q ∙ ap (or_else (find nat_cmp q es)) (get-empty {X = V} nat_cmp q)
+      ∙ or_none (find nat_cmp q es) ∙ sym (get-from_entries nat_cmp_total es q))

@@ -1,5 +1,5 @@
 -- A finite map with room for more entries.
-use Rattle.std.specs.Prelude.{ℕ, List, fold, refl}
+use Rattle.std.specs.Prelude.{ℕ, refl}
 use Rattle.std.specs.Coded.{Coded, code_by, coded_ℕ, coded×}
 use Rattle.std.specs.Ordering.{nat_cmp}
 use Rattle.std.specs.FinMap as map
@@ -15,7 +15,3 @@ room_of m = record { contents = map.from_entries m.entries; room = index.spare m
 
 abbrev pub room_code : {V : Type 0} → Coded V → Coded (Room V)
 room_code {V} v = code_by (map.FinMap nat_cmp V × ℕ) (coded× (map.code coded_ℕ v) coded_ℕ) (λ r. (r.contents, r.room)) (λ p. record { contents = p.0; room = p.1 }) (λ _. refl)
-
--- entries inserted one after another
-abbrev pub inserts : {V : Type 0} → map.FinMap nat_cmp V → List (ℕ × V) → map.FinMap nat_cmp V
-inserts m es = fold (λ n e. map.insert n e.0 e.1) m es

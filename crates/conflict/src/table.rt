@@ -86,7 +86,7 @@ impl<V: Value> Table<V> {
     {
         let mut table = Table::new(alloc);
         table.reserve(entries.len())?;
-        for (key, value) in entries.into_vec() {
+        for (key, value) in entries.into_iter() {
             table.insert_reserved(key, value);
         }
         Ok(table)
@@ -108,19 +108,9 @@ impl<V: Value> Table<V> {
     pub fn to_entries(&self) -> Result<Entries<V>, Memory>
         ensures { IfOk result (λ entries. entries ≡ self.now.contents) }
     {
-        self.try_copy()?.into_entries()
-    }
-
-    /// The entries, in the order of their keys.
-    pub fn into_entries(self) -> Result<Entries<V>, Memory>
-        ensures { IfOk result (λ entries. entries ≡ self.contents) }
-    {
         let mut entries = Entries::new(self.alloc);
-        let mut sorted = self.entries;
-        // so that each entry goes to the end of those before it
-        sorted.sort_keys()?;
-        for (key, value) in sorted {
-            entries.insert(key, value)?;
+        for (key, value) in self.entries.iter() {
+            entries.insert(*key, value.try_copy()?)?;
         }
         Ok(entries)
     }
@@ -155,8 +145,8 @@ mod tests {
 
     #[test]
     fn gives_its_entries_by_rising_key(rt: HostRuntime) -> Result<(), Fail> {
-        let entries = of_two_keys(rt.alloc())?.into_entries()?;
-        assert_eq!(rt; entries.as_slice(), [(5, 50), (9, 90)].as_slice());
+        let entries = of_two_keys(rt.alloc())?.to_entries()?;
+        assert!(rt; entries.iter().map(|(key, value)| (*key, *value)).eq([(5, 50), (9, 90)]));
         Ok(())
     }
 

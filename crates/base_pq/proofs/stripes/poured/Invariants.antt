@@ -3,4 +3,4 @@ use Rattle.base_pq.specs.Joined.{poured}
 use Rattle.base_pq.proofs.stripes.poured.Given as goal
 
 abbrev pub invariant-loop-stripe : goal.invariant-loop-stripe
-invariant-loop-stripe l = l.table.contents ≡ poured (take l.stripe-index l.stripes)
+invariant-loop-stripe l = l.entries ≡ poured (take l.stripe-index l.stripes)

@@ -1,8 +1,7 @@
-use Rattle.std.proofs.Common.{◌≡◌, take}
-use Rattle.std.specs.FinMap.{empty}
+use Rattle.std.proofs.Common.{◌≡◌}
 use Rattle.conflict.proofs.MultisetLemmas.{gives}
 use Rattle.base_pq.proofs.stripes.Stripes.of_counts.Given as goal
 
+-- the entries that are left make the whole
 abbrev pub invariant-loop-element : goal.invariant-loop-element
-invariant-loop-element l =
-    (l.stripes.elements ≡ gives empty (take l.element-index l.element-items)) × (l.stripes.stripes ≡ l.fn.count)
+invariant-loop-element l = (gives l.stripes.elements l.element-iterator ≡ l.fn.counts) × (l.stripes.stripes ≡ l.fn.count)

@@ -11,12 +11,12 @@ from_entries-requires c =
     let d : StripeView = record { elements = empty; room = 0 } in
     let ss = c.self.inside.stripes.items in
     subst HasNoZero
-    (sym (c.in_ok-into_entries.ensures ∙ c.in_ok-table.ensures ∙ ap poured c.as_slice.ensures.value ∙ poured_joined ss d c.self.invariant.0 c.self.invariant.1))
+    (sym (c.in_ok-poured.ensures ∙ ap poured c.as_slice.ensures.value ∙ poured_joined ss d c.self.invariant.0 c.self.invariant.1))
     c.self.invariant.2
 
 pub returns : goal.returns
 returns c =
     let d : StripeView = record { elements = empty; room = 0 } in
     let ss = c.self.inside.stripes.items in
-    c.from_entries.ensures ∙ c.in_ok-into_entries.ensures ∙ c.in_ok-table.ensures ∙ ap poured c.as_slice.ensures.value
+    c.from_entries.ensures ∙ c.in_ok-poured.ensures ∙ ap poured c.as_slice.ensures.value
     ∙ poured_joined ss d c.self.invariant.0 c.self.invariant.1 ∙ ap (λ r. r.elements) c.self.view_is

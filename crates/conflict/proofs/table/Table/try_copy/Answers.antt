@@ -1,5 +1,5 @@
 use Rattle.std.proofs.Common.{◌≤◌, ap, sym, ◌∙◌, length, subst}
-use Rattle.conflict.specs.Table.{inserts}
+use Rattle.seq_model.specs.Entries.{inserts}
 use Rattle.conflict.proofs.TableLemmas.{inserts_distinct}
 use Rattle.conflict.proofs.table.Table.try_copy.Goals as goal
 

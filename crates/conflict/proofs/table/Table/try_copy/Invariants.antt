@@ -1,5 +1,5 @@
 use Rattle.std.proofs.Common.{◌≡◌, ◌≤◌, length}
-use Rattle.conflict.specs.Table.{inserts}
+use Rattle.seq_model.specs.Entries.{inserts}
 use Rattle.conflict.proofs.table.Table.try_copy.Given as goal
 
 -- the entries that are left make the copy whole, and there is room for them
