@@ -6,6 +6,7 @@ ghost use Rattle.session_text.specs.Prints.{number_text, pair_text, reply_text, 
 use crate::run::ScriptRun;
 use seq_model::{Answer, Held, Memory, Notice, Record, Reply, State};
 use std::alloc::Global;
+use std::collections::btree_map::Iter;
 use std::fmt::Write;
 
 /// The text of what came of a script: a line for each notice, then the records, the half-done commits, and what words
@@ -128,15 +129,15 @@ fn print_held(text: &mut String, held: &Held<u64>) -> Result<(), Memory>
     match held {
         Held::Map(map) => {
             text.push_str("map")?;
-            print_pairs(text, map.as_slice())
+            print_pairs(text, map.iter())
         }
         Held::Bag(counts) => {
             text.push_str("bag")?;
-            print_pairs(text, counts.as_slice())
+            print_pairs(text, counts.iter())
         }
         Held::Pq(counts) => {
             text.push_str("pq")?;
-            print_pairs(text, counts.as_slice())
+            print_pairs(text, counts.iter())
         }
         Held::Queue { head, items } => {
             let head = *head;
@@ -157,8 +158,8 @@ fn print_numbers(text: &mut String, numbers: &[u64]) -> Result<(), Memory>
     Ok(())
 }
 
-fn print_pairs(text: &mut String, pairs: &[(u64, u64)]) -> Result<(), Memory>
-    ensures { OnOk result (string_bytes text.new ≡ string_bytes text.old ++ flat_map pair_text pairs.now) }
+fn print_pairs(text: &mut String, pairs: Iter<'_, u64, u64>) -> Result<(), Memory>
+    ensures { OnOk result (string_bytes text.new ≡ string_bytes text.old ++ flat_map pair_text pairs.entry) }
 {
     for (key, value) in pairs {
         write!(text, " {key}:{value}")?;
