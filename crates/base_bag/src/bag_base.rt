@@ -1,5 +1,5 @@
 //! The collection of a multiset.
-ghost use Rattle.std.specs.Prelude.{◌≡◌, ◌^◌, ◌<◌, ◌≤◌, Some, None, All, IsOk, replicate, IfOk, IfErr, OnOk, length, slice_index};
+ghost use Rattle.std.specs.Prelude.{◌≡◌, ◌+◌, ◌^◌, ◌<◌, ◌≤◌, [], Some, None, All, IsOk, replicate, IfOk, IfErr, OnOk, length, slice_index};
 ghost use Rattle.std.specs.FinMap.{empty};
 ghost use Rattle.seq_model.specs.Calls.{IsRefusal, IsWithinLimits};
 ghost use Rattle.seq_model.specs.Counts.{HasFewCopies};
@@ -112,10 +112,11 @@ impl BagBase {
         Ok(Held::Bag(counts))
     }
 
-    /// The outcome that the call has here. A call of another kind is refused as NoSuch.
+    /// The outcome that the call has here. A call of another kind is refused as NoSuch, and nothing else is refused.
     pub fn outcome<V>(&self, op: &Op<V>) -> Result<Outcome<V>, Refusal>
         ensures ok { IfOk result (λ outcome. outcome_of op.now self.now.shown ≡ Some outcome) }
         ensures refused { IfErr result (λ refusal. IsRefusal refusal (outcome_of op.now self.now.shown ≡ None)) }
+        ensures served { ¬ (outcome_of op.now self.now.shown ≡ None) → IsOk result }
     {
         let (op, reply) = match op {
             Op::Count(element) => {
@@ -153,9 +154,10 @@ impl BagBase {
         (element % self.stripes as u64) as u32
     }
 
-    /// The locations that the outcome reads.
+    /// The locations that the outcome reads. They are never refused.
     pub fn reads<V>(&self, outcome: &Outcome<V>) -> Result<LocSet, Memory>
-        ensures { IfOk result (λ set. set ≡ reads_of self.now.stripes outcome.now) }
+        ensures locations { IfOk result (λ set. set ≡ reads_of self.now.stripes outcome.now) }
+        ensures served { IsOk result }
     {
         let alloc = self.editions.allocator();
         Ok(match &outcome.op {
@@ -166,9 +168,10 @@ impl BagBase {
         })
     }
 
-    /// The locations that the outcome writes.
+    /// The locations that the outcome writes. They are never refused.
     pub fn writes<V>(&self, outcome: &Outcome<V>) -> Result<LocSet, Memory>
-        ensures { IfOk result (λ set. set ≡ writes_of self.now.stripes outcome.now) }
+        ensures locations { IfOk result (λ set. set ≡ writes_of self.now.stripes outcome.now) }
+        ensures served { IsOk result }
     {
         let alloc = self.editions.allocator();
         Ok(match (&outcome.op, &outcome.reply) {
@@ -179,9 +182,10 @@ impl BagBase {
         })
     }
 
-    /// What the outcome changes.
+    /// What the outcome changes. Where that is nothing, it is never refused.
     pub fn changes<V: Drop>(&self, outcome: &Outcome<V>) -> Result<Changes<V>, Memory>
-        ensures { IfOk result (λ changes. changes ≡ changes_of outcome.now) }
+        ensures changes { IfOk result (λ changes. changes ≡ changes_of outcome.now) }
+        ensures served { changes_of outcome.now ≡ [] → IsOk result }
     {
         let mut changes = Items::new(self.editions.allocator());
         match (&outcome.op, &outcome.reply) {
@@ -192,18 +196,21 @@ impl BagBase {
         Ok(changes)
     }
 
-    /// Makes room for the changes. The multiset stays as it is, also where memory is refused.
+    /// Makes room for the changes. The multiset stays as it is and keeps its room, also where memory is refused. Where there is
+    /// room already, nothing is refused.
     pub fn prepare<V>(&mut self, changes: &[Change<V>]) -> Result<(), Memory>
         ensures shown { self.new.shown ≡ self.old.shown }
         ensures stripes { self.new.stripes ≡ self.old.stripes }
         ensures editions { self.new.editions ≡ self.old.editions }
         ensures ok { OnOk result (length changes.now ≤ self.new.room) }
+        ensures room { self.old.room ≤ self.new.room }
+        ensures served { length changes.now ≤ self.old.room → IsOk result }
     {
         self.elements.reserve(changes.len())
     }
 
     /// Applies the changes in order, and raises the edition of each written location by one. There has to be room for the
-    /// changes, so it takes no memory and is never refused.
+    /// changes, so it takes no memory and is never refused. It uses up the room for these changes alone.
     pub fn replay<V: Drop>(&mut self, changes: Changes<V>, written: &LocSet)
         requires prepared { length changes ≤ self.old.room }
         requires within { All (λ location. location < self.old.stripes) written.now }
@@ -211,6 +218,7 @@ impl BagBase {
         ensures shown { self.new.shown ≡ applied (rules V) changes self.old.shown }
         ensures stripes { self.new.stripes ≡ self.old.stripes }
         ensures editions { self.new.editions ≡ raised written.now self.old.editions }
+        ensures room { self.old.room ≤ self.new.room + length changes }
     {
         apply_changes(&mut self.elements, changes);
         self.editions.raise(written);
@@ -240,7 +248,8 @@ impl BagBase {
 
 fn apply_changes<V: Drop>(elements: &mut Elements, changes: Changes<V>)
     requires { length changes ≤ elements.old.room }
-    ensures { elements.new.shown ≡ applied (rules V) changes elements.old.shown }
+    ensures shown { elements.new.shown ≡ applied (rules V) changes elements.old.shown }
+    ensures room { elements.old.room ≤ elements.new.room + length changes }
 {
     for change in changes.into_vec() {
         elements.change(change);

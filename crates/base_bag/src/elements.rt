@@ -1,5 +1,5 @@
 //! The elements of a multiset with the numbers of their copies. An element without copies is not kept.
-ghost use Rattle.std.specs.Prelude.{◌≡◌, ◌+◌, ◌<◌, ◌≤◌, IfOk, OnOk};
+ghost use Rattle.std.specs.Prelude.{◌≡◌, ◌+◌, ◌<◌, ◌≤◌, IsOk, IfOk, OnOk};
 ghost use Rattle.std.specs.FinMap.{empty};
 ghost use Rattle.seq_model.specs.Counts.{copies, with_copies};
 ghost use Rattle.base_bag.specs.Conflicts.{change_multiset};
@@ -60,11 +60,12 @@ impl Elements {
         self.table.get(element).copied().unwrap_or(0)
     }
 
-    /// Makes room for this many changes.
+    /// Makes room for this many changes. Where there is room for them, it takes no memory.
     pub fn reserve(&mut self, more: usize) -> Result<(), Memory>
         ensures shown { self.new.shown ≡ self.old.shown }
         ensures ok { OnOk result (more ≤ self.new.room) }
         ensures room { self.old.room ≤ self.new.room }
+        ensures served { more ≤ self.old.room → IsOk result }
     {
         self.table.reserve(more)
     }

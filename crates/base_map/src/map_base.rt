@@ -1,5 +1,5 @@
 //! The collection of a map.
-ghost use Rattle.std.specs.Prelude.{◌≡◌, ◌+◌, ◌^◌, ◌<◌, ◌≤◌, ◌%◌, Some, None, All, IsOk, replicate, IfOk, IfErr, OnOk, length, slice_index};
+ghost use Rattle.std.specs.Prelude.{◌≡◌, ◌+◌, ◌^◌, ◌<◌, ◌≤◌, [], ◌%◌, Some, None, All, IsOk, replicate, IfOk, IfErr, OnOk, length, slice_index};
 ghost use Rattle.std.specs.FinMap as map;
 ghost use Rattle.seq_model.specs.Calls.{IsRefusal, value_reply};
 ghost use Rattle.conflict.specs.Rules.{applied};
@@ -140,9 +140,10 @@ impl<V: Value> MapBase<V> {
         (key % self.stripes as u64) as u32
     }
 
-    /// The locations that the outcome reads.
+    /// The locations that the outcome reads. Up to eight are never refused.
     pub fn reads(&self, outcome: &Outcome<V>) -> Result<LocSet, Memory>
-        ensures { IfOk result (λ set. set ≡ reads_of self.now.stripes outcome.now) }
+        ensures locations { IfOk result (λ set. set ≡ reads_of self.now.stripes outcome.now) }
+        ensures served { length (reads_of self.now.stripes outcome.now) ≤ 8 → IsOk result }
     {
         let alloc = self.editions.allocator();
         match &outcome.op {
@@ -154,9 +155,10 @@ impl<V: Value> MapBase<V> {
         }
     }
 
-    /// The locations that the outcome writes.
+    /// The locations that the outcome writes. They are never refused.
     pub fn writes(&self, outcome: &Outcome<V>) -> Result<LocSet, Memory>
-        ensures { IfOk result (λ set. set ≡ writes_of self.now.stripes outcome.now) }
+        ensures locations { IfOk result (λ set. set ≡ writes_of self.now.stripes outcome.now) }
+        ensures served { IsOk result }
     {
         let alloc = self.editions.allocator();
         Ok(match (&outcome.op, &outcome.reply) {
@@ -167,9 +169,10 @@ impl<V: Value> MapBase<V> {
         })
     }
 
-    /// What the outcome changes.
+    /// What the outcome changes. Where that is nothing, it is never refused.
     pub fn changes(&self, outcome: &Outcome<V>) -> Result<Changes<V>, Memory>
-        ensures { IfOk result (λ changes. changes ≡ changes_of outcome.now) }
+        ensures changes { IfOk result (λ changes. changes ≡ changes_of outcome.now) }
+        ensures served { changes_of outcome.now ≡ [] → IsOk result }
     {
         let mut changes = Items::new(self.editions.allocator());
         match (&outcome.op, &outcome.reply) {
@@ -180,18 +183,21 @@ impl<V: Value> MapBase<V> {
         Ok(changes)
     }
 
-    /// Makes room for the changes. The map stays as it is, also where memory is refused.
+    /// Makes room for the changes. The map stays as it is and keeps its room, also where memory is refused. Where there is
+    /// room already, nothing is refused.
     pub fn prepare(&mut self, changes: &[Change<V>]) -> Result<(), Memory>
         ensures shown { self.new.shown ≡ self.old.shown }
         ensures stripes { self.new.stripes ≡ self.old.stripes }
         ensures editions { self.new.editions ≡ self.old.editions }
         ensures ok { OnOk result (length changes.now ≤ self.new.room) }
+        ensures room { self.old.room ≤ self.new.room }
+        ensures served { length changes.now ≤ self.old.room → IsOk result }
     {
         self.table.reserve(changes.len())
     }
 
     /// Applies the changes in order, and raises the edition of each written location by one. There has to be room for the
-    /// changes, so it takes no memory and is never refused.
+    /// changes, so it takes no memory and is never refused. It uses up the room for these changes alone.
     pub fn replay(&mut self, changes: Changes<V>, written: &LocSet)
         requires prepared { length changes ≤ self.old.room }
         requires within { All (λ location. location < self.old.stripes) written.now }
@@ -199,6 +205,7 @@ impl<V: Value> MapBase<V> {
         ensures shown { self.new.shown ≡ applied (rules V) changes self.old.shown }
         ensures stripes { self.new.stripes ≡ self.old.stripes }
         ensures editions { self.new.editions ≡ raised written.now self.old.editions }
+        ensures room { self.old.room ≤ self.new.room + length changes }
     {
         apply_changes(&mut self.table, changes);
         self.editions.raise(written);
@@ -228,7 +235,8 @@ impl<V: Value> MapBase<V> {
 
 fn apply_changes<V: Drop>(table: &mut Table<V>, changes: Changes<V>)
     requires { length changes ≤ table.old.room }
-    ensures { table.new.contents ≡ applied (rules V) changes table.old.contents }
+    ensures contents { table.new.contents ≡ applied (rules V) changes table.old.contents }
+    ensures room { table.old.room ≤ table.new.room + length changes }
 {
     for change in changes.into_vec() {
         match change {

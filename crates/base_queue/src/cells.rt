@@ -1,5 +1,5 @@
 //! The items of a queue by their indexes. An item keeps its index for as long as it stands in the queue, and no index returns.
-ghost use Rattle.std.specs.Prelude.{◌≡◌, ◌+◌, ◌<◌, ◌≤◌, [], Some, IfOk, OnOk, length};
+ghost use Rattle.std.specs.Prelude.{◌≡◌, ◌+◌, ◌<◌, ◌≤◌, [], Some, IsOk, IfOk, OnOk, length};
 ghost use Rattle.std.specs.FinMap.{get, empty, values};
 ghost use Rattle.seq_model.specs.Calls.{found_reply};
 ghost use Rattle.base_queue.specs.Conflicts.{change_shown, cells_from, queue_view};
@@ -83,11 +83,12 @@ impl Cells {
         }
     }
 
-    /// Makes room for this many changes.
+    /// Makes room for this many changes. Where there is room for them, it takes no memory.
     pub fn reserve(&mut self, more: usize) -> Result<(), Memory>
         ensures shown { self.new.shown ≡ self.old.shown }
         ensures ok { OnOk result (more ≤ self.new.room) }
         ensures room { self.old.room ≤ self.new.room }
+        ensures served { more ≤ self.old.room → IsOk result }
     {
         self.table.reserve(more)
     }

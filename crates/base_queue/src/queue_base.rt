@@ -119,10 +119,11 @@ impl QueueBase {
         })
     }
 
-    /// The outcome that the call has here. A call of another kind is refused as NoSuch.
+    /// The outcome that the call has here. A call of another kind is refused as NoSuch, and nothing else is refused.
     pub fn outcome<V>(&self, op: &Op<V>) -> Result<Outcome<V>, Refusal>
         ensures ok { IfOk result (λ outcome. outcome_of op.now self.now.shown ≡ Some outcome) }
         ensures refused { IfErr result (λ refusal. IsRefusal refusal (outcome_of op.now self.now.shown ≡ None)) }
+        ensures served { ¬ (outcome_of op.now self.now.shown ≡ None) → IsOk result }
     {
         let head = Note::Index(self.cells.head());
         let (op, reply, note) = match op {
@@ -167,9 +168,10 @@ impl QueueBase {
         (index % self.stripes as u64) as u32 + 2
     }
 
-    /// The locations that the outcome reads.
+    /// The locations that the outcome reads. They are never refused.
     pub fn reads<V>(&self, outcome: &Outcome<V>) -> Result<LocSet, Memory>
-        ensures { IfOk result (λ set. set ≡ reads_of self.now.stripes outcome.now) }
+        ensures locations { IfOk result (λ set. set ≡ reads_of self.now.stripes outcome.now) }
+        ensures served { IsOk result }
     {
         let alloc = self.editions.allocator();
         Ok(match (&outcome.op, outcome.note) {
@@ -181,9 +183,10 @@ impl QueueBase {
         })
     }
 
-    /// The locations that the outcome writes.
+    /// The locations that the outcome writes. They are never refused.
     pub fn writes<V>(&self, outcome: &Outcome<V>) -> Result<LocSet, Memory>
-        ensures { IfOk result (λ set. set ≡ writes_of self.now.stripes outcome.now) }
+        ensures locations { IfOk result (λ set. set ≡ writes_of self.now.stripes outcome.now) }
+        ensures served { IsOk result }
     {
         let alloc = self.editions.allocator();
         Ok(match (&outcome.op, &outcome.reply, outcome.note) {
@@ -197,9 +200,10 @@ impl QueueBase {
         })
     }
 
-    /// What the outcome changes.
+    /// What the outcome changes. Where that is nothing, it is never refused.
     pub fn changes<V: Drop>(&self, outcome: &Outcome<V>) -> Result<Changes<V>, Memory>
-        ensures { IfOk result (λ changes. changes ≡ changes_of outcome.now) }
+        ensures changes { IfOk result (λ changes. changes ≡ changes_of outcome.now) }
+        ensures served { changes_of outcome.now ≡ [] → IsOk result }
     {
         let mut changes = Items::new(self.editions.allocator());
         match (&outcome.op, &outcome.reply, outcome.note) {
@@ -214,18 +218,21 @@ impl QueueBase {
         Ok(changes)
     }
 
-    /// Makes room for the changes. The queue stays as it is, also where memory is refused.
+    /// Makes room for the changes. The queue stays as it is and keeps its room, also where memory is refused. Where there is
+    /// room already, nothing is refused.
     pub fn prepare<V>(&mut self, changes: &[Change<V>]) -> Result<(), Memory>
         ensures shown { self.new.shown ≡ self.old.shown }
         ensures stripes { self.new.stripes ≡ self.old.stripes }
         ensures editions { self.new.editions ≡ self.old.editions }
         ensures ok { OnOk result (length changes.now ≤ self.new.room) }
+        ensures room { self.old.room ≤ self.new.room }
+        ensures served { length changes.now ≤ self.old.room → IsOk result }
     {
         self.cells.reserve(changes.len())
     }
 
     /// Applies the changes in order, and raises the edition of each written location by one. There has to be room for the
-    /// changes, so it takes no memory and is never refused.
+    /// changes, so it takes no memory and is never refused. It uses up the room for these changes alone.
     pub fn replay<V: Drop>(&mut self, changes: Changes<V>, written: &LocSet)
         requires prepared { length changes ≤ self.old.room }
         requires within { All (λ location. location < self.old.stripes + 2) written.now }
@@ -233,6 +240,7 @@ impl QueueBase {
         ensures shown { self.new.shown ≡ applied (rules V) changes self.old.shown }
         ensures stripes { self.new.stripes ≡ self.old.stripes }
         ensures editions { self.new.editions ≡ raised written.now self.old.editions }
+        ensures room { self.old.room ≤ self.new.room + length changes }
     {
         apply_changes(&mut self.cells, changes);
         self.editions.raise(written);
@@ -262,7 +270,8 @@ impl QueueBase {
 
 fn apply_changes<V: Drop>(cells: &mut Cells, changes: Changes<V>)
     requires { length changes ≤ cells.old.room }
-    ensures { cells.new.shown ≡ applied (rules V) changes cells.old.shown }
+    ensures shown { cells.new.shown ≡ applied (rules V) changes cells.old.shown }
+    ensures room { cells.old.room ≤ cells.new.room + length changes }
 {
     for change in changes.into_vec() {
         cells.change(change);
@@ -368,25 +377,20 @@ mod tests {
         Ok(state.held().iter().all(|held| held.same(&left)))
     }
 
-    // The same in one stripe, in two and in three.
-    fn follows_in_all(
+    // The same for a queue that opens so, in so many stripes.
+    fn follows_in(
         alloc: Global,
-        head: u64,
-        items: &[u64],
+        stripes: u32,
+        opening: (u64, &[u64]),
         ops: &[Op<u64>],
     ) -> Result<bool, Refusal> {
-        for stripes in 1..4 {
-            let mut base = QueueBase::open(alloc, stripes, queue(alloc, head, items)?)?;
-            let mut state = state_of(alloc, queue(alloc, head, items)?)?;
-            if !follows(&mut base, &mut state, ops)? {
-                return Ok(false);
-            }
-        }
-        Ok(true)
+        let (head, items) = opening;
+        let mut base = QueueBase::open(alloc, stripes, queue(alloc, head, items)?)?;
+        let mut state = state_of(alloc, queue(alloc, head, items)?)?;
+        follows(&mut base, &mut state, ops)
     }
 
-    #[test]
-    fn follows_the_model_round_the_cells(rt: HostRuntime) -> Result<(), Fail> {
+    fn goes_round_the_cells(alloc: Global, stripes: u32) -> Result<bool, Refusal> {
         let ops = [
             Op::Enqueue(1),
             Op::Enqueue(2),
@@ -397,12 +401,10 @@ mod tests {
             Op::Dequeue,
             Op::Len,
         ];
-        assert!(rt; follows_in_all(rt.alloc(), 0, [].as_slice(), ops.as_slice())?);
-        Ok(())
+        follows_in(alloc, stripes, (0, [].as_slice()), ops.as_slice())
     }
 
-    #[test]
-    fn follows_the_model_from_a_later_head(rt: HostRuntime) -> Result<(), Fail> {
+    fn goes_on_from_a_later_head(alloc: Global, stripes: u32) -> Result<bool, Refusal> {
         let ops = [
             Op::Dequeue,
             Op::Dequeue,
@@ -413,12 +415,14 @@ mod tests {
             Op::Peek,
             Op::Enqueue(2),
         ];
-        assert!(rt; follows_in_all(rt.alloc(), 5, [8, 7, 8, 9].as_slice(), ops.as_slice())?);
-        Ok(())
+        follows_in(alloc, stripes, (5, [8, 7, 8, 9].as_slice()), ops.as_slice())
     }
 
-    #[test]
-    fn follows_the_model_past_its_last_item(rt: HostRuntime) -> Result<(), Fail> {
+    fn goes_past_its_last_item(
+        alloc: Global,
+        stripes: u32,
+        opening: (u64, &[u64]),
+    ) -> Result<bool, Refusal> {
         let ops = [
             Op::Len,
             Op::Peek,
@@ -430,13 +434,14 @@ mod tests {
             Op::Dequeue,
             Op::Len,
         ];
-        assert!(rt; follows_in_all(rt.alloc(), 0, [].as_slice(), ops.as_slice())?);
-        assert!(rt; follows_in_all(rt.alloc(), 4, [3].as_slice(), ops.as_slice())?);
-        Ok(())
+        follows_in(alloc, stripes, opening, ops.as_slice())
     }
 
-    #[test]
-    fn follows_the_model_up_to_the_last_index(rt: HostRuntime) -> Result<(), Fail> {
+    fn goes_up_to_the_last_index(
+        alloc: Global,
+        stripes: u32,
+        opening: (u64, &[u64]),
+    ) -> Result<bool, Refusal> {
         let ops = [
             Op::Enqueue(1),
             Op::Enqueue(2),
@@ -448,9 +453,122 @@ mod tests {
             Op::Peek,
             Op::Len,
         ];
-        let alloc = rt.alloc();
-        assert!(rt; follows_in_all(alloc, INDEX_LIMIT - 2, [8].as_slice(), ops.as_slice())?);
-        assert!(rt; follows_in_all(alloc, INDEX_LIMIT, [].as_slice(), ops.as_slice())?);
+        follows_in(alloc, stripes, opening, ops.as_slice())
+    }
+
+    #[test]
+    fn goes_round_the_cells_in_one_stripe(rt: HostRuntime) -> Result<(), Fail> {
+        assert!(rt; goes_round_the_cells(rt.alloc(), 1)?);
+        Ok(())
+    }
+
+    #[test]
+    fn goes_round_the_cells_in_two_stripes(rt: HostRuntime) -> Result<(), Fail> {
+        assert!(rt; goes_round_the_cells(rt.alloc(), 2)?);
+        Ok(())
+    }
+
+    #[test]
+    fn goes_round_the_cells_in_three_stripes(rt: HostRuntime) -> Result<(), Fail> {
+        assert!(rt; goes_round_the_cells(rt.alloc(), 3)?);
+        Ok(())
+    }
+
+    #[test]
+    fn goes_on_from_a_later_head_in_one_stripe(rt: HostRuntime) -> Result<(), Fail> {
+        assert!(rt; goes_on_from_a_later_head(rt.alloc(), 1)?);
+        Ok(())
+    }
+
+    #[test]
+    fn goes_on_from_a_later_head_in_two_stripes(rt: HostRuntime) -> Result<(), Fail> {
+        assert!(rt; goes_on_from_a_later_head(rt.alloc(), 2)?);
+        Ok(())
+    }
+
+    #[test]
+    fn goes_on_from_a_later_head_in_three_stripes(rt: HostRuntime) -> Result<(), Fail> {
+        assert!(rt; goes_on_from_a_later_head(rt.alloc(), 3)?);
+        Ok(())
+    }
+
+    #[test]
+    fn opens_empty_and_goes_past_its_last_item_in_one_stripe(rt: HostRuntime) -> Result<(), Fail> {
+        assert!(rt; goes_past_its_last_item(rt.alloc(), 1, (0, [].as_slice()))?);
+        Ok(())
+    }
+
+    #[test]
+    fn opens_empty_and_goes_past_its_last_item_in_two_stripes(rt: HostRuntime) -> Result<(), Fail> {
+        assert!(rt; goes_past_its_last_item(rt.alloc(), 2, (0, [].as_slice()))?);
+        Ok(())
+    }
+
+    #[test]
+    fn opens_empty_and_goes_past_its_last_item_in_three_stripes(
+        rt: HostRuntime,
+    ) -> Result<(), Fail> {
+        assert!(rt; goes_past_its_last_item(rt.alloc(), 3, (0, [].as_slice()))?);
+        Ok(())
+    }
+
+    #[test]
+    fn opens_with_one_and_goes_past_its_last_item_in_one_stripe(
+        rt: HostRuntime,
+    ) -> Result<(), Fail> {
+        assert!(rt; goes_past_its_last_item(rt.alloc(), 1, (4, [3].as_slice()))?);
+        Ok(())
+    }
+
+    #[test]
+    fn opens_with_one_and_goes_past_its_last_item_in_two_stripes(
+        rt: HostRuntime,
+    ) -> Result<(), Fail> {
+        assert!(rt; goes_past_its_last_item(rt.alloc(), 2, (4, [3].as_slice()))?);
+        Ok(())
+    }
+
+    #[test]
+    fn opens_with_one_and_goes_past_its_last_item_in_three_stripes(
+        rt: HostRuntime,
+    ) -> Result<(), Fail> {
+        assert!(rt; goes_past_its_last_item(rt.alloc(), 3, (4, [3].as_slice()))?);
+        Ok(())
+    }
+
+    #[test]
+    fn opens_two_below_the_last_index_in_one_stripe(rt: HostRuntime) -> Result<(), Fail> {
+        assert!(rt; goes_up_to_the_last_index(rt.alloc(), 1, (INDEX_LIMIT - 2, [8].as_slice()))?);
+        Ok(())
+    }
+
+    #[test]
+    fn opens_two_below_the_last_index_in_two_stripes(rt: HostRuntime) -> Result<(), Fail> {
+        assert!(rt; goes_up_to_the_last_index(rt.alloc(), 2, (INDEX_LIMIT - 2, [8].as_slice()))?);
+        Ok(())
+    }
+
+    #[test]
+    fn opens_two_below_the_last_index_in_three_stripes(rt: HostRuntime) -> Result<(), Fail> {
+        assert!(rt; goes_up_to_the_last_index(rt.alloc(), 3, (INDEX_LIMIT - 2, [8].as_slice()))?);
+        Ok(())
+    }
+
+    #[test]
+    fn opens_at_the_last_index_in_one_stripe(rt: HostRuntime) -> Result<(), Fail> {
+        assert!(rt; goes_up_to_the_last_index(rt.alloc(), 1, (INDEX_LIMIT, [].as_slice()))?);
+        Ok(())
+    }
+
+    #[test]
+    fn opens_at_the_last_index_in_two_stripes(rt: HostRuntime) -> Result<(), Fail> {
+        assert!(rt; goes_up_to_the_last_index(rt.alloc(), 2, (INDEX_LIMIT, [].as_slice()))?);
+        Ok(())
+    }
+
+    #[test]
+    fn opens_at_the_last_index_in_three_stripes(rt: HostRuntime) -> Result<(), Fail> {
+        assert!(rt; goes_up_to_the_last_index(rt.alloc(), 3, (INDEX_LIMIT, [].as_slice()))?);
         Ok(())
     }
 

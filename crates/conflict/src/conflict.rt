@@ -1,5 +1,5 @@
 //! The conflict abstraction: what a collection answers, reads, writes and changes, and the laws of these.
-ghost use Rattle.std.specs.Prelude.{◌≡◌, ◌<◌, ℕ, List, Option, Some, None, Contains, IfOk, IfErr};
+ghost use Rattle.std.specs.Prelude.{◌≡◌, ◌<◌, ◌≤◌, ℕ, [], List, Option, Some, None, Contains, IsOk, IfOk, IfErr, length};
 ghost use Rattle.seq_model.specs.Calls.{IsRefusal};
 ghost use Rattle.conflict.specs.Rules.{Rules, FrameLaws};
 
@@ -29,17 +29,20 @@ pub trait Conflict<V: Value>: Drop {
         ensures ok { IfOk result (λ outcome. rules.outcome op.now (shown self.now) ≡ Some outcome) }
         ensures refused { IfErr result (λ refusal. IsRefusal refusal (rules.outcome op.now (shown self.now) ≡ None)) };
 
-    /// The locations that the outcome reads.
+    /// The locations that the outcome reads. Up to eight are never refused.
     fn reads(&self, outcome: &Outcome<V>) -> Result<LocSet, Memory>
-        ensures { IfOk result (λ set. set ≡ rules.reads (stripes self.now) outcome.now) };
+        ensures locations { IfOk result (λ set. set ≡ rules.reads (stripes self.now) outcome.now) }
+        ensures served { length (rules.reads (stripes self.now) outcome.now) ≤ 8 → IsOk result };
 
-    /// The locations that the outcome writes, all of which it reads.
+    /// The locations that the outcome writes, all of which it reads. They are never refused.
     fn writes(&self, outcome: &Outcome<V>) -> Result<LocSet, Memory>
-        ensures { IfOk result (λ set. set ≡ rules.writes (stripes self.now) outcome.now) };
+        ensures locations { IfOk result (λ set. set ≡ rules.writes (stripes self.now) outcome.now) }
+        ensures served { IsOk result };
 
-    /// What the outcome changes, in order.
+    /// What the outcome changes, in order. Where that is nothing, it is never refused.
     fn changes(&self, outcome: &Outcome<V>) -> Result<Changes<V>, Memory>
-        ensures { IfOk result (λ changes. changes ≡ rules.changes outcome.now) };
+        ensures changes { IfOk result (λ changes. changes ≡ rules.changes outcome.now) }
+        ensures served { rules.changes outcome.now ≡ [] → IsOk result };
 
     ghost laws: { FrameLaws rules };
 }

@@ -1,5 +1,5 @@
 //! Small sets of locations, and when two outcomes conflict by theirs.
-ghost use Rattle.std.specs.Prelude.{◌≡◌, ◌<◌, ◌↔◌, [], ◌∷◌, IsTrue, IfOk, Any, Contains};
+ghost use Rattle.std.specs.Prelude.{◌≡◌, ◌<◌, ◌≤◌, ◌↔◌, [], ◌∷◌, IsTrue, IsOk, IfOk, Any, Contains};
 ghost use Rattle.std.specs.List.{range_with_len};
 ghost use Rattle.std.specs.List.Sorted.{IsStrictlyIncreasing};
 ghost use Rattle.conflict.specs.Rules.{AreConflicting};
@@ -54,9 +54,10 @@ impl LocSet {
         LocSet { locations }
     }
 
-    /// The first `count` locations, from 0 on.
+    /// The first `count` locations, from 0 on. Up to eight are never refused.
     pub fn all_below(alloc: Global, count: u32) -> Result<LocSet, Memory>
-        ensures { IfOk result (λ set. set ≡ range_with_len 0 count) }
+        ensures locations { IfOk result (λ set. set ≡ range_with_len 0 count) }
+        ensures served { count ≤ 8 → IsOk result }
     {
         let mut locations = SmallVec::new(alloc);
         for location in 0..count {

@@ -1,6 +1,6 @@
 //! A hash map with numbers as keys, which contracts see as a finite map and the room for more entries. The room is what lets
 //! a replay be proved to take no memory: `reserve` promises it, and `insert_reserved` needs it.
-ghost use Rattle.std.specs.Prelude.{◌≡◌, ◌+◌, ◌<◌, ◌≤◌, IfOk, OnOk};
+ghost use Rattle.std.specs.Prelude.{◌≡◌, ◌+◌, ◌<◌, ◌≤◌, IsOk, IfOk, OnOk};
 ghost use Rattle.std.specs.Option.{option_copied};
 ghost use Rattle.std.specs.FinMap as map;
 
@@ -51,11 +51,12 @@ impl<V: Drop> Table<V> {
         self.entries.get(&key)
     }
 
-    /// Makes room for this many more entries.
+    /// Makes room for this many more entries. Where there is room for them, it takes no memory.
     pub fn reserve(&mut self, more: usize) -> Result<(), Memory>
         ensures contents { self.new.contents ≡ self.old.contents }
         ensures ok { OnOk result (more ≤ self.new.room) }
         ensures room { self.old.room ≤ self.new.room }
+        ensures served { more ≤ self.old.room → IsOk result }
     {
         self.entries.reserve(more)?;
         Ok(())

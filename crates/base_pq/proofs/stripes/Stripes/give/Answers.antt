@@ -1,4 +1,4 @@
-use Rattle.std.proofs.Common.{◌≡◌, ◌<◌, ◌%◌, ap, sym, subst, set, map, length, ◌∙◌}
+use Rattle.std.proofs.Common.{◌≡◌, ◌<◌, ◌%◌, Result, Ok, Err, OnErr, ap, sym, subst, set, map, length, ◌∙◌}
 use Rattle.std.proofs.Math.Seq.{map-set_same}
 use Rattle.std.proofs.lemmas.List.{length-set}
 use Rattle.seq_model.specs.Counts.{with_copies, HasNoZero}
@@ -38,3 +38,14 @@ returns-clause-elements c =
     let i = c.args.element % c.len.result in
     joined_after ss c.self.invariant.0 c.self.invariant.1 c.args.element c.args.count i (ap (λ k. c.args.element % k) len) c.index_mut.result.now c.give.new.self (c.in_ok-give.ensures.ok ∙ ap (λ s. with_copies s.elements c.args.element c.args.count) c.index_mut.ensures.value)
     ∙ ap (λ r. with_copies r.elements c.args.element c.args.count) c.self.view_is
+
+on_err : {T E P : Type 0} (r : Result T E) → P → OnErr r P
+on_err (Ok x) p = tt
+on_err (Err e) p = p
+
+pub returns-in_err-give-clause-err : goal.returns-in_err-give-clause-err
+returns-in_err-give-clause-err c =
+    let ss = c.self.inside.stripes.items in
+    let i = c.args.element % c.len.result in
+    on_err c.from_residual.result
+    (same_joined _ _ (map-set_same (λ s. s.elements) ss i c.give.new.self c.index_mut.result.now (c.in_err-give.ensures.err ∙ ap (λ s. s.elements) c.index_mut.ensures.value)) ∙ ap (λ r. r.elements) c.self.view_is)

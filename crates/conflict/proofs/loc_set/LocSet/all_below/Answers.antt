@@ -1,6 +1,7 @@
-use Rattle.std.proofs.Common.{subst, ◌≡◌, ℕ, zero, suc, ◌+◌, [], ◌∷◌, ◌++◌, ap, sym, ◌∙◌, add-one, arith}
+use Rattle.std.proofs.Common.{subst, ◌≡◌, ℕ, zero, suc, ◌+◌, [], ◌∷◌, ◌++◌, ap, sym, ◌∙◌, add-one, length, arith}
 use Rattle.std.specs.List.{range_with_len}
 use Rattle.std.specs.List.Sorted.{IsStrictlyIncreasing}
+use Rattle.std.proofs.lemmas.List.FromFn.{length-range_with_len}
 use Rattle.conflict.proofs.LocationLemmas.{range_rises}
 use Rattle.conflict.proofs.loc_set.LocSet.all_below.Goals as goal
 
@@ -18,7 +19,18 @@ from_zero n =
 
 pub loop-location-preserved : goal.loop-location-preserved
 loop-location-preserved c =
-    c.in_ok-push.ensures.ok ∙ ap (λ xs. xs ++ c.loop-location.location ∷ []) c.loop-location.invariant ∙ from_zero c.loop-location.location
+    let room = c.loop-location.invariant.1 in
+    let kept = c.push.ensures.capacity in (
+      c.in_ok-push.ensures.ok ∙ ap (λ xs. xs ++ c.loop-location.location ∷ []) c.loop-location.invariant.0 ∙ from_zero c.loop-location.location,
+      omega arith,
+    )
 
 pub invariant_of-result : goal.invariant_of-result
-invariant_of-result c = subst IsStrictlyIncreasing (sym c.loop-location.invariant) (range_rises c.loop-location.location)
+invariant_of-result c = subst IsStrictlyIncreasing (sym c.loop-location.invariant.0) (range_rises c.loop-location.location)
+
+pub returns-in_err-push-clause-served : goal.returns-in_err-push-clause-served
+returns-in_err-push-clause-served c =
+    let len : length c.loop-location.locations.items ≡ c.loop-location.location = ap length c.loop-location.invariant.0 ∙ length-range_with_len 0 c.loop-location.location in
+    let room = c.loop-location.invariant.1 in
+    let below = c.loop-location-test.true in
+    λ few. let no = c.in_err-push.ensures.succeeds (omega (arith, few)) in cc
