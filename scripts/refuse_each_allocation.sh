@@ -8,12 +8,13 @@
 # failed assertion, another error, a fault) is printed, and the script fails. So tests hand on what
 # a call refuses by `?`, and never compare the answer of a call that allocates with `Ok`.
 #
-# It ends after LAST, or once no test is refused anything: three runs in a row in which all pass, as
-# one may pass where code goes on after a refusal. RT names the command, `rt` by default.
+# It ends after LAST, or once no test is refused anything: eight runs in a row in which all pass after
+# one in which a test was refused, as a run may pass where code goes on after a refusal; or forty from
+# the start. RT names the command, `rt` by default.
 set -u
 
 if [ $# -lt 1 ]; then
-    sed -n '2,13s/^# \{0,1\}//p' "$0"
+    sed -n '2,14s/^# \{0,1\}//p' "$0"
     exit 2
 fi
 crate=$1
@@ -27,7 +28,7 @@ strange_ends() {
     awk '
         waits && /^test / { print name ": it failed and said nothing"; waits = 0 }
         /^test .* \.\.\. FAILED$/ { name = $2; waits = 1; next }
-        waits && /^    error: .*(AllocError|AllocFailed|OutOfMemory|Memory)/ { waits = 0; next }
+        waits && /^    [Ee]rror: .*(AllocError|AllocFailed|OutOfMemory|Memory)/ { waits = 0; next }
         waits { print name ": " $0; waits = 0; next }
         END { if (waits) print name ": it failed and said nothing" }
     '
@@ -36,7 +37,7 @@ strange_ends() {
 refused=0
 quiet=0
 n=$first
-while [ "$quiet" -lt 3 ] && { [ "$last" -eq 0 ] || [ "$n" -le "$last" ]; }; do
+while [ "$quiet" -lt 40 ] && { [ "$refused" -eq 0 ] || [ "$quiet" -lt 8 ]; } && { [ "$last" -eq 0 ] || [ "$n" -le "$last" ]; }; do
     output=$("$rt" try --test --fail-alloc "$n" 2>&1)
     if ! grep -q '^run=ended' <<<"$output"; then
         printf '%s\n' "$output" | tail -n 20

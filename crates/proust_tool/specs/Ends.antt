@@ -7,16 +7,18 @@ use Rattle.seq_model.specs.declared.refusal.Refusal.TheVariants.{BadText, NoSuch
 use Rattle.step_world.specs.Traces.{IsSerialTrace}
 use Rattle.session_text.specs.declared.script.Script.{Script}
 use Rattle.session_text.specs.declared.run.ScriptRun.{ScriptRun}
+use Rattle.session_text.specs.Plays.{IsRunOf}
 use Rattle.session_text.specs.Scripts.{IsOpeningOf}
 use Rattle.session_text.specs.Prints.{IsPrinted}
 use Rattle.proust_tool.specs.declared.tool.TheConstants.{FILE_LIMIT}
 use Rattle.proust_tool.specs.Words.{AreTaken, AskForHelp}
 
--- what a script's run prints: a trace in serial order, from the script's opening
+-- what a script's run prints: what came of its lines from its opening, with a trace in serial order
 pub record IsOutput (text : List ℕ) : Type 0 where
   pub script : Script
   pub run : ScriptRun
   pub opening : IsOpeningOf script run.opening
+  pub made : IsRunOf script run
   pub serial : IsSerialTrace run.opening run.trace
   pub printed : IsPrinted run text
 

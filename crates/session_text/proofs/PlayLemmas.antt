@@ -1,7 +1,6 @@
 -- Laws of what a script's lines make happen.
 use Rattle.std.proofs.Common.{◌≡◌, ◌∙◌, refl, sym, ap, ap₂, subst, ℕ, zero, suc, ◌+◌, ◌-◌, ◌<◌, ◌≤◌, Bool, true, false, List, [], ◌∷◌, ◌++◌, length, inl, inr, ◌⊎◌, append_assoc, append-nil, arith}
 use Rattle.std.specs.Prelude.{replicate}
-use Rattle.std.proofs.lemmas.List.Elements.{All-nil, All-push}
 use Rattle.std.proofs.lemmas.List.{replicate-append-replicate}
 use Rattle.std.proofs.lemmas.Grind.{flat_map-append}
 use Rattle.seq_model.specs.declared.event.Event.{Event}
@@ -11,7 +10,7 @@ use Rattle.seq_model.specs.declared.event.Notice.TheVariants.{Quiet, Answered, R
 use Rattle.session_text.specs.declared.script.Line.{Line}
 use Rattle.session_text.specs.declared.script.TheConstants.{STEP_LIMIT}
 use Rattle.session_text.specs.Worlds.{World, Feeds}
-use Rattle.session_text.specs.Plays.{ArePlays, AreSteps, AreStepsOfTwo, HasPlayed, IsDone, IsOne, IsPlay, IsSplit, Lead, heard, telling, tells_nothing}
+use Rattle.session_text.specs.Plays.{ArePlays, AreSteps, AreTurns, HasPlayed, IsDone, IsOne, IsPlay, IsSplit, IsStepOf, Keeps, Lead, heard, telling, tells_nothing, waiting_after, waiting_then, waits}
 
 -- ---- events after events
 lead_on : (w v u : World) (xs ys : List (Event ℕ)) (ms ns : List (Notice ℕ)) → Lead w xs ms v → Lead v ys ns u → Lead w (xs ++ ys) (ms ++ ns) u
@@ -21,19 +20,44 @@ lead_on w v u (x ∷ xs) ys [] ns first second = absurd first
 lead_on w v u (x ∷ xs) ys (m ∷ ms) ns first second =
     (first.0, (first.1.0, lead_on first.0 v u xs ys ms ns first.1.1 second))
 
-pub played_on : {P Q R : List (Event ℕ) → List (Notice ℕ) → Type 0} {w v u : World} {before then after : List (Notice ℕ)}
-    → ((xs ys : List (Event ℕ)) (ms ns : List (Notice ℕ)) → P xs ms → Q ys ns → R (xs ++ ys) (ms ++ ns))
-    → HasPlayed P w before v then → HasPlayed Q v then u after → HasPlayed R w before u after
-played_on {w = w} {v = v} {u = u} {before = before} join first second = record {
-  events = first.events ++ second.events;
-  told = first.told ++ second.told;
-  kind = join first.events second.events first.told second.told first.kind second.kind;
-  lead = lead_on w v u first.events second.events first.told second.told first.lead second.lead;
-  heard-of =
-      second.heard-of ∙ ap (λ (z : List (Notice ℕ)). z ++ heard second.told) first.heard-of
-      ∙ append_assoc before (heard first.told) (heard second.told)
-      ∙ ap (λ (z : List (Notice ℕ)). before ++ z) (sym (flat_map-append telling first.told second.told));
-}
+lead_paired : (w v : World) (xs : List (Event ℕ)) (ms : List (Notice ℕ)) → Lead w xs ms v → length ms ≡ length xs
+lead_paired w v [] [] lead = refl
+lead_paired w v [] (m ∷ ms) lead = absurd lead
+lead_paired w v (x ∷ xs) [] lead = absurd lead
+lead_paired w v (x ∷ xs) (m ∷ ms) lead = ap suc (lead_paired lead.0 v xs ms lead.1.1)
+
+after_append : (ws : List Bool) (xs ys : List (Event ℕ)) (ms ns : List (Notice ℕ)) → length ms ≡ length xs
+    → waiting_after ws (xs ++ ys) (ms ++ ns) ≡ waiting_after (waiting_after ws xs ms) ys ns
+after_append ws [] ys [] ns paired = refl
+after_append ws [] ys (m ∷ ms) ns paired = cc
+after_append ws (x ∷ xs) ys [] ns paired = cc
+after_append ws (x ∷ xs) ys (m ∷ ms) ns paired = after_append (waiting_then ws x (tells_nothing m)) xs ys ms ns (omega arith)
+
+-- events of one kind, and behind them events of another
+pub played_on : {P Q R : List (Event ℕ) → List (Notice ℕ) → Type 0} {w v u : World} {before then after : List (Notice ℕ)} {ws vs us : List Bool}
+    → ((xs ys : List (Event ℕ)) (ms ns : List (Notice ℕ)) → length ms ≡ length xs → length ns ≡ length ys → vs ≡ waiting_after ws xs ms
+    → P xs ms → Q ys ns → R (xs ++ ys) (ms ++ ns))
+    → HasPlayed (Keeps P ws vs) w before v then → HasPlayed (Keeps Q vs us) v then u after → HasPlayed (Keeps R ws us) w before u after
+played_on {w = w} {v = v} {u = u} {before = before} {ws = ws} join first second =
+    let xs = first.events in
+    let ys = second.events in
+    let ms = first.told in
+    let ns = second.told in
+    let firsts : length ms ≡ length xs = lead_paired w v xs ms first.lead in
+    let seconds : length ns ≡ length ys = lead_paired v u ys ns second.lead in
+    record {
+      events = xs ++ ys;
+      told = ms ++ ns;
+      kind = (
+        join xs ys ms ns firsts seconds first.kind.1 first.kind.0 second.kind.0,
+        second.kind.1 ∙ ap (λ (z : List Bool). waiting_after z ys ns) first.kind.1 ∙ sym (after_append ws xs ys ms ns firsts),
+      );
+      lead = lead_on w v u xs ys ms ns first.lead second.lead;
+      heard-of =
+          second.heard-of ∙ ap (λ (z : List (Notice ℕ)). z ++ heard ns) first.heard-of
+          ∙ append_assoc before (heard ms) (heard ns)
+          ∙ ap (λ (z : List (Notice ℕ)). before ++ z) (sym (flat_map-append telling ms ns));
+    }
 
 pub played_as : {P Q : List (Event ℕ) → List (Notice ℕ) → Type 0} {w v : World} {before after : List (Notice ℕ)}
     → ((xs : List (Event ℕ)) (ms : List (Notice ℕ)) → P xs ms → Q xs ms) → HasPlayed P w before v after → HasPlayed Q w before v after
@@ -45,22 +69,29 @@ played_as turn has = record {
   heard-of = has.heard-of;
 }
 
-pub played_none : (P : List (Event ℕ) → List (Notice ℕ) → Type 0) (w : World) (before : List (Notice ℕ)) → P [] [] → HasPlayed P w before w before
-played_none P w before kind = record {
+pub kept_as : {P Q : List (Event ℕ) → List (Notice ℕ) → Type 0} {w v : World} {before after : List (Notice ℕ)} {ws vs : List Bool}
+    → ((xs : List (Event ℕ)) (ms : List (Notice ℕ)) → vs ≡ waiting_after ws xs ms → P xs ms → Q xs ms)
+    → HasPlayed (Keeps P ws vs) w before v after → HasPlayed (Keeps Q ws vs) w before v after
+kept_as turn has = played_as (λ xs ms kept. (turn xs ms kept.1 kept.0, kept.1)) has
+
+pub played_none : (P : List (Event ℕ) → List (Notice ℕ) → Type 0) (w : World) (before : List (Notice ℕ)) (ws : List Bool)
+    → P [] [] → HasPlayed (Keeps P ws ws) w before w before
+played_none P w before ws kind = record {
   events = [];
   told = [];
-  kind = kind;
+  kind = (kind, refl);
   lead = refl;
   heard-of = sym (append-nil before);
 }
 
 -- one event
-pub played_one : (w v : World) (before after : List (Notice ℕ)) (e : Event ℕ) (notice : Notice ℕ) (quiet : Bool)
-    → Feeds w e v notice → after ≡ before ++ telling notice → quiet ≡ tells_nothing notice → HasPlayed (IsOne e quiet) w before v after
-played_one w v before after e notice quiet feeds added is_quiet = record {
+pub played_one : (w v : World) (before after : List (Notice ℕ)) (e : Event ℕ) (notice : Notice ℕ) (quiet : Bool) (ws vs : List Bool)
+    → Feeds w e v notice → after ≡ before ++ telling notice → quiet ≡ tells_nothing notice → vs ≡ waiting_then ws e quiet
+    → HasPlayed (Keeps (IsOne e quiet) ws vs) w before v after
+played_one w v before after e notice quiet ws vs feeds added is_quiet waiting = record {
   events = e ∷ [];
   told = notice ∷ [];
-  kind = (notice, (refl, (refl, is_quiet)));
+  kind = ((notice, (refl, (refl, is_quiet))), waiting ∙ ap (waiting_then ws e) is_quiet);
   lead = (v, (feeds, refl));
   heard-of = added ∙ ap (λ (z : List (Notice ℕ)). before ++ z) (sym (append-nil (telling notice)));
 }
@@ -126,44 +157,124 @@ pub done_quiet : (actor : ℕ) (ask : Event ℕ) (xs ys : List (Event ℕ)) (ms 
 done_quiet actor ask xs ys ms ns one steps =
     rw (one.1.0, one.1.1.0, is_quiet one.0 one.1.1.1) (refl, steps)
 
-pub two_none : (first second : ℕ) → AreStepsOfTwo first second []
-two_none first second = All-nil (λ e. (e ≡ event.Step first) ⊎ (e ≡ event.Step second))
+-- ---- turns
+-- n turns of two actors, after which these two are the first and the second
+abbrev pub AreTurnsTo : ℕ → ℕ → ℕ → List Bool → List (Event ℕ) → List (Notice ℕ) → ℕ → ℕ → Type 0
+AreTurnsTo zero first second waiting [] [] then other = (then ≡ first) × (other ≡ second)
+AreTurnsTo (suc n) first second waiting (e ∷ es) (notice ∷ told) then other =
+    (IsStepOf waiting first e × AreTurnsTo n second first (waiting_then waiting e (tells_nothing notice)) es told then other)
+    ⊎ ((waits waiting first ≡ false)
+    × (IsStepOf waiting second e × AreTurnsTo n first second (waiting_then waiting e (tells_nothing notice)) es told then other))
+AreTurnsTo n first second waiting es told then other = ⊥
 
--- one more step of two actors
-pub two_on : (first second actor : ℕ) (quiet : Bool) (xs ys : List (Event ℕ)) (ms ns : List (Notice ℕ)) → (actor ≡ first) ⊎ (actor ≡ second)
-    → AreStepsOfTwo first second xs → IsOne (event.Step actor) quiet ys ns → AreStepsOfTwo first second (xs ++ ys)
-two_on first second actor quiet xs ys ms ns which steps one =
-    rw one.1.0 (All-push (λ e. (e ≡ event.Step first) ⊎ (e ≡ event.Step second)) xs (event.Step actor) steps
-    (elim which [ inl e ↦ inl (ap event.Step e) | inr e ↦ inr (ap event.Step e) ]))
+pub turns_none : (first second : ℕ) (ws : List Bool) → AreTurnsTo 0 first second ws [] [] first second
+turns_none first second ws = (refl, refl)
+
+turns_join : (n k m a b c d p q : ℕ) (ws : List Bool) (xs ys : List (Event ℕ)) (ms ns : List (Notice ℕ)) → m ≡ n + k
+    → AreTurnsTo n a b ws xs ms c d → AreTurnsTo k c d (waiting_after ws xs ms) ys ns p q → AreTurnsTo m a b ws (xs ++ ys) (ms ++ ns) p q
+turns_join zero k m a b c d p q ws [] ys [] ns sum first second =
+    let same : m ≡ k = omega arith in
+    rw same (rw (first.0, first.1) at second)
+turns_join zero k m a b c d p q ws [] ys (x ∷ ms) ns sum first second = absurd first
+turns_join zero k m a b c d p q ws (x ∷ xs) ys ms ns sum first second = absurd first
+turns_join (suc n) k m a b c d p q ws [] ys ms ns sum first second = absurd first
+turns_join (suc n) k m a b c d p q ws (x ∷ xs) ys [] ns sum first second = absurd first
+turns_join (suc n) k zero a b c d p q ws (x ∷ xs) ys (y ∷ ms) ns sum first second = absurd (omega arith)
+turns_join (suc n) k (suc m) a b c d p q ws (x ∷ xs) ys (y ∷ ms) ns sum first second =
+    let vs = waiting_then ws x (tells_nothing y) in
+    let less : m ≡ n + k = omega arith in
+    elim first [
+      | inl own ↦ inl (own.0, turns_join n k m b a c d p q vs xs ys ms ns less own.1 second)
+      | inr other ↦ inr (other.0, (other.1.0, turns_join n k m a b c d p q vs xs ys ms ns less other.1.1 second))
+    ]
+
+-- the turn of the first
+pub turn_on : (n a b c d : ℕ) (quiet : Bool) (ws vs : List Bool) (xs ys : List (Event ℕ)) (ms ns : List (Notice ℕ)) → vs ≡ waiting_after ws xs ms
+    → waits vs c ≡ true → AreTurnsTo n a b ws xs ms c d → IsOne (event.Step c) quiet ys ns → AreTurnsTo (n + 1) a b ws (xs ++ ys) (ms ++ ns) d c
+turn_on n a b c d quiet ws vs xs ys ms ns after waiting turns one =
+    rw (one.1.0, one.1.1.0)
+    (turns_join n 1 (n + 1) a b c d d c ws xs (event.Step c ∷ []) ms (one.0 ∷ []) refl turns (inl ((rw after at waiting, refl), (refl, refl))))
+
+-- the first is passed over
+pub turn_over : (n a b c d : ℕ) (quiet : Bool) (ws vs : List Bool) (xs ys : List (Event ℕ)) (ms ns : List (Notice ℕ)) → vs ≡ waiting_after ws xs ms
+    → waits vs c ≡ false → waits vs d ≡ true → AreTurnsTo n a b ws xs ms c d → IsOne (event.Step d) quiet ys ns
+    → AreTurnsTo (n + 1) a b ws (xs ++ ys) (ms ++ ns) c d
+turn_over n a b c d quiet ws vs xs ys ms ns after idle waiting turns one =
+    rw (one.1.0, one.1.1.0)
+    (turns_join n 1 (n + 1) a b c d c d ws xs (event.Step d ∷ []) ms (one.0 ∷ []) refl turns (inr (rw after at idle, ((rw after at waiting, refl), (refl, refl)))))
+
+-- as many as there may be
+all_turns : (n a b c d : ℕ) (ws : List Bool) (xs : List (Event ℕ)) (ms : List (Notice ℕ)) → AreTurnsTo n a b ws xs ms c d → AreTurns n a b ws xs ms
+unfolding AreTurns
+all_turns zero a b c d ws [] [] turns = tt
+all_turns zero a b c d ws [] (m ∷ ms) turns = absurd turns
+all_turns zero a b c d ws (x ∷ xs) ms turns = absurd turns
+all_turns (suc n) a b c d ws [] ms turns = absurd turns
+all_turns (suc n) a b c d ws (x ∷ xs) [] turns = absurd turns
+all_turns (suc n) a b c d ws (x ∷ xs) (m ∷ ms) turns =
+    let vs = waiting_then ws x (tells_nothing m) in
+    elim turns [
+      | inl own ↦ inl (own.0, all_turns n b a c d vs xs ms own.1)
+      | inr other ↦ inr (other.0, (other.1.0, all_turns n a b c d vs xs ms other.1.1))
+    ]
+
+pub turns_all : (n k a b c d : ℕ) (ws : List Bool) (xs : List (Event ℕ)) (ms : List (Notice ℕ)) → k ≡ n → AreTurnsTo k a b ws xs ms c d → AreTurns n a b ws xs ms
+turns_all n k a b c d ws xs ms same turns = subst (λ (m : ℕ). AreTurns m a b ws xs ms) same (all_turns k a b c d ws xs ms turns)
+
+-- neither has an unanswered request any more
+done_turns : (n k a b c d : ℕ) (ws : List Bool) (xs : List (Event ℕ)) (ms : List (Notice ℕ)) → k < n
+    → waits (waiting_after ws xs ms) c ≡ false → waits (waiting_after ws xs ms) d ≡ false → AreTurnsTo k a b ws xs ms c d → AreTurns n a b ws xs ms
+unfolding AreTurns
+done_turns zero k a b c d ws xs ms lt first second turns = absurd (omega arith)
+done_turns (suc n) zero a b c d ws [] [] lt first second turns = (rw turns.0 at first, rw turns.1 at second)
+done_turns (suc n) zero a b c d ws [] (m ∷ ms) lt first second turns = absurd turns
+done_turns (suc n) zero a b c d ws (x ∷ xs) ms lt first second turns = absurd turns
+done_turns (suc n) (suc k) a b c d ws [] ms lt first second turns = absurd turns
+done_turns (suc n) (suc k) a b c d ws (x ∷ xs) [] lt first second turns = absurd turns
+done_turns (suc n) (suc k) a b c d ws (x ∷ xs) (m ∷ ms) lt first second turns =
+    let vs = waiting_then ws x (tells_nothing m) in
+    let less : k < n = omega arith in
+    elim turns [
+      | inl own ↦ inl (own.0, done_turns n k b a c d vs xs ms less first second own.1)
+      | inr other ↦ inr (other.0, (other.1.0, done_turns n k a b c d vs xs ms less first second other.1.1))
+    ]
+
+pub turns_done : (n k a b c d : ℕ) (ws vs : List Bool) (xs : List (Event ℕ)) (ms : List (Notice ℕ)) → k < n → vs ≡ waiting_after ws xs ms
+    → waits vs c ≡ false → waits vs d ≡ false → AreTurnsTo k a b ws xs ms c d → AreTurns n a b ws xs ms
+turns_done n k a b c d ws vs xs ms lt after first second turns = done_turns n k a b c d ws xs ms lt (rw after at first) (rw after at second) turns
 
 -- one more line
-pub plays_on : (lines : List Line) (line : Line) (xs ys : List (Event ℕ)) (ms ns : List (Notice ℕ))
-    → ArePlays lines xs ms → IsPlay line ys ns → ArePlays (lines ++ line ∷ []) (xs ++ ys) (ms ++ ns)
-plays_on [] line xs ys ms ns none play = (
-  ys,
-  (
-    [],
-    (
-      ns,
+plays_on : (ws : List Bool) (lines : List Line) (line : Line) (xs ys : List (Event ℕ)) (ms ns : List (Notice ℕ)) → length ns ≡ length ys
+    → ArePlays ws lines xs ms → IsPlay (waiting_after ws xs ms) line ys ns → ArePlays ws (lines ++ line ∷ []) (xs ++ ys) (ms ++ ns)
+plays_on ws [] line xs ys ms ns paired none play =
+    let now : IsPlay ws line ys ns = rw none.0 at play in (
+      ys,
       (
         [],
         (
-          record {
-            events = ap (λ (z : List (Event ℕ)). z ++ ys) none.0 ∙ sym (append-nil ys);
-            notices = ap (λ (z : List (Notice ℕ)). z ++ ns) none.1 ∙ sym (append-nil ns);
-          },
-          (play, (refl, refl)),
+          ns,
+          (
+            [],
+            (
+              record {
+                events = ap (λ (z : List (Event ℕ)). z ++ ys) none.0 ∙ sym (append-nil ys);
+                notices = ap (λ (z : List (Notice ℕ)). z ++ ns) none.1 ∙ sym (append-nil ns);
+                paired = paired;
+              },
+              (now, (refl, refl)),
+            ),
+          ),
         ),
       ),
-    ),
-  ),
-)
-plays_on (first ∷ lines) line xs ys ms ns has play =
+    )
+plays_on ws (first ∷ lines) line xs ys ms ns paired has play =
     let es = has.0 in
     let fs = has.1.0 in
     let ks = has.1.1.0 in
     let ls = has.1.1.1.0 in
-    let rest = has.1.1.1.1 in (
+    let rest = has.1.1.1.1 in
+    let later : IsPlay (waiting_after (waiting_after ws es ks) fs ls) line ys ns =
+    rw (rest.0.events, rest.0.notices, after_append ws es fs ks ls rest.0.paired) at play in (
       es,
       (
         fs ++ ys,
@@ -175,10 +286,15 @@ plays_on (first ∷ lines) line xs ys ms ns has play =
               record {
                 events = ap (λ (z : List (Event ℕ)). z ++ ys) rest.0.events ∙ append_assoc es fs ys;
                 notices = ap (λ (z : List (Notice ℕ)). z ++ ns) rest.0.notices ∙ append_assoc ks ls ns;
+                paired = rest.0.paired;
               },
-              (rest.1.0, plays_on lines line fs ys ls ns rest.1.1 play),
+              (rest.1.0, plays_on (waiting_after ws es ks) lines line fs ys ls ns paired rest.1.1 later),
             ),
           ),
         ),
       ),
     )
+
+pub plays_after : (ws vs : List Bool) (lines : List Line) (line : Line) (xs ys : List (Event ℕ)) (ms ns : List (Notice ℕ)) → length ns ≡ length ys
+    → vs ≡ waiting_after ws xs ms → ArePlays ws lines xs ms → IsPlay vs line ys ns → ArePlays ws (lines ++ line ∷ []) (xs ++ ys) (ms ++ ns)
+plays_after ws vs lines line xs ys ms ns paired after plays play = plays_on ws lines line xs ys ms ns paired plays (rw after at play)

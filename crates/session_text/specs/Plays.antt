@@ -1,5 +1,5 @@
 -- What the lines of a script make happen in its world, and what is heard of it.
-use Rattle.std.specs.Prelude.{◌≡◌, ◌⊎◌, ℕ, zero, suc, Bool, true, false, List, [], ◌∷◌, ◌++◌, All, flat_map, ⊤}
+use Rattle.std.specs.Prelude.{◌≡◌, ◌⊎◌, ℕ, zero, suc, Bool, true, false, List, [], ◌∷◌, ◌++◌, length, get_or, set, replicate, flat_map, ⊤}
 use Rattle.seq_model.specs.declared.event.Event.{Event}
 use Rattle.seq_model.specs.declared.event.Event.TheVariants as event
 use Rattle.seq_model.specs.declared.event.Notice.{Notice}
@@ -25,6 +25,36 @@ telling notice = notice ∷ []
 abbrev pub heard : List (Notice ℕ) → List (Notice ℕ)
 heard notices = flat_map telling notices
 
+-- ---- which actors have an unanswered request, by actor; the first place is no actor's
+
+abbrev pub nobody : List Bool
+nobody = replicate 65 false
+
+abbrev pub waits : List Bool → ℕ → Bool
+waits waiting actor = get_or waiting actor false
+
+abbrev pub actor_of : Event ℕ → ℕ
+actor_of (event.Ask actor request) = actor
+actor_of (event.Step actor) = actor
+actor_of (event.Starve actor) = actor
+
+abbrev pub is_request : Event ℕ → Bool
+is_request (event.Ask actor request) = true
+is_request e = false
+
+-- a request that told nothing is unanswered, until a step or a want of memory of its actor tells something
+abbrev pub noted : List Bool → ℕ → Bool → Bool → List Bool
+noted waiting actor true true = set waiting actor true
+noted waiting actor false false = set waiting actor false
+noted waiting actor asks quiet = waiting
+
+abbrev pub waiting_then : List Bool → Event ℕ → Bool → List Bool
+waiting_then waiting e quiet = noted waiting (actor_of e) (is_request e) quiet
+
+abbrev pub waiting_after : List Bool → List (Event ℕ) → List (Notice ℕ) → List Bool
+waiting_after waiting (e ∷ es) (notice ∷ told) = waiting_after (waiting_then waiting e (tells_nothing notice)) es told
+waiting_after waiting es told = waiting
+
 -- ---- the events of a line, and what each of them tells
 
 -- at most n steps of an actor, up to the first that tells something
@@ -40,16 +70,25 @@ IsDone actor ask (e ∷ es) (Quiet ∷ told) = (e ≡ ask) × AreSteps actor STE
 IsDone actor ask (e ∷ es) (notice ∷ told) = (e ≡ ask) × (es ≡ []) × (told ≡ [])
 IsDone actor ask es told = ⊥
 
-abbrev pub AreStepsOfTwo : ℕ → ℕ → List (Event ℕ) → Type 0
-AreStepsOfTwo first second es = All (λ e. (e ≡ event.Step first) ⊎ (e ≡ event.Step second)) es
+-- a step of an actor with an unanswered request
+abbrev pub IsStepOf : List Bool → ℕ → Event ℕ → Type 0
+IsStepOf waiting actor e = (waits waiting actor ≡ true) × (e ≡ event.Step actor)
 
--- of `alt` only that its events are steps of its two actors
-abbrev pub IsPlay : Line → List (Event ℕ) → List (Notice ℕ) → Type 0
-IsPlay (Ask actor request) es told = es ≡ event.Ask actor request ∷ []
-IsPlay (Do actor request) es told = IsDone actor (event.Ask actor request) es told
-IsPlay (Steps actor n) es told = AreSteps actor n es told
-IsPlay (Starve actor) es told = es ≡ event.Starve actor ∷ []
-IsPlay (Alternate first second) es told = AreStepsOfTwo first second es
+-- at most n steps of two actors in turn: one without an unanswered request is passed over, and there are no more where neither has one
+unfoldable pub AreTurns : ℕ → ℕ → ℕ → List Bool → List (Event ℕ) → List (Notice ℕ) → Type 0
+AreTurns zero first second waiting [] [] = ⊤
+AreTurns (suc n) first second waiting [] [] = (waits waiting first ≡ false) × (waits waiting second ≡ false)
+AreTurns (suc n) first second waiting (e ∷ es) (notice ∷ told) =
+    (IsStepOf waiting first e × AreTurns n second first (waiting_then waiting e (tells_nothing notice)) es told)
+    ⊎ ((waits waiting first ≡ false) × (IsStepOf waiting second e × AreTurns n first second (waiting_then waiting e (tells_nothing notice)) es told))
+AreTurns n first second waiting es told = ⊥
+
+abbrev pub IsPlay : List Bool → Line → List (Event ℕ) → List (Notice ℕ) → Type 0
+IsPlay waiting (Ask actor request) es told = es ≡ event.Ask actor request ∷ []
+IsPlay waiting (Do actor request) es told = IsDone actor (event.Ask actor request) es told
+IsPlay waiting (Steps actor n) es told = AreSteps actor n es told
+IsPlay waiting (Starve actor) es told = es ≡ event.Starve actor ∷ []
+IsPlay waiting (Alternate first second) es told = AreTurns STEP_LIMIT first second waiting es told
 
 -- ---- the events of all lines
 
@@ -57,13 +96,15 @@ IsPlay (Alternate first second) es told = AreStepsOfTwo first second es
 pub record IsSplit (es es-first es-then : List (Event ℕ)) (told told-first told-then : List (Notice ℕ)) : Type 0 where
   pub events : es ≡ es-first ++ es-then
   pub notices : told ≡ told-first ++ told-then
+  pub paired : length told-first ≡ length es-first
 
 -- one line after the other
-abbrev pub ArePlays : List Line → List (Event ℕ) → List (Notice ℕ) → Type 0
-ArePlays [] es told = (es ≡ []) × (told ≡ [])
-ArePlays (line ∷ lines) es told =
+abbrev pub ArePlays : List Bool → List Line → List (Event ℕ) → List (Notice ℕ) → Type 0
+ArePlays waiting [] es told = (es ≡ []) × (told ≡ [])
+ArePlays waiting (line ∷ lines) es told =
     (es-first : List (Event ℕ)) × ((es-then : List (Event ℕ)) × ((told-first : List (Notice ℕ)) × ((told-then : List (Notice ℕ))
-    × (IsSplit es es-first es-then told told-first told-then × (IsPlay line es-first told-first × ArePlays lines es-then told-then)))))
+    × (IsSplit es es-first es-then told told-first told-then
+    × (IsPlay waiting line es-first told-first × ArePlays (waiting_after waiting es-first told-first) lines es-then told-then)))))
 
 -- ---- in a world
 
@@ -81,6 +122,10 @@ pub record HasPlayed (IsKind : List (Event ℕ) → List (Notice ℕ) → Type 0
   pub lead : Lead w events told v
   pub heard-of : after ≡ before ++ heard told
 
+-- events of a kind, and who has an unanswered request before and after them
+abbrev pub Keeps : (List (Event ℕ) → List (Notice ℕ) → Type 0) → List Bool → List Bool → List (Event ℕ) → List (Notice ℕ) → Type 0
+Keeps IsKind before after es told = IsKind es told × (after ≡ waiting_after before es told)
+
 -- one event, and whether it told nothing
 abbrev pub IsOne : Event ℕ → Bool → List (Event ℕ) → List (Notice ℕ) → Type 0
 IsOne e quiet es told = (notice : Notice ℕ) × ((es ≡ e ∷ []) × ((told ≡ notice ∷ []) × (quiet ≡ tells_nothing notice)))
@@ -90,5 +135,5 @@ pub record IsRunOf (script : Script) (made : ScriptRun) : Type 0 where
   pub start : World
   pub end : World
   pub opened : IsOpened script.clock made.opening start
-  pub played : HasPlayed (ArePlays script.lines) start [] end made.notices
+  pub played : HasPlayed (ArePlays nobody script.lines) start [] end made.notices
   pub trace : IsTraceIn end made.trace

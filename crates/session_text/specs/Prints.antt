@@ -1,6 +1,6 @@
 -- The texts that a script prints. What a refusal says is `Refusal`'s own text.
-use Rattle.std.specs.Prelude.{◌≡◌, ℕ, true, false, if◌then◌else◌, List, [], ◌∷◌, ◌++◌, length, codes, flat_map, Option, Some, None, IfSome}
-use Rattle.std.specs.Fmt.{decimal, ◌++?◌}
+use Rattle.std.specs.Prelude.{◌≡◌, ℕ, true, false, if◌then◌else◌, List, [], ◌∷◌, ◌++◌, length, codes, flat_map}
+use Rattle.std.specs.Fmt.{decimal}
 use Rattle.std.specs.Ordering.{nat_cmp}
 use Rattle.std.specs.FinMap as map
 use Rattle.seq_model.specs.declared.call.Reply.{Reply}
@@ -38,15 +38,23 @@ answer_text (Replied reply) = reply_text reply
 answer_text (Committed number) = codes "committed " ++ decimal number
 answer_text Aborted = codes "aborted"
 
--- the line of an answer; of a refusal nothing is said
-abbrev pub notice_text : Notice ℕ → Option (List ℕ)
-notice_text Quiet = Some []
-notice_text (Answered actor answer) = Some (decimal actor ++ (codes ": " ++ (answer_text answer ++ (10 ∷ []))))
-notice_text (Refused actor refusal) = None
+-- the line of a notice; a refusal has a text of its own
+abbrev pub IsNoticeText : Notice ℕ → List ℕ → Type 0
+IsNoticeText Quiet text = text ≡ []
+IsNoticeText (Answered actor answer) text = text ≡ decimal actor ++ (codes ": " ++ (answer_text answer ++ (10 ∷ [])))
+IsNoticeText (Refused actor refusal) text = (cause : List ℕ) × (text ≡ decimal actor ++ (codes ": " ++ (cause ++ (10 ∷ []))))
 
-abbrev pub notices_text : List (Notice ℕ) → Option (List ℕ)
-notices_text [] = Some []
-notices_text (notice ∷ notices) = notice_text notice ++? notices_text notices
+-- the lines of notices, in their order
+abbrev pub IsNoticesText : List (Notice ℕ) → List ℕ → Type 0
+IsNoticesText [] text = text ≡ []
+IsNoticesText (notice ∷ notices) text =
+    (first : List ℕ) × ((rest : List ℕ) × ((text ≡ first ++ rest) × (IsNoticeText notice first × IsNoticesText notices rest)))
+
+-- a text of a kind has been added
+pub record Adds (IsText : List ℕ → Type 0) (old new : List ℕ) : Type 0 where
+  pub added : List ℕ
+  pub is-text : IsText added
+  pub whole : new ≡ old ++ added
 
 -- the line of a committed transaction, with its actor
 abbrev pub record_text : ℕ × Record ℕ → List ℕ
@@ -75,8 +83,8 @@ state_text state = words_text state.words ++ flat_map (λ held. held_text held +
 abbrev pub trace_text : Trace ℕ → List ℕ
 trace_text trace = flat_map record_text trace.records ++ (flat_map half_text trace.half ++ state_text trace.state)
 
--- a text for the notices, and then the trace's
+-- the lines of the notices, and then the trace's
 pub record IsPrinted (run : ScriptRun) (text : List ℕ) : Type 0 where
   pub told : List ℕ
-  pub notices : IfSome (notices_text run.notices) (λ known. told ≡ known)
+  pub notices : IsNoticesText run.notices told
   pub whole : text ≡ told ++ trace_text run.trace

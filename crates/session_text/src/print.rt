@@ -1,7 +1,7 @@
 //! Prints what came of a script.
-ghost use Rattle.std.specs.Prelude.{◌≡◌, ◌++◌, ◌∷◌, [], IfOk, IfSome, OnOk, flat_map};
+ghost use Rattle.std.specs.Prelude.{◌≡◌, ◌++◌, ◌∷◌, [], IfOk, OnOk, flat_map};
 ghost use Rattle.std.specs.String.{string_bytes};
-ghost use Rattle.session_text.specs.Prints.{number_text, pair_text, reply_text, answer_text, notice_text, notices_text, record_text, half_text, held_text, words_text, state_text, IsPrinted};
+ghost use Rattle.session_text.specs.Prints.{number_text, pair_text, reply_text, answer_text, record_text, half_text, held_text, words_text, state_text, Adds, IsNoticeText, IsNoticesText, IsPrinted};
 
 use crate::run::ScriptRun;
 use seq_model::{Answer, Held, Memory, Notice, Record, Reply, State};
@@ -23,7 +23,7 @@ pub fn print_trace(alloc: Global, run: &ScriptRun) -> Result<Vec<u8>, Memory>
 }
 
 fn print_notices(text: &mut String, notices: &[Notice<u64>]) -> Result<(), Memory>
-    ensures { OnOk result (IfSome (notices_text notices.now) (λ known. string_bytes text.new ≡ string_bytes text.old ++ known)) }
+    ensures { OnOk result (Adds (IsNoticesText notices.now) (string_bytes text.old) (string_bytes text.new)) }
 {
     for notice in notices {
         print_notice(text, notice)?;
@@ -50,7 +50,7 @@ fn print_halves(text: &mut String, half: &[u64]) -> Result<(), Memory>
 }
 
 fn print_notice(text: &mut String, notice: &Notice<u64>) -> Result<(), Memory>
-    ensures { OnOk result (IfSome (notice_text notice.now) (λ known. string_bytes text.new ≡ string_bytes text.old ++ known)) }
+    ensures { OnOk result (Adds (IsNoticeText notice.now) (string_bytes text.old) (string_bytes text.new)) }
 {
     match notice {
         Notice::Quiet => {}
@@ -59,7 +59,10 @@ fn print_notice(text: &mut String, notice: &Notice<u64>) -> Result<(), Memory>
             print_answer(text, answer)?;
             text.push('\n')?;
         }
-        Notice::Refused(actor, refusal) => writeln!(text, "{actor}: {refusal}")?,
+        Notice::Refused(actor, refusal) => {
+            let cause = refusal.to_string(*text.allocator())?;
+            writeln!(text, "{actor}: {cause}")?;
+        }
     }
     Ok(())
 }

@@ -3,7 +3,8 @@ ghost use Rattle.std.specs.Prelude.{◌≡◌, map, IfOk, IfErr, OnOk};
 ghost use Rattle.step_world.specs.Traces.{IsSerialTrace};
 ghost use Rattle.session_text.specs.Scripts.{IsOpeningOf, IsRefusedOpening};
 ghost use Rattle.session_text.specs.Worlds.{opening_in};
-ghost use Rattle.session_text.specs.Plays.{AreSteps, AreStepsOfTwo, HasPlayed, IsOne, IsPlay, IsRunOf};
+ghost use Rattle.session_text.specs.Plays.{AreSteps, AreTurns, HasPlayed, IsOne, IsPlay, IsRunOf, Keeps, actor_of, is_request, noted, nobody, waits};
+ghost use Rattle.session_text.specs.declared.script.TheConstants.{STEP_LIMIT};
 
 use crate::script::{Collection, Line, STEP_LIMIT, Script};
 use seq_model::{Event, Items, Memory, Notice, Refusal, Request, Shape, State};
@@ -92,7 +93,8 @@ struct Runner {
 impl Runner {
     fn run_line(&mut self, line: &Line) -> Result<(), Memory>
         ensures opening { OnOk result (opening_in self.new.world.world ≡ opening_in self.old.world.world) }
-        ensures plays { OnOk result (HasPlayed (IsPlay line.now) self.old.world.world self.old.notices self.new.world.world self.new.notices) }
+        ensures plays { OnOk result (HasPlayed (Keeps (IsPlay self.old.waiting.items line.now) self.old.waiting.items self.new.waiting.items)
+            self.old.world.world self.old.notices self.new.world.world self.new.notices) }
     {
         match line {
             Line::Ask(actor, request) => {
@@ -107,7 +109,7 @@ impl Runner {
             }
             Line::Steps(actor, count) => self.steps(*actor, *count),
             Line::Starve(actor) => {
-                self.happen(*actor, Event::Starve(*actor))?;
+                self.happen(Event::Starve(*actor))?;
                 Ok(())
             }
             Line::Alternate(first, second) => self.alternate(*first, *second),
@@ -115,36 +117,38 @@ impl Runner {
     }
 
     // Whether the event told nothing.
-    fn happen(&mut self, actor: u32, event: Event<u64>) -> Result<bool, Memory>
+    fn happen(&mut self, event: Event<u64>) -> Result<bool, Memory>
         ensures opening { OnOk result (opening_in self.new.world.world ≡ opening_in self.old.world.world) }
-        ensures plays { IfOk result (λ quiet. HasPlayed (IsOne event quiet) self.old.world.world self.old.notices self.new.world.world self.new.notices) }
+        ensures plays { IfOk result (λ quiet. HasPlayed (Keeps (IsOne event quiet) self.old.waiting.items self.new.waiting.items)
+            self.old.world.world self.old.notices self.new.world.world self.new.notices) }
     {
+        let actor = actor_of(&event);
+        let asks = is_request(&event);
         let notice = self.world.feed(event)?;
         if let Notice::Quiet = notice {
+            self.note(actor, asks, true);
             return Ok(true);
         }
         self.notices.push(notice)?;
-        self.set_waiting(actor, false);
+        self.note(actor, asks, false);
         Ok(false)
     }
 
     fn ask(&mut self, actor: u32, request: &Request<u64>) -> Result<bool, Memory>
         ensures opening { OnOk result (opening_in self.new.world.world ≡ opening_in self.old.world.world) }
-        ensures plays { IfOk result (λ quiet. HasPlayed (IsOne (Event.Ask actor request.now) quiet) self.old.world.world self.old.notices self.new.world.world self.new.notices) }
+        ensures plays { IfOk result (λ quiet. HasPlayed (Keeps (IsOne (Event.Ask actor request.now) quiet) self.old.waiting.items self.new.waiting.items)
+            self.old.world.world self.old.notices self.new.world.world self.new.notices) }
     {
-        let waited = self.is_waiting(actor);
-        let quiet = self.happen(actor, Event::Ask(actor, request.try_copy()?))?;
-        // A request that is refused beside an unanswered one leaves that one waiting.
-        self.set_waiting(actor, quiet || waited);
-        Ok(quiet)
+        self.happen(Event::Ask(actor, request.try_copy()?))
     }
 
     fn steps(&mut self, actor: u32, count: u64) -> Result<(), Memory>
         ensures opening { OnOk result (opening_in self.new.world.world ≡ opening_in self.old.world.world) }
-        ensures plays { OnOk result (HasPlayed (AreSteps actor count) self.old.world.world self.old.notices self.new.world.world self.new.notices) }
+        ensures plays { OnOk result (HasPlayed (Keeps (AreSteps actor count) self.old.waiting.items self.new.waiting.items)
+            self.old.world.world self.old.notices self.new.world.world self.new.notices) }
     {
         for _taken in 0..count {
-            if !self.happen(actor, Event::Step(actor))? {
+            if !self.happen(Event::Step(actor))? {
                 return Ok(());
             }
         }
@@ -153,33 +157,52 @@ impl Runner {
 
     fn alternate(&mut self, first: u32, second: u32) -> Result<(), Memory>
         ensures opening { OnOk result (opening_in self.new.world.world ≡ opening_in self.old.world.world) }
-        ensures plays { OnOk result (HasPlayed (λ es told. AreStepsOfTwo first second es) self.old.world.world self.old.notices self.new.world.world self.new.notices) }
+        ensures plays { OnOk result (HasPlayed (Keeps (AreTurns STEP_LIMIT first second self.old.waiting.items) self.old.waiting.items self.new.waiting.items)
+            self.old.world.world self.old.notices self.new.world.world self.new.notices) }
     {
         let mut actor = first;
         let mut other = second;
-        for _ in 0..STEP_LIMIT {
-            if !self.is_waiting(actor) {
-                if !self.is_waiting(other) {
-                    return Ok(());
-                }
+        for _taken in 0..STEP_LIMIT {
+            if self.is_waiting(actor) {
+                self.happen(Event::Step(actor))?;
                 (actor, other) = (other, actor);
+            } else if self.is_waiting(other) {
+                self.happen(Event::Step(other))?;
+            } else {
+                return Ok(());
             }
-            self.happen(actor, Event::Step(actor))?;
-            (actor, other) = (other, actor);
         }
         Ok(())
     }
 
-    fn is_waiting(&self, actor: u32) -> bool {
+    fn is_waiting(&self, actor: u32) -> bool
+        ensures { result ≡ waits self.now.waiting.items actor }
+    {
         self.waiting.get(actor as usize).copied().unwrap_or(false)
     }
 
-    fn set_waiting(&mut self, actor: u32, waits: bool)
+    // An event of this actor, a request or not, told nothing or something.
+    fn note(&mut self, actor: u32, asks: bool, quiet: bool)
         ensures world { self.new.world ≡ self.old.world }
         ensures notices { self.new.notices ≡ self.old.notices }
+        ensures waiting { self.new.waiting.items ≡ noted self.old.waiting.items actor asks quiet }
     {
-        if let Some(waiting) = self.waiting.get_mut(actor as usize) {
-            *waiting = waits;
+        if asks == quiet && (actor as usize) < self.waiting.len() {
+            self.waiting[actor as usize] = quiet;
         }
     }
+}
+
+fn actor_of(event: &Event<u64>) -> u32
+    ensures { result ≡ actor_of event.now }
+{
+    match event {
+        Event::Ask(actor, _) | Event::Step(actor) | Event::Starve(actor) => *actor,
+    }
+}
+
+fn is_request(event: &Event<u64>) -> bool
+    ensures { result ≡ is_request event.now }
+{
+    matches!(event, Event::Ask(_, _))
 }

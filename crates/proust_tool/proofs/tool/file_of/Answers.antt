@@ -10,4 +10,4 @@ returns-in-Err c =
     let words = map string_bytes c.args.words.now in
     IfOk-weaker c.none_for.result _ _
     (λ file h. rw h.0 (sym (no_file (faults words) c.in-Err.error _ (is_fault (faults words) c.in-Err.error c.in-Err.ensures.faults h.1))))
-    c.none_for.ensures
+    c.none_for.ensures.none

@@ -1,8 +1,7 @@
-use Rattle.std.proofs.Common.{◌≡◌, ◌++◌, take}
-use Rattle.std.specs.Prelude.{IfSome}
+use Rattle.std.proofs.Common.{take}
 use Rattle.std.specs.String.{string_bytes}
-use Rattle.session_text.specs.Prints.{notices_text}
+use Rattle.session_text.specs.Prints.{Adds, IsNoticesText}
 use Rattle.session_text.proofs.print.print_notices.Given as goal
 
 abbrev pub invariant-loop-notice : goal.invariant-loop-notice
-invariant-loop-notice l = IfSome (notices_text (take l.notice-index l.notices)) (λ known. string_bytes l.text ≡ string_bytes l.fn.text ++ known)
+invariant-loop-notice l = Adds (IsNoticesText (take l.notice-index l.notices)) (string_bytes l.fn.text) (string_bytes l.text)

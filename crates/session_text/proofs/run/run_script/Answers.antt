@@ -2,7 +2,8 @@ use Rattle.std.proofs.Common.{◌≡◌, ◌∙◌, ◌∷◌, [], ◌++◌, ℕ
 use Rattle.std.proofs.Math.Seq.{take-suc}
 use Rattle.seq_model.specs.declared.event.Request.TheVariants.{Begin}
 use Rattle.session_text.specs.declared.script.Line.TheVariants.{Ask}
-use Rattle.session_text.proofs.PlayLemmas.{played_on, plays_on}
+use Rattle.session_text.specs.Plays.{nobody}
+use Rattle.session_text.proofs.PlayLemmas.{played_on, plays_after}
 use Rattle.session_text.proofs.run.run_script.Goals as goal
 
 pub loop-line-preserved : goal.loop-line-preserved
@@ -16,6 +17,6 @@ loop-line-preserved c =
     record {
       opening = c.in_ok-run_line.ensures.opening ∙ c.loop-line.invariant.opening;
       played = rw taken
-          (played_on (λ xs ys ms ns plays play. plays_on (take i lines) line xs ys ms ns plays play) c.loop-line.invariant.played
+          (played_on (λ xs ys ms ns _ paired after plays play. plays_after nobody c.loop-line.runner.waiting.items (take i lines) line xs ys ms ns paired after plays play) c.loop-line.invariant.played
           (rw c.as_slice-line-items.ensures at c.in_ok-run_line.ensures.plays));
     }
