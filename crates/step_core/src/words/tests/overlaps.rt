@@ -14,131 +14,202 @@ fn two_writers(alloc: Global, values: &[u64], second: u32) -> Result<Words, Word
 
 #[test]
 fn a_later_number_may_commit_first(rt: HostRuntime) -> Result<(), Fail> {
-    let mut words = two_writers(rt.alloc(), &[0, 0], 1)?;
-    run(&mut words, 1, WordRequest::Lock)?;
-    assert_eq!(rt; commit(&mut words, 2)?, Some(WordAnswer::Locked(2)));
-    run(&mut words, 1, WordRequest::Store)?;
-    run(&mut words, 1, WordRequest::Release)?;
-    let history = words.history();
-    assert_eq!(rt; history.len(), 2);
-    assert_eq!(rt; (history[0].number, history[0].actor), (2, 2));
-    assert_eq!(rt; (history[1].number, history[1].actor), (1, 1));
-    assert_eq!(rt; words.values(), [5, 6].as_slice());
+    let moves = [
+        (
+            Move::Run(1, WordRequest::Lock),
+            Ok(Some(WordAnswer::Locked(1))),
+        ),
+        (Move::Commit(2), Ok(Some(WordAnswer::Locked(2)))),
+        (
+            Move::Run(1, WordRequest::Store),
+            Ok(Some(WordAnswer::Stored)),
+        ),
+        (
+            Move::Run(1, WordRequest::Release),
+            Ok(Some(WordAnswer::Released)),
+        ),
+    ];
+    let words = two_writers(rt.alloc(), &[0, 0], 1);
+    assert_eq!(rt;
+        played(
+            words,
+            moves.as_slice(),
+            &[5, 6],
+            &[(2, 2, true, 1), (1, 1, true, 1)]
+        )?,
+        None
+    );
     Ok(())
 }
 
 #[test]
 fn commits_pass_a_half_done_one(rt: HostRuntime) -> Result<(), Fail> {
-    let mut words = two_writers(rt.alloc(), &[0, 0, 0], 2)?;
-    run(&mut words, 1, WordRequest::Write(1, 7))?;
-    run(&mut words, 1, WordRequest::Lock)?;
-    words.ask(1, WordRequest::Store)?;
-    words.step(1)?;
-    assert_eq!(rt; commit(&mut words, 2)?, Some(WordAnswer::Locked(2)));
-    let history = words.history();
-    assert_eq!(rt; history.len(), 2);
+    let moves = [
+        (
+            Move::Run(1, WordRequest::Write(1, 7)),
+            Ok(Some(WordAnswer::Done)),
+        ),
+        (
+            Move::Run(1, WordRequest::Lock),
+            Ok(Some(WordAnswer::Locked(1))),
+        ),
+        (Move::Ask(1, WordRequest::Store), Ok(None)),
+        (Move::Step(1), Ok(None)),
+        (Move::Commit(2), Ok(Some(WordAnswer::Locked(2)))),
+    ];
+    let words = two_writers(rt.alloc(), &[0, 0, 0], 2);
     assert_eq!(rt;
-        (history[0].number, history[0].calls.as_slice().len()),
-        (1, 2)
+        played(
+            words,
+            moves.as_slice(),
+            &[5, 0, 6],
+            &[(1, 1, true, 2), (2, 2, true, 1)]
+        )?,
+        None
     );
-    assert_eq!(rt;
-        (history[1].number, history[1].calls.as_slice().len()),
-        (2, 1)
-    );
-    assert_eq!(rt; words.values(), [5, 0, 6].as_slice());
     Ok(())
 }
 
 #[test]
 fn writes_alone_do_not_conflict_one_after_another(rt: HostRuntime) -> Result<(), Fail> {
-    let mut words = two_writers(rt.alloc(), &[0], 0)?;
-    assert_eq!(rt; commit(&mut words, 1)?, Some(WordAnswer::Locked(1)));
-    assert_eq!(rt; commit(&mut words, 2)?, Some(WordAnswer::Locked(2)));
-    assert_eq!(rt; words.values(), [6].as_slice());
+    let moves = [
+        (Move::Commit(1), Ok(Some(WordAnswer::Locked(1)))),
+        (Move::Commit(2), Ok(Some(WordAnswer::Locked(2)))),
+    ];
+    let words = two_writers(rt.alloc(), &[0], 0);
+    assert_eq!(rt;
+        played(
+            words,
+            moves.as_slice(),
+            &[6],
+            &[(1, 1, true, 1), (2, 2, true, 1)]
+        )?,
+        None
+    );
     Ok(())
 }
 
 #[test]
 fn a_taken_lock_is_busy(rt: HostRuntime) -> Result<(), Fail> {
-    let mut words = two_writers(rt.alloc(), &[0], 0)?;
-    words.ask(1, WordRequest::Lock)?;
-    words.step(1)?;
-    words.step(1)?;
+    let moves = [
+        (Move::Ask(1, WordRequest::Lock), Ok(None)),
+        (Move::Step(1), Ok(None)),
+        (Move::Step(1), Ok(None)),
+        (
+            Move::Commit(2),
+            Err(WordRefusal::Busy {
+                location: 0,
+                word: 1,
+            }),
+        ),
+        (Move::GiveUp(2), Ok(Some(WordAnswer::Ended))),
+        (Move::Step(1), Ok(Some(WordAnswer::Locked(1)))),
+        (
+            Move::Run(1, WordRequest::Store),
+            Ok(Some(WordAnswer::Stored)),
+        ),
+        (
+            Move::Run(1, WordRequest::Release),
+            Ok(Some(WordAnswer::Released)),
+        ),
+    ];
+    let words = two_writers(rt.alloc(), &[0], 0);
     assert_eq!(rt;
-        refused(commit(&mut words, 2))?,
-        WordRefusal::Busy {
-            location: 0,
-            word: 1
-        }
+        played(words, moves.as_slice(), &[5], &[(1, 1, true, 1)])?,
+        None
     );
-    assert_eq!(rt; give_up(&mut words, 2)?, Some(WordAnswer::Ended));
-    assert_eq!(rt; words.step(1)?, Some(WordAnswer::Locked(1)));
-    run(&mut words, 1, WordRequest::Store)?;
-    run(&mut words, 1, WordRequest::Release)?;
-    assert_eq!(rt; words.values(), [5].as_slice());
     Ok(())
 }
 
 #[test]
 fn a_lock_changed_since_its_load_is_busy(rt: HostRuntime) -> Result<(), Fail> {
-    let mut words = two_writers(rt.alloc(), &[0], 0)?;
-    words.ask(1, WordRequest::Lock)?;
-    words.step(1)?;
-    assert_eq!(rt; commit(&mut words, 2)?, Some(WordAnswer::Locked(1)));
+    let moves = [
+        (Move::Ask(1, WordRequest::Lock), Ok(None)),
+        (Move::Step(1), Ok(None)),
+        (Move::Commit(2), Ok(Some(WordAnswer::Locked(1)))),
+        (
+            Move::Step(1),
+            Err(WordRefusal::Busy {
+                location: 0,
+                word: 2,
+            }),
+        ),
+        (Move::GiveUp(1), Ok(Some(WordAnswer::Ended))),
+    ];
+    let words = two_writers(rt.alloc(), &[0], 0);
     assert_eq!(rt;
-        refused(words.step(1))?,
-        WordRefusal::Busy {
-            location: 0,
-            word: 2
-        }
+        played(words, moves.as_slice(), &[6], &[(1, 2, true, 1)])?,
+        None
     );
-    assert_eq!(rt; give_up(&mut words, 1)?, Some(WordAnswer::Ended));
-    assert_eq!(rt; words.history().len(), 1);
-    assert_eq!(rt; words.values(), [6].as_slice());
     Ok(())
+}
+
+// Whether an own write is read back, a read is repeated from the set, and the record has each call.
+fn reads_again(alloc: Global) -> Result<bool, WordRefusal> {
+    let mut words = two_writers(alloc, &[3, 4], 0)?;
+    let moves = [
+        (
+            Move::Ask(1, WordRequest::Read(0)),
+            Ok(Some(WordAnswer::Number(5))),
+        ),
+        (
+            Move::Run(1, WordRequest::Read(1)),
+            Ok(Some(WordAnswer::Number(4))),
+        ),
+        (
+            Move::Ask(1, WordRequest::Read(1)),
+            Ok(Some(WordAnswer::Number(4))),
+        ),
+        (Move::Commit(1), Ok(Some(WordAnswer::Locked(1)))),
+    ];
+    if first_other(&mut words, moves.as_slice())?.is_some() {
+        return Ok(false);
+    }
+    let calls = [
+        WordCall::Write(0, 5),
+        WordCall::Read(0, 5),
+        WordCall::Read(1, 4),
+        WordCall::Read(1, 4),
+    ];
+    let history = words.history();
+    Ok(history.len() == 1 && history[0].calls.as_slice() == calls.as_slice())
 }
 
 #[test]
 fn what_is_written_is_read_back_and_repeated(rt: HostRuntime) -> Result<(), Fail> {
-    let mut words = two_writers(rt.alloc(), &[3, 4], 0)?;
-    assert_eq!(rt;
-        words.ask(1, WordRequest::Read(0))?,
-        Some(WordAnswer::Number(5))
-    );
-    assert_eq!(rt;
-        run(&mut words, 1, WordRequest::Read(1))?,
-        Some(WordAnswer::Number(4))
-    );
-    assert_eq!(rt;
-        words.ask(1, WordRequest::Read(1))?,
-        Some(WordAnswer::Number(4))
-    );
-    assert_eq!(rt; commit(&mut words, 1)?, Some(WordAnswer::Locked(1)));
-    let history = words.history();
-    assert_eq!(rt; history.len(), 1);
-    let calls = history[0].calls.as_slice();
-    assert_eq!(rt; calls.len(), 4);
-    assert_eq!(rt; calls[0], WordCall::Write(0, 5));
-    assert_eq!(rt; calls[1], WordCall::Read(0, 5));
-    assert_eq!(rt; calls[3], WordCall::Read(1, 4));
+    assert!(rt; reads_again(rt.alloc())?);
     Ok(())
 }
 
 #[test]
 fn a_word_that_is_read_and_written_is_checked(rt: HostRuntime) -> Result<(), Fail> {
-    let mut words = table(rt.alloc(), 0, &[0])?;
-    run(&mut words, 1, WordRequest::Begin)?;
-    run(&mut words, 1, WordRequest::Read(0))?;
-    run(&mut words, 1, WordRequest::Write(0, 5))?;
-    assert_eq!(rt; write(&mut words, 2, 0, 6)?, Some(WordAnswer::Locked(1)));
+    let moves = [
+        (
+            Move::Run(1, WordRequest::Begin),
+            Ok(Some(WordAnswer::Begun(0))),
+        ),
+        (
+            Move::Run(1, WordRequest::Read(0)),
+            Ok(Some(WordAnswer::Number(0))),
+        ),
+        (
+            Move::Run(1, WordRequest::Write(0, 5)),
+            Ok(Some(WordAnswer::Done)),
+        ),
+        (Move::Write(2, 0, 6), Ok(Some(WordAnswer::Locked(1)))),
+        (
+            Move::Commit(1),
+            Err(WordRefusal::Invalid {
+                location: 0,
+                word: 3,
+            }),
+        ),
+        (Move::GiveUp(1), Ok(Some(WordAnswer::Ended))),
+    ];
+    let words = table(rt.alloc(), 0, &[0]);
     assert_eq!(rt;
-        refused(commit(&mut words, 1))?,
-        WordRefusal::Invalid {
-            location: 0,
-            word: 3
-        }
+        played(words, moves.as_slice(), &[6], &[(1, 2, true, 1)])?,
+        None
     );
-    assert_eq!(rt; give_up(&mut words, 1)?, Some(WordAnswer::Ended));
-    assert_eq!(rt; words.values(), [6].as_slice());
     Ok(())
 }
