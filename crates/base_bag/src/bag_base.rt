@@ -350,7 +350,12 @@ mod tests {
 
     fn holds(base: &BagBase, elements: &[(u64, u64)]) -> Result<bool, Memory> {
         match base.held::<u64>()? {
-            Held::Bag(counts) => Ok(counts.iter().map(|(x, n)| (*x, *n)).eq(elements.iter().copied())),
+            Held::Bag(counts) => Ok(
+                counts
+                    .iter()
+                    .map(|(x, n)| (*x, *n))
+                    .eq(elements.iter().copied()),
+            ),
             _ => Ok(false),
         }
     }

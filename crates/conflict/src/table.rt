@@ -147,7 +147,12 @@ mod tests {
     #[test]
     fn gives_its_entries_by_rising_key(rt: HostRuntime) -> Result<(), Fail> {
         let entries = of_two_keys(rt.alloc())?.to_entries()?;
-        assert!(rt; entries.iter().map(|(key, value)| (*key, *value)).eq([(5, 50), (9, 90)]));
+        assert!(rt;
+            entries
+                .iter()
+                .map(|(key, value)| (*key, *value))
+                .eq([(5, 50), (9, 90)])
+        );
         Ok(())
     }
 

@@ -325,7 +325,9 @@ fn words_and_clock(rt: HostRuntime) -> Result<(), Fail> {
 }
 
 fn lists(entries: Iter<'_, u64, u64>, pairs: &[(u64, u64)]) -> bool {
-    entries.map(|(key, value)| (*key, *value)).eq(pairs.iter().copied())
+    entries
+        .map(|(key, value)| (*key, *value))
+        .eq(pairs.iter().copied())
 }
 
 #[test]
