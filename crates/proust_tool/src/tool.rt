@@ -103,8 +103,8 @@ pub fn fault<E: Write>(err: &mut E, status: u8, text: &str) -> u8
 ///
 /// What it prints goes to `out`, and a fault, one line, to `err`: then nothing goes to `out`, but where a write to it
 /// failed. Faults are found in the order words, file, size, text, opening. `done`: with status 0 the words ask for help,
-/// or they and the text are taken and `out` has grown by what the run of a script prints. `unread`: nothing is read for
-/// refused words.
+/// or they and the text are taken and `out` has grown by what the run of the script prints that the text spells.
+/// `unread`: nothing is read for refused words.
 pub fn run_tool<R: Read, W: Write, E: Write>(
     alloc: Global,
     words: &[String],
@@ -225,7 +225,7 @@ fn read_file<R: Read>(alloc: Global, reader: &mut R) -> Result<Vec<u8>, ReadFaul
 fn step<W: Write, E: Write>(alloc: Global, text: &[u8], out: &mut W, err: &mut E) -> u8
     ensures status { result ≤ MEMORY }
     ensures done { result ≡ DONE
-        → (bytes : List ℕ) × IsOutput bytes × Appends (W.contents out.old) (W.contents out.new) bytes }
+        → (bytes : List ℕ) × IsOutput text.now bytes × Appends (W.contents out.old) (W.contents out.new) bytes }
     ensures quiet { result ≡ DONE → err.new ≡ err.old }
     ensures memory { result ≡ MEMORY → out.new ≡ out.old }
 {
@@ -236,8 +236,8 @@ fn step<W: Write, E: Write>(alloc: Global, text: &[u8], out: &mut W, err: &mut E
 }
 
 fn output_of(alloc: Global, text: &[u8]) -> Result<Vec<u8>, Refusal>
-    ensures output { IfOk result (λ bytes. IsOutput bytes.items) }
-    ensures refused { IfErr result IsFault }
+    ensures output { IfOk result (λ bytes. IsOutput text.now bytes.items) }
+    ensures refused { IfErr result (IsFault text.now) }
 {
     let script = parse_steps(alloc, text)?;
     let run = run_script(alloc, &script)?;

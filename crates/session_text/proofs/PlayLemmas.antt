@@ -1,5 +1,5 @@
 -- Laws of what a script's lines make happen.
-use Rattle.std.proofs.Common.{◌≡◌, ◌∙◌, refl, sym, ap, ap₂, subst, ℕ, zero, suc, ◌+◌, ◌-◌, ◌<◌, ◌≤◌, Bool, true, false, List, [], ◌∷◌, ◌++◌, length, inl, inr, ◌⊎◌, append_assoc, append-nil, arith}
+use Rattle.std.proofs.Common.{◌≡◌, ◌∙◌, refl, sym, ap, ap₂, subst, ℕ, zero, suc, ◌+◌, ◌<◌, Bool, true, false, List, [], ◌∷◌, ◌++◌, length, inl, inr, ◌⊎◌, append_assoc, append-nil, arith}
 use Rattle.std.specs.Prelude.{replicate}
 use Rattle.std.proofs.lemmas.List.{replicate-append-replicate}
 use Rattle.std.proofs.lemmas.Grind.{flat_map-append}
@@ -7,10 +7,10 @@ use Rattle.seq_model.specs.declared.event.Event.{Event}
 use Rattle.seq_model.specs.declared.event.Event.TheVariants as event
 use Rattle.seq_model.specs.declared.event.Notice.{Notice}
 use Rattle.seq_model.specs.declared.event.Notice.TheVariants.{Quiet, Answered, Refused}
-use Rattle.session_text.specs.declared.script.Line.{Line}
-use Rattle.session_text.specs.declared.script.TheConstants.{STEP_LIMIT}
+use Rattle.step_script.specs.declared.script.Line.{Line}
+use Rattle.step_script.specs.declared.script.TheConstants.{STEP_LIMIT}
 use Rattle.session_text.specs.Worlds.{World, Feeds}
-use Rattle.session_text.specs.Plays.{ArePlays, AreSteps, AreTurns, HasPlayed, IsDone, IsOne, IsPlay, IsSplit, IsStepOf, Keeps, Lead, heard, telling, tells_nothing, waiting_after, waiting_then, waits}
+use Rattle.session_text.specs.Plays.{ArePlays, AreSteps, AreTurns, HasPlayed, IsDone, IsOne, IsPlay, IsStepOf, Keeps, Lead, heard, telling, tells_nothing, waiting_after, waiting_then, waits}
 
 -- ---- events after events
 lead_on : (w v u : World) (xs ys : List (Event ℕ)) (ms ns : List (Notice ℕ)) → Lead w xs ms v → Lead v ys ns u → Lead w (xs ++ ys) (ms ++ ns) u

@@ -1,5 +1,5 @@
 -- Laws of the texts that a script prints.
-use Rattle.std.proofs.Common.{◌≡◌, ◌∙◌, refl, sym, ap, List, [], ◌∷◌, ◌++◌, ℕ, append_assoc, append-nil}
+use Rattle.std.proofs.Common.{◌∙◌, refl, sym, ap, List, [], ◌∷◌, ◌++◌, ℕ, append_assoc, append-nil}
 use Rattle.seq_model.specs.declared.event.Notice.{Notice}
 use Rattle.session_text.specs.Prints.{Adds, IsNoticeText, IsNoticesText}
 

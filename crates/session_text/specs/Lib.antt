@@ -1,4 +1,3 @@
-pub mod Refusals
 pub mod Scripts
 pub mod Prints
 pub mod Worlds

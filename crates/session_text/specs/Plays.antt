@@ -4,10 +4,10 @@ use Rattle.seq_model.specs.declared.event.Event.{Event}
 use Rattle.seq_model.specs.declared.event.Event.TheVariants as event
 use Rattle.seq_model.specs.declared.event.Notice.{Notice}
 use Rattle.seq_model.specs.declared.event.Notice.TheVariants.{Quiet}
-use Rattle.session_text.specs.declared.script.Line.{Line}
-use Rattle.session_text.specs.declared.script.Line.TheVariants.{Ask, Do, Steps, Starve, Alternate}
-use Rattle.session_text.specs.declared.script.Script.{Script}
-use Rattle.session_text.specs.declared.script.TheConstants.{STEP_LIMIT}
+use Rattle.step_script.specs.declared.script.Line.{Line}
+use Rattle.step_script.specs.declared.script.Line.TheVariants.{Ask, Do, Steps, Starve, Alternate}
+use Rattle.step_script.specs.declared.script.Script.{Script}
+use Rattle.step_script.specs.declared.script.TheConstants.{STEP_LIMIT}
 use Rattle.session_text.specs.declared.run.ScriptRun.{ScriptRun}
 use Rattle.session_text.specs.Worlds.{World, IsOpened, Feeds, IsTraceIn}
 

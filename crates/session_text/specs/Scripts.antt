@@ -3,7 +3,7 @@ use Rattle.std.specs.Prelude.{◌≡◌, ℕ, map, ⊤}
 use Rattle.seq_model.specs.declared.refusal.Refusal.{Refusal}
 use Rattle.seq_model.specs.declared.refusal.Refusal.TheVariants.{NoSuch, TooLong, OutOfMemory}
 use Rattle.seq_model.specs.Contents.{Contents}
-use Rattle.session_text.specs.declared.script.Script.{Script}
+use Rattle.step_script.specs.declared.script.Script.{Script}
 
 -- the words and the collections of the script's header
 pub record IsOpeningOf (script : Script) (opening : Contents ℕ) : Type 0 where

@@ -4,16 +4,12 @@
 //! feeds it to a world, and `print_trace` prints what came of it. The texts' grammar stands in docs/formats.md.
 #![tactic(auto)]
 
-mod collections;
-mod number;
 mod print;
-mod requests;
 mod run;
-mod script;
 
 pub use print::print_trace;
 pub use run::{ScriptRun, run_script};
-pub use script::{Collection, Line, Script, parse_steps};
+pub use step_script::{Collection, Line, Script, parse_steps};
 
 #[cfg(test)]
 mod tests;

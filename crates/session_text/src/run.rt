@@ -4,11 +4,11 @@ ghost use Rattle.step_world.specs.Traces.{IsSerialTrace};
 ghost use Rattle.session_text.specs.Scripts.{IsOpeningOf, IsRefusedOpening};
 ghost use Rattle.session_text.specs.Worlds.{opening_in};
 ghost use Rattle.session_text.specs.Plays.{AreSteps, AreTurns, HasPlayed, IsOne, IsPlay, IsRunOf, Keeps, actor_of, is_request, noted, nobody, waits};
-ghost use Rattle.session_text.specs.declared.script.TheConstants.{STEP_LIMIT};
+ghost use Rattle.step_script.specs.declared.script.TheConstants.{STEP_LIMIT};
 
-use crate::script::{Collection, Line, STEP_LIMIT, Script};
 use seq_model::{Event, Items, Memory, Notice, Refusal, Request, Shape, State};
 use std::alloc::Global;
+use step_script::{Collection, Line, STEP_LIMIT, Script};
 use step_world::{Trace, World};
 
 /// What came of a script.

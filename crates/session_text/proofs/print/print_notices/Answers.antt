@@ -1,4 +1,4 @@
-use Rattle.std.proofs.Common.{◌≡◌, ◌∙◌, ◌∷◌, [], ◌++◌, ℕ, suc, ◌+◌, refl, sym, ap, append-nil, get_or, take, arith}
+use Rattle.std.proofs.Common.{◌≡◌, ◌∙◌, ◌∷◌, [], ◌++◌, suc, ◌+◌, refl, sym, ap, append-nil, get_or, take, arith}
 use Rattle.std.proofs.Math.Seq.{take-suc}
 use Rattle.std.specs.String.{string_bytes}
 use Rattle.seq_model.specs.declared.event.Notice.TheVariants.{Quiet}

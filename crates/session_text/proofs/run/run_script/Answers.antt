@@ -1,7 +1,7 @@
-use Rattle.std.proofs.Common.{◌≡◌, ◌∙◌, ◌∷◌, [], ◌++◌, ℕ, suc, ◌+◌, sym, ap, get_or, take, arith}
+use Rattle.std.proofs.Common.{◌≡◌, ◌∙◌, ◌∷◌, [], ◌++◌, suc, ◌+◌, sym, ap, get_or, take, arith}
 use Rattle.std.proofs.Math.Seq.{take-suc}
 use Rattle.seq_model.specs.declared.event.Request.TheVariants.{Begin}
-use Rattle.session_text.specs.declared.script.Line.TheVariants.{Ask}
+use Rattle.step_script.specs.declared.script.Line.TheVariants.{Ask}
 use Rattle.session_text.specs.Plays.{nobody}
 use Rattle.session_text.proofs.PlayLemmas.{played_on, plays_after}
 use Rattle.session_text.proofs.run.run_script.Goals as goal

@@ -1,6 +1,5 @@
-use Rattle.std.proofs.Common.{◌≡◌, ◌∙◌, refl, sym, false, arith}
-use Rattle.session_text.specs.Plays.{waits}
-use Rattle.session_text.specs.declared.script.TheConstants.{STEP_LIMIT}
+use Rattle.std.proofs.Common.{◌∙◌, refl, sym, arith}
+use Rattle.step_script.specs.declared.script.TheConstants.{STEP_LIMIT}
 use Rattle.session_text.proofs.PlayLemmas.{kept_as, played_none, played_on, turn_on, turn_over, turns_all, turns_done, turns_none}
 use Rattle.session_text.proofs.run.Runner.alternate.Goals as goal
 use Rattle.session_text.proofs.run.Runner.alternate.Goals.{then-is_waiting+in_ok-happen, else-is_waiting+then-is_waiting-2+in_ok-happen-2}

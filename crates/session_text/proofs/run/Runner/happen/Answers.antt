@@ -1,4 +1,4 @@
-use Rattle.std.proofs.Common.{◌≡◌, ◌∙◌, refl, sym, ap₂, ℕ, Bool, true, false, append-nil}
+use Rattle.std.proofs.Common.{◌∙◌, refl, sym, ap₂, ℕ, Bool, true, false, append-nil}
 use Rattle.session_text.specs.Plays.{noted}
 use Rattle.session_text.proofs.PlayLemmas.{loud_notice, played_one}
 use Rattle.seq_model.specs.declared.event.Notice.TheVariants.{Quiet}

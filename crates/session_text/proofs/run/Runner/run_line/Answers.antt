@@ -1,4 +1,3 @@
-use Rattle.std.proofs.Common.{◌≡◌, refl}
 use Rattle.seq_model.specs.declared.event.Event.TheVariants.{Ask}
 use Rattle.session_text.proofs.PlayLemmas.{done_quiet, played_on}
 use Rattle.session_text.proofs.run.Runner.run_line.Goals as goal

@@ -1,0 +1,75 @@
+-- The grammar of whole scripts: lines, each ended by a line feed, of tokens with one space between.
+use Rattle.std.specs.Prelude.{◌≡◌, ◌≢◌, ℕ, zero, suc, List, [], ◌∷◌, ◌++◌, Option, Some, None, ◌==◌, ⊤}
+use Rattle.std.specs.List.{slice_split}
+use Rattle.std.specs.Str.{IsUtf8}
+use Rattle.seq_model.specs.declared.refusal.Refusal.{Refusal}
+use Rattle.seq_model.specs.declared.refusal.Refusal.TheVariants.{BadText, OutOfMemory}
+use Rattle.step_script.specs.declared.script.Script.{Script}
+use Rattle.step_script.specs.declared.line.ScriptLine.{ScriptLine}
+use Rattle.step_script.specs.declared.line.ScriptLine.TheVariants as line
+use Rattle.step_script.specs.declared.parse.Part.{Part}
+use Rattle.step_script.specs.declared.parse.Part.TheVariants as part
+use Rattle.step_script.specs.Lines.{IsLine}
+
+-- what stands between the line feeds of a text, and between the spaces of a line
+abbrev pub pieces : List ℕ → List (List ℕ)
+pieces text = slice_split (λ byte. byte == 10) text
+
+abbrev pub tokens : List ℕ → List (List ℕ)
+tokens line = slice_split (λ byte. byte == 32) line
+
+-- The parts of a script come in their order: where a line may stand, the first part that the next line may belong
+-- to. Words and clock come once.
+abbrev pub part_behind : Part → ScriptLine → Option Part
+part_behind part.Words (line.Words values) = Some part.Clock
+part_behind part.Words (line.Clock clock) = Some part.Collections
+part_behind part.Clock (line.Clock clock) = Some part.Collections
+part_behind part.Words (line.Holds collection) = Some part.Collections
+part_behind part.Clock (line.Holds collection) = Some part.Collections
+part_behind part.Collections (line.Holds collection) = Some part.Collections
+part_behind at (line.Event event) = Some part.Events
+part_behind at other = None
+
+-- what a line adds to a script
+abbrev pub with_line : Script → ScriptLine → Script
+with_line script (line.Words values) = record script { words = values }
+with_line script (line.Clock clock) = record script { clock = clock }
+with_line script (line.Holds collection) = record script { collections = script.collections ++ collection ∷ [] }
+with_line script (line.Event event) = record script { lines = script.lines ++ event ∷ [] }
+
+abbrev pub nothing : Script
+nothing = record { words = []; clock = 0; collections = []; lines = [] }
+
+-- these bytes are this line, which may stand here
+pub record IsNext (at : Part) (bytes : List ℕ) (read : ScriptLine) (behind : Part) : Type 0 where
+  pub utf8 : IsUtf8 bytes
+  pub spelled : IsLine (tokens bytes) read
+  pub in_order : part_behind at read ≡ Some behind
+
+-- reading on from a script, line after line, comes to the whole; nothing stands behind the last line feed
+abbrev pub Reads : Part → Script → List (List ℕ) → Script → Type 0
+Reads at script [] whole = ⊥
+Reads at script (last ∷ []) whole = (last ≡ []) × (whole ≡ script)
+Reads at script (bytes ∷ next ∷ more) whole =
+    (read : ScriptLine) × (behind : Part) × IsNext at bytes read behind × Reads behind (with_line script read) (next ∷ more) whole
+
+abbrev pub IsScriptText : List ℕ → Script → Type 0
+IsScriptText text script = Reads part.Words nothing (pieces text) script
+
+-- the line with this number, counted from 1, is the first that is no line or may not stand where it does, or that
+-- ends without a line feed
+abbrev pub IsBad : Part → List (List ℕ) → ℕ → Type 0
+IsBad at [] n = ⊥
+IsBad at (last ∷ []) n = (n ≡ 1) × (last ≢ [])
+IsBad at (bytes ∷ next ∷ more) zero = ⊥
+IsBad at (bytes ∷ next ∷ more) (suc zero) = (read : ScriptLine) (behind : Part) → IsNext at bytes read behind → ⊥
+IsBad at (bytes ∷ next ∷ more) (suc (suc n)) = (read : ScriptLine) × (behind : Part) × IsNext at bytes read behind × IsBad behind (next ∷ more) (suc n)
+
+abbrev pub IsBadLine : List ℕ → ℕ → Type 0
+IsBadLine text n = IsBad part.Words (pieces text) n
+
+-- why a text is not read: a line is outside the grammar, or a growth was refused
+abbrev pub IsUnreadable : List ℕ → Refusal → Type 0
+IsUnreadable text (BadText line) = IsBadLine text line
+IsUnreadable text OutOfMemory = ⊤
+IsUnreadable text refusal = ⊥
