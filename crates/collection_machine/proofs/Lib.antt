@@ -1,0 +1,13 @@
+pub mod Editions
+pub mod Parts
+pub mod Views
+pub mod Invariant
+pub mod Frame
+pub mod Steady
+pub mod Quiet
+pub mod Accepts
+pub mod Homes
+pub mod Commits
+pub mod Schedules
+pub mod Runs
+pub mod Models

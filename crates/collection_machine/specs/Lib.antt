@@ -1,0 +1,5 @@
+pub mod Content
+pub mod Boosted
+pub mod Serial
+pub mod States
+pub mod Vectors

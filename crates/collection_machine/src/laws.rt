@@ -1,0 +1,85 @@
+//! What holds of a world with collections after every list of actions.
+//!
+//! Each law is the contract of a function without parameters, whose body is empty.
+ghost use Rattle.std.specs.Prelude.{◌≡◌, ℕ, ◌+◌, false, Some, List};
+ghost use Rattle.tx_sets.specs.Entries.{lookup};
+ghost use Rattle.word_machine.specs.World.{Memory, Event};
+ghost use Rattle.word_machine.specs.Opacity.{IsInOrder, IsNoneHalfDone, IsRun, IsLegal, AllEnded, memory_after, memory_at, after_events};
+ghost use Rattle.collection_machine.specs.Content.{Content, Frame};
+ghost use Rattle.collection_machine.specs.Boosted.{Action, act_all};
+ghost use Rattle.collection_machine.specs.Serial.{
+  AreLegal,
+  AreRun,
+  AllAborted,
+  IsRead,
+  ended,
+  edition_at,
+  after_actions,
+  view,
+  views,
+  words,
+};
+ghost use Rattle.collection_machine.specs.States.{Model, AreAll, AreReplies, after_all, state_at};
+
+/// Opacity, for every content that keeps the frame laws, every opening and every list of actions of any number of actors.
+///
+/// The committed transactions, in the order of their numbers, are a run of the words and of the collections. Where no commit is
+/// half done, the words and the parts of the collections are what it leaves. Each transaction, whether it commits, is open or
+/// was aborted, got outcomes that are legal at the number at which it began, and this stays so whatever happens later. An
+/// edition that it read is the number of commits up to that number which write there, and a base with this edition holds the
+/// part of that number. What the calls of a transaction read, it has read with the edition that it copied. The words are a
+/// world of the word machine, and their records are its.
+pub fn opacity<X, Op, Out>()
+    ensures in_order { (c : Content X Op Out) → Frame c → (clock : ℕ) (memory : Memory) (parts : ℕ → X) (actions : List (Action Op)) →
+        IsInOrder (words (after_actions c clock memory parts actions).history) }
+    ensures serial { (c : Content X Op Out) → Frame c → (clock : ℕ) (memory : Memory) (parts : ℕ → X) (actions : List (Action Op)) →
+        let s = after_actions c clock memory parts actions in
+        AreRun c parts s.history × IsRun memory (words s.history) }
+    ensures left { (c : Content X Op Out) → Frame c → (clock : ℕ) (memory : Memory) (parts : ℕ → X) (actions : List (Action Op)) →
+        let s = after_actions c clock memory parts actions in
+        IsNoneHalfDone s.words → (l : ℕ) →
+        (s.words.values l ≡ memory_after memory (words s.history) l)
+        × (c.plain l ≡ false → s.parts l ≡ views c s.history parts l) }
+    ensures saw { (c : Content X Op Out) → Frame c → (clock : ℕ) (memory : Memory) (parts : ℕ → X) (actions later : List (Action Op)) (a : ℕ) →
+        let s = after_actions c clock memory parts actions in
+        let t = act_all c later s in
+        AreLegal c (view c t.history (s.words.actors a).rv parts) (s.shadows a).outcomes
+        × IsLegal (memory_at t.words (s.words.actors a).rv) (s.words.actors a).calls }
+    ensures aborted { (c : Content X Op Out) → Frame c → (clock : ℕ) (memory : Memory) (parts : ℕ → X) (actions : List (Action Op)) →
+        let s = after_actions c clock memory parts actions in
+        AllAborted (λ e. AreLegal c (view c s.history e.word.rv parts) e.outcomes) s.aborted
+        × AllEnded (λ e. IsLegal (memory_at s.words e.rv) e.calls) (ended s.aborted) }
+    ensures editions { (c : Content X Op Out) → Frame c → (clock : ℕ) (memory : Memory) (parts : ℕ → X) (actions later : List (Action Op)) (a l e : ℕ) →
+        let s = after_actions c clock memory parts actions in
+        let t = act_all c later s in
+        let rv = (s.words.actors a).rv in
+        c.plain l ≡ false → lookup (s.words.actors a).reads l ≡ Some e →
+        (e ≡ memory l + edition_at c t.history rv l) × (t.editions l ≡ e → t.parts l ≡ view c t.history rv parts l) }
+    ensures accepted { (c : Content X Op Out) → Frame c → (clock : ℕ) (memory : Memory) (parts : ℕ → X) (actions : List (Action Op)) (a l : ℕ) →
+        let s = after_actions c clock memory parts actions in
+        IsRead c l (s.shadows a).outcomes → lookup (s.words.actors a).reads l ≡ Some ((s.shadows a).editions l) }
+    ensures worlds { (c : Content X Op Out) (clock : ℕ) (memory : Memory) (parts : ℕ → X) (actions : List (Action Op)) →
+        (events : List Event) × ((after_actions c clock memory parts actions).words ≡ after_events clock memory events) }
+    ensures records { (c : Content X Op Out) → Frame c → (clock : ℕ) (memory : Memory) (parts : ℕ → X) (actions : List (Action Op)) →
+        let s = after_actions c clock memory parts actions in
+        (words s.history ≡ s.words.history) × (ended s.aborted ≡ s.words.aborted) }
+{}
+
+/// The same of states, where the parts of the collections show a state at the opening.
+///
+/// The committed transactions are a run of the sequential collections, and where no commit is half done the bases show what it
+/// leaves. Each other transaction got the replies of the state that the commits up to its number leave.
+pub fn states<X, Op, Out, S, R>()
+    ensures serial { (c : Content X Op Out) → Frame c → (m : Model c S R) (clock : ℕ) (memory : Memory) (opening : S) (actions : List (Action Op)) →
+        AreAll c m opening (after_actions c clock memory (m.shown opening) actions).history }
+    ensures left { (c : Content X Op Out) → Frame c → (m : Model c S R) (clock : ℕ) (memory : Memory) (opening : S) (actions : List (Action Op)) →
+        let s = after_actions c clock memory (m.shown opening) actions in
+        IsNoneHalfDone s.words → (l : ℕ) → c.plain l ≡ false → s.parts l ≡ m.shown (after_all c m opening s.history) l }
+    ensures saw { (c : Content X Op Out) → Frame c → (m : Model c S R) (clock : ℕ) (memory : Memory) (opening : S) (actions later : List (Action Op)) (a : ℕ) →
+        let s = after_actions c clock memory (m.shown opening) actions in
+        let t = act_all c later s in
+        AreReplies c m (state_at c m t.history (s.words.actors a).rv opening) (s.shadows a).outcomes }
+    ensures aborted { (c : Content X Op Out) → Frame c → (m : Model c S R) (clock : ℕ) (memory : Memory) (opening : S) (actions : List (Action Op)) →
+        let s = after_actions c clock memory (m.shown opening) actions in
+        AllAborted (λ e. AreReplies c m (state_at c m s.history e.word.rv opening) e.outcomes) s.aborted }
+{}
