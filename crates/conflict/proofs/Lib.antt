@@ -2,3 +2,4 @@ pub mod TableLemmas
 pub mod EditionLemmas
 pub mod LocationLemmas
 pub mod MultisetLemmas
+pub mod SortLemmas

@@ -1,5 +1,5 @@
 //! Small sets of locations, and when two outcomes conflict by theirs.
-ghost use Rattle.std.specs.Prelude.{◌≡◌, ◌<◌, ◌≤◌, ◌↔◌, [], ◌∷◌, IsTrue, IsOk, IfOk, Any, Contains};
+ghost use Rattle.std.specs.Prelude.{◌≡◌, ◌<◌, ◌≤◌, ◌↔◌, ℕ, [], ◌∷◌, IsTrue, IsOk, IfOk, Any, Contains};
 ghost use Rattle.std.specs.List.{range_with_len};
 ghost use Rattle.std.specs.List.Sorted.{IsStrictlyIncreasing};
 ghost use Rattle.conflict.specs.Rules.{AreConflicting};
@@ -66,6 +66,16 @@ impl LocSet {
         Ok(LocSet { locations })
     }
 
+    /// The set of these locations, in whatever order and however often they come. It takes no memory.
+    pub fn from_locations(mut locations: SmallVec<u32, 8>) -> LocSet
+        ensures members { (location : ℕ) → Contains result location ↔ Contains locations.items location }
+        ensures rising { IsStrictlyIncreasing result }
+    {
+        locations.as_mut_slice().sort_unstable();
+        locations.dedup();
+        LocSet { locations }
+    }
+
     /// The locations, rising.
     pub fn as_slice(&self) -> &[u32]
         ensures locations { result.now ≡ self.now }
@@ -120,6 +130,14 @@ mod tests {
         assert!(rt; conflicts(&both, &both, &least, &none));
         assert!(rt; !conflicts(&least, &none, &both, &stripe));
         assert!(rt; !conflicts(&least, &none, &least, &none));
+        Ok(())
+    }
+
+    #[test]
+    fn takes_each_location_once(rt: HostRuntime) -> Result<(), Fail> {
+        let pushed = SmallVec::from_slice(rt.alloc(), [5, 1, 5, 3, 1].as_slice())?;
+        let set = LocSet::from_locations(pushed);
+        assert_eq!(rt; set.as_slice(), [1, 3, 5].as_slice());
         Ok(())
     }
 

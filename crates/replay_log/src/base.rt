@@ -1,0 +1,184 @@
+//! A collection of any of the four kinds.
+ghost use Rattle.std.specs.Prelude.{◌≡◌, ◌+◌, ◌^◌, ◌<◌, ◌≤◌, [], All, IsOk, Some, None, replicate, IfOk, IfErr, OnOk, length, slice_index};
+ghost use Rattle.seq_model.specs.Calls.{IsRefusal, IsWithinLimits};
+ghost use Rattle.conflict.specs.Editions.{raised};
+ghost use Rattle.conflict.specs.Refusals.{IsTooLong, IsStripeCount};
+ghost use Rattle.replay_log.specs.Base.{
+  after,
+  changes_of,
+  editions_of,
+  held_of,
+  locations_of,
+  outcome_of,
+  reads_of,
+  room_of,
+  shown_of,
+  stripes_of,
+  view_of,
+  writes_of,
+};
+
+use base_bag::BagBase;
+use base_map::MapBase;
+use base_pq::PqBase;
+use base_queue::QueueBase;
+use conflict::{Change, Changes, LocSet, Outcome};
+use seq_model::{Held, Memory, Op, Refusal, Value};
+use std::alloc::Global;
+
+/// A collection in stripes, with an edition for each of its locations. An empty one is made by `new` of its kind.
+#[derive(Drop)]
+pub enum Base<V> {
+    Map(MapBase<V>),
+    Bag(BagBase),
+    Pq(PqBase),
+    Queue(QueueBase),
+}
+
+impl<V: Value> Base<V> {
+    /// A collection that holds this, with edition 0 for each location. A number of stripes outside 1 to `STRIPE_LIMIT`, too many
+    /// copies of an element, and items whose indexes would pass `INDEX_LIMIT`, are refused as TooLong. Only then memory is asked
+    /// for.
+    pub fn open(alloc: Global, stripes: u32, held: Held<V>) -> Result<Base<V>, Refusal>
+        ensures shown { IfOk result (λ base. view_of held ≡ Some (shown_of base)) }
+        ensures stripes { IfOk result (λ base. stripes_of base ≡ stripes) }
+        ensures editions { IfOk result (λ base. editions_of base ≡ replicate (locations_of stripes (shown_of base)) 0) }
+        ensures refused { IfErr result (λ refusal. IsTooLong refusal (IsStripeCount stripes × IsWithinLimits held)) }
+        ensures fits { IsOk result → IsStripeCount stripes × IsWithinLimits held }
+    {
+        Ok(match &held {
+            Held::Map(_) => Base::Map(MapBase::open(alloc, stripes, held)?),
+            Held::Bag(_) => Base::Bag(BagBase::open(alloc, stripes, held)?),
+            Held::Pq(_) => Base::Pq(PqBase::open(alloc, stripes, held)?),
+            Held::Queue { .. } => Base::Queue(QueueBase::open(alloc, stripes, held)?),
+        })
+    }
+
+    /// What the collection holds, as a copy.
+    pub fn held(&self) -> Result<Held<V>, Memory>
+        ensures { IfOk result (λ held. held ≡ held_of (shown_of self.now)) }
+    {
+        match self {
+            Base::Map(base) => base.held(),
+            Base::Bag(base) => base.held(),
+            Base::Pq(base) => base.held(),
+            Base::Queue(base) => base.held(),
+        }
+    }
+
+    /// The outcome that the call has here. A call of another kind is refused as NoSuch.
+    pub fn outcome(&self, op: &Op<V>) -> Result<Outcome<V>, Refusal>
+        ensures ok { IfOk result (λ outcome. outcome_of op.now (shown_of self.now) ≡ Some outcome) }
+        ensures refused { IfErr result (λ refusal. IsRefusal refusal (outcome_of op.now (shown_of self.now) ≡ None)) }
+    {
+        match self {
+            Base::Map(base) => base.outcome(op),
+            Base::Bag(base) => base.outcome(op),
+            Base::Pq(base) => base.outcome(op),
+            Base::Queue(base) => base.outcome(op),
+        }
+    }
+
+    /// The locations that the outcome reads. Up to eight are never refused.
+    pub fn reads(&self, outcome: &Outcome<V>) -> Result<LocSet, Memory>
+        ensures locations { IfOk result (λ set. set ≡ reads_of (stripes_of self.now) outcome.now (shown_of self.now)) }
+        ensures served { length (reads_of (stripes_of self.now) outcome.now (shown_of self.now)) ≤ 8 → IsOk result }
+    {
+        match self {
+            Base::Map(base) => base.reads(outcome),
+            Base::Bag(base) => base.reads(outcome),
+            Base::Pq(base) => base.reads(outcome),
+            Base::Queue(base) => base.reads(outcome),
+        }
+    }
+
+    /// The locations that the outcome writes. They are never refused.
+    pub fn writes(&self, outcome: &Outcome<V>) -> Result<LocSet, Memory>
+        ensures locations { IfOk result (λ set. set ≡ writes_of (stripes_of self.now) outcome.now (shown_of self.now)) }
+        ensures served { IsOk result }
+    {
+        match self {
+            Base::Map(base) => base.writes(outcome),
+            Base::Bag(base) => base.writes(outcome),
+            Base::Pq(base) => base.writes(outcome),
+            Base::Queue(base) => base.writes(outcome),
+        }
+    }
+
+    /// What the outcome changes, in order. Where that is nothing, it is never refused.
+    pub fn changes(&self, outcome: &Outcome<V>) -> Result<Changes<V>, Memory>
+        ensures changes { IfOk result (λ changes. changes ≡ changes_of outcome.now (shown_of self.now)) }
+        ensures served { changes_of outcome.now (shown_of self.now) ≡ [] → IsOk result }
+    {
+        match self {
+            Base::Map(base) => base.changes(outcome),
+            Base::Bag(base) => base.changes(outcome),
+            Base::Pq(base) => base.changes(outcome),
+            Base::Queue(base) => base.changes(outcome),
+        }
+    }
+
+    /// Makes room for the changes. The collection stays as it is and keeps its room, also where memory is refused. Where there is
+    /// room already, nothing is refused.
+    pub fn prepare(&mut self, changes: &[Change<V>]) -> Result<(), Memory>
+        ensures shown { shown_of self.new ≡ shown_of self.old }
+        ensures stripes { stripes_of self.new ≡ stripes_of self.old }
+        ensures editions { editions_of self.new ≡ editions_of self.old }
+        ensures ok { OnOk result (length changes.now ≤ room_of self.new) }
+        ensures room { room_of self.old ≤ room_of self.new }
+        ensures served { length changes.now ≤ room_of self.old → IsOk result }
+    {
+        match self {
+            Base::Map(base) => base.prepare(changes),
+            Base::Bag(base) => base.prepare(changes),
+            Base::Pq(base) => base.prepare(changes),
+            Base::Queue(base) => base.prepare(changes),
+        }
+    }
+
+    /// Applies the changes in order, and raises the edition of each written location by one. There has to be room for the
+    /// changes, so it takes no memory and is never refused. It uses up the room for these changes alone.
+    pub fn replay(&mut self, changes: Changes<V>, written: &LocSet)
+        requires prepared { length changes ≤ room_of self.old }
+        requires within { All (λ location. location < locations_of (stripes_of self.old) (shown_of self.old)) written.now }
+        requires below { All (λ location. slice_index (editions_of self.old) location < 2 ^ 63) written.now }
+        ensures shown { shown_of self.new ≡ after changes (shown_of self.old) }
+        ensures stripes { stripes_of self.new ≡ stripes_of self.old }
+        ensures editions { editions_of self.new ≡ raised written.now (editions_of self.old) }
+        ensures room { room_of self.old ≤ room_of self.new + length changes }
+    {
+        match self {
+            Base::Map(base) => base.replay(changes, written),
+            Base::Bag(base) => base.replay(changes, written),
+            Base::Pq(base) => base.replay(changes, written),
+            Base::Queue(base) => base.replay(changes, written),
+        }
+    }
+
+    /// The edition of the location: how many replays have written it.
+    pub fn edition(&self, location: u32) -> u64
+        requires { location < locations_of (stripes_of self.now) (shown_of self.now) }
+        ensures { result ≡ slice_index (editions_of self.now) location }
+    {
+        match self {
+            Base::Map(base) => base.edition(location),
+            Base::Bag(base) => base.edition(location),
+            Base::Pq(base) => base.edition(location),
+            Base::Queue(base) => base.edition(location),
+        }
+    }
+
+    /// A collection that holds the same, with the same editions.
+    pub fn try_copy(&self) -> Result<Base<V>, Memory>
+        ensures shown { IfOk result (λ copy. shown_of copy ≡ shown_of self.now) }
+        ensures stripes { IfOk result (λ copy. stripes_of copy ≡ stripes_of self.now) }
+        ensures editions { IfOk result (λ copy. editions_of copy ≡ editions_of self.now) }
+    {
+        Ok(match self {
+            Base::Map(base) => Base::Map(base.try_copy()?),
+            Base::Bag(base) => Base::Bag(base.try_copy()?),
+            Base::Pq(base) => Base::Pq(base.try_copy()?),
+            Base::Queue(base) => Base::Queue(base.try_copy()?),
+        })
+    }
+}

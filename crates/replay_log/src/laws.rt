@@ -1,0 +1,30 @@
+//! The laws of the definitions that the contracts cite. Each function computes nothing: its contract is the law.
+ghost use Rattle.std.specs.Prelude.{◌≡◌, ◌++◌, ℕ, List};
+ghost use Rattle.conflict.specs.declared.change.Change.{Change};
+ghost use Rattle.conflict.specs.Rules.{FrameLaws};
+ghost use Rattle.base_map.specs.Conflicts as map;
+ghost use Rattle.base_bag.specs.Conflicts as bag;
+ghost use Rattle.base_pq.specs.Conflicts as pq;
+ghost use Rattle.base_queue.specs.Conflicts as queue;
+ghost use Rattle.replay_log.specs.Base.{Shown, Commute, after};
+ghost use Rattle.replay_log.specs.Log.{RaisesEach, KeepsOthers};
+
+use seq_model::Value;
+
+/// What a call on a base answers depends on the locations that it reads alone, and what it changes lies in those that it writes,
+/// for each kind. So calls on one base that do not conflict commute.
+pub fn frame_laws<V: Value>()
+    ensures map { FrameLaws (map.rules V) }
+    ensures bag { FrameLaws (bag.rules V) }
+    ensures pq { FrameLaws (pq.rules V) }
+    ensures queue { FrameLaws (queue.rules V) }
+    ensures commute { (stripes : ℕ) (s : Shown V) → Commute stripes s }
+{}
+
+/// A log folded is its changes one after another: what is folded in two parts is folded as one. Of the editions, each location
+/// that was pushed has its own raised by one, and the others keep theirs.
+pub fn fold_laws<V: Value>()
+    ensures parts { (first second : List (Change V)) (s : Shown V) → after (first ++ second) s ≡ after second (after first s) }
+    ensures each { RaisesEach }
+    ensures others { KeepsOthers }
+{}

@@ -1,0 +1,192 @@
+//! A transaction's own copy of a collection.
+ghost use Rattle.std.specs.Prelude.{◌≡◌, ◌++◌, [], None, Some, IfOk, IfErr, OnOk};
+ghost use Rattle.seq_model.specs.Calls.{IsRefusal};
+ghost use Rattle.replay_log.specs.Base.{after, changes_of, editions_of, outcome_of, shown_of, stripes_of, writes_of};
+ghost use Rattle.shadow.specs.Shadow.{IsReadyFor};
+
+use conflict::{Changes, LocSet, Outcome};
+use replay_log::{Base, Log};
+use seq_model::{Memory, Op, Refusal, Value};
+use std::alloc::Global;
+use std::marker::Model;
+
+/// A copy of a base with the changes of the accepted calls, and their log.
+#[derive(Drop)]
+pub struct Shadow<V> {
+    base: Base<V>,
+    log: Log<V>,
+    ready: Option<Ready<V>>,
+    none: LocSet,
+}
+
+// What the next acceptance appends: the changes once for the copy and once for the log, and the locations that they write.
+#[derive(Drop)]
+struct Ready<V> {
+    own: Changes<V>,
+    logged: Changes<V>,
+    written: LocSet,
+}
+
+impl<V> Model for Shadow<V> {
+    ghost use Rattle.std.specs.Prelude.{◌≡◌, [], option_map};
+    ghost use Rattle.std.specs.Coded.{codes, coded_ℕ};
+    ghost use Rattle.std.specs.FinMap as map;
+    ghost use Rattle.std.specs.Ordering.{nat_cmp};
+    ghost use Rattle.base_pq.specs.Conflicts as pq;
+    ghost use Rattle.base_queue.specs.Conflicts as queue;
+    ghost use Rattle.shadow.specs.Shadow.{ShadowView, IsKept};
+
+    ghost Value = { ShadowView V };
+
+    ghost coded = { Prim.hlevel (codes, map.code {R = nat_cmp} coded_ℕ V.code, map.code {R = nat_cmp} coded_ℕ coded_ℕ, pq.shown_code, queue.shown_code) };
+
+    ghost view = { λ a. record {
+      base = a.base;
+      changes = a.log.changes;
+      locations = a.log.locations;
+      ready = option_map (λ r. record { changes = r.logged; locations = r.written }) a.ready;
+    } };
+
+    ghost invariant = { λ a. (a.none ≡ []) × IsKept a.base a.log a.ready };
+}
+
+impl<V: Value> Shadow<V> {
+    /// The shadow of a copy, with no call yet.
+    pub fn of_copy(alloc: Global, base: Base<V>) -> Shadow<V>
+        ensures base { result.base ≡ base }
+        ensures changes { result.changes ≡ [] }
+        ensures locations { result.locations ≡ [] }
+    {
+        Shadow {
+            base,
+            log: Log::new(alloc),
+            ready: None,
+            none: LocSet::empty(alloc),
+        }
+    }
+
+    /// The copy with the accepted changes, whose editions are those of the copy.
+    pub fn base(&self) -> &Base<V>
+        ensures { result.now ≡ self.now.base }
+    {
+        &self.base
+    }
+
+    /// The outcome that the call has after the accepted ones. A call of another kind of collection is refused as NoSuch.
+    pub fn answer(&self, op: &Op<V>) -> Result<Outcome<V>, Refusal>
+        ensures ok { IfOk result (λ outcome. outcome_of op.now (shown_of self.now.base) ≡ Some outcome) }
+        ensures refused { IfErr result (λ refusal. IsRefusal refusal (outcome_of op.now (shown_of self.now.base) ≡ None)) }
+    {
+        self.base.outcome(op)
+    }
+
+    /// Makes ready what accepting the outcome will take. What the shadow shows, its editions and its log stay as they are, also
+    /// where memory is refused.
+    pub fn ready(&mut self, outcome: &Outcome<V>) -> Result<(), Memory>
+        ensures ok { OnOk result (IsReadyFor outcome.now self.new) }
+        ensures shown { shown_of self.new.base ≡ shown_of self.old.base }
+        ensures stripes { stripes_of self.new.base ≡ stripes_of self.old.base }
+        ensures editions { editions_of self.new.base ≡ editions_of self.old.base }
+        ensures changes { self.new.changes ≡ self.old.changes }
+        ensures locations { self.new.locations ≡ self.old.locations }
+    {
+        self.ready = None;
+        let own = self.base.changes(outcome)?;
+        let logged = self.base.changes(outcome)?;
+        let written = self.base.writes(outcome)?;
+        self.base.prepare(own.as_slice())?;
+        self.log
+            .reserve(logged.len().max(written.as_slice().len()))?;
+        self.ready = Some(Ready {
+            own,
+            logged,
+            written,
+        });
+        Ok(())
+    }
+
+    /// Accepts the outcome, which has been made ready: its changes are made on the copy and appended to the log. It takes no
+    /// memory and is never refused. The editions stay those of the copy.
+    pub fn accept(&mut self, outcome: Outcome<V>)
+        requires ready { IsReadyFor outcome self.old }
+        ensures shown { shown_of self.new.base ≡ after (changes_of outcome (shown_of self.old.base)) (shown_of self.old.base) }
+        ensures stripes { stripes_of self.new.base ≡ stripes_of self.old.base }
+        ensures editions { editions_of self.new.base ≡ editions_of self.old.base }
+        ensures changes { self.new.changes ≡ self.old.changes ++ changes_of outcome (shown_of self.old.base) }
+        ensures locations { self.new.locations
+            ≡ self.old.locations ++ writes_of (stripes_of self.old.base) outcome (shown_of self.old.base) }
+    {
+        if let Some(ready) = self.ready.take() {
+            self.base.replay(ready.own, &self.none);
+            self.log.append(ready.logged, &ready.written);
+        }
+    }
+
+    /// The log of the accepted changes.
+    pub fn log(self) -> Log<V>
+        ensures changes { result.changes ≡ self.changes }
+        ensures locations { result.locations ≡ self.locations }
+    {
+        let Shadow { log, .. } = self;
+        log
+    }
+}
+
+#[cfg(test)]
+mod tests {
+    use super::*;
+    use base_map::MapBase;
+    use seq_model::Reply;
+    use std::test::Fail;
+
+    fn call(shadow: &mut Shadow<u64>, op: &Op<u64>) -> Result<Reply<u64>, Refusal> {
+        let outcome = shadow.answer(op)?;
+        let reply = outcome.reply.try_copy()?;
+        shadow.ready(&outcome)?;
+        shadow.accept(outcome);
+        Ok(reply)
+    }
+
+    // A copy of an empty map in two stripes, and two puts of the transaction itself.
+    fn after_two_puts(alloc: Global) -> Result<Shadow<u64>, Refusal> {
+        let base = Base::Map(MapBase::new(alloc, 2)?);
+        let mut shadow = Shadow::of_copy(alloc, base);
+        call(&mut shadow, &Op::Put(1, 10))?;
+        call(&mut shadow, &Op::Put(3, 30))?;
+        Ok(shadow)
+    }
+
+    #[test]
+    fn answers_after_its_own_calls(rt: HostRuntime) -> Result<(), Fail> {
+        let mut shadow = after_two_puts(rt.alloc())?;
+        let reply = call(&mut shadow, &Op::Get(3))?;
+        assert!(rt; matches!(reply, Reply::Value(30)));
+        Ok(())
+    }
+
+    fn after_remove(alloc: Global) -> Result<Shadow<u64>, Refusal> {
+        let mut shadow = after_two_puts(alloc)?;
+        call(&mut shadow, &Op::Remove(4))?;
+        Ok(shadow)
+    }
+
+    #[test]
+    fn logs_what_changes_something(rt: HostRuntime) -> Result<(), Fail> {
+        let shadow = after_remove(rt.alloc())?;
+        assert_eq!(rt; shadow.log().changes().len(), 2);
+        Ok(())
+    }
+
+    fn reads_of_len(alloc: Global) -> Result<LocSet, Refusal> {
+        let shadow = after_two_puts(alloc)?;
+        let outcome = shadow.answer(&Op::Len)?;
+        Ok(shadow.base().reads(&outcome)?)
+    }
+
+    #[test]
+    fn hands_out_its_copy(rt: HostRuntime) -> Result<(), Fail> {
+        let reads = reads_of_len(rt.alloc())?;
+        assert_eq!(rt; reads.as_slice(), [0, 1].as_slice());
+        Ok(())
+    }
+}
