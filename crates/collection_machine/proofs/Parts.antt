@@ -17,7 +17,7 @@ is_in l (k ∷ ks) =
       ]
     ]
 
-in_has : (ls : List ℕ) (l : ℕ) → IsIn l ls → has ls l ≡ true
+pub in_has : (ls : List ℕ) (l : ℕ) → IsIn l ls → has ls l ≡ true
 in_has [] l h = absurd h
 in_has (k ∷ ks) l h =
     elim h [
@@ -25,7 +25,7 @@ in_has (k ∷ ks) l h =
       | inr m ↦ cond_both (eqb l k) true (has ks l) (λ (z : Bool). z ≡ true) (λ _. refl) (λ _. in_has ks l m)
     ]
 
-out_has : (ls : List ℕ) (l : ℕ) → (IsIn l ls → ⊥) → has ls l ≡ false
+pub out_has : (ls : List ℕ) (l : ℕ) → (IsIn l ls → ⊥) → has ls l ≡ false
 out_has [] l h = refl
 out_has (k ∷ ks) l h = cond-false (eqb l k) true (has ks l) (ne_eqb l k (λ e. h (inl e))) ∙ out_has ks l (λ m. h (inr m))
 

@@ -1,2 +1,5 @@
 pub mod LogLemmas
 pub mod BaseLemmas
+pub mod JoinLemmas
+pub mod PartLemmas
+pub mod ContentLemmas

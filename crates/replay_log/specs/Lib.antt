@@ -1,2 +1,4 @@
 pub mod Base
 pub mod Log
+pub mod Parts
+pub mod Contents

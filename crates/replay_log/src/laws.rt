@@ -7,7 +7,10 @@ ghost use Rattle.base_bag.specs.Conflicts as bag;
 ghost use Rattle.base_pq.specs.Conflicts as pq;
 ghost use Rattle.base_queue.specs.Conflicts as queue;
 ghost use Rattle.replay_log.specs.Base.{Shown, Commute, after};
+ghost use Rattle.collection_machine.specs.Content.{Frame};
+ghost use Rattle.replay_log.specs.Contents.{Block, HaveStripes, content};
 ghost use Rattle.replay_log.specs.Log.{RaisesEach, KeepsOthers};
+ghost use Rattle.replay_log.specs.Parts.{IsWhole, AnswersByParts, KnowsItsCalls, LeavesOtherParts, ChangesByPart};
 
 use seq_model::Value;
 
@@ -27,4 +30,21 @@ pub fn fold_laws<V: Value>()
     ensures parts { (first second : List (Change V)) (s : Shown V) → after (first ++ second) s ≡ after second (after first s) }
     ensures each { RaisesEach }
     ensures others { KeepsOthers }
+{}
+
+/// A base is the whole of its parts, one for each location. An outcome depends on the parts of the locations that it reads, and
+/// whether there is one on the kind of the base alone; its changes leave the part of each location that it does not write, and
+/// what changes make of a part depends on that part.
+pub fn part_laws<V: Value>()
+    ensures whole { IsWhole V }
+    ensures answers { AnswersByParts V }
+    ensures known { KnowsItsCalls V }
+    ensures untouched { LeavesOtherParts V }
+    ensures by_part { ChangesByPart V }
+{}
+
+/// The collections of a world, whose locations stand behind its words, one block after another, keep the frame laws of a content.
+/// So whatever `collection_machine::laws` says of a world with collections holds of these four kinds, in any number and stripes.
+pub fn contents<V: Value>()
+    ensures frame { (words : ℕ) (blocks : List Block) → HaveStripes blocks → Frame (content {V = V} words blocks) }
 {}

@@ -1,0 +1,184 @@
+-- Parts and wholes, for each kind, from what they show at each point.
+use Rattle.std.proofs.Common.{◌≡◌, ℕ, zero, suc, ◌+◌, ◌<◌, Bool, true, false, cond, eqb, List, [], ◌∷◌, Option, Some, None, Contains, inl, inr, refl, sym, ap, ◌∙◌, subst, arith, eq-eqb, ne_eqb}
+use Rattle.std.proofs.Math.Nat.{mod-lt}
+use Rattle.std.proofs.lemmas.Bool.{cases_eq, cond-true, cond-false}
+use Rattle.std.specs.Ordering.{nat_cmp}
+use Rattle.std.specs.FinMap.{FinMap}
+use Rattle.seq_model.specs.declared.call.Op.{Op}
+use Rattle.seq_model.specs.declared.call.Op.TheVariants.{Get, Put, Remove, Len, Count, Add, Take, Least, Insert, TakeLeast, Enqueue, Dequeue, Peek}
+use Rattle.seq_model.specs.Counts.{Multiset}
+use Rattle.conflict.specs.declared.change.Change.{Change}
+use Rattle.conflict.specs.declared.outcome.Outcome.{Outcome}
+use Rattle.conflict.specs.Rules.{Rules, FrameLaws, applied}
+use Rattle.conflict.specs.Commute.{changes_by_part}
+use Rattle.conflict.specs.Footprints.{key_place, least_place, stripe_place, head_place, tail_place, cell_place}
+use Rattle.base_map.specs.Conflicts as map
+use Rattle.base_map.specs.FrameLemmas as map_laws
+use Rattle.base_bag.specs.Conflicts as bag
+use Rattle.base_bag.specs.FrameLemmas as bag_laws
+use Rattle.base_pq.specs.Conflicts as pq
+use Rattle.base_pq.specs.FrameLemmas as pq_laws
+use Rattle.base_queue.specs.Conflicts as queue
+use Rattle.base_queue.specs.FrameLemmas as queue_laws
+use Rattle.replay_log.specs.Base.{Shown, OfMap, OfBag, OfPq, OfQueue, outcome_of}
+use Rattle.replay_log.specs.Parts.{kept, joined, MapKind, BagKind, PqKind, QueueKind, Kind, as_map, as_bag, as_pq, as_queue, part, whole, IsWhole, AnswersByParts, KnowsItsCalls, LeavesOtherParts, ChangesByPart}
+use Rattle.replay_log.proofs.JoinLemmas.{get_kept, get_joined}
+
+-- How a collection falls into parts: what a part and a whole show at each point.
+pub record Parting {V C Q A : Type 0} (r : Rules V C Q A) : Type 0 where
+  pub one : ℕ → ℕ → C → C
+  pub all : ℕ → (ℕ → C) → C
+  pub none : Q → A
+  pub look_one : (n l : ℕ) (s : C) (q : Q) → r.look (one n l s) q ≡ cond (eqb (r.place n q) l) (r.look s q) (none q)
+  pub look_all : (n : ℕ) (v : ℕ → C) (q : Q) → 0 < n → r.look (all n v) q ≡ r.look (v (r.place n q)) q
+
+module _ {V C Q A : Type 0} (r : Rules V C Q A) (laws : FrameLaws r) (p : Parting r) where
+  look_here : (n l : ℕ) (s : C) (q : Q) → r.place n q ≡ l → r.look (p.one n l s) q ≡ r.look s q
+  look_here n l s q on = p.look_one n l s q ∙ cond-true (eqb (r.place n q) l) (r.look s q) (p.none q) (eq-eqb (r.place n q) l on)
+
+  same_one : (n l : ℕ) (s t : C) → ((q : Q) → r.place n q ≡ l → r.look s q ≡ r.look t q) → p.one n l s ≡ p.one n l t
+  same_one n l s t same =
+      laws.parts_decide _ _ (λ q. p.look_one n l s q ∙ elim (cases_eq (r.place n q) l) [
+        | inl on ↦ ap (λ x. cond (eqb (r.place n q) l) x (p.none q)) (same q on)
+        | inr off ↦ cond-false (eqb (r.place n q) l) (r.look s q) (p.none q) (ne_eqb (r.place n q) l off) ∙ sym (cond-false (eqb (r.place n q) l) (r.look t q) (p.none q) (ne_eqb (r.place n q) l off))
+      ] ∙ sym (p.look_one n l t q))
+
+  pub whole_of_parts : (n : ℕ) (s : C) → 0 < n → p.all n (λ l. p.one n l s) ≡ s
+  whole_of_parts n s pos = laws.parts_decide _ _ (λ q. p.look_all n (λ l. p.one n l s) q pos ∙ look_here n (r.place n q) s q refl)
+
+  same_at : (n l : ℕ) (v w : ℕ → C) → 0 < n → v l ≡ w l → (q : Q) → r.place n q ≡ l → r.look (p.all n v) q ≡ r.look (p.all n w) q
+  same_at n l v w pos same q on =
+      p.look_all n v q pos ∙ ap (λ i. r.look (v i) q) on ∙ ap (λ s. r.look s q) same ∙ ap (λ i. r.look (w i) q) (sym on) ∙ sym (p.look_all n w q pos)
+
+  pub answers : (n : ℕ) (op : Op V) (v w : ℕ → C) (o : Outcome V) → 0 < n → r.outcome op (p.all n v) ≡ Some o → ((l : ℕ) → Contains (r.reads n o) l → v l ≡ w l) → r.outcome op (p.all n w) ≡ Some o
+  answers n op v w o pos is same = laws.legal n op (p.all n v) (p.all n w) o pos is (λ l c. same_at n l v w pos (same l c))
+
+  pub leaves : (n l : ℕ) (o : Outcome V) (s : C) → ¬ Contains (r.writes n o) l → p.one n l (applied r (r.changes o) s) ≡ p.one n l s
+  leaves n l o s other = sym (same_one n l s (applied r (r.changes o) s) (laws.untouched n l o s other))
+
+  pub by_part : (n l : ℕ) (changes : List (Change V)) (v w : ℕ → C) → 0 < n → v l ≡ w l → p.one n l (applied r changes (p.all n v)) ≡ p.one n l (applied r changes (p.all n w))
+  by_part n l changes v w pos same =
+      same_one n l (applied r changes (p.all n v)) (applied r changes (p.all n w)) (changes_by_part r laws n l changes (p.all n v) (p.all n w) (same_at n l v w pos same))
+
+some_if : (b : Bool) (x y : ℕ) → Some (cond b x y) ≡ cond b (Some x) (Some y)
+some_if true x y = refl
+some_if false x y = refl
+
+abbrev map_parting : (V : Type 0) → Parting (map.rules V)
+map_parting V = record {
+  one = λ n l s. kept (key_place n) l s;
+  all = λ n v. joined (key_place n) n v;
+  none = λ q. None;
+  look_one = λ n l s q. get_kept (key_place n) l s q;
+  look_all = λ n v q pos. get_joined (key_place n) n v q (mod-lt q pos);
+}
+
+abbrev bag_parting : (V : Type 0) → Parting (bag.rules V)
+bag_parting V = record {
+  one = λ n l s. kept (key_place n) l s;
+  all = λ n v. joined (key_place n) n v;
+  none = λ q. None;
+  look_one = λ n l s q. get_kept (key_place n) l s q;
+  look_all = λ n v q pos. get_joined (key_place n) n v q (mod-lt q pos);
+}
+
+abbrev pq_one : ℕ → ℕ → pq.Shown → pq.Shown
+pq_one n l s = record { elements = kept (stripe_place n) l s.elements; least = cond (eqb least_place l) s.least None }
+
+abbrev pq_all : ℕ → (ℕ → pq.Shown) → pq.Shown
+pq_all n v = record { elements = joined (stripe_place n) (suc n) (λ l. (v l).elements); least = (v least_place).least }
+
+pq_look_one : (n l : ℕ) (s : pq.Shown) (q : Option ℕ) → pq.look (pq_one n l s) q ≡ cond (eqb (pq.place n q) l) (pq.look s q) None
+pq_look_one n l s None = refl
+pq_look_one n l s (Some x) = get_kept (stripe_place n) l s.elements x
+
+pq_look_all : (n : ℕ) (v : ℕ → pq.Shown) (q : Option ℕ) → 0 < n → pq.look (pq_all n v) q ≡ pq.look (v (pq.place n q)) q
+pq_look_all n v None pos = refl
+pq_look_all n v (Some x) pos = get_joined (stripe_place n) (suc n) (λ l. (v l).elements) x (let lt = mod-lt x pos in omega (arith, lt))
+
+abbrev pq_parting : (V : Type 0) → Parting (pq.rules V)
+pq_parting V = record { one = pq_one; all = pq_all; none = λ q. None; look_one = pq_look_one; look_all = pq_look_all }
+
+abbrev queue_one : ℕ → ℕ → queue.Shown → queue.Shown
+queue_one n l s = record { cells = kept (cell_place n) l s.cells; head = cond (eqb head_place l) s.head 0; tail = cond (eqb tail_place l) s.tail 0 }
+
+abbrev queue_all : ℕ → (ℕ → queue.Shown) → queue.Shown
+queue_all n v = record { cells = joined (cell_place n) (suc (suc n)) (λ l. (v l).cells); head = (v head_place).head; tail = (v tail_place).tail }
+
+abbrev queue_none : ℕ → Option ℕ
+queue_none zero = Some 0
+queue_none (suc zero) = Some 0
+queue_none (suc (suc index)) = None
+
+queue_look_one : (n l : ℕ) (s : queue.Shown) (q : ℕ) → queue.look (queue_one n l s) q ≡ cond (eqb (queue.place n q) l) (queue.look s q) (queue_none q)
+queue_look_one n l s zero = some_if (eqb head_place l) s.head 0
+queue_look_one n l s (suc zero) = some_if (eqb tail_place l) s.tail 0
+queue_look_one n l s (suc (suc index)) = get_kept (cell_place n) l s.cells index
+
+queue_look_all : (n : ℕ) (v : ℕ → queue.Shown) (q : ℕ) → 0 < n → queue.look (queue_all n v) q ≡ queue.look (v (queue.place n q)) q
+queue_look_all n v zero pos = refl
+queue_look_all n v (suc zero) pos = refl
+queue_look_all n v (suc (suc index)) pos = get_joined (cell_place n) (suc (suc n)) (λ l. (v l).cells) index (let lt = mod-lt index pos in omega (arith, lt))
+
+abbrev queue_parting : (V : Type 0) → Parting (queue.rules V)
+queue_parting V = record { one = queue_one; all = queue_all; none = queue_none; look_one = queue_look_one; look_all = queue_look_all }
+
+some_none : {A : Type 0} (x : A) → Some x ≡ None → ⊥
+some_none x e = cc
+
+module _ {V : Type 0} where
+  knows_map : (op : Op V) (s t : FinMap nat_cmp V) → map.outcome_of op s ≡ None → map.outcome_of op t ≡ None
+  knows_map (Get k) s t e = absurd (some_none _ e)
+  knows_map (Put k v) s t e = absurd (some_none _ e)
+  knows_map (Remove k) s t e = absurd (some_none _ e)
+  knows_map Len s t e = absurd (some_none _ e)
+  knows_map _ s t e = refl
+
+  knows_bag : (op : Op V) (s t : Multiset) → bag.outcome_of op s ≡ None → bag.outcome_of op t ≡ None
+  knows_bag (Count x) s t e = absurd (some_none _ e)
+  knows_bag (Add x) s t e = absurd (some_none _ e)
+  knows_bag (Take x) s t e = absurd (some_none _ e)
+  knows_bag _ s t e = refl
+
+  knows_pq : (op : Op V) (s t : pq.Shown) → pq.outcome_of op s ≡ None → pq.outcome_of op t ≡ None
+  knows_pq Least s t e = absurd (some_none _ e)
+  knows_pq (Insert x) s t e = absurd (some_none _ e)
+  knows_pq TakeLeast s t e = absurd (some_none _ e)
+  knows_pq _ s t e = refl
+
+  knows_queue : (op : Op V) (s t : queue.Shown) → queue.outcome_of op s ≡ None → queue.outcome_of op t ≡ None
+  knows_queue (Enqueue x) s t e = absurd (some_none _ e)
+  knows_queue Dequeue s t e = absurd (some_none _ e)
+  knows_queue Peek s t e = absurd (some_none _ e)
+  knows_queue Len s t e = absurd (some_none _ e)
+  knows_queue _ s t e = refl
+
+  pub knows_its_calls : KnowsItsCalls V
+  knows_its_calls n MapKind op v w e = knows_map op _ _ e
+  knows_its_calls n BagKind op v w e = knows_bag op _ _ e
+  knows_its_calls n PqKind op v w e = knows_pq op _ _ e
+  knows_its_calls n QueueKind op v w e = knows_queue op _ _ e
+
+  pub is_whole : IsWhole V
+  is_whole n (OfMap s) pos = ap OfMap (whole_of_parts (map.rules V) map_laws.laws (map_parting V) n s pos)
+  is_whole n (OfBag s) pos = ap OfBag (whole_of_parts (bag.rules V) bag_laws.laws (bag_parting V) n s pos)
+  is_whole n (OfPq s) pos = ap OfPq (whole_of_parts (pq.rules V) pq_laws.laws (pq_parting V) n s pos)
+  is_whole n (OfQueue s) pos = ap OfQueue (whole_of_parts (queue.rules V) queue_laws.laws (queue_parting V) n s pos)
+
+  pub answers_by_parts : AnswersByParts V
+  answers_by_parts n MapKind op v w o pos is same = answers (map.rules V) map_laws.laws (map_parting V) n op (λ l. as_map (v l)) (λ l. as_map (w l)) o pos is (λ l c. ap as_map (same l c))
+  answers_by_parts n BagKind op v w o pos is same = answers (bag.rules V) bag_laws.laws (bag_parting V) n op (λ l. as_bag (v l)) (λ l. as_bag (w l)) o pos is (λ l c. ap as_bag (same l c))
+  answers_by_parts n PqKind op v w o pos is same = answers (pq.rules V) pq_laws.laws (pq_parting V) n op (λ l. as_pq (v l)) (λ l. as_pq (w l)) o pos is (λ l c. ap as_pq (same l c))
+  answers_by_parts n QueueKind op v w o pos is same = answers (queue.rules V) queue_laws.laws (queue_parting V) n op (λ l. as_queue (v l)) (λ l. as_queue (w l)) o pos is (λ l c. ap as_queue (same l c))
+
+  pub leaves_other_parts : LeavesOtherParts V
+  leaves_other_parts n l o (OfMap s) other = ap OfMap (leaves (map.rules V) map_laws.laws (map_parting V) n l o s other)
+  leaves_other_parts n l o (OfBag s) other = ap OfBag (leaves (bag.rules V) bag_laws.laws (bag_parting V) n l o s other)
+  leaves_other_parts n l o (OfPq s) other = ap OfPq (leaves (pq.rules V) pq_laws.laws (pq_parting V) n l o s other)
+  leaves_other_parts n l o (OfQueue s) other = ap OfQueue (leaves (queue.rules V) queue_laws.laws (queue_parting V) n l o s other)
+
+  pub parts_by_part : ChangesByPart V
+  parts_by_part n l MapKind cs v w pos same = ap OfMap (by_part (map.rules V) map_laws.laws (map_parting V) n l cs (λ i. as_map (v i)) (λ i. as_map (w i)) pos (ap as_map same))
+  parts_by_part n l BagKind cs v w pos same = ap OfBag (by_part (bag.rules V) bag_laws.laws (bag_parting V) n l cs (λ i. as_bag (v i)) (λ i. as_bag (w i)) pos (ap as_bag same))
+  parts_by_part n l PqKind cs v w pos same = ap OfPq (by_part (pq.rules V) pq_laws.laws (pq_parting V) n l cs (λ i. as_pq (v i)) (λ i. as_pq (w i)) pos (ap as_pq same))
+  parts_by_part n l QueueKind cs v w pos same = ap OfQueue (by_part (queue.rules V) queue_laws.laws (queue_parting V) n l cs (λ i. as_queue (v i)) (λ i. as_queue (w i)) pos (ap as_queue same))
