@@ -11,3 +11,4 @@ pub mod Commits
 pub mod Schedules
 pub mod Runs
 pub mod Models
+pub mod Stated

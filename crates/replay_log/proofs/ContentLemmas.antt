@@ -1,5 +1,5 @@
 -- The collections of a world keep the frame laws.
-use Rattle.std.proofs.Common.{◌≡◌, ℕ, zero, suc, ◌+◌, ◌-◌, ◌<◌, ◌≤◌, Bool, true, false, cond, ltb, List, [], ◌∷◌, length, get_or, Option, Some, None, Contains, inl, inr, refl, sym, ap, ◌∙◌, subst, arith, lt-ltb, le-ltb}
+use Rattle.std.proofs.Common.{◌≡◌, ℕ, zero, suc, ◌+◌, ◌-◌, ◌<◌, ◌≤◌, false, ltb, List, [], ◌∷◌, Option, Some, None, Contains, inl, inr, refl, sym, ap, ◌∙◌, subst, arith, lt-ltb, le-ltb}
 use Rattle.std.specs.Prelude.{◌||◌, not}
 use Rattle.std.proofs.lemmas.Bool.{cond-true, cond-false}
 use Rattle.seq_model.specs.declared.call.Op.{Op}
@@ -13,15 +13,15 @@ use Rattle.collection_machine.specs.Content.{Frame, IsIn, has}
 use Rattle.collection_machine.proofs.Parts.{in_has, out_has}
 use Rattle.replay_log.specs.Base.{Shown, after, changes_of, outcome_of, reads_of, writes_of}
 use Rattle.replay_log.specs.Parts.{Kind, MapKind, BagKind, PqKind, QueueKind, part, whole}
-use Rattle.replay_log.specs.Contents.{Block, size_by, size, block_of, first_of, end_of, home_of, is_plain, HaveStripes, shifted, Asked, Answered, blank, seen, answer, reads_in, writes_in, changed, content}
+use Rattle.replay_log.specs.Contents.{Block, size_by, size, block_of, first_of, end_of, home_of, is_plain, HaveStripes, shifted, Answered, blank, seen, answer, reads_in, writes_in, changed, content}
 use Rattle.replay_log.proofs.PartLemmas.{answers_by_parts, knows_its_calls, parts_by_part}
 
-shifted_in : (f i : ℕ) (ls : List ℕ) → Contains ls i → IsIn (f + i) (shifted f ls)
+pub shifted_in : (f i : ℕ) (ls : List ℕ) → Contains ls i → IsIn (f + i) (shifted f ls)
 shifted_in f i [] (k, lt, e) = absurd (omega (arith, lt))
 shifted_in f i (x ∷ ls) (zero, lt, e) = inl (ap (λ y. f + y) (sym e))
 shifted_in f i (x ∷ ls) (suc k, lt, e) = inr (shifted_in f i ls (k, omega (arith, lt), e))
 
-in_shifted : (f l : ℕ) (ls : List ℕ) → IsIn l (shifted f ls) → (i : ℕ) × (l ≡ f + i) × Contains ls i
+pub in_shifted : (f l : ℕ) (ls : List ℕ) → IsIn l (shifted f ls) → (i : ℕ) × (l ≡ f + i) × Contains ls i
 in_shifted f l [] h = absurd h
 in_shifted f l (x ∷ ls) h =
     elim h [
@@ -30,7 +30,7 @@ in_shifted f l (x ∷ ls) h =
     ]
 
 -- where blocks lie
-first_above : (w : ℕ) (bs : List Block) (k : ℕ) → w ≤ first_of w bs k
+pub first_above : (w : ℕ) (bs : List Block) (k : ℕ) → w ≤ first_of w bs k
 first_above w [] k = omega arith
 first_above w (b ∷ bs) zero = omega arith
 first_above w (b ∷ bs) (suc k) = let z = first_above (w + size b) bs k in omega (arith, z)
@@ -39,10 +39,10 @@ end_above : (w : ℕ) (bs : List Block) → w ≤ end_of w bs
 end_above w [] = omega arith
 end_above w (b ∷ bs) = let z = end_above (w + size b) bs in omega (arith, z)
 
-same_block : (b c : Block) → Some b ≡ Some c → b ≡ c
+pub same_block : (b c : Block) → Some b ≡ Some c → b ≡ c
 same_block b c e = cc
 
-no_block : (c : Block) → None ≡ Some c → ⊥
+pub no_block : (c : Block) → None ≡ Some c → ⊥
 no_block c e = cc
 
 within_end : (w : ℕ) (bs : List Block) (k i : ℕ) (b : Block) → block_of bs k ≡ Some b → i < size b → first_of w bs k + i < end_of w bs
@@ -65,7 +65,7 @@ not_plain w bs k i b e lt =
     ap (λ x. x || not (ltb l (end_of w bs))) (le-ltb l w (let z = first_above w bs k in omega (arith, z)))
     ∙ ap not (lt-ltb l (end_of w bs) (within_end w bs k i b e lt))
 
-positive_at : (bs : List Block) (k : ℕ) (b : Block) → HaveStripes bs → block_of bs k ≡ Some b → 0 < b.stripes
+pub positive_at : (bs : List Block) (k : ℕ) (b : Block) → HaveStripes bs → block_of bs k ≡ Some b → 0 < b.stripes
 positive_at [] k c h e = absurd (no_block c e)
 positive_at (b ∷ bs) zero c h e = subst (λ (x : Block). 0 < x.stripes) (same_block b c e) h.0
 positive_at (b ∷ bs) (suc k) c h e = positive_at bs k c h.1 e
@@ -104,6 +104,11 @@ module _ {V : Type 0} where
       subst (λ x. IsIn x (shifted f (reads_of b.stripes o (blank b)))) (sym z.1) (shifted_in f z.0 (reads_of b.stripes o (blank b)) (writes_read b.stripes b.kind o _ z.0 (pos b refl) z.2))
   writes_within (Some b) f None l pos h = absurd h
   writes_within None f o l pos h = absurd h
+
+  pub written_at : (b : Block) (f : ℕ) (o : Outcome V) (l : ℕ) → 0 < b.stripes → IsIn l (shifted f (writes_of b.stripes o (blank b))) → (i : ℕ) × (l ≡ f + i) × (i < size b) × Contains (writes_of b.stripes o (blank b)) i
+  written_at b f o l pos h =
+      let z = in_shifted f l (writes_of b.stripes o (blank b)) h in
+      (z.0, z.1, reads_below b.stripes b.kind o _ z.0 pos (writes_read b.stripes b.kind o _ z.0 pos z.2), z.2)
 
   same_answer : (b : Option Block) (f : ℕ) (v w : ℕ → Shown V) (op : Op V) → ((c : Block) → b ≡ Some c → 0 < c.stripes) → ((l : ℕ) → IsIn l (reads_in b f (answer b f v op)) → v l ≡ w l) → answer b f w op ≡ answer b f v op
   same_answer None f v w op pos agree = refl

@@ -1,5 +1,5 @@
 -- Parts and wholes, for each kind, from what they show at each point.
-use Rattle.std.proofs.Common.{◌≡◌, ℕ, zero, suc, ◌+◌, ◌<◌, Bool, true, false, cond, eqb, List, [], ◌∷◌, Option, Some, None, Contains, inl, inr, refl, sym, ap, ◌∙◌, subst, arith, eq-eqb, ne_eqb}
+use Rattle.std.proofs.Common.{◌≡◌, ℕ, zero, suc, ◌<◌, Bool, true, false, cond, eqb, List, Option, Some, None, Contains, inl, inr, refl, sym, ap, ◌∙◌, arith, eq-eqb, ne_eqb}
 use Rattle.std.proofs.Math.Nat.{mod-lt}
 use Rattle.std.proofs.lemmas.Bool.{cases_eq, cond-true, cond-false}
 use Rattle.std.specs.Ordering.{nat_cmp}
@@ -20,8 +20,9 @@ use Rattle.base_pq.specs.Conflicts as pq
 use Rattle.base_pq.specs.FrameLemmas as pq_laws
 use Rattle.base_queue.specs.Conflicts as queue
 use Rattle.base_queue.specs.FrameLemmas as queue_laws
-use Rattle.replay_log.specs.Base.{Shown, OfMap, OfBag, OfPq, OfQueue, outcome_of}
-use Rattle.replay_log.specs.Parts.{kept, joined, MapKind, BagKind, PqKind, QueueKind, Kind, as_map, as_bag, as_pq, as_queue, part, whole, IsWhole, AnswersByParts, KnowsItsCalls, LeavesOtherParts, ChangesByPart}
+use Rattle.replay_log.specs.Base.{Shown, OfMap, OfBag, OfPq, OfQueue}
+use Rattle.replay_log.specs.Parts.{kept, joined, MapKind, BagKind, PqKind, QueueKind, Kind, as_map, as_bag, as_pq, as_queue, whole, IsWhole, AnswersByParts, KnowsItsCalls, LeavesOtherParts, ChangesByPart}
+use Rattle.replay_log.specs.Contents.{size_by}
 use Rattle.replay_log.proofs.JoinLemmas.{get_kept, get_joined}
 
 -- How a collection falls into parts: what a part and a whole show at each point.
@@ -52,6 +53,11 @@ module _ {V C Q A : Type 0} (r : Rules V C Q A) (laws : FrameLaws r) (p : Partin
 
   pub answers : (n : ℕ) (op : Op V) (v w : ℕ → C) (o : Outcome V) → 0 < n → r.outcome op (p.all n v) ≡ Some o → ((l : ℕ) → Contains (r.reads n o) l → v l ≡ w l) → r.outcome op (p.all n w) ≡ Some o
   answers n op v w o pos is same = laws.legal n op (p.all n v) (p.all n w) o pos is (λ l c. same_at n l v w pos (same l c))
+
+  -- a whole depends on the parts of its locations
+  pub all_local : (n : ℕ) (v w : ℕ → C) → 0 < n → ((l : ℕ) → l < r.locations n → v l ≡ w l) → p.all n v ≡ p.all n w
+  all_local n v w pos same =
+      laws.parts_decide _ _ (λ q. p.look_all n v q pos ∙ ap (λ s. r.look s q) (same (r.place n q) (laws.points_below n q pos)) ∙ sym (p.look_all n w q pos))
 
   pub leaves : (n l : ℕ) (o : Outcome V) (s : C) → ¬ Contains (r.writes n o) l → p.one n l (applied r (r.changes o) s) ≡ p.one n l s
   leaves n l o s other = sym (same_one n l s (applied r (r.changes o) s) (laws.untouched n l o s other))
@@ -182,3 +188,9 @@ module _ {V : Type 0} where
   parts_by_part n l BagKind cs v w pos same = ap OfBag (by_part (bag.rules V) bag_laws.laws (bag_parting V) n l cs (λ i. as_bag (v i)) (λ i. as_bag (w i)) pos (ap as_bag same))
   parts_by_part n l PqKind cs v w pos same = ap OfPq (by_part (pq.rules V) pq_laws.laws (pq_parting V) n l cs (λ i. as_pq (v i)) (λ i. as_pq (w i)) pos (ap as_pq same))
   parts_by_part n l QueueKind cs v w pos same = ap OfQueue (by_part (queue.rules V) queue_laws.laws (queue_parting V) n l cs (λ i. as_queue (v i)) (λ i. as_queue (w i)) pos (ap as_queue same))
+
+  pub whole_local : (n : ℕ) (k : Kind) (v w : ℕ → Shown V) → 0 < n → ((l : ℕ) → l < size_by k n → v l ≡ w l) → whole n k v ≡ whole n k w
+  whole_local n MapKind v w pos same = ap OfMap (all_local (map.rules V) map_laws.laws (map_parting V) n (λ l. as_map (v l)) (λ l. as_map (w l)) pos (λ l lt. ap as_map (same l lt)))
+  whole_local n BagKind v w pos same = ap OfBag (all_local (bag.rules V) bag_laws.laws (bag_parting V) n (λ l. as_bag (v l)) (λ l. as_bag (w l)) pos (λ l lt. ap as_bag (same l lt)))
+  whole_local n PqKind v w pos same = ap OfPq (all_local (pq.rules V) pq_laws.laws (pq_parting V) n (λ l. as_pq (v l)) (λ l. as_pq (w l)) pos (λ l lt. ap as_pq (same l (omega (arith, lt)))))
+  whole_local n QueueKind v w pos same = ap OfQueue (all_local (queue.rules V) queue_laws.laws (queue_parting V) n (λ l. as_queue (v l)) (λ l. as_queue (w l)) pos (λ l lt. ap as_queue (same l (omega (arith, lt)))))

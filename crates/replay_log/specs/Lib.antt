@@ -2,3 +2,4 @@ pub mod Base
 pub mod Log
 pub mod Parts
 pub mod Contents
+pub mod Collections

@@ -1,5 +1,5 @@
 -- What a location covers of a base, and the base that its parts make up. A part is a collection of the same kind that shows nothing elsewhere.
-use Rattle.std.specs.Prelude.{◌≡◌, ℕ, zero, suc, ◌+◌, ◌<◌, List, [], ◌∷◌, Option, Some, None, Contains, ◌==◌, if◌then◌else◌}
+use Rattle.std.specs.Prelude.{◌≡◌, ℕ, zero, suc, ◌<◌, List, [], ◌∷◌, Some, None, Contains, ◌==◌, if◌then◌else◌}
 use Rattle.std.specs.Ordering.{nat_cmp}
 use Rattle.std.specs.FinMap.{FinMap, empty, entries, insert, retain_keys}
 use Rattle.seq_model.specs.declared.call.Op.{Op}
@@ -9,7 +9,7 @@ use Rattle.conflict.specs.declared.outcome.Outcome.{Outcome}
 use Rattle.conflict.specs.Footprints.{key_place, least_place, stripe_place, head_place, tail_place, cell_place}
 use Rattle.base_pq.specs.Conflicts as pq
 use Rattle.base_queue.specs.Conflicts as queue
-use Rattle.replay_log.specs.Base.{Shown, OfMap, OfBag, OfPq, OfQueue, after, changes_of, locations_of, outcome_of, reads_of, writes_of}
+use Rattle.replay_log.specs.Base.{Shown, OfMap, OfBag, OfPq, OfQueue, after, changes_of, outcome_of, reads_of, writes_of}
 
 -- the entries whose keys lie on this location
 abbrev pub kept : {X : Type 0} → (ℕ → ℕ) → ℕ → FinMap nat_cmp X → FinMap nat_cmp X

@@ -1,5 +1,8 @@
 //! The laws of the definitions that the contracts cite. Each function computes nothing: its contract is the law.
-ghost use Rattle.std.specs.Prelude.{◌≡◌, ◌++◌, ℕ, List};
+ghost use Rattle.std.specs.Prelude.{◌≡◌, ◌++◌, ℕ, List, false};
+ghost use Rattle.seq_model.specs.declared.held.Held.{Held};
+ghost use Rattle.word_machine.specs.World.{Memory};
+ghost use Rattle.word_machine.specs.Opacity.{IsNoneHalfDone};
 ghost use Rattle.conflict.specs.declared.change.Change.{Change};
 ghost use Rattle.conflict.specs.Rules.{FrameLaws};
 ghost use Rattle.base_map.specs.Conflicts as map;
@@ -8,7 +11,10 @@ ghost use Rattle.base_pq.specs.Conflicts as pq;
 ghost use Rattle.base_queue.specs.Conflicts as queue;
 ghost use Rattle.replay_log.specs.Base.{Shown, Commute, after};
 ghost use Rattle.collection_machine.specs.Content.{Frame};
-ghost use Rattle.replay_log.specs.Contents.{Block, HaveStripes, content};
+ghost use Rattle.collection_machine.specs.Boosted.{Action, act_all};
+ghost use Rattle.collection_machine.specs.Serial.{AllAborted, after_actions};
+ghost use Rattle.replay_log.specs.Contents.{Block, Asked, HaveStripes, content, is_plain};
+ghost use Rattle.replay_log.specs.Collections.{Suit, AreReplies, IsRunOn, after_run, held_at, shown_at};
 ghost use Rattle.replay_log.specs.Log.{RaisesEach, KeepsOthers};
 ghost use Rattle.replay_log.specs.Parts.{IsWhole, AnswersByParts, KnowsItsCalls, LeavesOtherParts, ChangesByPart};
 
@@ -47,4 +53,30 @@ pub fn part_laws<V: Value>()
 /// So whatever `collection_machine::laws` says of a world with collections holds of these four kinds, in any number and stripes.
 pub fn contents<V: Value>()
     ensures frame { (words : ℕ) (blocks : List Block) → HaveStripes blocks → Frame (content {V = V} words blocks) }
+{}
+
+/// Serial order of a world with collections of the four kinds, in any number and stripes, for every opening and every list of
+/// actions of any number of actors.
+///
+/// The committed transactions, in the order of their numbers, are a run of the sequential collections: every reply is that of the
+/// sequential call, one whole transaction after another. Where no commit is half done, the bases show what the run leaves. What
+/// an open or aborted transaction was replied is what the collections reply that the commits up to its number leave, now and at
+/// every later moment.
+pub fn serial_order<V: Value>()
+    ensures serial { (words : ℕ) (blocks : List Block) (clock : ℕ) (memory : Memory) (opening : List (Held V)) (actions : List (Action (Asked V))) →
+        HaveStripes blocks → Suit blocks opening →
+        IsRunOn opening (after_actions (content words blocks) clock memory (shown_at words blocks opening) actions).history }
+    ensures left { (words : ℕ) (blocks : List Block) (clock : ℕ) (memory : Memory) (opening : List (Held V)) (actions : List (Action (Asked V))) (l : ℕ) →
+        HaveStripes blocks → Suit blocks opening →
+        let s = after_actions (content words blocks) clock memory (shown_at words blocks opening) actions in
+        IsNoneHalfDone s.words → is_plain words blocks l ≡ false → s.parts l ≡ shown_at words blocks (after_run opening s.history) l }
+    ensures saw { (words : ℕ) (blocks : List Block) (clock : ℕ) (memory : Memory) (opening : List (Held V)) (actions later : List (Action (Asked V))) (a : ℕ) →
+        HaveStripes blocks → Suit blocks opening →
+        let s = after_actions (content words blocks) clock memory (shown_at words blocks opening) actions in
+        let t = act_all (content words blocks) later s in
+        AreReplies (held_at t.history (s.words.actors a).rv opening) (s.shadows a).outcomes }
+    ensures aborted { (words : ℕ) (blocks : List Block) (clock : ℕ) (memory : Memory) (opening : List (Held V)) (actions : List (Action (Asked V))) →
+        HaveStripes blocks → Suit blocks opening →
+        let s = after_actions (content words blocks) clock memory (shown_at words blocks opening) actions in
+        AllAborted (λ e. AreReplies (held_at s.history e.word.rv opening) e.outcomes) s.aborted }
 {}
