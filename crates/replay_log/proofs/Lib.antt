@@ -6,3 +6,4 @@ pub mod ContentLemmas
 pub mod HeldLemmas
 pub mod CollectionLemmas
 pub mod WorldLemmas
+pub mod RequestLemmas

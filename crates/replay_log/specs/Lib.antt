@@ -3,3 +3,5 @@ pub mod Log
 pub mod Parts
 pub mod Contents
 pub mod Collections
+pub mod Worlds
+pub mod WorldVectors

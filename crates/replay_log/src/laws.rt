@@ -1,5 +1,6 @@
 //! The laws of the definitions that the contracts cite. Each function computes nothing: its contract is the law.
-ghost use Rattle.std.specs.Prelude.{◌≡◌, ◌++◌, ℕ, List, false};
+ghost use Rattle.std.specs.Prelude.{◌≡◌, ◌++◌, ℕ, List, false, get_or};
+ghost use Rattle.seq_model.specs.declared.event.Event.{Event};
 ghost use Rattle.seq_model.specs.declared.held.Held.{Held};
 ghost use Rattle.word_machine.specs.World.{Memory};
 ghost use Rattle.word_machine.specs.Opacity.{IsNoneHalfDone};
@@ -17,6 +18,7 @@ ghost use Rattle.replay_log.specs.Contents.{Block, Asked, HaveStripes, content, 
 ghost use Rattle.replay_log.specs.Collections.{Suit, AreReplies, IsRunOn, after_run, held_at, shown_at};
 ghost use Rattle.replay_log.specs.Log.{RaisesEach, KeepsOthers};
 ghost use Rattle.replay_log.specs.Parts.{IsWhole, AnswersByParts, KnowsItsCalls, LeavesOtherParts, ChangesByPart};
+ghost use Rattle.replay_log.specs.Worlds.{run, opened};
 
 use seq_model::Value;
 
@@ -79,4 +81,30 @@ pub fn serial_order<V: Value>()
         HaveStripes blocks → Suit blocks opening →
         let s = after_actions (content words blocks) clock memory (shown_at words blocks opening) actions in
         AllAborted (λ e. AreReplies (held_at s.history e.word.rv opening) e.outcomes) s.aborted }
+{}
+
+/// A world of words and collections whose transactions make requests, one atomic step at a time, goes through worlds of the
+/// machine's actions alone, whatever its events. So [`serial_order`] holds of it: the committed transactions are a run of the
+/// sequential collections, the bases show what it leaves where no commit is half done, and open and aborted transactions were
+/// replied what the collections reply that the commits up to their number leave.
+pub fn requests<V: Value>()
+    ensures actions { (words : ℕ) (blocks : List Block) (clock : ℕ) (values : List ℕ) (held : List (Held V)) (events : List (Event V)) →
+        (actions : List (Action (Asked V)))
+        × ((run (opened words blocks clock values held) events).boosted
+        ≡ after_actions (content words blocks) clock (λ l. get_or values l 0) (shown_at words blocks held) actions) }
+    ensures serial { (words : ℕ) (blocks : List Block) (clock : ℕ) (values : List ℕ) (held : List (Held V)) (events : List (Event V)) →
+        HaveStripes blocks → Suit blocks held → IsRunOn held (run (opened words blocks clock values held) events).boosted.history }
+    ensures left { (words : ℕ) (blocks : List Block) (clock : ℕ) (values : List ℕ) (held : List (Held V)) (events : List (Event V)) (l : ℕ) →
+        HaveStripes blocks → Suit blocks held →
+        let s = (run (opened words blocks clock values held) events).boosted in
+        IsNoneHalfDone s.words → is_plain words blocks l ≡ false → s.parts l ≡ shown_at words blocks (after_run held s.history) l }
+    ensures saw { (words : ℕ) (blocks : List Block) (clock : ℕ) (values : List ℕ) (held : List (Held V)) (events later : List (Event V)) (a : ℕ) →
+        HaveStripes blocks → Suit blocks held →
+        let w = run (opened words blocks clock values held) events in
+        let t = run w later in
+        AreReplies (held_at t.boosted.history (w.boosted.words.actors a).rv held) (w.boosted.shadows a).outcomes }
+    ensures aborted { (words : ℕ) (blocks : List Block) (clock : ℕ) (values : List ℕ) (held : List (Held V)) (events : List (Event V)) →
+        HaveStripes blocks → Suit blocks held →
+        let s = (run (opened words blocks clock values held) events).boosted in
+        AllAborted (λ e. AreReplies (held_at s.history e.word.rv held) e.outcomes) s.aborted }
 {}
