@@ -83,16 +83,16 @@ module _ {V : Type 0} where
       cond_both {A = After V} (x.copied asked.collection) (answers u a x x (outcome_at u a asked)) _ (λ z. Reached v z.0)
       (λ _. answers_by v u a x x (outcome_at u a asked) g) (λ _. same v u _ refl refl refl g)
 
-  if_allowed_by : (v u : World V) (a : ℕ) (x : Seat V) (known : Bool) (next : After V) → Reached v u → Reached v next.0 → Reached v (if_allowed u a x known next).0
-  if_allowed_by v u a x known next g h =
+  if_allowed_by : (v u : World V) (a : ℕ) (x : Seat V) (known room : Bool) (next : After V) → Reached v u → Reached v next.0 → Reached v (if_allowed u a x known room next).0
+  if_allowed_by v u a x known room next g h =
       cond_both {A = After V} known _ (u, Refused a refusal.NoSuch) (λ z. Reached v z.0)
-      (λ _. cond_both {A = After V} (ltb (length x.calls) CALL_LIMIT) next (u, Refused a refusal.TooLong) (λ z. Reached v z.0) (λ _. h) (λ _. g))
+      (λ _. cond_both {A = After V} (ltb (length x.calls) CALL_LIMIT && room) next (u, Refused a refusal.TooLong) (λ z. Reached v z.0) (λ _. h) (λ _. g))
       (λ _. g)
 
   ask_op_by : (v : World V) (a : ℕ) (x : Seat V) (t : ℕ) (op : Op V) → Reached v (ask_op v a x t op).0
-  ask_op_by v a x t Read = if_allowed_by v v a x _ _ (nothing v) (reads_by v v a x t _ (nothing v))
-  ask_op_by v a x t (Write i) = if_allowed_by v v a x _ _ (nothing v) (one_by v v a _ (asks a (word.AskWrite t i)) (nothing v))
-  ask_op_by v a x t op = if_allowed_by v v a x _ _ (nothing v) (calls_on_by v v a x (record { collection = t; op = op }) (nothing v))
+  ask_op_by v a x t Read = if_allowed_by v v a x _ _ _ (nothing v) (reads_by v v a x t _ (nothing v))
+  ask_op_by v a x t (Write i) = if_allowed_by v v a x _ _ _ (nothing v) (one_by v v a _ (asks a (word.AskWrite t i)) (nothing v))
+  ask_op_by v a x t op = if_allowed_by v v a x _ _ _ (nothing v) (calls_on_by v v a x (record { collection = t; op = op }) (nothing v))
 
   commits_by : (v : World V) (a : ℕ) (x : Seat V) (es : Entries) → Reached v (commits v a x es).0
   commits_by v a x [] = one_by v v a _ (asks a word.AskClose) (nothing v)

@@ -1,6 +1,6 @@
 -- A world of words and collections in which transactions overlap: what each event changes, and what it tells. A step is one atomic step, a load or a
 -- change of one word of the table, with what follows of it without a step.
-use Rattle.std.specs.Prelude.{ℕ, zero, suc, ◌+◌, Bool, true, false, ◌&&◌, not, nat_lt, nat_le, ◌==◌, if◌then◌else◌, List, [], ◌∷◌, ◌++◌, length, filter, get_or, Option, Some, None}
+use Rattle.std.specs.Prelude.{ℕ, zero, suc, ◌+◌, Bool, true, false, ◌&&◌, ◌||◌, not, nat_lt, nat_le, ◌==◌, if◌then◌else◌, List, [], ◌∷◌, ◌++◌, length, filter, get_or, Option, Some, None}
 use Rattle.tx_sets.specs.Entries.{Entries, lookup, locations}
 use Rattle.word_machine.specs.Actor.{Actor, Place, Leave}
 use Rattle.word_machine.specs.Requests as word
@@ -201,16 +201,19 @@ module _ {V : Type 0} where
       is_missing (Some o) = false
   is_known None op = false
 
-  -- what is not there, or of another kind, is NoSuch; then a call past the limit is TooLong
-  abbrev pub if_allowed : World V → ℕ → Seat V → Bool → After V → After V
-  if_allowed w a x known next =
-      if known then (if nat_lt (length x.calls) CALL_LIMIT then next else (w, Refused a refusal.TooLong)) else (w, Refused a refusal.NoSuch)
+  -- what is not there, or of another kind, is NoSuch; then a call past the limit, or a word that finds no room in its set, is TooLong
+  abbrev pub if_allowed : World V → ℕ → Seat V → (known room : Bool) → After V → After V
+  if_allowed w a x known room next =
+      if known then (if nat_lt (length x.calls) CALL_LIMIT && room then next else (w, Refused a refusal.TooLong)) else (w, Refused a refusal.NoSuch)
 
   abbrev pub ask_op : World V → ℕ → Seat V → ℕ → Op V → After V
-  ask_op w a x t Read = if_allowed w a x (nat_lt t w.words) (reads w a x t (told.reply (actor_of w a) (actor_of w a).place (word.AskRead t)))
+  ask_op w a x t Read =
+      let set = actor_of w a in
+      if_allowed w a x (nat_lt t w.words) (not (is_none (lookup set.writes t)) || fits set.reads (t ∷ [])) (reads w a x t (told.reply set set.place (word.AskRead t)))
   ask_op w a x t (Write v) =
-      if_allowed w a x (nat_lt t w.words) (replied (acted w (asks a (word.AskWrite t v) ∷ [])) a x (record { target = t; op = Write v }) reply.Done)
-  ask_op w a x t op = if_allowed w a x (is_known (block_of w.blocks t) op) (calls_on w a x (record { collection = t; op = op }))
+      if_allowed w a x (nat_lt t w.words) (fits (actor_of w a).writes (t ∷ []))
+      (replied (acted w (asks a (word.AskWrite t v) ∷ [])) a x (record { target = t; op = Write v }) reply.Done)
+  ask_op w a x t op = if_allowed w a x (is_known (block_of w.blocks t) op) true (calls_on w a x (record { collection = t; op = op }))
 
   -- ---- a request
   -- a transaction is a writer if its write set is not empty
