@@ -1,19 +1,21 @@
 -- A call that is accepted.
-use Rattle.std.proofs.Common.{◌≡◌, ℕ, ◌+◌, true, Some, None, List, [], ◌∷◌, ◌++◌, ◌⊎◌, inl, inr, refl, sym, ap, ◌∙◌, subst}
+use Rattle.std.proofs.Common.{◌≡◌, ℕ, ◌+◌, Bool, true, false, Some, None, List, [], ◌∷◌, ◌++◌, ◌⊎◌, inl, inr, refl, sym, ap, ◌∙◌, subst}
 use Rattle.std.specs.Prelude.{◌&&◌}
 use Rattle.std.proofs.lemmas.Bool.{cond_both}
-use Rattle.tx_sets.specs.Entries.{Entries, lookup, with_entry}
-use Rattle.word_machine.specs.Actor.{Place, Open, Actor}
-use Rattle.word_machine.specs.Requests.{wrote, AskWrite, ask}
+use Rattle.tx_sets.specs.Entries.{lookup, with_entry}
+use Rattle.word_machine.specs.Actor.{Write, Place, Open, Actor}
+use Rattle.word_machine.specs.Requests.{wrote, write, AskWrite, ask}
 use Rattle.word_machine.specs.World.{put, World, now, Ask, happens, run}
 use Rattle.word_machine.specs.Opacity.{IsHalfDone}
 use Rattle.word_machine.proofs.Sets.{put-same, put-other, with_entry_cases, lookup-with_entry_same, lookup-with_entry_other}
 use Rattle.word_machine.proofs.Invariant.{Good}
 use Rattle.word_machine.proofs.Invariant as machine
+use Rattle.word_machine.specs.Opacity.{first_read}
+use Rattle.word_machine.proofs.Calls.{first_read-more}
 use Rattle.word_machine.proofs.Frame.{Moved}
 use Rattle.word_machine.proofs.Schedules.{happens_ok}
 use Rattle.collection_machine.specs.Content.{Content, IsIn, Frame}
-use Rattle.collection_machine.specs.Boosted.{Shadow, Boosted, changes, is_open, is_edition, is_sound, every, writes_asked, longer, accepted}
+use Rattle.collection_machine.specs.Boosted.{Shadow, Boosted, changes, is_open, is_edition, is_sound, every, writes_asked, may_write, longer, accepted}
 use Rattle.collection_machine.proofs.Frame.{worded, Led, no_commit}
 use Rattle.collection_machine.specs.Serial.{IsRead}
 use Rattle.collection_machine.proofs.Parts.{AllOut_map, changes_agree, AreLegal-add, IsRead-add, IsRead-old, IsRead-new, IsWritten-old, IsWritten-new, Untouched-add, all_read}
@@ -29,12 +31,12 @@ pub record Asked (s : World) (a : ℕ) (editions : ℕ → ℕ) (ls : List ℕ) 
   pub aborted : t.aborted ≡ s.aborted
   pub others : (b : ℕ) → (b ≡ a → ⊥) → t.actors b ≡ s.actors b
   pub place : (t.actors a).place ≡ Open
-  pub reads : (t.actors a).reads ≡ (s.actors a).reads
+  pub calls : (l e : ℕ) → first_read (s.actors a).calls l ≡ Some e → first_read (t.actors a).calls l ≡ Some e
   pub writes : (l u : ℕ) → lookup (t.actors a).writes l ≡ Some u → (IsIn l ls × (u ≡ editions l + 1)) ⊎ (lookup (s.actors a).writes l ≡ Some u)
   pub none : (l : ℕ) → lookup (t.actors a).writes l ≡ None → (IsIn l ls → ⊥) × (lookup (s.actors a).writes l ≡ None)
 
-pub asked : (s : World) (a : ℕ) (editions : ℕ → ℕ) (ls : List ℕ) → machine.Inv s → (s.actors a).place ≡ Open → Asked s a editions ls (run (writes_asked a editions ls) s)
-asked s a editions [] v e = record {
+pub asked : (s : World) (a : ℕ) (editions : ℕ → ℕ) (ls : List ℕ) → machine.Inv s → (s.actors a).place ≡ Open → ((l : ℕ) → IsIn l ls → (s.actors a).declared ≡ false) → Asked s a editions ls (run (writes_asked a editions ls) s)
+asked s a editions [] v e d = record {
   inv = v;
   opening = refl;
   good = λ n l u g. g;
@@ -42,18 +44,18 @@ asked s a editions [] v e = record {
   aborted = refl;
   others = λ b ne. refl;
   place = e;
-  reads = refl;
+  calls = λ i u h. h;
   writes = λ l u h. inr h;
   none = λ l h. ((λ m. m), h);
 }
-asked s a editions (l ∷ ls) v e =
+asked s a editions (l ∷ ls) v e d =
     let x = s.actors a in
     let y = wrote x l (editions l + 1) in
     let s2 : World = now s a y in
-    let is : happens s (Ask a (AskWrite l (editions l + 1))) ≡ s2 = ap (λ (p : Place). now s a (ask x p (AskWrite l (editions l + 1)))) e in
+    let is : happens s (Ask a (AskWrite l (editions l + 1))) ≡ s2 = ap (λ (p : Place). now s a (ask x p (AskWrite l (editions l + 1)))) e ∙ ap (λ (b : Bool). now s a (write x b l (editions l + 1))) (d l (inl refl)) in
     let m : Moved s a s2 = subst (Moved s a) is (happens_ok s (Ask a (AskWrite l (editions l + 1))) v) in
     let own : s2.actors a ≡ y = put-same s.actors a y in
-    let q = asked s2 a editions ls m.inv (ap (λ (z : Actor). z.place) own) in
+    let q = asked s2 a editions ls m.inv (ap (λ (z : Actor). z.place) own) (λ i m. ap (λ (z : Actor). z.declared) own ∙ d i (inr m)) in
     let had : (i : ℕ) → lookup (s2.actors a).writes i ≡ lookup (with_entry x.writes l (editions l + 1)) i = λ i. ap (λ (z : Actor). lookup z.writes i) own in
     subst (λ (z : World). Asked s a editions (l ∷ ls) (run (writes_asked a editions ls) z)) (sym is) (record {
       inv = q.inv;
@@ -63,7 +65,7 @@ asked s a editions (l ∷ ls) v e =
       aborted = q.aborted;
       others = λ b ne. q.others b ne ∙ put-other s.actors a y b ne;
       place = q.place;
-      reads = q.reads ∙ ap (λ (z : Actor). z.reads) own;
+      calls = λ i u h. q.calls i u (ap (λ (z : Actor). first_read z.calls i) own ∙ first_read-more x.calls (Write l (editions l + 1) ∷ []) i u h);
       writes = λ i u h. elim (q.writes i u h) [
         | inl z ↦ inl (inr z.0, z.1)
         | inr z ↦ elim (with_entry_cases x.writes l (editions l + 1) i u (sym (had i) ∙ z)) [
@@ -79,12 +81,19 @@ asked s a editions (l ∷ ls) v e =
           ));
     })
 
+-- who may write there is no declared reader
+may : (declared : Bool) (ls : List ℕ) (l : ℕ) → may_write declared ls ≡ true → IsIn l ls → declared ≡ false
+may declared [] l h m = absurd m
+may true (k ∷ ks) l h m = (let b : ⊥ = cc in absurd b)
+may false (k ∷ ks) l h m = refl
+
 module _ {X Op Out : Type 0} (c : Content X Op Out) (f : Frame c) where
   accept_open : (s : Boosted X Out) (a : ℕ) (op : Op) → Inv c s → (s.words.actors a).place ≡ Open
+      → may_write (s.words.actors a).declared (c.writes (c.outcome (changes c (s.shadows a).outcomes (s.shadows a).parts) op)) ≡ true
       → every (is_sound c s a) (c.reads (c.outcome (changes c (s.shadows a).outcomes (s.shadows a).parts) op)) ≡ true
       → Led c s (worded s (run (writes_asked a (s.shadows a).editions (c.writes (c.outcome (changes c (s.shadows a).outcomes (s.shadows a).parts) op))) s.words)
       (put s.shadows a (longer (s.shadows a) (c.outcome (changes c (s.shadows a).outcomes (s.shadows a).parts) op))) s.history s.aborted)
-  accept_open s a op v e all =
+  accept_open s a op v e may_all all =
       let x = s.words.actors a in
       let w = s.shadows a in
       let g = v.shadows a in
@@ -92,11 +101,10 @@ module _ {X Op Out : Type 0} (c : Content X Op Out) (f : Frame c) where
       let o : Out = c.outcome here op in
       let w2 : Shadow X Out = longer w o in
       let t : World = run (writes_asked a w.editions (c.writes o)) s.words in
-      let q : Asked s.words a w.editions (c.writes o) t = asked s.words a w.editions (c.writes o) v.machine e in
-      let sound : (l : ℕ) → IsIn l (c.reads o) → (w.copied l ≡ true) × (lookup x.reads l ≡ Some (w.editions l)) = λ l m. (
-      let b = both (w.copied l) (is_edition (w.editions l) (lookup x.reads l)) (every_in (is_sound c s a) (c.reads o) l all m) in
-      (b.0, edition_is (w.editions l) (lookup x.reads l) b.1)) in
-      let rd : (l : ℕ) → lookup (t.actors a).reads l ≡ lookup x.reads l = λ l. ap (λ (z : Entries). lookup z l) q.reads in
+      let sound : (l : ℕ) → IsIn l (c.reads o) → (w.copied l ≡ true) × (first_read x.calls l ≡ Some (w.editions l)) = λ l m. (
+      let b = both (w.copied l) (is_edition (w.editions l) (first_read x.calls l)) (every_in (is_sound c s a) (c.reads o) l all m) in
+      (b.0, edition_is (w.editions l) (first_read x.calls l) b.1)) in
+      let q : Asked s.words a w.editions (c.writes o) t = asked s.words a w.editions (c.writes o) v.machine e (λ l m. may x.declared (c.writes o) l may_all m) in
       let not_half : (p : Place) → p ≡ Open → IsHalfDone p → ⊥ = λ p is h. (let z : IsHalfDone Open = subst IsHalfDone is h in z) in
       no_commit c s a t w2 (put s.shadows a w2) s.aborted v (record {
         machine = q.inv;
@@ -109,8 +117,8 @@ module _ {X Op Out : Type 0} (c : Content X Op Out) (f : Frame c) where
         shadow = record {
           known = g.known;
           sets = λ l r. elim (IsRead-add c f w.outcomes o l r) [
-            | inl z ↦ (let k = g.sets l z in (k.0, rd l ∙ k.1))
-            | inr z ↦ (let k = sound l z in (k.0, rd l ∙ k.1))
+            | inl z ↦ (let k = g.sets l z in (k.0, q.calls l (w.editions l) k.1))
+            | inr z ↦ (let k = sound l z in (k.0, q.calls l (w.editions l) k.1))
           ];
           wrote = λ l u pl h. elim (q.writes l u h) [
             | inl z ↦ (z.1, IsRead-new c f w.outcomes o l (f.read o l z.0), IsWritten-new c w.outcomes o l z.0)
@@ -135,8 +143,10 @@ module _ {X Op Out : Type 0} (c : Content X Op Out) (f : Frame c) where
   pub accept_led : (s : Boosted X Out) (a : ℕ) (op : Op) → Inv c s → Led c s (accepted c s a (c.outcome (changes c (s.shadows a).outcomes (s.shadows a).parts) op))
   accept_led s a op v =
       let o : Out = c.outcome (changes c (s.shadows a).outcomes (s.shadows a).parts) op in
-      cond_both (is_open (s.words.actors a).place && every (is_sound c s a) (c.reads o))
+      let x = s.words.actors a in
+      cond_both (is_open x.place && (may_write x.declared (c.writes o) && every (is_sound c s a) (c.reads o)))
       (worded s (run (writes_asked a (s.shadows a).editions (c.writes o)) s.words) (put s.shadows a (longer (s.shadows a) o)) s.history s.aborted) s (Led c s)
-      (λ t. let b = both (is_open (s.words.actors a).place) (every (is_sound c s a) (c.reads o)) t in
-      accept_open s a op v (open_is (s.words.actors a).place b.0) b.1)
+      (λ t. let b = both (is_open x.place) (may_write x.declared (c.writes o) && every (is_sound c s a) (c.reads o)) t in
+      let d = both (may_write x.declared (c.writes o)) (every (is_sound c s a) (c.reads o)) b.1 in
+      accept_open s a op v (open_is x.place b.0) d.0 d.1)
       (λ _. led_none c s v)

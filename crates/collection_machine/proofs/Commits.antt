@@ -6,15 +6,16 @@ use Rattle.tx_sets.specs.Entries.{Entries, lookup, locations}
 use Rattle.word_machine.specs.Actor.{Call, Idle, First, Store, Close, Actor, goes}
 use Rattle.word_machine.specs.World.{put, Record, World, insert, comes_before, first_outcome, step}
 use Rattle.word_machine.proofs.Worlds.{first}
-use Rattle.word_machine.specs.Opacity.{IsHalfDone, IsInOrder}
+use Rattle.word_machine.specs.Opacity.{IsHalfDone, IsInOrder, first_read}
+use Rattle.word_machine.proofs.Saw.{first_read_seen, first_read_good}
 use Rattle.word_machine.proofs.Sets.{put-same, put-other}
 use Rattle.word_machine.proofs.Calls.{touched, final}
 use Rattle.collection_machine.proofs.Editions.{IsEdition, IsEdition-next, IsEdition-other}
 use Rattle.word_machine.proofs.Records.{finals, stamp, base, IsNew, AllRecords, AllRecords_map, AllRecords-insert, settled_all, finals_untouched, finals_touched}
 use Rattle.word_machine.proofs.Quiet.{none_if, lookup-none}
 use Rattle.word_machine.proofs.Frame.{Moved}
-use Rattle.word_machine.proofs.Moves.{first_ok, closed_ok}
-use Rattle.word_machine.proofs.Invariant.{IsSomeEntry, Good, PlaceOk, IsPending}
+use Rattle.word_machine.proofs.Moves.{writer_keeps, first_ok, closed_ok}
+use Rattle.word_machine.proofs.Invariant.{IsSomeEntry, Good, PlaceOk, IsPending, HasBegun}
 use Rattle.word_machine.proofs.Invariant as machine
 use Rattle.collection_machine.specs.Content.{Content, Frame}
 use Rattle.collection_machine.specs.Boosted.{Committed, Boosted, changes, recorded, word_step, insert_commit}
@@ -38,18 +39,18 @@ pub record Commits {X Op Out : Type 0} (c : Content X Op Out) (s : Boosted X Out
   pub history : t.history ≡ insert (record { actor = a; number = number; writer = writer; calls = (s.words.actors a).calls }) s.words.history
   pub aborted : t.aborted ≡ s.words.aborted
   pub others : (b : ℕ) → (b ≡ a → ⊥) → t.actors b ≡ s.words.actors b
-  pub reads : (t.actors a).reads ≡ (s.words.actors a).reads
+  pub calls : (t.actors a).calls ≡ (s.words.actors a).calls
   pub writes : (t.actors a).writes ≡ (s.words.actors a).writes
   pub was : IsHalfDone (s.words.actors a).place → ⊥
   pub not_first : IsFirst (t.actors a).place → ⊥
   pub not_release : IsRelease (t.actors a).place → ⊥
   pub new : IsNew (record { actor = a; number = number; writer = writer; calls = (s.words.actors a).calls }) s.words.history
   pub past : number ≤ t.clock
-  pub base_good : (l v : ℕ) → lookup (s.words.actors a).reads l ≡ Some v → Good t (base writer number) l v
+  pub base_good : (l v : ℕ) → first_read (s.words.actors a).calls l ≡ Some v → Good t (base writer number) l v
   pub last : (l : ℕ) → touched (s.words.actors a).calls l ≡ true → stamp s.words.history l < number
   pub written : (l : ℕ) → touched (s.words.actors a).calls l ≡ true → IsHalfDone (t.actors a).place × (writer ≡ true) × (0 < number) × (c.plain l ≡ false → s.gates (c.home l) ≡ Some a)
   -- what it read and writes stands at the end of the history still
-  pub next : (l v : ℕ) → touched (s.words.actors a).calls l ≡ true → lookup (s.words.actors a).reads l ≡ Some v → finals s.words.history l (s.words.opening l) ≡ v
+  pub next : (l v : ℕ) → touched (s.words.actors a).calls l ≡ true → first_read (s.words.actors a).calls l ≡ Some v → finals s.words.history l (s.words.opening l) ≡ v
 
 AllCommitted-insert : {Out : Type 0} → (P : Committed Out → Type 0) (r : Committed Out) (h : List (Committed Out)) → P r → AllCommitted P h → AllCommitted P (insert_commit r h)
 unfolding insert_commit
@@ -156,9 +157,9 @@ module _ {X Op Out : Type 0} (c : Content X Op Out) (f : Frame c) where
                 | inl y ↦ (let d : Some b ≡ Some a = sym gate ∙ (q.written l y).3 pl in let m : b ≡ a = cc in absurd (ne m))
                 | inr n ↦ (let o = v.owed b l i pl hf gate e in (same_view l n ∙ o.0, same_final l n ∙ o.1))
               ])) b;
-          shadows = by_actor (λ b. ShadowOk c u (t.actors b).reads (t.actors b).writes (s.shadows b)) a
-              (subst (λ (z : Entries). ShadowOk c u z (t.actors a).writes w) (sym q.reads) (subst (λ (z : Entries). ShadowOk c u x.reads z w) (sym q.writes) (ShadowOk-kept c s u x.reads x.writes w keeps g)))
-              (λ b ne. subst (λ (z : Actor). ShadowOk c u z.reads z.writes (s.shadows b)) (sym (q.others b ne)) (ShadowOk-kept c s u (s.words.actors b).reads (s.words.actors b).writes (s.shadows b) keeps (v.shadows b)));
+          shadows = by_actor (λ b. ShadowOk c u (t.actors b).calls (t.actors b).writes (s.shadows b)) a
+              (subst (λ (z : List Call). ShadowOk c u z (t.actors a).writes w) (sym q.calls) (subst (λ (z : Entries). ShadowOk c u x.calls z w) (sym q.writes) (ShadowOk-kept c s u x.calls x.writes w keeps g)))
+              (λ b ne. subst (λ (z : Actor). ShadowOk c u z.calls z.writes (s.shadows b)) (sym (q.others b ne)) (ShadowOk-kept c s u (s.words.actors b).calls (s.words.actors b).writes (s.shadows b) keeps (v.shadows b)));
           gates = by_actor (λ b. GatesOk c u b (t.actors b).writes (t.actors b).place) a
               (record { taken = λ p. absurd (q.not_first p); given = λ p. absurd (q.not_release p) })
               (λ b ne. subst (λ (z : Actor). GatesOk c u b z.writes z.place) (sym (q.others b ne)) (record { taken = (v.gates b).taken; given = (v.gates b).given }));
@@ -203,6 +204,8 @@ module _ {X Op Out : Type 0} (c : Content X Op Out) (f : Frame c) where
       let own : t.actors a ≡ goes x (Store is.1.0) = ap (λ (z : ℕ → Actor). z a) is.1.1 ∙ put-same s.words.actors a (goes x (Store is.1.0)) in
       let pend : IsPending x.place = subst IsPending (sym e) tt in
       let not_half : IsHalfDone x.place → ⊥ = λ hf. (let z : IsHalfDone First = subst IsHalfDone e hf in z) in
+      let was_read : (l n : ℕ) → first_read x.calls l ≡ Some n → lookup x.reads l ≡ Some n = λ l n h.
+      ap (λ (z : Entries). lookup z l) (sym (writer_keeps x.declared x.reads x.writes (m.actors a).saw.reads st.some ((m.actors a).kept (subst HasBegun (sym e) tt)))) ∙ first_read_seen s.words x.rv x.calls l n (m.actors a).saw h in
       let some_of : (l : ℕ) → touched x.calls l ≡ true → (n : ℕ) × (lookup x.writes l ≡ Some n) = λ l y. elim (some_or (lookup x.writes l)) [
         | inl z ↦ absurd (true≢false (sym y ∙ (m.actors a).sets.not_written l z))
         | inr z ↦ z
@@ -221,14 +224,14 @@ module _ {X Op Out : Type 0} (c : Content X Op Out) (f : Frame c) where
         history = is.0;
         aborted = is.2;
         others = λ b ne. ap (λ (z : ℕ → Actor). z b) is.1.1 ∙ put-other s.words.actors a (goes x (Store is.1.0)) b ne;
-        reads = ap (λ (z : Actor). z.reads) own;
+        calls = ap (λ (z : Actor). z.calls) own;
         writes = ap (λ (z : Actor). z.writes) own;
         was = not_half;
         not_first = λ h. (let z : IsFirst (Store is.1.0) = subst (λ (z : Actor). IsFirst z.place) own h in z);
         not_release = λ h. (let z : IsRelease (Store is.1.0) = subst (λ (z : Actor). IsRelease z.place) own h in z);
         new = new_writer s.words.history x.wv a x.calls (m.unused a pend);
         past = (let z = is.3 in omega (arith, z, st.made));
-        base_good = λ l n h. elim (pl.1 l n h) [ inl z ↦ absurd z | inr z ↦ mv.keeps.good (x.wv - 1) l n z ];
+        base_good = λ l n h. elim (pl.1 l n (was_read l n h)) [ inl z ↦ absurd z | inr z ↦ mv.keeps.good (x.wv - 1) l n z ];
         last = lst;
         written = λ l y. (
             let n = some_of l y in (
@@ -237,7 +240,7 @@ module _ {X Op Out : Type 0} (c : Content X Op Out) (f : Frame c) where
               omega (arith, st.after_rv),
               λ pn. (v.gates a).taken (subst IsFirst (sym e) tt) l n.0 pn n.1,
             ));
-        next = λ l n y h. elim (pl.1 l n h) [
+        next = λ l n y h. elim (pl.1 l n (was_read l n h)) [
           | inl z ↦ absurd z
           | inr z ↦ (let low = lst l y in sym (settled_all s.words.history (x.wv - 1) l (s.words.opening l) (omega (arith, low))) ∙ z.value)
         ];
@@ -259,14 +262,14 @@ module _ {X Op Out : Type 0} (c : Content X Op Out) (f : Frame c) where
         history = refl;
         aborted = refl;
         others = λ b ne. put-other s.words.actors a (goes x Idle) b ne;
-        reads = ap (λ (z : Actor). z.reads) own;
+        calls = ap (λ (z : Actor). z.calls) own;
         writes = ap (λ (z : Actor). z.writes) own;
         was = λ hf. (let z : IsHalfDone Close = subst IsHalfDone e hf in z);
         not_first = λ h. (let z : IsFirst Idle = subst (λ (z : Actor). IsFirst z.place) own h in z);
         not_release = λ h. (let z : IsRelease Idle = subst (λ (z : Actor). IsRelease z.place) own h in z);
         new = new_reader s.words.history x.rv a x.calls;
         past = omega (arith, (m.actors a).began, mv.keeps.clock);
-        base_good = λ l n h. mv.keeps.good x.rv l n ((m.actors a).reads l n h);
+        base_good = λ l n h. mv.keeps.good x.rv l n (first_read_good s.words x.rv x.calls l n (m.actors a).saw h);
         last = λ l y. absurd (un l y);
         written = λ l y. absurd (un l y);
         next = λ l n y h. absurd (un l y);

@@ -2,7 +2,7 @@
 use Rattle.std.proofs.Common.{◌≡◌, ℕ, ◌+◌, true, false, Option, Some, None, List, [], ◌∷◌, ◌⊎◌, inl, inr, refl, sym, ap, ◌∙◌, subst}
 use Rattle.std.proofs.lemmas.Bool.{cases_eq}
 use Rattle.tx_sets.specs.Entries.{Entries, lookup}
-use Rattle.word_machine.specs.Actor.{Place, First, Store, Release, Actor}
+use Rattle.word_machine.specs.Actor.{Call, Place, First, Store, Release, Actor}
 use Rattle.word_machine.specs.World.{World}
 use Rattle.word_machine.specs.Opacity.{IsHalfDone}
 use Rattle.word_machine.proofs.Records.{finals, base}
@@ -54,7 +54,7 @@ pub record Quietly {X Op Out : Type 0} (c : Content X Op Out) (s : Boosted X Out
   pub others : (b : ℕ) → (b ≡ a → ⊥) → t.actors b ≡ s.words.actors b
   pub half : IsHalfDone (t.actors a).place → IsHalfDone (s.words.actors a).place × ((t.actors a).writes ≡ (s.words.actors a).writes) × (w.outcomes ≡ (s.shadows a).outcomes)
   pub back : IsHalfDone (s.words.actors a).place → ((l : ℕ) → c.plain l ≡ false → s.gates (c.home l) ≡ Some a → lookup (s.words.actors a).writes l ≡ None) ⊎ (IsHalfDone (t.actors a).place × ((t.actors a).writes ≡ (s.words.actors a).writes))
-  pub shadow : ShadowOk c s (t.actors a).reads (t.actors a).writes w
+  pub shadow : ShadowOk c s (t.actors a).calls (t.actors a).writes w
   pub gates : GatesOk c s a (t.actors a).writes (t.actors a).place
 
 module _ {X Op Out : Type 0} (c : Content X Op Out) where
@@ -75,8 +75,8 @@ module _ {X Op Out : Type 0} (c : Content X Op Out) where
   aborted_kept s t [] k g = tt
   aborted_kept s t (e ∷ es) k g = (SawParts-kept s t e.word.rv e.outcomes k g.0, aborted_kept s t es k g.1)
 
-  pub ShadowOk-kept : (s t : Boosted X Out) (reads writes : Entries) (w : Shadow X Out) → Keeps c s t → ShadowOk c s reads writes w → ShadowOk c t reads writes w
-  ShadowOk-kept s t reads writes w k g = record {
+  pub ShadowOk-kept : (s t : Boosted X Out) (calls : List Call) (writes : Entries) (w : Shadow X Out) → Keeps c s t → ShadowOk c s calls writes w → ShadowOk c t calls writes w
+  ShadowOk-kept s t calls writes w k g = record {
     known = λ l h. k.known l (w.editions l) (w.parts l) (g.known l h);
     sets = g.sets;
     wrote = g.wrote;
@@ -114,10 +114,10 @@ module _ {X Op Out : Type 0} (c : Content X Op Out) where
               (sym (ap (λ (x : Shadow X Out). x.outcomes) own ∙ z.2)) (v.owed a l e pl z.0 g (ap (λ (x : Entries). lookup x l) (sym z.1) ∙ h))))
               (λ b ne. subst (λ (x : Actor). IsHalfDone x.place → s.gates (c.home l) ≡ Some b → lookup x.writes l ≡ Some e → (views c s.history s.opening l ≡ changes c (shadows b).outcomes s.parts l) × (finals (words s.history) l (s.first l) ≡ s.editions l + 1)) (sym (q.others b ne))
               (subst (λ (x : Shadow X Out). IsHalfDone (s.words.actors b).place → s.gates (c.home l) ≡ Some b → lookup (s.words.actors b).writes l ≡ Some e → (views c s.history s.opening l ≡ changes c x.outcomes s.parts l) × (finals (words s.history) l (s.first l) ≡ s.editions l + 1)) (sym (other b ne)) (v.owed b l e pl))) b;
-          shadows = by_actor (λ b. ShadowOk c u (t.actors b).reads (t.actors b).writes (shadows b)) a
-              (subst (λ (x : Shadow X Out). ShadowOk c u (t.actors a).reads (t.actors a).writes x) (sym own) (ShadowOk-kept s u (t.actors a).reads (t.actors a).writes w k q.shadow))
-              (λ b ne. subst (λ (x : Actor). ShadowOk c u x.reads x.writes (shadows b)) (sym (q.others b ne))
-              (subst (λ (x : Shadow X Out). ShadowOk c u (s.words.actors b).reads (s.words.actors b).writes x) (sym (other b ne)) (ShadowOk-kept s u (s.words.actors b).reads (s.words.actors b).writes (s.shadows b) k (v.shadows b))));
+          shadows = by_actor (λ b. ShadowOk c u (t.actors b).calls (t.actors b).writes (shadows b)) a
+              (subst (λ (x : Shadow X Out). ShadowOk c u (t.actors a).calls (t.actors a).writes x) (sym own) (ShadowOk-kept s u (t.actors a).calls (t.actors a).writes w k q.shadow))
+              (λ b ne. subst (λ (x : Actor). ShadowOk c u x.calls x.writes (shadows b)) (sym (q.others b ne))
+              (subst (λ (x : Shadow X Out). ShadowOk c u (s.words.actors b).calls (s.words.actors b).writes x) (sym (other b ne)) (ShadowOk-kept s u (s.words.actors b).calls (s.words.actors b).writes (s.shadows b) k (v.shadows b))));
           gates = by_actor (λ b. GatesOk c u b (t.actors b).writes (t.actors b).place) a
               (record { taken = q.gates.taken; given = q.gates.given })
               (λ b ne. subst (λ (x : Actor). GatesOk c u b x.writes x.place) (sym (q.others b ne)) (record { taken = (v.gates b).taken; given = (v.gates b).given }));
@@ -131,7 +131,7 @@ module _ {X Op Out : Type 0} (c : Content X Op Out) where
   pub gated_ok : (s : Boosted X Out) (gates : ℕ → Option ℕ) (shadows : ℕ → Shadow X Out) → Inv c s
       → ((k b : ℕ) → is_committing (s.words.actors b).place ≡ true → gates k ≡ Some b → s.gates k ≡ Some b)
       → ((k b : ℕ) → is_committing (s.words.actors b).place ≡ true → s.gates k ≡ Some b → gates k ≡ Some b)
-      → ((b : ℕ) → ShadowOk c s (s.words.actors b).reads (s.words.actors b).writes (shadows b))
+      → ((b : ℕ) → ShadowOk c s (s.words.actors b).calls (s.words.actors b).writes (shadows b))
       → ((b : ℕ) → IsHalfDone (s.words.actors b).place → (shadows b).outcomes ≡ (s.shadows b).outcomes)
       → Led c s (gated s gates shadows)
   gated_ok s gates shadows v to from ok same =
@@ -150,7 +150,7 @@ module _ {X Op Out : Type 0} (c : Content X Op Out) where
           at_home = λ l pl none. v.at_home l pl (λ b half g. none b half (from (c.home l) b (half_committing (s.words.actors b).place half) g));
           owed = λ b l e pl half g h. subst (λ (os : List Out). (views c s.history s.opening l ≡ changes c os s.parts l) × (finals (words s.history) l (s.first l) ≡ s.editions l + 1)) (sym (same b half))
               (v.owed b l e pl half (to (c.home l) b (half_committing (s.words.actors b).place half) g) h);
-          shadows = λ b. ShadowOk-kept s u (s.words.actors b).reads (s.words.actors b).writes (shadows b) k (ok b);
+          shadows = λ b. ShadowOk-kept s u (s.words.actors b).calls (s.words.actors b).writes (shadows b) k (ok b);
           gates = λ b. record {
             taken = λ p l e pl h. from (c.home l) b (first_committing (s.words.actors b).place p) ((v.gates b).taken p l e pl h);
             given = λ p l e pl h g. (v.gates b).given p l e pl h (to (c.home l) b (release_committing (s.words.actors b).place p) g);

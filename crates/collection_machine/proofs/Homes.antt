@@ -99,7 +99,7 @@ module _ {X Op Out : Type 0} (c : Content X Op Out) (f : Frame c) where
               z.1 ∙ ap (λ (i : ℕ). i + 1) (sym (edition_else l ne)),
             ))
           ];
-          shadows = λ b. ShadowOk-kept c s u (s.words.actors b).reads (s.words.actors b).writes (s.shadows b) keeps (v.shadows b);
+          shadows = λ b. ShadowOk-kept c s u (s.words.actors b).calls (s.words.actors b).writes (s.shadows b) keeps (v.shadows b);
           gates = λ b. record {
             taken = λ p l n pl h. elim (cases_eq (c.home l) k) [
               | inl q ↦ (let d : Some a ≡ Some b = sym (mine_at l q) ∙ (v.gates b).taken p l n pl h in let i : a ≡ b = cc in

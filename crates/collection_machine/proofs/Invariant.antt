@@ -1,8 +1,8 @@
 -- What holds of a world with collections after every schedule.
 use Rattle.std.proofs.Common.{◌≡◌, ℕ, ◌+◌, ◌≤◌, true, false, Some, None, List, [], ◌∷◌}
 use Rattle.tx_sets.specs.Entries.{Entries, lookup}
-use Rattle.word_machine.specs.Actor.{Place, First, Release}
-use Rattle.word_machine.specs.Opacity.{IsHalfDone}
+use Rattle.word_machine.specs.Actor.{Call, Place, First, Release}
+use Rattle.word_machine.specs.Opacity.{IsHalfDone, first_read}
 use Rattle.collection_machine.proofs.Editions.{IsEdition}
 use Rattle.word_machine.proofs.Records.{finals, base}
 use Rattle.word_machine.proofs.Invariant.{Good}
@@ -29,9 +29,9 @@ pub record SawParts {X Op Out : Type 0} (c : Content X Op Out) (s : Boosted X Ou
   pub legal : (v : ℕ → X) → ((l : ℕ) → IsRead c l os → v l ≡ parts l) → AreLegal c v os
 
 -- What a transaction has, by its sets.
-pub record ShadowOk {X Op Out : Type 0} (c : Content X Op Out) (s : Boosted X Out) (reads writes : Entries) (w : Shadow X Out) : Type 0 where
+pub record ShadowOk {X Op Out : Type 0} (c : Content X Op Out) (s : Boosted X Out) (calls : List Call) (writes : Entries) (w : Shadow X Out) : Type 0 where
   pub known : (l : ℕ) → w.copied l ≡ true → Known c s l (w.editions l) (w.parts l)
-  pub sets : (l : ℕ) → IsRead c l w.outcomes → (w.copied l ≡ true) × (lookup reads l ≡ Some (w.editions l))
+  pub sets : (l : ℕ) → IsRead c l w.outcomes → (w.copied l ≡ true) × (first_read calls l ≡ Some (w.editions l))
   pub wrote : (l u : ℕ) → c.plain l ≡ false → lookup writes l ≡ Some u → (u ≡ w.editions l + 1) × IsRead c l w.outcomes × IsWritten c l w.outcomes
   pub fits : (l : ℕ) → lookup writes l ≡ None → Untouched c l w.outcomes
   pub legal : (v : ℕ → X) → ((l : ℕ) → IsRead c l w.outcomes → v l ≡ w.parts l) → AreLegal c v w.outcomes
@@ -75,7 +75,7 @@ pub record Inv {X Op Out : Type 0} (c : Content X Op Out) (s : Boosted X Out) : 
   pub at_home : (l : ℕ) → c.plain l ≡ false → IsHome c s l → (views c s.history s.opening l ≡ s.parts l) × (finals (words s.history) l (s.first l) ≡ s.editions l)
   pub owed : (a l u : ℕ) → c.plain l ≡ false → IsHalfDone (s.words.actors a).place → s.gates (c.home l) ≡ Some a → lookup (s.words.actors a).writes l ≡ Some u
       → (views c s.history s.opening l ≡ changes c (s.shadows a).outcomes s.parts l) × (finals (words s.history) l (s.first l) ≡ s.editions l + 1)
-  pub shadows : (a : ℕ) → ShadowOk c s (s.words.actors a).reads (s.words.actors a).writes (s.shadows a)
+  pub shadows : (a : ℕ) → ShadowOk c s (s.words.actors a).calls (s.words.actors a).writes (s.shadows a)
   pub gates : (a : ℕ) → GatesOk c s a (s.words.actors a).writes (s.words.actors a).place
   pub records : AllCommitted (λ r. SawParts c s (base r.word.writer r.word.number) r.outcomes) s.history
   pub aborted : AllAborted (λ e. SawParts c s e.word.rv e.outcomes) s.aborted

@@ -3,10 +3,12 @@ use Rattle.std.proofs.Common.{◌≡◌, ℕ, ◌+◌, ltb, Bool, true, false, O
 use Rattle.std.specs.Prelude.{◌&&◌, ◌||◌, not, ◌==◌, nat_lt, if◌then◌else◌}
 use Rattle.std.proofs.lemmas.Bool.{cases_eq, cases_Bool, cond_both, cond-true, cond-false}
 use Rattle.tx_sets.specs.Entries.{Entries, lookup, with_entry, locations}
-use Rattle.word_machine.specs.Actor.{Place, Idle, Begin, Open, Check, First, Store, Release, Leave, Actor, goes, opened, clock_limit}
-use Rattle.word_machine.specs.Requests.{wrote, Request, AskBegin, AskRead, AskWrite, AskLock, AskStore, AskRelease, AskCancel, AskAbort, AskClose, ask}
+use Rattle.word_machine.specs.Actor.{Call, Write, Place, Idle, Begin, Open, Check, First, Store, Release, Leave, Actor, goes, opened, clock_limit}
+use Rattle.word_machine.specs.Requests.{wrote, write, Request, AskBegin, AskBeginRead, AskRead, AskWrite, AskLock, AskStore, AskRelease, AskCancel, AskAbort, AskClose, ask}
 use Rattle.word_machine.specs.World.{put, Ended, World, now, step, Ask}
-use Rattle.word_machine.specs.Opacity.{IsHalfDone}
+use Rattle.word_machine.specs.Opacity.{IsHalfDone, first_read}
+use Rattle.word_machine.proofs.Calls.{first_read-more}
+use Rattle.word_machine.proofs.Saw.{first_read_good}
 use Rattle.word_machine.proofs.Sets.{put_both, put-same, put-other, Member, member_locations, lookup-with_entry_same, lookup-with_entry_other}
 use Rattle.word_machine.proofs.Invariant.{Good}
 use Rattle.word_machine.proofs.Invariant as machine
@@ -75,7 +77,7 @@ module _ {X Op Out : Type 0} (c : Content X Op Out) where
   quietly : (s : Boosted X Out) (a : ℕ) (t : World) (y : Actor) (w : Shadow X Out) → Moved s.words a t → t.history ≡ s.words.history → ((b : ℕ) → (b ≡ a → ⊥) → t.actors b ≡ s.words.actors b) → t.actors a ≡ y
       → (IsHalfDone y.place → IsHalfDone (s.words.actors a).place × (y.writes ≡ (s.words.actors a).writes) × (w.outcomes ≡ (s.shadows a).outcomes))
       → (IsHalfDone (s.words.actors a).place → ((l : ℕ) → c.plain l ≡ false → s.gates (c.home l) ≡ Some a → lookup (s.words.actors a).writes l ≡ None) ⊎ (IsHalfDone y.place × (y.writes ≡ (s.words.actors a).writes)))
-      → ShadowOk c s y.reads y.writes w → GatesOk c s a y.writes y.place → Quietly c s a t w
+      → ShadowOk c s y.calls y.writes w → GatesOk c s a y.writes y.place → Quietly c s a t w
   quietly s a t y w m h others own half back ok gates = record {
     machine = m.inv;
     opening = m.opening;
@@ -84,12 +86,12 @@ module _ {X Op Out : Type 0} (c : Content X Op Out) where
     others = others;
     half = subst (λ (z : Actor). IsHalfDone z.place → IsHalfDone (s.words.actors a).place × (z.writes ≡ (s.words.actors a).writes) × (w.outcomes ≡ (s.shadows a).outcomes)) (sym own) half;
     back = subst (λ (z : Actor). IsHalfDone (s.words.actors a).place → ((l : ℕ) → c.plain l ≡ false → s.gates (c.home l) ≡ Some a → lookup (s.words.actors a).writes l ≡ None) ⊎ (IsHalfDone z.place × (z.writes ≡ (s.words.actors a).writes))) (sym own) back;
-    shadow = subst (λ (z : Actor). ShadowOk c s z.reads z.writes w) (sym own) ok;
+    shadow = subst (λ (z : Actor). ShadowOk c s z.calls z.writes w) (sym own) ok;
     gates = subst (λ (z : Actor). GatesOk c s a z.writes z.place) (sym own) gates;
   }
 
   -- the sets go on
-  ShadowOk-sets : (s : Boosted X Out) (x y : Actor) (w : Shadow X Out) → ((l e : ℕ) → lookup x.reads l ≡ Some e → lookup y.reads l ≡ Some e) → y.writes ≡ x.writes → ShadowOk c s x.reads x.writes w → ShadowOk c s y.reads y.writes w
+  ShadowOk-sets : (s : Boosted X Out) (x y : Actor) (w : Shadow X Out) → ((l e : ℕ) → first_read x.calls l ≡ Some e → first_read y.calls l ≡ Some e) → y.writes ≡ x.writes → ShadowOk c s x.calls x.writes w → ShadowOk c s y.calls y.writes w
   ShadowOk-sets s x y w r e g = record {
     known = g.known;
     sets = λ l i. (let z = g.sets l i in (z.0, r l (w.editions l) z.1));
@@ -107,7 +109,7 @@ module _ {X Op Out : Type 0} (c : Content X Op Out) where
         | inl z ↦ inr (z, k.own.writes)
         | inr z ↦ inl (λ l pl g. none_if (lookup (s.words.actors a).writes l) (λ u q. (v.gates a).given z l u pl q g))
       ])
-      (ShadowOk-sets s (s.words.actors a) (t.actors a) (s.shadows a) k.own.reads k.own.writes (v.shadows a))
+      (ShadowOk-sets s (s.words.actors a) (t.actors a) (s.shadows a) k.own.calls k.own.writes (v.shadows a))
       (record {
         taken = λ p l u pl h. (v.gates a).taken (k.own.first p) l u pl (sym (same l) ∙ h);
         given = λ p l u pl h. (v.gates a).given (k.own.release p) l u pl (sym (same l) ∙ h);
@@ -125,17 +127,19 @@ module _ {X Op Out : Type 0} (c : Content X Op Out) where
   same_led : (s : Boosted X Out) (a : ℕ) → Inv c s → Moved s.words a (now s.words a (s.words.actors a)) → Led c s (on_words s (now s.words a (s.words.actors a)))
   same_led s a v m = steady_led s a (now s.words a (s.words.actors a)) s.aborted v m (steady s.words a (s.words.actors a) (same_to (s.words.actors a))) v.aborted v.ends
 
-  write_led : (s : Boosted X Out) (a l u : ℕ) (p : Place) → Inv c s → (s.words.actors a).place ≡ p → c.plain l ≡ true → Led c s (on_words s (now s.words a (ask (s.words.actors a) p (AskWrite l u))))
-  write_led s a l u Open v e pl =
+  -- a declared reader writes nothing
+  write_open : (s : Boosted X Out) (a l u : ℕ) (declared : Bool) → Inv c s → (s.words.actors a).place ≡ Open → (s.words.actors a).declared ≡ declared → c.plain l ≡ true → Led c s (on_words s (now s.words a (write (s.words.actors a) declared l u)))
+  write_open s a l u true v e d pl = same_led s a v (subst (λ (b : Bool). Moved s.words a (now s.words a (write (s.words.actors a) b l u))) d (moved_ask s a Open (AskWrite l u) v e))
+  write_open s a l u false v e d pl =
       let x = s.words.actors a in
       let other : (i : ℕ) → c.plain i ≡ false → i ≡ l → ⊥ = λ i f q. true≢false (sym pl ∙ ap c.plain (sym q) ∙ f) in
       no_commit c s a (now s.words a (wrote x l u)) (s.shadows a) s.shadows s.aborted v
-      (quietly s a (now s.words a (wrote x l u)) (wrote x l u) (s.shadows a) (moved_ask s a Open (AskWrite l u) v e) refl (λ b ne. put-other s.words.actors a (wrote x l u) b ne) (put-same s.words.actors a (wrote x l u))
+      (quietly s a (now s.words a (wrote x l u)) (wrote x l u) (s.shadows a) (subst (λ (b : Bool). Moved s.words a (now s.words a (write x b l u))) d (moved_ask s a Open (AskWrite l u) v e)) refl (λ b ne. put-other s.words.actors a (wrote x l u) b ne) (put-same s.words.actors a (wrote x l u))
       (λ h. absurd h)
       (λ h. absurd (let z : IsHalfDone Open = subst IsHalfDone e h in z))
       (record {
         known = (v.shadows a).known;
-        sets = (v.shadows a).sets;
+        sets = λ i r. (let z = (v.shadows a).sets i r in (z.0, first_read-more x.calls (Write l u ∷ []) i ((s.shadows a).editions i) z.1));
         wrote = λ i k f h. (v.shadows a).wrote i k f (sym (lookup-with_entry_other x.writes l u i (other i f)) ∙ h);
         fits = λ i h. (v.shadows a).fits i (elim (cases_eq i l) [
           | inl q ↦ (let z : Some u ≡ None = sym (lookup-with_entry_same x.writes l u) ∙ ap (lookup (with_entry x.writes l u)) (sym q) ∙ h in cc)
@@ -144,6 +148,9 @@ module _ {X Op Out : Type 0} (c : Content X Op Out) where
         legal = (v.shadows a).legal;
       })
       (record { taken = λ h. absurd h; given = λ h. absurd h })) refl (λ b ne. refl) v.aborted v.ends
+
+  write_led : (s : Boosted X Out) (a l u : ℕ) (p : Place) → Inv c s → (s.words.actors a).place ≡ p → c.plain l ≡ true → Led c s (on_words s (now s.words a (ask (s.words.actors a) p (AskWrite l u))))
+  write_led s a l u Open v e pl = write_open s a l u (s.words.actors a).declared v e refl pl
   write_led s a l u (Store []) v e pl = same_led s a v (moved_ask s a (Store []) (AskWrite l u) v e)
   write_led s a l u (Store (m ∷ ms)) v e pl = same_led s a v (moved_ask s a (Store (m ∷ ms)) (AskWrite l u) v e)
   write_led s a l u (Check []) v e pl = same_led s a v (moved_ask s a (Check []) (AskWrite l u) v e)
@@ -195,6 +202,7 @@ module _ {X Op Out : Type 0} (c : Content X Op Out) where
       cond_both (every (is_given c s a) (locations x.writes)) (on_words s (now s.words a (ask x x.place AskRelease))) s (Led c s)
       (λ t. release_led s a x.place v refl t) (λ _. led_none s v)
   ask_led s a AskBegin v = free_led s a AskBegin v tt
+  ask_led s a AskBeginRead v = free_led s a AskBeginRead v tt
   ask_led s a AskLock v = free_led s a AskLock v tt
   ask_led s a AskCancel v = free_led s a AskCancel v tt
   ask_led s a AskAbort v = free_led s a AskAbort v tt
@@ -209,7 +217,7 @@ module _ {X Op Out : Type 0} (c : Content X Op Out) where
       let m = begin_ok s.words a v.machine e none in
       elim (cases_Bool b) [
         | inl t ↦
-            (let y = opened s.words.clock in
+            (let y = opened x.declared s.words.clock in
             let pick : (if nat_lt s.words.clock clock_limit then y else goes x Idle) ≡ y = cond-true b y (goes x Idle) t in
             subst (λ (z : Actor). Led c s (worded s (now s.words a z) (if nat_lt s.words.clock clock_limit then put s.shadows a (fresh s) else s.shadows) s.history s.aborted)) (sym pick)
             (subst (λ (z : ℕ → Shadow X Out). Led c s (worded s (now s.words a y) z s.history s.aborted)) (sym (cond-true b (put s.shadows a (fresh s)) s.shadows t))
@@ -228,7 +236,7 @@ module _ {X Op Out : Type 0} (c : Content X Op Out) where
             (put-same s.shadows a (fresh s)) (λ i ne. put-other s.shadows a (fresh s) i ne) v.aborted v.ends)))
         | inr t ↦
             (let y = goes x Idle in
-            let pick : (if nat_lt s.words.clock clock_limit then opened s.words.clock else y) ≡ y = cond-false b (opened s.words.clock) y t in
+            let pick : (if nat_lt s.words.clock clock_limit then opened x.declared s.words.clock else y) ≡ y = cond-false b (opened x.declared s.words.clock) y t in
             subst (λ (z : Actor). Led c s (worded s (now s.words a z) (if nat_lt s.words.clock clock_limit then put s.shadows a (fresh s) else s.shadows) s.history s.aborted)) (sym pick)
             (subst (λ (z : ℕ → Shadow X Out). Led c s (worded s (now s.words a y) z s.history s.aborted)) (sym (cond-false b (put s.shadows a (fresh s)) s.shadows t))
             (no_commit c s a (now s.words a y) (s.shadows a) s.shadows s.aborted v
@@ -253,7 +261,7 @@ module _ {X Op Out : Type 0} (c : Content X Op Out) where
     parts = (s.shadows a).parts;
     editions = (s.shadows a).editions;
     known = λ l r. (v.shadows a).known l ((v.shadows a).sets l r).0;
-    good = λ l r. (v.machine.actors a).reads l ((s.shadows a).editions l) ((v.shadows a).sets l r).1;
+    good = λ l r. first_read_good s.words (s.words.actors a).rv (s.words.actors a).calls l ((s.shadows a).editions l) (v.machine.actors a).saw ((v.shadows a).sets l r).1;
     legal = (v.shadows a).legal;
   }
 
@@ -283,43 +291,43 @@ module _ {X Op Out : Type 0} (c : Content X Op Out) where
       (λ _. led_none s v)
 
   -- what a copy adds to a shadow
-  copied_ok : (s : Boosted X Out) (reads writes : Entries) (w : Shadow X Out) (k : ℕ) (which : ℕ → Bool) → Inv c s → ShadowOk c s reads writes w → ShadowOk c s reads writes (copied c s reads w k which)
-  copied_ok s reads writes w k which v g =
-      let old : (l : ℕ) → IsRead c l w.outcomes → is_copied c reads k which l ≡ false = λ l h. elim (cases_Bool (is_copied c reads k which l)) [
+  copied_ok : (s : Boosted X Out) (calls : List Call) (writes : Entries) (w : Shadow X Out) (k : ℕ) (which : ℕ → Bool) → Inv c s → ShadowOk c s calls writes w → ShadowOk c s calls writes (copied c s calls w k which)
+  copied_ok s calls writes w k which v g =
+      let old : (l : ℕ) → IsRead c l w.outcomes → is_copied c calls k which l ≡ false = λ l h. elim (cases_Bool (is_copied c calls k which l)) [
         | inr n ↦ n
         | inl t ↦
-            (let b1 = both (which l) (not (c.plain l) && (c.home l == k && is_none (lookup reads l))) t in
-            let b2 = both (not (c.plain l)) (c.home l == k && is_none (lookup reads l)) b1.1 in
-            let b3 = both (c.home l == k) (is_none (lookup reads l)) b2.1 in
-            (let d : Some (w.editions l) ≡ None = sym (g.sets l h).1 ∙ none_is (lookup reads l) b3.1 in cc))
+            (let b1 = both (which l) (not (c.plain l) && (c.home l == k && is_none (first_read calls l))) t in
+            let b2 = both (not (c.plain l)) (c.home l == k && is_none (first_read calls l)) b1.1 in
+            let b3 = both (c.home l == k) (is_none (first_read calls l)) b2.1 in
+            (let d : Some (w.editions l) ≡ None = sym (g.sets l h).1 ∙ none_is (first_read calls l) b3.1 in cc))
       ] in
-      let edition : (l : ℕ) → IsRead c l w.outcomes → (copied c s reads w k which).editions l ≡ w.editions l = λ l h. cond-false (is_copied c reads k which l) (s.editions l) (w.editions l) (old l h) in
+      let edition : (l : ℕ) → IsRead c l w.outcomes → (copied c s calls w k which).editions l ≡ w.editions l = λ l h. cond-false (is_copied c calls k which l) (s.editions l) (w.editions l) (old l h) in
       record {
-        known = λ l h. elim (cases_Bool (is_copied c reads k which l)) [
+        known = λ l h. elim (cases_Bool (is_copied c calls k which l)) [
           | inl t ↦
-              (let b1 = both (which l) (not (c.plain l) && (c.home l == k && is_none (lookup reads l))) t in
-              let b2 = both (not (c.plain l)) (c.home l == k && is_none (lookup reads l)) b1.1 in
-              subst (λ (e : ℕ). Known c s l e ((copied c s reads w k which).parts l)) (sym (cond-true (is_copied c reads k which l) (s.editions l) (w.editions l) t))
-              (subst (Known c s l (s.editions l)) (sym (cond-true (is_copied c reads k which l) (s.parts l) (w.parts l) t)) (v.known l (not_true (c.plain l) b2.0))))
+              (let b1 = both (which l) (not (c.plain l) && (c.home l == k && is_none (first_read calls l))) t in
+              let b2 = both (not (c.plain l)) (c.home l == k && is_none (first_read calls l)) b1.1 in
+              subst (λ (e : ℕ). Known c s l e ((copied c s calls w k which).parts l)) (sym (cond-true (is_copied c calls k which l) (s.editions l) (w.editions l) t))
+              (subst (Known c s l (s.editions l)) (sym (cond-true (is_copied c calls k which l) (s.parts l) (w.parts l) t)) (v.known l (not_true (c.plain l) b2.0))))
           | inr n ↦
-              (let is : w.copied l ≡ true = sym (cond-false (is_copied c reads k which l) true (w.copied l) n) ∙ h in
-              subst (λ (e : ℕ). Known c s l e ((copied c s reads w k which).parts l)) (sym (cond-false (is_copied c reads k which l) (s.editions l) (w.editions l) n))
-              (subst (Known c s l (w.editions l)) (sym (cond-false (is_copied c reads k which l) (s.parts l) (w.parts l) n)) (g.known l is)))
+              (let is : w.copied l ≡ true = sym (cond-false (is_copied c calls k which l) true (w.copied l) n) ∙ h in
+              subst (λ (e : ℕ). Known c s l e ((copied c s calls w k which).parts l)) (sym (cond-false (is_copied c calls k which l) (s.editions l) (w.editions l) n))
+              (subst (Known c s l (w.editions l)) (sym (cond-false (is_copied c calls k which l) (s.parts l) (w.parts l) n)) (g.known l is)))
         ];
         sets = λ l r. (
             let z = g.sets l r in
-            (cond-false (is_copied c reads k which l) true (w.copied l) (old l r) ∙ z.0, z.1 ∙ ap Some (sym (edition l r))));
+            (cond-false (is_copied c calls k which l) true (w.copied l) (old l r) ∙ z.0, z.1 ∙ ap Some (sym (edition l r))));
         wrote = λ l u pl h. (
             let z = g.wrote l u pl h in
             (z.0 ∙ ap (λ (n : ℕ). n + 1) (sym (edition l z.1)), z.1, z.2));
         fits = g.fits;
-        legal = λ u h. g.legal u (λ l r. h l r ∙ cond-false (is_copied c reads k which l) (s.parts l) (w.parts l) (old l r));
+        legal = λ u h. g.legal u (λ l r. h l r ∙ cond-false (is_copied c calls k which l) (s.parts l) (w.parts l) (old l r));
       }
 
   pub put_led : (s : Boosted X Out) (a k : ℕ) (which : ℕ → Bool) → Inv c s → Led c s (put_gate c s a k which)
   put_led s a k which v =
       let x = s.words.actors a in
-      let w2 = copied c s x.reads (s.shadows a) k which in
+      let w2 = copied c s x.calls (s.shadows a) k which in
       cond_both (is_actor a (s.gates k) && not (is_committing x.place)) (gated s (put s.gates k None) (if is_open x.place then put s.shadows a w2 else s.shadows)) s (Led c s)
       (λ t.
       let g = both (is_actor a (s.gates k)) (not (is_committing x.place)) t in
@@ -331,10 +339,10 @@ module _ {X Op Out : Type 0} (c : Content X Op Out) where
       (λ q. let z : Some a ≡ Some b = sym mine ∙ ap s.gates (sym q) ∙ h in
       let e : a ≡ b = cc in absurd (true≢false (sym m ∙ ap (λ (i : ℕ). is_committing (s.words.actors i).place) (sym e) ∙ rests)))
       (λ _. h))
-      (λ b. cond_both (is_open x.place) (put s.shadows a w2) s.shadows (λ (z : ℕ → Shadow X Out). ShadowOk c s (s.words.actors b).reads (s.words.actors b).writes (z b))
-      (λ _. by_actor (λ i. ShadowOk c s (s.words.actors i).reads (s.words.actors i).writes (put s.shadows a w2 i)) a
-      (subst (ShadowOk c s x.reads x.writes) (sym (put-same s.shadows a w2)) (copied_ok s x.reads x.writes (s.shadows a) k which v (v.shadows a)))
-      (λ i ne. subst (ShadowOk c s (s.words.actors i).reads (s.words.actors i).writes) (sym (put-other s.shadows a w2 i ne)) (v.shadows i)) b)
+      (λ b. cond_both (is_open x.place) (put s.shadows a w2) s.shadows (λ (z : ℕ → Shadow X Out). ShadowOk c s (s.words.actors b).calls (s.words.actors b).writes (z b))
+      (λ _. by_actor (λ i. ShadowOk c s (s.words.actors i).calls (s.words.actors i).writes (put s.shadows a w2 i)) a
+      (subst (ShadowOk c s x.calls x.writes) (sym (put-same s.shadows a w2)) (copied_ok s x.calls x.writes (s.shadows a) k which v (v.shadows a)))
+      (λ i ne. subst (ShadowOk c s (s.words.actors i).calls (s.words.actors i).writes) (sym (put-other s.shadows a w2 i ne)) (v.shadows i)) b)
       (λ _. v.shadows b))
       (λ b h. cond_both (is_open x.place) (put s.shadows a w2) s.shadows (λ (z : ℕ → Shadow X Out). (z b).outcomes ≡ (s.shadows b).outcomes)
       (λ _. put_both (λ (z : Shadow X Out). z.outcomes ≡ (s.shadows b).outcomes) s.shadows a w2 b (λ q. ap (λ (i : ℕ). (s.shadows i).outcomes) (sym q)) (λ _. refl))

@@ -4,10 +4,10 @@ use Rattle.std.specs.Prelude.{◌&&◌, not, if◌then◌else◌}
 use Rattle.std.proofs.lemmas.Bool.{cond_both}
 use Rattle.tx_sets.specs.Entries.{locations}
 use Rattle.word_machine.specs.Actor.{Place}
-use Rattle.word_machine.specs.Requests.{Request, AskBegin, AskRead, AskWrite, AskLock, AskStore, AskRelease, AskCancel, AskAbort, AskClose}
+use Rattle.word_machine.specs.Requests.{Request, AskBegin, AskBeginRead, AskRead, AskWrite, AskLock, AskStore, AskRelease, AskCancel, AskAbort, AskClose}
 use Rattle.word_machine.specs.World.{Outcome, GoesOn, Commits, Aborts, outcome, put, World, step, Event, Ask, Step, happens, run}
 use Rattle.collection_machine.specs.Content.{Content}
-use Rattle.collection_machine.specs.Boosted.{Boosted, Action, OnWords, TakeGate, PutGate, Accept, GoHome, on_words, on_ask, shadows_after, recorded, word_step, changes, acts, act_all, is_held, is_given, every, is_open, is_sound, writes_asked, is_none, is_committing, is_actor, is_stored, copied, gated, homed}
+use Rattle.collection_machine.specs.Boosted.{may_write, Boosted, Action, OnWords, TakeGate, PutGate, Accept, GoHome, on_words, on_ask, shadows_after, recorded, word_step, changes, acts, act_all, is_held, is_given, every, is_open, is_sound, writes_asked, is_none, is_committing, is_actor, is_stored, copied, gated, homed}
 use Rattle.collection_machine.proofs.Frame.{worded}
 
 run-append : (es fs : List Event) (s : World) → run (es ++ fs) s ≡ run fs (run es s)
@@ -24,6 +24,7 @@ module _ {X Op Out : Type 0} (c : Content X Op Out) where
   ask_runs s a AskStore = cond_both (every (is_held c s a) (locations (s.words.actors a).writes)) (on_words s (happens s.words (Ask a AskStore))) s (Runs s.words) (λ _. (Ask a AskStore ∷ [], refl)) (λ _. ([], refl))
   ask_runs s a AskRelease = cond_both (every (is_given c s a) (locations (s.words.actors a).writes)) (on_words s (happens s.words (Ask a AskRelease))) s (Runs s.words) (λ _. (Ask a AskRelease ∷ [], refl)) (λ _. ([], refl))
   ask_runs s a AskBegin = (Ask a AskBegin ∷ [], refl)
+  ask_runs s a AskBeginRead = (Ask a AskBeginRead ∷ [], refl)
   ask_runs s a AskLock = (Ask a AskLock ∷ [], refl)
   ask_runs s a AskCancel = (Ask a AskCancel ∷ [], refl)
   ask_runs s a AskAbort = (Ask a AskAbort ∷ [], refl)
@@ -42,11 +43,11 @@ module _ {X Op Out : Type 0} (c : Content X Op Out) where
   act_runs s (OnWords (Ask a r)) = ask_runs s a r
   act_runs s (OnWords (Step a)) = (Step a ∷ [], step_is s a (s.words.actors a).place)
   act_runs s (TakeGate a k) = cond_both (is_none (s.gates k) && not (is_committing (s.words.actors a).place)) (gated s (put s.gates k (Some a)) s.shadows) s (Runs s.words) (λ _. ([], refl)) (λ _. ([], refl))
-  act_runs s (PutGate a k which) = cond_both (is_actor a (s.gates k) && not (is_committing (s.words.actors a).place)) (gated s (put s.gates k None) (if is_open (s.words.actors a).place then put s.shadows a (copied c s (s.words.actors a).reads (s.shadows a) k which) else s.shadows)) s (Runs s.words) (λ _. ([], refl)) (λ _. ([], refl))
+  act_runs s (PutGate a k which) = cond_both (is_actor a (s.gates k) && not (is_committing (s.words.actors a).place)) (gated s (put s.gates k None) (if is_open (s.words.actors a).place then put s.shadows a (copied c s (s.words.actors a).calls (s.shadows a) k which) else s.shadows)) s (Runs s.words) (λ _. ([], refl)) (λ _. ([], refl))
   act_runs s (Accept a op) =
       let o : Out = c.outcome (changes c (s.shadows a).outcomes (s.shadows a).parts) op in
       let es = writes_asked a (s.shadows a).editions (c.writes o) in
-      cond_both (is_open (s.words.actors a).place && every (is_sound c s a) (c.reads o))
+      cond_both (is_open (s.words.actors a).place && (may_write (s.words.actors a).declared (c.writes o) && every (is_sound c s a) (c.reads o)))
       (worded s (run es s.words) (put s.shadows a (record { copied = (s.shadows a).copied; parts = (s.shadows a).parts; editions = (s.shadows a).editions; outcomes = (s.shadows a).outcomes ++ o ∷ [] })) s.history s.aborted) s (Runs s.words)
       (λ _. (es, refl)) (λ _. ([], refl))
   act_runs s (GoHome a k) = cond_both (is_actor a (s.gates k) && is_stored (s.words.actors a).place) (homed c s a k) s (Runs s.words) (λ _. ([], refl)) (λ _. ([], refl))

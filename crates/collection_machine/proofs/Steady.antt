@@ -1,23 +1,25 @@
 -- Steps and requests of the word machine that commit nothing: what they leave of an actor's transaction.
-use Rattle.std.proofs.Common.{◌≡◌, ℕ, eqb, leb, Option, Some, None, List, [], ◌∷◌, ◌++◌, ◌⊎◌, inl, inr, refl, sym, ap, ◌∙◌, subst}
-use Rattle.std.proofs.lemmas.Bool.{cases_eq, cond_both}
+use Rattle.std.proofs.Common.{◌≡◌, ℕ, true, false, eqb, leb, Option, Some, None, List, [], ◌∷◌, ◌++◌, ◌⊎◌, inl, inr, refl, sym, subst}
+use Rattle.std.proofs.lemmas.Bool.{cond_both}
 use Rattle.std.specs.Prelude.{unwrap_or, ◌+◌, nat_le, if◌then◌else◌}
 use Rattle.vlock_word.specs.declared.lock_word.LockWord.{LockWord}
 use Rattle.vlock_word.specs.declared.lock_word.LockWord.TheVariants.{Free, Locked}
 use Rattle.tx_sets.specs.Entries.{Entries, lookup, locations}
-use Rattle.word_machine.specs.Actor.{Read, Place, Idle, Begin, Open, Look, Fetch, Again, Lock, Take, Check, Broken, First, Store, Release, Undo, Leave, Close, Actor, goes, has_read, taken, stamped_at, freed}
-use Rattle.word_machine.specs.Requests.{Request, AskBegin, AskRead, AskWrite, AskLock, AskStore, AskRelease, AskCancel, AskAbort, AskClose, ask, read, lock, close, abort, replied}
+use Rattle.word_machine.specs.Actor.{Read, Place, Idle, Begin, Open, Look, Fetch, Again, Lock, Take, Check, Broken, First, Store, Release, Undo, Leave, Close, Actor, goes, has_read, taken, to_check, stamped_at, freed}
+use Rattle.word_machine.specs.Requests.{Request, AskBegin, AskBeginRead, AskRead, AskWrite, AskLock, AskStore, AskRelease, AskCancel, AskAbort, AskClose, ask, begin, read, lock, close, abort, replied}
 use Rattle.word_machine.specs.World.{Memory, put, Ended, World, now, step}
 use Rattle.word_machine.proofs.Worlds.{looked, looked_again, to_lock, locked, tried, checked, released, undone, gives_back}
 use Rattle.word_machine.specs.Opacity.{IsHalfDone}
-use Rattle.word_machine.proofs.Sets.{put-same, put-other, lookup-with_entry_other}
+use Rattle.word_machine.proofs.Sets.{put-same, put-other}
+use Rattle.word_machine.specs.Opacity.{first_read}
+use Rattle.word_machine.proofs.Calls.{first_read-more}
 use Rattle.word_machine.proofs.Frame.{next}
 use Rattle.word_machine.proofs.Invariant.{PlaceOk}
 use Rattle.collection_machine.proofs.Invariant.{IsFirst, IsRelease}
 
 -- What is left of a transaction.
 pub record SteadyTo (x y : Actor) : Type 0 where
-  pub reads : (l e : ℕ) → lookup x.reads l ≡ Some e → lookup y.reads l ≡ Some e
+  pub calls : (l e : ℕ) → first_read x.calls l ≡ Some e → first_read y.calls l ≡ Some e
   pub writes : y.writes ≡ x.writes
   pub half : IsHalfDone y.place → IsHalfDone x.place
   pub back : IsHalfDone x.place → IsHalfDone y.place ⊎ IsRelease x.place
@@ -41,12 +43,12 @@ pub calm : (p q : Place) → (IsHalfDone p → ⊥) → (IsHalfDone q → ⊥) �
 calm p q a b d e = record { half = λ h. absurd (b h); back = λ h. absurd (a h); first = λ h. absurd (d h); release = λ h. absurd (e h) }
 
 pub same_to : (x : Actor) → SteadyTo x x
-same_to x = record { reads = λ l e h. h; writes = refl; half = λ h. h; back = λ h. inl h; first = λ h. h; release = λ h. h }
+same_to x = record { calls = λ l e h. h; writes = refl; half = λ h. h; back = λ h. inl h; first = λ h. h; release = λ h. h }
 
 -- the same sets at another place
-pub moves_to : (x y : Actor) (p : Place) → x.place ≡ p → Calm p y.place → y.writes ≡ x.writes → ((l e : ℕ) → lookup x.reads l ≡ Some e → lookup y.reads l ≡ Some e) → SteadyTo x y
+pub moves_to : (x y : Actor) (p : Place) → x.place ≡ p → Calm p y.place → y.writes ≡ x.writes → ((l e : ℕ) → first_read x.calls l ≡ Some e → first_read y.calls l ≡ Some e) → SteadyTo x y
 moves_to x y p e k w r = record {
-  reads = r;
+  calls = r;
   writes = w;
   half = λ h. subst IsHalfDone (sym e) (k.half h);
   back = λ h. elim (k.back (subst IsHalfDone e h)) [ inl z ↦ inl z | inr z ↦ inr (subst IsRelease (sym e) z) ];
@@ -72,8 +74,8 @@ steady_none s a = record { history = refl; others = λ b ne. refl; own = same_to
 
 -- requests
 read_to : (x : Actor) (l : ℕ) (o seen : Option ℕ) → x.place ≡ Open → SteadyTo x (read x l o seen)
-read_to x l (Some v) seen e = moves_to x (replied x (Read l v)) Open e (calm Open Open (λ h. h) (λ h. h) (λ h. h) (λ h. h)) refl (λ i u h. h)
-read_to x l None (Some v) e = moves_to x (replied x (Read l v)) Open e (calm Open Open (λ h. h) (λ h. h) (λ h. h) (λ h. h)) refl (λ i u h. h)
+read_to x l (Some v) seen e = moves_to x (replied x (Read l v)) Open e (calm Open Open (λ h. h) (λ h. h) (λ h. h) (λ h. h)) refl (λ i u h. first_read-more x.calls (Read l v ∷ []) i u h)
+read_to x l None (Some v) e = moves_to x (replied x (Read l v)) Open e (calm Open Open (λ h. h) (λ h. h) (λ h. h) (λ h. h)) refl (λ i u h. first_read-more x.calls (Read l v ∷ []) i u h)
 read_to x l None None e = goes_to x Open (Look l) e (calm Open (Look l) (λ h. h) (λ h. h) (λ h. h) (λ h. h))
 
 lock_to : (x : Actor) (w : Entries) → x.place ≡ Open → SteadyTo x (lock x w)
@@ -96,7 +98,8 @@ IsFreeAsk AskRelease = ⊥
 IsFreeAsk r = Unit {0}
 
 pub ask_to : (x : Actor) (p : Place) (r : Request) → x.place ≡ p → IsFreeAsk r → SteadyTo x (ask x p r)
-ask_to x Idle AskBegin e f = goes_to x Idle Begin e (calm Idle Begin (λ h. h) (λ h. h) (λ h. h) (λ h. h))
+ask_to x Idle AskBegin e f = moves_to x (begin x false) Idle e (calm Idle Begin (λ h. h) (λ h. h) (λ h. h) (λ h. h)) refl (λ l u h. h)
+ask_to x Idle AskBeginRead e f = moves_to x (begin x true) Idle e (calm Idle Begin (λ h. h) (λ h. h) (λ h. h) (λ h. h)) refl (λ l u h. h)
 ask_to x Open (AskRead l) e f = read_to x l (lookup x.writes l) (lookup x.reads l) e
 ask_to x Open (AskWrite l v) e f = absurd f
 ask_to x Open AskLock e f = lock_to x x.writes e
@@ -140,10 +143,7 @@ again_steady : (s : World) (a l k v : ℕ) (w : LockWord) → (s.actors a).place
 again_steady s a l k v (Free j) e none =
     cond_both (eqb j k) (has_read (s.actors a) l v) (goes (s.actors a) Undo) (λ (z : Actor). Steady s a (now s a z))
     (λ _. steady s a (has_read (s.actors a) l v) (moves_to (s.actors a) (has_read (s.actors a) l v) (Again l k v) e (calm (Again l k v) Open (λ h. h) (λ h. h) (λ h. h) (λ h. h)) refl
-    (λ i u h. elim (cases_eq i l) [
-      | inl q ↦ (let z : Some u ≡ None = sym h ∙ ap (lookup (s.actors a).reads) q ∙ none in cc)
-      | inr ne ↦ lookup-with_entry_other (s.actors a).reads l v i ne ∙ h
-    ])))
+    (λ i u h. first_read-more (s.actors a).calls (Read l v ∷ []) i u h)))
     (λ _. to_undo s a (Again l k v) e (λ h. h))
 again_steady s a l k v (Locked j) e none = to_undo s a (Again l k v) e (λ h. h)
 
@@ -199,7 +199,7 @@ step_steady s a (Again l k u) e pl n = again_steady s a l k u (s.locks l) e pl.0
 step_steady s a (Lock []) e pl n =
     (let x = s.actors a in
     let y = stamped_at x (s.clock + 1) in
-    steady_next s a y (s.clock + 1) s.locks s.values s.aborted (moves_to x y (Lock []) e (calm (Lock []) (Check (locations x.reads)) (λ h. h) (λ h. h) (λ h. h) (λ h. h)) refl (λ i u h. h)))
+    steady_next s a y (s.clock + 1) s.locks s.values s.aborted (moves_to x y (Lock []) e (calm (Lock []) (Check (to_check x (s.clock + 1))) (λ h. h) (λ h. h) (λ h. h) (λ h. h)) refl (λ i u h. h)))
 step_steady s a (Lock (l ∷ ls)) e pl n = to_lock_steady s a l ls (s.locks l) e
 step_steady s a (Take l k ls) e pl n = tried_steady s a l k ls (s.locks l) e
 step_steady s a (Check []) e pl n = steady_none s a

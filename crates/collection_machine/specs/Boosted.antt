@@ -1,9 +1,10 @@
 -- Collections beside the word machine: gates, bases and shadows, and small guarded actions on them, each at most one atomic step.
 use Rattle.std.specs.Prelude.{ℕ, ◌+◌, Bool, true, false, ◌&&◌, ◌||◌, not, Option, Some, None, List, [], ◌∷◌, ◌++◌, ◌==◌, nat_lt, if◌then◌else◌}
-use Rattle.tx_sets.specs.Entries.{Entries, lookup, locations}
-use Rattle.word_machine.specs.Actor.{Place, Begin, Open, First, Store, Release, Actor, clock_limit}
+use Rattle.tx_sets.specs.Entries.{lookup, locations}
+use Rattle.word_machine.specs.Actor.{Call, Place, Begin, Open, First, Store, Release, Actor, clock_limit}
 use Rattle.word_machine.specs.Requests.{Request, AskStore, AskRelease, AskWrite, ask}
 use Rattle.word_machine.specs.World.{Memory, Record, Ended, World, Event, Ask, Step, Outcome, GoesOn, Commits, Aborts, put, comes_before, now, outcome, step, run, start}
+use Rattle.word_machine.specs.Opacity.{first_read}
 use Rattle.collection_machine.specs.Content.{Content}
 
 -- A committed transaction: the record of its words, where the editions of locations stand among them, and the outcomes of its calls.
@@ -73,6 +74,11 @@ abbrev pub every : (ℕ → Bool) → List ℕ → Bool
 every test [] = true
 every test (l ∷ ls) = test l && every test ls
 
+-- a declared reader writes nothing
+abbrev pub may_write : Bool → List ℕ → Bool
+may_write declared [] = true
+may_write declared (l ∷ ls) = not declared
+
 -- records by number, as those of the words are
 unfoldable pub insert_commit : {Out : Type 0} → Committed Out → List (Committed Out) → List (Committed Out)
 insert_commit c [] = c ∷ []
@@ -139,21 +145,21 @@ module _ {X Op Out : Type 0} (c : Content X Op Out) where
   take_gate s a k = if is_none (s.gates k) && not (is_committing (s.words.actors a).place) then gated s (put s.gates k (Some a)) s.shadows else s
 
   -- the locations that a copy of k takes: what has been read stays as it was copied
-  abbrev pub is_copied : Entries → ℕ → (ℕ → Bool) → ℕ → Bool
-  is_copied reads k which l = which l && (not (c.plain l) && (c.home l == k && is_none (lookup reads l)))
+  abbrev pub is_copied : List Call → ℕ → (ℕ → Bool) → ℕ → Bool
+  is_copied calls k which l = which l && (not (c.plain l) && (c.home l == k && is_none (first_read calls l)))
 
-  abbrev pub copied : Boosted X Out → Entries → Shadow X Out → ℕ → (ℕ → Bool) → Shadow X Out
-  copied s reads w k which =
+  abbrev pub copied : Boosted X Out → List Call → Shadow X Out → ℕ → (ℕ → Bool) → Shadow X Out
+  copied s calls w k which =
       record w {
-        copied = λ l. if is_copied reads k which l then true else w.copied l;
-        parts = λ l. if is_copied reads k which l then s.parts l else w.parts l;
-        editions = λ l. if is_copied reads k which l then s.editions l else w.editions l;
+        copied = λ l. if is_copied calls k which l then true else w.copied l;
+        parts = λ l. if is_copied calls k which l then s.parts l else w.parts l;
+        editions = λ l. if is_copied calls k which l then s.editions l else w.editions l;
       }
 
   abbrev pub put_gate : Boosted X Out → ℕ → ℕ → (ℕ → Bool) → Boosted X Out
   put_gate s a k which =
       if is_actor a (s.gates k) && not (is_committing (s.words.actors a).place)
-      then gated s (put s.gates k None) (if is_open (s.words.actors a).place then put s.shadows a (copied s (s.words.actors a).reads (s.shadows a) k which) else s.shadows)
+      then gated s (put s.gates k None) (if is_open (s.words.actors a).place then put s.shadows a (copied s (s.words.actors a).calls (s.shadows a) k which) else s.shadows)
       else s
 
   -- one change after another
@@ -163,11 +169,11 @@ module _ {X Op Out : Type 0} (c : Content X Op Out) where
 
   -- a location whose copied edition is the one that its word was read with
   abbrev pub is_sound : Boosted X Out → ℕ → ℕ → Bool
-  is_sound s a l = (s.shadows a).copied l && is_edition ((s.shadows a).editions l) (lookup (s.words.actors a).reads l)
+  is_sound s a l = (s.shadows a).copied l && is_edition ((s.shadows a).editions l) (first_read (s.words.actors a).calls l)
 
   abbrev pub accepted : Boosted X Out → ℕ → Out → Boosted X Out
   accepted s a o =
-      if is_open (s.words.actors a).place && every (is_sound s a) (c.reads o)
+      if is_open (s.words.actors a).place && (may_write (s.words.actors a).declared (c.writes o) && every (is_sound s a) (c.reads o))
       then record s { words = run (writes_asked a (s.shadows a).editions (c.writes o)) s.words; shadows = put s.shadows a (longer (s.shadows a) o) }
       else s
 

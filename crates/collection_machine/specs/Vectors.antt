@@ -1,7 +1,7 @@
 -- Schedules of actions, computed by the definitions: a word at location 0, and one collection of numbers at the others.
 use Rattle.std.specs.Prelude.{◌≡◌, ℕ, zero, suc, ◌+◌, true, false, Option, Some, None, List, [], ◌∷◌, ◌++◌, ◌==◌, refl}
 use Rattle.tx_sets.specs.Entries.{lookup, with_entry, locations}
-use Rattle.word_machine.specs.Requests.{Request, AskBegin, AskRead, AskWrite, AskLock, AskStore, AskRelease, AskCancel, AskAbort, AskClose}
+use Rattle.word_machine.specs.Requests.{Request, AskBegin, AskBeginRead, AskRead, AskWrite, AskLock, AskStore, AskRelease, AskCancel, AskAbort, AskClose}
 use Rattle.word_machine.specs.World.{put, comes_before, insert, Ask, Step}
 use Rattle.collection_machine.specs.Content.{Content}
 use Rattle.collection_machine.specs.Boosted.{Committed, Aborted, Action, OnWords, TakeGate, PutGate, Accept, GoHome, insert_commit}
@@ -143,3 +143,20 @@ begins_anew :
     ≡ record { history = (0, (Get 0, 0) ∷ []) ∷ []; aborted = (1, (Add 0 5, 0) ∷ []) ∷ []; word = 0; part = 0; edition = 0; value = 0; gate = None }
 unfolding lookup put with_entry locations comes_before insert insert_commit
 begins_anew = refl
+
+abbrev begin_read : ℕ → List (Action Op)
+begin_read a = asks a AskBeginRead ++ steps a 1
+
+-- a declared reader loads the location of each call, and no call of its is accepted that writes
+declared :
+    shown (begin_read 1 ++ copy 1 ++ answer 1 (Get 0) ++ answer 1 (Add 0 5) ++ answer 1 (Get 0) ++ asks 1 AskClose ++ steps 1 1)
+    ≡ record { history = (0, (Get 0, 0) ∷ (Get 0, 0) ∷ []) ∷ []; aborted = []; word = 0; part = 0; edition = 0; value = 0; gate = None }
+unfolding lookup put with_entry locations comes_before insert insert_commit
+declared = refl
+
+-- once another has committed there, it is moved
+declared_moved :
+    shown (begin_read 1 ++ copy 1 ++ answer 1 (Get 0) ++ begin 2 ++ copy 2 ++ answer 2 (Add 0 5) ++ prepare 2 1 ++ finish 2 1 ++ answer 1 (Get 0) ++ asks 1 AskAbort ++ steps 1 1)
+    ≡ record { history = (1, (Add 0 5, 0) ∷ []) ∷ []; aborted = (1, (Get 0, 0) ∷ []) ∷ []; word = 0; part = 5; edition = 1; value = 1; gate = None }
+unfolding lookup put with_entry locations comes_before insert insert_commit
+declared_moved = refl

@@ -2,9 +2,8 @@
 //!
 //! Each law is the contract of a function without parameters, whose body is empty.
 ghost use Rattle.std.specs.Prelude.{◌≡◌, ℕ, ◌+◌, false, Some, List};
-ghost use Rattle.tx_sets.specs.Entries.{lookup};
 ghost use Rattle.word_machine.specs.World.{Memory, Event};
-ghost use Rattle.word_machine.specs.Opacity.{IsInOrder, IsNoneHalfDone, IsRun, IsLegal, AllEnded, memory_after, memory_at, after_events};
+ghost use Rattle.word_machine.specs.Opacity.{IsInOrder, IsNoneHalfDone, IsRun, IsLegal, AllEnded, first_read, memory_after, memory_at, after_events};
 ghost use Rattle.collection_machine.specs.Content.{Content, Frame};
 ghost use Rattle.collection_machine.specs.Boosted.{Action, act_all};
 ghost use Rattle.collection_machine.specs.Serial.{
@@ -53,11 +52,11 @@ pub fn opacity<X, Op, Out>()
         let s = after_actions c clock memory parts actions in
         let t = act_all c later s in
         let rv = (s.words.actors a).rv in
-        c.plain l ≡ false → lookup (s.words.actors a).reads l ≡ Some e →
+        c.plain l ≡ false → first_read (s.words.actors a).calls l ≡ Some e →
         (e ≡ memory l + edition_at c t.history rv l) × (t.editions l ≡ e → t.parts l ≡ view c t.history rv parts l) }
     ensures accepted { (c : Content X Op Out) → Frame c → (clock : ℕ) (memory : Memory) (parts : ℕ → X) (actions : List (Action Op)) (a l : ℕ) →
         let s = after_actions c clock memory parts actions in
-        IsRead c l (s.shadows a).outcomes → lookup (s.words.actors a).reads l ≡ Some ((s.shadows a).editions l) }
+        IsRead c l (s.shadows a).outcomes → first_read (s.words.actors a).calls l ≡ Some ((s.shadows a).editions l) }
     ensures worlds { (c : Content X Op Out) (clock : ℕ) (memory : Memory) (parts : ℕ → X) (actions : List (Action Op)) →
         (events : List Event) × ((after_actions c clock memory parts actions).words ≡ after_events clock memory events) }
     ensures records { (c : Content X Op Out) → Frame c → (clock : ℕ) (memory : Memory) (parts : ℕ → X) (actions : List (Action Op)) →

@@ -94,7 +94,7 @@ no_such = refl
 
 -- want of memory between the locks and the first value store: the number is lost, and what was held goes back
 starved :
-    told (Does 1 request.Begin ∷ Does 3 request.Begin ∷ Does 1 (call (Put 5 1)) ∷ Asks 1 request.Commit ∷ Steps 1 5 ∷ Starves 1 ∷ Steps 1 99
+    told (Does 1 request.Begin ∷ Does 3 request.Begin ∷ Does 1 (call (Put 5 1)) ∷ Asks 1 request.Commit ∷ Steps 1 4 ∷ Starves 1 ∷ Steps 1 99
     ∷ Does 2 request.Begin ∷ Does 2 (call (Put 5 2)) ∷ Does 2 request.Commit ∷ Does 3 request.Commit ∷ []) a_map
     ≡ Begun 1 0 ∷ Begun 3 0 ∷ Replied 1 ∷ IsRefused 1 OutOfMemory ∷ Begun 2 1 ∷ Replied 2 ∷ Committed 2 2 ∷ Committed 3 0 ∷ []
 unfolding lookup put with_entry locations comes_before insert insert_commit
@@ -114,10 +114,10 @@ two_keys = refl
 abbrev word_and_map : World ℕ
 word_and_map = opened 1 (record { kind = MapKind; stripes = 1 } ∷ []) 0 (0 ∷ []) (Map empty ∷ [])
 
--- a call is five steps: the gate, the copy, three loads; the commit of a word and a location of a collection is twelve
-twelve_steps :
+-- a call is five steps: the gate, the copy, three loads; the commit of a word and a location of a collection that has nothing to check is eleven
+eleven_steps :
     told (Does 1 request.Begin ∷ Asks 1 (call (Put 5 1)) ∷ Steps 1 4 ∷ Asks 1 request.Abort ∷ Steps 1 1 ∷ Does 1 (request.Call (record { target = 0; op = Write 7 }))
-    ∷ Asks 1 request.Commit ∷ Steps 1 11 ∷ Asks 1 request.Abort ∷ Steps 1 1 ∷ []) word_and_map
+    ∷ Asks 1 request.Commit ∷ Steps 1 10 ∷ Asks 1 request.Abort ∷ Steps 1 1 ∷ []) word_and_map
     ≡ Begun 1 0 ∷ IsRefused 1 NotIdle ∷ Replied 1 ∷ Replied 1 ∷ IsRefused 1 NotIdle ∷ Committed 1 1 ∷ []
 unfolding lookup put with_entry locations comes_before insert insert_commit
-twelve_steps = refl
+eleven_steps = refl

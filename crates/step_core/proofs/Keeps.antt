@@ -1,5 +1,5 @@
 -- What an actor's own steps keep.
-use Rattle.std.proofs.Common.{Result, Ok, Err, OnOk, IsOk, Option, Some, None, zero, suc, [], ◌∷◌, ◌++◌, length, ◌≡◌, ℕ, ◌+◌, ◌<◌, ◌≤◌, ◌^◌, refl, ap, sym, subst, arith, ◌∙◌}
+use Rattle.std.proofs.Common.{Bool, true, false, Result, Ok, Err, OnOk, IsOk, Option, Some, None, zero, suc, [], ◌∷◌, ◌++◌, length, ◌≡◌, ℕ, ◌+◌, ◌<◌, ◌≤◌, ◌^◌, refl, ap, sym, subst, arith, ◌∙◌}
 use Rattle.std.specs.List.{All}
 use Rattle.std.specs.Prelude.{nat_lt, if◌then◌else◌}
 use Rattle.std.proofs.Common.{inl, inr, ltb, ltb-true}
@@ -7,6 +7,7 @@ use Rattle.std.proofs.lemmas.Bool.{cases_Bool, cond-false}
 use Rattle.step_core.specs.declared.answer.WordRefusal.TheVariants.{TooLong}
 use Rattle.tx_sets.specs.Entries.{Entries, IsRising, lookup, with_entry}
 use Rattle.tx_sets.proofs.EntryLemmas.{All-with_entry, IsRising-with_entry, length-with_entry_new, length-with_entry_there}
+use Rattle.word_machine.specs.Actor.{with_read}
 use Rattle.step_core.specs.Phases.{if_new}
 use Rattle.std.specs.VecDeque.{deque_len, deque_capacity}
 use Rattle.std.proofs.lemmas.List.Elements.{All-append}
@@ -38,21 +39,34 @@ place_left es l h e = below (length es) (subst (λ (o : Option ℕ). if_new o No
     ]
 
 pub lock_keeps : (x : Actor) (l k i : ℕ) → x.place ≡ Lock i → i < length x.writes.entries → ((n : ℕ) → Fits n x → l < n) → k < 2 ^ 63
-    → Keeps x (record { place = Take l k (i + 1); rv = x.rv; wv = x.wv; reads = x.reads; writes = x.writes; held = x.held; calls = x.calls; ready = x.ready })
+    → Keeps x (record { place = Take l k (i + 1); declared = x.declared; rv = x.rv; wv = x.wv; reads = x.reads; writes = x.writes; held = x.held; calls = x.calls; ready = x.ready })
 lock_keeps x l k i at_p inn below small = record {
   fits = λ n f. record { reads = f.reads; writes = f.writes; reads_rise = f.reads_rise; writes_rise = f.writes_rise; reads_few = f.reads_few; writes_few = f.writes_few; held = f.held; wv = f.wv; place = (below n f, small, omega (arith, subst (FitsPlace n x) at_p f.place, inn)) };
   owed = (let q = ap owed at_p in omega (arith, q));
   due = (let q = ap due at_p in omega (arith, q));
 }
 
-pub read_keeps : (x y : Actor) (l k v : ℕ) → x.place ≡ Again l k v → y.place ≡ Open → y.wv ≡ x.wv → y.reads.entries ≡ with_entry x.reads.entries l v → y.writes.entries ≡ x.writes.entries → y.held.items ≡ x.held.items → Keeps x y
+-- a read set with one read more, or, of a declared reader, as it was
+All-with_read : (P : ℕ × ℕ → Type 0) (declared : Bool) (es : Entries) (l v : ℕ) → P (l, v) → All P es → All P (with_read declared es l v)
+All-with_read P true es l v p a = a
+All-with_read P false es l v p a = All-with_entry P es l v p a
+
+IsRising-with_read : (declared : Bool) (es : Entries) (l v : ℕ) → IsRising es → IsRising (with_read declared es l v)
+IsRising-with_read true es l v r = r
+IsRising-with_read false es l v r = IsRising-with_entry es l v r
+
+few-with_read : (declared : Bool) (es : Entries) (l v : ℕ) → IsRising es → length es ≤ 4096 → length es < 4096 → length (with_read declared es l v) ≤ 4096
+few-with_read true es l v rise few room = few
+few-with_read false es l v rise few room = few-with_entry es l v rise few (λ _. room)
+
+pub read_keeps : (x y : Actor) (l k v : ℕ) → x.place ≡ Again l k v → y.place ≡ Open → y.wv ≡ x.wv → y.reads.entries ≡ with_read x.declared x.reads.entries l v → y.writes.entries ≡ x.writes.entries → y.held.items ≡ x.held.items → Keeps x y
 read_keeps x y l k v at_p at_q wv rs ws hs = record {
   fits = λ n f. (let pl = subst (FitsPlace n x) at_p f.place in record {
-    reads = subst (All (λ (e : ℕ × ℕ). e.0 < n)) (sym rs) (All-with_entry (λ (e : ℕ × ℕ). e.0 < n) x.reads.entries l v pl.0 f.reads);
+    reads = subst (All (λ (e : ℕ × ℕ). e.0 < n)) (sym rs) (All-with_read (λ (e : ℕ × ℕ). e.0 < n) x.declared x.reads.entries l v pl.0 f.reads);
     writes = subst (All (λ (e : ℕ × ℕ). e.0 < n)) (sym ws) f.writes;
-    reads_rise = subst IsRising (sym rs) (IsRising-with_entry x.reads.entries l v f.reads_rise);
+    reads_rise = subst IsRising (sym rs) (IsRising-with_read x.declared x.reads.entries l v f.reads_rise);
     writes_rise = subst IsRising (sym ws) f.writes_rise;
-    reads_few = subst (λ (es : Entries). length es ≤ 4096) (sym rs) (few-with_entry x.reads.entries l v f.reads_rise f.reads_few (λ _. pl.2));
+    reads_few = subst (λ (es : Entries). length es ≤ 4096) (sym rs) (few-with_read x.declared x.reads.entries l v f.reads_rise f.reads_few pl.2);
     writes_few = subst (λ (es : Entries). length es ≤ 4096) (sym ws) f.writes_few;
     held = subst (All (λ (e : ℕ × ℕ). (e.0 < n) × (e.1 < 2 ^ 63))) (sym hs) f.held;
     wv = subst (λ (z : ℕ). z < 2 ^ 63) (sym wv) f.wv;

@@ -1,12 +1,12 @@
 -- Steps of the running words are steps of the machine.
-use Rattle.std.proofs.Common.{◌≡◌, ◌⊎◌, ℕ, zero, suc, ◌+◌, ◌<◌, ◌≤◌, ◌^◌, List, [], ◌∷◌, ◌++◌, Some, None, Ok, Err, IfOk, OnErr, Option, Result, length, map, get_or, set, refl, sym, ap, ◌∙◌, subst, inl, inr, arith, drop, Bool, true, false, ltb, ltb-true, eqb, eq-eqb, ne_eqb, ◌*◌, get_or-set_same, get_or-set_other}
+use Rattle.std.proofs.Common.{◌≡◌, ◌⊎◌, ℕ, zero, suc, ◌+◌, ◌-◌, ◌<◌, ◌≤◌, ◌^◌, List, [], ◌∷◌, ◌++◌, Some, None, Ok, Err, IfOk, OnErr, Option, Result, length, map, get_or, set, refl, sym, ap, ◌∙◌, subst, inl, inr, arith, drop, Bool, true, false, ltb, ltb-true, eqb, eq-eqb, ne_eqb, ◌*◌, get_or-set_same, get_or-set_other}
 use Rattle.std.specs.Prelude.{unwrap_or, slice_get, slice_set, nat_lt, if◌then◌else◌}
 use Rattle.std.specs.Vec.{vec_len, vec_capacity, with_item}
 use Rattle.std.specs.List.{All}
 use Rattle.std.proofs.lemmas.List.{map-set}
 use Rattle.std.proofs.lemmas.List.Elements.{All-set}
 use Rattle.std.proofs.lemmas.Option.{get_or_from_slice_get}
-use Rattle.std.proofs.lemmas.Bool.{cases_eq, cond-true, cond-false}
+use Rattle.std.proofs.lemmas.Bool.{cases_Bool, cases_eq, cond-true, cond-false}
 use Rattle.word_machine.specs.Actor as machine
 use Rattle.word_machine.proofs.Worlds.{stored, left, gives_back, commits, released, undone, closed, stamped, first}
 use Rattle.tx_sets.specs.Entries.{Entries, IsRising}
@@ -17,17 +17,18 @@ use Rattle.vlock_word.specs.declared.lock_word.LockWord.TheVariants.{Free, Locke
 use Rattle.vlock_word.specs.LockWord.{bits}
 use Rattle.tx_sets.specs.Entries.{locations, lookup}
 use Rattle.word_machine.specs.Actor.{goes}
-use Rattle.word_machine.specs.Requests.{ask, AskBegin, AskLock, AskStore, AskRelease, AskCancel, AskAbort, AskClose, AskRead, AskWrite}
+use Rattle.word_machine.specs.Requests.{ask}
 use Rattle.word_machine.specs.World.{World, Ask, Event, Step, Outcome, GoesOn, outcome, first_outcome, happens, run, start, step, put, now}
 use Rattle.word_machine.proofs.Worlds.{tried, locked, looked, looked_again, to_lock, checked}
 use Rattle.word_machine.specs.Notices.{Notice, LockedAt, Quiet, Busy, NoTransaction, Stored, Released, Cancelled, last_notice, take_notice, when_none_left, reply, notice, look_notice, again_notice, lock_notice, check_notice}
 use Rattle.word_machine.proofs.Sets.{put-same, put-other}
 use Rattle.vlock_word.specs.LockWord.{unbits}
-use Rattle.word_machine.specs.Actor.{begun, seen, stamped_at, taken, freed, after_release, seen_again, seen_to_lock, seen_in_check}
+use Rattle.word_machine.specs.Actor.{begun, seen, to_check, stamped_at, taken, freed, after_release, seen_again, seen_to_lock, seen_in_check}
 use Rattle.word_machine.specs.World.{in_order}
 use Rattle.word_machine.specs.Notices.{begin_notice}
 use Rattle.word_machine.specs.World.{blank}
 use Rattle.step_core.specs.Answers.{result_of}
+use Rattle.step_core.specs.Phases.{opens}
 use Rattle.step_core.specs.Shown.{place_of, actor_of, call_of, record_of, Shown, shown, Shows, Steps, Asks, Lists, listed, Reached}
 use Rattle.step_core.specs.Sound.{FitsPlace, Fits, Keeps, owed, due, total, Sound}
 use Rattle.step_core.specs.declared.answer.WordAnswer.TheVariants as answer
@@ -202,6 +203,13 @@ drop_end [] i h = drop_nil i
 drop_end (e ∷ es) zero h = absurd (omega (arith, h))
 drop_end (e ∷ es) (suc i) h = drop_end es i (omega (arith, h))
 
+-- what a commit has to check
+pub quick : (x : Actor) (i wv : ℕ) → x.rv ≡ wv - 1 → 0 < wv → i ≡ length x.reads.entries → drop i (locations x.reads.entries) ≡ to_check (actor_of x) wv
+quick x i wv e some n = drop_end x.reads.entries i (omega (arith, n)) ∙ sym (cond-true (eqb (x.rv + 1) wv) [] (locations x.reads.entries) (eq-eqb (x.rv + 1) wv (omega (arith, e, some))))
+
+pub slow : (x : Actor) (wv : ℕ) → (x.rv ≡ wv - 1 → ⊥) → locations x.reads.entries ≡ to_check (actor_of x) wv
+slow x wv ne = sym (cond-false (eqb (x.rv + 1) wv) [] (locations x.reads.entries) (ne_eqb (x.rv + 1) wv (λ q. ne (omega (arith, q)))))
+
 -- nothing is left behind the last
 pub none_left : (es : Entries) (i : ℕ) (n : Notice) → length es ≤ i → when_none_left (drop i (locations es)) n ≡ n
 none_left es i n h = ap (λ (z : List ℕ). when_none_left z n) (drop_end es i h)
@@ -241,12 +249,12 @@ abbrev pub ticked : Machine → ℕ → Actor → Machine
 ticked w a y = record { clock = w.clock + 1; locks = w.locks; values = w.values; actors = with_item w.actors a y; history = w.history }
 
 pub stamp_steps : (w : Machine) (a : ℕ) (x y : Actor) (r : Answer) (i : ℕ) → slice_get w.actors.items a ≡ Some x → x.place ≡ Lock i → length x.writes.entries ≤ i
-    → actor_of y ≡ stamped_at (actor_of x) (w.clock + 1) → r ≡ result_of (when_none_left x.reads.entries (LockedAt (w.clock + 1))) → Steps (shown w) a (shown (ticked w a y)) r
+    → actor_of y ≡ stamped_at (actor_of x) (w.clock + 1) → r ≡ result_of (when_none_left (to_check (actor_of x) (w.clock + 1)) (LockedAt (w.clock + 1))) → Steps (shown w) a (shown (ticked w a y)) r
 stamp_steps w a x y r i got at_p out own says = steps_next w (ticked w a y) a x (Lock i) r got at_p (refl, refl) (λ s h. (
   subst (λ (ls : List ℕ). Shows (shown (ticked w a y)) (step s a (actor_of x) (machine.Lock ls))) (sym (drop_end x.writes.entries i out))
       (shows_next w (ticked w a y) s (stamped s a (actor_of x)) a y h (inside w.actors.items a x got) refl
       (ap (λ (n : ℕ). put s.actors a (stamped_at (actor_of x) (n + 1))) h.clock ∙ ap (put s.actors a) (sym own)) (ap (λ (n : ℕ). n + 1) h.clock) h.locks h.values h.history),
-  says ∙ ap (λ (n : ℕ). result_of (when_none_left x.reads.entries (LockedAt (n + 1)))) (sym h.clock) ∙ ap (λ (ls : List ℕ). result_of (notice s (actor_of x) (machine.Lock ls))) (sym (drop_end x.writes.entries i out)),
+  says ∙ ap (λ (n : ℕ). result_of (when_none_left (to_check (actor_of x) (n + 1)) (LockedAt (n + 1)))) (sym h.clock) ∙ ap (λ (ls : List ℕ). result_of (notice s (actor_of x) (machine.Lock ls))) (sym (drop_end x.writes.entries i out)),
 ))
 
 pub sound_ticked : (w : Machine) (a : ℕ) (x y : Actor) → Sound w → slice_get w.actors.items a ≡ Some x → ((n : ℕ) → Fits n x → Fits n y) → owed x.place ≡ 1 → owed y.place ≡ 0 → due x.place ≡ 1 → due y.place ≤ 1 → Sound (ticked w a y)
@@ -326,9 +334,9 @@ take_steps w a x y l k i word got at_p inn found free own = steps_next w (relock
     )))
 
 broken : Actor → Actor
-broken x = record { place = Broken; rv = x.rv; wv = x.wv; reads = x.reads; writes = x.writes; held = x.held; calls = x.calls; ready = x.ready }
+broken x = record { place = Broken; declared = x.declared; rv = x.rv; wv = x.wv; reads = x.reads; writes = x.writes; held = x.held; calls = x.calls; ready = x.ready }
 
-pub broken_keeps : (x : Actor) (l k i : ℕ) → x.place ≡ Take l k i → Keeps x (record { place = Broken; rv = x.rv; wv = x.wv; reads = x.reads; writes = x.writes; held = x.held; calls = x.calls; ready = x.ready })
+pub broken_keeps : (x : Actor) (l k i : ℕ) → x.place ≡ Take l k i → Keeps x (record { place = Broken; declared = x.declared; rv = x.rv; wv = x.wv; reads = x.reads; writes = x.writes; held = x.held; calls = x.calls; ready = x.ready })
 broken_keeps x l k i at_p = record { fits = λ n f. record { reads = f.reads; writes = f.writes; reads_rise = f.reads_rise; writes_rise = f.writes_rise; reads_few = f.reads_few; writes_few = f.writes_few; held = f.held; wv = f.wv; place = tt }; owed = omega arith; due = (let q = ap due at_p in omega (arith, q)) }
 
 lost : (s : World) (a : ℕ) (x : machine.Actor) (l k : ℕ) (ls : List ℕ) (w : LockWord) → (bits w ≡ 2 * k → ⊥) → (tried s a x l k ls w ≡ now s a (goes x machine.Broken)) × (take_notice l k w ≡ Busy l (bits w))
@@ -339,9 +347,9 @@ lost s a x l k ls (Free j) ne = (
 lost s a x l k ls (Locked j) ne = (refl, refl)
 
 pub lose_steps : (w : Machine) (a : ℕ) (x : Actor) (l k i word : ℕ) → slice_get w.actors.items a ≡ Some x → x.place ≡ Take l k i → get_or w.locks.items l 0 ≡ word → (word ≡ 2 * k → ⊥)
-    → Steps (shown w) a (shown (moved w a (record { place = Broken; rv = x.rv; wv = x.wv; reads = x.reads; writes = x.writes; held = x.held; calls = x.calls; ready = x.ready }))) (Err (refusal.Busy l word))
+    → Steps (shown w) a (shown (moved w a (record { place = Broken; declared = x.declared; rv = x.rv; wv = x.wv; reads = x.reads; writes = x.writes; held = x.held; calls = x.calls; ready = x.ready }))) (Err (refusal.Busy l word))
 lose_steps w a x l k i word got at_p found ne =
-    let y : Actor = record { place = Broken; rv = x.rv; wv = x.wv; reads = x.reads; writes = x.writes; held = x.held; calls = x.calls; ready = x.ready } in
+    let y : Actor = record { place = Broken; declared = x.declared; rv = x.rv; wv = x.wv; reads = x.reads; writes = x.writes; held = x.held; calls = x.calls; ready = x.ready } in
     let ls = drop i (locations x.writes.entries) in
     steps_moved w a x y (Take l k i) (Err (refusal.Busy l word)) got at_p
     (λ s h. ap (tried s a (actor_of x) l k ls) (h.locks l ∙ ap unbits found) ∙ (lost s a (actor_of x) l k ls (unbits word) (λ q. ne (sym (bits_unbits word) ∙ q))).0)
@@ -359,13 +367,13 @@ sound_locked w a x y l n v got k =
     length_set (z ∷ zs) (suc i) v = ap suc (length_set zs i v)
 
 pub leave_steps : (w : Machine) (a : ℕ) (x : Actor) → slice_get w.actors.items a ≡ Some x → x.place ≡ Leave
-    → Steps (shown w) a (shown (moved w a (record { place = Idle; rv = x.rv; wv = x.wv; reads = x.reads; writes = x.writes; held = x.held; calls = x.calls; ready = x.ready }))) (Ok (Some answer.Ended))
+    → Steps (shown w) a (shown (moved w a (record { place = Idle; declared = x.declared; rv = x.rv; wv = x.wv; reads = x.reads; writes = x.writes; held = x.held; calls = x.calls; ready = x.ready }))) (Ok (Some answer.Ended))
 leave_steps w a x got at_p =
-    let y : Actor = record { place = Idle; rv = x.rv; wv = x.wv; reads = x.reads; writes = x.writes; held = x.held; calls = x.calls; ready = x.ready } in
+    let y : Actor = record { place = Idle; declared = x.declared; rv = x.rv; wv = x.wv; reads = x.reads; writes = x.writes; held = x.held; calls = x.calls; ready = x.ready } in
     steps_next w (moved w a y) a x Leave (Ok (Some answer.Ended)) got at_p (refl, refl)
     (λ s h. (shows_next w (moved w a y) s (left s a (actor_of x)) a y h (inside w.actors.items a x got) refl refl h.clock h.locks h.values h.history, refl))
 
-pub idle_keeps : (x : Actor) → Keeps x (record { place = Idle; rv = x.rv; wv = x.wv; reads = x.reads; writes = x.writes; held = x.held; calls = x.calls; ready = x.ready })
+pub idle_keeps : (x : Actor) → Keeps x (record { place = Idle; declared = x.declared; rv = x.rv; wv = x.wv; reads = x.reads; writes = x.writes; held = x.held; calls = x.calls; ready = x.ready })
 idle_keeps x = record { fits = λ n f. record { reads = f.reads; writes = f.writes; reads_rise = f.reads_rise; writes_rise = f.writes_rise; reads_few = f.reads_few; writes_few = f.writes_few; held = f.held; wv = f.wv; place = tt }; owed = omega arith; due = omega arith }
 
 -- a resting place takes no step
@@ -573,7 +581,7 @@ pub due_here : (w : Machine) (a : ℕ) (x : Actor) → slice_get w.actors.items 
 due_here w a x got v one = omega (arith, v.room, total-set due w.actors.items a x (idle x) got, one)
   where
     idle : Actor → Actor
-    idle x = record { place = Idle; rv = x.rv; wv = x.wv; reads = x.reads; writes = x.writes; held = x.held; calls = x.calls; ready = x.ready }
+    idle x = record { place = Idle; declared = x.declared; rv = x.rv; wv = x.wv; reads = x.reads; writes = x.writes; held = x.held; calls = x.calls; ready = x.ready }
 
 pub sound_recorded : (w t : Machine) (a : ℕ) (x y : Actor) → Sound w → slice_get w.actors.items a ≡ Some x → ((n : ℕ) → Fits n x → Fits n y) → due x.place ≡ 1 → owed x.place ≡ 0 → due y.place ≡ 0 → owed y.place ≡ 0
     → t.clock ≡ w.clock → t.locks.items ≡ w.locks.items → length t.values.items ≡ length w.values.items → t.actors.items ≡ slice_set w.actors.items a y → vec_len t.history ≡ vec_len w.history + 1 → vec_capacity t.history ≡ vec_capacity w.history → Sound t
@@ -660,20 +668,12 @@ due_one Undo = omega arith
 due_one Leave = omega arith
 due_one Close = omega arith
 
-is_begin : (q : Request) → (q ≡ AskBegin) ⊎ (q ≡ AskBegin → ⊥)
-is_begin AskBegin = inl refl
-is_begin AskLock = inr (λ e. let b : ⊥ = cc in b)
-is_begin AskStore = inr (λ e. let b : ⊥ = cc in b)
-is_begin AskRelease = inr (λ e. let b : ⊥ = cc in b)
-is_begin AskCancel = inr (λ e. let b : ⊥ = cc in b)
-is_begin AskAbort = inr (λ e. let b : ⊥ = cc in b)
-is_begin AskClose = inr (λ e. let b : ⊥ = cc in b)
-is_begin (AskRead l) = inr (λ e. let b : ⊥ = cc in b)
-is_begin (AskWrite l v) = inr (λ e. let b : ⊥ = cc in b)
+is_begin : (q : Request) → (opens q ≡ true) ⊎ (opens q ≡ false)
+is_begin q = cases_Bool (opens q)
 
 -- a begin makes room for a record of each actor, and no other request makes one due
 pub sound_asked : (w t : Machine) (a : ℕ) (x y : Actor) (q : Request) → Sound w → slice_get w.actors.items a ≡ Some x → (Fits (length w.locks.items) x → Fits (length w.locks.items) y) → owed y.place ≤ owed x.place
-    → ((q ≡ AskBegin → ⊥) → due y.place ≤ due x.place) → (q ≡ AskBegin → vec_len t.history + 65 ≤ vec_capacity t.history) → t.clock ≡ w.clock → t.locks.items ≡ w.locks.items → t.values.items ≡ w.values.items
+    → (opens q ≡ false → due y.place ≤ due x.place) → (opens q ≡ true → vec_len t.history + 65 ≤ vec_capacity t.history) → t.clock ≡ w.clock → t.locks.items ≡ w.locks.items → t.values.items ≡ w.values.items
     → t.actors.items ≡ slice_set w.actors.items a y → vec_len t.history ≡ vec_len w.history → vec_capacity w.history ≤ vec_capacity t.history → Sound t
 sound_asked w t a x y q v got fits owe dues room_ c ls vs xs len most =
     let n : length t.locks.items ≡ length w.locks.items = ap (λ (z : List ℕ). length z) ls in

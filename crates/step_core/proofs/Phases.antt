@@ -1,9 +1,9 @@
 -- The phase of an actor, and what a request that is not refused says of it.
 use Rattle.std.proofs.Common.{◌≡◌, ℕ, ◌<◌, ◌≤◌, Bool, true, false, Option, Some, None, List, [], ◌∷◌, length, refl, sym, ap, ◌∙◌, subst, drop, ltb-true, leb-true, arith, true≢false}
-use Rattle.std.specs.Prelude.{nat_lt, nat_le, ◌&&◌, if◌then◌else◌, slice_get}
+use Rattle.std.specs.Prelude.{nat_lt, nat_le, not, ◌&&◌, if◌then◌else◌, slice_get}
 use Rattle.tx_sets.specs.Entries.{Entries, lookup, locations}
 use Rattle.word_machine.specs.Actor as machine
-use Rattle.word_machine.specs.Requests.{Request, AskBegin, AskLock, AskStore, AskRelease, AskCancel, AskAbort, AskClose, AskRead, AskWrite}
+use Rattle.word_machine.specs.Requests.{Request, AskBegin, AskBeginRead, AskLock, AskStore, AskRelease, AskCancel, AskAbort, AskClose, AskRead, AskWrite}
 use Rattle.step_core.specs.Phases.{phase_of, allows, undo_phase, wrong_phase, location_refusal, if_new, refusal_at}
 use Rattle.step_core.specs.Shown.{place_of, actor_of, Shown, shown, actor_in, is_actor, refusal_of}
 use Rattle.step_core.specs.Sound.{IsWithin}
@@ -95,8 +95,9 @@ allowed_here w a x q got h = subst (λ (z : machine.Actor). allows (phase_of z z
 
 pub within_of : (n : ℕ) (x : machine.Actor) (q : Request) → location_refusal n x q ≡ None → IsWithin n q
 within_of n x (AskRead l) h = ltb-true l n (if_none (nat_lt l n) (if_new (lookup x.writes l) (lookup x.reads l) x.reads) NoSuch h).0
-within_of n x (AskWrite l v) h = ltb-true l n (if_none (nat_lt l n) (if_new (lookup x.writes l) None x.writes) NoSuch h).0
+within_of n x (AskWrite l v) h = ltb-true l n (both_true (nat_lt l n) (not x.declared) (if_none (nat_lt l n && not x.declared) (if_new (lookup x.writes l) None x.writes) NoSuch h).0).0
 within_of n x AskBegin h = tt
+within_of n x AskBeginRead h = tt
 within_of n x AskLock h = tt
 within_of n x AskStore h = tt
 within_of n x AskRelease h = tt
@@ -114,4 +115,12 @@ pub read_limit : (n : ℕ) (x : machine.Actor) (l : ℕ) → location_refusal n 
 read_limit n x l h = (if_none (nat_lt l n) (if_new (lookup x.writes l) (lookup x.reads l) x.reads) NoSuch h).1
 
 pub write_limit : (n : ℕ) (x : machine.Actor) (l v : ℕ) → location_refusal n x (AskWrite l v) ≡ None → if_new (lookup x.writes l) None x.writes ≡ None
-write_limit n x l v h = (if_none (nat_lt l n) (if_new (lookup x.writes l) None x.writes) NoSuch h).1
+write_limit n x l v h = (if_none (nat_lt l n && not x.declared) (if_new (lookup x.writes l) None x.writes) NoSuch h).1
+
+-- only a transaction that is no declared reader writes
+pub write_writer : (n : ℕ) (x : machine.Actor) (l v : ℕ) → location_refusal n x (AskWrite l v) ≡ None → x.declared ≡ false
+write_writer n x l v h = not_true x.declared (both_true (nat_lt l n) (not x.declared) (if_none (nat_lt l n && not x.declared) (if_new (lookup x.writes l) None x.writes) NoSuch h).0).1
+  where
+    not_true : (b : Bool) → not b ≡ true → b ≡ false
+    not_true true h = no false refl h
+    not_true false h = refl

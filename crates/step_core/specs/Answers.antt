@@ -1,10 +1,10 @@
 -- The requests, answers and refusals of the code, and those of the machine.
 use Rattle.std.specs.Prelude.{Option, Some, None, Result, Ok, Err}
-use Rattle.word_machine.specs.Requests.{Request, AskBegin, AskLock, AskStore, AskRelease, AskCancel, AskAbort, AskClose, AskRead, AskWrite}
+use Rattle.word_machine.specs.Requests.{Request, AskBegin, AskBeginRead, AskLock, AskStore, AskRelease, AskCancel, AskAbort, AskClose, AskRead, AskWrite}
 use Rattle.word_machine.specs.Notices as notice
 use Rattle.word_machine.specs.Notices.{Notice}
 use Rattle.step_core.specs.declared.answer.WordRequest.{WordRequest}
-use Rattle.step_core.specs.declared.answer.WordRequest.TheVariants.{Begin, Read, Write, Lock, Store, Release, Cancel, Abort, Close}
+use Rattle.step_core.specs.declared.answer.WordRequest.TheVariants.{Begin, BeginRead, Read, Write, Lock, Store, Release, Cancel, Abort, Close}
 use Rattle.step_core.specs.declared.answer.WordAnswer.{WordAnswer}
 use Rattle.step_core.specs.declared.answer.WordAnswer.TheVariants as answer
 use Rattle.step_core.specs.declared.answer.WordRefusal.{WordRefusal}
@@ -13,6 +13,7 @@ use Rattle.step_core.specs.declared.answer.WordRefusal.TheVariants as refusal
 -- what the machine is asked
 abbrev pub request_of : WordRequest → Request
 request_of Begin = AskBegin
+request_of BeginRead = AskBeginRead
 request_of (Read l) = AskRead l
 request_of (Write l v) = AskWrite l v
 request_of Lock = AskLock

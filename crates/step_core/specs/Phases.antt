@@ -1,9 +1,9 @@
 -- Which requests an actor may be asked where it stands, and why the others are refused.
-use Rattle.std.specs.Prelude.{ℕ, Bool, true, false, Option, Some, None, [], ◌∷◌, length, nat_lt, if◌then◌else◌}
+use Rattle.std.specs.Prelude.{ℕ, Bool, true, false, Option, Some, None, [], ◌∷◌, length, nat_lt, not, ◌&&◌, if◌then◌else◌}
 use Rattle.tx_sets.specs.Entries.{Entries, lookup}
 use Rattle.word_machine.specs.Actor.{Place, Actor}
 use Rattle.word_machine.specs.Actor as machine
-use Rattle.word_machine.specs.Requests.{Request, AskBegin, AskLock, AskStore, AskRelease, AskCancel, AskAbort, AskClose, AskRead, AskWrite}
+use Rattle.word_machine.specs.Requests.{Request, AskBegin, AskBeginRead, AskLock, AskStore, AskRelease, AskCancel, AskAbort, AskClose, AskRead, AskWrite}
 use Rattle.step_core.specs.declared.phase.Phase.{Phase}
 use Rattle.step_core.specs.declared.phase.Phase.TheVariants.{Idle, Reader, Writer, Waiting, Locking, Locked, Broken, Stored, Ended, Busy}
 use Rattle.step_core.specs.declared.answer.WordRefusal.{WordRefusal}
@@ -43,6 +43,7 @@ phase_of x machine.Close = Waiting
 -- what may be asked
 abbrev pub allows : Phase → Request → Bool
 allows Idle AskBegin = true
+allows Idle AskBeginRead = true
 allows Reader (AskRead l) = true
 allows Reader (AskWrite l v) = true
 allows Reader AskClose = true
@@ -66,7 +67,14 @@ wrong_phase Waiting request = NotIdle
 wrong_phase Locking request = NotIdle
 wrong_phase Busy request = NotIdle
 wrong_phase phase AskBegin = NotIdle
+wrong_phase phase AskBeginRead = NotIdle
 wrong_phase phase request = NoTransaction
+
+-- what opens a transaction
+abbrev pub opens : Request → Bool
+opens AskBegin = true
+opens AskBeginRead = true
+opens request = false
 
 -- what gives back or ends takes no memory
 abbrev pub takes_memory : Request → Bool
@@ -89,10 +97,10 @@ if_new (Some v) seen es = None
 if_new None (Some v) es = None
 if_new None None es = if_full es
 
--- why a read or a write is refused, with n locations
+-- why a read or a write is refused, with n locations; a declared reader has no write
 abbrev pub location_refusal : ℕ → Actor → Request → Option WordRefusal
 location_refusal n x (AskRead l) = if nat_lt l n then if_new (lookup x.writes l) (lookup x.reads l) x.reads else Some NoSuch
-location_refusal n x (AskWrite l v) = if nat_lt l n then if_new (lookup x.writes l) None x.writes else Some NoSuch
+location_refusal n x (AskWrite l v) = if nat_lt l n && not x.declared then if_new (lookup x.writes l) None x.writes else Some NoSuch
 location_refusal n x request = None
 
 -- why a request is refused at a place, memory aside

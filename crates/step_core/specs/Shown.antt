@@ -49,6 +49,7 @@ abbrev pub actor_of : Actor → machine.Actor
 actor_of x =
     record {
       place = place_of x.reads.entries x.writes.entries x.place;
+      declared = x.declared;
       rv = x.rv;
       wv = x.wv;
       reads = x.reads.entries;

@@ -7,9 +7,9 @@ ghost use Rattle.std.specs.Prelude.{◌≡◌, ◌≢◌, ℕ, ◌+◌, ◌^◌,
 ghost use Rattle.std.specs.Vec.{vec_len, vec_capacity};
 ghost use Rattle.std.specs.VecDeque.{deque_len, deque_capacity};
 ghost use Rattle.vlock_word.specs.LockWord.{unbits};
-ghost use Rattle.tx_sets.specs.Entries.{lookup, with_entry, locations};
+ghost use Rattle.tx_sets.specs.Entries.{lookup, locations};
 ghost use Rattle.word_machine.specs.Actor as machine;
-ghost use Rattle.word_machine.specs.Actor.{goes, begun, seen, seen_again, seen_to_lock, taken, stamped_at, seen_in_check, freed, after_release};
+ghost use Rattle.word_machine.specs.Actor.{goes, begun, with_read, seen, seen_again, seen_to_lock, taken, to_check, stamped_at, seen_in_check, freed, after_release};
 ghost use Rattle.word_machine.specs.Notices as notice;
 ghost use Rattle.word_machine.specs.Notices.{begin_notice, look_notice, again_notice, lock_notice, check_notice, when_none_left};
 ghost use Rattle.step_core.specs.Answers.{result_of};
@@ -58,6 +58,8 @@ pub enum Place {
 #[derive(Drop)]
 pub struct Actor {
     pub place: Place,
+    /// Whether it began as a reader, which writes nothing and keeps no read set.
+    pub declared: bool,
     /// The reading of the clock with which the transaction began.
     pub rv: u64,
     /// The number of its commit.
@@ -74,12 +76,15 @@ pub struct Actor {
     pub ready: Vec<WordCall>,
 }
 
-/// Puts a value that was read into its set, which has the room.
-fn keep(reads: &mut ReadSet, location: u32, value: u64)
+/// Puts a value that was read into its set, which has the room. A declared reader keeps none.
+fn keep(reads: &mut ReadSet, declared: bool, location: u32, value: u64)
     requires room { 0 < reads.old.room }
     requires limit { length reads.old.entries < 4096 }
-    ensures { reads.new.entries ≡ with_entry reads.old.entries location value }
+    ensures { reads.new.entries ≡ with_read declared reads.old.entries location value }
 {
+    if declared {
+        return;
+    }
     let _ = reads.put(location, value);
 }
 
@@ -90,6 +95,7 @@ impl Actor {
     {
         Actor {
             place: Place::Idle,
+            declared: false,
             rv: 0,
             wv: 0,
             reads: ReadSet::new(alloc),
@@ -191,7 +197,7 @@ impl Actor {
     {
         match LockWord::read(word) {
             LockWord::Free(found) if found == version => {
-                keep(&mut self.reads, location, value);
+                keep(&mut self.reads, self.declared, location, value);
                 self.calls.push_reserved(WordCall::Read(location, value));
                 self.place = Place::Open;
                 Ok(Some(WordAnswer::Number(value)))
@@ -230,18 +236,34 @@ impl Actor {
         }
     }
 
+    /// Where the check begins that a commit of this number has to make: behind the last entry of
+    /// the read set where no other commit took a number since the transaction began.
+    fn first_to_check(&self, clock: u64) -> usize
+        requires positive { 0 < clock }
+        ensures left { drop result (locations self.now.reads.entries) ≡ to_check (actor_of self.now) clock }
+        ensures inside { result ≤ length self.now.reads.entries }
+    {
+        if self.rv == clock - 1 {
+            self.reads.len()
+        } else {
+            0
+        }
+    }
+
     /// The number of the commit, from the clock.
     pub fn stamp(&mut self, clock: u64) -> Result<Option<WordAnswer>, WordRefusal>
         requires clock { clock < 2 ^ 63 }
+        requires positive { 0 < clock }
         ensures actor { actor_of self.new ≡ stamped_at (actor_of self.old) clock }
-        ensures answer { result ≡ result_of (when_none_left self.old.reads.entries (notice.LockedAt clock)) }
+        ensures answer { result ≡ result_of (when_none_left (to_check (actor_of self.old) clock) (notice.LockedAt clock)) }
         ensures fits { (n : ℕ) → Fits n self.old → Fits n self.new }
         ensures owed { owed self.new.place ≡ 0 }
         ensures due { due self.new.place ≤ 1 }
     {
-        self.place = Place::Check(0);
+        let first = self.first_to_check(clock);
+        self.place = Place::Check(first);
         self.wv = clock;
-        if self.reads.len() == 0 {
+        if first == self.reads.len() {
             Ok(Some(WordAnswer::Locked(clock)))
         } else {
             Ok(None)

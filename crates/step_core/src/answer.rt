@@ -6,12 +6,15 @@ use thiserror::Error;
 pub enum WordRequest {
     /// Begin a transaction: one load of the clock.
     Begin,
+    /// Begin a transaction that only reads, and keeps no read set: one load of the clock.
+    BeginRead,
     /// Read a location: no step where it is in a set, else the loads of its lock word, its value,
     /// and its lock word again.
     Read(u32),
     /// Write a value to a location, in the write set alone: no step.
     Write(u32, u64),
-    /// Lock the write set, advance the clock, and check the read set.
+    /// Lock the write set, advance the clock, and check the read set, but where no other commit
+    /// took a number since the transaction began.
     Lock,
     /// Store the values of the write set, the first of which commits the transaction.
     Store,
@@ -61,7 +64,7 @@ pub enum WordRefusal {
     /// No transaction begins at this reading of the clock, or above.
     #[error("Exhausted {clock}")]
     Exhausted { clock: u64 },
-    /// There is no such actor or location.
+    /// There is no such actor or location, or a declared reader was asked to write.
     #[error("NoSuch")]
     NoSuch,
     /// A set, the table or the clock would pass its limit.

@@ -16,7 +16,8 @@
 //! - *Phase*: which requests an actor may be asked. A request that its phase lacks is refused, and
 //!   changes nothing.
 //! - *Read set, write set*: the locations that a transaction has read, with the values that it found,
-//!   and those that it has written, with the values that its commit is to store.
+//!   and those that it has written, with the values that its commit is to store. A *declared reader*
+//!   has neither: it loads a location as often as it reads it, and there is no limit to them.
 //!
 //! A request takes the memory that its steps will need, and a step takes none.
 //!

@@ -1,12 +1,11 @@
 //! The words, the actors and the history, and the atomic steps on them.
 //!
 //! These are plain fields, which a method may leave half changed; [`crate::words`] is what callers see.
-ghost use Rattle.std.specs.Prelude.{◌≡◌, ◌+◌, ◌^◌, ◌<◌, ◌≤◌, false, length, slice_get, Some, None, IsOk, OnOk, OnErr, IfOk, IfErr};
+ghost use Rattle.std.specs.Prelude.{◌≡◌, ◌+◌, ◌^◌, ◌<◌, ◌≤◌, true, false, length, slice_get, Some, None, IsOk, OnOk, OnErr, IfOk, IfErr};
 ghost use Rattle.std.specs.Vec.{vec_len, vec_capacity};
 ghost use Rattle.std.specs.VecDeque.{deque_len};
-ghost use Rattle.word_machine.specs.Requests.{AskBegin};
 ghost use Rattle.step_core.specs.Answers.{request_of};
-ghost use Rattle.step_core.specs.Phases.{takes_memory};
+ghost use Rattle.step_core.specs.Phases.{opens, takes_memory};
 ghost use Rattle.step_core.specs.Shown.{shown, Steps, Asks, actor_in, snapshot_of, refusal_of};
 ghost use Rattle.step_core.specs.Blank.{AreBlank, AreZero};
 ghost use Rattle.step_core.specs.Sound.{Sound, At};
@@ -64,11 +63,11 @@ fn make_room(history: &mut Vec<WordRecord>, request: WordRequest) -> Result<(), 
     ensures items { history.new.items ≡ history.old.items }
     ensures len { vec_len history.new ≡ vec_len history.old }
     ensures capacity { vec_capacity history.old ≤ vec_capacity history.new }
-    ensures room { OnOk result (request_of request ≡ AskBegin → vec_len history.new + 65 ≤ vec_capacity history.new) }
+    ensures room { OnOk result (opens (request_of request) ≡ true → vec_len history.new + 65 ≤ vec_capacity history.new) }
     ensures served { takes_memory (request_of request) ≡ false → IsOk result }
 {
     match request {
-        WordRequest::Begin => history.reserve(SEATS),
+        WordRequest::Begin | WordRequest::BeginRead => history.reserve(SEATS),
         _ => Ok(()),
     }
 }

@@ -8,13 +8,13 @@ use crate::answer::{WordRefusal, WordRequest};
 /// What may be asked of an actor.
 #[derive(Clone, Copy)]
 pub enum Phase {
-    /// No transaction: Begin.
+    /// No transaction: Begin, BeginRead.
     Idle,
     /// A transaction that has written nothing: Read, Write, Close, Abort.
     Reader,
     /// A transaction that has written: Read, Write, Lock, Abort.
     Writer,
-    /// An unanswered Begin, Read or Close, in whose place an Abort may be asked.
+    /// An unanswered Begin, BeginRead, Read or Close, in whose place an Abort may be asked.
     Waiting,
     /// An unanswered Lock, in whose place a Cancel may be asked.
     Locking,
@@ -36,7 +36,7 @@ impl Phase {
         ensures { result ≡ allows self (request_of request) }
     {
         match (self, request) {
-            (Phase::Idle, WordRequest::Begin) => true,
+            (Phase::Idle, WordRequest::Begin | WordRequest::BeginRead) => true,
             (Phase::Reader | Phase::Writer, WordRequest::Read(_)) => true,
             (Phase::Reader | Phase::Writer, WordRequest::Write(_, _)) => true,
             (Phase::Reader, WordRequest::Close) => true,
@@ -56,7 +56,7 @@ impl Phase {
     {
         match (self, request) {
             (Phase::Waiting | Phase::Locking | Phase::Busy, _) => WordRefusal::NotIdle,
-            (_, WordRequest::Begin) => WordRefusal::NotIdle,
+            (_, WordRequest::Begin | WordRequest::BeginRead) => WordRefusal::NotIdle,
             _ => WordRefusal::NoTransaction,
         }
     }

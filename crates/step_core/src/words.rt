@@ -28,13 +28,14 @@ impl Model for Words {
 }
 
 impl Words {
-    ghost use Rattle.std.specs.Prelude.{◌≡◌, ℕ, ◌<◌, ◌≤◌, length, map, get_or, [], false, None, IsOk, OnOk, OnErr, IfOk, IfErr, IfSome, replicate};
+    ghost use Rattle.std.specs.Prelude.{◌≡◌, ◌≢◌, ℕ, ◌<◌, ◌≤◌, length, map, get_or, [], true, false, None, IsOk, OnOk, OnErr, IfOk, IfErr, IfSome, replicate};
     ghost use Rattle.word_machine.specs.World.{start};
     ghost use Rattle.step_core.specs.Answers.{request_of};
     ghost use Rattle.step_core.specs.Phases.{takes_memory};
     ghost use Rattle.step_core.specs.Shown.{Steps, Asks, Shows, Reached, record_of, actor_in, refusal_of, IsRefusal, snapshot_of};
     ghost use Rattle.step_core.specs.Opaque.{Opaque, Saw, KeepsOthers, BeginsAbove, Nears, steps_due};
     ghost use Rattle.step_core.specs.Openings.{opening_refusal};
+    ghost use Rattle.step_core.specs.declared.answer.WordRefusal.TheVariants.{TooLong};
 
     /// A table of these values, each with a free lock word of version 0, a clock, and no history.
     ///
@@ -74,7 +75,7 @@ impl Words {
     ///
     /// `NoSuch` for an actor that is not 1 to 64, `NotIdle` where a request is unanswered or a begin
     /// is asked inside a transaction, `NoTransaction` for another request that the phase lacks,
-    /// `NoSuch` for a location that there is not, `TooLong` for one more than 4,096 in a set, in this
+    /// `NoSuch` for a location that there is not and for a write of a declared reader, `TooLong` for one more than 4,096 in a set, in this
     /// order, and `OutOfMemory` where none of these holds and a growth was refused. A refused
     /// request changes nothing. Release, Cancel and Abort take no memory, so what has stored a value
     /// can always go on, and what holds a lock can always give it back.
@@ -88,6 +89,9 @@ impl Words {
         ensures refused { IfErr result (λ refusal. IsRefusal (refusal_of self.old actor (request_of request)) refusal) }
         ensures err { OnErr result (self.new ≡ self.old) }
         ensures served { refusal_of self.old actor (request_of request) ≡ None → takes_memory (request_of request) ≡ false → IsOk result }
+
+        // A declared reader may read any number of locations.
+        ensures unlimited { (actor_in self.old actor).declared ≡ true → IfErr result (λ refusal. refusal ≢ TooLong) }
 
         // Each request is answered by fewer than 1,000,000 of its own steps.
         ensures soon { steps_due self.new actor < 1000000 }

@@ -1,12 +1,12 @@
 -- A transaction beside which no other steps is never refused for a conflict.
-use Rattle.std.proofs.Common.{◌≡◌, ℕ, ◌+◌, ◌<◌, ◌≤◌, cond, eqb, ltb, leb, Option, Some, None, List, [], ◌∷◌, ◌++◌, ◌⊎◌, inl, inr, refl, sym, ap, ◌∙◌, subst, arith, ltb-true, ltb-false, eqb-true, leb-false}
+use Rattle.std.proofs.Common.{◌≡◌, ℕ, ◌+◌, ◌<◌, ◌≤◌, cond, Bool, true, false, eqb, ltb, leb, Option, Some, None, List, [], ◌∷◌, ◌++◌, ◌⊎◌, inl, inr, refl, sym, ap, ◌∙◌, subst, arith, ltb-true, ltb-false, eqb-true, leb-false}
 use Rattle.std.proofs.lemmas.Bool.{eqb-false, cond_both}
 use Rattle.vlock_word.specs.declared.lock_word.LockWord.{LockWord}
 use Rattle.vlock_word.specs.declared.lock_word.LockWord.TheVariants.{Free, Locked}
 use Rattle.vlock_word.specs.LockWord.{version_of, bits}
 use Rattle.tx_sets.specs.Entries.{Entries, lookup, with_entry, locations}
-use Rattle.word_machine.specs.Actor.{Place, Idle, Begin, Open, Look, Fetch, Again, Lock, Take, Check, Broken, First, Store, Release, Undo, Leave, Close, Actor, goes, opened, clock_limit, has_read}
-use Rattle.word_machine.specs.Requests.{Request, AskBegin, AskLock, AskStore, AskRelease, AskCancel, AskAbort, AskClose, AskRead, AskWrite, read, lock, close, abort, ask}
+use Rattle.word_machine.specs.Actor.{Place, Idle, Begin, Open, Look, Fetch, Again, Lock, Take, Check, Broken, First, Store, Release, Undo, Leave, Close, Actor, goes, opened, clock_limit, has_read, to_check}
+use Rattle.word_machine.specs.Requests.{Request, AskBegin, AskBeginRead, AskLock, AskStore, AskRelease, AskCancel, AskAbort, AskClose, AskRead, AskWrite, read, write, lock, close, abort, ask}
 use Rattle.word_machine.specs.World.{put, World, Event, Ask, Step, now, step, happens, run}
 use Rattle.word_machine.proofs.Worlds.{looked, looked_again, to_lock, tried, locked, checked, first, released, undone}
 use Rattle.word_machine.specs.Progress.{IsAlone, IsFree}
@@ -85,6 +85,10 @@ read_alone locks x l (Some v) r ok pl = record { free = ok.free; place = pl }
 read_alone locks x l None (Some v) ok pl = record { free = ok.free; place = pl }
 read_alone locks x l None None ok pl = record { free = ok.free; place = pl }
 
+write_alone : (locks : ℕ → LockWord) (x : Actor) (declared : Bool) (l u : ℕ) → AloneOk locks x → AlonePlace locks x Open → AloneOk locks (write x declared l u)
+write_alone locks x true l u ok pl = ok
+write_alone locks x false l u ok pl = record { free = ok.free; place = (pl.0, rising-with_entry x.writes l u pl.1) }
+
 lock_alone : (locks : ℕ → LockWord) (x : Actor) (w : Entries) → AloneOk locks x → AlonePlace locks x Open → x.held ≡ [] → x.writes ≡ w → AloneOk locks (lock x w)
 lock_alone locks x [] ok pl none e = ok
 lock_alone locks x (f ∷ fs) ok pl none e = goes_alone locks x (Lock (locations (f ∷ fs))) ok
@@ -99,9 +103,10 @@ abort_alone locks x [] ok = goes_alone locks x Leave ok tt
 abort_alone locks x (f ∷ fs) ok = ok
 
 ask_alone : (s : World) (x : Actor) (p : Place) (request : Request) → AloneOk s.locks x → AlonePlace s.locks x p → PlaceOk s x p → AloneOk s.locks (ask x p request)
-ask_alone s x Idle AskBegin ok pl at_p = goes_alone s.locks x Begin ok tt
+ask_alone s x Idle AskBegin ok pl at_p = record { free = ok.free; place = tt }
+ask_alone s x Idle AskBeginRead ok pl at_p = record { free = ok.free; place = tt }
 ask_alone s x Open (AskRead l) ok pl at_p = read_alone s.locks x l (lookup x.writes l) (lookup x.reads l) ok pl
-ask_alone s x Open (AskWrite l u) ok pl at_p = record { free = ok.free; place = (pl.0, rising-with_entry x.writes l u pl.1) }
+ask_alone s x Open (AskWrite l u) ok pl at_p = write_alone s.locks x x.declared l u ok pl
 ask_alone s x Open AskLock ok pl at_p = lock_alone s.locks x x.writes ok pl at_p refl
 ask_alone s x Open AskClose ok pl at_p = close_alone s.locks x x.writes ok
 ask_alone s x Open AskAbort ok pl at_p = goes_alone s.locks x Leave ok tt
@@ -172,7 +177,7 @@ to_lock_alone s a l ls (Locked k) ok pl is = absurd (subst IsFree is (free_word 
 locked_alone : (s : World) (a l k : ℕ) (ls : List ℕ) → AloneAt s a → AlonePlace s.locks (s.actors a) (Take l k ls) → AloneAt (locked s a (s.actors a) l k ls) a
 locked_alone s a l k ls ok pl =
     let x = s.actors a in
-    alone_put (put s.locks l (Locked k)) s.actors a (record { place = Lock ls; rv = x.rv; wv = x.wv; reads = x.reads; writes = x.writes; held = x.held ++ (l, k) ∷ []; calls = x.calls }) (record {
+    alone_put (put s.locks l (Locked k)) s.actors a (record { place = Lock ls; declared = x.declared; rv = x.rv; wv = x.wv; reads = x.reads; writes = x.writes; held = x.held ++ (l, k) ∷ []; calls = x.calls }) (record {
       free = λ i. put_both (λ (z : LockWord). IsFree z ⊎ ((j : ℕ) × (lookup (x.held ++ (l, k) ∷ []) i ≡ Some j))) s.locks l (Locked k) i
           (λ q. inr (k, ap (lookup (x.held ++ (l, k) ∷ [])) q ∙ lookup-push_same x.held l k (pl.2 l (inl refl))))
           (λ ne. elim (ok.free i) [ inl f ↦ inl f | inr h ↦ inr (h.0, lookup-push_other x.held l k i ne ∙ h.1) ]);
@@ -220,11 +225,11 @@ check_alone s a l ls (Locked k) None ok pl is mine unheld = absurd (subst IsFree
 
 -- a lock given back
 back_alone : (s : World) (a : ℕ) (f : ℕ × ℕ) (fs : Entries) (v : ℕ) (p : Place) → AloneAt s a → (s.actors a).held ≡ f ∷ fs
-    → AlonePlace (put s.locks f.0 (Free v)) (record { place = p; rv = (s.actors a).rv; wv = (s.actors a).wv; reads = (s.actors a).reads; writes = (s.actors a).writes; held = fs; calls = (s.actors a).calls }) p
-    → AloneOk (put s.locks f.0 (Free v)) (put s.actors a (record { place = p; rv = (s.actors a).rv; wv = (s.actors a).wv; reads = (s.actors a).reads; writes = (s.actors a).writes; held = fs; calls = (s.actors a).calls }) a)
+    → AlonePlace (put s.locks f.0 (Free v)) (record { place = p; declared = (s.actors a).declared; rv = (s.actors a).rv; wv = (s.actors a).wv; reads = (s.actors a).reads; writes = (s.actors a).writes; held = fs; calls = (s.actors a).calls }) p
+    → AloneOk (put s.locks f.0 (Free v)) (put s.actors a (record { place = p; declared = (s.actors a).declared; rv = (s.actors a).rv; wv = (s.actors a).wv; reads = (s.actors a).reads; writes = (s.actors a).writes; held = fs; calls = (s.actors a).calls }) a)
 back_alone s a f fs v p ok has pl =
     let x = s.actors a in
-    alone_put (put s.locks f.0 (Free v)) s.actors a (record { place = p; rv = x.rv; wv = x.wv; reads = x.reads; writes = x.writes; held = fs; calls = x.calls }) (record {
+    alone_put (put s.locks f.0 (Free v)) s.actors a (record { place = p; declared = x.declared; rv = x.rv; wv = x.wv; reads = x.reads; writes = x.writes; held = fs; calls = x.calls }) (record {
       free = λ i. put_both (λ (z : LockWord). IsFree z ⊎ ((j : ℕ) × (lookup fs i ≡ Some j))) s.locks f.0 (Free v) i
           (λ _. inl tt)
           (λ ne. elim (ok.free i) [ inl q ↦ inl q | inr h ↦ inr (h.0, sym (ap (λ (z : Entries). lookup z i) has ∙ lookup-tail f fs i ne) ∙ h.1) ]);
@@ -247,8 +252,8 @@ first_alone s a (e ∷ es) ok = alone_put s.locks s.actors a (goes (s.actors a) 
 pub step_alone : (s : World) (a : ℕ) (p : Place) → Inv s → AloneAt s a → AlonePlace s.locks (s.actors a) p → PlaceOk s (s.actors a) p → Good s (step s a (s.actors a) p) a (notice s (s.actors a) p)
 step_alone s a Idle v ok pl pk = (ok, λ h. h)
 step_alone s a Begin v ok pl pk = (
-  cond_both (ltb s.clock clock_limit) (opened s.clock) (goes (s.actors a) Idle) (λ (z : Actor). AloneAt (now s a z) a)
-      (λ _. alone_put s.locks s.actors a (opened s.clock) (record {
+  cond_both (ltb s.clock clock_limit) (opened (s.actors a).declared s.clock) (goes (s.actors a) Idle) (λ (z : Actor). AloneAt (now s a z) a)
+      (λ _. alone_put s.locks s.actors a (opened (s.actors a).declared s.clock) (record {
         free = λ l. elim (ok.free l) [ inl q ↦ inl q | inr q ↦ absurd (lookup-none (s.actors a).held l q.0 pk q.1) ];
         place = (v.versions, tt);
       }))
@@ -261,8 +266,8 @@ step_alone s a (Fetch l k) v ok pl pk = (alone_put s.locks s.actors a (goes (s.a
 step_alone s a (Again l k u) v ok pl pk = again_alone s a l k u (s.locks l) ok pl refl
 step_alone s a (Lock []) v ok pl pk =
     let x = s.actors a in (
-      alone_put s.locks s.actors a (record { place = Check (locations x.reads); rv = x.rv; wv = s.clock + 1; reads = x.reads; writes = x.writes; held = x.held; calls = x.calls }) (record { free = ok.free; place = pl.0 }),
-      quiet_list x.reads (LockedAt (s.clock + 1)) (λ h. h),
+      alone_put s.locks s.actors a (record { place = Check (to_check x (s.clock + 1)); declared = x.declared; rv = x.rv; wv = s.clock + 1; reads = x.reads; writes = x.writes; held = x.held; calls = x.calls }) (record { free = ok.free; place = pl.0 }),
+      quiet_list (to_check x (s.clock + 1)) (LockedAt (s.clock + 1)) (λ h. h),
     )
 step_alone s a (Lock (l ∷ ls)) v ok pl pk = to_lock_alone s a l ls (s.locks l) ok pl refl
 step_alone s a (Take l k ls) v ok pl pk = take_alone s a l k ls (s.locks l) ok pl refl

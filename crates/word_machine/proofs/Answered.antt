@@ -7,7 +7,7 @@ use Rattle.vlock_word.specs.declared.lock_word.LockWord.{LockWord}
 use Rattle.vlock_word.specs.declared.lock_word.LockWord.TheVariants.{Free, Locked}
 use Rattle.vlock_word.specs.LockWord.{bits}
 use Rattle.tx_sets.specs.Entries.{Entries, lookup, locations}
-use Rattle.word_machine.specs.Actor.{Place, Idle, Begin, Open, Look, Fetch, Again, Lock, Take, Check, Broken, First, Store, Release, Undo, Leave, Close, Actor, goes, taken, clock_limit}
+use Rattle.word_machine.specs.Actor.{Place, Idle, Begin, Open, Look, Fetch, Again, Lock, Take, Check, Broken, First, Store, Release, Undo, Leave, Close, Actor, goes, taken, clock_limit, to_check}
 use Rattle.word_machine.specs.World.{World, Event, Ask, Step, Deed, Rests, LoadClock, AddToClock, LoadLock, LoadValue, ExchangeLock, StoreValue, StoreLock, does, exchanged, Outcome, GoesOn, Commits, Aborts, noted, plan, outcome, put, now, step, happens}
 use Rattle.word_machine.specs.Notices.{Notice, Quiet, Moved, Busy, Invalid, Begun, Exhausted, Number, LockedAt, Stored, Released, Cancelled, notice, look_notice, again_notice, lock_notice, take_notice, check_notice, when_none_left, last_notice}
 use Rattle.word_machine.specs.Progress.{steps_left, IsAnswered, steps_of, AsksNothing, IsAnsweredWithin}
@@ -93,8 +93,7 @@ step_further s a x (Look l) pl = looked_further s a x l (s.locks l)
 step_further s a x (Fetch l k) pl = further_put Quiet s.actors a (goes x (Again l k (s.values l))) (inr (omega arith))
 step_further s a x (Again l k v) pl = inl (again_answered s l k v (s.locks l))
 step_further s a x (Lock []) pl =
-    subst (Further (when_none_left x.reads (LockedAt (s.clock + 1)))) (sym (put-same s.actors a _))
-    (elim (none_left x.reads (LockedAt (s.clock + 1)) tt) [ inl h ↦ inl h | inr h ↦ inr (let q = length-locations x.reads in omega (arith, q, h)) ])
+    subst (Further (when_none_left (to_check x (s.clock + 1)) (LockedAt (s.clock + 1)))) (sym (put-same s.actors a _)) (none_left (to_check x (s.clock + 1)) (LockedAt (s.clock + 1)) tt)
 step_further s a x (Lock (l ∷ ls)) pl = to_lock_further s a x l ls (s.locks l)
 step_further s a x (Take l k ls) pl = take_further s a x l k ls (s.locks l)
 step_further s a x (Check []) pl = inl tt

@@ -5,8 +5,8 @@ use Rattle.std.proofs.lemmas.Bool.{cond_both, cond-true, cond-false, cases_eq}
 use Rattle.tx_sets.specs.Entries.{Entries, lookup, with_entry}
 use Rattle.word_machine.specs.Actor.{Call, Read, Write}
 use Rattle.word_machine.specs.World.{Memory, put}
-use Rattle.word_machine.specs.Opacity.{after, IsLegal}
-use Rattle.word_machine.proofs.Sets.{lookup-with_entry_same, lookup-with_entry_other, with_entry_cases}
+use Rattle.word_machine.specs.Opacity.{after, IsLegal, first_read}
+use Rattle.word_machine.proofs.Sets.{put-other, lookup-with_entry_same, lookup-with_entry_other, with_entry_cases}
 
 -- whether the calls write l
 abbrev pub touched : List Call → ℕ → Bool
@@ -96,60 +96,62 @@ IsLegal-same (Read i u ∷ cs) m n same h = (sym (same i) ∙ h.0, IsLegal-same 
 IsLegal-same (Write i u ∷ cs) m n same h =
     IsLegal-same cs (put m i u) (put n i u) (λ l. ap (λ (z : ℕ). if l == i then u else z) (same l)) h
 
+-- it replied what the memory held before the calls
+pub first_read_is : (cs : List Call) (m : Memory) (l v : ℕ) → IsLegal m cs → first_read cs l ≡ Some v → m l ≡ v
+unfolding IsLegal
+first_read_is [] m l v h e = let x : Some v ≡ None = sym e in cc
+first_read_is (Read k u ∷ cs) m l v h e =
+    elim (cases_eq l k) [
+      | inl q ↦ (let x : Some u ≡ Some v = sym (cond-true (eqb l k) (Some u) (first_read cs l) (eq-eqb l k q)) ∙ e in let y : u ≡ v = cc in ap m q ∙ h.0 ∙ y)
+      | inr ne ↦ first_read_is cs m l v h.1 (sym (cond-false (eqb l k) (Some u) (first_read cs l) (ne_eqb l k ne)) ∙ e)
+    ]
+first_read_is (Write k u ∷ cs) m l v h e =
+    elim (cases_eq l k) [
+      | inl q ↦ (let x : None ≡ Some v = sym (cond-true (eqb l k) None (first_read cs l) (eq-eqb l k q)) ∙ e in cc)
+      | inr ne ↦ sym (put-other m k u l ne) ∙ first_read_is cs (put m k u) l v h (sym (cond-false (eqb l k) None (first_read cs l) (ne_eqb l k ne)) ∙ e)
+    ]
+
+-- further calls leave it
+pub first_read-more : (cs ds : List Call) (l v : ℕ) → first_read cs l ≡ Some v → first_read (cs ++ ds) l ≡ Some v
+first_read-more [] ds l v e = let x : Some v ≡ None = sym e in cc
+first_read-more (Read k u ∷ cs) ds l v e =
+    elim (cases_eq l k) [
+      | inl q ↦ cond-true (eqb l k) (Some u) (first_read (cs ++ ds) l) (eq-eqb l k q) ∙ sym (cond-true (eqb l k) (Some u) (first_read cs l) (eq-eqb l k q)) ∙ e
+      | inr ne ↦ cond-false (eqb l k) (Some u) (first_read (cs ++ ds) l) (ne_eqb l k ne) ∙ first_read-more cs ds l v (sym (cond-false (eqb l k) (Some u) (first_read cs l) (ne_eqb l k ne)) ∙ e)
+    ]
+first_read-more (Write k u ∷ cs) ds l v e =
+    elim (cases_eq l k) [
+      | inl q ↦ (let x : None ≡ Some v = sym (cond-true (eqb l k) None (first_read cs l) (eq-eqb l k q)) ∙ e in cc)
+      | inr ne ↦ cond-false (eqb l k) None (first_read (cs ++ ds) l) (ne_eqb l k ne) ∙ first_read-more cs ds l v (sym (cond-false (eqb l k) None (first_read cs l) (ne_eqb l k ne)) ∙ e)
+    ]
+
 -- m holds what was read
 abbrev pub Agrees : Memory → Entries → Type 0
 Agrees m reads = (l v : ℕ) → lookup reads l ≡ Some v → m l ≡ v
 
--- What the sets of a transaction say of its calls.
-pub record Sets (reads writes : Entries) (calls : List Call) : Type 0 where
-  pub legal : (m : Memory) → Agrees m reads → IsLegal m calls
+-- What the write set of a transaction says of its calls.
+pub record Sets (writes : Entries) (calls : List Call) : Type 0 where
   pub not_written : (l : ℕ) → lookup writes l ≡ None → touched calls l ≡ false
   pub written : (l v : ℕ) → lookup writes l ≡ Some v → touched calls l ≡ true
   pub last : (l v : ℕ) → lookup writes l ≡ Some v → (d : ℕ) → final calls l d ≡ v
 
-pub Sets-none : Sets [] [] []
-unfolding IsLegal lookup
+pub Sets-none : Sets [] []
+unfolding lookup
 Sets-none = record {
-  legal = λ m a. tt;
   not_written = λ l h. refl;
   written = λ l v h. let x : Some v ≡ None = sym h in cc;
   last = λ l v h d. let x : Some v ≡ None = sym h in cc;
 }
 
-pub Sets-own : (r w : Entries) (cs : List Call) (k v : ℕ) → Sets r w cs → lookup w k ≡ Some v → Sets r w (cs ++ Read k v ∷ [])
-Sets-own r w cs k v s h = record {
-  legal = λ m a. IsLegal-read cs m k v (s.legal m a) (after-final cs m k ∙ s.last k v h (m k));
+pub Sets-read : (w : Entries) (cs : List Call) (k v : ℕ) → Sets w cs → Sets w (cs ++ Read k v ∷ [])
+Sets-read w cs k v s = record {
   not_written = λ l q. touched-read cs k v l ∙ s.not_written l q;
   written = λ l u q. touched-read cs k v l ∙ s.written l u q;
   last = λ l u q d. final-read cs k v l d ∙ s.last l u q d;
 }
 
-pub Sets-seen : (r w : Entries) (cs : List Call) (k v : ℕ) → Sets r w cs → lookup w k ≡ None → lookup r k ≡ Some v → Sets r w (cs ++ Read k v ∷ [])
-Sets-seen r w cs k v s h g = record {
-  legal = λ m a. IsLegal-read cs m k v (s.legal m a) (after-final cs m k ∙ final_untouched cs k (m k) (s.not_written k h) ∙ a k v g);
-  not_written = λ l q. touched-read cs k v l ∙ s.not_written l q;
-  written = λ l u q. touched-read cs k v l ∙ s.written l u q;
-  last = λ l u q d. final-read cs k v l d ∙ s.last l u q d;
-}
-
-agrees_before : (m : Memory) (r : Entries) (k v : ℕ) → lookup r k ≡ None → Agrees m (with_entry r k v) → Agrees m r
-agrees_before m r k v none a l u h =
-    elim (cases_eq l k) [
-      | inl q ↦ let x : Some u ≡ None = sym h ∙ ap (lookup r) q ∙ none in cc
-      | inr ne ↦ a l u (lookup-with_entry_other r k v l ne ∙ h)
-    ]
-
-pub Sets-read : (r w : Entries) (cs : List Call) (k v : ℕ) → Sets r w cs → lookup w k ≡ None → lookup r k ≡ None → Sets (with_entry r k v) w (cs ++ Read k v ∷ [])
-Sets-read r w cs k v s h g = record {
-  legal = λ m a. IsLegal-read cs m k v (s.legal m (agrees_before m r k v g a)) (after-final cs m k ∙ final_untouched cs k (m k) (s.not_written k h) ∙ a k v (lookup-with_entry_same r k v));
-  not_written = λ l q. touched-read cs k v l ∙ s.not_written l q;
-  written = λ l u q. touched-read cs k v l ∙ s.written l u q;
-  last = λ l u q d. final-read cs k v l d ∙ s.last l u q d;
-}
-
-pub Sets-write : (r w : Entries) (cs : List Call) (k v : ℕ) → Sets r w cs → Sets r (with_entry w k v) (cs ++ Write k v ∷ [])
-Sets-write r w cs k v s = record {
-  legal = λ m a. IsLegal-write cs m k v (s.legal m a);
+pub Sets-write : (w : Entries) (cs : List Call) (k v : ℕ) → Sets w cs → Sets (with_entry w k v) (cs ++ Write k v ∷ [])
+Sets-write w cs k v s = record {
   not_written = λ l q.
       elim (cases_eq l k) [
         | inl e ↦ let x : Some v ≡ None = sym (lookup-with_entry_same w k v) ∙ ap (lookup (with_entry w k v)) (sym e) ∙ q in cc
@@ -166,3 +168,18 @@ Sets-write r w cs k v s = record {
         | inr e ↦ final-write cs k v l d ∙ cond-false (eqb l k) v (final cs l d) (ne_eqb l k e.0) ∙ s.last l u e.1 d
       ];
 }
+
+-- a read of an own write
+pub legal_own : (w : Entries) (cs : List Call) (k v : ℕ) (m : Memory) → Sets w cs → lookup w k ≡ Some v → IsLegal m cs → IsLegal m (cs ++ Read k v ∷ [])
+legal_own w cs k v m s h legal = IsLegal-read cs m k v legal (after-final cs m k ∙ s.last k v h (m k))
+
+-- a read of a location that the transaction has not written
+pub legal_read : (w : Entries) (cs : List Call) (k v : ℕ) (m : Memory) → Sets w cs → lookup w k ≡ None → m k ≡ v → IsLegal m cs → IsLegal m (cs ++ Read k v ∷ [])
+legal_read w cs k v m s h e legal = IsLegal-read cs m k v legal (after-final cs m k ∙ final_untouched cs k (m k) (s.not_written k h) ∙ e)
+
+pub Agrees-before : (m : Memory) (r : Entries) (k v : ℕ) → lookup r k ≡ None → Agrees m (with_entry r k v) → Agrees m r
+Agrees-before m r k v none a l u h =
+    elim (cases_eq l k) [
+      | inl q ↦ let x : Some u ≡ None = sym h ∙ ap (lookup r) q ∙ none in cc
+      | inr ne ↦ a l u (lookup-with_entry_other r k v l ne ∙ h)
+    ]

@@ -68,18 +68,20 @@ PlaceOk-kept s t x Undo k m g = tt
 PlaceOk-kept s t x Leave k m g = g
 PlaceOk-kept s t x Close k m g = g
 
+abbrev pub Saw-kept : (s t : World) (n : ℕ) (cs : List Call) → Keeps s t → Saw s n cs → Saw t n cs
+Saw-kept s t n cs k g = record { reads = g.reads; legal = g.legal; good = λ l v h. k.good n l v (g.good l v h) }
+
 pub ActorOk-kept : (s t : World) (x : Actor) → Keeps s t → Same s t x.held → ActorOk s x → ActorOk t x
 ActorOk-kept s t x k m g = record {
   began = omega (arith, k.clock, g.began);
   reads = λ l v h. k.good x.rv l v (g.reads l v h);
+  saw = Saw-kept s t x.rv x.calls k g.saw;
   sets = g.sets;
+  kept = g.kept;
   held = λ l j h. m.locks l j h ∙ g.held l j h;
   unique = g.unique;
   place = PlaceOk-kept s t x x.place k m g.place;
 }
-
-pub Saw-kept : (s t : World) (n : ℕ) (cs : List Call) → Keeps s t → Saw s n cs → Saw t n cs
-Saw-kept s t n cs k g = record { reads = g.reads; legal = g.legal; good = λ l v h. k.good n l v (g.good l v h) }
 
 pub RecordOk-kept : (s t : World) (r : Record) → Keeps s t → RecordOk s r → RecordOk t r
 RecordOk-kept s t r k g = record {

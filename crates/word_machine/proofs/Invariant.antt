@@ -1,5 +1,5 @@
 -- What holds of a world after every schedule.
-use Rattle.std.proofs.Common.{◌≡◌, ℕ, ◌-◌, ◌<◌, ◌≤◌, true, false, Some, None, List, [], ◌∷◌, ◌⊎◌}
+use Rattle.std.proofs.Common.{◌≡◌, ℕ, ◌-◌, ◌<◌, ◌≤◌, Bool, true, false, Some, None, List, [], ◌∷◌, ◌⊎◌}
 use Rattle.vlock_word.specs.declared.lock_word.LockWord.TheVariants.{Locked}
 use Rattle.vlock_word.specs.LockWord.{version_of}
 use Rattle.tx_sets.specs.Entries.{Entries, lookup}
@@ -87,10 +87,23 @@ PlaceOk s x Undo = Unit {0}
 PlaceOk s x Leave = x.held ≡ []
 PlaceOk s x Close = (x.held ≡ []) × (x.writes ≡ [])
 
+-- within a transaction
+abbrev pub HasBegun : Place → Type 0
+HasBegun Idle = ⊥
+HasBegun Begin = ⊥
+HasBegun p = Unit {0}
+
+-- A transaction's read set is all that it has seen; a declared reader has neither set.
+abbrev pub IsKept : Bool → Entries → Entries → Entries → Type 0
+IsKept true reads writes seen = (reads ≡ []) × (writes ≡ [])
+IsKept false reads writes seen = seen ≡ reads
+
 pub record ActorOk (s : World) (x : Actor) : Type 0 where
   pub began : x.rv ≤ s.clock
   pub reads : (l v : ℕ) → lookup x.reads l ≡ Some v → Good s x.rv l v
-  pub sets : Sets x.reads x.writes x.calls
+  pub saw : Saw s x.rv x.calls
+  pub sets : Sets x.writes x.calls
+  pub kept : HasBegun x.place → IsKept x.declared x.reads x.writes saw.reads
   pub held : (l k : ℕ) → lookup x.held l ≡ Some k → s.locks l ≡ Locked k
   pub unique : IsUnique x.held
   pub place : PlaceOk s x x.place

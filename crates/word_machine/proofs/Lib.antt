@@ -3,6 +3,7 @@ pub mod Sets
 pub mod Calls
 pub mod Records
 pub mod Invariant
+pub mod Saw
 pub mod Frame
 pub mod Quiet
 pub mod Moves
@@ -14,3 +15,4 @@ pub mod Answered
 pub mod Short
 pub mod Order
 pub mod Refusals
+pub mod Declared

@@ -1,20 +1,20 @@
 -- The steps that change a word, the clock or the history.
 use Rattle.std.specs.Prelude.{unwrap_or}
-use Rattle.std.proofs.Common.{◌≡◌, ℕ, ◌+◌, ◌-◌, ◌<◌, ◌≤◌, max, true, false, Option, Some, None, List, [], ◌∷◌, ◌++◌, ◌⊎◌, inl, inr, refl, sym, ap, ◌∙◌, subst, arith, true≢false}
-use Rattle.std.proofs.lemmas.Bool.{cases_eq}
+use Rattle.std.proofs.Common.{◌≡◌, ℕ, ◌+◌, ◌-◌, ◌<◌, ◌≤◌, max, Bool, true, false, eqb, eqb-true, Option, Some, None, List, [], ◌∷◌, ◌++◌, ◌⊎◌, inl, inr, refl, sym, ap, ◌∙◌, subst, arith, true≢false}
+use Rattle.std.proofs.lemmas.Bool.{cases_eq, cond_both}
 use Rattle.vlock_word.specs.declared.lock_word.LockWord.{LockWord}
 use Rattle.vlock_word.specs.declared.lock_word.LockWord.TheVariants.{Free, Locked}
 use Rattle.vlock_word.specs.LockWord.{version_of}
 use Rattle.tx_sets.specs.Entries.{Entries, lookup, locations}
-use Rattle.word_machine.specs.Actor.{Call, Place, Idle, Lock, Take, Check, First, Store, Release, Undo, Close, Actor, goes}
+use Rattle.word_machine.specs.Actor.{Call, Place, Idle, Lock, Take, Check, First, Store, Release, Undo, Close, Actor, goes, to_check}
 use Rattle.word_machine.specs.World.{Memory, put, Record, World, insert}
 use Rattle.word_machine.proofs.Worlds.{locked, stamped, commits, first, stored, gives_back, released, undone, closed}
 use Rattle.word_machine.specs.Opacity.{IsHalfDone}
 use Rattle.word_machine.proofs.Sets.{IsUnique, IsUnique-push, Member, member_locations, locations_member, push_cases, lookup-push_same, lookup-push_other, lookup-head, lookup-tail, rest_entry, put_both, put-same, put-other}
 use Rattle.word_machine.proofs.Calls.{touched}
 use Rattle.word_machine.proofs.Records.{stamp, AllRecords, AllRecords-insert, IsNew, IsInOrder-insert, stamp_untouched, stamp_touched, settled_untouched, settled_later, finals_untouched, finals_touched}
-use Rattle.word_machine.proofs.Invariant.{IsPending, latest, Locking, IsSomeEntry, Done, PlaceOk, ActorOk, RecordOk, Inv}
-use Rattle.word_machine.proofs.Frame.{Moved, moved_none, Keeps, Same, Keeps-no_commit, ActorOk-kept, IsNumbered, next, actors_after, apart_after, numbers_after, unused_after, behind_before, records_kept, aborted_kept}
+use Rattle.word_machine.proofs.Invariant.{IsPending, Good, HasBegun, IsKept, latest, Locking, IsSomeEntry, Done, PlaceOk, ActorOk, RecordOk, Inv}
+use Rattle.word_machine.proofs.Frame.{Moved, moved_none, Keeps, Same, Keeps-no_commit, Saw-kept, ActorOk-kept, IsNumbered, next, actors_after, apart_after, numbers_after, unused_after, behind_before, records_kept, aborted_kept}
 use Rattle.word_machine.proofs.Quiet.{none_if, no_holder}
 
 locked_is : (w : LockWord) (j k : ℕ) → w ≡ Locked j → w ≡ Locked k → j ≡ k
@@ -31,7 +31,7 @@ version-put locks l w i e = put_both (λ (z : LockWord). version_of z ≡ versio
 pub locked_ok : (s : World) (a l k : ℕ) (ls : List ℕ) → Inv s → (s.actors a).place ≡ Take l k ls → Locking (s.actors a).writes (s.actors a).held (l ∷ ls) → s.locks l ≡ Free k → Moved s a (locked s a (s.actors a) l k ls)
 locked_ok s a l k ls v e pl free =
     let x = s.actors a in
-    let y : Actor = record { place = Lock ls; rv = x.rv; wv = x.wv; reads = x.reads; writes = x.writes; held = x.held ++ (l, k) ∷ []; calls = x.calls } in
+    let y : Actor = record { place = Lock ls; declared = x.declared; rv = x.rv; wv = x.wv; reads = x.reads; writes = x.writes; held = x.held ++ (l, k) ∷ []; calls = x.calls } in
     let none : lookup x.held l ≡ None = none_if (lookup x.held l) (λ j h. no_holder s l k v free a j h) in
     let words : ℕ → LockWord = put s.locks l (Locked k) in
     let t : World = next s a y s.clock words s.values s.history s.aborted in
@@ -47,7 +47,9 @@ locked_ok s a l k ls v e pl free =
     let own : ActorOk t y = record {
       began = (v.actors a).began;
       reads = λ i u h. keeps.good x.rv i u ((v.actors a).reads i u h);
+      saw = Saw-kept s t x.rv x.calls keeps (v.actors a).saw;
       sets = (v.actors a).sets;
+      kept = λ _. (v.actors a).kept (subst HasBegun (sym e) tt);
       held = λ i j h. elim (push_cases x.held l k i j none h) [
         | inl q ↦ ap words q.0 ∙ put-same s.locks l (Locked k) ∙ ap Locked (sym q.1)
         | inr q ↦ put-other s.locks l (Locked k) i q.0 ∙ (v.actors a).held i j q.1
@@ -95,7 +97,7 @@ locked_ok s a l k ls v e pl free =
 pub stamped_ok : (s : World) (a : ℕ) → Inv s → (s.actors a).place ≡ Lock [] → Locking (s.actors a).writes (s.actors a).held [] → Moved s a (stamped s a (s.actors a))
 stamped_ok s a v e pl =
     let x = s.actors a in
-    let y : Actor = record { place = Check (locations x.reads); rv = x.rv; wv = s.clock + 1; reads = x.reads; writes = x.writes; held = x.held; calls = x.calls } in
+    let y : Actor = record { place = Check (to_check x (s.clock + 1)); declared = x.declared; rv = x.rv; wv = s.clock + 1; reads = x.reads; writes = x.writes; held = x.held; calls = x.calls } in
     let t : World = next s a y (s.clock + 1) s.locks s.values s.history s.aborted in
     let num : IsNumbered s a y = λ h. inr (omega arith) in
     let keeps : Keeps s t = Keeps-no_commit s a y (s.clock + 1) s.locks s.values s.aborted (omega arith) num (λ i. omega arith) in
@@ -103,7 +105,9 @@ stamped_ok s a v e pl =
     let own : ActorOk t y = record {
       began = omega (arith, (v.actors a).began);
       reads = λ i u h. keeps.good x.rv i u ((v.actors a).reads i u h);
+      saw = Saw-kept s t x.rv x.calls keeps (v.actors a).saw;
       sets = (v.actors a).sets;
+      kept = λ _. (v.actors a).kept (subst HasBegun (sym e) tt);
       held = (v.actors a).held;
       unique = (v.actors a).unique;
       place = (
@@ -115,7 +119,9 @@ stamped_ok s a v e pl =
           made = omega arith;
           some = pl.some;
         },
-        λ i u h. inl (member_locations x.reads i u h),
+        λ i u h. cond_both (eqb (x.rv + 1) (s.clock + 1)) [] (locations x.reads) (λ (ls : List ℕ). Member i ls ⊎ Good t (s.clock + 1 - 1) i u)
+            (λ q. inr (keeps.good (s.clock + 1 - 1) i u (let since : x.rv ≡ s.clock + 1 - 1 = omega (arith, eqb-true (x.rv + 1) (s.clock + 1) q) in subst (λ (n : ℕ). Good s n i u) since ((v.actors a).reads i u h))))
+            (λ _. inl (member_locations x.reads i u h)),
       );
     } in
     record {
@@ -137,16 +143,16 @@ stamped_ok s a v e pl =
     }
 
 -- a lock given back, with a word whose version is not below the old one
-gives_back_ok : (s : World) (a : ℕ) (f : ℕ × ℕ) (fs : Entries) (w : LockWord) (p : Place) → Inv s → (s.actors a).held ≡ f ∷ fs → (IsPending p → ⊥)
+gives_back_ok : (s : World) (a : ℕ) (f : ℕ × ℕ) (fs : Entries) (w : LockWord) (p : Place) → Inv s → (s.actors a).held ≡ f ∷ fs → (IsPending p → ⊥) → HasBegun (s.actors a).place
     → version_of (s.locks f.0) ≤ version_of w → version_of w ≤ s.clock
     → (stamp s.history f.0 ≤ version_of w → s.values f.0 ≡ latest s f.0)
     → (((b : ℕ) → IsHalfDone (s.actors b).place → (b ≡ a → ⊥) → lookup (s.actors b).held f.0 ≡ None) → stamp s.history f.0 ≤ version_of w)
     → ((i : ℕ) → (i ≡ f.0 → ⊥) → IsHalfDone (s.actors a).place → (IsHalfDone p → lookup fs i ≡ None) → lookup (s.actors a).held i ≡ None)
-    → PlaceOk s (record { place = p; rv = (s.actors a).rv; wv = (s.actors a).wv; reads = (s.actors a).reads; writes = (s.actors a).writes; held = fs; calls = (s.actors a).calls }) p
+    → PlaceOk s (record { place = p; declared = (s.actors a).declared; rv = (s.actors a).rv; wv = (s.actors a).wv; reads = (s.actors a).reads; writes = (s.actors a).writes; held = fs; calls = (s.actors a).calls }) p
     → Moved s a (gives_back s a (s.actors a) f.0 w fs p)
-gives_back_ok s a f fs w p v has np up top cur beh still pl =
+gives_back_ok s a f fs w p v has np at_p up top cur beh still pl =
     let x = s.actors a in
-    let y : Actor = record { place = p; rv = x.rv; wv = x.wv; reads = x.reads; writes = x.writes; held = fs; calls = x.calls } in
+    let y : Actor = record { place = p; declared = x.declared; rv = x.rv; wv = x.wv; reads = x.reads; writes = x.writes; held = fs; calls = x.calls } in
     let words : ℕ → LockWord = put s.locks f.0 w in
     let t : World = next s a y s.clock words s.values s.history s.aborted in
     let uniq : IsUnique (f ∷ fs) = subst IsUnique has (v.actors a).unique in
@@ -171,7 +177,9 @@ gives_back_ok s a f fs w p v has np up top cur beh still pl =
     let own : ActorOk t y = ActorOk-kept s t y keeps mine (record {
       began = (v.actors a).began;
       reads = (v.actors a).reads;
+      saw = (v.actors a).saw;
       sets = (v.actors a).sets;
+      kept = λ _. (v.actors a).kept at_p;
       held = λ i j h. (v.actors a).held i j (rest i j h).1;
       unique = uniq.1;
       place = pl;
@@ -205,7 +213,7 @@ undone_ok s a (f ∷ fs) v e has =
     let hold : lookup (s.actors a).held f.0 ≡ Some f.1 = ap (λ (z : Entries). lookup z f.0) has ∙ lookup-head f fs in
     let ver : version_of (s.locks f.0) ≡ f.1 = ap version_of ((v.actors a).held f.0 f.1 hold) in
     let none : IsHalfDone (s.actors a).place → ⊥ = λ half. (let z : IsHalfDone Undo = subst IsHalfDone e half in z) in
-    gives_back_ok s a f fs (Free f.1) Undo v has (λ h. h) (omega (arith, ver)) (omega (arith, ver, v.versions f.0))
+    gives_back_ok s a f fs (Free f.1) Undo v has (λ h. h) (subst HasBegun (sym e) tt) (omega (arith, ver)) (omega (arith, ver, v.versions f.0))
     (λ h. v.current f.0 (omega (arith, ver, h)))
     (λ h. let q = v.behind f.0 (λ b half. h b half (λ z. none (subst (λ (n : ℕ). IsHalfDone (s.actors n).place) z half))) in omega (arith, ver, q))
     (λ i ne half n. absurd (none half))
@@ -221,17 +229,17 @@ rest_done s wv w f fs some u d = record {
   value = λ i j h. d.value i j (rest_entry f fs i j u h).1;
 }
 
-release_ok : (s : World) (a : ℕ) (f : ℕ × ℕ) (fs : Entries) (p : Place) → Inv s → Done s (s.actors a).wv (s.actors a).writes (f ∷ fs) [] → (s.actors a).held ≡ f ∷ fs → (IsPending p → ⊥)
+release_ok : (s : World) (a : ℕ) (f : ℕ × ℕ) (fs : Entries) (p : Place) → Inv s → Done s (s.actors a).wv (s.actors a).writes (f ∷ fs) [] → (s.actors a).held ≡ f ∷ fs → (IsPending p → ⊥) → HasBegun (s.actors a).place
     → ((i : ℕ) → (IsHalfDone p → lookup fs i ≡ None) → lookup fs i ≡ None)
-    → PlaceOk s (record { place = p; rv = (s.actors a).rv; wv = (s.actors a).wv; reads = (s.actors a).reads; writes = (s.actors a).writes; held = fs; calls = (s.actors a).calls }) p
+    → PlaceOk s (record { place = p; declared = (s.actors a).declared; rv = (s.actors a).rv; wv = (s.actors a).wv; reads = (s.actors a).reads; writes = (s.actors a).writes; held = fs; calls = (s.actors a).calls }) p
     → Moved s a (gives_back s a (s.actors a) f.0 (Free (s.actors a).wv) fs p)
-release_ok s a f fs p v d has np still pl =
+release_ok s a f fs p v d has np at_p still pl =
     let hold : lookup (s.actors a).held f.0 ≡ Some f.1 = ap (λ (z : Entries). lookup z f.0) has ∙ lookup-head f fs in
     let ver : version_of (s.locks f.0) ≡ f.1 = ap version_of ((v.actors a).held f.0 f.1 hold) in
     let new = d.newer f.0 f.1 (lookup-head f fs) in
     let is = d.last f.0 f.1 (lookup-head f fs) in
     let val = d.value f.0 f.1 (lookup-head f fs) in
-    gives_back_ok s a f fs (Free (s.actors a).wv) p v has np (omega (arith, ver, new)) d.made
+    gives_back_ok s a f fs (Free (s.actors a).wv) p v has np at_p (omega (arith, ver, new)) d.made
     (λ h. elim val.3 [ inl q ↦ q ∙ sym val.2 | inr m ↦ absurd m ])
     (λ h. omega (arith, is))
     (λ i ne half n. ap (λ (z : Entries). lookup z i) has ∙ lookup-tail f fs i ne ∙ still i n)
@@ -241,10 +249,10 @@ pub released_ok : (s : World) (a : ℕ) (h : Entries) → Inv s → (s.actors a)
 unfolding lookup
 released_ok s a [] v e d has = absurd (let none : IsSomeEntry [] = subst IsSomeEntry has d.some in none)
 released_ok s a (f ∷ []) v e d has =
-    release_ok s a f [] Idle v (subst (λ (z : Entries). Done s (s.actors a).wv (s.actors a).writes z []) has d) has (λ h. h) (λ i n. refl) refl
+    release_ok s a f [] Idle v (subst (λ (z : Entries). Done s (s.actors a).wv (s.actors a).writes z []) has d) has (λ h. h) (subst HasBegun (sym e) tt) (λ i n. refl) refl
 released_ok s a (f ∷ (g ∷ fs)) v e d has =
     let d2 = subst (λ (z : Entries). Done s (s.actors a).wv (s.actors a).writes z []) has d in
-    release_ok s a f (g ∷ fs) Release v d2 has (λ h. h) (λ i n. n tt)
+    release_ok s a f (g ∷ fs) Release v d2 has (λ h. h) (subst HasBegun (sym e) tt) (λ i n. n tt)
     (rest_done s (s.actors a).wv (s.actors a).writes f (g ∷ fs) tt (subst IsUnique has (v.actors a).unique) d2)
 
 -- a value store after the first
@@ -268,7 +276,9 @@ stored_ok s a l ls v e pl =
     let own : ActorOk t y = record {
       began = (v.actors a).began;
       reads = λ i z h. keeps.good x.rv i z ((v.actors a).reads i z h);
+      saw = Saw-kept s t x.rv x.calls keeps (v.actors a).saw;
       sets = (v.actors a).sets;
+      kept = λ _. (v.actors a).kept (subst HasBegun (sym e) tt);
       held = (v.actors a).held;
       unique = (v.actors a).unique;
       place = (
@@ -340,6 +350,11 @@ some_lookup [] h n f = absurd n
 some_lookup (e ∷ es) [] n f = let q = f e.0 e.1 (lookup-head e es) in (let z : Some q.0 ≡ None = sym q.1 in absurd (let b : ⊥ = cc in b))
 some_lookup (e ∷ es) (g ∷ gs) n f = tt
 
+-- a transaction that writes is no declared reader, so its read set is all that it has seen
+pub writer_keeps : (declared : Bool) (reads writes seen : Entries) → IsSomeEntry writes → IsKept declared reads writes seen → seen ≡ reads
+writer_keeps true reads writes seen some kept = absurd (let none : IsSomeEntry [] = subst IsSomeEntry kept.1 some in none)
+writer_keeps false reads writes seen some kept = kept
+
 -- the commit of a writer
 commits_ok : (s : World) (a : ℕ) (values : Memory) (ls : List ℕ) → Inv s → (s.actors a).place ≡ First → PlaceOk s (s.actors a) First → FirstStored s (s.actors a) values ls → Moved s a (commits s a (s.actors a) values ls)
 commits_ok s a values ls v e pl fst =
@@ -392,10 +407,13 @@ commits_ok s a values ls v e pl fst =
       latest = λ i j h. finals_untouched r s.history i (s.opening i) (free i j h).1;
     }) in
     let some_held : IsSomeEntry x.held = some_lookup x.writes x.held st.some st.all_held in
+    let all_read : (v.actors a).saw.reads ≡ x.reads = writer_keeps x.declared x.reads x.writes (v.actors a).saw.reads st.some ((v.actors a).kept (subst HasBegun (sym e) tt)) in
     let own : ActorOk t y = record {
       began = (v.actors a).began;
       reads = λ i u h. keeps.good x.rv i u ((v.actors a).reads i u h);
+      saw = Saw-kept s t x.rv x.calls keeps (v.actors a).saw;
       sets = (v.actors a).sets;
+      kept = λ _. (v.actors a).kept (subst HasBegun (sym e) tt);
       held = (v.actors a).held;
       unique = (v.actors a).unique;
       place = (
@@ -445,7 +463,7 @@ commits_ok s a values ls v e pl fst =
           reader = λ q. absurd (true≢false q);
           saw = record {
             reads = x.reads;
-            legal = (v.actors a).sets.legal;
+            legal = λ m g. (v.actors a).saw.legal m (λ i u h. g i u (ap (λ (z : Entries). lookup z i) (sym all_read) ∙ h));
             good = λ i u h. elim (pl.1 i u h) [ inl m ↦ absurd m | inr g ↦ keeps.good (x.wv - 1) i u g ];
           };
         }) (records_kept s t s.history keeps v.records);
@@ -512,7 +530,9 @@ closed_ok s a v e pl =
     let own : ActorOk t y = record {
       began = (v.actors a).began;
       reads = λ i u h. keeps.good x.rv i u ((v.actors a).reads i u h);
+      saw = Saw-kept s t x.rv x.calls keeps (v.actors a).saw;
       sets = (v.actors a).sets;
+      kept = λ _. (v.actors a).kept (subst HasBegun (sym e) tt);
       held = (v.actors a).held;
       unique = (v.actors a).unique;
       place = pl.0;
@@ -533,11 +553,7 @@ closed_ok s a v e pl =
           past = (v.actors a).began;
           positive = λ q. absurd (true≢false (sym q));
           reader = λ q. un;
-          saw = record {
-            reads = x.reads;
-            legal = (v.actors a).sets.legal;
-            good = λ i u h. keeps.good x.rv i u ((v.actors a).reads i u h);
-          };
+          saw = Saw-kept s t x.rv x.calls keeps (v.actors a).saw;
         }) (records_kept s t s.history keeps v.records);
         aborted = aborted_kept s t s.aborted keeps v.aborted;
       };

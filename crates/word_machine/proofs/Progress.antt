@@ -1,10 +1,10 @@
 -- Each own step of a request brings it nearer to its answer, whatever others do.
-use Rattle.std.proofs.Common.{◌≡◌, ℕ, suc, ◌+◌, ◌*◌, ◌<◌, eqb, ltb, leb, Option, Some, None, List, [], ◌∷◌, length, refl, sym, ap, subst, arith}
+use Rattle.std.proofs.Common.{◌≡◌, ℕ, suc, ◌+◌, ◌*◌, ◌<◌, ◌≤◌, eqb, ltb, leb, Option, Some, None, List, [], ◌∷◌, length, refl, sym, ap, subst, arith}
 use Rattle.std.proofs.lemmas.Bool.{cond_both}
 use Rattle.vlock_word.specs.declared.lock_word.LockWord.{LockWord}
 use Rattle.vlock_word.specs.declared.lock_word.LockWord.TheVariants.{Free, Locked}
 use Rattle.tx_sets.specs.Entries.{Entries, lookup, locations}
-use Rattle.word_machine.specs.Actor.{Place, Idle, Begin, Open, Look, Fetch, Again, Lock, Take, Check, Broken, First, Store, Release, Undo, Leave, Close, Actor, goes, opened, clock_limit, has_read}
+use Rattle.word_machine.specs.Actor.{Place, Idle, Begin, Open, Look, Fetch, Again, Lock, Take, Check, Broken, First, Store, Release, Undo, Leave, Close, Actor, goes, opened, clock_limit, has_read, to_check}
 use Rattle.word_machine.specs.World.{put, World, Step, now, step, happens}
 use Rattle.word_machine.proofs.Worlds.{looked, looked_again, to_lock, tried, locked, checked, first, released, undone}
 use Rattle.word_machine.specs.Progress.{steps_left}
@@ -15,6 +15,10 @@ pub length-locations : (es : Entries) → length (locations es) ≡ length es
 unfolding locations
 length-locations [] = refl
 length-locations (e ∷ es) = ap suc (length-locations es)
+
+-- what is to be checked is no longer than the read set
+pub few_to_check : (x : Actor) (wv : ℕ) → length (to_check x wv) ≤ length x.reads
+few_to_check x wv = cond_both (eqb (x.rv + 1) wv) [] (locations x.reads) (λ (ls : List ℕ). length ls ≤ length x.reads) (λ _. omega arith) (λ _. let q = length-locations x.reads in omega (arith, q))
 
 -- fewer than n steps are left to actor a
 abbrev pub Nearer : ℕ → Actor → Type 0
@@ -67,13 +71,13 @@ undone_nearer s a x (e ∷ es) p = subst (Nearer (length (e ∷ es))) (sym (put-
 
 step_nearer : (s : World) (a : ℕ) (x : Actor) (p : Place) → PlaceOk s x p → 0 < steps_left x p → Nearer (steps_left x p) ((step s a x p).actors a)
 step_nearer s a x Idle pl h = absurd (omega (arith, h))
-step_nearer s a x Begin pl h = cond_both (ltb s.clock clock_limit) (opened s.clock) (goes x Idle) (λ (z : Actor). Nearer 1 (put s.actors a z a))
-    (λ _. nearer_put 1 s.actors a (opened s.clock) (omega arith)) (λ _. nearer_put 1 s.actors a (goes x Idle) (omega arith))
+step_nearer s a x Begin pl h = cond_both (ltb s.clock clock_limit) (opened x.declared s.clock) (goes x Idle) (λ (z : Actor). Nearer 1 (put s.actors a z a))
+    (λ _. nearer_put 1 s.actors a (opened x.declared s.clock) (omega arith)) (λ _. nearer_put 1 s.actors a (goes x Idle) (omega arith))
 step_nearer s a x Open pl h = absurd (omega (arith, h))
 step_nearer s a x (Look l) pl h = looked_nearer s a x l (s.locks l) pl.0
 step_nearer s a x (Fetch l k) pl h = nearer_put 2 s.actors a (goes x (Again l k (s.values l))) (omega arith)
 step_nearer s a x (Again l k v) pl h = again_nearer s a x l k v (s.locks l) (pl.0).0
-step_nearer s a x (Lock []) pl h = subst (Nearer (2 * 0 + 1 + length x.reads)) (sym (put-same s.actors a _)) (let q = length-locations x.reads in omega (arith, q))
+step_nearer s a x (Lock []) pl h = subst (Nearer (2 * 0 + 1 + length x.reads)) (sym (put-same s.actors a _)) (let q = few_to_check x (s.clock + 1) in omega (arith, q))
 step_nearer s a x (Lock (l ∷ ls)) pl h = to_lock_nearer s a x l ls (s.locks l)
 step_nearer s a x (Take l k ls) pl h = take_nearer s a x l k ls (s.locks l)
 step_nearer s a x (Check []) pl h = absurd (omega (arith, h))

@@ -6,8 +6,8 @@ use Rattle.vlock_word.specs.declared.lock_word.LockWord.{LockWord}
 use Rattle.vlock_word.specs.declared.lock_word.LockWord.TheVariants.{Free, Locked}
 use Rattle.vlock_word.specs.LockWord.{version_of, is_locked_word, bits}
 use Rattle.tx_sets.specs.Entries.{Entries, lookup}
-use Rattle.word_machine.specs.Actor.{Place, Idle, Begin, Open, Look, Fetch, Again, Lock, Take, Check, Broken, First, Store, Release, Undo, Leave, Close, Actor, goes, clock_limit}
-use Rattle.word_machine.specs.Requests.{Request, AskBegin, AskLock, AskStore, AskRelease, AskCancel, AskAbort, AskClose, AskRead, AskWrite, abort, ask}
+use Rattle.word_machine.specs.Actor.{Place, Idle, Begin, Open, Look, Fetch, Again, Lock, Take, Check, Broken, First, Store, Release, Undo, Leave, Close, Actor, goes, clock_limit, to_check}
+use Rattle.word_machine.specs.Requests.{Request, AskBegin, AskBeginRead, AskLock, AskStore, AskRelease, AskCancel, AskAbort, AskClose, AskRead, AskWrite, abort, ask}
 use Rattle.word_machine.specs.World.{put, World, Event, Ask, Step, now, step, happens}
 use Rattle.word_machine.specs.Notices.{Notice, Quiet, Begun, Exhausted, Moved, Busy, Invalid, Number, LockedAt, Stored, Released, Cancelled, IsConflict, notice, look_notice, again_notice, lock_notice, take_notice, check_notice, when_none_left, last_notice}
 use Rattle.word_machine.specs.Refusals.{IsTrue, IsRefused, IsEnding, IsCommitting}
@@ -64,7 +64,7 @@ notice_true s x Open pl = tt
 notice_true s x (Look l) pl = look_true s x l (s.locks l) refl
 notice_true s x (Fetch l k) pl = tt
 notice_true s x (Again l k v) pl = again_true s x l k v (s.locks l) refl
-notice_true s x (Lock []) pl = none_left (IsTrue s x (Lock [])) x.reads (LockedAt (s.clock + 1)) tt tt
+notice_true s x (Lock []) pl = none_left (IsTrue s x (Lock [])) (to_check x (s.clock + 1)) (LockedAt (s.clock + 1)) tt tt
 notice_true s x (Lock (l ∷ ls)) pl = lock_true s x l ls (s.locks l) refl
 notice_true s x (Take l k ls) pl = take_true s x l k ls (s.locks l) refl
 notice_true s x (Check []) pl = tt
@@ -160,7 +160,7 @@ conflict_ends s a x Open h = absurd h
 conflict_ends s a x (Look l) h = look_ends s a x l (s.locks l) h
 conflict_ends s a x (Fetch l k) h = absurd h
 conflict_ends s a x (Again l k v) h = again_ends s a x l k v (s.locks l) h
-conflict_ends s a x (Lock []) h = absurd (quiet_left x.reads (LockedAt (s.clock + 1)) (λ b. b) h)
+conflict_ends s a x (Lock []) h = absurd (quiet_left (to_check x (s.clock + 1)) (LockedAt (s.clock + 1)) (λ b. b) h)
 conflict_ends s a x (Lock (l ∷ ls)) h = lock_ends s a x l ls (s.locks l) h
 conflict_ends s a x (Take l k ls) h = take_ends s a x l k ls (s.locks l) h
 conflict_ends s a x (Check []) h = absurd h
@@ -184,6 +184,7 @@ abort_ends x (f ∷ fs) h = h
 
 ask_ends : (x : Actor) (p : Place) (request : Request) → IsEnding p → IsEnding x.place → IsEnding (ask x p request).place
 ask_ends x Idle AskBegin pl h = absurd pl
+ask_ends x Idle AskBeginRead pl h = absurd pl
 ask_ends x Open (AskRead l) pl h = absurd pl
 ask_ends x Open (AskWrite l u) pl h = absurd pl
 ask_ends x Open AskLock pl h = absurd pl

@@ -13,6 +13,7 @@ use Rattle.word_machine.proofs.Sets.{put-same}
 use Rattle.word_machine.proofs.Calls.{Sets-none}
 use Rattle.word_machine.proofs.Records.{settled, memory_after-upto, memory_after-finals, AllRecords, AllRecords_map, base, LegalAt, IsRun-records}
 use Rattle.word_machine.proofs.Invariant.{Saw, Locking, PlaceOk, RecordOk, Inv}
+use Rattle.word_machine.proofs.Saw.{Saw-none}
 use Rattle.word_machine.proofs.Frame.{Moved, moved_none, Saw-kept, quiet}
 use Rattle.word_machine.proofs.Quiet.{lookup-none, ask_ok, begin_ok, looked_ok, fetch_ok, looked_again_ok, to_lock_ok, broken_ok, checked_ok, left_ok}
 use Rattle.word_machine.proofs.Moves.{locked_ok, stamped_ok, undone_ok, released_ok, stored_ok, first_ok, closed_ok}
@@ -24,8 +25,8 @@ tried_ok : (s : World) (a l k : ℕ) (ls : List ℕ) (w : LockWord) → Inv s �
 tried_ok s a l k ls (Free j) v e pl is =
     cond_both (eqb j k) (locked s a (s.actors a) l k ls) (now s a (goes (s.actors a) Broken)) (Moved s a)
     (λ t. locked_ok s a l k ls v e pl (is ∙ ap Free (eqb-true j k t)))
-    (λ _. broken_ok s a (Take l k ls) v e (λ h. h))
-tried_ok s a l k ls (Locked j) v e pl is = broken_ok s a (Take l k ls) v e (λ h. h)
+    (λ _. broken_ok s a (Take l k ls) v e (λ h. h) tt)
+tried_ok s a l k ls (Locked j) v e pl is = broken_ok s a (Take l k ls) v e (λ h. h) tt
 
 pub step_ok : (s : World) (a : ℕ) (p : Place) → Inv s → (s.actors a).place ≡ p → PlaceOk s (s.actors a) p → Moved s a (step s a (s.actors a) p)
 step_ok s a Idle v e pl = moved_none s a v
@@ -70,7 +71,9 @@ start_ok clock memory = record {
   actors = λ a. record {
     began = omega arith;
     reads = λ l u h. absurd (lookup-none [] l u refl h);
+    saw = Saw-none (start clock memory) 0;
     sets = Sets-none;
+    kept = λ h. absurd h;
     held = λ l k h. absurd (lookup-none [] l k refl h);
     unique = tt;
     place = refl;
@@ -109,7 +112,7 @@ pub all_aborted : (s : World) → Inv s → AllEnded (λ e. IsLegal (memory_at s
 all_aborted s v = aborted_legal s s.aborted v.aborted
 
 pub actor_saw : (s : World) (a : ℕ) → Inv s → Saw s (s.actors a).rv (s.actors a).calls
-actor_saw s a v = record { reads = (s.actors a).reads; legal = (v.actors a).sets.legal; good = (v.actors a).reads }
+actor_saw s a v = (v.actors a).saw
 
 pub words_at_rest : (s : World) → Inv s → IsNoneHalfDone s → (l : ℕ) → s.values l ≡ memory_after s.opening s.history l
 words_at_rest s v none l = v.current l (v.behind l (λ a half. absurd (none a half))) ∙ sym (memory_after-finals s.history s.opening l)
@@ -126,8 +129,8 @@ pub begins_at : (s : World) (a : ℕ) → Inv s → (s.actors a).place ≡ Begin
 begins_at s a v e =
     let P : Place → Type 0 = λ p. (((step s a (s.actors a) p).actors a).place ≡ Open → AllUpto ((step s a (s.actors a) p).actors a).rv s.history) in
     let Q : Actor → Type 0 = λ z. (z.place ≡ Open → AllUpto z.rv s.history) in
-    subst P (sym e) (cond_both (ltb s.clock clock_limit) (opened s.clock) (goes (s.actors a) Idle) (λ (z : Actor). Q (put s.actors a z a))
-    (λ _. subst Q (sym (put-same s.actors a (opened s.clock))) (λ _. all_upto s s.history v.records))
+    subst P (sym e) (cond_both (ltb s.clock clock_limit) (opened (s.actors a).declared s.clock) (goes (s.actors a) Idle) (λ (z : Actor). Q (put s.actors a z a))
+    (λ _. subst Q (sym (put-same s.actors a (opened (s.actors a).declared s.clock))) (λ _. all_upto s s.history v.records))
     (λ _. subst Q (sym (put-same s.actors a (goes (s.actors a) Idle))) (λ h. (let z : Idle ≡ Open = h in cc))))
 
 pub idle_holds_none : (s : World) (a : ℕ) → Inv s → (s.actors a).place ≡ Idle → (s.actors a).held ≡ []

@@ -6,14 +6,14 @@ use Rattle.vlock_word.specs.declared.lock_word.LockWord.{LockWord}
 use Rattle.vlock_word.specs.declared.lock_word.LockWord.TheVariants.{Free, Locked}
 use Rattle.tx_sets.specs.Entries.{Entries, lookup, with_entry, locations}
 use Rattle.word_machine.specs.Actor.{Place, Idle, Begin, Open, Look, Fetch, Again, Lock, Take, Check, Broken, First, Store, Release, Undo, Leave, Close, Actor, goes, opened, has_read, taken, freed, after_release, clock_limit}
-use Rattle.word_machine.specs.Requests.{Request, AskBegin, AskLock, AskStore, AskRelease, AskCancel, AskAbort, AskClose, AskRead, AskWrite, read, lock, close, abort, ask}
+use Rattle.word_machine.specs.Requests.{Request, AskBegin, AskBeginRead, AskLock, AskStore, AskRelease, AskCancel, AskAbort, AskClose, AskRead, AskWrite, read, write, lock, close, abort, ask}
 use Rattle.word_machine.specs.World.{Memory, World, Event, Ask, Step, put, now, step, happens, run, start}
 use Rattle.word_machine.specs.Progress.{steps_left}
 use Rattle.word_machine.proofs.Worlds.{looked, looked_again, to_lock, locked, tried, checked, first, released, undone}
 use Rattle.word_machine.proofs.Sets.{put-same, put_both}
 use Rattle.word_machine.proofs.Invariant.{PlaceOk, Inv}
 use Rattle.word_machine.proofs.Schedules.{happens_ok, start_ok}
-use Rattle.word_machine.proofs.Progress.{length-locations}
+use Rattle.word_machine.proofs.Progress.{length-locations, few_to_check}
 use Rattle.word_machine.proofs.Answered.{step_other}
 
 -- the locks held, and those still to come
@@ -42,6 +42,10 @@ read_short x l (Some v) r h = h
 read_short x l None (Some v) h = h
 read_short x l None None h = h
 
+write_short : (x : Actor) (declared : Bool) (l v : ℕ) → length x.held ≤ length x.writes → ShortOk x → ShortOk (write x declared l v)
+write_short x true l v g h = h
+write_short x false l v g h = (let q = length-with_entry x.writes l v in omega (arith, q.0, g))
+
 lock_short : (x : Actor) (w : Entries) → x.writes ≡ w → x.held ≡ [] → ShortOk x → ShortOk (lock x w)
 lock_short x [] e none h = h
 lock_short x (f ∷ fs) e none h = (let q = length-locations (f ∷ fs) in let p = ap length e in let n = ap length none in omega (arith, q, p, n))
@@ -56,8 +60,9 @@ abort_short x (f ∷ fs) g h = h
 
 ask_short : (s : World) (x : Actor) (p : Place) (request : Request) → PlaceOk s x p → Short x p → ShortOk x → ShortOk (ask x p request)
 ask_short s x Idle AskBegin pl g h = g
+ask_short s x Idle AskBeginRead pl g h = g
 ask_short s x Open (AskRead l) pl g h = read_short x l (lookup x.writes l) (lookup x.reads l) g
-ask_short s x Open (AskWrite l v) pl g h = (let q = length-with_entry x.writes l v in omega (arith, q.0, g))
+ask_short s x Open (AskWrite l v) pl g h = write_short x x.declared l v g h
 ask_short s x Open AskLock pl g h = lock_short x x.writes refl pl h
 ask_short s x Open AskClose pl g h = close_short x x.writes g h
 ask_short s x Open AskAbort pl g h = g
@@ -128,12 +133,12 @@ undone_short s a (f ∷ fs) e h g = short_put s.actors a (freed (s.actors a) fs 
 
 step_short : (s : World) (a : ℕ) (p : Place) → Short (s.actors a) p → ShortOk (s.actors a) → ShortOk ((step s a (s.actors a) p).actors a)
 step_short s a Idle g h = h
-step_short s a Begin g h = short_put s.actors a _ (short_if (ltb s.clock clock_limit) (opened s.clock) (goes (s.actors a) Idle) (omega arith) g)
+step_short s a Begin g h = short_put s.actors a _ (short_if (ltb s.clock clock_limit) (opened (s.actors a).declared s.clock) (goes (s.actors a) Idle) (omega arith) g)
 step_short s a Open g h = h
 step_short s a (Look l) g h = looked_short s a (s.actors a) l (s.locks l) g
 step_short s a (Fetch l k) g h = short_put s.actors a (goes (s.actors a) (Again l k (s.values l))) g
 step_short s a (Again l k v) g h = again_short s a (s.actors a) l k v (s.locks l) g
-step_short s a (Lock []) g h = subst ShortOk (sym (put-same s.actors a _)) ((let q = length-locations (s.actors a).reads in omega (arith, q)), omega (arith, g))
+step_short s a (Lock []) g h = subst ShortOk (sym (put-same s.actors a _)) (few_to_check (s.actors a) (s.clock + 1), omega (arith, g))
 step_short s a (Lock (l ∷ ls)) g h = to_lock_short s a (s.actors a) l ls (s.locks l) g
 step_short s a (Take l k ls) g h = take_short s a (s.actors a) l k ls (s.locks l) g
 step_short s a (Check []) g h = h

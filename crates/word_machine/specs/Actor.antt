@@ -1,5 +1,5 @@
 -- An actor with its transaction, and what each atomic step makes of its own record, by the word that the step found.
-use Rattle.std.specs.Prelude.{ℕ, Option, Some, None, List, [], ◌∷◌, ◌++◌, ◌==◌, nat_le, nat_lt, if◌then◌else◌}
+use Rattle.std.specs.Prelude.{ℕ, ◌+◌, Bool, true, false, Option, Some, None, List, [], ◌∷◌, ◌++◌, ◌==◌, nat_le, nat_lt, if◌then◌else◌}
 use Rattle.vlock_word.specs.declared.lock_word.LockWord.{LockWord}
 use Rattle.vlock_word.specs.declared.lock_word.LockWord.TheVariants.{Free, Locked}
 use Rattle.tx_sets.specs.Entries.{Entries, with_entry, locations}
@@ -31,6 +31,7 @@ pub data Place : Type 0 where
 -- An actor's own record.
 pub record Actor : Type 0 where
   pub place : Place
+  pub declared : Bool  -- whether it began as a reader, which writes nothing and keeps no read set
   pub rv : ℕ  -- the clock as the transaction began
   pub wv : ℕ  -- the number of its commit
   pub reads : Entries  -- the read set: locations with the values that were read
@@ -46,22 +47,27 @@ clock_limit = 4611686018427387904
 abbrev pub goes : Actor → Place → Actor
 goes x p = record x { place = p }
 
--- a new transaction
-abbrev pub opened : ℕ → Actor
-opened clock = record { place = Open; rv = clock; wv = 0; reads = []; writes = []; held = []; calls = [] }
+-- a new transaction, of a declared reader or not
+abbrev pub opened : Bool → ℕ → Actor
+opened declared clock = record { place = Open; declared = declared; rv = clock; wv = 0; reads = []; writes = []; held = []; calls = [] }
 
 -- the clock was loaded to begin
 abbrev pub begun : Actor → ℕ → Actor
-begun x clock = if nat_lt clock clock_limit then opened clock else goes x Idle
+begun x clock = if nat_lt clock clock_limit then opened x.declared clock else goes x Idle
 
 -- the lock word of a location was loaded to read it
 abbrev pub seen : Actor → ℕ → LockWord → Actor
 seen x l (Free k) = if nat_le k x.rv then goes x (Fetch l k) else goes x Undo
 seen x l (Locked k) = goes x Undo
 
+-- the read set with one read more; a declared reader keeps none
+abbrev pub with_read : Bool → Entries → ℕ → ℕ → Entries
+with_read true reads l v = reads
+with_read false reads l v = with_entry reads l v
+
 -- a read was answered
 abbrev pub has_read : Actor → ℕ → ℕ → Actor
-has_read x l v = record x { place = Open; reads = with_entry x.reads l v; calls = x.calls ++ Read l v ∷ [] }
+has_read x l v = record x { place = Open; reads = with_read x.declared x.reads l v; calls = x.calls ++ Read l v ∷ [] }
 
 -- the lock word was loaded again, after value v between two loads
 abbrev pub seen_again : Actor → ℕ → ℕ → ℕ → LockWord → Actor
@@ -77,9 +83,13 @@ seen_to_lock x l ls (Locked k) = goes x Broken
 abbrev pub taken : Actor → ℕ → ℕ → List ℕ → Actor
 taken x l k ls = record x { place = Lock ls; held = x.held ++ (l, k) ∷ [] }
 
+-- the locations that a commit of number wv has to check: none where no other commit took a number since it began
+abbrev pub to_check : Actor → ℕ → List ℕ
+to_check x wv = if x.rv + 1 == wv then [] else locations x.reads
+
 -- the clock was advanced to the number of this commit
 abbrev pub stamped_at : Actor → ℕ → Actor
-stamped_at x clock = record x { place = Check (locations x.reads); wv = clock }
+stamped_at x wv = record x { place = Check (to_check x wv); wv = wv }
 
 -- the lock word of a read location was loaded for the check; a word that this transaction itself has locked, as it is in its write set, is judged by
 -- its old version

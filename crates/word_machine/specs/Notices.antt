@@ -1,10 +1,10 @@
 -- What the steps answer.
-use Rattle.std.specs.Prelude.{ℕ, ◌+◌, Option, Some, None, List, [], ◌∷◌, ◌==◌, nat_le, nat_lt, if◌then◌else◌}
+use Rattle.std.specs.Prelude.{ℕ, ◌+◌, Bool, true, false, Option, Some, None, List, [], ◌∷◌, ◌==◌, nat_le, nat_lt, if◌then◌else◌}
 use Rattle.vlock_word.specs.declared.lock_word.LockWord.{LockWord}
 use Rattle.vlock_word.specs.declared.lock_word.LockWord.TheVariants.{Free, Locked}
 use Rattle.vlock_word.specs.LockWord.{bits}
 use Rattle.tx_sets.specs.Entries.{Entries, lookup}
-use Rattle.word_machine.specs.Actor.{Place, Idle, Begin, Open, Look, Fetch, Again, Lock, Take, Check, Broken, First, Store, Release, Undo, Leave, Close, Actor, clock_limit}
+use Rattle.word_machine.specs.Actor.{Place, Idle, Begin, Open, Look, Fetch, Again, Lock, Take, Check, Broken, First, Store, Release, Undo, Leave, Close, Actor, clock_limit, to_check}
 use Rattle.word_machine.specs.Requests.{Request, AskRead, AskWrite, AskCancel, AskAbort}
 use Rattle.word_machine.specs.World.{World}
 
@@ -71,10 +71,15 @@ read_reply (Some v) seen = Number v
 read_reply None (Some v) = Number v
 read_reply None None = Quiet
 
--- a write, a cancel with no lock taken, and an abort in place of a begin
+-- a write, which a declared reader lacks
+abbrev pub write_reply : Bool → Notice
+write_reply true = Quiet
+write_reply false = Written
+
+-- and a cancel with no lock taken, and an abort in place of a begin
 abbrev pub reply : Actor → Place → Request → Notice
 reply x Open (AskRead l) = read_reply (lookup x.writes l) (lookup x.reads l)
-reply x Open (AskWrite l v) = Written
+reply x Open (AskWrite l v) = write_reply x.declared
 reply x Begin AskAbort = Closed
 reply x (Lock ls) AskCancel = when_none_left x.held Cancelled
 reply x (Take l k ls) AskCancel = when_none_left x.held Cancelled
@@ -90,7 +95,7 @@ notice s x Open = NoTransaction
 notice s x (Look l) = look_notice x.rv l (s.locks l)
 notice s x (Fetch l k) = Quiet
 notice s x (Again l k v) = again_notice l k v (s.locks l)
-notice s x (Lock []) = when_none_left x.reads (LockedAt (s.clock + 1))
+notice s x (Lock []) = when_none_left (to_check x (s.clock + 1)) (LockedAt (s.clock + 1))
 notice s x (Lock (l ∷ ls)) = lock_notice l (s.locks l)
 notice s x (Take l k ls) = take_notice l k (s.locks l)
 notice s x (Check []) = NoTransaction

@@ -1,5 +1,5 @@
 -- What TL2 promises of its committed, open and aborted transactions.
-use Rattle.std.specs.Prelude.{◌≡◌, ℕ, ◌≤◌, false, List, [], ◌∷◌, nat_le, if◌then◌else◌}
+use Rattle.std.specs.Prelude.{◌≡◌, ℕ, ◌≤◌, false, Option, Some, None, List, [], ◌∷◌, ◌==◌, nat_le, if◌then◌else◌}
 use Rattle.word_machine.specs.Actor.{Call, Read, Write, Place, Store, Release}
 use Rattle.word_machine.specs.World.{Memory, put, Record, Ended, World, Event, Ask, Step, run, start}
 
@@ -14,6 +14,12 @@ unfoldable pub IsLegal : Memory → List Call → Type 0
 IsLegal m [] = Unit {0}
 IsLegal m (Read l v ∷ cs) = (m l ≡ v) × IsLegal m cs
 IsLegal m (Write l v ∷ cs) = IsLegal (put m l v) cs
+
+-- what the first read of l replied, if the calls haven't written l before it
+abbrev pub first_read : List Call → ℕ → Option ℕ
+first_read [] l = None
+first_read (Read k v ∷ cs) l = if l == k then Some v else first_read cs l
+first_read (Write k v ∷ cs) l = if l == k then None else first_read cs l
 
 -- one whole transaction after another
 unfoldable pub memory_after : Memory → List Record → Memory

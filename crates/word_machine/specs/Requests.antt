@@ -1,13 +1,17 @@
 -- What a request makes of its actor's record. A request does no atomic step.
-use Rattle.std.specs.Prelude.{ℕ, Option, Some, None, [], ◌∷◌, ◌++◌}
+use Rattle.std.specs.Prelude.{ℕ, Bool, true, false, Option, Some, None, [], ◌∷◌, ◌++◌}
 use Rattle.tx_sets.specs.Entries.{Entries, lookup, with_entry, locations}
 use Rattle.word_machine.specs.Actor.{Call, Read, Write, Place, Idle, Begin, Open, Look, Fetch, Again, Lock, Take, Check, Broken, First, Store, Release, Undo, Leave, Close, Actor, goes}
 
 -- What may be asked of an actor.
 pub data Request : Type 0 where
-  AskBegin AskLock AskStore AskRelease AskCancel AskAbort AskClose : Request
+  AskBegin AskBeginRead AskLock AskStore AskRelease AskCancel AskAbort AskClose : Request
   AskRead : (l : ℕ) → Request
   AskWrite : (l v : ℕ) → Request
+
+-- a transaction is to begin, of a declared reader or not
+abbrev pub begin : Actor → Bool → Actor
+begin x declared = record x { place = Begin; declared = declared }
 
 -- a read that a set answers
 abbrev pub replied : Actor → Call → Actor
@@ -22,6 +26,11 @@ read x l None None = goes x (Look l)
 -- a write is kept in the write set
 abbrev pub wrote : Actor → ℕ → ℕ → Actor
 wrote x l v = record x { place = Open; writes = with_entry x.writes l v; calls = x.calls ++ Write l v ∷ [] }
+
+-- a declared reader writes nothing
+abbrev pub write : Actor → Bool → ℕ → ℕ → Actor
+write x true l v = x
+write x false l v = wrote x l v
 
 -- a writer commits from its locks on
 abbrev pub lock : Actor → Entries → Actor
@@ -40,9 +49,10 @@ abort x (e ∷ es) = x
 
 -- the record after a request; one at a place that lacks it changes nothing
 abbrev pub ask : Actor → Place → Request → Actor
-ask x Idle AskBegin = goes x Begin
+ask x Idle AskBegin = begin x false
+ask x Idle AskBeginRead = begin x true
 ask x Open (AskRead l) = read x l (lookup x.writes l) (lookup x.reads l)
-ask x Open (AskWrite l v) = wrote x l v
+ask x Open (AskWrite l v) = write x x.declared l v
 ask x Open AskLock = lock x x.writes
 ask x Open AskClose = close x x.writes
 ask x Open AskAbort = goes x Leave

@@ -169,7 +169,7 @@ run (e ∷ es) s = run es (happens s e)
 
 -- an actor that has asked for nothing
 abbrev pub blank : Actor
-blank = record { place = Idle; rv = 0; wv = 0; reads = []; writes = []; held = []; calls = [] }
+blank = record { place = Idle; declared = false; rv = 0; wv = 0; reads = []; writes = []; held = []; calls = [] }
 
 -- the opening: every lock word is 0
 abbrev pub start : ℕ → Memory → World

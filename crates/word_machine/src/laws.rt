@@ -1,14 +1,14 @@
 //! What holds of the machine after every schedule.
 //!
 //! Each law is the contract of a function without parameters, whose body is empty.
-ghost use Rattle.std.specs.Prelude.{◌≡◌, ◌≢◌, ◌<◌, ◌≤◌, ◌⊎◌, [], ◌∷◌, ℕ, List, Some, length};
-ghost use Rattle.tx_sets.specs.Entries.{Entries, lookup};
+ghost use Rattle.std.specs.Prelude.{◌≡◌, ◌≢◌, ◌+◌, ◌<◌, ◌≤◌, ◌⊎◌, [], ◌∷◌, ℕ, List, Some, length, true};
+ghost use Rattle.tx_sets.specs.Entries.{Entries, lookup, locations};
 ghost use Rattle.vlock_word.specs.declared.lock_word.LockWord.TheVariants.{Free, Locked};
-ghost use Rattle.word_machine.specs.Actor.{Begin, Open, Idle, Undo};
-ghost use Rattle.word_machine.specs.Requests.{Request};
+ghost use Rattle.word_machine.specs.Actor.{Begin, Open, Idle, Look, Lock, Check, Undo};
+ghost use Rattle.word_machine.specs.Requests.{Request, AskBeginRead, AskRead, AskWrite, AskLock};
 ghost use Rattle.word_machine.specs.World.{Memory, World, Event, Ask, Step, plan, happens, run};
 ghost use Rattle.word_machine.specs.Cells.{Cell, cell, word_of, becomes, learns};
-ghost use Rattle.word_machine.specs.Notices.{IsConflict, notice};
+ghost use Rattle.word_machine.specs.Notices.{IsConflict, LockedAt, notice};
 ghost use Rattle.word_machine.specs.Refusals.{IsTrue, IsRefused, IsEnding, IsCommitting};
 ghost use Rattle.word_machine.specs.Progress.{IsAlone, IsFree, steps_left, steps_of, AsksNothing, IsAnsweredWithin};
 ghost use Rattle.word_machine.specs.Opacity.{
@@ -132,4 +132,37 @@ pub fn progress()
         let s = after_events clock memory events in
         length (s.actors a).reads ≤ 4096 → length (s.actors a).writes ≤ 4096 →
         steps_left (s.actors a) (s.actors a).place < 1000000 }
+{}
+
+/// The check of a commit is left out where no other commit took a number since its transaction began,
+/// and only there. The fetch_add that takes its number then answers its lock.
+pub fn quick_check()
+    ensures left_out { (s : World) (a : ℕ) →
+        (s.actors a).place ≡ Lock [] → (s.actors a).rv ≡ s.clock →
+        notice s (s.actors a) (s.actors a).place ≡ LockedAt (s.clock + 1) }
+    ensures made { (s : World) (a : ℕ) →
+        (s.actors a).place ≡ Lock [] → (s.actors a).rv ≢ s.clock →
+        ((happens s (Step a)).actors a).place ≡ Check (locations (s.actors a).reads) }
+{}
+
+/// A declared reader has neither set: each of its reads is of three loads, also of a location that it
+/// has read before, and a write or a lock is not for it. It is a transaction like any other in
+/// [`opacity`].
+pub fn declared_readers()
+    ensures begins { (s : World) (a : ℕ) →
+        (s.actors a).place ≡ Idle → ((happens s (Ask a AskBeginRead)).actors a).declared ≡ true }
+    ensures stays { (s : World) (a : ℕ) (event : Event) →
+        (s.actors a).declared ≡ true → (s.actors a).place ≢ Idle → ((happens s event).actors a).declared ≡ true }
+    ensures anew { (clock : ℕ) (memory : Memory) (events : List Event) (a l : ℕ) →
+        let s = after_events clock memory events in
+        (s.actors a).declared ≡ true → (s.actors a).place ≡ Open →
+        ((happens s (Ask a (AskRead l))).actors a).place ≡ Look l }
+    ensures write { (clock : ℕ) (memory : Memory) (events : List Event) (a l v : ℕ) →
+        let s = after_events clock memory events in
+        (s.actors a).declared ≡ true → (s.actors a).place ≡ Open →
+        (happens s (Ask a (AskWrite l v))).actors a ≡ s.actors a }
+    ensures lock { (clock : ℕ) (memory : Memory) (events : List Event) (a : ℕ) →
+        let s = after_events clock memory events in
+        (s.actors a).declared ≡ true → (s.actors a).place ≡ Open →
+        (happens s (Ask a AskLock)).actors a ≡ s.actors a }
 {}

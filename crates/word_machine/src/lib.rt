@@ -9,8 +9,10 @@
 //! lock was free, unchanged, and not newer than `rv`. What it writes it keeps in its *write set*.
 //! Its commit locks the write set in the order of the locations, advances the clock to its *write
 //! version* (`wv`), checks that nothing that it read is newer than `rv`, stores its values, and
-//! releases its locks with the version `wv`. A transaction that writes nothing takes no lock: it
-//! commits by one load of the clock, and counts as of `rv`.
+//! releases its locks with the version `wv`. The check is left out where no other commit took a
+//! number since the transaction began, where `rv + 1` is `wv`. A transaction that writes nothing
+//! takes no lock: it commits by one load of the clock, and counts as of `rv`. One that is *declared
+//! a reader* as it begins keeps no read set either, and loads a location as often as it reads it.
 //!
 //! The machine is pure. An *event* is a request of an actor, or its next *atomic step*: one load,
 //! store, compare_exchange or fetch_add of one word. A *schedule* is a list of events, and any such

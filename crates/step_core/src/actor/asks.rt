@@ -1,8 +1,8 @@
 //! What a request makes of an actor's record. It makes the room that its steps will need.
 ghost use Rattle.std.specs.Prelude.{◌≡◌, ◌≢◌, ℕ, ◌≤◌, Ok, Err, Option, Some, None, true, false, IsOk, OnOk, OnErr, IfOk, IfErr};
-ghost use Rattle.word_machine.specs.Requests.{AskBegin, AskRelease, AskRead, AskWrite, AskLock, AskStore, AskCancel, AskAbort, AskClose};
+ghost use Rattle.word_machine.specs.Requests.{AskBegin, AskBeginRead, AskRelease, AskRead, AskWrite, AskLock, AskStore, AskCancel, AskAbort, AskClose};
 ghost use Rattle.step_core.specs.Answers.{request_of};
-ghost use Rattle.step_core.specs.Phases.{phase_of, takes_memory, if_full, if_new, location_refusal, refusal_at};
+ghost use Rattle.step_core.specs.Phases.{phase_of, opens, takes_memory, if_full, if_new, location_refusal, refusal_at};
 ghost use Rattle.tx_sets.specs.Entries.{lookup};
 ghost use Rattle.step_core.specs.Shown.{actor_of, asked, snapshot_of, IsAllowed, Replies};
 ghost use Rattle.step_core.specs.Sound.{Fits, IsWithin, owed, due};
@@ -134,13 +134,14 @@ impl Actor {
                 }
             }
             WordRequest::Write(location, _) => {
-                if (location as usize) < locations {
+                if (location as usize) < locations && !self.declared {
                     self.write_refusal(location)
                 } else {
                     Some(WordRefusal::NoSuch)
                 }
             }
             WordRequest::Begin => None,
+            WordRequest::BeginRead => None,
             WordRequest::Lock => None,
             WordRequest::Store => None,
             WordRequest::Release => None,
@@ -196,6 +197,7 @@ impl Actor {
     fn ask_write(&mut self, location: u32, value: u64) -> Result<Option<WordAnswer>, WordRefusal>
         requires allowed { IsAllowed self.old (AskWrite location value) }
         requires limit { if_new (lookup self.old.writes.entries location) None self.old.writes.entries ≡ None }
+        requires writer { self.old.declared ≡ false }
         ensures ok { OnOk result (actor_of self.new ≡ asked self.old (AskWrite location value)) }
         ensures answer { IfOk result (Replies self.old (AskWrite location value)) }
         ensures refused { IfErr result (λ refusal. refusal ≡ OutOfMemory) }
@@ -317,6 +319,20 @@ impl Actor {
         ensures owed { owed self.new.place ≤ owed self.old.place }
     {
         self.place = Place::Begin;
+        self.declared = false;
+        None
+    }
+
+    /// A new transaction of a declared reader.
+    fn ask_begin_read(&mut self) -> Option<WordAnswer>
+        requires allowed { IsAllowed self.old AskBeginRead }
+        ensures actor { actor_of self.new ≡ asked self.old AskBeginRead }
+        ensures answer { Replies self.old AskBeginRead result }
+        ensures keeps { (n : ℕ) → Fits n self.old → Fits n self.new }
+        ensures owed { owed self.new.place ≤ owed self.old.place }
+    {
+        self.place = Place::Begin;
+        self.declared = true;
         None
     }
 
@@ -347,11 +363,12 @@ impl Actor {
         ensures err { OnErr result (actor_of self.new ≡ actor_of self.old) }
         ensures keeps { Fits locations self.old → Fits locations self.new }
         ensures owed { owed self.new.place ≤ owed self.old.place }
-        ensures due { request_of request ≢ AskBegin → due self.new.place ≤ due self.old.place }
+        ensures due { opens (request_of request) ≡ false → due self.new.place ≤ due self.old.place }
         ensures served { takes_memory (request_of request) ≡ false → IsOk result }
     {
         match request {
             WordRequest::Begin => Ok(self.ask_begin()),
+            WordRequest::BeginRead => Ok(self.ask_begin_read()),
             WordRequest::Read(location) => self.ask_read(location),
             WordRequest::Write(location, value) => self.ask_write(location, value),
             WordRequest::Lock => self.ask_lock(),

@@ -7,6 +7,7 @@ use crate::phase::Phase;
 use std::alloc::AllocError;
 use std::test::Fail;
 
+mod declared;
 mod limits;
 mod overlaps;
 mod phases;

@@ -2,6 +2,7 @@
 use Rattle.std.proofs.Common.{◌≡◌, ℕ, ◌+◌, List, subst, sym, ap, ◌∙◌}
 use Rattle.word_machine.specs.World.{Memory, Record}
 use Rattle.word_machine.specs.Opacity.{IsLegal, AllEnded, memory_at, IsInOrder, IsRun, memory_after}
+use Rattle.word_machine.proofs.Saw.{first_read_good}
 use Rattle.word_machine.proofs.Schedules.{actor_saw, legal_of, words_at_rest}
 use Rattle.word_machine.proofs.Schedules as machine
 use Rattle.collection_machine.specs.Content.{Content, Frame}
@@ -77,7 +78,7 @@ returns-clause-editions g k c f clock memory parts actions later a l e pl h =
     let s = reached c f clock memory parts actions in
     let v = reached_ok c f clock memory parts actions in
     let t = act_all c later s in
-    let q = edition_read c f t (s.words.actors a).rv l e (all_ok c f later s v) pl ((all_keeps c f later s v).good (s.words.actors a).rv l e ((v.machine.actors a).reads l e h)) in
+    let q = edition_read c f t (s.words.actors a).rv l e (all_ok c f later s v) pl ((all_keeps c f later s v).good (s.words.actors a).rv l e (first_read_good s.words (s.words.actors a).rv (s.words.actors a).calls l e (v.machine.actors a).saw h)) in
     let o = all-opening c f later s v in
     let p = all-opening c f actions (opens clock memory parts) (opens_ok c f clock memory parts) in (
       q.0 ∙ ap (λ (z : ℕ → ℕ). z l + edition_at c t.history (s.words.actors a).rv l) (o.1 ∙ p.1),

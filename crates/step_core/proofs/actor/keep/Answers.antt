@@ -1,5 +1,9 @@
+use Rattle.std.proofs.Common.{◌≡◌, Bool, sym, subst}
+use Rattle.word_machine.specs.Actor.{with_read}
 use Rattle.step_core.proofs.Keeps.{was_ok}
 use Rattle.step_core.proofs.actor.keep.Goals as goal
 
 pub returns : goal.returns
-returns c = was_ok c.put.result (c.put.ensures.reserved c.requires.room c.requires.limit) c.put.ensures.ok
+returns c =
+    subst (λ (b : Bool). c.put.new.self.entries ≡ with_read b c.args.reads.now.entries c.args.location c.args.value) (sym c.if-declared.false)
+    (was_ok c.put.result (c.put.ensures.reserved c.requires.room c.requires.limit) c.put.ensures.ok)

@@ -67,6 +67,32 @@ fn a_write_set_is_limited(rt: HostRuntime) -> Result<(), Fail> {
     Ok(())
 }
 
+// A table of 4,097 words of value 3, all of which actor 1 has read as a declared reader.
+fn with_all_read(alloc: Global) -> Result<Words, WordRefusal> {
+    let mut words = alike(alloc, 3, 4097)?;
+    run(&mut words, 1, WordRequest::BeginRead)?;
+    for location in 0..4097u32 {
+        run(&mut words, 1, WordRequest::Read(location))?;
+    }
+    Ok(words)
+}
+
+#[test]
+fn a_declared_reader_is_not_limited(rt: HostRuntime) -> Result<(), Fail> {
+    let moves = [
+        (
+            Move::Run(1, WordRequest::Read(4096)),
+            Ok(Some(WordAnswer::Number(3))),
+        ),
+        (
+            Move::Run(1, WordRequest::Close),
+            Ok(Some(WordAnswer::Ended)),
+        ),
+    ];
+    assert_eq!(rt; moved(with_all_read(rt.alloc()), moves.as_slice())?, None);
+    Ok(())
+}
+
 #[test]
 fn a_read_set_is_limited(rt: HostRuntime) -> Result<(), Fail> {
     let moves = [

@@ -9,7 +9,12 @@ pub fn lacks_in(words: &mut Words, actor: u32, phase: Phase) -> Result<bool, Wor
     let none = WordRefusal::NoTransaction;
     let busy = WordRefusal::NotIdle;
     match phase {
-        Phase::Idle => lacks(words, actor, &[WordRequest::Begin], none),
+        Phase::Idle => lacks(
+            words,
+            actor,
+            &[WordRequest::Begin, WordRequest::BeginRead],
+            none,
+        ),
         Phase::Reader => lacks(
             words,
             actor,
@@ -36,6 +41,7 @@ fn lacks(
 ) -> Result<bool, WordRefusal> {
     let requests = [
         WordRequest::Begin,
+        WordRequest::BeginRead,
         WordRequest::Read(0),
         WordRequest::Write(0, 5),
         WordRequest::Lock,
@@ -47,7 +53,8 @@ fn lacks(
     ];
     for request in requests.as_slice() {
         if !allowed.contains(request) {
-            let expected = if *request == WordRequest::Begin {
+            let begins = matches!(request, WordRequest::Begin | WordRequest::BeginRead);
+            let expected = if begins {
                 WordRefusal::NotIdle
             } else {
                 otherwise

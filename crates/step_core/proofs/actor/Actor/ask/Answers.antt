@@ -1,7 +1,7 @@
 use Rattle.std.proofs.Common.{◌≡◌, None, subst}
 use Rattle.step_core.specs.Phases.{location_refusal}
 use Rattle.step_core.specs.Shown.{actor_of}
-use Rattle.step_core.proofs.Phases.{within_of, read_limit, write_limit}
+use Rattle.step_core.proofs.Phases.{within_of, read_limit, write_limit, write_writer}
 use Rattle.step_core.specs.Answers.{request_of}
 use Rattle.step_core.specs.Sound.{IsWithin}
 use Rattle.step_core.specs.declared.answer.WordRequest.{WordRequest}
@@ -42,4 +42,12 @@ ask_read-requires-clause-limit c =
 pub ask_write-requires-clause-limit : goal.ask_write-requires-clause-limit
 ask_write-requires-clause-limit c =
     write_limit c.args.locations (actor_of c.args.self.now) c.in-Write.location c.in-Write.value
+    (subst (λ (q : WordRequest). location_refusal c.args.locations (actor_of c.args.self.now) (request_of q) ≡ None) c.in-Write.is c.requires.limit)
+
+pub returns-in-BeginRead-clause-keeps : goal.returns-in-BeginRead-clause-keeps
+returns-in-BeginRead-clause-keeps c f = c.ask_begin_read.ensures.keeps c.args.locations f
+
+pub ask_write-requires-clause-writer : goal.ask_write-requires-clause-writer
+ask_write-requires-clause-writer c =
+    write_writer c.args.locations (actor_of c.args.self.now) c.in-Write.location c.in-Write.value
     (subst (λ (q : WordRequest). location_refusal c.args.locations (actor_of c.args.self.now) (request_of q) ≡ None) c.in-Write.is c.requires.limit)

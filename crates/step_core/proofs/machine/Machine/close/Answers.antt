@@ -21,7 +21,7 @@ push_reserved-requires c = let got = slice_get_read c.args.self.now.actors.items
 pub returns-clause-steps : goal.returns-clause-steps
 returns-clause-steps c =
     let got = slice_get_read c.args.self.now.actors.items _ c.args.a c.index_mut-actor.result.now refl c.requires.actor c.index_mut-actor.ensures.value in
-    let y : Actor = record { place = Idle; rv = c.index_mut-actor.result.now.rv; wv = c.index_mut-actor.result.now.wv; reads = c.index_mut-actor.result.now.reads; writes = c.index_mut-actor.result.now.writes; held = c.index_mut-actor.result.now.held; calls = c.index_mut-actor.result.now.calls; ready = c.replace-ready.new.dest } in
+    let y : Actor = record { place = Idle; declared = c.index_mut-actor.result.now.declared; rv = c.index_mut-actor.result.now.rv; wv = c.index_mut-actor.result.now.wv; reads = c.index_mut-actor.result.now.reads; writes = c.index_mut-actor.result.now.writes; held = c.index_mut-actor.result.now.held; calls = c.index_mut-actor.result.now.calls; ready = c.replace-ready.new.dest } in
     let t : Machine = record { clock = c.args.self.now.clock; locks = c.args.self.now.locks; values = c.args.self.now.values; actors = with_item c.args.self.now.actors c.args.a y; history = c.push_reserved.new.self } in
     let rec : WordRecord = record { actor = c.args.a; number = c.index_mut-actor.result.now.rv; writes = false; calls = c.from_vec-calls.result } in
     let given : map call_of c.from_vec-calls.result ≡ map call_of c.index_mut-actor.result.now.calls.items = ap (λ (z : List WordCall). map call_of z) (c.from_vec-calls.ensures ∙ ap vec_items c.replace-ready.ensures.value ∙ fits_at c.args.self.now c.args.a c.index_mut-actor.result.now Close c.requires.sound got (c.requires.place _ got)) in

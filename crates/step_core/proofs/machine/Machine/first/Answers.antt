@@ -34,7 +34,7 @@ push_reserved-requires c = let got = slice_get_read c.args.self.now.actors.items
 pub returns-then-done-clause-steps : goal.returns-then-done-clause-steps
 returns-then-done-clause-steps c =
     let got = slice_get_read c.args.self.now.actors.items _ c.args.a c.index_mut-actor.result.now refl c.requires.actor c.index_mut-actor.ensures.value in
-    let y : Actor = record { place = Store 1; rv = c.index_mut-actor.result.now.rv; wv = c.index_mut-actor.result.now.wv; reads = c.index_mut-actor.result.now.reads; writes = c.index_mut-actor.result.now.writes; held = c.index_mut-actor.result.now.held; calls = c.index_mut-actor.result.now.calls; ready = c.replace-ready.new.dest } in
+    let y : Actor = record { place = Store 1; declared = c.index_mut-actor.result.now.declared; rv = c.index_mut-actor.result.now.rv; wv = c.index_mut-actor.result.now.wv; reads = c.index_mut-actor.result.now.reads; writes = c.index_mut-actor.result.now.writes; held = c.index_mut-actor.result.now.held; calls = c.index_mut-actor.result.now.calls; ready = c.replace-ready.new.dest } in
     let e = c.write_at-entry.result in
     let t : Machine = record { clock = c.args.self.now.clock; locks = c.args.self.now.locks; values = with_item c.args.self.now.values e.0 e.1; actors = with_item c.args.self.now.actors c.args.a y; history = c.push_reserved.new.self } in
     let rec : WordRecord = record { actor = c.args.a; number = c.index_mut-actor.result.now.wv; writes = true; calls = c.from_vec-calls.result } in
@@ -50,7 +50,7 @@ returns-then-done-clause-steps c =
 pub returns-else-done-clause-steps : goal.returns-else-done-clause-steps
 returns-else-done-clause-steps c =
     let got = slice_get_read c.args.self.now.actors.items _ c.args.a c.index_mut-actor.result.now refl c.requires.actor c.index_mut-actor.ensures.value in
-    let y : Actor = record { place = Store 1; rv = c.index_mut-actor.result.now.rv; wv = c.index_mut-actor.result.now.wv; reads = c.index_mut-actor.result.now.reads; writes = c.index_mut-actor.result.now.writes; held = c.index_mut-actor.result.now.held; calls = c.index_mut-actor.result.now.calls; ready = c.replace-ready.new.dest } in
+    let y : Actor = record { place = Store 1; declared = c.index_mut-actor.result.now.declared; rv = c.index_mut-actor.result.now.rv; wv = c.index_mut-actor.result.now.wv; reads = c.index_mut-actor.result.now.reads; writes = c.index_mut-actor.result.now.writes; held = c.index_mut-actor.result.now.held; calls = c.index_mut-actor.result.now.calls; ready = c.replace-ready.new.dest } in
     let e = c.write_at-entry.result in
     let t : Machine = record { clock = c.args.self.now.clock; locks = c.args.self.now.locks; values = with_item c.args.self.now.values e.0 e.1; actors = with_item c.args.self.now.actors c.args.a y; history = c.push_reserved.new.self } in
     let rec : WordRecord = record { actor = c.args.a; number = c.index_mut-actor.result.now.wv; writes = true; calls = c.from_vec-calls.result } in
