@@ -1,9 +1,9 @@
 -- Trial for collections: a value that each writer raises by one counts the writers.
-use Rattle.std.proofs.Common.{◌≡◌, ℕ, ◌+◌, ◌<◌, ◌≤◌, true, false, leb, List, [], ◌∷◌, inl, inr, refl, sym, ◌∙◌, arith, le-leb}
+use Rattle.std.proofs.Common.{◌≡◌, ℕ, ◌+◌, ◌<◌, ◌≤◌, true, false, leb, List, [], ◌∷◌, inl, inr, refl, sym, ◌∙◌, arith, le-leb, max, true≢false}
 use Rattle.std.specs.Prelude.{nat_le, if◌then◌else◌}
 use Rattle.std.proofs.lemmas.Bool.{lt-leb, cond_both, cond-true, cond-false, cases_Bool, cases_lt}
 use Rattle.word_machine.specs.World.{Record, insert, comes_before}
-use Rattle.word_machine.specs.Opacity.{IsInOrder}
+use Rattle.word_machine.specs.Opacity.{AllFrom, IsInOrder}
 use Rattle.word_machine.proofs.Calls.{touched, final}
 use Rattle.word_machine.proofs.Records.{settled, finals, stamp, settled_all, settled_later, settled_untouched, stamp_touched, finals_touched, IsNew, AllRecords}
 
@@ -78,3 +78,43 @@ no_writer (r ∷ rs) n m l q a e =
       ]),
       no_writer rs n m l q a.1 (omega (arith, x, y, e)),
     )
+
+-- ---- no more writers than numbers
+abbrev pub AreWriters : ℕ → List Record → Type 0
+AreWriters l h = AllRecords (λ r. (touched r.calls l ≡ true → r.writer ≡ true)) h
+
+abbrev pub AreAbove : ℕ → ℕ → List Record → Type 0
+AreAbove m l h = AllRecords (λ r. (touched r.calls l ≡ true → m < r.number)) h
+
+-- behind a record in commit order the numbers of writers are greater
+above_rest : (r : Record) (h : List Record) (l : ℕ) → AllFrom r h → AreWriters l h → AreAbove r.number l h
+above_rest r [] l a w = tt
+above_rest r (x ∷ xs) l a w = (
+  λ t. elim (cases_lt r.number x.number) [
+    | inl lt ↦ lt
+    | inr ge ↦ (let b = a.0.0 in let same : r.number ≡ x.number = omega (arith, b, ge) in absurd (true≢false (sym (w.0 t) ∙ a.0.1 same)))
+  ],
+  above_rest r xs l a.1 w.1,
+)
+
+pub count_few : (h : List Record) (n m l : ℕ) → IsInOrder h → AreWriters l h → AreAbove m l h → m ≤ n → count h n l + m ≤ n
+count_few [] n m l o w a le = omega (arith, le)
+count_few (r ∷ rs) n m l o w a le =
+    let rest = count_few rs n m l o.1 w.1 a.1 le in
+    elim (cases_lt n r.number) [
+      | inl lt ↦ (let b = one_later r n l lt in omega (arith, b, rest))
+      | inr ge ↦ elim (cases_Bool (touched r.calls l)) [
+        | inl t ↦
+            (let b = one_here r n l t ge in
+            let more = a.0 t in
+            let c = count_few rs n r.number l o.1 w.1 (above_rest r rs l o.0 w.1) ge in omega (arith, b, more, c))
+        | inr f ↦ (let b = one_untouched r n l f in omega (arith, b, rest))
+      ]
+    ]
+
+pub stamp_few : (h : List Record) (k l : ℕ) → AllRecords (λ r. r.number ≤ k) h → stamp h l ≤ k
+stamp_few [] k l a = omega arith
+stamp_few (r ∷ rs) k l a =
+    let rest = stamp_few rs k l a.1 in
+    let here = a.0 in
+    cond_both (touched r.calls l) (max r.number (stamp rs l)) (stamp rs l) (λ z. z ≤ k) (λ _. omega (arith, rest, here)) (λ _. rest)

@@ -1,12 +1,12 @@
 -- Every action, and every schedule.
 use Rattle.std.proofs.Common.{◌≡◌, ℕ, ◌+◌, ◌-◌, ◌<◌, ◌≤◌, leb, Bool, true, false, List, [], ◌∷◌, inl, inr, refl, sym, ap, ◌∙◌, subst, true≢false, arith, le-leb}
 use Rattle.std.specs.Prelude.{nat_le, if◌then◌else◌}
-use Rattle.std.proofs.lemmas.Bool.{cond_both, cond-true, cond-false, lt-leb, cases_lt}
+use Rattle.std.proofs.lemmas.Bool.{cond_both, cond-true, cond-false, lt-leb, cases_lt, cases_Bool}
 use Rattle.word_machine.specs.Actor.{Call, Place, Begin, First, Leave, Close}
 use Rattle.word_machine.specs.World.{Memory, Record, step, Ask, Step}
 use Rattle.word_machine.specs.Opacity.{IsNoneHalfDone, InOrder, IsInOrder, AllFrom}
 use Rattle.word_machine.proofs.Calls.{touched}
-use Rattle.word_machine.proofs.Records.{settled, finals, base, AllRecords, AllRecords_map}
+use Rattle.word_machine.proofs.Records.{settled, settled_all, finals, base, AllRecords, AllRecords_map}
 use Rattle.word_machine.proofs.Invariant.{Good, Saw, PlaceOk, RecordOk}
 use Rattle.word_machine.proofs.Schedules.{step_ok, start_ok}
 use Rattle.word_machine.proofs.Quiet.{lookup-none}
@@ -16,7 +16,7 @@ use Rattle.collection_machine.specs.Serial.{does_write, edition_at, words, view,
 use Rattle.collection_machine.proofs.Parts.{Fits, AllFit, AreLegal-same, only}
 use Rattle.collection_machine.proofs.Views.{view_still}
 use Rattle.collection_machine.proofs.Invariant.{SawParts, AllCommitted, Exact, Inv}
-use Rattle.collection_machine.proofs.Editions.{count}
+use Rattle.collection_machine.proofs.Editions.{IsEdition, count, AreWriters, AreAbove, count_few, stamp_few}
 use Rattle.collection_machine.proofs.Frame.{Keeps, Led, SawParts-kept}
 use Rattle.collection_machine.proofs.Steady.{step_steady, step_ends}
 use Rattle.collection_machine.proofs.Quiet.{steady_led, ask_led, begin_led, leave_led, take_led, put_led}
@@ -171,6 +171,23 @@ module _ {X Op Out : Type 0} (c : Content X Op Out) (f : Frame c) where
   count_is (r ∷ rs) n l pl a =
       ap (λ (z : Bool). (if z then (if nat_le r.word.number n then 1 else 0) else 0) + count (words rs) n l) (a.0 l pl)
       ∙ ap (λ (i : ℕ). (if does_write c l r.outcomes then (if nat_le r.word.number n then 1 else 0) else 0) + i) (count_is rs n l pl a.1)
+
+  -- an edition is raised once by each number at most
+  pub edition_few : (s : Boosted X Out) (l : ℕ) → Inv c s → c.plain l ≡ false → s.editions l ≤ s.first l + s.words.clock
+  edition_few s l v pl =
+      let h = s.words.history in
+      let clock = s.words.clock in
+      let ok = v.machine.records in
+      let past : AllRecords (λ r. r.number ≤ clock) h = AllRecords_map (RecordOk s.words) (λ r. r.number ≤ clock) h (λ r q. q.past) ok in
+      let writers : AreWriters l h = AllRecords_map (RecordOk s.words) (λ r. (touched r.calls l ≡ true → r.writer ≡ true)) h (λ r q t. is_writer r q t) ok in
+      let above : AreAbove 0 l h = AllRecords_map (RecordOk s.words) (λ r. (touched r.calls l ≡ true → 0 < r.number)) h (λ r q t. q.positive (is_writer r q t)) ok in
+      let few = count_few h clock 0 l v.machine.ordered writers above (omega arith) in
+      let all = sym (settled_all h clock l (s.first l) (stamp_few h clock l past)) ∙ subst (λ (z : List Record). IsEdition z l (s.first l)) v.same (v.edition l pl) clock in
+      let base = subst (λ (z : List Record). s.editions l ≤ finals z l (s.first l)) v.same (v.known l pl).past in
+      omega (arith, few, all, base)
+    where
+      is_writer : (r : Record) → RecordOk s.words r → touched r.calls l ≡ true → r.writer ≡ true
+      is_writer r q t = elim (cases_Bool r.writer) [ inl w ↦ w | inr n ↦ absurd (true≢false (sym t ∙ q.reader n l)) ]
 
   -- an edition read, and what a base holds with it
   pub edition_read : (t : Boosted X Out) (n l e : ℕ) → Inv c t → c.plain l ≡ false → Good t.words n l e → (e ≡ t.first l + edition_at c t.history n l) × (t.editions l ≡ e → t.parts l ≡ view c t.history n t.opening l)

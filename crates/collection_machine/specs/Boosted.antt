@@ -90,7 +90,7 @@ on_words s t = record s { words = t }
 
 -- a transaction that has begun has copied nothing
 abbrev pub fresh : {X Out : Type 0} → Boosted X Out → Shadow X Out
-fresh s = record { copied = λ l. false; parts = s.parts; editions = s.editions; outcomes = [] }
+fresh s = record { copied = λ l. false; parts = s.opening; editions = s.first; outcomes = [] }
 
 abbrev pub shadows_after : {X Out : Type 0} → Boosted X Out → ℕ → Place → ℕ → Shadow X Out
 shadows_after s a Begin = if nat_lt s.words.clock clock_limit then put s.shadows a (fresh s) else s.shadows

@@ -1,7 +1,8 @@
 //! What holds of a world with collections after every list of actions.
 //!
 //! Each law is the contract of a function without parameters, whose body is empty.
-ghost use Rattle.std.specs.Prelude.{◌≡◌, ℕ, ◌+◌, false, Some, List};
+ghost use Rattle.std.specs.Prelude.{◌≡◌, ◌≤◌, ℕ, ◌+◌, true, false, Some, List};
+ghost use Rattle.tx_sets.specs.Entries.{lookup};
 ghost use Rattle.word_machine.specs.World.{Memory, Event};
 ghost use Rattle.word_machine.specs.Opacity.{IsInOrder, IsNoneHalfDone, IsRun, IsLegal, AllEnded, first_read, memory_after, memory_at, after_events};
 ghost use Rattle.collection_machine.specs.Content.{Content, Frame};
@@ -26,8 +27,8 @@ ghost use Rattle.collection_machine.specs.States.{Model, AreAll, AreReplies, aft
 /// half done, the words and the parts of the collections are what it leaves. Each transaction, whether it commits, is open or
 /// was aborted, got outcomes that are legal at the number at which it began, and this stays so whatever happens later. An
 /// edition that it read is the number of commits up to that number which write there, and a base with this edition holds the
-/// part of that number. What the calls of a transaction read, it has read with the edition that it copied. The words are a
-/// world of the word machine, and their records are its.
+/// part of that number. What the calls of a transaction read, it has copied, and read with the edition that it copied. No
+/// edition has risen more often than the clock. The words are a world of the word machine, and their records are its.
 pub fn opacity<X, Op, Out>()
     ensures in_order { (c : Content X Op Out) → Frame c → (clock : ℕ) (memory : Memory) (parts : ℕ → X) (actions : List (Action Op)) →
         IsInOrder (words (after_actions c clock memory parts actions).history) }
@@ -52,11 +53,21 @@ pub fn opacity<X, Op, Out>()
         let s = after_actions c clock memory parts actions in
         let t = act_all c later s in
         let rv = (s.words.actors a).rv in
+        c.plain l ≡ false → lookup (s.words.actors a).reads l ≡ Some e →
+        (e ≡ memory l + edition_at c t.history rv l) × (t.editions l ≡ e → t.parts l ≡ view c t.history rv parts l) }
+    ensures first_reads { (c : Content X Op Out) → Frame c → (clock : ℕ) (memory : Memory) (parts : ℕ → X) (actions later : List (Action Op)) (a l e : ℕ) →
+        let s = after_actions c clock memory parts actions in
+        let t = act_all c later s in
+        let rv = (s.words.actors a).rv in
         c.plain l ≡ false → first_read (s.words.actors a).calls l ≡ Some e →
         (e ≡ memory l + edition_at c t.history rv l) × (t.editions l ≡ e → t.parts l ≡ view c t.history rv parts l) }
     ensures accepted { (c : Content X Op Out) → Frame c → (clock : ℕ) (memory : Memory) (parts : ℕ → X) (actions : List (Action Op)) (a l : ℕ) →
         let s = after_actions c clock memory parts actions in
-        IsRead c l (s.shadows a).outcomes → first_read (s.words.actors a).calls l ≡ Some ((s.shadows a).editions l) }
+        IsRead c l (s.shadows a).outcomes →
+        ((s.shadows a).copied l ≡ true) × (first_read (s.words.actors a).calls l ≡ Some ((s.shadows a).editions l)) }
+    ensures bounded { (c : Content X Op Out) → Frame c → (clock : ℕ) (memory : Memory) (parts : ℕ → X) (actions : List (Action Op)) (l : ℕ) →
+        let s = after_actions c clock memory parts actions in
+        c.plain l ≡ false → s.editions l ≤ memory l + s.words.clock }
     ensures worlds { (c : Content X Op Out) (clock : ℕ) (memory : Memory) (parts : ℕ → X) (actions : List (Action Op)) →
         (events : List Event) × ((after_actions c clock memory parts actions).words ≡ after_events clock memory events) }
     ensures records { (c : Content X Op Out) → Frame c → (clock : ℕ) (memory : Memory) (parts : ℕ → X) (actions : List (Action Op)) →

@@ -50,7 +50,7 @@ within_end w [] k i c e lt = absurd (no_block c e)
 within_end w (b ∷ bs) zero i c e lt = let z = end_above (w + size b) bs in let s = ap size (same_block b c e) in omega (arith, z, s, lt)
 within_end w (b ∷ bs) (suc k) i c e lt = within_end (w + size b) bs k i c e lt
 
-home_is : (w : ℕ) (bs : List Block) (k i : ℕ) (b : Block) → block_of bs k ≡ Some b → i < size b → home_of w bs (first_of w bs k + i) ≡ k
+pub home_is : (w : ℕ) (bs : List Block) (k i : ℕ) (b : Block) → block_of bs k ≡ Some b → i < size b → home_of w bs (first_of w bs k + i) ≡ k
 home_is w [] k i c e lt = absurd (no_block c e)
 home_is w (b ∷ bs) zero i c e lt =
     cond-true (ltb (w + i) (w + size b)) 0 (suc (home_of (w + size b) bs (w + i))) (lt-ltb (w + i) (w + size b) (let s = ap size (same_block b c e) in omega (arith, s, lt)))

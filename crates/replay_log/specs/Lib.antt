@@ -3,5 +3,10 @@ pub mod Log
 pub mod Parts
 pub mod Contents
 pub mod Collections
+pub mod Pieces
 pub mod Worlds
 pub mod WorldVectors
+pub mod WorldSerial
+pub mod Guards
+pub mod WorldProgress
+pub mod WorldRefusals

@@ -1,13 +1,13 @@
 -- A world of words and collections in which transactions overlap: what each event changes, and what it tells. A step is one atomic step, a load or a
 -- change of one word of the table, with what follows of it without a step.
-use Rattle.std.specs.Prelude.{ℕ, zero, suc, ◌+◌, Bool, true, false, ◌&&◌, ◌||◌, not, nat_lt, nat_le, ◌==◌, if◌then◌else◌, List, [], ◌∷◌, ◌++◌, length, filter, get_or, Option, Some, None}
+use Rattle.std.specs.Prelude.{ℕ, zero, suc, ◌+◌, Bool, true, false, ◌&&◌, ◌||◌, not, nat_lt, nat_le, ◌==◌, if◌then◌else◌, List, [], ◌∷◌, ◌++◌, length, filter, map, get_or, Option, Some, None}
 use Rattle.tx_sets.specs.Entries.{Entries, lookup, locations}
 use Rattle.word_machine.specs.Actor.{Actor, Place, Leave}
 use Rattle.word_machine.specs.Requests as word
 use Rattle.word_machine.specs.World as machine
 use Rattle.word_machine.specs.Notices as told
 use Rattle.seq_model.specs.declared.call.Op.{Op}
-use Rattle.seq_model.specs.declared.call.Op.TheVariants.{Read, Write}
+use Rattle.seq_model.specs.declared.call.Op.TheVariants.{Read, Write, Put, Remove, Add, Take, Insert, TakeLeast, Enqueue, Dequeue}
 use Rattle.seq_model.specs.declared.call.Call.{Call}
 use Rattle.seq_model.specs.declared.call.Reply.{Reply}
 use Rattle.seq_model.specs.declared.call.Reply.TheVariants as reply
@@ -23,12 +23,16 @@ use Rattle.seq_model.specs.declared.event.Answer.TheVariants as answer
 use Rattle.seq_model.specs.declared.event.Notice.{Notice}
 use Rattle.seq_model.specs.declared.event.Notice.TheVariants.{Quiet, Answered, Refused}
 use Rattle.seq_model.specs.declared.limits.TheConstants.{CALL_LIMIT}
+use Rattle.seq_model.specs.Contents.{Contents}
 use Rattle.seq_model.specs.Runs.{insert_record}
+use Rattle.conflict.specs.Footprints.{all_below}
 use Rattle.conflict.specs.declared.outcome.Outcome.{Outcome}
-use Rattle.collection_machine.specs.Boosted.{Boosted, Action, OnWords, TakeGate, PutGate, Accept, GoHome, act_all, changes, is_actor, is_none, opens}
-use Rattle.replay_log.specs.Base.{Shown, outcome_of}
-use Rattle.replay_log.specs.Contents.{Block, Asked, block_of, first_of, blank, home_of, is_plain, content, reads_in, writes_in}
+use Rattle.collection_machine.specs.Content.{has}
+use Rattle.collection_machine.specs.Boosted.{Boosted, Action, OnWords, TakeGate, PutGate, Accept, GoHome, act_all, changes, is_none, opens}
+use Rattle.replay_log.specs.Base.{Shown, outcome_of, held_of}
+use Rattle.replay_log.specs.Contents.{Block, Asked, block_of, size, seen, first_of, blank, home_of, is_plain, content, reads_in, writes_in}
 use Rattle.replay_log.specs.Contents as contents
+use Rattle.replay_log.specs.Pieces.{Piece, is_piece, piece_at, covers_at}
 use Rattle.replay_log.specs.Collections.{shown_at}
 
 -- Where an actor's request stands. Each stage but the first and Open is that of the next atomic step.
@@ -36,8 +40,8 @@ pub data Stage (V : Type 0) : Type 0 where
   Idle Beginning Open Locking Releasing Closing Cancelling Leaving : Stage V
   Reading : (l : ℕ) → Stage V  -- a word is being read
   Trying : (asked : Asked V) → (tries : ℕ) → Stage V  -- the gate of a call's collection is tried; so many tries are left after this one
-  Copying : (asked : Asked V) → Stage V  -- the gate is held: the base is copied, and the gate put back
-  Loading : (outcome : contents.Answered V) → (ls : List ℕ) → Stage V  -- the first of these locations is being read
+  Copying : (asked : Asked V) → Stage V  -- the gate is held: what the call touches is copied, and the gate put back
+  Loading : (outcome : contents.Answered V) → (left : Entries) → Stage V  -- the first of these locations, with the editions copied, is being read
   Gating : (got ks : List ℕ) → (tries : ℕ) → Stage V  -- the gate of the first of ks is tried
   Ready : (ks : List ℕ) → Stage V  -- all is locked, checked and held: the first value store, which commits
   Storing : (ks : List ℕ) → Stage V  -- the next value store
@@ -51,7 +55,7 @@ pub record Seat (V : Type 0) : Type 0 where
   pub wv : ℕ
   pub cause : Option Refusal  -- why it is being aborted; none where its actor asked for it
   pub calls : List (Call V × Reply V)
-  pub copied : ℕ → Bool  -- the collections of which it has a shadow
+  pub copied : ℕ → Piece → Bool  -- the pieces of collections that it has copied
 
 -- An aborted transaction.
 pub record Ended (V : Type 0) : Type 0 where
@@ -68,6 +72,13 @@ pub record World (V : Type 0) : Type 0 where
   pub records : List (ℕ × Record V)  -- committed, in commit order
   pub aborted : List (Ended V)  -- in the order of their ending
 
+-- what is told of a world at a moment
+pub record Trace (V : Type 0) : Type 0 where
+  pub records : List (ℕ × Record V)
+  pub aborted : List (Ended V)
+  pub state : Contents V
+  pub half : List ℕ
+
 -- what an event leaves, and what it tells
 abbrev pub After : Type 0 → Type 0
 After V = World V × Notice V
@@ -80,18 +91,22 @@ more_tries = 63
 abbrev pub location_limit : ℕ
 location_limit = 4096
 
--- the numbers that differ from the one before
-abbrev pub distinct_from : ℕ → List ℕ → List ℕ
-distinct_from k [] = []
-distinct_from k (x ∷ xs) = if x == k then distinct_from k xs else x ∷ distinct_from x xs
+-- each number once
+abbrev pub with_new : ℕ → List ℕ → List ℕ
+with_new x xs = if has xs x then xs else x ∷ xs
 
 abbrev pub distinct : List ℕ → List ℕ
 distinct [] = []
-distinct (x ∷ xs) = x ∷ distinct_from x xs
+distinct (x ∷ xs) = with_new x (distinct xs)
 
 abbrev pub all_of : (ℕ → ℕ) → List ℕ → List ℕ
 all_of f [] = []
 all_of f (l ∷ ls) = f l ∷ all_of f ls
+
+-- locations with their editions
+abbrev pub with_editions : (ℕ → ℕ) → List ℕ → Entries
+with_editions f [] = []
+with_editions f (l ∷ ls) = (l, f l) ∷ with_editions f ls
 
 abbrev pub is_leaving : Place → Bool
 is_leaving Leave = true
@@ -104,9 +119,13 @@ new_in set ls = filter (λ l. is_none (lookup set l)) ls
 abbrev pub fits : Entries → List ℕ → Bool
 fits set ls = nat_le (length set + length (new_in set ls)) location_limit
 
+-- whether the locations that a call reads and writes fit the sets; a declared reader has no sets
+abbrev pub has_room : Actor → List ℕ → List ℕ → Bool
+has_room x rs ws = x.declared || (fits x.reads rs && fits x.writes ws)
+
 module _ {V : Type 0} where
   abbrev pub no_one : Seat V
-  no_one = record { stage = Idle; rv = 0; wv = 0; cause = None; calls = []; copied = λ k. false }
+  no_one = record { stage = Idle; rv = 0; wv = 0; cause = None; calls = []; copied = λ k p. false }
 
   abbrev pub at_stage : Seat V → Stage V → Seat V
   at_stage x stage = record x { stage = stage }
@@ -175,33 +194,60 @@ module _ {V : Type 0} where
   abbrev pub call_of : contents.Answered V → Call V
   call_of o = record { target = o.asked.collection; op = o.asked.op }
 
-  -- the locations that are still to be read; with none left the call is accepted
-  abbrev pub loads : World V → ℕ → Seat V → contents.Answered V → List ℕ → After V
+  -- a location was read: its edition is the copied one, or the copy is stale
+  abbrev pub is_fresh : World V → ℕ → Seat V → ℕ × ℕ → ℕ → After V → After V
+  is_fresh w a x d v next = if d.1 == v then next else gives_up w a (because x (refusal.Stale d.0 d.1 v)) []
+
+  -- one that the read set does not have is read first; a declared reader has no read set, and reads each
+  abbrev pub judges : World V → ℕ → Seat V → contents.Answered V → ℕ × ℕ → Entries → After V → Option ℕ → After V
+  judges w a x o d es next None = (seated (acted w (asks a (word.AskRead d.0) ∷ [])) a (at_stage x (Loading o (d ∷ es))), Quiet)
+  judges w a x o d es next (Some v) = is_fresh w a x d v next
+
+  -- the locations that are still to be judged, rising, with the editions that were copied; with none left the call is accepted
+  abbrev pub loads : World V → ℕ → Seat V → contents.Answered V → Entries → After V
   loads w a x o [] = replied (acted w (Accept a o.asked ∷ [])) a x (call_of o) (reply_of o)
-  loads w a x o (l ∷ ls) = (seated (acted w (asks a (word.AskRead l) ∷ [])) a (at_stage x (Loading o (l ∷ ls))), Quiet)
+  loads w a x o (d ∷ es) = judges w a x o d es (loads w a x o es) (lookup (actor_of w a).reads d.0)
 
   -- a call whose locations don't fit the sets is TooLong, and the transaction, `before` now, is as before
-  abbrev pub answers : World V → ℕ → Seat V → Seat V → contents.Answered V → After V
-  answers w a before x o =
+  abbrev pub answers : World V → ℕ → Seat V → Seat V → contents.Answered V → (editions : ℕ → ℕ) → After V
+  answers w a before x o editions =
       let c = content w.words w.blocks in
-      let set = actor_of w a in
-      if fits set.reads (c.reads o) && fits set.writes (c.writes o) then loads w a x o (new_in set.reads (c.reads o))
+      if has_room (actor_of w a) (c.reads o) (c.writes o) then loads w a x o (with_editions editions (c.reads o))
       else (seated w a (at_stage before Open), Refused a refusal.TooLong)
 
-  -- a call on a collection without a shadow tries its gate
+  -- a call that touches what was not copied yet tries its gate
   abbrev pub calls_on : World V → ℕ → Seat V → Asked V → After V
   calls_on w a x asked =
-      if x.copied asked.collection then answers w a x x (outcome_at w a asked) else (seated w a (at_stage x (Trying asked more_tries)), Quiet)
+      if x.copied asked.collection (piece_at w.blocks asked) then answers w a x x (outcome_at w a asked) (w.boosted.shadows a).editions
+      else (seated w a (at_stage x (Trying asked more_tries)), Quiet)
+
+  abbrev pub is_missing : Option (Outcome V) → Bool
+  is_missing None = true
+  is_missing (Some o) = false
 
   abbrev pub is_known : Option Block → Op V → Bool
   is_known (Some b) op = not (is_missing (outcome_of op (blank b)))
-    where
-      is_missing : Option (Outcome V) → Bool
-      is_missing None = true
-      is_missing (Some o) = false
   is_known None op = false
 
-  -- what is not there, or of another kind, is NoSuch; then a call past the limit, or a word that finds no room in its set, is TooLong
+  -- what may change what it is asked of
+  abbrev pub is_change : Op V → Bool
+  is_change (Write v) = true
+  is_change (Put k v) = true
+  is_change (Remove k) = true
+  is_change (Add x) = true
+  is_change (Take x) = true
+  is_change (Insert x) = true
+  is_change TakeLeast = true
+  is_change (Enqueue x) = true
+  is_change Dequeue = true
+  is_change op = false
+
+  -- a declared reader changes nothing
+  abbrev pub may_ask : Actor → Op V → Bool
+  may_ask set op = not (set.declared && is_change op)
+
+  -- What is not there, of another kind, or a change that a declared reader asks for, is NoSuch; then a call past the limit, or a word that finds no
+  -- room in its set, is TooLong.
   abbrev pub if_allowed : World V → ℕ → Seat V → (known room : Bool) → After V → After V
   if_allowed w a x known room next =
       if known then (if nat_lt (length x.calls) CALL_LIMIT && room then next else (w, Refused a refusal.TooLong)) else (w, Refused a refusal.NoSuch)
@@ -209,11 +255,13 @@ module _ {V : Type 0} where
   abbrev pub ask_op : World V → ℕ → Seat V → ℕ → Op V → After V
   ask_op w a x t Read =
       let set = actor_of w a in
-      if_allowed w a x (nat_lt t w.words) (not (is_none (lookup set.writes t)) || fits set.reads (t ∷ [])) (reads w a x t (told.reply set set.place (word.AskRead t)))
+      if_allowed w a x (nat_lt t w.words) (set.declared || (not (is_none (lookup set.writes t)) || fits set.reads (t ∷ [])))
+      (reads w a x t (told.reply set set.place (word.AskRead t)))
   ask_op w a x t (Write v) =
-      if_allowed w a x (nat_lt t w.words) (fits (actor_of w a).writes (t ∷ []))
+      if_allowed w a x (nat_lt t w.words && not (actor_of w a).declared) (fits (actor_of w a).writes (t ∷ []))
       (replied (acted w (asks a (word.AskWrite t v) ∷ [])) a x (record { target = t; op = Write v }) reply.Done)
-  ask_op w a x t op = if_allowed w a x (is_known (block_of w.blocks t) op) true (calls_on w a x (record { collection = t; op = op }))
+  ask_op w a x t op =
+      if_allowed w a x (is_known (block_of w.blocks t) op && may_ask (actor_of w a) op) true (calls_on w a x (record { collection = t; op = op }))
 
   -- ---- a request
   -- a transaction is a writer if its write set is not empty
@@ -223,10 +271,12 @@ module _ {V : Type 0} where
 
   abbrev pub ask_idle : World V → ℕ → Seat V → Request V → After V
   ask_idle w a x request.Begin = (seated (acted w (asks a word.AskBegin ∷ [])) a (at_stage x Beginning), Quiet)
+  ask_idle w a x request.BeginRead = (seated (acted w (asks a word.AskBeginRead ∷ [])) a (at_stage x Beginning), Quiet)
   ask_idle w a x q = (w, Refused a refusal.NoTransaction)
 
   abbrev pub ask_open : World V → ℕ → Seat V → Request V → After V
   ask_open w a x request.Begin = (w, Refused a refusal.NotIdle)
+  ask_open w a x request.BeginRead = (w, Refused a refusal.NotIdle)
   ask_open w a x (request.Call call) = ask_op w a x call.target call.op
   ask_open w a x request.Commit = commits w a x (actor_of w a).writes
   ask_open w a x request.Abort = (cancels w a (record x { cause = None }), Quiet)
@@ -259,26 +309,26 @@ module _ {V : Type 0} where
   has_read w a x l (told.Moved i word) = gives_up w a (because x (refusal.Moved i word)) []
   has_read w a x l n = (w, Quiet)
 
-  -- the gate of k was tried
-  abbrev pub has_tried : World V → ℕ → Seat V → ℕ → List ℕ → (ℕ → Stage V) → Stage V → ℕ → After V
-  has_tried w a x k got again next tries =
-      if is_actor a (w.boosted.gates k) then (seated w a (at_stage x next), Quiet) else unless_last tries
+  -- the gate of k was tried, and found free or not
+  abbrev pub has_tried : World V → ℕ → Seat V → (free : Bool) → ℕ → List ℕ → (ℕ → Stage V) → Stage V → ℕ → After V
+  has_tried w a x free k got again next tries =
+      if free then (seated w a (at_stage x next), Quiet) else unless_last tries
     where
       unless_last : ℕ → After V
       unless_last zero = gives_up w a (because x (refusal.GateBusy k)) got
       unless_last (suc n) = (seated w a (at_stage x (again n)), Quiet)
 
-  -- the base is copied
-  abbrev pub has_copied : World V → ℕ → Seat V → Asked V → After V
-  has_copied w a x asked = answers w a x (record x { copied = machine.put x.copied asked.collection true }) (outcome_at w a asked)
+  -- what a call touches has been copied
+  abbrev pub with_piece : Seat V → ℕ → Piece → Seat V
+  with_piece x k p = record x { copied = λ j q. if j == k && is_piece p q then true else x.copied j q }
 
-  -- a location was read: its edition is the copied one, or the copy is stale
-  abbrev pub has_loaded : World V → ℕ → Seat V → contents.Answered V → ℕ → List ℕ → told.Notice → After V
-  has_loaded w a x o l ls (told.Number v) =
-      if (w.boosted.shadows a).editions l == v then loads w a x o ls
-      else gives_up w a (because x (refusal.Stale l ((w.boosted.shadows a).editions l) v)) []
-  has_loaded w a x o l ls (told.Moved i word) = gives_up w a (because x (refusal.Moved i word)) []
-  has_loaded w a x o l ls n = (w, Quiet)
+  abbrev pub has_copied : World V → ℕ → Seat V → Asked V → After V
+  has_copied w a x asked = answers w a x (with_piece x asked.collection (piece_at w.blocks asked)) (outcome_at w a asked) w.boosted.editions
+
+  abbrev pub has_loaded : World V → ℕ → Seat V → contents.Answered V → ℕ × ℕ → Entries → told.Notice → After V
+  has_loaded w a x o d es (told.Number v) = is_fresh w a x d v (loads w a x o es)
+  has_loaded w a x o d es (told.Moved i word) = gives_up w a (because x (refusal.Moved i word)) []
+  has_loaded w a x o d es n = (w, Quiet)
 
   -- the collections with a written location, rising
   abbrev pub written_homes : World V → ℕ → List ℕ
@@ -304,7 +354,7 @@ module _ {V : Type 0} where
   has_stored w a x ks n = (seated w a (at_stage x (Storing ks)), Quiet)
 
   abbrev pub has_released : World V → ℕ → Seat V → told.Notice → After V
-  has_released w a x told.Released = (seated w a (record no_one { rv = x.rv }), Answered a (answer.Committed x.wv))
+  has_released w a x told.Released = (seated w a no_one, Answered a (answer.Committed x.wv))
   has_released w a x n = (w, Quiet)
 
   abbrev pub has_cancelled : World V → ℕ → Seat V → told.Notice → After V
@@ -323,14 +373,15 @@ module _ {V : Type 0} where
   step_at w a x Beginning = has_begun (acted w (moves a ∷ [])) a x (word_notice w a)
   step_at w a x (Reading l) = has_read (acted w (moves a ∷ [])) a x l (word_notice w a)
   step_at w a x (Trying asked tries) =
-      has_tried (acted w (TakeGate a asked.collection ∷ [])) a x asked.collection [] (λ n. Trying asked n) (Copying asked) tries
-  step_at w a x (Copying asked) = has_copied (acted w (PutGate a asked.collection (λ l. true) ∷ [])) a x asked
+      has_tried (acted w (TakeGate a asked.collection ∷ [])) a x (is_none (w.boosted.gates asked.collection)) asked.collection
+      [] (λ n. Trying asked n) (Copying asked) tries
+  step_at w a x (Copying asked) = has_copied (acted w (PutGate a asked.collection (covers_at w.words w.blocks asked) ∷ [])) a x asked
   step_at w a x (Loading o []) = (w, Quiet)
-  step_at w a x (Loading o (l ∷ ls)) = has_loaded (acted w (moves a ∷ [])) a x o l ls (word_notice w a)
+  step_at w a x (Loading o (d ∷ es)) = has_loaded (acted w (moves a ∷ [])) a x o d es (word_notice w a)
   step_at w a x Locking = has_locked (acted w (moves a ∷ [])) a x (word_notice w a)
   step_at w a x (Gating got [] tries) = (w, Quiet)
   step_at w a x (Gating got (k ∷ ks) tries) =
-      has_tried (acted w (TakeGate a k ∷ [])) a x k got (λ n. Gating got (k ∷ ks) n) (takes_gates (got ++ k ∷ []) ks) tries
+      has_tried (acted w (TakeGate a k ∷ [])) a x (is_none (w.boosted.gates k)) k got (λ n. Gating got (k ∷ ks) n) (takes_gates (got ++ k ∷ []) ks) tries
   step_at w a x (Ready ks) = stores w a x ks
   step_at w a x (Storing ks) = has_stored (acted w (moves a ∷ [])) a x ks (word_notice w a)
   step_at w a x (Homing []) = (w, Quiet)
@@ -350,7 +401,7 @@ module _ {V : Type 0} where
   starve_at w a x (Reading l) = gives_up w a (because x refusal.OutOfMemory) []
   starve_at w a x (Trying asked tries) = gives_up w a (because x refusal.OutOfMemory) []
   starve_at w a x (Copying asked) = gives_up w a (because x refusal.OutOfMemory) (asked.collection ∷ [])
-  starve_at w a x (Loading o ls) = gives_up w a (because x refusal.OutOfMemory) []
+  starve_at w a x (Loading o es) = gives_up w a (because x refusal.OutOfMemory) []
   starve_at w a x Locking = gives_up w a (because x refusal.OutOfMemory) []
   starve_at w a x (Gating got ks tries) = gives_up w a (because x refusal.OutOfMemory) got
   starve_at w a x (Ready ks) = gives_up w a (because x refusal.OutOfMemory) ks
@@ -368,13 +419,42 @@ module _ {V : Type 0} where
   run w (e ∷ es) = run (happens w e).0 es
 
   -- the opening, at these words and collections; an edition opens as 0
-  abbrev pub opened : ℕ → List Block → ℕ → List ℕ → List (Held V) → World V
-  opened words blocks clock values held =
+  abbrev pub opened : List Block → (clock : ℕ) → (values : List ℕ) → List (Held V) → World V
+  opened blocks clock values held =
       record {
-        words = words;
+        words = length values;
         blocks = blocks;
-        boosted = opens clock (λ l. get_or values l 0) (shown_at words blocks held);
+        boosted = opens clock (λ l. get_or values l 0) (shown_at (length values) blocks held);
         seats = λ a. no_one;
         records = [];
         aborted = [];
       }
+
+  -- ---- what a world shows at a moment
+  -- committed, with its last release still to come
+  abbrev pub is_half_done : Stage V → Bool
+  is_half_done (Storing ks) = true
+  is_half_done (Homing ks) = true
+  is_half_done Releasing = true
+  is_half_done stage = false
+
+  -- the numbers of the half-done commits, rising
+  abbrev pub half_in : (ℕ → Seat V) → List (ℕ × Record V) → List ℕ
+  half_in seats [] = []
+  half_in seats (r ∷ rs) =
+      if r.1.writes && (is_half_done (seats r.0).stage && (r.1.number == (seats r.0).wv)) then r.1.number ∷ half_in seats rs else half_in seats rs
+
+  abbrev pub half : World V → List ℕ
+  half w = half_in w.seats w.records
+
+  -- the collections whose parts stand from location f on
+  abbrev pub held_from : ℕ → List Block → (ℕ → Shown V) → List (Held V)
+  held_from f [] parts = []
+  held_from f (b ∷ bs) parts = held_of (seen b f parts) ∷ held_from (f + size b) bs parts
+
+  -- what its words and its bases hold
+  abbrev pub state : World V → Contents V
+  state w = record { words = map w.boosted.words.values (all_below w.words); held = held_from w.words w.blocks w.boosted.parts }
+
+  abbrev pub trace : World V → Trace V
+  trace w = record { records = w.records; aborted = w.aborted; state = state w; half = half w }

@@ -1,9 +1,15 @@
 //! The laws of the definitions that the contracts cite. Each function computes nothing: its contract is the law.
-ghost use Rattle.std.specs.Prelude.{◌≡◌, ◌++◌, ℕ, List, false, get_or};
+ghost use Rattle.std.specs.Prelude.{◌≡◌, ◌≢◌, ◌≤◌, ◌++◌, ℕ, List, [], Some, true, false, length, get_or};
 ghost use Rattle.seq_model.specs.declared.event.Event.{Event};
+ghost use Rattle.seq_model.specs.declared.event.Event.TheVariants.{Ask, Step};
+ghost use Rattle.seq_model.specs.declared.event.Request.{Request};
+ghost use Rattle.seq_model.specs.declared.event.Answer.TheVariants.{Begun};
+ghost use Rattle.seq_model.specs.declared.event.Notice.TheVariants.{Answered, Refused};
+ghost use Rattle.seq_model.specs.declared.refusal.Refusal.TheVariants.{NoSuch};
+ghost use Rattle.seq_model.specs.declared.call.Call.{Call};
 ghost use Rattle.seq_model.specs.declared.held.Held.{Held};
 ghost use Rattle.word_machine.specs.World.{Memory};
-ghost use Rattle.word_machine.specs.Opacity.{IsNoneHalfDone};
+ghost use Rattle.word_machine.specs.Opacity.{IsNoneHalfDone, first_read};
 ghost use Rattle.conflict.specs.declared.change.Change.{Change};
 ghost use Rattle.conflict.specs.Rules.{FrameLaws};
 ghost use Rattle.base_map.specs.Conflicts as map;
@@ -18,7 +24,11 @@ ghost use Rattle.replay_log.specs.Contents.{Block, Asked, HaveStripes, content, 
 ghost use Rattle.replay_log.specs.Collections.{Suit, AreReplies, IsRunOn, after_run, held_at, shown_at};
 ghost use Rattle.replay_log.specs.Log.{RaisesEach, KeepsOthers};
 ghost use Rattle.replay_log.specs.Parts.{IsWhole, AnswersByParts, KnowsItsCalls, LeavesOtherParts, ChangesByPart};
-ghost use Rattle.replay_log.specs.Worlds.{run, opened};
+ghost use Rattle.replay_log.specs.Worlds.{World, Open, Beginning, Leaving, is_change, actor_of, why, happens, run, opened};
+ghost use Rattle.replay_log.specs.WorldRefusals.{HasCause, is_calling, is_ending};
+ghost use Rattle.replay_log.specs.WorldProgress.{AreSmall, Nears, left_of, whose};
+ghost use Rattle.replay_log.specs.WorldSerial.{AreUpTo, IsSerial, SawAt};
+ghost use Rattle.replay_log.specs.Guards.{IsAllowed, step_action};
 
 use seq_model::Value;
 
@@ -88,23 +98,105 @@ pub fn serial_order<V: Value>()
 /// sequential collections, the bases show what it leaves where no commit is half done, and open and aborted transactions were
 /// replied what the collections reply that the commits up to their number leave.
 pub fn requests<V: Value>()
-    ensures actions { (words : ℕ) (blocks : List Block) (clock : ℕ) (values : List ℕ) (held : List (Held V)) (events : List (Event V)) →
+    ensures actions { (blocks : List Block) (clock : ℕ) (values : List ℕ) (held : List (Held V)) (events : List (Event V)) →
         (actions : List (Action (Asked V)))
-        × ((run (opened words blocks clock values held) events).boosted
-        ≡ after_actions (content words blocks) clock (λ l. get_or values l 0) (shown_at words blocks held) actions) }
-    ensures serial { (words : ℕ) (blocks : List Block) (clock : ℕ) (values : List ℕ) (held : List (Held V)) (events : List (Event V)) →
-        HaveStripes blocks → Suit blocks held → IsRunOn held (run (opened words blocks clock values held) events).boosted.history }
-    ensures left { (words : ℕ) (blocks : List Block) (clock : ℕ) (values : List ℕ) (held : List (Held V)) (events : List (Event V)) (l : ℕ) →
+        × ((run (opened blocks clock values held) events).boosted
+        ≡ after_actions (content (length values) blocks) clock (λ l. get_or values l 0) (shown_at (length values) blocks held) actions) }
+    ensures serial { (blocks : List Block) (clock : ℕ) (values : List ℕ) (held : List (Held V)) (events : List (Event V)) →
+        HaveStripes blocks → Suit blocks held → IsRunOn held (run (opened blocks clock values held) events).boosted.history }
+    ensures left { (blocks : List Block) (clock : ℕ) (values : List ℕ) (held : List (Held V)) (events : List (Event V)) (l : ℕ) →
         HaveStripes blocks → Suit blocks held →
-        let s = (run (opened words blocks clock values held) events).boosted in
-        IsNoneHalfDone s.words → is_plain words blocks l ≡ false → s.parts l ≡ shown_at words blocks (after_run held s.history) l }
-    ensures saw { (words : ℕ) (blocks : List Block) (clock : ℕ) (values : List ℕ) (held : List (Held V)) (events later : List (Event V)) (a : ℕ) →
+        let s = (run (opened blocks clock values held) events).boosted in
+        IsNoneHalfDone s.words → is_plain (length values) blocks l ≡ false → s.parts l ≡ shown_at (length values) blocks (after_run held s.history) l }
+    ensures saw { (blocks : List Block) (clock : ℕ) (values : List ℕ) (held : List (Held V)) (events later : List (Event V)) (a : ℕ) →
         HaveStripes blocks → Suit blocks held →
-        let w = run (opened words blocks clock values held) events in
+        let w = run (opened blocks clock values held) events in
         let t = run w later in
         AreReplies (held_at t.boosted.history (w.boosted.words.actors a).rv held) (w.boosted.shadows a).outcomes }
-    ensures aborted { (words : ℕ) (blocks : List Block) (clock : ℕ) (values : List ℕ) (held : List (Held V)) (events : List (Event V)) →
+    ensures aborted { (blocks : List Block) (clock : ℕ) (values : List ℕ) (held : List (Held V)) (events : List (Event V)) →
         HaveStripes blocks → Suit blocks held →
-        let s = (run (opened words blocks clock values held) events).boosted in
+        let s = (run (opened blocks clock values held) events).boosted in
         AllAborted (λ e. AreReplies (held_at s.history e.word.rv held) e.outcomes) s.aborted }
+{}
+
+/// Serial order of a world of words and collections, in which calls on both are mixed, for every opening, and over every list of
+/// events of any number of actors.
+///
+/// The records, in commit order, are a run from the opening: no two writers share a number, and every reply of every call, on a
+/// word or on a collection, is that of the sequential call, one whole transaction after another. Where no commit is half done,
+/// words and collections are what the run leaves; a half-done commit is recorded. An open or aborted transaction was replied
+/// what the state replies that the records up to its number leave, now and at every later moment. A transaction begins with a
+/// number that no record before it exceeds, so transactions that don't overlap keep their order.
+pub fn serial_worlds<V: Value>()
+    ensures serial { (blocks : List Block) (clock : ℕ) (values : List ℕ) (held : List (Held V)) (events : List (Event V)) → HaveStripes blocks → Suit blocks held →
+        IsSerial (record { words = values; held = held }) (run (opened blocks clock values held) events) }
+    ensures stays { (blocks : List Block) (clock : ℕ) (values : List ℕ) (held : List (Held V)) (events later : List (Event V)) (a : ℕ) → HaveStripes blocks → Suit blocks held →
+        let w = run (opened blocks clock values held) events in
+        SawAt (record { words = values; held = held }) (run w later).records (w.seats a) (w.seats a).stage }
+    ensures begins { (blocks : List Block) (clock : ℕ) (values : List ℕ) (held : List (Held V)) (events : List (Event V)) (a rv : ℕ) → HaveStripes blocks → Suit blocks held →
+        let w = run (opened blocks clock values held) events in
+        (w.seats a).stage ≡ Beginning → (happens w (Step a)).1 ≡ Answered a (Begun rv) → AreUpTo rv w.records }
+{}
+
+/// No guard of the machine refuses what a request does: wherever a request is under way, its next step does an action whose guard
+/// holds, at a place where it is due. So a request is never stuck.
+pub fn guards<V: Value>()
+    ensures allowed { (blocks : List Block) (clock : ℕ) (values : List ℕ) (held : List (Held V)) (events : List (Event V)) (a : ℕ) → HaveStripes blocks →
+        let w = run (opened blocks clock values held) events in
+        IsAllowed w (w.seats a).stage (step_action w a (w.seats a).stage) }
+{}
+
+/// Each own step of a request answers it, or brings it nearer to its answer, and what others do leaves it where it is. As a
+/// request is asked it is fewer than 1,000,000 own steps from its answer, where the sets have at most 4,096 locations each, and
+/// no call reads more than that. So it is answered within 1,000,000 of its own steps, whatever the others do.
+pub fn progress<V: Value>()
+    ensures nearer { (blocks : List Block) (clock : ℕ) (values : List ℕ) (held : List (Held V)) (events : List (Event V)) (a : ℕ) → HaveStripes blocks → AreSmall blocks →
+        let w = run (opened blocks clock values held) events in
+        Nears a (left_of w a) (happens w (Step a)) }
+    ensures others { (w : World V) (e : Event V) (a : ℕ) → a ≢ whose e → left_of (happens w e).0 a ≡ left_of w a }
+    ensures few { (blocks : List Block) (clock : ℕ) (values : List ℕ) (held : List (Held V)) (events : List (Event V)) (a : ℕ) (q : Request V) → HaveStripes blocks → AreSmall blocks →
+        let w = run (opened blocks clock values held) events in
+        length (actor_of w a).reads ≤ 4096 → length (actor_of w a).writes ≤ 4096 → Nears a 1000000 (happens w (Ask a q)) }
+{}
+
+/// A refusal is true. A step that begins to give a transaction up has found the cause that it notes: the word that it loads stops
+/// its request, or the copied edition is not the one of the word, or another holds the gate. The cause stays until the last step
+/// of the request tells it.
+pub fn refusals<V: Value>()
+    ensures causes { (blocks : List Block) (clock : ℕ) (values : List ℕ) (held : List (Held V)) (events : List (Event V)) (a : ℕ) → HaveStripes blocks →
+        let w = run (opened blocks clock values held) events in
+        is_ending (w.seats a).stage ≡ false → HasCause w a (happens w (Step a)).0 }
+    ensures stays { (w : World V) (a : ℕ) → is_ending (w.seats a).stage ≡ true → is_ending ((happens w (Step a)).0.seats a).stage ≡ true →
+        ((happens w (Step a)).0.seats a).cause ≡ (w.seats a).cause }
+    ensures told { (w : World V) (a : ℕ) → (w.seats a).stage ≡ Leaving → (happens w (Step a)).1 ≡ why a (w.seats a).cause }
+{}
+
+/// What a transaction has copied of a location that it has read is what the base has there, where the base has the edition that it
+/// read. So another key of that location, copied later with the same edition, goes with those copied before.
+pub fn copies<V: Value>()
+    ensures same { (blocks : List Block) (clock : ℕ) (values : List ℕ) (held : List (Held V)) (events : List (Event V)) (a l e : ℕ) → HaveStripes blocks →
+        let w = run (opened blocks clock values held) events in
+        is_calling (w.seats a).stage ≡ true → is_plain w.words w.blocks l ≡ false → first_read (actor_of w a).calls l ≡ Some e → w.boosted.editions l ≡ e →
+        (w.boosted.shadows a).parts l ≡ w.boosted.parts l }
+{}
+
+/// No number of a record, and no edition of a base, is above the clock: an edition opens as 0, and rises at most once for each
+/// number.
+pub fn bounds<V: Value>()
+    ensures numbers { (blocks : List Block) (clock : ℕ) (values : List ℕ) (held : List (Held V)) (events : List (Event V)) → HaveStripes blocks → Suit blocks held →
+        let w = run (opened blocks clock values held) events in
+        AreUpTo w.boosted.words.clock w.records }
+    ensures editions { (blocks : List Block) (clock : ℕ) (values : List ℕ) (held : List (Held V)) (events : List (Event V)) (l : ℕ) → HaveStripes blocks → Suit blocks held →
+        let w = run (opened blocks clock values held) events in
+        is_plain (length values) blocks l ≡ false → w.boosted.editions l ≤ w.boosted.words.clock }
+{}
+
+/// A change that a declared reader asks for is NoSuch at once, whatever else would refuse it, and changes nothing. A declared
+/// reader has no sets, so each of its calls reads its locations anew.
+pub fn declared_readers<V: Value>()
+    ensures changes { (w : World V) (a : ℕ) (call : Call V) → (actor_of w a).declared ≡ true → (w.seats a).stage ≡ Open → is_change call.op ≡ true →
+        happens w (Ask a (Request.Call call)) ≡ (w, Refused a NoSuch) }
+    ensures sets { (blocks : List Block) (clock : ℕ) (values : List ℕ) (held : List (Held V)) (events : List (Event V)) (a : ℕ) → HaveStripes blocks →
+        let w = run (opened blocks clock values held) events in
+        is_calling (w.seats a).stage ≡ true → (actor_of w a).declared ≡ true → ((actor_of w a).reads ≡ []) × ((actor_of w a).writes ≡ []) }
 {}

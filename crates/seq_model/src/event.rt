@@ -19,6 +19,8 @@ pub struct Shape {
 #[derive(Drop)]
 pub enum Request<V> {
     Begin,
+    /// A transaction that writes nothing is to begin: it keeps no read set.
+    BeginRead,
     Call(Call<V>),
     Commit,
     Abort,
@@ -58,6 +60,7 @@ impl<V: Value> Request<V> {
     {
         Ok(match self {
             Request::Begin => Request::Begin,
+            Request::BeginRead => Request::BeginRead,
             Request::Call(call) => Request::Call(call.try_copy()?),
             Request::Commit => Request::Commit,
             Request::Abort => Request::Abort,

@@ -54,6 +54,7 @@ pub record IsCall (tokens : List (List ℕ)) (call : Call ℕ) : Type 0 where
 
 abbrev pub IsRequest : List (List ℕ) → Request ℕ → Type 0
 IsRequest tokens request.Begin = tokens ≡ codes "begin" ∷ []
+IsRequest tokens request.BeginRead = tokens ≡ codes "begin_read" ∷ []
 IsRequest tokens request.Commit = tokens ≡ codes "commit" ∷ []
 IsRequest tokens request.Abort = tokens ≡ codes "abort" ∷ []
 IsRequest tokens (request.Call call) = IsCall tokens call

@@ -17,6 +17,7 @@ pub fn read_request(tokens: &[&str]) -> Option<Request<u64>>
 {
     match tokens {
         ["begin"] => Some(Request::Begin),
+        ["begin_read"] => Some(Request::BeginRead),
         ["commit"] => Some(Request::Commit),
         ["abort"] => Some(Request::Abort),
         ["read", word] => call(word, Op::Read),

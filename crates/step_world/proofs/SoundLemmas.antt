@@ -94,6 +94,7 @@ module _ {V : Type 0} where
 
   own_asked : (w : World V) (t : Transaction V) (before : Asked V) (q : Request V) → IsOwn w t → OwnsIt w (ask_own t before q)
   own_asked w t asked.Nothing request.Begin h = h
+  own_asked w t asked.Nothing request.BeginRead h = h
   own_asked w t asked.Nothing (request.Call call) h = own_call w t call h
   own_asked w t asked.Nothing request.Commit h = asks w t asked.Commit h
   own_asked w t asked.Nothing request.Abort h = asks w t asked.Abort h

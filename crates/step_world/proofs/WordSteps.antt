@@ -395,6 +395,7 @@ module _ {V : Type 0} where
 
   open_linked : (w : WordWorld V) (a : ℕ) (x : WordSeat V) (q : Request V) → Linked w → (w.words.actors a).place ≡ machine.Open → InTx (size w) x (w.words.actors a) → Linked (ask_open w a x q).0
   open_linked w a x request.Begin k e t = k
+  open_linked w a x request.BeginRead k e t = k
   open_linked w a x (request.Call call) k e t = op_linked w a x call.target call.op k e t
   open_linked w a x request.Commit k e t = commit_linked w a x k e t
   open_linked w a x request.Abort k e t = turns_linked w a machine.Open word.AskAbort (record x { stage = Leaving; cause = None }) (machine.goes (w.words.actors a) machine.Leave) k e refl (refl, t)

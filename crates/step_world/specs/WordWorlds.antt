@@ -114,10 +114,12 @@ ask_commit w a x =
 
 abbrev pub ask_idle : {V : Type 0} → WordWorld V → ℕ → WordSeat V → Request V → After V
 ask_idle w a x request.Begin = (turns w a word.AskBegin (at_stage x Beginning), Quiet)
+ask_idle w a x request.BeginRead = (w, Refused a refusal.NoSuch)  -- declared readers are not served yet
 ask_idle w a x q = (w, Refused a refusal.NoTransaction)
 
 abbrev pub ask_open : {V : Type 0} → WordWorld V → ℕ → WordSeat V → Request V → After V
 ask_open w a x request.Begin = (w, Refused a refusal.NotIdle)
+ask_open w a x request.BeginRead = (w, Refused a refusal.NotIdle)
 ask_open w a x (request.Call call) = ask_op w a x call.target call.op
 ask_open w a x request.Commit = ask_commit w a x
 ask_open w a x request.Abort = (turns w a word.AskAbort (record x { stage = Leaving; cause = None }), Quiet)

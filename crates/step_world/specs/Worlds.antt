@@ -56,6 +56,7 @@ ask_call t call =
 -- a request of the open transaction's actor, by the one that waits
 abbrev pub ask_own : {V : Type 0} → Transaction V → Asked V → Request V → Transaction V × Notice V
 ask_own t asked.Nothing request.Begin = refuse_own t refusal.NotIdle
+ask_own t asked.Nothing request.BeginRead = refuse_own t refusal.NotIdle
 ask_own t asked.Nothing (request.Call call) = ask_call t call
 ask_own t asked.Nothing request.Commit = waits t asked.Commit
 ask_own t asked.Nothing request.Abort = waits t asked.Abort
@@ -64,6 +65,7 @@ ask_own t before q = refuse_own t refusal.NotIdle
 -- a request of an actor that has no transaction, while the seat is taken
 abbrev pub beside : {V : Type 0} → ℕ → Request V → Notice V
 beside a request.Begin = Refused a refusal.NotIdle
+beside a request.BeginRead = Refused a refusal.NotIdle
 beside a q = Refused a refusal.NoTransaction
 
 abbrev pub in_seat : {V : Type 0} → Transaction V × Notice V → Seat V × Notice V
@@ -71,6 +73,7 @@ in_seat r = (Open r.0, r.1)
 
 abbrev pub ask_seat : {V : Type 0} → ℕ → Seat V → Request V → Seat V × Notice V
 ask_seat a Free request.Begin = (Beginning a, Quiet)
+ask_seat a Free request.BeginRead = (Free, Refused a refusal.NoSuch)  -- declared readers are not served yet
 ask_seat a Free q = (Free, Refused a refusal.NoTransaction)
 ask_seat a (Beginning b) q = if a == b then (Beginning b, Refused a refusal.NotIdle) else (Beginning b, beside a q)
 ask_seat a (Open t) q = if a == t.actor then in_seat (ask_own t t.asked q) else (Open t, beside a q)

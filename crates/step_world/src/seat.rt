@@ -43,11 +43,15 @@ impl<V: Drop> Seat<V> {
     {
         match self {
             Seat::Free => {
-                if let Request::Begin = request {
-                    *self = Seat::Beginning(actor);
-                    return Notice::Quiet;
+                match request {
+                    Request::Begin => {
+                        *self = Seat::Beginning(actor);
+                        Notice::Quiet
+                    }
+                    // declared readers are not served yet
+                    Request::BeginRead => Notice::Refused(actor, Refusal::NoSuch),
+                    _ => Notice::Refused(actor, Refusal::NoTransaction),
                 }
-                Notice::Refused(actor, Refusal::NoTransaction)
             }
             Seat::Beginning(beginner) => {
                 if actor == *beginner {
@@ -91,6 +95,7 @@ fn ask_beside<V>(actor: u32, request: &Request<V>) -> Notice<V>
 {
     match request {
         Request::Begin => Notice::Refused(actor, Refusal::NotIdle),
+        Request::BeginRead => Notice::Refused(actor, Refusal::NotIdle),
         _ => Notice::Refused(actor, Refusal::NoTransaction),
     }
 }
@@ -104,6 +109,7 @@ impl<V: Drop> Transaction<V> {
         }
         match request {
             Request::Begin => Notice::Refused(self.actor, Refusal::NotIdle),
+            Request::BeginRead => Notice::Refused(self.actor, Refusal::NotIdle),
             Request::Call(call) => self.ask_call(call),
             Request::Commit => {
                 self.asked = Asked::Commit;

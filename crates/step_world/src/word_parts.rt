@@ -197,6 +197,7 @@ impl<V: Value> WordParts<V> {
         }
         match request {
             Request::Begin => self.ask_begin(actor),
+            Request::BeginRead => self.ask_begin_read(actor),
             Request::Call(call) => self.ask_call(actor, call),
             Request::Commit => self.ask_commit(actor),
             Request::Abort => self.ask_abort(actor),
@@ -210,6 +211,18 @@ impl<V: Value> WordParts<V> {
     {
         match self.seats[actor as usize].stage {
             Stage::Idle => self.turn(actor, WordRequest::Begin, Stage::Beginning),
+            _ => Ok(Notice::Refused(actor, Refusal::NotIdle)),
+        }
+    }
+
+    // Declared readers are not served yet.
+    fn ask_begin_read(&mut self, actor: u32) -> Result<Notice<V>, Memory>
+        requires seat { actor < length self.old.seats.items }
+        ensures { IfOk result (Follows (shown_of self.old)
+            (λ w. words.ask_at w actor (w.seats actor) (w.seats actor).stage Request.BeginRead) (shown_of self.new)) }
+    {
+        match self.seats[actor as usize].stage {
+            Stage::Idle => Ok(Notice::Refused(actor, Refusal::NoSuch)),
             _ => Ok(Notice::Refused(actor, Refusal::NotIdle)),
         }
     }

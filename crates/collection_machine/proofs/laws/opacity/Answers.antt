@@ -1,5 +1,5 @@
 -- The law of every schedule, from the invariant.
-use Rattle.std.proofs.Common.{◌≡◌, ℕ, ◌+◌, List, subst, sym, ap, ◌∙◌}
+use Rattle.std.proofs.Common.{◌≡◌, ℕ, ◌+◌, List, subst, sym, ap, ◌∙◌, arith}
 use Rattle.word_machine.specs.World.{Memory, Record}
 use Rattle.word_machine.specs.Opacity.{IsLegal, AllEnded, memory_at, IsInOrder, IsRun, memory_after}
 use Rattle.word_machine.proofs.Saw.{first_read_good}
@@ -9,7 +9,7 @@ use Rattle.collection_machine.specs.Content.{Content, Frame}
 use Rattle.collection_machine.specs.Boosted.{Boosted, Action, act_all, opens}
 use Rattle.collection_machine.specs.Serial.{edition_at, AreLegal, AreRun, AllAborted, view, views, words}
 use Rattle.collection_machine.proofs.Invariant.{Inv}
-use Rattle.collection_machine.proofs.Schedules.{edition_read, all_keeps, all_ok, all_saw, all-opening, all_words_saw, opens_ok, legal_parts, are_run, aborted_legal, at_rest}
+use Rattle.collection_machine.proofs.Schedules.{edition_few, edition_read, all_keeps, all_ok, all_saw, all-opening, all_words_saw, opens_ok, legal_parts, are_run, aborted_legal, at_rest}
 use Rattle.collection_machine.proofs.Quiet.{saw_open}
 use Rattle.collection_machine.proofs.Runs.{all_run}
 use Rattle.collection_machine.proofs.laws.opacity.Goals as goal
@@ -78,6 +78,18 @@ returns-clause-editions g k c f clock memory parts actions later a l e pl h =
     let s = reached c f clock memory parts actions in
     let v = reached_ok c f clock memory parts actions in
     let t = act_all c later s in
+    let q = edition_read c f t (s.words.actors a).rv l e (all_ok c f later s v) pl ((all_keeps c f later s v).good (s.words.actors a).rv l e ((v.machine.actors a).reads l e h)) in
+    let o = all-opening c f later s v in
+    let p = all-opening c f actions (opens clock memory parts) (opens_ok c f clock memory parts) in (
+      q.0 ∙ ap (λ (z : ℕ → ℕ). z l + edition_at c t.history (s.words.actors a).rv l) (o.1 ∙ p.1),
+      λ same. q.1 same ∙ ap (λ (z : ℕ → _). view c t.history (s.words.actors a).rv z l) (o.0 ∙ p.0),
+    )
+
+pub returns-clause-first_reads : goal.returns-clause-first_reads
+returns-clause-first_reads g k c f clock memory parts actions later a l e pl h =
+    let s = reached c f clock memory parts actions in
+    let v = reached_ok c f clock memory parts actions in
+    let t = act_all c later s in
     let q = edition_read c f t (s.words.actors a).rv l e (all_ok c f later s v) pl ((all_keeps c f later s v).good (s.words.actors a).rv l e (first_read_good s.words (s.words.actors a).rv (s.words.actors a).calls l e (v.machine.actors a).saw h)) in
     let o = all-opening c f later s v in
     let p = all-opening c f actions (opens clock memory parts) (opens_ok c f clock memory parts) in (
@@ -86,7 +98,14 @@ returns-clause-editions g k c f clock memory parts actions later a l e pl h =
     )
 
 pub returns-clause-accepted : goal.returns-clause-accepted
-returns-clause-accepted g k c f clock memory parts actions a l r = (((reached_ok c f clock memory parts actions).shadows a).sets l r).1
+returns-clause-accepted g k c f clock memory parts actions a l r = ((reached_ok c f clock memory parts actions).shadows a).sets l r
+
+pub returns-clause-bounded : goal.returns-clause-bounded
+returns-clause-bounded g k c f clock memory parts actions l pl =
+    let s = reached c f clock memory parts actions in
+    let few = edition_few c f s l (reached_ok c f clock memory parts actions) pl in
+    let same = ap (λ (z : Memory). z l) (sym (reached_ok c f clock memory parts actions).first ∙ opened_memory c f clock memory parts actions) in
+    omega (arith, few, same)
 
 pub returns-clause-worlds : goal.returns-clause-worlds
 returns-clause-worlds g k c clock memory parts actions = all_run c actions (opens clock memory parts)
