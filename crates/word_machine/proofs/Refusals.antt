@@ -10,7 +10,7 @@ use Rattle.word_machine.specs.Actor.{Place, Idle, Begin, Open, Look, Fetch, Agai
 use Rattle.word_machine.specs.Requests.{Request, AskBegin, AskBeginRead, AskLock, AskStore, AskRelease, AskCancel, AskAbort, AskClose, AskRead, AskWrite, abort, ask}
 use Rattle.word_machine.specs.World.{put, World, Event, Ask, Step, now, step, happens}
 use Rattle.word_machine.specs.Notices.{Notice, Quiet, Begun, Exhausted, Moved, Busy, Invalid, Number, LockedAt, Stored, Released, Cancelled, IsConflict, notice, look_notice, again_notice, lock_notice, take_notice, check_notice, when_none_left, last_notice}
-use Rattle.word_machine.specs.Refusals.{IsTrue, IsRefused, IsEnding, IsCommitting}
+use Rattle.word_machine.specs.Refusals.{IsTrue, NamesPlace, IsRefused, IsEnding, IsCommitting}
 use Rattle.word_machine.proofs.Worlds.{looked, looked_again, to_lock, tried, locked, checked, undone}
 use Rattle.word_machine.proofs.Sets.{put-same, put_both}
 use Rattle.word_machine.proofs.Invariant.{IsSomeEntry, PlaceOk}
@@ -78,6 +78,60 @@ notice_true s x Release pl = last_true s x Release x.held Released tt
 notice_true s x Undo pl = last_true s x Undo x.held Cancelled tt
 notice_true s x Leave pl = tt
 notice_true s x Close pl = tt
+
+-- and names the place
+last_names : (p : Place) (es : Entries) (n : Notice) → NamesPlace p n → NamesPlace p (last_notice es n)
+last_names p [] n h = tt
+last_names p (e ∷ es) n h = none_left (NamesPlace p) es n h tt
+
+look_names : (rv l : ℕ) (w : LockWord) → NamesPlace (Look l) (look_notice rv l w)
+look_names rv l (Free k) = cond_both (leb k rv) Quiet (Moved l (bits (Free k))) (NamesPlace (Look l)) (λ _. tt) (λ _. refl)
+look_names rv l (Locked k) = refl
+
+again_names : (l k v : ℕ) (w : LockWord) → NamesPlace (Again l k v) (again_notice l k v w)
+again_names l k v (Free j) = cond_both (eqb j k) (Number v) (Moved l (bits (Free j))) (NamesPlace (Again l k v)) (λ _. tt) (λ _. refl)
+again_names l k v (Locked j) = refl
+
+lock_names : (l : ℕ) (ls : List ℕ) (w : LockWord) → NamesPlace (Lock (l ∷ ls)) (lock_notice l w)
+lock_names l ls (Free k) = tt
+lock_names l ls (Locked k) = refl
+
+take_names : (l k : ℕ) (ls : List ℕ) (w : LockWord) → NamesPlace (Take l k ls) (take_notice l k w)
+take_names l k ls (Free j) = cond_both (eqb j k) Quiet (Busy l (bits (Free j))) (NamesPlace (Take l k ls)) (λ _. tt) (λ _. refl)
+take_names l k ls (Locked j) = refl
+
+check_names : (rv wv l : ℕ) (ls : List ℕ) (w : LockWord) (own : Option ℕ) → NamesPlace (Check (l ∷ ls)) (check_notice rv wv l ls w own)
+check_names rv wv l ls (Free k) own =
+    cond_both (leb k rv) (when_none_left ls (LockedAt wv)) (Invalid l (bits (Free k))) (NamesPlace (Check (l ∷ ls)))
+    (λ _. none_left (NamesPlace (Check (l ∷ ls))) ls (LockedAt wv) tt tt) (λ _. refl)
+check_names rv wv l ls (Locked k) (Some v) =
+    cond_both (leb k rv) (when_none_left ls (LockedAt wv)) (Invalid l (bits (Locked k))) (NamesPlace (Check (l ∷ ls)))
+    (λ _. none_left (NamesPlace (Check (l ∷ ls))) ls (LockedAt wv) tt tt) (λ _. refl)
+check_names rv wv l ls (Locked k) None = refl
+
+begin_names : (clock : ℕ) → NamesPlace Begin (if ltb clock clock_limit then Begun clock else Exhausted clock)
+begin_names clock = cond_both (ltb clock clock_limit) (Begun clock) (Exhausted clock) (NamesPlace Begin) (λ _. tt) (λ _. tt)
+
+pub notice_names : (s : World) (x : Actor) (p : Place) → NamesPlace p (notice s x p)
+notice_names s x Idle = tt
+notice_names s x Begin = begin_names s.clock
+notice_names s x Open = tt
+notice_names s x (Look l) = look_names x.rv l (s.locks l)
+notice_names s x (Fetch l k) = tt
+notice_names s x (Again l k v) = again_names l k v (s.locks l)
+notice_names s x (Lock []) = none_left (NamesPlace (Lock [])) (to_check x (s.clock + 1)) (LockedAt (s.clock + 1)) tt tt
+notice_names s x (Lock (l ∷ ls)) = lock_names l ls (s.locks l)
+notice_names s x (Take l k ls) = take_names l k ls (s.locks l)
+notice_names s x (Check []) = tt
+notice_names s x (Check (l ∷ ls)) = check_names x.rv x.wv l ls (s.locks l) (lookup x.writes l)
+notice_names s x Broken = tt
+notice_names s x First = last_names First x.writes Stored tt
+notice_names s x (Store []) = tt
+notice_names s x (Store (l ∷ ls)) = none_left (NamesPlace (Store (l ∷ ls))) ls Stored tt tt
+notice_names s x Release = last_names Release x.held Released tt
+notice_names s x Undo = last_names Undo x.held Cancelled tt
+notice_names s x Leave = tt
+notice_names s x Close = tt
 
 -- no step of a commit is refused
 last_kept : (es : Entries) (n : Notice) → IsSomeEntry es → (IsRefused n → ⊥) → IsRefused (last_notice es n) → ⊥

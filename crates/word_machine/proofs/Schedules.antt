@@ -104,12 +104,14 @@ legal_at s r g = record {
 pub serial : (s : World) → Inv s → IsRun s.opening s.history
 serial s v = IsRun-records s.history s.opening v.ordered (AllRecords_map (RecordOk s) (LegalAt s.history s.opening) s.history (legal_at s) v.records)
 
-aborted_legal : (s : World) (es : List Ended) → AllEnded (λ e. Saw s e.rv e.calls) es → AllEnded (λ e. IsLegal (memory_at s e.rv) e.calls) es
-aborted_legal s [] g = tt
-aborted_legal s (e ∷ es) g = (legal_of s e.rv e.calls g.0, aborted_legal s es g.1)
+aborted_legal : (later : List Event) (s : World) (es : List Ended) → Inv s → AllEnded (λ e. Saw s e.rv e.calls) es
+    → AllEnded (λ e. IsLegal (memory_at (run later s) e.rv) e.calls) es
+aborted_legal later s [] v g = tt
+aborted_legal later s (e ∷ es) v g =
+    (legal_of (run later s) e.rv e.calls (run_saw later s e.rv e.calls v g.0), aborted_legal later s es v g.1)
 
-pub all_aborted : (s : World) → Inv s → AllEnded (λ e. IsLegal (memory_at s e.rv) e.calls) s.aborted
-all_aborted s v = aborted_legal s s.aborted v.aborted
+pub all_aborted : (later : List Event) (s : World) → Inv s → AllEnded (λ e. IsLegal (memory_at (run later s) e.rv) e.calls) s.aborted
+all_aborted later s v = aborted_legal later s s.aborted v v.aborted
 
 pub actor_saw : (s : World) (a : ℕ) → Inv s → Saw s (s.actors a).rv (s.actors a).calls
 actor_saw s a v = (v.actors a).saw
@@ -120,7 +122,7 @@ words_at_rest s v none l = v.current l (v.behind l (λ a half. absurd (none a ha
 pub owned : (s : World) (e : Event) (a l k : ℕ) → Inv s → lookup (s.actors a).held l ≡ Some k → (a ≡ actor_of e → ⊥) → ((happens s e).locks l ≡ s.locks l) × ((happens s e).values l ≡ s.values l)
 owned s e a l k v h ne = let m = (happens_ok s e v).others a ne in (m.locks l k h, m.values l k h)
 
-all_upto : (s : World) (h : List Record) → AllRecords (RecordOk s) h → AllUpto s.clock h
+pub all_upto : (s : World) (h : List Record) → AllRecords (RecordOk s) h → AllUpto s.clock h
 all_upto s [] g = tt
 all_upto s (r ∷ rs) g = ((g.0).past, all_upto s rs g.1)
 

@@ -14,7 +14,7 @@ returns c = record {
       let s = run events (start clock memory) in
       let v = reached clock memory events in
       legal_of (run later s) (s.actors a).rv (s.actors a).calls (run_saw later s (s.actors a).rv (s.actors a).calls v (actor_saw s a v));
-  aborted = λ clock memory events. all_aborted (run events (start clock memory)) (reached clock memory events);
+  aborted = λ clock memory events later. all_aborted later (run events (start clock memory)) (reached clock memory events);
   words = λ clock memory events none l.
       words_at_rest (run events (start clock memory)) (reached clock memory events) none l
       ∙ ap (λ (m : Memory). memory_after m (run events (start clock memory)).history l) (opened_at clock memory events);
