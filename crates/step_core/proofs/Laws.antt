@@ -6,17 +6,20 @@ use Rattle.vlock_word.proofs.LockWordLemmas.{bits_unbits}
 use Rattle.tx_sets.specs.Entries.{lookup}
 use Rattle.word_machine.specs.Actor as machine
 use Rattle.word_machine.specs.World.{Memory, Record, World, Event, Step, blank, happens, run, start, in_order}
-use Rattle.word_machine.specs.Opacity.{IsRun, IsInOrder, IsLegal, IsHalfDone, AllUpto, memory_after, memory_at, upto}
+use Rattle.word_machine.specs.Opacity.{IsRun, IsInOrder, IsLegal, IsHalfDone, AllUpto, NoWriterHas, memory_after, memory_at, upto}
 use Rattle.word_machine.proofs.Invariant.{Inv}
 use Rattle.word_machine.specs.Notices.{Notice, Quiet, NoTransaction, Begun, Number, LockedAt, Written, Stored, Released, Cancelled, Closed, Moved, Busy, Invalid, Exhausted, notice}
 use Rattle.word_machine.specs.Progress.{steps_left, IsAnswered}
-use Rattle.word_machine.proofs.Schedules.{reached, opened_at, legal_of, serial, all_aborted, actor_saw, run_saw, words_at_rest, owned, begins_at}
+use Rattle.word_machine.proofs.Schedules.{all_upto, reached, opened_at, legal_of, serial, aborted_later, actor_saw, run_saw, words_at_rest, owned, begins_at}
 use Rattle.word_machine.proofs.Progress.{progress}
 use Rattle.word_machine.proofs.Answered.{step_other, step_further}
 use Rattle.word_machine.proofs.Short.{few}
+use Rattle.word_machine.proofs.Numbers.{unused_later}
+use Rattle.word_machine.proofs.Refusals.{notice_true, notice_names}
+use Rattle.word_machine.specs.Refusals.{IsEnding}
 use Rattle.step_core.specs.Answers.{result_of}
 use Rattle.step_core.specs.Shown.{Shown, shown, actor_in, actor_of, Steps, Reached, snapshot_of}
-use Rattle.step_core.specs.Opaque.{words_at, world_of, IsAtRest, Opaque, Saw, KeepsOthers, BeginsAbove, Nears, steps_due}
+use Rattle.step_core.specs.Opaque.{words_at, world_of, IsAnswerOf, IsAtRest, Opaque, AreNumbered, Saw, KeepsOthers, BeginsAbove, HasCause, Nears, steps_due}
 use Rattle.step_core.specs.Sound.{Fits, Sound}
 use Rattle.step_core.specs.declared.actor.Actor.{Actor}
 use Rattle.step_core.specs.declared.machine.Machine.{Machine}
@@ -48,16 +51,6 @@ words_of v r rest l =
     ∙ ap (λ (m : Memory). memory_after m s.history l) (opened_at r.clock r.opening r.events)
     ∙ ap (λ (h : List Record). memory_after r.opening h l) r.shows.history
 
-pub opaque_of : (v : Shown) → Reached v → Opaque v
-opaque_of v r = record {
-  reached = r;
-  ordered = subst IsInOrder r.shows.history (reached r.clock r.opening r.events).ordered;
-  serial = λ q. serial_of v q;
-  words = λ q. words_of v q;
-  saw = λ q a. saw_of v q a;
-  aborted = λ q. all_aborted (run q.events (start q.clock q.opening)) (reached q.clock q.opening q.events);
-}
-
 later_of : (v : Shown) (r : Reached v) (a : ℕ) (events : List Event) → IsLegal (memory_at (run events (world_of v r)) (actor_in v a).rv) (actor_in v a).calls
 later_of v r a events =
     let s = world_of v r in
@@ -67,6 +60,39 @@ later_of v r a events =
 
 saw_always : (v : Shown) (a : ℕ) → Saw v a (actor_in v a).rv
 saw_always v a = record { now = λ r. saw_of v r a; later = λ r events. later_of v r a events }
+
+pub opaque_of : (v : Shown) → Reached v → Opaque v
+opaque_of v r = record {
+  reached = r;
+  ordered = subst IsInOrder r.shows.history (reached r.clock r.opening r.events).ordered;
+  serial = λ q. serial_of v q;
+  words = λ q. words_of v q;
+  saw = λ a. saw_always v a;
+  aborted = λ q later. aborted_later later (world_of v q) (reached q.clock q.opening q.events);
+}
+
+-- the numbers of records, and of commits that gave up
+pub numbered_of : (v : Shown) → Reached v → AreNumbered v
+numbered_of v r =
+    let s = world_of v r in
+    let all : AllUpto s.clock s.history = all_upto s s.history (reached r.clock r.opening r.events).records in
+    record {
+      upto = subst (λ (c : ℕ). AllUpto c (in_order [] v.history)) r.shows.clock (subst (AllUpto s.clock) r.shows.history all);
+      unused = λ q a later ends.
+          let t = world_of v q in
+          subst (λ (x : machine.Actor). NoWriterHas x.wv (run later t).history) (q.shows.actors a)
+          (unused_later q.clock q.opening q.events later a (subst (λ (x : machine.Actor). IsEnding x.place) (sym (q.shows.actors a)) ends));
+    }
+
+-- what a step answers is true of the words that it found
+pub has_cause : (v u : Shown) (a : ℕ) (answer : Result (Option WordAnswer) WordRefusal) → Steps v a u answer → HasCause v a answer
+has_cause v u a answer st = record {
+  cause = λ r.
+      let s = world_of v r in
+      let x = s.actors a in
+      let now : IsAnswerOf s x answer = ((st s r.shows).1, notice_true s x x.place ((reached r.clock r.opening r.events).actors a).place, notice_names s x x.place) in
+      subst (λ (y : machine.Actor). IsAnswerOf s y answer) (r.shows.actors a) now;
+}
 
 -- an open transaction saw the words of its snapshot
 pub snapshot_saw : (v : Shown) (a : ℕ) (p : machine.Place) → IfSome (snapshot_of (actor_in v a) p) (λ rv. Saw v a rv)

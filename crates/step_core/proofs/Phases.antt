@@ -82,7 +82,7 @@ seat_of v a q h =
     let t = (if_none (is_actor a) (refusal_at (length v.values) (actor_in v a) (actor_in v a).place q) NoSuch h).0 in
     let low = leb-true a 64 (both_true (nat_le 1 a) (nat_le a 64) t).1 in omega (arith, low)
 
-lawful : (v : Shown) (a : ℕ) (q : Request) → refusal_of v a q ≡ None
+pub lawful : (v : Shown) (a : ℕ) (q : Request) → refusal_of v a q ≡ None
     → (allows (phase_of (actor_in v a) (actor_in v a).place) q ≡ true) × (location_refusal (length v.values) (actor_in v a) q ≡ None)
 lawful v a q h =
     let x = actor_in v a in

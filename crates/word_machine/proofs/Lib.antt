@@ -17,4 +17,4 @@ pub mod Order
 pub mod Refusals
 pub mod Declared
 pub mod Due
-mod Numbers
+pub mod Numbers

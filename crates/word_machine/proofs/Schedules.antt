@@ -110,8 +110,11 @@ aborted_legal later s [] v g = tt
 aborted_legal later s (e ∷ es) v g =
     (legal_of (run later s) e.rv e.calls (run_saw later s e.rv e.calls v g.0), aborted_legal later s es v g.1)
 
-pub all_aborted : (later : List Event) (s : World) → Inv s → AllEnded (λ e. IsLegal (memory_at (run later s) e.rv) e.calls) s.aborted
-all_aborted later s v = aborted_legal later s s.aborted v v.aborted
+pub aborted_later : (later : List Event) (s : World) → Inv s → AllEnded (λ e. IsLegal (memory_at (run later s) e.rv) e.calls) s.aborted
+aborted_later later s v = aborted_legal later s s.aborted v v.aborted
+
+pub all_aborted : (s : World) → Inv s → AllEnded (λ e. IsLegal (memory_at s e.rv) e.calls) s.aborted
+all_aborted s v = aborted_later [] s v
 
 pub actor_saw : (s : World) (a : ℕ) → Inv s → Saw s (s.actors a).rv (s.actors a).calls
 actor_saw s a v = (v.actors a).saw
