@@ -164,6 +164,3 @@ impl Words {
         }
     }
 }
-
-#[cfg(test)]
-mod tests;
