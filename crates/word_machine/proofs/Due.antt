@@ -1,5 +1,5 @@
--- A request that is taken and not answered at once leaves a step to do. A commit that stores or releases has something written and something held
--- by the invariant; the other requests go to a place where a step is due, or are answered, or leave their actor as it is.
+-- A request that is taken and not answered at once leaves a step to do. A commit that stores or releases has something written and
+-- something held by the invariant; the other requests go to a place where a step is due, or are answered, or leave their actor as it is.
 use Rattle.std.proofs.Common.{◌≡◌, ◌≢◌, ℕ, ◌<◌, Bool, true, false, Option, Some, None, [], ◌∷◌, ◌⊎◌, inl, inr, length, refl, sym, ap, ◌∙◌, subst, arith}
 use Rattle.tx_sets.specs.Entries.{Entries, lookup}
 use Rattle.word_machine.specs.Actor.{Place, Idle, Begin, Open, Look, Fetch, Again, Lock, Take, Check, Broken, Store, Undo, Close, Actor, goes}

@@ -1,6 +1,7 @@
--- A number that was given to a transaction which then gave up is no writer's, at any later moment. Such a number is *spent*: the clock has passed
--- it, no writer in the history has it, and no commit under way has it. Every event keeps that: a commit is given the number after the clock, and a
--- record has the number of a commit that was under way. An actor that has no number yet counts as of 0, which is spent from the start.
+-- A number that was given to a transaction which then gave up is no writer's, at any later moment. Such a number is *spent*: the clock
+-- has passed it, no writer in the history has it, and no commit under way has it. Every event keeps that: a commit is given the number
+-- after the clock, and a record has the number of a commit that was under way. An actor that has no number yet counts as of 0, which is
+-- spent from the start.
 use Rattle.std.proofs.Common.{◌≡◌, ◌≢◌, ℕ, ◌<◌, ◌≤◌, cond, Bool, true, false, eqb, ltb, leb, Option, Some, None, List, [], ◌∷◌, ◌⊎◌, inl, inr, refl, sym, ap, ◌∙◌, subst, arith}
 use Rattle.std.proofs.lemmas.Bool.{cases_eq}
 use Rattle.vlock_word.specs.declared.lock_word.LockWord.{LockWord}
@@ -67,7 +68,8 @@ numbered c x p y same none f g h = record {
 }
 
 -- at a place that says nothing of it
-rests : (c : ℕ) (x : Actor) (p : Place) (y : Actor) → (IsUnnumbered y.place → ⊥) → (IsPending y.place → ⊥) → (IsEnding y.place → ⊥) → Turns c x p y
+rests : (c : ℕ) (x : Actor) (p : Place) (y : Actor) → (IsUnnumbered y.place → ⊥) → (IsPending y.place → ⊥) → (IsEnding y.place → ⊥)
+    → Turns c x p y
 rests c x p y f g h = record { none = λ u. absurd (f u); kept = λ u. absurd (g u); ended = λ u. absurd (h u) }
 
 -- as it was
@@ -80,7 +82,8 @@ turns_if true c x p y z f g = f
 turns_if false c x p y z f g = g
 
 -- an open transaction, at any place where it has no number, or gives up
-opens : (c : ℕ) (x : Actor) (p : Place) (y : Actor) → y.wv ≡ x.wv → (IsUnnumbered p → x.wv ≡ 0) → IsUnnumbered p → (IsPending y.place → ⊥) → Turns c x p y
+opens : (c : ℕ) (x : Actor) (p : Place) (y : Actor) → y.wv ≡ x.wv → (IsUnnumbered p → x.wv ≡ 0) → IsUnnumbered p
+    → (IsPending y.place → ⊥) → Turns c x p y
 opens c x p y same none at_p g = numbered c x p y same none (λ _. at_p) (λ h. absurd (g h)) (λ _. inl at_p)
 
 -- a commit that has its number goes on, or gives up
@@ -88,7 +91,8 @@ presses : (c : ℕ) (x : Actor) (ls : List ℕ) (y : Actor) → y.wv ≡ x.wv �
 presses c x ls y same g = record { none = λ u. absurd (g u); kept = λ _. inl (tt, sym same); ended = λ _. (inr (inl tt), sym same) }
 
 -- one that gives up goes on to its end
-winds : (c : ℕ) (x : Actor) (p : Place) (y : Actor) → y.wv ≡ x.wv → IsEnding p → (IsUnnumbered y.place → ⊥) → (IsPending y.place → ⊥) → Turns c x p y
+winds : (c : ℕ) (x : Actor) (p : Place) (y : Actor) → y.wv ≡ x.wv → IsEnding p → (IsUnnumbered y.place → ⊥) → (IsPending y.place → ⊥)
+    → Turns c x p y
 winds c x p y same at_p f g = record { none = λ u. absurd (f u); kept = λ u. absurd (g u); ended = λ _. (inr (inr at_p), sym same) }
 
 -- ---- requests
@@ -139,27 +143,33 @@ ask_turns c x p request e none = stays c x p e none
 turns_put : (c : ℕ) (x : Actor) (p : Place) (actors : ℕ → Actor) (a : ℕ) (y : Actor) → Turns c x p y → Turns c x p (put actors a y a)
 turns_put c x p actors a y h = subst (Turns c x p) (sym (put-same actors a y)) h
 
-turns_world : (b : Bool) (c : ℕ) (x : Actor) (p : Place) (s t : World) (a : ℕ) → Turns c x p (s.actors a) → Turns c x p (t.actors a) → Turns c x p ((cond b s t).actors a)
+turns_world : (b : Bool) (c : ℕ) (x : Actor) (p : Place) (s t : World) (a : ℕ) → Turns c x p (s.actors a) → Turns c x p (t.actors a)
+    → Turns c x p ((cond b s t).actors a)
 turns_world true c x p s t a f g = f
 turns_world false c x p s t a f g = g
 
-looked_turns : (s : World) (a : ℕ) (x : Actor) (l : ℕ) (w : LockWord) → (IsUnnumbered (Look l) → x.wv ≡ 0) → Turns s.clock x (Look l) ((looked s a x l w).actors a)
+looked_turns : (s : World) (a : ℕ) (x : Actor) (l : ℕ) (w : LockWord) → (IsUnnumbered (Look l) → x.wv ≡ 0)
+    → Turns s.clock x (Look l) ((looked s a x l w).actors a)
 looked_turns s a x l (Free k) none =
     turns_put s.clock x (Look l) s.actors a _ (turns_if (leb k x.rv) s.clock x (Look l) (goes x (Fetch l k)) (goes x Undo)
     (opens s.clock x (Look l) _ refl none tt (λ h. h)) (opens s.clock x (Look l) _ refl none tt (λ h. h)))
-looked_turns s a x l (Locked k) none = turns_put s.clock x (Look l) s.actors a (goes x Undo) (opens s.clock x (Look l) _ refl none tt (λ h. h))
+looked_turns s a x l (Locked k) none = turns_put s.clock x (Look l) s.actors a (goes x Undo)
+    (opens s.clock x (Look l) _ refl none tt (λ h. h))
 
 again_turns : (s : World) (a : ℕ) (x : Actor) (l k v : ℕ) (w : LockWord) → (IsUnnumbered (Again l k v) → x.wv ≡ 0)
     → Turns s.clock x (Again l k v) ((looked_again s a x l k v w).actors a)
 again_turns s a x l k v (Free j) none =
     turns_put s.clock x (Again l k v) s.actors a _ (turns_if (eqb j k) s.clock x (Again l k v) (has_read x l v) (goes x Undo)
     (opens s.clock x (Again l k v) _ refl none tt (λ h. h)) (opens s.clock x (Again l k v) _ refl none tt (λ h. h)))
-again_turns s a x l k v (Locked j) none = turns_put s.clock x (Again l k v) s.actors a (goes x Undo) (opens s.clock x (Again l k v) _ refl none tt (λ h. h))
+again_turns s a x l k v (Locked j) none = turns_put s.clock x (Again l k v) s.actors a (goes x Undo)
+    (opens s.clock x (Again l k v) _ refl none tt (λ h. h))
 
 to_lock_turns : (s : World) (a : ℕ) (x : Actor) (l : ℕ) (ls : List ℕ) (w : LockWord) → (IsUnnumbered (Lock (l ∷ ls)) → x.wv ≡ 0)
     → Turns s.clock x (Lock (l ∷ ls)) ((to_lock s a x l ls w).actors a)
-to_lock_turns s a x l ls (Free k) none = turns_put s.clock x (Lock (l ∷ ls)) s.actors a (goes x (Take l k ls)) (opens s.clock x (Lock (l ∷ ls)) _ refl none tt (λ h. h))
-to_lock_turns s a x l ls (Locked k) none = turns_put s.clock x (Lock (l ∷ ls)) s.actors a (goes x Broken) (opens s.clock x (Lock (l ∷ ls)) _ refl none tt (λ h. h))
+to_lock_turns s a x l ls (Free k) none = turns_put s.clock x (Lock (l ∷ ls)) s.actors a (goes x (Take l k ls))
+    (opens s.clock x (Lock (l ∷ ls)) _ refl none tt (λ h. h))
+to_lock_turns s a x l ls (Locked k) none = turns_put s.clock x (Lock (l ∷ ls)) s.actors a (goes x Broken)
+    (opens s.clock x (Lock (l ∷ ls)) _ refl none tt (λ h. h))
 
 take_turns : (s : World) (a : ℕ) (x : Actor) (l k : ℕ) (ls : List ℕ) (w : LockWord) → (IsUnnumbered (Take l k ls) → x.wv ≡ 0)
     → Turns s.clock x (Take l k ls) ((tried s a x l k ls w).actors a)
@@ -167,7 +177,8 @@ take_turns s a x l k ls (Free j) none =
     turns_world (eqb j k) s.clock x (Take l k ls) (locked s a x l k ls) (now s a (goes x Broken)) a
     (turns_put s.clock x (Take l k ls) s.actors a (taken x l k ls) (opens s.clock x (Take l k ls) _ refl none tt (λ h. h)))
     (turns_put s.clock x (Take l k ls) s.actors a (goes x Broken) (opens s.clock x (Take l k ls) _ refl none tt (λ h. h)))
-take_turns s a x l k ls (Locked j) none = turns_put s.clock x (Take l k ls) s.actors a (goes x Broken) (opens s.clock x (Take l k ls) _ refl none tt (λ h. h))
+take_turns s a x l k ls (Locked j) none = turns_put s.clock x (Take l k ls) s.actors a (goes x Broken)
+    (opens s.clock x (Take l k ls) _ refl none tt (λ h. h))
 
 check_turns : (s : World) (a : ℕ) (x : Actor) (l : ℕ) (ls : List ℕ) (w : LockWord) (own : Option ℕ)
     → Turns s.clock x (Check (l ∷ ls)) ((checked s a x l ls w own).actors a)
@@ -177,29 +188,36 @@ check_turns s a x l ls (Free k) own =
 check_turns s a x l ls (Locked k) (Some old) =
     turns_put s.clock x (Check (l ∷ ls)) s.actors a _ (turns_if (leb k x.rv) s.clock x (Check (l ∷ ls)) (goes x (Check ls)) (goes x Broken)
     (presses s.clock x (l ∷ ls) _ refl (λ h. h)) (presses s.clock x (l ∷ ls) _ refl (λ h. h)))
-check_turns s a x l ls (Locked k) None = turns_put s.clock x (Check (l ∷ ls)) s.actors a (goes x Broken) (presses s.clock x (l ∷ ls) _ refl (λ h. h))
+check_turns s a x l ls (Locked k) None = turns_put s.clock x (Check (l ∷ ls)) s.actors a (goes x Broken)
+    (presses s.clock x (l ∷ ls) _ refl (λ h. h))
 
-first_turns : (s : World) (a : ℕ) (x : Actor) (w : Entries) → Turns s.clock x First (s.actors a) → Turns s.clock x First ((first s a x w).actors a)
+first_turns : (s : World) (a : ℕ) (x : Actor) (w : Entries) → Turns s.clock x First (s.actors a)
+    → Turns s.clock x First ((first s a x w).actors a)
 first_turns s a x [] h = h
-first_turns s a x (e ∷ es) h = turns_put s.clock x First s.actors a (goes x (Store (locations es))) (rests s.clock x First _ (λ g. g) (λ g. g) (λ g. g))
+first_turns s a x (e ∷ es) h = turns_put s.clock x First s.actors a (goes x (Store (locations es)))
+    (rests s.clock x First _ (λ g. g) (λ g. g) (λ g. g))
 
-released_turns : (s : World) (a : ℕ) (x : Actor) (h : Entries) → Turns s.clock x Release (s.actors a) → Turns s.clock x Release ((released s a x h).actors a)
+released_turns : (s : World) (a : ℕ) (x : Actor) (h : Entries) → Turns s.clock x Release (s.actors a)
+    → Turns s.clock x Release ((released s a x h).actors a)
 released_turns s a x [] same = same
 released_turns s a x (e ∷ []) same = turns_put s.clock x Release s.actors a _ (rests s.clock x Release _ (λ g. g) (λ g. g) (λ g. g))
 released_turns s a x (e ∷ (f ∷ es)) same = turns_put s.clock x Release s.actors a _ (rests s.clock x Release _ (λ g. g) (λ g. g) (λ g. g))
 
-undone_turns : (s : World) (a : ℕ) (x : Actor) (h : Entries) → Turns s.clock x Undo (s.actors a) → Turns s.clock x Undo ((undone s a x h).actors a)
+undone_turns : (s : World) (a : ℕ) (x : Actor) (h : Entries) → Turns s.clock x Undo (s.actors a)
+    → Turns s.clock x Undo ((undone s a x h).actors a)
 undone_turns s a x [] same = same
 undone_turns s a x (e ∷ es) same = turns_put s.clock x Undo s.actors a _ (winds s.clock x Undo _ refl tt (λ g. g) (λ g. g))
 
-step_turns : (s : World) (a : ℕ) (x : Actor) (p : Place) → (IsUnnumbered p → x.wv ≡ 0) → Turns s.clock x p (s.actors a) → Turns s.clock x p ((step s a x p).actors a)
+step_turns : (s : World) (a : ℕ) (x : Actor) (p : Place) → (IsUnnumbered p → x.wv ≡ 0) → Turns s.clock x p (s.actors a)
+    → Turns s.clock x p ((step s a x p).actors a)
 step_turns s a x Idle none same = same
 step_turns s a x Begin none same =
     turns_put s.clock x Begin s.actors a _ (turns_if (ltb s.clock clock_limit) s.clock x Begin (opened x.declared s.clock) (goes x Idle)
     (record { none = λ _. refl; kept = λ h. absurd h; ended = λ h. absurd h }) (rests s.clock x Begin _ (λ h. h) (λ h. h) (λ h. h)))
 step_turns s a x Open none same = same
 step_turns s a x (Look l) none same = looked_turns s a x l (s.locks l) none
-step_turns s a x (Fetch l k) none same = turns_put s.clock x (Fetch l k) s.actors a (goes x (Again l k (s.values l))) (opens s.clock x (Fetch l k) _ refl none tt (λ h. h))
+step_turns s a x (Fetch l k) none same = turns_put s.clock x (Fetch l k) s.actors a (goes x (Again l k (s.values l)))
+    (opens s.clock x (Fetch l k) _ refl none tt (λ h. h))
 step_turns s a x (Again l k v) none same = again_turns s a x l k v (s.locks l) none
 step_turns s a x (Lock []) none same =
     turns_put s.clock x (Lock []) s.actors a _ (record { none = λ h. absurd h; kept = λ _. inr (omega arith); ended = λ h. absurd h })
@@ -210,7 +228,8 @@ step_turns s a x (Check (l ∷ ls)) none same = check_turns s a x l ls (s.locks 
 step_turns s a x Broken none same = same
 step_turns s a x First none same = first_turns s a x x.writes same
 step_turns s a x (Store []) none same = same
-step_turns s a x (Store (l ∷ ls)) none same = turns_put s.clock x (Store (l ∷ ls)) s.actors a (goes x (Store ls)) (rests s.clock x (Store (l ∷ ls)) _ (λ h. h) (λ h. h) (λ h. h))
+step_turns s a x (Store (l ∷ ls)) none same = turns_put s.clock x (Store (l ∷ ls)) s.actors a (goes x (Store ls))
+    (rests s.clock x (Store (l ∷ ls)) _ (λ h. h) (λ h. h) (λ h. h))
 step_turns s a x Release none same = released_turns s a x x.held same
 step_turns s a x Undo none same = undone_turns s a x x.held same
 step_turns s a x Leave none same = turns_put s.clock x Leave s.actors a (goes x Idle) (rests s.clock x Leave _ (λ h. h) (λ h. h) (λ h. h))
@@ -221,11 +240,13 @@ no_writer_insert : (n : ℕ) (r : Record) (h : List Record) → (r.writer ≡ tr
 unfolding insert
 no_writer_insert n r [] f g = (f, tt)
 no_writer_insert n r (x ∷ xs) f g =
-    elim (comes_before r x) as (λ b. NoWriterHas n (cond b (r ∷ (x ∷ xs)) (x ∷ insert r xs))) [ true ↦ (f, g) | false ↦ (g.0, no_writer_insert n r xs f g.1) ]
+    elim (comes_before r x) as (λ b. NoWriterHas n (cond b (r ∷ (x ∷ xs)) (x ∷ insert r xs))) [ true ↦ (f, g) | false ↦
+        (g.0, no_writer_insert n r xs f g.1) ]
 
 exchanged_history : (s : World) (a l k : ℕ) (won lost : Actor) (w : LockWord) → (exchanged s a l k won lost w).history ≡ s.history
 exchanged_history s a l k won lost (Free j) =
-    elim (eqb j k) as (λ b. (cond b (record (now s a won) { locks = put s.locks l (Locked k) }) (now s a lost)).history ≡ s.history) [ true ↦ refl | false ↦ refl ]
+    elim (eqb j k) as (λ b. (cond b (record (now s a won) { locks = put s.locks l (Locked k) }) (now s a lost)).history
+        ≡ s.history) [ true ↦ refl | false ↦ refl ]
 exchanged_history s a l k won lost (Locked j) = refl
 
 does_history : (s : World) (a : ℕ) (d : Deed) → (does s a d).history ≡ s.history
@@ -238,19 +259,24 @@ does_history s a (ExchangeLock l k won lost) = exchanged_history s a l k won los
 does_history s a (StoreValue l v y) = refl
 does_history s a (StoreLock l w y) = refl
 
-first_listed : (n a : ℕ) (t : World) (x : Actor) (w : Entries) → (x.wv ≡ n → ⊥) → NoWriterHas n t.history → NoWriterHas n (noted t (first_outcome a x w)).history
+first_listed : (n a : ℕ) (t : World) (x : Actor) (w : Entries) → (x.wv ≡ n → ⊥) → NoWriterHas n t.history
+    → NoWriterHas n (noted t (first_outcome a x w)).history
 first_listed n a t x [] f g = g
-first_listed n a t x (e ∷ es) f g = no_writer_insert n (record { actor = a; number = x.wv; writer = true; calls = x.calls }) t.history (λ _. f) g
+first_listed n a t x (e ∷ es) f g = no_writer_insert n (record { actor = a; number = x.wv; writer = true; calls = x.calls }) t.history
+    (λ _. f) g
 
-noted_listed : (n a : ℕ) (t : World) (x : Actor) (p : Place) → (p ≡ First → x.wv ≡ n → ⊥) → NoWriterHas n t.history → NoWriterHas n (noted t (outcome a x p)).history
+noted_listed : (n a : ℕ) (t : World) (x : Actor) (p : Place) → (p ≡ First → x.wv ≡ n → ⊥) → NoWriterHas n t.history
+    → NoWriterHas n (noted t (outcome a x p)).history
 noted_listed n a t x First f g = first_listed n a t x x.writes (f refl) g
 noted_listed n a t x Close f g =
-    no_writer_insert n (record { actor = a; number = x.rv; writer = false; calls = x.calls }) t.history (λ (w : false ≡ true). let b : ⊥ = cc in absurd b) g
+    no_writer_insert n (record { actor = a; number = x.rv; writer = false; calls = x.calls }) t.history
+        (λ (w : false ≡ true). let b : ⊥ = cc in absurd b) g
 noted_listed n a t x p f g = g
 
 -- ---- an event
 -- no writer gets a number in the history by it but its own actor, by the first value store
-event_listed : (s : World) (e : Event) (n : ℕ) → ((s.actors (actor_of e)).place ≡ First → (s.actors (actor_of e)).wv ≡ n → ⊥) → NoWriterHas n s.history
+event_listed : (s : World) (e : Event) (n : ℕ) → ((s.actors (actor_of e)).place ≡ First → (s.actors (actor_of e)).wv ≡ n → ⊥)
+    → NoWriterHas n s.history
     → NoWriterHas n (happens s e).history
 event_listed s (Ask a request) n f g = g
 event_listed s (Step a) n f g =
@@ -318,7 +344,8 @@ not_both (Check ls) h g = h
 not_both First h g = h
 not_both p h g = g
 
-spent_given : (s : World) (e : Event) → Inv s → IsChecking (s.actors (actor_of e)).place → IsEnding ((happens s e).actors (actor_of e)).place
+spent_given : (s : World) (e : Event) → Inv s → IsChecking (s.actors (actor_of e)).place
+    → IsEnding ((happens s e).actors (actor_of e)).place
     → Spent (happens s e) (s.actors (actor_of e)).wv
 spent_given s e v at_check ends =
     let t = happens s e in
@@ -342,7 +369,8 @@ spent_given s e v at_check ends =
 abbrev AllNumberOk : World → Type 0
 AllNumberOk s = (a : ℕ) → NumberOk s (s.actors a)
 
-number_own : (s : World) (e : Event) → Inv s → NumberOk s (s.actors (actor_of e)) → NumberOk (happens s e) ((happens s e).actors (actor_of e))
+number_own : (s : World) (e : Event) → Inv s → NumberOk s (s.actors (actor_of e))
+    → NumberOk (happens s e) ((happens s e).actors (actor_of e))
 number_own s e v ok =
     let t = happens s e in
     let x = s.actors (actor_of e) in
@@ -373,11 +401,14 @@ run_number (e ∷ es) s v all = run_number es (happens s e) (happens_ok s e v).i
 
 run_spent : (events : List Event) (s : World) (n : ℕ) → Inv s → AllNumberOk s → Spent s n → Spent (run events s) n
 run_spent [] s n v all g = g
-run_spent (e ∷ es) s n v all g = run_spent es (happens s e) n (happens_ok s e v).inv (number_kept s e v all) (spent_kept s e n v (all (actor_of e)) g)
+run_spent (e ∷ es) s n v all g = run_spent es (happens s e) n (happens_ok s e v).inv (number_kept s e v all)
+    (spent_kept s e n v (all (actor_of e)) g)
 
-pub unused_later : (clock : ℕ) (memory : Memory) (events later : List Event) (a : ℕ) → IsEnding ((run events (start clock memory)).actors a).place
+pub unused_later : (clock : ℕ) (memory : Memory) (events later : List Event) (a : ℕ)
+    → IsEnding ((run events (start clock memory)).actors a).place
     → NoWriterHas ((run events (start clock memory)).actors a).wv (run later (run events (start clock memory))).history
 unused_later clock memory events later a ends =
     let s = run events (start clock memory) in
-    let all = run_number events (start clock memory) (start_ok clock memory) (λ b. record { none = λ h. absurd h; spent = λ h. absurd h }) in
+    let all = run_number events (start clock memory) (start_ok clock memory)
+        (λ b. record { none = λ h. absurd h; spent = λ h. absurd h }) in
     (run_spent later s (s.actors a).wv (reached clock memory events) all ((all a).spent ends)).listed

@@ -19,7 +19,8 @@ use Rattle.word_machine.proofs.Answered.{step_other}
 
 -- each refusal is true
 begin_true : (s : World) (x : Actor) → IsTrue s x Begin (if ltb s.clock clock_limit then Begun s.clock else Exhausted s.clock)
-begin_true s x = cond_both (ltb s.clock clock_limit) (Begun s.clock) (Exhausted s.clock) (IsTrue s x Begin) (λ _. tt) (λ f. (refl, (let h = ltb-false s.clock clock_limit f in omega (arith, h)), refl))
+begin_true s x = cond_both (ltb s.clock clock_limit) (Begun s.clock) (Exhausted s.clock) (IsTrue s x Begin) (λ _. tt)
+    (λ f. (refl, (let h = ltb-false s.clock clock_limit f in omega (arith, h)), refl))
 
 look_true : (s : World) (x : Actor) (l : ℕ) (w : LockWord) → s.locks l ≡ w → IsTrue s x (Look l) (look_notice x.rv l w)
 look_true s x l (Free k) e = cond_both (leb k x.rv) Quiet (Moved l (bits (Free k))) (IsTrue s x (Look l)) (λ _. tt)
@@ -44,11 +45,14 @@ none_left : {A : Type 0} → (P : Notice → Type 0) (xs : List A) (n : Notice) 
 none_left P [] n h q = h
 none_left P (x ∷ xs) n h q = q
 
-check_true : (s : World) (x : Actor) (l : ℕ) (ls : List ℕ) (w : LockWord) (own : Option ℕ) → s.locks l ≡ w → (own ≡ None → lookup x.held l ≡ None) → IsTrue s x (Check (l ∷ ls)) (check_notice x.rv x.wv l ls w own)
-check_true s x l ls (Free k) own e mine = cond_both (leb k x.rv) (when_none_left ls (LockedAt x.wv)) (Invalid l (bits (Free k))) (IsTrue s x (Check (l ∷ ls)))
+check_true : (s : World) (x : Actor) (l : ℕ) (ls : List ℕ) (w : LockWord) (own : Option ℕ) → s.locks l ≡ w
+    → (own ≡ None → lookup x.held l ≡ None) → IsTrue s x (Check (l ∷ ls)) (check_notice x.rv x.wv l ls w own)
+check_true s x l ls (Free k) own e mine = cond_both (leb k x.rv) (when_none_left ls (LockedAt x.wv)) (Invalid l (bits (Free k)))
+    (IsTrue s x (Check (l ∷ ls)))
     (λ _. none_left (IsTrue s x (Check (l ∷ ls))) ls (LockedAt x.wv) tt tt)
     (λ f. (sym (ap bits e), inl (subst (λ (w : LockWord). x.rv < version_of w) (sym e) (let h = leb-false k x.rv f in omega (arith, h)))))
-check_true s x l ls (Locked k) (Some v) e mine = cond_both (leb k x.rv) (when_none_left ls (LockedAt x.wv)) (Invalid l (bits (Locked k))) (IsTrue s x (Check (l ∷ ls)))
+check_true s x l ls (Locked k) (Some v) e mine = cond_both (leb k x.rv) (when_none_left ls (LockedAt x.wv)) (Invalid l (bits (Locked k)))
+    (IsTrue s x (Check (l ∷ ls)))
     (λ _. none_left (IsTrue s x (Check (l ∷ ls))) ls (LockedAt x.wv) tt tt)
     (λ f. (sym (ap bits e), inl (subst (λ (w : LockWord). x.rv < version_of w) (sym e) (let h = leb-false k x.rv f in omega (arith, h)))))
 check_true s x l ls (Locked k) None e mine = (sym (ap bits e), inr (ap is_locked_word e, mine refl))
@@ -69,7 +73,8 @@ notice_true s x (Lock (l ∷ ls)) pl = lock_true s x l ls (s.locks l) refl
 notice_true s x (Take l k ls) pl = take_true s x l k ls (s.locks l) refl
 notice_true s x (Check []) pl = tt
 notice_true s x (Check (l ∷ ls)) pl = check_true s x l ls (s.locks l) (lookup x.writes l) refl
-    (λ none. none_if (lookup x.held l) (λ j h. let w = (pl.0).written l j h in let z : Some w.0 ≡ None = sym w.1 ∙ none in absurd (let b : ⊥ = cc in b)))
+    (λ none. none_if (lookup x.held l) (λ j h. let w = (pl.0).written l j h in let z : Some w.0 ≡ None = sym w.1
+        ∙ none in absurd (let b : ⊥ = cc in b)))
 notice_true s x Broken pl = tt
 notice_true s x First pl = last_true s x First x.writes Stored tt
 notice_true s x (Store []) pl = tt
@@ -168,7 +173,8 @@ ends_if : (b : Bool) (m n : Notice) (y z : Actor) → Ends m y → Ends n z → 
 ends_if true m n y z f g = f
 ends_if false m n y z f g = g
 
-ends_world : (b : Bool) (m n : Notice) (s t : World) (a : ℕ) → Ends m (s.actors a) → Ends n (t.actors a) → Ends (if b then m else n) ((if b then s else t).actors a)
+ends_world : (b : Bool) (m n : Notice) (s t : World) (a : ℕ) → Ends m (s.actors a) → Ends n (t.actors a)
+    → Ends (if b then m else n) ((if b then s else t).actors a)
 ends_world true m n s t a f g = f
 ends_world false m n s t a f g = g
 
@@ -181,27 +187,34 @@ quiet_last [] n ok h = h
 quiet_last (e ∷ es) n ok h = quiet_left es n ok h
 
 look_ends : (s : World) (a : ℕ) (x : Actor) (l : ℕ) (w : LockWord) → Ends (look_notice x.rv l w) ((looked s a x l w).actors a)
-look_ends s a x l (Free k) = ends_put (look_notice x.rv l (Free k)) s.actors a _ (ends_if (leb k x.rv) Quiet (Moved l (bits (Free k))) (goes x (Fetch l k)) (goes x Undo) (λ h. absurd h) (λ _. tt))
+look_ends s a x l (Free k) = ends_put (look_notice x.rv l (Free k)) s.actors a _
+    (ends_if (leb k x.rv) Quiet (Moved l (bits (Free k))) (goes x (Fetch l k)) (goes x Undo) (λ h. absurd h) (λ _. tt))
 look_ends s a x l (Locked k) = ends_put (look_notice x.rv l (Locked k)) s.actors a (goes x Undo) (λ _. tt)
 
-again_ends : (s : World) (a : ℕ) (x : Actor) (l k v : ℕ) (w : LockWord) → Ends (again_notice l k v w) ((looked_again s a x l k v w).actors a)
-again_ends s a x l k v (Free j) = ends_put (again_notice l k v (Free j)) s.actors a _ (ends_if (eqb j k) (Number v) (Moved l (bits (Free j))) _ (goes x Undo) (λ h. absurd h) (λ _. tt))
+again_ends : (s : World) (a : ℕ) (x : Actor) (l k v : ℕ) (w : LockWord)
+    → Ends (again_notice l k v w) ((looked_again s a x l k v w).actors a)
+again_ends s a x l k v (Free j) = ends_put (again_notice l k v (Free j)) s.actors a _
+    (ends_if (eqb j k) (Number v) (Moved l (bits (Free j))) _ (goes x Undo) (λ h. absurd h) (λ _. tt))
 again_ends s a x l k v (Locked j) = ends_put (again_notice l k v (Locked j)) s.actors a (goes x Undo) (λ _. tt)
 
 lock_ends : (s : World) (a : ℕ) (x : Actor) (l : ℕ) (ls : List ℕ) (w : LockWord) → Ends (lock_notice l w) ((to_lock s a x l ls w).actors a)
 lock_ends s a x l ls (Free k) h = absurd h
 lock_ends s a x l ls (Locked k) h = ends_put (Busy l (bits (Locked k))) s.actors a (goes x Broken) (λ _. tt) h
 
-take_ends : (s : World) (a : ℕ) (x : Actor) (l k : ℕ) (ls : List ℕ) (w : LockWord) → Ends (take_notice l k w) ((tried s a x l k ls w).actors a)
+take_ends : (s : World) (a : ℕ) (x : Actor) (l k : ℕ) (ls : List ℕ) (w : LockWord)
+    → Ends (take_notice l k w) ((tried s a x l k ls w).actors a)
 take_ends s a x l k ls (Free j) = ends_world (eqb j k) Quiet (Busy l (bits (Free j))) (locked s a x l k ls) (now s a (goes x Broken)) a
     (λ h. absurd h) (ends_put (Busy l (bits (Free j))) s.actors a (goes x Broken) (λ _. tt))
 take_ends s a x l k ls (Locked j) = ends_put (Busy l (bits (Locked j))) s.actors a (goes x Broken) (λ _. tt)
 
-check_ends : (s : World) (a : ℕ) (x : Actor) (l : ℕ) (ls : List ℕ) (w : LockWord) (own : Option ℕ) → Ends (check_notice x.rv x.wv l ls w own) ((checked s a x l ls w own).actors a)
+check_ends : (s : World) (a : ℕ) (x : Actor) (l : ℕ) (ls : List ℕ) (w : LockWord) (own : Option ℕ)
+    → Ends (check_notice x.rv x.wv l ls w own) ((checked s a x l ls w own).actors a)
 check_ends s a x l ls (Free k) own = ends_put (check_notice x.rv x.wv l ls (Free k) own) s.actors a _
-    (ends_if (leb k x.rv) (when_none_left ls (LockedAt x.wv)) (Invalid l (bits (Free k))) (goes x (Check ls)) (goes x Broken) (λ h. absurd (quiet_left ls (LockedAt x.wv) (λ b. b) h)) (λ _. tt))
+    (ends_if (leb k x.rv) (when_none_left ls (LockedAt x.wv)) (Invalid l (bits (Free k))) (goes x (Check ls)) (goes x Broken)
+        (λ h. absurd (quiet_left ls (LockedAt x.wv) (λ b. b) h)) (λ _. tt))
 check_ends s a x l ls (Locked k) (Some v) = ends_put (check_notice x.rv x.wv l ls (Locked k) (Some v)) s.actors a _
-    (ends_if (leb k x.rv) (when_none_left ls (LockedAt x.wv)) (Invalid l (bits (Locked k))) (goes x (Check ls)) (goes x Broken) (λ h. absurd (quiet_left ls (LockedAt x.wv) (λ b. b) h)) (λ _. tt))
+    (ends_if (leb k x.rv) (when_none_left ls (LockedAt x.wv)) (Invalid l (bits (Locked k))) (goes x (Check ls)) (goes x Broken)
+        (λ h. absurd (quiet_left ls (LockedAt x.wv) (λ b. b) h)) (λ _. tt))
 check_ends s a x l ls (Locked k) None = ends_put (Invalid l (bits (Locked k))) s.actors a (goes x Broken) (λ _. tt)
 
 begin_quiet : (clock : ℕ) → IsConflict (if ltb clock clock_limit then Begun clock else Exhausted clock) → ⊥
@@ -283,7 +296,8 @@ step_ends s a Close e h = absurd h
 pub still_ends : (s : World) (e : Event) (a : ℕ) → IsEnding (s.actors a).place → StillEnds ((happens s e).actors a)
 still_ends s (Ask b request) a h =
     put_both StillEnds s.actors b (ask (s.actors b) (s.actors b).place request) a
-    (λ q. let mine : IsEnding (s.actors b).place = subst (λ (n : ℕ). IsEnding (s.actors n).place) q h in inl (ask_ends (s.actors b) (s.actors b).place request mine mine))
+    (λ q. let mine : IsEnding (s.actors b).place = subst (λ (n : ℕ). IsEnding (s.actors n).place) q h in inl
+        (ask_ends (s.actors b) (s.actors b).place request mine mine))
     (λ _. inl h)
 still_ends s (Step b) a h =
     elim (cases_eq a b) [
@@ -315,8 +329,10 @@ ending_values s a x Release l h = absurd h
 ending_values s a x Close l h = absurd h
 
 -- and gives each lock back as it found it
-pub gives_old : (s : World) (a l k : ℕ) (rest : Entries) → (s.actors a).place ≡ Undo → (s.actors a).held ≡ (l, k) ∷ rest → ((happens s (Step a)).locks l ≡ Free k) × (((happens s (Step a)).actors a).held ≡ rest)
+pub gives_old : (s : World) (a l k : ℕ) (rest : Entries) → (s.actors a).place ≡ Undo → (s.actors a).held ≡ (l, k) ∷ rest
+    → ((happens s (Step a)).locks l ≡ Free k) × (((happens s (Step a)).actors a).held ≡ rest)
 gives_old s a l k rest e h =
     subst (λ (p : Place). ((step s a (s.actors a) p).locks l ≡ Free k) × (((step s a (s.actors a) p).actors a).held ≡ rest)) (sym e)
-    (subst (λ (es : Entries). ((undone s a (s.actors a) es).locks l ≡ Free k) × (((undone s a (s.actors a) es).actors a).held ≡ rest)) (sym h)
+    (subst (λ (es : Entries). ((undone s a (s.actors a) es).locks l ≡ Free k) × (((undone s a (s.actors a) es).actors a).held ≡ rest))
+        (sym h)
     (put-same s.locks l (Free k), ap (λ (y : Actor). y.held) (put-same s.actors a _)))

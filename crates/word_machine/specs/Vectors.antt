@@ -80,7 +80,8 @@ reader a n cs = record { actor = a; number = n; writer = false; calls = cs }
 -- ---- one transaction
 -- A read takes three loads the first time; then the read set answers it, and once the location is written, the write set.
 abbrev fills : List Event
-fills = begins 1 ++ reads 1 0 ++ asks 1 (AskRead 0) 0 ++ writes 1 1 5 ++ writes 1 1 6 ++ asks 1 (AskRead 1) 0 ++ writes 1 0 7 ++ asks 1 (AskRead 0) 0
+fills = begins 1 ++ reads 1 0 ++ asks 1 (AskRead 0) 0 ++ writes 1 1 5 ++ writes 1 1 6 ++ asks 1 (AskRead 1) 0 ++ writes 1 0 7
+    ++ asks 1 (AskRead 0) 0
 
 filled :
     told opened fills
@@ -93,7 +94,8 @@ filled_calls = Read 0 1 ∷ Read 0 1 ∷ Write 1 5 ∷ Write 1 6 ∷ Read 1 6 �
 
 filled_actor :
     (run fills opened).actors 1
-    ≡ record { place = Open; declared = false; rv = 0; wv = 0; reads = (0, 1) ∷ []; writes = (0, 7) ∷ (1, 6) ∷ []; held = []; calls = filled_calls }
+    ≡ record { place = Open; declared = false; rv = 0; wv = 0; reads = (0, 1) ∷ []; writes = (0, 7) ∷ (1, 6)
+        ∷ []; held = []; calls = filled_calls }
 unfolding lookup put with_entry locations comes_before insert
 filled_actor = refl
 
@@ -137,7 +139,8 @@ all_left = refl
 
 -- ---- reads that are moved
 -- A word that another has written since the begin: its version is above the snapshot.
-moved_newer : told (run (begins 1 ++ puts 2 0 9) opened) (asks 1 (AskRead 0) 2 ++ asks 1 AskAbort 1) ≡ Quiet ∷ Moved 0 2 ∷ NoTransaction ∷ Quiet ∷ Closed ∷ []
+moved_newer : told (run (begins 1 ++ puts 2 0 9) opened) (asks 1 (AskRead 0) 2 ++ asks 1 AskAbort 1) ≡ Quiet ∷ Moved 0 2 ∷ NoTransaction
+    ∷ Quiet ∷ Closed ∷ []
 unfolding lookup put with_entry locations comes_before insert
 moved_newer = refl
 
@@ -151,8 +154,8 @@ moved_locked = refl
 
 -- It ends with what it saw.
 moved_ended :
-    (run (begins 1 ++ reads 1 1 ++ held_by_two ++ asks 1 (AskRead 0) 1 ++ asks 1 AskAbort 1) opened).aborted
-    ≡ record { actor = 1; rv = 0; calls = Read 1 2 ∷ [] } ∷ []
+    (run (puts 3 2 4 ++ begins 1 ++ writes 1 2 6 ++ reads 1 1 ++ held_by_two ++ asks 1 (AskRead 0) 1 ++ asks 1 AskAbort 1) opened).aborted
+    ≡ record { actor = 1; rv = 1; calls = Write 2 6 ∷ Read 1 2 ∷ [] } ∷ []
 unfolding lookup put with_entry locations comes_before insert
 moved_ended = refl
 
@@ -177,7 +180,8 @@ abbrev last_taken : List Event
 last_taken = begins 2 ++ writes 2 2 6 ++ asks 2 AskLock 2
 
 busy_at_load :
-    told (run (old_versions ++ two_to_lock ++ last_taken) opened) (asks 1 AskLock 6 ++ asks 1 AskStore 0 ++ asks 1 AskCancel 2 ++ asks 1 AskAbort 1)
+    told (run (old_versions ++ two_to_lock ++ last_taken) opened)
+        (asks 1 AskLock 6 ++ asks 1 AskStore 0 ++ asks 1 AskCancel 2 ++ asks 1 AskAbort 1)
     ≡ quiet 5 ++ Busy 2 1 ∷ NoTransaction ∷ quiet 3 ++ Cancelled ∷ Quiet ∷ Closed ∷ []
 unfolding lookup put with_entry locations comes_before insert
 busy_at_load = refl
@@ -187,23 +191,27 @@ unfolding lookup put with_entry locations comes_before insert
 busy_keeps_locks = refl
 
 gives_first_back :
-    table (run (old_versions ++ two_to_lock ++ last_taken ++ asks 1 AskLock 5 ++ asks 1 AskCancel 1) opened) ≡ (2, 2 ∷ 5 ∷ 1 ∷ [], 4 ∷ 5 ∷ 3 ∷ [])
+    table (run (old_versions ++ two_to_lock ++ last_taken ++ asks 1 AskLock 5 ++ asks 1 AskCancel 1) opened)
+        ≡ (2, 2 ∷ 5 ∷ 1 ∷ [], 4 ∷ 5 ∷ 3 ∷ [])
 unfolding lookup put with_entry locations comes_before insert
 gives_first_back = refl
 
 gives_all_back :
-    table (run (old_versions ++ two_to_lock ++ last_taken ++ asks 1 AskLock 5 ++ asks 1 AskCancel 2) opened) ≡ (2, 2 ∷ 4 ∷ 1 ∷ [], 4 ∷ 5 ∷ 3 ∷ [])
+    table (run (old_versions ++ two_to_lock ++ last_taken ++ asks 1 AskLock 5 ++ asks 1 AskCancel 2) opened)
+        ≡ (2, 2 ∷ 4 ∷ 1 ∷ [], 4 ∷ 5 ∷ 3 ∷ [])
 unfolding lookup put with_entry locations comes_before insert
 gives_all_back = refl
 
 -- It is busy too where it was taken, or had another version, since its load. A cancel with no lock held is answered at once.
 busy_at_exchange :
-    told (run (begins 1 ++ writes 1 0 7 ++ asks 1 AskLock 1 ++ held_by_two) opened) (steps 1 2 ++ asks 1 AskCancel 0) ≡ Busy 0 1 ∷ NoTransaction ∷ Cancelled ∷ []
+    told (run (begins 1 ++ writes 1 0 7 ++ asks 1 AskLock 1 ++ held_by_two) opened) (steps 1 2 ++ asks 1 AskCancel 0) ≡ Busy 0 1
+        ∷ NoTransaction ∷ Cancelled ∷ []
 unfolding lookup put with_entry locations comes_before insert
 busy_at_exchange = refl
 
 busy_by_version :
-    told (run (begins 1 ++ writes 1 0 7 ++ asks 1 AskLock 1 ++ puts 2 0 9) opened) (steps 1 2 ++ asks 1 AskAbort 0) ≡ Busy 0 2 ∷ NoTransaction ∷ Quiet ∷ []
+    told (run (begins 1 ++ writes 1 0 7 ++ asks 1 AskLock 1 ++ puts 2 0 9) opened) (steps 1 2 ++ asks 1 AskAbort 0) ≡ Busy 0 2
+        ∷ NoTransaction ∷ Quiet ∷ []
 unfolding lookup put with_entry locations comes_before insert
 busy_by_version = refl
 
@@ -216,7 +224,8 @@ unfolding lookup put with_entry locations comes_before insert
 broken_place = refl
 
 broken_lacks :
-    told broken (asks 1 AskAbort 1 ++ asks 1 AskStore 1 ++ asks 1 AskRelease 1 ++ asks 1 AskLock 1 ++ asks 1 AskClose 1 ++ asks 1 AskBegin 1 ++ asks 1 AskCancel 0)
+    told broken (asks 1 AskAbort 1 ++ asks 1 AskStore 1 ++ asks 1 AskRelease 1 ++ asks 1 AskLock 1 ++ asks 1 AskClose 1
+        ++ asks 1 AskBegin 1 ++ asks 1 AskCancel 0)
     ≡ nothing 6 ++ Cancelled ∷ []
 unfolding lookup put with_entry locations comes_before insert
 broken_lacks = refl
@@ -232,30 +241,35 @@ skew_is_checked = refl
 
 -- The clock keeps its advance, and the next commit takes the next number.
 skew_left :
-    table (run (skew ++ asks 2 AskLock 4 ++ asks 2 AskCancel 1 ++ asks 2 AskAbort 1 ++ puts 2 1 9) opened) ≡ (3, 2 ∷ 6 ∷ 0 ∷ [], 0 ∷ 9 ∷ 3 ∷ [])
+    table (run (skew ++ asks 2 AskLock 4 ++ asks 2 AskCancel 1 ++ asks 2 AskAbort 1 ++ puts 2 1 9) opened)
+        ≡ (3, 2 ∷ 6 ∷ 0 ∷ [], 0 ∷ 9 ∷ 3 ∷ [])
 unfolding lookup put with_entry locations comes_before insert
 skew_left = refl
 
 -- A word that another holds fails the check, though its version is old.
 held_fails :
-    told (run (begins 1 ++ reads 1 0 ++ writes 1 1 8 ++ puts 3 2 9 ++ held_by_two) opened) (asks 1 AskLock 5) ≡ quiet 4 ++ Invalid 0 1 ∷ NoTransaction ∷ []
+    told (run (begins 1 ++ reads 1 0 ++ writes 1 1 8 ++ puts 3 2 9 ++ held_by_two) opened) (asks 1 AskLock 5) ≡ quiet 4 ++ Invalid 0 1
+        ∷ NoTransaction ∷ []
 unfolding lookup put with_entry locations comes_before insert
 held_fails = refl
 
 -- One that the transaction itself has locked is judged by its old version: this one passes,
 own_passes :
-    told (run (begins 1 ++ reads 1 0 ++ reads 1 1 ++ writes 1 0 8 ++ puts 3 2 9) opened) (asks 1 AskLock 6) ≡ quiet 5 ++ LockedAt 2 ∷ NoTransaction ∷ []
+    told (run (begins 1 ++ reads 1 0 ++ reads 1 1 ++ writes 1 0 8 ++ puts 3 2 9) opened) (asks 1 AskLock 6) ≡ quiet 5 ++ LockedAt 2
+        ∷ NoTransaction ∷ []
 unfolding lookup put with_entry locations comes_before insert
 own_passes = refl
 
 -- and this one was written since.
-own_fails : told (run (begins 1 ++ reads 1 0 ++ writes 1 0 8 ++ puts 3 0 9) opened) (asks 1 AskLock 5) ≡ quiet 4 ++ Invalid 0 3 ∷ NoTransaction ∷ []
+own_fails : told (run (begins 1 ++ reads 1 0 ++ writes 1 0 8 ++ puts 3 0 9) opened) (asks 1 AskLock 5) ≡ quiet 4 ++ Invalid 0 3
+    ∷ NoTransaction ∷ []
 unfolding lookup put with_entry locations comes_before insert
 own_fails = refl
 
 -- The check comes after the clock: a commit that takes its number, stores and releases between two locks is found by it.
 after_clock :
-    told (run (begins 1 ++ reads 1 2 ++ writes 1 0 7 ++ writes 1 1 8 ++ asks 1 AskLock 2 ++ puts 2 2 6) opened) (steps 1 5) ≡ quiet 3 ++ Invalid 2 2 ∷ NoTransaction ∷ []
+    told (run (begins 1 ++ reads 1 2 ++ writes 1 0 7 ++ writes 1 1 8 ++ asks 1 AskLock 2 ++ puts 2 2 6) opened) (steps 1 5) ≡ quiet 3
+        ++ Invalid 2 2 ∷ NoTransaction ∷ []
 unfolding lookup put with_entry locations comes_before insert
 after_clock = refl
 
@@ -264,7 +278,8 @@ quick : told (run (begins 1 ++ reads 1 0 ++ writes 1 1 5) opened) (asks 1 AskLoc
 unfolding lookup put with_entry locations comes_before insert
 quick = refl
 
-not_quick : told (run (begins 1 ++ reads 1 0 ++ writes 1 1 5 ++ puts 2 2 9) opened) (asks 1 AskLock 5) ≡ quiet 4 ++ LockedAt 2 ∷ NoTransaction ∷ []
+not_quick : told (run (begins 1 ++ reads 1 0 ++ writes 1 1 5 ++ puts 2 2 9) opened) (asks 1 AskLock 5) ≡ quiet 4 ++ LockedAt 2
+    ∷ NoTransaction ∷ []
 unfolding lookup put with_entry locations comes_before insert
 not_quick = refl
 
@@ -284,17 +299,20 @@ unfolding lookup put with_entry locations comes_before insert
 declared_actor = refl
 
 -- Once another commit has written it, the read is moved: at the first look,
-declared_moved : told (run (declared ++ puts 2 0 9) opened) (asks 1 (AskRead 0) 2 ++ asks 1 AskAbort 1) ≡ Quiet ∷ Moved 0 2 ∷ NoTransaction ∷ Quiet ∷ Closed ∷ []
+declared_moved : told (run (declared ++ puts 2 0 9) opened) (asks 1 (AskRead 0) 2 ++ asks 1 AskAbort 1) ≡ Quiet ∷ Moved 0 2
+    ∷ NoTransaction ∷ Quiet ∷ Closed ∷ []
 unfolding lookup put with_entry locations comes_before insert
 declared_moved = refl
 
 -- or at the second, by its version or its lock.
-declared_between : told (run (begins_read 1 ++ asks 1 (AskRead 0) 1 ++ puts 2 0 9) opened) (steps 1 3) ≡ Quiet ∷ Moved 0 2 ∷ NoTransaction ∷ []
+declared_between : told (run (begins_read 1 ++ asks 1 (AskRead 0) 1 ++ puts 2 0 9) opened) (steps 1 3) ≡ Quiet ∷ Moved 0 2
+    ∷ NoTransaction ∷ []
 unfolding lookup put with_entry locations comes_before insert
 declared_between = refl
 
 declared_locked :
-    told (run (begins_read 1 ++ asks 1 (AskRead 0) 1 ++ held_by_two ++ steps 2 1 ++ asks 2 AskStore 1) opened) (steps 1 3) ≡ Quiet ∷ Moved 0 1 ∷ NoTransaction ∷ []
+    told (run (begins_read 1 ++ asks 1 (AskRead 0) 1 ++ held_by_two ++ steps 2 1 ++ asks 2 AskStore 1) opened) (steps 1 3) ≡ Quiet
+        ∷ Moved 0 1 ∷ NoTransaction ∷ []
 unfolding lookup put with_entry locations comes_before insert
 declared_locked = refl
 
@@ -312,12 +330,14 @@ declared_once = refl
 -- By number; at one number the writer first, then readers by actor, then as made.
 abbrev many : List Event
 many =
-    begins 5 ++ writes 5 0 4 ++ asks 5 AskLock 3 ++ begins 3 ++ asks 3 AskClose 1 ++ begins 2 ++ reads 2 2 ++ asks 2 AskClose 1 ++ begins 2 ++ reads 2 1 ++ asks 2 AskClose 1
+    begins 5 ++ writes 5 0 4 ++ asks 5 AskLock 3 ++ begins 3 ++ asks 3 AskClose 1 ++ begins 2 ++ reads 2 2 ++ asks 2 AskClose 1
+        ++ begins 2 ++ reads 2 1 ++ asks 2 AskClose 1
     ++ puts 4 1 6 ++ asks 5 AskStore 1 ++ asks 5 AskRelease 1
 
 ordered :
     (run many opened).history
-    ≡ writer 5 1 (Write 0 4 ∷ []) ∷ reader 2 1 (Read 2 3 ∷ []) ∷ reader 2 1 (Read 1 2 ∷ []) ∷ reader 3 1 [] ∷ writer 4 2 (Write 1 6 ∷ []) ∷ []
+    ≡ writer 5 1 (Write 0 4 ∷ []) ∷ reader 2 1 (Read 2 3 ∷ []) ∷ reader 2 1 (Read 1 2 ∷ []) ∷ reader 3 1 [] ∷ writer 4 2 (Write 1 6 ∷ [])
+        ∷ []
 unfolding lookup put with_entry locations comes_before insert
 ordered = refl
 
@@ -327,7 +347,8 @@ reader_closes : told (run (begins 1 ++ reads 1 0 ++ puts 2 1 9) opened) (asks 1 
 unfolding lookup put with_entry locations comes_before insert
 reader_closes = refl
 
-reader_at_its_begin : (run (begins 1 ++ reads 1 0 ++ puts 2 1 9 ++ asks 1 AskClose 1) opened).history ≡ reader 1 0 (Read 0 1 ∷ []) ∷ writer 2 1 (Write 1 9 ∷ []) ∷ []
+reader_at_its_begin : (run (begins 1 ++ reads 1 0 ++ puts 2 1 9 ++ asks 1 AskClose 1) opened).history ≡ reader 1 0 (Read 0 1 ∷ [])
+    ∷ writer 2 1 (Write 1 9 ∷ []) ∷ []
 unfolding lookup put with_entry locations comes_before insert
 reader_at_its_begin = refl
 
@@ -341,7 +362,11 @@ unfolding lookup put with_entry locations comes_before insert
 reader_has_no_lock = refl
 
 -- An abort in place of an unanswered read, close or begin; of a begin it is answered at once, and no transaction was open.
-abort_of_read : told (run (begins 1) opened) (asks 1 (AskRead 0) 2 ++ asks 1 AskAbort 2) ≡ quiet 4 ++ Closed ∷ NoTransaction ∷ []
+abort_of_read :
+    told (run (begins 1) opened)
+    (asks 1 (AskRead 0) 0 ++ asks 1 AskAbort 1 ++ begins 1 ++ asks 1 (AskRead 0) 1 ++ asks 1 AskAbort 1 ++ begins 1 ++ asks 1 (AskRead 0) 2
+    ++ asks 1 AskAbort 2)
+    ≡ quiet 2 ++ Closed ∷ Quiet ∷ Begun 0 ∷ quiet 3 ++ Closed ∷ Quiet ∷ Begun 0 ∷ quiet 4 ++ Closed ∷ NoTransaction ∷ []
 unfolding lookup put with_entry locations comes_before insert
 abort_of_read = refl
 
@@ -359,7 +384,8 @@ cancel_of_lock :
 unfolding lookup put with_entry locations comes_before insert
 cancel_of_lock = refl
 
-cancel_of_locked : table (run (old_versions ++ two_to_lock ++ asks 1 AskLock 7 ++ asks 1 AskCancel 3 ++ asks 1 AskAbort 1) opened) ≡ (3, 2 ∷ 4 ∷ 0 ∷ [], 4 ∷ 5 ∷ 3 ∷ [])
+cancel_of_locked : table (run (old_versions ++ two_to_lock ++ asks 1 AskLock 7 ++ asks 1 AskCancel 3 ++ asks 1 AskAbort 1) opened)
+    ≡ (3, 2 ∷ 4 ∷ 0 ∷ [], 4 ∷ 5 ∷ 3 ∷ [])
 unfolding lookup put with_entry locations comes_before insert
 cancel_of_locked = refl
 
@@ -368,8 +394,16 @@ abort_holds : told (run (two_to_lock ++ asks 1 AskLock 2 ++ asks 1 AskCancel 0) 
 unfolding lookup put with_entry locations comes_before insert
 abort_holds = refl
 
+-- Those that end so are listed in the order of their ends.
+two_aborted :
+    (run (begins 1 ++ asks 1 AskAbort 1 ++ puts 3 2 4 ++ begins 2 ++ asks 2 AskAbort 1) opened).aborted
+    ≡ record { actor = 1; rv = 0; calls = [] } ∷ record { actor = 2; rv = 1; calls = [] } ∷ []
+unfolding lookup put with_entry locations comes_before insert
+two_aborted = refl
+
 -- After the first value store there is neither.
-stored_goes_on : table (run (fills ++ asks 1 AskLock 5 ++ asks 1 AskStore 1 ++ asks 1 AskCancel 1 ++ asks 1 AskAbort 1 ++ asks 1 AskRelease 1) opened)
+stored_goes_on : table (run (fills ++ asks 1 AskLock 5 ++ asks 1 AskStore 1 ++ asks 1 AskCancel 1 ++ asks 1 AskAbort 1
+    ++ asks 1 AskRelease 1) opened)
     ≡ (1, 2 ∷ 1 ∷ 0 ∷ [], 7 ∷ 6 ∷ 3 ∷ [])
 unfolding lookup put with_entry locations comes_before insert
 stored_goes_on = refl
@@ -379,7 +413,8 @@ begins_below_the_limit : told (start 4611686018427387903 (three 1 2 3)) (begins 
 unfolding put
 begins_below_the_limit = refl
 
-none_at_the_limit : told (start 4611686018427387904 (three 1 2 3)) (begins 1 ++ steps 1 1) ≡ Quiet ∷ Exhausted 4611686018427387904 ∷ NoTransaction ∷ []
+none_at_the_limit : told (start 4611686018427387904 (three 1 2 3)) (begins 1 ++ steps 1 1) ≡ Quiet ∷ Exhausted 4611686018427387904
+    ∷ NoTransaction ∷ []
 unfolding put
 none_at_the_limit = refl
 
@@ -388,7 +423,8 @@ unfolding put
 rests_at_the_limit = refl
 
 -- ---- what a request has still to do
-left_to_do : (steps_left ((run (two_to_lock ++ asks 1 AskLock 0) opened).actors 1) ((run (two_to_lock ++ asks 1 AskLock 0) opened).actors 1).place) ≡ 7
+left_to_do : (steps_left ((run (two_to_lock ++ asks 1 AskLock 0) opened).actors 1)
+    ((run (two_to_lock ++ asks 1 AskLock 0) opened).actors 1).place) ≡ 7
 unfolding lookup put with_entry locations comes_before insert
 left_to_do = refl
 
