@@ -70,6 +70,10 @@ three u v w l = 0
 abbrev opened : World
 opened = start 0 (three 1 2 3)
 
+-- where an actor stands after these events, with which calls
+abbrev stands : List Event → ℕ → Place × List Call
+stands es a = (((run es opened).actors a).place, ((run es opened).actors a).calls)
+
 -- a writer, and a reader, as recorded
 abbrev writer : ℕ → ℕ → List Call → Record
 writer a n cs = record { actor = a; number = n; writer = true; calls = cs }
@@ -168,36 +172,46 @@ between_changed : told (run (begins 1 ++ asks 1 (AskRead 0) 1 ++ puts 2 0 9) ope
 unfolding lookup put with_entry locations comes_before insert
 between_changed = refl
 
+-- What it loaded between is no reply.
+between_locked_left : stands (begins 1 ++ asks 1 (AskRead 0) 1 ++ held_by_two ++ steps 1 2) 1 ≡ (Undo, [])
+unfolding lookup put with_entry locations comes_before insert
+between_locked_left = refl
+
+between_changed_left : stands (begins 1 ++ asks 1 (AskRead 0) 1 ++ puts 2 0 9 ++ steps 1 2) 1 ≡ (Undo, [])
+unfolding lookup put with_entry locations comes_before insert
+between_changed_left = refl
+
 -- ---- locks
 -- A lock is busy where it is taken at its load; the others that were taken go back with their old versions, rising.
 abbrev old_versions : List Event
 old_versions = puts 3 0 4 ++ puts 3 1 5
 
-abbrev two_to_lock : List Event
-two_to_lock = begins 1 ++ writes 1 0 7 ++ writes 1 1 8 ++ writes 1 2 9
+abbrev three_to_lock : List Event
+three_to_lock = begins 1 ++ writes 1 0 7 ++ writes 1 1 8 ++ writes 1 2 9
 
 abbrev last_taken : List Event
 last_taken = begins 2 ++ writes 2 2 6 ++ asks 2 AskLock 2
 
 busy_at_load :
-    told (run (old_versions ++ two_to_lock ++ last_taken) opened)
+    told (run (old_versions ++ three_to_lock ++ last_taken) opened)
         (asks 1 AskLock 6 ++ asks 1 AskStore 0 ++ asks 1 AskCancel 2 ++ asks 1 AskAbort 1)
     ≡ quiet 5 ++ Busy 2 1 ∷ NoTransaction ∷ quiet 3 ++ Cancelled ∷ Quiet ∷ Closed ∷ []
 unfolding lookup put with_entry locations comes_before insert
 busy_at_load = refl
 
-busy_keeps_locks : table (run (old_versions ++ two_to_lock ++ last_taken ++ asks 1 AskLock 5) opened) ≡ (2, 3 ∷ 5 ∷ 1 ∷ [], 4 ∷ 5 ∷ 3 ∷ [])
+busy_keeps_locks : table (run (old_versions ++ three_to_lock ++ last_taken ++ asks 1 AskLock 5) opened)
+    ≡ (2, 3 ∷ 5 ∷ 1 ∷ [], 4 ∷ 5 ∷ 3 ∷ [])
 unfolding lookup put with_entry locations comes_before insert
 busy_keeps_locks = refl
 
 gives_first_back :
-    table (run (old_versions ++ two_to_lock ++ last_taken ++ asks 1 AskLock 5 ++ asks 1 AskCancel 1) opened)
+    table (run (old_versions ++ three_to_lock ++ last_taken ++ asks 1 AskLock 5 ++ asks 1 AskCancel 1) opened)
         ≡ (2, 2 ∷ 5 ∷ 1 ∷ [], 4 ∷ 5 ∷ 3 ∷ [])
 unfolding lookup put with_entry locations comes_before insert
 gives_first_back = refl
 
 gives_all_back :
-    table (run (old_versions ++ two_to_lock ++ last_taken ++ asks 1 AskLock 5 ++ asks 1 AskCancel 2) opened)
+    table (run (old_versions ++ three_to_lock ++ last_taken ++ asks 1 AskLock 5 ++ asks 1 AskCancel 2) opened)
         ≡ (2, 2 ∷ 4 ∷ 1 ∷ [], 4 ∷ 5 ∷ 3 ∷ [])
 unfolding lookup put with_entry locations comes_before insert
 gives_all_back = refl
@@ -208,6 +222,11 @@ busy_at_exchange :
         ∷ NoTransaction ∷ Cancelled ∷ []
 unfolding lookup put with_entry locations comes_before insert
 busy_at_exchange = refl
+
+busy_by_both :
+    told (run (begins 1 ++ writes 1 0 7 ++ asks 1 AskLock 1 ++ puts 2 0 9 ++ held_by_two) opened) (steps 1 1) ≡ Busy 0 3 ∷ []
+unfolding lookup put with_entry locations comes_before insert
+busy_by_both = refl
 
 busy_by_version :
     told (run (begins 1 ++ writes 1 0 7 ++ asks 1 AskLock 1 ++ puts 2 0 9) opened) (steps 1 2 ++ asks 1 AskAbort 0) ≡ Busy 0 2
@@ -266,6 +285,20 @@ own_fails : told (run (begins 1 ++ reads 1 0 ++ writes 1 0 8 ++ puts 3 0 9) open
 unfolding lookup put with_entry locations comes_before insert
 own_fails = refl
 
+-- A commit that fails its check stores nothing.
+skew_breaks : stands (skew ++ asks 2 AskLock 4 ++ asks 2 AskStore 0) 2 ≡ (Broken, Read 0 1 ∷ Read 1 2 ∷ Write 1 0 ∷ [])
+unfolding lookup put with_entry locations comes_before insert
+skew_breaks = refl
+
+held_breaks :
+    stands (begins 1 ++ reads 1 0 ++ writes 1 1 8 ++ puts 3 2 9 ++ held_by_two ++ asks 1 AskLock 4) 1 ≡ (Broken, Read 0 1 ∷ Write 1 8 ∷ [])
+unfolding lookup put with_entry locations comes_before insert
+held_breaks = refl
+
+own_breaks : stands (begins 1 ++ reads 1 0 ++ writes 1 0 8 ++ puts 3 0 9 ++ asks 1 AskLock 4) 1 ≡ (Broken, Read 0 1 ∷ Write 0 8 ∷ [])
+unfolding lookup put with_entry locations comes_before insert
+own_breaks = refl
+
 -- The check comes after the clock: a commit that takes its number, stores and releases between two locks is found by it.
 after_clock :
     told (run (begins 1 ++ reads 1 2 ++ writes 1 0 7 ++ writes 1 1 8 ++ asks 1 AskLock 2 ++ puts 2 2 6) opened) (steps 1 5) ≡ quiet 3
@@ -282,6 +315,13 @@ not_quick : told (run (begins 1 ++ reads 1 0 ++ writes 1 1 5 ++ puts 2 2 9) open
     ∷ NoTransaction ∷ []
 unfolding lookup put with_entry locations comes_before insert
 not_quick = refl
+
+-- Nothing is stored before the check has ended.
+no_store_before :
+    told (run (begins 1 ++ reads 1 0 ++ writes 1 1 5 ++ puts 2 2 9 ++ asks 1 AskLock 3) opened) (asks 1 AskStore 1) ≡ Quiet ∷ LockedAt 2
+        ∷ []
+unfolding lookup put with_entry locations comes_before insert
+no_store_before = refl
 
 -- ---- declared readers
 -- One loads a location anew each time, by three loads, and keeps neither set; a write or a lock is not for it.
@@ -315,6 +355,15 @@ declared_locked :
         ∷ Moved 0 1 ∷ NoTransaction ∷ []
 unfolding lookup put with_entry locations comes_before insert
 declared_locked = refl
+
+declared_between_left : stands (begins_read 1 ++ asks 1 (AskRead 0) 1 ++ puts 2 0 9 ++ steps 1 2) 1 ≡ (Undo, [])
+unfolding lookup put with_entry locations comes_before insert
+declared_between_left = refl
+
+declared_locked_left : stands (begins_read 1 ++ asks 1 (AskRead 0) 1 ++ held_by_two ++ steps 2 1 ++ asks 2 AskStore 1 ++ steps 1 2) 1
+    ≡ (Undo, [])
+unfolding lookup put with_entry locations comes_before insert
+declared_locked_left = refl
 
 -- It counts as of its begin, and the next transaction of its actor is none, unless it is asked for.
 declared_closes : (run (declared ++ puts 2 1 9 ++ reads 1 0 ++ asks 1 AskClose 1) opened).history
@@ -378,19 +427,39 @@ abort_of_begin : told opened (asks 1 AskBegin 0 ++ asks 1 AskAbort 1) ≡ Quiet 
 unfolding lookup put with_entry locations comes_before insert
 abort_of_begin = refl
 
--- A cancel in place of an unanswered lock gives back what was taken; of one that is answered, too.
+-- A cancel in place of an unanswered lock is answered at once where none is held, before the first load and after it.
+cancel_of_none :
+    told (run three_to_lock opened) (asks 1 AskLock 0 ++ asks 1 AskCancel 1 ++ asks 1 AskAbort 1) ≡ quiet 1 ++ Cancelled ∷ NoTransaction
+        ∷ Quiet ∷ Closed ∷ []
+unfolding lookup put with_entry locations comes_before insert
+cancel_of_none = refl
+
+cancel_of_first :
+    told (run three_to_lock opened) (asks 1 AskLock 1 ++ asks 1 AskCancel 1 ++ asks 1 AskAbort 1) ≡ quiet 2 ++ Cancelled ∷ NoTransaction
+        ∷ Quiet ∷ Closed ∷ []
+unfolding lookup put with_entry locations comes_before insert
+cancel_of_first = refl
+
+-- Else it gives back what was taken; in place of a lock that is answered, all of them.
 cancel_of_lock :
-    told (run (two_to_lock ++ asks 1 AskLock 3) opened) (asks 1 AskCancel 1 ++ asks 1 AskAbort 1) ≡ Quiet ∷ Cancelled ∷ Quiet ∷ Closed ∷ []
+    told (run (three_to_lock ++ asks 1 AskLock 3) opened) (asks 1 AskCancel 1 ++ asks 1 AskAbort 1) ≡ Quiet ∷ Cancelled ∷ Quiet ∷ Closed
+        ∷ []
 unfolding lookup put with_entry locations comes_before insert
 cancel_of_lock = refl
 
-cancel_of_locked : table (run (old_versions ++ two_to_lock ++ asks 1 AskLock 7 ++ asks 1 AskCancel 3 ++ asks 1 AskAbort 1) opened)
+cancel_of_locked : table (run (old_versions ++ three_to_lock ++ asks 1 AskLock 7 ++ asks 1 AskCancel 3 ++ asks 1 AskAbort 1) opened)
     ≡ (3, 2 ∷ 4 ∷ 0 ∷ [], 4 ∷ 5 ∷ 3 ∷ [])
 unfolding lookup put with_entry locations comes_before insert
 cancel_of_locked = refl
 
+cancel_told :
+    told (run (three_to_lock ++ asks 1 AskLock 7) opened) (asks 1 AskCancel 3 ++ asks 1 AskAbort 1) ≡ quiet 3 ++ Cancelled ∷ Quiet
+        ∷ Closed ∷ []
+unfolding lookup put with_entry locations comes_before insert
+cancel_told = refl
+
 -- An abort while a lock is held does nothing.
-abort_holds : told (run (two_to_lock ++ asks 1 AskLock 2 ++ asks 1 AskCancel 0) opened) (asks 1 AskAbort 1) ≡ Quiet ∷ Cancelled ∷ []
+abort_holds : told (run (three_to_lock ++ asks 1 AskLock 2 ++ asks 1 AskCancel 0) opened) (asks 1 AskAbort 1) ≡ Quiet ∷ Cancelled ∷ []
 unfolding lookup put with_entry locations comes_before insert
 abort_holds = refl
 
@@ -401,7 +470,18 @@ two_aborted :
 unfolding lookup put with_entry locations comes_before insert
 two_aborted = refl
 
--- After the first value store there is neither.
+-- Three values are stored by three steps, and three locks given back; no release before the last value.
+three_told :
+    told (run three_to_lock opened) (asks 1 AskLock 7 ++ asks 1 AskStore 3 ++ asks 1 AskRelease 3)
+    ≡ quiet 7 ++ LockedAt 1 ∷ quiet 3 ++ Stored ∷ quiet 3 ++ Released ∷ []
+unfolding lookup put with_entry locations comes_before insert
+three_told = refl
+
+no_release_before : told (run (fills ++ asks 1 AskLock 5 ++ asks 1 AskStore 1) opened) (asks 1 AskRelease 1) ≡ Quiet ∷ Stored ∷ []
+unfolding lookup put with_entry locations comes_before insert
+no_release_before = refl
+
+-- After the first value store there is neither cancel nor abort.
 stored_goes_on : table (run (fills ++ asks 1 AskLock 5 ++ asks 1 AskStore 1 ++ asks 1 AskCancel 1 ++ asks 1 AskAbort 1
     ++ asks 1 AskRelease 1) opened)
     ≡ (1, 2 ∷ 1 ∷ 0 ∷ [], 7 ∷ 6 ∷ 3 ∷ [])
@@ -423,8 +503,8 @@ unfolding put
 rests_at_the_limit = refl
 
 -- ---- what a request has still to do
-left_to_do : (steps_left ((run (two_to_lock ++ asks 1 AskLock 0) opened).actors 1)
-    ((run (two_to_lock ++ asks 1 AskLock 0) opened).actors 1).place) ≡ 7
+left_to_do : (steps_left ((run (three_to_lock ++ asks 1 AskLock 0) opened).actors 1)
+    ((run (three_to_lock ++ asks 1 AskLock 0) opened).actors 1).place) ≡ 7
 unfolding lookup put with_entry locations comes_before insert
 left_to_do = refl
 
