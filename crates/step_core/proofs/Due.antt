@@ -1,5 +1,5 @@
--- A request that is not refused and not answered at once leaves its actor a step to do. What the phase allows goes to a place where a step is due,
--- or is answered; so the cases are those of the table of phases.
+-- A request that is not refused and not answered at once leaves its actor a step to do. What the phase allows goes to a place where a
+-- step is due, or is answered; so the cases are those of the table of phases.
 use Rattle.std.proofs.Common.{◌≡◌, ℕ, ◌<◌, Bool, true, false, Option, Some, None, Result, Ok, Err, [], ◌∷◌, length, refl, sym, ap, ◌∙◌, subst, arith, true≢false}
 use Rattle.std.specs.Prelude.{IfOk}
 use Rattle.tx_sets.specs.Entries.{Entries, lookup}
@@ -87,7 +87,8 @@ abbrev Writes : Request → Type 0
 Writes (AskWrite l v) = Unit {0}
 Writes q = ⊥
 
-ask_due : (s : World) (x : Actor) (p : Place) (request : Request) → PlaceOk s x p → allows (phase_of x p) request ≡ true → (Writes request → x.declared ≡ false)
+ask_due : (s : World) (x : Actor) (p : Place) (request : Request) → PlaceOk s x p → allows (phase_of x p) request ≡ true
+    → (Writes request → x.declared ≡ false)
     → reply x p request ≡ Quiet → IsDue (ask x p request)
 ask_due s x Idle AskBegin pl h d q = omega arith
 ask_due s x Idle AskBeginRead pl h d q = omega arith
@@ -137,7 +138,8 @@ writer_asks : (v : Shown) (a : ℕ) (q : Request) → refusal_of v a q ≡ None 
 writer_asks v a (AskWrite l u) h w = write_writer (length v.values) (actor_in v a) l u (lawful v a (AskWrite l u) h).1
 writer_asks v a q h w = absurd w
 
-pub leaves_due : (v u : Shown) (a : ℕ) (q : Request) (answer : Option WordAnswer) → Reached v → refusal_of v a q ≡ None → Asks v a q u answer
+pub leaves_due : (v u : Shown) (a : ℕ) (q : Request) (answer : Option WordAnswer) → Reached v → refusal_of v a q ≡ None
+    → Asks v a q u answer
     → answer ≡ None → 0 < steps_due u a
 leaves_due v u a q answer r allowed asks none =
     let s : World = world_of v r in
@@ -146,15 +148,19 @@ leaves_due v u a q answer r allowed asks none =
     let is : x ≡ actor_in v a = r.shows.actors a in
     let told = asks s r.shows in
     let quiet : reply x x.place q ≡ Quiet = quiet_of (reply x x.place q) (sym (ap Ok none) ∙ told.1) in
-    let here : allows (phase_of x x.place) q ≡ true = subst (λ (y : Actor). allows (phase_of y y.place) q ≡ true) (sym is) (lawful v a q allowed).0 in
+    let here : allows (phase_of x x.place) q ≡ true = subst (λ (y : Actor). allows (phase_of y y.place) q ≡ true) (sym is)
+        (lawful v a q allowed).0 in
     let plain : Writes q → x.declared ≡ false = λ w. ap (λ (y : Actor). y.declared) is ∙ writer_asks v a q allowed w in
-    subst IsDue (sym (put-same s.actors a (ask x x.place q)) ∙ (told.0).actors a) (ask_due s x x.place q (i.actors a).place here plain quiet)
+    subst IsDue (sym (put-same s.actors a (ask x x.place q)) ∙ (told.0).actors a)
+        (ask_due s x x.place q (i.actors a).place here plain quiet)
 
 not_some : {A : Type 0} → (o : Option A) → ((x : A) → o ≡ Some x → ⊥) → o ≡ None
 not_some None f = refl
 not_some (Some x) f = absurd (f x refl)
 
-pub due_of : (v u : Shown) (a : ℕ) (q : Request) (r : Result (Option WordAnswer) WordRefusal) (named : Option WordRefusal) → Reached v → named ≡ refusal_of v a q
-    → ((x : WordRefusal) → named ≡ Some x → ⊥) → IfOk r (λ answer. Asks v a q u answer) → IfOk r (λ answer. answer ≡ None → 0 < steps_due u a)
+pub due_of : (v u : Shown) (a : ℕ) (q : Request) (r : Result (Option WordAnswer) WordRefusal) (named : Option WordRefusal) → Reached v
+    → named ≡ refusal_of v a q
+    → ((x : WordRefusal) → named ≡ Some x → ⊥) → IfOk r (λ answer. Asks v a q u answer)
+        → IfOk r (λ answer. answer ≡ None → 0 < steps_due u a)
 due_of v u a q (Ok answer) named r is other asks = λ none. leaves_due v u a q answer r (sym is ∙ not_some named other) asks none
 due_of v u a q (Err e) named r is other asks = tt

@@ -44,29 +44,32 @@ pub record Saw (v : Shown) (a n : ℕ) : Type 0 where
   pub now : (r : Reached v) → IsLegal (words_at r.opening v n) (actor_in v a).calls
   pub later : (r : Reached v) (events : List Event) → IsLegal (memory_at (run events (world_of v r)) n) (actor_in v a).calls
 
--- Opacity. The history, in the order of its numbers, is a run of the words from the opening ones, and leaves the words that stand there if no
--- commit is half done. Each transaction, open, committed or aborted, saw the words of the number at which it began.
+-- Opacity. The history, in the order of its numbers, is a run of the words from the opening ones, and leaves the words that stand there
+-- if no commit is half done. Each transaction, open, committed or aborted, saw the words of the number at which it began.
 pub record Opaque (v : Shown) : Type 0 where
   pub reached : Reached v
   pub ordered : IsInOrder (in_order [] v.history)
   pub serial : (r : Reached v) → IsRun r.opening (in_order [] v.history)
   pub words : (r : Reached v) → IsAtRest v → (l : ℕ) → get_or v.values l 0 ≡ memory_after r.opening (in_order [] v.history) l
   pub saw : (a : ℕ) → Saw v a (actor_in v a).rv
-  pub aborted : (r : Reached v) (later : List Event) → let s = world_of v r in AllEnded (λ e. IsLegal (memory_at (run later s) e.rv) e.calls) s.aborted
+  pub aborted : (r : Reached v) (later : List Event)
+      → let s = world_of v r in AllEnded (λ e. IsLegal (memory_at (run later s) e.rv) e.calls) s.aborted
 
 -- No record's number is above the clock, and the number of a commit that gives up is no writer's, now and at every later moment.
 pub record AreNumbered (v : Shown) : Type 0 where
   pub upto : AllUpto v.clock (in_order [] v.history)
-  pub unused : (r : Reached v) (a : ℕ) (later : List Event) → IsEnding (actor_in v a).place → NoWriterHas (actor_in v a).wv (run later (world_of v r)).history
+  pub unused : (r : Reached v) (a : ℕ) (later : List Event) → IsEnding (actor_in v a).place
+      → NoWriterHas (actor_in v a).wv (run later (world_of v r)).history
 
 -- A step of actor a leaves the records of the others, and each word that one of them holds, from its lock to its release.
 pub record KeepsOthers (v : Shown) (a : ℕ) (u : Shown) : Type 0 where
   pub actors : (b : ℕ) → b ≢ a → actor_in u b ≡ actor_in v b
   pub words :
-      (b l k : ℕ) → lookup (actor_in v b).held l ≡ Some k → b ≢ a → (get_or u.locks l 0 ≡ get_or v.locks l 0) × (get_or u.values l 0 ≡ get_or v.values l 0)
+      (b l k : ℕ) → lookup (actor_in v b).held l ≡ Some k → b ≢ a → (get_or u.locks l 0 ≡ get_or v.locks l 0)
+          × (get_or u.values l 0 ≡ get_or v.values l 0)
 
--- What a step of actor a answers is true of the words as they stood: a refusal names the location at which the actor stood and the word that was there,
--- and that word is a cause of it.
+-- What a step of actor a answers is true of the words as they stood: a refusal names the location at which the actor stood and the word
+-- that was there, and that word is a cause of it.
 pub record HasCause (v : Shown) (a : ℕ) (answer : Result (Option WordAnswer) WordRefusal) : Type 0 where
   pub cause : (r : Reached v) → IsAnswerOf (world_of v r) (actor_in v a) answer
 
