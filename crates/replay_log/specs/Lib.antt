@@ -10,7 +10,9 @@ pub mod WorldCalls
 pub mod WorldCommits
 pub mod WorldTraces
 pub mod Worlds
-pub mod WorldVectors
+pub mod WorldScripts
+pub mod CallVectors
+pub mod CommitVectors
 pub mod WorldSerial
 pub mod Guards
 pub mod WorldProgress
