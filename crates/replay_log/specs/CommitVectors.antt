@@ -3,10 +3,10 @@ use Rattle.std.specs.Prelude.{◌≡◌, ℕ, true, false, List, [], ◌∷◌, 
 use Rattle.tx_sets.specs.Entries.{lookup, with_entry, locations}
 use Rattle.word_machine.specs.World.{put, comes_before, insert}
 use Rattle.seq_model.specs.declared.call.Op.TheVariants.{Read, Write, Get, Put, Peek, Enqueue}
-use Rattle.seq_model.specs.declared.refusal.Refusal.TheVariants.{Moved, Invalid, GateBusy, OutOfMemory, NotIdle}
+use Rattle.seq_model.specs.declared.refusal.Refusal.TheVariants.{Moved, Invalid, GateBusy, OutOfMemory, NotIdle, NoTransaction}
 use Rattle.seq_model.specs.declared.event.Request.TheVariants as request
 use Rattle.collection_machine.specs.Boosted.{insert_commit}
-use Rattle.replay_log.specs.WorldScripts.{Told, Begun, Committed, Replied, IsRefused, Line, Asks, Steps, Starves, Lost, Left, told, leaves}
+use Rattle.replay_log.specs.WorldScripts.{Told, Begun, Committed, Replied, Aborted, IsRefused, Line, Asks, Steps, Starves, Lost, Left, told, leaves}
 use Rattle.replay_log.specs.WorldScripts.{begins, calls, asks_call, commits, asks_commit, goes_on}
 use Rattle.replay_log.specs.WorldScripts.{a_map, two_stripes, two_maps, two_words, word_and_map, word_and_queue}
 
@@ -177,3 +177,56 @@ stopped_never :
     stopped 11 ≡ committed (Committed 1 1 ∷ Begun 2 1 ∷ Replied 2 ∷ []) [] []
 unfolding lookup put with_entry locations comes_before insert insert_commit
 stopped_never = refl
+
+-- ---- a want of memory after so many steps of a request; then another gets the key, so nothing is held
+abbrev starved_call : ℕ → List Told
+starved_call k = told (begins 1 ∷ asks_call 1 0 (Put 5 1) ∷ Steps 1 k ∷ Starves 1 ∷ goes_on 1 ∷ begins 2 ∷ calls 2 0 (Get 5) ∷ []) word_and_map
+
+abbrev starved_commit : ℕ → List Told
+starved_commit k =
+    told (begins 1 ∷ calls 1 0 (Put 5 1) ∷ calls 1 0 (Write 7) ∷ asks_commit 1 ∷ Steps 1 k ∷ Starves 1 ∷ goes_on 1 ∷ begins 2 ∷ calls 2 0 (Get 5) ∷ [])
+    word_and_map
+
+-- a call, at its gate, with it, and at each load
+calls_starved :
+    (starved_call 0 ≡ Begun 1 0 ∷ IsRefused 1 OutOfMemory ∷ Begun 2 0 ∷ Replied 2 ∷ [])
+    × (starved_call 1 ≡ Begun 1 0 ∷ IsRefused 1 OutOfMemory ∷ Begun 2 0 ∷ Replied 2 ∷ [])
+    × (starved_call 2 ≡ Begun 1 0 ∷ IsRefused 1 OutOfMemory ∷ Begun 2 0 ∷ Replied 2 ∷ [])
+    × (starved_call 3 ≡ Begun 1 0 ∷ IsRefused 1 OutOfMemory ∷ Begun 2 0 ∷ Replied 2 ∷ [])
+    × (starved_call 4 ≡ Begun 1 0 ∷ IsRefused 1 OutOfMemory ∷ Begun 2 0 ∷ Replied 2 ∷ [])
+unfolding lookup put with_entry locations comes_before insert insert_commit
+calls_starved = (refl, refl, refl, refl, refl)
+
+-- a commit before it has a number
+commits_starved :
+    (starved_commit 0 ≡ Begun 1 0 ∷ Replied 1 ∷ Replied 1 ∷ IsRefused 1 OutOfMemory ∷ Begun 2 0 ∷ Replied 2 ∷ [])
+    × (starved_commit 1 ≡ Begun 1 0 ∷ Replied 1 ∷ Replied 1 ∷ IsRefused 1 OutOfMemory ∷ Begun 2 0 ∷ Replied 2 ∷ [])
+    × (starved_commit 2 ≡ Begun 1 0 ∷ Replied 1 ∷ Replied 1 ∷ IsRefused 1 OutOfMemory ∷ Begun 2 0 ∷ Replied 2 ∷ [])
+    × (starved_commit 3 ≡ Begun 1 0 ∷ Replied 1 ∷ Replied 1 ∷ IsRefused 1 OutOfMemory ∷ Begun 2 0 ∷ Replied 2 ∷ [])
+    × (starved_commit 4 ≡ Begun 1 0 ∷ Replied 1 ∷ Replied 1 ∷ IsRefused 1 OutOfMemory ∷ Begun 2 0 ∷ Replied 2 ∷ [])
+unfolding lookup put with_entry locations comes_before insert insert_commit
+commits_starved = (refl, refl, refl, refl, refl)
+
+-- one that has a number, which is lost
+numbers_starved :
+    (starved_commit 5 ≡ Begun 1 0 ∷ Replied 1 ∷ Replied 1 ∷ IsRefused 1 OutOfMemory ∷ Begun 2 1 ∷ Replied 2 ∷ [])
+    × (starved_commit 6 ≡ Begun 1 0 ∷ Replied 1 ∷ Replied 1 ∷ IsRefused 1 OutOfMemory ∷ Begun 2 1 ∷ Replied 2 ∷ [])
+unfolding lookup put with_entry locations comes_before insert insert_commit
+numbers_starved = (refl, refl)
+
+-- from the first value store on it has no effect
+never_starved :
+    (starved_commit 7 ≡ Begun 1 0 ∷ Replied 1 ∷ Replied 1 ∷ Committed 1 1 ∷ Begun 2 1 ∷ Replied 2 ∷ [])
+    × (starved_commit 8 ≡ Begun 1 0 ∷ Replied 1 ∷ Replied 1 ∷ Committed 1 1 ∷ Begun 2 1 ∷ Replied 2 ∷ [])
+    × (starved_commit 9 ≡ Begun 1 0 ∷ Replied 1 ∷ Replied 1 ∷ Committed 1 1 ∷ Begun 2 1 ∷ Replied 2 ∷ [])
+    × (starved_commit 10 ≡ Begun 1 0 ∷ Replied 1 ∷ Replied 1 ∷ Committed 1 1 ∷ Begun 2 1 ∷ Replied 2 ∷ [])
+unfolding lookup put with_entry locations comes_before insert insert_commit
+never_starved = (refl, refl, refl, refl)
+
+-- an unanswered begin is refused at once, a pending commit without writes by its load of the clock; an abort has no effect of it
+ends_starved :
+    told (Asks 1 request.Begin ∷ Starves 1 ∷ begins 1 ∷ calls 1 0 (Get 5) ∷ asks_commit 1 ∷ Starves 1 ∷ Steps 1 1
+    ∷ begins 1 ∷ Asks 1 request.Abort ∷ Starves 1 ∷ Steps 1 1 ∷ Starves 1 ∷ []) a_map
+    ≡ IsRefused 1 OutOfMemory ∷ Begun 1 0 ∷ Replied 1 ∷ IsRefused 1 OutOfMemory ∷ Begun 1 0 ∷ Aborted 1 ∷ IsRefused 1 NoTransaction ∷ []
+unfolding lookup put with_entry locations comes_before insert insert_commit
+ends_starved = refl
