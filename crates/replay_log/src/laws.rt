@@ -164,13 +164,15 @@ pub fn progress<V: Value>()
     ensures due { (w : World V) (e : Event V) → IsQuiet (happens w e).1 → IsAtRest ((happens w e).0.seats (whose e)).stage → ⊥ }
 {}
 
-/// A refusal is true. A step that begins to give a transaction up has found the cause that it notes: the word that it loads stops
+/// A refusal is true. A step that begins to give a transaction up has found the cause that it notes: the word of which it loads or
+/// would exchange is named with its location, and stops its request; or the edition that was copied for the call is not the one
+/// that the transaction has read; or it is the last try on the gate, which another holds. The cause stays until the last step
 /// its request, or the copied edition is not the one of the word, or another holds the gate. The cause stays until the last step
 /// of the request tells it.
 pub fn refusals<V: Value>()
     ensures causes { (blocks : List Block) (clock : ℕ) (values : List ℕ) (held : List (Held V)) (events : List (Event V)) (a : ℕ) → HaveStripes blocks →
         let w = run (opened blocks clock values held) events in
-        is_ending (w.seats a).stage ≡ false → HasCause w a (happens w (Step a)).0 }
+        is_ending (w.seats a).stage ≡ false → HasCause w a (w.seats a).stage (happens w (Step a)).0 }
     ensures stays { (w : World V) (a : ℕ) → is_ending (w.seats a).stage ≡ true → is_ending ((happens w (Step a)).0.seats a).stage ≡ true →
         ((happens w (Step a)).0.seats a).cause ≡ (w.seats a).cause }
     ensures told { (w : World V) (a : ℕ) → (w.seats a).stage ≡ Leaving → (happens w (Step a)).1 ≡ why a (w.seats a).cause }
