@@ -520,7 +520,7 @@ module _ {V : Type 0} where
           λ none. cond-true b (w.boosted.editions l) (z.editions l) (new none),
         )
 
-  put_editions : (w : World V) (a k : ℕ) (which : ℕ → Bool) → (acted w (PutGate a k which ∷ [])).boosted.editions ≡ w.boosted.editions
+  pub put_editions : (w : World V) (a k : ℕ) (which : ℕ → Bool) → (acted w (PutGate a k which ∷ [])).boosted.editions ≡ w.boosted.editions
   put_editions w a k which =
       let c = content w.words w.blocks in
       let s = w.boosted in

@@ -22,3 +22,6 @@ pub mod ProgressLemmas
 pub mod RefusalLemmas
 pub mod MemoLemmas
 pub mod DeclaredLemmas
+pub mod SetLemmas
+pub mod SizeLemmas
+pub mod DueLemmas

@@ -28,9 +28,9 @@ ghost use Rattle.replay_log.specs.Worlds.{World, Open, Beginning, Leaving, is_ch
 ghost use Rattle.replay_log.specs.WorldTraces.{trace, is_half_done, committed_by, with_record, ended_by};
 ghost use Rattle.seq_model.specs.Runs.{after_run as state_after};
 ghost use Rattle.replay_log.specs.WorldRefusals.{HasCause, is_calling, is_ending};
-ghost use Rattle.replay_log.specs.WorldProgress.{AreSmall, Nears, left_of, whose};
+ghost use Rattle.replay_log.specs.WorldProgress.{AreSmall, IsQuiet, Nears, left_of, whose};
 ghost use Rattle.replay_log.specs.WorldSerial.{AreUpTo, IsSerial, SawAt};
-ghost use Rattle.replay_log.specs.Guards.{IsAllowed, step_action};
+ghost use Rattle.replay_log.specs.Guards.{IsAllowed, IsAtRest, step_action};
 
 use seq_model::Value;
 
@@ -166,26 +166,33 @@ pub fn guards<V: Value>()
         IsAllowed w (w.seats a).stage (step_action w a (w.seats a).stage) }
 {}
 
-/// Each own step of a request answers it, or brings it nearer to its answer, and what others do leaves it where it is. As a
-/// request is asked it is fewer than 1,000,000 own steps from its answer, where the sets have at most 4,096 locations each, and
-/// no call reads more than that. So it is answered within 1,000,000 of its own steps, whatever the others do.
+/// Each own step of a request answers it, or brings it nearer to its answer, and what others do leaves it where it is. Both sets of
+/// a transaction have at most 4,096 locations at every moment, and as a request is asked it is fewer than 1,000,000 own steps from
+/// its answer, where no call reads more locations than a set may have. What answers nothing leaves a step due. So each request is
+/// answered within 1,000,000 of its own steps, whatever the others do.
 pub fn progress<V: Value>()
     ensures nearer { (blocks : List Block) (clock : ℕ) (values : List ℕ) (held : List (Held V)) (events : List (Event V)) (a : ℕ) → HaveStripes blocks → AreSmall blocks →
         let w = run (opened blocks clock values held) events in
         Nears a (left_of w a) (happens w (Step a)) }
     ensures others { (w : World V) (e : Event V) (a : ℕ) → a ≢ whose e → left_of (happens w e).0 a ≡ left_of w a }
+    ensures sets { (blocks : List Block) (clock : ℕ) (values : List ℕ) (held : List (Held V)) (events : List (Event V)) (a : ℕ) → HaveStripes blocks →
+        let w = run (opened blocks clock values held) events in
+        (length (actor_of w a).reads ≤ 4096) × (length (actor_of w a).writes ≤ 4096) }
     ensures few { (blocks : List Block) (clock : ℕ) (values : List ℕ) (held : List (Held V)) (events : List (Event V)) (a : ℕ) (q : Request V) → HaveStripes blocks → AreSmall blocks →
         let w = run (opened blocks clock values held) events in
-        length (actor_of w a).reads ≤ 4096 → length (actor_of w a).writes ≤ 4096 → Nears a 1000000 (happens w (Ask a q)) }
+        Nears a 1000000 (happens w (Ask a q)) }
+    ensures due { (w : World V) (e : Event V) → IsQuiet (happens w e).1 → IsAtRest ((happens w e).0.seats (whose e)).stage → ⊥ }
 {}
 
-/// A refusal is true. A step that begins to give a transaction up has found the cause that it notes: the word that it loads stops
+/// A refusal is true. A step that begins to give a transaction up has found the cause that it notes: the word of which it loads or
+/// would exchange is named with its location, and stops its request; or the edition that was copied for the call is not the one
+/// that the transaction has read; or it is the last try on the gate, which another holds. The cause stays until the last step
 /// its request, or the copied edition is not the one of the word, or another holds the gate. The cause stays until the last step
 /// of the request tells it.
 pub fn refusals<V: Value>()
     ensures causes { (blocks : List Block) (clock : ℕ) (values : List ℕ) (held : List (Held V)) (events : List (Event V)) (a : ℕ) → HaveStripes blocks →
         let w = run (opened blocks clock values held) events in
-        is_ending (w.seats a).stage ≡ false → HasCause w a (happens w (Step a)).0 }
+        is_ending (w.seats a).stage ≡ false → HasCause w a (w.seats a).stage (happens w (Step a)).0 }
     ensures stays { (w : World V) (a : ℕ) → is_ending (w.seats a).stage ≡ true → is_ending ((happens w (Step a)).0.seats a).stage ≡ true →
         ((happens w (Step a)).0.seats a).cause ≡ (w.seats a).cause }
     ensures told { (w : World V) (a : ℕ) → (w.seats a).stage ≡ Leaving → (happens w (Step a)).1 ≡ why a (w.seats a).cause }
