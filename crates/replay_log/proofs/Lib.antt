@@ -4,6 +4,7 @@ pub mod JoinLemmas
 pub mod PartLemmas
 pub mod ReadLemmas
 pub mod ContentLemmas
+pub mod CollectionRuns
 pub mod HeldLemmas
 pub mod CollectionLemmas
 pub mod WorldLemmas

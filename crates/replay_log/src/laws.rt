@@ -8,8 +8,7 @@ ghost use Rattle.seq_model.specs.declared.event.Notice.TheVariants.{Answered, Re
 ghost use Rattle.seq_model.specs.declared.refusal.Refusal.TheVariants.{NoSuch};
 ghost use Rattle.seq_model.specs.declared.call.Call.{Call};
 ghost use Rattle.seq_model.specs.declared.held.Held.{Held};
-ghost use Rattle.word_machine.specs.World.{Memory};
-ghost use Rattle.word_machine.specs.Opacity.{IsNoneHalfDone, first_read};
+ghost use Rattle.word_machine.specs.Opacity.{first_read};
 ghost use Rattle.conflict.specs.declared.change.Change.{Change};
 ghost use Rattle.conflict.specs.Rules.{FrameLaws};
 ghost use Rattle.base_map.specs.Conflicts as map;
@@ -18,10 +17,10 @@ ghost use Rattle.base_pq.specs.Conflicts as pq;
 ghost use Rattle.base_queue.specs.Conflicts as queue;
 ghost use Rattle.replay_log.specs.Base.{Shown, Commute, after};
 ghost use Rattle.collection_machine.specs.Content.{Frame};
-ghost use Rattle.collection_machine.specs.Boosted.{Action, act_all};
-ghost use Rattle.collection_machine.specs.Serial.{AllAborted, after_actions};
+ghost use Rattle.collection_machine.specs.Boosted.{Action};
+ghost use Rattle.collection_machine.specs.Serial.{after_actions};
 ghost use Rattle.replay_log.specs.Contents.{Block, Asked, HaveStripes, content, is_plain};
-ghost use Rattle.replay_log.specs.Collections.{Suit, AreReplies, IsRunOn, after_run, held_at, shown_at};
+ghost use Rattle.replay_log.specs.Collections.{Suit, shown_at};
 ghost use Rattle.replay_log.specs.Log.{RaisesEach, KeepsOthers};
 ghost use Rattle.replay_log.specs.Parts.{IsWhole, AnswersByParts, KnowsItsCalls, LeavesOtherParts, ChangesByPart};
 ghost use Rattle.replay_log.specs.Worlds.{World, Open, Beginning, Leaving, is_change, actor_of, why, happens, run, opened};
@@ -69,56 +68,13 @@ pub fn contents<V: Value>()
     ensures frame { (words : ℕ) (blocks : List Block) → HaveStripes blocks → Frame (content {V = V} words blocks) }
 {}
 
-/// Serial order of a world with collections of the four kinds, in any number and stripes, for every opening and every list of
-/// actions of any number of actors.
-///
-/// The committed transactions, in the order of their numbers, are a run of the sequential collections: every reply is that of the
-/// sequential call, one whole transaction after another. Where no commit is half done, the bases show what the run leaves. What
-/// an open or aborted transaction was replied is what the collections reply that the commits up to its number leave, now and at
-/// every later moment.
-pub fn serial_order<V: Value>()
-    ensures serial { (words : ℕ) (blocks : List Block) (clock : ℕ) (memory : Memory) (opening : List (Held V)) (actions : List (Action (Asked V))) →
-        HaveStripes blocks → Suit blocks opening →
-        IsRunOn opening (after_actions (content words blocks) clock memory (shown_at words blocks opening) actions).history }
-    ensures left { (words : ℕ) (blocks : List Block) (clock : ℕ) (memory : Memory) (opening : List (Held V)) (actions : List (Action (Asked V))) (l : ℕ) →
-        HaveStripes blocks → Suit blocks opening →
-        let s = after_actions (content words blocks) clock memory (shown_at words blocks opening) actions in
-        IsNoneHalfDone s.words → is_plain words blocks l ≡ false → s.parts l ≡ shown_at words blocks (after_run opening s.history) l }
-    ensures saw { (words : ℕ) (blocks : List Block) (clock : ℕ) (memory : Memory) (opening : List (Held V)) (actions later : List (Action (Asked V))) (a : ℕ) →
-        HaveStripes blocks → Suit blocks opening →
-        let s = after_actions (content words blocks) clock memory (shown_at words blocks opening) actions in
-        let t = act_all (content words blocks) later s in
-        AreReplies (held_at t.history (s.words.actors a).rv opening) (s.shadows a).outcomes }
-    ensures aborted { (words : ℕ) (blocks : List Block) (clock : ℕ) (memory : Memory) (opening : List (Held V)) (actions : List (Action (Asked V))) →
-        HaveStripes blocks → Suit blocks opening →
-        let s = after_actions (content words blocks) clock memory (shown_at words blocks opening) actions in
-        AllAborted (λ e. AreReplies (held_at s.history e.word.rv opening) e.outcomes) s.aborted }
-{}
-
 /// A world of words and collections whose transactions make requests, one atomic step at a time, goes through worlds of the
-/// machine's actions alone, whatever its events. So [`serial_order`] holds of it: the committed transactions are a run of the
-/// sequential collections, the bases show what it leaves where no commit is half done, and open and aborted transactions were
-/// replied what the collections reply that the commits up to their number leave.
+/// machine's actions alone, whatever its events. So what `collection_machine::laws` says of every list of actions holds of it.
 pub fn requests<V: Value>()
     ensures actions { (blocks : List Block) (clock : ℕ) (values : List ℕ) (held : List (Held V)) (events : List (Event V)) →
         (actions : List (Action (Asked V)))
         × ((run (opened blocks clock values held) events).boosted
         ≡ after_actions (content (length values) blocks) clock (λ l. get_or values l 0) (shown_at (length values) blocks held) actions) }
-    ensures serial { (blocks : List Block) (clock : ℕ) (values : List ℕ) (held : List (Held V)) (events : List (Event V)) →
-        HaveStripes blocks → Suit blocks held → IsRunOn held (run (opened blocks clock values held) events).boosted.history }
-    ensures left { (blocks : List Block) (clock : ℕ) (values : List ℕ) (held : List (Held V)) (events : List (Event V)) (l : ℕ) →
-        HaveStripes blocks → Suit blocks held →
-        let s = (run (opened blocks clock values held) events).boosted in
-        IsNoneHalfDone s.words → is_plain (length values) blocks l ≡ false → s.parts l ≡ shown_at (length values) blocks (after_run held s.history) l }
-    ensures saw { (blocks : List Block) (clock : ℕ) (values : List ℕ) (held : List (Held V)) (events later : List (Event V)) (a : ℕ) →
-        HaveStripes blocks → Suit blocks held →
-        let w = run (opened blocks clock values held) events in
-        let t = run w later in
-        AreReplies (held_at t.boosted.history (w.boosted.words.actors a).rv held) (w.boosted.shadows a).outcomes }
-    ensures aborted { (blocks : List Block) (clock : ℕ) (values : List ℕ) (held : List (Held V)) (events : List (Event V)) →
-        HaveStripes blocks → Suit blocks held →
-        let s = (run (opened blocks clock values held) events).boosted in
-        AllAborted (λ e. AreReplies (held_at s.history e.word.rv held) e.outcomes) s.aborted }
 {}
 
 /// Serial order of a world of words and collections, in which calls on both are mixed, for every opening, and over every list of
