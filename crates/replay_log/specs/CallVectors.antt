@@ -1,5 +1,5 @@
 -- Schedules of calls, computed by the definitions: gates and their tries, keys that were copied, editions that differ, declared readers.
-use Rattle.std.specs.Prelude.{◌≡◌, ℕ, zero, suc, ◌+◌, List, [], ◌∷◌, refl}
+use Rattle.std.specs.Prelude.{◌≡◌, ℕ, zero, suc, ◌+◌, [], ◌∷◌, refl}
 use Rattle.tx_sets.specs.Entries.{Entries, lookup, with_entry, locations}
 use Rattle.word_machine.specs.World.{put, comes_before, insert}
 use Rattle.seq_model.specs.declared.call.Op.TheVariants.{Read, Write, Get, Put, Least, Len, Peek, Enqueue}
@@ -13,7 +13,8 @@ use Rattle.replay_log.specs.WorldScripts.{a_map, two_stripes, two_words, word_an
 
 -- a copy from before a commit, and a load from after it
 stale_copy :
-    told (begins 1 ∷ calls 1 0 (Put 5 2) ∷ asks_commit 1 ∷ Steps 1 3 ∷ begins 2 ∷ asks_call 2 0 (Get 5) ∷ Steps 2 2 ∷ goes_on 1 ∷ goes_on 2 ∷ []) a_map
+    told (begins 1 ∷ calls 1 0 (Put 5 2) ∷ asks_commit 1 ∷ Steps 1 3 ∷ begins 2 ∷ asks_call 2 0 (Get 5) ∷ Steps 2 2 ∷ goes_on 1
+    ∷ goes_on 2 ∷ []) a_map
     ≡ Begun 1 0 ∷ Replied 1 ∷ Begun 2 1 ∷ Committed 1 1 ∷ IsRefused 2 (Stale 0 0 1) ∷ []
 unfolding lookup put with_entry locations comes_before insert insert_commit
 stale_copy = refl
@@ -42,7 +43,8 @@ held_key = refl
 
 -- beside one that holds the gate, a key that was copied is answered, and another one is not
 key_beside_a_gate :
-    told (begins 1 ∷ calls 1 0 (Get 5) ∷ begins 2 ∷ asks_call 2 0 (Get 7) ∷ Steps 2 1 ∷ calls 1 0 (Get 5) ∷ calls 1 0 (Get 8) ∷ goes_on 2 ∷ []) a_map
+    told (begins 1 ∷ calls 1 0 (Get 5) ∷ begins 2 ∷ asks_call 2 0 (Get 7) ∷ Steps 2 1 ∷ calls 1 0 (Get 5) ∷ calls 1 0 (Get 8)
+    ∷ goes_on 2 ∷ []) a_map
     ≡ Begun 1 0 ∷ Replied 1 ∷ Begun 2 0 ∷ Replied 1 ∷ IsRefused 1 (GateBusy 0) ∷ Replied 2 ∷ []
 unfolding lookup put with_entry locations comes_before insert insert_commit
 key_beside_a_gate = refl
@@ -77,7 +79,8 @@ many (suc n) = (n + 7, 0) ∷ many n
 abbrev crowded : ℕ → World ℕ
 crowded n =
     let w = world_after (begins 1 ∷ []) a_map in
-    record w { boosted = record w.boosted { words = record w.boosted.words { actors = put w.boosted.words.actors 1 (record (actor_of w 1) { reads = many n }) } } }
+    let actors = put w.boosted.words.actors 1 (record (actor_of w 1) { reads = many n }) in
+    record w { boosted = record w.boosted { words = record w.boosted.words { actors = actors } } }
 
 -- a call that finds no room for its location is TooLong by the store of its gate, and keeps nothing of what it copied
 no_room :
@@ -109,14 +112,16 @@ declared_key = refl
 
 -- the item at the head and an item that is enqueued, in different cells
 other_cell :
-    told (begins 1 ∷ begins 2 ∷ calls 1 0 (Enqueue 9) ∷ calls 2 0 Peek ∷ calls 2 0 (Write 1) ∷ commits 1 ∷ commits 2 ∷ []) (word_and_queue 2 (8 ∷ []))
+    told (begins 1 ∷ begins 2 ∷ calls 1 0 (Enqueue 9) ∷ calls 2 0 Peek ∷ calls 2 0 (Write 1)
+    ∷ commits 1 ∷ commits 2 ∷ []) (word_and_queue 2 (8 ∷ []))
     ≡ Begun 1 0 ∷ Begun 2 0 ∷ Replied 1 ∷ Replied 2 ∷ Replied 2 ∷ Committed 1 1 ∷ Committed 2 2 ∷ []
 unfolding lookup put with_entry locations comes_before insert insert_commit
 other_cell = refl
 
 -- and in the same one
 same_cell :
-    told (begins 1 ∷ begins 2 ∷ calls 1 0 (Enqueue 9) ∷ calls 2 0 Peek ∷ calls 2 0 (Write 1) ∷ commits 1 ∷ commits 2 ∷ []) (word_and_queue 1 (8 ∷ []))
+    told (begins 1 ∷ begins 2 ∷ calls 1 0 (Enqueue 9) ∷ calls 2 0 Peek ∷ calls 2 0 (Write 1)
+    ∷ commits 1 ∷ commits 2 ∷ []) (word_and_queue 1 (8 ∷ []))
     ≡ Begun 1 0 ∷ Begun 2 0 ∷ Replied 1 ∷ Replied 2 ∷ Replied 2 ∷ Committed 1 1 ∷ IsRefused 2 (Invalid 3 2) ∷ []
 unfolding lookup put with_entry locations comes_before insert insert_commit
 same_cell = refl

@@ -1,18 +1,20 @@
--- Schedules of commits, computed by the definitions: how many steps they take, what a commit that stops leaves, and what one leaves that is refused.
-use Rattle.std.specs.Prelude.{◌≡◌, ℕ, true, false, List, [], ◌∷◌, ◌++◌, Some, refl}
+-- Schedules of commits, computed by the definitions: how many steps they take, what a commit that stops leaves, and what one leaves that is
+-- refused.
+use Rattle.std.specs.Prelude.{◌≡◌, ℕ, true, false, List, [], ◌∷◌, Some, refl}
 use Rattle.tx_sets.specs.Entries.{lookup, with_entry, locations}
 use Rattle.word_machine.specs.World.{put, comes_before, insert}
 use Rattle.seq_model.specs.declared.call.Op.TheVariants.{Read, Write, Get, Put, Peek, Enqueue}
 use Rattle.seq_model.specs.declared.refusal.Refusal.TheVariants.{Moved, Invalid, GateBusy, OutOfMemory, NotIdle, NoTransaction}
 use Rattle.seq_model.specs.declared.event.Request.TheVariants as request
 use Rattle.collection_machine.specs.Boosted.{insert_commit}
-use Rattle.replay_log.specs.WorldScripts.{Told, Begun, Committed, Replied, Aborted, IsRefused, Line, Asks, Steps, Starves, Lost, Left, told, leaves}
+use Rattle.replay_log.specs.WorldScripts.{Told, Begun, Committed, Replied, Aborted, IsRefused, Asks, Steps, Starves, Lost, Left, told, leaves}
 use Rattle.replay_log.specs.WorldScripts.{begins, calls, asks_call, commits, asks_commit, goes_on}
 use Rattle.replay_log.specs.WorldScripts.{a_map, two_stripes, two_maps, two_words, word_and_map, word_and_queue}
 
 -- two that read and put one key: the second commit finds its lock's own old version newer than its transaction
 one_key :
-    leaves (begins 1 ∷ begins 2 ∷ calls 1 0 (Get 5) ∷ calls 2 0 (Get 5) ∷ calls 1 0 (Put 5 2) ∷ calls 2 0 (Put 5 3) ∷ commits 1 ∷ commits 2 ∷ []) a_map
+    leaves (begins 1 ∷ begins 2 ∷ calls 1 0 (Get 5) ∷ calls 2 0 (Get 5) ∷ calls 1 0 (Put 5 2) ∷ calls 2 0 (Put 5 3) ∷ commits 1
+    ∷ commits 2 ∷ []) a_map
     ≡ record {
       told = Begun 1 0 ∷ Begun 2 0 ∷ Replied 1 ∷ Replied 2 ∷ Replied 1 ∷ Replied 2 ∷ Committed 1 1 ∷ IsRefused 2 (Invalid 0 3) ∷ [];
       records = record { actor = 1; number = 1; writes = true; calls = 2 } ∷ [];
@@ -36,7 +38,8 @@ reader_first :
     leaves (begins 1 ∷ calls 1 0 Peek ∷ begins 2 ∷ calls 2 0 (Enqueue 4) ∷ commits 2 ∷ commits 1 ∷ []) (word_and_queue 1 [])
     ≡ record {
       told = Begun 1 0 ∷ Replied 1 ∷ Begun 2 0 ∷ Replied 2 ∷ Committed 2 1 ∷ Committed 1 0 ∷ [];
-      records = record { actor = 1; number = 0; writes = false; calls = 1 } ∷ record { actor = 2; number = 1; writes = true; calls = 1 } ∷ [];
+      records = record { actor = 1; number = 0; writes = false; calls = 1 }
+          ∷ record { actor = 2; number = 1; writes = true; calls = 1 } ∷ [];
       aborted = [];
       half = [];
       words = 0 ∷ [];
@@ -46,13 +49,13 @@ reader_first = refl
 
 -- want of memory between the locks and the first value store: the number is lost, and what was held goes back
 starved :
-    leaves (begins 1 ∷ begins 3 ∷ calls 1 0 (Put 5 1) ∷ begins 2 ∷ calls 2 0 (Write 1) ∷ commits 2 ∷ asks_commit 1 ∷ Steps 1 5 ∷ Starves 1 ∷ goes_on 1
-    ∷ begins 2 ∷ calls 2 0 (Write 2) ∷ commits 2 ∷ calls 3 0 (Get 5) ∷ commits 3 ∷ []) word_and_map
+    leaves (begins 1 ∷ begins 3 ∷ calls 1 0 (Put 5 1) ∷ begins 2 ∷ calls 2 0 (Write 1) ∷ commits 2 ∷ asks_commit 1 ∷ Steps 1 5 ∷ Starves 1
+    ∷ goes_on 1 ∷ begins 2 ∷ calls 2 0 (Write 2) ∷ commits 2 ∷ calls 3 0 (Get 5) ∷ commits 3 ∷ []) word_and_map
     ≡ record {
       told = Begun 1 0 ∷ Begun 3 0 ∷ Replied 1 ∷ Begun 2 0 ∷ Replied 2 ∷ Committed 2 1 ∷ IsRefused 1 OutOfMemory
-      ∷ Begun 2 2 ∷ Replied 2 ∷ Committed 2 3 ∷ Replied 3 ∷ Committed 3 0 ∷ [];
+          ∷ Begun 2 2 ∷ Replied 2 ∷ Committed 2 3 ∷ Replied 3 ∷ Committed 3 0 ∷ [];
       records = record { actor = 3; number = 0; writes = false; calls = 1 } ∷ record { actor = 2; number = 1; writes = true; calls = 1 }
-      ∷ record { actor = 2; number = 3; writes = true; calls = 1 } ∷ [];
+          ∷ record { actor = 2; number = 3; writes = true; calls = 1 } ∷ [];
       aborted = record { actor = 1; rv = 0; calls = 1; cause = Some OutOfMemory } ∷ [];
       half = [];
       words = 2 ∷ [];
@@ -70,19 +73,20 @@ eleven_steps = refl
 
 -- so is that of two locations of one map, whose gate is taken once
 one_gate :
-    told (begins 1 ∷ calls 1 0 (Put 1 10) ∷ calls 1 0 (Put 2 20) ∷ asks_commit 1 ∷ Steps 1 10 ∷ Asks 1 request.Abort ∷ Steps 1 1 ∷ []) two_stripes
+    told (begins 1 ∷ calls 1 0 (Put 1 10) ∷ calls 1 0 (Put 2 20) ∷ asks_commit 1 ∷ Steps 1 10 ∷ Asks 1 request.Abort ∷ Steps 1 1
+    ∷ []) two_stripes
     ≡ Begun 1 0 ∷ Replied 1 ∷ Replied 1 ∷ IsRefused 1 NotIdle ∷ Committed 1 1 ∷ []
 unfolding lookup put with_entry locations comes_before insert insert_commit
 one_gate = refl
 
--- a second gate that stays busy for 64 tries: after four steps for the locks, the number, the first gate and the tries it takes four more, which give
--- the gate and both locks back and load the clock. So others find the gate and the locks free.
+-- a second gate that stays busy for 64 tries: after four steps for the locks, the number, the first gate and the tries it takes four more,
+-- which give the gate and both locks back and load the clock. So others find the gate and the locks free.
 busy_second_gate :
-    leaves (begins 1 ∷ calls 1 0 (Put 1 10) ∷ calls 1 1 (Put 1 10) ∷ begins 2 ∷ asks_call 2 1 (Get 5) ∷ Steps 2 1 ∷ asks_commit 1 ∷ Steps 1 73
-    ∷ Asks 1 request.Abort ∷ Steps 1 1 ∷ begins 3 ∷ calls 3 0 (Put 1 30) ∷ commits 3 ∷ goes_on 2 ∷ []) two_maps
+    leaves (begins 1 ∷ calls 1 0 (Put 1 10) ∷ calls 1 1 (Put 1 10) ∷ begins 2 ∷ asks_call 2 1 (Get 5) ∷ Steps 2 1 ∷ asks_commit 1
+    ∷ Steps 1 73 ∷ Asks 1 request.Abort ∷ Steps 1 1 ∷ begins 3 ∷ calls 3 0 (Put 1 30) ∷ commits 3 ∷ goes_on 2 ∷ []) two_maps
     ≡ record {
       told = Begun 1 0 ∷ Replied 1 ∷ Replied 1 ∷ Begun 2 0 ∷ IsRefused 1 NotIdle ∷ IsRefused 1 (GateBusy 1)
-      ∷ Begun 3 1 ∷ Replied 3 ∷ Committed 3 2 ∷ Replied 2 ∷ [];
+          ∷ Begun 3 1 ∷ Replied 3 ∷ Committed 3 2 ∷ Replied 2 ∷ [];
       records = record { actor = 3; number = 2; writes = true; calls = 1 } ∷ [];
       aborted = record { actor = 1; rv = 0; calls = 2; cause = Some (GateBusy 1) } ∷ [];
       half = [];
@@ -91,8 +95,8 @@ busy_second_gate :
 unfolding lookup put with_entry locations comes_before insert insert_commit
 busy_second_gate = refl
 
--- a commit between whose begin and whose number no other one took a number checks nothing: the lock, its load, the number, and the store that
--- commits
+-- a commit between whose begin and whose number no other one took a number checks nothing: the lock, its load, the number, and the store
+-- that commits
 quick_check :
     leaves (begins 1 ∷ calls 1 0 Read ∷ calls 1 1 (Write 5) ∷ asks_commit 1 ∷ Steps 1 4 ∷ []) two_words
     ≡ record {
@@ -108,7 +112,8 @@ quick_check = refl
 -- ---- a commit of a word and a location of a map that stops after so many steps, and another that then gets the key
 abbrev stopped : ℕ → Left
 stopped k =
-    leaves (begins 1 ∷ calls 1 0 (Put 5 1) ∷ calls 1 0 (Write 7) ∷ asks_commit 1 ∷ Steps 1 k ∷ begins 2 ∷ calls 2 0 (Get 5) ∷ []) word_and_map
+    leaves (begins 1 ∷ calls 1 0 (Put 5 1) ∷ calls 1 0 (Write 7) ∷ asks_commit 1 ∷ Steps 1 k ∷ begins 2 ∷ calls 2 0 (Get 5) ∷ [])
+    word_and_map
 
 -- before its first value store: what is told of the other, and how that ends
 abbrev not_committed : List Told → List Lost → Left
@@ -180,12 +185,13 @@ stopped_never = refl
 
 -- ---- a want of memory after so many steps of a request; then another gets the key, so nothing is held
 abbrev starved_call : ℕ → List Told
-starved_call k = told (begins 1 ∷ asks_call 1 0 (Put 5 1) ∷ Steps 1 k ∷ Starves 1 ∷ goes_on 1 ∷ begins 2 ∷ calls 2 0 (Get 5) ∷ []) word_and_map
+starved_call k =
+    told (begins 1 ∷ asks_call 1 0 (Put 5 1) ∷ Steps 1 k ∷ Starves 1 ∷ goes_on 1 ∷ begins 2 ∷ calls 2 0 (Get 5) ∷ []) word_and_map
 
 abbrev starved_commit : ℕ → List Told
 starved_commit k =
-    told (begins 1 ∷ calls 1 0 (Put 5 1) ∷ calls 1 0 (Write 7) ∷ asks_commit 1 ∷ Steps 1 k ∷ Starves 1 ∷ goes_on 1 ∷ begins 2 ∷ calls 2 0 (Get 5) ∷ [])
-    word_and_map
+    told (begins 1 ∷ calls 1 0 (Put 5 1) ∷ calls 1 0 (Write 7) ∷ asks_commit 1 ∷ Steps 1 k ∷ Starves 1 ∷ goes_on 1 ∷ begins 2
+    ∷ calls 2 0 (Get 5) ∷ []) word_and_map
 
 -- a call, at its gate, with it, and at each load
 calls_starved :

@@ -1,4 +1,5 @@
--- Scripts of a world, to be computed: lines that ask and step, what they tell, and what they leave. Replies stay out, since finite maps don't compute.
+-- Scripts of a world, to be computed: lines that ask and step, what they tell, and what they leave. Replies stay out, since finite maps
+-- don't compute.
 use Rattle.std.specs.Prelude.{ℕ, zero, suc, Bool, List, [], ◌∷◌, ◌++◌, length, Option}
 use Rattle.std.specs.FinMap.{empty}
 use Rattle.seq_model.specs.declared.call.Op.{Op}
@@ -126,7 +127,8 @@ abbrev pub two_stripes : World ℕ
 two_stripes = opened (record { kind = MapKind; stripes = 2 } ∷ []) 0 [] (Map empty ∷ [])
 
 abbrev pub two_maps : World ℕ
-two_maps = opened (record { kind = MapKind; stripes = 1 } ∷ record { kind = MapKind; stripes = 1 } ∷ []) 0 [] (Map empty ∷ Map empty ∷ [])
+two_maps =
+    opened (record { kind = MapKind; stripes = 1 } ∷ record { kind = MapKind; stripes = 1 } ∷ []) 0 [] (Map empty ∷ Map empty ∷ [])
 
 abbrev pub two_words : World ℕ
 two_words = opened [] 0 (1 ∷ 0 ∷ []) []
