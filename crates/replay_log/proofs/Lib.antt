@@ -24,3 +24,6 @@ pub mod DeclaredLemmas
 pub mod SetLemmas
 pub mod SizeLemmas
 pub mod DueLemmas
+pub mod StillLemmas
+pub mod AloneActions
+pub mod AloneLemmas

@@ -10,3 +10,5 @@ pub mod WorldSerial
 pub mod Guards
 pub mod WorldProgress
 pub mod WorldRefusals
+pub mod WorldStill
+pub mod WorldAlone
