@@ -26,3 +26,6 @@ pub mod DeclaredLemmas
 pub mod SetLemmas
 pub mod SizeLemmas
 pub mod DueLemmas
+pub mod StillLemmas
+pub mod AloneActions
+pub mod AloneLemmas

@@ -47,7 +47,7 @@ has_mid [] ks i = cond-true (eqb i i) true (has ks i) (eq-eqb i i refl)
 has_mid (j ∷ got) ks i = elim (eqb i j) as (λ b. cond b true (has (got ++ i ∷ ks) i) ≡ true) [ true ↦ refl | false ↦ has_mid got ks i ]
 
 -- a gate that is still to be taken is none of those that are held
-not_got : (got : List ℕ) (i : ℕ) (ks : List ℕ) → Differ (got ++ i ∷ ks) → has got i ≡ false
+pub not_got : (got : List ℕ) (i : ℕ) (ks : List ℕ) → Differ (got ++ i ∷ ks) → has got i ≡ false
 not_got [] i ks d = refl
 not_got (j ∷ got) i ks d =
     elim (cases_eq i j) [

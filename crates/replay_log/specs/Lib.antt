@@ -17,3 +17,5 @@ pub mod WorldSerial
 pub mod Guards
 pub mod WorldProgress
 pub mod WorldRefusals
+pub mod WorldStill
+pub mod WorldAlone

@@ -1,5 +1,5 @@
 //! The laws of the definitions that the contracts cite. Each function computes nothing: its contract is the law.
-ghost use Rattle.std.specs.Prelude.{◌≡◌, ◌≢◌, ◌≤◌, ◌++◌, ℕ, List, [], Some, true, false, length, get_or};
+ghost use Rattle.std.specs.Prelude.{◌≡◌, ◌≢◌, ◌≤◌, ◌++◌, ℕ, List, [], ◌∷◌, Some, true, false, length, get_or};
 ghost use Rattle.seq_model.specs.declared.event.Event.{Event};
 ghost use Rattle.seq_model.specs.declared.event.Event.TheVariants.{Ask, Step, Starve};
 ghost use Rattle.seq_model.specs.declared.event.Request.{Request};
@@ -27,6 +27,8 @@ ghost use Rattle.replay_log.specs.Worlds.{World, Open, Beginning, Leaving, is_ch
 ghost use Rattle.replay_log.specs.WorldTraces.{trace, is_half_done, committed_by, with_record, ended_by};
 ghost use Rattle.seq_model.specs.Runs.{after_run as state_after};
 ghost use Rattle.replay_log.specs.WorldRefusals.{HasCause, is_calling, is_ending};
+ghost use Rattle.replay_log.specs.WorldStill.{Still};
+ghost use Rattle.replay_log.specs.WorldAlone.{IsAlone, IsFree, TellsConflict, IsUnstarved, TellsMemory};
 ghost use Rattle.replay_log.specs.WorldProgress.{AreSmall, IsQuiet, Nears, left_of, whose};
 ghost use Rattle.replay_log.specs.WorldSerial.{AreUpTo, IsSerial, SawAt};
 ghost use Rattle.replay_log.specs.Guards.{IsAllowed, IsAtRest, step_action};
@@ -142,9 +144,8 @@ pub fn progress<V: Value>()
 
 /// A refusal is true. A step that begins to give a transaction up has found the cause that it notes: the word of which it loads or
 /// would exchange is named with its location, and stops its request; or the edition that was copied for the call is not the one
-/// that the transaction has read; or it is the last try on the gate, which another holds. The cause stays until the last step
-/// its request, or the copied edition is not the one of the word, or another holds the gate. The cause stays until the last step
-/// of the request tells it.
+/// that the transaction has read; or it is the last try on the gate, which another holds. The cause stays until the last step of the
+/// request tells it.
 pub fn refusals<V: Value>()
     ensures causes { (blocks : List Block) (clock : ℕ) (values : List ℕ) (held : List (Held V)) (events : List (Event V)) (a : ℕ) → HaveStripes blocks →
         let w = run (opened blocks clock values held) events in
@@ -152,6 +153,26 @@ pub fn refusals<V: Value>()
     ensures stays { (w : World V) (a : ℕ) → is_ending (w.seats a).stage ≡ true → is_ending ((happens w (Step a)).0.seats a).stage ≡ true →
         ((happens w (Step a)).0.seats a).cause ≡ (w.seats a).cause }
     ensures told { (w : World V) (a : ℕ) → (w.seats a).stage ≡ Leaving → (happens w (Step a)).1 ≡ why a (w.seats a).cause }
+{}
+
+/// A transaction beside which no other actor steps between its begin and its end, and at whose begin no lock and no gate is held, is
+/// refused for no conflict; and for want of memory only where its own actor wants it. Meanwhile others may ask and want memory.
+pub fn alone<V: Value>()
+    ensures never { (blocks : List Block) (clock : ℕ) (values : List ℕ) (held : List (Held V)) (events later : List (Event V)) (a : ℕ) → HaveStripes blocks →
+        let w = run (opened blocks clock values held) events in
+        (w.seats a).stage ≡ Beginning → IsFree w → IsAlone a later →
+        (e : Event V) → whose e ≡ a → TellsConflict (happens (run w later) e).1 → ⊥ }
+    ensures memory { (blocks : List Block) (clock : ℕ) (values : List ℕ) (held : List (Held V)) (events later : List (Event V)) (a : ℕ) → HaveStripes blocks →
+        let w = run (opened blocks clock values held) events in
+        (w.seats a).stage ≡ Beginning → IsFree w → IsAlone a later → IsUnstarved a later →
+        (e : Event V) → whose e ≡ a → IsUnstarved a (e ∷ []) → TellsMemory (happens (run w later) e).1 → ⊥ }
+{}
+
+/// A request and a want of memory do no atomic step: they leave the clock, the words and their locks, the gates, the bases and what
+/// the other actors have copied.
+pub fn without_steps<V: Value>()
+    ensures asked { (w : World V) (a : ℕ) (q : Request V) → Still a w.boosted (happens w (Ask a q)).0.boosted }
+    ensures starved { (w : World V) (a : ℕ) → Still a w.boosted (happens w (Starve a)).0.boosted }
 {}
 
 /// What a transaction has copied of a location that it has read is what the base has there, where the base has the edition that it
