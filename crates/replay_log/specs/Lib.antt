@@ -12,3 +12,4 @@ pub mod WorldProgress
 pub mod WorldRefusals
 pub mod WorldStill
 pub mod WorldAlone
+pub mod WorldAnswers
