@@ -92,17 +92,17 @@ module _ {V : Type 0} where
   abbrev pub StillIn : ℕ → World V → World V → Type 0
   StillIn a v u = Still a v.boosted u.boosted
 
-  ask_still : (v u : World V) (a : ℕ) (q : word.Request) → StillIn a v u → StillIn a v (acted u (asks a q ∷ []))
+  pub ask_still : (v u : World V) (a : ℕ) (q : word.Request) → StillIn a v u → StillIn a v (acted u (asks a q ∷ []))
   ask_still v u a q h = still_then a v.boosted u.boosted _ h (asked_still (content u.words u.blocks) u.boosted a q)
 
   choose_still : (a : ℕ) (v : World V) (b : Bool) (r s : After V) → StillIn a v r.0 → StillIn a v s.0 → StillIn a v (cond b r s).0
   choose_still a v true r s h g = h
   choose_still a v false r s h g = g
 
-  cancels_still : (v u : World V) (a : ℕ) (x : Seat V) → StillIn a v u → StillIn a v (cancels u a x)
+  pub cancels_still : (v u : World V) (a : ℕ) (x : Seat V) → StillIn a v u → StillIn a v (cancels u a x)
   cancels_still v u a x h = ask_still v (acted u (asks a word.AskCancel ∷ [])) a word.AskAbort (ask_still v u a word.AskCancel h)
 
-  gives_up_still : (v u : World V) (a : ℕ) (x : Seat V) (ks : List ℕ) → StillIn a v u → StillIn a v (gives_up u a x ks).0
+  pub gives_up_still : (v u : World V) (a : ℕ) (x : Seat V) (ks : List ℕ) → StillIn a v u → StillIn a v (gives_up u a x ks).0
   gives_up_still v u a x [] h = cancels_still v u a x h
   gives_up_still v u a x (k ∷ ks) h = h
 
@@ -110,7 +110,7 @@ module _ {V : Type 0} where
   reads_still v u a x l (told.Number i) h = ask_still v u a (word.AskRead l) h
   reads_still v u a x l n h = ask_still v u a (word.AskRead l) h
 
-  fresh_still : (v u : World V) (a : ℕ) (x : Seat V) (d : ℕ × ℕ) (i : ℕ) (next : After V) → StillIn a v u → StillIn a v next.0 → StillIn a v (is_fresh u a x d i next).0
+  pub fresh_still : (v u : World V) (a : ℕ) (x : Seat V) (d : ℕ × ℕ) (i : ℕ) (next : After V) → StillIn a v u → StillIn a v next.0 → StillIn a v (is_fresh u a x d i next).0
   fresh_still v u a x d i next h n = choose_still a v (eqb d.1 i) next _ n (cancels_still v u a (because x (refusal.Stale d.0 d.1 i)) h)
 
   judges_still : (v u : World V) (a : ℕ) (x : Seat V) (o : Answered V) (d : ℕ × ℕ) (es : Entries) (next : After V) (r : Option ℕ) → StillIn a v u → StillIn a v next.0
@@ -118,13 +118,13 @@ module _ {V : Type 0} where
   judges_still v u a x o d es next None h n = ask_still v u a (word.AskRead d.0) h
   judges_still v u a x o d es next (Some i) h n = fresh_still v u a x d i next h n
 
-  loads_still : (es : Entries) (v u : World V) (a : ℕ) (x : Seat V) (o : Answered V) → StillIn a v u → StillIn a v (loads u a x o es).0
+  pub loads_still : (es : Entries) (v u : World V) (a : ℕ) (x : Seat V) (o : Answered V) → StillIn a v u → StillIn a v (loads u a x o es).0
   loads_still [] v u a x o h =
       let c = content u.words u.blocks in
       still_then a v.boosted u.boosted _ h (accepted_still c u.boosted a (outcome_at u a o.asked))
   loads_still (d ∷ es) v u a x o h = judges_still v u a x o d es (loads u a x o es) (lookup (actor_of u a).reads d.0) h (loads_still es v u a x o h)
 
-  answers_still : (v u : World V) (a : ℕ) (before x : Seat V) (o : Answered V) (editions : ℕ → ℕ) → StillIn a v u → StillIn a v (answers u a before x o editions).0
+  pub answers_still : (v u : World V) (a : ℕ) (before x : Seat V) (o : Answered V) (editions : ℕ → ℕ) → StillIn a v u → StillIn a v (answers u a before x o editions).0
   answers_still v u a before x o editions h =
       let c = content u.words u.blocks in
       choose_still a v (has_room (actor_of u a) (c.reads o) (c.writes o)) (loads u a x o (with_editions editions (c.reads o))) _
