@@ -1,0 +1,6 @@
+pub mod Machine
+pub mod Own
+pub mod Clock
+pub mod Steps
+pub mod Spots
+pub mod Gates
