@@ -1,7 +1,7 @@
 -- A step advances the clock no further than its actor may.
 --
--- An actor may advance it once, from its begin to the number of its commit. A request gives no such right but by a begin, whose step finds the clock below
--- the limit; the step that advances the clock uses the right up, and no other step gives it back.
+-- An actor may advance it once, from its begin to the number of its commit. A request gives no such right but by a begin, whose step
+-- finds the clock below the limit; the step that advances the clock uses the right up, and no other step gives it back.
 use Rattle.std.proofs.Common.{◌≡◌, ℕ, ◌+◌, ◌<◌, ◌≤◌, ◌⊎◌, ltb, ltb-true, nat_le, Option, Some, None, List, [], ◌∷◌, refl, ap, inl, inr, arith}
 use Rattle.std.proofs.lemmas.Bool.{cond_both}
 use Rattle.tx_sets.specs.Entries.{Entries, lookup}
@@ -56,8 +56,10 @@ grows (AddToClock found) = 1
 grows d = 0
 
 check_left : (x : Actor) (ls : List ℕ) (w : LockWord) (own : Option ℕ) → stamps_left (seen_in_check x ls w own).place ≡ 0
-check_left x ls (Free k) own = cond_both (nat_le k x.rv) (goes x (Check ls)) (goes x Broken) (λ (z : Actor). stamps_left z.place ≡ 0) (λ _. refl) (λ _. refl)
-check_left x ls (Locked k) (Some v) = cond_both (nat_le k x.rv) (goes x (Check ls)) (goes x Broken) (λ (z : Actor). stamps_left z.place ≡ 0) (λ _. refl) (λ _. refl)
+check_left x ls (Free k) own = cond_both (nat_le k x.rv) (goes x (Check ls)) (goes x Broken) (λ (z : Actor). stamps_left z.place ≡ 0)
+    (λ _. refl) (λ _. refl)
+check_left x ls (Locked k) (Some v) = cond_both (nat_le k x.rv) (goes x (Check ls)) (goes x Broken)
+    (λ (z : Actor). stamps_left z.place ≡ 0) (λ _. refl) (λ _. refl)
 check_left x ls (Locked k) None = refl
 
 -- a step grows the clock no further than its actor may, or it begins below the limit
@@ -70,11 +72,13 @@ begins x k =
     (λ t. inr (refl, refl, ltb-true k clock_limit t))
     (λ f. inl (omega arith))
 
-first_pays : (x : Actor) (es : Entries) (k : ℕ) → x.place ≡ First → Pays (first_store x es) k 0 (stamps_left (learns (first_store x es) x k).place)
+first_pays : (x : Actor) (es : Entries) (k : ℕ) → x.place ≡ First → Pays (first_store x es) k 0
+    (stamps_left (learns (first_store x es) x k).place)
 first_pays x [] k e = inl (let z : stamps_left x.place ≡ 0 = ap stamps_left e in omega arith)
 first_pays x (d ∷ ds) k e = inl (omega arith)
 
-release_pays : (x : Actor) (es : Entries) (k : ℕ) → x.place ≡ Release → Pays (release x es) k 0 (stamps_left (learns (release x es) x k).place)
+release_pays : (x : Actor) (es : Entries) (k : ℕ) → x.place ≡ Release → Pays (release x es) k 0
+    (stamps_left (learns (release x es) x k).place)
 release_pays x [] k e = inl (let z : stamps_left x.place ≡ 0 = ap stamps_left e in omega arith)
 release_pays x (d ∷ []) k e = inl (omega arith)
 release_pays x (d ∷ (f ∷ fs)) k e = inl (omega arith)

@@ -1,8 +1,8 @@
 -- Each event is at most one atomic action of its actor.
 --
--- The definitions do the action that is due, if any, and what they add is the actor's own: requests to its machine, calls taken over into its shadow, its seat.
--- Each of these leaves all that is shared, and other actors; so does one after another (`through`). The lemmas that end in `_by` say it of each function of
--- the definitions, from a world that has so changed on.
+-- The definitions do the action that is due, if any, and what they add is the actor's own: requests to its machine, calls taken over
+-- into its shadow, its seat. Each of these leaves all that is shared, and other actors; so does one after another (`through`). The
+-- lemmas that end in `_by` say it of each function of the definitions, from a world that has so changed on.
 use Rattle.std.proofs.Common.{◌≡◌, ℕ, zero, suc, ◌+◌, Bool, true, false, ◌&&◌, List, [], ◌∷◌, ◌++◌, Option, Some, None, ◌≢◌, refl, ap, ◌∙◌, eqb, ltb, length, ◌≤◌, le_refl, arith}
 use Rattle.std.proofs.lemmas.Bool.{cond_both}
 use Rattle.tx_sets.specs.Entries.{Entries, lookup}
@@ -40,17 +40,20 @@ module _ (a : ℕ) where
   now_cells s x (ValueCell l) = refl
 
   -- the writes that an accepted call asks
-  writes_cells : (editions : ℕ → ℕ) (ls : List ℕ) (s : machine.World) (c : Cell) → cell (machine.run (writes_asked a editions ls) s) c ≡ cell s c
+  writes_cells : (editions : ℕ → ℕ) (ls : List ℕ) (s : machine.World) (c : Cell) → cell (machine.run (writes_asked a editions ls) s) c
+      ≡ cell s c
   writes_cells editions [] s c = refl
   writes_cells editions (l ∷ ls) s c =
       let x : Actor = word.ask (s.actors a) (s.actors a).place (word.AskWrite l (editions l + 1)) in
       writes_cells editions ls (machine.now s a x) c ∙ now_cells s x c
 
-  writes_actors : (editions : ℕ → ℕ) (ls : List ℕ) (s : machine.World) (b : ℕ) → b ≢ a → (machine.run (writes_asked a editions ls) s).actors b ≡ s.actors b
+  writes_actors : (editions : ℕ → ℕ) (ls : List ℕ) (s : machine.World) (b : ℕ) → b ≢ a
+      → (machine.run (writes_asked a editions ls) s).actors b ≡ s.actors b
   writes_actors editions [] s b ne = refl
   writes_actors editions (l ∷ ls) s b ne = writes_actors editions ls _ b ne ∙ put-other s.actors a _ b ne
 
-  writes_left : (editions : ℕ → ℕ) (ls : List ℕ) (s : machine.World) → stamps_left ((machine.run (writes_asked a editions ls) s).actors a).place ≤ stamps_left (s.actors a).place
+  writes_left : (editions : ℕ → ℕ) (ls : List ℕ) (s : machine.World)
+      → stamps_left ((machine.run (writes_asked a editions ls) s).actors a).place ≤ stamps_left (s.actors a).place
   writes_left editions [] s = le_refl _
   writes_left editions (l ∷ ls) s =
       let x : Actor = s.actors a in
@@ -62,7 +65,9 @@ module _ (a : ℕ) where
 
 module _ {V : Type 0} (a : ℕ) where
   pub nothing : (v : World V) → OnlyOwn a v v
-  nothing v = record { words = refl; blocks = refl; cells = λ c. refl; gates = λ k. refl; parts = λ l. refl; editions = λ l. refl; opening = refl; first = refl; actors = λ b ne. refl; shadows = λ b ne. refl; seats = λ b ne. refl; records = refl; aborted = refl; left = le_refl _ }
+  nothing v = record { words = refl; blocks = refl; cells = λ c. refl; gates = λ k. refl; parts = λ l. refl; editions = λ l. refl;
+      opening = refl; first = refl; actors = λ b ne. refl; shadows = λ b ne. refl; seats = λ b ne. refl; records = refl; aborted = refl;
+      left = le_refl _ }
 
   pub through : (v u t : World V) → OnlyOwn a v u → OnlyOwn a u t → OnlyOwn a v t
   through v u t g h = record {
@@ -83,13 +88,17 @@ module _ {V : Type 0} (a : ℕ) where
   }
 
   seated_calm : (v : World V) (x : Seat V) → OnlyOwn a v (seated v a x)
-  seated_calm v x = record { words = refl; blocks = refl; cells = λ c. refl; gates = λ k. refl; parts = λ l. refl; editions = λ l. refl; opening = refl; first = refl; actors = λ b ne. refl; shadows = λ b ne. refl; seats = λ b ne. put-other v.seats a x b ne; records = refl; aborted = refl; left = le_refl _ }
+  seated_calm v x = record { words = refl; blocks = refl; cells = λ c. refl; gates = λ k. refl; parts = λ l. refl; editions = λ l. refl;
+      opening = refl; first = refl; actors = λ b ne. refl; shadows = λ b ne. refl; seats = λ b ne. put-other v.seats a x b ne;
+      records = refl; aborted = refl; left = le_refl _ }
 
   -- the boosted part alone
   boosted_calm : World V → Boosted (Shown V) (Outcomes V) → World V
   boosted_calm v s = record v { boosted = s }
 
-  asked_calm : (v : World V) (q : word.Request) → OnlyOwn a v (record v { boosted = on_words v.boosted (machine.now v.boosted.words a (word.ask (v.boosted.words.actors a) (v.boosted.words.actors a).place q)) })
+  asked_calm : (v : World V) (q : word.Request)
+      → OnlyOwn a v (record v { boosted = on_words v.boosted
+      (machine.now v.boosted.words a (word.ask (v.boosted.words.actors a) (v.boosted.words.actors a).place q)) })
   asked_calm v q = record {
     words = refl;
     blocks = refl;
@@ -112,9 +121,12 @@ module _ {V : Type 0} (a : ℕ) where
   }
 
   pub ask_calm : (v : World V) (q : word.Request) → OnlyOwn a v (acted v (asks a q ∷ []))
-  ask_calm v (word.AskWrite l n) = cond_both {A = Boosted (Shown V) (Outcomes V)} (is_plain v.words v.blocks l) _ v.boosted (λ s. OnlyOwn a v (record v { boosted = s })) (λ _. asked_calm v (word.AskWrite l n)) (λ _. nothing v)
-  ask_calm v word.AskStore = cond_both {A = Boosted (Shown V) (Outcomes V)} _ _ v.boosted (λ s. OnlyOwn a v (record v { boosted = s })) (λ _. asked_calm v word.AskStore) (λ _. nothing v)
-  ask_calm v word.AskRelease = cond_both {A = Boosted (Shown V) (Outcomes V)} _ _ v.boosted (λ s. OnlyOwn a v (record v { boosted = s })) (λ _. asked_calm v word.AskRelease) (λ _. nothing v)
+  ask_calm v (word.AskWrite l n) = cond_both {A = Boosted (Shown V) (Outcomes V)} (is_plain v.words v.blocks l) _ v.boosted
+      (λ s. OnlyOwn a v (record v { boosted = s })) (λ _. asked_calm v (word.AskWrite l n)) (λ _. nothing v)
+  ask_calm v word.AskStore = cond_both {A = Boosted (Shown V) (Outcomes V)} _ _ v.boosted (λ s. OnlyOwn a v (record v { boosted = s }))
+      (λ _. asked_calm v word.AskStore) (λ _. nothing v)
+  ask_calm v word.AskRelease = cond_both {A = Boosted (Shown V) (Outcomes V)} _ _ v.boosted (λ s. OnlyOwn a v (record v { boosted = s }))
+      (λ _. asked_calm v word.AskRelease) (λ _. nothing v)
   ask_calm v word.AskBegin = asked_calm v word.AskBegin
   ask_calm v word.AskBeginRead = asked_calm v word.AskBeginRead
   ask_calm v word.AskLock = asked_calm v word.AskLock
@@ -128,8 +140,13 @@ module _ {V : Type 0} (a : ℕ) where
       let o : Outcomes V = outcome_at v a q in
       let c : Content (Shown V) (Asked V) (Outcomes V) = content v.words v.blocks in
       let b = v.boosted in
-      let t : Boosted (Shown V) (Outcomes V) = record b { words = machine.run (writes_asked a (b.shadows a).editions (c.writes o)) b.words; shadows = machine.put b.shadows a (longer (b.shadows a) o) } in
-      cond_both {A = Boosted (Shown V) (Outcomes V)} (is_open (b.words.actors a).place && (may_write (b.words.actors a).declared (c.writes o) && every (is_sound c b a) (c.reads o))) t b (λ z. OnlyOwn a v (record v { boosted = z }))
+      let t : Boosted (Shown V)
+          (Outcomes V) = record b { words = machine.run (writes_asked a (b.shadows a).editions (c.writes o)) b.words;
+          shadows = machine.put b.shadows a (longer (b.shadows a) o) } in
+      cond_both {A = Boosted (Shown V) (Outcomes V)}
+          (is_open (b.words.actors a).place &&
+          (may_write (b.words.actors a).declared (c.writes o) && every (is_sound c b a) (c.reads o))) t b
+          (λ z. OnlyOwn a v (record v { boosted = z }))
       (λ _. record {
         words = refl;
         blocks = refl;
@@ -166,10 +183,13 @@ module _ {V : Type 0} (a : ℕ) where
   gives_up_by v u x [] g = cancels_by v u x g
   gives_up_by v u x (k ∷ ks) g = seated_by v u _ g
 
-  fresh_by : (v u : World V) (x : Seat V) (d : ℕ × ℕ) (i : ℕ) (next : After V) → OnlyOwn a v u → OnlyOwn a v next.0 → OnlyOwn a v (is_fresh u a x d i next).0
-  fresh_by v u x d i next g h = cond_both {A = After V} (eqb d.1 i) next _ (λ z. OnlyOwn a v z.0) (λ _. h) (λ _. gives_up_by v u (because x (refusal.Stale d.0 d.1 i)) [] g)
+  fresh_by : (v u : World V) (x : Seat V) (d : ℕ × ℕ) (i : ℕ) (next : After V) → OnlyOwn a v u → OnlyOwn a v next.0
+      → OnlyOwn a v (is_fresh u a x d i next).0
+  fresh_by v u x d i next g h = cond_both {A = After V} (eqb d.1 i) next _ (λ z. OnlyOwn a v z.0) (λ _. h)
+      (λ _. gives_up_by v u (because x (refusal.Stale d.0 d.1 i)) [] g)
 
-  judges_by : (v u : World V) (x : Seat V) (o : Outcomes V) (d : ℕ × ℕ) (es : Entries) (next : After V) (r : Option ℕ) → OnlyOwn a v u → OnlyOwn a v next.0 → OnlyOwn a v (judges u a x o d es next r).0
+  judges_by : (v u : World V) (x : Seat V) (o : Outcomes V) (d : ℕ × ℕ) (es : Entries) (next : After V) (r : Option ℕ) → OnlyOwn a v u
+      → OnlyOwn a v next.0 → OnlyOwn a v (judges u a x o d es next r).0
   judges_by v u x o d es next None g h = asks_by v u _ (word.AskRead d.0) g
   judges_by v u x o d es next (Some i) g h = fresh_by v u x d i next g h
 
@@ -177,7 +197,8 @@ module _ {V : Type 0} (a : ℕ) where
   loads_by v u x o [] g = accept_by v u _ o.asked g
   loads_by v u x o (d ∷ es) g = judges_by v u x o d es (loads u a x o es) (lookup (actor_of u a).reads d.0) g (loads_by v u x o es g)
 
-  answers_by : (v u : World V) (before x : Seat V) (o : Outcomes V) (editions : ℕ → ℕ) → OnlyOwn a v u → OnlyOwn a v (answers u a before x o editions).0
+  answers_by : (v u : World V) (before x : Seat V) (o : Outcomes V) (editions : ℕ → ℕ) → OnlyOwn a v u
+      → OnlyOwn a v (answers u a before x o editions).0
   answers_by v u before x o editions g =
       let c = content u.words u.blocks in
       cond_both {A = After V} (has_room (actor_of u a) (c.reads o) (c.writes o)) (loads u a x o (with_editions editions (c.reads o)))
@@ -191,13 +212,16 @@ module _ {V : Type 0} (a : ℕ) where
   calls_on_by : (v u : World V) (x : Seat V) (asked : Asked V) → OnlyOwn a v u → OnlyOwn a v (calls_on u a x asked).0
   calls_on_by v u x asked g =
       let editions = (u.boosted.shadows a).editions in
-      cond_both {A = After V} (x.copied asked.collection (piece_at u.blocks asked)) (answers u a x x (outcome_at u a asked) editions) _ (λ z. OnlyOwn a v z.0)
+      cond_both {A = After V} (x.copied asked.collection (piece_at u.blocks asked)) (answers u a x x (outcome_at u a asked) editions) _
+          (λ z. OnlyOwn a v z.0)
       (λ _. answers_by v u x x (outcome_at u a asked) editions g) (λ _. seated_by v u _ g)
 
-  if_allowed_by : (v u : World V) (x : Seat V) (known room : Bool) (next : After V) → OnlyOwn a v u → OnlyOwn a v next.0 → OnlyOwn a v (if_allowed u a x known room next).0
+  if_allowed_by : (v u : World V) (x : Seat V) (known room : Bool) (next : After V) → OnlyOwn a v u → OnlyOwn a v next.0
+      → OnlyOwn a v (if_allowed u a x known room next).0
   if_allowed_by v u x known room next g h =
       cond_both {A = After V} known _ (u, Refused a refusal.NoSuch) (λ z. OnlyOwn a v z.0)
-      (λ _. cond_both {A = After V} (ltb (length x.calls) CALL_LIMIT && room) next (u, Refused a refusal.TooLong) (λ z. OnlyOwn a v z.0) (λ _. h) (λ _. g))
+      (λ _. cond_both {A = After V} (ltb (length x.calls) CALL_LIMIT && room) next (u, Refused a refusal.TooLong) (λ z. OnlyOwn a v z.0)
+          (λ _. h) (λ _. g))
       (λ _. g)
 
   ask_op_by : (v : World V) (x : Seat V) (t : ℕ) (op : Op V) → OnlyOwn a v (ask_op v a x t op).0
@@ -231,13 +255,17 @@ module _ {V : Type 0} (a : ℕ) where
   read_by v u x l (told.Moved i w) g = gives_up_by v u (because x (refusal.Moved i w)) [] g
   read_by v u x l n g = g
 
-  tried_by : (v u : World V) (x : Seat V) (free : Bool) (k : ℕ) (got : List ℕ) (again : ℕ → Stage V) (next : Stage V) (tries : ℕ) → OnlyOwn a v u → OnlyOwn a v (has_tried u a x free k got again next tries).0
+  tried_by : (v u : World V) (x : Seat V) (free : Bool) (k : ℕ) (got : List ℕ) (again : ℕ → Stage V) (next : Stage V) (tries : ℕ)
+      → OnlyOwn a v u → OnlyOwn a v (has_tried u a x free k got again next tries).0
   tried_by v u x free k got again next zero g =
-      cond_both {A = After V} free (seated u a (at_stage x next), Quiet) _ (λ z. OnlyOwn a v z.0) (λ _. seated_by v u _ g) (λ _. gives_up_by v u (because x (refusal.GateBusy k)) got g)
+      cond_both {A = After V} free (seated u a (at_stage x next), Quiet) _ (λ z. OnlyOwn a v z.0) (λ _. seated_by v u _ g)
+          (λ _. gives_up_by v u (because x (refusal.GateBusy k)) got g)
   tried_by v u x free k got again next (suc n) g =
-      cond_both {A = After V} free (seated u a (at_stage x next), Quiet) _ (λ z. OnlyOwn a v z.0) (λ _. seated_by v u _ g) (λ _. seated_by v u _ g)
+      cond_both {A = After V} free (seated u a (at_stage x next), Quiet) _ (λ z. OnlyOwn a v z.0) (λ _. seated_by v u _ g)
+          (λ _. seated_by v u _ g)
 
-  loaded_by : (v u : World V) (x : Seat V) (o : Outcomes V) (d : ℕ × ℕ) (es : Entries) (n : told.Notice) → OnlyOwn a v u → OnlyOwn a v (has_loaded u a x o d es n).0
+  loaded_by : (v u : World V) (x : Seat V) (o : Outcomes V) (d : ℕ × ℕ) (es : Entries) (n : told.Notice) → OnlyOwn a v u
+      → OnlyOwn a v (has_loaded u a x o d es n).0
   loaded_by v u x o d es (told.Number i) g = fresh_by v u x d i (loads u a x o es) g (loads_by v u x o es g)
   loaded_by v u x o d es (told.Moved i w) g = gives_up_by v u (because x (refusal.Moved i w)) [] g
   loaded_by v u x o d es n g = g

@@ -1,7 +1,7 @@
 -- A step changes what is shared at its spot alone.
 --
--- An action on a word leaves the other words and all gates and bases; one on a gate leaves all words, the other gates and their bases. The note of an ended
--- transaction and what follows the action change nothing of these.
+-- An action on a word leaves the other words and all gates and bases; one on a gate leaves all words, the other gates and their bases.
+-- The note of an ended transaction and what follows the action change nothing of these.
 use Rattle.std.proofs.Common.{◌≡◌, ◌≢◌, ℕ, Bool, ◌&&◌, List, [], ◌∷◌, Option, Some, None, refl, sym, ap, ◌∙◌, subst, eqb-true}
 use Rattle.std.specs.Prelude.{if◌then◌else◌, not, ◌==◌}
 use Rattle.std.proofs.lemmas.Bool.{cond_both}
@@ -53,10 +53,12 @@ other_gate f k o j ne = put-other f k o j (λ q. ne (ap Gate (sym q)))
 
 module _ {V : Type 0} (a : ℕ) where
   calm_keeps : (spot : Spot) (v u : World V) → OnlyOwn a v u → Keeps spot v u
-  calm_keeps spot v u g = record { cells = λ c ne. g.cells c; gates = λ k ne. g.gates k; parts = λ l ne. g.parts l; editions = λ l ne. g.editions l }
+  calm_keeps spot v u g = record { cells = λ c ne. g.cells c; gates = λ k ne. g.gates k; parts = λ l ne. g.parts l;
+      editions = λ l ne. g.editions l }
 
   then_calm : (spot : Spot) (v u t : World V) → Keeps spot v u → OnlyOwn a u t → Keeps spot v t
-  then_calm spot v u t g h = record { cells = λ c ne. h.cells c ∙ g.cells c ne; gates = λ k ne. h.gates k ∙ g.gates k ne; parts = λ l ne. h.parts l ∙ g.parts l ne; editions = λ l ne. h.editions l ∙ g.editions l ne }
+  then_calm spot v u t g h = record { cells = λ c ne. h.cells c ∙ g.cells c ne; gates = λ k ne. h.gates k ∙ g.gates k ne;
+      parts = λ l ne. h.parts l ∙ g.parts l ne; editions = λ l ne. h.editions l ∙ g.editions l ne }
 
   pub after_calm : (spot : Spot) (v u t : World V) → OnlyOwn a v u → Keeps spot u t → Keeps spot v t
   after_calm spot v u t g h = record {
@@ -70,8 +72,10 @@ module _ {V : Type 0} (a : ℕ) where
   word_keeps v =
       let s = v.boosted in
       let x : Actor = actor_of v a in
-      let t : Boosted (Shown V) (Answered V) = record s { words = step s.words a x x.place; shadows = shadows_after s a x.place } in record {
-        cells = λ c ne. ap (λ w. cell w c) (words_kept t (s.shadows a).outcomes (outcome a x x.place)) ∙ step_cell s.words a x x.place c (λ e. ne (ap spot_of e));
+      let t : Boosted (Shown V)
+          (Answered V) = record s { words = step s.words a x x.place; shadows = shadows_after s a x.place } in record {
+        cells = λ c ne. ap (λ w. cell w c) (words_kept t (s.shadows a).outcomes (outcome a x x.place)) ∙ step_cell s.words a x x.place c
+            (λ e. ne (ap spot_of e));
         gates = λ k ne. ap (λ (f : ℕ → Option ℕ). f k) (gates_kept t (s.shadows a).outcomes (outcome a x x.place));
         parts = λ l ne. ap (λ (f : ℕ → Shown V). f l) (parts_kept t (s.shadows a).outcomes (outcome a x x.place));
         editions = λ l ne. ap (λ (f : ℕ → ℕ). f l) (editions_kept t (s.shadows a).outcomes (outcome a x x.place));
@@ -89,8 +93,10 @@ module _ {V : Type 0} (a : ℕ) where
   take_keeps : (v : World V) (k : ℕ) → Keeps (Gate k) v (acted v (TakeGate a k ∷ []))
   take_keeps v k =
       let s = v.boosted in
-      cond_both {A = Boosted (Shown V) (Answered V)} (is_none (s.gates k) && not (is_committing (s.words.actors a).place)) (gated s (put s.gates k (Some a)) s.shadows) s (λ t. Keeps (Gate k) v (record v { boosted = t }))
-      (λ _. record { cells = λ c ne. refl; gates = λ j ne. other_gate s.gates k (Some a) j ne; parts = λ l ne. refl; editions = λ l ne. refl })
+      cond_both {A = Boosted (Shown V) (Answered V)} (is_none (s.gates k) && not (is_committing (s.words.actors a).place))
+          (gated s (put s.gates k (Some a)) s.shadows) s (λ t. Keeps (Gate k) v (record v { boosted = t }))
+      (λ _. record { cells = λ c ne. refl; gates = λ j ne. other_gate s.gates k (Some a) j ne; parts = λ l ne. refl;
+          editions = λ l ne. refl })
       (λ _. calm_keeps (Gate k) v v (nothing a v))
 
   put_keeps : (v : World V) (k : ℕ) (which : ℕ → Bool) → Keeps (Gate k) v (acted v (PutGate a k which ∷ []))
@@ -98,7 +104,9 @@ module _ {V : Type 0} (a : ℕ) where
       let s = v.boosted in
       let c = content {V = V} v.words v.blocks in
       cond_both {A = Boosted (Shown V) (Answered V)} (is_actor a (s.gates k) && not (is_committing (s.words.actors a).place))
-      (gated s (put s.gates k None) (if is_open (s.words.actors a).place then put s.shadows a (copied c s (s.words.actors a).calls (s.shadows a) k which) else s.shadows)) s (λ t. Keeps (Gate k) v (record v { boosted = t }))
+      (gated s (put s.gates k None)
+          (if is_open (s.words.actors a).place then put s.shadows a
+          (copied c s (s.words.actors a).calls (s.shadows a) k which) else s.shadows)) s (λ t. Keeps (Gate k) v (record v { boosted = t }))
       (λ _. record { cells = λ c ne. refl; gates = λ j ne. other_gate s.gates k None j ne; parts = λ l ne. refl; editions = λ l ne. refl })
       (λ _. calm_keeps (Gate k) v v (nothing a v))
 
@@ -106,12 +114,15 @@ module _ {V : Type 0} (a : ℕ) where
   home_keeps v k =
       let s = v.boosted in
       let c = content {V = V} v.words v.blocks in
-      cond_both {A = Boosted (Shown V) (Answered V)} (is_actor a (s.gates k) && is_stored (s.words.actors a).place) (homed c s a k) s (λ t. Keeps (Gate k) v (record v { boosted = t }))
+      cond_both {A = Boosted (Shown V) (Answered V)} (is_actor a (s.gates k) && is_stored (s.words.actors a).place) (homed c s a k) s
+          (λ t. Keeps (Gate k) v (record v { boosted = t }))
       (λ _. record {
         cells = λ c ne. refl;
         gates = λ j ne. other_gate s.gates k None j ne;
-        parts = λ l ne. cond_both {A = Shown V} (home_of v.words v.blocks l == k) _ (s.parts l) (λ z. z ≡ s.parts l) (λ e. absurd (ne (ap Gate (sym (eqb-true (home_of v.words v.blocks l) k e))))) (λ _. refl);
-        editions = λ l ne. cond_both {A = ℕ} (home_of v.words v.blocks l == k) _ (s.editions l) (λ z. z ≡ s.editions l) (λ e. absurd (ne (ap Gate (sym (eqb-true (home_of v.words v.blocks l) k e))))) (λ _. refl);
+        parts = λ l ne. cond_both {A = Shown V} (home_of v.words v.blocks l == k) _ (s.parts l) (λ z. z ≡ s.parts l)
+            (λ e. absurd (ne (ap Gate (sym (eqb-true (home_of v.words v.blocks l) k e))))) (λ _. refl);
+        editions = λ l ne. cond_both {A = ℕ} (home_of v.words v.blocks l == k) _ (s.editions l) (λ z. z ≡ s.editions l)
+            (λ e. absurd (ne (ap Gate (sym (eqb-true (home_of v.words v.blocks l) k e))))) (λ _. refl);
       })
       (λ _. calm_keeps (Gate k) v v (nothing a v))
 
@@ -119,7 +130,8 @@ module _ {V : Type 0} (a : ℕ) where
   action_keeps v (OnWords (Ask b q)) h = absurd h
   action_keeps v (OnWords (Step b)) h = subst (λ (z : ℕ). Keeps (word_spot v a) v (acted v (moves z ∷ []))) (sym h) (word_keeps v)
   action_keeps v (TakeGate b k) h = subst (λ (z : ℕ). Keeps (Gate k) v (acted v (TakeGate z k ∷ []))) (sym h) (take_keeps v k)
-  action_keeps v (PutGate b k which) h = subst (λ (z : ℕ). Keeps (Gate k) v (acted v (PutGate z k which ∷ []))) (sym h) (put_keeps v k which)
+  action_keeps v (PutGate b k which) h = subst (λ (z : ℕ). Keeps (Gate k) v (acted v (PutGate z k which ∷ []))) (sym h)
+      (put_keeps v k which)
   action_keeps v (Accept b q) h = absurd h
   action_keeps v (GoHome b k) h = subst (λ (z : ℕ). Keeps (Gate k) v (acted v (GoHome z k ∷ []))) (sym h) (home_keeps v k)
 

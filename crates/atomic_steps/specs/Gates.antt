@@ -30,7 +30,8 @@ module _ {V : Type 0} where
   -- the base of k has gone home with the changes of a's transaction, the edition of each written location one higher, and the gate is free
   pub record Homed (a k : ℕ) (v u : World V) : Type 0 where
     pub gate : u.boosted.gates k ≡ None
-    pub parts : (l : ℕ) → home_of v.words v.blocks l ≡ k → u.boosted.parts l ≡ changes (content v.words v.blocks) (v.boosted.shadows a).outcomes v.boosted.parts l
+    pub parts : (l : ℕ) → home_of v.words v.blocks l ≡ k → u.boosted.parts l ≡ changes (content v.words v.blocks)
+        (v.boosted.shadows a).outcomes v.boosted.parts l
     pub editions : (l : ℕ) → home_of v.words v.blocks l ≡ k
         → u.boosted.editions l ≡ (if is_none (lookup (actor_of v a).writes l) then v.boosted.editions l else v.boosted.editions l + 1)
     pub grows : Grows a v u

@@ -1,5 +1,5 @@
--- The word or gate that a step touches, and an actor alone with what it finds there: a world in which that word, or that gate with its base, is as
--- another world has it.
+-- The word or gate that a step touches, and an actor alone with what it finds there: a world in which that word, or that gate with its
+-- base, is as another world has it.
 use Rattle.std.specs.Prelude.{ℕ, suc, Option, Some, None, ◌==◌, if◌then◌else◌}
 use Rattle.vlock_word.specs.LockWord.{unbits}
 use Rattle.word_machine.specs.World as machine

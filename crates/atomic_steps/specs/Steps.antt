@@ -48,7 +48,8 @@ module _ {V : Type 0} where
   ready_at a v (Ready ks) = acted v (asks a word.AskStore ∷ [])
   ready_at a v stage = v
 
-  -- w, with the transaction that the action ends: the first value store and the clock's load of a reader commit, the last load of an aborted one ends it
+  -- w, with the transaction that the action ends: the first value store and the clock's load of a reader commit, the last load of an
+  -- aborted one ends it
   abbrev pub ended_at : ℕ → Seat V → Stage V → World V → World V
   ended_at a x (Ready ks) w = recorded w a x true x.wv
   ended_at a x Closing w = recorded w a x false x.rv
