@@ -43,7 +43,7 @@ pub found_own : (a n : ℕ) (o : Option ℕ) → is_actor a (found_gate a n o) �
 found_own a n o = cond_both {A = Option ℕ} (is_actor a o) o (if n == 0 then None else Some (suc a)) (λ z. is_actor a z ≡ is_actor a o)
     (λ _. refl)
     (λ f. cond_both {A = Option ℕ} (n == 0) None (Some (suc a)) (λ z. is_actor a z ≡ is_actor a o) (λ _. sym f)
-        (λ _. ne_eqb a (suc a) (λ q. absurd (omega (arith, q))) ∙ sym f))
+    (λ _. ne_eqb a (suc a) (λ q. absurd (omega (arith, q))) ∙ sym f))
 
 -- and free only if it was, in the world where it was found
 pub found_free : (a : ℕ) (o p : Option ℕ) → is_actor a p ≡ is_actor a o → is_none p ≡ is_none (found_gate a (gate_word p) o)
@@ -67,8 +67,13 @@ module _ {V : Type 0} (a : ℕ) where
     words = e.words;
     blocks = e.blocks;
     seat = e.seat;
-    boosted = record { actor = e.boosted.actor ∙ sym (same_actors w.boosted.words c n a); shadow = e.boosted.shadow;
-        gates = e.boosted.gates; opening = e.boosted.opening; first = e.boosted.first };
+    boosted = record {
+      actor = e.boosted.actor ∙ sym (same_actors w.boosted.words c n a);
+      shadow = e.boosted.shadow;
+      gates = e.boosted.gates;
+      opening = e.boosted.opening;
+      first = e.boosted.first;
+    };
   }
   planted_alike v w (Gate k) n parts editions e = record {
     words = e.words;
@@ -79,8 +84,8 @@ module _ {V : Type 0} (a : ℕ) where
       shadow = e.boosted.shadow;
       gates = λ j. e.boosted.gates j ∙ sym (⊎_elim
           (λ (q : j ≡ k). ap (λ (z : ℕ). is_actor a (put w.boosted.gates k (found_gate a n (w.boosted.gates k)) z)) q
-              ∙ (ap (is_actor a) (put-same w.boosted.gates k _)
-              ∙ (found_own a n (w.boosted.gates k) ∙ ap (λ (z : ℕ). is_actor a (w.boosted.gates z)) (sym q))))
+          ∙ (ap (is_actor a) (put-same w.boosted.gates k _)
+          ∙ (found_own a n (w.boosted.gates k) ∙ ap (λ (z : ℕ). is_actor a (w.boosted.gates z)) (sym q))))
           (λ (ne : j ≡ k → ⊥). ap (is_actor a) (put-other w.boosted.gates k _ j ne))
           (cases_eq j k));
       opening = e.boosted.opening;
@@ -106,16 +111,18 @@ module _ {V : Type 0} (a : ℕ) where
 
   base_found : (v w : World V) (k : ℕ) → Alike a v w → (l : ℕ) → (home_of v.words v.blocks l == k) ≡ true
       → let t = planted a w (Gate k) (number_at v (Gate k)) v.boosted.parts v.boosted.editions in (v.boosted.parts l ≡ t.boosted.parts l)
-          × (v.boosted.editions l ≡ t.boosted.editions l)
+      × (v.boosted.editions l ≡ t.boosted.editions l)
   base_found v w k e l h =
-      let b : (home_of w.words w.blocks l == k) ≡ true = subst (λ (z : ℕ). (z == k) ≡ true) (λ i. home_of (e.words i) (e.blocks i) l) h in
-      (sym (cond-true {A = Shown V} (home_of w.words w.blocks l == k) (v.boosted.parts l) (w.boosted.parts l) b), sym
-          (cond-true {A = ℕ} (home_of w.words w.blocks l == k) (v.boosted.editions l) (w.boosted.editions l) b))
+      let b : (home_of w.words w.blocks l == k) ≡ true = subst (λ (z : ℕ). (z == k) ≡ true) (λ i. home_of (e.words i) (e.blocks i) l) h in (
+        sym (cond-true {A = Shown V} (home_of w.words w.blocks l == k) (v.boosted.parts l) (w.boosted.parts l) b),
+        sym
+            (cond-true {A = ℕ} (home_of w.words w.blocks l == k) (v.boosted.editions l) (w.boosted.editions l) b),
+      )
 
   reads_found : (v w : World V) (k : ℕ) → HaveStripes v.blocks → Alike a v w → (o : Outcomes V) → o.asked.collection ≡ k
       → let t = planted a w (Gate k) (number_at v (Gate k)) v.boosted.parts v.boosted.editions in
       let reads = (content {V = V} v.words v.blocks).reads o in with_editions v.boosted.editions reads
-          ≡ with_editions t.boosted.editions reads
+      ≡ with_editions t.boosted.editions reads
   reads_found v w k stripes e o at =
       read_editions _ _ ((content {V = V} v.words v.blocks).reads o)
       (λ l m.
@@ -131,7 +138,7 @@ module _ {V : Type 0} (a : ℕ) where
       let spot : Spot = word_spot (ready v) a in
       let t : World V = planted a w spot (number_at v spot) v.boosted.parts v.boosted.editions in
       (ask_calm a v word.AskStore).cells c
-          ∙ (word_found v w (word_of (deed_of (ready v) a)) c touches ∙ sym ((ask_calm a t word.AskStore).cells c))
+      ∙ (word_found v w (word_of (deed_of (ready v) a)) c touches ∙ sym ((ask_calm a t word.AskStore).cells c))
 
   finds_by : (v w u : World V) (x : Seat V) (p : Stage V) (d : Option (Action (Asked V))) → Does a v x p d u → Alike a v w
       → FindsBy a v (planted a w (spot_by a v d) (number_at v (spot_by a v d)) v.boosted.parts v.boosted.editions) d
@@ -146,9 +153,11 @@ module _ {V : Type 0} (a : ℕ) where
   finds : (v w u : World V) (x : Seat V) (p : Stage V) → HaveStripes v.blocks → Does a (ready_at a v p) x p (atomic_action a v p) u
       → Alike a v w
       → FindsAt a v (planted a w (spot_at a v p) (number_at v (spot_at a v p)) v.boosted.parts v.boosted.editions) p
-  finds v w u x (Copying q) stripes g e =
-      (finds_by v w u x (Copying q) (atomic_action a v (Copying q)) g e, λ o at. reads_found v w q.collection stripes e o
-          (ap (λ (z : Asked V). z.collection) at))
+  finds v w u x (Copying q) stripes g e = (
+    finds_by v w u x (Copying q) (atomic_action a v (Copying q)) g e,
+    λ o at. reads_found v w q.collection stripes e o
+        (ap (λ (z : Asked V). z.collection) at),
+  )
   finds v w u x (Ready ks) stripes g e = (refl, ready_found v w e)
   finds v w u x p stripes g e = finds_by v w u x p (atomic_action a v p) g e
 

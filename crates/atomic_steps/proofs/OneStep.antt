@@ -65,9 +65,22 @@ module _ (a : ℕ) where
 
 module _ {V : Type 0} (a : ℕ) where
   pub nothing : (v : World V) → OnlyOwn a v v
-  nothing v = record { words = refl; blocks = refl; cells = λ c. refl; gates = λ k. refl; parts = λ l. refl; editions = λ l. refl;
-      opening = refl; first = refl; actors = λ b ne. refl; shadows = λ b ne. refl; seats = λ b ne. refl; records = refl; aborted = refl;
-      left = le_refl _ }
+  nothing v = record {
+    words = refl;
+    blocks = refl;
+    cells = λ c. refl;
+    gates = λ k. refl;
+    parts = λ l. refl;
+    editions = λ l. refl;
+    opening = refl;
+    first = refl;
+    actors = λ b ne. refl;
+    shadows = λ b ne. refl;
+    seats = λ b ne. refl;
+    records = refl;
+    aborted = refl;
+    left = le_refl _;
+  }
 
   pub through : (v u t : World V) → OnlyOwn a v u → OnlyOwn a u t → OnlyOwn a v t
   through v u t g h = record {
@@ -88,17 +101,32 @@ module _ {V : Type 0} (a : ℕ) where
   }
 
   seated_calm : (v : World V) (x : Seat V) → OnlyOwn a v (seated v a x)
-  seated_calm v x = record { words = refl; blocks = refl; cells = λ c. refl; gates = λ k. refl; parts = λ l. refl; editions = λ l. refl;
-      opening = refl; first = refl; actors = λ b ne. refl; shadows = λ b ne. refl; seats = λ b ne. put-other v.seats a x b ne;
-      records = refl; aborted = refl; left = le_refl _ }
+  seated_calm v x = record {
+    words = refl;
+    blocks = refl;
+    cells = λ c. refl;
+    gates = λ k. refl;
+    parts = λ l. refl;
+    editions = λ l. refl;
+    opening = refl;
+    first = refl;
+    actors = λ b ne. refl;
+    shadows = λ b ne. refl;
+    seats = λ b ne. put-other v.seats a x b ne;
+    records = refl;
+    aborted = refl;
+    left = le_refl _;
+  }
 
   -- the boosted part alone
   boosted_calm : World V → Boosted (Shown V) (Outcomes V) → World V
   boosted_calm v s = record v { boosted = s }
 
   asked_calm : (v : World V) (q : word.Request)
-      → OnlyOwn a v (record v { boosted = on_words v.boosted
-      (machine.now v.boosted.words a (word.ask (v.boosted.words.actors a) (v.boosted.words.actors a).place q)) })
+      → OnlyOwn a v (record v {
+        boosted = on_words v.boosted
+            (machine.now v.boosted.words a (word.ask (v.boosted.words.actors a) (v.boosted.words.actors a).place q));
+      })
   asked_calm v q = record {
     words = refl;
     blocks = refl;
@@ -141,12 +169,14 @@ module _ {V : Type 0} (a : ℕ) where
       let c : Content (Shown V) (Asked V) (Outcomes V) = content v.words v.blocks in
       let b = v.boosted in
       let t : Boosted (Shown V)
-          (Outcomes V) = record b { words = machine.run (writes_asked a (b.shadows a).editions (c.writes o)) b.words;
-          shadows = machine.put b.shadows a (longer (b.shadows a) o) } in
+      (Outcomes V) = record b {
+        words = machine.run (writes_asked a (b.shadows a).editions (c.writes o)) b.words;
+        shadows = machine.put b.shadows a (longer (b.shadows a) o);
+      } in
       cond_both {A = Boosted (Shown V) (Outcomes V)}
-          (is_open (b.words.actors a).place &&
-          (may_write (b.words.actors a).declared (c.writes o) && every (is_sound c b a) (c.reads o))) t b
-          (λ z. OnlyOwn a v (record v { boosted = z }))
+      (is_open (b.words.actors a).place &&
+      (may_write (b.words.actors a).declared (c.writes o) && every (is_sound c b a) (c.reads o))) t b
+      (λ z. OnlyOwn a v (record v { boosted = z }))
       (λ _. record {
         words = refl;
         blocks = refl;
@@ -213,7 +243,7 @@ module _ {V : Type 0} (a : ℕ) where
   calls_on_by v u x asked g =
       let editions = (u.boosted.shadows a).editions in
       cond_both {A = After V} (x.copied asked.collection (piece_at u.blocks asked)) (answers u a x x (outcome_at u a asked) editions) _
-          (λ z. OnlyOwn a v z.0)
+      (λ z. OnlyOwn a v z.0)
       (λ _. answers_by v u x x (outcome_at u a asked) editions g) (λ _. seated_by v u _ g)
 
   if_allowed_by : (v u : World V) (x : Seat V) (known room : Bool) (next : After V) → OnlyOwn a v u → OnlyOwn a v next.0
@@ -221,7 +251,7 @@ module _ {V : Type 0} (a : ℕ) where
   if_allowed_by v u x known room next g h =
       cond_both {A = After V} known _ (u, Refused a refusal.NoSuch) (λ z. OnlyOwn a v z.0)
       (λ _. cond_both {A = After V} (ltb (length x.calls) CALL_LIMIT && room) next (u, Refused a refusal.TooLong) (λ z. OnlyOwn a v z.0)
-          (λ _. h) (λ _. g))
+      (λ _. h) (λ _. g))
       (λ _. g)
 
   ask_op_by : (v : World V) (x : Seat V) (t : ℕ) (op : Op V) → OnlyOwn a v (ask_op v a x t op).0
@@ -259,10 +289,10 @@ module _ {V : Type 0} (a : ℕ) where
       → OnlyOwn a v u → OnlyOwn a v (has_tried u a x free k got again next tries).0
   tried_by v u x free k got again next zero g =
       cond_both {A = After V} free (seated u a (at_stage x next), Quiet) _ (λ z. OnlyOwn a v z.0) (λ _. seated_by v u _ g)
-          (λ _. gives_up_by v u (because x (refusal.GateBusy k)) got g)
+      (λ _. gives_up_by v u (because x (refusal.GateBusy k)) got g)
   tried_by v u x free k got again next (suc n) g =
       cond_both {A = After V} free (seated u a (at_stage x next), Quiet) _ (λ z. OnlyOwn a v z.0) (λ _. seated_by v u _ g)
-          (λ _. seated_by v u _ g)
+      (λ _. seated_by v u _ g)
 
   loaded_by : (v u : World V) (x : Seat V) (o : Outcomes V) (d : ℕ × ℕ) (es : Entries) (n : told.Notice) → OnlyOwn a v u
       → OnlyOwn a v (has_loaded u a x o d es n).0

@@ -41,7 +41,7 @@ gate_put : (b k : ℕ) (f : ℕ → Option ℕ) (o : Option ℕ) → is_actor b 
     ≡ is_actor b (put f k o j)
 gate_put b k f o e j = ⊎_elim
     (λ (q : j ≡ k). ap (λ (z : ℕ). is_actor b (f z)) q
-        ∙ (e ∙ (sym (ap (is_actor b) (put-same f k o)) ∙ sym (ap (λ (z : ℕ). is_actor b (put f k o z)) q))))
+    ∙ (e ∙ (sym (ap (is_actor b) (put-same f k o)) ∙ sym (ap (λ (z : ℕ). is_actor b (put f k o z)) q))))
     (λ (ne : j ≡ k → ⊥). sym (ap (is_actor b) (put-other f k o j ne)))
     (cases_eq j k)
 
@@ -56,17 +56,27 @@ module _ {X Out : Type 0} (a b : ℕ) (ne : b ≢ a) where
 
   recorded_stands : (s t : Boosted X Out) (os : List Out) (o : Outcome) → AlikeBelow b s t → AlikeBelow b s (recorded t os o)
   recorded_stands s t os GoesOn e = e
-  recorded_stands s t os (Commits r) e = record { actor = e.actor; shadow = e.shadow; gates = e.gates; opening = e.opening;
-      first = e.first }
+  recorded_stands s t os (Commits r) e = record {
+    actor = e.actor;
+    shadow = e.shadow;
+    gates = e.gates;
+    opening = e.opening;
+    first = e.first;
+  }
   recorded_stands s t os (Aborts r) e = record { actor = e.actor; shadow = e.shadow; gates = e.gates; opening = e.opening; first = e.first }
 
   step_stands : (s : Boosted X Out) → AlikeBelow b s (word_step s a (s.words.actors a) (s.words.actors a).place)
   step_stands s =
       let x : Actor = s.words.actors a in
       recorded_stands s (record s { words = step s.words a x x.place; shadows = shadows_after s a x.place }) (s.shadows a).outcomes
-          (outcome a x x.place)
-      (record { actor = sym (step_other s.words a b ne); shadow = shadow_stands s x.place; gates = λ k. refl; opening = refl;
-          first = refl })
+      (outcome a x x.place)
+      (record {
+        actor = sym (step_other s.words a b ne);
+        shadow = shadow_stands s x.place;
+        gates = λ k. refl;
+        opening = refl;
+        first = refl;
+      })
 
 module _ {V : Type 0} (a b : ℕ) (ne : b ≢ a) where
   pub calm_alike : (v u : World V) → OnlyOwn a v u → Alike b v u
@@ -74,8 +84,13 @@ module _ {V : Type 0} (a b : ℕ) (ne : b ≢ a) where
     words = sym h.words;
     blocks = sym h.blocks;
     seat = sym (h.seats b ne);
-    boosted = record { actor = sym (h.actors b ne); shadow = sym (h.shadows b ne); gates = λ k. ap (is_actor b) (sym (h.gates k));
-        opening = sym h.opening; first = sym h.first };
+    boosted = record {
+      actor = sym (h.actors b ne);
+      shadow = sym (h.shadows b ne);
+      gates = λ k. ap (is_actor b) (sym (h.gates k));
+      opening = sym h.opening;
+      first = sym h.first;
+    };
   }
 
   pub then_alike : (v u t : World V) → Alike b v u → Alike b u t → Alike b v t
@@ -100,9 +115,15 @@ module _ {V : Type 0} (a b : ℕ) (ne : b ≢ a) where
   take_stands v k =
       let s : Boosted (Shown V) (Answered V) = v.boosted in
       cond_both {A = Boosted (Shown V) (Answered V)} (is_none (s.gates k) && not (is_committing (s.words.actors a).place))
-          (gated s (put s.gates k (Some a)) s.shadows) s (λ t. Alike b v (record v { boosted = t }))
-      (λ e. with_boosted v _ (record { actor = refl; shadow = refl; gates = gate_put b k s.gates (Some a)
-          (not_held a b (s.gates k) (and_first _ _ e) ne); opening = refl; first = refl }))
+      (gated s (put s.gates k (Some a)) s.shadows) s (λ t. Alike b v (record v { boosted = t }))
+      (λ e. with_boosted v _ (record {
+        actor = refl;
+        shadow = refl;
+        gates = gate_put b k s.gates (Some a)
+            (not_held a b (s.gates k) (and_first _ _ e) ne);
+        opening = refl;
+        first = refl;
+      }))
       (λ _. with_boosted v s (stays a b ne s))
 
   put_stands : (v : World V) (k : ℕ) (which : ℕ → Bool) → Alike b v (acted v (PutGate a k which ∷ []))
@@ -110,23 +131,35 @@ module _ {V : Type 0} (a b : ℕ) (ne : b ≢ a) where
       let s : Boosted (Shown V) (Answered V) = v.boosted in
       let c = content {V = V} v.words v.blocks in
       let f : ℕ → Shadow (Shown V) (Answered V) = if is_open (s.words.actors a).place then put s.shadows a
-          (copied c s (s.words.actors a).calls (s.shadows a) k which) else s.shadows in
+      (copied c s (s.words.actors a).calls (s.shadows a) k which) else s.shadows in
       let same : s.shadows b ≡ f b = cond_both {A = ℕ → Shadow (Shown V) (Answered V)} (is_open (s.words.actors a).place)
-          (put s.shadows a (copied c s (s.words.actors a).calls (s.shadows a) k which)) s.shadows (λ g. s.shadows b ≡ g b)
-          (λ _. sym (put-other s.shadows a _ b ne)) (λ _. refl) in
+      (put s.shadows a (copied c s (s.words.actors a).calls (s.shadows a) k which)) s.shadows (λ g. s.shadows b ≡ g b)
+      (λ _. sym (put-other s.shadows a _ b ne)) (λ _. refl) in
       cond_both {A = Boosted (Shown V) (Answered V)} (is_actor a (s.gates k) && not (is_committing (s.words.actors a).place))
-          (gated s (put s.gates k None) f) s (λ t. Alike b v (record v { boosted = t }))
-      (λ e. with_boosted v _ (record { actor = refl; shadow = same; gates = gate_put b k s.gates None
-          (given_back a b (s.gates k) (and_first _ _ e) ne); opening = refl; first = refl }))
+      (gated s (put s.gates k None) f) s (λ t. Alike b v (record v { boosted = t }))
+      (λ e. with_boosted v _ (record {
+        actor = refl;
+        shadow = same;
+        gates = gate_put b k s.gates None
+            (given_back a b (s.gates k) (and_first _ _ e) ne);
+        opening = refl;
+        first = refl;
+      }))
       (λ _. with_boosted v s (stays a b ne s))
 
   home_stands : (v : World V) (k : ℕ) → Alike b v (acted v (GoHome a k ∷ []))
   home_stands v k =
       let s : Boosted (Shown V) (Answered V) = v.boosted in
       cond_both {A = Boosted (Shown V) (Answered V)} (is_actor a (s.gates k) && is_stored (s.words.actors a).place)
-          (homed (content {V = V} v.words v.blocks) s a k) s (λ t. Alike b v (record v { boosted = t }))
-      (λ e. with_boosted v _ (record { actor = refl; shadow = refl; gates = gate_put b k s.gates None
-          (given_back a b (s.gates k) (and_first _ _ e) ne); opening = refl; first = refl }))
+      (homed (content {V = V} v.words v.blocks) s a k) s (λ t. Alike b v (record v { boosted = t }))
+      (λ e. with_boosted v _ (record {
+        actor = refl;
+        shadow = refl;
+        gates = gate_put b k s.gates None
+            (given_back a b (s.gates k) (and_first _ _ e) ne);
+        opening = refl;
+        first = refl;
+      }))
       (λ _. with_boosted v s (stays a b ne s))
 
   atomic_stands : (v : World V) (d : Action (Asked V)) → IsAtomic a d → Alike b v (acted v (d ∷ []))
@@ -159,5 +192,5 @@ others v (Ask a q) b ne = calm_alike a b ne v _ (one_step v (Ask a q))
 others v (Step a) b ne =
     let p = (v.seats a).stage in
     then_alike a b ne v (ready_at a v p) (happens v (Step a)).0 (ready_stands a b ne v p)
-        (action_stands a b ne (ready_at a v p) (happens v (Step a)).0 (v.seats a) p (atomic_action a v p) (one_step v (Step a)))
+    (action_stands a b ne (ready_at a v p) (happens v (Step a)).0 (v.seats a) p (atomic_action a v p) (one_step v (Step a)))
 others v (Starve a) b ne = calm_alike a b ne v _ (one_step v (Starve a))

@@ -35,7 +35,7 @@ every_same f g (l ∷ ls) e = λ i. e l i && every_same f g ls e i
 module _ {X Op Out : Type 0} (c : Content X Op Out) (a : ℕ) where
   asked_alike : (s t : Boosted X Out) (q : Request) → AlikeBelow a s t
       → AlikeBelow a (on_words s (now s.words a (ask (s.words.actors a) (s.words.actors a).place q)))
-          (on_words t (now t.words a (ask (t.words.actors a) (t.words.actors a).place q)))
+      (on_words t (now t.words a (ask (t.words.actors a) (t.words.actors a).place q)))
   asked_alike s t q e = record {
     actor = put-same s.words.actors a _ ∙ (ap (λ (x : Actor). ask x x.place q) e.actor ∙ sym (put-same t.words.actors a _));
     shadow = e.shadow;
@@ -49,12 +49,12 @@ module _ {X Op Out : Type 0} (c : Content X Op Out) (a : ℕ) where
   ask_alike s t AskStore e =
       agree (AlikeBelow a) _ _ _ s _ t
       (ap (λ (x : Actor). every (is_held c s a) (locations x.writes)) e.actor ∙ every_same (is_held c s a) (is_held c t a)
-          (locations (t.words.actors a).writes) (λ l. ap (λ (b : Bool). c.plain l || b) (e.gates (c.home l))))
+      (locations (t.words.actors a).writes) (λ l. ap (λ (b : Bool). c.plain l || b) (e.gates (c.home l))))
       (asked_alike s t AskStore e) e
   ask_alike s t AskRelease e =
       agree (AlikeBelow a) _ _ _ s _ t
       (ap (λ (x : Actor). every (is_given c s a) (locations x.writes)) e.actor ∙ every_same (is_given c s a) (is_given c t a)
-          (locations (t.words.actors a).writes) (λ l. ap (λ (b : Bool). c.plain l || not b) (e.gates (c.home l))))
+      (locations (t.words.actors a).writes) (λ l. ap (λ (b : Bool). c.plain l || not b) (e.gates (c.home l))))
       (asked_alike s t AskRelease e) e
   ask_alike s t AskBegin e = asked_alike s t AskBegin e
   ask_alike s t AskBeginRead e = asked_alike s t AskBeginRead e
@@ -89,17 +89,17 @@ module _ {X Op Out : Type 0} (c : Content X Op Out) (a : ℕ) where
   word_alike s t x e f same = ⊎_elim
       (λ (r : plan x x.place ≡ Rests). rests_keep s x x.place r ∙ (e ∙ sym f) ∙ sym (rests_keep t x x.place r))
       (λ (k : (k : Cell) × (word_of (plan x x.place) ≡ Some k)). step_learns s a x x.place k.0 k.1
-          ∙ ((λ i. learns (plan x x.place) ((e ∙ sym f) i) (same k.0 k.1 i)) ∙ sym (step_learns t a x x.place k.0 k.1)))
+      ∙ ((λ i. learns (plan x x.place) ((e ∙ sym f) i) (same k.0 k.1 i)) ∙ sym (step_learns t a x x.place k.0 k.1)))
       (touched (plan x x.place))
 
   shadow_alike : (s t : Boosted X Out) (p : Place) → AlikeBelow a s t → (p ≡ Begin → s.words.clock ≡ t.words.clock)
       → shadows_after s a p a ≡ shadows_after t a p a
   shadow_alike s t Begin e clock =
       agree (λ (f : ℕ → Shadow X Out) (g : ℕ → Shadow X Out). f a ≡ g a) _ _ _ s.shadows _ t.shadows
-          (ap (λ (n : ℕ). ltb n clock_limit) (clock refl))
+      (ap (λ (n : ℕ). ltb n clock_limit) (clock refl))
       (put-same s.shadows a (fresh s)
-          ∙ ((λ i. record { copied = λ l. false; parts = e.opening i; editions = e.first i; outcomes = [] })
-          ∙ sym (put-same t.shadows a (fresh t)))) e.shadow
+      ∙ ((λ i. record { copied = λ l. false; parts = e.opening i; editions = e.first i; outcomes = [] })
+      ∙ sym (put-same t.shadows a (fresh t)))) e.shadow
   shadow_alike s t p e clock = e.shadow
 
   recorded_alike : (s t : Boosted X Out) (os ps : List Out) (o q : Outcome) → AlikeBelow a s t → AlikeBelow a (recorded s os o)
@@ -158,8 +158,8 @@ module _ {X Op Out : Type 0} (c : Content X Op Out) (a : ℕ) where
       → is_actor a (put f k o j) ≡ is_actor a (put g k o j)
   gate_put f g k o e j = ⊎_elim
       (λ (q : j ≡ k). ap (λ (z : ℕ). is_actor a (put f k o z)) q
-          ∙ (ap (is_actor a) (put-same f k o)
-          ∙ (sym (ap (is_actor a) (put-same g k o)) ∙ sym (ap (λ (z : ℕ). is_actor a (put g k o z)) q))))
+      ∙ (ap (is_actor a) (put-same f k o)
+      ∙ (sym (ap (is_actor a) (put-same g k o)) ∙ sym (ap (λ (z : ℕ). is_actor a (put g k o z)) q))))
       (λ (ne : j ≡ k → ⊥). ap (is_actor a) (put-other f k o j ne) ∙ (e j ∙ sym (ap (is_actor a) (put-other g k o j ne))))
       (cases_eq j k)
 
@@ -167,8 +167,13 @@ module _ {X Op Out : Type 0} (c : Content X Op Out) (a : ℕ) where
       → AlikeBelow a (take_gate c s a k) (take_gate c t a k)
   take_alike s t k e free =
       agree (AlikeBelow a) _ _ _ s _ t (λ i. free i && not (is_committing (e.actor i).place))
-      (record { actor = e.actor; shadow = e.shadow; gates = gate_put s.gates t.gates k (Some a) e.gates; opening = e.opening;
-          first = e.first }) e
+      (record {
+        actor = e.actor;
+        shadow = e.shadow;
+        gates = gate_put s.gates t.gates k (Some a) e.gates;
+        opening = e.opening;
+        first = e.first;
+      }) e
 
   copied_alike : (s t : Boosted X Out) (calls : List Call) (w : Shadow X Out) (k : ℕ) (which : ℕ → Bool) → SameBase c k s t
       → copied c s calls w k which ≡ copied c t calls w k which
@@ -207,10 +212,10 @@ module _ {X Op Out : Type 0} (c : Content X Op Out) (a : ℕ) where
         actor = e.actor;
         shadow =
             agree (λ (f : ℕ → Shadow X Out) (g : ℕ → Shadow X Out). f a ≡ g a) _ _ _ s.shadows _ t.shadows
-                (ap (λ (x : Actor). is_open x.place) e.actor)
+            (ap (λ (x : Actor). is_open x.place) e.actor)
             (put-same s.shadows a _
-                ∙ ((λ i. copied c s (e.actor i).calls (e.shadow i) k which) ∙ copied_alike s t (t.words.actors a).calls
-                (t.shadows a) k which same ∙ sym (put-same t.shadows a _))) e.shadow;
+            ∙ ((λ i. copied c s (e.actor i).calls (e.shadow i) k which) ∙ copied_alike s t (t.words.actors a).calls
+            (t.shadows a) k which same ∙ sym (put-same t.shadows a _))) e.shadow;
         gates = gate_put s.gates t.gates k None e.gates;
         opening = e.opening;
         first = e.first;
@@ -219,8 +224,13 @@ module _ {X Op Out : Type 0} (c : Content X Op Out) (a : ℕ) where
   home_alike : (s t : Boosted X Out) (k : ℕ) → AlikeBelow a s t → AlikeBelow a (go_home c s a k) (go_home c t a k)
   home_alike s t k e =
       agree (AlikeBelow a) _ _ _ s _ t (λ i. e.gates k i && is_stored (e.actor i).place)
-      (record { actor = e.actor; shadow = e.shadow; gates = gate_put s.gates t.gates k None e.gates; opening = e.opening;
-          first = e.first }) e
+      (record {
+        actor = e.actor;
+        shadow = e.shadow;
+        gates = gate_put s.gates t.gates k None e.gates;
+        opening = e.opening;
+        first = e.first;
+      }) e
 
   -- ---- a call
   writes_alike : (editions : ℕ → ℕ) (ls : List ℕ) (s t : World) → s.actors a ≡ t.actors a → (run (writes_asked a editions ls) s).actors a
@@ -228,7 +238,7 @@ module _ {X Op Out : Type 0} (c : Content X Op Out) (a : ℕ) where
   writes_alike editions [] s t e = e
   writes_alike editions (l ∷ ls) s t e =
       writes_alike editions ls _ _
-          (put-same s.actors a _ ∙ (ap (λ (x : Actor). ask x x.place (AskWrite l (editions l + 1))) e ∙ sym (put-same t.actors a _)))
+      (put-same s.actors a _ ∙ (ap (λ (x : Actor). ask x x.place (AskWrite l (editions l + 1))) e ∙ sym (put-same t.actors a _)))
 
   accept_alike : (s t : Boosted X Out) (o : Out) → AlikeBelow a s t → AlikeBelow a (accepted c s a o) (accepted c t a o)
   accept_alike s t o e =
@@ -262,7 +272,7 @@ module _ {X Op Out : Type 0} (c : Content X Op Out) (a : ℕ) where
       ap_out : (s t : Boosted X Out) (op : Op) → AlikeBelow a s t → AlikeBelow a (acts c s (Accept a op)) (acts c t (Accept a op))
       ap_out s t op e =
           subst (λ (w : Shadow X Out). AlikeBelow a (accepted c s a (c.outcome (changes c (s.shadows a).outcomes (s.shadows a).parts) op))
-              (accepted c t a (c.outcome (changes c w.outcomes w.parts) op))) e.shadow
+          (accepted c t a (c.outcome (changes c w.outcomes w.parts) op))) e.shadow
           (accept_alike s t (c.outcome (changes c (s.shadows a).outcomes (s.shadows a).parts) op) e)
   own_at s t (GoHome b k) e f = subst (λ (z : ℕ). AlikeBelow a (go_home c s z k) (go_home c t z k)) (sym f) (home_alike s t k e)
 

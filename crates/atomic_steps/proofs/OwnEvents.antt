@@ -64,8 +64,12 @@ module _ {V : Type 0} (a : ℕ) where
   same_content v u e i = content (e.words i) (e.blocks i)
 
   seated_alike : (v u : World V) (x : Seat V) → Alike a v u → Alike a (seated v a x) (seated u a x)
-  seated_alike v u x e = record { words = e.words; blocks = e.blocks; seat = put-same v.seats a x ∙ sym (put-same u.seats a x);
-      boosted = e.boosted }
+  seated_alike v u x e = record {
+    words = e.words;
+    blocks = e.blocks;
+    seat = put-same v.seats a x ∙ sym (put-same u.seats a x);
+    boosted = e.boosted;
+  }
 
   one_alike : (v u : World V) (d : Action (Asked V)) → Alike a v u → FindsBelow (content v.words v.blocks) a v.boosted u.boosted d
       → Alike a (acted v (d ∷ [])) (acted u (d ∷ []))
@@ -99,7 +103,7 @@ module _ {V : Type 0} (a : ℕ) where
       let u' : World V = acted (acted u (asks a word.AskCancel ∷ [])) (asks a word.AskAbort ∷ []) in
       let e' : Alike a v' u' = asks_alike _ _ word.AskAbort (asks_alike v u word.AskCancel e) in
       (quietly v' u' (at_stage x (if is_leaving (actor_of v' a).place then Leaving else Cancelling))
-          (at_stage x (if is_leaving (actor_of u' a).place then Leaving else Cancelling)) Quiet
+      (at_stage x (if is_leaving (actor_of u' a).place then Leaving else Cancelling)) Quiet
       (ap (λ (z : Actor). at_stage x (if is_leaving z.place then Leaving else Cancelling)) e'.boosted.actor) e').0
 
   gives_up_alike : (v u : World V) (x : Seat V) (ks : List ℕ) → Alike a v u → SameAfter a (gives_up v a x ks) (gives_up u a x ks)
@@ -132,7 +136,7 @@ module _ {V : Type 0} (a : ℕ) where
   loads_alike v u x o [] e = replied_alike _ _ x _ _ (one_alike v u (Accept a o.asked) e refl)
   loads_alike v u x o (d ∷ es) e =
       subst (λ (y : Actor). SameAfter a (loads v a x o (d ∷ es))
-          (judges u a x o d es (loads u a x o es) (lookup y.reads d.0))) e.boosted.actor
+      (judges u a x o d es (loads u a x o es) (lookup y.reads d.0))) e.boosted.actor
       (judges_alike v u x o d es _ _ (lookup (actor_of v a).reads d.0) e (loads_alike v u x o es e))
 
   loads_from : (v u : World V) (x : Seat V) (o : Outcomes V) (ls ms : Entries) → ls ≡ ms → Alike a v u → SameAfter a (loads v a x o ls)
@@ -161,16 +165,16 @@ module _ {V : Type 0} (a : ℕ) where
       let c = content {V = V} v.words v.blocks in
       cond_both {A = Boosted (Shown V) (Outcomes V)} (is_actor a (s.gates k) && not (is_committing (s.words.actors a).place))
       (gated s (machine.put s.gates k None)
-          (if is_open (s.words.actors a).place then machine.put s.shadows a
-          (copied c s (s.words.actors a).calls (s.shadows a) k which) else s.shadows)) s
+      (if is_open (s.words.actors a).place then machine.put s.shadows a
+      (copied c s (s.words.actors a).calls (s.shadows a) k which) else s.shadows)) s
       (λ t. t.editions ≡ s.editions) (λ _. refl) (λ _. refl)
 
   calls_alike : (v u : World V) (x : Seat V) (q : Asked V) → Alike a v u → SameAfter a (calls_on v a x q) (calls_on u a x q)
   calls_alike v u x q e =
       agree (SameAfter a) _ _ _ _ _ _ (ap (λ (bs : List Block). x.copied q.collection (piece_at bs q)) e.blocks)
       (answers_from v u x x _ _ _ _ (outcome_alike v u q e)
-          (ap (λ (z : Shadow (Shown V) (Outcomes V)). with_editions z.editions
-          ((content {V = V} v.words v.blocks).reads (outcome_at v a q))) e.boosted.shadow) e)
+      (ap (λ (z : Shadow (Shown V) (Outcomes V)). with_editions z.editions
+      ((content {V = V} v.words v.blocks).reads (outcome_at v a q))) e.boosted.shadow) e)
       (quietly v u _ _ _ refl e)
 
   allowed_alike : (v u : World V) (x : Seat V) (known room known' room' : Bool) (p q : After V) → known ≡ known' → room ≡ room'
@@ -186,21 +190,21 @@ module _ {V : Type 0} (a : ℕ) where
 
   call_alike : (v u : World V) (x : Seat V) (t : ℕ) (op : Op V) → Alike a v u
       → SameAfter a (if_allowed v a x (is_known (block_of v.blocks t) op && may_ask (actor_of v a) op) true
-          (calls_on v a x (record { collection = t; op = op })))
+      (calls_on v a x (record { collection = t; op = op })))
       (if_allowed u a x (is_known (block_of u.blocks t) op && may_ask (actor_of u a) op) true
-          (calls_on u a x (record { collection = t; op = op })))
+      (calls_on u a x (record { collection = t; op = op })))
   call_alike v u x t op e = allowed_alike v u x _ _ _ _ _ _
       (λ i. is_known (block_of (e.blocks i) t) op && may_ask (e.boosted.actor i) op) refl e (calls_alike v u x _ e)
 
   op_alike : (v u : World V) (x : Seat V) (t : ℕ) (op : Op V) → Alike a v u → SameAfter a (ask_op v a x t op) (ask_op u a x t op)
   op_alike v u x t Read e =
       allowed_alike v u x _ _ _ _ _ _ (λ i. ltb t (e.words i))
-          (λ i. (e.boosted.actor i).declared ||
-          (not (is_none (lookup (e.boosted.actor i).writes t)) || fits (e.boosted.actor i).reads (t ∷ []))) e
+      (λ i. (e.boosted.actor i).declared ||
+      (not (is_none (lookup (e.boosted.actor i).writes t)) || fits (e.boosted.actor i).reads (t ∷ []))) e
       (reads_from v u x t _ _ (λ i. told.reply (e.boosted.actor i) (e.boosted.actor i).place (word.AskRead t)) e)
   op_alike v u x t (Write n) e =
       allowed_alike v u x _ _ _ _ _ _ (λ i. ltb t (e.words i) && not (e.boosted.actor i).declared)
-          (λ i. fits (e.boosted.actor i).writes (t ∷ [])) e
+      (λ i. fits (e.boosted.actor i).writes (t ∷ [])) e
       (replied_alike _ _ x _ _ (asks_alike v u (word.AskWrite t n) e))
   op_alike v u x t op e = call_alike v u x t op e
 
@@ -281,8 +285,15 @@ module _ {V : Type 0} (a : ℕ) where
   recorded_alike v u x b n e = record { words = e.words; blocks = e.blocks; seat = e.seat; boosted = e.boosted }
 
   ended_alike : (v u : World V) (x : Seat V) → Alike a v u → SameAfter a (ended v a x) (ended u a x)
-  ended_alike v u x e = (record { words = e.words; blocks = e.blocks; seat = put-same v.seats a no_one ∙ sym (put-same u.seats a no_one);
-      boosted = e.boosted }, refl)
+  ended_alike v u x e = (
+    record {
+      words = e.words;
+      blocks = e.blocks;
+      seat = put-same v.seats a no_one ∙ sym (put-same u.seats a no_one);
+      boosted = e.boosted;
+    },
+    refl,
+  )
 
   -- by what the word machine told
   telling : (f g : told.Notice → After V) (n m : told.Notice) → n ≡ m → ((k : told.Notice) → SameAfter a (f k) (g k)) → SameAfter a (f n)
@@ -299,19 +310,19 @@ module _ {V : Type 0} (a : ℕ) where
   step_alike v u x (Copying q) e f =
       let k = q.collection in
       let h = subst (λ (which : ℕ → Bool). Alike a (acted v (PutGate a k (covers_at v.words v.blocks q) ∷ []))
-          (acted u (PutGate a k which ∷ []))) (λ i. covers_at (e.words i) (e.blocks i) q)
+      (acted u (PutGate a k which ∷ []))) (λ i. covers_at (e.words i) (e.blocks i) q)
       (one_alike v u (PutGate a k (covers_at v.words v.blocks q)) e f.0) in
       let same = ap (λ (g : ℕ → ℕ). with_editions g
-          ((content {V = V} v.words v.blocks).reads (outcome_at (acted v (PutGate a k (covers_at v.words v.blocks q) ∷ [])) a q)))
-          (put_editions v k (covers_at v.words v.blocks q))
+      ((content {V = V} v.words v.blocks).reads (outcome_at (acted v (PutGate a k (covers_at v.words v.blocks q) ∷ [])) a q)))
+      (put_editions v k (covers_at v.words v.blocks q))
       ∙ (f.1 (outcome_at (acted v (PutGate a k (covers_at v.words v.blocks q) ∷ [])) a q) refl
       ∙ sym (ap (λ (g : ℕ → ℕ). with_editions g
-          ((content {V = V} v.words v.blocks).reads (outcome_at (acted v (PutGate a k (covers_at v.words v.blocks q) ∷ [])) a q)))
-          (put_editions u k (covers_at u.words u.blocks q)))) in
+      ((content {V = V} v.words v.blocks).reads (outcome_at (acted v (PutGate a k (covers_at v.words v.blocks q) ∷ [])) a q)))
+      (put_editions u k (covers_at u.words u.blocks q)))) in
       subst (λ (bs : List Block). SameAfter a (has_copied (acted v (PutGate a k (covers_at v.words v.blocks q) ∷ [])) a x q)
-          (answers (acted u (PutGate a k (covers_at u.words u.blocks q) ∷ [])) a x (with_piece x k (piece_at bs q))
-          (outcome_at (acted u (PutGate a k (covers_at u.words u.blocks q) ∷ [])) a q)
-          (acted u (PutGate a k (covers_at u.words u.blocks q) ∷ [])).boosted.editions)) e.blocks
+      (answers (acted u (PutGate a k (covers_at u.words u.blocks q) ∷ [])) a x (with_piece x k (piece_at bs q))
+      (outcome_at (acted u (PutGate a k (covers_at u.words u.blocks q) ∷ [])) a q)
+      (acted u (PutGate a k (covers_at u.words u.blocks q) ∷ [])).boosted.editions)) e.blocks
       (answers_from _ _ x (with_piece x k (piece_at v.blocks q)) _ _ _ _ (outcome_alike _ _ q h) same h)
   step_alike v u x (Loading o []) e f = (e, refl)
   step_alike v u x (Loading o (d ∷ es)) e f = telling _ _ _ _ (told_alike v u e f.1)
@@ -350,12 +361,12 @@ pub own_event : {V : Type 0} → (a : ℕ) (v u : World V) (event : Event V) →
 own_event a v u (Ask b q) e f =
     subst (λ (z : ℕ). SameAfter a (happens v (Ask z q)) (happens u (Ask z q))) (sym f)
     (subst (λ (x : Seat _). SameAfter a (ask_at v a (v.seats a) (v.seats a).stage q) (ask_at u a x x.stage q)) e.seat
-        (ask_alike a v u (v.seats a) (v.seats a).stage q e))
+    (ask_alike a v u (v.seats a) (v.seats a).stage q e))
 own_event a v u (Step b) e f =
     subst (λ (z : ℕ). SameAfter a (happens v (Step z)) (happens u (Step z))) (sym f.0)
     (subst (λ (x : Seat _). SameAfter a (step_at v a (v.seats a) (v.seats a).stage) (step_at u a x x.stage)) e.seat
-        (step_alike a v u (v.seats a) (v.seats a).stage e f.1))
+    (step_alike a v u (v.seats a) (v.seats a).stage e f.1))
 own_event a v u (Starve b) e f =
     subst (λ (z : ℕ). SameAfter a (happens v (Starve z)) (happens u (Starve z))) (sym f)
     (subst (λ (x : Seat _). SameAfter a (starve_at v a (v.seats a) (v.seats a).stage) (starve_at u a x x.stage)) e.seat
-        (starve_alike a v u (v.seats a) (v.seats a).stage e))
+    (starve_alike a v u (v.seats a) (v.seats a).stage e))

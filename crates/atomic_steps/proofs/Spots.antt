@@ -53,12 +53,20 @@ other_gate f k o j ne = put-other f k o j (λ q. ne (ap Gate (sym q)))
 
 module _ {V : Type 0} (a : ℕ) where
   calm_keeps : (spot : Spot) (v u : World V) → OnlyOwn a v u → Keeps spot v u
-  calm_keeps spot v u g = record { cells = λ c ne. g.cells c; gates = λ k ne. g.gates k; parts = λ l ne. g.parts l;
-      editions = λ l ne. g.editions l }
+  calm_keeps spot v u g = record {
+    cells = λ c ne. g.cells c;
+    gates = λ k ne. g.gates k;
+    parts = λ l ne. g.parts l;
+    editions = λ l ne. g.editions l;
+  }
 
   then_calm : (spot : Spot) (v u t : World V) → Keeps spot v u → OnlyOwn a u t → Keeps spot v t
-  then_calm spot v u t g h = record { cells = λ c ne. h.cells c ∙ g.cells c ne; gates = λ k ne. h.gates k ∙ g.gates k ne;
-      parts = λ l ne. h.parts l ∙ g.parts l ne; editions = λ l ne. h.editions l ∙ g.editions l ne }
+  then_calm spot v u t g h = record {
+    cells = λ c ne. h.cells c ∙ g.cells c ne;
+    gates = λ k ne. h.gates k ∙ g.gates k ne;
+    parts = λ l ne. h.parts l ∙ g.parts l ne;
+    editions = λ l ne. h.editions l ∙ g.editions l ne;
+  }
 
   pub after_calm : (spot : Spot) (v u t : World V) → OnlyOwn a v u → Keeps spot u t → Keeps spot v t
   after_calm spot v u t g h = record {
@@ -73,7 +81,7 @@ module _ {V : Type 0} (a : ℕ) where
       let s = v.boosted in
       let x : Actor = actor_of v a in
       let t : Boosted (Shown V)
-          (Answered V) = record s { words = step s.words a x x.place; shadows = shadows_after s a x.place } in record {
+      (Answered V) = record s { words = step s.words a x x.place; shadows = shadows_after s a x.place } in record {
         cells = λ c ne. ap (λ w. cell w c) (words_kept t (s.shadows a).outcomes (outcome a x x.place)) ∙ step_cell s.words a x x.place c
             (λ e. ne (ap spot_of e));
         gates = λ k ne. ap (λ (f : ℕ → Option ℕ). f k) (gates_kept t (s.shadows a).outcomes (outcome a x x.place));
@@ -94,9 +102,13 @@ module _ {V : Type 0} (a : ℕ) where
   take_keeps v k =
       let s = v.boosted in
       cond_both {A = Boosted (Shown V) (Answered V)} (is_none (s.gates k) && not (is_committing (s.words.actors a).place))
-          (gated s (put s.gates k (Some a)) s.shadows) s (λ t. Keeps (Gate k) v (record v { boosted = t }))
-      (λ _. record { cells = λ c ne. refl; gates = λ j ne. other_gate s.gates k (Some a) j ne; parts = λ l ne. refl;
-          editions = λ l ne. refl })
+      (gated s (put s.gates k (Some a)) s.shadows) s (λ t. Keeps (Gate k) v (record v { boosted = t }))
+      (λ _. record {
+        cells = λ c ne. refl;
+        gates = λ j ne. other_gate s.gates k (Some a) j ne;
+        parts = λ l ne. refl;
+        editions = λ l ne. refl;
+      })
       (λ _. calm_keeps (Gate k) v v (nothing a v))
 
   put_keeps : (v : World V) (k : ℕ) (which : ℕ → Bool) → Keeps (Gate k) v (acted v (PutGate a k which ∷ []))
@@ -105,8 +117,8 @@ module _ {V : Type 0} (a : ℕ) where
       let c = content {V = V} v.words v.blocks in
       cond_both {A = Boosted (Shown V) (Answered V)} (is_actor a (s.gates k) && not (is_committing (s.words.actors a).place))
       (gated s (put s.gates k None)
-          (if is_open (s.words.actors a).place then put s.shadows a
-          (copied c s (s.words.actors a).calls (s.shadows a) k which) else s.shadows)) s (λ t. Keeps (Gate k) v (record v { boosted = t }))
+      (if is_open (s.words.actors a).place then put s.shadows a
+      (copied c s (s.words.actors a).calls (s.shadows a) k which) else s.shadows)) s (λ t. Keeps (Gate k) v (record v { boosted = t }))
       (λ _. record { cells = λ c ne. refl; gates = λ j ne. other_gate s.gates k None j ne; parts = λ l ne. refl; editions = λ l ne. refl })
       (λ _. calm_keeps (Gate k) v v (nothing a v))
 
@@ -115,7 +127,7 @@ module _ {V : Type 0} (a : ℕ) where
       let s = v.boosted in
       let c = content {V = V} v.words v.blocks in
       cond_both {A = Boosted (Shown V) (Answered V)} (is_actor a (s.gates k) && is_stored (s.words.actors a).place) (homed c s a k) s
-          (λ t. Keeps (Gate k) v (record v { boosted = t }))
+      (λ t. Keeps (Gate k) v (record v { boosted = t }))
       (λ _. record {
         cells = λ c ne. refl;
         gates = λ j ne. other_gate s.gates k None j ne;

@@ -55,9 +55,9 @@ module _ {X Op Out : Type 0} (c : Content X Op Out) (fr : Frame c) (k : ℕ) whe
       ≡ k → c.change o u l ≡ c.change o v l
   one_change o u v same l w h = ⊎_elim
       (λ (t : has (c.writes o) l ≡ true). let m = in_list (c.writes o) l t in fr.local o u v
-          (λ i n. same i (fr.no_word o i (fr.read o i n)) (fr.one_home o l i m n ∙ h)) l m)
+      (λ i n. same i (fr.no_word o i (fr.read o i n)) (fr.one_home o l i m n ∙ h)) l m)
       (λ (f : has (c.writes o) l ≡ false). fr.only o u l (out_list (c.writes o) l f)
-          ∙ (same l w h ∙ sym (fr.only o v l (out_list (c.writes o) l f))))
+      ∙ (same l w h ∙ sym (fr.only o v l (out_list (c.writes o) l f))))
       (cases_Bool (has (c.writes o) l))
 
   pub same_changes : (os : List Out) (u v : ℕ → X) → ((l : ℕ) → c.plain l ≡ false → c.home l ≡ k → u l ≡ v l) → (l : ℕ) → c.plain l
@@ -109,17 +109,17 @@ module _ {V : Type 0} (a : ℕ) where
       let s = r.boosted in
       let changed : cell t.boosted.words c ≡ becomes (deed_at v p) (cell r.boosted.words c) = word_becomes a r c touches in
       let kept : (d : Cell) → cell (ended_at a x p t).boosted.words d ≡ cell t.boosted.words d = λ d. ap
-          (λ (b : Boosted (Shown V) (Answered V)). cell b.words d) (ended_words t x p) in
+      (λ (b : Boosted (Shown V) (Answered V)). cell b.words d) (ended_words t x p) in
       let after : cell u.boosted.words c ≡ becomes (deed_at v p) (cell v.boosted.words c) = g.cells c
-          ∙ (kept c ∙ (changed ∙ ap (becomes (deed_at v p)) (q.cells c))) in
+      ∙ (kept c ∙ (changed ∙ ap (becomes (deed_at v p)) (q.cells c))) in
       let t0 : Boosted (Shown V) (Answered V) = record s { words = step s.words a y y.place; shadows = shadows_after s a y.place } in
       let whole : t.boosted.words ≡ step s.words a y y.place = words_kept t0 (s.shadows a).outcomes (outcome a y y.place) in
       let own : actor_of t a ≡ learns (deed_at v p) y (cell r.boosted.words c) = ap (λ (w : machine.World). w.actors a) whole
-          ∙ step_learns s.words a y y.place c touches in
+      ∙ step_learns s.words a y y.place c touches in
       let owned : stamps_left (actor_of t a).place ≡ stamps_left (learns (deed_at v p) y (cell r.boosted.words c)).place = ap
-          (λ (k : Actor). stamps_left k.place) own in
+      (λ (k : Actor). stamps_left k.place) own in
       let ended : stamps_left (actor_of (ended_at a x p t) a).place ≡ stamps_left (actor_of t a).place = ap
-          (λ (b : Boosted (Shown V) (Answered V)). stamps_left (b.words.actors a).place) (ended_words t x p) in
+      (λ (b : Boosted (Shown V) (Answered V)). stamps_left (b.words.actors a).place) (ended_words t x p) in
       let last = g.left in
       let begun = q.left in
       let clock_r : r.boosted.words.clock ≡ v.boosted.words.clock = q.cells ClockCell in
@@ -127,18 +127,18 @@ module _ {V : Type 0} (a : ℕ) where
       let clock_t : t.boosted.words.clock ≡ r.boosted.words.clock + grows (deed_at v p) = ⊎_elim
       (λ (h : c ≡ ClockCell).
       subst (λ (d : Cell). cell t.boosted.words d ≡ becomes (deed_at v p) (cell r.boosted.words d)) h changed
-          ∙ clock_grows (deed_at v p) r.boosted.words.clock (touches ∙ ap (λ (d : Cell). Some d) h))
+      ∙ clock_grows (deed_at v p) r.boosted.words.clock (touches ∙ ap (λ (d : Cell). Some d) h))
       (λ (ne : c ≡ ClockCell → ⊥).
       let b = clock_stays (deed_at v p) (λ h. ne (let i : c ≡ ClockCell = cc in i)) in
       let k : t.boosted.words.clock ≡ r.boosted.words.clock = ap (λ (w : machine.World). w.clock) whole
-          ∙ other_clock s.words y c touches ne in omega arith)
+      ∙ other_clock s.words y c touches ne in omega arith)
       (is_clock c) in (
         after,
         record {
           rises = omega arith;
           pays = ⊎_elim
               (λ (h : grows (deed_at v p) + stamps_left
-                  (learns (deed_at v p) y (cell r.boosted.words c)).place ≤ stamps_left y.place). inl (omega arith))
+              (learns (deed_at v p) y (cell r.boosted.words c)).place ≤ stamps_left y.place). inl (omega arith))
               (λ (h : (grows (deed_at v p) ≡ 0) × (word_of (deed_at v p) ≡ Some ClockCell) × (cell r.boosted.words c < clock_limit)).
               let i : c ≡ ClockCell = (let f = h.1 in cc) in
               let low : r.boosted.words.clock < clock_limit = subst (λ (d : Cell). cell r.boosted.words d < clock_limit) i h.2 in
@@ -185,7 +185,7 @@ module _ {V : Type 0} (a : ℕ) where
       let c : u.boosted.words.clock ≡ v.boosted.words.clock = g.cells ClockCell ∙ ap (λ (w : machine.World). w.clock) e in
       let p = g.left in
       let q : stamps_left (actor_of t a).place ≡ stamps_left (actor_of v a).place = ap
-          (λ (w : machine.World). stamps_left (w.actors a).place) e in
+      (λ (w : machine.World). stamps_left (w.actors a).place) e in
       record { rises = omega arith; pays = inl (omega arith) }
 
   -- a gate that was tried is a's, where it was free
@@ -201,16 +201,24 @@ module _ {V : Type 0} (a : ℕ) where
       (λ (f : is_none (s.gates k) ≡ true).
       let is : b ≡ true = (λ i. f i && not (rests i)) in
       let h : OnlyOwn a (record v { boosted = won }) u = subst
-          (λ (t : Boosted (Shown V) (Answered V)). OnlyOwn a (record v { boosted = t }) u) (cond-true b won s is) g in
-      record { gate = h.gates k
-          ∙ (put-same s.gates k (Some a) ∙ sym (cond-true {A = Option ℕ} (is_none (s.gates k)) (Some a) (s.gates k) f)); parts = h.parts;
-          editions = h.editions; grows = quiet_words v _ u refl h })
+      (λ (t : Boosted (Shown V) (Answered V)). OnlyOwn a (record v { boosted = t }) u) (cond-true b won s is) g in
+      record {
+        gate = h.gates k
+            ∙ (put-same s.gates k (Some a) ∙ sym (cond-true {A = Option ℕ} (is_none (s.gates k)) (Some a) (s.gates k) f));
+        parts = h.parts;
+        editions = h.editions;
+        grows = quiet_words v _ u refl h;
+      })
       (λ (f : is_none (s.gates k) ≡ false).
       let is : b ≡ false = ap (λ q. q && not (is_committing (s.words.actors a).place)) f in
       let h : OnlyOwn a v u = subst (λ (t : Boosted (Shown V) (Answered V)). OnlyOwn a (record v { boosted = t }) u)
-          (cond-false b won s is) g in
-      record { gate = h.gates k ∙ sym (cond-false {A = Option ℕ} (is_none (s.gates k)) (Some a) (s.gates k) f); parts = h.parts;
-          editions = h.editions; grows = quiet_words v v u refl h })
+      (cond-false b won s is) g in
+      record {
+        gate = h.gates k ∙ sym (cond-false {A = Option ℕ} (is_none (s.gates k)) (Some a) (s.gates k) f);
+        parts = h.parts;
+        editions = h.editions;
+        grows = quiet_words v v u refl h;
+      })
       (cases_Bool (is_none (s.gates k)))
 
   -- one that was put back is free
@@ -222,12 +230,12 @@ module _ {V : Type 0} (a : ℕ) where
       let g = at_gate v u (v.seats a) (v.seats a).stage (PutGate a k e.0) tt e.1 (one_step v (event.Step a)) in
       let c = content {V = V} v.words v.blocks in
       let back : Boosted (Shown V) (Answered V) = gated s (put s.gates k None)
-          (if is_open (s.words.actors a).place then put s.shadows a
-          (copied c s (s.words.actors a).calls (s.shadows a) k e.0) else s.shadows) in
+      (if is_open (s.words.actors a).place then put s.shadows a
+      (copied c s (s.words.actors a).calls (s.shadows a) k e.0) else s.shadows) in
       let b = is_actor a (s.gates k) && not (is_committing (s.words.actors a).place) in
       let is : b ≡ true = (λ i. mine i && not (rests i)) in
       let h : OnlyOwn a (record v { boosted = back }) u = subst
-          (λ (t : Boosted (Shown V) (Answered V)). OnlyOwn a (record v { boosted = t }) u) (cond-true b back s is) g in
+      (λ (t : Boosted (Shown V) (Answered V)). OnlyOwn a (record v { boosted = t }) u) (cond-true b back s is) g in
       record { gate = h.gates k ∙ put-same s.gates k None; parts = h.parts; editions = h.editions; grows = quiet_words v _ u refl h }
 
   pub home_turned : (v : World V) (k : ℕ) → GoesHome v a k → is_actor a (v.boosted.gates k) ≡ true → is_stored (actor_of v a).place ≡ true
@@ -241,7 +249,7 @@ module _ {V : Type 0} (a : ℕ) where
       let b = is_actor a (s.gates k) && is_stored (s.words.actors a).place in
       let is : b ≡ true = (λ i. mine i && stored i) in
       let h : OnlyOwn a (record v { boosted = back }) u = subst
-          (λ (t : Boosted (Shown V) (Answered V)). OnlyOwn a (record v { boosted = t }) u) (cond-true b back s is) g in
+      (λ (t : Boosted (Shown V) (Answered V)). OnlyOwn a (record v { boosted = t }) u) (cond-true b back s is) g in
       record {
         gate = h.gates k ∙ put-same s.gates k None;
         parts = λ l at. h.parts l ∙ cond-true {A = Shown V} (home_of v.words v.blocks l == k) _ (s.parts l) (eq-eqb _ _ at);
@@ -259,10 +267,10 @@ module _ {V : Type 0} (a : ℕ) where
       let os = (v.boosted.shadows a).outcomes in (
         hv.parts l at
             ∙ (same_changes c (content_frame v.words v.blocks stripes) k os v.boosted.parts w.boosted.parts
-                (λ j p q. (same j p q).0) l word at
+            (λ j p q. (same j p q).0) l word at
             ∙ ((λ i. changes (content {V = V} (e.words i) (e.blocks i)) (e.boosted.shadow i).outcomes w.boosted.parts l)
-                ∙ sym (hw.parts l at_w))),
+            ∙ sym (hw.parts l at_w))),
         hv.editions l at
             ∙ ((λ i. if is_none (lookup (e.boosted.actor i).writes l) then (same l word at).1 i else (same l word at).1 i + 1)
-                ∙ sym (hw.editions l at_w)),
+            ∙ sym (hw.editions l at_w)),
       )

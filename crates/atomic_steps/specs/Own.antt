@@ -28,7 +28,7 @@ module _ {V : Type 0} where
   abbrev pub SameEditions : World V → World V → Asked V → Type 0
   SameEditions v u asked =
       (o : Answered V) → o.asked ≡ asked → let reads = (content v.words v.blocks).reads o in with_editions v.boosted.editions reads
-          ≡ with_editions u.boosted.editions reads
+      ≡ with_editions u.boosted.editions reads
 
   -- what the next step of a finds is the same; a copy is judged by the editions of the base that it finds
   abbrev pub FindsAt : ℕ → World V → World V → Stage V → Type 0
