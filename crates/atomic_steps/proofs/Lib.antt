@@ -6,3 +6,4 @@ pub mod Others
 pub mod Spots
 pub mod Alone
 pub mod Turned
+pub mod Tells

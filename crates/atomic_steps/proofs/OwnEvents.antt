@@ -44,7 +44,7 @@ use Rattle.atomic_steps.proofs.OwnActions.{own_action, both, agree}
 lock_same : (s t : machine.World) (l : ℕ) → bits (s.locks l) ≡ bits (t.locks l) → s.locks l ≡ t.locks l
 lock_same s t l e = sym (unbits_bits (s.locks l)) ∙ (ap unbits e ∙ unbits_bits (t.locks l))
 
-notice_alike : (s t : machine.World) (x : Actor) (p : Place) → ((c : Cell) → word_of (plan x p) ≡ Some c → cell s c ≡ cell t c)
+pub notice_alike : (s t : machine.World) (x : Actor) (p : Place) → ((c : Cell) → word_of (plan x p) ≡ Some c → cell s c ≡ cell t c)
     → notice s x p ≡ notice t x p
 notice_alike s t x at.Begin e = ap begin_notice (e ClockCell refl)
 notice_alike s t x (at.Look l) e = ap (look_notice x.rv l) (lock_same s t l (e (LockCell l) refl))

@@ -4,3 +4,4 @@ pub mod Clock
 pub mod Steps
 pub mod Spots
 pub mod Gates
+pub mod Tells

@@ -1,19 +1,24 @@
 //! What one event does to a world, and on what it depends.
 ghost use Rattle.std.specs.Prelude.{◌≡◌, ◌≢◌, ℕ, List, false, true, Some, None, if◌then◌else◌};
-ghost use Rattle.word_machine.specs.Cells.{Cell, cell, becomes};
+ghost use Rattle.word_machine.specs.Actor.{Actor, Place};
+ghost use Rattle.word_machine.specs.World.{World as Words, plan};
+ghost use Rattle.word_machine.specs.Cells.{Cell, cell, word_of, becomes};
+ghost use Rattle.word_machine.specs.Notices.{notice};
+ghost use Rattle.seq_model.specs.declared.held.Held.{Held};
 ghost use Rattle.seq_model.specs.declared.event.Event.{Event};
 ghost use Rattle.seq_model.specs.declared.event.Event.TheVariants.{Step};
 ghost use Rattle.collection_machine.specs.Content.{Content, Frame};
 ghost use Rattle.collection_machine.specs.Boosted.{Boosted, Action, acts, changes, is_actor, is_none, is_stored, is_committing};
-ghost use Rattle.replay_log.specs.Contents.{HaveStripes, content, home_of};
+ghost use Rattle.replay_log.specs.Contents.{Block, HaveStripes, content, home_of};
 ghost use Rattle.replay_log.specs.WorldProgress.{whose};
-ghost use Rattle.replay_log.specs.Worlds.{World, actor_of, happens};
+ghost use Rattle.replay_log.specs.Worlds.{World, Beginning, actor_of, happens, opened, run};
 ghost use Rattle.atomic_steps.specs.Machine.{AlikeBelow, FindsBelow, SameBase};
 ghost use Rattle.atomic_steps.specs.Own.{Alike, SameAfter, Finds};
 ghost use Rattle.atomic_steps.specs.Steps.{IsOneAction, ready_at};
 ghost use Rattle.atomic_steps.specs.Spots.{Word, Gate, spot_at, deed_of, given};
 ghost use Rattle.atomic_steps.specs.Gates.{Tries, Puts, GoesHome, Gated, Homed};
 ghost use Rattle.atomic_steps.specs.Clock.{Grows};
+ghost use Rattle.atomic_steps.specs.Tells.{tells};
 
 /// An event is at most one atomic action of its actor. A request, or a want of memory, leaves all words, gates, bases and records and
 /// all other actors as they are; a step does the action that is due at its stage, notes the transaction that it ends, and leaves
@@ -64,6 +69,23 @@ pub fn own_part<V, X, Op, Out>()
     ensures events { (a : ℕ) (v u : World V) (event : Event V) → Alike a v u → Finds a v u event → SameAfter a (happens v event) (happens u event) }
     ensures actions { (c : Content X Op Out) (a : ℕ) (s t : Boosted X Out) (action : Action Op) →
         AlikeBelow a s t → FindsBelow c a s t action → AlikeBelow a (acts c s action) (acts c t action) }
+{}
+
+/// What a step of the words tells is a function of its actor's record and of the number that it finds, as what it leaves of that
+/// record is (`word_machine::laws::one_word`).
+pub fn told_by_what_is_found()
+    ensures found { (s : Words) (x : Actor) (p : Place) (c : Cell) → word_of (plan x p) ≡ Some c → notice s x p ≡ tells x p (cell s c) }
+    ensures nothing { (s : Words) (x : Actor) (p : Place) → word_of (plan x p) ≡ None → notice s x p ≡ tells x p 0 }
+{}
+
+/// A step that begins a transaction, of a declared reader or not, takes nothing of the present world but the clock: no word, no gate,
+/// and no base is copied.
+pub fn begins<V>()
+    ensures { (blocks : List Block) (clock : ℕ) (values : List ℕ) (held : List (Held V)) (events : List (Event V)) (a : ℕ) (u : World V) →
+        HaveStripes blocks →
+        let v = run (opened blocks clock values held) events in
+        (v.seats a).stage ≡ Beginning → Alike a v u → v.boosted.words.clock ≡ u.boosted.words.clock →
+        SameAfter a (happens v (Step a)) (happens u (Step a)) }
 {}
 
 /// So an actor's own part is that of a world in which it is alone with what it found: where two worlds are alike to it, its step in
