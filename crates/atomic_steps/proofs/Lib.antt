@@ -7,3 +7,4 @@ pub mod Spots
 pub mod Alone
 pub mod Turned
 pub mod Tells
+pub mod Bases

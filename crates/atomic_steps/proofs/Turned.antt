@@ -37,7 +37,7 @@ is_or i j = ⊎_elim (λ (t : eqb i j ≡ true). inl (eqb-true i j t)) (λ (f : 
 no_tf : {A : Type 0} → true ≡ false → A
 no_tf e = absurd (true≢false e)
 
-in_list : (ls : List ℕ) (i : ℕ) → has ls i ≡ true → IsIn i ls
+pub in_list : (ls : List ℕ) (i : ℕ) → has ls i ≡ true → IsIn i ls
 in_list [] i t = no_tf (sym t)
 in_list (j ∷ ls) i t = ⊎_elim (λ (e : i ≡ j). inl e)
     (λ (f : eqb i j ≡ false). inr (in_list ls i (sym (cond-false (eqb i j) true (has ls i) f) ∙ t))) (is_or i j)

@@ -5,3 +5,4 @@ pub mod Steps
 pub mod Spots
 pub mod Gates
 pub mod Tells
+pub mod Bases

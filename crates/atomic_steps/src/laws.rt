@@ -1,5 +1,5 @@
 //! What one event does to a world, and on what it depends.
-ghost use Rattle.std.specs.Prelude.{◌≡◌, ◌≢◌, ℕ, List, false, true, Some, None, if◌then◌else◌};
+ghost use Rattle.std.specs.Prelude.{◌≡◌, ◌≢◌, ℕ, List, [], ◌∷◌, ◌++◌, ◌==◌, false, true, Some, None, if◌then◌else◌};
 ghost use Rattle.word_machine.specs.Actor.{Actor, Place};
 ghost use Rattle.word_machine.specs.World.{World as Words, plan};
 ghost use Rattle.word_machine.specs.Cells.{Cell, cell, word_of, becomes};
@@ -9,7 +9,7 @@ ghost use Rattle.seq_model.specs.declared.event.Event.{Event};
 ghost use Rattle.seq_model.specs.declared.event.Event.TheVariants.{Step};
 ghost use Rattle.collection_machine.specs.Content.{Content, Frame};
 ghost use Rattle.collection_machine.specs.Boosted.{Boosted, Action, acts, changes, is_actor, is_none, is_stored, is_committing};
-ghost use Rattle.replay_log.specs.Contents.{Block, HaveStripes, content, home_of};
+ghost use Rattle.replay_log.specs.Contents.{Answered, Block, HaveStripes, block_of, content, home_of};
 ghost use Rattle.replay_log.specs.WorldProgress.{whose};
 ghost use Rattle.replay_log.specs.Worlds.{World, Beginning, actor_of, happens, opened, run};
 ghost use Rattle.atomic_steps.specs.Machine.{AlikeBelow, FindsBelow, SameBase};
@@ -19,6 +19,8 @@ ghost use Rattle.atomic_steps.specs.Spots.{Word, Gate, spot_at, deed_of, given};
 ghost use Rattle.atomic_steps.specs.Gates.{Tries, Puts, GoesHome, Gated, Homed};
 ghost use Rattle.atomic_steps.specs.Clock.{Grows};
 ghost use Rattle.atomic_steps.specs.Tells.{tells};
+ghost use Rattle.atomic_steps.specs.Bases.{IsBaseOf, ShowsBase, IsFolded, changes_on, writes_on, log_changes, log_locations};
+ghost use Rattle.replay_log.specs.declared.base.Base.{Base};
 
 /// An event is at most one atomic action of its actor. A request, or a want of memory, leaves all words, gates, bases and records and
 /// all other actors as they are; a step does the action that is due at its stage, notes the transaction that it ends, and leaves
@@ -104,4 +106,23 @@ pub fn changes_at_home<V, X, Op, Out>()
     ensures homes { (a k : ℕ) (v w : World V) → HaveStripes v.blocks → Alike a v w → SameBase (content v.words v.blocks) k v.boosted w.boosted →
         Homed a k v (happens v (Step a)).0 → Homed a k w (happens w (Step a)).0 →
         SameBase (content v.words v.blocks) k (happens v (Step a)).0.boosted (happens w (Step a)).0.boosted }
+{}
+
+/// A base that shows what its collection has, with the log of a transaction folded into it (`replay_log::Log::fold_into`), shows what
+/// the collection has once it has gone home: the parts, and the edition of each location that the log was pushed with one higher. The
+/// log is that of the transaction's calls on the collection, one after another.
+pub fn goes_home_as_folded<V>()
+    ensures home { (blocks : List Block) (clock : ℕ) (values : List ℕ) (held : List (Held V)) (events : List (Event V)) (a k : ℕ) (b : Block)
+        (before now : Base V) → HaveStripes blocks →
+        let v = run (opened blocks clock values held) events in
+        let outcomes = (v.boosted.shadows a).outcomes in
+        GoesHome v a k → block_of v.blocks k ≡ Some b → IsBaseOf b before → ShowsBase v.words v.blocks v k b before →
+        IsFolded (log_changes k b outcomes) (log_locations k b outcomes) before now →
+        IsBaseOf b now × ShowsBase v.words v.blocks (happens v (Step a)).0 k b now }
+    ensures changes { (k : ℕ) (b : Block) (outcomes : List (Answered V)) (outcome : Answered V) →
+        log_changes k b (outcomes ++ outcome ∷ [])
+        ≡ log_changes k b outcomes ++ (if outcome.asked.collection == k then changes_on b outcome.outcome else []) }
+    ensures locations { (k : ℕ) (b : Block) (outcomes : List (Answered V)) (outcome : Answered V) →
+        log_locations k b (outcomes ++ outcome ∷ [])
+        ≡ log_locations k b outcomes ++ (if outcome.asked.collection == k then writes_on b outcome.outcome else []) }
 {}
