@@ -15,6 +15,7 @@ pub mod PlaceLemmas
 pub mod StageLemmas
 pub mod CallLemmas
 pub mod EventLemmas
+pub mod TraceLemmas
 pub mod SerialLemmas
 pub mod GuardLemmas
 pub mod ProgressLemmas

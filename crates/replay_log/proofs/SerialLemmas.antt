@@ -43,6 +43,8 @@ use Rattle.replay_log.specs.Worlds.{acted, moves, has_begun, step_at, happens}
 use Rattle.replay_log.proofs.ActionLemmas.{mine}
 use Rattle.replay_log.proofs.SeatLemmas.{at_of}
 use Rattle.replay_log.proofs.StageLemmas.{tells}
+use Rattle.replay_log.specs.WorldTraces.{state}
+use Rattle.replay_log.proofs.TraceLemmas.{shows_state}
 use Rattle.replay_log.specs.WorldSerial.{AreUpTo, Holds, SawAt, AllSaw, HasWritten, IsSerial}
 use Rattle.replay_log.proofs.ContentLemmas.{content_frame}
 use Rattle.std.proofs.lemmas.Bool.Decides.{nat_tests}
@@ -343,6 +345,10 @@ module _ {V : Type 0} where
               ∙ ap (λ (gs : List (Held V)). shown_at n bs gs l) (sym g.held) ∙ ap (λ (cs : List Block). shown_at n cs t.held l) (sym blocks_are)
               ∙ ap (λ i. shown_at i w.blocks t.held l) (sym words_are);
         }
+
+    -- so what it shows is the state that its records leave
+    pub shown_state : ((a : ℕ) → is_half_done (w.seats a).stage ≡ false) → state w ≡ after_run w.records opening
+    shown_state none = shows_state w (after_run w.records opening) (subst HaveStripes (sym blocks_are) stripes) (left none)
 
     -- what the open transactions of this world saw, now and at every later moment
     pub saw_later : (later : List (Event V)) (a : ℕ) → SawAt opening (run w later).records (w.seats a) (w.seats a).stage

@@ -4,6 +4,11 @@ pub mod Parts
 pub mod Contents
 pub mod Collections
 pub mod Pieces
+pub mod Seats
+pub mod WorldEnds
+pub mod WorldCalls
+pub mod WorldCommits
+pub mod WorldTraces
 pub mod Worlds
 pub mod WorldVectors
 pub mod WorldSerial

@@ -1,7 +1,7 @@
 //! The laws of the definitions that the contracts cite. Each function computes nothing: its contract is the law.
 ghost use Rattle.std.specs.Prelude.{◌≡◌, ◌≢◌, ◌≤◌, ◌++◌, ℕ, List, [], Some, true, false, length, get_or};
 ghost use Rattle.seq_model.specs.declared.event.Event.{Event};
-ghost use Rattle.seq_model.specs.declared.event.Event.TheVariants.{Ask, Step};
+ghost use Rattle.seq_model.specs.declared.event.Event.TheVariants.{Ask, Step, Starve};
 ghost use Rattle.seq_model.specs.declared.event.Request.{Request};
 ghost use Rattle.seq_model.specs.declared.event.Answer.TheVariants.{Begun};
 ghost use Rattle.seq_model.specs.declared.event.Notice.TheVariants.{Answered, Refused};
@@ -25,6 +25,8 @@ ghost use Rattle.replay_log.specs.Collections.{Suit, AreReplies, IsRunOn, after_
 ghost use Rattle.replay_log.specs.Log.{RaisesEach, KeepsOthers};
 ghost use Rattle.replay_log.specs.Parts.{IsWhole, AnswersByParts, KnowsItsCalls, LeavesOtherParts, ChangesByPart};
 ghost use Rattle.replay_log.specs.Worlds.{World, Open, Beginning, Leaving, is_change, actor_of, why, happens, run, opened};
+ghost use Rattle.replay_log.specs.WorldTraces.{trace, is_half_done, committed_by, with_record, ended_by};
+ghost use Rattle.seq_model.specs.Runs.{after_run as state_after};
 ghost use Rattle.replay_log.specs.WorldRefusals.{HasCause, is_calling, is_ending};
 ghost use Rattle.replay_log.specs.WorldProgress.{AreSmall, Nears, left_of, whose};
 ghost use Rattle.replay_log.specs.WorldSerial.{AreUpTo, IsSerial, SawAt};
@@ -136,6 +138,24 @@ pub fn serial_worlds<V: Value>()
     ensures begins { (blocks : List Block) (clock : ℕ) (values : List ℕ) (held : List (Held V)) (events : List (Event V)) (a rv : ℕ) → HaveStripes blocks → Suit blocks held →
         let w = run (opened blocks clock values held) events in
         (w.seats a).stage ≡ Beginning → (happens w (Step a)).1 ≡ Answered a (Begun rv) → AreUpTo rv w.records }
+{}
+
+/// What is told of a world at a moment. Where no commit is half done, the words and collections that it shows, each collection put
+/// together of the parts of its locations, are what its records leave, one whole transaction after another. A step commits by the
+/// first value store of a writer, or by the load of the clock that ends a transaction without writes, and puts the record of all its
+/// calls into its place in commit order; an aborted transaction is told of behind those that ended before it, with its actor, its
+/// number, its calls and its cause. Nothing else adds to the records or to the aborted transactions.
+pub fn traces<V: Value>()
+    ensures state { (blocks : List Block) (clock : ℕ) (values : List ℕ) (held : List (Held V)) (events : List (Event V)) → HaveStripes blocks → Suit blocks held →
+        let w = run (opened blocks clock values held) events in
+        ((a : ℕ) → is_half_done (w.seats a).stage ≡ false) →
+        (trace w).state ≡ state_after (trace w).records (record { words = values; held = held }) }
+    ensures commits { (w : World V) (a : ℕ) → (trace (happens w (Step a)).0).records ≡ with_record a (committed_by (w.seats a) (w.seats a).stage) (trace w).records }
+    ensures ends { (w : World V) (a : ℕ) → (trace (happens w (Step a)).0).aborted ≡ (trace w).aborted ++ ended_by a (w.seats a) (w.seats a).stage }
+    ensures asked { (w : World V) (a : ℕ) (q : Request V) →
+        ((happens w (Ask a q)).0.records ≡ w.records) × ((happens w (Ask a q)).0.aborted ≡ w.aborted) }
+    ensures starved { (w : World V) (a : ℕ) →
+        ((happens w (Starve a)).0.records ≡ w.records) × ((happens w (Starve a)).0.aborted ≡ w.aborted) }
 {}
 
 /// No guard of the machine refuses what a request does: wherever a request is under way, its next step does an action whose guard
