@@ -19,7 +19,9 @@ use Rattle.replay_log.specs.Base.{Shown}
 use Rattle.collection_machine.specs.Content.{IsIn}
 use Rattle.replay_log.specs.Contents.{Asked, Answered as Outcomes, HaveStripes, block_of, first_of, content, home_of}
 use Rattle.replay_log.proofs.ContentLemmas.{read_at, positive_at, home_is}
-use Rattle.replay_log.specs.Worlds.{World, Seat, Stage, Copying, Ready, acted, asks, happens, with_editions}
+use Rattle.replay_log.specs.Seats.{World, Seat, Stage, Copying, Ready, acted, asks}
+use Rattle.replay_log.specs.Worlds.{happens}
+use Rattle.replay_log.specs.WorldCalls.{with_editions}
 use Rattle.atomic_steps.specs.Machine.{SameWord}
 use Rattle.atomic_steps.specs.Own.{Alike, SameAfter, FindsBy, FindsAt}
 use Rattle.atomic_steps.specs.Steps.{Does, atomic_action, ready_at}

@@ -27,7 +27,8 @@ use Rattle.replay_log.specs.Guards.{IsAllowed, step_action}
 use Rattle.replay_log.specs.Log.{AreRaised}
 use Rattle.replay_log.specs.Parts.{Kind, MapKind, BagKind, PqKind, QueueKind, kind_of, part, whole}
 use Rattle.replay_log.specs.Contents.{Asked, Block, Answered, HaveStripes, block_of, end_of, first_of, home_of, is_plain, content, size, shifted, blank, seen, changed, writes_in}
-use Rattle.replay_log.specs.Worlds.{World, Stage, Ready, actor_of, happens, opened, run}
+use Rattle.replay_log.specs.Seats.{World, Stage, Ready, actor_of}
+use Rattle.replay_log.specs.Worlds.{happens, opened, run}
 use Rattle.replay_log.proofs.PartLemmas.{is_whole, leaves_other_parts, whole_local}
 use Rattle.replay_log.proofs.ContentLemmas.{shifted_in, in_shifted, same_block, read_at, positive_at, home_is, not_plain, content_frame}
 use Rattle.replay_log.proofs.LogLemmas.{raises_each, keeps_others}

@@ -28,7 +28,11 @@ use Rattle.collection_machine.specs.Boosted.{Boosted, PutGate, Accept, is_open, 
 use Rattle.replay_log.specs.Base.{Shown}
 use Rattle.replay_log.specs.Contents.{Asked, Answered as Outcomes, content, is_plain}
 use Rattle.replay_log.specs.Pieces.{piece_at, covers_at}
-use Rattle.replay_log.specs.Worlds.{World, Seat, Stage, Idle, Beginning, Open, Locking, Releasing, Closing, Cancelling, Leaving, Reading, Trying, Copying, Loading, Gating, Ready, Storing, Homing, Returning, After, has_room, with_editions, is_fresh, judges, with_piece, no_one, at_stage, because, seated, acted, asks, moves, actor_of, word_notice, cancels, gives_up, reads, outcome_at, loads, answers, calls_on, if_allowed, ask_op, commits, ask_at, recorded, has_begun, has_read, has_tried, has_loaded, takes_gates, has_locked, goes_home, has_stored, has_released, has_cancelled, step_at, starve_at}
+use Rattle.replay_log.specs.Seats.{World, Seat, Stage, Idle, Beginning, Open, Locking, Releasing, Closing, Cancelling, Leaving, Reading, Trying, Copying, Loading, Gating, Ready, Storing, Homing, Returning, After, no_one, at_stage, because, seated, acted, asks, moves, actor_of, word_notice}
+use Rattle.replay_log.specs.WorldCalls.{has_room, with_editions, is_fresh, judges, with_piece, reads, outcome_at, loads, answers, calls_on, if_allowed, ask_op, has_read, has_loaded}
+use Rattle.replay_log.specs.WorldEnds.{cancels, gives_up, has_tried, has_cancelled}
+use Rattle.replay_log.specs.WorldCommits.{commits, recorded, takes_gates, has_locked, goes_home, has_stored, has_released}
+use Rattle.replay_log.specs.Worlds.{ask_at, has_begun, step_at, starve_at}
 use Rattle.atomic_steps.specs.Clock.{stamps_left}
 use Rattle.atomic_steps.proofs.Clock.{ask_left}
 use Rattle.atomic_steps.specs.Steps.{OnlyOwn, atomic_action, ready_at, ended_at, Does, IsOneAction}

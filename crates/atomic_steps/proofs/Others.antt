@@ -17,7 +17,8 @@ use Rattle.collection_machine.specs.Boosted.{Boosted, Shadow, Action, OnWords, T
 use Rattle.replay_log.specs.Base.{Shown}
 use Rattle.replay_log.specs.Contents.{Asked, Answered, content}
 use Rattle.replay_log.specs.WorldProgress.{whose}
-use Rattle.replay_log.specs.Worlds.{World, Seat, Stage, Closing, Leaving, Ready, acted, happens}
+use Rattle.replay_log.specs.Seats.{World, Seat, Stage, Closing, Leaving, Ready, acted}
+use Rattle.replay_log.specs.Worlds.{happens}
 use Rattle.atomic_steps.specs.Machine.{AlikeBelow}
 use Rattle.atomic_steps.specs.Own.{Alike}
 use Rattle.atomic_steps.specs.Steps.{OnlyOwn, IsAtomic, atomic_action, ready_at, ended_at, Does}

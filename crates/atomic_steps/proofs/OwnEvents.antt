@@ -36,7 +36,11 @@ use Rattle.collection_machine.specs.Boosted.{Boosted, Shadow, Action, TakeGate, 
 use Rattle.replay_log.specs.Base.{Shown}
 use Rattle.replay_log.specs.Contents.{Block, Asked, Answered as Outcomes, block_of, content, home_of, is_plain}
 use Rattle.replay_log.specs.Pieces.{piece_at, covers_at}
-use Rattle.replay_log.specs.Worlds.{World, Seat, Stage, Idle, Beginning, Open, Locking, Releasing, Closing, Cancelling, Leaving, Reading, Trying, Copying, Loading, Gating, Ready, Storing, Homing, Returning, After, fits, has_room, may_ask, with_editions, is_fresh, judges, with_piece, is_leaving, distinct, all_of, no_one, at_stage, because, seated, acted, asks, moves, actor_of, word_notice, cancels, gives_up, replied, reads, outcome_at, loads, answers, calls_on, is_known, if_allowed, ask_op, commits, ask_at, recorded, ended, has_begun, has_read, has_tried, has_copied, has_loaded, written_homes, takes_gates, has_locked, goes_home, has_stored, has_released, has_cancelled, step_at, starve_at, happens}
+use Rattle.replay_log.specs.Seats.{World, Seat, Stage, Idle, Beginning, Open, Locking, Releasing, Closing, Cancelling, Leaving, Reading, Trying, Copying, Loading, Gating, Ready, Storing, Homing, Returning, After, no_one, at_stage, because, seated, acted, asks, moves, actor_of, word_notice}
+use Rattle.replay_log.specs.WorldCalls.{fits, has_room, may_ask, with_editions, is_fresh, judges, with_piece, replied, reads, outcome_at, loads, answers, calls_on, is_known, if_allowed, ask_op, has_read, has_copied, has_loaded}
+use Rattle.replay_log.specs.WorldEnds.{is_leaving, cancels, gives_up, ended, has_tried, has_cancelled}
+use Rattle.replay_log.specs.WorldCommits.{distinct, all_of, commits, recorded, written_homes, takes_gates, has_locked, goes_home, has_stored, has_released}
+use Rattle.replay_log.specs.Worlds.{ask_at, has_begun, step_at, starve_at, happens}
 use Rattle.atomic_steps.specs.Machine.{AlikeBelow, FindsBelow, SameWord}
 use Rattle.atomic_steps.specs.Own.{Alike, SameAfter, FindsAt, Finds}
 use Rattle.atomic_steps.proofs.OwnActions.{own_action, both, agree}

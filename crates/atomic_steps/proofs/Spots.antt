@@ -15,7 +15,8 @@ use Rattle.seq_model.specs.declared.event.Event.TheVariants as event
 use Rattle.collection_machine.specs.Boosted.{Boosted, Action, OnWords, TakeGate, PutGate, Accept, GoHome, is_actor, is_none, is_open, is_stored, is_committing, shadows_after, recorded, gated, homed, copied}
 use Rattle.replay_log.specs.Base.{Shown}
 use Rattle.replay_log.specs.Contents.{Asked, Answered, content, home_of}
-use Rattle.replay_log.specs.Worlds.{World, Seat, Stage, Closing, Leaving, Ready, acted, moves, actor_of, happens}
+use Rattle.replay_log.specs.Seats.{World, Seat, Stage, Closing, Leaving, Ready, acted, moves, actor_of}
+use Rattle.replay_log.specs.Worlds.{happens}
 use Rattle.atomic_steps.specs.Steps.{OnlyOwn, IsAtomic, atomic_action, ready_at, ended_at, Does}
 use Rattle.atomic_steps.specs.Spots.{Spot, Nowhere, Word, Gate, spot_of, deed_of, word_spot, spot_by, spot_at}
 use Rattle.atomic_steps.proofs.OneStep.{nothing, ask_calm, one_step}

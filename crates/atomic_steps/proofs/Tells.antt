@@ -14,7 +14,8 @@ use Rattle.seq_model.specs.declared.held.Held.{Held}
 use Rattle.seq_model.specs.declared.event.Event.{Event}
 use Rattle.seq_model.specs.declared.event.Event.TheVariants.{Step}
 use Rattle.replay_log.specs.Contents.{Block, HaveStripes}
-use Rattle.replay_log.specs.Worlds.{World, Stage, Beginning, actor_of, happens, opened, run}
+use Rattle.replay_log.specs.Seats.{World, Stage, Beginning, actor_of}
+use Rattle.replay_log.specs.Worlds.{happens, opened, run}
 use Rattle.replay_log.proofs.SeatLemmas.{StageOk}
 use Rattle.replay_log.proofs.EventLemmas.{run_linked, opened_linked}
 use Rattle.atomic_steps.specs.Machine.{SameWord}

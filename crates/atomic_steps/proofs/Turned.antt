@@ -19,7 +19,8 @@ use Rattle.collection_machine.specs.Content.{Content, Frame, IsIn, has}
 use Rattle.collection_machine.specs.Boosted.{Boosted, Action, OnWords, TakeGate, PutGate, Accept, GoHome, is_actor, is_none, is_open, is_stored, is_committing, shadows_after, gated, homed, copied, changes}
 use Rattle.replay_log.specs.Base.{Shown}
 use Rattle.replay_log.specs.Contents.{Asked, Answered, HaveStripes, content, home_of}
-use Rattle.replay_log.specs.Worlds.{World, Seat, Stage, Closing, Leaving, Ready, acted, moves, actor_of, happens}
+use Rattle.replay_log.specs.Seats.{World, Seat, Stage, Closing, Leaving, Ready, acted, moves, actor_of}
+use Rattle.replay_log.specs.Worlds.{happens}
 use Rattle.replay_log.proofs.ContentLemmas.{content_frame}
 use Rattle.atomic_steps.specs.Own.{Alike}
 use Rattle.atomic_steps.specs.Clock.{stamps_left, Grows}

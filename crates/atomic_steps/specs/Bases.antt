@@ -7,7 +7,7 @@ use Rattle.replay_log.specs.Base.{after, changes_of, editions_of, shown_of, stri
 use Rattle.replay_log.specs.Contents.{Answered, Block, blank, first_of, home_of, is_plain, size}
 use Rattle.replay_log.specs.Log.{AreRaised}
 use Rattle.replay_log.specs.Parts.{kind_of, part}
-use Rattle.replay_log.specs.Worlds.{World}
+use Rattle.replay_log.specs.Seats.{World}
 
 module _ {V : Type 0} where
   -- a base of this block's kind and shape

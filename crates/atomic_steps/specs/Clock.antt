@@ -1,7 +1,7 @@
 -- How often an actor may still advance the clock.
 use Rattle.std.specs.Prelude.{◌≡◌, ◌⊎◌, ℕ, ◌+◌, ◌≤◌, ◌<◌}
 use Rattle.word_machine.specs.Actor.{Place, Open, Look, Fetch, Again, Lock, Take, clock_limit}
-use Rattle.replay_log.specs.Worlds.{World, actor_of}
+use Rattle.replay_log.specs.Seats.{World, actor_of}
 
 -- once, from its begin to the number of its commit
 abbrev pub stamps_left : Place → ℕ

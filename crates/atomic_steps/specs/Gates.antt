@@ -3,7 +3,7 @@ use Rattle.std.specs.Prelude.{◌≡◌, ℕ, ◌+◌, Bool, Option, Some, None,
 use Rattle.tx_sets.specs.Entries.{lookup}
 use Rattle.collection_machine.specs.Boosted.{TakeGate, PutGate, GoHome, changes, is_none}
 use Rattle.replay_log.specs.Contents.{content, home_of}
-use Rattle.replay_log.specs.Worlds.{World, actor_of}
+use Rattle.replay_log.specs.Seats.{World, actor_of}
 use Rattle.atomic_steps.specs.Clock.{Grows}
 use Rattle.atomic_steps.specs.Steps.{atomic_action}
 

@@ -4,7 +4,8 @@ use Rattle.seq_model.specs.declared.event.Event.{Event}
 use Rattle.seq_model.specs.declared.event.Event.TheVariants.{Ask, Step, Starve}
 use Rattle.collection_machine.specs.Boosted.{Action}
 use Rattle.replay_log.specs.Contents.{Asked, Answered, content}
-use Rattle.replay_log.specs.Worlds.{World, After, Stage, Copying, with_editions}
+use Rattle.replay_log.specs.Seats.{World, After, Stage, Copying}
+use Rattle.replay_log.specs.WorldCalls.{with_editions}
 use Rattle.atomic_steps.specs.Machine.{AlikeBelow, FindsBelow}
 use Rattle.atomic_steps.specs.Steps.{atomic_action, ready_at}
 

@@ -8,7 +8,7 @@ use Rattle.word_machine.specs.Cells.{Cell, ClockCell, LockCell, ValueCell, cell,
 use Rattle.collection_machine.specs.Boosted.{Action, OnWords, TakeGate, PutGate, Accept, GoHome, is_actor}
 use Rattle.replay_log.specs.Base.{Shown}
 use Rattle.replay_log.specs.Contents.{Asked, home_of}
-use Rattle.replay_log.specs.Worlds.{World, Stage, actor_of}
+use Rattle.replay_log.specs.Seats.{World, Stage, actor_of}
 use Rattle.atomic_steps.specs.Steps.{atomic_action, ready_at}
 
 -- A word of the table, or a gate, or none of them.

@@ -8,7 +8,9 @@ use Rattle.seq_model.specs.declared.event.Event.TheVariants as event
 use Rattle.collection_machine.specs.Boosted.{Action, OnWords, TakeGate, PutGate, Accept, GoHome}
 use Rattle.replay_log.specs.Contents.{Asked}
 use Rattle.replay_log.specs.Guards.{step_action}
-use Rattle.replay_log.specs.Worlds.{World, Seat, Stage, Closing, Leaving, Ready, acted, asks, moves, recorded, happens}
+use Rattle.replay_log.specs.Seats.{World, Seat, Stage, Closing, Leaving, Ready, acted, asks, moves}
+use Rattle.replay_log.specs.WorldCommits.{recorded}
+use Rattle.replay_log.specs.Worlds.{happens}
 use Rattle.atomic_steps.specs.Clock.{stamps_left}
 
 module _ {V : Type 0} where
