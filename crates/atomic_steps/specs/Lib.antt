@@ -6,3 +6,4 @@ pub mod Spots
 pub mod Gates
 pub mod Tells
 pub mod Bases
+pub mod StepVectors
