@@ -62,7 +62,7 @@ read_editions f g [] e = refl
 read_editions f g (l ∷ ls) e = λ i. (l, e l (inl refl) i) ∷ read_editions f g ls (λ j m. e j (inr m)) i
 
 module _ {V : Type 0} (a : ℕ) where
-  planted_alike : (v w : World V) (spot : Spot) (n : ℕ) (parts : ℕ → Shown V) (editions : ℕ → ℕ) → Alike a v w
+  pub planted_alike : (v w : World V) (spot : Spot) (n : ℕ) (parts : ℕ → Shown V) (editions : ℕ → ℕ) → Alike a v w
       → Alike a v (planted a w spot n parts editions)
   planted_alike v w Nowhere n parts editions e = e
   planted_alike v w (Word c) n parts editions e = record {

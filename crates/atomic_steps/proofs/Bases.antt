@@ -247,9 +247,9 @@ module _ {V : Type 0} where
       (b : Block) (before now : Base V) → HaveStripes blocks
       → let v = run (opened blocks clock values held) events in
       let outcomes = (v.boosted.shadows a).outcomes in
-      GoesHome v a k → block_of v.blocks k ≡ Some b → IsBaseOf b before → ShowsBase v.words v.blocks v k b before
+      GoesHome v a k → block_of v.blocks k ≡ Some b → IsBaseOf b before → ShowsBase v.words v.blocks v k before
       → IsFolded (log_changes k b outcomes) (log_locations k b outcomes) before now → IsBaseOf b now × ShowsBase v.words v.blocks
-      (happens v (Step a)).0 k b now
+      (happens v (Step a)).0 k now
   goes_home blocks clock values held events a k b before now stripes home is base shows folded =
       let v : World V = run (opened blocks clock values held) events in
       let n = v.words in
@@ -267,7 +267,7 @@ module _ {V : Type 0} where
       × (v.boosted.editions (f + i) ≡ get_or (editions_of before) i 0) = λ i lt.
       let back : f + i - f ≡ i = omega arith in
       let z = shows (f + i) (not_plain n bs k i b is lt) (home_is n bs k i b is lt) in
-      (z.0 ∙ ap (λ (j : ℕ). part b.stripes j (shown_of before)) back, z.1 ∙ ap (λ (j : ℕ). get_or (editions_of before) j 0) back) in
+      (z.0 ∙ (λ j. part (base.stripes j) (back j) (shown_of before)), z.1 ∙ ap (λ (j : ℕ). get_or (editions_of before) j 0) back) in
       let written = folded.editions in (
         record {
           kind = ap kind_of folded.shown ∙ (kind_stays (log_changes k b os) (shown_of before) ∙ base.kind);
@@ -299,7 +299,7 @@ module _ {V : Type 0} where
             ] in (
               gone.parts l home_l ∙ (ap (changes (content n bs) os v.boosted.parts) z.1
                   ∙ (shows_log n bs k b here is os v.boosted.parts (shown_of before) base.kind (λ j lt. (at j lt).0) i z.2
-                  ∙ ((λ j. part b.stripes i (sym folded.shown j)) ∙ ap (λ (j : ℕ). part b.stripes j (shown_of now)) (sym same)))),
+                  ∙ (λ j. part (sym (folded.stripes ∙ base.stripes) j) (sym same j) (sym folded.shown j)))),
               gone.editions l home_l ∙ (edition (lookup (actor_of v a).writes l) refl ∙ ap (λ (j : ℕ). get_or (editions_of now) j 0) (sym same)),
             ),
       )

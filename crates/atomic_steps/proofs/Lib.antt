@@ -8,3 +8,4 @@ pub mod Alone
 pub mod Turned
 pub mod Tells
 pub mod Bases
+pub mod Alike

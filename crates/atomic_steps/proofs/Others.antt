@@ -22,6 +22,7 @@ use Rattle.replay_log.specs.Worlds.{happens}
 use Rattle.atomic_steps.specs.Machine.{AlikeBelow}
 use Rattle.atomic_steps.specs.Own.{Alike}
 use Rattle.atomic_steps.specs.Steps.{OnlyOwn, IsAtomic, atomic_action, ready_at, ended_at, Does}
+use Rattle.atomic_steps.proofs.Alike.{alike_trans}
 use Rattle.atomic_steps.proofs.OneStep.{nothing, ask_calm, one_step}
 
 -- a gate that becomes a's, or nobody's, was not b's before and is not b's after
@@ -91,20 +92,6 @@ module _ {V : Type 0} (a b : ℕ) (ne : b ≢ a) where
       gates = λ k. ap (is_actor b) (sym (h.gates k));
       opening = sym h.opening;
       first = sym h.first;
-    };
-  }
-
-  pub then_alike : (v u t : World V) → Alike b v u → Alike b u t → Alike b v t
-  then_alike v u t g h = record {
-    words = g.words ∙ h.words;
-    blocks = g.blocks ∙ h.blocks;
-    seat = g.seat ∙ h.seat;
-    boosted = record {
-      actor = g.boosted.actor ∙ h.boosted.actor;
-      shadow = g.boosted.shadow ∙ h.boosted.shadow;
-      gates = λ k. g.boosted.gates k ∙ h.boosted.gates k;
-      opening = g.boosted.opening ∙ h.boosted.opening;
-      first = g.boosted.first ∙ h.boosted.first;
     };
   }
 
@@ -186,12 +173,12 @@ module _ {V : Type 0} (a b : ℕ) (ne : b ≢ a) where
   action_stands v u x p None g = calm_alike v u g
   action_stands v u x p (Some d) (h, g) =
       let t : World V = acted v (d ∷ []) in
-      then_alike v (ended_at a x p t) u (noted_stands v t x p (atomic_stands v d h)) (calm_alike _ u g)
+      alike_trans b v (ended_at a x p t) u (noted_stands v t x p (atomic_stands v d h)) (calm_alike _ u g)
 
 pub others : {V : Type 0} → (v : World V) (event : Event V) (b : ℕ) → b ≢ whose event → Alike b v (happens v event).0
 others v (Ask a q) b ne = calm_alike a b ne v _ (one_step v (Ask a q))
 others v (Step a) b ne =
     let p = (v.seats a).stage in
-    then_alike a b ne v (ready_at a v p) (happens v (Step a)).0 (ready_stands a b ne v p)
+    alike_trans b v (ready_at a v p) (happens v (Step a)).0 (ready_stands a b ne v p)
     (action_stands a b ne (ready_at a v p) (happens v (Step a)).0 (v.seats a) p (atomic_action a v p) (one_step v (Step a)))
 others v (Starve a) b ne = calm_alike a b ne v _ (one_step v (Starve a))

@@ -17,10 +17,10 @@ module _ {V : Type 0} where
     pub wide : length (editions_of base) ≡ size b
 
   -- it shows the parts and the editions that collection k has in w, in a shape of n words and the blocks bs
-  abbrev pub ShowsBase : (n : ℕ) → List Block → World V → (k : ℕ) → Block → Base V → Type 0
-  ShowsBase n bs w k b base =
+  abbrev pub ShowsBase : (n : ℕ) → List Block → World V → (k : ℕ) → Base V → Type 0
+  ShowsBase n bs w k base =
       (l : ℕ) → is_plain n bs l ≡ false → home_of n bs l ≡ k
-      → (w.boosted.parts l ≡ part b.stripes (l - first_of n bs k) (shown_of base))
+      → (w.boosted.parts l ≡ part (stripes_of base) (l - first_of n bs k) (shown_of base))
       × (w.boosted.editions l ≡ slice_index (editions_of base) (l - first_of n bs k))
 
   abbrev pub changes_on : Block → Option (Outcome V) → List (Change V)

@@ -15,7 +15,7 @@ ghost use Rattle.replay_log.specs.Seats.{World, Beginning, actor_of};
 ghost use Rattle.replay_log.specs.Worlds.{happens, opened, run};
 ghost use Rattle.atomic_steps.specs.Machine.{AlikeBelow, FindsBelow, SameBase};
 ghost use Rattle.atomic_steps.specs.Own.{Alike, SameAfter, Finds};
-ghost use Rattle.atomic_steps.specs.Steps.{IsOneAction, ready_at};
+ghost use Rattle.atomic_steps.specs.Steps.{IsOneAction, atomic_action, ready_at};
 ghost use Rattle.atomic_steps.specs.Spots.{Word, Gate, spot_at, deed_of, given};
 ghost use Rattle.atomic_steps.specs.Gates.{Tries, Puts, GoesHome, Gated, Homed};
 ghost use Rattle.atomic_steps.specs.Clock.{Grows};
@@ -45,6 +45,14 @@ pub fn one_spot<V>()
         (happens v (Step a)).0.boosted.parts l ≡ v.boosted.parts l }
     ensures editions { (v : World V) (a l : ℕ) → spot_at a v (v.seats a).stage ≢ Gate (home_of v.words v.blocks l) →
         (happens v (Step a)).0.boosted.editions l ≡ v.boosted.editions l }
+{}
+
+/// Which word or gate that is, and what is done there, depends on the actor's own part alone.
+pub fn due_by_own_part<V>()
+    ensures spot { (a : ℕ) (v w : World V) → Alike a v w → spot_at a v (v.seats a).stage ≡ spot_at a w (w.seats a).stage }
+    ensures action { (a : ℕ) (v w : World V) → Alike a v w → atomic_action a v (v.seats a).stage ≡ atomic_action a w (w.seats a).stage }
+    ensures deed { (a : ℕ) (v w : World V) → Alike a v w →
+        deed_of (ready_at a v (v.seats a).stage) a ≡ deed_of (ready_at a w (w.seats a).stage) a }
 {}
 
 /// That word becomes what the word machine's step makes of what it was. The clock grows no further than its actor may advance it.
@@ -117,9 +125,9 @@ pub fn goes_home_as_folded<V>()
         (before now : Base V) → HaveStripes blocks →
         let v = run (opened blocks clock values held) events in
         let outcomes = (v.boosted.shadows a).outcomes in
-        GoesHome v a k → block_of v.blocks k ≡ Some b → IsBaseOf b before → ShowsBase v.words v.blocks v k b before →
+        GoesHome v a k → block_of v.blocks k ≡ Some b → IsBaseOf b before → ShowsBase v.words v.blocks v k before →
         IsFolded (log_changes k b outcomes) (log_locations k b outcomes) before now →
-        IsBaseOf b now × ShowsBase v.words v.blocks (happens v (Step a)).0 k b now }
+        IsBaseOf b now × ShowsBase v.words v.blocks (happens v (Step a)).0 k now }
     ensures changes { (k : ℕ) (b : Block) (outcomes : List (Answered V)) (outcome : Answered V) →
         log_changes k b (outcomes ++ outcome ∷ [])
         ≡ log_changes k b outcomes ++ (if outcome.asked.collection == k then changes_on b outcome.outcome else []) }
