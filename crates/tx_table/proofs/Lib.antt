@@ -1,3 +1,5 @@
 pub mod Numbers
 pub mod Turned
 pub mod Keeps
+pub mod Gates
+pub mod Ends

@@ -2,7 +2,7 @@
 --
 -- A gate and the base of its collection go together: the base lies in its slot while the gate is free, and is out with the seat that has the gate. Each seat's
 -- actor knows the world in which it is alone with what it found.
-use Rattle.std.specs.Prelude.{◌≡◌, ℕ, zero, suc, ◌+◌, ◌-◌, ◌<◌, ◌≤◌, true, false, max, List, [], ◌∷◌, ◌++◌, length, get_or, Option as Maybe, Some, None}
+use Rattle.std.specs.Prelude.{◌≡◌, ◌⊎◌, ℕ, zero, suc, ◌+◌, ◌-◌, ◌<◌, ◌≤◌, true, false, max, List, [], ◌∷◌, ◌++◌, length, get_or, Option as Maybe, Some, None}
 use mathlib.Core.Option.{Option, none, some}
 use lib.ListN.{get_elem?}
 use Rattle.atomic_table.specs.Table.{State, Me}
@@ -116,6 +116,12 @@ module _ {V : Type 0} where
   -- what a step tells of a seat: it took this turn
   abbrev pub Told : World V → ℕ → List (Event V) → ℕ → Me (Slot V) (View V) → ℕ → Maybe (Base V) → View V → Type 0
   Told o id qs k m found b v = v ≡ acting m.0 (record { asks = qs; found = found; base = b }) (ends id (asked_all id (lone id o m.0.turns) qs)) k
+
+  -- what a try on the gate of k tells: it found the gate free and has its base, or found it taken
+  abbrev pub Took : World V → ℕ → List (Event V) → Me (Slot V) (View V) → ℕ → ℕ → Me (Slot V) (View V) → Type 0
+  Took o id qs m k found t =
+      ((found ≡ 0) × (b : Base V) × IsBaseAt o.blocks k b × Told o id qs m.0.clock m found (Some b) t.0 × (t.1 ≡ (k, Some b) ∷ m.1))
+      ⊎ ((found ≡ 1) × Told o id qs m.0.clock m found None t.0 × (t.1 ≡ m.1))
 
   abbrev pub left_of : ℕ → View V → View V
   left_of k v = record { shares = v.shares - k; clock = v.clock; turns = v.turns; receipts = v.receipts }

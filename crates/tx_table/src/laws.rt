@@ -28,6 +28,8 @@ ghost use Rattle.tx_table.specs.Shown.{
   total,
   Rule,
   Told,
+  Took,
+  IsBaseAt,
   View,
   Slot,
   
@@ -65,4 +67,51 @@ pub fn word_steps<V>()
         ((k : ℕ) → k ≤ clock_limit + 64 → becomes (deed_of (ready_at id alone (stage_of alone id)) id) k ≡ f k) →
         Allows (Rule o) slots id m 0 f
         (λ found t. Told o id asks found m found None t.0 × (t.1 ≡ m.1) × (m.0.clock ≤ found) × (found ≤ clock_limit + 64)) }
+{}
+
+/// A step on a gate keeps the rule, whatever the table is by then. A gate that is tried and found free goes to the seat with its
+/// base. One that is put back takes home a base which shows what the actor's own world has then: as it was, or with
+/// the changes of its transaction.
+pub fn gate_steps<V>()
+    ensures take { (o : World V) (id : ℕ) (m : Me (Slot V) (View V)) (asks : List (Event V)) (slots k : ℕ) →
+        let alone = asked_all id (lone id o m.0.turns) asks in
+        0 < m.0.shares → k < length o.blocks → Tries alone id k → is_committing (actor_of alone id).place ≡ false →
+        Allows (Rule o) slots id m (gate_address (end_of o.words o.blocks) k) (λ n. either (n == 0) 1 n) (Took o id asks m k) }
+    ensures put { (o : World V) (id : ℕ) (m : Me (Slot V) (View V)) (asks : List (Event V)) (slots k : ℕ) (b : Base V)
+        (others : List ((i : ℕ) × Slot V)) →
+        let alone = asked_all id (lone id o m.0.turns) asks in
+        HaveStripes o.blocks → 0 < m.0.shares → k < length o.blocks → m.1 ≡ (k, Some b) ∷ others → Puts alone id k →
+        is_actor id (alone.boosted.gates k) ≡ true → is_committing (actor_of alone id).place ≡ false → IsBaseAt o.blocks k b →
+        ShowsBase o.words o.blocks (happens (found_at id alone (Gate k) 1 None) (Step id)).0 k b →
+        Allows (Rule o) slots id m (gate_address (end_of o.words o.blocks) k) (λ _. 0)
+        (λ _ t. Told o id asks m.0.clock m 1 None t.0 × (t.1 ≡ others)) }
+    ensures home { (o : World V) (id : ℕ) (m : Me (Slot V) (View V)) (asks : List (Event V)) (slots k : ℕ) (b : Base V)
+        (others : List ((i : ℕ) × Slot V)) →
+        let alone = asked_all id (lone id o m.0.turns) asks in
+        HaveStripes o.blocks → 0 < m.0.shares → k < length o.blocks → m.1 ≡ (k, Some b) ∷ others → GoesHome alone id k →
+        is_actor id (alone.boosted.gates k) ≡ true → is_stored (actor_of alone id).place ≡ true → IsBaseAt o.blocks k b →
+        ShowsBase o.words o.blocks (happens (found_at id alone (Gate k) 1 None) (Step id)).0 k b →
+        Allows (Rule o) slots id m (gate_address (end_of o.words o.blocks) k) (λ _. 0)
+        (λ _ t. Told o id asks m.0.clock m 1 None t.0 × (t.1 ≡ others)) }
+{}
+
+/// A table that shows the opening meets the rule. A seat that is cut in two, and two that become one, keep it.
+pub fn shares<V>()
+    ensures opened { (o : World V) (words : List ℕ) (homes : List (Home (Slot V))) → IsOpening o → o.boosted.words.clock ≤ clock_limit →
+        o.records ≡ [] → Table o.words o.blocks o words homes → Rule o (record { words = words; homes = homes; views = first_view ∷ [] }) }
+    ensures split { (o : World V) (id k : ℕ) (v : View V) → IsOpening o → 0 < k → k < v.shares →
+        Splits (Rule o) id v (left_of k v) (right_of k v) }
+    ensures join { (o : World V) (id other : ℕ) (v u : View V) → 0 < v.shares → 0 < u.shares →
+        is_half_done (stage_of (lone other o u.turns) other) ≡ false → ((k : ℕ) → is_actor other ((lone other o u.turns).boosted.gates k) ≡ false) →
+        Joins (Rule o) id v other u (both_of v u) (spent_of u) }
+{}
+
+/// What a table leaves whose seat has all shares: its receipts, in commit order, are a run of the sequential model from the opening,
+/// words and bases are what that run leaves.
+pub fn closed<V>()
+    ensures { (blocks : List Block) (clock : ℕ) (values : List ℕ) (held : List (Held V)) → HaveStripes blocks → Suit blocks held →
+        let o = opened blocks clock values held in
+        (id : ℕ) (v : View V) (s : State (Slot V) (View V)) → Rule o s → get_elem? s.views id ≡ some v → v.shares ≡ 64 →
+        is_half_done (stage_of (lone id o v.turns) id) ≡ false → ((k : ℕ) → is_actor id ((lone id o v.turns).boosted.gates k) ≡ false) →
+        Closes (length values) blocks (record { words = values; held = held }) v s.words s.homes }
 {}
