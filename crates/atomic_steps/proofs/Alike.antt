@@ -1,8 +1,8 @@
 -- Worlds that are alike to an actor, and what is due to it there.
 --
--- To be alike is an equivalence. The action that is due, its spot and its deed are read from the actor's stage and record and from the shape, so they are the
--- same in worlds that are alike to the actor.
-use Rattle.std.proofs.Common.{◌≡◌, ℕ, Option, Some, None, [], ◌∷◌, refl, sym, ap, ◌∙◌, subst}
+-- To be alike is an equivalence. The action that is due, its spot and its deed are read from the actor's stage and record and from the
+-- shape, so they are the same in worlds that are alike to the actor.
+use Rattle.std.proofs.Common.{◌≡◌, ℕ, Option, Some, None, refl, sym, ap, ◌∙◌, subst}
 use Rattle.word_machine.specs.Actor.{Actor}
 use Rattle.word_machine.specs.Requests as word
 use Rattle.word_machine.specs.World.{plan}
@@ -13,7 +13,7 @@ use Rattle.replay_log.specs.Pieces.{covers_at}
 use Rattle.replay_log.specs.Seats.{World, Seat, Stage, Copying, Ready}
 use Rattle.atomic_steps.specs.Own.{Alike}
 use Rattle.atomic_steps.specs.Steps.{atomic_action, ready_at}
-use Rattle.atomic_steps.specs.Spots.{Spot, spot_of, deed_of, spot_by, spot_at}
+use Rattle.atomic_steps.specs.Spots.{spot_of, deed_of, spot_by, spot_at}
 use Rattle.atomic_steps.proofs.OwnEvents.{asks_alike}
 
 module _ {V : Type 0} where
@@ -69,7 +69,8 @@ module _ {V : Type 0} where
 
   -- the world in which the action is done
   pub ready_same : (a : ℕ) (v w : World V) → Alike a v w → Alike a (ready_at a v (v.seats a).stage) (ready_at a w (w.seats a).stage)
-  ready_same a v w e = subst (λ (p : Stage V). Alike a (ready_at a v (v.seats a).stage) (ready_at a w p)) (stage_same a v w e) (ready_alike a v w (v.seats a).stage e)
+  ready_same a v w e = subst (λ (p : Stage V). Alike a (ready_at a v (v.seats a).stage) (ready_at a w p)) (stage_same a v w e)
+      (ready_alike a v w (v.seats a).stage e)
 
   spot_alike : (a : ℕ) (v w : World V) (d : Option (Action (Asked V))) → Alike a v w → spot_by a v d ≡ spot_by a w d
   spot_alike a v w (Some (OnWords e)) h = ap (λ (x : Actor). spot_of (word_of (plan x x.place))) h.boosted.actor
@@ -84,5 +85,6 @@ module _ {V : Type 0} where
       spot_alike a _ _ (atomic_action a v (v.seats a).stage) (ready_same a v w e)
       ∙ ap (spot_by a (ready_at a w (w.seats a).stage)) (action_same a v w e)
 
-  pub deed_same : (a : ℕ) (v w : World V) → Alike a v w → deed_of (ready_at a v (v.seats a).stage) a ≡ deed_of (ready_at a w (w.seats a).stage) a
+  pub deed_same : (a : ℕ) (v w : World V) → Alike a v w → deed_of (ready_at a v (v.seats a).stage) a
+      ≡ deed_of (ready_at a w (w.seats a).stage) a
   deed_same a v w e = ap (λ (x : Actor). plan x x.place) (ready_same a v w e).boosted.actor

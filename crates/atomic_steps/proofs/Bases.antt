@@ -4,8 +4,8 @@
 -- parts), an outcome on another leaves them, and a log is one outcome after another. Editions: by the machine's invariant the write set
 -- has a location of the collection exactly where an outcome writes it, that is where the log was pushed with it, and there the fold
 -- raises the edition by one, as the world does.
-use Rattle.std.proofs.Common.{◌≡◌, ◌⊎◌, ℕ, zero, suc, pred, ◌+◌, ◌-◌, ◌<◌, ◌≤◌, Bool, true, false, ltb, List, [], ◌∷◌, ◌++◌, Option, Some, None, inl, inr, ⊎_elim, refl, sym, ap, ◌∙◌, subst, arith, true≢false, eq-eqb, eqb-true, length, length-set, append-nil, append_assoc, ltb-true, ltb-false, get_or, set}
-use Rattle.std.specs.Prelude.{Contains, ◌↔◌, ◌==◌, ◌||◌, not, nat_lt, if◌then◌else◌}
+use Rattle.std.proofs.Common.{◌≡◌, ℕ, zero, suc, pred, ◌+◌, ◌-◌, ◌<◌, ◌≤◌, Bool, true, false, ltb, List, [], ◌∷◌, ◌++◌, Option, Some, None, ⊎_elim, refl, sym, ap, ◌∙◌, subst, arith, true≢false, eq-eqb, eqb-true, length, length-set, append-nil, append_assoc, ltb-true, ltb-false, get_or, set}
+use Rattle.std.specs.Prelude.{Contains, ◌==◌, ◌||◌, not, nat_lt, if◌then◌else◌}
 use Rattle.std.specs.FinMap.{empty}
 use Rattle.std.proofs.lemmas.Bool.{cond-true, cond-false, cond_both, cases_Bool}
 use Rattle.std.proofs.lemmas.List.Sums.{fold-append}
@@ -18,15 +18,14 @@ use Rattle.seq_model.specs.declared.held.Held.{Held}
 use Rattle.seq_model.specs.declared.event.Event.{Event}
 use Rattle.seq_model.specs.declared.event.Event.TheVariants.{Step}
 use Rattle.collection_machine.specs.Content.{IsIn, has}
-use Rattle.collection_machine.specs.Boosted.{Action, GoHome, changes, is_actor, is_none, is_stored}
+use Rattle.collection_machine.specs.Boosted.{GoHome, changes, is_none}
 use Rattle.collection_machine.specs.Serial.{does_write}
 use Rattle.collection_machine.proofs.Parts.{in_has, written_does, untouched_does}
 use Rattle.replay_log.specs.declared.base.Base.{Base}
-use Rattle.replay_log.specs.Base.{Shown, OfMap, OfBag, OfPq, OfQueue, after, changes_of, editions_of, shown_of, stripes_of, writes_of}
+use Rattle.replay_log.specs.Base.{Shown, OfMap, OfBag, OfPq, OfQueue, after, changes_of, editions_of, shown_of, writes_of}
 use Rattle.replay_log.specs.Guards.{IsAllowed, step_action}
-use Rattle.replay_log.specs.Log.{AreRaised}
 use Rattle.replay_log.specs.Parts.{Kind, MapKind, BagKind, PqKind, QueueKind, kind_of, part, whole}
-use Rattle.replay_log.specs.Contents.{Asked, Block, Answered, HaveStripes, block_of, end_of, first_of, home_of, is_plain, content, size, shifted, blank, seen, changed, writes_in}
+use Rattle.replay_log.specs.Contents.{Block, Answered, HaveStripes, block_of, end_of, first_of, home_of, is_plain, content, size, shifted, blank, seen, changed, writes_in}
 use Rattle.replay_log.specs.Seats.{World, Stage, Ready, actor_of}
 use Rattle.replay_log.specs.Worlds.{happens, opened, run}
 use Rattle.replay_log.proofs.PartLemmas.{is_whole, leaves_other_parts, whole_local}
@@ -300,6 +299,7 @@ module _ {V : Type 0} where
               gone.parts l home_l ∙ (ap (changes (content n bs) os v.boosted.parts) z.1
                   ∙ (shows_log n bs k b here is os v.boosted.parts (shown_of before) base.kind (λ j lt. (at j lt).0) i z.2
                   ∙ (λ j. part (sym (folded.stripes ∙ base.stripes) j) (sym same j) (sym folded.shown j)))),
-              gone.editions l home_l ∙ (edition (lookup (actor_of v a).writes l) refl ∙ ap (λ (j : ℕ). get_or (editions_of now) j 0) (sym same)),
+              gone.editions l home_l
+                  ∙ (edition (lookup (actor_of v a).writes l) refl ∙ ap (λ (j : ℕ). get_or (editions_of now) j 0) (sym same)),
             ),
       )

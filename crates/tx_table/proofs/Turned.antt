@@ -1,8 +1,9 @@
 -- A turn: what an actor asks, and then one step, in the world and in the actor's own.
 --
--- What is asked leaves all that is shared, so an actor's requests may be told late, together with its next step. A step on a word finds in the own world the
--- number that was planted there, so it leaves and tells the same in both (`own_event`). The records grow by what the step commits.
-use Rattle.std.proofs.Common.{◌≡◌, ℕ, ◌+◌, Bool, true, false, List, [], ◌∷◌, ◌++◌, Option, Some, None, refl, sym, ap, ◌∙◌, subst, arith}
+-- What is asked leaves all that is shared, so an actor's requests may be told late, together with its next step. A step on a word finds
+-- in the own world the number that was planted there, so it leaves and tells the same in both (`own_event`). The records grow by what
+-- the step commits.
+use Rattle.std.proofs.Common.{◌≡◌, ℕ, ◌+◌, true, false, List, [], ◌∷◌, ◌++◌, Option, Some, None, refl, sym, ap, ◌∙◌, subst, arith}
 use Rattle.std.proofs.lemmas.Bool.{cond_both}
 use Rattle.word_machine.specs.Requests as word
 use Rattle.word_machine.specs.World as machine
@@ -14,12 +15,12 @@ use Rattle.seq_model.specs.Runs.{comes_before, insert_record}
 use Rattle.collection_machine.specs.Boosted.{Action, OnWords, TakeGate, PutGate, Accept, GoHome}
 use Rattle.replay_log.specs.declared.base.Base.{Base}
 use Rattle.replay_log.specs.Contents.{Asked}
-use Rattle.replay_log.specs.Seats.{World, Seat, Stage, Closing, Copying, Leaving, Ready, acted, asks, actor_of}
+use Rattle.replay_log.specs.Seats.{World, Seat, Stage, Closing, Copying, Leaving, Ready, acted, asks}
 use Rattle.replay_log.specs.Worlds.{happens}
 use Rattle.atomic_steps.specs.Machine.{SameWord}
 use Rattle.atomic_steps.specs.Own.{Alike, SameAfter, FindsBy, FindsAt}
 use Rattle.atomic_steps.specs.Spots.{Spot, Word, spot_of, deed_of, word_spot, spot_by, spot_at}
-use Rattle.atomic_steps.specs.Steps.{OnlyOwn, Does, IsAtomic, atomic_action, ready_at, ended_at}
+use Rattle.atomic_steps.specs.Steps.{OnlyOwn, Does, atomic_action, ready_at, ended_at}
 use Rattle.atomic_steps.proofs.Alone.{planted_word, planted_alike}
 use Rattle.atomic_steps.proofs.OneStep.{one_step, nothing, through, ask_calm}
 use Rattle.atomic_steps.proofs.OwnEvents.{own_event}
@@ -45,7 +46,8 @@ module _ {V : Type 0} where
   pub asked_calm : (a : ℕ) (es : List (Event V)) (w : World V) → OnlyOwn a w (asked_all a w es)
   asked_calm a [] w = nothing a w
   asked_calm a (e ∷ es) w =
-      through a w (happens w (own a e)).0 (asked_all a (happens w (own a e)).0 es) (one_asked a w e) (asked_calm a es (happens w (own a e)).0)
+      through a w (happens w (own a e)).0 (asked_all a (happens w (own a e)).0 es) (one_asked a w e)
+      (asked_calm a es (happens w (own a e)).0)
 
   pub asked_alike : (a : ℕ) (es : List (Event V)) (v w : World V) → Alike a v w → Alike a (asked_all a v es) (asked_all a w es)
   asked_alike a [] v w h = h
@@ -62,19 +64,24 @@ module _ {V : Type 0} where
       → cell v.boosted.words d ≡ cell (word_planted a v w c b).boosted.words d
   word_same a v w c b d o e h =
       let q : c ≡ d = (let z : Word c ≡ Word d = sym e ∙ ap spot_of h in cc) in
-      subst (λ (z : Cell). cell v.boosted.words z ≡ cell (word_planted a v w c b).boosted.words z) q (sym (planted_word v.boosted.words w.boosted.words c))
+      subst (λ (z : Cell). cell v.boosted.words z ≡ cell (word_planted a v w c b).boosted.words z) q
+      (sym (planted_word v.boosted.words w.boosted.words c))
 
   ready_same : (a : ℕ) (v w : World V) (c : Cell) (b : Option (Base V)) → word_spot (acted v (asks a word.AskStore ∷ [])) a ≡ Word c
-      → SameWord a (acted v (asks a word.AskStore ∷ [])).boosted.words (acted (word_planted a v w c b) (asks a word.AskStore ∷ [])).boosted.words
+      → SameWord a (acted v (asks a word.AskStore ∷ [])).boosted.words
+      (acted (word_planted a v w c b) (asks a word.AskStore ∷ [])).boosted.words
   ready_same a v w c b e d touches =
       (ask_calm a v word.AskStore).cells d
-      ∙ (word_same a v w c b d (word_of (deed_of (acted v (asks a word.AskStore ∷ [])) a)) e touches ∙ sym ((ask_calm a (word_planted a v w c b) word.AskStore).cells d))
+      ∙ (word_same a v w c b d (word_of (deed_of (acted v (asks a word.AskStore ∷ [])) a)) e touches
+      ∙ sym ((ask_calm a (word_planted a v w c b) word.AskStore).cells d))
 
-  finds_by : (a : ℕ) (v w u : World V) (x : Seat V) (p : Stage V) (c : Cell) (b : Option (Base V)) (d : Option (Action (Asked V))) → spot_by a v d ≡ Word c
+  finds_by : (a : ℕ) (v w u : World V) (x : Seat V) (p : Stage V) (c : Cell) (b : Option (Base V)) (d : Option (Action (Asked V)))
+      → spot_by a v d ≡ Word c
       → Does a v x p d u → FindsBy a v (word_planted a v w c b) d
   finds_by a v w u x p c b None e g = tt
   finds_by a v w u x p c b (Some (OnWords (machine.Ask i q))) e (h, g) = absurd h
-  finds_by a v w u x p c b (Some (OnWords (machine.Step i))) e (h, g) = (h, λ d touches. word_same a v w c b d (word_of (deed_of v a)) e touches)
+  finds_by a v w u x p c b (Some (OnWords (machine.Step i))) e
+      (h, g) = (h, λ d touches. word_same a v w c b d (word_of (deed_of v a)) e touches)
   finds_by a v w u x p c b (Some (TakeGate i k)) e g = absurd (let z : ⊥ = cc in z)
   finds_by a v w u x p c b (Some (PutGate i k which)) e g = absurd (let z : ⊥ = cc in z)
   finds_by a v w u x p c b (Some (Accept i q)) e g = absurd (let z : ⊥ = cc in z)
@@ -103,7 +110,8 @@ module _ {V : Type 0} where
 
   ended_records : (h : ℕ × Record V → ℕ) (a : ℕ) (t : World V) (x : Seat V) (p : Stage V)
       → total h (ended_at a x p t).records ≡ total h t.records + total h (ends_of a x p)
-  ended_records h a t x (Ready ks) = let e = inserted h (a, record { number = x.wv; writes = true; calls = x.calls }) t.records in omega arith
+  ended_records h a t x (Ready ks) = let e = inserted h (a, record { number = x.wv; writes = true; calls = x.calls }) t.records in
+      omega arith
   ended_records h a t x Closing = let e = inserted h (a, record { number = x.rv; writes = false; calls = x.calls }) t.records in omega arith
   ended_records h a t x Leaving = omega arith
   ended_records h a t x p = omega arith
@@ -114,7 +122,8 @@ module _ {V : Type 0} where
   none_ends a v x Closing e = absurd (let z : ⊥ = cc in z)
   none_ends a v x p e = refl
 
-  step_records : (h : ℕ × Record V → ℕ) (a : ℕ) (r v u : World V) (x : Seat V) (p : Stage V) (d : Option (Action (Asked V))) → atomic_action a v p ≡ d
+  step_records : (h : ℕ × Record V → ℕ) (a : ℕ) (r v u : World V) (x : Seat V) (p : Stage V) (d : Option (Action (Asked V)))
+      → atomic_action a v p ≡ d
       → Does a r x p d u → total h u.records ≡ total h r.records + total h (ends_of a x p)
   step_records h a r v u x p None e g = let z = ap (total h) g.records in let q = ap (total h) (none_ends a v x p e) in omega arith
   step_records h a r v u x p (Some d) e (at, g) = ap (total h) g.records ∙ ended_records h a (acted r (d ∷ [])) x p
@@ -123,7 +132,9 @@ module _ {V : Type 0} where
   ready_records a v (Ready ks) = refl
   ready_records a v p = refl
 
-  pub records_grow : (h : ℕ × Record V → ℕ) (a : ℕ) (v : World V) → total h (happens v (Step a)).0.records ≡ total h v.records + total h (ends a v)
+  pub records_grow : (h : ℕ × Record V → ℕ) (a : ℕ) (v : World V) → total h (happens v (Step a)).0.records ≡ total h v.records + total h
+      (ends a v)
   records_grow h a v =
-      step_records h a (ready_at a v (stage_of v a)) v (happens v (Step a)).0 (v.seats a) (stage_of v a) (atomic_action a v (stage_of v a)) refl (one_step v (Step a))
+      step_records h a (ready_at a v (stage_of v a)) v (happens v (Step a)).0 (v.seats a) (stage_of v a)
+      (atomic_action a v (stage_of v a)) refl (one_step v (Step a))
       ∙ ap (λ (rs : List (ℕ × Record V)). total h rs + total h (ends a v)) (ready_records a v (stage_of v a))

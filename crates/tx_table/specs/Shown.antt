@@ -1,12 +1,12 @@
 -- The rule of the table: some list of events reaches a world that its words, its slots and the views of its seats show.
 --
--- A gate and the base of its collection go together: the base lies in its slot while the gate is free, and is out with the seat that has the gate. Each seat's
--- actor knows the world in which it is alone with what it found.
+-- A gate and the base of its collection go together: the base lies in its slot while the gate is free, and is out with the seat that has
+-- the gate. Each seat's actor knows the world in which it is alone with what it found.
 use Rattle.std.specs.Prelude.{◌≡◌, ◌⊎◌, ℕ, zero, suc, ◌+◌, ◌-◌, ◌<◌, ◌≤◌, true, false, max, List, [], ◌∷◌, ◌++◌, length, get_or, Option as Maybe, Some, None}
 use mathlib.Core.Option.{Option, none, some}
 use lib.ListN.{get_elem?}
 use Rattle.atomic_table.specs.Table.{State, Me}
-use Rattle.word_machine.specs.Actor.{Actor, Place, clock_limit}
+use Rattle.word_machine.specs.Actor.{Place, clock_limit}
 use Rattle.word_machine.specs.Cells.{Cell, cell}
 use Rattle.seq_model.specs.declared.event.Event.{Event}
 use Rattle.seq_model.specs.declared.record.Record.{Record}
@@ -18,7 +18,7 @@ use Rattle.replay_log.specs.Parts.{part}
 use Rattle.replay_log.specs.Collections.{shown_at}
 use Rattle.seq_model.specs.Contents.{Contents}
 use Rattle.seq_model.specs.Runs.{IsInCommitOrder, IsRun, after_run}
-use Rattle.replay_log.specs.Seats.{World, Stage, actor_of}
+use Rattle.replay_log.specs.Seats.{World, actor_of}
 use Rattle.replay_log.specs.Worlds.{run}
 use Rattle.replay_log.specs.WorldTraces.{is_half_done}
 use Rattle.atomic_steps.specs.Bases.{IsBaseOf, ShowsBase}
@@ -33,8 +33,8 @@ abbrev pub total : {A : Type 0} → (A → ℕ) → List A → ℕ
 total f [] = 0
 total f (x ∷ xs) = f x + total f xs
 
--- What a seat knows: its shares, the last clock that it loaded, what its actor has asked and found, and the transactions that were committed, by its actor and by
--- those whose seats were joined into it.
+-- What a seat knows: its shares, the last clock that it loaded, what its actor has asked and found, and the transactions that were
+-- committed, by its actor and by those whose seats were joined into it.
 pub record View (V : Type 0) : Type 0 where
   pub shares : ℕ
   pub clock : ℕ
@@ -115,7 +115,8 @@ module _ {V : Type 0} where
 
   -- what a step tells of a seat: it took this turn
   abbrev pub Told : World V → ℕ → List (Event V) → ℕ → Me (Slot V) (View V) → ℕ → Maybe (Base V) → View V → Type 0
-  Told o id qs k m found b v = v ≡ acting m.0 (record { asks = qs; found = found; base = b }) (ends id (asked_all id (lone id o m.0.turns) qs)) k
+  Told o id qs k m found b v = v ≡ acting m.0 (record { asks = qs; found = found; base = b })
+      (ends id (asked_all id (lone id o m.0.turns) qs)) k
 
   -- what a try on the gate of k tells: it found the gate free and has its base, or found it taken
   abbrev pub Took : World V → ℕ → List (Event V) → Me (Slot V) (View V) → ℕ → ℕ → Me (Slot V) (View V) → Type 0
@@ -141,14 +142,17 @@ module _ {V : Type 0} where
     pub rests : (a : ℕ) → stamps_left (actor_of o a).place ≡ 0
     pub idle : (a : ℕ) → is_half_done (stage_of o a) ≡ false
 
-  -- What a closed table leaves: the receipts, in commit order, are a run of the sequential model from the opening, and words and bases are what it leaves.
-  pub record Closes (n : ℕ) (bs : List Block) (opening : Contents V) (v : View V) (words : List ℕ) (homes : List (Option (Slot V))) : Type 0 where
+  -- What a closed table leaves: the receipts, in commit order, are a run of the sequential model from the opening, and words and bases
+  -- are what it leaves.
+  pub record Closes (n : ℕ) (bs : List Block) (opening : Contents V) (v : View V) (words : List ℕ)
+      (homes : List (Option (Slot V))) : Type 0 where
     pub order : List (ℕ × Record V)
     pub same : (h : ℕ × Record V → ℕ) → total h v.receipts ≡ total h order
     pub in_order : IsInCommitOrder order
     pub serial : IsRun order opening
     pub values : (l : ℕ) → l < n → get_or words (1 + end_of n bs + l) 0 ≡ get_or (after_run order opening).words l 0
     pub bases :
-      (k : ℕ) → k < length bs
-      → (b : Base V) × (get_elem? homes k ≡ some (some (Some b)))
-      × ((l : ℕ) → is_plain n bs l ≡ false → home_of n bs l ≡ k → part (stripes_of b) (l - first_of n bs k) (shown_of b) ≡ shown_at n bs (after_run order opening).held l)
+        (k : ℕ) → k < length bs
+        → (b : Base V) × (get_elem? homes k ≡ some (some (Some b)))
+        × ((l : ℕ) → is_plain n bs l ≡ false → home_of n bs l ≡ k → part (stripes_of b) (l - first_of n bs k) (shown_of b)
+        ≡ shown_at n bs (after_run order opening).held l)

@@ -32,7 +32,6 @@ ghost use Rattle.tx_table.specs.Shown.{
   IsBaseAt,
   View,
   Slot,
-  
   IsOpening,
   Closes,
   left_of,
