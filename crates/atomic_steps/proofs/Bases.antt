@@ -11,6 +11,7 @@ use Rattle.std.proofs.lemmas.Bool.{cond-true, cond-false, cond_both, cases_Bool}
 use Rattle.std.proofs.lemmas.List.Sums.{fold-append}
 use Rattle.std.proofs.lemmas.List.Elements.{Contains-append_left, Contains-append_right, Contains-append_cases}
 use Rattle.tx_sets.specs.Entries.{lookup}
+use Rattle.word_machine.specs.Actor.{Actor}
 use Rattle.conflict.specs.declared.outcome.Outcome.{Outcome}
 use Rattle.conflict.specs.declared.change.Change.{Change}
 use Rattle.conflict.specs.Editions.{raised}
@@ -18,9 +19,10 @@ use Rattle.seq_model.specs.declared.held.Held.{Held}
 use Rattle.seq_model.specs.declared.event.Event.{Event}
 use Rattle.seq_model.specs.declared.event.Event.TheVariants.{Step}
 use Rattle.collection_machine.specs.Content.{IsIn, has}
-use Rattle.collection_machine.specs.Boosted.{GoHome, changes, is_none}
-use Rattle.collection_machine.specs.Serial.{does_write}
-use Rattle.collection_machine.proofs.Parts.{in_has, written_does, untouched_does}
+use Rattle.collection_machine.specs.Boosted.{GoHome, Shadow, changes, is_none}
+use Rattle.collection_machine.specs.Serial.{IsWritten, does_write}
+use Rattle.collection_machine.proofs.Parts.{Untouched, in_has, written_does, untouched_does}
+use Rattle.collection_machine.proofs.Invariant.{ShadowOk}
 use Rattle.replay_log.specs.declared.base.Base.{Base}
 use Rattle.replay_log.specs.Base.{Shown, OfMap, OfBag, OfPq, OfQueue, after, changes_of, editions_of, shown_of, writes_of}
 use Rattle.replay_log.specs.Guards.{IsAllowed, step_action}
@@ -35,6 +37,8 @@ use Rattle.replay_log.proofs.EventLemmas.{run_linked, opened_linked}
 use Rattle.replay_log.proofs.GuardLemmas.{world_allows}
 use Rattle.atomic_steps.specs.Bases.{IsBaseOf, ShowsBase, changes_on, writes_on, log_changes, log_locations, IsFolded}
 use Rattle.atomic_steps.specs.Gates.{GoesHome, Homed}
+use Rattle.atomic_steps.specs.Own.{Alike}
+use Rattle.atomic_steps.proofs.Guards.{home_allowed}
 use Rattle.atomic_steps.specs.Steps.{atomic_action}
 use Rattle.atomic_steps.proofs.Turned.{in_list, out_list, home_turned}
 
@@ -238,32 +242,41 @@ module _ {V : Type 0} where
       ap (λ ms. ls ++ ms) (more_locations k b os o) ∙ sym (append_assoc ls (log_locations k b os) _)
 
   -- ---- the base goes home
-  due : (v : World V) (a k : ℕ) (p : Stage V) → atomic_action a v p ≡ Some (GoHome a k) → step_action v a p ≡ Some (GoHome a k)
-  due v a k (Ready ks) e = absurd (let z : ⊥ = cc in z)
-  due v a k p e = e
+  -- the write set has the locations of collections that the outcomes write
+  abbrev SetsOk : ℕ → List Block → Actor → Shadow (Shown V) (Answered V) → Type 0
+  SetsOk n bs y z =
+      ((l : ℕ) → lookup y.writes l ≡ None → Untouched (content n bs) l z.outcomes)
+      × ((l x : ℕ) → is_plain n bs l ≡ false → lookup y.writes l ≡ Some x → IsWritten (content n bs) l z.outcomes)
+
+  sets_alike : (a : ℕ) (v t : World V) → Alike a v t
+      → ShadowOk (content v.words v.blocks) v.boosted (actor_of v a).calls (actor_of v a).writes (v.boosted.shadows a)
+      → SetsOk t.words t.blocks (actor_of t a) (t.boosted.shadows a)
+  sets_alike a v t e ok =
+      subst (SetsOk t.words t.blocks (actor_of t a)) e.boosted.shadow
+      (subst (λ (y : Actor). SetsOk t.words t.blocks y (v.boosted.shadows a)) e.boosted.actor
+      (subst (λ (bs : List Block). SetsOk t.words bs (actor_of v a) (v.boosted.shadows a)) e.blocks
+      (subst (λ (n : ℕ). SetsOk n v.blocks (actor_of v a) (v.boosted.shadows a)) e.words
+      (ok.fits, λ l x word h. (ok.wrote l x word h).2))))
 
   pub goes_home : (blocks : List Block) (clock : ℕ) (values : List ℕ) (held : List (Held V)) (events : List (Event V)) (a k : ℕ)
-      (b : Block) (before now : Base V) → HaveStripes blocks
-      → let v = run (opened blocks clock values held) events in
-      let outcomes = (v.boosted.shadows a).outcomes in
-      GoesHome v a k → block_of v.blocks k ≡ Some b → IsBaseOf b before → ShowsBase v.words v.blocks v k before
-      → IsFolded (log_changes k b outcomes) (log_locations k b outcomes) before now → IsBaseOf b now × ShowsBase v.words v.blocks
-      (happens v (Step a)).0 k now
-  goes_home blocks clock values held events a k b before now stripes home is base shows folded =
+      (b : Block) (before now : Base V) (t : World V) → HaveStripes blocks → Alike a (run (opened blocks clock values held) events) t
+      → let outcomes = (t.boosted.shadows a).outcomes in
+      GoesHome t a k → block_of t.blocks k ≡ Some b → IsBaseOf b before → ShowsBase t.words t.blocks t k before
+      → IsFolded (log_changes k b outcomes) (log_locations k b outcomes) before now → IsBaseOf b now × ShowsBase t.words t.blocks
+      (happens t (Step a)).0 k now
+  goes_home blocks clock values held events a k b before now t stripes alike home is base shows folded =
       let v : World V = run (opened blocks clock values held) events in
-      let n = v.words in
-      let bs = v.blocks in
+      let n = t.words in
+      let bs = t.blocks in
       let f = first_of n bs k in
-      let os = (v.boosted.shadows a).outcomes in
+      let os = (t.boosted.shadows a).outcomes in
       let linked = run_linked events (opened blocks clock values held) (opened_linked blocks clock values held stripes) in
-      let here : HaveStripes bs = linked.base.stripes in
-      let stage = (v.seats a).stage in
-      let guard : IsAllowed v stage (Some (GoHome a k)) = subst (IsAllowed v stage) (due v a k stage home)
-      (world_allows blocks clock values held events a stripes) in
-      let gone : Homed a k v (happens v (Step a)).0 = home_turned a v k home guard.0 guard.1 in
-      let ok = linked.base.inv.shadows a in
-      let at : (i : ℕ) → i < size b → (v.boosted.parts (f + i) ≡ part b.stripes i (shown_of before))
-      × (v.boosted.editions (f + i) ≡ get_or (editions_of before) i 0) = λ i lt.
+      let here : HaveStripes bs = subst HaveStripes alike.blocks linked.base.stripes in
+      let guard = home_allowed blocks clock values held events a k t stripes alike home in
+      let gone : Homed a k t (happens t (Step a)).0 = home_turned a t k home guard.0 guard.1 in
+      let sets : SetsOk n bs (actor_of t a) (t.boosted.shadows a) = sets_alike a v t alike (linked.base.inv.shadows a) in
+      let at : (i : ℕ) → i < size b → (t.boosted.parts (f + i) ≡ part b.stripes i (shown_of before))
+      × (t.boosted.editions (f + i) ≡ get_or (editions_of before) i 0) = λ i lt.
       let back : f + i - f ≡ i = omega arith in
       let z = shows (f + i) (not_plain n bs k i b is lt) (home_is n bs k i b is lt) in
       (z.0 ∙ (λ j. part (base.stripes j) (back j) (shown_of before)), z.1 ∙ ap (λ (j : ℕ). get_or (editions_of before) j 0) back) in
@@ -279,27 +292,27 @@ module _ {V : Type 0} where
             let i = z.0 in
             let same : l - f ≡ i = (let q = z.1 in omega arith) in
             let long : i < length (editions_of before) = (let q = z.2 in let w = base.wide in omega arith) in
-            let edition : (u : Option ℕ) → lookup (actor_of v a).writes l ≡ u
-            → (if is_none u then v.boosted.editions l else v.boosted.editions l + 1) ≡ get_or (editions_of now) i 0 = λ u.
-            elim u as (λ u. lookup (actor_of v a).writes l ≡ u → (if is_none u then v.boosted.editions l else v.boosted.editions l + 1)
+            let edition : (u : Option ℕ) → lookup (actor_of t a).writes l ≡ u
+            → (if is_none u then t.boosted.editions l else t.boosted.editions l + 1) ≡ get_or (editions_of now) i 0 = λ u.
+            elim u as (λ u. lookup (actor_of t a).writes l ≡ u → (if is_none u then t.boosted.editions l else t.boosted.editions l + 1)
             ≡ get_or (editions_of now) i 0) [
               | None ↦ (λ e.
-                  let out = untouched_does (content n bs) os l (ok.fits l e) in
-                  ap v.boosted.editions z.1
+                  let out = untouched_does (content n bs) os l (sets.0 l e) in
+                  ap t.boosted.editions z.1
                   ∙ ((at i z.2).1 ∙ sym (keeps_others (log_locations k b os) (editions_of before) (editions_of now) i written
                   (λ c. true≢false (sym (logged_is_written n bs k b here is os i c)
                   ∙ (ap (λ (j : ℕ). does_write (content n bs) j os) (sym z.1) ∙ out))))))
               | Some x ↦ (λ e.
-                  let does = written_does (content n bs) os l (ok.wrote l x word e).2 in
-                  ap (λ (j : ℕ). v.boosted.editions j + 1) z.1
+                  let does = written_does (content n bs) os l (sets.1 l x word e) in
+                  ap (λ (j : ℕ). t.boosted.editions j + 1) z.1
                   ∙ (ap (λ (m : ℕ). m + 1) (at i z.2).1
                   ∙ sym (raises_each (log_locations k b os) (editions_of before) (editions_of now) i written
                   (written_is_logged n bs k b here is os i z.2 (ap (λ (j : ℕ). does_write (content n bs) j os) (sym z.1) ∙ does)) long)))
             ] in (
-              gone.parts l home_l ∙ (ap (changes (content n bs) os v.boosted.parts) z.1
-                  ∙ (shows_log n bs k b here is os v.boosted.parts (shown_of before) base.kind (λ j lt. (at j lt).0) i z.2
+              gone.parts l home_l ∙ (ap (changes (content n bs) os t.boosted.parts) z.1
+                  ∙ (shows_log n bs k b here is os t.boosted.parts (shown_of before) base.kind (λ j lt. (at j lt).0) i z.2
                   ∙ (λ j. part (sym (folded.stripes ∙ base.stripes) j) (sym same j) (sym folded.shown j)))),
               gone.editions l home_l
-                  ∙ (edition (lookup (actor_of v a).writes l) refl ∙ ap (λ (j : ℕ). get_or (editions_of now) j 0) (sym same)),
+                  ∙ (edition (lookup (actor_of t a).writes l) refl ∙ ap (λ (j : ℕ). get_or (editions_of now) j 0) (sym same)),
             ),
       )

@@ -9,3 +9,4 @@ pub mod Turned
 pub mod Tells
 pub mod Bases
 pub mod Alike
+pub mod Guards

@@ -73,6 +73,19 @@ pub fn gate_becomes<V>()
         Homed a k v (happens v (Step a)).0 }
 {}
 
+/// The guards that [`gate_becomes`] asks for hold in each world that events have reached, and in each that is alike to the actor there.
+pub fn gates_are_due<V>()
+    ensures tried { (blocks : List Block) (clock : ℕ) (values : List ℕ) (held : List (Held V)) (events : List (Event V)) (a k : ℕ) (t : World V) →
+        HaveStripes blocks → Alike a (run (opened blocks clock values held) events) t →
+        Tries t a k → is_committing (actor_of t a).place ≡ false }
+    ensures back { (blocks : List Block) (clock : ℕ) (values : List ℕ) (held : List (Held V)) (events : List (Event V)) (a k : ℕ) (t : World V) →
+        HaveStripes blocks → Alike a (run (opened blocks clock values held) events) t →
+        Puts t a k → (is_actor a (t.boosted.gates k) ≡ true) × (is_committing (actor_of t a).place ≡ false) }
+    ensures home { (blocks : List Block) (clock : ℕ) (values : List ℕ) (held : List (Held V)) (events : List (Event V)) (a k : ℕ) (t : World V) →
+        HaveStripes blocks → Alike a (run (opened blocks clock values held) events) t →
+        GoesHome t a k → (is_actor a (t.boosted.gates k) ≡ true) × (is_stored (actor_of t a).place ≡ true) }
+{}
+
 /// What an event leaves of its actor's own part, and what it tells, depends on that part and on what it finds alone: in two worlds
 /// that are alike to the actor, an event that finds the same tells the same, and leaves worlds that are alike to it. So do the
 /// machine's actions.
@@ -119,15 +132,15 @@ pub fn changes_at_home<V, X, Op, Out>()
 
 /// A base that shows what its collection has, with the log of a transaction folded into it (`replay_log::Log::fold_into`), shows what
 /// the collection has once it has gone home: the parts, and the edition of each location that the log was pushed with one higher. The
-/// log is that of the transaction's calls on the collection, one after another.
+/// log is that of the transaction's calls on the collection, one after another. So it is in a world that events have reached, and in
+/// each that is alike to the actor there, as its own is.
 pub fn goes_home_as_folded<V>()
     ensures home { (blocks : List Block) (clock : ℕ) (values : List ℕ) (held : List (Held V)) (events : List (Event V)) (a k : ℕ) (b : Block)
-        (before now : Base V) → HaveStripes blocks →
-        let v = run (opened blocks clock values held) events in
-        let outcomes = (v.boosted.shadows a).outcomes in
-        GoesHome v a k → block_of v.blocks k ≡ Some b → IsBaseOf b before → ShowsBase v.words v.blocks v k before →
+        (before now : Base V) (t : World V) → HaveStripes blocks → Alike a (run (opened blocks clock values held) events) t →
+        let outcomes = (t.boosted.shadows a).outcomes in
+        GoesHome t a k → block_of t.blocks k ≡ Some b → IsBaseOf b before → ShowsBase t.words t.blocks t k before →
         IsFolded (log_changes k b outcomes) (log_locations k b outcomes) before now →
-        IsBaseOf b now × ShowsBase v.words v.blocks (happens v (Step a)).0 k now }
+        IsBaseOf b now × ShowsBase t.words t.blocks (happens t (Step a)).0 k now }
     ensures changes { (k : ℕ) (b : Block) (outcomes : List (Answered V)) (outcome : Answered V) →
         log_changes k b (outcomes ++ outcome ∷ [])
         ≡ log_changes k b outcomes ++ (if outcome.asked.collection == k then changes_on b outcome.outcome else []) }

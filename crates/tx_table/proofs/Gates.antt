@@ -117,7 +117,7 @@ module _ {V : Type 0} where
         sym (cond-false {A = ℕ} (home_of w.words w.blocks l == k) (editions_found w first b l) (w.boosted.editions l) f),
       )
 
-  none_base : (a : ℕ) (w : World V) (k n j : ℕ) → OneBase j w (found_at a w (Gate k) n None)
+  pub none_base : (a : ℕ) (w : World V) (k n j : ℕ) → OneBase j w (found_at a w (Gate k) n None)
   none_base a w k n j l p at = (
     cond_both {A = Shown V} (home_of w.words w.blocks l == k) (w.boosted.parts l) (w.boosted.parts l) (λ z. w.boosted.parts l ≡ z)
         (λ _. refl) (λ _. refl),
@@ -170,10 +170,10 @@ module _ {V : Type 0} where
     abbrev world : (s : State (Slot V) (View V)) → Rule o s → World V
     world s rule = asked_all id (run o rule.events) qs
 
-    shape_of : (s : State (Slot V) (View V)) (rule : Rule o s) → ((world s rule).words ≡ o.words) × ((world s rule).blocks ≡ o.blocks)
+    pub shape_of : (s : State (Slot V) (View V)) (rule : Rule o s) → ((world s rule).words ≡ o.words) × ((world s rule).blocks ≡ o.blocks)
     shape_of s rule = let g = asked_calm id qs (run o rule.events) in (g.words ∙ rule.shows.shape.0, g.blocks ∙ rule.shows.shape.1)
 
-    alike_of : (s : State (Slot V) (View V)) (rule : Rule o s) → get_elem? s.views id ≡ some m.0 → Alike id (world s rule) alone
+    pub alike_of : (s : State (Slot V) (View V)) (rule : Rule o s) → get_elem? s.views id ≡ some m.0 → Alike id (world s rule) alone
     alike_of s rule here = asked_alike id qs (run o rule.events) (lone id o m.0.turns) (rule.shows.own id m.0 here).alike
 
     -- the bases that it took out, once it has asked

@@ -3,3 +3,4 @@ pub mod Turned
 pub mod Keeps
 pub mod Gates
 pub mod Ends
+pub mod Opened

@@ -1,3 +1,4 @@
 pub mod Layout
 pub mod Turns
 pub mod Shown
+pub mod TurnVectors
