@@ -1,4 +1,5 @@
-//! The laws of the table's rule.
+//! The laws of the table's rule, in the form in which `atomic_table` asks for them: what a step, a split or a join makes of a table that
+//! meets the rule meets it again.
 ghost use Rattle.std.specs.Prelude.{◌≡◌, ◌+◌, ◌<◌, ◌≤◌, ◌==◌, ◌⊎◌, ◌∷◌, ℕ, List, Option, [], Some, None, true, false, length};
 ghost use mathlib.Core.Option.{some, Option as Home};
 ghost use lib.ListN.{get_elem?};
@@ -10,14 +11,14 @@ ghost use Rattle.seq_model.specs.declared.event.Event.{Event};
 ghost use Rattle.seq_model.specs.declared.event.Event.TheVariants.{Step};
 ghost use Rattle.seq_model.specs.declared.held.Held.{Held};
 ghost use Rattle.seq_model.specs.declared.record.Record.{Record};
-ghost use Rattle.collection_machine.specs.Boosted.{is_actor, is_committing, is_stored};
+ghost use Rattle.collection_machine.specs.Boosted.{is_actor};
 ghost use Rattle.replay_log.specs.declared.base.Base.{Base};
-ghost use Rattle.replay_log.specs.Contents.{Block, HaveStripes, end_of};
+ghost use Rattle.replay_log.specs.Contents.{Block, HaveStripes, block_of, end_of};
 ghost use Rattle.replay_log.specs.Collections.{Suit};
-ghost use Rattle.replay_log.specs.Seats.{World, actor_of};
+ghost use Rattle.replay_log.specs.Seats.{World};
 ghost use Rattle.replay_log.specs.Worlds.{happens, opened};
 ghost use Rattle.replay_log.specs.WorldTraces.{is_half_done};
-ghost use Rattle.atomic_steps.specs.Bases.{ShowsBase};
+ghost use Rattle.atomic_steps.specs.Bases.{IsBaseOf, ShowsBase, IsFolded, log_changes, log_locations};
 ghost use Rattle.atomic_steps.specs.Gates.{Tries, Puts, GoesHome};
 ghost use Rattle.atomic_steps.specs.Own.{Alike, SameAfter};
 ghost use Rattle.atomic_steps.specs.Spots.{Word, Gate, deed_of};
@@ -68,29 +69,33 @@ pub fn word_steps<V>()
         (λ found t. Told o id asks found m found None t.0 × (t.1 ≡ m.1) × (m.0.clock ≤ found) × (found ≤ clock_limit + 64)) }
 {}
 
-/// A step on a gate keeps the rule, whatever the table is by then. A gate that is tried and found free goes to the seat with its
-/// base. One that is put back takes home a base which shows what the actor's own world has then: as it was, or with
-/// the changes of its transaction.
+/// A step on a gate of a table that was opened keeps the rule, whatever the table is by then. A gate that is tried and found free goes
+/// to the seat with its base. One that is put back takes its base home: as the actor's own world has it then, or with the log of the
+/// transaction folded into what the own world had. Which step is due in the own world is all that a seat has to know; the machine's
+/// guards hold.
 pub fn gate_steps<V>()
-    ensures take { (o : World V) (id : ℕ) (m : Me (Slot V) (View V)) (asks : List (Event V)) (slots k : ℕ) →
+    ensures take { (blocks : List Block) (clock : ℕ) (values : List ℕ) (held : List (Held V)) → HaveStripes blocks →
+        let o = opened blocks clock values held in
+        (slots id : ℕ) (m : Me (Slot V) (View V)) (asks : List (Event V)) (k : ℕ) → 0 < m.0.shares → k < length blocks →
+        Tries (asked_all id (lone id o m.0.turns) asks) id k →
+        Allows (Rule o) slots id m (gate_address (end_of o.words blocks) k) (λ n. either (n == 0) 1 n) (Took o id asks m k) }
+    ensures put { (blocks : List Block) (clock : ℕ) (values : List ℕ) (held : List (Held V)) → HaveStripes blocks →
+        let o = opened blocks clock values held in
+        (slots id : ℕ) (m : Me (Slot V) (View V)) (asks : List (Event V)) (k : ℕ) (b : Base V) (others : List ((i : ℕ) × Slot V)) →
         let alone = asked_all id (lone id o m.0.turns) asks in
-        0 < m.0.shares → k < length o.blocks → Tries alone id k → is_committing (actor_of alone id).place ≡ false →
-        Allows (Rule o) slots id m (gate_address (end_of o.words o.blocks) k) (λ n. either (n == 0) 1 n) (Took o id asks m k) }
-    ensures put { (o : World V) (id : ℕ) (m : Me (Slot V) (View V)) (asks : List (Event V)) (slots k : ℕ) (b : Base V)
-        (others : List ((i : ℕ) × Slot V)) →
-        let alone = asked_all id (lone id o m.0.turns) asks in
-        HaveStripes o.blocks → 0 < m.0.shares → k < length o.blocks → m.1 ≡ (k, Some b) ∷ others → Puts alone id k →
-        is_actor id (alone.boosted.gates k) ≡ true → is_committing (actor_of alone id).place ≡ false → IsBaseAt o.blocks k b →
-        ShowsBase o.words o.blocks (happens (found_at id alone (Gate k) 1 None) (Step id)).0 k b →
-        Allows (Rule o) slots id m (gate_address (end_of o.words o.blocks) k) (λ _. 0)
+        0 < m.0.shares → k < length blocks → m.1 ≡ (k, Some b) ∷ others → Puts alone id k → IsBaseAt blocks k b →
+        ShowsBase o.words blocks (happens (found_at id alone (Gate k) 1 None) (Step id)).0 k b →
+        Allows (Rule o) slots id m (gate_address (end_of o.words blocks) k) (λ _. 0)
         (λ _ t. Told o id asks m.0.clock m 1 None t.0 × (t.1 ≡ others)) }
-    ensures home { (o : World V) (id : ℕ) (m : Me (Slot V) (View V)) (asks : List (Event V)) (slots k : ℕ) (b : Base V)
+    ensures home { (blocks : List Block) (clock : ℕ) (values : List ℕ) (held : List (Held V)) → HaveStripes blocks →
+        let o = opened blocks clock values held in
+        (slots id : ℕ) (m : Me (Slot V) (View V)) (asks : List (Event V)) (k : ℕ) (b : Block) (before now : Base V)
         (others : List ((i : ℕ) × Slot V)) →
         let alone = asked_all id (lone id o m.0.turns) asks in
-        HaveStripes o.blocks → 0 < m.0.shares → k < length o.blocks → m.1 ≡ (k, Some b) ∷ others → GoesHome alone id k →
-        is_actor id (alone.boosted.gates k) ≡ true → is_stored (actor_of alone id).place ≡ true → IsBaseAt o.blocks k b →
-        ShowsBase o.words o.blocks (happens (found_at id alone (Gate k) 1 None) (Step id)).0 k b →
-        Allows (Rule o) slots id m (gate_address (end_of o.words o.blocks) k) (λ _. 0)
+        let outcomes = (alone.boosted.shadows id).outcomes in
+        0 < m.0.shares → k < length blocks → m.1 ≡ (k, Some now) ∷ others → GoesHome alone id k → block_of blocks k ≡ Some b →
+        IsBaseOf b before → ShowsBase o.words blocks alone k before → IsFolded (log_changes k b outcomes) (log_locations k b outcomes) before now →
+        Allows (Rule o) slots id m (gate_address (end_of o.words blocks) k) (λ _. 0)
         (λ _ t. Told o id asks m.0.clock m 1 None t.0 × (t.1 ≡ others)) }
 {}
 
