@@ -1,7 +1,7 @@
 -- The guards of an actor's steps on gates hold, in a world that events have reached and in each that is alike to the actor there.
 --
--- In the reached world the machine does the action that is due (`world_allows`). Each of these guards speaks of the actor's place and of whether a gate is its
--- own, which are the same where worlds are alike to it.
+-- In the reached world the machine does the action that is due (`world_allows`). Each of these guards speaks of the actor's place and of
+-- whether a gate is its own, which are the same where worlds are alike to it.
 use Rattle.std.proofs.Common.{◌≡◌, ℕ, Bool, true, false, List, Option, Some, None, sym, ap, ◌∙◌, subst}
 use Rattle.word_machine.specs.Actor.{Actor}
 use Rattle.seq_model.specs.declared.held.Held.{Held}
