@@ -59,7 +59,7 @@ home_is w (b ∷ bs) (suc k) i c e lt =
     cond-false (ltb l (w + size b)) 0 (suc (home_of (w + size b) bs l)) (le-ltb l (w + size b) (let z = first_above (w + size b) bs k in omega (arith, z)))
     ∙ ap suc (home_is (w + size b) bs k i c e lt)
 
-not_plain : (w : ℕ) (bs : List Block) (k i : ℕ) (b : Block) → block_of bs k ≡ Some b → i < size b → is_plain w bs (first_of w bs k + i) ≡ false
+pub not_plain : (w : ℕ) (bs : List Block) (k i : ℕ) (b : Block) → block_of bs k ≡ Some b → i < size b → is_plain w bs (first_of w bs k + i) ≡ false
 not_plain w bs k i b e lt =
     let l = first_of w bs k + i in
     ap (λ x. x || not (ltb l (end_of w bs))) (le-ltb l w (let z = first_above w bs k in omega (arith, z)))

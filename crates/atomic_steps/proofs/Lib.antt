@@ -1,0 +1,12 @@
+pub mod OwnActions
+pub mod OwnEvents
+pub mod Clock
+pub mod OneStep
+pub mod Others
+pub mod Spots
+pub mod Alone
+pub mod Turned
+pub mod Tells
+pub mod Bases
+pub mod Alike
+pub mod Guards

@@ -1,0 +1,14 @@
+-- What a step of the words tells, by the number that it finds.
+use Rattle.std.specs.Prelude.{ℕ}
+use Rattle.vlock_word.specs.LockWord.{unbits}
+use Rattle.word_machine.specs.Actor.{Actor, Place}
+use Rattle.word_machine.specs.World.{World, start}
+use Rattle.word_machine.specs.Notices.{Notice, notice}
+
+-- the words where n stands in each
+abbrev pub everywhere : ℕ → World
+everywhere n = record (start n (λ l. n)) { locks = λ l. unbits n }
+
+-- a step looks at one word, so it tells what it would where n stands in each
+abbrev pub tells : Actor → Place → ℕ → Notice
+tells x p n = notice (everywhere n) x p

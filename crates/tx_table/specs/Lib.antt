@@ -1,0 +1,4 @@
+pub mod Layout
+pub mod Turns
+pub mod Shown
+pub mod TurnVectors

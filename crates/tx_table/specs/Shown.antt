@@ -1,0 +1,158 @@
+-- The rule of the table: some list of events reaches a world that its words, its slots and the views of its seats show.
+--
+-- A gate and the base of its collection go together: the base lies in its slot while the gate is free, and is out with the seat that has
+-- the gate. Each seat's actor knows the world in which it is alone with what it found.
+use Rattle.std.specs.Prelude.{◌≡◌, ◌⊎◌, ℕ, zero, suc, ◌+◌, ◌-◌, ◌<◌, ◌≤◌, true, false, max, List, [], ◌∷◌, ◌++◌, length, get_or, Option as Maybe, Some, None}
+use mathlib.Core.Option.{Option, none, some}
+use lib.ListN.{get_elem?}
+use Rattle.atomic_table.specs.Table.{State, Me}
+use Rattle.word_machine.specs.Actor.{Place, clock_limit}
+use Rattle.word_machine.specs.Cells.{Cell, cell}
+use Rattle.seq_model.specs.declared.event.Event.{Event}
+use Rattle.seq_model.specs.declared.record.Record.{Record}
+use Rattle.collection_machine.specs.Boosted.{is_actor}
+use Rattle.replay_log.specs.declared.base.Base.{Base}
+use Rattle.replay_log.specs.Contents.{Block, block_of, content, end_of, first_of, home_of, is_plain}
+use Rattle.replay_log.specs.Base.{shown_of, stripes_of}
+use Rattle.replay_log.specs.Parts.{part}
+use Rattle.replay_log.specs.Collections.{shown_at}
+use Rattle.seq_model.specs.Contents.{Contents}
+use Rattle.seq_model.specs.Runs.{IsInCommitOrder, IsRun, after_run}
+use Rattle.replay_log.specs.Seats.{World, actor_of}
+use Rattle.replay_log.specs.Worlds.{run}
+use Rattle.replay_log.specs.WorldTraces.{is_half_done}
+use Rattle.atomic_steps.specs.Bases.{IsBaseOf, ShowsBase}
+use Rattle.atomic_steps.specs.Clock.{stamps_left}
+use Rattle.atomic_steps.specs.Machine.{SameBase}
+use Rattle.atomic_steps.specs.Own.{Alike}
+use Rattle.atomic_steps.specs.Spots.{gate_word}
+use Rattle.tx_table.specs.Layout.{address, gate_address, IsInside, width}
+use Rattle.tx_table.specs.Turns.{Turn, asked_all, lone, ends, stage_of}
+
+abbrev pub total : {A : Type 0} → (A → ℕ) → List A → ℕ
+total f [] = 0
+total f (x ∷ xs) = f x + total f xs
+
+-- What a seat knows: its shares, the last clock that it loaded, what its actor has asked and found, and the transactions that were
+-- committed, by its actor and by those whose seats were joined into it.
+pub record View (V : Type 0) : Type 0 where
+  pub shares : ℕ
+  pub clock : ℕ
+  pub turns : List (Turn V)
+  pub receipts : List (ℕ × Record V)
+
+-- what a slot holds: a base, or none while a seat works on it
+abbrev pub Slot : Type 0 → Type 0
+Slot V = Maybe (Base V)
+
+abbrev pub tally : {A : Type 0} → (ℕ → A → ℕ) → ℕ → List A → ℕ
+tally f i [] = 0
+tally f i (x ∷ xs) = f i x + tally f (suc i) xs
+
+abbrev pub first : {V : Type 0} → View V
+first = record { shares = 64; clock = 0; turns = []; receipts = [] }
+
+abbrev pub owed_of : ℕ → Place → ℕ
+owed_of zero p = 0
+owed_of (suc k) p = stamps_left p
+
+module _ {V : Type 0} where
+  -- the seat, once its actor has taken this turn, has committed these, and knows this clock
+  abbrev pub acting : View V → Turn V → List (ℕ × Record V) → ℕ → View V
+  acting v i rs k = record { shares = v.shares; clock = k; turns = v.turns ++ i ∷ []; receipts = v.receipts ++ rs }
+
+  -- what the seat of actor j may still add to the clock; one without shares steps no more
+  abbrev pub owed : World V → ℕ → View V → ℕ
+  owed o j v = owed_of v.shares (actor_of (lone j o v.turns) j).place
+
+  -- a base of the kind and shape of collection k
+  abbrev pub IsBaseAt : List Block → ℕ → Base V → Type 0
+  IsBaseAt bs k base = (b : Block) → block_of bs k ≡ Some b → IsBaseOf b base
+
+  -- collection k has the same parts and editions in both worlds
+  abbrev pub OneBase : ℕ → World V → World V → Type 0
+  OneBase k v u = SameBase (content v.words v.blocks) k v.boosted u.boosted
+
+  -- what a gate says of the slot of its base
+  abbrev pub HomeOk : ℕ → List Block → World V → ℕ → List (Option (Slot V)) → Type 0
+  HomeOk n bs w k homes =
+      ((w.boosted.gates k ≡ None) → (b : Base V) × (get_elem? homes k ≡ some (some (Some b))) × IsBaseAt bs k b × ShowsBase n bs w k b)
+      × ((j : ℕ) → w.boosted.gates k ≡ Some j → get_elem? homes k ≡ some none)
+
+  -- the words, the gates and the bases are those of the world
+  pub record Table (n : ℕ) (bs : List Block) (w : World V) (words : List ℕ) (homes : List (Option (Slot V))) : Type 0 where
+    pub wide : length words ≡ width (end_of n bs) (length bs)
+    pub cells : (c : Cell) → IsInside (end_of n bs) c → get_or words (address (end_of n bs) c) 0 ≡ cell w.boosted.words c
+    pub gates : (k : ℕ) → k < length bs → get_or words (gate_address (end_of n bs) k) 0 ≡ gate_word (w.boosted.gates k)
+    pub slots : (k : ℕ) → k < length bs → HomeOk n bs w k homes
+
+  -- the record of actor j is that of the world o, in which it is alone with what it found: also the bases that it took out
+  pub record IsOwn (j : ℕ) (w o : World V) : Type 0 where
+    pub alike : Alike j w o
+    pub out : (k : ℕ) → is_actor j (w.boosted.gates k) ≡ true → OneBase k w o
+
+  -- what is left of a seat that was joined into another
+  pub record IsSpent (o : World V) (j : ℕ) (v : View V) : Type 0 where
+    pub receipts : v.receipts ≡ []
+    pub done : is_half_done (stage_of (lone j o v.turns) j) ≡ false
+    pub bare : (k : ℕ) → is_actor j ((lone j o v.turns).boosted.gates k) ≡ false
+
+  pub record Shows (o w : World V) (s : State (Slot V) (View V)) : Type 0 where
+    pub shape : (w.words ≡ o.words) × (w.blocks ≡ o.blocks)
+    pub table : Table o.words o.blocks w s.words s.homes
+    pub clocks : (j : ℕ) (v : View V) → get_elem? s.views j ≡ some v → v.clock ≤ w.boosted.words.clock
+    pub room : w.boosted.words.clock + tally (owed o) 0 s.views ≤ clock_limit + 64
+    pub shares : total (λ v. v.shares) s.views ≡ 64
+    pub own : (j : ℕ) (v : View V) → get_elem? s.views j ≡ some v → IsOwn j w (lone j o v.turns)
+    pub fresh : (a : ℕ) → length s.views ≤ a → Alike a w o
+    pub spent : (j : ℕ) (v : View V) → get_elem? s.views j ≡ some v → v.shares ≡ 0 → IsSpent o j v
+    pub receipts : (h : ℕ × Record V → ℕ) → total (λ v. total h v.receipts) s.views ≡ total h w.records
+
+  -- some list of events reaches, from the opening o, a world that the table shows
+  pub record Rule (o : World V) (s : State (Slot V) (View V)) : Type 0 where
+    pub events : List (Event V)
+    pub shows : Shows o (run o events) s
+
+  -- what a step tells of a seat: it took this turn
+  abbrev pub Told : World V → ℕ → List (Event V) → ℕ → Me (Slot V) (View V) → ℕ → Maybe (Base V) → View V → Type 0
+  Told o id qs k m found b v = v ≡ acting m.0 (record { asks = qs; found = found; base = b })
+      (ends id (asked_all id (lone id o m.0.turns) qs)) k
+
+  -- what a try on the gate of k tells: it found the gate free and has its base, or found it taken
+  abbrev pub Took : World V → ℕ → List (Event V) → Me (Slot V) (View V) → ℕ → ℕ → Me (Slot V) (View V) → Type 0
+  Took o id qs m k found t =
+      ((found ≡ 0) × (b : Base V) × IsBaseAt o.blocks k b × Told o id qs m.0.clock m found (Some b) t.0 × (t.1 ≡ (k, Some b) ∷ m.1))
+      ⊎ ((found ≡ 1) × Told o id qs m.0.clock m found None t.0 × (t.1 ≡ m.1))
+
+  abbrev pub left_of : ℕ → View V → View V
+  left_of k v = record { shares = v.shares - k; clock = v.clock; turns = v.turns; receipts = v.receipts }
+
+  abbrev pub right_of : ℕ → View V → View V
+  right_of k v = record { shares = k; clock = 0; turns = []; receipts = [] }
+
+  abbrev pub both_of : View V → View V → View V
+  both_of v u = record { shares = v.shares + u.shares; clock = max v.clock u.clock; turns = v.turns; receipts = v.receipts ++ u.receipts }
+
+  abbrev pub spent_of : View V → View V
+  spent_of u = record { shares = 0; clock = 0; turns = u.turns; receipts = [] }
+
+  -- nothing is under way
+  pub record IsOpening (o : World V) : Type 0 where
+    pub free : (k : ℕ) → o.boosted.gates k ≡ None
+    pub rests : (a : ℕ) → stamps_left (actor_of o a).place ≡ 0
+    pub idle : (a : ℕ) → is_half_done (stage_of o a) ≡ false
+
+  -- What a closed table leaves: the receipts, in commit order, are a run of the sequential model from the opening, and words and bases
+  -- are what it leaves.
+  pub record Closes (n : ℕ) (bs : List Block) (opening : Contents V) (v : View V) (words : List ℕ)
+      (homes : List (Option (Slot V))) : Type 0 where
+    pub order : List (ℕ × Record V)
+    pub same : (h : ℕ × Record V → ℕ) → total h v.receipts ≡ total h order
+    pub in_order : IsInCommitOrder order
+    pub serial : IsRun order opening
+    pub values : (l : ℕ) → l < n → get_or words (1 + end_of n bs + l) 0 ≡ get_or (after_run order opening).words l 0
+    pub bases :
+        (k : ℕ) → k < length bs
+        → (b : Base V) × (get_elem? homes k ≡ some (some (Some b)))
+        × ((l : ℕ) → is_plain n bs l ≡ false → home_of n bs l ≡ k → part (stripes_of b) (l - first_of n bs k) (shown_of b)
+        ≡ shown_at n bs (after_run order opening).held l)

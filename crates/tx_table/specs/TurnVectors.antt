@@ -1,0 +1,51 @@
+-- A table's addresses, and an actor's own world turn by turn, computed by the definitions.
+use Rattle.std.specs.Prelude.{◌≡◌, ℕ, true, false, List, [], ◌∷◌, None, refl}
+use Rattle.tx_sets.specs.Entries.{lookup, with_entry, locations}
+use Rattle.vlock_word.specs.LockWord.{unbits}
+use Rattle.word_machine.specs.World.{put, comes_before, insert}
+use Rattle.word_machine.specs.Cells.{ClockCell, LockCell, ValueCell}
+use Rattle.seq_model.specs.declared.call.Op.TheVariants.{Read, Write}
+use Rattle.seq_model.specs.declared.call.Reply.TheVariants.{Done, Number}
+use Rattle.seq_model.specs.declared.event.Event.{Event}
+use Rattle.seq_model.specs.declared.event.Event.TheVariants.{Ask}
+use Rattle.seq_model.specs.declared.event.Request.{Request}
+use Rattle.seq_model.specs.declared.event.Request.TheVariants as request
+use Rattle.seq_model.specs.declared.record.Record.{Record}
+use Rattle.collection_machine.specs.Boosted.{insert_commit}
+use Rattle.replay_log.specs.Seats.{World}
+use Rattle.replay_log.specs.Worlds.{opened}
+use Rattle.tx_table.specs.Layout.{address, gate_address, width}
+use Rattle.tx_table.specs.Turns.{Turn, asked_all, ends, lone}
+
+-- three locations and two gates lie side by side
+nine_words :
+    (address 3 ClockCell ≡ 0) × (address 3 (LockCell 0) ≡ 1) × (address 3 (LockCell 2) ≡ 3) × (address 3 (ValueCell 0) ≡ 4)
+    × (address 3 (ValueCell 2) ≡ 6)
+    × (gate_address 3 0 ≡ 7) × (gate_address 3 1 ≡ 8) × (width 3 2 ≡ 9)
+nine_words = (refl, refl, refl, refl, refl, refl, refl, refl)
+
+turn : List (Event ℕ) → ℕ → Turn ℕ
+turn asks found = record { asks = asks; found = found; base = None }
+
+asks : Request ℕ → Event ℕ
+asks q = Ask 0 q
+
+one_word : World ℕ
+one_word = opened [] 0 (5 ∷ []) []
+
+-- Actor 0 finds the clock at 7, reads 9 at version 3 where the opening has 5 at version 0, writes 8 there, and finds the clock at 7
+-- again, so it commits as 8.
+commit_by_what_was_found :
+    ends 0 (lone 0 one_word
+    (turn (asks request.Begin ∷ []) 7 ∷ turn (asks (request.Call (record { target = 0; op = Read })) ∷ []) 6 ∷ turn [] 9 ∷ turn [] 6
+    ∷ turn (asks (request.Call (record { target = 0; op = Write 8 })) ∷ asks request.Commit ∷ []) 6 ∷ turn [] 6 ∷ turn [] 7 ∷ []))
+    ≡ (
+      0,
+      record {
+        number = 8;
+        writes = true;
+        calls = (record { target = 0; op = Read }, Number 9) ∷ (record { target = 0; op = Write 8 }, Done) ∷ [];
+      },
+    ) ∷ []
+unfolding turn asks one_word unbits lookup put with_entry locations comes_before insert insert_commit
+commit_by_what_was_found = refl
