@@ -1,5 +1,6 @@
 //! Copies, and records in commit order.
-use super::*;
+use crate::states::{bag_of, map_of, on, pq_of, queue_of};
+use seq_model::{Call, Event, Items, Op, Record, Reply, Request, State, insert_record};
 use std::test::Fail;
 
 #[test]

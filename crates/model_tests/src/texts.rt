@@ -1,5 +1,5 @@
 //! What refusals and faults print.
-use super::*;
+use seq_model::{AuditFault, Refusal};
 use std::test::Fail;
 
 #[test]

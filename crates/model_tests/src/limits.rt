@@ -1,5 +1,7 @@
 //! The limits of what a state holds, and calls that have no reply.
-use super::*;
+use crate::calls::make_all;
+use crate::states::{bag_of, map_of, on, pq_of, queue_of, state_of};
+use seq_model::{COPY_LIMIT, Call, INDEX_LIMIT, Op, Refusal, Reply, State};
 use std::test::Fail;
 
 #[test]

@@ -1,5 +1,7 @@
 //! Audits of records on one word that is 0 at first.
-use super::*;
+use crate::states::{on, words_of};
+use seq_model::{AuditFault, Items, Memory, Op, Record, Refusal, Reply, audit};
+use std::alloc::Global;
 use std::test::Fail;
 
 /// A record of one call on the word.

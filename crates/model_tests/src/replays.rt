@@ -1,5 +1,7 @@
 //! What transactions leave that came one after another.
-use super::*;
+use crate::calls::make_all;
+use crate::states::{bag_of, map_of, on, pq_of, queue_of, state_of};
+use seq_model::{Op, Reply};
 use std::test::Fail;
 
 #[test]
