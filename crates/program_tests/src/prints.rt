@@ -1,7 +1,8 @@
 //! Each text that a script prints.
+use model_tests::states::{counts_of, map_of};
 use seq_model::{
-    Answer, Call, Counts, Entries, Held, Items, Memory, Notice, Op, QueueItems, Record, Refusal,
-    Reply, State,
+    Answer, Call, Counts, Entries, Held, Items, Notice, Op, QueueItems, Record, Refusal, Reply,
+    State,
 };
 use session_text::{ScriptRun, print_trace};
 use std::alloc::Global;
@@ -160,31 +161,15 @@ fn records_and_halves(rt: HostRuntime) -> Result<(), Fail> {
     Ok(())
 }
 
-fn entries_of(alloc: Global, pairs: &[(u64, u64)]) -> Result<Entries<u64>, Memory> {
-    let mut entries = Entries::new(alloc);
-    for (key, value) in pairs {
-        entries.insert(*key, *value)?;
-    }
-    Ok(entries)
-}
-
-fn counts_of(alloc: Global, pairs: &[(u64, u64)]) -> Result<Counts, Memory> {
-    let mut counts = Counts::new(alloc);
-    for (element, copies) in pairs {
-        counts.set_copies(*element, *copies)?;
-    }
-    Ok(counts)
-}
-
 #[test]
 fn words_and_each_collection(rt: HostRuntime) -> Result<(), Fail> {
     let alloc = rt.alloc();
-    let map = entries_of(alloc, &[(1, 0), (2, 18_446_744_073_709_551_615)])?;
+    let map = map_of(alloc, &[(1, 0), (2, 18_446_744_073_709_551_615)])?;
     let bag = counts_of(alloc, &[(0, 3), (7, 1)])?;
     let pq = counts_of(alloc, &[(5, 1), (9, 2)])?;
     let items = QueueItems::from_vec(vec![in alloc; 8, 7, 8]?);
     let held = vec![in alloc;
-        Held::Map(map),
+        map,
         Held::Bag(bag),
         Held::Pq(pq),
         Held::Queue { head: 4, items },

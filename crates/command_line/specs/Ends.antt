@@ -11,8 +11,8 @@ use Rattle.session_text.specs.declared.run.ScriptRun.{ScriptRun}
 use Rattle.session_text.specs.Plays.{IsRunOf}
 use Rattle.session_text.specs.Scripts.{IsOpeningOf}
 use Rattle.session_text.specs.Prints.{IsPrinted}
-use Rattle.proust_tool.specs.declared.tool.TheConstants.{FILE_LIMIT}
-use Rattle.proust_tool.specs.Words.{AreTaken, AskForHelp}
+use Rattle.command_line.specs.declared.tool.TheConstants.{FILE_LIMIT}
+use Rattle.command_line.specs.Words.{AreTaken, AskForHelp}
 
 -- what the run of the script that a text spells prints: what came of its lines from its opening, with a trace in
 -- serial order

@@ -1,24 +1,20 @@
 //! Whole runs of the program, over readers and writers in memory.
-mod events;
-mod grammar;
-mod limits;
-mod prints;
-
-use crate::tool::{DONE, MEMORY, REFUSED, file_of, run_tool};
+use command_line::{DONE, MEMORY, REFUSED, file_of, run_tool};
 use std::alloc::{AllocError, Global};
 use std::io;
 use std::io::{Read, Write};
+use std::process::Abort;
 use std::test::Fail;
 
 /// What a run left.
 #[derive(Drop)]
-struct Left {
-    status: u8,
-    out: Vec<u8>,
-    err: Vec<u8>,
+pub struct Left {
+    pub status: u8,
+    pub out: Vec<u8>,
+    pub err: Vec<u8>,
 }
 
-fn words_of(alloc: Global, words: &[&str]) -> Result<Vec<String>, AllocError> {
+pub fn words_of(alloc: Global, words: &[&str]) -> Result<Vec<String>, AllocError> {
     let mut list = Vec::new(alloc);
     for word in words {
         list.push(String::from_str(alloc, word)?)?;
@@ -26,7 +22,7 @@ fn words_of(alloc: Global, words: &[&str]) -> Result<Vec<String>, AllocError> {
     Ok(list)
 }
 
-fn run(alloc: Global, words: &[&str], text: &[u8]) -> Result<Left, AllocError> {
+pub fn run(alloc: Global, words: &[&str], text: &[u8]) -> Result<Left, AllocError> {
     let words = words_of(alloc, words)?;
     let mut reader = text;
     let mut out = Vec::new(alloc);
@@ -38,30 +34,36 @@ fn run(alloc: Global, words: &[&str], text: &[u8]) -> Result<Left, AllocError> {
     Ok(Left { status, out, err })
 }
 
-fn step(alloc: Global, text: &[u8]) -> Result<Left, AllocError> {
+pub fn step(alloc: Global, text: &[u8]) -> Result<Left, AllocError> {
     run(alloc, &["step", "-"], text)
 }
 
-#[test]
-fn a_script_prints_its_notices_records_and_state(rt: HostRuntime) -> Result<(), Fail> {
-    let script = b"map 1\n1 do begin\n1 do call 0 put 5 50\n1 do call 0 get 5\n1 do commit\n";
-    let printed =
-        b"1: begun 0\n1: none\n1: some 50\n1: committed 1\nrecord 1 write actor 1 calls 2\nmap 5:50\n";
-    let left = step(rt.alloc(), script)?;
-    assert_eq!(rt; left.status, DONE);
-    assert_eq!(rt; left.out.as_slice(), printed.as_slice());
-    assert_eq!(rt; left.err.as_slice(), b"".as_slice());
+/// The script must print this, with status 0 and no fault.
+pub fn expect_printed(
+    rt: &impl Abort,
+    alloc: Global,
+    name: &str,
+    script: &[u8],
+    printed: &[u8],
+) -> Result<(), AllocError> {
+    let left = step(alloc, script)?;
+    assert_eq!(rt; left.err.as_slice(), b"".as_slice(), "{name}");
+    assert_eq!(rt; left.out.as_slice(), printed, "{name}");
+    assert_eq!(rt; left.status, DONE, "{name}");
     Ok(())
 }
 
-#[test]
-fn an_empty_script_and_one_of_a_header_alone(rt: HostRuntime) -> Result<(), Fail> {
-    let empty = step(rt.alloc(), b"")?;
-    assert_eq!(rt; empty.status, DONE);
-    assert_eq!(rt; empty.out.as_slice(), b"".as_slice());
-    let map = step(rt.alloc(), b"map 1 7:70\n")?;
-    assert_eq!(rt; map.status, DONE);
-    assert_eq!(rt; map.out.as_slice(), b"map 7:70\n".as_slice());
+/// The script must be refused with this fault, and nothing printed.
+pub fn expect_refused(
+    rt: &impl Abort,
+    alloc: Global,
+    script: &[u8],
+    message: &[u8],
+) -> Result<(), AllocError> {
+    let left = step(alloc, script)?;
+    assert_eq!(rt; left.status, REFUSED);
+    assert_eq!(rt; left.out.as_slice(), b"".as_slice());
+    assert_eq!(rt; left.err.as_slice(), message);
     Ok(())
 }
 
@@ -71,30 +73,6 @@ fn a_bad_line_is_named(rt: HostRuntime) -> Result<(), Fail> {
     assert_eq!(rt; left.status, REFUSED);
     assert_eq!(rt; left.out.as_slice(), b"".as_slice());
     assert_eq!(rt; left.err.as_slice(), b"line 2: BadText\n".as_slice());
-    Ok(())
-}
-
-#[test]
-fn an_aborted_transaction_leaves_nothing(rt: HostRuntime) -> Result<(), Fail> {
-    let script =
-        b"map 1 5:1\n1 do begin\n1 do call 0 put 5 2\n1 do abort\n2 do begin\n2 do call 0 get 5\n2 do commit\n";
-    let printed =
-        b"1: begun 0\n1: some 1\n1: aborted\n2: begun 0\n2: some 1\n2: committed 0\nrecord 0 read actor 2 calls 1\nmap 5:1\n";
-    let left = step(rt.alloc(), script)?;
-    assert_eq!(rt; left.status, DONE);
-    assert_eq!(rt; left.out.as_slice(), printed.as_slice());
-    Ok(())
-}
-
-#[test]
-fn refusals_of_requests(rt: HostRuntime) -> Result<(), Fail> {
-    let script =
-        b"map 1\n1 step\n1 do commit\n1 do begin\n1 do begin\n2 do begin\n1 do call 1 len\n1 do call 0 peek\n1 call 0 len\n1 starve\n1 go\n1 starve\n1 begin\n1 starve\n";
-    let printed =
-        b"1: NoTransaction\n1: NoTransaction\n1: begun 0\n1: NotIdle\n2: NotIdle\n1: NoSuch\n1: NoSuch\n1: Memory\n1: NoTransaction\n1: Memory\nmap\n";
-    let left = step(rt.alloc(), script)?;
-    assert_eq!(rt; left.status, DONE);
-    assert_eq!(rt; left.out.as_slice(), printed.as_slice());
     Ok(())
 }
 
@@ -199,5 +177,3 @@ fn a_write_that_fails(rt: HostRuntime) -> Result<(), Fail> {
     assert_eq!(rt; status, REFUSED);
     Ok(())
 }
-
-mod words;

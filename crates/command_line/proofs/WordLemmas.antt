@@ -7,7 +7,7 @@ use Rattle.clap.specs.declared.error.Error.{Error}
 use Rattle.clap.specs.declared.error.kind.ErrorKind.TheVariants as kind
 use Rattle.clap.specs.declared.parser.matches.ArgMatches.{ArgMatches}
 use Rattle.clap.specs.declared.parser.matches.ArgMatches.TheViews.{out-ArgMatches, out-SubCommand}
-use Rattle.proust_tool.specs.Words.{AskForHelp, faults, if_none}
+use Rattle.command_line.specs.Words.{AskForHelp, faults, if_none}
 
 -- an error that is not of memory is one of the words' faults
 pub is_fault : (kinds : Kinds) (error : Error) → HasKind kinds error → (kind_of error ≡ kind.OutOfMemory → ⊥) → IsAmong (kind_of error) kinds

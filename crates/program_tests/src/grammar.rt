@@ -1,31 +1,22 @@
 //! Each line of the grammar, well formed and ill formed.
-use super::step;
-use crate::tool::REFUSED;
+use crate::runs::expect_refused;
 use seq_model::{Call, Held, Op, Request};
-use session_text::{Line, Script, parse_steps};
 use std::alloc::Global;
 use std::collections::btree_map::Iter;
 use std::process::Abort;
 use std::test::Fail;
-
-fn expect_bad(rt: &impl Abort, alloc: Global, script: &[u8], message: &[u8]) -> Result<(), Fail> {
-    let left = step(alloc, script)?;
-    assert_eq!(rt; left.status, REFUSED);
-    assert_eq!(rt; left.out.as_slice(), b"".as_slice());
-    assert_eq!(rt; left.err.as_slice(), message);
-    Ok(())
-}
+use step_script::{Line, Script, parse_steps};
 
 fn expect_bad_lines(rt: &impl Abort, alloc: Global, scripts: &[&[u8]]) -> Result<(), Fail> {
     for script in scripts {
-        expect_bad(rt, alloc, script, b"line 1: BadText\n".as_slice())?;
+        expect_refused(rt, alloc, script, b"line 1: BadText\n".as_slice())?;
     }
     Ok(())
 }
 
 fn expect_bad_second_lines(rt: &impl Abort, alloc: Global, scripts: &[&[u8]]) -> Result<(), Fail> {
     for script in scripts {
-        expect_bad(rt, alloc, script, b"line 2: BadText\n".as_slice())?;
+        expect_refused(rt, alloc, script, b"line 2: BadText\n".as_slice())?;
     }
     Ok(())
 }

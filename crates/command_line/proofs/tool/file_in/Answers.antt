@@ -3,9 +3,9 @@ use Rattle.std.specs.Prelude.{option_and_then}
 use Rattle.std.proofs.lemmas.Result.{IfOk-weaker}
 use Rattle.clap.specs.Words.{Row, Text, found_of, rows_of}
 use Rattle.clap.proofs.WalkLemmas.{first_value-rows}
-use Rattle.proust_tool.specs.Words.{file_word, not_dash}
-use Rattle.proust_tool.proofs.WordLemmas.{subcommand_met}
-use Rattle.proust_tool.proofs.tool.file_in.Goals as goal
+use Rattle.command_line.specs.Words.{file_word, not_dash}
+use Rattle.command_line.proofs.WordLemmas.{subcommand_met}
+use Rattle.command_line.proofs.tool.file_in.Goals as goal
 
 pub returns : goal.returns
 returns c =

@@ -1,24 +1,9 @@
 //! What is refused beyond a limit, in the order in which faults are found.
-use super::{run, step, words_of};
-use crate::tool::{REFUSED, run_tool};
-use std::alloc::Global;
+use crate::runs::{expect_refused, run, words_of};
+use command_line::{REFUSED, run_tool};
 use std::io;
 use std::io::Read;
-use std::process::Abort;
 use std::test::Fail;
-
-fn expect_refused(
-    rt: &impl Abort,
-    alloc: Global,
-    script: &[u8],
-    message: &[u8],
-) -> Result<(), Fail> {
-    let left = step(alloc, script)?;
-    assert_eq!(rt; left.status, REFUSED);
-    assert_eq!(rt; left.out.as_slice(), b"".as_slice());
-    assert_eq!(rt; left.err.as_slice(), message);
-    Ok(())
-}
 
 #[test]
 fn numbers_beyond_a_limit(rt: HostRuntime) -> Result<(), Fail> {

@@ -1,7 +1,7 @@
 use Rattle.std.proofs.Common.{◌≤◌, vec_len}
 use Rattle.std.specs.Io.KnownBytes.{Consumes}
-use Rattle.proust_tool.specs.declared.tool.TheConstants.{FILE_LIMIT}
-use Rattle.proust_tool.proofs.tool.read_file.Given as goal
+use Rattle.command_line.specs.declared.tool.TheConstants.{FILE_LIMIT}
+use Rattle.command_line.proofs.tool.read_file.Given as goal
 
 abbrev pub invariant-loop-taken : goal.invariant-loop-taken
 invariant-loop-taken g l = record {

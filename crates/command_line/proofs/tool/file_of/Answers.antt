@@ -1,9 +1,9 @@
 use Rattle.std.proofs.Common.{sym, map}
 use Rattle.std.specs.String.{string_bytes}
 use Rattle.std.proofs.lemmas.Result.{IfOk-weaker}
-use Rattle.proust_tool.specs.Words.{faults}
-use Rattle.proust_tool.proofs.WordLemmas.{is_fault, no_file}
-use Rattle.proust_tool.proofs.tool.file_of.Goals as goal
+use Rattle.command_line.specs.Words.{faults}
+use Rattle.command_line.proofs.WordLemmas.{is_fault, no_file}
+use Rattle.command_line.proofs.tool.file_of.Goals as goal
 
 pub returns-in-Err : goal.returns-in-Err
 returns-in-Err c =

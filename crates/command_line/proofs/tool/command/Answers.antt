@@ -5,8 +5,8 @@ use Rattle.clap.specs.Simple.{app_of_fields}
 use Rattle.clap.specs.declared.builder.command.Command.{Command}
 use Rattle.clap.specs.declared.builder.command.Command.TheViews.{out-Command}
 use Rattle.clap.specs.declared.builder.command.Command.TheOpen.{Command-F}
-use Rattle.proust_tool.specs.Words.{bare_app, file_rule, step_app}
-use Rattle.proust_tool.proofs.tool.command.Goals as goal
+use Rattle.command_line.specs.Words.{bare_app, file_rule, step_app}
+use Rattle.command_line.proofs.tool.command.Goals as goal
 
 pub returns : goal.returns
 returns c =

@@ -4,9 +4,9 @@ ghost use Rattle.std.specs.String.{string_bytes};
 ghost use Rattle.std.specs.Vec.{vec_len};
 ghost use Rattle.std.specs.Io.KnownBytes.{Appends};
 ghost use Rattle.clap.specs.Words.{FailsBy, app_of, found_of, kind_of, subcommand_of, subcommand_rows_of};
-ghost use Rattle.proust_tool.specs.Words.{AreTaken, AskForHelp, faults, file_word, named_file, not_dash, tool_app};
-ghost use Rattle.proust_tool.specs.declared.tool.ReadFault.TheVariants.{OutOfMemory};
-ghost use Rattle.proust_tool.specs.Ends.{HasWorked, IsFault, IsOutput, IsRead};
+ghost use Rattle.command_line.specs.Words.{AreTaken, AskForHelp, faults, file_word, named_file, not_dash, tool_app};
+ghost use Rattle.command_line.specs.declared.tool.ReadFault.TheVariants.{OutOfMemory};
+ghost use Rattle.command_line.specs.Ends.{HasWorked, IsFault, IsOutput, IsRead};
 
 use clap::error::ErrorKind;
 use clap::{Arg, ArgAction, ArgMatches, Command, Error};
