@@ -4,10 +4,7 @@
 //! standard streams.
 #![tactic(auto)]
 
-#[cfg(test)]
-mod tests;
-mod tool;
-
+use command_line::{MEMORY, REFUSED, fault, file_of, run_tool};
 use std::process::ExitCode;
 use std::{env, io};
 
@@ -28,21 +25,21 @@ fn words_of(rt: &HostRuntime) -> io::Result<Vec<String>> {
 fn refuse(rt: &HostRuntime, error: io::Error) -> u8 {
     let mut err = rt.stderr();
     if error.kind() == io::ErrorKind::OutOfMemory {
-        return tool::fault(&mut err, tool::MEMORY, "Memory");
+        return fault(&mut err, MEMORY, "Memory");
     }
-    tool::fault(&mut err, tool::REFUSED, "cannot read the words")
+    fault(&mut err, REFUSED, "cannot read the words")
 }
 
 fn run(rt: &HostRuntime, words: &[String]) -> u8 {
     let alloc = rt.alloc();
     let mut out = rt.stdout();
     let mut err = rt.stderr();
-    match tool::file_of(alloc, words) {
+    match file_of(alloc, words) {
         Ok(Some(file)) => match std::fs::open(rt, file.as_str()) {
-            Ok(mut reader) => tool::run_tool(alloc, words, &mut reader, &mut out, &mut err),
-            Err(_) => tool::fault(&mut err, tool::REFUSED, "cannot read the file"),
+            Ok(mut reader) => run_tool(alloc, words, &mut reader, &mut out, &mut err),
+            Err(_) => fault(&mut err, REFUSED, "cannot read the file"),
         },
-        Ok(None) => tool::run_tool(alloc, words, &mut rt.stdin(), &mut out, &mut err),
-        Err(_) => tool::fault(&mut err, tool::MEMORY, "Memory"),
+        Ok(None) => run_tool(alloc, words, &mut rt.stdin(), &mut out, &mut err),
+        Err(_) => fault(&mut err, MEMORY, "Memory"),
     }
 }

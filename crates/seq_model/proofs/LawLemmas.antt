@@ -1,16 +1,15 @@
 -- The laws of runs and audits.
-use Rattle.std.proofs.Common.{◌≡◌, ◌≢◌, ℕ, zero, suc, ◌<◌, ◌≤◌, Bool, true, false, List, [], ◌∷◌, ◌++◌, map, Option, Some, None, refl, sym, ◌∙◌, ap, subst, arith, inl, inr}
+use Rattle.std.proofs.Common.{◌≡◌, ℕ, zero, suc, ◌<◌, true, false, List, [], ◌∷◌, ◌++◌, map, Some, None, refl, sym, ◌∙◌, ap, subst, arith, inl, inr}
 use Rattle.std.specs.Prelude.{nat_lt}
 use Rattle.std.proofs.lemmas.Bool.{cases_Bool}
 use Rattle.std.proofs.lemmas.Bool.Decides.{nat_tests}
 use Rattle.seq_model.specs.declared.call.Call.{Call}
 use Rattle.seq_model.specs.declared.call.Reply.{Reply}
 use Rattle.seq_model.specs.declared.record.Record.{Record}
-use Rattle.seq_model.specs.declared.auditing.AuditFault.{AuditFault}
 use Rattle.seq_model.specs.declared.auditing.AuditFault.TheVariants.{DoubleNumber, WrongReply, WrongState, OutOfMemory}
 use Rattle.seq_model.specs.Contents.{Contents}
 use Rattle.seq_model.specs.Runs.{reply_of, after_call, IsLegal, after_calls, IsRun, after_run}
-use Rattle.seq_model.specs.Audit.{IsLeastDouble, IsFirstWrong, IsFirstWrongAt, IsRunBetween, IsAuditFault, run_order, writers_at}
+use Rattle.seq_model.specs.Audit.{IsLeastDouble, IsFirstWrong, IsFirstWrongAt, run_order, writers_at}
 use Rattle.seq_model.specs.Laws.{CallsDetermineReplies, CallsCompose, RunsCompose, HasItsOwnNumber, AreReaders, AreReadersBehind, RunsHaveNoFault, FaultsAreDetermined}
 use Rattle.seq_model.proofs.RunLemmas.{IsLegal-append, after_calls-append, IsRun-append, after_run-append, NoClash, AllRead, AllReadBehind}
 

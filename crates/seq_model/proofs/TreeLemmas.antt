@@ -4,7 +4,7 @@ use Rattle.std.specs.BTreeMap.{BTreeMap, get_by, insert_entry, is_at}
 use Rattle.std.proofs.lemmas.Bool.{false≢true}
 use Rattle.std.specs.Map.{lookup, remove_entry}
 use Rattle.std.specs.Ordering.{nat_cmp, is_eq, match_ordering}
-use Rattle.std.specs.FinMap.{FinMap, put, find, get as map_get, entries, from_sorted, insert as map_insert, remove as map_remove, len as map_len, len-entries, get-from_sorted}
+use Rattle.std.specs.FinMap.{FinMap, put, find, get as map_get, from_sorted, insert as map_insert, remove as map_remove, len as map_len, len-entries, get-from_sorted}
 use Rattle.std.specs.FinMap.Entries.{by_order, is_sorted-put}
 use Rattle.std.specs.Cmp.{nat_cmp_total}
 use Rattle.std.specs.List.{slice_get}

@@ -1,9 +1,9 @@
 -- Turns, sorted.
-use Rattle.std.proofs.Common.{◌≡◌, ◌≢◌, ℕ, zero, suc, ◌+◌, ◌<◌, ◌≤◌, Bool, true, false, cond, not, ◌&&◌, ◌==◌, List, [], ◌∷◌, length, get_or, filter, nat_cmp, is_lt, refl, sym, ◌∙◌, ap, subst, arith, inl, inr, suc-le-suc, zero-le}
+use Rattle.std.proofs.Common.{◌≡◌, ℕ, zero, suc, ◌<◌, ◌≤◌, Bool, true, false, cond, not, ◌&&◌, List, [], ◌∷◌, length, get_or, filter, nat_cmp, is_lt, refl, sym, ◌∙◌, ap, subst, arith, inl, inr, suc-le-suc, zero-le}
 use Rattle.std.specs.Ordering.{bool_cmp, ordering_then}
 use Rattle.std.specs.Cmp.{IsStrictWeakOrder, bool_cmp_total}
 use Rattle.std.specs.List.Sorted.{ties, IsSortedBy, IsStableBy}
-use Rattle.std.proofs.lemmas.Bool.{cond-true, cond-false, cases_Bool, false≢true, and_parts, not-true}
+use Rattle.std.proofs.lemmas.Bool.{cond-true, cond-false, cases_Bool, and_parts, not-true}
 use Rattle.std.proofs.lemmas.Bool.Decides.{nat_tests}
 use Rattle.std.proofs.lemmas.Cmp.{then_total, on_total, nat_cmp_total}
 use Rattle.std.proofs.lemmas.List.Sorted.{sorted_far, ranks_by}

@@ -10,6 +10,3 @@ mod run;
 pub use print::print_trace;
 pub use run::{ScriptRun, run_script};
 pub use step_script::{Collection, Line, Script, parse_steps};
-
-#[cfg(test)]
-mod tests;

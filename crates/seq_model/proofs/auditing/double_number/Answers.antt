@@ -1,4 +1,4 @@
-use Rattle.std.proofs.Common.{◌≡◌, ℕ, ◌≤◌, false, length, get_or, Option, Some, None, count_by, sym, ap, ◌∙◌, subst, arith, rules}
+use Rattle.std.proofs.Common.{◌≡◌, ◌≤◌, false, length, get_or, Some, count_by, sym, subst, arith, rules}
 use Rattle.std.proofs.lemmas.Grind.{common_steps}
 use Rattle.seq_model.specs.Turns.{writes_at}
 use Rattle.seq_model.specs.Audit.{IsLeastDouble}

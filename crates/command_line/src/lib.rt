@@ -1,0 +1,8 @@
+//! The program over a reader and two writers: its words, its file, and its exit status.
+//!
+//! `run_tool` does the work, and `file_of` tells which file the words name; only this crate knows how words are read.
+#![tactic(auto)]
+
+mod tool;
+
+pub use tool::{DONE, FILE_LIMIT, MEMORY, REFUSED, fault, file_of, run_tool};

@@ -1,0 +1,245 @@
+//! The program over a reader and two writers.
+ghost use Rattle.std.specs.Prelude.{◌≡◌, ◌≤◌, ◌<◌, ◌⊎◌, ◌≢◌, ◌↔◌, ℕ, List, length, map, option_map, option_and_then, IsOk, IsErr, IfOk, IfErr, IfSome};
+ghost use Rattle.std.specs.String.{string_bytes};
+ghost use Rattle.std.specs.Vec.{vec_len};
+ghost use Rattle.std.specs.Io.KnownBytes.{Appends};
+ghost use Rattle.clap.specs.Words.{FailsBy, app_of, found_of, kind_of, subcommand_of, subcommand_rows_of};
+ghost use Rattle.command_line.specs.Words.{AreTaken, AskForHelp, faults, file_word, named_file, not_dash, tool_app};
+ghost use Rattle.command_line.specs.declared.tool.ReadFault.TheVariants.{OutOfMemory};
+ghost use Rattle.command_line.specs.Ends.{HasWorked, IsFault, IsOutput, IsRead};
+
+use clap::error::ErrorKind;
+use clap::{Arg, ArgAction, ArgMatches, Command, Error};
+use seq_model::{Memory, Refusal};
+use session_text::{parse_steps, print_trace, run_script};
+use std::alloc::{AllocError, Global};
+use std::io;
+use std::io::{Read, Write};
+
+/// A file is at most this many bytes long.
+pub const FILE_LIMIT: usize = 16_777_216;
+
+/// The status of a run that did its work.
+pub const DONE: u8 = 0;
+
+/// The status of refused words, files and texts, and of a failed write.
+pub const REFUSED: u8 = 1;
+
+/// The status of a run that was refused memory.
+pub const MEMORY: u8 = 2;
+
+fn command<'a>(alloc: Global) -> Result<Command<'a>, AllocError>
+    ensures { IfOk result (λ command. app_of command ≡ tool_app) }
+{
+    let file = Arg::new(alloc, "FILE")
+        .help("The script's file, or - for standard input")
+        .required(true)
+        .action(ArgAction::Set);
+    let step = Command::new(alloc, "step")
+        .about("Runs a step script")
+        .arg(file)?;
+    Command::new(alloc, "proust_tool")
+        .no_binary_name(true)
+        .subcommand_required(true)
+        .subcommand(step)
+}
+
+fn matches_of<'a>(alloc: Global, words: &'a [String]) -> Result<ArgMatches<'a>, Error>
+    ensures faults { FailsBy (faults (map string_bytes words.entry.now)) result }
+    ensures file { IfOk result (λ matches. subcommand_rows_of matches ≡ subcommand_of tool_app (map string_bytes words.entry.now)) }
+{
+    let command = command(alloc)?;
+    command.try_get_matches_from(words)
+}
+
+/// The file that the words name. There is none for `-` and for refused words.
+pub fn file_of(alloc: Global, words: &[String]) -> Result<Option<String>, Memory>
+    ensures { IfOk result (λ file. option_map string_bytes file ≡ named_file (map string_bytes words.now)) }
+{
+    match matches_of(alloc, words) {
+        Ok(matches) => file_in(alloc, &matches),
+        Err(error) => none_for(error),
+    }
+}
+
+// Refused words name no file; but words that could not be read for want of memory might.
+fn none_for(error: Error) -> Result<Option<String>, Memory>
+    ensures none { IfOk result (λ file. (file ≡ None) × (kind_of error ≢ ErrorKind.OutOfMemory)) }
+    ensures memory { IsErr result → kind_of error ≡ ErrorKind.OutOfMemory }
+{
+    if error.kind() == ErrorKind::OutOfMemory {
+        return Err(Memory);
+    }
+    Ok(None)
+}
+
+fn file_in(alloc: Global, matches: &ArgMatches<'_>) -> Result<Option<String>, Memory>
+    ensures { IfOk result (λ file. option_map string_bytes file ≡ option_and_then not_dash (file_word (subcommand_rows_of matches.now))) }
+{
+    let Some(step) = matches.subcommand_matches("step") else {
+        return Ok(None);
+    };
+    file_but_dash(alloc, step.get_str("FILE"))
+}
+
+fn file_but_dash(alloc: Global, file: Option<&str>) -> Result<Option<String>, Memory>
+    ensures { IfOk result (λ name. option_map string_bytes name ≡ option_and_then not_dash (option_map (λ s. s.now) file.entry)) }
+{
+    match file {
+        Some(file) if file != "-" => Ok(Some(String::from_str(alloc, file)?)),
+        _ => Ok(None),
+    }
+}
+
+/// Writes a fault, and answers its status.
+pub fn fault<E: Write>(err: &mut E, status: u8, text: &str) -> u8
+    ensures { result ≡ status }
+{
+    let _ = writeln!(err, "{text}");
+    status
+}
+
+/// Runs the words, without the program's own name, over what the reader gives, and answers the exit status.
+///
+/// What it prints goes to `out`, and a fault, one line, to `err`: then nothing goes to `out`, but where a write to it
+/// failed. Faults are found in the order words, file, size, text, opening. `done`: with status 0 the words ask for help,
+/// or they and the text are taken and `out` has grown by what the run of the script prints that the text spells.
+/// `unread`: nothing is read for refused words.
+pub fn run_tool<R: Read, W: Write, E: Write>(
+    alloc: Global,
+    words: &[String],
+    reader: &mut R,
+    out: &mut W,
+    err: &mut E,
+) -> u8
+    ensures status { result ≤ MEMORY }
+    ensures done { result ≡ DONE
+        → HasWorked (map string_bytes words.now) (R.remaining reader.old) (W.contents out.old) (W.contents out.new) }
+    ensures quiet { result ≡ DONE → err.new ≡ err.old }
+    ensures refused { result ≡ REFUSED
+        → (out.new ≡ out.old) ⊎ (AskForHelp (map string_bytes words.now) ⊎ IsRead (map string_bytes words.now) (R.remaining reader.old)) }
+    ensures memory { result ≡ MEMORY → out.new ≡ out.old }
+    ensures unread { ¬ AreTaken (map string_bytes words.now) → reader.new ≡ reader.old }
+{
+    if let Err(error) = matches_of(alloc, words) {
+        return refuse_words(out, err, error);
+    }
+    match read_file(alloc, reader) {
+        Ok(text) => step(alloc, text.as_slice(), out, err),
+        Err(cause) => refuse_file(err, cause),
+    }
+}
+
+// A wish for help is no fault: its text goes to `out`.
+fn refuse_words<W: Write, E: Write>(out: &mut W, err: &mut E, error: Error) -> u8
+    ensures status { result ≤ MEMORY }
+    ensures done { result ≡ DONE → (kind_of error ≡ ErrorKind.DisplayHelp) × (err.new ≡ err.old) }
+    ensures kept { (out.new ≡ out.old) ⊎ (kind_of error ≡ ErrorKind.DisplayHelp) }
+    ensures memory { (result ≡ MEMORY) ↔ (kind_of error ≡ ErrorKind.OutOfMemory) }
+{
+    match error.kind() {
+        ErrorKind::OutOfMemory => fault(err, MEMORY, "Memory"),
+        ErrorKind::DisplayHelp => status_of_write(write!(out, "{error}")),
+        _ => {
+            let _ = write!(err, "{error}");
+            REFUSED
+        }
+    }
+}
+
+fn status_of_write(written: io::Result<()>) -> u8
+    ensures done { IsOk written → result ≡ DONE }
+    ensures failed { IsErr written → result ≡ REFUSED }
+{
+    match written {
+        Ok(()) => DONE,
+        Err(_) => REFUSED,
+    }
+}
+
+#[derive(Clone, Copy)]
+enum ReadFault {
+    Unreadable,
+    TooLong,
+    OutOfMemory,
+}
+
+impl From<AllocError> for ReadFault {
+    ghost from_gives = { λ _ cause. cause ≡ OutOfMemory };
+
+    fn from(_error: AllocError) -> ReadFault {
+        ReadFault::OutOfMemory
+    }
+}
+
+fn refuse_file<E: Write>(err: &mut E, cause: ReadFault) -> u8
+    ensures memory { cause ≡ ReadFault.OutOfMemory → result ≡ MEMORY }
+    ensures other { cause ≢ ReadFault.OutOfMemory → result ≡ REFUSED }
+{
+    match cause {
+        ReadFault::Unreadable => fault(err, REFUSED, "cannot read the file"),
+        ReadFault::TooLong => fault(err, REFUSED, "TooLong"),
+        ReadFault::OutOfMemory => fault(err, MEMORY, "Memory"),
+    }
+}
+
+fn refuse_text<E: Write>(err: &mut E, refusal: Refusal) -> u8
+    ensures memory { refusal ≡ Refusal.OutOfMemory → result ≡ MEMORY }
+    ensures other { refusal ≢ Refusal.OutOfMemory → result ≡ REFUSED }
+{
+    let _ = writeln!(err, "{refusal}");
+    match refusal {
+        Refusal::OutOfMemory => MEMORY,
+        _ => REFUSED,
+    }
+}
+
+// At most one byte past the limit is read.
+fn read_file<R: Read>(alloc: Global, reader: &mut R) -> Result<Vec<u8>, ReadFault>
+    ensures whole { IfOk result (λ text. IfSome (R.remaining reader.old) (λ bytes. text.items ≡ bytes)) }
+    ensures within { IfOk result (λ text. vec_len text ≤ FILE_LIMIT) }
+    ensures too_long { result ≡ Err ReadFault.TooLong → IfSome (R.remaining reader.old) (λ bytes. FILE_LIMIT < length bytes) }
+{
+    let mut text = Vec::new(alloc);
+    let mut buffer = [0u8; 8192];
+    // Each read but the last gives a byte at least.
+    for _taken in 0..=FILE_LIMIT {
+        let wanted = buffer
+            .len()
+            .min(FILE_LIMIT.saturating_sub(text.len()).saturating_add(1));
+        let count = match reader.read(&mut buffer[..wanted]) {
+            Ok(count) => count,
+            Err(_) => return Err(ReadFault::Unreadable),
+        };
+        if count == 0 {
+            return Ok(text);
+        }
+        text.extend_from_slice(&buffer[..count])?;
+        if text.len() > FILE_LIMIT {
+            return Err(ReadFault::TooLong);
+        }
+    }
+    Err(ReadFault::TooLong)
+}
+
+fn step<W: Write, E: Write>(alloc: Global, text: &[u8], out: &mut W, err: &mut E) -> u8
+    ensures status { result ≤ MEMORY }
+    ensures done { result ≡ DONE
+        → (bytes : List ℕ) × IsOutput text.now bytes × Appends (W.contents out.old) (W.contents out.new) bytes }
+    ensures quiet { result ≡ DONE → err.new ≡ err.old }
+    ensures memory { result ≡ MEMORY → out.new ≡ out.old }
+{
+    match output_of(alloc, text) {
+        Ok(text) => status_of_write(out.write_all(text.as_slice())),
+        Err(refusal) => refuse_text(err, refusal),
+    }
+}
+
+fn output_of(alloc: Global, text: &[u8]) -> Result<Vec<u8>, Refusal>
+    ensures output { IfOk result (λ bytes. IsOutput text.now bytes.items) }
+    ensures refused { IfErr result (IsFault text.now) }
+{
+    let script = parse_steps(alloc, text)?;
+    let run = run_script(alloc, &script)?;
+    Ok(print_trace(alloc, &run)?)
+}

@@ -1,0 +1,60 @@
+//! What is refused beyond a limit, in the order in which faults are found.
+use crate::runs::{expect_refused, run, words_of};
+use command_line::{REFUSED, run_tool};
+use std::io;
+use std::io::Read;
+use std::test::Fail;
+
+#[test]
+fn numbers_beyond_a_limit(rt: HostRuntime) -> Result<(), Fail> {
+    let alloc = rt.alloc();
+    expect_refused(&rt, alloc, b"bag 1 3:4294967296\n", b"TooLong\n")?;
+    expect_refused(&rt, alloc, b"pq 1 3:4294967296\n", b"TooLong\n")?;
+    expect_refused(&rt, alloc, b"clock 4611686018427387905\n", b"TooLong\n")?;
+    Ok(())
+}
+
+/// Gives zeros without end.
+#[derive(Drop)]
+struct Endless;
+
+impl Read for Endless {
+    fn read(&mut self, buffer: &mut [u8]) -> io::Result<usize> {
+        Ok(buffer.len())
+    }
+}
+
+#[test]
+fn a_file_beyond_the_limit(rt: HostRuntime) -> Result<(), Fail> {
+    let words = words_of(rt.alloc(), &["step", "-"])?;
+    let mut out: Vec<u8> = Vec::new(rt.alloc());
+    let mut err: Vec<u8> = Vec::new(rt.alloc());
+    let status = run_tool(
+        rt.alloc(),
+        words.as_slice(),
+        &mut Endless,
+        &mut out,
+        &mut err,
+    );
+    assert_eq!(rt; out.as_slice(), b"".as_slice());
+    if err.as_slice() == b"Memory\n".as_slice() {
+        return Err(Fail::new("Memory"));
+    }
+    assert_eq!(rt; status, REFUSED);
+    assert_eq!(rt; err.as_slice(), b"TooLong\n".as_slice());
+    Ok(())
+}
+
+#[test]
+fn refused_words_before_the_file(rt: HostRuntime) -> Result<(), Fail> {
+    let left = run(rt.alloc(), &["step"], b"map 2\n")?;
+    assert_eq!(rt; left.status, REFUSED);
+    assert_eq!(rt; left.out.as_slice(), b"".as_slice());
+    let more = run(rt.alloc(), &["step", "-", "-"], b"map 2\n")?;
+    assert_eq!(rt; more.status, REFUSED);
+    assert_eq!(rt; more.out.as_slice(), b"".as_slice());
+    let none = run(rt.alloc(), &[], b"map 2\n")?;
+    assert_eq!(rt; none.status, REFUSED);
+    assert_eq!(rt; none.out.as_slice(), b"".as_slice());
+    Ok(())
+}

@@ -1,0 +1,179 @@
+//! Whole runs of the program, over readers and writers in memory.
+use command_line::{DONE, MEMORY, REFUSED, file_of, run_tool};
+use std::alloc::{AllocError, Global};
+use std::io;
+use std::io::{Read, Write};
+use std::process::Abort;
+use std::test::Fail;
+
+/// What a run left.
+#[derive(Drop)]
+pub struct Left {
+    pub status: u8,
+    pub out: Vec<u8>,
+    pub err: Vec<u8>,
+}
+
+pub fn words_of(alloc: Global, words: &[&str]) -> Result<Vec<String>, AllocError> {
+    let mut list = Vec::new(alloc);
+    for word in words {
+        list.push(String::from_str(alloc, word)?)?;
+    }
+    Ok(list)
+}
+
+pub fn run(alloc: Global, words: &[&str], text: &[u8]) -> Result<Left, AllocError> {
+    let words = words_of(alloc, words)?;
+    let mut reader = text;
+    let mut out = Vec::new(alloc);
+    let mut err = Vec::new(alloc);
+    let status = run_tool(alloc, words.as_slice(), &mut reader, &mut out, &mut err);
+    if status == MEMORY {
+        return Err(AllocError);
+    }
+    Ok(Left { status, out, err })
+}
+
+pub fn step(alloc: Global, text: &[u8]) -> Result<Left, AllocError> {
+    run(alloc, &["step", "-"], text)
+}
+
+/// The script must print this, with status 0 and no fault.
+pub fn expect_printed(
+    rt: &impl Abort,
+    alloc: Global,
+    name: &str,
+    script: &[u8],
+    printed: &[u8],
+) -> Result<(), AllocError> {
+    let left = step(alloc, script)?;
+    assert_eq!(rt; left.err.as_slice(), b"".as_slice(), "{name}");
+    assert_eq!(rt; left.out.as_slice(), printed, "{name}");
+    assert_eq!(rt; left.status, DONE, "{name}");
+    Ok(())
+}
+
+/// The script must be refused with this fault, and nothing printed.
+pub fn expect_refused(
+    rt: &impl Abort,
+    alloc: Global,
+    script: &[u8],
+    message: &[u8],
+) -> Result<(), AllocError> {
+    let left = step(alloc, script)?;
+    assert_eq!(rt; left.status, REFUSED);
+    assert_eq!(rt; left.out.as_slice(), b"".as_slice());
+    assert_eq!(rt; left.err.as_slice(), message);
+    Ok(())
+}
+
+#[test]
+fn a_bad_line_is_named(rt: HostRuntime) -> Result<(), Fail> {
+    let left = step(rt.alloc(), b"map 1\n1 do beg")?;
+    assert_eq!(rt; left.status, REFUSED);
+    assert_eq!(rt; left.out.as_slice(), b"".as_slice());
+    assert_eq!(rt; left.err.as_slice(), b"line 2: BadText\n".as_slice());
+    Ok(())
+}
+
+#[test]
+fn refused_words_and_shapes(rt: HostRuntime) -> Result<(), Fail> {
+    let words = run(rt.alloc(), &["stride", "-"], b"")?;
+    assert_eq!(rt; words.status, REFUSED);
+    assert_eq!(rt; words.out.as_slice(), b"".as_slice());
+    let shape = step(rt.alloc(), b"map 2\n")?;
+    assert_eq!(rt; shape.status, REFUSED);
+    assert_eq!(rt; shape.err.as_slice(), b"NoSuch\n".as_slice());
+    Ok(())
+}
+
+#[test]
+fn the_file_that_the_words_name(rt: HostRuntime) -> Result<(), Fail> {
+    let named = words_of(rt.alloc(), &["step", "a"])?;
+    let file = file_of(rt.alloc(), named.as_slice())
+        .ok()
+        .flatten()
+        .ok_or("no file")?;
+    assert_eq!(rt; file.as_str(), "a");
+    let dash = words_of(rt.alloc(), &["step", "-"])?;
+    assert!(rt;
+        file_of(rt.alloc(), dash.as_slice())
+            .ok()
+            .flatten()
+            .is_none()
+    );
+    let refused = words_of(rt.alloc(), &["bench"])?;
+    assert!(rt;
+        file_of(rt.alloc(), refused.as_slice())
+            .ok()
+            .flatten()
+            .is_none()
+    );
+    Ok(())
+}
+
+/// Gives its text once, and then fails.
+#[derive(Drop)]
+struct FailsAtSecondRead {
+    read: bool,
+}
+
+impl Read for FailsAtSecondRead {
+    fn read(&mut self, buffer: &mut [u8]) -> io::Result<usize> {
+        if self.read || buffer.is_empty() {
+            return Err(io::Error::from(io::ErrorKind::Other));
+        }
+        self.read = true;
+        buffer[0] = b'm';
+        Ok(1)
+    }
+}
+
+#[test]
+fn a_read_that_fails(rt: HostRuntime) -> Result<(), Fail> {
+    let words = words_of(rt.alloc(), &["step", "-"])?;
+    let mut reader = FailsAtSecondRead { read: false };
+    let mut out: Vec<u8> = Vec::new(rt.alloc());
+    let mut err: Vec<u8> = Vec::new(rt.alloc());
+    let status = run_tool(
+        rt.alloc(),
+        words.as_slice(),
+        &mut reader,
+        &mut out,
+        &mut err,
+    );
+    assert_eq!(rt; status, REFUSED);
+    assert_eq!(rt; out.as_slice(), b"".as_slice());
+    assert_eq!(rt; err.as_slice(), b"cannot read the file\n".as_slice());
+    Ok(())
+}
+
+/// Takes nothing.
+#[derive(Drop)]
+struct FailsToWrite;
+
+impl Write for FailsToWrite {
+    fn write(&mut self, _bytes: &[u8]) -> io::Result<usize> {
+        Err(io::Error::from(io::ErrorKind::Other))
+    }
+
+    fn flush(&mut self) -> io::Result<()> {
+        Ok(())
+    }
+}
+
+#[test]
+fn a_write_that_fails(rt: HostRuntime) -> Result<(), Fail> {
+    let words = words_of(rt.alloc(), &["step", "-"])?;
+    let mut reader = b"map 1\n".as_slice();
+    let mut err: Vec<u8> = Vec::new(rt.alloc());
+    let status = run_tool(
+        rt.alloc(),
+        words.as_slice(),
+        &mut reader,
+        &mut FailsToWrite,
+        &mut err,
+    );
+    assert_eq!(rt; status, REFUSED);
+    Ok(())
+}
