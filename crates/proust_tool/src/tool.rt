@@ -11,10 +11,11 @@ ghost use Rattle.proust_tool.specs.Ends.{HasWorked, IsFault, IsOutput, IsRead};
 use clap::error::ErrorKind;
 use clap::{Arg, ArgAction, ArgMatches, Command, Error};
 use seq_model::{Memory, Refusal};
-use session_text::{parse_steps, print_trace, run_script};
+use session_text::{print_trace, run_script};
 use std::alloc::{AllocError, Global};
 use std::io;
 use std::io::{Read, Write};
+use step_script::parse_steps;
 
 /// A file is at most this many bytes long.
 pub const FILE_LIMIT: usize = 16_777_216;

@@ -1,7 +1,9 @@
 //! Runs a script.
-ghost use Rattle.std.specs.Prelude.{◌≡◌, map, IfOk, IfErr, OnOk};
+ghost use Rattle.std.specs.Prelude.{◌≡◌, map, All, IsOk, IfOk, IfErr, OnOk};
 ghost use Rattle.step_world.specs.Traces.{IsSerialTrace};
-ghost use Rattle.session_text.specs.Scripts.{IsOpeningOf, IsRefusedOpening};
+ghost use Rattle.seq_model.specs.Calls.{IsWithinLimits};
+ghost use Rattle.session_text.specs.Scripts as opens;
+ghost use Rattle.session_text.specs.Scripts.{HasRefusedCollections, IsOpeningOf, IsRefusedScript};
 ghost use Rattle.session_text.specs.Worlds.{opening_in};
 ghost use Rattle.session_text.specs.Plays.{AreSteps, AreTurns, HasPlayed, IsOne, IsPlay, IsRunOf, Keeps, actor_of, is_request, noted, nobody, waits};
 ghost use Rattle.step_script.specs.declared.script.TheConstants.{STEP_LIMIT};
@@ -22,13 +24,13 @@ pub struct ScriptRun {
 
 /// Opens the script's world, and feeds it the script's events.
 ///
-/// `NoSuch` and `TooLong` as `World::open`, `TooLong` also where a collection of the header is beyond a limit, and
+/// `TooLong` where a collection of the header is beyond a limit, else `NoSuch` and `TooLong` as `World::open`, and
 /// `OutOfMemory` where a growth was refused.
 pub fn run_script(alloc: Global, script: &Script) -> Result<ScriptRun, Refusal>
     ensures opening { IfOk result (λ run. IsOpeningOf script.now run.opening) }
     ensures serial { IfOk result (λ run. IsSerialTrace run.opening run.trace) }
     ensures run { IfOk result (IsRunOf script.now) }
-    ensures refused { IfErr result IsRefusedOpening }
+    ensures refused { IfErr result (IsRefusedScript script.now) }
 {
     let opening = opening_of(alloc, script)?;
     let shape = shape_of(alloc, script)?;
@@ -57,15 +59,15 @@ pub fn run_script(alloc: Global, script: &Script) -> Result<ScriptRun, Refusal>
 
 fn opening_of(alloc: Global, script: &Script) -> Result<State<u64>, Refusal>
     ensures opening { IfOk result (IsOpeningOf script.now) }
-    ensures refused { IfErr result IsRefusedOpening }
+    ensures within { IsOk result → All IsWithinLimits (opens.opening_of script.now).held }
+    ensures refused { IfErr result (HasRefusedCollections script.now) }
 {
     let words = Vec::from_slice(alloc, script.words.as_slice())?;
     let mut held = Vec::new(alloc);
     for collection in script.collections.as_slice() {
         held.push(collection.held.try_copy(alloc)?)?;
     }
-    let state = State::new(words, held)?;
-    Ok(state)
+    State::new(words, held)
 }
 
 fn shape_of(alloc: Global, script: &Script) -> Result<Shape, Memory>

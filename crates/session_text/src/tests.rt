@@ -2,6 +2,7 @@
 use super::*;
 use seq_model::Refusal;
 use std::alloc::Global;
+use step_script::parse_steps;
 
 /// What a script prints.
 fn printed(alloc: Global, text: &[u8]) -> Result<Vec<u8>, Refusal> {

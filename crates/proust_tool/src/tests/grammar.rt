@@ -2,7 +2,7 @@
 use super::step;
 use crate::tool::REFUSED;
 use seq_model::{Call, Held, Op, Request};
-use session_text::{Line, Script, parse_steps};
+use step_script::{Line, Script, parse_steps};
 use std::alloc::Global;
 use std::collections::btree_map::Iter;
 use std::process::Abort;
