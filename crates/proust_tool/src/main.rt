@@ -28,7 +28,7 @@ fn words_of(rt: &HostRuntime) -> io::Result<Vec<String>> {
 fn refuse(rt: &HostRuntime, error: io::Error) -> u8 {
     let mut err = rt.stderr();
     if error.kind() == io::ErrorKind::OutOfMemory {
-        return tool::fault(&mut err, tool::MEMORY, "Memory");
+        return tool::refuse_memory(&mut err);
     }
     tool::fault(&mut err, tool::REFUSED, "cannot read the words")
 }
@@ -38,11 +38,11 @@ fn run(rt: &HostRuntime, words: &[String]) -> u8 {
     let mut out = rt.stdout();
     let mut err = rt.stderr();
     match tool::file_of(alloc, words) {
-        Ok(Some(file)) => match std::fs::open(rt, file.as_str()) {
-            Ok(mut reader) => tool::run_tool(alloc, words, &mut reader, &mut out, &mut err),
-            Err(_) => tool::fault(&mut err, tool::REFUSED, "cannot read the file"),
-        },
+        Ok(Some(file)) => {
+            let opened = std::fs::open(rt, file.as_str());
+            tool::run_file(alloc, words, opened, &mut out, &mut err)
+        }
         Ok(None) => tool::run_tool(alloc, words, &mut rt.stdin(), &mut out, &mut err),
-        Err(_) => tool::fault(&mut err, tool::MEMORY, "Memory"),
+        Err(_) => tool::refuse_memory(&mut err),
     }
 }

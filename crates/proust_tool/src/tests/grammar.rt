@@ -2,11 +2,11 @@
 use super::step;
 use crate::tool::REFUSED;
 use seq_model::{Call, Held, Op, Request};
-use step_script::{Line, Script, parse_steps};
 use std::alloc::Global;
 use std::collections::btree_map::Iter;
 use std::process::Abort;
 use std::test::Fail;
+use step_script::{Line, Script, parse_steps};
 
 fn expect_bad(rt: &impl Abort, alloc: Global, script: &[u8], message: &[u8]) -> Result<(), Fail> {
     let left = step(alloc, script)?;
