@@ -5,10 +5,10 @@ ghost use Rattle.seq_model.specs.Calls.{IsWithinLimits};
 ghost use Rattle.session_text.specs.Scripts as opens;
 ghost use Rattle.session_text.specs.Scripts.{HasRefusedCollections, IsOpeningOf, IsRefusedScript};
 ghost use Rattle.session_text.specs.Worlds.{opening_in};
-ghost use Rattle.session_text.specs.Plays.{AreSteps, AreTurns, HasPlayed, IsOne, IsPlay, IsRunOf, Keeps, actor_of, is_request, noted, nobody, waits};
+ghost use Rattle.session_text.specs.Plays.{AreSteps, AreTurns, HasPlayed, IsOne, IsPlay, IsRunOf, Keeps, whose, is_request, noted, nobody, waits};
 ghost use Rattle.step_script.specs.declared.script.TheConstants.{STEP_LIMIT};
 
-use seq_model::{Event, Items, Memory, Notice, Refusal, Request, Shape, State};
+use seq_model::{Event, Items, Memory, Notice, Refusal, Request, SEATS, Shape, State};
 use std::alloc::Global;
 use step_script::{Collection, Line, STEP_LIMIT, Script};
 use step_world::{Trace, World};
@@ -39,7 +39,7 @@ pub fn run_script(alloc: Global, script: &Script) -> Result<ScriptRun, Refusal>
     let mut runner = Runner {
         world,
         notices: Items::new(alloc),
-        waiting: vec![in alloc; false; 65]?,
+        waiting: vec![in alloc; false; SEATS]?,
     };
     for line in script.lines.as_slice() {
         runner.run_line(line)?;
@@ -124,7 +124,7 @@ impl Runner {
         ensures plays { IfOk result (λ quiet. HasPlayed (Keeps (IsOne event quiet) self.old.waiting.items self.new.waiting.items)
             self.old.world.world self.old.notices self.new.world.world self.new.notices) }
     {
-        let actor = actor_of(&event);
+        let actor = whose(&event);
         let asks = is_request(&event);
         let notice = self.world.feed(event)?;
         if let Notice::Quiet = notice {
@@ -195,8 +195,8 @@ impl Runner {
     }
 }
 
-fn actor_of(event: &Event<u64>) -> u32
-    ensures { result ≡ actor_of event.now }
+fn whose(event: &Event<u64>) -> u32
+    ensures { result ≡ whose event.now }
 {
     match event {
         Event::Ask(actor, _) | Event::Step(actor) | Event::Starve(actor) => *actor,

@@ -33,9 +33,9 @@ impl<V> Model for World<V> {
     ghost use Rattle.std.specs.Prelude.{◌≡◌, false};
     ghost use Rattle.std.specs.Coded.{codes};
     ghost use Rattle.seq_model.specs.Contents.{contents_code};
-    ghost use Rattle.step_world.specs.Forms.{Shown, shown_in, IsWell};
+    ghost use Rattle.step_world.specs.Forms.{WorldShown, shown_in, IsWell};
 
-    ghost Value = { Shown V };
+    ghost Value = { WorldShown V };
 
     ghost coded = { Prim.hlevel (codes, contents_code V.code) };
 
