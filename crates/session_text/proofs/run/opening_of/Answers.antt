@@ -1,4 +1,4 @@
-use Rattle.std.proofs.Common.{◌≡◌, ◌∙◌, sym, ap, subst, map, take_all, length, All, arith}
+use Rattle.std.proofs.Common.{◌∙◌, sym, ap, subst, map, take_all, All, arith}
 use Rattle.std.proofs.lemmas.Result.{IfErr-weaker}
 use Rattle.seq_model.specs.Calls.{IsWithinLimits}
 use Rattle.session_text.specs.Scripts.{HasRefusedCollections}
