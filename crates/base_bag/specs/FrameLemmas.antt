@@ -17,7 +17,7 @@ use Rattle.conflict.specs.declared.change.Change.TheVariants as change
 use Rattle.conflict.specs.declared.outcome.Outcome.{Outcome}
 use Rattle.conflict.specs.declared.outcome.Note.TheVariants.{Plain}
 use Rattle.conflict.specs.Footprints.{multiset_reads, multiset_writes}
-use Rattle.conflict.specs.Rules.{FrameLaws, Commute, applied, LegalWhereReadsAgree, ChangesOnlyWrites, ChangesByPart, FollowsCall, AnswersItsKind, ViewsDecide}
+use Rattle.conflict.specs.Rules.{FrameLaws, Commute, applied, LegalWhereReadsAgree, ChangesOnlyWrites, WritesWhereItChanges, OutcomesWriteWhereTheyChange, ChangesByPart, FollowsCall, AnswersItsKind, ViewsDecide}
 use Rattle.conflict.specs.Commute.{commute}
 use Rattle.conflict.specs.Places.{in_single, of_none, of_single, some_same, none_some, some_none}
 use Rattle.conflict.specs.Multisets.{one_more, one_fewer, more, fewer, more_at, fewer_at, changed_by_element, unchanged_elsewhere}
@@ -151,12 +151,30 @@ module _ {V : Type 0} where
   read_below n l (Take x) pos c = one_below n l x pos c
   read_below n l _ pos c = absurd (of_none l c)
 
+  -- ---- what is written
+  add_written : (n x : ℕ) (reply : Reply V) → WritesWhereItChanges (rules V) n (record { op = Add x; reply = reply; note = Plain })
+  add_written n x Done = (refl, refl)
+  add_written n x _ = (refl, refl)
+
+  take_written : (n x : ℕ) (reply : Reply V) → WritesWhereItChanges (rules V) n (record { op = Take x; reply = reply; note = Plain })
+  take_written n x Yes = (refl, refl)
+  take_written n x _ = (refl, refl)
+
+  pub outcomes_write_where_they_change : OutcomesWriteWhereTheyChange (rules V)
+  outcomes_write_where_they_change n (Count x) s o e = subst (λ y. WritesWhereItChanges (rules V) n y) (some_same _ _ e) (refl, refl)
+  outcomes_write_where_they_change n (Add x) s o e =
+      subst (λ y. WritesWhereItChanges (rules V) n y) (some_same _ _ e) (add_written n x (cond (nat_lt (copies s x) COPY_LIMIT) Done Full))
+  outcomes_write_where_they_change n (Take x) s o e =
+      subst (λ y. WritesWhereItChanges (rules V) n y) (some_same _ _ e) (take_written n x (cond (copies s x == 0) No Yes))
+  outcomes_write_where_they_change n _ s o e = absurd (none_some o e)
+
   pub laws : FrameLaws (rules V)
   laws = record {
     parts_decide = copies_decide;
     views_decide = views_decide;
     legal = legal_where_reads_agree;
     untouched = changes_only_writes;
+    written = outcomes_write_where_they_change;
     by_part = changes_by_part;
     follows = follows_call;
     answers = answers_its_kind;

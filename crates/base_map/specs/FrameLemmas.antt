@@ -20,9 +20,9 @@ use Rattle.conflict.specs.declared.outcome.Outcome.{Outcome}
 use Rattle.conflict.specs.declared.outcome.Note.TheVariants.{Plain}
 use Rattle.base_map.specs.Conflicts.{outcome_of, reads_of, writes_of, changes_by, changes_of, change_map, view_of, rules}
 use Rattle.conflict.specs.Footprints.{map_reads, map_writes}
-use Rattle.conflict.specs.Rules.{Rules, FrameLaws, Commute, applied, LegalWhereReadsAgree, ChangesOnlyWrites, ChangesByPart, FollowsCall, AnswersItsKind, WritesWithinReads, ReadsLocations, PointsLieOnLocations, PartsDecide, ViewsDecide}
+use Rattle.conflict.specs.Rules.{Rules, FrameLaws, Commute, applied, LegalWhereReadsAgree, ChangesOnlyWrites, WritesWhereItChanges, OutcomesWriteWhereTheyChange, ChangesByPart, FollowsCall, AnswersItsKind, WritesWithinReads, ReadsLocations, PointsLieOnLocations, PartsDecide, ViewsDecide}
 use Rattle.conflict.specs.Commute.{commute}
-use Rattle.conflict.specs.Places.{in_single, of_none, of_single, in_range, of_range, same_key, some_same, some_none}
+use Rattle.conflict.specs.Places.{in_single, of_none, of_single, in_range, of_range, same_key, some_same, none_some, some_none}
 use Rattle.seq_model.specs.declared.held.Held.{Held}
 use Rattle.seq_model.specs.declared.held.Held.TheVariants.{Map, Bag, Pq, Queue}
 
@@ -181,12 +181,29 @@ module _ {V : Type 0} where
   read_below n l Len pos c = of_range n l c
   read_below n l _ pos c = absurd (of_none l c)
 
+  -- ---- what is written
+  remove_written : (n k : ℕ) (reply : Reply V) → WritesWhereItChanges (rules V) n (record { op = Remove k; reply = reply; note = Plain })
+  remove_written n k (Value w) = (refl, refl)
+  remove_written n k _ = (refl, refl)
+
+  call_written : (n : ℕ) (op : Op V) (s : FinMap nat_cmp V) (r : Answer V) → map_call op s ≡ Some r → WritesWhereItChanges (rules V) n (outcome op r)
+  call_written n (Get k) s r e = (refl, refl)
+  call_written n (Put k v) s r e = (refl, refl)
+  call_written n (Remove k) s r e = remove_written n k r.0
+  call_written n Len s r e = (refl, refl)
+  call_written n _ s r e = absurd (none_some r e)
+
+  pub outcomes_write_where_they_change : OutcomesWriteWhereTheyChange (rules V)
+  outcomes_write_where_they_change n op s o e =
+      let l = legal op s o e in subst (λ x. WritesWhereItChanges (rules V) n x) l.1.1 (call_written n op s l.0 l.1.0)
+
   pub laws : FrameLaws (rules V)
   laws = record {
     parts_decide = parts_decide;
     views_decide = views_decide;
     legal = legal_where_reads_agree;
     untouched = changes_only_writes;
+    written = outcomes_write_where_they_change;
     by_part = changes_by_part;
     follows = follows_call;
     answers = answers_its_kind;

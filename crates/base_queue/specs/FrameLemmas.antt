@@ -20,7 +20,7 @@ use Rattle.conflict.specs.declared.change.Change.TheVariants as change
 use Rattle.conflict.specs.declared.outcome.Outcome.{Outcome}
 use Rattle.conflict.specs.declared.outcome.Note.{Note}
 use Rattle.conflict.specs.declared.outcome.Note.TheVariants.{Plain, Index}
-use Rattle.conflict.specs.Rules.{Rules, FrameLaws, Commute, SamePart, Agree, applied, LegalWhereReadsAgree, ChangesOnlyWrites, ChangesByPart, FollowsCall, AnswersItsKind, WritesWithinReads, ReadsLocations, PointsLieOnLocations, PartsDecide, ViewsDecide}
+use Rattle.conflict.specs.Rules.{Rules, FrameLaws, Commute, SamePart, Agree, applied, LegalWhereReadsAgree, ChangesOnlyWrites, WritesWhereItChanges, OutcomesWriteWhereTheyChange, ChangesByPart, FollowsCall, AnswersItsKind, WritesWithinReads, ReadsLocations, PointsLieOnLocations, PartsDecide, ViewsDecide}
 use Rattle.conflict.specs.Commute.{commute}
 use Rattle.conflict.specs.Places.{in_single, first_of_two, second_of_two, of_none, of_single, of_two, mod_below, same_key, key_itself, some_same, none_some, some_none}
 use Rattle.conflict.specs.Footprints.{queue_reads, queue_writes, cell_place}
@@ -145,6 +145,15 @@ two_below : (n l x k : ℕ) → 0 < n → x < suc (suc n) → Contains (x ∷ ce
 two_below n l x k pos lt c =
     let cell = mod_below k n pos in
     elim (of_two x (cell_place n k) l c) as (λ _. l < suc (suc n)) [ inl is ↦ omega arith | inr is ↦ omega arith ]
+
+-- ---- what is written
+enqueue_written : (V : Type 0) (n x t : ℕ) (b : Bool) → WritesWhereItChanges (rules V) n (cond b (record { op = Enqueue x; reply = Done; note = Index t }) (record { op = Enqueue x; reply = Full; note = Plain }))
+enqueue_written V n x t true = (refl, refl)
+enqueue_written V n x t false = (refl, refl)
+
+dequeue_written : (V : Type 0) (n h : ℕ) (first : Option ℕ) → WritesWhereItChanges (rules V) n (record { op = Dequeue; reply = found_reply first; note = Index h })
+dequeue_written V n h None = (refl, refl)
+dequeue_written V n h (Some x) = (refl, refl)
 
 module _ {V : Type 0} where
   -- ---- reads
@@ -302,12 +311,23 @@ module _ {V : Type 0} where
   pub reads_locations : ReadsLocations (rules V)
   reads_locations n l o pos c = read_below n l o.op o.note pos c
 
+  -- ---- what is written
+  pub outcomes_write_where_they_change : OutcomesWriteWhereTheyChange (rules V)
+  outcomes_write_where_they_change n (Enqueue x) s o e =
+      subst (λ y. WritesWhereItChanges (rules V) n y) (some_same _ _ e) (enqueue_written V n x s.tail (nat_lt s.tail INDEX_LIMIT))
+  outcomes_write_where_they_change n Dequeue s o e =
+      subst (λ y. WritesWhereItChanges (rules V) n y) (some_same _ _ e) (dequeue_written V n s.head (get s.cells s.head))
+  outcomes_write_where_they_change n Peek s o e = subst (λ y. WritesWhereItChanges (rules V) n y) (some_same _ _ e) (refl, refl)
+  outcomes_write_where_they_change n Len s o e = subst (λ y. WritesWhereItChanges (rules V) n y) (some_same _ _ e) (refl, refl)
+  outcomes_write_where_they_change n _ s o e = absurd (none_some o e)
+
   pub laws : FrameLaws (rules V)
   laws = record {
     parts_decide = shown_decided;
     views_decide = views_decide;
     legal = legal_where_reads_agree;
     untouched = changes_only_writes;
+    written = outcomes_write_where_they_change;
     by_part = changes_by_part;
     follows = follows_call;
     answers = answers_its_kind;

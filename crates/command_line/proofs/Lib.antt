@@ -1,2 +1,3 @@
 mod ReadLemmas
+mod ToldLemmas
 mod WordLemmas

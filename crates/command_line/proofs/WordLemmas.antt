@@ -7,7 +7,7 @@ use Rattle.clap.specs.declared.error.Error.{Error}
 use Rattle.clap.specs.declared.error.kind.ErrorKind.TheVariants as kind
 use Rattle.clap.specs.declared.parser.matches.ArgMatches.{ArgMatches}
 use Rattle.clap.specs.declared.parser.matches.ArgMatches.TheViews.{out-ArgMatches, out-SubCommand}
-use Rattle.command_line.specs.Words.{AskForHelp, faults, if_none}
+use Rattle.command_line.specs.Words.{AskForInformation, IsInformation, faults, if_none}
 
 -- an error that is not of memory is one of the words' faults
 pub is_fault : (kinds : Kinds) (error : Error) → HasKind kinds error → (kind_of error ≡ kind.OutOfMemory → ⊥) → IsAmong (kind_of error) kinds
@@ -22,9 +22,11 @@ pub not_taken : (kinds : Kinds) (error : Error) → IsAmong (kind_of error) kind
 not_taken [] error among none = among
 not_taken (k ∷ ks) error among none = cc
 
-pub asks_for_help : (words : List Text) (error : Error) → HasKind (faults words) error → kind_of error ≡ kind.DisplayHelp → AskForHelp words
-asks_for_help words error has help =
-    rw (sym help) (is_fault (faults words) error has (λ memory. let no : kind.DisplayHelp ≡ kind.OutOfMemory = sym help ∙ memory in cc))
+pub asks_for_information : (words : List Text) (error : Error) → HasKind (faults words) error → IsInformation error → AskForInformation words
+asks_for_information words error has (inl help) =
+    inl (rw (sym help) (is_fault (faults words) error has (λ memory. let no : kind.DisplayHelp ≡ kind.OutOfMemory = sym help ∙ memory in cc)))
+asks_for_information words error has (inr version) =
+    inr (rw (sym version) (is_fault (faults words) error has (λ memory. let no : kind.DisplayVersion ≡ kind.OutOfMemory = sym version ∙ memory in cc)))
 
 pair_of : {B : Type 0} (met : Option B) (both : B → Text × List Row) (name : Text) (rows : List Row)
     → option_map (λ (p : Text × List Row). p.1) (option_map both met) ≡ Some rows → option_map (λ b. (both b).0) met ≡ Some name

@@ -1,8 +1,9 @@
--- The words that the program takes: `step FILE`.
-use Rattle.std.specs.Prelude.{◌≡◌, true, List, [], ◌∷◌, Option, Some, None, codes, option_and_then, if◌then◌else◌}
+-- The words that the program takes: `step FILE`, and `--help` and `--version`.
+use Rattle.std.specs.Prelude.{◌≡◌, ◌⊎◌, true, List, [], ◌∷◌, Option, Some, None, codes, option_and_then, if◌then◌else◌}
 use Rattle.std.specs.Str.{bytes_eq}
-use Rattle.clap.specs.Words.{App, IsAmong, Kinds, Row, Rule, Text, fault_of, first_of, new_app, new_rule, subcommand_of, with_rule, with_subcommand}
+use Rattle.clap.specs.Words.{App, IsAmong, Kinds, Row, Rule, Text, fault_of, first_of, kind_of, new_app, new_rule, subcommand_of, with_rule, with_subcommand}
 use Rattle.clap.specs.declared.builder.action.ArgAction.TheVariants.{Set}
+use Rattle.clap.specs.declared.error.Error.{Error}
 use Rattle.clap.specs.declared.error.kind.ErrorKind.TheVariants as kind
 
 abbrev pub file_rule : Rule
@@ -14,7 +15,7 @@ step_app = with_rule (new_app (codes "step")) file_rule
 -- before its subcommand is there
 abbrev pub bare_app : App
 bare_app = record (new_app (codes "proust_tool")) {
-  top = record (new_app (codes "proust_tool")).top { no_binary_name = true; subcommand_required = true };
+  top = record (new_app (codes "proust_tool")).top { no_binary_name = true; subcommand_required = true; has_version = true };
 }
 
 abbrev pub tool_app : App
@@ -27,8 +28,13 @@ faults words = fault_of tool_app words
 abbrev pub AreTaken : List Text → Type 0
 AreTaken words = faults words ≡ []
 
-abbrev pub AskForHelp : List Text → Type 0
-AskForHelp words = IsAmong kind.DisplayHelp (faults words)
+-- help, or the version
+abbrev pub IsInformation : Error → Type 0
+IsInformation error = (kind_of error ≡ kind.DisplayHelp) ⊎ (kind_of error ≡ kind.DisplayVersion)
+
+-- the words ask for one of them
+abbrev pub AskForInformation : List Text → Type 0
+AskForInformation words = IsAmong kind.DisplayHelp (faults words) ⊎ IsAmong kind.DisplayVersion (faults words)
 
 -- what stands in FILE's place
 abbrev pub file_word : Option (Text × List Row) → Option Text

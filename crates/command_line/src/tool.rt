@@ -1,20 +1,25 @@
 //! The program over a reader and two writers.
-ghost use Rattle.std.specs.Prelude.{◌≡◌, ◌≤◌, ◌<◌, ◌⊎◌, ◌≢◌, ◌↔◌, ℕ, List, length, map, option_map, option_and_then, IsOk, IsErr, IfOk, IfErr, IfSome};
+ghost use Rattle.std.specs.Prelude.{◌≡◌, ◌≤◌, ◌<◌, ◌⊎◌, ◌≢◌, ◌↔◌, ℕ, List, length, map, option_map, option_and_then, IsOk, IsErr, IfOk, IfErr, IfSome, IsTrue};
 ghost use Rattle.std.specs.String.{string_bytes};
 ghost use Rattle.std.specs.Vec.{vec_len};
 ghost use Rattle.std.specs.Io.KnownBytes.{Appends};
 ghost use Rattle.clap.specs.Words.{FailsBy, app_of, found_of, kind_of, subcommand_of, subcommand_rows_of};
-ghost use Rattle.command_line.specs.Words.{AreTaken, AskForHelp, faults, file_word, named_file, not_dash, tool_app};
+ghost use Rattle.command_line.specs.Words.{AreTaken, AskForInformation, IsInformation, faults, file_word, named_file, not_dash, tool_app};
 ghost use Rattle.command_line.specs.declared.tool.ReadFault.TheVariants.{OutOfMemory};
-ghost use Rattle.command_line.specs.Ends.{HasWorked, IsFault, IsOutput, IsRead};
+ghost use Rattle.command_line.specs.Ends.{HasBegun, HasOutput, HasToldFault, HasToldRefusal, HasWorked, IsFault, IsKnownOutput, IsOutput, IsRead, file_fault_text, line_of, unreadable_text};
+ghost use Rattle.seq_model.specs.Texts.{memory_text, refusal_text};
 
 use clap::error::ErrorKind;
 use clap::{Arg, ArgAction, ArgMatches, Command, Error};
 use seq_model::{Memory, Refusal};
-use session_text::{parse_steps, print_trace, run_script};
+use session_text::{print_trace, run_script};
 use std::alloc::{AllocError, Global};
 use std::io;
 use std::io::{Read, Write};
+use step_script::parse_steps;
+
+/// What `--version` prints behind the program's name.
+const VERSION: &str = "0.1.0";
 
 /// A file is at most this many bytes long.
 pub const FILE_LIMIT: usize = 16_777_216;
@@ -39,6 +44,7 @@ fn command<'a>(alloc: Global) -> Result<Command<'a>, AllocError>
         .about("Runs a step script")
         .arg(file)?;
     Command::new(alloc, "proust_tool")
+        .version(VERSION)
         .no_binary_name(true)
         .subcommand_required(true)
         .subcommand(step)
@@ -91,20 +97,73 @@ fn file_but_dash(alloc: Global, file: Option<&str>) -> Result<Option<String>, Me
     }
 }
 
-/// Writes a fault, and answers its status.
-pub fn fault<E: Write>(err: &mut E, status: u8, text: &str) -> u8
-    ensures { result ≡ status }
+// Whether all the bytes were written.
+fn tell<E: Write>(err: &mut E, bytes: &[u8]) -> bool
+    ensures whole { IsTrue result → Appends (E.contents err.old) (E.contents err.new) bytes.now }
+    ensures begun { HasBegun (E.contents err.old) (E.contents err.new) bytes.now }
 {
-    let _ = writeln!(err, "{text}");
+    let mut written = 0;
+    while written < bytes.len() {
+        match err.write(&bytes[written..]) {
+            Ok(count) if count > 0 => written += count,
+            _ => return false,
+        }
+    }
+    true
+}
+
+/// Writes a fault's line, and answers its status.
+pub fn fault<E: Write>(err: &mut E, status: u8, text: &str) -> u8
+    ensures status { result ≡ status }
+    ensures told { HasBegun (E.contents err.old) (E.contents err.new) (line_of text.now) }
+{
+    if tell(err, text.as_bytes()) {
+        tell(err, b"\n");
+    }
     status
+}
+
+/// Says that memory was refused.
+pub fn refuse_memory<E: Write>(err: &mut E) -> u8
+    ensures status { result ≡ MEMORY }
+    ensures told { HasBegun (E.contents err.old) (E.contents err.new) (line_of memory_text) }
+{
+    fault(err, MEMORY, "Memory")
+}
+
+/// Runs the words over the file that they name, as it was opened: `run_tool` over its text, or the fault that it can't be
+/// read.
+pub fn run_file<R: Read + Drop, W: Write, E: Write>(
+    alloc: Global,
+    words: &[String],
+    opened: io::Result<R>,
+    out: &mut W,
+    err: &mut E,
+) -> u8
+    ensures status { result ≤ MEMORY }
+    ensures done { result ≡ DONE
+        → IfOk opened (λ reader. HasWorked (map string_bytes words.now) (R.remaining reader) (W.contents out.old) (W.contents out.new)) }
+    ensures quiet { result ≡ DONE → err.new ≡ err.old }
+    ensures memory { result ≡ MEMORY → out.new ≡ out.old }
+    ensures unopened { IsErr opened → (result ≡ REFUSED) × (out.new ≡ out.old) }
+    ensures told { IsErr opened → HasBegun (E.contents err.old) (E.contents err.new) (line_of unreadable_text) }
+{
+    match opened {
+        Ok(reader) => {
+            let mut reader = reader;
+            run_tool(alloc, words, &mut reader, out, err)
+        }
+        Err(_) => fault(err, REFUSED, "cannot read the file"),
+    }
 }
 
 /// Runs the words, without the program's own name, over what the reader gives, and answers the exit status.
 ///
 /// What it prints goes to `out`, and a fault, one line, to `err`: then nothing goes to `out`, but where a write to it
-/// failed. Faults are found in the order words, file, size, text, opening. `done`: with status 0 the words ask for help,
-/// or they and the text are taken and `out` has grown by what the run of the script prints that the text spells.
-/// `unread`: nothing is read for refused words.
+/// failed. Faults are found in the order words, file, size, text, opening. `done`: with status 0 the words ask for help
+/// or the version, or they and the text are taken and `out` has grown by what the run of the script prints that the text
+/// spells. `unread`: nothing is read for refused words. `told`, `starved`: what `err` grows by, but where a write to it
+/// fails, is the line of the fault; it stays as it was only where the output could not be written.
 pub fn run_tool<R: Read, W: Write, E: Write>(
     alloc: Global,
     words: &[String],
@@ -117,9 +176,12 @@ pub fn run_tool<R: Read, W: Write, E: Write>(
         → HasWorked (map string_bytes words.now) (R.remaining reader.old) (W.contents out.old) (W.contents out.new) }
     ensures quiet { result ≡ DONE → err.new ≡ err.old }
     ensures refused { result ≡ REFUSED
-        → (out.new ≡ out.old) ⊎ (AskForHelp (map string_bytes words.now) ⊎ IsRead (map string_bytes words.now) (R.remaining reader.old)) }
+        → (out.new ≡ out.old) ⊎ (AskForInformation (map string_bytes words.now) ⊎ IsRead (map string_bytes words.now) (R.remaining reader.old)) }
     ensures memory { result ≡ MEMORY → out.new ≡ out.old }
     ensures unread { ¬ AreTaken (map string_bytes words.now) → reader.new ≡ reader.old }
+    ensures told { AreTaken (map string_bytes words.now) → result ≡ REFUSED
+        → HasToldFault (R.remaining reader.old) (E.contents err.old) (E.contents err.new) ⊎ ((err.new ≡ err.old) × IsKnownOutput (R.remaining reader.old)) }
+    ensures starved { result ≡ MEMORY → HasBegun (E.contents err.old) (E.contents err.new) (line_of memory_text) }
 {
     if let Err(error) = matches_of(alloc, words) {
         return refuse_words(out, err, error);
@@ -130,16 +192,20 @@ pub fn run_tool<R: Read, W: Write, E: Write>(
     }
 }
 
-// A wish for help is no fault: its text goes to `out`.
+// A wish for help or the version is no fault: its text goes to `out`.
 fn refuse_words<W: Write, E: Write>(out: &mut W, err: &mut E, error: Error) -> u8
     ensures status { result ≤ MEMORY }
-    ensures done { result ≡ DONE → (kind_of error ≡ ErrorKind.DisplayHelp) × (err.new ≡ err.old) }
-    ensures kept { (out.new ≡ out.old) ⊎ (kind_of error ≡ ErrorKind.DisplayHelp) }
+    ensures done { result ≡ DONE → IsInformation error × (err.new ≡ err.old) }
+    ensures kept { (out.new ≡ out.old) ⊎ IsInformation error }
     ensures memory { (result ≡ MEMORY) ↔ (kind_of error ≡ ErrorKind.OutOfMemory) }
+    ensures starved { result ≡ MEMORY → HasBegun (E.contents err.old) (E.contents err.new) (line_of memory_text) }
 {
     match error.kind() {
-        ErrorKind::OutOfMemory => fault(err, MEMORY, "Memory"),
-        ErrorKind::DisplayHelp => status_of_write(write!(out, "{error}")),
+        ErrorKind::OutOfMemory => refuse_memory(err),
+        ErrorKind::DisplayHelp | ErrorKind::DisplayVersion => status_of_write(write!(
+            out,
+            "{error}"
+        )),
         _ => {
             let _ = write!(err, "{error}");
             REFUSED
@@ -175,22 +241,28 @@ impl From<AllocError> for ReadFault {
 fn refuse_file<E: Write>(err: &mut E, cause: ReadFault) -> u8
     ensures memory { cause ≡ ReadFault.OutOfMemory → result ≡ MEMORY }
     ensures other { cause ≢ ReadFault.OutOfMemory → result ≡ REFUSED }
+    ensures told { HasBegun (E.contents err.old) (E.contents err.new) (line_of (file_fault_text cause)) }
 {
     match cause {
         ReadFault::Unreadable => fault(err, REFUSED, "cannot read the file"),
         ReadFault::TooLong => fault(err, REFUSED, "TooLong"),
-        ReadFault::OutOfMemory => fault(err, MEMORY, "Memory"),
+        ReadFault::OutOfMemory => refuse_memory(err),
     }
 }
 
-fn refuse_text<E: Write>(err: &mut E, refusal: Refusal) -> u8
+// Where there is no memory for the refusal's text, that is the fault.
+fn refuse_text<E: Write>(alloc: Global, err: &mut E, refusal: Refusal) -> u8
+    ensures status { (result ≡ MEMORY) ⊎ (result ≡ REFUSED) }
     ensures memory { refusal ≡ Refusal.OutOfMemory → result ≡ MEMORY }
-    ensures other { refusal ≢ Refusal.OutOfMemory → result ≡ REFUSED }
+    ensures told { result ≡ REFUSED → HasBegun (E.contents err.old) (E.contents err.new) (line_of (refusal_text refusal)) }
+    ensures starved { result ≡ MEMORY → HasBegun (E.contents err.old) (E.contents err.new) (line_of memory_text) }
 {
-    let _ = writeln!(err, "{refusal}");
     match refusal {
-        Refusal::OutOfMemory => MEMORY,
-        _ => REFUSED,
+        Refusal::OutOfMemory => refuse_memory(err),
+        _ => match refusal.to_string(alloc) {
+            Ok(text) => fault(err, REFUSED, text.as_str()),
+            Err(_) => refuse_memory(err),
+        },
     }
 }
 
@@ -228,10 +300,12 @@ fn step<W: Write, E: Write>(alloc: Global, text: &[u8], out: &mut W, err: &mut E
         → (bytes : List ℕ) × IsOutput text.now bytes × Appends (W.contents out.old) (W.contents out.new) bytes }
     ensures quiet { result ≡ DONE → err.new ≡ err.old }
     ensures memory { result ≡ MEMORY → out.new ≡ out.old }
+    ensures told { result ≡ REFUSED → HasToldRefusal text.now (E.contents err.old) (E.contents err.new) ⊎ ((err.new ≡ err.old) × HasOutput text.now) }
+    ensures starved { result ≡ MEMORY → HasBegun (E.contents err.old) (E.contents err.new) (line_of memory_text) }
 {
     match output_of(alloc, text) {
         Ok(text) => status_of_write(out.write_all(text.as_slice())),
-        Err(refusal) => refuse_text(err, refusal),
+        Err(refusal) => refuse_text(alloc, err, refusal),
     }
 }
 

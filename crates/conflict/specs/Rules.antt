@@ -1,8 +1,9 @@
 -- A kind of collection, as the detection of conflicts sees it: what calls answer, read, write and change, in n stripes.
-use Rattle.std.specs.Prelude.{◌≡◌, ℕ, ◌<◌, ◌⊎◌, List, Option, Some, None, fold, Any, Contains}
+use Rattle.std.specs.Prelude.{◌≡◌, ℕ, ◌<◌, ◌⊎◌, Bool, true, false, List, [], ◌∷◌, Option, Some, None, fold, Any, Contains}
 use Rattle.seq_model.specs.declared.call.Op.{Op}
 use Rattle.seq_model.specs.declared.held.Held.{Held}
 use Rattle.seq_model.specs.Calls.{held_call, IsWithinLimits}
+use Rattle.seq_model.specs.Changes as call
 use Rattle.conflict.specs.declared.change.Change.{Change}
 use Rattle.conflict.specs.declared.outcome.Outcome.{Outcome}
 
@@ -26,6 +27,11 @@ pub record Rules (V C Q A : Type 0) : Type 0 where
   pub view_of : Held V → Option C
   pub held_of : C → Held V
 
+-- whether the list has an entry
+abbrev pub has_some : {X : Type 0} → List X → Bool
+has_some [] = false
+has_some (x ∷ xs) = true
+
 -- changes in order
 abbrev pub applied : {V C Q A : Type 0} → Rules V C Q A → List (Change V) → C → C
 applied r changes s = fold r.change s changes
@@ -46,6 +52,13 @@ LegalWhereReadsAgree {V} {C} r =
 -- an outcome changes the parts that it writes alone
 abbrev pub ChangesOnlyWrites : {V C Q A : Type 0} → Rules V C Q A → Type 0
 ChangesOnlyWrites {V} {C} r = (n l : ℕ) (o : Outcome V) (t : C) → ¬ Contains (r.writes n o) l → SamePart r n l t (applied r (r.changes o) t)
+
+-- the outcome writes a location exactly where the call with its reply changes something, and then alone it has changes
+abbrev pub WritesWhereItChanges : {V C Q A : Type 0} → Rules V C Q A → ℕ → Outcome V → Type 0
+WritesWhereItChanges r n o = (has_some (r.writes n o) ≡ call.changes o.op o.reply) × (has_some (r.changes o) ≡ call.changes o.op o.reply)
+
+abbrev pub OutcomesWriteWhereTheyChange : {V C Q A : Type 0} → Rules V C Q A → Type 0
+OutcomesWriteWhereTheyChange {V} {C} r = (n : ℕ) (op : Op V) (s : C) (o : Outcome V) → r.outcome op s ≡ Some o → WritesWhereItChanges r n o
 
 -- a change makes at each point of the same the same; so it does with each part
 abbrev pub ChangesByPart : {V C Q A : Type 0} → Rules V C Q A → Type 0
@@ -83,6 +96,7 @@ pub record FrameLaws {V C Q A : Type 0} (r : Rules V C Q A) : Type 0 where
   pub views_decide : ViewsDecide r
   pub legal : LegalWhereReadsAgree r
   pub untouched : ChangesOnlyWrites r
+  pub written : OutcomesWriteWhereTheyChange r
   pub by_part : ChangesByPart r
   pub follows : FollowsCall r
   pub answers : AnswersItsKind r

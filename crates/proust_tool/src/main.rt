@@ -4,7 +4,7 @@
 //! standard streams.
 #![tactic(auto)]
 
-use command_line::{MEMORY, REFUSED, fault, file_of, run_tool};
+use command_line::{REFUSED, fault, file_of, refuse_memory, run_file, run_tool};
 use std::process::ExitCode;
 use std::{env, io};
 
@@ -25,7 +25,7 @@ fn words_of(rt: &HostRuntime) -> io::Result<Vec<String>> {
 fn refuse(rt: &HostRuntime, error: io::Error) -> u8 {
     let mut err = rt.stderr();
     if error.kind() == io::ErrorKind::OutOfMemory {
-        return fault(&mut err, MEMORY, "Memory");
+        return refuse_memory(&mut err);
     }
     fault(&mut err, REFUSED, "cannot read the words")
 }
@@ -35,11 +35,11 @@ fn run(rt: &HostRuntime, words: &[String]) -> u8 {
     let mut out = rt.stdout();
     let mut err = rt.stderr();
     match file_of(alloc, words) {
-        Ok(Some(file)) => match std::fs::open(rt, file.as_str()) {
-            Ok(mut reader) => run_tool(alloc, words, &mut reader, &mut out, &mut err),
-            Err(_) => fault(&mut err, REFUSED, "cannot read the file"),
-        },
+        Ok(Some(file)) => {
+            let opened = std::fs::open(rt, file.as_str());
+            run_file(alloc, words, opened, &mut out, &mut err)
+        }
         Ok(None) => run_tool(alloc, words, &mut rt.stdin(), &mut out, &mut err),
-        Err(_) => fault(&mut err, MEMORY, "Memory"),
+        Err(_) => refuse_memory(&mut err),
     }
 }

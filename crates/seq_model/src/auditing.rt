@@ -2,6 +2,7 @@
 ghost use Rattle.std.specs.Prelude.{◌≡◌, ◌↔◌, ◌<◌, IsTrue, IfOk, IfErr, OnOk, Some, MatchOption, map, count_by};
 ghost use Rattle.seq_model.specs.Runs.{reply_of, after_call, IsLegal, after_calls, IsRun, after_run};
 ghost use Rattle.seq_model.specs.Turns.{Turn, turn_of, AreInTurn, writes_at};
+ghost use Rattle.seq_model.specs.Texts.{audit_fault_text};
 ghost use Rattle.seq_model.specs.Audit.{run_order, IsLeastDouble, IsFirstWrong, IsReplayFault, IsRunBetween, IsAuditFault};
 
 use crate::call::{Call, Reply};
@@ -10,23 +11,33 @@ use crate::refusal::{Memory, Refusal};
 use crate::state::State;
 use crate::value::Value;
 use std::alloc::Global;
-use thiserror::Error;
+use std::error::Error;
+use std::fmt;
 
 /// Why records are no run from the opening state to the last one.
-#[derive(Clone, Copy, Debug, PartialEq, Eq, Error)]
+#[derive(Clone, Copy, Debug, PartialEq, Eq)]
 pub enum AuditFault {
     /// The least number that two writers share.
-    #[error("audit fault")]
     DoubleNumber(u64),
     /// The first call, in the order of the run, whose reply is wrong: its record's place, and its own in the record.
-    #[error("audit fault")]
     WrongReply { entry: u64, call: u64 },
     /// The run leaves another state.
-    #[error("audit fault")]
     WrongState,
-    #[error("Memory")]
     OutOfMemory,
 }
+
+impl fmt::Display for AuditFault {
+    ghost output = { λ fault. Some (audit_fault_text fault) };
+
+    fn fmt<W: fmt::Write>(&self, f: &mut fmt::Formatter<W>) -> fmt::Result {
+        match self {
+            AuditFault::OutOfMemory => write!(f, "{Memory}"),
+            _ => f.write_str("audit fault"),
+        }
+    }
+}
+
+impl Error for AuditFault {}
 
 impl From<Memory> for AuditFault {
     ghost use Rattle.seq_model.specs.declared.auditing.AuditFault.TheVariants.{OutOfMemory};

@@ -1,6 +1,8 @@
 //! What one collection holds, and the sequential call on it.
-ghost use Rattle.std.specs.Prelude.{◌≡◌, ◌↔◌, ◌+◌, ◌≤◌, ℕ, Some, None, is_some, IsTrue, IfOk, IfErr, OnErr, length};
-ghost use Rattle.seq_model.specs.Calls.{map_call, multiset_call, priority_queue_call, queue_call, held_call, add_call, value_reply, found_reply, IsRefusal, IsWithinLimits};
+ghost use Rattle.std.specs.Prelude.{◌≡◌, ◌↔◌, ◌+◌, ◌≤◌, ℕ, Some, None, Err, is_some, IsTrue, IfOk, IfErr, OnErr, length};
+ghost use Rattle.std.specs.FinMap as map;
+ghost use Rattle.seq_model.specs.declared.held.Held.TheVariants.{Map, Bag, Pq, Queue};
+ghost use Rattle.seq_model.specs.Calls.{map_call, multiset_call, priority_queue_call, queue_call, held_call, add_call, value_reply, found_reply, IsRefusal, IsWithinLimits, TakesMemory};
 ghost use Rattle.seq_model.specs.Counts.{HasFewCopies};
 
 use crate::call::{Op, Reply};
@@ -53,6 +55,7 @@ impl<V: Value> Entries<V> {
         ensures ok { IfOk result (λ reply. map_call op.now self.old ≡ Some (reply, self.new)) }
         ensures refused { IfErr result (λ refusal. IsRefusal refusal (map_call op.now self.old ≡ None)) }
         ensures err { OnErr result (self.new ≡ self.old) }
+        ensures memory { result ≡ Err Refusal.OutOfMemory → TakesMemory op.now (Map self.old) }
     {
         match op {
             Op::Get(key) => match self.get(*key) {
@@ -78,6 +81,7 @@ impl Counts {
         ensures ok { IfOk result (λ reply. add_call element self.old ≡ (reply, self.new)) }
         ensures refused { IfErr result (λ refusal. IsRefusal refusal ⊥) }
         ensures err { OnErr result (self.new ≡ self.old) }
+        ensures memory { result ≡ Err Refusal.OutOfMemory → map.get self.old element ≡ None }
     {
         let count = self.copies(element);
         if count >= COPY_LIMIT {
@@ -93,6 +97,7 @@ impl Counts {
         ensures ok { IfOk result (λ reply. multiset_call op.now self.old ≡ Some (reply, self.new)) }
         ensures refused { IfErr result (λ refusal. IsRefusal refusal (multiset_call op.now self.old ≡ None)) }
         ensures err { OnErr result (self.new ≡ self.old) }
+        ensures memory { result ≡ Err Refusal.OutOfMemory → TakesMemory op.now (Bag self.old) }
     {
         match op {
             Op::Count(element) => Ok(Reply::Number(self.copies(*element))),
@@ -115,6 +120,7 @@ impl Counts {
         ensures ok { IfOk result (λ reply. priority_queue_call op.now self.old ≡ Some (reply, self.new)) }
         ensures refused { IfErr result (λ refusal. IsRefusal refusal (priority_queue_call op.now self.old ≡ None)) }
         ensures err { OnErr result (self.new ≡ self.old) }
+        ensures memory { result ≡ Err Refusal.OutOfMemory → TakesMemory op.now (Pq self.old) }
     {
         match op {
             Op::Least => Ok(Reply::of_element(self.least())),
@@ -139,6 +145,7 @@ fn apply_queue<V>(head: &mut u64, items: &mut QueueItems, op: &Op<V>) -> Result<
     ensures refused { IfErr result (λ refusal. IsRefusal refusal (queue_call op.now head.old items.old ≡ None)) }
     ensures err { OnErr result ((head.new ≡ head.old) × (items.new ≡ items.old)) }
     ensures within { head.new + length items.new ≤ INDEX_LIMIT }
+    ensures memory { result ≡ Err Refusal.OutOfMemory → TakesMemory op.now (Queue head.old items.old) }
 {
     match op {
         Op::Enqueue(item) => {
@@ -200,6 +207,7 @@ impl<V: Value> Held<V> {
         ensures ok { IfOk result (λ reply. held_call op.now self.old ≡ Some (reply, self.new)) }
         ensures refused { IfErr result (λ refusal. IsRefusal refusal (held_call op.now self.old ≡ None)) }
         ensures err { OnErr result (self.new ≡ self.old) }
+        ensures memory { result ≡ Err Refusal.OutOfMemory → TakesMemory op.now self.old }
     {
         match self {
             Held::Map(map) => map.apply(op),

@@ -1,6 +1,6 @@
 //! What follows from the definitions of runs and audits. The functions compute nothing: their contracts are the laws.
 ghost use Rattle.std.specs.Prelude.{◌≡◌, ◌+◌, ◌^◌};
-ghost use Rattle.seq_model.specs.declared.limits.TheConstants.{COPY_LIMIT, INDEX_LIMIT, CLOCK_LIMIT, CALL_LIMIT, ACTOR_LIMIT};
+ghost use Rattle.seq_model.specs.declared.limits.TheConstants.{COPY_LIMIT, INDEX_LIMIT, CLOCK_LIMIT, CALL_LIMIT, ACTOR_LIMIT, SEATS};
 ghost use Rattle.seq_model.specs.Laws.{
   CallsDetermineReplies,
   CallsCompose,
@@ -39,4 +39,5 @@ pub fn limit_laws()
     ensures clock { CLOCK_LIMIT ≡ 2 ^ 62 }
     ensures calls { CALL_LIMIT ≡ 2 ^ 12 }
     ensures actors { ACTOR_LIMIT ≡ 2 ^ 6 }
+    ensures seats { SEATS ≡ ACTOR_LIMIT + 1 }
 {}

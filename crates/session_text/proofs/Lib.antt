@@ -1,2 +1,1 @@
 mod PlayLemmas
-mod PrintLemmas

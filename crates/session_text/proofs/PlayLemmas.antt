@@ -9,18 +9,18 @@ use Rattle.seq_model.specs.declared.event.Notice.{Notice}
 use Rattle.seq_model.specs.declared.event.Notice.TheVariants.{Quiet, Answered, Refused}
 use Rattle.step_script.specs.declared.script.Line.{Line}
 use Rattle.step_script.specs.declared.script.TheConstants.{STEP_LIMIT}
-use Rattle.session_text.specs.Worlds.{World, Feeds}
+use Rattle.session_text.specs.Worlds.{ShownWorld, Feeds}
 use Rattle.session_text.specs.Plays.{ArePlays, AreSteps, AreTurns, HasPlayed, IsDone, IsOne, IsPlay, IsStepOf, Keeps, Lead, heard, telling, tells_nothing, waiting_after, waiting_then, waits}
 
 -- ---- events after events
-lead_on : (w v u : World) (xs ys : List (Event ℕ)) (ms ns : List (Notice ℕ)) → Lead w xs ms v → Lead v ys ns u → Lead w (xs ++ ys) (ms ++ ns) u
-lead_on w v u [] ys [] ns first second = subst (λ (z : World). Lead z ys ns u) first second
+lead_on : (w v u : ShownWorld) (xs ys : List (Event ℕ)) (ms ns : List (Notice ℕ)) → Lead w xs ms v → Lead v ys ns u → Lead w (xs ++ ys) (ms ++ ns) u
+lead_on w v u [] ys [] ns first second = subst (λ (z : ShownWorld). Lead z ys ns u) first second
 lead_on w v u [] ys (m ∷ ms) ns first second = absurd first
 lead_on w v u (x ∷ xs) ys [] ns first second = absurd first
 lead_on w v u (x ∷ xs) ys (m ∷ ms) ns first second =
     (first.0, (first.1.0, lead_on first.0 v u xs ys ms ns first.1.1 second))
 
-lead_paired : (w v : World) (xs : List (Event ℕ)) (ms : List (Notice ℕ)) → Lead w xs ms v → length ms ≡ length xs
+lead_paired : (w v : ShownWorld) (xs : List (Event ℕ)) (ms : List (Notice ℕ)) → Lead w xs ms v → length ms ≡ length xs
 lead_paired w v [] [] lead = refl
 lead_paired w v [] (m ∷ ms) lead = absurd lead
 lead_paired w v (x ∷ xs) [] lead = absurd lead
@@ -34,7 +34,7 @@ after_append ws (x ∷ xs) ys [] ns paired = cc
 after_append ws (x ∷ xs) ys (m ∷ ms) ns paired = after_append (waiting_then ws x (tells_nothing m)) xs ys ms ns (omega arith)
 
 -- events of one kind, and behind them events of another
-pub played_on : {P Q R : List (Event ℕ) → List (Notice ℕ) → Type 0} {w v u : World} {before then after : List (Notice ℕ)} {ws vs us : List Bool}
+pub played_on : {P Q R : List (Event ℕ) → List (Notice ℕ) → Type 0} {w v u : ShownWorld} {before then after : List (Notice ℕ)} {ws vs us : List Bool}
     → ((xs ys : List (Event ℕ)) (ms ns : List (Notice ℕ)) → length ms ≡ length xs → length ns ≡ length ys → vs ≡ waiting_after ws xs ms
     → P xs ms → Q ys ns → R (xs ++ ys) (ms ++ ns))
     → HasPlayed (Keeps P ws vs) w before v then → HasPlayed (Keeps Q vs us) v then u after → HasPlayed (Keeps R ws us) w before u after
@@ -59,7 +59,7 @@ played_on {w = w} {v = v} {u = u} {before = before} {ws = ws} join first second 
           ∙ ap (λ (z : List (Notice ℕ)). before ++ z) (sym (flat_map-append telling ms ns));
     }
 
-pub played_as : {P Q : List (Event ℕ) → List (Notice ℕ) → Type 0} {w v : World} {before after : List (Notice ℕ)}
+pub played_as : {P Q : List (Event ℕ) → List (Notice ℕ) → Type 0} {w v : ShownWorld} {before after : List (Notice ℕ)}
     → ((xs : List (Event ℕ)) (ms : List (Notice ℕ)) → P xs ms → Q xs ms) → HasPlayed P w before v after → HasPlayed Q w before v after
 played_as turn has = record {
   events = has.events;
@@ -69,12 +69,12 @@ played_as turn has = record {
   heard-of = has.heard-of;
 }
 
-pub kept_as : {P Q : List (Event ℕ) → List (Notice ℕ) → Type 0} {w v : World} {before after : List (Notice ℕ)} {ws vs : List Bool}
+pub kept_as : {P Q : List (Event ℕ) → List (Notice ℕ) → Type 0} {w v : ShownWorld} {before after : List (Notice ℕ)} {ws vs : List Bool}
     → ((xs : List (Event ℕ)) (ms : List (Notice ℕ)) → vs ≡ waiting_after ws xs ms → P xs ms → Q xs ms)
     → HasPlayed (Keeps P ws vs) w before v after → HasPlayed (Keeps Q ws vs) w before v after
 kept_as turn has = played_as (λ xs ms kept. (turn xs ms kept.1 kept.0, kept.1)) has
 
-pub played_none : (P : List (Event ℕ) → List (Notice ℕ) → Type 0) (w : World) (before : List (Notice ℕ)) (ws : List Bool)
+pub played_none : (P : List (Event ℕ) → List (Notice ℕ) → Type 0) (w : ShownWorld) (before : List (Notice ℕ)) (ws : List Bool)
     → P [] [] → HasPlayed (Keeps P ws ws) w before w before
 played_none P w before ws kind = record {
   events = [];
@@ -85,7 +85,7 @@ played_none P w before ws kind = record {
 }
 
 -- one event
-pub played_one : (w v : World) (before after : List (Notice ℕ)) (e : Event ℕ) (notice : Notice ℕ) (quiet : Bool) (ws vs : List Bool)
+pub played_one : (w v : ShownWorld) (before after : List (Notice ℕ)) (e : Event ℕ) (notice : Notice ℕ) (quiet : Bool) (ws vs : List Bool)
     → Feeds w e v notice → after ≡ before ++ telling notice → quiet ≡ tells_nothing notice → vs ≡ waiting_then ws e quiet
     → HasPlayed (Keeps (IsOne e quiet) ws vs) w before v after
 played_one w v before after e notice quiet ws vs feeds added is_quiet waiting = record {

@@ -4,12 +4,13 @@ use Rattle.seq_model.specs.declared.event.Event.{Event}
 use Rattle.seq_model.specs.declared.event.Event.TheVariants as event
 use Rattle.seq_model.specs.declared.event.Notice.{Notice}
 use Rattle.seq_model.specs.declared.event.Notice.TheVariants.{Quiet}
+use Rattle.seq_model.specs.declared.limits.TheConstants.{SEATS}
 use Rattle.step_script.specs.declared.script.Line.{Line}
 use Rattle.step_script.specs.declared.script.Line.TheVariants.{Ask, Do, Steps, Starve, Alternate}
 use Rattle.step_script.specs.declared.script.Script.{Script}
 use Rattle.step_script.specs.declared.script.TheConstants.{STEP_LIMIT}
 use Rattle.session_text.specs.declared.run.ScriptRun.{ScriptRun}
-use Rattle.session_text.specs.Worlds.{World, IsOpened, Feeds, IsTraceIn}
+use Rattle.session_text.specs.Worlds.{ShownWorld, IsOpened, Feeds, IsTraceIn}
 
 -- ---- what is heard
 abbrev pub tells_nothing : Notice ℕ → Bool
@@ -28,15 +29,15 @@ heard notices = flat_map telling notices
 -- ---- which actors have an unanswered request, by actor; the first place is no actor's
 
 abbrev pub nobody : List Bool
-nobody = replicate 65 false
+nobody = replicate SEATS false
 
 abbrev pub waits : List Bool → ℕ → Bool
 waits waiting actor = get_or waiting actor false
 
-abbrev pub actor_of : Event ℕ → ℕ
-actor_of (event.Ask actor request) = actor
-actor_of (event.Step actor) = actor
-actor_of (event.Starve actor) = actor
+abbrev pub whose : Event ℕ → ℕ
+whose (event.Ask actor request) = actor
+whose (event.Step actor) = actor
+whose (event.Starve actor) = actor
 
 abbrev pub is_request : Event ℕ → Bool
 is_request (event.Ask actor request) = true
@@ -49,7 +50,7 @@ noted waiting actor false false = set waiting actor false
 noted waiting actor asks quiet = waiting
 
 abbrev pub waiting_then : List Bool → Event ℕ → Bool → List Bool
-waiting_then waiting e quiet = noted waiting (actor_of e) (is_request e) quiet
+waiting_then waiting e quiet = noted waiting (whose e) (is_request e) quiet
 
 abbrev pub waiting_after : List Bool → List (Event ℕ) → List (Notice ℕ) → List Bool
 waiting_after waiting (e ∷ es) (notice ∷ told) = waiting_after (waiting_then waiting e (tells_nothing notice)) es told
@@ -109,13 +110,13 @@ ArePlays waiting (line ∷ lines) es told =
 -- ---- in a world
 
 -- the events lead from one world to another, and tell this
-abbrev pub Lead : World → List (Event ℕ) → List (Notice ℕ) → World → Type 0
+abbrev pub Lead : ShownWorld → List (Event ℕ) → List (Notice ℕ) → ShownWorld → Type 0
 Lead w [] [] v = v ≡ w
-Lead w (e ∷ es) (notice ∷ told) v = (u : World) × (Feeds w e u notice × Lead u es told v)
+Lead w (e ∷ es) (notice ∷ told) v = (u : ShownWorld) × (Feeds w e u notice × Lead u es told v)
 Lead w es told v = ⊥
 
 -- events of a kind have led from one world to another, and what was heard of them was added to what was heard before
-pub record HasPlayed (IsKind : List (Event ℕ) → List (Notice ℕ) → Type 0) (w : World) (before : List (Notice ℕ)) (v : World) (after : List (Notice ℕ)) : Type 0 where
+pub record HasPlayed (IsKind : List (Event ℕ) → List (Notice ℕ) → Type 0) (w : ShownWorld) (before : List (Notice ℕ)) (v : ShownWorld) (after : List (Notice ℕ)) : Type 0 where
   pub events : List (Event ℕ)
   pub told : List (Notice ℕ)
   pub kind : IsKind events told
@@ -132,8 +133,8 @@ IsOne e quiet es told = (notice : Notice ℕ) × ((es ≡ e ∷ []) × ((told �
 
 -- a run is what came of the events of the script's lines in the world that the script opens: all that was heard, and the trace
 pub record IsRunOf (script : Script) (made : ScriptRun) : Type 0 where
-  pub start : World
-  pub end : World
+  pub start : ShownWorld
+  pub end : ShownWorld
   pub opened : IsOpened script.clock made.opening start
   pub played : HasPlayed (ArePlays nobody script.lines) start [] end made.notices
   pub trace : IsTraceIn end made.trace

@@ -1,5 +1,5 @@
--- The texts that a script prints. What a refusal says is `Refusal`'s own text.
-use Rattle.std.specs.Prelude.{◌≡◌, ℕ, if◌then◌else◌, List, [], ◌∷◌, ◌++◌, length, codes, flat_map}
+-- The texts that a script prints.
+use Rattle.std.specs.Prelude.{ℕ, if◌then◌else◌, List, [], ◌∷◌, ◌++◌, length, codes, flat_map}
 use Rattle.std.specs.Fmt.{decimal}
 use Rattle.std.specs.FinMap as map
 use Rattle.seq_model.specs.declared.call.Reply.{Reply}
@@ -12,6 +12,7 @@ use Rattle.seq_model.specs.declared.held.Held.{Held}
 use Rattle.seq_model.specs.declared.held.Held.TheVariants.{Map, Bag, Pq, Queue}
 use Rattle.seq_model.specs.declared.record.Record.{Record}
 use Rattle.seq_model.specs.Contents.{Contents}
+use Rattle.seq_model.specs.Texts.{refusal_text}
 use Rattle.step_world.specs.declared.trace.Trace.{Trace}
 use Rattle.session_text.specs.declared.run.ScriptRun.{ScriptRun}
 
@@ -37,23 +38,11 @@ answer_text (Replied reply) = reply_text reply
 answer_text (Committed number) = codes "committed " ++ decimal number
 answer_text Aborted = codes "aborted"
 
--- the line of a notice; a refusal has a text of its own
-abbrev pub IsNoticeText : Notice ℕ → List ℕ → Type 0
-IsNoticeText Quiet text = text ≡ []
-IsNoticeText (Answered actor answer) text = text ≡ decimal actor ++ (codes ": " ++ (answer_text answer ++ (10 ∷ [])))
-IsNoticeText (Refused actor refusal) text = (cause : List ℕ) × (text ≡ decimal actor ++ (codes ": " ++ (cause ++ (10 ∷ []))))
-
--- the lines of notices, in their order
-abbrev pub IsNoticesText : List (Notice ℕ) → List ℕ → Type 0
-IsNoticesText [] text = text ≡ []
-IsNoticesText (notice ∷ notices) text =
-    (first : List ℕ) × ((rest : List ℕ) × ((text ≡ first ++ rest) × (IsNoticeText notice first × IsNoticesText notices rest)))
-
--- a text of a kind has been added
-pub record Adds (IsText : List ℕ → Type 0) (old new : List ℕ) : Type 0 where
-  pub added : List ℕ
-  pub is-text : IsText added
-  pub whole : new ≡ old ++ added
+-- the line of a notice, where it tells something
+abbrev pub notice_text : Notice ℕ → List ℕ
+notice_text Quiet = []
+notice_text (Answered actor answer) = decimal actor ++ (codes ": " ++ (answer_text answer ++ (10 ∷ [])))
+notice_text (Refused actor refusal) = decimal actor ++ (codes ": " ++ (refusal_text refusal ++ (10 ∷ [])))
 
 -- the line of a committed transaction, with its actor
 abbrev pub record_text : ℕ × Record ℕ → List ℕ
@@ -83,7 +72,5 @@ abbrev pub trace_text : Trace ℕ → List ℕ
 trace_text trace = flat_map record_text trace.records ++ (flat_map half_text trace.half ++ state_text trace.state)
 
 -- the lines of the notices, and then the trace's
-pub record IsPrinted (run : ScriptRun) (text : List ℕ) : Type 0 where
-  pub told : List ℕ
-  pub notices : IsNoticesText run.notices told
-  pub whole : text ≡ told ++ trace_text run.trace
+abbrev pub run_text : ScriptRun → List ℕ
+run_text run = flat_map notice_text run.notices ++ trace_text run.trace

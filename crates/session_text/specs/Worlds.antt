@@ -4,9 +4,9 @@ use Rattle.std.specs.Prelude.{ℕ, []}
 use Rattle.seq_model.specs.Contents.{Contents}
 use Rattle.step_world.specs.Forms.{FormShown, IsAfter}
 
-abbrev pub World : Type 0
-World = FormShown ℕ
+abbrev pub ShownWorld : Type 0
+ShownWorld = FormShown ℕ
 
 -- it has just opened
-abbrev pub IsOpened : ℕ → Contents ℕ → World → Type 0
+abbrev pub IsOpened : ℕ → Contents ℕ → ShownWorld → Type 0
 IsOpened clock opening w = IsAfter clock opening [] w

@@ -1,6 +1,6 @@
 //! Readers and printers of the program's texts.
 //!
-//! A step script lays out a world and says, event by event, what happens in it. `parse_steps` reads one, `run_script`
+//! A step script lays out a world and says, event by event, what happens in it. `step_script` reads one, `run_script`
 //! feeds it to a world, and `print_trace` prints what came of it. The texts' grammar stands in docs/formats.md.
 #![tactic(auto)]
 
@@ -9,4 +9,4 @@ mod run;
 
 pub use print::print_trace;
 pub use run::{ScriptRun, run_script};
-pub use step_script::{Collection, Line, Script, parse_steps};
+

@@ -1,7 +1,7 @@
 //! Prints what came of a script.
 ghost use Rattle.std.specs.Prelude.{◌≡◌, ◌++◌, ◌∷◌, [], IfOk, OnOk, flat_map};
 ghost use Rattle.std.specs.String.{string_bytes};
-ghost use Rattle.session_text.specs.Prints.{number_text, pair_text, reply_text, answer_text, record_text, half_text, held_text, words_text, state_text, Adds, IsNoticeText, IsNoticesText, IsPrinted};
+ghost use Rattle.session_text.specs.Prints.{number_text, pair_text, reply_text, answer_text, record_text, half_text, held_text, words_text, state_text, notice_text, run_text};
 
 use crate::run::ScriptRun;
 use seq_model::{Answer, Held, Memory, Notice, Record, Reply, State};
@@ -12,7 +12,7 @@ use std::fmt::Write;
 /// The text of what came of a script: a line for each notice, then the records, the half-done commits, and what words
 /// and collections hold.
 pub fn print_trace(alloc: Global, run: &ScriptRun) -> Result<Vec<u8>, Memory>
-    ensures { IfOk result (λ text. IsPrinted run.now text.items) }
+    ensures { IfOk result (λ text. text.items ≡ run_text run.now) }
 {
     let mut text = String::new(alloc);
     print_notices(&mut text, run.notices.as_slice())?;
@@ -23,7 +23,7 @@ pub fn print_trace(alloc: Global, run: &ScriptRun) -> Result<Vec<u8>, Memory>
 }
 
 fn print_notices(text: &mut String, notices: &[Notice<u64>]) -> Result<(), Memory>
-    ensures { OnOk result (Adds (IsNoticesText notices.now) (string_bytes text.old) (string_bytes text.new)) }
+    ensures { OnOk result (string_bytes text.new ≡ string_bytes text.old ++ flat_map notice_text notices.now) }
 {
     for notice in notices {
         print_notice(text, notice)?;
@@ -50,7 +50,7 @@ fn print_halves(text: &mut String, half: &[u64]) -> Result<(), Memory>
 }
 
 fn print_notice(text: &mut String, notice: &Notice<u64>) -> Result<(), Memory>
-    ensures { OnOk result (Adds (IsNoticeText notice.now) (string_bytes text.old) (string_bytes text.new)) }
+    ensures { OnOk result (string_bytes text.new ≡ string_bytes text.old ++ notice_text notice.now) }
 {
     match notice {
         Notice::Quiet => {}
@@ -60,8 +60,7 @@ fn print_notice(text: &mut String, notice: &Notice<u64>) -> Result<(), Memory>
             text.push('\n')?;
         }
         Notice::Refused(actor, refusal) => {
-            let cause = refusal.to_string(*text.allocator())?;
-            writeln!(text, "{actor}: {cause}")?;
+            writeln!(text, "{actor}: {refusal}")?;
         }
     }
     Ok(())

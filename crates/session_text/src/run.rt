@@ -1,12 +1,14 @@
 //! Runs a script.
-ghost use Rattle.std.specs.Prelude.{◌≡◌, map, IfOk, IfErr, OnOk};
+ghost use Rattle.std.specs.Prelude.{◌≡◌, map, All, IsOk, IfOk, IfErr, OnOk};
 ghost use Rattle.step_world.specs.Traces.{IsSerialTrace};
-ghost use Rattle.session_text.specs.Scripts.{IsOpeningOf, IsRefusedOpening};
+ghost use Rattle.seq_model.specs.Calls.{IsWithinLimits};
+ghost use Rattle.session_text.specs.Scripts as opens;
+ghost use Rattle.session_text.specs.Scripts.{HasRefusedCollections, IsOpeningOf, IsRefusedScript};
 ghost use Rattle.session_text.specs.Worlds.{opening_in};
-ghost use Rattle.session_text.specs.Plays.{AreSteps, AreTurns, HasPlayed, IsOne, IsPlay, IsRunOf, Keeps, actor_of, is_request, noted, nobody, waits};
+ghost use Rattle.session_text.specs.Plays.{AreSteps, AreTurns, HasPlayed, IsOne, IsPlay, IsRunOf, Keeps, whose, is_request, noted, nobody, waits};
 ghost use Rattle.step_script.specs.declared.script.TheConstants.{STEP_LIMIT};
 
-use seq_model::{Event, Items, Memory, Notice, Refusal, Request, Shape, State};
+use seq_model::{Event, Items, Memory, Notice, Refusal, Request, SEATS, Shape, State};
 use std::alloc::Global;
 use step_script::{Collection, Line, STEP_LIMIT, Script};
 use step_world::{Trace, World};
@@ -22,13 +24,13 @@ pub struct ScriptRun {
 
 /// Opens the script's world, and feeds it the script's events.
 ///
-/// `NoSuch` and `TooLong` as `World::open`, `TooLong` also where a collection of the header is beyond a limit, and
+/// `TooLong` where a collection of the header is beyond a limit, else `NoSuch` and `TooLong` as `World::open`, and
 /// `OutOfMemory` where a growth was refused.
 pub fn run_script(alloc: Global, script: &Script) -> Result<ScriptRun, Refusal>
     ensures opening { IfOk result (λ run. IsOpeningOf script.now run.opening) }
     ensures serial { IfOk result (λ run. IsSerialTrace run.opening run.trace) }
     ensures run { IfOk result (IsRunOf script.now) }
-    ensures refused { IfErr result IsRefusedOpening }
+    ensures refused { IfErr result (IsRefusedScript script.now) }
 {
     let opening = opening_of(alloc, script)?;
     let shape = shape_of(alloc, script)?;
@@ -37,7 +39,7 @@ pub fn run_script(alloc: Global, script: &Script) -> Result<ScriptRun, Refusal>
     let mut runner = Runner {
         world,
         notices: Items::new(alloc),
-        waiting: vec![in alloc; false; 65]?,
+        waiting: vec![in alloc; false; SEATS]?,
     };
     for line in script.lines.as_slice() {
         runner.run_line(line)?;
@@ -57,15 +59,15 @@ pub fn run_script(alloc: Global, script: &Script) -> Result<ScriptRun, Refusal>
 
 fn opening_of(alloc: Global, script: &Script) -> Result<State<u64>, Refusal>
     ensures opening { IfOk result (IsOpeningOf script.now) }
-    ensures refused { IfErr result IsRefusedOpening }
+    ensures within { IsOk result → All IsWithinLimits (opens.opening_of script.now).held }
+    ensures refused { IfErr result (HasRefusedCollections script.now) }
 {
     let words = Vec::from_slice(alloc, script.words.as_slice())?;
     let mut held = Vec::new(alloc);
     for collection in script.collections.as_slice() {
         held.push(collection.held.try_copy(alloc)?)?;
     }
-    let state = State::new(words, held)?;
-    Ok(state)
+    State::new(words, held)
 }
 
 fn shape_of(alloc: Global, script: &Script) -> Result<Shape, Memory>
@@ -122,7 +124,7 @@ impl Runner {
         ensures plays { IfOk result (λ quiet. HasPlayed (Keeps (IsOne event quiet) self.old.waiting.items self.new.waiting.items)
             self.old.world.world self.old.notices self.new.world.world self.new.notices) }
     {
-        let actor = actor_of(&event);
+        let actor = whose(&event);
         let asks = is_request(&event);
         let notice = self.world.feed(event)?;
         if let Notice::Quiet = notice {
@@ -193,8 +195,8 @@ impl Runner {
     }
 }
 
-fn actor_of(event: &Event<u64>) -> u32
-    ensures { result ≡ actor_of event.now }
+fn whose(event: &Event<u64>) -> u32
+    ensures { result ≡ whose event.now }
 {
     match event {
         Event::Ask(actor, _) | Event::Step(actor) | Event::Starve(actor) => *actor,

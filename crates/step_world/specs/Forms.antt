@@ -21,7 +21,7 @@ pub data FormShown (V : Type 0) : Type 0 where
   WordsAreShown : WordsShown V → FormShown V
 
 -- what has come of the events so far; or a growth was refused to one of them, and the world answers Memory from then on
-pub record Shown (V : Type 0) : Type 0 where
+pub record WorldShown (V : Type 0) : Type 0 where
   pub failed : Bool
   pub world : FormShown V
 

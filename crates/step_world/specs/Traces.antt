@@ -3,7 +3,7 @@ use Rattle.std.specs.Prelude.{◌≡◌, ℕ, Bool, true, false, ◌==◌, ◌&&
 use Rattle.seq_model.specs.declared.held.Held.{Held}
 use Rattle.seq_model.specs.declared.held.Held.TheVariants.{Map}
 use Rattle.seq_model.specs.declared.refusal.Refusal.{Refusal}
-use Rattle.seq_model.specs.declared.refusal.Refusal.TheVariants.{NoSuch, TooLong, OutOfMemory}
+use Rattle.seq_model.specs.Refusals.{IsNoSuchOrTooLong}
 use Rattle.seq_model.specs.declared.limits.TheConstants.{CLOCK_LIMIT}
 use Rattle.seq_model.specs.Contents.{Contents}
 use Rattle.step_world.specs.declared.word_parts.TheConstants.{WORD_LIMIT}
@@ -44,12 +44,9 @@ abbrev pub serves : {V : Type 0} → List ℕ → Contents V → Bool
 serves stripes s = is_served stripes s.held s.words
 
 -- whether clock and words are within their limits
-abbrev pub fits : {V : Type 0} → ℕ → Contents V → Bool
-fits clock s = nat_le clock CLOCK_LIMIT && nat_le (length s.words) WORD_LIMIT
+abbrev pub is_within_limits : {V : Type 0} → ℕ → Contents V → Bool
+is_within_limits clock s = nat_le clock CLOCK_LIMIT && nat_le (length s.words) WORD_LIMIT
 
--- a refused opening is NoSuch exactly where P, else TooLong exactly where Q, else a growth was refused
-abbrev pub IsNoSuchOrTooLong : Refusal → Type 0 → Type 0 → Type 0
-IsNoSuchOrTooLong NoSuch P Q = P
-IsNoSuchOrTooLong TooLong P Q = ¬ P × Q
-IsNoSuchOrTooLong OutOfMemory P Q = ¬ P × ¬ Q
-IsNoSuchOrTooLong _ P Q = ⊥
+-- an opening is refused: NoSuch where it isn't served, else TooLong where it is beyond the limits, else for want of memory
+abbrev pub IsRefusedOpening : {V : Type 0} → List ℕ → ℕ → Contents V → Refusal → Type 0
+IsRefusedOpening stripes clock s refusal = IsNoSuchOrTooLong refusal (serves stripes s ≡ false) (is_within_limits clock s ≡ true)

@@ -1,7 +1,7 @@
 //! A world, fed event by event.
 ghost use Rattle.std.specs.Prelude.{◌≡◌, [], true, false, IsOk, IfOk, IfErr, OnOk, OnErr};
 ghost use Rattle.step_world.specs.Forms.{opening_in, IsAfter, IsOneMap, Feeds, IsTraceIn, IsTraceAfter};
-ghost use Rattle.step_world.specs.Traces.{IsSerialTrace, IsNoSuchOrTooLong, serves, fits};
+ghost use Rattle.step_world.specs.Traces.{IsSerialTrace, IsRefusedOpening, serves, is_within_limits};
 
 use crate::parts::Parts;
 use crate::seat::Seat;
@@ -33,9 +33,9 @@ impl<V> Model for World<V> {
     ghost use Rattle.std.specs.Prelude.{◌≡◌, false};
     ghost use Rattle.std.specs.Coded.{codes};
     ghost use Rattle.seq_model.specs.Contents.{contents_code};
-    ghost use Rattle.step_world.specs.Forms.{Shown, shown_in, IsWell};
+    ghost use Rattle.step_world.specs.Forms.{WorldShown, shown_in, IsWell};
 
-    ghost Value = { Shown V };
+    ghost Value = { WorldShown V };
 
     ghost coded = { Prim.hlevel (codes, contents_code V.code) };
 
@@ -54,9 +54,8 @@ impl<V: Value> World<V> {
         ensures world { IfOk result (λ world. IsAfter shape.now.clock state [] world.world) }
         ensures opening { IfOk result (λ world. opening_in world.world ≡ state) }
         ensures lasting { IfOk result (λ world. world.failed ≡ false) }
-        ensures served { IsOk result → (serves shape.now.stripes state ≡ true) × (fits shape.now.clock state ≡ true) }
-        ensures refused { IfErr result
-            (λ refusal. IsNoSuchOrTooLong refusal (serves shape.now.stripes state ≡ false) (fits shape.now.clock state ≡ false)) }
+        ensures served { IsOk result → (serves shape.now.stripes state ≡ true) × (is_within_limits shape.now.clock state ≡ true) }
+        ensures refused { IfErr result (IsRefusedOpening shape.now.stripes shape.now.clock state) }
     {
         if !is_served(shape, &state) {
             return Err(Refusal::NoSuch);
@@ -151,8 +150,7 @@ pub fn run_world<V: Value>(
 ) -> Result<Trace<V>, Refusal>
     ensures trace { IfOk result (IsTraceAfter shape.now.clock state events.now) }
     ensures serial { IfOk result (IsSerialTrace state) }
-    ensures refused { IfErr result
-        (λ refusal. IsNoSuchOrTooLong refusal (serves shape.now.stripes state ≡ false) (fits shape.now.clock state ≡ false)) }
+    ensures refused { IfErr result (IsRefusedOpening shape.now.stripes shape.now.clock state) }
 {
     let mut world = World::open(alloc, shape, state)?;
     for event in events {

@@ -19,10 +19,11 @@ returns c =
     let of_file : c.action-file.result.global ≡ false = search rules in
     let no_globals : (out-Command c.in_ok-step.step).has_globals ≡ false =
     c.in_ok-step.ensures.globals ∙ ap₂ (λ (a b : Bool). a || b) of_step of_file in
-    let set : App → App = λ a. record a { top = record a.top { no_binary_name = true; subcommand_required = true } } in
+    let set : App → App = λ a. record a { top = record a.top { no_binary_name = true; subcommand_required = true; has_version = true } } in
     let bare_is : app_of c.subcommand_required.result ≡ bare_app =
     ap app_of_fields c.subcommand_required.ensures
     ∙ ap (λ (f : Command-F Command). app_of_fields (record f { subcommand_required = true })) c.no_binary_name.ensures
+    ∙ ap (λ (f : Command-F Command). app_of_fields (record f { no_binary_name = true; subcommand_required = true })) c.version.ensures
     ∙ ap set c.new-3.ensures.app in
     IfOk-weaker c.subcommand.result _ _
     (λ r h. h.shape no_globals ∙ ap₂ with_subcommand bare_is (ap (λ (a : App). a.top) step_is)) c.subcommand.ensures

@@ -1,5 +1,5 @@
 use Rattle.std.proofs.Common.{ap, sym, ◌∙◌, subst}
-use Rattle.step_world.specs.Forms.{Shown, shown_in, opening_in, IsWell}
+use Rattle.step_world.specs.Forms.{WorldShown, shown_in, opening_in, IsWell}
 use Rattle.step_world.specs.Sound.{IsSound}
 use Rattle.step_world.specs.WordParts.{shown_of}
 use Rattle.step_world.specs.Worlds.{After}
@@ -28,9 +28,9 @@ returns-clause-opening g c =
       | in-OneMap+in_ok-notice-in-OneMap w ↦
           ap (λ z. opening_in (shown_in z.form)) w.self-inside-is
           ∙ ap (λ (r : After g.row.V.Denot). r.0.opening) (sym w.in_ok-notice-in-OneMap.ensures) ∙ happens-opening _ c.args.event
-          ∙ ap (λ f. opening_in (shown_in f)) (sym w.in-OneMap.is) ∙ ap (λ (s : Shown g.row.V.Denot). opening_in s.world) c.self.view_is
+          ∙ ap (λ f. opening_in (shown_in f)) (sym w.in-OneMap.is) ∙ ap (λ (s : WorldShown g.row.V.Denot). opening_in s.world) c.self.view_is
       | in-OverWords+in_ok-notice-in-OverWords w ↦
           ap (λ z. opening_in (shown_in z.form)) w.self-inside-is
           ∙ w.in_ok-notice-in-OverWords.ensures.opening
-          ∙ ap (λ f. opening_in (shown_in f)) (sym w.in-OverWords.is) ∙ ap (λ (s : Shown g.row.V.Denot). opening_in s.world) c.self.view_is
+          ∙ ap (λ f. opening_in (shown_in f)) (sym w.in-OverWords.is) ∙ ap (λ (s : WorldShown g.row.V.Denot). opening_in s.world) c.self.view_is
     ]

@@ -1,5 +1,5 @@
 use Rattle.std.proofs.Common.{ap, sym, ◌∙◌, subst, IfOk}
-use Rattle.step_world.specs.Forms.{Shown, shown_in, opening_in, IsWell}
+use Rattle.step_world.specs.Forms.{WorldShown, shown_in, opening_in, IsWell}
 use Rattle.step_world.specs.Traces.{IsSerialTrace}
 use Rattle.step_world.specs.WordParts.{IsTraceOfShown, shown_of}
 use Rattle.step_world.proofs.FormLemmas.{serial_result}
@@ -10,5 +10,5 @@ returns-in-OverWords-clause-serial g c =
     let well = subst IsWell c.in-OverWords.is (c.self.invariant c.if-self.false) in
     let v = shown_of c.in-OverWords.parts in
     subst (λ o. IfOk c.into_trace-in-OverWords.result (IsSerialTrace o))
-    (ap (λ f. opening_in (shown_in f)) (sym c.in-OverWords.is) ∙ ap (λ (s : Shown g.row.V.Denot). opening_in s.world) c.self.view_is)
+    (ap (λ f. opening_in (shown_in f)) (sym c.in-OverWords.is) ∙ ap (λ (s : WorldShown g.row.V.Denot). opening_in s.world) c.self.view_is)
     (serial_result v c.into_trace-in-OverWords.result well.seats well.reached (subst (λ p. IfOk c.into_trace-in-OverWords.result (IsTraceOfShown (shown_of p))) c.in-OverWords.parts-is c.into_trace-in-OverWords.ensures))

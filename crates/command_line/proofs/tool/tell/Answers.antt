@@ -1,0 +1,18 @@
+use Rattle.std.proofs.Common.{rules, take}
+use Rattle.std.proofs.KnownBytes.{Appends-kept}
+use Rattle.command_line.proofs.ToldLemmas.{begun_with, written_on}
+use Rattle.command_line.proofs.tool.tell.Goals as goal
+
+pub loop-written-preserved : goal.loop-written-preserved
+loop-written-preserved g c = record {
+  within = search rules;
+  grown = written_on _ _ _ c.loop-written.written c.in-Ok.count c.args.bytes.now c.loop-written.invariant.grown c.in-Ok.ensures.bytes;
+}
+
+pub returns-in_default-clause-begun : goal.returns-in_default-clause-begun
+returns-in_default-clause-begun g c =
+    begun_with _ _ _ c.args.bytes.now (written_on _ _ _ c.loop-written.written c.in-Ok.count c.args.bytes.now c.loop-written.invariant.grown c.in-Ok.ensures.bytes)
+
+pub returns-in_default-2-clause-begun : goal.returns-in_default-2-clause-begun
+returns-in_default-2-clause-begun g c =
+    begun_with _ _ c.loop-written.written c.args.bytes.now (Appends-kept _ _ _ _ c.loop-written.invariant.grown c.in_default.ensures.bytes)

@@ -1,0 +1,17 @@
+-- Why what was asked is refused, where more than one cause is known to the caller.
+use Rattle.seq_model.specs.declared.refusal.Refusal.{Refusal}
+use Rattle.seq_model.specs.declared.refusal.Refusal.TheVariants.{NoSuch, TooLong, OutOfMemory}
+
+-- it is TooLong exactly where what was asked does not fit, and else a growth was refused
+abbrev pub IsTooLong : Refusal → Type 0 → Type 0
+IsTooLong TooLong fits = ¬ fits
+IsTooLong OutOfMemory fits = fits
+IsTooLong _ fits = ⊥
+
+-- it is NoSuch exactly where what was asked is of another kind, else TooLong exactly where it does not fit, and else a growth was
+-- refused
+abbrev pub IsNoSuchOrTooLong : Refusal → Type 0 → Type 0 → Type 0
+IsNoSuchOrTooLong NoSuch other fits = other
+IsNoSuchOrTooLong TooLong other fits = (¬ other) × (¬ fits)
+IsNoSuchOrTooLong OutOfMemory other fits = (¬ other) × fits
+IsNoSuchOrTooLong _ other fits = ⊥
