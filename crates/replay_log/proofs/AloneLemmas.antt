@@ -98,9 +98,9 @@ none_half s a v h m b half =
     elim (h.free e.0) [
       | inl free ↦ locked_taken (s.locks e.0) e.1 locked free
       | inr mine ↦ (
-        let same : b ≡ a = v.apart b a e.0 e.1 mine.0 e.2 mine.1 in
-        no_half (s.actors a).place m (subst (λ i. IsHalfDone (s.actors i).place) same half)
-      )
+          let same : b ≡ a = v.apart b a e.0 e.1 mine.0 e.2 mine.1 in
+          no_half (s.actors a).place m (subst (λ i. IsHalfDone (s.actors i).place) same half)
+          )
     ]
 
 -- what the last load of a read tells is what the location holds
@@ -520,6 +520,7 @@ module _ {V : Type 0} (P : Refusal → Type 0) (a : ℕ) where
         (subst (λ (f : ℕ → ℕ). (l : ℕ) → (s.shadows a).copied l ≡ true → (s.shadows a).editions l ≡ f l) (sym g.editions)
         (h.copied (subst (λ (y : Actor). MakesCalls y.place) same m)));
   }
+
   other_fine : (w u : World V) (b : ℕ) → Still b w.boosted u.boosted → u.seats a ≡ w.seats a → FineAt w → FineAt u
   other_fine w u b g same h = subst (FineSeat u.boosted.editions) (sym same) (subst (λ f. FineSeat f (w.seats a)) (sym g.editions) h)
 

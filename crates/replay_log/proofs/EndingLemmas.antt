@@ -1,6 +1,6 @@
 -- What a step leaves of values, bases and records. Before the first value store a step stores no value, and only the step that takes a base home changes
 -- one; so a transaction that is being given up leaves them, gives each lock back at the version at which it took it, and at rest holds no lock and no gate.
-use Rattle.std.proofs.Common.{◌≡◌, ℕ, zero, suc, ◌+◌, Bool, true, false, cond, ◌&&◌, List, [], ◌∷◌, ◌++◌, Option, Some, None, refl, sym, ◌∙◌, ap, subst, true≢false, eqb, eq-eqb}
+use Rattle.std.proofs.Common.{◌≡◌, ℕ, zero, suc, Bool, false, ◌&&◌, List, [], ◌∷◌, ◌++◌, Some, None, refl, sym, ◌∙◌, ap, subst, true≢false, eqb, eq-eqb}
 use Rattle.std.specs.Prelude.{not, if◌then◌else◌}
 use Rattle.std.proofs.lemmas.Bool.{cond_both}
 use Rattle.vlock_word.specs.declared.lock_word.LockWord.{LockWord}
@@ -17,14 +17,13 @@ use Rattle.word_machine.proofs.Invariant.{PlaceOk}
 use Rattle.seq_model.specs.declared.refusal.Refusal.TheVariants as refusal
 use Rattle.seq_model.specs.declared.event.Event.TheVariants.{Step}
 use Rattle.collection_machine.specs.Content.{Content, has}
-use Rattle.collection_machine.specs.Boosted.{Boosted, OnWords, TakeGate, PutGate, recorded, word_step, shadows_after, gated, copied, is_none, is_actor, is_open, is_committing, acts}
-use Rattle.replay_log.specs.Contents.{Asked, Answered, content}
+use Rattle.collection_machine.specs.Boosted.{Boosted, TakeGate, PutGate, recorded, word_step, shadows_after, gated, copied, is_none, is_actor, is_open, is_committing, acts}
+use Rattle.replay_log.specs.Contents.{Answered, content}
 use Rattle.replay_log.specs.Pieces.{piece_at, covers_at}
-use Rattle.replay_log.specs.Worlds.{World, Seat, Stage, Idle, Beginning, Open, Locking, Releasing, Closing, Cancelling, Leaving, Reading, Trying, Copying, Loading, Gating, Ready, Storing, Homing, Returning, After, has_room, with_editions, at_stage, because, seated, acted, asks, moves, actor_of, word_notice, no_one, cancels, gives_up, outcome_at, is_fresh, judges, loads, answers, has_begun, has_read, has_tried, with_piece, has_loaded, takes_gates, has_locked, has_released, has_cancelled, step_at, happens}
-use Rattle.replay_log.specs.WorldStill.{Still}
+use Rattle.replay_log.specs.Worlds.{World, Seat, Stage, Idle, Beginning, Open, Locking, Releasing, Closing, Cancelling, Leaving, Reading, Trying, Copying, Loading, Gating, Ready, Storing, Homing, Returning, After, because, acted, moves, actor_of, word_notice, outcome_at, loads, has_begun, has_read, has_tried, with_piece, has_loaded, takes_gates, has_locked, has_released, has_cancelled, step_at, happens}
 use Rattle.replay_log.specs.WorldAnswers.{changes_at, Untouched}
-use Rattle.replay_log.proofs.ActionLemmas.{learns, mine}
-use Rattle.replay_log.proofs.SetLemmas.{moved_is, take_words, put_words}
+use Rattle.replay_log.proofs.ActionLemmas.{learns}
+use Rattle.replay_log.proofs.SetLemmas.{moved_is}
 use Rattle.replay_log.proofs.AloneActions.{step_editions}
 use Rattle.replay_log.proofs.SeatLemmas.{AtReading, AtLocking, gates_of, StageOk, Linked}
 use Rattle.replay_log.proofs.StillLemmas.{still, StillIn, ask_still, cancels_still, gives_up_still, fresh_still, loads_still, answers_still}
