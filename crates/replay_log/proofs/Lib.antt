@@ -29,3 +29,5 @@ pub mod DueLemmas
 pub mod StillLemmas
 pub mod AloneActions
 pub mod AloneLemmas
+pub mod AnswerLemmas
+pub mod EndingLemmas

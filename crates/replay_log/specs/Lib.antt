@@ -19,3 +19,4 @@ pub mod WorldProgress
 pub mod WorldRefusals
 pub mod WorldStill
 pub mod WorldAlone
+pub mod WorldAnswers
