@@ -75,16 +75,19 @@ to_lock_rests : (y : Actor) (l : ℕ) (ls : List ℕ) (w : LockWord) → MakesCa
 to_lock_rests y l ls (Free k) h = h
 to_lock_rests y l ls (Locked k) h = h
 
-take_rests : (y : Actor) (l k : ℕ) (ls : List ℕ) (w : LockWord) → MakesCalls (exchanges k (machine.taken y l k ls) (goes y machine.Broken) w).place → ⊥
+take_rests : (y : Actor) (l k : ℕ) (ls : List ℕ) (w : LockWord) → MakesCalls
+    (exchanges k (machine.taken y l k ls) (goes y machine.Broken) w).place → ⊥
 take_rests y l k ls (Free j) =
     cond_both (eqb j k) (machine.taken y l k ls) (goes y machine.Broken) (λ (z : Actor). MakesCalls z.place → ⊥) (λ _ h. h) (λ _ h. h)
 take_rests y l k ls (Locked j) = λ h. h
 
 check_rests : (y : Actor) (ls : List ℕ) (w : LockWord) (own : Option ℕ) → MakesCalls (machine.seen_in_check y ls w own).place → ⊥
 check_rests y ls (Free k) own =
-    cond_both (nat_le k y.rv) (goes y (machine.Check ls)) (goes y machine.Broken) (λ (z : Actor). MakesCalls z.place → ⊥) (λ _ h. h) (λ _ h. h)
+    cond_both (nat_le k y.rv) (goes y (machine.Check ls)) (goes y machine.Broken) (λ (z : Actor). MakesCalls z.place → ⊥) (λ _ h. h)
+    (λ _ h. h)
 check_rests y ls (Locked k) (Some v) =
-    cond_both (nat_le k y.rv) (goes y (machine.Check ls)) (goes y machine.Broken) (λ (z : Actor). MakesCalls z.place → ⊥) (λ _ h. h) (λ _ h. h)
+    cond_both (nat_le k y.rv) (goes y (machine.Check ls)) (goes y machine.Broken) (λ (z : Actor). MakesCalls z.place → ⊥) (λ _ h. h)
+    (λ _ h. h)
 check_rests y ls (Locked k) None = λ h. h
 
 first_rests : (s : Words) (y : Actor) (es : Entries) → y.place ≡ machine.First → MakesCalls (learns s y (world.first_store y es)).place → ⊥
@@ -183,7 +186,8 @@ module _ {X Out : Type 0} where
   shadows_stay s a p n = refl
 
   fresh_now : (s : Boosted X Out) (a : ℕ) → AreNow (put s.shadows a (fresh s) a) s.editions
-  fresh_now s a = subst (λ (z : Shadow X Out). AreNow z s.editions) (sym (put-same s.shadows a (fresh s))) (λ l h. absurd (true≢false (sym h)))
+  fresh_now s a = subst (λ (z : Shadow X Out). AreNow z s.editions) (sym (put-same s.shadows a (fresh s)))
+      (λ l h. absurd (true≢false (sym h)))
 
   -- the transaction begins, or the clock is at its limit
   begin_now : (s : Boosted X Out) (a : ℕ) (y : Actor) (b : Bool)
@@ -199,7 +203,8 @@ module _ {X Out : Type 0} where
       stays : (p : Place) → IsNoBegin p → (s.words.actors a).place ≡ p → (MakesCalls p → AreNow (s.shadows a) s.editions)
           → MakesCalls (learns s.words (s.words.actors a) (plan (s.words.actors a) p)).place → AreNow (shadows_after s a p a) s.editions
       stays p n e k h =
-          subst (λ (f : ℕ → Shadow X Out). AreNow (f a) s.editions) (sym (shadows_stay s a p n)) (k (step_calls s.words (s.words.actors a) p e n h))
+          subst (λ (f : ℕ → Shadow X Out). AreNow (f a) s.editions) (sym (shadows_stay s a p n))
+          (k (step_calls s.words (s.words.actors a) p e n h))
 
       by : (p : Place) → (s.words.actors a).place ≡ p → (MakesCalls p → AreNow (s.shadows a) s.editions)
           → MakesCalls (learns s.words (s.words.actors a) (plan (s.words.actors a) p)).place → AreNow (shadows_after s a p a) s.editions
@@ -257,7 +262,8 @@ module _ {X Op Out : Type 0} (c : Content X Op Out) where
       let next : Boosted X Out = record s { words = world.step s.words a x p; shadows = shadows_after s a p } in
       let os = (s.shadows a).outcomes in
       let q = world.outcome a x p in record {
-        words = subst (λ (t : Words). AloneAt t a) (sym (recorded_words next os q)) (run_alone (world.Step a ∷ []) s.words a v.machine h.words (refl, tt));
+        words = subst (λ (t : Words). AloneAt t a) (sym (recorded_words next os q))
+            (run_alone (world.Step a ∷ []) s.words a v.machine h.words (refl, tt));
         gates = subst (OnlyOf a) (sym (recorded_gates next os q)) h.gates;
         copied = λ m.
             subst (λ (f : ℕ → Shadow X Out). AreNow (f a) (acts c s (OnWords (world.Step a))).editions) (sym (recorded_shadows next os q))
@@ -271,10 +277,12 @@ module _ {X Op Out : Type 0} (c : Content X Op Out) where
 
   take_alone : (s : Boosted X Out) (a k : ℕ) → AloneIn s a → AloneIn (acts c s (TakeGate a k)) a
   take_alone s a k h =
-      cond_both (is_none (s.gates k) && not (is_committing (s.words.actors a).place)) (gated s (put s.gates k (Some a)) s.shadows) s (λ (t : Boosted X Out). AloneIn t a)
+      cond_both (is_none (s.gates k) && not (is_committing (s.words.actors a).place)) (gated s (put s.gates k (Some a)) s.shadows) s
+      (λ (t : Boosted X Out). AloneIn t a)
       (λ _. record { words = h.words; gates = put_gates a k s.gates (Some a) h.gates (λ b e. some_is a b e); copied = h.copied }) (λ _. h)
 
-  if_copied : (b : Bool) (old : Bool) (now then_now : ℕ) → (old ≡ true → then_now ≡ now) → (if b then true else old) ≡ true → (if b then now else then_now) ≡ now
+  if_copied : (b : Bool) (old : Bool) (now then_now : ℕ) → (old ≡ true → then_now ≡ now) → (if b then true else old) ≡ true
+      → (if b then now else then_now) ≡ now
   if_copied true old now then_now h e = refl
   if_copied false old now then_now h e = h e
 
@@ -283,7 +291,8 @@ module _ {X Op Out : Type 0} (c : Content X Op Out) where
       let x = s.words.actors a in
       let w = copied c s x.calls (s.shadows a) k which in
       let sh = if is_open x.place then put s.shadows a w else s.shadows in
-      cond_both (is_actor a (s.gates k) && not (is_committing x.place)) (gated s (put s.gates k None) sh) s (λ (t : Boosted X Out). AloneIn t a)
+      cond_both (is_actor a (s.gates k) && not (is_committing x.place)) (gated s (put s.gates k None) sh) s
+      (λ (t : Boosted X Out). AloneIn t a)
       (λ _. record {
         words = h.words;
         gates = put_gates a k s.gates None h.gates (λ b e. absurd (no_some b e));
@@ -291,7 +300,8 @@ module _ {X Op Out : Type 0} (c : Content X Op Out) where
             elim (is_open x.place) as (λ b. AreNow ((if b then put s.shadows a w else s.shadows) a) s.editions) [
               | true ↦
                   subst (λ (z : Shadow X Out). AreNow z s.editions) (sym (put-same s.shadows a w))
-                  (λ l e. if_copied (is_copied c x.calls k which l) ((s.shadows a).copied l) (s.editions l) ((s.shadows a).editions l) (h.copied m l) e)
+                  (λ l e. if_copied (is_copied c x.calls k which l) ((s.shadows a).copied l) (s.editions l) ((s.shadows a).editions l)
+                  (h.copied m l) e)
               | false ↦ h.copied m
             ];
       })
@@ -320,9 +330,11 @@ module _ {X Op Out : Type 0} (c : Content X Op Out) where
       let x = s.words.actors a in
       let t = world.run (writes_asked a (s.shadows a).editions (c.writes o)) s.words in
       let rest = may_write x.declared (c.writes o) && every (is_sound c s a) (c.reads o) in
-      cond_both (is_open x.place && rest) (record s { words = t; shadows = put s.shadows a (longer (s.shadows a) o) }) s (λ (u : Boosted X Out). AloneIn u a)
+      cond_both (is_open x.place && rest) (record s { words = t; shadows = put s.shadows a (longer (s.shadows a) o) }) s
+      (λ (u : Boosted X Out). AloneIn u a)
       (λ on. record {
-        words = run_alone (writes_asked a (s.shadows a).editions (c.writes o)) s.words a v.machine h.words (writes_alone a (s.shadows a).editions (c.writes o));
+        words = run_alone (writes_asked a (s.shadows a).editions (c.writes o)) s.words a v.machine h.words
+            (writes_alone a (s.shadows a).editions (c.writes o));
         gates = h.gates;
         copied = λ m.
             subst (λ (z : Shadow X Out). AreNow z s.editions) (sym (put-same s.shadows a (longer (s.shadows a) o)))

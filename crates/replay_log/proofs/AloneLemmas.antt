@@ -98,9 +98,9 @@ none_half s a v h m b half =
     elim (h.free e.0) [
       | inl free ↦ locked_taken (s.locks e.0) e.1 locked free
       | inr mine ↦ (
-        let same : b ≡ a = v.apart b a e.0 e.1 mine.0 e.2 mine.1 in
-        no_half (s.actors a).place m (subst (λ i. IsHalfDone (s.actors i).place) same half)
-      )
+          let same : b ≡ a = v.apart b a e.0 e.1 mine.0 e.2 mine.1 in
+          no_half (s.actors a).place m (subst (λ i. IsHalfDone (s.actors i).place) same half)
+          )
     ]
 
 -- what the last load of a read tells is what the location holds
@@ -116,7 +116,8 @@ again_number : (m l k v : ℕ) (w : LockWord) → m ≡ v → NumberIs m (told.a
 again_number m l k v (Free j) e = cond_both (eqb j k) (told.Number v) (told.Moved l (bits (Free j))) (NumberIs m) (λ _. e) (λ _. tt)
 again_number m l k v (Locked j) e = tt
 
-number_is : (s : Words) (y : Actor) (l : ℕ) (p : Place) → AtReading l p → AlonePlace s.locks y p → PlaceOk s y p → stamp s.history l ≤ version_of (s.locks l)
+number_is : (s : Words) (y : Actor) (l : ℕ) (p : Place) → AtReading l p → AlonePlace s.locks y p → PlaceOk s y p
+    → stamp s.history l ≤ version_of (s.locks l)
     → NumberIs (latest s l) (notice s y p)
 number_is s y l (machine.Look k) at h ok low = look_number (latest s l) y.rv k (s.locks k)
 number_is s y l (machine.Fetch k j) at h ok low = tt
@@ -133,7 +134,8 @@ reading_calls l (machine.Again k j v) h = tt
 reading_calls l p h = absurd h
 
 -- ---- editions
-module _ {X Op Out : Type 0} (c : Content X Op Out) (s : Boosted X Out) (a l : ℕ) (v : Inv c s) (h : AloneIn s a) (m : MakesCalls (s.words.actors a).place)
+module _ {X Op Out : Type 0} (c : Content X Op Out) (s : Boosted X Out) (a l : ℕ) (v : Inv c s) (h : AloneIn s a)
+    (m : MakesCalls (s.words.actors a).place)
     (pl : c.plain l ≡ false) where
   none : (b : ℕ) → IsHalfDone (s.words.actors b).place → ⊥
   none = none_half s.words a v.machine h.words m
@@ -176,7 +178,8 @@ with_now : (now editions : ℕ → ℕ) (ls : List ℕ) → ((l : ℕ) → IsIn 
 with_now now editions [] h = tt
 with_now now editions (l ∷ ls) h = (h l (inl refl), with_now now editions ls (λ i m. h i (inr m)))
 
-with_plain : (n : ℕ) (bs : List Block) (editions : ℕ → ℕ) (ls : List ℕ) → ((l : ℕ) → IsIn l ls → is_plain n bs l ≡ false) → ArePlain n bs (with_editions editions ls)
+with_plain : (n : ℕ) (bs : List Block) (editions : ℕ → ℕ) (ls : List ℕ) → ((l : ℕ) → IsIn l ls → is_plain n bs l ≡ false)
+    → ArePlain n bs (with_editions editions ls)
 with_plain n bs editions [] h = tt
 with_plain n bs editions (l ∷ ls) h = (h l (inl refl), with_plain n bs editions ls (λ i m. h i (inr m)))
 
@@ -241,24 +244,33 @@ module _ {V : Type 0} (P : Refusal → Type 0) (a : ℕ) where
   fresh_fine : (u : World V) (x : Seat V) (d : ℕ × ℕ) (v : ℕ) (next : After V) → d.1 ≡ v → Fine next → Fine (is_fresh u a x d v next)
   fresh_fine u x d v next e h = subst Fine (sym (cond-true (eqb d.1 v) next _ (eq-eqb d.1 v e))) h
 
-  judges_fine : (u : World V) (x : Seat V) (o : Answered V) (d : ℕ × ℕ) (es : Entries) (next : After V) (r : Option ℕ) → AllNow u.boosted.editions (d ∷ es)
+  judges_fine : (u : World V) (x : Seat V) (o : Answered V) (d : ℕ × ℕ) (es : Entries) (next : After V) (r : Option ℕ)
+      → AllNow u.boosted.editions (d ∷ es)
       → ((v : ℕ) → r ≡ Some v → d.1 ≡ v) → Fine next → Fine (judges u a x o d es next r)
-  judges_fine u x o d es next None now e h = (seated_fine (acted u (asks a (word.AskRead d.0) ∷ [])) (at_stage x (Loading o (d ∷ es))) now, tt)
+  judges_fine u x o d es next None now e h = (
+    seated_fine (acted u (asks a (word.AskRead d.0) ∷ []))
+        (at_stage x (Loading o (d ∷ es))) now,
+    tt,
+  )
   judges_fine u x o d es next (Some v) now e h = fresh_fine u x d v next (e v refl) h
 
-  loads_fine : (es : Entries) (u : World V) (x : Seat V) (o : Answered V) → AllNow u.boosted.editions es → ArePlain u.words u.blocks es → SetsNow u
+  loads_fine : (es : Entries) (u : World V) (x : Seat V) (o : Answered V) → AllNow u.boosted.editions es → ArePlain u.words u.blocks es
+      → SetsNow u
       → Fine (loads u a x o es)
   loads_fine [] u x o now pl sets = (seated_fine (acted u (Accept a o.asked ∷ [])) (with_call x (call_of o) (reply_of o)) tt, tt)
   loads_fine (d ∷ es) u x o now pl sets =
-      judges_fine u x o d es (loads u a x o es) (lookup (actor_of u a).reads d.0) now (λ v e. sym now.0 ∙ sets d.0 v pl.0 e) (loads_fine es u x o now.1 pl.1 sets)
+      judges_fine u x o d es (loads u a x o es) (lookup (actor_of u a).reads d.0) now (λ v e. sym now.0 ∙ sets d.0 v pl.0 e)
+      (loads_fine es u x o now.1 pl.1 sets)
 
   answers_fine : (u : World V) (before x : Seat V) (o : Answered V) (editions : ℕ → ℕ)
       → AllNow u.boosted.editions (with_editions editions ((content u.words u.blocks).reads o))
-      → ArePlain u.words u.blocks (with_editions editions ((content u.words u.blocks).reads o)) → SetsNow u → Fine (answers u a before x o editions)
+      → ArePlain u.words u.blocks (with_editions editions ((content u.words u.blocks).reads o)) → SetsNow u
+      → Fine (answers u a before x o editions)
   answers_fine u before x o editions now pl sets =
       let c = content u.words u.blocks in
       choose_fine (has_room (actor_of u a) (c.reads o) (c.writes o)) (loads u a x o (with_editions editions (c.reads o))) _
-      (λ _. loads_fine (with_editions editions (c.reads o)) u x o now pl sets) (λ _. (seated_fine u (at_stage before Open) tt, λ h. absurd h))
+      (λ _. loads_fine (with_editions editions (c.reads o)) u x o now pl sets)
+      (λ _. (seated_fine u (at_stage before Open) tt, λ h. absurd h))
 
   calls_on_fine : (u : World V) (x : Seat V) (asked : Asked V) → Linked u → AloneIn u.boosted a → (actor_of u a).place ≡ machine.Open
       → Live u.words u.blocks x (actor_of u a) (u.boosted.shadows a) → KnownAsk u.blocks (actor_of u a) asked → Fine (calls_on u a x asked)
@@ -279,9 +291,11 @@ module _ {V : Type 0} (P : Refusal → Type 0) (a : ℕ) where
       (sets_now u k.base.inv h m)))
       (λ _. (seated_fine u (at_stage x (Trying asked more_tries)) tt, tt))
 
-  has_loaded_fine : (u : World V) (x : Seat V) (y z : Actor) (o : Answered V) (d : ℕ × ℕ) (es : Entries) (n : told.Notice) → u.boosted.words.actors a ≡ z
+  has_loaded_fine : (u : World V) (x : Seat V) (y z : Actor) (o : Answered V) (d : ℕ × ℕ) (es : Entries) (n : told.Notice)
+      → u.boosted.words.actors a ≡ z
       → u.seats a ≡ x → x.stage ≡ Loading o (d ∷ es) → AllNow u.boosted.editions (d ∷ es) → ArePlain u.words u.blocks (d ∷ es)
-      → Inv (content u.words u.blocks) u.boosted → AloneIn u.boosted a → AfterRead d.0 y z n → NumberIs (u.boosted.editions d.0) n → (told.IsConflict n → ⊥)
+      → Inv (content u.words u.blocks) u.boosted → AloneIn u.boosted a → AfterRead d.0 y z n → NumberIs (u.boosted.editions d.0) n
+      → (told.IsConflict n → ⊥)
       → Fine (has_loaded u a x o d es n)
   has_loaded_fine u x y z o d es (told.Number v) e seat st now pl inv h after is good =
       fresh_fine u x d v (loads u a x o es) (sym now.0 ∙ is)
@@ -295,15 +309,20 @@ module _ {V : Type 0} (P : Refusal → Type 0) (a : ℕ) where
       (seated_fine (acted u (asks a (word.AskRead l) ∷ [])) (with_call x (record { target = l; op = Read }) (reply.Number v)) tt, tt)
   reads_fine u x l n = (seated_fine (acted u (asks a (word.AskRead l) ∷ [])) (at_stage x (Reading l)) tt, tt)
 
-  allowed_fine : (u : World V) (x : Seat V) (known room : Bool) (next : After V) → FineAt u → (known ≡ true → Fine next) → Fine (if_allowed u a x known room next)
+  allowed_fine : (u : World V) (x : Seat V) (known room : Bool) (next : After V) → FineAt u → (known ≡ true → Fine next)
+      → Fine (if_allowed u a x known room next)
   allowed_fine u x known room next now h =
-      choose_fine known _ _ (λ is. choose_fine (nat_lt (length x.calls) CALL_LIMIT && room) next _ (λ _. h is) (λ _. (now, λ q. absurd q))) (λ _. (now, λ q. absurd q))
+      choose_fine known _ _ (λ is. choose_fine (nat_lt (length x.calls) CALL_LIMIT && room) next _ (λ _. h is) (λ _. (now, λ q. absurd q)))
+      (λ _. (now, λ q. absurd q))
 
-  held_op_fine : (u : World V) (x : Seat V) (t : ℕ) (op : Op V) → FineAt u → Linked u → AloneIn u.boosted a → (actor_of u a).place ≡ machine.Open
+  held_op_fine : (u : World V) (x : Seat V) (t : ℕ) (op : Op V) → FineAt u → Linked u → AloneIn u.boosted a
+      → (actor_of u a).place ≡ machine.Open
       → Live u.words u.blocks x (actor_of u a) (u.boosted.shadows a) → is_word_op op ≡ false
-      → Fine (if_allowed u a x (is_known (block_of u.blocks t) op && may_ask (actor_of u a) op) true (calls_on u a x (record { collection = t; op = op })))
+      → Fine (if_allowed u a x (is_known (block_of u.blocks t) op && may_ask (actor_of u a) op) true
+      (calls_on u a x (record { collection = t; op = op })))
   held_op_fine u x t op now k h e live not_word =
-      allowed_fine u x (is_known (block_of u.blocks t) op && may_ask (actor_of u a) op) true (calls_on u a x (record { collection = t; op = op })) now
+      allowed_fine u x (is_known (block_of u.blocks t) op && may_ask (actor_of u a) op) true
+      (calls_on u a x (record { collection = t; op = op })) now
       (λ both. (
       let b = both_true (is_known (block_of u.blocks t) op) (may_ask (actor_of u a) op) both in
       calls_on_fine u x (record { collection = t; op = op }) k h e live (not_word, b.0, b.1)))
@@ -352,23 +371,34 @@ module _ {V : Type 0} (P : Refusal → Type 0) (a : ℕ) where
   has_begun_fine u x (told.Exhausted clock) seat at = (seated_fine u no_one tt, λ h. absurd h)
   has_begun_fine u x n seat at = (same_fine u x Beginning seat at tt, tt)
 
-  has_read_fine : (u : World V) (x : Seat V) (l : ℕ) (n : told.Notice) → u.seats a ≡ x → x.stage ≡ Reading l → (told.IsConflict n → ⊥) → Fine (has_read u a x l n)
-  has_read_fine u x l (told.Number v) seat at good = (seated_fine u (with_call x (record { target = l; op = Read }) (reply.Number v)) tt, tt)
+  has_read_fine : (u : World V) (x : Seat V) (l : ℕ) (n : told.Notice) → u.seats a ≡ x → x.stage ≡ Reading l → (told.IsConflict n → ⊥)
+      → Fine (has_read u a x l n)
+  has_read_fine u x l (told.Number v) seat at good = (
+    seated_fine u (with_call x (record { target = l; op = Read })
+        (reply.Number v)) tt,
+    tt,
+  )
   has_read_fine u x l (told.Moved i found) seat at good = absurd (good tt)
   has_read_fine u x l n seat at good = (same_fine u x (Reading l) seat at tt, tt)
 
-  tried_fine : (u : World V) (x : Seat V) (free : Bool) (k : ℕ) (got : List ℕ) (again : ℕ → Stage V) (next : Stage V) (tries : ℕ) → free ≡ true
+  tried_fine : (u : World V) (x : Seat V) (free : Bool) (k : ℕ) (got : List ℕ) (again : ℕ → Stage V) (next : Stage V) (tries : ℕ)
+      → free ≡ true
       → FineStage u.boosted.editions x.cause next → Fine (has_tried u a x free k got again next tries)
   tried_fine u x free k got again next zero e h = subst Fine (sym (cond-true free _ _ e)) (seated_fine u (at_stage x next) h, tt)
   tried_fine u x free k got again next (suc m) e h = subst Fine (sym (cond-true free _ _ e)) (seated_fine u (at_stage x next) h, tt)
 
-  takes_fine : (x : Seat V) (editions : ℕ → ℕ) (cause : Option Refusal) (got ks : List ℕ) → FineStage editions cause (takes_gates {V = V} got ks)
+  takes_fine : (x : Seat V) (editions : ℕ → ℕ) (cause : Option Refusal) (got ks : List ℕ)
+      → FineStage editions cause (takes_gates {V = V} got ks)
   takes_fine x editions cause got [] = tt
   takes_fine x editions cause got (k ∷ ks) = tt
 
-  has_locked_fine : (u : World V) (x : Seat V) (n : told.Notice) → u.seats a ≡ x → x.stage ≡ Locking → (told.IsConflict n → ⊥) → Fine (has_locked u a x n)
-  has_locked_fine u x (told.LockedAt wv) seat at good =
-      (seated_fine u (record x { stage = takes_gates [] (written_homes u a); wv = wv }) (takes_fine x u.boosted.editions x.cause [] (written_homes u a)), tt)
+  has_locked_fine : (u : World V) (x : Seat V) (n : told.Notice) → u.seats a ≡ x → x.stage ≡ Locking → (told.IsConflict n → ⊥)
+      → Fine (has_locked u a x n)
+  has_locked_fine u x (told.LockedAt wv) seat at good = (
+    seated_fine u (record x { stage = takes_gates [] (written_homes u a); wv = wv })
+        (takes_fine x u.boosted.editions x.cause [] (written_homes u a)),
+    tt,
+  )
   has_locked_fine u x (told.Busy l found) seat at good = absurd (good tt)
   has_locked_fine u x (told.Invalid l found) seat at good = absurd (good tt)
   has_locked_fine u x n seat at good = (same_fine u x Locking seat at tt, tt)
@@ -385,7 +415,8 @@ module _ {V : Type 0} (P : Refusal → Type 0) (a : ℕ) where
   has_released_fine u x told.Released seat at = (seated_fine u no_one tt, tt)
   has_released_fine u x n seat at = (same_fine u x Releasing seat at tt, tt)
 
-  has_cancelled_fine : (u : World V) (x : Seat V) (n : told.Notice) → u.seats a ≡ x → x.stage ≡ Cancelling → Allowed P x.cause → Fine (has_cancelled u a x n)
+  has_cancelled_fine : (u : World V) (x : Seat V) (n : told.Notice) → u.seats a ≡ x → x.stage ≡ Cancelling → Allowed P x.cause
+      → Fine (has_cancelled u a x n)
   has_cancelled_fine u x told.Cancelled seat at h = (seated_fine (acted u (asks a word.AskAbort ∷ [])) (at_stage x Leaving) h, tt)
   has_cancelled_fine u x n seat at h = (same_fine u x Cancelling seat at h, tt)
 
@@ -421,24 +452,28 @@ module _ {V : Type 0} (P : Refusal → Type 0) (a : ℕ) where
       after_inv : (e : Action (Asked V)) → Inv c (acts c w.boosted e)
       after_inv e = (acts_led c (content_frame w.words w.blocks k.base.stripes) w.boosted e k.base.inv).inv
 
-      by_stage : (st : Stage V) → x.stage ≡ st → FineStage w.boosted.editions x.cause st → ((j : ℕ) → mine w.boosted a j ≡ has (gates_of st) j)
+      by_stage : (st : Stage V) → x.stage ≡ st → FineStage w.boosted.editions x.cause st
+          → ((j : ℕ) → mine w.boosted a j ≡ has (gates_of st) j)
           → StageOk w.words w.blocks x (actor_of w a) (w.boosted.shadows a) st (actor_of w a).place → Fine (step_at w a x st)
       by_stage Idle at fine held ok = (now, λ r. absurd r)
       by_stage Open at fine held ok = (now, λ r. absurd r)
       by_stage Beginning at fine held ok = has_begun_fine u x (word_notice w a) seat at
       by_stage (Reading l) at fine held ok = has_read_fine u x l (word_notice w a) seat at good
       by_stage (Trying asked tries) at fine held ok =
-          tried_fine (acted w (TakeGate a asked.collection ∷ [])) x (is_none (w.boosted.gates asked.collection)) asked.collection [] (λ n. Trying asked n)
+          tried_fine (acted w (TakeGate a asked.collection ∷ [])) x (is_none (w.boosted.gates asked.collection)) asked.collection []
+          (λ n. Trying asked n)
           (Copying asked) tries (free_gate w asked.collection h.gates (held asked.collection)) tt
       by_stage (Copying asked) at fine held ok =
           let which = covers_at w.words w.blocks asked in
           let e = PutGate a asked.collection which in
           let t = acted w (e ∷ []) in
           let o = outcome_at t a asked in
-          let place : (actor_of t a).place ≡ machine.Open = ap (λ (s : Words). (s.actors a).place) (put_words c w.boosted a asked.collection which) ∙ ok.0 in
+          let place : (actor_of t a).place ≡ machine.Open = ap (λ (s : Words). (s.actors a).place)
+          (put_words c w.boosted a asked.collection which) ∙ ok.0 in
           answers_fine t x (with_piece x asked.collection (piece_at w.blocks asked)) o t.boosted.editions
           (with_now t.boosted.editions t.boosted.editions (c.reads o) (λ l i. refl))
-          (with_plain w.words w.blocks t.boosted.editions (c.reads o) (λ l i. (content_frame w.words w.blocks k.base.stripes).no_word o l i))
+          (with_plain w.words w.blocks t.boosted.editions (c.reads o) (λ l i.
+          (content_frame w.words w.blocks k.base.stripes).no_word o l i))
           (sets_now t (after_inv e) (act_alone c w.boosted a e k.base.inv h refl) (subst MakesCalls (sym place) tt))
       by_stage (Loading o []) at fine held ok = absurd ok
       by_stage (Loading o (d ∷ es)) at fine held ok =
@@ -448,11 +483,13 @@ module _ {V : Type 0} (P : Refusal → Type 0) (a : ℕ) where
           let m = reading_calls d.0 y.place ok.0 in
           let pl = left_plain w.words w.blocks y z (d ∷ es) ok.2.left in
           let is : NumberIs (latest w.boosted.words d.0) (word_notice w a) =
-          number_is w.boosted.words y d.0 y.place ok.0 h.words.place (k.base.inv.machine.actors a).place (stamped c w.boosted a d.0 k.base.inv h m pl.0) in
+          number_is w.boosted.words y d.0 y.place ok.0 h.words.place (k.base.inv.machine.actors a).place
+          (stamped c w.boosted a d.0 k.base.inv h m pl.0) in
           has_loaded_fine u x y (learns w.boosted.words y (plan y y.place)) o d es (word_notice w a) k2.own.actor seat at
           (subst (λ f. AllNow f (d ∷ es)) (sym same) fine) pl (after_inv (moves a)) (act_alone c w.boosted a (moves a) k.base.inv h refl)
           (read_after w.boosted.words y d.0 y.place ok.0)
-          (subst (λ i. NumberIs i (word_notice w a)) (latest_now c w.boosted a d.0 k.base.inv h m pl.0 ∙ ap (λ (f : ℕ → ℕ). f d.0) (sym same)) is) good
+          (subst (λ i. NumberIs i (word_notice w a)) (latest_now c w.boosted a d.0 k.base.inv h m pl.0
+          ∙ ap (λ (f : ℕ → ℕ). f d.0) (sym same)) is) good
       by_stage Locking at fine held ok = has_locked_fine u x (word_notice w a) seat at good
       by_stage (Gating got [] tries) at fine held ok = absurd ok
       by_stage (Gating got (i ∷ ks) tries) at fine held ok =
@@ -490,13 +527,15 @@ module _ {V : Type 0} (P : Refusal → Type 0) (a : ℕ) where
 
   own_fine : (w : World V) (e : Event V) → whose e ≡ a → MayStarve e → AloneWorld w → Fine (happens w e)
   own_fine w (Ask b q) m p h =
-      subst (λ i. Fine (happens w (Ask i q))) (sym m) (ask_fine w (w.seats a) (w.seats a).stage q h.fine h.linked h.alone (h.linked.seats a).stage)
+      subst (λ i. Fine (happens w (Ask i q))) (sym m) (ask_fine w (w.seats a) (w.seats a).stage q h.fine h.linked h.alone
+      (h.linked.seats a).stage)
   own_fine w (Step b) m p h =
       subst (λ i. Fine (happens w (Step i))) (sym m)
       (step_fine w (w.seats a) (w.seats a).stage h.linked h.alone refl refl h.fine h.fine (h.linked.seats a).gates (h.linked.seats a).stage)
   own_fine w (Starve b) m p h = subst (λ i. Fine (happens w (Starve i))) (sym m) (starve_fine w (w.seats a) (w.seats a).stage h.fine (p m))
 
-  all_alone : (n : ℕ) (bs : List Block) (es : List (Action (Asked V))) (s : Boosted (Shown V) (Answered V)) → HaveStripes bs → Inv (content n bs) s
+  all_alone : (n : ℕ) (bs : List Block) (es : List (Action (Asked V))) (s : Boosted (Shown V) (Answered V)) → HaveStripes bs
+      → Inv (content n bs) s
       → AllOf a es → AloneIn s a → AloneIn (act_all (content n bs) es s) a
   all_alone n bs [] s stripes v own h = h
   all_alone n bs (e ∷ es) s stripes v own h =
@@ -510,7 +549,8 @@ module _ {V : Type 0} (P : Refusal → Type 0) (a : ℕ) where
       (all_alone w.words w.blocks r.reached.actions w.boosted k.base.stripes k.base.inv (subst (λ i. AllOf i r.reached.actions) m r.own) h)
 
   -- what others ask or want leaves it
-  other_alone : (s t : Boosted (Shown V) (Answered V)) (b : ℕ) → (a ≡ b → ⊥) → Still b s t → t.words.actors a ≡ s.words.actors a → AloneIn s a → AloneIn t a
+  other_alone : (s t : Boosted (Shown V) (Answered V)) (b : ℕ) → (a ≡ b → ⊥) → Still b s t → t.words.actors a ≡ s.words.actors a
+      → AloneIn s a → AloneIn t a
   other_alone s t b ne g same h = record {
     words =
         subst (λ (y : Actor). AloneOk t.words.locks y) (sym same) (subst (λ f. AloneOk f (s.words.actors a)) (sym g.locks) h.words);
@@ -520,10 +560,12 @@ module _ {V : Type 0} (P : Refusal → Type 0) (a : ℕ) where
         (subst (λ (f : ℕ → ℕ). (l : ℕ) → (s.shadows a).copied l ≡ true → (s.shadows a).editions l ≡ f l) (sym g.editions)
         (h.copied (subst (λ (y : Actor). MakesCalls y.place) same m)));
   }
+
   other_fine : (w u : World V) (b : ℕ) → Still b w.boosted u.boosted → u.seats a ≡ w.seats a → FineAt w → FineAt u
   other_fine w u b g same h = subst (FineSeat u.boosted.editions) (sym same) (subst (λ f. FineSeat f (w.seats a)) (sym g.editions) h)
 
-  others_alone : (w : World V) (e : Event V) → (a ≡ whose e → ⊥) → Still (whose e) w.boosted (happens w e).0.boosted → AloneWorld w → AloneWorld (happens w e).0
+  others_alone : (w : World V) (e : Event V) → (a ≡ whose e → ⊥) → Still (whose e) w.boosted (happens w e).0.boosted → AloneWorld w
+      → AloneWorld (happens w e).0
   others_alone w e ne g h =
       let r = happens_by w e in record {
         linked = happens_linked w e h.linked;
@@ -532,7 +574,12 @@ module _ {V : Type 0} (P : Refusal → Type 0) (a : ℕ) where
       }
 
   own_world : (w : World V) (e : Event V) → whose e ≡ a → MayStarve e → AloneWorld w → AloneWorld (happens w e).0
-  own_world w e m p h = record { linked = happens_linked w e h.linked; alone = own_alone w e m h.linked h.alone; fine = (own_fine w e m p h).0 }
+  own_world w e m p h = record {
+    linked = happens_linked w e h.linked;
+    alone = own_alone w e m h.linked h.alone;
+    fine =
+        (own_fine w e m p h).0;
+  }
 
   run_world : (es : List (Event V)) (w : World V) → IsAlone a es → AllMayStarve es → AloneWorld w → AloneWorld (run w es)
   run_world [] w only p h = h
@@ -550,7 +597,8 @@ module _ {V : Type 0} (P : Refusal → Type 0) (a : ℕ) where
 
   begin_world : (w : World V) → Linked w → (w.seats a).stage ≡ Beginning → IsFree w → AloneWorld w
   begin_world w k e free =
-      let place : (actor_of w a).place ≡ machine.Begin = subst (λ st. StageOk w.words w.blocks (w.seats a) (actor_of w a) (w.boosted.shadows a) st (actor_of w a).place) e (k.seats a).stage in
+      let place : (actor_of w a).place ≡ machine.Begin = subst (λ st. StageOk w.words w.blocks (w.seats a) (actor_of w a)
+      (w.boosted.shadows a) st (actor_of w a).place) e (k.seats a).stage in
       record {
         linked = k;
         alone = record {
@@ -565,13 +613,16 @@ module _ {V : Type 0} (P : Refusal → Type 0) (a : ℕ) where
       no_some b e = cc
 
 -- ---- the laws
-module _ {V : Type 0} (blocks : List Block) (clock : ℕ) (values : List ℕ) (held : List (Held V)) (events later : List (Event V)) (a : ℕ) (stripes : HaveStripes blocks) where
+module _ {V : Type 0} (blocks : List Block) (clock : ℕ) (values : List ℕ) (held : List (Held V)) (events later : List (Event V)) (a : ℕ)
+    (stripes : HaveStripes blocks) where
   abbrev start : World V
   start = run (opened blocks clock values held) events
 
-  reached : (P : Refusal → Type 0) → (start.seats a).stage ≡ Beginning → IsFree start → IsAlone a later → AllMayStarve P a later → AloneWorld P a (run start later)
+  reached : (P : Refusal → Type 0) → (start.seats a).stage ≡ Beginning → IsFree start → IsAlone a later → AllMayStarve P a later
+      → AloneWorld P a (run start later)
   reached P e free only p =
-      run_world P a later start only p (begin_world P a start (run_linked events (opened blocks clock values held) (opened_linked blocks clock values held stripes)) e free)
+      run_world P a later start only p (begin_world P a start (run_linked events (opened blocks clock values held)
+      (opened_linked blocks clock values held stripes)) e free)
 
   abbrev IsMemory : Refusal → Type 0
   IsMemory r = r ≡ refusal.OutOfMemory
@@ -599,9 +650,11 @@ module _ {V : Type 0} (blocks : List Block) (clock : ℕ) (values : List ℕ) (h
   no_conflict (Refused b r) fine h = subst IsConflict (fine (conflict_ends r h)) h
   no_conflict n fine h = h
 
-  pub world_alone : (start.seats a).stage ≡ Beginning → IsFree start → IsAlone a later → (e : Event V) → whose e ≡ a → TellsConflict (happens (run start later) e).1 → ⊥
+  pub world_alone : (start.seats a).stage ≡ Beginning → IsFree start → IsAlone a later → (e : Event V) → whose e ≡ a
+      → TellsConflict (happens (run start later) e).1 → ⊥
   world_alone at free only e m h =
-      no_conflict (happens (run start later) e).1 (own_fine IsMemory a (run start later) e m (may e) (reached IsMemory at free only (all_may later))).1 h
+      no_conflict (happens (run start later) e).1 (own_fine IsMemory a (run start later) e m (may e)
+      (reached IsMemory at free only (all_may later))).1 h
 
   unstarved : (es : List (Event V)) → IsUnstarved a es → AllMayStarve (λ r. ⊥) a es
   unstarved [] h = tt
@@ -613,7 +666,8 @@ module _ {V : Type 0} (blocks : List Block) (clock : ℕ) (values : List ℕ) (h
   no_memory (Refused b refusal.OutOfMemory) fine h = fine tt
   no_memory n fine h = h
 
-  pub world_unstarved : (start.seats a).stage ≡ Beginning → IsFree start → IsAlone a later → IsUnstarved a later → (e : Event V) → whose e ≡ a → IsUnstarved a (e ∷ [])
+  pub world_unstarved : (start.seats a).stage ≡ Beginning → IsFree start → IsAlone a later → IsUnstarved a later → (e : Event V)
+      → whose e ≡ a → IsUnstarved a (e ∷ [])
       → TellsMemory (happens (run start later) e).1 → ⊥
   world_unstarved at free only fed e m fed2 h =
       no_memory (happens (run start later) e).1

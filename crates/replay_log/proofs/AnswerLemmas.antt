@@ -16,7 +16,6 @@ use Rattle.seq_model.specs.declared.call.Op.{Op}
 use Rattle.seq_model.specs.declared.call.Op.TheVariants.{Read, Write}
 use Rattle.seq_model.specs.declared.refusal.Refusal.{Refusal}
 use Rattle.seq_model.specs.declared.refusal.Refusal.TheVariants as refusal
-use Rattle.seq_model.specs.declared.event.Event.{Event}
 use Rattle.seq_model.specs.declared.event.Event.TheVariants.{Ask, Step, Starve}
 use Rattle.seq_model.specs.declared.event.Request.{Request}
 use Rattle.seq_model.specs.declared.event.Request.TheVariants as request
@@ -49,7 +48,8 @@ module _ {V : Type 0} where
     boosted = refl;
     seats = λ b. elim (cases_eq b a) [
       | inl same ↦
-          ap (put w.seats a (at_stage x Open)) same ∙ put-same w.seats a (at_stage x Open) ∙ ap (at_stage x) (sym at) ∙ sym seat ∙ ap w.seats (sym same)
+          ap (put w.seats a (at_stage x Open)) same ∙ put-same w.seats a (at_stage x Open) ∙ ap (at_stage x) (sym at) ∙ sym seat
+          ∙ ap w.seats (sym same)
       | inr ne ↦ put-other w.seats a (at_stage x Open) b ne
     ];
     records = refl;
@@ -78,7 +78,8 @@ module _ {V : Type 0} where
   fresh_no : (u : World V) (a : ℕ) (x : Seat V) (d : ℕ × ℕ) (v : ℕ) (next : After V) → NoRefusal next → NoRefusal (is_fresh u a x d v next)
   fresh_no u a x d v next h = choose_no (eqb d.1 v) next _ h (gives_up_no u a (because x (refusal.Stale d.0 d.1 v)) [])
 
-  judges_no : (u : World V) (a : ℕ) (x : Seat V) (o : Answered V) (d : ℕ × ℕ) (es : Entries) (next : After V) (r : Option ℕ) → NoRefusal next
+  judges_no : (u : World V) (a : ℕ) (x : Seat V) (o : Answered V) (d : ℕ × ℕ) (es : Entries) (next : After V) (r : Option ℕ)
+      → NoRefusal next
       → NoRefusal (judges u a x o d es next r)
   judges_no u a x o d es next None h = λ q. q
   judges_no u a x o d es next (Some v) h = fresh_no u a x d v next h
@@ -92,7 +93,8 @@ module _ {V : Type 0} where
       let c = content w.words w.blocks in
       let o = outcome_at w a asked in
       choose_keeps w (x.copied asked.collection (piece_at w.blocks asked)) _ _
-      (choose_keeps w (has_room (actor_of w a) (c.reads o) (c.writes o)) (loads w a x o (with_editions (w.boosted.shadows a).editions (c.reads o))) _
+      (choose_keeps w (has_room (actor_of w a) (c.reads o) (c.writes o))
+      (loads w a x o (with_editions (w.boosted.shadows a).editions (c.reads o))) _
       (λ q. absurd (loads_no (with_editions (w.boosted.shadows a).editions (c.reads o)) w a x o q)) (λ q. same_seats w a x seat at))
       (λ q. absurd q)
 
@@ -100,9 +102,11 @@ module _ {V : Type 0} where
   reads_keeps w a x l (told.Number v) = λ q. absurd q
   reads_keeps w a x l n = λ q. absurd q
 
-  allowed_keeps : (w : World V) (a : ℕ) (x : Seat V) (known room : Bool) (next : After V) → Keeps w next → Keeps w (if_allowed w a x known room next)
+  allowed_keeps : (w : World V) (a : ℕ) (x : Seat V) (known room : Bool) (next : After V) → Keeps w next
+      → Keeps w (if_allowed w a x known room next)
   allowed_keeps w a x known room next h =
-      choose_keeps w known _ _ (choose_keeps w (nat_lt (length x.calls) CALL_LIMIT && room) next _ h (λ q. same_world w)) (λ q. same_world w)
+      choose_keeps w known _ _ (choose_keeps w (nat_lt (length x.calls) CALL_LIMIT && room) next _ h (λ q. same_world w))
+      (λ q. same_world w)
 
   op_keeps : (w : World V) (a : ℕ) (x : Seat V) (t : ℕ) (op : Op V) → w.seats a ≡ x → x.stage ≡ Open → Keeps w (ask_op w a x t op)
   op_keeps w a x t Read seat at = allowed_keeps w a x _ _ _ (reads_keeps w a x t _)
@@ -147,7 +151,8 @@ module _ {V : Type 0} where
   tried_no u a x free k got again next zero = choose_no free _ _ (λ q. q) (gives_up_no u a (because x (refusal.GateBusy k)) got)
   tried_no u a x free k got again next (suc m) = choose_no free _ _ (λ q. q) (λ q. q)
 
-  has_loaded_no : (u : World V) (a : ℕ) (x : Seat V) (o : Answered V) (d : ℕ × ℕ) (es : Entries) (n : told.Notice) → NoRefusal (has_loaded u a x o d es n)
+  has_loaded_no : (u : World V) (a : ℕ) (x : Seat V) (o : Answered V) (d : ℕ × ℕ) (es : Entries) (n : told.Notice)
+      → NoRefusal (has_loaded u a x o d es n)
   has_loaded_no u a x o d es (told.Number v) = fresh_no u a x d v (loads u a x o es) (loads_no es u a x o)
   has_loaded_no u a x o d es (told.Moved i found) = λ q. q
   has_loaded_no u a x o d es n = λ q. q
@@ -181,12 +186,14 @@ module _ {V : Type 0} where
   begun_says w u a x false e =
       (refl, (refl, not_below w.boosted.words.clock machine.clock_limit e, ap (λ (q : Seat V). q.stage) (put-same u.seats a no_one)))
 
-  copied_says : (w u : World V) (a : ℕ) (before x : Seat V) (asked : Asked V) (o : Answered V) (editions : ℕ → ℕ) → w.seats a ≡ before → actor_of u a ≡ actor_of w a
+  copied_says : (w u : World V) (a : ℕ) (before x : Seat V) (asked : Asked V) (o : Answered V) (editions : ℕ → ℕ) → w.seats a ≡ before
+      → actor_of u a ≡ actor_of w a
       → let r = answers u a before x o editions in RefusedBy a (IsRefusedAt w a (Copying asked) r.0) r.1
   copied_says w u a before x asked o editions seat same =
       let c = content u.words u.blocks in
       let es = with_editions editions (c.reads o) in
-      cond_both {A = After V} (has_room (actor_of u a) (c.reads o) (c.writes o)) (loads u a x o es) (seated u a (at_stage before Open), Refused a refusal.TooLong)
+      cond_both {A = After V} (has_room (actor_of u a) (c.reads o) (c.writes o)) (loads u a x o es)
+      (seated u a (at_stage before Open), Refused a refusal.TooLong)
       (λ r. RefusedBy a (IsRefusedAt w a (Copying asked) r.0) r.1)
       (λ _. no_refusal a (IsRefusedAt w a (Copying asked) (loads u a x o es).0) (loads u a x o es).1 (loads_no es u a x o))
       (λ _. (refl, (refl, put-same u.seats a (at_stage before Open) ∙ ap (λ (q : Seat V). at_stage q Open) (sym seat), same)))
@@ -204,26 +211,31 @@ module _ {V : Type 0} where
   step_says w a x Beginning seat ok =
       let u = acted w (moves a ∷ []) in
       subst (λ n. let r = has_begun u a x n in RefusedBy a (IsRefusedAt w a Beginning r.0) r.1)
-      (sym (ap (λ p. told.notice w.boosted.words (actor_of w a) p) ok)) (begun_says w u a x (nat_lt w.boosted.words.clock machine.clock_limit) refl)
+      (sym (ap (λ p. told.notice w.boosted.words (actor_of w a) p) ok))
+      (begun_says w u a x (nat_lt w.boosted.words.clock machine.clock_limit) refl)
   step_says w a x (Copying asked) seat ok =
       let which = covers_at w.words w.blocks asked in
       let u = acted w (PutGate a asked.collection which ∷ []) in
       copied_says w u a x (with_piece x asked.collection (piece_at w.blocks asked)) asked (outcome_at u a asked) u.boosted.editions seat
       (ap (λ (s : Words). s.actors a) (put_words (content w.words w.blocks) w.boosted a asked.collection which))
   step_says w a x Leaving seat ok =
-      let u = record (acted w (moves a ∷ [])) { aborted = w.aborted ++ record { actor = a; rv = x.rv; calls = x.calls; cause = x.cause } ∷ [] } in
-      why_says w (seated u a no_one) a x.cause (ap (λ (q : Seat V). q.cause) seat) (ap (λ (q : Seat V). q.stage) (put-same u.seats a no_one))
+      let u = record (acted w
+      (moves a ∷ [])) { aborted = w.aborted ++ record { actor = a; rv = x.rv; calls = x.calls; cause = x.cause } ∷ [] } in
+      why_says w (seated u a no_one) a x.cause (ap (λ (q : Seat V). q.cause) seat)
+      (ap (λ (q : Seat V). q.stage) (put-same u.seats a no_one))
   step_says w a x (Reading l) seat ok = no_refusal a _ _ (has_read_no (acted w (moves a ∷ [])) a x l (word_notice w a))
   step_says w a x (Trying asked tries) seat ok =
       no_refusal a _ _
-      (tried_no (acted w (TakeGate a asked.collection ∷ [])) a x (is_none (w.boosted.gates asked.collection)) asked.collection [] (λ n. Trying asked n) (Copying asked) tries)
+      (tried_no (acted w (TakeGate a asked.collection ∷ [])) a x (is_none (w.boosted.gates asked.collection)) asked.collection []
+      (λ n. Trying asked n) (Copying asked) tries)
   step_says w a x (Loading o []) seat ok = tt
   step_says w a x (Loading o (d ∷ es)) seat ok = no_refusal a _ _ (has_loaded_no (acted w (moves a ∷ [])) a x o d es (word_notice w a))
   step_says w a x Locking seat ok = no_refusal a _ _ (has_locked_no (acted w (moves a ∷ [])) a x (word_notice w a))
   step_says w a x (Gating got [] tries) seat ok = tt
   step_says w a x (Gating got (k ∷ ks) tries) seat ok =
       no_refusal a _ _
-      (tried_no (acted w (TakeGate a k ∷ [])) a x (is_none (w.boosted.gates k)) k got (λ n. Gating got (k ∷ ks) n) (takes_gates (got ++ k ∷ []) ks) tries)
+      (tried_no (acted w (TakeGate a k ∷ [])) a x (is_none (w.boosted.gates k)) k got (λ n. Gating got (k ∷ ks) n)
+      (takes_gates (got ++ k ∷ []) ks) tries)
   step_says w a x (Ready ks) seat ok =
       let ready = acted w (asks a word.AskStore ∷ []) in
       no_refusal a _ _ (has_stored_no (recorded (acted ready (moves a ∷ [])) a x true x.wv) a x ks (word_notice ready a))
@@ -236,7 +248,8 @@ module _ {V : Type 0} where
   step_says w a x (Returning (k ∷ ks)) seat ok = no_refusal a _ _ (gives_up_no (acted w (PutGate a k (λ l. false) ∷ [])) a x ks)
   step_says w a x Cancelling seat ok = no_refusal a _ _ (has_cancelled_no (acted w (moves a ∷ [])) a x (word_notice w a))
 
-  pub refused_step : (w : World V) (a : ℕ) → Linked w → let r = happens w (Step a) in RefusedBy a (IsRefusedAt w a (w.seats a).stage r.0) r.1
+  pub refused_step : (w : World V) (a : ℕ) → Linked w → let r = happens w (Step a) in RefusedBy a
+      (IsRefusedAt w a (w.seats a).stage r.0) r.1
   refused_step w a k = step_says w a (w.seats a) (w.seats a).stage refl (k.seats a).stage
 
   -- ---- wants of memory
@@ -266,16 +279,19 @@ module _ {V : Type 0} where
   home_half u a x [] = seated_half (acted u (asks a word.AskRelease ∷ [])) a (at_stage x Releasing) refl
   home_half u a x (k ∷ ks) = seated_half u a (at_stage x (Homing (k ∷ ks))) refl
 
-  stored_half : (u : World V) (a : ℕ) (x : Seat V) (ks : List ℕ) (n : told.Notice) → is_half_done ((has_stored u a x ks n).0.seats a).stage ≡ true
+  stored_half : (u : World V) (a : ℕ) (x : Seat V) (ks : List ℕ) (n : told.Notice)
+      → is_half_done ((has_stored u a x ks n).0.seats a).stage ≡ true
   stored_half u a x ks told.Stored = home_half u a x ks
   stored_half u a x ks n = seated_half u a (at_stage x (Storing ks)) refl
 
-  released_half : (u : World V) (a : ℕ) (x : Seat V) (n : told.Notice) → u.seats a ≡ x → x.stage ≡ Releasing → IsQuiet (has_released u a x n).1
+  released_half : (u : World V) (a : ℕ) (x : Seat V) (n : told.Notice) → u.seats a ≡ x → x.stage ≡ Releasing
+      → IsQuiet (has_released u a x n).1
       → is_half_done ((has_released u a x n).0.seats a).stage ≡ true
   released_half u a x told.Released seat at q = absurd q
   released_half u a x n seat at q = ap (λ (s : Seat V). is_half_done s.stage) seat ∙ ap is_half_done at
 
-  step_half : (w : World V) (a : ℕ) (x : Seat V) (st : Stage V) → w.seats a ≡ x → x.stage ≡ st → is_half_done st ≡ true → IsQuiet (step_at w a x st).1
+  step_half : (w : World V) (a : ℕ) (x : Seat V) (st : Stage V) → w.seats a ≡ x → x.stage ≡ st → is_half_done st ≡ true
+      → IsQuiet (step_at w a x st).1
       → is_half_done ((step_at w a x st).0.seats a).stage ≡ true
   step_half w a x (Storing ks) seat at h q = stored_half (acted w (moves a ∷ [])) a x ks (word_notice w a)
   step_half w a x (Homing []) seat at h q = ap (λ (s : Seat V). is_half_done s.stage) seat ∙ ap is_half_done at

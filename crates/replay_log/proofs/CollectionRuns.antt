@@ -1,5 +1,5 @@
--- The machine's history as transactions on a list of sequential collections, one after another. A world's serial order is said of its records, which
--- have words and collections in one list of calls; here stand the collections alone, as the machine has them.
+-- The machine's history as transactions on a list of sequential collections, one after another. A world's serial order is said of its
+-- records, which have words and collections in one list of calls; here stand the collections alone, as the machine has them.
 use Rattle.std.specs.Prelude.{◌≡◌, ℕ, zero, suc, List, [], ◌∷◌, Option, Some, None, option_map, nat_le, if◌then◌else◌}
 use Rattle.seq_model.specs.declared.call.Op.{Op}
 use Rattle.seq_model.specs.declared.call.Reply.{Reply}
@@ -33,7 +33,8 @@ module _ {V : Type 0} where
   abbrev pub AreReplies : List (Held V) → List (Answered V) → Type 0
   AreReplies hs [] = Unit {0}
   AreReplies hs (o ∷ os) =
-      (option_map (λ x. x.reply) o.outcome ≡ reply_at hs o.asked.collection o.asked.op) × AreReplies (after_call hs o.asked.collection o.asked.op) os
+      (option_map (λ x. x.reply) o.outcome ≡ reply_at hs o.asked.collection o.asked.op)
+      × AreReplies (after_call hs o.asked.collection o.asked.op) os
 
   -- one whole transaction after another
   abbrev pub after_run : List (Held V) → List (Committed (Answered V)) → List (Held V)

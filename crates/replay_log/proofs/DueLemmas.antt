@@ -57,7 +57,8 @@ module _ {V : Type 0} where
 
   judges_on : (u : World V) (a : ℕ) (x : Seat V) (o : Answered V) (d : ℕ × ℕ) (es : Entries) (next : After V) (r : Option ℕ) → GoesOn a next
       → GoesOn a (judges u a x o d es next r)
-  judges_on u a x o d es next None h = λ _. seated_busy (acted u (asks a (word.AskRead d.0) ∷ [])) a (at_stage x (Loading o (d ∷ es))) (λ g. g)
+  judges_on u a x o d es next None h = λ _. seated_busy (acted u (asks a (word.AskRead d.0) ∷ [])) a (at_stage x (Loading o (d ∷ es)))
+      (λ g. g)
   judges_on u a x o d es next (Some v) h = fresh_on u a x d v next h
 
   loads_on : (es : Entries) (u : World V) (a : ℕ) (x : Seat V) (o : Answered V) → GoesOn a (loads u a x o es)
@@ -72,14 +73,16 @@ module _ {V : Type 0} where
 
   calls_on_on : (u : World V) (a : ℕ) (x : Seat V) (asked : Asked V) → GoesOn a (calls_on u a x asked)
   calls_on_on u a x asked =
-      choose_on a (x.copied asked.collection (piece_at u.blocks asked)) _ _ (answers_on u a x x (outcome_at u a asked) (u.boosted.shadows a).editions)
+      choose_on a (x.copied asked.collection (piece_at u.blocks asked)) _ _
+      (answers_on u a x x (outcome_at u a asked) (u.boosted.shadows a).editions)
       (λ _. seated_busy u a (at_stage x (Trying asked more_tries)) (λ g. g))
 
   reads_on : (u : World V) (a : ℕ) (x : Seat V) (l : ℕ) (n : told.Notice) → GoesOn a (reads u a x l n)
   reads_on u a x l (told.Number v) = λ q. absurd q
   reads_on u a x l n = λ _. seated_busy (acted u (asks a (word.AskRead l) ∷ [])) a (at_stage x (Reading l)) (λ g. g)
 
-  allowed_on : (u : World V) (a : ℕ) (x : Seat V) (known room : Bool) (next : After V) → GoesOn a next → GoesOn a (if_allowed u a x known room next)
+  allowed_on : (u : World V) (a : ℕ) (x : Seat V) (known room : Bool) (next : After V) → GoesOn a next
+      → GoesOn a (if_allowed u a x known room next)
   allowed_on u a x known room next h =
       choose_on a known _ _ (choose_on a (nat_lt (length x.calls) CALL_LIMIT && room) next _ h (λ q. absurd q)) (λ q. absurd q)
 
@@ -109,12 +112,14 @@ module _ {V : Type 0} where
   has_begun_on u a x (told.Exhausted clock) seat at = λ q. absurd q
   has_begun_on u a x n seat at = λ _. same_busy u a x Beginning seat at (λ g. g)
 
-  has_read_on : (u : World V) (a : ℕ) (x : Seat V) (l : ℕ) (n : told.Notice) → u.seats a ≡ x → x.stage ≡ Reading l → GoesOn a (has_read u a x l n)
+  has_read_on : (u : World V) (a : ℕ) (x : Seat V) (l : ℕ) (n : told.Notice) → u.seats a ≡ x → x.stage ≡ Reading l
+      → GoesOn a (has_read u a x l n)
   has_read_on u a x l (told.Number v) seat at = λ q. absurd q
   has_read_on u a x l (told.Moved i found) seat at = gives_up_on u a (because x (refusal.Moved i found)) []
   has_read_on u a x l n seat at = λ _. same_busy u a x (Reading l) seat at (λ g. g)
 
-  tried_on : (u : World V) (a : ℕ) (x : Seat V) (free : Bool) (k : ℕ) (got : List ℕ) (again : ℕ → Stage V) (next : Stage V) (tries : ℕ) → IsBusy next
+  tried_on : (u : World V) (a : ℕ) (x : Seat V) (free : Bool) (k : ℕ) (got : List ℕ) (again : ℕ → Stage V) (next : Stage V) (tries : ℕ)
+      → IsBusy next
       → ((m : ℕ) → IsBusy (again m)) → GoesOn a (has_tried u a x free k got again next tries)
   tried_on u a x free k got again next zero h g =
       choose_on a free _ _ (λ _. seated_busy u a (at_stage x next) h) (gives_up_on u a (because x (refusal.GateBusy k)) got)
@@ -125,7 +130,8 @@ module _ {V : Type 0} where
   takes_busy x got [] = λ g. g
   takes_busy x got (k ∷ ks) = λ g. g
 
-  has_loaded_on : (u : World V) (a : ℕ) (x : Seat V) (o : Answered V) (d : ℕ × ℕ) (es : Entries) (n : told.Notice) → u.seats a ≡ x → x.stage ≡ Loading o (d ∷ es)
+  has_loaded_on : (u : World V) (a : ℕ) (x : Seat V) (o : Answered V) (d : ℕ × ℕ) (es : Entries) (n : told.Notice) → u.seats a ≡ x
+      → x.stage ≡ Loading o (d ∷ es)
       → GoesOn a (has_loaded u a x o d es n)
   has_loaded_on u a x o d es (told.Number v) seat at = fresh_on u a x d v (loads u a x o es) (loads_on es u a x o)
   has_loaded_on u a x o d es (told.Moved i found) seat at = gives_up_on u a (because x (refusal.Moved i found)) []
@@ -146,11 +152,13 @@ module _ {V : Type 0} where
   has_stored_on u a x ks told.Stored = goes_home_on u a x ks
   has_stored_on u a x ks n = λ _. seated_busy u a (at_stage x (Storing ks)) (λ g. g)
 
-  has_released_on : (u : World V) (a : ℕ) (x : Seat V) (n : told.Notice) → u.seats a ≡ x → x.stage ≡ Releasing → GoesOn a (has_released u a x n)
+  has_released_on : (u : World V) (a : ℕ) (x : Seat V) (n : told.Notice) → u.seats a ≡ x → x.stage ≡ Releasing
+      → GoesOn a (has_released u a x n)
   has_released_on u a x told.Released seat at = λ q. absurd q
   has_released_on u a x n seat at = λ _. same_busy u a x Releasing seat at (λ g. g)
 
-  has_cancelled_on : (u : World V) (a : ℕ) (x : Seat V) (n : told.Notice) → u.seats a ≡ x → x.stage ≡ Cancelling → GoesOn a (has_cancelled u a x n)
+  has_cancelled_on : (u : World V) (a : ℕ) (x : Seat V) (n : told.Notice) → u.seats a ≡ x → x.stage ≡ Cancelling
+      → GoesOn a (has_cancelled u a x n)
   has_cancelled_on u a x told.Cancelled seat at = λ _. seated_busy (acted u (asks a word.AskAbort ∷ [])) a (at_stage x Leaving) (λ g. g)
   has_cancelled_on u a x n seat at = λ _. same_busy u a x Cancelling seat at (λ g. g)
 
@@ -160,7 +168,8 @@ module _ {V : Type 0} where
   step_on w a x Beginning seat at = has_begun_on (acted w (moves a ∷ [])) a x (word_notice w a) seat at
   step_on w a x (Reading l) seat at = has_read_on (acted w (moves a ∷ [])) a x l (word_notice w a) seat at
   step_on w a x (Trying asked tries) seat at =
-      tried_on (acted w (TakeGate a asked.collection ∷ [])) a x (is_none (w.boosted.gates asked.collection)) asked.collection [] (λ n. Trying asked n) (Copying asked) tries
+      tried_on (acted w (TakeGate a asked.collection ∷ [])) a x (is_none (w.boosted.gates asked.collection)) asked.collection []
+      (λ n. Trying asked n) (Copying asked) tries
       (λ g. g) (λ m g. g)
   step_on w a x (Copying asked) seat at =
       let u = acted w (PutGate a asked.collection (covers_at w.words w.blocks asked) ∷ []) in
@@ -170,10 +179,12 @@ module _ {V : Type 0} where
   step_on w a x Locking seat at = has_locked_on (acted w (moves a ∷ [])) a x (word_notice w a) seat at
   step_on w a x (Gating got [] tries) seat at = λ _. same_busy w a x (Gating got [] tries) seat at (λ g. g)
   step_on w a x (Gating got (k ∷ ks) tries) seat at =
-      tried_on (acted w (TakeGate a k ∷ [])) a x (is_none (w.boosted.gates k)) k got (λ n. Gating got (k ∷ ks) n) (takes_gates (got ++ k ∷ []) ks) tries
+      tried_on (acted w (TakeGate a k ∷ [])) a x (is_none (w.boosted.gates k)) k got (λ n. Gating got (k ∷ ks) n)
+      (takes_gates (got ++ k ∷ []) ks) tries
       (takes_busy x (got ++ k ∷ []) ks) (λ m g. g)
   step_on w a x (Ready ks) seat at =
-      let ready = acted w (asks a word.AskStore ∷ []) in has_stored_on (recorded (acted ready (moves a ∷ [])) a x true x.wv) a x ks (word_notice ready a)
+      let ready = acted w (asks a word.AskStore ∷ []) in has_stored_on (recorded (acted ready (moves a ∷ [])) a x true x.wv) a x ks
+      (word_notice ready a)
   step_on w a x (Storing ks) seat at = has_stored_on (acted w (moves a ∷ [])) a x ks (word_notice w a)
   step_on w a x (Homing []) seat at = λ _. same_busy w a x (Homing []) seat at (λ g. g)
   step_on w a x (Homing (k ∷ ks)) seat at = goes_home_on (acted w (GoHome a k ∷ [])) a x ks

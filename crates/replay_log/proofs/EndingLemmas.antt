@@ -1,6 +1,6 @@
 -- What a step leaves of values, bases and records. Before the first value store a step stores no value, and only the step that takes a base home changes
 -- one; so a transaction that is being given up leaves them, gives each lock back at the version at which it took it, and at rest holds no lock and no gate.
-use Rattle.std.proofs.Common.{◌≡◌, ℕ, zero, suc, ◌+◌, Bool, true, false, cond, ◌&&◌, List, [], ◌∷◌, ◌++◌, Option, Some, None, refl, sym, ◌∙◌, ap, subst, true≢false, eqb, eq-eqb}
+use Rattle.std.proofs.Common.{◌≡◌, ℕ, zero, suc, Bool, false, ◌&&◌, List, [], ◌∷◌, ◌++◌, Some, None, refl, sym, ◌∙◌, ap, subst, true≢false, eqb, eq-eqb}
 use Rattle.std.specs.Prelude.{not, if◌then◌else◌}
 use Rattle.std.proofs.lemmas.Bool.{cond_both}
 use Rattle.vlock_word.specs.declared.lock_word.LockWord.{LockWord}
@@ -17,14 +17,13 @@ use Rattle.word_machine.proofs.Invariant.{PlaceOk}
 use Rattle.seq_model.specs.declared.refusal.Refusal.TheVariants as refusal
 use Rattle.seq_model.specs.declared.event.Event.TheVariants.{Step}
 use Rattle.collection_machine.specs.Content.{Content, has}
-use Rattle.collection_machine.specs.Boosted.{Boosted, OnWords, TakeGate, PutGate, recorded, word_step, shadows_after, gated, copied, is_none, is_actor, is_open, is_committing, acts}
-use Rattle.replay_log.specs.Contents.{Asked, Answered, content}
+use Rattle.collection_machine.specs.Boosted.{Boosted, TakeGate, PutGate, recorded, word_step, shadows_after, gated, copied, is_none, is_actor, is_open, is_committing, acts}
+use Rattle.replay_log.specs.Contents.{Answered, content}
 use Rattle.replay_log.specs.Pieces.{piece_at, covers_at}
-use Rattle.replay_log.specs.Worlds.{World, Seat, Stage, Idle, Beginning, Open, Locking, Releasing, Closing, Cancelling, Leaving, Reading, Trying, Copying, Loading, Gating, Ready, Storing, Homing, Returning, After, has_room, with_editions, at_stage, because, seated, acted, asks, moves, actor_of, word_notice, no_one, cancels, gives_up, outcome_at, is_fresh, judges, loads, answers, has_begun, has_read, has_tried, with_piece, has_loaded, takes_gates, has_locked, has_released, has_cancelled, step_at, happens}
-use Rattle.replay_log.specs.WorldStill.{Still}
+use Rattle.replay_log.specs.Worlds.{World, Seat, Stage, Idle, Beginning, Open, Locking, Releasing, Closing, Cancelling, Leaving, Reading, Trying, Copying, Loading, Gating, Ready, Storing, Homing, Returning, After, because, acted, moves, actor_of, word_notice, outcome_at, loads, has_begun, has_read, has_tried, with_piece, has_loaded, takes_gates, has_locked, has_released, has_cancelled, step_at, happens}
 use Rattle.replay_log.specs.WorldAnswers.{changes_at, Untouched}
-use Rattle.replay_log.proofs.ActionLemmas.{learns, mine}
-use Rattle.replay_log.proofs.SetLemmas.{moved_is, take_words, put_words}
+use Rattle.replay_log.proofs.ActionLemmas.{learns}
+use Rattle.replay_log.proofs.SetLemmas.{moved_is}
 use Rattle.replay_log.proofs.AloneActions.{step_editions}
 use Rattle.replay_log.proofs.SeatLemmas.{AtReading, AtLocking, gates_of, StageOk, Linked}
 use Rattle.replay_log.proofs.StillLemmas.{still, StillIn, ask_still, cancels_still, gives_up_still, fresh_still, loads_still, answers_still}
@@ -49,7 +48,8 @@ locking_no_store p h = absurd h
 -- ---- steps of the words
 exchanged_values : (s : Words) (a l k : ℕ) (won lost : Actor) (w : LockWord) → (world.exchanged s a l k won lost w).values ≡ s.values
 exchanged_values s a l k won lost (Free j) =
-    cond_both (eqb j k) (record (world.now s a won) { locks = put s.locks l (Locked k) }) (world.now s a lost) (λ (t : Words). t.values ≡ s.values) (λ _. refl) (λ _. refl)
+    cond_both (eqb j k) (record (world.now s a won) { locks = put s.locks l (Locked k) }) (world.now s a lost)
+    (λ (t : Words). t.values ≡ s.values) (λ _. refl) (λ _. refl)
 exchanged_values s a l k won lost (Locked j) = refl
 
 release_values : (s : Words) (a : ℕ) (y : Actor) (es : Entries) → (world.does s a (world.release y es)).values ≡ s.values
@@ -118,13 +118,15 @@ module _ {X Out : Type 0} where
 module _ {X Op Out : Type 0} (c : Content X Op Out) where
   take_keeps : (s : Boosted X Out) (a k : ℕ) → Kept s (acts c s (TakeGate a k))
   take_keeps s a k =
-      cond_both (is_none (s.gates k) && not (is_committing (s.words.actors a).place)) (gated s (put s.gates k (Some a)) s.shadows) s (Kept s)
+      cond_both (is_none (s.gates k) && not (is_committing (s.words.actors a).place)) (gated s (put s.gates k (Some a)) s.shadows) s
+      (Kept s)
       (λ _. (refl, refl, refl)) (λ _. (refl, refl, refl))
 
   put_keeps : (s : Boosted X Out) (a k : ℕ) (which : ℕ → Bool) → Kept s (acts c s (PutGate a k which))
   put_keeps s a k which =
       cond_both (is_actor a (s.gates k) && not (is_committing (s.words.actors a).place))
-      (gated s (put s.gates k None) (if is_open (s.words.actors a).place then put s.shadows a (copied c s (s.words.actors a).calls (s.shadows a) k which) else s.shadows)) s
+      (gated s (put s.gates k None) (if is_open (s.words.actors a).place then put s.shadows a
+      (copied c s (s.words.actors a).calls (s.shadows a) k which) else s.shadows)) s
       (Kept s) (λ _. (refl, refl, refl)) (λ _. (refl, refl, refl))
 
 abort_held : (y : Actor) (es : Entries) → (word.abort y es).held ≡ y.held
@@ -166,10 +168,12 @@ module _ {V : Type 0} where
   tried_still : (u : World V) (a : ℕ) (x : Seat V) (free : Bool) (k : ℕ) (got : List ℕ) (again : ℕ → Stage V) (next : Stage V) (tries : ℕ)
       → StillIn a u (has_tried u a x free k got again next tries).0
   tried_still u a x free k got again next zero =
-      cond_both {A = After V} free _ _ (λ r. StillIn a u r.0) (λ _. here u a) (λ _. gives_up_still u u a (because x (refusal.GateBusy k)) got (here u a))
+      cond_both {A = After V} free _ _ (λ r. StillIn a u r.0) (λ _. here u a)
+      (λ _. gives_up_still u u a (because x (refusal.GateBusy k)) got (here u a))
   tried_still u a x free k got again next (suc m) = cond_both {A = After V} free _ _ (λ r. StillIn a u r.0) (λ _. here u a) (λ _. here u a)
 
-  loaded_still : (u : World V) (a : ℕ) (x : Seat V) (o : Answered V) (d : ℕ × ℕ) (es : Entries) (n : told.Notice) → StillIn a u (has_loaded u a x o d es n).0
+  loaded_still : (u : World V) (a : ℕ) (x : Seat V) (o : Answered V) (d : ℕ × ℕ) (es : Entries) (n : told.Notice)
+      → StillIn a u (has_loaded u a x o d es n).0
   loaded_still u a x o d es (told.Number v) = fresh_still u u a x d v (loads u a x o es) (here u a) (loads_still es u u a x o (here u a))
   loaded_still u a x o d es (told.Moved i found) = cancels_still u u a (because x (refusal.Moved i found)) (here u a)
   loaded_still u a x o d es n = here u a
@@ -194,7 +198,8 @@ module _ {V : Type 0} where
   moved : (w : World V) (a : ℕ) (p : Place) → (actor_of w a).place ≡ p → IsNoStore p → Kept w.boosted (acted w (moves a ∷ [])).boosted
   moved w a p e h = step_keeps w.boosted a (actor_of w a) (actor_of w a).place (subst IsNoStore (sym e) h)
 
-  step_untouched : (w : World V) (a : ℕ) (x : Seat V) (st : Stage V) → StageOk w.words w.blocks x (actor_of w a) (w.boosted.shadows a) st (actor_of w a).place
+  step_untouched : (w : World V) (a : ℕ) (x : Seat V) (st : Stage V) → StageOk w.words w.blocks x (actor_of w a) (w.boosted.shadows a) st
+      (actor_of w a).place
       → changes_at st ≡ false → Untouched w (step_at w a x st).0
   step_untouched w a x Idle ok h = untouched w w w a (kept w) (here w a)
   step_untouched w a x Open ok h = untouched w w w a (kept w) (here w a)
@@ -202,7 +207,8 @@ module _ {V : Type 0} where
       let u = acted w (moves a ∷ []) in untouched w u _ a (moved w a machine.Begin ok tt) (begun_still u a x (word_notice w a))
   step_untouched w a x (Reading l) ok h =
       let u = acted w (moves a ∷ []) in
-      untouched w u _ a (moved w a (actor_of w a).place refl (reading_no_store l (actor_of w a).place ok.0)) (read_still u a x l (word_notice w a))
+      untouched w u _ a (moved w a (actor_of w a).place refl (reading_no_store l (actor_of w a).place ok.0))
+      (read_still u a x l (word_notice w a))
   step_untouched w a x (Trying asked tries) ok h =
       let u = acted w (TakeGate a asked.collection ∷ []) in
       untouched w u _ a (take_keeps (content w.words w.blocks) w.boosted a asked.collection)
@@ -215,10 +221,12 @@ module _ {V : Type 0} where
   step_untouched w a x (Loading o []) ok h = absurd ok
   step_untouched w a x (Loading o (d ∷ es)) ok h =
       let u = acted w (moves a ∷ []) in
-      untouched w u _ a (moved w a (actor_of w a).place refl (reading_no_store d.0 (actor_of w a).place ok.0)) (loaded_still u a x o d es (word_notice w a))
+      untouched w u _ a (moved w a (actor_of w a).place refl (reading_no_store d.0 (actor_of w a).place ok.0))
+      (loaded_still u a x o d es (word_notice w a))
   step_untouched w a x Locking ok h =
       let u = acted w (moves a ∷ []) in
-      untouched w u _ a (moved w a (actor_of w a).place refl (locking_no_store (actor_of w a).place ok.0)) (locked_still u a x (word_notice w a))
+      untouched w u _ a (moved w a (actor_of w a).place refl (locking_no_store (actor_of w a).place ok.0))
+      (locked_still u a x (word_notice w a))
   step_untouched w a x (Gating got [] tries) ok h = absurd ok
   step_untouched w a x (Gating got (k ∷ ks) tries) ok h =
       let u = acted w (TakeGate a k ∷ []) in
@@ -249,7 +257,8 @@ module _ {V : Type 0} where
       ap (λ (q : Actor). q.held) (put-same u.boosted.words.actors a (word.ask y y.place word.AskAbort)) ∙ aborted_held y y.place
   cancelled_held u a x n = refl
 
-  pub lock_goes_back : (w : World V) (a l k : ℕ) (rest : Entries) → Linked w → (w.seats a).stage ≡ Cancelling → (actor_of w a).held ≡ (l, k) ∷ rest
+  pub lock_goes_back : (w : World V) (a l k : ℕ) (rest : Entries) → Linked w → (w.seats a).stage ≡ Cancelling
+      → (actor_of w a).held ≡ (l, k) ∷ rest
       → let u = (happens w (Step a)).0 in (u.boosted.words.locks ≡ put w.boosted.words.locks l (Free k)) × ((actor_of u a).held ≡ rest)
   lock_goes_back w a l k rest linked at held =
       let x = w.seats a in
@@ -259,7 +268,8 @@ module _ {V : Type 0} where
       let given : (actor_of u a).held ≡ rest =
       ap (λ (q : Actor). q.held) (moved_is w.boosted a y y.place refl ∙ ap (λ p. learns w.boosted.words y (plan y p)) ok.0)
       ∙ ap (λ (es : Entries). (learns w.boosted.words y (world.undo y es)).held) held in
-      subst (λ st. let t = (step_at w a x st).0 in (t.boosted.words.locks ≡ put w.boosted.words.locks l (Free k)) × ((actor_of t a).held ≡ rest)) (sym at) (
+      subst (λ st. let t = (step_at w a x st).0 in (t.boosted.words.locks ≡ put w.boosted.words.locks l (Free k))
+      × ((actor_of t a).held ≡ rest)) (sym at) (
         (cancelled_still u a x (word_notice w a)).locks ∙ undone_locks w.boosted a y y.place l k rest ok.0 held,
         cancelled_held u a x (word_notice w a) ∙ given,
       )
@@ -268,7 +278,8 @@ module _ {V : Type 0} where
   locks_held w a l k linked h = (linked.base.inv.machine.actors a).held l k h
 
   -- ---- at rest
-  pub holds_nothing : (w : World V) (a : ℕ) → Linked w → (w.seats a).stage ≡ Idle → ((actor_of w a).held ≡ []) × ((k : ℕ) → w.boosted.gates k ≡ Some a → ⊥)
+  pub holds_nothing : (w : World V) (a : ℕ) → Linked w → (w.seats a).stage ≡ Idle → ((actor_of w a).held ≡ [])
+      × ((k : ℕ) → w.boosted.gates k ≡ Some a → ⊥)
   holds_nothing w a linked at =
       let x = w.seats a in
       let y = actor_of w a in

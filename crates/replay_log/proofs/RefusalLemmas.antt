@@ -66,7 +66,8 @@ NamesWord y p (told.Busy l w) = word_of (plan y p) ≡ Some (LockCell l)
 NamesWord y p (told.Invalid l w) = word_of (plan y p) ≡ Some (LockCell l)
 NamesWord y p n = Unit {0}
 
-none_left_names : {A : Type 0} → (y : Actor) (p : Place) (xs : List A) (n : told.Notice) → NamesWord y p n → NamesWord y p (told.when_none_left xs n)
+none_left_names : {A : Type 0} → (y : Actor) (p : Place) (xs : List A) (n : told.Notice) → NamesWord y p n
+    → NamesWord y p (told.when_none_left xs n)
 none_left_names y p [] n h = h
 none_left_names y p (x ∷ xs) n h = tt
 
@@ -75,7 +76,8 @@ last_names y p [] n h = tt
 last_names y p (e ∷ es) n h = none_left_names y p es n h
 
 look_names : (y : Actor) (l : ℕ) (w : LockWord) → NamesWord y (machine.Look l) (told.look_notice y.rv l w)
-look_names y l (Free k) = cond_both (nat_le k y.rv) told.Quiet (told.Moved l (bits (Free k))) (NamesWord y (machine.Look l)) (λ _. tt) (λ _. refl)
+look_names y l (Free k) = cond_both (nat_le k y.rv) told.Quiet (told.Moved l (bits (Free k))) (NamesWord y (machine.Look l)) (λ _. tt)
+    (λ _. refl)
 look_names y l (Locked k) = refl
 
 again_names : (y : Actor) (l k v : ℕ) (w : LockWord) → NamesWord y (machine.Again l k v) (told.again_notice l k v w)
@@ -95,17 +97,20 @@ take_names y l k ls (Locked j) = refl
 check_names : (y : Actor) (l : ℕ) (ls : List ℕ) (w : LockWord) (own : Option ℕ)
     → NamesWord y (machine.Check (l ∷ ls)) (told.check_notice y.rv y.wv l ls w own)
 check_names y l ls (Free k) own =
-    cond_both (nat_le k y.rv) (told.when_none_left ls (told.LockedAt y.wv)) (told.Invalid l (bits (Free k))) (NamesWord y (machine.Check (l ∷ ls)))
+    cond_both (nat_le k y.rv) (told.when_none_left ls (told.LockedAt y.wv)) (told.Invalid l (bits (Free k)))
+    (NamesWord y (machine.Check (l ∷ ls)))
     (λ _. none_left_names y (machine.Check (l ∷ ls)) ls (told.LockedAt y.wv) tt) (λ _. refl)
 check_names y l ls (Locked k) (Some v) =
-    cond_both (nat_le k y.rv) (told.when_none_left ls (told.LockedAt y.wv)) (told.Invalid l (bits (Locked k))) (NamesWord y (machine.Check (l ∷ ls)))
+    cond_both (nat_le k y.rv) (told.when_none_left ls (told.LockedAt y.wv)) (told.Invalid l (bits (Locked k)))
+    (NamesWord y (machine.Check (l ∷ ls)))
     (λ _. none_left_names y (machine.Check (l ∷ ls)) ls (told.LockedAt y.wv) tt) (λ _. refl)
 check_names y l ls (Locked k) None = refl
 
 notice_names : (s : Words) (y : Actor) (p : Place) → NamesWord y p (notice s y p)
 notice_names s y machine.Idle = tt
 notice_names s y machine.Begin =
-    cond_both (nat_lt s.clock machine.clock_limit) (told.Begun s.clock) (told.Exhausted s.clock) (NamesWord y machine.Begin) (λ _. tt) (λ _. tt)
+    cond_both (nat_lt s.clock machine.clock_limit) (told.Begun s.clock) (told.Exhausted s.clock) (NamesWord y machine.Begin) (λ _. tt)
+    (λ _. tt)
 notice_names s y machine.Open = tt
 notice_names s y (machine.Look l) = look_names y l (s.locks l)
 notice_names s y (machine.Fetch l k) = tt
@@ -140,7 +145,8 @@ first_is_call [] l v e = absurd (no_some v e)
 first_is_call (machine.Read k u ∷ cs) l v e = elim (cases_eq l k) [
   | inl same ↦
       subst (λ (c : machine.Call). Contains (machine.Read k u ∷ cs) c)
-      (ap (λ i. machine.Read i u) (sym same) ∙ ap (machine.Read l) (some_is u v (sym (cond-true (eqb l k) (Some u) (first_read cs l) (eq-eqb l k same)) ∙ e)))
+      (ap (λ i. machine.Read i u) (sym same) ∙ ap (machine.Read l) (some_is u v
+      (sym (cond-true (eqb l k) (Some u) (first_read cs l) (eq-eqb l k same)) ∙ e)))
       (Contains-append_left (machine.Read k u ∷ []) cs (machine.Read k u) (Contains-push [] (machine.Read k u)))
   | inr ne ↦
       later_call (machine.Read k u) cs (machine.Read l v)
@@ -175,7 +181,8 @@ with_read_cases false es l v i u e = elim (cases_eq i l) [
 more_read : (n : ℕ) (bs : List Block) (y : Actor) (l v : ℕ) → AreRead n bs y → AreRead n bs (machine.has_read y l v)
 more_read n bs y l v h i u pl e = elim (with_read_cases y.declared y.reads l v i u e) [
   | inl q ↦
-      subst (λ (c : machine.Call). Contains (y.calls ++ machine.Read l v ∷ []) c) (ap (λ k. machine.Read k v) (sym q.0) ∙ ap (machine.Read i) q.1)
+      subst (λ (c : machine.Call). Contains (y.calls ++ machine.Read l v ∷ []) c)
+      (ap (λ k. machine.Read k v) (sym q.0) ∙ ap (machine.Read i) q.1)
       (Contains-push y.calls (machine.Read l v))
   | inr old ↦ Contains-append_left y.calls (machine.Read l v ∷ []) (machine.Read i u) (h i u pl old)
 ]
@@ -238,7 +245,8 @@ module _ {V : Type 0} where
         h,
       )
 
-  choose_for : (w : World V) (a : ℕ) (st : Stage V) (b : Bool) (u v : After V) → (b ≡ true → HasCause w a st u.0) → (b ≡ false → HasCause w a st v.0)
+  choose_for : (w : World V) (a : ℕ) (st : Stage V) (b : Bool) (u v : After V) → (b ≡ true → HasCause w a st u.0)
+      → (b ≡ false → HasCause w a st v.0)
       → HasCause w a st (cond b u v).0
   choose_for w a st true u v h g = h refl
   choose_for w a st false u v h g = g refl
@@ -251,7 +259,8 @@ module _ {V : Type 0} where
 
   has_read_for : (w u : World V) (a : ℕ) (x : Seat V) (l : ℕ) (n : told.Notice) → u.seats a ≡ x → x.stage ≡ Reading l → TrueAt w a n
       → HasCause w a (Reading l) (has_read u a x l n).0
-  has_read_for w u a x l (told.Number v) seat st h = goes_on w u a (with_call x (record { target = l; op = Read }) (reply.Number v)) (Reading l) refl
+  has_read_for w u a x l (told.Number v) seat st h = goes_on w u a (with_call x (record { target = l; op = Read }) (reply.Number v))
+      (Reading l) refl
   has_read_for w u a x l (told.Moved i found) seat st h = cancels_for w u a x (Reading l) (refusal.Moved i found) ((h.1, h.0.0), h.0.1)
   has_read_for w u a x l n seat st h = same_on w u a x (Reading l) seat (ap is_ending st)
 
@@ -270,20 +279,24 @@ module _ {V : Type 0} where
       choose_for w a st (eqb d.1 v) next _ (λ _. h) (λ no_match. cancels_for w u a x st (refusal.Stale d.0 d.1 v) (
         (λ same. true≢false (sym (eq-eqb d.1 v same) ∙ no_match)),
         copied,
-        subst (λ (cs : List machine.Call). Contains cs (machine.Read d.0 v)) (sym (cancels_calls u a (because x (refusal.Stale d.0 d.1 v)))) read,
+        subst (λ (cs : List machine.Call). Contains cs (machine.Read d.0 v))
+            (sym (cancels_calls u a (because x (refusal.Stale d.0 d.1 v)))) read,
       ))
 
-  judges_for : (w u : World V) (a : ℕ) (x : Seat V) (st : Stage V) (o : Answered V) (d : ℕ × ℕ) (es : Entries) (next : After V) (r : Option ℕ)
+  judges_for : (w u : World V) (a : ℕ) (x : Seat V) (st : Stage V) (o : Answered V) (d : ℕ × ℕ) (es : Entries) (next : After V)
+      (r : Option ℕ)
       → lookup (actor_of u a).reads d.0 ≡ r → is_plain w.words w.blocks d.0 ≡ false → IsCopied w st d.0 d.1 → HasRead w u a
       → HasCause w a st next.0 → HasCause w a st (judges u a x o d es next r).0
-  judges_for w u a x st o d es next None is pl copied read h = goes_on w (acted u (asks a (word.AskRead d.0) ∷ [])) a (at_stage x (Loading o (d ∷ es))) st refl
+  judges_for w u a x st o d es next None is pl copied read h = goes_on w (acted u (asks a (word.AskRead d.0) ∷ [])) a
+      (at_stage x (Loading o (d ∷ es))) st refl
   judges_for w u a x st o d es next (Some v) is pl copied read h = fresh_for w u a x st d v next copied (read d.0 v pl is) h
 
   loads_for : (es : Entries) (w u : World V) (a : ℕ) (x : Seat V) (st : Stage V) (o : Answered V) → Copied w st es → HasRead w u a
       → HasCause w a st (loads u a x o es).0
   loads_for [] w u a x st o copied read = goes_on w (acted u (Accept a o.asked ∷ [])) a (with_call x (call_of o) (reply_of o)) st refl
   loads_for (d ∷ es) w u a x st o copied read =
-      judges_for w u a x st o d es (loads u a x o es) (lookup (actor_of u a).reads d.0) refl copied.0 copied.1 read (loads_for es w u a x st o copied.2 read)
+      judges_for w u a x st o d es (loads u a x o es) (lookup (actor_of u a).reads d.0) refl copied.0 copied.1 read
+      (loads_for es w u a x st o copied.2 read)
 
   answers_for : (w u : World V) (a : ℕ) (before x : Seat V) (st : Stage V) (o : Answered V) (editions : ℕ → ℕ)
       → Copied w st (with_editions editions ((content u.words u.blocks).reads o)) → HasRead w u a
@@ -324,7 +337,11 @@ module _ {V : Type 0} where
   -- ---- commits
   has_locked_for : (w u : World V) (a : ℕ) (x : Seat V) (n : told.Notice) → u.seats a ≡ x → x.stage ≡ Locking → TrueAt w a n
       → HasCause w a Locking (has_locked u a x n).0
-  has_locked_for w u a x (told.LockedAt wv) seat st h = goes_on w u a (record x { stage = takes_gates [] (written_homes u a); wv = wv }) Locking
+  has_locked_for w u a x (told.LockedAt wv) seat st h = goes_on w u a (record x {
+    stage = takes_gates []
+        (written_homes u a);
+    wv = wv;
+  }) Locking
       (takes_on V [] (written_homes u a))
   has_locked_for w u a x (told.Busy l found) seat st h = cancels_for w u a x Locking (refusal.Busy l found) ((h.1, h.0.0), h.0.1)
   has_locked_for w u a x (told.Invalid l found) seat st h = cancels_for w u a x Locking (refusal.Invalid l found) ((h.1, h.0.0), h.0.1)
@@ -344,10 +361,15 @@ module _ {V : Type 0} where
   gives_up_for : (w u : World V) (a : ℕ) (x : Seat V) (st : Stage V) (k : ℕ) (ks : List ℕ) → IsLastTry st k × IsAnothers w a k
       → HasCause w a st (gives_up u a (because x (refusal.GateBusy k)) ks).0
   gives_up_for w u a x st k [] h = cancels_for w u a x st (refusal.GateBusy k) h
-  gives_up_for w u a x st k (i ∷ ks) h = λ q.
-      (refusal.GateBusy k, ap (λ (s : Seat V). s.cause) (put-same u.seats a (at_stage (because x (refusal.GateBusy k)) (Returning (i ∷ ks)))), h)
+  gives_up_for w u a x st k (i ∷ ks) h = λ q. (
+    refusal.GateBusy k,
+    ap (λ (s : Seat V). s.cause) (put-same u.seats a
+        (at_stage (because x (refusal.GateBusy k)) (Returning (i ∷ ks)))),
+    h,
+  )
 
-  tried_for : (w u : World V) (a : ℕ) (x : Seat V) (st : Stage V) (free : Bool) (k : ℕ) (got : List ℕ) (again : ℕ → Stage V) (next : Stage V) (tries : ℕ)
+  tried_for : (w u : World V) (a : ℕ) (x : Seat V) (st : Stage V) (free : Bool) (k : ℕ) (got : List ℕ) (again : ℕ → Stage V)
+      (next : Stage V) (tries : ℕ)
       → is_ending next ≡ false → ((m : ℕ) → is_ending (again m) ≡ false)
       → (tries ≡ 0 → free ≡ false → IsLastTry st k × IsAnothers w a k) → HasCause w a st (has_tried u a x free k got again next tries).0
   tried_for w u a x st free k got again next zero e f h =
@@ -359,7 +381,8 @@ module _ {V : Type 0} where
   goes_home_for w u a x st [] = goes_on w (acted u (asks a word.AskRelease ∷ [])) a (at_stage x Releasing) st refl
   goes_home_for w u a x st (k ∷ ks) = goes_on w u a (at_stage x (Homing (k ∷ ks))) st refl
 
-  has_stored_for : (w u : World V) (a : ℕ) (x : Seat V) (st : Stage V) (ks : List ℕ) (n : told.Notice) → HasCause w a st (has_stored u a x ks n).0
+  has_stored_for : (w u : World V) (a : ℕ) (x : Seat V) (st : Stage V) (ks : List ℕ) (n : told.Notice)
+      → HasCause w a st (has_stored u a x ks n).0
   has_stored_for w u a x st ks told.Stored = goes_home_for w u a x st ks
   has_stored_for w u a x st ks n = goes_on w u a (at_stage x (Storing ks)) st refl
 
@@ -376,7 +399,8 @@ module _ {V : Type 0} where
 
   pub step_for : (w : World V) (a : ℕ) (x : Seat V) (st : Stage V) → Linked w → w.seats a ≡ x → x.stage ≡ st → is_ending st ≡ false
       → ((j : ℕ) → mine w.boosted a j ≡ has (gates_of st) j)
-      → StageOk w.words w.blocks x (w.boosted.words.actors a) (w.boosted.shadows a) st (w.boosted.words.actors a).place → HasCause w a st (step_at w a x st).0
+      → StageOk w.words w.blocks x (w.boosted.words.actors a) (w.boosted.shadows a) st (w.boosted.words.actors a).place
+      → HasCause w a st (step_at w a x st).0
   step_for w a x st k seat at on held h = by_stage st at on held h
     where
       y : Actor
@@ -397,7 +421,8 @@ module _ {V : Type 0} where
       by_stage (Reading l) at on held h = has_read_for w u a x l (word_notice w a) seat at said
       by_stage (Trying asked tries) at on held h =
           let i = asked.collection in
-          tried_for w (acted w (TakeGate a i ∷ [])) a x (Trying asked tries) (is_none (w.boosted.gates i)) i [] (λ n. Trying asked n) (Copying asked) tries
+          tried_for w (acted w (TakeGate a i ∷ [])) a x (Trying asked tries) (is_none (w.boosted.gates i)) i [] (λ n. Trying asked n)
+          (Copying asked) tries
           refl (λ m. refl) (λ last lost. ((refl, last), tried_in_vain w a i (held i) lost))
       by_stage (Copying asked) at on held h =
           let which = covers_at w.words w.blocks asked in
@@ -406,7 +431,8 @@ module _ {V : Type 0} where
           let o = outcome_at put a asked in
           let same = put_words c w.boosted a asked.collection which in
           answers_for w put a x (with_piece x asked.collection (piece_at w.blocks asked)) (Copying asked) o put.boosted.editions
-          (now_copied w asked put.boosted.editions (c.reads o) (λ l. ap (λ (f : ℕ → ℕ). f l) (sym (put_editions w a asked.collection which)))
+          (now_copied w asked put.boosted.editions (c.reads o) (λ l. ap (λ (f : ℕ → ℕ). f l)
+          (sym (put_editions w a asked.collection which)))
           (λ l m. (content_frame w.words w.blocks k.base.stripes).no_word o l m))
           (subst (λ (s : Words). AreRead w.words w.blocks (s.actors a)) (sym same) (kept_read w.words w.blocks y h.1.kept))
       by_stage (Loading o []) at on held h = absurd h
@@ -414,11 +440,13 @@ module _ {V : Type 0} where
           let z = w.boosted.shadows a in
           let k2 = at_move w a y z (mine w.boosted a) y.place (at_of w a k) refl (reading_quiet d.0 y.place h.0) in
           has_loaded_for w u a x y (learns w.boosted.words y (plan y y.place)) o d es (word_notice w a) k2.own.actor seat at
-          (left_copied w o (d ∷ es) (d ∷ es) y z h.2.left (λ e m. m)) (kept_read w.words w.blocks y h.1.kept) (read_after w.boosted.words y d.0 y.place h.0) said
+          (left_copied w o (d ∷ es) (d ∷ es) y z h.2.left (λ e m. m)) (kept_read w.words w.blocks y h.1.kept)
+          (read_after w.boosted.words y d.0 y.place h.0) said
       by_stage Locking at on held h = has_locked_for w u a x (word_notice w a) seat at said
       by_stage (Gating got [] tries) at on held h = absurd h
       by_stage (Gating got (i ∷ ks) tries) at on held h =
-          tried_for w (acted w (TakeGate a i ∷ [])) a x (Gating got (i ∷ ks) tries) (is_none (w.boosted.gates i)) i got (λ n. Gating got (i ∷ ks) n)
+          tried_for w (acted w (TakeGate a i ∷ [])) a x (Gating got (i ∷ ks) tries) (is_none (w.boosted.gates i)) i got
+          (λ n. Gating got (i ∷ ks) n)
           (takes_gates (got ++ i ∷ []) ks) tries (takes_on V (got ++ i ∷ []) ks) (λ m. refl)
           (λ last lost. ((refl, last), tried_in_vain w a i (held i ∙ not_got got i ks h.1.differ) lost))
       by_stage (Ready ks) at on held h =
@@ -440,7 +468,8 @@ module _ {V : Type 0} where
       ap (λ (s : Seat V). s.cause) (put-same v.seats a (at_stage x (if is_leaving (actor_of v a).place then Leaving else Cancelling)))
   gives_up_keeps u a x (k ∷ ks) = ap (λ (s : Seat V). s.cause) (put-same u.seats a (at_stage x (Returning (k ∷ ks))))
 
-  cancelled_keeps : (u : World V) (a : ℕ) (x : Seat V) (n : told.Notice) → u.seats a ≡ x → ((has_cancelled u a x n).0.seats a).cause ≡ x.cause
+  cancelled_keeps : (u : World V) (a : ℕ) (x : Seat V) (n : told.Notice) → u.seats a ≡ x
+      → ((has_cancelled u a x n).0.seats a).cause ≡ x.cause
   cancelled_keeps u a x told.Cancelled seat = ap (λ (s : Seat V). s.cause) (put-same u.seats a (at_stage x Leaving))
   cancelled_keeps u a x n seat = ap (λ (s : Seat V). s.cause) seat
 
@@ -460,8 +489,10 @@ module _ {V : Type 0} where
   pub tells_cause : (w : World V) (a : ℕ) → (w.seats a).stage ≡ Leaving → (happens w (Step a)).1 ≡ why a (w.seats a).cause
   tells_cause w a e = ap (λ st. (step_at w a (w.seats a) st).1) e
 
-  pub world_causes : (blocks : List Block) (clock : ℕ) (values : List ℕ) (held : List (Held V)) (events : List (Event V)) (a : ℕ) → HaveStripes blocks
-      → let w = run (opened blocks clock values held) events in is_ending (w.seats a).stage ≡ false → HasCause w a (w.seats a).stage (happens w (Step a)).0
+  pub world_causes : (blocks : List Block) (clock : ℕ) (values : List ℕ) (held : List (Held V)) (events : List (Event V)) (a : ℕ)
+      → HaveStripes blocks
+      → let w = run (opened blocks clock values held) events in is_ending (w.seats a).stage ≡ false
+      → HasCause w a (w.seats a).stage (happens w (Step a)).0
   world_causes blocks clock values held events a stripes on =
       let w = run (opened blocks clock values held) events in
       let k = run_linked events (opened blocks clock values held) (opened_linked blocks clock values held stripes) in

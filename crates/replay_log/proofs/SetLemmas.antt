@@ -96,7 +96,8 @@ ask_write y p l v = inl refl
 
 -- ---- the write set with one location more
 new_rest : (es : Entries) (l : ℕ) (ls : List ℕ) → length (new_in es ls) ≤ length (new_in es (l ∷ ls))
-new_rest es l ls = cond_both (is_none (lookup es l)) (l ∷ new_in es ls) (new_in es ls) (λ zs. length (new_in es ls) ≤ length zs) (λ _. omega arith) (λ _. omega arith)
+new_rest es l ls = cond_both (is_none (lookup es l)) (l ∷ new_in es ls) (new_in es ls) (λ zs. length (new_in es ls) ≤ length zs)
+    (λ _. omega arith) (λ _. omega arith)
 
 new_one : (es : Entries) (l v : ℕ) (ls : List ℕ) → IsRising es
     → length (with_entry es l v) + length (new_in (with_entry es l v) ls) ≤ length es + length (new_in es (l ∷ ls))
@@ -108,7 +109,8 @@ new_one es l v ls rising = by (lookup es l) refl
     some_no : (u : ℕ) → Some u ≡ None → ⊥
     some_no u e = cc
 
-    by : (o : Option ℕ) → lookup es l ≡ o → length (with_entry es l v) + length (new_in (with_entry es l v) ls) ≤ length es + length (new_in es (l ∷ ls))
+    by : (o : Option ℕ) → lookup es l ≡ o → length (with_entry es l v) + length (new_in (with_entry es l v) ls) ≤ length es + length
+        (new_in es (l ∷ ls))
     by None e =
         let grown = length-with_entry_new es l v e in
         let more = ap length (cond-true (is_none (lookup es l)) (l ∷ new_in es ls) (new_in es ls) (ap is_none e)) in
@@ -121,7 +123,8 @@ new_one es l v ls rising = by (lookup es l) refl
 abbrev pub FitsWrites : Actor → List ℕ → Type 0
 FitsWrites y ls = (y.declared ≡ true) ⊎ (length y.writes + length (new_in y.writes ls) ≤ 4096)
 
-wrote_fits : (y z : Actor) (l v : ℕ) (ls : List ℕ) → IsWritten y l v z → AreSmallSets y → FitsWrites y (l ∷ ls) → AreSmallSets z × FitsWrites z ls
+wrote_fits : (y z : Actor) (l v : ℕ) (ls : List ℕ) → IsWritten y l v z → AreSmallSets y → FitsWrites y (l ∷ ls) → AreSmallSets z
+    × FitsWrites z ls
 wrote_fits y z l v ls w h f = elim w [
   | inl same ↦
       subst (λ (u : Actor). AreSmallSets u × FitsWrites u ls) (sym same)
@@ -148,7 +151,8 @@ writes_small s a editions (l ∷ ls) h f =
     let r = wrote_fits x y l (editions l + 1) ls (ask_write x x.place l (editions l + 1)) h f in
     writes_small t a editions ls (subst AreSmallSets (sym is) r.0) (subst (λ (u : Actor). FitsWrites u ls) (sym is) r.1)
 
-pub asked_write_small : (y : Actor) (p : Place) (l v : ℕ) → AreSmallSets y → FitsWrites y (l ∷ []) → AreSmallSets (ask y p (word.AskWrite l v))
+pub asked_write_small : (y : Actor) (p : Place) (l v : ℕ) → AreSmallSets y → FitsWrites y (l ∷ [])
+    → AreSmallSets (ask y p (word.AskWrite l v))
 asked_write_small y p l v h f = (wrote_fits y (ask y p (word.AskWrite l v)) l v [] (ask_write y p l v) h f).0
 
 -- ---- steps
@@ -158,7 +162,8 @@ IsNoRead (machine.Again l k v) = ⊥
 IsNoRead p = Unit {0}
 
 seen_sets : (y : Actor) (l : ℕ) (w : LockWord) → SameSets y (machine.seen y l w)
-seen_sets y l (Free k) = cond_both (nat_le k y.rv) (goes y (machine.Fetch l k)) (goes y machine.Undo) (SameSets y) (λ _. (refl, refl)) (λ _. (refl, refl))
+seen_sets y l (Free k) = cond_both (nat_le k y.rv) (goes y (machine.Fetch l k)) (goes y machine.Undo) (SameSets y) (λ _. (refl, refl))
+    (λ _. (refl, refl))
 seen_sets y l (Locked k) = (refl, refl)
 
 to_lock_sets : (y : Actor) (l : ℕ) (ls : List ℕ) (w : LockWord) → SameSets y (machine.seen_to_lock y l ls w)
@@ -166,12 +171,15 @@ to_lock_sets y l ls (Free k) = (refl, refl)
 to_lock_sets y l ls (Locked k) = (refl, refl)
 
 take_sets : (y : Actor) (l k : ℕ) (ls : List ℕ) (w : LockWord) → SameSets y (exchanges k (machine.taken y l k ls) (goes y machine.Broken) w)
-take_sets y l k ls (Free j) = cond_both (eqb j k) (machine.taken y l k ls) (goes y machine.Broken) (SameSets y) (λ _. (refl, refl)) (λ _. (refl, refl))
+take_sets y l k ls (Free j) = cond_both (eqb j k) (machine.taken y l k ls) (goes y machine.Broken) (SameSets y) (λ _. (refl, refl))
+    (λ _. (refl, refl))
 take_sets y l k ls (Locked j) = (refl, refl)
 
 check_sets : (y : Actor) (ls : List ℕ) (w : LockWord) (own : Option ℕ) → SameSets y (machine.seen_in_check y ls w own)
-check_sets y ls (Free k) own = cond_both (nat_le k y.rv) (goes y (machine.Check ls)) (goes y machine.Broken) (SameSets y) (λ _. (refl, refl)) (λ _. (refl, refl))
-check_sets y ls (Locked k) (Some v) = cond_both (nat_le k y.rv) (goes y (machine.Check ls)) (goes y machine.Broken) (SameSets y) (λ _. (refl, refl)) (λ _. (refl, refl))
+check_sets y ls (Free k) own = cond_both (nat_le k y.rv) (goes y (machine.Check ls)) (goes y machine.Broken) (SameSets y)
+    (λ _. (refl, refl)) (λ _. (refl, refl))
+check_sets y ls (Locked k) (Some v) = cond_both (nat_le k y.rv) (goes y (machine.Check ls)) (goes y machine.Broken) (SameSets y)
+    (λ _. (refl, refl)) (λ _. (refl, refl))
 check_sets y ls (Locked k) None = (refl, refl)
 
 first_sets : (s : Words) (y : Actor) (es : Entries) → SameSets y (learns s y (world.first_store y es))
@@ -220,7 +228,8 @@ module _ {X Out : Type 0} where
   recorded_words s os (world.Aborts e) = refl
 
   -- what a step of the words makes of its actor's record
-  pub moved_is : (s : Boosted X Out) (a : ℕ) (x : Actor) (p : Place) → s.words.actors a ≡ x → (word_step s a x p).words.actors a ≡ learns s.words x (plan x p)
+  pub moved_is : (s : Boosted X Out) (a : ℕ) (x : Actor) (p : Place) → s.words.actors a ≡ x
+      → (word_step s a x p).words.actors a ≡ learns s.words x (plan x p)
   moved_is s a x p e =
       ap (λ (t : Words). t.actors a) (recorded_words _ (s.shadows a).outcomes (world.outcome a x p))
       ∙ ap (λ (f : ℕ → Actor). f a) (noted_actors (world.does s.words a (plan x p)) (world.outcome a x p))
@@ -235,19 +244,25 @@ module _ {X Op Out : Type 0} (c : Content X Op Out) where
   pub put_words : (s : Boosted X Out) (a k : ℕ) (which : ℕ → Bool) → (acts c s (PutGate a k which)).words ≡ s.words
   put_words s a k which =
       cond_both (is_actor a (s.gates k) && not (is_committing (s.words.actors a).place))
-      (gated s (put s.gates k None) (if is_open (s.words.actors a).place then put s.shadows a (copied c s (s.words.actors a).calls (s.shadows a) k which) else s.shadows)) s
+      (gated s (put s.gates k None) (if is_open (s.words.actors a).place then put s.shadows a
+      (copied c s (s.words.actors a).calls (s.shadows a) k which) else s.shadows)) s
       (λ (t : Boosted X Out). t.words ≡ s.words) (λ _. refl) (λ _. refl)
 
   pub home_words : (s : Boosted X Out) (a k : ℕ) → (acts c s (GoHome a k)).words ≡ s.words
   home_words s a k =
-      cond_both (is_actor a (s.gates k) && is_stored (s.words.actors a).place) (homed c s a k) s (λ (t : Boosted X Out). t.words ≡ s.words) (λ _. refl) (λ _. refl)
+      cond_both (is_actor a (s.gates k) && is_stored (s.words.actors a).place) (homed c s a k) s (λ (t : Boosted X Out). t.words ≡ s.words)
+      (λ _. refl) (λ _. refl)
 
-  asked_by : (s : Boosted X Out) (a : ℕ) (q : Request) (b : Bool) → SameSets (s.words.actors a) (ask (s.words.actors a) (s.words.actors a).place q)
-      → SameSets (s.words.actors a) ((cond b (on_words s (world.now s.words a (ask (s.words.actors a) (s.words.actors a).place q))) s).words.actors a)
-  asked_by s a q true h = subst (SameSets (s.words.actors a)) (sym (put-same s.words.actors a (ask (s.words.actors a) (s.words.actors a).place q))) h
+  asked_by : (s : Boosted X Out) (a : ℕ) (q : Request) (b : Bool) → SameSets (s.words.actors a)
+      (ask (s.words.actors a) (s.words.actors a).place q)
+      → SameSets (s.words.actors a)
+      ((cond b (on_words s (world.now s.words a (ask (s.words.actors a) (s.words.actors a).place q))) s).words.actors a)
+  asked_by s a q true h = subst (SameSets (s.words.actors a)) (sym (put-same s.words.actors a
+      (ask (s.words.actors a) (s.words.actors a).place q))) h
   asked_by s a q false h = (refl, refl)
 
-  pub asked_sets : (s : Boosted X Out) (a : ℕ) (q : Request) → IsNoWrite q → SameSets (s.words.actors a) ((acts c s (OnWords (world.Ask a q))).words.actors a)
+  pub asked_sets : (s : Boosted X Out) (a : ℕ) (q : Request) → IsNoWrite q
+      → SameSets (s.words.actors a) ((acts c s (OnWords (world.Ask a q))).words.actors a)
   asked_sets s a q h = by q (ask_sets (s.words.actors a) (s.words.actors a).place q h) h
     where
       by : (q : Request) → SameSets (s.words.actors a) (ask (s.words.actors a) (s.words.actors a).place q) → IsNoWrite q
@@ -263,7 +278,8 @@ module _ {X Op Out : Type 0} (c : Content X Op Out) where
       by word.AskClose k h = asked_by s a word.AskClose true k
       by (word.AskRead l) k h = asked_by s a (word.AskRead l) true k
 
-  pub moved_sets : (s : Boosted X Out) (a : ℕ) → IsNoRead (s.words.actors a).place → SameSets (s.words.actors a) ((acts c s (OnWords (world.Step a))).words.actors a)
+  pub moved_sets : (s : Boosted X Out) (a : ℕ) → IsNoRead (s.words.actors a).place
+      → SameSets (s.words.actors a) ((acts c s (OnWords (world.Step a))).words.actors a)
   moved_sets s a h =
       let x = s.words.actors a in
       subst (SameSets x) (sym (moved_is s a x x.place refl)) (step_sets s.words x x.place h)

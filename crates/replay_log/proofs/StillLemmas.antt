@@ -43,7 +43,8 @@ module _ {X Out : Type 0} where
     shadows = λ b ne. h.shadows b ne ∙ g.shadows b ne;
   }
 
-  turned_still : (s : Boosted X Out) (a : ℕ) (t : Words) → t.clock ≡ s.words.clock → t.locks ≡ s.words.locks → t.values ≡ s.words.values → Still a s (on_words s t)
+  turned_still : (s : Boosted X Out) (a : ℕ) (t : Words) → t.clock ≡ s.words.clock → t.locks ≡ s.words.locks → t.values ≡ s.words.values
+      → Still a s (on_words s t)
   turned_still s a t e f g = record { clock = e; locks = f; values = g; gates = refl; parts = refl; editions = refl; shadows = λ b ne. refl }
 
   if_still : (s t : Boosted X Out) (a : ℕ) (b : Bool) → Still a s t → Still a s (cond b t s)
@@ -58,9 +59,11 @@ module _ {X Op Out : Type 0} (c : Content X Op Out) where
       now q = world.now s.words a (word.ask (s.words.actors a) (s.words.actors a).place q)
 
       by : (q : word.Request) → Still a s (acts c s (OnWords (world.Ask a q)))
-      by (word.AskWrite l v) = if_still s (on_words s (now (word.AskWrite l v))) a (c.plain l) (turned_still s a (now (word.AskWrite l v)) refl refl refl)
+      by (word.AskWrite l v) = if_still s (on_words s (now (word.AskWrite l v))) a (c.plain l)
+          (turned_still s a (now (word.AskWrite l v)) refl refl refl)
       by word.AskStore =
-          if_still s (on_words s (now word.AskStore)) a (every (is_held c s a) (locations (s.words.actors a).writes)) (turned_still s a (now word.AskStore) refl refl refl)
+          if_still s (on_words s (now word.AskStore)) a (every (is_held c s a) (locations (s.words.actors a).writes))
+          (turned_still s a (now word.AskStore) refl refl refl)
       by word.AskRelease =
           if_still s (on_words s (now word.AskRelease)) a (every (is_given c s a) (locations (s.words.actors a).writes))
           (turned_still s a (now word.AskRelease) refl refl refl)
@@ -110,10 +113,12 @@ module _ {V : Type 0} where
   reads_still v u a x l (told.Number i) h = ask_still v u a (word.AskRead l) h
   reads_still v u a x l n h = ask_still v u a (word.AskRead l) h
 
-  pub fresh_still : (v u : World V) (a : ℕ) (x : Seat V) (d : ℕ × ℕ) (i : ℕ) (next : After V) → StillIn a v u → StillIn a v next.0 → StillIn a v (is_fresh u a x d i next).0
+  pub fresh_still : (v u : World V) (a : ℕ) (x : Seat V) (d : ℕ × ℕ) (i : ℕ) (next : After V) → StillIn a v u → StillIn a v next.0
+      → StillIn a v (is_fresh u a x d i next).0
   fresh_still v u a x d i next h n = choose_still a v (eqb d.1 i) next _ n (cancels_still v u a (because x (refusal.Stale d.0 d.1 i)) h)
 
-  judges_still : (v u : World V) (a : ℕ) (x : Seat V) (o : Answered V) (d : ℕ × ℕ) (es : Entries) (next : After V) (r : Option ℕ) → StillIn a v u → StillIn a v next.0
+  judges_still : (v u : World V) (a : ℕ) (x : Seat V) (o : Answered V) (d : ℕ × ℕ) (es : Entries) (next : After V) (r : Option ℕ)
+      → StillIn a v u → StillIn a v next.0
       → StillIn a v (judges u a x o d es next r).0
   judges_still v u a x o d es next None h n = ask_still v u a (word.AskRead d.0) h
   judges_still v u a x o d es next (Some i) h n = fresh_still v u a x d i next h n
@@ -122,9 +127,11 @@ module _ {V : Type 0} where
   loads_still [] v u a x o h =
       let c = content u.words u.blocks in
       still_then a v.boosted u.boosted _ h (accepted_still c u.boosted a (outcome_at u a o.asked))
-  loads_still (d ∷ es) v u a x o h = judges_still v u a x o d es (loads u a x o es) (lookup (actor_of u a).reads d.0) h (loads_still es v u a x o h)
+  loads_still (d ∷ es) v u a x o h = judges_still v u a x o d es (loads u a x o es) (lookup (actor_of u a).reads d.0) h
+      (loads_still es v u a x o h)
 
-  pub answers_still : (v u : World V) (a : ℕ) (before x : Seat V) (o : Answered V) (editions : ℕ → ℕ) → StillIn a v u → StillIn a v (answers u a before x o editions).0
+  pub answers_still : (v u : World V) (a : ℕ) (before x : Seat V) (o : Answered V) (editions : ℕ → ℕ) → StillIn a v u
+      → StillIn a v (answers u a before x o editions).0
   answers_still v u a before x o editions h =
       let c = content u.words u.blocks in
       choose_still a v (has_room (actor_of u a) (c.reads o) (c.writes o)) (loads u a x o (with_editions editions (c.reads o))) _
@@ -132,11 +139,14 @@ module _ {V : Type 0} where
 
   calls_on_still : (v u : World V) (a : ℕ) (x : Seat V) (asked : Asked V) → StillIn a v u → StillIn a v (calls_on u a x asked).0
   calls_on_still v u a x asked h =
-      choose_still a v (x.copied asked.collection (piece_at u.blocks asked)) _ _ (answers_still v u a x x (outcome_at u a asked) (u.boosted.shadows a).editions h) h
+      choose_still a v (x.copied asked.collection (piece_at u.blocks asked)) _ _
+      (answers_still v u a x x (outcome_at u a asked) (u.boosted.shadows a).editions h) h
 
-  allowed_still : (v : World V) (a : ℕ) (x : Seat V) (known room : Bool) (next : After V) → StillIn a v next.0 → StillIn a v (if_allowed v a x known room next).0
+  allowed_still : (v : World V) (a : ℕ) (x : Seat V) (known room : Bool) (next : After V) → StillIn a v next.0
+      → StillIn a v (if_allowed v a x known room next).0
   allowed_still v a x known room next h =
-      choose_still a v known _ _ (choose_still a v (nat_lt (length x.calls) CALL_LIMIT && room) next _ h (still a v.boosted)) (still a v.boosted)
+      choose_still a v known _ _ (choose_still a v (nat_lt (length x.calls) CALL_LIMIT && room) next _ h (still a v.boosted))
+      (still a v.boosted)
 
   op_still : (v : World V) (a : ℕ) (x : Seat V) (t : ℕ) (op : Op V) → StillIn a v (ask_op v a x t op).0
   op_still v a x t Read = allowed_still v a x _ _ _ (reads_still v v a x t _ (still a v.boosted))

@@ -1,7 +1,7 @@
--- What a world shows is the state whose words and parts it has. A collection taken apart into the parts of its block and put together again is itself,
--- whatever its kind: a base is the whole of its parts, and the view of a collection is that of no other. Block after block, so is the list of all.
--- Then, one lemma for each function of the definitions, which events add to the records and to the aborted transactions: each function leaves both, but
--- for the steps that commit and the one that ends an aborted transaction.
+-- What a world shows is the state whose words and parts it has. A collection taken apart into the parts of its block and put together
+-- again is itself, whatever its kind: a base is the whole of its parts, and the view of a collection is that of no other. Block after
+-- block, so is the list of all. Then, one lemma for each function of the definitions, which events add to the records and to the aborted
+-- transactions: each function leaves both, but for the steps that commit and the one that ends an aborted transaction.
 use Rattle.std.proofs.Common.{◌≡◌, ℕ, zero, suc, ◌+◌, ◌<◌, ◌≤◌, ltb, Bool, true, false, cond, List, [], ◌∷◌, ◌++◌, length, Option, Some, None, refl, sym, ap, ◌∙◌, arith, lt-ltb, le-ltb}
 use Rattle.std.specs.Prelude.{not, ◌||◌, ◌&&◌, ◌==◌, nat_lt, map, get_or}
 use Rattle.std.proofs.lemmas.List.{append-nil, ext_get_or}
@@ -63,7 +63,8 @@ module _ {V : Type 0} where
   held_viewed (Queue head items) = queue_laws.laws.views_decide (Queue head items) (queue_view head items) refl
 
   -- the first collection is the one whose parts stand in its block
-  first_is : (f : ℕ) (b : Block) (bs : List Block) (h : Held V) (hs : List (Held V)) (v : ℕ → Shown V) → 0 < b.stripes → Suit (b ∷ bs) (h ∷ hs)
+  first_is : (f : ℕ) (b : Block) (bs : List Block) (h : Held V) (hs : List (Held V)) (v : ℕ → Shown V) → 0 < b.stripes
+      → Suit (b ∷ bs) (h ∷ hs)
       → ((l : ℕ) → f ≤ l → l < end_of f (b ∷ bs) → v l ≡ shown_from f (b ∷ bs) (h ∷ hs) l) → held_of (seen b f v) ≡ h
   first_is f b bs h hs v pos suit same =
       let above = end_above (f + size b) bs in
@@ -86,7 +87,8 @@ module _ {V : Type 0} where
 
   pub shows_state : (w : World V) (s : Contents V) → HaveStripes w.blocks → Holds w s → state w ≡ s
   shows_state w s pos h =
-      ap (λ (ws : List ℕ). record { words = ws; held = held_from w.words w.blocks w.boosted.parts }) (words_are w.words w.boosted.words.values s.words h.count h.words)
+      ap (λ (ws : List ℕ). record { words = ws; held = held_from w.words w.blocks w.boosted.parts })
+      (words_are w.words w.boosted.words.values s.words h.count h.words)
       ∙ ap (λ (hs : List (Held V)). record { words = s.words; held = hs })
       (held_is w.words w.blocks s.held w.boosted.parts pos h.suit
       (λ l ge lt. h.held l (in_blocks w.words w.blocks l ge lt) ∙ behind w.words w.blocks s.held l ge))
@@ -107,8 +109,8 @@ module _ {V : Type 0} where
   fresh_adds : (w : World V) (a : ℕ) (x : Seat V) (d : ℕ × ℕ) (v : ℕ) (next : After V) → Adds w next.0 → Adds w (is_fresh w a x d v next).0
   fresh_adds w a x d v next g = choose_adds w (d.1 == v) next _ g (gives_up_adds w a (because x (refusal.Stale d.0 d.1 v)) [])
 
-  judges_adds : (w : World V) (a : ℕ) (x : Seat V) (o : Answered V) (d : ℕ × ℕ) (es : Entries) (next : After V) (v : Option ℕ) → Adds w next.0
-      → Adds w (judges w a x o d es next v).0
+  judges_adds : (w : World V) (a : ℕ) (x : Seat V) (o : Answered V) (d : ℕ × ℕ) (es : Entries) (next : After V) (v : Option ℕ)
+      → Adds w next.0 → Adds w (judges w a x o d es next v).0
   judges_adds w a x o d es next None g = (refl, refl)
   judges_adds w a x o d es next (Some v) g = fresh_adds w a x d v next g
 
@@ -124,12 +126,15 @@ module _ {V : Type 0} where
 
   calls_on_adds : (w : World V) (a : ℕ) (x : Seat V) (asked : Asked V) → Adds w (calls_on w a x asked).0
   calls_on_adds w a x asked =
-      choose_adds w (x.copied asked.collection (piece_at w.blocks asked)) (answers w a x x (outcome_at w a asked) (w.boosted.shadows a).editions) _
+      choose_adds w (x.copied asked.collection (piece_at w.blocks asked))
+      (answers w a x x (outcome_at w a asked) (w.boosted.shadows a).editions) _
       (answers_adds w a x x (outcome_at w a asked) (w.boosted.shadows a).editions) (refl, refl)
 
-  allowed_adds : (w : World V) (a : ℕ) (x : Seat V) (known room : Bool) (next : After V) → Adds w next.0 → Adds w (if_allowed w a x known room next).0
+  allowed_adds : (w : World V) (a : ℕ) (x : Seat V) (known room : Bool) (next : After V) → Adds w next.0
+      → Adds w (if_allowed w a x known room next).0
   allowed_adds w a x known room next g =
-      choose_adds w known (cond (nat_lt (length x.calls) CALL_LIMIT && room) next (w, Refused a refusal.TooLong)) (w, Refused a refusal.NoSuch)
+      choose_adds w known (cond (nat_lt (length x.calls) CALL_LIMIT && room) next (w, Refused a refusal.TooLong))
+      (w, Refused a refusal.NoSuch)
       (choose_adds w (nat_lt (length x.calls) CALL_LIMIT && room) next (w, Refused a refusal.TooLong) g (refl, refl)) (refl, refl)
 
   reads_adds : (w : World V) (a : ℕ) (x : Seat V) (l : ℕ) (n : told.Notice) → Adds w (reads w a x l n).0
@@ -147,7 +152,8 @@ module _ {V : Type 0} where
       let y = actor_of w a in
       allowed_adds w a x (nat_lt t w.words) (y.declared || (not (is_none (lookup y.writes t)) || fits y.reads (t ∷ []))) _
       (reads_adds w a x t (told.reply y y.place (word.AskRead t)))
-  op_adds w a x t (Write v) = allowed_adds w a x (nat_lt t w.words && not (actor_of w a).declared) (fits (actor_of w a).writes (t ∷ [])) _ (refl, refl)
+  op_adds w a x t (Write v) =
+      allowed_adds w a x (nat_lt t w.words && not (actor_of w a).declared) (fits (actor_of w a).writes (t ∷ [])) _ (refl, refl)
   op_adds w a x t op = collection_adds w a x t op
 
   commits_adds : (w : World V) (a : ℕ) (x : Seat V) (es : Entries) → Adds w (commits w a x es).0
@@ -199,7 +205,8 @@ module _ {V : Type 0} where
   tried_adds w a x false k got again next zero = gives_up_adds w a (because x (refusal.GateBusy k)) got
   tried_adds w a x false k got again next (suc n) = (refl, refl)
 
-  loaded_adds : (w : World V) (a : ℕ) (x : Seat V) (o : Answered V) (d : ℕ × ℕ) (es : Entries) (n : told.Notice) → Adds w (has_loaded w a x o d es n).0
+  loaded_adds : (w : World V) (a : ℕ) (x : Seat V) (o : Answered V) (d : ℕ × ℕ) (es : Entries) (n : told.Notice)
+      → Adds w (has_loaded w a x o d es n).0
   loaded_adds w a x o d es (told.Number v) = fresh_adds w a x d v (loads w a x o es) (loads_adds w a x o es)
   loaded_adds w a x o d es (told.Moved i word) = (refl, refl)
   loaded_adds w a x o d es n = (refl, refl)

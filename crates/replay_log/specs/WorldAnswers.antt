@@ -6,7 +6,7 @@ use Rattle.seq_model.specs.declared.refusal.Refusal.TheVariants.{Exhausted, TooL
 use Rattle.seq_model.specs.declared.event.Notice.{Notice}
 use Rattle.seq_model.specs.declared.event.Notice.TheVariants.{Refused}
 use Rattle.replay_log.specs.WorldStill.{Same}
-use Rattle.replay_log.specs.Worlds.{World, Seat, Stage, Idle, Beginning, Open, Copying, Leaving, Ready, Storing, Homing, at_stage, actor_of}
+use Rattle.replay_log.specs.Worlds.{World, Stage, Idle, Beginning, Open, Copying, Leaving, Ready, Storing, Homing, at_stage, actor_of}
 
 module _ {V : Type 0} where
   abbrev pub IsRefusal : Notice V → Type 0

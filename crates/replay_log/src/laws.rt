@@ -4,11 +4,14 @@ ghost use Rattle.seq_model.specs.declared.event.Event.{Event};
 ghost use Rattle.seq_model.specs.declared.event.Event.TheVariants.{Ask, Step, Starve};
 ghost use Rattle.seq_model.specs.declared.event.Request.{Request};
 ghost use Rattle.seq_model.specs.declared.event.Answer.TheVariants.{Begun};
-ghost use Rattle.seq_model.specs.declared.event.Notice.TheVariants.{Answered, Refused};
+ghost use Rattle.seq_model.specs.declared.event.Notice.TheVariants.{Quiet, Answered, Refused};
 ghost use Rattle.seq_model.specs.declared.refusal.Refusal.TheVariants.{NoSuch};
 ghost use Rattle.seq_model.specs.declared.call.Call.{Call};
 ghost use Rattle.seq_model.specs.declared.held.Held.{Held};
 ghost use Rattle.word_machine.specs.Opacity.{first_read};
+ghost use Rattle.vlock_word.specs.declared.lock_word.LockWord.TheVariants.{Free, Locked};
+ghost use Rattle.tx_sets.specs.Entries.{Entries, lookup};
+ghost use Rattle.word_machine.specs.World.{put};
 ghost use Rattle.conflict.specs.declared.change.Change.{Change};
 ghost use Rattle.conflict.specs.Rules.{FrameLaws};
 ghost use Rattle.base_map.specs.Conflicts as map;
@@ -23,11 +26,12 @@ ghost use Rattle.replay_log.specs.Contents.{Block, Asked, HaveStripes, content, 
 ghost use Rattle.replay_log.specs.Collections.{Suit, shown_at};
 ghost use Rattle.replay_log.specs.Log.{RaisesEach, KeepsOthers};
 ghost use Rattle.replay_log.specs.Parts.{IsWhole, AnswersByParts, KnowsItsCalls, LeavesOtherParts, ChangesByPart};
-ghost use Rattle.replay_log.specs.Worlds.{World, Open, Beginning, Leaving, is_change, actor_of, why, happens, run, opened};
+ghost use Rattle.replay_log.specs.Worlds.{World, Idle, Open, Beginning, Cancelling, Leaving, is_change, actor_of, why, happens, run, opened};
 ghost use Rattle.replay_log.specs.WorldTraces.{trace, is_half_done, committed_by, with_record, ended_by};
 ghost use Rattle.seq_model.specs.Runs.{after_run as state_after};
 ghost use Rattle.replay_log.specs.WorldRefusals.{HasCause, is_calling, is_ending};
-ghost use Rattle.replay_log.specs.WorldStill.{Still};
+ghost use Rattle.replay_log.specs.WorldStill.{Still, Same};
+ghost use Rattle.replay_log.specs.WorldAnswers.{IsRefusal, IsRefusedAt, RefusedBy, Untouched, changes_at};
 ghost use Rattle.replay_log.specs.WorldAlone.{IsAlone, IsFree, TellsConflict, IsUnstarved, TellsMemory};
 ghost use Rattle.replay_log.specs.WorldProgress.{AreSmall, IsQuiet, Nears, left_of, whose};
 ghost use Rattle.replay_log.specs.WorldSerial.{AreUpTo, IsSerial, SawAt};
@@ -153,6 +157,43 @@ pub fn refusals<V: Value>()
     ensures stays { (w : World V) (a : ℕ) → is_ending (w.seats a).stage ≡ true → is_ending ((happens w (Step a)).0.seats a).stage ≡ true →
         ((happens w (Step a)).0.seats a).cause ≡ (w.seats a).cause }
     ensures told { (w : World V) (a : ℕ) → (w.seats a).stage ≡ Leaving → (happens w (Step a)).1 ≡ why a (w.seats a).cause }
+{}
+
+/// What a refusal says as it is answered. A request that is refused changes nothing. A step is refused where none is due, as a
+/// transaction begins at the limit of the clock, as a call that was copied for finds no room in the sets (its transaction is as
+/// before the call, with the same pieces copied), and by the last step of a request, which tells the cause that was found; and
+/// nowhere else. So a commit goes on from its first value store to its last release. A want of memory changes nothing there, nor
+/// while a transaction is being given up.
+pub fn answers<V: Value>()
+    ensures asked { (w : World V) (a : ℕ) (q : Request V) → IsRefusal (happens w (Ask a q)).1 → Same w (happens w (Ask a q)).0 }
+    ensures stepped { (blocks : List Block) (clock : ℕ) (values : List ℕ) (held : List (Held V)) (events : List (Event V)) (a : ℕ) → HaveStripes blocks →
+        let w = run (opened blocks clock values held) events in
+        let r = happens w (Step a) in
+        RefusedBy a (IsRefusedAt w a (w.seats a).stage r.0) r.1 }
+    ensures goes_on { (w : World V) (a : ℕ) → is_half_done (w.seats a).stage ≡ true → IsQuiet (happens w (Step a)).1 →
+        is_half_done ((happens w (Step a)).0.seats a).stage ≡ true }
+    ensures starved_late { (w : World V) (a : ℕ) → is_half_done (w.seats a).stage ≡ true → happens w (Starve a) ≡ (w, Quiet) }
+    ensures starved_end { (w : World V) (a : ℕ) → is_ending (w.seats a).stage ≡ true → happens w (Starve a) ≡ (w, Quiet) }
+{}
+
+/// What a refusal leaves. A step stores a value only where a commit does, and changes a base only where a commit takes it home; so a
+/// transaction that is being given up leaves them. A lock that it holds keeps its old version until it goes back with it, one lock a
+/// step. An actor at rest holds no lock and no gate.
+pub fn given_up<V: Value>()
+    ensures untouched { (blocks : List Block) (clock : ℕ) (values : List ℕ) (held : List (Held V)) (events : List (Event V)) (a : ℕ) → HaveStripes blocks →
+        let w = run (opened blocks clock values held) events in
+        changes_at (w.seats a).stage ≡ false → Untouched w (happens w (Step a)).0 }
+    ensures locked { (blocks : List Block) (clock : ℕ) (values : List ℕ) (held : List (Held V)) (events : List (Event V)) (a l k : ℕ) → HaveStripes blocks →
+        let w = run (opened blocks clock values held) events in
+        lookup (actor_of w a).held l ≡ Some k → w.boosted.words.locks l ≡ Locked k }
+    ensures back { (blocks : List Block) (clock : ℕ) (values : List ℕ) (held : List (Held V)) (events : List (Event V)) (a l k : ℕ) (rest : Entries) → HaveStripes blocks →
+        let w = run (opened blocks clock values held) events in
+        let u = (happens w (Step a)).0 in
+        (w.seats a).stage ≡ Cancelling → (actor_of w a).held ≡ (l, k) ∷ rest →
+        (u.boosted.words.locks ≡ put w.boosted.words.locks l (Free k)) × ((actor_of u a).held ≡ rest) }
+    ensures rests { (blocks : List Block) (clock : ℕ) (values : List ℕ) (held : List (Held V)) (events : List (Event V)) (a : ℕ) → HaveStripes blocks →
+        let w = run (opened blocks clock values held) events in
+        (w.seats a).stage ≡ Idle → ((actor_of w a).held ≡ []) × ((k : ℕ) → w.boosted.gates k ≢ Some a) }
 {}
 
 /// A transaction beside which no other actor steps between its begin and its end, and at whose begin no lock and no gate is held, is
