@@ -11,12 +11,13 @@ use Rattle.seq_model.specs.Calls.{held_call, IsWithinLimits}
 use Rattle.conflict.specs.declared.change.Change.{Change}
 use Rattle.conflict.specs.declared.outcome.Outcome.{Outcome}
 use Rattle.collection_machine.specs.Content.{IsIn, has}
-use Rattle.collection_machine.specs.States.{Model}
+use Rattle.collection_machine.proofs.States.{Model}
 use Rattle.collection_machine.proofs.Parts.{is_in, in_has, out_has}
 use Rattle.replay_log.specs.Base.{Shown, OfMap, after, changes_of, outcome_of, writes_of}
 use Rattle.replay_log.specs.Parts.{Kind, MapKind, BagKind, PqKind, QueueKind, kind_of, part, whole}
 use Rattle.replay_log.specs.Contents.{Block, size, block_of, first_of, HaveStripes, shifted, blank, seen, answer, changed, content}
-use Rattle.replay_log.specs.Collections.{kind_of_held, viewed, Suit, shown_from, shown_at, reply_at, called, after_call}
+use Rattle.replay_log.specs.Collections.{kind_of_held, viewed, Suit, shown_from, shown_at}
+use Rattle.replay_log.proofs.CollectionRuns.{reply_at, called, after_call}
 use Rattle.replay_log.proofs.PartLemmas.{is_whole, leaves_other_parts, whole_local}
 use Rattle.replay_log.proofs.ContentLemmas.{shifted_in, written_at, first_above, same_block, no_block, positive_at}
 use Rattle.replay_log.proofs.HeldLemmas.{Keeps, follows, unknown, keeps}

@@ -4,6 +4,7 @@ pub mod JoinLemmas
 pub mod PartLemmas
 pub mod ReadLemmas
 pub mod ContentLemmas
+pub mod CollectionRuns
 pub mod HeldLemmas
 pub mod CollectionLemmas
 pub mod WorldLemmas
@@ -22,3 +23,9 @@ pub mod ProgressLemmas
 pub mod RefusalLemmas
 pub mod MemoLemmas
 pub mod DeclaredLemmas
+pub mod SetLemmas
+pub mod SizeLemmas
+pub mod DueLemmas
+pub mod StillLemmas
+pub mod AloneActions
+pub mod AloneLemmas

@@ -29,8 +29,9 @@ use Rattle.collection_machine.proofs.Invariant.{Inv}
 use Rattle.collection_machine.proofs.Schedules.{edition_few, all_ok, all-opening, all_words_saw, opens_ok}
 use Rattle.replay_log.specs.Base.{Shown}
 use Rattle.replay_log.specs.Contents.{Block, Asked, Answered, HaveStripes, is_plain, content}
-use Rattle.replay_log.specs.Collections as collections
-use Rattle.replay_log.specs.Collections.{Suit, AreReplies, IsRunOn, held_at, shown_at}
+use Rattle.replay_log.proofs.CollectionRuns as collections
+use Rattle.replay_log.specs.Collections.{Suit, shown_at}
+use Rattle.replay_log.proofs.CollectionRuns.{AreReplies, IsRunOn, held_at}
 use Rattle.replay_log.specs.Worlds.{is_half_done, World, Seat, Stage, Idle, Beginning, Open, Locking, Releasing, Closing, Cancelling, Leaving, Reading, Trying, Copying, Loading, Gating, Ready, Storing, Homing, Returning, Ended, run, opened}
 use Rattle.std.proofs.Common.{◌≤◌, cond, Bool}
 use Rattle.std.specs.Prelude.{nat_lt}

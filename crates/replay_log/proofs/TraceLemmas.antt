@@ -2,7 +2,7 @@
 -- whatever its kind: a base is the whole of its parts, and the view of a collection is that of no other. Block after block, so is the list of all.
 -- Then, one lemma for each function of the definitions, which events add to the records and to the aborted transactions: each function leaves both, but
 -- for the steps that commit and the one that ends an aborted transaction.
-use Rattle.std.proofs.Common.{◌≡◌, ℕ, zero, suc, ◌+◌, ◌-◌, ◌<◌, ◌≤◌, ltb, Bool, true, false, cond, List, [], ◌∷◌, ◌++◌, length, Option, Some, None, refl, sym, ap, ◌∙◌, subst, arith, lt-ltb, le-ltb}
+use Rattle.std.proofs.Common.{◌≡◌, ℕ, zero, suc, ◌+◌, ◌<◌, ◌≤◌, ltb, Bool, true, false, cond, List, [], ◌∷◌, ◌++◌, length, Option, Some, None, refl, sym, ap, ◌∙◌, arith, lt-ltb, le-ltb}
 use Rattle.std.specs.Prelude.{not, ◌||◌, ◌&&◌, ◌==◌, nat_lt, map, get_or}
 use Rattle.std.proofs.lemmas.List.{append-nil, ext_get_or}
 use Rattle.std.proofs.lemmas.List.FromFn.{get_or-map-range_with_len, length-map-range_with_len}
@@ -28,7 +28,7 @@ use Rattle.collection_machine.specs.Boosted.{TakeGate, PutGate, GoHome, is_none}
 use Rattle.replay_log.specs.Base.{Shown, held_of}
 use Rattle.replay_log.specs.Parts.{part, whole}
 use Rattle.replay_log.specs.Contents.{Block, Asked, Answered, block_of, size, end_of, is_plain, HaveStripes, seen, content}
-use Rattle.replay_log.specs.Collections.{viewed, Suit, shown_from, shown_at}
+use Rattle.replay_log.specs.Collections.{viewed, Suit, shown_from}
 use Rattle.replay_log.specs.Pieces.{piece_at, covers_at}
 use Rattle.replay_log.specs.Seats.{World, Seat, Ended, After, Stage, Idle, Open, Beginning, Reading, Trying, Copying, Loading, Locking, Gating, Ready, Storing}
 use Rattle.replay_log.specs.Seats.{Homing, Releasing, Closing, Returning, Cancelling, Leaving, because, acted, asks, moves, actor_of, word_notice}

@@ -10,8 +10,12 @@ pub mod WorldCalls
 pub mod WorldCommits
 pub mod WorldTraces
 pub mod Worlds
-pub mod WorldVectors
+pub mod WorldScripts
+pub mod CallVectors
+pub mod CommitVectors
 pub mod WorldSerial
 pub mod Guards
 pub mod WorldProgress
 pub mod WorldRefusals
+pub mod WorldStill
+pub mod WorldAlone

@@ -1,5 +1,5 @@
--- What a world shows at a moment: its records, its aborted transactions, what its words and bases hold, and its half-done commits; and which
--- steps add to the records and to the aborted transactions.
+-- What a world shows at a moment: its records, its aborted transactions, what its words and bases hold, and its half-done commits; and
+-- which steps add to the records and to the aborted transactions.
 use Rattle.std.specs.Prelude.{ℕ, ◌+◌, Bool, true, false, ◌&&◌, ◌==◌, if◌then◌else◌, List, [], ◌∷◌, map, Option, Some, None}
 use Rattle.seq_model.specs.declared.held.Held.{Held}
 use Rattle.seq_model.specs.declared.record.Record.{Record}
@@ -47,7 +47,8 @@ module _ {V : Type 0} where
   abbrev pub trace : World V → Trace V
   trace w = record { records = w.records; aborted = w.aborted; state = state w; half = half w }
 
-  -- what the next step of an actor commits: the first value store of a writer, and the load of the clock that ends a transaction without writes
+  -- what the next step of an actor commits: the first value store of a writer, and the load of the clock that ends a transaction without
+  -- writes
   abbrev pub committed_by : Seat V → Stage V → Option (Record V)
   committed_by x (Ready ks) = Some (record { number = x.wv; writes = true; calls = x.calls })
   committed_by x Closing = Some (record { number = x.rv; writes = false; calls = x.calls })
