@@ -9,4 +9,3 @@ mod run;
 
 pub use print::print_trace;
 pub use run::{ScriptRun, run_script};
-

@@ -149,10 +149,10 @@ leaves_due v u a q answer r allowed asks none =
     let told = asks s r.shows in
     let quiet : reply x x.place q ≡ Quiet = quiet_of (reply x x.place q) (sym (ap Ok none) ∙ told.1) in
     let here : allows (phase_of x x.place) q ≡ true = subst (λ (y : Actor). allows (phase_of y y.place) q ≡ true) (sym is)
-        (lawful v a q allowed).0 in
+    (lawful v a q allowed).0 in
     let plain : Writes q → x.declared ≡ false = λ w. ap (λ (y : Actor). y.declared) is ∙ writer_asks v a q allowed w in
     subst IsDue (sym (put-same s.actors a (ask x x.place q)) ∙ (told.0).actors a)
-        (ask_due s x x.place q (i.actors a).place here plain quiet)
+    (ask_due s x x.place q (i.actors a).place here plain quiet)
 
 not_some : {A : Type 0} → (o : Option A) → ((x : A) → o ≡ Some x → ⊥) → o ≡ None
 not_some None f = refl
@@ -161,6 +161,6 @@ not_some (Some x) f = absurd (f x refl)
 pub due_of : (v u : Shown) (a : ℕ) (q : Request) (r : Result (Option WordAnswer) WordRefusal) (named : Option WordRefusal) → Reached v
     → named ≡ refusal_of v a q
     → ((x : WordRefusal) → named ≡ Some x → ⊥) → IfOk r (λ answer. Asks v a q u answer)
-        → IfOk r (λ answer. answer ≡ None → 0 < steps_due u a)
+    → IfOk r (λ answer. answer ≡ None → 0 < steps_due u a)
 due_of v u a q (Ok answer) named r is other asks = λ none. leaves_due v u a q answer r (sym is ∙ not_some named other) asks none
 due_of v u a q (Err e) named r is other asks = tt

@@ -85,7 +85,7 @@ read_keeps x y l k v at_p at_q wv rs ws hs = record {
 pub take_keeps : (x y : Actor) (l k i : ℕ) → x.place ≡ Take l k i → y.place ≡ Lock i → y.wv ≡ x.wv → y.held.items ≡ x.held.items
     ++ (l, k) ∷ [] → deque_len y.held ≡ deque_len x.held + 1 → deque_capacity y.held ≡ deque_capacity x.held
     → y.reads.entries ≡ x.reads.entries → y.writes.entries ≡ x.writes.entries → length y.writes.entries ≡ length x.writes.entries
-        → Keeps x y
+    → Keeps x y
 take_keeps x y l k i at_p at_q wv hs len most rs ws w = record {
   fits = λ n f. (let pl = subst (FitsPlace n x) at_p f.place in record {
     reads = subst (All (λ (e : ℕ × ℕ). e.0 < n)) (sym rs) f.reads;

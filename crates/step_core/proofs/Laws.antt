@@ -33,11 +33,11 @@ saw_of v r a =
     let s = run r.events (start r.clock r.opening) in
     let i : Inv s = reached r.clock r.opening r.events in
     let now : IsLegal (memory_after s.opening (upto (s.actors a).rv s.history)) (s.actors a).calls = legal_of s (s.actors a).rv
-        (s.actors a).calls (actor_saw s a i) in
+    (s.actors a).calls (actor_saw s a i) in
     subst (λ (x : machine.Actor). IsLegal (memory_after r.opening (upto x.rv (in_order [] v.history))) x.calls) (r.shows.actors a)
     (subst (λ (h : List Record). IsLegal (memory_after r.opening (upto (s.actors a).rv h)) (s.actors a).calls) r.shows.history
     (subst (λ (m : Memory). IsLegal (memory_after m (upto (s.actors a).rv s.history)) (s.actors a).calls)
-        (opened_at r.clock r.opening r.events) now))
+    (opened_at r.clock r.opening r.events) now))
 
 serial_of : (v : Shown) (r : Reached v) → IsRun r.opening (in_order [] v.history)
 serial_of v r =
@@ -49,7 +49,7 @@ words_of : (v : Shown) (r : Reached v) → IsAtRest v → (l : ℕ) → get_or v
 words_of v r rest l =
     let s = run r.events (start r.clock r.opening) in
     let end = words_at_rest s (reached r.clock r.opening r.events)
-        (λ a half. rest a (subst (λ (x : machine.Actor). IsHalfDone x.place) (r.shows.actors a) half)) l in
+    (λ a half. rest a (subst (λ (x : machine.Actor). IsHalfDone x.place) (r.shows.actors a) half)) l in
     sym (r.shows.values l) ∙ end
     ∙ ap (λ (m : Memory). memory_after m s.history l) (opened_at r.clock r.opening r.events)
     ∙ ap (λ (h : List Record). memory_after r.opening h l) r.shows.history
@@ -94,8 +94,12 @@ has_cause v u a answer st = record {
   cause = λ r.
       let s = world_of v r in
       let x = s.actors a in
-      let now : IsAnswerOf s x answer = ((st s r.shows).1, notice_true s x x.place
-          ((reached r.clock r.opening r.events).actors a).place, notice_names s x x.place) in
+      let now : IsAnswerOf s x answer = (
+        (st s r.shows).1,
+        notice_true s x x.place
+            ((reached r.clock r.opening r.events).actors a).place,
+        notice_names s x x.place,
+      ) in
       subst (λ (y : machine.Actor). IsAnswerOf s y answer) (r.shows.actors a) now;
 }
 
@@ -120,7 +124,7 @@ keeps_others v u a answer r st =
       actors = λ b ne. sym (after.actors b) ∙ step_other s a b ne ∙ r.shows.actors b;
       words = λ b l k h ne. (
           let same = owned s (Step a) b l k (reached r.clock r.opening r.events)
-              (ap (λ (x : machine.Actor). lookup x.held l) (r.shows.actors b) ∙ h) ne in (
+          (ap (λ (x : machine.Actor). lookup x.held l) (r.shows.actors b) ∙ h) ne in (
             same_number (get_or u.locks l 0) (get_or v.locks l 0) (sym (after.locks l) ∙ same.0 ∙ r.shows.locks l),
             sym (after.values l) ∙ same.1 ∙ r.shows.values l,
           ));
@@ -132,7 +136,7 @@ begins_above v u a answer r st at_begin at_open =
     let s = run r.events (start r.clock r.opening) in
     let after = (st s r.shows).0 in
     let all = begins_at s a (reached r.clock r.opening r.events) (ap (λ (x : machine.Actor). x.place) (r.shows.actors a) ∙ at_begin)
-        (ap (λ (x : machine.Actor). x.place) (after.actors a) ∙ at_open) in
+    (ap (λ (x : machine.Actor). x.place) (after.actors a) ∙ at_open) in
     subst (λ (x : machine.Actor). AllUpto x.rv (in_order [] v.history)) (after.actors a)
     (subst (λ (h : List Record). AllUpto ((happens s (Step a)).actors a).rv h) r.shows.history all)
 
@@ -161,7 +165,7 @@ nears v u a answer r st =
     let after = (st s r.shows).0 in
     let before : steps_left x x.place ≡ steps_due v a = ap (λ (z : machine.Actor). steps_left z z.place) (r.shows.actors a) in
     let then_ : steps_left ((happens s (Step a)).actors a) ((happens s (Step a)).actors a).place
-        ≡ steps_due u a = ap (λ (z : machine.Actor). steps_left z z.place) (after.actors a) in
+    ≡ steps_due u a = ap (λ (z : machine.Actor). steps_left z z.place) (after.actors a) in
     record {
       fewer = λ h. (let q : steps_left ((happens s (Step a)).actors a)
           ((happens s (Step a)).actors a).place < steps_left x x.place = progress s a i (omega (arith, h, before)) in omega

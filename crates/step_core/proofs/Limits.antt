@@ -84,7 +84,7 @@ place_never : (n : ℕ) (x : machine.Actor) (q : Request) → x.declared ≡ tru
 place_never n x (AskRead l) d sets h =
     let none = sets (read_open x x.place l h) in
     if_never (nat_lt l n) (if_new (lookup x.writes l) (lookup x.reads l) x.reads) (Some NoSuch)
-        (λ _. room_in_none x.writes x.reads l none.1 none.0) such_never
+    (λ _. room_in_none x.writes x.reads l none.1 none.0) such_never
 place_never n x (AskWrite l v) d sets h = write_never n l x.declared (if_new (lookup x.writes l) None x.writes) d
 place_never n x q d sets h = none_never
 
@@ -94,7 +94,7 @@ never_too_long v a q r d =
     let s : World = run r.events (start r.clock r.opening) in
     let none : x.place ≡ machine.Open → (x.reads ≡ []) × (x.writes ≡ []) =
     subst (λ (y : machine.Actor). y.declared ≡ true → y.place ≡ machine.Open → (y.reads ≡ []) × (y.writes ≡ [])) (r.shows.actors a)
-        (has_no_sets s a (reached r.clock r.opening r.events)) d in
+    (has_no_sets s a (reached r.clock r.opening r.events)) d in
     if_never (is_actor a) (refusal_at (length v.values) x x.place q) (Some NoSuch)
     (λ _. if_never (allows (phase_of x x.place) q) (location_refusal (length v.values) x q) (Some (wrong_phase (phase_of x x.place) q))
     (place_never (length v.values) x q d none) (wrong_never (phase_of x x.place) q)) such_never

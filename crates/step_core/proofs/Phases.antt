@@ -122,7 +122,7 @@ pub limit_here : (w : Machine) (a : ℕ) (x : Actor) (n : ℕ) (q : Request) →
 limit_here w a x n q got same h =
     subst (λ (m : ℕ). location_refusal m (actor_of x) q ≡ None) (sym same)
     (subst (λ (z : machine.Actor). location_refusal (length w.values.items) z q ≡ None) (actor_at_go w.actors.items a x got)
-        (lawful (shown w) a q h).1)
+    (lawful (shown w) a q h).1)
 
 pub read_limit : (n : ℕ) (x : machine.Actor) (l : ℕ) → location_refusal n x (AskRead l) ≡ None
     → if_new (lookup x.writes l) (lookup x.reads l) x.reads ≡ None

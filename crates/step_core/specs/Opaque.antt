@@ -66,7 +66,7 @@ pub record KeepsOthers (v : Shown) (a : ℕ) (u : Shown) : Type 0 where
   pub actors : (b : ℕ) → b ≢ a → actor_in u b ≡ actor_in v b
   pub words :
       (b l k : ℕ) → lookup (actor_in v b).held l ≡ Some k → b ≢ a → (get_or u.locks l 0 ≡ get_or v.locks l 0)
-          × (get_or u.values l 0 ≡ get_or v.values l 0)
+      × (get_or u.values l 0 ≡ get_or v.values l 0)
 
 -- What a step of actor a answers is true of the words as they stood: a refusal names the location at which the actor stood and the word
 -- that was there, and that word is a cause of it.

@@ -120,7 +120,7 @@ abbrev pub Steps : Shown → ℕ → Shown → Result (Option WordAnswer) WordRe
 Steps v a u r =
     (s : World) → Shows v s
     → Shows u (happens s (Step a)) × (r ≡ result_of (notice s (s.actors a) (s.actors a).place))
-        × Lists v (outcome a (s.actors a) (s.actors a).place) u
+    × Lists v (outcome a (s.actors a) (s.actors a).place) u
 
 -- v becomes u by a request of actor a, which is answered so, or by a step of its own where the answer is None
 abbrev pub Asks : Shown → ℕ → Request → Shown → Option WordAnswer → Type 0

@@ -35,7 +35,7 @@ above-with_entry k [] l v h a = (h, tt)
 above-with_entry k (e ∷ es) l v h a =
     cond_both (ltb l e.0) ((l, v) ∷ (e ∷ es)) _ (AllAbove k) (λ _. (h, a))
     (λ _. cond_both (eqb l e.0) ((l, v) ∷ es) (e ∷ with_entry es l v) (AllAbove k) (λ _. (h, a.1))
-        (λ _. (a.0, above-with_entry k es l v h a.1)))
+    (λ _. (a.0, above-with_entry k es l v h a.1)))
 
 rising-with_entry : (es : Entries) (l v : ℕ) → Rising es → Rising (with_entry es l v)
 unfolding with_entry
@@ -44,8 +44,11 @@ rising-with_entry (e ∷ es) l v r =
     cond_both (ltb l e.0) ((l, v) ∷ (e ∷ es)) _ Rising (λ t. (let h = ltb-true l e.0 t in ((h, above_more l e.0 es h r.0), r)))
     (λ t. cond_both (eqb l e.0) ((l, v) ∷ es) (e ∷ with_entry es l v) Rising
     (λ q. (subst (λ (n : ℕ). AllAbove n es) (sym (eqb-true l e.0 q)) r.0, r.1))
-    (λ q. (above-with_entry e.0 es l v (let a = ltb-false l e.0 t in let b = eqb-false l e.0 q in omega
-        (arith, a, b)) r.0, rising-with_entry es l v r.1)))
+    (λ q. (
+      above-with_entry e.0 es l v (let a = ltb-false l e.0 t in let b = eqb-false l e.0 q in omega
+          (arith, a, b)) r.0,
+      rising-with_entry es l v r.1,
+    )))
 
 abbrev pub Distinct : List ℕ → Type 0
 Distinct [] = Unit {0}
@@ -183,9 +186,11 @@ again_alone s a l k v (Locked j) ok pl is = let z : Locked j ≡ Free k = sym is
 
 to_lock_alone : (s : World) (a l : ℕ) (ls : List ℕ) (w : LockWord) → AloneAt s a → AlonePlace s.locks (s.actors a) (Lock (l ∷ ls))
     → s.locks l ≡ w → Good s (to_lock s a (s.actors a) l ls w) a (lock_notice l w)
-to_lock_alone s a l ls (Free k) ok pl is =
-    (alone_put s.locks s.actors a (goes (s.actors a) (Take l k ls))
-        (goes_alone s.locks (s.actors a) (Take l k ls) ok (pl.0, pl.1, pl.2, is)), λ h. h)
+to_lock_alone s a l ls (Free k) ok pl is = (
+  alone_put s.locks s.actors a (goes (s.actors a) (Take l k ls))
+      (goes_alone s.locks (s.actors a) (Take l k ls) ok (pl.0, pl.1, pl.2, is)),
+  λ h. h,
+)
 to_lock_alone s a l ls (Locked k) ok pl is = absurd
     (subst IsFree is (free_word (s.locks l) (s.actors a).held l (ok.free l) (pl.2 l (inl refl))))
 
@@ -194,8 +199,17 @@ locked_alone : (s : World) (a l k : ℕ) (ls : List ℕ) → AloneAt s a → Alo
 locked_alone s a l k ls ok pl =
     let x = s.actors a in
     alone_put (put s.locks l (Locked k)) s.actors a
-        (record { place = Lock ls; declared = x.declared; rv = x.rv; wv = x.wv; reads = x.reads; writes = x.writes; held = x.held
-        ++ (l, k) ∷ []; calls = x.calls }) (record {
+    (record {
+      place = Lock ls;
+      declared = x.declared;
+      rv = x.rv;
+      wv = x.wv;
+      reads = x.reads;
+      writes = x.writes;
+      held = x.held
+          ++ (l, k) ∷ [];
+      calls = x.calls;
+    }) (record {
       free = λ i. put_both (λ (z : LockWord). IsFree z ⊎ ((j : ℕ) × (lookup (x.held ++ (l, k) ∷ []) i ≡ Some j))) s.locks l (Locked k) i
           (λ q. inr (k, ap (lookup (x.held ++ (l, k) ∷ [])) q ∙ lookup-push_same x.held l k (pl.2 l (inl refl))))
           (λ ne. elim (ok.free i) [ inl f ↦ inl f | inr h ↦ inr (h.0, lookup-push_other x.held l k i ne ∙ h.1) ]);
@@ -220,7 +234,7 @@ take_alone s a l k ls (Locked j) ok pl is = let z : Locked j ≡ Free k = sym is
 
 passes : (s : World) (a l k : ℕ) (ls : List ℕ) → AloneAt s a → Low s.locks (s.actors a) → k ≤ (s.actors a).rv
     → Good s (now s a (cond (leb k (s.actors a).rv) (goes (s.actors a) (Check ls)) (goes (s.actors a) Broken))) a
-        (cond (leb k (s.actors a).rv) (when_none_left ls (LockedAt (s.actors a).wv)) (Invalid l k))
+    (cond (leb k (s.actors a).rv) (when_none_left ls (LockedAt (s.actors a).wv)) (Invalid l k))
 passes s a l k ls ok pl low =
     let x = s.actors a in (
       cond_both (leb k x.rv) (goes x (Check ls)) (goes x Broken) (λ (z : Actor). AloneAt (now s a z) a)
@@ -252,19 +266,40 @@ check_alone s a l ls (Locked k) None ok pl is mine unheld = absurd
 
 -- a lock given back
 back_alone : (s : World) (a : ℕ) (f : ℕ × ℕ) (fs : Entries) (v : ℕ) (p : Place) → AloneAt s a → (s.actors a).held ≡ f ∷ fs
-    → AlonePlace (put s.locks f.0 (Free v)) (record { place = p; declared = (s.actors a).declared; rv = (s.actors a).rv; wv =
-        (s.actors a).wv; reads = (s.actors a).reads; writes = (s.actors a).writes; held = fs; calls = (s.actors a).calls }) p
+    → AlonePlace (put s.locks f.0 (Free v)) (record {
+      place = p;
+      declared = (s.actors a).declared;
+      rv = (s.actors a).rv;
+      wv =
+          (s.actors a).wv;
+      reads = (s.actors a).reads;
+      writes = (s.actors a).writes;
+      held = fs;
+      calls = (s.actors a).calls;
+    }) p
     → AloneOk (put s.locks f.0 (Free v)) (put s.actors a
-        (record { place = p; declared = (s.actors a).declared; rv = (s.actors a).rv; wv = (s.actors a).wv; reads =
-        (s.actors a).reads; writes = (s.actors a).writes; held = fs; calls = (s.actors a).calls }) a)
+    (record {
+      place = p;
+      declared = (s.actors a).declared;
+      rv = (s.actors a).rv;
+      wv = (s.actors a).wv;
+      reads =
+          (s.actors a).reads;
+      writes = (s.actors a).writes;
+      held = fs;
+      calls = (s.actors a).calls;
+    }) a)
 back_alone s a f fs v p ok has pl =
     let x = s.actors a in
     alone_put (put s.locks f.0 (Free v)) s.actors a
-        (record { place = p; declared = x.declared; rv = x.rv; wv = x.wv; reads = x.reads; writes = x.writes; held = fs; calls = x.calls }) (record {
+    (record { place = p; declared = x.declared; rv = x.rv; wv = x.wv; reads = x.reads; writes = x.writes; held = fs; calls = x.calls }) (record {
       free = λ i. put_both (λ (z : LockWord). IsFree z ⊎ ((j : ℕ) × (lookup fs i ≡ Some j))) s.locks f.0 (Free v) i
           (λ _. inl tt)
-          (λ ne. elim (ok.free i) [ inl q ↦ inl q | inr h ↦ inr
-              (h.0, sym (ap (λ (z : Entries). lookup z i) has ∙ lookup-tail f fs i ne) ∙ h.1) ]);
+          (λ ne. elim (ok.free i) [
+            | inl q ↦ inl q
+            | inr h ↦ inr
+                (h.0, sym (ap (λ (z : Entries). lookup z i) has ∙ lookup-tail f fs i ne) ∙ h.1)
+          ]);
       place = pl;
     })
 
@@ -298,13 +333,25 @@ step_alone s a Begin v ok pl pk = (
 )
 step_alone s a Open v ok pl pk = (ok, λ h. h)
 step_alone s a (Look l) v ok pl pk = look_alone s a l (s.locks l) ok pk.0 pl refl
-step_alone s a (Fetch l k) v ok pl pk = (alone_put s.locks s.actors a (goes (s.actors a) (Again l k (s.values l)))
-    (goes_alone s.locks (s.actors a) (Again l k (s.values l)) ok pl), λ h. h)
+step_alone s a (Fetch l k) v ok pl pk = (
+  alone_put s.locks s.actors a (goes (s.actors a) (Again l k (s.values l)))
+      (goes_alone s.locks (s.actors a) (Again l k (s.values l)) ok pl),
+  λ h. h,
+)
 step_alone s a (Again l k u) v ok pl pk = again_alone s a l k u (s.locks l) ok pl refl
 step_alone s a (Lock []) v ok pl pk =
     let x = s.actors a in (
-      alone_put s.locks s.actors a (record { place = Check
-          (to_check x (s.clock + 1)); declared = x.declared; rv = x.rv; wv = s.clock + 1; reads = x.reads; writes = x.writes; held = x.held; calls = x.calls }) (record { free = ok.free; place = pl.0 }),
+      alone_put s.locks s.actors a (record {
+        place = Check
+            (to_check x (s.clock + 1));
+        declared = x.declared;
+        rv = x.rv;
+        wv = s.clock + 1;
+        reads = x.reads;
+        writes = x.writes;
+        held = x.held;
+        calls = x.calls;
+      }) (record { free = ok.free; place = pl.0 }),
       quiet_list (to_check x (s.clock + 1)) (LockedAt (s.clock + 1)) (λ h. h),
     )
 step_alone s a (Lock (l ∷ ls)) v ok pl pk = to_lock_alone s a l ls (s.locks l) ok pl refl
@@ -312,18 +359,27 @@ step_alone s a (Take l k ls) v ok pl pk = take_alone s a l k ls (s.locks l) ok p
 step_alone s a (Check []) v ok pl pk = (ok, λ h. h)
 step_alone s a (Check (l ∷ ls)) v ok pl pk = check_alone s a l ls (s.locks l) (lookup (s.actors a).writes l) ok pl refl refl
     (λ none. none_if (lookup (s.actors a).held l)
-        (λ j h. let w = (pk.0).written l j h in let z : Some w.0 ≡ None = sym w.1 ∙ none in absurd (let b : ⊥ = cc in b)))
+    (λ j h. let w = (pk.0).written l j h in let z : Some w.0 ≡ None = sym w.1 ∙ none in absurd (let b : ⊥ = cc in b)))
 step_alone s a Broken v ok pl pk = (ok, λ h. h)
 step_alone s a First v ok pl pk = (first_alone s a (s.actors a).writes ok, last_quiet (s.actors a).writes Stored (λ h. h))
 step_alone s a (Store []) v ok pl pk = (ok, λ h. h)
-step_alone s a (Store (l ∷ ls)) v ok pl pk = (alone_put s.locks s.actors a (goes (s.actors a) (Store ls))
-    (goes_alone s.locks (s.actors a) (Store ls) ok tt), quiet_list ls Stored (λ h. h))
+step_alone s a (Store (l ∷ ls)) v ok pl pk = (
+  alone_put s.locks s.actors a (goes (s.actors a) (Store ls))
+      (goes_alone s.locks (s.actors a) (Store ls) ok tt),
+  quiet_list ls Stored (λ h. h),
+)
 step_alone s a Release v ok pl pk = released_alone s a (s.actors a).held ok refl
 step_alone s a Undo v ok pl pk = undone_alone s a (s.actors a).held ok refl
-step_alone s a Leave v ok pl pk = (alone_put s.locks s.actors a (goes (s.actors a) Idle)
-    (goes_alone s.locks (s.actors a) Idle ok tt), λ h. h)
-step_alone s a Close v ok pl pk = (alone_put s.locks s.actors a (goes (s.actors a) Idle)
-    (goes_alone s.locks (s.actors a) Idle ok tt), λ h. h)
+step_alone s a Leave v ok pl pk = (
+  alone_put s.locks s.actors a (goes (s.actors a) Idle)
+      (goes_alone s.locks (s.actors a) Idle ok tt),
+  λ h. h,
+)
+step_alone s a Close v ok pl pk = (
+  alone_put s.locks s.actors a (goes (s.actors a) Idle)
+      (goes_alone s.locks (s.actors a) Idle ok tt),
+  λ h. h,
+)
 
 pub run_alone : (events : List Event) (s : World) (a : ℕ) → Inv s → AloneAt s a → IsAlone a events → AloneAt (run events s) a
 run_alone [] s a v ok g = ok

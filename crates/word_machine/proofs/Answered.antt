@@ -55,7 +55,7 @@ take_further : (s : World) (a : ℕ) (x : Actor) (l k : ℕ) (ls : List ℕ) (w 
     → Further (take_notice l k w) ((tried s a x l k ls w).actors a)
 take_further s a x l k ls (Free j) =
     further_world (eqb j k) Quiet (Busy l (bits (Free j))) (locked s a x l k ls) (now s a (goes x Broken)) a
-        (further_put Quiet s.actors a (taken x l k ls) (inr (omega arith))) (inl tt)
+    (further_put Quiet s.actors a (taken x l k ls) (inr (omega arith))) (inl tt)
 take_further s a x l k ls (Locked j) = inl tt
 
 -- an answer where none is left, else some are
@@ -67,12 +67,12 @@ check_further : (s : World) (a : ℕ) (x : Actor) (l : ℕ) (ls : List ℕ) (w :
     → Further (check_notice x.rv x.wv l ls w own) ((checked s a x l ls w own).actors a)
 check_further s a x l ls (Free k) own =
     further_put (check_notice x.rv x.wv l ls (Free k) own) s.actors a _
-        (further_if (leb k x.rv) (when_none_left ls (LockedAt x.wv)) (Invalid l (bits (Free k))) (goes x (Check ls)) (goes x Broken)
-        (none_left ls (LockedAt x.wv) tt) (inl tt))
+    (further_if (leb k x.rv) (when_none_left ls (LockedAt x.wv)) (Invalid l (bits (Free k))) (goes x (Check ls)) (goes x Broken)
+    (none_left ls (LockedAt x.wv) tt) (inl tt))
 check_further s a x l ls (Locked k) (Some old) =
     further_put (check_notice x.rv x.wv l ls (Locked k) (Some old)) s.actors a _
-        (further_if (leb k x.rv) (when_none_left ls (LockedAt x.wv)) (Invalid l (bits (Locked k))) (goes x (Check ls)) (goes x Broken)
-        (none_left ls (LockedAt x.wv) tt) (inl tt))
+    (further_if (leb k x.rv) (when_none_left ls (LockedAt x.wv)) (Invalid l (bits (Locked k))) (goes x (Check ls)) (goes x Broken)
+    (none_left ls (LockedAt x.wv) tt) (inl tt))
 check_further s a x l ls (Locked k) None = inl tt
 
 first_further : (s : World) (a : ℕ) (x : Actor) (w : Entries) → IsSomeEntry w → Further (last_notice w Stored) ((first s a x w).actors a)
@@ -105,7 +105,7 @@ step_further s a x (Fetch l k) pl = further_put Quiet s.actors a (goes x (Again 
 step_further s a x (Again l k v) pl = inl (again_answered s l k v (s.locks l))
 step_further s a x (Lock []) pl =
     subst (Further (when_none_left (to_check x (s.clock + 1)) (LockedAt (s.clock + 1)))) (sym (put-same s.actors a _))
-        (none_left (to_check x (s.clock + 1)) (LockedAt (s.clock + 1)) tt)
+    (none_left (to_check x (s.clock + 1)) (LockedAt (s.clock + 1)) tt)
 step_further s a x (Lock (l ∷ ls)) pl = to_lock_further s a x l ls (s.locks l)
 step_further s a x (Take l k ls) pl = take_further s a x l k ls (s.locks l)
 step_further s a x (Check []) pl = inl tt
@@ -163,12 +163,12 @@ answered (Step b ∷ es) s a v h asks enough =
     elim (cases_eq b a) [
       | inl e ↦
           let own : IsAnswered (notice s (s.actors a) (s.actors a).place) ⊎ (0 < Left (happens s (Step a)) a) = step_further s a
-              (s.actors a) (s.actors a).place (v.actors a).place in
+          (s.actors a) (s.actors a).place (v.actors a).place in
           elim own [
             | inl n ↦ inl (e, n)
             | inr more ↦
                 let count : steps_of a (Step b ∷ es)
-                    ≡ steps_of a es + 1 = cond-true (eqb b a) (steps_of a es + 1) (steps_of a es) (eq-eqb b a e) in
+                ≡ steps_of a es + 1 = cond-true (eqb b a) (steps_of a es + 1) (steps_of a es) (eq-eqb b a e) in
                 let less : Left (happens s (Step a)) a < Left s a = progress s a v h in
                 inr (subst (λ (n : ℕ). IsAnsweredWithin a es (happens s (Step n))) (sym e)
                 (answered es (happens s (Step a)) a (happens_ok s (Step a) v).inv more asks (omega (arith, enough, count, less))))

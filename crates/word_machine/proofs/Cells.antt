@@ -120,7 +120,7 @@ does_becomes s a (LoadLock l f) d h = subst (λ (z : Cell). cell (does s a (Load
 does_becomes s a (LoadValue l f) d h = subst (λ (z : Cell). cell (does s a (LoadValue l f)) z ≡ cell s z) (the_cell (ValueCell l) d h) refl
 does_becomes s a (ExchangeLock l k x y) d h =
     subst (λ (z : Cell). cell (does s a (ExchangeLock l k x y)) z ≡ (if cell s z == bits (Free k) then bits (Locked k) else cell s z))
-        (the_cell (LockCell l) d h)
+    (the_cell (LockCell l) d h)
     (exchanged_becomes s a l k x y (s.locks l) refl)
 does_becomes s a (StoreValue l v x) d h = subst (λ (z : Cell). cell (does s a (StoreValue l v x)) z ≡ v) (the_cell (ValueCell l) d h)
     (put-same s.values l v)

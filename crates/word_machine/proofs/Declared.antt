@@ -20,7 +20,7 @@ made s a e ne =
     subst (λ (p : Place). ((step s a x p).actors a).place ≡ Check (locations x.reads)) (sym e)
     (ap (λ (y : Actor). y.place) (put-same s.actors a _)
     ∙ ap Check (cond-false (eqb (x.rv + 1) (s.clock + 1)) [] (locations x.reads)
-        (ne_eqb (x.rv + 1) (s.clock + 1) (λ q. ne (omega (arith, q))))))
+    (ne_eqb (x.rv + 1) (s.clock + 1) (λ q. ne (omega (arith, q))))))
 
 -- a declared reader has neither set
 no_sets : (declared : Bool) (reads writes seen : Entries) → declared ≡ true → IsKept declared reads writes seen → (reads ≡ [])
@@ -43,7 +43,7 @@ anew s a l v d e =
     let x = s.actors a in
     let none = has_no_sets s a v d e in
     let asked : ask x x.place (AskRead l) ≡ goes x (Look l) = ap (λ (p : Place). ask x p (AskRead l)) e
-        ∙ ap (λ (w : Entries). read x l (lookup w l) (lookup x.reads l)) none.1 ∙ ap (λ (r : Entries). read x l None (lookup r l)) none.0 in
+    ∙ ap (λ (w : Entries). read x l (lookup w l) (lookup x.reads l)) none.1 ∙ ap (λ (r : Entries). read x l None (lookup r l)) none.0 in
     ap (λ (y : Actor). y.place) (put-same s.actors a (ask x x.place (AskRead l)) ∙ asked)
 
 pub no_write : (s : World) (a l v : ℕ) → (s.actors a).declared ≡ true → (s.actors a).place ≡ Open
@@ -57,7 +57,7 @@ pub no_lock : (s : World) (a : ℕ) → Inv s → (s.actors a).declared ≡ true
 no_lock s a v d e =
     let x = s.actors a in
     put-same s.actors a (ask x x.place AskLock) ∙ ap (λ (p : Place). ask x p AskLock) e
-        ∙ ap (λ (w : Entries). lock x w) (has_no_sets s a v d e).1
+    ∙ ap (λ (w : Entries). lock x w) (has_no_sets s a v d e).1
 
 pub begun_declared : (s : World) (a : ℕ) → (s.actors a).place ≡ Idle → ((happens s (Ask a AskBeginRead)).actors a).declared ≡ true
 begun_declared s a e =
@@ -185,7 +185,7 @@ pub stays_declared : (s : World) (a : ℕ) (event : Event) → (s.actors a).decl
 stays_declared s a (Ask b request) d ne =
     put_both (λ (y : Actor). y.declared ≡ true) s.actors b (ask (s.actors b) (s.actors b).place request) a
     (λ q. ask_like (s.actors b) (s.actors b).place request (subst (λ (n : ℕ). (s.actors n).place ≡ Idle → ⊥) q ne)
-        ∙ subst (λ (n : ℕ). (s.actors n).declared ≡ true) q d)
+    ∙ subst (λ (n : ℕ). (s.actors n).declared ≡ true) q d)
     (λ _. d)
 stays_declared s a (Step b) d ne =
     elim (cases_eq a b) [

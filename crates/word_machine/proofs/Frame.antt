@@ -156,10 +156,10 @@ apart_after s a y v own b c l j k =
 
 pub numbers_after : (s : World) (a : ℕ) (y : Actor) → Inv s → IsNumbered s a y
     → (b c : ℕ) → IsPending (put s.actors a y b).place → IsPending (put s.actors a y c).place → (put s.actors a y b).wv
-        ≡ (put s.actors a y c).wv → b ≡ c
+    ≡ (put s.actors a y c).wv → b ≡ c
 numbers_after s a y v num b c =
     put_both (λ (z : Actor). IsPending z.place → IsPending (put s.actors a y c).place → z.wv ≡ (put s.actors a y c).wv → b
-        ≡ c) s.actors a y b
+    ≡ c) s.actors a y b
     (λ eb pb. put_both (λ (z : Actor). IsPending z.place → y.wv ≡ z.wv → b ≡ c) s.actors a y c
     (λ ec _ _. eb ∙ sym ec)
     (λ _ pc e. elim (num pb) [
@@ -175,7 +175,7 @@ numbers_after s a y v num b c =
 
 pub unused_after : (s : World) (a : ℕ) (y : Actor) → Inv s → IsNumbered s a y
     → (b : ℕ) → IsPending (put s.actors a y b).place
-        → AllRecords (λ r. (r.writer ≡ true → (put s.actors a y b).wv ≡ r.number → ⊥)) s.history
+    → AllRecords (λ r. (r.writer ≡ true → (put s.actors a y b).wv ≡ r.number → ⊥)) s.history
 unused_after s a y v num b =
     put_both (λ (z : Actor). IsPending z.place → AllRecords (λ r. (r.writer ≡ true → z.wv ≡ r.number → ⊥)) s.history) s.actors a y b
     (λ _ p. elim (num p) [
@@ -231,7 +231,7 @@ pub quiet_ended : (s : World) (a : ℕ) (y : Actor) (ended : List Ended) → Inv
 quiet_ended s a y ended v q saw =
     let t = next s a y s.clock s.locks s.values s.history ended in
     let k : Keeps s (next s a y s.clock s.locks s.values s.history ended) = Keeps-no_commit s a y s.clock s.locks s.values ended
-        (omega arith) q.numbered (λ l. omega arith) in
+    (omega arith) q.numbered (λ l. omega arith) in
     let m : (h : Entries) → Same s (next s a y s.clock s.locks s.values s.history ended) h = λ h. record { locks = λ l j q. refl; values = λ l j q. refl; stamps = λ l j q. refl; latest = λ l j q. refl } in
     record {
       inv = record {

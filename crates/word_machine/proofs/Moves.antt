@@ -40,7 +40,7 @@ locked_ok s a l k ls v e pl free =
     let t : World = next s a y s.clock words s.values s.history s.aborted in
     let num : IsNumbered s a y = λ h. absurd h in
     let ver : (i : ℕ) → version_of (words i) ≡ version_of (s.locks i) = λ i. version-put s.locks l (Locked k) i
-        (sym (ap version_of free)) in
+    (sym (ap version_of free)) in
     let keeps : Keeps s t = Keeps-no_commit s a y s.clock words s.values s.aborted (omega arith) num (λ i. omega (arith, ver i)) in
     let others : (b : ℕ) → Same s t (s.actors b).held = λ b. record {
       locks = λ i j h. put-other s.locks l (Locked k) i (λ q. no_holder s l k v free b j (ap (lookup (s.actors b).held) (sym q) ∙ h));
@@ -87,8 +87,12 @@ locked_ok s a l k ls v e pl free =
         unused = unused_after s a y v num;
         versions = λ i. omega (arith, ver i, v.versions i);
         current = λ i h. v.current i (omega (arith, ver i, h));
-        behind = λ i h. omega (arith, ver i, v.behind i
-            (behind_before s a y i (λ half n. absurd (let z : IsHalfDone (Take l k ls) = subst IsHalfDone e half in z)) h));
+        behind = λ i h. omega (
+          arith,
+          ver i,
+          v.behind i
+              (behind_before s a y i (λ half n. absurd (let z : IsHalfDone (Take l k ls) = subst IsHalfDone e half in z)) h),
+        );
         ordered = v.ordered;
         records = records_kept s t s.history keeps v.records;
         aborted = aborted_kept s t s.aborted keeps v.aborted;
@@ -103,8 +107,17 @@ pub stamped_ok : (s : World) (a : ℕ) → Inv s → (s.actors a).place ≡ Lock
     → Moved s a (stamped s a (s.actors a))
 stamped_ok s a v e pl =
     let x = s.actors a in
-    let y : Actor = record { place = Check (to_check x
-        (s.clock + 1)); declared = x.declared; rv = x.rv; wv = s.clock + 1; reads = x.reads; writes = x.writes; held = x.held; calls = x.calls } in
+    let y : Actor = record {
+      place = Check (to_check x
+          (s.clock + 1));
+      declared = x.declared;
+      rv = x.rv;
+      wv = s.clock + 1;
+      reads = x.reads;
+      writes = x.writes;
+      held = x.held;
+      calls = x.calls;
+    } in
     let t : World = next s a y (s.clock + 1) s.locks s.values s.history s.aborted in
     let num : IsNumbered s a y = λ h. inr (omega arith) in
     let keeps : Keeps s t = Keeps-no_commit s a y (s.clock + 1) s.locks s.values s.aborted (omega arith) num (λ i. omega arith) in
@@ -129,8 +142,8 @@ stamped_ok s a v e pl =
         λ i u h. cond_both (eqb (x.rv + 1) (s.clock + 1)) [] (locations x.reads)
             (λ (ls : List ℕ). Member i ls ⊎ Good t (s.clock + 1 - 1) i u)
             (λ q. inr (keeps.good (s.clock + 1 - 1) i u
-                (let since : x.rv ≡ s.clock + 1 - 1 = omega (arith, eqb-true (x.rv + 1) (s.clock + 1) q) in subst
-                (λ (n : ℕ). Good s n i u) since ((v.actors a).reads i u h))))
+            (let since : x.rv ≡ s.clock + 1 - 1 = omega (arith, eqb-true (x.rv + 1) (s.clock + 1) q) in subst
+            (λ (n : ℕ). Good s n i u) since ((v.actors a).reads i u h))))
             (λ _. inl (member_locations x.reads i u h)),
       );
     } in
@@ -160,8 +173,17 @@ gives_back_ok : (s : World) (a : ℕ) (f : ℕ × ℕ) (fs : Entries) (w : LockW
     → (stamp s.history f.0 ≤ version_of w → s.values f.0 ≡ latest s f.0)
     → (((b : ℕ) → IsHalfDone (s.actors b).place → (b ≡ a → ⊥) → lookup (s.actors b).held f.0 ≡ None) → stamp s.history f.0 ≤ version_of w)
     → ((i : ℕ) → (i ≡ f.0 → ⊥) → IsHalfDone (s.actors a).place → (IsHalfDone p → lookup fs i ≡ None) → lookup (s.actors a).held i ≡ None)
-    → PlaceOk s (record { place = p; declared = (s.actors a).declared; rv = (s.actors a).rv; wv = (s.actors a).wv; reads =
-        (s.actors a).reads; writes = (s.actors a).writes; held = fs; calls = (s.actors a).calls }) p
+    → PlaceOk s (record {
+      place = p;
+      declared = (s.actors a).declared;
+      rv = (s.actors a).rv;
+      wv = (s.actors a).wv;
+      reads =
+          (s.actors a).reads;
+      writes = (s.actors a).writes;
+      held = fs;
+      calls = (s.actors a).calls;
+    }) p
     → Moved s a (gives_back s a (s.actors a) f.0 w fs p)
 gives_back_ok s a f fs w p v has np at_p up top cur beh still pl =
     let x = s.actors a in
@@ -171,12 +193,12 @@ gives_back_ok s a f fs w p v has np at_p up top cur beh still pl =
     let uniq : IsUnique (f ∷ fs) = subst IsUnique has (v.actors a).unique in
     let hold : lookup x.held f.0 ≡ Some f.1 = ap (λ (z : Entries). lookup z f.0) has ∙ lookup-head f fs in
     let rest : (i j : ℕ) → lookup fs i ≡ Some j → (i ≡ f.0 → ⊥)
-        × (lookup x.held i ≡ Some j) = λ i j h. (let q = rest_entry f fs i j uniq h in (q.0, ap (λ (z : Entries). lookup z i) has ∙ q.1)) in
+    × (lookup x.held i ≡ Some j) = λ i j h. (let q = rest_entry f fs i j uniq h in (q.0, ap (λ (z : Entries). lookup z i) has ∙ q.1)) in
     let num : IsNumbered s a y = λ h. absurd (np h) in
     let keeps : Keeps s t = Keeps-no_commit s a y s.clock words s.values s.aborted (omega arith) num
     (λ i. put_both (λ (z : LockWord). version_of (s.locks i) ≤ version_of z) s.locks f.0 w i
     (λ q. let z : version_of (s.locks i) ≡ version_of (s.locks f.0) = ap (λ (n : ℕ). version_of (s.locks n)) q in omega (arith, z, up))
-        (λ _. omega arith)) in
+    (λ _. omega arith)) in
     let others : (b : ℕ) → (b ≡ a → ⊥) → Same s t (s.actors b).held = λ b ne. record {
       locks = λ i j h. put-other s.locks f.0 w i (λ q. ne (v.apart b a i j f.1 h (ap (lookup x.held) q ∙ hold)));
       values = λ i j h. refl;
@@ -214,8 +236,8 @@ gives_back_ok s a f fs w p v has np at_p up top cur beh still pl =
             → stamp s.history i ≤ version_of z) s.locks f.0 w i
             (λ q h. subst (λ (n : ℕ). stamp s.history n ≤ version_of w) (sym q) (beh (λ b half ne.
             ap (lookup (s.actors b).held) (sym q)
-                ∙ (let P : Actor → Type 0 = λ z. (IsHalfDone z.place → lookup z.held i ≡ None) in subst P (put-other s.actors a y b ne)
-                (h b)) half)))
+            ∙ (let P : Actor → Type 0 = λ z. (IsHalfDone z.place → lookup z.held i ≡ None) in subst P (put-other s.actors a y b ne)
+            (h b)) half)))
             (λ ne h. v.behind i (behind_before s a y i (still i ne) h));
         ordered = v.ordered;
         records = records_kept s t s.history keeps v.records;
@@ -234,10 +256,10 @@ undone_ok s a (f ∷ fs) v e has =
     let ver : version_of (s.locks f.0) ≡ f.1 = ap version_of ((v.actors a).held f.0 f.1 hold) in
     let none : IsHalfDone (s.actors a).place → ⊥ = λ half. (let z : IsHalfDone Undo = subst IsHalfDone e half in z) in
     gives_back_ok s a f fs (Free f.1) Undo v has (λ h. h) (subst HasBegun (sym e) tt) (omega (arith, ver))
-        (omega (arith, ver, v.versions f.0))
+    (omega (arith, ver, v.versions f.0))
     (λ h. v.current f.0 (omega (arith, ver, h)))
     (λ h. let q = v.behind f.0 (λ b half. h b half (λ z. none (subst (λ (n : ℕ). IsHalfDone (s.actors n).place) z half))) in omega
-        (arith, ver, q))
+    (arith, ver, q))
     (λ i ne half n. absurd (none half))
     tt
 
@@ -255,8 +277,17 @@ rest_done s wv w f fs some u d = record {
 release_ok : (s : World) (a : ℕ) (f : ℕ × ℕ) (fs : Entries) (p : Place) → Inv s → Done s (s.actors a).wv (s.actors a).writes (f ∷ fs) []
     → (s.actors a).held ≡ f ∷ fs → (IsPending p → ⊥) → HasBegun (s.actors a).place
     → ((i : ℕ) → (IsHalfDone p → lookup fs i ≡ None) → lookup fs i ≡ None)
-    → PlaceOk s (record { place = p; declared = (s.actors a).declared; rv = (s.actors a).rv; wv = (s.actors a).wv; reads =
-        (s.actors a).reads; writes = (s.actors a).writes; held = fs; calls = (s.actors a).calls }) p
+    → PlaceOk s (record {
+      place = p;
+      declared = (s.actors a).declared;
+      rv = (s.actors a).rv;
+      wv = (s.actors a).wv;
+      reads =
+          (s.actors a).reads;
+      writes = (s.actors a).writes;
+      held = fs;
+      calls = (s.actors a).calls;
+    }) p
     → Moved s a (gives_back s a (s.actors a) f.0 (Free (s.actors a).wv) fs p)
 release_ok s a f fs p v d has np at_p still pl =
     let hold : lookup (s.actors a).held f.0 ≡ Some f.1 = ap (λ (z : Entries). lookup z f.0) has ∙ lookup-head f fs in
@@ -276,7 +307,7 @@ unfolding lookup
 released_ok s a [] v e d has = absurd (let none : IsSomeEntry [] = subst IsSomeEntry has d.some in none)
 released_ok s a (f ∷ []) v e d has =
     release_ok s a f [] Idle v (subst (λ (z : Entries). Done s (s.actors a).wv (s.actors a).writes z []) has d) has (λ h. h)
-        (subst HasBegun (sym e) tt) (λ i n. refl) refl
+    (subst HasBegun (sym e) tt) (λ i n. refl) refl
 released_ok s a (f ∷ (g ∷ fs)) v e d has =
     let d2 = subst (λ (z : Entries). Done s (s.actors a).wv (s.actors a).writes z []) has d in
     release_ok s a f (g ∷ fs) Release v d2 has (λ h. h) (subst HasBegun (sym e) tt) (λ i n. n tt)
@@ -403,11 +434,11 @@ commits_ok s a values ls v e pl fst =
     let num : IsNumbered s a y = λ h. absurd h in
     let new : IsNew r s.history = isnew s.history x.wv a x.calls (v.unused a pend) in
     let mine : (i u : ℕ) → lookup x.writes i ≡ Some u → (k : ℕ) × (lookup x.held i ≡ Some k) × (version_of (s.locks i) ≡ k) × (k < x.wv)
-        × (stamp s.history i ≤ k) = λ i u h. (
+    × (stamp s.history i ≤ k) = λ i u h. (
     let q = st.all_held i u h in
     let ver : version_of (s.locks i) ≡ q.0 = ap version_of ((v.actors a).held i q.0 q.1) in
     let b = v.behind i (λ b half. none_if (lookup (s.actors b).held i)
-        (λ j g. not_half (subst (λ (n : ℕ). IsHalfDone (s.actors n).place) (v.apart b a i j q.0 g q.1) half))) in
+    (λ j g. not_half (subst (λ (n : ℕ). IsHalfDone (s.actors n).place) (v.apart b a i j q.0 g q.1) half))) in
     (q.0, q.1, ver, st.newer i q.0 q.1, omega (arith, b, ver))) in
     let stamps : (i u : ℕ) → lookup x.writes i ≡ Some u → touched x.calls i ≡ true → stamp h2 i ≡ x.wv = λ i u h w. (
     let q = mine i u h in stamp_touched r s.history i w ∙ (let z : max x.wv (stamp s.history i) ≡ x.wv = omega (arith, q.3, q.4) in z)) in
@@ -433,7 +464,7 @@ commits_ok s a values ls v e pl fst =
     } in
     let others : (b : ℕ) → (b ≡ a → ⊥) → Same s t (s.actors b).held = λ b ne. (
     let free : (i j : ℕ) → lookup (s.actors b).held i ≡ Some j → (lookup x.writes i ≡ None)
-        × (touched x.calls i ≡ false) = λ i j h. elim (is_written s a v i) [
+    × (touched x.calls i ≡ false) = λ i j h. elim (is_written s a v i) [
       | inl f ↦ f
       | inr f ↦ (let q = mine i f.0 f.1 in absurd (ne (v.apart b a i j q.0 h q.1)))
     ] in
@@ -445,7 +476,7 @@ commits_ok s a values ls v e pl fst =
     }) in
     let some_held : IsSomeEntry x.held = some_lookup x.writes x.held st.some st.all_held in
     let all_read : (v.actors a).saw.reads ≡ x.reads = writer_keeps x.declared x.reads x.writes (v.actors a).saw.reads st.some
-        ((v.actors a).kept (subst HasBegun (sym e) tt)) in
+    ((v.actors a).kept (subst HasBegun (sym e) tt)) in
     let own : ActorOk t y = record {
       began = (v.actors a).began;
       reads = λ i u h. keeps.good x.rv i u ((v.actors a).reads i u h);
@@ -483,7 +514,7 @@ commits_ok s a values ls v e pl fst =
             → AllRecords (λ c. (c.writer ≡ true → z.wv ≡ c.number → ⊥)) h2) s.actors a y b
             (λ _ p. absurd p)
             (λ ne p. AllRecords-insert (λ c. (c.writer ≡ true → (s.actors b).wv ≡ c.number → ⊥)) r s.history
-                (λ _ q. ne (v.numbers b a p pend q)) (v.unused b p));
+            (λ _ q. ne (v.numbers b a p pend q)) (v.unused b p));
         versions = v.versions;
         current = λ i h. elim (is_written s a v i) [
           | inl f ↦ fst.same i f.0 ∙ v.current i (omega (arith, stamp_untouched r s.history i f.1, h))
@@ -593,7 +624,7 @@ closed_ok s a v e pl =
             → AllRecords (λ c. (c.writer ≡ true → z.wv ≡ c.number → ⊥)) h2) s.actors a y b
             (λ _ p. absurd p)
             (λ ne p. AllRecords-insert (λ c. (c.writer ≡ true → (s.actors b).wv ≡ c.number → ⊥)) r s.history (λ w q. true≢false (sym w))
-                (v.unused b p));
+            (v.unused b p));
         versions = v.versions;
         current = λ i h. v.current i (omega (arith, stamp_untouched r s.history i (un i), h))
             ∙ sym (finals_untouched r s.history i (s.opening i) (un i));

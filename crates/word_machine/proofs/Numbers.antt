@@ -240,13 +240,16 @@ no_writer_insert : (n : ℕ) (r : Record) (h : List Record) → (r.writer ≡ tr
 unfolding insert
 no_writer_insert n r [] f g = (f, tt)
 no_writer_insert n r (x ∷ xs) f g =
-    elim (comes_before r x) as (λ b. NoWriterHas n (cond b (r ∷ (x ∷ xs)) (x ∷ insert r xs))) [ true ↦ (f, g) | false ↦
-        (g.0, no_writer_insert n r xs f g.1) ]
+    elim (comes_before r x) as (λ b. NoWriterHas n (cond b (r ∷ (x ∷ xs)) (x ∷ insert r xs))) [
+      | true ↦ (f, g)
+      | false ↦
+          (g.0, no_writer_insert n r xs f g.1)
+    ]
 
 exchanged_history : (s : World) (a l k : ℕ) (won lost : Actor) (w : LockWord) → (exchanged s a l k won lost w).history ≡ s.history
 exchanged_history s a l k won lost (Free j) =
     elim (eqb j k) as (λ b. (cond b (record (now s a won) { locks = put s.locks l (Locked k) }) (now s a lost)).history
-        ≡ s.history) [ true ↦ refl | false ↦ refl ]
+    ≡ s.history) [ true ↦ refl | false ↦ refl ]
 exchanged_history s a l k won lost (Locked j) = refl
 
 does_history : (s : World) (a : ℕ) (d : Deed) → (does s a d).history ≡ s.history
@@ -270,7 +273,7 @@ noted_listed : (n a : ℕ) (t : World) (x : Actor) (p : Place) → (p ≡ First 
 noted_listed n a t x First f g = first_listed n a t x x.writes (f refl) g
 noted_listed n a t x Close f g =
     no_writer_insert n (record { actor = a; number = x.rv; writer = false; calls = x.calls }) t.history
-        (λ (w : false ≡ true). let b : ⊥ = cc in absurd b) g
+    (λ (w : false ≡ true). let b : ⊥ = cc in absurd b) g
 noted_listed n a t x p f g = g
 
 -- ---- an event
@@ -410,5 +413,5 @@ pub unused_later : (clock : ℕ) (memory : Memory) (events later : List Event) (
 unused_later clock memory events later a ends =
     let s = run events (start clock memory) in
     let all = run_number events (start clock memory) (start_ok clock memory)
-        (λ b. record { none = λ h. absurd h; spent = λ h. absurd h }) in
+    (λ b. record { none = λ h. absurd h; spent = λ h. absurd h }) in
     (run_spent later s (s.actors a).wv (reached clock memory events) all ((all a).spent ends)).listed

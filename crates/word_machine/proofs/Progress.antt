@@ -58,11 +58,11 @@ check_nearer : (s : World) (a : ℕ) (x : Actor) (l : ℕ) (ls : List ℕ) (w : 
 check_nearer s a x l ls (Free k) own = cond_both (leb k x.rv) (goes x (Check ls)) (goes x Broken)
     (λ (z : Actor). Nearer (length (l ∷ ls)) (put s.actors a z a))
     (λ _. nearer_put (length (l ∷ ls)) s.actors a (goes x (Check ls)) (omega arith))
-        (λ _. nearer_put (length (l ∷ ls)) s.actors a (goes x Broken) (omega arith))
+    (λ _. nearer_put (length (l ∷ ls)) s.actors a (goes x Broken) (omega arith))
 check_nearer s a x l ls (Locked k) (Some old) = cond_both (leb k x.rv) (goes x (Check ls)) (goes x Broken)
     (λ (z : Actor). Nearer (length (l ∷ ls)) (put s.actors a z a))
     (λ _. nearer_put (length (l ∷ ls)) s.actors a (goes x (Check ls)) (omega arith))
-        (λ _. nearer_put (length (l ∷ ls)) s.actors a (goes x Broken) (omega arith))
+    (λ _. nearer_put (length (l ∷ ls)) s.actors a (goes x Broken) (omega arith))
 check_nearer s a x l ls (Locked k) None = nearer_put (length (l ∷ ls)) s.actors a (goes x Broken) (omega arith)
 
 first_nearer : (s : World) (a : ℕ) (x : Actor) (w : Entries) → IsSomeEntry w → Nearer (length w) ((first s a x w).actors a)

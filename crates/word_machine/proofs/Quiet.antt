@@ -55,8 +55,17 @@ free_good s n l k u v free low past is =
 -- the actor at another place, with the same transaction
 pub goes_ok : (s : World) (x : Actor) (q : Place) → ActorOk s x → (HasBegun q → HasBegun x.place) → PlaceOk s (goes x q) q
     → ActorOk s (goes x q)
-goes_ok s x q ok begun pl = record { began = ok.began; reads = ok.reads; saw = ok.saw; sets = ok.sets; kept = λ h. ok.kept
-    (begun h); held = ok.held; unique = ok.unique; place = pl }
+goes_ok s x q ok begun pl = record {
+  began = ok.began;
+  reads = ok.reads;
+  saw = ok.saw;
+  sets = ok.sets;
+  kept = λ h. ok.kept
+      (begun h);
+  held = ok.held;
+  unique = ok.unique;
+  place = pl;
+}
 
 pub quiet_goes : (s : World) (a : ℕ) (p q : Place) → Inv s → (s.actors a).place ≡ p → (IsPending q → IsPending p)
     → (IsHalfDone p → IsHalfDone q) → (HasBegun q → HasBegun p) → PlaceOk s (goes (s.actors a) q) q → QuietOk s a (goes (s.actors a) q)
@@ -80,14 +89,32 @@ quiet_open : (s : World) (a : ℕ) (p : Place) (r w : Entries) (cs : List Call) 
     → (s.actors a).held ≡ [] → Sets w cs
     → ((l v : ℕ) → lookup r l ≡ Some v → Good s (s.actors a).rv l v)
     → (g : Saw s (s.actors a).rv cs) → IsKept (s.actors a).declared r w g.reads
-    → QuietOk s a (record { place = Open; declared = (s.actors a).declared; rv = (s.actors a).rv; wv =
-        (s.actors a).wv; reads = r; writes = w; held = (s.actors a).held; calls = cs })
+    → QuietOk s a (record {
+      place = Open;
+      declared = (s.actors a).declared;
+      rv = (s.actors a).rv;
+      wv =
+          (s.actors a).wv;
+      reads = r;
+      writes = w;
+      held = (s.actors a).held;
+      calls = cs;
+    })
 quiet_open s a p r w cs v e g none sets good saw kept = record {
   numbered = λ h. absurd h;
   still = λ l half n. absurd (g (subst IsHalfDone e half));
   held = refl;
-  ok = record { began = (v.actors a).began; reads = good; saw = saw; sets = sets; kept = λ _. kept; held = (v.actors a).held; unique =
-      (v.actors a).unique; place = none };
+  ok = record {
+    began = (v.actors a).began;
+    reads = good;
+    saw = saw;
+    sets = sets;
+    kept = λ _. kept;
+    held = (v.actors a).held;
+    unique =
+        (v.actors a).unique;
+    place = none;
+  };
 }
 
 -- what the read set has, the transaction has seen
@@ -118,9 +145,9 @@ write_ok s a l u false v e none d =
     let x = s.actors a in
     let ok = v.actors a in
     let kept : ok.saw.reads ≡ x.reads = subst (λ (b : Bool). IsKept b x.reads x.writes ok.saw.reads) d
-        (ok.kept (subst HasBegun (sym e) tt)) in
+    (ok.kept (subst HasBegun (sym e) tt)) in
     quiet_open s a Open x.reads (with_entry x.writes l u) (x.calls ++ Write l u ∷ []) v e (λ h. h) none
-        (Sets-write x.writes x.calls l u ok.sets) ok.reads
+    (Sets-write x.writes x.calls l u ok.sets) ok.reads
     (Saw-write s x.rv x.calls l u ok.saw) (subst (λ (b : Bool). IsKept b x.reads (with_entry x.writes l u) ok.saw.reads) (sym d) kept)
 
 lock_ok : (s : World) (a : ℕ) (w : Entries) → Inv s → (s.actors a).place ≡ Open → (s.actors a).held ≡ [] → (s.actors a).writes ≡ w
@@ -188,7 +215,7 @@ pub begin_ok : (s : World) (a : ℕ) → Inv s → (s.actors a).place ≡ Begin 
     → Moved s a (now s a (if◌then◌else◌ (ltb s.clock clock_limit) (opened (s.actors a).declared s.clock) (goes (s.actors a) Idle)))
 begin_ok s a v e none =
     cond_both (ltb s.clock clock_limit) (opened (s.actors a).declared s.clock) (goes (s.actors a) Idle)
-        (λ (z : Actor). Moved s a (now s a z))
+    (λ (z : Actor). Moved s a (now s a z))
     (λ _. quiet s a (opened (s.actors a).declared s.clock) v (record {
       numbered = λ h. absurd h;
       still = λ l half n. absurd (let z : IsHalfDone Begin = subst IsHalfDone e half in z);
@@ -220,39 +247,48 @@ pub fetch_ok : (s : World) (a l k : ℕ) → Inv s → (s.actors a).place ≡ Fe
     → Moved s a (now s a (goes (s.actors a) (Again l k (s.values l))))
 fetch_ok s a l k v e pl =
     quiet s a (goes (s.actors a) (Again l k (s.values l))) v
-        (quiet_goes s a (Fetch l k) (Again l k (s.values l)) v e (λ h. h) (λ h. h) (λ b. tt)
+    (quiet_goes s a (Fetch l k) (Again l k (s.values l)) v e (λ h. h) (λ h. h) (λ b. tt)
     (pl.0, pl.1, pl.2, λ h. sym (v.current l (omega (arith, h, pl.2)))))
 
 -- one read more: a declared reader's is known to the proof alone, and may be of a location that it has read before
 read_more : (s : World) (a l k u : ℕ) (declared : Bool) → Inv s → (s.actors a).place ≡ Again l k u → (s.actors a).held ≡ []
     → lookup (s.actors a).writes l ≡ None → lookup (s.actors a).reads l ≡ None → (s.actors a).declared ≡ declared
     → Good s (s.actors a).rv l u
-    → QuietOk s a (record { place = Open; declared = (s.actors a).declared; rv = (s.actors a).rv; wv =
-        (s.actors a).wv; reads = with_read declared (s.actors a).reads l u; writes = (s.actors a).writes; held =
-        (s.actors a).held; calls = (s.actors a).calls ++ Read l u ∷ [] })
+    → QuietOk s a (record {
+      place = Open;
+      declared = (s.actors a).declared;
+      rv = (s.actors a).rv;
+      wv =
+          (s.actors a).wv;
+      reads = with_read declared (s.actors a).reads l u;
+      writes = (s.actors a).writes;
+      held =
+          (s.actors a).held;
+      calls = (s.actors a).calls ++ Read l u ∷ [];
+    })
 read_more s a l k u true v e none hw hr d good =
     let x = s.actors a in
     let ok = v.actors a in
     let saw = Saw-read s x.rv x.writes x.calls l u ok.saw ok.sets hw good in
     let kept : (x.reads ≡ []) × (x.writes ≡ []) = subst (λ (b : Bool). IsKept b x.reads x.writes ok.saw.reads) d
-        (ok.kept (subst HasBegun (sym e) tt)) in
+    (ok.kept (subst HasBegun (sym e) tt)) in
     quiet_open s a (Again l k u) x.reads x.writes (x.calls ++ Read l u ∷ []) v e (λ h. h) none
-        (Sets-read x.writes x.calls l u ok.sets) ok.reads
+    (Sets-read x.writes x.calls l u ok.sets) ok.reads
     saw (subst (λ (b : Bool). IsKept b x.reads x.writes saw.reads) (sym d) kept)
 read_more s a l k u false v e none hw hr d good =
     let x = s.actors a in
     let ok = v.actors a in
     let kept : ok.saw.reads ≡ x.reads = subst (λ (b : Bool). IsKept b x.reads x.writes ok.saw.reads) d
-        (ok.kept (subst HasBegun (sym e) tt)) in
+    (ok.kept (subst HasBegun (sym e) tt)) in
     let saw = Saw-new s x.rv x.writes x.calls l u ok.saw ok.sets hw (ap (λ (z : Entries). lookup z l) kept ∙ hr) good in
     quiet_open s a (Again l k u) (with_entry x.reads l u) x.writes (x.calls ++ Read l u ∷ []) v e (λ h. h) none
-        (Sets-read x.writes x.calls l u ok.sets)
+    (Sets-read x.writes x.calls l u ok.sets)
     (λ i z h. elim (with_entry_cases x.reads l u i z h) [
       | inl q ↦ subst (λ (n : ℕ). Good s x.rv n z) (sym q.0) (subst (λ (n : ℕ). Good s x.rv l n) (sym q.1) good)
       | inr q ↦ ok.reads i z q.1
     ])
     saw (subst (λ (b : Bool). IsKept b (with_entry x.reads l u) x.writes (with_entry ok.saw.reads l u)) (sym d)
-        (ap (λ (z : Entries). with_entry z l u) kept))
+    (ap (λ (z : Entries). with_entry z l u) kept))
 
 pub looked_again_ok : (s : World) (a l k u : ℕ) (w : LockWord) → Inv s → (s.actors a).place ≡ Again l k u
     → PlaceOk s (s.actors a) (Again l k u) → s.locks l ≡ w → Moved s a (looked_again s a (s.actors a) l k u w)
@@ -300,7 +336,7 @@ check_more s a l ls v e pl low behind holder =
                 let g = (v.actors a).reads i u h in
                 let past : x.wv - 1 ≤ s.clock = omega (arith, st.made) in
                 let value : latest s l ≡ u = sym (settled_all s.history x.rv l (s.opening l) (omega (arith, behind, low)))
-                    ∙ ap (λ (n : ℕ). settled s.history x.rv n (s.opening n)) (sym q) ∙ g.value in
+                ∙ ap (λ (n : ℕ). settled s.history x.rv n (s.opening n)) (sym q) ∙ g.value in
                 subst (λ (n : ℕ). Good s (x.wv - 1) n u) (sym q)
                 (good_at s (x.wv - 1) l u v past (omega (arith, low, st.after_rv)) behind value holder))
           ],
@@ -313,7 +349,7 @@ checked_ok s a l ls (Free k) own v e pl is mine =
     cond_both (leb k (s.actors a).rv) (goes (s.actors a) (Check ls)) (goes (s.actors a) Broken) (λ (z : Actor). Moved s a (now s a z))
     (λ t. let ver : version_of (s.locks l) ≡ k = ap version_of is in
     check_more s a l ls v e pl (omega (arith, ver, leb-true k (s.actors a).rv t)) (free_behind s l k v is)
-        (λ b j h p q. no_holder s l k v is b j h))
+    (λ b j h p q. no_holder s l k v is b j h))
     (λ _. broken_ok s a (Check (l ∷ ls)) v e (λ h. h) tt)
 checked_ok s a l ls (Locked k) (Some old) v e pl is mine =
     let hold = (pl.0).all_held l old mine in

@@ -91,7 +91,7 @@ settled_untouched r [] n l d f = cond_both (leb r.number n) (final r.calls l d) 
 settled_untouched r (x ∷ xs) n l d f =
     cond_both (comes_before r x) (r ∷ (x ∷ xs)) (x ∷ insert r xs) (λ z. settled z n l d ≡ settled (x ∷ xs) n l d)
     (λ _. ap (settled (x ∷ xs) n l) (cond_both (leb r.number n) (final r.calls l d) d (λ z. z ≡ d) (λ _. final_untouched r.calls l d f)
-        (λ _. refl)))
+    (λ _. refl)))
     (λ _. settled_untouched r xs n l (if nat_le x.number n then final x.calls l d else d) f)
 
 pub settled_later : (r : Record) (h : List Record) (n l d : ℕ) → n < r.number → settled (insert r h) n l d ≡ settled h n l d
@@ -138,15 +138,15 @@ in_order-before r x c new =
       | inr t ↦
           let h = ltb-false r.number x.number t in
           let c2 = sym (cond-false (ltb r.number x.number) true
-              (if ltb x.number r.number then false
-              else (if r.writer then true else (if x.writer then false else ltb r.actor x.actor))) t) ∙ c in
+          (if ltb x.number r.number then false
+          else (if r.writer then true else (if x.writer then false else ltb r.actor x.actor))) t) ∙ c in
           elim (cases_Bool (ltb x.number r.number)) [
             | inl u ↦ absurd (true≢false (sym c2
                 ∙ cond-true (ltb x.number r.number) false (if r.writer then true else (if x.writer then false else ltb r.actor x.actor)) u))
             | inr u ↦
                 let g = ltb-false x.number r.number u in
                 let c3 = sym (cond-false (ltb x.number r.number) false
-                    (if r.writer then true else (if x.writer then false else ltb r.actor x.actor)) u) ∙ c2 in (
+                (if r.writer then true else (if x.writer then false else ltb r.actor x.actor)) u) ∙ c2 in (
                   omega (arith, g),
                   λ e. elim (cases_Bool x.writer) [
                     | inr f ↦ f
@@ -177,14 +177,14 @@ in_order-after r x c =
       | inr t ↦
           let h = ltb-false r.number x.number t in
           let c2 = sym (cond-false (ltb r.number x.number) true
-              (if ltb x.number r.number then false
-              else (if r.writer then true else (if x.writer then false else ltb r.actor x.actor))) t) ∙ c in
+          (if ltb x.number r.number then false
+          else (if r.writer then true else (if x.writer then false else ltb r.actor x.actor))) t) ∙ c in
           elim (cases_Bool (ltb x.number r.number)) [
             | inl u ↦ let k = ltb-true x.number r.number u in
                 (omega (arith, h), λ e. absurd (omega (arith, k, e)), λ e w. absurd (omega (arith, k, e)))
             | inr u ↦
                 let c3 = sym (cond-false (ltb x.number r.number) false
-                    (if r.writer then true else (if x.writer then false else ltb r.actor x.actor)) u) ∙ c2 in (
+                (if r.writer then true else (if x.writer then false else ltb r.actor x.actor)) u) ∙ c2 in (
                   omega (arith, h),
                   λ e. elim (cases_Bool r.writer) [
                     | inr v ↦ v
@@ -194,7 +194,7 @@ in_order-after r x c =
                     | inl v ↦ absurd (true≢false (sym (cond-true r.writer true (if x.writer then false else ltb r.actor x.actor) v) ∙ c3))
                     | inr v ↦
                         let c4 = sym (cond-false x.writer false (ltb r.actor x.actor) w)
-                            ∙ sym (cond-false r.writer true (if x.writer then false else ltb r.actor x.actor) v) ∙ c3 in
+                        ∙ sym (cond-false r.writer true (if x.writer then false else ltb r.actor x.actor) v) ∙ c3 in
                         let most = ltb-false r.actor x.actor c4 in omega (arith, most)
                   ],
                 )
@@ -292,11 +292,11 @@ head_memory r rs m l true e a g h =
     let p : 0 < r.number = h.positive e in
     let b : r.number - 1 < r.number = omega arith in
     ap (settled rs (r.number - 1) l) (cond-false (leb r.number (r.number - 1)) (final r.calls l (m l)) (m l)
-        (lt-leb r.number (r.number - 1) b))
+    (lt-leb r.number (r.number - 1) b))
     ∙ settled_from (r.number - 1) rs (r ∷ rs) m l (m l) (no_write r (r ∷ rs) m rs l (r.number - 1) a g (inl b))
 head_memory r rs m l false e a g h =
     ap (settled rs r.number l) (cond_both (leb r.number r.number) (final r.calls l (m l)) (m l) (λ z. z ≡ m l)
-        (λ _. final_untouched r.calls l (m l) (h.reader e l)) (λ _. refl))
+    (λ _. final_untouched r.calls l (m l) (h.reader e l)) (λ _. refl))
     ∙ settled_from r.number rs (r ∷ rs) m l (m l) (no_write r (r ∷ rs) m rs l r.number a g (inr (refl, e)))
 
 -- what a later record saw, from behind the first one
@@ -315,8 +315,8 @@ behind r rs m x o h =
       legal = IsLegal-same x.calls (λ l. settled (r ∷ rs) (base x.writer x.number) l (m l))
           (λ l. settled rs (base x.writer x.number) l (after m r.calls l))
           (λ l. ap (settled rs (base x.writer x.number) l)
-              (cond-true (leb r.number (base x.writer x.number)) (final r.calls l (m l)) (m l)
-              (le-leb r.number (base x.writer x.number) b) ∙ sym (after-final r.calls m l)))
+          (cond-true (leb r.number (base x.writer x.number)) (final r.calls l (m l)) (m l)
+          (le-leb r.number (base x.writer x.number) b) ∙ sym (after-final r.calls m l)))
           h.legal;
       positive = h.positive;
       reader = h.reader;

@@ -74,7 +74,7 @@ notice_true s x (Take l k ls) pl = take_true s x l k ls (s.locks l) refl
 notice_true s x (Check []) pl = tt
 notice_true s x (Check (l ∷ ls)) pl = check_true s x l ls (s.locks l) (lookup x.writes l) refl
     (λ none. none_if (lookup x.held l) (λ j h. let w = (pl.0).written l j h in let z : Some w.0 ≡ None = sym w.1
-        ∙ none in absurd (let b : ⊥ = cc in b)))
+    ∙ none in absurd (let b : ⊥ = cc in b)))
 notice_true s x Broken pl = tt
 notice_true s x First pl = last_true s x First x.writes Stored tt
 notice_true s x (Store []) pl = tt
@@ -211,10 +211,10 @@ check_ends : (s : World) (a : ℕ) (x : Actor) (l : ℕ) (ls : List ℕ) (w : Lo
     → Ends (check_notice x.rv x.wv l ls w own) ((checked s a x l ls w own).actors a)
 check_ends s a x l ls (Free k) own = ends_put (check_notice x.rv x.wv l ls (Free k) own) s.actors a _
     (ends_if (leb k x.rv) (when_none_left ls (LockedAt x.wv)) (Invalid l (bits (Free k))) (goes x (Check ls)) (goes x Broken)
-        (λ h. absurd (quiet_left ls (LockedAt x.wv) (λ b. b) h)) (λ _. tt))
+    (λ h. absurd (quiet_left ls (LockedAt x.wv) (λ b. b) h)) (λ _. tt))
 check_ends s a x l ls (Locked k) (Some v) = ends_put (check_notice x.rv x.wv l ls (Locked k) (Some v)) s.actors a _
     (ends_if (leb k x.rv) (when_none_left ls (LockedAt x.wv)) (Invalid l (bits (Locked k))) (goes x (Check ls)) (goes x Broken)
-        (λ h. absurd (quiet_left ls (LockedAt x.wv) (λ b. b) h)) (λ _. tt))
+    (λ h. absurd (quiet_left ls (LockedAt x.wv) (λ b. b) h)) (λ _. tt))
 check_ends s a x l ls (Locked k) None = ends_put (Invalid l (bits (Locked k))) s.actors a (goes x Broken) (λ _. tt)
 
 begin_quiet : (clock : ℕ) → IsConflict (if ltb clock clock_limit then Begun clock else Exhausted clock) → ⊥
@@ -297,7 +297,7 @@ pub still_ends : (s : World) (e : Event) (a : ℕ) → IsEnding (s.actors a).pla
 still_ends s (Ask b request) a h =
     put_both StillEnds s.actors b (ask (s.actors b) (s.actors b).place request) a
     (λ q. let mine : IsEnding (s.actors b).place = subst (λ (n : ℕ). IsEnding (s.actors n).place) q h in inl
-        (ask_ends (s.actors b) (s.actors b).place request mine mine))
+    (ask_ends (s.actors b) (s.actors b).place request mine mine))
     (λ _. inl h)
 still_ends s (Step b) a h =
     elim (cases_eq a b) [
@@ -334,5 +334,5 @@ pub gives_old : (s : World) (a l k : ℕ) (rest : Entries) → (s.actors a).plac
 gives_old s a l k rest e h =
     subst (λ (p : Place). ((step s a (s.actors a) p).locks l ≡ Free k) × (((step s a (s.actors a) p).actors a).held ≡ rest)) (sym e)
     (subst (λ (es : Entries). ((undone s a (s.actors a) es).locks l ≡ Free k) × (((undone s a (s.actors a) es).actors a).held ≡ rest))
-        (sym h)
+    (sym h)
     (put-same s.locks l (Free k), ap (λ (y : Actor). y.held) (put-same s.actors a _)))

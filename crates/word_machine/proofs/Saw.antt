@@ -35,8 +35,12 @@ Saw-write s n cs k v g = record { reads = g.reads; legal = λ m a. IsLegal-write
 -- a location that was read before
 abbrev pub Saw-again : (s : World) (n : ℕ) (w : Entries) (cs : List Call) (k v : ℕ) (g : Saw s n cs) → Sets w cs → lookup w k ≡ None
     → lookup g.reads k ≡ Some v → Saw s n (cs ++ Read k v ∷ [])
-Saw-again s n w cs k v g sets h is = record { reads = g.reads; legal = λ m a. legal_read w cs k v m sets h (a k v is)
-    (g.legal m a); good = g.good }
+Saw-again s n w cs k v g sets h is = record {
+  reads = g.reads;
+  legal = λ m a. legal_read w cs k v m sets h (a k v is)
+      (g.legal m a);
+  good = g.good;
+}
 
 -- one that was not
 abbrev pub Saw-new : (s : World) (n : ℕ) (w : Entries) (cs : List Call) (k v : ℕ) (g : Saw s n cs) → Sets w cs → lookup w k ≡ None

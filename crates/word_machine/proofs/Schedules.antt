@@ -140,10 +140,10 @@ pub begins_at : (s : World) (a : ℕ) → Inv s → (s.actors a).place ≡ Begin
     → AllUpto ((happens s (Step a)).actors a).rv s.history
 begins_at s a v e =
     let P : Place → Type 0 = λ p. (((step s a (s.actors a) p).actors a).place ≡ Open
-        → AllUpto ((step s a (s.actors a) p).actors a).rv s.history) in
+    → AllUpto ((step s a (s.actors a) p).actors a).rv s.history) in
     let Q : Actor → Type 0 = λ z. (z.place ≡ Open → AllUpto z.rv s.history) in
     subst P (sym e) (cond_both (ltb s.clock clock_limit) (opened (s.actors a).declared s.clock) (goes (s.actors a) Idle)
-        (λ (z : Actor). Q (put s.actors a z a))
+    (λ (z : Actor). Q (put s.actors a z a))
     (λ _. subst Q (sym (put-same s.actors a (opened (s.actors a).declared s.clock))) (λ _. all_upto s s.history v.records))
     (λ _. subst Q (sym (put-same s.actors a (goes (s.actors a) Idle))) (λ h. (let z : Idle ≡ Open = h in cc))))
 

@@ -36,7 +36,7 @@ lookup-with_entry_other (e ∷ es) l v k ne =
     (λ _. cond-false (eqb k l) (Some v) _ (ne_eqb k l ne))
     (λ _. cond_both (eqb l e.0) ((l, v) ∷ es) (e ∷ with_entry es l v) (λ (z : Entries). lookup z k ≡ lookup (e ∷ es) k)
     (λ same. cond-false (eqb k l) (Some v) _ (ne_eqb k l ne)
-        ∙ sym (cond-false (eqb k e.0) (Some e.1) (lookup es k) (ne_eqb k e.0 (λ h. ne (h ∙ sym (eqb-true l e.0 same))))))
+    ∙ sym (cond-false (eqb k e.0) (Some e.1) (lookup es k) (ne_eqb k e.0 (λ h. ne (h ∙ sym (eqb-true l e.0 same))))))
     (λ _. ap (λ (z : Option ℕ). cond (eqb k e.0) (Some e.1) z) (lookup-with_entry_other es l v k ne)))
 
 -- an entry after one was set

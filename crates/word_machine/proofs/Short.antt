@@ -32,10 +32,10 @@ unfolding with_entry
 length-with_entry [] l v = (omega arith, omega arith)
 length-with_entry (e ∷ es) l v =
     cond_both (ltb l e.0) ((l, v) ∷ (e ∷ es)) (if eqb l e.0 then (l, v) ∷ es else e ∷ with_entry es l v)
-        (λ (z : Entries). (length (e ∷ es) ≤ length z) × (length z ≤ length (e ∷ es) + 1))
+    (λ (z : Entries). (length (e ∷ es) ≤ length z) × (length z ≤ length (e ∷ es) + 1))
     (λ _. (omega arith, omega arith))
     (λ _. cond_both (eqb l e.0) ((l, v) ∷ es) (e ∷ with_entry es l v)
-        (λ (z : Entries). (length (e ∷ es) ≤ length z) × (length z ≤ length (e ∷ es) + 1))
+    (λ (z : Entries). (length (e ∷ es) ≤ length z) × (length z ≤ length (e ∷ es) + 1))
     (λ _. (omega arith, omega arith))
     (λ _. let q = length-with_entry es l v in (omega (arith, q.0), omega (arith, q.1))))
 

@@ -98,8 +98,17 @@ filled_calls = Read 0 1 ∷ Read 0 1 ∷ Write 1 5 ∷ Write 1 6 ∷ Read 1 6 �
 
 filled_actor :
     (run fills opened).actors 1
-    ≡ record { place = Open; declared = false; rv = 0; wv = 0; reads = (0, 1) ∷ []; writes = (0, 7) ∷ (1, 6)
-        ∷ []; held = []; calls = filled_calls }
+    ≡ record {
+      place = Open;
+      declared = false;
+      rv = 0;
+      wv = 0;
+      reads = (0, 1) ∷ [];
+      writes = (0, 7) ∷ (1, 6)
+          ∷ [];
+      held = [];
+      calls = filled_calls;
+    }
 unfolding lookup put with_entry locations comes_before insert
 filled_actor = refl
 
@@ -194,7 +203,7 @@ last_taken = begins 2 ++ writes 2 2 6 ++ asks 2 AskLock 2
 
 busy_at_load :
     told (run (old_versions ++ three_to_lock ++ last_taken) opened)
-        (asks 1 AskLock 6 ++ asks 1 AskStore 0 ++ asks 1 AskCancel 2 ++ asks 1 AskAbort 1)
+    (asks 1 AskLock 6 ++ asks 1 AskStore 0 ++ asks 1 AskCancel 2 ++ asks 1 AskAbort 1)
     ≡ quiet 5 ++ Busy 2 1 ∷ NoTransaction ∷ quiet 3 ++ Cancelled ∷ Quiet ∷ Closed ∷ []
 unfolding lookup put with_entry locations comes_before insert
 busy_at_load = refl
@@ -206,20 +215,20 @@ busy_keeps_locks = refl
 
 gives_first_back :
     table (run (old_versions ++ three_to_lock ++ last_taken ++ asks 1 AskLock 5 ++ asks 1 AskCancel 1) opened)
-        ≡ (2, 2 ∷ 5 ∷ 1 ∷ [], 4 ∷ 5 ∷ 3 ∷ [])
+    ≡ (2, 2 ∷ 5 ∷ 1 ∷ [], 4 ∷ 5 ∷ 3 ∷ [])
 unfolding lookup put with_entry locations comes_before insert
 gives_first_back = refl
 
 gives_all_back :
     table (run (old_versions ++ three_to_lock ++ last_taken ++ asks 1 AskLock 5 ++ asks 1 AskCancel 2) opened)
-        ≡ (2, 2 ∷ 4 ∷ 1 ∷ [], 4 ∷ 5 ∷ 3 ∷ [])
+    ≡ (2, 2 ∷ 4 ∷ 1 ∷ [], 4 ∷ 5 ∷ 3 ∷ [])
 unfolding lookup put with_entry locations comes_before insert
 gives_all_back = refl
 
 -- It is busy too where it was taken, or had another version, since its load. A cancel with no lock held is answered at once.
 busy_at_exchange :
     told (run (begins 1 ++ writes 1 0 7 ++ asks 1 AskLock 1 ++ held_by_two) opened) (steps 1 2 ++ asks 1 AskCancel 0) ≡ Busy 0 1
-        ∷ NoTransaction ∷ Cancelled ∷ []
+    ∷ NoTransaction ∷ Cancelled ∷ []
 unfolding lookup put with_entry locations comes_before insert
 busy_at_exchange = refl
 
@@ -230,7 +239,7 @@ busy_by_both = refl
 
 busy_by_version :
     told (run (begins 1 ++ writes 1 0 7 ++ asks 1 AskLock 1 ++ puts 2 0 9) opened) (steps 1 2 ++ asks 1 AskAbort 0) ≡ Busy 0 2
-        ∷ NoTransaction ∷ Quiet ∷ []
+    ∷ NoTransaction ∷ Quiet ∷ []
 unfolding lookup put with_entry locations comes_before insert
 busy_by_version = refl
 
@@ -244,7 +253,7 @@ broken_place = refl
 
 broken_lacks :
     told broken (asks 1 AskAbort 1 ++ asks 1 AskStore 1 ++ asks 1 AskRelease 1 ++ asks 1 AskLock 1 ++ asks 1 AskClose 1
-        ++ asks 1 AskBegin 1 ++ asks 1 AskCancel 0)
+    ++ asks 1 AskBegin 1 ++ asks 1 AskCancel 0)
     ≡ nothing 6 ++ Cancelled ∷ []
 unfolding lookup put with_entry locations comes_before insert
 broken_lacks = refl
@@ -261,21 +270,21 @@ skew_is_checked = refl
 -- The clock keeps its advance, and the next commit takes the next number.
 skew_left :
     table (run (skew ++ asks 2 AskLock 4 ++ asks 2 AskCancel 1 ++ asks 2 AskAbort 1 ++ puts 2 1 9) opened)
-        ≡ (3, 2 ∷ 6 ∷ 0 ∷ [], 0 ∷ 9 ∷ 3 ∷ [])
+    ≡ (3, 2 ∷ 6 ∷ 0 ∷ [], 0 ∷ 9 ∷ 3 ∷ [])
 unfolding lookup put with_entry locations comes_before insert
 skew_left = refl
 
 -- A word that another holds fails the check, though its version is old.
 held_fails :
     told (run (begins 1 ++ reads 1 0 ++ writes 1 1 8 ++ puts 3 2 9 ++ held_by_two) opened) (asks 1 AskLock 5) ≡ quiet 4 ++ Invalid 0 1
-        ∷ NoTransaction ∷ []
+    ∷ NoTransaction ∷ []
 unfolding lookup put with_entry locations comes_before insert
 held_fails = refl
 
 -- One that the transaction itself has locked is judged by its old version: this one passes,
 own_passes :
     told (run (begins 1 ++ reads 1 0 ++ reads 1 1 ++ writes 1 0 8 ++ puts 3 2 9) opened) (asks 1 AskLock 6) ≡ quiet 5 ++ LockedAt 2
-        ∷ NoTransaction ∷ []
+    ∷ NoTransaction ∷ []
 unfolding lookup put with_entry locations comes_before insert
 own_passes = refl
 
@@ -302,7 +311,7 @@ own_breaks = refl
 -- The check comes after the clock: a commit that takes its number, stores and releases between two locks is found by it.
 after_clock :
     told (run (begins 1 ++ reads 1 2 ++ writes 1 0 7 ++ writes 1 1 8 ++ asks 1 AskLock 2 ++ puts 2 2 6) opened) (steps 1 5) ≡ quiet 3
-        ++ Invalid 2 2 ∷ NoTransaction ∷ []
+    ++ Invalid 2 2 ∷ NoTransaction ∷ []
 unfolding lookup put with_entry locations comes_before insert
 after_clock = refl
 
@@ -319,7 +328,7 @@ not_quick = refl
 -- Nothing is stored before the check has ended.
 no_store_before :
     told (run (begins 1 ++ reads 1 0 ++ writes 1 1 5 ++ puts 2 2 9 ++ asks 1 AskLock 3) opened) (asks 1 AskStore 1) ≡ Quiet ∷ LockedAt 2
-        ∷ []
+    ∷ []
 unfolding lookup put with_entry locations comes_before insert
 no_store_before = refl
 
@@ -352,7 +361,7 @@ declared_between = refl
 
 declared_locked :
     told (run (begins_read 1 ++ asks 1 (AskRead 0) 1 ++ held_by_two ++ steps 2 1 ++ asks 2 AskStore 1) opened) (steps 1 3) ≡ Quiet
-        ∷ Moved 0 1 ∷ NoTransaction ∷ []
+    ∷ Moved 0 1 ∷ NoTransaction ∷ []
 unfolding lookup put with_entry locations comes_before insert
 declared_locked = refl
 
@@ -380,13 +389,13 @@ declared_once = refl
 abbrev many : List Event
 many =
     begins 5 ++ writes 5 0 4 ++ asks 5 AskLock 3 ++ begins 3 ++ asks 3 AskClose 1 ++ begins 2 ++ reads 2 2 ++ asks 2 AskClose 1
-        ++ begins 2 ++ reads 2 1 ++ asks 2 AskClose 1
+    ++ begins 2 ++ reads 2 1 ++ asks 2 AskClose 1
     ++ puts 4 1 6 ++ asks 5 AskStore 1 ++ asks 5 AskRelease 1
 
 ordered :
     (run many opened).history
     ≡ writer 5 1 (Write 0 4 ∷ []) ∷ reader 2 1 (Read 2 3 ∷ []) ∷ reader 2 1 (Read 1 2 ∷ []) ∷ reader 3 1 [] ∷ writer 4 2 (Write 1 6 ∷ [])
-        ∷ []
+    ∷ []
 unfolding lookup put with_entry locations comes_before insert
 ordered = refl
 
@@ -430,20 +439,20 @@ abort_of_begin = refl
 -- A cancel in place of an unanswered lock is answered at once where none is held, before the first load and after it.
 cancel_of_none :
     told (run three_to_lock opened) (asks 1 AskLock 0 ++ asks 1 AskCancel 1 ++ asks 1 AskAbort 1) ≡ quiet 1 ++ Cancelled ∷ NoTransaction
-        ∷ Quiet ∷ Closed ∷ []
+    ∷ Quiet ∷ Closed ∷ []
 unfolding lookup put with_entry locations comes_before insert
 cancel_of_none = refl
 
 cancel_of_first :
     told (run three_to_lock opened) (asks 1 AskLock 1 ++ asks 1 AskCancel 1 ++ asks 1 AskAbort 1) ≡ quiet 2 ++ Cancelled ∷ NoTransaction
-        ∷ Quiet ∷ Closed ∷ []
+    ∷ Quiet ∷ Closed ∷ []
 unfolding lookup put with_entry locations comes_before insert
 cancel_of_first = refl
 
 -- Else it gives back what was taken; in place of a lock that is answered, all of them.
 cancel_of_lock :
     told (run (three_to_lock ++ asks 1 AskLock 3) opened) (asks 1 AskCancel 1 ++ asks 1 AskAbort 1) ≡ Quiet ∷ Cancelled ∷ Quiet ∷ Closed
-        ∷ []
+    ∷ []
 unfolding lookup put with_entry locations comes_before insert
 cancel_of_lock = refl
 
@@ -454,7 +463,7 @@ cancel_of_locked = refl
 
 cancel_told :
     told (run (three_to_lock ++ asks 1 AskLock 7) opened) (asks 1 AskCancel 3 ++ asks 1 AskAbort 1) ≡ quiet 3 ++ Cancelled ∷ Quiet
-        ∷ Closed ∷ []
+    ∷ Closed ∷ []
 unfolding lookup put with_entry locations comes_before insert
 cancel_told = refl
 

@@ -10,7 +10,7 @@ returns c = record {
   in_order = λ clock memory events. (reached clock memory events).ordered;
   serial = λ clock memory events.
       subst (λ (m : Memory). IsRun m (run events (start clock memory)).history) (opened_at clock memory events)
-          (serial (run events (start clock memory)) (reached clock memory events));
+      (serial (run events (start clock memory)) (reached clock memory events));
   saw = λ clock memory events later a.
       let s = run events (start clock memory) in
       let v = reached clock memory events in
