@@ -177,3 +177,12 @@ fn a_write_that_fails(rt: HostRuntime) -> Result<(), Fail> {
     assert_eq!(rt; status, REFUSED);
     Ok(())
 }
+
+#[test]
+fn the_version(rt: HostRuntime) -> Result<(), Fail> {
+    let left = run(rt.alloc(), &["--version"], b"")?;
+    assert_eq!(rt; left.status, DONE);
+    assert_eq!(rt; left.out.as_slice(), b"proust_tool 0.1.0\n".as_slice());
+    assert_eq!(rt; left.err.as_slice(), b"".as_slice());
+    Ok(())
+}

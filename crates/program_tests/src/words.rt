@@ -81,3 +81,23 @@ fn the_ends_of_the_clock(rt: HostRuntime) -> Result<(), Fail> {
     }
     Ok(())
 }
+
+#[test]
+fn a_declared_reader_and_a_commit_that_checks_nothing(rt: HostRuntime) -> Result<(), Fail> {
+    let rows: [(&str, &[u8], &[u8]); 2] = [
+        (
+            "a check left out",
+            b"words 1 0\n1 do begin\n1 do read 0\n1 do write 1 5\n1 commit\n1 step 4\n",
+            b"1: begun 0\n1: 1\n1: done\nrecord 1 write actor 1 calls 2\nhalf 1\nwords 1 5\n",
+        ),
+        (
+            "a declared reader",
+            b"words 1 2\n1 do begin_read\n1 do read 0\n1 do write 0 5\n2 do begin\n2 do write 0 9\n2 do commit\n1 do read 0\n",
+            b"1: begun 0\n1: 1\n1: NoSuch\n2: begun 0\n2: done\n2: committed 1\n1: Moved 0 2\nrecord 1 write actor 2 calls 1\nwords 9 2\n",
+        ),
+    ];
+    for (name, script, printed) in rows.as_slice() {
+        expect_printed(&rt, rt.alloc(), name, script, printed)?;
+    }
+    Ok(())
+}
