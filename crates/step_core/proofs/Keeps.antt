@@ -21,12 +21,14 @@ All-one P e p zero d h = p
 All-one P e p (suc k) d h = absurd (omega (arith, h))
 
 -- a set within its limit stays so, where a new location finds a place left
-few-with_entry : (es : Entries) (l v : ℕ) → IsRising es → length es ≤ 4096 → (lookup es l ≡ None → length es < 4096) → length (with_entry es l v) ≤ 4096
+few-with_entry : (es : Entries) (l v : ℕ) → IsRising es → length es ≤ 4096 → (lookup es l ≡ None → length es < 4096)
+    → length (with_entry es l v) ≤ 4096
 few-with_entry es l v rise few room = go (lookup es l) refl
   where
     go : (found : Option ℕ) → lookup es l ≡ found → length (with_entry es l v) ≤ 4096
     go None e = (let q = length-with_entry_new es l v e in let r = room e in omega (arith, q, r))
-    go (Some u) e = (let q = length-with_entry_there es l v rise (λ z. let w : Some u ≡ None = sym e ∙ z in let b : ⊥ = cc in b) in omega (arith, q, few))
+    go (Some u) e = (let q = length-with_entry_there es l v rise (λ z. let w : Some u ≡ None = sym e ∙ z in let b : ⊥ = cc in b) in omega
+        (arith, q, few))
 
 -- what the limit of a set says of a new location
 pub place_left : (es : Entries) (l : ℕ) → if_new (lookup es l) None es ≡ None → lookup es l ≡ None → length es < 4096
@@ -55,18 +57,22 @@ IsRising-with_read : (declared : Bool) (es : Entries) (l v : ℕ) → IsRising e
 IsRising-with_read true es l v r = r
 IsRising-with_read false es l v r = IsRising-with_entry es l v r
 
-few-with_read : (declared : Bool) (es : Entries) (l v : ℕ) → IsRising es → length es ≤ 4096 → length es < 4096 → length (with_read declared es l v) ≤ 4096
+few-with_read : (declared : Bool) (es : Entries) (l v : ℕ) → IsRising es → length es ≤ 4096 → length es < 4096
+    → length (with_read declared es l v) ≤ 4096
 few-with_read true es l v rise few room = few
 few-with_read false es l v rise few room = few-with_entry es l v rise few (λ _. room)
 
-pub read_keeps : (x y : Actor) (l k v : ℕ) → x.place ≡ Again l k v → y.place ≡ Open → y.wv ≡ x.wv → y.reads.entries ≡ with_read x.declared x.reads.entries l v → y.writes.entries ≡ x.writes.entries → y.held.items ≡ x.held.items → Keeps x y
+pub read_keeps : (x y : Actor) (l k v : ℕ) → x.place ≡ Again l k v → y.place ≡ Open → y.wv ≡ x.wv → y.reads.entries
+    ≡ with_read x.declared x.reads.entries l v → y.writes.entries ≡ x.writes.entries → y.held.items ≡ x.held.items → Keeps x y
 read_keeps x y l k v at_p at_q wv rs ws hs = record {
   fits = λ n f. (let pl = subst (FitsPlace n x) at_p f.place in record {
-    reads = subst (All (λ (e : ℕ × ℕ). e.0 < n)) (sym rs) (All-with_read (λ (e : ℕ × ℕ). e.0 < n) x.declared x.reads.entries l v pl.0 f.reads);
+    reads = subst (All (λ (e : ℕ × ℕ). e.0 < n)) (sym rs)
+        (All-with_read (λ (e : ℕ × ℕ). e.0 < n) x.declared x.reads.entries l v pl.0 f.reads);
     writes = subst (All (λ (e : ℕ × ℕ). e.0 < n)) (sym ws) f.writes;
     reads_rise = subst IsRising (sym rs) (IsRising-with_read x.declared x.reads.entries l v f.reads_rise);
     writes_rise = subst IsRising (sym ws) f.writes_rise;
-    reads_few = subst (λ (es : Entries). length es ≤ 4096) (sym rs) (few-with_read x.declared x.reads.entries l v f.reads_rise f.reads_few pl.2);
+    reads_few = subst (λ (es : Entries). length es ≤ 4096) (sym rs)
+        (few-with_read x.declared x.reads.entries l v f.reads_rise f.reads_few pl.2);
     writes_few = subst (λ (es : Entries). length es ≤ 4096) (sym ws) f.writes_few;
     held = subst (All (λ (e : ℕ × ℕ). (e.0 < n) × (e.1 < 2 ^ 63))) (sym hs) f.held;
     wv = subst (λ (z : ℕ). z < 2 ^ 63) (sym wv) f.wv;
@@ -76,8 +82,10 @@ read_keeps x y l k v at_p at_q wv rs ws hs = record {
   due = (let q = ap due at_p in let r = ap due at_q in omega (arith, q, r));
 }
 
-pub take_keeps : (x y : Actor) (l k i : ℕ) → x.place ≡ Take l k i → y.place ≡ Lock i → y.wv ≡ x.wv → y.held.items ≡ x.held.items ++ (l, k) ∷ [] → deque_len y.held ≡ deque_len x.held + 1 → deque_capacity y.held ≡ deque_capacity x.held
-    → y.reads.entries ≡ x.reads.entries → y.writes.entries ≡ x.writes.entries → length y.writes.entries ≡ length x.writes.entries → Keeps x y
+pub take_keeps : (x y : Actor) (l k i : ℕ) → x.place ≡ Take l k i → y.place ≡ Lock i → y.wv ≡ x.wv → y.held.items ≡ x.held.items
+    ++ (l, k) ∷ [] → deque_len y.held ≡ deque_len x.held + 1 → deque_capacity y.held ≡ deque_capacity x.held
+    → y.reads.entries ≡ x.reads.entries → y.writes.entries ≡ x.writes.entries → length y.writes.entries ≡ length x.writes.entries
+        → Keeps x y
 take_keeps x y l k i at_p at_q wv hs len most rs ws w = record {
   fits = λ n f. (let pl = subst (FitsPlace n x) at_p f.place in record {
     reads = subst (All (λ (e : ℕ × ℕ). e.0 < n)) (sym rs) f.reads;
@@ -86,7 +94,9 @@ take_keeps x y l k i at_p at_q wv hs len most rs ws w = record {
     writes_rise = subst IsRising (sym ws) f.writes_rise;
     reads_few = subst (λ (es : Entries). length es ≤ 4096) (sym rs) f.reads_few;
     writes_few = subst (λ (es : Entries). length es ≤ 4096) (sym ws) f.writes_few;
-    held = subst (All (λ (e : ℕ × ℕ). (e.0 < n) × (e.1 < 2 ^ 63))) (sym hs) (All-append (λ (e : ℕ × ℕ). (e.0 < n) × (e.1 < 2 ^ 63)) x.held.items ((l, k) ∷ []) f.held (All-one (λ (e : ℕ × ℕ). (e.0 < n) × (e.1 < 2 ^ 63)) (l, k) (pl.0, pl.1)));
+    held = subst (All (λ (e : ℕ × ℕ). (e.0 < n) × (e.1 < 2 ^ 63))) (sym hs)
+        (All-append (λ (e : ℕ × ℕ). (e.0 < n) × (e.1 < 2 ^ 63)) x.held.items ((l, k) ∷ []) f.held
+        (All-one (λ (e : ℕ × ℕ). (e.0 < n) × (e.1 < 2 ^ 63)) (l, k) (pl.0, pl.1)));
     wv = subst (λ (z : ℕ). z < 2 ^ 63) (sym wv) f.wv;
     place = subst (FitsPlace n y) (sym at_q) (omega (arith, pl.2, len, most, w));
   });
@@ -95,7 +105,9 @@ take_keeps x y l k i at_p at_q wv hs len most rs ws w = record {
 }
 
 -- a write in the write set
-pub write_fits : (n : ℕ) (x y : Actor) (l v : ℕ) → x.place ≡ Open → l < n → if_new (lookup x.writes.entries l) None x.writes.entries ≡ None → y.writes.entries ≡ with_entry x.writes.entries l v → Fits n x → y.place ≡ x.place → y.wv ≡ x.wv → y.reads.entries ≡ x.reads.entries
+pub write_fits : (n : ℕ) (x y : Actor) (l v : ℕ) → x.place ≡ Open → l < n → if_new (lookup x.writes.entries l) None x.writes.entries
+    ≡ None → y.writes.entries ≡ with_entry x.writes.entries l v → Fits n x → y.place ≡ x.place → y.wv ≡ x.wv → y.reads.entries
+    ≡ x.reads.entries
     → y.held.items ≡ x.held.items → Fits n y
 write_fits n x y l v at_p below limit ws f same wv rs hs = record {
   reads = subst (All (λ (e : ℕ × ℕ). e.0 < n)) (sym rs) f.reads;
@@ -103,7 +115,8 @@ write_fits n x y l v at_p below limit ws f same wv rs hs = record {
   reads_rise = subst IsRising (sym rs) f.reads_rise;
   writes_rise = subst IsRising (sym ws) (IsRising-with_entry x.writes.entries l v f.writes_rise);
   reads_few = subst (λ (es : Entries). length es ≤ 4096) (sym rs) f.reads_few;
-  writes_few = subst (λ (es : Entries). length es ≤ 4096) (sym ws) (few-with_entry x.writes.entries l v f.writes_rise f.writes_few (place_left x.writes.entries l limit));
+  writes_few = subst (λ (es : Entries). length es ≤ 4096) (sym ws)
+      (few-with_entry x.writes.entries l v f.writes_rise f.writes_few (place_left x.writes.entries l limit));
   held = subst (All (λ (e : ℕ × ℕ). (e.0 < n) × (e.1 < 2 ^ 63))) (sym hs) f.held;
   wv = subst (λ (z : ℕ). z < 2 ^ 63) (sym wv) f.wv;
   place = subst (FitsPlace n y) (sym (same ∙ at_p)) tt;

@@ -6,17 +6,20 @@ use Rattle.vlock_word.proofs.LockWordLemmas.{bits_unbits}
 use Rattle.tx_sets.specs.Entries.{lookup}
 use Rattle.word_machine.specs.Actor as machine
 use Rattle.word_machine.specs.World.{Memory, Record, World, Event, Step, blank, happens, run, start, in_order}
-use Rattle.word_machine.specs.Opacity.{IsRun, IsInOrder, IsLegal, IsHalfDone, AllUpto, memory_after, memory_at, upto}
+use Rattle.word_machine.specs.Opacity.{IsRun, IsInOrder, IsLegal, IsHalfDone, AllUpto, NoWriterHas, memory_after, memory_at, upto}
 use Rattle.word_machine.proofs.Invariant.{Inv}
 use Rattle.word_machine.specs.Notices.{Notice, Quiet, NoTransaction, Begun, Number, LockedAt, Written, Stored, Released, Cancelled, Closed, Moved, Busy, Invalid, Exhausted, notice}
 use Rattle.word_machine.specs.Progress.{steps_left, IsAnswered}
-use Rattle.word_machine.proofs.Schedules.{reached, opened_at, legal_of, serial, all_aborted, actor_saw, run_saw, words_at_rest, owned, begins_at}
+use Rattle.word_machine.proofs.Schedules.{all_upto, reached, opened_at, legal_of, serial, aborted_later, actor_saw, run_saw, words_at_rest, owned, begins_at}
 use Rattle.word_machine.proofs.Progress.{progress}
 use Rattle.word_machine.proofs.Answered.{step_other, step_further}
 use Rattle.word_machine.proofs.Short.{few}
+use Rattle.word_machine.proofs.Numbers.{unused_later}
+use Rattle.word_machine.proofs.Refusals.{notice_true, notice_names}
+use Rattle.word_machine.specs.Refusals.{IsEnding}
 use Rattle.step_core.specs.Answers.{result_of}
 use Rattle.step_core.specs.Shown.{Shown, shown, actor_in, actor_of, Steps, Reached, snapshot_of}
-use Rattle.step_core.specs.Opaque.{words_at, world_of, IsAtRest, Opaque, Saw, KeepsOthers, BeginsAbove, Nears, steps_due}
+use Rattle.step_core.specs.Opaque.{words_at, world_of, IsAnswerOf, IsAtRest, Opaque, AreNumbered, Saw, KeepsOthers, BeginsAbove, HasCause, Nears, steps_due}
 use Rattle.step_core.specs.Sound.{Fits, Sound}
 use Rattle.step_core.specs.declared.actor.Actor.{Actor}
 use Rattle.step_core.specs.declared.machine.Machine.{Machine}
@@ -29,10 +32,12 @@ unfolding memory_at
 saw_of v r a =
     let s = run r.events (start r.clock r.opening) in
     let i : Inv s = reached r.clock r.opening r.events in
-    let now : IsLegal (memory_after s.opening (upto (s.actors a).rv s.history)) (s.actors a).calls = legal_of s (s.actors a).rv (s.actors a).calls (actor_saw s a i) in
+    let now : IsLegal (memory_after s.opening (upto (s.actors a).rv s.history)) (s.actors a).calls = legal_of s (s.actors a).rv
+        (s.actors a).calls (actor_saw s a i) in
     subst (λ (x : machine.Actor). IsLegal (memory_after r.opening (upto x.rv (in_order [] v.history))) x.calls) (r.shows.actors a)
     (subst (λ (h : List Record). IsLegal (memory_after r.opening (upto (s.actors a).rv h)) (s.actors a).calls) r.shows.history
-    (subst (λ (m : Memory). IsLegal (memory_after m (upto (s.actors a).rv s.history)) (s.actors a).calls) (opened_at r.clock r.opening r.events) now))
+    (subst (λ (m : Memory). IsLegal (memory_after m (upto (s.actors a).rv s.history)) (s.actors a).calls)
+        (opened_at r.clock r.opening r.events) now))
 
 serial_of : (v : Shown) (r : Reached v) → IsRun r.opening (in_order [] v.history)
 serial_of v r =
@@ -43,22 +48,14 @@ serial_of v r =
 words_of : (v : Shown) (r : Reached v) → IsAtRest v → (l : ℕ) → get_or v.values l 0 ≡ memory_after r.opening (in_order [] v.history) l
 words_of v r rest l =
     let s = run r.events (start r.clock r.opening) in
-    let end = words_at_rest s (reached r.clock r.opening r.events) (λ a half. rest a (subst (λ (x : machine.Actor). IsHalfDone x.place) (r.shows.actors a) half)) l in
+    let end = words_at_rest s (reached r.clock r.opening r.events)
+        (λ a half. rest a (subst (λ (x : machine.Actor). IsHalfDone x.place) (r.shows.actors a) half)) l in
     sym (r.shows.values l) ∙ end
     ∙ ap (λ (m : Memory). memory_after m s.history l) (opened_at r.clock r.opening r.events)
     ∙ ap (λ (h : List Record). memory_after r.opening h l) r.shows.history
 
-pub opaque_of : (v : Shown) → Reached v → Opaque v
-opaque_of v r = record {
-  reached = r;
-  ordered = subst IsInOrder r.shows.history (reached r.clock r.opening r.events).ordered;
-  serial = λ q. serial_of v q;
-  words = λ q. words_of v q;
-  saw = λ q a. saw_of v q a;
-  aborted = λ q. all_aborted (run q.events (start q.clock q.opening)) (reached q.clock q.opening q.events);
-}
-
-later_of : (v : Shown) (r : Reached v) (a : ℕ) (events : List Event) → IsLegal (memory_at (run events (world_of v r)) (actor_in v a).rv) (actor_in v a).calls
+later_of : (v : Shown) (r : Reached v) (a : ℕ) (events : List Event)
+    → IsLegal (memory_at (run events (world_of v r)) (actor_in v a).rv) (actor_in v a).calls
 later_of v r a events =
     let s = world_of v r in
     let i : Inv s = reached r.clock r.opening r.events in
@@ -67,6 +64,40 @@ later_of v r a events =
 
 saw_always : (v : Shown) (a : ℕ) → Saw v a (actor_in v a).rv
 saw_always v a = record { now = λ r. saw_of v r a; later = λ r events. later_of v r a events }
+
+pub opaque_of : (v : Shown) → Reached v → Opaque v
+opaque_of v r = record {
+  reached = r;
+  ordered = subst IsInOrder r.shows.history (reached r.clock r.opening r.events).ordered;
+  serial = λ q. serial_of v q;
+  words = λ q. words_of v q;
+  saw = λ a. saw_always v a;
+  aborted = λ q later. aborted_later later (world_of v q) (reached q.clock q.opening q.events);
+}
+
+-- the numbers of records, and of commits that gave up
+pub numbered_of : (v : Shown) → Reached v → AreNumbered v
+numbered_of v r =
+    let s = world_of v r in
+    let all : AllUpto s.clock s.history = all_upto s s.history (reached r.clock r.opening r.events).records in
+    record {
+      upto = subst (λ (c : ℕ). AllUpto c (in_order [] v.history)) r.shows.clock (subst (AllUpto s.clock) r.shows.history all);
+      unused = λ q a later ends.
+          let t = world_of v q in
+          subst (λ (x : machine.Actor). NoWriterHas x.wv (run later t).history) (q.shows.actors a)
+          (unused_later q.clock q.opening q.events later a (subst (λ (x : machine.Actor). IsEnding x.place) (sym (q.shows.actors a)) ends));
+    }
+
+-- what a step answers is true of the words that it found
+pub has_cause : (v u : Shown) (a : ℕ) (answer : Result (Option WordAnswer) WordRefusal) → Steps v a u answer → HasCause v a answer
+has_cause v u a answer st = record {
+  cause = λ r.
+      let s = world_of v r in
+      let x = s.actors a in
+      let now : IsAnswerOf s x answer = ((st s r.shows).1, notice_true s x x.place
+          ((reached r.clock r.opening r.events).actors a).place, notice_names s x x.place) in
+      subst (λ (y : machine.Actor). IsAnswerOf s y answer) (r.shows.actors a) now;
+}
 
 -- an open transaction saw the words of its snapshot
 pub snapshot_saw : (v : Shown) (a : ℕ) (p : machine.Place) → IfSome (snapshot_of (actor_in v a) p) (λ rv. Saw v a rv)
@@ -80,24 +111,28 @@ snapshot_saw v a p = saw_always v a
 same_number : (m n : ℕ) → unbits m ≡ unbits n → m ≡ n
 same_number m n e = sym (bits_unbits m) ∙ ap bits e ∙ bits_unbits n
 
-pub keeps_others : (v u : Shown) (a : ℕ) (answer : Result (Option WordAnswer) WordRefusal) → Reached v → Steps v a u answer → KeepsOthers v a u
+pub keeps_others : (v u : Shown) (a : ℕ) (answer : Result (Option WordAnswer) WordRefusal) → Reached v → Steps v a u answer
+    → KeepsOthers v a u
 keeps_others v u a answer r st =
     let s = world_of v r in
     let after = (st s r.shows).0 in
     record {
       actors = λ b ne. sym (after.actors b) ∙ step_other s a b ne ∙ r.shows.actors b;
       words = λ b l k h ne. (
-          let same = owned s (Step a) b l k (reached r.clock r.opening r.events) (ap (λ (x : machine.Actor). lookup x.held l) (r.shows.actors b) ∙ h) ne in (
+          let same = owned s (Step a) b l k (reached r.clock r.opening r.events)
+              (ap (λ (x : machine.Actor). lookup x.held l) (r.shows.actors b) ∙ h) ne in (
             same_number (get_or u.locks l 0) (get_or v.locks l 0) (sym (after.locks l) ∙ same.0 ∙ r.shows.locks l),
             sym (after.values l) ∙ same.1 ∙ r.shows.values l,
           ));
     }
 
-pub begins_above : (v u : Shown) (a : ℕ) (answer : Result (Option WordAnswer) WordRefusal) → Reached v → Steps v a u answer → BeginsAbove v a u
+pub begins_above : (v u : Shown) (a : ℕ) (answer : Result (Option WordAnswer) WordRefusal) → Reached v → Steps v a u answer
+    → BeginsAbove v a u
 begins_above v u a answer r st at_begin at_open =
     let s = run r.events (start r.clock r.opening) in
     let after = (st s r.shows).0 in
-    let all = begins_at s a (reached r.clock r.opening r.events) (ap (λ (x : machine.Actor). x.place) (r.shows.actors a) ∙ at_begin) (ap (λ (x : machine.Actor). x.place) (after.actors a) ∙ at_open) in
+    let all = begins_at s a (reached r.clock r.opening r.events) (ap (λ (x : machine.Actor). x.place) (r.shows.actors a) ∙ at_begin)
+        (ap (λ (x : machine.Actor). x.place) (after.actors a) ∙ at_open) in
     subst (λ (x : machine.Actor). AllUpto x.rv (in_order [] v.history)) (after.actors a)
     (subst (λ (h : List Record). AllUpto ((happens s (Step a)).actors a).rv h) r.shows.history all)
 
@@ -125,9 +160,12 @@ nears v u a answer r st =
     let x = s.actors a in
     let after = (st s r.shows).0 in
     let before : steps_left x x.place ≡ steps_due v a = ap (λ (z : machine.Actor). steps_left z z.place) (r.shows.actors a) in
-    let then_ : steps_left ((happens s (Step a)).actors a) ((happens s (Step a)).actors a).place ≡ steps_due u a = ap (λ (z : machine.Actor). steps_left z z.place) (after.actors a) in
+    let then_ : steps_left ((happens s (Step a)).actors a) ((happens s (Step a)).actors a).place
+        ≡ steps_due u a = ap (λ (z : machine.Actor). steps_left z z.place) (after.actors a) in
     record {
-      fewer = λ h. (let q : steps_left ((happens s (Step a)).actors a) ((happens s (Step a)).actors a).place < steps_left x x.place = progress s a i (omega (arith, h, before)) in omega (arith, q, before, then_));
+      fewer = λ h. (let q : steps_left ((happens s (Step a)).actors a)
+          ((happens s (Step a)).actors a).place < steps_left x x.place = progress s a i (omega (arith, h, before)) in omega
+          (arith, q, before, then_));
       more = λ e. elim (step_further s a x x.place (i.actors a).place) [
         | inl n ↦ absurd (goes_on (notice s x x.place) (sym (st s r.shows).1 ∙ e) n)
         | inr m ↦ omega (arith, m, then_)

@@ -67,9 +67,11 @@ if_never false o e f g = g
 -- a set without an entry has room for one
 room_in_none : (w r : Entries) (l : ℕ) → w ≡ [] → r ≡ [] → NeverTooLong (if_new (lookup w l) (lookup r l) r)
 unfolding lookup
-room_in_none w r l ew er = subst (λ (z : Entries). NeverTooLong (if_new (lookup z l) (lookup r l) r)) (sym ew) (subst (λ (z : Entries). NeverTooLong (if_new None (lookup z l) z)) (sym er) none_never)
+room_in_none w r l ew er = subst (λ (z : Entries). NeverTooLong (if_new (lookup z l) (lookup r l) r)) (sym ew)
+    (subst (λ (z : Entries). NeverTooLong (if_new None (lookup z l) z)) (sym er) none_never)
 
-write_never : (n l : ℕ) (declared : Bool) (o : Option WordRefusal) → declared ≡ true → NeverTooLong (if nat_lt l n && not declared then o else Some NoSuch)
+write_never : (n l : ℕ) (declared : Bool) (o : Option WordRefusal) → declared ≡ true
+    → NeverTooLong (if nat_lt l n && not declared then o else Some NoSuch)
 write_never n l true o d = go (nat_lt l n)
   where
     go : (b : Bool) → NeverTooLong (if b && false then o else Some NoSuch)
@@ -77,10 +79,12 @@ write_never n l true o d = go (nat_lt l n)
     go false = such_never
 write_never n l false o d = no d
 
-place_never : (n : ℕ) (x : machine.Actor) (q : Request) → x.declared ≡ true → (x.place ≡ machine.Open → (x.reads ≡ []) × (x.writes ≡ [])) → allows (phase_of x x.place) q ≡ true → NeverTooLong (location_refusal n x q)
+place_never : (n : ℕ) (x : machine.Actor) (q : Request) → x.declared ≡ true → (x.place ≡ machine.Open → (x.reads ≡ []) × (x.writes ≡ []))
+    → allows (phase_of x x.place) q ≡ true → NeverTooLong (location_refusal n x q)
 place_never n x (AskRead l) d sets h =
     let none = sets (read_open x x.place l h) in
-    if_never (nat_lt l n) (if_new (lookup x.writes l) (lookup x.reads l) x.reads) (Some NoSuch) (λ _. room_in_none x.writes x.reads l none.1 none.0) such_never
+    if_never (nat_lt l n) (if_new (lookup x.writes l) (lookup x.reads l) x.reads) (Some NoSuch)
+        (λ _. room_in_none x.writes x.reads l none.1 none.0) such_never
 place_never n x (AskWrite l v) d sets h = write_never n l x.declared (if_new (lookup x.writes l) None x.writes) d
 place_never n x q d sets h = none_never
 
@@ -89,11 +93,14 @@ never_too_long v a q r d =
     let x = actor_in v a in
     let s : World = run r.events (start r.clock r.opening) in
     let none : x.place ≡ machine.Open → (x.reads ≡ []) × (x.writes ≡ []) =
-    subst (λ (y : machine.Actor). y.declared ≡ true → y.place ≡ machine.Open → (y.reads ≡ []) × (y.writes ≡ [])) (r.shows.actors a) (has_no_sets s a (reached r.clock r.opening r.events)) d in
+    subst (λ (y : machine.Actor). y.declared ≡ true → y.place ≡ machine.Open → (y.reads ≡ []) × (y.writes ≡ [])) (r.shows.actors a)
+        (has_no_sets s a (reached r.clock r.opening r.events)) d in
     if_never (is_actor a) (refusal_at (length v.values) x x.place q) (Some NoSuch)
     (λ _. if_never (allows (phase_of x x.place) q) (location_refusal (length v.values) x q) (Some (wrong_phase (phase_of x x.place) q))
     (place_never (length v.values) x q d none) (wrong_never (phase_of x x.place) q)) such_never
 
 -- so a refusal of its actor's request is of something else
-pub unlimited : (v : Shown) (a : ℕ) (q : Request) (named : Option WordRefusal) (refusal : WordRefusal) → Reached v → named ≡ refusal_of v a q → named ≡ Some refusal → (actor_in v a).declared ≡ true → refusal ≡ TooLong → ⊥
-unlimited v a q named refusal r is some d = never_too_long v a q r d refusal (subst (λ (o : Option WordRefusal). IsRefusal o refusal) (sym some ∙ is) refl)
+pub unlimited : (v : Shown) (a : ℕ) (q : Request) (named : Option WordRefusal) (refusal : WordRefusal) → Reached v → named
+    ≡ refusal_of v a q → named ≡ Some refusal → (actor_in v a).declared ≡ true → refusal ≡ TooLong → ⊥
+unlimited v a q named refusal r is some d = never_too_long v a q r d refusal
+    (subst (λ (o : Option WordRefusal). IsRefusal o refusal) (sym some ∙ is) refl)

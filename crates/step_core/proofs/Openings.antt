@@ -26,7 +26,8 @@ zeros_are zero = tt
 zeros_are (suc n) = (refl, zeros_are n)
 
 -- what a vector of zeros holds, where a number's clone is the number
-pub all_zero : {E : Type 0} → (n : ℕ) (r : Result (Vec ℕ Global) E) → IfOk r (λ v. ((y : ℕ) → y ≡ 0 → y ≡ 0) → v.items ≡ replicate n 0) → IfOk r (λ v. AreZero v.items)
+pub all_zero : {E : Type 0} → (n : ℕ) (r : Result (Vec ℕ Global) E) → IfOk r (λ v. ((y : ℕ) → y ≡ 0 → y ≡ 0) → v.items ≡ replicate n 0)
+    → IfOk r (λ v. AreZero v.items)
 all_zero n (Ok v) h = subst AreZero (sym (h (λ y e. e))) (zeros_are n)
 all_zero n (Err e) h = h
 
@@ -51,7 +52,8 @@ all_fit n [] b k d h = absurd (omega (arith, h))
 all_fit n (x ∷ xs) b zero d h = b.0.fits n
 all_fit n (x ∷ xs) b (suc k) d h = all_fit n xs b.1 k d (omega (arith, h))
 
-pub shows_opening : (w : Machine) → AreZero w.locks.items → AreBlank w.actors.items → w.history.items ≡ [] → Shows (shown w) (start w.clock (λ l. get_or w.values.items l 0))
+pub shows_opening : (w : Machine) → AreZero w.locks.items → AreBlank w.actors.items → w.history.items ≡ []
+    → Shows (shown w) (start w.clock (λ l. get_or w.values.items l 0))
 shows_opening w z b h = record {
   clock = refl;
   locks = λ l. sym (ap unbits (zero_at w.locks.items l z) ∙ unbits_free 0);
@@ -63,7 +65,8 @@ shows_opening w z b h = record {
 pub reached_opening : (w : Machine) → AreZero w.locks.items → AreBlank w.actors.items → w.history.items ≡ [] → Reached (shown w)
 reached_opening w z b h = record { clock = w.clock; opening = λ l. get_or w.values.items l 0; events = []; shows = shows_opening w z b h }
 
-pub sound_opening : (w : Machine) → length w.values.items ≡ length w.locks.items → length w.actors.items ≡ 65 → AreBlank w.actors.items → w.clock ≤ 2 ^ 62 → vec_len w.history ≡ 0 → Sound w
+pub sound_opening : (w : Machine) → length w.values.items ≡ length w.locks.items → length w.actors.items ≡ 65 → AreBlank w.actors.items
+    → w.clock ≤ 2 ^ 62 → vec_len w.history ≡ 0 → Sound w
 sound_opening w same seats b low h = record {
   same = same;
   seats = seats;

@@ -17,20 +17,25 @@ use Rattle.step_core.specs.declared.machine.Machine.{Machine}
 use Rattle.step_core.proofs.Moves.{drop_here, drop_end, actor_at_go}
 
 -- the phase at a place
-phase_at : (x : Actor) (p : Place) → x.place ≡ p → phase_of (actor_of x) (actor_of x).place ≡ phase_of (actor_of x) (place_of x.reads.entries x.writes.entries p)
+phase_at : (x : Actor) (p : Place) → x.place ≡ p → phase_of (actor_of x) (actor_of x).place
+    ≡ phase_of (actor_of x) (place_of x.reads.entries x.writes.entries p)
 phase_at x p e = ap (λ (z : Place). phase_of (actor_of x) (place_of x.reads.entries x.writes.entries z)) e
 
 pub checking : (x : Actor) (i : ℕ) → x.place ≡ Check i → i < length x.reads.entries → Locking ≡ phase_of (actor_of x) (actor_of x).place
-checking x i e h = sym (phase_at x (Check i) e ∙ ap (λ (ls : List ℕ). phase_of (actor_of x) (machine.Check ls)) (drop_here x.reads.entries i (0, 0) h))
+checking x i e h = sym (phase_at x (Check i) e
+    ∙ ap (λ (ls : List ℕ). phase_of (actor_of x) (machine.Check ls)) (drop_here x.reads.entries i (0, 0) h))
 
 pub checked : (x : Actor) (i : ℕ) → x.place ≡ Check i → length x.reads.entries ≤ i → Locked ≡ phase_of (actor_of x) (actor_of x).place
-checked x i e h = sym (phase_at x (Check i) e ∙ ap (λ (ls : List ℕ). phase_of (actor_of x) (machine.Check ls)) (drop_end x.reads.entries i h))
+checked x i e h = sym (phase_at x (Check i) e ∙ ap (λ (ls : List ℕ). phase_of (actor_of x) (machine.Check ls))
+    (drop_end x.reads.entries i h))
 
 pub storing : (x : Actor) (i : ℕ) → x.place ≡ Store i → i < length x.writes.entries → Busy ≡ phase_of (actor_of x) (actor_of x).place
-storing x i e h = sym (phase_at x (Store i) e ∙ ap (λ (ls : List ℕ). phase_of (actor_of x) (machine.Store ls)) (drop_here x.writes.entries i (0, 0) h))
+storing x i e h = sym (phase_at x (Store i) e ∙ ap (λ (ls : List ℕ). phase_of (actor_of x) (machine.Store ls))
+    (drop_here x.writes.entries i (0, 0) h))
 
 pub stored : (x : Actor) (i : ℕ) → x.place ≡ Store i → length x.writes.entries ≤ i → Stored ≡ phase_of (actor_of x) (actor_of x).place
-stored x i e h = sym (phase_at x (Store i) e ∙ ap (λ (ls : List ℕ). phase_of (actor_of x) (machine.Store ls)) (drop_end x.writes.entries i h))
+stored x i e h = sym (phase_at x (Store i) e ∙ ap (λ (ls : List ℕ). phase_of (actor_of x) (machine.Store ls))
+    (drop_end x.writes.entries i h))
 
 no : {A : Type 0} → (b : Bool) → b ≡ false → b ≡ true → A
 no b f t = absurd (true≢false (sym t ∙ f))
@@ -48,7 +53,8 @@ undo_no_write [] l v = refl
 undo_no_write (e ∷ es) l v = refl
 
 -- who may write stands in the open
-pub write_open : (m : machine.Actor) (r w : Entries) (p : Place) (l v : ℕ) → allows (phase_of m (place_of r w p)) (AskWrite l v) ≡ true → p ≡ Open
+pub write_open : (m : machine.Actor) (r w : Entries) (p : Place) (l v : ℕ) → allows (phase_of m (place_of r w p)) (AskWrite l v) ≡ true
+    → p ≡ Open
 write_open m r w Idle l v h = no false refl h
 write_open m r w Begin l v h = no false refl h
 write_open m r w Open l v h = refl
@@ -57,10 +63,12 @@ write_open m r w (Fetch i k) l v h = no false refl h
 write_open m r w (Again i k u) l v h = no false refl h
 write_open m r w (Lock i) l v h = no false refl h
 write_open m r w (Take i k j) l v h = no false refl h
-write_open m r w (Check i) l v h = no (allows (phase_of m (machine.Check (drop i (locations r)))) (AskWrite l v)) (check_no_write m (drop i (locations r)) l v) h
+write_open m r w (Check i) l v h = no (allows (phase_of m (machine.Check (drop i (locations r)))) (AskWrite l v))
+    (check_no_write m (drop i (locations r)) l v) h
 write_open m r w Broken l v h = no false refl h
 write_open m r w First l v h = no false refl h
-write_open m r w (Store i) l v h = no (allows (phase_of m (machine.Store (drop i (locations w)))) (AskWrite l v)) (store_no_write m (drop i (locations w)) l v) h
+write_open m r w (Store i) l v h = no (allows (phase_of m (machine.Store (drop i (locations w)))) (AskWrite l v))
+    (store_no_write m (drop i (locations w)) l v) h
 write_open m r w Release l v h = no false refl h
 write_open m r w Undo l v h = no (allows (undo_phase m.held) (AskWrite l v)) (undo_no_write m.held l v) h
 write_open m r w Leave l v h = no false refl h
@@ -82,7 +90,7 @@ seat_of v a q h =
     let t = (if_none (is_actor a) (refusal_at (length v.values) (actor_in v a) (actor_in v a).place q) NoSuch h).0 in
     let low = leb-true a 64 (both_true (nat_le 1 a) (nat_le a 64) t).1 in omega (arith, low)
 
-lawful : (v : Shown) (a : ℕ) (q : Request) → refusal_of v a q ≡ None
+pub lawful : (v : Shown) (a : ℕ) (q : Request) → refusal_of v a q ≡ None
     → (allows (phase_of (actor_in v a) (actor_in v a).place) q ≡ true) × (location_refusal (length v.values) (actor_in v a) q ≡ None)
 lawful v a q h =
     let x = actor_in v a in
@@ -90,12 +98,15 @@ lawful v a q h =
     if_none (allows (phase_of x x.place) q) (location_refusal (length v.values) x q) (wrong_phase (phase_of x x.place) q) t
 
 -- a request that is not refused is one of the phase
-pub allowed_here : (w : Machine) (a : ℕ) (x : Actor) (q : Request) → slice_get w.actors.items a ≡ Some x → refusal_of (shown w) a q ≡ None → allows (phase_of (actor_of x) (actor_of x).place) q ≡ true
-allowed_here w a x q got h = subst (λ (z : machine.Actor). allows (phase_of z z.place) q ≡ true) (actor_at_go w.actors.items a x got) (lawful (shown w) a q h).0
+pub allowed_here : (w : Machine) (a : ℕ) (x : Actor) (q : Request) → slice_get w.actors.items a ≡ Some x → refusal_of (shown w) a q
+    ≡ None → allows (phase_of (actor_of x) (actor_of x).place) q ≡ true
+allowed_here w a x q got h = subst (λ (z : machine.Actor). allows (phase_of z z.place) q ≡ true) (actor_at_go w.actors.items a x got)
+    (lawful (shown w) a q h).0
 
 pub within_of : (n : ℕ) (x : machine.Actor) (q : Request) → location_refusal n x q ≡ None → IsWithin n q
 within_of n x (AskRead l) h = ltb-true l n (if_none (nat_lt l n) (if_new (lookup x.writes l) (lookup x.reads l) x.reads) NoSuch h).0
-within_of n x (AskWrite l v) h = ltb-true l n (both_true (nat_lt l n) (not x.declared) (if_none (nat_lt l n && not x.declared) (if_new (lookup x.writes l) None x.writes) NoSuch h).0).0
+within_of n x (AskWrite l v) h = ltb-true l n (both_true (nat_lt l n) (not x.declared)
+    (if_none (nat_lt l n && not x.declared) (if_new (lookup x.writes l) None x.writes) NoSuch h).0).0
 within_of n x AskBegin h = tt
 within_of n x AskBeginRead h = tt
 within_of n x AskLock h = tt
@@ -106,20 +117,25 @@ within_of n x AskAbort h = tt
 within_of n x AskClose h = tt
 
 -- and its location is there, in a set or with a place left
-pub limit_here : (w : Machine) (a : ℕ) (x : Actor) (n : ℕ) (q : Request) → slice_get w.actors.items a ≡ Some x → n ≡ length w.values.items → refusal_of (shown w) a q ≡ None → location_refusal n (actor_of x) q ≡ None
+pub limit_here : (w : Machine) (a : ℕ) (x : Actor) (n : ℕ) (q : Request) → slice_get w.actors.items a ≡ Some x → n
+    ≡ length w.values.items → refusal_of (shown w) a q ≡ None → location_refusal n (actor_of x) q ≡ None
 limit_here w a x n q got same h =
     subst (λ (m : ℕ). location_refusal m (actor_of x) q ≡ None) (sym same)
-    (subst (λ (z : machine.Actor). location_refusal (length w.values.items) z q ≡ None) (actor_at_go w.actors.items a x got) (lawful (shown w) a q h).1)
+    (subst (λ (z : machine.Actor). location_refusal (length w.values.items) z q ≡ None) (actor_at_go w.actors.items a x got)
+        (lawful (shown w) a q h).1)
 
-pub read_limit : (n : ℕ) (x : machine.Actor) (l : ℕ) → location_refusal n x (AskRead l) ≡ None → if_new (lookup x.writes l) (lookup x.reads l) x.reads ≡ None
+pub read_limit : (n : ℕ) (x : machine.Actor) (l : ℕ) → location_refusal n x (AskRead l) ≡ None
+    → if_new (lookup x.writes l) (lookup x.reads l) x.reads ≡ None
 read_limit n x l h = (if_none (nat_lt l n) (if_new (lookup x.writes l) (lookup x.reads l) x.reads) NoSuch h).1
 
-pub write_limit : (n : ℕ) (x : machine.Actor) (l v : ℕ) → location_refusal n x (AskWrite l v) ≡ None → if_new (lookup x.writes l) None x.writes ≡ None
+pub write_limit : (n : ℕ) (x : machine.Actor) (l v : ℕ) → location_refusal n x (AskWrite l v) ≡ None
+    → if_new (lookup x.writes l) None x.writes ≡ None
 write_limit n x l v h = (if_none (nat_lt l n && not x.declared) (if_new (lookup x.writes l) None x.writes) NoSuch h).1
 
 -- only a transaction that is no declared reader writes
 pub write_writer : (n : ℕ) (x : machine.Actor) (l v : ℕ) → location_refusal n x (AskWrite l v) ≡ None → x.declared ≡ false
-write_writer n x l v h = not_true x.declared (both_true (nat_lt l n) (not x.declared) (if_none (nat_lt l n && not x.declared) (if_new (lookup x.writes l) None x.writes) NoSuch h).0).1
+write_writer n x l v h = not_true x.declared (both_true (nat_lt l n) (not x.declared)
+    (if_none (nat_lt l n && not x.declared) (if_new (lookup x.writes l) None x.writes) NoSuch h).0).1
   where
     not_true : (b : Bool) → not b ≡ true → b ≡ false
     not_true true h = no false refl h

@@ -6,7 +6,7 @@ use Rattle.step_core.specs.declared.answer.WordRefusal.TheVariants.{TooLong}
 
 -- the most locations
 abbrev pub location_limit : ℕ
-location_limit = 65536
+location_limit = 1048576
 
 -- why an opening is refused, memory aside
 abbrev pub opening_refusal : ℕ → ℕ → Option WordRefusal

@@ -119,7 +119,8 @@ Lists v o u = (length u.values ≡ length v.values) × (u.history ≡ listed v.h
 abbrev pub Steps : Shown → ℕ → Shown → Result (Option WordAnswer) WordRefusal → Type 0
 Steps v a u r =
     (s : World) → Shows v s
-    → Shows u (happens s (Step a)) × (r ≡ result_of (notice s (s.actors a) (s.actors a).place)) × Lists v (outcome a (s.actors a) (s.actors a).place) u
+    → Shows u (happens s (Step a)) × (r ≡ result_of (notice s (s.actors a) (s.actors a).place))
+        × Lists v (outcome a (s.actors a) (s.actors a).place) u
 
 -- v becomes u by a request of actor a, which is answered so, or by a step of its own where the answer is None
 abbrev pub Asks : Shown → ℕ → Request → Shown → Option WordAnswer → Type 0

@@ -1,5 +1,5 @@
 -- What the code needs of its fields besides what they show: bounds, and the room for what the steps will push.
-use Rattle.std.specs.Prelude.{◌≡◌, ℕ, ◌+◌, ◌-◌, ◌^◌, ◌<◌, ◌≤◌, List, [], ◌∷◌, length, slice_get, Some}
+use Rattle.std.specs.Prelude.{◌≡◌, ℕ, false, ◌+◌, ◌-◌, ◌^◌, ◌<◌, ◌≤◌, List, [], ◌∷◌, length, slice_get, Some}
 use Rattle.std.specs.Vec.{vec_len, vec_capacity}
 use Rattle.std.specs.VecDeque.{deque_len, deque_capacity}
 use Rattle.std.specs.List.{All}
@@ -10,11 +10,15 @@ use Rattle.step_core.specs.declared.actor.Place.TheVariants.{Idle, Open, Look, F
 use Rattle.step_core.specs.declared.actor.Actor.{Actor}
 use Rattle.step_core.specs.declared.machine.Machine.{Machine}
 
+-- room for one more read; a declared reader needs none
+abbrev pub HasRoom : Actor → Type 0
+HasRoom x = x.declared ≡ false → 0 < x.reads.room
+
 -- the room and the bounds that a place needs, with n locations
 abbrev pub FitsPlace : ℕ → Actor → Place → Type 0
-FitsPlace n x (Look l) = (l < n) × (0 < x.reads.room) × (length x.reads.entries < 4096) × (vec_len x.calls < vec_capacity x.calls)
-FitsPlace n x (Fetch l k) = (l < n) × (0 < x.reads.room) × (length x.reads.entries < 4096) × (vec_len x.calls < vec_capacity x.calls)
-FitsPlace n x (Again l k v) = (l < n) × (0 < x.reads.room) × (length x.reads.entries < 4096) × (vec_len x.calls < vec_capacity x.calls)
+FitsPlace n x (Look l) = (l < n) × HasRoom x × (length x.reads.entries < 4096) × (vec_len x.calls < vec_capacity x.calls)
+FitsPlace n x (Fetch l k) = (l < n) × HasRoom x × (length x.reads.entries < 4096) × (vec_len x.calls < vec_capacity x.calls)
+FitsPlace n x (Again l k v) = (l < n) × HasRoom x × (length x.reads.entries < 4096) × (vec_len x.calls < vec_capacity x.calls)
 FitsPlace n x (Lock i) = deque_len x.held + (length x.writes.entries - i) ≤ deque_capacity x.held
 FitsPlace n x (Take l k i) = (l < n) × (k < 2 ^ 63) × (deque_len x.held + (1 + (length x.writes.entries - i)) ≤ deque_capacity x.held)
 FitsPlace n x First = x.ready.items ≡ x.calls.items

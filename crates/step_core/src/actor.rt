@@ -3,7 +3,7 @@
 //! A step finds one word, and what it then makes of the actor depends on the actor and that word
 //! alone. So each kind of step is a method here, which is given the word, and [`crate::machine`] has
 //! the loads and the stores.
-ghost use Rattle.std.specs.Prelude.{◌≡◌, ◌≢◌, ℕ, ◌+◌, ◌^◌, ◌<◌, ◌≤◌, Ok, drop, length, slice_index_or, nat_lt, if◌then◌else◌};
+ghost use Rattle.std.specs.Prelude.{◌≡◌, ◌≢◌, false, ℕ, ◌+◌, ◌^◌, ◌<◌, ◌≤◌, Ok, drop, length, slice_index_or, nat_lt, if◌then◌else◌};
 ghost use Rattle.std.specs.Vec.{vec_len, vec_capacity};
 ghost use Rattle.std.specs.VecDeque.{deque_len, deque_capacity};
 ghost use Rattle.vlock_word.specs.LockWord.{unbits};
@@ -15,7 +15,7 @@ ghost use Rattle.word_machine.specs.Notices.{begin_notice, look_notice, again_no
 ghost use Rattle.step_core.specs.Answers.{result_of};
 ghost use Rattle.step_core.specs.Blank.{IsBlank};
 ghost use Rattle.step_core.specs.Shown.{actor_of};
-ghost use Rattle.step_core.specs.Sound.{Fits, Keeps, owed, due};
+ghost use Rattle.step_core.specs.Sound.{HasRoom, Fits, Keeps, owed, due};
 ghost use Rattle.step_core.specs.declared.actor.Place.TheVariants.{Look, Fetch, Again, Lock, Take, Check, Store, Release, Undo};
 ghost use Rattle.step_core.specs.declared.answer.WordRefusal.TheVariants.{Invalid};
 
@@ -78,7 +78,7 @@ pub struct Actor {
 
 /// Puts a value that was read into its set, which has the room. A declared reader keeps none.
 fn keep(reads: &mut ReadSet, declared: bool, location: u32, value: u64)
-    requires room { 0 < reads.old.room }
+    requires room { declared ≡ false → 0 < reads.old.room }
     requires limit { length reads.old.entries < 4096 }
     ensures { reads.new.entries ≡ with_read declared reads.old.entries location value }
 {
@@ -188,7 +188,7 @@ impl Actor {
         word: u64,
     ) -> Result<Option<WordAnswer>, WordRefusal>
         requires place { self.old.place ≡ Again location version value }
-        requires room { 0 < self.old.reads.room }
+        requires room { HasRoom self.old }
         requires limit { length self.old.reads.entries < 4096 }
         requires calls { vec_len self.old.calls < vec_capacity self.old.calls }
         ensures actor { actor_of self.new ≡ seen_again (actor_of self.old) location version value (unbits word) }

@@ -7,7 +7,7 @@ use std::alloc::Global;
 use std::marker::Model;
 
 /// The most locations.
-const LOCATIONS: usize = 65_536;
+const LOCATIONS: usize = 1_048_576;
 
 /// A clock, a table of words, and 64 actors that run transactions on them, one atomic step at a time.
 #[derive(Drop)]
@@ -33,13 +33,13 @@ impl Words {
     ghost use Rattle.step_core.specs.Answers.{request_of};
     ghost use Rattle.step_core.specs.Phases.{takes_memory};
     ghost use Rattle.step_core.specs.Shown.{Steps, Asks, Shows, Reached, record_of, actor_in, refusal_of, IsRefusal, snapshot_of};
-    ghost use Rattle.step_core.specs.Opaque.{Opaque, Saw, KeepsOthers, BeginsAbove, Nears, steps_due};
+    ghost use Rattle.step_core.specs.Opaque.{Opaque, AreNumbered, Saw, KeepsOthers, BeginsAbove, HasCause, Nears, steps_due};
     ghost use Rattle.step_core.specs.Openings.{opening_refusal};
     ghost use Rattle.step_core.specs.declared.answer.WordRefusal.TheVariants.{TooLong};
 
     /// A table of these values, each with a free lock word of version 0, a clock, and no history.
     ///
-    /// `TooLong` for a clock above 2^62 or more than 65,536 values. The values are dropped where it
+    /// `TooLong` for a clock above 2^62 or more than 1,048,576 values. The values are dropped where it
     /// is refused.
     pub fn new(alloc: Global, clock: u64, values: Vec<u64>) -> Result<Words, WordRefusal>
         ensures shows { IfOk result (λ words. Shows words (start clock (λ l. get_or values.items l 0))) }
@@ -75,9 +75,9 @@ impl Words {
     ///
     /// `NoSuch` for an actor that is not 1 to 64, `NotIdle` where a request is unanswered or a begin
     /// is asked inside a transaction, `NoTransaction` for another request that the phase lacks,
-    /// `NoSuch` for a location that there is not and for a write of a declared reader, `TooLong` for one more than 4,096 in a set, in this
-    /// order, and `OutOfMemory` where none of these holds and a growth was refused. A refused
-    /// request changes nothing. Release, Cancel and Abort take no memory, so what has stored a value
+    /// `NoSuch` for a location that there is not and for a write of a declared reader, `TooLong` for
+    /// one more than 4,096 in a set, in this order, and `OutOfMemory` where none of these holds and a
+    /// growth was refused. A refused request changes nothing. Release, Cancel and Abort take no memory, so what has stored a value
     /// can always go on, and what holds a lock can always give it back.
     pub fn ask(
         &mut self,
@@ -93,7 +93,8 @@ impl Words {
         // A declared reader may read any number of locations.
         ensures unlimited { (actor_in self.old actor).declared ≡ true → IfErr result (λ refusal. refusal ≢ TooLong) }
 
-        // Each request is answered by fewer than 1,000,000 of its own steps.
+        // A request is answered at once or by one of its own steps, fewer than 1,000,000.
+        ensures due { IfOk result (λ answer. answer ≡ None → 0 < steps_due self.new actor) }
         ensures soon { steps_due self.new actor < 1000000 }
         ensures reached { Reached self.new }
     {
@@ -106,13 +107,14 @@ impl Words {
 
     /// The next atomic step of an actor, and the answer to its request, if this step brings it.
     ///
-    /// `Moved`, `Busy` and `Invalid` name the location and the lock word that this step found,
-    /// `Exhausted` the clock; `NoTransaction` where no step is due. It takes no memory.
+    /// `Moved`, `Busy` and `Invalid` name the location at which the actor stood and the lock word that
+    /// this step found there, `Exhausted` the clock; `NoTransaction` where no step is due. It takes no memory.
     pub fn step(&mut self, actor: u32) -> Result<Option<WordAnswer>, WordRefusal>
         ensures steps { Steps self.old actor self.new result }
         ensures others { KeepsOthers self.old actor self.new }
         ensures begins { BeginsAbove self.old actor self.new }
         ensures nearer { Nears self.old actor self.new result }
+        ensures cause { HasCause self.old actor result }
         ensures reached { Reached self.new }
     {
         let a = actor as usize;
@@ -126,6 +128,7 @@ impl Words {
     pub fn history(&self) -> &[WordRecord]
         ensures records { map record_of result.now ≡ self.now.history }
         ensures opaque { Opaque self.now }
+        ensures numbered { AreNumbered self.now }
     {
         &self.machine.history
     }
@@ -135,6 +138,17 @@ impl Words {
         ensures { result.now ≡ self.now.values }
     {
         &self.machine.values
+    }
+
+    /// Whether an actor's transaction, or the one that it is to begin, is that of a declared reader.
+    pub fn is_declared(&self, actor: u32) -> bool
+        ensures { result ≡ (actor_in self.now actor).declared }
+    {
+        let a = actor as usize;
+        match self.machine.actors.get(a) {
+            Some(actor) => actor.declared,
+            None => false,
+        }
     }
 
     /// The reading of the clock with which an actor's open transaction began.
@@ -150,6 +164,3 @@ impl Words {
         }
     }
 }
-
-#[cfg(test)]
-mod tests;

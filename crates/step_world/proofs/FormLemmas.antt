@@ -1,11 +1,7 @@
 -- A world through its events, in both of its forms, and what its trace says.
-use Rattle.std.proofs.Common.{◌≡◌, ℕ, zero, suc, ◌+◌, ◌<◌, ◌≤◌, Bool, true, false, cond, Result, Ok, Err, IfOk, List, [], ◌∷◌, ◌++◌, length, get_or, take, drop, drop-cons, refl, sym, ◌∙◌, ap, subst, inl, inr, arith, ltb, ltb-true}
-use Rattle.std.specs.Prelude.{nat_lt, if◌then◌else◌}
+use Rattle.std.proofs.Common.{◌≡◌, ℕ, zero, suc, ◌+◌, ◌<◌, ◌≤◌, true, false, cond, Result, Ok, Err, IfOk, List, [], ◌∷◌, ◌++◌, length, get_or, take, drop, drop-cons, refl, sym, ◌∙◌, ap, subst, arith}
+use Rattle.std.specs.Prelude.{nat_lt}
 use Rattle.std.proofs.Math.Seq.{take-suc}
-use Rattle.std.proofs.Math.ListN.{drop_of_length-le}
-use Rattle.std.proofs.lemmas.Bool.{cond-true, cond-false}
-use Rattle.std.proofs.lemmas.Bool.Decides.{nat_tests}
-use Rattle.std.proofs.lemmas.List.{append_assoc}
 use Rattle.seq_model.specs.declared.event.Event.{Event}
 use Rattle.seq_model.specs.declared.event.Notice.{Notice}
 use Rattle.seq_model.specs.declared.held.Held.{Held}
@@ -13,12 +9,11 @@ use Rattle.seq_model.specs.declared.record.Record.{Record}
 use Rattle.seq_model.specs.declared.refusal.Memory.{Memory}
 use Rattle.seq_model.specs.Contents.{Contents}
 use Rattle.seq_model.specs.Runs.{IsInCommitOrder, IsRun, after_run}
-use Rattle.step_core.specs.Shown as core
 use Rattle.step_world.specs.declared.trace.Ended.{Ended}
 use Rattle.step_world.specs.declared.trace.Trace.{Trace}
 use Rattle.step_world.specs.declared.word_parts.WordParts.{WordParts}
 use Rattle.step_world.specs.declared.word_seat.WordSeat.{WordSeat}
-use Rattle.step_world.specs.Forms.{FormShown, MapShown, WordsAreShown, IsAfter, Feeds, IsTraceIn, IsTraceBeside, opening_in}
+use Rattle.step_world.specs.Forms.{FormShown, MapShown, WordsAreShown, IsAfter, Feeds, IsTraceIn, IsTraceBeside}
 use Rattle.step_world.specs.Serial.{AllSaw}
 use Rattle.step_world.specs.Sound.{IsSound}
 use Rattle.step_world.specs.Traces.{IsTraceOf, IsTraceOfWords, IsSerialTrace}

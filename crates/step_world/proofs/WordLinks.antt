@@ -131,15 +131,14 @@ pub record MayCancel (y : Actor) : Type 0 where
 
 module _ {V : Type 0} where
   -- a transaction's reading of the clock, calls and write set, in the seat and in the machine
-  pub record Tx (n rv : ℕ) (done : List (Call V × Reply V)) (r : ℕ) (cs : List machine.Call) (own : Entries) (declared : Bool) : Type 0 where
+  pub record Tx (n rv : ℕ) (done : List (Call V × Reply V)) (r : ℕ) (cs : List machine.Call) (own : Entries) : Type 0 where
     pub began : rv ≡ r
     pub calls : done ≡ map pair_of cs
     pub within : Within n cs
     pub writer : is_writer done ≡ is_some_entry own
-    pub plain : declared ≡ false
 
   abbrev pub InTx : ℕ → WordSeat V → Actor → Type 0
-  InTx n x y = Tx n x.rv x.calls y.rv y.calls y.writes y.declared
+  InTx n x y = Tx n x.rv x.calls y.rv y.calls y.writes
 
   -- ---- what a stage says of the actor's record in the machine, by its place
   abbrev pub AtReading : ℕ → ℕ → WordSeat V → Actor → Place → Type 0
@@ -156,7 +155,7 @@ module _ {V : Type 0} where
 
   abbrev pub StageOk : ℕ → Stage → WordSeat V → Actor → Place → Type 0
   StageOk n Idle x y p = p ≡ machine.Idle
-  StageOk n Beginning x y p = (p ≡ machine.Begin) × (y.declared ≡ false)
+  StageOk n Beginning x y p = p ≡ machine.Begin
   StageOk n Open x y p = (p ≡ machine.Open) × InTx n x y
   StageOk n (Reading l) x y p = AtReading n l x y p
   StageOk n Locking x y p = AtLocking n x y p
@@ -274,26 +273,24 @@ module _ {V : Type 0} where
   }
 
   -- ---- a call joins the transaction
-  pub read_joins : (n : ℕ) (x : WordSeat V) (y z : Actor) (l v : ℕ) → InTx n x y → l < n → z.rv ≡ y.rv → z.calls ≡ y.calls ++ machine.Read l v ∷ [] → z.writes ≡ y.writes → z.declared ≡ y.declared → InTx n (with_call x (read_call l) (replies.Number v)) z
-  read_joins n x y z l v t lt r c w d = record {
+  pub read_joins : (n : ℕ) (x : WordSeat V) (y z : Actor) (l v : ℕ) → InTx n x y → l < n → z.rv ≡ y.rv → z.calls ≡ y.calls ++ machine.Read l v ∷ [] → z.writes ≡ y.writes → InTx n (with_call x (read_call l) (replies.Number v)) z
+  read_joins n x y z l v t lt r c w = record {
     began = t.began ∙ sym r;
     calls = ap (λ cs. cs ++ (read_call l, replies.Number v) ∷ []) t.calls ∙ sym (map-append pair_of y.calls (machine.Read l v ∷ [])) ∙ ap (map pair_of) (sym c);
     within = subst (Within n) (sym c) (Within-append n y.calls (machine.Read l v ∷ []) t.within (lt, tt));
     writer = list_any-append (λ (d : Call V × Reply V). changes d.0.op d.1) x.calls ((read_call l, replies.Number v) ∷ []) ∙ or_false (is_writer x.calls) ∙ t.writer ∙ ap is_some_entry (sym w);
-    plain = d ∙ t.plain;
   }
     where
       or_false : (b : Bool) → (b || false) ≡ b
       or_false true = refl
       or_false false = refl
 
-  pub write_joins : (n : ℕ) (x : WordSeat V) (y z : Actor) (l v : ℕ) → InTx n x y → l < n → z.rv ≡ y.rv → z.calls ≡ y.calls ++ machine.Write l v ∷ [] → is_some_entry z.writes ≡ true → z.declared ≡ y.declared → InTx n (with_call x (write_call l v) replies.Done) z
-  write_joins n x y z l v t lt r c w d = record {
+  pub write_joins : (n : ℕ) (x : WordSeat V) (y z : Actor) (l v : ℕ) → InTx n x y → l < n → z.rv ≡ y.rv → z.calls ≡ y.calls ++ machine.Write l v ∷ [] → is_some_entry z.writes ≡ true → InTx n (with_call x (write_call l v) replies.Done) z
+  write_joins n x y z l v t lt r c w = record {
     began = t.began ∙ sym r;
     calls = ap (λ cs. cs ++ (write_call l v, replies.Done) ∷ []) t.calls ∙ sym (map-append pair_of y.calls (machine.Write l v ∷ [])) ∙ ap (map pair_of) (sym c);
     within = subst (Within n) (sym c) (Within-append n y.calls (machine.Write l v ∷ []) t.within (lt, tt));
     writer = list_any-append (λ (d : Call V × Reply V). changes d.0.op d.1) x.calls ((write_call l v, replies.Done) ∷ []) ∙ or_true (is_writer x.calls) ∙ sym w;
-    plain = d ∙ t.plain;
   }
     where
       or_true : (b : Bool) → (b || true) ≡ true

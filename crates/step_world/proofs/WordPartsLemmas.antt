@@ -16,12 +16,12 @@ use Rattle.seq_model.specs.declared.refusal.Memory.{Memory}
 use Rattle.seq_model.specs.declared.refusal.Refusal.{Refusal}
 use Rattle.seq_model.specs.declared.refusal.Refusal.TheVariants as refusal
 use Rattle.seq_model.specs.Contents.{Contents}
+use Rattle.word_machine.specs.Actor.{Actor}
 use Rattle.word_machine.specs.Requests as word
 use Rattle.word_machine.specs.World.{start}
 use Rattle.word_machine.proofs.Sets.{put-same, put-other}
 use Rattle.step_core.specs.declared.answer.WordAnswer.{WordAnswer}
 use Rattle.step_core.specs.declared.answer.WordAnswer.TheVariants.{Number, Cancelled}
-use Rattle.step_core.specs.declared.answer.WordRefusal.{WordRefusal}
 use Rattle.step_core.specs.Shown as core
 use Rattle.step_world.specs.declared.trace.Ended.{Ended}
 use Rattle.step_world.specs.declared.word_seat.Stage.{Stage}
@@ -311,6 +311,10 @@ module _ {V : Type 0} where
 
   pub is_refused : {v : WordsShown V} {w : WordWorld V} (a l : ℕ) (next : After V) (r : Refusal) → call_refusal v a l ≡ Some r → Stands v w → if_allowed w a (w.seats a) l next ≡ (w, Refused a r)
   is_refused {v} {w} a l next r some s = allowed_as a l next s ∙ ap (λ r. Allowed w a r next) some
+
+  -- whether an actor is a declared reader
+  pub is_declared : {v : WordsShown V} {w : WordWorld V} (a : ℕ) (b : Bool) → b ≡ (core.actor_in v.words a).declared → Stands v w → (w.words.actors a).declared ≡ b
+  is_declared a b is s = ap (λ (x : Actor). x.declared) (s.words.actors a) ∙ sym is
 
   -- a read that a set answers, and one that begins
   pub reads_number : (w : WordWorld V) (a : ℕ) (x : WordSeat V) (l v : ℕ) (answer : Option WordAnswer) → number_in answer ≡ Some v → reads w a x l (Ok answer) ≡ has_read (asks w a (word.AskRead l)) a x (Reading l) v

@@ -48,7 +48,7 @@ module _ {V : Type 0} where
 
   half_too : (n : ℕ) (stage : Stage) (x : WordSeat V) (y : Actor) (p : Place) → StageOk n stage x y p → HoldsStored p → is_half_done stage ≡ true
   half_too n Idle x y p h g = absurd (subst HoldsStored h g)
-  half_too n Beginning x y p h g = absurd (subst HoldsStored h.0 g)
+  half_too n Beginning x y p h g = absurd (subst HoldsStored h g)
   half_too n Open x y p h g = absurd (subst HoldsStored h.0 g)
   half_too n (Reading l) x y p h g = absurd (reading_none n l x y p h g)
   half_too n Locking x y p h g = absurd (locking_none n x y p h g)

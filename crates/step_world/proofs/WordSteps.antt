@@ -102,7 +102,7 @@ module _ {V : Type 0} where
   ReadOk n stage x y v = ⊥
 
   abbrev AfterAnswer : ℕ → Stage → WordSeat V → Actor → WordAnswer → Type 0
-  AfterAnswer n stage x y (answer.Begun rv) = (y.place ≡ machine.Open) × (rv ≡ y.rv) × (y.calls ≡ []) × (y.writes ≡ []) × (y.declared ≡ false)
+  AfterAnswer n stage x y (answer.Begun rv) = (y.place ≡ machine.Open) × (rv ≡ y.rv) × (y.calls ≡ []) × (y.writes ≡ [])
   AfterAnswer n stage x y (answer.Number v) = ReadOk n stage x y v
   AfterAnswer n stage x y answer.Done = ⊥
   AfterAnswer n stage x y (answer.Locked wv) = (y.place ≡ machine.Check []) × (wv ≡ y.wv) × InTx n x y
@@ -135,7 +135,7 @@ module _ {V : Type 0} where
   answers_linked : (w : WordWorld V) (a : ℕ) (x : WordSeat V) (stage : Stage) (r : WordAnswer) → Others w a → w.seats a ≡ x → x.stage ≡ stage → AfterAnswer (size w) stage x (w.words.actors a) r → Linked (answered w a x stage r).0
   answers_linked w a x stage (answer.Begun rv) o seat at_p h =
       linked_seated w a (record { stage = Open; rv = rv; wv = 0; cause = None; calls = [] }) o
-      (h.0, record { began = h.1; calls = ap (map pair_of) (sym h.2); within = subst (Within (size w)) (sym h.2) tt; writer = ap is_some_entry (sym h.3); plain = h.4 })
+      (h.0, record { began = h.1; calls = ap (map pair_of) (sym h.2); within = subst (Within (size w)) (sym h.2) tt; writer = ap is_some_entry (sym h.3) })
   answers_linked w a x stage (answer.Number v) o seat at_p h = reads_linked w a x stage v o h
   answers_linked w a x stage answer.Done o seat at_p h = absurd h
   answers_linked w a x stage (answer.Locked wv) o seat at_p h = linked_seated w a (record x { stage = Ready; wv = wv }) o h
@@ -168,10 +168,10 @@ module _ {V : Type 0} where
       (settles (moves w a) a x stage r (others_moves w a p e g (others_of w a k)) seat at_p (subst (λ z. AfterOk (size w) stage x z r) (sym (stepped w.words a p e)) h))
 
   -- ---- the record after the step of each place
-  begin_after : (n : ℕ) (x : WordSeat V) (y : Actor) (clock : ℕ) → y.declared ≡ false → AfterOk n Beginning x (machine.begun y clock) (result_of (begin_notice clock))
-  begin_after n x y clock d =
+  begin_after : (n : ℕ) (x : WordSeat V) (y : Actor) (clock : ℕ) → AfterOk n Beginning x (machine.begun y clock) (result_of (begin_notice clock))
+  begin_after n x y clock =
       elim (nat_lt clock machine.clock_limit) as (λ b. AfterOk n Beginning x (cond b (machine.opened y.declared clock) (machine.goes y machine.Idle)) (result_of (cond b (told.Begun clock) (told.Exhausted clock)))) [
-        | true ↦ (refl, refl, refl, refl, d)
+        | true ↦ (refl, refl, refl, refl)
         | false ↦ refl
       ]
 
@@ -186,7 +186,7 @@ module _ {V : Type 0} where
   again_after : (n l k v : ℕ) (x : WordSeat V) (y : Actor) (found : LockWord) → InTx n x y → l < n → y.held ≡ [] → AfterOk n (Reading l) x (seen_again y l k v found) (result_of (again_notice l k v found))
   again_after n l k v x y (Free j) t lt none =
       elim (eqb j k) as (λ b. AfterOk n (Reading l) x (cond b (machine.has_read y l v) (machine.goes y machine.Undo)) (result_of (cond b (told.Number v) (told.Moved l (bits (Free j)))))) [
-        | true ↦ (refl, read_joins n x y (machine.has_read y l v) l v t lt refl refl refl refl)
+        | true ↦ (refl, read_joins n x y (machine.has_read y l v) l v t lt refl refl refl)
         | false ↦ (refl, none, t)
       ]
   again_after n l k v x y (Locked j) t lt none = (refl, none, t)
@@ -332,7 +332,7 @@ module _ {V : Type 0} where
   step_linked w a x Open k seat at_p h = k
   step_linked w a x Ready k seat at_p h =
       first_step w a x (w.words.actors a).writes k h.0 h.1 h.2 refl (placed w a (machine.Check []) k h.0).0.some
-  step_linked w a x Beginning k seat at_p h = goes_linked w a x Beginning machine.Begin k seat at_p h.0 refl (begin_after (size w) x (w.words.actors a) w.words.clock h.1)
+  step_linked w a x Beginning k seat at_p h = goes_linked w a x Beginning machine.Begin k seat at_p h refl (begin_after (size w) x (w.words.actors a) w.words.clock)
   step_linked w a x (Reading l) k seat at_p h = reading_step w a x l (w.words.actors a).place k seat at_p refl h
   step_linked w a x Locking k seat at_p h = locking_step w a x (w.words.actors a).place k seat at_p refl h
   step_linked w a x Storing k seat at_p h = storing_step w a x (w.words.actors a).place k seat at_p refl h
@@ -350,18 +350,18 @@ module _ {V : Type 0} where
       → ask (w.words.actors a) machine.Open (word.AskRead l) ≡ word.read (w.words.actors a) l own seen_ → Linked (reads w a x l (result_of (read_reply own seen_))).0
   read_linked w a x l (Some v) seen_ k e t lt is =
       let y = w.words.actors a in
-      turns_linked w a machine.Open (word.AskRead l) (with_call x (read_call l) (replies.Number v)) (word.replied y (machine.Read l v)) k e is (refl, read_joins (size w) x y (word.replied y (machine.Read l v)) l v t lt refl refl refl refl)
+      turns_linked w a machine.Open (word.AskRead l) (with_call x (read_call l) (replies.Number v)) (word.replied y (machine.Read l v)) k e is (refl, read_joins (size w) x y (word.replied y (machine.Read l v)) l v t lt refl refl refl)
   read_linked w a x l None (Some v) k e t lt is =
       let y = w.words.actors a in
-      turns_linked w a machine.Open (word.AskRead l) (with_call x (read_call l) (replies.Number v)) (word.replied y (machine.Read l v)) k e is (refl, read_joins (size w) x y (word.replied y (machine.Read l v)) l v t lt refl refl refl refl)
+      turns_linked w a machine.Open (word.AskRead l) (with_call x (read_call l) (replies.Number v)) (word.replied y (machine.Read l v)) k e is (refl, read_joins (size w) x y (word.replied y (machine.Read l v)) l v t lt refl refl refl)
   read_linked w a x l None None k e t lt is =
       turns_linked w a machine.Open (word.AskRead l) (at_stage x (Reading l)) (machine.goes (w.words.actors a) (machine.Look l)) k e is (refl, lt, t)
 
-  write_linked : (w : WordWorld V) (a : ℕ) (x : WordSeat V) (l v : ℕ) → Linked w → (w.words.actors a).place ≡ machine.Open → InTx (size w) x (w.words.actors a) → l < size w → Linked (writes w a x l v).0
-  write_linked w a x l v k e t lt =
+  write_linked : (w : WordWorld V) (a : ℕ) (x : WordSeat V) (l v : ℕ) → Linked w → (w.words.actors a).place ≡ machine.Open → InTx (size w) x (w.words.actors a) → l < size w → (w.words.actors a).declared ≡ false → Linked (writes w a x l v).0
+  write_linked w a x l v k e t lt plain =
       let y = w.words.actors a in
-      turns_linked w a machine.Open (word.AskWrite l v) (with_call x (write_call l v) replies.Done) (word.wrote y l v) k e (ap (λ (b : Bool). word.write y b l v) t.plain)
-      (refl, write_joins (size w) x y (word.wrote y l v) l v t lt refl refl (some_entry y.writes l v) refl)
+      turns_linked w a machine.Open (word.AskWrite l v) (with_call x (write_call l v) replies.Done) (word.wrote y l v) k e (ap (λ (b : Bool). word.write y b l v) plain)
+      (refl, write_joins (size w) x y (word.wrote y l v) l v t lt refl refl (some_entry y.writes l v))
 
   choose : (b : Bool) (u v : After V) → (b ≡ true → Linked u.0) → (b ≡ false → Linked v.0) → Linked (cond b u v).0
   choose true u v h g = h refl
@@ -379,7 +379,8 @@ module _ {V : Type 0} where
       let y = w.words.actors a in
       allowed_linked w a x l (reads w a x l (reply_to w a (word.AskRead l))) k
       (λ lt. subst (λ r. Linked (reads w a x l r).0) (sym (ap (λ p. result_of (reply y p (word.AskRead l))) e)) (read_linked w a x l (lookup y.writes l) (lookup y.reads l) k e t lt refl))
-  op_linked w a x l (Write v) k e t = allowed_linked w a x l (writes w a x l v) k (λ lt. write_linked w a x l v k e t lt)
+  op_linked w a x l (Write v) k e t =
+      choose (w.words.actors a).declared _ _ (λ _. k) (λ plain. allowed_linked w a x l (writes w a x l v) k (λ lt. write_linked w a x l v k e t lt plain))
   op_linked w a x l op k e t = k
 
   commit_linked : (w : WordWorld V) (a : ℕ) (x : WordSeat V) → Linked w → (w.words.actors a).place ≡ machine.Open → InTx (size w) x (w.words.actors a) → Linked (ask_commit w a x).0
@@ -390,7 +391,9 @@ module _ {V : Type 0} where
       (λ reader. turns_linked w a machine.Open word.AskClose (at_stage x Closing) (machine.goes y machine.Close) k e (closes y y.writes refl (sym t.writer ∙ reader)) (refl, t))
 
   idle_linked : (w : WordWorld V) (a : ℕ) (x : WordSeat V) (q : Request V) → Linked w → (w.words.actors a).place ≡ machine.Idle → Linked (ask_idle w a x q).0
-  idle_linked w a x request.Begin k e = turns_linked w a machine.Idle word.AskBegin (at_stage x Beginning) (word.begin (w.words.actors a) false) k e refl (refl, refl)
+  idle_linked w a x request.Begin k e = turns_linked w a machine.Idle word.AskBegin (at_stage x Beginning) (word.begin (w.words.actors a) false) k e refl refl
+  idle_linked w a x request.BeginRead k e =
+      turns_linked w a machine.Idle word.AskBeginRead (at_stage x Beginning) (word.begin (w.words.actors a) true) k e refl refl
   idle_linked w a x q k e = k
 
   open_linked : (w : WordWorld V) (a : ℕ) (x : WordSeat V) (q : Request V) → Linked w → (w.words.actors a).place ≡ machine.Open → InTx (size w) x (w.words.actors a) → Linked (ask_open w a x q).0
@@ -419,7 +422,7 @@ module _ {V : Type 0} where
   locking_cancels n x y p e h = absurd h
 
   starve_linked : (w : WordWorld V) (a : ℕ) (x : WordSeat V) (stage : Stage) → Linked w → StageOk (size w) stage x (w.words.actors a) (w.words.actors a).place → Linked (starve_at w a x stage).0
-  starve_linked w a x Beginning k h = turns_linked w a machine.Begin word.AskAbort (at_stage x Idle) (machine.goes (w.words.actors a) machine.Idle) k h.0 refl refl
+  starve_linked w a x Beginning k h = turns_linked w a machine.Begin word.AskAbort (at_stage x Idle) (machine.goes (w.words.actors a) machine.Idle) k h refl refl
   starve_linked w a x (Reading l) k h = starve_reading w a x l (w.words.actors a).place k refl h
   starve_linked w a x Closing k h = turns_linked w a machine.Close word.AskAbort (at_stage (because x refusal.OutOfMemory) Leaving) (machine.goes (w.words.actors a) machine.Leave) k h.0 refl (refl, h.1)
   starve_linked w a x Locking k h =

@@ -102,9 +102,10 @@ if_allowed w a x l next =
     if nat_lt l (length w.opening.words) then (if nat_lt (length x.calls) CALL_LIMIT then next else (w, Refused a refusal.TooLong))
     else (w, Refused a refusal.NoSuch)
 
+-- a declared reader has no write
 abbrev pub ask_op : {V : Type 0} → WordWorld V → ℕ → WordSeat V → ℕ → Op V → After V
 ask_op w a x l Read = if_allowed w a x l (reads w a x l (reply_to w a (word.AskRead l)))
-ask_op w a x l (Write v) = if_allowed w a x l (writes w a x l v)
+ask_op w a x l (Write v) = if (w.words.actors a).declared then (w, Refused a refusal.NoSuch) else if_allowed w a x l (writes w a x l v)
 ask_op w a x l op = (w, Refused a refusal.NoSuch)
 
 -- ---- a request
@@ -114,7 +115,7 @@ ask_commit w a x =
 
 abbrev pub ask_idle : {V : Type 0} → WordWorld V → ℕ → WordSeat V → Request V → After V
 ask_idle w a x request.Begin = (turns w a word.AskBegin (at_stage x Beginning), Quiet)
-ask_idle w a x request.BeginRead = (w, Refused a refusal.NoSuch)  -- declared readers are not served yet
+ask_idle w a x request.BeginRead = (turns w a word.AskBeginRead (at_stage x Beginning), Quiet)
 ask_idle w a x q = (w, Refused a refusal.NoTransaction)
 
 abbrev pub ask_open : {V : Type 0} → WordWorld V → ℕ → WordSeat V → Request V → After V

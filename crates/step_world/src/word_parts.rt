@@ -215,14 +215,13 @@ impl<V: Value> WordParts<V> {
         }
     }
 
-    // Declared readers are not served yet.
     fn ask_begin_read(&mut self, actor: u32) -> Result<Notice<V>, Memory>
         requires seat { actor < length self.old.seats.items }
         ensures { IfOk result (Follows (shown_of self.old)
             (λ w. words.ask_at w actor (w.seats actor) (w.seats actor).stage Request.BeginRead) (shown_of self.new)) }
     {
         match self.seats[actor as usize].stage {
-            Stage::Idle => Ok(Notice::Refused(actor, Refusal::NoSuch)),
+            Stage::Idle => self.turn(actor, WordRequest::BeginRead, Stage::Beginning),
             _ => Ok(Notice::Refused(actor, Refusal::NotIdle)),
         }
     }
@@ -333,6 +332,9 @@ impl<V: Value> WordParts<V> {
         ensures { IfOk result (Follows (shown_of self.old)
             (λ w. words.ask_op w actor (w.seats actor) location (Op.Write value)) (shown_of self.new)) }
     {
+        if self.words.is_declared(actor) {
+            return Ok(Notice::Refused(actor, Refusal::NoSuch));
+        }
         if let Some(refusal) = self.call_refusal(actor, location) {
             return Ok(Notice::Refused(actor, refusal));
         }

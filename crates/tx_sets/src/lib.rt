@@ -22,35 +22,3 @@ mod set_refusal;
 pub use access_set::{AccessSet, LOCATION_LIMIT, ReadSet, Reads, WriteSet, Writes};
 pub use laws::finite_maps;
 pub use set_refusal::SetRefusal;
-
-#[cfg(test)]
-mod tests {
-    use super::*;
-    use std::test::Fail;
-
-    #[test]
-    fn keeps_what_was_put_last(rt: HostRuntime) -> Result<(), Fail> {
-        let mut set = ReadSet::new(rt.alloc());
-        set.reserve(2)?;
-        set.put(3, 7)?;
-        set.put(1, 9)?;
-        set.put(3, 8)?;
-        assert_eq!(rt; set.find(3), Some(8));
-        assert_eq!(rt; set.find(2), None);
-        assert_eq!(rt; set.in_order(), [(1, 9), (3, 8)].as_slice());
-        Ok(())
-    }
-
-    #[test]
-    fn refuses_a_location_beyond_the_limit(rt: HostRuntime) -> Result<(), Fail> {
-        let mut set = WriteSet::new(rt.alloc());
-        for location in 0..4096u32 {
-            set.put(location, 1)?;
-        }
-        assert_eq!(rt; set.put(4096, 1), Err(SetRefusal::TooLong));
-        assert_eq!(rt; set.len(), 4096);
-        assert_eq!(rt; set.put(17, 5), Ok(()));
-        assert_eq!(rt; set.find(17), Some(5));
-        Ok(())
-    }
-}

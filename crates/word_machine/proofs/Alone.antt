@@ -34,7 +34,8 @@ unfolding with_entry
 above-with_entry k [] l v h a = (h, tt)
 above-with_entry k (e ∷ es) l v h a =
     cond_both (ltb l e.0) ((l, v) ∷ (e ∷ es)) _ (AllAbove k) (λ _. (h, a))
-    (λ _. cond_both (eqb l e.0) ((l, v) ∷ es) (e ∷ with_entry es l v) (AllAbove k) (λ _. (h, a.1)) (λ _. (a.0, above-with_entry k es l v h a.1)))
+    (λ _. cond_both (eqb l e.0) ((l, v) ∷ es) (e ∷ with_entry es l v) (AllAbove k) (λ _. (h, a.1))
+        (λ _. (a.0, above-with_entry k es l v h a.1)))
 
 rising-with_entry : (es : Entries) (l v : ℕ) → Rising es → Rising (with_entry es l v)
 unfolding with_entry
@@ -43,7 +44,8 @@ rising-with_entry (e ∷ es) l v r =
     cond_both (ltb l e.0) ((l, v) ∷ (e ∷ es)) _ Rising (λ t. (let h = ltb-true l e.0 t in ((h, above_more l e.0 es h r.0), r)))
     (λ t. cond_both (eqb l e.0) ((l, v) ∷ es) (e ∷ with_entry es l v) Rising
     (λ q. (subst (λ (n : ℕ). AllAbove n es) (sym (eqb-true l e.0 q)) r.0, r.1))
-    (λ q. (above-with_entry e.0 es l v (let a = ltb-false l e.0 t in let b = eqb-false l e.0 q in omega (arith, a, b)) r.0, rising-with_entry es l v r.1)))
+    (λ q. (above-with_entry e.0 es l v (let a = ltb-false l e.0 t in let b = eqb-false l e.0 q in omega
+        (arith, a, b)) r.0, rising-with_entry es l v r.1)))
 
 abbrev pub Distinct : List ℕ → Type 0
 Distinct [] = Unit {0}
@@ -68,7 +70,8 @@ AlonePlace locks x (Look l) = Low locks x × Rising x.writes
 AlonePlace locks x (Fetch l k) = Low locks x × Rising x.writes × (locks l ≡ Free k)
 AlonePlace locks x (Again l k v) = Low locks x × Rising x.writes × (locks l ≡ Free k)
 AlonePlace locks x (Lock ls) = Low locks x × Distinct ls × ((l : ℕ) → Member l ls → lookup x.held l ≡ None)
-AlonePlace locks x (Take l k ls) = Low locks x × Distinct (l ∷ ls) × ((i : ℕ) → Member i (l ∷ ls) → lookup x.held i ≡ None) × (locks l ≡ Free k)
+AlonePlace locks x (Take l k ls) = Low locks x × Distinct (l ∷ ls) × ((i : ℕ) → Member i (l ∷ ls) → lookup x.held i ≡ None)
+    × (locks l ≡ Free k)
 AlonePlace locks x (Check ls) = Low locks x
 AlonePlace locks x p = Unit {0}
 
@@ -80,16 +83,19 @@ pub record AloneOk (locks : ℕ → LockWord) (x : Actor) : Type 0 where
 goes_alone : (locks : ℕ → LockWord) (x : Actor) (q : Place) → AloneOk locks x → AlonePlace locks (goes x q) q → AloneOk locks (goes x q)
 goes_alone locks x q ok pl = record { free = ok.free; place = pl }
 
-read_alone : (locks : ℕ → LockWord) (x : Actor) (l : ℕ) (w r : Option ℕ) → AloneOk locks x → AlonePlace locks x Open → AloneOk locks (read x l w r)
+read_alone : (locks : ℕ → LockWord) (x : Actor) (l : ℕ) (w r : Option ℕ) → AloneOk locks x → AlonePlace locks x Open
+    → AloneOk locks (read x l w r)
 read_alone locks x l (Some v) r ok pl = record { free = ok.free; place = pl }
 read_alone locks x l None (Some v) ok pl = record { free = ok.free; place = pl }
 read_alone locks x l None None ok pl = record { free = ok.free; place = pl }
 
-write_alone : (locks : ℕ → LockWord) (x : Actor) (declared : Bool) (l u : ℕ) → AloneOk locks x → AlonePlace locks x Open → AloneOk locks (write x declared l u)
+write_alone : (locks : ℕ → LockWord) (x : Actor) (declared : Bool) (l u : ℕ) → AloneOk locks x → AlonePlace locks x Open
+    → AloneOk locks (write x declared l u)
 write_alone locks x true l u ok pl = ok
 write_alone locks x false l u ok pl = record { free = ok.free; place = (pl.0, rising-with_entry x.writes l u pl.1) }
 
-lock_alone : (locks : ℕ → LockWord) (x : Actor) (w : Entries) → AloneOk locks x → AlonePlace locks x Open → x.held ≡ [] → x.writes ≡ w → AloneOk locks (lock x w)
+lock_alone : (locks : ℕ → LockWord) (x : Actor) (w : Entries) → AloneOk locks x → AlonePlace locks x Open → x.held ≡ [] → x.writes ≡ w
+    → AloneOk locks (lock x w)
 lock_alone locks x [] ok pl none e = ok
 lock_alone locks x (f ∷ fs) ok pl none e = goes_alone locks x (Lock (locations (f ∷ fs))) ok
     (pl.0, rising_distinct (f ∷ fs) (subst Rising e pl.1), λ l m. none_if (lookup x.held l) (λ k h. lookup-none x.held l k none h))
@@ -102,7 +108,8 @@ abort_alone : (locks : ℕ → LockWord) (x : Actor) (w : Entries) → AloneOk l
 abort_alone locks x [] ok = goes_alone locks x Leave ok tt
 abort_alone locks x (f ∷ fs) ok = ok
 
-ask_alone : (s : World) (x : Actor) (p : Place) (request : Request) → AloneOk s.locks x → AlonePlace s.locks x p → PlaceOk s x p → AloneOk s.locks (ask x p request)
+ask_alone : (s : World) (x : Actor) (p : Place) (request : Request) → AloneOk s.locks x → AlonePlace s.locks x p → PlaceOk s x p
+    → AloneOk s.locks (ask x p request)
 ask_alone s x Idle AskBegin ok pl at_p = record { free = ok.free; place = tt }
 ask_alone s x Idle AskBeginRead ok pl at_p = record { free = ok.free; place = tt }
 ask_alone s x Open (AskRead l) ok pl at_p = read_alone s.locks x l (lookup x.writes l) (lookup x.reads l) ok pl
@@ -146,18 +153,23 @@ last_quiet (e ∷ es) n h = quiet_list es n h
 free_word : (w : LockWord) (h : Entries) (l : ℕ) → IsFree w ⊎ ((k : ℕ) × (lookup h l ≡ Some k)) → lookup h l ≡ None → IsFree w
 free_word w h l f none = elim f [ inl q ↦ q | inr q ↦ (let z : Some q.0 ≡ None = sym q.1 ∙ none in absurd (let b : ⊥ = cc in b)) ]
 
-look_alone : (s : World) (a l : ℕ) (w : LockWord) → AloneAt s a → (s.actors a).held ≡ [] → AlonePlace s.locks (s.actors a) (Look l) → s.locks l ≡ w → Good s (looked s a (s.actors a) l w) a (look_notice (s.actors a).rv l w)
+look_alone : (s : World) (a l : ℕ) (w : LockWord) → AloneAt s a → (s.actors a).held ≡ [] → AlonePlace s.locks (s.actors a) (Look l)
+    → s.locks l ≡ w → Good s (looked s a (s.actors a) l w) a (look_notice (s.actors a).rv l w)
 look_alone s a l (Free k) ok none pl is =
     let x = s.actors a in
     let low : k ≤ x.rv = (let q = ap version_of is in omega (arith, q, pl.0 l)) in (
       cond_both (leb k x.rv) (goes x (Fetch l k)) (goes x Undo) (λ (z : Actor). AloneAt (now s a z) a)
           (λ _. alone_put s.locks s.actors a (goes x (Fetch l k)) (goes_alone s.locks x (Fetch l k) ok (pl.0, pl.1, is)))
           (λ t. absurd (let q = leb-false k x.rv t in omega (arith, q, low))),
-      cond_both (leb k x.rv) Quiet (Moved l (bits (Free k))) (λ (z : Notice). IsConflict z → ⊥) (λ _ h. h) (λ t _. let q = leb-false k x.rv t in omega (arith, q, low)),
+      cond_both (leb k x.rv) Quiet (Moved l (bits (Free k))) (λ (z : Notice). IsConflict z → ⊥) (λ _ h. h)
+          (λ t _. let q = leb-false k x.rv t in omega (arith, q, low)),
     )
-look_alone s a l (Locked k) ok none pl is = absurd (subst IsFree is (free_word (s.locks l) (s.actors a).held l (ok.free l) (none_if (lookup (s.actors a).held l) (λ j h. lookup-none (s.actors a).held l j none h))))
+look_alone s a l (Locked k) ok none pl is = absurd
+    (subst IsFree is (free_word (s.locks l) (s.actors a).held l (ok.free l)
+    (none_if (lookup (s.actors a).held l) (λ j h. lookup-none (s.actors a).held l j none h))))
 
-again_alone : (s : World) (a l k v : ℕ) (w : LockWord) → AloneAt s a → AlonePlace s.locks (s.actors a) (Again l k v) → s.locks l ≡ w → Good s (looked_again s a (s.actors a) l k v w) a (again_notice l k v w)
+again_alone : (s : World) (a l k v : ℕ) (w : LockWord) → AloneAt s a → AlonePlace s.locks (s.actors a) (Again l k v) → s.locks l ≡ w
+    → Good s (looked_again s a (s.actors a) l k v w) a (again_notice l k v w)
 again_alone s a l k v (Free j) ok pl is =
     let x = s.actors a in
     let z : Free j ≡ Free k = sym is ∙ pl.2 in
@@ -169,26 +181,34 @@ again_alone s a l k v (Free j) ok pl is =
     )
 again_alone s a l k v (Locked j) ok pl is = let z : Locked j ≡ Free k = sym is ∙ pl.2 in absurd (let b : ⊥ = cc in b)
 
-to_lock_alone : (s : World) (a l : ℕ) (ls : List ℕ) (w : LockWord) → AloneAt s a → AlonePlace s.locks (s.actors a) (Lock (l ∷ ls)) → s.locks l ≡ w → Good s (to_lock s a (s.actors a) l ls w) a (lock_notice l w)
+to_lock_alone : (s : World) (a l : ℕ) (ls : List ℕ) (w : LockWord) → AloneAt s a → AlonePlace s.locks (s.actors a) (Lock (l ∷ ls))
+    → s.locks l ≡ w → Good s (to_lock s a (s.actors a) l ls w) a (lock_notice l w)
 to_lock_alone s a l ls (Free k) ok pl is =
-    (alone_put s.locks s.actors a (goes (s.actors a) (Take l k ls)) (goes_alone s.locks (s.actors a) (Take l k ls) ok (pl.0, pl.1, pl.2, is)), λ h. h)
-to_lock_alone s a l ls (Locked k) ok pl is = absurd (subst IsFree is (free_word (s.locks l) (s.actors a).held l (ok.free l) (pl.2 l (inl refl))))
+    (alone_put s.locks s.actors a (goes (s.actors a) (Take l k ls))
+        (goes_alone s.locks (s.actors a) (Take l k ls) ok (pl.0, pl.1, pl.2, is)), λ h. h)
+to_lock_alone s a l ls (Locked k) ok pl is = absurd
+    (subst IsFree is (free_word (s.locks l) (s.actors a).held l (ok.free l) (pl.2 l (inl refl))))
 
-locked_alone : (s : World) (a l k : ℕ) (ls : List ℕ) → AloneAt s a → AlonePlace s.locks (s.actors a) (Take l k ls) → AloneAt (locked s a (s.actors a) l k ls) a
+locked_alone : (s : World) (a l k : ℕ) (ls : List ℕ) → AloneAt s a → AlonePlace s.locks (s.actors a) (Take l k ls)
+    → AloneAt (locked s a (s.actors a) l k ls) a
 locked_alone s a l k ls ok pl =
     let x = s.actors a in
-    alone_put (put s.locks l (Locked k)) s.actors a (record { place = Lock ls; declared = x.declared; rv = x.rv; wv = x.wv; reads = x.reads; writes = x.writes; held = x.held ++ (l, k) ∷ []; calls = x.calls }) (record {
+    alone_put (put s.locks l (Locked k)) s.actors a
+        (record { place = Lock ls; declared = x.declared; rv = x.rv; wv = x.wv; reads = x.reads; writes = x.writes; held = x.held
+        ++ (l, k) ∷ []; calls = x.calls }) (record {
       free = λ i. put_both (λ (z : LockWord). IsFree z ⊎ ((j : ℕ) × (lookup (x.held ++ (l, k) ∷ []) i ≡ Some j))) s.locks l (Locked k) i
           (λ q. inr (k, ap (lookup (x.held ++ (l, k) ∷ [])) q ∙ lookup-push_same x.held l k (pl.2 l (inl refl))))
           (λ ne. elim (ok.free i) [ inl f ↦ inl f | inr h ↦ inr (h.0, lookup-push_other x.held l k i ne ∙ h.1) ]);
       place = (
-        (λ i. put_both (λ (z : LockWord). version_of z ≤ x.rv) s.locks l (Locked k) i (λ q. let e = ap version_of pl.3 in omega (arith, e, pl.0 l)) (λ _. pl.0 i)),
+        (λ i. put_both (λ (z : LockWord). version_of z ≤ x.rv) s.locks l (Locked k) i
+            (λ q. let e = ap version_of pl.3 in omega (arith, e, pl.0 l)) (λ _. pl.0 i)),
         (pl.1).1,
         λ i m. lookup-push_other x.held l k i (λ q. (pl.1).0 (subst (λ (n : ℕ). Member n ls) q m)) ∙ pl.2 i (inr m),
       );
     })
 
-take_alone : (s : World) (a l k : ℕ) (ls : List ℕ) (w : LockWord) → AloneAt s a → AlonePlace s.locks (s.actors a) (Take l k ls) → s.locks l ≡ w → Good s (tried s a (s.actors a) l k ls w) a (take_notice l k w)
+take_alone : (s : World) (a l k : ℕ) (ls : List ℕ) (w : LockWord) → AloneAt s a → AlonePlace s.locks (s.actors a) (Take l k ls)
+    → s.locks l ≡ w → Good s (tried s a (s.actors a) l k ls w) a (take_notice l k w)
 take_alone s a l k ls (Free j) ok pl is =
     let z : Free j ≡ Free k = sym is ∙ pl.3 in
     let same : j ≡ k = cc in (
@@ -199,57 +219,73 @@ take_alone s a l k ls (Free j) ok pl is =
 take_alone s a l k ls (Locked j) ok pl is = let z : Locked j ≡ Free k = sym is ∙ pl.3 in absurd (let b : ⊥ = cc in b)
 
 passes : (s : World) (a l k : ℕ) (ls : List ℕ) → AloneAt s a → Low s.locks (s.actors a) → k ≤ (s.actors a).rv
-    → Good s (now s a (cond (leb k (s.actors a).rv) (goes (s.actors a) (Check ls)) (goes (s.actors a) Broken))) a (cond (leb k (s.actors a).rv) (when_none_left ls (LockedAt (s.actors a).wv)) (Invalid l k))
+    → Good s (now s a (cond (leb k (s.actors a).rv) (goes (s.actors a) (Check ls)) (goes (s.actors a) Broken))) a
+        (cond (leb k (s.actors a).rv) (when_none_left ls (LockedAt (s.actors a).wv)) (Invalid l k))
 passes s a l k ls ok pl low =
     let x = s.actors a in (
       cond_both (leb k x.rv) (goes x (Check ls)) (goes x Broken) (λ (z : Actor). AloneAt (now s a z) a)
           (λ _. alone_put s.locks s.actors a (goes x (Check ls)) (goes_alone s.locks x (Check ls) ok pl))
           (λ t. absurd (let q = leb-false k x.rv t in omega (arith, q, low))),
-      cond_both (leb k x.rv) (when_none_left ls (LockedAt x.wv)) (Invalid l k) (λ (z : Notice). IsConflict z → ⊥) (λ _. quiet_list ls (LockedAt x.wv) (λ h. h)) (λ t _. let q = leb-false k x.rv t in omega (arith, q, low)),
+      cond_both (leb k x.rv) (when_none_left ls (LockedAt x.wv)) (Invalid l k) (λ (z : Notice). IsConflict z → ⊥)
+          (λ _. quiet_list ls (LockedAt x.wv) (λ h. h)) (λ t _. let q = leb-false k x.rv t in omega (arith, q, low)),
     )
 
-check_alone : (s : World) (a l : ℕ) (ls : List ℕ) (w : LockWord) (own : Option ℕ) → AloneAt s a → Low s.locks (s.actors a) → s.locks l ≡ w → lookup (s.actors a).writes l ≡ own → (own ≡ None → lookup (s.actors a).held l ≡ None) → Good s (checked s a (s.actors a) l ls w own) a (check_notice (s.actors a).rv (s.actors a).wv l ls w own)
+check_alone : (s : World) (a l : ℕ) (ls : List ℕ) (w : LockWord) (own : Option ℕ) → AloneAt s a → Low s.locks (s.actors a) → s.locks l
+    ≡ w → lookup (s.actors a).writes l ≡ own → (own ≡ None → lookup (s.actors a).held l ≡ None)
+    → Good s (checked s a (s.actors a) l ls w own) a (check_notice (s.actors a).rv (s.actors a).wv l ls w own)
 check_alone s a l ls (Free k) own ok pl is mine unheld =
     let x = s.actors a in
     let low : k ≤ x.rv = (let q = ap version_of is in omega (arith, q, pl l)) in (
       (passes s a l k ls ok pl low).0,
-      cond_both (leb k x.rv) (when_none_left ls (LockedAt x.wv)) (Invalid l (bits (Free k))) (λ (z : Notice). IsConflict z → ⊥) (λ _. quiet_list ls (LockedAt x.wv) (λ h. h)) (λ t _. let q = leb-false k x.rv t in omega (arith, q, low)),
+      cond_both (leb k x.rv) (when_none_left ls (LockedAt x.wv)) (Invalid l (bits (Free k))) (λ (z : Notice). IsConflict z → ⊥)
+          (λ _. quiet_list ls (LockedAt x.wv) (λ h. h)) (λ t _. let q = leb-false k x.rv t in omega (arith, q, low)),
     )
 check_alone s a l ls (Locked k) (Some old) ok pl is mine unheld =
     let x = s.actors a in
     let low : k ≤ x.rv = (let q = ap version_of is in omega (arith, q, pl l)) in (
       (passes s a l k ls ok pl low).0,
-      cond_both (leb k x.rv) (when_none_left ls (LockedAt x.wv)) (Invalid l (bits (Locked k))) (λ (z : Notice). IsConflict z → ⊥) (λ _. quiet_list ls (LockedAt x.wv) (λ h. h)) (λ t _. let q = leb-false k x.rv t in omega (arith, q, low)),
+      cond_both (leb k x.rv) (when_none_left ls (LockedAt x.wv)) (Invalid l (bits (Locked k))) (λ (z : Notice). IsConflict z → ⊥)
+          (λ _. quiet_list ls (LockedAt x.wv) (λ h. h)) (λ t _. let q = leb-false k x.rv t in omega (arith, q, low)),
     )
-check_alone s a l ls (Locked k) None ok pl is mine unheld = absurd (subst IsFree is (free_word (s.locks l) (s.actors a).held l (ok.free l) (unheld refl)))
+check_alone s a l ls (Locked k) None ok pl is mine unheld = absurd
+    (subst IsFree is (free_word (s.locks l) (s.actors a).held l (ok.free l) (unheld refl)))
 
 -- a lock given back
 back_alone : (s : World) (a : ℕ) (f : ℕ × ℕ) (fs : Entries) (v : ℕ) (p : Place) → AloneAt s a → (s.actors a).held ≡ f ∷ fs
-    → AlonePlace (put s.locks f.0 (Free v)) (record { place = p; declared = (s.actors a).declared; rv = (s.actors a).rv; wv = (s.actors a).wv; reads = (s.actors a).reads; writes = (s.actors a).writes; held = fs; calls = (s.actors a).calls }) p
-    → AloneOk (put s.locks f.0 (Free v)) (put s.actors a (record { place = p; declared = (s.actors a).declared; rv = (s.actors a).rv; wv = (s.actors a).wv; reads = (s.actors a).reads; writes = (s.actors a).writes; held = fs; calls = (s.actors a).calls }) a)
+    → AlonePlace (put s.locks f.0 (Free v)) (record { place = p; declared = (s.actors a).declared; rv = (s.actors a).rv; wv =
+        (s.actors a).wv; reads = (s.actors a).reads; writes = (s.actors a).writes; held = fs; calls = (s.actors a).calls }) p
+    → AloneOk (put s.locks f.0 (Free v)) (put s.actors a
+        (record { place = p; declared = (s.actors a).declared; rv = (s.actors a).rv; wv = (s.actors a).wv; reads =
+        (s.actors a).reads; writes = (s.actors a).writes; held = fs; calls = (s.actors a).calls }) a)
 back_alone s a f fs v p ok has pl =
     let x = s.actors a in
-    alone_put (put s.locks f.0 (Free v)) s.actors a (record { place = p; declared = x.declared; rv = x.rv; wv = x.wv; reads = x.reads; writes = x.writes; held = fs; calls = x.calls }) (record {
+    alone_put (put s.locks f.0 (Free v)) s.actors a
+        (record { place = p; declared = x.declared; rv = x.rv; wv = x.wv; reads = x.reads; writes = x.writes; held = fs; calls = x.calls }) (record {
       free = λ i. put_both (λ (z : LockWord). IsFree z ⊎ ((j : ℕ) × (lookup fs i ≡ Some j))) s.locks f.0 (Free v) i
           (λ _. inl tt)
-          (λ ne. elim (ok.free i) [ inl q ↦ inl q | inr h ↦ inr (h.0, sym (ap (λ (z : Entries). lookup z i) has ∙ lookup-tail f fs i ne) ∙ h.1) ]);
+          (λ ne. elim (ok.free i) [ inl q ↦ inl q | inr h ↦ inr
+              (h.0, sym (ap (λ (z : Entries). lookup z i) has ∙ lookup-tail f fs i ne) ∙ h.1) ]);
       place = pl;
     })
 
-released_alone : (s : World) (a : ℕ) (h : Entries) → AloneAt s a → (s.actors a).held ≡ h → Good s (released s a (s.actors a) h) a (last_notice h Released)
+released_alone : (s : World) (a : ℕ) (h : Entries) → AloneAt s a → (s.actors a).held ≡ h
+    → Good s (released s a (s.actors a) h) a (last_notice h Released)
 released_alone s a [] ok has = (ok, λ h. h)
 released_alone s a (f ∷ []) ok has = (back_alone s a f [] (s.actors a).wv Idle ok has tt, λ h. h)
 released_alone s a (f ∷ (g ∷ fs)) ok has = (back_alone s a f (g ∷ fs) (s.actors a).wv Release ok has tt, λ h. h)
 
-undone_alone : (s : World) (a : ℕ) (h : Entries) → AloneAt s a → (s.actors a).held ≡ h → Good s (undone s a (s.actors a) h) a (last_notice h Cancelled)
+undone_alone : (s : World) (a : ℕ) (h : Entries) → AloneAt s a → (s.actors a).held ≡ h
+    → Good s (undone s a (s.actors a) h) a (last_notice h Cancelled)
 undone_alone s a [] ok has = (ok, λ h. h)
 undone_alone s a (f ∷ fs) ok has = (back_alone s a f fs f.1 Undo ok has tt, quiet_list fs Cancelled (λ h. h))
 
 first_alone : (s : World) (a : ℕ) (w : Entries) → AloneAt s a → AloneAt (first s a (s.actors a) w) a
 first_alone s a [] ok = ok
-first_alone s a (e ∷ es) ok = alone_put s.locks s.actors a (goes (s.actors a) (Store (locations es))) (goes_alone s.locks (s.actors a) (Store (locations es)) ok tt)
+first_alone s a (e ∷ es) ok = alone_put s.locks s.actors a (goes (s.actors a) (Store (locations es)))
+    (goes_alone s.locks (s.actors a) (Store (locations es)) ok tt)
 
-pub step_alone : (s : World) (a : ℕ) (p : Place) → Inv s → AloneAt s a → AlonePlace s.locks (s.actors a) p → PlaceOk s (s.actors a) p → Good s (step s a (s.actors a) p) a (notice s (s.actors a) p)
+pub step_alone : (s : World) (a : ℕ) (p : Place) → Inv s → AloneAt s a → AlonePlace s.locks (s.actors a) p → PlaceOk s (s.actors a) p
+    → Good s (step s a (s.actors a) p) a (notice s (s.actors a) p)
 step_alone s a Idle v ok pl pk = (ok, λ h. h)
 step_alone s a Begin v ok pl pk = (
   cond_both (ltb s.clock clock_limit) (opened (s.actors a).declared s.clock) (goes (s.actors a) Idle) (λ (z : Actor). AloneAt (now s a z) a)
@@ -262,26 +298,32 @@ step_alone s a Begin v ok pl pk = (
 )
 step_alone s a Open v ok pl pk = (ok, λ h. h)
 step_alone s a (Look l) v ok pl pk = look_alone s a l (s.locks l) ok pk.0 pl refl
-step_alone s a (Fetch l k) v ok pl pk = (alone_put s.locks s.actors a (goes (s.actors a) (Again l k (s.values l))) (goes_alone s.locks (s.actors a) (Again l k (s.values l)) ok pl), λ h. h)
+step_alone s a (Fetch l k) v ok pl pk = (alone_put s.locks s.actors a (goes (s.actors a) (Again l k (s.values l)))
+    (goes_alone s.locks (s.actors a) (Again l k (s.values l)) ok pl), λ h. h)
 step_alone s a (Again l k u) v ok pl pk = again_alone s a l k u (s.locks l) ok pl refl
 step_alone s a (Lock []) v ok pl pk =
     let x = s.actors a in (
-      alone_put s.locks s.actors a (record { place = Check (to_check x (s.clock + 1)); declared = x.declared; rv = x.rv; wv = s.clock + 1; reads = x.reads; writes = x.writes; held = x.held; calls = x.calls }) (record { free = ok.free; place = pl.0 }),
+      alone_put s.locks s.actors a (record { place = Check
+          (to_check x (s.clock + 1)); declared = x.declared; rv = x.rv; wv = s.clock + 1; reads = x.reads; writes = x.writes; held = x.held; calls = x.calls }) (record { free = ok.free; place = pl.0 }),
       quiet_list (to_check x (s.clock + 1)) (LockedAt (s.clock + 1)) (λ h. h),
     )
 step_alone s a (Lock (l ∷ ls)) v ok pl pk = to_lock_alone s a l ls (s.locks l) ok pl refl
 step_alone s a (Take l k ls) v ok pl pk = take_alone s a l k ls (s.locks l) ok pl refl
 step_alone s a (Check []) v ok pl pk = (ok, λ h. h)
 step_alone s a (Check (l ∷ ls)) v ok pl pk = check_alone s a l ls (s.locks l) (lookup (s.actors a).writes l) ok pl refl refl
-    (λ none. none_if (lookup (s.actors a).held l) (λ j h. let w = (pk.0).written l j h in let z : Some w.0 ≡ None = sym w.1 ∙ none in absurd (let b : ⊥ = cc in b)))
+    (λ none. none_if (lookup (s.actors a).held l)
+        (λ j h. let w = (pk.0).written l j h in let z : Some w.0 ≡ None = sym w.1 ∙ none in absurd (let b : ⊥ = cc in b)))
 step_alone s a Broken v ok pl pk = (ok, λ h. h)
 step_alone s a First v ok pl pk = (first_alone s a (s.actors a).writes ok, last_quiet (s.actors a).writes Stored (λ h. h))
 step_alone s a (Store []) v ok pl pk = (ok, λ h. h)
-step_alone s a (Store (l ∷ ls)) v ok pl pk = (alone_put s.locks s.actors a (goes (s.actors a) (Store ls)) (goes_alone s.locks (s.actors a) (Store ls) ok tt), quiet_list ls Stored (λ h. h))
+step_alone s a (Store (l ∷ ls)) v ok pl pk = (alone_put s.locks s.actors a (goes (s.actors a) (Store ls))
+    (goes_alone s.locks (s.actors a) (Store ls) ok tt), quiet_list ls Stored (λ h. h))
 step_alone s a Release v ok pl pk = released_alone s a (s.actors a).held ok refl
 step_alone s a Undo v ok pl pk = undone_alone s a (s.actors a).held ok refl
-step_alone s a Leave v ok pl pk = (alone_put s.locks s.actors a (goes (s.actors a) Idle) (goes_alone s.locks (s.actors a) Idle ok tt), λ h. h)
-step_alone s a Close v ok pl pk = (alone_put s.locks s.actors a (goes (s.actors a) Idle) (goes_alone s.locks (s.actors a) Idle ok tt), λ h. h)
+step_alone s a Leave v ok pl pk = (alone_put s.locks s.actors a (goes (s.actors a) Idle)
+    (goes_alone s.locks (s.actors a) Idle ok tt), λ h. h)
+step_alone s a Close v ok pl pk = (alone_put s.locks s.actors a (goes (s.actors a) Idle)
+    (goes_alone s.locks (s.actors a) Idle ok tt), λ h. h)
 
 pub run_alone : (events : List Event) (s : World) (a : ℕ) → Inv s → AloneAt s a → IsAlone a events → AloneAt (run events s) a
 run_alone [] s a v ok g = ok
@@ -296,7 +338,9 @@ run_alone (Step b ∷ es) s a v ok g =
     (subst (λ (n : ℕ). AloneAt (happens s (Step n)) a) (sym g.0) (step_alone s a (s.actors a).place v ok ok.place (v.actors a).place).0) g.1
 
 -- no conflict stops a transaction that is alone
-pub alone : (s : World) (a : ℕ) (later : List Event) → Inv s → Inv (run later s) → (s.actors a).place ≡ Begin → ((l : ℕ) → IsFree (s.locks l)) → IsAlone a later → IsConflict (notice (run later s) ((run later s).actors a) ((run later s).actors a).place) → ⊥
+pub alone : (s : World) (a : ℕ) (later : List Event) → Inv s → Inv (run later s) → (s.actors a).place ≡ Begin
+    → ((l : ℕ) → IsFree (s.locks l)) → IsAlone a later
+    → IsConflict (notice (run later s) ((run later s).actors a) ((run later s).actors a).place) → ⊥
 alone s a later v w e free g =
     let ok : AloneAt s a = record { free = λ l. inl (free l); place = subst (AlonePlace s.locks (s.actors a)) (sym e) tt } in
     let end = run_alone later s a v ok g in

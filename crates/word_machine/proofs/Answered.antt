@@ -28,12 +28,14 @@ further_if : (b : Bool) (m n : Notice) (y z : Actor) → Further m y → Further
 further_if true m n y z f g = f
 further_if false m n y z f g = g
 
-further_world : (b : Bool) (m n : Notice) (s t : World) (a : ℕ) → Further m (s.actors a) → Further n (t.actors a) → Further (if b then m else n) ((if b then s else t).actors a)
+further_world : (b : Bool) (m n : Notice) (s t : World) (a : ℕ) → Further m (s.actors a) → Further n (t.actors a)
+    → Further (if b then m else n) ((if b then s else t).actors a)
 further_world true m n s t a f g = f
 further_world false m n s t a f g = g
 
 looked_further : (s : World) (a : ℕ) (x : Actor) (l : ℕ) (w : LockWord) → Further (look_notice x.rv l w) ((looked s a x l w).actors a)
-looked_further s a x l (Free k) = further_put (look_notice x.rv l (Free k)) s.actors a _ (further_if (leb k x.rv) Quiet (Moved l (bits (Free k))) (goes x (Fetch l k)) (goes x Undo) (inr (omega arith)) (inl tt))
+looked_further s a x l (Free k) = further_put (look_notice x.rv l (Free k)) s.actors a _
+    (further_if (leb k x.rv) Quiet (Moved l (bits (Free k))) (goes x (Fetch l k)) (goes x Undo) (inr (omega arith)) (inl tt))
 looked_further s a x l (Locked k) = inl tt
 
 again_answered : (s : World) (l k v : ℕ) (w : LockWord) → IsAnswered (again_notice l k v w)
@@ -44,13 +46,16 @@ again_answered s l k v (Free j) = go (eqb j k)
     go false = tt
 again_answered s l k v (Locked j) = tt
 
-to_lock_further : (s : World) (a : ℕ) (x : Actor) (l : ℕ) (ls : List ℕ) (w : LockWord) → Further (lock_notice l w) ((to_lock s a x l ls w).actors a)
+to_lock_further : (s : World) (a : ℕ) (x : Actor) (l : ℕ) (ls : List ℕ) (w : LockWord)
+    → Further (lock_notice l w) ((to_lock s a x l ls w).actors a)
 to_lock_further s a x l ls (Free k) = further_put Quiet s.actors a (goes x (Take l k ls)) (inr (omega arith))
 to_lock_further s a x l ls (Locked k) = inl tt
 
-take_further : (s : World) (a : ℕ) (x : Actor) (l k : ℕ) (ls : List ℕ) (w : LockWord) → Further (take_notice l k w) ((tried s a x l k ls w).actors a)
+take_further : (s : World) (a : ℕ) (x : Actor) (l k : ℕ) (ls : List ℕ) (w : LockWord)
+    → Further (take_notice l k w) ((tried s a x l k ls w).actors a)
 take_further s a x l k ls (Free j) =
-    further_world (eqb j k) Quiet (Busy l (bits (Free j))) (locked s a x l k ls) (now s a (goes x Broken)) a (further_put Quiet s.actors a (taken x l k ls) (inr (omega arith))) (inl tt)
+    further_world (eqb j k) Quiet (Busy l (bits (Free j))) (locked s a x l k ls) (now s a (goes x Broken)) a
+        (further_put Quiet s.actors a (taken x l k ls) (inr (omega arith))) (inl tt)
 take_further s a x l k ls (Locked j) = inl tt
 
 -- an answer where none is left, else some are
@@ -58,11 +63,16 @@ none_left : {A : Type 0} → (xs : List A) (n : Notice) → IsAnswered n → IsA
 none_left [] n h = inl h
 none_left (x ∷ xs) n h = inr (omega arith)
 
-check_further : (s : World) (a : ℕ) (x : Actor) (l : ℕ) (ls : List ℕ) (w : LockWord) (own : Option ℕ) → Further (check_notice x.rv x.wv l ls w own) ((checked s a x l ls w own).actors a)
+check_further : (s : World) (a : ℕ) (x : Actor) (l : ℕ) (ls : List ℕ) (w : LockWord) (own : Option ℕ)
+    → Further (check_notice x.rv x.wv l ls w own) ((checked s a x l ls w own).actors a)
 check_further s a x l ls (Free k) own =
-    further_put (check_notice x.rv x.wv l ls (Free k) own) s.actors a _ (further_if (leb k x.rv) (when_none_left ls (LockedAt x.wv)) (Invalid l (bits (Free k))) (goes x (Check ls)) (goes x Broken) (none_left ls (LockedAt x.wv) tt) (inl tt))
+    further_put (check_notice x.rv x.wv l ls (Free k) own) s.actors a _
+        (further_if (leb k x.rv) (when_none_left ls (LockedAt x.wv)) (Invalid l (bits (Free k))) (goes x (Check ls)) (goes x Broken)
+        (none_left ls (LockedAt x.wv) tt) (inl tt))
 check_further s a x l ls (Locked k) (Some old) =
-    further_put (check_notice x.rv x.wv l ls (Locked k) (Some old)) s.actors a _ (further_if (leb k x.rv) (when_none_left ls (LockedAt x.wv)) (Invalid l (bits (Locked k))) (goes x (Check ls)) (goes x Broken) (none_left ls (LockedAt x.wv) tt) (inl tt))
+    further_put (check_notice x.rv x.wv l ls (Locked k) (Some old)) s.actors a _
+        (further_if (leb k x.rv) (when_none_left ls (LockedAt x.wv)) (Invalid l (bits (Locked k))) (goes x (Check ls)) (goes x Broken)
+        (none_left ls (LockedAt x.wv) tt) (inl tt))
 check_further s a x l ls (Locked k) None = inl tt
 
 first_further : (s : World) (a : ℕ) (x : Actor) (w : Entries) → IsSomeEntry w → Further (last_notice w Stored) ((first s a x w).actors a)
@@ -71,7 +81,8 @@ first_further s a x (e ∷ es) n =
     further_put (when_none_left es Stored) s.actors a (goes x (Store (locations es)))
     (elim (none_left es Stored tt) [ inl h ↦ inl h | inr h ↦ inr (let q = length-locations es in omega (arith, q, h)) ])
 
-released_further : (s : World) (a : ℕ) (x : Actor) (h : Entries) → IsSomeEntry h → Further (last_notice h Released) ((released s a x h).actors a)
+released_further : (s : World) (a : ℕ) (x : Actor) (h : Entries) → IsSomeEntry h
+    → Further (last_notice h Released) ((released s a x h).actors a)
 released_further s a x [] n = absurd n
 released_further s a x (e ∷ []) n = inl tt
 released_further s a x (e ∷ (f ∷ es)) n = subst (Further Quiet) (sym (put-same s.actors a _)) (inr (omega arith))
@@ -93,7 +104,8 @@ step_further s a x (Look l) pl = looked_further s a x l (s.locks l)
 step_further s a x (Fetch l k) pl = further_put Quiet s.actors a (goes x (Again l k (s.values l))) (inr (omega arith))
 step_further s a x (Again l k v) pl = inl (again_answered s l k v (s.locks l))
 step_further s a x (Lock []) pl =
-    subst (Further (when_none_left (to_check x (s.clock + 1)) (LockedAt (s.clock + 1)))) (sym (put-same s.actors a _)) (none_left (to_check x (s.clock + 1)) (LockedAt (s.clock + 1)) tt)
+    subst (Further (when_none_left (to_check x (s.clock + 1)) (LockedAt (s.clock + 1)))) (sym (put-same s.actors a _))
+        (none_left (to_check x (s.clock + 1)) (LockedAt (s.clock + 1)) tt)
 step_further s a x (Lock (l ∷ ls)) pl = to_lock_further s a x l ls (s.locks l)
 step_further s a x (Take l k ls) pl = take_further s a x l k ls (s.locks l)
 step_further s a x (Check []) pl = inl tt
@@ -121,7 +133,8 @@ does_other s b a (ExchangeLock l k x y) ne = go (s.locks l)
     pick false t u f g = g
 
     go : (w : LockWord) → (exchanged s b l k x y w).actors a ≡ s.actors a
-    go (Free j) = pick (eqb j k) (does s b (StoreLock l (Locked k) x)) (now s b y) (put-other s.actors b x a ne) (put-other s.actors b y a ne)
+    go (Free j) = pick (eqb j k) (does s b (StoreLock l (Locked k) x)) (now s b y) (put-other s.actors b x a ne)
+        (put-other s.actors b y a ne)
     go (Locked j) = put-other s.actors b y a ne
 does_other s b a (StoreValue l v x) ne = put-other s.actors b x a ne
 does_other s b a (StoreLock l w x) ne = put-other s.actors b x a ne
@@ -139,7 +152,8 @@ step_other s b a ne =
 abbrev Left : World → ℕ → ℕ
 Left s a = steps_left (s.actors a) (s.actors a).place
 
-pub answered : (later : List Event) (s : World) (a : ℕ) → Inv s → 0 < Left s a → AsksNothing a later → Left s a ≤ steps_of a later → IsAnsweredWithin a later s
+pub answered : (later : List Event) (s : World) (a : ℕ) → Inv s → 0 < Left s a → AsksNothing a later → Left s a ≤ steps_of a later
+    → IsAnsweredWithin a later s
 answered [] s a v h asks enough = absurd (omega (arith, h, enough))
 answered (Ask b request ∷ es) s a v h asks enough =
     let t : World = happens s (Ask b request) in
@@ -148,11 +162,13 @@ answered (Ask b request ∷ es) s a v h asks enough =
 answered (Step b ∷ es) s a v h asks enough =
     elim (cases_eq b a) [
       | inl e ↦
-          let own : IsAnswered (notice s (s.actors a) (s.actors a).place) ⊎ (0 < Left (happens s (Step a)) a) = step_further s a (s.actors a) (s.actors a).place (v.actors a).place in
+          let own : IsAnswered (notice s (s.actors a) (s.actors a).place) ⊎ (0 < Left (happens s (Step a)) a) = step_further s a
+              (s.actors a) (s.actors a).place (v.actors a).place in
           elim own [
             | inl n ↦ inl (e, n)
             | inr more ↦
-                let count : steps_of a (Step b ∷ es) ≡ steps_of a es + 1 = cond-true (eqb b a) (steps_of a es + 1) (steps_of a es) (eq-eqb b a e) in
+                let count : steps_of a (Step b ∷ es)
+                    ≡ steps_of a es + 1 = cond-true (eqb b a) (steps_of a es + 1) (steps_of a es) (eq-eqb b a e) in
                 let less : Left (happens s (Step a)) a < Left s a = progress s a v h in
                 inr (subst (λ (n : ℕ). IsAnsweredWithin a es (happens s (Step n))) (sym e)
                 (answered es (happens s (Step a)) a (happens_ok s (Step a) v).inv more asks (omega (arith, enough, count, less))))

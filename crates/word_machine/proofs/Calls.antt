@@ -102,13 +102,15 @@ unfolding IsLegal
 first_read_is [] m l v h e = let x : Some v ≡ None = sym e in cc
 first_read_is (Read k u ∷ cs) m l v h e =
     elim (cases_eq l k) [
-      | inl q ↦ (let x : Some u ≡ Some v = sym (cond-true (eqb l k) (Some u) (first_read cs l) (eq-eqb l k q)) ∙ e in let y : u ≡ v = cc in ap m q ∙ h.0 ∙ y)
+      | inl q ↦ (let x : Some u ≡ Some v = sym (cond-true (eqb l k) (Some u) (first_read cs l) (eq-eqb l k q)) ∙ e in let y : u
+          ≡ v = cc in ap m q ∙ h.0 ∙ y)
       | inr ne ↦ first_read_is cs m l v h.1 (sym (cond-false (eqb l k) (Some u) (first_read cs l) (ne_eqb l k ne)) ∙ e)
     ]
 first_read_is (Write k u ∷ cs) m l v h e =
     elim (cases_eq l k) [
       | inl q ↦ (let x : None ≡ Some v = sym (cond-true (eqb l k) None (first_read cs l) (eq-eqb l k q)) ∙ e in cc)
-      | inr ne ↦ sym (put-other m k u l ne) ∙ first_read_is cs (put m k u) l v h (sym (cond-false (eqb l k) None (first_read cs l) (ne_eqb l k ne)) ∙ e)
+      | inr ne ↦ sym (put-other m k u l ne) ∙ first_read_is cs (put m k u) l v h
+          (sym (cond-false (eqb l k) None (first_read cs l) (ne_eqb l k ne)) ∙ e)
     ]
 
 -- further calls leave it
@@ -116,13 +118,16 @@ pub first_read-more : (cs ds : List Call) (l v : ℕ) → first_read cs l ≡ So
 first_read-more [] ds l v e = let x : Some v ≡ None = sym e in cc
 first_read-more (Read k u ∷ cs) ds l v e =
     elim (cases_eq l k) [
-      | inl q ↦ cond-true (eqb l k) (Some u) (first_read (cs ++ ds) l) (eq-eqb l k q) ∙ sym (cond-true (eqb l k) (Some u) (first_read cs l) (eq-eqb l k q)) ∙ e
-      | inr ne ↦ cond-false (eqb l k) (Some u) (first_read (cs ++ ds) l) (ne_eqb l k ne) ∙ first_read-more cs ds l v (sym (cond-false (eqb l k) (Some u) (first_read cs l) (ne_eqb l k ne)) ∙ e)
+      | inl q ↦ cond-true (eqb l k) (Some u) (first_read (cs ++ ds) l) (eq-eqb l k q)
+          ∙ sym (cond-true (eqb l k) (Some u) (first_read cs l) (eq-eqb l k q)) ∙ e
+      | inr ne ↦ cond-false (eqb l k) (Some u) (first_read (cs ++ ds) l) (ne_eqb l k ne)
+          ∙ first_read-more cs ds l v (sym (cond-false (eqb l k) (Some u) (first_read cs l) (ne_eqb l k ne)) ∙ e)
     ]
 first_read-more (Write k u ∷ cs) ds l v e =
     elim (cases_eq l k) [
       | inl q ↦ (let x : None ≡ Some v = sym (cond-true (eqb l k) None (first_read cs l) (eq-eqb l k q)) ∙ e in cc)
-      | inr ne ↦ cond-false (eqb l k) None (first_read (cs ++ ds) l) (ne_eqb l k ne) ∙ first_read-more cs ds l v (sym (cond-false (eqb l k) None (first_read cs l) (ne_eqb l k ne)) ∙ e)
+      | inr ne ↦ cond-false (eqb l k) None (first_read (cs ++ ds) l) (ne_eqb l k ne)
+          ∙ first_read-more cs ds l v (sym (cond-false (eqb l k) None (first_read cs l) (ne_eqb l k ne)) ∙ e)
     ]
 
 -- m holds what was read
@@ -170,11 +175,13 @@ Sets-write w cs k v s = record {
 }
 
 -- a read of an own write
-pub legal_own : (w : Entries) (cs : List Call) (k v : ℕ) (m : Memory) → Sets w cs → lookup w k ≡ Some v → IsLegal m cs → IsLegal m (cs ++ Read k v ∷ [])
+pub legal_own : (w : Entries) (cs : List Call) (k v : ℕ) (m : Memory) → Sets w cs → lookup w k ≡ Some v → IsLegal m cs
+    → IsLegal m (cs ++ Read k v ∷ [])
 legal_own w cs k v m s h legal = IsLegal-read cs m k v legal (after-final cs m k ∙ s.last k v h (m k))
 
 -- a read of a location that the transaction has not written
-pub legal_read : (w : Entries) (cs : List Call) (k v : ℕ) (m : Memory) → Sets w cs → lookup w k ≡ None → m k ≡ v → IsLegal m cs → IsLegal m (cs ++ Read k v ∷ [])
+pub legal_read : (w : Entries) (cs : List Call) (k v : ℕ) (m : Memory) → Sets w cs → lookup w k ≡ None → m k ≡ v → IsLegal m cs
+    → IsLegal m (cs ++ Read k v ∷ [])
 legal_read w cs k v m s h e legal = IsLegal-read cs m k v legal (after-final cs m k ∙ final_untouched cs k (m k) (s.not_written k h) ∙ e)
 
 pub Agrees-before : (m : Memory) (r : Entries) (k v : ℕ) → lookup r k ≡ None → Agrees m (with_entry r k v) → Agrees m r

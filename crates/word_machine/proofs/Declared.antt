@@ -13,42 +13,51 @@ use Rattle.word_machine.proofs.Invariant.{HasBegun, IsKept, Inv}
 use Rattle.word_machine.proofs.Answered.{step_other}
 
 -- a commit whose clock has moved checks its read set
-pub made : (s : World) (a : ℕ) → (s.actors a).place ≡ Lock [] → (s.actors a).rv ≢ s.clock → ((happens s (Step a)).actors a).place ≡ Check (locations (s.actors a).reads)
+pub made : (s : World) (a : ℕ) → (s.actors a).place ≡ Lock [] → (s.actors a).rv ≢ s.clock → ((happens s (Step a)).actors a).place
+    ≡ Check (locations (s.actors a).reads)
 made s a e ne =
     let x = s.actors a in
     subst (λ (p : Place). ((step s a x p).actors a).place ≡ Check (locations x.reads)) (sym e)
     (ap (λ (y : Actor). y.place) (put-same s.actors a _)
-    ∙ ap Check (cond-false (eqb (x.rv + 1) (s.clock + 1)) [] (locations x.reads) (ne_eqb (x.rv + 1) (s.clock + 1) (λ q. ne (omega (arith, q))))))
+    ∙ ap Check (cond-false (eqb (x.rv + 1) (s.clock + 1)) [] (locations x.reads)
+        (ne_eqb (x.rv + 1) (s.clock + 1) (λ q. ne (omega (arith, q))))))
 
 -- a declared reader has neither set
-no_sets : (declared : Bool) (reads writes seen : Entries) → declared ≡ true → IsKept declared reads writes seen → (reads ≡ []) × (writes ≡ [])
+no_sets : (declared : Bool) (reads writes seen : Entries) → declared ≡ true → IsKept declared reads writes seen → (reads ≡ [])
+    × (writes ≡ [])
 no_sets true reads writes seen d kept = kept
 no_sets false reads writes seen d kept = (let b : ⊥ = cc in absurd b)
 
-pub has_no_sets : (s : World) (a : ℕ) → Inv s → (s.actors a).declared ≡ true → (s.actors a).place ≡ Open → ((s.actors a).reads ≡ []) × ((s.actors a).writes ≡ [])
+pub has_no_sets : (s : World) (a : ℕ) → Inv s → (s.actors a).declared ≡ true → (s.actors a).place ≡ Open → ((s.actors a).reads ≡ [])
+    × ((s.actors a).writes ≡ [])
 has_no_sets s a v d e =
     let x = s.actors a in
     let ok = v.actors a in
     no_sets x.declared x.reads x.writes ok.saw.reads d (ok.kept (subst HasBegun (sym e) tt))
 
 -- so a read begins with its first load
-pub anew : (s : World) (a l : ℕ) → Inv s → (s.actors a).declared ≡ true → (s.actors a).place ≡ Open → ((happens s (Ask a (AskRead l))).actors a).place ≡ Look l
+pub anew : (s : World) (a l : ℕ) → Inv s → (s.actors a).declared ≡ true → (s.actors a).place ≡ Open
+    → ((happens s (Ask a (AskRead l))).actors a).place ≡ Look l
 unfolding lookup
 anew s a l v d e =
     let x = s.actors a in
     let none = has_no_sets s a v d e in
-    let asked : ask x x.place (AskRead l) ≡ goes x (Look l) = ap (λ (p : Place). ask x p (AskRead l)) e ∙ ap (λ (w : Entries). read x l (lookup w l) (lookup x.reads l)) none.1 ∙ ap (λ (r : Entries). read x l None (lookup r l)) none.0 in
+    let asked : ask x x.place (AskRead l) ≡ goes x (Look l) = ap (λ (p : Place). ask x p (AskRead l)) e
+        ∙ ap (λ (w : Entries). read x l (lookup w l) (lookup x.reads l)) none.1 ∙ ap (λ (r : Entries). read x l None (lookup r l)) none.0 in
     ap (λ (y : Actor). y.place) (put-same s.actors a (ask x x.place (AskRead l)) ∙ asked)
 
-pub no_write : (s : World) (a l v : ℕ) → (s.actors a).declared ≡ true → (s.actors a).place ≡ Open → (happens s (Ask a (AskWrite l v))).actors a ≡ s.actors a
+pub no_write : (s : World) (a l v : ℕ) → (s.actors a).declared ≡ true → (s.actors a).place ≡ Open
+    → (happens s (Ask a (AskWrite l v))).actors a ≡ s.actors a
 no_write s a l v d e =
     let x = s.actors a in
     put-same s.actors a (ask x x.place (AskWrite l v)) ∙ ap (λ (p : Place). ask x p (AskWrite l v)) e ∙ ap (λ (b : Bool). write x b l v) d
 
-pub no_lock : (s : World) (a : ℕ) → Inv s → (s.actors a).declared ≡ true → (s.actors a).place ≡ Open → (happens s (Ask a AskLock)).actors a ≡ s.actors a
+pub no_lock : (s : World) (a : ℕ) → Inv s → (s.actors a).declared ≡ true → (s.actors a).place ≡ Open
+    → (happens s (Ask a AskLock)).actors a ≡ s.actors a
 no_lock s a v d e =
     let x = s.actors a in
-    put-same s.actors a (ask x x.place AskLock) ∙ ap (λ (p : Place). ask x p AskLock) e ∙ ap (λ (w : Entries). lock x w) (has_no_sets s a v d e).1
+    put-same s.actors a (ask x x.place AskLock) ∙ ap (λ (p : Place). ask x p AskLock) e
+        ∙ ap (λ (w : Entries). lock x w) (has_no_sets s a v d e).1
 
 pub begun_declared : (s : World) (a : ℕ) → (s.actors a).place ≡ Idle → ((happens s (Ask a AskBeginRead)).actors a).declared ≡ true
 begun_declared s a e =
@@ -127,10 +136,12 @@ to_lock_like s a x l ls (Free k) = like_put x s.actors a (goes x (Take l k ls)) 
 to_lock_like s a x l ls (Locked k) = like_put x s.actors a (goes x Broken) refl
 
 take_like : (s : World) (a : ℕ) (x : Actor) (l k : ℕ) (ls : List ℕ) (w : LockWord) → Like x ((tried s a x l k ls w).actors a)
-take_like s a x l k ls (Free j) = like_world x (eqb j k) (locked s a x l k ls) (now s a (goes x Broken)) a (like_put x s.actors a (taken x l k ls) refl) (like_put x s.actors a (goes x Broken) refl)
+take_like s a x l k ls (Free j) = like_world x (eqb j k) (locked s a x l k ls) (now s a (goes x Broken)) a
+    (like_put x s.actors a (taken x l k ls) refl) (like_put x s.actors a (goes x Broken) refl)
 take_like s a x l k ls (Locked j) = like_put x s.actors a (goes x Broken) refl
 
-check_like : (s : World) (a : ℕ) (x : Actor) (l : ℕ) (ls : List ℕ) (w : LockWord) (own : Option ℕ) → Like x ((checked s a x l ls w own).actors a)
+check_like : (s : World) (a : ℕ) (x : Actor) (l : ℕ) (ls : List ℕ) (w : LockWord) (own : Option ℕ)
+    → Like x ((checked s a x l ls w own).actors a)
 check_like s a x l ls (Free k) own = like_put x s.actors a _ (like_if (leb k x.rv) x (goes x (Check ls)) (goes x Broken) refl refl)
 check_like s a x l ls (Locked k) (Some old) = like_put x s.actors a _ (like_if (leb k x.rv) x (goes x (Check ls)) (goes x Broken) refl refl)
 check_like s a x l ls (Locked k) None = like_put x s.actors a (goes x Broken) refl
@@ -169,13 +180,16 @@ step_like s a x Undo h = undone_like s a x x.held h
 step_like s a x Leave h = like_put x s.actors a (goes x Idle) refl
 step_like s a x Close h = like_put x s.actors a (goes x Idle) refl
 
-pub stays_declared : (s : World) (a : ℕ) (event : Event) → (s.actors a).declared ≡ true → ((s.actors a).place ≡ Idle → ⊥) → ((happens s event).actors a).declared ≡ true
+pub stays_declared : (s : World) (a : ℕ) (event : Event) → (s.actors a).declared ≡ true → ((s.actors a).place ≡ Idle → ⊥)
+    → ((happens s event).actors a).declared ≡ true
 stays_declared s a (Ask b request) d ne =
     put_both (λ (y : Actor). y.declared ≡ true) s.actors b (ask (s.actors b) (s.actors b).place request) a
-    (λ q. ask_like (s.actors b) (s.actors b).place request (subst (λ (n : ℕ). (s.actors n).place ≡ Idle → ⊥) q ne) ∙ subst (λ (n : ℕ). (s.actors n).declared ≡ true) q d)
+    (λ q. ask_like (s.actors b) (s.actors b).place request (subst (λ (n : ℕ). (s.actors n).place ≡ Idle → ⊥) q ne)
+        ∙ subst (λ (n : ℕ). (s.actors n).declared ≡ true) q d)
     (λ _. d)
 stays_declared s a (Step b) d ne =
     elim (cases_eq a b) [
-      | inl q ↦ subst (λ (n : ℕ). ((happens s (Step n)).actors a).declared ≡ true) q (step_like s a (s.actors a) (s.actors a).place refl ∙ d)
+      | inl q ↦ subst (λ (n : ℕ). ((happens s (Step n)).actors a).declared ≡ true) q
+          (step_like s a (s.actors a) (s.actors a).place refl ∙ d)
       | inr other ↦ ap (λ (y : Actor). y.declared) (step_other s b a other) ∙ d
     ]

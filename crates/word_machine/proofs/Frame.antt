@@ -94,7 +94,8 @@ RecordOk-kept s t r k g = record {
 pub records_kept : (s t : World) (h : List Record) → Keeps s t → AllRecords (RecordOk s) h → AllRecords (RecordOk t) h
 records_kept s t h k g = AllRecords_map (RecordOk s) (RecordOk t) h (λ r q. RecordOk-kept s t r k q) g
 
-pub aborted_kept : (s t : World) (es : List Ended) → Keeps s t → AllEnded (λ e. Saw s e.rv e.calls) es → AllEnded (λ e. Saw t e.rv e.calls) es
+pub aborted_kept : (s t : World) (es : List Ended) → Keeps s t → AllEnded (λ e. Saw s e.rv e.calls) es
+    → AllEnded (λ e. Saw t e.rv e.calls) es
 aborted_kept s t [] k g = tt
 aborted_kept s t (e ∷ es) k g = (Saw-kept s t e.rv e.calls k g.0, aborted_kept s t es k g.1)
 
@@ -104,18 +105,22 @@ next s a y clock locks values history aborted = record { opening = s.opening; cl
 
 -- y's number is the one that a had, or a new one
 abbrev pub IsNumbered : World → ℕ → Actor → Type 0
-IsNumbered s a y = IsPending y.place → (IsPending (s.actors a).place × ((s.actors a).wv ≡ y.wv) × ((s.actors a).writes ≡ y.writes)) ⊎ (s.clock < y.wv)
+IsNumbered s a y = IsPending y.place → (IsPending (s.actors a).place × ((s.actors a).wv ≡ y.wv) × ((s.actors a).writes ≡ y.writes)) ⊎
+    (s.clock < y.wv)
 
 pub pending_stamped : (s : World) (x : Actor) (p : Place) → PlaceOk s x p → IsPending p → Stamped s.clock x.rv x.wv x.writes x.held
 pending_stamped s x (Check ls) g h = g.0
 pending_stamped s x First g h = g.0
 pending_stamped s x p g h = absurd h
 
-pub stamp_of : (s : World) (b : ℕ) → Inv s → IsPending (s.actors b).place → Stamped s.clock (s.actors b).rv (s.actors b).wv (s.actors b).writes (s.actors b).held
+pub stamp_of : (s : World) (b : ℕ) → Inv s → IsPending (s.actors b).place
+    → Stamped s.clock (s.actors b).rv (s.actors b).wv (s.actors b).writes (s.actors b).held
 stamp_of s b v h = pending_stamped s (s.actors b) (s.actors b).place (v.actors b).place h
 
 -- a step that commits nothing keeps what is good
-pub Keeps-no_commit : (s : World) (a : ℕ) (y : Actor) (c : ℕ) (locks : ℕ → LockWord) (values : Memory) (aborted : List Ended) → s.clock ≤ c → IsNumbered s a y → ((l : ℕ) → version_of (s.locks l) ≤ version_of (locks l)) → Keeps s (next s a y c locks values s.history aborted)
+pub Keeps-no_commit : (s : World) (a : ℕ) (y : Actor) (c : ℕ) (locks : ℕ → LockWord) (values : Memory) (aborted : List Ended)
+    → s.clock ≤ c → IsNumbered s a y → ((l : ℕ) → version_of (s.locks l) ≤ version_of (locks l))
+    → Keeps s (next s a y c locks values s.history aborted)
 Keeps-no_commit s a y c locks values aborted le num ver = record {
   clock = le;
   versions = ver;
@@ -132,8 +137,10 @@ Keeps-no_commit s a y c locks values aborted le num ver = record {
   };
 }
 
-pub actors_after : (s t : World) (a : ℕ) (y : Actor) → Inv s → Keeps s t → ((b : ℕ) → (b ≡ a → ⊥) → Same s t (s.actors b).held) → ActorOk t y → (b : ℕ) → ActorOk t (put s.actors a y b)
-actors_after s t a y v k others own b = put_both (ActorOk t) s.actors a y b (λ _. own) (λ ne. ActorOk-kept s t (s.actors b) k (others b ne) (v.actors b))
+pub actors_after : (s t : World) (a : ℕ) (y : Actor) → Inv s → Keeps s t → ((b : ℕ) → (b ≡ a → ⊥) → Same s t (s.actors b).held)
+    → ActorOk t y → (b : ℕ) → ActorOk t (put s.actors a y b)
+actors_after s t a y v k others own b = put_both (ActorOk t) s.actors a y b (λ _. own)
+    (λ ne. ActorOk-kept s t (s.actors b) k (others b ne) (v.actors b))
 
 pub apart_after : (s : World) (a : ℕ) (y : Actor) → Inv s
     → ((l k : ℕ) → lookup y.held l ≡ Some k → (lookup (s.actors a).held l ≡ Some k) ⊎ ((b j : ℕ) → lookup (s.actors b).held l ≡ Some j → ⊥))
@@ -148,9 +155,11 @@ apart_after s a y v own b c l j k =
     (λ _ hc. v.apart b c l j k hb hc))
 
 pub numbers_after : (s : World) (a : ℕ) (y : Actor) → Inv s → IsNumbered s a y
-    → (b c : ℕ) → IsPending (put s.actors a y b).place → IsPending (put s.actors a y c).place → (put s.actors a y b).wv ≡ (put s.actors a y c).wv → b ≡ c
+    → (b c : ℕ) → IsPending (put s.actors a y b).place → IsPending (put s.actors a y c).place → (put s.actors a y b).wv
+        ≡ (put s.actors a y c).wv → b ≡ c
 numbers_after s a y v num b c =
-    put_both (λ (z : Actor). IsPending z.place → IsPending (put s.actors a y c).place → z.wv ≡ (put s.actors a y c).wv → b ≡ c) s.actors a y b
+    put_both (λ (z : Actor). IsPending z.place → IsPending (put s.actors a y c).place → z.wv ≡ (put s.actors a y c).wv → b
+        ≡ c) s.actors a y b
     (λ eb pb. put_both (λ (z : Actor). IsPending z.place → y.wv ≡ z.wv → b ≡ c) s.actors a y c
     (λ ec _ _. eb ∙ sym ec)
     (λ _ pc e. elim (num pb) [
@@ -165,11 +174,13 @@ numbers_after s a y v num b c =
     (λ _ pc e. v.numbers b c pb pc e))
 
 pub unused_after : (s : World) (a : ℕ) (y : Actor) → Inv s → IsNumbered s a y
-    → (b : ℕ) → IsPending (put s.actors a y b).place → AllRecords (λ r. (r.writer ≡ true → (put s.actors a y b).wv ≡ r.number → ⊥)) s.history
+    → (b : ℕ) → IsPending (put s.actors a y b).place
+        → AllRecords (λ r. (r.writer ≡ true → (put s.actors a y b).wv ≡ r.number → ⊥)) s.history
 unused_after s a y v num b =
     put_both (λ (z : Actor). IsPending z.place → AllRecords (λ r. (r.writer ≡ true → z.wv ≡ r.number → ⊥)) s.history) s.actors a y b
     (λ _ p. elim (num p) [
-      | inl old ↦ AllRecords_map (λ r. (r.writer ≡ true → (s.actors a).wv ≡ r.number → ⊥)) (λ r. (r.writer ≡ true → y.wv ≡ r.number → ⊥)) s.history
+      | inl old ↦ AllRecords_map (λ r. (r.writer ≡ true → (s.actors a).wv ≡ r.number → ⊥))
+          (λ r. (r.writer ≡ true → y.wv ≡ r.number → ⊥)) s.history
           (λ r f w e. f w (old.1 ∙ e)) (v.unused a old.0)
       | inr new ↦ AllRecords_map (RecordOk s) (λ r. (r.writer ≡ true → y.wv ≡ r.number → ⊥)) s.history
           (λ r f w e. absurd (omega (arith, f.past, new, e))) v.records
@@ -188,7 +199,8 @@ behind_before s a y l still none b half =
       | inl e ↦ ap (λ (z : ℕ). lookup (s.actors z).held l) e
           ∙ still (subst (λ (z : ℕ). IsHalfDone (s.actors z).place) e half)
           (let P : Actor → Type 0 = λ z. (IsHalfDone z.place → lookup z.held l ≡ None) in subst P (put-same s.actors a y) (none a))
-      | inr ne ↦ (let P : Actor → Type 0 = λ z. (IsHalfDone z.place → lookup z.held l ≡ None) in subst P (put-other s.actors a y b ne) (none b)) half
+      | inr ne ↦ (let P : Actor → Type 0 = λ z. (IsHalfDone z.place → lookup z.held l ≡ None) in subst P (put-other s.actors a y b ne)
+          (none b)) half
     ]
 
 -- What a step of actor a leads to.
@@ -214,10 +226,12 @@ pub record QuietOk (s : World) (a : ℕ) (y : Actor) : Type 0 where
   pub ok : ActorOk s y
 
 -- a step that changes one actor and no word; it may end a transaction
-pub quiet_ended : (s : World) (a : ℕ) (y : Actor) (ended : List Ended) → Inv s → QuietOk s a y → AllEnded (λ e. Saw s e.rv e.calls) ended → Moved s a (next s a y s.clock s.locks s.values s.history ended)
+pub quiet_ended : (s : World) (a : ℕ) (y : Actor) (ended : List Ended) → Inv s → QuietOk s a y → AllEnded (λ e. Saw s e.rv e.calls) ended
+    → Moved s a (next s a y s.clock s.locks s.values s.history ended)
 quiet_ended s a y ended v q saw =
     let t = next s a y s.clock s.locks s.values s.history ended in
-    let k : Keeps s (next s a y s.clock s.locks s.values s.history ended) = Keeps-no_commit s a y s.clock s.locks s.values ended (omega arith) q.numbered (λ l. omega arith) in
+    let k : Keeps s (next s a y s.clock s.locks s.values s.history ended) = Keeps-no_commit s a y s.clock s.locks s.values ended
+        (omega arith) q.numbered (λ l. omega arith) in
     let m : (h : Entries) → Same s (next s a y s.clock s.locks s.values s.history ended) h = λ h. record { locks = λ l j q. refl; values = λ l j q. refl; stamps = λ l j q. refl; latest = λ l j q. refl } in
     record {
       inv = record {

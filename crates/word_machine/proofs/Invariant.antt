@@ -16,7 +16,8 @@ IsPending (Check ls) = Unit {0}
 IsPending First = Unit {0}
 IsPending p = ⊥
 
--- After the records up to number n, l holds v, now and at every later moment: whoever has such a number and is still to commit doesn't write l.
+-- After the records up to number n, l holds v, now and at every later moment: whoever has such a number and is still to commit doesn't
+-- write l.
 pub record Good (s : World) (n l v : ℕ) : Type 0 where
   pub past : n ≤ s.clock
   pub value : settled s.history n l (s.opening l) ≡ v
@@ -63,7 +64,8 @@ pub record Done (s : World) (wv : ℕ) (writes held : Entries) (ls : List ℕ) :
   pub last : (l k : ℕ) → lookup held l ≡ Some k → stamp s.history l ≡ wv
   pub made : wv ≤ s.clock
   pub some : IsSomeEntry held
-  pub value : (l k : ℕ) → lookup held l ≡ Some k → (v : ℕ) × (lookup writes l ≡ Some v) × (latest s l ≡ v) × ((s.values l ≡ v) ⊎ Member l ls)
+  pub value : (l k : ℕ) → lookup held l ≡ Some k → (v : ℕ) × (lookup writes l ≡ Some v) × (latest s l ≡ v)
+      × ((s.values l ≡ v) ⊎ Member l ls)
 
 abbrev pub Reading : Actor → ℕ → Type 0
 Reading x l = (x.held ≡ []) × (lookup x.writes l ≡ None) × (lookup x.reads l ≡ None)
@@ -125,7 +127,8 @@ pub record Inv (s : World) : Type 0 where
   -- a word whose version is not below its last commit holds that commit's value
   pub current : (l : ℕ) → stamp s.history l ≤ version_of (s.locks l) → s.values l ≡ latest s l
   -- the version is not below the last commit, but where a half-done commit holds the lock
-  pub behind : (l : ℕ) → ((a : ℕ) → IsHalfDone (s.actors a).place → lookup (s.actors a).held l ≡ None) → stamp s.history l ≤ version_of (s.locks l)
+  pub behind : (l : ℕ) → ((a : ℕ) → IsHalfDone (s.actors a).place → lookup (s.actors a).held l ≡ None)
+      → stamp s.history l ≤ version_of (s.locks l)
   pub ordered : IsInOrder s.history
   pub records : AllRecords (RecordOk s) s.history
   pub aborted : AllEnded (λ e. Saw s e.rv e.calls) s.aborted

@@ -16,3 +16,5 @@ pub mod Short
 pub mod Order
 pub mod Refusals
 pub mod Declared
+pub mod Due
+pub mod Numbers

@@ -18,7 +18,8 @@ length-locations (e ∷ es) = ap suc (length-locations es)
 
 -- what is to be checked is no longer than the read set
 pub few_to_check : (x : Actor) (wv : ℕ) → length (to_check x wv) ≤ length x.reads
-few_to_check x wv = cond_both (eqb (x.rv + 1) wv) [] (locations x.reads) (λ (ls : List ℕ). length ls ≤ length x.reads) (λ _. omega arith) (λ _. let q = length-locations x.reads in omega (arith, q))
+few_to_check x wv = cond_both (eqb (x.rv + 1) wv) [] (locations x.reads) (λ (ls : List ℕ). length ls ≤ length x.reads) (λ _. omega arith)
+    (λ _. let q = length-locations x.reads in omega (arith, q))
 
 -- fewer than n steps are left to actor a
 abbrev pub Nearer : ℕ → Actor → Type 0
@@ -39,26 +40,35 @@ again_nearer s a x l k v (Free j) e = cond_both (eqb j k) (has_read x l v) (goes
     (λ _. nearer_put 1 s.actors a (goes x Undo) (let q = ap length e in omega (arith, q)))
 again_nearer s a x l k v (Locked j) e = nearer_put 1 s.actors a (goes x Undo) (let q = ap length e in omega (arith, q))
 
-to_lock_nearer : (s : World) (a : ℕ) (x : Actor) (l : ℕ) (ls : List ℕ) (w : LockWord) → Nearer (2 * length (l ∷ ls) + 1 + length x.reads) ((to_lock s a x l ls w).actors a)
+to_lock_nearer : (s : World) (a : ℕ) (x : Actor) (l : ℕ) (ls : List ℕ) (w : LockWord)
+    → Nearer (2 * length (l ∷ ls) + 1 + length x.reads) ((to_lock s a x l ls w).actors a)
 to_lock_nearer s a x l ls (Free k) = nearer_put (2 * length (l ∷ ls) + 1 + length x.reads) s.actors a (goes x (Take l k ls)) (omega arith)
 to_lock_nearer s a x l ls (Locked k) = nearer_put (2 * length (l ∷ ls) + 1 + length x.reads) s.actors a (goes x Broken) (omega arith)
 
-take_nearer : (s : World) (a : ℕ) (x : Actor) (l k : ℕ) (ls : List ℕ) (w : LockWord) → Nearer (2 * length ls + 2 + length x.reads) ((tried s a x l k ls w).actors a)
-take_nearer s a x l k ls (Free j) = cond_both (eqb j k) (locked s a x l k ls) (now s a (goes x Broken)) (λ (z : World). Nearer (2 * length ls + 2 + length x.reads) (z.actors a))
+take_nearer : (s : World) (a : ℕ) (x : Actor) (l k : ℕ) (ls : List ℕ) (w : LockWord)
+    → Nearer (2 * length ls + 2 + length x.reads) ((tried s a x l k ls w).actors a)
+take_nearer s a x l k ls (Free j) = cond_both (eqb j k) (locked s a x l k ls) (now s a (goes x Broken))
+    (λ (z : World). Nearer (2 * length ls + 2 + length x.reads) (z.actors a))
     (λ _. subst (Nearer (2 * length ls + 2 + length x.reads)) (sym (put-same s.actors a _)) (omega arith))
     (λ _. nearer_put (2 * length ls + 2 + length x.reads) s.actors a (goes x Broken) (omega arith))
 take_nearer s a x l k ls (Locked j) = nearer_put (2 * length ls + 2 + length x.reads) s.actors a (goes x Broken) (omega arith)
 
-check_nearer : (s : World) (a : ℕ) (x : Actor) (l : ℕ) (ls : List ℕ) (w : LockWord) (own : Option ℕ) → Nearer (length (l ∷ ls)) ((checked s a x l ls w own).actors a)
-check_nearer s a x l ls (Free k) own = cond_both (leb k x.rv) (goes x (Check ls)) (goes x Broken) (λ (z : Actor). Nearer (length (l ∷ ls)) (put s.actors a z a))
-    (λ _. nearer_put (length (l ∷ ls)) s.actors a (goes x (Check ls)) (omega arith)) (λ _. nearer_put (length (l ∷ ls)) s.actors a (goes x Broken) (omega arith))
-check_nearer s a x l ls (Locked k) (Some old) = cond_both (leb k x.rv) (goes x (Check ls)) (goes x Broken) (λ (z : Actor). Nearer (length (l ∷ ls)) (put s.actors a z a))
-    (λ _. nearer_put (length (l ∷ ls)) s.actors a (goes x (Check ls)) (omega arith)) (λ _. nearer_put (length (l ∷ ls)) s.actors a (goes x Broken) (omega arith))
+check_nearer : (s : World) (a : ℕ) (x : Actor) (l : ℕ) (ls : List ℕ) (w : LockWord) (own : Option ℕ)
+    → Nearer (length (l ∷ ls)) ((checked s a x l ls w own).actors a)
+check_nearer s a x l ls (Free k) own = cond_both (leb k x.rv) (goes x (Check ls)) (goes x Broken)
+    (λ (z : Actor). Nearer (length (l ∷ ls)) (put s.actors a z a))
+    (λ _. nearer_put (length (l ∷ ls)) s.actors a (goes x (Check ls)) (omega arith))
+        (λ _. nearer_put (length (l ∷ ls)) s.actors a (goes x Broken) (omega arith))
+check_nearer s a x l ls (Locked k) (Some old) = cond_both (leb k x.rv) (goes x (Check ls)) (goes x Broken)
+    (λ (z : Actor). Nearer (length (l ∷ ls)) (put s.actors a z a))
+    (λ _. nearer_put (length (l ∷ ls)) s.actors a (goes x (Check ls)) (omega arith))
+        (λ _. nearer_put (length (l ∷ ls)) s.actors a (goes x Broken) (omega arith))
 check_nearer s a x l ls (Locked k) None = nearer_put (length (l ∷ ls)) s.actors a (goes x Broken) (omega arith)
 
 first_nearer : (s : World) (a : ℕ) (x : Actor) (w : Entries) → IsSomeEntry w → Nearer (length w) ((first s a x w).actors a)
 first_nearer s a x [] n = absurd n
-first_nearer s a x (e ∷ es) n = nearer_put (length (e ∷ es)) s.actors a (goes x (Store (locations es))) (let q = length-locations es in omega (arith, q))
+first_nearer s a x (e ∷ es) n = nearer_put (length (e ∷ es)) s.actors a (goes x (Store (locations es)))
+    (let q = length-locations es in omega (arith, q))
 
 released_nearer : (s : World) (a : ℕ) (x : Actor) (h : Entries) → IsSomeEntry h → Nearer (length h) ((released s a x h).actors a)
 released_nearer s a x [] n = absurd n
@@ -69,15 +79,18 @@ undone_nearer : (s : World) (a : ℕ) (x : Actor) (h : Entries) → 0 < length h
 undone_nearer s a x [] p = absurd (omega (arith, p))
 undone_nearer s a x (e ∷ es) p = subst (Nearer (length (e ∷ es))) (sym (put-same s.actors a _)) (omega arith)
 
-step_nearer : (s : World) (a : ℕ) (x : Actor) (p : Place) → PlaceOk s x p → 0 < steps_left x p → Nearer (steps_left x p) ((step s a x p).actors a)
+step_nearer : (s : World) (a : ℕ) (x : Actor) (p : Place) → PlaceOk s x p → 0 < steps_left x p
+    → Nearer (steps_left x p) ((step s a x p).actors a)
 step_nearer s a x Idle pl h = absurd (omega (arith, h))
-step_nearer s a x Begin pl h = cond_both (ltb s.clock clock_limit) (opened x.declared s.clock) (goes x Idle) (λ (z : Actor). Nearer 1 (put s.actors a z a))
+step_nearer s a x Begin pl h = cond_both (ltb s.clock clock_limit) (opened x.declared s.clock) (goes x Idle)
+    (λ (z : Actor). Nearer 1 (put s.actors a z a))
     (λ _. nearer_put 1 s.actors a (opened x.declared s.clock) (omega arith)) (λ _. nearer_put 1 s.actors a (goes x Idle) (omega arith))
 step_nearer s a x Open pl h = absurd (omega (arith, h))
 step_nearer s a x (Look l) pl h = looked_nearer s a x l (s.locks l) pl.0
 step_nearer s a x (Fetch l k) pl h = nearer_put 2 s.actors a (goes x (Again l k (s.values l))) (omega arith)
 step_nearer s a x (Again l k v) pl h = again_nearer s a x l k v (s.locks l) (pl.0).0
-step_nearer s a x (Lock []) pl h = subst (Nearer (2 * 0 + 1 + length x.reads)) (sym (put-same s.actors a _)) (let q = few_to_check x (s.clock + 1) in omega (arith, q))
+step_nearer s a x (Lock []) pl h = subst (Nearer (2 * 0 + 1 + length x.reads)) (sym (put-same s.actors a _))
+    (let q = few_to_check x (s.clock + 1) in omega (arith, q))
 step_nearer s a x (Lock (l ∷ ls)) pl h = to_lock_nearer s a x l ls (s.locks l)
 step_nearer s a x (Take l k ls) pl h = take_nearer s a x l k ls (s.locks l)
 step_nearer s a x (Check []) pl h = absurd (omega (arith, h))
@@ -91,5 +104,6 @@ step_nearer s a x Undo pl h = undone_nearer s a x x.held h
 step_nearer s a x Leave pl h = nearer_put 1 s.actors a (goes x Idle) (omega arith)
 step_nearer s a x Close pl h = nearer_put 1 s.actors a (goes x Idle) (omega arith)
 
-pub progress : (s : World) (a : ℕ) → Inv s → 0 < steps_left (s.actors a) (s.actors a).place → Nearer (steps_left (s.actors a) (s.actors a).place) ((happens s (Step a)).actors a)
+pub progress : (s : World) (a : ℕ) → Inv s → 0 < steps_left (s.actors a) (s.actors a).place
+    → Nearer (steps_left (s.actors a) (s.actors a).place) ((happens s (Step a)).actors a)
 progress s a v h = step_nearer s a (s.actors a) (s.actors a).place (v.actors a).place h

@@ -34,7 +34,8 @@ pub no_holder : (s : World) (l k : ℕ) → Inv s → s.locks l ≡ Free k → (
 no_holder s l k v free b j h = free_not_locked (s.locks l) k j free ((v.actors b).held l j h)
 
 -- A word of version at most n, which no one else changes before it has a greater number, is good at n.
-pub good_at : (s : World) (n l v : ℕ) → Inv s → n ≤ s.clock → version_of (s.locks l) ≤ n → stamp s.history l ≤ version_of (s.locks l) → latest s l ≡ v
+pub good_at : (s : World) (n l v : ℕ) → Inv s → n ≤ s.clock → version_of (s.locks l) ≤ n → stamp s.history l ≤ version_of (s.locks l)
+    → latest s l ≡ v
     → ((b j : ℕ) → lookup (s.actors b).held l ≡ Some j → IsPending (s.actors b).place → (s.actors b).wv ≤ n → ⊥) → Good s n l v
 good_at s n l v i past low behind is holder = record {
   past = past;
@@ -52,10 +53,13 @@ free_good s n l k u v free low past is =
     good_at s n l u v past (omega (arith, e, low)) (free_behind s l k v free) is (λ b j h p w. no_holder s l k v free b j h)
 
 -- the actor at another place, with the same transaction
-pub goes_ok : (s : World) (x : Actor) (q : Place) → ActorOk s x → (HasBegun q → HasBegun x.place) → PlaceOk s (goes x q) q → ActorOk s (goes x q)
-goes_ok s x q ok begun pl = record { began = ok.began; reads = ok.reads; saw = ok.saw; sets = ok.sets; kept = λ h. ok.kept (begun h); held = ok.held; unique = ok.unique; place = pl }
+pub goes_ok : (s : World) (x : Actor) (q : Place) → ActorOk s x → (HasBegun q → HasBegun x.place) → PlaceOk s (goes x q) q
+    → ActorOk s (goes x q)
+goes_ok s x q ok begun pl = record { began = ok.began; reads = ok.reads; saw = ok.saw; sets = ok.sets; kept = λ h. ok.kept
+    (begun h); held = ok.held; unique = ok.unique; place = pl }
 
-pub quiet_goes : (s : World) (a : ℕ) (p q : Place) → Inv s → (s.actors a).place ≡ p → (IsPending q → IsPending p) → (IsHalfDone p → IsHalfDone q) → (HasBegun q → HasBegun p) → PlaceOk s (goes (s.actors a) q) q → QuietOk s a (goes (s.actors a) q)
+pub quiet_goes : (s : World) (a : ℕ) (p q : Place) → Inv s → (s.actors a).place ≡ p → (IsPending q → IsPending p)
+    → (IsHalfDone p → IsHalfDone q) → (HasBegun q → HasBegun p) → PlaceOk s (goes (s.actors a) q) q → QuietOk s a (goes (s.actors a) q)
 quiet_goes s a p q v e f g b pl = record {
   numbered = λ h. inl (subst IsPending (sym e) (f h), refl, refl);
   still = λ l half none. none (g (subst IsHalfDone e half));
@@ -72,23 +76,28 @@ quiet_same s a v = record {
 }
 
 -- the actor in the open with these sets and calls
-quiet_open : (s : World) (a : ℕ) (p : Place) (r w : Entries) (cs : List Call) → Inv s → (s.actors a).place ≡ p → (IsHalfDone p → ⊥) → (s.actors a).held ≡ [] → Sets w cs
+quiet_open : (s : World) (a : ℕ) (p : Place) (r w : Entries) (cs : List Call) → Inv s → (s.actors a).place ≡ p → (IsHalfDone p → ⊥)
+    → (s.actors a).held ≡ [] → Sets w cs
     → ((l v : ℕ) → lookup r l ≡ Some v → Good s (s.actors a).rv l v)
     → (g : Saw s (s.actors a).rv cs) → IsKept (s.actors a).declared r w g.reads
-    → QuietOk s a (record { place = Open; declared = (s.actors a).declared; rv = (s.actors a).rv; wv = (s.actors a).wv; reads = r; writes = w; held = (s.actors a).held; calls = cs })
+    → QuietOk s a (record { place = Open; declared = (s.actors a).declared; rv = (s.actors a).rv; wv =
+        (s.actors a).wv; reads = r; writes = w; held = (s.actors a).held; calls = cs })
 quiet_open s a p r w cs v e g none sets good saw kept = record {
   numbered = λ h. absurd h;
   still = λ l half n. absurd (g (subst IsHalfDone e half));
   held = refl;
-  ok = record { began = (v.actors a).began; reads = good; saw = saw; sets = sets; kept = λ _. kept; held = (v.actors a).held; unique = (v.actors a).unique; place = none };
+  ok = record { began = (v.actors a).began; reads = good; saw = saw; sets = sets; kept = λ _. kept; held = (v.actors a).held; unique =
+      (v.actors a).unique; place = none };
 }
 
 -- what the read set has, the transaction has seen
-in_seen : (declared : Bool) (reads writes seen : Entries) (l v : ℕ) → IsKept declared reads writes seen → lookup reads l ≡ Some v → lookup seen l ≡ Some v
+in_seen : (declared : Bool) (reads writes seen : Entries) (l v : ℕ) → IsKept declared reads writes seen → lookup reads l ≡ Some v
+    → lookup seen l ≡ Some v
 in_seen true reads writes seen l v kept h = absurd (lookup-none reads l v kept.0 h)
 in_seen false reads writes seen l v kept h = ap (λ (z : Entries). lookup z l) kept ∙ h
 
-read_ok : (s : World) (a l : ℕ) (w r : Option ℕ) → Inv s → (s.actors a).place ≡ Open → (s.actors a).held ≡ [] → lookup (s.actors a).writes l ≡ w → lookup (s.actors a).reads l ≡ r → QuietOk s a (read (s.actors a) l w r)
+read_ok : (s : World) (a l : ℕ) (w r : Option ℕ) → Inv s → (s.actors a).place ≡ Open → (s.actors a).held ≡ []
+    → lookup (s.actors a).writes l ≡ w → lookup (s.actors a).reads l ≡ r → QuietOk s a (read (s.actors a) l w r)
 read_ok s a l (Some u) r v e none hw hr =
     let x = s.actors a in
     let ok = v.actors a in
@@ -102,16 +111,20 @@ read_ok s a l None (Some u) v e none hw hr =
     (Saw-again s x.rv x.writes x.calls l u ok.saw ok.sets hw (in_seen x.declared x.reads x.writes ok.saw.reads l u kept hr)) kept
 read_ok s a l None None v e none hw hr = quiet_goes s a Open (Look l) v e (λ h. h) (λ h. h) (λ h. tt) (none, hw, hr)
 
-write_ok : (s : World) (a l u : ℕ) (declared : Bool) → Inv s → (s.actors a).place ≡ Open → (s.actors a).held ≡ [] → (s.actors a).declared ≡ declared → QuietOk s a (write (s.actors a) declared l u)
+write_ok : (s : World) (a l u : ℕ) (declared : Bool) → Inv s → (s.actors a).place ≡ Open → (s.actors a).held ≡ [] → (s.actors a).declared
+    ≡ declared → QuietOk s a (write (s.actors a) declared l u)
 write_ok s a l u true v e none d = quiet_same s a v
 write_ok s a l u false v e none d =
     let x = s.actors a in
     let ok = v.actors a in
-    let kept : ok.saw.reads ≡ x.reads = subst (λ (b : Bool). IsKept b x.reads x.writes ok.saw.reads) d (ok.kept (subst HasBegun (sym e) tt)) in
-    quiet_open s a Open x.reads (with_entry x.writes l u) (x.calls ++ Write l u ∷ []) v e (λ h. h) none (Sets-write x.writes x.calls l u ok.sets) ok.reads
+    let kept : ok.saw.reads ≡ x.reads = subst (λ (b : Bool). IsKept b x.reads x.writes ok.saw.reads) d
+        (ok.kept (subst HasBegun (sym e) tt)) in
+    quiet_open s a Open x.reads (with_entry x.writes l u) (x.calls ++ Write l u ∷ []) v e (λ h. h) none
+        (Sets-write x.writes x.calls l u ok.sets) ok.reads
     (Saw-write s x.rv x.calls l u ok.saw) (subst (λ (b : Bool). IsKept b x.reads (with_entry x.writes l u) ok.saw.reads) (sym d) kept)
 
-lock_ok : (s : World) (a : ℕ) (w : Entries) → Inv s → (s.actors a).place ≡ Open → (s.actors a).held ≡ [] → (s.actors a).writes ≡ w → QuietOk s a (lock (s.actors a) w)
+lock_ok : (s : World) (a : ℕ) (w : Entries) → Inv s → (s.actors a).place ≡ Open → (s.actors a).held ≡ [] → (s.actors a).writes ≡ w
+    → QuietOk s a (lock (s.actors a) w)
 lock_ok s a [] v e none hw = quiet_same s a v
 lock_ok s a (f ∷ fs) v e none hw =
     quiet_goes s a Open (Lock (locations (f ∷ fs))) v e (λ h. h) (λ h. h) (λ b. tt) (record {
@@ -121,16 +134,19 @@ lock_ok s a (f ∷ fs) v e none hw =
       some = subst IsSomeEntry (sym hw) tt;
     })
 
-close_ok : (s : World) (a : ℕ) (w : Entries) → Inv s → (s.actors a).place ≡ Open → (s.actors a).held ≡ [] → (s.actors a).writes ≡ w → QuietOk s a (close (s.actors a) w)
+close_ok : (s : World) (a : ℕ) (w : Entries) → Inv s → (s.actors a).place ≡ Open → (s.actors a).held ≡ [] → (s.actors a).writes ≡ w
+    → QuietOk s a (close (s.actors a) w)
 close_ok s a [] v e none hw = quiet_goes s a Open Close v e (λ h. h) (λ h. h) (λ b. tt) (none, hw)
 close_ok s a (f ∷ fs) v e none hw = quiet_same s a v
 
-abort_ok : (s : World) (a : ℕ) (h : Entries) → Inv s → (s.actors a).place ≡ Undo → (s.actors a).held ≡ h → QuietOk s a (abort (s.actors a) h)
+abort_ok : (s : World) (a : ℕ) (h : Entries) → Inv s → (s.actors a).place ≡ Undo → (s.actors a).held ≡ h
+    → QuietOk s a (abort (s.actors a) h)
 abort_ok s a [] v e hh = quiet_goes s a Undo Leave v e (λ h. h) (λ h. h) (λ b. tt) hh
 abort_ok s a (f ∷ fs) v e hh = quiet_same s a v
 
 -- a begin changes no set, and what they say is asked of a transaction that has begun
-asked_begin_ok : (s : World) (a : ℕ) (declared : Bool) → Inv s → (s.actors a).place ≡ Idle → (s.actors a).held ≡ [] → QuietOk s a (begin (s.actors a) declared)
+asked_begin_ok : (s : World) (a : ℕ) (declared : Bool) → Inv s → (s.actors a).place ≡ Idle → (s.actors a).held ≡ []
+    → QuietOk s a (begin (s.actors a) declared)
 asked_begin_ok s a declared v e none =
     let ok = v.actors a in
     record {
@@ -140,7 +156,8 @@ asked_begin_ok s a declared v e none =
       ok = record { began = ok.began; reads = ok.reads; saw = ok.saw; sets = ok.sets; kept = λ h. absurd h; held = ok.held; unique = ok.unique; place = none };
     }
 
-pub ask_ok : (s : World) (a : ℕ) (p : Place) (request : Request) → Inv s → (s.actors a).place ≡ p → PlaceOk s (s.actors a) p → QuietOk s a (ask (s.actors a) p request)
+pub ask_ok : (s : World) (a : ℕ) (p : Place) (request : Request) → Inv s → (s.actors a).place ≡ p → PlaceOk s (s.actors a) p
+    → QuietOk s a (ask (s.actors a) p request)
 ask_ok s a Idle AskBegin v e pl = asked_begin_ok s a false v e pl
 ask_ok s a Idle AskBeginRead v e pl = asked_begin_ok s a true v e pl
 ask_ok s a Open (AskRead l) v e pl = read_ok s a l (lookup (s.actors a).writes l) (lookup (s.actors a).reads l) v e pl refl refl
@@ -167,9 +184,11 @@ nothing_kept : (declared : Bool) → IsKept declared [] [] []
 nothing_kept true = (refl, refl)
 nothing_kept false = refl
 
-pub begin_ok : (s : World) (a : ℕ) → Inv s → (s.actors a).place ≡ Begin → (s.actors a).held ≡ [] → Moved s a (now s a (if◌then◌else◌ (ltb s.clock clock_limit) (opened (s.actors a).declared s.clock) (goes (s.actors a) Idle)))
+pub begin_ok : (s : World) (a : ℕ) → Inv s → (s.actors a).place ≡ Begin → (s.actors a).held ≡ []
+    → Moved s a (now s a (if◌then◌else◌ (ltb s.clock clock_limit) (opened (s.actors a).declared s.clock) (goes (s.actors a) Idle)))
 begin_ok s a v e none =
-    cond_both (ltb s.clock clock_limit) (opened (s.actors a).declared s.clock) (goes (s.actors a) Idle) (λ (z : Actor). Moved s a (now s a z))
+    cond_both (ltb s.clock clock_limit) (opened (s.actors a).declared s.clock) (goes (s.actors a) Idle)
+        (λ (z : Actor). Moved s a (now s a z))
     (λ _. quiet s a (opened (s.actors a).declared s.clock) v (record {
       numbered = λ h. absurd h;
       still = λ l half n. absurd (let z : IsHalfDone Begin = subst IsHalfDone e half in z);
@@ -187,42 +206,56 @@ begin_ok s a v e none =
     }))
     (λ _. quiet s a (goes (s.actors a) Idle) v (quiet_goes s a Begin Idle v e (λ h. h) (λ h. h) (λ b. b) none))
 
-pub looked_ok : (s : World) (a l : ℕ) (w : LockWord) → Inv s → (s.actors a).place ≡ Look l → Reading (s.actors a) l → s.locks l ≡ w → Moved s a (looked s a (s.actors a) l w)
+pub looked_ok : (s : World) (a l : ℕ) (w : LockWord) → Inv s → (s.actors a).place ≡ Look l → Reading (s.actors a) l → s.locks l ≡ w
+    → Moved s a (looked s a (s.actors a) l w)
 looked_ok s a l (Free k) v e pl is =
     cond_both (leb k (s.actors a).rv) (goes (s.actors a) (Fetch l k)) (goes (s.actors a) Undo) (λ (z : Actor). Moved s a (now s a z))
     (λ t. quiet s a (goes (s.actors a) (Fetch l k)) v (quiet_goes s a (Look l) (Fetch l k) v e (λ h. h) (λ h. h) (λ b. tt)
     (pl, leb-true k (s.actors a).rv t, (let q = ap version_of is in omega (arith, q)))))
     (λ _. quiet s a (goes (s.actors a) Undo) v (quiet_goes s a (Look l) Undo v e (λ h. h) (λ h. h) (λ b. tt) tt))
-looked_ok s a l (Locked k) v e pl is = quiet s a (goes (s.actors a) Undo) v (quiet_goes s a (Look l) Undo v e (λ h. h) (λ h. h) (λ b. tt) tt)
+looked_ok s a l (Locked k) v e pl is = quiet s a (goes (s.actors a) Undo) v
+    (quiet_goes s a (Look l) Undo v e (λ h. h) (λ h. h) (λ b. tt) tt)
 
-pub fetch_ok : (s : World) (a l k : ℕ) → Inv s → (s.actors a).place ≡ Fetch l k → PlaceOk s (s.actors a) (Fetch l k) → Moved s a (now s a (goes (s.actors a) (Again l k (s.values l))))
+pub fetch_ok : (s : World) (a l k : ℕ) → Inv s → (s.actors a).place ≡ Fetch l k → PlaceOk s (s.actors a) (Fetch l k)
+    → Moved s a (now s a (goes (s.actors a) (Again l k (s.values l))))
 fetch_ok s a l k v e pl =
-    quiet s a (goes (s.actors a) (Again l k (s.values l))) v (quiet_goes s a (Fetch l k) (Again l k (s.values l)) v e (λ h. h) (λ h. h) (λ b. tt)
+    quiet s a (goes (s.actors a) (Again l k (s.values l))) v
+        (quiet_goes s a (Fetch l k) (Again l k (s.values l)) v e (λ h. h) (λ h. h) (λ b. tt)
     (pl.0, pl.1, pl.2, λ h. sym (v.current l (omega (arith, h, pl.2)))))
 
 -- one read more: a declared reader's is known to the proof alone, and may be of a location that it has read before
-read_more : (s : World) (a l k u : ℕ) (declared : Bool) → Inv s → (s.actors a).place ≡ Again l k u → (s.actors a).held ≡ [] → lookup (s.actors a).writes l ≡ None → lookup (s.actors a).reads l ≡ None → (s.actors a).declared ≡ declared → Good s (s.actors a).rv l u
-    → QuietOk s a (record { place = Open; declared = (s.actors a).declared; rv = (s.actors a).rv; wv = (s.actors a).wv; reads = with_read declared (s.actors a).reads l u; writes = (s.actors a).writes; held = (s.actors a).held; calls = (s.actors a).calls ++ Read l u ∷ [] })
+read_more : (s : World) (a l k u : ℕ) (declared : Bool) → Inv s → (s.actors a).place ≡ Again l k u → (s.actors a).held ≡ []
+    → lookup (s.actors a).writes l ≡ None → lookup (s.actors a).reads l ≡ None → (s.actors a).declared ≡ declared
+    → Good s (s.actors a).rv l u
+    → QuietOk s a (record { place = Open; declared = (s.actors a).declared; rv = (s.actors a).rv; wv =
+        (s.actors a).wv; reads = with_read declared (s.actors a).reads l u; writes = (s.actors a).writes; held =
+        (s.actors a).held; calls = (s.actors a).calls ++ Read l u ∷ [] })
 read_more s a l k u true v e none hw hr d good =
     let x = s.actors a in
     let ok = v.actors a in
     let saw = Saw-read s x.rv x.writes x.calls l u ok.saw ok.sets hw good in
-    let kept : (x.reads ≡ []) × (x.writes ≡ []) = subst (λ (b : Bool). IsKept b x.reads x.writes ok.saw.reads) d (ok.kept (subst HasBegun (sym e) tt)) in
-    quiet_open s a (Again l k u) x.reads x.writes (x.calls ++ Read l u ∷ []) v e (λ h. h) none (Sets-read x.writes x.calls l u ok.sets) ok.reads
+    let kept : (x.reads ≡ []) × (x.writes ≡ []) = subst (λ (b : Bool). IsKept b x.reads x.writes ok.saw.reads) d
+        (ok.kept (subst HasBegun (sym e) tt)) in
+    quiet_open s a (Again l k u) x.reads x.writes (x.calls ++ Read l u ∷ []) v e (λ h. h) none
+        (Sets-read x.writes x.calls l u ok.sets) ok.reads
     saw (subst (λ (b : Bool). IsKept b x.reads x.writes saw.reads) (sym d) kept)
 read_more s a l k u false v e none hw hr d good =
     let x = s.actors a in
     let ok = v.actors a in
-    let kept : ok.saw.reads ≡ x.reads = subst (λ (b : Bool). IsKept b x.reads x.writes ok.saw.reads) d (ok.kept (subst HasBegun (sym e) tt)) in
+    let kept : ok.saw.reads ≡ x.reads = subst (λ (b : Bool). IsKept b x.reads x.writes ok.saw.reads) d
+        (ok.kept (subst HasBegun (sym e) tt)) in
     let saw = Saw-new s x.rv x.writes x.calls l u ok.saw ok.sets hw (ap (λ (z : Entries). lookup z l) kept ∙ hr) good in
-    quiet_open s a (Again l k u) (with_entry x.reads l u) x.writes (x.calls ++ Read l u ∷ []) v e (λ h. h) none (Sets-read x.writes x.calls l u ok.sets)
+    quiet_open s a (Again l k u) (with_entry x.reads l u) x.writes (x.calls ++ Read l u ∷ []) v e (λ h. h) none
+        (Sets-read x.writes x.calls l u ok.sets)
     (λ i z h. elim (with_entry_cases x.reads l u i z h) [
       | inl q ↦ subst (λ (n : ℕ). Good s x.rv n z) (sym q.0) (subst (λ (n : ℕ). Good s x.rv l n) (sym q.1) good)
       | inr q ↦ ok.reads i z q.1
     ])
-    saw (subst (λ (b : Bool). IsKept b (with_entry x.reads l u) x.writes (with_entry ok.saw.reads l u)) (sym d) (ap (λ (z : Entries). with_entry z l u) kept))
+    saw (subst (λ (b : Bool). IsKept b (with_entry x.reads l u) x.writes (with_entry ok.saw.reads l u)) (sym d)
+        (ap (λ (z : Entries). with_entry z l u) kept))
 
-pub looked_again_ok : (s : World) (a l k u : ℕ) (w : LockWord) → Inv s → (s.actors a).place ≡ Again l k u → PlaceOk s (s.actors a) (Again l k u) → s.locks l ≡ w → Moved s a (looked_again s a (s.actors a) l k u w)
+pub looked_again_ok : (s : World) (a l k u : ℕ) (w : LockWord) → Inv s → (s.actors a).place ≡ Again l k u
+    → PlaceOk s (s.actors a) (Again l k u) → s.locks l ≡ w → Moved s a (looked_again s a (s.actors a) l k u w)
 looked_again_ok s a l k u (Free j) v e pl is =
     cond_both (eqb j k) (has_read (s.actors a) l u) (goes (s.actors a) Undo) (λ (z : Actor). Moved s a (now s a z))
     (λ t.
@@ -234,14 +267,20 @@ looked_again_ok s a l k u (Free j) v e pl is =
     let good : Good s x.rv l u = free_good s x.rv l j u v is (omega (arith, same, pl.1)) (v.actors a).began value in
     quiet s a (has_read x l u) v (read_more s a l k u x.declared v e (pl.0).0 (pl.0).1 (pl.0).2 refl good))
     (λ _. quiet s a (goes (s.actors a) Undo) v (quiet_goes s a (Again l k u) Undo v e (λ h. h) (λ h. h) (λ b. tt) tt))
-looked_again_ok s a l k u (Locked j) v e pl is = quiet s a (goes (s.actors a) Undo) v (quiet_goes s a (Again l k u) Undo v e (λ h. h) (λ h. h) (λ b. tt) tt)
+looked_again_ok s a l k u (Locked j) v e pl is = quiet s a (goes (s.actors a) Undo) v
+    (quiet_goes s a (Again l k u) Undo v e (λ h. h) (λ h. h) (λ b. tt) tt)
 
-pub to_lock_ok : (s : World) (a l : ℕ) (ls : List ℕ) (w : LockWord) → Inv s → (s.actors a).place ≡ Lock (l ∷ ls) → PlaceOk s (s.actors a) (Lock (l ∷ ls)) → Moved s a (to_lock s a (s.actors a) l ls w)
-to_lock_ok s a l ls (Free k) v e pl = quiet s a (goes (s.actors a) (Take l k ls)) v (quiet_goes s a (Lock (l ∷ ls)) (Take l k ls) v e (λ h. h) (λ h. h) (λ b. tt) pl)
-to_lock_ok s a l ls (Locked k) v e pl = quiet s a (goes (s.actors a) Broken) v (quiet_goes s a (Lock (l ∷ ls)) Broken v e (λ h. h) (λ h. h) (λ b. tt) tt)
+pub to_lock_ok : (s : World) (a l : ℕ) (ls : List ℕ) (w : LockWord) → Inv s → (s.actors a).place ≡ Lock (l ∷ ls)
+    → PlaceOk s (s.actors a) (Lock (l ∷ ls)) → Moved s a (to_lock s a (s.actors a) l ls w)
+to_lock_ok s a l ls (Free k) v e pl = quiet s a (goes (s.actors a) (Take l k ls)) v
+    (quiet_goes s a (Lock (l ∷ ls)) (Take l k ls) v e (λ h. h) (λ h. h) (λ b. tt) pl)
+to_lock_ok s a l ls (Locked k) v e pl = quiet s a (goes (s.actors a) Broken) v
+    (quiet_goes s a (Lock (l ∷ ls)) Broken v e (λ h. h) (λ h. h) (λ b. tt) tt)
 
-pub broken_ok : (s : World) (a : ℕ) (p : Place) → Inv s → (s.actors a).place ≡ p → (IsHalfDone p → ⊥) → HasBegun p → Moved s a (now s a (goes (s.actors a) Broken))
-broken_ok s a p v e h begun = quiet s a (goes (s.actors a) Broken) v (quiet_goes s a p Broken v e (λ q. absurd q) (λ q. absurd (h q)) (λ b. begun) tt)
+pub broken_ok : (s : World) (a : ℕ) (p : Place) → Inv s → (s.actors a).place ≡ p → (IsHalfDone p → ⊥) → HasBegun p
+    → Moved s a (now s a (goes (s.actors a) Broken))
+broken_ok s a p v e h begun = quiet s a (goes (s.actors a) Broken) v
+    (quiet_goes s a p Broken v e (λ q. absurd q) (λ q. absurd (h q)) (λ b. begun) tt)
 
 -- one read less to check
 check_more : (s : World) (a l : ℕ) (ls : List ℕ) → Inv s → (s.actors a).place ≡ Check (l ∷ ls) → PlaceOk s (s.actors a) (Check (l ∷ ls))
@@ -260,17 +299,21 @@ check_more s a l ls v e pl low behind holder =
             | inl (inl q) ↦ inr (
                 let g = (v.actors a).reads i u h in
                 let past : x.wv - 1 ≤ s.clock = omega (arith, st.made) in
-                let value : latest s l ≡ u = sym (settled_all s.history x.rv l (s.opening l) (omega (arith, behind, low))) ∙ ap (λ (n : ℕ). settled s.history x.rv n (s.opening n)) (sym q) ∙ g.value in
+                let value : latest s l ≡ u = sym (settled_all s.history x.rv l (s.opening l) (omega (arith, behind, low)))
+                    ∙ ap (λ (n : ℕ). settled s.history x.rv n (s.opening n)) (sym q) ∙ g.value in
                 subst (λ (n : ℕ). Good s (x.wv - 1) n u) (sym q)
                 (good_at s (x.wv - 1) l u v past (omega (arith, low, st.after_rv)) behind value holder))
           ],
     ))
 
-pub checked_ok : (s : World) (a l : ℕ) (ls : List ℕ) (w : LockWord) (own : Option ℕ) → Inv s → (s.actors a).place ≡ Check (l ∷ ls) → PlaceOk s (s.actors a) (Check (l ∷ ls)) → s.locks l ≡ w → lookup (s.actors a).writes l ≡ own → Moved s a (checked s a (s.actors a) l ls w own)
+pub checked_ok : (s : World) (a l : ℕ) (ls : List ℕ) (w : LockWord) (own : Option ℕ) → Inv s → (s.actors a).place ≡ Check (l ∷ ls)
+    → PlaceOk s (s.actors a) (Check (l ∷ ls)) → s.locks l ≡ w → lookup (s.actors a).writes l ≡ own
+    → Moved s a (checked s a (s.actors a) l ls w own)
 checked_ok s a l ls (Free k) own v e pl is mine =
     cond_both (leb k (s.actors a).rv) (goes (s.actors a) (Check ls)) (goes (s.actors a) Broken) (λ (z : Actor). Moved s a (now s a z))
     (λ t. let ver : version_of (s.locks l) ≡ k = ap version_of is in
-    check_more s a l ls v e pl (omega (arith, ver, leb-true k (s.actors a).rv t)) (free_behind s l k v is) (λ b j h p q. no_holder s l k v is b j h))
+    check_more s a l ls v e pl (omega (arith, ver, leb-true k (s.actors a).rv t)) (free_behind s l k v is)
+        (λ b j h p q. no_holder s l k v is b j h))
     (λ _. broken_ok s a (Check (l ∷ ls)) v e (λ h. h) tt)
 checked_ok s a l ls (Locked k) (Some old) v e pl is mine =
     let hold = (pl.0).all_held l old mine in

@@ -41,7 +41,8 @@ memory_after-finals (r ∷ rs) m l = memory_after-finals rs (after m r.calls) l 
 
 -- the stamp of a list by its parts
 pub stamp_rest : (r : Record) (rs : List Record) (l : ℕ) → stamp rs l ≤ stamp (r ∷ rs) l
-stamp_rest r rs l = cond_both (touched r.calls l) (max r.number (stamp rs l)) (stamp rs l) (λ z. stamp rs l ≤ z) (λ _. omega arith) (λ _. omega arith)
+stamp_rest r rs l = cond_both (touched r.calls l) (max r.number (stamp rs l)) (stamp rs l) (λ z. stamp rs l ≤ z) (λ _. omega arith)
+    (λ _. omega arith)
 
 pub stamp_head : (r : Record) (rs : List Record) (l : ℕ) → touched r.calls l ≡ true → r.number ≤ stamp (r ∷ rs) l
 stamp_head r rs l h = let e = cond-true (touched r.calls l) (max r.number (stamp rs l)) (stamp rs l) h in omega (arith, e)
@@ -54,7 +55,8 @@ settled_all (r ∷ rs) n l d b =
     settled_all rs n l (if nat_le r.number n then final r.calls l d else d) rest
     ∙ ap (finals rs l) (elim (cases_Bool (touched r.calls l)) [
       | inl t ↦ cond-true (leb r.number n) (final r.calls l d) d (le-leb r.number n (omega (arith, stamp_head r rs l t)))
-      | inr f ↦ cond_both (leb r.number n) (final r.calls l d) d (λ z. z ≡ final r.calls l d) (λ _. refl) (λ _. sym (final_untouched r.calls l d f))
+      | inr f ↦ cond_both (leb r.number n) (final r.calls l d) d (λ z. z ≡ final r.calls l d) (λ _. refl)
+          (λ _. sym (final_untouched r.calls l d f))
     ])
 
 -- a record that doesn't write l, put in its place
@@ -81,12 +83,15 @@ stamp_touched r (x ∷ xs) l f =
           ∙ ap (max r.number) (sym (cond-false (touched x.calls l) (max x.number (stamp xs l)) (stamp xs l) t))
     ])
 
-pub settled_untouched : (r : Record) (h : List Record) (n l d : ℕ) → touched r.calls l ≡ false → settled (insert r h) n l d ≡ settled h n l d
+pub settled_untouched : (r : Record) (h : List Record) (n l d : ℕ) → touched r.calls l ≡ false → settled (insert r h) n l d
+    ≡ settled h n l d
 unfolding insert
-settled_untouched r [] n l d f = cond_both (leb r.number n) (final r.calls l d) d (λ z. z ≡ d) (λ _. final_untouched r.calls l d f) (λ _. refl)
+settled_untouched r [] n l d f = cond_both (leb r.number n) (final r.calls l d) d (λ z. z ≡ d) (λ _. final_untouched r.calls l d f)
+    (λ _. refl)
 settled_untouched r (x ∷ xs) n l d f =
     cond_both (comes_before r x) (r ∷ (x ∷ xs)) (x ∷ insert r xs) (λ z. settled z n l d ≡ settled (x ∷ xs) n l d)
-    (λ _. ap (settled (x ∷ xs) n l) (cond_both (leb r.number n) (final r.calls l d) d (λ z. z ≡ d) (λ _. final_untouched r.calls l d f) (λ _. refl)))
+    (λ _. ap (settled (x ∷ xs) n l) (cond_both (leb r.number n) (final r.calls l d) d (λ z. z ≡ d) (λ _. final_untouched r.calls l d f)
+        (λ _. refl)))
     (λ _. settled_untouched r xs n l (if nat_le x.number n then final x.calls l d else d) f)
 
 pub settled_later : (r : Record) (h : List Record) (n l d : ℕ) → n < r.number → settled (insert r h) n l d ≡ settled h n l d
@@ -128,28 +133,36 @@ pub in_order-before : (r x : Record) → comes_before r x ≡ true → (r.writer
 unfolding comes_before
 in_order-before r x c new =
     elim (cases_Bool (ltb r.number x.number)) [
-      | inl t ↦ let h = ltb-true r.number x.number t in (omega (arith, h), λ e. absurd (omega (arith, h, e)), λ e w. absurd (omega (arith, h, e)))
+      | inl t ↦ let h = ltb-true r.number x.number t in
+          (omega (arith, h), λ e. absurd (omega (arith, h, e)), λ e w. absurd (omega (arith, h, e)))
       | inr t ↦
           let h = ltb-false r.number x.number t in
-          let c2 = sym (cond-false (ltb r.number x.number) true (if ltb x.number r.number then false else (if r.writer then true else (if x.writer then false else ltb r.actor x.actor))) t) ∙ c in
+          let c2 = sym (cond-false (ltb r.number x.number) true
+              (if ltb x.number r.number then false
+              else (if r.writer then true else (if x.writer then false else ltb r.actor x.actor))) t) ∙ c in
           elim (cases_Bool (ltb x.number r.number)) [
-            | inl u ↦ absurd (true≢false (sym c2 ∙ cond-true (ltb x.number r.number) false (if r.writer then true else (if x.writer then false else ltb r.actor x.actor)) u))
+            | inl u ↦ absurd (true≢false (sym c2
+                ∙ cond-true (ltb x.number r.number) false (if r.writer then true else (if x.writer then false else ltb r.actor x.actor)) u))
             | inr u ↦
                 let g = ltb-false x.number r.number u in
-                let c3 = sym (cond-false (ltb x.number r.number) false (if r.writer then true else (if x.writer then false else ltb r.actor x.actor)) u) ∙ c2 in (
+                let c3 = sym (cond-false (ltb x.number r.number) false
+                    (if r.writer then true else (if x.writer then false else ltb r.actor x.actor)) u) ∙ c2 in (
                   omega (arith, g),
                   λ e. elim (cases_Bool x.writer) [
                     | inr f ↦ f
                     | inl w ↦ elim (cases_Bool r.writer) [
                       | inl v ↦ absurd (new v w e)
-                      | inr v ↦ absurd (true≢false (sym c3 ∙ cond-false r.writer true (if x.writer then false else ltb r.actor x.actor) v ∙ cond-true x.writer false (ltb r.actor x.actor) w))
+                      | inr v ↦ absurd (true≢false
+                          (sym c3 ∙ cond-false r.writer true (if x.writer then false else ltb r.actor x.actor) v
+                          ∙ cond-true x.writer false (ltb r.actor x.actor) w))
                     ]
                   ],
                   λ e v.
                       let c4 = sym (cond-false r.writer true (if x.writer then false else ltb r.actor x.actor) v) ∙ c3 in
                       elim (cases_Bool x.writer) [
                         | inl w ↦ absurd (true≢false (sym c4 ∙ cond-true x.writer false (ltb r.actor x.actor) w))
-                        | inr w ↦ let less = ltb-true r.actor x.actor (sym (cond-false x.writer false (ltb r.actor x.actor) w) ∙ c4) in omega (arith, less)
+                        | inr w ↦ let less = ltb-true r.actor x.actor
+                            (sym (cond-false x.writer false (ltb r.actor x.actor) w) ∙ c4) in omega (arith, less)
                       ],
                 )
           ]
@@ -159,14 +172,19 @@ pub in_order-after : (r x : Record) → comes_before r x ≡ false → InOrder x
 unfolding comes_before
 in_order-after r x c =
     elim (cases_Bool (ltb r.number x.number)) [
-      | inl t ↦ absurd (true≢false (sym (cond-true (ltb r.number x.number) true (if ltb x.number r.number then false else (if r.writer then true else (if x.writer then false else ltb r.actor x.actor))) t) ∙ c))
+      | inl t ↦ absurd (true≢false (sym (cond-true (ltb r.number x.number) true
+          (if ltb x.number r.number then false else (if r.writer then true else (if x.writer then false else ltb r.actor x.actor))) t) ∙ c))
       | inr t ↦
           let h = ltb-false r.number x.number t in
-          let c2 = sym (cond-false (ltb r.number x.number) true (if ltb x.number r.number then false else (if r.writer then true else (if x.writer then false else ltb r.actor x.actor))) t) ∙ c in
+          let c2 = sym (cond-false (ltb r.number x.number) true
+              (if ltb x.number r.number then false
+              else (if r.writer then true else (if x.writer then false else ltb r.actor x.actor))) t) ∙ c in
           elim (cases_Bool (ltb x.number r.number)) [
-            | inl u ↦ let k = ltb-true x.number r.number u in (omega (arith, h), λ e. absurd (omega (arith, k, e)), λ e w. absurd (omega (arith, k, e)))
+            | inl u ↦ let k = ltb-true x.number r.number u in
+                (omega (arith, h), λ e. absurd (omega (arith, k, e)), λ e w. absurd (omega (arith, k, e)))
             | inr u ↦
-                let c3 = sym (cond-false (ltb x.number r.number) false (if r.writer then true else (if x.writer then false else ltb r.actor x.actor)) u) ∙ c2 in (
+                let c3 = sym (cond-false (ltb x.number r.number) false
+                    (if r.writer then true else (if x.writer then false else ltb r.actor x.actor)) u) ∙ c2 in (
                   omega (arith, h),
                   λ e. elim (cases_Bool r.writer) [
                     | inr v ↦ v
@@ -175,7 +193,8 @@ in_order-after r x c =
                   λ e w. elim (cases_Bool r.writer) [
                     | inl v ↦ absurd (true≢false (sym (cond-true r.writer true (if x.writer then false else ltb r.actor x.actor) v) ∙ c3))
                     | inr v ↦
-                        let c4 = sym (cond-false x.writer false (ltb r.actor x.actor) w) ∙ sym (cond-false r.writer true (if x.writer then false else ltb r.actor x.actor) v) ∙ c3 in
+                        let c4 = sym (cond-false x.writer false (ltb r.actor x.actor) w)
+                            ∙ sym (cond-false r.writer true (if x.writer then false else ltb r.actor x.actor) v) ∙ c3 in
                         let most = ltb-false r.actor x.actor c4 in omega (arith, most)
                   ],
                 )
@@ -207,7 +226,8 @@ finals_above r (x ∷ xs) l d a s =
     ]
 
 -- a record that writes l, with a greater number than all that do, is the last to write it
-pub finals_touched : (r : Record) (h : List Record) (l d : ℕ) → IsInOrder h → IsNew r h → touched r.calls l ≡ true → stamp h l < r.number → finals (insert r h) l d ≡ final r.calls l 0
+pub finals_touched : (r : Record) (h : List Record) (l d : ℕ) → IsInOrder h → IsNew r h → touched r.calls l ≡ true → stamp h l < r.number
+    → finals (insert r h) l d ≡ final r.calls l 0
 unfolding insert
 finals_touched r [] l d s n t b = final_touched r.calls l d 0 t
 finals_touched r (x ∷ xs) l d s n t b =
@@ -244,16 +264,19 @@ pub record LegalAt (h : List Record) (m : Memory) (r : Record) : Type 0 where
   pub reader : r.writer ≡ false → (l : ℕ) → touched r.calls l ≡ false
 
 -- readers and later records are nothing to the memory before them
-settled_from : (n : ℕ) (rs : List Record) (h : List Record) (m : Memory) (l d : ℕ) → AllRecords (λ x. (x.number ≤ n → touched x.calls l ≡ false)) rs → settled rs n l d ≡ d
+settled_from : (n : ℕ) (rs : List Record) (h : List Record) (m : Memory) (l d : ℕ)
+    → AllRecords (λ x. (x.number ≤ n → touched x.calls l ≡ false)) rs → settled rs n l d ≡ d
 settled_from n [] h m l d a = refl
 settled_from n (x ∷ xs) h m l d a =
     elim (cases_Bool (leb x.number n)) [
-      | inl t ↦ ap (settled xs n l) (cond-true (leb x.number n) (final x.calls l d) d t ∙ final_untouched x.calls l d (a.0 (leb-true x.number n t))) ∙ settled_from n xs h m l d a.1
+      | inl t ↦ ap (settled xs n l) (cond-true (leb x.number n) (final x.calls l d) d t
+          ∙ final_untouched x.calls l d (a.0 (leb-true x.number n t))) ∙ settled_from n xs h m l d a.1
       | inr f ↦ ap (settled xs n l) (cond-false (leb x.number n) (final x.calls l d) d f) ∙ settled_from n xs h m l d a.1
     ]
 
 -- the records from r on, by r's order
-no_write : (r : Record) (h : List Record) (m : Memory) (rs : List Record) (l n : ℕ) → AllFrom r rs → AllRecords (LegalAt h m) rs → (n < r.number) ⊎ ((n ≡ r.number) × (r.writer ≡ false)) → AllRecords (λ x. (x.number ≤ n → touched x.calls l ≡ false)) rs
+no_write : (r : Record) (h : List Record) (m : Memory) (rs : List Record) (l n : ℕ) → AllFrom r rs → AllRecords (LegalAt h m) rs
+    → (n < r.number) ⊎ ((n ≡ r.number) × (r.writer ≡ false)) → AllRecords (λ x. (x.number ≤ n → touched x.calls l ≡ false)) rs
 no_write r h m [] l n a g c = tt
 no_write r h m (x ∷ xs) l n a g c = (
   (λ q. elim c [
@@ -263,14 +286,17 @@ no_write r h m (x ∷ xs) l n a g c = (
   no_write r h m xs l n a.1 g.1 c,
 )
 
-head_memory : (r : Record) (rs : List Record) (m : Memory) (l : ℕ) (w : Bool) → r.writer ≡ w → AllFrom r rs → AllRecords (LegalAt (r ∷ rs) m) rs → LegalAt (r ∷ rs) m r → settled (r ∷ rs) (base w r.number) l (m l) ≡ m l
+head_memory : (r : Record) (rs : List Record) (m : Memory) (l : ℕ) (w : Bool) → r.writer ≡ w → AllFrom r rs
+    → AllRecords (LegalAt (r ∷ rs) m) rs → LegalAt (r ∷ rs) m r → settled (r ∷ rs) (base w r.number) l (m l) ≡ m l
 head_memory r rs m l true e a g h =
     let p : 0 < r.number = h.positive e in
     let b : r.number - 1 < r.number = omega arith in
-    ap (settled rs (r.number - 1) l) (cond-false (leb r.number (r.number - 1)) (final r.calls l (m l)) (m l) (lt-leb r.number (r.number - 1) b))
+    ap (settled rs (r.number - 1) l) (cond-false (leb r.number (r.number - 1)) (final r.calls l (m l)) (m l)
+        (lt-leb r.number (r.number - 1) b))
     ∙ settled_from (r.number - 1) rs (r ∷ rs) m l (m l) (no_write r (r ∷ rs) m rs l (r.number - 1) a g (inl b))
 head_memory r rs m l false e a g h =
-    ap (settled rs r.number l) (cond_both (leb r.number r.number) (final r.calls l (m l)) (m l) (λ z. z ≡ m l) (λ _. final_untouched r.calls l (m l) (h.reader e l)) (λ _. refl))
+    ap (settled rs r.number l) (cond_both (leb r.number r.number) (final r.calls l (m l)) (m l) (λ z. z ≡ m l)
+        (λ _. final_untouched r.calls l (m l) (h.reader e l)) (λ _. refl))
     ∙ settled_from r.number rs (r ∷ rs) m l (m l) (no_write r (r ∷ rs) m rs l r.number a g (inr (refl, e)))
 
 -- what a later record saw, from behind the first one
@@ -286,14 +312,18 @@ behind : (r : Record) (rs : List Record) (m : Memory) (x : Record) → InOrder r
 behind r rs m x o h =
     let b : r.number ≤ base x.writer x.number = base_from r x x.writer refl o h.positive in
     record {
-      legal = IsLegal-same x.calls (λ l. settled (r ∷ rs) (base x.writer x.number) l (m l)) (λ l. settled rs (base x.writer x.number) l (after m r.calls l))
-          (λ l. ap (settled rs (base x.writer x.number) l) (cond-true (leb r.number (base x.writer x.number)) (final r.calls l (m l)) (m l) (le-leb r.number (base x.writer x.number) b) ∙ sym (after-final r.calls m l)))
+      legal = IsLegal-same x.calls (λ l. settled (r ∷ rs) (base x.writer x.number) l (m l))
+          (λ l. settled rs (base x.writer x.number) l (after m r.calls l))
+          (λ l. ap (settled rs (base x.writer x.number) l)
+              (cond-true (leb r.number (base x.writer x.number)) (final r.calls l (m l)) (m l)
+              (le-leb r.number (base x.writer x.number) b) ∙ sym (after-final r.calls m l)))
           h.legal;
       positive = h.positive;
       reader = h.reader;
     }
 
-all_behind : (r : Record) (rs : List Record) (m : Memory) (xs : List Record) → AllFrom r xs → AllRecords (LegalAt (r ∷ rs) m) xs → AllRecords (LegalAt rs (after m r.calls)) xs
+all_behind : (r : Record) (rs : List Record) (m : Memory) (xs : List Record) → AllFrom r xs → AllRecords (LegalAt (r ∷ rs) m) xs
+    → AllRecords (LegalAt rs (after m r.calls)) xs
 all_behind r rs m [] a g = tt
 all_behind r rs m (x ∷ xs) a g = (behind r rs m x a.0 g.0, all_behind r rs m xs a.1 g.1)
 

@@ -10,7 +10,7 @@ use Rattle.word_machine.specs.Actor.{Place, Idle, Begin, Open, Look, Fetch, Agai
 use Rattle.word_machine.specs.Requests.{Request, AskBegin, AskBeginRead, AskLock, AskStore, AskRelease, AskCancel, AskAbort, AskClose, AskRead, AskWrite, abort, ask}
 use Rattle.word_machine.specs.World.{put, World, Event, Ask, Step, now, step, happens}
 use Rattle.word_machine.specs.Notices.{Notice, Quiet, Begun, Exhausted, Moved, Busy, Invalid, Number, LockedAt, Stored, Released, Cancelled, IsConflict, notice, look_notice, again_notice, lock_notice, take_notice, check_notice, when_none_left, last_notice}
-use Rattle.word_machine.specs.Refusals.{IsTrue, IsRefused, IsEnding, IsCommitting}
+use Rattle.word_machine.specs.Refusals.{IsTrue, NamesPlace, IsRefused, IsEnding, IsCommitting}
 use Rattle.word_machine.proofs.Worlds.{looked, looked_again, to_lock, tried, locked, checked, undone}
 use Rattle.word_machine.proofs.Sets.{put-same, put_both}
 use Rattle.word_machine.proofs.Invariant.{IsSomeEntry, PlaceOk}
@@ -19,7 +19,8 @@ use Rattle.word_machine.proofs.Answered.{step_other}
 
 -- each refusal is true
 begin_true : (s : World) (x : Actor) → IsTrue s x Begin (if ltb s.clock clock_limit then Begun s.clock else Exhausted s.clock)
-begin_true s x = cond_both (ltb s.clock clock_limit) (Begun s.clock) (Exhausted s.clock) (IsTrue s x Begin) (λ _. tt) (λ f. (refl, (let h = ltb-false s.clock clock_limit f in omega (arith, h)), refl))
+begin_true s x = cond_both (ltb s.clock clock_limit) (Begun s.clock) (Exhausted s.clock) (IsTrue s x Begin) (λ _. tt)
+    (λ f. (refl, (let h = ltb-false s.clock clock_limit f in omega (arith, h)), refl))
 
 look_true : (s : World) (x : Actor) (l : ℕ) (w : LockWord) → s.locks l ≡ w → IsTrue s x (Look l) (look_notice x.rv l w)
 look_true s x l (Free k) e = cond_both (leb k x.rv) Quiet (Moved l (bits (Free k))) (IsTrue s x (Look l)) (λ _. tt)
@@ -44,11 +45,14 @@ none_left : {A : Type 0} → (P : Notice → Type 0) (xs : List A) (n : Notice) 
 none_left P [] n h q = h
 none_left P (x ∷ xs) n h q = q
 
-check_true : (s : World) (x : Actor) (l : ℕ) (ls : List ℕ) (w : LockWord) (own : Option ℕ) → s.locks l ≡ w → (own ≡ None → lookup x.held l ≡ None) → IsTrue s x (Check (l ∷ ls)) (check_notice x.rv x.wv l ls w own)
-check_true s x l ls (Free k) own e mine = cond_both (leb k x.rv) (when_none_left ls (LockedAt x.wv)) (Invalid l (bits (Free k))) (IsTrue s x (Check (l ∷ ls)))
+check_true : (s : World) (x : Actor) (l : ℕ) (ls : List ℕ) (w : LockWord) (own : Option ℕ) → s.locks l ≡ w
+    → (own ≡ None → lookup x.held l ≡ None) → IsTrue s x (Check (l ∷ ls)) (check_notice x.rv x.wv l ls w own)
+check_true s x l ls (Free k) own e mine = cond_both (leb k x.rv) (when_none_left ls (LockedAt x.wv)) (Invalid l (bits (Free k)))
+    (IsTrue s x (Check (l ∷ ls)))
     (λ _. none_left (IsTrue s x (Check (l ∷ ls))) ls (LockedAt x.wv) tt tt)
     (λ f. (sym (ap bits e), inl (subst (λ (w : LockWord). x.rv < version_of w) (sym e) (let h = leb-false k x.rv f in omega (arith, h)))))
-check_true s x l ls (Locked k) (Some v) e mine = cond_both (leb k x.rv) (when_none_left ls (LockedAt x.wv)) (Invalid l (bits (Locked k))) (IsTrue s x (Check (l ∷ ls)))
+check_true s x l ls (Locked k) (Some v) e mine = cond_both (leb k x.rv) (when_none_left ls (LockedAt x.wv)) (Invalid l (bits (Locked k)))
+    (IsTrue s x (Check (l ∷ ls)))
     (λ _. none_left (IsTrue s x (Check (l ∷ ls))) ls (LockedAt x.wv) tt tt)
     (λ f. (sym (ap bits e), inl (subst (λ (w : LockWord). x.rv < version_of w) (sym e) (let h = leb-false k x.rv f in omega (arith, h)))))
 check_true s x l ls (Locked k) None e mine = (sym (ap bits e), inr (ap is_locked_word e, mine refl))
@@ -69,7 +73,8 @@ notice_true s x (Lock (l ∷ ls)) pl = lock_true s x l ls (s.locks l) refl
 notice_true s x (Take l k ls) pl = take_true s x l k ls (s.locks l) refl
 notice_true s x (Check []) pl = tt
 notice_true s x (Check (l ∷ ls)) pl = check_true s x l ls (s.locks l) (lookup x.writes l) refl
-    (λ none. none_if (lookup x.held l) (λ j h. let w = (pl.0).written l j h in let z : Some w.0 ≡ None = sym w.1 ∙ none in absurd (let b : ⊥ = cc in b)))
+    (λ none. none_if (lookup x.held l) (λ j h. let w = (pl.0).written l j h in let z : Some w.0 ≡ None = sym w.1
+        ∙ none in absurd (let b : ⊥ = cc in b)))
 notice_true s x Broken pl = tt
 notice_true s x First pl = last_true s x First x.writes Stored tt
 notice_true s x (Store []) pl = tt
@@ -78,6 +83,60 @@ notice_true s x Release pl = last_true s x Release x.held Released tt
 notice_true s x Undo pl = last_true s x Undo x.held Cancelled tt
 notice_true s x Leave pl = tt
 notice_true s x Close pl = tt
+
+-- and names the place
+last_names : (p : Place) (es : Entries) (n : Notice) → NamesPlace p n → NamesPlace p (last_notice es n)
+last_names p [] n h = tt
+last_names p (e ∷ es) n h = none_left (NamesPlace p) es n h tt
+
+look_names : (rv l : ℕ) (w : LockWord) → NamesPlace (Look l) (look_notice rv l w)
+look_names rv l (Free k) = cond_both (leb k rv) Quiet (Moved l (bits (Free k))) (NamesPlace (Look l)) (λ _. tt) (λ _. refl)
+look_names rv l (Locked k) = refl
+
+again_names : (l k v : ℕ) (w : LockWord) → NamesPlace (Again l k v) (again_notice l k v w)
+again_names l k v (Free j) = cond_both (eqb j k) (Number v) (Moved l (bits (Free j))) (NamesPlace (Again l k v)) (λ _. tt) (λ _. refl)
+again_names l k v (Locked j) = refl
+
+lock_names : (l : ℕ) (ls : List ℕ) (w : LockWord) → NamesPlace (Lock (l ∷ ls)) (lock_notice l w)
+lock_names l ls (Free k) = tt
+lock_names l ls (Locked k) = refl
+
+take_names : (l k : ℕ) (ls : List ℕ) (w : LockWord) → NamesPlace (Take l k ls) (take_notice l k w)
+take_names l k ls (Free j) = cond_both (eqb j k) Quiet (Busy l (bits (Free j))) (NamesPlace (Take l k ls)) (λ _. tt) (λ _. refl)
+take_names l k ls (Locked j) = refl
+
+check_names : (rv wv l : ℕ) (ls : List ℕ) (w : LockWord) (own : Option ℕ) → NamesPlace (Check (l ∷ ls)) (check_notice rv wv l ls w own)
+check_names rv wv l ls (Free k) own =
+    cond_both (leb k rv) (when_none_left ls (LockedAt wv)) (Invalid l (bits (Free k))) (NamesPlace (Check (l ∷ ls)))
+    (λ _. none_left (NamesPlace (Check (l ∷ ls))) ls (LockedAt wv) tt tt) (λ _. refl)
+check_names rv wv l ls (Locked k) (Some v) =
+    cond_both (leb k rv) (when_none_left ls (LockedAt wv)) (Invalid l (bits (Locked k))) (NamesPlace (Check (l ∷ ls)))
+    (λ _. none_left (NamesPlace (Check (l ∷ ls))) ls (LockedAt wv) tt tt) (λ _. refl)
+check_names rv wv l ls (Locked k) None = refl
+
+begin_names : (clock : ℕ) → NamesPlace Begin (if ltb clock clock_limit then Begun clock else Exhausted clock)
+begin_names clock = cond_both (ltb clock clock_limit) (Begun clock) (Exhausted clock) (NamesPlace Begin) (λ _. tt) (λ _. tt)
+
+pub notice_names : (s : World) (x : Actor) (p : Place) → NamesPlace p (notice s x p)
+notice_names s x Idle = tt
+notice_names s x Begin = begin_names s.clock
+notice_names s x Open = tt
+notice_names s x (Look l) = look_names x.rv l (s.locks l)
+notice_names s x (Fetch l k) = tt
+notice_names s x (Again l k v) = again_names l k v (s.locks l)
+notice_names s x (Lock []) = none_left (NamesPlace (Lock [])) (to_check x (s.clock + 1)) (LockedAt (s.clock + 1)) tt tt
+notice_names s x (Lock (l ∷ ls)) = lock_names l ls (s.locks l)
+notice_names s x (Take l k ls) = take_names l k ls (s.locks l)
+notice_names s x (Check []) = tt
+notice_names s x (Check (l ∷ ls)) = check_names x.rv x.wv l ls (s.locks l) (lookup x.writes l)
+notice_names s x Broken = tt
+notice_names s x First = last_names First x.writes Stored tt
+notice_names s x (Store []) = tt
+notice_names s x (Store (l ∷ ls)) = none_left (NamesPlace (Store (l ∷ ls))) ls Stored tt tt
+notice_names s x Release = last_names Release x.held Released tt
+notice_names s x Undo = last_names Undo x.held Cancelled tt
+notice_names s x Leave = tt
+notice_names s x Close = tt
 
 -- no step of a commit is refused
 last_kept : (es : Entries) (n : Notice) → IsSomeEntry es → (IsRefused n → ⊥) → IsRefused (last_notice es n) → ⊥
@@ -114,7 +173,8 @@ ends_if : (b : Bool) (m n : Notice) (y z : Actor) → Ends m y → Ends n z → 
 ends_if true m n y z f g = f
 ends_if false m n y z f g = g
 
-ends_world : (b : Bool) (m n : Notice) (s t : World) (a : ℕ) → Ends m (s.actors a) → Ends n (t.actors a) → Ends (if b then m else n) ((if b then s else t).actors a)
+ends_world : (b : Bool) (m n : Notice) (s t : World) (a : ℕ) → Ends m (s.actors a) → Ends n (t.actors a)
+    → Ends (if b then m else n) ((if b then s else t).actors a)
 ends_world true m n s t a f g = f
 ends_world false m n s t a f g = g
 
@@ -127,27 +187,34 @@ quiet_last [] n ok h = h
 quiet_last (e ∷ es) n ok h = quiet_left es n ok h
 
 look_ends : (s : World) (a : ℕ) (x : Actor) (l : ℕ) (w : LockWord) → Ends (look_notice x.rv l w) ((looked s a x l w).actors a)
-look_ends s a x l (Free k) = ends_put (look_notice x.rv l (Free k)) s.actors a _ (ends_if (leb k x.rv) Quiet (Moved l (bits (Free k))) (goes x (Fetch l k)) (goes x Undo) (λ h. absurd h) (λ _. tt))
+look_ends s a x l (Free k) = ends_put (look_notice x.rv l (Free k)) s.actors a _
+    (ends_if (leb k x.rv) Quiet (Moved l (bits (Free k))) (goes x (Fetch l k)) (goes x Undo) (λ h. absurd h) (λ _. tt))
 look_ends s a x l (Locked k) = ends_put (look_notice x.rv l (Locked k)) s.actors a (goes x Undo) (λ _. tt)
 
-again_ends : (s : World) (a : ℕ) (x : Actor) (l k v : ℕ) (w : LockWord) → Ends (again_notice l k v w) ((looked_again s a x l k v w).actors a)
-again_ends s a x l k v (Free j) = ends_put (again_notice l k v (Free j)) s.actors a _ (ends_if (eqb j k) (Number v) (Moved l (bits (Free j))) _ (goes x Undo) (λ h. absurd h) (λ _. tt))
+again_ends : (s : World) (a : ℕ) (x : Actor) (l k v : ℕ) (w : LockWord)
+    → Ends (again_notice l k v w) ((looked_again s a x l k v w).actors a)
+again_ends s a x l k v (Free j) = ends_put (again_notice l k v (Free j)) s.actors a _
+    (ends_if (eqb j k) (Number v) (Moved l (bits (Free j))) _ (goes x Undo) (λ h. absurd h) (λ _. tt))
 again_ends s a x l k v (Locked j) = ends_put (again_notice l k v (Locked j)) s.actors a (goes x Undo) (λ _. tt)
 
 lock_ends : (s : World) (a : ℕ) (x : Actor) (l : ℕ) (ls : List ℕ) (w : LockWord) → Ends (lock_notice l w) ((to_lock s a x l ls w).actors a)
 lock_ends s a x l ls (Free k) h = absurd h
 lock_ends s a x l ls (Locked k) h = ends_put (Busy l (bits (Locked k))) s.actors a (goes x Broken) (λ _. tt) h
 
-take_ends : (s : World) (a : ℕ) (x : Actor) (l k : ℕ) (ls : List ℕ) (w : LockWord) → Ends (take_notice l k w) ((tried s a x l k ls w).actors a)
+take_ends : (s : World) (a : ℕ) (x : Actor) (l k : ℕ) (ls : List ℕ) (w : LockWord)
+    → Ends (take_notice l k w) ((tried s a x l k ls w).actors a)
 take_ends s a x l k ls (Free j) = ends_world (eqb j k) Quiet (Busy l (bits (Free j))) (locked s a x l k ls) (now s a (goes x Broken)) a
     (λ h. absurd h) (ends_put (Busy l (bits (Free j))) s.actors a (goes x Broken) (λ _. tt))
 take_ends s a x l k ls (Locked j) = ends_put (Busy l (bits (Locked j))) s.actors a (goes x Broken) (λ _. tt)
 
-check_ends : (s : World) (a : ℕ) (x : Actor) (l : ℕ) (ls : List ℕ) (w : LockWord) (own : Option ℕ) → Ends (check_notice x.rv x.wv l ls w own) ((checked s a x l ls w own).actors a)
+check_ends : (s : World) (a : ℕ) (x : Actor) (l : ℕ) (ls : List ℕ) (w : LockWord) (own : Option ℕ)
+    → Ends (check_notice x.rv x.wv l ls w own) ((checked s a x l ls w own).actors a)
 check_ends s a x l ls (Free k) own = ends_put (check_notice x.rv x.wv l ls (Free k) own) s.actors a _
-    (ends_if (leb k x.rv) (when_none_left ls (LockedAt x.wv)) (Invalid l (bits (Free k))) (goes x (Check ls)) (goes x Broken) (λ h. absurd (quiet_left ls (LockedAt x.wv) (λ b. b) h)) (λ _. tt))
+    (ends_if (leb k x.rv) (when_none_left ls (LockedAt x.wv)) (Invalid l (bits (Free k))) (goes x (Check ls)) (goes x Broken)
+        (λ h. absurd (quiet_left ls (LockedAt x.wv) (λ b. b) h)) (λ _. tt))
 check_ends s a x l ls (Locked k) (Some v) = ends_put (check_notice x.rv x.wv l ls (Locked k) (Some v)) s.actors a _
-    (ends_if (leb k x.rv) (when_none_left ls (LockedAt x.wv)) (Invalid l (bits (Locked k))) (goes x (Check ls)) (goes x Broken) (λ h. absurd (quiet_left ls (LockedAt x.wv) (λ b. b) h)) (λ _. tt))
+    (ends_if (leb k x.rv) (when_none_left ls (LockedAt x.wv)) (Invalid l (bits (Locked k))) (goes x (Check ls)) (goes x Broken)
+        (λ h. absurd (quiet_left ls (LockedAt x.wv) (λ b. b) h)) (λ _. tt))
 check_ends s a x l ls (Locked k) None = ends_put (Invalid l (bits (Locked k))) s.actors a (goes x Broken) (λ _. tt)
 
 begin_quiet : (clock : ℕ) → IsConflict (if ltb clock clock_limit then Begun clock else Exhausted clock) → ⊥
@@ -229,7 +296,8 @@ step_ends s a Close e h = absurd h
 pub still_ends : (s : World) (e : Event) (a : ℕ) → IsEnding (s.actors a).place → StillEnds ((happens s e).actors a)
 still_ends s (Ask b request) a h =
     put_both StillEnds s.actors b (ask (s.actors b) (s.actors b).place request) a
-    (λ q. let mine : IsEnding (s.actors b).place = subst (λ (n : ℕ). IsEnding (s.actors n).place) q h in inl (ask_ends (s.actors b) (s.actors b).place request mine mine))
+    (λ q. let mine : IsEnding (s.actors b).place = subst (λ (n : ℕ). IsEnding (s.actors n).place) q h in inl
+        (ask_ends (s.actors b) (s.actors b).place request mine mine))
     (λ _. inl h)
 still_ends s (Step b) a h =
     elim (cases_eq a b) [
@@ -261,8 +329,10 @@ ending_values s a x Release l h = absurd h
 ending_values s a x Close l h = absurd h
 
 -- and gives each lock back as it found it
-pub gives_old : (s : World) (a l k : ℕ) (rest : Entries) → (s.actors a).place ≡ Undo → (s.actors a).held ≡ (l, k) ∷ rest → ((happens s (Step a)).locks l ≡ Free k) × (((happens s (Step a)).actors a).held ≡ rest)
+pub gives_old : (s : World) (a l k : ℕ) (rest : Entries) → (s.actors a).place ≡ Undo → (s.actors a).held ≡ (l, k) ∷ rest
+    → ((happens s (Step a)).locks l ≡ Free k) × (((happens s (Step a)).actors a).held ≡ rest)
 gives_old s a l k rest e h =
     subst (λ (p : Place). ((step s a (s.actors a) p).locks l ≡ Free k) × (((step s a (s.actors a) p).actors a).held ≡ rest)) (sym e)
-    (subst (λ (es : Entries). ((undone s a (s.actors a) es).locks l ≡ Free k) × (((undone s a (s.actors a) es).actors a).held ≡ rest)) (sym h)
+    (subst (λ (es : Entries). ((undone s a (s.actors a) es).locks l ≡ Free k) × (((undone s a (s.actors a) es).actors a).held ≡ rest))
+        (sym h)
     (put-same s.locks l (Free k), ap (λ (y : Actor). y.held) (put-same s.actors a _)))

@@ -25,18 +25,22 @@ found_none l v h = let x : Some v ≡ None = sym h in cc
 abbrev pub Saw-none : (s : World) (n : ℕ) → Saw s n []
 Saw-none s n = record { reads = []; legal = λ m a. legal_none m; good = λ l v h. absurd (found_none l v h) }
 
-abbrev pub Saw-own : (s : World) (n : ℕ) (w : Entries) (cs : List Call) (k v : ℕ) → Sets w cs → lookup w k ≡ Some v → Saw s n cs → Saw s n (cs ++ Read k v ∷ [])
+abbrev pub Saw-own : (s : World) (n : ℕ) (w : Entries) (cs : List Call) (k v : ℕ) → Sets w cs → lookup w k ≡ Some v → Saw s n cs
+    → Saw s n (cs ++ Read k v ∷ [])
 Saw-own s n w cs k v sets h g = record { reads = g.reads; legal = λ m a. legal_own w cs k v m sets h (g.legal m a); good = g.good }
 
 abbrev pub Saw-write : (s : World) (n : ℕ) (cs : List Call) (k v : ℕ) → Saw s n cs → Saw s n (cs ++ Write k v ∷ [])
 Saw-write s n cs k v g = record { reads = g.reads; legal = λ m a. IsLegal-write cs m k v (g.legal m a); good = g.good }
 
 -- a location that was read before
-abbrev pub Saw-again : (s : World) (n : ℕ) (w : Entries) (cs : List Call) (k v : ℕ) (g : Saw s n cs) → Sets w cs → lookup w k ≡ None → lookup g.reads k ≡ Some v → Saw s n (cs ++ Read k v ∷ [])
-Saw-again s n w cs k v g sets h is = record { reads = g.reads; legal = λ m a. legal_read w cs k v m sets h (a k v is) (g.legal m a); good = g.good }
+abbrev pub Saw-again : (s : World) (n : ℕ) (w : Entries) (cs : List Call) (k v : ℕ) (g : Saw s n cs) → Sets w cs → lookup w k ≡ None
+    → lookup g.reads k ≡ Some v → Saw s n (cs ++ Read k v ∷ [])
+Saw-again s n w cs k v g sets h is = record { reads = g.reads; legal = λ m a. legal_read w cs k v m sets h (a k v is)
+    (g.legal m a); good = g.good }
 
 -- one that was not
-abbrev pub Saw-new : (s : World) (n : ℕ) (w : Entries) (cs : List Call) (k v : ℕ) (g : Saw s n cs) → Sets w cs → lookup w k ≡ None → lookup g.reads k ≡ None → Good s n k v → Saw s n (cs ++ Read k v ∷ [])
+abbrev pub Saw-new : (s : World) (n : ℕ) (w : Entries) (cs : List Call) (k v : ℕ) (g : Saw s n cs) → Sets w cs → lookup w k ≡ None
+    → lookup g.reads k ≡ None → Good s n k v → Saw s n (cs ++ Read k v ∷ [])
 Saw-new s n w cs k v g sets h none good = record {
   reads = with_entry g.reads k v;
   legal = λ m a. legal_read w cs k v m sets h (a k v (lookup-with_entry_same g.reads k v)) (g.legal m (Agrees-before m g.reads k v none a));
@@ -47,7 +51,8 @@ Saw-new s n w cs k v g sets h none good = record {
 }
 
 -- either, where what was loaded is good: then it is what was read before
-pub Saw-read : (s : World) (n : ℕ) (w : Entries) (cs : List Call) (k v : ℕ) → Saw s n cs → Sets w cs → lookup w k ≡ None → Good s n k v → Saw s n (cs ++ Read k v ∷ [])
+pub Saw-read : (s : World) (n : ℕ) (w : Entries) (cs : List Call) (k v : ℕ) → Saw s n cs → Sets w cs → lookup w k ≡ None → Good s n k v
+    → Saw s n (cs ++ Read k v ∷ [])
 Saw-read s n w cs k v g sets h good = go (lookup g.reads k) refl
   where
     go : (o : Option ℕ) → lookup g.reads k ≡ o → Saw s n (cs ++ Read k v ∷ [])
@@ -61,8 +66,8 @@ holds reads d l = unwrap_or (lookup reads l) d
 holds_agrees : (reads : Entries) (d : ℕ) → Agrees (holds reads d) reads
 holds_agrees reads d l v h = ap (λ (o : Option ℕ). unwrap_or o d) h
 
--- What a transaction read of a location that it had not written, it has seen, whether it keeps a read set or not: its calls are legal at every memory
--- that agrees with what it has seen, and if it had not seen the location, that would hold of two memories that differ there.
+-- What a transaction read of a location that it had not written, it has seen, whether it keeps a read set or not: its calls are legal at
+-- every memory that agrees with what it has seen, and if it had not seen the location, that would hold of two memories that differ there.
 pub first_read_seen : (s : World) (n : ℕ) (cs : List Call) (l v : ℕ) (g : Saw s n cs) → first_read cs l ≡ Some v → lookup g.reads l ≡ Some v
 first_read_seen s n cs l v g e = go (lookup g.reads l) refl
   where

@@ -21,14 +21,16 @@ use Rattle.std.proofs.Common.{eqb, eqb-true}
 use Rattle.vlock_word.specs.declared.lock_word.LockWord.TheVariants.{Locked}
 use Rattle.word_machine.proofs.Worlds.{locked}
 
-tried_ok : (s : World) (a l k : ℕ) (ls : List ℕ) (w : LockWord) → Inv s → (s.actors a).place ≡ Take l k ls → Locking (s.actors a).writes (s.actors a).held (l ∷ ls) → s.locks l ≡ w → Moved s a (tried s a (s.actors a) l k ls w)
+tried_ok : (s : World) (a l k : ℕ) (ls : List ℕ) (w : LockWord) → Inv s → (s.actors a).place ≡ Take l k ls
+    → Locking (s.actors a).writes (s.actors a).held (l ∷ ls) → s.locks l ≡ w → Moved s a (tried s a (s.actors a) l k ls w)
 tried_ok s a l k ls (Free j) v e pl is =
     cond_both (eqb j k) (locked s a (s.actors a) l k ls) (now s a (goes (s.actors a) Broken)) (Moved s a)
     (λ t. locked_ok s a l k ls v e pl (is ∙ ap Free (eqb-true j k t)))
     (λ _. broken_ok s a (Take l k ls) v e (λ h. h) tt)
 tried_ok s a l k ls (Locked j) v e pl is = broken_ok s a (Take l k ls) v e (λ h. h) tt
 
-pub step_ok : (s : World) (a : ℕ) (p : Place) → Inv s → (s.actors a).place ≡ p → PlaceOk s (s.actors a) p → Moved s a (step s a (s.actors a) p)
+pub step_ok : (s : World) (a : ℕ) (p : Place) → Inv s → (s.actors a).place ≡ p → PlaceOk s (s.actors a) p
+    → Moved s a (step s a (s.actors a) p)
 step_ok s a Idle v e pl = moved_none s a v
 step_ok s a Begin v e pl = begin_ok s a v e pl
 step_ok s a Open v e pl = moved_none s a v
@@ -50,7 +52,8 @@ step_ok s a Leave v e pl = left_ok s a v e pl
 step_ok s a Close v e pl = closed_ok s a v e pl
 
 pub happens_ok : (s : World) (e : Event) → Inv s → Moved s (actor_of e) (happens s e)
-happens_ok s (Ask a request) v = quiet s a (ask (s.actors a) (s.actors a).place request) v (ask_ok s a (s.actors a).place request v refl (v.actors a).place)
+happens_ok s (Ask a request) v = quiet s a (ask (s.actors a) (s.actors a).place request) v
+    (ask_ok s a (s.actors a).place request v refl (v.actors a).place)
 happens_ok s (Step a) v = step_ok s a (s.actors a).place v refl (v.actors a).place
 
 pub run_ok : (events : List Event) (s : World) → Inv s → Inv (run events s)
@@ -92,7 +95,8 @@ start_ok clock memory = record {
 -- what was seen, at the memory of the number
 pub legal_of : (s : World) (n : ℕ) (cs : List _) → Saw s n cs → IsLegal (memory_at s n) cs
 unfolding memory_at
-legal_of s n cs g = g.legal (memory_after s.opening (upto n s.history)) (λ l u h. memory_after-upto s.history s.opening n l ∙ (g.good l u h).value)
+legal_of s n cs g = g.legal (memory_after s.opening (upto n s.history))
+    (λ l u h. memory_after-upto s.history s.opening n l ∙ (g.good l u h).value)
 
 legal_at : (s : World) (r : Record) → RecordOk s r → LegalAt s.history s.opening r
 legal_at s r g = record {
@@ -102,14 +106,20 @@ legal_at s r g = record {
 }
 
 pub serial : (s : World) → Inv s → IsRun s.opening s.history
-serial s v = IsRun-records s.history s.opening v.ordered (AllRecords_map (RecordOk s) (LegalAt s.history s.opening) s.history (legal_at s) v.records)
+serial s v = IsRun-records s.history s.opening v.ordered
+    (AllRecords_map (RecordOk s) (LegalAt s.history s.opening) s.history (legal_at s) v.records)
 
-aborted_legal : (s : World) (es : List Ended) → AllEnded (λ e. Saw s e.rv e.calls) es → AllEnded (λ e. IsLegal (memory_at s e.rv) e.calls) es
-aborted_legal s [] g = tt
-aborted_legal s (e ∷ es) g = (legal_of s e.rv e.calls g.0, aborted_legal s es g.1)
+aborted_legal : (later : List Event) (s : World) (es : List Ended) → Inv s → AllEnded (λ e. Saw s e.rv e.calls) es
+    → AllEnded (λ e. IsLegal (memory_at (run later s) e.rv) e.calls) es
+aborted_legal later s [] v g = tt
+aborted_legal later s (e ∷ es) v g =
+    (legal_of (run later s) e.rv e.calls (run_saw later s e.rv e.calls v g.0), aborted_legal later s es v g.1)
+
+pub aborted_later : (later : List Event) (s : World) → Inv s → AllEnded (λ e. IsLegal (memory_at (run later s) e.rv) e.calls) s.aborted
+aborted_later later s v = aborted_legal later s s.aborted v v.aborted
 
 pub all_aborted : (s : World) → Inv s → AllEnded (λ e. IsLegal (memory_at s e.rv) e.calls) s.aborted
-all_aborted s v = aborted_legal s s.aborted v.aborted
+all_aborted s v = aborted_later [] s v
 
 pub actor_saw : (s : World) (a : ℕ) → Inv s → Saw s (s.actors a).rv (s.actors a).calls
 actor_saw s a v = (v.actors a).saw
@@ -117,19 +127,23 @@ actor_saw s a v = (v.actors a).saw
 pub words_at_rest : (s : World) → Inv s → IsNoneHalfDone s → (l : ℕ) → s.values l ≡ memory_after s.opening s.history l
 words_at_rest s v none l = v.current l (v.behind l (λ a half. absurd (none a half))) ∙ sym (memory_after-finals s.history s.opening l)
 
-pub owned : (s : World) (e : Event) (a l k : ℕ) → Inv s → lookup (s.actors a).held l ≡ Some k → (a ≡ actor_of e → ⊥) → ((happens s e).locks l ≡ s.locks l) × ((happens s e).values l ≡ s.values l)
+pub owned : (s : World) (e : Event) (a l k : ℕ) → Inv s → lookup (s.actors a).held l ≡ Some k → (a ≡ actor_of e → ⊥)
+    → ((happens s e).locks l ≡ s.locks l) × ((happens s e).values l ≡ s.values l)
 owned s e a l k v h ne = let m = (happens_ok s e v).others a ne in (m.locks l k h, m.values l k h)
 
-all_upto : (s : World) (h : List Record) → AllRecords (RecordOk s) h → AllUpto s.clock h
+pub all_upto : (s : World) (h : List Record) → AllRecords (RecordOk s) h → AllUpto s.clock h
 all_upto s [] g = tt
 all_upto s (r ∷ rs) g = ((g.0).past, all_upto s rs g.1)
 
 -- a Begin that is answered takes the clock
-pub begins_at : (s : World) (a : ℕ) → Inv s → (s.actors a).place ≡ Begin → ((happens s (Step a)).actors a).place ≡ Open → AllUpto ((happens s (Step a)).actors a).rv s.history
+pub begins_at : (s : World) (a : ℕ) → Inv s → (s.actors a).place ≡ Begin → ((happens s (Step a)).actors a).place ≡ Open
+    → AllUpto ((happens s (Step a)).actors a).rv s.history
 begins_at s a v e =
-    let P : Place → Type 0 = λ p. (((step s a (s.actors a) p).actors a).place ≡ Open → AllUpto ((step s a (s.actors a) p).actors a).rv s.history) in
+    let P : Place → Type 0 = λ p. (((step s a (s.actors a) p).actors a).place ≡ Open
+        → AllUpto ((step s a (s.actors a) p).actors a).rv s.history) in
     let Q : Actor → Type 0 = λ z. (z.place ≡ Open → AllUpto z.rv s.history) in
-    subst P (sym e) (cond_both (ltb s.clock clock_limit) (opened (s.actors a).declared s.clock) (goes (s.actors a) Idle) (λ (z : Actor). Q (put s.actors a z a))
+    subst P (sym e) (cond_both (ltb s.clock clock_limit) (opened (s.actors a).declared s.clock) (goes (s.actors a) Idle)
+        (λ (z : Actor). Q (put s.actors a z a))
     (λ _. subst Q (sym (put-same s.actors a (opened (s.actors a).declared s.clock))) (λ _. all_upto s s.history v.records))
     (λ _. subst Q (sym (put-same s.actors a (goes (s.actors a) Idle))) (λ h. (let z : Idle ≡ Open = h in cc))))
 

@@ -13,7 +13,8 @@ unfolding put
 put-other f k x i ne = cond-false (eqb i k) x (f i) (ne_eqb i k ne)
 
 -- what holds of x at k, and of f elsewhere
-pub put_both : {A : Type 0} → (P : A → Type 0) (f : ℕ → A) (k : ℕ) (x : A) (i : ℕ) → (i ≡ k → P x) → ((i ≡ k → ⊥) → P (f i)) → P (put f k x i)
+pub put_both : {A : Type 0} → (P : A → Type 0) (f : ℕ → A) (k : ℕ) (x : A) (i : ℕ) → (i ≡ k → P x) → ((i ≡ k → ⊥) → P (f i))
+    → P (put f k x i)
 unfolding put
 put_both P f k x i same other = cond_both (eqb i k) x (f i) P (λ e. same (eqb-true i k e)) (λ e. other (eqb-false i k e))
 
@@ -34,11 +35,13 @@ lookup-with_entry_other (e ∷ es) l v k ne =
     cond_both (ltb l e.0) ((l, v) ∷ (e ∷ es)) _ (λ (z : Entries). lookup z k ≡ lookup (e ∷ es) k)
     (λ _. cond-false (eqb k l) (Some v) _ (ne_eqb k l ne))
     (λ _. cond_both (eqb l e.0) ((l, v) ∷ es) (e ∷ with_entry es l v) (λ (z : Entries). lookup z k ≡ lookup (e ∷ es) k)
-    (λ same. cond-false (eqb k l) (Some v) _ (ne_eqb k l ne) ∙ sym (cond-false (eqb k e.0) (Some e.1) (lookup es k) (ne_eqb k e.0 (λ h. ne (h ∙ sym (eqb-true l e.0 same))))))
+    (λ same. cond-false (eqb k l) (Some v) _ (ne_eqb k l ne)
+        ∙ sym (cond-false (eqb k e.0) (Some e.1) (lookup es k) (ne_eqb k e.0 (λ h. ne (h ∙ sym (eqb-true l e.0 same))))))
     (λ _. ap (λ (z : Option ℕ). cond (eqb k e.0) (Some e.1) z) (lookup-with_entry_other es l v k ne)))
 
 -- an entry after one was set
-pub with_entry_cases : (es : Entries) (l v k u : ℕ) → lookup (with_entry es l v) k ≡ Some u → ((k ≡ l) × (u ≡ v)) ⊎ ((k ≡ l → ⊥) × (lookup es k ≡ Some u))
+pub with_entry_cases : (es : Entries) (l v k u : ℕ) → lookup (with_entry es l v) k ≡ Some u
+    → ((k ≡ l) × (u ≡ v)) ⊎ ((k ≡ l → ⊥) × (lookup es k ≡ Some u))
 with_entry_cases es l v k u h =
     elim (cases_eq k l) [
       | inl e ↦ let same : Some u ≡ Some v = sym h ∙ ap (lookup (with_entry es l v)) e ∙ lookup-with_entry_same es l v in inl (e, cc)
@@ -64,7 +67,8 @@ unfolding lookup
 lookup-push_same [] l v none = cond-true (eqb l l) (Some v) None (eq-eqb l l refl)
 lookup-push_same (e ∷ es) l v none =
     elim (cases_eq l e.0) [
-      | inl q ↦ let x : Some e.1 ≡ None = sym (cond-true (eqb l e.0) (Some e.1) (lookup es l) (eq-eqb l e.0 q)) ∙ none in absurd (let b : ⊥ = cc in b)
+      | inl q ↦ let x : Some e.1 ≡ None = sym (cond-true (eqb l e.0) (Some e.1) (lookup es l) (eq-eqb l e.0 q))
+          ∙ none in absurd (let b : ⊥ = cc in b)
       | inr ne ↦
           cond-false (eqb l e.0) (Some e.1) (lookup (es ++ (l, v) ∷ []) l) (ne_eqb l e.0 ne)
           ∙ lookup-push_same es l v (sym (cond-false (eqb l e.0) (Some e.1) (lookup es l) (ne_eqb l e.0 ne)) ∙ none)
@@ -75,7 +79,8 @@ unfolding lookup
 lookup-push_other [] l v k ne = cond-false (eqb k l) (Some v) None (ne_eqb k l ne)
 lookup-push_other (e ∷ es) l v k ne = ap (λ (z : Option ℕ). cond (eqb k e.0) (Some e.1) z) (lookup-push_other es l v k ne)
 
-pub push_cases : (es : Entries) (l v k u : ℕ) → lookup es l ≡ None → lookup (es ++ (l, v) ∷ []) k ≡ Some u → ((k ≡ l) × (u ≡ v)) ⊎ ((k ≡ l → ⊥) × (lookup es k ≡ Some u))
+pub push_cases : (es : Entries) (l v k u : ℕ) → lookup es l ≡ None → lookup (es ++ (l, v) ∷ []) k ≡ Some u
+    → ((k ≡ l) × (u ≡ v)) ⊎ ((k ≡ l → ⊥) × (lookup es k ≡ Some u))
 push_cases es l v k u none h =
     elim (cases_eq k l) [
       | inl e ↦ let same : Some u ≡ Some v = sym h ∙ ap (lookup (es ++ (l, v) ∷ [])) e ∙ lookup-push_same es l v none in inl (e, cc)
@@ -87,7 +92,8 @@ unfolding lookup
 IsUnique-push [] l v u h = (refl, tt)
 IsUnique-push (e ∷ es) l v u h =
     elim (cases_eq l e.0) [
-      | inl q ↦ let x : Some e.1 ≡ None = sym (cond-true (eqb l e.0) (Some e.1) (lookup es l) (eq-eqb l e.0 q)) ∙ h in absurd (let b : ⊥ = cc in b)
+      | inl q ↦ let x : Some e.1 ≡ None = sym (cond-true (eqb l e.0) (Some e.1) (lookup es l) (eq-eqb l e.0 q))
+          ∙ h in absurd (let b : ⊥ = cc in b)
       | inr ne ↦ (
         lookup-push_other es l v e.0 (λ q. ne (sym q)) ∙ u.0,
         IsUnique-push es l v u.1 (sym (cond-false (eqb l e.0) (Some e.1) (lookup es l) (ne_eqb l e.0 ne)) ∙ h),
@@ -95,7 +101,8 @@ IsUnique-push (e ∷ es) l v u h =
     ]
 
 -- an entry of the rest is one of the whole, elsewhere than at the head
-pub rest_entry : (e : ℕ × ℕ) (es : Entries) (l v : ℕ) → IsUnique (e ∷ es) → lookup es l ≡ Some v → (l ≡ e.0 → ⊥) × (lookup (e ∷ es) l ≡ Some v)
+pub rest_entry : (e : ℕ × ℕ) (es : Entries) (l v : ℕ) → IsUnique (e ∷ es) → lookup es l ≡ Some v → (l ≡ e.0 → ⊥)
+    × (lookup (e ∷ es) l ≡ Some v)
 rest_entry e es l v u h =
     let ne : l ≡ e.0 → ⊥ = λ q. let x : Some v ≡ None = sym h ∙ ap (lookup es) q ∙ u.0 in cc in
     (ne, lookup-tail e es l ne ∙ h)

@@ -31,9 +31,11 @@ length-with_entry : (es : Entries) (l v : ℕ) → (length es ≤ length (with_e
 unfolding with_entry
 length-with_entry [] l v = (omega arith, omega arith)
 length-with_entry (e ∷ es) l v =
-    cond_both (ltb l e.0) ((l, v) ∷ (e ∷ es)) (if eqb l e.0 then (l, v) ∷ es else e ∷ with_entry es l v) (λ (z : Entries). (length (e ∷ es) ≤ length z) × (length z ≤ length (e ∷ es) + 1))
+    cond_both (ltb l e.0) ((l, v) ∷ (e ∷ es)) (if eqb l e.0 then (l, v) ∷ es else e ∷ with_entry es l v)
+        (λ (z : Entries). (length (e ∷ es) ≤ length z) × (length z ≤ length (e ∷ es) + 1))
     (λ _. (omega arith, omega arith))
-    (λ _. cond_both (eqb l e.0) ((l, v) ∷ es) (e ∷ with_entry es l v) (λ (z : Entries). (length (e ∷ es) ≤ length z) × (length z ≤ length (e ∷ es) + 1))
+    (λ _. cond_both (eqb l e.0) ((l, v) ∷ es) (e ∷ with_entry es l v)
+        (λ (z : Entries). (length (e ∷ es) ≤ length z) × (length z ≤ length (e ∷ es) + 1))
     (λ _. (omega arith, omega arith))
     (λ _. let q = length-with_entry es l v in (omega (arith, q.0), omega (arith, q.1))))
 
@@ -48,7 +50,8 @@ write_short x false l v g h = (let q = length-with_entry x.writes l v in omega (
 
 lock_short : (x : Actor) (w : Entries) → x.writes ≡ w → x.held ≡ [] → ShortOk x → ShortOk (lock x w)
 lock_short x [] e none h = h
-lock_short x (f ∷ fs) e none h = (let q = length-locations (f ∷ fs) in let p = ap length e in let n = ap length none in omega (arith, q, p, n))
+lock_short x (f ∷ fs) e none h = (let q = length-locations (f ∷ fs) in let p = ap length e in let n = ap length none in omega
+    (arith, q, p, n))
 
 close_short : (x : Actor) (w : Entries) → length x.held ≤ length x.writes → ShortOk x → ShortOk (close x w)
 close_short x [] g h = g
@@ -91,49 +94,62 @@ short_world : (b : Bool) (s t : World) (a : ℕ) → ShortOk (s.actors a) → Sh
 short_world true s t a f g = f
 short_world false s t a f g = g
 
-looked_short : (s : World) (a : ℕ) (x : Actor) (l : ℕ) (w : LockWord) → length x.held ≤ length x.writes → ShortOk ((looked s a x l w).actors a)
+looked_short : (s : World) (a : ℕ) (x : Actor) (l : ℕ) (w : LockWord) → length x.held ≤ length x.writes
+    → ShortOk ((looked s a x l w).actors a)
 looked_short s a x l (Free k) g = short_put s.actors a _ (short_if (leb k x.rv) (goes x (Fetch l k)) (goes x Undo) g g)
 looked_short s a x l (Locked k) g = short_put s.actors a (goes x Undo) g
 
-again_short : (s : World) (a : ℕ) (x : Actor) (l k v : ℕ) (w : LockWord) → length x.held ≤ length x.writes → ShortOk ((looked_again s a x l k v w).actors a)
+again_short : (s : World) (a : ℕ) (x : Actor) (l k v : ℕ) (w : LockWord) → length x.held ≤ length x.writes
+    → ShortOk ((looked_again s a x l k v w).actors a)
 again_short s a x l k v (Free j) g = short_put s.actors a _ (short_if (eqb j k) (has_read x l v) (goes x Undo) g g)
 again_short s a x l k v (Locked j) g = short_put s.actors a (goes x Undo) g
 
-to_lock_short : (s : World) (a : ℕ) (x : Actor) (l : ℕ) (ls : List ℕ) (w : LockWord) → length x.held + length (l ∷ ls) ≤ length x.writes → ShortOk ((to_lock s a x l ls w).actors a)
+to_lock_short : (s : World) (a : ℕ) (x : Actor) (l : ℕ) (ls : List ℕ) (w : LockWord) → length x.held + length (l ∷ ls) ≤ length x.writes
+    → ShortOk ((to_lock s a x l ls w).actors a)
 to_lock_short s a x l ls (Free k) g = short_put s.actors a (goes x (Take l k ls)) (omega (arith, g))
 to_lock_short s a x l ls (Locked k) g = short_put s.actors a (goes x Broken) (omega (arith, g))
 
-take_short : (s : World) (a : ℕ) (x : Actor) (l k : ℕ) (ls : List ℕ) (w : LockWord) → length x.held + (1 + length ls) ≤ length x.writes → ShortOk ((tried s a x l k ls w).actors a)
+take_short : (s : World) (a : ℕ) (x : Actor) (l k : ℕ) (ls : List ℕ) (w : LockWord) → length x.held + (1 + length ls) ≤ length x.writes
+    → ShortOk ((tried s a x l k ls w).actors a)
 take_short s a x l k ls (Free j) g =
     short_world (eqb j k) (locked s a x l k ls) (now s a (goes x Broken)) a
     (short_put s.actors a (taken x l k ls) (let q = length-append x.held ((l, k) ∷ []) in omega (arith, q, g)))
     (short_put s.actors a (goes x Broken) (omega (arith, g)))
 take_short s a x l k ls (Locked j) g = short_put s.actors a (goes x Broken) (omega (arith, g))
 
-check_short : (s : World) (a : ℕ) (x : Actor) (l : ℕ) (ls : List ℕ) (w : LockWord) (own : Option ℕ) → length (l ∷ ls) ≤ length x.reads → length x.held ≤ length x.writes → ShortOk ((checked s a x l ls w own).actors a)
-check_short s a x l ls (Free k) own f g = short_put s.actors a _ (short_if (leb k x.rv) (goes x (Check ls)) (goes x Broken) (omega (arith, f), g) g)
-check_short s a x l ls (Locked k) (Some old) f g = short_put s.actors a _ (short_if (leb k x.rv) (goes x (Check ls)) (goes x Broken) (omega (arith, f), g) g)
+check_short : (s : World) (a : ℕ) (x : Actor) (l : ℕ) (ls : List ℕ) (w : LockWord) (own : Option ℕ) → length (l ∷ ls) ≤ length x.reads
+    → length x.held ≤ length x.writes → ShortOk ((checked s a x l ls w own).actors a)
+check_short s a x l ls (Free k) own f g = short_put s.actors a _
+    (short_if (leb k x.rv) (goes x (Check ls)) (goes x Broken) (omega (arith, f), g) g)
+check_short s a x l ls (Locked k) (Some old) f g = short_put s.actors a _
+    (short_if (leb k x.rv) (goes x (Check ls)) (goes x Broken) (omega (arith, f), g) g)
 check_short s a x l ls (Locked k) None f g = short_put s.actors a (goes x Broken) g
 
-first_short : (s : World) (a : ℕ) (w : Entries) → (s.actors a).writes ≡ w → ShortOk (s.actors a) → length (s.actors a).held ≤ length (s.actors a).writes → ShortOk ((first s a (s.actors a) w).actors a)
+first_short : (s : World) (a : ℕ) (w : Entries) → (s.actors a).writes ≡ w → ShortOk (s.actors a)
+    → length (s.actors a).held ≤ length (s.actors a).writes → ShortOk ((first s a (s.actors a) w).actors a)
 first_short s a [] e h g = h
-first_short s a (f ∷ fs) e h g = short_put s.actors a (goes (s.actors a) (Store (locations fs))) ((let q = length-locations fs in let p = ap length e in omega (arith, q, p)), g)
+first_short s a (f ∷ fs) e h g = short_put s.actors a (goes (s.actors a) (Store (locations fs)))
+    ((let q = length-locations fs in let p = ap length e in omega (arith, q, p)), g)
 
-freed_short : (actors : ℕ → Actor) (a : ℕ) (x : Actor) (es : Entries) → length es ≤ length x.writes → ShortOk (put actors a (freed x es (after_release es)) a)
+freed_short : (actors : ℕ → Actor) (a : ℕ) (x : Actor) (es : Entries) → length es ≤ length x.writes
+    → ShortOk (put actors a (freed x es (after_release es)) a)
 freed_short actors a x [] h = short_put actors a (freed x [] Idle) h
 freed_short actors a x (e ∷ es) h = short_put actors a (freed x (e ∷ es) Release) h
 
-released_short : (s : World) (a : ℕ) (h : Entries) → (s.actors a).held ≡ h → ShortOk (s.actors a) → length (s.actors a).held ≤ length (s.actors a).writes → ShortOk ((released s a (s.actors a) h).actors a)
+released_short : (s : World) (a : ℕ) (h : Entries) → (s.actors a).held ≡ h → ShortOk (s.actors a)
+    → length (s.actors a).held ≤ length (s.actors a).writes → ShortOk ((released s a (s.actors a) h).actors a)
 released_short s a [] e h g = h
 released_short s a (f ∷ fs) e h g = freed_short s.actors a (s.actors a) fs (let p = ap length e in omega (arith, p, g))
 
-undone_short : (s : World) (a : ℕ) (h : Entries) → (s.actors a).held ≡ h → ShortOk (s.actors a) → length (s.actors a).held ≤ length (s.actors a).writes → ShortOk ((undone s a (s.actors a) h).actors a)
+undone_short : (s : World) (a : ℕ) (h : Entries) → (s.actors a).held ≡ h → ShortOk (s.actors a)
+    → length (s.actors a).held ≤ length (s.actors a).writes → ShortOk ((undone s a (s.actors a) h).actors a)
 undone_short s a [] e h g = h
 undone_short s a (f ∷ fs) e h g = short_put s.actors a (freed (s.actors a) fs Undo) (let p = ap length e in omega (arith, p, g))
 
 step_short : (s : World) (a : ℕ) (p : Place) → Short (s.actors a) p → ShortOk (s.actors a) → ShortOk ((step s a (s.actors a) p).actors a)
 step_short s a Idle g h = h
-step_short s a Begin g h = short_put s.actors a _ (short_if (ltb s.clock clock_limit) (opened (s.actors a).declared s.clock) (goes (s.actors a) Idle) (omega arith) g)
+step_short s a Begin g h = short_put s.actors a _
+    (short_if (ltb s.clock clock_limit) (opened (s.actors a).declared s.clock) (goes (s.actors a) Idle) (omega arith) g)
 step_short s a Open g h = h
 step_short s a (Look l) g h = looked_short s a (s.actors a) l (s.locks l) g
 step_short s a (Fetch l k) g h = short_put s.actors a (goes (s.actors a) (Again l k (s.values l))) g
@@ -191,7 +207,9 @@ few_steps x Undo h r w = omega (arith, h, w)
 few_steps x Leave h r w = omega arith
 few_steps x Close h r w = omega arith
 
-pub few : (events : List Event) (clock : ℕ) (memory : Memory) (a : ℕ) → let s = run events (start clock memory) in length (s.actors a).reads ≤ 4096 → length (s.actors a).writes ≤ 4096 → steps_left (s.actors a) (s.actors a).place < 1000000
+pub few : (events : List Event) (clock : ℕ) (memory : Memory) (a : ℕ)
+    → let s = run events (start clock memory) in length (s.actors a).reads ≤ 4096 → length (s.actors a).writes ≤ 4096
+    → steps_left (s.actors a) (s.actors a).place < 1000000
 few events clock memory a r w =
     let s = run events (start clock memory) in
     few_steps (s.actors a) (s.actors a).place (run_short events (start clock memory) (start_ok clock memory) (λ b. omega arith) a) r w

@@ -91,8 +91,8 @@ to_check x wv = if x.rv + 1 == wv then [] else locations x.reads
 abbrev pub stamped_at : Actor → ℕ → Actor
 stamped_at x wv = record x { place = Check (to_check x wv); wv = wv }
 
--- the lock word of a read location was loaded for the check; a word that this transaction itself has locked, as it is in its write set, is judged by
--- its old version
+-- the lock word of a read location was loaded for the check; a word that this transaction itself has locked, as it is in its write set,
+-- is judged by its old version
 abbrev pub seen_in_check : Actor → List ℕ → LockWord → Option ℕ → Actor
 seen_in_check x ls (Free k) own = if nat_le k x.rv then goes x (Check ls) else goes x Broken
 seen_in_check x ls (Locked k) (Some value) = if nat_le k x.rv then goes x (Check ls) else goes x Broken

@@ -1,5 +1,5 @@
 -- What TL2 promises of its committed, open and aborted transactions.
-use Rattle.std.specs.Prelude.{◌≡◌, ℕ, ◌≤◌, false, Option, Some, None, List, [], ◌∷◌, ◌==◌, nat_le, if◌then◌else◌}
+use Rattle.std.specs.Prelude.{◌≡◌, ◌≢◌, ℕ, ◌≤◌, true, false, Option, Some, None, List, [], ◌∷◌, ◌==◌, nat_le, if◌then◌else◌}
 use Rattle.word_machine.specs.Actor.{Call, Read, Write, Place, Store, Release}
 use Rattle.word_machine.specs.World.{Memory, put, Record, Ended, World, Event, Ask, Step, run, start}
 
@@ -70,6 +70,11 @@ IsNoneHalfDone s = (a : ℕ) → IsHalfDone (s.actors a).place → ⊥
 abbrev pub AllUpto : ℕ → List Record → Type 0
 AllUpto n [] = Unit {0}
 AllUpto n (r ∷ rs) = (r.number ≤ n) × AllUpto n rs
+
+-- no writer has the number n
+abbrev pub NoWriterHas : ℕ → List Record → Type 0
+NoWriterHas n [] = Unit {0}
+NoWriterHas n (r ∷ rs) = (r.writer ≡ true → r.number ≢ n) × NoWriterHas n rs
 
 abbrev pub actor_of : Event → ℕ
 actor_of (Ask a request) = a

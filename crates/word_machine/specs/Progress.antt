@@ -55,4 +55,5 @@ AsksNothing a (Step b ∷ es) = AsksNothing a es
 abbrev pub IsAnsweredWithin : ℕ → List Event → World → Type 0
 IsAnsweredWithin a [] s = ⊥
 IsAnsweredWithin a (Ask b request ∷ es) s = IsAnsweredWithin a es (happens s (Ask b request))
-IsAnsweredWithin a (Step b ∷ es) s = ((b ≡ a) × IsAnswered (notice s (s.actors a) (s.actors a).place)) ⊎ IsAnsweredWithin a es (happens s (Step b))
+IsAnsweredWithin a (Step b ∷ es) s = ((b ≡ a) × IsAnswered (notice s (s.actors a) (s.actors a).place)) ⊎ IsAnsweredWithin a es
+    (happens s (Step b))

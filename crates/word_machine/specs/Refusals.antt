@@ -33,6 +33,22 @@ IsTrue s x p (Invalid l word) = (word ≡ bits (s.locks l)) × StopsCheck x p l 
 IsTrue s x p (Exhausted clock) = (clock ≡ s.clock) × (clock_limit ≤ clock) × (p ≡ Begin)
 IsTrue s x p n = Unit {0}
 
+-- the location whose lock word the next step at this place finds
+abbrev pub IsAt : Place → ℕ → Type 0
+IsAt (Look i) l = i ≡ l
+IsAt (Again i k v) l = i ≡ l
+IsAt (Lock (i ∷ ls)) l = i ≡ l
+IsAt (Take i k ls) l = i ≡ l
+IsAt (Check (i ∷ ls)) l = i ≡ l
+IsAt p l = ⊥
+
+-- a refusal for a conflict names the location at which its actor stands
+abbrev pub NamesPlace : Place → Notice → Type 0
+NamesPlace p (Moved l word) = IsAt p l
+NamesPlace p (Busy l word) = IsAt p l
+NamesPlace p (Invalid l word) = IsAt p l
+NamesPlace p n = Unit {0}
+
 -- any refusal
 abbrev pub IsRefused : Notice → Type 0
 IsRefused NoTransaction = Unit {0}

@@ -4,12 +4,13 @@
 ghost use Rattle.std.specs.Prelude.{◌≡◌, ◌≢◌, ◌+◌, ◌<◌, ◌≤◌, ◌⊎◌, [], ◌∷◌, ℕ, List, Some, length, true};
 ghost use Rattle.tx_sets.specs.Entries.{Entries, lookup, locations};
 ghost use Rattle.vlock_word.specs.declared.lock_word.LockWord.TheVariants.{Free, Locked};
-ghost use Rattle.word_machine.specs.Actor.{Begin, Open, Idle, Look, Lock, Check, Undo};
+ghost use Rattle.vlock_word.specs.LockWord.{version_of};
+ghost use Rattle.word_machine.specs.Actor.{Actor, Place, Begin, Open, Idle, Look, Lock, Check, Undo};
 ghost use Rattle.word_machine.specs.Requests.{Request, AskBeginRead, AskRead, AskWrite, AskLock};
 ghost use Rattle.word_machine.specs.World.{Memory, World, Event, Ask, Step, plan, happens, run};
 ghost use Rattle.word_machine.specs.Cells.{Cell, cell, word_of, becomes, learns};
-ghost use Rattle.word_machine.specs.Notices.{IsConflict, LockedAt, notice};
-ghost use Rattle.word_machine.specs.Refusals.{IsTrue, IsRefused, IsEnding, IsCommitting};
+ghost use Rattle.word_machine.specs.Notices.{IsConflict, LockedAt, Quiet, notice, reply};
+ghost use Rattle.word_machine.specs.Refusals.{IsTrue, NamesPlace, IsRefused, IsEnding, IsCommitting};
 ghost use Rattle.word_machine.specs.Progress.{IsAlone, IsFree, steps_left, steps_of, AsksNothing, IsAnsweredWithin};
 ghost use Rattle.word_machine.specs.Opacity.{
   IsRun,
@@ -18,6 +19,7 @@ ghost use Rattle.word_machine.specs.Opacity.{
   IsNoneHalfDone,
   AllEnded,
   AllUpto,
+  NoWriterHas,
   actor_of,
   after_events,
   memory_at,
@@ -28,8 +30,9 @@ ghost use Rattle.word_machine.specs.Opacity.{
 ///
 /// The committed transactions, in the order of their numbers, are a run of the words: every reply is
 /// the sequential one, and no two writers share a number. Each transaction, whether it commits, is
-/// open or was aborted, saw the memory of the number at which it began, and this stays so whatever
-/// happens later. Where no commit is half done the words hold what the run leaves. From its lock to
+/// open or was aborted, saw the memory of the number at which it began: its calls so far are legal
+/// there, now and whatever happens later, also if it then commits as a writer. Where no commit is
+/// half done the words hold what the run leaves. From its lock to
 /// its release no other actor changes a word that a transaction holds. A transaction begins at a
 /// number that is not below any committed before, so transactions that don't overlap keep their
 /// order in time. An idle actor holds no lock.
@@ -39,9 +42,9 @@ pub fn opacity()
     ensures saw { (clock : ℕ) (memory : Memory) (events later : List Event) (a : ℕ) →
         let s = after_events clock memory events in
         IsLegal (memory_at (run later s) (s.actors a).rv) (s.actors a).calls }
-    ensures aborted { (clock : ℕ) (memory : Memory) (events : List Event) →
+    ensures aborted { (clock : ℕ) (memory : Memory) (events later : List Event) →
         let s = after_events clock memory events in
-        AllEnded (λ e. IsLegal (memory_at s e.rv) e.calls) s.aborted }
+        AllEnded (λ e. IsLegal (memory_at (run later s) e.rv) e.calls) s.aborted }
     ensures words { (clock : ℕ) (memory : Memory) (events : List Event) →
         let s = after_events clock memory events in
         IsNoneHalfDone s → (l : ℕ) → s.values l ≡ memory_after memory s.history l }
@@ -57,6 +60,21 @@ pub fn opacity()
     ensures idle { (clock : ℕ) (memory : Memory) (events : List Event) (a : ℕ) →
         let s = after_events clock memory events in
         (s.actors a).place ≡ Idle → (s.actors a).held ≡ [] }
+{}
+
+/// The clock is at least every number given so far: no record's number and no lock word's version is
+/// above it. A number that a transaction got which then gave up is no writer's, now and at every
+/// later moment (one that gives up before it has a number counts as of 0, which nobody gets).
+pub fn numbers()
+    ensures records { (clock : ℕ) (memory : Memory) (events : List Event) →
+        let s = after_events clock memory events in
+        AllUpto s.clock s.history }
+    ensures versions { (clock : ℕ) (memory : Memory) (events : List Event) (l : ℕ) →
+        let s = after_events clock memory events in
+        version_of (s.locks l) ≤ s.clock }
+    ensures unused { (clock : ℕ) (memory : Memory) (events later : List Event) (a : ℕ) →
+        let s = after_events clock memory events in
+        IsEnding (s.actors a).place → NoWriterHas (s.actors a).wv (run later s).history }
 {}
 
 /// An atomic step changes at most the one word that it touches. What that word becomes depends on what
@@ -78,7 +96,8 @@ pub fn one_word()
     ensures ask { (s : World) (a : ℕ) (request : Request) (word : Cell) → cell (happens s (Ask a request)) word ≡ cell s word }
 {}
 
-/// Each refusal is true where it is answered, and names the word that its step found.
+/// Each refusal is true where it is answered. It names the location at which its actor stood, and the
+/// word that its step found there.
 ///
 /// A transaction that was refused for a conflict can only end: none of its steps stores a value, and
 /// each gives a lock back as it was when it was taken (a held word keeps its old version until then,
@@ -88,6 +107,7 @@ pub fn refusals()
     ensures cause { (clock : ℕ) (memory : Memory) (events : List Event) (a : ℕ) →
         let s = after_events clock memory events in
         IsTrue s (s.actors a) (s.actors a).place (notice s (s.actors a) (s.actors a).place) }
+    ensures located { (s : World) (x : Actor) (p : Place) → NamesPlace p (notice s x p) }
     ensures ends { (s : World) (a : ℕ) →
         IsConflict (notice s (s.actors a) (s.actors a).place) → IsEnding ((happens s (Step a)).actors a).place }
     ensures stays { (s : World) (event : Event) (a : ℕ) →
@@ -117,8 +137,14 @@ pub fn alone()
 {}
 
 /// Each request is answered within so many of its own steps as `steps_left` says, whatever the others
-/// do between them; and with sets of at most 4,096 locations that is fewer than 1,000,000.
+/// do between them; and with sets of at most 4,096 locations that is fewer than 1,000,000. A request
+/// that is taken and not answered at once leaves a step to do.
 pub fn progress()
+    ensures due { (clock : ℕ) (memory : Memory) (events : List Event) (a : ℕ) (request : Request) →
+        let s = after_events clock memory events in
+        let t = happens s (Ask a request) in
+        t.actors a ≢ s.actors a → reply (s.actors a) (s.actors a).place request ≡ Quiet →
+        0 < steps_left (t.actors a) (t.actors a).place }
     ensures nearer { (clock : ℕ) (memory : Memory) (events : List Event) (a : ℕ) →
         let s = after_events clock memory events in
         let t = happens s (Step a) in

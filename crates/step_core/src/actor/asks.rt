@@ -1,5 +1,5 @@
 //! What a request makes of an actor's record. It makes the room that its steps will need.
-ghost use Rattle.std.specs.Prelude.{◌≡◌, ◌≢◌, ℕ, ◌≤◌, Ok, Err, Option, Some, None, true, false, IsOk, OnOk, OnErr, IfOk, IfErr};
+ghost use Rattle.std.specs.Prelude.{◌≡◌, ◌≢◌, ℕ, ◌<◌, ◌≤◌, Ok, Err, Option, Some, None, true, false, IsOk, OnOk, OnErr, IfOk, IfErr};
 ghost use Rattle.word_machine.specs.Requests.{AskBegin, AskBeginRead, AskRelease, AskRead, AskWrite, AskLock, AskStore, AskCancel, AskAbort, AskClose};
 ghost use Rattle.step_core.specs.Answers.{request_of};
 ghost use Rattle.step_core.specs.Phases.{phase_of, opens, takes_memory, if_full, if_new, location_refusal, refusal_at};
@@ -12,7 +12,8 @@ use crate::actor::{Actor, Place};
 use crate::answer::{WordAnswer, WordRefusal, WordRequest};
 use crate::phase::Phase;
 use crate::record::WordCall;
-use tx_sets::{AccessSet, LOCATION_LIMIT};
+use std::alloc::AllocError;
+use tx_sets::{AccessSet, LOCATION_LIMIT, ReadSet};
 
 /// Why a new location is refused, if a set has its most locations.
 fn if_full<Role>(set: &AccessSet<Role>) -> Option<WordRefusal>
@@ -23,6 +24,18 @@ fn if_full<Role>(set: &AccessSet<Role>) -> Option<WordRefusal>
     } else {
         Some(WordRefusal::TooLong)
     }
+}
+
+/// Makes room for a read that is to be kept. A declared reader keeps none.
+fn reserve_read(reads: &mut ReadSet, declared: bool) -> Result<(), AllocError>
+    ensures entries { reads.new.entries ≡ reads.old.entries }
+    ensures room { OnOk result (declared ≡ false → 0 < reads.new.room) }
+    ensures none { declared ≡ true → IsOk result }
+{
+    if declared {
+        return Ok(());
+    }
+    reads.reserve(1)
 }
 
 impl Actor {
@@ -186,7 +199,7 @@ impl Actor {
             self.calls.push_reserved(WordCall::Read(location, value));
             return Ok(Some(WordAnswer::Number(value)));
         }
-        if let Err(_) = self.reads.reserve(1) {
+        if let Err(_) = reserve_read(&mut self.reads, self.declared) {
             return Err(WordRefusal::OutOfMemory);
         }
         self.place = Place::Look(location);

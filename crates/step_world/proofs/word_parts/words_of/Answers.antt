@@ -1,5 +1,4 @@
-use Rattle.std.proofs.Common.{◌≡◌, ◌+◌, suc, ap, ◌∙◌, sym, arith, get_or, ◌++◌, ◌∷◌, []}
-use Rattle.step_world.specs.WordWorlds.{listed_from}
+use Rattle.std.proofs.Common.{◌∙◌, get_or}
 use Rattle.step_world.proofs.FormLemmas.{listed_grown}
 use Rattle.step_world.proofs.word_parts.words_of.Goals as goal
 

@@ -1,4 +1,4 @@
-use Rattle.std.proofs.Common.{ap, sym, ◌∙◌, subst, refl, arith, ◌≡◌, take}
+use Rattle.std.proofs.Common.{◌∙◌, subst, refl}
 use Rattle.step_world.specs.Forms.{Feeds, IsAfter}
 use Rattle.step_world.specs.Traces.{IsSerialTrace}
 use Rattle.step_world.proofs.FormLemmas.{after_one, take_all, trace_after}

@@ -5,6 +5,7 @@ use Rattle.step_core.specs.Opaque.{steps_due}
 use Rattle.step_core.proofs.Moves.{reached_asked}
 use Rattle.step_core.specs.declared.answer.WordRefusal.TheVariants.{TooLong}
 use Rattle.step_core.proofs.Laws.{soon}
+use Rattle.step_core.proofs.Due.{due_of}
 use Rattle.step_core.proofs.Limits.{unlimited}
 use Rattle.step_core.proofs.words.Words.ask.Goals as goal
 
@@ -31,3 +32,8 @@ pub returns-in-Some-clause-unlimited : goal.returns-in-Some-clause-unlimited
 returns-in-Some-clause-unlimited c =
     subst (λ (v : Shown). (actor_in v c.args.actor).declared ≡ true → c.in-Some.refusal ≡ TooLong → ⊥) c.self.view_is
     (unlimited (shown c.self.inside.machine) c.args.actor (request_of c.args.request) c.refusal.result c.in-Some.refusal c.self.invariant.reached c.refusal.ensures c.in-Some.is)
+
+pub returns-clause-due : goal.returns-clause-due
+returns-clause-due c =
+    due_of (shown c.self.inside.machine) (shown c.ask.new.self) c.args.actor (request_of c.args.request) c.ask.result c.refusal.result
+    c.self.invariant.reached c.refusal.ensures c.in_default.not-Some c.ask.ensures.asks

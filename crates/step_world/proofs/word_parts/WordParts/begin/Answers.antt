@@ -1,4 +1,4 @@
-use Rattle.std.proofs.Common.{ap, sym, None, []}
+use Rattle.std.proofs.Common.{ap, sym, None}
 use Rattle.seq_model.specs.declared.event.Answer.TheVariants.{Begun}
 use Rattle.seq_model.specs.declared.event.Notice.TheVariants.{Answered}
 use Rattle.step_world.specs.declared.word_seat.Stage.TheVariants.{Open}

@@ -1,4 +1,4 @@
-use Rattle.std.proofs.Common.{[], ◌∙◌}
+use Rattle.std.proofs.Common.{◌∙◌}
 use Rattle.step_world.specs.WordParts.{shown_of}
 use Rattle.step_world.proofs.WordPartsLemmas.{seat_of, ended_follows}
 use Rattle.step_world.proofs.word_parts.WordParts.end.Goals as goal

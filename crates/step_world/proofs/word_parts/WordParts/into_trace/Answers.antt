@@ -1,4 +1,3 @@
-use Rattle.std.proofs.Common.{◌∙◌}
 use Rattle.step_world.specs.WordParts.{shown_of}
 use Rattle.step_world.proofs.FormLemmas.{traced}
 use Rattle.step_world.proofs.word_parts.WordParts.into_trace.Goals as goal

@@ -1,4 +1,4 @@
-use Rattle.std.proofs.Common.{◌≡◌, ap, sym, ◌∙◌, None, Ok}
+use Rattle.std.proofs.Common.{◌≡◌, ap, sym, ◌∙◌, None}
 use Rattle.word_machine.specs.Requests.{AskRead}
 use Rattle.step_world.specs.declared.word_seat.Stage.TheVariants.{Reading}
 use Rattle.step_world.specs.WordParts.{shown_of, call_refusal}

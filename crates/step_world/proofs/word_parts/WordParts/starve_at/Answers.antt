@@ -1,10 +1,6 @@
 use Rattle.std.proofs.Common.{ap}
 use Rattle.step_world.specs.WordParts.{shown_of}
-use Rattle.seq_model.specs.declared.event.Notice.TheVariants.{Refused}
-use Rattle.seq_model.specs.declared.refusal.Refusal.TheVariants.{OutOfMemory}
-use Rattle.word_machine.specs.Requests.{AskAbort}
-use Rattle.step_world.specs.declared.word_seat.Stage.TheVariants.{Idle}
-use Rattle.step_world.specs.WordWorlds.{starve_at, turns, at_stage}
+use Rattle.step_world.specs.WordWorlds.{starve_at}
 use Rattle.step_world.proofs.WordPartsLemmas.{result_as, follows_change, as_change}
 use Rattle.step_world.proofs.word_parts.WordParts.starve_at.Goals as goal
 

@@ -2,16 +2,17 @@
 //!
 //! A test is a table of moves with the answer of each, and what they leave. So its proof is short:
 //! each `?` and each assertion makes it longer, and a row does not.
-use super::*;
-use crate::phase::Phase;
-use std::alloc::AllocError;
+use std::alloc::{AllocError, Global};
 use std::test::Fail;
+use step_core::{WordAnswer, WordRefusal, WordRequest, Words};
 
 mod declared;
 mod limits;
 mod overlaps;
 mod phases;
 mod texts;
+
+use phases::Phase;
 
 // What a call answers.
 type Answer = Result<Option<WordAnswer>, WordRefusal>;

@@ -1,6 +1,6 @@
 //! Commits that overlap.
 use super::*;
-use crate::record::WordCall;
+use step_core::WordCall;
 
 // The words 0 to come, with two transactions of one write each.
 fn two_writers(alloc: Global, values: &[u64], second: u32) -> Result<Words, WordRefusal> {

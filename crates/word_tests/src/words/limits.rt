@@ -33,16 +33,19 @@ fn moved(
 }
 
 #[test]
-fn a_table_has_65536_words_at_most(rt: HostRuntime) -> Result<(), Fail> {
+fn a_table_has_1048576_words_at_most(rt: HostRuntime) -> Result<(), Fail> {
     let moves = [
-        (Move::Write(1, 65_535, 8), Ok(Some(WordAnswer::Locked(1)))),
-        (Move::Value(65_534), Ok(Some(WordAnswer::Number(7)))),
-        (Move::Value(65_535), Ok(Some(WordAnswer::Number(8)))),
-        (Move::Value(65_536), Ok(None)),
+        (
+            Move::Write(1, 1_048_575, 8),
+            Ok(Some(WordAnswer::Locked(1))),
+        ),
+        (Move::Value(1_048_574), Ok(Some(WordAnswer::Number(7)))),
+        (Move::Value(1_048_575), Ok(Some(WordAnswer::Number(8)))),
+        (Move::Value(1_048_576), Ok(None)),
     ];
-    let words = alike(rt.alloc(), 7, 65_536);
+    let words = alike(rt.alloc(), 7, 1_048_576);
     assert_eq!(rt; moved(words, moves.as_slice())?, None);
-    assert!(rt; alike(rt.alloc(), 7, 65_537).is_err());
+    assert!(rt; alike(rt.alloc(), 7, 1_048_577).is_err());
     Ok(())
 }
 
@@ -67,18 +70,18 @@ fn a_write_set_is_limited(rt: HostRuntime) -> Result<(), Fail> {
     Ok(())
 }
 
-// A table of 4,097 words of value 3, all of which actor 1 has read as a declared reader.
+// A table of 5,000 words of value 3, all of which actor 1 has read as a declared reader.
 fn with_all_read(alloc: Global) -> Result<Words, WordRefusal> {
-    let mut words = alike(alloc, 3, 4097)?;
+    let mut words = alike(alloc, 3, 5000)?;
     run(&mut words, 1, WordRequest::BeginRead)?;
-    for location in 0..4097u32 {
+    for location in 0..5000u32 {
         run(&mut words, 1, WordRequest::Read(location))?;
     }
     Ok(words)
 }
 
 #[test]
-fn a_declared_reader_is_not_limited(rt: HostRuntime) -> Result<(), Fail> {
+fn a_declared_reader_reads_5000_locations(rt: HostRuntime) -> Result<(), Fail> {
     let moves = [
         (
             Move::Run(1, WordRequest::Read(4096)),

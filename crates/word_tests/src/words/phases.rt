@@ -1,6 +1,21 @@
 //! Each phase, and what it lacks.
 use super::*;
 
+/// Where an actor stands, by what it may be asked.
+#[derive(Clone, Copy)]
+pub enum Phase {
+    Idle,
+    Reader,
+    Writer,
+    Waiting,
+    Locking,
+    Locked,
+    Broken,
+    Stored,
+    Ended,
+    Busy,
+}
+
 // Whether an actor that stands in a phase is refused all that the phase lacks.
 pub fn lacks_in(words: &mut Words, actor: u32, phase: Phase) -> Result<bool, WordRefusal> {
     let read = WordRequest::Read(0);
