@@ -29,3 +29,5 @@ pub mod AloneActions
 pub mod AloneLemmas
 pub mod AnswerLemmas
 pub mod EndingLemmas
+pub mod RecordLemmas
+pub mod TryLemmas

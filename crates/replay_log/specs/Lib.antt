@@ -13,3 +13,4 @@ pub mod WorldRefusals
 pub mod WorldStill
 pub mod WorldAlone
 pub mod WorldAnswers
+pub mod WorldTries

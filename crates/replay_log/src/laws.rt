@@ -1,11 +1,11 @@
 //! The laws of the definitions that the contracts cite. Each function computes nothing: its contract is the law.
-ghost use Rattle.std.specs.Prelude.{◌≡◌, ◌≢◌, ◌≤◌, ◌++◌, ℕ, List, [], ◌∷◌, Some, true, false, length, get_or};
+ghost use Rattle.std.specs.Prelude.{◌≡◌, ◌≢◌, ◌≤◌, ◌+◌, ◌++◌, ℕ, List, [], ◌∷◌, Some, true, false, length, get_or};
 ghost use Rattle.seq_model.specs.declared.event.Event.{Event};
 ghost use Rattle.seq_model.specs.declared.event.Event.TheVariants.{Ask, Step, Starve};
 ghost use Rattle.seq_model.specs.declared.event.Request.{Request};
 ghost use Rattle.seq_model.specs.declared.event.Answer.TheVariants.{Begun};
 ghost use Rattle.seq_model.specs.declared.event.Notice.TheVariants.{Quiet, Answered, Refused};
-ghost use Rattle.seq_model.specs.declared.refusal.Refusal.TheVariants.{NoSuch};
+ghost use Rattle.seq_model.specs.declared.refusal.Refusal.TheVariants.{NoSuch, GateBusy};
 ghost use Rattle.seq_model.specs.declared.call.Call.{Call};
 ghost use Rattle.seq_model.specs.declared.held.Held.{Held};
 ghost use Rattle.vlock_word.specs.declared.lock_word.LockWord.TheVariants.{Free, Locked};
@@ -26,13 +26,15 @@ ghost use Rattle.replay_log.specs.Contents.{Block, Asked, HaveStripes, content, 
 ghost use Rattle.replay_log.specs.Collections.{Suit, AreReplies, IsRunOn, after_run, held_at, shown_at};
 ghost use Rattle.replay_log.specs.Log.{RaisesEach, KeepsOthers};
 ghost use Rattle.replay_log.specs.Parts.{IsWhole, AnswersByParts, KnowsItsCalls, LeavesOtherParts, ChangesByPart};
-ghost use Rattle.replay_log.specs.Worlds.{World, Idle, Open, Beginning, Cancelling, Leaving, is_change, is_half_done, actor_of, why, happens, run, opened};
+ghost use Rattle.replay_log.specs.Worlds.{World, Idle, Open, Beginning, Cancelling, Leaving, is_change, is_half_done, actor_of, why, happens, half, run, opened};
 ghost use Rattle.replay_log.specs.WorldRefusals.{HasCause, is_calling, is_ending};
 ghost use Rattle.replay_log.specs.WorldStill.{Still, Same};
 ghost use Rattle.replay_log.specs.WorldAnswers.{IsRefusal, IsRefusedAt, RefusedBy, Untouched, changes_at};
 ghost use Rattle.replay_log.specs.WorldAlone.{IsAlone, IsFree, TellsConflict, IsUnstarved, TellsMemory};
 ghost use Rattle.replay_log.specs.WorldProgress.{AreSmall, IsQuiet, Nears, left_of, whose};
-ghost use Rattle.replay_log.specs.WorldSerial.{AreUpTo, IsSerial, SawAt};
+ghost use Rattle.replay_log.specs.WorldTries.{InVain, tried_at};
+ghost use Rattle.replay_log.specs.WorldSerial.{AreHalfDone, AreUpTo, HasWritten, IsSerial, SawAt, commits_at, gives_back, with_record};
+ghost use Rattle.seq_model.specs.Runs.{IsLegal, state_at};
 ghost use Rattle.replay_log.specs.Guards.{IsAllowed, IsAtRest, step_action};
 
 use seq_model::Value;
@@ -143,6 +145,31 @@ pub fn serial_worlds<V: Value>()
         (w.seats a).stage ≡ Beginning → (happens w (Step a)).1 ≡ Answered a (Begun rv) → AreUpTo rv w.records }
 {}
 
+/// What is recorded. A writer is recorded by its first value store and a reader by its last load, with exactly the calls that its
+/// transaction has made by then and their replies; nothing else records, and what is recorded stays. These replies are what the
+/// state replies that the records up to the number leave at which the transaction began, as it commits and at every later moment.
+pub fn commits<V: Value>()
+    ensures recorded { (w : World V) (a : ℕ) → (happens w (Step a)).0.records ≡ with_record a (w.seats a) (w.seats a).stage w.records }
+    ensures asked { (w : World V) (a : ℕ) (q : Request V) → (happens w (Ask a q)).0.records ≡ w.records }
+    ensures starved { (w : World V) (a : ℕ) → (happens w (Starve a)).0.records ≡ w.records }
+    ensures saw { (blocks : List Block) (clock : ℕ) (values : List ℕ) (held : List (Held V)) (events later : List (Event V)) (a : ℕ) → HaveStripes blocks → Suit blocks held →
+        let w = run (opened blocks clock values held) events in
+        let x = w.seats a in
+        commits_at x.stage ≡ true → IsLegal x.calls (state_at x.rv (run w later).records (record { words = values; held = held })) }
+{}
+
+/// Half-done commits and numbers. The half-done commits are told by their numbers, each once and rising; each is the number of a
+/// writer's record, and of an actor that is between its first value store and its last release. A number that a commit took
+/// which is then given up is no writer's, from the step on with which its locks begin to go back: then and at every later moment.
+pub fn numbers<V: Value>()
+    ensures half_done { (blocks : List Block) (clock : ℕ) (values : List ℕ) (held : List (Held V)) (events : List (Event V)) → HaveStripes blocks → Suit blocks held →
+        let w = run (opened blocks clock values held) events in
+        AreHalfDone w (half w) }
+    ensures unused { (blocks : List Block) (clock : ℕ) (values : List ℕ) (held : List (Held V)) (events later : List (Event V)) (a : ℕ) → HaveStripes blocks →
+        let w = run (opened blocks clock values held) events in
+        gives_back (w.seats a).stage ≡ true → HasWritten (actor_of w a).wv (run w later).records → ⊥ }
+{}
+
 /// No guard of the machine refuses what a request does: wherever a request is under way, its next step does an action whose guard
 /// holds, at a place where it is due. So a request is never stuck.
 pub fn guards<V: Value>()
@@ -180,6 +207,20 @@ pub fn refusals<V: Value>()
     ensures stays { (w : World V) (a : ℕ) → is_ending (w.seats a).stage ≡ true → is_ending ((happens w (Step a)).0.seats a).stage ≡ true →
         ((happens w (Step a)).0.seats a).cause ≡ (w.seats a).cause }
     ensures told { (w : World V) (a : ℕ) → (w.seats a).stage ≡ Leaving → (happens w (Step a)).1 ≡ why a (w.seats a).cause }
+{}
+
+/// A gate is tried 64 times. Where a request tries a gate, and `n` tries are left after this one, the last steps of its actor before
+/// it, as many as with `n` make 63, all tried this gate, and each found it held by another. So a request that is given up for a busy
+/// gate has tried it 64 times, one step after another, and found it held by another each time.
+pub fn tries<V: Value>()
+    ensures before { (blocks : List Block) (clock : ℕ) (values : List ℕ) (held : List (Held V)) (events : List (Event V)) (a k n : ℕ) → HaveStripes blocks →
+        let start = opened blocks clock values held in
+        tried_at ((run start events).seats a).stage ≡ Some (k, n) → (m : ℕ) × (m + n ≡ 63) × InVain start events a k m }
+    ensures in_all { (blocks : List Block) (clock : ℕ) (values : List ℕ) (held : List (Held V)) (events : List (Event V)) (a k : ℕ) → HaveStripes blocks →
+        let start = opened blocks clock values held in
+        let w = run start events in
+        let x = (happens w (Step a)).0.seats a in
+        is_ending (w.seats a).stage ≡ false → is_ending x.stage ≡ true → x.cause ≡ Some (GateBusy k) → InVain start (events ++ Step a ∷ []) a k 64 }
 {}
 
 /// What a refusal says as it is answered. A request that is refused changes nothing. A step is refused where none is due, as a
