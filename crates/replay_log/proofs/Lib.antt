@@ -31,3 +31,4 @@ pub mod AnswerLemmas
 pub mod EndingLemmas
 pub mod RecordLemmas
 pub mod TryLemmas
+pub mod AskLemmas

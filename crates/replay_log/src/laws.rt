@@ -5,7 +5,9 @@ ghost use Rattle.seq_model.specs.declared.event.Event.TheVariants.{Ask, Step, St
 ghost use Rattle.seq_model.specs.declared.event.Request.{Request};
 ghost use Rattle.seq_model.specs.declared.event.Answer.TheVariants.{Begun};
 ghost use Rattle.seq_model.specs.declared.event.Notice.TheVariants.{Quiet, Answered, Refused};
-ghost use Rattle.seq_model.specs.declared.refusal.Refusal.TheVariants.{NoSuch, GateBusy};
+ghost use Rattle.seq_model.specs.declared.refusal.Refusal.TheVariants.{NoSuch, GateBusy, NotIdle, NoTransaction, TooLong};
+ghost use Rattle.seq_model.specs.declared.call.Op.{Op};
+ghost use Rattle.seq_model.specs.declared.limits.TheConstants.{CALL_LIMIT};
 ghost use Rattle.seq_model.specs.declared.call.Call.{Call};
 ghost use Rattle.seq_model.specs.declared.held.Held.{Held};
 ghost use Rattle.vlock_word.specs.declared.lock_word.LockWord.TheVariants.{Free, Locked};
@@ -29,7 +31,7 @@ ghost use Rattle.replay_log.specs.Parts.{IsWhole, AnswersByParts, KnowsItsCalls,
 ghost use Rattle.replay_log.specs.Worlds.{World, Idle, Open, Beginning, Cancelling, Leaving, is_change, is_half_done, actor_of, why, happens, half, run, opened};
 ghost use Rattle.replay_log.specs.WorldRefusals.{HasCause, is_calling, is_ending};
 ghost use Rattle.replay_log.specs.WorldStill.{Still, Same};
-ghost use Rattle.replay_log.specs.WorldAnswers.{IsRefusal, IsRefusedAt, RefusedBy, Untouched, changes_at};
+ghost use Rattle.replay_log.specs.WorldAnswers.{is_there, IsRefusal, IsRefusedAt, RefusedBy, Untouched, changes_at};
 ghost use Rattle.replay_log.specs.WorldAlone.{IsAlone, IsFree, TellsConflict, IsUnstarved, TellsMemory};
 ghost use Rattle.replay_log.specs.WorldProgress.{AreSmall, IsQuiet, Nears, left_of, whose};
 ghost use Rattle.replay_log.specs.WorldTries.{InVain, tried_at};
@@ -238,6 +240,25 @@ pub fn answers<V: Value>()
         is_half_done ((happens w (Step a)).0.seats a).stage ≡ true }
     ensures starved_late { (w : World V) (a : ℕ) → is_half_done (w.seats a).stage ≡ true → happens w (Starve a) ≡ (w, Quiet) }
     ensures starved_end { (w : World V) (a : ℕ) → is_ending (w.seats a).stage ≡ true → happens w (Starve a) ≡ (w, Quiet) }
+{}
+
+/// When a request is refused as it is asked. While another is under way it is NotIdle, and so is one that begins where a transaction
+/// is open; where none is open and it begins none, it is NoTransaction. A call of what is not there is NoSuch, whatever else would
+/// refuse it, and only then one past the limit of calls is TooLong. None of them changes anything. Only an Abort gives a transaction
+/// up as it is asked.
+pub fn asked<V: Value>()
+    ensures under_way { (w : World V) (a : ℕ) (q : Request V) → (IsAtRest (w.seats a).stage → ⊥) → happens w (Ask a q) ≡ (w, Refused a NotIdle) }
+    ensures open { (w : World V) (a : ℕ) → (w.seats a).stage ≡ Open →
+        (happens w (Ask a Request.Begin) ≡ (w, Refused a NotIdle)) × (happens w (Ask a Request.BeginRead) ≡ (w, Refused a NotIdle)) }
+    ensures idle { (w : World V) (a : ℕ) (q : Request V) → (w.seats a).stage ≡ Idle → q ≢ Request.Begin → q ≢ Request.BeginRead →
+        happens w (Ask a q) ≡ (w, Refused a NoTransaction) }
+    ensures no_such { (w : World V) (a t : ℕ) (op : Op V) → (w.seats a).stage ≡ Open → is_there w a t op ≡ false →
+        happens w (Ask a (Request.Call record { target = t; op = op })) ≡ (w, Refused a NoSuch) }
+    ensures too_long { (w : World V) (a t : ℕ) (op : Op V) → (w.seats a).stage ≡ Open → is_there w a t op ≡ true → CALL_LIMIT ≤ length (w.seats a).calls →
+        happens w (Ask a (Request.Call record { target = t; op = op })) ≡ (w, Refused a TooLong) }
+    ensures given_up { (blocks : List Block) (clock : ℕ) (values : List ℕ) (held : List (Held V)) (events : List (Event V)) (a : ℕ) (q : Request V) → HaveStripes blocks →
+        let w = run (opened blocks clock values held) events in
+        is_ending (w.seats a).stage ≡ false → is_ending ((happens w (Ask a q)).0.seats a).stage ≡ true → q ≡ Request.Abort }
 {}
 
 /// What a refusal leaves. A step stores a value only where a commit does, and changes a base only where a commit takes it home; so a
