@@ -1,14 +1,20 @@
--- The words of a world with collections are a world of the word machine.
-use Rattle.std.proofs.Common.{◌≡◌, ℕ, List, [], ◌∷◌, ◌++◌, refl, sym, ap, ◌∙◌, None, Some}
+-- The words of a world with collections are a world of the word machine. So what the word machine says of every schedule is true of them, as that a number
+-- of a transaction which gave up is never used.
+use Rattle.std.proofs.Common.{◌≡◌, ℕ, List, [], ◌∷◌, ◌++◌, refl, sym, ap, ◌∙◌, subst, None, Some}
 use Rattle.std.specs.Prelude.{◌&&◌, not, if◌then◌else◌}
 use Rattle.std.proofs.lemmas.Bool.{cond_both}
 use Rattle.tx_sets.specs.Entries.{locations}
 use Rattle.word_machine.specs.Actor.{Place}
 use Rattle.word_machine.specs.Requests.{Request, AskBegin, AskBeginRead, AskRead, AskWrite, AskLock, AskStore, AskRelease, AskCancel, AskAbort, AskClose}
-use Rattle.word_machine.specs.World.{Outcome, GoesOn, Commits, Aborts, outcome, put, World, step, Event, Ask, Step, happens, run}
-use Rattle.collection_machine.specs.Content.{Content}
-use Rattle.collection_machine.specs.Boosted.{may_write, Boosted, Action, OnWords, TakeGate, PutGate, Accept, GoHome, on_words, on_ask, shadows_after, recorded, word_step, changes, acts, act_all, is_held, is_given, every, is_open, is_sound, writes_asked, is_none, is_committing, is_actor, is_stored, copied, gated, homed}
+use Rattle.word_machine.specs.World.{Memory, Outcome, GoesOn, Commits, Aborts, outcome, put, World, step, Event, Ask, Step, happens, run}
+use Rattle.word_machine.specs.Opacity.{NoWriterHas}
+use Rattle.word_machine.specs.Refusals.{IsEnding}
+use Rattle.word_machine.proofs.Numbers as machine
+use Rattle.collection_machine.specs.Content.{Content, Frame}
+use Rattle.collection_machine.specs.Boosted.{may_write, Boosted, Action, OnWords, TakeGate, PutGate, Accept, GoHome, on_words, on_ask, shadows_after, recorded, word_step, changes, acts, act_all, is_held, is_given, every, is_open, is_sound, writes_asked, is_none, is_committing, is_actor, is_stored, copied, gated, homed, opens}
+use Rattle.collection_machine.specs.Serial.{words, after_actions}
 use Rattle.collection_machine.proofs.Frame.{worded}
+use Rattle.collection_machine.proofs.Schedules.{all_ok, opens_ok}
 
 run-append : (es fs : List Event) (s : World) → run (es ++ fs) s ≡ run fs (run es s)
 run-append [] fs s = refl
@@ -58,3 +64,17 @@ module _ {X Op Out : Type 0} (c : Content X Op Out) where
       let a = act_runs s e in
       let b = all_run es (acts c s e) in
       (a.0 ++ b.0, b.1 ∙ ap (run b.0) a.1 ∙ sym (run-append a.0 b.0 s.words))
+
+  pub unused_later : Frame c → (clock : ℕ) (memory : Memory) (parts : ℕ → X) (actions later : List (Action Op)) (a : ℕ)
+      → IsEnding ((after_actions c clock memory parts actions).words.actors a).place
+      → NoWriterHas ((after_actions c clock memory parts actions).words.actors a).wv
+      (words (act_all c later (after_actions c clock memory parts actions)).history)
+  unused_later f clock memory parts actions later a ends =
+      let s = after_actions c clock memory parts actions in
+      let r = all_run actions (opens clock memory parts) in
+      let q = all_run later s in
+      let v = all_ok c f later s (all_ok c f actions (opens clock memory parts) (opens_ok c f clock memory parts)) in
+      subst (NoWriterHas (s.words.actors a).wv) (sym v.same)
+      (subst (λ (z : World). NoWriterHas (s.words.actors a).wv z.history) (sym q.1)
+      (subst (λ (z : World). NoWriterHas (z.actors a).wv (run q.0 z).history) (sym r.1)
+      (machine.unused_later clock memory r.0 q.0 a (subst (λ (z : World). IsEnding (z.actors a).place) r.1 ends))))

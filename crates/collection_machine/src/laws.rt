@@ -4,7 +4,8 @@
 ghost use Rattle.std.specs.Prelude.{◌≡◌, ◌≤◌, ℕ, ◌+◌, true, false, Some, List};
 ghost use Rattle.tx_sets.specs.Entries.{lookup};
 ghost use Rattle.word_machine.specs.World.{Memory, Event};
-ghost use Rattle.word_machine.specs.Opacity.{IsInOrder, IsNoneHalfDone, IsRun, IsLegal, AllEnded, first_read, memory_after, memory_at, after_events};
+ghost use Rattle.word_machine.specs.Opacity.{IsInOrder, IsNoneHalfDone, IsRun, IsLegal, AllEnded, NoWriterHas, first_read, memory_after, memory_at, after_events};
+ghost use Rattle.word_machine.specs.Refusals.{IsEnding};
 ghost use Rattle.collection_machine.specs.Content.{Content, Frame};
 ghost use Rattle.collection_machine.specs.Boosted.{Action, act_all};
 ghost use Rattle.collection_machine.specs.Serial.{
@@ -72,4 +73,11 @@ pub fn opacity<X, Op, Out>()
     ensures records { (c : Content X Op Out) → Frame c → (clock : ℕ) (memory : Memory) (parts : ℕ → X) (actions : List (Action Op)) →
         let s = after_actions c clock memory parts actions in
         (words s.history ≡ s.words.history) × (ended s.aborted ≡ s.words.aborted) }
+{}
+
+/// A number that a transaction got which then gave up is no record's of a writer, now and at every later moment.
+pub fn numbers<X, Op, Out>()
+    ensures unused { (c : Content X Op Out) → Frame c → (clock : ℕ) (memory : Memory) (parts : ℕ → X) (actions later : List (Action Op)) (a : ℕ) →
+        let s = after_actions c clock memory parts actions in
+        IsEnding (s.words.actors a).place → NoWriterHas (s.words.actors a).wv (words (act_all c later s).history) }
 {}

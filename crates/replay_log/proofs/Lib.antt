@@ -31,3 +31,6 @@ pub mod AloneActions
 pub mod AloneLemmas
 pub mod AnswerLemmas
 pub mod EndingLemmas
+pub mod RecordLemmas
+pub mod TryLemmas
+pub mod AskLemmas

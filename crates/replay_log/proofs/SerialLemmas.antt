@@ -7,7 +7,8 @@ use Rattle.word_machine.specs.Actor as machine
 use Rattle.word_machine.specs.Actor.{Place, Actor}
 use Rattle.word_machine.specs.World as world
 use Rattle.word_machine.specs.World.{Memory}
-use Rattle.word_machine.specs.Opacity.{IsLegal, IsRun, IsInOrder, IsHalfDone, IsNoneHalfDone, AllEnded, memory_at, memory_after, upto}
+use Rattle.word_machine.specs.Opacity.{IsLegal, IsRun, IsInOrder, IsHalfDone, IsNoneHalfDone, AllEnded, NoWriterHas, memory_at, memory_after, upto}
+use Rattle.word_machine.specs.Refusals.{IsEnding}
 use Rattle.word_machine.proofs.Schedules.{legal_of, actor_saw, words_at_rest}
 use Rattle.std.proofs.lemmas.Bool.{cases_eq, cases_lt, cases_Bool, cond-true, cond-false}
 use Rattle.tx_sets.specs.Entries.{Entries, lookup}
@@ -26,6 +27,7 @@ use Rattle.collection_machine.specs.Boosted.{Committed, Aborted, Boosted, Action
 use Rattle.collection_machine.specs.Serial.{AllAborted, after_actions, ended}
 use Rattle.collection_machine.specs.Serial as serial
 use Rattle.collection_machine.proofs.Invariant.{Inv}
+use Rattle.collection_machine.proofs.Runs as runs
 use Rattle.collection_machine.proofs.Schedules.{edition_few, all_ok, all-opening, all_words_saw, opens_ok}
 use Rattle.replay_log.specs.Base.{Shown}
 use Rattle.replay_log.specs.Contents.{Block, Asked, Answered, HaveStripes, is_plain, content}
@@ -46,7 +48,7 @@ use Rattle.replay_log.proofs.SeatLemmas.{at_of}
 use Rattle.replay_log.proofs.StageLemmas.{tells}
 use Rattle.replay_log.specs.WorldTraces.{state}
 use Rattle.replay_log.proofs.TraceLemmas.{shows_state}
-use Rattle.replay_log.specs.WorldSerial.{AreUpTo, Holds, SawAt, AllSaw, HasWritten, IsSerial}
+use Rattle.replay_log.specs.WorldSerial.{AreUpTo, Holds, SawAt, AllSaw, HasWritten, IsSerial, commits_at, gives_back}
 use Rattle.replay_log.proofs.ContentLemmas.{content_frame}
 use Rattle.std.proofs.lemmas.Bool.Decides.{nat_tests}
 use Rattle.replay_log.proofs.CallLemmas.{no_word_at}
@@ -438,3 +440,48 @@ module _ {V : Type 0} where
         by_clock : (u : World V) (x : Seat V) (clock : ℕ) (b : Bool) → (has_begun u a x (cond b (told.Begun clock) (told.Exhausted clock))).1 ≡ note.Answered a (answer.Begun rv) → clock ≡ rv
         by_clock u x clock true h = cc
         by_clock u x clock false h = cc
+
+  -- ---- a number that was given up
+  none_written : (n k : ℕ) (rs : List (ℕ × Record V)) (qs : List (Committed (Answered V))) → SameRecords n rs qs → NoWriterHas k (serial.words qs)
+      → HasWritten k rs → ⊥
+  none_written n k [] qs g f h = h
+  none_written n k (r ∷ rs) [] g f h = absurd g
+  none_written n k (r ∷ rs) (q ∷ qs) g f h =
+      elim h [ inl is ↦ f.0 (sym g.0.writes ∙ is.1) (sym g.0.number ∙ is.0) | inr more ↦ none_written n k rs qs g.1 f.1 more ]
+
+  gives_up_there : (n : ℕ) (bs : List Block) (x : Seat V) (y : Actor) (z : Copy V) (st : Stage V) (p : Place) → StageOk n bs x y z st p
+      → gives_back st ≡ true
+      → IsEnding p
+  gives_up_there n bs x y z Cancelling p h back = subst IsEnding (sym h.0) tt
+  gives_up_there n bs x y z Leaving p h back = subst IsEnding (sym h.0) tt
+  gives_up_there n bs x y z st p h back = absurd (true≢false (sym back))
+
+  pub unused_later : (bs : List Block) → HaveStripes bs → (clock : ℕ) (values : List ℕ) (hs : List (Held V)) (events later : List (Event V)) (a : ℕ)
+      → let w = run (opened bs clock values hs) events in
+      gives_back (w.seats a).stage ≡ true → HasWritten (w.boosted.words.actors a).wv (run w later).records → ⊥
+  unused_later bs stripes clock values hs events later a back written =
+      let w = run (opened bs clock values hs) events in
+      let t = run w later in
+      let n = length values in
+      let y = w.boosted.words.actors a in
+      let first = run_linked events (opened bs clock values hs) (opened_linked bs clock values hs stripes) in
+      let ends = gives_up_there w.words w.blocks (w.seats a) y (w.boosted.shadows a) (w.seats a).stage y.place (first.seats a).stage back in
+      let k = run_linked later w first in
+      let is = (run_by later w).words ∙ (run_by events (opened bs clock values hs)).words in
+      let same : SameRecords n t.records t.boosted.history = subst (λ i. SameRecords i t.records t.boosted.history) is k.base.records in
+      let ac = actions_of bs clock values hs events in
+      let lt = later_actions bs clock values hs events later in
+      let c = content {V = V} n bs in
+      let spent = runs.unused_later c (content_frame {V = V} n bs stripes) clock (λ l. get_or values l 0) (shown_at n bs hs) ac.0 lt.0 a
+      (subst (λ (s : Boosted (Shown V) (Answered V)). IsEnding (s.words.actors a).place) ac.1 ends) in
+      none_written n y.wv t.records t.boosted.history same
+      (subst (λ (s : Boosted (Shown V) (Answered V)). NoWriterHas y.wv (serial.words s.history)) (sym lt.1)
+      (subst (λ (s : Boosted (Shown V) (Answered V)). NoWriterHas (s.words.actors a).wv (serial.words (act_all c lt.0 s).history)) (sym ac.1) spent))
+      written
+
+  -- a transaction that commits has seen what an open one has
+  pub committed_saw : (first : Contents V) (rs : List (ℕ × Record V)) (x : Seat V) (st : Stage V) → commits_at st ≡ true → SawAt first rs x st
+      → AreLegal x.calls (state_at x.rv rs first)
+  committed_saw first rs x (Ready ks) h saw = saw
+  committed_saw first rs x Closing h saw = saw
+  committed_saw first rs x st h saw = absurd (true≢false (sym h))

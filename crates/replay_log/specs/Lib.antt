@@ -20,3 +20,4 @@ pub mod WorldRefusals
 pub mod WorldStill
 pub mod WorldAlone
 pub mod WorldAnswers
+pub mod WorldTries

@@ -1,14 +1,23 @@
 -- What a refusal says as it is answered, and what it leaves.
-use Rattle.std.specs.Prelude.{◌≡◌, ℕ, ◌≤◌, Bool, true, false, Some}
+use Rattle.std.specs.Prelude.{◌≡◌, ℕ, ◌≤◌, Bool, true, false, ◌&&◌, not, nat_lt, Some}
 use Rattle.word_machine.specs.Actor.{clock_limit}
+use Rattle.seq_model.specs.declared.call.Op.{Op}
+use Rattle.seq_model.specs.declared.call.Op.TheVariants.{Read, Write}
 use Rattle.seq_model.specs.declared.refusal.Refusal.{Refusal}
 use Rattle.seq_model.specs.declared.refusal.Refusal.TheVariants.{Exhausted, TooLong, NoTransaction}
 use Rattle.seq_model.specs.declared.event.Notice.{Notice}
 use Rattle.seq_model.specs.declared.event.Notice.TheVariants.{Refused}
+use Rattle.replay_log.specs.Contents.{block_of}
 use Rattle.replay_log.specs.WorldStill.{Same}
-use Rattle.replay_log.specs.Worlds.{World, Stage, Idle, Beginning, Open, Copying, Leaving, Ready, Storing, Homing, at_stage, actor_of}
+use Rattle.replay_log.specs.Worlds.{World, Stage, Idle, Beginning, Open, Copying, Leaving, Ready, Storing, Homing, at_stage, actor_of, is_known, may_ask}
 
 module _ {V : Type 0} where
+  -- whether there is what a call asks of, and it is of its kind; for a declared reader there is no change
+  abbrev pub is_there : World V → ℕ → ℕ → Op V → Bool
+  is_there w a t Read = nat_lt t w.words
+  is_there w a t (Write v) = nat_lt t w.words && not (actor_of w a).declared
+  is_there w a t op = is_known (block_of w.blocks t) op && may_ask (actor_of w a) op
+
   abbrev pub IsRefusal : Notice V → Type 0
   IsRefusal (Refused a cause) = Unit {0}
   IsRefusal n = ⊥

@@ -1,12 +1,22 @@
 -- Serial order of a world of words and collections: what is promised of its records, of what it holds, and of its open and aborted
 -- transactions.
-use Rattle.std.specs.Prelude.{◌≡◌, ◌⊎◌, ℕ, ◌<◌, ◌≤◌, true, false, List, [], ◌∷◌, length, get_or, ⊤}
+use Rattle.std.specs.Prelude.{◌≡◌, ◌⊎◌, ℕ, ◌<◌, ◌≤◌, Bool, true, false, List, [], ◌∷◌, length, get_or, ⊤}
 use Rattle.seq_model.specs.declared.record.Record.{Record}
 use Rattle.seq_model.specs.Contents.{Contents}
 use Rattle.seq_model.specs.Runs.{IsLegal, IsInCommitOrder, IsRun, after_run, state_at}
+use Rattle.collection_machine.specs.Content.{has}
 use Rattle.replay_log.specs.Contents.{is_plain}
 use Rattle.replay_log.specs.Collections.{Suit, shown_at}
-use Rattle.replay_log.specs.Worlds.{World, Seat, Stage, Idle, Beginning, Storing, Homing, Releasing, Ended, is_half_done}
+use Rattle.replay_log.specs.Worlds.{World, Seat, Stage, Idle, Beginning, Ready, Storing, Homing, Releasing, Closing, Cancelling, Leaving, Ended, is_half_done}
+
+abbrev pub AreAbove : ℕ → List ℕ → Type 0
+AreAbove n [] = ⊤
+AreAbove n (m ∷ ms) = (n < m) × AreAbove n ms
+
+-- each number is above those before it
+abbrev pub AreRising : List ℕ → Type 0
+AreRising [] = ⊤
+AreRising (n ∷ ns) = AreAbove n ns × AreRising ns
 
 module _ {V : Type 0} where
   -- the words and collections of w are those of the state
@@ -34,6 +44,25 @@ module _ {V : Type 0} where
   abbrev pub HasWritten : ℕ → List (ℕ × Record V) → Type 0
   HasWritten n [] = ⊥
   HasWritten n (r ∷ rs) = ((r.1.number ≡ n) × (r.1.writes ≡ true)) ⊎ HasWritten n rs
+
+  -- these are the numbers of the half-done commits, each once, and each is a record's of a writer
+  pub record AreHalfDone (w : World V) (ns : List ℕ) : Type 0 where
+    pub rising : AreRising ns
+    pub written : (n : ℕ) → has ns n ≡ true → HasWritten n w.records
+    pub theirs : (n : ℕ) → has ns n ≡ true → (a : ℕ) × (is_half_done (w.seats a).stage ≡ true) × ((w.seats a).wv ≡ n)
+    pub all : (a : ℕ) → is_half_done (w.seats a).stage ≡ true → has ns (w.seats a).wv ≡ true
+
+  -- a step at this stage commits
+  abbrev pub commits_at : Stage V → Bool
+  commits_at (Ready ks) = true
+  commits_at Closing = true
+  commits_at stage = false
+
+  -- a transaction at this stage is being given up, and holds no gate any more
+  abbrev pub gives_back : Stage V → Bool
+  gives_back Cancelling = true
+  gives_back Leaving = true
+  gives_back stage = false
 
   -- no number is above n
   abbrev pub AreUpTo : ℕ → List (ℕ × Record V) → Type 0

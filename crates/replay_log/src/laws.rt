@@ -1,11 +1,13 @@
 //! The laws of the definitions that the contracts cite. Each function computes nothing: its contract is the law.
-ghost use Rattle.std.specs.Prelude.{◌≡◌, ◌≢◌, ◌≤◌, ◌++◌, ℕ, List, [], ◌∷◌, Some, true, false, length, get_or};
+ghost use Rattle.std.specs.Prelude.{◌≡◌, ◌≢◌, ◌≤◌, ◌+◌, ◌++◌, ℕ, List, [], ◌∷◌, Some, true, false, length, get_or};
 ghost use Rattle.seq_model.specs.declared.event.Event.{Event};
 ghost use Rattle.seq_model.specs.declared.event.Event.TheVariants.{Ask, Step, Starve};
 ghost use Rattle.seq_model.specs.declared.event.Request.{Request};
 ghost use Rattle.seq_model.specs.declared.event.Answer.TheVariants.{Begun};
 ghost use Rattle.seq_model.specs.declared.event.Notice.TheVariants.{Quiet, Answered, Refused};
-ghost use Rattle.seq_model.specs.declared.refusal.Refusal.TheVariants.{NoSuch};
+ghost use Rattle.seq_model.specs.declared.refusal.Refusal.TheVariants.{NoSuch, GateBusy, NotIdle, NoTransaction, TooLong};
+ghost use Rattle.seq_model.specs.declared.call.Op.{Op};
+ghost use Rattle.seq_model.specs.declared.limits.TheConstants.{CALL_LIMIT};
 ghost use Rattle.seq_model.specs.declared.call.Call.{Call};
 ghost use Rattle.seq_model.specs.declared.held.Held.{Held};
 ghost use Rattle.word_machine.specs.Opacity.{first_read};
@@ -26,15 +28,17 @@ ghost use Rattle.replay_log.specs.Contents.{Block, Asked, HaveStripes, content, 
 ghost use Rattle.replay_log.specs.Collections.{Suit, shown_at};
 ghost use Rattle.replay_log.specs.Log.{RaisesEach, KeepsOthers};
 ghost use Rattle.replay_log.specs.Parts.{IsWhole, AnswersByParts, KnowsItsCalls, LeavesOtherParts, ChangesByPart};
-ghost use Rattle.replay_log.specs.Worlds.{World, Idle, Open, Beginning, Cancelling, Leaving, is_change, actor_of, why, happens, run, opened};
+ghost use Rattle.replay_log.specs.Worlds.{World, Idle, Open, Beginning, Cancelling, Leaving, is_change, actor_of, why, happens, half, run, opened};
 ghost use Rattle.replay_log.specs.WorldTraces.{trace, is_half_done, committed_by, with_record, ended_by};
 ghost use Rattle.seq_model.specs.Runs.{after_run as state_after};
 ghost use Rattle.replay_log.specs.WorldRefusals.{HasCause, is_calling, is_ending};
 ghost use Rattle.replay_log.specs.WorldStill.{Still, Same};
-ghost use Rattle.replay_log.specs.WorldAnswers.{IsRefusal, IsRefusedAt, RefusedBy, Untouched, changes_at};
+ghost use Rattle.replay_log.specs.WorldAnswers.{is_there, IsRefusal, IsRefusedAt, RefusedBy, Untouched, changes_at};
 ghost use Rattle.replay_log.specs.WorldAlone.{IsAlone, IsFree, TellsConflict, IsUnstarved, TellsMemory};
 ghost use Rattle.replay_log.specs.WorldProgress.{AreSmall, IsQuiet, Nears, left_of, whose};
-ghost use Rattle.replay_log.specs.WorldSerial.{AreUpTo, IsSerial, SawAt};
+ghost use Rattle.replay_log.specs.WorldTries.{InVain, tried_at};
+ghost use Rattle.replay_log.specs.WorldSerial.{AreHalfDone, AreUpTo, HasWritten, IsSerial, SawAt, commits_at, gives_back};
+ghost use Rattle.seq_model.specs.Runs.{IsLegal, state_at};
 ghost use Rattle.replay_log.specs.Guards.{IsAllowed, IsAtRest, step_action};
 
 use seq_model::Value;
@@ -89,8 +93,9 @@ pub fn requests<V: Value>()
 /// The records, in commit order, are a run from the opening: no two writers share a number, and every reply of every call, on a
 /// word or on a collection, is that of the sequential call, one whole transaction after another. Where no commit is half done,
 /// words and collections are what the run leaves; a half-done commit is recorded. An open or aborted transaction was replied
-/// what the state replies that the records up to its number leave, now and at every later moment. A transaction begins with a
-/// number that no record before it exceeds, so transactions that don't overlap keep their order.
+/// what the state replies that the records up to its number leave, now and at every later moment, and so was one whose next step
+/// commits, of all its calls. A transaction begins with a number that no record before it exceeds, so transactions that
+/// don't overlap keep their order.
 pub fn serial_worlds<V: Value>()
     ensures serial { (blocks : List Block) (clock : ℕ) (values : List ℕ) (held : List (Held V)) (events : List (Event V)) → HaveStripes blocks → Suit blocks held →
         IsSerial (record { words = values; held = held }) (run (opened blocks clock values held) events) }
@@ -100,6 +105,10 @@ pub fn serial_worlds<V: Value>()
     ensures begins { (blocks : List Block) (clock : ℕ) (values : List ℕ) (held : List (Held V)) (events : List (Event V)) (a rv : ℕ) → HaveStripes blocks → Suit blocks held →
         let w = run (opened blocks clock values held) events in
         (w.seats a).stage ≡ Beginning → (happens w (Step a)).1 ≡ Answered a (Begun rv) → AreUpTo rv w.records }
+    ensures committed { (blocks : List Block) (clock : ℕ) (values : List ℕ) (held : List (Held V)) (events later : List (Event V)) (a : ℕ) → HaveStripes blocks → Suit blocks held →
+        let w = run (opened blocks clock values held) events in
+        let x = w.seats a in
+        commits_at x.stage ≡ true → IsLegal x.calls (state_at x.rv (run w later).records (record { words = values; held = held })) }
 {}
 
 /// What is told of a world at a moment. Where no commit is half done, the words and collections that it shows, each collection put
@@ -118,6 +127,18 @@ pub fn traces<V: Value>()
         ((happens w (Ask a q)).0.records ≡ w.records) × ((happens w (Ask a q)).0.aborted ≡ w.aborted) }
     ensures starved { (w : World V) (a : ℕ) →
         ((happens w (Starve a)).0.records ≡ w.records) × ((happens w (Starve a)).0.aborted ≡ w.aborted) }
+{}
+
+/// Half-done commits and numbers. The half-done commits are told by their numbers, each once and rising; each is the number of a
+/// writer's record, and of an actor that is between its first value store and its last release. A number that a commit took
+/// which is then given up is no writer's, from the step on with which its locks begin to go back: then and at every later moment.
+pub fn numbers<V: Value>()
+    ensures half_done { (blocks : List Block) (clock : ℕ) (values : List ℕ) (held : List (Held V)) (events : List (Event V)) → HaveStripes blocks → Suit blocks held →
+        let w = run (opened blocks clock values held) events in
+        AreHalfDone w (half w) }
+    ensures unused { (blocks : List Block) (clock : ℕ) (values : List ℕ) (held : List (Held V)) (events later : List (Event V)) (a : ℕ) → HaveStripes blocks →
+        let w = run (opened blocks clock values held) events in
+        gives_back (w.seats a).stage ≡ true → HasWritten (actor_of w a).wv (run w later).records → ⊥ }
 {}
 
 /// No guard of the machine refuses what a request does: wherever a request is under way, its next step does an action whose guard
@@ -159,6 +180,20 @@ pub fn refusals<V: Value>()
     ensures told { (w : World V) (a : ℕ) → (w.seats a).stage ≡ Leaving → (happens w (Step a)).1 ≡ why a (w.seats a).cause }
 {}
 
+/// A gate is tried 64 times. Where a request tries a gate, and `n` tries are left after this one, the last steps of its actor before
+/// it, as many as with `n` make 63, all tried this gate, and each found it held by another. So a request that is given up for a busy
+/// gate has tried it 64 times, one step after another, and found it held by another each time.
+pub fn tries<V: Value>()
+    ensures before { (blocks : List Block) (clock : ℕ) (values : List ℕ) (held : List (Held V)) (events : List (Event V)) (a k n : ℕ) → HaveStripes blocks →
+        let start = opened blocks clock values held in
+        tried_at ((run start events).seats a).stage ≡ Some (k, n) → (m : ℕ) × (m + n ≡ 63) × InVain start events a k m }
+    ensures in_all { (blocks : List Block) (clock : ℕ) (values : List ℕ) (held : List (Held V)) (events : List (Event V)) (a k : ℕ) → HaveStripes blocks →
+        let start = opened blocks clock values held in
+        let w = run start events in
+        let x = (happens w (Step a)).0.seats a in
+        is_ending (w.seats a).stage ≡ false → is_ending x.stage ≡ true → x.cause ≡ Some (GateBusy k) → InVain start (events ++ Step a ∷ []) a k 64 }
+{}
+
 /// What a refusal says as it is answered. A request that is refused changes nothing. A step is refused where none is due, as a
 /// transaction begins at the limit of the clock, as a call that was copied for finds no room in the sets (its transaction is as
 /// before the call, with the same pieces copied), and by the last step of a request, which tells the cause that was found; and
@@ -174,6 +209,25 @@ pub fn answers<V: Value>()
         is_half_done ((happens w (Step a)).0.seats a).stage ≡ true }
     ensures starved_late { (w : World V) (a : ℕ) → is_half_done (w.seats a).stage ≡ true → happens w (Starve a) ≡ (w, Quiet) }
     ensures starved_end { (w : World V) (a : ℕ) → is_ending (w.seats a).stage ≡ true → happens w (Starve a) ≡ (w, Quiet) }
+{}
+
+/// When a request is refused as it is asked. While another is under way it is NotIdle, and so is one that begins where a transaction
+/// is open; where none is open and it begins none, it is NoTransaction. A call of what is not there is NoSuch, whatever else would
+/// refuse it, and only then one past the limit of calls is TooLong. None of them changes anything. Only an Abort gives a transaction
+/// up as it is asked.
+pub fn asked<V: Value>()
+    ensures under_way { (w : World V) (a : ℕ) (q : Request V) → (IsAtRest (w.seats a).stage → ⊥) → happens w (Ask a q) ≡ (w, Refused a NotIdle) }
+    ensures open { (w : World V) (a : ℕ) → (w.seats a).stage ≡ Open →
+        (happens w (Ask a Request.Begin) ≡ (w, Refused a NotIdle)) × (happens w (Ask a Request.BeginRead) ≡ (w, Refused a NotIdle)) }
+    ensures idle { (w : World V) (a : ℕ) (q : Request V) → (w.seats a).stage ≡ Idle → q ≢ Request.Begin → q ≢ Request.BeginRead →
+        happens w (Ask a q) ≡ (w, Refused a NoTransaction) }
+    ensures no_such { (w : World V) (a t : ℕ) (op : Op V) → (w.seats a).stage ≡ Open → is_there w a t op ≡ false →
+        happens w (Ask a (Request.Call record { target = t; op = op })) ≡ (w, Refused a NoSuch) }
+    ensures too_long { (w : World V) (a t : ℕ) (op : Op V) → (w.seats a).stage ≡ Open → is_there w a t op ≡ true → CALL_LIMIT ≤ length (w.seats a).calls →
+        happens w (Ask a (Request.Call record { target = t; op = op })) ≡ (w, Refused a TooLong) }
+    ensures given_up { (blocks : List Block) (clock : ℕ) (values : List ℕ) (held : List (Held V)) (events : List (Event V)) (a : ℕ) (q : Request V) → HaveStripes blocks →
+        let w = run (opened blocks clock values held) events in
+        is_ending (w.seats a).stage ≡ false → is_ending ((happens w (Ask a q)).0.seats a).stage ≡ true → q ≡ Request.Abort }
 {}
 
 /// What a refusal leaves. A step stores a value only where a commit does, and changes a base only where a commit takes it home; so a
