@@ -15,7 +15,7 @@ use Rattle.word_machine.specs.World as world
 use Rattle.word_machine.specs.World.{World as Words, plan, put, Outcome}
 use Rattle.word_machine.proofs.Sets.{put-same}
 use Rattle.collection_machine.specs.Content.{Content}
-use Rattle.collection_machine.specs.Boosted.{Boosted, OnWords, TakeGate, PutGate, GoHome, recorded, word_step, writes_asked, on_words, gated, copied, homed, is_none, is_actor, is_open, is_stored, is_committing, is_held, is_given, every, acts}
+use Rattle.collection_machine.specs.Boosted.{Boosted, OnWords, TakeGate, PutGate, GoHome, word_step, writes_asked, on_words, gated, copied, homed, is_none, is_actor, is_open, is_stored, is_committing, is_held, is_given, every, acts}
 use Rattle.collection_machine.proofs.Runs.{recorded_words}
 use Rattle.replay_log.specs.Worlds.{new_in}
 use Rattle.replay_log.proofs.ActionLemmas.{learns, exchanges, does_learns}
