@@ -20,6 +20,11 @@ run-append : (es fs : List Event) (s : World) → run (es ++ fs) s ≡ run fs (r
 run-append [] fs s = refl
 run-append (e ∷ es) fs s = run-append es fs (happens s e)
 
+pub recorded_words : {X Out : Type 0} → (s : Boosted X Out) (os : List Out) (o : Outcome) → (recorded s os o).words ≡ s.words
+recorded_words s os GoesOn = refl
+recorded_words s os (Commits r) = refl
+recorded_words s os (Aborts e) = refl
+
 module _ {X Op Out : Type 0} (c : Content X Op Out) where
   -- some events of the words lead there
   abbrev Runs : World → Boosted X Out → Type 0
@@ -36,11 +41,6 @@ module _ {X Op Out : Type 0} (c : Content X Op Out) where
   ask_runs s a AskAbort = (Ask a AskAbort ∷ [], refl)
   ask_runs s a AskClose = (Ask a AskClose ∷ [], refl)
   ask_runs s a (AskRead l) = (Ask a (AskRead l) ∷ [], refl)
-
-  recorded_words : (s : Boosted X Out) (os : List Out) (o : Outcome) → (recorded s os o).words ≡ s.words
-  recorded_words s os GoesOn = refl
-  recorded_words s os (Commits r) = refl
-  recorded_words s os (Aborts e) = refl
 
   step_is : (s : Boosted X Out) (a : ℕ) (p : Place) → (word_step s a (s.words.actors a) p).words ≡ step s.words a (s.words.actors a) p
   step_is s a p = recorded_words (record s { words = step s.words a (s.words.actors a) p; shadows = shadows_after s a p }) (s.shadows a).outcomes (outcome a (s.words.actors a) p)

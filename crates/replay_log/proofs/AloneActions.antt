@@ -18,6 +18,7 @@ use Rattle.collection_machine.specs.Content.{Content}
 use Rattle.collection_machine.specs.Boosted.{Boosted, Shadow, Action, OnWords, TakeGate, PutGate, Accept, GoHome, recorded, word_step, shadows_after, on_words, gated, homed, fresh, copied, is_copied, longer, writes_asked, accepted, is_none, is_actor, is_open, is_stored, is_committing, is_held, is_given, is_sound, every, may_write, changes, acts}
 use Rattle.collection_machine.proofs.Invariant.{Inv}
 use Rattle.collection_machine.proofs.Quiet.{both, open_is}
+use Rattle.collection_machine.proofs.Runs.{recorded_words}
 use Rattle.replay_log.proofs.ActionLemmas.{learns, exchanges}
 use Rattle.replay_log.proofs.RequestLemmas.{IsOf}
 use Rattle.replay_log.proofs.SetLemmas.{moved_is}
@@ -157,11 +158,6 @@ module _ {X Out : Type 0} where
     pub words : AloneAt s.words a
     pub gates : OnlyOf a s.gates
     pub copied : MakesCalls (s.words.actors a).place → AreNow (s.shadows a) s.editions
-
-  recorded_words : (s : Boosted X Out) (os : List Out) (q : Outcome) → (recorded s os q).words ≡ s.words
-  recorded_words s os world.GoesOn = refl
-  recorded_words s os (world.Commits r) = refl
-  recorded_words s os (world.Aborts e) = refl
 
   recorded_gates : (s : Boosted X Out) (os : List Out) (q : Outcome) → (recorded s os q).gates ≡ s.gates
   recorded_gates s os world.GoesOn = refl

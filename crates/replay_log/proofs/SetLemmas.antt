@@ -15,7 +15,8 @@ use Rattle.word_machine.specs.World as world
 use Rattle.word_machine.specs.World.{World as Words, plan, put, Outcome}
 use Rattle.word_machine.proofs.Sets.{put-same}
 use Rattle.collection_machine.specs.Content.{Content}
-use Rattle.collection_machine.specs.Boosted.{Boosted, OnWords, TakeGate, PutGate, GoHome, recorded, word_step, writes_asked, on_words, gated, copied, homed, is_none, is_actor, is_open, is_stored, is_committing, is_held, is_given, every, acts}
+use Rattle.collection_machine.specs.Boosted.{Boosted, OnWords, TakeGate, PutGate, GoHome, word_step, writes_asked, on_words, gated, copied, homed, is_none, is_actor, is_open, is_stored, is_committing, is_held, is_given, every, acts}
+use Rattle.collection_machine.proofs.Runs.{recorded_words}
 use Rattle.replay_log.specs.Worlds.{new_in}
 use Rattle.replay_log.proofs.ActionLemmas.{learns, exchanges, does_learns}
 use Rattle.replay_log.proofs.ProgressLemmas.{new_fewer}
@@ -222,11 +223,6 @@ noted_actors s (world.Commits r) = refl
 noted_actors s (world.Aborts e) = refl
 
 module _ {X Out : Type 0} where
-  recorded_words : (s : Boosted X Out) (os : List Out) (q : Outcome) → (recorded s os q).words ≡ s.words
-  recorded_words s os world.GoesOn = refl
-  recorded_words s os (world.Commits r) = refl
-  recorded_words s os (world.Aborts e) = refl
-
   -- what a step of the words makes of its actor's record
   pub moved_is : (s : Boosted X Out) (a : ℕ) (x : Actor) (p : Place) → s.words.actors a ≡ x
       → (word_step s a x p).words.actors a ≡ learns s.words x (plan x p)
