@@ -10,5 +10,6 @@ pub mod Homes
 pub mod Commits
 pub mod Schedules
 pub mod Runs
+pub mod States
 pub mod Models
 pub mod Stated

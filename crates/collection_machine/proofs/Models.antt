@@ -4,7 +4,7 @@ use Rattle.std.proofs.lemmas.Bool.{cases_Bool, cond-true, cond-false, lt-leb}
 use Rattle.collection_machine.specs.Content.{Content, Frame}
 use Rattle.collection_machine.specs.Boosted.{Committed, Aborted, changes}
 use Rattle.collection_machine.specs.Serial.{AreLegal, AreRun, AllAborted, words, view, views}
-use Rattle.collection_machine.specs.States.{Model, after_calls, AreReplies, after_all, AreAll, state_at}
+use Rattle.collection_machine.proofs.States.{Model, after_calls, AreReplies, after_all, AreAll, state_at}
 use Rattle.word_machine.specs.Opacity.{AllFrom, IsInOrder}
 use Rattle.collection_machine.proofs.Views.{view_above}
 use Rattle.collection_machine.proofs.Parts.{changes_agree}

@@ -5,7 +5,7 @@ use Rattle.word_machine.specs.Opacity.{IsInOrder, IsNoneHalfDone}
 use Rattle.collection_machine.specs.Content.{Content, Frame}
 use Rattle.collection_machine.specs.Boosted.{Boosted, Action, act_all, opens}
 use Rattle.collection_machine.specs.Serial.{AreLegal, AreRun, AllAborted, words, view, views}
-use Rattle.collection_machine.specs.States.{Model, AreAll, AreReplies, after_all, state_at}
+use Rattle.collection_machine.proofs.States.{Model, AreAll, AreReplies, after_all, state_at}
 use Rattle.collection_machine.proofs.Invariant.{Inv}
 use Rattle.collection_machine.proofs.Quiet.{saw_open}
 use Rattle.collection_machine.proofs.Schedules.{all_ok, all_saw, all-opening, opens_ok, legal_parts, are_run, aborted_legal, at_rest}

@@ -39,7 +39,7 @@ pub record Boosted (X Out : Type 0) : Type 0 where
 pub data Action (Op : Type 0) : Type 0 where
   OnWords : (event : Event) → Action Op
   TakeGate : (a k : ℕ) → Action Op  -- a compare_exchange that succeeds
-  PutGate : (a k : ℕ) → (which : ℕ → Bool) → Action Op  -- the store that puts it back; an open transaction has copied these parts of the base
+  PutGate : (a k : ℕ) → (which : ℕ → Bool) → Action Op  -- the store that puts it back; an open transaction has copied these parts
   Accept : (a : ℕ) → (op : Op) → Action Op  -- no step: what the call reads has been read
   GoHome : (a k : ℕ) → Action Op  -- the store that puts the gate back, with the changes replayed
 
@@ -88,6 +88,10 @@ insert_commit c (x ∷ xs) = if comes_before c.word x.word then c ∷ (x ∷ xs)
 abbrev pub on_words : {X Out : Type 0} → Boosted X Out → World → Boosted X Out
 on_words s t = record s { words = t }
 
+-- and those after a request
+abbrev pub requested : {X Out : Type 0} → Boosted X Out → ℕ → Request → Boosted X Out
+requested s a request = on_words s (now s.words a (ask (s.words.actors a) (s.words.actors a).place request))
+
 -- a transaction that has begun has copied nothing
 abbrev pub fresh : {X Out : Type 0} → Boosted X Out → Shadow X Out
 fresh s = record { copied = λ l. false; parts = s.opening; editions = s.first; outcomes = [] }
@@ -131,10 +135,10 @@ module _ {X Op Out : Type 0} (c : Content X Op Out) where
   -- A request to the words. An edition is written by Accept alone. The gates of all written collections are held before the
   -- first value store, and none of them any more at the releases.
   abbrev pub on_ask : Boosted X Out → ℕ → Request → Boosted X Out
-  on_ask s a (AskWrite l v) = if c.plain l then on_words s (now s.words a (ask (s.words.actors a) (s.words.actors a).place (AskWrite l v))) else s
-  on_ask s a AskStore = if every (is_held s a) (locations (s.words.actors a).writes) then on_words s (now s.words a (ask (s.words.actors a) (s.words.actors a).place AskStore)) else s
-  on_ask s a AskRelease = if every (is_given s a) (locations (s.words.actors a).writes) then on_words s (now s.words a (ask (s.words.actors a) (s.words.actors a).place AskRelease)) else s
-  on_ask s a request = on_words s (now s.words a (ask (s.words.actors a) (s.words.actors a).place request))
+  on_ask s a (AskWrite l v) = if c.plain l then requested s a (AskWrite l v) else s
+  on_ask s a AskStore = if every (is_held s a) (locations (s.words.actors a).writes) then requested s a AskStore else s
+  on_ask s a AskRelease = if every (is_given s a) (locations (s.words.actors a).writes) then requested s a AskRelease else s
+  on_ask s a request = requested s a request
 
   abbrev pub on_event : Boosted X Out → Event → Boosted X Out
   on_event s (Ask a request) = on_ask s a request
@@ -142,7 +146,8 @@ module _ {X Op Out : Type 0} (c : Content X Op Out) where
 
   -- not while it commits: with a gate taken again its changes would be replayed twice
   abbrev pub take_gate : Boosted X Out → ℕ → ℕ → Boosted X Out
-  take_gate s a k = if is_none (s.gates k) && not (is_committing (s.words.actors a).place) then gated s (put s.gates k (Some a)) s.shadows else s
+  take_gate s a k =
+      if is_none (s.gates k) && not (is_committing (s.words.actors a).place) then gated s (put s.gates k (Some a)) s.shadows else s
 
   -- the locations that a copy of k takes: what has been read stays as it was copied
   abbrev pub is_copied : List Call → ℕ → (ℕ → Bool) → ℕ → Bool
@@ -156,10 +161,14 @@ module _ {X Op Out : Type 0} (c : Content X Op Out) where
         editions = λ l. if is_copied calls k which l then s.editions l else w.editions l;
       }
 
+  abbrev pub shadows_copied : Boosted X Out → ℕ → ℕ → (ℕ → Bool) → ℕ → Shadow X Out
+  shadows_copied s a k which =
+      if is_open (s.words.actors a).place then put s.shadows a (copied s (s.words.actors a).calls (s.shadows a) k which) else s.shadows
+
   abbrev pub put_gate : Boosted X Out → ℕ → ℕ → (ℕ → Bool) → Boosted X Out
   put_gate s a k which =
       if is_actor a (s.gates k) && not (is_committing (s.words.actors a).place)
-      then gated s (put s.gates k None) (if is_open (s.words.actors a).place then put s.shadows a (copied s (s.words.actors a).calls (s.shadows a) k which) else s.shadows)
+      then gated s (put s.gates k None) (shadows_copied s a k which)
       else s
 
   -- one change after another
@@ -174,8 +183,15 @@ module _ {X Op Out : Type 0} (c : Content X Op Out) where
   abbrev pub accepted : Boosted X Out → ℕ → Out → Boosted X Out
   accepted s a o =
       if is_open (s.words.actors a).place && (may_write (s.words.actors a).declared (c.writes o) && every (is_sound s a) (c.reads o))
-      then record s { words = run (writes_asked a (s.shadows a).editions (c.writes o)) s.words; shadows = put s.shadows a (longer (s.shadows a) o) }
+      then record s {
+        words = run (writes_asked a (s.shadows a).editions (c.writes o)) s.words;
+        shadows = put s.shadows a (longer (s.shadows a) o);
+      }
       else s
+
+  -- the edition of a location after the commit of a
+  abbrev pub raised_by : Boosted X Out → ℕ → ℕ → ℕ
+  raised_by s a l = if is_none (lookup (s.words.actors a).writes l) then s.editions l else s.editions l + 1
 
   -- the base of k with the changes of a transaction, each written edition raised by one, and the gate put back
   abbrev pub homed : Boosted X Out → ℕ → ℕ → Boosted X Out
@@ -183,7 +199,7 @@ module _ {X Op Out : Type 0} (c : Content X Op Out) where
       record s {
         gates = put s.gates k None;
         parts = λ l. if c.home l == k then changes (s.shadows a).outcomes s.parts l else s.parts l;
-        editions = λ l. if c.home l == k then (if is_none (lookup (s.words.actors a).writes l) then s.editions l else s.editions l + 1) else s.editions l;
+        editions = λ l. if c.home l == k then raised_by s a l else s.editions l;
       }
 
   abbrev pub go_home : Boosted X Out → ℕ → ℕ → Boosted X Out

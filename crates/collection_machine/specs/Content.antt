@@ -25,7 +25,8 @@ pub record Frame {X Op Out : Type 0} (c : Content X Op Out) : Type 0 where
   pub legal : (v w : ℕ → X) (op : Op) → ((l : ℕ) → IsIn l (c.reads (c.outcome v op)) → v l ≡ w l) → c.outcome w op ≡ c.outcome v op
   -- its changes alter the parts that it writes, by those parts alone
   pub only : (o : Out) (v : ℕ → X) (l : ℕ) → (IsIn l (c.writes o) → ⊥) → c.change o v l ≡ v l
-  pub local : (o : Out) (v w : ℕ → X) → ((i : ℕ) → IsIn i (c.writes o) → v i ≡ w i) → (l : ℕ) → IsIn l (c.writes o) → c.change o v l ≡ c.change o w l
+  pub local : (o : Out) (v w : ℕ → X) → ((i : ℕ) → IsIn i (c.writes o) → v i ≡ w i) → (l : ℕ) → IsIn l (c.writes o)
+      → c.change o v l ≡ c.change o w l
   -- what is written is read
   pub read : (o : Out) (l : ℕ) → IsIn l (c.writes o) → IsIn l (c.reads o)
   -- it writes in one collection, and reads no word

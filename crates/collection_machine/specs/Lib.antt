@@ -1,5 +1,4 @@
 pub mod Content
 pub mod Boosted
 pub mod Serial
-pub mod States
 pub mod Vectors

@@ -74,7 +74,15 @@ abbrev ends : List (Aborted Out) → List (ℕ × List Out)
 ends [] = []
 ends (r ∷ rs) = (r.word.actor, r.outcomes) ∷ ends rs
 
-abbrev shown : List (Action Op) → record { history : List (ℕ × List Out); aborted : List (ℕ × List Out); word : ℕ; part : ℕ; edition : ℕ; value : ℕ; gate : Option ℕ }
+abbrev shown : List (Action Op) → record {
+  history : List (ℕ × List Out);
+  aborted : List (ℕ × List Out);
+  word : ℕ;
+  part : ℕ;
+  edition : ℕ;
+  value : ℕ;
+  gate : Option ℕ;
+}
 shown es =
     let s = after_actions numbers 0 (λ l. 0) (λ l. 0) es in
     record {
@@ -89,8 +97,17 @@ shown es =
 
 -- one commits a word and a call, another then reads what it left
 one_after_another :
-    shown (begin 1 ++ copy 1 ++ answer 1 (Add 0 5) ++ asks 1 (AskWrite 0 7) ++ prepare 1 2 ++ finish 1 2 ++ begin 2 ++ copy 2 ++ answer 2 (Get 0) ++ asks 2 AskClose ++ steps 2 1)
-    ≡ record { history = (1, (Add 0 5, 0) ∷ []) ∷ (1, (Get 0, 5) ∷ []) ∷ []; aborted = []; word = 7; part = 5; edition = 1; value = 1; gate = None }
+    shown (begin 1 ++ copy 1 ++ answer 1 (Add 0 5) ++ asks 1 (AskWrite 0 7) ++ prepare 1 2 ++ finish 1 2 ++ begin 2 ++ copy 2
+    ++ answer 2 (Get 0) ++ asks 2 AskClose ++ steps 2 1)
+    ≡ record {
+      history = (1, (Add 0 5, 0) ∷ []) ∷ (1, (Get 0, 5) ∷ []) ∷ [];
+      aborted = [];
+      word = 7;
+      part = 5;
+      edition = 1;
+      value = 1;
+      gate = None;
+    }
 unfolding lookup put with_entry locations comes_before insert insert_commit
 one_after_another = refl
 
@@ -103,7 +120,8 @@ half_done = refl
 
 -- a copy from before a commit and a load from after it: the editions differ, and the call is not accepted
 stale :
-    shown (begin 1 ++ copy 1 ++ answer 1 (Add 0 5) ++ lock 1 1 ++ begin 2 ++ copy 2 ++ TakeGate 1 0 ∷ finish 1 1 ++ answer 2 (Get 0) ++ asks 2 AskAbort ++ steps 2 1)
+    shown (begin 1 ++ copy 1 ++ answer 1 (Add 0 5) ++ lock 1 1 ++ begin 2 ++ copy 2 ++ TakeGate 1 0 ∷ finish 1 1 ++ answer 2 (Get 0)
+    ++ asks 2 AskAbort ++ steps 2 1)
     ≡ record { history = (1, (Add 0 5, 0) ∷ []) ∷ []; aborted = (2, []) ∷ []; word = 0; part = 5; edition = 1; value = 1; gate = None }
 unfolding lookup put with_entry locations comes_before insert insert_commit
 stale = refl
@@ -117,7 +135,8 @@ gate_held = refl
 
 -- a commit given up before its first value store leaves words and bases as they were
 given_up :
-    shown (begin 1 ++ copy 1 ++ answer 1 (Add 0 5) ++ asks 1 (AskWrite 0 7) ++ prepare 1 2 ++ PutGate 1 0 (λ l. false) ∷ asks 1 AskCancel ++ steps 1 2 ++ asks 1 AskAbort ++ steps 1 1)
+    shown (begin 1 ++ copy 1 ++ answer 1 (Add 0 5) ++ asks 1 (AskWrite 0 7) ++ prepare 1 2
+    ++ PutGate 1 0 (λ l. false) ∷ asks 1 AskCancel ++ steps 1 2 ++ asks 1 AskAbort ++ steps 1 1)
     ≡ record { history = []; aborted = (1, (Add 0 5, 0) ∷ []) ∷ []; word = 0; part = 0; edition = 0; value = 0; gate = None }
 unfolding lookup put with_entry locations comes_before insert insert_commit
 given_up = refl
@@ -125,13 +144,22 @@ given_up = refl
 -- a call is answered after the transaction's own calls, whose locations are not read anew
 own_calls :
     shown (begin 1 ++ copy 1 ++ answer 1 (Add 0 5) ++ Accept 1 (Add 0 2) ∷ Accept 1 (Get 0) ∷ prepare 1 1 ++ finish 1 1)
-    ≡ record { history = (1, (Add 0 5, 0) ∷ (Add 0 2, 5) ∷ (Get 0, 7) ∷ []) ∷ []; aborted = []; word = 0; part = 7; edition = 1; value = 1; gate = None }
+    ≡ record {
+      history = (1, (Add 0 5, 0) ∷ (Add 0 2, 5) ∷ (Get 0, 7) ∷ []) ∷ [];
+      aborted = [];
+      word = 0;
+      part = 7;
+      edition = 1;
+      value = 1;
+      gate = None;
+    }
 unfolding lookup put with_entry locations comes_before insert insert_commit
 own_calls = refl
 
 -- no value is stored before the gate is held, no lock released before the base is home, and the changes are made once
 guards :
-    shown (begin 1 ++ copy 1 ++ answer 1 (Add 0 5) ++ lock 1 1 ++ asks 1 AskStore ++ steps 1 1 ++ TakeGate 1 0 ∷ asks 1 AskStore ++ steps 1 1
+    shown (begin 1 ++ copy 1 ++ answer 1 (Add 0 5) ++ lock 1 1 ++ asks 1 AskStore ++ steps 1 1 ++ TakeGate 1 0 ∷ asks 1 AskStore
+    ++ steps 1 1
     ++ asks 1 AskRelease ++ steps 1 1 ++ GoHome 1 0 ∷ TakeGate 1 0 ∷ GoHome 1 0 ∷ asks 1 AskRelease ++ steps 1 1)
     ≡ record { history = (1, (Add 0 5, 0) ∷ []) ∷ []; aborted = []; word = 0; part = 5; edition = 1; value = 1; gate = None }
 unfolding lookup put with_entry locations comes_before insert insert_commit
@@ -139,8 +167,17 @@ guards = refl
 
 -- each transaction begins with no calls of the one before
 begins_anew :
-    shown (begin 1 ++ copy 1 ++ answer 1 (Add 0 5) ++ asks 1 AskAbort ++ steps 1 1 ++ begin 1 ++ copy 1 ++ answer 1 (Get 0) ++ asks 1 AskClose ++ steps 1 1)
-    ≡ record { history = (0, (Get 0, 0) ∷ []) ∷ []; aborted = (1, (Add 0 5, 0) ∷ []) ∷ []; word = 0; part = 0; edition = 0; value = 0; gate = None }
+    shown (begin 1 ++ copy 1 ++ answer 1 (Add 0 5) ++ asks 1 AskAbort ++ steps 1 1 ++ begin 1 ++ copy 1 ++ answer 1 (Get 0)
+    ++ asks 1 AskClose ++ steps 1 1)
+    ≡ record {
+      history = (0, (Get 0, 0) ∷ []) ∷ [];
+      aborted = (1, (Add 0 5, 0) ∷ []) ∷ [];
+      word = 0;
+      part = 0;
+      edition = 0;
+      value = 0;
+      gate = None;
+    }
 unfolding lookup put with_entry locations comes_before insert insert_commit
 begins_anew = refl
 
@@ -156,7 +193,16 @@ declared = refl
 
 -- once another has committed there, it is moved
 declared_moved :
-    shown (begin_read 1 ++ copy 1 ++ answer 1 (Get 0) ++ begin 2 ++ copy 2 ++ answer 2 (Add 0 5) ++ prepare 2 1 ++ finish 2 1 ++ answer 1 (Get 0) ++ asks 1 AskAbort ++ steps 1 1)
-    ≡ record { history = (1, (Add 0 5, 0) ∷ []) ∷ []; aborted = (1, (Get 0, 0) ∷ []) ∷ []; word = 0; part = 5; edition = 1; value = 1; gate = None }
+    shown (begin_read 1 ++ copy 1 ++ answer 1 (Get 0) ++ begin 2 ++ copy 2 ++ answer 2 (Add 0 5) ++ prepare 2 1 ++ finish 2 1
+    ++ answer 1 (Get 0) ++ asks 1 AskAbort ++ steps 1 1)
+    ≡ record {
+      history = (1, (Add 0 5, 0) ∷ []) ∷ [];
+      aborted = (1, (Get 0, 0) ∷ []) ∷ [];
+      word = 0;
+      part = 5;
+      edition = 1;
+      value = 1;
+      gate = None;
+    }
 unfolding lookup put with_entry locations comes_before insert insert_commit
 declared_moved = refl

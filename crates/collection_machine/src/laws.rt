@@ -19,7 +19,6 @@ ghost use Rattle.collection_machine.specs.Serial.{
   views,
   words,
 };
-ghost use Rattle.collection_machine.specs.States.{Model, AreAll, AreReplies, after_all, state_at};
 
 /// Opacity, for every content that keeps the frame laws, every opening and every list of actions of any number of actors.
 ///
@@ -73,23 +72,4 @@ pub fn opacity<X, Op, Out>()
     ensures records { (c : Content X Op Out) → Frame c → (clock : ℕ) (memory : Memory) (parts : ℕ → X) (actions : List (Action Op)) →
         let s = after_actions c clock memory parts actions in
         (words s.history ≡ s.words.history) × (ended s.aborted ≡ s.words.aborted) }
-{}
-
-/// The same of states, where the parts of the collections show a state at the opening.
-///
-/// The committed transactions are a run of the sequential collections, and where no commit is half done the bases show what it
-/// leaves. Each other transaction got the replies of the state that the commits up to its number leave.
-pub fn states<X, Op, Out, S, R>()
-    ensures serial { (c : Content X Op Out) → Frame c → (m : Model c S R) (clock : ℕ) (memory : Memory) (opening : S) (actions : List (Action Op)) →
-        AreAll c m opening (after_actions c clock memory (m.shown opening) actions).history }
-    ensures left { (c : Content X Op Out) → Frame c → (m : Model c S R) (clock : ℕ) (memory : Memory) (opening : S) (actions : List (Action Op)) →
-        let s = after_actions c clock memory (m.shown opening) actions in
-        IsNoneHalfDone s.words → (l : ℕ) → c.plain l ≡ false → s.parts l ≡ m.shown (after_all c m opening s.history) l }
-    ensures saw { (c : Content X Op Out) → Frame c → (m : Model c S R) (clock : ℕ) (memory : Memory) (opening : S) (actions later : List (Action Op)) (a : ℕ) →
-        let s = after_actions c clock memory (m.shown opening) actions in
-        let t = act_all c later s in
-        AreReplies c m (state_at c m t.history (s.words.actors a).rv opening) (s.shadows a).outcomes }
-    ensures aborted { (c : Content X Op Out) → Frame c → (m : Model c S R) (clock : ℕ) (memory : Memory) (opening : S) (actions : List (Action Op)) →
-        let s = after_actions c clock memory (m.shown opening) actions in
-        AllAborted (λ e. AreReplies c m (state_at c m s.history e.word.rv opening) e.outcomes) s.aborted }
 {}

@@ -3,6 +3,7 @@ pub mod Lookups
 pub mod BaseView
 pub mod Refusals
 pub mod Footprints
+pub mod FootprintVectors
 pub mod Rules
 pub mod Commute
 pub mod Places

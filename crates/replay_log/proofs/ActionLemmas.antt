@@ -69,7 +69,7 @@ exchanged_learns s a l k won lost (Free j) =
     ]
 exchanged_learns s a l k won lost (Locked j) = put-same s.actors a lost
 
-does_learns : (s : World) (a : ℕ) (d : Deed) → (does s a d).actors a ≡ learns s (s.actors a) d
+pub does_learns : (s : World) (a : ℕ) (d : Deed) → (does s a d).actors a ≡ learns s (s.actors a) d
 does_learns s a world.Rests = refl
 does_learns s a (world.LoadClock f) = put-same s.actors a (f s.clock)
 does_learns s a (world.AddToClock f) = put-same s.actors a (f s.clock)

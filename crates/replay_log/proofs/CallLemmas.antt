@@ -176,7 +176,7 @@ module _ {V : Type 0} where
       let z = in_shifted f l (reads_of b.stripes r (blank b)) m in
       ap (covers b.stripes f (piece_of b.kind op)) z.1 ∙ covered b.stripes f b.kind (λ i. v (f + i)) (λ i. OfMap empty) op r z.0 e z.2
 
-  known_some : (b : Option Block) (f : ℕ) (v : ℕ → Shown V) (op : Op V) → is_known b op ≡ true → (r : Outcome V) × (answer b f v op ≡ Some r)
+  pub known_some : (b : Option Block) (f : ℕ) (v : ℕ → Shown V) (op : Op V) → is_known b op ≡ true → (r : Outcome V) × (answer b f v op ≡ Some r)
   known_some None f v op h = absurd (true≢false (sym h))
   known_some (Some b) f v op h = by (outcome_of op (seen b f v)) refl
     where
@@ -520,7 +520,7 @@ module _ {V : Type 0} where
           λ none. cond-true b (w.boosted.editions l) (z.editions l) (new none),
         )
 
-  put_editions : (w : World V) (a k : ℕ) (which : ℕ → Bool) → (acted w (PutGate a k which ∷ [])).boosted.editions ≡ w.boosted.editions
+  pub put_editions : (w : World V) (a k : ℕ) (which : ℕ → Bool) → (acted w (PutGate a k which ∷ [])).boosted.editions ≡ w.boosted.editions
   put_editions w a k which =
       let c = content w.words w.blocks in
       let s = w.boosted in

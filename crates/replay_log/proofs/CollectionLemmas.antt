@@ -11,12 +11,13 @@ use Rattle.seq_model.specs.Calls.{held_call, IsWithinLimits}
 use Rattle.conflict.specs.declared.change.Change.{Change}
 use Rattle.conflict.specs.declared.outcome.Outcome.{Outcome}
 use Rattle.collection_machine.specs.Content.{IsIn, has}
-use Rattle.collection_machine.specs.States.{Model}
+use Rattle.collection_machine.proofs.States.{Model}
 use Rattle.collection_machine.proofs.Parts.{is_in, in_has, out_has}
 use Rattle.replay_log.specs.Base.{Shown, OfMap, after, changes_of, outcome_of, writes_of}
 use Rattle.replay_log.specs.Parts.{Kind, MapKind, BagKind, PqKind, QueueKind, kind_of, part, whole}
 use Rattle.replay_log.specs.Contents.{Block, size, block_of, first_of, HaveStripes, shifted, blank, seen, answer, changed, content}
-use Rattle.replay_log.specs.Collections.{kind_of_held, viewed, Suit, shown_from, shown_at, reply_at, called, after_call}
+use Rattle.replay_log.specs.Collections.{kind_of_held, viewed, Suit, shown_from, shown_at}
+use Rattle.replay_log.proofs.CollectionRuns.{reply_at, called, after_call}
 use Rattle.replay_log.proofs.PartLemmas.{is_whole, leaves_other_parts, whole_local}
 use Rattle.replay_log.proofs.ContentLemmas.{shifted_in, written_at, first_above, same_block, no_block, positive_at}
 use Rattle.replay_log.proofs.HeldLemmas.{Keeps, follows, unknown, keeps}
@@ -32,14 +33,14 @@ pub record Found {V : Type 0} (w : ℕ) (bs : List Block) (hs : List (Held V)) (
   pub later : (op : Op V) (i : ℕ) → i < size b → shown_from w bs (after_call hs k op) (first_of w bs k + i) ≡ part b.stripes i (viewed (called (held_call op held) held))
 
 module _ {V : Type 0} where
-  here : (w : ℕ) (b c : Block) (bs : List Block) (h : Held V) (hs : List (Held V)) (i : ℕ) → b ≡ c → i < size c → shown_from w (b ∷ bs) (h ∷ hs) (w + i) ≡ part c.stripes i (viewed h)
+  pub here : (w : ℕ) (b c : Block) (bs : List Block) (h : Held V) (hs : List (Held V)) (i : ℕ) → b ≡ c → i < size c → shown_from w (b ∷ bs) (h ∷ hs) (w + i) ≡ part c.stripes i (viewed h)
   here w b c bs h hs i e lt =
       let inside : w + i < w + size b = (let s = ap size e in omega (arith, s, lt)) in
       let at : (w + i) - w ≡ i = omega arith in
       cond-true (ltb (w + i) (w + size b)) (part b.stripes ((w + i) - w) (viewed h)) (shown_from (w + size b) bs hs (w + i)) (lt-ltb (w + i) (w + size b) inside)
       ∙ ap (λ j. part b.stripes j (viewed h)) at ∙ ap (λ (x : Block). part x.stripes i (viewed h)) e
 
-  beyond : (w : ℕ) (b : Block) (bs : List Block) (h : Held V) (hs : List (Held V)) (l : ℕ) → w + size b ≤ l → shown_from w (b ∷ bs) (h ∷ hs) l ≡ shown_from (w + size b) bs hs l
+  pub beyond : (w : ℕ) (b : Block) (bs : List Block) (h : Held V) (hs : List (Held V)) (l : ℕ) → w + size b ≤ l → shown_from w (b ∷ bs) (h ∷ hs) l ≡ shown_from (w + size b) bs hs l
   beyond w b bs h hs l le = cond-false (ltb l (w + size b)) (part b.stripes (l - w) (viewed h)) (shown_from (w + size b) bs hs l) (le-ltb l (w + size b) le)
 
   pub found : (w : ℕ) (bs : List Block) (hs : List (Held V)) (k : ℕ) (b : Block) → Suit bs hs → block_of bs k ≡ Some b → Found w bs hs k b
@@ -106,7 +107,7 @@ module _ {V : Type 0} where
   suit_after (b ∷ bs) (h ∷ hs) (suc k) op s = (s.0, s.1, suit_after bs hs k op s.2)
 
   -- a view of a block that shows the parts of its collection is the collection's view
-  kind_viewed : (h : Held V) (k : Kind) → kind_of_held h ≡ k → kind_of (viewed h) ≡ k
+  pub kind_viewed : (h : Held V) (k : Kind) → kind_of_held h ≡ k → kind_of (viewed h) ≡ k
   kind_viewed (Map m) k e = e
   kind_viewed (Bag m) k e = e
   kind_viewed (Pq m) k e = e
@@ -124,7 +125,7 @@ module _ {V : Type 0} where
   writes_by_kind n PqKind o v w = refl
   writes_by_kind n QueueKind o v w = refl
 
-  behind : (w : ℕ) (bs : List Block) (hs : List (Held V)) (l : ℕ) → w ≤ l → shown_at w bs hs l ≡ shown_from w bs hs l
+  pub behind : (w : ℕ) (bs : List Block) (hs : List (Held V)) (l : ℕ) → w ≤ l → shown_at w bs hs l ≡ shown_from w bs hs l
   behind w bs hs l le = cond-false (ltb l w) (OfMap empty) (shown_from w bs hs l) (le-ltb l w le)
 
   before : (w : ℕ) (bs : List Block) (hs : List (Held V)) (l : ℕ) → l < w → shown_at w bs hs l ≡ OfMap empty

@@ -35,7 +35,7 @@ first_above w [] k = omega arith
 first_above w (b ∷ bs) zero = omega arith
 first_above w (b ∷ bs) (suc k) = let z = first_above (w + size b) bs k in omega (arith, z)
 
-end_above : (w : ℕ) (bs : List Block) → w ≤ end_of w bs
+pub end_above : (w : ℕ) (bs : List Block) → w ≤ end_of w bs
 end_above w [] = omega arith
 end_above w (b ∷ bs) = let z = end_above (w + size b) bs in omega (arith, z)
 

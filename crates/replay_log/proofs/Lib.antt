@@ -4,6 +4,7 @@ pub mod JoinLemmas
 pub mod PartLemmas
 pub mod ReadLemmas
 pub mod ContentLemmas
+pub mod CollectionRuns
 pub mod HeldLemmas
 pub mod CollectionLemmas
 pub mod WorldLemmas
@@ -15,9 +16,18 @@ pub mod PlaceLemmas
 pub mod StageLemmas
 pub mod CallLemmas
 pub mod EventLemmas
+pub mod TraceLemmas
 pub mod SerialLemmas
 pub mod GuardLemmas
 pub mod ProgressLemmas
 pub mod RefusalLemmas
 pub mod MemoLemmas
 pub mod DeclaredLemmas
+pub mod SetLemmas
+pub mod SizeLemmas
+pub mod DueLemmas
+pub mod StillLemmas
+pub mod AloneActions
+pub mod AloneLemmas
+pub mod AnswerLemmas
+pub mod EndingLemmas

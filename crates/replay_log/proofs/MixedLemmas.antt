@@ -28,8 +28,8 @@ use Rattle.word_machine.proofs.Sets.{put-same, put-other}
 use Rattle.collection_machine.specs.Boosted.{Committed, insert_commit}
 use Rattle.collection_machine.specs.Serial.{words}
 use Rattle.replay_log.specs.Contents.{Answered}
-use Rattle.replay_log.specs.Collections as collections
-use Rattle.replay_log.specs.Collections.{reply_at, called, AreReplies, IsRunOn, held_at}
+use Rattle.replay_log.proofs.CollectionRuns as collections
+use Rattle.replay_log.proofs.CollectionRuns.{reply_at, called, AreReplies, IsRunOn, held_at}
 use Rattle.replay_log.specs.WorldSerial.{HasWritten}
 use Rattle.replay_log.specs.Worlds as worlds
 

@@ -146,7 +146,7 @@ lock_nears s y (machine.Check (l ∷ ls)) h = check_nears y l ls (s.locks l) (lo
 lock_nears s y p h = absurd h
 
 -- ---- lengths
-new_fewer : (es : Entries) (l v : ℕ) (ls : List ℕ) → length (new_in (with_entry es l v) ls) ≤ length (new_in es ls)
+pub new_fewer : (es : Entries) (l v : ℕ) (ls : List ℕ) → length (new_in (with_entry es l v) ls) ≤ length (new_in es ls)
 new_fewer es l v [] = omega arith
 new_fewer es l v (k ∷ ls) =
     let rest = new_fewer es l v ls in
@@ -166,7 +166,7 @@ new_fewer es l v (k ∷ ls) =
           ])
     ]
 
-read_fewer : (declared : Bool) (es : Entries) (l v : ℕ) (ls : List ℕ) → length (new_in (machine.with_read declared es l v) ls) ≤ length (new_in es ls)
+pub read_fewer : (declared : Bool) (es : Entries) (l v : ℕ) (ls : List ℕ) → length (new_in (machine.with_read declared es l v) ls) ≤ length (new_in es ls)
 read_fewer true es l v ls = omega arith
 read_fewer false es l v ls = new_fewer es l v ls
 
@@ -198,12 +198,12 @@ homes_few f test es =
     let c = filter_shorter test (locations es) in
     let d = length-locations es in omega (arith, a, b, c, d)
 
-locations_of : (f : ℕ → ℕ) (ls : List ℕ) → locations (with_editions f ls) ≡ ls
+pub locations_of : (f : ℕ → ℕ) (ls : List ℕ) → locations (with_editions f ls) ≡ ls
 unfolding locations
 locations_of f [] = refl
 locations_of f (l ∷ ls) = ap (λ ks. l ∷ ks) (locations_of f ls)
 
-locations-cons : (d : ℕ × ℕ) (es : Entries) → locations (d ∷ es) ≡ d.0 ∷ locations es
+pub locations-cons : (d : ℕ × ℕ) (es : Entries) → locations (d ∷ es) ≡ d.0 ∷ locations es
 unfolding locations
 locations-cons d es = refl
 
@@ -302,7 +302,7 @@ reading_held s y l (machine.Fetch k j) h pl = pl.0.0
 reading_held s y l (machine.Again k j v) h pl = pl.0.0
 reading_held s y l p h pl = absurd h
 
-why_answers : (V : Type 0) (a : ℕ) (cause : Option Refusal) → IsQuiet {V = V} (why a cause) → ⊥
+pub why_answers : (V : Type 0) (a : ℕ) (cause : Option Refusal) → IsQuiet {V = V} (why a cause) → ⊥
 why_answers V a None q = q
 why_answers V a (Some c) q = q
 

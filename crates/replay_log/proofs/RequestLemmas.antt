@@ -50,9 +50,14 @@ abbrev pub AllOf : {Op : Type 0} → ℕ → List (Action Op) → Type 0
 AllOf a [] = Unit {0}
 AllOf a (e ∷ es) = IsOf a e × AllOf a es
 
+all_of-append : {Op : Type 0} → (a : ℕ) (es fs : List (Action Op)) → AllOf a es → AllOf a fs → AllOf a (es ++ fs)
+all_of-append a [] fs g h = h
+all_of-append a (e ∷ es) fs g h = (g.0, all_of-append a es fs g.1 h)
+
 -- By actions of a, which leave the other actors and their seats.
 pub record ReachedBy {V : Type 0} (a : ℕ) (v u : World V) : Type 0 where
   pub reached : Reached v u
+  pub own : AllOf a reached.actions
   pub seats : (b : ℕ) → (b ≡ a → ⊥) → u.seats b ≡ v.seats b
   pub actors : (b : ℕ) → (b ≡ a → ⊥) → u.boosted.words.actors b ≡ v.boosted.words.actors b
 
@@ -138,7 +143,7 @@ act_all-append w bs (e ∷ es) fs s = act_all-append w bs es fs (acts (content w
 
 module _ {V : Type 0} where
   nothing : (a : ℕ) (v : World V) → ReachedBy a v v
-  nothing a v = record { reached = record { words = refl; blocks = refl; actions = []; is = refl }; seats = λ b ne. refl; actors = λ b ne. refl }
+  nothing a v = record { reached = record { words = refl; blocks = refl; actions = []; is = refl }; own = tt; seats = λ b ne. refl; actors = λ b ne. refl }
 
   by : (a : ℕ) (v u : World V) (es : List (Action (Asked V))) → AllOf a es → ReachedBy a v u → ReachedBy a v (acted u es)
   by a v u es own r =
@@ -151,6 +156,7 @@ module _ {V : Type 0} where
               ap (λ w. act_all (content w u.blocks) es u.boosted) g.words ∙ ap (λ bs. act_all (content v.words bs) es u.boosted) g.blocks
               ∙ ap (act_all (content v.words v.blocks) es) g.is ∙ sym (act_all-append v.words v.blocks g.actions es v.boosted);
         };
+        own = all_of-append a g.actions es r.own own;
         seats = r.seats;
         actors = λ b ne. all_other (content u.words u.blocks) a b ne es u.boosted own ∙ r.actors b ne;
       }
@@ -161,6 +167,7 @@ module _ {V : Type 0} where
   same a v u t e1 e2 e3 e4 r =
       let g = r.reached in record {
         reached = record { words = e1 ∙ g.words; blocks = e2 ∙ g.blocks; actions = g.actions; is = e3 ∙ g.is };
+        own = r.own;
         seats = λ b ne. e4 b ne ∙ r.seats b ne;
         actors = λ b ne. ap (λ (s : Boosted (Shown V) (Answered V)). s.words.actors b) e3 ∙ r.actors b ne;
       }

@@ -29,8 +29,9 @@ use Rattle.collection_machine.proofs.Invariant.{Inv}
 use Rattle.collection_machine.proofs.Schedules.{edition_few, all_ok, all-opening, all_words_saw, opens_ok}
 use Rattle.replay_log.specs.Base.{Shown}
 use Rattle.replay_log.specs.Contents.{Block, Asked, Answered, HaveStripes, is_plain, content}
-use Rattle.replay_log.specs.Collections as collections
-use Rattle.replay_log.specs.Collections.{Suit, AreReplies, IsRunOn, held_at, shown_at}
+use Rattle.replay_log.proofs.CollectionRuns as collections
+use Rattle.replay_log.specs.Collections.{Suit, shown_at}
+use Rattle.replay_log.proofs.CollectionRuns.{AreReplies, IsRunOn, held_at}
 use Rattle.replay_log.specs.Worlds.{is_half_done, World, Seat, Stage, Idle, Beginning, Open, Locking, Releasing, Closing, Cancelling, Leaving, Reading, Trying, Copying, Loading, Gating, Ready, Storing, Homing, Returning, Ended, run, opened}
 use Rattle.std.proofs.Common.{◌≤◌, cond, Bool}
 use Rattle.std.specs.Prelude.{nat_lt}
@@ -43,6 +44,8 @@ use Rattle.replay_log.specs.Worlds.{acted, moves, has_begun, step_at, happens}
 use Rattle.replay_log.proofs.ActionLemmas.{mine}
 use Rattle.replay_log.proofs.SeatLemmas.{at_of}
 use Rattle.replay_log.proofs.StageLemmas.{tells}
+use Rattle.replay_log.specs.WorldTraces.{state}
+use Rattle.replay_log.proofs.TraceLemmas.{shows_state}
 use Rattle.replay_log.specs.WorldSerial.{AreUpTo, Holds, SawAt, AllSaw, HasWritten, IsSerial}
 use Rattle.replay_log.proofs.ContentLemmas.{content_frame}
 use Rattle.std.proofs.lemmas.Bool.Decides.{nat_tests}
@@ -343,6 +346,10 @@ module _ {V : Type 0} where
               ∙ ap (λ (gs : List (Held V)). shown_at n bs gs l) (sym g.held) ∙ ap (λ (cs : List Block). shown_at n cs t.held l) (sym blocks_are)
               ∙ ap (λ i. shown_at i w.blocks t.held l) (sym words_are);
         }
+
+    -- so what it shows is the state that its records leave
+    pub shown_state : ((a : ℕ) → is_half_done (w.seats a).stage ≡ false) → state w ≡ after_run w.records opening
+    shown_state none = shows_state w (after_run w.records opening) (subst HaveStripes (sym blocks_are) stripes) (left none)
 
     -- what the open transactions of this world saw, now and at every later moment
     pub saw_later : (later : List (Event V)) (a : ℕ) → SawAt opening (run w later).records (w.seats a) (w.seats a).stage

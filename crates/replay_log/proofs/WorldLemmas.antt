@@ -5,10 +5,11 @@ use Rattle.word_machine.specs.World.{Memory}
 use Rattle.word_machine.specs.Opacity.{IsNoneHalfDone}
 use Rattle.collection_machine.specs.Boosted.{Committed, Aborted, Action, act_all}
 use Rattle.collection_machine.specs.Serial.{AllAborted, after_actions}
-use Rattle.collection_machine.specs.States as states
+use Rattle.collection_machine.proofs.States as states
 use Rattle.collection_machine.proofs.Stated.{states_serial, states_left, states_saw, states_aborted}
 use Rattle.replay_log.specs.Contents.{Block, HaveStripes, Asked, Answered, content, is_plain}
-use Rattle.replay_log.specs.Collections.{shown_at, after_calls, AreReplies, after_run, IsRunOn, held_at}
+use Rattle.replay_log.specs.Collections.{shown_at}
+use Rattle.replay_log.proofs.CollectionRuns.{after_calls, AreReplies, after_run, IsRunOn, held_at}
 use Rattle.replay_log.proofs.ContentLemmas.{content_frame}
 use Rattle.replay_log.proofs.CollectionLemmas.{Suiting, collections}
 

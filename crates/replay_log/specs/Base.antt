@@ -102,7 +102,8 @@ module _ {V : Type 0} where
   held_of (OfPq s) = (pq.rules V).held_of s
   held_of (OfQueue s) = (queue.rules V).held_of s
 
-  -- two outcomes, both legal at s, of which neither writes what the other reads: each is legal after the other, and both orders end in one view
+  -- two outcomes, both legal at s, of which neither writes what the other reads: each is legal after the other, and both orders end in one
+  -- view
   abbrev pub Commute : ℕ → Shown V → Type 0
   Commute n s =
       (p q : Op V) (a b : Outcome V) → 0 < n → outcome_of p s ≡ Some a → outcome_of q s ≡ Some b

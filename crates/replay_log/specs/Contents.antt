@@ -89,7 +89,8 @@ module _ {V : Type 0} where
   -- the part of a written location is that of the collection after the changes
   abbrev pub changed : Option Block → ℕ → Option (Outcome V) → (ℕ → Shown V) → ℕ → Shown V
   changed (Some b) f (Some o) v l =
-      if has (shifted f (writes_of b.stripes o (blank b))) l then part b.stripes (l - f) (after (changes_of o (blank b)) (seen b f v)) else v l
+      if has (shifted f (writes_of b.stripes o (blank b))) l then part b.stripes (l - f) (after (changes_of o (blank b)) (seen b f v))
+      else v l
   changed b f o v l = v l
 
   -- the content of w words and these blocks

@@ -12,12 +12,15 @@ use Rattle.replay_log.specs.Contents.{Asked, content}
 use Rattle.replay_log.specs.Pieces.{covers_at}
 use Rattle.replay_log.specs.Worlds.{World, Stage, Idle, Open, Trying, Copying, Loading, Gating, Ready, Homing, Returning, asks, moves}
 
--- The machine does the action: its guard holds, and a step or a guarded request is due at the place of its actor. A try on a gate that another holds
--- is done too, and fails.
+-- The machine does the action: its guard holds, and a step or a guarded request is due at the place of its actor. A try on a gate that
+-- another holds is done too, and fails.
 abbrev pub Allows : {X Op Out : Type 0} → Content X Op Out → Boosted X Out → Action Op → Type 0
-Allows c s (OnWords (Ask a (AskWrite l v))) = (is_open (s.words.actors a).place ≡ true) × ((s.words.actors a).declared ≡ false) × (c.plain l ≡ true)
-Allows c s (OnWords (Ask a AskStore)) = ((s.words.actors a).place ≡ Check []) × (every (is_held c s a) (locations (s.words.actors a).writes) ≡ true)
-Allows c s (OnWords (Ask a AskRelease)) = ((s.words.actors a).place ≡ Store []) × (every (is_given c s a) (locations (s.words.actors a).writes) ≡ true)
+Allows c s (OnWords (Ask a (AskWrite l v))) =
+    (is_open (s.words.actors a).place ≡ true) × ((s.words.actors a).declared ≡ false) × (c.plain l ≡ true)
+Allows c s (OnWords (Ask a AskStore)) =
+    ((s.words.actors a).place ≡ Check []) × (every (is_held c s a) (locations (s.words.actors a).writes) ≡ true)
+Allows c s (OnWords (Ask a AskRelease)) =
+    ((s.words.actors a).place ≡ Store []) × (every (is_given c s a) (locations (s.words.actors a).writes) ≡ true)
 Allows c s (OnWords (Ask a q)) = Unit {0}
 Allows c s (OnWords (Step a)) = told.notice s.words (s.words.actors a) (s.words.actors a).place ≡ told.NoTransaction → ⊥
 Allows c s (TakeGate a k) = is_committing (s.words.actors a).place ≡ false

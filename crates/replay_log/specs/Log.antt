@@ -14,12 +14,16 @@ pub record LogView (V : Type 0) : Type 0 where
 -- the edition of each of these locations is raised by one, however often it stands among them
 abbrev pub AreRaised : List ℕ → List ℕ → List ℕ → Type 0
 AreRaised locations before now =
-    (written : List ℕ) × IsStrictlyIncreasing written × ((l : ℕ) → Contains written l ↔ Contains locations l) × (now ≡ raised written before)
+    (written : List ℕ)
+    × IsStrictlyIncreasing written × ((l : ℕ) → Contains written l ↔ Contains locations l) × (now ≡ raised written before)
 
 -- so a location among them has its edition one higher, and any other keeps it
 abbrev pub RaisesEach : Type 0
 RaisesEach =
-    (locations before now : List ℕ) (l : ℕ) → AreRaised locations before now → Contains locations l → l < length before → slice_index now l ≡ slice_index before l + 1
+    (locations before now : List ℕ) (l : ℕ) → AreRaised locations before now → Contains locations l → l < length before
+    → slice_index now l ≡ slice_index before l + 1
 
 abbrev pub KeepsOthers : Type 0
-KeepsOthers = (locations before now : List ℕ) (l : ℕ) → AreRaised locations before now → ¬ Contains locations l → slice_index now l ≡ slice_index before l
+KeepsOthers =
+    (locations before now : List ℕ) (l : ℕ) → AreRaised locations before now → ¬ Contains locations l
+    → slice_index now l ≡ slice_index before l

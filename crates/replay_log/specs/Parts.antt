@@ -1,4 +1,5 @@
--- What a location covers of a base, and the base that its parts make up. A part is a collection of the same kind that shows nothing elsewhere.
+-- What a location covers of a base, and the base that its parts make up. A part is a collection of the same kind that shows nothing
+-- elsewhere.
 use Rattle.std.specs.Prelude.{◌≡◌, ℕ, zero, suc, ◌<◌, List, [], ◌∷◌, Some, None, Contains, ◌==◌, if◌then◌else◌}
 use Rattle.std.specs.Ordering.{nat_cmp}
 use Rattle.std.specs.FinMap.{FinMap, empty, entries, insert, retain_keys}
@@ -58,7 +59,11 @@ module _ {V : Type 0} where
   part n l (OfBag m) = OfBag (kept (key_place n) l m)
   part n l (OfPq s) = OfPq (record { elements = kept (stripe_place n) l s.elements; least = if least_place == l then s.least else None })
   part n l (OfQueue s) =
-      OfQueue (record { cells = kept (cell_place n) l s.cells; head = if head_place == l then s.head else 0; tail = if tail_place == l then s.tail else 0 })
+      OfQueue (record {
+        cells = kept (cell_place n) l s.cells;
+        head = if head_place == l then s.head else 0;
+        tail = if tail_place == l then s.tail else 0;
+      })
 
   -- the whole of one kind that has these parts
   abbrev pub whole : ℕ → Kind → (ℕ → Shown V) → Shown V
@@ -67,7 +72,11 @@ module _ {V : Type 0} where
   whole n PqKind v =
       OfPq (record { elements = joined (stripe_place n) (suc n) (λ l. (as_pq (v l)).elements); least = (as_pq (v least_place)).least })
   whole n QueueKind v =
-      OfQueue (record { cells = joined (cell_place n) (suc (suc n)) (λ l. (as_queue (v l)).cells); head = (as_queue (v head_place)).head; tail = (as_queue (v tail_place)).tail })
+      OfQueue (record {
+        cells = joined (cell_place n) (suc (suc n)) (λ l. (as_queue (v l)).cells);
+        head = (as_queue (v head_place)).head;
+        tail = (as_queue (v tail_place)).tail;
+      })
 
 -- a base is the whole of its parts
 abbrev pub IsWhole : Type 0 → Type 0
@@ -81,11 +90,13 @@ AnswersByParts V =
 
 -- and whether there is one on the kind alone
 abbrev pub KnowsItsCalls : Type 0 → Type 0
-KnowsItsCalls V = (n : ℕ) (k : Kind) (op : Op V) (v w : ℕ → Shown V) → outcome_of op (whole n k v) ≡ None → outcome_of op (whole n k w) ≡ None
+KnowsItsCalls V =
+    (n : ℕ) (k : Kind) (op : Op V) (v w : ℕ → Shown V) → outcome_of op (whole n k v) ≡ None → outcome_of op (whole n k w) ≡ None
 
 -- its changes leave the part of each location that it does not write
 abbrev pub LeavesOtherParts : Type 0 → Type 0
-LeavesOtherParts V = (n l : ℕ) (o : Outcome V) (s : Shown V) → ¬ Contains (writes_of n o s) l → part n l (after (changes_of o s) s) ≡ part n l s
+LeavesOtherParts V =
+    (n l : ℕ) (o : Outcome V) (s : Shown V) → ¬ Contains (writes_of n o s) l → part n l (after (changes_of o s) s) ≡ part n l s
 
 -- and what changes make of a part depends on that part
 abbrev pub ChangesByPart : Type 0 → Type 0

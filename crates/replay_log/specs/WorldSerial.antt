@@ -1,4 +1,5 @@
--- Serial order of a world of words and collections: what is promised of its records, of what it holds, and of its open and aborted transactions.
+-- Serial order of a world of words and collections: what is promised of its records, of what it holds, and of its open and aborted
+-- transactions.
 use Rattle.std.specs.Prelude.{◌≡◌, ◌⊎◌, ℕ, ◌<◌, ◌≤◌, true, false, List, [], ◌∷◌, length, get_or, ⊤}
 use Rattle.seq_model.specs.declared.record.Record.{Record}
 use Rattle.seq_model.specs.Contents.{Contents}

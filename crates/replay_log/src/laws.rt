@@ -1,15 +1,17 @@
 //! The laws of the definitions that the contracts cite. Each function computes nothing: its contract is the law.
-ghost use Rattle.std.specs.Prelude.{◌≡◌, ◌≢◌, ◌≤◌, ◌++◌, ℕ, List, [], Some, true, false, length, get_or};
+ghost use Rattle.std.specs.Prelude.{◌≡◌, ◌≢◌, ◌≤◌, ◌++◌, ℕ, List, [], ◌∷◌, Some, true, false, length, get_or};
 ghost use Rattle.seq_model.specs.declared.event.Event.{Event};
-ghost use Rattle.seq_model.specs.declared.event.Event.TheVariants.{Ask, Step};
+ghost use Rattle.seq_model.specs.declared.event.Event.TheVariants.{Ask, Step, Starve};
 ghost use Rattle.seq_model.specs.declared.event.Request.{Request};
 ghost use Rattle.seq_model.specs.declared.event.Answer.TheVariants.{Begun};
-ghost use Rattle.seq_model.specs.declared.event.Notice.TheVariants.{Answered, Refused};
+ghost use Rattle.seq_model.specs.declared.event.Notice.TheVariants.{Quiet, Answered, Refused};
 ghost use Rattle.seq_model.specs.declared.refusal.Refusal.TheVariants.{NoSuch};
 ghost use Rattle.seq_model.specs.declared.call.Call.{Call};
 ghost use Rattle.seq_model.specs.declared.held.Held.{Held};
-ghost use Rattle.word_machine.specs.World.{Memory};
-ghost use Rattle.word_machine.specs.Opacity.{IsNoneHalfDone, first_read};
+ghost use Rattle.word_machine.specs.Opacity.{first_read};
+ghost use Rattle.vlock_word.specs.declared.lock_word.LockWord.TheVariants.{Free, Locked};
+ghost use Rattle.tx_sets.specs.Entries.{Entries, lookup};
+ghost use Rattle.word_machine.specs.World.{put};
 ghost use Rattle.conflict.specs.declared.change.Change.{Change};
 ghost use Rattle.conflict.specs.Rules.{FrameLaws};
 ghost use Rattle.base_map.specs.Conflicts as map;
@@ -18,17 +20,22 @@ ghost use Rattle.base_pq.specs.Conflicts as pq;
 ghost use Rattle.base_queue.specs.Conflicts as queue;
 ghost use Rattle.replay_log.specs.Base.{Shown, Commute, after};
 ghost use Rattle.collection_machine.specs.Content.{Frame};
-ghost use Rattle.collection_machine.specs.Boosted.{Action, act_all};
-ghost use Rattle.collection_machine.specs.Serial.{AllAborted, after_actions};
+ghost use Rattle.collection_machine.specs.Boosted.{Action};
+ghost use Rattle.collection_machine.specs.Serial.{after_actions};
 ghost use Rattle.replay_log.specs.Contents.{Block, Asked, HaveStripes, content, is_plain};
-ghost use Rattle.replay_log.specs.Collections.{Suit, AreReplies, IsRunOn, after_run, held_at, shown_at};
+ghost use Rattle.replay_log.specs.Collections.{Suit, shown_at};
 ghost use Rattle.replay_log.specs.Log.{RaisesEach, KeepsOthers};
 ghost use Rattle.replay_log.specs.Parts.{IsWhole, AnswersByParts, KnowsItsCalls, LeavesOtherParts, ChangesByPart};
-ghost use Rattle.replay_log.specs.Worlds.{World, Open, Beginning, Leaving, is_change, actor_of, why, happens, run, opened};
+ghost use Rattle.replay_log.specs.Worlds.{World, Idle, Open, Beginning, Cancelling, Leaving, is_change, actor_of, why, happens, run, opened};
+ghost use Rattle.replay_log.specs.WorldTraces.{trace, is_half_done, committed_by, with_record, ended_by};
+ghost use Rattle.seq_model.specs.Runs.{after_run as state_after};
 ghost use Rattle.replay_log.specs.WorldRefusals.{HasCause, is_calling, is_ending};
-ghost use Rattle.replay_log.specs.WorldProgress.{AreSmall, Nears, left_of, whose};
+ghost use Rattle.replay_log.specs.WorldStill.{Still, Same};
+ghost use Rattle.replay_log.specs.WorldAnswers.{IsRefusal, IsRefusedAt, RefusedBy, Untouched, changes_at};
+ghost use Rattle.replay_log.specs.WorldAlone.{IsAlone, IsFree, TellsConflict, IsUnstarved, TellsMemory};
+ghost use Rattle.replay_log.specs.WorldProgress.{AreSmall, IsQuiet, Nears, left_of, whose};
 ghost use Rattle.replay_log.specs.WorldSerial.{AreUpTo, IsSerial, SawAt};
-ghost use Rattle.replay_log.specs.Guards.{IsAllowed, step_action};
+ghost use Rattle.replay_log.specs.Guards.{IsAllowed, IsAtRest, step_action};
 
 use seq_model::Value;
 
@@ -67,56 +74,13 @@ pub fn contents<V: Value>()
     ensures frame { (words : ℕ) (blocks : List Block) → HaveStripes blocks → Frame (content {V = V} words blocks) }
 {}
 
-/// Serial order of a world with collections of the four kinds, in any number and stripes, for every opening and every list of
-/// actions of any number of actors.
-///
-/// The committed transactions, in the order of their numbers, are a run of the sequential collections: every reply is that of the
-/// sequential call, one whole transaction after another. Where no commit is half done, the bases show what the run leaves. What
-/// an open or aborted transaction was replied is what the collections reply that the commits up to its number leave, now and at
-/// every later moment.
-pub fn serial_order<V: Value>()
-    ensures serial { (words : ℕ) (blocks : List Block) (clock : ℕ) (memory : Memory) (opening : List (Held V)) (actions : List (Action (Asked V))) →
-        HaveStripes blocks → Suit blocks opening →
-        IsRunOn opening (after_actions (content words blocks) clock memory (shown_at words blocks opening) actions).history }
-    ensures left { (words : ℕ) (blocks : List Block) (clock : ℕ) (memory : Memory) (opening : List (Held V)) (actions : List (Action (Asked V))) (l : ℕ) →
-        HaveStripes blocks → Suit blocks opening →
-        let s = after_actions (content words blocks) clock memory (shown_at words blocks opening) actions in
-        IsNoneHalfDone s.words → is_plain words blocks l ≡ false → s.parts l ≡ shown_at words blocks (after_run opening s.history) l }
-    ensures saw { (words : ℕ) (blocks : List Block) (clock : ℕ) (memory : Memory) (opening : List (Held V)) (actions later : List (Action (Asked V))) (a : ℕ) →
-        HaveStripes blocks → Suit blocks opening →
-        let s = after_actions (content words blocks) clock memory (shown_at words blocks opening) actions in
-        let t = act_all (content words blocks) later s in
-        AreReplies (held_at t.history (s.words.actors a).rv opening) (s.shadows a).outcomes }
-    ensures aborted { (words : ℕ) (blocks : List Block) (clock : ℕ) (memory : Memory) (opening : List (Held V)) (actions : List (Action (Asked V))) →
-        HaveStripes blocks → Suit blocks opening →
-        let s = after_actions (content words blocks) clock memory (shown_at words blocks opening) actions in
-        AllAborted (λ e. AreReplies (held_at s.history e.word.rv opening) e.outcomes) s.aborted }
-{}
-
 /// A world of words and collections whose transactions make requests, one atomic step at a time, goes through worlds of the
-/// machine's actions alone, whatever its events. So [`serial_order`] holds of it: the committed transactions are a run of the
-/// sequential collections, the bases show what it leaves where no commit is half done, and open and aborted transactions were
-/// replied what the collections reply that the commits up to their number leave.
+/// machine's actions alone, whatever its events. So what `collection_machine::laws` says of every list of actions holds of it.
 pub fn requests<V: Value>()
     ensures actions { (blocks : List Block) (clock : ℕ) (values : List ℕ) (held : List (Held V)) (events : List (Event V)) →
         (actions : List (Action (Asked V)))
         × ((run (opened blocks clock values held) events).boosted
         ≡ after_actions (content (length values) blocks) clock (λ l. get_or values l 0) (shown_at (length values) blocks held) actions) }
-    ensures serial { (blocks : List Block) (clock : ℕ) (values : List ℕ) (held : List (Held V)) (events : List (Event V)) →
-        HaveStripes blocks → Suit blocks held → IsRunOn held (run (opened blocks clock values held) events).boosted.history }
-    ensures left { (blocks : List Block) (clock : ℕ) (values : List ℕ) (held : List (Held V)) (events : List (Event V)) (l : ℕ) →
-        HaveStripes blocks → Suit blocks held →
-        let s = (run (opened blocks clock values held) events).boosted in
-        IsNoneHalfDone s.words → is_plain (length values) blocks l ≡ false → s.parts l ≡ shown_at (length values) blocks (after_run held s.history) l }
-    ensures saw { (blocks : List Block) (clock : ℕ) (values : List ℕ) (held : List (Held V)) (events later : List (Event V)) (a : ℕ) →
-        HaveStripes blocks → Suit blocks held →
-        let w = run (opened blocks clock values held) events in
-        let t = run w later in
-        AreReplies (held_at t.boosted.history (w.boosted.words.actors a).rv held) (w.boosted.shadows a).outcomes }
-    ensures aborted { (blocks : List Block) (clock : ℕ) (values : List ℕ) (held : List (Held V)) (events : List (Event V)) →
-        HaveStripes blocks → Suit blocks held →
-        let s = (run (opened blocks clock values held) events).boosted in
-        AllAborted (λ e. AreReplies (held_at s.history e.word.rv held) e.outcomes) s.aborted }
 {}
 
 /// Serial order of a world of words and collections, in which calls on both are mixed, for every opening, and over every list of
@@ -138,6 +102,24 @@ pub fn serial_worlds<V: Value>()
         (w.seats a).stage ≡ Beginning → (happens w (Step a)).1 ≡ Answered a (Begun rv) → AreUpTo rv w.records }
 {}
 
+/// What is told of a world at a moment. Where no commit is half done, the words and collections that it shows, each collection put
+/// together of the parts of its locations, are what its records leave, one whole transaction after another. A step commits by the
+/// first value store of a writer, or by the load of the clock that ends a transaction without writes, and puts the record of all its
+/// calls into its place in commit order; an aborted transaction is told of behind those that ended before it, with its actor, its
+/// number, its calls and its cause. Nothing else adds to the records or to the aborted transactions.
+pub fn traces<V: Value>()
+    ensures state { (blocks : List Block) (clock : ℕ) (values : List ℕ) (held : List (Held V)) (events : List (Event V)) → HaveStripes blocks → Suit blocks held →
+        let w = run (opened blocks clock values held) events in
+        ((a : ℕ) → is_half_done (w.seats a).stage ≡ false) →
+        (trace w).state ≡ state_after (trace w).records (record { words = values; held = held }) }
+    ensures commits { (w : World V) (a : ℕ) → (trace (happens w (Step a)).0).records ≡ with_record a (committed_by (w.seats a) (w.seats a).stage) (trace w).records }
+    ensures ends { (w : World V) (a : ℕ) → (trace (happens w (Step a)).0).aborted ≡ (trace w).aborted ++ ended_by a (w.seats a) (w.seats a).stage }
+    ensures asked { (w : World V) (a : ℕ) (q : Request V) →
+        ((happens w (Ask a q)).0.records ≡ w.records) × ((happens w (Ask a q)).0.aborted ≡ w.aborted) }
+    ensures starved { (w : World V) (a : ℕ) →
+        ((happens w (Starve a)).0.records ≡ w.records) × ((happens w (Starve a)).0.aborted ≡ w.aborted) }
+{}
+
 /// No guard of the machine refuses what a request does: wherever a request is under way, its next step does an action whose guard
 /// holds, at a place where it is due. So a request is never stuck.
 pub fn guards<V: Value>()
@@ -146,29 +128,92 @@ pub fn guards<V: Value>()
         IsAllowed w (w.seats a).stage (step_action w a (w.seats a).stage) }
 {}
 
-/// Each own step of a request answers it, or brings it nearer to its answer, and what others do leaves it where it is. As a
-/// request is asked it is fewer than 1,000,000 own steps from its answer, where the sets have at most 4,096 locations each, and
-/// no call reads more than that. So it is answered within 1,000,000 of its own steps, whatever the others do.
+/// Each own step of a request answers it, or brings it nearer to its answer, and what others do leaves it where it is. Both sets of
+/// a transaction have at most 4,096 locations at every moment, and as a request is asked it is fewer than 1,000,000 own steps from
+/// its answer, where no call reads more locations than a set may have. What answers nothing leaves a step due. So each request is
+/// answered within 1,000,000 of its own steps, whatever the others do.
 pub fn progress<V: Value>()
     ensures nearer { (blocks : List Block) (clock : ℕ) (values : List ℕ) (held : List (Held V)) (events : List (Event V)) (a : ℕ) → HaveStripes blocks → AreSmall blocks →
         let w = run (opened blocks clock values held) events in
         Nears a (left_of w a) (happens w (Step a)) }
     ensures others { (w : World V) (e : Event V) (a : ℕ) → a ≢ whose e → left_of (happens w e).0 a ≡ left_of w a }
+    ensures sets { (blocks : List Block) (clock : ℕ) (values : List ℕ) (held : List (Held V)) (events : List (Event V)) (a : ℕ) → HaveStripes blocks →
+        let w = run (opened blocks clock values held) events in
+        (length (actor_of w a).reads ≤ 4096) × (length (actor_of w a).writes ≤ 4096) }
     ensures few { (blocks : List Block) (clock : ℕ) (values : List ℕ) (held : List (Held V)) (events : List (Event V)) (a : ℕ) (q : Request V) → HaveStripes blocks → AreSmall blocks →
         let w = run (opened blocks clock values held) events in
-        length (actor_of w a).reads ≤ 4096 → length (actor_of w a).writes ≤ 4096 → Nears a 1000000 (happens w (Ask a q)) }
+        Nears a 1000000 (happens w (Ask a q)) }
+    ensures due { (w : World V) (e : Event V) → IsQuiet (happens w e).1 → IsAtRest ((happens w e).0.seats (whose e)).stage → ⊥ }
 {}
 
-/// A refusal is true. A step that begins to give a transaction up has found the cause that it notes: the word that it loads stops
-/// its request, or the copied edition is not the one of the word, or another holds the gate. The cause stays until the last step
-/// of the request tells it.
+/// A refusal is true. A step that begins to give a transaction up has found the cause that it notes: the word of which it loads or
+/// would exchange is named with its location, and stops its request; or the edition that was copied for the call is not the one
+/// that the transaction has read; or it is the last try on the gate, which another holds. The cause stays until the last step of the
+/// request tells it.
 pub fn refusals<V: Value>()
     ensures causes { (blocks : List Block) (clock : ℕ) (values : List ℕ) (held : List (Held V)) (events : List (Event V)) (a : ℕ) → HaveStripes blocks →
         let w = run (opened blocks clock values held) events in
-        is_ending (w.seats a).stage ≡ false → HasCause w a (happens w (Step a)).0 }
+        is_ending (w.seats a).stage ≡ false → HasCause w a (w.seats a).stage (happens w (Step a)).0 }
     ensures stays { (w : World V) (a : ℕ) → is_ending (w.seats a).stage ≡ true → is_ending ((happens w (Step a)).0.seats a).stage ≡ true →
         ((happens w (Step a)).0.seats a).cause ≡ (w.seats a).cause }
     ensures told { (w : World V) (a : ℕ) → (w.seats a).stage ≡ Leaving → (happens w (Step a)).1 ≡ why a (w.seats a).cause }
+{}
+
+/// What a refusal says as it is answered. A request that is refused changes nothing. A step is refused where none is due, as a
+/// transaction begins at the limit of the clock, as a call that was copied for finds no room in the sets (its transaction is as
+/// before the call, with the same pieces copied), and by the last step of a request, which tells the cause that was found; and
+/// nowhere else. So a commit goes on from its first value store to its last release. A want of memory changes nothing there, nor
+/// while a transaction is being given up.
+pub fn answers<V: Value>()
+    ensures asked { (w : World V) (a : ℕ) (q : Request V) → IsRefusal (happens w (Ask a q)).1 → Same w (happens w (Ask a q)).0 }
+    ensures stepped { (blocks : List Block) (clock : ℕ) (values : List ℕ) (held : List (Held V)) (events : List (Event V)) (a : ℕ) → HaveStripes blocks →
+        let w = run (opened blocks clock values held) events in
+        let r = happens w (Step a) in
+        RefusedBy a (IsRefusedAt w a (w.seats a).stage r.0) r.1 }
+    ensures goes_on { (w : World V) (a : ℕ) → is_half_done (w.seats a).stage ≡ true → IsQuiet (happens w (Step a)).1 →
+        is_half_done ((happens w (Step a)).0.seats a).stage ≡ true }
+    ensures starved_late { (w : World V) (a : ℕ) → is_half_done (w.seats a).stage ≡ true → happens w (Starve a) ≡ (w, Quiet) }
+    ensures starved_end { (w : World V) (a : ℕ) → is_ending (w.seats a).stage ≡ true → happens w (Starve a) ≡ (w, Quiet) }
+{}
+
+/// What a refusal leaves. A step stores a value only where a commit does, and changes a base only where a commit takes it home; so a
+/// transaction that is being given up leaves them. A lock that it holds keeps its old version until it goes back with it, one lock a
+/// step. An actor at rest holds no lock and no gate.
+pub fn given_up<V: Value>()
+    ensures untouched { (blocks : List Block) (clock : ℕ) (values : List ℕ) (held : List (Held V)) (events : List (Event V)) (a : ℕ) → HaveStripes blocks →
+        let w = run (opened blocks clock values held) events in
+        changes_at (w.seats a).stage ≡ false → Untouched w (happens w (Step a)).0 }
+    ensures locked { (blocks : List Block) (clock : ℕ) (values : List ℕ) (held : List (Held V)) (events : List (Event V)) (a l k : ℕ) → HaveStripes blocks →
+        let w = run (opened blocks clock values held) events in
+        lookup (actor_of w a).held l ≡ Some k → w.boosted.words.locks l ≡ Locked k }
+    ensures back { (blocks : List Block) (clock : ℕ) (values : List ℕ) (held : List (Held V)) (events : List (Event V)) (a l k : ℕ) (rest : Entries) → HaveStripes blocks →
+        let w = run (opened blocks clock values held) events in
+        let u = (happens w (Step a)).0 in
+        (w.seats a).stage ≡ Cancelling → (actor_of w a).held ≡ (l, k) ∷ rest →
+        (u.boosted.words.locks ≡ put w.boosted.words.locks l (Free k)) × ((actor_of u a).held ≡ rest) }
+    ensures rests { (blocks : List Block) (clock : ℕ) (values : List ℕ) (held : List (Held V)) (events : List (Event V)) (a : ℕ) → HaveStripes blocks →
+        let w = run (opened blocks clock values held) events in
+        (w.seats a).stage ≡ Idle → ((actor_of w a).held ≡ []) × ((k : ℕ) → w.boosted.gates k ≢ Some a) }
+{}
+
+/// A transaction beside which no other actor steps between its begin and its end, and at whose begin no lock and no gate is held, is
+/// refused for no conflict; and for want of memory only where its own actor wants it. Meanwhile others may ask and want memory.
+pub fn alone<V: Value>()
+    ensures never { (blocks : List Block) (clock : ℕ) (values : List ℕ) (held : List (Held V)) (events later : List (Event V)) (a : ℕ) → HaveStripes blocks →
+        let w = run (opened blocks clock values held) events in
+        (w.seats a).stage ≡ Beginning → IsFree w → IsAlone a later →
+        (e : Event V) → whose e ≡ a → TellsConflict (happens (run w later) e).1 → ⊥ }
+    ensures memory { (blocks : List Block) (clock : ℕ) (values : List ℕ) (held : List (Held V)) (events later : List (Event V)) (a : ℕ) → HaveStripes blocks →
+        let w = run (opened blocks clock values held) events in
+        (w.seats a).stage ≡ Beginning → IsFree w → IsAlone a later → IsUnstarved a later →
+        (e : Event V) → whose e ≡ a → IsUnstarved a (e ∷ []) → TellsMemory (happens (run w later) e).1 → ⊥ }
+{}
+
+/// A request and a want of memory do no atomic step: they leave the clock, the words and their locks, the gates, the bases and what
+/// the other actors have copied.
+pub fn without_steps<V: Value>()
+    ensures asked { (w : World V) (a : ℕ) (q : Request V) → Still a w.boosted (happens w (Ask a q)).0.boosted }
+    ensures starved { (w : World V) (a : ℕ) → Still a w.boosted (happens w (Starve a)).0.boosted }
 {}
 
 /// What a transaction has copied of a location that it has read is what the base has there, where the base has the edition that it

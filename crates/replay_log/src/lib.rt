@@ -13,8 +13,6 @@
 mod base;
 pub mod laws;
 mod log;
-#[cfg(test)]
-mod tests;
 
 pub use base::Base;
 pub use log::Log;

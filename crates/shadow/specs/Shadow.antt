@@ -22,7 +22,10 @@ module _ {V : Type 0} where
   -- what an outcome changes and writes there is ready
   abbrev pub IsReadyFor : Outcome V → ShadowView V → Type 0
   IsReadyFor outcome s =
-      s.ready ≡ Some (record { changes = changes_of outcome (shown_of s.base); locations = writes_of (stripes_of s.base) outcome (shown_of s.base) })
+      s.ready ≡ Some (record {
+        changes = changes_of outcome (shown_of s.base);
+        locations = writes_of (stripes_of s.base) outcome (shown_of s.base);
+      })
 
   -- the accepted changes, made on the collection that was copied, give what the shadow shows
   abbrev pub IsFolded : Shown V → List (Change V) → Shown V → Type 0
@@ -31,4 +34,6 @@ module _ {V : Type 0} where
   -- what is ready is so twice, and there is room for it
   abbrev pub IsKept : Base V → LogView V → Option (declared.Ready V) → Type 0
   IsKept b log None = ⊤
-  IsKept b log (Some r) = (r.own ≡ r.logged) × (length r.own ≤ room_of b) × (length r.logged ≤ log.room) × (length log.locations + length r.written ≤ log.places)
+  IsKept b log (Some r) =
+      (r.own ≡ r.logged) × (length r.own ≤ room_of b) × (length r.logged ≤ log.room)
+      × (length log.locations + length r.written ≤ log.places)

@@ -1,4 +1,6 @@
-use Rattle.replay_log.proofs.ProgressLemmas.{world_nears, others_leave, world_few}
+use Rattle.replay_log.proofs.ProgressLemmas.{world_nears, others_leave}
+use Rattle.replay_log.proofs.SizeLemmas.{world_small, world_soon}
+use Rattle.replay_log.proofs.DueLemmas.{step_due}
 use Rattle.replay_log.proofs.laws.progress.Goals as goal
 
 pub returns-clause-nearer : goal.returns-clause-nearer
@@ -7,5 +9,11 @@ returns-clause-nearer g c blocks clock values held events a stripes small = worl
 pub returns-clause-others : goal.returns-clause-others
 returns-clause-others g c w e a ne = others_leave w e a ne
 
+pub returns-clause-sets : goal.returns-clause-sets
+returns-clause-sets g c blocks clock values held events a stripes = world_small blocks clock values held events a stripes
+
 pub returns-clause-few : goal.returns-clause-few
-returns-clause-few g c blocks clock values held events a q stripes small few few2 = world_few blocks clock values held events stripes small a q few few2
+returns-clause-few g c blocks clock values held events a q stripes small = world_soon blocks clock values held events a q stripes small
+
+pub returns-clause-due : goal.returns-clause-due
+returns-clause-due g c w e quiet = step_due w e quiet

@@ -2,10 +2,9 @@
 ghost use Rattle.std.specs.Prelude.{◌≡◌, [], IfOk};
 ghost use Rattle.replay_log.specs.Base.{locations_of, stripes_of, shown_of};
 
-use crate::base::Base;
-use crate::log::Log;
 use base_map::MapBase;
 use conflict::{Change, Changes, LocSet};
+use replay_log::{Base, Log};
 use seq_model::{Counts, Entries, Held, Memory, Op, QueueItems, Refusal, Reply};
 use std::alloc::Global;
 use std::test::Fail;

@@ -1,4 +1,5 @@
--- Collections as states, whose parts a view shows.
+-- Collections as states, whose parts a view shows. What the machine promises of parts it then promises of states: each reply is the
+-- sequential one.
 use Rattle.std.specs.Prelude.{◌≡◌, ℕ, List, [], ◌∷◌, nat_le, if◌then◌else◌}
 use Rattle.collection_machine.specs.Content.{Content}
 use Rattle.collection_machine.specs.Boosted.{Committed}
