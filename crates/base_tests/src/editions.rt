@@ -29,13 +29,19 @@ fn expect_of_map(rt: &impl Abort, base: &MapBase<u64>)
     assert_eq!(rt; [base.edition(0), base.edition(1)], [0, 1]);
 }
 
+fn expect_of_copied_map(rt: &impl Abort, alloc: Global, base: &MapBase<u64>) -> Result<(), Refusal>
+    requires { 1 < base.now.stripes }
+{
+    let copy = base.try_copy()?;
+    expect_of_map(rt, &copy);
+    expect_held(rt, alloc, &Base::Map(copy), b"map 1 1:10 3:30\n")
+}
+
 #[test]
 fn of_a_map(rt: HostRuntime) -> Result<(), Fail> {
     let base = map_after_two_puts(rt.alloc())?;
     expect_of_map(&rt, &base);
-    let copy = base.try_copy()?;
-    expect_of_map(&rt, &copy);
-    expect_held(&rt, rt.alloc(), &Base::Map(copy), b"map 1 1:10 3:30\n")?;
+    expect_of_copied_map(&rt, rt.alloc(), &base)?;
     Ok(())
 }
 
@@ -67,13 +73,19 @@ fn expect_of_multiset(rt: &impl Abort, base: &BagBase)
     assert_eq!(rt; [base.edition(0), base.edition(1)], [0, 1]);
 }
 
+fn expect_of_copied_multiset(rt: &impl Abort, alloc: Global, base: &BagBase) -> Result<(), Refusal>
+    requires { 1 < base.now.stripes }
+{
+    let copy = base.try_copy()?;
+    expect_of_multiset(rt, &copy);
+    expect_held(rt, alloc, &Base::Bag(copy), b"bag 1 3:2\n")
+}
+
 #[test]
 fn of_a_multiset(rt: HostRuntime) -> Result<(), Fail> {
     let base = multiset_after_six_changes(rt.alloc())?;
     expect_of_multiset(&rt, &base);
-    let copy = base.try_copy()?;
-    expect_of_multiset(&rt, &copy);
-    expect_held(&rt, rt.alloc(), &Base::Bag(copy), b"bag 1 3:2\n")?;
+    expect_of_copied_multiset(&rt, rt.alloc(), &base)?;
     Ok(())
 }
 

@@ -123,10 +123,14 @@ fn expect_of_a_new_least(
     expect_held(rt, alloc, base, b"pq 2 5:1\n")
 }
 
+fn expect_of_priority_queue(rt: &impl Abort, alloc: Global) -> Result<(), Refusal> {
+    let mut base = base_of(alloc, b"pq 2 5:1\n")?;
+    expect_of_a_new_least(rt, alloc, &mut base)
+}
+
 #[test]
 fn of_a_priority_queue_between_two_replays(rt: HostRuntime) -> Result<(), Fail> {
-    let mut base = base_of(rt.alloc(), b"pq 2 5:1\n")?;
-    expect_of_a_new_least(&rt, rt.alloc(), &mut base)?;
+    expect_of_priority_queue(&rt, rt.alloc())?;
     Ok(())
 }
 
@@ -143,10 +147,14 @@ fn expect_of_a_dequeue_ahead(
     expect_queue(rt, alloc, base, 8, &[8])
 }
 
+fn expect_of_queue_ahead(rt: &impl Abort, alloc: Global) -> Result<(), Refusal> {
+    let mut base = queue(alloc, 2, 5, &[8])?;
+    expect_of_a_dequeue_ahead(rt, alloc, &mut base)
+}
+
 #[test]
 fn of_a_queue_between_two_replays(rt: HostRuntime) -> Result<(), Fail> {
-    let mut base = queue(rt.alloc(), 2, 5, &[8])?;
-    expect_of_a_dequeue_ahead(&rt, rt.alloc(), &mut base)?;
+    expect_of_queue_ahead(&rt, rt.alloc())?;
     Ok(())
 }
 

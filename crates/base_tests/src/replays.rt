@@ -13,6 +13,18 @@ use std::process::Abort;
 use std::test::Fail;
 use step_script::{Line, parse_steps};
 
+fn expect_to_leave(
+    rt: &impl Abort,
+    alloc: Global,
+    base: &mut Base<u64>,
+    calls: &[u8],
+    wanted: &[u8],
+    left: &[u8],
+) -> Result<(), Refusal> {
+    expect(rt, alloc, base, calls, wanted)?;
+    expect_held(rt, alloc, base, left)
+}
+
 /// Opens a collection so, makes the calls, which must have these outcomes, and must then hold this.
 fn expect_left(
     rt: &impl Abort,
@@ -23,8 +35,7 @@ fn expect_left(
     left: &[u8],
 ) -> Result<(), Refusal> {
     let mut base = base_of(alloc, header)?;
-    expect(rt, alloc, &mut base, calls, wanted)?;
-    expect_held(rt, alloc, &base, left)
+    expect_to_leave(rt, alloc, &mut base, calls, wanted, left)
 }
 
 #[test]
@@ -207,7 +218,7 @@ fn expect_call_on_a_copy(
     expect_call(rt, alloc, &mut copy, op, left)
 }
 
-/// Makes a call on the collection and another on a copy of it, which alone must be changed by that.
+// Makes a call on the collection and another on a copy of it, which alone must be changed by that.
 fn expect_copied(
     rt: &impl Abort,
     alloc: Global,
@@ -220,31 +231,50 @@ fn expect_copied(
     expect_held(rt, alloc, base, left)
 }
 
+fn expect_copy_of(
+    rt: &impl Abort,
+    alloc: Global,
+    header: &[u8],
+    made: (&Op<u64>, &[u8]),
+    made_on_the_copy: (&Op<u64>, &[u8]),
+) -> Result<(), Refusal> {
+    let mut base = base_of(alloc, header)?;
+    expect_copied(rt, alloc, &mut base, made, made_on_the_copy)
+}
+
 #[test]
 fn leave_alone_what_a_map_was_copied_from(rt: HostRuntime) -> Result<(), Fail> {
-    let mut base = base_of(rt.alloc(), b"map 2 1:10\n")?;
     let put = (&Op::Put(2, 20), b"map 2 1:10 2:20\n".as_slice());
     let remove = (&Op::Remove(1), b"map 2 2:20\n".as_slice());
-    expect_copied(&rt, rt.alloc(), &mut base, put, remove)?;
+    expect_copy_of(&rt, rt.alloc(), b"map 2 1:10\n", put, remove)?;
     Ok(())
 }
 
 #[test]
 fn leave_alone_what_a_multiset_was_copied_from(rt: HostRuntime) -> Result<(), Fail> {
-    let mut base = base_of(rt.alloc(), b"bag 2 3:1\n")?;
     let add = (&Op::Add(4), b"bag 2 3:1 4:1\n".as_slice());
     let take = (&Op::Take(3), b"bag 2 4:1\n".as_slice());
-    expect_copied(&rt, rt.alloc(), &mut base, add, take)?;
+    expect_copy_of(&rt, rt.alloc(), b"bag 2 3:1\n", add, take)?;
     Ok(())
 }
 
 #[test]
 fn leave_alone_what_a_priority_queue_was_copied_from(rt: HostRuntime) -> Result<(), Fail> {
-    let mut base = base_of(rt.alloc(), b"pq 2 5:1\n")?;
     let insert = (&Op::Insert(4), b"pq 2 4:1 5:1\n".as_slice());
     let take = (&Op::TakeLeast, b"pq 2 5:1\n".as_slice());
-    expect_copied(&rt, rt.alloc(), &mut base, insert, take)?;
+    expect_copy_of(&rt, rt.alloc(), b"pq 2 5:1\n", insert, take)?;
     Ok(())
+}
+
+fn expect_queue_after(
+    rt: &impl Abort,
+    alloc: Global,
+    base: &mut Base<u64>,
+    op: &Op<u64>,
+    (head, items): (u64, &[u64]),
+) -> Result<(), Refusal> {
+    call(alloc, base, op)?;
+    expect_queue(rt, alloc, base, head, items)
 }
 
 fn expect_dequeue_on_a_copy(
@@ -253,8 +283,7 @@ fn expect_dequeue_on_a_copy(
     base: &Base<u64>,
 ) -> Result<(), Refusal> {
     let mut copy = base.try_copy()?;
-    call(alloc, &mut copy, &Op::Dequeue)?;
-    expect_queue(rt, alloc, &copy, 6, &[9])
+    expect_queue_after(rt, alloc, &mut copy, &Op::Dequeue, (6, &[9]))
 }
 
 fn expect_queue_copied(
@@ -262,14 +291,18 @@ fn expect_queue_copied(
     alloc: Global,
     base: &mut Base<u64>,
 ) -> Result<(), Refusal> {
-    call(alloc, base, &Op::Enqueue(9))?;
+    expect_queue_after(rt, alloc, base, &Op::Enqueue(9), (5, &[8, 9]))?;
     expect_dequeue_on_a_copy(rt, alloc, base)?;
     expect_queue(rt, alloc, base, 5, &[8, 9])
 }
 
+fn expect_copy_of_queue(rt: &impl Abort, alloc: Global) -> Result<(), Refusal> {
+    let mut base = queue(alloc, 2, 5, &[8])?;
+    expect_queue_copied(rt, alloc, &mut base)
+}
+
 #[test]
 fn leave_alone_what_a_queue_was_copied_from(rt: HostRuntime) -> Result<(), Fail> {
-    let mut base = queue(rt.alloc(), 2, 5, &[8])?;
-    expect_queue_copied(&rt, rt.alloc(), &mut base)?;
+    expect_copy_of_queue(&rt, rt.alloc())?;
     Ok(())
 }
