@@ -31,10 +31,16 @@ is_ours() {
     return 1
 }
 
+is_prover() {
+    local at
+    at=$(readlink "/proc/$1/exe" 2>/dev/null)
+    [ "${at##*/}" = rattle ]
+}
+
+# A prover's process hands parts of its work to processes of its own: their time is its time, also once they have ended.
 look_at() {
-    local pid=$1 words name kind at
-    at=$(readlink "/proc/$pid/exe" 2>/dev/null)
-    [ "${at##*/}" = rattle ] || return
+    local pid=$1 words name kind at stats=() child
+    is_prover "$pid" && ! is_prover "$(ps -o ppid= -p "$pid" | tr -d ' ')" || return
     words=$(tr '\0' ' ' < "/proc/$pid/cmdline" 2>/dev/null)
     name=$(sed -n 's/.*--crate-name \([a-z0-9_]*\).*/\1/p' <<<"$words")
     [ -n "$name" ] && is_ours "$pid" || return
@@ -44,8 +50,14 @@ look_at() {
     *" --test "*) kind=tests ;;
     *) kind=proof ;;
     esac
-    awk -v name="$name" -v kind="$kind" -v hertz="$(getconf CLK_TCK)" -v now="$(date +%s)" \
-        '{ sub(/^.*\) /, ""); print now, "'"$pid"'", $20, ($12 + $13) / hertz, kind, name }' "/proc/$pid/stat" 2>/dev/null
+    for child in $(pgrep -P "$pid"); do
+        stats+=("/proc/$child/stat")
+    done
+    cat "/proc/$pid/stat" "${stats[@]}" 2>/dev/null | awk -v pid="$pid" -v name="$name" -v kind="$kind" \
+        -v hertz="$(getconf CLK_TCK)" -v now="$(date +%s)" '
+        { sub(/^.*\) /, ""); spent += $12 + $13 + $14 + $15 }
+        NR == 1 { started = $20 }
+        END { if (NR) print now, pid, started, spent / hertz, kind, name }'
 }
 
 case "${1:-}" in

@@ -3,7 +3,7 @@ use Rattle.std.specs.Prelude.{ℕ, List, [], ◌∷◌, Option, Some, None, opti
 use Rattle.std.specs.Ordering.{nat_cmp}
 use Rattle.std.specs.FinMap as map
 use Rattle.seq_model.specs.declared.call.Op.{Op}
-use Rattle.seq_model.specs.declared.call.Op.TheVariants.{Get, Put, Remove, Len}
+use Rattle.seq_model.specs.declared.call.Op.TheVariants.{Put, Remove}
 use Rattle.seq_model.specs.declared.call.Reply.{Reply}
 use Rattle.seq_model.specs.declared.call.Reply.TheVariants.{Value}
 use Rattle.seq_model.specs.declared.held.Held.{Held}

@@ -28,28 +28,40 @@ fn call(alloc: Global, base: &mut Base<u64>, op: &Op<u64>) -> Result<Reply<u64>,
     Ok(outcome.reply)
 }
 
-// A base that opened on this, after the call.
-fn changed(alloc: Global, held: Held<u64>, op: &Op<u64>) -> Result<Base<u64>, Refusal> {
-    let mut base = Base::open(alloc, 3, held)?;
-    call(alloc, &mut base, op)?;
-    Ok(base)
-}
-
-// A copy of it, opened anew.
-fn reopened(alloc: Global, base: &Base<u64>) -> Result<Base<u64>, Refusal> {
+fn held_by_a_copy(base: &Base<u64>) -> Result<Held<u64>, Memory> {
     let copy = base.try_copy()?;
-    Base::open(alloc, 2, copy.held()?)
+    copy.held()
 }
 
-// The reply to a second call, on the copy.
+fn reply_of(base: &Base<u64>, op: &Op<u64>) -> Result<Reply<u64>, Refusal> {
+    Ok(base.outcome(op)?.reply)
+}
+
+// The reply of a copy, opened anew.
+fn reply_of_a_copy(alloc: Global, base: &Base<u64>, op: &Op<u64>) -> Result<Reply<u64>, Refusal> {
+    let again = Base::open(alloc, 2, held_by_a_copy(base)?)?;
+    reply_of(&again, op)
+}
+
+fn replies(
+    alloc: Global,
+    base: &mut Base<u64>,
+    first: &Op<u64>,
+    second: &Op<u64>,
+) -> Result<Reply<u64>, Refusal> {
+    call(alloc, base, first)?;
+    reply_of_a_copy(alloc, base, second)
+}
+
+// The reply to a second call, on a copy of a base that opened on this, after the first.
 fn reply_after(
     alloc: Global,
     held: Held<u64>,
     first: &Op<u64>,
     second: &Op<u64>,
 ) -> Result<Reply<u64>, Refusal> {
-    let base = changed(alloc, held, first)?;
-    Ok(reopened(alloc, &base)?.outcome(second)?.reply)
+    let mut base = Base::open(alloc, 3, held)?;
+    replies(alloc, &mut base, first, second)
 }
 
 #[test]
@@ -104,21 +116,5 @@ fn a_location_pushed_twice_is_raised_once(rt: HostRuntime) -> Result<(), Fail> {
     let base = two_puts(rt.alloc())?;
     assert_eq!(rt; base.edition(0), 0);
     assert_eq!(rt; base.edition(1), 1);
-    Ok(())
-}
-
-#[test]
-fn an_outcome_has_the_footprint_of_its_kind(rt: HostRuntime) -> Result<(), Fail> {
-    let base = two_puts(rt.alloc())?;
-    let put = base.outcome(&Op::Put(4, 40))?;
-    assert_eq!(rt; base.reads(&put)?.as_slice(), [0].as_slice());
-    assert_eq!(rt; base.writes(&put)?.as_slice(), [0].as_slice());
-    Ok(())
-}
-
-#[test]
-fn a_call_of_another_kind_is_no_such(rt: HostRuntime) -> Result<(), Fail> {
-    let base = two_puts(rt.alloc())?;
-    assert!(rt; matches!(base.outcome(&Op::Peek), Err(Refusal::NoSuch)));
     Ok(())
 }

@@ -15,19 +15,28 @@ fn call(shadow: &mut Shadow<u64>, op: &Op<u64>) -> Result<Reply<u64>, Refusal> {
     Ok(reply)
 }
 
+fn put_two(shadow: &mut Shadow<u64>) -> Result<(), Refusal> {
+    call(shadow, &Op::Put(1, 10))?;
+    call(shadow, &Op::Put(3, 30))?;
+    Ok(())
+}
+
 // A copy of an empty map in two stripes, and two puts of the transaction itself.
 fn after_two_puts(alloc: Global) -> Result<Shadow<u64>, Refusal> {
     let base = Base::Map(MapBase::new(alloc, 2)?);
     let mut shadow = Shadow::of_copy(alloc, base);
-    call(&mut shadow, &Op::Put(1, 10))?;
-    call(&mut shadow, &Op::Put(3, 30))?;
+    put_two(&mut shadow)?;
     Ok(shadow)
+}
+
+fn reply_after_two_puts(alloc: Global, op: &Op<u64>) -> Result<Reply<u64>, Refusal> {
+    let mut shadow = after_two_puts(alloc)?;
+    call(&mut shadow, op)
 }
 
 #[test]
 fn answers_after_its_own_calls(rt: HostRuntime) -> Result<(), Fail> {
-    let mut shadow = after_two_puts(rt.alloc())?;
-    let reply = call(&mut shadow, &Op::Get(3))?;
+    let reply = reply_after_two_puts(rt.alloc(), &Op::Get(3))?;
     assert!(rt; matches!(reply, Reply::Value(30)));
     Ok(())
 }
@@ -45,10 +54,14 @@ fn logs_what_changes_something(rt: HostRuntime) -> Result<(), Fail> {
     Ok(())
 }
 
+fn reads_on(base: &Base<u64>, op: &Op<u64>) -> Result<LocSet, Refusal> {
+    let outcome = base.outcome(op)?;
+    Ok(base.reads(&outcome)?)
+}
+
 fn reads_of_len(alloc: Global) -> Result<LocSet, Refusal> {
     let shadow = after_two_puts(alloc)?;
-    let outcome = shadow.answer(&Op::Len)?;
-    Ok(shadow.base().reads(&outcome)?)
+    reads_on(shadow.base(), &Op::Len)
 }
 
 #[test]
