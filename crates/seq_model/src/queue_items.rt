@@ -80,11 +80,12 @@ impl QueueItems {
     }
 
     /// Adds items behind the last.
-    pub fn append(&mut self, more: &mut QueueItems) -> Result<(), Memory>
-        ensures ok { OnOk result (self.new ≡ self.old ++ more.old) }
+    pub fn append(&mut self, more: &QueueItems) -> Result<(), Memory>
+        ensures ok { OnOk result (self.new ≡ self.old ++ more.now) }
         ensures err { OnErr result (self.new ≡ self.old) }
     {
-        self.items.append(&mut more.items)?;
+        let mut copy = more.try_copy()?;
+        self.items.append(&mut copy.items)?;
         Ok(())
     }
 

@@ -1,16 +1,20 @@
 -- A map with changes made has, at each key, what the changes have there, and else what the map has. All else follows
 -- from this: a further change is made on top, no change leaves the map, and what stands at other keys is all that the
 -- changes need of the map below them.
-use Rattle.std.proofs.Common.{Bor, ◌≡◌, ◌≢◌, ℕ, ◌<◌, Bool, true, false, not, cond, List, [], ◌∷◌, ◌++◌, ◌⊎◌, inl, inr, Option, Some, None, refl, sym, ◌∙◌, ap, subst, arith, get_or, length}
+use Rattle.std.proofs.Common.{Bor, ◌≡◌, ◌≢◌, ℕ, zero, suc, ◌<◌, Bool, true, false, not, cond, List, [], ◌∷◌, ◌++◌, ◌⊎◌, inl, inr, Option, Some, None, refl, sym, ◌∙◌, ap, subst, arith, get_or, length, drop, append-nil, ◌+◌}
 use Rattle.std.specs.Ordering.{nat_cmp, is_eq}
 use Rattle.std.specs.Option.{option_copied, is_some}
 use Rattle.std.specs.Cmp.{nat_cmp_total}
 use Rattle.std.specs.FinMap.{FinMap, get, insert, remove, entries, empty, find, get-empty, get-entries, entries_sorted, same_map, nat_cmp-IsAntisymmetric}
 use Rattle.seq_model.specs.Entries.{IsRising}
 use Rattle.seq_model.proofs.EntryLemmas.{by_cases, both_true, below_at, find_below}
-use Rattle.vac_model.specs.Overlays.{placed, laid_by, laid, without, HasPlaces, AreElsewhereAlike}
+use Rattle.vac_model.specs.declared.queue.Queue.{Queue}
+use Rattle.vac_model.specs.Holdings.{Holdings}
+use Rattle.vac_model.specs.Overlays.{placed, laid_by, laid, without, HasPlaces, AreElsewhereAlike, moved, no_moves, no_changes, with_changes}
 use Rattle.vac_model.proofs.MapLemmas.{insert_both, remove_both}
 use Rattle.vac_model.proofs.HoldingLemmas.{some_same}
+use Rattle.std.proofs.lemmas.List.{drop_more}
+use Rattle.seq_model.specs.Queues.{first_of, rest_of}
 
 -- what is found at a key where the changes have the first, and the map the second
 abbrev pub over : {V : Type 0} → Option (Option V) → Option V → Option V
@@ -136,10 +140,10 @@ module _ {V : Type 0} where
       (q : ℕ) (v : V) → find nat_cmp q es ≡ Some (Some v) → get (placed m k o) q ≢ None
   places_after m k o es s places q v e none =
       let ne : q ≢ k = λ same.
-          let gone : find nat_cmp q es ≡ None = find_below q es (λ j d l. omega (arith, below_at k es (both_true _ _ s).0 j d l, same)) in
-          absurd (let f : Some (Some v) ≡ None = sym e ∙ gone in cc) in
+      let gone : find nat_cmp q es ≡ None = find_below q es (λ j d l. omega (arith, below_at k es (both_true _ _ s).0 j d l, same)) in
+      absurd (let f : Some (Some v) ≡ None = sym e ∙ gone in cc) in
       let here : find nat_cmp q ((k, o) ∷ es) ≡ Some (Some v) =
-          by_cases q k (λ c. cond (is_eq c) (Some o) (find nat_cmp q es) ≡ Some (Some v)) (λ _. e) (λ same. absurd (ne same)) (λ _. e) in
+      by_cases q k (λ c. cond (is_eq c) (Some o) (find nat_cmp q es) ≡ Some (Some v)) (λ _. e) (λ same. absurd (ne same)) (λ _. e) in
       places q v here (sym (placed_elsewhere m k o q ne) ∙ none)
 
   pub nothing_in : (q k : ℕ) (o : Option V) (es : List (ℕ × Option V)) → find nat_cmp q ((k, o) ∷ es) ≡ None → q ≢ k
@@ -160,7 +164,7 @@ module _ {V : Type 0} where
       ((q : ℕ) (w : V) → get c q ≡ Some (Some w) → (find nat_cmp q es ≡ Some (Some w)) ⊎ (get n q ≢ None))
   admits_next c first m n k v all es steps alike rest places other stays there =
       let after : (q : ℕ) → get c q ≡ None → (q ≢ k) × (find nat_cmp q es ≡ None) =
-          λ q none. left_after q k (Some v) es (sym (ap (find nat_cmp q) steps) ∙ rest q none) in
+      λ q none. left_after q k (Some v) es (sym (ap (find nat_cmp q) steps) ∙ rest q none) in
       (λ q none. other q (after q none).0 ∙ alike q none, λ q none. (after q none).1, λ q w some. next_place q w (places q w some))
     where
       by_key : (q : ℕ) (w : V) → ((q ≡ k) × (Some v ≡ Some w)) ⊎ ((q ≢ k) × (find nat_cmp q es ≡ Some (Some w))) →
@@ -197,7 +201,52 @@ module _ {V : Type 0} where
       laid_by m all ≡ end → n ≡ placed m k o →
       IsRising es × ((q : ℕ) (v : V) → find nat_cmp q es ≡ Some (Some v) → get n q ≢ None) × (laid_by n es ≡ end)
   settles_next m n k o all es end steps rising places rest is =
-      let s : IsRising ((k, o) ∷ es) = subst IsRising steps rising in
-      ((both_true _ _ s).1,
-      λ q v e none. places_after m k o es s (λ p w f. places p w (ap (find nat_cmp p) steps ∙ f)) q v e (sym (ap (λ t. get t q) is) ∙ none),
-      ap (λ t. laid_by t es) is ∙ sym (ap (laid_by m) steps) ∙ rest)
+      let s : IsRising ((k, o) ∷ es) = subst IsRising steps rising in (
+        (both_true _ _ s).1,
+        λ q v e none. places_after m k o es s (λ p w f. places p w (ap (find nat_cmp p) steps ∙ f)) q v e (sym (ap (λ t. get t q) is) ∙ none),
+        ap (λ t. laid_by t es) is ∙ sym (ap (laid_by m) steps) ∙ rest,
+      )
+
+-- ---- queues
+first_more : (xs ys : List ℕ) (x : ℕ) (rest : List ℕ) → xs ≡ x ∷ rest → first_of (xs ++ ys) ≡ first_of xs
+first_more xs ys x rest e = ap (λ l. first_of (l ++ ys)) e ∙ sym (ap first_of e)
+
+pub first_within : (xs ys : List ℕ) (n : ℕ) → n < length xs → first_of (drop n xs ++ ys) ≡ first_of (drop n xs)
+first_within xs ys n lt = first_more (drop n xs) ys _ _ (drop_more xs n 0 lt)
+
+pub taken_within : (xs ys : List ℕ) (n : ℕ) → n < length xs → drop (n + 1) xs ++ ys ≡ rest_of (drop n xs ++ ys)
+taken_within xs ys n lt = sym (ap (λ l. rest_of (l ++ ys)) (drop_more xs n 0 lt))
+
+rest_drop_suc : (n : ℕ) (xs : List ℕ) → rest_of (drop n xs) ≡ drop (suc n) xs
+rest_drop_suc zero [] = refl
+rest_drop_suc zero (x ∷ xs) = refl
+rest_drop_suc (suc n) [] = refl
+rest_drop_suc (suc n) (x ∷ xs) = rest_drop_suc n xs
+
+pub rest_drop : (n : ℕ) (xs : List ℕ) → rest_of (drop n xs) ≡ drop (n + 1) xs
+rest_drop n xs = rest_drop_suc n xs ∙ ap (λ k. drop k xs) (let e : suc n ≡ n + 1 = omega arith in e)
+
+-- ---- no changes
+unmoved : (q : Queue) → moved q no_moves ≡ q
+unmoved q =
+    let head : q.head + 0 ≡ q.head = omega arith in
+    let tickets : q.tickets ++ [] ≡ q.tickets = append-nil q.tickets in
+    (λ i. record { head = head i; tickets = tickets i })
+
+pub without_changes : (s : Holdings) → with_changes s (no_changes s.next) ≡ s
+without_changes s =
+    let car = laid-empty s.items.car in
+    let flight = laid-empty s.items.flight in
+    let room = laid-empty s.items.room in
+    let customers = laid-empty s.customers in
+    let tickets = laid-empty s.tickets in
+    let cars = unmoved s.waiting.car in
+    let flights = unmoved s.waiting.flight in
+    let rooms = unmoved s.waiting.room in
+    (λ i. record {
+      items = record { car = car i; flight = flight i; room = room i };
+      customers = customers i;
+      tickets = tickets i;
+      waiting = record { car = cars i; flight = flights i; room = rooms i };
+      next = s.next;
+    })

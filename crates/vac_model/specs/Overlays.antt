@@ -4,9 +4,9 @@ use Rattle.std.specs.Ordering.{nat_cmp}
 use Rattle.std.specs.FinMap as map
 use Rattle.vac_model.specs.declared.each.Each.{Each}
 use Rattle.vac_model.specs.declared.queue.Queue.{Queue}
-use Rattle.vac_model.specs.declared.changes.Moves.{Moves}
+use Rattle.vac_model.specs.declared.moves.Moves.{Moves}
 use Rattle.vac_model.specs.declared.changes.Changes.{Changes}
-use Rattle.vac_model.specs.Holdings.{Holdings}
+use Rattle.vac_model.specs.Holdings.{Holdings, everywhere}
 
 module _ {V : Type 0} where
   -- the map with this at a key, or with nothing there
@@ -35,9 +35,9 @@ module _ {V : Type 0} where
   abbrev pub AreElsewhereAlike : map.FinMap nat_cmp (Option V) → map.FinMap nat_cmp V → map.FinMap nat_cmp V → Type 0
   AreElsewhereAlike changes m n = (k : ℕ) → map.get changes k ≡ None → map.get n k ≡ map.get m k
 
--- a queue from whose front tickets are taken, and at whose end others are added
+-- a queue from whose front tickets are taken off, and at whose end others are given out
 abbrev pub moved : Queue → Moves → Queue
-moved line moves = record { head = line.head + moves.taken; tickets = drop moves.taken (line.tickets ++ moves.given) }
+moved line moves = record { head = line.head + moves.off; tickets = drop moves.taken line.tickets ++ moves.given }
 
 abbrev pub laid_each : {V : Type 0} → Each (map.FinMap nat_cmp V) → Each (map.FinMap nat_cmp (Option V)) → Each (map.FinMap nat_cmp V)
 laid_each m c = record { car = laid m.car c.car; flight = laid m.flight c.flight; room = laid m.room c.room }
@@ -55,3 +55,11 @@ with_changes s c =
       waiting = moved_each s.waiting c.waiting;
       next = c.next;
     }
+
+-- nothing changed yet, where this is the next ticket
+abbrev pub no_moves : Moves
+no_moves = record { off = 0; taken = 0; given = [] }
+
+abbrev pub no_changes : ℕ → Changes
+no_changes next =
+    record { items = everywhere map.empty; customers = map.empty; tickets = map.empty; waiting = everywhere no_moves; next = next }

@@ -4,19 +4,13 @@
 ghost use Rattle.std.specs.Prelude.{◌≡◌, ◌≢◌, ℕ, None, OnOk};
 ghost use Rattle.std.specs.Option.{option_copied};
 ghost use Rattle.std.specs.FinMap as map;
-ghost use Rattle.vac_model.specs.Overlays.{laid, without, HasPlaces, AreElsewhereAlike};
+ghost use Rattle.vac_model.specs.Overlays.{laid, no_changes, without, HasPlaces, AreElsewhereAlike};
 
 use crate::each::Each;
 use crate::item::{Customer, Item, Ticket};
-use seq_model::{Entries, Items, Memory, QueueItems, Value};
+use crate::moves::Moves;
+use seq_model::{Entries, Items, Memory, Value};
 use std::alloc::Global;
-
-/// How many tickets are taken off a queue, and which are added to it.
-#[derive(Drop)]
-pub(crate) struct Moves {
-    pub(crate) taken: u64,
-    pub(crate) given: QueueItems,
-}
 
 /// What is to stand at some keys of the tables' maps, or that nothing is; and what is moved in the queues.
 #[derive(Drop)]
@@ -26,6 +20,28 @@ pub(crate) struct Changes {
     pub(crate) tickets: Entries<Option<Ticket>>,
     pub(crate) waiting: Each<Moves>,
     pub(crate) next: u64,
+}
+
+impl Changes {
+    pub(crate) fn none(alloc: Global, next: u64) -> Changes
+        ensures { result ≡ no_changes next }
+    {
+        Changes {
+            items: Each {
+                car: Entries::new(alloc),
+                flight: Entries::new(alloc),
+                room: Entries::new(alloc),
+            },
+            customers: Entries::new(alloc),
+            tickets: Entries::new(alloc),
+            waiting: Each {
+                car: Moves::none(alloc),
+                flight: Moves::none(alloc),
+                room: Moves::none(alloc),
+            },
+            next,
+        }
+    }
 }
 
 /// What stands at a key with the changes made.

@@ -20,8 +20,8 @@ loop-key-preserved-in-Continue-1 g c =
     let l = c.loop-key.invariant in
     let e = c.in_ok-admit_one.ensures in
     let r = admits_next c.args.changes.now c.args.below.now c.loop-key.below c.admit_one.new.below _ _ _ _
-        (c.in-Some.ensures.steps ∙ ap (λ o. (c.in-Some.key.now, o) ∷ c.next.new.self) c.in-Some-change.is)
-        l.elsewhere l.rest l.places e.elsewhere e.stays e.ok in
+    (c.in-Some.ensures.steps ∙ ap (λ o. (c.in-Some.key.now, o) ∷ c.next.new.self) c.in-Some-change.is)
+    l.elsewhere l.rest l.places e.elsewhere e.stays e.ok in
     record { back = e.back ∙ l.back; elsewhere = r.0; rest = r.1; places = r.2 }
 
 pub returns-in_err-admit_one-clause-back : goal.returns-in_err-admit_one-clause-back
