@@ -1,5 +1,5 @@
 //! The items of a queue.
-ghost use Rattle.std.specs.Prelude.{◌≡◌, ◌++◌, ◌∷◌, [], length, ◌↔◌, IsTrue, IfOk, OnOk, OnErr};
+ghost use Rattle.std.specs.Prelude.{◌≡◌, ◌++◌, ◌∷◌, [], length, take, drop, ◌↔◌, IsTrue, IfOk, OnOk, OnErr};
 ghost use Rattle.seq_model.specs.Queues.{first_of, rest_of};
 
 use crate::refusal::Memory;
@@ -70,6 +70,30 @@ impl QueueItems {
     {
         self.items.push_back(item)?;
         Ok(())
+    }
+
+    /// The item at this place, where there is one.
+    pub fn get(&self, place: usize) -> Option<u64>
+        ensures { result ≡ first_of (drop place self.now) }
+    {
+        self.items.get(place).copied()
+    }
+
+    /// Adds items behind the last.
+    pub fn append(&mut self, more: &QueueItems) -> Result<(), Memory>
+        ensures ok { OnOk result (self.new ≡ self.old ++ more.now) }
+        ensures err { OnErr result (self.new ≡ self.old) }
+    {
+        let mut copy = more.try_copy()?;
+        self.items.append(&mut copy.items)?;
+        Ok(())
+    }
+
+    /// Keeps the first items, so many of them.
+    pub fn truncate(&mut self, len: usize)
+        ensures { self.new ≡ take len self.old }
+    {
+        self.items.truncate(len);
     }
 
     /// Takes the first item out, where there is one.
