@@ -1,0 +1,16 @@
+//! Tests of the reservation tables, by the calls that other crates make.
+//!
+//! What an action answers and leaves is in its contract. These tests run the actions on what was worked by hand, at the
+//! limits, and with each allocation refused in turn.
+#![tactic(auto)]
+
+#[cfg(test)]
+mod limits;
+#[cfg(test)]
+mod parts;
+#[cfg(test)]
+mod rows;
+#[cfg(test)]
+mod serving;
+#[cfg(test)]
+mod sessions;
