@@ -137,9 +137,9 @@ module _ {V : Type 0} (a : ℕ) where
       let t = planted a w (Gate k) (number_at v (Gate k)) v.boosted.parts v.boosted.editions in (
         λ o at. read_editions _ _ (c.reads o)
             (λ l m.
-                (base_found v w k e l (eq-eqb _ _ (read_home v stripes o l m ∙ ap (λ (z : Asked V). z.collection) at))).1),
+            (base_found v w k e l (eq-eqb _ _ (read_home v stripes o l m ∙ ap (λ (z : Asked V). z.collection) at))).1),
         sym ((content_frame {V = V} v.words v.blocks stripes).legal v.boosted.parts t.boosted.parts q
-        (λ l m. (base_found v w k e l (eq-eqb _ _ (read_home v stripes (c.outcome v.boosted.parts q) l m))).0)),
+            (λ l m. (base_found v w k e l (eq-eqb _ _ (read_home v stripes (c.outcome v.boosted.parts q) l m))).0)),
       )
 
   -- the first value store finds its word as before its request

@@ -96,9 +96,9 @@ module _ {V : Type 0} where
       let frame = content_frame {V = V} v.words v.blocks stripes in (
         λ o at. read_editions _ _ (c.reads o)
             (λ l m.
-                (same l (frame.no_word o l m) (read_home v stripes o l m ∙ (ap (λ (z : Asked V). z.collection) at ∙ here))).1),
+            (same l (frame.no_word o l m) (read_home v stripes o l m ∙ (ap (λ (z : Asked V). z.collection) at ∙ here))).1),
         sym (frame.legal v.boosted.parts t.boosted.parts q
-        (λ l m. let o = c.outcome v.boosted.parts q in (same l (frame.no_word o l m) (read_home v stripes o l m ∙ here)).0)),
+            (λ l m. let o = c.outcome v.boosted.parts q in (same l (frame.no_word o l m) (read_home v stripes o l m ∙ here)).0)),
       )
 
   finds_put : (a : ℕ) (v t : World V) (k : ℕ) → HaveStripes v.blocks → Puts v a k → OneBase k v t → FindsAt a v t (stage_of v a)
