@@ -19,7 +19,7 @@ use Rattle.collection_machine.specs.Boosted.{Action, TakeGate, PutGate, GoHome, 
 use Rattle.replay_log.specs.declared.base.Base.{Base}
 use Rattle.replay_log.specs.Base.{Shown, editions_of, shown_of, stripes_of}
 use Rattle.replay_log.specs.Parts.{part}
-use Rattle.replay_log.specs.Contents.{Block, Asked, Answered, HaveStripes, content, block_of, first_of, end_of, home_of, is_plain}
+use Rattle.replay_log.specs.Contents.{Block, Asked, HaveStripes, content, first_of, end_of, home_of, is_plain}
 use Rattle.replay_log.proofs.ContentLemmas.{content_frame}
 use Rattle.replay_log.specs.Seats.{World, Stage, Copying, Ready, actor_of, moves}
 use Rattle.replay_log.specs.Worlds.{happens, run}
