@@ -18,12 +18,12 @@ use Rattle.collection_machine.specs.Boosted.{Action, OnWords, TakeGate, PutGate,
 use Rattle.replay_log.specs.Base.{Shown}
 use Rattle.collection_machine.specs.Content.{IsIn}
 use Rattle.replay_log.specs.Contents.{Asked, Answered as Outcomes, HaveStripes, block_of, first_of, content, home_of}
-use Rattle.replay_log.proofs.ContentLemmas.{read_at, positive_at, home_is}
+use Rattle.replay_log.proofs.ContentLemmas.{read_at, positive_at, home_is, content_frame}
 use Rattle.replay_log.specs.Seats.{World, Seat, Stage, Copying, Ready, acted, asks}
 use Rattle.replay_log.specs.Worlds.{happens}
 use Rattle.replay_log.specs.WorldCalls.{with_editions}
 use Rattle.atomic_steps.specs.Machine.{SameWord}
-use Rattle.atomic_steps.specs.Own.{Alike, SameAfter, FindsBy, FindsAt}
+use Rattle.atomic_steps.specs.Own.{Alike, SameAfter, SameCopy, FindsBy, FindsAt}
 use Rattle.atomic_steps.specs.Steps.{Does, atomic_action, ready_at}
 use Rattle.atomic_steps.specs.Spots.{Spot, Nowhere, Word, Gate, spot_of, deed_of, word_spot, spot_by, gate_word, with_word, found_gate, spot_at, number_at, planted, given}
 use Rattle.atomic_steps.proofs.OwnEvents.{own_event}
@@ -60,6 +60,14 @@ found_free a (Some b) (Some d) e = sym
 pub read_editions : (f g : ℕ → ℕ) (ls : List ℕ) → ((l : ℕ) → IsIn l ls → f l ≡ g l) → with_editions f ls ≡ with_editions g ls
 read_editions f g [] e = refl
 read_editions f g (l ∷ ls) e = λ i. (l, e l (inl refl) i) ∷ read_editions f g ls (λ j m. e j (inr m)) i
+
+-- what a call reads lies in its collection
+pub read_home : {V : Type 0} → (v : World V) → HaveStripes v.blocks → (o : Outcomes V) (l : ℕ)
+    → IsIn l ((content {V = V} v.words v.blocks).reads o) → home_of v.words v.blocks l ≡ o.asked.collection
+read_home v stripes o l m =
+    let c = o.asked.collection in
+    let z = read_at (block_of v.blocks c) (first_of v.words v.blocks c) o.outcome l (λ b. positive_at v.blocks c b stripes) m in
+    ap (home_of v.words v.blocks) z.3 ∙ home_is v.words v.blocks c z.1 z.0 z.2 z.4
 
 module _ {V : Type 0} (a : ℕ) where
   pub planted_alike : (v w : World V) (spot : Spot) (n : ℕ) (parts : ℕ → Shown V) (editions : ℕ → ℕ) → Alike a v w
@@ -121,16 +129,18 @@ module _ {V : Type 0} (a : ℕ) where
             (cond-true {A = ℕ} (home_of w.words w.blocks l == k) (v.boosted.editions l) (w.boosted.editions l) b),
       )
 
-  reads_found : (v w : World V) (k : ℕ) → HaveStripes v.blocks → Alike a v w → (o : Outcomes V) → o.asked.collection ≡ k
-      → let t = planted a w (Gate k) (number_at v (Gate k)) v.boosted.parts v.boosted.editions in
-      let reads = (content {V = V} v.words v.blocks).reads o in with_editions v.boosted.editions reads
-      ≡ with_editions t.boosted.editions reads
-  reads_found v w k stripes e o at =
-      read_editions _ _ ((content {V = V} v.words v.blocks).reads o)
-      (λ l m.
-      let c = o.asked.collection in
-      let z = read_at (block_of v.blocks c) (first_of v.words v.blocks c) o.outcome l (λ b. positive_at v.blocks c b stripes) m in
-      (base_found v w k e l (eq-eqb _ _ (ap (home_of v.words v.blocks) z.3 ∙ (home_is v.words v.blocks c z.1 z.0 z.2 z.4 ∙ at)))).1)
+  copy_found : (v w : World V) (q : Asked V) → HaveStripes v.blocks → Alike a v w
+      → let k = q.collection in SameCopy v (planted a w (Gate k) (number_at v (Gate k)) v.boosted.parts v.boosted.editions) q
+  copy_found v w q stripes e =
+      let c = content {V = V} v.words v.blocks in
+      let k = q.collection in
+      let t = planted a w (Gate k) (number_at v (Gate k)) v.boosted.parts v.boosted.editions in (
+        λ o at. read_editions _ _ (c.reads o)
+            (λ l m.
+            (base_found v w k e l (eq-eqb _ _ (read_home v stripes o l m ∙ ap (λ (z : Asked V). z.collection) at))).1),
+        sym ((content_frame {V = V} v.words v.blocks stripes).legal v.boosted.parts t.boosted.parts q
+            (λ l m. (base_found v w k e l (eq-eqb _ _ (read_home v stripes (c.outcome v.boosted.parts q) l m))).0)),
+      )
 
   -- the first value store finds its word as before its request
   ready_found : (v w : World V) → Alike a v w
@@ -157,8 +167,7 @@ module _ {V : Type 0} (a : ℕ) where
       → FindsAt a v (planted a w (spot_at a v p) (number_at v (spot_at a v p)) v.boosted.parts v.boosted.editions) p
   finds v w u x (Copying q) stripes g e = (
     finds_by v w u x (Copying q) (atomic_action a v (Copying q)) g e,
-    λ o at. reads_found v w q.collection stripes e o
-        (ap (λ (z : Asked V). z.collection) at),
+    copy_found v w q stripes e,
   )
   finds v w u x (Ready ks) stripes g e = (refl, ready_found v w e)
   finds v w u x p stripes g e = finds_by v w u x p (atomic_action a v p) g e

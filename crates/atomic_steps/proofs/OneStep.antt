@@ -29,7 +29,7 @@ use Rattle.replay_log.specs.Base.{Shown}
 use Rattle.replay_log.specs.Contents.{Asked, Answered as Outcomes, content, is_plain}
 use Rattle.replay_log.specs.Pieces.{piece_at, covers_at}
 use Rattle.replay_log.specs.Seats.{World, Seat, Stage, Idle, Beginning, Open, Locking, Releasing, Closing, Cancelling, Leaving, Reading, Trying, Copying, Loading, Gating, Ready, Storing, Homing, Returning, After, no_one, at_stage, because, seated, acted, asks, moves, actor_of, word_notice}
-use Rattle.replay_log.specs.WorldCalls.{has_room, with_editions, is_fresh, judges, with_piece, reads, outcome_at, loads, answers, calls_on, if_allowed, ask_op, has_read, has_loaded}
+use Rattle.replay_log.specs.WorldCalls.{has_room, with_editions, is_fresh, judges, with_piece, reads, outcome_at, sized_by, loads, answers, calls_on, if_allowed, ask_op, has_read, has_loaded}
 use Rattle.replay_log.specs.WorldEnds.{cancels, gives_up, has_tried, has_cancelled}
 use Rattle.replay_log.specs.WorldCommits.{commits, recorded, takes_gates, has_locked, goes_home, has_stored, has_released}
 use Rattle.replay_log.specs.Worlds.{ask_at, has_begun, step_at, starve_at}
@@ -231,11 +231,12 @@ module _ {V : Type 0} (a : ℕ) where
   loads_by v u x o [] g = accept_by v u _ o.asked g
   loads_by v u x o (d ∷ es) g = judges_by v u x o d es (loads u a x o es) (lookup (actor_of u a).reads d.0) g (loads_by v u x o es g)
 
-  answers_by : (v u : World V) (before x : Seat V) (o : Outcomes V) (editions : ℕ → ℕ) → OnlyOwn a v u
-      → OnlyOwn a v (answers u a before x o editions).0
-  answers_by v u before x o editions g =
+  answers_by : (v u : World V) (before x : Seat V) (sized o : Outcomes V) (editions : ℕ → ℕ) → OnlyOwn a v u
+      → OnlyOwn a v (answers u a before x sized o editions).0
+  answers_by v u before x sized o editions g =
       let c = content u.words u.blocks in
-      cond_both {A = After V} (has_room (actor_of u a) (c.reads o) (c.writes o)) (loads u a x o (with_editions editions (c.reads o)))
+      cond_both {A = After V} (has_room (actor_of u a) (c.reads sized) (c.writes sized))
+      (loads u a x o (with_editions editions (c.reads o)))
       (seated u a (at_stage before Open), Refused a refusal.TooLong) (λ z. OnlyOwn a v z.0)
       (λ _. loads_by v u x o (with_editions editions (c.reads o)) g) (λ _. seated_by v u _ g)
 
@@ -246,9 +247,10 @@ module _ {V : Type 0} (a : ℕ) where
   calls_on_by : (v u : World V) (x : Seat V) (asked : Asked V) → OnlyOwn a v u → OnlyOwn a v (calls_on u a x asked).0
   calls_on_by v u x asked g =
       let editions = (u.boosted.shadows a).editions in
-      cond_both {A = After V} (x.copied asked.collection (piece_at u.blocks asked)) (answers u a x x (outcome_at u a asked) editions) _
+      let o = outcome_at u a asked in
+      cond_both {A = After V} (x.copied asked.collection (piece_at u.blocks asked)) (answers u a x x o o editions) _
       (λ z. OnlyOwn a v z.0)
-      (λ _. answers_by v u x x (outcome_at u a asked) editions g) (λ _. seated_by v u _ g)
+      (λ _. answers_by v u x x o o editions g) (λ _. seated_by v u _ g)
 
   if_allowed_by : (v u : World V) (x : Seat V) (known room : Bool) (next : After V) → OnlyOwn a v u → OnlyOwn a v next.0
       → OnlyOwn a v (if_allowed u a x known room next).0
@@ -335,7 +337,8 @@ module _ {V : Type 0} (a : ℕ) where
   step_by v x (Trying q tries) = (refl, tried_by _ _ x _ q.collection [] (λ n. Trying q n) (Copying q) tries (nothing _))
   step_by v x (Copying q) =
       let u = acted v (PutGate a q.collection (covers_at v.words v.blocks q) ∷ []) in
-      (refl, answers_by u u x (with_piece x q.collection (piece_at u.blocks q)) (outcome_at u a q) u.boosted.editions (nothing u))
+      let o = outcome_at u a q in
+      (refl, answers_by u u x (with_piece x q.collection (piece_at u.blocks q)) (sized_by u a q o) o u.boosted.editions (nothing u))
   step_by v x (Loading o []) = nothing v
   step_by v x (Loading o (l ∷ ls)) = (refl, loaded_by _ _ x o l ls (word_notice v a) (nothing _))
   step_by v x Locking = (refl, locked_by _ _ x (word_notice v a) (nothing _))

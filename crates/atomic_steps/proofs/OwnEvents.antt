@@ -37,12 +37,12 @@ use Rattle.replay_log.specs.Base.{Shown}
 use Rattle.replay_log.specs.Contents.{Block, Asked, Answered as Outcomes, block_of, content, home_of, is_plain}
 use Rattle.replay_log.specs.Pieces.{piece_at, covers_at}
 use Rattle.replay_log.specs.Seats.{World, Seat, Stage, Idle, Beginning, Open, Locking, Releasing, Closing, Cancelling, Leaving, Reading, Trying, Copying, Loading, Gating, Ready, Storing, Homing, Returning, After, no_one, at_stage, because, seated, acted, asks, moves, actor_of, word_notice}
-use Rattle.replay_log.specs.WorldCalls.{fits, has_room, may_ask, with_editions, is_fresh, judges, with_piece, replied, reads, outcome_at, loads, answers, calls_on, is_known, if_allowed, ask_op, has_read, has_copied, has_loaded}
+use Rattle.replay_log.specs.WorldCalls.{fits, has_room, may_ask, with_editions, is_fresh, is_stale, judges, with_piece, replied, reads, outcome_at, sized_by, loads, answers, calls_on, is_known, if_allowed, ask_op, has_read, has_copied, has_loaded}
 use Rattle.replay_log.specs.WorldEnds.{is_leaving, cancels, gives_up, ended, has_tried, has_cancelled}
 use Rattle.replay_log.specs.WorldCommits.{distinct, all_of, commits, recorded, written_homes, takes_gates, has_locked, goes_home, has_stored, has_released}
 use Rattle.replay_log.specs.Worlds.{ask_at, has_begun, step_at, starve_at, happens}
 use Rattle.atomic_steps.specs.Machine.{AlikeBelow, FindsBelow, SameWord}
-use Rattle.atomic_steps.specs.Own.{Alike, SameAfter, FindsAt, Finds}
+use Rattle.atomic_steps.specs.Own.{Alike, SameAfter, SameCopy, FindsAt, Finds}
 use Rattle.atomic_steps.proofs.OwnActions.{own_action, both, agree}
 
 lock_same : (s t : machine.World) (l : ℕ) → bits (s.locks l) ≡ bits (t.locks l) → s.locks l ≡ t.locks l
@@ -147,22 +147,33 @@ module _ {V : Type 0} (a : ℕ) where
       (loads u a x o ms)
   loads_from v u x o ls ms q e = subst (λ (z : Entries). SameAfter a (loads v a x o ls) (loads u a x o z)) q (loads_alike v u x o ls e)
 
-  answers_alike : (v u : World V) (before x : Seat V) (o : Outcomes V) (f g : ℕ → ℕ)
+  answers_alike : (v u : World V) (before x : Seat V) (sized o : Outcomes V) (f g : ℕ → ℕ)
       → let reads = (content {V = V} v.words v.blocks).reads o in with_editions f reads ≡ with_editions g reads → Alike a v u
-      → SameAfter a (answers v a before x o f) (answers u a before x o g)
-  answers_alike v u before x o f g same e =
+      → SameAfter a (answers v a before x sized o f) (answers u a before x sized o g)
+  answers_alike v u before x sized o f g same e =
       agree (SameAfter a) _ _ _ _ _ _
-      (λ i. has_room (e.boosted.actor i) ((same_content v u e i).reads o) ((same_content v u e i).writes o))
+      (λ i. has_room (e.boosted.actor i) ((same_content v u e i).reads sized) ((same_content v u e i).writes sized))
       (loads_from v u x o _ _ (same ∙ (λ i. with_editions g ((same_content v u e i).reads o))) e)
       (quietly v u _ _ _ refl e)
 
-  answers_from : (v u : World V) (before x : Seat V) (o p : Outcomes V) (f g : ℕ → ℕ) → o ≡ p
+  answers_from : (v u : World V) (before x : Seat V) (sized size o p : Outcomes V) (f g : ℕ → ℕ) → sized ≡ size → o ≡ p
       → (let reads = (content {V = V} v.words v.blocks).reads o in with_editions f reads ≡ with_editions g reads) → Alike a v u
-      → SameAfter a (answers v a before x o f) (answers u a before x p g)
-  answers_from v u before x o p f g q same e = subst
-      (λ (z : Outcomes V). SameAfter a (answers v a before x o f) (answers u a before x z g)) q (answers_alike v u before x o f g same e)
+      → SameAfter a (answers v a before x sized o f) (answers u a before x size p g)
+  answers_from v u before x sized size o p f g r q same e =
+      subst (λ (s : Outcomes V). SameAfter a (answers v a before x sized o f) (answers u a before x s p g)) r
+      (subst (λ (z : Outcomes V). SameAfter a (answers v a before x sized o f) (answers u a before x sized z g)) q
+      (answers_alike v u before x sized o f g same e))
 
-  -- a try to put a gate back leaves every edition
+  -- whose locations are to fit the sets
+  sized_alike : (v u : World V) (q : Asked V) → Alike a v u → SameCopy v u q
+      → sized_by v a q (outcome_at v a q) ≡ sized_by u a q (outcome_at u a q)
+  sized_alike v u q e f =
+      let same = f.0 (outcome_at v a q) refl
+      ∙ (λ i. with_editions u.boosted.editions ((same_content v u e i).reads (outcome_alike v u q e i))) in
+      let now = f.1 ∙ (λ i. (same_content v u e i).outcome u.boosted.parts q) in
+      λ i. if is_stale (e.boosted.actor i).reads (same i) then now i else outcome_alike v u q e i
+
+  -- a try to put a gate back leaves every edition, and every part
   put_editions : (v : World V) (k : ℕ) (which : ℕ → Bool) → (acted v (PutGate a k which ∷ [])).boosted.editions ≡ v.boosted.editions
   put_editions v k which =
       let s = v.boosted in
@@ -173,10 +184,32 @@ module _ {V : Type 0} (a : ℕ) where
       (copied c s (s.words.actors a).calls (s.shadows a) k which) else s.shadows)) s
       (λ t. t.editions ≡ s.editions) (λ _. refl) (λ _. refl)
 
+  put_parts : (v : World V) (k : ℕ) (which : ℕ → Bool) → (acted v (PutGate a k which ∷ [])).boosted.parts ≡ v.boosted.parts
+  put_parts v k which =
+      let s = v.boosted in
+      let c = content {V = V} v.words v.blocks in
+      cond_both {A = Boosted (Shown V) (Outcomes V)} (is_actor a (s.gates k) && not (is_committing (s.words.actors a).place))
+      (gated s (machine.put s.gates k None)
+      (if is_open (s.words.actors a).place then machine.put s.shadows a
+      (copied c s (s.words.actors a).calls (s.shadows a) k which) else s.shadows)) s
+      (λ t. t.parts ≡ s.parts) (λ _. refl) (λ _. refl)
+
+  put_copy : (v u : World V) (q : Asked V) (k : ℕ) (which others : ℕ → Bool) → SameCopy v u q
+      → SameCopy (acted v (PutGate a k which ∷ [])) (acted u (PutGate a k others ∷ [])) q
+  put_copy v u q k which others f = (
+    λ o at.
+        let reads = (content {V = V} v.words v.blocks).reads o in
+        ap (λ (g : ℕ → ℕ). with_editions g reads) (put_editions v k which)
+        ∙ (f.0 o at ∙ sym (ap (λ (g : ℕ → ℕ). with_editions g reads) (put_editions u k others))),
+    (let c = content {V = V} v.words v.blocks in
+        ap (λ (g : ℕ → Shown V). c.outcome g q) (put_parts v k which)
+        ∙ (f.1 ∙ sym (ap (λ (g : ℕ → Shown V). c.outcome g q) (put_parts u k others)))),
+  )
+
   calls_alike : (v u : World V) (x : Seat V) (q : Asked V) → Alike a v u → SameAfter a (calls_on v a x q) (calls_on u a x q)
   calls_alike v u x q e =
       agree (SameAfter a) _ _ _ _ _ _ (ap (λ (bs : List Block). x.copied q.collection (piece_at bs q)) e.blocks)
-      (answers_from v u x x _ _ _ _ (outcome_alike v u q e)
+      (answers_from v u x x _ _ _ _ _ _ (outcome_alike v u q e) (outcome_alike v u q e)
       (ap (λ (z : Shadow (Shown V) (Outcomes V)). with_editions z.editions
       ((content {V = V} v.words v.blocks).reads (outcome_at v a q))) e.boosted.shadow) e)
       (quietly v u _ _ _ refl e)
@@ -316,18 +349,14 @@ module _ {V : Type 0} (a : ℕ) where
       let h = subst (λ (which : ℕ → Bool). Alike a (acted v (PutGate a k (covers_at v.words v.blocks q) ∷ []))
       (acted u (PutGate a k which ∷ []))) (λ i. covers_at (e.words i) (e.blocks i) q)
       (one_alike v u (PutGate a k (covers_at v.words v.blocks q)) e f.0) in
-      let same = ap (λ (g : ℕ → ℕ). with_editions g
-      ((content {V = V} v.words v.blocks).reads (outcome_at (acted v (PutGate a k (covers_at v.words v.blocks q) ∷ [])) a q)))
-      (put_editions v k (covers_at v.words v.blocks q))
-      ∙ (f.1 (outcome_at (acted v (PutGate a k (covers_at v.words v.blocks q) ∷ [])) a q) refl
-      ∙ sym (ap (λ (g : ℕ → ℕ). with_editions g
-      ((content {V = V} v.words v.blocks).reads (outcome_at (acted v (PutGate a k (covers_at v.words v.blocks q) ∷ [])) a q)))
-      (put_editions u k (covers_at u.words u.blocks q)))) in
-      subst (λ (bs : List Block). SameAfter a (has_copied (acted v (PutGate a k (covers_at v.words v.blocks q) ∷ [])) a x q)
-      (answers (acted u (PutGate a k (covers_at u.words u.blocks q) ∷ [])) a x (with_piece x k (piece_at bs q))
-      (outcome_at (acted u (PutGate a k (covers_at u.words u.blocks q) ∷ [])) a q)
-      (acted u (PutGate a k (covers_at u.words u.blocks q) ∷ [])).boosted.editions)) e.blocks
-      (answers_from _ _ x (with_piece x k (piece_at v.blocks q)) _ _ _ _ (outcome_alike _ _ q h) same h)
+      let v' : World V = acted v (PutGate a k (covers_at v.words v.blocks q) ∷ []) in
+      let u' : World V = acted u (PutGate a k (covers_at u.words u.blocks q) ∷ []) in
+      let g = put_copy v u q k (covers_at v.words v.blocks q) (covers_at u.words u.blocks q) f.1 in
+      let o = outcome_at u' a q in
+      subst (λ (bs : List Block). SameAfter a (has_copied v' a x q)
+      (answers u' a x (with_piece x k (piece_at bs q)) (sized_by u' a q o) o u'.boosted.editions)) e.blocks
+      (answers_from v' u' x (with_piece x k (piece_at v.blocks q)) _ _ _ _ _ _ (sized_alike v' u' q h g) (outcome_alike v' u' q h)
+      (g.0 (outcome_at v' a q) refl) h)
   step_alike v u x (Loading o []) e f = (e, refl)
   step_alike v u x (Loading o (d ∷ es)) e f = telling _ _ _ _ (told_alike v u e f.1)
       (λ n. loaded_alike _ _ x o d es n (moved_alike v u e f.1))

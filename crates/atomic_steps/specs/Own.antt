@@ -31,9 +31,14 @@ module _ {V : Type 0} where
       (o : Answered V) → o.asked ≡ asked → let reads = (content v.words v.blocks).reads o in with_editions v.boosted.editions reads
       ≡ with_editions u.boosted.editions reads
 
-  -- what the next step of a finds is the same; a copy is judged by the editions of the base that it finds
+  -- and so is the outcome that it has of the base
+  abbrev pub SameCopy : World V → World V → Asked V → Type 0
+  SameCopy v u asked =
+      let c = content v.words v.blocks in SameEditions v u asked × (c.outcome v.boosted.parts asked ≡ c.outcome u.boosted.parts asked)
+
+  -- what the next step of a finds is the same; a copy is judged by the base that it finds
   abbrev pub FindsAt : ℕ → World V → World V → Stage V → Type 0
-  FindsAt a v u (Copying asked) = FindsBy a v u (atomic_action a v (Copying asked)) × SameEditions v u asked
+  FindsAt a v u (Copying asked) = FindsBy a v u (atomic_action a v (Copying asked)) × SameCopy v u asked
   FindsAt a v u stage = FindsBy a (ready_at a v stage) (ready_at a u stage) (atomic_action a v stage)
 
   abbrev pub Finds : ℕ → World V → World V → Event V → Type 0

@@ -44,7 +44,7 @@ use Rattle.collection_machine.proofs.Schedules.{acts_led}
 use Rattle.replay_log.specs.Base.{Shown}
 use Rattle.replay_log.specs.Contents.{Block, Asked, Answered, HaveStripes, is_plain, block_of, first_of, content}
 use Rattle.replay_log.specs.Pieces.{piece_at, covers_at}
-use Rattle.replay_log.specs.Worlds.{World, Seat, Stage, Idle, Beginning, Open, Locking, Releasing, Closing, Cancelling, Leaving, Reading, Trying, Copying, Loading, Gating, Ready, Storing, Homing, Returning, After, has_room, with_editions, at_stage, because, seated, acted, asks, moves, actor_of, word_notice, no_one, is_leaving, cancels, gives_up, with_call, reads, outcome_at, is_fresh, judges, loads, answers, calls_on, call_of, reply_of, is_known, may_ask, if_allowed, ask_op, commits, ask_at, recorded, why, has_begun, has_read, has_tried, with_piece, has_loaded, written_homes, takes_gates, has_locked, goes_home, has_stored, has_released, has_cancelled, step_at, starve_at, more_tries, happens, run, opened}
+use Rattle.replay_log.specs.Worlds.{World, Seat, Stage, Idle, Beginning, Open, Locking, Releasing, Closing, Cancelling, Leaving, Reading, Trying, Copying, Loading, Gating, Ready, Storing, Homing, Returning, After, has_room, with_editions, at_stage, because, seated, acted, asks, moves, actor_of, word_notice, no_one, is_leaving, cancels, gives_up, with_call, reads, outcome_at, is_fresh, judges, loads, answers, calls_on, call_of, reply_of, is_known, may_ask, if_allowed, ask_op, commits, ask_at, recorded, why, has_begun, has_read, has_tried, with_piece, sized_by, has_loaded, written_homes, takes_gates, has_locked, goes_home, has_stored, has_released, has_cancelled, step_at, starve_at, more_tries, happens, run, opened}
 use Rattle.replay_log.specs.WorldAlone.{IsConflict, IsAlone, IsFree, TellsConflict, IsUnstarved, TellsMemory}
 use Rattle.replay_log.specs.WorldProgress.{whose}
 use Rattle.replay_log.proofs.ContentLemmas.{content_frame}
@@ -262,13 +262,13 @@ module _ {V : Type 0} (P : Refusal → Type 0) (a : ℕ) where
       judges_fine u x o d es (loads u a x o es) (lookup (actor_of u a).reads d.0) now (λ v e. sym now.0 ∙ sets d.0 v pl.0 e)
       (loads_fine es u x o now.1 pl.1 sets)
 
-  answers_fine : (u : World V) (before x : Seat V) (o : Answered V) (editions : ℕ → ℕ)
+  answers_fine : (u : World V) (before x : Seat V) (sized o : Answered V) (editions : ℕ → ℕ)
       → AllNow u.boosted.editions (with_editions editions ((content u.words u.blocks).reads o))
       → ArePlain u.words u.blocks (with_editions editions ((content u.words u.blocks).reads o)) → SetsNow u
-      → Fine (answers u a before x o editions)
-  answers_fine u before x o editions now pl sets =
+      → Fine (answers u a before x sized o editions)
+  answers_fine u before x sized o editions now pl sets =
       let c = content u.words u.blocks in
-      choose_fine (has_room (actor_of u a) (c.reads o) (c.writes o)) (loads u a x o (with_editions editions (c.reads o))) _
+      choose_fine (has_room (actor_of u a) (c.reads sized) (c.writes sized)) (loads u a x o (with_editions editions (c.reads o))) _
       (λ _. loads_fine (with_editions editions (c.reads o)) u x o now pl sets)
       (λ _. (seated_fine u (at_stage before Open) tt, λ h. absurd h))
 
@@ -283,7 +283,7 @@ module _ {V : Type 0} (P : Refusal → Type 0) (a : ℕ) where
       (λ has_it. (
       let v = changes c z.outcomes z.parts in
       let r = known_some (block_of u.blocks asked.collection) (first_of u.words u.blocks asked.collection) v asked.op known.1 in
-      answers_fine u x x o z.editions
+      answers_fine u x x o o z.editions
       (with_now u.boosted.editions z.editions (c.reads o) (λ l i. (
       let q = reads_ok u.words u.blocks v asked r.0 l k.base.stripes r.1 i in
       sym (h.copied m l (live.pieces asked.collection (piece_at u.blocks asked) has_it l q.plain q.home q.covered)))))
@@ -470,7 +470,7 @@ module _ {V : Type 0} (P : Refusal → Type 0) (a : ℕ) where
           let o = outcome_at t a asked in
           let place : (actor_of t a).place ≡ machine.Open = ap (λ (s : Words). (s.actors a).place)
           (put_words c w.boosted a asked.collection which) ∙ ok.0 in
-          answers_fine t x (with_piece x asked.collection (piece_at w.blocks asked)) o t.boosted.editions
+          answers_fine t x (with_piece x asked.collection (piece_at w.blocks asked)) (sized_by t a asked o) o t.boosted.editions
           (with_now t.boosted.editions t.boosted.editions (c.reads o) (λ l i. refl))
           (with_plain w.words w.blocks t.boosted.editions (c.reads o) (λ l i.
           (content_frame w.words w.blocks k.base.stripes).no_word o l i))

@@ -25,7 +25,7 @@ use Rattle.seq_model.specs.declared.limits.TheConstants.{CALL_LIMIT}
 use Rattle.collection_machine.specs.Boosted.{TakeGate, PutGate, GoHome, is_none}
 use Rattle.replay_log.specs.Contents.{Asked, Answered, content}
 use Rattle.replay_log.specs.Pieces.{piece_at, covers_at}
-use Rattle.replay_log.specs.Worlds.{World, Seat, Stage, Idle, Beginning, Open, Locking, Releasing, Closing, Cancelling, Leaving, Reading, Trying, Copying, Loading, Gating, Ready, Storing, Homing, Returning, After, has_room, with_editions, at_stage, because, seated, acted, asks, moves, actor_of, word_notice, no_one, gives_up, reads, outcome_at, is_fresh, judges, loads, answers, calls_on, if_allowed, ask_op, commits, ask_at, recorded, why, has_begun, has_read, has_tried, with_piece, has_loaded, takes_gates, has_locked, goes_home, has_stored, has_released, has_cancelled, step_at, starve_at, is_half_done, happens}
+use Rattle.replay_log.specs.Worlds.{World, Seat, Stage, Idle, Beginning, Open, Locking, Releasing, Closing, Cancelling, Leaving, Reading, Trying, Copying, Loading, Gating, Ready, Storing, Homing, Returning, After, has_room, with_editions, at_stage, because, seated, acted, asks, moves, actor_of, word_notice, no_one, gives_up, reads, outcome_at, is_fresh, judges, loads, answers, calls_on, if_allowed, ask_op, commits, ask_at, recorded, why, has_begun, has_read, has_tried, with_piece, sized_by, has_loaded, takes_gates, has_locked, goes_home, has_stored, has_released, has_cancelled, step_at, starve_at, is_half_done, happens}
 use Rattle.replay_log.specs.WorldRefusals.{is_ending}
 use Rattle.replay_log.specs.WorldProgress.{IsQuiet}
 use Rattle.replay_log.specs.WorldStill.{Same}
@@ -186,13 +186,14 @@ module _ {V : Type 0} where
   begun_says w u a x false e =
       (refl, (refl, not_below w.boosted.words.clock machine.clock_limit e, ap (λ (q : Seat V). q.stage) (put-same u.seats a no_one)))
 
-  copied_says : (w u : World V) (a : ℕ) (before x : Seat V) (asked : Asked V) (o : Answered V) (editions : ℕ → ℕ) → w.seats a ≡ before
+  copied_says : (w u : World V) (a : ℕ) (before x : Seat V) (asked : Asked V) (sized o : Answered V) (editions : ℕ → ℕ)
+      → w.seats a ≡ before
       → actor_of u a ≡ actor_of w a
-      → let r = answers u a before x o editions in RefusedBy a (IsRefusedAt w a (Copying asked) r.0) r.1
-  copied_says w u a before x asked o editions seat same =
+      → let r = answers u a before x sized o editions in RefusedBy a (IsRefusedAt w a (Copying asked) r.0) r.1
+  copied_says w u a before x asked sized o editions seat same =
       let c = content u.words u.blocks in
       let es = with_editions editions (c.reads o) in
-      cond_both {A = After V} (has_room (actor_of u a) (c.reads o) (c.writes o)) (loads u a x o es)
+      cond_both {A = After V} (has_room (actor_of u a) (c.reads sized) (c.writes sized)) (loads u a x o es)
       (seated u a (at_stage before Open), Refused a refusal.TooLong)
       (λ r. RefusedBy a (IsRefusedAt w a (Copying asked) r.0) r.1)
       (λ _. no_refusal a (IsRefusedAt w a (Copying asked) (loads u a x o es).0) (loads u a x o es).1 (loads_no es u a x o))
@@ -216,7 +217,8 @@ module _ {V : Type 0} where
   step_says w a x (Copying asked) seat ok =
       let which = covers_at w.words w.blocks asked in
       let u = acted w (PutGate a asked.collection which ∷ []) in
-      copied_says w u a x (with_piece x asked.collection (piece_at w.blocks asked)) asked (outcome_at u a asked) u.boosted.editions seat
+      let o = outcome_at u a asked in
+      copied_says w u a x (with_piece x asked.collection (piece_at w.blocks asked)) asked (sized_by u a asked o) o u.boosted.editions seat
       (ap (λ (s : Words). s.actors a) (put_words (content w.words w.blocks) w.boosted a asked.collection which))
   step_says w a x Leaving seat ok =
       let u = record (acted w

@@ -36,7 +36,7 @@ use Rattle.replay_log.specs.Base.{Shown, OfMap, outcome_of, reads_of, writes_of}
 use Rattle.replay_log.specs.Parts.{Kind, MapKind, BagKind, PqKind, QueueKind, whole}
 use Rattle.replay_log.specs.Contents.{Block, Asked, Answered, block_of, first_of, end_of, home_of, is_plain, HaveStripes, shifted, blank, seen, answer, reads_in, writes_in, content}
 use Rattle.replay_log.specs.Pieces.{Piece, Entry, Counts, Whole, is_piece, piece_of, piece_in, covers, covers_in, piece_at, covers_at}
-use Rattle.replay_log.specs.Worlds.{World, Seat, Open, Trying, Loading, After, has_room, is_change, with_editions, at_stage, because, seated, acted, asks, actor_of, outcome_at, reply_of, call_of, with_call, is_missing, is_known, is_fresh, judges, loads, answers, calls_on, with_piece, has_copied, has_loaded, more_tries}
+use Rattle.replay_log.specs.Worlds.{World, Seat, Open, Trying, Loading, After, has_room, is_change, with_editions, at_stage, because, seated, acted, asks, actor_of, outcome_at, reply_of, call_of, with_call, is_missing, is_known, is_fresh, judges, loads, answers, calls_on, with_piece, sized_by, has_copied, has_loaded, more_tries}
 use Rattle.replay_log.proofs.PartLemmas.{knows_its_calls}
 use Rattle.replay_log.proofs.ReadLemmas.{first_read-other, first_read-new, in_set, kept_at}
 use Rattle.replay_log.proofs.ContentLemmas.{in_shifted, read_at, home_is, positive_at, content_frame}
@@ -455,15 +455,15 @@ module _ {V : Type 0} where
   left_all n bs y z editions [] h = tt
   left_all n bs y z editions (l ∷ ls) h = let q = h l (inl refl) in (q.0, q.1, q.2, left_all n bs y z editions ls (λ i m. h i (inr m)))
 
-  answers_linked : (u : World V) (a : ℕ) (before x : Seat V) (y : Actor) (z : Copy V) (g : ℕ → Bool) (asked : Asked V) (editions : ℕ → ℕ) → At u a y z g → ((k : ℕ) → g k ≡ false) → y.place ≡ machine.Open
+  answers_linked : (u : World V) (a : ℕ) (before x : Seat V) (y : Actor) (z : Copy V) (g : ℕ → Bool) (asked : Asked V) (sized : Answered V) (editions : ℕ → ℕ) → At u a y z g → ((k : ℕ) → g k ≡ false) → y.place ≡ machine.Open
       → Live u.words u.blocks before y z → Live u.words u.blocks x y z → KnownAsk u.blocks y asked
-      → ((l : ℕ) → ReadsOk u.words u.blocks asked l → (z.copied l ≡ true) × (first_read y.calls l ≡ None → z.editions l ≡ editions l)) → Linked (answers u a before x (outcome_at u a asked) editions).0
-  answers_linked u a before x y z g asked editions k none e old live known cop =
+      → ((l : ℕ) → ReadsOk u.words u.blocks asked l → (z.copied l ≡ true) × (first_read y.calls l ≡ None → z.editions l ≡ editions l)) → Linked (answers u a before x sized (outcome_at u a asked) editions).0
+  answers_linked u a before x y z g asked sized editions k none e old live known cop =
       let c = content u.words u.blocks in
       let s = u.boosted in
       let o = outcome_at u a asked in
       let r = known_some (block_of u.blocks asked.collection) (first_of u.words u.blocks asked.collection) (changes c (s.shadows a).outcomes (s.shadows a).parts) asked.op known.1 in
-      choose (has_room (actor_of u a) (c.reads o) (c.writes o)) (loads u a x o (with_editions editions (c.reads o))) (seated u a (at_stage before Open), Refused a refusal.TooLong)
+      choose (has_room (actor_of u a) (c.reads sized) (c.writes sized)) (loads u a x o (with_editions editions (c.reads o))) (seated u a (at_stage before Open), Refused a refusal.TooLong)
       (λ _. loads_linked (with_editions editions (c.reads o)) u a x y z g o k none e live (record {
         is = ap (λ (q : Copy V). c.outcome (changes c q.outcomes q.parts) asked) k.own.shadow;
         kind = known.0;
@@ -480,7 +480,7 @@ module _ {V : Type 0} where
       → Live w.words w.blocks x y z → KnownAsk w.blocks y asked → Linked (calls_on w a x asked).0
   calls_on_linked w a x y z g asked k none e live known =
       choose (x.copied asked.collection (piece_at w.blocks asked)) _ _
-      (λ has_it. answers_linked w a x x y z g asked (w.boosted.shadows a).editions k none e live live known
+      (λ has_it. answers_linked w a x x y z g asked (outcome_at w a asked) (w.boosted.shadows a).editions k none e live live known
       (λ l r. (
         live.pieces asked.collection (piece_at w.blocks asked) has_it l r.plain r.home r.covered,
         λ _. ap (λ (q : Copy V). q.editions l) (sym k.own.shadow),
@@ -552,7 +552,7 @@ module _ {V : Type 0} where
             (copied_now w y z i which l live.sound cov2 pl home2).0)
         | inr was ↦ old j q was l pl home cov
       ] in
-      answers_linked u a x x2 y zc (without_gate g i) asked u.boosted.editions at none e (record { tx = live.tx; sound = sound; kept = live.kept; pieces = old }) (record { tx = live.tx; sound = sound; kept = live.kept; pieces = new }) known
+      answers_linked u a x x2 y zc (without_gate g i) asked (sized_by u a asked (outcome_at u a asked)) u.boosted.editions at none e (record { tx = live.tx; sound = sound; kept = live.kept; pieces = old }) (record { tx = live.tx; sound = sound; kept = live.kept; pieces = new }) known
       (λ l r. (
       let q = copied_now w y z i which l live.sound r.covered r.plain r.home in (
         q.0,

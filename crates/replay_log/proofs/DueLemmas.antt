@@ -17,7 +17,7 @@ use Rattle.seq_model.specs.declared.limits.TheConstants.{CALL_LIMIT}
 use Rattle.collection_machine.specs.Boosted.{TakeGate, PutGate, GoHome, is_none}
 use Rattle.replay_log.specs.Contents.{Asked, Answered, content}
 use Rattle.replay_log.specs.Pieces.{piece_at, covers_at}
-use Rattle.replay_log.specs.Worlds.{World, Seat, Stage, Idle, Beginning, Open, Locking, Releasing, Closing, Cancelling, Leaving, Reading, Trying, Copying, Loading, Gating, Ready, Storing, Homing, Returning, After, has_room, with_editions, at_stage, because, seated, acted, asks, moves, actor_of, word_notice, is_leaving, cancels, gives_up, reads, outcome_at, is_fresh, judges, loads, answers, calls_on, if_allowed, ask_op, commits, ask_at, recorded, has_begun, has_read, has_tried, with_piece, has_loaded, written_homes, takes_gates, has_locked, goes_home, has_stored, has_released, has_cancelled, step_at, starve_at, more_tries, happens}
+use Rattle.replay_log.specs.Worlds.{World, Seat, Stage, Idle, Beginning, Open, Locking, Releasing, Closing, Cancelling, Leaving, Reading, Trying, Copying, Loading, Gating, Ready, Storing, Homing, Returning, After, has_room, with_editions, at_stage, because, seated, acted, asks, moves, actor_of, word_notice, is_leaving, cancels, gives_up, reads, outcome_at, is_fresh, judges, loads, answers, calls_on, if_allowed, ask_op, commits, ask_at, recorded, has_begun, has_read, has_tried, with_piece, sized_by, has_loaded, written_homes, takes_gates, has_locked, goes_home, has_stored, has_released, has_cancelled, step_at, starve_at, more_tries, happens}
 use Rattle.replay_log.specs.WorldProgress.{whose, IsQuiet}
 use Rattle.replay_log.specs.Guards.{IsAtRest}
 use Rattle.replay_log.proofs.ProgressLemmas.{why_answers}
@@ -65,16 +65,17 @@ module _ {V : Type 0} where
   loads_on [] u a x o = λ q. absurd q
   loads_on (d ∷ es) u a x o = judges_on u a x o d es (loads u a x o es) (lookup (actor_of u a).reads d.0) (loads_on es u a x o)
 
-  answers_on : (u : World V) (a : ℕ) (before x : Seat V) (o : Answered V) (editions : ℕ → ℕ) → GoesOn a (answers u a before x o editions)
-  answers_on u a before x o editions =
+  answers_on : (u : World V) (a : ℕ) (before x : Seat V) (sized o : Answered V) (editions : ℕ → ℕ)
+      → GoesOn a (answers u a before x sized o editions)
+  answers_on u a before x sized o editions =
       let c = content u.words u.blocks in
-      choose_on a (has_room (actor_of u a) (c.reads o) (c.writes o)) (loads u a x o (with_editions editions (c.reads o))) _
+      choose_on a (has_room (actor_of u a) (c.reads sized) (c.writes sized)) (loads u a x o (with_editions editions (c.reads o))) _
       (loads_on (with_editions editions (c.reads o)) u a x o) (λ q. absurd q)
 
   calls_on_on : (u : World V) (a : ℕ) (x : Seat V) (asked : Asked V) → GoesOn a (calls_on u a x asked)
   calls_on_on u a x asked =
       choose_on a (x.copied asked.collection (piece_at u.blocks asked)) _ _
-      (answers_on u a x x (outcome_at u a asked) (u.boosted.shadows a).editions)
+      (answers_on u a x x (outcome_at u a asked) (outcome_at u a asked) (u.boosted.shadows a).editions)
       (λ _. seated_busy u a (at_stage x (Trying asked more_tries)) (λ g. g))
 
   reads_on : (u : World V) (a : ℕ) (x : Seat V) (l : ℕ) (n : told.Notice) → GoesOn a (reads u a x l n)
@@ -173,7 +174,8 @@ module _ {V : Type 0} where
       (λ g. g) (λ m g. g)
   step_on w a x (Copying asked) seat at =
       let u = acted w (PutGate a asked.collection (covers_at w.words w.blocks asked) ∷ []) in
-      answers_on u a x (with_piece x asked.collection (piece_at w.blocks asked)) (outcome_at u a asked) u.boosted.editions
+      let o = outcome_at u a asked in
+      answers_on u a x (with_piece x asked.collection (piece_at w.blocks asked)) (sized_by u a asked o) o u.boosted.editions
   step_on w a x (Loading o []) seat at = λ _. same_busy w a x (Loading o []) seat at (λ g. g)
   step_on w a x (Loading o (d ∷ es)) seat at = has_loaded_on (acted w (moves a ∷ [])) a x o d es (word_notice w a) seat at
   step_on w a x Locking seat at = has_locked_on (acted w (moves a ∷ [])) a x (word_notice w a) seat at

@@ -20,7 +20,7 @@ use Rattle.collection_machine.specs.Content.{Content, has}
 use Rattle.collection_machine.specs.Boosted.{Boosted, TakeGate, PutGate, recorded, word_step, shadows_after, gated, copied, is_none, is_actor, is_open, is_committing, acts}
 use Rattle.replay_log.specs.Contents.{Answered, content}
 use Rattle.replay_log.specs.Pieces.{piece_at, covers_at}
-use Rattle.replay_log.specs.Worlds.{World, Seat, Stage, Idle, Beginning, Open, Locking, Releasing, Closing, Cancelling, Leaving, Reading, Trying, Copying, Loading, Gating, Ready, Storing, Homing, Returning, After, because, acted, moves, actor_of, word_notice, outcome_at, loads, has_begun, has_read, has_tried, with_piece, has_loaded, takes_gates, has_locked, has_released, has_cancelled, step_at, happens}
+use Rattle.replay_log.specs.Worlds.{World, Seat, Stage, Idle, Beginning, Open, Locking, Releasing, Closing, Cancelling, Leaving, Reading, Trying, Copying, Loading, Gating, Ready, Storing, Homing, Returning, After, because, acted, moves, actor_of, word_notice, outcome_at, loads, has_begun, has_read, has_tried, with_piece, sized_by, has_loaded, takes_gates, has_locked, has_released, has_cancelled, step_at, happens}
 use Rattle.replay_log.specs.WorldAnswers.{changes_at, Untouched}
 use Rattle.replay_log.proofs.ActionLemmas.{learns}
 use Rattle.replay_log.proofs.SetLemmas.{moved_is}
@@ -216,8 +216,10 @@ module _ {V : Type 0} where
   step_untouched w a x (Copying asked) ok h =
       let which = covers_at w.words w.blocks asked in
       let u = acted w (PutGate a asked.collection which ∷ []) in
+      let o = outcome_at u a asked in
       untouched w u _ a (put_keeps (content w.words w.blocks) w.boosted a asked.collection which)
-      (answers_still u u a x (with_piece x asked.collection (piece_at w.blocks asked)) (outcome_at u a asked) u.boosted.editions (here u a))
+      (answers_still u u a x (with_piece x asked.collection (piece_at w.blocks asked)) (sized_by u a asked o) o u.boosted.editions
+      (here u a))
   step_untouched w a x (Loading o []) ok h = absurd ok
   step_untouched w a x (Loading o (d ∷ es)) ok h =
       let u = acted w (moves a ∷ []) in

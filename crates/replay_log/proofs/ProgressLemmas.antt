@@ -39,7 +39,7 @@ use Rattle.conflict.specs.Footprints.{all_below, map_reads, multiset_reads, prio
 use Rattle.std.specs.FinMap.{empty}
 use Rattle.std.proofs.lemmas.List.FromFn.{length-range_with_len}
 use Rattle.replay_log.specs.Contents.{Block, Asked, Answered, HaveStripes, block_of, first_of, blank, shifted, reads_in, home_of, is_plain, content}
-use Rattle.replay_log.specs.Worlds.{World, Seat, Stage, Idle, Beginning, Open, Locking, Releasing, Closing, Cancelling, Leaving, Reading, Trying, Copying, Loading, Gating, Ready, Storing, Homing, Returning, After, new_in, has_room, with_editions, at_stage, because, seated, acted, asks, moves, actor_of, is_leaving, cancels, gives_up, is_fresh, judges, loads, answers, has_read, has_tried, has_loaded, takes_gates, all_of, distinct, with_new, has_locked, goes_home, has_stored, has_released, has_cancelled, has_begun, with_piece, outcome_at, recorded, why, step_at, reads, if_allowed, calls_on, more_tries, ask_op, commits, ask_at, happens, run, opened}
+use Rattle.replay_log.specs.Worlds.{World, Seat, Stage, Idle, Beginning, Open, Locking, Releasing, Closing, Cancelling, Leaving, Reading, Trying, Copying, Loading, Gating, Ready, Storing, Homing, Returning, After, new_in, has_room, with_editions, at_stage, because, seated, acted, asks, moves, actor_of, is_leaving, cancels, gives_up, is_fresh, judges, loads, answers, has_read, has_tried, has_loaded, takes_gates, all_of, distinct, with_new, has_locked, goes_home, has_stored, has_released, has_cancelled, has_begun, with_piece, outcome_at, sized_by, recorded, why, step_at, reads, if_allowed, calls_on, more_tries, ask_op, commits, ask_at, happens, run, opened}
 use Rattle.replay_log.proofs.EventLemmas.{run_linked, opened_linked}
 use Rattle.replay_log.specs.Pieces.{piece_at, covers_at}
 use Rattle.replay_log.specs.WorldProgress as measure
@@ -429,11 +429,11 @@ module _ {V : Type 0} where
   has_loaded_nears u a x y y2 z g o d es m n k seat st none pos h near q = absurd h
 
   -- the outcome is taken, and its locations fit
-  answers_nears : (u : World V) (a : ℕ) (before x : Seat V) (y : Actor) (z : Copy V) (g : ℕ → Bool) (o : Answered V) (editions : ℕ → ℕ) → AreSmall u.blocks → At u a y z g → y.place ≡ machine.Open → y.held ≡ []
-      → Nears a 12291 (answers u a before x o editions)
-  answers_nears u a before x y z g o editions small k e none =
+  answers_nears : (u : World V) (a : ℕ) (before x : Seat V) (y : Actor) (z : Copy V) (g : ℕ → Bool) (sized o : Answered V) (editions : ℕ → ℕ) → AreSmall u.blocks → At u a y z g → y.place ≡ machine.Open → y.held ≡ []
+      → Nears a 12291 (answers u a before x sized o editions)
+  answers_nears u a before x y z g sized o editions small k e none =
       let c = content u.words u.blocks in
-      choose_near a 12291 (has_room (actor_of u a) (c.reads o) (c.writes o)) (loads u a x o (with_editions editions (c.reads o))) _
+      choose_near a 12291 (has_room (actor_of u a) (c.reads sized) (c.writes sized)) (loads u a x o (with_editions editions (c.reads o))) _
       (λ both.
       let few = call_few V u.words u.blocks o small k.base.stripes in
       let new = filter_shorter (λ l. is_none (lookup y.reads l)) (c.reads o) in
@@ -552,7 +552,7 @@ module _ {V : Type 0} where
       let i = asked.collection in
       let which = covers_at w.words w.blocks asked in
       let u = acted w (PutGate a i which ∷ []) in
-      answers_nears u a x (with_piece x i (piece_at w.blocks asked)) y (if is_open y.place then copied (content w.words w.blocks) w.boosted y.calls z i which else z) (without_gate g i) (outcome_at u a asked) u.boosted.editions small
+      answers_nears u a x (with_piece x i (piece_at w.blocks asked)) y (if is_open y.place then copied (content w.words w.blocks) w.boosted y.calls z i which else z) (without_gate g i) (sized_by u a asked (outcome_at u a asked)) (outcome_at u a asked) u.boosted.editions small
       (gate_put w a i which y z g (at_of w a k) (held i ∙ first_has i []) (ap is_committing h.0)) h.0 (subst (PlaceOk w.boosted.words y) h.0 (k.base.inv.machine.actors a).place)
   step_nears w a x (Loading o []) small k seat st held h = λ q. absurd h
   step_nears w a x (Loading o (d ∷ es)) small k seat st held h =
@@ -682,7 +682,7 @@ module _ {V : Type 0} where
       let y = w.boosted.words.actors a in
       let none = subst (PlaceOk w.boosted.words y) e (k.base.inv.machine.actors a).place in
       choose_near a 1000000 (x.copied asked.collection (piece_at w.blocks asked)) _ _
-      (λ _ q. let r = answers_nears w a x x y (w.boosted.shadows a) (mine w.boosted a) (outcome_at w a asked) (w.boosted.shadows a).editions small (at_of w a k) e none q in omega (arith, r))
+      (λ _ q. let r = answers_nears w a x x y (w.boosted.shadows a) (mine w.boosted a) (outcome_at w a asked) (outcome_at w a asked) (w.boosted.shadows a).editions small (at_of w a k) e none q in omega (arith, r))
       (λ _ q. few_seated w a (at_stage x (Trying asked more_tries)) y refl (omega arith))
 
   op_few : (w : World V) (a : ℕ) (x : Seat V) (t : ℕ) (op : Op V) → AreSmall w.blocks → (w.boosted.words.actors a).place ≡ machine.Open → Linked w → IsFew w a (ask_op w a x t op)

@@ -27,7 +27,7 @@ use Rattle.seq_model.specs.declared.event.Event.{Event}
 use Rattle.seq_model.specs.declared.event.Event.TheVariants.{Step}
 use Rattle.collection_machine.specs.Boosted.{TakeGate, PutGate, GoHome, Accept, is_none, is_actor}
 use Rattle.replay_log.specs.Contents.{Block, Asked, Answered, HaveStripes, is_plain, content}
-use Rattle.replay_log.specs.Worlds.{World, Seat, Stage, Idle, Beginning, Open, Locking, Releasing, Closing, Cancelling, Leaving, Reading, Trying, Copying, Loading, Gating, Ready, Storing, Homing, Returning, After, has_room, with_editions, at_stage, because, seated, acted, asks, moves, actor_of, word_notice, is_leaving, cancels, gives_up, is_fresh, judges, loads, answers, has_begun, has_read, has_tried, has_loaded, takes_gates, has_locked, goes_home, has_stored, has_released, has_cancelled, why, recorded, no_one, with_call, call_of, reply_of, written_homes, with_piece, outcome_at, step_at, happens, run, opened}
+use Rattle.replay_log.specs.Worlds.{World, Seat, Stage, Idle, Beginning, Open, Locking, Releasing, Closing, Cancelling, Leaving, Reading, Trying, Copying, Loading, Gating, Ready, Storing, Homing, Returning, After, has_room, with_editions, at_stage, because, seated, acted, asks, moves, actor_of, word_notice, is_leaving, cancels, gives_up, is_fresh, judges, loads, answers, has_begun, has_read, has_tried, has_loaded, takes_gates, has_locked, goes_home, has_stored, has_released, has_cancelled, why, recorded, no_one, with_call, call_of, reply_of, written_homes, with_piece, sized_by, outcome_at, step_at, happens, run, opened}
 use Rattle.replay_log.specs.Pieces.{piece_at, covers_at}
 use Rattle.seq_model.specs.declared.call.Op.TheVariants.{Read}
 use Rattle.seq_model.specs.declared.call.Reply.TheVariants as reply
@@ -298,12 +298,12 @@ module _ {V : Type 0} where
       judges_for w u a x st o d es (loads u a x o es) (lookup (actor_of u a).reads d.0) refl copied.0 copied.1 read
       (loads_for es w u a x st o copied.2 read)
 
-  answers_for : (w u : World V) (a : ℕ) (before x : Seat V) (st : Stage V) (o : Answered V) (editions : ℕ → ℕ)
+  answers_for : (w u : World V) (a : ℕ) (before x : Seat V) (st : Stage V) (sized o : Answered V) (editions : ℕ → ℕ)
       → Copied w st (with_editions editions ((content u.words u.blocks).reads o)) → HasRead w u a
-      → HasCause w a st (answers u a before x o editions).0
-  answers_for w u a before x st o editions copied read =
+      → HasCause w a st (answers u a before x sized o editions).0
+  answers_for w u a before x st sized o editions copied read =
       let c = content u.words u.blocks in
-      choose_for w a st (has_room (actor_of u a) (c.reads o) (c.writes o)) (loads u a x o (with_editions editions (c.reads o))) _
+      choose_for w a st (has_room (actor_of u a) (c.reads sized) (c.writes sized)) (loads u a x o (with_editions editions (c.reads o))) _
       (λ _. loads_for (with_editions editions (c.reads o)) w u a x st o copied read) (λ _. goes_on w u a (at_stage before Open) st refl)
 
   has_loaded_for : (w u : World V) (a : ℕ) (x : Seat V) (y z : Actor) (o : Answered V) (d : ℕ × ℕ) (es : Entries) (n : told.Notice)
@@ -430,7 +430,8 @@ module _ {V : Type 0} where
           let c = content {V = V} w.words w.blocks in
           let o = outcome_at put a asked in
           let same = put_words c w.boosted a asked.collection which in
-          answers_for w put a x (with_piece x asked.collection (piece_at w.blocks asked)) (Copying asked) o put.boosted.editions
+          answers_for w put a x (with_piece x asked.collection (piece_at w.blocks asked)) (Copying asked) (sized_by put a asked o) o
+          put.boosted.editions
           (now_copied w asked put.boosted.editions (c.reads o) (λ l. ap (λ (f : ℕ → ℕ). f l)
           (sym (put_editions w a asked.collection which)))
           (λ l m. (content_frame w.words w.blocks k.base.stripes).no_word o l m))

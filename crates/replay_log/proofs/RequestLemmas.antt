@@ -28,7 +28,7 @@ use Rattle.replay_log.specs.Contents.{Block, Asked, Answered, content}
 use Rattle.replay_log.specs.Collections.{shown_at}
 use Rattle.replay_log.specs.Pieces.{piece_at, covers_at}
 use Rattle.replay_log.specs.WorldProgress.{whose}
-use Rattle.replay_log.specs.Worlds.{World, Seat, Stage, Idle, Beginning, Open, Locking, Releasing, Closing, Cancelling, Leaving, Reading, Trying, Copying, Loading, Gating, Ready, Storing, Homing, Returning, After, has_room, with_editions, with_piece, is_fresh, judges, at_stage, because, seated, acted, asks, moves, actor_of, word_notice, cancels, gives_up, reads, outcome_at, loads, answers, calls_on, if_allowed, ask_op, commits, ask_at, recorded as noted_in, has_begun, has_read, has_tried, has_loaded, takes_gates, has_locked, goes_home, has_stored, has_released, has_cancelled, step_at, starve_at, happens, run, opened}
+use Rattle.replay_log.specs.Worlds.{World, Seat, Stage, Idle, Beginning, Open, Locking, Releasing, Closing, Cancelling, Leaving, Reading, Trying, Copying, Loading, Gating, Ready, Storing, Homing, Returning, After, has_room, with_editions, with_piece, sized_by, is_fresh, judges, at_stage, because, seated, acted, asks, moves, actor_of, word_notice, cancels, gives_up, reads, outcome_at, loads, answers, calls_on, if_allowed, ask_op, commits, ask_at, recorded as noted_in, has_begun, has_read, has_tried, has_loaded, takes_gates, has_locked, goes_home, has_stored, has_released, has_cancelled, step_at, starve_at, happens, run, opened}
 
 -- The world u is reached from v by actions of the machine.
 pub record Reached {V : Type 0} (v u : World V) : Type 0 where
@@ -197,11 +197,12 @@ module _ {V : Type 0} where
   loads_by v u a x o [] g = one_by v u a _ (Accept a o.asked) refl g
   loads_by v u a x o (d ∷ es) g = judges_by v u a x o d es (loads u a x o es) (lookup (actor_of u a).reads d.0) g (loads_by v u a x o es g)
 
-  answers_by : (v u : World V) (a : ℕ) (before x : Seat V) (o : Answered V) (editions : ℕ → ℕ) → ReachedBy a v u
-      → ReachedBy a v (answers u a before x o editions).0
-  answers_by v u a before x o editions g =
+  answers_by : (v u : World V) (a : ℕ) (before x : Seat V) (sized o : Answered V) (editions : ℕ → ℕ) → ReachedBy a v u
+      → ReachedBy a v (answers u a before x sized o editions).0
+  answers_by v u a before x sized o editions g =
       let c = content u.words u.blocks in
-      cond_both {A = After V} (has_room (actor_of u a) (c.reads o) (c.writes o)) (loads u a x o (with_editions editions (c.reads o)))
+      cond_both {A = After V} (has_room (actor_of u a) (c.reads sized) (c.writes sized))
+      (loads u a x o (with_editions editions (c.reads o)))
       (seated u a (at_stage before Open), Refused a refusal.TooLong) (λ z. ReachedBy a v z.0)
       (λ _. loads_by v u a x o (with_editions editions (c.reads o)) g) (λ _. same a v u _ refl refl refl (λ b ne. put-other _ a _ b ne) g)
 
@@ -212,9 +213,10 @@ module _ {V : Type 0} where
   calls_on_by : (v u : World V) (a : ℕ) (x : Seat V) (asked : Asked V) → ReachedBy a v u → ReachedBy a v (calls_on u a x asked).0
   calls_on_by v u a x asked g =
       let editions = (u.boosted.shadows a).editions in
-      cond_both {A = After V} (x.copied asked.collection (piece_at u.blocks asked)) (answers u a x x (outcome_at u a asked) editions) _
+      let o = outcome_at u a asked in
+      cond_both {A = After V} (x.copied asked.collection (piece_at u.blocks asked)) (answers u a x x o o editions) _
       (λ z. ReachedBy a v z.0)
-      (λ _. answers_by v u a x x (outcome_at u a asked) editions g) (λ _. same a v u _ refl refl refl (λ b ne. put-other _ a _ b ne) g)
+      (λ _. answers_by v u a x x o o editions g) (λ _. same a v u _ refl refl refl (λ b ne. put-other _ a _ b ne) g)
 
   if_allowed_by : (v u : World V) (a : ℕ) (x : Seat V) (known room : Bool) (next : After V) → ReachedBy a v u → ReachedBy a v next.0
       → ReachedBy a v (if_allowed u a x known room next).0
@@ -301,7 +303,9 @@ module _ {V : Type 0} where
   step_by v a x (Copying asked) =
       let put = PutGate a asked.collection (covers_at v.words v.blocks asked) in
       let u = acted v (put ∷ []) in
-      answers_by v u a x (with_piece x asked.collection (piece_at u.blocks asked)) (outcome_at u a asked) u.boosted.editions (move a v put refl)
+      let o = outcome_at u a asked in
+      answers_by v u a x (with_piece x asked.collection (piece_at u.blocks asked)) (sized_by u a asked o) o u.boosted.editions
+      (move a v put refl)
   step_by v a x (Loading o []) = nothing a v
   step_by v a x (Loading o (d ∷ es)) = loaded_by v _ a x o d es (word_notice v a) (move a v (moves a) refl)
   step_by v a x Locking = locked_by v _ a x (word_notice v a) (move a v (moves a) refl)

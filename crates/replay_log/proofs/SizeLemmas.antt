@@ -3,8 +3,8 @@
 -- `Sized` says it of each stage; besides, while a word is being read, that one more fits, and while a call is judged, that what is left of its locations
 -- fits, which the definition tests just before (`has_room`). A location that is read then is new in the set (`PlaceOk`), so what is left shrinks by what
 -- the set grows. The sets change by the load that begins, by the last load of a read and by a write alone (`SetLemmas`).
-use Rattle.std.proofs.Common.{◌≡◌, ℕ, zero, suc, ◌+◌, ◌<◌, ◌≤◌, Bool, true, false, cond, not, ◌&&◌, ◌||◌, List, [], ◌∷◌, ◌++◌, length, Option, Some, None, ◌⊎◌, inl, inr, refl, sym, ◌∙◌, ap, subst, arith, eqb}
-use Rattle.std.specs.Prelude.{nat_lt, nat_le}
+use Rattle.std.proofs.Common.{◌≡◌, ℕ, zero, suc, ◌+◌, ◌<◌, ◌≤◌, Bool, true, false, cond, true≢false, not, ◌&&◌, ◌||◌, List, [], ◌∷◌, ◌++◌, length, Option, Some, None, ◌⊎◌, inl, inr, refl, sym, ◌∙◌, ap, subst, arith, eqb}
+use Rattle.std.specs.Prelude.{nat_lt, nat_le, if◌then◌else◌}
 use Rattle.std.proofs.lemmas.Bool.{cond_both, cond-true, cond-false, cases_eq}
 use Rattle.std.proofs.lemmas.Bool.Decides.{nat_tests}
 use Rattle.tx_sets.specs.Entries.{Entries, lookup, locations}
@@ -28,11 +28,12 @@ use Rattle.seq_model.specs.declared.event.Request.{Request}
 use Rattle.seq_model.specs.declared.event.Request.TheVariants as request
 use Rattle.seq_model.specs.declared.event.Notice.TheVariants.{Refused}
 use Rattle.seq_model.specs.declared.limits.TheConstants.{CALL_LIMIT}
+use Rattle.collection_machine.specs.Content.{Content}
 use Rattle.collection_machine.specs.Boosted.{Boosted, TakeGate, PutGate, GoHome, Accept, accepted, longer, writes_asked, is_open, is_none, is_sound, is_held, every, may_write, changes, on_words}
 use Rattle.replay_log.specs.Base.{Shown}
 use Rattle.replay_log.specs.Contents.{Block, Asked, Answered, HaveStripes, content}
 use Rattle.replay_log.specs.Pieces.{piece_at, covers_at}
-use Rattle.replay_log.specs.Worlds.{World, Seat, Stage, Idle, Beginning, Open, Locking, Releasing, Closing, Cancelling, Leaving, Reading, Trying, Copying, Loading, Gating, Ready, Storing, Homing, Returning, After, new_in, fits, has_room, with_editions, at_stage, because, seated, acted, asks, moves, actor_of, word_notice, no_one, is_leaving, cancels, gives_up, with_call, reads, outcome_at, is_fresh, judges, loads, answers, calls_on, call_of, reply_of, if_allowed, ask_op, commits, ask_idle, ask_open, ask_at, recorded, has_begun, has_read, has_tried, with_piece, has_loaded, written_homes, takes_gates, has_locked, goes_home, has_stored, has_released, has_cancelled, step_at, starve_at, more_tries, happens, run, opened}
+use Rattle.replay_log.specs.Worlds.{World, Seat, Stage, Idle, Beginning, Open, Locking, Releasing, Closing, Cancelling, Leaving, Reading, Trying, Copying, Loading, Gating, Ready, Storing, Homing, Returning, After, new_in, fits, has_room, with_editions, at_stage, because, seated, acted, asks, moves, actor_of, word_notice, no_one, is_leaving, cancels, gives_up, with_call, reads, outcome_at, is_fresh, judges, loads, answers, calls_on, call_of, reply_of, if_allowed, ask_op, commits, ask_idle, ask_open, ask_at, recorded, has_begun, has_read, has_tried, with_piece, sized_by, outcome_now, differs, is_stale, has_loaded, written_homes, takes_gates, has_locked, goes_home, has_stored, has_released, has_cancelled, step_at, starve_at, more_tries, happens, run, opened}
 use Rattle.replay_log.specs.WorldProgress.{AreSmall, whose, Nears}
 use Rattle.replay_log.proofs.ActionLemmas.{learns}
 use Rattle.replay_log.proofs.RequestLemmas.{happens_by}
@@ -262,24 +263,59 @@ module _ {V : Type 0} where
       judges_sized u a x o d es (loads u a x o es) (lookup (actor_of u a).reads d.0) e refl h f
       (λ v old. loads_sized es u a x o e is h (fit_old y d.0 v (locations es) ws old (subst (λ ls. Fit y ls ws) (locations-cons d es) f)))
 
-  answers_sized : (u : World V) (a : ℕ) (before x : Seat V) (asked : Asked V) (editions : ℕ → ℕ)
-      → (u.boosted.words.actors a).place ≡ machine.Open
-      → SmallAt u a → SizedAt (answers u a before x (outcome_at u a asked) editions).0 a
-  answers_sized u a before x asked editions e h =
+  -- with a stale one among those that are judged without a step, the call is given up at once
+  differs_sized : (u : World V) (a : ℕ) (x : Seat V) (o : Answered V) (d : ℕ × ℕ) (es : Entries) (next : After V) (others : Bool)
+      (r : Option ℕ) → SmallAt u a → (others ≡ true → SizedAt next.0 a) → differs d others r ≡ true
+      → SizedAt (judges u a x o d es next r).0 a
+  differs_sized u a x o d es next others None h n e = absurd (true≢false (sym e))
+  differs_sized u a x o d es next others (Some v) h n e =
+      choose_sized a (eqb d.1 v) next _ (λ same. n (sym (cond-true (eqb d.1 v) others true same) ∙ e))
+      (λ _. cancels_sized u a (because x (refusal.Stale d.0 d.1 v)) h)
+
+  stale_sized : (es : Entries) (u : World V) (a : ℕ) (x : Seat V) (o : Answered V) → SmallAt u a
+      → is_stale (u.boosted.words.actors a).reads es ≡ true → SizedAt (loads u a x o es).0 a
+  stale_sized [] u a x o h e = absurd (true≢false (sym e))
+  stale_sized (d ∷ es) u a x o h e =
+      let reads = (u.boosted.words.actors a).reads in
+      differs_sized u a x o d es (loads u a x o es) (is_stale reads es) (lookup reads d.0) h (stale_sized es u a x o h) e
+
+  -- the locations of a call fit the sets, or it is given up at once
+  abbrev FitsOrEnds : Content (Shown V) (Asked V) (Answered V) → Actor → Answered V → (ℕ → ℕ) → Type 0
+  FitsOrEnds c y o editions = Fit y (c.reads o) (c.writes o) ⊎ (is_stale y.reads (with_editions editions (c.reads o)) ≡ true)
+
+  sized_fits : (c : Content (Shown V) (Asked V) (Answered V)) (y : Actor) (now o : Answered V) (editions : ℕ → ℕ) (b : Bool)
+      → is_stale y.reads (with_editions editions (c.reads o)) ≡ b
+      → let sized = if b then now else o in has_room y (c.reads sized) (c.writes sized) ≡ true → FitsOrEnds c y o editions
+  sized_fits c y now o editions true e room = inr e
+  sized_fits c y now o editions false e room = inl (room_fits y (c.reads o) (c.writes o) room)
+
+  answers_sized : (u : World V) (a : ℕ) (before x : Seat V) (asked : Asked V) (sized : Answered V) (editions : ℕ → ℕ)
+      → (u.boosted.words.actors a).place ≡ machine.Open → SmallAt u a
+      → (let c = content u.words u.blocks in
+      let y = u.boosted.words.actors a in
+      has_room y (c.reads sized) (c.writes sized) ≡ true → FitsOrEnds c y (outcome_at u a asked) editions)
+      → SizedAt (answers u a before x sized (outcome_at u a asked) editions).0 a
+  answers_sized u a before x asked sized editions e h ends =
       let c = content u.words u.blocks in
       let o = outcome_at u a asked in
       let y = u.boosted.words.actors a in
-      choose_sized a (has_room y (c.reads o) (c.writes o)) (loads u a x o (with_editions editions (c.reads o)))
+      let es = with_editions editions (c.reads o) in
+      choose_sized a (has_room y (c.reads sized) (c.writes sized)) (loads u a x o es)
       (seated u a (at_stage before Open), Refused a refusal.TooLong)
-      (λ room. loads_sized (with_editions editions (c.reads o)) u a x o e refl h
-      (subst (λ ls. Fit y ls (c.writes o)) (sym (locations_of editions (c.reads o))) (room_fits y (c.reads o) (c.writes o) room)))
+      (λ room. elim (ends room) [
+        | inl fit ↦ loads_sized es u a x o e refl h (subst (λ ls. Fit y ls (c.writes o)) (sym (locations_of editions (c.reads o))) fit)
+        | inr stale ↦ stale_sized es u a x o h stale
+      ])
       (λ _. seated_sized u a (at_stage before Open) h)
 
   calls_on_sized : (u : World V) (a : ℕ) (x : Seat V) (asked : Asked V) → (u.boosted.words.actors a).place ≡ machine.Open → SmallAt u a
       → SizedAt (calls_on u a x asked).0 a
   calls_on_sized u a x asked e h =
       choose_sized a (x.copied asked.collection (piece_at u.blocks asked)) _ _
-      (λ _. answers_sized u a x x asked (u.boosted.shadows a).editions e h)
+      (λ _. let c = content u.words u.blocks in
+      let o = outcome_at u a asked in
+      answers_sized u a x x asked o (u.boosted.shadows a).editions e h
+      (λ room. inl (room_fits (u.boosted.words.actors a) (c.reads o) (c.writes o) room)))
       (λ _. seated_sized u a (at_stage x (Trying asked more_tries)) h)
 
   -- a load of a call: z is the actor after it
@@ -521,9 +557,13 @@ module _ {V : Type 0} where
           let which = covers_at w.words w.blocks asked in
           let t = acted w (PutGate a asked.collection which ∷ []) in
           let same = put_words (content w.words w.blocks) w.boosted a asked.collection which in
-          answers_sized t a x (with_piece x asked.collection (piece_at w.blocks asked)) asked t.boosted.editions
+          let c = content {V = V} w.words w.blocks in
+          let o = outcome_at t a asked in
+          answers_sized t a x (with_piece x asked.collection (piece_at w.blocks asked)) asked (sized_by t a asked o) t.boosted.editions
           (ap (λ (s : world.World). (s.actors a).place) same ∙ ok.0)
           (subst (λ (s : world.World). AreSmallSets (s.actors a)) (sym same) h)
+          (sized_fits c (t.boosted.words.actors a) (outcome_now t asked) o t.boosted.editions
+          (is_stale (t.boosted.words.actors a).reads (with_editions t.boosted.editions (c.reads o))) refl)
       by_stage (Loading o []) at h ok = absurd ok
       by_stage (Loading o (d ∷ es)) at h ok =
           let z = w.boosted.shadows a in

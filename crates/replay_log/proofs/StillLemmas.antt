@@ -130,17 +130,17 @@ module _ {V : Type 0} where
   loads_still (d ∷ es) v u a x o h = judges_still v u a x o d es (loads u a x o es) (lookup (actor_of u a).reads d.0) h
       (loads_still es v u a x o h)
 
-  pub answers_still : (v u : World V) (a : ℕ) (before x : Seat V) (o : Answered V) (editions : ℕ → ℕ) → StillIn a v u
-      → StillIn a v (answers u a before x o editions).0
-  answers_still v u a before x o editions h =
+  pub answers_still : (v u : World V) (a : ℕ) (before x : Seat V) (sized o : Answered V) (editions : ℕ → ℕ) → StillIn a v u
+      → StillIn a v (answers u a before x sized o editions).0
+  answers_still v u a before x sized o editions h =
       let c = content u.words u.blocks in
-      choose_still a v (has_room (actor_of u a) (c.reads o) (c.writes o)) (loads u a x o (with_editions editions (c.reads o))) _
+      choose_still a v (has_room (actor_of u a) (c.reads sized) (c.writes sized)) (loads u a x o (with_editions editions (c.reads o))) _
       (loads_still (with_editions editions (c.reads o)) v u a x o h) h
 
   calls_on_still : (v u : World V) (a : ℕ) (x : Seat V) (asked : Asked V) → StillIn a v u → StillIn a v (calls_on u a x asked).0
   calls_on_still v u a x asked h =
       choose_still a v (x.copied asked.collection (piece_at u.blocks asked)) _ _
-      (answers_still v u a x x (outcome_at u a asked) (u.boosted.shadows a).editions h) h
+      (answers_still v u a x x (outcome_at u a asked) (outcome_at u a asked) (u.boosted.shadows a).editions h) h
 
   allowed_still : (v : World V) (a : ℕ) (x : Seat V) (known room : Bool) (next : After V) → StillIn a v next.0
       → StillIn a v (if_allowed v a x known room next).0

@@ -33,7 +33,7 @@ use Rattle.replay_log.specs.Pieces.{piece_at, covers_at}
 use Rattle.replay_log.specs.Seats.{World, Seat, Ended, After, Stage, Idle, Open, Beginning, Reading, Trying, Copying, Loading, Locking, Gating, Ready, Storing}
 use Rattle.replay_log.specs.Seats.{Homing, Releasing, Closing, Returning, Cancelling, Leaving, because, acted, asks, moves, actor_of, word_notice}
 use Rattle.replay_log.specs.WorldEnds.{gives_up, has_tried, has_cancelled}
-use Rattle.replay_log.specs.WorldCalls.{is_fresh, loads, judges, answers, calls_on, if_allowed, reads, ask_op, has_room, fits, with_editions, outcome_at}
+use Rattle.replay_log.specs.WorldCalls.{is_fresh, loads, judges, answers, calls_on, if_allowed, reads, ask_op, has_room, fits, with_editions, outcome_at, sized_by}
 use Rattle.replay_log.specs.WorldCalls.{is_known, may_ask, with_piece, has_read, has_loaded}
 use Rattle.replay_log.specs.WorldCommits.{commits, recorded, takes_gates, has_locked, goes_home, has_stored, has_released}
 use Rattle.replay_log.specs.Worlds.{ask_idle, ask_open, ask_at, has_begun, step_at, starve_at, happens}
@@ -118,17 +118,18 @@ module _ {V : Type 0} where
   loads_adds w a x o [] = (refl, refl)
   loads_adds w a x o (d ∷ es) = judges_adds w a x o d es (loads w a x o es) (lookup (actor_of w a).reads d.0) (loads_adds w a x o es)
 
-  answers_adds : (w : World V) (a : ℕ) (before x : Seat V) (o : Answered V) (editions : ℕ → ℕ) → Adds w (answers w a before x o editions).0
-  answers_adds w a before x o editions =
+  answers_adds : (w : World V) (a : ℕ) (before x : Seat V) (sized o : Answered V) (editions : ℕ → ℕ)
+      → Adds w (answers w a before x sized o editions).0
+  answers_adds w a before x sized o editions =
       let c = content {V = V} w.words w.blocks in
-      choose_adds w (has_room (actor_of w a) (c.reads o) (c.writes o)) (loads w a x o (with_editions editions (c.reads o))) _
+      choose_adds w (has_room (actor_of w a) (c.reads sized) (c.writes sized)) (loads w a x o (with_editions editions (c.reads o))) _
       (loads_adds w a x o (with_editions editions (c.reads o))) (refl, refl)
 
   calls_on_adds : (w : World V) (a : ℕ) (x : Seat V) (asked : Asked V) → Adds w (calls_on w a x asked).0
   calls_on_adds w a x asked =
       choose_adds w (x.copied asked.collection (piece_at w.blocks asked))
-      (answers w a x x (outcome_at w a asked) (w.boosted.shadows a).editions) _
-      (answers_adds w a x x (outcome_at w a asked) (w.boosted.shadows a).editions) (refl, refl)
+      (answers w a x x (outcome_at w a asked) (outcome_at w a asked) (w.boosted.shadows a).editions) _
+      (answers_adds w a x x (outcome_at w a asked) (outcome_at w a asked) (w.boosted.shadows a).editions) (refl, refl)
 
   allowed_adds : (w : World V) (a : ℕ) (x : Seat V) (known room : Bool) (next : After V) → Adds w next.0
       → Adds w (if_allowed w a x known room next).0
@@ -250,7 +251,8 @@ module _ {V : Type 0} where
       [] (λ n. Trying asked n) (Copying asked) tries)
   step_ends w a x (Copying asked) =
       let u = acted w (PutGate a asked.collection (covers_at w.words w.blocks asked) ∷ []) in
-      none_ends (answers_adds u a x (with_piece x asked.collection (piece_at u.blocks asked)) (outcome_at u a asked) u.boosted.editions)
+      let o = outcome_at u a asked in
+      none_ends (answers_adds u a x (with_piece x asked.collection (piece_at u.blocks asked)) (sized_by u a asked o) o u.boosted.editions)
   step_ends w a x (Loading o []) = none_ends (refl, refl)
   step_ends w a x (Loading o (d ∷ es)) = none_ends (loaded_adds (acted w (moves a ∷ [])) a x o d es (word_notice w a))
   step_ends w a x Locking = none_ends (locked_adds (acted w (moves a ∷ [])) a x (word_notice w a))

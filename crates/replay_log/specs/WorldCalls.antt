@@ -42,6 +42,16 @@ new_in set ls = filter (λ l. is_none (lookup set l)) ls
 abbrev pub fits : Entries → List ℕ → Bool
 fits set ls = nat_le (length set + length (new_in set ls)) location_limit
 
+-- whether a copy is found stale without a step: of the locations before the first that the read set does not have, one was read with
+-- another edition than the copied one
+abbrev pub differs : ℕ × ℕ → (others : Bool) → Option ℕ → Bool
+differs d others None = false
+differs d others (Some v) = if d.1 == v then others else true
+
+abbrev pub is_stale : (reads es : Entries) → Bool
+is_stale reads [] = false
+is_stale reads (d ∷ es) = differs d (is_stale reads es) (lookup reads d.0)
+
 -- whether the locations that a call reads and writes fit the sets; a declared reader has no sets
 abbrev pub has_room : Actor → List ℕ → List ℕ → Bool
 has_room x rs ws = x.declared || (fits x.reads rs && fits x.writes ws)
@@ -89,17 +99,18 @@ module _ {V : Type 0} where
   loads w a x o [] = replied (acted w (Accept a o.asked ∷ [])) a x (call_of o) (reply_of o)
   loads w a x o (d ∷ es) = judges w a x o d es (loads w a x o es) (lookup (actor_of w a).reads d.0)
 
-  -- a call whose locations don't fit the sets is TooLong, and the transaction, `before` now, is as before
-  abbrev pub answers : World V → ℕ → Seat V → Seat V → contents.Answered V → (editions : ℕ → ℕ) → After V
-  answers w a before x o editions =
+  -- a call whose locations don't fit the sets is TooLong, and the transaction, `before` now, is as before; they are those of `sized`
+  abbrev pub answers : World V → ℕ → Seat V → Seat V → (sized o : contents.Answered V) → (editions : ℕ → ℕ) → After V
+  answers w a before x sized o editions =
       let c = content w.words w.blocks in
-      if has_room (actor_of w a) (c.reads o) (c.writes o) then loads w a x o (with_editions editions (c.reads o))
+      if has_room (actor_of w a) (c.reads sized) (c.writes sized) then loads w a x o (with_editions editions (c.reads o))
       else (seated w a (at_stage before Open), Refused a refusal.TooLong)
 
   -- a call that touches what was not copied yet tries its gate
   abbrev pub calls_on : World V → ℕ → Seat V → Asked V → After V
   calls_on w a x asked =
-      if x.copied asked.collection (piece_at w.blocks asked) then answers w a x x (outcome_at w a asked) (w.boosted.shadows a).editions
+      let o = outcome_at w a asked in
+      if x.copied asked.collection (piece_at w.blocks asked) then answers w a x x o o (w.boosted.shadows a).editions
       else (seated w a (at_stage x (Trying asked more_tries)), Quiet)
 
   abbrev pub is_missing : Option (Outcome V) → Bool
@@ -155,8 +166,21 @@ module _ {V : Type 0} where
   abbrev pub with_piece : Seat V → ℕ → Piece → Seat V
   with_piece x k p = record x { copied = λ j q. if j == k && is_piece p q then true else x.copied j q }
 
+  -- the outcome that a call has of what the bases show now
+  abbrev pub outcome_now : World V → Asked V → contents.Answered V
+  outcome_now w asked = (content w.words w.blocks).outcome w.boosted.parts asked
+
+  -- The outcome whose locations are to fit the sets, once what the call touches has been copied. Where that copy is found stale without a
+  -- step, it differs from what was copied of its location before, and the call has the outcome that it has of the new copy.
+  abbrev pub sized_by : World V → ℕ → Asked V → contents.Answered V → contents.Answered V
+  sized_by w a asked o =
+      let c = content w.words w.blocks in
+      if is_stale (actor_of w a).reads (with_editions w.boosted.editions (c.reads o)) then outcome_now w asked else o
+
   abbrev pub has_copied : World V → ℕ → Seat V → Asked V → After V
-  has_copied w a x asked = answers w a x (with_piece x asked.collection (piece_at w.blocks asked)) (outcome_at w a asked) w.boosted.editions
+  has_copied w a x asked =
+      let o = outcome_at w a asked in
+      answers w a x (with_piece x asked.collection (piece_at w.blocks asked)) (sized_by w a asked o) o w.boosted.editions
 
   abbrev pub has_loaded : World V → ℕ → Seat V → contents.Answered V → ℕ × ℕ → Entries → told.Notice → After V
   has_loaded w a x o d es (told.Number v) = is_fresh w a x d v (loads w a x o es)

@@ -19,20 +19,19 @@ use Rattle.collection_machine.specs.Boosted.{Action, TakeGate, PutGate, GoHome, 
 use Rattle.replay_log.specs.declared.base.Base.{Base}
 use Rattle.replay_log.specs.Base.{Shown, editions_of, shown_of, stripes_of}
 use Rattle.replay_log.specs.Parts.{part}
-use Rattle.replay_log.specs.Contents.{Block, Asked, Answered, HaveStripes, content, block_of, first_of, end_of, home_of, is_plain}
-use Rattle.replay_log.proofs.ContentLemmas.{read_at, positive_at, home_is, content_frame}
+use Rattle.replay_log.specs.Contents.{Block, Asked, HaveStripes, content, first_of, end_of, home_of, is_plain}
+use Rattle.replay_log.proofs.ContentLemmas.{content_frame}
 use Rattle.replay_log.specs.Seats.{World, Stage, Copying, Ready, actor_of, moves}
-use Rattle.replay_log.specs.WorldCalls.{with_editions}
 use Rattle.replay_log.specs.Worlds.{happens, run}
 use Rattle.atomic_steps.specs.Bases.{ShowsBase}
 use Rattle.atomic_steps.specs.Clock.{stamps_left, Grows}
 use Rattle.atomic_steps.specs.Gates.{Tries, Puts, GoesHome, Gated}
 use Rattle.atomic_steps.specs.Machine.{FindsBelow}
-use Rattle.atomic_steps.specs.Own.{Alike, FindsBy, FindsAt, SameEditions}
+use Rattle.atomic_steps.specs.Own.{Alike, FindsBy, FindsAt, SameCopy}
 use Rattle.atomic_steps.specs.Spots.{Spot, Gate, spot_by, gate_word, found_gate}
 use Rattle.atomic_steps.specs.Steps.{atomic_action, ready_at}
 use Rattle.atomic_steps.proofs.Alike.{alike_trans, action_same, spot_same}
-use Rattle.atomic_steps.proofs.Alone.{found_free, read_editions}
+use Rattle.atomic_steps.proofs.Alone.{found_free, read_editions, read_home}
 use Rattle.atomic_steps.proofs.Others.{others, calm_alike}
 use Rattle.atomic_steps.proofs.OwnEvents.{own_event}
 use Rattle.atomic_steps.proofs.Spots.{Keeps, one_spot, after_calm}
@@ -76,7 +75,7 @@ module _ {V : Type 0} where
 
   -- what an action on a gate finds
   finds_gate : (a : ℕ) (v t : World V) (p : Stage V) (d : Action (Asked V)) → (Some (moves a) ≡ Some d → ⊥) → atomic_action a v p ≡ Some d
-      → FindsBelow (content v.words v.blocks) a v.boosted t.boosted d → ((q : Asked V) → p ≡ Copying q → SameEditions v t q)
+      → FindsBelow (content v.words v.blocks) a v.boosted t.boosted d → ((q : Asked V) → p ≡ Copying q → SameCopy v t q)
       → FindsAt a v t p
   finds_gate a v t (Ready ks) d out e f g = absurd (out e)
   finds_gate a v t (Copying q) d out e f g = (subst (FindsBy a v t) (sym e) f, g q refl)
@@ -91,22 +90,22 @@ module _ {V : Type 0} where
   finds_home a v t k e = finds_gate a v t (stage_of v a) (GoHome a k) (λ z. cc) e refl (λ q at.
       let z : Some (GoHome a k) ≡ atomic_action a v (Copying q) = sym e ∙ ap (atomic_action a v) at in absurd (let n : ⊥ = cc in n))
 
-  base_reads : (k : ℕ) (v t : World V) → HaveStripes v.blocks → OneBase k v t → (o : Answered V) → o.asked.collection ≡ k
-      → with_editions v.boosted.editions ((content {V = V} v.words v.blocks).reads o) ≡ with_editions t.boosted.editions
-      ((content {V = V} v.words v.blocks).reads o)
-  base_reads k v t stripes same o at =
-      read_editions _ _ ((content {V = V} v.words v.blocks).reads o)
-      (λ l m.
-      let c = o.asked.collection in
-      let z = read_at (block_of v.blocks c) (first_of v.words v.blocks c) o.outcome l (λ b. positive_at v.blocks c b stripes) m in
-      (same l ((content_frame {V = V} v.words v.blocks stripes).no_word o l m)
-      (ap (home_of v.words v.blocks) z.3 ∙ (home_is v.words v.blocks c z.1 z.0 z.2 z.4 ∙ at))).1)
+  base_copy : (k : ℕ) (v t : World V) (q : Asked V) → HaveStripes v.blocks → OneBase k v t → q.collection ≡ k → SameCopy v t q
+  base_copy k v t q stripes same here =
+      let c = content {V = V} v.words v.blocks in
+      let frame = content_frame {V = V} v.words v.blocks stripes in (
+        λ o at. read_editions _ _ (c.reads o)
+            (λ l m.
+            (same l (frame.no_word o l m) (read_home v stripes o l m ∙ (ap (λ (z : Asked V). z.collection) at ∙ here))).1),
+        sym (frame.legal v.boosted.parts t.boosted.parts q
+            (λ l m. let o = c.outcome v.boosted.parts q in (same l (frame.no_word o l m) (read_home v stripes o l m ∙ here)).0)),
+      )
 
   finds_put : (a : ℕ) (v t : World V) (k : ℕ) → HaveStripes v.blocks → Puts v a k → OneBase k v t → FindsAt a v t (stage_of v a)
-  finds_put a v t k stripes (which, e) same = finds_gate a v t (stage_of v a) (PutGate a k which) (λ z. cc) e (refl, same) (λ q at o is.
+  finds_put a v t k stripes (which, e) same = finds_gate a v t (stage_of v a) (PutGate a k which) (λ z. cc) e (refl, same) (λ q at.
       let z : Some (PutGate a k which) ≡ atomic_action a v (Copying q) = sym e ∙ ap (atomic_action a v) at in
       let here : q.collection ≡ k = cc in
-      base_reads k v t stripes same o (ap (λ (c : Asked V). c.collection) is ∙ here))
+      base_copy k v t q stripes same here)
 
   -- what is planted at a gate leaves the other bases, and its own where none was found
   found_base : (a : ℕ) (w : World V) (k n : ℕ) (b : Maybe (Base V)) (j : ℕ) → j ≢ k → OneBase j w (found_at a w (Gate k) n b)
