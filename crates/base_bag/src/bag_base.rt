@@ -2,7 +2,7 @@
 ghost use Rattle.std.specs.Prelude.{◌≡◌, ◌+◌, ◌^◌, ◌<◌, ◌≤◌, [], Some, None, All, IsOk, replicate, IfOk, IfErr, OnOk, length, slice_index};
 ghost use Rattle.std.specs.FinMap.{empty};
 ghost use Rattle.seq_model.specs.Calls.{IsRefusal, IsWithinLimits};
-ghost use Rattle.seq_model.specs.Counts.{HasFewCopies};
+ghost use Rattle.seq_model.specs.Counts.{HasFewCopies, copies};
 ghost use Rattle.conflict.specs.Rules.{applied};
 ghost use Rattle.conflict.specs.Footprints.{key_place};
 ghost use Rattle.conflict.specs.Editions.{raised};
@@ -148,8 +148,21 @@ impl BagBase {
         })
     }
 
-    fn place(&self, element: u64) -> u32
-        ensures { result ≡ key_place self.now.stripes element }
+    /// How many copies of the element there are.
+    pub fn copies(&self, element: u64) -> u64
+        ensures { result ≡ copies self.now.shown element }
+    {
+        self.elements.copies(element)
+    }
+
+    pub fn allocator(&self) -> Global {
+        self.editions.allocator()
+    }
+
+    /// The location that the element lies on.
+    pub fn place(&self, element: u64) -> u32
+        ensures location { result ≡ key_place self.now.stripes element }
+        ensures within { result < self.now.stripes }
     {
         (element % self.stripes as u64) as u32
     }

@@ -134,8 +134,24 @@ impl<V: Value> MapBase<V> {
         }
     }
 
-    fn place(&self, key: u64) -> u32
-        ensures { result ≡ key_place self.now.stripes key }
+    /// The value of the key, as a copy.
+    pub fn entry(&self, key: u64) -> Result<Option<V>, Memory>
+        ensures { IfOk result (λ entry. entry ≡ map.get self.now.shown key) }
+    {
+        Ok(match self.table.get(key) {
+            Some(value) => Some(value.try_copy()?),
+            None => None,
+        })
+    }
+
+    pub fn allocator(&self) -> Global {
+        self.editions.allocator()
+    }
+
+    /// The location that the key lies on.
+    pub fn place(&self, key: u64) -> u32
+        ensures location { result ≡ key_place self.now.stripes key }
+        ensures within { result < self.now.stripes }
     {
         (key % self.stripes as u64) as u32
     }

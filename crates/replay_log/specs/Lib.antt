@@ -4,6 +4,7 @@ pub mod Parts
 pub mod Contents
 pub mod Collections
 pub mod Pieces
+pub mod Touches
 pub mod Seats
 pub mod WorldEnds
 pub mod WorldCalls

@@ -17,7 +17,9 @@ ghost use Rattle.replay_log.specs.Base.{
   view_of,
   writes_of,
 };
+ghost use Rattle.replay_log.specs.Touches.{editions_at, touched_by, touched_places};
 
+use crate::touch::{Touch, touch_bag, touch_map};
 use base_bag::BagBase;
 use base_map::MapBase;
 use base_pq::PqBase;
@@ -165,6 +167,21 @@ impl<V: Value> Base<V> {
             Base::Bag(base) => base.edition(location),
             Base::Pq(base) => base.edition(location),
             Base::Queue(base) => base.edition(location),
+        }
+    }
+
+    /// What a transaction that keeps single keys copies for the call: the key that it is on, with the edition of its location. A
+    /// call that is not on one key of this map or multiset is refused as NoSuch.
+    pub fn touch(&self, op: &Op<V>) -> Result<Touch<V>, Refusal>
+        ensures editions { IfOk result (λ touch. touch.editions
+            ≡ editions_at (touched_places (stripes_of self.now) touch.held) (editions_of self.now)) }
+        ensures held { IfOk result (λ touch. touched_by op.now (shown_of self.now) ≡ Some touch.held) }
+        ensures refused { IfErr result (λ refusal. IsRefusal refusal (touched_by op.now (shown_of self.now) ≡ None)) }
+    {
+        match self {
+            Base::Map(base) => touch_map(base, op),
+            Base::Bag(base) => touch_bag(base, op),
+            _ => Err(Refusal::NoSuch),
         }
     }
 

@@ -13,6 +13,8 @@
 mod base;
 pub mod laws;
 mod log;
+mod touch;
 
 pub use base::Base;
 pub use log::Log;
+pub use touch::{Touch, Touched};

@@ -10,6 +10,8 @@
 #![tactic(auto)]
 
 pub mod laws;
+mod memo;
 mod shadow;
 
+pub use memo::{Memo, MemoKind};
 pub use shadow::Shadow;

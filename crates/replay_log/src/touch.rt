@@ -1,0 +1,66 @@
+//! What a transaction copies of a collection for a call on one key.
+ghost use Rattle.std.specs.Prelude.{◌≡◌, [], ◌∷◌, Some, None, IfOk, IfErr};
+ghost use Rattle.seq_model.specs.Calls.{IsRefusal};
+ghost use Rattle.replay_log.specs.Base.{OfMap, OfBag};
+ghost use Rattle.replay_log.specs.Touches.{editions_at, touched_by, touched_places};
+
+use base_bag::BagBase;
+use base_map::MapBase;
+use seq_model::{Items, Memory, Op, Refusal, Value};
+use std::alloc::Global;
+
+/// What is copied of a key.
+#[derive(Drop)]
+pub enum Touched<V> {
+    /// In a map, the key with its value, if it has one.
+    Entry(u64, Option<V>),
+    /// In a multiset, the element with the number of its copies.
+    Copies(u64, u64),
+}
+
+/// What is copied, with the editions of the locations that it was copied from.
+#[derive(Drop)]
+pub struct Touch<V> {
+    pub editions: Items<(u32, u64)>,
+    pub held: Touched<V>,
+}
+
+pub(crate) fn touch_map<V: Value>(base: &MapBase<V>, op: &Op<V>) -> Result<Touch<V>, Refusal>
+    ensures editions { IfOk result
+        (λ touch. touch.editions ≡ editions_at (touched_places base.now.stripes touch.held) base.now.editions) }
+    ensures held { IfOk result (λ touch. touched_by op.now (OfMap base.now.shown) ≡ Some touch.held) }
+    ensures refused { IfErr result (λ refusal. IsRefusal refusal (touched_by op.now (OfMap base.now.shown) ≡ None)) }
+{
+    let key = match op {
+        Op::Get(key) | Op::Put(key, _) | Op::Remove(key) => *key,
+        _ => return Err(Refusal::NoSuch),
+    };
+    let location = base.place(key);
+    let editions = one_edition(base.allocator(), location, base.edition(location))?;
+    let held = Touched::Entry(key, base.entry(key)?);
+    Ok(Touch { editions, held })
+}
+
+pub(crate) fn touch_bag<V: Value>(base: &BagBase, op: &Op<V>) -> Result<Touch<V>, Refusal>
+    ensures editions { IfOk result
+        (λ touch. touch.editions ≡ editions_at (touched_places base.now.stripes touch.held) base.now.editions) }
+    ensures held { IfOk result (λ touch. touched_by op.now (OfBag base.now.shown) ≡ Some touch.held) }
+    ensures refused { IfErr result (λ refusal. IsRefusal refusal (touched_by op.now (OfBag base.now.shown) ≡ None)) }
+{
+    let element = match op {
+        Op::Count(element) | Op::Add(element) | Op::Take(element) => *element,
+        _ => return Err(Refusal::NoSuch),
+    };
+    let location = base.place(element);
+    let editions = one_edition(base.allocator(), location, base.edition(location))?;
+    let held = Touched::Copies(element, base.copies(element));
+    Ok(Touch { editions, held })
+}
+
+fn one_edition(alloc: Global, location: u32, edition: u64) -> Result<Items<(u32, u64)>, Memory>
+    ensures { IfOk result (λ editions. editions ≡ (location, edition) ∷ []) }
+{
+    let mut editions = Items::new(alloc);
+    editions.push((location, edition))?;
+    Ok(editions)
+}
