@@ -1,0 +1,80 @@
+-- What a running actor makes of itself is what its world makes of its seat and its word actor: the world seats it anew (`put-same`), and
+-- where it is given up its word actor cancels and leaves (`gives_it_up`).
+use Rattle.std.proofs.Common.{◌≡◌, ◌<◌, ◌-◌, ℕ, zero, suc, Bool, true, false, true≢false, eqb, eqb-true, length, List, [], ◌∷◌, refl, sym, ap, arith, ◌∙◌}
+use Rattle.word_machine.specs.Actor.{Actor}
+use Rattle.word_machine.specs.Requests.{ask, AskRelease}
+use Rattle.word_machine.proofs.Sets.{put-same}
+use Rattle.tx_sets.specs.Entries.{locations}
+use Rattle.collection_machine.specs.Boosted.{every, is_given}
+use Rattle.replay_log.specs.Contents.{content}
+use Rattle.seq_model.specs.declared.event.Notice.{Notice}
+use Rattle.seq_model.specs.declared.event.Notice.TheVariants.{Quiet}
+use Rattle.seq_model.specs.declared.refusal.Refusal.TheVariants as refusal
+use Rattle.replay_log.specs.Worlds.{World, Seat, Stage, Gating, Ready, Homing, Releasing, Returning, takes_gates, more_tries, goes_home, at_stage, because, cancels, gives_up, has_tried, actor_of}
+use Rattle.tx_actor.specs.Shows.{Shows, cancelled, ending}
+use Rattle.tx_actor.proofs.ShowsLemmas.{gives_it_up, guarded_asked}
+
+not_none : (n : ℕ) → eqb (suc n) 0 ≡ true → ⊥
+not_none n len =
+    let e : suc n ≡ 0 = eqb-true (suc n) 0 len in
+    omega arith
+
+module _ {V : Type 0} where
+  pub cancels_as : (a : ℕ) (z p : Seat V) (y q : Actor) (w : World V) → q ≡ cancelled y → p ≡ ending z q → actor_of w a ≡ y
+      → Shows a p q (cancels w a z)
+  cancels_as a z p y q w e pe s =
+      let g = gives_it_up a (w.seats a) z y w (refl, s) in
+      (g.0.0 ∙ sym (pe ∙ ap (ending z) e), g.0.1 ∙ sym e)
+
+  pub returns_as : (a : ℕ) (z p : Seat V) (q : Actor) (w : World V) (ks : List ℕ) → eqb (length ks) 0 ≡ false
+      → p ≡ at_stage z (Returning ks) → actor_of w a ≡ q
+      → Shows a p q (gives_up w a z ks).0 × (Quiet ≡ (gives_up w a z ks).1)
+  returns_as a z p q w [] len e s = absurd (true≢false len)
+  returns_as a z p q w (k ∷ ks) len e s = ((put-same w.seats a _ ∙ sym e, s), refl)
+
+  -- a gate that was tried: found free, taken and tried again, taken at the last try
+  pub tried_free : (a : ℕ) (x p : Seat V) (q : Actor) (w : World V) (free : Bool) (k : ℕ) (got : List ℕ) (again : ℕ → Stage V) (next : Stage V) (n : ℕ)
+      → free ≡ true → p ≡ at_stage x next → actor_of w a ≡ q
+      → Shows a p q (has_tried w a x free k got again next n).0 × (Quiet ≡ (has_tried w a x free k got again next n).1)
+  tried_free a x p q w true k got again next n is e s = ((put-same w.seats a _ ∙ sym e, s), refl)
+  tried_free a x p q w false k got again next n is e s = absurd (true≢false (sym is))
+
+  pub tried_again : (a : ℕ) (x p : Seat V) (q : Actor) (w : World V) (free : Bool) (k : ℕ) (got : List ℕ) (again : ℕ → Stage V) (next : Stage V) (n : ℕ)
+      → free ≡ false → 0 < n → p ≡ at_stage x (again (n - 1)) → actor_of w a ≡ q
+      → Shows a p q (has_tried w a x free k got again next n).0 × (Quiet ≡ (has_tried w a x free k got again next n).1)
+  tried_again a x p q w true k got again next n is lt e s = absurd (true≢false is)
+  tried_again a x p q w false k got again next zero is lt e s = absurd (omega arith)
+  tried_again a x p q w false k got again next (suc n) is lt e s =
+      let one : suc n - 1 ≡ n = omega arith in
+      ((put-same w.seats a _ ∙ sym (e ∙ ap (λ m. at_stage x (again m)) one), s), refl)
+
+  pub tried_last : (a : ℕ) (x p : Seat V) (q : Actor) (w : World V) (free : Bool) (k : ℕ) (got : List ℕ) (again : ℕ → Stage V) (next : Stage V) (n : ℕ) (t : Notice V)
+      → free ≡ false → n ≡ 0
+      → Shows a p q (gives_up w a (because x (refusal.GateBusy k)) got).0 × (t ≡ (gives_up w a (because x (refusal.GateBusy k)) got).1)
+      → Shows a p q (has_tried w a x free k got again next n).0 × (t ≡ (has_tried w a x free k got again next n).1)
+  tried_last a x p q w true k got again next n t is none s = absurd (true≢false is)
+  tried_last a x p q w false k got again next zero t is none s = s
+  tried_last a x p q w false k got again next (suc n) t is none s = absurd (omega arith)
+
+  pub gates_none : (ks : List ℕ) → eqb (length ks) 0 ≡ true → Ready ks ≡ takes_gates {V = V} [] ks
+  gates_none [] len = refl
+  gates_none (k ∷ ks) len = absurd (not_none (length ks) len)
+
+  pub gates_some : (ks : List ℕ) → eqb (length ks) 0 ≡ false → Gating [] ks more_tries ≡ takes_gates {V = V} [] ks
+  gates_some [] len = absurd (true≢false len)
+  gates_some (k ∷ ks) len = refl
+
+  -- the bases are home, and no gate is held any more: the locks are released
+  pub home_none : (a : ℕ) (x p : Seat V) (y q : Actor) (w : World V) (ks : List ℕ) → eqb (length ks) 0 ≡ true
+      → every (is_given (content w.words w.blocks) w.boosted a) (locations (actor_of w a).writes) ≡ true
+      → p ≡ at_stage x Releasing → q ≡ ask y y.place AskRelease → actor_of w a ≡ y
+      → Shows a p q (goes_home w a x ks).0 × (Quiet ≡ (goes_home w a x ks).1)
+  home_none a x p y q w [] len is e eq s =
+      ((put-same w.seats a _ ∙ sym e, guarded_asked a w AskRelease _ is ∙ (ap (λ (z : Actor). ask z z.place AskRelease) s ∙ sym eq)), refl)
+  home_none a x p y q w (k ∷ ks) len is e eq s = absurd (not_none (length ks) len)
+
+  pub home_some : (a : ℕ) (x p : Seat V) (q : Actor) (w : World V) (ks : List ℕ) → eqb (length ks) 0 ≡ false
+      → p ≡ at_stage x (Homing ks) → actor_of w a ≡ q
+      → Shows a p q (goes_home w a x ks).0 × (Quiet ≡ (goes_home w a x ks).1)
+  home_some a x p q w [] len e s = absurd (true≢false len)
+  home_some a x p q w (k ∷ ks) len e s = ((put-same w.seats a _ ∙ sym e, s), refl)
