@@ -32,7 +32,8 @@ module _ {V : Type 0} where
       → actor_of (acted w (asks a word.AskCancel ∷ asks a word.AskAbort ∷ [])) a ≡ cancelled y
   two_asked a y w e =
       let u = acted w (asks a word.AskCancel ∷ []) in
-      let one : actor_of u a ≡ ask y y.place word.AskCancel = put-same w.boosted.words.actors a _ ∙ ap (λ (q : Actor). ask q q.place word.AskCancel) e in
+      let one : actor_of u a ≡ ask y y.place word.AskCancel =
+      put-same w.boosted.words.actors a _ ∙ ap (λ (q : Actor). ask q q.place word.AskCancel) e in
       put-same u.boosted.words.actors a _ ∙ ap (λ (q : Actor). ask q q.place word.AskAbort) one
 
   pub gives_it_up : GivesUp V
@@ -46,8 +47,8 @@ module _ {V : Type 0} where
       )
 
   -- a guarded request whose guard holds
-  pub guarded_asked : (a : ℕ) (w : World V) (q : word.Request) (b : Bool) → b ≡ true
-      → actor_of (record w { boosted = cond b (on_words w.boosted (machine.now w.boosted.words a (ask (actor_of w a) (actor_of w a).place q))) w.boosted }) a
+  pub guarded_asked : (a : ℕ) (w : World V) (q : word.Request) (b : Bool) → b ≡ true → let s = w.boosted in
+      actor_of (record w { boosted = cond b (on_words s (machine.now s.words a (ask (actor_of w a) (actor_of w a).place q))) s }) a
       ≡ ask (actor_of w a) (actor_of w a).place q
   guarded_asked a w q true e = put-same w.boosted.words.actors a _
   guarded_asked a w q false e = absurd (true≢false (sym e))
@@ -81,7 +82,8 @@ module _ {V : Type 0} where
         if_fits u a x (has_room (actor_of u a) (c.reads o) (c.writes o)) (loads u a p o (with_editions u.boosted.editions (c.reads o))) _
             (seated u a (at_stage x Open), Refused a refusal.TooLong) (is_judged u a p o (with_editions u.boosted.editions (c.reads o)))
             ∙ ((λ i. cond (has_room (k i) (c.reads o) (c.writes o))
-            (comes_to u a p o (left_after (k i).reads (with_editions (e i) (c.reads o))) (judged (k i).reads (with_editions (e i) (c.reads o))))
+            (comes_to u a p o (left_after (k i).reads (with_editions (e i) (c.reads o)))
+            (judged (k i).reads (with_editions (e i) (c.reads o))))
             (seated u a (at_stage x Open), Refused a refusal.TooLong))),
       )
 

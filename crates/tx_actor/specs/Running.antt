@@ -55,7 +55,15 @@ module _ {V : Type 0} where
   stage_of (stage.Returning homes) = worlds.Returning homes.items
 
   abbrev pub seat_of : TxActor V → Seat V
-  seat_of r = record { stage = stage_of r.stage; rv = r.rv; wv = r.wv; cause = r.cause; calls = r.calls.items; copied = has_piece r.copied.items }
+  seat_of r =
+      record {
+        stage = stage_of r.stage;
+        rv = r.rv;
+        wv = r.wv;
+        cause = r.cause;
+        calls = r.calls.items;
+        copied = has_piece r.copied.items;
+      }
 
   -- what is told of actor a
   abbrev pub notice_of : ℕ → Told V → Notice V
@@ -73,4 +81,5 @@ module _ {V : Type 0} where
 
   -- The same, whatever seat the world has for it; its word actor stands.
   abbrev pub Reseats : TxActor V → TxActor V → Told V → (ℕ → World V → After V) → Type 0
-  Reseats r u t f = (a : ℕ) (w : World V) → worlds.actor_of w a ≡ words.actor_of r.words → Runs a u (f a w).0 × (notice_of a t ≡ (f a w).1)
+  Reseats r u t f = (a : ℕ) (w : World V) → worlds.actor_of w a ≡ words.actor_of r.words
+      → Runs a u (f a w).0 × (notice_of a t ≡ (f a w).1)

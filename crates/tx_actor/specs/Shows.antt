@@ -1,4 +1,5 @@
--- A running actor in a world: what it shows is its seat and its word actor, and what a step makes of it is said of every world that shows it.
+-- A running actor in a world: what it shows is its seat and its word actor, and what a step makes of it is said of every world that
+-- shows it.
 use Rattle.std.specs.Prelude.{◌≡◌, ℕ, true, None, List, [], ◌∷◌, if◌then◌else◌}
 use Rattle.tx_sets.specs.Entries.{Entries, lookup, locations}
 use Rattle.word_machine.specs.Actor.{Actor, Open as AtRest, Look, Check, First, goes}
@@ -35,7 +36,9 @@ module _ {V : Type 0} where
 
 -- The transaction is given up: its locks go back, or it leaves.
 abbrev pub GivesUp : Type 0 → Type 0
-GivesUp V = (a : ℕ) (x z : Seat V) (y : Actor) (w : World V) → Follows a x y (ending z (cancelled y)) (cancelled y) Quiet w (gives_up w a z [])
+GivesUp V =
+    (a : ℕ) (x z : Seat V) (y : Actor) (w : World V)
+    → Follows a x y (ending z (cancelled y)) (cancelled y) Quiet w (gives_up w a z [])
 
 -- The first value store is asked for where all is locked, checked and held: then the word actor stands at it, and the step is the world's.
 abbrev pub AsksStores : Type 0 → Type 0
@@ -45,14 +48,15 @@ AsksStores V =
     → Shows a x y w
     → Shows a x (goes y First) (acted w (asks a word.AskStore ∷ []))
     × (stores w a x ks
-    ≡ has_stored (recorded (acted (acted w (asks a word.AskStore ∷ [])) (moves a ∷ [])) a x true x.wv) a x ks (word_notice (acted w (asks a word.AskStore ∷ [])) a))
+    ≡ has_stored (recorded (acted (acted w (asks a word.AskStore ∷ [])) (moves a ∷ [])) a x true x.wv) a x ks
+    (word_notice (acted w (asks a word.AskStore ∷ [])) a))
 
 -- The store of a call's gate: the world with what was copied. Its actor's seat and word actor stand, and so do the editions of the bases.
 abbrev pub put_back : {V : Type 0} → ℕ → World V → Asked V → World V
 put_back a w asked = acted w (PutGate a asked.collection (covers_at w.words w.blocks asked) ∷ [])
 
--- What a call comes to there: its locations are judged with the editions of the base, and the piece counts as copied; one whose locations don't fit
--- is TooLong, and the piece does not count.
+-- What a call comes to there: its locations are judged with the editions of the base, and the piece counts as copied; one whose
+-- locations don't fit is TooLong, and the piece does not count.
 abbrev pub CopiesForCall : Type 0 → Type 0
 CopiesForCall V =
     (a : ℕ) (x : Seat V) (y : Actor) (w : World V) (asked : Asked V) → Shows a x y w →
@@ -75,5 +79,6 @@ actor_after (Stale l b v) y = cancelled y
 -- a location that no set has is read next
 abbrev pub ReadsNext : Type 0 → Type 0
 ReadsNext V =
-    (a : ℕ) (x : Seat V) (y : Actor) (w : World V) (o : Answered V) (left : Entries) (l : ℕ) → y.place ≡ AtRest → lookup y.writes l ≡ None → lookup y.reads l ≡ None
+    (a : ℕ) (x : Seat V) (y : Actor) (w : World V) (o : Answered V) (left : Entries) (l : ℕ)
+    → y.place ≡ AtRest → lookup y.writes l ≡ None → lookup y.reads l ≡ None
     → Follows a x y (at_stage x (Loading o left)) (actor_after (Next l) y) Quiet w (comes_to w a x o left (Next l))

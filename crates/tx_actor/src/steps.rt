@@ -1,5 +1,5 @@
 //! What each stage makes of an actor, given what its step found. The contracts speak of every world that shows the actor.
-ghost use Rattle.std.specs.Prelude.{◌≡◌, ◌<◌, ◌==◌, ℕ, true, false, [], length, if◌then◌else◌};
+ghost use Rattle.std.specs.Prelude.{◌≡◌, ◌<◌, ◌≤◌, ◌==◌, ℕ, true, false, List, [], ◌∷◌, ◌++◌, take, drop, length, if◌then◌else◌};
 ghost use Rattle.std.specs.Vec.{vec_len, vec_capacity};
 ghost use Rattle.word_machine.specs.Notices as notice;
 ghost use Rattle.word_machine.specs.Requests.{ask, AskBegin, AskBeginRead};
@@ -48,6 +48,17 @@ fn gating_or_ready<V: Drop>(homes: VecDeque<u32>) -> Stage<V>
         return Stage::Ready(homes);
     }
     Stage::Gating(homes, 0, MORE_TRIES)
+}
+
+/// The stage of a transaction that holds the gates of so many of these collections.
+fn next_gate<V: Drop>(homes: VecDeque<u32>, got: usize) -> Stage<V>
+    requires inside { got ≤ length homes.items }
+    ensures { stage_of result ≡ takes_gates (take got homes.items) (drop got homes.items) }
+{
+    if homes.len() <= got {
+        return Stage::Ready(homes);
+    }
+    Stage::Gating(homes, got, MORE_TRIES)
 }
 
 /// The stage of a transaction that is to end: its locks go back, where there are some, and then the clock is loaded.
@@ -184,6 +195,32 @@ impl<V: Drop> TxActor<V> {
         }
         let collection = asked.collection;
         self.gives_up(Refusal::GateBusy { collection })
+    }
+
+    /// The gate of the next collection that a commit writes was tried, and found free or not; it holds the gates before it.
+    pub fn tried_home(
+        &mut self,
+        homes: VecDeque<u32>,
+        got: usize,
+        tries: u32,
+        free: bool,
+    ) -> Told<V>
+        requires next { got < length homes.items }
+        ensures { (k : ℕ) (ks : List ℕ) → drop got homes.items ≡ k ∷ ks →
+            Does self.old self.new result (λ a w. has_tried w a (seat_of self.old) free k (take got homes.items) (λ n. worlds.Gating (take got homes.items) (drop got homes.items) n) (takes_gates (take got homes.items ++ k ∷ []) ks) tries) }
+    {
+        if free {
+            self.stage = next_gate(homes, got + 1);
+            return Told::Quiet;
+        }
+        if tries > 0 {
+            self.stage = Stage::Gating(homes, got, tries - 1);
+            return Told::Quiet;
+        }
+        let collection = homes[got];
+        let mut held = homes;
+        held.truncate(got);
+        self.gives_up_with(Refusal::GateBusy { collection }, held)
     }
 
     /// A transaction is to begin.

@@ -8,7 +8,8 @@ pub returns : goal.returns
 returns g c a w s = (
   (
     put-same w.seats a _ ∙ sym c.clear.ensures.seat,
-    put-same w.boosted.words.actors a _ ∙ (ap (λ (q : Actor). ask q q.place AskAbort) s.1 ∙ sym (c.clear.ensures.words ∙ c.abort.ensures.actor)),
+    put-same w.boosted.words.actors a _
+        ∙ (ap (λ (q : Actor). ask q q.place AskAbort) s.1 ∙ sym (c.clear.ensures.words ∙ c.abort.ensures.actor)),
   ),
   refl,
 )

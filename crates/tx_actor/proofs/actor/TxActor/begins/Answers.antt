@@ -5,5 +5,10 @@ use Rattle.word_machine.specs.Requests.{ask, AskBegin}
 use Rattle.tx_actor.proofs.actor.TxActor.begins.Goals as goal
 
 pub returns : goal.returns
-returns g c a w s =
-    ((put-same w.seats a _, put-same w.boosted.words.actors a _ ∙ (ap (λ (q : Actor). ask q q.place AskBegin) s.1 ∙ sym c.begin.ensures)), refl)
+returns g c a w s = (
+  (
+    put-same w.seats a _,
+    put-same w.boosted.words.actors a _ ∙ (ap (λ (q : Actor). ask q q.place AskBegin) s.1 ∙ sym c.begin.ensures),
+  ),
+  refl,
+)

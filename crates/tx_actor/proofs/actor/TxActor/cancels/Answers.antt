@@ -5,5 +5,8 @@ use Rattle.tx_actor.proofs.RunsLemmas.{cancels_as}
 use Rattle.tx_actor.proofs.actor.TxActor.cancels.Goals as goal
 
 pub returns : goal.returns
-returns g c a w s =
-    (cancels_as a (seat_of c.args.self.now) _ _ _ w c.cancel.ensures.actor (λ i. at_stage (seat_of c.args.self.now) (c.leaving_or_cancelling.ensures i)) s, refl)
+returns g c a w s = (
+  cancels_as a (seat_of c.args.self.now) _ _ _ w c.cancel.ensures.actor
+      (λ i. at_stage (seat_of c.args.self.now) (c.leaving_or_cancelling.ensures i)) s,
+  refl,
+)

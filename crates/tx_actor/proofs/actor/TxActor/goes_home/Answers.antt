@@ -5,7 +5,8 @@ use Rattle.tx_actor.proofs.actor.TxActor.goes_home.Goals as goal
 
 pub returns-then-has_none : goal.returns-then-has_none
 returns-then-has_none g c a w is s =
-    home_none a (seat_of c.args.self.now) _ _ _ w c.args.homes.items (sym c.has_none.ensures ∙ c.if-has_none.true) is refl c.release.ensures.actor s.1
+    home_none a (seat_of c.args.self.now) _ _ _ w c.args.homes.items (sym c.has_none.ensures ∙ c.if-has_none.true) is
+    refl c.release.ensures.actor s.1
 
 pub returns : goal.returns
 returns g c a w is s =

@@ -8,7 +8,10 @@ pub returns : goal.returns
 returns g c a w hs s = (
   (
     put-same w.seats a _
-        ∙ sym (λ i. record (seat_of c.args.self.now) { stage = (c.gating_or_ready.ensures ∙ (λ j. takes_gates [] (hs j))) i; wv = c.args.number }),
+        ∙ sym (λ i. record (seat_of c.args.self.now) {
+          stage = (c.gating_or_ready.ensures ∙ (λ j. takes_gates [] (hs j))) i;
+          wv = c.args.number;
+        }),
     s.1,
   ),
   refl,

@@ -5,5 +5,11 @@ use Rattle.tx_actor.specs.Running.{seat_of}
 use Rattle.tx_actor.proofs.actor.TxActor.read.Goals as goal
 
 pub returns : goal.returns
-returns g c a w s =
-    ((put-same w.seats a _ ∙ sym (λ i. record (seat_of c.args.self.now) { stage = Open; calls = c.push_reserved.ensures.items i }), s.1), refl)
+returns g c a w s = (
+  (
+    put-same w.seats a _
+        ∙ sym (λ i. record (seat_of c.args.self.now) { stage = Open; calls = c.push_reserved.ensures.items i }),
+    s.1,
+  ),
+  refl,
+)
