@@ -29,7 +29,10 @@ at_next i xs k d ks lt e =
     let here : get_or xs i d ≡ k = λ j. get_or (f j) 0 d in
     let more : suc i ≡ i + 1 = omega arith in (
       here,
-      ((λ j. take (sym more j) xs) ∙ (take-suc xs i d lt ∙ (λ j. take i xs ++ here j ∷ [])), (λ j. drop (sym more j) xs) ∙ (λ j. drop 1 (f j))),
+      (
+        (λ j. take (sym more j) xs) ∙ (take-suc xs i d lt ∙ (λ j. take i xs ++ here j ∷ [])),
+        (λ j. drop (sym more j) xs) ∙ (λ j. drop 1 (f j)),
+      ),
     )
 
 module _ {V : Type 0} where

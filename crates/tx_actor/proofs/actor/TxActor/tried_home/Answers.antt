@@ -29,5 +29,6 @@ returns g c k ks e a w s =
     (λ n. Gating (take c.args.got c.args.homes.items) (drop c.args.got c.args.homes.items) n)
     (takes_gates (take c.args.got c.args.homes.items ++ k ∷ []) ks) c.args.tries _
     c.if-free.false none
-    (busy_as a (seat_of c.args.self.now) _ _ w _ r k _ (take c.args.got c.args.homes.items) (c.index-collection.ensures ∙ n.0) c.truncate.ensures.items
+    (busy_as a (seat_of c.args.self.now) _ _ w _ r k _ (take c.args.got c.args.homes.items) (c.index-collection.ensures ∙ n.0)
+    c.truncate.ensures.items
     (c.gives_up_with.ensures a w s))
