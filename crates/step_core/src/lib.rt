@@ -31,6 +31,7 @@ mod phase;
 mod record;
 mod words;
 
+pub use actor::{Actor, Place};
 pub use answer::{WordAnswer, WordRefusal, WordRequest};
 pub use record::{WordCall, WordCalls, WordRecord};
 pub use words::Words;

@@ -1,0 +1,3 @@
+mod JudgedLemmas
+mod RunsLemmas
+mod ShowsLemmas

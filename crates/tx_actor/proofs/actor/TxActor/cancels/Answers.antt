@@ -1,0 +1,12 @@
+use Rattle.std.proofs.Common.{refl}
+use Rattle.replay_log.specs.Worlds.{at_stage}
+use Rattle.tx_actor.specs.Running.{seat_of}
+use Rattle.tx_actor.proofs.RunsLemmas.{cancels_as}
+use Rattle.tx_actor.proofs.actor.TxActor.cancels.Goals as goal
+
+pub returns : goal.returns
+returns g c a w s = (
+  cancels_as a (seat_of c.args.self.now) _ _ _ w c.cancel.ensures.actor
+      (λ i. at_stage (seat_of c.args.self.now) (c.leaving_or_cancelling.ensures i)) s,
+  refl,
+)

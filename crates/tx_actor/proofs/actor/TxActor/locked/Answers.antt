@@ -1,0 +1,18 @@
+use Rattle.std.proofs.Common.{[], refl, sym, ◌∙◌}
+use Rattle.word_machine.proofs.Sets.{put-same}
+use Rattle.replay_log.specs.Worlds.{takes_gates}
+use Rattle.tx_actor.specs.Running.{seat_of}
+use Rattle.tx_actor.proofs.actor.TxActor.locked.Goals as goal
+
+pub returns : goal.returns
+returns g c a w hs s = (
+  (
+    put-same w.seats a _
+        ∙ sym (λ i. record (seat_of c.args.self.now) {
+          stage = (c.gating_or_ready.ensures ∙ (λ j. takes_gates [] (hs j))) i;
+          wv = c.args.number;
+        }),
+    s.1,
+  ),
+  refl,
+)

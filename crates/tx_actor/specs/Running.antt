@@ -1,0 +1,85 @@
+-- What a running actor shows, and what a step of it makes of every world that shows it.
+use Rattle.std.specs.Prelude.{◌≡◌, ℕ, Bool, false, ◌&&◌, ◌||◌, ◌==◌, List, [], ◌∷◌, take, drop}
+use Rattle.seq_model.specs.declared.event.Notice.{Notice}
+use Rattle.seq_model.specs.declared.event.Notice.TheVariants.{Quiet, Answered, Refused}
+use Rattle.step_core.specs.Shown as words
+use Rattle.replay_log.specs.Pieces as pieces
+use Rattle.replay_log.specs.Contents as contents
+use Rattle.replay_log.specs.Worlds as worlds
+use Rattle.replay_log.specs.Worlds.{World, Seat, After}
+use Rattle.tx_actor.specs.Shows.{Shows}
+use Rattle.tx_actor.specs.declared.actor.Piece.{Piece}
+use Rattle.tx_actor.specs.declared.actor.Piece.TheVariants as piece
+use Rattle.tx_actor.specs.declared.actor.Asked.{Asked}
+use Rattle.tx_actor.specs.declared.actor.Answered as running
+use Rattle.tx_actor.specs.declared.actor.Stage.{Stage}
+use Rattle.tx_actor.specs.declared.actor.Stage.TheVariants as stage
+use Rattle.tx_actor.specs.declared.actor.Told.{Told}
+use Rattle.tx_actor.specs.declared.actor.Told.TheVariants as told
+use Rattle.tx_actor.specs.declared.actor.TxActor.{TxActor}
+
+abbrev pub piece_of : Piece → pieces.Piece
+piece_of (piece.Entry k) = pieces.Entry k
+piece_of piece.Counts = pieces.Counts
+piece_of piece.Whole = pieces.Whole
+
+-- whether piece q of collection k is among these
+abbrev pub has_piece : List (ℕ × Piece) → ℕ → pieces.Piece → Bool
+has_piece [] k q = false
+has_piece (p ∷ ps) k q = (k == p.0 && pieces.is_piece (piece_of p.1) q) || has_piece ps k q
+
+module _ {V : Type 0} where
+  abbrev pub asked_of : Asked V → contents.Asked V
+  asked_of asked = record { collection = asked.collection; op = asked.op }
+
+  abbrev pub answered_of : running.Answered V → contents.Answered V
+  answered_of o = record { asked = asked_of o.asked; outcome = o.outcome }
+
+  abbrev pub stage_of : Stage V → worlds.Stage V
+  stage_of stage.Idle = worlds.Idle
+  stage_of stage.Beginning = worlds.Beginning
+  stage_of stage.Open = worlds.Open
+  stage_of stage.Locking = worlds.Locking
+  stage_of stage.Releasing = worlds.Releasing
+  stage_of stage.Closing = worlds.Closing
+  stage_of stage.Cancelling = worlds.Cancelling
+  stage_of stage.Leaving = worlds.Leaving
+  stage_of (stage.Reading l) = worlds.Reading l
+  stage_of (stage.Trying asked tries) = worlds.Trying (asked_of asked) tries
+  stage_of (stage.Copying asked) = worlds.Copying (asked_of asked)
+  stage_of (stage.Loading o left) = worlds.Loading (answered_of o) left.items
+  stage_of (stage.Gating homes got tries) = worlds.Gating (take got homes.items) (drop got homes.items) tries
+  stage_of (stage.Ready homes) = worlds.Ready homes.items
+  stage_of (stage.Storing homes) = worlds.Storing homes.items
+  stage_of (stage.Homing homes) = worlds.Homing homes.items
+  stage_of (stage.Returning homes) = worlds.Returning homes.items
+
+  abbrev pub seat_of : TxActor V → Seat V
+  seat_of r =
+      record {
+        stage = stage_of r.stage;
+        rv = r.rv;
+        wv = r.wv;
+        cause = r.cause;
+        calls = r.calls.items;
+        copied = has_piece r.copied.items;
+      }
+
+  -- what is told of actor a
+  abbrev pub notice_of : ℕ → Told V → Notice V
+  notice_of a told.Quiet = Quiet
+  notice_of a (told.Answered x) = Answered a x
+  notice_of a (told.Refused x) = Refused a x
+
+  -- r is actor a of the world w
+  abbrev pub Runs : ℕ → TxActor V → World V → Type 0
+  Runs a r w = Shows a (seat_of r) (words.actor_of r.words) w
+
+  -- In every world in which r is an actor, it is u after f, which tells t.
+  abbrev pub Does : TxActor V → TxActor V → Told V → (ℕ → World V → After V) → Type 0
+  Does r u t f = (a : ℕ) (w : World V) → Runs a r w → Runs a u (f a w).0 × (notice_of a t ≡ (f a w).1)
+
+  -- The same, whatever seat the world has for it; its word actor stands.
+  abbrev pub Reseats : TxActor V → TxActor V → Told V → (ℕ → World V → After V) → Type 0
+  Reseats r u t f = (a : ℕ) (w : World V) → worlds.actor_of w a ≡ words.actor_of r.words
+      → Runs a u (f a w).0 × (notice_of a t ≡ (f a w).1)

@@ -1,0 +1,78 @@
+//! What an actor keeps: its word actor, where its request stands, its numbers, its cause, its calls, and which pieces it has copied.
+use conflict::Outcome;
+use seq_model::{Answer, Call, Op, Refusal, Reply};
+use std::collections::VecDeque;
+use step_core::Actor;
+
+/// What a call touches: a key, the number of all keys, or the whole.
+#[derive(Clone, Copy)]
+pub enum Piece {
+    Entry(u64),
+    Counts,
+    Whole,
+}
+
+/// A call on a collection.
+#[derive(Drop)]
+pub struct Asked<V> {
+    pub collection: u32,
+    pub op: Op<V>,
+}
+
+/// A call with the outcome that it is going to have.
+#[derive(Drop)]
+pub struct Answered<V> {
+    pub asked: Asked<V>,
+    pub outcome: Option<Outcome<V>>,
+}
+
+/// Where an actor's request stands, with what its next step needs.
+#[derive(Drop)]
+pub enum Stage<V> {
+    Idle,
+    Beginning,
+    Open,
+    Locking,
+    Releasing,
+    Closing,
+    Cancelling,
+    Leaving,
+    Reading(u32),
+    /// The gate of the call's collection is tried; so many tries are left after this one.
+    Trying(Asked<V>, u32),
+    /// That gate is held.
+    Copying(Asked<V>),
+    /// The first of these locations is read, to be judged by the edition that was copied.
+    Loading(Answered<V>, VecDeque<(u32, u64)>),
+    /// The gates of the first of these collections are held, and the next one is tried, with so many tries left after this one.
+    Gating(VecDeque<u32>, usize, u32),
+    /// The gates of these are held, and the first value store is next.
+    Ready(VecDeque<u32>),
+    Storing(VecDeque<u32>),
+    /// The bases of these are to go home.
+    Homing(VecDeque<u32>),
+    /// The gates of these are to be put back, their bases unchanged.
+    Returning(VecDeque<u32>),
+}
+
+/// What a step or a request tells.
+#[derive(Drop)]
+pub enum Told<V> {
+    Quiet,
+    Answered(Answer<V>),
+    Refused(Refusal),
+}
+
+/// An actor with its transaction.
+#[derive(Drop)]
+pub struct TxActor<V> {
+    pub words: Actor,
+    pub stage: Stage<V>,
+    pub rv: u64,
+    pub wv: u64,
+    /// Why it is being aborted; none where its actor asked for it.
+    pub cause: Option<Refusal>,
+    pub calls: Vec<(Call<V>, Reply<V>)>,
+    /// The pieces of collections that it has copied.
+    pub copied: Vec<(u32, Piece)>,
+}

@@ -1,0 +1,15 @@
+//! One running actor of a world of words and collections.
+//!
+//! What an actor keeps stands here, and what each of its steps makes of it, given what the step found:
+//! no word, gate or base is inside it.
+#![tactic(auto)]
+
+mod actor;
+mod ending;
+mod judged;
+pub mod laws;
+mod steps;
+
+pub use actor::{Answered, Asked, Piece, Stage, Told, TxActor};
+pub use ending::cancel;
+pub use judged::{Judged, go_on, judge};
