@@ -25,7 +25,7 @@ use Rattle.collection_machine.specs.Content.{has}
 use Rattle.collection_machine.specs.Boosted.{TakeGate, PutGate, Accept, GoHome, is_none}
 use Rattle.replay_log.specs.Contents.{Block, Asked, Answered, content}
 use Rattle.replay_log.specs.Pieces.{piece_at, covers_at}
-use Rattle.replay_log.specs.Worlds.{World, Seat, Stage, Idle, Beginning, Open, Locking, Releasing, Closing, Cancelling, Leaving, Reading, Trying, Copying, Loading, Gating, Ready, Storing, Homing, Returning, After, has_room, with_editions, at_stage, because, seated, acted, asks, moves, actor_of, word_notice, no_one, is_leaving, gives_up, with_call, reads, outcome_at, reply_of, call_of, is_fresh, judges, loads, answers, calls_on, if_allowed, ask_op, commits, ask_at, recorded, has_begun, has_read, has_tried, with_piece, has_loaded, takes_gates, written_homes, has_locked, goes_home, has_stored, has_released, has_cancelled, step_at, starve_at, happens, run, opened, is_half_done, half_in, half, more_tries}
+use Rattle.replay_log.specs.Worlds.{World, Seat, Stage, Idle, Beginning, Open, Locking, Releasing, Closing, Cancelling, Leaving, Reading, Trying, Copying, Loading, Gating, Ready, Storing, Homing, Returning, After, has_room, sized_by, with_editions, at_stage, because, seated, acted, asks, moves, actor_of, word_notice, no_one, is_leaving, gives_up, with_call, reads, outcome_at, reply_of, call_of, is_fresh, judges, loads, answers, calls_on, if_allowed, ask_op, commits, ask_at, recorded, has_begun, has_read, has_tried, with_piece, has_loaded, takes_gates, written_homes, has_locked, goes_home, has_stored, has_released, has_cancelled, step_at, starve_at, happens, run, opened, is_half_done, half_in, half, more_tries}
 use Rattle.replay_log.specs.WorldSerial.{HasWritten, AreAbove, AreRising, AreHalfDone}
 use Rattle.replay_log.specs.WorldTraces.{committed_by, with_record}
 use Rattle.replay_log.specs.WorldProgress.{whose}
@@ -94,17 +94,17 @@ module _ {V : Type 0} where
   loads_begins [] u a x o = sits (acted u (Accept a o.asked ∷ [])) a AtAhead (with_call x (call_of o) (reply_of o)) tt
   loads_begins (d ∷ es) u a x o = judges_begins u a x o d es (loads u a x o es) (lookup (actor_of u a).reads d.0) (loads_begins es u a x o)
 
-  answers_begins : (u : World V) (a : ℕ) (before x : Seat V) (o : Answered V) (editions : ℕ → ℕ) → Begins a u (answers u a before x o editions)
-  answers_begins u a before x o editions =
+  answers_begins : (u : World V) (a : ℕ) (before x : Seat V) (sized o : Answered V) (editions : ℕ → ℕ) → Begins a u (answers u a before x sized o editions)
+  answers_begins u a before x sized o editions =
       let c = content u.words u.blocks in
-      choose_leaves a u.records AtAhead (has_room (actor_of u a) (c.reads o) (c.writes o)) (loads u a x o (with_editions editions (c.reads o))) _
+      choose_leaves a u.records AtAhead (has_room (actor_of u a) (c.reads sized) (c.writes sized)) (loads u a x o (with_editions editions (c.reads o))) _
       (loads_begins (with_editions editions (c.reads o)) u a x o) (sits u a AtAhead (at_stage before Open) tt)
 
   -- ---- requests
   calls_on_begins : (w : World V) (a : ℕ) (x : Seat V) (asked : Asked V) → Begins a w (calls_on w a x asked)
   calls_on_begins w a x asked =
       choose_leaves a w.records AtAhead (x.copied asked.collection (piece_at w.blocks asked)) _ _
-      (answers_begins w a x x (outcome_at w a asked) (w.boosted.shadows a).editions) (sits w a AtAhead (at_stage x (Trying asked more_tries)) refl)
+      (answers_begins w a x x (outcome_at w a asked) (outcome_at w a asked) (w.boosted.shadows a).editions) (sits w a AtAhead (at_stage x (Trying asked more_tries)) refl)
 
   reads_begins : (w : World V) (a : ℕ) (x : Seat V) (l : ℕ) (n : told.Notice) → Begins a w (reads w a x l n)
   reads_begins w a x l (told.Number v) = sits (acted w (asks a (word.AskRead l) ∷ [])) a AtAhead (with_call x (record { target = l; op = Read }) (reply.Number v)) tt
@@ -269,7 +269,7 @@ module _ {V : Type 0} where
   step_turns w a x (Copying asked) seat at =
       let u = acted w (PutGate a asked.collection (covers_at w.words w.blocks asked) ∷ []) in
       ahead w a x (Copying asked) w.records _
-      (answers_begins u a x (with_piece x asked.collection (piece_at w.blocks asked)) (outcome_at u a asked) u.boosted.editions)
+      (answers_begins u a x (with_piece x asked.collection (piece_at w.blocks asked)) (sized_by u a asked (outcome_at u a asked)) (outcome_at u a asked) u.boosted.editions)
   step_turns w a x (Loading o []) seat at = stays w a (Turns w x (Loading o [])) x seat (inl (subst IsAhead (sym at) tt))
   step_turns w a x (Loading o (d ∷ es)) seat at =
       ahead w a x (Loading o (d ∷ es)) w.records _
