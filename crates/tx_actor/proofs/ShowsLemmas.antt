@@ -11,7 +11,8 @@ use Rattle.replay_log.specs.Contents.{content}
 use Rattle.replay_log.specs.Pieces.{piece_at}
 use Rattle.seq_model.specs.declared.event.Notice.TheVariants.{Refused}
 use Rattle.seq_model.specs.declared.refusal.Refusal.TheVariants as refusal
-use Rattle.replay_log.specs.Worlds.{World, Seat, After, at_stage, acted, asks, actor_of, seated, loads, has_room, with_editions, with_piece, outcome_at, Open}
+use Rattle.replay_log.specs.Worlds.{World, Seat, After, at_stage, acted, asks, actor_of, seated, loads, has_room, with_editions, with_piece, outcome_at, outcome_now, is_stale, Open}
+use Rattle.replay_log.specs.Contents.{Answered}
 use Rattle.tx_actor.specs.Shows.{cancelled, ending, GivesUp, AsksStores, put_back, CopiesForCall, ReadsNext}
 use Rattle.tx_actor.specs.Judged.{judged, left_after, comes_to}
 use Rattle.tx_actor.proofs.JudgedLemmas.{is_judged}
@@ -74,14 +75,16 @@ module _ {V : Type 0} where
       let o = outcome_at u a asked in
       let k : actor_of u a ≡ y = ap (λ (t : machine.World). t.actors a) (same_words w.boosted _ _ _) ∙ s.1 in
       let e : u.boosted.editions ≡ w.boosted.editions = same_editions w.boosted _ _ _ in
+      let sized : Actor → (ℕ → ℕ) → Answered V = λ q f. cond (is_stale q.reads (with_editions f (c.reads o))) (outcome_now u asked) o in
+      let now = sized (actor_of u a) u.boosted.editions in
       let p = with_piece x asked.collection (piece_at w.blocks asked) in (
         (
           s.0,
           k,
         ),
-        if_fits u a x (has_room (actor_of u a) (c.reads o) (c.writes o)) (loads u a p o (with_editions u.boosted.editions (c.reads o))) _
+        if_fits u a x (has_room (actor_of u a) (c.reads now) (c.writes now)) (loads u a p o (with_editions u.boosted.editions (c.reads o))) _
             (seated u a (at_stage x Open), Refused a refusal.TooLong) (is_judged u a p o (with_editions u.boosted.editions (c.reads o)))
-            ∙ ((λ i. cond (has_room (k i) (c.reads o) (c.writes o))
+            ∙ ((λ i. cond (has_room (k i) (c.reads (sized (k i) (e i))) (c.writes (sized (k i) (e i))))
             (comes_to u a p o (left_after (k i).reads (with_editions (e i) (c.reads o)))
             (judged (k i).reads (with_editions (e i) (c.reads o))))
             (seated u a (at_stage x Open), Refused a refusal.TooLong))),

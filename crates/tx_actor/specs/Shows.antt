@@ -10,7 +10,7 @@ use Rattle.seq_model.specs.declared.event.Notice.TheVariants.{Quiet, Refused}
 use Rattle.seq_model.specs.declared.refusal.Refusal.TheVariants as refusal
 use Rattle.collection_machine.specs.Boosted.{PutGate, every, is_held}
 use Rattle.replay_log.specs.Contents.{Asked, content}
-use Rattle.replay_log.specs.Worlds.{World, Seat, After, Leaving, Cancelling, Loading, is_leaving, at_stage, acted, asks, moves, actor_of, word_notice, gives_up, recorded, stores, has_stored, has_room, with_editions, with_piece, outcome_at, has_copied, seated, Open}
+use Rattle.replay_log.specs.Worlds.{World, Seat, After, Leaving, Cancelling, Loading, is_leaving, at_stage, acted, asks, moves, actor_of, word_notice, gives_up, recorded, stores, has_stored, has_room, with_editions, with_piece, outcome_at, outcome_now, is_stale, has_copied, seated, Open}
 use Rattle.replay_log.specs.Pieces.{piece_at, covers_at}
 use Rattle.tx_actor.specs.Judged.{judged, left_after, comes_to}
 use Rattle.tx_actor.specs.declared.judged.Judged.{Judged}
@@ -56,7 +56,8 @@ abbrev pub put_back : {V : Type 0} → ℕ → World V → Asked V → World V
 put_back a w asked = acted w (PutGate a asked.collection (covers_at w.words w.blocks asked) ∷ [])
 
 -- What a call comes to there: its locations are judged with the editions of the base, and the piece counts as copied; one whose
--- locations don't fit is TooLong, and the piece does not count.
+-- locations don't fit is TooLong, and the piece does not count. Where the copy is found stale without a step, the locations are those
+-- of the call on the new copy.
 abbrev pub CopiesForCall : Type 0 → Type 0
 CopiesForCall V =
     (a : ℕ) (x : Seat V) (y : Actor) (w : World V) (asked : Asked V) → Shows a x y w →
@@ -64,9 +65,10 @@ CopiesForCall V =
     let c = content w.words w.blocks in
     let o = outcome_at u a asked in
     let es = with_editions w.boosted.editions (c.reads o) in
+    let sized = (if is_stale y.reads es then outcome_now u asked else o) in
     Shows a x y u
     × (has_copied u a x asked
-    ≡ (if has_room y (c.reads o) (c.writes o)
+    ≡ (if has_room y (c.reads sized) (c.writes sized)
     then comes_to u a (with_piece x asked.collection (piece_at w.blocks asked)) o (left_after y.reads es) (judged y.reads es)
     else (seated u a (at_stage x Open), Refused a refusal.TooLong)))
 
