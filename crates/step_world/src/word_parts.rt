@@ -21,7 +21,7 @@ use std::snapshot::Snapshot;
 use step_core::{WordAnswer, WordRefusal, WordRequest, Words};
 
 /// A world has at most this many words.
-pub const WORD_LIMIT: usize = 65_536;
+pub const WORD_LIMIT: usize = 1_048_576;
 
 /// The seats of the actors 1 to 64, and one that no actor takes, so that an actor's number is its index.
 const SEATS: usize = 65;
