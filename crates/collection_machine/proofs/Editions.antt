@@ -28,20 +28,24 @@ one_untouched : (r : Record) (n l : ℕ) → touched r.calls l ≡ false → one
 one_untouched r n l f = cond-false (touched r.calls l) (if nat_le r.number n then 1 else 0) 0 f
 
 one_later : (r : Record) (n l : ℕ) → n < r.number → one r n l ≡ 0
-one_later r n l h = cond_both (touched r.calls l) (if nat_le r.number n then 1 else 0) 0 (λ z. z ≡ 0) (λ _. cond-false (leb r.number n) 1 0 (lt-leb r.number n h)) (λ _. refl)
+one_later r n l h = cond_both (touched r.calls l) (if nat_le r.number n then 1 else 0) 0 (λ z. z ≡ 0)
+    (λ _. cond-false (leb r.number n) 1 0 (lt-leb r.number n h)) (λ _. refl)
 
 pub one_here : (r : Record) (n l : ℕ) → touched r.calls l ≡ true → r.number ≤ n → one r n l ≡ 1
-one_here r n l t h = cond-true (touched r.calls l) (if nat_le r.number n then 1 else 0) 0 t ∙ cond-true (leb r.number n) 1 0 (le-leb r.number n h)
+one_here r n l t h = cond-true (touched r.calls l) (if nat_le r.number n then 1 else 0) 0 t ∙ cond-true (leb r.number n) 1 0
+    (le-leb r.number n h)
 
 -- the edition of l, at each number, is the count of its writers
 abbrev pub IsEdition : List Record → ℕ → ℕ → Type 0
 IsEdition h l o = (n : ℕ) → settled h n l o ≡ o + count h n l
 
 pub IsEdition-other : (r : Record) (h : List Record) (l o : ℕ) → touched r.calls l ≡ false → IsEdition h l o → IsEdition (insert r h) l o
-IsEdition-other r h l o f e n = settled_untouched r h n l o f ∙ e n ∙ (let a = count-insert r h n l in let b = one_untouched r n l f in omega (arith, a, b))
+IsEdition-other r h l o f e n = settled_untouched r h n l o f ∙ e n
+    ∙ (let a = count-insert r h n l in let b = one_untouched r n l f in omega (arith, a, b))
 
 -- a commit that writes the next edition keeps this
-pub IsEdition-next : (r : Record) (h : List Record) (l o : ℕ) → IsInOrder h → IsNew r h → touched r.calls l ≡ true → stamp h l < r.number → final r.calls l 0 ≡ finals h l o + 1 → IsEdition h l o → IsEdition (insert r h) l o
+pub IsEdition-next : (r : Record) (h : List Record) (l o : ℕ) → IsInOrder h → IsNew r h → touched r.calls l ≡ true → stamp h l < r.number
+    → final r.calls l 0 ≡ finals h l o + 1 → IsEdition h l o → IsEdition (insert r h) l o
 IsEdition-next r h l o ord new t last next e n =
     elim (cases_lt n r.number) [
       | inl lt ↦ settled_later r h n l o lt ∙ e n ∙ (let a = count-insert r h n l in let b = one_later r n l lt in omega (arith, a, b))
@@ -49,7 +53,8 @@ IsEdition-next r h l o ord new t last next e n =
           let top : stamp (insert r h) l ≤ n = omega (arith, stamp_touched r h l t, last, ge) in
           let below : stamp h l ≤ n = omega (arith, last, ge) in
           settled_all (insert r h) n l o top ∙ finals_touched r h l o ord new t last ∙ next
-          ∙ (let a = count-insert r h n l in let b = one_here r n l t ge in let c = sym (settled_all h n l o below) ∙ e n in omega (arith, a, b, c))
+          ∙ (let a = count-insert r h n l in let b = one_here r n l t ge in let c = sym (settled_all h n l o below) ∙ e n in
+          omega (arith, a, b, c))
     ]
 
 one_more : (r : Record) (n m l : ℕ) → n ≤ m → one r n l ≤ one r m l
@@ -67,7 +72,8 @@ count_more [] n m l q = omega arith
 count_more (r ∷ rs) n m l q = omega (arith, one_more r n m l q, count_more rs n m l q)
 
 -- equal counts: no writer of l lies between
-pub no_writer : (h : List Record) (n m l : ℕ) → n ≤ m → AllRecords (λ r. r.number ≤ m) h → count h n l ≡ count h m l → AllRecords (λ r. (n < r.number → touched r.calls l ≡ false)) h
+pub no_writer : (h : List Record) (n m l : ℕ) → n ≤ m → AllRecords (λ r. r.number ≤ m) h → count h n l ≡ count h m l
+    → AllRecords (λ r. (n < r.number → touched r.calls l ≡ false)) h
 no_writer [] n m l q a e = tt
 no_writer (r ∷ rs) n m l q a e =
     let x = one_more r n m l q in

@@ -33,15 +33,19 @@ settled_top (r ∷ rs) top l d a =
 
 module _ {X Op Out : Type 0} (c : Content X Op Out) (f : Frame c) where
   pub all_past : (s : Boosted X Out) → Inv c s → AllRecords (λ r. r.number ≤ s.words.clock) (words s.history)
-  all_past s v = subst (AllRecords (λ r. r.number ≤ s.words.clock)) (sym v.same) (AllRecords_map (RecordOk s.words) (λ r. r.number ≤ s.words.clock) s.words.history (λ r q. q.past) v.machine.records)
+  all_past s v = subst (AllRecords (λ r. r.number ≤ s.words.clock)) (sym v.same)
+      (AllRecords_map (RecordOk s.words) (λ r. r.number ≤ s.words.clock) s.words.history (λ r q. q.past) v.machine.records)
 
   -- what the history leaves is known by its edition
-  known_now : (s : Boosted X Out) (l : ℕ) → Inv c s → c.plain l ≡ false → Known c s l (finals (words s.history) l (s.first l)) (views c s.history s.opening l)
+  known_now : (s : Boosted X Out) (l : ℕ) → Inv c s → c.plain l ≡ false → Known c s l (finals (words s.history) l (s.first l))
+      (views c s.history s.opening l)
   known_now s l v pl = record {
     plain = pl;
     past = omega arith;
-    knows = subst (λ (e : ℕ). Knows c s.history s.first s.opening l e (views c s.history s.opening l)) (settled_top (words s.history) s.words.clock l (s.first l) (all_past s v))
-        (Knows-now c f s.history s.first s.opening s.words.clock l v.fits (subst IsInOrder (sym v.same) v.machine.ordered) (all_past s v) (v.edition l pl));
+    knows = subst (λ (e : ℕ). Knows c s.history s.first s.opening l e (views c s.history s.opening l))
+        (settled_top (words s.history) s.words.clock l (s.first l) (all_past s v))
+        (Knows-now c f s.history s.first s.opening s.words.clock l v.fits (subst IsInOrder (sym v.same) v.machine.ordered) (all_past s v)
+        (v.edition l pl));
   }
 
   homed_led : (s : Boosted X Out) (a k : ℕ) → Inv c s → s.gates k ≡ Some a → (s.words.actors a).place ≡ Store [] → Led c s (homed c s a k)
@@ -50,22 +54,35 @@ module _ {X Op Out : Type 0} (c : Content X Op Out) (f : Frame c) where
       let w = s.shadows a in
       let u : Boosted X Out = homed c s a k in
       let half : IsHalfDone x.place = subst IsHalfDone (sym e) tt in
-      let keeps : Keeps c s u = record { known = λ l n p g. record { plain = g.plain; past = g.past; knows = g.knows }; good = λ n l i g. g; opening = refl; first = refl } in
-      let part : (l : ℕ) → c.home l ≡ k → u.parts l ≡ changes c w.outcomes s.parts l = λ l q. cond-true (eqb (c.home l) k) (changes c w.outcomes s.parts l) (s.parts l) (eq-eqb (c.home l) k q) in
+      let keeps : Keeps c s u = record {
+        known = λ l n p g. record { plain = g.plain; past = g.past; knows = g.knows };
+        good = λ n l i g. g;
+        opening = refl;
+        first = refl;
+      } in
+      let part : (l : ℕ) → c.home l ≡ k → u.parts l ≡ changes c w.outcomes s.parts l = λ l q. cond-true (eqb (c.home l) k)
+      (changes c w.outcomes s.parts l) (s.parts l) (eq-eqb (c.home l) k q) in
       let raised : (l : ℕ) → ℕ = λ l. (if is_none (lookup x.writes l) then s.editions l else s.editions l + 1) in
-      let edition : (l : ℕ) → c.home l ≡ k → u.editions l ≡ raised l = λ l q. cond-true (eqb (c.home l) k) (raised l) (s.editions l) (eq-eqb (c.home l) k q) in
-      let part_else : (l : ℕ) → (c.home l ≡ k → ⊥) → u.parts l ≡ s.parts l = λ l ne. cond-false (eqb (c.home l) k) (changes c w.outcomes s.parts l) (s.parts l) (ne_eqb (c.home l) k ne) in
-      let edition_else : (l : ℕ) → (c.home l ≡ k → ⊥) → u.editions l ≡ s.editions l = λ l ne. cond-false (eqb (c.home l) k) (raised l) (s.editions l) (ne_eqb (c.home l) k ne) in
+      let edition : (l : ℕ) → c.home l ≡ k → u.editions l ≡ raised l = λ l q. cond-true (eqb (c.home l) k) (raised l) (s.editions l)
+      (eq-eqb (c.home l) k q) in
+      let part_else : (l : ℕ) → (c.home l ≡ k → ⊥) → u.parts l ≡ s.parts l = λ l ne. cond-false (eqb (c.home l) k)
+      (changes c w.outcomes s.parts l) (s.parts l) (ne_eqb (c.home l) k ne) in
+      let edition_else : (l : ℕ) → (c.home l ≡ k → ⊥) → u.editions l ≡ s.editions l = λ l ne. cond-false (eqb (c.home l) k) (raised l)
+      (s.editions l) (ne_eqb (c.home l) k ne) in
       let mine_at : (l : ℕ) → c.home l ≡ k → s.gates (c.home l) ≡ Some a = λ l q. ap s.gates q ∙ mine in
-      let written : (l n : ℕ) → c.plain l ≡ false → c.home l ≡ k → lookup x.writes l ≡ Some n → (u.parts l ≡ views c s.history s.opening l) × (u.editions l ≡ finals (words s.history) l (s.first l)) = λ l n pl q h. (
+      let written : (l n : ℕ) → c.plain l ≡ false → c.home l ≡ k → lookup x.writes l ≡ Some n
+      → (u.parts l ≡ views c s.history s.opening l) × (u.editions l ≡ finals (words s.history) l (s.first l)) = λ l n pl q h. (
       let o = v.owed a l n pl half (mine_at l q) h in
       (part l q ∙ sym o.0, edition l q ∙ ap (λ (z : Option ℕ). if is_none z then s.editions l else s.editions l + 1) h ∙ sym o.1)) in
-      let untouched : (l : ℕ) → c.home l ≡ k → lookup x.writes l ≡ None → (u.parts l ≡ s.parts l) × (u.editions l ≡ s.editions l) = λ l q h. (
+      let untouched : (l : ℕ) → c.home l ≡ k → lookup x.writes l ≡ None → (u.parts l ≡ s.parts l)
+      × (u.editions l ≡ s.editions l) = λ l q h. (
         part l q ∙ changes_only c f w.outcomes s.parts l ((v.shadows a).fits l h),
         edition l q ∙ ap (λ (z : Option ℕ). if is_none z then s.editions l else s.editions l + 1) h,
       ) in
-      let same_known : (l : ℕ) → c.plain l ≡ false → u.parts l ≡ s.parts l → u.editions l ≡ s.editions l → Known c u l (u.editions l) (u.parts l) = λ l pl p n.
-      keeps.known l (u.editions l) (u.parts l) (subst (λ (z : ℕ). Known c s l z (u.parts l)) (sym n) (subst (Known c s l (s.editions l)) (sym p) (v.known l pl))) in
+      let same_known : (l : ℕ) → c.plain l ≡ false → u.parts l ≡ s.parts l → u.editions l ≡ s.editions l → Known c u l (u.editions l)
+      (u.parts l) = λ l pl p n.
+      keeps.known l (u.editions l) (u.parts l)
+      (subst (λ (z : ℕ). Known c s l z (u.parts l)) (sym n) (subst (Known c s l (s.editions l)) (sym p) (v.known l pl))) in
       record {
         inv = record {
           machine = v.machine;
@@ -80,14 +97,19 @@ module _ {X Op Out : Type 0} (c : Content X Op Out) (f : Frame c) where
             | inl q ↦ elim (some_or (lookup x.writes l)) [
               | inl h ↦ (let z = untouched l q h in same_known l pl z.0 z.1)
               | inr h ↦ (let z = written l h.0 pl q h.1 in
-                  keeps.known l (u.editions l) (u.parts l) (subst (λ (i : ℕ). Known c s l i (u.parts l)) (sym z.1) (subst (Known c s l (finals (words s.history) l (s.first l))) (sym z.0) (known_now s l v pl))))
+                  keeps.known l (u.editions l) (u.parts l)
+                  (subst (λ (i : ℕ). Known c s l i (u.parts l)) (sym z.1)
+                  (subst (Known c s l (finals (words s.history) l (s.first l))) (sym z.0) (known_now s l v pl))))
             ]
           ];
           at_home = λ l pl none. elim (cases_eq (c.home l) k) [
-            | inr ne ↦ (let z = v.at_home l pl (λ b hf g. none b hf (put-other s.gates k None (c.home l) ne ∙ g)) in (z.0 ∙ sym (part_else l ne), z.1 ∙ sym (edition_else l ne)))
+            | inr ne ↦ (let z = v.at_home l pl (λ b hf g. none b hf (put-other s.gates k None (c.home l) ne ∙ g)) in
+                (z.0 ∙ sym (part_else l ne), z.1 ∙ sym (edition_else l ne)))
             | inl q ↦ elim (some_or (lookup x.writes l)) [
               | inl h ↦ (let z = untouched l q h in
-                  let o = v.at_home l pl (λ b hf g. (let d : Some a ≡ Some b = sym (mine_at l q) ∙ g in let i : a ≡ b = cc in ap (λ (j : ℕ). lookup (s.words.actors j).writes l) (sym i) ∙ h)) in
+                  let o = v.at_home l pl
+                  (λ b hf g. (let d : Some a ≡ Some b = sym (mine_at l q) ∙ g in let i : a ≡ b = cc in
+                  ap (λ (j : ℕ). lookup (s.words.actors j).writes l) (sym i) ∙ h)) in
                   (o.0 ∙ sym z.0, o.1 ∙ sym z.1))
               | inr h ↦ (let z = written l h.0 pl q h.1 in (sym z.0, sym z.1))
             ]

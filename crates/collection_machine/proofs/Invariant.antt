@@ -29,10 +29,12 @@ pub record SawParts {X Op Out : Type 0} (c : Content X Op Out) (s : Boosted X Ou
   pub legal : (v : ℕ → X) → ((l : ℕ) → IsRead c l os → v l ≡ parts l) → AreLegal c v os
 
 -- What a transaction has, by its sets.
-pub record ShadowOk {X Op Out : Type 0} (c : Content X Op Out) (s : Boosted X Out) (calls : List Call) (writes : Entries) (w : Shadow X Out) : Type 0 where
+pub record ShadowOk {X Op Out : Type 0} (c : Content X Op Out) (s : Boosted X Out) (calls : List Call) (writes : Entries)
+    (w : Shadow X Out) : Type 0 where
   pub known : (l : ℕ) → w.copied l ≡ true → Known c s l (w.editions l) (w.parts l)
   pub sets : (l : ℕ) → IsRead c l w.outcomes → (w.copied l ≡ true) × (first_read calls l ≡ Some (w.editions l))
-  pub wrote : (l u : ℕ) → c.plain l ≡ false → lookup writes l ≡ Some u → (u ≡ w.editions l + 1) × IsRead c l w.outcomes × IsWritten c l w.outcomes
+  pub wrote : (l u : ℕ) → c.plain l ≡ false → lookup writes l ≡ Some u → (u ≡ w.editions l + 1) × IsRead c l w.outcomes
+      × IsWritten c l w.outcomes
   pub fits : (l : ℕ) → lookup writes l ≡ None → Untouched c l w.outcomes
   pub legal : (v : ℕ → X) → ((l : ℕ) → IsRead c l w.outcomes → v l ≡ w.parts l) → AreLegal c v w.outcomes
 
@@ -72,9 +74,12 @@ pub record Inv {X Op Out : Type 0} (c : Content X Op Out) (s : Boosted X Out) : 
   -- what a base holds is what the history had at its edition
   pub known : (l : ℕ) → c.plain l ≡ false → Known c s l (s.editions l) (s.parts l)
   -- it is what the history leaves, but for the changes of a commit that has the gate
-  pub at_home : (l : ℕ) → c.plain l ≡ false → IsHome c s l → (views c s.history s.opening l ≡ s.parts l) × (finals (words s.history) l (s.first l) ≡ s.editions l)
-  pub owed : (a l u : ℕ) → c.plain l ≡ false → IsHalfDone (s.words.actors a).place → s.gates (c.home l) ≡ Some a → lookup (s.words.actors a).writes l ≡ Some u
-      → (views c s.history s.opening l ≡ changes c (s.shadows a).outcomes s.parts l) × (finals (words s.history) l (s.first l) ≡ s.editions l + 1)
+  pub at_home : (l : ℕ) → c.plain l ≡ false → IsHome c s l → (views c s.history s.opening l ≡ s.parts l)
+      × (finals (words s.history) l (s.first l) ≡ s.editions l)
+  pub owed : (a l u : ℕ) → c.plain l ≡ false → IsHalfDone (s.words.actors a).place → s.gates (c.home l) ≡ Some a
+      → lookup (s.words.actors a).writes l ≡ Some u
+      → (views c s.history s.opening l ≡ changes c (s.shadows a).outcomes s.parts l)
+      × (finals (words s.history) l (s.first l) ≡ s.editions l + 1)
   pub shadows : (a : ℕ) → ShadowOk c s (s.words.actors a).calls (s.words.actors a).writes (s.shadows a)
   pub gates : (a : ℕ) → GatesOk c s a (s.words.actors a).writes (s.words.actors a).place
   pub records : AllCommitted (λ r. SawParts c s (base r.word.writer r.word.number) r.outcomes) s.history

@@ -13,7 +13,8 @@ module _ {X Op Out S R : Type 0} (c : Content X Op Out) (f : Frame c) (m : Model
   abbrev Shows : (ℕ → X) → S → Type 0
   Shows v s = (l : ℕ) → v l ≡ m.shown s l
 
-  after_one : (o : Out) (v : ℕ → X) (s : S) → Shows v s → c.outcome v (c.op_of o) ≡ o → (m.reply_of o ≡ m.reply s (c.op_of o)) × Shows (c.change o v) (m.next s (c.op_of o))
+  after_one : (o : Out) (v : ℕ → X) (s : S) → Shows v s → c.outcome v (c.op_of o) ≡ o → (m.reply_of o ≡ m.reply s (c.op_of o))
+      × Shows (c.change o v) (m.next s (c.op_of o))
   after_one o v s h e =
       let is : c.outcome (m.shown s) (c.op_of o) ≡ o = f.legal v (m.shown s) (c.op_of o) (λ l _. h l) ∙ e in (
         sym (ap m.reply_of is) ∙ m.replies s (c.op_of o),
@@ -21,25 +22,30 @@ module _ {X Op Out S R : Type 0} (c : Content X Op Out) (f : Frame c) (m : Model
             ∙ ap (λ (z : Out). c.change z (m.shown s) l) (sym is) ∙ m.shows s (c.op_of o) l,
       )
 
-  pub replies_of : (os : List Out) (v : ℕ → X) (s : S) → Shows v s → AreLegal c v os → AreReplies c m s os × Shows (changes c os v) (after_calls c m s os)
+  pub replies_of : (os : List Out) (v : ℕ → X) (s : S) → Shows v s → AreLegal c v os → AreReplies c m s os × Shows (changes c os v)
+      (after_calls c m s os)
   replies_of [] v s h g = (tt, h)
   replies_of (o ∷ os) v s h g =
       let a = after_one o v s h g.0 in
       let b = replies_of os (c.change o v) (m.next s (c.op_of o)) a.1 g.1 in ((a.0, b.0), b.1)
 
-  pub run_of : (h : List (Committed Out)) (v : ℕ → X) (s : S) → Shows v s → AreRun c v h → AreAll c m s h × Shows (views c h v) (after_all c m s h)
+  pub run_of : (h : List (Committed Out)) (v : ℕ → X) (s : S) → Shows v s → AreRun c v h → AreAll c m s h × Shows (views c h v)
+      (after_all c m s h)
   run_of [] v s q g = (tt, q)
   run_of (r ∷ rs) v s q g =
       let a = replies_of r.outcomes v s q g.0 in
       let b = run_of rs (changes c r.outcomes v) (after_calls c m s r.outcomes) a.1 g.1 in ((a.0, b.0), b.1)
 
-  state_above : (r : Committed Out) (rs : List (Committed Out)) (n : ℕ) (s : S) → AllFrom r.word (words rs) → n < r.word.number → state_at c m rs n s ≡ s
+  state_above : (r : Committed Out) (rs : List (Committed Out)) (n : ℕ) (s : S) → AllFrom r.word (words rs) → n < r.word.number
+      → state_at c m rs n s ≡ s
   state_above r [] n s a lt = refl
   state_above r (x ∷ xs) n s a lt =
-      ap (state_at c m xs n) (cond-false (leb x.word.number n) (after_calls c m s x.outcomes) s (lt-leb x.word.number n (omega (arith, lt, a.0.0)))) ∙ state_above r xs n s a.1 lt
+      ap (state_at c m xs n) (cond-false (leb x.word.number n) (after_calls c m s x.outcomes) s
+      (lt-leb x.word.number n (omega (arith, lt, a.0.0)))) ∙ state_above r xs n s a.1 lt
 
   -- the view of the commits up to a number shows the state of them
-  pub view_state : (h : List (Committed Out)) (n : ℕ) (v : ℕ → X) (s : S) → Shows v s → AreRun c v h → IsInOrder (words h) → Shows (view c h n v) (state_at c m h n s)
+  pub view_state : (h : List (Committed Out)) (n : ℕ) (v : ℕ → X) (s : S) → Shows v s → AreRun c v h → IsInOrder (words h)
+      → Shows (view c h n v) (state_at c m h n s)
   view_state [] n v s q g o l = q l
   view_state (r ∷ rs) n v s q g o l =
       elim (cases_Bool (leb r.word.number n)) [
@@ -52,13 +58,19 @@ module _ {X Op Out S R : Type 0} (c : Content X Op Out) (f : Frame c) (m : Model
             (let lt : n < r.word.number = leb-false r.word.number n t in
             ap (λ (z : ℕ → X). view c rs n z l) (cond-false (leb r.word.number n) (changes c r.outcomes v) v t)
             ∙ view_above c f r rs n v o.0 lt l ∙ q l
-            ∙ ap (λ (z : S). m.shown z l) (sym (ap (state_at c m rs n) (cond-false (leb r.word.number n) (after_calls c m s r.outcomes) s t) ∙ state_above r rs n s o.0 lt)))
+            ∙ ap (λ (z : S). m.shown z l)
+            (sym (ap (state_at c m rs n) (cond-false (leb r.word.number n) (after_calls c m s r.outcomes) s t)
+            ∙ state_above r rs n s o.0 lt)))
       ]
 
   -- what is legal at the view of a number has the replies of its state
-  pub replies_at : (h : List (Committed Out)) (n : ℕ) (s : S) (os : List Out) → AreRun c (m.shown s) h → IsInOrder (words h) → AreLegal c (view c h n (m.shown s)) os → AreReplies c m (state_at c m h n s) os
-  replies_at h n s os g o k = (replies_of os (view c h n (m.shown s)) (state_at c m h n s) (view_state h n (m.shown s) s (λ l. refl) g o) k).0
+  pub replies_at : (h : List (Committed Out)) (n : ℕ) (s : S) (os : List Out) → AreRun c (m.shown s) h → IsInOrder (words h)
+      → AreLegal c (view c h n (m.shown s)) os → AreReplies c m (state_at c m h n s) os
+  replies_at h n s os g o k = (replies_of os (view c h n (m.shown s)) (state_at c m h n s)
+      (view_state h n (m.shown s) s (λ l. refl) g o) k).0
 
-  pub aborted_at : (h : List (Committed Out)) (s : S) (es : List (Aborted Out)) → AreRun c (m.shown s) h → IsInOrder (words h) → AllAborted (λ e. AreLegal c (view c h e.word.rv (m.shown s)) e.outcomes) es → AllAborted (λ e. AreReplies c m (state_at c m h e.word.rv s) e.outcomes) es
+  pub aborted_at : (h : List (Committed Out)) (s : S) (es : List (Aborted Out)) → AreRun c (m.shown s) h → IsInOrder (words h)
+      → AllAborted (λ e. AreLegal c (view c h e.word.rv (m.shown s)) e.outcomes) es
+      → AllAborted (λ e. AreReplies c m (state_at c m h e.word.rv s) e.outcomes) es
   aborted_at h s [] g o k = tt
   aborted_at h s (e ∷ es) g o k = (replies_at h e.word.rv s e.outcomes g o k.0, aborted_at h s es g o k.1)

@@ -69,7 +69,8 @@ module _ {X Op Out : Type 0} (c : Content X Op Out) where
 
   pub untouched_does : (os : List Out) (l : ℕ) → Untouched l os → does_write c l os ≡ false
   untouched_does [] l h = refl
-  untouched_does (o ∷ os) l h = cond-false (has (c.writes o) l) true (does_write c l os) (out_has (c.writes o) l h.0) ∙ untouched_does os l h.1
+  untouched_does (o ∷ os) l h = cond-false (has (c.writes o) l) true (does_write c l os) (out_has (c.writes o) l h.0)
+      ∙ untouched_does os l h.1
 
 module _ {X Op Out : Type 0} (c : Content X Op Out) (f : Frame c) where
   pub changes_only : (os : List Out) (v : ℕ → X) (l : ℕ) → Untouched c l os → changes c os v l ≡ v l
@@ -77,7 +78,9 @@ module _ {X Op Out : Type 0} (c : Content X Op Out) (f : Frame c) where
   changes_only (o ∷ os) v l u = changes_only os (c.change o v) l u.1 ∙ f.only o v l u.0
 
   -- parts that agree where P holds go on to, if each outcome that writes such a part writes such parts alone
-  pub changes_agree : (P : ℕ → Type 0) (os : List Out) (v w : ℕ → X) → AllOut (λ o. ((i j : ℕ) → P i → IsIn i (c.writes o) → IsIn j (c.writes o) → P j)) os → ((l : ℕ) → P l → v l ≡ w l) → (l : ℕ) → P l → changes c os v l ≡ changes c os w l
+  pub changes_agree : (P : ℕ → Type 0) (os : List Out) (v w : ℕ → X)
+      → AllOut (λ o. ((i j : ℕ) → P i → IsIn i (c.writes o) → IsIn j (c.writes o) → P j)) os → ((l : ℕ) → P l → v l ≡ w l) → (l : ℕ) → P l
+      → changes c os v l ≡ changes c os w l
   changes_agree P [] v w a same l p = same l p
   changes_agree P (o ∷ os) v w a same l p =
       changes_agree P os (c.change o v) (c.change o w) a.1
@@ -86,7 +89,8 @@ module _ {X Op Out : Type 0} (c : Content X Op Out) (f : Frame c) where
         | inr away ↦ f.only o v i away ∙ same i q ∙ sym (f.only o w i away)
       ]) l p
 
-  pub AreLegal-agree : (P : ℕ → Type 0) (os : List Out) (v w : ℕ → X) → AllOut (λ o. ((l : ℕ) → IsIn l (c.reads o) → P l)) os → ((l : ℕ) → P l → v l ≡ w l) → AreLegal c v os → AreLegal c w os
+  pub AreLegal-agree : (P : ℕ → Type 0) (os : List Out) (v w : ℕ → X) → AllOut (λ o. ((l : ℕ) → IsIn l (c.reads o) → P l)) os
+      → ((l : ℕ) → P l → v l ≡ w l) → AreLegal c v os → AreLegal c w os
   AreLegal-agree P [] v w a same g = tt
   AreLegal-agree P (o ∷ os) v w a same g = (
     (let back : c.outcome v (c.op_of o) ≡ o = g.0 in
@@ -102,7 +106,8 @@ module _ {X Op Out : Type 0} (c : Content X Op Out) (f : Frame c) where
       any [] = tt
       any (o ∷ os) = ((λ l m. tt), any os)
 
-  pub AreLegal-add : (os : List Out) (o : Out) (v : ℕ → X) → AreLegal c v os → c.outcome (changes c os v) (c.op_of o) ≡ o → AreLegal c v (os ++ o ∷ [])
+  pub AreLegal-add : (os : List Out) (o : Out) (v : ℕ → X) → AreLegal c v os → c.outcome (changes c os v) (c.op_of o) ≡ o
+      → AreLegal c v (os ++ o ∷ [])
   AreLegal-add [] o v g e = (e, tt)
   AreLegal-add (x ∷ os) o v g e = (g.0, AreLegal-add os o (c.change x v) g.1 e)
 
@@ -130,13 +135,19 @@ module _ {X Op Out : Type 0} (c : Content X Op Out) (f : Frame c) where
   -- what each outcome reads is read by them all
   pub all_read : (os : List Out) → AllOut (λ o. ((l : ℕ) → IsIn l (c.reads o) → IsRead c l os)) os
   all_read [] = tt
-  all_read (o ∷ os) = ((λ l m. inl m), AllOut_map (λ x. ((l : ℕ) → IsIn l (c.reads x) → IsRead c l os)) (λ x. ((l : ℕ) → IsIn l (c.reads x) → IsRead c l (o ∷ os))) os (λ x g l m. inr (g l m)) (all_read os))
+  all_read (o ∷ os) = (
+    (λ l m. inl m),
+    AllOut_map (λ x. ((l : ℕ) → IsIn l (c.reads x) → IsRead c l os))
+        (λ x. ((l : ℕ) → IsIn l (c.reads x) → IsRead c l (o ∷ os))) os (λ x g l m. inr (g l m)) (all_read os),
+  )
 
   -- the same for what they do to a part, of the parts of its collection
   pub only : (r : Committed Out) (v : ℕ → X) (l : ℕ) → Fits c r → touched r.word.calls l ≡ false → changes c r.outcomes v l ≡ v l
   only r v l fit t = changes_only r.outcomes v l (fit l t)
 
-  local_closed : (os : List Out) (t : ℕ → Bool) (l : ℕ) → ((i : ℕ) → t i ≡ false → Untouched c i os) → AllOut (λ o. ((i j : ℕ) → (c.home i ≡ c.home l) × (t i ≡ true) → IsIn i (c.writes o) → IsIn j (c.writes o) → (c.home j ≡ c.home l) × (t j ≡ true))) os
+  local_closed : (os : List Out) (t : ℕ → Bool) (l : ℕ) → ((i : ℕ) → t i ≡ false → Untouched c i os)
+      → AllOut (λ o. ((i j : ℕ) → (c.home i ≡ c.home l) × (t i ≡ true) → IsIn i (c.writes o) → IsIn j (c.writes o) → (c.home j ≡ c.home l)
+      × (t j ≡ true))) os
   local_closed [] t l fit = tt
   local_closed (o ∷ os) t l fit = (
     (λ i j p m n. (
@@ -146,16 +157,23 @@ module _ {X Op Out : Type 0} (c : Content X Op Out) (f : Frame c) where
     local_closed os t l (λ i un. (fit i un).1),
   )
 
-  pub local : (r : Committed Out) (v w : ℕ → X) (l : ℕ) → Fits c r → touched r.word.calls l ≡ true → ((i : ℕ) → c.home i ≡ c.home l → touched r.word.calls i ≡ true → v i ≡ w i) → changes c r.outcomes v l ≡ changes c r.outcomes w l
+  pub local : (r : Committed Out) (v w : ℕ → X) (l : ℕ) → Fits c r → touched r.word.calls l ≡ true
+      → ((i : ℕ) → c.home i ≡ c.home l → touched r.word.calls i ≡ true → v i ≡ w i) → changes c r.outcomes v l ≡ changes c r.outcomes w l
   local r v w l fit t same =
-      changes_agree (λ i. (c.home i ≡ c.home l) × (touched r.word.calls i ≡ true)) r.outcomes v w (local_closed r.outcomes (touched r.word.calls) l fit) (λ i p. same i p.0 p.1) l (refl, t)
+      changes_agree (λ i. (c.home i ≡ c.home l) × (touched r.word.calls i ≡ true)) r.outcomes v w
+      (local_closed r.outcomes (touched r.word.calls) l fit) (λ i p. same i p.0 p.1) l (refl, t)
 
   -- the same at a location of a collection, of the parts of collections
-  pub local_part : (r : Committed Out) (v w : ℕ → X) (l : ℕ) → Fits c r → c.plain l ≡ false → touched r.word.calls l ≡ true → ((i : ℕ) → c.home i ≡ c.home l → c.plain i ≡ false → touched r.word.calls i ≡ true → v i ≡ w i) → changes c r.outcomes v l ≡ changes c r.outcomes w l
+  pub local_part : (r : Committed Out) (v w : ℕ → X) (l : ℕ) → Fits c r → c.plain l ≡ false → touched r.word.calls l ≡ true
+      → ((i : ℕ) → c.home i ≡ c.home l → c.plain i ≡ false → touched r.word.calls i ≡ true → v i ≡ w i) → changes c r.outcomes v l
+      ≡ changes c r.outcomes w l
   local_part r v w l fit pl t same =
-      changes_agree (λ i. (c.home i ≡ c.home l) × (c.plain i ≡ false) × (touched r.word.calls i ≡ true)) r.outcomes v w (closed r.outcomes (touched r.word.calls) l fit) (λ i p. same i p.0 p.1 p.2) l (refl, pl, t)
+      changes_agree (λ i. (c.home i ≡ c.home l) × (c.plain i ≡ false) × (touched r.word.calls i ≡ true)) r.outcomes v w
+      (closed r.outcomes (touched r.word.calls) l fit) (λ i p. same i p.0 p.1 p.2) l (refl, pl, t)
     where
-      closed : (os : List Out) (t : ℕ → Bool) (l : ℕ) → ((i : ℕ) → t i ≡ false → Untouched c i os) → AllOut (λ o. ((i j : ℕ) → (c.home i ≡ c.home l) × (c.plain i ≡ false) × (t i ≡ true) → IsIn i (c.writes o) → IsIn j (c.writes o) → (c.home j ≡ c.home l) × (c.plain j ≡ false) × (t j ≡ true))) os
+      closed : (os : List Out) (t : ℕ → Bool) (l : ℕ) → ((i : ℕ) → t i ≡ false → Untouched c i os)
+          → AllOut (λ o. ((i j : ℕ) → (c.home i ≡ c.home l) × (c.plain i ≡ false) × (t i ≡ true) → IsIn i (c.writes o)
+          → IsIn j (c.writes o) → (c.home j ≡ c.home l) × (c.plain j ≡ false) × (t j ≡ true))) os
       closed [] t l fit = tt
       closed (o ∷ os) t l fit = (
         (λ i j p m n. (
@@ -167,9 +185,11 @@ module _ {X Op Out : Type 0} (c : Content X Op Out) (f : Frame c) where
       )
 
   -- changes keep to their collections
-  pub changes_home : (os : List Out) (v w : ℕ → X) (l : ℕ) → ((i : ℕ) → c.home i ≡ c.home l → v i ≡ w i) → changes c os v l ≡ changes c os w l
+  pub changes_home : (os : List Out) (v w : ℕ → X) (l : ℕ) → ((i : ℕ) → c.home i ≡ c.home l → v i ≡ w i) → changes c os v l
+      ≡ changes c os w l
   changes_home os v w l same = changes_agree (λ i. c.home i ≡ c.home l) os v w (closed os) same l refl
     where
-      closed : (os : List Out) → AllOut (λ o. ((i j : ℕ) → c.home i ≡ c.home l → IsIn i (c.writes o) → IsIn j (c.writes o) → c.home j ≡ c.home l)) os
+      closed : (os : List Out)
+          → AllOut (λ o. ((i j : ℕ) → c.home i ≡ c.home l → IsIn i (c.writes o) → IsIn j (c.writes o) → c.home j ≡ c.home l)) os
       closed [] = tt
       closed (o ∷ os) = ((λ i j p m n. f.one_home o i j m n ∙ p), closed os)

@@ -74,9 +74,13 @@ module _ {X Op Out : Type 0} (c : Content X Op Out) where
   led_none s v = record { inv = v; keeps = record { known = λ l e p g. g; good = λ n l e g. g; opening = refl; first = refl } }
 
   -- actor a is y now
-  quietly : (s : Boosted X Out) (a : ℕ) (t : World) (y : Actor) (w : Shadow X Out) → Moved s.words a t → t.history ≡ s.words.history → ((b : ℕ) → (b ≡ a → ⊥) → t.actors b ≡ s.words.actors b) → t.actors a ≡ y
-      → (IsHalfDone y.place → IsHalfDone (s.words.actors a).place × (y.writes ≡ (s.words.actors a).writes) × (w.outcomes ≡ (s.shadows a).outcomes))
-      → (IsHalfDone (s.words.actors a).place → ((l : ℕ) → c.plain l ≡ false → s.gates (c.home l) ≡ Some a → lookup (s.words.actors a).writes l ≡ None) ⊎ (IsHalfDone y.place × (y.writes ≡ (s.words.actors a).writes)))
+  quietly : (s : Boosted X Out) (a : ℕ) (t : World) (y : Actor) (w : Shadow X Out) → Moved s.words a t → t.history ≡ s.words.history
+      → ((b : ℕ) → (b ≡ a → ⊥) → t.actors b ≡ s.words.actors b) → t.actors a ≡ y
+      → (IsHalfDone y.place → IsHalfDone (s.words.actors a).place × (y.writes ≡ (s.words.actors a).writes)
+      × (w.outcomes ≡ (s.shadows a).outcomes))
+      → (IsHalfDone (s.words.actors a).place
+      → ((l : ℕ) → c.plain l ≡ false → s.gates (c.home l) ≡ Some a → lookup (s.words.actors a).writes l ≡ None)
+      ⊎ (IsHalfDone y.place × (y.writes ≡ (s.words.actors a).writes)))
       → ShadowOk c s y.calls y.writes w → GatesOk c s a y.writes y.place → Quietly c s a t w
   quietly s a t y w m h others own half back ok gates = record {
     machine = m.inv;
@@ -84,14 +88,19 @@ module _ {X Op Out : Type 0} (c : Content X Op Out) where
     good = m.keeps.good;
     history = h;
     others = others;
-    half = subst (λ (z : Actor). IsHalfDone z.place → IsHalfDone (s.words.actors a).place × (z.writes ≡ (s.words.actors a).writes) × (w.outcomes ≡ (s.shadows a).outcomes)) (sym own) half;
-    back = subst (λ (z : Actor). IsHalfDone (s.words.actors a).place → ((l : ℕ) → c.plain l ≡ false → s.gates (c.home l) ≡ Some a → lookup (s.words.actors a).writes l ≡ None) ⊎ (IsHalfDone z.place × (z.writes ≡ (s.words.actors a).writes))) (sym own) back;
+    half = subst (λ (z : Actor). IsHalfDone z.place → IsHalfDone (s.words.actors a).place × (z.writes ≡ (s.words.actors a).writes)
+        × (w.outcomes ≡ (s.shadows a).outcomes)) (sym own) half;
+    back = subst (λ (z : Actor). IsHalfDone (s.words.actors a).place
+        → ((l : ℕ) → c.plain l ≡ false → s.gates (c.home l) ≡ Some a → lookup (s.words.actors a).writes l ≡ None)
+        ⊎ (IsHalfDone z.place × (z.writes ≡ (s.words.actors a).writes))) (sym own) back;
     shadow = subst (λ (z : Actor). ShadowOk c s z.calls z.writes w) (sym own) ok;
     gates = subst (λ (z : Actor). GatesOk c s a z.writes z.place) (sym own) gates;
   }
 
   -- the sets go on
-  ShadowOk-sets : (s : Boosted X Out) (x y : Actor) (w : Shadow X Out) → ((l e : ℕ) → first_read x.calls l ≡ Some e → first_read y.calls l ≡ Some e) → y.writes ≡ x.writes → ShadowOk c s x.calls x.writes w → ShadowOk c s y.calls y.writes w
+  ShadowOk-sets : (s : Boosted X Out) (x y : Actor) (w : Shadow X Out)
+      → ((l e : ℕ) → first_read x.calls l ≡ Some e → first_read y.calls l ≡ Some e) → y.writes ≡ x.writes
+      → ShadowOk c s x.calls x.writes w → ShadowOk c s y.calls y.writes w
   ShadowOk-sets s x y w r e g = record {
     known = g.known;
     sets = λ l i. (let z = g.sets l i in (z.0, r l (w.editions l) z.1));
@@ -100,9 +109,12 @@ module _ {X Op Out : Type 0} (c : Content X Op Out) where
     legal = g.legal;
   }
 
-  pub steady_led : (s : Boosted X Out) (a : ℕ) (t : World) (aborted : List (Aborted Out)) → Inv c s → Moved s.words a t → Steady s.words a t → AllAborted (λ e. SawParts c s e.word.rv e.outcomes) aborted → ended aborted ≡ t.aborted → Led c s (worded s t s.shadows s.history aborted)
+  pub steady_led : (s : Boosted X Out) (a : ℕ) (t : World) (aborted : List (Aborted Out)) → Inv c s → Moved s.words a t
+      → Steady s.words a t → AllAborted (λ e. SawParts c s e.word.rv e.outcomes) aborted → ended aborted ≡ t.aborted
+      → Led c s (worded s t s.shadows s.history aborted)
   steady_led s a t aborted v m k gone ends =
-      let same : (l : ℕ) → lookup (t.actors a).writes l ≡ lookup (s.words.actors a).writes l = λ l. ap (λ (z : Entries). lookup z l) k.own.writes in
+      let same : (l : ℕ) → lookup (t.actors a).writes l ≡ lookup (s.words.actors a).writes l = λ l. ap
+      (λ (z : Entries). lookup z l) k.own.writes in
       no_commit c s a t (s.shadows a) s.shadows aborted v (quietly s a t (t.actors a) (s.shadows a) m k.history k.others refl
       (λ h. (k.own.half h, k.own.writes, refl))
       (λ h. elim (k.own.back h) [
@@ -116,25 +128,35 @@ module _ {X Op Out : Type 0} (c : Content X Op Out) where
       })) refl (λ b ne. refl) gone ends
 
   -- a request that changes no set
-  free_led : (s : Boosted X Out) (a : ℕ) (r : Request) → Inv c s → IsFreeAsk r → Led c s (on_words s (now s.words a (ask (s.words.actors a) (s.words.actors a).place r)))
+  free_led : (s : Boosted X Out) (a : ℕ) (r : Request) → Inv c s → IsFreeAsk r
+      → Led c s (on_words s (now s.words a (ask (s.words.actors a) (s.words.actors a).place r)))
   free_led s a r v f =
       let x = s.words.actors a in
-      steady_led s a (now s.words a (ask x x.place r)) s.aborted v (happens_ok s.words (Ask a r) v.machine) (steady s.words a (ask x x.place r) (ask_to x x.place r refl f)) v.aborted v.ends
+      steady_led s a (now s.words a (ask x x.place r)) s.aborted v (happens_ok s.words (Ask a r) v.machine)
+      (steady s.words a (ask x x.place r) (ask_to x x.place r refl f)) v.aborted v.ends
 
-  moved_ask : (s : Boosted X Out) (a : ℕ) (p : Place) (r : Request) → Inv c s → (s.words.actors a).place ≡ p → Moved s.words a (now s.words a (ask (s.words.actors a) p r))
-  moved_ask s a p r v e = quiet s.words a (ask (s.words.actors a) p r) v.machine (ask_ok s.words a p r v.machine e (subst (machine.PlaceOk s.words (s.words.actors a)) e (v.machine.actors a).place))
+  moved_ask : (s : Boosted X Out) (a : ℕ) (p : Place) (r : Request) → Inv c s → (s.words.actors a).place ≡ p → Moved s.words a
+      (now s.words a (ask (s.words.actors a) p r))
+  moved_ask s a p r v e = quiet s.words a (ask (s.words.actors a) p r) v.machine
+      (ask_ok s.words a p r v.machine e (subst (machine.PlaceOk s.words (s.words.actors a)) e (v.machine.actors a).place))
 
-  same_led : (s : Boosted X Out) (a : ℕ) → Inv c s → Moved s.words a (now s.words a (s.words.actors a)) → Led c s (on_words s (now s.words a (s.words.actors a)))
-  same_led s a v m = steady_led s a (now s.words a (s.words.actors a)) s.aborted v m (steady s.words a (s.words.actors a) (same_to (s.words.actors a))) v.aborted v.ends
+  same_led : (s : Boosted X Out) (a : ℕ) → Inv c s → Moved s.words a (now s.words a (s.words.actors a))
+      → Led c s (on_words s (now s.words a (s.words.actors a)))
+  same_led s a v m = steady_led s a (now s.words a (s.words.actors a)) s.aborted v m
+      (steady s.words a (s.words.actors a) (same_to (s.words.actors a))) v.aborted v.ends
 
   -- a declared reader writes nothing
-  write_open : (s : Boosted X Out) (a l u : ℕ) (declared : Bool) → Inv c s → (s.words.actors a).place ≡ Open → (s.words.actors a).declared ≡ declared → c.plain l ≡ true → Led c s (on_words s (now s.words a (write (s.words.actors a) declared l u)))
-  write_open s a l u true v e d pl = same_led s a v (subst (λ (b : Bool). Moved s.words a (now s.words a (write (s.words.actors a) b l u))) d (moved_ask s a Open (AskWrite l u) v e))
+  write_open : (s : Boosted X Out) (a l u : ℕ) (declared : Bool) → Inv c s → (s.words.actors a).place ≡ Open → (s.words.actors a).declared
+      ≡ declared → c.plain l ≡ true → Led c s (on_words s (now s.words a (write (s.words.actors a) declared l u)))
+  write_open s a l u true v e d pl = same_led s a v
+      (subst (λ (b : Bool). Moved s.words a (now s.words a (write (s.words.actors a) b l u))) d (moved_ask s a Open (AskWrite l u) v e))
   write_open s a l u false v e d pl =
       let x = s.words.actors a in
       let other : (i : ℕ) → c.plain i ≡ false → i ≡ l → ⊥ = λ i f q. true≢false (sym pl ∙ ap c.plain (sym q) ∙ f) in
       no_commit c s a (now s.words a (wrote x l u)) (s.shadows a) s.shadows s.aborted v
-      (quietly s a (now s.words a (wrote x l u)) (wrote x l u) (s.shadows a) (subst (λ (b : Bool). Moved s.words a (now s.words a (write x b l u))) d (moved_ask s a Open (AskWrite l u) v e)) refl (λ b ne. put-other s.words.actors a (wrote x l u) b ne) (put-same s.words.actors a (wrote x l u))
+      (quietly s a (now s.words a (wrote x l u)) (wrote x l u) (s.shadows a)
+      (subst (λ (b : Bool). Moved s.words a (now s.words a (write x b l u))) d (moved_ask s a Open (AskWrite l u) v e)) refl
+      (λ b ne. put-other s.words.actors a (wrote x l u) b ne) (put-same s.words.actors a (wrote x l u))
       (λ h. absurd h)
       (λ h. absurd (let z : IsHalfDone Open = subst IsHalfDone e h in z))
       (record {
@@ -142,14 +164,16 @@ module _ {X Op Out : Type 0} (c : Content X Op Out) where
         sets = λ i r. (let z = (v.shadows a).sets i r in (z.0, first_read-more x.calls (Write l u ∷ []) i ((s.shadows a).editions i) z.1));
         wrote = λ i k f h. (v.shadows a).wrote i k f (sym (lookup-with_entry_other x.writes l u i (other i f)) ∙ h);
         fits = λ i h. (v.shadows a).fits i (elim (cases_eq i l) [
-          | inl q ↦ (let z : Some u ≡ None = sym (lookup-with_entry_same x.writes l u) ∙ ap (lookup (with_entry x.writes l u)) (sym q) ∙ h in cc)
+          | inl q ↦ (let z : Some u ≡ None = sym (lookup-with_entry_same x.writes l u) ∙ ap (lookup (with_entry x.writes l u)) (sym q)
+              ∙ h in cc)
           | inr ne ↦ sym (lookup-with_entry_other x.writes l u i ne) ∙ h
         ]);
         legal = (v.shadows a).legal;
       })
       (record { taken = λ h. absurd h; given = λ h. absurd h })) refl (λ b ne. refl) v.aborted v.ends
 
-  write_led : (s : Boosted X Out) (a l u : ℕ) (p : Place) → Inv c s → (s.words.actors a).place ≡ p → c.plain l ≡ true → Led c s (on_words s (now s.words a (ask (s.words.actors a) p (AskWrite l u))))
+  write_led : (s : Boosted X Out) (a l u : ℕ) (p : Place) → Inv c s → (s.words.actors a).place ≡ p → c.plain l ≡ true
+      → Led c s (on_words s (now s.words a (ask (s.words.actors a) p (AskWrite l u))))
   write_led s a l u Open v e pl = write_open s a l u (s.words.actors a).declared v e refl pl
   write_led s a l u (Store []) v e pl = same_led s a v (moved_ask s a (Store []) (AskWrite l u) v e)
   write_led s a l u (Store (m ∷ ms)) v e pl = same_led s a v (moved_ask s a (Store (m ∷ ms)) (AskWrite l u) v e)
@@ -157,16 +181,19 @@ module _ {X Op Out : Type 0} (c : Content X Op Out) where
   write_led s a l u (Check (m ∷ ms)) v e pl = same_led s a v (moved_ask s a (Check (m ∷ ms)) (AskWrite l u) v e)
   write_led s a l u p v e pl = same_led s a v (moved_ask s a p (AskWrite l u) v e)
 
-  store_led : (s : Boosted X Out) (a : ℕ) (p : Place) → Inv c s → (s.words.actors a).place ≡ p → every (is_held c s a) (locations (s.words.actors a).writes) ≡ true → Led c s (on_words s (now s.words a (ask (s.words.actors a) p AskStore)))
+  store_led : (s : Boosted X Out) (a : ℕ) (p : Place) → Inv c s → (s.words.actors a).place ≡ p → every (is_held c s a)
+      (locations (s.words.actors a).writes) ≡ true → Led c s (on_words s (now s.words a (ask (s.words.actors a) p AskStore)))
   store_led s a (Check []) v e all =
       let x = s.words.actors a in
       no_commit c s a (now s.words a (goes x First)) (s.shadows a) s.shadows s.aborted v
-      (quietly s a (now s.words a (goes x First)) (goes x First) (s.shadows a) (moved_ask s a (Check []) AskStore v e) refl (λ b ne. put-other s.words.actors a (goes x First) b ne) (put-same s.words.actors a (goes x First))
+      (quietly s a (now s.words a (goes x First)) (goes x First) (s.shadows a) (moved_ask s a (Check []) AskStore v e) refl
+      (λ b ne. put-other s.words.actors a (goes x First) b ne) (put-same s.words.actors a (goes x First))
       (λ h. absurd h)
       (λ h. absurd (let z : IsHalfDone (Check []) = subst IsHalfDone e h in z))
       (ShadowOk-sets s x (goes x First) (s.shadows a) (λ l u h. h) refl (v.shadows a))
       (record {
-        taken = λ _ l u pl h. held_gate (c.plain l) a (s.gates (c.home l)) (every_at (is_held c s a) (locations x.writes) l all (member_locations x.writes l u h)) pl;
+        taken = λ _ l u pl h. held_gate (c.plain l) a (s.gates (c.home l))
+            (every_at (is_held c s a) (locations x.writes) l all (member_locations x.writes l u h)) pl;
         given = λ h. absurd h;
       })) refl (λ b ne. refl) v.aborted v.ends
   store_led s a (Store []) v e all = same_led s a v (moved_ask s a (Store []) AskStore v e)
@@ -174,17 +201,20 @@ module _ {X Op Out : Type 0} (c : Content X Op Out) where
   store_led s a (Check (m ∷ ms)) v e all = same_led s a v (moved_ask s a (Check (m ∷ ms)) AskStore v e)
   store_led s a p v e all = same_led s a v (moved_ask s a p AskStore v e)
 
-  release_led : (s : Boosted X Out) (a : ℕ) (p : Place) → Inv c s → (s.words.actors a).place ≡ p → every (is_given c s a) (locations (s.words.actors a).writes) ≡ true → Led c s (on_words s (now s.words a (ask (s.words.actors a) p AskRelease)))
+  release_led : (s : Boosted X Out) (a : ℕ) (p : Place) → Inv c s → (s.words.actors a).place ≡ p → every (is_given c s a)
+      (locations (s.words.actors a).writes) ≡ true → Led c s (on_words s (now s.words a (ask (s.words.actors a) p AskRelease)))
   release_led s a (Store []) v e all =
       let x = s.words.actors a in
       no_commit c s a (now s.words a (goes x Release)) (s.shadows a) s.shadows s.aborted v
-      (quietly s a (now s.words a (goes x Release)) (goes x Release) (s.shadows a) (moved_ask s a (Store []) AskRelease v e) refl (λ b ne. put-other s.words.actors a (goes x Release) b ne) (put-same s.words.actors a (goes x Release))
+      (quietly s a (now s.words a (goes x Release)) (goes x Release) (s.shadows a) (moved_ask s a (Store []) AskRelease v e) refl
+      (λ b ne. put-other s.words.actors a (goes x Release) b ne) (put-same s.words.actors a (goes x Release))
       (λ h. (subst IsHalfDone (sym e) tt, refl, refl))
       (λ h. inr (tt, refl))
       (ShadowOk-sets s x (goes x Release) (s.shadows a) (λ l u h. h) refl (v.shadows a))
       (record {
         taken = λ h. absurd h;
-        given = λ _ l u pl h. given_gate (c.plain l) a (s.gates (c.home l)) (every_at (is_given c s a) (locations x.writes) l all (member_locations x.writes l u h)) pl;
+        given = λ _ l u pl h. given_gate (c.plain l) a (s.gates (c.home l))
+            (every_at (is_given c s a) (locations x.writes) l all (member_locations x.writes l u h)) pl;
       })) refl (λ b ne. refl) v.aborted v.ends
   release_led s a p v e all = same_led s a v (moved_ask s a p AskRelease v e)
 
@@ -210,7 +240,8 @@ module _ {X Op Out : Type 0} (c : Content X Op Out) where
   ask_led s a (AskRead l) v = free_led s a (AskRead l) v tt
 
   -- a new transaction
-  pub begin_led : (s : Boosted X Out) (a : ℕ) → Inv c s → (s.words.actors a).place ≡ Begin → (s.words.actors a).held ≡ [] → Led c s (word_step s a (s.words.actors a) Begin)
+  pub begin_led : (s : Boosted X Out) (a : ℕ) → Inv c s → (s.words.actors a).place ≡ Begin → (s.words.actors a).held ≡ []
+      → Led c s (word_step s a (s.words.actors a) Begin)
   begin_led s a v e none =
       let x = s.words.actors a in
       let b = ltb s.words.clock clock_limit in
@@ -219,10 +250,14 @@ module _ {X Op Out : Type 0} (c : Content X Op Out) where
         | inl t ↦
             (let y = opened x.declared s.words.clock in
             let pick : (if nat_lt s.words.clock clock_limit then y else goes x Idle) ≡ y = cond-true b y (goes x Idle) t in
-            subst (λ (z : Actor). Led c s (worded s (now s.words a z) (if nat_lt s.words.clock clock_limit then put s.shadows a (fresh s) else s.shadows) s.history s.aborted)) (sym pick)
-            (subst (λ (z : ℕ → Shadow X Out). Led c s (worded s (now s.words a y) z s.history s.aborted)) (sym (cond-true b (put s.shadows a (fresh s)) s.shadows t))
+            subst (λ (z : Actor). Led c s
+            (worded s (now s.words a z)
+            (if nat_lt s.words.clock clock_limit then put s.shadows a (fresh s) else s.shadows) s.history s.aborted)) (sym pick)
+            (subst (λ (z : ℕ → Shadow X Out). Led c s (worded s (now s.words a y) z s.history s.aborted))
+            (sym (cond-true b (put s.shadows a (fresh s)) s.shadows t))
             (no_commit c s a (now s.words a y) (fresh s) (put s.shadows a (fresh s)) s.aborted v
-            (quietly s a (now s.words a y) y (fresh s) (subst (λ (z : Actor). Moved s.words a (now s.words a z)) pick m) refl (λ i ne. put-other s.words.actors a y i ne) (put-same s.words.actors a y)
+            (quietly s a (now s.words a y) y (fresh s) (subst (λ (z : Actor). Moved s.words a (now s.words a z)) pick m) refl
+            (λ i ne. put-other s.words.actors a y i ne) (put-same s.words.actors a y)
             (λ h. absurd h)
             (λ h. absurd (let z : IsHalfDone Begin = subst IsHalfDone e h in z))
             (record {
@@ -236,11 +271,16 @@ module _ {X Op Out : Type 0} (c : Content X Op Out) where
             (put-same s.shadows a (fresh s)) (λ i ne. put-other s.shadows a (fresh s) i ne) v.aborted v.ends)))
         | inr t ↦
             (let y = goes x Idle in
-            let pick : (if nat_lt s.words.clock clock_limit then opened x.declared s.words.clock else y) ≡ y = cond-false b (opened x.declared s.words.clock) y t in
-            subst (λ (z : Actor). Led c s (worded s (now s.words a z) (if nat_lt s.words.clock clock_limit then put s.shadows a (fresh s) else s.shadows) s.history s.aborted)) (sym pick)
-            (subst (λ (z : ℕ → Shadow X Out). Led c s (worded s (now s.words a y) z s.history s.aborted)) (sym (cond-false b (put s.shadows a (fresh s)) s.shadows t))
+            let pick : (if nat_lt s.words.clock clock_limit then opened x.declared s.words.clock else y) ≡ y = cond-false b
+            (opened x.declared s.words.clock) y t in
+            subst (λ (z : Actor). Led c s
+            (worded s (now s.words a z)
+            (if nat_lt s.words.clock clock_limit then put s.shadows a (fresh s) else s.shadows) s.history s.aborted)) (sym pick)
+            (subst (λ (z : ℕ → Shadow X Out). Led c s (worded s (now s.words a y) z s.history s.aborted))
+            (sym (cond-false b (put s.shadows a (fresh s)) s.shadows t))
             (no_commit c s a (now s.words a y) (s.shadows a) s.shadows s.aborted v
-            (quietly s a (now s.words a y) y (s.shadows a) (subst (λ (z : Actor). Moved s.words a (now s.words a z)) pick m) refl (λ i ne. put-other s.words.actors a y i ne) (put-same s.words.actors a y)
+            (quietly s a (now s.words a y) y (s.shadows a) (subst (λ (z : Actor). Moved s.words a (now s.words a z)) pick m) refl
+            (λ i ne. put-other s.words.actors a y i ne) (put-same s.words.actors a y)
             (λ h. absurd h)
             (λ h. absurd (let z : IsHalfDone Begin = subst IsHalfDone e h in z))
             (ShadowOk-sets s x y (s.shadows a) (λ l u h. h) refl (v.shadows a))
@@ -248,7 +288,8 @@ module _ {X Op Out : Type 0} (c : Content X Op Out) where
             refl (λ i ne. refl) v.aborted v.ends)))
       ]
 
-  AllAborted-add : (P : Aborted Out → Type 0) (es : List (Aborted Out)) (e : Aborted Out) → AllAborted P es → P e → AllAborted P (es ++ e ∷ [])
+  AllAborted-add : (P : Aborted Out → Type 0) (es : List (Aborted Out)) (e : Aborted Out) → AllAborted P es → P e
+      → AllAborted P (es ++ e ∷ [])
   AllAborted-add P [] e g p = (p, tt)
   AllAborted-add P (x ∷ es) e g p = (g.0, AllAborted-add P es e g.1 p)
 
@@ -261,21 +302,26 @@ module _ {X Op Out : Type 0} (c : Content X Op Out) where
     parts = (s.shadows a).parts;
     editions = (s.shadows a).editions;
     known = λ l r. (v.shadows a).known l ((v.shadows a).sets l r).0;
-    good = λ l r. first_read_good s.words (s.words.actors a).rv (s.words.actors a).calls l ((s.shadows a).editions l) (v.machine.actors a).saw ((v.shadows a).sets l r).1;
+    good = λ l r. first_read_good s.words (s.words.actors a).rv (s.words.actors a).calls l ((s.shadows a).editions l)
+        (v.machine.actors a).saw ((v.shadows a).sets l r).1;
     legal = (v.shadows a).legal;
   }
 
-  pub leave_led : (s : Boosted X Out) (a : ℕ) → Inv c s → (s.words.actors a).place ≡ Leave → machine.PlaceOk s.words (s.words.actors a) Leave → Led c s (word_step s a (s.words.actors a) Leave)
+  pub leave_led : (s : Boosted X Out) (a : ℕ) → Inv c s → (s.words.actors a).place ≡ Leave → machine.PlaceOk s.words
+      (s.words.actors a) Leave → Led c s (word_step s a (s.words.actors a) Leave)
   leave_led s a v e pl =
       let x = s.words.actors a in
       let end : Aborted Out = record { word = record { actor = a; rv = x.rv; calls = x.calls }; outcomes = (s.shadows a).outcomes } in
-      steady_led s a (step s.words a x Leave) (s.aborted ++ end ∷ []) v (step_ok s.words a Leave v.machine e pl) (step_steady s.words a Leave e pl tt)
-      (AllAborted-add (λ z. SawParts c s z.word.rv z.outcomes) s.aborted end v.aborted (saw_open s a v)) (ended-add s.aborted end ∙ ap (λ (z : List Ended). z ++ end.word ∷ []) v.ends)
+      steady_led s a (step s.words a x Leave) (s.aborted ++ end ∷ []) v (step_ok s.words a Leave v.machine e pl)
+      (step_steady s.words a Leave e pl tt)
+      (AllAborted-add (λ z. SawParts c s z.word.rv z.outcomes) s.aborted end v.aborted (saw_open s a v))
+      (ended-add s.aborted end ∙ ap (λ (z : List Ended). z ++ end.word ∷ []) v.ends)
 
   -- gates
   pub take_led : (s : Boosted X Out) (a k : ℕ) → Inv c s → Led c s (take_gate c s a k)
   take_led s a k v =
-      cond_both (is_none (s.gates k) && not (is_committing (s.words.actors a).place)) (gated s (put s.gates k (Some a)) s.shadows) s (Led c s)
+      cond_both (is_none (s.gates k) && not (is_committing (s.words.actors a).place)) (gated s (put s.gates k (Some a)) s.shadows) s
+      (Led c s)
       (λ t.
       let g = both (is_none (s.gates k)) (not (is_committing (s.words.actors a).place)) t in
       let free : s.gates k ≡ None = none_is (s.gates k) g.0 in
@@ -291,9 +337,11 @@ module _ {X Op Out : Type 0} (c : Content X Op Out) where
       (λ _. led_none s v)
 
   -- what a copy adds to a shadow
-  copied_ok : (s : Boosted X Out) (calls : List Call) (writes : Entries) (w : Shadow X Out) (k : ℕ) (which : ℕ → Bool) → Inv c s → ShadowOk c s calls writes w → ShadowOk c s calls writes (copied c s calls w k which)
+  copied_ok : (s : Boosted X Out) (calls : List Call) (writes : Entries) (w : Shadow X Out) (k : ℕ) (which : ℕ → Bool) → Inv c s
+      → ShadowOk c s calls writes w → ShadowOk c s calls writes (copied c s calls w k which)
   copied_ok s calls writes w k which v g =
-      let old : (l : ℕ) → IsRead c l w.outcomes → is_copied c calls k which l ≡ false = λ l h. elim (cases_Bool (is_copied c calls k which l)) [
+      let old : (l : ℕ) → IsRead c l w.outcomes → is_copied c calls k which l ≡ false = λ l h. elim
+      (cases_Bool (is_copied c calls k which l)) [
         | inr n ↦ n
         | inl t ↦
             (let b1 = both (which l) (not (c.plain l) && (c.home l == k && is_none (first_read calls l))) t in
@@ -301,18 +349,23 @@ module _ {X Op Out : Type 0} (c : Content X Op Out) where
             let b3 = both (c.home l == k) (is_none (first_read calls l)) b2.1 in
             (let d : Some (w.editions l) ≡ None = sym (g.sets l h).1 ∙ none_is (first_read calls l) b3.1 in cc))
       ] in
-      let edition : (l : ℕ) → IsRead c l w.outcomes → (copied c s calls w k which).editions l ≡ w.editions l = λ l h. cond-false (is_copied c calls k which l) (s.editions l) (w.editions l) (old l h) in
+      let edition : (l : ℕ) → IsRead c l w.outcomes → (copied c s calls w k which).editions l ≡ w.editions l = λ l h. cond-false
+      (is_copied c calls k which l) (s.editions l) (w.editions l) (old l h) in
       record {
         known = λ l h. elim (cases_Bool (is_copied c calls k which l)) [
           | inl t ↦
               (let b1 = both (which l) (not (c.plain l) && (c.home l == k && is_none (first_read calls l))) t in
               let b2 = both (not (c.plain l)) (c.home l == k && is_none (first_read calls l)) b1.1 in
-              subst (λ (e : ℕ). Known c s l e ((copied c s calls w k which).parts l)) (sym (cond-true (is_copied c calls k which l) (s.editions l) (w.editions l) t))
-              (subst (Known c s l (s.editions l)) (sym (cond-true (is_copied c calls k which l) (s.parts l) (w.parts l) t)) (v.known l (not_true (c.plain l) b2.0))))
+              subst (λ (e : ℕ). Known c s l e ((copied c s calls w k which).parts l))
+              (sym (cond-true (is_copied c calls k which l) (s.editions l) (w.editions l) t))
+              (subst (Known c s l (s.editions l)) (sym (cond-true (is_copied c calls k which l) (s.parts l) (w.parts l) t))
+              (v.known l (not_true (c.plain l) b2.0))))
           | inr n ↦
               (let is : w.copied l ≡ true = sym (cond-false (is_copied c calls k which l) true (w.copied l) n) ∙ h in
-              subst (λ (e : ℕ). Known c s l e ((copied c s calls w k which).parts l)) (sym (cond-false (is_copied c calls k which l) (s.editions l) (w.editions l) n))
-              (subst (Known c s l (w.editions l)) (sym (cond-false (is_copied c calls k which l) (s.parts l) (w.parts l) n)) (g.known l is)))
+              subst (λ (e : ℕ). Known c s l e ((copied c s calls w k which).parts l))
+              (sym (cond-false (is_copied c calls k which l) (s.editions l) (w.editions l) n))
+              (subst (Known c s l (w.editions l)) (sym (cond-false (is_copied c calls k which l) (s.parts l) (w.parts l) n))
+              (g.known l is)))
         ];
         sets = λ l r. (
             let z = g.sets l r in
@@ -328,7 +381,8 @@ module _ {X Op Out : Type 0} (c : Content X Op Out) where
   put_led s a k which v =
       let x = s.words.actors a in
       let w2 = copied c s x.calls (s.shadows a) k which in
-      cond_both (is_actor a (s.gates k) && not (is_committing x.place)) (gated s (put s.gates k None) (if is_open x.place then put s.shadows a w2 else s.shadows)) s (Led c s)
+      cond_both (is_actor a (s.gates k) && not (is_committing x.place))
+      (gated s (put s.gates k None) (if is_open x.place then put s.shadows a w2 else s.shadows)) s (Led c s)
       (λ t.
       let g = both (is_actor a (s.gates k)) (not (is_committing x.place)) t in
       let mine : s.gates k ≡ Some a = actor_is a (s.gates k) g.0 in
@@ -339,12 +393,16 @@ module _ {X Op Out : Type 0} (c : Content X Op Out) where
       (λ q. let z : Some a ≡ Some b = sym mine ∙ ap s.gates (sym q) ∙ h in
       let e : a ≡ b = cc in absurd (true≢false (sym m ∙ ap (λ (i : ℕ). is_committing (s.words.actors i).place) (sym e) ∙ rests)))
       (λ _. h))
-      (λ b. cond_both (is_open x.place) (put s.shadows a w2) s.shadows (λ (z : ℕ → Shadow X Out). ShadowOk c s (s.words.actors b).calls (s.words.actors b).writes (z b))
+      (λ b. cond_both (is_open x.place) (put s.shadows a w2) s.shadows
+      (λ (z : ℕ → Shadow X Out). ShadowOk c s (s.words.actors b).calls (s.words.actors b).writes (z b))
       (λ _. by_actor (λ i. ShadowOk c s (s.words.actors i).calls (s.words.actors i).writes (put s.shadows a w2 i)) a
-      (subst (ShadowOk c s x.calls x.writes) (sym (put-same s.shadows a w2)) (copied_ok s x.calls x.writes (s.shadows a) k which v (v.shadows a)))
-      (λ i ne. subst (ShadowOk c s (s.words.actors i).calls (s.words.actors i).writes) (sym (put-other s.shadows a w2 i ne)) (v.shadows i)) b)
+      (subst (ShadowOk c s x.calls x.writes) (sym (put-same s.shadows a w2))
+      (copied_ok s x.calls x.writes (s.shadows a) k which v (v.shadows a)))
+      (λ i ne. subst (ShadowOk c s (s.words.actors i).calls (s.words.actors i).writes) (sym (put-other s.shadows a w2 i ne))
+      (v.shadows i)) b)
       (λ _. v.shadows b))
       (λ b h. cond_both (is_open x.place) (put s.shadows a w2) s.shadows (λ (z : ℕ → Shadow X Out). (z b).outcomes ≡ (s.shadows b).outcomes)
-      (λ _. put_both (λ (z : Shadow X Out). z.outcomes ≡ (s.shadows b).outcomes) s.shadows a w2 b (λ q. ap (λ (i : ℕ). (s.shadows i).outcomes) (sym q)) (λ _. refl))
+      (λ _. put_both (λ (z : Shadow X Out). z.outcomes ≡ (s.shadows b).outcomes) s.shadows a w2 b
+      (λ q. ap (λ (i : ℕ). (s.shadows i).outcomes) (sym q)) (λ _. refl))
       (λ _. refl)))
       (λ _. led_none s v)

@@ -1,5 +1,5 @@
--- The words of a world with collections are a world of the word machine. So what the word machine says of every schedule is true of them, as that a number
--- of a transaction which gave up is never used.
+-- The words of a world with collections are a world of the word machine. So what the word machine says of every schedule is true of
+-- them, as that a number of a transaction which gave up is never used.
 use Rattle.std.proofs.Common.{◌≡◌, ℕ, List, [], ◌∷◌, ◌++◌, refl, sym, ap, ◌∙◌, subst, None, Some}
 use Rattle.std.specs.Prelude.{◌&&◌, not, if◌then◌else◌}
 use Rattle.std.proofs.lemmas.Bool.{cond_both}
@@ -31,9 +31,12 @@ module _ {X Op Out : Type 0} (c : Content X Op Out) where
   Runs w t = (es : List Event) × (t.words ≡ run es w)
 
   ask_runs : (s : Boosted X Out) (a : ℕ) (r : Request) → Runs s.words (on_ask c s a r)
-  ask_runs s a (AskWrite l v) = cond_both (c.plain l) (on_words s (happens s.words (Ask a (AskWrite l v)))) s (Runs s.words) (λ _. (Ask a (AskWrite l v) ∷ [], refl)) (λ _. ([], refl))
-  ask_runs s a AskStore = cond_both (every (is_held c s a) (locations (s.words.actors a).writes)) (on_words s (happens s.words (Ask a AskStore))) s (Runs s.words) (λ _. (Ask a AskStore ∷ [], refl)) (λ _. ([], refl))
-  ask_runs s a AskRelease = cond_both (every (is_given c s a) (locations (s.words.actors a).writes)) (on_words s (happens s.words (Ask a AskRelease))) s (Runs s.words) (λ _. (Ask a AskRelease ∷ [], refl)) (λ _. ([], refl))
+  ask_runs s a (AskWrite l v) = cond_both (c.plain l) (on_words s (happens s.words (Ask a (AskWrite l v)))) s (Runs s.words)
+      (λ _. (Ask a (AskWrite l v) ∷ [], refl)) (λ _. ([], refl))
+  ask_runs s a AskStore = cond_both (every (is_held c s a) (locations (s.words.actors a).writes))
+      (on_words s (happens s.words (Ask a AskStore))) s (Runs s.words) (λ _. (Ask a AskStore ∷ [], refl)) (λ _. ([], refl))
+  ask_runs s a AskRelease = cond_both (every (is_given c s a) (locations (s.words.actors a).writes))
+      (on_words s (happens s.words (Ask a AskRelease))) s (Runs s.words) (λ _. (Ask a AskRelease ∷ [], refl)) (λ _. ([], refl))
   ask_runs s a AskBegin = (Ask a AskBegin ∷ [], refl)
   ask_runs s a AskBeginRead = (Ask a AskBeginRead ∷ [], refl)
   ask_runs s a AskLock = (Ask a AskLock ∷ [], refl)
@@ -43,20 +46,33 @@ module _ {X Op Out : Type 0} (c : Content X Op Out) where
   ask_runs s a (AskRead l) = (Ask a (AskRead l) ∷ [], refl)
 
   step_is : (s : Boosted X Out) (a : ℕ) (p : Place) → (word_step s a (s.words.actors a) p).words ≡ step s.words a (s.words.actors a) p
-  step_is s a p = recorded_words (record s { words = step s.words a (s.words.actors a) p; shadows = shadows_after s a p }) (s.shadows a).outcomes (outcome a (s.words.actors a) p)
+  step_is s a p = recorded_words (record s { words = step s.words a (s.words.actors a) p; shadows = shadows_after s a p })
+      (s.shadows a).outcomes (outcome a (s.words.actors a) p)
 
   act_runs : (s : Boosted X Out) (e : Action Op) → Runs s.words (acts c s e)
   act_runs s (OnWords (Ask a r)) = ask_runs s a r
   act_runs s (OnWords (Step a)) = (Step a ∷ [], step_is s a (s.words.actors a).place)
-  act_runs s (TakeGate a k) = cond_both (is_none (s.gates k) && not (is_committing (s.words.actors a).place)) (gated s (put s.gates k (Some a)) s.shadows) s (Runs s.words) (λ _. ([], refl)) (λ _. ([], refl))
-  act_runs s (PutGate a k which) = cond_both (is_actor a (s.gates k) && not (is_committing (s.words.actors a).place)) (gated s (put s.gates k None) (if is_open (s.words.actors a).place then put s.shadows a (copied c s (s.words.actors a).calls (s.shadows a) k which) else s.shadows)) s (Runs s.words) (λ _. ([], refl)) (λ _. ([], refl))
+  act_runs s (TakeGate a k) = cond_both (is_none (s.gates k) && not (is_committing (s.words.actors a).place))
+      (gated s (put s.gates k (Some a)) s.shadows) s (Runs s.words) (λ _. ([], refl)) (λ _. ([], refl))
+  act_runs s (PutGate a k which) = cond_both (is_actor a (s.gates k) && not (is_committing (s.words.actors a).place))
+      (gated s (put s.gates k None)
+      (if is_open (s.words.actors a).place then put s.shadows a
+      (copied c s (s.words.actors a).calls (s.shadows a) k which) else s.shadows)) s (Runs s.words) (λ _. ([], refl)) (λ _. ([], refl))
   act_runs s (Accept a op) =
       let o : Out = c.outcome (changes c (s.shadows a).outcomes (s.shadows a).parts) op in
       let es = writes_asked a (s.shadows a).editions (c.writes o) in
-      cond_both (is_open (s.words.actors a).place && (may_write (s.words.actors a).declared (c.writes o) && every (is_sound c s a) (c.reads o)))
-      (worded s (run es s.words) (put s.shadows a (record { copied = (s.shadows a).copied; parts = (s.shadows a).parts; editions = (s.shadows a).editions; outcomes = (s.shadows a).outcomes ++ o ∷ [] })) s.history s.aborted) s (Runs s.words)
+      cond_both (is_open (s.words.actors a).place &&
+      (may_write (s.words.actors a).declared (c.writes o) && every (is_sound c s a) (c.reads o)))
+      (worded s (run es s.words)
+      (put s.shadows a (record {
+        copied = (s.shadows a).copied;
+        parts = (s.shadows a).parts;
+        editions = (s.shadows a).editions;
+        outcomes = (s.shadows a).outcomes ++ o ∷ [];
+      })) s.history s.aborted) s (Runs s.words)
       (λ _. (es, refl)) (λ _. ([], refl))
-  act_runs s (GoHome a k) = cond_both (is_actor a (s.gates k) && is_stored (s.words.actors a).place) (homed c s a k) s (Runs s.words) (λ _. ([], refl)) (λ _. ([], refl))
+  act_runs s (GoHome a k) = cond_both (is_actor a (s.gates k) && is_stored (s.words.actors a).place) (homed c s a k) s (Runs s.words)
+      (λ _. ([], refl)) (λ _. ([], refl))
 
   pub all_run : (es : List (Action Op)) (s : Boosted X Out) → (ws : List Event) × ((act_all c es s).words ≡ run ws s.words)
   all_run [] s = ([], refl)

@@ -18,7 +18,8 @@ pub record Opened {X Op Out : Type 0} (c : Content X Op Out) (parts : ℕ → X)
   pub runs : AreRun c parts s.history
   pub order : IsInOrder (words s.history)
 
-pub opened : {X Op Out : Type 0} → (c : Content X Op Out) → Frame c → (parts : ℕ → X) (s : Boosted X Out) → Inv c s → s.opening ≡ parts → Opened c parts s
+pub opened : {X Op Out : Type 0} → (c : Content X Op Out) → Frame c → (parts : ℕ → X) (s : Boosted X Out) → Inv c s → s.opening ≡ parts
+    → Opened c parts s
 opened c f parts s v o = record {
   inv = v;
   opening = o;
@@ -26,25 +27,31 @@ opened c f parts s v o = record {
   order = subst IsInOrder (sym v.same) v.machine.ordered;
 }
 
-pub reached : {X Op Out : Type 0} → (c : Content X Op Out) → Frame c → (clock : ℕ) (memory : Memory) (parts : ℕ → X) (actions : List (Action Op)) → Opened c parts (act_all c actions (opens clock memory parts))
+pub reached : {X Op Out : Type 0} → (c : Content X Op Out) → Frame c → (clock : ℕ) (memory : Memory) (parts : ℕ → X)
+    (actions : List (Action Op)) → Opened c parts (act_all c actions (opens clock memory parts))
 reached c f clock memory parts actions =
     let b = opens clock memory parts in
     let v = opens_ok c f clock memory parts in
     opened c f parts (act_all c actions b) (all_ok c f actions b v) (all-opening c f actions b v).0
 
-module _ {X Op Out S R : Type 0} (c : Content X Op Out) (f : Frame c) (m : Model c S R) (clock : ℕ) (memory : Memory) (opening : S) (actions : List (Action Op)) where
+module _ {X Op Out S R : Type 0} (c : Content X Op Out) (f : Frame c) (m : Model c S R) (clock : ℕ) (memory : Memory) (opening : S)
+    (actions : List (Action Op)) where
   abbrev world : Boosted X Out
   world = act_all c actions (opens clock memory (m.shown opening))
 
   pub states_serial : AreAll c m opening world.history
-  states_serial = (run_of c f m world.history (m.shown opening) opening (λ l. refl) (reached c f clock memory (m.shown opening) actions).runs).0
+  states_serial = (run_of c f m world.history (m.shown opening) opening (λ l. refl)
+      (reached c f clock memory (m.shown opening) actions).runs).0
 
-  pub states_left : IsNoneHalfDone world.words → (l : ℕ) → c.plain l ≡ false → world.parts l ≡ m.shown (after_all c m opening world.history) l
+  pub states_left : IsNoneHalfDone world.words → (l : ℕ) → c.plain l ≡ false → world.parts l
+      ≡ m.shown (after_all c m opening world.history) l
   states_left none l pl =
       let r = reached c f clock memory (m.shown opening) actions in
-      sym (at_rest c f world r.inv none l pl).0 ∙ ap (λ (z : ℕ → X). views c world.history z l) r.opening ∙ (run_of c f m world.history (m.shown opening) opening (λ l. refl) r.runs).1 l
+      sym (at_rest c f world r.inv none l pl).0 ∙ ap (λ (z : ℕ → X). views c world.history z l) r.opening
+      ∙ (run_of c f m world.history (m.shown opening) opening (λ l. refl) r.runs).1 l
 
-  pub states_saw : (later : List (Action Op)) (a : ℕ) → AreReplies c m (state_at c m (act_all c later world).history (world.words.actors a).rv opening) (world.shadows a).outcomes
+  pub states_saw : (later : List (Action Op)) (a : ℕ) → AreReplies c m
+      (state_at c m (act_all c later world).history (world.words.actors a).rv opening) (world.shadows a).outcomes
   states_saw later a =
       let r = reached c f clock memory (m.shown opening) actions in
       let t = act_all c later world in
@@ -52,10 +59,12 @@ module _ {X Op Out S R : Type 0} (c : Content X Op Out) (f : Frame c) (m : Model
       let n = (world.words.actors a).rv in
       let os = (world.shadows a).outcomes in
       replies_at c f m t.history n opening os q.runs q.order
-      (subst (λ (z : ℕ → X). AreLegal c (view c t.history n z) os) q.opening (legal_parts c f t n os q.inv (all_saw c f later world n os r.inv (saw_open c world a r.inv))))
+      (subst (λ (z : ℕ → X). AreLegal c (view c t.history n z) os) q.opening
+      (legal_parts c f t n os q.inv (all_saw c f later world n os r.inv (saw_open c world a r.inv))))
 
   pub states_aborted : AllAborted (λ e. AreReplies c m (state_at c m world.history e.word.rv opening) e.outcomes) world.aborted
   states_aborted =
       let r = reached c f clock memory (m.shown opening) actions in
       aborted_at c f m world.history opening world.aborted r.runs r.order
-      (subst (λ (z : ℕ → X). AllAborted (λ e. AreLegal c (view c world.history e.word.rv z) e.outcomes) world.aborted) r.opening (aborted_legal c f world world.aborted r.inv r.inv.aborted))
+      (subst (λ (z : ℕ → X). AllAborted (λ e. AreLegal c (view c world.history e.word.rv z) e.outcomes) world.aborted) r.opening
+      (aborted_legal c f world world.aborted r.inv r.inv.aborted))

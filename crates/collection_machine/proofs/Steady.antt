@@ -46,7 +46,8 @@ pub same_to : (x : Actor) → SteadyTo x x
 same_to x = record { calls = λ l e h. h; writes = refl; half = λ h. h; back = λ h. inl h; first = λ h. h; release = λ h. h }
 
 -- the same sets at another place
-pub moves_to : (x y : Actor) (p : Place) → x.place ≡ p → Calm p y.place → y.writes ≡ x.writes → ((l e : ℕ) → first_read x.calls l ≡ Some e → first_read y.calls l ≡ Some e) → SteadyTo x y
+pub moves_to : (x y : Actor) (p : Place) → x.place ≡ p → Calm p y.place → y.writes ≡ x.writes
+    → ((l e : ℕ) → first_read x.calls l ≡ Some e → first_read y.calls l ≡ Some e) → SteadyTo x y
 moves_to x y p e k w r = record {
   calls = r;
   writes = w;
@@ -59,7 +60,8 @@ moves_to x y p e k w r = record {
 pub goes_to : (x : Actor) (p q : Place) → x.place ≡ p → Calm p q → SteadyTo x (goes x q)
 goes_to x p q e k = moves_to x (goes x q) p e k refl (λ l u h. h)
 
-pub steady_next : (s : World) (a : ℕ) (y : Actor) (clock : ℕ) (locks : ℕ → LockWord) (values : Memory) (aborted : List Ended) → SteadyTo (s.actors a) y → Steady s a (next s a y clock locks values s.history aborted)
+pub steady_next : (s : World) (a : ℕ) (y : Actor) (clock : ℕ) (locks : ℕ → LockWord) (values : Memory) (aborted : List Ended)
+    → SteadyTo (s.actors a) y → Steady s a (next s a y clock locks values s.history aborted)
 steady_next s a y clock locks values aborted k = record {
   history = refl;
   others = λ b ne. put-other s.actors a y b ne;
@@ -74,13 +76,16 @@ steady_none s a = record { history = refl; others = λ b ne. refl; own = same_to
 
 -- requests
 read_to : (x : Actor) (l : ℕ) (o seen : Option ℕ) → x.place ≡ Open → SteadyTo x (read x l o seen)
-read_to x l (Some v) seen e = moves_to x (replied x (Read l v)) Open e (calm Open Open (λ h. h) (λ h. h) (λ h. h) (λ h. h)) refl (λ i u h. first_read-more x.calls (Read l v ∷ []) i u h)
-read_to x l None (Some v) e = moves_to x (replied x (Read l v)) Open e (calm Open Open (λ h. h) (λ h. h) (λ h. h) (λ h. h)) refl (λ i u h. first_read-more x.calls (Read l v ∷ []) i u h)
+read_to x l (Some v) seen e = moves_to x (replied x (Read l v)) Open e (calm Open Open (λ h. h) (λ h. h) (λ h. h) (λ h. h)) refl
+    (λ i u h. first_read-more x.calls (Read l v ∷ []) i u h)
+read_to x l None (Some v) e = moves_to x (replied x (Read l v)) Open e (calm Open Open (λ h. h) (λ h. h) (λ h. h) (λ h. h)) refl
+    (λ i u h. first_read-more x.calls (Read l v ∷ []) i u h)
 read_to x l None None e = goes_to x Open (Look l) e (calm Open (Look l) (λ h. h) (λ h. h) (λ h. h) (λ h. h))
 
 lock_to : (x : Actor) (w : Entries) → x.place ≡ Open → SteadyTo x (lock x w)
 lock_to x [] e = same_to x
-lock_to x (f ∷ fs) e = goes_to x Open (Lock (locations (f ∷ fs))) e (calm Open (Lock (locations (f ∷ fs))) (λ h. h) (λ h. h) (λ h. h) (λ h. h))
+lock_to x (f ∷ fs) e = goes_to x Open (Lock (locations (f ∷ fs))) e
+    (calm Open (Lock (locations (f ∷ fs))) (λ h. h) (λ h. h) (λ h. h) (λ h. h))
 
 close_to : (x : Actor) (w : Entries) → x.place ≡ Open → SteadyTo x (close x w)
 close_to x [] e = goes_to x Open Close e (calm Open Close (λ h. h) (λ h. h) (λ h. h) (λ h. h))
@@ -135,38 +140,49 @@ to_broken s a p e n = steady s a (goes (s.actors a) Broken) (goes_to (s.actors a
 looked_steady : (s : World) (a l : ℕ) (w : LockWord) → (s.actors a).place ≡ Look l → Steady s a (looked s a (s.actors a) l w)
 looked_steady s a l (Free k) e =
     cond_both (leb k (s.actors a).rv) (goes (s.actors a) (Fetch l k)) (goes (s.actors a) Undo) (λ (z : Actor). Steady s a (now s a z))
-    (λ _. steady s a (goes (s.actors a) (Fetch l k)) (goes_to (s.actors a) (Look l) (Fetch l k) e (calm (Look l) (Fetch l k) (λ h. h) (λ h. h) (λ h. h) (λ h. h))))
+    (λ _. steady s a (goes (s.actors a) (Fetch l k))
+    (goes_to (s.actors a) (Look l) (Fetch l k) e (calm (Look l) (Fetch l k) (λ h. h) (λ h. h) (λ h. h) (λ h. h))))
     (λ _. to_undo s a (Look l) e (λ h. h))
 looked_steady s a l (Locked k) e = to_undo s a (Look l) e (λ h. h)
 
-again_steady : (s : World) (a l k v : ℕ) (w : LockWord) → (s.actors a).place ≡ Again l k v → lookup (s.actors a).reads l ≡ None → Steady s a (looked_again s a (s.actors a) l k v w)
+again_steady : (s : World) (a l k v : ℕ) (w : LockWord) → (s.actors a).place ≡ Again l k v → lookup (s.actors a).reads l ≡ None
+    → Steady s a (looked_again s a (s.actors a) l k v w)
 again_steady s a l k v (Free j) e none =
     cond_both (eqb j k) (has_read (s.actors a) l v) (goes (s.actors a) Undo) (λ (z : Actor). Steady s a (now s a z))
-    (λ _. steady s a (has_read (s.actors a) l v) (moves_to (s.actors a) (has_read (s.actors a) l v) (Again l k v) e (calm (Again l k v) Open (λ h. h) (λ h. h) (λ h. h) (λ h. h)) refl
+    (λ _. steady s a (has_read (s.actors a) l v)
+    (moves_to (s.actors a) (has_read (s.actors a) l v) (Again l k v) e
+    (calm (Again l k v) Open (λ h. h) (λ h. h) (λ h. h) (λ h. h)) refl
     (λ i u h. first_read-more (s.actors a).calls (Read l v ∷ []) i u h)))
     (λ _. to_undo s a (Again l k v) e (λ h. h))
 again_steady s a l k v (Locked j) e none = to_undo s a (Again l k v) e (λ h. h)
 
-to_lock_steady : (s : World) (a l : ℕ) (ls : List ℕ) (w : LockWord) → (s.actors a).place ≡ Lock (l ∷ ls) → Steady s a (to_lock s a (s.actors a) l ls w)
-to_lock_steady s a l ls (Free k) e = steady s a (goes (s.actors a) (Take l k ls)) (goes_to (s.actors a) (Lock (l ∷ ls)) (Take l k ls) e (calm (Lock (l ∷ ls)) (Take l k ls) (λ h. h) (λ h. h) (λ h. h) (λ h. h)))
+to_lock_steady : (s : World) (a l : ℕ) (ls : List ℕ) (w : LockWord) → (s.actors a).place ≡ Lock (l ∷ ls)
+    → Steady s a (to_lock s a (s.actors a) l ls w)
+to_lock_steady s a l ls (Free k) e = steady s a (goes (s.actors a) (Take l k ls))
+    (goes_to (s.actors a) (Lock (l ∷ ls)) (Take l k ls) e (calm (Lock (l ∷ ls)) (Take l k ls) (λ h. h) (λ h. h) (λ h. h) (λ h. h)))
 to_lock_steady s a l ls (Locked k) e = to_broken s a (Lock (l ∷ ls)) e (λ h. h)
 
-tried_steady : (s : World) (a l k : ℕ) (ls : List ℕ) (w : LockWord) → (s.actors a).place ≡ Take l k ls → Steady s a (tried s a (s.actors a) l k ls w)
+tried_steady : (s : World) (a l k : ℕ) (ls : List ℕ) (w : LockWord) → (s.actors a).place ≡ Take l k ls
+    → Steady s a (tried s a (s.actors a) l k ls w)
 tried_steady s a l k ls (Free j) e =
     cond_both (eqb j k) (locked s a (s.actors a) l k ls) (now s a (goes (s.actors a) Broken)) (Steady s a)
     (λ _. (let x = s.actors a in
     let y = taken x l k ls in
-    steady_next s a y s.clock (put s.locks l (Locked k)) s.values s.aborted (moves_to x y (Take l k ls) e (calm (Take l k ls) (Lock ls) (λ h. h) (λ h. h) (λ h. h) (λ h. h)) refl (λ i u h. h))))
+    steady_next s a y s.clock (put s.locks l (Locked k)) s.values s.aborted
+    (moves_to x y (Take l k ls) e (calm (Take l k ls) (Lock ls) (λ h. h) (λ h. h) (λ h. h) (λ h. h)) refl (λ i u h. h))))
     (λ _. to_broken s a (Take l k ls) e (λ h. h))
 tried_steady s a l k ls (Locked j) e = to_broken s a (Take l k ls) e (λ h. h)
 
-check_steady : (s : World) (a l k : ℕ) (ls : List ℕ) → (s.actors a).place ≡ Check (l ∷ ls) → Steady s a (now s a (if nat_le k (s.actors a).rv then goes (s.actors a) (Check ls) else goes (s.actors a) Broken))
+check_steady : (s : World) (a l k : ℕ) (ls : List ℕ) → (s.actors a).place ≡ Check (l ∷ ls)
+    → Steady s a (now s a (if nat_le k (s.actors a).rv then goes (s.actors a) (Check ls) else goes (s.actors a) Broken))
 check_steady s a l k ls e =
     cond_both (leb k (s.actors a).rv) (goes (s.actors a) (Check ls)) (goes (s.actors a) Broken) (λ (z : Actor). Steady s a (now s a z))
-    (λ _. steady s a (goes (s.actors a) (Check ls)) (goes_to (s.actors a) (Check (l ∷ ls)) (Check ls) e (calm (Check (l ∷ ls)) (Check ls) (λ h. h) (λ h. h) (λ h. h) (λ h. h))))
+    (λ _. steady s a (goes (s.actors a) (Check ls))
+    (goes_to (s.actors a) (Check (l ∷ ls)) (Check ls) e (calm (Check (l ∷ ls)) (Check ls) (λ h. h) (λ h. h) (λ h. h) (λ h. h))))
     (λ _. to_broken s a (Check (l ∷ ls)) e (λ h. h))
 
-checked_steady : (s : World) (a l : ℕ) (ls : List ℕ) (w : LockWord) (own : Option ℕ) → (s.actors a).place ≡ Check (l ∷ ls) → Steady s a (checked s a (s.actors a) l ls w own)
+checked_steady : (s : World) (a l : ℕ) (ls : List ℕ) (w : LockWord) (own : Option ℕ) → (s.actors a).place ≡ Check (l ∷ ls)
+    → Steady s a (checked s a (s.actors a) l ls w own)
 checked_steady s a l ls (Free k) own e = check_steady s a l k ls e
 checked_steady s a l ls (Locked k) (Some old) e = check_steady s a l k ls e
 checked_steady s a l ls (Locked k) None e = to_broken s a (Check (l ∷ ls)) e (λ h. h)
@@ -174,7 +190,8 @@ checked_steady s a l ls (Locked k) None e = to_broken s a (Check (l ∷ ls)) e (
 from_release : Calm Release Idle
 from_release = record { half = λ h. absurd h; back = λ h. inr tt; first = λ h. absurd h; release = λ h. absurd h }
 
-gives_steady : (s : World) (a l : ℕ) (w : LockWord) (rest : Entries) (p q : Place) → (s.actors a).place ≡ p → Calm p q → Steady s a (gives_back s a (s.actors a) l w rest q)
+gives_steady : (s : World) (a l : ℕ) (w : LockWord) (rest : Entries) (p q : Place) → (s.actors a).place ≡ p → Calm p q
+    → Steady s a (gives_back s a (s.actors a) l w rest q)
 gives_steady s a l w rest p q e k =
     let x = s.actors a in
     let y = freed x rest q in
@@ -183,23 +200,29 @@ gives_steady s a l w rest p q e k =
 released_steady : (s : World) (a : ℕ) (h : Entries) → (s.actors a).place ≡ Release → Steady s a (released s a (s.actors a) h)
 released_steady s a [] e = steady_none s a
 released_steady s a (f ∷ []) e = gives_steady s a f.0 (Free (s.actors a).wv) [] Release Idle e from_release
-released_steady s a (f ∷ (g ∷ es)) e = gives_steady s a f.0 (Free (s.actors a).wv) (g ∷ es) Release Release e (record { half = λ h. h; back = λ h. inl h; first = λ h. h; release = λ h. h })
+released_steady s a (f ∷ (g ∷ es)) e = gives_steady s a f.0 (Free (s.actors a).wv) (g ∷ es) Release Release e
+    (record { half = λ h. h; back = λ h. inl h; first = λ h. h; release = λ h. h })
 
 undone_steady : (s : World) (a : ℕ) (h : Entries) → (s.actors a).place ≡ Undo → Steady s a (undone s a (s.actors a) h)
 undone_steady s a [] e = steady_none s a
 undone_steady s a (f ∷ es) e = gives_steady s a f.0 (Free f.1) es Undo Undo e (calm Undo Undo (λ h. h) (λ h. h) (λ h. h) (λ h. h))
 
-pub step_steady : (s : World) (a : ℕ) (p : Place) → (s.actors a).place ≡ p → PlaceOk s (s.actors a) p → IsPlainStep p → Steady s a (step s a (s.actors a) p)
+pub step_steady : (s : World) (a : ℕ) (p : Place) → (s.actors a).place ≡ p → PlaceOk s (s.actors a) p → IsPlainStep p
+    → Steady s a (step s a (s.actors a) p)
 step_steady s a Idle e pl n = steady_none s a
 step_steady s a Begin e pl n = absurd n
 step_steady s a Open e pl n = steady_none s a
 step_steady s a (Look l) e pl n = looked_steady s a l (s.locks l) e
-step_steady s a (Fetch l k) e pl n = steady s a (goes (s.actors a) (Again l k (s.values l))) (goes_to (s.actors a) (Fetch l k) (Again l k (s.values l)) e (calm (Fetch l k) (Again l k (s.values l)) (λ h. h) (λ h. h) (λ h. h) (λ h. h)))
+step_steady s a (Fetch l k) e pl n = steady s a (goes (s.actors a) (Again l k (s.values l)))
+    (goes_to (s.actors a) (Fetch l k) (Again l k (s.values l)) e
+    (calm (Fetch l k) (Again l k (s.values l)) (λ h. h) (λ h. h) (λ h. h) (λ h. h)))
 step_steady s a (Again l k u) e pl n = again_steady s a l k u (s.locks l) e pl.0.2
 step_steady s a (Lock []) e pl n =
     (let x = s.actors a in
     let y = stamped_at x (s.clock + 1) in
-    steady_next s a y (s.clock + 1) s.locks s.values s.aborted (moves_to x y (Lock []) e (calm (Lock []) (Check (to_check x (s.clock + 1))) (λ h. h) (λ h. h) (λ h. h) (λ h. h)) refl (λ i u h. h)))
+    steady_next s a y (s.clock + 1) s.locks s.values s.aborted
+    (moves_to x y (Lock []) e (calm (Lock []) (Check (to_check x (s.clock + 1))) (λ h. h) (λ h. h) (λ h. h) (λ h. h)) refl
+    (λ i u h. h)))
 step_steady s a (Lock (l ∷ ls)) e pl n = to_lock_steady s a l ls (s.locks l) e
 step_steady s a (Take l k ls) e pl n = tried_steady s a l k ls (s.locks l) e
 step_steady s a (Check []) e pl n = steady_none s a
@@ -214,7 +237,8 @@ step_steady s a (Store (l ∷ ls)) e pl n =
 step_steady s a Release e pl n = released_steady s a (s.actors a).held e
 step_steady s a Undo e pl n = undone_steady s a (s.actors a).held e
 step_steady s a Leave e pl n =
-    steady_next s a (goes (s.actors a) Idle) s.clock s.locks s.values (s.aborted ++ record { actor = a; rv = (s.actors a).rv; calls = (s.actors a).calls } ∷ [])
+    steady_next s a (goes (s.actors a) Idle) s.clock s.locks s.values
+    (s.aborted ++ record { actor = a; rv = (s.actors a).rv; calls = (s.actors a).calls } ∷ [])
     (goes_to (s.actors a) Leave Idle e (calm Leave Idle (λ h. h) (λ h. h) (λ h. h) (λ h. h)))
 step_steady s a Close e pl n = absurd n
 
@@ -236,10 +260,12 @@ to_lock_ends s a l ls (Free k) = refl
 to_lock_ends s a l ls (Locked k) = refl
 
 tried_ends : (s : World) (a l k : ℕ) (ls : List ℕ) (w : LockWord) → (tried s a (s.actors a) l k ls w).aborted ≡ s.aborted
-tried_ends s a l k ls (Free j) = cond_both (eqb j k) (locked s a (s.actors a) l k ls) (now s a (goes (s.actors a) Broken)) (λ (z : World). z.aborted ≡ s.aborted) (λ _. refl) (λ _. refl)
+tried_ends s a l k ls (Free j) = cond_both (eqb j k) (locked s a (s.actors a) l k ls) (now s a (goes (s.actors a) Broken))
+    (λ (z : World). z.aborted ≡ s.aborted) (λ _. refl) (λ _. refl)
 tried_ends s a l k ls (Locked j) = refl
 
-checked_ends : (s : World) (a l : ℕ) (ls : List ℕ) (w : LockWord) (own : Option ℕ) → (checked s a (s.actors a) l ls w own).aborted ≡ s.aborted
+checked_ends : (s : World) (a l : ℕ) (ls : List ℕ) (w : LockWord) (own : Option ℕ) → (checked s a (s.actors a) l ls w own).aborted
+    ≡ s.aborted
 checked_ends s a l ls (Free k) own = refl
 checked_ends s a l ls (Locked k) (Some old) = refl
 checked_ends s a l ls (Locked k) None = refl

@@ -1,6 +1,6 @@
--- What an action of actor a makes of a's own record, shadow and gates, and that it leaves those of the others. The history grows by the first value
--- store and by the load that closes a reader alone, the list of the aborted by the load that leaves. One lemma for each kind of action, said of its
--- guard where it has one.
+-- What an action of actor a makes of a's own record, shadow and gates, and that it leaves those of the others. The history grows by the
+-- first value store and by the load that closes a reader alone, the list of the aborted by the load that leaves. One lemma for each kind
+-- of action, said of its guard where it has one.
 use Rattle.std.proofs.Common.{◌≡◌, ℕ, ◌+◌, Bool, true, false, cond, List, [], ◌∷◌, ◌++◌, Option, Some, None, refl, sym, ap, ◌∙◌, subst, eqb, true≢false, eq-eqb, ne_eqb, inl, inr}
 use Rattle.std.specs.Prelude.{◌==◌, ◌&&◌, not, if◌then◌else◌, nat_lt, filter}
 use Rattle.std.proofs.lemmas.Bool.{cond_both, cond-true, cases_eq}
@@ -61,9 +61,11 @@ learns s x (world.ExchangeLock l k won lost) = exchanges k won lost (s.locks l)
 learns s x (world.StoreValue l v y) = y
 learns s x (world.StoreLock l v y) = y
 
-exchanged_learns : (s : World) (a l k : ℕ) (won lost : Actor) (w : LockWord) → (world.exchanged s a l k won lost w).actors a ≡ exchanges k won lost w
+exchanged_learns : (s : World) (a l k : ℕ) (won lost : Actor) (w : LockWord) → (world.exchanged s a l k won lost w).actors a
+    ≡ exchanges k won lost w
 exchanged_learns s a l k won lost (Free j) =
-    elim (eqb j k) as (λ b. (cond b (record (world.now s a won) { locks = put s.locks l (Locked k) }) (world.now s a lost)).actors a ≡ cond b won lost) [
+    elim (eqb j k) as (λ b. (cond b (record (world.now s a won) { locks = put s.locks l (Locked k) }) (world.now s a lost)).actors a
+    ≡ cond b won lost) [
       | true ↦ put-same s.actors a won
       | false ↦ put-same s.actors a lost
     ]
@@ -142,7 +144,8 @@ module _ {X Out : Type 0} where
     aborted = refl;
   }
 
-  deed_apart : (s t : Boosted X Out) (a : ℕ) (d : Deed) → t.words.actors ≡ (does s.words a d).actors → t.shadows ≡ s.shadows → t.gates ≡ s.gates
+  deed_apart : (s t : Boosted X Out) (a : ℕ) (d : Deed) → t.words.actors ≡ (does s.words a d).actors → t.shadows ≡ s.shadows → t.gates
+      ≡ s.gates
       → Apart s t a
   deed_apart s t a d ws sh gs = record {
     actors = λ b ne. ap (λ (f : ℕ → Actor). f b) ws ∙ (does_rest s.words a d).actors b ne;
@@ -150,7 +153,8 @@ module _ {X Out : Type 0} where
     gates = λ b k ne. ap (λ (f : ℕ → Option ℕ). is_actor b (f k)) gs;
   }
 
-  deed_own : (s t : Boosted X Out) (a : ℕ) (d : Deed) → t.words.actors ≡ (does s.words a d).actors → t.shadows ≡ s.shadows → t.gates ≡ s.gates
+  deed_own : (s t : Boosted X Out) (a : ℕ) (d : Deed) → t.words.actors ≡ (does s.words a d).actors → t.shadows ≡ s.shadows → t.gates
+      ≡ s.gates
       → Own t a (learns s.words (s.words.actors a) d) (s.shadows a) (mine s a)
   deed_own s t a d ws sh gs = record {
     actor = ap (λ (f : ℕ → Actor). f a) ws ∙ does_learns s.words a d;
@@ -164,7 +168,8 @@ module _ {X Out : Type 0} where
 
   pub step_goes : (s : Boosted X Out) (a : ℕ) (p : Place) → (s.words.actors a).place ≡ p → outcome a (s.words.actors a) p ≡ world.GoesOn
       → shadows_after s a p ≡ s.shadows
-      → Goes s (word_step s a (s.words.actors a) (s.words.actors a).place) a (learns s.words (s.words.actors a) (plan (s.words.actors a) p)) (s.shadows a)
+      → Goes s (word_step s a (s.words.actors a) (s.words.actors a).place) a
+      (learns s.words (s.words.actors a) (plan (s.words.actors a) p)) (s.shadows a)
       (mine s a)
   step_goes s a p e o sh =
       let x = s.words.actors a in
@@ -181,7 +186,8 @@ module _ {X Out : Type 0} where
 
   pub step_commits : (s : Boosted X Out) (a : ℕ) (p : Place) (r : world.Record) → (s.words.actors a).place ≡ p
       → outcome a (s.words.actors a) p ≡ world.Commits r → shadows_after s a p ≡ s.shadows
-      → Commits s (word_step s a (s.words.actors a) (s.words.actors a).place) a (learns s.words (s.words.actors a) (plan (s.words.actors a) p))
+      → Commits s (word_step s a (s.words.actors a) (s.words.actors a).place) a
+      (learns s.words (s.words.actors a) (plan (s.words.actors a) p))
       (s.shadows a) (mine s a) r
   step_commits s a p r e o sh =
       let x = s.words.actors a in
@@ -198,7 +204,8 @@ module _ {X Out : Type 0} where
 
   pub step_leaves : (s : Boosted X Out) (a : ℕ) (p : Place) (r : world.Ended) → (s.words.actors a).place ≡ p
       → outcome a (s.words.actors a) p ≡ world.Aborts r → shadows_after s a p ≡ s.shadows
-      → Leaves s (word_step s a (s.words.actors a) (s.words.actors a).place) a (learns s.words (s.words.actors a) (plan (s.words.actors a) p)) (s.shadows a)
+      → Leaves s (word_step s a (s.words.actors a) (s.words.actors a).place) a
+      (learns s.words (s.words.actors a) (plan (s.words.actors a) p)) (s.shadows a)
       (mine s a) r
   step_leaves s a p r e o sh =
       let x = s.words.actors a in
@@ -245,7 +252,8 @@ module _ {X Out : Type 0} where
 
   -- the gate of k is o now, of a or of none
   gate_apart : (s t : Boosted X Out) (a k : ℕ) → t.words ≡ s.words → ((b : ℕ) → (b ≡ a → ⊥) → t.shadows b ≡ s.shadows b)
-      → ((j : ℕ) → (j ≡ k → ⊥) → t.gates j ≡ s.gates j) → ((b : ℕ) → (b ≡ a → ⊥) → is_actor b (t.gates k) ≡ is_actor b (s.gates k)) → Apart s t a
+      → ((j : ℕ) → (j ≡ k → ⊥) → t.gates j ≡ s.gates j) → ((b : ℕ) → (b ≡ a → ⊥) → is_actor b (t.gates k) ≡ is_actor b (s.gates k))
+      → Apart s t a
   gate_apart s t a k ws sh other here = record {
     actors = λ b ne. ap (λ (w : World). w.actors b) ws;
     shadows = sh;
@@ -270,9 +278,11 @@ module _ {X Op Out : Type 0} (c : Content X Op Out) where
   -- ---- requests
   pub ask_goes : (s : Boosted X Out) (a : ℕ) (p : Place) (q : Request) → (s.words.actors a).place ≡ p → IsFreeAsk q
       → Goes s (acts c s (OnWords (Ask a q))) a (ask (s.words.actors a) p q) (s.shadows a) (mine s a)
-  ask_goes s a p q e f = subst (λ r. Goes s (acts c s (OnWords (Ask a q))) a (ask (s.words.actors a) r q) (s.shadows a) (mine s a)) e (at_place q f)
+  ask_goes s a p q e f = subst (λ r. Goes s (acts c s (OnWords (Ask a q))) a (ask (s.words.actors a) r q) (s.shadows a) (mine s a)) e
+      (at_place q f)
     where
-      at_place : (q : Request) → IsFreeAsk q → Goes s (acts c s (OnWords (Ask a q))) a (ask (s.words.actors a) (s.words.actors a).place q) (s.shadows a) (mine s a)
+      at_place : (q : Request) → IsFreeAsk q → Goes s (acts c s (OnWords (Ask a q))) a (ask (s.words.actors a) (s.words.actors a).place q)
+          (s.shadows a) (mine s a)
       at_place AskBeginRead f = turned s a (ask (s.words.actors a) (s.words.actors a).place AskBeginRead)
       at_place AskBegin f = turned s a (ask (s.words.actors a) (s.words.actors a).place AskBegin)
       at_place AskLock f = turned s a (ask (s.words.actors a) (s.words.actors a).place AskLock)
@@ -284,12 +294,15 @@ module _ {X Op Out : Type 0} (c : Content X Op Out) where
       at_place (AskRead l) f = turned s a (ask (s.words.actors a) (s.words.actors a).place (AskRead l))
       at_place (AskWrite l v) f = absurd f
 
-  pub write_goes : (s : Boosted X Out) (a l v : ℕ) → (s.words.actors a).place ≡ Open → (s.words.actors a).declared ≡ false → c.plain l ≡ true
+  pub write_goes : (s : Boosted X Out) (a l v : ℕ) → (s.words.actors a).place ≡ Open → (s.words.actors a).declared ≡ false → c.plain l
+      ≡ true
       → Goes s (acts c s (OnWords (Ask a (AskWrite l v)))) a (wrote (s.words.actors a) l v) (s.shadows a) (mine s a)
   write_goes s a l v e d pl =
       let x = s.words.actors a in
-      subst (λ t. Goes s t a (wrote x l v) (s.shadows a) (mine s a)) (sym (cond-true (c.plain l) (on_words s (world.now s.words a (ask x x.place (AskWrite l v)))) s pl))
-      (subst (λ y. Goes s (on_words s (world.now s.words a y)) a (wrote x l v) (s.shadows a) (mine s a)) (sym (ap (λ p. ask x p (AskWrite l v)) e ∙ ap (λ b. write x b l v) d)) (turned s a (wrote x l v)))
+      subst (λ t. Goes s t a (wrote x l v) (s.shadows a) (mine s a))
+      (sym (cond-true (c.plain l) (on_words s (world.now s.words a (ask x x.place (AskWrite l v)))) s pl))
+      (subst (λ y. Goes s (on_words s (world.now s.words a y)) a (wrote x l v) (s.shadows a) (mine s a))
+      (sym (ap (λ p. ask x p (AskWrite l v)) e ∙ ap (λ b. write x b l v) d)) (turned s a (wrote x l v)))
 
   pub store_goes : (s : Boosted X Out) (a : ℕ) → (s.words.actors a).place ≡ machine.Check []
       → every (is_held c s a) (locations (s.words.actors a).writes) ≡ true
@@ -298,7 +311,8 @@ module _ {X Op Out : Type 0} (c : Content X Op Out) where
       let x = s.words.actors a in
       subst (λ t. Goes s t a (goes x machine.First) (s.shadows a) (mine s a))
       (sym (cond-true (every (is_held c s a) (locations x.writes)) (on_words s (world.now s.words a (ask x x.place AskStore))) s all))
-      (subst (λ y. Goes s (on_words s (world.now s.words a y)) a (goes x machine.First) (s.shadows a) (mine s a)) (sym (ap (λ p. ask x p AskStore) e))
+      (subst (λ y. Goes s (on_words s (world.now s.words a y)) a (goes x machine.First) (s.shadows a) (mine s a))
+      (sym (ap (λ p. ask x p AskStore) e))
       (turned s a (goes x machine.First)))
 
   pub release_goes : (s : Boosted X Out) (a : ℕ) → (s.words.actors a).place ≡ machine.Store []
@@ -308,14 +322,16 @@ module _ {X Op Out : Type 0} (c : Content X Op Out) where
       let x = s.words.actors a in
       subst (λ t. Goes s t a (goes x machine.Release) (s.shadows a) (mine s a))
       (sym (cond-true (every (is_given c s a) (locations x.writes)) (on_words s (world.now s.words a (ask x x.place AskRelease))) s all))
-      (subst (λ y. Goes s (on_words s (world.now s.words a y)) a (goes x machine.Release) (s.shadows a) (mine s a)) (sym (ap (λ p. ask x p AskRelease) e))
+      (subst (λ y. Goes s (on_words s (world.now s.words a y)) a (goes x machine.Release) (s.shadows a) (mine s a))
+      (sym (ap (λ p. ask x p AskRelease) e))
       (turned s a (goes x machine.Release)))
 
   -- ---- gates
   gate_put : (s : Boosted X Out) (a k : ℕ) (o : Option ℕ) (b : Bool) → is_actor a o ≡ b → (j : ℕ)
       → is_actor a (put s.gates k o j) ≡ (if j == k then b else mine s a j)
   unfolding put
-  gate_put s a k o b e j = elim (eqb j k) as (λ z. is_actor a (if z then o else s.gates j) ≡ (if z then b else mine s a j)) [ true ↦ e | false ↦ refl ]
+  gate_put s a k o b e j = elim (eqb j k) as
+      (λ z. is_actor a (if z then o else s.gates j) ≡ (if z then b else mine s a j)) [ true ↦ e | false ↦ refl ]
 
   -- a try on a gate that was free, and on one that was not
   pub record Tried (s t : Boosted X Out) (a k : ℕ) : Type 0 where
@@ -361,7 +377,8 @@ module _ {X Op Out : Type 0} (c : Content X Op Out) where
 
   pub put_goes : (s : Boosted X Out) (a k : ℕ) (which : ℕ → Bool) → mine s a k ≡ true → is_committing (s.words.actors a).place ≡ false
       → Goes s (acts c s (PutGate a k which)) a (s.words.actors a)
-      (if is_open (s.words.actors a).place then copied c s (s.words.actors a).calls (s.shadows a) k which else s.shadows a) (without_gate (mine s a) k)
+      (if is_open (s.words.actors a).place then copied c s (s.words.actors a).calls (s.shadows a) k which else s.shadows a)
+      (without_gate (mine s a) k)
   put_goes s a k which h rests =
       let x = s.words.actors a in
       let w = copied c s x.calls (s.shadows a) k which in
@@ -395,7 +412,8 @@ module _ {X Op Out : Type 0} (c : Content X Op Out) where
       subst (λ u. Goes s u a x (s.shadows a) (without_gate (mine s a) k))
       (sym (cond-true (mine s a k && is_stored x.place) t s (ap (λ z. z && is_stored x.place) h ∙ st)))
       (record {
-        apart = gate_apart s t a k refl (λ b ne. refl) (λ j isnt. put-other s.gates k None j isnt) (λ b ne. ap (is_actor b) (put-same s.gates k None)
+        apart = gate_apart s t a k refl (λ b ne. refl) (λ j isnt. put-other s.gates k None j isnt)
+            (λ b ne. ap (is_actor b) (put-same s.gates k None)
             ∙ sym (not_his s a b k ne h));
         own = record { actor = refl; shadow = refl; gates = gate_put s a k None false refl };
         history = refl;
@@ -410,16 +428,30 @@ module _ {X Op Out : Type 0} (c : Content X Op Out) where
     pub rv : t.rv ≡ y.rv
     pub reads : t.reads ≡ y.reads
     pub first : (l : ℕ) → first_read t.calls l ≡ first_read y.calls l
-    pub calls : (test : machine.Call → Bool) → ((l v : ℕ) → IsIn l ls → test (machine.Write l v) ≡ false) → filter test t.calls ≡ filter test y.calls
+    pub calls : (test : machine.Call → Bool) → ((l v : ℕ) → IsIn l ls → test (machine.Write l v) ≡ false) → filter test t.calls
+        ≡ filter test y.calls
 
-  pub writes_wrote : (s : World) (a : ℕ) (editions : ℕ → ℕ) (ls : List ℕ) → (s.actors a).place ≡ Open → ((l : ℕ) → IsIn l ls → (s.actors a).declared ≡ false)
-      → Wrote (s.actors a) ((world.run (writes_asked a editions ls) s).actors a) ls × ((b : ℕ) → (b ≡ a → ⊥) → (world.run (writes_asked a editions ls) s).actors b ≡ s.actors b)
-  writes_wrote s a editions [] e d = (record { place = e; declared = refl; rv = refl; reads = refl; first = λ l. refl; calls = λ test h. refl }, λ b ne. refl)
+  pub writes_wrote : (s : World) (a : ℕ) (editions : ℕ → ℕ) (ls : List ℕ) → (s.actors a).place ≡ Open
+      → ((l : ℕ) → IsIn l ls → (s.actors a).declared ≡ false)
+      → Wrote (s.actors a) ((world.run (writes_asked a editions ls) s).actors a) ls
+      × ((b : ℕ) → (b ≡ a → ⊥) → (world.run (writes_asked a editions ls) s).actors b ≡ s.actors b)
+  writes_wrote s a editions [] e d = (
+    record {
+      place = e;
+      declared = refl;
+      rv = refl;
+      reads = refl;
+      first = λ l. refl;
+      calls = λ test h. refl;
+    },
+    λ b ne. refl,
+  )
   writes_wrote s a editions (l ∷ ls) e d =
       let x = s.actors a in
       let y = wrote x l (editions l + 1) in
       let t : World = world.now s a (ask x x.place (AskWrite l (editions l + 1))) in
-      let is : t.actors a ≡ y = put-same s.actors a (ask x x.place (AskWrite l (editions l + 1))) ∙ ap (λ p. ask x p (AskWrite l (editions l + 1))) e ∙ ap (λ b. write x b l (editions l + 1)) (d l (inl refl)) in
+      let is : t.actors a ≡ y = put-same s.actors a (ask x x.place (AskWrite l (editions l + 1)))
+      ∙ ap (λ p. ask x p (AskWrite l (editions l + 1))) e ∙ ap (λ b. write x b l (editions l + 1)) (d l (inl refl)) in
       let rest = writes_wrote t a editions ls (ap (λ (u : Actor). u.place) is) (λ i m. ap (λ (u : Actor). u.declared) is ∙ d i (inr m)) in
       let r : Wrote (t.actors a) ((world.run (writes_asked a editions ls) t).actors a) ls = rest.0 in (
         record {
@@ -431,7 +463,8 @@ module _ {X Op Out : Type 0} (c : Content X Op Out) where
           calls = λ test h.
               r.calls test (λ k v m. h k v (inr m)) ∙ ap (λ (u : Actor). filter test u.calls) is
               ∙ filter-append test x.calls (machine.Write l (editions l + 1) ∷ [])
-              ∙ ap (λ (b : Bool). filter test x.calls ++ cond b (machine.Write l (editions l + 1) ∷ []) []) (h l (editions l + 1) (inl refl))
+              ∙ ap (λ (b : Bool). filter test x.calls ++ cond b (machine.Write l (editions l + 1) ∷ []) [])
+              (h l (editions l + 1) (inl refl))
               ∙ append-nil (filter test x.calls);
         },
         λ b ne. rest.1 b ne ∙ put-other s.actors a (ask x x.place (AskWrite l (editions l + 1))) b ne,
@@ -441,14 +474,17 @@ module _ {X Op Out : Type 0} (c : Content X Op Out) where
     pub goes : Goes s t a (t.words.actors a) (longer (s.shadows a) o) (mine s a)
     pub wrote : Wrote (s.words.actors a) (t.words.actors a) (c.writes o)
 
-  pub accept_goes : (s : Boosted X Out) (a : ℕ) (o : Out) → (s.words.actors a).place ≡ Open → may_write (s.words.actors a).declared (c.writes o) ≡ true → every (is_sound c s a) (c.reads o) ≡ true → Accepts s (accepted c s a o) a o
+  pub accept_goes : (s : Boosted X Out) (a : ℕ) (o : Out) → (s.words.actors a).place ≡ Open → may_write (s.words.actors a).declared
+      (c.writes o) ≡ true → every (is_sound c s a) (c.reads o) ≡ true → Accepts s (accepted c s a o) a o
   accept_goes s a o e may all =
       let x = s.words.actors a in
       let events = writes_asked a (s.shadows a).editions (c.writes o) in
       let t : Boosted X Out = record s { words = world.run events s.words; shadows = put s.shadows a (longer (s.shadows a) o) } in
       let w = writes_wrote s.words a (s.shadows a).editions (c.writes o) e (λ l m. is_undeclared x.declared (c.writes o) l may m) in
-      subst (λ u. Accepts s u a o) (sym (cond-true (is_open x.place && (may_write x.declared (c.writes o) && every (is_sound c s a) (c.reads o))) t s
-      (ap (λ p. is_open p && (may_write x.declared (c.writes o) && every (is_sound c s a) (c.reads o))) e ∙ ap (λ b. b && every (is_sound c s a) (c.reads o)) may ∙ all)))
+      subst (λ u. Accepts s u a o)
+      (sym (cond-true (is_open x.place && (may_write x.declared (c.writes o) && every (is_sound c s a) (c.reads o))) t s
+      (ap (λ p. is_open p && (may_write x.declared (c.writes o) && every (is_sound c s a) (c.reads o))) e
+      ∙ ap (λ b. b && every (is_sound c s a) (c.reads o)) may ∙ all)))
       (record {
         goes = record {
           apart = record { actors = w.1; shadows = λ b ne. put-other s.shadows a (longer (s.shadows a) o) b ne; gates = λ b k ne. refl };

@@ -1,9 +1,10 @@
 -- A transaction beside which no other steps, at whose begin no lock and no gate is held, is refused for no conflict.
 --
--- Through its own actions every lock and gate stays free or its own, and what it has copied has the edition of the base (`AloneActions`). So the word
--- machine tells it no conflict; each gate that it tries is free; and what its read set or a load has of a collection's location is the base's edition,
--- since no commit is half done (`now_edition`). What a call still has to judge was copied with that edition too (`AllNow`). `Fine` says so of what each
--- function of the definition leaves, with the causes (P) for which the transaction may be given up: a want of memory alone, or none.
+-- Through its own actions every lock and gate stays free or its own, and what it has copied has the edition of the base
+-- (`AloneActions`). So the word machine tells it no conflict; each gate that it tries is free; and what its read set or a load has of a
+-- collection's location is the base's edition, since no commit is half done (`now_edition`). What a call still has to judge was copied
+-- with that edition too (`AllNow`). `Fine` says so of what each function of the definition leaves, with the causes (P) for which the
+-- transaction may be given up: a want of memory alone, or none.
 use Rattle.std.proofs.Common.{◌≡◌, ℕ, zero, suc, ◌≤◌, Bool, true, false, cond, ◌&&◌, List, [], ◌∷◌, ◌++◌, length, Option, Some, None, inl, inr, refl, sym, ◌∙◌, ap, subst, true≢false, arith, eqb, eq-eqb}
 use Rattle.std.specs.Prelude.{nat_lt, nat_le}
 use Rattle.std.proofs.lemmas.Bool.{cases_eq, cond_both, cond-true}
@@ -507,8 +508,17 @@ module _ {V : Type 0} (P : Refusal → Type 0) (a : ℕ) where
       by_stage (Returning []) at fine held ok = absurd ok
       by_stage (Returning (i ∷ ks)) at fine held ok = gives_up_fine (acted w (PutGate a i (λ l. false) ∷ [])) x ks fine
       by_stage Cancelling at fine held ok = has_cancelled_fine u x (word_notice w a) seat at fine
-      by_stage Leaving at fine held ok =
-          (seated_fine (record u { aborted = w.aborted ++ record { actor = a; rv = x.rv; calls = x.calls; cause = x.cause } ∷ [] }) no_one tt, why_fine x x.cause fine)
+      by_stage Leaving at fine held ok = (
+        seated_fine (record u {
+          aborted = w.aborted ++ record {
+            actor = a;
+            rv = x.rv;
+            calls = x.calls;
+            cause = x.cause;
+          } ∷ [];
+        }) no_one tt,
+        why_fine x x.cause fine,
+      )
 
   -- ---- events
   record AloneWorld (w : World V) : Type 0 where

@@ -1,6 +1,7 @@
--- What a refusal says as it is answered. A request that is refused changes nothing; a step is refused where none is due, as a transaction begins at the
--- limit of the clock, as a call that was copied for finds no room, and by its last step, which tells the cause; and nowhere else, so never after the
--- first value store. A want of memory changes nothing there, nor while a transaction is being given up.
+-- What a refusal says as it is answered. A request that is refused changes nothing; a step is refused where none is due, as a
+-- transaction begins at the limit of the clock, as a call that was copied for finds no room, and by its last step, which tells the
+-- cause; and nowhere else, so never after the first value store. A want of memory changes nothing there, nor while a transaction is
+-- being given up.
 use Rattle.std.proofs.Common.{◌≡◌, ℕ, zero, suc, ◌≤◌, Bool, true, false, cond, ◌&&◌, List, [], ◌∷◌, ◌++◌, length, Option, Some, None, inl, inr, refl, sym, ◌∙◌, ap, subst, true≢false, arith, eqb}
 use Rattle.std.specs.Prelude.{nat_lt}
 use Rattle.std.proofs.lemmas.Bool.{cases_eq, cond_both}

@@ -1,6 +1,7 @@
--- When a request is refused as it is asked, and when it begins to give its transaction up. What is asked while another request is under way, or begins where
--- a transaction is open, is NotIdle; a call of what is not there is NoSuch, and only then one past the limit TooLong. A call that has copied what it touches
--- finds in the read set the edition that was copied, so it is never stale as it is asked; so only an Abort gives a transaction up at once.
+-- When a request is refused as it is asked, and when it begins to give its transaction up. What is asked while another request is under
+-- way, or begins where a transaction is open, is NotIdle; a call of what is not there is NoSuch, and only then one past the limit
+-- TooLong. A call that has copied what it touches finds in the read set the edition that was copied, so it is never stale as it is
+-- asked; so only an Abort gives a transaction up at once.
 use Rattle.std.proofs.Common.{◌≡◌, ◌≢◌, ℕ, ◌≤◌, Bool, true, false, cond, ◌&&◌, List, [], ◌∷◌, length, Option, Some, None, ◌⊎◌, inl, inr, refl, sym, ◌∙◌, ap, subst, true≢false, eqb, eq-eqb, arith}
 use Rattle.std.specs.Prelude.{nat_lt}
 use Rattle.std.proofs.lemmas.Bool.{cond-true, cond-false}
@@ -49,11 +50,13 @@ module _ {V : Type 0} where
       → happens w (Ask a q) ≡ (w, Refused a refusal.NotIdle)
   under_way w a q h = ask_under_way w a (w.seats a) (w.seats a).stage q h
 
-  pub asked_at : (w : World V) (a : ℕ) (q : Request V) (st : Stage V) → (w.seats a).stage ≡ st → happens w (Ask a q) ≡ ask_at w a (w.seats a) st q
+  pub asked_at : (w : World V) (a : ℕ) (q : Request V) (st : Stage V) → (w.seats a).stage ≡ st → happens w (Ask a q)
+      ≡ ask_at w a (w.seats a) st q
   asked_at w a q st at = ap (λ (s : Stage V). ask_at w a (w.seats a) s q) at
 
   pub while_open : (w : World V) (a : ℕ) → (w.seats a).stage ≡ Open
-      → (happens w (Ask a request.Begin) ≡ (w, Refused a refusal.NotIdle)) × (happens w (Ask a request.BeginRead) ≡ (w, Refused a refusal.NotIdle))
+      → (happens w (Ask a request.Begin) ≡ (w, Refused a refusal.NotIdle))
+      × (happens w (Ask a request.BeginRead) ≡ (w, Refused a refusal.NotIdle))
   while_open w a at = (asked_at w a request.Begin Open at, asked_at w a request.BeginRead Open at)
 
   idle_refuses : (w : World V) (a : ℕ) (x : Seat V) (q : Request V) → q ≢ request.Begin → q ≢ request.BeginRead
@@ -88,7 +91,8 @@ module _ {V : Type 0} where
       → happens w (Ask a (request.Call (record { target = t; op = op }))) ≡ (w, Refused a refusal.NoSuch)
   no_such w a t op at h = asked_at w a _ Open at ∙ no_such_op w a (w.seats a) t op h
 
-  pub too_long : (w : World V) (a t : ℕ) (op : Op V) → (w.seats a).stage ≡ Open → is_there w a t op ≡ true → CALL_LIMIT ≤ length (w.seats a).calls
+  pub too_long : (w : World V) (a t : ℕ) (op : Op V) → (w.seats a).stage ≡ Open → is_there w a t op ≡ true → CALL_LIMIT ≤ length
+      (w.seats a).calls
       → happens w (Ask a (request.Call (record { target = t; op = op }))) ≡ (w, Refused a refusal.TooLong)
   too_long w a t op at h long = asked_at w a _ Open at ∙ too_long_op w a (w.seats a) t op h long
 
@@ -106,7 +110,8 @@ module _ {V : Type 0} where
   -- what the read set has of a location was copied with that edition
   abbrev HasCopied : World V → ℕ → Type 0
   HasCopied w a =
-      (l v : ℕ) → (content {V = V} w.words w.blocks).plain l ≡ false → lookup (actor_of w a).reads l ≡ Some v → (w.boosted.shadows a).editions l ≡ v
+      (l v : ℕ) → (content {V = V} w.words w.blocks).plain l ≡ false → lookup (actor_of w a).reads l ≡ Some v
+      → (w.boosted.shadows a).editions l ≡ v
 
   has_copied : (w : World V) (a : ℕ) (x : Seat V) → Live w.words w.blocks x (actor_of w a) (w.boosted.shadows a) → HasCopied w a
   has_copied w a x live l v pl e = (live.sound l v pl (in_set_some (actor_of w a).declared _ v (sym (live.kept l pl) ∙ e))).1
@@ -116,7 +121,8 @@ module _ {V : Type 0} where
       → GoesOn a (judges w a x o (l, e) es next r)
   judges_on w a x o l e es next None h g = sits_on (acted w (asks a (word.AskRead l) ∷ [])) a (at_stage x (Loading o ((l, e) ∷ es))) refl
   judges_on w a x o l e es next (Some v) h g =
-      subst (λ (r : After V). GoesOn a r) (sym (cond-true (eqb e v) next (gives_up w a (because x (refusal.Stale l e v)) []) (eq-eqb e v (h v refl)))) g
+      subst (λ (r : After V). GoesOn a r)
+      (sym (cond-true (eqb e v) next (gives_up w a (because x (refusal.Stale l e v)) []) (eq-eqb e v (h v refl)))) g
 
   loads_on : (ls : List ℕ) (w : World V) (a : ℕ) (x : Seat V) (o : Answered V) → HasCopied w a
       → ((l : ℕ) → IsIn l ls → (content {V = V} w.words w.blocks).plain l ≡ false)
@@ -132,7 +138,8 @@ module _ {V : Type 0} where
       let c = content w.words w.blocks in
       let o = outcome_at w a asked in
       choose_on a (x.copied asked.collection (piece_at w.blocks asked)) _ _
-      (choose_on a (has_room (actor_of w a) (c.reads o) (c.writes o)) (loads w a x o (with_editions (w.boosted.shadows a).editions (c.reads o))) _
+      (choose_on a (has_room (actor_of w a) (c.reads o) (c.writes o))
+      (loads w a x o (with_editions (w.boosted.shadows a).editions (c.reads o))) _
       (loads_on (c.reads o) w a x o h (λ l m. (content_frame w.words w.blocks k.base.stripes).no_word o l m))
       (sits_on w a (at_stage x Open) refl))
       (sits_on w a (at_stage x (Trying asked more_tries)) refl)

@@ -23,10 +23,12 @@ none_known true = refl
 none_known false = refl
 
 module _ {V : Type 0} where
-  refused_if : (w : World V) (a : ℕ) (x : Seat V) (known may room : Bool) (next : After V) → may ≡ false → if_allowed w a x (known && may) room next ≡ (w, Refused a refusal.NoSuch)
+  refused_if : (w : World V) (a : ℕ) (x : Seat V) (known may room : Bool) (next : After V) → may ≡ false → if_allowed w a x
+      (known && may) room next ≡ (w, Refused a refusal.NoSuch)
   refused_if w a x known may room next h = ap (λ b. if_allowed w a x b room next) (ap (λ b. known && b) h ∙ none_known known)
 
-  op_refused : (w : World V) (a : ℕ) (x : Seat V) (t : ℕ) (op : Op V) → (actor_of w a).declared ≡ true → is_change op ≡ true → ask_op w a x t op ≡ (w, Refused a refusal.NoSuch)
+  op_refused : (w : World V) (a : ℕ) (x : Seat V) (t : ℕ) (op : Op V) → (actor_of w a).declared ≡ true → is_change op ≡ true
+      → ask_op w a x t op ≡ (w, Refused a refusal.NoSuch)
   op_refused w a x t (Write v) d h = refused_if w a x _ _ _ _ (ap not d)
   op_refused w a x t (Put k v) d h = refused_if w a x _ _ _ _ (ap (λ b. not (b && true)) d)
   op_refused w a x t (Remove k) d h = refused_if w a x _ _ _ _ (ap (λ b. not (b && true)) d)
@@ -38,16 +40,20 @@ module _ {V : Type 0} where
   op_refused w a x t Dequeue d h = refused_if w a x _ _ _ _ (ap (λ b. not (b && true)) d)
   op_refused w a x t op d h = absurd (true≢false (sym h))
 
-  pub change_refused : (w : World V) (a : ℕ) (call : Call V) → (actor_of w a).declared ≡ true → (w.seats a).stage ≡ Open → is_change call.op ≡ true → happens w (Ask a (request.Call call)) ≡ (w, Refused a refusal.NoSuch)
-  change_refused w a call d e h = ap (λ st. ask_at w a (w.seats a) st (request.Call call)) e ∙ op_refused w a (w.seats a) call.target call.op d h
+  pub change_refused : (w : World V) (a : ℕ) (call : Call V) → (actor_of w a).declared ≡ true → (w.seats a).stage ≡ Open
+      → is_change call.op ≡ true → happens w (Ask a (request.Call call)) ≡ (w, Refused a refusal.NoSuch)
+  change_refused w a call d e h = ap (λ st. ask_at w a (w.seats a) st (request.Call call)) e ∙ op_refused w a
+      (w.seats a) call.target call.op d h
 
-  at_open : (n : ℕ) (bs : List Block) (x : Seat V) (y : Actor) (z : Copy V) (st : Stage V) (p : Place) → StageOk n bs x y z st p → is_calling st ≡ true → p ≡ machine.Open
+  at_open : (n : ℕ) (bs : List Block) (x : Seat V) (y : Actor) (z : Copy V) (st : Stage V) (p : Place) → StageOk n bs x y z st p
+      → is_calling st ≡ true → p ≡ machine.Open
   at_open n bs x y z Open p h c = h.0
   at_open n bs x y z (Trying asked tries) p h c = h.0
   at_open n bs x y z (Copying asked) p h c = h.0
   at_open n bs x y z st p h c = absurd (true≢false (sym c))
 
-  pub no_sets : (blocks : List Block) (clock : ℕ) (values : List ℕ) (held : List (Held V)) (events : List (Event V)) (a : ℕ) → HaveStripes blocks
+  pub no_sets : (blocks : List Block) (clock : ℕ) (values : List ℕ) (held : List (Held V)) (events : List (Event V)) (a : ℕ)
+      → HaveStripes blocks
       → let w = run (opened blocks clock values held) events in
       is_calling (w.seats a).stage ≡ true → (actor_of w a).declared ≡ true → ((actor_of w a).reads ≡ []) × ((actor_of w a).writes ≡ [])
   no_sets blocks clock values held events a stripes calling d =

@@ -1,5 +1,6 @@
--- What a step leaves of values, bases and records. Before the first value store a step stores no value, and only the step that takes a base home changes
--- one; so a transaction that is being given up leaves them, gives each lock back at the version at which it took it, and at rest holds no lock and no gate.
+-- What a step leaves of values, bases and records. Before the first value store a step stores no value, and only the step that takes a
+-- base home changes one; so a transaction that is being given up leaves them, gives each lock back at the version at which it took it,
+-- and at rest holds no lock and no gate.
 use Rattle.std.proofs.Common.{◌≡◌, ℕ, zero, suc, Bool, false, ◌&&◌, List, [], ◌∷◌, ◌++◌, Some, None, refl, sym, ◌∙◌, ap, subst, true≢false, eqb, eq-eqb}
 use Rattle.std.specs.Prelude.{not, if◌then◌else◌}
 use Rattle.std.proofs.lemmas.Bool.{cond_both}

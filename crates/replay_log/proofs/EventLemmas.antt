@@ -61,7 +61,8 @@ module _ {V : Type 0} where
   placed w a k = (k.base.inv.machine.actors a).place
 
   -- ---- steps
-  reading_step : (w : World V) (a : ℕ) (x : Seat V) (l : ℕ) → Linked w → w.seats a ≡ x → x.stage ≡ Reading l → Held-by w a [] → StageIn w a x (Reading l)
+  reading_step : (w : World V) (a : ℕ) (x : Seat V) (l : ℕ) → Linked w → w.seats a ≡ x → x.stage ≡ Reading l → Held-by w a []
+      → StageIn w a x (Reading l)
       → Linked (step_at w a x (Reading l)).0
   reading_step w a x l k seat st held h =
       let y = y_of w a in
@@ -69,9 +70,11 @@ module _ {V : Type 0} where
       let at = at_of w a k in
       subst (λ n. Linked (has_read (acted w (moves a ∷ [])) a x l n).0) (sym (tells w a y (z_of w a) (g_of w a) y.place at refl))
       (has_read_linked (acted w (moves a ∷ [])) a x y (learns s y (plan y y.place)) (z_of w a) (g_of w a) l (notice s y y.place)
-      (at_move w a y (z_of w a) (g_of w a) y.place at refl (reading_quiet l y.place h.0)) held seat st h.1 h.2 (read_after s y l y.place h.0))
+      (at_move w a y (z_of w a) (g_of w a) y.place at refl (reading_quiet l y.place h.0)) held seat st h.1 h.2
+      (read_after s y l y.place h.0))
 
-  loading_step : (w : World V) (a : ℕ) (x : Seat V) (o : Answered V) (d : ℕ × ℕ) (es : Entries) → Linked w → w.seats a ≡ x → x.stage ≡ Loading o (d ∷ es)
+  loading_step : (w : World V) (a : ℕ) (x : Seat V) (o : Answered V) (d : ℕ × ℕ) (es : Entries) → Linked w → w.seats a ≡ x → x.stage
+      ≡ Loading o (d ∷ es)
       → Held-by w a []
       → StageIn w a x (Loading o (d ∷ es)) → Linked (step_at w a x (Loading o (d ∷ es))).0
   loading_step w a x o d es k seat st held h =
@@ -80,7 +83,10 @@ module _ {V : Type 0} where
       let at = at_of w a k in
       subst (λ n. Linked (has_loaded (acted w (moves a ∷ [])) a x o d es n).0) (sym (tells w a y (z_of w a) (g_of w a) y.place at refl))
       (has_loaded_linked (acted w (moves a ∷ [])) a x y (learns s y (plan y y.place)) (z_of w a) (g_of w a) o d es (notice s y y.place)
-      (at_move w a y (z_of w a) (g_of w a) y.place at refl (reading_quiet d.0 y.place h.0)) held seat st h.1 h.2 (reading_none s y d.0 y.place h.0 (placed w a k)) ((k.base.inv.machine.actors a).sets.not_written d.0 (reading_unwritten s y d.0 y.place h.0 (placed w a k))) (read_after s y d.0 y.place h.0))
+      (at_move w a y (z_of w a) (g_of w a) y.place at refl (reading_quiet d.0 y.place h.0)) held seat st h.1 h.2
+      (reading_none s y d.0 y.place h.0 (placed w a k))
+      ((k.base.inv.machine.actors a).sets.not_written d.0 (reading_unwritten s y d.0 y.place h.0 (placed w a k)))
+      (read_after s y d.0 y.place h.0))
 
   locking_step : (w : World V) (a : ℕ) (x : Seat V) → Linked w → w.seats a ≡ x → x.stage ≡ Locking → Held-by w a [] → StageIn w a x Locking
       → Linked (step_at w a x Locking).0
@@ -102,35 +108,42 @@ module _ {V : Type 0} where
       (has_stored_linked (acted w (moves a ∷ [])) a x y (learns s y (plan y y.place)) (z_of w a) (g_of w a) ks (notice s y y.place)
       (at_move w a y (z_of w a) (g_of w a) y.place at refl (storing_quiet y.place h.0)) held h.1 h.2 (store_after s y y.place h.0))
 
-  releasing_step : (w : World V) (a : ℕ) (x : Seat V) → Linked w → w.seats a ≡ x → x.stage ≡ Releasing → Held-by w a [] → StageIn w a x Releasing
+  releasing_step : (w : World V) (a : ℕ) (x : Seat V) → Linked w → w.seats a ≡ x → x.stage ≡ Releasing → Held-by w a []
+      → StageIn w a x Releasing
       → Linked (step_at w a x Releasing).0
   releasing_step w a x k seat st held h =
       let y = y_of w a in
       let s = w.boosted.words in
       let at = at_of w a k in
       subst (λ n. Linked (has_released (acted w (moves a ∷ [])) a x n).0) (sym (tells w a y (z_of w a) (g_of w a) machine.Release at h.0))
-      (has_released_linked (acted w (moves a ∷ [])) a x y (learns s y (plan y machine.Release)) (z_of w a) (g_of w a) (notice s y machine.Release)
+      (has_released_linked (acted w (moves a ∷ [])) a x y (learns s y (plan y machine.Release)) (z_of w a) (g_of w a)
+      (notice s y machine.Release)
       (at_move w a y (z_of w a) (g_of w a) machine.Release at h.0 tt) held seat st h.1
       (release_after s y y.held (subst (PlaceOk s y) h.0 (placed w a k)).some))
 
-  cancelling_step : (w : World V) (a : ℕ) (x : Seat V) → Linked w → w.seats a ≡ x → x.stage ≡ Cancelling → Held-by w a [] → StageIn w a x Cancelling
+  cancelling_step : (w : World V) (a : ℕ) (x : Seat V) → Linked w → w.seats a ≡ x → x.stage ≡ Cancelling → Held-by w a []
+      → StageIn w a x Cancelling
       → Linked (step_at w a x Cancelling).0
   cancelling_step w a x k seat st held h =
       let y = y_of w a in
       let s = w.boosted.words in
       let at = at_of w a k in
       subst (λ n. Linked (has_cancelled (acted w (moves a ∷ [])) a x n).0) (sym (tells w a y (z_of w a) (g_of w a) machine.Undo at h.0))
-      (has_cancelled_linked (acted w (moves a ∷ [])) a x y (learns s y (plan y machine.Undo)) (z_of w a) (g_of w a) (notice s y machine.Undo)
+      (has_cancelled_linked (acted w (moves a ∷ [])) a x y (learns s y (plan y machine.Undo)) (z_of w a) (g_of w a)
+      (notice s y machine.Undo)
       (at_move w a y (z_of w a) (g_of w a) machine.Undo at h.0 tt) held seat st h.2 (undo_after s y y.held h.1))
 
-  step_linked : (w : World V) (a : ℕ) (x : Seat V) (st : Stage V) → Linked w → w.seats a ≡ x → x.stage ≡ st → Held-by w a (gates_of st) → StageIn w a x st
+  step_linked : (w : World V) (a : ℕ) (x : Seat V) (st : Stage V) → Linked w → w.seats a ≡ x → x.stage ≡ st → Held-by w a (gates_of st)
+      → StageIn w a x st
       → Linked (step_at w a x st).0
   step_linked w a x Idle k seat st held h = k
   step_linked w a x Open k seat st held h = k
   step_linked w a x Beginning k seat st held h = begin_step w a x k h held
   step_linked w a x (Reading l) k seat st held h = reading_step w a x l k seat st held h
-  step_linked w a x (Trying asked tries) k seat st held h = trying_step w a x (y_of w a) (z_of w a) (g_of w a) asked tries (at_of w a k) held h.0 h.1 h.2
-  step_linked w a x (Copying asked) k seat st held h = copying_step w a x (y_of w a) (z_of w a) (g_of w a) asked (at_of w a k) held h.0 h.1 h.2
+  step_linked w a x (Trying asked tries) k seat st held h = trying_step w a x (y_of w a) (z_of w a) (g_of w a) asked tries
+      (at_of w a k) held h.0 h.1 h.2
+  step_linked w a x (Copying asked) k seat st held h = copying_step w a x (y_of w a) (z_of w a) (g_of w a) asked
+      (at_of w a k) held h.0 h.1 h.2
   step_linked w a x (Loading o []) k seat st held h = absurd h
   step_linked w a x (Loading o (d ∷ es)) k seat st held h = loading_step w a x o d es k seat st held h
   step_linked w a x Locking k seat st held h = locking_step w a x k seat st held h
@@ -140,17 +153,20 @@ module _ {V : Type 0} where
   step_linked w a x (Ready ks) k seat st held h = first_step w a x (y_of w a) (z_of w a) (g_of w a) ks (at_of w a k) held h.0 h.1
   step_linked w a x (Storing ks) k seat st held h = storing_step w a x ks k held h
   step_linked w a x (Homing []) k seat st held h = absurd h
-  step_linked w a x (Homing (i ∷ ks)) k seat st held h = homing_step w a x (y_of w a) (z_of w a) (g_of w a) i ks (at_of w a k) held h.0 h.1 h.2
+  step_linked w a x (Homing (i ∷ ks)) k seat st held h = homing_step w a x (y_of w a) (z_of w a) (g_of w a) i ks
+      (at_of w a k) held h.0 h.1 h.2
   step_linked w a x Releasing k seat st held h = releasing_step w a x k seat st held h
   step_linked w a x Closing k seat st held h = closing_step w a x (y_of w a) (z_of w a) (g_of w a) (at_of w a k) held h.0 h.1
   step_linked w a x (Returning []) k seat st held h = absurd h
-  step_linked w a x (Returning (i ∷ ks)) k seat st held h = returning_step w a x (y_of w a) (z_of w a) (g_of w a) i ks (at_of w a k) held h.0 h.1 h.2
+  step_linked w a x (Returning (i ∷ ks)) k seat st held h = returning_step w a x (y_of w a) (z_of w a) (g_of w a) i ks
+      (at_of w a k) held h.0 h.1 h.2
   step_linked w a x Cancelling k seat st held h = cancelling_step w a x k seat st held h
   step_linked w a x Leaving k seat st held h = leaving_step w a x (y_of w a) (z_of w a) (g_of w a) (at_of w a k) held h.0 h.1
 
   -- ---- requests
   -- a request that takes a step, and one that is answered at once
-  asked_linked : (w : World V) (a : ℕ) (x : Seat V) (p : Place) (q : word.Request) (y2 : Actor) → Linked w → (y_of w a).place ≡ p → IsFreeAsk q
+  asked_linked : (w : World V) (a : ℕ) (x : Seat V) (p : Place) (q : word.Request) (y2 : Actor) → Linked w → (y_of w a).place ≡ p
+      → IsFreeAsk q
       → ask (y_of w a) p q ≡ y2
       → SeatOk w.words w.blocks x y2 (z_of w a) (g_of w a) → Linked (seated (acted w (asks a q ∷ [])) a x)
   asked_linked w a x p q y2 k e f is h =
@@ -167,7 +183,8 @@ module _ {V : Type 0} where
     pieces = h.pieces;
   }
 
-  reads_linked : (w : World V) (a : ℕ) (x : Seat V) (l : ℕ) (own seen : Option ℕ) → Linked w → Held-by w a [] → (y_of w a).place ≡ machine.Open
+  reads_linked : (w : World V) (a : ℕ) (x : Seat V) (l : ℕ) (own seen : Option ℕ) → Linked w → Held-by w a [] → (y_of w a).place
+      ≡ machine.Open
       → Live w.words w.blocks x (y_of w a) (z_of w a) → l < w.words
       → ask (y_of w a) machine.Open (word.AskRead l) ≡ word.read (y_of w a) l own seen → Linked (reads w a x l (read_reply own seen)).0
   reads_linked w a x l (Some v) seen k held e live lt is =
@@ -182,7 +199,8 @@ module _ {V : Type 0} where
       asked_linked w a (at_stage x (Reading l)) machine.Open (word.AskRead l) (goes (y_of w a) (machine.Look l)) k e tt is
       (record { gates = held; stage = (refl, lt, record { tx = live.tx; sound = live.sound; kept = live.kept; pieces = live.pieces }) })
 
-  write_linked : (w : World V) (a : ℕ) (x : Seat V) (l v : ℕ) → Linked w → Held-by w a [] → (y_of w a).place ≡ machine.Open → (y_of w a).declared ≡ false → Live w.words w.blocks x (y_of w a) (z_of w a) → l < w.words
+  write_linked : (w : World V) (a : ℕ) (x : Seat V) (l v : ℕ) → Linked w → Held-by w a [] → (y_of w a).place ≡ machine.Open
+      → (y_of w a).declared ≡ false → Live w.words w.blocks x (y_of w a) (z_of w a) → l < w.words
       → Linked (seated (acted w (asks a (word.AskWrite l v) ∷ [])) a (with_call x (record { target = l; op = Write v }) reply.Done))
   write_linked w a x l v k held e writer live lt =
       let y = y_of w a in
@@ -190,7 +208,8 @@ module _ {V : Type 0} where
       let at : At (acted w (asks a (word.AskWrite l v) ∷ [])) a y2 (z_of w a) (g_of w a) =
       at_by w a y y2 y2 (z_of w a) (z_of w a) (z_of w a) (g_of w a) (g_of w a) (g_of w a) (asks a (word.AskWrite l v)) (at_of w a k)
       (write_goes (content w.words w.blocks) w.boosted a l v e writer (plain_word w.words w.blocks l lt)) refl refl (λ i. refl) in
-      linked_seated (acted w (asks a (word.AskWrite l v) ∷ [])) a (with_call x (record { target = l; op = Write v }) reply.Done) y2 (z_of w a) (g_of w a) at (record {
+      linked_seated (acted w (asks a (word.AskWrite l v) ∷ [])) a (with_call x (record { target = l; op = Write v }) reply.Done) y2
+      (z_of w a) (g_of w a) at (record {
         gates = held;
         stage = (
           refl,
@@ -205,22 +224,28 @@ module _ {V : Type 0} where
 
   allowed_linked : (w : World V) (a : ℕ) (x : Seat V) (known room : Bool) (next : After V) → Linked w → (known ≡ true → Linked next.0)
       → Linked (if_allowed w a x known room next).0
-  allowed_linked w a x known room next k h = choose known _ _ (λ e. choose (nat_lt (length x.calls) CALL_LIMIT && room) _ _ (λ _. h e) (λ _. k)) (λ _. k)
+  allowed_linked w a x known room next k h = choose known _ _
+      (λ e. choose (nat_lt (length x.calls) CALL_LIMIT && room) _ _ (λ _. h e) (λ _. k)) (λ _. k)
 
-  held_op_linked : (w : World V) (a : ℕ) (x : Seat V) (t : ℕ) (op : Op V) → Linked w → Held-by w a [] → (y_of w a).place ≡ machine.Open → Live w.words w.blocks x (y_of w a) (z_of w a) → is_word_op op ≡ false
-      → Linked (if_allowed w a x (is_known (block_of w.blocks t) op && may_ask (y_of w a) op) true (calls_on w a x (record { collection = t; op = op }))).0
+  held_op_linked : (w : World V) (a : ℕ) (x : Seat V) (t : ℕ) (op : Op V) → Linked w → Held-by w a [] → (y_of w a).place ≡ machine.Open
+      → Live w.words w.blocks x (y_of w a) (z_of w a) → is_word_op op ≡ false
+      → Linked (if_allowed w a x (is_known (block_of w.blocks t) op && may_ask (y_of w a) op) true
+      (calls_on w a x (record { collection = t; op = op }))).0
   held_op_linked w a x t op k held e live not_word =
-      allowed_linked w a x (is_known (block_of w.blocks t) op && may_ask (y_of w a) op) true (calls_on w a x (record { collection = t; op = op })) k
+      allowed_linked w a x (is_known (block_of w.blocks t) op && may_ask (y_of w a) op) true
+      (calls_on w a x (record { collection = t; op = op })) k
       (λ both. (
       let b = both_true (is_known (block_of w.blocks t) op) (may_ask (y_of w a) op) both in
-      calls_on_linked w a x (y_of w a) (z_of w a) (g_of w a) (record { collection = t; op = op }) (at_of w a k) held e live (not_word, b.0, b.1)))
+      calls_on_linked w a x (y_of w a) (z_of w a) (g_of w a) (record { collection = t; op = op }) (at_of w a k) held e live
+      (not_word, b.0, b.1)))
 
   op_linked : (w : World V) (a : ℕ) (x : Seat V) (t : ℕ) (op : Op V) → Linked w → Held-by w a [] → (y_of w a).place ≡ machine.Open
       → Live w.words w.blocks x (y_of w a) (z_of w a) → Linked (ask_op w a x t op).0
   op_linked w a x t Read k held e live =
       let y = y_of w a in
       allowed_linked w a x (nat_lt t w.words) _ (reads w a x t (told.reply y y.place (word.AskRead t))) k
-      (λ lt. subst (λ n. Linked (reads w a x t n).0) (sym (ap (λ p. told.reply y p (word.AskRead t)) e)) (reads_linked w a x t (lookup y.writes t) (lookup y.reads t) k held e live (below t w.words lt) refl))
+      (λ lt. subst (λ n. Linked (reads w a x t n).0) (sym (ap (λ p. told.reply y p (word.AskRead t)) e))
+      (reads_linked w a x t (lookup y.writes t) (lookup y.reads t) k held e live (below t w.words lt) refl))
   op_linked w a x t (Write v) k held e live =
       allowed_linked w a x (nat_lt t w.words && not (y_of w a).declared) _ _ k (λ both. (
       let b = both_true (nat_lt t w.words) (not (y_of w a).declared) both in
@@ -231,15 +256,19 @@ module _ {V : Type 0} where
       → InTx w.words x (y_of w a) (z_of w a) → (y_of w a).writes ≡ es
       → Linked (commits w a x es).0
   commits_linked w a x [] k held e tx is =
-      asked_linked w a (at_stage x Closing) machine.Open word.AskClose (goes (y_of w a) machine.Close) k e tt (ap (word.close (y_of w a)) is)
+      asked_linked w a (at_stage x Closing) machine.Open word.AskClose (goes (y_of w a) machine.Close) k e tt
+      (ap (word.close (y_of w a)) is)
       (record { gates = held; stage = (refl, tx) })
   commits_linked w a x (d ∷ es) k held e tx is =
       asked_linked w a (at_stage x Locking) machine.Open word.AskLock (goes (y_of w a) (machine.Lock (locations (d ∷ es)))) k e tt
       (ap (word.lock (y_of w a)) is) (record { gates = held; stage = (tt, tx) })
 
-  idle_linked : (w : World V) (a : ℕ) (x : Seat V) (q : Request V) → Linked w → Held-by w a [] → (y_of w a).place ≡ machine.Idle → Linked (ask_idle w a x q).0
-  idle_linked w a x request.Begin k held e = asked_linked w a (at_stage x Beginning) machine.Idle word.AskBegin (word.begin (y_of w a) false) k e tt refl (record { gates = held; stage = refl })
-  idle_linked w a x request.BeginRead k held e = asked_linked w a (at_stage x Beginning) machine.Idle word.AskBeginRead (word.begin (y_of w a) true) k e tt refl (record { gates = held; stage = refl })
+  idle_linked : (w : World V) (a : ℕ) (x : Seat V) (q : Request V) → Linked w → Held-by w a [] → (y_of w a).place ≡ machine.Idle
+      → Linked (ask_idle w a x q).0
+  idle_linked w a x request.Begin k held e = asked_linked w a (at_stage x Beginning) machine.Idle word.AskBegin
+      (word.begin (y_of w a) false) k e tt refl (record { gates = held; stage = refl })
+  idle_linked w a x request.BeginRead k held e = asked_linked w a (at_stage x Beginning) machine.Idle word.AskBeginRead
+      (word.begin (y_of w a) true) k e tt refl (record { gates = held; stage = refl })
   idle_linked w a x q k held e = k
 
   open_linked : (w : World V) (a : ℕ) (x : Seat V) (q : Request V) → Linked w → Held-by w a [] → (y_of w a).place ≡ machine.Open
@@ -248,7 +277,8 @@ module _ {V : Type 0} where
   open_linked w a x request.BeginRead k held e live = k
   open_linked w a x (request.Call call) k held e live = op_linked w a x call.target call.op k held e live
   open_linked w a x request.Commit k held e live = commits_linked w a x (actor_of w a).writes k held e live.tx refl
-  open_linked w a x request.Abort k held e live = cancels_linked w a (record x { cause = None }) (y_of w a) (z_of w a) (g_of w a) (at_of w a k) held
+  open_linked w a x request.Abort k held e live = cancels_linked w a (record x { cause = None }) (y_of w a) (z_of w a) (g_of w a)
+      (at_of w a k) held
       (subst CanLeave (sym e) tt) live.tx
 
   ask_linked : (w : World V) (a : ℕ) (x : Seat V) (st : Stage V) (q : Request V) → Linked w → Held-by w a (gates_of st) → StageIn w a x st
@@ -270,7 +300,8 @@ module _ {V : Type 0} where
       (record { gates = held; stage = refl })
   starve_linked w a x (Reading l) k held h = starved w a x [] k held tt (reading_leaves l (y_of w a).place h.0) h.2.tx
   starve_linked w a x (Trying asked tries) k held h = starved w a x [] k held tt (subst CanLeave (sym h.0) tt) h.1.tx
-  starve_linked w a x (Copying asked) k held h = starved w a x (asked.collection ∷ []) k held (refl, tt) (subst CanLeave (sym h.0) tt) h.1.tx
+  starve_linked w a x (Copying asked) k held h = starved w a x (asked.collection ∷ []) k held (refl, tt)
+      (subst CanLeave (sym h.0) tt) h.1.tx
   starve_linked w a x (Loading o []) k held h = absurd h
   starve_linked w a x (Loading o (d ∷ es)) k held h = starved w a x [] k held tt (reading_leaves d.0 (y_of w a).place h.0) h.1.tx
   starve_linked w a x Locking k held h = starved w a x [] k held tt (locking_leaves (y_of w a).place h.0) h.1
@@ -303,7 +334,8 @@ module _ {V : Type 0} where
   opened_linked blocks clock values held stripes = record {
     base = record {
       stripes = stripes;
-      inv = opens_ok (content (length values) blocks) (content_frame (length values) blocks stripes) clock (λ l. get_or values l 0) (shown_at (length values) blocks held);
+      inv = opens_ok (content (length values) blocks) (content_frame (length values) blocks stripes) clock (λ l. get_or values l 0)
+          (shown_at (length values) blocks held);
       records = tt;
       aborted = tt;
     };

@@ -1,5 +1,5 @@
--- No guard of the machine refuses what the next step of a request does: each stage holds the gates that its step needs, and the machine's actor stands
--- where a step, or the request that it asks, is due.
+-- No guard of the machine refuses what the next step of a request does: each stage holds the gates that its step needs, and the
+-- machine's actor stands where a step, or the request that it asks, is due.
 use Rattle.std.proofs.Common.{◌≡◌, ℕ, Bool, true, false, ◌||◌, List, [], ◌∷◌, inl, inr, sym, ◌∙◌, ap, subst}
 use Rattle.std.specs.Prelude.{nat_lt, if◌then◌else◌}
 use Rattle.std.proofs.lemmas.Bool.{cases_Bool}
@@ -57,7 +57,8 @@ module _ {V : Type 0} where
             ap (λ b. b || is_actor a (s.gates (home_of w.words w.blocks l))) pl ∙ held (home_of w.words w.blocks l) ∙ h.covers l o.0 pl o.1
       ]))
 
-  allowed : (w : World V) (a : ℕ) (x : Seat V) (st : Stage V) → PlaceOk w.boosted.words (w.boosted.words.actors a) (w.boosted.words.actors a).place
+  allowed : (w : World V) (a : ℕ) (x : Seat V) (st : Stage V) → PlaceOk w.boosted.words (w.boosted.words.actors a)
+      (w.boosted.words.actors a).place
       → ((k : ℕ) → mine w.boosted a k ≡ has (gates_of st) k)
       → StageOk w.words w.blocks x (w.boosted.words.actors a) (w.boosted.shadows a) st (w.boosted.words.actors a).place
       → IsAllowed w st (step_action w a st)
@@ -102,7 +103,8 @@ module _ {V : Type 0} where
       due_at w a machine.Undo h.0 (λ e. subst (AfterUndo y (learns s y (plan y machine.Undo))) e (undo_after s y y.held h.1))
   allowed w a x Leaving pl held h = due_at w a machine.Leave h.0 closed_due
 
-  pub world_allows : (blocks : List Block) (clock : ℕ) (values : List ℕ) (held : List (Held V)) (events : List (Event V)) (a : ℕ) → HaveStripes blocks
+  pub world_allows : (blocks : List Block) (clock : ℕ) (values : List ℕ) (held : List (Held V)) (events : List (Event V)) (a : ℕ)
+      → HaveStripes blocks
       → let w = run (opened blocks clock values held) events in IsAllowed w (w.seats a).stage (step_action w a (w.seats a).stage)
   world_allows blocks clock values held events a stripes =
       let o : World V = opened blocks clock values held in

@@ -51,11 +51,14 @@ module _ {V : Type 0} where
   of_queue (Queue head items) x e = (let s = queue.queue_view head items in let q : s ≡ x = cc in ap OfQueue q)
 
   -- an outcome at the view of a collection is the sequential call's
-  pub follows : (op : Op V) (h : Held V) (o : Outcome V) → IsWithinLimits h → outcome_of op (viewed h) ≡ Some o → (g : Held V) × (held_call op h ≡ Some (o.reply, g)) × (viewed g ≡ after (changes_of o (viewed h)) (viewed h))
+  pub follows : (op : Op V) (h : Held V) (o : Outcome V) → IsWithinLimits h → outcome_of op (viewed h) ≡ Some o → (g : Held V)
+      × (held_call op h ≡ Some (o.reply, g)) × (viewed g ≡ after (changes_of o (viewed h)) (viewed h))
   follows op (Map m) o fit e = (let z = map_laws.laws.follows op (Map m) m o fit refl e in (z.0, z.1.0, of_map z.0 _ z.1.1))
   follows op (Bag m) o fit e = (let z = bag_laws.laws.follows op (Bag m) m o fit refl e in (z.0, z.1.0, of_bag z.0 _ z.1.1))
-  follows op (Pq m) o fit e = (let z = pq_laws.laws.follows op (Pq m) (record { elements = m; least = least m }) o fit refl e in (z.0, z.1.0, of_pq z.0 _ z.1.1))
-  follows op (Queue head items) o fit e = (let z = queue_laws.laws.follows op (Queue head items) (queue.queue_view head items) o fit refl e in (z.0, z.1.0, of_queue z.0 _ z.1.1))
+  follows op (Pq m) o fit e = (let z = pq_laws.laws.follows op (Pq m) (record { elements = m; least = least m }) o fit refl e in
+      (z.0, z.1.0, of_pq z.0 _ z.1.1))
+  follows op (Queue head items) o fit e = (let z = queue_laws.laws.follows op (Queue head items)
+      (queue.queue_view head items) o fit refl e in (z.0, z.1.0, of_queue z.0 _ z.1.1))
 
   pub unknown : (op : Op V) (h : Held V) → outcome_of op (viewed h) ≡ None → held_call op h ≡ None
   unknown op (Map m) e = map_laws.laws.answers op (Map m) m refl e
@@ -70,7 +73,8 @@ Keeps h (Some r) = (kind_of_held r.1 ≡ kind_of_held h) × IsWithinLimits r.1
 
 few_added : (V : Type 0) (x : ℕ) (m : Multiset) → HasFewCopies m → HasFewCopies (add_call {V = V} x m).1
 few_added V x m few =
-    cond_both {A = Reply V × Multiset} (ltb (copies m x) COPY_LIMIT) (Done, with_copies m x (copies m x + 1)) (Full, m) (λ r. HasFewCopies r.1)
+    cond_both {A = Reply V × Multiset} (ltb (copies m x) COPY_LIMIT) (Done, with_copies m x (copies m x + 1)) (Full, m)
+    (λ r. HasFewCopies r.1)
     (λ t. few_copies_with m x (copies m x + 1) few (let lt = ltb-true (copies m x) COPY_LIMIT t in omega (arith, lt)))
     (λ _. few)
 
@@ -84,9 +88,11 @@ few_left : (V : Type 0) (first : Option ℕ) (m : Multiset) → HasFewCopies m �
 few_left V None m few = few
 few_left V (Some x) m few = few_copies_with m x (copies m x - 1) few (let le = few x in omega (arith, le))
 
-enqueued : (V : Type 0) (x head : ℕ) (items : List ℕ) → head + length items ≤ INDEX_LIMIT → (enqueue_call {V = V} x head items).1 + length (enqueue_call {V = V} x head items).2 ≤ INDEX_LIMIT
+enqueued : (V : Type 0) (x head : ℕ) (items : List ℕ) → head + length items ≤ INDEX_LIMIT → (enqueue_call {V = V} x head items).1 + length
+    (enqueue_call {V = V} x head items).2 ≤ INDEX_LIMIT
 enqueued V x head items le =
-    cond_both {A = Reply V × ℕ × List ℕ} (ltb (head + length items) INDEX_LIMIT) (Done, head, items ++ x ∷ []) (Full, head, items) (λ r. r.1 + length r.2 ≤ INDEX_LIMIT)
+    cond_both {A = Reply V × ℕ × List ℕ} (ltb (head + length items) INDEX_LIMIT) (Done, head, items ++ x ∷ []) (Full, head, items)
+    (λ r. r.1 + length r.2 ≤ INDEX_LIMIT)
     (λ t. (let lt = ltb-true (head + length items) INDEX_LIMIT t in let len = pushed items in omega (arith, lt, len)))
     (λ _. le)
   where
@@ -94,7 +100,8 @@ enqueued V x head items le =
     pushed [] = refl
     pushed (y ∷ xs) = (let z = pushed xs in omega (arith, z))
 
-dequeued : (V : Type 0) (head : ℕ) (items : List ℕ) → head + length items ≤ INDEX_LIMIT → (dequeue_call {V = V} head items).1 + length (dequeue_call {V = V} head items).2 ≤ INDEX_LIMIT
+dequeued : (V : Type 0) (head : ℕ) (items : List ℕ) → head + length items ≤ INDEX_LIMIT → (dequeue_call {V = V} head items).1 + length
+    (dequeue_call {V = V} head items).2 ≤ INDEX_LIMIT
 dequeued V head [] le = le
 dequeued V head (x ∷ items) le = omega (arith, le)
 
@@ -118,7 +125,8 @@ module _ {V : Type 0} where
   pq_keeps TakeLeast m few = (refl, few_left V (least m) m few)
   pq_keeps _ m few = tt
 
-  queue_keeps : (op : Op V) (head : ℕ) (items : List ℕ) → head + length items ≤ INDEX_LIMIT → Keeps {V = V} (Queue head items) (held_call op (Queue head items))
+  queue_keeps : (op : Op V) (head : ℕ) (items : List ℕ) → head + length items ≤ INDEX_LIMIT → Keeps {V = V} (Queue head items)
+      (held_call op (Queue head items))
   queue_keeps (Enqueue x) head items le = (refl, enqueued V x head items le)
   queue_keeps Dequeue head items le = (refl, dequeued V head items le)
   queue_keeps Peek head items le = (refl, le)

@@ -31,7 +31,8 @@ module _ {X : Type 0} where
       get-insert nat_cmp_total (overlaid es m) e.0 e.1 q ∙ ap (cond (eq_by_cmp nat_cmp q e.0) (Some e.1)) (get_overlaid es m q)
       ∙ choose_if (eq_by_cmp nat_cmp q e.0) e.1 (find nat_cmp q es) (get m q)
 
-  get_next : (place : ℕ → ℕ) (n : ℕ) (v : ℕ → FinMap nat_cmp X) (q : ℕ) → get (joined place (suc n) v) q ≡ choose (cond (eqb (place q) n) (get (v n) q) None) (get (joined place n v) q)
+  get_next : (place : ℕ → ℕ) (n : ℕ) (v : ℕ → FinMap nat_cmp X) (q : ℕ) → get (joined place (suc n) v) q
+      ≡ choose (cond (eqb (place q) n) (get (v n) q) None) (get (joined place n v) q)
   get_next place n v q =
       get_overlaid (entries (kept place n (v n))) (joined place n v) q
       ∙ ap (λ o. choose o (get (joined place n v) q)) (sym (get-entries (kept place n (v n)) q) ∙ get_kept place n (v n) q)

@@ -1,7 +1,7 @@
--- Transactions that mix calls on words and calls on collections, from what the machine has of them: the calls on words are its word calls at the
--- locations of words, in order; the calls on collections are its outcomes, in order. A call on a word touches no collection, and the other way round,
--- so a transaction is legal at a state where its word calls are legal at the words and its outcomes at the collections; so are records one after
--- another, and what the records up to a number leave.
+-- Transactions that mix calls on words and calls on collections, from what the machine has of them: the calls on words are its word
+-- calls at the locations of words, in order; the calls on collections are its outcomes, in order. A call on a word touches no
+-- collection, and the other way round, so a transaction is legal at a state where its word calls are legal at the words and its outcomes
+-- at the collections; so are records one after another, and what the records up to a number leave.
 use Rattle.std.proofs.Common.{◌≡◌, ℕ, zero, suc, ◌<◌, ◌≤◌, Bool, true, false, cond, not, List, [], ◌∷◌, ◌++◌, map, length, get_or, set, filter, Option, Some, None, refl, sym, ◌∙◌, ap, subst, arith, true≢false, length-set, get_or-set_same, get_or-set_other, inl, inr, ◌⊎◌}
 use Rattle.std.specs.Prelude.{nat_lt, nat_le, option_map, option_and_then, unwrap_or, slice_get, slice_set}
 use Rattle.std.specs.Option.{option_map_or}
@@ -86,13 +86,15 @@ words_legal n [] m u g h = tt
 words_legal n (machine.Read l v ∷ cs) m u g h =
     let is : List machine.Call = machine.Read l v ∷ word_calls n cs in
     elim (cases_Bool (nat_lt l n)) [
-      | inl e ↦ subst (IsLegal u) (sym (cond-true (nat_lt l n) is (word_calls n cs) e)) (sym (g l (below l n e)) ∙ h.0, words_legal n cs m u g h.1)
+      | inl e ↦ subst (IsLegal u) (sym (cond-true (nat_lt l n) is (word_calls n cs) e))
+          (sym (g l (below l n e)) ∙ h.0, words_legal n cs m u g h.1)
       | inr isnt ↦ subst (IsLegal u) (sym (cond-false (nat_lt l n) is (word_calls n cs) isnt)) (words_legal n cs m u g h.1)
     ]
 words_legal n (machine.Write l v ∷ cs) m u g h =
     let is : List machine.Call = machine.Write l v ∷ word_calls n cs in
     elim (cases_Bool (nat_lt l n)) [
-      | inl e ↦ subst (IsLegal u) (sym (cond-true (nat_lt l n) is (word_calls n cs) e)) (words_legal n cs (put m l v) (put u l v) (put_words n m u l v g) h)
+      | inl e ↦ subst (IsLegal u) (sym (cond-true (nat_lt l n) is (word_calls n cs) e))
+          (words_legal n cs (put m l v) (put u l v) (put_words n m u l v g) h)
       | inr isnt ↦
           subst (IsLegal u) (sym (cond-false (nat_lt l n) is (word_calls n cs) isnt))
           (words_legal n cs (put m l v) u (λ k lt. put-other m l v k (not_below l k n isnt lt) ∙ g k lt) h)
@@ -107,13 +109,17 @@ are_within : (n : ℕ) (cs : List machine.Call) → Within n (word_calls n cs)
 are_within n [] = tt
 are_within n (machine.Read l v ∷ cs) =
     elim (cases_Bool (nat_lt l n)) [
-      | inl is ↦ subst (Within n) (sym (cond-true (nat_lt l n) (machine.Read l v ∷ word_calls n cs) (word_calls n cs) is)) (below l n is, are_within n cs)
-      | inr isnt ↦ subst (Within n) (sym (cond-false (nat_lt l n) (machine.Read l v ∷ word_calls n cs) (word_calls n cs) isnt)) (are_within n cs)
+      | inl is ↦ subst (Within n) (sym (cond-true (nat_lt l n) (machine.Read l v ∷ word_calls n cs) (word_calls n cs) is))
+          (below l n is, are_within n cs)
+      | inr isnt ↦ subst (Within n) (sym (cond-false (nat_lt l n) (machine.Read l v ∷ word_calls n cs) (word_calls n cs) isnt))
+          (are_within n cs)
     ]
 are_within n (machine.Write l v ∷ cs) =
     elim (cases_Bool (nat_lt l n)) [
-      | inl is ↦ subst (Within n) (sym (cond-true (nat_lt l n) (machine.Write l v ∷ word_calls n cs) (word_calls n cs) is)) (below l n is, are_within n cs)
-      | inr isnt ↦ subst (Within n) (sym (cond-false (nat_lt l n) (machine.Write l v ∷ word_calls n cs) (word_calls n cs) isnt)) (are_within n cs)
+      | inl is ↦ subst (Within n) (sym (cond-true (nat_lt l n) (machine.Write l v ∷ word_calls n cs) (word_calls n cs) is))
+          (below l n is, are_within n cs)
+      | inr isnt ↦ subst (Within n) (sym (cond-false (nat_lt l n) (machine.Write l v ∷ word_calls n cs) (word_calls n cs) isnt))
+          (are_within n cs)
     ]
 
 after-cons : (v : machine.Call) (us : List machine.Call) (m : Memory) → after m (v ∷ us) ≡ after (after m (v ∷ [])) us
@@ -121,7 +127,8 @@ unfolding after
 after-cons (machine.Read l v) us m = refl
 after-cons (machine.Write l v) us m = refl
 
-legal-cons : (v : machine.Call) (us : List machine.Call) (m : Memory) → IsLegal m (v ∷ us) → IsLegal m (v ∷ []) × IsLegal (after m (v ∷ [])) us
+legal-cons : (v : machine.Call) (us : List machine.Call) (m : Memory) → IsLegal m (v ∷ us) → IsLegal m (v ∷ [])
+    × IsLegal (after m (v ∷ [])) us
 unfolding IsLegal after
 legal-cons (machine.Read l v) us m g = ((g.0, tt), g.1)
 legal-cons (machine.Write l v) us m g = (tt, g)
@@ -170,7 +177,8 @@ module _ {V : Type 0} where
   Told (c ∷ cs) (o ∷ os) = (c.0 ≡ worlds.call_of o) × (option_map (λ r. r.reply) o.outcome ≡ Some c.1) × Told cs os
   Told cs os = ⊥
 
-  pub Told-push : (cs : List (Call V × Reply V)) (os : List (Answered V)) (c : Call V × Reply V) (o : Answered V) → Told cs os → c.0 ≡ worlds.call_of o
+  pub Told-push : (cs : List (Call V × Reply V)) (os : List (Answered V)) (c : Call V × Reply V) (o : Answered V) → Told cs os → c.0
+      ≡ worlds.call_of o
       → option_map (λ r. r.reply) o.outcome ≡ Some c.1 → Told (cs ++ c ∷ []) (os ++ o ∷ [])
   Told-push [] [] c o h e g = (e, g, tt)
   Told-push [] (p ∷ os) c o h e g = absurd h
@@ -197,7 +205,8 @@ module _ {V : Type 0} where
   at_collection (Write v) t s h = absurd (true≢false h)
   at_collection op t s h = refl
 
-  replies_by : (op : Op V) (hs : List (Held V)) (i : ℕ) (f : Reply V × Held V → Reply V × Contents V) → ((r : Reply V × Held V) → (f r).0 ≡ r.0)
+  replies_by : (op : Op V) (hs : List (Held V)) (i : ℕ) (f : Reply V × Held V → Reply V × Contents V)
+      → ((r : Reply V × Held V) → (f r).0 ≡ r.0)
       → option_map (λ r. r.0) (option_and_then (λ h. option_map f (held_call op h)) (slice_get hs i)) ≡ reply_at hs i op
   replies_by op [] i f e = refl
   replies_by op (h ∷ hs) zero f e = by (held_call op h)
@@ -246,7 +255,8 @@ module _ {V : Type 0} where
       → (reply_of (record { target = t; op = op }) s ≡ reply_at s.held t op)
       × (after_call (record { target = t; op = op }) s ≡ record s { held = collections.after_call s.held t op })
   on_collection op t s h = (
-    ap (option_map (λ r. r.0)) (at_collection op t s h) ∙ replies_by op s.held t (λ r. (r.0, record s { held = slice_set s.held t r.1 })) (λ r. refl),
+    ap (option_map (λ r. r.0)) (at_collection op t s h) ∙ replies_by op s.held t (λ r. (r.0, record s { held = slice_set s.held t r.1 }))
+        (λ r. refl),
     ap (λ o. option_map_or (λ (a : Reply V × Contents V). a.1) o s) (at_collection op t s h) ∙ state_by op t s (slice_get s.held t)
         ∙ ap (λ (hs : List (Held V)). let u : Contents V = record { words = s.words; held = hs } in u) (sym (after_by op s.held t)),
   )
@@ -271,7 +281,8 @@ module _ {V : Type 0} where
     count = length-set s.words l v ∙ a.count;
     same = λ k below.
         elim (cases_eq k l) [
-          | inl e ↦ ap (λ i. get_or (set s.words l v) i 0) e ∙ get_or-set_same s.words l v 0 (omega (arith, lt, a.count)) ∙ sym (put-same m l v)
+          | inl e ↦ ap (λ i. get_or (set s.words l v) i 0) e ∙ get_or-set_same s.words l v 0 (omega (arith, lt, a.count))
+              ∙ sym (put-same m l v)
               ∙ ap (put m l v) (sym e)
           | inr ne ↦ get_or-set_other s.words l k v 0 ne ∙ a.same k below ∙ sym (put-other m l v k ne)
         ];
@@ -281,7 +292,8 @@ module _ {V : Type 0} where
   -- ---- a transaction
   -- the first of its calls, on a word or on a collection
   data First (c : Call V × Reply V) (done : List (Call V × Reply V)) (vs : List machine.Call) (os : List (Answered V)) : Type 0 where
-    OnWord : (v : machine.Call) → (us : List machine.Call) → vs ≡ v ∷ us → c ≡ pair_of v → on_words done ≡ map pair_of us → Told (on_held done) os
+    OnWord : (v : machine.Call) → (us : List machine.Call) → vs ≡ v ∷ us → c ≡ pair_of v → on_words done ≡ map pair_of us
+        → Told (on_held done) os
         → First c done vs os
     OnHeld : (o : Answered V) → (ps : List (Answered V)) → os ≡ o ∷ ps → is_on_word c ≡ false → c.0 ≡ worlds.call_of o
         → option_map (λ r. r.reply) o.outcome ≡ Some c.1
@@ -303,14 +315,17 @@ module _ {V : Type 0} where
       on_a_word [] e t = absurd (no_cons c (on_words done) e)
       on_a_word (v ∷ us) e t = let h = heads c (pair_of v) (on_words done) (map pair_of us) e in OnWord v us refl h.0 h.1 t
 
-      on_one : (ps : List (Answered V)) → on_words done ≡ map pair_of vs → Told (c ∷ on_held done) ps → is_on_word c ≡ false → First c done vs ps
+      on_one : (ps : List (Answered V)) → on_words done ≡ map pair_of vs → Told (c ∷ on_held done) ps → is_on_word c ≡ false
+          → First c done vs ps
       on_one [] e t isnt = absurd t
       on_one (o ∷ ps) e t isnt = OnHeld o ps refl isnt t.0 t.1 e t.2
 
   -- what a call on a collection leaves, seen from the collections
-  held_after : (n : ℕ) (hs : List (Held V)) (m : Memory) (s : Contents V) (c : Call V) (o : Answered V) → Agrees n hs m s → is_word_op c.op ≡ false
+  held_after : (n : ℕ) (hs : List (Held V)) (m : Memory) (s : Contents V) (c : Call V) (o : Answered V) → Agrees n hs m s
+      → is_word_op c.op ≡ false
       → c ≡ worlds.call_of o
-      → (reply_of c s ≡ reply_at hs o.asked.collection o.asked.op) × Agrees n (collections.after_call hs o.asked.collection o.asked.op) m (after_call c s)
+      → (reply_of c s ≡ reply_at hs o.asked.collection o.asked.op) × Agrees n (collections.after_call hs o.asked.collection o.asked.op) m
+      (after_call c s)
   held_after n hs m s c o a isnt e =
       let k = on_collection c.op c.target s isnt in
       let same_op : c.op ≡ o.asked.op = ap (λ (x : Call V). x.op) e in
@@ -322,7 +337,8 @@ module _ {V : Type 0} where
             (let z : Agrees n (collections.after_call hs o.asked.collection o.asked.op) m u = record {
               count = a.count;
               same = a.same;
-              held = ap (λ (gs : List (Held V)). collections.after_call gs c.target c.op) a.held ∙ ap (λ i. collections.after_call hs i c.op) same_target
+              held = ap (λ (gs : List (Held V)). collections.after_call gs c.target c.op) a.held
+                  ∙ ap (λ i. collections.after_call hs i c.op) same_target
                   ∙ ap (collections.after_call hs o.asked.collection) same_op;
             } in z),
       )
@@ -332,16 +348,20 @@ module _ {V : Type 0} where
       → Agrees n hs (after m (v ∷ [])) (after_call (pair_of v).0 s)
   unfolding after
   word_after n hs m s (machine.Read l v) a w =
-      subst (Agrees n hs m) (sym (answered (record { target = l; op = Read }) s s (Number (m l)) (read_answers n hs m s l (m l) a w.0 refl)).1) a
+      subst (Agrees n hs m) (sym
+      (answered (record { target = l; op = Read }) s s (Number (m l)) (read_answers n hs m s l (m l) a w.0 refl)).1) a
   word_after n hs m s (machine.Write l v) a w =
       subst (Agrees n hs (put m l v)) (sym (answered (record { target = l; op = Write v }) s (record s { words = set s.words l v }) Done
       (write_answers n hs m s l v a w.0)).1) (written n hs m s l v a w.0)
 
-  word_replies : (n : ℕ) (hs : List (Held V)) (m : Memory) (s : Contents V) (v : machine.Call) → Agrees n hs m s → Within n (v ∷ []) → IsLegal m (v ∷ [])
+  word_replies : (n : ℕ) (hs : List (Held V)) (m : Memory) (s : Contents V) (v : machine.Call) → Agrees n hs m s → Within n (v ∷ [])
+      → IsLegal m (v ∷ [])
       → reply_of (pair_of v).0 s ≡ Some (pair_of v).1
   unfolding IsLegal
-  word_replies n hs m s (machine.Read l v) a w g = (answered (record { target = l; op = Read }) s s (Number v) (read_answers n hs m s l v a w.0 g.0)).0
-  word_replies n hs m s (machine.Write l v) a w g = (answered (record { target = l; op = Write v }) s (record s { words = set s.words l v }) Done
+  word_replies n hs m s (machine.Read l v) a w g = (answered (record { target = l; op = Read }) s s (Number v)
+      (read_answers n hs m s l v a w.0 g.0)).0
+  word_replies n hs m s (machine.Write l v) a w g = (answered (record { target = l; op = Write v }) s
+      (record s { words = set s.words l v }) Done
       (write_answers n hs m s l v a w.0)).0
 
   mixed_after : (n : ℕ) (done : List (Call V × Reply V)) (vs : List machine.Call) (os : List (Answered V)) (hs : List (Held V)) (m : Memory)
@@ -389,14 +409,16 @@ module _ {V : Type 0} where
       ]
 
   -- a transaction is legal where its parts are
-  pub both_legal : (n : ℕ) (done : List (Call V × Reply V)) (cs : List machine.Call) (os : List (Answered V)) (hs : List (Held V)) (m : Memory)
+  pub both_legal : (n : ℕ) (done : List (Call V × Reply V)) (cs : List machine.Call) (os : List (Answered V)) (hs : List (Held V))
+      (m : Memory)
       (s : Contents V) → Agrees n hs m s
       → Parts n done cs os → IsLegal m cs → AreReplies hs os → AreLegal done s
   both_legal n done cs os hs m s a p g r =
       mixed_legal n done (word_calls n cs) os hs m s a (are_within n cs) p.words p.held (words_legal n cs m m (λ l lt. refl) g) r
 
   -- and leaves what they leave
-  pub both_after : (n : ℕ) (done : List (Call V × Reply V)) (cs : List machine.Call) (os : List (Answered V)) (hs : List (Held V)) (m : Memory)
+  pub both_after : (n : ℕ) (done : List (Call V × Reply V)) (cs : List machine.Call) (os : List (Answered V)) (hs : List (Held V))
+      (m : Memory)
       (s : Contents V) → Agrees n hs m s
       → Parts n done cs os → Agrees n (collections.after_calls hs os) (after m cs) (after_calls done s)
   both_after n done cs os hs m s a p =
@@ -421,7 +443,8 @@ module _ {V : Type 0} where
       → comes_before r x ≡ world.comes_before q.word y.word
   unfolding world.comes_before
   same_place n r x q y h g =
-      ap (λ i. place i x.1.number r.1.writes x.1.writes r.0 x.0) h.number ∙ ap (λ i. place q.word.number i r.1.writes x.1.writes r.0 x.0) g.number
+      ap (λ i. place i x.1.number r.1.writes x.1.writes r.0 x.0) h.number
+      ∙ ap (λ i. place q.word.number i r.1.writes x.1.writes r.0 x.0) g.number
       ∙ ap (λ b. place q.word.number y.word.number b x.1.writes r.0 x.0) h.writes
       ∙ ap (λ b. place q.word.number y.word.number q.word.writer b r.0 x.0) g.writes
       ∙ ap (λ i. place q.word.number y.word.number q.word.writer y.word.writer i x.0) h.actor
@@ -461,7 +484,8 @@ module _ {V : Type 0} where
   late : (n : ℕ) (r x : ℕ × Record V) (q y : Committed (Answered V)) → SameRecord n r q → SameRecord n x y → InOrder q.word y.word
       → comes_before x r ≡ false
   unfolding world.comes_before
-  late n r x q y h g o = same_place n x r y q g h ∙ after_it y.word.number q.word.number y.word.writer q.word.writer y.word.actor q.word.actor o.0
+  late n r x q y h g o = same_place n x r y q g h
+      ∙ after_it y.word.number q.word.number y.word.writer q.word.writer y.word.actor q.word.actor o.0
       (λ e. o.1 (sym e)) (λ e. o.2 (sym e))
     where
       early : (i j : ℕ) → j ≤ i → nat_lt i j ≡ true → ⊥
@@ -487,20 +511,23 @@ module _ {V : Type 0} where
             ]
           ]
 
-  none_before : (n : ℕ) (r : ℕ × Record V) (q : Committed (Answered V)) (rs : List (ℕ × Record V)) (qs : List (Committed (Answered V))) → SameRecord n r q
+  none_before : (n : ℕ) (r : ℕ × Record V) (q : Committed (Answered V)) (rs : List (ℕ × Record V)) (qs : List (Committed (Answered V)))
+      → SameRecord n r q
       → SameRecords n rs qs
       → AllFrom q.word (words qs) → NoneComesBefore r rs
   none_before n r q [] qs h g o = tt
   none_before n r q (x ∷ rs) [] h g o = absurd g
   none_before n r q (x ∷ rs) (y ∷ qs) h g o = (late n r x q y h g.0 o.0, none_before n r q rs qs h g.1 o.1)
 
-  pub order_too : (n : ℕ) (rs : List (ℕ × Record V)) (qs : List (Committed (Answered V))) → SameRecords n rs qs → IsInOrder (words qs) → IsInCommitOrder rs
+  pub order_too : (n : ℕ) (rs : List (ℕ × Record V)) (qs : List (Committed (Answered V))) → SameRecords n rs qs → IsInOrder (words qs)
+      → IsInCommitOrder rs
   order_too n [] qs g o = tt
   order_too n (r ∷ rs) [] g o = absurd g
   order_too n (r ∷ rs) (q ∷ qs) g o = (none_before n r q rs qs g.0 g.1 o.0, order_too n rs qs g.1 o.1)
 
   -- ---- runs
-  pub runs_agree : (n : ℕ) (rs : List (ℕ × Record V)) (qs : List (Committed (Answered V))) (hs : List (Held V)) (m : Memory) (s : Contents V)
+  pub runs_agree : (n : ℕ) (rs : List (ℕ × Record V)) (qs : List (Committed (Answered V))) (hs : List (Held V)) (m : Memory)
+      (s : Contents V)
       → Agrees n hs m s → SameRecords n rs qs
       → Agrees n (collections.after_run hs qs) (memory_after m (words qs)) (after_run rs s)
   unfolding memory_after
@@ -511,7 +538,8 @@ module _ {V : Type 0} where
       runs_agree n rs qs (collections.after_calls hs q.outcomes) (after m q.word.calls) (after_calls x.1.calls s)
       (both_after n x.1.calls q.word.calls q.outcomes hs m s a g.0.parts) g.1
 
-  pub run_too : (n : ℕ) (rs : List (ℕ × Record V)) (qs : List (Committed (Answered V))) (hs : List (Held V)) (m : Memory) (s : Contents V) → Agrees n hs m s
+  pub run_too : (n : ℕ) (rs : List (ℕ × Record V)) (qs : List (Committed (Answered V))) (hs : List (Held V)) (m : Memory) (s : Contents V)
+      → Agrees n hs m s
       → SameRecords n rs qs
       → IsRun m (words qs) → IsRunOn hs qs → IsRunOf rs s
   unfolding IsRun
@@ -524,7 +552,8 @@ module _ {V : Type 0} where
   )
 
   -- what the records up to a number leave
-  pub at_number : (n k : ℕ) (rs : List (ℕ × Record V)) (qs : List (Committed (Answered V))) (hs : List (Held V)) (m : Memory) (s : Contents V)
+  pub at_number : (n k : ℕ) (rs : List (ℕ × Record V)) (qs : List (Committed (Answered V))) (hs : List (Held V)) (m : Memory)
+      (s : Contents V)
       → Agrees n hs m s → SameRecords n rs qs
       → Agrees n (held_at qs k hs) (memory_after m (upto k (words qs))) (state_at k rs s)
   unfolding memory_after upto
@@ -533,7 +562,8 @@ module _ {V : Type 0} where
   at_number n k (x ∷ rs) [] hs m s a g = absurd g
   at_number n k (x ∷ rs) (q ∷ qs) hs m s a g =
       let rest : List (ℕ × Record V) = filter (λ (r : ℕ × Record V). nat_le r.1.number k) rs in
-      subst (λ i. Agrees n (held_at (q ∷ qs) k hs) (memory_after m (upto k (words (q ∷ qs)))) (after_run (cond (nat_le i k) (x ∷ rest) rest) s))
+      subst (λ i. Agrees n (held_at (q ∷ qs) k hs) (memory_after m (upto k (words (q ∷ qs))))
+      (after_run (cond (nat_le i k) (x ∷ rest) rest) s))
       (sym g.0.number)
       (elim (nat_le q.word.number k) as (λ b. Agrees n (held_at qs k (cond b (collections.after_calls hs q.outcomes) hs))
       (memory_after m (cond b (q.word ∷ upto k (words qs)) (upto k (words qs)))) (after_run (cond b (x ∷ rest) rest) s)) [

@@ -41,7 +41,8 @@ module _ {V C Q A : Type 0} (r : Rules V C Q A) (laws : FrameLaws r) (p : Partin
   same_one n l s t same =
       laws.parts_decide _ _ (λ q. p.look_one n l s q ∙ elim (cases_eq (r.place n q) l) [
         | inl on ↦ ap (λ x. cond (eqb (r.place n q) l) x (p.none q)) (same q on)
-        | inr off ↦ cond-false (eqb (r.place n q) l) (r.look s q) (p.none q) (ne_eqb (r.place n q) l off) ∙ sym (cond-false (eqb (r.place n q) l) (r.look t q) (p.none q) (ne_eqb (r.place n q) l off))
+        | inr off ↦ cond-false (eqb (r.place n q) l) (r.look s q) (p.none q) (ne_eqb (r.place n q) l off)
+            ∙ sym (cond-false (eqb (r.place n q) l) (r.look t q) (p.none q) (ne_eqb (r.place n q) l off))
       ] ∙ sym (p.look_one n l t q))
 
   pub whole_of_parts : (n : ℕ) (s : C) → 0 < n → p.all n (λ l. p.one n l s) ≡ s
@@ -49,22 +50,27 @@ module _ {V C Q A : Type 0} (r : Rules V C Q A) (laws : FrameLaws r) (p : Partin
 
   same_at : (n l : ℕ) (v w : ℕ → C) → 0 < n → v l ≡ w l → (q : Q) → r.place n q ≡ l → r.look (p.all n v) q ≡ r.look (p.all n w) q
   same_at n l v w pos same q on =
-      p.look_all n v q pos ∙ ap (λ i. r.look (v i) q) on ∙ ap (λ s. r.look s q) same ∙ ap (λ i. r.look (w i) q) (sym on) ∙ sym (p.look_all n w q pos)
+      p.look_all n v q pos ∙ ap (λ i. r.look (v i) q) on ∙ ap (λ s. r.look s q) same ∙ ap (λ i. r.look (w i) q) (sym on)
+      ∙ sym (p.look_all n w q pos)
 
-  pub answers : (n : ℕ) (op : Op V) (v w : ℕ → C) (o : Outcome V) → 0 < n → r.outcome op (p.all n v) ≡ Some o → ((l : ℕ) → Contains (r.reads n o) l → v l ≡ w l) → r.outcome op (p.all n w) ≡ Some o
+  pub answers : (n : ℕ) (op : Op V) (v w : ℕ → C) (o : Outcome V) → 0 < n → r.outcome op (p.all n v) ≡ Some o
+      → ((l : ℕ) → Contains (r.reads n o) l → v l ≡ w l) → r.outcome op (p.all n w) ≡ Some o
   answers n op v w o pos is same = laws.legal n op (p.all n v) (p.all n w) o pos is (λ l c. same_at n l v w pos (same l c))
 
   -- a whole depends on the parts of its locations
   pub all_local : (n : ℕ) (v w : ℕ → C) → 0 < n → ((l : ℕ) → l < r.locations n → v l ≡ w l) → p.all n v ≡ p.all n w
   all_local n v w pos same =
-      laws.parts_decide _ _ (λ q. p.look_all n v q pos ∙ ap (λ s. r.look s q) (same (r.place n q) (laws.points_below n q pos)) ∙ sym (p.look_all n w q pos))
+      laws.parts_decide _ _ (λ q. p.look_all n v q pos ∙ ap (λ s. r.look s q) (same (r.place n q) (laws.points_below n q pos))
+      ∙ sym (p.look_all n w q pos))
 
   pub leaves : (n l : ℕ) (o : Outcome V) (s : C) → ¬ Contains (r.writes n o) l → p.one n l (applied r (r.changes o) s) ≡ p.one n l s
   leaves n l o s other = sym (same_one n l s (applied r (r.changes o) s) (laws.untouched n l o s other))
 
-  pub by_part : (n l : ℕ) (changes : List (Change V)) (v w : ℕ → C) → 0 < n → v l ≡ w l → p.one n l (applied r changes (p.all n v)) ≡ p.one n l (applied r changes (p.all n w))
+  pub by_part : (n l : ℕ) (changes : List (Change V)) (v w : ℕ → C) → 0 < n → v l ≡ w l → p.one n l (applied r changes (p.all n v))
+      ≡ p.one n l (applied r changes (p.all n w))
   by_part n l changes v w pos same =
-      same_one n l (applied r changes (p.all n v)) (applied r changes (p.all n w)) (changes_by_part r laws n l changes (p.all n v) (p.all n w) (same_at n l v w pos same))
+      same_one n l (applied r changes (p.all n v)) (applied r changes (p.all n w))
+      (changes_by_part r laws n l changes (p.all n v) (p.all n w) (same_at n l v w pos same))
 
 some_if : (b : Bool) (x y : ℕ) → Some (cond b x y) ≡ cond b (Some x) (Some y)
 some_if true x y = refl
@@ -106,17 +112,26 @@ abbrev pq_parting : (V : Type 0) → Parting (pq.rules V)
 pq_parting V = record { one = pq_one; all = pq_all; none = λ q. None; look_one = pq_look_one; look_all = pq_look_all }
 
 abbrev queue_one : ℕ → ℕ → queue.Shown → queue.Shown
-queue_one n l s = record { cells = kept (cell_place n) l s.cells; head = cond (eqb head_place l) s.head 0; tail = cond (eqb tail_place l) s.tail 0 }
+queue_one n l s = record {
+  cells = kept (cell_place n) l s.cells;
+  head = cond (eqb head_place l) s.head 0;
+  tail = cond (eqb tail_place l) s.tail 0;
+}
 
 abbrev queue_all : ℕ → (ℕ → queue.Shown) → queue.Shown
-queue_all n v = record { cells = joined (cell_place n) (suc (suc n)) (λ l. (v l).cells); head = (v head_place).head; tail = (v tail_place).tail }
+queue_all n v = record {
+  cells = joined (cell_place n) (suc (suc n)) (λ l. (v l).cells);
+  head = (v head_place).head;
+  tail = (v tail_place).tail;
+}
 
 abbrev queue_none : ℕ → Option ℕ
 queue_none zero = Some 0
 queue_none (suc zero) = Some 0
 queue_none (suc (suc index)) = None
 
-queue_look_one : (n l : ℕ) (s : queue.Shown) (q : ℕ) → queue.look (queue_one n l s) q ≡ cond (eqb (queue.place n q) l) (queue.look s q) (queue_none q)
+queue_look_one : (n l : ℕ) (s : queue.Shown) (q : ℕ) → queue.look (queue_one n l s) q ≡ cond (eqb (queue.place n q) l) (queue.look s q)
+    (queue_none q)
 queue_look_one n l s zero = some_if (eqb head_place l) s.head 0
 queue_look_one n l s (suc zero) = some_if (eqb tail_place l) s.tail 0
 queue_look_one n l s (suc (suc index)) = get_kept (cell_place n) l s.cells index
@@ -124,7 +139,8 @@ queue_look_one n l s (suc (suc index)) = get_kept (cell_place n) l s.cells index
 queue_look_all : (n : ℕ) (v : ℕ → queue.Shown) (q : ℕ) → 0 < n → queue.look (queue_all n v) q ≡ queue.look (v (queue.place n q)) q
 queue_look_all n v zero pos = refl
 queue_look_all n v (suc zero) pos = refl
-queue_look_all n v (suc (suc index)) pos = get_joined (cell_place n) (suc (suc n)) (λ l. (v l).cells) index (let lt = mod-lt index pos in omega (arith, lt))
+queue_look_all n v (suc (suc index)) pos = get_joined (cell_place n) (suc (suc n)) (λ l. (v l).cells) index
+    (let lt = mod-lt index pos in omega (arith, lt))
 
 abbrev queue_parting : (V : Type 0) → Parting (queue.rules V)
 queue_parting V = record { one = queue_one; all = queue_all; none = queue_none; look_one = queue_look_one; look_all = queue_look_all }
@@ -172,10 +188,14 @@ module _ {V : Type 0} where
   is_whole n (OfQueue s) pos = ap OfQueue (whole_of_parts (queue.rules V) queue_laws.laws (queue_parting V) n s pos)
 
   pub answers_by_parts : AnswersByParts V
-  answers_by_parts n MapKind op v w o pos is same = answers (map.rules V) map_laws.laws (map_parting V) n op (λ l. as_map (v l)) (λ l. as_map (w l)) o pos is (λ l c. ap as_map (same l c))
-  answers_by_parts n BagKind op v w o pos is same = answers (bag.rules V) bag_laws.laws (bag_parting V) n op (λ l. as_bag (v l)) (λ l. as_bag (w l)) o pos is (λ l c. ap as_bag (same l c))
-  answers_by_parts n PqKind op v w o pos is same = answers (pq.rules V) pq_laws.laws (pq_parting V) n op (λ l. as_pq (v l)) (λ l. as_pq (w l)) o pos is (λ l c. ap as_pq (same l c))
-  answers_by_parts n QueueKind op v w o pos is same = answers (queue.rules V) queue_laws.laws (queue_parting V) n op (λ l. as_queue (v l)) (λ l. as_queue (w l)) o pos is (λ l c. ap as_queue (same l c))
+  answers_by_parts n MapKind op v w o pos is same = answers (map.rules V) map_laws.laws (map_parting V) n op (λ l. as_map (v l))
+      (λ l. as_map (w l)) o pos is (λ l c. ap as_map (same l c))
+  answers_by_parts n BagKind op v w o pos is same = answers (bag.rules V) bag_laws.laws (bag_parting V) n op (λ l. as_bag (v l))
+      (λ l. as_bag (w l)) o pos is (λ l c. ap as_bag (same l c))
+  answers_by_parts n PqKind op v w o pos is same = answers (pq.rules V) pq_laws.laws (pq_parting V) n op (λ l. as_pq (v l))
+      (λ l. as_pq (w l)) o pos is (λ l c. ap as_pq (same l c))
+  answers_by_parts n QueueKind op v w o pos is same = answers (queue.rules V) queue_laws.laws (queue_parting V) n op (λ l. as_queue (v l))
+      (λ l. as_queue (w l)) o pos is (λ l c. ap as_queue (same l c))
 
   pub leaves_other_parts : LeavesOtherParts V
   leaves_other_parts n l o (OfMap s) other = ap OfMap (leaves (map.rules V) map_laws.laws (map_parting V) n l o s other)
@@ -184,13 +204,23 @@ module _ {V : Type 0} where
   leaves_other_parts n l o (OfQueue s) other = ap OfQueue (leaves (queue.rules V) queue_laws.laws (queue_parting V) n l o s other)
 
   pub parts_by_part : ChangesByPart V
-  parts_by_part n l MapKind cs v w pos same = ap OfMap (by_part (map.rules V) map_laws.laws (map_parting V) n l cs (λ i. as_map (v i)) (λ i. as_map (w i)) pos (ap as_map same))
-  parts_by_part n l BagKind cs v w pos same = ap OfBag (by_part (bag.rules V) bag_laws.laws (bag_parting V) n l cs (λ i. as_bag (v i)) (λ i. as_bag (w i)) pos (ap as_bag same))
-  parts_by_part n l PqKind cs v w pos same = ap OfPq (by_part (pq.rules V) pq_laws.laws (pq_parting V) n l cs (λ i. as_pq (v i)) (λ i. as_pq (w i)) pos (ap as_pq same))
-  parts_by_part n l QueueKind cs v w pos same = ap OfQueue (by_part (queue.rules V) queue_laws.laws (queue_parting V) n l cs (λ i. as_queue (v i)) (λ i. as_queue (w i)) pos (ap as_queue same))
+  parts_by_part n l MapKind cs v w pos same = ap OfMap
+      (by_part (map.rules V) map_laws.laws (map_parting V) n l cs (λ i. as_map (v i)) (λ i. as_map (w i)) pos (ap as_map same))
+  parts_by_part n l BagKind cs v w pos same = ap OfBag
+      (by_part (bag.rules V) bag_laws.laws (bag_parting V) n l cs (λ i. as_bag (v i)) (λ i. as_bag (w i)) pos (ap as_bag same))
+  parts_by_part n l PqKind cs v w pos same = ap OfPq
+      (by_part (pq.rules V) pq_laws.laws (pq_parting V) n l cs (λ i. as_pq (v i)) (λ i. as_pq (w i)) pos (ap as_pq same))
+  parts_by_part n l QueueKind cs v w pos same = ap OfQueue
+      (by_part (queue.rules V) queue_laws.laws (queue_parting V) n l cs (λ i. as_queue (v i)) (λ i. as_queue (w i)) pos (ap as_queue same))
 
   pub whole_local : (n : ℕ) (k : Kind) (v w : ℕ → Shown V) → 0 < n → ((l : ℕ) → l < size_by k n → v l ≡ w l) → whole n k v ≡ whole n k w
-  whole_local n MapKind v w pos same = ap OfMap (all_local (map.rules V) map_laws.laws (map_parting V) n (λ l. as_map (v l)) (λ l. as_map (w l)) pos (λ l lt. ap as_map (same l lt)))
-  whole_local n BagKind v w pos same = ap OfBag (all_local (bag.rules V) bag_laws.laws (bag_parting V) n (λ l. as_bag (v l)) (λ l. as_bag (w l)) pos (λ l lt. ap as_bag (same l lt)))
-  whole_local n PqKind v w pos same = ap OfPq (all_local (pq.rules V) pq_laws.laws (pq_parting V) n (λ l. as_pq (v l)) (λ l. as_pq (w l)) pos (λ l lt. ap as_pq (same l (omega (arith, lt)))))
-  whole_local n QueueKind v w pos same = ap OfQueue (all_local (queue.rules V) queue_laws.laws (queue_parting V) n (λ l. as_queue (v l)) (λ l. as_queue (w l)) pos (λ l lt. ap as_queue (same l (omega (arith, lt)))))
+  whole_local n MapKind v w pos same = ap OfMap
+      (all_local (map.rules V) map_laws.laws (map_parting V) n (λ l. as_map (v l)) (λ l. as_map (w l)) pos (λ l lt. ap as_map (same l lt)))
+  whole_local n BagKind v w pos same = ap OfBag
+      (all_local (bag.rules V) bag_laws.laws (bag_parting V) n (λ l. as_bag (v l)) (λ l. as_bag (w l)) pos (λ l lt. ap as_bag (same l lt)))
+  whole_local n PqKind v w pos same = ap OfPq
+      (all_local (pq.rules V) pq_laws.laws (pq_parting V) n (λ l. as_pq (v l)) (λ l. as_pq (w l)) pos
+      (λ l lt. ap as_pq (same l (omega (arith, lt)))))
+  whole_local n QueueKind v w pos same = ap OfQueue
+      (all_local (queue.rules V) queue_laws.laws (queue_parting V) n (λ l. as_queue (v l)) (λ l. as_queue (w l)) pos
+      (λ l lt. ap as_queue (same l (omega (arith, lt)))))

@@ -84,9 +84,11 @@ look_after l k y (Free j) e =
     ]
 look_after l k y (Locked j) e = refl
 
-again_after : (l k i v : ℕ) (y : Actor) (found : LockWord) → k ≡ l → AfterRead l y (machine.seen_again y k i v found) (again_notice k i v found)
+again_after : (l k i v : ℕ) (y : Actor) (found : LockWord) → k ≡ l → AfterRead l y (machine.seen_again y k i v found)
+    (again_notice k i v found)
 again_after l k i v y (Free j) e =
-    elim (eqb j i) as (λ b. AfterRead l y (cond b (machine.has_read y k v) (goes y machine.Undo)) (cond b (told.Number v) (told.Moved k (bits (Free j))))) [
+    elim (eqb j i) as (λ b. AfterRead l y (cond b (machine.has_read y k v) (goes y machine.Undo))
+    (cond b (told.Number v) (told.Moved k (bits (Free j))))) [
       | true ↦ ap (λ m. machine.has_read y m v) e
       | false ↦ refl
     ]
@@ -106,7 +108,8 @@ AfterLock y z (told.Busy l w) = z ≡ goes y machine.Broken
 AfterLock y z (told.Invalid l w) = z ≡ goes y machine.Broken
 AfterLock y z n = ⊥
 
-stamped_after : (y : Actor) (number : ℕ) (ls : List ℕ) → AfterLock y (record y { place = machine.Check ls; wv = number }) (when_none_left ls (told.LockedAt number))
+stamped_after : (y : Actor) (number : ℕ) (ls : List ℕ) → AfterLock y (record y { place = machine.Check ls; wv = number })
+    (when_none_left ls (told.LockedAt number))
 stamped_after y number [] = (refl, refl, record { declared = refl; rv = refl; reads = refl; writes = refl; calls = refl })
 stamped_after y number (l ∷ ls) = (tt, record { declared = refl; rv = refl; reads = refl; writes = refl; calls = refl })
 
@@ -114,10 +117,12 @@ to_lock_after : (y : Actor) (l : ℕ) (ls : List ℕ) (found : LockWord) → Aft
 to_lock_after y l ls (Free k) = (tt, same_tx y (machine.Take l k ls))
 to_lock_after y l ls (Locked k) = refl
 
-take_after : (y : Actor) (l k : ℕ) (ls : List ℕ) (found : LockWord) → AfterLock y (exchanges k (machine.taken y l k ls) (goes y machine.Broken) found)
+take_after : (y : Actor) (l k : ℕ) (ls : List ℕ) (found : LockWord)
+    → AfterLock y (exchanges k (machine.taken y l k ls) (goes y machine.Broken) found)
     (take_notice l k found)
 take_after y l k ls (Free j) =
-    elim (eqb j k) as (λ b. AfterLock y (cond b (machine.taken y l k ls) (goes y machine.Broken)) (cond b told.Quiet (told.Busy l (bits (Free j))))) [
+    elim (eqb j k) as (λ b. AfterLock y (cond b (machine.taken y l k ls) (goes y machine.Broken))
+    (cond b told.Quiet (told.Busy l (bits (Free j))))) [
       | true ↦ (tt, record { declared = refl; rv = refl; reads = refl; writes = refl; calls = refl })
       | false ↦ refl
     ]
@@ -172,7 +177,8 @@ AfterRelease y z told.Quiet = (z.place ≡ machine.Release) × (z.wv ≡ y.wv)
 AfterRelease y z told.Released = z.place ≡ machine.Idle
 AfterRelease y z n = ⊥
 
-pub release_after : (s : World) (y : Actor) (h : Entries) → IsSomeEntry h → AfterRelease y (learns s y (world.release y h)) (last_notice h told.Released)
+pub release_after : (s : World) (y : Actor) (h : Entries) → IsSomeEntry h → AfterRelease y (learns s y (world.release y h))
+    (last_notice h told.Released)
 release_after s y [] some = absurd some
 release_after s y (d ∷ []) some = refl
 release_after s y (d ∷ (e ∷ es)) some = (refl, refl)
@@ -182,7 +188,8 @@ AfterUndo y z told.Quiet = (z.place ≡ machine.Undo) × IsSomeEntry z.held × S
 AfterUndo y z told.Cancelled = (z.place ≡ machine.Undo) × (z.held ≡ []) × SameTx y z
 AfterUndo y z n = ⊥
 
-pub undo_after : (s : World) (y : Actor) (h : Entries) → IsSomeEntry h → AfterUndo y (learns s y (world.undo y h)) (last_notice h told.Cancelled)
+pub undo_after : (s : World) (y : Actor) (h : Entries) → IsSomeEntry h → AfterUndo y (learns s y (world.undo y h))
+    (last_notice h told.Cancelled)
 undo_after s y [] some = absurd some
 undo_after s y (d ∷ []) some = (refl, refl, record { declared = refl; rv = refl; reads = refl; writes = refl; calls = refl })
 undo_after s y (d ∷ (e ∷ es)) some = (refl, tt, record { declared = refl; rv = refl; reads = refl; writes = refl; calls = refl })

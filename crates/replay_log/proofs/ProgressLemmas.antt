@@ -1,5 +1,6 @@
--- Each own step of a request answers it or brings it nearer to its answer: the measure of its stage and of its actor's record falls. One lemma for each
--- function of the definition that a step leads to; what the machine's actor is after the step is known from the lemmas on actions.
+-- Each own step of a request answers it or brings it nearer to its answer: the measure of its stage and of its actor's record falls. One
+-- lemma for each function of the definition that a step leads to; what the machine's actor is after the step is known from the lemmas on
+-- actions.
 use Rattle.std.proofs.Common.{◌≡◌, ℕ, zero, suc, ◌+◌, ◌*◌, ◌<◌, ◌≤◌, Bool, true, false, cond, ◌&&◌, List, [], ◌∷◌, ◌++◌, length, filter, Option, Some, None, inl, inr, refl, sym, ◌∙◌, ap, subst, arith, eqb}
 use Rattle.std.specs.Prelude.{nat_lt, nat_le, not, if◌then◌else◌}
 use Rattle.std.proofs.lemmas.Bool.{cases_eq, cond-true, cond-false, cond_both}
@@ -92,7 +93,8 @@ length-push : {A : Type 0} (xs : List A) (x : A) → length (xs ++ x ∷ []) ≡
 length-push [] x = refl
 length-push (y ∷ xs) x = let e = length-push xs x in omega (arith, e)
 
-stamped_nears : (y : Actor) (number : ℕ) (ls : List ℕ) → length ls ≤ length y.reads → NearsLock (lock_left y (machine.Lock [])) (record y { place = machine.Check ls; wv = number }) (when_none_left ls (told.LockedAt number))
+stamped_nears : (y : Actor) (number : ℕ) (ls : List ℕ) → length ls ≤ length y.reads → NearsLock (lock_left y (machine.Lock []))
+    (record y { place = machine.Check ls; wv = number }) (when_none_left ls (told.LockedAt number))
 stamped_nears y number [] few = omega arith
 stamped_nears y number (l ∷ ls) few = omega (arith, few)
 
@@ -102,7 +104,8 @@ few_to_check y number =
     let all = length-locations y.reads in
     cond_both (eqb (y.rv + 1) number) [] (locations y.reads) (λ ls. length ls ≤ length y.reads) (λ _. omega arith) (λ _. omega (arith, all))
 
-to_lock_nears : (y : Actor) (l : ℕ) (ls : List ℕ) (found : LockWord) → NearsLock (lock_left y (machine.Lock (l ∷ ls))) (machine.seen_to_lock y l ls found)
+to_lock_nears : (y : Actor) (l : ℕ) (ls : List ℕ) (found : LockWord) → NearsLock (lock_left y (machine.Lock (l ∷ ls)))
+    (machine.seen_to_lock y l ls found)
     (lock_notice l found)
 to_lock_nears y l ls (Free k) = omega arith
 to_lock_nears y l ls (Locked k) = omega arith
@@ -125,13 +128,15 @@ passed_nears y l (k ∷ ls) = omega arith
 check_nears : (y : Actor) (l : ℕ) (ls : List ℕ) (found : LockWord) (own : Option ℕ)
     → NearsLock (lock_left y (machine.Check (l ∷ ls))) (machine.seen_in_check y ls found own) (check_notice y.rv y.wv l ls found own)
 check_nears y l ls (Free k) own =
-    elim (nat_le k y.rv) as (λ b. NearsLock (lock_left y (machine.Check (l ∷ ls))) (cond b (goes y (machine.Check ls)) (goes y machine.Broken))
+    elim (nat_le k y.rv) as (λ b. NearsLock (lock_left y (machine.Check (l ∷ ls)))
+    (cond b (goes y (machine.Check ls)) (goes y machine.Broken))
     (cond b (when_none_left ls (told.LockedAt y.wv)) (told.Invalid l (bits (Free k))))) [
       | true ↦ passed_nears y l ls
       | false ↦ omega arith
     ]
 check_nears y l ls (Locked k) (Some value) =
-    elim (nat_le k y.rv) as (λ b. NearsLock (lock_left y (machine.Check (l ∷ ls))) (cond b (goes y (machine.Check ls)) (goes y machine.Broken))
+    elim (nat_le k y.rv) as (λ b. NearsLock (lock_left y (machine.Check (l ∷ ls)))
+    (cond b (goes y (machine.Check ls)) (goes y machine.Broken))
     (cond b (when_none_left ls (told.LockedAt y.wv)) (told.Invalid l (bits (Locked k))))) [
       | true ↦ passed_nears y l ls
       | false ↦ omega arith
@@ -152,21 +157,27 @@ new_fewer es l v (k ∷ ls) =
     let rest = new_fewer es l v ls in
     elim (cases_eq k l) [
       | inl same ↦
-          (let old : is_none (lookup (with_entry es l v) k) ≡ false = ap is_none (ap (lookup (with_entry es l v)) same ∙ lookup-with_entry_same es l v) in
-          let e = ap length (cond-false (is_none (lookup (with_entry es l v) k)) (k ∷ new_in (with_entry es l v) ls) (new_in (with_entry es l v) ls) old) in
-          cond_both (is_none (lookup es k)) (k ∷ new_in es ls) (new_in es ls) (λ zs. length (new_in (with_entry es l v) (k ∷ ls)) ≤ length zs)
+          (let old : is_none (lookup (with_entry es l v) k) ≡ false = ap is_none
+          (ap (lookup (with_entry es l v)) same ∙ lookup-with_entry_same es l v) in
+          let e = ap length (cond-false (is_none (lookup (with_entry es l v) k)) (k ∷ new_in (with_entry es l v) ls)
+          (new_in (with_entry es l v) ls) old) in
+          cond_both (is_none (lookup es k)) (k ∷ new_in es ls) (new_in es ls)
+          (λ zs. length (new_in (with_entry es l v) (k ∷ ls)) ≤ length zs)
           (λ _. omega (arith, rest, e)) (λ _. omega (arith, rest, e)))
       | inr other ↦
-          subst (λ o. length (cond (is_none o) (k ∷ new_in (with_entry es l v) ls) (new_in (with_entry es l v) ls)) ≤ length (new_in es (k ∷ ls)))
+          subst (λ o. length (cond (is_none o) (k ∷ new_in (with_entry es l v) ls) (new_in (with_entry es l v) ls)) ≤ length
+          (new_in es (k ∷ ls)))
           (sym (lookup-with_entry_other es l v k other))
-          (elim (is_none (lookup es k)) as (λ b. length (cond b (k ∷ new_in (with_entry es l v) ls) (new_in (with_entry es l v) ls)) ≤ length
+          (elim (is_none (lookup es k)) as
+          (λ b. length (cond b (k ∷ new_in (with_entry es l v) ls) (new_in (with_entry es l v) ls)) ≤ length
           (cond b (k ∷ new_in es ls) (new_in es ls))) [
             | true ↦ omega (arith, rest)
             | false ↦ rest
           ])
     ]
 
-pub read_fewer : (declared : Bool) (es : Entries) (l v : ℕ) (ls : List ℕ) → length (new_in (machine.with_read declared es l v) ls) ≤ length (new_in es ls)
+pub read_fewer : (declared : Bool) (es : Entries) (l v : ℕ) (ls : List ℕ)
+    → length (new_in (machine.with_read declared es l v) ls) ≤ length (new_in es ls)
 read_fewer true es l v ls = omega arith
 read_fewer false es l v ls = new_fewer es l v ls
 
@@ -256,12 +267,14 @@ kind_few V n BagKind w r h = bag_few V n r.op h
 kind_few V n PqKind w r h = pq_few V n r.op r.reply h
 kind_few V n QueueKind w r h = queue_few V n r.op r.note
 
-small_at : (bs : List Block) (k : ℕ) (b : Block) → AreSmall bs → HaveStripes bs → block_of bs k ≡ Some b → (most_by b.kind b.stripes ≤ 4096) × (0 < b.stripes)
+small_at : (bs : List Block) (k : ℕ) (b : Block) → AreSmall bs → HaveStripes bs → block_of bs k ≡ Some b
+    → (most_by b.kind b.stripes ≤ 4096) × (0 < b.stripes)
 small_at [] k b few stripes e = (let no : None ≡ Some b = e in absurd (no_block b no))
   where
     no_block : (b : Block) → None ≡ Some b → ⊥
     no_block b e = cc
-small_at (c ∷ bs) zero b few stripes e = let is : c ≡ b = some_block c b e in subst (λ (d : Block). (most_by d.kind d.stripes ≤ 4096) × (0 < d.stripes)) is (few.0, stripes.0)
+small_at (c ∷ bs) zero b few stripes e = let is : c ≡ b = some_block c b e in
+    subst (λ (d : Block). (most_by d.kind d.stripes ≤ 4096) × (0 < d.stripes)) is (few.0, stripes.0)
   where
     some_block : (c b : Block) → Some c ≡ Some b → c ≡ b
     some_block c b e = cc
@@ -270,7 +283,8 @@ small_at (c ∷ bs) (suc k) b few stripes e = small_at bs k b few.1 stripes.1 e
 call_few : (V : Type 0) (n : ℕ) (bs : List Block) (o : Answered V) → AreSmall bs → HaveStripes bs → length ((content n bs).reads o) ≤ 4096
 call_few V n bs o few stripes = by (block_of bs o.asked.collection) refl o.outcome
   where
-    by : (b : Option Block) → block_of bs o.asked.collection ≡ b → (r : Option (Outcome V)) → length (reads_in (block_of bs o.asked.collection) (first_of n bs o.asked.collection) r) ≤ 4096
+    by : (b : Option Block) → block_of bs o.asked.collection ≡ b → (r : Option (Outcome V))
+        → length (reads_in (block_of bs o.asked.collection) (first_of n bs o.asked.collection) r) ≤ 4096
     by None e r = subst (λ b. length (reads_in b (first_of n bs o.asked.collection) r) ≤ 4096) (sym e) (none_read r)
       where
         none_read : (r : Option (Outcome V)) → length (reads_in None (first_of n bs o.asked.collection) r) ≤ 4096
@@ -340,7 +354,8 @@ module _ {V : Type 0} where
             (seated_nears w2 a (at_stage x Cancelling) y2 m k2.own.actor (omega (arith, h, same)))
       ]
 
-  gives_up_nears : (w : World V) (a : ℕ) (x : Seat V) (y : Actor) (z : Copy V) (g : ℕ → Bool) (ks : List ℕ) (m : ℕ) → At w a y z g → CanLeave y.place
+  gives_up_nears : (w : World V) (a : ℕ) (x : Seat V) (y : Actor) (z : Copy V) (g : ℕ → Bool) (ks : List ℕ) (m : ℕ) → At w a y z g
+      → CanLeave y.place
       → length ks + length y.held + 2 < m → Nears a m (gives_up w a x ks)
   gives_up_nears w a x y z g [] m k leave h q = cancels_near w a x y z g m k leave (omega (arith, h))
   gives_up_nears w a x y z g (i ∷ ks) m k leave h q = seated_nears w a (at_stage x (Returning (i ∷ ks))) y m k.own.actor (omega (arith, h))
@@ -349,14 +364,17 @@ module _ {V : Type 0} where
   choose_near a m true u v h g = h refl
   choose_near a m false u v h g = g refl
 
-  same_nears : (u : World V) (a : ℕ) (x : Seat V) (y : Actor) (st : Stage V) (m : ℕ) → u.boosted.words.actors a ≡ y → u.seats a ≡ x → x.stage ≡ st
+  same_nears : (u : World V) (a : ℕ) (x : Seat V) (y : Actor) (st : Stage V) (m : ℕ) → u.boosted.words.actors a ≡ y → u.seats a ≡ x
+      → x.stage ≡ st
       → measure.left_at st y < m → left_of u a < m
   same_nears u a x y st m e seat at h =
       subst (λ (q : Seat V). measure.left_at q.stage (u.boosted.words.actors a) < m) (sym seat)
-      (subst (λ (q : Stage V). measure.left_at q (u.boosted.words.actors a) < m) (sym at) (subst (λ (q : Actor). measure.left_at st q < m) (sym e) h))
+      (subst (λ (q : Stage V). measure.left_at q (u.boosted.words.actors a) < m) (sym at)
+      (subst (λ (q : Actor). measure.left_at st q < m) (sym e) h))
 
   -- ---- reads and loads
-  has_read_nears : (u : World V) (a : ℕ) (x : Seat V) (y y2 : Actor) (z : Copy V) (g : ℕ → Bool) (l m : ℕ) (n : told.Notice) → At u a y2 z g → u.seats a ≡ x
+  has_read_nears : (u : World V) (a : ℕ) (x : Seat V) (y y2 : Actor) (z : Copy V) (g : ℕ → Bool) (l m : ℕ) (n : told.Notice)
+      → At u a y2 z g → u.seats a ≡ x
       → x.stage ≡ Reading l → y.held ≡ [] → 0 < m
       → AfterRead l y y2 n → NearsRead m y2 n → Nears a (m + 1) (has_read u a x l n)
   has_read_nears u a x y y2 z g l m told.Quiet k seat st none pos h near q = same_nears u a x y2 (Reading l) (m + 1) k.own.actor seat st
@@ -365,16 +383,20 @@ module _ {V : Type 0} where
   has_read_nears u a x y y2 z g l m (told.Moved i found) k seat st none pos h near q =
       let e = ap length none in
       let f = ap (λ (v : Actor). length v.held) h in
-      cancels_near u a (because x (refusal.Moved i found)) y2 z g (m + 1) k (subst (λ (v : Actor). CanLeave v.place) (sym h) tt) (omega (arith, e, f, pos))
+      cancels_near u a (because x (refusal.Moved i found)) y2 z g (m + 1) k (subst (λ (v : Actor). CanLeave v.place) (sym h) tt)
+      (omega (arith, e, f, pos))
   has_read_nears u a x y y2 z g l m n k seat st none pos h near q = absurd h
 
-  fresh_nears : (u : World V) (a : ℕ) (x : Seat V) (y : Actor) (z : Copy V) (g : ℕ → Bool) (d : ℕ × ℕ) (v m : ℕ) (next : After V) → At u a y z g
+  fresh_nears : (u : World V) (a : ℕ) (x : Seat V) (y : Actor) (z : Copy V) (g : ℕ → Bool) (d : ℕ × ℕ) (v m : ℕ) (next : After V)
+      → At u a y z g
       → y.place ≡ machine.Open → length y.held + 1 < m → Nears a m next
       → Nears a m (is_fresh u a x d v next)
   fresh_nears u a x y z g d v m next k e h near =
-      choose_near a m (eqb d.1 v) next _ (λ _. near) (λ _ q. cancels_near u a (because x (refusal.Stale d.0 d.1 v)) y z g m k (subst CanLeave (sym e) tt) h)
+      choose_near a m (eqb d.1 v) next _ (λ _. near)
+      (λ _ q. cancels_near u a (because x (refusal.Stale d.0 d.1 v)) y z g m k (subst CanLeave (sym e) tt) h)
 
-  judges_nears : (u : World V) (a : ℕ) (x : Seat V) (y : Actor) (z : Copy V) (g : ℕ → Bool) (o : Answered V) (d : ℕ × ℕ) (es : Entries) (m : ℕ)
+  judges_nears : (u : World V) (a : ℕ) (x : Seat V) (y : Actor) (z : Copy V) (g : ℕ → Bool) (o : Answered V) (d : ℕ × ℕ) (es : Entries)
+      (m : ℕ)
       (next : After V) (r : Option ℕ) → At u a y z g → y.place ≡ machine.Open
       → length y.held + 1 < m → 3 * length (new_in y.reads (locations (d ∷ es))) + 1 < m → lookup y.reads d.0 ≡ r
       → (3 * length (new_in y.reads (locations es)) + 1 < m → Nears a m next) → Nears a m (judges u a x o d es next r)
@@ -384,19 +406,23 @@ module _ {V : Type 0} where
       let b = read_asked y d.0 (lookup y.writes d.0) in
       let k2 = at_ask u a y z g machine.Open (word.AskRead d.0) k e tt in
       let new = ap (λ ls. length (new_in y.reads ls)) (locations-cons d es) in
-      let one = ap length (cond-true (is_none (lookup y.reads d.0)) (d.0 ∷ new_in y.reads (locations es)) (new_in y.reads (locations es)) (ap is_none is))
+      let one = ap length (cond-true (is_none (lookup y.reads d.0)) (d.0 ∷ new_in y.reads (locations es)) (new_in y.reads (locations es))
+      (ap is_none is))
       in
       let reads = ap (λ (rs : Entries). length (new_in rs (locations es))) b.1 in
       let few = b.0 in
-      seated_nears (acted u (asks a (word.AskRead d.0) ∷ [])) a (at_stage x (Loading o (d ∷ es))) (word.read y d.0 (lookup y.writes d.0) None) m
+      seated_nears (acted u (asks a (word.AskRead d.0) ∷ [])) a (at_stage x (Loading o (d ∷ es)))
+      (word.read y d.0 (lookup y.writes d.0) None) m
       (k2.own.actor ∙ as_read) (omega (arith, few, reads, one, new, h))
   judges_nears u a x y z g o d es m next (Some v) k e held h is near q =
       let new = ap (λ ls. length (new_in y.reads ls)) (locations-cons d es) in
-      let none = ap length (cond-false (is_none (lookup y.reads d.0)) (d.0 ∷ new_in y.reads (locations es)) (new_in y.reads (locations es)) (ap is_none is))
+      let none = ap length (cond-false (is_none (lookup y.reads d.0)) (d.0 ∷ new_in y.reads (locations es))
+      (new_in y.reads (locations es)) (ap is_none is))
       in
       fresh_nears u a x y z g d v m next k e held (near (omega (arith, new, none, h))) q
 
-  loads_nears : (es : Entries) (u : World V) (a : ℕ) (x : Seat V) (y : Actor) (z : Copy V) (g : ℕ → Bool) (o : Answered V) (m : ℕ) → At u a y z g
+  loads_nears : (es : Entries) (u : World V) (a : ℕ) (x : Seat V) (y : Actor) (z : Copy V) (g : ℕ → Bool) (o : Answered V) (m : ℕ)
+      → At u a y z g
       → y.place ≡ machine.Open → length y.held + 1 < m
       → 3 * length (new_in y.reads (locations es)) + 1 < m → Nears a m (loads u a x o es)
   loads_nears [] u a x y z g o m k e held h q = absurd q
@@ -405,14 +431,16 @@ module _ {V : Type 0} where
       (ap (λ (v : Actor). lookup v.reads d.0) (sym k.own.actor))
       (λ less. loads_nears es u a x y z g o m k e held less) q
 
-  has_loaded_nears : (u : World V) (a : ℕ) (x : Seat V) (y y2 : Actor) (z : Copy V) (g : ℕ → Bool) (o : Answered V) (d : ℕ × ℕ) (es : Entries) (m : ℕ)
+  has_loaded_nears : (u : World V) (a : ℕ) (x : Seat V) (y y2 : Actor) (z : Copy V) (g : ℕ → Bool) (o : Answered V) (d : ℕ × ℕ)
+      (es : Entries) (m : ℕ)
       (n : told.Notice) → At u a y2 z g → u.seats a ≡ x
       → x.stage ≡ Loading o (d ∷ es) → y.held ≡ [] → 0 < m → AfterRead d.0 y y2 n → NearsRead m y2 n
       → Nears a (m + 3 * length (new_in y.reads (locations es)) + 1) (has_loaded u a x o d es n)
   has_loaded_nears u a x y y2 z g o d es m told.Quiet k seat st none pos h near q =
       let t : SameTx y y2 = h.1 in
       let e = ap (λ (rs : Entries). length (new_in rs (locations es))) t.reads in
-      same_nears u a x y2 (Loading o (d ∷ es)) (m + 3 * length (new_in y.reads (locations es)) + 1) k.own.actor seat st (omega (arith, near, e))
+      same_nears u a x y2 (Loading o (d ∷ es)) (m + 3 * length (new_in y.reads (locations es)) + 1) k.own.actor seat st
+      (omega (arith, near, e))
   has_loaded_nears u a x y y2 z g o d es m (told.Number v) k seat st none pos h near q =
       let y3 = machine.has_read y d.0 v in
       let k3 : At u a y3 z g = subst (λ (w : Actor). At u a w z g) h k in
@@ -429,7 +457,8 @@ module _ {V : Type 0} where
   has_loaded_nears u a x y y2 z g o d es m n k seat st none pos h near q = absurd h
 
   -- the outcome is taken, and its locations fit
-  answers_nears : (u : World V) (a : ℕ) (before x : Seat V) (y : Actor) (z : Copy V) (g : ℕ → Bool) (sized o : Answered V) (editions : ℕ → ℕ) → AreSmall u.blocks → At u a y z g → y.place ≡ machine.Open → y.held ≡ []
+  answers_nears : (u : World V) (a : ℕ) (before x : Seat V) (y : Actor) (z : Copy V) (g : ℕ → Bool) (sized o : Answered V)
+      (editions : ℕ → ℕ) → AreSmall u.blocks → At u a y z g → y.place ≡ machine.Open → y.held ≡ []
       → Nears a 12291 (answers u a before x sized o editions)
   answers_nears u a before x y z g sized o editions small k e none =
       let c = content u.words u.blocks in
@@ -446,7 +475,8 @@ module _ {V : Type 0} where
   tried_nears : (u : World V) (a : ℕ) (x : Seat V) (free : Bool) (i : ℕ) (got : List ℕ) (again : ℕ → Stage V) (next : Stage V) (tries m : ℕ)
       → (free ≡ true → left_of (seated u a (at_stage x next)) a < m)
       → (free ≡ false → Nears a m (gives_up u a (because x (refusal.GateBusy i)) got))
-      → (free ≡ false → (j : ℕ) → j < tries → left_of (seated u a (at_stage x (again j))) a < m) → Nears a m (has_tried u a x free i got again next tries)
+      → (free ≡ false → (j : ℕ) → j < tries → left_of (seated u a (at_stage x (again j))) a < m)
+      → Nears a m (has_tried u a x free i got again next tries)
   tried_nears u a x free i got again next zero m won last more = choose_near a m free _ _ (λ e q. won e) last
   tried_nears u a x free i got again next (suc j) m won last more = choose_near a m free _ _ (λ e q. won e) (λ e q. more e j (omega arith))
 
@@ -457,37 +487,45 @@ module _ {V : Type 0} where
   takes_nears u a x y got [] m e h = seated_nears u a (at_stage x (takes_gates got [])) y m e (omega (arith, h))
   takes_nears u a x y got (i ∷ ks) m e h = seated_nears u a (at_stage x (takes_gates got (i ∷ ks))) y m e (omega (arith, h))
 
-  has_locked_nears : (u : World V) (a : ℕ) (x : Seat V) (y y2 : Actor) (z : Copy V) (g : ℕ → Bool) (m : ℕ) (n : told.Notice) → At u a y2 z g → u.seats a ≡ x
+  has_locked_nears : (u : World V) (a : ℕ) (x : Seat V) (y y2 : Actor) (z : Copy V) (g : ℕ → Bool) (m : ℕ) (n : told.Notice)
+      → At u a y2 z g → u.seats a ≡ x
       → x.stage ≡ Locking → AfterLock y y2 n → NearsLock m y2 n
       → Nears a m (has_locked u a x n)
   has_locked_nears u a x y y2 z g m told.Quiet k seat st h near q = same_nears u a x y2 Locking m k.own.actor seat st near
   has_locked_nears u a x y y2 z g m (told.LockedAt wv) k seat st h near q =
-      let homes = λ (v : Actor). distinct (all_of (home_of u.words u.blocks) (filter (λ l. not (is_plain u.words u.blocks l)) (locations v.writes))) in
+      let homes = λ (v : Actor). distinct
+      (all_of (home_of u.words u.blocks) (filter (λ l. not (is_plain u.words u.blocks l)) (locations v.writes))) in
       let few = homes_few (home_of u.words u.blocks) (λ l. not (is_plain u.words u.blocks l)) y2.writes in
       let x2 : Seat V = record x { wv = wv } in
       subst (λ (v : Actor). left_of (seated u a (at_stage x2 (takes_gates [] (homes v)))) a < m) (sym k.own.actor)
       (takes_nears u a x2 y2 [] (homes y2) m k.own.actor (omega (arith, few, near)))
   has_locked_nears u a x y y2 z g m (told.Busy l found) k seat st h near q =
-      cancels_near u a (because x (refusal.Busy l found)) y2 z g m k (subst (λ (v : Actor). CanLeave v.place) (sym h) tt) (omega (arith, near))
+      cancels_near u a (because x (refusal.Busy l found)) y2 z g m k (subst (λ (v : Actor). CanLeave v.place) (sym h) tt)
+      (omega (arith, near))
   has_locked_nears u a x y y2 z g m (told.Invalid l found) k seat st h near q =
-      cancels_near u a (because x (refusal.Invalid l found)) y2 z g m k (subst (λ (v : Actor). CanLeave v.place) (sym h) tt) (omega (arith, near))
+      cancels_near u a (because x (refusal.Invalid l found)) y2 z g m k (subst (λ (v : Actor). CanLeave v.place) (sym h) tt)
+      (omega (arith, near))
   has_locked_nears u a x y y2 z g m n k seat st h near q = absurd h
 
   goes_home_nears : (u : World V) (a : ℕ) (x : Seat V) (y : Actor) (z : Copy V) (g : ℕ → Bool) (ks : List ℕ) (m : ℕ) → At u a y z g
       → ((k : ℕ) → g k ≡ has ks k) → y.place ≡ machine.Store []
       → length ks + length y.held + 1 < m → Nears a m (goes_home u a x ks)
   goes_home_nears u a x y z g [] m k held e h q =
-      seated_nears (acted u (asks a word.AskRelease ∷ [])) a (at_stage x Releasing) (goes y machine.Release) m (at_release u a y z g k held e).own.actor
+      seated_nears (acted u (asks a word.AskRelease ∷ [])) a (at_stage x Releasing) (goes y machine.Release) m
+      (at_release u a y z g k held e).own.actor
       (omega (arith, h))
   goes_home_nears u a x y z g (i ∷ ks) m k held e h q = seated_nears u a (at_stage x (Homing (i ∷ ks))) y m k.own.actor (omega (arith, h))
 
-  has_stored_nears : (u : World V) (a : ℕ) (x : Seat V) (y y2 : Actor) (z : Copy V) (g : ℕ → Bool) (ks : List ℕ) (m : ℕ) (n : told.Notice) → At u a y2 z g
+  has_stored_nears : (u : World V) (a : ℕ) (x : Seat V) (y y2 : Actor) (z : Copy V) (g : ℕ → Bool) (ks : List ℕ) (m : ℕ) (n : told.Notice)
+      → At u a y2 z g
       → ((k : ℕ) → g k ≡ has ks k) → AfterStore y y2 n
       → (told.Quiet ≡ n → steps_left y2 y2.place < m) → 0 < m → Nears a (m + length ks + length y2.held + 1) (has_stored u a x ks n)
-  has_stored_nears u a x y y2 z g ks m told.Stored k held h near pos q = goes_home_nears u a x y2 z g ks (m + length ks + length y2.held + 1) k held h.0
+  has_stored_nears u a x y y2 z g ks m told.Stored k held h near pos q = goes_home_nears u a x y2 z g ks
+      (m + length ks + length y2.held + 1) k held h.0
       (omega (arith, pos)) q
   has_stored_nears u a x y y2 z g ks m told.Quiet k held h near pos q =
-      let less = near refl in seated_nears u a (at_stage x (Storing ks)) y2 (m + length ks + length y2.held + 1) k.own.actor (omega (arith, less))
+      let less = near refl in seated_nears u a (at_stage x (Storing ks)) y2 (m + length ks + length y2.held + 1) k.own.actor
+      (omega (arith, less))
   has_stored_nears u a x y y2 z g ks m n k held h near pos q = absurd h
 
   has_released_nears : (u : World V) (a : ℕ) (x : Seat V) (s : Words) (y : Actor) (z : Copy V) (g : ℕ → Bool) (h : Entries) → IsSomeEntry h
@@ -495,7 +533,8 @@ module _ {V : Type 0} where
       → Nears a (length h) (has_released u a x (last_notice h told.Released))
   has_released_nears u a x s y z g [] some k seat st q = absurd some
   has_released_nears u a x s y z g (d ∷ []) some k seat st q = absurd q
-  has_released_nears u a x s y z g (d ∷ (e ∷ es)) some k seat st q = same_nears u a x (learns s y (world.release y (d ∷ (e ∷ es)))) Releasing
+  has_released_nears u a x s y z g (d ∷ (e ∷ es)) some k seat st q = same_nears u a x
+      (learns s y (world.release y (d ∷ (e ∷ es)))) Releasing
       (length (d ∷ (e ∷ es))) k.own.actor seat st (omega arith)
 
   has_cancelled_nears : (u : World V) (a : ℕ) (x : Seat V) (s : Words) (y : Actor) (z : Copy V) (g : ℕ → Bool) (h : Entries) → IsSomeEntry h
@@ -510,12 +549,15 @@ module _ {V : Type 0} where
       (length (d ∷ (e ∷ es)) + 1) k.own.actor seat st (omega arith)
 
   -- ---- every step
-  begin_answers : (u : World V) (a clock : ℕ) (x : Seat V) (b : Bool) → IsQuiet (has_begun u a x (cond b (told.Begun clock) (told.Exhausted clock))).1 → ⊥
+  begin_answers : (u : World V) (a clock : ℕ) (x : Seat V) (b : Bool)
+      → IsQuiet (has_begun u a x (cond b (told.Begun clock) (told.Exhausted clock))).1 → ⊥
   begin_answers u a clock x true q = q
   begin_answers u a clock x false q = q
 
-  step_nears : (w : World V) (a : ℕ) (x : Seat V) (st : Stage V) → AreSmall w.blocks → Linked w → w.seats a ≡ x → x.stage ≡ st → ((k : ℕ) → mine w.boosted a k ≡ has (gates_of st) k)
-      → StageOk w.words w.blocks x (w.boosted.words.actors a) (w.boosted.shadows a) st (w.boosted.words.actors a).place → Nears a (measure.left_at st (w.boosted.words.actors a)) (step_at w a x st)
+  step_nears : (w : World V) (a : ℕ) (x : Seat V) (st : Stage V) → AreSmall w.blocks → Linked w → w.seats a ≡ x → x.stage ≡ st
+      → ((k : ℕ) → mine w.boosted a k ≡ has (gates_of st) k)
+      → StageOk w.words w.blocks x (w.boosted.words.actors a) (w.boosted.shadows a) st (w.boosted.words.actors a).place
+      → Nears a (measure.left_at st (w.boosted.words.actors a)) (step_at w a x st)
   step_nears w a x Idle small k seat st held h = λ q. absurd q
   step_nears w a x Open small k seat st held h = λ q. absurd q
   step_nears w a x Beginning small k seat st held h =
@@ -532,7 +574,8 @@ module _ {V : Type 0} where
       let near = read_nears s y l y.place h.0 in
       subst (λ n. Nears a (steps_left y y.place + 1) (has_read (acted w (moves a ∷ [])) a x l n)) (sym (tells w a y z g y.place at refl))
       (has_read_nears (acted w (moves a ∷ [])) a x y (learns s y (plan y y.place)) z g l (steps_left y y.place) (notice s y y.place)
-      (at_move w a y z g y.place at refl (reading_quiet l y.place h.0)) seat st (reading_held s y l y.place h.0 (k.base.inv.machine.actors a).place) near.0 (read_after s y l y.place h.0) near.1)
+      (at_move w a y z g y.place at refl (reading_quiet l y.place h.0)) seat st
+      (reading_held s y l y.place h.0 (k.base.inv.machine.actors a).place) near.0 (read_after s y l y.place h.0) near.1)
   step_nears w a x (Trying asked tries) small k seat st held h =
       let y = w.boosted.words.actors a in
       let z = w.boosted.shadows a in
@@ -540,9 +583,11 @@ module _ {V : Type 0} where
       let u = acted w (TakeGate a asked.collection ∷ []) in
       let t = gate_tried w a asked.collection y z g (at_of w a k) (ap is_committing h.0) in
       let none = ap length (subst (PlaceOk w.boosted.words y) h.0 (k.base.inv.machine.actors a).place) in
-      tried_nears u a x (is_none (w.boosted.gates asked.collection)) asked.collection [] (λ n. Trying asked n) (Copying asked) tries (tries + 12292)
+      tried_nears u a x (is_none (w.boosted.gates asked.collection)) asked.collection [] (λ n. Trying asked n) (Copying asked) tries
+      (tries + 12292)
       (λ won. seated_nears u a (at_stage x (Copying asked)) y (tries + 12292) (t.0 won).own.actor (omega arith))
-      (λ lost q. cancels_near u a (because x (refusal.GateBusy asked.collection)) y z g (tries + 12292) (t.1 lost) (subst CanLeave (sym h.0) tt)
+      (λ lost q. cancels_near u a (because x (refusal.GateBusy asked.collection)) y z g (tries + 12292) (t.1 lost)
+      (subst CanLeave (sym h.0) tt)
       (omega (arith, none)))
       (λ lost j lt. seated_nears u a (at_stage x (Trying asked j)) y (tries + 12292) (t.1 lost).own.actor (omega (arith, lt)))
   step_nears w a x (Copying asked) small k seat st held h =
@@ -552,8 +597,11 @@ module _ {V : Type 0} where
       let i = asked.collection in
       let which = covers_at w.words w.blocks asked in
       let u = acted w (PutGate a i which ∷ []) in
-      answers_nears u a x (with_piece x i (piece_at w.blocks asked)) y (if is_open y.place then copied (content w.words w.blocks) w.boosted y.calls z i which else z) (without_gate g i) (sized_by u a asked (outcome_at u a asked)) (outcome_at u a asked) u.boosted.editions small
-      (gate_put w a i which y z g (at_of w a k) (held i ∙ first_has i []) (ap is_committing h.0)) h.0 (subst (PlaceOk w.boosted.words y) h.0 (k.base.inv.machine.actors a).place)
+      answers_nears u a x (with_piece x i (piece_at w.blocks asked)) y
+      (if is_open y.place then copied (content w.words w.blocks) w.boosted y.calls z i which else z) (without_gate g i)
+      (sized_by u a asked (outcome_at u a asked)) (outcome_at u a asked) u.boosted.editions small
+      (gate_put w a i which y z g (at_of w a k) (held i ∙ first_has i []) (ap is_committing h.0)) h.0
+      (subst (PlaceOk w.boosted.words y) h.0 (k.base.inv.machine.actors a).place)
   step_nears w a x (Loading o []) small k seat st held h = λ q. absurd h
   step_nears w a x (Loading o (d ∷ es)) small k seat st held h =
       let y = w.boosted.words.actors a in
@@ -562,10 +610,12 @@ module _ {V : Type 0} where
       let g = mine w.boosted a in
       let at = at_of w a k in
       let near = read_nears s y d.0 y.place h.0 in
-      subst (λ n. Nears a (steps_left y y.place + 3 * length (new_in y.reads (locations es)) + 1) (has_loaded (acted w (moves a ∷ [])) a x o d es n))
+      subst (λ n. Nears a (steps_left y y.place + 3 * length (new_in y.reads (locations es)) + 1)
+      (has_loaded (acted w (moves a ∷ [])) a x o d es n))
       (sym (tells w a y z g y.place at refl))
       (has_loaded_nears (acted w (moves a ∷ [])) a x y (learns s y (plan y y.place)) z g o d es (steps_left y y.place) (notice s y y.place)
-      (at_move w a y z g y.place at refl (reading_quiet d.0 y.place h.0)) seat st (reading_held s y d.0 y.place h.0 (k.base.inv.machine.actors a).place) near.0 (read_after s y d.0 y.place h.0) near.1)
+      (at_move w a y z g y.place at refl (reading_quiet d.0 y.place h.0)) seat st
+      (reading_held s y d.0 y.place h.0 (k.base.inv.machine.actors a).place) near.0 (read_after s y d.0 y.place h.0) near.1)
   step_nears w a x Locking small k seat st held h =
       let y = w.boosted.words.actors a in
       let s = w.boosted.words in
@@ -598,12 +648,14 @@ module _ {V : Type 0} where
       let same = ap length f.writes in
       let held2 = ap length near.1 in
       let less = near.0 in
-      subst (λ n. Nears a (length y.writes + length ks + length y.held + 2) (has_stored (recorded (acted ready (moves a ∷ [])) a x true x.wv) a x ks n))
+      subst (λ n. Nears a (length y.writes + length ks + length y.held + 2)
+      (has_stored (recorded (acted ready (moves a ∷ [])) a x true x.wv) a x ks n))
       (sym f.told)
       (λ q. (
       let r = has_stored_nears (recorded (acted ready (moves a ∷ [])) a x true x.wv) a x y1 y2 (w.boosted.shadows a) (mine w.boosted a) ks
       (length y.writes + 1) (told.last_notice (f.entry ∷ f.others) told.Stored)
-      f.at held (first_after ready.boosted.words y1 f.entry f.others) (λ e. omega (arith, less, same)) (omega arith) q in omega (arith, r, held2)))
+      f.at held (first_after ready.boosted.words y1 f.entry f.others) (λ e. omega (arith, less, same)) (omega arith) q in
+      omega (arith, r, held2)))
   step_nears w a x (Storing ks) small k seat st held h =
       let y = w.boosted.words.actors a in
       let s = w.boosted.words in
@@ -615,14 +667,17 @@ module _ {V : Type 0} where
       subst (λ n. Nears a (steps_left y y.place + length ks + length y.held + 1) (has_stored (acted w (moves a ∷ [])) a x ks n))
       (sym (tells w a y z g y.place at refl))
       (λ q. (
-      let r = has_stored_nears (acted w (moves a ∷ [])) a x y (learns s y (plan y y.place)) z g ks (steps_left y y.place) (notice s y y.place)
-      (at_move w a y z g y.place at refl (storing_quiet y.place h.0)) held (store_after s y y.place h.0) near.1 near.0 q in omega (arith, r, held2)))
+      let r = has_stored_nears (acted w (moves a ∷ [])) a x y (learns s y (plan y y.place)) z g ks (steps_left y y.place)
+      (notice s y y.place)
+      (at_move w a y z g y.place at refl (storing_quiet y.place h.0)) held (store_after s y y.place h.0) near.1 near.0 q in
+      omega (arith, r, held2)))
   step_nears w a x (Homing []) small k seat st held h = λ q. absurd h
   step_nears w a x (Homing (i ∷ ks)) small k seat st held h =
       let y = w.boosted.words.actors a in
       let z = w.boosted.shadows a in
       let g = mine w.boosted a in
-      goes_home_nears (acted w (GoHome a i ∷ [])) a x y z (without_gate g i) ks (length (i ∷ ks) + length y.held + 1) (at_home w a y z g i (at_of w a k) (held i ∙ first_has i ks) h.0) (gates_left g i ks held h.2.0) h.0 (omega arith)
+      goes_home_nears (acted w (GoHome a i ∷ [])) a x y z (without_gate g i) ks (length (i ∷ ks) + length y.held + 1)
+      (at_home w a y z g i (at_of w a k) (held i ∙ first_has i ks) h.0) (gates_left g i ks held h.2.0) h.0 (omega arith)
   step_nears w a x Releasing small k seat st held h =
       let y = w.boosted.words.actors a in
       let s = w.boosted.words in
@@ -630,7 +685,8 @@ module _ {V : Type 0} where
       let g = mine w.boosted a in
       let at = at_of w a k in
       subst (λ n. Nears a (length y.held) (has_released (acted w (moves a ∷ [])) a x n)) (sym (tells w a y z g machine.Release at h.0))
-      (has_released_nears (acted w (moves a ∷ [])) a x s y z g y.held (subst (PlaceOk s y) h.0 (k.base.inv.machine.actors a).place).some (at_move w a y z g machine.Release at h.0 tt) seat st)
+      (has_released_nears (acted w (moves a ∷ [])) a x s y z g y.held (subst (PlaceOk s y) h.0 (k.base.inv.machine.actors a).place).some
+      (at_move w a y z g machine.Release at h.0 tt) seat st)
   step_nears w a x Closing small k seat st held h = λ q. absurd q
   step_nears w a x (Returning []) small k seat st held h = λ q. absurd h
   step_nears w a x (Returning (i ∷ ks)) small k seat st held h =
@@ -638,7 +694,9 @@ module _ {V : Type 0} where
       let z = w.boosted.shadows a in
       let g = mine w.boosted a in
       let none = λ (l : ℕ). false in
-      gives_up_nears (acted w (PutGate a i none ∷ [])) a x y (if is_open y.place then copied (content w.words w.blocks) w.boosted y.calls z i none else z) (without_gate g i) ks (length (i ∷ ks) + length y.held + 2)
+      gives_up_nears (acted w (PutGate a i none ∷ [])) a x y
+      (if is_open y.place then copied (content w.words w.blocks) w.boosted y.calls z i none else z) (without_gate g i) ks
+      (length (i ∷ ks) + length y.held + 2)
       (gate_put w a i none y z g (at_of w a k) (held i ∙ first_has i ks) (leaving_rests y.place h.0)) h.0 (omega arith)
   step_nears w a x Cancelling small k seat st held h =
       let y = w.boosted.words.actors a in
@@ -664,7 +722,8 @@ module _ {V : Type 0} where
       let y = w.boosted.words.actors a in
       let at = at_ask w a y (w.boosted.shadows a) (mine w.boosted a) machine.Open (word.AskRead l) (at_of w a k) e tt in
       let b = read_at_most y l (lookup y.writes l) (lookup y.reads l) in
-      by_notice n q (few_seated (acted w (asks a (word.AskRead l) ∷ [])) a (at_stage x (Reading l)) (word.ask y machine.Open (word.AskRead l)) at.own.actor
+      by_notice n q (few_seated (acted w (asks a (word.AskRead l) ∷ [])) a (at_stage x (Reading l))
+      (word.ask y machine.Open (word.AskRead l)) at.own.actor
       (omega (arith, b)))
     where
       by_notice : (n : told.Notice) → IsQuiet (reads w a x l n).1 → left_of
@@ -672,25 +731,31 @@ module _ {V : Type 0} where
       by_notice (told.Number v) q h = absurd q
       by_notice n q h = h
 
-  allowed_few : (w : World V) (a : ℕ) (x : Seat V) (known room : Bool) (next : After V) → IsFew w a next → IsFew w a (if_allowed w a x known room next)
+  allowed_few : (w : World V) (a : ℕ) (x : Seat V) (known room : Bool) (next : After V) → IsFew w a next
+      → IsFew w a (if_allowed w a x known room next)
   allowed_few w a x known room next h =
-      choose_near a 1000000 known _ _ (λ _. choose_near a 1000000 (nat_lt (length x.calls) CALL_LIMIT && room) next _ (λ _. h) (λ _ q. absurd q))
+      choose_near a 1000000 known _ _
+      (λ _. choose_near a 1000000 (nat_lt (length x.calls) CALL_LIMIT && room) next _ (λ _. h) (λ _ q. absurd q))
       (λ _ q. absurd q)
 
-  calls_few : (w : World V) (a : ℕ) (x : Seat V) (asked : Asked V) → AreSmall w.blocks → (w.boosted.words.actors a).place ≡ machine.Open → Linked w → IsFew w a (calls_on w a x asked)
+  calls_few : (w : World V) (a : ℕ) (x : Seat V) (asked : Asked V) → AreSmall w.blocks → (w.boosted.words.actors a).place ≡ machine.Open
+      → Linked w → IsFew w a (calls_on w a x asked)
   calls_few w a x asked small e k =
       let y = w.boosted.words.actors a in
       let none = subst (PlaceOk w.boosted.words y) e (k.base.inv.machine.actors a).place in
       choose_near a 1000000 (x.copied asked.collection (piece_at w.blocks asked)) _ _
-      (λ _ q. let r = answers_nears w a x x y (w.boosted.shadows a) (mine w.boosted a) (outcome_at w a asked) (outcome_at w a asked) (w.boosted.shadows a).editions small (at_of w a k) e none q in omega (arith, r))
+      (λ _ q. let r = answers_nears w a x x y (w.boosted.shadows a) (mine w.boosted a) (outcome_at w a asked) (outcome_at w a asked)
+      (w.boosted.shadows a).editions small (at_of w a k) e none q in omega (arith, r))
       (λ _ q. few_seated w a (at_stage x (Trying asked more_tries)) y refl (omega arith))
 
-  op_few : (w : World V) (a : ℕ) (x : Seat V) (t : ℕ) (op : Op V) → AreSmall w.blocks → (w.boosted.words.actors a).place ≡ machine.Open → Linked w → IsFew w a (ask_op w a x t op)
+  op_few : (w : World V) (a : ℕ) (x : Seat V) (t : ℕ) (op : Op V) → AreSmall w.blocks → (w.boosted.words.actors a).place ≡ machine.Open
+      → Linked w → IsFew w a (ask_op w a x t op)
   op_few w a x t Read small e k = allowed_few w a x _ _ _ (reads_few w a x t _ e k)
   op_few w a x t (Write v) small e k = allowed_few w a x _ _ _ (λ q. absurd q)
   op_few w a x t op small e k = allowed_few w a x _ _ _ (calls_few w a x (record { collection = t; op = op }) small e k)
 
-  commits_few : (w : World V) (a : ℕ) (x : Seat V) (es : Entries) → (w.boosted.words.actors a).place ≡ machine.Open → (w.boosted.words.actors a).writes ≡ es
+  commits_few : (w : World V) (a : ℕ) (x : Seat V) (es : Entries) → (w.boosted.words.actors a).place ≡ machine.Open
+      → (w.boosted.words.actors a).writes ≡ es
       → length es ≤ 4096
       → length (w.boosted.words.actors a).reads ≤ 4096 → Linked w → IsFew w a (commits w a x es)
   commits_few w a x [] e is few few2 k q =
@@ -707,14 +772,19 @@ module _ {V : Type 0} where
       ((at_ask w a y (w.boosted.shadows a) (mine w.boosted a) machine.Open word.AskLock (at_of w a k) e tt).own.actor ∙ ap (word.lock y) is)
       (omega (arith, none, all, same, few, few2))
 
-  ask_few : (w : World V) (a : ℕ) (x : Seat V) (st : Stage V) (q : Request V) → AreSmall w.blocks → Linked w → StageOk w.words w.blocks x (w.boosted.words.actors a) (w.boosted.shadows a) st (w.boosted.words.actors a).place
+  ask_few : (w : World V) (a : ℕ) (x : Seat V) (st : Stage V) (q : Request V) → AreSmall w.blocks → Linked w → StageOk w.words w.blocks x
+      (w.boosted.words.actors a) (w.boosted.shadows a) st (w.boosted.words.actors a).place
       → length (w.boosted.words.actors a).reads ≤ 4096 → length (w.boosted.words.actors a).writes ≤ 4096 → IsFew w a (ask_at w a x st q)
   ask_few w a x Idle request.Begin small k h few few2 = λ q.
-      few_seated (acted w (asks a word.AskBegin ∷ [])) a (at_stage x Beginning) (word.ask (w.boosted.words.actors a) machine.Idle word.AskBegin)
-      (at_ask w a (w.boosted.words.actors a) (w.boosted.shadows a) (mine w.boosted a) machine.Idle word.AskBegin (at_of w a k) h tt).own.actor (omega arith)
+      few_seated (acted w (asks a word.AskBegin ∷ [])) a (at_stage x Beginning)
+      (word.ask (w.boosted.words.actors a) machine.Idle word.AskBegin)
+      (at_ask w a (w.boosted.words.actors a) (w.boosted.shadows a) (mine w.boosted a) machine.Idle word.AskBegin
+      (at_of w a k) h tt).own.actor (omega arith)
   ask_few w a x Idle request.BeginRead small k h few few2 = λ q.
-      few_seated (acted w (asks a word.AskBeginRead ∷ [])) a (at_stage x Beginning) (word.ask (w.boosted.words.actors a) machine.Idle word.AskBeginRead)
-      (at_ask w a (w.boosted.words.actors a) (w.boosted.shadows a) (mine w.boosted a) machine.Idle word.AskBeginRead (at_of w a k) h tt).own.actor (omega arith)
+      few_seated (acted w (asks a word.AskBeginRead ∷ [])) a (at_stage x Beginning)
+      (word.ask (w.boosted.words.actors a) machine.Idle word.AskBeginRead)
+      (at_ask w a (w.boosted.words.actors a) (w.boosted.shadows a) (mine w.boosted a) machine.Idle word.AskBeginRead
+      (at_of w a k) h tt).own.actor (omega arith)
   ask_few w a x Idle r small k h few few2 = λ q. absurd q
   ask_few w a x Open request.Begin small k h few few2 = λ q. absurd q
   ask_few w a x Open request.BeginRead small k h few few2 = λ q. absurd q
@@ -723,11 +793,13 @@ module _ {V : Type 0} where
   ask_few w a x Open request.Abort small k h few few2 = λ q. (
       let y = w.boosted.words.actors a in
       let none = ap length (subst (PlaceOk w.boosted.words y) h.0 (k.base.inv.machine.actors a).place) in
-      cancels_near w a (record x { cause = None }) y (w.boosted.shadows a) (mine w.boosted a) 1000000 (at_of w a k) (subst CanLeave (sym h.0) tt) (omega (arith, none)))
+      cancels_near w a (record x { cause = None }) y (w.boosted.shadows a) (mine w.boosted a) 1000000 (at_of w a k)
+      (subst CanLeave (sym h.0) tt) (omega (arith, none)))
   ask_few w a x st r small k h few few2 = λ q. absurd q
 
   -- ---- worlds
-  module _ (blocks : List Block) (clock : ℕ) (values : List ℕ) (held : List (Held V)) (events : List (Event V)) (stripes : HaveStripes blocks) (few_stripes : AreSmall blocks) where
+  module _ (blocks : List Block) (clock : ℕ) (values : List ℕ) (held : List (Held V)) (events : List (Event V))
+      (stripes : HaveStripes blocks) (few_stripes : AreSmall blocks) where
     reached : Linked (run (opened blocks clock values held) events)
     reached = run_linked events (opened blocks clock values held) (opened_linked blocks clock values held stripes)
 

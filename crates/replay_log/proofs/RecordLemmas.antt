@@ -1,7 +1,8 @@
--- What an event leaves of the records and of its actor's seat. Only the first value store of a commit and the last load of a reader record, and what they
--- record are the calls that the seat has then. A request, a want of memory and any other step leave the records; what they begin is not committed, and if
--- it tries a gate it is the first try. So whoever has committed and not ended yet has a record of its own, under its number; and since the records are in
--- commit order, and no two writers share a number, the half-done commits stand in it once each, rising.
+-- What an event leaves of the records and of its actor's seat. Only the first value store of a commit and the last load of a reader
+-- record, and what they record are the calls that the seat has then. A request, a want of memory and any other step leave the records;
+-- what they begin is not committed, and if it tries a gate it is the first try. So whoever has committed and not ended yet has a record
+-- of its own, under its number; and since the records are in commit order, and no two writers share a number, the half-done commits
+-- stand in it once each, rising.
 use Rattle.std.proofs.Common.{◌≡◌, ℕ, zero, suc, ◌<◌, Bool, true, false, cond, ◌&&◌, List, [], ◌∷◌, ◌++◌, length, Option, Some, None, ◌⊎◌, inl, inr, refl, sym, ◌∙◌, ap, subst, true≢false, eqb, eq-eqb, eqb-true, ne_eqb, ltb-true}
 use Rattle.std.specs.Prelude.{nat_lt}
 use Rattle.std.proofs.lemmas.Bool.{cases_eq, cond_both, cond-true, cond-false}
@@ -58,7 +59,8 @@ module _ {V : Type 0} where
   stays : (u : World V) (a : ℕ) (P : Seat V → Type 0) (x : Seat V) → u.seats a ≡ x → P x → Leaves a u.records P u
   stays u a P x e h = record { records = refl; seat = subst P (sym e) h }
 
-  choose_leaves : (a : ℕ) (rs : List (ℕ × Record V)) (P : Seat V → Type 0) (b : Bool) (r s : After V) → Leaves a rs P r.0 → Leaves a rs P s.0
+  choose_leaves : (a : ℕ) (rs : List (ℕ × Record V)) (P : Seat V → Type 0) (b : Bool) (r s : After V) → Leaves a rs P r.0
+      → Leaves a rs P s.0
       → Leaves a rs P (cond b r s).0
   choose_leaves a rs P true r s h g = h
   choose_leaves a rs P false r s h g = g
@@ -80,7 +82,8 @@ module _ {V : Type 0} where
       by false = tt
   gives_up_begins u a x (k ∷ ks) = sits u a AtAhead (at_stage x (Returning (k ∷ ks))) tt
 
-  fresh_begins : (u : World V) (a : ℕ) (x : Seat V) (d : ℕ × ℕ) (v : ℕ) (next : After V) → Begins a u next → Begins a u (is_fresh u a x d v next)
+  fresh_begins : (u : World V) (a : ℕ) (x : Seat V) (d : ℕ × ℕ) (v : ℕ) (next : After V) → Begins a u next
+      → Begins a u (is_fresh u a x d v next)
   fresh_begins u a x d v next h =
       choose_leaves a u.records AtAhead (eqb d.1 v) next _ h (gives_up_begins u a (because x (refusal.Stale d.0 d.1 v)) [])
 
@@ -94,27 +97,33 @@ module _ {V : Type 0} where
   loads_begins [] u a x o = sits (acted u (Accept a o.asked ∷ [])) a AtAhead (with_call x (call_of o) (reply_of o)) tt
   loads_begins (d ∷ es) u a x o = judges_begins u a x o d es (loads u a x o es) (lookup (actor_of u a).reads d.0) (loads_begins es u a x o)
 
-  answers_begins : (u : World V) (a : ℕ) (before x : Seat V) (sized o : Answered V) (editions : ℕ → ℕ) → Begins a u (answers u a before x sized o editions)
+  answers_begins : (u : World V) (a : ℕ) (before x : Seat V) (sized o : Answered V) (editions : ℕ → ℕ)
+      → Begins a u (answers u a before x sized o editions)
   answers_begins u a before x sized o editions =
       let c = content u.words u.blocks in
-      choose_leaves a u.records AtAhead (has_room (actor_of u a) (c.reads sized) (c.writes sized)) (loads u a x o (with_editions editions (c.reads o))) _
+      choose_leaves a u.records AtAhead (has_room (actor_of u a) (c.reads sized) (c.writes sized))
+      (loads u a x o (with_editions editions (c.reads o))) _
       (loads_begins (with_editions editions (c.reads o)) u a x o) (sits u a AtAhead (at_stage before Open) tt)
 
   -- ---- requests
   calls_on_begins : (w : World V) (a : ℕ) (x : Seat V) (asked : Asked V) → Begins a w (calls_on w a x asked)
   calls_on_begins w a x asked =
       choose_leaves a w.records AtAhead (x.copied asked.collection (piece_at w.blocks asked)) _ _
-      (answers_begins w a x x (outcome_at w a asked) (outcome_at w a asked) (w.boosted.shadows a).editions) (sits w a AtAhead (at_stage x (Trying asked more_tries)) refl)
+      (answers_begins w a x x (outcome_at w a asked) (outcome_at w a asked) (w.boosted.shadows a).editions)
+      (sits w a AtAhead (at_stage x (Trying asked more_tries)) refl)
 
   reads_begins : (w : World V) (a : ℕ) (x : Seat V) (l : ℕ) (n : told.Notice) → Begins a w (reads w a x l n)
-  reads_begins w a x l (told.Number v) = sits (acted w (asks a (word.AskRead l) ∷ [])) a AtAhead (with_call x (record { target = l; op = Read }) (reply.Number v)) tt
+  reads_begins w a x l (told.Number v) = sits (acted w (asks a (word.AskRead l) ∷ [])) a AtAhead
+      (with_call x (record { target = l; op = Read }) (reply.Number v)) tt
   reads_begins w a x l n = sits (acted w (asks a (word.AskRead l) ∷ [])) a AtAhead (at_stage x (Reading l)) tt
 
-  allowed_begins : (w : World V) (a : ℕ) (x : Seat V) (known room : Bool) (next : After V) → w.seats a ≡ x → x.stage ≡ Open → Begins a w next
+  allowed_begins : (w : World V) (a : ℕ) (x : Seat V) (known room : Bool) (next : After V) → w.seats a ≡ x → x.stage ≡ Open
+      → Begins a w next
       → Begins a w (if_allowed w a x known room next)
   allowed_begins w a x known room next seat at h =
       let same = stays w a AtAhead x seat (subst IsAhead (sym at) tt) in
-      choose_leaves a w.records AtAhead known _ _ (choose_leaves a w.records AtAhead (nat_lt (length x.calls) CALL_LIMIT && room) next _ h same) same
+      choose_leaves a w.records AtAhead known _ _
+      (choose_leaves a w.records AtAhead (nat_lt (length x.calls) CALL_LIMIT && room) next _ h same) same
 
   op_begins : (w : World V) (a : ℕ) (x : Seat V) (t : ℕ) (op : Op V) → w.seats a ≡ x → x.stage ≡ Open → Begins a w (ask_op w a x t op)
   op_begins w a x t Read seat at = allowed_begins w a x _ _ _ seat at (reads_begins w a x t _)
@@ -131,7 +140,8 @@ module _ {V : Type 0} where
   abbrev pub Kept : ℕ → World V → World V → Type 0
   Kept a w u = (u ≡ w) ⊎ Leaves a w.records AtAhead u
 
-  ask_kept : (w : World V) (a : ℕ) (x : Seat V) (st : Stage V) (q : Request V) → w.seats a ≡ x → x.stage ≡ st → Kept a w (ask_at w a x st q).0
+  ask_kept : (w : World V) (a : ℕ) (x : Seat V) (st : Stage V) (q : Request V) → w.seats a ≡ x → x.stage ≡ st
+      → Kept a w (ask_at w a x st q).0
   ask_kept w a x Idle request.Begin seat at = inr (sits (acted w (asks a word.AskBegin ∷ [])) a AtAhead (at_stage x Beginning) tt)
   ask_kept w a x Idle request.BeginRead seat at = inr (sits (acted w (asks a word.AskBeginRead ∷ [])) a AtAhead (at_stage x Beginning) tt)
   ask_kept w a x Idle q seat at = inl refl
@@ -203,7 +213,8 @@ module _ {V : Type 0} where
   has_begun_begins u a x (told.Exhausted clock) e h = sits u a AtAhead no_one tt
   has_begun_begins u a x n e h = stays u a AtAhead x e h
 
-  has_read_begins : (u : World V) (a : ℕ) (x : Seat V) (l : ℕ) (n : told.Notice) → u.seats a ≡ x → IsAhead x.stage → Begins a u (has_read u a x l n)
+  has_read_begins : (u : World V) (a : ℕ) (x : Seat V) (l : ℕ) (n : told.Notice) → u.seats a ≡ x → IsAhead x.stage
+      → Begins a u (has_read u a x l n)
   has_read_begins u a x l (told.Number v) e h = sits u a AtAhead (with_call x (record { target = l; op = Read }) (reply.Number v)) tt
   has_read_begins u a x l (told.Moved i found) e h = gives_up_begins u a (because x (refusal.Moved i found)) []
   has_read_begins u a x l n e h = stays u a AtAhead x e h
@@ -219,18 +230,21 @@ module _ {V : Type 0} where
   takes_ahead x got [] = tt
   takes_ahead x got (k ∷ ks) = refl
 
-  has_locked_begins : (u : World V) (a : ℕ) (x : Seat V) (n : told.Notice) → u.seats a ≡ x → IsAhead x.stage → Begins a u (has_locked u a x n)
+  has_locked_begins : (u : World V) (a : ℕ) (x : Seat V) (n : told.Notice) → u.seats a ≡ x → IsAhead x.stage
+      → Begins a u (has_locked u a x n)
   has_locked_begins u a x (told.LockedAt wv) e h =
       sits u a AtAhead (record x { stage = takes_gates [] (written_homes u a); wv = wv }) (takes_ahead x [] (written_homes u a))
   has_locked_begins u a x (told.Busy l found) e h = gives_up_begins u a (because x (refusal.Busy l found)) []
   has_locked_begins u a x (told.Invalid l found) e h = gives_up_begins u a (because x (refusal.Invalid l found)) []
   has_locked_begins u a x n e h = stays u a AtAhead x e h
 
-  has_cancelled_begins : (u : World V) (a : ℕ) (x : Seat V) (n : told.Notice) → u.seats a ≡ x → IsAhead x.stage → Begins a u (has_cancelled u a x n)
+  has_cancelled_begins : (u : World V) (a : ℕ) (x : Seat V) (n : told.Notice) → u.seats a ≡ x → IsAhead x.stage
+      → Begins a u (has_cancelled u a x n)
   has_cancelled_begins u a x told.Cancelled e h = sits (acted u (asks a word.AskAbort ∷ [])) a AtAhead (at_stage x Leaving) tt
   has_cancelled_begins u a x n e h = stays u a AtAhead x e h
 
-  tried_begins : (w u : World V) (a : ℕ) (x : Seat V) (st : Stage V) (free : Bool) (k : ℕ) (got : List ℕ) (again : ℕ → Stage V) (next : Stage V)
+  tried_begins : (w u : World V) (a : ℕ) (x : Seat V) (st : Stage V) (free : Bool) (k : ℕ) (got : List ℕ) (again : ℕ → Stage V)
+      (next : Stage V)
       (tries : ℕ)
       → IsAhead next → ((n : ℕ) → tries ≡ suc n → free ≡ false → IsTriedAgain w st (again n))
       → Leaves a u.records (Turns w x st) (has_tried u a x free k got again next tries).0
@@ -242,7 +256,8 @@ module _ {V : Type 0} where
   -- a commit goes on under its number
   goes_home_on : (w u : World V) (a : ℕ) (x : Seat V) (st : Stage V) (ks : List ℕ) → IsCommitting st
       → Leaves a u.records (Turns w x st) (goes_home u a x ks).0
-  goes_home_on w u a x st [] h = sits (acted u (asks a word.AskRelease ∷ [])) a (Turns w x st) (at_stage x Releasing) (inr (inl (refl, h, refl)))
+  goes_home_on w u a x st [] h = sits (acted u (asks a word.AskRelease ∷ [])) a (Turns w x st) (at_stage x Releasing)
+      (inr (inl (refl, h, refl)))
   goes_home_on w u a x st (k ∷ ks) h = sits u a (Turns w x st) (at_stage x (Homing (k ∷ ks))) (inr (inl (refl, h, refl)))
 
   has_stored_on : (w u : World V) (a : ℕ) (x : Seat V) (st : Stage V) (ks : List ℕ) (n : told.Notice) → IsCommitting st
@@ -261,15 +276,18 @@ module _ {V : Type 0} where
   step_turns w a x Beginning seat at =
       ahead w a x Beginning w.records _ (has_begun_begins (acted w (moves a ∷ [])) a x (word_notice w a) seat (subst IsAhead (sym at) tt))
   step_turns w a x (Reading l) seat at =
-      ahead w a x (Reading l) w.records _ (has_read_begins (acted w (moves a ∷ [])) a x l (word_notice w a) seat (subst IsAhead (sym at) tt))
+      ahead w a x (Reading l) w.records _
+      (has_read_begins (acted w (moves a ∷ [])) a x l (word_notice w a) seat (subst IsAhead (sym at) tt))
   step_turns w a x (Trying asked tries) seat at =
-      tried_begins w (acted w (TakeGate a asked.collection ∷ [])) a x (Trying asked tries) (is_none (w.boosted.gates asked.collection)) asked.collection []
+      tried_begins w (acted w (TakeGate a asked.collection ∷ [])) a x (Trying asked tries)
+      (is_none (w.boosted.gates asked.collection)) asked.collection []
       (λ n. Trying asked n) (Copying asked) tries tt
       (λ n e lost. subst (λ t. IsTriedAgain w (Trying asked t) (Trying asked n)) (sym e) (refl, lost))
   step_turns w a x (Copying asked) seat at =
       let u = acted w (PutGate a asked.collection (covers_at w.words w.blocks asked) ∷ []) in
       ahead w a x (Copying asked) w.records _
-      (answers_begins u a x (with_piece x asked.collection (piece_at w.blocks asked)) (sized_by u a asked (outcome_at u a asked)) (outcome_at u a asked) u.boosted.editions)
+      (answers_begins u a x (with_piece x asked.collection (piece_at w.blocks asked)) (sized_by u a asked (outcome_at u a asked))
+      (outcome_at u a asked) u.boosted.editions)
   step_turns w a x (Loading o []) seat at = stays w a (Turns w x (Loading o [])) x seat (inl (subst IsAhead (sym at) tt))
   step_turns w a x (Loading o (d ∷ es)) seat at =
       ahead w a x (Loading o (d ∷ es)) w.records _
@@ -278,7 +296,8 @@ module _ {V : Type 0} where
       ahead w a x Locking w.records _ (has_locked_begins (acted w (moves a ∷ [])) a x (word_notice w a) seat (subst IsAhead (sym at) tt))
   step_turns w a x (Gating got [] tries) seat at = stays w a (Turns w x (Gating got [] tries)) x seat (inl (subst IsAhead (sym at) tt))
   step_turns w a x (Gating got (k ∷ ks) tries) seat at =
-      tried_begins w (acted w (TakeGate a k ∷ [])) a x (Gating got (k ∷ ks) tries) (is_none (w.boosted.gates k)) k got (λ n. Gating got (k ∷ ks) n)
+      tried_begins w (acted w (TakeGate a k ∷ [])) a x (Gating got (k ∷ ks) tries) (is_none (w.boosted.gates k)) k got
+      (λ n. Gating got (k ∷ ks) n)
       (takes_gates (got ++ k ∷ []) ks) tries (takes_ahead x (got ++ k ∷ []) ks)
       (λ n e lost. subst (λ t. IsTriedAgain w (Gating got (k ∷ ks) t) (Gating got (k ∷ ks) n)) (sym e) (refl, lost))
   step_turns w a x (Ready ks) seat at =
@@ -293,11 +312,14 @@ module _ {V : Type 0} where
   step_turns w a x (Returning (k ∷ ks)) seat at =
       ahead w a x (Returning (k ∷ ks)) w.records _ (gives_up_begins (acted w (PutGate a k (λ l. false) ∷ [])) a x ks)
   step_turns w a x Cancelling seat at =
-      ahead w a x Cancelling w.records _ (has_cancelled_begins (acted w (moves a ∷ [])) a x (word_notice w a) seat (subst IsAhead (sym at) tt))
+      ahead w a x Cancelling w.records _
+      (has_cancelled_begins (acted w (moves a ∷ [])) a x (word_notice w a) seat (subst IsAhead (sym at) tt))
   step_turns w a x Leaving seat at = sits (record (acted w
-      (moves a ∷ [])) { aborted = w.aborted ++ record { actor = a; rv = x.rv; calls = x.calls; cause = x.cause } ∷ [] }) a (Turns w x Leaving) no_one (inl tt)
+      (moves a ∷ [])) { aborted = w.aborted ++ record { actor = a; rv = x.rv; calls = x.calls; cause = x.cause } ∷ [] }) a
+      (Turns w x Leaving) no_one (inl tt)
 
-  pub stepped_turns : (w : World V) (a : ℕ) → Leaves a (with_record a (committed_by (w.seats a) (w.seats a).stage) w.records) (Turns w (w.seats a) (w.seats a).stage)
+  pub stepped_turns : (w : World V) (a : ℕ) → Leaves a (with_record a (committed_by (w.seats a) (w.seats a).stage) w.records)
+      (Turns w (w.seats a) (w.seats a).stage)
       (happens w (Step a)).0
   stepped_turns w a = step_turns w a (w.seats a) (w.seats a).stage refl refl
 
@@ -323,7 +345,8 @@ module _ {V : Type 0} where
         | false ↦ inr (own_new a n q rs h)
       ]
 
-  own_more : (a : ℕ) (x : Seat V) (st : Stage V) (rs : List (ℕ × Record V)) (b n : ℕ) → HasOwn b n rs → HasOwn b n (with_record a (committed_by x st) rs)
+  own_more : (a : ℕ) (x : Seat V) (st : Stage V) (rs : List (ℕ × Record V)) (b n : ℕ) → HasOwn b n rs
+      → HasOwn b n (with_record a (committed_by x st) rs)
   own_more a x (Ready ks) rs b n h = own_insert b n (a, record { number = x.wv; writes = true; calls = x.calls }) rs h
   own_more a x Closing rs b n h = own_insert b n (a, record { number = x.rv; writes = false; calls = x.calls }) rs h
   own_more a x st rs b n h = h
@@ -351,7 +374,8 @@ module _ {V : Type 0} where
   -- a commit that goes on has its record, or has it by this step
   committing_own : (w : World V) (a : ℕ) (x : Seat V) (st : Stage V) → IsCommitting st → (is_half_done st ≡ true → HasOwn a x.wv w.records)
       → HasOwn a x.wv (with_record a (committed_by x st) w.records)
-  committing_own w a x (Ready ks) h f = own_new a x.wv (a, record { number = x.wv; writes = true; calls = x.calls }) w.records (refl, refl, refl)
+  committing_own w a x (Ready ks) h f = own_new a x.wv (a, record { number = x.wv; writes = true; calls = x.calls }) w.records
+      (refl, refl, refl)
   committing_own w a x (Storing ks) h f = f refl
   committing_own w a x (Homing ks) h f = f refl
   committing_own w a x Releasing h f = f refl

@@ -1,5 +1,6 @@
--- A step that begins to give a transaction up has found the cause that it notes: the word machine's refusals are true of the word that the step loads,
--- a copy is stale where the two editions differ, and a gate that was tried in vain is another's. The last step of the request tells that cause.
+-- A step that begins to give a transaction up has found the cause that it notes: the word machine's refusals are true of the word that
+-- the step loads, a copy is stale where the two editions differ, and a gate that was tried in vain is another's. The last step of the
+-- request tells that cause.
 use Rattle.collection_machine.specs.Content.{IsIn, has}
 use Rattle.std.proofs.Common.{◌≡◌, ◌≢◌, ℕ, zero, suc, ◌+◌, Bool, true, false, cond, List, [], ◌∷◌, ◌++◌, Option, Some, None, ◌⊎◌, Contains, refl, sym, ◌∙◌, ap, subst, true≢false, eqb, eq-eqb, ne_eqb, inl, inr}
 use Rattle.std.specs.Prelude.{if◌then◌else◌, nat_le, nat_lt}

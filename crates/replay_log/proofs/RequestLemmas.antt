@@ -92,11 +92,13 @@ module _ {X Op Out : Type 0} (c : Content X Op Out) (a b : ℕ) (ne : b ≡ a �
       cond_both (c.plain l) (on_words s (machine.now s.words a y)) s (Others s) (λ _. asked_other s y) (λ _. refl)
   ask_other s word.AskStore =
       let y = word.ask (s.words.actors a) (s.words.actors a).place word.AskStore in
-      cond_both (every (is_held c s a) (locations (s.words.actors a).writes)) (on_words s (machine.now s.words a y)) s (Others s) (λ _. asked_other s y)
+      cond_both (every (is_held c s a) (locations (s.words.actors a).writes)) (on_words s (machine.now s.words a y)) s (Others s)
+      (λ _. asked_other s y)
       (λ _. refl)
   ask_other s word.AskRelease =
       let y = word.ask (s.words.actors a) (s.words.actors a).place word.AskRelease in
-      cond_both (every (is_given c s a) (locations (s.words.actors a).writes)) (on_words s (machine.now s.words a y)) s (Others s) (λ _. asked_other s y) (λ _. refl)
+      cond_both (every (is_given c s a) (locations (s.words.actors a).writes)) (on_words s (machine.now s.words a y)) s (Others s)
+      (λ _. asked_other s y) (λ _. refl)
   ask_other s word.AskBeginRead = asked_other s (word.ask (s.words.actors a) (s.words.actors a).place word.AskBeginRead)
   ask_other s word.AskBegin = asked_other s (word.ask (s.words.actors a) (s.words.actors a).place word.AskBegin)
   ask_other s word.AskLock = asked_other s (word.ask (s.words.actors a) (s.words.actors a).place word.AskLock)
@@ -110,10 +112,16 @@ module _ {X Op Out : Type 0} (c : Content X Op Out) (a b : ℕ) (ne : b ≡ a �
       let x = s.words.actors a in
       let rest = may_write x.declared (c.writes o) && every (is_sound c s a) (c.reads o) in
       cond_both (is_open x.place && rest)
-      (record s { words = machine.run (writes_asked a (s.shadows a).editions (c.writes o)) s.words; shadows = machine.put s.shadows a (longer (s.shadows a) o) }) s (Others s)
+      (record s {
+        words = machine.run (writes_asked a (s.shadows a).editions (c.writes o)) s.words;
+        shadows = machine.put s.shadows a
+            (longer (s.shadows a) o);
+      }) s (Others s)
       (λ t. (
       let g = both (is_open x.place) rest t in
-      (writes_wrote c s.words a (s.shadows a).editions (c.writes o) (open_is x.place g.0) (λ l m. is_undeclared x.declared (c.writes o) l (both (may_write x.declared (c.writes o)) (every (is_sound c s a) (c.reads o)) g.1).0 m)).1 b ne))
+      (writes_wrote c s.words a (s.shadows a).editions (c.writes o) (open_is x.place g.0)
+      (λ l m. is_undeclared x.declared (c.writes o) l
+      (both (may_write x.declared (c.writes o)) (every (is_sound c s a) (c.reads o)) g.1).0 m)).1 b ne))
       (λ _. refl)
 
   -- an action of a leaves the record of b
@@ -125,11 +133,14 @@ module _ {X Op Out : Type 0} (c : Content X Op Out) (a b : ℕ) (ne : b ≡ a �
       (gated s (machine.put s.gates k (Some i)) s.shadows) s (Others s) (λ _. refl) (λ _. refl)
   own_other s (PutGate i k which) m =
       cond_both (is_actor i (s.gates k) && not (is_committing (s.words.actors i).place))
-      (gated s (machine.put s.gates k None) (if is_open (s.words.actors i).place then machine.put s.shadows i (copied c s (s.words.actors i).calls (s.shadows i) k which) else s.shadows)) s (Others s) (λ _. refl) (λ _. refl)
+      (gated s (machine.put s.gates k None)
+      (if is_open (s.words.actors i).place then machine.put s.shadows i
+      (copied c s (s.words.actors i).calls (s.shadows i) k which) else s.shadows)) s (Others s) (λ _. refl) (λ _. refl)
   own_other s (Accept i op) m =
       subst (λ j. Others s (accepted c s j (c.outcome (changes c (s.shadows j).outcomes (s.shadows j).parts) op))) (sym m)
       (accept_other s (c.outcome (changes c (s.shadows a).outcomes (s.shadows a).parts) op))
-  own_other s (GoHome i k) m = cond_both (is_actor i (s.gates k) && is_stored (s.words.actors i).place) (homed c s i k) s (Others s) (λ _. refl) (λ _. refl)
+  own_other s (GoHome i k) m = cond_both (is_actor i (s.gates k) && is_stored (s.words.actors i).place) (homed c s i k) s (Others s)
+      (λ _. refl) (λ _. refl)
 
 all_other : {X Op Out : Type 0} → (c : Content X Op Out) (a b : ℕ) → (b ≡ a → ⊥) → (es : List (Action Op)) (s : Boosted X Out) → AllOf a es
     → (act_all c es s).words.actors b ≡ s.words.actors b
@@ -143,7 +154,12 @@ act_all-append w bs (e ∷ es) fs s = act_all-append w bs es fs (acts (content w
 
 module _ {V : Type 0} where
   nothing : (a : ℕ) (v : World V) → ReachedBy a v v
-  nothing a v = record { reached = record { words = refl; blocks = refl; actions = []; is = refl }; own = tt; seats = λ b ne. refl; actors = λ b ne. refl }
+  nothing a v = record {
+    reached = record { words = refl; blocks = refl; actions = []; is = refl };
+    own = tt;
+    seats = λ b ne. refl;
+    actors = λ b ne. refl;
+  }
 
   by : (a : ℕ) (v u : World V) (es : List (Action (Asked V))) → AllOf a es → ReachedBy a v u → ReachedBy a v (acted u es)
   by a v u es own r =
@@ -162,7 +178,8 @@ module _ {V : Type 0} where
       }
 
   -- only the seat of a, records and what is told have changed
-  same : (a : ℕ) (v u t : World V) → t.words ≡ u.words → t.blocks ≡ u.blocks → t.boosted ≡ u.boosted → ((b : ℕ) → (b ≡ a → ⊥) → t.seats b ≡ u.seats b)
+  same : (a : ℕ) (v u t : World V) → t.words ≡ u.words → t.blocks ≡ u.blocks → t.boosted ≡ u.boosted
+      → ((b : ℕ) → (b ≡ a → ⊥) → t.seats b ≡ u.seats b)
       → ReachedBy a v u → ReachedBy a v t
   same a v u t e1 e2 e3 e4 r =
       let g = r.reached in record {
@@ -173,22 +190,26 @@ module _ {V : Type 0} where
       }
 
   cancels_by : (v u : World V) (a : ℕ) (x : Seat V) → ReachedBy a v u → ReachedBy a v (cancels u a x)
-  cancels_by v u a x g = let h = by a v u (asks a word.AskCancel ∷ asks a word.AskAbort ∷ []) (refl, (refl, tt)) g in same a v _ _ refl refl refl
+  cancels_by v u a x g = let h = by a v u (asks a word.AskCancel ∷ asks a word.AskAbort ∷ []) (refl, (refl, tt)) g in
+      same a v _ _ refl refl refl
       (λ b ne. put-other _ a _ b ne) h
 
   gives_up_by : (v u : World V) (a : ℕ) (x : Seat V) (ks : List ℕ) → ReachedBy a v u → ReachedBy a v (gives_up u a x ks).0
   gives_up_by v u a x [] g = cancels_by v u a x g
   gives_up_by v u a x (k ∷ ks) g = same a v u _ refl refl refl (λ b ne. put-other _ a _ b ne) g
 
-  one_by : (v u : World V) (a : ℕ) (x : Seat V) (e : Action (Asked V)) → IsOf a e → ReachedBy a v u → ReachedBy a v (seated (acted u (e ∷ [])) a x)
+  one_by : (v u : World V) (a : ℕ) (x : Seat V) (e : Action (Asked V)) → IsOf a e → ReachedBy a v u
+      → ReachedBy a v (seated (acted u (e ∷ [])) a x)
   one_by v u a x e own g = same a v _ _ refl refl refl (λ b ne. put-other _ a _ b ne) (by a v u (e ∷ []) (own, tt) g)
 
   fresh_by : (v u : World V) (a : ℕ) (x : Seat V) (d : ℕ × ℕ) (i : ℕ) (next : After V) → ReachedBy a v u → ReachedBy a v next.0
       → ReachedBy a v (is_fresh u a x d i next).0
   fresh_by v u a x d i next g h =
-      cond_both {A = After V} (eqb d.1 i) next _ (λ z. ReachedBy a v z.0) (λ _. h) (λ _. gives_up_by v u a (because x (refusal.Stale d.0 d.1 i)) [] g)
+      cond_both {A = After V} (eqb d.1 i) next _ (λ z. ReachedBy a v z.0) (λ _. h)
+      (λ _. gives_up_by v u a (because x (refusal.Stale d.0 d.1 i)) [] g)
 
-  judges_by : (v u : World V) (a : ℕ) (x : Seat V) (o : Answered V) (d : ℕ × ℕ) (es : Entries) (next : After V) (r : Option ℕ) → ReachedBy a v u
+  judges_by : (v u : World V) (a : ℕ) (x : Seat V) (o : Answered V) (d : ℕ × ℕ) (es : Entries) (next : After V) (r : Option ℕ)
+      → ReachedBy a v u
       → ReachedBy a v next.0 → ReachedBy a v (judges u a x o d es next r).0
   judges_by v u a x o d es next None g h = one_by v u a _ (asks a (word.AskRead d.0)) refl g
   judges_by v u a x o d es next (Some i) g h = fresh_by v u a x d i next g h
@@ -222,7 +243,8 @@ module _ {V : Type 0} where
       → ReachedBy a v (if_allowed u a x known room next).0
   if_allowed_by v u a x known room next g h =
       cond_both {A = After V} known _ (u, Refused a refusal.NoSuch) (λ z. ReachedBy a v z.0)
-      (λ _. cond_both {A = After V} (ltb (length x.calls) CALL_LIMIT && room) next (u, Refused a refusal.TooLong) (λ z. ReachedBy a v z.0) (λ _. h)
+      (λ _. cond_both {A = After V} (ltb (length x.calls) CALL_LIMIT && room) next (u, Refused a refusal.TooLong) (λ z. ReachedBy a v z.0)
+      (λ _. h)
       (λ _. g))
       (λ _. g)
 
@@ -257,11 +279,16 @@ module _ {V : Type 0} where
   read_by v u a x l (told.Moved i w) g = gives_up_by v u a (because x (refusal.Moved i w)) [] g
   read_by v u a x l n g = g
 
-  tried_by : (v u : World V) (a : ℕ) (x : Seat V) (free : Bool) (k : ℕ) (got : List ℕ) (again : ℕ → Stage V) (next : Stage V) (tries : ℕ) → ReachedBy a v u → ReachedBy a v (has_tried u a x free k got again next tries).0
+  tried_by : (v u : World V) (a : ℕ) (x : Seat V) (free : Bool) (k : ℕ) (got : List ℕ) (again : ℕ → Stage V) (next : Stage V) (tries : ℕ)
+      → ReachedBy a v u → ReachedBy a v (has_tried u a x free k got again next tries).0
   tried_by v u a x free k got again next zero g =
-      cond_both {A = After V} free (seated u a (at_stage x next), Quiet) _ (λ z. ReachedBy a v z.0) (λ _. same a v u _ refl refl refl (λ b ne. put-other _ a _ b ne) g) (λ _. gives_up_by v u a (because x (refusal.GateBusy k)) got g)
+      cond_both {A = After V} free (seated u a (at_stage x next), Quiet) _ (λ z. ReachedBy a v z.0)
+      (λ _. same a v u _ refl refl refl (λ b ne. put-other _ a _ b ne) g)
+      (λ _. gives_up_by v u a (because x (refusal.GateBusy k)) got g)
   tried_by v u a x free k got again next (suc n) g =
-      cond_both {A = After V} free (seated u a (at_stage x next), Quiet) _ (λ z. ReachedBy a v z.0) (λ _. same a v u _ refl refl refl (λ b ne. put-other _ a _ b ne) g) (λ _. same a v u _ refl refl refl (λ b ne. put-other _ a _ b ne) g)
+      cond_both {A = After V} free (seated u a (at_stage x next), Quiet) _ (λ z. ReachedBy a v z.0)
+      (λ _. same a v u _ refl refl refl (λ b ne. put-other _ a _ b ne) g)
+      (λ _. same a v u _ refl refl refl (λ b ne. put-other _ a _ b ne) g)
 
   loaded_by : (v u : World V) (a : ℕ) (x : Seat V) (o : Answered V) (d : ℕ × ℕ) (es : Entries) (n : told.Notice) → ReachedBy a v u
       → ReachedBy a v (has_loaded u a x o d es n).0
@@ -279,7 +306,8 @@ module _ {V : Type 0} where
   home_by v u a x [] g = one_by v u a _ (asks a word.AskRelease) refl g
   home_by v u a x (k ∷ ks) g = same a v u _ refl refl refl (λ b ne. put-other _ a _ b ne) g
 
-  stored_by : (v u : World V) (a : ℕ) (x : Seat V) (ks : List ℕ) (n : told.Notice) → ReachedBy a v u → ReachedBy a v (has_stored u a x ks n).0
+  stored_by : (v u : World V) (a : ℕ) (x : Seat V) (ks : List ℕ) (n : told.Notice) → ReachedBy a v u
+      → ReachedBy a v (has_stored u a x ks n).0
   stored_by v u a x ks told.Stored g = home_by v u a x ks g
   stored_by v u a x ks n g = same a v u _ refl refl refl (λ b ne. put-other _ a _ b ne) g
 
@@ -299,7 +327,8 @@ module _ {V : Type 0} where
   step_by v a x Open = nothing a v
   step_by v a x Beginning = begun_by v _ a x (word_notice v a) (move a v (moves a) refl)
   step_by v a x (Reading l) = read_by v _ a x l (word_notice v a) (move a v (moves a) refl)
-  step_by v a x (Trying asked tries) = tried_by v _ a x _ asked.collection [] (λ n. Trying asked n) (Copying asked) tries (move a v (TakeGate a asked.collection) refl)
+  step_by v a x (Trying asked tries) = tried_by v _ a x _ asked.collection [] (λ n. Trying asked n) (Copying asked) tries
+      (move a v (TakeGate a asked.collection) refl)
   step_by v a x (Copying asked) =
       let put = PutGate a asked.collection (covers_at v.words v.blocks asked) in
       let u = acted v (put ∷ []) in
@@ -310,7 +339,8 @@ module _ {V : Type 0} where
   step_by v a x (Loading o (d ∷ es)) = loaded_by v _ a x o d es (word_notice v a) (move a v (moves a) refl)
   step_by v a x Locking = locked_by v _ a x (word_notice v a) (move a v (moves a) refl)
   step_by v a x (Gating got [] tries) = nothing a v
-  step_by v a x (Gating got (k ∷ ks) tries) = tried_by v _ a x _ k got (λ n. Gating got (k ∷ ks) n) (takes_gates (got ++ k ∷ []) ks) tries (move a v (TakeGate a k) refl)
+  step_by v a x (Gating got (k ∷ ks) tries) = tried_by v _ a x _ k got (λ n. Gating got (k ∷ ks) n) (takes_gates (got ++ k ∷ []) ks) tries
+      (move a v (TakeGate a k) refl)
   step_by v a x (Ready ks) =
       let ready = acted v (asks a word.AskStore ∷ []) in
       stored_by v (noted_in (acted ready (moves a ∷ [])) a x true x.wv) a x ks (word_notice ready a)
@@ -349,7 +379,8 @@ module _ {V : Type 0} where
     blocks = h.blocks ∙ g.blocks;
     actions = g.actions ++ h.actions;
     is =
-        h.is ∙ ap (λ w. act_all (content w u.blocks) h.actions u.boosted) g.words ∙ ap (λ bs. act_all (content v.words bs) h.actions u.boosted) g.blocks
+        h.is ∙ ap (λ w. act_all (content w u.blocks) h.actions u.boosted) g.words
+        ∙ ap (λ bs. act_all (content v.words bs) h.actions u.boosted) g.blocks
         ∙ ap (act_all (content v.words v.blocks) h.actions) g.is ∙ sym (act_all-append v.words v.blocks g.actions h.actions v.boosted);
   }
 

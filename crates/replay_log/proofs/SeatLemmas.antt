@@ -1,11 +1,12 @@
 -- What a world of words and collections has of its machine, seat by seat.
 --
--- `StageOk` says of each stage at which places the machine's actor may stand there, and what is known of its transaction:
--- `InTx`, the clock that it began with and its calls, as two parts: the calls on words are the machine's word calls, those on collections its outcomes;
--- `Live`, while calls are made: what was read of a collection was copied with that edition, which the read set has, and so was each piece that the seat has copied;
--- `LoadOk`, what a call still has to judge; and before and after a commit which gates its stage holds, each once (`Differ`), so that no guard of the
--- machine refuses what the next step asks. `Linked` says it of all seats, and that records and aborted transactions are the machine's. An action of
--- actor a leaves all of it for the others (`at_by`), so each event is proved for its own seat alone (`At`).
+-- `StageOk` says of each stage at which places the machine's actor may stand there, and what is known of its transaction: `InTx`, the
+-- clock that it began with and its calls, as two parts: the calls on words are the machine's word calls, those on collections its
+-- outcomes; `Live`, while calls are made: what was read of a collection was copied with that edition, which the read set has, and so was
+-- each piece that the seat has copied; `LoadOk`, what a call still has to judge; and before and after a commit which gates its stage
+-- holds, each once (`Differ`), so that no guard of the machine refuses what the next step asks. `Linked` says it of all seats, and that
+-- records and aborted transactions are the machine's. An action of actor a leaves all of it for the others (`at_by`), so each event is
+-- proved for its own seat alone (`At`).
 use Rattle.std.proofs.Common.{◌≡◌, ℕ, ◌<◌, Bool, true, false, cond, List, [], ◌∷◌, ◌++◌, map, Some, None, ◌⊎◌, inl, inr, refl, sym, ◌∙◌, ap, subst, true≢false, eqb, eq-eqb, ne_eqb}
 use Rattle.std.specs.Prelude.{not, option_map, if◌then◌else◌}
 use Rattle.std.proofs.lemmas.Bool.{cases_eq, cond-true, cond-false}
@@ -89,7 +90,8 @@ has-append [] js k h = refl
 has-append (i ∷ ks) js k h =
     elim (cases_eq k i) [
       | inl e ↦ absurd (true≢false (sym (cond-true _ true (has (ks ++ js) k) (is k i e)) ∙ h))
-      | inr ne ↦ cond-false _ true (has ks k) (isnt k i ne) ∙ has-append ks js k (sym (cond-false _ true (has (ks ++ js) k) (isnt k i ne)) ∙ h)
+      | inr ne ↦ cond-false _ true (has ks k) (isnt k i ne) ∙ has-append ks js k
+          (sym (cond-false _ true (has (ks ++ js) k) (isnt k i ne)) ∙ h)
     ]
   where
     is : (k i : ℕ) → k ≡ i → eqb k i ≡ true
@@ -178,12 +180,14 @@ module _ {V : Type 0} where
 
   -- a call on a collection, of its kind, and no change where its transaction is a declared reader
   abbrev pub KnownAsk : List Block → Actor → Asked V → Type 0
-  KnownAsk bs y asked = (is_word_op asked.op ≡ false) × (is_known (block_of bs asked.collection) asked.op ≡ true) × (may_ask y asked.op ≡ true)
+  KnownAsk bs y asked = (is_word_op asked.op ≡ false) × (is_known (block_of bs asked.collection) asked.op ≡ true)
+      × (may_ask y asked.op ≡ true)
 
   -- the locations that are still to be judged were copied, those that were not read with these editions
   abbrev pub Left : ℕ → List Block → Actor → Copy V → Entries → Type 0
   Left n bs y z [] = Unit {0}
-  Left n bs y z (d ∷ es) = (is_plain n bs d.0 ≡ false) × (z.copied d.0 ≡ true) × (first_read y.calls d.0 ≡ None → z.editions d.0 ≡ d.1) × Left n bs y z es
+  Left n bs y z (d ∷ es) = (is_plain n bs d.0 ≡ false) × (z.copied d.0 ≡ true) × (first_read y.calls d.0 ≡ None → z.editions d.0 ≡ d.1)
+      × Left n bs y z es
 
   pub record LoadOk (n : ℕ) (bs : List Block) (y : Actor) (z : Copy V) (o : Answered V) (es : Entries) : Type 0 where
     pub is : o ≡ (content n bs).outcome (changes (content n bs) z.outcomes z.parts) o.asked
@@ -243,7 +247,8 @@ module _ {V : Type 0} where
   SameEnded n (e ∷ es) (f ∷ fs) = (e.rv ≡ f.word.rv) × Parts n e.calls f.word.calls f.outcomes × SameEnded n es fs
   SameEnded n es fs = ⊥
 
-  pub SameEnded-push : (n : ℕ) (es : List (Ended V)) (fs : List (Aborted (Answered V))) (e : Ended V) (f : Aborted (Answered V)) → SameEnded n es fs
+  pub SameEnded-push : (n : ℕ) (es : List (Ended V)) (fs : List (Aborted (Answered V))) (e : Ended V) (f : Aborted (Answered V))
+      → SameEnded n es fs
       → e.rv ≡ f.word.rv
       → Parts n e.calls f.word.calls f.outcomes → SameEnded n (es ++ e ∷ []) (fs ++ f ∷ [])
   SameEnded-push n [] [] e f h r c = (r, c, tt)
@@ -282,7 +287,8 @@ module _ {V : Type 0} where
         (subst (λ (u : Copy V). StageOk n bs x y u x.stage y.place) (sym ez) h.stage);
   }
 
-  pub linked_same : (w : World V) (a : ℕ) (y : Actor) (z : Copy V) (g : ℕ → Bool) → At w a y z g → SeatOk w.words w.blocks (w.seats a) y z g → Linked w
+  pub linked_same : (w : World V) (a : ℕ) (y : Actor) (z : Copy V) (g : ℕ → Bool) → At w a y z g → SeatOk w.words w.blocks
+      (w.seats a) y z g → Linked w
   linked_same w a y z g k h = record {
     base = k.base;
     seats = λ b. elim (cases_eq b a) [
@@ -301,13 +307,16 @@ module _ {V : Type 0} where
     own = k.own;
   }
 
-  pub linked_seated : (w : World V) (a : ℕ) (x : Seat V) (y : Actor) (z : Copy V) (g : ℕ → Bool) → At w a y z g → SeatOk w.words w.blocks x y z g
+  pub linked_seated : (w : World V) (a : ℕ) (x : Seat V) (y : Actor) (z : Copy V) (g : ℕ → Bool) → At w a y z g
+      → SeatOk w.words w.blocks x y z g
       → Linked (seated w a x)
   linked_seated w a x y z g k h =
-      linked_same (seated w a x) a y z g (at_seated w a x y z g k) (subst (λ (u : Seat V). SeatOk w.words w.blocks u y z g) (sym (put-same w.seats a x)) h)
+      linked_same (seated w a x) a y z g (at_seated w a x y z g k)
+      (subst (λ (u : Seat V). SeatOk w.words w.blocks u y z g) (sym (put-same w.seats a x)) h)
 
   -- ---- an action
-  pub others_by : (w v : World V) (a : ℕ) → v.words ≡ w.words → v.blocks ≡ w.blocks → ((b : ℕ) → v.seats b ≡ w.seats b) → Apart w.boosted v.boosted a
+  pub others_by : (w v : World V) (a : ℕ) → v.words ≡ w.words → v.blocks ≡ w.blocks → ((b : ℕ) → v.seats b ≡ w.seats b)
+      → Apart w.boosted v.boosted a
       → ((b : ℕ) → (b ≡ a → ⊥) → SeatIn w b (w.seats b)) → (b : ℕ) → (b ≡ a → ⊥)
       → SeatOk w.words w.blocks (v.seats b) (v.boosted.words.actors b) (v.boosted.shadows b) (mine v.boosted b)
   others_by w v a e1 e2 e3 p h b ne =
@@ -330,7 +339,8 @@ module _ {V : Type 0} where
     own = record { actor = t.own.actor ∙ ey; shadow = t.own.shadow ∙ ez; gates = λ i. t.own.gates i ∙ eg i };
   }
 
-  pub at_ask : (w : World V) (a : ℕ) (y : Actor) (z : Copy V) (g : ℕ → Bool) (p : Place) (q : Request) → At w a y z g → y.place ≡ p → IsFreeAsk q
+  pub at_ask : (w : World V) (a : ℕ) (y : Actor) (z : Copy V) (g : ℕ → Bool) (p : Place) (q : Request) → At w a y z g → y.place ≡ p
+      → IsFreeAsk q
       → At (acted w (asks a q ∷ [])) a (ask y p q) z g
   at_ask w a y z g p q k e f =
       at_by w a y (ask (w.boosted.words.actors a) p q) (ask y p q) z (w.boosted.shadows a) z g (mine w.boosted a) g (asks a q) k
@@ -348,7 +358,11 @@ module _ {V : Type 0} where
       let w2 = acted w1 (asks a word.AskAbort ∷ []) in
       let k2 : At w2 a y2 z g = at_ask w1 a y1 z g q.0 word.AskAbort (at_ask w a y z g y.place word.AskCancel k refl tt) q.1 tt in
       let l : LeftAt y y2 = q.2 in
-      let tx2 : InTx w.words x y2 z = (tx.0 ∙ sym l.rv, subst (λ (cs : List machine.Call). Parts w.words x.calls cs z.outcomes) (sym l.calls) tx.1) in
+      let tx2 : InTx w.words x y2 z = (
+        tx.0 ∙ sym l.rv,
+        subst (λ (cs : List machine.Call). Parts w.words x.calls cs z.outcomes)
+            (sym l.calls) tx.1,
+      ) in
       let place : (w2.boosted.words.actors a).place ≡ y2.place = ap (λ (u : Actor). u.place) k2.own.actor in
       elim l.place [
         | inl leaving ↦
@@ -359,7 +373,8 @@ module _ {V : Type 0} where
             (linked_seated w2 a (at_stage x Cancelling) y2 z g k2 (record { gates = none; stage = (undo.0, undo.1, tx2) }))
       ]
 
-  pub gives_up_linked : (w : World V) (a : ℕ) (x : Seat V) (y : Actor) (z : Copy V) (g : ℕ → Bool) (ks : List ℕ) → At w a y z g → ((k : ℕ) → g k ≡ has ks k)
+  pub gives_up_linked : (w : World V) (a : ℕ) (x : Seat V) (y : Actor) (z : Copy V) (g : ℕ → Bool) (ks : List ℕ) → At w a y z g
+      → ((k : ℕ) → g k ≡ has ks k)
       → Differ ks → CanLeave y.place → InTx w.words x y z
       → Linked (gives_up w a x ks).0
   gives_up_linked w a x y z g [] k held differ leave tx = cancels_linked w a x y z g k held leave tx
@@ -371,7 +386,8 @@ module _ {V : Type 0} where
       → (on_words (done ++ c ∷ []) ≡ on_words done ++ cond b (c ∷ []) []) × (on_held (done ++ c ∷ []) ≡ on_held done ++ cond b [] (c ∷ []))
   both_filters done c b e = (
     filter-append is_on_word done (c ∷ []) ∙ ap (λ (q : Bool). on_words done ++ cond q (c ∷ []) []) e,
-    filter-append (λ (d : Call V × Reply V). not (is_on_word d)) done (c ∷ []) ∙ ap (λ (q : Bool). on_held done ++ cond (not q) (c ∷ []) []) e
+    filter-append (λ (d : Call V × Reply V). not (is_on_word d)) done (c ∷ [])
+        ∙ ap (λ (q : Bool). on_held done ++ cond (not q) (c ∷ []) []) e
         ∙ ap (λ (cs : List (Call V × Reply V)). on_held done ++ cs) (turned b),
   )
     where
@@ -379,25 +395,29 @@ module _ {V : Type 0} where
       turned true = refl
       turned false = refl
 
-  pub word_joins : (n : ℕ) (done : List (Call V × Reply V)) (cs : List machine.Call) (os : List (Answered V)) (v : machine.Call) → is_of_word n v ≡ true
+  pub word_joins : (n : ℕ) (done : List (Call V × Reply V)) (cs : List machine.Call) (os : List (Answered V)) (v : machine.Call)
+      → is_of_word n v ≡ true
       → Parts n done cs os
       → Parts n (done ++ pair_of v ∷ []) (cs ++ v ∷ []) os
   word_joins n done cs os v e p =
       let f = both_filters done (pair_of v) true (of_pair V v) in record {
-        words = f.0 ∙ ap (λ (ds : List (Call V × Reply V)). ds ++ pair_of v ∷ []) p.words ∙ sym (map-append pair_of (word_calls n cs) (v ∷ []))
+        words = f.0 ∙ ap (λ (ds : List (Call V × Reply V)). ds ++ pair_of v ∷ []) p.words
+            ∙ sym (map-append pair_of (word_calls n cs) (v ∷ []))
             ∙ ap (map pair_of) (sym (words_push n cs v true e));
         held = subst (λ (ds : List (Call V × Reply V)). Told ds os) (sym (f.1 ∙ append-nil (on_held done))) p.held;
       }
 
   -- a word call at a location of a collection is none of the transaction's own
-  pub edition_joins : (n : ℕ) (done : List (Call V × Reply V)) (cs : List machine.Call) (os : List (Answered V)) (v : machine.Call) → is_of_word n v ≡ false
+  pub edition_joins : (n : ℕ) (done : List (Call V × Reply V)) (cs : List machine.Call) (os : List (Answered V)) (v : machine.Call)
+      → is_of_word n v ≡ false
       → Parts n done cs os → Parts n done (cs ++ v ∷ []) os
   edition_joins n done cs os v e p = record {
     words = p.words ∙ ap (map pair_of) (sym (words_push n cs v false e ∙ append-nil (word_calls n cs)));
     held = p.held;
   }
 
-  pub held_joins : (n : ℕ) (done : List (Call V × Reply V)) (cs : List machine.Call) (os : List (Answered V)) (c : Call V × Reply V) (o : Answered V)
+  pub held_joins : (n : ℕ) (done : List (Call V × Reply V)) (cs : List machine.Call) (os : List (Answered V)) (c : Call V × Reply V)
+      (o : Answered V)
       → is_on_word c ≡ false
       → c.0 ≡ call_of o → option_map (λ r. r.reply) o.outcome ≡ Some c.1 → Parts n done cs os → Parts n (done ++ c ∷ []) cs (os ++ o ∷ [])
   held_joins n done cs os c o e is told p =

@@ -1,6 +1,6 @@
--- A world that has what its machine has is serial. The machine's history is a run of the words and of the collections; the world's records are that
--- history with each transaction's calls in the order in which they were made, so the records are a run of both together, and what they leave, after all
--- or up to a number, is what the words and the collections leave.
+-- A world that has what its machine has is serial. The machine's history is a run of the words and of the collections; the world's
+-- records are that history with each transaction's calls in the order in which they were made, so the records are a run of both
+-- together, and what they leave, after all or up to a number, is what the words and the collections leave.
 use Rattle.std.proofs.Common.{◌≡◌, ℕ, zero, suc, ◌<◌, max, Some, inl, inr, arith, true, false, List, [], ◌∷◌, length, refl, sym, ◌∙◌, ap, subst, true≢false}
 use Rattle.std.specs.Prelude.{get_or}
 use Rattle.word_machine.specs.Actor as machine
@@ -87,7 +87,8 @@ at_memory u m h k cs e same g =
     (subst (λ (z : Memory). IsLegal (memory_after z (upto k u.history)) cs) e g)
 
 -- both hold of each aborted transaction
-both_aborted : {Out : Type 0} (P : world.Ended → Type 0) (Q : Aborted Out → Type 0) (es : List (Aborted Out)) → AllEnded P (ended es) → AllAborted Q es
+both_aborted : {Out : Type 0} (P : world.Ended → Type 0) (Q : Aborted Out → Type 0) (es : List (Aborted Out)) → AllEnded P (ended es)
+    → AllAborted Q es
     → AllAborted (λ e. P e.word × Q e) es
 both_aborted P Q [] h g = tt
 both_aborted P Q (e ∷ es) h g = ((h.0, g.0), both_aborted P Q es h.1 g.1)
@@ -98,16 +99,21 @@ all_ended P Q (e ∷ es) f h = (f e h.0, all_ended P Q es f h.1)
 
 -- ---- half-done commits
 -- the stamp of a location is the number of a writer
-stamped_in : (h : List world.Record) (l k : ℕ) → stamp h l ≡ k → 0 < k → AllRecords (λ r. (r.writer ≡ false → (i : ℕ) → touched r.calls i ≡ false)) h
+stamped_in : (h : List world.Record) (l k : ℕ) → stamp h l ≡ k → 0 < k
+    → AllRecords (λ r. (r.writer ≡ false → (i : ℕ) → touched r.calls i ≡ false)) h
     → HasNumber k h
 stamped_in [] l k e pos g = absurd (omega (arith, e, pos))
 stamped_in (r ∷ rs) l k e pos g =
     elim (cases_Bool (touched r.calls l)) [
       | inr out ↦ inr (stamped_in rs l k (sym (cond-false (touched r.calls l) (max r.number (stamp rs l)) (stamp rs l) out) ∙ e) pos g.1)
       | inl in_it ↦
-          (let top : max r.number (stamp rs l) ≡ k = sym (cond-true (touched r.calls l) (max r.number (stamp rs l)) (stamp rs l) in_it) ∙ e in
+          (let top : max r.number (stamp rs l) ≡ k = sym (cond-true (touched r.calls l) (max r.number (stamp rs l)) (stamp rs l) in_it)
+          ∙ e in
           elim (cases_eq r.number k) [
-            | inl same ↦ inl (same, elim (cases_Bool r.writer) [ inl yes_it ↦ yes_it | inr reader ↦ absurd (true≢false (sym in_it ∙ g.0 reader l)) ])
+            | inl same ↦ inl (
+              same,
+              elim (cases_Bool r.writer) [ inl yes_it ↦ yes_it | inr reader ↦ absurd (true≢false (sym in_it ∙ g.0 reader l)) ],
+            )
             | inr other ↦ inr (stamped_in rs l k (below_top r.number (stamp rs l) k top other) pos g.1)
           ])
     ]
@@ -140,7 +146,8 @@ get_or-none (x ∷ xs) zero h = absurd (omega (arith, h))
 get_or-none (x ∷ xs) (suc i) h = get_or-none xs i (omega (arith, h))
 
 module _ {V : Type 0} where
-  half_too : (n : ℕ) (bs : List Block) (x : Seat V) (y : Actor) (z : Copy V) (st : Stage V) (p : Place) → StageOk n bs x y z st p → IsHalfDone p
+  half_too : (n : ℕ) (bs : List Block) (x : Seat V) (y : Actor) (z : Copy V) (st : Stage V) (p : Place) → StageOk n bs x y z st p
+      → IsHalfDone p
       → is_half_done st ≡ true
   half_too n bs x y z Idle p h g = absurd (not_half p machine.Idle h (λ q. q) g)
   half_too n bs x y z Beginning p h g = absurd (not_half p machine.Begin h (λ q. q) g)
@@ -167,7 +174,8 @@ module _ {V : Type 0} where
   abbrev SawIn : Contents V → List (ℕ × Record V) → Seat V → Type 0
   SawIn s records x = AreLegal x.calls (state_at x.rv records s)
 
-  stage_saw : (n : ℕ) (bs : List Block) (x : Seat V) (y : Actor) (z : Copy V) (st : Stage V) (p : Place) (s : Contents V) (records : List (ℕ × Record V))
+  stage_saw : (n : ℕ) (bs : List Block) (x : Seat V) (y : Actor) (z : Copy V) (st : Stage V) (p : Place) (s : Contents V)
+      (records : List (ℕ × Record V))
       → (InTx n x y z → SawIn s records x)
       → StageOk n bs x y z st p → SawAt s records x st
   stage_saw n bs x y z Idle p s rs f h = tt
@@ -191,7 +199,8 @@ module _ {V : Type 0} where
   stage_saw n bs x y z Cancelling p s rs f h = f h.2
   stage_saw n bs x y z Leaving p s rs f h = f h.1
 
-  done_of : (s : world.World) (n : ℕ) (bs : List Block) (x : Seat V) (y : Actor) (z : Copy V) (st : Stage V) (p : Place) → StageOk n bs x y z st p
+  done_of : (s : world.World) (n : ℕ) (bs : List Block) (x : Seat V) (y : Actor) (z : Copy V) (st : Stage V) (p : Place)
+      → StageOk n bs x y z st p
       → is_half_done st ≡ true → PlaceOk s y p
       → (ls : List ℕ) × (x.wv ≡ y.wv) × Done s y.wv y.writes y.held ls
   done_of s n bs x y z (Storing ks) p h half pl = let q = storing_in s y p h.0 pl in (q.0, h.1, q.1)
@@ -205,7 +214,8 @@ module _ {V : Type 0} where
   suit_calls bs hs (o ∷ os) s = suit_calls bs (collections.after_call hs o.asked.collection o.asked.op) os
       (suit_after bs hs o.asked.collection o.asked.op s)
 
-  suit_run : (bs : List Block) (hs : List (Held V)) (qs : List (Committed (Answered V))) → Suit bs hs → Suit bs (collections.after_run hs qs)
+  suit_run : (bs : List Block) (hs : List (Held V)) (qs : List (Committed (Answered V))) → Suit bs hs
+      → Suit bs (collections.after_run hs qs)
   suit_run bs hs [] s = s
   suit_run bs hs (q ∷ qs) s = suit_run bs (collections.after_calls hs q.outcomes) qs (suit_calls bs hs q.outcomes s)
 
@@ -215,7 +225,8 @@ module _ {V : Type 0} where
     run_words : IsRun m (serial.words s.history)
     run_held : IsRunOn hs s.history
     left_words : IsNoneHalfDone s.words → (l : ℕ) → s.words.values l ≡ memory_after m (serial.words s.history) l
-    left_held : IsNoneHalfDone s.words → (l : ℕ) → is_plain n bs l ≡ false → s.parts l ≡ shown_at n bs (collections.after_run hs s.history) l
+    left_held : IsNoneHalfDone s.words → (l : ℕ) → is_plain n bs l ≡ false → s.parts l
+        ≡ shown_at n bs (collections.after_run hs s.history) l
     aborted : AllAborted (λ e. IsLegal (memory_after m (upto e.word.rv (serial.words s.history))) e.word.calls
         × AreReplies (held_at s.history e.word.rv hs) e.outcomes) s.aborted
 
@@ -243,7 +254,8 @@ module _ {V : Type 0} where
         let s = after_them in
         let v = ok in record {
           order = subst IsInOrder (sym v.same) v.machine.ordered;
-          run_words = subst (IsRun m) (sym v.same) (subst (λ (z : Memory). IsRun z s.words.history) memory_is (word_schedules.serial s.words v.machine));
+          run_words = subst (IsRun m) (sym v.same)
+              (subst (λ (z : Memory). IsRun z s.words.history) memory_is (word_schedules.serial s.words v.machine));
           run_held = world_serial n bs stripes clock m (hs, suit) actions;
           left_words = λ none l.
               words_at_rest s.words v.machine none l ∙ ap (λ (z : Memory). memory_after z s.words.history l) memory_is
@@ -255,7 +267,8 @@ module _ {V : Type 0} where
               (subst (AllEnded (λ e. IsLegal (memory_after m (upto e.rv (serial.words s.history))) e.calls)) (sym v.ends)
               (all_ended (λ e. IsLegal (memory_at s.words e.rv) e.calls)
               (λ e. IsLegal (memory_after m (upto e.rv (serial.words s.history))) e.calls) s.words.aborted
-              (λ e h. at_memory s.words m (serial.words s.history) e.rv e.calls memory_is v.same h) (word_schedules.all_aborted s.words v.machine)))
+              (λ e h. at_memory s.words m (serial.words s.history) e.rv e.calls memory_is v.same h)
+              (word_schedules.all_aborted s.words v.machine)))
               (world_aborted n bs stripes clock m (hs, suit) actions);
         }
 
@@ -267,7 +280,8 @@ module _ {V : Type 0} where
         let f = content_frame {V = V} n bs stripes in
         let t = act_all c later s in
         let v = all_ok c f later s ok in (
-          at_memory t.words m (serial.words t.history) (s.words.actors a).rv (s.words.actors a).calls (v.first ∙ (all-opening c f later s ok).1
+          at_memory t.words m (serial.words t.history) (s.words.actors a).rv (s.words.actors a).calls
+              (v.first ∙ (all-opening c f later s ok).1
               ∙ sym ok.first ∙ memory_is) v.same
               (legal_of t.words (s.words.actors a).rv (s.words.actors a).calls
               (all_words_saw c f later s (s.words.actors a).rv (s.words.actors a).calls ok (actor_saw s.words a ok.machine))),
@@ -312,9 +326,11 @@ module _ {V : Type 0} where
     same_ended : SameEnded n w.aborted w.boosted.aborted
     same_ended = subst (λ i. SameEnded i w.aborted w.boosted.aborted) words_are linked.base.aborted
 
-    stage_of : (a : ℕ) → StageOk n bs (w.seats a) (w.boosted.words.actors a) (w.boosted.shadows a) (w.seats a).stage (w.boosted.words.actors a).place
+    stage_of : (a : ℕ) → StageOk n bs (w.seats a) (w.boosted.words.actors a) (w.boosted.shadows a) (w.seats a).stage
+        (w.boosted.words.actors a).place
     stage_of a =
-        subst (λ i. StageOk i bs (w.seats a) (w.boosted.words.actors a) (w.boosted.shadows a) (w.seats a).stage (w.boosted.words.actors a).place) words_are
+        subst (λ i. StageOk i bs (w.seats a) (w.boosted.words.actors a) (w.boosted.shadows a) (w.seats a).stage
+        (w.boosted.words.actors a).place) words_are
         (subst (λ (cs : List Block). StageOk w.words cs (w.seats a) (w.boosted.words.actors a) (w.boosted.shadows a) (w.seats a).stage
         (w.boosted.words.actors a).place) blocks_are (linked.seats a).stage)
 
@@ -327,7 +343,8 @@ module _ {V : Type 0} where
         let k = f.word.rv in
         let q = w.boosted.history in (
           subst (λ i. AreLegal e.calls (state_at i w.records opening)) (sym h.0)
-              (both_legal n e.calls f.word.calls f.outcomes (held_at q k hs) (memory_after m (upto k (serial.words q))) (state_at k w.records opening)
+              (both_legal n e.calls f.word.calls f.outcomes (held_at q k hs) (memory_after m (upto k (serial.words q)))
+              (state_at k w.records opening)
               (at_number n k w.records q hs m opening agrees same_records) h.1 g.0.0 g.0.1),
           ended_saw es fs h.2 g.1,
         )
@@ -337,15 +354,19 @@ module _ {V : Type 0} where
         let s = w.boosted in
         let f = world_facts in
         let rest : IsNoneHalfDone s.words = λ a h.
-        true≢false (sym (half_too n bs (w.seats a) (s.words.actors a) (s.shadows a) (w.seats a).stage (s.words.actors a).place (stage_of a) h) ∙ none a) in
+        true≢false (sym (half_too n bs (w.seats a) (s.words.actors a) (s.shadows a) (w.seats a).stage (s.words.actors a).place
+        (stage_of a) h) ∙ none a) in
         let g = runs_agree n w.records s.history hs m opening agrees same_records in
         let t = after_run w.records opening in record {
           count = g.count ∙ sym words_are;
           words = λ l lt. f.left_words rest l ∙ sym (g.same l (subst (λ i. l < i) words_are lt));
-          suit = subst (λ (cs : List Block). Suit cs t.held) (sym blocks_are) (subst (Suit bs) (sym g.held) (suit_run bs hs s.history suit));
+          suit = subst (λ (cs : List Block). Suit cs t.held) (sym blocks_are)
+              (subst (Suit bs) (sym g.held) (suit_run bs hs s.history suit));
           held = λ l pl.
-              f.left_held rest l (subst (λ (cs : List Block). is_plain n cs l ≡ false) blocks_are (subst (λ i. is_plain i w.blocks l ≡ false) words_are pl))
-              ∙ ap (λ (gs : List (Held V)). shown_at n bs gs l) (sym g.held) ∙ ap (λ (cs : List Block). shown_at n cs t.held l) (sym blocks_are)
+              f.left_held rest l (subst (λ (cs : List Block). is_plain n cs l ≡ false) blocks_are
+              (subst (λ i. is_plain i w.blocks l ≡ false) words_are pl))
+              ∙ ap (λ (gs : List (Held V)). shown_at n bs gs l) (sym g.held) ∙ ap (λ (cs : List Block). shown_at n cs t.held l)
+              (sym blocks_are)
               ∙ ap (λ i. shown_at i w.blocks t.held l) (sym words_are);
         }
 
@@ -373,7 +394,8 @@ module _ {V : Type 0} where
         (saw n bs stripes clock m hs suit ac.0 lt.0 a)) in
         stage_saw n bs x y z x.stage y.place opening t.records
         (λ tx. subst (λ i. AreLegal x.calls (state_at i t.records opening)) (sym tx.0)
-        (both_legal n x.calls y.calls z.outcomes (held_at q y.rv hs) (memory_after m (upto y.rv (serial.words q))) (state_at y.rv t.records opening)
+        (both_legal n x.calls y.calls z.outcomes (held_at q y.rv hs) (memory_after m (upto y.rv (serial.words q)))
+        (state_at y.rv t.records opening)
         (at_number n y.rv t.records q hs m opening agrees same) tx.1 seen.0 seen.1)) (stage_of a)
 
     half_in : (x : Seat V) (y : Actor) (z : Copy V) (st : Stage V) (p : Place) → StageOk n bs x y z st p → is_half_done st ≡ true
@@ -381,7 +403,8 @@ module _ {V : Type 0} where
     half_in x y z st p h half pl =
         let d = done_of w.boosted.words n bs x y z st p h half pl in
         let v = linked.base.inv in
-        let readers = AllRecords_map (RecordOk w.boosted.words) (λ r. (r.writer ≡ false → (i : ℕ) → touched r.calls i ≡ false)) w.boosted.words.history
+        let readers = AllRecords_map (RecordOk w.boosted.words)
+        (λ r. (r.writer ≡ false → (i : ℕ) → touched r.calls i ≡ false)) w.boosted.words.history
         (λ r q. q.reader) v.machine.records in
         subst (λ i. HasWritten i w.records) (sym d.1)
         (written_too n y.wv w.records w.boosted.history same_records (subst (HasNumber y.wv) (sym v.same)
@@ -395,12 +418,14 @@ module _ {V : Type 0} where
           left = left;
           open_saw = λ a. saw_later [] a;
           aborted_saw = ended_saw w.aborted w.boosted.aborted same_ended f.aborted;
-          half = λ a h. half_in (w.seats a) (w.boosted.words.actors a) (w.boosted.shadows a) (w.seats a).stage (w.boosted.words.actors a).place
+          half = λ a h. half_in (w.seats a) (w.boosted.words.actors a) (w.boosted.shadows a) (w.seats a).stage
+              (w.boosted.words.actors a).place
               (stage_of a) h (linked.base.inv.machine.actors a).place;
         }
 
     -- ---- what began later has a number that is at least each one before
-    up_to : (k : ℕ) (rs : List (ℕ × Record V)) (qs : List (Committed (Answered V))) → SameRecords n rs qs → AllRecords (λ r. r.number ≤ k) (serial.words qs) → AreUpTo k rs
+    up_to : (k : ℕ) (rs : List (ℕ × Record V)) (qs : List (Committed (Answered V))) → SameRecords n rs qs → AllRecords (λ r. r.number ≤ k)
+        (serial.words qs) → AreUpTo k rs
     up_to k [] qs g h = tt
     up_to k (r ∷ rs) [] g h = absurd g
     up_to k (r ∷ rs) (q ∷ qs) g h = (subst (λ i. i ≤ k) (sym g.0.number) h.0, up_to k rs qs g.1 h.1)
@@ -425,7 +450,8 @@ module _ {V : Type 0} where
         let none = get_or-none values l (not_below l n (no_word_at n bs l pl)) in
         subst (λ (t : Boosted (Shown V) (Answered V)). t.editions l ≤ t.words.clock) (sym ac.1) (omega (arith, few, first, none))
 
-    pub begins_above : (a rv : ℕ) → (w.seats a).stage ≡ Beginning → (happens w (Step a)).1 ≡ note.Answered a (answer.Begun rv) → AreUpTo rv w.records
+    pub begins_above : (a rv : ℕ) → (w.seats a).stage ≡ Beginning → (happens w (Step a)).1 ≡ note.Answered a (answer.Begun rv)
+        → AreUpTo rv w.records
     begins_above a rv st e =
         let s = w.boosted.words in
         let u = acted w (moves a ∷ []) in
@@ -433,16 +459,20 @@ module _ {V : Type 0} where
         let y = s.actors a in
         let at_begin : y.place ≡ machine.Begin = subst (λ q. StageOk n bs x y (w.boosted.shadows a) q y.place) st (stage_of a) in
         let said : (has_begun u a x (begin_notice s.clock)).1 ≡ note.Answered a (answer.Begun rv) =
-        ap (λ k. (has_begun u a x k).1) (sym (tells w a y (w.boosted.shadows a) (mine w.boosted a) machine.Begin (at_of w a linked) at_begin)) ∙ ap (λ q. (step_at w a x q).1) (sym st) ∙ e in
+        ap (λ k. (has_begun u a x k).1)
+        (sym (tells w a y (w.boosted.shadows a) (mine w.boosted a) machine.Begin (at_of w a linked) at_begin))
+        ∙ ap (λ q. (step_at w a x q).1) (sym st) ∙ e in
         let is : s.clock ≡ rv = by_clock u x s.clock (nat_lt s.clock machine.clock_limit) said in
         subst (λ i. AreUpTo i w.records) is numbers_past
       where
-        by_clock : (u : World V) (x : Seat V) (clock : ℕ) (b : Bool) → (has_begun u a x (cond b (told.Begun clock) (told.Exhausted clock))).1 ≡ note.Answered a (answer.Begun rv) → clock ≡ rv
+        by_clock : (u : World V) (x : Seat V) (clock : ℕ) (b : Bool)
+            → (has_begun u a x (cond b (told.Begun clock) (told.Exhausted clock))).1 ≡ note.Answered a (answer.Begun rv) → clock ≡ rv
         by_clock u x clock true h = cc
         by_clock u x clock false h = cc
 
   -- ---- a number that was given up
-  none_written : (n k : ℕ) (rs : List (ℕ × Record V)) (qs : List (Committed (Answered V))) → SameRecords n rs qs → NoWriterHas k (serial.words qs)
+  none_written : (n k : ℕ) (rs : List (ℕ × Record V)) (qs : List (Committed (Answered V))) → SameRecords n rs qs
+      → NoWriterHas k (serial.words qs)
       → HasWritten k rs → ⊥
   none_written n k [] qs g f h = h
   none_written n k (r ∷ rs) [] g f h = absurd g
@@ -456,7 +486,8 @@ module _ {V : Type 0} where
   gives_up_there n bs x y z Leaving p h back = subst IsEnding (sym h.0) tt
   gives_up_there n bs x y z st p h back = absurd (true≢false (sym back))
 
-  pub unused_later : (bs : List Block) → HaveStripes bs → (clock : ℕ) (values : List ℕ) (hs : List (Held V)) (events later : List (Event V)) (a : ℕ)
+  pub unused_later : (bs : List Block) → HaveStripes bs → (clock : ℕ) (values : List ℕ) (hs : List (Held V))
+      (events later : List (Event V)) (a : ℕ)
       → let w = run (opened bs clock values hs) events in
       gives_back (w.seats a).stage ≡ true → HasWritten (w.boosted.words.actors a).wv (run w later).records → ⊥
   unused_later bs stripes clock values hs events later a back written =
@@ -476,11 +507,13 @@ module _ {V : Type 0} where
       (subst (λ (s : Boosted (Shown V) (Answered V)). IsEnding (s.words.actors a).place) ac.1 ends) in
       none_written n y.wv t.records t.boosted.history same
       (subst (λ (s : Boosted (Shown V) (Answered V)). NoWriterHas y.wv (serial.words s.history)) (sym lt.1)
-      (subst (λ (s : Boosted (Shown V) (Answered V)). NoWriterHas (s.words.actors a).wv (serial.words (act_all c lt.0 s).history)) (sym ac.1) spent))
+      (subst (λ (s : Boosted (Shown V) (Answered V)). NoWriterHas (s.words.actors a).wv (serial.words (act_all c lt.0 s).history))
+      (sym ac.1) spent))
       written
 
   -- a transaction that commits has seen what an open one has
-  pub committed_saw : (first : Contents V) (rs : List (ℕ × Record V)) (x : Seat V) (st : Stage V) → commits_at st ≡ true → SawAt first rs x st
+  pub committed_saw : (first : Contents V) (rs : List (ℕ × Record V)) (x : Seat V) (st : Stage V) → commits_at st ≡ true
+      → SawAt first rs x st
       → AreLegal x.calls (state_at x.rv rs first)
   committed_saw first rs x (Ready ks) h saw = saw
   committed_saw first rs x Closing h saw = saw

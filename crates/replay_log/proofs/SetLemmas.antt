@@ -1,5 +1,6 @@
--- What an action leaves of the two sets of its actor. A request leaves both, but for a write, which the write set takes; a step leaves both, but for the
--- load that begins a transaction, which empties them, and the last load of a read, which the read set takes; an action on a gate leaves the words.
+-- What an action leaves of the two sets of its actor. A request leaves both, but for a write, which the write set takes; a step leaves
+-- both, but for the load that begins a transaction, which empties them, and the last load of a read, which the read set takes; an action
+-- on a gate leaves the words.
 use Rattle.std.proofs.Common.{◌≡◌, ℕ, ◌+◌, ◌≤◌, Bool, true, false, cond, ◌&&◌, List, [], ◌∷◌, length, Option, Some, None, ◌⊎◌, inl, inr, refl, sym, ◌∙◌, ap, subst, true≢false, arith, eqb}
 use Rattle.std.specs.Prelude.{nat_le, not, if◌then◌else◌}
 use Rattle.std.proofs.lemmas.Bool.{cond_both, cond-true}

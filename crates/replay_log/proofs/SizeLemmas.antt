@@ -1,8 +1,9 @@
 -- Both sets of an actor have at most 4,096 locations at every moment.
 --
--- `Sized` says it of each stage; besides, while a word is being read, that one more fits, and while a call is judged, that what is left of its locations
--- fits, which the definition tests just before (`has_room`). A location that is read then is new in the set (`PlaceOk`), so what is left shrinks by what
--- the set grows. The sets change by the load that begins, by the last load of a read and by a write alone (`SetLemmas`).
+-- `Sized` says it of each stage; besides, while a word is being read, that one more fits, and while a call is judged, that what is left
+-- of its locations fits, which the definition tests just before (`has_room`). A location that is read then is new in the set
+-- (`PlaceOk`), so what is left shrinks by what the set grows. The sets change by the load that begins, by the last load of a read and by
+-- a write alone (`SetLemmas`).
 use Rattle.std.proofs.Common.{◌≡◌, ℕ, zero, suc, ◌+◌, ◌<◌, ◌≤◌, Bool, true, false, cond, true≢false, not, ◌&&◌, ◌||◌, List, [], ◌∷◌, ◌++◌, length, Option, Some, None, ◌⊎◌, inl, inr, refl, sym, ◌∙◌, ap, subst, arith, eqb}
 use Rattle.std.specs.Prelude.{nat_lt, nat_le, if◌then◌else◌}
 use Rattle.std.proofs.lemmas.Bool.{cond_both, cond-true, cond-false, cases_eq}
@@ -649,4 +650,5 @@ module _ {V : Type 0} where
       (q : Request V) → HaveStripes blocks → AreSmall blocks
       → let w = run (opened blocks clock values held) events in Nears a 1000000 (happens w (Ask a q))
   world_soon blocks clock values held events a q stripes small =
-      let few = world_small blocks clock values held events a stripes in world_few blocks clock values held events stripes small a q few.0 few.1
+      let few = world_small blocks clock values held events a stripes in
+      world_few blocks clock values held events stripes small a q few.0 few.1

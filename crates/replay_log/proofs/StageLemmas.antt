@@ -126,13 +126,15 @@ or_true true = refl
 or_true false = refl
 
 -- the gates that are left
-pub gates_left : (g : ℕ → Bool) (i : ℕ) (ks : List ℕ) → ((k : ℕ) → g k ≡ has (i ∷ ks) k) → has ks i ≡ false → (j : ℕ) → without_gate g i j ≡ has ks j
+pub gates_left : (g : ℕ → Bool) (i : ℕ) (ks : List ℕ) → ((k : ℕ) → g k ≡ has (i ∷ ks) k) → has ks i ≡ false → (j : ℕ) → without_gate g i j
+    ≡ has ks j
 gates_left g i ks held differ j = ap (λ b. cond (eqb j i) false b) (held j) ∙ pop_has ks i j differ
 
 module _ {V : Type 0} where
   -- ---- helpers
   -- the seat is as it was
-  pub same_seat : (w : World V) (a : ℕ) (x : Seat V) (y : Actor) (z : Copy V) (g : ℕ → Bool) (st : Stage V) → At w a y z g → w.seats a ≡ x → x.stage ≡ st
+  pub same_seat : (w : World V) (a : ℕ) (x : Seat V) (y : Actor) (z : Copy V) (g : ℕ → Bool) (st : Stage V) → At w a y z g → w.seats a ≡ x
+      → x.stage ≡ st
       → ((k : ℕ) → g k ≡ has (gates_of st) k)
       → StageOk w.words w.blocks x y z st y.place → Linked w
   same_seat w a x y z g st k seat at_st held h =
@@ -145,7 +147,8 @@ module _ {V : Type 0} where
       → At (acted w (moves a ∷ [])) a (learns w.boosted.words y (plan y p)) z g
   at_move w a y z g p k e q =
       let u = w.boosted.words.actors a in
-      at_by w a y (learns w.boosted.words u (plan u p)) (learns w.boosted.words y (plan y p)) z (w.boosted.shadows a) z g (mine w.boosted a) g (moves a) k
+      at_by w a y (learns w.boosted.words u (plan u p)) (learns w.boosted.words y (plan y p)) z (w.boosted.shadows a) z g
+      (mine w.boosted a) g (moves a) k
       (step_goes w.boosted a p (ap (λ (v : Actor). v.place) k.own.actor ∙ e) (quiet_outcome a u p q) (quiet_shadows w.boosted a p q))
       (ap (λ (v : Actor). learns w.boosted.words v (plan v p)) k.own.actor) k.own.shadow k.own.gates
 
@@ -156,10 +159,12 @@ module _ {V : Type 0} where
   pub same_live : (n : ℕ) (bs : List Block) (x : Seat V) (y y2 : Actor) (z : Copy V) → SameTx y y2 → Live n bs x y z → Live n bs x y2 z
   same_live n bs x y y2 z s l = record {
     tx = (l.tx.0 ∙ sym s.rv, subst (λ (cs : List machine.Call). Parts n x.calls cs z.outcomes) (sym s.calls) l.tx.1);
-    sound = subst (λ (cs : List machine.Call). (i e : ℕ) → is_plain n bs i ≡ false → first_read cs i ≡ Some e → (z.copied i ≡ true) × (z.editions i ≡ e)) (sym s.calls) l.sound;
+    sound = subst (λ (cs : List machine.Call). (i e : ℕ) → is_plain n bs i ≡ false → first_read cs i ≡ Some e → (z.copied i ≡ true)
+        × (z.editions i ≡ e)) (sym s.calls) l.sound;
     kept = λ i p.
         ap (λ (es : Entries). lookup es i) s.reads ∙ l.kept i p
-        ∙ sym (ap (λ b. in_set b (first_read y2.calls i)) s.declared ∙ ap (λ (cs : List machine.Call). in_set y.declared (first_read cs i)) s.calls);
+        ∙ sym (ap (λ b. in_set b (first_read y2.calls i)) s.declared
+        ∙ ap (λ (cs : List machine.Call). in_set y.declared (first_read cs i)) s.calls);
     pieces = l.pieces;
   }
 
@@ -167,8 +172,10 @@ module _ {V : Type 0} where
   same_in_tx n x y y2 z s t = (t.0 ∙ sym s.rv, subst (λ (cs : List machine.Call). Parts n x.calls cs z.outcomes) (sym s.calls) t.1)
 
   -- ---- begin
-  begun_linked : (u : World V) (s : Boosted (Shown V) (Answered V)) (a : ℕ) (x : Seat V) (y : Actor) (g : ℕ → Bool) (clock : ℕ) (b : Bool) → ((k : ℕ) → g k ≡ false)
-      → At u a (cond b (machine.opened y.declared clock) (goes y machine.Idle)) (cond b (fresh s) (s.shadows a)) g → Linked (has_begun u a x (cond b (told.Begun clock) (told.Exhausted clock))).0
+  begun_linked : (u : World V) (s : Boosted (Shown V) (Answered V)) (a : ℕ) (x : Seat V) (y : Actor) (g : ℕ → Bool) (clock : ℕ) (b : Bool)
+      → ((k : ℕ) → g k ≡ false)
+      → At u a (cond b (machine.opened y.declared clock) (goes y machine.Idle)) (cond b (fresh s) (s.shadows a)) g
+      → Linked (has_begun u a x (cond b (told.Begun clock) (told.Exhausted clock))).0
   begun_linked u s a x y g clock true none k =
       linked_seated u a (record no_one { stage = Open; rv = clock }) (machine.opened y.declared clock) (fresh s) g k (record {
         gates = none;
@@ -182,23 +189,28 @@ module _ {V : Type 0} where
           },
         );
       })
-  begun_linked u s a x y g clock false none k = linked_seated u a no_one (goes y machine.Idle) (s.shadows a) g k (record { gates = none; stage = refl })
+  begun_linked u s a x y g clock false none k = linked_seated u a no_one (goes y machine.Idle) (s.shadows a) g k
+      (record { gates = none; stage = refl })
 
-  pub begin_step : (w : World V) (a : ℕ) (x : Seat V) → Linked w → (w.boosted.words.actors a).place ≡ machine.Begin → ((k : ℕ) → mine w.boosted a k ≡ false)
+  pub begin_step : (w : World V) (a : ℕ) (x : Seat V) → Linked w → (w.boosted.words.actors a).place ≡ machine.Begin
+      → ((k : ℕ) → mine w.boosted a k ≡ false)
       → Linked (has_begun (acted w (moves a ∷ [])) a x (word_notice w a)).0
   begin_step w a x k e none =
       let s = w.boosted in
       let y = s.words.actors a in
       let b = nat_lt s.words.clock machine.clock_limit in
       let at : At (acted w (moves a ∷ [])) a (machine.begun y s.words.clock) (begun_shadow s a b) (mine s a) =
-      at_by w a y (machine.begun y s.words.clock) (machine.begun y s.words.clock) (s.shadows a) (begun_shadow s a b) (begun_shadow s a b) (mine s a)
+      at_by w a y (machine.begun y s.words.clock) (machine.begun y s.words.clock) (s.shadows a) (begun_shadow s a b) (begun_shadow s a b)
+      (mine s a)
       (mine s a) (mine s a) (moves a) (at_of w a k)
       (begin_goes s a e) refl refl (λ i. refl) in
-      subst (λ n. Linked (has_begun (acted w (moves a ∷ [])) a x n).0) (sym (tells w a y (s.shadows a) (mine s a) machine.Begin (at_of w a k) e))
+      subst (λ n. Linked (has_begun (acted w (moves a ∷ [])) a x n).0)
+      (sym (tells w a y (s.shadows a) (mine s a) machine.Begin (at_of w a k) e))
       (begun_linked (acted w (moves a ∷ [])) s a x y (mine s a) s.words.clock b none at)
 
   -- ---- a word is read
-  pub sound_word : (n : ℕ) (bs : List Block) (y : Actor) (z : Copy V) (l v : ℕ) → l < n → Sound n bs y z → Sound n bs (machine.has_read y l v) z
+  pub sound_word : (n : ℕ) (bs : List Block) (y : Actor) (z : Copy V) (l v : ℕ) → l < n → Sound n bs y z
+      → Sound n bs (machine.has_read y l v) z
   sound_word n bs y z l v lt s i e pl h =
       s i e pl (sym (first_read-other y.calls l v i (no_word n bs l i lt pl)) ∙ h)
 
@@ -207,7 +219,8 @@ module _ {V : Type 0} where
   read_live n bs x y z l v lt h = record {
     tx = (h.tx.0, word_joins n x.calls y.calls z.outcomes (machine.Read l v) (is_below l n lt) h.tx.1);
     sound = sound_word n bs y z l v lt h.sound;
-    kept = λ i p. kept_at y.declared y.reads y.calls l v i (h.kept i p) (λ same. absurd (no_word n bs l i lt p same)) (λ same. absurd (no_word n bs l i lt p same));
+    kept = λ i p. kept_at y.declared y.reads y.calls l v i (h.kept i p) (λ same. absurd (no_word n bs l i lt p same))
+        (λ same. absurd (no_word n bs l i lt p same));
     pieces = h.pieces;
   }
 
@@ -215,14 +228,16 @@ module _ {V : Type 0} where
   undone_live n x y z t = t
 
   -- a transaction that was refused, and holds no gate
-  pub refused_linked : (u : World V) (a : ℕ) (x : Seat V) (y y2 : Actor) (z : Copy V) (g : ℕ → Bool) (cause : Refusal) (p : Place) → At u a y2 z g
+  pub refused_linked : (u : World V) (a : ℕ) (x : Seat V) (y y2 : Actor) (z : Copy V) (g : ℕ → Bool) (cause : Refusal) (p : Place)
+      → At u a y2 z g
       → ((k : ℕ) → g k ≡ false) → y2 ≡ goes y p → CanLeave p → InTx u.words x y z
       → Linked (gives_up u a (because x cause) []).0
   refused_linked u a x y y2 z g cause p k none e leave tx =
       cancels_linked u a (because x cause) y2 z g k none (subst (λ (v : Actor). CanLeave v.place) (sym e) leave)
       (subst (λ (v : Actor). InTx u.words (because x cause) v z) (sym e) tx)
 
-  pub has_read_linked : (u : World V) (a : ℕ) (x : Seat V) (y y2 : Actor) (z : Copy V) (g : ℕ → Bool) (l : ℕ) (n : told.Notice) → At u a y2 z g
+  pub has_read_linked : (u : World V) (a : ℕ) (x : Seat V) (y y2 : Actor) (z : Copy V) (g : ℕ → Bool) (l : ℕ) (n : told.Notice)
+      → At u a y2 z g
       → ((k : ℕ) → g k ≡ false) → u.seats a ≡ x → x.stage ≡ Reading l
       → l < u.words → Live u.words u.blocks x y z → AfterRead l y y2 n → Linked (has_read u a x l n).0
   has_read_linked u a x y y2 z g l told.Quiet k none seat st lt live h =
@@ -231,7 +246,8 @@ module _ {V : Type 0} where
       linked_seated u a (with_call x (record { target = l; op = Read }) (reply.Number v)) y2 z g k (record {
         gates = none;
         stage = subst (λ (q : Actor). (q.place ≡ machine.Open) × Live u.words u.blocks
-            (with_call x (record { target = l; op = Read }) (reply.Number v)) q z) (sym h) (refl, read_live u.words u.blocks x y z l v lt live);
+            (with_call x (record { target = l; op = Read }) (reply.Number v)) q z) (sym h)
+            (refl, read_live u.words u.blocks x y z l v lt live);
       })
   has_read_linked u a x y y2 z g l (told.Moved i found) k none seat st lt live h = refused_linked u a x y y2 z g
       (refusal.Moved i found) machine.Undo k none h tt live.tx
@@ -239,7 +255,8 @@ module _ {V : Type 0} where
 
   -- ---- locks, stamp and check
   -- the gates that are got, and those still to be
-  takes_linked : (u : World V) (a : ℕ) (x : Seat V) (y : Actor) (z : Copy V) (g : ℕ → Bool) (got ks : List ℕ) → At u a y z g → y.place ≡ machine.Check []
+  takes_linked : (u : World V) (a : ℕ) (x : Seat V) (y : Actor) (z : Copy V) (g : ℕ → Bool) (got ks : List ℕ) → At u a y z g → y.place
+      ≡ machine.Check []
       → ((k : ℕ) → g k ≡ has got k)
       → CommitOk u.words u.blocks x y z (got ++ ks) → Linked (seated u a (at_stage x (takes_gates got ks)))
   takes_linked u a x y z g got [] k e held h =
@@ -258,14 +275,17 @@ module _ {V : Type 0} where
   pub has_locked_linked : (u : World V) (a : ℕ) (x : Seat V) (y y2 : Actor) (z : Copy V) (g : ℕ → Bool) (n : told.Notice) → At u a y2 z g
       → ((k : ℕ) → g k ≡ false) → u.seats a ≡ x → x.stage ≡ Locking
       → InTx u.words x y z → AfterLock y y2 n → Linked (has_locked u a x n).0
-  has_locked_linked u a x y y2 z g told.Quiet k none seat st tx h = same_seat u a x y2 z g Locking k seat st none (h.0, same_in_tx u.words x y y2 z h.1 tx)
+  has_locked_linked u a x y y2 z g told.Quiet k none seat st tx h = same_seat u a x y2 z g Locking k seat st none
+      (h.0, same_in_tx u.words x y y2 z h.1 tx)
   has_locked_linked u a x y y2 z g (told.LockedAt wv) k none seat st tx h =
-      let homes = λ (v : Actor). distinct (all_of (home_of u.words u.blocks) (filter (λ l. not (is_plain u.words u.blocks l)) (locations v.writes))) in
+      let homes = λ (v : Actor). distinct
+      (all_of (home_of u.words u.blocks) (filter (λ l. not (is_plain u.words u.blocks l)) (locations v.writes))) in
       let x2 : Seat V = record x { wv = wv } in
       subst (λ (v : Actor). Linked (seated u a (at_stage x2 (takes_gates [] (homes v))))) (sym k.own.actor)
       (takes_linked u a x2 y2 z g [] (homes y2) k h.0 none (record {
         wv = h.1;
-        differ = distinct_differ (all_of (home_of u.words u.blocks) (filter (λ l. not (is_plain u.words u.blocks l)) (locations y2.writes)));
+        differ = distinct_differ
+            (all_of (home_of u.words u.blocks) (filter (λ l. not (is_plain u.words u.blocks l)) (locations y2.writes)));
         covers = Homes-ok u.words u.blocks y2;
         tx = same_in_tx u.words x2 y y2 z h.2 tx;
       }))
@@ -277,15 +297,18 @@ module _ {V : Type 0} where
 
   -- ---- gates
   -- a gate was tried: where it was free a has it with its others, else those that it had
-  pub gate_tried : (w : World V) (a i : ℕ) (y : Actor) (z : Copy V) (g : ℕ → Bool) → At w a y z g → is_committing y.place ≡ false → let u = acted w (TakeGate a i ∷ []) in
+  pub gate_tried : (w : World V) (a i : ℕ) (y : Actor) (z : Copy V) (g : ℕ → Bool) → At w a y z g → is_committing y.place ≡ false
+      → let u = acted w (TakeGate a i ∷ []) in
       (is_none (w.boosted.gates i) ≡ true → At u a y z (with_gate g i)) × (is_none (w.boosted.gates i) ≡ false → At u a y z g)
   gate_tried w a i y z g k rests =
       let s = w.boosted in
       let t : Tried (content w.words w.blocks) s (acts (content w.words w.blocks) s (TakeGate a i)) a i =
       take_tried (content w.words w.blocks) s a i (ap (λ (v : Actor). is_committing v.place) k.own.actor ∙ rests) in (
-        λ e. at_by w a y (s.words.actors a) y z (s.shadows a) z g (with_gate (mine s a) i) (with_gate g i) (TakeGate a i) k (t.won e) k.own.actor k.own.shadow
+        λ e. at_by w a y (s.words.actors a) y z (s.shadows a) z g (with_gate (mine s a) i) (with_gate g i) (TakeGate a i) k
+            (t.won e) k.own.actor k.own.shadow
             (λ j. ap (λ b. cond (eqb j i) true b) (k.own.gates j)),
-        λ e. at_by w a y (s.words.actors a) y z (s.shadows a) z g (mine s a) g (TakeGate a i) k (t.lost e) k.own.actor k.own.shadow k.own.gates,
+        λ e. at_by w a y (s.words.actors a) y z (s.shadows a) z g (mine s a) g (TakeGate a i) k
+            (t.lost e) k.own.actor k.own.shadow k.own.gates,
       )
 
   pub choose : (b : Bool) (u v : After V) → (b ≡ true → Linked u.0) → (b ≡ false → Linked v.0) → Linked (cond b u v).0
@@ -296,13 +319,16 @@ module _ {V : Type 0} where
       → (free ≡ true → Linked (seated u a (at_stage x next)))
       → (free ≡ false → Linked (gives_up u a (because x (refusal.GateBusy i)) got).0)
       → (free ≡ false → (m : ℕ) → Linked (seated u a (at_stage x (again m)))) → Linked (has_tried u a x free i got again next tries).0
-  tried_linked u a x free i got again next zero won last more = choose free (seated u a (at_stage x next), Quiet) (gives_up u a (because x (refusal.GateBusy i)) got) won last
+  tried_linked u a x free i got again next zero won last more = choose free (seated u a (at_stage x next), Quiet)
+      (gives_up u a (because x (refusal.GateBusy i)) got) won last
   tried_linked u a x free i got again next (suc m) won last more =
       choose free (seated u a (at_stage x next), Quiet) (seated u a (at_stage x (again m)), Quiet) won (λ e. more e m)
 
-  pub trying_step : (w : World V) (a : ℕ) (x : Seat V) (y : Actor) (z : Copy V) (g : ℕ → Bool) (asked : Asked V) (tries : ℕ) → At w a y z g → ((k : ℕ) → g k ≡ false) → y.place ≡ machine.Open
+  pub trying_step : (w : World V) (a : ℕ) (x : Seat V) (y : Actor) (z : Copy V) (g : ℕ → Bool) (asked : Asked V) (tries : ℕ)
+      → At w a y z g → ((k : ℕ) → g k ≡ false) → y.place ≡ machine.Open
       → Live w.words w.blocks x y z → KnownAsk w.blocks y asked
-      → Linked (has_tried (acted w (TakeGate a asked.collection ∷ [])) a x (is_none (w.boosted.gates asked.collection)) asked.collection [] (λ n. Trying asked n) (Copying asked) tries).0
+      → Linked (has_tried (acted w (TakeGate a asked.collection ∷ [])) a x
+      (is_none (w.boosted.gates asked.collection)) asked.collection [] (λ n. Trying asked n) (Copying asked) tries).0
   trying_step w a x y z g asked tries k none e live known =
       let u = acted w (TakeGate a asked.collection ∷ []) in
       let t = gate_tried w a asked.collection y z g k (ap is_committing e) in
@@ -312,17 +338,24 @@ module _ {V : Type 0} where
         stage = (e, record { tx = live.tx; sound = live.sound; kept = live.kept; pieces = live.pieces }, known);
       }))
       (λ lost. cancels_linked u a (because x (refusal.GateBusy asked.collection)) y z g (t.1 lost) none (subst CanLeave (sym e) tt) live.tx)
-      (λ lost m. linked_seated u a (at_stage x (Trying asked m)) y z g (t.1 lost) (record { gates = none; stage = (e, record { tx = live.tx; sound = live.sound; kept = live.kept; pieces = live.pieces }, known) }))
+      (λ lost m. linked_seated u a (at_stage x (Trying asked m)) y z g (t.1 lost)
+      (record {
+        gates = none;
+        stage = (e, record { tx = live.tx; sound = live.sound; kept = live.kept; pieces = live.pieces }, known);
+      }))
 
-  pub gating_step : (w : World V) (a : ℕ) (x : Seat V) (y : Actor) (z : Copy V) (g : ℕ → Bool) (got : List ℕ) (i : ℕ) (ks : List ℕ) (tries : ℕ)
+  pub gating_step : (w : World V) (a : ℕ) (x : Seat V) (y : Actor) (z : Copy V) (g : ℕ → Bool) (got : List ℕ) (i : ℕ) (ks : List ℕ)
+      (tries : ℕ)
       → At w a y z g → ((k : ℕ) → g k ≡ has got k)
       → y.place ≡ machine.Check [] → CommitOk w.words w.blocks x y z (got ++ i ∷ ks)
-      → Linked (has_tried (acted w (TakeGate a i ∷ [])) a x (is_none (w.boosted.gates i)) i got (λ n. Gating got (i ∷ ks) n) (takes_gates (got ++ i ∷ []) ks) tries).0
+      → Linked (has_tried (acted w (TakeGate a i ∷ [])) a x (is_none (w.boosted.gates i)) i got (λ n. Gating got (i ∷ ks) n)
+      (takes_gates (got ++ i ∷ []) ks) tries).0
   gating_step w a x y z g got i ks tries k held e h =
       let u = acted w (TakeGate a i ∷ []) in
       let t = gate_tried w a i y z g k (ap is_committing e) in
       tried_linked u a x (is_none (w.boosted.gates i)) i got (λ n. Gating got (i ∷ ks) n) (takes_gates (got ++ i ∷ []) ks) tries
-      (λ won. takes_linked u a x y z (with_gate g i) (got ++ i ∷ []) ks (t.0 won) e (λ j. ap (λ b. cond (eqb j i) true b) (held j) ∙ push_has got i j)
+      (λ won. takes_linked u a x y z (with_gate g i) (got ++ i ∷ []) ks (t.0 won) e
+      (λ j. ap (λ b. cond (eqb j i) true b) (held j) ∙ push_has got i j)
       (subst (CommitOk w.words w.blocks x y z) (sym (append_assoc got (i ∷ []) ks)) h))
       (λ lost. gives_up_linked u a (because x (refusal.GateBusy i)) y z g got (t.1 lost) held (Differ-front got (i ∷ ks) h.differ)
       (subst CanLeave (sym e) tt) h.tx)
@@ -332,8 +365,10 @@ module _ {V : Type 0} where
       }))
 
   -- a gate is put back while nothing is being committed; a transaction that calls has copied what the gate covers
-  pub gate_put : (w : World V) (a i : ℕ) (which : ℕ → Bool) (y : Actor) (z : Copy V) (g : ℕ → Bool) → At w a y z g → g i ≡ true → is_committing y.place ≡ false
-      → At (acted w (PutGate a i which ∷ [])) a y (if is_open y.place then copied (content w.words w.blocks) w.boosted y.calls z i which else z) (without_gate g i)
+  pub gate_put : (w : World V) (a i : ℕ) (which : ℕ → Bool) (y : Actor) (z : Copy V) (g : ℕ → Bool) → At w a y z g → g i ≡ true
+      → is_committing y.place ≡ false
+      → At (acted w (PutGate a i which ∷ [])) a y
+      (if is_open y.place then copied (content w.words w.blocks) w.boosted y.calls z i which else z) (without_gate g i)
   gate_put w a i which y z g k e rests =
       let s = w.boosted in
       let c = content w.words w.blocks in
@@ -341,7 +376,8 @@ module _ {V : Type 0} where
       let copy = λ (v : Actor) (q : Copy V). if is_open v.place then copied c s v.calls q i which else q in
       at_by w a y u y z (copy u (s.shadows a)) (copy y z) g (without_gate (mine s a) i) (without_gate g i) (PutGate a i which) k
       (put_goes c s a i which (k.own.gates i ∙ e) (ap (λ (v : Actor). is_committing v.place) k.own.actor ∙ rests))
-      k.own.actor (ap (λ (v : Actor). copy v (s.shadows a)) k.own.actor ∙ ap (copy y) k.own.shadow) (λ j. ap (λ b. cond (eqb j i) false b) (k.own.gates j))
+      k.own.actor (ap (λ (v : Actor). copy v (s.shadows a)) k.own.actor ∙ ap (copy y) k.own.shadow)
+      (λ j. ap (λ b. cond (eqb j i) false b) (k.own.gates j))
 
   put_outcomes : (w : World V) (y : Actor) (z : Copy V) (i : ℕ) (which : ℕ → Bool) (b : Bool)
       → (if b then copied (content w.words w.blocks) w.boosted y.calls z i which else z).outcomes ≡ z.outcomes
@@ -361,7 +397,8 @@ module _ {V : Type 0} where
 
   -- ---- after the first value store
   -- the releases are asked for, with no gate held any more
-  pub at_release : (u : World V) (a : ℕ) (y : Actor) (z : Copy V) (g : ℕ → Bool) → At u a y z g → ((k : ℕ) → g k ≡ false) → y.place ≡ machine.Store []
+  pub at_release : (u : World V) (a : ℕ) (y : Actor) (z : Copy V) (g : ℕ → Bool) → At u a y z g → ((k : ℕ) → g k ≡ false) → y.place
+      ≡ machine.Store []
       → At (acted u (asks a word.AskRelease ∷ [])) a (goes y machine.Release) z g
   at_release u a y z g k none e =
       let s = u.boosted in
@@ -375,16 +412,19 @@ module _ {V : Type 0} where
       (release_goes c s a (ap (λ (q : Actor). q.place) k.own.actor ∙ e) given)
       (ap (λ (q : Actor). goes q machine.Release) k.own.actor) k.own.shadow k.own.gates
 
-  goes_home_linked : (u : World V) (a : ℕ) (x : Seat V) (y : Actor) (z : Copy V) (g : ℕ → Bool) (ks : List ℕ) → At u a y z g → ((k : ℕ) → g k ≡ has ks k)
+  goes_home_linked : (u : World V) (a : ℕ) (x : Seat V) (y : Actor) (z : Copy V) (g : ℕ → Bool) (ks : List ℕ) → At u a y z g
+      → ((k : ℕ) → g k ≡ has ks k)
       → y.place ≡ machine.Store [] → x.wv ≡ y.wv → Differ ks
       → Linked (goes_home u a x ks).0
   goes_home_linked u a x y z g [] k none e wv differ =
-      linked_seated (acted u (asks a word.AskRelease ∷ [])) a (at_stage x Releasing) (goes y machine.Release) z g (at_release u a y z g k none e)
+      linked_seated (acted u (asks a word.AskRelease ∷ [])) a (at_stage x Releasing) (goes y machine.Release) z g
+      (at_release u a y z g k none e)
       (record { gates = none; stage = (refl, wv) })
   goes_home_linked u a x y z g (i ∷ ks) k held e wv differ =
       linked_seated u a (at_stage x (Homing (i ∷ ks))) y z g k (record { gates = held; stage = (e, wv, differ) })
 
-  pub has_stored_linked : (u : World V) (a : ℕ) (x : Seat V) (y y2 : Actor) (z : Copy V) (g : ℕ → Bool) (ks : List ℕ) (n : told.Notice) → At u a y2 z g
+  pub has_stored_linked : (u : World V) (a : ℕ) (x : Seat V) (y y2 : Actor) (z : Copy V) (g : ℕ → Bool) (ks : List ℕ) (n : told.Notice)
+      → At u a y2 z g
       → ((k : ℕ) → g k ≡ has ks k) → x.wv ≡ y.wv → Differ ks
       → AfterStore y y2 n → Linked (has_stored u a x ks n).0
   has_stored_linked u a x y y2 z g ks told.Stored k held wv differ h = goes_home_linked u a x y2 z g ks k held h.0 (wv ∙ sym h.1) differ
@@ -392,12 +432,14 @@ module _ {V : Type 0} where
       linked_seated u a (at_stage x (Storing ks)) y2 z g k (record { gates = held; stage = (h.0, wv ∙ sym h.1, differ) })
   has_stored_linked u a x y y2 z g ks n k held wv differ h = absurd h
 
-  pub at_home : (w : World V) (a : ℕ) (y : Actor) (z : Copy V) (g : ℕ → Bool) (i : ℕ) → At w a y z g → g i ≡ true → y.place ≡ machine.Store []
+  pub at_home : (w : World V) (a : ℕ) (y : Actor) (z : Copy V) (g : ℕ → Bool) (i : ℕ) → At w a y z g → g i ≡ true → y.place
+      ≡ machine.Store []
       → At (acted w (GoHome a i ∷ [])) a y z (without_gate g i)
   at_home w a y z g i k held e =
       let s = w.boosted in
       at_by w a y (s.words.actors a) y z (s.shadows a) z g (without_gate (mine s a) i) (without_gate g i) (GoHome a i) k
-      (home_goes (content w.words w.blocks) s a i (k.own.gates i ∙ held) (ap (λ (q : Actor). is_stored q.place) k.own.actor ∙ ap is_stored e))
+      (home_goes (content w.words w.blocks) s a i (k.own.gates i ∙ held)
+      (ap (λ (q : Actor). is_stored q.place) k.own.actor ∙ ap is_stored e))
       k.own.actor k.own.shadow (λ j. ap (λ b. cond (eqb j i) false b) (k.own.gates j))
 
   pub homing_step : (w : World V) (a : ℕ) (x : Seat V) (y : Actor) (z : Copy V) (g : ℕ → Bool) (i : ℕ) (ks : List ℕ) → At w a y z g
@@ -410,14 +452,17 @@ module _ {V : Type 0} where
   pub has_released_linked : (u : World V) (a : ℕ) (x : Seat V) (y y2 : Actor) (z : Copy V) (g : ℕ → Bool) (n : told.Notice) → At u a y2 z g
       → ((k : ℕ) → g k ≡ false) → u.seats a ≡ x → x.stage ≡ Releasing → x.wv ≡ y.wv
       → AfterRelease y y2 n → Linked (has_released u a x n).0
-  has_released_linked u a x y y2 z g told.Released k none seat st wv h = linked_seated u a no_one y2 z g k (record { gates = none; stage = h })
+  has_released_linked u a x y y2 z g told.Released k none seat st wv h = linked_seated u a no_one y2 z g k
+      (record { gates = none; stage = h })
   has_released_linked u a x y y2 z g told.Quiet k none seat st wv h = same_seat u a x y2 z g Releasing k seat st none (h.0, wv ∙ sym h.1)
   has_released_linked u a x y y2 z g n k none seat st wv h = absurd h
 
   -- ---- the steps that end a transaction
-  pub at_commit : (w : World V) (a : ℕ) (y : Actor) (z : Copy V) (g : ℕ → Bool) (p : Place) (r : world.Record) (q : ℕ × Record V) → At w a y z g
+  pub at_commit : (w : World V) (a : ℕ) (y : Actor) (z : Copy V) (g : ℕ → Bool) (p : Place) (r : world.Record) (q : ℕ × Record V)
+      → At w a y z g
       → y.place ≡ p → outcome a y p ≡ world.Commits r
-      → ((s : Boosted (Shown V) (Answered V)) → shadows_after s a p ≡ s.shadows) → SameRecord w.words q (record { word = r; outcomes = z.outcomes })
+      → ((s : Boosted (Shown V) (Answered V)) → shadows_after s a p ≡ s.shadows) → SameRecord w.words q
+      (record { word = r; outcomes = z.outcomes })
       → At (record (acted w (moves a ∷ [])) { records = insert_record q w.records }) a (learns w.boosted.words y (plan y p)) z g
   at_commit w a y z g p r q k e o sh same =
       let s = w.boosted in
@@ -431,10 +476,12 @@ module _ {V : Type 0} where
           inv = (acts_led c (content_frame w.words w.blocks k.base.stripes) s (moves a) k.base.inv).inv;
           records = subst (SameRecords w.words (insert_record q w.records)) (sym t.history)
               (insert_same w.words q (record { word = r; outcomes = (s.shadows a).outcomes }) w.records s.history
-              (subst (λ (v : Copy V). SameRecord w.words q (record { word = r; outcomes = v.outcomes })) (sym k.own.shadow) same) k.base.records);
+              (subst (λ (v : Copy V). SameRecord w.words q (record { word = r; outcomes = v.outcomes }))
+              (sym k.own.shadow) same) k.base.records);
           aborted = subst (SameEnded w.words w.aborted) (sym t.aborted) k.base.aborted;
         };
-        others = others_by w (record (acted w (moves a ∷ [])) { records = insert_record q w.records }) a refl refl (λ b. refl) t.apart k.others;
+        others = others_by w (record (acted w (moves a ∷ [])) { records = insert_record q w.records }) a refl refl
+            (λ b. refl) t.apart k.others;
         own = record {
           actor = t.own.actor ∙ ap (λ (v : Actor). learns s.words v (plan v p)) k.own.actor;
           shadow = t.own.shadow ∙ k.own.shadow;
@@ -442,8 +489,16 @@ module _ {V : Type 0} where
         };
       }
 
-  pub at_end : (w : World V) (a : ℕ) (y : Actor) (z : Copy V) (g : ℕ → Bool) (x : Seat V) → At w a y z g → y.place ≡ machine.Leave → InTx w.words x y z
-      → At (record (acted w (moves a ∷ [])) { aborted = w.aborted ++ record { actor = a; rv = x.rv; calls = x.calls; cause = x.cause } ∷ [] }) a
+  pub at_end : (w : World V) (a : ℕ) (y : Actor) (z : Copy V) (g : ℕ → Bool) (x : Seat V) → At w a y z g → y.place ≡ machine.Leave
+      → InTx w.words x y z
+      → At (record (acted w (moves a ∷ [])) {
+        aborted = w.aborted ++ record {
+          actor = a;
+          rv = x.rv;
+          calls = x.calls;
+          cause = x.cause;
+        } ∷ [];
+      }) a
       (goes y machine.Idle) z g
   at_end w a y z g x k e tx =
       let s = w.boosted in
@@ -477,7 +532,8 @@ module _ {V : Type 0} where
       → Linked (ended (acted w (moves a ∷ [])) a x).0
   leaving_step w a x y z g k none e tx =
       let d : Ended V = record { actor = a; rv = x.rv; calls = x.calls; cause = x.cause } in
-      linked_seated (record (acted w (moves a ∷ [])) { aborted = w.aborted ++ d ∷ [] }) a no_one (goes y machine.Idle) z g (at_end w a y z g x k e tx)
+      linked_seated (record (acted w (moves a ∷ [])) { aborted = w.aborted ++ d ∷ [] }) a no_one (goes y machine.Idle) z g
+      (at_end w a y z g x k e tx)
       (record { gates = none; stage = refl })
 
   pub closing_step : (w : World V) (a : ℕ) (x : Seat V) (y : Actor) (z : Copy V) (g : ℕ → Bool) → At w a y z g → ((k : ℕ) → g k ≡ false)
@@ -497,9 +553,11 @@ module _ {V : Type 0} where
     pub writes : y.writes ≡ entry ∷ others
     pub told : word_notice (acted w (asks a word.AskStore ∷ [])) a ≡ told.last_notice (entry ∷ others) told.Stored
     pub at : At (recorded (acted (acted w (asks a word.AskStore ∷ [])) (moves a ∷ [])) a x true x.wv) a
-        (learns (acted w (asks a word.AskStore ∷ [])).boosted.words (goes y machine.First) (world.first_store (goes y machine.First) (entry ∷ others))) z g
+        (learns (acted w (asks a word.AskStore ∷ [])).boosted.words (goes y machine.First)
+        (world.first_store (goes y machine.First) (entry ∷ others))) z g
 
-  pub first_stored : (w : World V) (a : ℕ) (x : Seat V) (y : Actor) (z : Copy V) (g : ℕ → Bool) (ks : List ℕ) → At w a y z g → ((k : ℕ) → g k ≡ has ks k)
+  pub first_stored : (w : World V) (a : ℕ) (x : Seat V) (y : Actor) (z : Copy V) (g : ℕ → Bool) (ks : List ℕ) → At w a y z g
+      → ((k : ℕ) → g k ≡ has ks k)
       → y.place ≡ machine.Check []
       → CommitOk w.words w.blocks x y z ks → FirstStored w a x y z g
   first_stored w a x y z g ks k held e h =
@@ -526,7 +584,8 @@ module _ {V : Type 0} where
       (ap (λ (u : Actor). goes u machine.First) k.own.actor) k.own.shadow k.own.gates in
       let r : world.Record = record { actor = a; number = y.wv; writer = true; calls = y.calls } in
       let q : ℕ × Record V = (a, record { number = x.wv; writes = true; calls = x.calls }) in
-      let k2 : At (recorded (acted ready (moves a ∷ [])) a x true x.wv) a (learns ready.boosted.words y1 (world.first_store y1 y.writes)) z g =
+      let k2 : At (recorded (acted ready (moves a ∷ [])) a x true x.wv) a
+      (learns ready.boosted.words y1 (world.first_store y1 y.writes)) z g =
       at_commit ready a y1 z g machine.First r q k1 refl (ap (λ (es : Entries). world.first_outcome a y1 es) entry.2) (λ u. refl)
       (record { actor = refl; number = h.wv; writes = refl; parts = h.tx.1 }) in
       record {
@@ -538,7 +597,8 @@ module _ {V : Type 0} where
             (learns ready.boosted.words y1 (world.first_store y1 es)) z g) entry.2 k2;
       }
 
-  pub first_step : (w : World V) (a : ℕ) (x : Seat V) (y : Actor) (z : Copy V) (g : ℕ → Bool) (ks : List ℕ) → At w a y z g → ((k : ℕ) → g k ≡ has ks k)
+  pub first_step : (w : World V) (a : ℕ) (x : Seat V) (y : Actor) (z : Copy V) (g : ℕ → Bool) (ks : List ℕ) → At w a y z g
+      → ((k : ℕ) → g k ≡ has ks k)
       → y.place ≡ machine.Check []
       → CommitOk w.words w.blocks x y z ks → Linked (stores w a x ks).0
   first_step w a x y z g ks k held e h =
@@ -555,7 +615,8 @@ module _ {V : Type 0} where
       → ((k : ℕ) → g k ≡ false) → u.seats a ≡ x → x.stage ≡ Cancelling
       → InTx u.words x y z → AfterUndo y y2 n → Linked (has_cancelled u a x n).0
   has_cancelled_linked u a x y y2 z g told.Cancelled k none seat st tx h =
-      let at : At (acted u (asks a word.AskAbort ∷ [])) a (word.abort y2 y2.held) z g = at_ask u a y2 z g machine.Undo word.AskAbort k h.0 tt in
+      let at : At (acted u (asks a word.AskAbort ∷ [])) a
+      (word.abort y2 y2.held) z g = at_ask u a y2 z g machine.Undo word.AskAbort k h.0 tt in
       linked_seated (acted u (asks a word.AskAbort ∷ [])) a (at_stage x Leaving) (word.abort y2 y2.held) z g at (record {
         gates = none;
         stage = subst (λ (es : Entries). ((word.abort y2 es).place ≡ machine.Leave) × InTx u.words x (word.abort y2 es) z) (sym h.1)

@@ -1,5 +1,5 @@
--- A request and a want of memory do no atomic step: they leave the clock, the words and their locks, the gates and the bases, and the shadows of the
--- other actors. One lemma for each function of the definition that an Ask or a Starve leads to.
+-- A request and a want of memory do no atomic step: they leave the clock, the words and their locks, the gates and the bases, and the
+-- shadows of the other actors. One lemma for each function of the definition that an Ask or a Starve leads to.
 use Rattle.std.proofs.Common.{◌≡◌, ℕ, ◌+◌, Bool, true, false, cond, ◌&&◌, List, [], ◌∷◌, length, Option, Some, None, refl, ◌∙◌, eqb}
 use Rattle.std.specs.Prelude.{nat_lt}
 use Rattle.tx_sets.specs.Entries.{Entries, lookup, locations}
@@ -45,7 +45,15 @@ module _ {X Out : Type 0} where
 
   turned_still : (s : Boosted X Out) (a : ℕ) (t : Words) → t.clock ≡ s.words.clock → t.locks ≡ s.words.locks → t.values ≡ s.words.values
       → Still a s (on_words s t)
-  turned_still s a t e f g = record { clock = e; locks = f; values = g; gates = refl; parts = refl; editions = refl; shadows = λ b ne. refl }
+  turned_still s a t e f g = record {
+    clock = e;
+    locks = f;
+    values = g;
+    gates = refl;
+    parts = refl;
+    editions = refl;
+    shadows = λ b ne. refl;
+  }
 
   if_still : (s t : Boosted X Out) (a : ℕ) (b : Bool) → Still a s t → Still a s (cond b t s)
   if_still s t a true h = h

@@ -1,6 +1,7 @@
--- How often a gate was tried. Where a request tries a gate for the first time, 63 tries are left after it. A step that tries it in vain leaves one less; no
--- other step of the actor leads to a try, and what others do leaves its stage. So the steps of the actor before this one, as many as are missing to 63, all
--- tried this gate, and each found another's name in it; and whoever gives up for a busy gate has done so 64 times.
+-- How often a gate was tried. Where a request tries a gate for the first time, 63 tries are left after it. A step that tries it in vain
+-- leaves one less; no other step of the actor leads to a try, and what others do leaves its stage. So the steps of the actor before this
+-- one, as many as are missing to 63, all tried this gate, and each found another's name in it; and whoever gives up for a busy gate has
+-- done so 64 times.
 use Rattle.std.proofs.Common.{◌≡◌, ◌≢◌, ℕ, suc, ◌+◌, true, false, cond, List, [], ◌∷◌, ◌++◌, Option, Some, None, inl, inr, refl, sym, ◌∙◌, ap, subst, true≢false, eq-eqb, ne_eqb, arith}
 use Rattle.std.proofs.lemmas.Bool.{cases_eq}
 use Rattle.std.proofs.lemmas.List.{append-nil, append_assoc}
@@ -41,7 +42,8 @@ module _ {V : Type 0} where
   run-append [] fs w = refl
   run-append (e ∷ es) fs w = run-append es fs (happens w e).0
 
-  vain_more : (a k : ℕ) (es : List (Event V)) (e : Event V) (w : World V) → AllVain a k w es → IsVain a k (run w es) e → AllVain a k w (es ++ e ∷ [])
+  vain_more : (a k : ℕ) (es : List (Event V)) (e : Event V) (w : World V) → AllVain a k w es → IsVain a k (run w es) e
+      → AllVain a k w (es ++ e ∷ [])
   vain_more a k [] e w h g = (g, tt)
   vain_more a k (d ∷ es) e w h g = (h.0, vain_more a k es e (happens w d).0 h.1 g)
 
@@ -82,7 +84,11 @@ module _ {V : Type 0} where
   first_try : (w : World V) (es : List (Event V)) (a : ℕ) (st : Stage V) → IsAhead st → Tried w es a st
   first_try w es a (Trying asked tries) h k n at =
       (0, (let e = (some_pair asked.collection tries k n at).1 in omega (arith, e, h)), none_yet w es a k)
-  first_try w es a (Gating got (i ∷ ks) tries) h k n at = (0, (let e = (some_pair i tries k n at).1 in omega (arith, e, h)), none_yet w es a k)
+  first_try w es a (Gating got (i ∷ ks) tries) h k n at = (
+    0,
+    (let e = (some_pair i tries k n at).1 in omega (arith, e, h)),
+    none_yet w es a k,
+  )
   first_try w es a st h k n at = absurd (let b : ⊥ = cc in b)
 
   half_tries_none : (w : World V) (es : List (Event V)) (a : ℕ) (st : Stage V) → is_half_done st ≡ true → Tried w es a st
@@ -99,8 +105,10 @@ module _ {V : Type 0} where
   was_tried w (Trying asked (suc i)) y k n h at =
       let e = some_pair asked.collection i k n (ap tried_at (sym h.0) ∙ at) in
       let is = e.0 in
-      let left = e.1 in
-      (ap (λ j. Some (asked.collection, suc j)) left ∙ ap (λ j. Some (j, suc n)) is, subst (λ j. is_none (w.boosted.gates j) ≡ false) is h.1)
+      let left = e.1 in (
+        ap (λ j. Some (asked.collection, suc j)) left ∙ ap (λ j. Some (j, suc n)) is,
+        subst (λ j. is_none (w.boosted.gates j) ≡ false) is h.1,
+      )
   was_tried w (Gating got (j ∷ ks) (suc i)) y k n h at =
       let e = some_pair j i k n (ap tried_at (sym h.0) ∙ at) in
       let is = e.0 in
@@ -122,13 +130,15 @@ module _ {V : Type 0} where
   anothers : (w : World V) (a k n : ℕ) → Linked w → WasTried w (w.seats a).stage k n → IsAnothers w a k
   anothers w a k n l h =
       let s = l.seats a in
-      tried_in_vain w a k (s.gates k ∙ not_held w.words w.blocks (w.seats a) (w.boosted.words.actors a) (w.boosted.shadows a) (w.seats a).stage
+      tried_in_vain w a k (s.gates k ∙ not_held w.words w.blocks (w.seats a) (w.boosted.words.actors a) (w.boosted.shadows a)
+      (w.seats a).stage
       (w.boosted.words.actors a).place k (suc n) s.stage h.0) h.1
 
   one_step : (w : World V) (a : ℕ) → steps_of {V = V} a (Step a ∷ []) ≡ 1
   one_step w a = ap (λ b. cond b 1 0 + 0) (eq-eqb a a refl)
 
-  step_more : (w : World V) (es : List (Event V)) (a k n m : ℕ) → tried_at ((run w es).seats a).stage ≡ Some (k, n) → IsAnothers (run w es) a k
+  step_more : (w : World V) (es : List (Event V)) (a k n m : ℕ) → tried_at ((run w es).seats a).stage ≡ Some (k, n)
+      → IsAnothers (run w es) a k
       → InVain w es a k m
       → InVain w (es ++ Step a ∷ []) a k (m + 1)
   step_more w es a k n m at others h =
@@ -136,16 +146,19 @@ module _ {V : Type 0} where
       (longer w es (Step a) a k m h (λ _. ((n, at), others)))
 
   -- ---- events
-  kept_tried : (w : World V) (es : List (Event V)) (e : Event V) (a : ℕ) (u : World V) → Kept a (run w es) u → Tried w es a ((run w es).seats a).stage
+  kept_tried : (w : World V) (es : List (Event V)) (e : Event V) (a : ℕ) (u : World V) → Kept a (run w es) u
+      → Tried w es a ((run w es).seats a).stage
       → ((k : ℕ) → IsVain a k (run w es) e) → steps_of a (e ∷ []) ≡ 0
       → Tried w (es ++ e ∷ []) a (u.seats a).stage
   kept_tried w es e a u h old g none = elim h [
     | inl same ↦
-        subst (λ (v : World V). Tried w (es ++ e ∷ []) a (v.seats a).stage) (sym same) (still_tried w es e a ((run w es).seats a).stage old g none)
+        subst (λ (v : World V). Tried w (es ++ e ∷ []) a (v.seats a).stage) (sym same)
+        (still_tried w es e a ((run w es).seats a).stage old g none)
     | inr begun ↦ first_try w (es ++ e ∷ []) a (u.seats a).stage begun.seat
   ]
 
-  own_tried : (w : World V) (es : List (Event V)) (e : Event V) → Linked (run w es) → Tried w es (whose e) ((run w es).seats (whose e)).stage
+  own_tried : (w : World V) (es : List (Event V)) (e : Event V) → Linked (run w es) → Tried w es (whose e)
+      ((run w es).seats (whose e)).stage
       → Tried w (es ++ e ∷ []) (whose e) ((happens (run w es) e).0.seats (whose e)).stage
   own_tried w es (Ask a q) l old = kept_tried w es (Ask a q) a _ (asked_kept (run w es) a q) old (λ k. tt) refl
   own_tried w es (Starve a) l old = kept_tried w es (Starve a) a _ (starved_kept (run w es) a) old (λ k. tt) refl
@@ -222,4 +235,5 @@ module _ {V : Type 0} where
       let at = last_try st k cause.0 in
       let t = tried_before w events a k 0 l none at in
       let i = t.1 in
-      subst (InVain w (events ++ Step a ∷ []) a k) (let e : t.0 + 1 ≡ 64 = omega (arith, i) in e) (step_more w events a k 0 t.0 at cause.1 t.2)
+      subst (InVain w (events ++ Step a ∷ []) a k) (let e : t.0 + 1 ≡ 64 = omega (arith, i) in e)
+      (step_more w events a k 0 t.0 at cause.1 t.2)

@@ -22,12 +22,14 @@ module _ {V : Type 0} where
   IsRefusal (Refused a cause) = Unit {0}
   IsRefusal n = ⊥
 
-  -- A step of a at this stage, which leads from w to u, is refused so: none is due; the clock that it loads is at its limit; the locations of a call don't
-  -- fit the sets, and its transaction is as before it; or its transaction has ended, and the cause that was found is told.
+  -- A step of a at this stage, which leads from w to u, is refused so: none is due; the clock that it loads is at its limit; the
+  -- locations of a call don't fit the sets, and its transaction is as before it; or its transaction has ended, and the cause that was
+  -- found is told.
   abbrev pub IsRefusedAt : World V → ℕ → Stage V → World V → Refusal → Type 0
   IsRefusedAt w a Idle u cause = (cause ≡ NoTransaction) × Same w u
   IsRefusedAt w a Open u cause = (cause ≡ NoTransaction) × Same w u
-  IsRefusedAt w a Beginning u cause = (cause ≡ Exhausted w.boosted.words.clock) × (clock_limit ≤ w.boosted.words.clock) × ((u.seats a).stage ≡ Idle)
+  IsRefusedAt w a Beginning u cause = (cause ≡ Exhausted w.boosted.words.clock) × (clock_limit ≤ w.boosted.words.clock)
+      × ((u.seats a).stage ≡ Idle)
   IsRefusedAt w a (Copying asked) u cause = (cause ≡ TooLong) × (u.seats a ≡ at_stage (w.seats a) Open) × (actor_of u a ≡ actor_of w a)
   IsRefusedAt w a Leaving u cause = ((w.seats a).cause ≡ Some cause) × ((u.seats a).stage ≡ Idle)
   IsRefusedAt w a stage u cause = ⊥

@@ -39,8 +39,9 @@ IsQuiet Quiet = Unit {0}
 IsQuiet n = ⊥
 
 module _ {V : Type 0} where
-  -- How many of its own steps the request takes at most, at this stage, where the machine's actor is y. A gate is tried 64 times; a call that is still to
-  -- be taken loads at most 4,096 locations three times each; and a request that is refused puts back its gates and its locks.
+  -- How many of its own steps the request takes at most, at this stage, where the machine's actor is y. A gate is tried 64 times; a call
+  -- that is still to be taken loads at most 4,096 locations three times each; and a request that is refused puts back its gates and its
+  -- locks.
   abbrev pub left_at : Stage V → Actor → ℕ
   left_at Idle y = 0
   left_at Open y = 0

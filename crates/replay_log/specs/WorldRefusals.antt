@@ -40,8 +40,9 @@ module _ {V : Type 0} where
   abbrev pub IsFound : World V → ℕ → (l word : ℕ) → Type 0
   IsFound w a l word = (word_of (plan (actor_of w a) (actor_of w a).place) ≡ Some (LockCell l)) × (word ≡ bits (w.boosted.words.locks l))
 
-  -- The step of a at this stage, which leads from the world w to u, finds this cause: it loads the word that is named, which stops its request; or the
-  -- edition that was copied is not the one that the transaction has read; or it is the last try on a gate, which another holds.
+  -- The step of a at this stage, which leads from the world w to u, finds this cause: it loads the word that is named, which stops its
+  -- request; or the edition that was copied is not the one that the transaction has read; or it is the last try on a gate, which another
+  -- holds.
   abbrev pub IsCause : World V → ℕ → Stage V → World V → Refusal → Type 0
   IsCause w a stage u (Moved l word) = IsFound w a l word × StopsRead (actor_of w a) (actor_of w a).place (w.boosted.words.locks l)
   IsCause w a stage u (Busy l word) = IsFound w a l word × StopsLock (actor_of w a).place (w.boosted.words.locks l)
@@ -52,4 +53,5 @@ module _ {V : Type 0} where
 
   -- where a's step from w to u begins to give its transaction up, the cause that it notes is true
   abbrev pub HasCause : World V → ℕ → Stage V → World V → Type 0
-  HasCause w a stage u = is_ending (u.seats a).stage ≡ true → (cause : Refusal) × ((u.seats a).cause ≡ Some cause) × IsCause w a stage u cause
+  HasCause w a stage u = is_ending (u.seats a).stage ≡ true → (cause : Refusal) × ((u.seats a).cause ≡ Some cause)
+      × IsCause w a stage u cause

@@ -19,11 +19,33 @@ pub use Rattle.replay_log.specs.Seats.{Stage, Idle, Beginning, Open, Locking, Re
 pub use Rattle.replay_log.specs.Seats.{Copying, Loading, Gating, Ready, Storing, Homing, Returning, Seat, Ended, World, After, no_one}
 pub use Rattle.replay_log.specs.Seats.{at_stage, because, seated, acted, asks, moves, actor_of, word_notice}
 pub use Rattle.replay_log.specs.WorldEnds.{is_leaving, unlocked, cancels, gives_up, why, ended, has_cancelled, has_tried}
-pub use Rattle.replay_log.specs.WorldCalls.{more_tries, location_limit, with_editions, new_in, fits, differs, is_stale, has_room, with_call, replied, reads}
+pub use Rattle.replay_log.specs.WorldCalls.{
+  more_tries,
+  location_limit,
+  with_editions,
+  new_in,
+  fits,
+  differs,
+  is_stale,
+  has_room,
+  with_call,
+  replied,
+  reads,
+}
 pub use Rattle.replay_log.specs.WorldCalls.{outcome_at, reply_of, call_of, is_fresh, judges, loads, answers, calls_on, is_missing, is_known}
 pub use Rattle.replay_log.specs.WorldCalls.{is_change, may_ask, if_allowed, ask_op, has_read, with_piece, outcome_now, sized_by}
 pub use Rattle.replay_log.specs.WorldCalls.{has_copied, has_loaded}
-pub use Rattle.replay_log.specs.WorldCommits.{with_new, distinct, all_of, commits, recorded, written_homes, takes_gates, has_locked, goes_home}
+pub use Rattle.replay_log.specs.WorldCommits.{
+  with_new,
+  distinct,
+  all_of,
+  commits,
+  recorded,
+  written_homes,
+  takes_gates,
+  has_locked,
+  goes_home,
+}
 pub use Rattle.replay_log.specs.WorldCommits.{has_stored, has_released, stores}
 pub use Rattle.replay_log.specs.WorldTraces.{Trace, is_half_done, half_in, half, held_from, state, trace}
 

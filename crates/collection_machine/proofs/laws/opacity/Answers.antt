@@ -14,7 +14,8 @@ use Rattle.collection_machine.proofs.Quiet.{saw_open}
 use Rattle.collection_machine.proofs.Runs.{all_run}
 use Rattle.collection_machine.proofs.laws.opacity.Goals as goal
 
-module _ {X Op Out : Type 0} (c : Content X Op Out) (f : Frame c) (clock : ℕ) (memory : Memory) (parts : ℕ → X) (actions : List (Action Op)) where
+module _ {X Op Out : Type 0} (c : Content X Op Out) (f : Frame c) (clock : ℕ) (memory : Memory) (parts : ℕ → X)
+    (actions : List (Action Op)) where
   abbrev reached : Boosted X Out
   reached = act_all c actions (opens clock memory parts)
 
@@ -33,7 +34,8 @@ module _ {X Op Out : Type 0} (c : Content X Op Out) (f : Frame c) (clock : ℕ) 
   serial : AreRun c parts reached.history × IsRun memory (words reached.history)
   serial = (
     subst (λ (z : ℕ → X). AreRun c z reached.history) opened_parts (are_run c f reached reached_ok),
-    subst (IsRun memory) (sym reached_ok.same) (subst (λ (z : Memory). IsRun z reached.words.history) opened_memory (machine.serial reached.words reached_ok.machine)),
+    subst (IsRun memory) (sym reached_ok.same)
+        (subst (λ (z : Memory). IsRun z reached.words.history) opened_memory (machine.serial reached.words reached_ok.machine)),
   )
 
 pub returns-clause-in_order : goal.returns-clause-in_order
@@ -60,15 +62,18 @@ returns-clause-saw g k c f clock memory parts actions later a =
     let w = all_ok c f later s v in (
       subst (λ (z : ℕ → _). AreLegal c (view c t.history (s.words.actors a).rv z) (s.shadows a).outcomes)
           ((all-opening c f later s v).0 ∙ opened_parts c f clock memory parts actions)
-          (legal_parts c f t (s.words.actors a).rv (s.shadows a).outcomes w (all_saw c f later s (s.words.actors a).rv (s.shadows a).outcomes v (saw_open c s a v))),
-      legal_of t.words (s.words.actors a).rv (s.words.actors a).calls (all_words_saw c f later s (s.words.actors a).rv (s.words.actors a).calls v (actor_saw s.words a v.machine)),
+          (legal_parts c f t (s.words.actors a).rv (s.shadows a).outcomes w
+          (all_saw c f later s (s.words.actors a).rv (s.shadows a).outcomes v (saw_open c s a v))),
+      legal_of t.words (s.words.actors a).rv (s.words.actors a).calls
+          (all_words_saw c f later s (s.words.actors a).rv (s.words.actors a).calls v (actor_saw s.words a v.machine)),
     )
 
 pub returns-clause-aborted : goal.returns-clause-aborted
 returns-clause-aborted g k c f clock memory parts actions =
     let s = reached c f clock memory parts actions in
     let v = reached_ok c f clock memory parts actions in (
-      subst (λ (z : ℕ → _). AllAborted (λ e. AreLegal c (view c s.history e.word.rv z) e.outcomes) s.aborted) (opened_parts c f clock memory parts actions)
+      subst (λ (z : ℕ → _). AllAborted (λ e. AreLegal c (view c s.history e.word.rv z) e.outcomes) s.aborted)
+          (opened_parts c f clock memory parts actions)
           (aborted_legal c f s s.aborted v v.aborted),
       subst (AllEnded (λ e. IsLegal (memory_at s.words e.rv) e.calls)) (sym v.ends) (machine.all_aborted s.words v.machine),
     )
@@ -78,7 +83,8 @@ returns-clause-editions g k c f clock memory parts actions later a l e pl h =
     let s = reached c f clock memory parts actions in
     let v = reached_ok c f clock memory parts actions in
     let t = act_all c later s in
-    let q = edition_read c f t (s.words.actors a).rv l e (all_ok c f later s v) pl ((all_keeps c f later s v).good (s.words.actors a).rv l e ((v.machine.actors a).reads l e h)) in
+    let q = edition_read c f t (s.words.actors a).rv l e (all_ok c f later s v) pl
+    ((all_keeps c f later s v).good (s.words.actors a).rv l e ((v.machine.actors a).reads l e h)) in
     let o = all-opening c f later s v in
     let p = all-opening c f actions (opens clock memory parts) (opens_ok c f clock memory parts) in (
       q.0 ∙ ap (λ (z : ℕ → ℕ). z l + edition_at c t.history (s.words.actors a).rv l) (o.1 ∙ p.1),
@@ -90,7 +96,9 @@ returns-clause-first_reads g k c f clock memory parts actions later a l e pl h =
     let s = reached c f clock memory parts actions in
     let v = reached_ok c f clock memory parts actions in
     let t = act_all c later s in
-    let q = edition_read c f t (s.words.actors a).rv l e (all_ok c f later s v) pl ((all_keeps c f later s v).good (s.words.actors a).rv l e (first_read_good s.words (s.words.actors a).rv (s.words.actors a).calls l e (v.machine.actors a).saw h)) in
+    let q = edition_read c f t (s.words.actors a).rv l e (all_ok c f later s v) pl
+    ((all_keeps c f later s v).good (s.words.actors a).rv l e
+    (first_read_good s.words (s.words.actors a).rv (s.words.actors a).calls l e (v.machine.actors a).saw h)) in
     let o = all-opening c f later s v in
     let p = all-opening c f actions (opens clock memory parts) (opens_ok c f clock memory parts) in (
       q.0 ∙ ap (λ (z : ℕ → ℕ). z l + edition_at c t.history (s.words.actors a).rv l) (o.1 ∙ p.1),
@@ -104,11 +112,15 @@ pub returns-clause-bounded : goal.returns-clause-bounded
 returns-clause-bounded g k c f clock memory parts actions l pl =
     let s = reached c f clock memory parts actions in
     let few = edition_few c f s l (reached_ok c f clock memory parts actions) pl in
-    let same = ap (λ (z : Memory). z l) (sym (reached_ok c f clock memory parts actions).first ∙ opened_memory c f clock memory parts actions) in
+    let same = ap (λ (z : Memory). z l)
+    (sym (reached_ok c f clock memory parts actions).first ∙ opened_memory c f clock memory parts actions) in
     omega (arith, few, same)
 
 pub returns-clause-worlds : goal.returns-clause-worlds
 returns-clause-worlds g k c clock memory parts actions = all_run c actions (opens clock memory parts)
 
 pub returns-clause-records : goal.returns-clause-records
-returns-clause-records g k c f clock memory parts actions = ((reached_ok c f clock memory parts actions).same, (reached_ok c f clock memory parts actions).ends)
+returns-clause-records g k c f clock memory parts actions = (
+  (reached_ok c f clock memory parts actions).same,
+  (reached_ok c f clock memory parts actions).ends,
+)

@@ -8,20 +8,24 @@ use Rattle.replay_log.proofs.log.Log.fold_into.Goals as goal
 pub replay-requires-clause-within : goal.replay-requires-clause-within
 replay-requires-clause-within g c =
     let same : c.self.inside.locations.items ≡ c.args.self.locations = ap (λ (v : LogView _). v.locations) c.self.view_is in
-    all_members (λ l. l < locations_of (stripes_of c.args.base.now) (shown_of c.args.base.now)) c.from_locations-written.result c.args.self.locations
-    (subst (λ (ls : List ℕ). (l : ℕ) → Contains c.from_locations-written.result l ↔ Contains ls l) same c.from_locations-written.ensures.members) c.requires.within
+    all_members (λ l. l < locations_of (stripes_of c.args.base.now)
+    (shown_of c.args.base.now)) c.from_locations-written.result c.args.self.locations
+    (subst (λ (ls : List ℕ). (l : ℕ)
+    → Contains c.from_locations-written.result l ↔ Contains ls l) same c.from_locations-written.ensures.members) c.requires.within
 
 pub replay-requires-clause-below : goal.replay-requires-clause-below
 replay-requires-clause-below g c =
     let same : c.self.inside.locations.items ≡ c.args.self.locations = ap (λ (v : LogView _). v.locations) c.self.view_is in
     all_members (λ l. slice_index (editions_of c.args.base.now) l < 2 ^ 63) c.from_locations-written.result c.args.self.locations
-    (subst (λ (ls : List ℕ). (l : ℕ) → Contains c.from_locations-written.result l ↔ Contains ls l) same c.from_locations-written.ensures.members) c.requires.below
+    (subst (λ (ls : List ℕ). (l : ℕ)
+    → Contains c.from_locations-written.result l ↔ Contains ls l) same c.from_locations-written.ensures.members) c.requires.below
 
 pub returns-clause-editions : goal.returns-clause-editions
 returns-clause-editions g c =
     let same : c.self.inside.locations.items ≡ c.args.self.locations = ap (λ (v : LogView _). v.locations) c.self.view_is in (
       c.from_locations-written.result,
       c.from_locations-written.ensures.rising,
-      subst (λ (ls : List ℕ). (l : ℕ) → Contains c.from_locations-written.result l ↔ Contains ls l) same c.from_locations-written.ensures.members,
+      subst (λ (ls : List ℕ). (l : ℕ)
+          → Contains c.from_locations-written.result l ↔ Contains ls l) same c.from_locations-written.ensures.members,
       c.replay.ensures.editions,
     )
