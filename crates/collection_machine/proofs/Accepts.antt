@@ -1,4 +1,6 @@
--- A call that is accepted.
+-- A call that is accepted. Its word requests leave the history and the other actors, and put the next edition of each
+-- location that it writes into the write set. What it reads was copied with the edition that was read, so it is known and good
+-- at `rv`; by the frame laws the outcome is legal wherever the parts that it reads are these.
 use Rattle.std.proofs.Common.{◌≡◌, ℕ, ◌+◌, Bool, true, false, Some, None, List, [], ◌∷◌, ◌++◌, ◌⊎◌, inl, inr, refl, sym, ap, ◌∙◌, subst}
 use Rattle.std.specs.Prelude.{◌&&◌}
 use Rattle.std.proofs.lemmas.Bool.{cond_both}

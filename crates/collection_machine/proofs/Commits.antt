@@ -1,4 +1,6 @@
--- The commit of a writer, and of a reader.
+-- The commit of a writer, and of a reader. The word machine says where the record goes in the order and that what the
+-- transaction read is good just before its number (a writer) or at it (a reader); so the outcomes are legal there. No later
+-- record writes what it writes, so its changes pass through those, and from now on they are owed to the bases.
 use Rattle.std.proofs.Common.{◌≡◌, ℕ, ◌+◌, ◌-◌, ◌<◌, ◌≤◌, Bool, true, false, Option, Some, None, List, [], ◌∷◌, ◌⊎◌, inl, inr, refl, sym, ap, ◌∙◌, subst, true≢false, arith}
 use Rattle.std.proofs.lemmas.Bool.{cases_Bool, cond_both}
 use Rattle.vlock_word.specs.LockWord.{version_of}

@@ -1,4 +1,5 @@
--- Trial for collections: a value that each writer raises by one counts the writers.
+-- A value that each writer raises by one counts the writers. So between two numbers at which a location has one edition
+-- nobody wrote it; and as the numbers of writers rise in commit order, there are no more writers than numbers.
 use Rattle.std.proofs.Common.{◌≡◌, ℕ, ◌+◌, ◌<◌, ◌≤◌, true, false, leb, List, [], ◌∷◌, inl, inr, refl, sym, ◌∙◌, arith, le-leb, max, true≢false}
 use Rattle.std.specs.Prelude.{nat_le, if◌then◌else◌}
 use Rattle.std.proofs.lemmas.Bool.{lt-leb, cond_both, cond-true, cond-false, cases_Bool, cases_lt}

@@ -1,4 +1,5 @@
--- What an action leaves of all the rest.
+-- What an action leaves of all the rest: what is known by an edition, what is good at a number, the opening. An action
+-- leads to a world in which the invariant holds and all this is kept, and such moves go one after another.
 use Rattle.std.proofs.Common.{◌≡◌, ℕ, ◌+◌, true, false, Option, Some, None, List, [], ◌∷◌, ◌⊎◌, inl, inr, refl, sym, ap, ◌∙◌, subst}
 use Rattle.std.proofs.lemmas.Bool.{cases_eq}
 use Rattle.tx_sets.specs.Entries.{Entries, lookup}

@@ -1,4 +1,6 @@
--- What holds of a world with collections after every schedule.
+-- What holds of a world with collections after every schedule. The key is that a part is known by its edition: wherever the
+-- history has that edition at the location, the part is this one. Bases, copies, records and aborted transactions are all said
+-- by it.
 use Rattle.std.proofs.Common.{◌≡◌, ℕ, ◌+◌, ◌≤◌, true, false, Some, None, List, [], ◌∷◌}
 use Rattle.tx_sets.specs.Entries.{Entries, lookup}
 use Rattle.word_machine.specs.Actor.{Call, Place, First, Release}

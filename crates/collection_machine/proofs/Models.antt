@@ -1,4 +1,6 @@
--- A run of views is a run of states.
+-- A run of views is a run of states. Where a view shows a state, an outcome that is legal at the view is the state's own
+-- reply and change; so by induction the replies of a run of views are those of a run of states, and the view it leaves shows
+-- the state that is left.
 use Rattle.std.proofs.Common.{◌≡◌, ℕ, ◌<◌, arith, leb-false, leb, List, [], ◌∷◌, inl, inr, refl, sym, ap, ◌∙◌}
 use Rattle.std.proofs.lemmas.Bool.{cases_Bool, cond-true, cond-false, lt-leb}
 use Rattle.collection_machine.specs.Content.{Content, Frame}

@@ -1,4 +1,5 @@
--- What outcomes do to parts.
+-- What outcomes do to parts. By the frame laws an outcome changes only the parts that it writes, and what it makes of them
+-- depends on them alone; so the outcomes of a transaction leave the parts that none of them writes, and agree where these do.
 use Rattle.std.proofs.Common.{◌≡◌, ℕ, Bool, subst, true, false, List, [], ◌∷◌, ◌++◌, ◌⊎◌, inl, inr, refl, sym, ◌∙◌, eqb, eq-eqb, ne_eqb}
 use Rattle.std.proofs.lemmas.Bool.{cases_eq, cases_Bool, cond_both, cond-true, cond-false}
 use Rattle.word_machine.proofs.Calls.{touched}

@@ -1,4 +1,5 @@
--- The actions that commit nothing and change no base.
+-- The actions that commit nothing and change no base. One lemma says what such an action must leave for the invariant to
+-- stand; then each of them, a request, a begin, a step that is no commit, an end, a gate taken or put back, is shown to leave it.
 use Rattle.std.proofs.Common.{◌≡◌, ℕ, ◌+◌, ltb, Bool, true, false, Option, Some, None, List, [], ◌∷◌, ◌++◌, ◌⊎◌, inl, inr, refl, sym, ap, ◌∙◌, subst, true≢false, eqb-true, eq-eqb}
 use Rattle.std.specs.Prelude.{◌&&◌, ◌||◌, not, ◌==◌, nat_lt, if◌then◌else◌}
 use Rattle.std.proofs.lemmas.Bool.{cases_eq, cases_Bool, cond_both, cond-true, cond-false}

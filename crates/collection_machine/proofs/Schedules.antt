@@ -1,4 +1,6 @@
--- Every action, and every schedule.
+-- Every action, and every schedule. Each action has its lemma in the files beside; here one lemma goes through the
+-- actions, and an induction through the list. What a transaction saw is known for ever, so it stands at every later moment; and
+-- the records, each of which saw the parts of the number before its own, are a run.
 use Rattle.std.proofs.Common.{◌≡◌, ℕ, ◌+◌, ◌-◌, ◌<◌, ◌≤◌, leb, Bool, true, false, List, [], ◌∷◌, inl, inr, refl, sym, ap, ◌∙◌, subst, true≢false, arith, le-leb}
 use Rattle.std.specs.Prelude.{nat_le, if◌then◌else◌}
 use Rattle.std.proofs.lemmas.Bool.{cond_both, cond-true, cond-false, lt-leb, cases_lt, cases_Bool}

@@ -1,4 +1,5 @@
--- A world with collections, as the sequential ones see it.
+-- A world with collections, as the sequential ones see it: whatever actions led to a world, its history is a run from the
+-- parts that it was opened with. By that its transactions, and what it shows, are said of states and not of parts.
 use Rattle.std.proofs.Common.{false, ◌≡◌, ℕ, List, subst, refl, sym, ap, ◌∙◌}
 use Rattle.word_machine.specs.World.{Memory}
 use Rattle.word_machine.specs.Opacity.{IsInOrder, IsNoneHalfDone}

@@ -1,4 +1,5 @@
--- What a history leaves of parts, and a commit put in its place.
+-- What a history leaves of parts, and a commit put in its place. In the middle of the order a record changes the parts that
+-- it writes, and no later record writes these; other parts it leaves. So what was known of a part by its edition stays known.
 use Rattle.std.proofs.Common.{◌≡◌, ℕ, ◌-◌, ◌<◌, ◌≤◌, true, false, leb, List, [], ◌∷◌, inl, inr, refl, sym, ap, ◌∙◌, arith, true≢false, leb-false, leb-true, le-leb}
 use Rattle.std.specs.Prelude.{nat_le, if◌then◌else◌}
 use Rattle.std.proofs.lemmas.Bool.{lt-leb, cond_both, cond-true, cond-false, cases_Bool, cases_lt}

@@ -1,4 +1,4 @@
--- Outcomes on a base of any kind.
+-- Outcomes on a base of any kind: that those which don't conflict commute is the law of the kind that the base has.
 use Rattle.std.proofs.Common.{ℕ, ap}
 use Rattle.conflict.specs.Commute.{commute}
 use Rattle.base_map.specs.Conflicts as map

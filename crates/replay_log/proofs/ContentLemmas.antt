@@ -1,4 +1,5 @@
--- The collections of a world keep the frame laws.
+-- The collections of a world keep the frame laws. A call reads and writes locations of its own collection's block, where they
+-- are those of its base, shifted by the block's first location; blocks don't overlap. So each law is the law of the base's kind.
 use Rattle.std.proofs.Common.{◌≡◌, ℕ, zero, suc, ◌+◌, ◌-◌, ◌<◌, ◌≤◌, false, ltb, List, [], ◌∷◌, Option, Some, None, Contains, inl, inr, refl, sym, ap, ◌∙◌, subst, arith, lt-ltb, le-ltb}
 use Rattle.std.specs.Prelude.{◌||◌, not}
 use Rattle.std.proofs.lemmas.Bool.{cond-true, cond-false}

@@ -1,4 +1,5 @@
--- A declared reader asks for no change, and has no sets.
+-- A declared reader asks for no change, and has no sets. The first is read off the definition of a request; the second is
+-- the word machine's law, at the places at which a transaction is open.
 use Rattle.std.proofs.Common.{◌≡◌, ℕ, Bool, true, false, not, ◌&&◌, List, [], refl, sym, ap, ◌∙◌, subst, true≢false}
 use Rattle.word_machine.specs.Actor as machine
 use Rattle.word_machine.specs.Actor.{Place, Actor}

@@ -1,4 +1,5 @@
--- A sequential call on a collection, seen through its view.
+-- A sequential call on a collection, seen through its view. For each kind the frame law `follows` ties the outcome at a view
+-- to the sequential call; here the four kinds are one, and a call keeps its collection's kind and limits.
 use Rattle.std.proofs.Common.{◌≡◌, ℕ, ◌+◌, ◌-◌, ◌≤◌, ltb, eqb, List, [], ◌∷◌, ◌++◌, length, Option, Some, None, refl, ap, arith, ltb-true}
 use Rattle.std.proofs.lemmas.Bool.{cond_both}
 use Rattle.std.specs.Ordering.{nat_cmp}

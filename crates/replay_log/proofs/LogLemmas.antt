@@ -1,4 +1,5 @@
--- A log folded: the locations that were pushed, each once.
+-- A log folded: the locations that were pushed, each once. The written locations are those that were pushed, as members; so
+-- what holds of the one list holds of the other, and each is raised by one, however often it was pushed.
 use Rattle.std.proofs.Common.{ℕ, ◌↔◌, List, get_or, Contains, subst, ap, ◌∙◌}
 use Rattle.std.specs.List.{All}
 use Rattle.std.proofs.lemmas.List.{get_or_default}

@@ -1,4 +1,6 @@
--- Whatever requests do, they do by the machine's actions.
+-- Whatever requests do, they do by the machine's actions. Each function of the definition does some actions of its own actor and
+-- reseats it; so an event reaches its world by actions of that actor, which leave the other actors and their seats, and a list
+-- of events by the lists of its events, one after another.
 use Rattle.std.proofs.Common.{◌≡◌, ℕ, zero, suc, Bool, true, false, ◌&&◌, List, [], ◌∷◌, ◌++◌, Option, Some, None, refl, sym, ap, ◌∙◌, subst, eqb, ltb, length}
 use Rattle.std.specs.Prelude.{get_or, not, if◌then◌else◌}
 use Rattle.std.proofs.lemmas.Bool.{cond_both}

@@ -1,4 +1,5 @@
--- Serial order of a world with collections, said of the sequential collections themselves.
+-- Serial order of a world with collections, said of the sequential collections themselves: the machine's law on states, at the
+-- content of a world, with its runs written as runs over a list of collections.
 use Rattle.std.proofs.Common.{◌≡◌, ℕ, Bool, true, false, cond, leb, List, [], ◌∷◌, refl, ap, ◌∙◌, subst}
 use Rattle.seq_model.specs.declared.held.Held.{Held}
 use Rattle.word_machine.specs.World.{Memory}
