@@ -41,9 +41,29 @@ place_left es l h e = below (length es) (subst (λ (o : Option ℕ). if_new o No
     ]
 
 pub lock_keeps : (x : Actor) (l k i : ℕ) → x.place ≡ Lock i → i < length x.writes.entries → ((n : ℕ) → Fits n x → l < n) → k < 2 ^ 63
-    → Keeps x (record { place = Take l k (i + 1); declared = x.declared; rv = x.rv; wv = x.wv; reads = x.reads; writes = x.writes; held = x.held; calls = x.calls; ready = x.ready })
+    → Keeps x (record {
+      place = Take l k (i + 1);
+      declared = x.declared;
+      rv = x.rv;
+      wv = x.wv;
+      reads = x.reads;
+      writes = x.writes;
+      held = x.held;
+      calls = x.calls;
+      ready = x.ready;
+    })
 lock_keeps x l k i at_p inn below small = record {
-  fits = λ n f. record { reads = f.reads; writes = f.writes; reads_rise = f.reads_rise; writes_rise = f.writes_rise; reads_few = f.reads_few; writes_few = f.writes_few; held = f.held; wv = f.wv; place = (below n f, small, omega (arith, subst (FitsPlace n x) at_p f.place, inn)) };
+  fits = λ n f. record {
+    reads = f.reads;
+    writes = f.writes;
+    reads_rise = f.reads_rise;
+    writes_rise = f.writes_rise;
+    reads_few = f.reads_few;
+    writes_few = f.writes_few;
+    held = f.held;
+    wv = f.wv;
+    place = (below n f, small, omega (arith, subst (FitsPlace n x) at_p f.place, inn));
+  };
   owed = (let q = ap owed at_p in omega (arith, q));
   due = (let q = ap due at_p in omega (arith, q));
 }

@@ -22,17 +22,20 @@ over None x = x
 over (Some y) x = y
 
 module _ {V : Type 0} where
-  pub placed_both : (m : FinMap nat_cmp V) (k : ℕ) (o : Option V) (q : ℕ) (P : Option V → Type 0) → (k ≡ q → P o) → (¬ (k ≡ q) → P (get m q)) → P (get (placed m k o) q)
+  pub placed_both : (m : FinMap nat_cmp V) (k : ℕ) (o : Option V) (q : ℕ) (P : Option V → Type 0) → (k ≡ q → P o)
+      → (¬ (k ≡ q) → P (get m q)) → P (get (placed m k o) q)
   placed_both m k None q P same other = remove_both m k q P same other
   placed_both m k (Some v) q P same other = insert_both m k v q P same other
 
-  get-laid_by : (m : FinMap nat_cmp V) (es : List (ℕ × Option V)) → IsRising es → (q : ℕ) → get (laid_by m es) q ≡ over (find nat_cmp q es) (get m q)
+  get-laid_by : (m : FinMap nat_cmp V) (es : List (ℕ × Option V)) → IsRising es → (q : ℕ) → get (laid_by m es) q
+      ≡ over (find nat_cmp q es) (get m q)
   get-laid_by m [] s q = refl
   get-laid_by m (e ∷ es) s q =
       let n : FinMap nat_cmp V = placed m e.0 e.1 in
       let ih : get (laid_by n es) q ≡ over (find nat_cmp q es) (get n q) = get-laid_by n es (both_true _ _ s).1 q in
       let other : ¬ (e.0 ≡ q) → over (find nat_cmp q es) (get n q) ≡ over (find nat_cmp q es) (get m q) =
-      λ ne. placed_both m e.0 e.1 q (λ o. over (find nat_cmp q es) o ≡ over (find nat_cmp q es) (get m q)) (λ same. absurd (ne same)) (λ _. refl) in
+      λ ne. placed_both m e.0 e.1 q (λ o. over (find nat_cmp q es) o ≡ over (find nat_cmp q es) (get m q)) (λ same. absurd (ne same))
+      (λ _. refl) in
       ih ∙ by_cases q e.0 (λ r. over (find nat_cmp q es) (get n q) ≡ over (cond (is_eq r) (Some e.1) (find nat_cmp q es)) (get m q))
       (λ lt. other (λ same. omega (arith, same, lt)))
       (λ same.
@@ -44,7 +47,8 @@ module _ {V : Type 0} where
   get-laid m c q = get-laid_by m (entries c) (entries_sorted c) q ∙ ap (λ o. over o (get m q)) (sym (get-entries c q))
 
   -- a further change is made on top of the others
-  pub laid-insert : (m : FinMap nat_cmp V) (c : FinMap nat_cmp (Option V)) (k : ℕ) (o : Option V) → laid m (insert c k o) ≡ placed (laid m c) k o
+  pub laid-insert : (m : FinMap nat_cmp V) (c : FinMap nat_cmp (Option V)) (k : ℕ) (o : Option V) → laid m (insert c k o)
+      ≡ placed (laid m c) k o
   laid-insert m c k o =
       same_map nat_cmp_total nat_cmp-IsAntisymmetric _ _ (λ q. get-laid m (insert c k o) q
       ∙ insert_both c k o q (λ z. over z (get m q) ≡ get (placed (laid m c) k o) q)
@@ -52,7 +56,8 @@ module _ {V : Type 0} where
       (λ ne. placed_both (laid m c) k o q (λ z. over (get c q) (get m q) ≡ z) (λ same. absurd (ne same)) (λ _. sym (get-laid m c q))))
 
   pub laid-empty : (m : FinMap nat_cmp V) → laid m empty ≡ m
-  laid-empty m = same_map nat_cmp_total nat_cmp-IsAntisymmetric _ _ (λ q. get-laid m empty q ∙ ap (λ o. over o (get m q)) (get-empty nat_cmp q))
+  laid-empty m = same_map nat_cmp_total nat_cmp-IsAntisymmetric _ _
+      (λ q. get-laid m empty q ∙ ap (λ o. over o (get m q)) (get-empty nat_cmp q))
 
   over_alike : (c : Option (Option V)) (x y : Option V) → (c ≡ None → y ≡ x) → over c y ≡ over c x
   over_alike None x y e = e refl
@@ -61,7 +66,8 @@ module _ {V : Type 0} where
   -- the changes need of the map below them what stands at other keys
   pub laid_alike : (m n : FinMap nat_cmp V) (c : FinMap nat_cmp (Option V)) → AreElsewhereAlike c m n → laid n c ≡ laid m c
   laid_alike m n c e =
-      same_map nat_cmp_total nat_cmp-IsAntisymmetric _ _ (λ q. get-laid n c q ∙ over_alike (get c q) (get m q) (get n q) (e q) ∙ sym (get-laid m c q))
+      same_map nat_cmp_total nat_cmp-IsAntisymmetric _ _
+      (λ q. get-laid n c q ∙ over_alike (get c q) (get m q) (get n q) (e q) ∙ sym (get-laid m c q))
 
   -- what is found where a key is changed, and where it is not
   pub laid_at : (m : FinMap nat_cmp V) (c : FinMap nat_cmp (Option V)) (q : ℕ) (o : Option V) → get c q ≡ Some o → get (laid m c) q ≡ o
@@ -89,7 +95,8 @@ module _ {V : Type 0} where
   without_none m (k ∷ ks) q e = without_none (remove m k) ks q (remove_both m k q (λ o. o ≡ None) (λ _. refl) (λ _. e))
 
   -- n has at other keys what m has, which has nothing at k
-  pub back_by : (m n : FinMap nat_cmp V) (ks : List ℕ) (k : ℕ) → get m k ≡ None → ((q : ℕ) → q ≢ k → get n q ≡ get m q) → without n (ks ++ k ∷ []) ≡ without m ks
+  pub back_by : (m n : FinMap nat_cmp V) (ks : List ℕ) (k : ℕ) → get m k ≡ None → ((q : ℕ) → q ≢ k → get n q ≡ get m q)
+      → without n (ks ++ k ∷ []) ≡ without m ks
   back_by m n ks k none other =
       without-push n ks k
       ∙ same_map nat_cmp_total nat_cmp-IsAntisymmetric _ _ (λ q. remove_both (without n ks) k q (λ o. o ≡ get (without m ks) q)
@@ -97,30 +104,35 @@ module _ {V : Type 0} where
       (λ ne. without_found m n ks q (other q (λ same. ne (sym same)))))
 
   -- ---- the changes that are still to be gone through
-  pub left_after : (q k : ℕ) (o : Option V) (es : List (ℕ × Option V)) → find nat_cmp q ((k, o) ∷ es) ≡ None → (q ≢ k) × (find nat_cmp q es ≡ None)
+  pub left_after : (q k : ℕ) (o : Option V) (es : List (ℕ × Option V)) → find nat_cmp q ((k, o) ∷ es) ≡ None → (q ≢ k)
+      × (find nat_cmp q es ≡ None)
   left_after q k o es =
       by_cases q k (λ r. cond (is_eq r) (Some o) (find nat_cmp q es) ≡ None → (q ≢ k) × (find nat_cmp q es ≡ None))
       (λ lt e. (λ same. omega (arith, same, lt), e))
       (λ same e. absurd (let f : Some o ≡ None = e in cc))
       (λ gt e. (λ same. omega (arith, same, gt), e))
 
-  pub either : (q k : ℕ) (o r : Option V) (es : List (ℕ × Option V)) → find nat_cmp q ((k, o) ∷ es) ≡ Some r → ((q ≡ k) × (o ≡ r)) ⊎ ((q ≢ k) × (find nat_cmp q es ≡ Some r))
+  pub either : (q k : ℕ) (o r : Option V) (es : List (ℕ × Option V)) → find nat_cmp q ((k, o) ∷ es) ≡ Some r → ((q ≡ k) × (o ≡ r))
+      ⊎ ((q ≢ k) × (find nat_cmp q es ≡ Some r))
   either q k o r es =
-      by_cases q k (λ c. cond (is_eq c) (Some o) (find nat_cmp q es) ≡ Some r → ((q ≡ k) × (o ≡ r)) ⊎ ((q ≢ k) × (find nat_cmp q es ≡ Some r)))
+      by_cases q k (λ c. cond (is_eq c) (Some o) (find nat_cmp q es) ≡ Some r → ((q ≡ k) × (o ≡ r))
+      ⊎ ((q ≢ k) × (find nat_cmp q es ≡ Some r)))
       (λ lt e. inr (λ same. omega (arith, same, lt), e))
       (λ same e. inl (same, some_same e))
       (λ gt e. inr (λ same. omega (arith, same, gt), e))
 
   pub found_first : (k : ℕ) (o : Option V) (es : List (ℕ × Option V)) → find nat_cmp k ((k, o) ∷ es) ≡ Some o
   found_first k o es =
-      by_cases k k (λ c. cond (is_eq c) (Some o) (find nat_cmp k es) ≡ Some o) (λ lt. absurd (omega (arith, lt))) (λ _. refl) (λ gt. absurd (omega (arith, gt)))
+      by_cases k k (λ c. cond (is_eq c) (Some o) (find nat_cmp k es) ≡ Some o) (λ lt. absurd (omega (arith, lt))) (λ _. refl)
+      (λ gt. absurd (omega (arith, gt)))
 
   -- ---- an entry is added
   pub added_elsewhere : (m n : FinMap nat_cmp V) (k : ℕ) (v : V) → n ≡ insert m k v → (q : ℕ) → q ≢ k → get n q ≡ get m q
   added_elsewhere m n k v e q ne = ap (λ t. get t q) e ∙ insert_both m k v q (λ o. o ≡ get m q) (λ same. absurd (ne (sym same))) (λ _. refl)
 
   pub added_there : (m n : FinMap nat_cmp V) (k : ℕ) (v : V) → n ≡ insert m k v → get n k ≡ None → ⊥
-  added_there m n k v e none = insert_both m k v k (λ o. o ≡ None → ⊥) (λ _ f. cc) (λ ne. absurd (ne refl)) (ap (λ t. get t k) (sym e) ∙ none)
+  added_there m n k v e none = insert_both m k v k (λ o. o ≡ None → ⊥) (λ _ f. cc) (λ ne. absurd (ne refl))
+      (ap (λ t. get t k) (sym e) ∙ none)
 
   pub added_stays : (m n : FinMap nat_cmp V) (k : ℕ) (v : V) → n ≡ insert m k v → (q : ℕ) → get m q ≢ None → get n q ≡ None → ⊥
   added_stays m n k v e q some none = insert_both m k v q (λ o. o ≡ None → ⊥) (λ _ f. cc) (λ _ f. some f) (ap (λ t. get t q) (sym e) ∙ none)
@@ -172,7 +184,8 @@ module _ {V : Type 0} where
       by_key q w (inl same) = inr (λ none. there (sym (ap (get n) same.0) ∙ none))
       by_key q w (inr later) = inl later.1
 
-      next_place : (q : ℕ) (w : V) → (find nat_cmp q all ≡ Some (Some w)) ⊎ (get m q ≢ None) → (find nat_cmp q es ≡ Some (Some w)) ⊎ (get n q ≢ None)
+      next_place : (q : ℕ) (w : V) → (find nat_cmp q all ≡ Some (Some w)) ⊎ (get m q ≢ None) → (find nat_cmp q es ≡ Some (Some w))
+          ⊎ (get n q ≢ None)
       next_place q w (inl e) = by_key q w (either q k (Some v) (Some w) es (sym (ap (find nat_cmp q) steps) ∙ e))
       next_place q w (inr some) = inr (stays q some)
 
@@ -191,7 +204,8 @@ module _ {V : Type 0} where
       by_key q w (inl same) = absurd (let f : None ≡ Some w = same.1 in cc)
       by_key q w (inr later) = inl later.1
 
-      next_place : (q : ℕ) (w : V) → (find nat_cmp q all ≡ Some (Some w)) ⊎ (get m q ≢ None) → (find nat_cmp q es ≡ Some (Some w)) ⊎ (get m q ≢ None)
+      next_place : (q : ℕ) (w : V) → (find nat_cmp q all ≡ Some (Some w)) ⊎ (get m q ≢ None) → (find nat_cmp q es ≡ Some (Some w))
+          ⊎ (get m q ≢ None)
       next_place q w (inl e) = by_key q w (either q k None (Some w) es (sym (ap (find nat_cmp q) steps) ∙ e))
       next_place q w (inr some) = inr some
 
@@ -203,7 +217,8 @@ module _ {V : Type 0} where
   settles_next m n k o all es end steps rising places rest is =
       let s : IsRising ((k, o) ∷ es) = subst IsRising steps rising in (
         (both_true _ _ s).1,
-        λ q v e none. places_after m k o es s (λ p w f. places p w (ap (find nat_cmp p) steps ∙ f)) q v e (sym (ap (λ t. get t q) is) ∙ none),
+        λ q v e none. places_after m k o es s (λ p w f. places p w (ap (find nat_cmp p) steps ∙ f)) q v e
+            (sym (ap (λ t. get t q) is) ∙ none),
         ap (λ t. laid_by t es) is ∙ sym (ap (laid_by m) steps) ∙ rest,
       )
 

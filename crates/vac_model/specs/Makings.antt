@@ -53,7 +53,11 @@ without_taken q m n = record { head = q.head + m.off; tickets = drop (min m.take
 
 abbrev pub each_without_taken : Each Queue → Each Moves → Each ℕ → Each Queue
 each_without_taken q m n =
-    record { car = without_taken q.car m.car n.car; flight = without_taken q.flight m.flight n.flight; room = without_taken q.room m.room n.room }
+    record {
+      car = without_taken q.car m.car n.car;
+      flight = without_taken q.flight m.flight n.flight;
+      room = without_taken q.room m.room n.room;
+    }
 
 -- ---- the tables
 abbrev pub nothing_added : Holdings → Added

@@ -43,7 +43,11 @@ abbrev pub laid_each : {V : Type 0} → Each (map.FinMap nat_cmp V) → Each (ma
 laid_each m c = record { car = laid m.car c.car; flight = laid m.flight c.flight; room = laid m.room c.room }
 
 abbrev pub moved_each : Each Queue → Each Moves → Each Queue
-moved_each lines moves = record { car = moved lines.car moves.car; flight = moved lines.flight moves.flight; room = moved lines.room moves.room }
+moved_each lines moves = record {
+  car = moved lines.car moves.car;
+  flight = moved lines.flight moves.flight;
+  room = moved lines.room moves.room;
+}
 
 -- the tables with changes made
 abbrev pub with_changes : Holdings → Changes → Holdings

@@ -5,5 +5,6 @@ use Rattle.step_core.proofs.actor.keep.Goals as goal
 
 pub returns : goal.returns
 returns c =
-    subst (λ (b : Bool). c.put.new.self.entries ≡ with_read b c.args.reads.now.entries c.args.location c.args.value) (sym c.if-declared.false)
+    subst (λ (b : Bool). c.put.new.self.entries ≡ with_read b c.args.reads.now.entries c.args.location c.args.value)
+    (sym c.if-declared.false)
     (was_ok c.put.result (c.put.ensures.reserved (c.requires.room c.if-declared.false) c.requires.limit) c.put.ensures.ok)

@@ -30,12 +30,14 @@ returns-in_err-admit_one-clause-back g c = c.in_err-admit_one.ensures.back ∙ c
 pub returns-in_err-admit_one-clause-elsewhere : goal.returns-in_err-admit_one-clause-elsewhere
 returns-in_err-admit_one-clause-elsewhere g c k none =
     let l = c.loop-key.invariant in
-    c.in_err-admit_one.ensures.elsewhere k (nothing_in k _ _ _ (sym (ap (find nat_cmp k) c.in-Some.ensures.steps) ∙ l.rest k none)) ∙ l.elsewhere k none
+    c.in_err-admit_one.ensures.elsewhere k (nothing_in k _ _ _ (sym (ap (find nat_cmp k) c.in-Some.ensures.steps) ∙ l.rest k none))
+    ∙ l.elsewhere k none
 
 pub loop-key-preserved : goal.loop-key-preserved
 loop-key-preserved g c =
     let l = c.loop-key.invariant in
-    let r = passes_next c.args.changes.now c.loop-key.below _ _ _ (c.in-Some.ensures.steps ∙ ap (λ o. (c.in-Some.key.now, o) ∷ c.next.new.self) c.in_default.is) l.rest l.places in
+    let r = passes_next c.args.changes.now c.loop-key.below _ _ _
+    (c.in-Some.ensures.steps ∙ ap (λ o. (c.in-Some.key.now, o) ∷ c.next.new.self) c.in_default.is) l.rest l.places in
     record { back = l.back; elsewhere = l.elsewhere; rest = r.0; places = r.1 }
 
 pub returns-clause-back : goal.returns-clause-back

@@ -4,4 +4,5 @@ use Rattle.vac_model.proofs.OverlayLemmas.{laid-insert}
 use Rattle.vac_model.proofs.changes.put.Goals as goal
 
 pub returns : goal.returns
-returns g c = ap (laid c.args.below.now) c.in_ok-insert.ensures.ok ∙ laid-insert c.args.below.now c.args.changes.now c.args.key (Some c.args.value)
+returns g c = ap (laid c.args.below.now) c.in_ok-insert.ensures.ok ∙ laid-insert c.args.below.now c.args.changes.now c.args.key
+    (Some c.args.value)

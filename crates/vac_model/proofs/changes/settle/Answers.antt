@@ -26,21 +26,24 @@ pub loop-key-preserved-in-Some-change : goal.loop-key-preserved-in-Some-change
 loop-key-preserved-in-Some-change g c =
     let l = c.loop-key.invariant in
     let r = settles_next c.loop-key.below c.replace.new.below _ (Some c.in-Some-change.value) _ _ _
-    (c.in-Some.ensures.steps ∙ ap (λ o. (c.in-Some.key, o) ∷ c.next.new.self) c.in-Some-change.is) l.rising l.places l.rest c.replace.ensures in
+    (c.in-Some.ensures.steps ∙ ap
+    (λ o. (c.in-Some.key, o) ∷ c.next.new.self) c.in-Some-change.is) l.rising l.places l.rest c.replace.ensures in
     record { rising = r.0; places = r.1; rest = r.2 }
 
 pub loop-key-preserved-in-None-change : goal.loop-key-preserved-in-None-change
 loop-key-preserved-in-None-change g c =
     let l = c.loop-key.invariant in
     let r = settles_next c.loop-key.below c.remove.new.self _ None _ _ _
-    (c.in-Some.ensures.steps ∙ ap (λ o. (c.in-Some.key, o) ∷ c.next.new.self) c.in-None-change.is) l.rising l.places l.rest c.remove.ensures.new in
+    (c.in-Some.ensures.steps ∙ ap
+    (λ o. (c.in-Some.key, o) ∷ c.next.new.self) c.in-None-change.is) l.rising l.places l.rest c.remove.ensures.new in
     record { rising = r.0; places = r.1; rest = r.2 }
 
 pub loop-key-preserved : goal.loop-key-preserved
 loop-key-preserved g c =
     let l = c.loop-key.invariant in
     let r = settles_next c.loop-key.below c.remove.new.self _ None _ _ _
-    (c.in-Some.ensures.steps ∙ ap (λ o. (c.in-Some.key, o) ∷ c.next.new.self) c.in-None-change.is) l.rising l.places l.rest c.remove.ensures.new in
+    (c.in-Some.ensures.steps ∙ ap
+    (λ o. (c.in-Some.key, o) ∷ c.next.new.self) c.in-None-change.is) l.rising l.places l.rest c.remove.ensures.new in
     record { rising = r.0; places = r.1; rest = r.2 }
 
 pub returns : goal.returns

@@ -29,20 +29,26 @@ pub returns-in-Close-clause-keeps : goal.returns-in-Close-clause-keeps
 returns-in-Close-clause-keeps c f = c.ask_close.ensures.keeps c.args.locations f
 
 pub returns-in-Read-clause-keeps : goal.returns-in-Read-clause-keeps
-returns-in-Read-clause-keeps c f = c.ask_read.ensures.keeps c.args.locations (subst (λ (q : WordRequest). IsWithin c.args.locations (request_of q)) c.in-Read.is (within_of c.args.locations (actor_of c.args.self.now) (request_of c.args.request) c.requires.limit)) f
+returns-in-Read-clause-keeps c f = c.ask_read.ensures.keeps c.args.locations
+    (subst (λ (q : WordRequest). IsWithin c.args.locations (request_of q)) c.in-Read.is
+    (within_of c.args.locations (actor_of c.args.self.now) (request_of c.args.request) c.requires.limit)) f
 
 pub returns-in-Write-clause-keeps : goal.returns-in-Write-clause-keeps
-returns-in-Write-clause-keeps c f = c.ask_write.ensures.keeps c.args.locations (subst (λ (q : WordRequest). IsWithin c.args.locations (request_of q)) c.in-Write.is (within_of c.args.locations (actor_of c.args.self.now) (request_of c.args.request) c.requires.limit)) f
+returns-in-Write-clause-keeps c f = c.ask_write.ensures.keeps c.args.locations
+    (subst (λ (q : WordRequest). IsWithin c.args.locations (request_of q)) c.in-Write.is
+    (within_of c.args.locations (actor_of c.args.self.now) (request_of c.args.request) c.requires.limit)) f
 
 pub ask_read-requires-clause-limit : goal.ask_read-requires-clause-limit
 ask_read-requires-clause-limit c =
     read_limit c.args.locations (actor_of c.args.self.now) c.in-Read.location
-    (subst (λ (q : WordRequest). location_refusal c.args.locations (actor_of c.args.self.now) (request_of q) ≡ None) c.in-Read.is c.requires.limit)
+    (subst (λ (q : WordRequest). location_refusal c.args.locations (actor_of c.args.self.now) (request_of q)
+    ≡ None) c.in-Read.is c.requires.limit)
 
 pub ask_write-requires-clause-limit : goal.ask_write-requires-clause-limit
 ask_write-requires-clause-limit c =
     write_limit c.args.locations (actor_of c.args.self.now) c.in-Write.location c.in-Write.value
-    (subst (λ (q : WordRequest). location_refusal c.args.locations (actor_of c.args.self.now) (request_of q) ≡ None) c.in-Write.is c.requires.limit)
+    (subst (λ (q : WordRequest). location_refusal c.args.locations (actor_of c.args.self.now) (request_of q)
+    ≡ None) c.in-Write.is c.requires.limit)
 
 pub returns-in-BeginRead-clause-keeps : goal.returns-in-BeginRead-clause-keeps
 returns-in-BeginRead-clause-keeps c f = c.ask_begin_read.ensures.keeps c.args.locations f
@@ -50,4 +56,5 @@ returns-in-BeginRead-clause-keeps c f = c.ask_begin_read.ensures.keeps c.args.lo
 pub ask_write-requires-clause-writer : goal.ask_write-requires-clause-writer
 ask_write-requires-clause-writer c =
     write_writer c.args.locations (actor_of c.args.self.now) c.in-Write.location c.in-Write.value
-    (subst (λ (q : WordRequest). location_refusal c.args.locations (actor_of c.args.self.now) (request_of q) ≡ None) c.in-Write.is c.requires.limit)
+    (subst (λ (q : WordRequest). location_refusal c.args.locations (actor_of c.args.self.now) (request_of q)
+    ≡ None) c.in-Write.is c.requires.limit)

@@ -6,12 +6,24 @@ use Rattle.step_core.proofs.machine.Machine.undo.Goals as goal
 
 pub returns-clause-steps : goal.returns-clause-steps
 returns-clause-steps c =
-    let got = slice_get_read c.args.self.now.actors.items _ c.args.a c.index_mut-actor.result.now refl c.requires.actor c.index_mut-actor.ensures.value in
+    let got =
+    slice_get_read c.args.self.now.actors.items _ c.args.a c.index_mut-actor.result.now refl c.requires.actor
+    c.index_mut-actor.ensures.value in
     let some = c.requires.held _ got in
-    let hs : c.index_mut-actor.result.now.held.items ≡ c.index-entry.result.now ∷ drop 1 c.index_mut-actor.result.now.held.items = head_tail c.index_mut-actor.result.now.held.items c.index-entry.result.now (omega (arith, some, c.index_mut-actor.result.now.held.ok.0)) ∙ ap (λ (e : ℕ × ℕ). e ∷ drop 1 c.index_mut-actor.result.now.held.items) (sym c.index-entry.ensures) in
-    let low = (All-at (Fits (length c.args.self.now.locks.items)) c.args.self.now.actors.items c.args.a c.index_mut-actor.result.now c.requires.sound.actors got).held 0 c.index-entry.result.now (omega (arith, some, c.index_mut-actor.result.now.held.ok.0)) in
+    let hs : c.index_mut-actor.result.now.held.items
+    ≡ c.index-entry.result.now ∷ drop 1 c.index_mut-actor.result.now.held.items =
+    head_tail c.index_mut-actor.result.now.held.items c.index-entry.result.now
+    (omega (arith, some, c.index_mut-actor.result.now.held.ok.0)) ∙ ap
+    (λ (e : ℕ × ℕ). e ∷ drop 1 c.index_mut-actor.result.now.held.items) (sym c.index-entry.ensures) in
+    let low =
+    (All-at (Fits (length c.args.self.now.locks.items)) c.args.self.now.actors.items c.args.a c.index_mut-actor.result.now
+    c.requires.sound.actors got).held 0 c.index-entry.result.now (omega (arith, some, c.index_mut-actor.result.now.held.ok.0)) in
     let q = ap (λ (e : ℕ × ℕ). e.0) c.index-entry.ensures in
-    undo_steps c.args.self.now c.args.a c.index_mut-actor.result.now c.undo-answer.new.self _ c.index-entry.result.now (drop 1 c.index_mut-actor.result.now.held.items) _ got (c.requires.place _ got) hs (omega (arith, low.0, q)) refl c.undo-answer.ensures.actor c.undo-answer.ensures.answer
+    undo_steps c.args.self.now c.args.a c.index_mut-actor.result.now c.undo-answer.new.self _ c.index-entry.result.now
+    (drop 1 c.index_mut-actor.result.now.held.items) _ got (c.requires.place _ got) hs
+    (omega (arith, low.0, q)) refl c.undo-answer.ensures.actor c.undo-answer.ensures.answer
 
 pub returns-clause-sound : goal.returns-clause-sound
-returns-clause-sound c = sound_locked c.args.self.now c.args.a c.index_mut-actor.result.now c.undo-answer.new.self _ _ c.requires.sound (slice_get_read c.args.self.now.actors.items _ c.args.a c.index_mut-actor.result.now refl c.requires.actor c.index_mut-actor.ensures.value) c.undo-answer.ensures.keeps
+returns-clause-sound c = sound_locked c.args.self.now c.args.a c.index_mut-actor.result.now c.undo-answer.new.self _ _ c.requires.sound
+    (slice_get_read c.args.self.now.actors.items _ c.args.a c.index_mut-actor.result.now refl c.requires.actor
+    c.index_mut-actor.ensures.value) c.undo-answer.ensures.keeps

@@ -12,16 +12,19 @@ use Rattle.step_core.proofs.words.Words.ask.Goals as goal
 pub invariant_of-self : goal.invariant_of-self
 invariant_of-self c = record {
   sound = c.ask.ensures.sound;
-  reached = reached_asked (shown c.self.inside.machine) (shown c.ask.new.self) c.args.actor (request_of c.args.request) c.ask.result c.self.invariant.reached c.ask.ensures.asks c.ask.ensures.err;
+  reached = reached_asked (shown c.self.inside.machine) (shown c.ask.new.self) c.args.actor
+      (request_of c.args.request) c.ask.result c.self.invariant.reached c.ask.ensures.asks c.ask.ensures.err;
 }
 
 pub returns-clause-reached : goal.returns-clause-reached
-returns-clause-reached c = reached_asked (shown c.self.inside.machine) (shown c.ask.new.self) c.args.actor (request_of c.args.request) c.ask.result c.self.invariant.reached c.ask.ensures.asks c.ask.ensures.err
+returns-clause-reached c = reached_asked (shown c.self.inside.machine) (shown c.ask.new.self) c.args.actor
+    (request_of c.args.request) c.ask.result c.self.invariant.reached c.ask.ensures.asks c.ask.ensures.err
 
 pub returns-clause-soon : goal.returns-clause-soon
 returns-clause-soon c =
     soon c.ask.new.self c.args.actor c.ask.ensures.sound
-    (reached_asked (shown c.self.inside.machine) (shown c.ask.new.self) c.args.actor (request_of c.args.request) c.ask.result c.self.invariant.reached c.ask.ensures.asks c.ask.ensures.err)
+    (reached_asked (shown c.self.inside.machine) (shown c.ask.new.self) c.args.actor
+    (request_of c.args.request) c.ask.result c.self.invariant.reached c.ask.ensures.asks c.ask.ensures.err)
 
 pub returns-in-Some-clause-soon : goal.returns-in-Some-clause-soon
 returns-in-Some-clause-soon c =
@@ -31,7 +34,8 @@ returns-in-Some-clause-soon c =
 pub returns-in-Some-clause-unlimited : goal.returns-in-Some-clause-unlimited
 returns-in-Some-clause-unlimited c =
     subst (λ (v : Shown). (actor_in v c.args.actor).declared ≡ true → c.in-Some.refusal ≡ TooLong → ⊥) c.self.view_is
-    (unlimited (shown c.self.inside.machine) c.args.actor (request_of c.args.request) c.refusal.result c.in-Some.refusal c.self.invariant.reached c.refusal.ensures c.in-Some.is)
+    (unlimited (shown c.self.inside.machine) c.args.actor
+    (request_of c.args.request) c.refusal.result c.in-Some.refusal c.self.invariant.reached c.refusal.ensures c.in-Some.is)
 
 pub returns-clause-due : goal.returns-clause-due
 returns-clause-due c =

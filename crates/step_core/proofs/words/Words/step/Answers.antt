@@ -14,12 +14,14 @@ invariant_of-self c = record {
 pub returns-clause-others : goal.returns-clause-others
 returns-clause-others c =
     subst (λ (z : Shown). KeepsOthers z c.args.actor (shown c.step.new.self)) c.self.view_is
-    (keeps_others (shown c.self.inside.machine) (shown c.step.new.self) c.args.actor c.step.result c.self.invariant.reached c.step.ensures.steps)
+    (keeps_others (shown c.self.inside.machine)
+    (shown c.step.new.self) c.args.actor c.step.result c.self.invariant.reached c.step.ensures.steps)
 
 pub returns-clause-begins : goal.returns-clause-begins
 returns-clause-begins c =
     subst (λ (z : Shown). BeginsAbove z c.args.actor (shown c.step.new.self)) c.self.view_is
-    (begins_above (shown c.self.inside.machine) (shown c.step.new.self) c.args.actor c.step.result c.self.invariant.reached c.step.ensures.steps)
+    (begins_above (shown c.self.inside.machine)
+    (shown c.step.new.self) c.args.actor c.step.result c.self.invariant.reached c.step.ensures.steps)
 
 pub returns-clause-reached : goal.returns-clause-reached
 returns-clause-reached c = reached_step _ (shown c.step.new.self) c.args.actor c.step.result c.self.invariant.reached c.step.ensures.steps
