@@ -1,5 +1,5 @@
 //! Tests of the collections that transactions share, on their public calls, and of what stands over them: logs folded into bases,
-//! and shadows of copies and of single keys.
+//! and shadows of copies.
 //!
 //! They stand apart from the crates that they test, since a crate with tests is proved twice. What all four collections do stands
 //! in tables of texts over [`replay_log::Base`]: calls, as step scripts write them, and what came of each. What only one kind
@@ -12,8 +12,6 @@ mod editions;
 mod footprints;
 #[cfg(test)]
 mod logs;
-#[cfg(test)]
-mod memos;
 #[cfg(test)]
 mod openings;
 #[cfg(test)]

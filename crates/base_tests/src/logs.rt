@@ -4,7 +4,7 @@ ghost use Rattle.replay_log.specs.Base.{locations_of, stripes_of, shown_of};
 
 use base_map::MapBase;
 use conflict::{Change, Changes, LocSet};
-use replay_log::{Base, Log, Touched};
+use replay_log::{Base, Log};
 use seq_model::{Counts, Entries, Held, Memory, Op, QueueItems, Refusal, Reply};
 use std::alloc::Global;
 use std::test::Fail;
@@ -116,13 +116,5 @@ fn a_location_pushed_twice_is_raised_once(rt: HostRuntime) -> Result<(), Fail> {
     let base = two_puts(rt.alloc())?;
     assert_eq!(rt; base.edition(0), 0);
     assert_eq!(rt; base.edition(1), 1);
-    Ok(())
-}
-
-#[test]
-fn a_touch_copies_one_key_with_its_edition(rt: HostRuntime) -> Result<(), Fail> {
-    let touch = two_puts(rt.alloc())?.touch(&Op::Get(3))?;
-    assert_eq!(rt; touch.editions.as_slice(), [(1, 1)].as_slice());
-    assert!(rt; matches!(touch.held, Touched::Entry(3, Some(30))));
     Ok(())
 }
