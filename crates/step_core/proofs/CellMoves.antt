@@ -1,8 +1,8 @@
 -- A step of the cells is the machine's. The world that has these cells and this actor is given: what the step finds there is what the
 -- cells hold, so the machine's actor becomes the code's, its word becomes the one that was stored, and it tells what the code answers.
 -- A load leaves the cells; a store puts one number in the place of another.
-use Rattle.std.proofs.Common.{◌≡◌, ◌⊎◌, ℕ, zero, suc, ◌+◌, ◌<◌, ◌≤◌, ◌^◌, ◌*◌, List, [], ◌∷◌, Ok, Err, Option, Some, None, length, get_or, set, refl, sym, ap, ◌∙◌, subst, inl, inr, arith, drop, Bool, true, false, ltb, ltb-true, eqb, eq-eqb, ne_eqb, get_or-set_same, get_or-set_other}
-use Rattle.std.specs.Prelude.{unwrap_or, slice_set, nat_lt, if◌then◌else◌}
+use Rattle.std.proofs.Common.{◌≡◌, ℕ, zero, suc, ◌+◌, ◌<◌, ◌≤◌, ◌^◌, ◌*◌, List, [], ◌∷◌, Ok, Err, Option, Some, None, length, get_or, set, refl, sym, ap, ◌∙◌, subst, inl, inr, arith, drop, eqb, eq-eqb, ne_eqb, get_or-set_same, get_or-set_other}
+use Rattle.std.specs.Prelude.{unwrap_or}
 use Rattle.std.specs.Vec.{with_item}
 use Rattle.std.specs.List.{All}
 use Rattle.std.proofs.lemmas.Bool.{cases_eq, cond-true, cond-false}
@@ -16,14 +16,13 @@ use Rattle.word_machine.specs.Actor.{goes, begun, seen, seen_again, seen_to_lock
 use Rattle.word_machine.specs.World.{World, Step, happens, step, put, now}
 use Rattle.word_machine.specs.Notices.{LockedAt, Quiet, Busy, NoTransaction, Stored, Released, Cancelled, last_notice, take_notice, when_none_left, notice, begin_notice, look_notice, again_notice, lock_notice, check_notice}
 use Rattle.word_machine.proofs.Sets.{put-same, put-other}
-use Rattle.word_machine.proofs.Worlds.{tried, locked, looked, looked_again, to_lock, checked, stored, left, gives_back, commits, released, undone, closed, stamped, first}
+use Rattle.word_machine.proofs.Worlds.{tried, locked, looked, looked_again, to_lock, checked, gives_back, released, undone, first}
 use Rattle.step_core.specs.Answers.{result_of}
-use Rattle.step_core.specs.CellSteps.{AreCells, StepsOn, Grows}
+use Rattle.step_core.specs.CellSteps.{AreCells, StepsOn}
 use Rattle.step_core.specs.Shown.{actor_of, place_of}
-use Rattle.step_core.specs.Sound.{owed}
 use Rattle.step_core.specs.declared.actor.Actor.{Actor}
 use Rattle.step_core.specs.declared.actor.Place.{Place}
-use Rattle.step_core.specs.declared.actor.Place.TheVariants.{Begin, Look, Fetch, Again, Lock, Take, Check, Broken, First, Store, Release, Undo, Leave, Close, Idle}
+use Rattle.step_core.specs.declared.actor.Place.TheVariants.{Begin, Look, Fetch, Again, Lock, Take, Check, First, Store, Release, Undo, Leave, Close}
 use Rattle.step_core.specs.declared.answer.WordAnswer.TheVariants as answer
 use Rattle.step_core.specs.declared.answer.WordRefusal.TheVariants as refusal
 use Rattle.step_core.specs.declared.cells.Cells.{Cells}

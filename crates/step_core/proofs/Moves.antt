@@ -1,44 +1,35 @@
 -- Steps of the running words are steps of the machine: what the cells and the actor make of each other is said of every world that has
 -- them, and no step touches another actor. The counts of numbers owed and of records due follow what the one actor's place changes.
-use Rattle.std.proofs.Common.{◌≡◌, ◌⊎◌, ℕ, zero, suc, ◌+◌, ◌-◌, ◌<◌, ◌≤◌, ◌^◌, List, [], ◌∷◌, ◌++◌, Some, None, Ok, Err, IfOk, OnErr, Option, Result, length, map, get_or, set, refl, sym, ap, ◌∙◌, subst, inl, inr, arith, drop, Bool, true, false, ltb, ltb-true, eqb, eq-eqb, ne_eqb, ◌*◌, get_or-set_same, get_or-set_other}
-use Rattle.std.specs.Prelude.{unwrap_or, slice_get, slice_set, nat_lt, if◌then◌else◌}
+use Rattle.std.proofs.Common.{◌≡◌, ◌⊎◌, ℕ, zero, suc, ◌+◌, ◌<◌, ◌≤◌, ◌^◌, List, [], ◌∷◌, ◌++◌, Some, None, Ok, Err, IfOk, OnErr, Option, length, map, get_or, set, refl, sym, ap, ◌∙◌, subst, inl, inr, arith, Bool, true, false, eqb, get_or-set_same, get_or-set_other}
+use Rattle.std.specs.Prelude.{slice_get, slice_set, if◌then◌else◌}
 use Rattle.std.specs.Vec.{vec_len, vec_capacity, with_item}
 use Rattle.std.specs.List.{All}
 use Rattle.std.proofs.lemmas.List.{map-set}
 use Rattle.std.proofs.lemmas.List.Elements.{All-set}
-use Rattle.std.proofs.lemmas.Option.{get_or_from_slice_get}
-use Rattle.std.proofs.lemmas.Bool.{cases_Bool, cases_eq, cond-true, cond-false}
+use Rattle.std.proofs.lemmas.Bool.{cases_Bool, cases_eq}
 use Rattle.word_machine.specs.Actor as machine
-use Rattle.word_machine.proofs.Worlds.{stored, left, gives_back, commits, released, undone, closed, stamped, first}
-use Rattle.tx_sets.specs.Entries.{Entries, IsRising}
+use Rattle.tx_sets.specs.Entries.{Entries}
 use Rattle.word_machine.specs.World as world
 use Rattle.word_machine.specs.Requests.{Request}
 use Rattle.vlock_word.specs.declared.lock_word.LockWord.{LockWord}
 use Rattle.vlock_word.specs.declared.lock_word.LockWord.TheVariants.{Free, Locked}
-use Rattle.vlock_word.specs.LockWord.{bits}
-use Rattle.tx_sets.specs.Entries.{locations, lookup}
 use Rattle.word_machine.specs.Actor.{goes}
 use Rattle.word_machine.specs.Requests.{ask}
 use Rattle.word_machine.specs.World.{World, Ask, Event, Step, Outcome, GoesOn, outcome, first_outcome, happens, run, start, step, put, now}
-use Rattle.word_machine.proofs.Worlds.{tried, locked, looked, looked_again, to_lock, checked}
-use Rattle.word_machine.specs.Notices.{Notice, LockedAt, Quiet, Busy, NoTransaction, Stored, Released, Cancelled, last_notice, take_notice, when_none_left, reply, notice, look_notice, again_notice, lock_notice, check_notice}
+use Rattle.word_machine.specs.Notices.{reply, notice}
 use Rattle.word_machine.proofs.Sets.{put-same, put-other}
 use Rattle.vlock_word.specs.LockWord.{unbits}
 use Rattle.word_machine.specs.Actor.{begun, seen, to_check, stamped_at, taken, freed, after_release, seen_again, seen_to_lock, seen_in_check}
 use Rattle.word_machine.specs.World.{in_order}
-use Rattle.word_machine.specs.Notices.{begin_notice}
 use Rattle.word_machine.specs.World.{blank}
 use Rattle.step_core.specs.Answers.{result_of}
 use Rattle.step_core.specs.Phases.{opens}
-use Rattle.step_core.specs.Shown.{place_of, actor_of, call_of, record_of, Shown, shown, Shows, Steps, Asks, Lists, listed, Reached}
-use Rattle.step_core.specs.Sound.{FitsPlace, Fits, Keeps, owed, due, total, Sound}
-use Rattle.step_core.specs.declared.answer.WordAnswer.TheVariants as answer
-use Rattle.vlock_word.proofs.LockWordLemmas.{bits_unbits, unbits_free, unbits_locked}
+use Rattle.step_core.specs.Shown.{place_of, actor_of, call_of, record_of, Shown, shown, Shows, Steps, Asks, listed, Reached}
+use Rattle.step_core.specs.Sound.{Fits, owed, due, total, Sound}
 use Rattle.step_core.specs.declared.answer.WordRefusal.TheVariants as refusal
 use Rattle.step_core.specs.declared.actor.Place.{Place}
 use Rattle.step_core.specs.declared.actor.Place.TheVariants.{Idle, Begin, Open, Look, Fetch, Again, Lock, Take, Check, Broken, First, Store, Release, Undo, Leave, Close}
 use Rattle.step_core.specs.declared.answer.WordAnswer.{WordAnswer}
-use Rattle.step_core.specs.declared.answer.WordRefusal.{WordRefusal}
 use Rattle.step_core.specs.declared.record.WordRecord.{WordRecord}
 use Rattle.step_core.specs.declared.actor.Actor.{Actor}
 use Rattle.step_core.specs.declared.machine.Machine.{Machine}

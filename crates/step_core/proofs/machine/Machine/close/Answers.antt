@@ -1,9 +1,9 @@
-use Rattle.std.proofs.Common.{◌≡◌, refl, ap, sym, ◌∙◌, subst, arith, inl, map, length, true, false, vec_items, List}
+use Rattle.std.proofs.Common.{◌≡◌, refl, ap, sym, ◌∙◌, subst, arith, inl, map, false, vec_items, List}
 use Rattle.std.proofs.lemmas.Option.{slice_get_read}
 use Rattle.std.specs.Vec.{with_item}
 use Rattle.step_core.specs.Shown.{call_of}
 use Rattle.step_core.specs.Sound.{FitsPlace, owed, due}
-use Rattle.step_core.specs.declared.actor.Place.TheVariants.{Close, Idle, Store}
+use Rattle.step_core.specs.declared.actor.Place.TheVariants.{Close, Idle}
 use Rattle.step_core.specs.declared.machine.Machine.{Machine}
 use Rattle.step_core.specs.declared.record.WordCall.{WordCall}
 use Rattle.step_core.specs.declared.record.WordRecord.{WordRecord}
