@@ -34,3 +34,4 @@ pub mod EndingLemmas
 pub mod RecordLemmas
 pub mod TryLemmas
 pub mod AskLemmas
+mod TouchLemmas
