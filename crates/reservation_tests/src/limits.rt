@@ -1,6 +1,6 @@
 //! The limits of the tables and of what is asked.
 
-use crate::prints::{expect_held, expect_session, play, print_part};
+use crate::prints::{expect_held, expect_session, print_part, run};
 use seq_model::{Entries, Items, Memory};
 use std::alloc::{AllocError, Global};
 use std::process::Abort;
@@ -74,14 +74,14 @@ fn a_customer_has_at_most_a_thousand_bookings_and_waits(rt: HostRuntime) -> Resu
     Ok(())
 }
 
-const UNITS: &str = "\
+const UNITS: &[u8] = b"\
 update add car 1 2000 7 = done
 reserve 1 0 car 1 = TooLong
 reserve 1 1001 car 1 = TooLong
 reserve 1 1000 car 1 = booked 1 1000 7, nothing, nothing
 ";
 
-const UNITS_LEFT: &str = "\
+const UNITS_LEFT: &[u8] = b"\
 car 1: total 2000 used 1000 free 1000 price 7
 customer 1: car 1 1000 7
 waiting car after 0:
@@ -97,7 +97,7 @@ fn units_are_one_to_a_thousand(rt: HostRuntime) -> Result<(), Fail> {
     Ok(())
 }
 
-const AMOUNTS: &str = "\
+const AMOUNTS: &[u8] = b"\
 update add room 1 4294967296 7 = TooLong
 update add room 1 7 4294967296 = TooLong
 update take room 1 4294967296 = TooLong
@@ -106,7 +106,7 @@ update add room 1 1 7 = refused
 update add room 1 0 7 = done
 ";
 
-const AMOUNTS_LEFT: &str = "\
+const AMOUNTS_LEFT: &[u8] = b"\
 room 1: total 4294967295 used 0 free 4294967295 price 7
 waiting car after 0:
 waiting flight after 0:
@@ -175,29 +175,40 @@ fn with_next(alloc: Global, next: u64) -> Result<Tables, Memory> {
     Ok(Tables::of_parts(alloc, items, customers, tickets, waiting, next))
 }
 
-/// Makes the actions on tables with one car and this next ticket, where they are balanced.
+/// Makes the actions where the tables are balanced.
+fn run_balanced(
+    rt: &impl Abort,
+    alloc: Global,
+    tables: &mut Tables,
+    rows: &[u8],
+    left: &[u8],
+) -> Result<(), Memory> {
+    if tables.balanced() {
+        run(rt, alloc, tables, rows, left)
+    } else {
+        expect_held(rt, alloc, tables, left)
+    }
+}
+
+/// Makes the actions on tables with one car and this next ticket.
 fn expect_from(
     rt: &impl Abort,
     alloc: Global,
     next: u64,
-    rows: &str,
-    left: &str,
+    rows: &[u8],
+    left: &[u8],
 ) -> Result<(), Memory> {
     let mut tables = with_next(alloc, next)?;
-    if tables.balanced() {
-        play(rt, alloc, &mut tables, rows)?;
-    }
-    expect_held(rt, alloc, &tables, left)?;
-    Ok(())
+    run_balanced(rt, alloc, &mut tables, rows, left)
 }
 
-const LAST_TICKET: &str = "\
+const LAST_TICKET: &[u8] = b"\
 reserve 1 2 car 1 = waits 1 4611686018427387903, nothing, nothing
 reserve 2 2 car 1 = nofree 1, nothing, nothing
 reserve 3 1 car 1 = booked 1 1 4, nothing, nothing
 ";
 
-const LAST_TICKET_LEFT: &str = "\
+const LAST_TICKET_LEFT: &[u8] = b"\
 car 1: total 1 used 1 free 0 price 4
 customer 1: wait car 1 2 4611686018427387903
 customer 2:
@@ -222,7 +233,7 @@ fn the_last_ticket_is_below_two_to_the_62(rt: HostRuntime) -> Result<(), Fail> {
     Ok(())
 }
 
-const HIGHER_TICKET_LEFT: &str = "\
+const HIGHER_TICKET_LEFT: &[u8] = b"\
 car 1: total 1 used 0 free 1 price 4
 waiting car after 0:
 waiting flight after 0:
@@ -233,7 +244,7 @@ balanced no
 
 #[test]
 fn no_balanced_tables_have_a_higher_one(rt: HostRuntime) -> Result<(), Fail> {
-    expect_from(&rt, rt.alloc(), TICKET_LIMIT + 1, "", HIGHER_TICKET_LEFT)?;
+    expect_from(&rt, rt.alloc(), TICKET_LIMIT + 1, b"", HIGHER_TICKET_LEFT)?;
     Ok(())
 }
 

@@ -1,6 +1,7 @@
 //! Tables and their parts.
+ghost use Rattle.vac_model.specs.Balanced.{IsBalanced};
 
-use crate::prints::{balance_of, expect_held, play};
+use crate::prints::{balance_of, expect_held, run};
 use seq_model::{Entries, Memory, QueueItems, Value};
 use std::alloc::Global;
 use std::collections::btree_map::Iter;
@@ -49,23 +50,38 @@ fn rebuilt(alloc: Global, tables: &Tables) -> Result<Tables, Memory> {
     Ok(Tables::of_parts(alloc, items, customers, tickets, waiting, next))
 }
 
-/// The actions' tables, and those of their parts, must hold what the lines say.
-fn expect_rebuilt(rt: &impl Abort, alloc: Global, rows: &str, left: &str) -> Result<(), Memory> {
-    let mut tables = Tables::new(alloc);
-    play(rt, alloc, &mut tables, rows)?;
-    expect_held(rt, alloc, &tables, left)?;
-    let again = rebuilt(alloc, &tables)?;
-    expect_held(rt, alloc, &again, left)?;
-    Ok(())
+/// Tables of the parts of these must hold what the text says.
+fn expect_copy(rt: &impl Abort, alloc: Global, tables: &Tables, left: &[u8]) -> Result<(), Memory> {
+    let again = rebuilt(alloc, tables)?;
+    expect_held(rt, alloc, &again, left)
 }
 
-const PARTS: &str = "\
+fn run_and_copy(
+    rt: &impl Abort,
+    alloc: Global,
+    tables: &mut Tables,
+    rows: &[u8],
+    left: &[u8],
+) -> Result<(), Memory>
+    requires { IsBalanced tables.old }
+{
+    run(rt, alloc, tables, rows, left)?;
+    expect_copy(rt, alloc, tables, left)
+}
+
+/// The actions' tables, and those of their parts, must hold what the text says.
+fn expect_rebuilt(rt: &impl Abort, alloc: Global, rows: &[u8], left: &[u8]) -> Result<(), Memory> {
+    let mut tables = Tables::new(alloc);
+    run_and_copy(rt, alloc, &mut tables, rows, left)
+}
+
+const PARTS: &[u8] = b"\
 update add car 1 2 10 and add room 4 1 20 = done done
 reserve 6 2 car 1 room 4 = booked 1 2 10, nothing, waits 4 0
 reserve 5 1 car 1 = waits 1 1, nothing, nothing
 ";
 
-const PARTS_LEFT: &str = "\
+const PARTS_LEFT: &[u8] = b"\
 car 1: total 2 used 2 free 0 price 10
 room 4: total 1 used 0 free 1 price 20
 customer 5: wait car 1 1 1

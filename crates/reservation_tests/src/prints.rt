@@ -94,11 +94,11 @@ fn answer(alloc: Global, tables: &mut Tables, line: &str, text: &mut String) -> 
 }
 
 /// Makes the actions of the rows in turn. Each must get the answer that stands behind its ` = `.
-pub fn play(rt: &impl Abort, alloc: Global, tables: &mut Tables, rows: &str) -> Result<(), Memory>
+pub fn play(rt: &impl Abort, alloc: Global, tables: &mut Tables, rows: &[u8]) -> Result<(), Memory>
     requires { IsBalanced tables.old }
     ensures { OnOk result (IsBalanced tables.new) }
 {
-    for row in rows.lines() {
+    for row in std::str::from_utf8(rows).unwrap_or("no text").lines() {
         let (line, wanted) = row.split_once(" = ").unwrap_or((row, ""));
         let mut text = String::new(alloc);
         answer(alloc, tables, line, &mut text)?;
@@ -214,23 +214,36 @@ pub fn expect_held(
     rt: &impl Abort,
     alloc: Global,
     tables: &Tables,
-    left: &str,
+    left: &[u8],
 ) -> Result<(), Memory> {
     let mut text = String::new(alloc);
     print_tables(&mut text, tables)?;
     print_end(alloc, &mut text, tables)?;
-    assert_eq!(rt; text.as_str(), left);
+    assert_eq!(rt; text.as_bytes(), left, "{text}");
     Ok(())
+}
+
+/// The actions must be answered so, and leave what the text says.
+pub fn run(
+    rt: &impl Abort,
+    alloc: Global,
+    tables: &mut Tables,
+    rows: &[u8],
+    left: &[u8],
+) -> Result<(), Memory>
+    requires { IsBalanced tables.old }
+{
+    play(rt, alloc, tables, rows)?;
+    expect_held(rt, alloc, tables, left)
 }
 
 /// The actions, made on empty tables, must be answered so, and leave what the text says.
 pub fn expect_session(
     rt: &impl Abort,
     alloc: Global,
-    rows: &str,
-    left: &str,
+    rows: &[u8],
+    left: &[u8],
 ) -> Result<(), Memory> {
     let mut tables = Tables::new(alloc);
-    play(rt, alloc, &mut tables, rows)?;
-    expect_held(rt, alloc, &tables, left)
+    run(rt, alloc, &mut tables, rows, left)
 }

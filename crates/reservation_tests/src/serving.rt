@@ -2,7 +2,7 @@
 use crate::prints::expect_session;
 use std::test::Fail;
 
-const ELEVEN_WAIT: &str = "\
+const ELEVEN_WAIT: &[u8] = b"\
 update add car 1 11 5 = done
 reserve 100 11 car 1 = booked 1 11 5, nothing, nothing
 reserve 0 1 car 1 = waits 1 0, nothing, nothing
@@ -19,7 +19,7 @@ reserve 10 1 car 1 = waits 1 10, nothing, nothing
 delete 100 = bill 55 served 10
 ";
 
-const ELEVEN_WAIT_LEFT: &str = "\
+const ELEVEN_WAIT_LEFT: &[u8] = b"\
 car 1: total 11 used 10 free 1 price 5
 customer 0: car 1 1 5
 customer 1: car 1 1 5
@@ -47,7 +47,7 @@ fn ten_tickets_are_taken_off(rt: HostRuntime) -> Result<(), Fail> {
     Ok(())
 }
 
-const AWAITED_FLIGHT: &str = "\
+const AWAITED_FLIGHT: &[u8] = b"\
 update add flight 1 1 9 = done
 reserve 2 2 flight 1 = nothing, waits 1 0, nothing
 update drop 1 = done
@@ -55,7 +55,7 @@ update add flight 2 1 8 = done
 reserve 3 1 flight 2 = nothing, booked 2 1 8, nothing
 ";
 
-const AWAITED_FLIGHT_LEFT: &str = "\
+const AWAITED_FLIGHT_LEFT: &[u8] = b"\
 flight 2: total 1 used 1 free 0 price 8
 customer 2: wait flight 1 2 0
 customer 3: flight 2 1 8
@@ -73,7 +73,7 @@ fn a_flight_is_dropped_that_someone_awaits(rt: HostRuntime) -> Result<(), Fail> 
     Ok(())
 }
 
-const LOST_FLIGHT: &str = "\
+const LOST_FLIGHT: &[u8] = b"\
 update add flight 1 1 9 and add flight 2 1 8 = done done
 reserve 2 2 flight 1 = nothing, waits 1 0, nothing
 update drop 1 = done
@@ -81,7 +81,7 @@ reserve 3 1 flight 2 = nothing, booked 2 1 8, nothing
 delete 3 = bill 8 served 0
 ";
 
-const LOST_FLIGHT_LEFT: &str = "\
+const LOST_FLIGHT_LEFT: &[u8] = b"\
 flight 2: total 1 used 0 free 1 price 8
 customer 2:
 waiting car after 0:
@@ -98,7 +98,7 @@ fn a_ticket_for_what_is_gone_is_taken_off(rt: HostRuntime) -> Result<(), Fail> {
     Ok(())
 }
 
-const A_NEW_PRICE: &str = "\
+const A_NEW_PRICE: &[u8] = b"\
 update add car 1 2 10 = done
 reserve 1 2 car 1 = booked 1 2 10, nothing, nothing
 reserve 2 2 car 1 = waits 1 0, nothing, nothing
@@ -109,7 +109,7 @@ bill 2 = bill 60
 bill 1 = absent
 ";
 
-const A_NEW_PRICE_LEFT: &str = "\
+const A_NEW_PRICE_LEFT: &[u8] = b"\
 car 1: total 2 used 2 free 0 price 30
 customer 2: car 1 2 30
 waiting car after 1:
@@ -126,7 +126,7 @@ fn the_price_is_that_of_the_booking(rt: HostRuntime) -> Result<(), Fail> {
     Ok(())
 }
 
-const AN_UPDATE: &str = "\
+const AN_UPDATE: &[u8] = b"\
 update add car 1 1 10 = done
 reserve 1 1 car 1 = booked 1 1 10, nothing, nothing
 reserve 2 1 car 1 = waits 1 0, nothing, nothing
@@ -135,7 +135,7 @@ reserve 2 1 car 1 = already 1, nothing, nothing
 reserve 3 1 car 1 = booked 1 1 10, nothing, nothing
 ";
 
-const AN_UPDATE_LEFT: &str = "\
+const AN_UPDATE_LEFT: &[u8] = b"\
 car 1: total 2 used 2 free 0 price 10
 customer 1: car 1 1 10
 customer 2: wait car 1 1 0

@@ -2,7 +2,7 @@
 use crate::prints::expect_session;
 use std::test::Fail;
 
-const A_DELETION: &str = "\
+const A_DELETION: &[u8] = b"\
 update add car 1 3 50 = done
 update add car 2 1 70 = done
 reserve 7 1 car 1 car 2 = booked 2 1 70, nothing, nothing
@@ -13,7 +13,7 @@ delete 7 = bill 70 served 1
 delete 7 = absent
 ";
 
-const A_DELETION_LEFT: &str = "\
+const A_DELETION_LEFT: &[u8] = b"\
 car 1: total 3 used 0 free 3 price 50
 car 2: total 1 used 1 free 0 price 70
 customer 8: car 2 1 70
@@ -30,7 +30,7 @@ fn a_deletion_serves_who_waits(rt: HostRuntime) -> Result<(), Fail> {
     Ok(())
 }
 
-const ONE_CAR: &str = "\
+const ONE_CAR: &[u8] = b"\
 update add car 1 2 10 = done
 reserve 1 2 car 1 = booked 1 2 10, nothing, nothing
 reserve 2 2 car 1 = waits 1 0, nothing, nothing
@@ -42,7 +42,7 @@ item car 1 = total 2 used 2 free 0 price 10
 bill 2 = bill 20
 ";
 
-const ONE_CAR_LEFT: &str = "\
+const ONE_CAR_LEFT: &[u8] = b"\
 car 1: total 2 used 2 free 0 price 10
 customer 2: car 1 2 10
 customer 4: wait car 1 1 2
@@ -60,12 +60,12 @@ fn the_first_who_waits_is_served_first(rt: HostRuntime) -> Result<(), Fail> {
     Ok(())
 }
 
-const ONE_BOOKING: &str = "\
+const ONE_BOOKING: &[u8] = b"\
 update add car 1 1 50 = done
 reserve 7 1 car 1 = booked 1 1 50, nothing, nothing
 ";
 
-const ONE_BOOKING_LEFT: &str = "\
+const ONE_BOOKING_LEFT: &[u8] = b"\
 car 1: total 1 used 1 free 0 price 50
 customer 7: car 1 1 50
 waiting car after 0:

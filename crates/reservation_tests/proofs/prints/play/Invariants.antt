@@ -2,4 +2,4 @@ use Rattle.vac_model.specs.Balanced.{IsBalanced}
 use Rattle.reservation_tests.proofs.prints.play.Given as goal
 
 abbrev pub invariant-loop-row : goal.invariant-loop-row
-invariant-loop-row l = IsBalanced l.tables
+invariant-loop-row g l = IsBalanced l.tables
