@@ -31,9 +31,11 @@ pub fn memos<V: Value>()
     ensures touched { (op : Op V) (s : Shown V) (t : Touched V) → touched_by op s ≡ Some t → IsShown t s }
     ensures added { (t : Touched V) (b s : Shown V) (es : FinMap nat_cmp (Option V)) (cs : FinMap nat_cmp ℕ) (changes : List (Change V)) →
         IsOfBy b es cs changes s → IsShown t s → IsOfBy b (with_entry t es) (with_count t cs) changes s }
-    ensures answered { (op : Op V) (b s : Shown V) (es : FinMap nat_cmp (Option V)) (cs : FinMap nat_cmp ℕ) (changes : List (Change V)) (o : Outcome V) →
+    ensures answered { (op : Op V) (b s : Shown V) (es : FinMap nat_cmp (Option V)) (cs : FinMap nat_cmp ℕ) (changes : List (Change V))
+        (o : Outcome V) →
         holds_by b es cs op ≡ true → IsOfBy b es cs changes s → answer_by b es cs op ≡ Some o → outcome_of op (after changes s) ≡ Some o }
-    ensures accepted { (o : Outcome V) (b s : Shown V) (es : FinMap nat_cmp (Option V)) (cs : FinMap nat_cmp ℕ) (changes : List (Change V)) →
+    ensures accepted { (o : Outcome V) (b s : Shown V) (es : FinMap nat_cmp (Option V)) (cs : FinMap nat_cmp ℕ)
+        (changes : List (Change V)) →
         holds_by b es cs o.op ≡ true → IsOfBy b es cs changes s →
         IsOfBy b (entries_kept b o es) (copies_kept b o cs) (changes ++ changes_of o b) s }
     ensures held { (o : Outcome V) (b : Shown V) (es : FinMap nat_cmp (Option V)) (cs : FinMap nat_cmp ℕ) (op : Op V) →

@@ -6,7 +6,8 @@ ghost use Rattle.seq_model.specs.Counts.{copies};
 ghost use Rattle.conflict.specs.Refusals.{IsTooLong, IsStripeCount};
 ghost use Rattle.base_bag.specs.Conflicts as bag;
 ghost use Rattle.replay_log.specs.Base.{changes_of, shown_of, stripes_of, writes_of};
-ghost use Rattle.shadow.specs.Memo.{IsReadyFor, answer_by, copies_after, copies_kept, entries_after, entries_kept, holds, map_answer, shape, with_count, with_entry, with_key};
+ghost use Rattle.shadow.specs.Memo.{IsReadyFor, answer_by, copies_after, copies_kept, entries_after, entries_kept, holds, map_answer};
+ghost use Rattle.shadow.specs.Memo.{shape, with_count, with_entry, with_key};
 
 use base_bag::BagBase;
 use base_map::MapBase;
@@ -51,7 +52,14 @@ impl<V> Model for Memo<V> {
 
     ghost Value = { MemoView V };
 
-    ghost coded = { Prim.hlevel (codes, map.code {R = nat_cmp} coded_ℕ V.code, map.code {R = nat_cmp} coded_ℕ (coded_option V.code), map.code {R = nat_cmp} coded_ℕ coded_ℕ, pq.shown_code, queue.shown_code) };
+    ghost coded = { Prim.hlevel (
+      codes,
+      map.code {R = nat_cmp} coded_ℕ V.code,
+      map.code {R = nat_cmp} coded_ℕ (coded_option V.code),
+      map.code {R = nat_cmp} coded_ℕ coded_ℕ,
+      pq.shown_code,
+      queue.shown_code,
+    ) };
 
     ghost view = { λ a. record {
       blank = a.blank;
