@@ -1,8 +1,7 @@
 -- What a memo keeps of the keys that it holds is what the collection of which they were touched shows there after the accepted
 -- changes. A change is of one key, so it leaves what is known of the others; and a key that isn't held was changed by none of them,
 -- so that what is touched of it later is what the collection still shows there.
-use Rattle.std.proofs.Common.{◌≡◌, ℕ, zero, suc, ◌+◌, ◌-◌, ◌++◌, ◌==◌, Bool, true, false, cond, List, [], ◌∷◌, Option, Some, None, is_some}
-use Rattle.std.proofs.Common.{nat_lt, unwrap_or, refl, sym, ap, subst, ◌∙◌, arith, true≢false}
+use Rattle.std.proofs.Common.{◌≡◌, ℕ, zero, suc, ◌+◌, ◌-◌, ◌++◌, ◌==◌, Bool, true, false, cond, List, [], ◌∷◌, Option, Some, None, is_some, nat_lt, unwrap_or, refl, sym, ap, subst, ◌∙◌, arith, true≢false}
 use Rattle.std.specs.Cmp.{nat_cmp_total}
 use Rattle.std.specs.List.{fold}
 use Rattle.std.specs.Ordering.{nat_cmp, eq_by_cmp}
@@ -10,7 +9,7 @@ use Rattle.std.specs.FinMap.{FinMap, empty, get, get-empty, insert, get-insert, 
 use Rattle.std.proofs.lemmas.Bool.Decides.{nat_tests}
 use Rattle.std.proofs.lemmas.List.Sums.{fold-append}
 use Rattle.seq_model.specs.declared.call.Op.{Op}
-use Rattle.seq_model.specs.declared.call.Op.TheVariants.{Get, Put, Remove, Count, Add, Take}
+use Rattle.seq_model.specs.declared.call.Op.TheVariants.{Get, Put, Remove, Len, Count, Add, Take}
 use Rattle.seq_model.specs.declared.call.Reply.{Reply}
 use Rattle.seq_model.specs.declared.call.Reply.TheVariants.{Done, Full, Value, Number, Yes, No}
 use Rattle.seq_model.specs.declared.limits.TheConstants.{COPY_LIMIT}
@@ -29,10 +28,9 @@ use Rattle.base_pq.specs.Conflicts as pq
 use Rattle.base_queue.specs.Conflicts as queue
 use Rattle.replay_log.specs.Base.{Shown, OfMap, OfBag, OfPq, OfQueue, after, changes_of, outcome_of}
 use Rattle.replay_log.specs.declared.touch.Touched.{Touched}
-use Rattle.replay_log.specs.declared.touch.Touched.TheVariants.{Entry, Copies}
+use Rattle.replay_log.specs.declared.touch.Touched.TheVariants.{Entry, Copies, Counts}
 use Rattle.replay_log.specs.Touches.{touched_by}
-use Rattle.shadow.specs.Memo.{IsKnown, IsOfBy, IsShown, has_key, with_key, with_entry, with_count, holds_by, entry_outcome, known_entry}
-use Rattle.shadow.specs.Memo.{map_answer, counted_up, copies_after, entries_after, answer_by, entries_kept, copies_kept}
+use Rattle.shadow.specs.Memo.{IsKnown, IsOfBy, IsShown, has_key, with_key, with_entry, with_count, holds_by, entry_outcome, known_entry, map_answer, counted_up, copies_after, entries_after, answer_by, entries_kept, copies_kept}
 
 -- ---- what is known of keys, for any collection
 module _ {C A : Type 0} (look : C → ℕ → A) where
@@ -47,8 +45,7 @@ module _ {C A : Type 0} (look : C → ℕ → A) where
   known_there known k q a b same e =
       some_same a b (sym (get-insert nat_cmp_total known k a q ∙ ap (λ t. cond t (Some a) (get known q)) same) ∙ e)
 
-  known_elsewhere : (known : FinMap nat_cmp A) (k q : ℕ) (a : A) (o : Option A) → eq_by_cmp nat_cmp q k ≡ false
-      → get (insert known k a) q ≡ o → get known q ≡ o
+  known_elsewhere : (known : FinMap nat_cmp A) (k q : ℕ) (a : A) (o : Option A) → eq_by_cmp nat_cmp q k ≡ false → get (insert known k a) q ≡ o → get known q ≡ o
   known_elsewhere known k q a o other e =
       sym (get-insert nat_cmp_total known k a q ∙ ap (λ t. cond t (Some a) (get known q)) other) ∙ e
 
@@ -71,8 +68,7 @@ module _ {C A : Type 0} (look : C → ℕ → A) where
   )
 
   -- one more key is known
-  pub learnt_known : (known : FinMap nat_cmp A) (s now : C) (k : ℕ) (a : A) → get known k ≡ None → look s k ≡ a → Known known s now
-      → Known (insert known k a) s now
+  pub learnt_known : (known : FinMap nat_cmp A) (s now : C) (k : ℕ) (a : A) → get known k ≡ None → look s k ≡ a → Known known s now → Known (insert known k a) s now
   learnt_known known s now k a new shown is = (
     λ q b e. elim (eq_by_cmp nat_cmp q k) as (λ t. eq_by_cmp nat_cmp q k ≡ t → look now q ≡ b) [
       | true ↦ λ same. ap (look now) (same_key q k same) ∙ is.1 k new ∙ shown ∙ known_there known k q a b same e
@@ -90,8 +86,7 @@ held_some None h = absurd (true≢false (sym h))
 held_some (Some a) h = (a, refl)
 
 -- giving a key that is held something else holds the same keys
-pub holds_same : {A : Type 0} (known : FinMap nat_cmp A) (k : ℕ) (a : A) (q : ℕ) → has_key known k ≡ true
-    → has_key (insert known k a) q ≡ has_key known q
+pub holds_same : {A : Type 0} (known : FinMap nat_cmp A) (k : ℕ) (a : A) (q : ℕ) → has_key known k ≡ true → has_key (insert known k a) q ≡ has_key known q
 holds_same known k a q held =
     ap is_some (get-insert nat_cmp_total known k a q)
     ∙ elim (eq_by_cmp nat_cmp q k) as (λ t. eq_by_cmp nat_cmp q k ≡ t → is_some (cond t (Some a) (get known q)) ≡ has_key known q) [
@@ -99,7 +94,8 @@ holds_same known k a q held =
       | false ↦ λ other. refl
     ] refl
 
-learnt : {C A : Type 0} (look : C → ℕ → A) (known : FinMap nat_cmp A) (s now : C) (k : ℕ) (a : A) → look s k ≡ a → IsKnown look known s now
+pub learnt : {C A : Type 0} (look : C → ℕ → A) (known : FinMap nat_cmp A) (s now : C) (k : ℕ) (a : A) → look s k ≡ a
+    → IsKnown look known s now
     → IsKnown look (with_key known k a) s now
 learnt look known s now k a shown is =
     elim (has_key known k) as (λ b. has_key known k ≡ b → IsKnown look (cond b known (insert known k a)) s now) [
@@ -113,7 +109,7 @@ learnt look known s now k a shown is =
 
 -- ---- a map
 module _ {V : Type 0} where
-  map_next : (changes more : List (Change V)) (m : FinMap nat_cmp V)
+  pub map_next : (changes more : List (Change V)) (m : FinMap nat_cmp V)
       → applied (map.rules V) (changes ++ more) m ≡ applied (map.rules V) more (applied (map.rules V) changes m)
   map_next changes more m = fold-append map.change_map m changes more
 
@@ -146,8 +142,7 @@ counted c =
 
 more_counted : (o : Option ℕ) → unwrap_or (multisets.more o) 0 ≡ counted_up (unwrap_or o 0)
 more_counted o =
-    elim (nat_lt (unwrap_or o 0) COPY_LIMIT) as
-    (λ b. unwrap_or (cond b (multisets.some_copies (unwrap_or o 0 + 1)) o) 0 ≡ cond b (suc (unwrap_or o 0)) (unwrap_or o 0)) [
+    elim (nat_lt (unwrap_or o 0) COPY_LIMIT) as (λ b. unwrap_or (cond b (multisets.some_copies (unwrap_or o 0 + 1)) o) 0 ≡ cond b (suc (unwrap_or o 0)) (unwrap_or o 0)) [
       | true ↦ counted (unwrap_or o 0 + 1) ∙ omega arith
       | false ↦ refl
     ]
@@ -157,8 +152,7 @@ copies_at : (x q : ℕ) (g : Option ℕ → Option ℕ) (f : Multiset → Multis
     → unwrap_or (g (get m x)) 0 ≡ n → copies (f m) q ≡ cond (eq_by_cmp nat_cmp q x) n (copies m q)
 copies_at x q g f m n at is =
     ap (λ o. unwrap_or o 0) (at m q)
-    ∙ elim (eq_by_cmp nat_cmp q x) as (λ t. unwrap_or (cond t (g (get m x)) (get m q)) 0 ≡ cond t n (copies m q))
-    [ true ↦ is | false ↦ refl ]
+    ∙ elim (eq_by_cmp nat_cmp q x) as (λ t. unwrap_or (cond t (g (get m x)) (get m q)) 0 ≡ cond t n (copies m q)) [ true ↦ is | false ↦ refl ]
 
 abbrev OfBag-known : FinMap nat_cmp ℕ → Multiset → Multiset → Type 0
 OfBag-known cs m now = IsKnown copies cs m now
@@ -173,8 +167,7 @@ module _ {V : Type 0} where
       → applied (bag.rules V) (changes ++ more) m ≡ applied (bag.rules V) more (applied (bag.rules V) changes m)
   bag_next changes more m = fold-append bag.change_multiset m changes more
 
-  count_kept : (op : Op V) (r : Reply V) (b : Multiset) (es : FinMap nat_cmp (Option V)) (cs m now : Multiset)
-      → holds_by (OfBag b) es cs op ≡ true → OfBag-known cs m now
+  count_kept : (op : Op V) (r : Reply V) (b : Multiset) (es : FinMap nat_cmp (Option V)) (cs m now : Multiset) → holds_by (OfBag b) es cs op ≡ true → OfBag-known cs m now
       → OfBag-known (copies_after op r cs) m (applied (bag.rules V) (bag.changes_by op r) now)
   count_kept (Add x) Done b es cs m now held is =
       changed_known copies cs m now (multisets.one_more now x) x (counted_up (copies cs x))
@@ -193,22 +186,17 @@ module _ {V : Type 0} where
   abbrev Given : Option (Outcome V) → Outcome V → Type 0
   Given a out = (o : Outcome V) → a ≡ Some o → out ≡ o
 
-  known_now : (es : FinMap nat_cmp (Option V)) (m now : FinMap nat_cmp V) (k : ℕ) → has_key es k ≡ true → IsKnown get es m now
-      → get now k ≡ known_entry es k
+  known_now : (es : FinMap nat_cmp (Option V)) (m now : FinMap nat_cmp V) (k : ℕ) → has_key es k ≡ true → IsKnown get es m now → get now k ≡ known_entry es k
   known_now es m now k held is = let h = held_some (get es k) held in is.0 k h.0 h.1 ∙ sym (ap (λ o. unwrap_or o None) h.1)
 
-  entry_answered : (op : Op V) (b : FinMap nat_cmp V) (es : FinMap nat_cmp (Option V)) (cs : FinMap nat_cmp ℕ) (m now : FinMap nat_cmp V)
-      (out : Outcome V)
+  entry_answered : (op : Op V) (b : FinMap nat_cmp V) (es : FinMap nat_cmp (Option V)) (cs : FinMap nat_cmp ℕ) (m now : FinMap nat_cmp V) (out : Outcome V)
       → holds_by (OfMap b) es cs op ≡ true → IsKnown get es m now → Given (map_answer op es) out → map.outcome_of op now ≡ Some out
   entry_answered (Get k) b es cs m now out held is given =
-      ap (λ a. Some (entry_outcome (Get k) a)) (known_now es m now k held is)
-      ∙ ap Some (sym (given (entry_outcome (Get k) (known_entry es k)) refl))
+      ap (λ a. Some (entry_outcome (Get k) a)) (known_now es m now k held is) ∙ ap Some (sym (given (entry_outcome (Get k) (known_entry es k)) refl))
   entry_answered (Put k v) b es cs m now out held is given =
-      ap (λ a. Some (entry_outcome (Put k v) a)) (known_now es m now k held is)
-      ∙ ap Some (sym (given (entry_outcome (Put k v) (known_entry es k)) refl))
+      ap (λ a. Some (entry_outcome (Put k v) a)) (known_now es m now k held is) ∙ ap Some (sym (given (entry_outcome (Put k v) (known_entry es k)) refl))
   entry_answered (Remove k) b es cs m now out held is given =
-      ap (λ a. Some (entry_outcome (Remove k) a)) (known_now es m now k held is)
-      ∙ ap Some (sym (given (entry_outcome (Remove k) (known_entry es k)) refl))
+      ap (λ a. Some (entry_outcome (Remove k) a)) (known_now es m now k held is) ∙ ap Some (sym (given (entry_outcome (Remove k) (known_entry es k)) refl))
   entry_answered _ b es cs m now out held is given = absurd (true≢false (sym held))
 
   abbrev counted_outcome : Op V → Reply V → Outcome V
@@ -228,13 +216,10 @@ module _ {V : Type 0} where
   count_answered _ b es cs m now out held is given = absurd (true≢false (sym held))
 
   -- what the memo answers is what the collection answers after the accepted changes
-  pub answered : (op : Op V) (b s : Shown V) (es : FinMap nat_cmp (Option V)) (cs : FinMap nat_cmp ℕ) (changes : List (Change V))
-      (out : Outcome V)
+  pub answered : (op : Op V) (b s : Shown V) (es : FinMap nat_cmp (Option V)) (cs : FinMap nat_cmp ℕ) (changes : List (Change V)) (out : Outcome V)
       → holds_by b es cs op ≡ true → IsOfBy b es cs changes s → answer_by b es cs op ≡ Some out → outcome_of op (after changes s) ≡ Some out
-  answered op (OfMap b) (OfMap m) es cs changes out held is given =
-      entry_answered op b es cs m (applied (map.rules V) changes m) out held is (λ o e. some_same out o (sym given ∙ e))
-  answered op (OfBag b) (OfBag m) es cs changes out held is given =
-      count_answered op b es cs m (applied (bag.rules V) changes m) out held is (λ o e. some_same out o (sym given ∙ e))
+  answered op (OfMap b) (OfMap m) es cs changes out held is given = entry_answered op b es cs m (applied (map.rules V) changes m) out held is (λ o e. some_same out o (sym given ∙ e))
+  answered op (OfBag b) (OfBag m) es cs changes out held is given = count_answered op b es cs m (applied (bag.rules V) changes m) out held is (λ o e. some_same out o (sym given ∙ e))
   answered op (OfMap b) (OfBag m) es cs changes out held is given = absurd is
   answered op (OfMap b) (OfPq m) es cs changes out held is given = absurd is
   answered op (OfMap b) (OfQueue m) es cs changes out held is given = absurd is
@@ -245,8 +230,7 @@ module _ {V : Type 0} where
   answered op (OfQueue b) s es cs changes out held is given = absurd is
 
   -- ---- acceptance
-  pub count_accepted : (op : Op V) (r : Reply V) (b : Multiset) (es : FinMap nat_cmp (Option V)) (cs : FinMap nat_cmp ℕ)
-      (changes : List (Change V)) (m : Multiset)
+  pub count_accepted : (op : Op V) (r : Reply V) (b : Multiset) (es : FinMap nat_cmp (Option V)) (cs : FinMap nat_cmp ℕ) (changes : List (Change V)) (m : Multiset)
       → holds_by (OfBag b) es cs op ≡ true → IsKnown copies cs m (applied (bag.rules V) changes m)
       → IsKnown copies (copies_after op r cs) m (applied (bag.rules V) (changes ++ bag.changes_by op r) m)
   count_accepted op r b es cs changes m held is =
@@ -268,7 +252,7 @@ module _ {V : Type 0} where
   accepted o (OfQueue b) s es cs changes held is = absurd is
 
   -- and the same keys are held as before
-  entries_same : (op : Op V) (r : Reply V) (b : FinMap nat_cmp V) (es : FinMap nat_cmp (Option V)) (cs : FinMap nat_cmp ℕ) (q : ℕ)
+  pub entries_same : (op : Op V) (r : Reply V) (b : FinMap nat_cmp V) (es : FinMap nat_cmp (Option V)) (cs : FinMap nat_cmp ℕ) (q : ℕ)
       → holds_by (OfMap b) es cs op ≡ true → has_key (entries_after op r es) q ≡ has_key es q
   entries_same (Put k v) r b es cs q held = holds_same es k (Some v) q held
   entries_same (Remove k) (Value old) b es cs q held = holds_same es k None q held
@@ -283,77 +267,73 @@ module _ {V : Type 0} where
   copies_same (Take x) _ b es cs q held = refl
   copies_same _ r b es cs q held = refl
 
-  map_holds_same : (op : Op V) (b : FinMap nat_cmp V) (es fs : FinMap nat_cmp (Option V)) (cs : FinMap nat_cmp ℕ)
-      → ((q : ℕ) → has_key fs q ≡ has_key es q)
+  map_holds_same : (op : Op V) (b : FinMap nat_cmp V) (es fs : FinMap nat_cmp (Option V)) (cs : FinMap nat_cmp ℕ) → ((q : ℕ) → has_key fs q ≡ has_key es q)
       → holds_by (OfMap b) fs cs op ≡ holds_by (OfMap b) es cs op
   map_holds_same (Get k) b es fs cs same = same k
   map_holds_same (Put k v) b es fs cs same = same k
   map_holds_same (Remove k) b es fs cs same = same k
   map_holds_same _ b es fs cs same = refl
 
-  bag_holds_same : (op : Op V) (b : Multiset) (es : FinMap nat_cmp (Option V)) (cs ds : FinMap nat_cmp ℕ)
-      → ((q : ℕ) → has_key ds q ≡ has_key cs q)
+  bag_holds_same : (op : Op V) (b : Multiset) (es : FinMap nat_cmp (Option V)) (cs ds : FinMap nat_cmp ℕ) → ((q : ℕ) → has_key ds q ≡ has_key cs q)
       → holds_by (OfBag b) es ds op ≡ holds_by (OfBag b) es cs op
   bag_holds_same (Count x) b es cs ds same = same x
   bag_holds_same (Add x) b es cs ds same = same x
   bag_holds_same (Take x) b es cs ds same = same x
   bag_holds_same _ b es cs ds same = refl
 
-  pub accepted_holds : (o : Outcome V) (b : Shown V) (es : FinMap nat_cmp (Option V)) (cs : FinMap nat_cmp ℕ) (op : Op V)
-      → holds_by b es cs o.op ≡ true
+  pub accepted_holds : (o : Outcome V) (b : Shown V) (es : FinMap nat_cmp (Option V)) (cs : FinMap nat_cmp ℕ) (op : Op V) → holds_by b es cs o.op ≡ true
       → holds_by b (entries_kept b o es) (copies_kept b o cs) op ≡ holds_by b es cs op
-  accepted_holds o (OfMap b) es cs op held =
-      map_holds_same op b es (entries_after o.op o.reply es) cs (λ q. entries_same o.op o.reply b es cs q held)
-  accepted_holds o (OfBag b) es cs op held =
-      bag_holds_same op b es cs (copies_after o.op o.reply cs) (λ q. copies_same o.op o.reply b es cs q held)
+  accepted_holds o (OfMap b) es cs op held = map_holds_same op b es (entries_after o.op o.reply es) cs (λ q. entries_same o.op o.reply b es cs q held)
+  accepted_holds o (OfBag b) es cs op held = bag_holds_same op b es cs (copies_after o.op o.reply cs) (λ q. copies_same o.op o.reply b es cs q held)
   accepted_holds o (OfPq b) es cs op held = refl
   accepted_holds o (OfQueue b) es cs op held = refl
 
   -- ---- one key more
-  pub added : (t : Touched V) (b s : Shown V) (es : FinMap nat_cmp (Option V)) (cs : FinMap nat_cmp ℕ) (changes : List (Change V))
-      → IsOfBy b es cs changes s → IsShown t s
-      → IsOfBy b (with_entry t es) (with_count t cs) changes s
-  added (Entry k o) (OfMap b) (OfMap m) es cs changes is shown = learnt get es m (applied (map.rules V) changes m) k o shown is
-  added (Copies x n) (OfBag b) (OfBag m) es cs changes is shown = learnt copies cs m (applied (bag.rules V) changes m) x n shown is
-  added (Entry k o) (OfMap b) (OfBag m) es cs changes is shown = absurd is
-  added (Entry k o) (OfMap b) (OfPq m) es cs changes is shown = absurd is
-  added (Entry k o) (OfMap b) (OfQueue m) es cs changes is shown = absurd is
-  added (Entry k o) (OfBag b) s es cs changes is shown = is
-  added (Entry k o) (OfPq b) s es cs changes is shown = absurd is
-  added (Entry k o) (OfQueue b) s es cs changes is shown = absurd is
-  added (Copies x n) (OfBag b) (OfMap m) es cs changes is shown = absurd is
-  added (Copies x n) (OfBag b) (OfPq m) es cs changes is shown = absurd is
-  added (Copies x n) (OfBag b) (OfQueue m) es cs changes is shown = absurd is
-  added (Copies x n) (OfMap b) s es cs changes is shown = is
-  added (Copies x n) (OfPq b) s es cs changes is shown = absurd is
-  added (Copies x n) (OfQueue b) s es cs changes is shown = absurd is
+  pub added : (n : ℕ) (t : Touched V) (b s : Shown V) (es : FinMap nat_cmp (Option V)) (cs : FinMap nat_cmp ℕ) (changes : List (Change V))
+      → IsOfBy b es cs changes s → IsShown n t s → IsOfBy b (with_entry t es) (with_count t cs) changes s
+  added n (Entry k o) (OfMap b) (OfMap m) es cs changes is shown = learnt get es m (applied (map.rules V) changes m) k o shown is
+  added n (Copies x c) (OfBag b) (OfBag m) es cs changes is shown = learnt copies cs m (applied (bag.rules V) changes m) x c shown is
+  added n (Entry k o) (OfMap b) (OfBag m) es cs changes is shown = absurd is
+  added n (Entry k o) (OfMap b) (OfPq m) es cs changes is shown = absurd is
+  added n (Entry k o) (OfMap b) (OfQueue m) es cs changes is shown = absurd is
+  added n (Entry k o) (OfBag b) s es cs changes is shown = is
+  added n (Entry k o) (OfPq b) s es cs changes is shown = absurd is
+  added n (Entry k o) (OfQueue b) s es cs changes is shown = absurd is
+  added n (Copies x c) (OfBag b) (OfMap m) es cs changes is shown = absurd is
+  added n (Copies x c) (OfBag b) (OfPq m) es cs changes is shown = absurd is
+  added n (Copies x c) (OfBag b) (OfQueue m) es cs changes is shown = absurd is
+  added n (Copies x c) (OfMap b) s es cs changes is shown = is
+  added n (Copies x c) (OfPq b) s es cs changes is shown = absurd is
+  added n (Copies x c) (OfQueue b) s es cs changes is shown = absurd is
+  added n (Counts ns) b s es cs changes is shown = is
 
   -- ---- what a base gives to be held
-  shown_map : (op : Op V) (m : FinMap nat_cmp V) (t : Touched V) → touched_by op (OfMap m) ≡ Some t → IsShown t (OfMap m)
-  shown_map (Get k) m t e = subst (λ x. IsShown x (OfMap m)) (some_same _ _ e) refl
-  shown_map (Put k v) m t e = subst (λ x. IsShown x (OfMap m)) (some_same _ _ e) refl
-  shown_map (Remove k) m t e = subst (λ x. IsShown x (OfMap m)) (some_same _ _ e) refl
-  shown_map _ m t e = absurd (none_some t e)
+  shown_map : (n : ℕ) (op : Op V) (m : FinMap nat_cmp V) (t : Touched V) → touched_by n op (OfMap m) ≡ Some t → IsShown n t (OfMap m)
+  shown_map n (Get k) m t e = subst (λ x. IsShown n x (OfMap m)) (some_same _ _ e) refl
+  shown_map n (Put k v) m t e = subst (λ x. IsShown n x (OfMap m)) (some_same _ _ e) refl
+  shown_map n (Remove k) m t e = subst (λ x. IsShown n x (OfMap m)) (some_same _ _ e) refl
+  shown_map n Len m t e = subst (λ x. IsShown n x (OfMap m)) (some_same _ _ e) refl
+  shown_map n _ m t e = absurd (none_some t e)
 
-  shown_bag : (op : Op V) (m : Multiset) (t : Touched V) → touched_by op (OfBag m) ≡ Some t → IsShown t (OfBag m)
-  shown_bag (Count x) m t e = subst (λ y. IsShown y (OfBag m)) (some_same _ _ e) refl
-  shown_bag (Add x) m t e = subst (λ y. IsShown y (OfBag m)) (some_same _ _ e) refl
-  shown_bag (Take x) m t e = subst (λ y. IsShown y (OfBag m)) (some_same _ _ e) refl
-  shown_bag _ m t e = absurd (none_some t e)
+  shown_bag : (n : ℕ) (op : Op V) (m : Multiset) (t : Touched V) → touched_by n op (OfBag m) ≡ Some t → IsShown n t (OfBag m)
+  shown_bag n (Count x) m t e = subst (λ y. IsShown n y (OfBag m)) (some_same _ _ e) refl
+  shown_bag n (Add x) m t e = subst (λ y. IsShown n y (OfBag m)) (some_same _ _ e) refl
+  shown_bag n (Take x) m t e = subst (λ y. IsShown n y (OfBag m)) (some_same _ _ e) refl
+  shown_bag n _ m t e = absurd (none_some t e)
 
-  no_pq : (op : Op V) (m : pq.Shown) → touched_by op (OfPq m) ≡ None
-  no_pq (Get k) m = refl
-  no_pq _ m = refl
+  no_pq : (n : ℕ) (op : Op V) (m : pq.Shown) → touched_by n op (OfPq m) ≡ None
+  no_pq n (Get k) m = refl
+  no_pq n _ m = refl
 
-  no_queue : (op : Op V) (m : queue.Shown) → touched_by op (OfQueue m) ≡ None
-  no_queue (Get k) m = refl
-  no_queue _ m = refl
+  no_queue : (n : ℕ) (op : Op V) (m : queue.Shown) → touched_by n op (OfQueue m) ≡ None
+  no_queue n (Get k) m = refl
+  no_queue n _ m = refl
 
-  pub is_shown : (op : Op V) (s : Shown V) (t : Touched V) → touched_by op s ≡ Some t → IsShown t s
-  is_shown op (OfMap m) t e = shown_map op m t e
-  is_shown op (OfBag m) t e = shown_bag op m t e
-  is_shown op (OfPq m) t e = absurd (none_some t (sym (no_pq op m) ∙ e))
-  is_shown op (OfQueue m) t e = absurd (none_some t (sym (no_queue op m) ∙ e))
+  pub is_shown : (n : ℕ) (op : Op V) (s : Shown V) (t : Touched V) → touched_by n op s ≡ Some t → IsShown n t s
+  is_shown n op (OfMap m) t e = shown_map n op m t e
+  is_shown n op (OfBag m) t e = shown_bag n op m t e
+  is_shown n op (OfPq m) t e = absurd (none_some t (sym (no_pq n op m) ∙ e))
+  is_shown n op (OfQueue m) t e = absurd (none_some t (sym (no_queue n op m) ∙ e))
 
   pub new_map : (s : FinMap nat_cmp V) → IsOfBy (OfMap empty) empty empty [] (OfMap s)
   new_map s = nothing_known get s

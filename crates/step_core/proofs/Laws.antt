@@ -23,7 +23,8 @@ use Rattle.step_core.specs.Opaque.{words_at, world_of, IsAnswerOf, IsAtRest, Opa
 use Rattle.step_core.specs.Sound.{Fits, Sound}
 use Rattle.step_core.specs.declared.actor.Actor.{Actor}
 use Rattle.step_core.specs.declared.machine.Machine.{Machine}
-use Rattle.step_core.proofs.Moves.{All-at, actor_at_go}
+use Rattle.step_core.proofs.Lists.{All-at}
+use Rattle.step_core.proofs.Moves.{actor_at_go}
 use Rattle.step_core.specs.declared.answer.WordAnswer.{WordAnswer}
 use Rattle.step_core.specs.declared.answer.WordRefusal.{WordRefusal}
 
@@ -195,7 +196,7 @@ soon w a v r = go (slice_get w.actors.items a) refl
     go : (o : Option Actor) → slice_get w.actors.items a ≡ o → steps_due (shown w) a < 1000000
     go None e = (let q = ap (λ (z : machine.Actor). steps_left z z.place) (none w.actors.items a e) in omega (arith, q))
     go (Some x) e =
-        (let f = All-at (Fits (length w.locks.items)) w.actors.items a x v.actors e in
+        (let f = All-at (Fits (length w.cells.locks.items)) w.actors.items a x v.actors e in
         let is : s.actors a ≡ actor_of x = same ∙ actor_at_go w.actors.items a x e in
         let rs = ap (λ (z : machine.Actor). length z.reads) is in
         let ws = ap (λ (z : machine.Actor). length z.writes) is in

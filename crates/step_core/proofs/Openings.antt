@@ -52,25 +52,25 @@ all_fit n [] b k d h = absurd (omega (arith, h))
 all_fit n (x ∷ xs) b zero d h = b.0.fits n
 all_fit n (x ∷ xs) b (suc k) d h = all_fit n xs b.1 k d (omega (arith, h))
 
-pub shows_opening : (w : Machine) → AreZero w.locks.items → AreBlank w.actors.items → w.history.items ≡ []
-    → Shows (shown w) (start w.clock (λ l. get_or w.values.items l 0))
+pub shows_opening : (w : Machine) → AreZero w.cells.locks.items → AreBlank w.actors.items → w.history.items ≡ []
+    → Shows (shown w) (start w.cells.clock (λ l. get_or w.cells.values.items l 0))
 shows_opening w z b h = record {
   clock = refl;
-  locks = λ l. sym (ap unbits (zero_at w.locks.items l z) ∙ unbits_free 0);
+  locks = λ l. sym (ap unbits (zero_at w.cells.locks.items l z) ∙ unbits_free 0);
   values = λ l. refl;
   actors = λ a. sym (blank_at w.actors.items a b);
   history = sym (ap (λ (z : List WordRecord). in_order [] (map record_of z)) h);
 }
 
-pub reached_opening : (w : Machine) → AreZero w.locks.items → AreBlank w.actors.items → w.history.items ≡ [] → Reached (shown w)
-reached_opening w z b h = record { clock = w.clock; opening = λ l. get_or w.values.items l 0; events = []; shows = shows_opening w z b h }
+pub reached_opening : (w : Machine) → AreZero w.cells.locks.items → AreBlank w.actors.items → w.history.items ≡ [] → Reached (shown w)
+reached_opening w z b h = record { clock = w.cells.clock; opening = λ l. get_or w.cells.values.items l 0; events = []; shows = shows_opening w z b h }
 
-pub sound_opening : (w : Machine) → length w.values.items ≡ length w.locks.items → length w.actors.items ≡ 65 → AreBlank w.actors.items
-    → w.clock ≤ 2 ^ 62 → vec_len w.history ≡ 0 → Sound w
+pub sound_opening : (w : Machine) → length w.cells.values.items ≡ length w.cells.locks.items → length w.actors.items ≡ 65 → AreBlank w.actors.items
+    → w.cells.clock ≤ 2 ^ 62 → vec_len w.history ≡ 0 → Sound w
 sound_opening w same seats b low h = record {
   same = same;
   seats = seats;
-  actors = all_fit (length w.locks.items) w.actors.items b;
+  actors = all_fit (length w.cells.locks.items) w.actors.items b;
   clock = (let q = none owed refl w.actors.items b in omega (arith, q, low));
   room = (let q = none due refl w.actors.items b in omega (arith, q, h));
 }

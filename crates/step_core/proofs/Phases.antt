@@ -14,7 +14,8 @@ use Rattle.step_core.specs.declared.actor.Actor.{Actor}
 use Rattle.step_core.specs.declared.actor.Place.{Place}
 use Rattle.step_core.specs.declared.actor.Place.TheVariants.{Idle, Begin, Open, Look, Fetch, Again, Lock, Take, Check, Broken, First, Store, Release, Undo, Leave, Close}
 use Rattle.step_core.specs.declared.machine.Machine.{Machine}
-use Rattle.step_core.proofs.Moves.{drop_here, drop_end, actor_at_go}
+use Rattle.step_core.proofs.Lists.{drop_here, drop_end}
+use Rattle.step_core.proofs.Moves.{actor_at_go}
 
 -- the phase at a place
 phase_at : (x : Actor) (p : Place) → x.place ≡ p → phase_of (actor_of x) (actor_of x).place
@@ -118,10 +119,10 @@ within_of n x AskClose h = tt
 
 -- and its location is there, in a set or with a place left
 pub limit_here : (w : Machine) (a : ℕ) (x : Actor) (n : ℕ) (q : Request) → slice_get w.actors.items a ≡ Some x → n
-    ≡ length w.values.items → refusal_of (shown w) a q ≡ None → location_refusal n (actor_of x) q ≡ None
+    ≡ length w.cells.values.items → refusal_of (shown w) a q ≡ None → location_refusal n (actor_of x) q ≡ None
 limit_here w a x n q got same h =
     subst (λ (m : ℕ). location_refusal m (actor_of x) q ≡ None) (sym same)
-    (subst (λ (z : machine.Actor). location_refusal (length w.values.items) z q ≡ None) (actor_at_go w.actors.items a x got)
+    (subst (λ (z : machine.Actor). location_refusal (length w.cells.values.items) z q ≡ None) (actor_at_go w.actors.items a x got)
     (lawful (shown w) a q h).1)
 
 pub read_limit : (n : ℕ) (x : machine.Actor) (l : ℕ) → location_refusal n x (AskRead l) ≡ None

@@ -86,9 +86,9 @@ pub record Shown : Type 0 where
 abbrev pub shown : Machine → Shown
 shown w =
     record {
-      clock = w.clock;
-      locks = w.locks.items;
-      values = w.values.items;
+      clock = w.cells.clock;
+      locks = w.cells.locks.items;
+      values = w.cells.values.items;
       actors = map actor_of w.actors.items;
       history = map record_of w.history.items;
     }

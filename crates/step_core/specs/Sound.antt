@@ -61,10 +61,10 @@ total f (x ∷ xs) = f x.place + total f xs
 
 -- Each location has a lock word and a value, each actor a seat; the clock is far from its end, and there is room for the records to come.
 pub record Sound (w : Machine) : Type 0 where
-  pub same : length w.values.items ≡ length w.locks.items
+  pub same : length w.cells.values.items ≡ length w.cells.locks.items
   pub seats : length w.actors.items ≡ 65
-  pub actors : All (Fits (length w.locks.items)) w.actors.items
-  pub clock : w.clock + total owed w.actors.items ≤ 2 ^ 62 + 65
+  pub actors : All (Fits (length w.cells.locks.items)) w.actors.items
+  pub clock : w.cells.clock + total owed w.actors.items ≤ 2 ^ 62 + 65
   pub room : vec_len w.history + total due w.actors.items ≤ vec_capacity w.history
 
 -- a step keeps an actor's bounds, takes no number that was not owed and makes no record due

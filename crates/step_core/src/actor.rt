@@ -15,14 +15,15 @@ ghost use Rattle.word_machine.specs.Notices.{begin_notice, look_notice, again_no
 ghost use Rattle.step_core.specs.Answers.{result_of};
 ghost use Rattle.step_core.specs.Blank.{IsBlank};
 ghost use Rattle.step_core.specs.Shown.{actor_of};
-ghost use Rattle.step_core.specs.Sound.{HasRoom, Fits, Keeps, owed, due};
-ghost use Rattle.step_core.specs.declared.actor.Place.TheVariants.{Look, Fetch, Again, Lock, Take, Check, Store, Release, Undo};
+ghost use Rattle.step_core.specs.Sound.{HasRoom, Fits, FitsPlace, Keeps, owed, due};
+ghost use Rattle.step_core.specs.declared.actor.Place.TheVariants.{Look, Fetch, Again, Lock, Take, Check, First, Store, Release, Undo};
 ghost use Rattle.step_core.specs.declared.answer.WordRefusal.TheVariants.{Invalid};
 
 use crate::answer::{WordAnswer, WordRefusal};
-use crate::record::WordCall;
+use crate::record::{WordCall, WordCalls};
 use std::alloc::Global;
 use std::collections::VecDeque;
+use std::mem;
 use tx_sets::{ReadSet, WriteSet};
 use vlock_word::LockWord;
 
@@ -346,6 +347,23 @@ impl Actor {
         }
     }
 
+    /// The place after the first value store, which commits, and its answer.
+    pub fn first(&mut self) -> Option<WordAnswer>
+        requires place { self.old.place ≡ First }
+        requires some { 0 < length self.old.writes.entries }
+        ensures actor { actor_of self.new ≡ goes (actor_of self.old) (machine.Store (drop 1 (locations self.old.writes.entries))) }
+        ensures answer { Ok result ≡ result_of (when_none_left (drop 1 (locations self.old.writes.entries)) notice.Stored) }
+        ensures keeps { Keeps self.old self.new }
+        ensures rest { (self.new.place ≡ Store 1) × (self.new.ready ≡ self.old.ready) }
+    {
+        self.place = Place::Store(1);
+        if self.writes.len() == 1 {
+            Some(WordAnswer::Stored)
+        } else {
+            None
+        }
+    }
+
     /// The place after a value store, and its answer.
     pub fn store(&mut self, i: usize) -> Option<WordAnswer>
         requires place { self.old.place ≡ Store i }
@@ -393,5 +411,15 @@ impl Actor {
         } else {
             None
         }
+    }
+    /// Its calls, for the record of a commit that was asked for.
+    pub fn take_ready(&mut self) -> WordCalls
+        ensures calls { result ≡ self.old.ready.items }
+        ensures actor { actor_of self.new ≡ actor_of self.old }
+        ensures place { self.new.place ≡ self.old.place }
+        ensures fits { (n : ℕ) → FitsPlace n self.new self.new.place → Fits n self.old → Fits n self.new }
+    {
+        let alloc = *self.calls.allocator();
+        WordCalls::from_vec(mem::replace(&mut self.ready, Vec::new(alloc)))
     }
 }

@@ -26,6 +26,7 @@
 
 mod actor;
 mod answer;
+mod cells;
 mod machine;
 mod phase;
 mod record;
@@ -33,5 +34,6 @@ mod words;
 
 pub use actor::{Actor, Place};
 pub use answer::{WordAnswer, WordRefusal, WordRequest};
+pub use cells::Cells;
 pub use record::{WordCall, WordCalls, WordRecord};
 pub use words::Words;

@@ -1,4 +1,4 @@
-//! The words, the actors and the history, and the atomic steps on them.
+//! The cells, the actors and the history.
 //!
 //! These are plain fields, which a method may leave half changed; [`crate::words`] is what callers see.
 ghost use Rattle.std.specs.Prelude.{◌≡◌, ◌+◌, ◌^◌, ◌<◌, ◌≤◌, true, false, length, slice_get, Some, None, IsOk, OnOk, OnErr, IfOk, IfErr};
@@ -11,13 +11,13 @@ ghost use Rattle.step_core.specs.Blank.{AreBlank, AreZero};
 ghost use Rattle.step_core.specs.Sound.{Sound, At};
 ghost use Rattle.step_core.specs.declared.actor.Actor.{Actor};
 ghost use Rattle.step_core.specs.declared.answer.WordRefusal.TheVariants.{OutOfMemory};
-ghost use Rattle.step_core.specs.declared.actor.Place.TheVariants.{Begin, Look, Fetch, Again, Lock, Take, Check, First, Store, Release, Undo, Leave, Close};
+ghost use Rattle.step_core.specs.declared.actor.Place.TheVariants.{First, Close};
 
 use crate::actor::{Actor, Place};
 use crate::answer::{WordAnswer, WordRefusal, WordRequest};
-use crate::record::{WordCalls, WordRecord};
+use crate::cells::Cells;
+use crate::record::WordRecord;
 use std::alloc::{AllocError, Global};
-use std::mem;
 
 /// The seats of the actors 1 to 64, and one that no actor takes, so that an actor's number is its index.
 const SEATS: usize = 65;
@@ -25,14 +25,10 @@ const SEATS: usize = 65;
 /// The last actor.
 const LAST_ACTOR: usize = 64;
 
-/// The words, the actors and the history.
+/// The cells, the actors and the history.
 #[derive(Drop)]
 pub struct Machine {
-    pub clock: u64,
-    /// The lock words, one for each location.
-    pub locks: Vec<u64>,
-    /// The value words.
-    pub values: Vec<u64>,
+    pub cells: Cells,
     pub actors: Vec<Actor>,
     /// The committed transactions, as committed.
     pub history: Vec<WordRecord>,
@@ -73,207 +69,6 @@ fn make_room(history: &mut Vec<WordRecord>, request: WordRequest) -> Result<(), 
 }
 
 impl Machine {
-    /// The load of the clock that begins a transaction.
-    fn begin(&mut self, a: usize) -> Result<Option<WordAnswer>, WordRefusal>
-        requires sound { Sound self.old }
-        requires actor { a < length self.old.actors.items }
-        requires place { At self.old a Begin }
-        ensures steps { Steps (shown self.old) a (shown self.new) result }
-        ensures sound { Sound self.new }
-    {
-        let clock = self.clock;
-        let actor = &mut self.actors[a];
-        actor.begin(clock)
-    }
-
-    /// The first load of a lock word.
-    fn look(&mut self, a: usize, location: u32) -> Result<Option<WordAnswer>, WordRefusal>
-        requires sound { Sound self.old }
-        requires actor { a < length self.old.actors.items }
-        requires place { At self.old a (Look location) }
-        ensures steps { Steps (shown self.old) a (shown self.new) result }
-        ensures sound { Sound self.new }
-    {
-        let word = self.locks[location as usize];
-        let actor = &mut self.actors[a];
-        actor.look(location, word)
-    }
-
-    /// The load of a value.
-    fn fetch(
-        &mut self,
-        a: usize,
-        location: u32,
-        version: u64,
-    ) -> Result<Option<WordAnswer>, WordRefusal>
-        requires sound { Sound self.old }
-        requires actor { a < length self.old.actors.items }
-        requires place { At self.old a (Fetch location version) }
-        ensures steps { Steps (shown self.old) a (shown self.new) result }
-        ensures sound { Sound self.new }
-    {
-        let value = self.values[location as usize];
-        let actor = &mut self.actors[a];
-        actor.fetch(location, version, value)
-    }
-
-    /// The second load of a lock word.
-    fn again(
-        &mut self,
-        a: usize,
-        location: u32,
-        version: u64,
-        value: u64,
-    ) -> Result<Option<WordAnswer>, WordRefusal>
-        requires sound { Sound self.old }
-        requires actor { a < length self.old.actors.items }
-        requires place { At self.old a (Again location version value) }
-        ensures steps { Steps (shown self.old) a (shown self.new) result }
-        ensures sound { Sound self.new }
-    {
-        let word = self.locks[location as usize];
-        let actor = &mut self.actors[a];
-        actor.again(location, version, value, word)
-    }
-
-    /// The load of a lock word of the write set.
-    fn to_lock(&mut self, a: usize, i: usize) -> Result<Option<WordAnswer>, WordRefusal>
-        requires sound { Sound self.old }
-        requires actor { a < length self.old.actors.items }
-        requires place { At self.old a (Lock i) }
-        requires inside { (x : Actor) → slice_get self.old.actors.items a ≡ Some x → i < length x.writes.entries }
-        requires next { i + 1 < 2 ^ 64 }
-        ensures steps { Steps (shown self.old) a (shown self.new) result }
-        ensures sound { Sound self.new }
-    {
-        let location = self.actors[a].write_at(i).0;
-        let word = self.locks[location as usize];
-        let actor = &mut self.actors[a];
-        actor.to_lock(location, i, word)
-    }
-
-    /// The step of the clock.
-    fn stamp(&mut self, a: usize, i: usize) -> Result<Option<WordAnswer>, WordRefusal>
-        requires sound { Sound self.old }
-        requires actor { a < length self.old.actors.items }
-        requires place { At self.old a (Lock i) }
-        requires outside { (x : Actor) → slice_get self.old.actors.items a ≡ Some x → length x.writes.entries ≤ i }
-        ensures steps { Steps (shown self.old) a (shown self.new) result }
-        ensures sound { Sound self.new }
-    {
-        let clock = self.clock + 1;
-        self.clock = clock;
-        let actor = &mut self.actors[a];
-        actor.stamp(clock)
-    }
-
-    /// The compare_exchange of a lock word.
-    fn take(
-        &mut self,
-        a: usize,
-        location: u32,
-        version: u64,
-        i: usize,
-    ) -> Result<Option<WordAnswer>, WordRefusal>
-        requires sound { Sound self.old }
-        requires actor { a < length self.old.actors.items }
-        requires place { At self.old a (Take location version i) }
-        ensures steps { Steps (shown self.old) a (shown self.new) result }
-        ensures sound { Sound self.new }
-    {
-        let word = self.locks[location as usize];
-        let actor = &mut self.actors[a];
-        if word == 2 * version {
-            actor.take(location, version, i);
-            self.locks[location as usize] = word + 1;
-            Ok(None)
-        } else {
-            actor.place = Place::Broken;
-            Err(WordRefusal::Busy { location, word })
-        }
-    }
-
-    /// The load of a lock word of the read set.
-    fn check(&mut self, a: usize, i: usize) -> Result<Option<WordAnswer>, WordRefusal>
-        requires sound { Sound self.old }
-        requires actor { a < length self.old.actors.items }
-        requires place { At self.old a (Check i) }
-        requires inside { (x : Actor) → slice_get self.old.actors.items a ≡ Some x → i < length x.reads.entries }
-        requires next { i + 1 < 2 ^ 64 }
-        ensures steps { Steps (shown self.old) a (shown self.new) result }
-        ensures sound { Sound self.new }
-    {
-        let location = self.actors[a].read_at(i).0;
-        let word = self.locks[location as usize];
-        let actor = &mut self.actors[a];
-        actor.check(location, i, word)
-    }
-
-    /// The load of the clock that ends an aborted transaction.
-    fn leave(&mut self, a: usize) -> Result<Option<WordAnswer>, WordRefusal>
-        requires sound { Sound self.old }
-        requires actor { a < length self.old.actors.items }
-        requires place { At self.old a Leave }
-        ensures steps { Steps (shown self.old) a (shown self.new) result }
-        ensures sound { Sound self.new }
-    {
-        let actor = &mut self.actors[a];
-        actor.place = Place::Idle;
-        Ok(Some(WordAnswer::Ended))
-    }
-
-    /// The next value store.
-    fn store(&mut self, a: usize, i: usize) -> Result<Option<WordAnswer>, WordRefusal>
-        requires sound { Sound self.old }
-        requires actor { a < length self.old.actors.items }
-        requires place { At self.old a (Store i) }
-        requires inside { (x : Actor) → slice_get self.old.actors.items a ≡ Some x → i < length x.writes.entries }
-        requires next { i + 1 < 2 ^ 64 }
-        ensures steps { Steps (shown self.old) a (shown self.new) result }
-        ensures sound { Sound self.new }
-    {
-        let location = self.actors[a].write_at(i).0;
-        let found = self.actors[a].writes.find(location);
-        let value = found.unwrap_or(0);
-        let actor = &mut self.actors[a];
-        let answer = actor.store(i);
-        self.values[location as usize] = value;
-        Ok(answer)
-    }
-
-    /// The store of the next lock word with the new version.
-    fn release(&mut self, a: usize) -> Result<Option<WordAnswer>, WordRefusal>
-        requires sound { Sound self.old }
-        requires actor { a < length self.old.actors.items }
-        requires place { At self.old a Release }
-        requires held { (x : Actor) → slice_get self.old.actors.items a ≡ Some x → 0 < deque_len x.held }
-        ensures steps { Steps (shown self.old) a (shown self.new) result }
-        ensures sound { Sound self.new }
-    {
-        let actor = &mut self.actors[a];
-        let location = actor.held[0].0;
-        let word = 2 * actor.wv;
-        let answer = actor.release();
-        self.locks[location as usize] = word;
-        Ok(answer)
-    }
-
-    /// The store of the next old lock word.
-    fn undo(&mut self, a: usize) -> Result<Option<WordAnswer>, WordRefusal>
-        requires sound { Sound self.old }
-        requires actor { a < length self.old.actors.items }
-        requires place { At self.old a Undo }
-        requires held { (x : Actor) → slice_get self.old.actors.items a ≡ Some x → 0 < deque_len x.held }
-        ensures steps { Steps (shown self.old) a (shown self.new) result }
-        ensures sound { Sound self.new }
-    {
-        let actor = &mut self.actors[a];
-        let entry = actor.held[0];
-        let answer = actor.undo();
-        self.locks[entry.0 as usize] = 2 * entry.1;
-        Ok(answer)
-    }
-
     /// The first value store, which commits.
     fn first(&mut self, a: usize) -> Result<Option<WordAnswer>, WordRefusal>
         requires sound { Sound self.old }
@@ -284,25 +79,16 @@ impl Machine {
         ensures sound { Sound self.new }
     {
         let actor = &mut self.actors[a];
-        let entry = actor.write_at(0);
         let number = actor.wv;
-        let alloc = *actor.calls.allocator();
-        let ready = mem::replace(&mut actor.ready, Vec::new(alloc));
-        let calls = WordCalls::from_vec(ready);
-        actor.place = Place::Store(1);
-        let done = actor.writes.len() == 1;
-        self.values[entry.0 as usize] = entry.1;
+        let answer = self.cells.first(actor);
+        let calls = actor.take_ready();
         self.history.push_reserved(WordRecord {
             actor: a as u32,
             number,
             writes: true,
             calls,
         });
-        if done {
-            Ok(Some(WordAnswer::Stored))
-        } else {
-            Ok(None)
-        }
+        answer
     }
 
     /// The load of the clock that commits a reader.
@@ -315,17 +101,15 @@ impl Machine {
     {
         let actor = &mut self.actors[a];
         let number = actor.rv;
-        let alloc = *actor.calls.allocator();
-        let ready = mem::replace(&mut actor.ready, Vec::new(alloc));
-        let calls = WordCalls::from_vec(ready);
-        actor.place = Place::Idle;
+        let answer = self.cells.close(actor);
+        let calls = actor.take_ready();
         self.history.push_reserved(WordRecord {
             actor: a as u32,
             number,
             writes: false,
             calls,
         });
-        Ok(Some(WordAnswer::Ended))
+        answer
     }
 
     /// The next atomic step of an actor.
@@ -337,47 +121,6 @@ impl Machine {
     {
         let place = self.actors[a].place;
         match place {
-            Place::Begin => self.begin(a),
-            Place::Look(location) => self.look(a, location),
-            Place::Fetch(location, version) => self.fetch(a, location, version),
-            Place::Again(location, version, value) => self.again(a, location, version, value),
-            Place::Lock(i) => {
-                if i < self.actors[a].writes.len() {
-                    self.to_lock(a, i)
-                } else {
-                    self.stamp(a, i)
-                }
-            }
-            Place::Take(location, version, i) => self.take(a, location, version, i),
-            Place::Check(i) => {
-                if i < self.actors[a].reads.len() {
-                    self.check(a, i)
-                } else {
-                    Err(WordRefusal::NoTransaction)
-                }
-            }
-            Place::Store(i) => {
-                if i < self.actors[a].writes.len() {
-                    self.store(a, i)
-                } else {
-                    Err(WordRefusal::NoTransaction)
-                }
-            }
-            Place::Leave => self.leave(a),
-            Place::Undo => {
-                if self.actors[a].held.is_empty() {
-                    Err(WordRefusal::NoTransaction)
-                } else {
-                    self.undo(a)
-                }
-            }
-            Place::Release => {
-                if self.actors[a].held.is_empty() {
-                    Err(WordRefusal::NoTransaction)
-                } else {
-                    self.release(a)
-                }
-            }
             Place::First => {
                 if self.actors[a].writes.len() == 0 {
                     Err(WordRefusal::NoTransaction)
@@ -386,9 +129,10 @@ impl Machine {
                 }
             }
             Place::Close => self.close(a),
-            Place::Idle => Err(WordRefusal::NoTransaction),
-            Place::Open => Err(WordRefusal::NoTransaction),
-            Place::Broken => Err(WordRefusal::NoTransaction),
+            _ => {
+                let actor = &mut self.actors[a];
+                self.cells.step(actor)
+            }
         }
     }
 
@@ -401,7 +145,7 @@ impl Machine {
             return Some(WordRefusal::NoSuch);
         }
         let actor = &self.actors[a];
-        actor.refusal(self.values.len(), request)
+        actor.refusal(self.cells.values.len(), request)
     }
 
     /// The reading of the clock with which an actor's open transaction began.
@@ -426,7 +170,7 @@ impl Machine {
         if let Err(_) = make_room(&mut self.history, request) {
             return Err(WordRefusal::OutOfMemory);
         }
-        let locations = self.values.len();
+        let locations = self.cells.values.len();
         let actor = &mut self.actors[a];
         actor.ask(locations, request)
     }

@@ -1,6 +1,7 @@
 //! The running words, as callers see them.
 use crate::actor::CLOCK_LIMIT;
 use crate::answer::{WordAnswer, WordRefusal, WordRequest};
+use crate::cells::Cells;
 use crate::machine::{Machine, seats, zeros};
 use crate::record::WordRecord;
 use std::alloc::Global;
@@ -62,9 +63,11 @@ impl Words {
         };
         Ok(Words {
             machine: Machine {
-                clock,
-                locks,
-                values,
+                cells: Cells {
+                    clock,
+                    locks,
+                    values,
+                },
                 actors,
                 history: Vec::new(alloc),
             },
@@ -137,7 +140,7 @@ impl Words {
     pub fn values(&self) -> &[u64]
         ensures { result.now ≡ self.now.values }
     {
-        &self.machine.values
+        &self.machine.cells.values
     }
 
     /// Whether an actor's transaction, or the one that it is to begin, is that of a declared reader.

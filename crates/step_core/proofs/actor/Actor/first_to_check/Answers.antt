@@ -1,4 +1,4 @@
-use Rattle.step_core.proofs.Moves.{quick, slow}
+use Rattle.step_core.proofs.Lists.{quick, slow}
 use Rattle.step_core.proofs.actor.Actor.first_to_check.Goals as goal
 
 pub returns-then-self-clock-clause-left : goal.returns-then-self-clock-clause-left

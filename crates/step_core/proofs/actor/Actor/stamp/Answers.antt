@@ -1,7 +1,7 @@
 use Rattle.std.proofs.Common.{List, ℕ, arith, ap, sym, ◌∙◌}
 use Rattle.word_machine.specs.Notices.{LockedAt, when_none_left}
 use Rattle.step_core.specs.Answers.{result_of}
-use Rattle.step_core.proofs.Moves.{none_left, some_left}
+use Rattle.step_core.proofs.Lists.{none_left, some_left}
 use Rattle.step_core.proofs.actor.Actor.stamp.Goals as goal
 
 pub returns-then-first-len-clause-answer : goal.returns-then-first-len-clause-answer

@@ -53,9 +53,9 @@ returns-clause-asks c =
     let t : Machine = record m { history = c.make_room.new.history } in
     asks_ok w t c.args.a c.index_mut-actor.result.now c.ask.new.self (request_of c.args.request) c.ask.result got
     (ap (λ (z : List WordRecord). let s : Shown = record {
-      clock = w.clock;
-      locks = w.locks.items;
-      values = w.values.items;
+      clock = w.cells.clock;
+      locks = w.cells.locks.items;
+      values = w.cells.values.items;
       actors = map actor_of m.actors.items;
       history = map record_of z;
     } in s) c.make_room.ensures.items)
@@ -71,9 +71,9 @@ returns-clause-err c =
     let t : Machine = record m { history = c.make_room.new.history } in
     err_same w t c.args.a c.index_mut-actor.result.now c.ask.new.self c.ask.result got
     (ap (λ (z : List WordRecord). let s : Shown = record {
-      clock = w.clock;
-      locks = w.locks.items;
-      values = w.values.items;
+      clock = w.cells.clock;
+      locks = w.cells.locks.items;
+      values = w.cells.values.items;
       actors = map actor_of m.actors.items;
       history = map record_of z;
     } in s) c.make_room.ensures.items)
@@ -89,6 +89,6 @@ returns-clause-sound c =
     let t : Machine = record m { history = c.make_room.new.history } in
     sound_asked w t c.args.a c.index_mut-actor.result.now c.ask.new.self (request_of c.args.request) c.requires.sound got
     (subst (λ (n : ℕ). Fits n c.index_mut-actor.result.now → Fits n c.ask.new.self)
-    (let same : c.len-locations.result ≡ length w.locks.items = omega (arith, c.len-locations.ensures, c.requires.sound.same) in
+    (let same : c.len-locations.result ≡ length w.cells.locks.items = omega (arith, c.len-locations.ensures, c.requires.sound.same) in
     same) c.ask.ensures.keeps) c.ask.ensures.owed
     c.ask.ensures.due c.in_default.ensures.room refl refl refl refl c.make_room.ensures.len c.make_room.ensures.capacity

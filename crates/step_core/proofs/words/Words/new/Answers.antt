@@ -6,9 +6,7 @@ use Rattle.step_core.proofs.words.Words.new.Goals as goal
 pub invariant_of-result : goal.invariant_of-result
 invariant_of-result c =
     let w : Machine = record {
-      clock = c.args.clock;
-      locks = c.in-Ok.locks;
-      values = c.args.values;
+      cells = record { clock = c.args.clock; locks = c.in-Ok.locks; values = c.args.values };
       actors = c.in-Ok-seats.actors;
       history = c.new.result;
     } in
@@ -22,9 +20,7 @@ invariant_of-result c =
 pub returns-clause-shows : goal.returns-clause-shows
 returns-clause-shows c =
     let w : Machine = record {
-      clock = c.args.clock;
-      locks = c.in-Ok.locks;
-      values = c.args.values;
+      cells = record { clock = c.args.clock; locks = c.in-Ok.locks; values = c.args.values };
       actors = c.in-Ok-seats.actors;
       history = c.new.result;
     } in
@@ -33,9 +29,7 @@ returns-clause-shows c =
 pub returns-clause-reached : goal.returns-clause-reached
 returns-clause-reached c =
     let w : Machine = record {
-      clock = c.args.clock;
-      locks = c.in-Ok.locks;
-      values = c.args.values;
+      cells = record { clock = c.args.clock; locks = c.in-Ok.locks; values = c.args.values };
       actors = c.in-Ok-seats.actors;
       history = c.new.result;
     } in

@@ -1,0 +1,2 @@
+pub mod HoldingLemmas
+pub mod SessionLemmas
