@@ -7,7 +7,6 @@ use anyhow::bail;
 use std::env;
 
 mod audit;
-mod reservations;
 mod sets;
 
 fn main(rt: HostRuntime) -> anyhow::Result<()> {
@@ -18,7 +17,6 @@ fn main(rt: HostRuntime) -> anyhow::Result<()> {
     };
     match name.as_str() {
         "audit" => audit::measure(&rt),
-        "reservations" => reservations::measure(&rt),
         "sets" => sets::measure(&rt),
         _ => bail!("no benchmark has the name {name}"),
     }
