@@ -4,7 +4,9 @@
 -- parts), an outcome on another leaves them, and a log is one outcome after another. Editions: by the machine's invariant the write set
 -- has a location of the collection exactly where an outcome writes it, that is where the log was pushed with it, and there the fold
 -- raises the edition by one, as the world does.
-use Rattle.std.proofs.Common.{◌≡◌, ℕ, zero, suc, pred, ◌+◌, ◌-◌, ◌<◌, ◌≤◌, Bool, true, false, ltb, List, [], ◌∷◌, ◌++◌, Option, Some, None, ⊎_elim, refl, sym, ap, ◌∙◌, subst, arith, true≢false, eq-eqb, eqb-true, length, length-set, append-nil, append_assoc, ltb-true, ltb-false, get_or, set}
+use Rattle.std.proofs.Common.{◌≡◌, ℕ, zero, suc, pred, ◌+◌, ◌-◌, ◌<◌, ◌≤◌, Bool, true, false, ltb, List, [], ◌∷◌, ◌++◌, Option, Some, None}
+use Rattle.std.proofs.Common.{⊎_elim, refl, sym, ap, ◌∙◌, subst, arith, true≢false, eq-eqb, eqb-true, length, length-set, append-nil}
+use Rattle.std.proofs.Common.{append_assoc, ltb-true, ltb-false, get_or, set}
 use Rattle.std.specs.Prelude.{Contains, ◌==◌, ◌||◌, not, nat_lt, if◌then◌else◌}
 use Rattle.std.specs.FinMap.{empty}
 use Rattle.std.proofs.lemmas.Bool.{cond-true, cond-false, cond_both, cases_Bool}
@@ -27,7 +29,8 @@ use Rattle.replay_log.specs.declared.base.Base.{Base}
 use Rattle.replay_log.specs.Base.{Shown, OfMap, OfBag, OfPq, OfQueue, after, changes_of, editions_of, shown_of, writes_of}
 use Rattle.replay_log.specs.Guards.{IsAllowed, step_action}
 use Rattle.replay_log.specs.Parts.{Kind, MapKind, BagKind, PqKind, QueueKind, kind_of, part, whole}
-use Rattle.replay_log.specs.Contents.{Block, Answered, HaveStripes, block_of, end_of, first_of, home_of, is_plain, content, size, shifted, blank, seen, changed, writes_in}
+use Rattle.replay_log.specs.Contents.{Block, Answered, HaveStripes, block_of, end_of, first_of, home_of, is_plain, content, size, shifted}
+use Rattle.replay_log.specs.Contents.{blank, seen, changed, writes_in}
 use Rattle.replay_log.specs.Seats.{World, Stage, Ready, actor_of}
 use Rattle.replay_log.specs.Worlds.{happens, opened, run}
 use Rattle.replay_log.proofs.PartLemmas.{is_whole, leaves_other_parts, whole_local}

@@ -50,7 +50,7 @@ len_of (e ∷ es) h =
 
 -- ---- entries inserted one after another
 module _ {V : Type 0} where
-  fresh_distinct : (es : List (ℕ × V)) → IsDistinct nat_eq (keys_of es) → AreFresh es
+  pub fresh_distinct : (es : List (ℕ × V)) → IsDistinct nat_eq (keys_of es) → AreFresh es
   unfolding IsDistinct
   fresh_distinct [] h = tt
   fresh_distinct (e ∷ es) h = (find_is e.0 es ∙ absent e.0 es h.0, fresh_distinct es h.1)

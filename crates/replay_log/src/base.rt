@@ -170,13 +170,14 @@ impl<V: Value> Base<V> {
         }
     }
 
-    /// What a transaction that keeps single keys copies for the call: the key that it is on, with the edition of its location. A
-    /// call that is not on one key of this map or multiset is refused as NoSuch.
+    /// What a transaction that keeps single keys copies for the call: the key that it is on, with the edition of its location; for
+    /// the number of all keys of a map, how many each stripe has, with the editions of all. A call that is of another kind than this
+    /// map or multiset is refused as NoSuch.
     pub fn touch(&self, op: &Op<V>) -> Result<Touch<V>, Refusal>
         ensures editions { IfOk result (λ touch. touch.editions
             ≡ editions_at (touched_places (stripes_of self.now) touch.held) (editions_of self.now)) }
-        ensures held { IfOk result (λ touch. touched_by op.now (shown_of self.now) ≡ Some touch.held) }
-        ensures refused { IfErr result (λ refusal. IsRefusal refusal (touched_by op.now (shown_of self.now) ≡ None)) }
+        ensures held { IfOk result (λ touch. touched_by (stripes_of self.now) op.now (shown_of self.now) ≡ Some touch.held) }
+        ensures refused { IfErr result (λ refusal. IsRefusal refusal (touched_by (stripes_of self.now) op.now (shown_of self.now) ≡ None)) }
     {
         match self {
             Base::Map(base) => touch_map(base, op),

@@ -1,6 +1,8 @@
-//! What a transaction copies of a collection for a call on one key.
+//! What a transaction copies of a map or a multiset for a call: a key, or the counts of all stripes.
 ghost use Rattle.std.specs.Prelude.{◌≡◌, [], ◌∷◌, Some, None, IfOk, IfErr};
 ghost use Rattle.seq_model.specs.Calls.{IsRefusal};
+ghost use Rattle.seq_model.specs.declared.call.Op.TheVariants.{Len};
+ghost use Rattle.conflict.specs.Footprints.{all_below};
 ghost use Rattle.replay_log.specs.Base.{OfMap, OfBag};
 ghost use Rattle.replay_log.specs.Touches.{editions_at, touched_by, touched_places};
 
@@ -9,13 +11,15 @@ use base_map::MapBase;
 use seq_model::{Items, Memory, Op, Refusal, Value};
 use std::alloc::Global;
 
-/// What is copied of a key.
+/// What is copied.
 #[derive(Drop)]
 pub enum Touched<V> {
     /// In a map, the key with its value, if it has one.
     Entry(u64, Option<V>),
     /// In a multiset, the element with the number of its copies.
     Copies(u64, u64),
+    /// Of a map, the number of keys on each stripe.
+    Counts(Items<u64>),
 }
 
 /// What is copied, with the editions of the locations that it was copied from.
@@ -28,11 +32,12 @@ pub struct Touch<V> {
 pub(crate) fn touch_map<V: Value>(base: &MapBase<V>, op: &Op<V>) -> Result<Touch<V>, Refusal>
     ensures editions { IfOk result
         (λ touch. touch.editions ≡ editions_at (touched_places base.now.stripes touch.held) base.now.editions) }
-    ensures held { IfOk result (λ touch. touched_by op.now (OfMap base.now.shown) ≡ Some touch.held) }
-    ensures refused { IfErr result (λ refusal. IsRefusal refusal (touched_by op.now (OfMap base.now.shown) ≡ None)) }
+    ensures held { IfOk result (λ touch. touched_by base.now.stripes op.now (OfMap base.now.shown) ≡ Some touch.held) }
+    ensures refused { IfErr result (λ refusal. IsRefusal refusal (touched_by base.now.stripes op.now (OfMap base.now.shown) ≡ None)) }
 {
     let key = match op {
         Op::Get(key) | Op::Put(key, _) | Op::Remove(key) => *key,
+        Op::Len => return Ok(touch_counts(base)?),
         _ => return Err(Refusal::NoSuch),
     };
     let location = base.place(key);
@@ -41,11 +46,31 @@ pub(crate) fn touch_map<V: Value>(base: &MapBase<V>, op: &Op<V>) -> Result<Touch
     Ok(Touch { editions, held })
 }
 
+fn touch_counts<V: Value>(base: &MapBase<V>) -> Result<Touch<V>, Memory>
+    ensures editions { IfOk result
+        (λ touch. touch.editions ≡ editions_at (touched_places base.now.stripes touch.held) base.now.editions) }
+    ensures held { IfOk result (λ touch. touched_by base.now.stripes Len (OfMap base.now.shown) ≡ Some touch.held) }
+{
+    let editions = all_editions(base)?;
+    let held = Touched::Counts(base.counts()?);
+    Ok(Touch { editions, held })
+}
+
+fn all_editions<V: Value>(base: &MapBase<V>) -> Result<Items<(u32, u64)>, Memory>
+    ensures { IfOk result (λ editions. editions ≡ editions_at (all_below base.now.stripes) base.now.editions) }
+{
+    let mut editions = Items::new(base.allocator());
+    for location in 0..base.stripes() {
+        editions.push((location, base.edition(location)))?;
+    }
+    Ok(editions)
+}
+
 pub(crate) fn touch_bag<V: Value>(base: &BagBase, op: &Op<V>) -> Result<Touch<V>, Refusal>
     ensures editions { IfOk result
         (λ touch. touch.editions ≡ editions_at (touched_places base.now.stripes touch.held) base.now.editions) }
-    ensures held { IfOk result (λ touch. touched_by op.now (OfBag base.now.shown) ≡ Some touch.held) }
-    ensures refused { IfErr result (λ refusal. IsRefusal refusal (touched_by op.now (OfBag base.now.shown) ≡ None)) }
+    ensures held { IfOk result (λ touch. touched_by base.now.stripes op.now (OfBag base.now.shown) ≡ Some touch.held) }
+    ensures refused { IfErr result (λ refusal. IsRefusal refusal (touched_by base.now.stripes op.now (OfBag base.now.shown) ≡ None)) }
 {
     let element = match op {
         Op::Count(element) | Op::Add(element) | Op::Take(element) => *element,

@@ -1,1 +1,3 @@
 mod MemoLemmas
+mod LengthLemmas
+pub mod CopyLemmas

@@ -9,7 +9,7 @@ use Rattle.std.specs.FinMap.{FinMap, empty, get, get-empty, insert, get-insert, 
 use Rattle.std.proofs.lemmas.Bool.Decides.{nat_tests}
 use Rattle.std.proofs.lemmas.List.Sums.{fold-append}
 use Rattle.seq_model.specs.declared.call.Op.{Op}
-use Rattle.seq_model.specs.declared.call.Op.TheVariants.{Get, Put, Remove, Count, Add, Take}
+use Rattle.seq_model.specs.declared.call.Op.TheVariants.{Get, Put, Remove, Len, Count, Add, Take}
 use Rattle.seq_model.specs.declared.call.Reply.{Reply}
 use Rattle.seq_model.specs.declared.call.Reply.TheVariants.{Done, Full, Value, Number, Yes, No}
 use Rattle.seq_model.specs.declared.limits.TheConstants.{COPY_LIMIT}
@@ -28,7 +28,7 @@ use Rattle.base_pq.specs.Conflicts as pq
 use Rattle.base_queue.specs.Conflicts as queue
 use Rattle.replay_log.specs.Base.{Shown, OfMap, OfBag, OfPq, OfQueue, after, changes_of, outcome_of}
 use Rattle.replay_log.specs.declared.touch.Touched.{Touched}
-use Rattle.replay_log.specs.declared.touch.Touched.TheVariants.{Entry, Copies}
+use Rattle.replay_log.specs.declared.touch.Touched.TheVariants.{Entry, Copies, Counts}
 use Rattle.replay_log.specs.Touches.{touched_by}
 use Rattle.shadow.specs.Memo.{IsKnown, IsOfBy, IsShown, has_key, with_key, with_entry, with_count, holds_by, entry_outcome, known_entry, map_answer, counted_up, copies_after, entries_after, answer_by, entries_kept, copies_kept}
 
@@ -94,7 +94,8 @@ holds_same known k a q held =
       | false ↦ λ other. refl
     ] refl
 
-learnt : {C A : Type 0} (look : C → ℕ → A) (known : FinMap nat_cmp A) (s now : C) (k : ℕ) (a : A) → look s k ≡ a → IsKnown look known s now
+pub learnt : {C A : Type 0} (look : C → ℕ → A) (known : FinMap nat_cmp A) (s now : C) (k : ℕ) (a : A) → look s k ≡ a
+    → IsKnown look known s now
     → IsKnown look (with_key known k a) s now
 learnt look known s now k a shown is =
     elim (has_key known k) as (λ b. has_key known k ≡ b → IsKnown look (cond b known (insert known k a)) s now) [
@@ -108,7 +109,7 @@ learnt look known s now k a shown is =
 
 -- ---- a map
 module _ {V : Type 0} where
-  map_next : (changes more : List (Change V)) (m : FinMap nat_cmp V)
+  pub map_next : (changes more : List (Change V)) (m : FinMap nat_cmp V)
       → applied (map.rules V) (changes ++ more) m ≡ applied (map.rules V) more (applied (map.rules V) changes m)
   map_next changes more m = fold-append map.change_map m changes more
 
@@ -251,7 +252,7 @@ module _ {V : Type 0} where
   accepted o (OfQueue b) s es cs changes held is = absurd is
 
   -- and the same keys are held as before
-  entries_same : (op : Op V) (r : Reply V) (b : FinMap nat_cmp V) (es : FinMap nat_cmp (Option V)) (cs : FinMap nat_cmp ℕ) (q : ℕ)
+  pub entries_same : (op : Op V) (r : Reply V) (b : FinMap nat_cmp V) (es : FinMap nat_cmp (Option V)) (cs : FinMap nat_cmp ℕ) (q : ℕ)
       → holds_by (OfMap b) es cs op ≡ true → has_key (entries_after op r es) q ≡ has_key es q
   entries_same (Put k v) r b es cs q held = holds_same es k (Some v) q held
   entries_same (Remove k) (Value old) b es cs q held = holds_same es k None q held
@@ -288,49 +289,51 @@ module _ {V : Type 0} where
   accepted_holds o (OfQueue b) es cs op held = refl
 
   -- ---- one key more
-  pub added : (t : Touched V) (b s : Shown V) (es : FinMap nat_cmp (Option V)) (cs : FinMap nat_cmp ℕ) (changes : List (Change V)) → IsOfBy b es cs changes s → IsShown t s
-      → IsOfBy b (with_entry t es) (with_count t cs) changes s
-  added (Entry k o) (OfMap b) (OfMap m) es cs changes is shown = learnt get es m (applied (map.rules V) changes m) k o shown is
-  added (Copies x n) (OfBag b) (OfBag m) es cs changes is shown = learnt copies cs m (applied (bag.rules V) changes m) x n shown is
-  added (Entry k o) (OfMap b) (OfBag m) es cs changes is shown = absurd is
-  added (Entry k o) (OfMap b) (OfPq m) es cs changes is shown = absurd is
-  added (Entry k o) (OfMap b) (OfQueue m) es cs changes is shown = absurd is
-  added (Entry k o) (OfBag b) s es cs changes is shown = is
-  added (Entry k o) (OfPq b) s es cs changes is shown = absurd is
-  added (Entry k o) (OfQueue b) s es cs changes is shown = absurd is
-  added (Copies x n) (OfBag b) (OfMap m) es cs changes is shown = absurd is
-  added (Copies x n) (OfBag b) (OfPq m) es cs changes is shown = absurd is
-  added (Copies x n) (OfBag b) (OfQueue m) es cs changes is shown = absurd is
-  added (Copies x n) (OfMap b) s es cs changes is shown = is
-  added (Copies x n) (OfPq b) s es cs changes is shown = absurd is
-  added (Copies x n) (OfQueue b) s es cs changes is shown = absurd is
+  pub added : (n : ℕ) (t : Touched V) (b s : Shown V) (es : FinMap nat_cmp (Option V)) (cs : FinMap nat_cmp ℕ) (changes : List (Change V))
+      → IsOfBy b es cs changes s → IsShown n t s → IsOfBy b (with_entry t es) (with_count t cs) changes s
+  added n (Entry k o) (OfMap b) (OfMap m) es cs changes is shown = learnt get es m (applied (map.rules V) changes m) k o shown is
+  added n (Copies x c) (OfBag b) (OfBag m) es cs changes is shown = learnt copies cs m (applied (bag.rules V) changes m) x c shown is
+  added n (Entry k o) (OfMap b) (OfBag m) es cs changes is shown = absurd is
+  added n (Entry k o) (OfMap b) (OfPq m) es cs changes is shown = absurd is
+  added n (Entry k o) (OfMap b) (OfQueue m) es cs changes is shown = absurd is
+  added n (Entry k o) (OfBag b) s es cs changes is shown = is
+  added n (Entry k o) (OfPq b) s es cs changes is shown = absurd is
+  added n (Entry k o) (OfQueue b) s es cs changes is shown = absurd is
+  added n (Copies x c) (OfBag b) (OfMap m) es cs changes is shown = absurd is
+  added n (Copies x c) (OfBag b) (OfPq m) es cs changes is shown = absurd is
+  added n (Copies x c) (OfBag b) (OfQueue m) es cs changes is shown = absurd is
+  added n (Copies x c) (OfMap b) s es cs changes is shown = is
+  added n (Copies x c) (OfPq b) s es cs changes is shown = absurd is
+  added n (Copies x c) (OfQueue b) s es cs changes is shown = absurd is
+  added n (Counts ns) b s es cs changes is shown = is
 
   -- ---- what a base gives to be held
-  shown_map : (op : Op V) (m : FinMap nat_cmp V) (t : Touched V) → touched_by op (OfMap m) ≡ Some t → IsShown t (OfMap m)
-  shown_map (Get k) m t e = subst (λ x. IsShown x (OfMap m)) (some_same _ _ e) refl
-  shown_map (Put k v) m t e = subst (λ x. IsShown x (OfMap m)) (some_same _ _ e) refl
-  shown_map (Remove k) m t e = subst (λ x. IsShown x (OfMap m)) (some_same _ _ e) refl
-  shown_map _ m t e = absurd (none_some t e)
+  shown_map : (n : ℕ) (op : Op V) (m : FinMap nat_cmp V) (t : Touched V) → touched_by n op (OfMap m) ≡ Some t → IsShown n t (OfMap m)
+  shown_map n (Get k) m t e = subst (λ x. IsShown n x (OfMap m)) (some_same _ _ e) refl
+  shown_map n (Put k v) m t e = subst (λ x. IsShown n x (OfMap m)) (some_same _ _ e) refl
+  shown_map n (Remove k) m t e = subst (λ x. IsShown n x (OfMap m)) (some_same _ _ e) refl
+  shown_map n Len m t e = subst (λ x. IsShown n x (OfMap m)) (some_same _ _ e) refl
+  shown_map n _ m t e = absurd (none_some t e)
 
-  shown_bag : (op : Op V) (m : Multiset) (t : Touched V) → touched_by op (OfBag m) ≡ Some t → IsShown t (OfBag m)
-  shown_bag (Count x) m t e = subst (λ y. IsShown y (OfBag m)) (some_same _ _ e) refl
-  shown_bag (Add x) m t e = subst (λ y. IsShown y (OfBag m)) (some_same _ _ e) refl
-  shown_bag (Take x) m t e = subst (λ y. IsShown y (OfBag m)) (some_same _ _ e) refl
-  shown_bag _ m t e = absurd (none_some t e)
+  shown_bag : (n : ℕ) (op : Op V) (m : Multiset) (t : Touched V) → touched_by n op (OfBag m) ≡ Some t → IsShown n t (OfBag m)
+  shown_bag n (Count x) m t e = subst (λ y. IsShown n y (OfBag m)) (some_same _ _ e) refl
+  shown_bag n (Add x) m t e = subst (λ y. IsShown n y (OfBag m)) (some_same _ _ e) refl
+  shown_bag n (Take x) m t e = subst (λ y. IsShown n y (OfBag m)) (some_same _ _ e) refl
+  shown_bag n _ m t e = absurd (none_some t e)
 
-  no_pq : (op : Op V) (m : pq.Shown) → touched_by op (OfPq m) ≡ None
-  no_pq (Get k) m = refl
-  no_pq _ m = refl
+  no_pq : (n : ℕ) (op : Op V) (m : pq.Shown) → touched_by n op (OfPq m) ≡ None
+  no_pq n (Get k) m = refl
+  no_pq n _ m = refl
 
-  no_queue : (op : Op V) (m : queue.Shown) → touched_by op (OfQueue m) ≡ None
-  no_queue (Get k) m = refl
-  no_queue _ m = refl
+  no_queue : (n : ℕ) (op : Op V) (m : queue.Shown) → touched_by n op (OfQueue m) ≡ None
+  no_queue n (Get k) m = refl
+  no_queue n _ m = refl
 
-  pub is_shown : (op : Op V) (s : Shown V) (t : Touched V) → touched_by op s ≡ Some t → IsShown t s
-  is_shown op (OfMap m) t e = shown_map op m t e
-  is_shown op (OfBag m) t e = shown_bag op m t e
-  is_shown op (OfPq m) t e = absurd (none_some t (sym (no_pq op m) ∙ e))
-  is_shown op (OfQueue m) t e = absurd (none_some t (sym (no_queue op m) ∙ e))
+  pub is_shown : (n : ℕ) (op : Op V) (s : Shown V) (t : Touched V) → touched_by n op s ≡ Some t → IsShown n t s
+  is_shown n op (OfMap m) t e = shown_map n op m t e
+  is_shown n op (OfBag m) t e = shown_bag n op m t e
+  is_shown n op (OfPq m) t e = absurd (none_some t (sym (no_pq n op m) ∙ e))
+  is_shown n op (OfQueue m) t e = absurd (none_some t (sym (no_queue n op m) ∙ e))
 
   pub new_map : (s : FinMap nat_cmp V) → IsOfBy (OfMap empty) empty empty [] (OfMap s)
   new_map s = nothing_known get s

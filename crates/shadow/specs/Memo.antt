@@ -1,24 +1,27 @@
--- What a transaction keeps of the single keys that it touched of a map or a multiset.
-use Rattle.std.specs.Prelude.{◌≡◌, ℕ, suc, ◌+◌, ◌-◌, ◌<◌, ◌≤◌, ⊤, length, Bool, false, List, Option, Some, None, is_some, nat_lt, unwrap_or, if◌then◌else◌}
+-- What a transaction keeps of the single keys that it touched of a map or a multiset, and of the number of all keys of a map.
+use Rattle.std.specs.Prelude.{◌≡◌, ℕ, suc, ◌+◌, ◌-◌, ◌^◌, ◌<◌, ◌≤◌, ⊤, length, Bool, true, false, List, Option, Some, None, is_some, nat_lt, unwrap_or, if◌then◌else◌}
 use Rattle.std.specs.Ordering.{nat_cmp}
-use Rattle.std.specs.FinMap.{FinMap, empty, get, insert}
+use Rattle.std.specs.List.{sum}
+use Rattle.std.specs.FinMap.{FinMap, empty, get, insert, len}
 use Rattle.seq_model.specs.declared.call.Op.{Op}
-use Rattle.seq_model.specs.declared.call.Op.TheVariants.{Get, Put, Remove, Count, Add, Take}
+use Rattle.seq_model.specs.declared.call.Op.TheVariants.{Get, Put, Remove, Len, Count, Add, Take}
 use Rattle.seq_model.specs.declared.call.Reply.{Reply}
-use Rattle.seq_model.specs.declared.call.Reply.TheVariants.{Done, Value, Yes}
+use Rattle.seq_model.specs.declared.call.Reply.TheVariants.{Done, Nothing, Number, Value, Yes}
 use Rattle.seq_model.specs.declared.limits.TheConstants.{COPY_LIMIT}
 use Rattle.seq_model.specs.Calls.{value_reply}
 use Rattle.seq_model.specs.Counts.{Multiset, copies}
 use Rattle.conflict.specs.declared.change.Change.{Change}
 use Rattle.conflict.specs.declared.outcome.Outcome.{Outcome}
 use Rattle.conflict.specs.declared.outcome.Note.TheVariants.{Plain}
+use Rattle.conflict.specs.Counts.{stripe_counts}
 use Rattle.conflict.specs.Rules.{applied}
 use Rattle.base_map.specs.Conflicts as map
 use Rattle.base_bag.specs.Conflicts as bag
 use Rattle.replay_log.specs.declared.base.Base.{Base}
-use Rattle.replay_log.specs.Base.{Shown, OfMap, OfBag, changes_of, shown_of, stripes_of, writes_of}
+use Rattle.replay_log.specs.Base.{Shown, OfMap, OfBag, changes_of, outcome_of, shown_of, stripes_of, writes_of}
+use Rattle.replay_log.specs.Parts.{kind_of}
 use Rattle.replay_log.specs.declared.touch.Touched.{Touched}
-use Rattle.replay_log.specs.declared.touch.Touched.TheVariants.{Entry, Copies}
+use Rattle.replay_log.specs.declared.touch.Touched.TheVariants.{Entry, Copies, Counts}
 use Rattle.shadow.specs.declared.memo.MemoKind.{MemoKind}
 use Rattle.shadow.specs.declared.memo.MemoKind.TheVariants as kind
 use Rattle.replay_log.specs.Log.{LogView}
@@ -29,6 +32,9 @@ pub record MemoView (V : Type 0) : Type 0 where
   pub blank : Base V  -- an empty collection of the kind and stripes
   pub entries : FinMap nat_cmp (Option V)  -- of a map, the keys held, each with its value after the accepted changes, if it has one
   pub copies : FinMap nat_cmp ℕ  -- of a multiset, the elements held, each with its copies after the accepted changes
+  pub total : Option ℕ  -- of a map, the number of its keys before the accepted changes, if its counts were touched
+  pub grown : ℕ  -- so many keys were new to it
+  pub shrunk : ℕ  -- and so many were taken out of it
   pub changes : List (Change V)  -- the accepted changes, in order
   pub locations : List ℕ  -- the locations with which they were accepted
   pub ready : Option (Ready V)
@@ -49,6 +55,16 @@ counted_up n = if nat_lt n COPY_LIMIT then suc n else n
 abbrev pub with_key : {A : Type 0} → FinMap nat_cmp A → ℕ → A → FinMap nat_cmp A
 with_key known k a = if has_key known k then known else insert known k a
 
+-- with the counts of all stripes; a total that is held stays
+abbrev pub with_counts : List ℕ → Option ℕ → Option ℕ
+with_counts cs None = Some (sum cs)
+with_counts cs (Some total) = Some total
+
+-- a total is one that a memory could hold
+abbrev pub IsTold : Option ℕ → Type 0
+IsTold None = ⊤
+IsTold (Some total) = total < 2 ^ 63
+
 module _ {V : Type 0} where
   abbrev pub shape : MemoKind → Shown V
   shape kind.Map = OfMap empty
@@ -64,8 +80,13 @@ module _ {V : Type 0} where
   holds_by (OfBag b) es cs (Take x) = has_key cs x
   holds_by s es cs op = false
 
+  -- what the call touches is held
+  abbrev pub holds_with : Shown V → FinMap nat_cmp (Option V) → FinMap nat_cmp ℕ → Option ℕ → Op V → Bool
+  holds_with (OfMap b) es cs total Len = is_some total
+  holds_with b es cs total op = holds_by b es cs op
+
   abbrev pub holds : MemoView V → Op V → Bool
-  holds m op = holds_by (shown_of m.blank) m.entries m.copies op
+  holds m op = holds_with (shown_of m.blank) m.entries m.copies m.total op
 
   -- with what was touched
   abbrev pub with_entry : Touched V → FinMap nat_cmp (Option V) → FinMap nat_cmp (Option V)
@@ -76,17 +97,43 @@ module _ {V : Type 0} where
   with_count (Copies x n) cs = with_key cs x n
   with_count t cs = cs
 
-  -- what was touched is what the collection shows there
-  abbrev pub IsShown : Touched V → Shown V → Type 0
-  IsShown (Entry k o) (OfMap m) = get m k ≡ o
-  IsShown (Copies x n) (OfBag m) = copies m x ≡ n
-  IsShown t s = ⊥
+  abbrev pub with_total : Touched V → Option ℕ → Option ℕ
+  with_total (Counts cs) total = with_counts cs total
+  with_total t total = total
+
+  -- what was touched is what the collection shows there, in n stripes
+  abbrev pub IsShown : ℕ → Touched V → Shown V → Type 0
+  IsShown n (Entry k o) (OfMap m) = get m k ≡ o
+  IsShown n (Counts cs) (OfMap m) = cs ≡ stripe_counts n m
+  IsShown n (Copies x c) (OfBag m) = copies m x ≡ c
+  IsShown n t s = ⊥
 
   -- the keys held were touched of this collection: after the accepted changes it shows what the memo keeps of them
   abbrev pub IsOfBy : Shown V → FinMap nat_cmp (Option V) → FinMap nat_cmp ℕ → List (Change V) → Shown V → Type 0
   IsOfBy (OfMap b) es cs changes (OfMap m) = IsKnown get es m (applied (map.rules V) changes m)
   IsOfBy (OfBag b) es cs changes (OfBag m) = IsKnown copies cs m (applied (bag.rules V) changes m)
   IsOfBy b es cs changes s = ⊥
+
+  -- the changes made so many keys new to the map and took so many out of it, and so many were there before them
+  abbrev pub IsCounted : Option ℕ → (grown shrunk : ℕ) → (before now : FinMap nat_cmp V) → Type 0
+  IsCounted total grown shrunk before now =
+      (len now + shrunk ≡ len before + grown) × ((t : ℕ) → total ≡ Some t → len before ≡ t)
+
+  abbrev pub IsCountedBy : Shown V → Option ℕ → (grown shrunk : ℕ) → List (Change V) → Shown V → Type 0
+  IsCountedBy (OfMap b) total grown shrunk changes (OfMap m) = IsCounted total grown shrunk m (applied (map.rules V) changes m)
+  IsCountedBy (OfMap b) total grown shrunk changes s = ⊥
+  IsCountedBy b total grown shrunk changes s = ⊤
+
+  -- of one kind, with the same answer to each call whose key is held
+  abbrev pub IsAlike : Shown V → FinMap nat_cmp (Option V) → FinMap nat_cmp ℕ → Option ℕ → Shown V → Shown V → Type 0
+  IsAlike b es cs total s t =
+      (kind_of t ≡ kind_of s) × ((op : Op V) → holds_with b es cs total op ≡ true → outcome_of op t ≡ outcome_of op s)
+
+  -- what is kept was touched of this collection: it holds of each that answers alike what is held
+  abbrev pub IsCopyBy : Shown V → FinMap nat_cmp (Option V) → FinMap nat_cmp ℕ → Option ℕ → (grown shrunk : ℕ) → List (Change V)
+      → Shown V → Type 0
+  IsCopyBy b es cs total grown shrunk changes s =
+      (t : Shown V) → IsAlike b es cs total s t → IsOfBy b es cs changes t × IsCountedBy b total grown shrunk changes t
 
   -- what an outcome changes and writes there is ready
   abbrev pub IsReadyFor : Outcome V → MemoView V → Type 0
@@ -120,11 +167,28 @@ module _ {V : Type 0} where
   copies_after (Take x) Yes cs = insert cs x (copies cs x - 1)
   copies_after op r cs = cs
 
+  -- how many keys there are now, and what is kept of that after an outcome
+  abbrev pub len_outcome : Option ℕ → (grown shrunk : ℕ) → Outcome V
+  len_outcome total grown shrunk = record { op = Len; reply = Number (unwrap_or total 0 + grown - shrunk); note = Plain }
+
+  abbrev pub grown_after : Op V → Reply V → ℕ → ℕ
+  grown_after (Put k v) Nothing grown = suc grown
+  grown_after op r grown = grown
+
+  abbrev pub shrunk_after : Op V → Reply V → ℕ → ℕ
+  shrunk_after (Remove k) (Value old) shrunk = suc shrunk
+  shrunk_after op r shrunk = shrunk
+
   -- by the kind
   abbrev pub answer_by : Shown V → FinMap nat_cmp (Option V) → FinMap nat_cmp ℕ → Op V → Option (Outcome V)
   answer_by (OfMap b) es cs op = map_answer op es
   answer_by (OfBag b) es cs op = bag.outcome_of op cs
   answer_by b es cs op = None
+
+  abbrev pub answer_with : Shown V → FinMap nat_cmp (Option V) → FinMap nat_cmp ℕ → Option ℕ → (grown shrunk : ℕ) → Op V
+      → Option (Outcome V)
+  answer_with (OfMap b) es cs total grown shrunk Len = Some (len_outcome total grown shrunk)
+  answer_with b es cs total grown shrunk op = answer_by b es cs op
 
   abbrev pub entries_kept : Shown V → Outcome V → FinMap nat_cmp (Option V) → FinMap nat_cmp (Option V)
   entries_kept (OfMap b) o es = entries_after o.op o.reply es
@@ -134,8 +198,17 @@ module _ {V : Type 0} where
   copies_kept (OfBag b) o cs = copies_after o.op o.reply cs
   copies_kept b o cs = cs
 
-  -- there is room for what is ready
-  abbrev pub IsKept : (entries copies : ℕ) → LogView V → Option (declared.Ready V) → Type 0
-  IsKept entries copies log None = ⊤
-  IsKept entries copies log (Some r) =
+  abbrev pub grown_kept : Shown V → Outcome V → ℕ → ℕ
+  grown_kept (OfMap b) o grown = grown_after o.op o.reply grown
+  grown_kept b o grown = grown
+
+  abbrev pub shrunk_kept : Shown V → Outcome V → ℕ → ℕ
+  shrunk_kept (OfMap b) o shrunk = shrunk_after o.op o.reply shrunk
+  shrunk_kept b o shrunk = shrunk
+
+  -- there is room for what is ready, and its keys can be counted
+  abbrev pub IsKept : (entries copies grown shrunk : ℕ) → LogView V → Option (declared.Ready V) → Type 0
+  IsKept entries copies grown shrunk log None = ⊤
+  IsKept entries copies grown shrunk log (Some r) =
       (0 < entries) × (0 < copies) × (length r.changes ≤ log.room) × (length log.locations + length r.written ≤ log.places)
+      × (grown < 2 ^ 63) × (shrunk < 2 ^ 63)

@@ -1,20 +1,24 @@
-//! What a transaction keeps of the single keys that it touched.
-ghost use Rattle.std.specs.Prelude.{◌≡◌, ◌<◌, ◌≤◌, ◌++◌, [], Some, None, IfOk, IfErr, OnOk, OnErr};
+//! What a transaction keeps of the single keys that it touched, and of the number of all keys.
+ghost use Rattle.std.specs.Prelude.{◌≡◌, ◌<◌, ◌≤◌, ◌++◌, ◌^◌, ◌+◌, ◌-◌, [], Some, None, unwrap_or, IfOk, IfErr, OnOk, OnErr};
 ghost use Rattle.std.specs.FinMap as map;
+ghost use Rattle.std.specs.List.{sum};
 ghost use Rattle.seq_model.specs.Calls.{IsRefusal};
 ghost use Rattle.seq_model.specs.Counts.{copies};
 ghost use Rattle.conflict.specs.Refusals.{IsTooLong, IsStripeCount};
 ghost use Rattle.base_bag.specs.Conflicts as bag;
 ghost use Rattle.replay_log.specs.Base.{changes_of, shown_of, stripes_of, writes_of};
-ghost use Rattle.shadow.specs.Memo.{IsReadyFor, answer_by, copies_after, copies_kept, entries_after, entries_kept, holds, map_answer, shape, with_count, with_entry, with_key};
+ghost use Rattle.shadow.specs.Memo.{IsReadyFor, answer_with, copies_after, copies_kept, entries_after, entries_kept, grown_after, grown_kept, holds, map_answer, shape, shrunk_after, shrunk_kept, with_count, with_counts, with_entry, with_key, with_total, IsTold};
 
 use base_bag::BagBase;
 use base_map::MapBase;
-use conflict::{Changes, LocSet, Note, Outcome, Table};
+use conflict::{Change, Changes, LocSet, Note, Outcome, Table};
 use replay_log::{Base, Log, Touched};
-use seq_model::{COPY_LIMIT, Memory, Op, Refusal, Reply, Value};
+use seq_model::{COPY_LIMIT, Items, Memory, Op, Refusal, Reply, Value};
 use std::alloc::Global;
 use std::marker::Model;
+
+/// More keys than a memory can hold.
+const KEY_LIMIT: u64 = 1 << 63;
 
 /// The kinds of collection of which single keys are kept.
 #[derive(Clone, Copy)]
@@ -23,12 +27,16 @@ pub enum MemoKind {
     Bag,
 }
 
-/// The keys that were touched, with what they have after the changes of the accepted calls, and the log of these.
+/// The keys that were touched, with what they have after the changes of the accepted calls, and the log of these. Of a map also the
+/// number of its keys, where the counts of its stripes were touched, and by how many the accepted calls made it grow and shrink.
 #[derive(Drop)]
 pub struct Memo<V> {
     blank: Base<V>,
     entries: Table<Option<V>>,
     copies: Table<u64>,
+    total: Option<u64>,
+    grown: u64,
+    shrunk: u64,
     log: Log<V>,
     ready: Option<Ready<V>>,
 }
@@ -41,13 +49,13 @@ struct Ready<V> {
 }
 
 impl<V> Model for Memo<V> {
-    ghost use Rattle.std.specs.Prelude.{◌≡◌, [], option_map};
+    ghost use Rattle.std.specs.Prelude.{◌≡◌, ◌≤◌, ◌^◌, [], option_map};
     ghost use Rattle.std.specs.Coded.{codes, coded_ℕ, coded_option};
     ghost use Rattle.std.specs.FinMap as map;
     ghost use Rattle.std.specs.Ordering.{nat_cmp};
     ghost use Rattle.base_pq.specs.Conflicts as pq;
     ghost use Rattle.base_queue.specs.Conflicts as queue;
-    ghost use Rattle.shadow.specs.Memo.{MemoView, IsKept};
+    ghost use Rattle.shadow.specs.Memo.{MemoView, IsKept, IsTold};
 
     ghost Value = { MemoView V };
 
@@ -57,12 +65,15 @@ impl<V> Model for Memo<V> {
       blank = a.blank;
       entries = a.entries.contents;
       copies = a.copies.contents;
+      total = a.total;
+      grown = a.grown;
+      shrunk = a.shrunk;
       changes = a.log.changes;
       locations = a.log.locations;
       ready = option_map (λ r. record { changes = r.changes; locations = r.written }) a.ready;
     } };
 
-    ghost invariant = { λ a. IsKept a.entries.room a.copies.room a.log a.ready };
+    ghost invariant = { λ a. IsKept a.entries.room a.copies.room a.grown a.shrunk a.log a.ready × IsTold a.total × (a.grown ≤ 2 ^ 63) };
 }
 
 impl<V: Value> Memo<V> {
@@ -73,6 +84,9 @@ impl<V: Value> Memo<V> {
         ensures stripes { IfOk result (λ memo. stripes_of memo.blank ≡ stripes) }
         ensures entries { IfOk result (λ memo. memo.entries ≡ map.empty) }
         ensures copies { IfOk result (λ memo. memo.copies ≡ map.empty) }
+        ensures total { IfOk result (λ memo. memo.total ≡ None) }
+        ensures grown { IfOk result (λ memo. memo.grown ≡ 0) }
+        ensures shrunk { IfOk result (λ memo. memo.shrunk ≡ 0) }
         ensures changes { IfOk result (λ memo. memo.changes ≡ []) }
         ensures locations { IfOk result (λ memo. memo.locations ≡ []) }
         ensures refused { IfErr result (λ refusal. IsTooLong refusal (IsStripeCount stripes)) }
@@ -85,12 +99,15 @@ impl<V: Value> Memo<V> {
             blank,
             entries: Table::new(alloc),
             copies: Table::new(alloc),
+            total: None,
+            grown: 0,
+            shrunk: 0,
             log: Log::new(alloc),
             ready: None,
         })
     }
 
-    /// Whether the key of the call is held. It takes no memory.
+    /// Whether the key of the call is held, or for the number of all keys their counts. It takes no memory.
     pub fn holds(&self, op: &Op<V>) -> bool
         ensures { result ≡ holds self.now op.now }
     {
@@ -101,37 +118,60 @@ impl<V: Value> Memo<V> {
             (Base::Bag(_), Op::Count(element) | Op::Add(element) | Op::Take(element)) => {
                 self.copies.get(*element).is_some()
             }
+            (Base::Map(_), Op::Len) => self.total.is_some(),
             _ => false,
         }
     }
 
-    /// Holds from now on a key that was touched; one that is held stays as it is. A memo that is refused memory stays as it was.
+    /// Holds from now on a key that was touched, or the counts of all; what is held stays as it is. A memo that is refused memory stays
+    /// as it was.
     pub fn add(&mut self, held: Touched<V>) -> Result<(), Memory>
         ensures blank { self.new.blank ≡ self.old.blank }
         ensures entries { OnOk result (self.new.entries ≡ with_entry held self.old.entries) }
         ensures copies { OnOk result (self.new.copies ≡ with_count held self.old.copies) }
         ensures changes { self.new.changes ≡ self.old.changes }
         ensures locations { self.new.locations ≡ self.old.locations }
-        ensures err { OnErr result ((self.new.entries ≡ self.old.entries) × (self.new.copies ≡ self.old.copies)) }
+        ensures total { OnOk result (self.new.total ≡ with_total held self.old.total) }
+        ensures grown { self.new.grown ≡ self.old.grown }
+        ensures shrunk { self.new.shrunk ≡ self.old.shrunk }
+        ensures err { OnErr result
+            ((self.new.entries ≡ self.old.entries) × (self.new.copies ≡ self.old.copies) × (self.new.total ≡ self.old.total)) }
     {
         self.ready = None;
         match held {
             Touched::Entry(key, value) => hold(&mut self.entries, key, value),
             Touched::Copies(element, copies) => hold(&mut self.copies, element, copies),
+            Touched::Counts(counts) => hold_total(&mut self.total, &counts),
         }
     }
 
-    /// What the call answers by what is kept of its key. A call that is not on one key of the memo's kind is refused as NoSuch.
+    /// What the call answers by what is kept of its key, or of the number of all. A call of another kind than the memo's is refused
+    /// as NoSuch.
     pub fn answer(&self, op: &Op<V>) -> Result<Outcome<V>, Refusal>
-        ensures ok { IfOk result (λ outcome. answer_by (shown_of self.now.blank) self.now.entries self.now.copies op.now ≡ Some outcome) }
-        ensures refused { IfErr result
-            (λ refusal. IsRefusal refusal (answer_by (shown_of self.now.blank) self.now.entries self.now.copies op.now ≡ None)) }
+        ensures ok { IfOk result (λ outcome.
+            answer_with (shown_of self.now.blank) self.now.entries self.now.copies self.now.total self.now.grown self.now.shrunk op.now
+            ≡ Some outcome) }
+        ensures refused { IfErr result (λ refusal. IsRefusal refusal
+            (answer_with (shown_of self.now.blank) self.now.entries self.now.copies self.now.total self.now.grown self.now.shrunk op.now
+            ≡ None)) }
     {
-        match &self.blank {
-            Base::Map(_) => entry_outcome(&self.entries, op),
-            Base::Bag(_) => count_outcome(&self.copies, op),
-            Base::Pq(_) | Base::Queue(_) => Err(Refusal::NoSuch),
+        match (&self.blank, op) {
+            (Base::Map(_), Op::Len) => Ok(Outcome {
+                op: Op::Len,
+                reply: Reply::Number(self.keys()),
+                note: Note::Plain,
+            }),
+            (Base::Map(_), _) => entry_outcome(&self.entries, op),
+            (Base::Bag(_), _) => count_outcome(&self.copies, op),
+            _ => Err(Refusal::NoSuch),
         }
+    }
+
+    // How many keys there are after the accepted calls, where that is held.
+    fn keys(&self) -> u64
+        ensures { result ≡ unwrap_or self.now.total 0 + self.now.grown - self.now.shrunk }
+    {
+        (self.total.unwrap_or(0) + self.grown).saturating_sub(self.shrunk)
     }
 
     /// Makes ready what accepting the outcome will take. The memo stays as it is, also where memory is refused.
@@ -140,10 +180,16 @@ impl<V: Value> Memo<V> {
         ensures blank { self.new.blank ≡ self.old.blank }
         ensures entries { self.new.entries ≡ self.old.entries }
         ensures copies { self.new.copies ≡ self.old.copies }
+        ensures total { self.new.total ≡ self.old.total }
+        ensures grown { self.new.grown ≡ self.old.grown }
+        ensures shrunk { self.new.shrunk ≡ self.old.shrunk }
         ensures changes { self.new.changes ≡ self.old.changes }
         ensures locations { self.new.locations ≡ self.old.locations }
     {
         self.ready = None;
+        if self.grown >= KEY_LIMIT || self.shrunk >= KEY_LIMIT {
+            return Err(Memory);
+        }
         let changes = self.blank.changes(outcome)?;
         let written = self.blank.writes(outcome)?;
         self.entries.reserve(1)?;
@@ -160,6 +206,9 @@ impl<V: Value> Memo<V> {
         requires ready { IsReadyFor outcome self.old }
         ensures entries { self.new.entries ≡ entries_kept (shown_of self.old.blank) outcome self.old.entries }
         ensures copies { self.new.copies ≡ copies_kept (shown_of self.old.blank) outcome self.old.copies }
+        ensures total { self.new.total ≡ self.old.total }
+        ensures grown { self.new.grown ≡ grown_kept (shown_of self.old.blank) outcome self.old.grown }
+        ensures shrunk { self.new.shrunk ≡ shrunk_kept (shown_of self.old.blank) outcome self.old.shrunk }
         ensures blank { self.new.blank ≡ self.old.blank }
         ensures changes { self.new.changes ≡ self.old.changes ++ changes_of outcome (shown_of self.old.blank) }
         ensures locations { self.new.locations
@@ -168,11 +217,21 @@ impl<V: Value> Memo<V> {
         if let Some(ready) = self.ready.take() {
             self.log.append(ready.changes, &ready.written);
             match &self.blank {
-                Base::Map(_) => keep_entry(&mut self.entries, outcome),
+                Base::Map(_) => {
+                    count_entry(&mut self.grown, &mut self.shrunk, &outcome);
+                    keep_entry(&mut self.entries, outcome);
+                }
                 Base::Bag(_) => keep_copies(&mut self.copies, &outcome),
                 Base::Pq(_) | Base::Queue(_) => {}
             }
         }
+    }
+
+    /// The accepted changes, in order: what a base has to be prepared for.
+    pub fn changes(&self) -> &[Change<V>]
+        ensures { result.now ≡ self.now.changes }
+    {
+        self.log.changes()
     }
 
     /// The log of the accepted changes.
@@ -194,6 +253,32 @@ fn hold<A: Drop>(known: &mut Table<A>, key: u64, value: A) -> Result<(), Memory>
         known.insert_reserved(key, value);
     }
     Ok(())
+}
+
+fn hold_total(total: &mut Option<u64>, counts: &Items<u64>) -> Result<(), Memory>
+    ensures ok { OnOk result (total.new ≡ with_counts counts.now total.old) }
+    ensures err { OnErr result (total.new ≡ total.old) }
+    ensures small { IsTold total.old → IsTold total.new }
+{
+    if total.is_none() {
+        *total = Some(sum_of(counts)?);
+    }
+    Ok(())
+}
+
+// How many keys there are by these counts. More than a memory can hold are refused.
+fn sum_of(counts: &Items<u64>) -> Result<u64, Memory>
+    ensures sum { IfOk result (λ total. total ≡ sum counts.now) }
+    ensures small { IfOk result (λ total. total < 2 ^ 63) }
+{
+    let mut total: u64 = 0;
+    for count in counts.as_slice() {
+        total = total.checked_add(*count).ok_or(Memory)?;
+    }
+    if total >= KEY_LIMIT {
+        return Err(Memory);
+    }
+    Ok(total)
 }
 
 fn entry_outcome<V: Value>(entries: &Table<Option<V>>, op: &Op<V>) -> Result<Outcome<V>, Refusal>
@@ -239,6 +324,20 @@ fn count_of(table: &Table<u64>, element: u64) -> u64
     ensures { result ≡ copies table.now.contents element }
 {
     table.get(element).copied().unwrap_or(0)
+}
+
+fn count_entry<V: Drop>(grown: &mut u64, shrunk: &mut u64, outcome: &Outcome<V>)
+    requires grown { grown.old < 2 ^ 63 }
+    requires shrunk { shrunk.old < 2 ^ 63 }
+    ensures grown { grown.new ≡ grown_after outcome.now.op outcome.now.reply grown.old }
+    ensures shrunk { shrunk.new ≡ shrunk_after outcome.now.op outcome.now.reply shrunk.old }
+    ensures small { grown.new ≤ 2 ^ 63 }
+{
+    match (&outcome.op, &outcome.reply) {
+        (Op::Put(_, _), Reply::Nothing) => *grown += 1,
+        (Op::Remove(_), Reply::Value(_)) => *shrunk += 1,
+        _ => {}
+    }
 }
 
 fn keep_entry<V: Drop>(entries: &mut Table<Option<V>>, outcome: Outcome<V>)

@@ -4,7 +4,7 @@ ghost use Rattle.seq_model.specs.Calls.{IsRefusal};
 ghost use Rattle.replay_log.specs.Base.{after, changes_of, editions_of, outcome_of, shown_of, stripes_of, writes_of};
 ghost use Rattle.shadow.specs.Shadow.{IsReadyFor};
 
-use conflict::{Changes, LocSet, Outcome};
+use conflict::{Change, Changes, LocSet, Outcome};
 use replay_log::{Base, Log};
 use seq_model::{Memory, Op, Refusal, Value};
 use std::alloc::Global;
@@ -38,7 +38,13 @@ impl<V> Model for Shadow<V> {
 
     ghost Value = { ShadowView V };
 
-    ghost coded = { Prim.hlevel (codes, map.code {R = nat_cmp} coded_ℕ V.code, map.code {R = nat_cmp} coded_ℕ coded_ℕ, pq.shown_code, queue.shown_code) };
+    ghost coded = { Prim.hlevel (
+      codes,
+      map.code {R = nat_cmp} coded_ℕ V.code,
+      map.code {R = nat_cmp} coded_ℕ coded_ℕ,
+      pq.shown_code,
+      queue.shown_code,
+    ) };
 
     ghost view = { λ a. record {
       base = a.base;
@@ -120,6 +126,13 @@ impl<V: Value> Shadow<V> {
             self.base.replay(ready.own, &self.none);
             self.log.append(ready.logged, &ready.written);
         }
+    }
+
+    /// The accepted changes, in order: what a base has to be prepared for.
+    pub fn changes(&self) -> &[Change<V>]
+        ensures { result.now ≡ self.now.changes }
+    {
+        self.log.changes()
     }
 
     /// The log of the accepted changes.

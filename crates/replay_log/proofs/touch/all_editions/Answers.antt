@@ -1,0 +1,13 @@
+use Rattle.std.proofs.Common.{◌++◌, ◌∷◌, [], ap, ◌∙◌}
+use Rattle.conflict.specs.Footprints.{all_below}
+use Rattle.replay_log.specs.Touches.{editions_at}
+use Rattle.replay_log.proofs.TouchLemmas.{editions_next}
+use Rattle.replay_log.proofs.touch.all_editions.Goals as goal
+
+pub loop-location-preserved : goal.loop-location-preserved
+loop-location-preserved g c =
+    let l = c.loop-location.location in
+    let es = c.args.base.now.editions in
+    c.in_ok-push.ensures.ok
+    ∙ (λ i. c.loop-location.invariant i ++ (l, c.edition.ensures i) ∷ [])
+    ∙ editions_next es l
