@@ -87,20 +87,20 @@ module _ {V : Type 0} where
   after_none (OfPq m) = refl
   after_none (OfQueue m) = refl
 
-  after_both : (cs ds : List (Change V)) (s : Shown V) → after (cs ++ ds) s ≡ after ds (after cs s)
+  pub after_both : (cs ds : List (Change V)) (s : Shown V) → after (cs ++ ds) s ≡ after ds (after cs s)
   after_both cs ds (OfMap m) = ap OfMap (fold-append _ m cs ds)
   after_both cs ds (OfBag m) = ap OfBag (fold-append _ m cs ds)
   after_both cs ds (OfPq m) = ap OfPq (fold-append _ m cs ds)
   after_both cs ds (OfQueue m) = ap OfQueue (fold-append _ m cs ds)
 
-  kind_stays : (cs : List (Change V)) (s : Shown V) → kind_of (after cs s) ≡ kind_of s
+  pub kind_stays : (cs : List (Change V)) (s : Shown V) → kind_of (after cs s) ≡ kind_of s
   kind_stays cs (OfMap m) = refl
   kind_stays cs (OfBag m) = refl
   kind_stays cs (OfPq m) = refl
   kind_stays cs (OfQueue m) = refl
 
   -- what an outcome changes and writes is known by the kind alone
-  changes_by : (k : Kind) (n : ℕ) (o : Outcome V) (s : Shown V) → kind_of s ≡ k → changes_of o (whole n k (λ i. OfMap empty))
+  pub changes_by : (k : Kind) (n : ℕ) (o : Outcome V) (s : Shown V) → kind_of s ≡ k → changes_of o (whole n k (λ i. OfMap empty))
       ≡ changes_of o s
   changes_by MapKind n o (OfMap m) e = refl
   changes_by BagKind n o (OfBag m) e = refl
@@ -108,7 +108,7 @@ module _ {V : Type 0} where
   changes_by QueueKind n o (OfQueue m) e = refl
   changes_by k n o s e = absurd (let z : ⊥ = cc in z)
 
-  writes_by : (k : Kind) (n : ℕ) (o : Outcome V) (s : Shown V) → kind_of s ≡ k → writes_of n o (whole n k (λ i. OfMap empty))
+  pub writes_by : (k : Kind) (n : ℕ) (o : Outcome V) (s : Shown V) → kind_of s ≡ k → writes_of n o (whole n k (λ i. OfMap empty))
       ≡ writes_of n o s
   writes_by MapKind n o (OfMap m) e = refl
   writes_by BagKind n o (OfBag m) e = refl
@@ -168,7 +168,7 @@ module _ {V : Type 0} where
         (λ m. true≢false (sym (eq-eqb o.asked.collection k (its_home o i lt m)) ∙ t))
         ∙ (shows i lt ∙ sym (ap (part b.stripes i) (after_none s)))
 
-    shows_log : (os : List (Answered V)) (v : ℕ → Shown V) (s : Shown V) → kind_of s ≡ b.kind
+    pub shows_log : (os : List (Answered V)) (v : ℕ → Shown V) (s : Shown V) → kind_of s ≡ b.kind
         → ((i : ℕ) → i < size b → v (first_of n bs k + i) ≡ part b.stripes i s) → (i : ℕ) → i < size b
         → changes (content n bs) os v (first_of n bs k + i) ≡ part b.stripes i (after (log_changes k b os) s)
     shows_log [] v s kind shows i lt = shows i lt ∙ sym (ap (part b.stripes i) (after_none s))

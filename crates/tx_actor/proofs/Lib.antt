@@ -1,3 +1,6 @@
 mod JudgedLemmas
 mod RunsLemmas
 mod ShowsLemmas
+mod CopiesLemmas
+mod AcceptsLemmas
+mod CopyingLemmas

@@ -1,3 +1,5 @@
 pub mod Judged
 pub mod Shows
 pub mod Running
+pub mod Copies
+pub mod Accepts

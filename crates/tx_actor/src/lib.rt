@@ -5,11 +5,15 @@
 #![tactic(auto)]
 
 mod actor;
+mod calls;
+mod copies;
 mod ending;
 mod judged;
 pub mod laws;
 mod steps;
 
 pub use actor::{Answered, Asked, Piece, Stage, Told, TxActor};
+pub use calls::has_room;
+pub use copies::{Copied, Found, find};
 pub use ending::cancel;
 pub use judged::{Judged, go_on, judge};
