@@ -1,3 +1,5 @@
+mod DispatchLemmas
 mod JudgedLemmas
 mod RunsLemmas
 mod ShowsLemmas
+mod StepLemmas

@@ -1,3 +1,4 @@
 pub mod Judged
 pub mod Shows
 pub mod Running
+pub mod Dispatch

@@ -1,4 +1,5 @@
 //! The law of the definitions that the contracts cite.
+ghost use Rattle.tx_actor.specs.Dispatch.{AreSteps};
 ghost use Rattle.tx_actor.specs.Judged.{IsJudged};
 ghost use Rattle.tx_actor.specs.Shows.{GivesUp, AsksStores, CopiesForCall, ReadsNext};
 
@@ -26,4 +27,10 @@ pub fn copies_as_worlds<V>()
 /// A location that no set has is read next, in every world that shows the actor.
 pub fn reads_next_as_worlds<V>()
     ensures { ReadsNext V }
+{}
+
+/// A step of the definitions is the atomic action that is due, on the word or the gate that [`crate::Next`] names, and then what the
+/// methods of the stages make of it; the load of a call's location apart.
+pub fn steps_as_worlds<V>()
+    ensures { AreSteps V }
 {}

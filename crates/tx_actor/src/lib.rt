@@ -5,11 +5,15 @@
 #![tactic(auto)]
 
 mod actor;
+mod dispatch;
 mod ending;
 mod judged;
 pub mod laws;
+mod next;
+mod notice;
 mod steps;
 
 pub use actor::{Answered, Asked, Piece, Stage, Told, TxActor};
 pub use ending::cancel;
 pub use judged::{Judged, go_on, judge};
+pub use next::Next;
