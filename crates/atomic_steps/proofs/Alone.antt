@@ -3,7 +3,8 @@
 -- A world that is alike to an actor is so still with a number planted in a word, or a gate with its base: none of these is the actor's
 -- own, but a gate that it holds, which stays. And the actor's next step finds there what was planted. So `own_event` says that it leaves
 -- and tells the same.
-use Rattle.std.proofs.Common.{◌≡◌, ℕ, suc, true, false, List, [], ◌∷◌, Option, Some, None, inl, inr, ⊎_elim, refl, sym, ap, ◌∙◌, subst, eqb, eq-eqb, ne_eqb, true≢false, arith}
+use Rattle.std.proofs.Common.{◌≡◌, ℕ, suc, true, false, List, [], ◌∷◌, Option, Some, None, inl, inr, ⊎_elim, refl, sym, ap, ◌∙◌, subst, eqb}
+use Rattle.std.proofs.Common.{eq-eqb, ne_eqb, true≢false, arith}
 use Rattle.std.specs.Prelude.{if◌then◌else◌, ◌==◌}
 use Rattle.std.proofs.lemmas.Bool.{cond_both, cond-true, cases_eq}
 use Rattle.vlock_word.specs.LockWord.{bits, unbits}
@@ -25,7 +26,8 @@ use Rattle.replay_log.specs.WorldCalls.{with_editions}
 use Rattle.atomic_steps.specs.Machine.{SameWord}
 use Rattle.atomic_steps.specs.Own.{Alike, SameAfter, SameCopy, FindsBy, FindsAt}
 use Rattle.atomic_steps.specs.Steps.{Does, atomic_action, ready_at}
-use Rattle.atomic_steps.specs.Spots.{Spot, Nowhere, Word, Gate, spot_of, deed_of, word_spot, spot_by, gate_word, with_word, found_gate, spot_at, number_at, planted, given}
+use Rattle.atomic_steps.specs.Spots.{Spot, Nowhere, Word, Gate, spot_of, deed_of, word_spot, spot_by, gate_word, with_word, found_gate}
+use Rattle.atomic_steps.specs.Spots.{spot_at, number_at, planted, given}
 use Rattle.atomic_steps.proofs.OwnEvents.{own_event}
 use Rattle.atomic_steps.proofs.OneStep.{ask_calm, one_step}
 

@@ -4,7 +4,9 @@
 -- parts), an outcome on another leaves them, and a log is one outcome after another. Editions: by the machine's invariant the write set
 -- has a location of the collection exactly where an outcome writes it, that is where the log was pushed with it, and there the fold
 -- raises the edition by one, as the world does.
-use Rattle.std.proofs.Common.{◌≡◌, ℕ, zero, suc, pred, ◌+◌, ◌-◌, ◌<◌, ◌≤◌, Bool, true, false, ltb, List, [], ◌∷◌, ◌++◌, Option, Some, None, ⊎_elim, refl, sym, ap, ◌∙◌, subst, arith, true≢false, eq-eqb, eqb-true, length, length-set, append-nil, append_assoc, ltb-true, ltb-false, get_or, set}
+use Rattle.std.proofs.Common.{◌≡◌, ℕ, zero, suc, pred, ◌+◌, ◌-◌, ◌<◌, ◌≤◌, Bool, true, false, ltb, List, [], ◌∷◌, ◌++◌, Option, Some, None}
+use Rattle.std.proofs.Common.{⊎_elim, refl, sym, ap, ◌∙◌, subst, arith, true≢false, eq-eqb, eqb-true, length, length-set, append-nil}
+use Rattle.std.proofs.Common.{append_assoc, ltb-true, ltb-false, get_or, set}
 use Rattle.std.specs.Prelude.{Contains, ◌==◌, ◌||◌, not, nat_lt, if◌then◌else◌}
 use Rattle.std.specs.FinMap.{empty}
 use Rattle.std.proofs.lemmas.Bool.{cond-true, cond-false, cond_both, cases_Bool}
@@ -27,7 +29,8 @@ use Rattle.replay_log.specs.declared.base.Base.{Base}
 use Rattle.replay_log.specs.Base.{Shown, OfMap, OfBag, OfPq, OfQueue, after, changes_of, editions_of, shown_of, writes_of}
 use Rattle.replay_log.specs.Guards.{IsAllowed, step_action}
 use Rattle.replay_log.specs.Parts.{Kind, MapKind, BagKind, PqKind, QueueKind, kind_of, part, whole}
-use Rattle.replay_log.specs.Contents.{Block, Answered, HaveStripes, block_of, end_of, first_of, home_of, is_plain, content, size, shifted, blank, seen, changed, writes_in}
+use Rattle.replay_log.specs.Contents.{Block, Answered, HaveStripes, block_of, end_of, first_of, home_of, is_plain, content, size, shifted}
+use Rattle.replay_log.specs.Contents.{blank, seen, changed, writes_in}
 use Rattle.replay_log.specs.Seats.{World, Stage, Ready, actor_of}
 use Rattle.replay_log.specs.Worlds.{happens, opened, run}
 use Rattle.replay_log.proofs.PartLemmas.{is_whole, leaves_other_parts, whole_local}
@@ -84,20 +87,20 @@ module _ {V : Type 0} where
   after_none (OfPq m) = refl
   after_none (OfQueue m) = refl
 
-  after_both : (cs ds : List (Change V)) (s : Shown V) → after (cs ++ ds) s ≡ after ds (after cs s)
+  pub after_both : (cs ds : List (Change V)) (s : Shown V) → after (cs ++ ds) s ≡ after ds (after cs s)
   after_both cs ds (OfMap m) = ap OfMap (fold-append _ m cs ds)
   after_both cs ds (OfBag m) = ap OfBag (fold-append _ m cs ds)
   after_both cs ds (OfPq m) = ap OfPq (fold-append _ m cs ds)
   after_both cs ds (OfQueue m) = ap OfQueue (fold-append _ m cs ds)
 
-  kind_stays : (cs : List (Change V)) (s : Shown V) → kind_of (after cs s) ≡ kind_of s
+  pub kind_stays : (cs : List (Change V)) (s : Shown V) → kind_of (after cs s) ≡ kind_of s
   kind_stays cs (OfMap m) = refl
   kind_stays cs (OfBag m) = refl
   kind_stays cs (OfPq m) = refl
   kind_stays cs (OfQueue m) = refl
 
   -- what an outcome changes and writes is known by the kind alone
-  changes_by : (k : Kind) (n : ℕ) (o : Outcome V) (s : Shown V) → kind_of s ≡ k → changes_of o (whole n k (λ i. OfMap empty))
+  pub changes_by : (k : Kind) (n : ℕ) (o : Outcome V) (s : Shown V) → kind_of s ≡ k → changes_of o (whole n k (λ i. OfMap empty))
       ≡ changes_of o s
   changes_by MapKind n o (OfMap m) e = refl
   changes_by BagKind n o (OfBag m) e = refl
@@ -105,7 +108,7 @@ module _ {V : Type 0} where
   changes_by QueueKind n o (OfQueue m) e = refl
   changes_by k n o s e = absurd (let z : ⊥ = cc in z)
 
-  writes_by : (k : Kind) (n : ℕ) (o : Outcome V) (s : Shown V) → kind_of s ≡ k → writes_of n o (whole n k (λ i. OfMap empty))
+  pub writes_by : (k : Kind) (n : ℕ) (o : Outcome V) (s : Shown V) → kind_of s ≡ k → writes_of n o (whole n k (λ i. OfMap empty))
       ≡ writes_of n o s
   writes_by MapKind n o (OfMap m) e = refl
   writes_by BagKind n o (OfBag m) e = refl
@@ -165,7 +168,7 @@ module _ {V : Type 0} where
         (λ m. true≢false (sym (eq-eqb o.asked.collection k (its_home o i lt m)) ∙ t))
         ∙ (shows i lt ∙ sym (ap (part b.stripes i) (after_none s)))
 
-    shows_log : (os : List (Answered V)) (v : ℕ → Shown V) (s : Shown V) → kind_of s ≡ b.kind
+    pub shows_log : (os : List (Answered V)) (v : ℕ → Shown V) (s : Shown V) → kind_of s ≡ b.kind
         → ((i : ℕ) → i < size b → v (first_of n bs k + i) ≡ part b.stripes i s) → (i : ℕ) → i < size b
         → changes (content n bs) os v (first_of n bs k + i) ≡ part b.stripes i (after (log_changes k b os) s)
     shows_log [] v s kind shows i lt = shows i lt ∙ sym (ap (part b.stripes i) (after_none s))

@@ -2,15 +2,19 @@
 --
 -- An actor may advance it once, from its begin to the number of its commit. A request gives no such right but by a begin, whose step
 -- finds the clock below the limit; the step that advances the clock uses the right up, and no other step gives it back.
-use Rattle.std.proofs.Common.{◌≡◌, ℕ, ◌+◌, ◌<◌, ◌≤◌, ◌⊎◌, ltb, ltb-true, nat_le, Option, Some, None, List, [], ◌∷◌, refl, ap, inl, inr, arith}
+use Rattle.std.proofs.Common.{◌≡◌, ℕ, ◌+◌, ◌<◌, ◌≤◌, ◌⊎◌, ltb, ltb-true, nat_le, Option, Some, None, List, [], ◌∷◌, refl, ap, inl, inr}
+use Rattle.std.proofs.Common.{arith}
 use Rattle.std.proofs.lemmas.Bool.{cond_both}
 use Rattle.tx_sets.specs.Entries.{Entries, lookup}
 use Rattle.vlock_word.specs.declared.lock_word.LockWord.{LockWord}
 use Rattle.vlock_word.specs.declared.lock_word.LockWord.TheVariants.{Free, Locked}
 use Rattle.vlock_word.specs.LockWord.{unbits}
-use Rattle.word_machine.specs.Actor.{Actor, Place, Idle, Begin, Open, Look, Fetch, Again, Lock, Take, Check, Broken, First, Store, Release, Undo, Leave, Close, clock_limit, goes, opened, begun, seen, seen_again, seen_to_lock, seen_in_check}
-use Rattle.word_machine.specs.Requests.{Request, AskBegin, AskBeginRead, AskLock, AskStore, AskRelease, AskCancel, AskAbort, AskClose, AskRead, AskWrite, ask, read, write, lock, close, abort}
-use Rattle.word_machine.specs.World.{Deed, Rests, LoadClock, AddToClock, LoadLock, LoadValue, ExchangeLock, StoreValue, StoreLock, plan, first_store, release, undo}
+use Rattle.word_machine.specs.Actor.{Actor, Place, Idle, Begin, Open, Look, Fetch, Again, Lock, Take, Check, Broken, First, Store, Release}
+use Rattle.word_machine.specs.Actor.{Undo, Leave, Close, clock_limit, goes, opened, begun, seen, seen_again, seen_to_lock, seen_in_check}
+use Rattle.word_machine.specs.Requests.{Request, AskBegin, AskBeginRead, AskLock, AskStore, AskRelease, AskCancel, AskAbort, AskClose}
+use Rattle.word_machine.specs.Requests.{AskRead, AskWrite, ask, read, write, lock, close, abort}
+use Rattle.word_machine.specs.World.{Deed, Rests, LoadClock, AddToClock, LoadLock, LoadValue, ExchangeLock, StoreValue, StoreLock, plan}
+use Rattle.word_machine.specs.World.{first_store, release, undo}
 use Rattle.word_machine.specs.Cells.{ClockCell, word_of, becomes, learns}
 use Rattle.atomic_steps.specs.Clock.{stamps_left}
 

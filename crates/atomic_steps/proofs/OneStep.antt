@@ -3,7 +3,8 @@
 -- The definitions do the action that is due, if any, and what they add is the actor's own: requests to its machine, calls taken over
 -- into its shadow, its seat. Each of these leaves all that is shared, and other actors; so does one after another (`through`). The
 -- lemmas that end in `_by` say it of each function of the definitions, from a world that has so changed on.
-use Rattle.std.proofs.Common.{◌≡◌, ℕ, zero, suc, ◌+◌, Bool, true, false, ◌&&◌, List, [], ◌∷◌, ◌++◌, Option, Some, None, ◌≢◌, refl, ap, ◌∙◌, eqb, ltb, length, ◌≤◌, le_refl, arith}
+use Rattle.std.proofs.Common.{◌≡◌, ℕ, zero, suc, ◌+◌, Bool, true, false, ◌&&◌, List, [], ◌∷◌, ◌++◌, Option, Some, None, ◌≢◌, refl, ap, ◌∙◌}
+use Rattle.std.proofs.Common.{eqb, ltb, length, ◌≤◌, le_refl, arith}
 use Rattle.std.proofs.lemmas.Bool.{cond_both}
 use Rattle.tx_sets.specs.Entries.{Entries, lookup}
 use Rattle.word_machine.specs.Actor.{Actor}
@@ -12,7 +13,8 @@ use Rattle.word_machine.specs.World as machine
 use Rattle.word_machine.specs.World.{plan}
 use Rattle.word_machine.specs.Cells.{Cell, ClockCell, LockCell, ValueCell, cell}
 use Rattle.word_machine.specs.Notices as told
-use Rattle.word_machine.specs.Notices.{notice, begin_notice, look_notice, again_notice, when_none_left, lock_notice, take_notice, check_notice}
+use Rattle.word_machine.specs.Notices.{notice, begin_notice, look_notice, again_notice, when_none_left, lock_notice, take_notice}
+use Rattle.word_machine.specs.Notices.{check_notice}
 use Rattle.word_machine.proofs.Sets.{put-same, put-other}
 use Rattle.seq_model.specs.declared.call.Op.{Op}
 use Rattle.seq_model.specs.declared.call.Op.TheVariants.{Read, Write}
@@ -28,8 +30,11 @@ use Rattle.collection_machine.specs.Boosted.{Boosted, PutGate, Accept, is_open, 
 use Rattle.replay_log.specs.Base.{Shown}
 use Rattle.replay_log.specs.Contents.{Asked, Answered as Outcomes, content, is_plain}
 use Rattle.replay_log.specs.Pieces.{piece_at, covers_at}
-use Rattle.replay_log.specs.Seats.{World, Seat, Stage, Idle, Beginning, Open, Locking, Releasing, Closing, Cancelling, Leaving, Reading, Trying, Copying, Loading, Gating, Ready, Storing, Homing, Returning, After, no_one, at_stage, because, seated, acted, asks, moves, actor_of, word_notice}
-use Rattle.replay_log.specs.WorldCalls.{has_room, with_editions, is_fresh, judges, with_piece, reads, outcome_at, sized_by, loads, answers, calls_on, if_allowed, ask_op, has_read, has_loaded}
+use Rattle.replay_log.specs.Seats.{World, Seat, Stage, Idle, Beginning, Open, Locking, Releasing, Closing, Cancelling, Leaving, Reading}
+use Rattle.replay_log.specs.Seats.{Trying, Copying, Loading, Gating, Ready, Storing, Homing, Returning, After, no_one, at_stage, because}
+use Rattle.replay_log.specs.Seats.{seated, acted, asks, moves, actor_of, word_notice}
+use Rattle.replay_log.specs.WorldCalls.{has_room, with_editions, is_fresh, judges, with_piece, reads, outcome_at, sized_by, loads, answers}
+use Rattle.replay_log.specs.WorldCalls.{calls_on, if_allowed, ask_op, has_read, has_loaded}
 use Rattle.replay_log.specs.WorldEnds.{cancels, gives_up, has_tried, has_cancelled}
 use Rattle.replay_log.specs.WorldCommits.{commits, recorded, takes_gates, has_locked, goes_home, has_stored, has_released}
 use Rattle.replay_log.specs.Worlds.{ask_at, has_begun, step_at, starve_at}

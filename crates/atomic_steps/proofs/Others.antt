@@ -2,7 +2,8 @@
 --
 -- An atomic action of one actor leaves the others' records and shadows. A gate that it takes was free, one that it gives back was its
 -- own, so no gate of another comes or goes. What follows the action leaves the others by `one_step`.
-use Rattle.std.proofs.Common.{◌≡◌, ◌≢◌, ℕ, Bool, true, false, ◌&&◌, List, [], ◌∷◌, Option, Some, None, ⊎_elim, refl, sym, ap, ◌∙◌, subst, ne_eqb, eqb-true, true≢false}
+use Rattle.std.proofs.Common.{◌≡◌, ◌≢◌, ℕ, Bool, true, false, ◌&&◌, List, [], ◌∷◌, Option, Some, None, ⊎_elim, refl, sym, ap, ◌∙◌, subst}
+use Rattle.std.proofs.Common.{ne_eqb, eqb-true, true≢false}
 use Rattle.std.specs.Prelude.{if◌then◌else◌, not}
 use Rattle.std.proofs.lemmas.Bool.{cond_both, cases_eq}
 use Rattle.word_machine.specs.Actor.{Actor, Place, Begin}
@@ -13,7 +14,9 @@ use Rattle.word_machine.proofs.Answered.{step_other}
 use Rattle.word_machine.proofs.Sets.{put-same, put-other}
 use Rattle.seq_model.specs.declared.event.Event.{Event}
 use Rattle.seq_model.specs.declared.event.Event.TheVariants.{Ask, Step, Starve}
-use Rattle.collection_machine.specs.Boosted.{Boosted, Shadow, Action, OnWords, TakeGate, PutGate, Accept, GoHome, is_actor, is_none, is_open, is_stored, is_committing, fresh, shadows_after, recorded, word_step, gated, homed, copied}
+use Rattle.collection_machine.specs.Boosted.{Boosted, Shadow, Action, OnWords, TakeGate, PutGate, Accept, GoHome, is_actor, is_none}
+use Rattle.collection_machine.specs.Boosted.{is_open, is_stored, is_committing, fresh, shadows_after, recorded, word_step, gated, homed}
+use Rattle.collection_machine.specs.Boosted.{copied}
 use Rattle.replay_log.specs.Base.{Shown}
 use Rattle.replay_log.specs.Contents.{Asked, Answered, content}
 use Rattle.replay_log.specs.WorldProgress.{whose}

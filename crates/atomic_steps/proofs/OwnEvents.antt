@@ -3,7 +3,8 @@
 -- The definitions read the actor's seat, its machine's record and shadow, the shape of the world and what the machine's step told; so
 -- each function of them, given the same of these, leaves worlds that are alike to the actor, and tells the same. The machine's own part
 -- is `own_action`.
-use Rattle.std.proofs.Common.{◌≡◌, ℕ, zero, suc, ◌+◌, Bool, true, false, ◌&&◌, ◌||◌, List, [], ◌∷◌, ◌++◌, Option, Some, None, refl, sym, ap, ◌∙◌, subst, eqb, ltb, length}
+use Rattle.std.proofs.Common.{◌≡◌, ℕ, zero, suc, ◌+◌, Bool, true, false, ◌&&◌, ◌||◌, List, [], ◌∷◌, ◌++◌, Option, Some, None, refl, sym, ap}
+use Rattle.std.proofs.Common.{◌∙◌, subst, eqb, ltb, length}
 use Rattle.std.proofs.lemmas.Bool.{cond_both}
 use Rattle.std.specs.Prelude.{if◌then◌else◌, not, filter}
 use Rattle.tx_sets.specs.Entries.{Entries, lookup, locations}
@@ -17,7 +18,8 @@ use Rattle.word_machine.specs.World as machine
 use Rattle.word_machine.specs.World.{plan}
 use Rattle.word_machine.specs.Cells.{Cell, ClockCell, LockCell, cell, word_of}
 use Rattle.word_machine.specs.Notices as told
-use Rattle.word_machine.specs.Notices.{notice, begin_notice, look_notice, again_notice, when_none_left, lock_notice, take_notice, check_notice}
+use Rattle.word_machine.specs.Notices.{notice, begin_notice, look_notice, again_notice, when_none_left, lock_notice, take_notice}
+use Rattle.word_machine.specs.Notices.{check_notice}
 use Rattle.word_machine.proofs.Sets.{put-same}
 use Rattle.seq_model.specs.declared.call.Op.{Op}
 use Rattle.seq_model.specs.declared.call.Op.TheVariants.{Read, Write}
@@ -32,14 +34,20 @@ use Rattle.seq_model.specs.declared.event.Notice.{Notice}
 use Rattle.seq_model.specs.declared.event.Notice.TheVariants.{Quiet}
 use Rattle.seq_model.specs.declared.limits.TheConstants.{CALL_LIMIT}
 use Rattle.collection_machine.specs.Content.{Content}
-use Rattle.collection_machine.specs.Boosted.{Boosted, Shadow, Action, TakeGate, PutGate, Accept, GoHome, acts, changes, is_none, is_actor, is_open, is_committing, gated, copied}
+use Rattle.collection_machine.specs.Boosted.{Boosted, Shadow, Action, TakeGate, PutGate, Accept, GoHome, acts, changes, is_none, is_actor}
+use Rattle.collection_machine.specs.Boosted.{is_open, is_committing, gated, copied}
 use Rattle.replay_log.specs.Base.{Shown}
 use Rattle.replay_log.specs.Contents.{Block, Asked, Answered as Outcomes, block_of, content, home_of, is_plain}
 use Rattle.replay_log.specs.Pieces.{piece_at, covers_at}
-use Rattle.replay_log.specs.Seats.{World, Seat, Stage, Idle, Beginning, Open, Locking, Releasing, Closing, Cancelling, Leaving, Reading, Trying, Copying, Loading, Gating, Ready, Storing, Homing, Returning, After, no_one, at_stage, because, seated, acted, asks, moves, actor_of, word_notice}
-use Rattle.replay_log.specs.WorldCalls.{fits, has_room, may_ask, with_editions, is_fresh, is_stale, judges, with_piece, replied, reads, outcome_at, sized_by, loads, answers, calls_on, is_known, if_allowed, ask_op, has_read, has_copied, has_loaded}
+use Rattle.replay_log.specs.Seats.{World, Seat, Stage, Idle, Beginning, Open, Locking, Releasing, Closing, Cancelling, Leaving, Reading}
+use Rattle.replay_log.specs.Seats.{Trying, Copying, Loading, Gating, Ready, Storing, Homing, Returning, After, no_one, at_stage, because}
+use Rattle.replay_log.specs.Seats.{seated, acted, asks, moves, actor_of, word_notice}
+use Rattle.replay_log.specs.WorldCalls.{fits, has_room, may_ask, with_editions, is_fresh, is_stale, judges, with_piece, replied, reads}
+use Rattle.replay_log.specs.WorldCalls.{outcome_at, sized_by, loads, answers, calls_on, is_known, if_allowed, ask_op, has_read, has_copied}
+use Rattle.replay_log.specs.WorldCalls.{has_loaded}
 use Rattle.replay_log.specs.WorldEnds.{is_leaving, cancels, gives_up, ended, has_tried, has_cancelled}
-use Rattle.replay_log.specs.WorldCommits.{distinct, all_of, commits, recorded, written_homes, takes_gates, has_locked, goes_home, has_stored, has_released}
+use Rattle.replay_log.specs.WorldCommits.{distinct, all_of, commits, recorded, written_homes, takes_gates, has_locked, goes_home}
+use Rattle.replay_log.specs.WorldCommits.{has_stored, has_released}
 use Rattle.replay_log.specs.Worlds.{ask_at, has_begun, step_at, starve_at, happens}
 use Rattle.atomic_steps.specs.Machine.{AlikeBelow, FindsBelow, SameWord}
 use Rattle.atomic_steps.specs.Own.{Alike, SameAfter, SameCopy, FindsAt, Finds}

@@ -12,7 +12,8 @@ use Rattle.word_machine.specs.Cells.{Cell, cell, word_of, becomes}
 use Rattle.word_machine.proofs.Cells.{step_cell, step_becomes}
 use Rattle.word_machine.proofs.Sets.{put-other}
 use Rattle.seq_model.specs.declared.event.Event.TheVariants as event
-use Rattle.collection_machine.specs.Boosted.{Boosted, Action, OnWords, TakeGate, PutGate, Accept, GoHome, is_actor, is_none, is_open, is_stored, is_committing, shadows_after, recorded, gated, homed, copied}
+use Rattle.collection_machine.specs.Boosted.{Boosted, Action, OnWords, TakeGate, PutGate, Accept, GoHome, is_actor, is_none, is_open}
+use Rattle.collection_machine.specs.Boosted.{is_stored, is_committing, shadows_after, recorded, gated, homed, copied}
 use Rattle.replay_log.specs.Base.{Shown}
 use Rattle.replay_log.specs.Contents.{Asked, Answered, content, home_of}
 use Rattle.replay_log.specs.Seats.{World, Seat, Stage, Closing, Leaving, Ready, acted, moves, actor_of}

@@ -4,7 +4,8 @@
 -- it, which grows the clock as `pays` says; on a gate it is what the machine's action makes of the gate and its base, where its guard
 -- holds. What goes home is a function of the base and of the actor's own record and outcomes, since changes of one collection's parts
 -- depend on its parts alone.
-use Rattle.std.proofs.Common.{◌≡◌, ◌⊎◌, ℕ, ◌+◌, ◌≤◌, ◌<◌, true, false, ◌&&◌, List, [], ◌∷◌, Option, Some, None, inl, inr, ⊎_elim, refl, sym, ap, ◌∙◌, subst, eqb, eq-eqb, eqb-true, true≢false, arith}
+use Rattle.std.proofs.Common.{◌≡◌, ◌⊎◌, ℕ, ◌+◌, ◌≤◌, ◌<◌, true, false, ◌&&◌, List, [], ◌∷◌, Option, Some, None, inl, inr, ⊎_elim, refl, sym}
+use Rattle.std.proofs.Common.{ap, ◌∙◌, subst, eqb, eq-eqb, eqb-true, true≢false, arith}
 use Rattle.std.specs.Prelude.{if◌then◌else◌, not, ◌==◌}
 use Rattle.std.proofs.lemmas.Bool.{cond-true, cond-false, cases_Bool}
 use Rattle.tx_sets.specs.Entries.{lookup}
@@ -16,7 +17,8 @@ use Rattle.word_machine.proofs.Cells.{step_cell, step_learns}
 use Rattle.word_machine.proofs.Sets.{put-same}
 use Rattle.seq_model.specs.declared.event.Event.TheVariants as event
 use Rattle.collection_machine.specs.Content.{Content, Frame, IsIn, has}
-use Rattle.collection_machine.specs.Boosted.{Boosted, Action, OnWords, TakeGate, PutGate, Accept, GoHome, is_actor, is_none, is_open, is_stored, is_committing, shadows_after, gated, homed, copied, changes}
+use Rattle.collection_machine.specs.Boosted.{Boosted, Action, OnWords, TakeGate, PutGate, Accept, GoHome, is_actor, is_none, is_open}
+use Rattle.collection_machine.specs.Boosted.{is_stored, is_committing, shadows_after, gated, homed, copied, changes}
 use Rattle.replay_log.specs.Base.{Shown}
 use Rattle.replay_log.specs.Contents.{Asked, Answered, HaveStripes, content, home_of}
 use Rattle.replay_log.specs.Seats.{World, Seat, Stage, Closing, Leaving, Ready, acted, moves, actor_of}

@@ -67,21 +67,26 @@ pub fn word_becomes<V>()
 pub fn gate_becomes<V>()
     ensures tried { (v : World V) (a k : ℕ) → Tries v a k → is_committing (actor_of v a).place ≡ false →
         Gated a k v (happens v (Step a)).0 (if is_none (v.boosted.gates k) then Some a else v.boosted.gates k) }
-    ensures back { (v : World V) (a k : ℕ) → Puts v a k → is_actor a (v.boosted.gates k) ≡ true → is_committing (actor_of v a).place ≡ false →
+    ensures back { (v : World V) (a k : ℕ) → Puts v a k → is_actor a (v.boosted.gates k) ≡ true →
+        is_committing (actor_of v a).place ≡ false →
         Gated a k v (happens v (Step a)).0 None }
-    ensures home { (v : World V) (a k : ℕ) → GoesHome v a k → is_actor a (v.boosted.gates k) ≡ true → is_stored (actor_of v a).place ≡ true →
+    ensures home { (v : World V) (a k : ℕ) → GoesHome v a k → is_actor a (v.boosted.gates k) ≡ true →
+        is_stored (actor_of v a).place ≡ true →
         Homed a k v (happens v (Step a)).0 }
 {}
 
 /// The guards that [`gate_becomes`] asks for hold in each world that events have reached, and in each that is alike to the actor there.
 pub fn gates_are_due<V>()
-    ensures tried { (blocks : List Block) (clock : ℕ) (values : List ℕ) (held : List (Held V)) (events : List (Event V)) (a k : ℕ) (t : World V) →
+    ensures tried { (blocks : List Block) (clock : ℕ) (values : List ℕ) (held : List (Held V)) (events : List (Event V)) (a k : ℕ)
+        (t : World V) →
         HaveStripes blocks → Alike a (run (opened blocks clock values held) events) t →
         Tries t a k → is_committing (actor_of t a).place ≡ false }
-    ensures back { (blocks : List Block) (clock : ℕ) (values : List ℕ) (held : List (Held V)) (events : List (Event V)) (a k : ℕ) (t : World V) →
+    ensures back { (blocks : List Block) (clock : ℕ) (values : List ℕ) (held : List (Held V)) (events : List (Event V)) (a k : ℕ)
+        (t : World V) →
         HaveStripes blocks → Alike a (run (opened blocks clock values held) events) t →
         Puts t a k → (is_actor a (t.boosted.gates k) ≡ true) × (is_committing (actor_of t a).place ≡ false) }
-    ensures home { (blocks : List Block) (clock : ℕ) (values : List ℕ) (held : List (Held V)) (events : List (Event V)) (a k : ℕ) (t : World V) →
+    ensures home { (blocks : List Block) (clock : ℕ) (values : List ℕ) (held : List (Held V)) (events : List (Event V)) (a k : ℕ)
+        (t : World V) →
         HaveStripes blocks → Alike a (run (opened blocks clock values held) events) t →
         GoesHome t a k → (is_actor a (t.boosted.gates k) ≡ true) × (is_stored (actor_of t a).place ≡ true) }
 {}
@@ -90,7 +95,8 @@ pub fn gates_are_due<V>()
 /// that are alike to the actor, an event that finds the same tells the same, and leaves worlds that are alike to it. So do the
 /// machine's actions.
 pub fn own_part<V, X, Op, Out>()
-    ensures events { (a : ℕ) (v u : World V) (event : Event V) → Alike a v u → Finds a v u event → SameAfter a (happens v event) (happens u event) }
+    ensures events { (a : ℕ) (v u : World V) (event : Event V) → Alike a v u → Finds a v u event →
+        SameAfter a (happens v event) (happens u event) }
     ensures actions { (c : Content X Op Out) (a : ℕ) (s t : Boosted X Out) (action : Action Op) →
         AlikeBelow a s t → FindsBelow c a s t action → AlikeBelow a (acts c s action) (acts c t action) }
 {}
@@ -125,7 +131,8 @@ pub fn changes_at_home<V, X, Op, Out>()
     ensures parts { (c : Content X Op Out) → Frame c → (k : ℕ) (outcomes : List Out) (u v : ℕ → X) →
         ((l : ℕ) → c.plain l ≡ false → c.home l ≡ k → u l ≡ v l) →
         (l : ℕ) → c.plain l ≡ false → c.home l ≡ k → changes c outcomes u l ≡ changes c outcomes v l }
-    ensures homes { (a k : ℕ) (v w : World V) → HaveStripes v.blocks → Alike a v w → SameBase (content v.words v.blocks) k v.boosted w.boosted →
+    ensures homes { (a k : ℕ) (v w : World V) → HaveStripes v.blocks → Alike a v w →
+        SameBase (content v.words v.blocks) k v.boosted w.boosted →
         Homed a k v (happens v (Step a)).0 → Homed a k w (happens w (Step a)).0 →
         SameBase (content v.words v.blocks) k (happens v (Step a)).0.boosted (happens w (Step a)).0.boosted }
 {}
@@ -135,7 +142,8 @@ pub fn changes_at_home<V, X, Op, Out>()
 /// log is that of the transaction's calls on the collection, one after another. So it is in a world that events have reached, and in
 /// each that is alike to the actor there, as its own is.
 pub fn goes_home_as_folded<V>()
-    ensures home { (blocks : List Block) (clock : ℕ) (values : List ℕ) (held : List (Held V)) (events : List (Event V)) (a k : ℕ) (b : Block)
+    ensures home { (blocks : List Block) (clock : ℕ) (values : List ℕ) (held : List (Held V)) (events : List (Event V)) (a k : ℕ)
+        (b : Block)
         (before now : Base V) (t : World V) → HaveStripes blocks → Alike a (run (opened blocks clock values held) events) t →
         let outcomes = (t.boosted.shadows a).outcomes in
         GoesHome t a k → block_of t.blocks k ≡ Some b → IsBaseOf b before → ShowsBase t.words t.blocks t k before →

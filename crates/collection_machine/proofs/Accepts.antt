@@ -17,10 +17,12 @@ use Rattle.word_machine.proofs.Calls.{first_read-more}
 use Rattle.word_machine.proofs.Frame.{Moved}
 use Rattle.word_machine.proofs.Schedules.{happens_ok}
 use Rattle.collection_machine.specs.Content.{Content, IsIn, Frame}
-use Rattle.collection_machine.specs.Boosted.{Shadow, Boosted, changes, is_open, is_edition, is_sound, every, writes_asked, may_write, longer, accepted}
+use Rattle.collection_machine.specs.Boosted.{Shadow, Boosted, changes, is_open, is_edition, is_sound, every, writes_asked, may_write}
+use Rattle.collection_machine.specs.Boosted.{longer, accepted}
 use Rattle.collection_machine.proofs.Frame.{worded, Led, no_commit}
 use Rattle.collection_machine.specs.Serial.{IsRead}
-use Rattle.collection_machine.proofs.Parts.{AllOut_map, changes_agree, AreLegal-add, IsRead-add, IsRead-old, IsRead-new, IsWritten-old, IsWritten-new, Untouched-add, all_read}
+use Rattle.collection_machine.proofs.Parts.{AllOut_map, changes_agree, AreLegal-add, IsRead-add, IsRead-old, IsRead-new, IsWritten-old}
+use Rattle.collection_machine.proofs.Parts.{IsWritten-new, Untouched-add, all_read}
 use Rattle.collection_machine.proofs.Invariant.{IsFirst, IsRelease, Inv}
 use Rattle.collection_machine.proofs.Quiet.{led_none, both, every_in, edition_is, open_is}
 

@@ -1,7 +1,8 @@
 -- The commit of a writer, and of a reader. The word machine says where the record goes in the order and that what the
 -- transaction read is good just before its number (a writer) or at it (a reader); so the outcomes are legal there. No later
 -- record writes what it writes, so its changes pass through those, and from now on they are owed to the bases.
-use Rattle.std.proofs.Common.{◌≡◌, ℕ, ◌+◌, ◌-◌, ◌<◌, ◌≤◌, Bool, true, false, Option, Some, None, List, [], ◌∷◌, ◌⊎◌, inl, inr, refl, sym, ap, ◌∙◌, subst, true≢false, arith}
+use Rattle.std.proofs.Common.{◌≡◌, ℕ, ◌+◌, ◌-◌, ◌<◌, ◌≤◌, Bool, true, false, Option, Some, None, List, [], ◌∷◌, ◌⊎◌, inl, inr, refl, sym}
+use Rattle.std.proofs.Common.{ap, ◌∙◌, subst, true≢false, arith}
 use Rattle.std.proofs.lemmas.Bool.{cases_Bool, cond_both}
 use Rattle.vlock_word.specs.LockWord.{version_of}
 use Rattle.tx_sets.specs.Entries.{Entries, lookup, locations}
@@ -13,7 +14,8 @@ use Rattle.word_machine.proofs.Saw.{first_read_seen, first_read_good}
 use Rattle.word_machine.proofs.Sets.{put-same, put-other}
 use Rattle.word_machine.proofs.Calls.{touched, final}
 use Rattle.collection_machine.proofs.Editions.{IsEdition, IsEdition-next, IsEdition-other}
-use Rattle.word_machine.proofs.Records.{finals, stamp, base, IsNew, AllRecords, AllRecords_map, AllRecords-insert, settled_all, finals_untouched, finals_touched}
+use Rattle.word_machine.proofs.Records.{finals, stamp, base, IsNew, AllRecords, AllRecords_map, AllRecords-insert, settled_all}
+use Rattle.word_machine.proofs.Records.{finals_untouched, finals_touched}
 use Rattle.word_machine.proofs.Quiet.{none_if, lookup-none}
 use Rattle.word_machine.proofs.Frame.{Moved}
 use Rattle.word_machine.proofs.Moves.{writer_keeps, first_ok, closed_ok}
@@ -24,7 +26,8 @@ use Rattle.collection_machine.specs.Boosted.{Committed, Boosted, changes, record
 use Rattle.collection_machine.proofs.Frame.{worded, Keeps, Led, ShadowOk-kept, records_kept, aborted_kept, by_actor}
 use Rattle.collection_machine.specs.Serial.{words, view, views}
 use Rattle.collection_machine.proofs.Parts.{written_does, untouched_does, Fits, local_part}
-use Rattle.collection_machine.proofs.Views.{IsLast, words-insert, AllFit-insert, Knows-insert, view_insert_other, view_insert_own, views_all, views_at, quiet_above}
+use Rattle.collection_machine.proofs.Views.{IsLast, words-insert, AllFit-insert, Knows-insert, view_insert_other, view_insert_own}
+use Rattle.collection_machine.proofs.Views.{views_all, views_at, quiet_above}
 use Rattle.collection_machine.proofs.Invariant.{SawParts, ShadowOk, GatesOk, IsFirst, IsRelease, IsHome, AllCommitted, Exact, Inv}
 use Rattle.collection_machine.proofs.Homes.{all_past}
 

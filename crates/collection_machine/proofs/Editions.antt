@@ -1,12 +1,14 @@
 -- A value that each writer raises by one counts the writers. So between two numbers at which a location has one edition
 -- nobody wrote it; and as the numbers of writers rise in commit order, there are no more writers than numbers.
-use Rattle.std.proofs.Common.{◌≡◌, ℕ, ◌+◌, ◌<◌, ◌≤◌, true, false, leb, List, [], ◌∷◌, inl, inr, refl, sym, ◌∙◌, arith, le-leb, max, true≢false}
+use Rattle.std.proofs.Common.{◌≡◌, ℕ, ◌+◌, ◌<◌, ◌≤◌, true, false, leb, List, [], ◌∷◌, inl, inr, refl, sym, ◌∙◌, arith, le-leb, max}
+use Rattle.std.proofs.Common.{true≢false}
 use Rattle.std.specs.Prelude.{nat_le, if◌then◌else◌}
 use Rattle.std.proofs.lemmas.Bool.{lt-leb, cond_both, cond-true, cond-false, cases_Bool, cases_lt}
 use Rattle.word_machine.specs.World.{Record, insert, comes_before}
 use Rattle.word_machine.specs.Opacity.{AllFrom, IsInOrder}
 use Rattle.word_machine.proofs.Calls.{touched, final}
-use Rattle.word_machine.proofs.Records.{settled, finals, stamp, settled_all, settled_later, settled_untouched, stamp_touched, finals_touched, IsNew, AllRecords}
+use Rattle.word_machine.proofs.Records.{settled, finals, stamp, settled_all, settled_later, settled_untouched, stamp_touched}
+use Rattle.word_machine.proofs.Records.{finals_touched, IsNew, AllRecords}
 
 -- 1 where r writes l and has a number of at most n
 abbrev pub one : Record → ℕ → ℕ → ℕ

@@ -1,23 +1,29 @@
 -- The actions that commit nothing and change no base. One lemma says what such an action must leave for the invariant to
 -- stand; then each of them, a request, a begin, a step that is no commit, an end, a gate taken or put back, is shown to leave it.
-use Rattle.std.proofs.Common.{◌≡◌, ℕ, ◌+◌, ltb, Bool, true, false, Option, Some, None, List, [], ◌∷◌, ◌++◌, ◌⊎◌, inl, inr, refl, sym, ap, ◌∙◌, subst, true≢false, eqb-true, eq-eqb}
+use Rattle.std.proofs.Common.{◌≡◌, ℕ, ◌+◌, ltb, Bool, true, false, Option, Some, None, List, [], ◌∷◌, ◌++◌, ◌⊎◌, inl, inr, refl, sym, ap}
+use Rattle.std.proofs.Common.{◌∙◌, subst, true≢false, eqb-true, eq-eqb}
 use Rattle.std.specs.Prelude.{◌&&◌, ◌||◌, not, ◌==◌, nat_lt, if◌then◌else◌}
 use Rattle.std.proofs.lemmas.Bool.{cases_eq, cases_Bool, cond_both, cond-true, cond-false}
 use Rattle.tx_sets.specs.Entries.{Entries, lookup, with_entry, locations}
-use Rattle.word_machine.specs.Actor.{Call, Write, Place, Idle, Begin, Open, Check, First, Store, Release, Leave, Actor, goes, opened, clock_limit}
-use Rattle.word_machine.specs.Requests.{wrote, write, Request, AskBegin, AskBeginRead, AskRead, AskWrite, AskLock, AskStore, AskRelease, AskCancel, AskAbort, AskClose, ask}
+use Rattle.word_machine.specs.Actor.{Call, Write, Place, Idle, Begin, Open, Check, First, Store, Release, Leave, Actor, goes, opened}
+use Rattle.word_machine.specs.Actor.{clock_limit}
+use Rattle.word_machine.specs.Requests.{wrote, write, Request, AskBegin, AskBeginRead, AskRead, AskWrite, AskLock, AskStore, AskRelease}
+use Rattle.word_machine.specs.Requests.{AskCancel, AskAbort, AskClose, ask}
 use Rattle.word_machine.specs.World.{put, Ended, World, now, step, Ask}
 use Rattle.word_machine.specs.Opacity.{IsHalfDone, first_read}
 use Rattle.word_machine.proofs.Calls.{first_read-more}
 use Rattle.word_machine.proofs.Saw.{first_read_good}
-use Rattle.word_machine.proofs.Sets.{put_both, put-same, put-other, Member, member_locations, lookup-with_entry_same, lookup-with_entry_other}
+use Rattle.word_machine.proofs.Sets.{put_both, put-same, put-other, Member, member_locations, lookup-with_entry_same}
+use Rattle.word_machine.proofs.Sets.{lookup-with_entry_other}
 use Rattle.word_machine.proofs.Invariant.{Good}
 use Rattle.word_machine.proofs.Invariant as machine
 use Rattle.word_machine.proofs.Frame.{Moved, quiet}
 use Rattle.word_machine.proofs.Quiet.{none_if, lookup-none, ask_ok, begin_ok}
 use Rattle.word_machine.proofs.Schedules.{happens_ok, step_ok}
 use Rattle.collection_machine.specs.Content.{Content, IsIn}
-use Rattle.collection_machine.specs.Boosted.{Aborted, Shadow, Boosted, on_words, on_ask, fresh, gated, is_committing, is_open, is_actor, is_none, is_edition, is_held, is_given, is_copied, copied, every, take_gate, put_gate, word_step}
+use Rattle.collection_machine.specs.Boosted.{Aborted, Shadow, Boosted, on_words, on_ask, fresh, gated, is_committing, is_open, is_actor}
+use Rattle.collection_machine.specs.Boosted.{is_none, is_edition, is_held, is_given, is_copied, copied, every, take_gate, put_gate}
+use Rattle.collection_machine.specs.Boosted.{word_step}
 use Rattle.collection_machine.proofs.Frame.{worded, Led, Quietly, no_commit, gated_ok, by_actor}
 use Rattle.collection_machine.specs.Serial.{IsRead, ended, AllAborted}
 use Rattle.collection_machine.proofs.Invariant.{Known, SawParts, ShadowOk, GatesOk, Inv}

@@ -5,13 +5,18 @@ use Rattle.std.specs.Prelude.{◌&&◌, not, if◌then◌else◌}
 use Rattle.std.proofs.lemmas.Bool.{cond_both}
 use Rattle.tx_sets.specs.Entries.{locations}
 use Rattle.word_machine.specs.Actor.{Place}
-use Rattle.word_machine.specs.Requests.{Request, AskBegin, AskBeginRead, AskRead, AskWrite, AskLock, AskStore, AskRelease, AskCancel, AskAbort, AskClose}
+use Rattle.word_machine.specs.Requests.{Request, AskBegin, AskBeginRead, AskRead, AskWrite, AskLock, AskStore, AskRelease, AskCancel}
+use Rattle.word_machine.specs.Requests.{AskAbort, AskClose}
 use Rattle.word_machine.specs.World.{Memory, Outcome, GoesOn, Commits, Aborts, outcome, put, World, step, Event, Ask, Step, happens, run}
 use Rattle.word_machine.specs.Opacity.{NoWriterHas}
 use Rattle.word_machine.specs.Refusals.{IsEnding}
 use Rattle.word_machine.proofs.Numbers as machine
+use Rattle.word_machine.proofs.Numbers.{GivesUp}
 use Rattle.collection_machine.specs.Content.{Content, Frame}
-use Rattle.collection_machine.specs.Boosted.{may_write, Boosted, Action, OnWords, TakeGate, PutGate, Accept, GoHome, on_words, on_ask, shadows_after, recorded, word_step, changes, acts, act_all, is_held, is_given, every, is_open, is_sound, writes_asked, is_none, is_committing, is_actor, is_stored, copied, gated, homed, opens}
+use Rattle.collection_machine.specs.Boosted.{may_write, Boosted, Action, OnWords, TakeGate, PutGate, Accept, GoHome, on_words, on_ask}
+use Rattle.collection_machine.specs.Boosted.{shadows_after, recorded, word_step, changes, acts, act_all, is_held, is_given, every, is_open}
+use Rattle.collection_machine.specs.Boosted.{is_sound, writes_asked, is_none, is_committing, is_actor, is_stored, copied, gated, homed}
+use Rattle.collection_machine.specs.Boosted.{opens}
 use Rattle.collection_machine.specs.Serial.{words, after_actions}
 use Rattle.collection_machine.proofs.Frame.{worded}
 use Rattle.collection_machine.proofs.Schedules.{all_ok, opens_ok}
@@ -94,3 +99,15 @@ module _ {X Op Out : Type 0} (c : Content X Op Out) where
       (subst (λ (z : World). NoWriterHas (s.words.actors a).wv z.history) (sym q.1)
       (subst (λ (z : World). NoWriterHas (z.actors a).wv (run q.0 z).history) (sym r.1)
       (machine.unused_later clock memory r.0 q.0 a (subst (λ (z : World). IsEnding (z.actors a).place) r.1 ends))))
+
+  pub unused_yet : Frame c → (clock : ℕ) (memory : Memory) (parts : ℕ → X) (actions : List (Action Op)) (a : ℕ)
+      → GivesUp ((after_actions c clock memory parts actions).words.actors a).place
+      → NoWriterHas ((after_actions c clock memory parts actions).words.actors a).wv
+      (words (after_actions c clock memory parts actions).history)
+  unused_yet f clock memory parts actions a at =
+      let s = after_actions c clock memory parts actions in
+      let r = all_run actions (opens clock memory parts) in
+      let v = all_ok c f actions (opens clock memory parts) (opens_ok c f clock memory parts) in
+      subst (NoWriterHas (s.words.actors a).wv) (sym v.same)
+      (subst (λ (z : World). NoWriterHas (z.actors a).wv z.history) (sym r.1)
+      (machine.unused_yet clock memory r.0 a (subst (λ (z : World). GivesUp (z.actors a).place) r.1 at)))

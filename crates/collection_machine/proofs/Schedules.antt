@@ -1,7 +1,8 @@
 -- Every action, and every schedule. Each action has its lemma in the files beside; here one lemma goes through the
 -- actions, and an induction through the list. What a transaction saw is known for ever, so it stands at every later moment; and
 -- the records, each of which saw the parts of the number before its own, are a run.
-use Rattle.std.proofs.Common.{◌≡◌, ℕ, ◌+◌, ◌-◌, ◌<◌, ◌≤◌, leb, Bool, true, false, List, [], ◌∷◌, inl, inr, refl, sym, ap, ◌∙◌, subst, true≢false, arith, le-leb}
+use Rattle.std.proofs.Common.{◌≡◌, ℕ, ◌+◌, ◌-◌, ◌<◌, ◌≤◌, leb, Bool, true, false, List, [], ◌∷◌, inl, inr, refl, sym, ap, ◌∙◌, subst}
+use Rattle.std.proofs.Common.{true≢false, arith, le-leb}
 use Rattle.std.specs.Prelude.{nat_le, if◌then◌else◌}
 use Rattle.std.proofs.lemmas.Bool.{cond_both, cond-true, cond-false, lt-leb, cases_lt, cases_Bool}
 use Rattle.word_machine.specs.Actor.{Call, Place, Begin, First, Leave, Close}
@@ -13,7 +14,8 @@ use Rattle.word_machine.proofs.Invariant.{Good, Saw, PlaceOk, RecordOk}
 use Rattle.word_machine.proofs.Schedules.{step_ok, start_ok}
 use Rattle.word_machine.proofs.Quiet.{lookup-none}
 use Rattle.collection_machine.specs.Content.{Content, Frame}
-use Rattle.collection_machine.specs.Boosted.{Committed, Aborted, Boosted, Action, OnWords, TakeGate, PutGate, Accept, GoHome, changes, word_step, acts, act_all, opens}
+use Rattle.collection_machine.specs.Boosted.{Committed, Aborted, Boosted, Action, OnWords, TakeGate, PutGate, Accept, GoHome, changes}
+use Rattle.collection_machine.specs.Boosted.{word_step, acts, act_all, opens}
 use Rattle.collection_machine.specs.Serial.{does_write, edition_at, words, view, views, AreLegal, AreRun, AllAborted}
 use Rattle.collection_machine.proofs.Parts.{Fits, AllFit, AreLegal-same, only}
 use Rattle.collection_machine.proofs.Views.{view_still}

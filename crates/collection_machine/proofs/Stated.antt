@@ -6,7 +6,7 @@ use Rattle.word_machine.specs.Opacity.{IsInOrder, IsNoneHalfDone}
 use Rattle.collection_machine.specs.Content.{Content, Frame}
 use Rattle.collection_machine.specs.Boosted.{Boosted, Action, act_all, opens}
 use Rattle.collection_machine.specs.Serial.{AreLegal, AreRun, AllAborted, words, view, views}
-use Rattle.collection_machine.proofs.States.{Model, AreAll, AreReplies, after_all, state_at}
+use Rattle.collection_machine.proofs.States.{Sequential, Model, AreAll, AreReplies, after_all, state_at}
 use Rattle.collection_machine.proofs.Invariant.{Inv}
 use Rattle.collection_machine.proofs.Quiet.{saw_open}
 use Rattle.collection_machine.proofs.Schedules.{all_ok, all_saw, all-opening, opens_ok, legal_parts, are_run, aborted_legal, at_rest}
@@ -35,37 +35,37 @@ reached c f clock memory parts actions =
     let v = opens_ok c f clock memory parts in
     opened c f parts (act_all c actions b) (all_ok c f actions b v) (all-opening c f actions b v).0
 
-module _ {X Op Out S R : Type 0} (c : Content X Op Out) (f : Frame c) (m : Model c S R) (clock : ℕ) (memory : Memory) (opening : S)
-    (actions : List (Action Op)) where
+module _ {X Op Out S R : Type 0} (c : Content X Op Out) (f : Frame c) (q : Sequential Op Out S R) (Fits : S → Type 0) (m : Model c q Fits)
+    (clock : ℕ) (memory : Memory) (opening : S) (fit : Fits opening) (actions : List (Action Op)) where
   abbrev world : Boosted X Out
   world = act_all c actions (opens clock memory (m.shown opening))
 
-  pub states_serial : AreAll c m opening world.history
-  states_serial = (run_of c f m world.history (m.shown opening) opening (λ l. refl)
+  pub states_serial : AreAll q opening world.history
+  states_serial = (run_of c f q Fits m world.history (m.shown opening) opening fit (λ l. refl)
       (reached c f clock memory (m.shown opening) actions).runs).0
 
   pub states_left : IsNoneHalfDone world.words → (l : ℕ) → c.plain l ≡ false → world.parts l
-      ≡ m.shown (after_all c m opening world.history) l
+      ≡ m.shown (after_all q opening world.history) l
   states_left none l pl =
       let r = reached c f clock memory (m.shown opening) actions in
       sym (at_rest c f world r.inv none l pl).0 ∙ ap (λ (z : ℕ → X). views c world.history z l) r.opening
-      ∙ (run_of c f m world.history (m.shown opening) opening (λ l. refl) r.runs).1 l
+      ∙ (run_of c f q Fits m world.history (m.shown opening) opening fit (λ l. refl) r.runs).1 l
 
-  pub states_saw : (later : List (Action Op)) (a : ℕ) → AreReplies c m
-      (state_at c m (act_all c later world).history (world.words.actors a).rv opening) (world.shadows a).outcomes
+  pub states_saw : (later : List (Action Op)) (a : ℕ) → AreReplies q
+      (state_at q (act_all c later world).history (world.words.actors a).rv opening) (world.shadows a).outcomes
   states_saw later a =
       let r = reached c f clock memory (m.shown opening) actions in
       let t = act_all c later world in
-      let q = opened c f (m.shown opening) t (all_ok c f later world r.inv) ((all-opening c f later world r.inv).0 ∙ r.opening) in
+      let o = opened c f (m.shown opening) t (all_ok c f later world r.inv) ((all-opening c f later world r.inv).0 ∙ r.opening) in
       let n = (world.words.actors a).rv in
       let os = (world.shadows a).outcomes in
-      replies_at c f m t.history n opening os q.runs q.order
-      (subst (λ (z : ℕ → X). AreLegal c (view c t.history n z) os) q.opening
-      (legal_parts c f t n os q.inv (all_saw c f later world n os r.inv (saw_open c world a r.inv))))
+      replies_at c f q Fits m t.history n opening os fit o.runs o.order
+      (subst (λ (z : ℕ → X). AreLegal c (view c t.history n z) os) o.opening
+      (legal_parts c f t n os o.inv (all_saw c f later world n os r.inv (saw_open c world a r.inv))))
 
-  pub states_aborted : AllAborted (λ e. AreReplies c m (state_at c m world.history e.word.rv opening) e.outcomes) world.aborted
+  pub states_aborted : AllAborted (λ e. AreReplies q (state_at q world.history e.word.rv opening) e.outcomes) world.aborted
   states_aborted =
       let r = reached c f clock memory (m.shown opening) actions in
-      aborted_at c f m world.history opening world.aborted r.runs r.order
+      aborted_at c f q Fits m world.history opening world.aborted fit r.runs r.order
       (subst (λ (z : ℕ → X). AllAborted (λ e. AreLegal c (view c world.history e.word.rv z) e.outcomes) world.aborted) r.opening
       (aborted_legal c f world world.aborted r.inv r.inv.aborted))

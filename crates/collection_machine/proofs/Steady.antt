@@ -7,8 +7,10 @@ use Rattle.std.specs.Prelude.{unwrap_or, ◌+◌, nat_le, if◌then◌else◌}
 use Rattle.vlock_word.specs.declared.lock_word.LockWord.{LockWord}
 use Rattle.vlock_word.specs.declared.lock_word.LockWord.TheVariants.{Free, Locked}
 use Rattle.tx_sets.specs.Entries.{Entries, lookup, locations}
-use Rattle.word_machine.specs.Actor.{Read, Place, Idle, Begin, Open, Look, Fetch, Again, Lock, Take, Check, Broken, First, Store, Release, Undo, Leave, Close, Actor, goes, has_read, taken, to_check, stamped_at, freed}
-use Rattle.word_machine.specs.Requests.{Request, AskBegin, AskBeginRead, AskRead, AskWrite, AskLock, AskStore, AskRelease, AskCancel, AskAbort, AskClose, ask, begin, read, lock, close, abort, replied}
+use Rattle.word_machine.specs.Actor.{Read, Place, Idle, Begin, Open, Look, Fetch, Again, Lock, Take, Check, Broken, First, Store, Release}
+use Rattle.word_machine.specs.Actor.{Undo, Leave, Close, Actor, goes, has_read, taken, to_check, stamped_at, freed}
+use Rattle.word_machine.specs.Requests.{Request, AskBegin, AskBeginRead, AskRead, AskWrite, AskLock, AskStore, AskRelease, AskCancel}
+use Rattle.word_machine.specs.Requests.{AskAbort, AskClose, ask, begin, read, lock, close, abort, replied}
 use Rattle.word_machine.specs.World.{Memory, put, Ended, World, now, step}
 use Rattle.word_machine.proofs.Worlds.{looked, looked_again, to_lock, locked, tried, checked, released, undone, gives_back}
 use Rattle.word_machine.specs.Opacity.{IsHalfDone}

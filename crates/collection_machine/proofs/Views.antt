@@ -1,13 +1,15 @@
 -- What a history leaves of parts, and a commit put in its place. In the middle of the order a record changes the parts that
 -- it writes, and no later record writes these; other parts it leaves. So what was known of a part by its edition stays known.
-use Rattle.std.proofs.Common.{◌≡◌, ℕ, ◌-◌, ◌<◌, ◌≤◌, true, false, leb, List, [], ◌∷◌, inl, inr, refl, sym, ap, ◌∙◌, arith, true≢false, leb-false, leb-true, le-leb}
+use Rattle.std.proofs.Common.{◌≡◌, ℕ, ◌-◌, ◌<◌, ◌≤◌, true, false, leb, List, [], ◌∷◌, inl, inr, refl, sym, ap, ◌∙◌, arith, true≢false}
+use Rattle.std.proofs.Common.{leb-false, leb-true, le-leb}
 use Rattle.std.specs.Prelude.{nat_le, if◌then◌else◌}
 use Rattle.std.proofs.lemmas.Bool.{lt-leb, cond_both, cond-true, cond-false, cases_Bool, cases_lt}
 use Rattle.word_machine.specs.World.{Record, insert, comes_before}
 use Rattle.word_machine.specs.Opacity.{AllFrom, IsInOrder}
 use Rattle.word_machine.proofs.Calls.{touched}
 use Rattle.collection_machine.proofs.Editions.{IsEdition, count, no_writer}
-use Rattle.word_machine.proofs.Records.{AllRecords, AllRecords_map, settled, finals, stamp, settled_all, settled_later, settled_untouched, stamp_head, stamp_rest, stamp_touched, IsNew, in_order-before, in_order-after, AllFrom_through}
+use Rattle.word_machine.proofs.Records.{AllRecords, AllRecords_map, settled, finals, stamp, settled_all, settled_later, settled_untouched}
+use Rattle.word_machine.proofs.Records.{stamp_head, stamp_rest, stamp_touched, IsNew, in_order-before, in_order-after, AllFrom_through}
 use Rattle.collection_machine.specs.Content.{Content, Frame}
 use Rattle.collection_machine.specs.Boosted.{Committed, changes, insert_commit}
 use Rattle.collection_machine.specs.Serial.{words, view, views}

@@ -1,9 +1,11 @@
 -- Collections beside the word machine: gates, bases and shadows, and small guarded actions on them, each at most one atomic step.
-use Rattle.std.specs.Prelude.{ℕ, ◌+◌, Bool, true, false, ◌&&◌, ◌||◌, not, Option, Some, None, List, [], ◌∷◌, ◌++◌, ◌==◌, nat_lt, if◌then◌else◌}
+use Rattle.std.specs.Prelude.{ℕ, ◌+◌, Bool, true, false, ◌&&◌, ◌||◌, not, Option, Some, None, List, [], ◌∷◌, ◌++◌, ◌==◌, nat_lt}
+use Rattle.std.specs.Prelude.{if◌then◌else◌}
 use Rattle.tx_sets.specs.Entries.{lookup, locations}
 use Rattle.word_machine.specs.Actor.{Call, Place, Begin, Open, First, Store, Release, Actor, clock_limit}
 use Rattle.word_machine.specs.Requests.{Request, AskStore, AskRelease, AskWrite, ask}
-use Rattle.word_machine.specs.World.{Memory, Record, Ended, World, Event, Ask, Step, Outcome, GoesOn, Commits, Aborts, put, comes_before, now, outcome, step, run, start}
+use Rattle.word_machine.specs.World.{Memory, Record, Ended, World, Event, Ask, Step, Outcome, GoesOn, Commits, Aborts, put, comes_before}
+use Rattle.word_machine.specs.World.{now, outcome, step, run, start}
 use Rattle.word_machine.specs.Opacity.{first_read}
 use Rattle.collection_machine.specs.Content.{Content}
 

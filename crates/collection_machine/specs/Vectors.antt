@@ -1,7 +1,8 @@
 -- Schedules of actions, computed by the definitions: a word at location 0, and one collection of numbers at the others.
 use Rattle.std.specs.Prelude.{◌≡◌, ℕ, zero, suc, ◌+◌, true, false, Option, Some, None, List, [], ◌∷◌, ◌++◌, ◌==◌, refl}
 use Rattle.tx_sets.specs.Entries.{lookup, with_entry, locations}
-use Rattle.word_machine.specs.Requests.{Request, AskBegin, AskBeginRead, AskRead, AskWrite, AskLock, AskStore, AskRelease, AskCancel, AskAbort, AskClose}
+use Rattle.word_machine.specs.Requests.{Request, AskBegin, AskBeginRead, AskRead, AskWrite, AskLock, AskStore, AskRelease, AskCancel}
+use Rattle.word_machine.specs.Requests.{AskAbort, AskClose}
 use Rattle.word_machine.specs.World.{put, comes_before, insert, Ask, Step}
 use Rattle.collection_machine.specs.Content.{Content}
 use Rattle.collection_machine.specs.Boosted.{Committed, Aborted, Action, OnWords, TakeGate, PutGate, Accept, GoHome, insert_commit}

@@ -4,7 +4,8 @@
 ghost use Rattle.std.specs.Prelude.{◌≡◌, ◌≤◌, ℕ, ◌+◌, true, false, Some, List};
 ghost use Rattle.tx_sets.specs.Entries.{lookup};
 ghost use Rattle.word_machine.specs.World.{Memory, Event};
-ghost use Rattle.word_machine.specs.Opacity.{IsInOrder, IsNoneHalfDone, IsRun, IsLegal, AllEnded, NoWriterHas, first_read, memory_after, memory_at, after_events};
+ghost use Rattle.word_machine.specs.Opacity.{IsInOrder, IsNoneHalfDone, IsRun, IsLegal, AllEnded, NoWriterHas, first_read, memory_after};
+ghost use Rattle.word_machine.specs.Opacity.{memory_at, after_events};
 ghost use Rattle.word_machine.specs.Refusals.{IsEnding};
 ghost use Rattle.collection_machine.specs.Content.{Content, Frame};
 ghost use Rattle.collection_machine.specs.Boosted.{Action, act_all};
@@ -40,7 +41,8 @@ pub fn opacity<X, Op, Out>()
         IsNoneHalfDone s.words → (l : ℕ) →
         (s.words.values l ≡ memory_after memory (words s.history) l)
         × (c.plain l ≡ false → s.parts l ≡ views c s.history parts l) }
-    ensures saw { (c : Content X Op Out) → Frame c → (clock : ℕ) (memory : Memory) (parts : ℕ → X) (actions later : List (Action Op)) (a : ℕ) →
+    ensures saw { (c : Content X Op Out) → Frame c →
+        (clock : ℕ) (memory : Memory) (parts : ℕ → X) (actions later : List (Action Op)) (a : ℕ) →
         let s = after_actions c clock memory parts actions in
         let t = act_all c later s in
         AreLegal c (view c t.history (s.words.actors a).rv parts) (s.shadows a).outcomes
@@ -49,23 +51,27 @@ pub fn opacity<X, Op, Out>()
         let s = after_actions c clock memory parts actions in
         AllAborted (λ e. AreLegal c (view c s.history e.word.rv parts) e.outcomes) s.aborted
         × AllEnded (λ e. IsLegal (memory_at s.words e.rv) e.calls) (ended s.aborted) }
-    ensures editions { (c : Content X Op Out) → Frame c → (clock : ℕ) (memory : Memory) (parts : ℕ → X) (actions later : List (Action Op)) (a l e : ℕ) →
+    ensures editions { (c : Content X Op Out) → Frame c →
+        (clock : ℕ) (memory : Memory) (parts : ℕ → X) (actions later : List (Action Op)) (a l e : ℕ) →
         let s = after_actions c clock memory parts actions in
         let t = act_all c later s in
         let rv = (s.words.actors a).rv in
         c.plain l ≡ false → lookup (s.words.actors a).reads l ≡ Some e →
         (e ≡ memory l + edition_at c t.history rv l) × (t.editions l ≡ e → t.parts l ≡ view c t.history rv parts l) }
-    ensures first_reads { (c : Content X Op Out) → Frame c → (clock : ℕ) (memory : Memory) (parts : ℕ → X) (actions later : List (Action Op)) (a l e : ℕ) →
+    ensures first_reads { (c : Content X Op Out) → Frame c →
+        (clock : ℕ) (memory : Memory) (parts : ℕ → X) (actions later : List (Action Op)) (a l e : ℕ) →
         let s = after_actions c clock memory parts actions in
         let t = act_all c later s in
         let rv = (s.words.actors a).rv in
         c.plain l ≡ false → first_read (s.words.actors a).calls l ≡ Some e →
         (e ≡ memory l + edition_at c t.history rv l) × (t.editions l ≡ e → t.parts l ≡ view c t.history rv parts l) }
-    ensures accepted { (c : Content X Op Out) → Frame c → (clock : ℕ) (memory : Memory) (parts : ℕ → X) (actions : List (Action Op)) (a l : ℕ) →
+    ensures accepted { (c : Content X Op Out) → Frame c →
+        (clock : ℕ) (memory : Memory) (parts : ℕ → X) (actions : List (Action Op)) (a l : ℕ) →
         let s = after_actions c clock memory parts actions in
         IsRead c l (s.shadows a).outcomes →
         ((s.shadows a).copied l ≡ true) × (first_read (s.words.actors a).calls l ≡ Some ((s.shadows a).editions l)) }
-    ensures bounded { (c : Content X Op Out) → Frame c → (clock : ℕ) (memory : Memory) (parts : ℕ → X) (actions : List (Action Op)) (l : ℕ) →
+    ensures bounded { (c : Content X Op Out) → Frame c →
+        (clock : ℕ) (memory : Memory) (parts : ℕ → X) (actions : List (Action Op)) (l : ℕ) →
         let s = after_actions c clock memory parts actions in
         c.plain l ≡ false → s.editions l ≤ memory l + s.words.clock }
     ensures worlds { (c : Content X Op Out) (clock : ℕ) (memory : Memory) (parts : ℕ → X) (actions : List (Action Op)) →
@@ -77,7 +83,8 @@ pub fn opacity<X, Op, Out>()
 
 /// A number that a transaction got which then gave up is no record's of a writer, now and at every later moment.
 pub fn numbers<X, Op, Out>()
-    ensures unused { (c : Content X Op Out) → Frame c → (clock : ℕ) (memory : Memory) (parts : ℕ → X) (actions later : List (Action Op)) (a : ℕ) →
+    ensures unused { (c : Content X Op Out) → Frame c →
+        (clock : ℕ) (memory : Memory) (parts : ℕ → X) (actions later : List (Action Op)) (a : ℕ) →
         let s = after_actions c clock memory parts actions in
         IsEnding (s.words.actors a).place → NoWriterHas (s.words.actors a).wv (words (act_all c later s).history) }
 {}

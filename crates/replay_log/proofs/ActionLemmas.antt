@@ -1,7 +1,8 @@
 -- What an action of actor a makes of a's own record, shadow and gates, and that it leaves those of the others. The history grows by the
 -- first value store and by the load that closes a reader alone, the list of the aborted by the load that leaves. One lemma for each kind
 -- of action, said of its guard where it has one.
-use Rattle.std.proofs.Common.{◌≡◌, ℕ, ◌+◌, Bool, true, false, cond, List, [], ◌∷◌, ◌++◌, Option, Some, None, refl, sym, ap, ◌∙◌, subst, eqb, true≢false, eq-eqb, ne_eqb, inl, inr}
+use Rattle.std.proofs.Common.{◌≡◌, ℕ, ◌+◌, Bool, true, false, cond, List, [], ◌∷◌, ◌++◌, Option, Some, None, refl, sym, ap, ◌∙◌, subst, eqb}
+use Rattle.std.proofs.Common.{true≢false, eq-eqb, ne_eqb, inl, inr}
 use Rattle.std.specs.Prelude.{◌==◌, ◌&&◌, not, if◌then◌else◌, nat_lt, filter}
 use Rattle.std.proofs.lemmas.Bool.{cond_both, cond-true, cases_eq}
 use Rattle.vlock_word.specs.declared.lock_word.LockWord.{LockWord}
@@ -9,14 +10,18 @@ use Rattle.vlock_word.specs.declared.lock_word.LockWord.TheVariants.{Free, Locke
 use Rattle.tx_sets.specs.Entries.{locations}
 use Rattle.word_machine.specs.Actor as machine
 use Rattle.word_machine.specs.Actor.{Place, Begin, Open, Actor, goes}
-use Rattle.word_machine.specs.Requests.{Request, AskBegin, AskBeginRead, AskRead, AskWrite, AskLock, AskStore, AskRelease, AskCancel, AskAbort, AskClose, ask, write, wrote}
+use Rattle.word_machine.specs.Requests.{Request, AskBegin, AskBeginRead, AskRead, AskWrite, AskLock, AskStore, AskRelease, AskCancel}
+use Rattle.word_machine.specs.Requests.{AskAbort, AskClose, ask, write, wrote}
 use Rattle.word_machine.specs.World as world
 use Rattle.word_machine.specs.World.{World, put, plan, does, noted, outcome, step, Deed, Outcome, Ask, Step}
 use Rattle.word_machine.proofs.Sets.{put-same, put-other}
 use Rattle.std.proofs.lemmas.List.{append-nil}
 use Rattle.std.proofs.lemmas.List.Elements.{filter-append}
 use Rattle.collection_machine.specs.Content.{Content, IsIn}
-use Rattle.collection_machine.specs.Boosted.{Shadow, Boosted, OnWords, TakeGate, PutGate, GoHome, is_open, is_stored, is_committing, is_actor, is_none, every, may_write, insert_commit, on_words, fresh, shadows_after, recorded, word_step, gated, copied, is_held, is_given, is_sound, writes_asked, longer, accepted, homed, acts}
+use Rattle.collection_machine.specs.Boosted.{Shadow, Boosted, OnWords, TakeGate, PutGate, GoHome, is_open, is_stored, is_committing}
+use Rattle.collection_machine.specs.Boosted.{is_actor, is_none, every, may_write, insert_commit, on_words, fresh, shadows_after, recorded}
+use Rattle.collection_machine.specs.Boosted.{word_step, gated, copied, is_held, is_given, is_sound, writes_asked, longer, accepted, homed}
+use Rattle.collection_machine.specs.Boosted.{acts}
 use Rattle.collection_machine.proofs.Steady.{IsFreeAsk}
 use Rattle.word_machine.specs.Opacity.{first_read}
 use Rattle.replay_log.proofs.ReadLemmas.{first_read-write}

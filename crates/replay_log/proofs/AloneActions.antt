@@ -1,7 +1,8 @@
 -- What stays so of a transaction beside which no other steps, through each action of its own: every lock is free or its own, each of its
 -- places is one at which no word refuses it (the word machine's law), every gate is free or its own, and what it has copied has the
 -- edition that the base has.
-use Rattle.std.proofs.Common.{◌≡◌, ℕ, Bool, true, false, cond, ◌&&◌, List, [], ◌∷◌, Option, Some, None, inl, inr, refl, sym, ◌∙◌, ap, subst, true≢false, eqb}
+use Rattle.std.proofs.Common.{◌≡◌, ℕ, Bool, true, false, cond, ◌&&◌, List, [], ◌∷◌, Option, Some, None, inl, inr, refl, sym, ◌∙◌, ap, subst}
+use Rattle.std.proofs.Common.{true≢false, eqb}
 use Rattle.std.specs.Prelude.{nat_le, nat_lt, not, if◌then◌else◌}
 use Rattle.std.proofs.lemmas.Bool.{cond_both, cases_eq}
 use Rattle.vlock_word.specs.declared.lock_word.LockWord.{LockWord}
@@ -16,7 +17,10 @@ use Rattle.word_machine.specs.Progress.{IsAlone}
 use Rattle.word_machine.proofs.Sets.{put-same, put-other}
 use Rattle.word_machine.proofs.Alone.{AloneAt, run_alone}
 use Rattle.collection_machine.specs.Content.{Content}
-use Rattle.collection_machine.specs.Boosted.{Boosted, Shadow, Action, OnWords, TakeGate, PutGate, Accept, GoHome, recorded, word_step, shadows_after, on_words, gated, homed, fresh, copied, is_copied, longer, writes_asked, accepted, is_none, is_actor, is_open, is_stored, is_committing, is_held, is_given, is_sound, every, may_write, changes, acts}
+use Rattle.collection_machine.specs.Boosted.{Boosted, Shadow, Action, OnWords, TakeGate, PutGate, Accept, GoHome, recorded, word_step}
+use Rattle.collection_machine.specs.Boosted.{shadows_after, on_words, gated, homed, fresh, copied, is_copied, longer, writes_asked}
+use Rattle.collection_machine.specs.Boosted.{accepted, is_none, is_actor, is_open, is_stored, is_committing, is_held, is_given, is_sound}
+use Rattle.collection_machine.specs.Boosted.{every, may_write, changes, acts}
 use Rattle.collection_machine.proofs.Invariant.{Inv}
 use Rattle.collection_machine.proofs.Quiet.{both, open_is}
 use Rattle.collection_machine.proofs.Runs.{recorded_words}

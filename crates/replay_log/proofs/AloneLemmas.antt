@@ -5,7 +5,8 @@
 -- collection's location is the base's edition, since no commit is half done (`now_edition`). What a call still has to judge was copied
 -- with that edition too (`AllNow`). `Fine` says so of what each function of the definition leaves, with the causes (P) for which the
 -- transaction may be given up: a want of memory alone, or none.
-use Rattle.std.proofs.Common.{◌≡◌, ℕ, zero, suc, ◌≤◌, Bool, true, false, cond, ◌&&◌, List, [], ◌∷◌, ◌++◌, length, Option, Some, None, inl, inr, refl, sym, ◌∙◌, ap, subst, true≢false, arith, eqb, eq-eqb}
+use Rattle.std.proofs.Common.{◌≡◌, ℕ, zero, suc, ◌≤◌, Bool, true, false, cond, ◌&&◌, List, [], ◌∷◌, ◌++◌, length, Option, Some, None, inl}
+use Rattle.std.proofs.Common.{inr, refl, sym, ◌∙◌, ap, subst, true≢false, arith, eqb, eq-eqb}
 use Rattle.std.specs.Prelude.{nat_lt, nat_le}
 use Rattle.std.proofs.lemmas.Bool.{cases_eq, cond_both, cond-true}
 use Rattle.vlock_word.specs.declared.lock_word.LockWord.{LockWord}
@@ -39,13 +40,20 @@ use Rattle.seq_model.specs.declared.event.Notice.{Notice}
 use Rattle.seq_model.specs.declared.event.Notice.TheVariants.{Refused}
 use Rattle.seq_model.specs.declared.limits.TheConstants.{CALL_LIMIT}
 use Rattle.collection_machine.specs.Content.{Content, IsIn, has}
-use Rattle.collection_machine.specs.Boosted.{Boosted, Shadow, Action, TakeGate, PutGate, GoHome, Accept, is_none, is_actor, changes, acts, act_all}
+use Rattle.collection_machine.specs.Boosted.{Boosted, Shadow, Action, TakeGate, PutGate, GoHome, Accept, is_none, is_actor, changes, acts}
+use Rattle.collection_machine.specs.Boosted.{act_all}
 use Rattle.collection_machine.proofs.Invariant.{Inv}
 use Rattle.collection_machine.proofs.Schedules.{acts_led}
 use Rattle.replay_log.specs.Base.{Shown}
 use Rattle.replay_log.specs.Contents.{Block, Asked, Answered, HaveStripes, is_plain, block_of, first_of, content}
 use Rattle.replay_log.specs.Pieces.{piece_at, covers_at}
-use Rattle.replay_log.specs.Worlds.{World, Seat, Stage, Idle, Beginning, Open, Locking, Releasing, Closing, Cancelling, Leaving, Reading, Trying, Copying, Loading, Gating, Ready, Storing, Homing, Returning, After, has_room, with_editions, at_stage, because, seated, acted, asks, moves, actor_of, word_notice, no_one, is_leaving, cancels, gives_up, with_call, reads, outcome_at, is_fresh, judges, loads, answers, calls_on, call_of, reply_of, is_known, may_ask, if_allowed, ask_op, commits, ask_at, recorded, why, has_begun, has_read, has_tried, with_piece, sized_by, has_loaded, written_homes, takes_gates, has_locked, goes_home, has_stored, has_released, has_cancelled, step_at, starve_at, more_tries, happens, run, opened}
+use Rattle.replay_log.specs.Worlds.{World, Seat, Stage, Idle, Beginning, Open, Locking, Releasing, Closing, Cancelling, Leaving, Reading}
+use Rattle.replay_log.specs.Worlds.{Trying, Copying, Loading, Gating, Ready, Storing, Homing, Returning, After, has_room, with_editions}
+use Rattle.replay_log.specs.Worlds.{at_stage, because, seated, acted, asks, moves, actor_of, word_notice, no_one, is_leaving, cancels}
+use Rattle.replay_log.specs.Worlds.{gives_up, with_call, reads, outcome_at, is_fresh, judges, loads, answers, calls_on, call_of, reply_of}
+use Rattle.replay_log.specs.Worlds.{is_known, may_ask, if_allowed, ask_op, commits, ask_at, recorded, why, has_begun, has_read, has_tried}
+use Rattle.replay_log.specs.Worlds.{with_piece, sized_by, has_loaded, written_homes, takes_gates, has_locked, goes_home, has_stored}
+use Rattle.replay_log.specs.Worlds.{has_released, has_cancelled, step_at, starve_at, more_tries, happens, run, opened}
 use Rattle.replay_log.specs.WorldAlone.{IsConflict, IsAlone, IsFree, TellsConflict, IsUnstarved, TellsMemory}
 use Rattle.replay_log.specs.WorldProgress.{whose}
 use Rattle.replay_log.proofs.ContentLemmas.{content_frame}

@@ -1,8 +1,9 @@
 -- What a refusal says as it is answered. A request that is refused changes nothing; a step is refused where none is due, as a
 -- transaction begins at the limit of the clock, as a call that was copied for finds no room, and by its last step, which tells the
--- cause; and nowhere else, so never after the first value store. A want of memory changes nothing there, nor while a transaction is
--- being given up.
-use Rattle.std.proofs.Common.{◌≡◌, ℕ, zero, suc, ◌≤◌, Bool, true, false, cond, ◌&&◌, List, [], ◌∷◌, ◌++◌, length, Option, Some, None, inl, inr, refl, sym, ◌∙◌, ap, subst, true≢false, arith, eqb}
+-- cause; and nowhere else, so never after the first value store. For a want of memory a begin is refused at once, and any other request
+-- is given up, but there and while a transaction is being given up it changes nothing.
+use Rattle.std.proofs.Common.{◌≡◌, ℕ, zero, suc, ◌≤◌, Bool, true, false, cond, ◌&&◌, List, [], ◌∷◌, ◌++◌, length, Option, Some, None, inl}
+use Rattle.std.proofs.Common.{inr, refl, sym, ◌∙◌, ap, subst, true≢false, arith, eqb}
 use Rattle.std.specs.Prelude.{nat_lt}
 use Rattle.std.proofs.lemmas.Bool.{cases_eq, cond_both}
 use Rattle.std.proofs.lemmas.Bool.Decides.{nat_tests}
@@ -26,11 +27,17 @@ use Rattle.seq_model.specs.declared.limits.TheConstants.{CALL_LIMIT}
 use Rattle.collection_machine.specs.Boosted.{TakeGate, PutGate, GoHome, is_none}
 use Rattle.replay_log.specs.Contents.{Asked, Answered, content}
 use Rattle.replay_log.specs.Pieces.{piece_at, covers_at}
-use Rattle.replay_log.specs.Worlds.{World, Seat, Stage, Idle, Beginning, Open, Locking, Releasing, Closing, Cancelling, Leaving, Reading, Trying, Copying, Loading, Gating, Ready, Storing, Homing, Returning, After, has_room, with_editions, at_stage, because, seated, acted, asks, moves, actor_of, word_notice, no_one, gives_up, reads, outcome_at, is_fresh, judges, loads, answers, calls_on, if_allowed, ask_op, commits, ask_at, recorded, why, has_begun, has_read, has_tried, with_piece, sized_by, has_loaded, takes_gates, has_locked, goes_home, has_stored, has_released, has_cancelled, step_at, starve_at, is_half_done, happens}
+use Rattle.replay_log.specs.Worlds.{World, Seat, Stage, Idle, Beginning, Open, Locking, Releasing, Closing, Cancelling, Leaving, Reading}
+use Rattle.replay_log.specs.Worlds.{Trying, Copying, Loading, Gating, Ready, Storing, Homing, Returning, After, has_room, with_editions}
+use Rattle.replay_log.specs.Worlds.{at_stage, because, seated, acted, asks, moves, actor_of, word_notice, no_one, is_leaving, gives_up}
+use Rattle.replay_log.specs.Worlds.{reads}
+use Rattle.replay_log.specs.Worlds.{outcome_at, is_fresh, judges, loads, answers, calls_on, if_allowed, ask_op, commits, ask_at, recorded}
+use Rattle.replay_log.specs.Worlds.{why, has_begun, has_read, has_tried, with_piece, sized_by, has_loaded, takes_gates, has_locked}
+use Rattle.replay_log.specs.Worlds.{goes_home, has_stored, has_released, has_cancelled, step_at, starve_at, is_half_done, happens}
 use Rattle.replay_log.specs.WorldRefusals.{is_ending}
 use Rattle.replay_log.specs.WorldProgress.{IsQuiet}
 use Rattle.replay_log.specs.WorldStill.{Same}
-use Rattle.replay_log.specs.WorldAnswers.{IsRefusal, IsRefusedAt, RefusedBy}
+use Rattle.replay_log.specs.WorldAnswers.{IsRefusal, IsRefusedAt, IsStarved, RefusedBy}
 use Rattle.replay_log.proofs.SeatLemmas.{StageOk, Linked}
 use Rattle.replay_log.proofs.SetLemmas.{put_words}
 
@@ -65,7 +72,7 @@ module _ {V : Type 0} where
   choose_keeps w true r s h g = h
   choose_keeps w false r s h g = g
 
-  abbrev NoRefusal : After V → Type 0
+  abbrev pub NoRefusal : After V → Type 0
   NoRefusal r = IsRefusal r.1 → ⊥
 
   choose_no : (b : Bool) (r s : After V) → NoRefusal r → NoRefusal s → NoRefusal (cond b r s)
@@ -85,7 +92,7 @@ module _ {V : Type 0} where
   judges_no u a x o d es next None h = λ q. q
   judges_no u a x o d es next (Some v) h = fresh_no u a x d v next h
 
-  loads_no : (es : Entries) (u : World V) (a : ℕ) (x : Seat V) (o : Answered V) → NoRefusal (loads u a x o es)
+  pub loads_no : (es : Entries) (u : World V) (a : ℕ) (x : Seat V) (o : Answered V) → NoRefusal (loads u a x o es)
   loads_no [] u a x o = λ q. q
   loads_no (d ∷ es) u a x o = judges_no u a x o d es (loads u a x o es) (lookup (actor_of u a).reads d.0) (loads_no es u a x o)
 
@@ -256,14 +263,49 @@ module _ {V : Type 0} where
   refused_step w a k = step_says w a (w.seats a) (w.seats a).stage refl (k.seats a).stage
 
   -- ---- wants of memory
-  starve_late : (w : World V) (a : ℕ) (x : Seat V) (st : Stage V) → is_half_done st ≡ true → starve_at w a x st ≡ (w, Quiet)
-  starve_late w a x (Storing ks) h = refl
-  starve_late w a x (Homing ks) h = refl
-  starve_late w a x Releasing h = refl
-  starve_late w a x st h = absurd (true≢false (sym h))
+  abbrev IsGivenUp : ℕ → Seat V → Type 0
+  IsGivenUp a x = (is_ending x.stage ≡ true) × (x.cause ≡ Some refusal.OutOfMemory)
 
-  pub starved_late : (w : World V) (a : ℕ) → is_half_done (w.seats a).stage ≡ true → happens w (Starve a) ≡ (w, Quiet)
-  starved_late w a h = starve_late w a (w.seats a) (w.seats a).stage h
+  seated_given_up : (u : World V) (a : ℕ) (x : Seat V) → IsGivenUp a x → IsGivenUp a ((seated u a x).seats a)
+  seated_given_up u a x h = subst (IsGivenUp a) (sym (put-same u.seats a x)) h
+
+  starve_gives_up : (w : World V) (a : ℕ) (x : Seat V) (ks : List ℕ)
+      → let r = gives_up w a (because x refusal.OutOfMemory) ks in IsGivenUp a (r.0.seats a) × (r.1 ≡ Quiet)
+  starve_gives_up w a x [] =
+      let t = acted w (asks a word.AskCancel ∷ asks a word.AskAbort ∷ []) in
+      (seated_given_up t a _ (by (is_leaving (actor_of t a).place)), refl)
+    where
+      by : (b : Bool) → IsGivenUp a (at_stage (because x refusal.OutOfMemory) (cond b Leaving Cancelling))
+      by true = (refl, refl)
+      by false = (refl, refl)
+  starve_gives_up w a x (k ∷ ks) = (seated_given_up w a (at_stage (because x refusal.OutOfMemory) (Returning (k ∷ ks))) (refl, refl), refl)
+
+  starve_comes : (w : World V) (a : ℕ) (x : Seat V) (ks : List ℕ)
+      → let r = gives_up w a (because x refusal.OutOfMemory) ks in
+      (is_ending (r.0.seats a).stage ≡ true) × ((r.0.seats a).cause ≡ Some refusal.OutOfMemory) × (r.1 ≡ Quiet)
+  starve_comes w a x ks = let h = starve_gives_up w a x ks in (h.0.0, h.0.1, h.1)
+
+  starve_says : (w : World V) (a : ℕ) (x : Seat V) (st : Stage V) → IsStarved w a st (starve_at w a x st)
+  starve_says w a x Idle = refl
+  starve_says w a x Open = refl
+  starve_says w a x Beginning = (ap (λ (q : Seat V). q.stage) (put-same w.seats a no_one), refl)
+  starve_says w a x (Reading l) = starve_comes w a x []
+  starve_says w a x (Trying asked tries) = starve_comes w a x []
+  starve_says w a x (Copying asked) = starve_comes w a x (asked.collection ∷ [])
+  starve_says w a x (Loading o es) = starve_comes w a x []
+  starve_says w a x Locking = starve_comes w a x []
+  starve_says w a x (Gating got ks tries) = starve_comes w a x got
+  starve_says w a x (Ready ks) = starve_comes w a x ks
+  starve_says w a x Closing = starve_comes w a x []
+  starve_says w a x (Storing ks) = refl
+  starve_says w a x (Homing ks) = refl
+  starve_says w a x Releasing = refl
+  starve_says w a x (Returning ks) = refl
+  starve_says w a x Cancelling = refl
+  starve_says w a x Leaving = refl
+
+  pub starves : (w : World V) (a : ℕ) → IsStarved w a (w.seats a).stage (happens w (Starve a))
+  starves w a = starve_says w a (w.seats a) (w.seats a).stage
 
   starve_end : (w : World V) (a : ℕ) (x : Seat V) (st : Stage V) → is_ending st ≡ true → starve_at w a x st ≡ (w, Quiet)
   starve_end w a x (Returning ks) h = refl

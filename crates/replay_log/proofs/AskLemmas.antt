@@ -2,7 +2,8 @@
 -- way, or begins where a transaction is open, is NotIdle; a call of what is not there is NoSuch, and only then one past the limit
 -- TooLong. A call that has copied what it touches finds in the read set the edition that was copied, so it is never stale as it is
 -- asked; so only an Abort gives a transaction up at once.
-use Rattle.std.proofs.Common.{◌≡◌, ◌≢◌, ℕ, ◌≤◌, Bool, true, false, cond, ◌&&◌, List, [], ◌∷◌, length, Option, Some, None, ◌⊎◌, inl, inr, refl, sym, ◌∙◌, ap, subst, true≢false, eqb, eq-eqb, arith}
+use Rattle.std.proofs.Common.{◌≡◌, ◌≢◌, ℕ, ◌≤◌, Bool, true, false, cond, ◌&&◌, List, [], ◌∷◌, length, Option, Some, None, ◌⊎◌, inl, inr}
+use Rattle.std.proofs.Common.{refl, sym, ◌∙◌, ap, subst, true≢false, eqb, eq-eqb, arith}
 use Rattle.std.specs.Prelude.{nat_lt}
 use Rattle.std.proofs.lemmas.Bool.{cond-true, cond-false}
 use Rattle.std.proofs.lemmas.Bool.Decides.{nat_tests}
@@ -24,7 +25,9 @@ use Rattle.collection_machine.specs.Boosted.{Accept}
 use Rattle.replay_log.specs.Contents.{Asked, Answered, content}
 use Rattle.replay_log.specs.Pieces.{piece_at}
 use Rattle.replay_log.specs.Guards.{IsAtRest}
-use Rattle.replay_log.specs.Worlds.{World, Seat, Stage, Idle, Beginning, Open, Locking, Closing, Reading, Trying, Loading, After, has_room, with_editions, at_stage, because, seated, acted, asks, actor_of, gives_up, with_call, reads, outcome_at, reply_of, call_of, judges, loads, calls_on, if_allowed, ask_op, commits, ask_at, happens, more_tries}
+use Rattle.replay_log.specs.Worlds.{World, Seat, Stage, Idle, Beginning, Open, Locking, Closing, Reading, Trying, Loading, After, has_room}
+use Rattle.replay_log.specs.Worlds.{with_editions, at_stage, because, seated, acted, asks, actor_of, gives_up, with_call, reads, outcome_at}
+use Rattle.replay_log.specs.Worlds.{reply_of, call_of, judges, loads, calls_on, if_allowed, ask_op, commits, ask_at, happens, more_tries}
 use Rattle.replay_log.specs.WorldRefusals.{is_ending}
 use Rattle.replay_log.specs.WorldAnswers.{is_there}
 use Rattle.replay_log.proofs.ContentLemmas.{content_frame}

@@ -1,6 +1,7 @@
 -- A call on a collection keeps what a world has of its machine: what it touches is copied, each location that it reads is judged, and
 -- then the machine accepts it, since all that it reads was read with the edition that was copied.
-use Rattle.std.proofs.Common.{◌≡◌, ℕ, ◌+◌, Bool, true, false, cond, not, ◌&&◌, ◌||◌, List, [], ◌∷◌, ◌++◌, map, Option, Some, None, Contains, ◌⊎◌, inl, inr, refl, sym, ◌∙◌, ap, subst, true≢false, eqb, eq-eqb, eqb-true}
+use Rattle.std.proofs.Common.{◌≡◌, ℕ, ◌+◌, Bool, true, false, cond, not, ◌&&◌, ◌||◌, List, [], ◌∷◌, ◌++◌, map, Option, Some, None, Contains}
+use Rattle.std.proofs.Common.{◌⊎◌, inl, inr, refl, sym, ◌∙◌, ap, subst, true≢false, eqb, eq-eqb, eqb-true}
 use Rattle.std.specs.Prelude.{nat_lt, option_map, if◌then◌else◌, ◌==◌}
 use Rattle.std.specs.Ordering.{nat_cmp}
 use Rattle.std.specs.FinMap.{FinMap, empty}
@@ -17,7 +18,8 @@ use Rattle.word_machine.specs.Opacity.{first_read}
 use Rattle.word_machine.proofs.Calls.{touched, first_read-more}
 use Rattle.word_machine.proofs.Invariant.{PlaceOk, HasBegun, IsKept}
 use Rattle.seq_model.specs.declared.call.Op.{Op}
-use Rattle.seq_model.specs.declared.call.Op.TheVariants.{Get, Put, Remove, Len, Count, Add, Take, Least, Insert, TakeLeast, Enqueue, Dequeue, Peek}
+use Rattle.seq_model.specs.declared.call.Op.TheVariants.{Get, Put, Remove, Len, Count, Add, Take, Least, Insert, TakeLeast, Enqueue}
+use Rattle.seq_model.specs.declared.call.Op.TheVariants.{Dequeue, Peek}
 use Rattle.seq_model.specs.declared.call.Call.{Call}
 use Rattle.seq_model.specs.declared.call.Reply.{Reply}
 use Rattle.seq_model.specs.declared.refusal.Refusal.TheVariants as refusal
@@ -31,19 +33,24 @@ use Rattle.base_bag.specs.Conflicts as bag_rules
 use Rattle.base_pq.specs.Conflicts as pq_rules
 use Rattle.base_queue.specs.Conflicts as queue_rules
 use Rattle.collection_machine.specs.Content.{IsIn, has}
-use Rattle.collection_machine.specs.Boosted.{Boosted, PutGate, Accept, is_open, is_committing, is_actor, is_edition, is_sound, is_none, is_copied, may_write, copied, gated, longer, accepted, changes, acts}
+use Rattle.collection_machine.specs.Boosted.{Boosted, PutGate, Accept, is_open, is_committing, is_actor, is_edition, is_sound, is_none}
+use Rattle.collection_machine.specs.Boosted.{is_copied, may_write, copied, gated, longer, accepted, changes, acts}
 use Rattle.replay_log.specs.Base.{Shown, OfMap, outcome_of, reads_of, writes_of}
 use Rattle.replay_log.specs.Parts.{Kind, MapKind, BagKind, PqKind, QueueKind, whole}
-use Rattle.replay_log.specs.Contents.{Block, Asked, Answered, block_of, first_of, end_of, home_of, is_plain, HaveStripes, shifted, blank, seen, answer, reads_in, writes_in, content}
+use Rattle.replay_log.specs.Contents.{Block, Asked, Answered, block_of, first_of, end_of, home_of, is_plain, HaveStripes, shifted, blank}
+use Rattle.replay_log.specs.Contents.{seen, answer, reads_in, writes_in, content}
 use Rattle.replay_log.specs.Pieces.{Piece, Entry, Counts, Whole, is_piece, piece_of, piece_in, covers, covers_in, piece_at, covers_at}
-use Rattle.replay_log.specs.Worlds.{World, Seat, Open, Trying, Loading, After, has_room, is_change, with_editions, at_stage, because, seated, acted, asks, actor_of, outcome_at, reply_of, call_of, with_call, is_missing, is_known, is_fresh, judges, loads, answers, calls_on, with_piece, sized_by, has_copied, has_loaded, more_tries}
+use Rattle.replay_log.specs.Worlds.{World, Seat, Open, Trying, Loading, After, has_room, is_change, with_editions, at_stage, because}
+use Rattle.replay_log.specs.Worlds.{seated, acted, asks, actor_of, outcome_at, reply_of, call_of, with_call, is_missing, is_known, is_fresh}
+use Rattle.replay_log.specs.Worlds.{judges, loads, answers, calls_on, with_piece, sized_by, has_copied, has_loaded, more_tries}
 use Rattle.replay_log.proofs.PartLemmas.{knows_its_calls}
 use Rattle.replay_log.proofs.ReadLemmas.{first_read-other, first_read-new, in_set, kept_at}
 use Rattle.replay_log.proofs.ContentLemmas.{in_shifted, read_at, home_is, positive_at, content_frame}
 use Rattle.replay_log.proofs.ActionLemmas.{Accepts, mine, without_gate, accept_goes}
 use Rattle.replay_log.proofs.MixedLemmas.{is_of_word, word_calls, pair_of, Parts}
 use Rattle.replay_log.proofs.PlaceLemmas.{SameTx, AfterRead}
-use Rattle.replay_log.proofs.SeatLemmas.{Copy, AtReading, CanLeave, InTx, Sound, Kept, HasPieces, Live, KnownAsk, IsLeft, Left, LoadOk, SeatOk, Linked, At, linked_seated, at_by, at_ask, cancels_linked, edition_joins, held_joins}
+use Rattle.replay_log.proofs.SeatLemmas.{Copy, AtReading, CanLeave, InTx, Sound, Kept, HasPieces, Live, KnownAsk, IsLeft, Left, LoadOk}
+use Rattle.replay_log.proofs.SeatLemmas.{SeatOk, Linked, At, linked_seated, at_by, at_ask, cancels_linked, edition_joins, held_joins}
 use Rattle.replay_log.proofs.StageLemmas.{choose, every_read, same_seat, same_live, refused_linked, gate_put, pop_has, first_has}
 
 -- ---- booleans

@@ -1,6 +1,7 @@
 -- The sequential collections, as a model of the content of a world. The collection of a block is found by going along blocks and
 -- collections together; a call changes that one alone, and what it shows lies on the block's locations.
-use Rattle.std.proofs.Common.{◌≡◌, ℕ, zero, suc, ◌+◌, ◌-◌, ◌<◌, ◌≤◌, ◌⊎◌, ltb, List, [], ◌∷◌, Option, Some, None, Contains, inl, inr, refl, sym, ap, ◌∙◌, subst, arith, lt-ltb, le-ltb}
+use Rattle.std.proofs.Common.{◌≡◌, ℕ, zero, suc, ◌+◌, ◌-◌, ◌<◌, ◌≤◌, ◌⊎◌, ltb, List, [], ◌∷◌, Option, Some, None, Contains, inl, inr, refl}
+use Rattle.std.proofs.Common.{sym, ap, ◌∙◌, subst, arith, lt-ltb, le-ltb}
 use Rattle.std.specs.Prelude.{option_map}
 use Rattle.std.specs.FinMap.{empty}
 use Rattle.std.proofs.lemmas.Bool.{cases_lt, cond-true, cond-false}
@@ -18,7 +19,7 @@ use Rattle.replay_log.specs.Base.{Shown, OfMap, after, changes_of, outcome_of, w
 use Rattle.replay_log.specs.Parts.{Kind, MapKind, BagKind, PqKind, QueueKind, kind_of, part, whole}
 use Rattle.replay_log.specs.Contents.{Block, size, block_of, first_of, HaveStripes, shifted, blank, seen, answer, changed, content}
 use Rattle.replay_log.specs.Collections.{kind_of_held, viewed, Suit, shown_from, shown_at}
-use Rattle.replay_log.proofs.CollectionRuns.{reply_at, called, after_call}
+use Rattle.replay_log.proofs.CollectionRuns.{reply_at, called, after_call, sequential}
 use Rattle.replay_log.proofs.PartLemmas.{is_whole, leaves_other_parts, whole_local}
 use Rattle.replay_log.proofs.ContentLemmas.{shifted_in, written_at, first_above, same_block, no_block, positive_at}
 use Rattle.replay_log.proofs.HeldLemmas.{Keeps, follows, unknown, keeps}
@@ -263,16 +264,12 @@ module _ {V : Type 0} where
           ∙ changed_is w bs hs k op s b e (positive_at bs k b h e) (found w bs hs k b s e) o some l
 
 -- the collections that suit the blocks
-abbrev pub Suiting : (V : Type 0) → List Block → Type 0
-Suiting V bs = (hs : List (Held V)) × Suit bs hs
-
-abbrev pub collections : (V : Type 0) (w : ℕ) (bs : List Block) → HaveStripes bs → Model (content {V = V} w bs) (Suiting V bs)
-    (Option (Reply V))
+abbrev pub collections : (V : Type 0) (w : ℕ) (bs : List Block) → HaveStripes bs
+    → Model (content {V = V} w bs) (sequential {V = V}) (Suit bs)
 collections V w bs h = record {
-  shown = λ s. shown_at w bs s.0;
-  next = λ s a. (after_call s.0 a.collection a.op, suit_after bs s.0 a.collection a.op s.1);
-  reply = λ s a. reply_at s.0 a.collection a.op;
-  reply_of = λ o. option_map (λ x. x.reply) o.outcome;
-  replies = λ s a. replied w bs s.0 a.collection a.op h s.1 (block_of bs a.collection) refl;
-  shows = λ s a l. moved w bs s.0 a.collection a.op l h s.1 (block_of bs a.collection) refl;
+  shown = λ hs. shown_at w bs hs;
+  asked = λ o. refl;
+  keeps = λ hs a s. suit_after bs hs a.collection a.op s;
+  replies = λ hs a s. replied w bs hs a.collection a.op h s (block_of bs a.collection) refl;
+  shows = λ hs a l s. moved w bs hs a.collection a.op l h s (block_of bs a.collection) refl;
 }

@@ -1,12 +1,14 @@
 -- The machine's history as transactions on a list of sequential collections, one after another. A world's serial order is said of its
 -- records, which have words and collections in one list of calls; here stand the collections alone, as the machine has them.
-use Rattle.std.specs.Prelude.{◌≡◌, ℕ, zero, suc, List, [], ◌∷◌, Option, Some, None, option_map, nat_le, if◌then◌else◌}
+use Rattle.std.specs.Prelude.{ℕ, zero, suc, List, [], ◌∷◌, Option, Some, None, option_map}
 use Rattle.seq_model.specs.declared.call.Op.{Op}
 use Rattle.seq_model.specs.declared.call.Reply.{Reply}
 use Rattle.seq_model.specs.declared.held.Held.{Held}
 use Rattle.seq_model.specs.Calls.{held_call}
 use Rattle.collection_machine.specs.Boosted.{Committed}
-use Rattle.replay_log.specs.Contents.{Answered}
+use Rattle.collection_machine.proofs.States as states
+use Rattle.collection_machine.proofs.States.{Sequential}
+use Rattle.replay_log.specs.Contents.{Asked, Answered}
 
 module _ {V : Type 0} where
   -- what a sequential call on collection k replies; none, if it isn't there or is of another kind
@@ -25,27 +27,26 @@ module _ {V : Type 0} where
   after_call (h ∷ hs) zero op = called (held_call op h) h ∷ hs
   after_call (h ∷ hs) (suc k) op = h ∷ after_call hs k op
 
+  -- the sequential collections of the machine, whose runs these are
+  abbrev pub sequential : Sequential (Asked V) (Answered V) (List (Held V)) (Option (Reply V))
+  sequential = record {
+    op_of = λ o. o.asked;
+    reply_of = λ o. option_map (λ x. x.reply) o.outcome;
+    next = λ hs a. after_call hs a.collection a.op;
+    reply = λ hs a. reply_at hs a.collection a.op;
+  }
+
   abbrev pub after_calls : List (Held V) → List (Answered V) → List (Held V)
-  after_calls hs [] = hs
-  after_calls hs (o ∷ os) = after_calls (after_call hs o.asked.collection o.asked.op) os
+  after_calls hs os = states.after_calls sequential hs os
 
-  -- each reply is that of the sequential call
   abbrev pub AreReplies : List (Held V) → List (Answered V) → Type 0
-  AreReplies hs [] = Unit {0}
-  AreReplies hs (o ∷ os) =
-      (option_map (λ x. x.reply) o.outcome ≡ reply_at hs o.asked.collection o.asked.op)
-      × AreReplies (after_call hs o.asked.collection o.asked.op) os
+  AreReplies hs os = states.AreReplies sequential hs os
 
-  -- one whole transaction after another
   abbrev pub after_run : List (Held V) → List (Committed (Answered V)) → List (Held V)
-  after_run hs [] = hs
-  after_run hs (r ∷ rs) = after_run (after_calls hs r.outcomes) rs
+  after_run hs rs = states.after_all sequential hs rs
 
   abbrev pub IsRunOn : List (Held V) → List (Committed (Answered V)) → Type 0
-  IsRunOn hs [] = Unit {0}
-  IsRunOn hs (r ∷ rs) = AreReplies hs r.outcomes × IsRunOn (after_calls hs r.outcomes) rs
+  IsRunOn hs rs = states.AreAll sequential hs rs
 
-  -- what the commits with a number of at most n leave
   abbrev pub held_at : List (Committed (Answered V)) → ℕ → List (Held V) → List (Held V)
-  held_at [] n hs = hs
-  held_at (r ∷ rs) n hs = held_at rs n (if nat_le r.word.number n then after_calls hs r.outcomes else hs)
+  held_at rs n hs = states.state_at sequential rs n hs

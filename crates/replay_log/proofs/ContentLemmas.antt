@@ -1,6 +1,7 @@
 -- The collections of a world keep the frame laws. A call reads and writes locations of its own collection's block, where they
 -- are those of its base, shifted by the block's first location; blocks don't overlap. So each law is the law of the base's kind.
-use Rattle.std.proofs.Common.{◌≡◌, ℕ, zero, suc, ◌+◌, ◌-◌, ◌<◌, ◌≤◌, false, ltb, List, [], ◌∷◌, Option, Some, None, Contains, inl, inr, refl, sym, ap, ◌∙◌, subst, arith, lt-ltb, le-ltb}
+use Rattle.std.proofs.Common.{◌≡◌, ℕ, zero, suc, ◌+◌, ◌-◌, ◌<◌, ◌≤◌, false, ltb, List, [], ◌∷◌, Option, Some, None, Contains, inl, inr}
+use Rattle.std.proofs.Common.{refl, sym, ap, ◌∙◌, subst, arith, lt-ltb, le-ltb}
 use Rattle.std.specs.Prelude.{◌||◌, not}
 use Rattle.std.proofs.lemmas.Bool.{cond-true, cond-false}
 use Rattle.seq_model.specs.declared.call.Op.{Op}
@@ -14,7 +15,8 @@ use Rattle.collection_machine.specs.Content.{Frame, IsIn, has}
 use Rattle.collection_machine.proofs.Parts.{in_has, out_has}
 use Rattle.replay_log.specs.Base.{Shown, after, changes_of, outcome_of, reads_of, writes_of}
 use Rattle.replay_log.specs.Parts.{Kind, MapKind, BagKind, PqKind, QueueKind, part, whole}
-use Rattle.replay_log.specs.Contents.{Block, size_by, size, block_of, first_of, end_of, home_of, is_plain, HaveStripes, shifted, Answered, blank, seen, answer, reads_in, writes_in, changed, content}
+use Rattle.replay_log.specs.Contents.{Block, size_by, size, block_of, first_of, end_of, home_of, is_plain, HaveStripes, shifted, Answered}
+use Rattle.replay_log.specs.Contents.{blank, seen, answer, reads_in, writes_in, changed, content}
 use Rattle.replay_log.proofs.PartLemmas.{answers_by_parts, knows_its_calls, parts_by_part}
 
 pub shifted_in : (f i : ℕ) (ls : List ℕ) → Contains ls i → IsIn (f + i) (shifted f ls)

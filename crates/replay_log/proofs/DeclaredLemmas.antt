@@ -14,7 +14,8 @@ use Rattle.seq_model.specs.declared.event.Event.TheVariants.{Ask}
 use Rattle.seq_model.specs.declared.event.Request.TheVariants as request
 use Rattle.seq_model.specs.declared.event.Notice.TheVariants.{Refused}
 use Rattle.replay_log.specs.Contents.{Block, HaveStripes}
-use Rattle.replay_log.specs.Worlds.{World, Seat, Stage, Open, Trying, Copying, After, actor_of, is_change, if_allowed, ask_op, ask_at, happens, run, opened}
+use Rattle.replay_log.specs.Worlds.{World, Seat, Stage, Open, Trying, Copying, After, actor_of, is_change, if_allowed, ask_op, ask_at}
+use Rattle.replay_log.specs.Worlds.{happens, run, opened}
 use Rattle.replay_log.specs.WorldRefusals.{is_calling}
 use Rattle.replay_log.proofs.SeatLemmas.{Copy, StageOk}
 use Rattle.replay_log.proofs.EventLemmas.{run_linked, opened_linked}

@@ -1,6 +1,7 @@
 -- An event that answers nothing leaves a step due: each function of the definition either answers, or seats its actor at a stage that is
 -- not at rest, or leaves the seat at the stage of the request, which is none.
-use Rattle.std.proofs.Common.{◌≡◌, ℕ, zero, suc, Bool, true, false, cond, ◌&&◌, List, [], ◌∷◌, ◌++◌, length, Option, Some, None, refl, sym, subst, eqb}
+use Rattle.std.proofs.Common.{◌≡◌, ℕ, zero, suc, Bool, true, false, cond, ◌&&◌, List, [], ◌∷◌, ◌++◌, length, Option, Some, None, refl, sym}
+use Rattle.std.proofs.Common.{subst, eqb}
 use Rattle.std.specs.Prelude.{nat_lt}
 use Rattle.tx_sets.specs.Entries.{Entries, lookup}
 use Rattle.word_machine.specs.Requests as word
@@ -17,7 +18,12 @@ use Rattle.seq_model.specs.declared.limits.TheConstants.{CALL_LIMIT}
 use Rattle.collection_machine.specs.Boosted.{TakeGate, PutGate, GoHome, is_none}
 use Rattle.replay_log.specs.Contents.{Asked, Answered, content}
 use Rattle.replay_log.specs.Pieces.{piece_at, covers_at}
-use Rattle.replay_log.specs.Worlds.{World, Seat, Stage, Idle, Beginning, Open, Locking, Releasing, Closing, Cancelling, Leaving, Reading, Trying, Copying, Loading, Gating, Ready, Storing, Homing, Returning, After, has_room, with_editions, at_stage, because, seated, acted, asks, moves, actor_of, word_notice, is_leaving, cancels, gives_up, reads, outcome_at, is_fresh, judges, loads, answers, calls_on, if_allowed, ask_op, commits, ask_at, recorded, has_begun, has_read, has_tried, with_piece, sized_by, has_loaded, written_homes, takes_gates, has_locked, goes_home, has_stored, has_released, has_cancelled, step_at, starve_at, more_tries, happens}
+use Rattle.replay_log.specs.Worlds.{World, Seat, Stage, Idle, Beginning, Open, Locking, Releasing, Closing, Cancelling, Leaving, Reading}
+use Rattle.replay_log.specs.Worlds.{Trying, Copying, Loading, Gating, Ready, Storing, Homing, Returning, After, has_room, with_editions}
+use Rattle.replay_log.specs.Worlds.{at_stage, because, seated, acted, asks, moves, actor_of, word_notice, is_leaving, cancels, gives_up}
+use Rattle.replay_log.specs.Worlds.{reads, outcome_at, is_fresh, judges, loads, answers, calls_on, if_allowed, ask_op, commits, ask_at}
+use Rattle.replay_log.specs.Worlds.{recorded, has_begun, has_read, has_tried, with_piece, sized_by, has_loaded, written_homes, takes_gates}
+use Rattle.replay_log.specs.Worlds.{has_locked, goes_home, has_stored, has_released, has_cancelled, step_at, starve_at, more_tries, happens}
 use Rattle.replay_log.specs.WorldProgress.{whose, IsQuiet}
 use Rattle.replay_log.specs.Guards.{IsAtRest}
 use Rattle.replay_log.proofs.ProgressLemmas.{why_answers}

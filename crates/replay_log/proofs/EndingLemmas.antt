@@ -1,7 +1,8 @@
 -- What a step leaves of values, bases and records. Before the first value store a step stores no value, and only the step that takes a
 -- base home changes one; so a transaction that is being given up leaves them, gives each lock back at the version at which it took it,
 -- and at rest holds no lock and no gate.
-use Rattle.std.proofs.Common.{◌≡◌, ℕ, zero, suc, Bool, false, ◌&&◌, List, [], ◌∷◌, ◌++◌, Some, None, refl, sym, ◌∙◌, ap, subst, true≢false, eqb, eq-eqb}
+use Rattle.std.proofs.Common.{◌≡◌, ℕ, zero, suc, Bool, false, ◌&&◌, List, [], ◌∷◌, ◌++◌, Some, None, refl, sym, ◌∙◌, ap, subst, true≢false}
+use Rattle.std.proofs.Common.{eqb, eq-eqb}
 use Rattle.std.specs.Prelude.{not, if◌then◌else◌}
 use Rattle.std.proofs.lemmas.Bool.{cond_both}
 use Rattle.vlock_word.specs.declared.lock_word.LockWord.{LockWord}
@@ -18,10 +19,14 @@ use Rattle.word_machine.proofs.Invariant.{PlaceOk}
 use Rattle.seq_model.specs.declared.refusal.Refusal.TheVariants as refusal
 use Rattle.seq_model.specs.declared.event.Event.TheVariants.{Step}
 use Rattle.collection_machine.specs.Content.{Content, has}
-use Rattle.collection_machine.specs.Boosted.{Boosted, TakeGate, PutGate, recorded, word_step, shadows_after, gated, copied, is_none, is_actor, is_open, is_committing, acts}
+use Rattle.collection_machine.specs.Boosted.{Boosted, TakeGate, PutGate, recorded, word_step, shadows_after, gated, copied, is_none}
+use Rattle.collection_machine.specs.Boosted.{is_actor, is_open, is_committing, acts}
 use Rattle.replay_log.specs.Contents.{Answered, content}
 use Rattle.replay_log.specs.Pieces.{piece_at, covers_at}
-use Rattle.replay_log.specs.Worlds.{World, Seat, Stage, Idle, Beginning, Open, Locking, Releasing, Closing, Cancelling, Leaving, Reading, Trying, Copying, Loading, Gating, Ready, Storing, Homing, Returning, After, because, acted, moves, actor_of, word_notice, outcome_at, loads, has_begun, has_read, has_tried, with_piece, sized_by, has_loaded, takes_gates, has_locked, has_released, has_cancelled, step_at, happens}
+use Rattle.replay_log.specs.Worlds.{World, Seat, Stage, Idle, Beginning, Open, Locking, Releasing, Closing, Cancelling, Leaving, Reading}
+use Rattle.replay_log.specs.Worlds.{Trying, Copying, Loading, Gating, Ready, Storing, Homing, Returning, After, because, acted, moves}
+use Rattle.replay_log.specs.Worlds.{actor_of, word_notice, outcome_at, loads, has_begun, has_read, has_tried, with_piece, sized_by}
+use Rattle.replay_log.specs.Worlds.{has_loaded, takes_gates, has_locked, has_released, has_cancelled, step_at, happens}
 use Rattle.replay_log.specs.WorldAnswers.{changes_at, Untouched}
 use Rattle.replay_log.proofs.ActionLemmas.{learns}
 use Rattle.replay_log.proofs.SetLemmas.{moved_is}
@@ -88,7 +93,7 @@ noted_values s (world.Aborts e) = refl
 
 module _ {X Out : Type 0} where
   -- values and bases
-  abbrev Kept : Boosted X Out → Boosted X Out → Type 0
+  abbrev pub Kept : Boosted X Out → Boosted X Out → Type 0
   Kept s t = (t.words.values ≡ s.words.values) × (t.parts ≡ s.parts) × (t.editions ≡ s.editions)
 
   recorded_values : (s : Boosted X Out) (os : List Out) (q : Outcome) → (recorded s os q).words.values ≡ s.words.values
@@ -123,7 +128,7 @@ module _ {X Op Out : Type 0} (c : Content X Op Out) where
       (Kept s)
       (λ _. (refl, refl, refl)) (λ _. (refl, refl, refl))
 
-  put_keeps : (s : Boosted X Out) (a k : ℕ) (which : ℕ → Bool) → Kept s (acts c s (PutGate a k which))
+  pub put_keeps : (s : Boosted X Out) (a k : ℕ) (which : ℕ → Bool) → Kept s (acts c s (PutGate a k which))
   put_keeps s a k which =
       cond_both (is_actor a (s.gates k) && not (is_committing (s.words.actors a).place))
       (gated s (put s.gates k None) (if is_open (s.words.actors a).place then put s.shadows a

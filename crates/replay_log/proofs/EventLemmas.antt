@@ -1,6 +1,7 @@
 -- Every event keeps what a world of words and collections has of its machine: by the stage of its actor the lemma of the
 -- function that is due serves, a list of events is an induction, and the opening has it, as nobody holds or has read anything.
-use Rattle.std.proofs.Common.{◌≡◌, ℕ, ◌<◌, Bool, true, false, not, ◌&&◌, List, [], ◌∷◌, length, Option, Some, None, refl, sym, ◌∙◌, ap, subst, true≢false}
+use Rattle.std.proofs.Common.{◌≡◌, ℕ, ◌<◌, Bool, true, false, not, ◌&&◌, List, [], ◌∷◌, ◌++◌, length, Option, Some, None, refl, sym, ◌∙◌}
+use Rattle.std.proofs.Common.{ap, subst, true≢false}
 use Rattle.std.specs.Prelude.{nat_lt, get_or}
 use Rattle.tx_sets.specs.Entries.{Entries, lookup, locations}
 use Rattle.word_machine.specs.Actor as machine
@@ -26,14 +27,23 @@ use Rattle.collection_machine.proofs.Schedules.{opens_ok}
 use Rattle.collection_machine.proofs.Steady.{IsFreeAsk}
 use Rattle.replay_log.specs.Contents.{Block, Answered, block_of, HaveStripes, content}
 use Rattle.replay_log.specs.Collections.{shown_at}
-use Rattle.replay_log.specs.Worlds.{World, Seat, Stage, Idle, Beginning, Open, Locking, Releasing, Closing, Cancelling, Leaving, Reading, Trying, Copying, Loading, Gating, Ready, Storing, Homing, Returning, After, at_stage, because, seated, acted, asks, moves, actor_of, no_one, with_call, reads, is_known, may_ask, if_allowed, ask_op, calls_on, commits, ask_idle, ask_open, ask_at, gives_up, has_read, has_loaded, has_locked, has_stored, has_released, has_cancelled, step_at, starve_at, happens, run, opened}
+use Rattle.replay_log.specs.Worlds.{World, Seat, Stage, Idle, Beginning, Open, Locking, Releasing, Closing, Cancelling, Leaving, Reading}
+use Rattle.replay_log.specs.Worlds.{Trying, Copying, Loading, Gating, Ready, Storing, Homing, Returning, After, at_stage, because, seated}
+use Rattle.replay_log.specs.Worlds.{acted, asks, moves, actor_of, no_one, with_call, reads, is_known, may_ask, if_allowed, ask_op, calls_on}
+use Rattle.replay_log.specs.Worlds.{commits, ask_idle, ask_open, ask_at, gives_up, has_read, has_loaded, has_locked, has_stored}
+use Rattle.replay_log.specs.Worlds.{has_released, has_cancelled, step_at, starve_at, happens, run, opened}
 use Rattle.replay_log.proofs.ReadLemmas.{in_set, first_read-write, first_read-other}
 use Rattle.replay_log.proofs.ContentLemmas.{content_frame}
 use Rattle.replay_log.proofs.ActionLemmas.{mine, learns, write_goes}
 use Rattle.replay_log.proofs.MixedLemmas.{is_word_op}
-use Rattle.replay_log.proofs.PlaceLemmas.{reading_quiet, locking_quiet, storing_quiet, read_after, lock_after, store_after, release_after, undo_after}
-use Rattle.replay_log.proofs.SeatLemmas.{Copy, CanLeave, reading_leaves, locking_leaves, Differ, Differ-front, InTx, Live, gates_of, StageOk, SeatOk, Linked, At, at_of, linked_seated, at_by, at_ask, cancels_linked, gives_up_linked, word_joins}
-use Rattle.replay_log.proofs.StageLemmas.{plain_word, no_word, below, is_below, choose, at_move, tells, begin_step, has_read_linked, has_locked_linked, trying_step, gating_step, returning_step, has_stored_linked, homing_step, has_released_linked, leaving_step, closing_step, first_step, has_cancelled_linked}
+use Rattle.replay_log.proofs.PlaceLemmas.{reading_quiet, locking_quiet, storing_quiet, read_after, lock_after, store_after, release_after}
+use Rattle.replay_log.proofs.PlaceLemmas.{undo_after}
+use Rattle.replay_log.proofs.SeatLemmas.{Copy, CanLeave, reading_leaves, locking_leaves, Differ, Differ-front, InTx, Live, gates_of}
+use Rattle.replay_log.proofs.SeatLemmas.{StageOk, SeatOk, Linked, At, at_of, linked_seated, at_by, at_ask, cancels_linked, gives_up_linked}
+use Rattle.replay_log.proofs.SeatLemmas.{word_joins}
+use Rattle.replay_log.proofs.StageLemmas.{plain_word, no_word, below, is_below, choose, at_move, tells, begin_step, has_read_linked}
+use Rattle.replay_log.proofs.StageLemmas.{has_locked_linked, trying_step, gating_step, returning_step, has_stored_linked, homing_step}
+use Rattle.replay_log.proofs.StageLemmas.{has_released_linked, leaving_step, closing_step, first_step, has_cancelled_linked}
 use Rattle.replay_log.proofs.CallLemmas.{both_true, reading_unwritten, reading_none, has_loaded_linked, calls_on_linked, copying_step}
 
 -- who may write is no declared reader
@@ -325,6 +335,10 @@ module _ {V : Type 0} where
   happens_linked w (Ask a q) k = ask_linked w a (w.seats a) (w.seats a).stage q k (k.seats a).gates (k.seats a).stage
   happens_linked w (Step a) k = step_linked w a (w.seats a) (w.seats a).stage k refl refl (k.seats a).gates (k.seats a).stage
   happens_linked w (Starve a) k = starve_linked w a (w.seats a) (w.seats a).stage k (k.seats a).gates (k.seats a).stage
+
+  pub run-append : (es fs : List (Event V)) (w : World V) → run w (es ++ fs) ≡ run (run w es) fs
+  run-append [] fs w = refl
+  run-append (e ∷ es) fs w = run-append es fs (happens w e).0
 
   pub run_linked : (es : List (Event V)) (w : World V) → Linked w → Linked (run w es)
   run_linked [] w k = k

@@ -16,10 +16,12 @@ use Rattle.collection_machine.specs.Boosted.{is_actor, is_committing, is_stored,
 use Rattle.seq_model.specs.declared.held.Held.{Held}
 use Rattle.seq_model.specs.declared.event.Event.{Event}
 use Rattle.replay_log.specs.Contents.{Block, HaveStripes, home_of, is_plain, content}
-use Rattle.replay_log.specs.Worlds.{World, Seat, Stage, Idle, Beginning, Open, Locking, Releasing, Closing, Cancelling, Leaving, Reading, Trying, Copying, Loading, Gating, Ready, Storing, Homing, Returning, run, opened}
+use Rattle.replay_log.specs.Worlds.{World, Seat, Stage, Idle, Beginning, Open, Locking, Releasing, Closing, Cancelling, Leaving, Reading}
+use Rattle.replay_log.specs.Worlds.{Trying, Copying, Loading, Gating, Ready, Storing, Homing, Returning, run, opened}
 use Rattle.replay_log.specs.Guards.{IsAllowed, step_action}
 use Rattle.replay_log.proofs.ActionLemmas.{mine, learns}
-use Rattle.replay_log.proofs.PlaceLemmas.{leaving_rests, AfterRead, read_after, AfterLock, lock_after, AfterStore, store_after, AfterRelease, release_after, AfterUndo, undo_after}
+use Rattle.replay_log.proofs.PlaceLemmas.{leaving_rests, AfterRead, read_after, AfterLock, lock_after, AfterStore, store_after}
+use Rattle.replay_log.proofs.PlaceLemmas.{AfterRelease, release_after, AfterUndo, undo_after}
 use Rattle.replay_log.proofs.SeatLemmas.{CommitOk, gates_of, StageOk}
 use Rattle.replay_log.proofs.StageLemmas.{every_all, first_has}
 use Rattle.replay_log.proofs.EventLemmas.{run_linked, opened_linked}

@@ -7,7 +7,6 @@ pub mod ContentLemmas
 pub mod CollectionRuns
 pub mod HeldLemmas
 pub mod CollectionLemmas
-pub mod WorldLemmas
 pub mod RequestLemmas
 pub mod ActionLemmas
 pub mod MixedLemmas
@@ -34,4 +33,8 @@ pub mod EndingLemmas
 pub mod RecordLemmas
 pub mod TryLemmas
 pub mod AskLemmas
+pub mod NumberLemmas
+pub mod RoomLemmas
+pub mod CountLemmas
+pub mod ReplyLemmas
 mod TouchLemmas

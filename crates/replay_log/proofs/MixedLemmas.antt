@@ -2,7 +2,9 @@
 -- calls at the locations of words, in order; the calls on collections are its outcomes, in order. A call on a word touches no
 -- collection, and the other way round, so a transaction is legal at a state where its word calls are legal at the words and its outcomes
 -- at the collections; so are records one after another, and what the records up to a number leave.
-use Rattle.std.proofs.Common.{◌≡◌, ℕ, zero, suc, ◌<◌, ◌≤◌, Bool, true, false, cond, not, List, [], ◌∷◌, ◌++◌, map, length, get_or, set, filter, Option, Some, None, refl, sym, ◌∙◌, ap, subst, arith, true≢false, length-set, get_or-set_same, get_or-set_other, inl, inr, ◌⊎◌}
+use Rattle.std.proofs.Common.{◌≡◌, ℕ, zero, suc, ◌<◌, ◌≤◌, Bool, true, false, cond, not, List, [], ◌∷◌, ◌++◌, map, length, get_or, set}
+use Rattle.std.proofs.Common.{filter, Option, Some, None, refl, sym, ◌∙◌, ap, subst, arith, true≢false, length-set, get_or-set_same}
+use Rattle.std.proofs.Common.{get_or-set_other, inl, inr, ◌⊎◌}
 use Rattle.std.specs.Prelude.{nat_lt, nat_le, option_map, option_and_then, unwrap_or, slice_get, slice_set}
 use Rattle.std.specs.Option.{option_map_or}
 use Rattle.std.proofs.lemmas.Option.{slice_get-get_or}
@@ -17,7 +19,8 @@ use Rattle.seq_model.specs.declared.held.Held.{Held}
 use Rattle.seq_model.specs.declared.record.Record.{Record}
 use Rattle.seq_model.specs.Calls.{held_call}
 use Rattle.seq_model.specs.Contents.{Contents, call_of, op_call, collection_call}
-use Rattle.seq_model.specs.Runs.{reply_of, after_call, after_calls, insert_record, comes_before, NoneComesBefore, IsInCommitOrder, after_run, state_at}
+use Rattle.seq_model.specs.Runs.{reply_of, after_call, after_calls, insert_record, comes_before, NoneComesBefore, IsInCommitOrder}
+use Rattle.seq_model.specs.Runs.{after_run, state_at}
 use Rattle.seq_model.specs.Runs.{IsLegal as AreLegal, IsRun as IsRunOf}
 use Rattle.seq_model.proofs.RunLemmas.{answered}
 use Rattle.word_machine.specs.Actor as machine

@@ -1,13 +1,15 @@
 -- Parts and wholes, for each kind, from what they show at each point. A part shows a collection's answers at the points that
 -- lie on its location and nothing elsewhere, the whole of parts at each point what the part of its location shows. Collections
 -- that show the same at all points are the same, so all that is said of parts and wholes follows point by point.
-use Rattle.std.proofs.Common.{◌≡◌, ℕ, zero, suc, ◌<◌, Bool, true, false, cond, eqb, List, Option, Some, None, Contains, inl, inr, refl, sym, ap, ◌∙◌, arith, eq-eqb, ne_eqb}
+use Rattle.std.proofs.Common.{◌≡◌, ℕ, zero, suc, ◌<◌, Bool, true, false, cond, eqb, List, Option, Some, None, Contains, inl, inr, refl, sym}
+use Rattle.std.proofs.Common.{ap, ◌∙◌, arith, eq-eqb, ne_eqb}
 use Rattle.std.proofs.Math.Nat.{mod-lt}
 use Rattle.std.proofs.lemmas.Bool.{cases_eq, cond-true, cond-false}
 use Rattle.std.specs.Ordering.{nat_cmp}
 use Rattle.std.specs.FinMap.{FinMap}
 use Rattle.seq_model.specs.declared.call.Op.{Op}
-use Rattle.seq_model.specs.declared.call.Op.TheVariants.{Get, Put, Remove, Len, Count, Add, Take, Least, Insert, TakeLeast, Enqueue, Dequeue, Peek}
+use Rattle.seq_model.specs.declared.call.Op.TheVariants.{Get, Put, Remove, Len, Count, Add, Take, Least, Insert, TakeLeast, Enqueue}
+use Rattle.seq_model.specs.declared.call.Op.TheVariants.{Dequeue, Peek}
 use Rattle.seq_model.specs.Counts.{Multiset}
 use Rattle.conflict.specs.declared.change.Change.{Change}
 use Rattle.conflict.specs.declared.outcome.Outcome.{Outcome}
@@ -23,7 +25,8 @@ use Rattle.base_pq.specs.FrameLemmas as pq_laws
 use Rattle.base_queue.specs.Conflicts as queue
 use Rattle.base_queue.specs.FrameLemmas as queue_laws
 use Rattle.replay_log.specs.Base.{Shown, OfMap, OfBag, OfPq, OfQueue}
-use Rattle.replay_log.specs.Parts.{kept, joined, MapKind, BagKind, PqKind, QueueKind, Kind, as_map, as_bag, as_pq, as_queue, whole, IsWhole, AnswersByParts, KnowsItsCalls, LeavesOtherParts, ChangesByPart}
+use Rattle.replay_log.specs.Parts.{kept, joined, MapKind, BagKind, PqKind, QueueKind, Kind, as_map, as_bag, as_pq, as_queue, whole, IsWhole}
+use Rattle.replay_log.specs.Parts.{AnswersByParts, KnowsItsCalls, LeavesOtherParts, ChangesByPart}
 use Rattle.replay_log.specs.Contents.{size_by}
 use Rattle.replay_log.proofs.JoinLemmas.{get_kept, get_joined}
 

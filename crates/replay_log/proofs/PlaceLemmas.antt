@@ -11,7 +11,8 @@ use Rattle.word_machine.specs.Actor.{Place, Actor, goes}
 use Rattle.word_machine.specs.World as world
 use Rattle.word_machine.specs.World.{World, plan, outcome}
 use Rattle.word_machine.specs.Notices as told
-use Rattle.word_machine.specs.Notices.{notice, look_notice, again_notice, lock_notice, take_notice, check_notice, when_none_left, last_notice}
+use Rattle.word_machine.specs.Notices.{notice, look_notice, again_notice, lock_notice, take_notice, check_notice, when_none_left}
+use Rattle.word_machine.specs.Notices.{last_notice}
 use Rattle.word_machine.proofs.Invariant.{IsSomeEntry}
 use Rattle.collection_machine.specs.Boosted.{Boosted, shadows_after, is_committing}
 use Rattle.replay_log.proofs.ActionLemmas.{exchanges, learns}

@@ -3,7 +3,8 @@
 -- what they begin is not committed, and if it tries a gate it is the first try. So whoever has committed and not ended yet has a record
 -- of its own, under its number; and since the records are in commit order, and no two writers share a number, the half-done commits
 -- stand in it once each, rising.
-use Rattle.std.proofs.Common.{◌≡◌, ℕ, zero, suc, ◌<◌, Bool, true, false, cond, ◌&&◌, List, [], ◌∷◌, ◌++◌, length, Option, Some, None, ◌⊎◌, inl, inr, refl, sym, ◌∙◌, ap, subst, true≢false, eqb, eq-eqb, eqb-true, ne_eqb, ltb-true}
+use Rattle.std.proofs.Common.{◌≡◌, ℕ, zero, suc, ◌<◌, Bool, true, false, cond, ◌&&◌, List, [], ◌∷◌, ◌++◌, length, Option, Some, None, ◌⊎◌}
+use Rattle.std.proofs.Common.{inl, inr, refl, sym, ◌∙◌, ap, subst, true≢false, eqb, eq-eqb, eqb-true, ne_eqb, ltb-true}
 use Rattle.std.specs.Prelude.{nat_lt}
 use Rattle.std.proofs.lemmas.Bool.{cases_eq, cond_both, cond-true, cond-false}
 use Rattle.tx_sets.specs.Entries.{Entries, lookup}
@@ -26,7 +27,13 @@ use Rattle.collection_machine.specs.Content.{has}
 use Rattle.collection_machine.specs.Boosted.{TakeGate, PutGate, Accept, GoHome, is_none}
 use Rattle.replay_log.specs.Contents.{Block, Asked, Answered, content}
 use Rattle.replay_log.specs.Pieces.{piece_at, covers_at}
-use Rattle.replay_log.specs.Worlds.{World, Seat, Stage, Idle, Beginning, Open, Locking, Releasing, Closing, Cancelling, Leaving, Reading, Trying, Copying, Loading, Gating, Ready, Storing, Homing, Returning, After, has_room, sized_by, with_editions, at_stage, because, seated, acted, asks, moves, actor_of, word_notice, no_one, is_leaving, gives_up, with_call, reads, outcome_at, reply_of, call_of, is_fresh, judges, loads, answers, calls_on, if_allowed, ask_op, commits, ask_at, recorded, has_begun, has_read, has_tried, with_piece, has_loaded, takes_gates, written_homes, has_locked, goes_home, has_stored, has_released, has_cancelled, step_at, starve_at, happens, run, opened, is_half_done, half_in, half, more_tries}
+use Rattle.replay_log.specs.Worlds.{World, Seat, Stage, Idle, Beginning, Open, Locking, Releasing, Closing, Cancelling, Leaving, Reading}
+use Rattle.replay_log.specs.Worlds.{Trying, Copying, Loading, Gating, Ready, Storing, Homing, Returning, After, has_room, sized_by}
+use Rattle.replay_log.specs.Worlds.{with_editions, at_stage, because, seated, acted, asks, moves, actor_of, word_notice, no_one, is_leaving}
+use Rattle.replay_log.specs.Worlds.{gives_up, with_call, reads, outcome_at, reply_of, call_of, is_fresh, judges, loads, answers, calls_on}
+use Rattle.replay_log.specs.Worlds.{if_allowed, ask_op, commits, ask_at, recorded, has_begun, has_read, has_tried, with_piece, has_loaded}
+use Rattle.replay_log.specs.Worlds.{takes_gates, written_homes, has_locked, goes_home, has_stored, has_released, has_cancelled, step_at}
+use Rattle.replay_log.specs.Worlds.{starve_at, happens, run, opened, is_half_done, half_in, half, more_tries}
 use Rattle.replay_log.specs.WorldSerial.{HasWritten, AreAbove, AreRising, AreHalfDone}
 use Rattle.replay_log.specs.WorldTraces.{committed_by, with_record}
 use Rattle.replay_log.specs.WorldProgress.{whose}

@@ -2,7 +2,8 @@
 -- the step loads, a copy is stale where the two editions differ, and a gate that was tried in vain is another's. The last step of the
 -- request tells that cause.
 use Rattle.collection_machine.specs.Content.{IsIn, has}
-use Rattle.std.proofs.Common.{◌≡◌, ◌≢◌, ℕ, zero, suc, ◌+◌, Bool, true, false, cond, List, [], ◌∷◌, ◌++◌, Option, Some, None, ◌⊎◌, Contains, refl, sym, ◌∙◌, ap, subst, true≢false, eqb, eq-eqb, ne_eqb, inl, inr}
+use Rattle.std.proofs.Common.{◌≡◌, ◌≢◌, ℕ, zero, suc, ◌+◌, Bool, true, false, cond, List, [], ◌∷◌, ◌++◌, Option, Some, None, ◌⊎◌, Contains}
+use Rattle.std.proofs.Common.{refl, sym, ◌∙◌, ap, subst, true≢false, eqb, eq-eqb, ne_eqb, inl, inr}
 use Rattle.std.specs.Prelude.{if◌then◌else◌, nat_le, nat_lt}
 use Rattle.std.proofs.lemmas.Bool.{cases_eq, cond_both, cond-true, cond-false}
 use Rattle.std.proofs.lemmas.List.Elements.{Contains-push, Contains-append_left, Contains-append_right}
@@ -28,7 +29,12 @@ use Rattle.seq_model.specs.declared.event.Event.{Event}
 use Rattle.seq_model.specs.declared.event.Event.TheVariants.{Step}
 use Rattle.collection_machine.specs.Boosted.{TakeGate, PutGate, GoHome, Accept, is_none, is_actor}
 use Rattle.replay_log.specs.Contents.{Block, Asked, Answered, HaveStripes, is_plain, content}
-use Rattle.replay_log.specs.Worlds.{World, Seat, Stage, Idle, Beginning, Open, Locking, Releasing, Closing, Cancelling, Leaving, Reading, Trying, Copying, Loading, Gating, Ready, Storing, Homing, Returning, After, has_room, with_editions, at_stage, because, seated, acted, asks, moves, actor_of, word_notice, is_leaving, cancels, gives_up, is_fresh, judges, loads, answers, has_begun, has_read, has_tried, has_loaded, takes_gates, has_locked, goes_home, has_stored, has_released, has_cancelled, why, recorded, no_one, with_call, call_of, reply_of, written_homes, with_piece, sized_by, outcome_at, step_at, happens, run, opened}
+use Rattle.replay_log.specs.Worlds.{World, Seat, Stage, Idle, Beginning, Open, Locking, Releasing, Closing, Cancelling, Leaving, Reading}
+use Rattle.replay_log.specs.Worlds.{Trying, Copying, Loading, Gating, Ready, Storing, Homing, Returning, After, has_room, with_editions}
+use Rattle.replay_log.specs.Worlds.{at_stage, because, seated, acted, asks, moves, actor_of, word_notice, is_leaving, cancels, gives_up}
+use Rattle.replay_log.specs.Worlds.{is_fresh, judges, loads, answers, has_begun, has_read, has_tried, has_loaded, takes_gates, has_locked}
+use Rattle.replay_log.specs.Worlds.{goes_home, has_stored, has_released, has_cancelled, why, recorded, no_one, with_call, call_of, reply_of}
+use Rattle.replay_log.specs.Worlds.{written_homes, with_piece, sized_by, outcome_at, step_at, happens, run, opened}
 use Rattle.replay_log.specs.Pieces.{piece_at, covers_at}
 use Rattle.seq_model.specs.declared.call.Op.TheVariants.{Read}
 use Rattle.seq_model.specs.declared.call.Reply.TheVariants as reply

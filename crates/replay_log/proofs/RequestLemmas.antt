@@ -1,7 +1,8 @@
 -- Whatever requests do, they do by the machine's actions. Each function of the definition does some actions of its own actor and
 -- reseats it; so an event reaches its world by actions of that actor, which leave the other actors and their seats, and a list
 -- of events by the lists of its events, one after another.
-use Rattle.std.proofs.Common.{◌≡◌, ℕ, zero, suc, Bool, true, false, ◌&&◌, List, [], ◌∷◌, ◌++◌, Option, Some, None, refl, sym, ap, ◌∙◌, subst, eqb, ltb, length}
+use Rattle.std.proofs.Common.{◌≡◌, ℕ, zero, suc, Bool, true, false, ◌&&◌, List, [], ◌∷◌, ◌++◌, Option, Some, None, refl, sym, ap, ◌∙◌}
+use Rattle.std.proofs.Common.{subst, eqb, ltb, length}
 use Rattle.std.specs.Prelude.{get_or, not, if◌then◌else◌}
 use Rattle.std.proofs.lemmas.Bool.{cond_both}
 use Rattle.tx_sets.specs.Entries.{Entries, lookup, locations}
@@ -21,7 +22,10 @@ use Rattle.seq_model.specs.declared.limits.TheConstants.{CALL_LIMIT}
 use Rattle.word_machine.specs.Actor.{Place, Actor}
 use Rattle.word_machine.proofs.Sets.{put-other}
 use Rattle.collection_machine.specs.Content.{Content}
-use Rattle.collection_machine.specs.Boosted.{Boosted, Action, OnWords, TakeGate, PutGate, Accept, GoHome, acts, act_all, is_actor, is_none, is_open, is_stored, is_committing, is_held, is_given, is_sound, every, may_write, on_words, on_ask, shadows_after, recorded, word_step, gated, copied, homed, writes_asked, longer, accepted, changes}
+use Rattle.collection_machine.specs.Boosted.{Boosted, Action, OnWords, TakeGate, PutGate, Accept, GoHome, acts, act_all, is_actor, is_none}
+use Rattle.collection_machine.specs.Boosted.{is_open, is_stored, is_committing, is_held, is_given, is_sound, every, may_write, on_words}
+use Rattle.collection_machine.specs.Boosted.{on_ask, shadows_after, recorded, word_step, gated, copied, homed, writes_asked, longer}
+use Rattle.collection_machine.specs.Boosted.{accepted, changes}
 use Rattle.collection_machine.proofs.Quiet.{both, open_is}
 use Rattle.replay_log.proofs.ActionLemmas.{does_rest, is_undeclared, writes_wrote}
 use Rattle.collection_machine.specs.Serial.{after_actions}
@@ -30,7 +34,13 @@ use Rattle.replay_log.specs.Contents.{Block, Asked, Answered, content}
 use Rattle.replay_log.specs.Collections.{shown_at}
 use Rattle.replay_log.specs.Pieces.{piece_at, covers_at}
 use Rattle.replay_log.specs.WorldProgress.{whose}
-use Rattle.replay_log.specs.Worlds.{World, Seat, Stage, Idle, Beginning, Open, Locking, Releasing, Closing, Cancelling, Leaving, Reading, Trying, Copying, Loading, Gating, Ready, Storing, Homing, Returning, After, has_room, with_editions, with_piece, sized_by, is_fresh, judges, at_stage, because, seated, acted, asks, moves, actor_of, word_notice, cancels, gives_up, reads, outcome_at, loads, answers, calls_on, if_allowed, ask_op, commits, ask_at, recorded as noted_in, has_begun, has_read, has_tried, has_loaded, takes_gates, has_locked, goes_home, has_stored, has_released, has_cancelled, step_at, starve_at, happens, run, opened}
+use Rattle.replay_log.specs.Worlds.{World, Seat, Stage, Idle, Beginning, Open, Locking, Releasing, Closing, Cancelling, Leaving, Reading}
+use Rattle.replay_log.specs.Worlds.{Trying, Copying, Loading, Gating, Ready, Storing, Homing, Returning, After, has_room, with_editions}
+use Rattle.replay_log.specs.Worlds.{with_piece, sized_by, is_fresh, judges, at_stage, because, seated, acted, asks, moves, actor_of}
+use Rattle.replay_log.specs.Worlds.{word_notice, cancels, gives_up, reads, outcome_at, loads, answers, calls_on, if_allowed, ask_op}
+use Rattle.replay_log.specs.Worlds.{commits, ask_at, recorded as noted_in, has_begun, has_read, has_tried, has_loaded, takes_gates}
+use Rattle.replay_log.specs.Worlds.{has_locked, goes_home, has_stored, has_released, has_cancelled, step_at, starve_at, happens, run}
+use Rattle.replay_log.specs.Worlds.{opened}
 
 -- The world u is reached from v by actions of the machine.
 pub record Reached {V : Type 0} (v u : World V) : Type 0 where

@@ -7,7 +7,8 @@
 -- holds, each once (`Differ`), so that no guard of the machine refuses what the next step asks. `Linked` says it of all seats, and that
 -- records and aborted transactions are the machine's. An action of actor a leaves all of it for the others (`at_by`), so each event is
 -- proved for its own seat alone (`At`).
-use Rattle.std.proofs.Common.{◌≡◌, ℕ, ◌<◌, Bool, true, false, cond, List, [], ◌∷◌, ◌++◌, map, Some, None, ◌⊎◌, inl, inr, refl, sym, ◌∙◌, ap, subst, true≢false, eqb, eq-eqb, ne_eqb}
+use Rattle.std.proofs.Common.{◌≡◌, ℕ, ◌<◌, Bool, true, false, cond, List, [], ◌∷◌, ◌++◌, map, Some, None, ◌⊎◌, inl, inr, refl, sym, ◌∙◌, ap}
+use Rattle.std.proofs.Common.{subst, true≢false, eqb, eq-eqb, ne_eqb}
 use Rattle.std.specs.Prelude.{not, option_map, if◌then◌else◌}
 use Rattle.std.proofs.lemmas.Bool.{cases_eq, cond-true, cond-false}
 use Rattle.std.proofs.lemmas.List.{map-append, append-nil}
@@ -30,12 +31,15 @@ use Rattle.collection_machine.proofs.Steady.{IsFreeAsk}
 use Rattle.replay_log.specs.Base.{Shown}
 use Rattle.replay_log.specs.Contents.{Block, Asked, Answered, block_of, first_of, home_of, is_plain, HaveStripes, content}
 use Rattle.replay_log.specs.Pieces.{Piece, covers_in}
-use Rattle.replay_log.specs.Worlds.{World, Seat, Stage, Idle, Beginning, Open, Locking, Releasing, Closing, Cancelling, Leaving, Reading, Trying, Copying, Loading, Gating, Ready, Storing, Homing, Returning, Ended, at_stage, seated, acted, asks, cancels, gives_up, is_known, may_ask, is_leaving, call_of}
+use Rattle.replay_log.specs.Worlds.{World, Seat, Stage, Idle, Beginning, Open, Locking, Releasing, Closing, Cancelling, Leaving, Reading}
+use Rattle.replay_log.specs.Worlds.{Trying, Copying, Loading, Gating, Ready, Storing, Homing, Returning, Ended, at_stage, seated, acted}
+use Rattle.replay_log.specs.Worlds.{asks, cancels, gives_up, is_known, may_ask, is_leaving, call_of}
 use Rattle.replay_log.proofs.ContentLemmas.{content_frame}
 use Rattle.word_machine.specs.Opacity.{first_read}
 use Rattle.replay_log.proofs.ReadLemmas.{in_set}
 use Rattle.replay_log.proofs.ActionLemmas.{Apart, Own, Goes, mine, as_mine, ask_goes}
-use Rattle.replay_log.proofs.MixedLemmas.{is_of_word, word_calls, is_word_op, is_on_word, on_words, on_held, pair_of, Told, Told-push, Parts, SameRecords}
+use Rattle.replay_log.proofs.MixedLemmas.{is_of_word, word_calls, is_word_op, is_on_word, on_words, on_held, pair_of, Told, Told-push}
+use Rattle.replay_log.proofs.MixedLemmas.{Parts, SameRecords}
 
 -- ---- places
 abbrev pub AtReading : ℕ → Place → Type 0
@@ -107,31 +111,32 @@ Differ-front (k ∷ ks) js d = (has-append ks js k d.0, Differ-front ks js d.1)
 -- ---- what is left of a transaction that is given up
 pub record LeftAt (y z : Actor) : Type 0 where
   pub rv : z.rv ≡ y.rv
+  pub wv : z.wv ≡ y.wv
   pub calls : z.calls ≡ y.calls
   pub held : z.held ≡ y.held
   pub place : (z.place ≡ machine.Leave) ⊎ ((z.place ≡ machine.Undo) × IsSomeEntry z.held)
 
 aborts_at : (y : Actor) (h : Entries) → y.held ≡ h → LeftAt y (word.abort (machine.goes y machine.Undo) h)
-aborts_at y [] e = record { rv = refl; calls = refl; held = refl; place = inl refl }
-aborts_at y (d ∷ es) e = record { rv = refl; calls = refl; held = refl; place = inr (refl, subst IsSomeEntry (sym e) tt) }
+aborts_at y [] e = record { rv = refl; wv = refl; calls = refl; held = refl; place = inl refl }
+aborts_at y (d ∷ es) e = record { rv = refl; wv = refl; calls = refl; held = refl; place = inr (refl, subst IsSomeEntry (sym e) tt) }
 
 undo_at : (y : Actor) (h : Entries) → y.place ≡ machine.Undo → y.held ≡ h → LeftAt y (word.abort y h)
-undo_at y [] p e = record { rv = refl; calls = refl; held = refl; place = inl refl }
-undo_at y (d ∷ es) p e = record { rv = refl; calls = refl; held = refl; place = inr (p, subst IsSomeEntry (sym e) tt) }
+undo_at y [] p e = record { rv = refl; wv = refl; calls = refl; held = refl; place = inl refl }
+undo_at y (d ∷ es) p e = record { rv = refl; wv = refl; calls = refl; held = refl; place = inr (p, subst IsSomeEntry (sym e) tt) }
 
 -- a cancel, and then an abort
 pub left_at : (y : Actor) (p : Place) → y.place ≡ p → CanLeave p → (q : Place) × ((ask y p word.AskCancel).place ≡ q)
     × LeftAt y (ask (ask y p word.AskCancel) q word.AskAbort)
-left_at y machine.Open e h = (machine.Open, e, record { rv = refl; calls = refl; held = refl; place = inl refl })
-left_at y (machine.Look k) e h = (machine.Look k, e, record { rv = refl; calls = refl; held = refl; place = inl refl })
-left_at y (machine.Fetch k j) e h = (machine.Fetch k j, e, record { rv = refl; calls = refl; held = refl; place = inl refl })
-left_at y (machine.Again k j v) e h = (machine.Again k j v, e, record { rv = refl; calls = refl; held = refl; place = inl refl })
+left_at y machine.Open e h = (machine.Open, e, record { rv = refl; wv = refl; calls = refl; held = refl; place = inl refl })
+left_at y (machine.Look k) e h = (machine.Look k, e, record { rv = refl; wv = refl; calls = refl; held = refl; place = inl refl })
+left_at y (machine.Fetch k j) e h = (machine.Fetch k j, e, record { rv = refl; wv = refl; calls = refl; held = refl; place = inl refl })
+left_at y (machine.Again k j v) e h = (machine.Again k j v, e, record { rv = refl; wv = refl; calls = refl; held = refl; place = inl refl })
 left_at y (machine.Lock ls) e h = (machine.Undo, refl, aborts_at y y.held refl)
 left_at y (machine.Take l k ls) e h = (machine.Undo, refl, aborts_at y y.held refl)
 left_at y (machine.Check ls) e h = (machine.Undo, refl, aborts_at y y.held refl)
 left_at y machine.Broken e h = (machine.Undo, refl, aborts_at y y.held refl)
 left_at y machine.Undo e h = (machine.Undo, e, undo_at y y.held e refl)
-left_at y machine.Close e h = (machine.Close, e, record { rv = refl; calls = refl; held = refl; place = inl refl })
+left_at y machine.Close e h = (machine.Close, e, record { rv = refl; wv = refl; calls = refl; held = refl; place = inl refl })
 left_at y p e h = absurd h
 
 abbrev pub Copy : Type 0 → Type 0
@@ -372,6 +377,17 @@ module _ {V : Type 0} where
             subst (λ p. Linked (seated w2 a (at_stage x (if is_leaving p then Leaving else Cancelling)))) (sym (place ∙ undo.0))
             (linked_seated w2 a (at_stage x Cancelling) y2 z g k2 (record { gates = none; stage = (undo.0, undo.1, tx2) }))
       ]
+
+  -- it is left with its number
+  pub cancels_wv : (w : World V) (a : ℕ) (x : Seat V) (y : Actor) (z : Copy V) (g : ℕ → Bool) → At w a y z g → CanLeave y.place
+      → ((cancels w a x).boosted.words.actors a).wv ≡ y.wv
+  cancels_wv w a x y z g k leave =
+      let q = left_at y y.place refl leave in
+      let y1 = ask y y.place word.AskCancel in
+      let w1 = acted w (asks a word.AskCancel ∷ []) in
+      let k2 : At (acted w1 (asks a word.AskAbort ∷ [])) a (ask y1 q.0 word.AskAbort) z g =
+      at_ask w1 a y1 z g q.0 word.AskAbort (at_ask w a y z g y.place word.AskCancel k refl tt) q.1 tt in
+      ap (λ (u : Actor). u.wv) k2.own.actor ∙ q.2.wv
 
   pub gives_up_linked : (w : World V) (a : ℕ) (x : Seat V) (y : Actor) (z : Copy V) (g : ℕ → Bool) (ks : List ℕ) → At w a y z g
       → ((k : ℕ) → g k ≡ has ks k)

@@ -1,13 +1,15 @@
 -- A world that has what its machine has is serial. The machine's history is a run of the words and of the collections; the world's
 -- records are that history with each transaction's calls in the order in which they were made, so the records are a run of both
 -- together, and what they leave, after all or up to a number, is what the words and the collections leave.
-use Rattle.std.proofs.Common.{◌≡◌, ℕ, zero, suc, ◌<◌, max, Some, inl, inr, arith, true, false, List, [], ◌∷◌, length, refl, sym, ◌∙◌, ap, subst, true≢false}
+use Rattle.std.proofs.Common.{◌≡◌, ℕ, zero, suc, ◌<◌, max, Some, inl, inr, arith, true, false, List, [], ◌∷◌, length, refl, sym, ◌∙◌, ap}
+use Rattle.std.proofs.Common.{subst, true≢false}
 use Rattle.std.specs.Prelude.{get_or}
 use Rattle.word_machine.specs.Actor as machine
 use Rattle.word_machine.specs.Actor.{Place, Actor}
 use Rattle.word_machine.specs.World as world
 use Rattle.word_machine.specs.World.{Memory}
-use Rattle.word_machine.specs.Opacity.{IsLegal, IsRun, IsInOrder, IsHalfDone, IsNoneHalfDone, AllEnded, NoWriterHas, memory_at, memory_after, upto}
+use Rattle.word_machine.specs.Opacity.{IsLegal, IsRun, IsInOrder, IsHalfDone, IsNoneHalfDone, AllEnded, NoWriterHas, memory_at}
+use Rattle.word_machine.specs.Opacity.{memory_after, upto}
 use Rattle.word_machine.specs.Refusals.{IsEnding}
 use Rattle.word_machine.proofs.Schedules.{legal_of, actor_saw, words_at_rest}
 use Rattle.std.proofs.lemmas.Bool.{cases_eq, cases_lt, cases_Bool, cond-true, cond-false}
@@ -27,14 +29,18 @@ use Rattle.collection_machine.specs.Boosted.{Committed, Aborted, Boosted, Action
 use Rattle.collection_machine.specs.Serial.{AllAborted, after_actions, ended}
 use Rattle.collection_machine.specs.Serial as serial
 use Rattle.collection_machine.proofs.Invariant.{Inv}
-use Rattle.collection_machine.proofs.Runs as runs
+use Rattle.collection_machine.proofs.States.{Model}
+use Rattle.collection_machine.proofs.Stated.{states_serial, states_left, states_saw, states_aborted}
+use Rattle.collection_machine.proofs.Models.{fits_all}
 use Rattle.collection_machine.proofs.Schedules.{edition_few, all_ok, all-opening, all_words_saw, opens_ok}
 use Rattle.replay_log.specs.Base.{Shown}
 use Rattle.replay_log.specs.Contents.{Block, Asked, Answered, HaveStripes, is_plain, content}
-use Rattle.replay_log.proofs.CollectionRuns as collections
+use Rattle.replay_log.proofs.CollectionRuns as runs_on
 use Rattle.replay_log.specs.Collections.{Suit, shown_at}
-use Rattle.replay_log.proofs.CollectionRuns.{AreReplies, IsRunOn, held_at}
-use Rattle.replay_log.specs.Worlds.{is_half_done, World, Seat, Stage, Idle, Beginning, Open, Locking, Releasing, Closing, Cancelling, Leaving, Reading, Trying, Copying, Loading, Gating, Ready, Storing, Homing, Returning, Ended, run, opened}
+use Rattle.replay_log.proofs.CollectionRuns.{AreReplies, IsRunOn, held_at, sequential}
+use Rattle.replay_log.specs.Worlds.{is_half_done, World, Seat, Stage, Idle, Beginning, Open, Locking, Releasing, Closing, Cancelling}
+use Rattle.replay_log.specs.Worlds.{Leaving, Reading, Trying, Copying, Loading, Gating, Ready, Storing, Homing, Returning, Ended, run}
+use Rattle.replay_log.specs.Worlds.{opened}
 use Rattle.std.proofs.Common.{◌≤◌, cond, Bool}
 use Rattle.std.specs.Prelude.{nat_lt}
 use Rattle.word_machine.specs.Notices as told
@@ -48,14 +54,14 @@ use Rattle.replay_log.proofs.SeatLemmas.{at_of}
 use Rattle.replay_log.proofs.StageLemmas.{tells}
 use Rattle.replay_log.specs.WorldTraces.{state}
 use Rattle.replay_log.proofs.TraceLemmas.{shows_state}
-use Rattle.replay_log.specs.WorldSerial.{AreUpTo, Holds, SawAt, AllSaw, HasWritten, IsSerial, commits_at, gives_back}
+use Rattle.replay_log.specs.WorldSerial.{AreUpTo, Holds, SawAt, AllSaw, HasWritten, IsSerial, commits_at}
 use Rattle.replay_log.proofs.ContentLemmas.{content_frame}
 use Rattle.std.proofs.lemmas.Bool.Decides.{nat_tests}
 use Rattle.replay_log.proofs.CallLemmas.{no_word_at}
-use Rattle.replay_log.proofs.CollectionLemmas.{suit_after}
-use Rattle.replay_log.proofs.WorldLemmas.{world_serial, world_left, world_saw, world_aborted}
+use Rattle.replay_log.proofs.CollectionLemmas.{collections}
 use Rattle.replay_log.proofs.RequestLemmas.{run_by, actions_of, later_actions}
-use Rattle.replay_log.proofs.MixedLemmas.{Agrees, SameRecords, both_legal, runs_agree, run_too, at_number, order_too, HasNumber, written_too}
+use Rattle.replay_log.proofs.MixedLemmas.{Agrees, SameRecords, both_legal, runs_agree, run_too, at_number, order_too, HasNumber}
+use Rattle.replay_log.proofs.MixedLemmas.{written_too}
 use Rattle.replay_log.proofs.SeatLemmas.{Copy, AtReading, AtLocking, AtStoring, CanLeave, InTx, StageOk, SameEnded, Linked}
 use Rattle.replay_log.proofs.EventLemmas.{run_linked, opened_linked}
 
@@ -209,24 +215,15 @@ module _ {V : Type 0} where
   done_of s n bs x y z Releasing p h half pl = ([], h.1, subst (PlaceOk s y) h.0 pl)
   done_of s n bs x y z st p h half pl = absurd (true≢false (sym half))
 
-  suit_calls : (bs : List Block) (hs : List (Held V)) (os : List (Answered V)) → Suit bs hs → Suit bs (collections.after_calls hs os)
-  suit_calls bs hs [] s = s
-  suit_calls bs hs (o ∷ os) s = suit_calls bs (collections.after_call hs o.asked.collection o.asked.op) os
-      (suit_after bs hs o.asked.collection o.asked.op s)
-
-  suit_run : (bs : List Block) (hs : List (Held V)) (qs : List (Committed (Answered V))) → Suit bs hs
-      → Suit bs (collections.after_run hs qs)
-  suit_run bs hs [] s = s
-  suit_run bs hs (q ∷ qs) s = suit_run bs (collections.after_calls hs q.outcomes) qs (suit_calls bs hs q.outcomes s)
-
   -- What the machine promises, by its words and its collections.
   record Facts (n : ℕ) (bs : List Block) (m : Memory) (hs : List (Held V)) (s : Boosted (Shown V) (Answered V)) : Type 0 where
     order : IsInOrder (serial.words s.history)
     run_words : IsRun m (serial.words s.history)
     run_held : IsRunOn hs s.history
+    suit : Suit bs (runs_on.after_run hs s.history)
     left_words : IsNoneHalfDone s.words → (l : ℕ) → s.words.values l ≡ memory_after m (serial.words s.history) l
     left_held : IsNoneHalfDone s.words → (l : ℕ) → is_plain n bs l ≡ false → s.parts l
-        ≡ shown_at n bs (collections.after_run hs s.history) l
+        ≡ shown_at n bs (runs_on.after_run hs s.history) l
     aborted : AllAborted (λ e. IsLegal (memory_after m (upto e.word.rv (serial.words s.history))) e.word.calls
         × AreReplies (held_at s.history e.word.rv hs) e.outcomes) s.aborted
 
@@ -240,6 +237,9 @@ module _ {V : Type 0} where
       (actions : List (Action (Asked V))) where
     abbrev after_them : Boosted (Shown V) (Answered V)
     after_them = after_actions (content n bs) clock m (shown_at n bs hs) actions
+
+    abbrev model : Model (content {V = V} n bs) sequential (Suit bs)
+    model = collections V n bs stripes
 
     ok : Inv (content n bs) after_them
     ok = all_ok (content n bs) (content_frame n bs stripes) actions (opens clock m (shown_at n bs hs))
@@ -256,11 +256,12 @@ module _ {V : Type 0} where
           order = subst IsInOrder (sym v.same) v.machine.ordered;
           run_words = subst (IsRun m) (sym v.same)
               (subst (λ (z : Memory). IsRun z s.words.history) memory_is (word_schedules.serial s.words v.machine));
-          run_held = world_serial n bs stripes clock m (hs, suit) actions;
+          run_held = states_serial (content n bs) (content_frame n bs stripes) sequential (Suit bs) model clock m hs suit actions;
+          suit = fits_all (content n bs) (content_frame n bs stripes) sequential (Suit bs) model s.history hs suit;
           left_words = λ none l.
               words_at_rest s.words v.machine none l ∙ ap (λ (z : Memory). memory_after z s.words.history l) memory_is
               ∙ ap (λ (h : List world.Record). memory_after m h l) (sym v.same);
-          left_held = world_left n bs stripes clock m (hs, suit) actions;
+          left_held = states_left (content n bs) (content_frame n bs stripes) sequential (Suit bs) model clock m hs suit actions;
           aborted =
               both_aborted (λ e. IsLegal (memory_after m (upto e.rv (serial.words s.history))) e.calls)
               (λ e. AreReplies (held_at s.history e.word.rv hs) e.outcomes) s.aborted
@@ -269,7 +270,7 @@ module _ {V : Type 0} where
               (λ e. IsLegal (memory_after m (upto e.rv (serial.words s.history))) e.calls) s.words.aborted
               (λ e h. at_memory s.words m (serial.words s.history) e.rv e.calls memory_is v.same h)
               (word_schedules.all_aborted s.words v.machine)))
-              (world_aborted n bs stripes clock m (hs, suit) actions);
+              (states_aborted (content n bs) (content_frame n bs stripes) sequential (Suit bs) model clock m hs suit actions);
         }
 
     -- and what an open transaction saw, whatever happens later
@@ -285,7 +286,7 @@ module _ {V : Type 0} where
               ∙ sym ok.first ∙ memory_is) v.same
               (legal_of t.words (s.words.actors a).rv (s.words.actors a).calls
               (all_words_saw c f later s (s.words.actors a).rv (s.words.actors a).calls ok (actor_saw s.words a ok.machine))),
-          world_saw n bs stripes clock m (hs, suit) actions later a,
+          states_saw (content n bs) (content_frame n bs stripes) sequential (Suit bs) model clock m hs suit actions later a,
         )
 
   -- ---- the world
@@ -361,7 +362,7 @@ module _ {V : Type 0} where
           count = g.count ∙ sym words_are;
           words = λ l lt. f.left_words rest l ∙ sym (g.same l (subst (λ i. l < i) words_are lt));
           suit = subst (λ (cs : List Block). Suit cs t.held) (sym blocks_are)
-              (subst (Suit bs) (sym g.held) (suit_run bs hs s.history suit));
+              (subst (Suit bs) (sym g.held) f.suit);
           held = λ l pl.
               f.left_held rest l (subst (λ (cs : List Block). is_plain n cs l ≡ false) blocks_are
               (subst (λ i. is_plain i w.blocks l ≡ false) words_are pl))
@@ -469,47 +470,6 @@ module _ {V : Type 0} where
             → (has_begun u a x (cond b (told.Begun clock) (told.Exhausted clock))).1 ≡ note.Answered a (answer.Begun rv) → clock ≡ rv
         by_clock u x clock true h = cc
         by_clock u x clock false h = cc
-
-  -- ---- a number that was given up
-  none_written : (n k : ℕ) (rs : List (ℕ × Record V)) (qs : List (Committed (Answered V))) → SameRecords n rs qs
-      → NoWriterHas k (serial.words qs)
-      → HasWritten k rs → ⊥
-  none_written n k [] qs g f h = h
-  none_written n k (r ∷ rs) [] g f h = absurd g
-  none_written n k (r ∷ rs) (q ∷ qs) g f h =
-      elim h [ inl is ↦ f.0 (sym g.0.writes ∙ is.1) (sym g.0.number ∙ is.0) | inr more ↦ none_written n k rs qs g.1 f.1 more ]
-
-  gives_up_there : (n : ℕ) (bs : List Block) (x : Seat V) (y : Actor) (z : Copy V) (st : Stage V) (p : Place) → StageOk n bs x y z st p
-      → gives_back st ≡ true
-      → IsEnding p
-  gives_up_there n bs x y z Cancelling p h back = subst IsEnding (sym h.0) tt
-  gives_up_there n bs x y z Leaving p h back = subst IsEnding (sym h.0) tt
-  gives_up_there n bs x y z st p h back = absurd (true≢false (sym back))
-
-  pub unused_later : (bs : List Block) → HaveStripes bs → (clock : ℕ) (values : List ℕ) (hs : List (Held V))
-      (events later : List (Event V)) (a : ℕ)
-      → let w = run (opened bs clock values hs) events in
-      gives_back (w.seats a).stage ≡ true → HasWritten (w.boosted.words.actors a).wv (run w later).records → ⊥
-  unused_later bs stripes clock values hs events later a back written =
-      let w = run (opened bs clock values hs) events in
-      let t = run w later in
-      let n = length values in
-      let y = w.boosted.words.actors a in
-      let first = run_linked events (opened bs clock values hs) (opened_linked bs clock values hs stripes) in
-      let ends = gives_up_there w.words w.blocks (w.seats a) y (w.boosted.shadows a) (w.seats a).stage y.place (first.seats a).stage back in
-      let k = run_linked later w first in
-      let is = (run_by later w).words ∙ (run_by events (opened bs clock values hs)).words in
-      let same : SameRecords n t.records t.boosted.history = subst (λ i. SameRecords i t.records t.boosted.history) is k.base.records in
-      let ac = actions_of bs clock values hs events in
-      let lt = later_actions bs clock values hs events later in
-      let c = content {V = V} n bs in
-      let spent = runs.unused_later c (content_frame {V = V} n bs stripes) clock (λ l. get_or values l 0) (shown_at n bs hs) ac.0 lt.0 a
-      (subst (λ (s : Boosted (Shown V) (Answered V)). IsEnding (s.words.actors a).place) ac.1 ends) in
-      none_written n y.wv t.records t.boosted.history same
-      (subst (λ (s : Boosted (Shown V) (Answered V)). NoWriterHas y.wv (serial.words s.history)) (sym lt.1)
-      (subst (λ (s : Boosted (Shown V) (Answered V)). NoWriterHas (s.words.actors a).wv (serial.words (act_all c lt.0 s).history))
-      (sym ac.1) spent))
-      written
 
   -- a transaction that commits has seen what an open one has
   pub committed_saw : (first : Contents V) (rs : List (ℕ × Record V)) (x : Seat V) (st : Stage V) → commits_at st ≡ true

@@ -1,7 +1,8 @@
 -- What an action leaves of the two sets of its actor. A request leaves both, but for a write, which the write set takes; a step leaves
 -- both, but for the load that begins a transaction, which empties them, and the last load of a read, which the read set takes; an action
 -- on a gate leaves the words.
-use Rattle.std.proofs.Common.{◌≡◌, ℕ, ◌+◌, ◌≤◌, Bool, true, false, cond, ◌&&◌, List, [], ◌∷◌, length, Option, Some, None, ◌⊎◌, inl, inr, refl, sym, ◌∙◌, ap, subst, true≢false, arith, eqb}
+use Rattle.std.proofs.Common.{◌≡◌, ℕ, ◌+◌, ◌≤◌, Bool, true, false, cond, ◌&&◌, List, [], ◌∷◌, length, Option, Some, None, ◌⊎◌, inl, inr}
+use Rattle.std.proofs.Common.{refl, sym, ◌∙◌, ap, subst, true≢false, arith, eqb}
 use Rattle.std.specs.Prelude.{nat_le, not, if◌then◌else◌}
 use Rattle.std.proofs.lemmas.Bool.{cond_both, cond-true}
 use Rattle.vlock_word.specs.declared.lock_word.LockWord.{LockWord}
@@ -16,11 +17,12 @@ use Rattle.word_machine.specs.World as world
 use Rattle.word_machine.specs.World.{World as Words, plan, put, Outcome}
 use Rattle.word_machine.proofs.Sets.{put-same}
 use Rattle.collection_machine.specs.Content.{Content}
-use Rattle.collection_machine.specs.Boosted.{Boosted, OnWords, TakeGate, PutGate, GoHome, word_step, writes_asked, on_words, gated, copied, homed, is_none, is_actor, is_open, is_stored, is_committing, is_held, is_given, every, acts}
+use Rattle.collection_machine.specs.Boosted.{Boosted, OnWords, TakeGate, PutGate, GoHome, word_step, writes_asked, on_words, gated, copied}
+use Rattle.collection_machine.specs.Boosted.{homed, is_none, is_actor, is_open, is_stored, is_committing, is_held, is_given, every, acts}
 use Rattle.collection_machine.proofs.Runs.{recorded_words}
 use Rattle.replay_log.specs.Worlds.{new_in}
 use Rattle.replay_log.proofs.ActionLemmas.{learns, exchanges, does_learns}
-use Rattle.replay_log.proofs.ProgressLemmas.{new_fewer}
+use Rattle.replay_log.proofs.CountLemmas.{new_fewer}
 
 -- both have at most 4,096 locations, and the write set lists its own rising
 abbrev pub AreSmallSets : Actor → Type 0

@@ -4,7 +4,8 @@
 -- of its locations fits, which the definition tests just before (`has_room`). A location that is read then is new in the set
 -- (`PlaceOk`), so what is left shrinks by what the set grows. The sets change by the load that begins, by the last load of a read and by
 -- a write alone (`SetLemmas`).
-use Rattle.std.proofs.Common.{◌≡◌, ℕ, zero, suc, ◌+◌, ◌<◌, ◌≤◌, Bool, true, false, cond, true≢false, not, ◌&&◌, ◌||◌, List, [], ◌∷◌, ◌++◌, length, Option, Some, None, ◌⊎◌, inl, inr, refl, sym, ◌∙◌, ap, subst, arith, eqb}
+use Rattle.std.proofs.Common.{◌≡◌, ℕ, zero, suc, ◌+◌, ◌<◌, ◌≤◌, Bool, true, false, cond, true≢false, not, ◌&&◌, ◌||◌, List, [], ◌∷◌, ◌++◌}
+use Rattle.std.proofs.Common.{length, Option, Some, None, ◌⊎◌, inl, inr, refl, sym, ◌∙◌, ap, subst, arith, eqb}
 use Rattle.std.specs.Prelude.{nat_lt, nat_le, if◌then◌else◌}
 use Rattle.std.proofs.lemmas.Bool.{cond_both, cond-true, cond-false, cases_eq}
 use Rattle.std.proofs.lemmas.Bool.Decides.{nat_tests}
@@ -30,11 +31,19 @@ use Rattle.seq_model.specs.declared.event.Request.TheVariants as request
 use Rattle.seq_model.specs.declared.event.Notice.TheVariants.{Refused}
 use Rattle.seq_model.specs.declared.limits.TheConstants.{CALL_LIMIT}
 use Rattle.collection_machine.specs.Content.{Content}
-use Rattle.collection_machine.specs.Boosted.{Boosted, TakeGate, PutGate, GoHome, Accept, accepted, longer, writes_asked, is_open, is_none, is_sound, is_held, every, may_write, changes, on_words}
+use Rattle.collection_machine.specs.Boosted.{Boosted, TakeGate, PutGate, GoHome, Accept, accepted, longer, writes_asked, is_open, is_none}
+use Rattle.collection_machine.specs.Boosted.{is_sound, is_held, every, may_write, changes, on_words}
 use Rattle.replay_log.specs.Base.{Shown}
 use Rattle.replay_log.specs.Contents.{Block, Asked, Answered, HaveStripes, content}
 use Rattle.replay_log.specs.Pieces.{piece_at, covers_at}
-use Rattle.replay_log.specs.Worlds.{World, Seat, Stage, Idle, Beginning, Open, Locking, Releasing, Closing, Cancelling, Leaving, Reading, Trying, Copying, Loading, Gating, Ready, Storing, Homing, Returning, After, new_in, fits, has_room, with_editions, at_stage, because, seated, acted, asks, moves, actor_of, word_notice, no_one, is_leaving, cancels, gives_up, with_call, reads, outcome_at, is_fresh, judges, loads, answers, calls_on, call_of, reply_of, if_allowed, ask_op, commits, ask_idle, ask_open, ask_at, recorded, has_begun, has_read, has_tried, with_piece, sized_by, outcome_now, differs, is_stale, has_loaded, written_homes, takes_gates, has_locked, goes_home, has_stored, has_released, has_cancelled, step_at, starve_at, more_tries, happens, run, opened}
+use Rattle.replay_log.specs.Worlds.{World, Seat, Stage, Idle, Beginning, Open, Locking, Releasing, Closing, Cancelling, Leaving, Reading}
+use Rattle.replay_log.specs.Worlds.{Trying, Copying, Loading, Gating, Ready, Storing, Homing, Returning, After, new_in, fits, has_room}
+use Rattle.replay_log.specs.Worlds.{with_editions, at_stage, because, seated, acted, asks, moves, actor_of, word_notice, no_one, is_leaving}
+use Rattle.replay_log.specs.Worlds.{cancels, gives_up, with_call, reads, outcome_at, is_fresh, judges, loads, answers, calls_on, call_of}
+use Rattle.replay_log.specs.Worlds.{reply_of, if_allowed, ask_op, commits, ask_idle, ask_open, ask_at, recorded, has_begun, has_read}
+use Rattle.replay_log.specs.Worlds.{has_tried, with_piece, sized_by, outcome_now, differs, is_stale, has_loaded, written_homes, takes_gates}
+use Rattle.replay_log.specs.Worlds.{has_locked, goes_home, has_stored, has_released, has_cancelled, step_at, starve_at, more_tries, happens}
+use Rattle.replay_log.specs.Worlds.{run, opened}
 use Rattle.replay_log.specs.WorldProgress.{AreSmall, whose, Nears}
 use Rattle.replay_log.proofs.ActionLemmas.{learns}
 use Rattle.replay_log.proofs.RequestLemmas.{happens_by}
@@ -43,8 +52,10 @@ use Rattle.replay_log.proofs.SeatLemmas.{Copy, AtLocking, AtStoring, StageOk, Li
 use Rattle.replay_log.proofs.StageLemmas.{at_move}
 use Rattle.replay_log.proofs.CallLemmas.{both_true, reading_none}
 use Rattle.replay_log.proofs.EventLemmas.{happens_linked, opened_linked}
-use Rattle.replay_log.proofs.ProgressLemmas.{read_fewer, locations_of, locations-cons, world_few}
-use Rattle.replay_log.proofs.SetLemmas.{AreSmallSets, SameSets, small_same, IsNoWrite, IsNoRead, FitsWrites, writes_small, asked_write_small, moved_is, take_words, put_words, home_words, asked_sets, moved_sets}
+use Rattle.replay_log.proofs.CountLemmas.{read_fewer, locations_of, locations-cons}
+use Rattle.replay_log.proofs.ProgressLemmas.{world_few}
+use Rattle.replay_log.proofs.SetLemmas.{AreSmallSets, SameSets, small_same, IsNoWrite, IsNoRead, FitsWrites, writes_small}
+use Rattle.replay_log.proofs.SetLemmas.{asked_write_small, moved_is, take_words, put_words, home_words, asked_sets, moved_sets}
 
 at_most : (m n : ℕ) → nat_le m n ≡ true → m ≤ n
 at_most m n h = grind (arith, nat_tests)

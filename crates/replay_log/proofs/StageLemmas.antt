@@ -1,7 +1,8 @@
 -- Each step, request and want of memory keeps what a world has of its machine: one lemma for each function of the definition,
 -- in its order. The lemma takes the actor's own seat, record, shadow and gates as variables with their invariant, does the
 -- actions of that function, and gives the invariant of the stage that it leads to; the other actors are handled once.
-use Rattle.std.proofs.Common.{◌≡◌, ℕ, zero, suc, ◌<◌, Bool, true, false, cond, not, ◌&&◌, ◌||◌, List, [], ◌∷◌, ◌++◌, filter, Some, ◌⊎◌, inl, inr, refl, sym, ◌∙◌, ap, subst, true≢false, arith, eqb, eq-eqb, ne_eqb, None}
+use Rattle.std.proofs.Common.{◌≡◌, ℕ, zero, suc, ◌<◌, Bool, true, false, cond, not, ◌&&◌, ◌||◌, List, [], ◌∷◌, ◌++◌, filter, Some, ◌⊎◌, inl}
+use Rattle.std.proofs.Common.{inr, refl, sym, ◌∙◌, ap, subst, true≢false, arith, eqb, eq-eqb, ne_eqb, None}
 use Rattle.std.specs.Prelude.{nat_lt, if◌then◌else◌, ◌==◌}
 use Rattle.std.proofs.lemmas.Bool.{cases_eq, cases_Bool, cond_both, cond-true, cond-false}
 use Rattle.std.proofs.lemmas.Bool.Decides.{nat_tests}
@@ -25,18 +26,26 @@ use Rattle.seq_model.specs.declared.refusal.Refusal.TheVariants as refusal
 use Rattle.seq_model.specs.declared.event.Notice.TheVariants.{Quiet}
 use Rattle.seq_model.specs.Runs.{insert_record}
 use Rattle.collection_machine.specs.Content.{IsIn, has}
-use Rattle.collection_machine.specs.Boosted.{Boosted, TakeGate, PutGate, GoHome, shadows_after, is_open, is_stored, is_committing, is_actor, is_held, is_given, every, fresh, copied, acts, is_none}
+use Rattle.collection_machine.specs.Boosted.{Boosted, TakeGate, PutGate, GoHome, shadows_after, is_open, is_stored, is_committing, is_actor}
+use Rattle.collection_machine.specs.Boosted.{is_held, is_given, every, fresh, copied, acts, is_none}
 use Rattle.collection_machine.proofs.Schedules.{acts_led}
 use Rattle.replay_log.specs.Base.{Shown}
 use Rattle.replay_log.specs.Contents.{Block, Asked, Answered, end_of, home_of, is_plain, content}
-use Rattle.replay_log.specs.Worlds.{World, Seat, Stage, Open, Locking, Releasing, Cancelling, Leaving, Reading, Trying, Copying, Gating, Ready, Storing, Homing, Ended, After, at_stage, because, seated, acted, asks, moves, word_notice, no_one, recorded, with_call, has_begun, has_read, has_tried, takes_gates, has_locked, goes_home, has_stored, has_released, has_cancelled, gives_up, stores, ended, all_of, distinct, with_new}
+use Rattle.replay_log.specs.Worlds.{World, Seat, Stage, Open, Locking, Releasing, Cancelling, Leaving, Reading, Trying, Copying, Gating}
+use Rattle.replay_log.specs.Worlds.{Ready, Storing, Homing, Ended, After, at_stage, because, seated, acted, asks, moves, word_notice}
+use Rattle.replay_log.specs.Worlds.{no_one, recorded, with_call, has_begun, has_read, has_tried, takes_gates, has_locked, goes_home}
+use Rattle.replay_log.specs.Worlds.{has_stored, has_released, has_cancelled, gives_up, stores, ended, all_of, distinct, with_new}
 use Rattle.replay_log.proofs.ContentLemmas.{content_frame}
 use Rattle.word_machine.specs.Opacity.{first_read}
 use Rattle.replay_log.proofs.ReadLemmas.{in_set, first_read-other, kept_at}
-use Rattle.replay_log.proofs.ActionLemmas.{Commits, Leaves, Tried, mine, learns, with_gate, without_gate, begun_shadow, step_goes, step_commits, step_leaves, begin_goes, store_goes, release_goes, take_tried, put_goes, home_goes}
+use Rattle.replay_log.proofs.ActionLemmas.{Commits, Leaves, Tried, mine, learns, with_gate, without_gate, begun_shadow, step_goes}
+use Rattle.replay_log.proofs.ActionLemmas.{step_commits, step_leaves, begin_goes, store_goes, release_goes, take_tried, put_goes, home_goes}
 use Rattle.replay_log.proofs.MixedLemmas.{Parts, SameRecord, SameRecords, insert_same}
-use Rattle.replay_log.proofs.PlaceLemmas.{IsQuiet, quiet_outcome, quiet_shadows, leaving_rests, SameTx, AfterRead, AfterLock, AfterStore, first_after, AfterRelease, AfterUndo}
-use Rattle.replay_log.proofs.SeatLemmas.{Copy, CanLeave, Differ, Differ-front, InTx, Sound, Live, KnownAsk, Covers, CommitOk, gates_of, StageOk, SeatOk, SameEnded, SameEnded-push, Linked, At, at_of, linked_same, linked_seated, others_by, at_by, at_ask, cancels_linked, gives_up_linked, word_joins}
+use Rattle.replay_log.proofs.PlaceLemmas.{IsQuiet, quiet_outcome, quiet_shadows, leaving_rests, SameTx, AfterRead, AfterLock, AfterStore}
+use Rattle.replay_log.proofs.PlaceLemmas.{first_after, AfterRelease, AfterUndo}
+use Rattle.replay_log.proofs.SeatLemmas.{Copy, CanLeave, Differ, Differ-front, InTx, Sound, Live, KnownAsk, Covers, CommitOk, gates_of}
+use Rattle.replay_log.proofs.SeatLemmas.{StageOk, SeatOk, SameEnded, SameEnded-push, Linked, At, at_of, linked_same, linked_seated}
+use Rattle.replay_log.proofs.SeatLemmas.{others_by, at_by, at_ask, cancels_linked, gives_up_linked, word_joins}
 
 pub below : (l n : ℕ) → nat_lt l n ≡ true → l < n
 below l n h = grind (arith, nat_tests)

@@ -15,11 +15,14 @@ use Rattle.seq_model.specs.declared.event.Request.{Request}
 use Rattle.seq_model.specs.declared.event.Request.TheVariants as request
 use Rattle.seq_model.specs.declared.limits.TheConstants.{CALL_LIMIT}
 use Rattle.collection_machine.specs.Content.{Content}
-use Rattle.collection_machine.specs.Boosted.{Boosted, OnWords, on_words, is_open, is_held, is_given, is_sound, every, may_write, longer, writes_asked, accepted, acts}
+use Rattle.collection_machine.specs.Boosted.{Boosted, OnWords, on_words, is_open, is_held, is_given, is_sound, every, may_write, longer}
+use Rattle.collection_machine.specs.Boosted.{writes_asked, accepted, acts}
 use Rattle.replay_log.specs.Contents.{Asked, Answered, content}
 use Rattle.replay_log.specs.Pieces.{piece_at}
 use Rattle.replay_log.specs.WorldStill.{Still}
-use Rattle.replay_log.specs.Worlds.{World, Seat, Stage, Idle, Beginning, Open, Locking, Closing, Reading, Trying, Copying, Loading, Gating, Ready, After, has_room, with_editions, because, acted, asks, actor_of, cancels, gives_up, reads, outcome_at, is_fresh, judges, loads, answers, calls_on, if_allowed, ask_op, commits, ask_at, starve_at}
+use Rattle.replay_log.specs.Worlds.{World, Seat, Stage, Idle, Beginning, Open, Locking, Closing, Reading, Trying, Copying, Loading, Gating}
+use Rattle.replay_log.specs.Worlds.{Ready, After, has_room, with_editions, because, acted, asks, actor_of, cancels, gives_up, reads}
+use Rattle.replay_log.specs.Worlds.{outcome_at, is_fresh, judges, loads, answers, calls_on, if_allowed, ask_op, commits, ask_at, starve_at}
 
 -- the writes of a call are requests
 writes_still : (s : Words) (a : ℕ) (editions : ℕ → ℕ) (ls : List ℕ)

@@ -2,7 +2,8 @@
 -- again is itself, whatever its kind: a base is the whole of its parts, and the view of a collection is that of no other. Block after
 -- block, so is the list of all. Then, one lemma for each function of the definitions, which events add to the records and to the aborted
 -- transactions: each function leaves both, but for the steps that commit and the one that ends an aborted transaction.
-use Rattle.std.proofs.Common.{◌≡◌, ℕ, zero, suc, ◌+◌, ◌<◌, ◌≤◌, ltb, Bool, true, false, cond, List, [], ◌∷◌, ◌++◌, length, Option, Some, None, refl, sym, ap, ◌∙◌, arith, lt-ltb, le-ltb}
+use Rattle.std.proofs.Common.{◌≡◌, ℕ, zero, suc, ◌+◌, ◌<◌, ◌≤◌, ltb, Bool, true, false, cond, List, [], ◌∷◌, ◌++◌, length, Option, Some}
+use Rattle.std.proofs.Common.{None, refl, sym, ap, ◌∙◌, arith, lt-ltb, le-ltb}
 use Rattle.std.specs.Prelude.{not, ◌||◌, ◌&&◌, ◌==◌, nat_lt, map, get_or}
 use Rattle.std.proofs.lemmas.List.{append-nil, ext_get_or}
 use Rattle.std.proofs.lemmas.List.FromFn.{get_or-map-range_with_len, length-map-range_with_len}
@@ -30,10 +31,13 @@ use Rattle.replay_log.specs.Parts.{part, whole}
 use Rattle.replay_log.specs.Contents.{Block, Asked, Answered, block_of, size, end_of, is_plain, HaveStripes, seen, content}
 use Rattle.replay_log.specs.Collections.{viewed, Suit, shown_from}
 use Rattle.replay_log.specs.Pieces.{piece_at, covers_at}
-use Rattle.replay_log.specs.Seats.{World, Seat, Ended, After, Stage, Idle, Open, Beginning, Reading, Trying, Copying, Loading, Locking, Gating, Ready, Storing}
-use Rattle.replay_log.specs.Seats.{Homing, Releasing, Closing, Returning, Cancelling, Leaving, because, acted, asks, moves, actor_of, word_notice}
+use Rattle.replay_log.specs.Seats.{World, Seat, Ended, After, Stage, Idle, Open, Beginning, Reading, Trying, Copying, Loading, Locking}
+use Rattle.replay_log.specs.Seats.{Gating, Ready, Storing}
+use Rattle.replay_log.specs.Seats.{Homing, Releasing, Closing, Returning, Cancelling, Leaving, because, acted, asks, moves, actor_of}
+use Rattle.replay_log.specs.Seats.{word_notice}
 use Rattle.replay_log.specs.WorldEnds.{gives_up, has_tried, has_cancelled}
-use Rattle.replay_log.specs.WorldCalls.{is_fresh, loads, judges, answers, calls_on, if_allowed, reads, ask_op, has_room, fits, with_editions, outcome_at, sized_by}
+use Rattle.replay_log.specs.WorldCalls.{is_fresh, loads, judges, answers, calls_on, if_allowed, reads, ask_op, has_room, fits}
+use Rattle.replay_log.specs.WorldCalls.{with_editions, outcome_at, sized_by}
 use Rattle.replay_log.specs.WorldCalls.{is_known, may_ask, with_piece, has_read, has_loaded}
 use Rattle.replay_log.specs.WorldCommits.{commits, recorded, takes_gates, has_locked, goes_home, has_stored, has_released}
 use Rattle.replay_log.specs.Worlds.{ask_idle, ask_open, ask_at, has_begun, step_at, starve_at, happens}

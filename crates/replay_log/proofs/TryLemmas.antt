@@ -2,7 +2,8 @@
 -- leaves one less; no other step of the actor leads to a try, and what others do leaves its stage. So the steps of the actor before this
 -- one, as many as are missing to 63, all tried this gate, and each found another's name in it; and whoever gives up for a busy gate has
 -- done so 64 times.
-use Rattle.std.proofs.Common.{◌≡◌, ◌≢◌, ℕ, suc, ◌+◌, true, false, cond, List, [], ◌∷◌, ◌++◌, Option, Some, None, inl, inr, refl, sym, ◌∙◌, ap, subst, true≢false, eq-eqb, ne_eqb, arith}
+use Rattle.std.proofs.Common.{◌≡◌, ◌≢◌, ℕ, suc, ◌+◌, true, false, cond, List, [], ◌∷◌, ◌++◌, Option, Some, None, inl, inr, refl, sym, ◌∙◌}
+use Rattle.std.proofs.Common.{ap, subst, true≢false, eq-eqb, ne_eqb, arith}
 use Rattle.std.proofs.lemmas.Bool.{cases_eq}
 use Rattle.std.proofs.lemmas.List.{append-nil, append_assoc}
 use Rattle.word_machine.specs.Actor.{Place, Actor}
@@ -18,7 +19,7 @@ use Rattle.replay_log.specs.WorldProgress.{whose}
 use Rattle.replay_log.specs.WorldRefusals.{IsLastTry, IsCause, is_ending}
 use Rattle.replay_log.specs.WorldTries.{tried_at, IsVain, AllVain, steps_of, InVain}
 use Rattle.replay_log.proofs.SeatLemmas.{Copy, gates_of, StageOk, Linked}
-use Rattle.replay_log.proofs.EventLemmas.{happens_linked, run_linked}
+use Rattle.replay_log.proofs.EventLemmas.{happens_linked, run-append, run_linked}
 use Rattle.replay_log.proofs.RequestLemmas.{happens_by}
 use Rattle.replay_log.proofs.RefusalLemmas.{not_got, tried_in_vain, step_for}
 use Rattle.replay_log.proofs.RecordLemmas.{IsAhead, Kept, IsTriedAgain, asked_kept, starved_kept, stepped_turns}
@@ -38,10 +39,6 @@ some_pair i j k n e = (
     second None = 0
 
 module _ {V : Type 0} where
-  run-append : (es fs : List (Event V)) (w : World V) → run w (es ++ fs) ≡ run (run w es) fs
-  run-append [] fs w = refl
-  run-append (e ∷ es) fs w = run-append es fs (happens w e).0
-
   vain_more : (a k : ℕ) (es : List (Event V)) (e : Event V) (w : World V) → AllVain a k w es → IsVain a k (run w es) e
       → AllVain a k w (es ++ e ∷ [])
   vain_more a k [] e w h g = (g, tt)

@@ -1,6 +1,7 @@
 -- Schedules of calls, computed by the definitions: gates and their tries, keys that were copied, editions that differ, declared readers.
 use Rattle.std.specs.Prelude.{◌≡◌, ℕ, zero, suc, ◌+◌, [], ◌∷◌, refl}
 use Rattle.tx_sets.specs.Entries.{Entries, lookup, with_entry, locations}
+use Rattle.tx_sets.specs.declared.access_set.TheConstants.{LOCATION_LIMIT}
 use Rattle.word_machine.specs.World.{put, comes_before, insert}
 use Rattle.seq_model.specs.declared.call.Op.TheVariants.{Read, Write, Get, Put, Least, Len, Peek, Enqueue}
 use Rattle.seq_model.specs.declared.refusal.Refusal.TheVariants.{Moved, Stale, GateBusy, Invalid, NoSuch, NotIdle, TooLong}
@@ -40,6 +41,13 @@ held_key :
     ≡ Begun 1 0 ∷ Replied 1 ∷ Begun 2 0 ∷ Replied 1 ∷ Replied 1 ∷ Replied 2 ∷ Replied 1 ∷ Replied 1 ∷ []
 unfolding lookup put with_entry locations comes_before insert insert_commit
 held_key = refl
+
+-- the number of keys says nothing of a key: that is copied anew
+key_after_number :
+    told (begins 1 ∷ calls 1 0 Len ∷ asks_call 1 0 (Get 5) ∷ Asks 1 request.Abort ∷ goes_on 1 ∷ []) a_map
+    ≡ Begun 1 0 ∷ Replied 1 ∷ IsRefused 1 NotIdle ∷ Replied 1 ∷ []
+unfolding lookup put with_entry locations comes_before insert insert_commit
+key_after_number = refl
 
 -- beside one that holds the gate, a key that was copied is answered, and another one is not
 key_beside_a_gate :
@@ -84,7 +92,7 @@ crowded n =
 
 -- a call that finds no room for its location is TooLong by the store of its gate, and keeps nothing of what it copied
 no_room :
-    told (asks_call 1 0 (Get 5) ∷ Steps 1 1 ∷ Steps 1 1 ∷ asks_call 1 0 (Get 5) ∷ Steps 1 2 ∷ []) (crowded 4096)
+    told (asks_call 1 0 (Get 5) ∷ Steps 1 1 ∷ Steps 1 1 ∷ asks_call 1 0 (Get 5) ∷ Steps 1 2 ∷ []) (crowded LOCATION_LIMIT)
     ≡ IsRefused 1 TooLong ∷ IsRefused 1 TooLong ∷ []
 unfolding lookup put with_entry locations comes_before insert insert_commit
 no_room = refl
@@ -109,6 +117,14 @@ declared_key :
     ≡ Begun 1 0 ∷ Replied 1 ∷ IsRefused 1 NoSuch ∷ Replied 1 ∷ Begun 2 0 ∷ Replied 2 ∷ Committed 2 1 ∷ IsRefused 1 (Moved 0 2) ∷ []
 unfolding lookup put with_entry locations comes_before insert insert_commit
 declared_key = refl
+
+-- and it compares: its copy is from before a commit, and its load from after it
+declared_copy :
+    told (begins 1 ∷ calls 1 0 (Put 5 2) ∷ asks_commit 1 ∷ Steps 1 3 ∷ begins_read 2 ∷ asks_call 2 0 (Get 5) ∷ Steps 2 2 ∷ goes_on 1
+    ∷ goes_on 2 ∷ []) a_map
+    ≡ Begun 1 0 ∷ Replied 1 ∷ Begun 2 1 ∷ Committed 1 1 ∷ IsRefused 2 (Stale 0 0 1) ∷ []
+unfolding lookup put with_entry locations comes_before insert insert_commit
+declared_copy = refl
 
 -- the item at the head and an item that is enqueued, in different cells
 other_cell :

@@ -7,7 +7,8 @@ use Rattle.seq_model.specs.declared.call.Op.TheVariants.{Read, Write, Get, Put, 
 use Rattle.seq_model.specs.declared.refusal.Refusal.TheVariants.{Moved, Invalid, GateBusy, OutOfMemory, NotIdle, NoTransaction}
 use Rattle.seq_model.specs.declared.event.Request.TheVariants as request
 use Rattle.collection_machine.specs.Boosted.{insert_commit}
-use Rattle.replay_log.specs.WorldScripts.{Told, Begun, Committed, Replied, Aborted, IsRefused, Asks, Steps, Starves, Lost, Left, told, leaves}
+use Rattle.replay_log.specs.WorldScripts.{Told, Begun, Committed, Replied, Aborted, IsRefused, Asks, Steps, Starves, Lost, Left, told}
+use Rattle.replay_log.specs.WorldScripts.{leaves}
 use Rattle.replay_log.specs.WorldScripts.{begins, calls, asks_call, commits, asks_commit, goes_on}
 use Rattle.replay_log.specs.WorldScripts.{a_map, two_stripes, two_maps, two_words, word_and_map, word_and_queue}
 

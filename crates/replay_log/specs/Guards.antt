@@ -7,7 +7,8 @@ use Rattle.word_machine.specs.World.{Ask, Step}
 use Rattle.word_machine.specs.Requests as word
 use Rattle.word_machine.specs.Notices as told
 use Rattle.collection_machine.specs.Content.{Content}
-use Rattle.collection_machine.specs.Boosted.{Boosted, Action, OnWords, TakeGate, PutGate, Accept, GoHome, is_open, is_stored, is_committing, is_actor, is_held, is_given, is_sound, every, may_write, changes}
+use Rattle.collection_machine.specs.Boosted.{Boosted, Action, OnWords, TakeGate, PutGate, Accept, GoHome, is_open, is_stored, is_committing}
+use Rattle.collection_machine.specs.Boosted.{is_actor, is_held, is_given, is_sound, every, may_write, changes}
 use Rattle.replay_log.specs.Contents.{Asked, content}
 use Rattle.replay_log.specs.Pieces.{covers_at}
 use Rattle.replay_log.specs.Worlds.{World, Stage, Idle, Open, Trying, Copying, Loading, Gating, Ready, Homing, Returning, asks, moves}

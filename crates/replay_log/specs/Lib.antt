@@ -22,3 +22,4 @@ pub mod WorldStill
 pub mod WorldAlone
 pub mod WorldAnswers
 pub mod WorldTries
+pub mod WorldReplies

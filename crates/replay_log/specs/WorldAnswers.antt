@@ -1,15 +1,25 @@
 -- What a refusal says as it is answered, and what it leaves.
-use Rattle.std.specs.Prelude.{◌≡◌, ℕ, ◌≤◌, Bool, true, false, ◌&&◌, not, nat_lt, Some}
+use Rattle.std.specs.Prelude.{◌≡◌, ◌≢◌, ◌⊎◌, ℕ, ◌≤◌, Bool, true, false, ◌&&◌, not, nat_lt, List, [], ◌∷◌, Some}
+use Rattle.tx_sets.specs.Entries.{Entries, lookup}
 use Rattle.word_machine.specs.Actor.{clock_limit}
 use Rattle.seq_model.specs.declared.call.Op.{Op}
 use Rattle.seq_model.specs.declared.call.Op.TheVariants.{Read, Write}
 use Rattle.seq_model.specs.declared.refusal.Refusal.{Refusal}
-use Rattle.seq_model.specs.declared.refusal.Refusal.TheVariants.{Exhausted, TooLong, NoTransaction}
+use Rattle.seq_model.specs.declared.refusal.Refusal.TheVariants.{Exhausted, TooLong, NoTransaction, OutOfMemory}
 use Rattle.seq_model.specs.declared.event.Notice.{Notice}
-use Rattle.seq_model.specs.declared.event.Notice.TheVariants.{Refused}
-use Rattle.replay_log.specs.Contents.{block_of}
+use Rattle.seq_model.specs.declared.event.Notice.TheVariants.{Quiet, Refused}
+use Rattle.collection_machine.specs.Boosted.{PutGate}
+use Rattle.replay_log.specs.Contents.{Asked, Answered, block_of}
+use Rattle.replay_log.specs.Pieces.{covers_at}
+use Rattle.replay_log.specs.WorldRefusals.{is_ending}
 use Rattle.replay_log.specs.WorldStill.{Same}
-use Rattle.replay_log.specs.Worlds.{World, Stage, Idle, Beginning, Open, Copying, Leaving, Ready, Storing, Homing, at_stage, actor_of, is_known, may_ask}
+use Rattle.replay_log.specs.Worlds.{World, Stage, Idle, Beginning, Open, Copying, Leaving, Ready, Storing, Homing, Releasing, Cancelling}
+use Rattle.replay_log.specs.Worlds.{Returning, After, at_stage, acted, actor_of, outcome_at, is_known, may_ask}
+
+-- Of these locations one was read with another edition than its base has now, and so were all before it with some edition.
+abbrev pub IsStale : (reads : Entries) → (editions : ℕ → ℕ) → List ℕ → Type 0
+IsStale reads editions [] = ⊥
+IsStale reads editions (l ∷ ls) = (e : ℕ) × (lookup reads l ≡ Some e) × ((e ≢ editions l) ⊎ IsStale reads editions ls)
 
 module _ {V : Type 0} where
   -- whether there is what a call asks of, and it is of its kind; for a declared reader there is no change
@@ -38,6 +48,29 @@ module _ {V : Type 0} where
   abbrev pub RefusedBy : ℕ → (Refusal → Type 0) → Notice V → Type 0
   RefusedBy a P (Refused b cause) = (b ≡ a) × P cause
   RefusedBy a P n = Unit {0}
+
+  -- the outcome that a call has of what its transaction has copied, once its gate is put back
+  abbrev pub copied_outcome : World V → ℕ → Asked V → Answered V
+  copied_outcome w a asked = outcome_at (acted w (PutGate a asked.collection (covers_at w.words w.blocks asked) ∷ [])) a asked
+
+  -- TooLong is told where there is no room, and no refusal where there is
+  abbrev pub IsTooLongUnless : ℕ → (room : Bool) → Notice V → Type 0
+  IsTooLongUnless a true n = IsRefusal n → ⊥
+  IsTooLongUnless a false n = n ≡ Refused a TooLong
+
+  -- What comes of a want of memory of a at this stage: it is refused where no request is under way; a begin is refused for it at once; up
+  -- to the first value store a request is given up for it; and then, and where it is given up already, nothing comes of it.
+  abbrev pub IsStarved : World V → ℕ → Stage V → After V → Type 0
+  IsStarved w a Idle r = r ≡ (w, Refused a NoTransaction)
+  IsStarved w a Open r = r ≡ (w, Refused a NoTransaction)
+  IsStarved w a Beginning r = ((r.0.seats a).stage ≡ Idle) × (r.1 ≡ Refused a OutOfMemory)
+  IsStarved w a (Storing ks) r = r ≡ (w, Quiet)
+  IsStarved w a (Homing ks) r = r ≡ (w, Quiet)
+  IsStarved w a Releasing r = r ≡ (w, Quiet)
+  IsStarved w a (Returning ks) r = r ≡ (w, Quiet)
+  IsStarved w a Cancelling r = r ≡ (w, Quiet)
+  IsStarved w a Leaving r = r ≡ (w, Quiet)
+  IsStarved w a stage r = (is_ending (r.0.seats a).stage ≡ true) × ((r.0.seats a).cause ≡ Some OutOfMemory) × (r.1 ≡ Quiet)
 
   -- a step at this stage stores a value, or takes a base home
   abbrev pub changes_at : Stage V → Bool

@@ -1,6 +1,8 @@
 -- Calls in a world, on words and on collections: what their asks do, and the steps that follow.
-use Rattle.std.specs.Prelude.{ℕ, ◌+◌, Bool, true, false, ◌&&◌, ◌||◌, not, nat_lt, nat_le, ◌==◌, if◌then◌else◌, List, [], ◌∷◌, ◌++◌, length, filter, Option, Some, None}
+use Rattle.std.specs.Prelude.{ℕ, ◌+◌, Bool, true, false, ◌&&◌, ◌||◌, not, nat_lt, nat_le, ◌==◌, if◌then◌else◌, List, [], ◌∷◌, ◌++◌, length}
+use Rattle.std.specs.Prelude.{filter, Option, Some, None}
 use Rattle.tx_sets.specs.Entries.{Entries, lookup}
+use Rattle.tx_sets.specs.declared.access_set.TheConstants.{LOCATION_LIMIT}
 use Rattle.word_machine.specs.Actor.{Actor}
 use Rattle.word_machine.specs.Requests as word
 use Rattle.word_machine.specs.Notices as told
@@ -22,13 +24,12 @@ use Rattle.replay_log.specs.Pieces.{Piece, is_piece, piece_at}
 use Rattle.replay_log.specs.Seats.{Open, Reading, Trying, Loading, Seat, World, After, at_stage, because, seated, acted, asks, actor_of}
 use Rattle.replay_log.specs.WorldEnds.{gives_up}
 
--- the tries on a gate, but for the first
+-- the tries on a gate, and those but for the first
+abbrev pub gate_tries : ℕ
+gate_tries = 64
+
 abbrev pub more_tries : ℕ
 more_tries = 63
-
--- a set has at most so many locations
-abbrev pub location_limit : ℕ
-location_limit = 4096
 
 -- locations with their editions
 abbrev pub with_editions : (ℕ → ℕ) → List ℕ → Entries
@@ -40,7 +41,7 @@ abbrev pub new_in : Entries → List ℕ → List ℕ
 new_in set ls = filter (λ l. is_none (lookup set l)) ls
 
 abbrev pub fits : Entries → List ℕ → Bool
-fits set ls = nat_le (length set + length (new_in set ls)) location_limit
+fits set ls = nat_le (length set + length (new_in set ls)) LOCATION_LIMIT
 
 -- whether a copy is found stale without a step: of the locations before the first that the read set does not have, one was read with
 -- another edition than the copied one

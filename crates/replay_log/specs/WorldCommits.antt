@@ -10,7 +10,8 @@ use Rattle.seq_model.specs.declared.event.Notice.TheVariants.{Quiet, Answered}
 use Rattle.seq_model.specs.Runs.{insert_record}
 use Rattle.collection_machine.specs.Content.{has}
 use Rattle.replay_log.specs.Contents.{home_of, is_plain}
-use Rattle.replay_log.specs.Seats.{Stage, Locking, Releasing, Closing, Gating, Ready, Storing, Homing, Seat, World, After, no_one, at_stage, because, seated, acted, asks, moves, actor_of, word_notice}
+use Rattle.replay_log.specs.Seats.{Stage, Locking, Releasing, Closing, Gating, Ready, Storing, Homing, Seat, World, After, no_one, at_stage}
+use Rattle.replay_log.specs.Seats.{because, seated, acted, asks, moves, actor_of, word_notice}
 use Rattle.replay_log.specs.WorldEnds.{gives_up}
 use Rattle.replay_log.specs.WorldCalls.{more_tries}
 

@@ -8,7 +8,8 @@ use Rattle.seq_model.specs.declared.refusal.Refusal.TheVariants as refusal
 use Rattle.seq_model.specs.declared.event.Answer.TheVariants as answer
 use Rattle.seq_model.specs.declared.event.Notice.{Notice}
 use Rattle.seq_model.specs.declared.event.Notice.TheVariants.{Quiet, Answered, Refused}
-use Rattle.replay_log.specs.Seats.{Stage, Ended, Cancelling, Leaving, Returning, Seat, World, After, no_one, at_stage, because, seated, acted, asks, actor_of}
+use Rattle.replay_log.specs.Seats.{Stage, Ended, Cancelling, Leaving, Returning, Seat, World, After, no_one, at_stage, because, seated}
+use Rattle.replay_log.specs.Seats.{acted, asks, actor_of}
 
 abbrev pub is_leaving : Place → Bool
 is_leaving Leave = true

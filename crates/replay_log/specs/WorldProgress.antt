@@ -1,6 +1,7 @@
 -- How far a request of a world is from its answer.
 use Rattle.std.specs.Prelude.{ℕ, suc, ◌+◌, ◌*◌, ◌<◌, ◌≤◌, List, [], ◌∷◌, length}
 use Rattle.tx_sets.specs.Entries.{locations}
+use Rattle.tx_sets.specs.declared.access_set.TheConstants.{LOCATION_LIMIT}
 use Rattle.word_machine.specs.Actor.{Place, Lock, Take, Actor}
 use Rattle.word_machine.specs.Progress.{steps_left}
 use Rattle.seq_model.specs.declared.event.Event.{Event}
@@ -9,7 +10,8 @@ use Rattle.seq_model.specs.declared.event.Notice.{Notice}
 use Rattle.seq_model.specs.declared.event.Notice.TheVariants.{Quiet}
 use Rattle.replay_log.specs.Parts.{Kind, MapKind, BagKind, PqKind, QueueKind}
 use Rattle.replay_log.specs.Contents.{Block}
-use Rattle.replay_log.specs.Worlds.{World, Stage, Idle, Open, Beginning, Reading, Trying, Copying, Loading, Locking, Gating, Ready, Storing, Homing, Releasing, Closing, Returning, Cancelling, Leaving, After, new_in}
+use Rattle.replay_log.specs.Worlds.{World, Stage, Idle, Open, Beginning, Reading, Trying, Copying, Loading, Locking, Gating, Ready, Storing}
+use Rattle.replay_log.specs.Worlds.{Homing, Releasing, Closing, Returning, Cancelling, Leaving, After, gate_tries, new_in}
 
 -- the locks that are still to be taken
 abbrev pub unlocked : Place → ℕ
@@ -17,7 +19,7 @@ unlocked (Lock ls) = length ls
 unlocked (Take l k ls) = suc (length ls)
 unlocked p = 0
 
--- how many locations a call reads at most, on a collection of so many stripes, and shapes in which that is 4,096
+-- how many locations a call reads at most, on a collection of so many stripes, and shapes in which a set has room for them
 abbrev pub most_by : Kind → ℕ → ℕ
 most_by MapKind n = n
 most_by BagKind n = n
@@ -26,7 +28,7 @@ most_by QueueKind n = 2
 
 abbrev pub AreSmall : List Block → Type 0
 AreSmall [] = Unit {0}
-AreSmall (b ∷ bs) = (most_by b.kind b.stripes ≤ 4096) × AreSmall bs
+AreSmall (b ∷ bs) = (most_by b.kind b.stripes ≤ LOCATION_LIMIT) × AreSmall bs
 
 -- whose event it is
 abbrev pub whose : {V : Type 0} → Event V → ℕ
@@ -53,7 +55,7 @@ module _ {V : Type 0} where
   left_at (Loading o (d ∷ es)) y = steps_left y y.place + 3 * length (new_in y.reads (locations es)) + 1
   left_at Locking y = steps_left y y.place + unlocked y.place + length y.held + 66 * length y.writes + 3
   left_at (Gating got [] tries) y = 0
-  left_at (Gating got (k ∷ ks) tries) y = tries + 64 * length ks + length y.writes + length got + length ks + length y.held + 4
+  left_at (Gating got (k ∷ ks) tries) y = tries + gate_tries * length ks + length y.writes + length got + length ks + length y.held + 4
   left_at (Ready ks) y = length y.writes + length ks + length y.held + 2
   left_at (Storing ks) y = steps_left y y.place + length ks + length y.held + 1
   left_at (Homing ks) y = length ks + length y.held + 1

@@ -7,7 +7,7 @@ use Rattle.seq_model.specs.Runs.{IsLegal, IsInCommitOrder, IsRun, after_run, sta
 use Rattle.collection_machine.specs.Content.{has}
 use Rattle.replay_log.specs.Contents.{is_plain}
 use Rattle.replay_log.specs.Collections.{Suit, shown_at}
-use Rattle.replay_log.specs.Worlds.{World, Seat, Stage, Idle, Beginning, Ready, Storing, Homing, Releasing, Closing, Cancelling, Leaving, Ended, is_half_done}
+use Rattle.replay_log.specs.Worlds.{World, Seat, Stage, Idle, Beginning, Ready, Storing, Homing, Releasing, Closing, Ended, is_half_done}
 
 abbrev pub AreAbove : ℕ → List ℕ → Type 0
 AreAbove n [] = ⊤
@@ -57,12 +57,6 @@ module _ {V : Type 0} where
   commits_at (Ready ks) = true
   commits_at Closing = true
   commits_at stage = false
-
-  -- a transaction at this stage is being given up, and holds no gate any more
-  abbrev pub gives_back : Stage V → Bool
-  gives_back Cancelling = true
-  gives_back Leaving = true
-  gives_back stage = false
 
   -- no number is above n
   abbrev pub AreUpTo : ℕ → List (ℕ × Record V) → Type 0

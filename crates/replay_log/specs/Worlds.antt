@@ -19,19 +19,8 @@ pub use Rattle.replay_log.specs.Seats.{Stage, Idle, Beginning, Open, Locking, Re
 pub use Rattle.replay_log.specs.Seats.{Copying, Loading, Gating, Ready, Storing, Homing, Returning, Seat, Ended, World, After, no_one}
 pub use Rattle.replay_log.specs.Seats.{at_stage, because, seated, acted, asks, moves, actor_of, word_notice}
 pub use Rattle.replay_log.specs.WorldEnds.{is_leaving, unlocked, cancels, gives_up, why, ended, has_cancelled, has_tried}
-pub use Rattle.replay_log.specs.WorldCalls.{
-  more_tries,
-  location_limit,
-  with_editions,
-  new_in,
-  fits,
-  differs,
-  is_stale,
-  has_room,
-  with_call,
-  replied,
-  reads,
-}
+pub use Rattle.replay_log.specs.WorldCalls.{gate_tries, more_tries, with_editions, new_in, fits, differs, is_stale, has_room}
+pub use Rattle.replay_log.specs.WorldCalls.{with_call, replied, reads}
 pub use Rattle.replay_log.specs.WorldCalls.{outcome_at, reply_of, call_of, is_fresh, judges, loads, answers, calls_on, is_missing, is_known}
 pub use Rattle.replay_log.specs.WorldCalls.{is_change, may_ask, if_allowed, ask_op, has_read, with_piece, outcome_now, sized_by}
 pub use Rattle.replay_log.specs.WorldCalls.{has_copied, has_loaded}

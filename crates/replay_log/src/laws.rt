@@ -1,5 +1,5 @@
 //! The laws of the definitions that the contracts cite. Each function computes nothing: its contract is the law.
-ghost use Rattle.std.specs.Prelude.{◌≡◌, ◌≢◌, ◌≤◌, ◌+◌, ◌++◌, ℕ, List, [], ◌∷◌, Some, true, false, length, get_or};
+ghost use Rattle.std.specs.Prelude.{◌≡◌, ◌≢◌, ◌≤◌, ◌+◌, ◌++◌, ℕ, List, [], ◌∷◌, Some, None, true, false, length, get_or};
 ghost use Rattle.seq_model.specs.declared.event.Event.{Event};
 ghost use Rattle.seq_model.specs.declared.event.Event.TheVariants.{Ask, Step, Starve};
 ghost use Rattle.seq_model.specs.declared.event.Request.{Request};
@@ -13,7 +13,9 @@ ghost use Rattle.seq_model.specs.declared.held.Held.{Held};
 ghost use Rattle.word_machine.specs.Opacity.{first_read};
 ghost use Rattle.vlock_word.specs.declared.lock_word.LockWord.TheVariants.{Free, Locked};
 ghost use Rattle.tx_sets.specs.Entries.{Entries, lookup};
+ghost use Rattle.tx_sets.specs.declared.access_set.TheConstants.{LOCATION_LIMIT};
 ghost use Rattle.word_machine.specs.World.{put};
+ghost use Rattle.word_machine.specs.Progress.{step_limit};
 ghost use Rattle.conflict.specs.declared.change.Change.{Change};
 ghost use Rattle.conflict.specs.Rules.{FrameLaws};
 ghost use Rattle.base_map.specs.Conflicts as map;
@@ -28,16 +30,19 @@ ghost use Rattle.replay_log.specs.Contents.{Block, Asked, HaveStripes, content, 
 ghost use Rattle.replay_log.specs.Collections.{Suit, shown_at};
 ghost use Rattle.replay_log.specs.Log.{RaisesEach, KeepsOthers};
 ghost use Rattle.replay_log.specs.Parts.{IsWhole, AnswersByParts, KnowsItsCalls, LeavesOtherParts, ChangesByPart};
-ghost use Rattle.replay_log.specs.Worlds.{World, Idle, Open, Beginning, Cancelling, Leaving, is_change, actor_of, why, happens, half, run, opened};
+ghost use Rattle.replay_log.specs.Worlds.{World, Idle, Open, Beginning, Cancelling, Leaving, is_change, actor_of, why, happens, half, run};
+ghost use Rattle.replay_log.specs.Worlds.{Copying, gate_tries, has_room, opened};
 ghost use Rattle.replay_log.specs.WorldTraces.{trace, is_half_done, committed_by, with_record, ended_by};
 ghost use Rattle.seq_model.specs.Runs.{after_run as state_after};
 ghost use Rattle.replay_log.specs.WorldRefusals.{HasCause, is_calling, is_ending};
 ghost use Rattle.replay_log.specs.WorldStill.{Still, Same};
-ghost use Rattle.replay_log.specs.WorldAnswers.{is_there, IsRefusal, IsRefusedAt, RefusedBy, Untouched, changes_at};
+ghost use Rattle.replay_log.specs.WorldAnswers.{is_there, IsRefusal, IsRefusedAt, RefusedBy, IsStarved, Untouched, changes_at};
+ghost use Rattle.replay_log.specs.WorldAnswers.{IsStale, IsTooLongUnless, copied_outcome};
+ghost use Rattle.replay_log.specs.WorldReplies.{IsKept, IsMade, call_at};
 ghost use Rattle.replay_log.specs.WorldAlone.{IsAlone, IsFree, TellsConflict, IsUnstarved, TellsMemory};
 ghost use Rattle.replay_log.specs.WorldProgress.{AreSmall, IsQuiet, Nears, left_of, whose};
 ghost use Rattle.replay_log.specs.WorldTries.{InVain, tried_at};
-ghost use Rattle.replay_log.specs.WorldSerial.{AreHalfDone, AreUpTo, HasWritten, IsSerial, SawAt, commits_at, gives_back};
+ghost use Rattle.replay_log.specs.WorldSerial.{AreHalfDone, AreUpTo, HasWritten, IsSerial, SawAt, commits_at};
 ghost use Rattle.seq_model.specs.Runs.{IsLegal, state_at};
 ghost use Rattle.replay_log.specs.Guards.{IsAllowed, IsAtRest, step_action};
 
@@ -97,15 +102,19 @@ pub fn requests<V: Value>()
 /// commits, of all its calls. A transaction begins with a number that no record before it exceeds, so transactions that
 /// don't overlap keep their order.
 pub fn serial_worlds<V: Value>()
-    ensures serial { (blocks : List Block) (clock : ℕ) (values : List ℕ) (held : List (Held V)) (events : List (Event V)) → HaveStripes blocks → Suit blocks held →
+    ensures serial { (blocks : List Block) (clock : ℕ) (values : List ℕ) (held : List (Held V)) (events : List (Event V)) →
+        HaveStripes blocks → Suit blocks held →
         IsSerial (record { words = values; held = held }) (run (opened blocks clock values held) events) }
-    ensures stays { (blocks : List Block) (clock : ℕ) (values : List ℕ) (held : List (Held V)) (events later : List (Event V)) (a : ℕ) → HaveStripes blocks → Suit blocks held →
+    ensures stays { (blocks : List Block) (clock : ℕ) (values : List ℕ) (held : List (Held V)) (events later : List (Event V)) (a : ℕ) →
+        HaveStripes blocks → Suit blocks held →
         let w = run (opened blocks clock values held) events in
         SawAt (record { words = values; held = held }) (run w later).records (w.seats a) (w.seats a).stage }
-    ensures begins { (blocks : List Block) (clock : ℕ) (values : List ℕ) (held : List (Held V)) (events : List (Event V)) (a rv : ℕ) → HaveStripes blocks → Suit blocks held →
+    ensures begins { (blocks : List Block) (clock : ℕ) (values : List ℕ) (held : List (Held V)) (events : List (Event V)) (a rv : ℕ) →
+        HaveStripes blocks → Suit blocks held →
         let w = run (opened blocks clock values held) events in
         (w.seats a).stage ≡ Beginning → (happens w (Step a)).1 ≡ Answered a (Begun rv) → AreUpTo rv w.records }
-    ensures committed { (blocks : List Block) (clock : ℕ) (values : List ℕ) (held : List (Held V)) (events later : List (Event V)) (a : ℕ) → HaveStripes blocks → Suit blocks held →
+    ensures committed { (blocks : List Block) (clock : ℕ) (values : List ℕ) (held : List (Held V)) (events later : List (Event V))
+        (a : ℕ) → HaveStripes blocks → Suit blocks held →
         let w = run (opened blocks clock values held) events in
         let x = w.seats a in
         commits_at x.stage ≡ true → IsLegal x.calls (state_at x.rv (run w later).records (record { words = values; held = held })) }
@@ -117,34 +126,64 @@ pub fn serial_worlds<V: Value>()
 /// calls into its place in commit order; an aborted transaction is told of behind those that ended before it, with its actor, its
 /// number, its calls and its cause. Nothing else adds to the records or to the aborted transactions.
 pub fn traces<V: Value>()
-    ensures state { (blocks : List Block) (clock : ℕ) (values : List ℕ) (held : List (Held V)) (events : List (Event V)) → HaveStripes blocks → Suit blocks held →
+    ensures state { (blocks : List Block) (clock : ℕ) (values : List ℕ) (held : List (Held V)) (events : List (Event V)) →
+        HaveStripes blocks → Suit blocks held →
         let w = run (opened blocks clock values held) events in
         ((a : ℕ) → is_half_done (w.seats a).stage ≡ false) →
         (trace w).state ≡ state_after (trace w).records (record { words = values; held = held }) }
-    ensures commits { (w : World V) (a : ℕ) → (trace (happens w (Step a)).0).records ≡ with_record a (committed_by (w.seats a) (w.seats a).stage) (trace w).records }
-    ensures ends { (w : World V) (a : ℕ) → (trace (happens w (Step a)).0).aborted ≡ (trace w).aborted ++ ended_by a (w.seats a) (w.seats a).stage }
+    ensures commits { (w : World V) (a : ℕ) →
+        (trace (happens w (Step a)).0).records ≡ with_record a (committed_by (w.seats a) (w.seats a).stage) (trace w).records }
+    ensures ends { (w : World V) (a : ℕ) →
+        (trace (happens w (Step a)).0).aborted ≡ (trace w).aborted ++ ended_by a (w.seats a) (w.seats a).stage }
     ensures asked { (w : World V) (a : ℕ) (q : Request V) →
         ((happens w (Ask a q)).0.records ≡ w.records) × ((happens w (Ask a q)).0.aborted ≡ w.aborted) }
     ensures starved { (w : World V) (a : ℕ) →
         ((happens w (Starve a)).0.records ≡ w.records) × ((happens w (Starve a)).0.aborted ≡ w.aborted) }
 {}
 
+/// A transaction has the calls that were asked for, each once, with the reply that was told. A call that is asked is answered, refused,
+/// or under way; each step of its answers it, leaves it under way, refuses it, or gives its transaction up; and it joins the calls by
+/// its answer alone. Whatever else happens leaves the calls, until the transaction has ended; one that begins has none, and the number
+/// that was told. A commit is told with the number of its record.
+pub fn calls<V: Value>()
+    ensures asked { (w : World V) (a t : ℕ) (op : Op V) → (w.seats a).stage ≡ Open →
+        let call : Call V = record { target = t; op = op } in
+        let r = happens w (Ask a (Request.Call call)) in
+        IsMade a call (w.seats a) (r.0.seats a) r.1 }
+    ensures stepped { (w : World V) (a : ℕ) (call : Call V) → call_at (w.seats a).stage ≡ Some call →
+        let r = happens w (Step a) in
+        IsMade a call (w.seats a) (r.0.seats a) r.1 }
+    ensures kept { (w : World V) (a : ℕ) → call_at (w.seats a).stage ≡ None →
+        let r = happens w (Step a) in
+        IsKept a (w.seats a).stage (w.seats a) (r.0.seats a) r.1 }
+    ensures requested { (w : World V) (a : ℕ) (q : Request V) → ((call : Call V) → q ≢ Request.Call call) →
+        let r = happens w (Ask a q) in
+        IsKept a (w.seats a).stage (w.seats a) (r.0.seats a) r.1 }
+    ensures starved { (w : World V) (a : ℕ) →
+        let r = happens w (Starve a) in
+        IsKept a (w.seats a).stage (w.seats a) (r.0.seats a) r.1 }
+{}
+
 /// Half-done commits and numbers. The half-done commits are told by their numbers, each once and rising; each is the number of a
 /// writer's record, and of an actor that is between its first value store and its last release. A number that a commit took
-/// which is then given up is no writer's, from the step on with which its locks begin to go back: then and at every later moment.
+/// which is then given up is no writer's, from the step on that gives it up, while its gates and locks go back, and at every later
+/// moment.
 pub fn numbers<V: Value>()
-    ensures half_done { (blocks : List Block) (clock : ℕ) (values : List ℕ) (held : List (Held V)) (events : List (Event V)) → HaveStripes blocks → Suit blocks held →
+    ensures half_done { (blocks : List Block) (clock : ℕ) (values : List ℕ) (held : List (Held V)) (events : List (Event V)) →
+        HaveStripes blocks → Suit blocks held →
         let w = run (opened blocks clock values held) events in
         AreHalfDone w (half w) }
-    ensures unused { (blocks : List Block) (clock : ℕ) (values : List ℕ) (held : List (Held V)) (events later : List (Event V)) (a : ℕ) → HaveStripes blocks →
+    ensures unused { (blocks : List Block) (clock : ℕ) (values : List ℕ) (held : List (Held V)) (events later : List (Event V)) (a : ℕ) →
+        HaveStripes blocks →
         let w = run (opened blocks clock values held) events in
-        gives_back (w.seats a).stage ≡ true → HasWritten (actor_of w a).wv (run w later).records → ⊥ }
+        is_ending (w.seats a).stage ≡ true → HasWritten (actor_of w a).wv (run w later).records → ⊥ }
 {}
 
 /// No guard of the machine refuses what a request does: wherever a request is under way, its next step does an action whose guard
 /// holds, at a place where it is due. So a request is never stuck.
 pub fn guards<V: Value>()
-    ensures allowed { (blocks : List Block) (clock : ℕ) (values : List ℕ) (held : List (Held V)) (events : List (Event V)) (a : ℕ) → HaveStripes blocks →
+    ensures allowed { (blocks : List Block) (clock : ℕ) (values : List ℕ) (held : List (Held V)) (events : List (Event V)) (a : ℕ) →
+        HaveStripes blocks →
         let w = run (opened blocks clock values held) events in
         IsAllowed w (w.seats a).stage (step_action w a (w.seats a).stage) }
 {}
@@ -154,16 +193,19 @@ pub fn guards<V: Value>()
 /// its answer, where no call reads more locations than a set may have. What answers nothing leaves a step due. So each request is
 /// answered within 1,000,000 of its own steps, whatever the others do.
 pub fn progress<V: Value>()
-    ensures nearer { (blocks : List Block) (clock : ℕ) (values : List ℕ) (held : List (Held V)) (events : List (Event V)) (a : ℕ) → HaveStripes blocks → AreSmall blocks →
+    ensures nearer { (blocks : List Block) (clock : ℕ) (values : List ℕ) (held : List (Held V)) (events : List (Event V)) (a : ℕ) →
+        HaveStripes blocks → AreSmall blocks →
         let w = run (opened blocks clock values held) events in
         Nears a (left_of w a) (happens w (Step a)) }
     ensures others { (w : World V) (e : Event V) (a : ℕ) → a ≢ whose e → left_of (happens w e).0 a ≡ left_of w a }
-    ensures sets { (blocks : List Block) (clock : ℕ) (values : List ℕ) (held : List (Held V)) (events : List (Event V)) (a : ℕ) → HaveStripes blocks →
+    ensures sets { (blocks : List Block) (clock : ℕ) (values : List ℕ) (held : List (Held V)) (events : List (Event V)) (a : ℕ) →
+        HaveStripes blocks →
         let w = run (opened blocks clock values held) events in
-        (length (actor_of w a).reads ≤ 4096) × (length (actor_of w a).writes ≤ 4096) }
-    ensures few { (blocks : List Block) (clock : ℕ) (values : List ℕ) (held : List (Held V)) (events : List (Event V)) (a : ℕ) (q : Request V) → HaveStripes blocks → AreSmall blocks →
+        (length (actor_of w a).reads ≤ LOCATION_LIMIT) × (length (actor_of w a).writes ≤ LOCATION_LIMIT) }
+    ensures few { (blocks : List Block) (clock : ℕ) (values : List ℕ) (held : List (Held V)) (events : List (Event V)) (a : ℕ)
+        (q : Request V) → HaveStripes blocks → AreSmall blocks →
         let w = run (opened blocks clock values held) events in
-        Nears a 1000000 (happens w (Ask a q)) }
+        Nears a step_limit (happens w (Ask a q)) }
     ensures due { (w : World V) (e : Event V) → IsQuiet (happens w e).1 → IsAtRest ((happens w e).0.seats (whose e)).stage → ⊥ }
 {}
 
@@ -172,7 +214,8 @@ pub fn progress<V: Value>()
 /// that the transaction has read; or it is the last try on the gate, which another holds. The cause stays until the last step of the
 /// request tells it.
 pub fn refusals<V: Value>()
-    ensures causes { (blocks : List Block) (clock : ℕ) (values : List ℕ) (held : List (Held V)) (events : List (Event V)) (a : ℕ) → HaveStripes blocks →
+    ensures causes { (blocks : List Block) (clock : ℕ) (values : List ℕ) (held : List (Held V)) (events : List (Event V)) (a : ℕ) →
+        HaveStripes blocks →
         let w = run (opened blocks clock values held) events in
         is_ending (w.seats a).stage ≡ false → HasCause w a (w.seats a).stage (happens w (Step a)).0 }
     ensures stays { (w : World V) (a : ℕ) → is_ending (w.seats a).stage ≡ true → is_ending ((happens w (Step a)).0.seats a).stage ≡ true →
@@ -181,34 +224,55 @@ pub fn refusals<V: Value>()
 {}
 
 /// A gate is tried 64 times. Where a request tries a gate, and `n` tries are left after this one, the last steps of its actor before
-/// it, as many as with `n` make 63, all tried this gate, and each found it held by another. So a request that is given up for a busy
-/// gate has tried it 64 times, one step after another, and found it held by another each time.
+/// it, as many as with this one and `n` make 64, all tried this gate, and each found it held by another. So a request that is given up
+/// for a busy gate has tried it 64 times, one step after another, and found it held by another each time.
 pub fn tries<V: Value>()
-    ensures before { (blocks : List Block) (clock : ℕ) (values : List ℕ) (held : List (Held V)) (events : List (Event V)) (a k n : ℕ) → HaveStripes blocks →
+    ensures before { (blocks : List Block) (clock : ℕ) (values : List ℕ) (held : List (Held V)) (events : List (Event V)) (a k n : ℕ) →
+        HaveStripes blocks →
         let start = opened blocks clock values held in
-        tried_at ((run start events).seats a).stage ≡ Some (k, n) → (m : ℕ) × (m + n ≡ 63) × InVain start events a k m }
-    ensures in_all { (blocks : List Block) (clock : ℕ) (values : List ℕ) (held : List (Held V)) (events : List (Event V)) (a k : ℕ) → HaveStripes blocks →
+        tried_at ((run start events).seats a).stage ≡ Some (k, n) → (m : ℕ) × (m + 1 + n ≡ gate_tries) × InVain start events a k m }
+    ensures in_all { (blocks : List Block) (clock : ℕ) (values : List ℕ) (held : List (Held V)) (events : List (Event V)) (a k : ℕ) →
+        HaveStripes blocks →
         let start = opened blocks clock values held in
         let w = run start events in
         let x = (happens w (Step a)).0.seats a in
-        is_ending (w.seats a).stage ≡ false → is_ending x.stage ≡ true → x.cause ≡ Some (GateBusy k) → InVain start (events ++ Step a ∷ []) a k 64 }
+        is_ending (w.seats a).stage ≡ false → is_ending x.stage ≡ true → x.cause ≡ Some (GateBusy k) →
+        InVain start (events ++ Step a ∷ []) a k gate_tries }
 {}
 
 /// What a refusal says as it is answered. A request that is refused changes nothing. A step is refused where none is due, as a
 /// transaction begins at the limit of the clock, as a call that was copied for finds no room in the sets (its transaction is as
 /// before the call, with the same pieces copied), and by the last step of a request, which tells the cause that was found; and
-/// nowhere else. So a commit goes on from its first value store to its last release. A want of memory changes nothing there, nor
-/// while a transaction is being given up.
+/// nowhere else. So a commit goes on from its first value store to its last release. A want of memory is refused where no request is
+/// under way. A begin is refused for it at once, and any other request is given up for it up to the first value store of a commit;
+/// from there on, and while a transaction is being given up, it changes nothing.
 pub fn answers<V: Value>()
     ensures asked { (w : World V) (a : ℕ) (q : Request V) → IsRefusal (happens w (Ask a q)).1 → Same w (happens w (Ask a q)).0 }
-    ensures stepped { (blocks : List Block) (clock : ℕ) (values : List ℕ) (held : List (Held V)) (events : List (Event V)) (a : ℕ) → HaveStripes blocks →
+    ensures stepped { (blocks : List Block) (clock : ℕ) (values : List ℕ) (held : List (Held V)) (events : List (Event V)) (a : ℕ) →
+        HaveStripes blocks →
         let w = run (opened blocks clock values held) events in
         let r = happens w (Step a) in
         RefusedBy a (IsRefusedAt w a (w.seats a).stage r.0) r.1 }
     ensures goes_on { (w : World V) (a : ℕ) → is_half_done (w.seats a).stage ≡ true → IsQuiet (happens w (Step a)).1 →
         is_half_done ((happens w (Step a)).0.seats a).stage ≡ true }
-    ensures starved_late { (w : World V) (a : ℕ) → is_half_done (w.seats a).stage ≡ true → happens w (Starve a) ≡ (w, Quiet) }
-    ensures starved_end { (w : World V) (a : ℕ) → is_ending (w.seats a).stage ≡ true → happens w (Starve a) ≡ (w, Quiet) }
+    ensures starved { (w : World V) (a : ℕ) → IsStarved w a (w.seats a).stage (happens w (Starve a)) }
+{}
+
+/// Whether a call that has just been copied for finds room in the sets: it is TooLong exactly where its locations find none. They are
+/// those of the outcome that it has of what its transaction has copied. But where this copy is found stale without a further step, as
+/// a location that was read before has another edition by now, they are those of the outcome that it has of the bases as they are:
+/// what was copied of that location before says nothing of the key that is copied now.
+pub fn rooms<V: Value>()
+    ensures copied { (w : World V) (a : ℕ) (asked : Asked V) → (w.seats a).stage ≡ Copying asked →
+        let c = content w.words w.blocks in
+        let o = copied_outcome w a asked in
+        (IsStale (actor_of w a).reads w.boosted.editions (c.reads o) → ⊥) →
+        IsTooLongUnless a (has_room (actor_of w a) (c.reads o) (c.writes o)) (happens w (Step a)).1 }
+    ensures stale { (w : World V) (a : ℕ) (asked : Asked V) → (w.seats a).stage ≡ Copying asked →
+        let c = content w.words w.blocks in
+        let o = c.outcome w.boosted.parts asked in
+        IsStale (actor_of w a).reads w.boosted.editions (c.reads (copied_outcome w a asked)) →
+        IsTooLongUnless a (has_room (actor_of w a) (c.reads o) (c.writes o)) (happens w (Step a)).1 }
 {}
 
 /// When a request is refused as it is asked. While another is under way it is NotIdle, and so is one that begins where a transaction
@@ -216,16 +280,19 @@ pub fn answers<V: Value>()
 /// refuse it, and only then one past the limit of calls is TooLong. None of them changes anything. Only an Abort gives a transaction
 /// up as it is asked.
 pub fn asked<V: Value>()
-    ensures under_way { (w : World V) (a : ℕ) (q : Request V) → (IsAtRest (w.seats a).stage → ⊥) → happens w (Ask a q) ≡ (w, Refused a NotIdle) }
+    ensures under_way { (w : World V) (a : ℕ) (q : Request V) → (IsAtRest (w.seats a).stage → ⊥) →
+        happens w (Ask a q) ≡ (w, Refused a NotIdle) }
     ensures open { (w : World V) (a : ℕ) → (w.seats a).stage ≡ Open →
         (happens w (Ask a Request.Begin) ≡ (w, Refused a NotIdle)) × (happens w (Ask a Request.BeginRead) ≡ (w, Refused a NotIdle)) }
     ensures idle { (w : World V) (a : ℕ) (q : Request V) → (w.seats a).stage ≡ Idle → q ≢ Request.Begin → q ≢ Request.BeginRead →
         happens w (Ask a q) ≡ (w, Refused a NoTransaction) }
     ensures no_such { (w : World V) (a t : ℕ) (op : Op V) → (w.seats a).stage ≡ Open → is_there w a t op ≡ false →
         happens w (Ask a (Request.Call record { target = t; op = op })) ≡ (w, Refused a NoSuch) }
-    ensures too_long { (w : World V) (a t : ℕ) (op : Op V) → (w.seats a).stage ≡ Open → is_there w a t op ≡ true → CALL_LIMIT ≤ length (w.seats a).calls →
+    ensures too_long { (w : World V) (a t : ℕ) (op : Op V) → (w.seats a).stage ≡ Open → is_there w a t op ≡ true →
+        CALL_LIMIT ≤ length (w.seats a).calls →
         happens w (Ask a (Request.Call record { target = t; op = op })) ≡ (w, Refused a TooLong) }
-    ensures given_up { (blocks : List Block) (clock : ℕ) (values : List ℕ) (held : List (Held V)) (events : List (Event V)) (a : ℕ) (q : Request V) → HaveStripes blocks →
+    ensures given_up { (blocks : List Block) (clock : ℕ) (values : List ℕ) (held : List (Held V)) (events : List (Event V)) (a : ℕ)
+        (q : Request V) → HaveStripes blocks →
         let w = run (opened blocks clock values held) events in
         is_ending (w.seats a).stage ≡ false → is_ending ((happens w (Ask a q)).0.seats a).stage ≡ true → q ≡ Request.Abort }
 {}
@@ -234,18 +301,22 @@ pub fn asked<V: Value>()
 /// transaction that is being given up leaves them. A lock that it holds keeps its old version until it goes back with it, one lock a
 /// step. An actor at rest holds no lock and no gate.
 pub fn given_up<V: Value>()
-    ensures untouched { (blocks : List Block) (clock : ℕ) (values : List ℕ) (held : List (Held V)) (events : List (Event V)) (a : ℕ) → HaveStripes blocks →
+    ensures untouched { (blocks : List Block) (clock : ℕ) (values : List ℕ) (held : List (Held V)) (events : List (Event V)) (a : ℕ) →
+        HaveStripes blocks →
         let w = run (opened blocks clock values held) events in
         changes_at (w.seats a).stage ≡ false → Untouched w (happens w (Step a)).0 }
-    ensures locked { (blocks : List Block) (clock : ℕ) (values : List ℕ) (held : List (Held V)) (events : List (Event V)) (a l k : ℕ) → HaveStripes blocks →
+    ensures locked { (blocks : List Block) (clock : ℕ) (values : List ℕ) (held : List (Held V)) (events : List (Event V)) (a l k : ℕ) →
+        HaveStripes blocks →
         let w = run (opened blocks clock values held) events in
         lookup (actor_of w a).held l ≡ Some k → w.boosted.words.locks l ≡ Locked k }
-    ensures back { (blocks : List Block) (clock : ℕ) (values : List ℕ) (held : List (Held V)) (events : List (Event V)) (a l k : ℕ) (rest : Entries) → HaveStripes blocks →
+    ensures back { (blocks : List Block) (clock : ℕ) (values : List ℕ) (held : List (Held V)) (events : List (Event V)) (a l k : ℕ)
+        (rest : Entries) → HaveStripes blocks →
         let w = run (opened blocks clock values held) events in
         let u = (happens w (Step a)).0 in
         (w.seats a).stage ≡ Cancelling → (actor_of w a).held ≡ (l, k) ∷ rest →
         (u.boosted.words.locks ≡ put w.boosted.words.locks l (Free k)) × ((actor_of u a).held ≡ rest) }
-    ensures rests { (blocks : List Block) (clock : ℕ) (values : List ℕ) (held : List (Held V)) (events : List (Event V)) (a : ℕ) → HaveStripes blocks →
+    ensures rests { (blocks : List Block) (clock : ℕ) (values : List ℕ) (held : List (Held V)) (events : List (Event V)) (a : ℕ) →
+        HaveStripes blocks →
         let w = run (opened blocks clock values held) events in
         (w.seats a).stage ≡ Idle → ((actor_of w a).held ≡ []) × ((k : ℕ) → w.boosted.gates k ≢ Some a) }
 {}
@@ -253,11 +324,13 @@ pub fn given_up<V: Value>()
 /// A transaction beside which no other actor steps between its begin and its end, and at whose begin no lock and no gate is held, is
 /// refused for no conflict; and for want of memory only where its own actor wants it. Meanwhile others may ask and want memory.
 pub fn alone<V: Value>()
-    ensures never { (blocks : List Block) (clock : ℕ) (values : List ℕ) (held : List (Held V)) (events later : List (Event V)) (a : ℕ) → HaveStripes blocks →
+    ensures never { (blocks : List Block) (clock : ℕ) (values : List ℕ) (held : List (Held V)) (events later : List (Event V)) (a : ℕ) →
+        HaveStripes blocks →
         let w = run (opened blocks clock values held) events in
         (w.seats a).stage ≡ Beginning → IsFree w → IsAlone a later →
         (e : Event V) → whose e ≡ a → TellsConflict (happens (run w later) e).1 → ⊥ }
-    ensures memory { (blocks : List Block) (clock : ℕ) (values : List ℕ) (held : List (Held V)) (events later : List (Event V)) (a : ℕ) → HaveStripes blocks →
+    ensures memory { (blocks : List Block) (clock : ℕ) (values : List ℕ) (held : List (Held V)) (events later : List (Event V)) (a : ℕ) →
+        HaveStripes blocks →
         let w = run (opened blocks clock values held) events in
         (w.seats a).stage ≡ Beginning → IsFree w → IsAlone a later → IsUnstarved a later →
         (e : Event V) → whose e ≡ a → IsUnstarved a (e ∷ []) → TellsMemory (happens (run w later) e).1 → ⊥ }
@@ -273,19 +346,23 @@ pub fn without_steps<V: Value>()
 /// What a transaction has copied of a location that it has read is what the base has there, where the base has the edition that it
 /// read. So another key of that location, copied later with the same edition, goes with those copied before.
 pub fn copies<V: Value>()
-    ensures same { (blocks : List Block) (clock : ℕ) (values : List ℕ) (held : List (Held V)) (events : List (Event V)) (a l e : ℕ) → HaveStripes blocks →
+    ensures same { (blocks : List Block) (clock : ℕ) (values : List ℕ) (held : List (Held V)) (events : List (Event V)) (a l e : ℕ) →
+        HaveStripes blocks →
         let w = run (opened blocks clock values held) events in
-        is_calling (w.seats a).stage ≡ true → is_plain w.words w.blocks l ≡ false → first_read (actor_of w a).calls l ≡ Some e → w.boosted.editions l ≡ e →
+        is_calling (w.seats a).stage ≡ true → is_plain w.words w.blocks l ≡ false → first_read (actor_of w a).calls l ≡ Some e →
+        w.boosted.editions l ≡ e →
         (w.boosted.shadows a).parts l ≡ w.boosted.parts l }
 {}
 
 /// No number of a record, and no edition of a base, is above the clock: an edition opens as 0, and rises at most once for each
 /// number.
 pub fn bounds<V: Value>()
-    ensures numbers { (blocks : List Block) (clock : ℕ) (values : List ℕ) (held : List (Held V)) (events : List (Event V)) → HaveStripes blocks → Suit blocks held →
+    ensures numbers { (blocks : List Block) (clock : ℕ) (values : List ℕ) (held : List (Held V)) (events : List (Event V)) →
+        HaveStripes blocks → Suit blocks held →
         let w = run (opened blocks clock values held) events in
         AreUpTo w.boosted.words.clock w.records }
-    ensures editions { (blocks : List Block) (clock : ℕ) (values : List ℕ) (held : List (Held V)) (events : List (Event V)) (l : ℕ) → HaveStripes blocks → Suit blocks held →
+    ensures editions { (blocks : List Block) (clock : ℕ) (values : List ℕ) (held : List (Held V)) (events : List (Event V)) (l : ℕ) →
+        HaveStripes blocks → Suit blocks held →
         let w = run (opened blocks clock values held) events in
         is_plain (length values) blocks l ≡ false → w.boosted.editions l ≤ w.boosted.words.clock }
 {}
@@ -293,9 +370,11 @@ pub fn bounds<V: Value>()
 /// A change that a declared reader asks for is NoSuch at once, whatever else would refuse it, and changes nothing. A declared
 /// reader has no sets, so each of its calls reads its locations anew.
 pub fn declared_readers<V: Value>()
-    ensures changes { (w : World V) (a : ℕ) (call : Call V) → (actor_of w a).declared ≡ true → (w.seats a).stage ≡ Open → is_change call.op ≡ true →
+    ensures changes { (w : World V) (a : ℕ) (call : Call V) → (actor_of w a).declared ≡ true → (w.seats a).stage ≡ Open →
+        is_change call.op ≡ true →
         happens w (Ask a (Request.Call call)) ≡ (w, Refused a NoSuch) }
-    ensures sets { (blocks : List Block) (clock : ℕ) (values : List ℕ) (held : List (Held V)) (events : List (Event V)) (a : ℕ) → HaveStripes blocks →
+    ensures sets { (blocks : List Block) (clock : ℕ) (values : List ℕ) (held : List (Held V)) (events : List (Event V)) (a : ℕ) →
+        HaveStripes blocks →
         let w = run (opened blocks clock values held) events in
         is_calling (w.seats a).stage ≡ true → (actor_of w a).declared ≡ true → ((actor_of w a).reads ≡ []) × ((actor_of w a).writes ≡ []) }
 {}

@@ -55,11 +55,14 @@ some_counts ns None = refl
 some_counts ns (Some t) = refl
 
 module _ {V : Type 0} where
-  value_same : (o p : Option V) → value_reply o ≡ value_reply p → o ≡ p
+  pub value_same : (o p : Option V) → value_reply o ≡ value_reply p → o ≡ p
   value_same None None e = refl
   value_same None (Some v) e = absurd (let z : ⊥ = cc in z)
   value_same (Some v) None e = absurd (let z : ⊥ = cc in z)
   value_same (Some v) (Some w) e = cc
+
+  pub number_same : (c d : ℕ) → ◌≡◌ {A = Reply V} (Number c) (Number d) → c ≡ d
+  number_same c d e = cc
 
   itself : (b s : Shown V) (es : FinMap nat_cmp (Option V)) (cs : FinMap nat_cmp ℕ) (total : Option ℕ) → IsAlike b es cs total s s
   itself b s es cs total = (refl, λ op held. refl)
@@ -121,9 +124,6 @@ module _ {V : Type 0} where
     entry_copied b m es cs total k is (OfBag t) alike = absurd (let z : BagKind ≡ MapKind = alike.0 in let y : ⊥ = cc in y)
     entry_copied b m es cs total k is (OfPq t) alike = absurd (let z : PqKind ≡ MapKind = alike.0 in let y : ⊥ = cc in y)
     entry_copied b m es cs total k is (OfQueue t) alike = absurd (let z : QueueKind ≡ MapKind = alike.0 in let y : ⊥ = cc in y)
-
-    number_same : (c d : ℕ) → ◌≡◌ {A = Reply V} (Number c) (Number d) → c ≡ d
-    number_same c d e = cc
 
     count_copied : (b m : Multiset) (es : FinMap nat_cmp (Option V)) (cs : FinMap nat_cmp ℕ) (total : Option ℕ) (x : ℕ)
         → IsCopyBy (OfBag b) es cs total g h changes (OfBag m)

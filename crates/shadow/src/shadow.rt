@@ -38,7 +38,13 @@ impl<V> Model for Shadow<V> {
 
     ghost Value = { ShadowView V };
 
-    ghost coded = { Prim.hlevel (codes, map.code {R = nat_cmp} coded_ℕ V.code, map.code {R = nat_cmp} coded_ℕ coded_ℕ, pq.shown_code, queue.shown_code) };
+    ghost coded = { Prim.hlevel (
+      codes,
+      map.code {R = nat_cmp} coded_ℕ V.code,
+      map.code {R = nat_cmp} coded_ℕ coded_ℕ,
+      pq.shown_code,
+      queue.shown_code,
+    ) };
 
     ghost view = { λ a. record {
       base = a.base;

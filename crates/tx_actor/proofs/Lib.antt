@@ -3,3 +3,6 @@ mod JudgedLemmas
 mod RunsLemmas
 mod ShowsLemmas
 mod StepLemmas
+mod CopiesLemmas
+mod AcceptsLemmas
+mod CopyingLemmas

@@ -1,7 +1,26 @@
-//! The law of the definitions that the contracts cite.
+//! The laws of the definitions that the contracts cite.
+ghost use Rattle.std.specs.Prelude.{◌≡◌, ◌≢◌, ◌<◌, ℕ, Bool, Contains, List, Some, true, if◌then◌else◌};
+ghost use Rattle.seq_model.specs.declared.call.Op.{Op};
+ghost use Rattle.conflict.specs.Table.{Room};
+ghost use Rattle.conflict.specs.declared.change.Change.{Change};
+ghost use Rattle.conflict.specs.declared.outcome.Outcome.{Outcome};
+ghost use Rattle.collection_machine.specs.Boosted.{Shadow, changes, longer};
+ghost use Rattle.replay_log.specs.Base.{Shown, outcome_of, reads_of, shown_of};
+ghost use Rattle.replay_log.specs.Parts.{kind_of, part};
+ghost use Rattle.replay_log.specs.declared.touch.Touch.{Touch};
+ghost use Rattle.replay_log.specs.declared.touch.Touched.{Touched};
+ghost use Rattle.replay_log.specs.Touches.{touched_by, touched_places};
+ghost use Rattle.shadow.specs.Memo.{IsAlike, MemoView, holds};
+ghost use Rattle.replay_log.specs.Contents.{Answered, Block, HaveStripes, block_of, content, first_of};
+ghost use Rattle.tx_actor.specs.declared.copies.Copied.{Copied};
+ghost use Rattle.tx_actor.specs.declared.copies.Copied.TheVariants.{Keys};
+ghost use Rattle.tx_actor.specs.Copies.{IsAccepted, IsCopied, IsLearnt, IsOf, ShowParts, answer_of, answered_on, holds_call};
+ghost use Rattle.tx_actor.specs.Accepts.{Accepts, PutsBack};
 ghost use Rattle.tx_actor.specs.Dispatch.{AreSteps};
 ghost use Rattle.tx_actor.specs.Judged.{IsJudged};
 ghost use Rattle.tx_actor.specs.Shows.{GivesUp, AsksStores, CopiesForCall, ReadsNext};
+
+use seq_model::Value;
 
 /// What judging by the read set alone comes to is what a world makes of the call, from the load that judges an edition on.
 pub fn judges_as_worlds<V>()
@@ -33,4 +52,49 @@ pub fn reads_next_as_worlds<V>()
 /// methods of the stages make of it; the load of a call's location apart.
 pub fn steps_as_worlds<V>()
     ensures { AreSteps V }
+{}
+
+/// At the store of a call's gate its actor's shadow gets the parts that the call touches, but for those that have been read.
+pub fn puts_back_as_worlds<V>()
+    ensures { PutsBack V }
+{}
+
+/// Where a call may be accepted, its acceptance asks the word actor for the writes, and puts the outcome behind those of its shadow.
+pub fn accepts_as_worlds<V>()
+    ensures { Accepts V }
+{}
+
+/// What a transaction has of a collection answers a call that it holds as the world does, after its own calls; and once it has accepted
+/// the outcome, it has what its shadow has with one outcome more. An outcome on another collection leaves it. What it learns of the
+/// same collection it has too; and what it has of single keys is of each collection that answers alike what it holds.
+pub fn copies_follow<V: Value>()
+    ensures answered { (n : ℕ) (bs : List Block) (k : ℕ) (b : Block) (x : Shadow (Shown V) (Answered V)) (c : Copied V)
+        (op : Op V) (o : Outcome V) → HaveStripes bs → block_of bs k ≡ Some b → IsCopied b (first_of n bs k) k x c →
+        holds_call c op ≡ true → answer_of c op ≡ Some o →
+        (content n bs).outcome (changes (content n bs) x.outcomes x.parts) (record { collection = k; op = op }) ≡ answered_on k op o }
+    ensures accepted { (b : Block) (f k : ℕ) (x : Shadow (Shown V) (Answered V)) (c d : Copied V) (o : Outcome V) →
+        IsCopied b f k x c → holds_call c o.op ≡ true → answer_of c o.op ≡ Some o → IsAccepted o c d →
+        IsCopied b f k (longer x (answered_on k o.op o)) d }
+    ensures learnt { (b : Block) (s : Shown V) (changes : List (Change V)) (locations : List ℕ) (c d : Copied V) (op : Op V) (t : Touch V) →
+        0 < b.stripes → IsOf b s changes locations c → touched_by b.stripes op s ≡ Some t.held → IsLearnt t c d →
+        IsOf b s changes locations d }
+    ensures moved { (b : Block) (s u : Shown V) (changes : List (Change V)) (locations : List ℕ) (m : MemoView V) (es : Room ℕ) →
+        IsOf b s changes locations (Keys m es) → IsAlike (shown_of m.blank) m.entries m.copies m.total s u →
+        IsOf b u changes locations (Keys m es) }
+    ensures others { (b : Block) (f k : ℕ) (x : Shadow (Shown V) (Answered V)) (c : Copied V) (o : Answered V) →
+        IsCopied b f k x c → o.asked.collection ≢ k → IsCopied b f k (longer x o) c }
+{}
+
+/// What copying for a call leaves. A memo's keys are answered alike by a collection that has the parts which they are read from; the
+/// parts of a collection, some of them replaced by those of another of its kind, are those of a third; and what a call touches is
+/// the same where the parts that it is touched from are.
+pub fn copies_found<V: Value>()
+    ensures alike { (n : ℕ) (s t : Shown V) (m : MemoView V) → 0 < n → kind_of t ≡ kind_of s →
+        ((op : Op V) (o : Outcome V) → holds m op ≡ true → outcome_of op s ≡ Some o → (i : ℕ) → Contains (reads_of n o s) i →
+        part n i s ≡ part n i t) → IsAlike (shown_of m.blank) m.entries m.copies m.total s t }
+    ensures mixed { (b : Block) (f : ℕ) (parts now : ℕ → Shown V) (s t : Shown V) (taken : ℕ → Bool) → 0 < b.stripes →
+        ShowParts b f parts s → ShowParts b f now t → (u : Shown V) × ShowParts b f (λ l. if taken l then now l else parts l) u }
+    ensures touched { (n : ℕ) (op : Op V) (s t : Shown V) → 0 < n → kind_of s ≡ kind_of t →
+        ((h : Touched V) → touched_by n op t ≡ Some h → (i : ℕ) → Contains (touched_places n h) i → part n i t ≡ part n i s) →
+        touched_by n op s ≡ touched_by n op t }
 {}

@@ -5,6 +5,8 @@
 #![tactic(auto)]
 
 mod actor;
+mod calls;
+mod copies;
 mod dispatch;
 mod ending;
 mod judged;
@@ -14,6 +16,8 @@ mod notice;
 mod steps;
 
 pub use actor::{Answered, Asked, Piece, Stage, Told, TxActor};
+pub use calls::has_room;
+pub use copies::{Copied, Found, find};
 pub use ending::cancel;
 pub use judged::{Judged, go_on, judge};
 pub use next::Next;

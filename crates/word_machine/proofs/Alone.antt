@@ -1,16 +1,21 @@
 -- A transaction beside which no other steps is never refused for a conflict.
-use Rattle.std.proofs.Common.{◌≡◌, ℕ, ◌+◌, ◌<◌, ◌≤◌, cond, Bool, true, false, eqb, ltb, leb, Option, Some, None, List, [], ◌∷◌, ◌++◌, ◌⊎◌, inl, inr, refl, sym, ap, ◌∙◌, subst, arith, ltb-true, ltb-false, eqb-true, leb-false}
+use Rattle.std.proofs.Common.{◌≡◌, ℕ, ◌+◌, ◌<◌, ◌≤◌, cond, Bool, true, false, eqb, ltb, leb, Option, Some, None, List, [], ◌∷◌, ◌++◌, ◌⊎◌}
+use Rattle.std.proofs.Common.{inl, inr, refl, sym, ap, ◌∙◌, subst, arith, ltb-true, ltb-false, eqb-true, leb-false}
 use Rattle.std.proofs.lemmas.Bool.{eqb-false, cond_both}
 use Rattle.vlock_word.specs.declared.lock_word.LockWord.{LockWord}
 use Rattle.vlock_word.specs.declared.lock_word.LockWord.TheVariants.{Free, Locked}
 use Rattle.vlock_word.specs.LockWord.{version_of, bits}
 use Rattle.tx_sets.specs.Entries.{Entries, lookup, with_entry, locations}
-use Rattle.word_machine.specs.Actor.{Place, Idle, Begin, Open, Look, Fetch, Again, Lock, Take, Check, Broken, First, Store, Release, Undo, Leave, Close, Actor, goes, opened, clock_limit, has_read, to_check}
-use Rattle.word_machine.specs.Requests.{Request, AskBegin, AskBeginRead, AskLock, AskStore, AskRelease, AskCancel, AskAbort, AskClose, AskRead, AskWrite, read, write, lock, close, abort, ask}
+use Rattle.word_machine.specs.Actor.{Place, Idle, Begin, Open, Look, Fetch, Again, Lock, Take, Check, Broken, First, Store, Release, Undo}
+use Rattle.word_machine.specs.Actor.{Leave, Close, Actor, goes, opened, clock_limit, has_read, to_check}
+use Rattle.word_machine.specs.Requests.{Request, AskBegin, AskBeginRead, AskLock, AskStore, AskRelease, AskCancel, AskAbort, AskClose}
+use Rattle.word_machine.specs.Requests.{AskRead, AskWrite, read, write, lock, close, abort, ask}
 use Rattle.word_machine.specs.World.{put, World, Event, Ask, Step, now, step, happens, run}
 use Rattle.word_machine.proofs.Worlds.{looked, looked_again, to_lock, tried, locked, checked, first, released, undone}
 use Rattle.word_machine.specs.Progress.{IsAlone, IsFree}
-use Rattle.word_machine.specs.Notices.{Notice, Quiet, Begun, Exhausted, Moved, Busy, Invalid, Number, LockedAt, Stored, Released, Cancelled, IsConflict, notice, look_notice, again_notice, lock_notice, take_notice, check_notice, when_none_left, last_notice}
+use Rattle.word_machine.specs.Notices.{Notice, Quiet, Begun, Exhausted, Moved, Busy, Invalid, Number, LockedAt, Stored, Released, Cancelled}
+use Rattle.word_machine.specs.Notices.{IsConflict, notice, look_notice, again_notice, lock_notice, take_notice, check_notice}
+use Rattle.word_machine.specs.Notices.{when_none_left, last_notice}
 use Rattle.word_machine.proofs.Sets.{Member, put-same, put_both, lookup-push_same, lookup-push_other, lookup-tail}
 use Rattle.word_machine.proofs.Invariant.{PlaceOk, Inv}
 use Rattle.word_machine.proofs.Quiet.{none_if, lookup-none}
@@ -291,8 +296,9 @@ back_alone : (s : World) (a : ℕ) (f : ℕ × ℕ) (fs : Entries) (v : ℕ) (p 
     }) a)
 back_alone s a f fs v p ok has pl =
     let x = s.actors a in
-    alone_put (put s.locks f.0 (Free v)) s.actors a
-    (record { place = p; declared = x.declared; rv = x.rv; wv = x.wv; reads = x.reads; writes = x.writes; held = fs; calls = x.calls }) (record {
+    let y : Actor =
+    record { place = p; declared = x.declared; rv = x.rv; wv = x.wv; reads = x.reads; writes = x.writes; held = fs; calls = x.calls } in
+    alone_put (put s.locks f.0 (Free v)) s.actors a y (record {
       free = λ i. put_both (λ (z : LockWord). IsFree z ⊎ ((j : ℕ) × (lookup fs i ≡ Some j))) s.locks f.0 (Free v) i
           (λ _. inl tt)
           (λ ne. elim (ok.free i) [

@@ -1,5 +1,6 @@
 -- A request is answered by the time that its steps are done.
-use Rattle.std.proofs.Common.{◌≡◌, ℕ, ◌+◌, ◌<◌, ◌≤◌, Bool, true, false, eqb, ltb, leb, Option, Some, None, List, [], ◌∷◌, ◌⊎◌, inl, inr, length, refl, sym, ap, ◌∙◌, subst, arith}
+use Rattle.std.proofs.Common.{◌≡◌, ℕ, ◌+◌, ◌<◌, ◌≤◌, Bool, true, false, eqb, ltb, leb, Option, Some, None, List, [], ◌∷◌, ◌⊎◌, inl, inr}
+use Rattle.std.proofs.Common.{length, refl, sym, ap, ◌∙◌, subst, arith}
 use Rattle.std.specs.Prelude.{if◌then◌else◌}
 use Rattle.std.proofs.lemmas.Bool.{cond-true, cond-false, cases_eq}
 use Rattle.std.proofs.Common.{eq-eqb, ne_eqb}
@@ -7,9 +8,14 @@ use Rattle.vlock_word.specs.declared.lock_word.LockWord.{LockWord}
 use Rattle.vlock_word.specs.declared.lock_word.LockWord.TheVariants.{Free, Locked}
 use Rattle.vlock_word.specs.LockWord.{bits}
 use Rattle.tx_sets.specs.Entries.{Entries, lookup, locations}
-use Rattle.word_machine.specs.Actor.{Place, Idle, Begin, Open, Look, Fetch, Again, Lock, Take, Check, Broken, First, Store, Release, Undo, Leave, Close, Actor, goes, taken, clock_limit, to_check}
-use Rattle.word_machine.specs.World.{World, Event, Ask, Step, Deed, Rests, LoadClock, AddToClock, LoadLock, LoadValue, ExchangeLock, StoreValue, StoreLock, does, exchanged, Outcome, GoesOn, Commits, Aborts, noted, plan, outcome, put, now, step, happens}
-use Rattle.word_machine.specs.Notices.{Notice, Quiet, Moved, Busy, Invalid, Begun, Exhausted, Number, LockedAt, Stored, Released, Cancelled, notice, look_notice, again_notice, lock_notice, take_notice, check_notice, when_none_left, last_notice}
+use Rattle.word_machine.specs.Actor.{Place, Idle, Begin, Open, Look, Fetch, Again, Lock, Take, Check, Broken, First, Store, Release, Undo}
+use Rattle.word_machine.specs.Actor.{Leave, Close, Actor, goes, taken, clock_limit, to_check}
+use Rattle.word_machine.specs.World.{World, Event, Ask, Step, Deed, Rests, LoadClock, AddToClock, LoadLock, LoadValue, ExchangeLock}
+use Rattle.word_machine.specs.World.{StoreValue, StoreLock, does, exchanged, Outcome, GoesOn, Commits, Aborts, noted, plan, outcome, put}
+use Rattle.word_machine.specs.World.{now, step, happens}
+use Rattle.word_machine.specs.Notices.{Notice, Quiet, Moved, Busy, Invalid, Begun, Exhausted, Number, LockedAt, Stored, Released, Cancelled}
+use Rattle.word_machine.specs.Notices.{notice, look_notice, again_notice, lock_notice, take_notice, check_notice, when_none_left}
+use Rattle.word_machine.specs.Notices.{last_notice}
 use Rattle.word_machine.specs.Progress.{steps_left, IsAnswered, steps_of, AsksNothing, IsAnsweredWithin}
 use Rattle.word_machine.proofs.Worlds.{looked, to_lock, locked, tried, checked, first, released, undone}
 use Rattle.word_machine.proofs.Sets.{put-same, put-other}

@@ -10,7 +10,9 @@ use Rattle.vlock_word.specs.LockWord.{bits, unbits}
 use Rattle.vlock_word.proofs.LockWordLemmas.{unbits_bits}
 use Rattle.word_machine.specs.Actor.{Place, Actor}
 use Rattle.word_machine.specs.Requests.{Request, ask}
-use Rattle.word_machine.specs.World.{World, now, exchanged, Deed, Rests, LoadClock, AddToClock, LoadLock, LoadValue, ExchangeLock, StoreValue, StoreLock, does, Outcome, GoesOn, Commits, Aborts, noted, plan, step, outcome, happens, Ask}
+use Rattle.word_machine.specs.World.{World, now, exchanged, Deed, Rests, LoadClock, AddToClock, LoadLock, LoadValue, ExchangeLock}
+use Rattle.word_machine.specs.World.{StoreValue, StoreLock, does, Outcome, GoesOn, Commits, Aborts, noted, plan, step, outcome, happens}
+use Rattle.word_machine.specs.World.{Ask}
 use Rattle.word_machine.specs.Cells.{Cell, ClockCell, LockCell, ValueCell, cell, word_of, becomes, learns}
 use Rattle.word_machine.proofs.Sets.{put-same, put-other}
 

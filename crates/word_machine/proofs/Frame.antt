@@ -3,7 +3,8 @@ use Rattle.std.proofs.Common.{◌≡◌, ℕ, ◌-◌, ◌<◌, ◌≤◌, true,
 use Rattle.vlock_word.specs.declared.lock_word.LockWord.{LockWord}
 use Rattle.vlock_word.specs.LockWord.{version_of}
 use Rattle.tx_sets.specs.Entries.{Entries, lookup}
-use Rattle.word_machine.specs.Actor.{Call, Place, Idle, Begin, Open, Look, Fetch, Again, Lock, Take, Check, Broken, First, Store, Release, Undo, Leave, Close, Actor}
+use Rattle.word_machine.specs.Actor.{Call, Place, Idle, Begin, Open, Look, Fetch, Again, Lock, Take, Check, Broken, First, Store, Release}
+use Rattle.word_machine.specs.Actor.{Undo, Leave, Close, Actor}
 use Rattle.word_machine.specs.World.{Memory, put, Record, Ended, World, now}
 use Rattle.word_machine.specs.Opacity.{IsHalfDone, AllEnded}
 use Rattle.std.proofs.lemmas.Bool.{cases_eq}
@@ -59,9 +60,11 @@ PlaceOk-kept s t x (Again l j v) k m g =
     (g.0, g.1, omega (arith, g.2, k.versions l), λ q. let f = k.latest l j g.2 q in f.1 ∙ g.3 f.0)
 PlaceOk-kept s t x (Lock ls) k m g = g
 PlaceOk-kept s t x (Take l j ls) k m g = g
-PlaceOk-kept s t x (Check ls) k m g = (Stamped-kept s.clock t.clock x.rv x.wv x.writes x.held k.clock g.0, Checked-kept s t x.wv x.reads ls k g.1)
+PlaceOk-kept s t x (Check ls) k m g =
+    (Stamped-kept s.clock t.clock x.rv x.wv x.writes x.held k.clock g.0, Checked-kept s t x.wv x.reads ls k g.1)
 PlaceOk-kept s t x Broken k m g = tt
-PlaceOk-kept s t x First k m g = (Stamped-kept s.clock t.clock x.rv x.wv x.writes x.held k.clock g.0, Checked-kept s t x.wv x.reads [] k g.1)
+PlaceOk-kept s t x First k m g =
+    (Stamped-kept s.clock t.clock x.rv x.wv x.writes x.held k.clock g.0, Checked-kept s t x.wv x.reads [] k g.1)
 PlaceOk-kept s t x (Store ls) k m g = (Done-kept s t x.wv x.writes x.held ls k m g.0, g.1)
 PlaceOk-kept s t x Release k m g = Done-kept s t x.wv x.writes x.held [] k m g
 PlaceOk-kept s t x Undo k m g = tt
@@ -101,7 +104,16 @@ aborted_kept s t (e ∷ es) k g = (Saw-kept s t e.rv e.calls k g.0, aborted_kept
 
 -- The world after a step of actor a, which is y now.
 abbrev pub next : World → ℕ → Actor → ℕ → (ℕ → LockWord) → Memory → List Record → List Ended → World
-next s a y clock locks values history aborted = record { opening = s.opening; clock = clock; locks = locks; values = values; actors = put s.actors a y; history = history; aborted = aborted }
+next s a y clock locks values history aborted =
+    record {
+      opening = s.opening;
+      clock = clock;
+      locks = locks;
+      values = values;
+      actors = put s.actors a y;
+      history = history;
+      aborted = aborted;
+    }
 
 -- y's number is the one that a had, or a new one
 abbrev pub IsNumbered : World → ℕ → Actor → Type 0
@@ -232,7 +244,8 @@ quiet_ended s a y ended v q saw =
     let t = next s a y s.clock s.locks s.values s.history ended in
     let k : Keeps s (next s a y s.clock s.locks s.values s.history ended) = Keeps-no_commit s a y s.clock s.locks s.values ended
     (omega arith) q.numbered (λ l. omega arith) in
-    let m : (h : Entries) → Same s (next s a y s.clock s.locks s.values s.history ended) h = λ h. record { locks = λ l j q. refl; values = λ l j q. refl; stamps = λ l j q. refl; latest = λ l j q. refl } in
+    let m : (h : Entries) → Same s (next s a y s.clock s.locks s.values s.history ended) h =
+    λ h. record { locks = λ l j q. refl; values = λ l j q. refl; stamps = λ l j q. refl; latest = λ l j q. refl } in
     record {
       inv = record {
         actors = actors_after s t a y v k (λ b ne. m (s.actors b).held) (ActorOk-kept s t y k (m y.held) q.ok);

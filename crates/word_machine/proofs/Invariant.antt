@@ -3,7 +3,8 @@ use Rattle.std.proofs.Common.{◌≡◌, ℕ, ◌-◌, ◌<◌, ◌≤◌, Bool,
 use Rattle.vlock_word.specs.declared.lock_word.LockWord.TheVariants.{Locked}
 use Rattle.vlock_word.specs.LockWord.{version_of}
 use Rattle.tx_sets.specs.Entries.{Entries, lookup}
-use Rattle.word_machine.specs.Actor.{Call, Place, Idle, Begin, Open, Look, Fetch, Again, Lock, Take, Check, Broken, First, Store, Release, Undo, Leave, Close, Actor}
+use Rattle.word_machine.specs.Actor.{Call, Place, Idle, Begin, Open, Look, Fetch, Again, Lock, Take, Check, Broken, First, Store, Release}
+use Rattle.word_machine.specs.Actor.{Undo, Leave, Close, Actor}
 use Rattle.word_machine.specs.World.{Memory, Record, World}
 use Rattle.word_machine.specs.Opacity.{IsLegal, IsInOrder, IsHalfDone, AllEnded}
 use Rattle.word_machine.proofs.Sets.{IsUnique, Member}

@@ -1,6 +1,7 @@
 -- The steps that change a word, the clock or the history.
 use Rattle.std.specs.Prelude.{unwrap_or}
-use Rattle.std.proofs.Common.{◌≡◌, ℕ, ◌+◌, ◌-◌, ◌<◌, ◌≤◌, max, Bool, true, false, eqb, eqb-true, Option, Some, None, List, [], ◌∷◌, ◌++◌, ◌⊎◌, inl, inr, refl, sym, ap, ◌∙◌, subst, arith, true≢false}
+use Rattle.std.proofs.Common.{◌≡◌, ℕ, ◌+◌, ◌-◌, ◌<◌, ◌≤◌, max, Bool, true, false, eqb, eqb-true, Option, Some, None, List, [], ◌∷◌, ◌++◌}
+use Rattle.std.proofs.Common.{◌⊎◌, inl, inr, refl, sym, ap, ◌∙◌, subst, arith, true≢false}
 use Rattle.std.proofs.lemmas.Bool.{cases_eq, cond_both}
 use Rattle.vlock_word.specs.declared.lock_word.LockWord.{LockWord}
 use Rattle.vlock_word.specs.declared.lock_word.LockWord.TheVariants.{Free, Locked}
@@ -10,11 +11,15 @@ use Rattle.word_machine.specs.Actor.{Call, Place, Idle, Lock, Take, Check, First
 use Rattle.word_machine.specs.World.{Memory, put, Record, World, insert}
 use Rattle.word_machine.proofs.Worlds.{locked, stamped, commits, first, stored, gives_back, released, undone, closed}
 use Rattle.word_machine.specs.Opacity.{IsHalfDone}
-use Rattle.word_machine.proofs.Sets.{IsUnique, IsUnique-push, Member, member_locations, locations_member, push_cases, lookup-push_same, lookup-push_other, lookup-head, lookup-tail, rest_entry, put_both, put-same, put-other}
+use Rattle.word_machine.proofs.Sets.{IsUnique, IsUnique-push, Member, member_locations, locations_member, push_cases, lookup-push_same}
+use Rattle.word_machine.proofs.Sets.{lookup-push_other, lookup-head, lookup-tail, rest_entry, put_both, put-same, put-other}
 use Rattle.word_machine.proofs.Calls.{touched}
-use Rattle.word_machine.proofs.Records.{stamp, AllRecords, AllRecords-insert, IsNew, IsInOrder-insert, stamp_untouched, stamp_touched, settled_untouched, settled_later, finals_untouched, finals_touched}
-use Rattle.word_machine.proofs.Invariant.{IsPending, Good, HasBegun, IsKept, latest, Locking, IsSomeEntry, Done, PlaceOk, ActorOk, RecordOk, Inv}
-use Rattle.word_machine.proofs.Frame.{Moved, moved_none, Keeps, Same, Keeps-no_commit, Saw-kept, ActorOk-kept, IsNumbered, next, actors_after, apart_after, numbers_after, unused_after, behind_before, records_kept, aborted_kept}
+use Rattle.word_machine.proofs.Records.{stamp, AllRecords, AllRecords-insert, IsNew, IsInOrder-insert, stamp_untouched, stamp_touched}
+use Rattle.word_machine.proofs.Records.{settled_untouched, settled_later, finals_untouched, finals_touched}
+use Rattle.word_machine.proofs.Invariant.{IsPending, Good, HasBegun, IsKept, latest, Locking, IsSomeEntry, Done, PlaceOk, ActorOk, RecordOk}
+use Rattle.word_machine.proofs.Invariant.{Inv}
+use Rattle.word_machine.proofs.Frame.{Moved, moved_none, Keeps, Same, Keeps-no_commit, Saw-kept, ActorOk-kept, IsNumbered, next}
+use Rattle.word_machine.proofs.Frame.{actors_after, apart_after, numbers_after, unused_after, behind_before, records_kept, aborted_kept}
 use Rattle.word_machine.proofs.Quiet.{none_if, no_holder}
 
 locked_is : (w : LockWord) (j k : ℕ) → w ≡ Locked j → w ≡ Locked k → j ≡ k
@@ -34,7 +39,17 @@ pub locked_ok : (s : World) (a l k : ℕ) (ls : List ℕ) → Inv s → (s.actor
     → Locking (s.actors a).writes (s.actors a).held (l ∷ ls) → s.locks l ≡ Free k → Moved s a (locked s a (s.actors a) l k ls)
 locked_ok s a l k ls v e pl free =
     let x = s.actors a in
-    let y : Actor = record { place = Lock ls; declared = x.declared; rv = x.rv; wv = x.wv; reads = x.reads; writes = x.writes; held = x.held ++ (l, k) ∷ []; calls = x.calls } in
+    let y : Actor =
+    record {
+      place = Lock ls;
+      declared = x.declared;
+      rv = x.rv;
+      wv = x.wv;
+      reads = x.reads;
+      writes = x.writes;
+      held = x.held ++ (l, k) ∷ [];
+      calls = x.calls;
+    } in
     let none : lookup x.held l ≡ None = none_if (lookup x.held l) (λ j h. no_holder s l k v free a j h) in
     let words : ℕ → LockWord = put s.locks l (Locked k) in
     let t : World = next s a y s.clock words s.values s.history s.aborted in
@@ -121,7 +136,8 @@ stamped_ok s a v e pl =
     let t : World = next s a y (s.clock + 1) s.locks s.values s.history s.aborted in
     let num : IsNumbered s a y = λ h. inr (omega arith) in
     let keeps : Keeps s t = Keeps-no_commit s a y (s.clock + 1) s.locks s.values s.aborted (omega arith) num (λ i. omega arith) in
-    let others : (h : Entries) → Same s t h = λ h. record { locks = λ i j q. refl; values = λ i j q. refl; stamps = λ i j q. refl; latest = λ i j q. refl } in
+    let others : (h : Entries) → Same s t h =
+    λ h. record { locks = λ i j q. refl; values = λ i j q. refl; stamps = λ i j q. refl; latest = λ i j q. refl } in
     let own : ActorOk t y = record {
       began = omega (arith, (v.actors a).began);
       reads = λ i u h. keeps.good x.rv i u ((v.actors a).reads i u h);
@@ -187,7 +203,8 @@ gives_back_ok : (s : World) (a : ℕ) (f : ℕ × ℕ) (fs : Entries) (w : LockW
     → Moved s a (gives_back s a (s.actors a) f.0 w fs p)
 gives_back_ok s a f fs w p v has np at_p up top cur beh still pl =
     let x = s.actors a in
-    let y : Actor = record { place = p; declared = x.declared; rv = x.rv; wv = x.wv; reads = x.reads; writes = x.writes; held = fs; calls = x.calls } in
+    let y : Actor =
+    record { place = p; declared = x.declared; rv = x.rv; wv = x.wv; reads = x.reads; writes = x.writes; held = fs; calls = x.calls } in
     let words : ℕ → LockWord = put s.locks f.0 w in
     let t : World = next s a y s.clock words s.values s.history s.aborted in
     let uniq : IsUnique (f ∷ fs) = subst IsUnique has (v.actors a).unique in

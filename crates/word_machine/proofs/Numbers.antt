@@ -2,14 +2,19 @@
 -- has passed it, no writer in the history has it, and no commit under way has it. Every event keeps that: a commit is given the number
 -- after the clock, and a record has the number of a commit that was under way. An actor that has no number yet counts as of 0, which is
 -- spent from the start.
-use Rattle.std.proofs.Common.{◌≡◌, ◌≢◌, ℕ, ◌<◌, ◌≤◌, cond, Bool, true, false, eqb, ltb, leb, Option, Some, None, List, [], ◌∷◌, ◌⊎◌, inl, inr, refl, sym, ap, ◌∙◌, subst, arith}
+use Rattle.std.proofs.Common.{◌≡◌, ◌≢◌, ℕ, ◌<◌, ◌≤◌, cond, Bool, true, false, eqb, ltb, leb, Option, Some, None, List, [], ◌∷◌, ◌⊎◌, inl}
+use Rattle.std.proofs.Common.{inr, refl, sym, ap, ◌∙◌, subst, arith}
 use Rattle.std.proofs.lemmas.Bool.{cases_eq}
 use Rattle.vlock_word.specs.declared.lock_word.LockWord.{LockWord}
 use Rattle.vlock_word.specs.declared.lock_word.LockWord.TheVariants.{Free, Locked}
 use Rattle.tx_sets.specs.Entries.{Entries, lookup, locations}
-use Rattle.word_machine.specs.Actor.{Place, Idle, Begin, Open, Look, Fetch, Again, Lock, Take, Check, Broken, First, Store, Release, Undo, Leave, Close, Actor, goes, opened, has_read, clock_limit, taken}
-use Rattle.word_machine.specs.Requests.{Request, AskBegin, AskBeginRead, AskLock, AskStore, AskRelease, AskCancel, AskAbort, AskClose, AskRead, AskWrite, read, write, lock, close, abort, ask}
-use Rattle.word_machine.specs.World.{Memory, Record, World, Event, Ask, Step, Deed, Rests, LoadClock, AddToClock, LoadLock, LoadValue, ExchangeLock, StoreValue, StoreLock, insert, comes_before, now, put, does, exchanged, noted, plan, outcome, first_outcome, step, happens, run, start}
+use Rattle.word_machine.specs.Actor.{Place, Idle, Begin, Open, Look, Fetch, Again, Lock, Take, Check, Broken, First, Store, Release, Undo}
+use Rattle.word_machine.specs.Actor.{Leave, Close, Actor, goes, opened, has_read, clock_limit, taken}
+use Rattle.word_machine.specs.Requests.{Request, AskBegin, AskBeginRead, AskLock, AskStore, AskRelease, AskCancel, AskAbort, AskClose}
+use Rattle.word_machine.specs.Requests.{AskRead, AskWrite, read, write, lock, close, abort, ask}
+use Rattle.word_machine.specs.World.{Memory, Record, World, Event, Ask, Step, Deed, Rests, LoadClock, AddToClock, LoadLock, LoadValue}
+use Rattle.word_machine.specs.World.{ExchangeLock, StoreValue, StoreLock, insert, comes_before, now, put, does, exchanged, noted, plan}
+use Rattle.word_machine.specs.World.{outcome, first_outcome, step, happens, run, start}
 use Rattle.word_machine.specs.Opacity.{NoWriterHas, actor_of}
 use Rattle.word_machine.specs.Refusals.{IsEnding}
 use Rattle.word_machine.proofs.Worlds.{looked, looked_again, to_lock, locked, tried, checked, first, released, undone}
@@ -21,7 +26,7 @@ use Rattle.word_machine.proofs.Schedules.{happens_ok, start_ok, reached}
 use Rattle.word_machine.proofs.Answered.{step_other}
 
 -- within a transaction, and without a number yet
-abbrev IsUnnumbered : Place → Type 0
+abbrev pub IsUnnumbered : Place → Type 0
 IsUnnumbered Open = Unit {0}
 IsUnnumbered (Look l) = Unit {0}
 IsUnnumbered (Fetch l k) = Unit {0}
@@ -43,12 +48,12 @@ record NumberOk (s : World) (x : Actor) : Type 0 where
   spent : IsEnding x.place → Spent s x.wv
 
 -- with a number, and no value to store yet
-abbrev IsChecking : Place → Type 0
+abbrev pub IsChecking : Place → Type 0
 IsChecking (Check ls) = Unit {0}
 IsChecking p = ⊥
 
 -- where a transaction can give up from
-abbrev GivesUp : Place → Type 0
+abbrev pub GivesUp : Place → Type 0
 GivesUp p = IsUnnumbered p ⊎ (IsChecking p ⊎ IsEnding p)
 
 -- x at p becomes y by an event of its own, with this clock
@@ -407,11 +412,33 @@ run_spent [] s n v all g = g
 run_spent (e ∷ es) s n v all g = run_spent es (happens s e) n (happens_ok s e v).inv (number_kept s e v all)
     (spent_kept s e n v (all (actor_of e)) g)
 
+all_numbers : (clock : ℕ) (memory : Memory) (events : List Event) → AllNumberOk (run events (start clock memory))
+all_numbers clock memory events = run_number events (start clock memory) (start_ok clock memory)
+    (λ b. record { none = λ h. absurd h; spent = λ h. absurd h })
+
 pub unused_later : (clock : ℕ) (memory : Memory) (events later : List Event) (a : ℕ)
     → IsEnding ((run events (start clock memory)).actors a).place
     → NoWriterHas ((run events (start clock memory)).actors a).wv (run later (run events (start clock memory))).history
 unused_later clock memory events later a ends =
     let s = run events (start clock memory) in
-    let all = run_number events (start clock memory) (start_ok clock memory)
-    (λ b. record { none = λ h. absurd h; spent = λ h. absurd h }) in
+    let all = all_numbers clock memory events in
     (run_spent later s (s.actors a).wv (reached clock memory events) all ((all a).spent ends)).listed
+
+-- while a transaction can give up, no writer has its number
+unused_where : (s : World) (a : ℕ) → Inv s → NumberOk s (s.actors a) → GivesUp (s.actors a).place
+    → NoWriterHas (s.actors a).wv s.history
+unused_where s a v ok at =
+    let x = s.actors a in
+    elim at [
+      | inl none ↦ subst (λ (n : ℕ). NoWriterHas n s.history) (sym (ok.none none)) (spent_none s v).listed
+      | inr more ↦ elim more [
+        | inl checks ↦ unused_listed x.wv s.history (v.unused a (is_pending x.place checks))
+        | inr ended ↦ (ok.spent ended).listed
+      ]
+    ]
+
+pub unused_yet : (clock : ℕ) (memory : Memory) (events : List Event) (a : ℕ)
+    → GivesUp ((run events (start clock memory)).actors a).place
+    → NoWriterHas ((run events (start clock memory)).actors a).wv (run events (start clock memory)).history
+unused_yet clock memory events a at =
+    unused_where (run events (start clock memory)) a (reached clock memory events) (all_numbers clock memory events a) at

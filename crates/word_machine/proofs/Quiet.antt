@@ -1,13 +1,16 @@
 -- Requests, and the steps that change no word.
-use Rattle.std.proofs.Common.{◌≡◌, ℕ, ◌-◌, ◌≤◌, Bool, true, false, eqb, ltb, leb, Option, Some, None, List, [], ◌∷◌, ◌++◌, inl, inr, refl, sym, ap, ◌∙◌, subst, arith, leb-true, eqb-true}
+use Rattle.std.proofs.Common.{◌≡◌, ℕ, ◌-◌, ◌≤◌, Bool, true, false, eqb, ltb, leb, Option, Some, None, List, [], ◌∷◌, ◌++◌, inl, inr, refl}
+use Rattle.std.proofs.Common.{sym, ap, ◌∙◌, subst, arith, leb-true, eqb-true}
 use Rattle.std.specs.Prelude.{if◌then◌else◌}
 use Rattle.std.proofs.lemmas.Bool.{cond_both}
 use Rattle.vlock_word.specs.declared.lock_word.LockWord.{LockWord}
 use Rattle.vlock_word.specs.declared.lock_word.LockWord.TheVariants.{Free, Locked}
 use Rattle.vlock_word.specs.LockWord.{version_of}
 use Rattle.tx_sets.specs.Entries.{Entries, lookup, with_entry, locations}
-use Rattle.word_machine.specs.Actor.{Call, Read, Write, Place, Idle, Begin, Open, Look, Fetch, Again, Lock, Take, Check, Broken, First, Store, Release, Undo, Leave, Close, Actor, goes, opened, with_read, has_read, clock_limit}
-use Rattle.word_machine.specs.Requests.{Request, AskBegin, AskBeginRead, AskLock, AskStore, AskRelease, AskCancel, AskAbort, AskClose, AskRead, AskWrite, begin, read, write, lock, close, abort, ask}
+use Rattle.word_machine.specs.Actor.{Call, Read, Write, Place, Idle, Begin, Open, Look, Fetch, Again, Lock, Take, Check, Broken, First}
+use Rattle.word_machine.specs.Actor.{Store, Release, Undo, Leave, Close, Actor, goes, opened, with_read, has_read, clock_limit}
+use Rattle.word_machine.specs.Requests.{Request, AskBegin, AskBeginRead, AskLock, AskStore, AskRelease, AskCancel, AskAbort, AskClose}
+use Rattle.word_machine.specs.Requests.{AskRead, AskWrite, begin, read, write, lock, close, abort, ask}
 use Rattle.word_machine.specs.World.{Ended, World, now}
 use Rattle.word_machine.proofs.Worlds.{looked, looked_again, to_lock, checked, left}
 use Rattle.word_machine.specs.Opacity.{IsHalfDone, AllEnded}
@@ -180,7 +183,16 @@ asked_begin_ok s a declared v e none =
       numbered = λ h. absurd h;
       still = λ l half n. absurd (let z : IsHalfDone Idle = subst IsHalfDone e half in z);
       held = refl;
-      ok = record { began = ok.began; reads = ok.reads; saw = ok.saw; sets = ok.sets; kept = λ h. absurd h; held = ok.held; unique = ok.unique; place = none };
+      ok = record {
+        began = ok.began;
+        reads = ok.reads;
+        saw = ok.saw;
+        sets = ok.sets;
+        kept = λ h. absurd h;
+        held = ok.held;
+        unique = ok.unique;
+        place = none;
+      };
     }
 
 pub ask_ok : (s : World) (a : ℕ) (p : Place) (request : Request) → Inv s → (s.actors a).place ≡ p → PlaceOk s (s.actors a) p

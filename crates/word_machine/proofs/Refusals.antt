@@ -1,15 +1,20 @@
 -- Each refusal is true where it is answered, and a refused transaction only gives its locks back and ends.
-use Rattle.std.proofs.Common.{◌≡◌, ℕ, ◌+◌, ◌<◌, Bool, true, false, eqb, ltb, leb, Option, Some, None, List, [], ◌∷◌, ◌⊎◌, inl, inr, refl, sym, ap, ◌∙◌, subst, arith, ltb-false, leb-false}
+use Rattle.std.proofs.Common.{◌≡◌, ℕ, ◌+◌, ◌<◌, Bool, true, false, eqb, ltb, leb, Option, Some, None, List, [], ◌∷◌, ◌⊎◌, inl, inr, refl}
+use Rattle.std.proofs.Common.{sym, ap, ◌∙◌, subst, arith, ltb-false, leb-false}
 use Rattle.std.specs.Prelude.{if◌then◌else◌}
 use Rattle.std.proofs.lemmas.Bool.{eqb-false, cond_both, cases_eq}
 use Rattle.vlock_word.specs.declared.lock_word.LockWord.{LockWord}
 use Rattle.vlock_word.specs.declared.lock_word.LockWord.TheVariants.{Free, Locked}
 use Rattle.vlock_word.specs.LockWord.{version_of, is_locked_word, bits}
 use Rattle.tx_sets.specs.Entries.{Entries, lookup}
-use Rattle.word_machine.specs.Actor.{Place, Idle, Begin, Open, Look, Fetch, Again, Lock, Take, Check, Broken, First, Store, Release, Undo, Leave, Close, Actor, goes, clock_limit, to_check}
-use Rattle.word_machine.specs.Requests.{Request, AskBegin, AskBeginRead, AskLock, AskStore, AskRelease, AskCancel, AskAbort, AskClose, AskRead, AskWrite, abort, ask}
+use Rattle.word_machine.specs.Actor.{Place, Idle, Begin, Open, Look, Fetch, Again, Lock, Take, Check, Broken, First, Store, Release, Undo}
+use Rattle.word_machine.specs.Actor.{Leave, Close, Actor, goes, clock_limit, to_check}
+use Rattle.word_machine.specs.Requests.{Request, AskBegin, AskBeginRead, AskLock, AskStore, AskRelease, AskCancel, AskAbort, AskClose}
+use Rattle.word_machine.specs.Requests.{AskRead, AskWrite, abort, ask}
 use Rattle.word_machine.specs.World.{put, World, Event, Ask, Step, now, step, happens}
-use Rattle.word_machine.specs.Notices.{Notice, Quiet, Begun, Exhausted, Moved, Busy, Invalid, Number, LockedAt, Stored, Released, Cancelled, IsConflict, notice, look_notice, again_notice, lock_notice, take_notice, check_notice, when_none_left, last_notice}
+use Rattle.word_machine.specs.Notices.{Notice, Quiet, Begun, Exhausted, Moved, Busy, Invalid, Number, LockedAt, Stored, Released, Cancelled}
+use Rattle.word_machine.specs.Notices.{IsConflict, notice, look_notice, again_notice, lock_notice, take_notice, check_notice}
+use Rattle.word_machine.specs.Notices.{when_none_left, last_notice}
 use Rattle.word_machine.specs.Refusals.{IsTrue, NamesPlace, IsRefused, IsEnding, IsCommitting}
 use Rattle.word_machine.proofs.Worlds.{looked, looked_again, to_lock, tried, locked, checked, undone}
 use Rattle.word_machine.proofs.Sets.{put-same, put_both}

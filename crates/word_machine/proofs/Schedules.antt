@@ -4,18 +4,21 @@ use Rattle.std.proofs.lemmas.Bool.{cond_both}
 use Rattle.vlock_word.specs.declared.lock_word.LockWord.{LockWord}
 use Rattle.vlock_word.specs.declared.lock_word.LockWord.TheVariants.{Free}
 use Rattle.tx_sets.specs.Entries.{lookup}
-use Rattle.word_machine.specs.Actor.{Place, Idle, Begin, Open, Look, Fetch, Again, Lock, Take, Check, Broken, First, Store, Release, Undo, Leave, Close, Actor, goes, opened, clock_limit}
+use Rattle.word_machine.specs.Actor.{Place, Idle, Begin, Open, Look, Fetch, Again, Lock, Take, Check, Broken, First, Store, Release, Undo}
+use Rattle.word_machine.specs.Actor.{Leave, Close, Actor, goes, opened, clock_limit}
 use Rattle.word_machine.specs.Requests.{ask}
 use Rattle.word_machine.specs.World.{Memory, put, Record, Ended, World, Event, Ask, Step, now, step, happens, run, start}
 use Rattle.word_machine.proofs.Worlds.{tried}
 use Rattle.word_machine.specs.Opacity.{IsLegal, IsRun, IsNoneHalfDone, AllEnded, AllUpto, actor_of, memory_at, memory_after, upto}
 use Rattle.word_machine.proofs.Sets.{put-same}
 use Rattle.word_machine.proofs.Calls.{Sets-none}
-use Rattle.word_machine.proofs.Records.{settled, memory_after-upto, memory_after-finals, AllRecords, AllRecords_map, base, LegalAt, IsRun-records}
+use Rattle.word_machine.proofs.Records.{settled, memory_after-upto, memory_after-finals, AllRecords, AllRecords_map, base, LegalAt}
+use Rattle.word_machine.proofs.Records.{IsRun-records}
 use Rattle.word_machine.proofs.Invariant.{Saw, Locking, PlaceOk, RecordOk, Inv}
 use Rattle.word_machine.proofs.Saw.{Saw-none}
 use Rattle.word_machine.proofs.Frame.{Moved, moved_none, Saw-kept, quiet}
-use Rattle.word_machine.proofs.Quiet.{lookup-none, ask_ok, begin_ok, looked_ok, fetch_ok, looked_again_ok, to_lock_ok, broken_ok, checked_ok, left_ok}
+use Rattle.word_machine.proofs.Quiet.{lookup-none, ask_ok, begin_ok, looked_ok, fetch_ok, looked_again_ok, to_lock_ok, broken_ok}
+use Rattle.word_machine.proofs.Quiet.{checked_ok, left_ok}
 use Rattle.word_machine.proofs.Moves.{locked_ok, stamped_ok, undone_ok, released_ok, stored_ok, first_ok, closed_ok}
 use Rattle.std.proofs.Common.{eqb, eqb-true}
 use Rattle.vlock_word.specs.declared.lock_word.LockWord.TheVariants.{Locked}

@@ -1,5 +1,6 @@
 -- Functions with a value put at a place, finite maps, lists of locations.
-use Rattle.std.proofs.Common.{◌≡◌, ℕ, cond, eqb, ltb, Option, Some, None, List, [], ◌∷◌, ◌++◌, ◌⊎◌, inl, inr, refl, sym, ap, ◌∙◌, eq-eqb, ne_eqb, eqb-true}
+use Rattle.std.proofs.Common.{◌≡◌, ℕ, cond, eqb, ltb, Option, Some, None, List, [], ◌∷◌, ◌++◌, ◌⊎◌, inl, inr, refl, sym, ap, ◌∙◌, eq-eqb}
+use Rattle.std.proofs.Common.{ne_eqb, eqb-true}
 use Rattle.std.proofs.lemmas.Bool.{eqb-false, cond_both, cond-true, cond-false, cases_eq}
 use Rattle.tx_sets.specs.Entries.{Entries, lookup, with_entry, locations}
 use Rattle.word_machine.specs.World.{put}

@@ -1,12 +1,15 @@
 -- What is left of a list of locations is no longer than the set that it came from.
-use Rattle.std.proofs.Common.{inl, inr, ◌≡◌, ℕ, ◌+◌, ◌<◌, ◌≤◌, Bool, true, false, eqb, ltb, leb, Option, Some, None, List, [], ◌∷◌, length, length-append, refl, sym, ap, subst, arith}
+use Rattle.std.proofs.Common.{inl, inr, ◌≡◌, ℕ, ◌+◌, ◌<◌, ◌≤◌, Bool, true, false, eqb, ltb, leb, Option, Some, None, List, [], ◌∷◌, length}
+use Rattle.std.proofs.Common.{length-append, refl, sym, ap, subst, arith}
 use Rattle.std.specs.Prelude.{if◌then◌else◌}
 use Rattle.std.proofs.lemmas.Bool.{cond_both, cases_eq}
 use Rattle.vlock_word.specs.declared.lock_word.LockWord.{LockWord}
 use Rattle.vlock_word.specs.declared.lock_word.LockWord.TheVariants.{Free, Locked}
 use Rattle.tx_sets.specs.Entries.{Entries, lookup, with_entry, locations}
-use Rattle.word_machine.specs.Actor.{Place, Idle, Begin, Open, Look, Fetch, Again, Lock, Take, Check, Broken, First, Store, Release, Undo, Leave, Close, Actor, goes, opened, has_read, taken, freed, after_release, clock_limit}
-use Rattle.word_machine.specs.Requests.{Request, AskBegin, AskBeginRead, AskLock, AskStore, AskRelease, AskCancel, AskAbort, AskClose, AskRead, AskWrite, read, write, lock, close, abort, ask}
+use Rattle.word_machine.specs.Actor.{Place, Idle, Begin, Open, Look, Fetch, Again, Lock, Take, Check, Broken, First, Store, Release, Undo}
+use Rattle.word_machine.specs.Actor.{Leave, Close, Actor, goes, opened, has_read, taken, freed, after_release, clock_limit}
+use Rattle.word_machine.specs.Requests.{Request, AskBegin, AskBeginRead, AskLock, AskStore, AskRelease, AskCancel, AskAbort, AskClose}
+use Rattle.word_machine.specs.Requests.{AskRead, AskWrite, read, write, lock, close, abort, ask}
 use Rattle.word_machine.specs.World.{Memory, World, Event, Ask, Step, put, now, step, happens, run, start}
 use Rattle.word_machine.specs.Progress.{steps_left}
 use Rattle.word_machine.proofs.Worlds.{looked, looked_again, to_lock, locked, tried, checked, first, released, undone}

@@ -4,8 +4,10 @@ use Rattle.std.proofs.Common.{ℕ, ◌+◌, true, false, Option, List, [], ◌�
 use Rattle.vlock_word.specs.declared.lock_word.LockWord.{LockWord}
 use Rattle.vlock_word.specs.declared.lock_word.LockWord.TheVariants.{Locked}
 use Rattle.tx_sets.specs.Entries.{Entries, lookup}
-use Rattle.word_machine.specs.Actor.{Place, Idle, Broken, Store, Actor, goes, seen, seen_again, seen_to_lock, taken, stamped_at, seen_in_check, freed}
-use Rattle.word_machine.specs.World.{Memory, put, World, insert, now, does, noted, exchanged, first_store, release, undo, StoreValue, StoreLock, first_outcome}
+use Rattle.word_machine.specs.Actor.{Place, Idle, Broken, Store, Actor, goes, seen, seen_again, seen_to_lock, taken, stamped_at}
+use Rattle.word_machine.specs.Actor.{seen_in_check, freed}
+use Rattle.word_machine.specs.World.{Memory, put, World, insert, now, does, noted, exchanged, first_store, release, undo, StoreValue}
+use Rattle.word_machine.specs.World.{StoreLock, first_outcome}
 
 abbrev pub looked : World → ℕ → Actor → ℕ → LockWord → World
 looked s a x l w = now s a (seen x l w)

@@ -17,6 +17,10 @@ abbrev pub IsFree : LockWord → Type 0
 IsFree (Free k) = Unit {0}
 IsFree (Locked k) = ⊥
 
+-- each request is answered within so many of its own steps
+abbrev pub step_limit : ℕ
+step_limit = 1000000
+
 -- how many of its own steps a request takes at most; 0 where none is under way
 abbrev pub steps_left : Actor → Place → ℕ
 steps_left x Begin = 1

@@ -4,7 +4,8 @@ use Rattle.vlock_word.specs.declared.lock_word.LockWord.{LockWord}
 use Rattle.vlock_word.specs.declared.lock_word.LockWord.TheVariants.{Free}
 use Rattle.vlock_word.specs.LockWord.{version_of, is_locked_word, bits}
 use Rattle.tx_sets.specs.Entries.{lookup}
-use Rattle.word_machine.specs.Actor.{Place, Begin, Look, Again, Lock, Take, Check, Broken, First, Store, Release, Undo, Leave, Actor, clock_limit}
+use Rattle.word_machine.specs.Actor.{Place, Begin, Look, Again, Lock, Take, Check, Broken, First, Store, Release, Undo, Leave, Actor}
+use Rattle.word_machine.specs.Actor.{clock_limit}
 use Rattle.word_machine.specs.Notices.{Notice, NoTransaction, Moved, Busy, Invalid, Exhausted}
 use Rattle.word_machine.specs.World.{World}
 

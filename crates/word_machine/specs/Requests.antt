@@ -1,7 +1,8 @@
 -- What a request makes of its actor's record. A request does no atomic step.
 use Rattle.std.specs.Prelude.{ℕ, Bool, true, false, Option, Some, None, [], ◌∷◌, ◌++◌}
 use Rattle.tx_sets.specs.Entries.{Entries, lookup, with_entry, locations}
-use Rattle.word_machine.specs.Actor.{Call, Read, Write, Place, Idle, Begin, Open, Look, Fetch, Again, Lock, Take, Check, Broken, First, Store, Release, Undo, Leave, Close, Actor, goes}
+use Rattle.word_machine.specs.Actor.{Call, Read, Write, Place, Idle, Begin, Open, Look, Fetch, Again, Lock, Take, Check, Broken, First}
+use Rattle.word_machine.specs.Actor.{Store, Release, Undo, Leave, Close, Actor, goes}
 
 -- What may be asked of an actor.
 pub data Request : Type 0 where

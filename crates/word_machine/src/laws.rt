@@ -3,6 +3,7 @@
 //! Each law is the contract of a function without parameters, whose body is empty.
 ghost use Rattle.std.specs.Prelude.{◌≡◌, ◌≢◌, ◌+◌, ◌<◌, ◌≤◌, ◌⊎◌, [], ◌∷◌, ℕ, List, Some, length, true};
 ghost use Rattle.tx_sets.specs.Entries.{Entries, lookup, locations};
+ghost use Rattle.tx_sets.specs.declared.access_set.TheConstants.{LOCATION_LIMIT};
 ghost use Rattle.vlock_word.specs.declared.lock_word.LockWord.TheVariants.{Free, Locked};
 ghost use Rattle.vlock_word.specs.LockWord.{version_of};
 ghost use Rattle.word_machine.specs.Actor.{Actor, Place, Begin, Open, Idle, Look, Lock, Check, Undo};
@@ -11,7 +12,7 @@ ghost use Rattle.word_machine.specs.World.{Memory, World, Event, Ask, Step, plan
 ghost use Rattle.word_machine.specs.Cells.{Cell, cell, word_of, becomes, learns};
 ghost use Rattle.word_machine.specs.Notices.{IsConflict, LockedAt, Quiet, notice, reply};
 ghost use Rattle.word_machine.specs.Refusals.{IsTrue, NamesPlace, IsRefused, IsEnding, IsCommitting};
-ghost use Rattle.word_machine.specs.Progress.{IsAlone, IsFree, steps_left, steps_of, AsksNothing, IsAnsweredWithin};
+ghost use Rattle.word_machine.specs.Progress.{IsAlone, IsFree, step_limit, steps_left, steps_of, AsksNothing, IsAnsweredWithin};
 ghost use Rattle.word_machine.specs.Opacity.{
   IsRun,
   IsInOrder,
@@ -156,8 +157,8 @@ pub fn progress()
         steps_left (s.actors a) (s.actors a).place ≤ steps_of a later → IsAnsweredWithin a later s }
     ensures few { (clock : ℕ) (memory : Memory) (events : List Event) (a : ℕ) →
         let s = after_events clock memory events in
-        length (s.actors a).reads ≤ 4096 → length (s.actors a).writes ≤ 4096 →
-        steps_left (s.actors a) (s.actors a).place < 1000000 }
+        length (s.actors a).reads ≤ LOCATION_LIMIT → length (s.actors a).writes ≤ LOCATION_LIMIT →
+        steps_left (s.actors a) (s.actors a).place < step_limit }
 {}
 
 /// The check of a commit is left out where no other commit took a number since its transaction began,

@@ -1,8 +1,10 @@
 //! Schedules worked by hand, on the running words.
 //!
-//! A test is a table of moves with the answer of each, and what they leave. So its proof is short:
-//! each `?` and each assertion makes it longer, and a row does not.
+//! A test is a text: each move of an actor with what it is answered, and then the words and the records that are left. The moves
+//! are made, and the same text has to come of it. So a test is proved as cheaply as one call.
 use std::alloc::{AllocError, Global};
+use std::fmt::Write;
+use std::process::Abort;
 use std::test::Fail;
 use step_core::{WordAnswer, WordRefusal, WordRequest, Words};
 
@@ -12,105 +14,30 @@ mod overlaps;
 mod phases;
 mod texts;
 
-use phases::Phase;
-
 // What a call answers.
 type Answer = Result<Option<WordAnswer>, WordRefusal>;
 
-// A record of the history: its number, its actor, whether it wrote, and how many calls it has.
-type Listed = (u64, u32, bool, usize);
-
-// What a test does next.
-#[derive(Clone, Copy)]
-enum Move {
-    // A request of an actor alone.
-    Ask(u32, WordRequest),
-    // One step of an actor.
-    Step(u32),
-    // A request of an actor, and its steps up to the answer.
-    Run(u32, WordRequest),
-    // A whole transaction of an actor that writes a value to a location.
-    Write(u32, u32, u64),
-    // The commit of a writer, which answers its number.
-    Commit(u32),
-    // The end of a transaction whose commit was refused.
-    GiveUp(u32),
-    // Each request that an actor's phase lacks; None where each is refused as it should be.
-    Lacks(u32, Phase),
-    // A look at an actor's snapshot.
-    Snapshot(u32),
-    // A look at a word.
-    Value(u32),
-    // A look at how many records there are.
-    Listed,
+fn location(token: &str) -> Option<u32> {
+    token.parse().ok()
 }
 
-// Plays the moves on a table. It gives the place of the first whose answer is not the one beside
-// it, or the number of moves where other words or other records are left. None is as it should be.
-fn played(
-    opened: Result<Words, WordRefusal>,
-    moves: &[(Move, Answer)],
-    left: &[u64],
-    listed: &[Listed],
-) -> Result<Option<usize>, WordRefusal> {
-    let mut words = opened?;
-    if let Some(place) = first_other(&mut words, moves)? {
-        return Ok(Some(place));
-    }
-    if words.values() == left && lists(&words, listed) {
-        Ok(None)
-    } else {
-        Ok(Some(moves.len()))
-    }
+fn value(token: &str) -> Option<u64> {
+    token.parse().ok()
 }
 
-// The place of the first move whose answer is not the one beside it. Refused memory is handed on.
-fn first_other(words: &mut Words, moves: &[(Move, Answer)]) -> Result<Option<usize>, WordRefusal> {
-    for i in 0..moves.len() {
-        let answer = make(words, moves[i].0);
-        if answer == Err(WordRefusal::OutOfMemory) {
-            return Err(WordRefusal::OutOfMemory);
-        }
-        if answer != moves[i].1 {
-            return Ok(Some(i));
-        }
-    }
-    Ok(None)
-}
-
-// Whether these are the records.
-fn lists(words: &Words, listed: &[Listed]) -> bool {
-    let history = words.history();
-    if history.len() != listed.len() {
-        return false;
-    }
-    for (record, expected) in history.iter().zip(listed) {
-        let calls = record.calls.as_slice().len();
-        if (record.number, record.actor, record.writes, calls) != *expected {
-            return false;
-        }
-    }
-    true
-}
-
-fn make(words: &mut Words, next: Move) -> Answer {
-    match next {
-        Move::Ask(actor, request) => words.ask(actor, request),
-        Move::Step(actor) => words.step(actor),
-        Move::Run(actor, request) => run(words, actor, request),
-        Move::Write(actor, location, value) => write(words, actor, location, value),
-        Move::Commit(actor) => commit(words, actor),
-        Move::GiveUp(actor) => give_up(words, actor),
-        Move::Lacks(actor, phase) => {
-            let lacks = phases::lacks_in(words, actor, phase)?;
-            Ok(if lacks { None } else { Some(WordAnswer::Done) })
-        }
-        Move::Snapshot(actor) => Ok(words.snapshot(actor).map(WordAnswer::Number)),
-        Move::Value(location) => {
-            let value = words.values().get(location as usize);
-            Ok(value.map(|value| WordAnswer::Number(*value)))
-        }
-        Move::Listed => Ok(Some(WordAnswer::Number(words.history().len() as u64))),
+fn request(tokens: &[&str]) -> Option<WordRequest> {
+    match tokens {
+        ["begin"] => Some(WordRequest::Begin),
+        ["begin_read"] => Some(WordRequest::BeginRead),
+        ["read", at] => Some(WordRequest::Read(location(at)?)),
+        ["write", at, new] => Some(WordRequest::Write(location(at)?, value(new)?)),
+        ["lock"] => Some(WordRequest::Lock),
+        ["store"] => Some(WordRequest::Store),
+        ["release"] => Some(WordRequest::Release),
+        ["cancel"] => Some(WordRequest::Cancel),
+        ["abort"] => Some(WordRequest::Abort),
+        ["close"] => Some(WordRequest::Close),
+        _ => None,
     }
 }
 
@@ -127,13 +54,6 @@ fn run(words: &mut Words, actor: u32, request: WordRequest) -> Answer {
     Ok(None)
 }
 
-// A whole transaction that writes one value.
-fn write(words: &mut Words, actor: u32, location: u32, value: u64) -> Answer {
-    run(words, actor, WordRequest::Begin)?;
-    run(words, actor, WordRequest::Write(location, value))?;
-    commit(words, actor)
-}
-
 // The commit of a writer, which gives its number.
 fn commit(words: &mut Words, actor: u32) -> Answer {
     let number = run(words, actor, WordRequest::Lock)?;
@@ -142,10 +62,120 @@ fn commit(words: &mut Words, actor: u32) -> Answer {
     Ok(number)
 }
 
+// A whole transaction that writes one value.
+fn put(words: &mut Words, actor: u32, at: u32, new: u64) -> Answer {
+    run(words, actor, WordRequest::Begin)?;
+    run(words, actor, WordRequest::Write(at, new))?;
+    commit(words, actor)
+}
+
 // The end of a transaction whose commit was refused.
 fn give_up(words: &mut Words, actor: u32) -> Answer {
     run(words, actor, WordRequest::Cancel)?;
     run(words, actor, WordRequest::Abort)
+}
+
+// Makes a move of an actor, and gives its answer; None, if it is no move. `ask` is a request alone, any other request goes on up
+// to its answer. `lacks` asks for all that a phase lacks, and answers nothing where each is refused as it should be.
+fn made_by(words: &mut Words, actor: u32, tokens: &[&str]) -> Option<Answer> {
+    match tokens {
+        ["step"] => Some(words.step(actor)),
+        ["commit"] => Some(commit(words, actor)),
+        ["give_up"] => Some(give_up(words, actor)),
+        ["snapshot"] => Some(Ok(words.snapshot(actor).map(WordAnswer::Number))),
+        ["put", at, new] => Some(put(words, actor, location(at)?, value(new)?)),
+        ["lacks", phase] => Some(phases::lacks_in(words, actor, phase)),
+        ["ask", asked @ ..] => Some(words.ask(actor, request(asked)?)),
+        asked => Some(run(words, actor, request(asked)?)),
+    }
+}
+
+fn look(words: &Words, at: u32) -> Answer {
+    let found = words.values().get(at as usize);
+    Ok(found.map(|word| WordAnswer::Number(*word)))
+}
+
+// Makes a move, or looks at a word or at how many records there are.
+fn made(words: &mut Words, tokens: &[&str]) -> Option<Answer> {
+    match tokens {
+        ["records"] => Some(Ok(Some(WordAnswer::Number(words.history().len() as u64)))),
+        ["value", at] => Some(look(words, location(at)?)),
+        [actor, tokens @ ..] => made_by(words, location(actor)?, tokens),
+        [] => None,
+    }
+}
+
+fn tell(told: &mut String, asked: &str, answer: Answer) -> Result<(), AllocError> {
+    match answer {
+        Err(WordRefusal::OutOfMemory) => return Err(AllocError),
+        Err(refusal) => writeln!(told, "{asked} = {refusal}")?,
+        Ok(Some(answer)) => writeln!(told, "{asked} = {answer:?}")?,
+        Ok(None) => writeln!(told, "{asked} = ..")?,
+    }
+    Ok(())
+}
+
+// Makes the move of a line, and tells it with its answer.
+fn make(words: &mut Words, told: &mut String, asked: &str) -> Result<(), AllocError> {
+    let tokens: Vec<&str> = asked.split(' ').collect(*told.allocator())?;
+    match made(words, tokens.as_slice()) {
+        Some(answer) => tell(told, asked, answer),
+        None => Ok(()),
+    }
+}
+
+fn make_all(words: &mut Words, told: &mut String, text: &str) -> Result<(), AllocError> {
+    for line in text.split('\n') {
+        if let Some((asked, _)) = line.split_once(" = ") {
+            make(words, told, asked)?;
+        }
+    }
+    Ok(())
+}
+
+fn tell_left(words: &Words, told: &mut String) -> Result<(), AllocError> {
+    told.push_str("words")?;
+    for word in words.values() {
+        write!(told, " {word}")?;
+    }
+    told.push('\n')?;
+    for record in words.history() {
+        let kind = if record.writes { "write" } else { "read" };
+        let calls = record.calls.as_slice().len();
+        writeln!(
+            told,
+            "record {} {kind} actor {} calls {calls}",
+            record.number, record.actor
+        )?;
+    }
+    Ok(())
+}
+
+/// The moves of the text must have these answers.
+fn expect_answers(
+    rt: &impl Abort,
+    alloc: Global,
+    words: &mut Words,
+    text: &str,
+) -> Result<(), AllocError> {
+    let mut told = String::new(alloc);
+    make_all(words, &mut told, text)?;
+    assert_eq!(rt; told.as_str(), text);
+    Ok(())
+}
+
+/// The moves of the text must have these answers, and leave these words and records.
+fn expect_all(
+    rt: &impl Abort,
+    alloc: Global,
+    words: &mut Words,
+    text: &str,
+) -> Result<(), AllocError> {
+    let mut told = String::new(alloc);
+    make_all(words, &mut told, text)?;
+    tell_left(words, &mut told)?;
+    assert_eq!(rt; told.as_str(), text);
+    Ok(())
 }
 
 fn table(alloc: Global, clock: u64, values: &[u64]) -> Result<Words, WordRefusal> {
@@ -155,407 +185,217 @@ fn table(alloc: Global, clock: u64, values: &[u64]) -> Result<Words, WordRefusal
     }
 }
 
+// A table that could not be opened must have been refused memory.
+fn expect_memory(rt: &impl Abort, refusal: WordRefusal) -> AllocError {
+    assert_eq!(rt; refusal, WordRefusal::OutOfMemory);
+    AllocError
+}
+
+/// On a table of these values the moves of the text must have these answers, and leave these words and records.
+fn expect(
+    rt: &impl Abort,
+    alloc: Global,
+    clock: u64,
+    values: &[u64],
+    text: &str,
+) -> Result<(), AllocError> {
+    match table(alloc, clock, values) {
+        Ok(mut words) => expect_all(rt, alloc, &mut words, text),
+        Err(refusal) => Err(expect_memory(rt, refusal)),
+    }
+}
+
 #[test]
 fn write_skew(rt: HostRuntime) -> Result<(), Fail> {
-    let moves = [
-        (
-            Move::Run(1, WordRequest::Begin),
-            Ok(Some(WordAnswer::Begun(0))),
-        ),
-        (
-            Move::Run(2, WordRequest::Begin),
-            Ok(Some(WordAnswer::Begun(0))),
-        ),
-        (
-            Move::Run(1, WordRequest::Read(0)),
-            Ok(Some(WordAnswer::Number(1))),
-        ),
-        (
-            Move::Run(1, WordRequest::Read(1)),
-            Ok(Some(WordAnswer::Number(1))),
-        ),
-        (
-            Move::Run(2, WordRequest::Read(0)),
-            Ok(Some(WordAnswer::Number(1))),
-        ),
-        (
-            Move::Run(2, WordRequest::Read(1)),
-            Ok(Some(WordAnswer::Number(1))),
-        ),
-        (
-            Move::Run(1, WordRequest::Write(0, 0)),
-            Ok(Some(WordAnswer::Done)),
-        ),
-        (
-            Move::Run(2, WordRequest::Write(1, 0)),
-            Ok(Some(WordAnswer::Done)),
-        ),
-        (Move::Commit(1), Ok(Some(WordAnswer::Locked(1)))),
-        (
-            Move::Commit(2),
-            Err(WordRefusal::Invalid {
-                location: 0,
-                word: 2,
-            }),
-        ),
-        (Move::GiveUp(2), Ok(Some(WordAnswer::Ended))),
-    ];
-    let words = table(rt.alloc(), 0, &[1, 1]);
-    assert_eq!(rt;
-        played(words, moves.as_slice(), &[0, 1], &[(1, 1, true, 3)])?,
-        None
-    );
+    let text = "\
+1 begin = Begun(0)
+2 begin = Begun(0)
+1 read 0 = Number(1)
+1 read 1 = Number(1)
+2 read 0 = Number(1)
+2 read 1 = Number(1)
+1 write 0 0 = Done
+2 write 1 0 = Done
+1 commit = Locked(1)
+2 commit = Invalid 0 2
+2 give_up = Ended
+words 0 1
+record 1 write actor 1 calls 3
+";
+    expect(&rt, rt.alloc(), 0, &[1, 1], text)?;
     Ok(())
 }
 
 #[test]
 fn write_skew_both_refused(rt: HostRuntime) -> Result<(), Fail> {
-    let moves = [
-        (
-            Move::Run(1, WordRequest::Begin),
-            Ok(Some(WordAnswer::Begun(0))),
-        ),
-        (
-            Move::Run(2, WordRequest::Begin),
-            Ok(Some(WordAnswer::Begun(0))),
-        ),
-        (Move::Write(3, 2, 9), Ok(Some(WordAnswer::Locked(1)))),
-        (
-            Move::Run(1, WordRequest::Read(0)),
-            Ok(Some(WordAnswer::Number(1))),
-        ),
-        (
-            Move::Run(1, WordRequest::Read(1)),
-            Ok(Some(WordAnswer::Number(1))),
-        ),
-        (
-            Move::Run(2, WordRequest::Read(0)),
-            Ok(Some(WordAnswer::Number(1))),
-        ),
-        (
-            Move::Run(2, WordRequest::Read(1)),
-            Ok(Some(WordAnswer::Number(1))),
-        ),
-        (
-            Move::Run(1, WordRequest::Write(0, 0)),
-            Ok(Some(WordAnswer::Done)),
-        ),
-        (
-            Move::Run(2, WordRequest::Write(1, 0)),
-            Ok(Some(WordAnswer::Done)),
-        ),
-        (Move::Ask(1, WordRequest::Lock), Ok(None)),
-        (Move::Ask(2, WordRequest::Lock), Ok(None)),
-        (Move::Step(1), Ok(None)),
-        (Move::Step(2), Ok(None)),
-        (Move::Step(1), Ok(None)),
-        (Move::Step(2), Ok(None)),
-        (Move::Step(1), Ok(None)),
-        (Move::Step(2), Ok(None)),
-        (Move::Step(1), Ok(None)),
-        (
-            Move::Step(2),
-            Err(WordRefusal::Invalid {
-                location: 0,
-                word: 1,
-            }),
-        ),
-        (
-            Move::Step(1),
-            Err(WordRefusal::Invalid {
-                location: 1,
-                word: 1,
-            }),
-        ),
-        (Move::GiveUp(1), Ok(Some(WordAnswer::Ended))),
-        (Move::GiveUp(2), Ok(Some(WordAnswer::Ended))),
-    ];
-    let words = table(rt.alloc(), 0, &[1, 1, 0]);
-    assert_eq!(rt;
-        played(words, moves.as_slice(), &[1, 1, 9], &[(1, 3, true, 1)])?,
-        None
-    );
+    let text = "\
+1 begin = Begun(0)
+2 begin = Begun(0)
+3 put 2 9 = Locked(1)
+1 read 0 = Number(1)
+1 read 1 = Number(1)
+2 read 0 = Number(1)
+2 read 1 = Number(1)
+1 write 0 0 = Done
+2 write 1 0 = Done
+1 ask lock = ..
+2 ask lock = ..
+1 step = ..
+2 step = ..
+1 step = ..
+2 step = ..
+1 step = ..
+2 step = ..
+1 step = ..
+2 step = Invalid 0 1
+1 step = Invalid 1 1
+1 give_up = Ended
+2 give_up = Ended
+words 1 1 9
+record 1 write actor 3 calls 1
+";
+    expect(&rt, rt.alloc(), 0, &[1, 1, 0], text)?;
     Ok(())
 }
 
 #[test]
 fn begin_takes_the_clock_of_its_moment(rt: HostRuntime) -> Result<(), Fail> {
-    let moves = [
-        (
-            Move::Run(1, WordRequest::Begin),
-            Ok(Some(WordAnswer::Begun(3))),
-        ),
-        (Move::Write(2, 0, 5), Ok(Some(WordAnswer::Locked(4)))),
-        (
-            Move::Run(64, WordRequest::Begin),
-            Ok(Some(WordAnswer::Begun(4))),
-        ),
-        (Move::Snapshot(1), Ok(Some(WordAnswer::Number(3)))),
-        (Move::Snapshot(2), Ok(None)),
-        (Move::Snapshot(64), Ok(Some(WordAnswer::Number(4)))),
-        (
-            Move::Run(64, WordRequest::Read(0)),
-            Ok(Some(WordAnswer::Number(5))),
-        ),
-        (
-            Move::Run(64, WordRequest::Close),
-            Ok(Some(WordAnswer::Ended)),
-        ),
-    ];
-    let words = table(rt.alloc(), 3, &[0]);
-    assert_eq!(rt;
-        played(
-            words,
-            moves.as_slice(),
-            &[5],
-            &[(4, 2, true, 1), (4, 64, false, 1)]
-        )?,
-        None
-    );
+    let text = "\
+1 begin = Begun(3)
+2 put 0 5 = Locked(4)
+64 begin = Begun(4)
+1 snapshot = Number(3)
+2 snapshot = ..
+64 snapshot = Number(4)
+64 read 0 = Number(5)
+64 close = Ended
+words 5
+record 4 write actor 2 calls 1
+record 4 read actor 64 calls 1
+";
+    expect(&rt, rt.alloc(), 3, &[0], text)?;
     Ok(())
 }
 
 #[test]
 fn the_last_number(rt: HostRuntime) -> Result<(), Fail> {
     let last = 4_611_686_018_427_387_904u64;
-    let exhausted = (
-        Move::Run(1, WordRequest::Begin),
-        Err(WordRefusal::Exhausted { clock: last }),
-    );
-    let words = table(rt.alloc(), last, &[0]);
-    assert_eq!(rt; played(words, &[exhausted], &[0], &[])?, None);
-    let moves = [
-        (Move::Write(1, 0, 1), Ok(Some(WordAnswer::Locked(last)))),
-        exhausted,
-    ];
-    let words = table(rt.alloc(), last - 1, &[0]);
-    assert_eq!(rt;
-        played(words, moves.as_slice(), &[1], &[(last, 1, true, 1)])?,
-        None
-    );
+    let at_once = "\
+1 begin = Exhausted 4611686018427387904
+words 0
+";
+    expect(&rt, rt.alloc(), last, &[0], at_once)?;
+    let after_one = "\
+1 put 0 1 = Locked(4611686018427387904)
+1 begin = Exhausted 4611686018427387904
+words 1
+record 4611686018427387904 write actor 1 calls 1
+";
+    expect(&rt, rt.alloc(), last - 1, &[0], after_one)?;
     assert!(rt; table(rt.alloc(), last + 1, &[0]).is_err());
     Ok(())
 }
 
 #[test]
 fn moved_at_either_load(rt: HostRuntime) -> Result<(), Fail> {
-    let moves = [
-        (
-            Move::Run(1, WordRequest::Begin),
-            Ok(Some(WordAnswer::Begun(0))),
-        ),
-        (
-            Move::Run(2, WordRequest::Begin),
-            Ok(Some(WordAnswer::Begun(0))),
-        ),
-        (Move::Ask(2, WordRequest::Read(0)), Ok(None)),
-        (Move::Step(2), Ok(None)),
-        (Move::Step(2), Ok(None)),
-        (Move::Write(3, 0, 5), Ok(Some(WordAnswer::Locked(1)))),
-        (
-            Move::Step(2),
-            Err(WordRefusal::Moved {
-                location: 0,
-                word: 2,
-            }),
-        ),
-        (
-            Move::Run(1, WordRequest::Read(0)),
-            Err(WordRefusal::Moved {
-                location: 0,
-                word: 2,
-            }),
-        ),
-        (
-            Move::Ask(1, WordRequest::Read(1)),
-            Err(WordRefusal::NoTransaction),
-        ),
-        (
-            Move::Run(1, WordRequest::Abort),
-            Ok(Some(WordAnswer::Ended)),
-        ),
-    ];
-    let words = table(rt.alloc(), 0, &[0, 0]);
-    assert_eq!(rt;
-        played(words, moves.as_slice(), &[5, 0], &[(1, 3, true, 1)])?,
-        None
-    );
+    let text = "\
+1 begin = Begun(0)
+2 begin = Begun(0)
+2 ask read 0 = ..
+2 step = ..
+2 step = ..
+3 put 0 5 = Locked(1)
+2 step = Moved 0 2
+1 read 0 = Moved 0 2
+1 ask read 1 = NoTransaction
+1 abort = Ended
+words 5 0
+record 1 write actor 3 calls 1
+";
+    expect(&rt, rt.alloc(), 0, &[0, 0], text)?;
     Ok(())
 }
 
 #[test]
 fn busy_at_load_and_exchange(rt: HostRuntime) -> Result<(), Fail> {
-    let moves = [
-        (
-            Move::Run(1, WordRequest::Begin),
-            Ok(Some(WordAnswer::Begun(0))),
-        ),
-        (
-            Move::Run(2, WordRequest::Begin),
-            Ok(Some(WordAnswer::Begun(0))),
-        ),
-        (
-            Move::Run(1, WordRequest::Write(0, 5)),
-            Ok(Some(WordAnswer::Done)),
-        ),
-        (
-            Move::Run(2, WordRequest::Write(0, 6)),
-            Ok(Some(WordAnswer::Done)),
-        ),
-        (Move::Ask(1, WordRequest::Lock), Ok(None)),
-        (Move::Step(1), Ok(None)),
-        (Move::Write(3, 0, 7), Ok(Some(WordAnswer::Locked(1)))),
-        (
-            Move::Step(1),
-            Err(WordRefusal::Busy {
-                location: 0,
-                word: 2,
-            }),
-        ),
-        (Move::Ask(2, WordRequest::Lock), Ok(None)),
-        (Move::Step(2), Ok(None)),
-        (Move::Step(2), Ok(None)),
-        (
-            Move::Write(3, 0, 8),
-            Err(WordRefusal::Busy {
-                location: 0,
-                word: 3,
-            }),
-        ),
-    ];
-    let words = table(rt.alloc(), 0, &[0]);
-    assert_eq!(rt;
-        played(words, moves.as_slice(), &[7], &[(1, 3, true, 1)])?,
-        None
-    );
+    let text = "\
+1 begin = Begun(0)
+2 begin = Begun(0)
+1 write 0 5 = Done
+2 write 0 6 = Done
+1 ask lock = ..
+1 step = ..
+3 put 0 7 = Locked(1)
+1 step = Busy 0 2
+2 ask lock = ..
+2 step = ..
+2 step = ..
+3 put 0 8 = Busy 0 3
+words 7
+record 1 write actor 3 calls 1
+";
+    expect(&rt, rt.alloc(), 0, &[0], text)?;
     Ok(())
 }
 
 #[test]
 fn cancel_gives_back_the_old_word(rt: HostRuntime) -> Result<(), Fail> {
-    let moves = [
-        (Move::Write(3, 0, 7), Ok(Some(WordAnswer::Locked(1)))),
-        (
-            Move::Run(1, WordRequest::Begin),
-            Ok(Some(WordAnswer::Begun(1))),
-        ),
-        (
-            Move::Run(2, WordRequest::Begin),
-            Ok(Some(WordAnswer::Begun(1))),
-        ),
-        (
-            Move::Run(1, WordRequest::Write(0, 5)),
-            Ok(Some(WordAnswer::Done)),
-        ),
-        (
-            Move::Run(1, WordRequest::Lock),
-            Ok(Some(WordAnswer::Locked(2))),
-        ),
-        (
-            Move::Run(1, WordRequest::Cancel),
-            Ok(Some(WordAnswer::Cancelled)),
-        ),
-        (
-            Move::Run(2, WordRequest::Read(0)),
-            Ok(Some(WordAnswer::Number(7))),
-        ),
-        (
-            Move::Run(1, WordRequest::Abort),
-            Ok(Some(WordAnswer::Ended)),
-        ),
-    ];
-    let words = table(rt.alloc(), 0, &[0]);
-    assert_eq!(rt;
-        played(words, moves.as_slice(), &[7], &[(1, 3, true, 1)])?,
-        None
-    );
+    let text = "\
+3 put 0 7 = Locked(1)
+1 begin = Begun(1)
+2 begin = Begun(1)
+1 write 0 5 = Done
+1 lock = Locked(2)
+1 cancel = Cancelled
+2 read 0 = Number(7)
+1 abort = Ended
+words 7
+record 1 write actor 3 calls 1
+";
+    expect(&rt, rt.alloc(), 0, &[0], text)?;
     Ok(())
 }
 
 #[test]
 fn half_done_seen_from_beside(rt: HostRuntime) -> Result<(), Fail> {
-    let moves = [
-        (
-            Move::Run(1, WordRequest::Begin),
-            Ok(Some(WordAnswer::Begun(0))),
-        ),
-        (
-            Move::Run(1, WordRequest::Write(0, 5)),
-            Ok(Some(WordAnswer::Done)),
-        ),
-        (
-            Move::Run(1, WordRequest::Write(1, 6)),
-            Ok(Some(WordAnswer::Done)),
-        ),
-        (
-            Move::Run(1, WordRequest::Lock),
-            Ok(Some(WordAnswer::Locked(1))),
-        ),
-        (Move::Ask(1, WordRequest::Store), Ok(None)),
-        (Move::Step(1), Ok(None)),
-        (Move::Listed, Ok(Some(WordAnswer::Number(1)))),
-        (Move::Value(0), Ok(Some(WordAnswer::Number(5)))),
-        (Move::Value(1), Ok(Some(WordAnswer::Number(0)))),
-        (Move::Value(2), Ok(Some(WordAnswer::Number(0)))),
-        (
-            Move::Run(2, WordRequest::Begin),
-            Ok(Some(WordAnswer::Begun(1))),
-        ),
-        (
-            Move::Run(2, WordRequest::Read(0)),
-            Err(WordRefusal::Moved {
-                location: 0,
-                word: 1,
-            }),
-        ),
-        (Move::Step(1), Ok(Some(WordAnswer::Stored))),
-        (
-            Move::Run(1, WordRequest::Release),
-            Ok(Some(WordAnswer::Released)),
-        ),
-    ];
-    let words = table(rt.alloc(), 0, &[0, 0, 0]);
-    assert_eq!(rt;
-        played(words, moves.as_slice(), &[5, 6, 0], &[(1, 1, true, 2)])?,
-        None
-    );
+    let text = "\
+1 begin = Begun(0)
+1 write 0 5 = Done
+1 write 1 6 = Done
+1 lock = Locked(1)
+1 ask store = ..
+1 step = ..
+records = Number(1)
+value 0 = Number(5)
+value 1 = Number(0)
+value 2 = Number(0)
+2 begin = Begun(1)
+2 read 0 = Moved 0 1
+1 step = Stored
+1 release = Released
+words 5 6 0
+record 1 write actor 1 calls 2
+";
+    expect(&rt, rt.alloc(), 0, &[0, 0, 0], text)?;
     Ok(())
 }
 
 #[test]
 fn requests_out_of_phase(rt: HostRuntime) -> Result<(), Fail> {
-    let moves = [
-        (Move::Ask(0, WordRequest::Begin), Err(WordRefusal::NoSuch)),
-        (Move::Ask(65, WordRequest::Begin), Err(WordRefusal::NoSuch)),
-        (Move::Step(1), Err(WordRefusal::NoTransaction)),
-        (
-            Move::Ask(1, WordRequest::Read(9)),
-            Err(WordRefusal::NoTransaction),
-        ),
-        (Move::Ask(1, WordRequest::Begin), Ok(None)),
-        (
-            Move::Ask(1, WordRequest::Read(0)),
-            Err(WordRefusal::NotIdle),
-        ),
-        (
-            Move::Ask(1, WordRequest::Abort),
-            Ok(Some(WordAnswer::Ended)),
-        ),
-        (
-            Move::Run(1, WordRequest::Begin),
-            Ok(Some(WordAnswer::Begun(0))),
-        ),
-        (Move::Ask(1, WordRequest::Begin), Err(WordRefusal::NotIdle)),
-        (
-            Move::Ask(1, WordRequest::Lock),
-            Err(WordRefusal::NoTransaction),
-        ),
-        (
-            Move::Ask(1, WordRequest::Write(1, 0)),
-            Err(WordRefusal::NoSuch),
-        ),
-    ];
-    let words = table(rt.alloc(), 0, &[0]);
-    assert_eq!(rt; played(words, moves.as_slice(), &[0], &[])?, None);
+    let text = "\
+0 ask begin = NoSuch
+65 ask begin = NoSuch
+1 step = NoTransaction
+1 ask read 9 = NoTransaction
+1 ask begin = ..
+1 ask read 0 = NotIdle
+1 ask abort = Ended
+1 begin = Begun(0)
+1 ask begin = NotIdle
+1 ask lock = NoTransaction
+1 ask write 1 0 = NoSuch
+words 0
+";
+    expect(&rt, rt.alloc(), 0, &[0], text)?;
     Ok(())
 }

@@ -2,214 +2,165 @@
 use super::*;
 use step_core::WordCall;
 
-// The words 0 to come, with two transactions of one write each.
-fn two_writers(alloc: Global, values: &[u64], second: u32) -> Result<Words, WordRefusal> {
-    let mut words = table(alloc, 0, values)?;
-    run(&mut words, 1, WordRequest::Begin)?;
-    run(&mut words, 2, WordRequest::Begin)?;
-    run(&mut words, 1, WordRequest::Write(0, 5))?;
-    run(&mut words, 2, WordRequest::Write(second, 6))?;
-    Ok(words)
-}
-
 #[test]
 fn a_later_number_may_commit_first(rt: HostRuntime) -> Result<(), Fail> {
-    let moves = [
-        (
-            Move::Run(1, WordRequest::Lock),
-            Ok(Some(WordAnswer::Locked(1))),
-        ),
-        (Move::Commit(2), Ok(Some(WordAnswer::Locked(2)))),
-        (
-            Move::Run(1, WordRequest::Store),
-            Ok(Some(WordAnswer::Stored)),
-        ),
-        (
-            Move::Run(1, WordRequest::Release),
-            Ok(Some(WordAnswer::Released)),
-        ),
-    ];
-    let words = two_writers(rt.alloc(), &[0, 0], 1);
-    assert_eq!(rt;
-        played(
-            words,
-            moves.as_slice(),
-            &[5, 6],
-            &[(2, 2, true, 1), (1, 1, true, 1)]
-        )?,
-        None
-    );
+    let text = "\
+1 begin = Begun(0)
+2 begin = Begun(0)
+1 write 0 5 = Done
+2 write 1 6 = Done
+1 lock = Locked(1)
+2 commit = Locked(2)
+1 store = Stored
+1 release = Released
+words 5 6
+record 2 write actor 2 calls 1
+record 1 write actor 1 calls 1
+";
+    expect(&rt, rt.alloc(), 0, &[0, 0], text)?;
     Ok(())
 }
 
 #[test]
 fn commits_pass_a_half_done_one(rt: HostRuntime) -> Result<(), Fail> {
-    let moves = [
-        (
-            Move::Run(1, WordRequest::Write(1, 7)),
-            Ok(Some(WordAnswer::Done)),
-        ),
-        (
-            Move::Run(1, WordRequest::Lock),
-            Ok(Some(WordAnswer::Locked(1))),
-        ),
-        (Move::Ask(1, WordRequest::Store), Ok(None)),
-        (Move::Step(1), Ok(None)),
-        (Move::Commit(2), Ok(Some(WordAnswer::Locked(2)))),
-    ];
-    let words = two_writers(rt.alloc(), &[0, 0, 0], 2);
-    assert_eq!(rt;
-        played(
-            words,
-            moves.as_slice(),
-            &[5, 0, 6],
-            &[(1, 1, true, 2), (2, 2, true, 1)]
-        )?,
-        None
-    );
+    let text = "\
+1 begin = Begun(0)
+2 begin = Begun(0)
+1 write 0 5 = Done
+2 write 2 6 = Done
+1 write 1 7 = Done
+1 lock = Locked(1)
+1 ask store = ..
+1 step = ..
+2 commit = Locked(2)
+words 5 0 6
+record 1 write actor 1 calls 2
+record 2 write actor 2 calls 1
+";
+    expect(&rt, rt.alloc(), 0, &[0, 0, 0], text)?;
     Ok(())
 }
 
 #[test]
 fn writes_alone_do_not_conflict_one_after_another(rt: HostRuntime) -> Result<(), Fail> {
-    let moves = [
-        (Move::Commit(1), Ok(Some(WordAnswer::Locked(1)))),
-        (Move::Commit(2), Ok(Some(WordAnswer::Locked(2)))),
-    ];
-    let words = two_writers(rt.alloc(), &[0], 0);
-    assert_eq!(rt;
-        played(
-            words,
-            moves.as_slice(),
-            &[6],
-            &[(1, 1, true, 1), (2, 2, true, 1)]
-        )?,
-        None
-    );
+    let text = "\
+1 begin = Begun(0)
+2 begin = Begun(0)
+1 write 0 5 = Done
+2 write 0 6 = Done
+1 commit = Locked(1)
+2 commit = Locked(2)
+words 6
+record 1 write actor 1 calls 1
+record 2 write actor 2 calls 1
+";
+    expect(&rt, rt.alloc(), 0, &[0], text)?;
     Ok(())
 }
 
 #[test]
 fn a_taken_lock_is_busy(rt: HostRuntime) -> Result<(), Fail> {
-    let moves = [
-        (Move::Ask(1, WordRequest::Lock), Ok(None)),
-        (Move::Step(1), Ok(None)),
-        (Move::Step(1), Ok(None)),
-        (
-            Move::Commit(2),
-            Err(WordRefusal::Busy {
-                location: 0,
-                word: 1,
-            }),
-        ),
-        (Move::GiveUp(2), Ok(Some(WordAnswer::Ended))),
-        (Move::Step(1), Ok(Some(WordAnswer::Locked(1)))),
-        (
-            Move::Run(1, WordRequest::Store),
-            Ok(Some(WordAnswer::Stored)),
-        ),
-        (
-            Move::Run(1, WordRequest::Release),
-            Ok(Some(WordAnswer::Released)),
-        ),
-    ];
-    let words = two_writers(rt.alloc(), &[0], 0);
-    assert_eq!(rt;
-        played(words, moves.as_slice(), &[5], &[(1, 1, true, 1)])?,
-        None
-    );
+    let text = "\
+1 begin = Begun(0)
+2 begin = Begun(0)
+1 write 0 5 = Done
+2 write 0 6 = Done
+1 ask lock = ..
+1 step = ..
+1 step = ..
+2 commit = Busy 0 1
+2 give_up = Ended
+1 step = Locked(1)
+1 store = Stored
+1 release = Released
+words 5
+record 1 write actor 1 calls 1
+";
+    expect(&rt, rt.alloc(), 0, &[0], text)?;
     Ok(())
 }
 
 #[test]
 fn a_lock_changed_since_its_load_is_busy(rt: HostRuntime) -> Result<(), Fail> {
-    let moves = [
-        (Move::Ask(1, WordRequest::Lock), Ok(None)),
-        (Move::Step(1), Ok(None)),
-        (Move::Commit(2), Ok(Some(WordAnswer::Locked(1)))),
-        (
-            Move::Step(1),
-            Err(WordRefusal::Busy {
-                location: 0,
-                word: 2,
-            }),
-        ),
-        (Move::GiveUp(1), Ok(Some(WordAnswer::Ended))),
-    ];
-    let words = two_writers(rt.alloc(), &[0], 0);
-    assert_eq!(rt;
-        played(words, moves.as_slice(), &[6], &[(1, 2, true, 1)])?,
-        None
-    );
+    let text = "\
+1 begin = Begun(0)
+2 begin = Begun(0)
+1 write 0 5 = Done
+2 write 0 6 = Done
+1 ask lock = ..
+1 step = ..
+2 commit = Locked(1)
+1 step = Busy 0 2
+1 give_up = Ended
+words 6
+record 1 write actor 2 calls 1
+";
+    expect(&rt, rt.alloc(), 0, &[0], text)?;
     Ok(())
 }
 
-// Whether an own write is read back, a read is repeated from the set, and the record has each call.
-fn reads_again(alloc: Global) -> Result<bool, WordRefusal> {
-    let mut words = two_writers(alloc, &[3, 4], 0)?;
-    let moves = [
-        (
-            Move::Ask(1, WordRequest::Read(0)),
-            Ok(Some(WordAnswer::Number(5))),
-        ),
-        (
-            Move::Run(1, WordRequest::Read(1)),
-            Ok(Some(WordAnswer::Number(4))),
-        ),
-        (
-            Move::Ask(1, WordRequest::Read(1)),
-            Ok(Some(WordAnswer::Number(4))),
-        ),
-        (Move::Commit(1), Ok(Some(WordAnswer::Locked(1)))),
-    ];
-    if first_other(&mut words, moves.as_slice())?.is_some() {
-        return Ok(false);
-    }
+// The moves, and the calls of their one record.
+fn expect_calls(
+    rt: &impl Abort,
+    alloc: Global,
+    words: &mut Words,
+    text: &str,
+    calls: &[WordCall],
+) -> Result<(), AllocError> {
+    expect_all(rt, alloc, words, text)?;
+    let history = words.history();
+    assert!(rt; history.len() == 1 && history[0].calls.as_slice() == calls);
+    Ok(())
+}
+
+// An own write is read back, a read is repeated from the set, and the record has each call.
+fn expect_again(rt: &impl Abort, alloc: Global, words: &mut Words) -> Result<(), AllocError> {
+    let text = "\
+1 begin = Begun(0)
+2 begin = Begun(0)
+1 write 0 5 = Done
+2 write 0 6 = Done
+1 ask read 0 = Number(5)
+1 read 1 = Number(4)
+1 ask read 1 = Number(4)
+1 commit = Locked(1)
+words 5 4
+record 1 write actor 1 calls 4
+";
     let calls = [
         WordCall::Write(0, 5),
         WordCall::Read(0, 5),
         WordCall::Read(1, 4),
         WordCall::Read(1, 4),
     ];
-    let history = words.history();
-    Ok(history.len() == 1 && history[0].calls.as_slice() == calls.as_slice())
+    expect_calls(rt, alloc, words, text, calls.as_slice())
+}
+
+fn expect_again_of_two(rt: &impl Abort, alloc: Global) -> Result<(), AllocError> {
+    match table(alloc, 0, &[3, 4]) {
+        Ok(mut words) => expect_again(rt, alloc, &mut words),
+        Err(refusal) => Err(expect_memory(rt, refusal)),
+    }
 }
 
 #[test]
 fn what_is_written_is_read_back_and_repeated(rt: HostRuntime) -> Result<(), Fail> {
-    assert!(rt; reads_again(rt.alloc())?);
+    expect_again_of_two(&rt, rt.alloc())?;
     Ok(())
 }
 
 #[test]
 fn a_word_that_is_read_and_written_is_checked(rt: HostRuntime) -> Result<(), Fail> {
-    let moves = [
-        (
-            Move::Run(1, WordRequest::Begin),
-            Ok(Some(WordAnswer::Begun(0))),
-        ),
-        (
-            Move::Run(1, WordRequest::Read(0)),
-            Ok(Some(WordAnswer::Number(0))),
-        ),
-        (
-            Move::Run(1, WordRequest::Write(0, 5)),
-            Ok(Some(WordAnswer::Done)),
-        ),
-        (Move::Write(2, 0, 6), Ok(Some(WordAnswer::Locked(1)))),
-        (
-            Move::Commit(1),
-            Err(WordRefusal::Invalid {
-                location: 0,
-                word: 3,
-            }),
-        ),
-        (Move::GiveUp(1), Ok(Some(WordAnswer::Ended))),
-    ];
-    let words = table(rt.alloc(), 0, &[0]);
-    assert_eq!(rt;
-        played(words, moves.as_slice(), &[6], &[(1, 2, true, 1)])?,
-        None
-    );
+    let text = "\
+1 begin = Begun(0)
+1 read 0 = Number(0)
+1 write 0 5 = Done
+2 put 0 6 = Locked(1)
+1 commit = Invalid 0 3
+1 give_up = Ended
+words 6
+record 1 write actor 2 calls 1
+";
+    expect(&rt, rt.alloc(), 0, &[0], text)?;
     Ok(())
 }

@@ -1,49 +1,39 @@
 //! Each phase, and what it lacks.
 use super::*;
 
-/// Where an actor stands, by what it may be asked.
-#[derive(Clone, Copy)]
-pub enum Phase {
-    Idle,
-    Reader,
-    Writer,
-    Waiting,
-    Locking,
-    Locked,
-    Broken,
-    Stored,
-    Ended,
-    Busy,
+// Asks an actor for all that a phase lacks, and answers nothing where each is refused as it should be.
+pub fn lacks_in(words: &mut Words, actor: u32, phase: &str) -> Answer {
+    if is_lacking(words, actor, phase)? {
+        Ok(None)
+    } else {
+        Ok(Some(WordAnswer::Done))
+    }
 }
 
-// Whether an actor that stands in a phase is refused all that the phase lacks.
-pub fn lacks_in(words: &mut Words, actor: u32, phase: Phase) -> Result<bool, WordRefusal> {
+fn is_lacking(words: &mut Words, actor: u32, phase: &str) -> Result<bool, WordRefusal> {
+    let begin = WordRequest::Begin;
+    let begin_read = WordRequest::BeginRead;
     let read = WordRequest::Read(0);
     let write = WordRequest::Write(0, 5);
+    let lock = WordRequest::Lock;
+    let store = WordRequest::Store;
+    let release = WordRequest::Release;
+    let close = WordRequest::Close;
     let (abort, cancel) = (WordRequest::Abort, WordRequest::Cancel);
     let none = WordRefusal::NoTransaction;
     let busy = WordRefusal::NotIdle;
     match phase {
-        Phase::Idle => lacks(
-            words,
-            actor,
-            &[WordRequest::Begin, WordRequest::BeginRead],
-            none,
-        ),
-        Phase::Reader => lacks(
-            words,
-            actor,
-            &[read, write, WordRequest::Close, abort],
-            none,
-        ),
-        Phase::Writer => lacks(words, actor, &[read, write, WordRequest::Lock, abort], none),
-        Phase::Waiting => lacks(words, actor, &[abort], busy),
-        Phase::Locking => lacks(words, actor, &[cancel], busy),
-        Phase::Locked => lacks(words, actor, &[WordRequest::Store, cancel], none),
-        Phase::Broken => lacks(words, actor, &[cancel], none),
-        Phase::Stored => lacks(words, actor, &[WordRequest::Release], none),
-        Phase::Ended => lacks(words, actor, &[abort], none),
-        Phase::Busy => lacks(words, actor, &[], busy),
+        "idle" => lacks(words, actor, &[begin, begin_read], none),
+        "reader" => lacks(words, actor, &[read, write, close, abort], none),
+        "writer" => lacks(words, actor, &[read, write, lock, abort], none),
+        "waiting" => lacks(words, actor, &[abort], busy),
+        "locking" => lacks(words, actor, &[cancel], busy),
+        "locked" => lacks(words, actor, &[store, cancel], none),
+        "broken" => lacks(words, actor, &[cancel], none),
+        "stored" => lacks(words, actor, &[release], none),
+        "ended" => lacks(words, actor, &[abort], none),
+        "busy" => lacks(words, actor, &[], busy),
+        _ => Ok(false),
     }
 }
 
@@ -93,236 +83,150 @@ fn refused(answer: Answer) -> Result<WordRefusal, WordRefusal> {
 
 #[test]
 fn idle_and_beginning(rt: HostRuntime) -> Result<(), Fail> {
-    let moves = [
-        (Move::Lacks(1, Phase::Idle), Ok(None)),
-        (Move::Step(1), Err(WordRefusal::NoTransaction)),
-        (Move::Ask(1, WordRequest::Begin), Ok(None)),
-        (Move::Lacks(1, Phase::Waiting), Ok(None)),
-        (Move::Snapshot(1), Ok(None)),
-        (
-            Move::Ask(1, WordRequest::Abort),
-            Ok(Some(WordAnswer::Ended)),
-        ),
-        (Move::Step(1), Err(WordRefusal::NoTransaction)),
-    ];
-    let words = table(rt.alloc(), 0, &[0]);
-    assert_eq!(rt; played(words, moves.as_slice(), &[0], &[])?, None);
+    let text = "\
+1 lacks idle = ..
+1 step = NoTransaction
+1 ask begin = ..
+1 lacks waiting = ..
+1 snapshot = ..
+1 ask abort = Ended
+1 step = NoTransaction
+words 0
+";
+    expect(&rt, rt.alloc(), 0, &[0], text)?;
     Ok(())
 }
 
 #[test]
 fn reading_and_closing(rt: HostRuntime) -> Result<(), Fail> {
-    let moves = [
-        (
-            Move::Run(1, WordRequest::Begin),
-            Ok(Some(WordAnswer::Begun(0))),
-        ),
-        (Move::Lacks(1, Phase::Reader), Ok(None)),
-        (Move::Step(1), Err(WordRefusal::NoTransaction)),
-        (Move::Ask(1, WordRequest::Read(0)), Ok(None)),
-        (Move::Lacks(1, Phase::Waiting), Ok(None)),
-        (Move::Ask(1, WordRequest::Abort), Ok(None)),
-        (Move::Lacks(1, Phase::Busy), Ok(None)),
-        (Move::Step(1), Ok(Some(WordAnswer::Ended))),
-    ];
-    let words = table(rt.alloc(), 0, &[0]);
-    assert_eq!(rt; played(words, moves.as_slice(), &[0], &[])?, None);
+    let text = "\
+1 begin = Begun(0)
+1 lacks reader = ..
+1 step = NoTransaction
+1 ask read 0 = ..
+1 lacks waiting = ..
+1 ask abort = ..
+1 lacks busy = ..
+1 step = Ended
+words 0
+";
+    expect(&rt, rt.alloc(), 0, &[0], text)?;
     Ok(())
 }
 
 #[test]
 fn closing_is_given_up(rt: HostRuntime) -> Result<(), Fail> {
-    let moves = [
-        (
-            Move::Run(1, WordRequest::Begin),
-            Ok(Some(WordAnswer::Begun(0))),
-        ),
-        (Move::Ask(1, WordRequest::Close), Ok(None)),
-        (Move::Lacks(1, Phase::Waiting), Ok(None)),
-        (
-            Move::Run(1, WordRequest::Abort),
-            Ok(Some(WordAnswer::Ended)),
-        ),
-    ];
-    let words = table(rt.alloc(), 0, &[0]);
-    assert_eq!(rt; played(words, moves.as_slice(), &[0], &[])?, None);
+    let text = "\
+1 begin = Begun(0)
+1 ask close = ..
+1 lacks waiting = ..
+1 abort = Ended
+words 0
+";
+    expect(&rt, rt.alloc(), 0, &[0], text)?;
     Ok(())
 }
 
 #[test]
 fn locking(rt: HostRuntime) -> Result<(), Fail> {
-    let moves = [
-        (
-            Move::Run(1, WordRequest::Begin),
-            Ok(Some(WordAnswer::Begun(0))),
-        ),
-        (
-            Move::Run(1, WordRequest::Write(0, 5)),
-            Ok(Some(WordAnswer::Done)),
-        ),
-        (Move::Lacks(1, Phase::Writer), Ok(None)),
-        (Move::Ask(1, WordRequest::Lock), Ok(None)),
-        (Move::Lacks(1, Phase::Locking), Ok(None)),
-        (Move::Step(1), Ok(None)),
-        (
-            Move::Ask(1, WordRequest::Cancel),
-            Ok(Some(WordAnswer::Cancelled)),
-        ),
-        (Move::Lacks(1, Phase::Ended), Ok(None)),
-    ];
-    let words = table(rt.alloc(), 0, &[0]);
-    assert_eq!(rt; played(words, moves.as_slice(), &[0], &[])?, None);
+    let text = "\
+1 begin = Begun(0)
+1 write 0 5 = Done
+1 lacks writer = ..
+1 ask lock = ..
+1 lacks locking = ..
+1 step = ..
+1 ask cancel = Cancelled
+1 lacks ended = ..
+words 0
+";
+    expect(&rt, rt.alloc(), 0, &[0], text)?;
     Ok(())
 }
 
 #[test]
 fn locked_and_cancelling(rt: HostRuntime) -> Result<(), Fail> {
-    let moves = [
-        (
-            Move::Run(1, WordRequest::Begin),
-            Ok(Some(WordAnswer::Begun(0))),
-        ),
-        (
-            Move::Run(1, WordRequest::Write(0, 5)),
-            Ok(Some(WordAnswer::Done)),
-        ),
-        (
-            Move::Run(1, WordRequest::Lock),
-            Ok(Some(WordAnswer::Locked(1))),
-        ),
-        (Move::Lacks(1, Phase::Locked), Ok(None)),
-        (Move::Step(1), Err(WordRefusal::NoTransaction)),
-        (Move::Ask(1, WordRequest::Cancel), Ok(None)),
-        (Move::Lacks(1, Phase::Busy), Ok(None)),
-        (Move::Step(1), Ok(Some(WordAnswer::Cancelled))),
-        (Move::Lacks(1, Phase::Ended), Ok(None)),
-    ];
-    let words = table(rt.alloc(), 0, &[0]);
-    assert_eq!(rt; played(words, moves.as_slice(), &[0], &[])?, None);
+    let text = "\
+1 begin = Begun(0)
+1 write 0 5 = Done
+1 lock = Locked(1)
+1 lacks locked = ..
+1 step = NoTransaction
+1 ask cancel = ..
+1 lacks busy = ..
+1 step = Cancelled
+1 lacks ended = ..
+words 0
+";
+    expect(&rt, rt.alloc(), 0, &[0], text)?;
     Ok(())
 }
 
 #[test]
 fn storing_and_releasing(rt: HostRuntime) -> Result<(), Fail> {
-    let moves = [
-        (
-            Move::Run(1, WordRequest::Begin),
-            Ok(Some(WordAnswer::Begun(0))),
-        ),
-        (
-            Move::Run(1, WordRequest::Write(0, 5)),
-            Ok(Some(WordAnswer::Done)),
-        ),
-        (
-            Move::Run(1, WordRequest::Lock),
-            Ok(Some(WordAnswer::Locked(1))),
-        ),
-        (Move::Ask(1, WordRequest::Store), Ok(None)),
-        (Move::Lacks(1, Phase::Busy), Ok(None)),
-        (Move::Step(1), Ok(Some(WordAnswer::Stored))),
-        (Move::Lacks(1, Phase::Stored), Ok(None)),
-        (Move::Snapshot(1), Ok(None)),
-        (Move::Ask(1, WordRequest::Release), Ok(None)),
-        (Move::Lacks(1, Phase::Busy), Ok(None)),
-        (Move::Step(1), Ok(Some(WordAnswer::Released))),
-    ];
-    let words = table(rt.alloc(), 0, &[0]);
-    assert_eq!(rt;
-        played(words, moves.as_slice(), &[5], &[(1, 1, true, 1)])?,
-        None
-    );
+    let text = "\
+1 begin = Begun(0)
+1 write 0 5 = Done
+1 lock = Locked(1)
+1 ask store = ..
+1 lacks busy = ..
+1 step = Stored
+1 lacks stored = ..
+1 snapshot = ..
+1 ask release = ..
+1 lacks busy = ..
+1 step = Released
+words 5
+record 1 write actor 1 calls 1
+";
+    expect(&rt, rt.alloc(), 0, &[0], text)?;
     Ok(())
 }
 
 #[test]
 fn refused_locks(rt: HostRuntime) -> Result<(), Fail> {
-    let moves = [
-        (
-            Move::Run(1, WordRequest::Begin),
-            Ok(Some(WordAnswer::Begun(0))),
-        ),
-        (
-            Move::Run(1, WordRequest::Write(0, 5)),
-            Ok(Some(WordAnswer::Done)),
-        ),
-        (
-            Move::Run(2, WordRequest::Begin),
-            Ok(Some(WordAnswer::Begun(0))),
-        ),
-        (
-            Move::Run(2, WordRequest::Write(0, 6)),
-            Ok(Some(WordAnswer::Done)),
-        ),
-        (
-            Move::Run(1, WordRequest::Lock),
-            Ok(Some(WordAnswer::Locked(1))),
-        ),
-        (
-            Move::Run(2, WordRequest::Lock),
-            Err(WordRefusal::Busy {
-                location: 0,
-                word: 1,
-            }),
-        ),
-        (Move::Lacks(2, Phase::Broken), Ok(None)),
-        (
-            Move::Ask(2, WordRequest::Cancel),
-            Ok(Some(WordAnswer::Cancelled)),
-        ),
-    ];
-    let words = table(rt.alloc(), 0, &[0]);
-    assert_eq!(rt; played(words, moves.as_slice(), &[0], &[])?, None);
+    let text = "\
+1 begin = Begun(0)
+1 write 0 5 = Done
+2 begin = Begun(0)
+2 write 0 6 = Done
+1 lock = Locked(1)
+2 lock = Busy 0 1
+2 lacks broken = ..
+2 ask cancel = Cancelled
+words 0
+";
+    expect(&rt, rt.alloc(), 0, &[0], text)?;
     Ok(())
 }
 
 #[test]
 fn refused_reads(rt: HostRuntime) -> Result<(), Fail> {
-    let moves = [
-        (
-            Move::Run(1, WordRequest::Begin),
-            Ok(Some(WordAnswer::Begun(0))),
-        ),
-        (
-            Move::Run(1, WordRequest::Write(0, 5)),
-            Ok(Some(WordAnswer::Done)),
-        ),
-        (
-            Move::Run(2, WordRequest::Begin),
-            Ok(Some(WordAnswer::Begun(0))),
-        ),
-        (
-            Move::Run(1, WordRequest::Lock),
-            Ok(Some(WordAnswer::Locked(1))),
-        ),
-        (
-            Move::Run(2, WordRequest::Read(0)),
-            Err(WordRefusal::Moved {
-                location: 0,
-                word: 1,
-            }),
-        ),
-        (Move::Lacks(2, Phase::Ended), Ok(None)),
-        (
-            Move::Run(2, WordRequest::Abort),
-            Ok(Some(WordAnswer::Ended)),
-        ),
-    ];
-    let words = table(rt.alloc(), 0, &[0]);
-    assert_eq!(rt; played(words, moves.as_slice(), &[0], &[])?, None);
+    let text = "\
+1 begin = Begun(0)
+1 write 0 5 = Done
+2 begin = Begun(0)
+1 lock = Locked(1)
+2 read 0 = Moved 0 1
+2 lacks ended = ..
+2 abort = Ended
+words 0
+";
+    expect(&rt, rt.alloc(), 0, &[0], text)?;
     Ok(())
 }
 
 #[test]
 fn actors_are_1_to_64(rt: HostRuntime) -> Result<(), Fail> {
-    let moves = [
-        (Move::Ask(0, WordRequest::Read(9)), Err(WordRefusal::NoSuch)),
-        (Move::Ask(65, WordRequest::Abort), Err(WordRefusal::NoSuch)),
-        (Move::Step(0), Err(WordRefusal::NoTransaction)),
-        (Move::Step(65), Err(WordRefusal::NoTransaction)),
-        (Move::Snapshot(0), Ok(None)),
-        (Move::Snapshot(65), Ok(None)),
-    ];
-    let words = table(rt.alloc(), 0, &[0]);
-    assert_eq!(rt; played(words, moves.as_slice(), &[0], &[])?, None);
+    let text = "\
+0 ask read 9 = NoSuch
+65 ask abort = NoSuch
+0 step = NoTransaction
+65 step = NoTransaction
+0 snapshot = ..
+65 snapshot = ..
+words 0
+";
+    expect(&rt, rt.alloc(), 0, &[0], text)?;
     Ok(())
 }

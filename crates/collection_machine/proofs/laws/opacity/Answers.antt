@@ -9,7 +9,8 @@ use Rattle.collection_machine.specs.Content.{Content, Frame}
 use Rattle.collection_machine.specs.Boosted.{Boosted, Action, act_all, opens}
 use Rattle.collection_machine.specs.Serial.{edition_at, AreLegal, AreRun, AllAborted, view, views, words}
 use Rattle.collection_machine.proofs.Invariant.{Inv}
-use Rattle.collection_machine.proofs.Schedules.{edition_few, edition_read, all_keeps, all_ok, all_saw, all-opening, all_words_saw, opens_ok, legal_parts, are_run, aborted_legal, at_rest}
+use Rattle.collection_machine.proofs.Schedules.{edition_few, edition_read, all_keeps, all_ok, all_saw, all-opening, all_words_saw, opens_ok}
+use Rattle.collection_machine.proofs.Schedules.{legal_parts, are_run, aborted_legal, at_rest}
 use Rattle.collection_machine.proofs.Quiet.{saw_open}
 use Rattle.collection_machine.proofs.Runs.{all_run}
 use Rattle.collection_machine.proofs.laws.opacity.Goals as goal

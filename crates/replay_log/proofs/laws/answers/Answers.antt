@@ -1,5 +1,5 @@
 use Rattle.replay_log.proofs.EventLemmas.{run_linked, opened_linked}
-use Rattle.replay_log.proofs.AnswerLemmas.{refused_request, refused_step, commit_goes_on, starved_late, starved_end}
+use Rattle.replay_log.proofs.AnswerLemmas.{refused_request, refused_step, commit_goes_on, starves}
 use Rattle.replay_log.specs.Worlds.{run, opened}
 use Rattle.replay_log.proofs.laws.answers.Goals as goal
 
@@ -14,8 +14,5 @@ returns-clause-stepped g c blocks clock values held events a stripes =
 pub returns-clause-goes_on : goal.returns-clause-goes_on
 returns-clause-goes_on g c w a h q = commit_goes_on w a h q
 
-pub returns-clause-starved_late : goal.returns-clause-starved_late
-returns-clause-starved_late g c w a h = starved_late w a h
-
-pub returns-clause-starved_end : goal.returns-clause-starved_end
-returns-clause-starved_end g c w a h = starved_end w a h
+pub returns-clause-starved : goal.returns-clause-starved
+returns-clause-starved g c w a = starves w a

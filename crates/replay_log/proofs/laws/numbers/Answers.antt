@@ -1,5 +1,7 @@
+use Rattle.std.proofs.Common.{refl}
 use Rattle.replay_log.specs.Worlds.{run, opened}
-use Rattle.replay_log.proofs.SerialLemmas.{serial_world, unused_later}
+use Rattle.replay_log.proofs.SerialLemmas.{serial_world}
+use Rattle.replay_log.proofs.NumberLemmas.{unused_later}
 use Rattle.replay_log.proofs.RecordLemmas.{half_done, all_own}
 use Rattle.replay_log.proofs.laws.numbers.Goals as goal
 
@@ -9,5 +11,5 @@ returns-clause-half_done g c blocks clock values held events stripes suit =
     (all_own blocks clock values held events)
 
 pub returns-clause-unused : goal.returns-clause-unused
-returns-clause-unused g c blocks clock values held events later a stripes back written =
-    unused_later blocks stripes clock values held events later a back written
+returns-clause-unused g c blocks clock values held events later a stripes ends written =
+    unused_later blocks stripes clock values held later events (run (opened blocks clock values held) events) a refl ends written

@@ -2,7 +2,8 @@
 use Rattle.std.proofs.Common.{ap, ◌∙◌, subst}
 use Rattle.word_machine.specs.World.{Memory, run, start}
 use Rattle.word_machine.specs.Opacity.{IsRun, memory_after}
-use Rattle.word_machine.proofs.Schedules.{reached, opened_at, idle_holds_none, run_saw, legal_of, serial, aborted_later, actor_saw, words_at_rest, owned, begins_at}
+use Rattle.word_machine.proofs.Schedules.{reached, opened_at, idle_holds_none, run_saw, legal_of, serial, aborted_later, actor_saw}
+use Rattle.word_machine.proofs.Schedules.{words_at_rest, owned, begins_at}
 use Rattle.word_machine.proofs.laws.opacity.Goals as goal
 
 pub returns : goal.returns
