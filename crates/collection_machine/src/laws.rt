@@ -27,8 +27,8 @@ ghost use Rattle.collection_machine.specs.Serial.{
 /// The committed transactions, in the order of their numbers, are a run of the words and of the collections. Where no commit is
 /// half done, the words and the parts of the collections are what it leaves. Each transaction, whether it commits, is open or
 /// was aborted, got outcomes that are legal at the number at which it began, and this stays so whatever happens later. An
-/// edition that it read is the number of commits up to that number which write there, and a base with this edition holds the
-/// part of that number. What the calls of a transaction read, it has copied, and read with the edition that it copied. No
+/// edition that it read is the opening's, and one more for each commit up to that number which writes there; a base with this
+/// edition holds the part of that number. What the calls of a transaction read, it has copied, and read with the edition that it copied. No
 /// edition has risen more often than the clock. The words are a world of the word machine, and their records are its.
 pub fn opacity<X, Op, Out>()
     ensures in_order { (c : Content X Op Out) → Frame c → (clock : ℕ) (memory : Memory) (parts : ℕ → X) (actions : List (Action Op)) →

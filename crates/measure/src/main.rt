@@ -7,6 +7,7 @@ use anyhow::bail;
 use std::env;
 
 mod audit;
+mod reservations;
 mod sets;
 
 fn main(rt: HostRuntime) -> anyhow::Result<()> {
@@ -17,6 +18,7 @@ fn main(rt: HostRuntime) -> anyhow::Result<()> {
     };
     match name.as_str() {
         "audit" => audit::measure(&rt),
+        "reservations" => reservations::measure(&rt),
         "sets" => sets::measure(&rt),
         _ => bail!("no benchmark has the name {name}"),
     }

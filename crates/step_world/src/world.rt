@@ -48,8 +48,8 @@ impl<V: Value> World<V> {
     /// Opens a world of this shape on this state.
     ///
     /// `NoSuch` where the shape is not served: for now it has words and no collection, or no word and one map of one
-    /// stripe. `TooLong` where the clock is above its limit or there are more than 65,536 words. What was moved in is
-    /// dropped.
+    /// stripe. `TooLong` where the clock is above its limit or there are more than 1,048,576 words. What was moved in
+    /// is dropped.
     pub fn open(alloc: Global, shape: &Shape, state: State<V>) -> Result<World<V>, Refusal>
         ensures world { IfOk result (λ world. IsAfter shape.now.clock state [] world.world) }
         ensures opening { IfOk result (λ world. opening_in world.world ≡ state) }

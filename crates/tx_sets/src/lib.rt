@@ -2,8 +2,8 @@
 //!
 //! A transaction keeps the values that it has read and those that it is to write by their
 //! locations, and touches no shared word for a location that it finds there. Its commit locks,
-//! checks, stores and releases location by location, rising, so that no two commits refuse each
-//! other.
+//! checks, stores and releases location by location, rising, so that two commits take the locks
+//! which both want in one order.
 //!
 //! Both sets are finite maps from locations to values, kept as one list of entries in the order of
 //! the locations. Locations often come in rising order: a new one then goes to the end of the list,

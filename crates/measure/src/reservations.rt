@@ -1,0 +1,141 @@
+//! Actions on the reservation tables, in actions a second.
+ghost use Rattle.std.specs.Prelude.{◌<◌, OnOk};
+ghost use Rattle.vac_model.specs.Balanced.{IsBalanced};
+
+use rand_core::{Rng, SeedableRng};
+use rand_xoshiro::Xoshiro256PlusPlus;
+use seq_model::{Items, Memory};
+use std::alloc::Global;
+use std::rt::Runtime;
+use std::time::Instant;
+use vac_model::{Action, ActionRefusal, Ask, Change, Kind, Tables};
+
+/// How many actions are made before the clock is read, and how many are timed.
+const ACTIONS: u64 = 200_000;
+
+/// How many items a reservation asks for.
+const ASKS: usize = 6;
+
+/// Prints how many actions a second are made with few items and with many.
+pub fn measure(rt: &(impl Runtime + AllocGlobal)) -> anyhow::Result<()> {
+    report(rt, 100)?;
+    report(rt, 10_000)
+}
+
+/// Of so many items of each kind, and as many customers.
+fn report(rt: &(impl Runtime + AllocGlobal), items: u64) -> anyhow::Result<()>
+    requires { 0 < items }
+{
+    let seconds = seconds_of(rt, items)?;
+    let speed = ACTIONS as f64 / seconds / 1e3;
+    println!(rt; "{items} items a kind: {speed:.0} thousand actions a second")?;
+    Ok(())
+}
+
+fn seconds_of(rt: &(impl Runtime + AllocGlobal), items: u64) -> anyhow::Result<f64>
+    requires { 0 < items }
+{
+    let mut tables = Tables::new(rt.alloc());
+    timed(rt, items, &mut tables)
+}
+
+/// The time of the second half of the actions.
+fn timed(rt: &(impl Runtime + AllocGlobal), items: u64, tables: &mut Tables) -> anyhow::Result<f64>
+    requires some { 0 < items }
+    requires balanced { IsBalanced tables.old }
+{
+    let mut random = Xoshiro256PlusPlus::seed_from_u64(1);
+    open(rt.alloc(), items, tables)?;
+    run(rt.alloc(), items, &mut random, tables)?;
+    let start = Instant::now(rt)?;
+    run(rt.alloc(), items, &mut random, tables)?;
+    Ok(start.elapsed(rt)?.as_secs_f64())
+}
+
+/// Adds the items, each with ten units.
+fn open(alloc: Global, items: u64, tables: &mut Tables) -> Result<(), ActionRefusal>
+    requires { IsBalanced tables.old }
+    ensures { OnOk result (IsBalanced tables.new) }
+{
+    for id in 0..items {
+        let action = opening_of(alloc, id)?;
+        tables.act(&action)?;
+    }
+    Ok(())
+}
+
+/// Adds the items of an id, one of each kind.
+fn opening_of(alloc: Global, id: u64) -> Result<Action, Memory> {
+    let mut changes = Items::new(alloc);
+    changes.push(added(Kind::Car, id, id))?;
+    changes.push(added(Kind::Flight, id, id))?;
+    changes.push(added(Kind::Room, id, id))?;
+    Ok(Action::Update { changes })
+}
+
+fn added(kind: Kind, id: u64, random: u64) -> Change {
+    Change::Add {
+        kind,
+        id,
+        units: 10,
+        price: 50 + random % 500,
+    }
+}
+
+fn run(
+    alloc: Global,
+    items: u64,
+    random: &mut Xoshiro256PlusPlus,
+    tables: &mut Tables,
+) -> Result<(), ActionRefusal>
+    requires some { 0 < items }
+    requires balanced { IsBalanced tables.old }
+    ensures { OnOk result (IsBalanced tables.new) }
+{
+    for _ in 0..ACTIONS {
+        let action = drawn(alloc, items, random)?;
+        tables.act(&action)?;
+    }
+    Ok(())
+}
+
+// Of a hundred actions about eighty are reservations, ten deletions and ten updates.
+fn drawn(alloc: Global, items: u64, random: &mut Xoshiro256PlusPlus) -> Result<Action, Memory>
+    requires { 0 < items }
+{
+    let customer = random.next_u64() % items;
+    match random.next_u64() % 100 {
+        0..=79 => Ok(Action::Reserve {
+            customer,
+            units: 1,
+            asks: asks(alloc, items, random)?,
+        }),
+        80..=89 => Ok(Action::Delete { customer }),
+        _ => {
+            let mut changes = Items::new(alloc);
+            let id = random.next_u64() % items;
+            changes.push(added(kind_of(random.next_u64()), id, random.next_u64()))?;
+            Ok(Action::Update { changes })
+        }
+    }
+}
+
+fn kind_of(random: u64) -> Kind {
+    match random % 3 {
+        0 => Kind::Car,
+        1 => Kind::Flight,
+        _ => Kind::Room,
+    }
+}
+
+fn asks(alloc: Global, items: u64, random: &mut Xoshiro256PlusPlus) -> Result<Items<Ask>, Memory>
+    requires { 0 < items }
+{
+    let mut asks = Items::new(alloc);
+    for _ in 0..ASKS {
+        let kind = kind_of(random.next_u64());
+        let id = random.next_u64() % items;
+        asks.push(Ask { kind, id })?;
+    }
+    Ok(asks)
+}
