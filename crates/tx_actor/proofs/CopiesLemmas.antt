@@ -7,10 +7,13 @@ use Rattle.std.specs.FinMap.{FinMap}
 use Rattle.std.specs.Ordering.{nat_cmp}
 use Rattle.std.proofs.lemmas.Bool.{cond-true, cond-false}
 use Rattle.seq_model.specs.declared.call.Op.{Op}
+use Rattle.seq_model.specs.declared.call.Op.TheVariants.{Get, Put, Remove, Len, Count, Add, Take}
+use Rattle.conflict.specs.Places.{none_some}
+use Rattle.replay_log.specs.Pieces.{piece_of}
 use Rattle.conflict.specs.declared.change.Change.{Change}
 use Rattle.conflict.specs.declared.outcome.Outcome.{Outcome}
 use Rattle.collection_machine.specs.Boosted.{Shadow, changes, longer}
-use Rattle.replay_log.specs.Base.{Shown, after, changes_of, outcome_of, shown_of, stripes_of, writes_of}
+use Rattle.replay_log.specs.Base.{Shown, OfMap, OfBag, OfPq, OfQueue, after, changes_of, outcome_of, shown_of, stripes_of, writes_of}
 use Rattle.replay_log.specs.Parts.{kind_of, part, whole}
 use Rattle.replay_log.specs.Contents.{Answered, Block, HaveStripes, answer, blank, block_of, content, first_of, seen, size}
 use Rattle.replay_log.proofs.ContentLemmas.{positive_at}
@@ -20,11 +23,11 @@ use Rattle.atomic_steps.proofs.Bases.{after_both, changes_by, kind_stays, more_c
 use Rattle.conflict.specs.Table.{Room}
 use Rattle.replay_log.specs.declared.touch.Touch.{Touch}
 use Rattle.replay_log.specs.Touches.{touched_by}
-use Rattle.shadow.specs.Memo.{IsAlike, IsCopyBy, MemoView, copies_kept, entries_kept, grown_kept, shrunk_kept, with_count, with_entry, with_total}
+use Rattle.shadow.specs.Memo.{IsAlike, IsCopyBy, MemoView, copies_kept, entries_kept, grown_kept, holds_with, shrunk_kept, with_count, with_entry, with_total}
 use Rattle.shadow.proofs.CopyLemmas.{copy_accepted, copy_answered, moved_copy, touched_copy}
 use Rattle.tx_actor.specs.declared.copies.Copied.{Copied}
 use Rattle.tx_actor.specs.declared.copies.Copied.TheVariants.{Keys, Whole}
-use Rattle.tx_actor.specs.Copies.{IsAccepted, IsCopied, IsLearnt, IsOf, answer_of, answered_on, edition_at, holds_call}
+use Rattle.tx_actor.specs.Copies.{IsAccepted, IsCopied, IsLearnt, IsOf, answer_of, answered_on, edition_at, has_piece, holds_call, memo_piece}
 
 itself : (k : ℕ) → (k == k) ≡ true
 itself k = eq-eqb k k refl
@@ -174,3 +177,22 @@ module _ {V : Type 0} where
       → IsOf b s cs ls (Keys m es) → IsAlike (shown_of m.blank) m.entries m.copies m.total s u → IsOf b u cs ls (Keys m es)
   follows_moved b s u cs ls m es is alike =
       (is.0, is.1, is.2, is.3, moved_copy (shown_of m.blank) s u m.entries m.copies m.total m.grown m.shrunk m.changes is.4 alike)
+
+  -- ---- pieces
+  held_piece : (s : Shown V) (m : MemoView V) (op : Op V) (o : Outcome V) → outcome_of op s ≡ Some o
+      → holds_with s m.entries m.copies m.total op ≡ memo_piece s m (piece_of (kind_of s) op)
+  held_piece (OfMap b) m (Get k) o e = refl
+  held_piece (OfMap b) m (Put k v) o e = refl
+  held_piece (OfMap b) m (Remove k) o e = refl
+  held_piece (OfMap b) m Len o e = refl
+  held_piece (OfMap b) m _ o e = absurd (none_some o e)
+  held_piece (OfBag b) m (Count x) o e = refl
+  held_piece (OfBag b) m (Add x) o e = refl
+  held_piece (OfBag b) m (Take x) o e = refl
+  held_piece (OfBag b) m _ o e = absurd (none_some o e)
+  held_piece (OfPq b) m op o e = refl
+  held_piece (OfQueue b) m op o e = refl
+
+  pub follows_pieces : (m : MemoView V) (es : Room ℕ) (op : Op V) (o : Outcome V) → outcome_of op (shown_of m.blank) ≡ Some o
+      → holds_call (Keys m es) op ≡ has_piece (Keys m es) (piece_of (kind_of (shown_of m.blank)) op)
+  follows_pieces m es op o e = held_piece (shown_of m.blank) m op o e

@@ -1,5 +1,5 @@
 -- What a transaction has of one collection, and what that is of its shadow in a world.
-use Rattle.std.specs.Prelude.{◌≡◌, ℕ, ◌+◌, ◌<◌, ◌++◌, Bool, true, List, Option, Some, slice_get}
+use Rattle.std.specs.Prelude.{◌≡◌, ℕ, ◌+◌, ◌<◌, ◌++◌, Bool, true, false, List, Option, Some, is_some, slice_get}
 use Rattle.std.specs.FinMap as map
 use Rattle.seq_model.specs.declared.call.Op.{Op}
 use Rattle.conflict.specs.declared.change.Change.{Change}
@@ -7,14 +7,16 @@ use Rattle.conflict.specs.declared.outcome.Outcome.{Outcome}
 use Rattle.replay_log.specs.declared.base.Base.{Base}
 use Rattle.replay_log.specs.declared.touch.Touch.{Touch}
 use Rattle.seq_model.specs.Entries.{inserts}
-use Rattle.replay_log.specs.Base.{Shown, after, changes_of, editions_of, outcome_of, shown_of, stripes_of, writes_of}
+use Rattle.replay_log.specs.Base.{Shown, OfMap, OfBag, after, changes_of, editions_of, outcome_of, shown_of, stripes_of, writes_of}
 use Rattle.replay_log.specs.Parts.{kind_of, part}
+use Rattle.replay_log.specs.Pieces as pieces
+use Rattle.replay_log.specs.Pieces.{Piece, is_piece}
 use Rattle.replay_log.specs.Touches.{editions_at, touched_by, touched_places}
 use Rattle.replay_log.specs.Contents.{Answered, Block, size}
 use Rattle.collection_machine.specs.Boosted.{Shadow as Part}
 use Rattle.atomic_steps.specs.Bases.{log_changes, log_locations}
 use Rattle.shadow.specs.Memo as memo
-use Rattle.shadow.specs.Memo.{MemoView, IsCopyBy, answer_with, copies_kept, entries_kept, grown_kept, holds, shrunk_kept, with_count, with_entry, with_total}
+use Rattle.shadow.specs.Memo.{MemoView, IsCopyBy, answer_with, copies_kept, entries_kept, grown_kept, has_key, holds, shrunk_kept, with_count, with_entry, with_total}
 use Rattle.shadow.specs.Shadow as shadow
 use Rattle.shadow.specs.Shadow.{IsFolded}
 use Rattle.tx_actor.specs.declared.copies.Copied.{Copied}
@@ -31,6 +33,17 @@ module _ {V : Type 0} where
   abbrev pub answer_of : Copied V → Op V → Option (Outcome V)
   answer_of (Keys m es) op = answer_with (shown_of m.blank) m.entries m.copies m.total m.grown m.shrunk op
   answer_of (Whole s) op = outcome_of op (shown_of s.base)
+
+  -- it has this piece of its collection
+  abbrev pub memo_piece : Shown V → MemoView V → Piece → Bool
+  memo_piece (OfMap b) m (pieces.Entry k) = has_key m.entries k
+  memo_piece (OfMap b) m pieces.Counts = is_some m.total
+  memo_piece (OfBag b) m (pieces.Entry x) = has_key m.copies x
+  memo_piece s m p = false
+
+  abbrev pub has_piece : Copied V → Piece → Bool
+  has_piece (Keys m es) p = memo_piece (shown_of m.blank) m p
+  has_piece (Whole s) p = is_piece pieces.Whole p
 
   -- the log of the accepted calls
   abbrev pub changes_in : Copied V → List (Change V)

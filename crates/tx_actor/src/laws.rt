@@ -7,6 +7,7 @@ ghost use Rattle.conflict.specs.declared.outcome.Outcome.{Outcome};
 ghost use Rattle.collection_machine.specs.Boosted.{Shadow, changes, longer};
 ghost use Rattle.replay_log.specs.Base.{Shown, outcome_of, reads_of, shown_of};
 ghost use Rattle.replay_log.specs.Parts.{kind_of, part};
+ghost use Rattle.replay_log.specs.Pieces.{piece_of};
 ghost use Rattle.replay_log.specs.declared.touch.Touch.{Touch};
 ghost use Rattle.replay_log.specs.declared.touch.Touched.{Touched};
 ghost use Rattle.replay_log.specs.Touches.{touched_by, touched_places};
@@ -14,7 +15,7 @@ ghost use Rattle.shadow.specs.Memo.{IsAlike, MemoView, holds};
 ghost use Rattle.replay_log.specs.Contents.{Answered, Block, HaveStripes, block_of, content, first_of};
 ghost use Rattle.tx_actor.specs.declared.copies.Copied.{Copied};
 ghost use Rattle.tx_actor.specs.declared.copies.Copied.TheVariants.{Keys};
-ghost use Rattle.tx_actor.specs.Copies.{IsAccepted, IsCopied, IsLearnt, IsOf, ShowParts, answer_of, answered_on, holds_call};
+ghost use Rattle.tx_actor.specs.Copies.{IsAccepted, IsCopied, IsLearnt, IsOf, ShowParts, answer_of, answered_on, has_piece, holds_call};
 ghost use Rattle.tx_actor.specs.Accepts.{Accepts, PutsBack};
 ghost use Rattle.tx_actor.specs.Dispatch.{AreSteps};
 ghost use Rattle.tx_actor.specs.Judged.{IsJudged};
@@ -66,7 +67,8 @@ pub fn accepts_as_worlds<V>()
 
 /// What a transaction has of a collection answers a call that it holds as the world does, after its own calls; and once it has accepted
 /// the outcome, it has what its shadow has with one outcome more. An outcome on another collection leaves it. What it learns of the
-/// same collection it has too; and what it has of single keys is of each collection that answers alike what it holds.
+/// same collection it has too; and what it has of single keys is of each collection that answers alike what it holds. It holds a call
+/// where it has the piece that the call touches.
 pub fn copies_follow<V: Value>()
     ensures answered { (n : ℕ) (bs : List Block) (k : ℕ) (b : Block) (x : Shadow (Shown V) (Answered V)) (c : Copied V)
         (op : Op V) (o : Outcome V) → HaveStripes bs → block_of bs k ≡ Some b → IsCopied b (first_of n bs k) k x c →
@@ -78,6 +80,8 @@ pub fn copies_follow<V: Value>()
     ensures learnt { (b : Block) (s : Shown V) (changes : List (Change V)) (locations : List ℕ) (c d : Copied V) (op : Op V) (t : Touch V) →
         0 < b.stripes → IsOf b s changes locations c → touched_by b.stripes op s ≡ Some t.held → IsLearnt t c d →
         IsOf b s changes locations d }
+    ensures pieces { (m : MemoView V) (es : Room ℕ) (op : Op V) (o : Outcome V) → outcome_of op (shown_of m.blank) ≡ Some o →
+        holds_call (Keys m es) op ≡ has_piece (Keys m es) (piece_of (kind_of (shown_of m.blank)) op) }
     ensures moved { (b : Block) (s u : Shown V) (changes : List (Change V)) (locations : List ℕ) (m : MemoView V) (es : Room ℕ) →
         IsOf b s changes locations (Keys m es) → IsAlike (shown_of m.blank) m.entries m.copies m.total s u →
         IsOf b u changes locations (Keys m es) }

@@ -1,2 +1,4 @@
 pub mod HoldingLemmas
 pub mod SessionLemmas
+pub mod WalkLemmas
+pub mod DraftLemmas

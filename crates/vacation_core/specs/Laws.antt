@@ -2,7 +2,7 @@
 use Rattle.std.specs.Prelude.{◌≡◌, ◌≢◌, List, None}
 use Rattle.seq_model.specs.declared.call.Call.{Call}
 use Rattle.seq_model.specs.declared.call.Reply.{Reply}
-use Rattle.seq_model.specs.Contents.{Contents, call_of}
+use Rattle.seq_model.specs.Contents.{call_of}
 use Rattle.seq_model.specs.Runs.{IsLegal, after_calls}
 use Rattle.vac_model.specs.declared.action.Action.{Action}
 use Rattle.vac_model.specs.declared.action.ActionReply.{ActionReply}

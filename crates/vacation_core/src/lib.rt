@@ -6,7 +6,13 @@
 //! action's tables, it never gives up, and each call that it asks has a reply.
 #![tactic(auto)]
 
+mod delete;
 mod entry;
 pub mod laws;
+mod reserve;
+mod session;
+mod update;
+mod walk;
 
 pub use entry::Entry;
+pub use session::Session;

@@ -1,4 +1,4 @@
-use Rattle.tx_actor.proofs.CopiesLemmas.{follows_answered, follows_accepted, follows_learnt, follows_moved, follows_others}
+use Rattle.tx_actor.proofs.CopiesLemmas.{follows_answered, follows_accepted, follows_learnt, follows_moved, follows_others, follows_pieces}
 use Rattle.tx_actor.proofs.laws.copies_follow.Goals as goal
 
 pub returns-clause-answered : goal.returns-clause-answered
@@ -15,3 +15,6 @@ returns-clause-learnt g c = follows_learnt
 
 pub returns-clause-moved : goal.returns-clause-moved
 returns-clause-moved g c = follows_moved
+
+pub returns-clause-pieces : goal.returns-clause-pieces
+returns-clause-pieces g c = follows_pieces

@@ -1,0 +1,28 @@
+-- Where the code that walks along a plan, by the replies so far, comes to.
+use Rattle.std.specs.Prelude.{◌≡◌, ℕ, Result, Ok, Err, ⊤}
+use Rattle.tx_engine.specs.declared.job.Ask.TheVariants as ask
+use Rattle.tx_engine.specs.Programs.{asked}
+use Rattle.vac_model.specs.declared.item.Kind.{Kind}
+use Rattle.vac_model.specs.declared.item.Customer.{Customer}
+use Rattle.vac_model.specs.declared.action.Part.{Part}
+use Rattle.vac_model.specs.declared.action.Part.TheVariants.{Booked, Waits}
+use Rattle.vacation_core.specs.declared.walk.Stop.{Stop}
+use Rattle.vacation_core.specs.declared.walk.Stop.TheVariants.{Asks, GivesUp, OutOfMemory}
+use Rattle.vacation_core.specs.Sessions.{Plan, with_booking, with_wait}
+
+-- a walk stops at what is left of a plan: this call is asked next, the plan gives up, or a growth was refused
+abbrev pub IsStop : Stop → Plan → Type 0
+IsStop (Asks call) p = asked p ≡ ask.Call call
+IsStop GivesUp p = asked p ≡ ask.GiveUp
+IsStop OutOfMemory p = ⊤
+
+-- a walk that begins at p comes to the plan that goes on with what it found, or it stops
+abbrev pub Comes : {T : Type 0} → Plan → Result T Stop → (T → Plan) → Type 0
+Comes p (Ok x) on = p ≡ on x
+Comes p (Err stop) on = IsStop stop p
+
+-- a customer with what was decided for a kind
+abbrev pub with_part : ℕ → Kind → Part → Customer → Customer
+with_part units k (Booked id n price) who = with_booking units k id price who
+with_part units k (Waits id t) who = with_wait units k id t who
+with_part units k _ who = who

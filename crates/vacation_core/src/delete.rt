@@ -1,0 +1,255 @@
+//! The plan of a deletion, walked.
+ghost use Rattle.std.specs.Prelude.{◌≡◌, ◌≤◌, ℕ, Option, Some, IfOk, true};
+ghost use Rattle.std.specs.Option.{option_copied};
+ghost use Rattle.tx_engine.specs.Programs.{after, Answers};
+ghost use Rattle.vac_model.specs.Balanced.{IsItemSound};
+ghost use Rattle.vacation_core.specs.Sessions as plans;
+ghost use Rattle.vacation_core.specs.Sessions.{Plan};
+ghost use Rattle.vacation_core.specs.Walks.{Comes};
+ghost use Rattle.vacation_core.specs.Serving.{deletes, serves_on, waiter, IsServed};
+
+use crate::walk::{Stop, Walk, put_customer};
+use seq_model::Memory;
+use std::alloc::Global;
+use vac_model::{
+    ActionReply, Booking, Customer, Item, Kind, SERVE_LIMIT, Ticket, Wait, bill, has_kind,
+    waits_without,
+};
+
+/// A customer whose wait ended, with a booking in its place where the item is there.
+fn served(
+    alloc: Global,
+    found: Option<&Customer>,
+    ticket: u64,
+    booking: Option<Booking>,
+) -> Result<Customer, Memory>
+    ensures { IfOk result (λ who. who ≡ waiter ticket booking (option_copied found.entry)) }
+{
+    let mut who = Customer::new(alloc);
+    if let Some(found) = found {
+        who.bookings = found.bookings.try_copy()?;
+        who.waits = waits_without(alloc, found.waits.as_slice(), ticket)?;
+    }
+    if let Some(booking) = booking {
+        who.bookings.push(booking)?;
+    }
+    Ok(who)
+}
+
+impl<'a> Walk<'a> {
+    /// Makes the units of a booking free again.
+    fn give_back(&mut self, booking: Booking) -> Result<(), Stop>
+        ensures { (next : Plan)
+            → Comes (after (plans.get_item booking.kind booking.id (λ o. plans.give_back booking o next)) self.old) result
+            (λ _. after next self.new) }
+    {
+        let item = match self.get_item(booking.kind, booking.id)? {
+            Some(item) => item,
+            None => return Err(Stop::GivesUp),
+        };
+        if item.used < booking.units {
+            return Err(Stop::GivesUp);
+        }
+        let more = Item {
+            used: item.used - booking.units,
+            free: item.free + booking.units,
+            ..item
+        };
+        self.put_item(booking.kind, booking.id, more)
+    }
+
+    fn give_all_back(&mut self, bookings: &[Booking]) -> Result<(), Stop>
+        ensures { (next : Plan) → Comes (after (plans.give_all_back bookings.now next) self.old) result (λ _. after next self.new) }
+    {
+        for booking in bookings {
+            self.give_back(*booking)?;
+        }
+        Ok(())
+    }
+
+    fn forget_all(&mut self, waits: &[Wait]) -> Result<(), Stop>
+        ensures { (next : Plan) → Comes (after (plans.forget_all waits.now next) self.old) result (λ _. after next self.new) }
+    {
+        for wait in waits {
+            self.remove_ticket(wait.ticket)?;
+        }
+        Ok(())
+    }
+
+    /// Takes the first ticket, which is this one, off its queue and out of the map.
+    fn end_wait(&mut self, kind: Kind, ticket: u64) -> Result<(), Stop>
+        ensures { (next : Plan) → Comes (after (plans.end_wait kind ticket next) self.old) result (λ _. after next self.new) }
+    {
+        self.dequeue(kind)?;
+        self.remove_ticket(ticket)
+    }
+
+    /// The customer of a ticket loses the wait, and gains a booking where there is one.
+    fn change_waiter(
+        &mut self,
+        customer: u64,
+        ticket: u64,
+        booking: Option<Booking>,
+    ) -> Result<(), Stop>
+        ensures { (next : Plan)
+            → Comes (after (plans.get_customer customer (λ o. plans.put_customer customer (waiter ticket booking o) next)) self.old) result
+            (λ _. after next self.new) }
+    {
+        let found = self.get_customer(customer)?;
+        if self.passes() {
+            return Ok(());
+        }
+        let who = served(self.allocator(), found, ticket, booking)?;
+        Err(put_customer(customer, who))
+    }
+
+    /// Serves a ticket that is in the map: how many it books, `None` where serving ends.
+    fn serve_item(&mut self, kind: Kind, ticket: u64, waiting: Ticket) -> Result<Option<u64>, Stop>
+        ensures comes { (later : ℕ → Plan) (end : Plan)
+            → Comes (after (plans.serve_ticket kind ticket (Some waiting) later end) self.old) result
+            (λ served. after (serves_on served later end) self.new) }
+        ensures one { IfOk result (λ served. IsServed served) }
+    {
+        match self.get_item(waiting.kind, waiting.id)? {
+            Some(item) => self.serve_from(kind, ticket, waiting, item),
+            None => {
+                self.end_wait(kind, ticket)?;
+                self.change_waiter(waiting.customer, ticket, None)?;
+                Ok(Some(0))
+            }
+        }
+    }
+
+    /// Books the units of a ticket, where as many are free.
+    fn serve_from(
+        &mut self,
+        kind: Kind,
+        ticket: u64,
+        waiting: Ticket,
+        item: Item,
+    ) -> Result<Option<u64>, Stop>
+        requires { IsItemSound item }
+        ensures comes { (later : ℕ → Plan) (end : Plan)
+            → Comes (after (plans.serve_item kind ticket waiting (Some item) later end) self.old) result
+            (λ served. after (serves_on served later end) self.new) }
+        ensures one { IfOk result (λ served. IsServed served) }
+    {
+        if waiting.units > item.free {
+            return Ok(None);
+        }
+        let booked = Item {
+            used: item.used + waiting.units,
+            free: item.free - waiting.units,
+            ..item
+        };
+        let booking = Booking {
+            kind: waiting.kind,
+            id: waiting.id,
+            units: waiting.units,
+            price: item.price,
+        };
+        self.end_wait(kind, ticket)?;
+        self.put_item(waiting.kind, waiting.id, booked)?;
+        self.change_waiter(waiting.customer, ticket, Some(booking))?;
+        Ok(Some(1))
+    }
+
+    /// One step of serving: how many tickets it books, `None` where serving ends.
+    fn serve_one(&mut self, kind: Kind) -> Result<Option<u64>, Stop>
+        ensures comes { (later : ℕ → Plan) (end : Plan)
+            → Comes (after (plans.peek kind (λ o. plans.serve_first kind o later end)) self.old) result
+            (λ served. after (serves_on served later end) self.new) }
+        ensures one { IfOk result (λ served. IsServed served) }
+    {
+        match self.peek(kind)? {
+            Some(ticket) => self.serve_ticket(kind, ticket),
+            None => Ok(None),
+        }
+    }
+
+    /// Serves the first ticket of a queue.
+    fn serve_ticket(&mut self, kind: Kind, ticket: u64) -> Result<Option<u64>, Stop>
+        ensures comes { (later : ℕ → Plan) (end : Plan)
+            → Comes (after (plans.serve_first kind (Some ticket) later end) self.old) result
+            (λ served. after (serves_on served later end) self.new) }
+        ensures one { IfOk result (λ served. IsServed served) }
+    {
+        match self.get_ticket(ticket)? {
+            Some(waiting) => self.serve_item(kind, ticket, waiting),
+            None => {
+                self.dequeue(kind)?;
+                Ok(Some(0))
+            }
+        }
+    }
+
+    /// Serves a queue until serving ends, or so many tickets were taken off: how many were booked.
+    fn serve(&mut self, kind: Kind, most: u64) -> Result<u64, Stop>
+        ensures comes { (next : ℕ → Plan)
+            → Comes (after (plans.serve most kind next) self.old) result (λ served. after (next served) self.new) }
+        ensures few { IfOk result (λ served. served ≤ most) }
+    {
+        if most == 0 {
+            return Ok(0);
+        }
+        match self.serve_one(kind)? {
+            Some(one) => {
+                let more = self.serve(kind, most - 1)?;
+                Ok(one + more)
+            }
+            None => Ok(0),
+        }
+    }
+
+    fn serve_freed(&mut self, bookings: &[Booking], kind: Kind) -> Result<u64, Stop>
+        ensures comes { (next : ℕ → Plan)
+            → Comes (after (plans.serve_freed bookings.now kind next) self.old) result (λ served. after (next served) self.new) }
+        ensures few { IfOk result (λ served. served ≤ SERVE_LIMIT) }
+    {
+        if has_kind(bookings, kind) {
+            self.serve(kind, SERVE_LIMIT)
+        } else {
+            Ok(0)
+        }
+    }
+
+    fn serve_all(&mut self, bookings: &[Booking]) -> Result<u64, Stop>
+        ensures { (next : ℕ → Plan)
+            → Comes (after (plans.serve_all bookings.now next) self.old) result (λ served. after (next served) self.new) }
+    {
+        let car = self.serve_freed(bookings, Kind::Car)?;
+        let flight = self.serve_freed(bookings, Kind::Flight)?;
+        let room = self.serve_freed(bookings, Kind::Room)?;
+        Ok(car + flight + room)
+    }
+
+    pub(crate) fn delete(&mut self, customer: u64) -> Result<ActionReply, Stop>
+        ensures { Comes (after (plans.delete customer) self.old) result (λ reply. Answers reply) }
+    {
+        match self.get_customer(customer)? {
+            Some(who) => {
+                self.delete_found(customer, who.bookings.as_slice(), who.waits.as_slice())
+            }
+            None => Ok(ActionReply::Absent),
+        }
+    }
+
+    fn delete_found(
+        &mut self,
+        customer: u64,
+        bookings: &[Booking],
+        waits: &[Wait],
+    ) -> Result<ActionReply, Stop>
+        requires { plans.is_customer_within (record { bookings = bookings.now; waits = waits.now }) ≡ true }
+        ensures { Comes (after (deletes customer bookings.now waits.now) self.old) result (λ reply. Answers reply) }
+    {
+        self.give_all_back(bookings)?;
+        self.forget_all(waits)?;
+        self.remove_customer(customer)?;
+        let served = self.serve_all(bookings)?;
+        Ok(ActionReply::Deleted {
+            bill: bill(bookings),
+            served,
+        })
+    }
+}

@@ -1,0 +1,326 @@
+//! The plan of a reservation, walked.
+ghost use Rattle.std.specs.Prelude.{◌≡◌, ◌≤◌, ℕ, Option, Some, None, IfOk, OnOk, ◌||◌, unwrap_or, is_none, ◌&&◌};
+ghost use Rattle.std.specs.Option.{option_copied};
+ghost use Rattle.tx_engine.specs.Programs.{after, Answers};
+ghost use Rattle.vac_model.specs.Actions as actions;
+ghost use Rattle.vac_model.specs.declared.item.Item.{Item as AnItem};
+ghost use Rattle.vac_model.specs.declared.item.Customer.{Customer as ACustomer};
+ghost use Rattle.vac_model.specs.declared.action.Part.{Part as APart};
+ghost use Rattle.vac_model.specs.Holdings.{customer_or_new, newcomer};
+ghost use Rattle.vacation_core.specs.Sessions as plans;
+ghost use Rattle.vacation_core.specs.Sessions.{Plan};
+ghost use Rattle.vacation_core.specs.Walks.{Comes, with_part};
+ghost use Rattle.vacation_core.specs.Drafts.{drafted, adds, is_changed, part_for, IsSound};
+ghost use Rattle.vac_model.specs.Balanced.{IsItemSound};
+
+use crate::walk::{Stop, Walk, put_customer};
+use seq_model::{Memory, Value};
+use std::alloc::Global;
+use vac_model::{
+    ActionReply, Ask, Booking, Customer, Each, Item, Kind, PLACE_LIMIT, Part, TICKET_LIMIT, Ticket,
+    Wait, dearer, same_kind,
+};
+
+/// A customer with what was decided so far, which is not put yet.
+#[derive(Clone, Copy)]
+struct Draft<'a> {
+    number: u64,
+    units: u64,
+    found: Option<&'a Customer>,
+    car: Part,
+    flight: Part,
+    room: Part,
+}
+
+/// Whether the part adds a booking or a wait.
+fn is_change(part: Part) -> bool
+    ensures { result ≡ plans.is_change part }
+{
+    matches!(part, Part::Booked { .. } | Part::Waits { .. })
+}
+
+/// Whether the part adds a booking of the item or a wait for it.
+fn adds(part: Part, id: u64) -> bool
+    ensures { result ≡ adds id part }
+{
+    match part {
+        Part::Booked { id: booked, .. } => booked == id,
+        Part::Waits { id: awaited, .. } => awaited == id,
+        _ => false,
+    }
+}
+
+/// Whether the customer held or awaited the item.
+fn has_found(found: Option<&Customer>, kind: Kind, id: u64) -> bool
+    ensures { result ≡ actions.has (unwrap_or (option_copied found.entry) newcomer) kind id }
+{
+    match found {
+        Some(who) => who.has(kind, id),
+        None => false,
+    }
+}
+
+fn add_part(who: &mut Customer, units: u64, kind: Kind, part: Part) -> Result<(), Memory>
+    ensures { OnOk result (who.new ≡ with_part units kind part who.old) }
+{
+    match part {
+        Part::Booked { id, price, .. } => who.bookings.push(Booking {
+            kind,
+            id,
+            units,
+            price,
+        }),
+        Part::Waits { id, ticket } => who.waits.push(Wait {
+            kind,
+            id,
+            units,
+            ticket,
+        }),
+        _ => Ok(()),
+    }
+}
+
+impl Draft<'_> {
+    /// What was decided for a kind.
+    fn part(&self, kind: Kind) -> Part
+        ensures { result ≡ part_for kind self.now }
+    {
+        match kind {
+            Kind::Car => self.car,
+            Kind::Flight => self.flight,
+            Kind::Room => self.room,
+        }
+    }
+
+    /// Whether the customer holds or awaits the item.
+    fn has(&self, kind: Kind, id: u64) -> bool
+        ensures { result ≡ actions.has (drafted self.now) kind id }
+    {
+        let had = has_found(self.found, kind, id);
+        if had {
+            return true;
+        }
+        let part = self.part(kind);
+        adds(part, id)
+    }
+
+    /// Whether there is no place for a further booking or wait.
+    fn is_full(&self) -> bool
+        ensures { result ≡ actions.is_full (drafted self.now) }
+    {
+        let added = is_change(self.car) as u64
+            + is_change(self.flight) as u64
+            + is_change(self.room) as u64;
+        let places = PLACE_LIMIT - added;
+        match self.found {
+            Some(who) => {
+                let waits = who.waits.len() as u64;
+                waits >= places || who.bookings.len() as u64 >= places - waits
+            }
+            None => false,
+        }
+    }
+
+    /// Whether something was decided that changes the customer.
+    fn is_changed(&self) -> bool
+        ensures { result ≡ is_changed self.now }
+    {
+        is_change(self.car) || is_change(self.flight) || is_change(self.room)
+    }
+
+    /// The customer, to be put.
+    fn customer(&self, alloc: Global) -> Result<Customer, Memory>
+        ensures { IfOk result (λ who. who ≡ drafted self.now) }
+    {
+        let mut who = match self.found {
+            Some(who) => who.try_copy()?,
+            None => Customer::new(alloc),
+        };
+        add_part(&mut who, self.units, Kind::Car, self.car)?;
+        add_part(&mut who, self.units, Kind::Flight, self.flight)?;
+        add_part(&mut who, self.units, Kind::Room, self.room)?;
+        Ok(who)
+    }
+}
+
+/// The best candidate of a kind, with what an ask found.
+fn better(
+    kind: Kind,
+    ask: Ask,
+    item: Option<Item>,
+    best: Option<(u64, Item)>,
+) -> Option<(u64, Item)>
+    requires item_sound { (i : AnItem) → item ≡ Some i → IsItemSound i }
+    requires best_sound { IsSound best }
+    ensures better { result ≡ plans.better kind ask item best }
+    ensures sound { IsSound result }
+{
+    if !same_kind(ask.kind, kind) {
+        return best;
+    }
+    match item {
+        Some(item) => dearer(best, Some((ask.id, item))),
+        None => dearer(best, None),
+    }
+}
+
+/// Whether none of the items asked for exists.
+fn no_candidate(best: &Each<Option<(u64, Item)>>) -> bool
+    ensures { result ≡ (is_none best.now.car && (is_none best.now.flight && is_none best.now.room)) }
+{
+    best.car.is_none() && best.flight.is_none() && best.room.is_none()
+}
+
+impl<'a> Walk<'a> {
+    /// The candidates of the three kinds.
+    fn gather(&mut self, asks: &[Ask]) -> Result<Each<Option<(u64, Item)>>, Stop>
+        ensures comes { (next : Option (ℕ × AnItem) → Option (ℕ × AnItem) → Option (ℕ × AnItem) → Plan)
+            → Comes (after (plans.gather asks.now None None None next) self.old) result
+            (λ best. after (next best.car best.flight best.room) self.new) }
+        ensures sound { IfOk result (λ best. IsSound best.car × IsSound best.flight × IsSound best.room) }
+    {
+        let mut car = None;
+        let mut flight = None;
+        let mut room = None;
+        for ask in asks {
+            let item = self.get_item(ask.kind, ask.id)?;
+            let of_cars = better(Kind::Car, *ask, item, car);
+            let of_flights = better(Kind::Flight, *ask, item, flight);
+            let of_rooms = better(Kind::Room, *ask, item, room);
+            car = of_cars;
+            flight = of_flights;
+            room = of_rooms;
+        }
+        Ok(Each { car, flight, room })
+    }
+
+    /// A wait for the item, where there is a ticket for it.
+    fn line_up(&mut self, draft: &Draft<'_>, kind: Kind, id: u64) -> Result<Part, Stop>
+        ensures { (next : APart → ACustomer → Plan)
+            → Comes (after (plans.read_next (plans.line_up draft.now.number draft.now.units kind id (drafted draft.now) next)) self.old)
+            result (λ part. after (next part (with_part draft.now.units kind part (drafted draft.now))) self.new) }
+    {
+        let ticket = self.read_next()?;
+        if ticket == TICKET_LIMIT {
+            return Ok(Part::NoFree { id });
+        }
+        let wait = Ticket {
+            customer: draft.number,
+            kind,
+            id,
+            units: draft.units,
+        };
+        self.write_next(ticket + 1)?;
+        self.put_ticket(ticket, wait)?;
+        self.enqueue(kind, ticket)?;
+        Ok(Part::Waits { id, ticket })
+    }
+
+    /// What becomes of the candidate of a kind.
+    fn decide(
+        &mut self,
+        draft: &Draft<'_>,
+        kind: Kind,
+        candidate: Option<(u64, Item)>,
+    ) -> Result<Part, Stop>
+        requires { IsSound candidate }
+        ensures { (next : APart → ACustomer → Plan)
+            → Comes (after (plans.decide draft.now.number draft.now.units kind candidate (drafted draft.now) next) self.old)
+            result (λ part. after (next part (with_part draft.now.units kind part (drafted draft.now))) self.new) }
+    {
+        let Some((id, item)) = candidate else {
+            return Ok(Part::Nothing);
+        };
+        if draft.has(kind, id) {
+            return Ok(Part::Already { id });
+        }
+        if draft.is_full() {
+            return Ok(Part::Full { id });
+        }
+        let units = draft.units;
+        if units > item.free {
+            return self.line_up(draft, kind, id);
+        }
+        let booked = Item {
+            used: item.used + units,
+            free: item.free - units,
+            ..item
+        };
+        self.put_item(kind, id, booked)?;
+        Ok(Part::Booked {
+            id,
+            units,
+            price: item.price,
+        })
+    }
+
+    /// Puts the customer where it is new or changed.
+    fn put_changed(&mut self, draft: &Draft<'_>) -> Result<(), Stop>
+        ensures { (next : Plan)
+            → Comes (after (plans.put_changed draft.now.number (option_copied draft.now.found) (is_changed draft.now)
+            (drafted draft.now) next) self.old) result (λ _. after next self.new) }
+    {
+        if draft.found.is_some() && !draft.is_changed() {
+            return Ok(());
+        }
+        if self.passes() {
+            return Ok(());
+        }
+        let who = draft.customer(self.allocator())?;
+        Err(put_customer(draft.number, who))
+    }
+
+    fn decide_all(
+        &mut self,
+        number: u64,
+        units: u64,
+        best: &Each<Option<(u64, Item)>>,
+        found: Option<&Customer>,
+    ) -> Result<ActionReply, Stop>
+        requires { IsSound best.now.car × IsSound best.now.flight × IsSound best.now.room }
+        ensures { Comes (after (plans.decide_all number units best.now.car best.now.flight best.now.room
+            (option_copied found.entry)) self.old) result (λ reply. Answers reply) }
+    {
+        let mut draft = Draft {
+            number,
+            units,
+            found,
+            car: Part::Nothing,
+            flight: Part::Nothing,
+            room: Part::Nothing,
+        };
+        draft.car = self.decide(&draft, Kind::Car, best.car)?;
+        draft.flight = self.decide(&draft, Kind::Flight, best.flight)?;
+        draft.room = self.decide(&draft, Kind::Room, best.room)?;
+        self.put_changed(&draft)?;
+        Ok(ActionReply::Reserved {
+            parts: Each {
+                car: draft.car,
+                flight: draft.flight,
+                room: draft.room,
+            },
+        })
+    }
+
+    pub(crate) fn reserve(
+        &mut self,
+        customer: u64,
+        units: u64,
+        asks: &[Ask],
+    ) -> Result<ActionReply, Stop>
+        ensures { Comes (after (plans.reserve customer units asks.now) self.old) result (λ reply. Answers reply) }
+    {
+        let best = self.gather(asks)?;
+        if no_candidate(&best) {
+            return Ok(ActionReply::Reserved {
+                parts: Each {
+                    car: Part::Nothing,
+                    flight: Part::Nothing,
+                    room: Part::Nothing,
+                },
+            });
+        }
+        let found = self.get_customer(customer)?;
+        self.decide_all(customer, units, &best, found)
+    }
+}

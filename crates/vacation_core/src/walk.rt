@@ -1,0 +1,369 @@
+//! The walk along a session's plan by the replies so far: each call of the plan takes its reply off, or is what is asked next.
+ghost use Rattle.std.specs.Prelude.{◌≡◌, ◌≤◌, ◌∷◌, ℕ, List, [], Option, true, false, IsTrue, IfOk, MatchOption};
+ghost use Rattle.std.specs.List.{list_all};
+ghost use Rattle.std.specs.Option.{option_copied};
+ghost use Rattle.seq_model.specs.declared.call.Reply.{Reply as AReply};
+ghost use Rattle.tx_engine.specs.Programs.{after};
+ghost use Rattle.tx_engine.specs.Programs.{Asks as Due};
+ghost use Rattle.vac_model.specs.Balanced.{IsItemSound};
+ghost use Rattle.vac_model.specs.declared.item.Item.{Item as AnItem};
+ghost use Rattle.vac_model.specs.declared.item.Customer.{Customer as ACustomer};
+ghost use Rattle.vac_model.specs.declared.item.Ticket.{Ticket as ATicket};
+ghost use Rattle.vacation_core.specs.declared.entry.Entry.{Entry as AnEntry};
+ghost use Rattle.vacation_core.specs.declared.walk.Stop.TheVariants.{OutOfMemory};
+ghost use Rattle.vacation_core.specs.Sessions as plans;
+ghost use Rattle.vacation_core.specs.Sessions.{Plan};
+ghost use Rattle.vacation_core.specs.Left.{replies_in};
+ghost use Rattle.vacation_core.specs.Walks.{Comes, IsStop};
+
+use crate::entry::Entry;
+use seq_model::{Call, Memory, Op, Reply};
+use std::alloc::{AllocError, Global};
+use std::marker::Model;
+use vac_model::{
+    AMOUNT_LIMIT, Booking, Customer, Item, Kind, TICKET_LIMIT, Ticket, are_units, is_item_sound,
+};
+
+/// Why a walk does not come to the end of its plan.
+#[derive(Drop)]
+pub(crate) enum Stop {
+    /// This call is asked next.
+    Asks(Call<Entry>),
+    /// No balanced tables answer so.
+    GivesUp,
+    /// A growth was refused.
+    OutOfMemory,
+}
+
+impl From<Memory> for Stop {
+    ghost from_gives = { λ _ stop. stop ≡ OutOfMemory };
+
+    fn from(_error: Memory) -> Stop {
+        Stop::OutOfMemory
+    }
+}
+
+impl From<AllocError> for Stop {
+    ghost from_gives = { λ _ stop. stop ≡ OutOfMemory };
+
+    fn from(_error: AllocError) -> Stop {
+        Stop::OutOfMemory
+    }
+}
+
+/// The replies that no call was found for yet: alone, or each behind its call.
+#[derive(Clone, Copy)]
+pub(crate) enum Left<'a> {
+    Replies(&'a [Reply<Entry>]),
+    Calls(&'a [(Call<Entry>, Reply<Entry>)]),
+}
+
+/// A walk along a plan by the replies to its calls.
+#[derive(Drop)]
+pub(crate) struct Walk<'a> {
+    alloc: Global,
+    left: Left<'a>,
+}
+
+impl<'a> Model for Walk<'a> {
+    ghost use Rattle.std.specs.Prelude.{List};
+    ghost use Rattle.seq_model.specs.declared.call.Reply.{Reply as AReply};
+    ghost use Rattle.vacation_core.specs.declared.entry.Entry.{Entry as AnEntry};
+    ghost use Rattle.vacation_core.specs.Left.{replies_in};
+
+    ghost Value = { List (AReply AnEntry) };
+
+    ghost view = { λ a. replies_in a.left };
+}
+
+// The numbers of the maps of customers and of tickets, and of the word that is the next ticket.
+const CUSTOMERS: u32 = 3;
+
+const TICKETS: u32 = 4;
+
+const NEXT_TICKET: u32 = 0;
+
+/// The number of the map of a kind's items.
+fn map_of(kind: Kind) -> u32
+    ensures { result ≡ plans.map_of kind }
+{
+    match kind {
+        Kind::Car => 0,
+        Kind::Flight => 1,
+        Kind::Room => 2,
+    }
+}
+
+/// The number of the queue of a kind.
+fn queue_of(kind: Kind) -> u32
+    ensures { result ≡ plans.queue_of kind }
+{
+    match kind {
+        Kind::Car => 5,
+        Kind::Flight => 6,
+        Kind::Room => 7,
+    }
+}
+
+// ---- what a reply says: the plan gives up where no balanced tables answer it
+
+fn item_in(reply: &Reply<Entry>) -> Result<Option<Item>, Stop>
+    ensures comes { (next : Option AnItem → Plan) (left : List (AReply AnEntry))
+        → Comes (after (plans.item_in reply.now next) left) result (λ item. after (next item) left) }
+    ensures sound { IfOk result (λ item. (i : AnItem) → item ≡ Some i → IsItemSound i) }
+{
+    match reply {
+        Reply::Nothing => Ok(None),
+        Reply::Value(Entry::Item(item)) => {
+            if is_item_sound(item) {
+                Ok(Some(*item))
+            } else {
+                Err(Stop::GivesUp)
+            }
+        }
+        _ => Err(Stop::GivesUp),
+    }
+}
+
+fn is_booking_within(booking: &Booking) -> bool
+    ensures { result ≡ plans.is_booking_within booking.now }
+{
+    are_units(booking.units) && booking.price <= AMOUNT_LIMIT
+}
+
+fn are_bookings_within(bookings: &[Booking]) -> bool
+    ensures { result ≡ list_all plans.is_booking_within bookings.now }
+{
+    for booking in bookings {
+        if !is_booking_within(booking) {
+            return false;
+        }
+    }
+    true
+}
+
+fn is_customer_within(who: &Customer) -> bool
+    ensures { result ≡ plans.is_customer_within who.now }
+{
+    who.has_few_places() && are_bookings_within(who.bookings.as_slice())
+}
+
+fn customer_in(reply: &Reply<Entry>) -> Result<Option<&Customer>, Stop>
+    ensures comes { (next : Option ACustomer → Plan) (left : List (AReply AnEntry))
+        → Comes (after (plans.customer_in reply.now next) left) result (λ who. after (next (option_copied who)) left) }
+    ensures within { IfOk result (λ who. (w : ACustomer) → option_copied who ≡ Some w → plans.is_customer_within w ≡ true) }
+{
+    match reply {
+        Reply::Nothing => Ok(None),
+        Reply::Value(Entry::Customer(who)) => {
+            if is_customer_within(who) {
+                Ok(Some(who))
+            } else {
+                Err(Stop::GivesUp)
+            }
+        }
+        _ => Err(Stop::GivesUp),
+    }
+}
+
+fn ticket_in(reply: &Reply<Entry>) -> Result<Option<Ticket>, Stop>
+    ensures { (next : Option ATicket → Plan) (left : List (AReply AnEntry))
+        → Comes (after (plans.ticket_in reply.now next) left) result (λ ticket. after (next ticket) left) }
+{
+    match reply {
+        Reply::Nothing => Ok(None),
+        Reply::Value(Entry::Ticket(ticket)) => Ok(Some(*ticket)),
+        _ => Err(Stop::GivesUp),
+    }
+}
+
+fn first_in(reply: &Reply<Entry>) -> Result<Option<u64>, Stop>
+    ensures { (next : Option ℕ → Plan) (left : List (AReply AnEntry))
+        → Comes (after (plans.first_in reply.now next) left) result (λ first. after (next first) left) }
+{
+    match reply {
+        Reply::Nothing => Ok(None),
+        Reply::Found(first) => Ok(Some(*first)),
+        _ => Err(Stop::GivesUp),
+    }
+}
+
+fn next_in(reply: &Reply<Entry>) -> Result<u64, Stop>
+    ensures comes { (next : ℕ → Plan) (left : List (AReply AnEntry))
+        → Comes (after (plans.next_in reply.now next) left) result (λ number. after (next number) left) }
+    ensures within { IfOk result (λ number. number ≤ TICKET_LIMIT) }
+{
+    match reply {
+        Reply::Number(number) => {
+            if *number <= TICKET_LIMIT {
+                Ok(*number)
+            } else {
+                Err(Stop::GivesUp)
+            }
+        }
+        _ => Err(Stop::GivesUp),
+    }
+}
+
+/// A customer is to be put.
+pub(crate) fn put_customer(customer: u64, who: Customer) -> Stop
+    ensures { (next : Plan) → IsStop result (plans.put_customer customer who next) }
+{
+    let op = Op::Put(customer, Entry::Customer(who));
+    Stop::Asks(Call {
+        target: CUSTOMERS,
+        op,
+    })
+}
+
+impl<'a> Walk<'a> {
+    pub(crate) fn new(alloc: Global, left: Left<'a>) -> Walk<'a>
+        ensures { result ≡ replies_in left.entry }
+    {
+        Walk { alloc, left }
+    }
+
+    pub(crate) fn allocator(&self) -> Global {
+        self.alloc
+    }
+
+    /// Takes the next reply off, where there is one.
+    fn next(&mut self) -> Option<&'a Reply<Entry>>
+        ensures { MatchOption result ((self.old ≡ []) × (self.new ≡ [])) (λ reply. self.old ≡ reply.now ∷ self.new) }
+    {
+        let left = self.left;
+        match left {
+            Left::Replies([reply, left @ ..]) => {
+                self.left = Left::Replies(left);
+                Some(reply)
+            }
+            Left::Calls([(_, reply), left @ ..]) => {
+                self.left = Left::Calls(left);
+                Some(reply)
+            }
+            _ => None,
+        }
+    }
+
+    /// The reply to a call; without one, this is what is asked.
+    fn reply(&mut self, target: u32, op: Op<Entry>) -> Result<&'a Reply<Entry>, Stop>
+        ensures { (next : AReply AnEntry → Plan)
+            → Comes (after (Due (plans.on target op) next) self.old) result (λ reply. after (next reply.now) self.new) }
+    {
+        match self.next() {
+            Some(reply) => Ok(reply),
+            None => Err(Stop::Asks(Call { target, op })),
+        }
+    }
+
+    // ---- items
+
+    pub(crate) fn get_item(&mut self, kind: Kind, id: u64) -> Result<Option<Item>, Stop>
+        ensures comes { (next : Option AnItem → Plan)
+            → Comes (after (plans.get_item kind id next) self.old) result (λ item. after (next item) self.new) }
+        ensures sound { IfOk result (λ item. (i : AnItem) → item ≡ Some i → IsItemSound i) }
+    {
+        let reply = self.reply(map_of(kind), Op::Get(id))?;
+        item_in(reply)
+    }
+
+    pub(crate) fn put_item(&mut self, kind: Kind, id: u64, item: Item) -> Result<(), Stop>
+        ensures { (next : Plan) → Comes (after (plans.put_item kind id item next) self.old) result (λ _. after next self.new) }
+    {
+        self.reply(map_of(kind), Op::Put(id, Entry::Item(item)))?;
+        Ok(())
+    }
+
+    pub(crate) fn remove_item(&mut self, kind: Kind, id: u64) -> Result<(), Stop>
+        ensures { (next : Plan) → Comes (after (plans.remove_item kind id next) self.old) result (λ _. after next self.new) }
+    {
+        self.reply(map_of(kind), Op::Remove(id))?;
+        Ok(())
+    }
+
+    // ---- customers
+
+    pub(crate) fn get_customer(&mut self, customer: u64) -> Result<Option<&'a Customer>, Stop>
+        ensures comes { (next : Option ACustomer → Plan)
+            → Comes (after (plans.get_customer customer next) self.old) result (λ who. after (next (option_copied who)) self.new) }
+        ensures within { IfOk result (λ who. (w : ACustomer) → option_copied who ≡ Some w → plans.is_customer_within w ≡ true) }
+    {
+        let reply = self.reply(CUSTOMERS, Op::Get(customer))?;
+        customer_in(reply)
+    }
+
+    /// Whether the call that is due has its reply: then it is passed over. So what the call would put is made only to be asked.
+    pub(crate) fn passes(&mut self) -> bool
+        ensures passed { IsTrue result → (reply : AReply AnEntry) × (self.old ≡ reply ∷ self.new) }
+        ensures due { result ≡ false → self.old ≡ [] }
+    {
+        self.next().is_some()
+    }
+
+    pub(crate) fn remove_customer(&mut self, customer: u64) -> Result<(), Stop>
+        ensures { (next : Plan) → Comes (after (plans.remove_customer customer next) self.old) result (λ _. after next self.new) }
+    {
+        self.reply(CUSTOMERS, Op::Remove(customer))?;
+        Ok(())
+    }
+
+    // ---- tickets and queues
+
+    pub(crate) fn get_ticket(&mut self, number: u64) -> Result<Option<Ticket>, Stop>
+        ensures { (next : Option ATicket → Plan)
+            → Comes (after (plans.get_ticket number next) self.old) result (λ ticket. after (next ticket) self.new) }
+    {
+        let reply = self.reply(TICKETS, Op::Get(number))?;
+        ticket_in(reply)
+    }
+
+    pub(crate) fn put_ticket(&mut self, number: u64, ticket: Ticket) -> Result<(), Stop>
+        ensures { (next : Plan) → Comes (after (plans.put_ticket number ticket next) self.old) result (λ _. after next self.new) }
+    {
+        self.reply(TICKETS, Op::Put(number, Entry::Ticket(ticket)))?;
+        Ok(())
+    }
+
+    pub(crate) fn remove_ticket(&mut self, number: u64) -> Result<(), Stop>
+        ensures { (next : Plan) → Comes (after (plans.remove_ticket number next) self.old) result (λ _. after next self.new) }
+    {
+        self.reply(TICKETS, Op::Remove(number))?;
+        Ok(())
+    }
+
+    pub(crate) fn read_next(&mut self) -> Result<u64, Stop>
+        ensures comes { (next : ℕ → Plan) → Comes (after (plans.read_next next) self.old) result (λ number. after (next number) self.new) }
+        ensures within { IfOk result (λ number. number ≤ TICKET_LIMIT) }
+    {
+        let reply = self.reply(NEXT_TICKET, Op::Read)?;
+        next_in(reply)
+    }
+
+    pub(crate) fn write_next(&mut self, number: u64) -> Result<(), Stop>
+        ensures { (next : Plan) → Comes (after (plans.write_next number next) self.old) result (λ _. after next self.new) }
+    {
+        self.reply(NEXT_TICKET, Op::Write(number))?;
+        Ok(())
+    }
+
+    pub(crate) fn enqueue(&mut self, kind: Kind, number: u64) -> Result<(), Stop>
+        ensures { (next : Plan) → Comes (after (plans.enqueue kind number next) self.old) result (λ _. after next self.new) }
+    {
+        self.reply(queue_of(kind), Op::Enqueue(number))?;
+        Ok(())
+    }
+
+    pub(crate) fn dequeue(&mut self, kind: Kind) -> Result<(), Stop>
+        ensures { (next : Plan) → Comes (after (plans.dequeue kind next) self.old) result (λ _. after next self.new) }
+    {
+        self.reply(queue_of(kind), Op::Dequeue)?;
+        Ok(())
+    }
+
+    pub(crate) fn peek(&mut self, kind: Kind) -> Result<Option<u64>, Stop>
+        ensures { (next : Option ℕ → Plan) → Comes (after (plans.peek kind next) self.old) result (λ first. after (next first) self.new) }
+    {
+        let reply = self.reply(queue_of(kind), Op::Peek)?;
+        first_in(reply)
+    }
+}
