@@ -1,16 +1,15 @@
 -- The number of keys of a map after the accepted changes: each change makes one key new to it, takes one out, or neither, and the reply
 -- of its call says which. With the counts of its stripes, which add up to the number of its keys, that is its length.
-use Rattle.std.proofs.Common.{◌≡◌, ℕ, zero, suc, ◌+◌, ◌-◌, ◌++◌, ◌<◌, ◌==◌, true, false, cond, List, [], Option, Some, None, is_some, unwrap_or, refl, sym, ap, subst, ◌∙◌, arith, true≢false}
+use Rattle.std.proofs.Common.{◌≡◌, ℕ, zero, suc, ◌+◌, ◌-◌, ◌++◌, ◌<◌, true, cond, List, Option, Some, None, is_some, unwrap_or, refl, sym, ap, subst, ◌∙◌, arith, true≢false}
 use Rattle.std.specs.Cmp.{nat_cmp_total}
 use Rattle.std.specs.Ordering.{nat_cmp}
 use Rattle.std.specs.List.{sum}
-use Rattle.std.specs.FinMap.{FinMap, empty, empty_of_len, get, get-empty, insert, len, len-insert, len-remove, remove}
+use Rattle.std.specs.FinMap.{FinMap, empty_of_len, get, get-empty, insert, len, len-insert, len-remove, remove}
 use Rattle.seq_model.specs.declared.call.Op.{Op}
 use Rattle.seq_model.specs.declared.call.Op.TheVariants.{Put, Remove, Len}
 use Rattle.seq_model.specs.declared.call.Reply.{Reply}
 use Rattle.seq_model.specs.declared.call.Reply.TheVariants.{Number}
 use Rattle.seq_model.specs.Calls.{value_reply}
-use Rattle.seq_model.specs.Counts.{Multiset}
 use Rattle.conflict.specs.declared.change.Change.{Change}
 use Rattle.conflict.specs.declared.outcome.Outcome.{Outcome}
 use Rattle.conflict.specs.declared.outcome.Note.TheVariants.{Plain}

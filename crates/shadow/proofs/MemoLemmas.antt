@@ -1,9 +1,8 @@
 -- What a memo keeps of the keys that it holds is what the collection of which they were touched shows there after the accepted
 -- changes. A change is of one key, so it leaves what is known of the others; and a key that isn't held was changed by none of them,
 -- so that what is touched of it later is what the collection still shows there.
-use Rattle.std.proofs.Common.{◌≡◌, ℕ, zero, suc, ◌+◌, ◌-◌, ◌++◌, ◌==◌, Bool, true, false, cond, List, [], ◌∷◌, Option, Some, None, is_some, nat_lt, unwrap_or, refl, sym, ap, subst, ◌∙◌, arith, true≢false}
+use Rattle.std.proofs.Common.{◌≡◌, ℕ, suc, ◌+◌, ◌-◌, ◌++◌, ◌==◌, true, false, cond, List, [], Option, Some, None, is_some, nat_lt, unwrap_or, refl, sym, ap, subst, ◌∙◌, arith, true≢false}
 use Rattle.std.specs.Cmp.{nat_cmp_total}
-use Rattle.std.specs.List.{fold}
 use Rattle.std.specs.Ordering.{nat_cmp, eq_by_cmp}
 use Rattle.std.specs.FinMap.{FinMap, empty, get, get-empty, insert, get-insert, get-remove}
 use Rattle.std.proofs.lemmas.Bool.Decides.{nat_tests}
@@ -13,7 +12,6 @@ use Rattle.seq_model.specs.declared.call.Op.TheVariants.{Get, Put, Remove, Len, 
 use Rattle.seq_model.specs.declared.call.Reply.{Reply}
 use Rattle.seq_model.specs.declared.call.Reply.TheVariants.{Done, Full, Value, Number, Yes, No}
 use Rattle.seq_model.specs.declared.limits.TheConstants.{COPY_LIMIT}
-use Rattle.seq_model.specs.Calls.{value_reply}
 use Rattle.seq_model.specs.Counts.{Multiset, copies}
 use Rattle.conflict.specs.declared.change.Change.{Change}
 use Rattle.conflict.specs.declared.change.Change.TheVariants as change

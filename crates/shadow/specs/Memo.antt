@@ -9,7 +9,7 @@ use Rattle.seq_model.specs.declared.call.Reply.{Reply}
 use Rattle.seq_model.specs.declared.call.Reply.TheVariants.{Done, Nothing, Number, Value, Yes}
 use Rattle.seq_model.specs.declared.limits.TheConstants.{COPY_LIMIT}
 use Rattle.seq_model.specs.Calls.{value_reply}
-use Rattle.seq_model.specs.Counts.{Multiset, copies}
+use Rattle.seq_model.specs.Counts.{copies}
 use Rattle.conflict.specs.declared.change.Change.{Change}
 use Rattle.conflict.specs.declared.outcome.Outcome.{Outcome}
 use Rattle.conflict.specs.declared.outcome.Note.TheVariants.{Plain}

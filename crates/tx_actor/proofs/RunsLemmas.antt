@@ -6,17 +6,15 @@ use Rattle.std.proofs.Common.{subst, take, drop, ◌+◌, ◌++◌, get_or}
 use Rattle.word_machine.specs.Actor.{Actor}
 use Rattle.word_machine.specs.Requests.{ask, AskRelease}
 use Rattle.word_machine.proofs.Sets.{put-same}
-use Rattle.tx_sets.specs.Entries.{locations}
-use Rattle.collection_machine.specs.Boosted.{every, is_given}
-use Rattle.replay_log.specs.Contents.{content}
 use Rattle.seq_model.specs.declared.event.Notice.{Notice}
 use Rattle.seq_model.specs.declared.event.Notice.TheVariants.{Quiet}
 use Rattle.seq_model.specs.declared.refusal.Refusal.TheVariants as refusal
 use Rattle.replay_log.specs.Worlds.{World, Seat, After, Stage, Gating, Ready, Homing, Releasing, Returning, takes_gates, more_tries, goes_home, at_stage, because, cancels, gives_up, has_tried, actor_of}
-use Rattle.tx_actor.specs.Shows.{Shows, cancelled, ending}
+use Rattle.tx_actor.specs.Shows.{cancelled, ending}
+use Rattle.tx_actor.specs.Dispatch.{MayRelease}
 use Rattle.tx_actor.proofs.ShowsLemmas.{gives_it_up, guarded_asked}
 
-not_none : (n : ℕ) → eqb (suc n) 0 ≡ true → ⊥
+pub not_none : (n : ℕ) → eqb (suc n) 0 ≡ true → ⊥
 not_none n len =
     let e : suc n ≡ 0 = eqb-true (suc n) 0 len in
     omega arith
@@ -36,44 +34,45 @@ at_next i xs k d ks lt e =
     )
 
 module _ {V : Type 0} where
-  pub cancels_as : (a : ℕ) (z p : Seat V) (y q : Actor) (w : World V) → q ≡ cancelled y → p ≡ ending z q → actor_of w a ≡ y
-      → Shows a p q (cancels w a z)
-  cancels_as a z p y q w e pe s =
-      let g = gives_it_up a (w.seats a) z y w (refl, s) in
-      (g.0.0 ∙ sym (pe ∙ ap (ending z) e), g.0.1 ∙ sym e)
+  -- actor a of the world w has the seat p and the word actor q, and K holds
+  abbrev pub Seats : ℕ → Seat V → Actor → Type 0 → World V → Type 0
+  Seats a p q K w = (w.seats a ≡ p) × (actor_of w a ≡ q) × K
 
-  pub returns_as : (a : ℕ) (z p : Seat V) (q : Actor) (w : World V) (ks : List ℕ) → eqb (length ks) 0 ≡ false
+  pub cancels_as : (a : ℕ) (z p : Seat V) (y q : Actor) (K : Type 0) (w : World V) → K → q ≡ cancelled y → p ≡ ending z q
+      → actor_of w a ≡ y → Seats a p q K (cancels w a z)
+  cancels_as a z p y q K w k e pe s =
+      let g = gives_it_up a (w.seats a) z y w (refl, s) in
+      (g.0.0 ∙ sym (pe ∙ ap (ending z) e), g.0.1 ∙ sym e, k)
+
+  pub returns_as : (a : ℕ) (z p : Seat V) (q : Actor) (K : Type 0) (w : World V) (ks : List ℕ) → K → eqb (length ks) 0 ≡ false
       → p ≡ at_stage z (Returning ks) → actor_of w a ≡ q
-      → Shows a p q (gives_up w a z ks).0 × (Quiet ≡ (gives_up w a z ks).1)
-  returns_as a z p q w [] len e s = absurd (true≢false len)
-  returns_as a z p q w (k ∷ ks) len e s = ((put-same w.seats a _ ∙ sym e, s), refl)
+      → Seats a p q K (gives_up w a z ks).0 × (Quiet ≡ (gives_up w a z ks).1)
+  returns_as a z p q K w [] k len e s = absurd (true≢false len)
+  returns_as a z p q K w (i ∷ ks) k len e s = ((put-same w.seats a _ ∙ sym e, s, k), refl)
 
   -- a gate that was tried: found free, taken and tried again, taken at the last try
-  pub tried_free : (a : ℕ) (x p : Seat V) (q : Actor) (w : World V) (free : Bool) (k : ℕ) (got : List ℕ)
+  pub tried_free : (a : ℕ) (x p : Seat V) (q : Actor) (K : Type 0) (w : World V) (free : Bool) (k : ℕ) (got : List ℕ)
       (again : ℕ → Stage V) (next : Stage V) (n : ℕ)
-      → free ≡ true → p ≡ at_stage x next → actor_of w a ≡ q
-      → Shows a p q (has_tried w a x free k got again next n).0 × (Quiet ≡ (has_tried w a x free k got again next n).1)
-  tried_free a x p q w true k got again next n is e s = ((put-same w.seats a _ ∙ sym e, s), refl)
-  tried_free a x p q w false k got again next n is e s = absurd (true≢false (sym is))
+      → K → free ≡ true → p ≡ at_stage x next → actor_of w a ≡ q
+      → Seats a p q K (has_tried w a x free k got again next n).0 × (Quiet ≡ (has_tried w a x free k got again next n).1)
+  tried_free a x p q K w true k got again next n known is e s = ((put-same w.seats a _ ∙ sym e, s, known), refl)
+  tried_free a x p q K w false k got again next n known is e s = absurd (true≢false (sym is))
 
-  pub tried_again : (a : ℕ) (x p : Seat V) (q : Actor) (w : World V) (free : Bool) (k : ℕ) (got : List ℕ)
+  pub tried_again : (a : ℕ) (x p : Seat V) (q : Actor) (K : Type 0) (w : World V) (free : Bool) (k : ℕ) (got : List ℕ)
       (again : ℕ → Stage V) (next : Stage V) (n : ℕ)
-      → free ≡ false → 0 < n → p ≡ at_stage x (again (n - 1)) → actor_of w a ≡ q
-      → Shows a p q (has_tried w a x free k got again next n).0 × (Quiet ≡ (has_tried w a x free k got again next n).1)
-  tried_again a x p q w true k got again next n is lt e s = absurd (true≢false is)
-  tried_again a x p q w false k got again next zero is lt e s = absurd (omega arith)
-  tried_again a x p q w false k got again next (suc n) is lt e s =
+      → K → free ≡ false → 0 < n → p ≡ at_stage x (again (n - 1)) → actor_of w a ≡ q
+      → Seats a p q K (has_tried w a x free k got again next n).0 × (Quiet ≡ (has_tried w a x free k got again next n).1)
+  tried_again a x p q K w true k got again next n known is lt e s = absurd (true≢false is)
+  tried_again a x p q K w false k got again next zero known is lt e s = absurd (omega arith)
+  tried_again a x p q K w false k got again next (suc n) known is lt e s =
       let one : suc n - 1 ≡ n = omega arith in
-      ((put-same w.seats a _ ∙ sym (e ∙ ap (λ m. at_stage x (again m)) one), s), refl)
+      ((put-same w.seats a _ ∙ sym (e ∙ ap (λ m. at_stage x (again m)) one), s, known), refl)
 
-  pub tried_last : (a : ℕ) (x p : Seat V) (q : Actor) (w : World V) (free : Bool) (k : ℕ) (got : List ℕ)
-      (again : ℕ → Stage V) (next : Stage V) (n : ℕ) (t : Notice V)
-      → free ≡ false → n ≡ 0
-      → Shows a p q (gives_up w a (because x (refusal.GateBusy k)) got).0 × (t ≡ (gives_up w a (because x (refusal.GateBusy k)) got).1)
-      → Shows a p q (has_tried w a x free k got again next n).0 × (t ≡ (has_tried w a x free k got again next n).1)
-  tried_last a x p q w true k got again next n t is none s = absurd (true≢false is)
-  tried_last a x p q w false k got again next zero t is none s = s
-  tried_last a x p q w false k got again next (suc n) t is none s = absurd (omega arith)
+  pub last_try : (a : ℕ) (x : Seat V) (w : World V) (free : Bool) (k : ℕ) (got : List ℕ) (again : ℕ → Stage V) (next : Stage V) (n : ℕ)
+      → free ≡ false → n ≡ 0 → has_tried w a x free k got again next n ≡ gives_up w a (because x (refusal.GateBusy k)) got
+  last_try a x w true k got again next n is none = absurd (true≢false is)
+  last_try a x w false k got again next zero is none = refl
+  last_try a x w false k got again next (suc n) is none = absurd (omega arith)
 
   pub gates_none : (ks : List ℕ) → eqb (length ks) 0 ≡ true → Ready ks ≡ takes_gates {V = V} [] ks
   gates_none [] len = refl
@@ -84,28 +83,24 @@ module _ {V : Type 0} where
   gates_some (k ∷ ks) len = refl
 
   -- the bases are home, and no gate is held any more: the locks are released
-  pub home_none : (a : ℕ) (x p : Seat V) (y q : Actor) (w : World V) (ks : List ℕ) → eqb (length ks) 0 ≡ true
-      → every (is_given (content w.words w.blocks) w.boosted a) (locations (actor_of w a).writes) ≡ true
+  pub home_none : (a : ℕ) (x p : Seat V) (y q : Actor) (K : Type 0) (w : World V) (ks : List ℕ) → K → eqb (length ks) 0 ≡ true
+      → MayRelease a w ks
       → p ≡ at_stage x Releasing → q ≡ ask y y.place AskRelease → actor_of w a ≡ y
-      → Shows a p q (goes_home w a x ks).0 × (Quiet ≡ (goes_home w a x ks).1)
-  home_none a x p y q w [] len is e eq s =
-      ((put-same w.seats a _ ∙ sym e, guarded_asked a w AskRelease _ is ∙ (ap (λ (z : Actor). ask z z.place AskRelease) s ∙ sym eq)), refl)
-  home_none a x p y q w (k ∷ ks) len is e eq s = absurd (not_none (length ks) len)
+      → Seats a p q K (goes_home w a x ks).0 × (Quiet ≡ (goes_home w a x ks).1)
+  home_none a x p y q K w [] known len is e eq s = (
+    (put-same w.seats a _ ∙ sym e, guarded_asked a w AskRelease _ is ∙ (ap (λ (z : Actor). ask z z.place AskRelease) s ∙ sym eq), known),
+    refl,
+  )
+  home_none a x p y q K w (k ∷ ks) known len is e eq s = absurd (not_none (length ks) len)
 
-  pub home_some : (a : ℕ) (x p : Seat V) (q : Actor) (w : World V) (ks : List ℕ) → eqb (length ks) 0 ≡ false
+  pub home_some : (a : ℕ) (x p : Seat V) (q : Actor) (K : Type 0) (w : World V) (ks : List ℕ) → K → eqb (length ks) 0 ≡ false
       → p ≡ at_stage x (Homing ks) → actor_of w a ≡ q
-      → Shows a p q (goes_home w a x ks).0 × (Quiet ≡ (goes_home w a x ks).1)
-  home_some a x p q w [] len e s = absurd (true≢false len)
-  home_some a x p q w (k ∷ ks) len e s = ((put-same w.seats a _ ∙ sym e, s), refl)
+      → Seats a p q K (goes_home w a x ks).0 × (Quiet ≡ (goes_home w a x ks).1)
+  home_some a x p q K w [] known len e s = absurd (true≢false len)
+  home_some a x p q K w (k ∷ ks) known len e s = ((put-same w.seats a _ ∙ sym e, s, known), refl)
 
   pub gates_next : (i : ℕ) (ks : List ℕ) → i < length ks
       → Gating (take i ks) (drop i ks) more_tries ≡ takes_gates {V = V} (take i ks) (drop i ks)
   gates_next i ks lt =
       let e = drop-cons ks i 0 lt in
       (λ j. Gating (take i ks) (e j) more_tries) ∙ sym (λ j. takes_gates (take i ks) (e j))
-
-  pub busy_as : (a : ℕ) (x p : Seat V) (q : Actor) (w : World V) (t : Notice V) (j k : ℕ) (held got : List ℕ) → j ≡ k → held ≡ got
-      → Shows a p q (gives_up w a (because x (refusal.GateBusy j)) held).0 × (t ≡ (gives_up w a (because x (refusal.GateBusy j)) held).1)
-      → Shows a p q (gives_up w a (because x (refusal.GateBusy k)) got).0 × (t ≡ (gives_up w a (because x (refusal.GateBusy k)) got).1)
-  busy_as a x p q w t j k held got e f h =
-      subst (λ (z : After V). Shows a p q z.0 × (t ≡ z.1)) (λ i. gives_up w a (because x (refusal.GateBusy (e i))) (f i)) h

@@ -7,7 +7,6 @@ use Rattle.replay_log.specs.Pieces as pieces
 use Rattle.replay_log.specs.Contents as contents
 use Rattle.replay_log.specs.Worlds as worlds
 use Rattle.replay_log.specs.Worlds.{World, Seat, After}
-use Rattle.tx_actor.specs.Shows.{Shows}
 use Rattle.tx_actor.specs.declared.actor.Piece.{Piece}
 use Rattle.tx_actor.specs.declared.actor.Piece.TheVariants as piece
 use Rattle.tx_actor.specs.declared.actor.Asked.{Asked}
@@ -39,7 +38,7 @@ module _ {V : Type 0} where
   stage_of stage.Idle = worlds.Idle
   stage_of stage.Beginning = worlds.Beginning
   stage_of stage.Open = worlds.Open
-  stage_of stage.Locking = worlds.Locking
+  stage_of (stage.Locking homes) = worlds.Locking
   stage_of stage.Releasing = worlds.Releasing
   stage_of stage.Closing = worlds.Closing
   stage_of stage.Cancelling = worlds.Cancelling
@@ -53,6 +52,7 @@ module _ {V : Type 0} where
   stage_of (stage.Storing homes) = worlds.Storing homes.items
   stage_of (stage.Homing homes) = worlds.Homing homes.items
   stage_of (stage.Returning homes) = worlds.Returning homes.items
+  stage_of (stage.ReturningOne k) = worlds.Returning (k ∷ [])
 
   abbrev pub seat_of : TxActor V → Seat V
   seat_of r =
@@ -71,9 +71,14 @@ module _ {V : Type 0} where
   notice_of a (told.Answered x) = Answered a x
   notice_of a (told.Refused x) = Refused a x
 
-  -- r is actor a of the world w
+  -- the collections whose gates a commit is to take are those that its actor has written
+  abbrev pub KnowsHomes : Stage V → List ℕ → Type 0
+  KnowsHomes (stage.Locking homes) ks = homes.items ≡ ks
+  KnowsHomes stage ks = Unit {0}
+
+  -- r is actor a of the world w: its seat and its word actor are those that r shows
   abbrev pub Runs : ℕ → TxActor V → World V → Type 0
-  Runs a r w = Shows a (seat_of r) (words.actor_of r.words) w
+  Runs a r w = (w.seats a ≡ seat_of r) × (worlds.actor_of w a ≡ words.actor_of r.words) × KnowsHomes r.stage (worlds.written_homes w a)
 
   -- In every world in which r is an actor, it is u after f, which tells t.
   abbrev pub Does : TxActor V → TxActor V → Told V → (ℕ → World V → After V) → Type 0
@@ -83,3 +88,7 @@ module _ {V : Type 0} where
   abbrev pub Reseats : TxActor V → TxActor V → Told V → (ℕ → World V → After V) → Type 0
   Reseats r u t f = (a : ℕ) (w : World V) → worlds.actor_of w a ≡ words.actor_of r.words
       → Runs a u (f a w).0 × (notice_of a t ≡ (f a w).1)
+
+  -- r, at this stage
+  abbrev pub at : TxActor V → Stage V → TxActor V
+  at r s = record r { stage = s }

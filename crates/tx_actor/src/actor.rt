@@ -32,7 +32,6 @@ pub enum Stage<V> {
     Idle,
     Beginning,
     Open,
-    Locking,
     Releasing,
     Closing,
     Cancelling,
@@ -44,6 +43,8 @@ pub enum Stage<V> {
     Copying(Asked<V>),
     /// The first of these locations is read, to be judged by the edition that was copied.
     Loading(Answered<V>, VecDeque<(u32, u64)>),
+    /// These collections have a written location.
+    Locking(VecDeque<u32>),
     /// The gates of the first of these collections are held, and the next one is tried, with so many tries left after this one.
     Gating(VecDeque<u32>, usize, u32),
     /// The gates of these are held, and the first value store is next.
@@ -53,6 +54,8 @@ pub enum Stage<V> {
     Homing(VecDeque<u32>),
     /// The gates of these are to be put back, their bases unchanged.
     Returning(VecDeque<u32>),
+    /// The gate of this one is to be put back, its base unchanged.
+    ReturningOne(u32),
 }
 
 /// What a step or a request tells.

@@ -17,6 +17,7 @@ ghost use Rattle.tx_actor.specs.declared.copies.Copied.{Copied};
 ghost use Rattle.tx_actor.specs.declared.copies.Copied.TheVariants.{Keys};
 ghost use Rattle.tx_actor.specs.Copies.{IsAccepted, IsCopied, IsLearnt, IsOf, ShowParts, answer_of, answered_on, has_piece, holds_call};
 ghost use Rattle.tx_actor.specs.Accepts.{Accepts, PutsBack};
+ghost use Rattle.tx_actor.specs.Dispatch.{AreSteps};
 ghost use Rattle.tx_actor.specs.Judged.{IsJudged};
 ghost use Rattle.tx_actor.specs.Shows.{GivesUp, AsksStores, CopiesForCall, ReadsNext};
 
@@ -46,6 +47,12 @@ pub fn copies_as_worlds<V>()
 /// A location that no set has is read next, in every world that shows the actor.
 pub fn reads_next_as_worlds<V>()
     ensures { ReadsNext V }
+{}
+
+/// A step of the definitions is the atomic action that is due, on the word or the gate that [`crate::Next`] names, and then what the
+/// methods of the stages make of it; the load of a call's location apart.
+pub fn steps_as_worlds<V>()
+    ensures { AreSteps V }
 {}
 
 /// At the store of a call's gate its actor's shadow gets the parts that the call touches, but for those that have been read.

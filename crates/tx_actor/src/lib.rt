@@ -7,9 +7,12 @@
 mod actor;
 mod calls;
 mod copies;
+mod dispatch;
 mod ending;
 mod judged;
 pub mod laws;
+mod next;
+mod notice;
 mod steps;
 
 pub use actor::{Answered, Asked, Piece, Stage, Told, TxActor};
@@ -17,3 +20,4 @@ pub use calls::has_room;
 pub use copies::{Copied, Found, find};
 pub use ending::cancel;
 pub use judged::{Judged, go_on, judge};
+pub use next::Next;

@@ -4,15 +4,13 @@ ghost use Rattle.std.specs.Vec.{vec_len, vec_capacity};
 ghost use Rattle.word_machine.specs.Notices as notice;
 ghost use Rattle.word_machine.specs.Requests.{ask, AskBegin, AskBeginRead};
 ghost use Rattle.seq_model.specs.declared.event.Request.TheVariants as request;
-ghost use Rattle.tx_sets.specs.Entries.{locations};
-ghost use Rattle.collection_machine.specs.Boosted.{every, is_given};
-ghost use Rattle.replay_log.specs.Contents.{content};
 ghost use Rattle.step_core.specs.Shown.{actor_of};
 ghost use Rattle.seq_model.specs.declared.event.Answer.TheVariants as answer;
 ghost use Rattle.seq_model.specs.declared.event.Notice.TheVariants.{Quiet, Answered};
 ghost use Rattle.replay_log.specs.Worlds as worlds;
 ghost use Rattle.replay_log.specs.Worlds.{is_leaving, no_one, because, seated, recorded, has_begun, has_read, has_cancelled, has_released, has_stored, has_tried, has_locked, takes_gates, written_homes, ended, ask_idle, starve_at, World};
-ghost use Rattle.tx_actor.specs.Running.{Does, Reseats, Runs, asked_of, notice_of, seat_of, stage_of};
+ghost use Rattle.tx_actor.specs.Dispatch.{MayRelease};
+ghost use Rattle.tx_actor.specs.Running.{KnowsHomes, Reseats, Runs, asked_of, notice_of, seat_of, stage_of};
 
 use crate::actor::{Asked, Stage, Told, TxActor};
 use crate::ending::{abort, cancel, release};
@@ -24,7 +22,7 @@ use step_core::{Actor, Place};
 const MORE_TRIES: u32 = 63;
 
 /// Whether there are none.
-fn has_none(homes: &VecDeque<u32>) -> bool
+pub(crate) fn has_none(homes: &VecDeque<u32>) -> bool
     ensures { result ≡ (length homes.now.items == 0) }
 {
     homes.is_empty()
@@ -42,7 +40,8 @@ fn begin(words: &mut Actor, declared: bool)
 
 /// The stage of a transaction that is locked: its gates are tried, where there are some.
 fn gating_or_ready<V: Drop>(homes: VecDeque<u32>) -> Stage<V>
-    ensures { stage_of result ≡ takes_gates [] homes.items }
+    ensures stage { stage_of result ≡ takes_gates [] homes.items }
+    ensures knows { (ks : List ℕ) → KnowsHomes result ks }
 {
     if has_none(&homes) {
         return Stage::Ready(homes);
@@ -53,7 +52,8 @@ fn gating_or_ready<V: Drop>(homes: VecDeque<u32>) -> Stage<V>
 /// The stage of a transaction that holds the gates of so many of these collections.
 fn next_gate<V: Drop>(homes: VecDeque<u32>, got: usize) -> Stage<V>
     requires inside { got ≤ length homes.items }
-    ensures { stage_of result ≡ takes_gates (take got homes.items) (drop got homes.items) }
+    ensures stage { stage_of result ≡ takes_gates (take got homes.items) (drop got homes.items) }
+    ensures knows { (ks : List ℕ) → KnowsHomes result ks }
 {
     if homes.len() <= got {
         return Stage::Ready(homes);
@@ -63,7 +63,8 @@ fn next_gate<V: Drop>(homes: VecDeque<u32>, got: usize) -> Stage<V>
 
 /// The stage of a transaction that is to end: its locks go back, where there are some, and then the clock is loaded.
 fn leaving_or_cancelling<V>(words: &Actor) -> Stage<V>
-    ensures { stage_of result ≡ (if is_leaving (actor_of words.now).place then worlds.Leaving else worlds.Cancelling) }
+    ensures stage { stage_of result ≡ (if is_leaving (actor_of words.now).place then worlds.Leaving else worlds.Cancelling) }
+    ensures knows { (ks : List ℕ) → KnowsHomes result ks }
 {
     match words.place {
         Place::Leave => Stage::Leaving,
@@ -76,6 +77,7 @@ impl<V: Drop> TxActor<V> {
     fn clear(&mut self, stage: Stage<V>, rv: u64)
         ensures seat { seat_of self.new ≡ record no_one { stage = stage_of stage; rv = rv } }
         ensures words { actor_of self.new.words ≡ actor_of self.old.words }
+        ensures knows { (ks : List ℕ) → KnowsHomes stage ks → KnowsHomes self.new.stage ks }
     {
         self.stage = stage;
         self.rv = rv;
@@ -87,7 +89,7 @@ impl<V: Drop> TxActor<V> {
 
     /// A transaction has begun.
     pub fn begun(&mut self, rv: u64) -> Told<V>
-        ensures { Does self.old self.new result (λ a w. has_begun w a (seat_of self.old) (notice.Begun rv)) }
+        ensures { Reseats self.old self.new result (λ a w. has_begun w a (seat_of self.old) (notice.Begun rv)) }
     {
         self.clear(Stage::Open, rv);
         Told::Answered(Answer::Begun(rv))
@@ -95,7 +97,7 @@ impl<V: Drop> TxActor<V> {
 
     /// None begins at this reading of the clock.
     pub fn exhausted(&mut self, clock: u64) -> Told<V>
-        ensures { Does self.old self.new result (λ a w. has_begun w a (seat_of self.old) (notice.Exhausted clock)) }
+        ensures { Reseats self.old self.new result (λ a w. has_begun w a (seat_of self.old) (notice.Exhausted clock)) }
     {
         self.clear(Stage::Idle, 0);
         Told::Refused(Refusal::Exhausted { clock })
@@ -103,7 +105,7 @@ impl<V: Drop> TxActor<V> {
 
     /// The last lock of a commit was given back.
     pub fn released(&mut self) -> Told<V>
-        ensures { Does self.old self.new result (λ a w. has_released w a (seat_of self.old) notice.Released) }
+        ensures { Reseats self.old self.new result (λ a w. has_released w a (seat_of self.old) notice.Released) }
     {
         let number = self.wv;
         self.clear(Stage::Idle, 0);
@@ -112,7 +114,7 @@ impl<V: Drop> TxActor<V> {
 
     /// The clock was loaded that commits a transaction without writes.
     pub fn closed(&mut self) -> Told<V>
-        ensures { Does self.old self.new result (λ a w. (seated (recorded w a (seat_of self.old) false self.old.rv) a no_one, Answered a (answer.Committed self.old.rv))) }
+        ensures { Reseats self.old self.new result (λ a w. (seated (recorded w a (seat_of self.old) false self.old.rv) a no_one, Answered a (answer.Committed self.old.rv))) }
     {
         let number = self.rv;
         self.clear(Stage::Idle, 0);
@@ -121,7 +123,7 @@ impl<V: Drop> TxActor<V> {
 
     /// The clock was loaded that ends an aborted transaction.
     pub fn ended(&mut self) -> Told<V>
-        ensures { Does self.old self.new result (λ a w. ended w a (seat_of self.old)) }
+        ensures { Reseats self.old self.new result (λ a w. ended w a (seat_of self.old)) }
     {
         let cause = self.cause;
         self.clear(Stage::Idle, 0);
@@ -134,7 +136,7 @@ impl<V: Drop> TxActor<V> {
     /// A word was read.
     pub fn read(&mut self, location: u32, value: u64) -> Told<V>
         requires room { vec_len self.old.calls < vec_capacity self.old.calls }
-        ensures { Does self.old self.new result (λ a w. has_read w a (seat_of self.old) location (notice.Number value)) }
+        ensures { Reseats self.old self.new result (λ a w. has_read w a (seat_of self.old) location (notice.Number value)) }
     {
         let call = Call {
             target: location,
@@ -146,7 +148,7 @@ impl<V: Drop> TxActor<V> {
     }
 
     /// It is to end, and holds no gate.
-    fn cancels(&mut self) -> Told<V>
+    pub(crate) fn cancels(&mut self) -> Told<V>
         ensures { Reseats self.old self.new result (λ a w. (worlds.cancels w a (seat_of self.old), Quiet)) }
     {
         cancel(&mut self.words, 0);
@@ -167,7 +169,7 @@ impl<V: Drop> TxActor<V> {
 
     /// It is given up for this cause, and holds no gate.
     pub fn gives_up(&mut self, cause: Refusal) -> Told<V>
-        ensures { Does self.old self.new result (λ a w. worlds.gives_up w a (because (seat_of self.old) cause) []) }
+        ensures { Reseats self.old self.new result (λ a w. worlds.gives_up w a (because (seat_of self.old) cause) []) }
     {
         self.cause = Some(cause);
         self.cancels()
@@ -175,7 +177,7 @@ impl<V: Drop> TxActor<V> {
 
     /// It is given up for this cause, and holds the gates of these collections.
     pub fn gives_up_with(&mut self, cause: Refusal, homes: VecDeque<u32>) -> Told<V>
-        ensures { Does self.old self.new result (λ a w. worlds.gives_up w a (because (seat_of self.old) cause) homes.items) }
+        ensures { Reseats self.old self.new result (λ a w. worlds.gives_up w a (because (seat_of self.old) cause) homes.items) }
     {
         self.cause = Some(cause);
         self.puts_back(homes)
@@ -183,7 +185,7 @@ impl<V: Drop> TxActor<V> {
 
     /// The gate of a call was tried, and found free or not.
     pub fn tried(&mut self, asked: Asked<V>, tries: u32, free: bool) -> Told<V>
-        ensures { Does self.old self.new result (λ a w. has_tried w a (seat_of self.old) free asked.collection [] (λ n. worlds.Trying (asked_of asked) n) (worlds.Copying (asked_of asked)) tries) }
+        ensures { Reseats self.old self.new result (λ a w. has_tried w a (seat_of self.old) free asked.collection [] (λ n. worlds.Trying (asked_of asked) n) (worlds.Copying (asked_of asked)) tries) }
     {
         if free {
             self.stage = Stage::Copying(asked);
@@ -207,7 +209,7 @@ impl<V: Drop> TxActor<V> {
     ) -> Told<V>
         requires next { got < length homes.items }
         ensures { (k : ℕ) (ks : List ℕ) → drop got homes.items ≡ k ∷ ks →
-            Does self.old self.new result (λ a w. has_tried w a (seat_of self.old) free k (take got homes.items) (λ n. worlds.Gating (take got homes.items) (drop got homes.items) n) (takes_gates (take got homes.items ++ k ∷ []) ks) tries) }
+            Reseats self.old self.new result (λ a w. has_tried w a (seat_of self.old) free k (take got homes.items) (λ n. worlds.Gating (take got homes.items) (drop got homes.items) n) (takes_gates (take got homes.items ++ k ∷ []) ks) tries) }
     {
         if free {
             self.stage = next_gate(homes, got + 1);
@@ -225,7 +227,7 @@ impl<V: Drop> TxActor<V> {
 
     /// A transaction is to begin.
     pub fn begins(&mut self) -> Told<V>
-        ensures { Does self.old self.new result (λ a w. ask_idle w a (seat_of self.old) request.Begin) }
+        ensures { Reseats self.old self.new result (λ a w. ask_idle w a (seat_of self.old) request.Begin) }
     {
         begin(&mut self.words, false);
         self.stage = Stage::Beginning;
@@ -234,7 +236,7 @@ impl<V: Drop> TxActor<V> {
 
     /// A transaction that writes nothing is to begin.
     pub fn begins_to_read(&mut self) -> Told<V>
-        ensures { Does self.old self.new result (λ a w. ask_idle w a (seat_of self.old) request.BeginRead) }
+        ensures { Reseats self.old self.new result (λ a w. ask_idle w a (seat_of self.old) request.BeginRead) }
     {
         begin(&mut self.words, true);
         self.stage = Stage::Beginning;
@@ -243,7 +245,7 @@ impl<V: Drop> TxActor<V> {
 
     /// A begin is refused memory.
     pub fn begin_starves(&mut self) -> Told<V>
-        ensures { Does self.old self.new result (λ a w. starve_at w a (seat_of self.old) worlds.Beginning) }
+        ensures { Reseats self.old self.new result (λ a w. starve_at w a (seat_of self.old) worlds.Beginning) }
     {
         abort(&mut self.words, 0);
         self.clear(Stage::Idle, 0);
@@ -252,7 +254,7 @@ impl<V: Drop> TxActor<V> {
 
     /// All is locked and checked, at this number; a location of each of these collections was written.
     pub fn locked(&mut self, number: u64, homes: VecDeque<u32>) -> Told<V>
-        ensures { (a : ℕ) (w : World V) → homes.items ≡ written_homes w a → Runs a self.old w →
+        ensures { (a : ℕ) (w : World V) → homes.items ≡ written_homes w a → worlds.actor_of w a ≡ actor_of self.old.words →
             let f = has_locked w a (seat_of self.old) (notice.LockedAt number) in
             Runs a self.new f.0 × (notice_of a result ≡ f.1) }
     {
@@ -263,7 +265,7 @@ impl<V: Drop> TxActor<V> {
 
     /// The last lock of a transaction that is given up was given back.
     pub fn cancelled(&mut self) -> Told<V>
-        ensures { Does self.old self.new result (λ a w. has_cancelled w a (seat_of self.old) notice.Cancelled) }
+        ensures { Reseats self.old self.new result (λ a w. has_cancelled w a (seat_of self.old) notice.Cancelled) }
     {
         abort(&mut self.words, 0);
         self.stage = Stage::Leaving;
@@ -272,7 +274,7 @@ impl<V: Drop> TxActor<V> {
 
     /// A value was stored, and others are left.
     pub fn stored_one(&mut self, homes: VecDeque<u32>) -> Told<V>
-        ensures { Does self.old self.new result (λ a w. has_stored w a (seat_of self.old) homes.items notice.Quiet) }
+        ensures { Reseats self.old self.new result (λ a w. has_stored w a (seat_of self.old) homes.items notice.Quiet) }
     {
         self.stage = Stage::Storing(homes);
         Told::Quiet
@@ -280,8 +282,7 @@ impl<V: Drop> TxActor<V> {
 
     /// All values are stored, or a base has gone home, and these are still to go.
     pub fn goes_home(&mut self, homes: VecDeque<u32>) -> Told<V>
-        ensures { (a : ℕ) (w : World V) →
-            every (is_given (content w.words w.blocks) w.boosted a) (locations (worlds.actor_of w a).writes) ≡ true → Runs a self.old w →
+        ensures { (a : ℕ) (w : World V) → MayRelease a w homes.items → worlds.actor_of w a ≡ actor_of self.old.words →
             let f = worlds.goes_home w a (seat_of self.old) homes.items in
             Runs a self.new f.0 × (notice_of a result ≡ f.1) }
     {

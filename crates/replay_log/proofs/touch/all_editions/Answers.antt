@@ -1,6 +1,4 @@
-use Rattle.std.proofs.Common.{◌++◌, ◌∷◌, [], ap, ◌∙◌}
-use Rattle.conflict.specs.Footprints.{all_below}
-use Rattle.replay_log.specs.Touches.{editions_at}
+use Rattle.std.proofs.Common.{◌++◌, ◌∷◌, [], ◌∙◌}
 use Rattle.replay_log.proofs.TouchLemmas.{editions_next}
 use Rattle.replay_log.proofs.touch.all_editions.Goals as goal
 

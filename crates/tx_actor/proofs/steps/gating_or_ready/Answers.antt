@@ -2,8 +2,8 @@ use Rattle.std.proofs.Common.{sym, ◌∙◌}
 use Rattle.tx_actor.proofs.RunsLemmas.{gates_none, gates_some}
 use Rattle.tx_actor.proofs.steps.gating_or_ready.Goals as goal
 
-pub returns-then-has_none : goal.returns-then-has_none
-returns-then-has_none g c = gates_none c.args.homes.items (sym c.has_none.ensures ∙ c.if-has_none.true)
+pub returns-then-has_none-clause-stage : goal.returns-then-has_none-clause-stage
+returns-then-has_none-clause-stage g c = gates_none c.args.homes.items (sym c.has_none.ensures ∙ c.if-has_none.true)
 
-pub returns : goal.returns
-returns g c = gates_some c.args.homes.items (sym c.has_none.ensures ∙ c.if-has_none.false)
+pub returns-clause-stage : goal.returns-clause-stage
+returns-clause-stage g c = gates_some c.args.homes.items (sym c.has_none.ensures ∙ c.if-has_none.false)

@@ -1,4 +1,4 @@
-use Rattle.std.proofs.Common.{ℕ, ◌+◌, ap, length, slice_index_or, ◌∙◌, arith}
+use Rattle.std.proofs.Common.{ap, length, slice_index_or, ◌∙◌, arith}
 use Rattle.std.proofs.lemmas.List.{length-replicate}
 use Rattle.conflict.specs.Counts.{stripe_counts}
 use Rattle.conflict.proofs.CountLemmas.{counted, counted_all, no_counts}

@@ -1,4 +1,4 @@
-use Rattle.std.proofs.Common.{◌≡◌, ℕ, ◌+◌, ◌≤◌, ◌^◌, ◌<◌, length, get_or}
+use Rattle.std.proofs.Common.{◌≡◌, ℕ, ◌+◌, ◌^◌, ◌<◌, length, get_or}
 use Rattle.conflict.specs.Counts.{stripe_counts}
 use Rattle.conflict.proofs.CountLemmas.{counted}
 use Rattle.conflict.proofs.table.Table.counts.Given as goal

@@ -9,7 +9,8 @@ returns g c a w s = (
   (
     put-same w.seats a _ ∙ sym c.clear.ensures.seat,
     put-same w.boosted.words.actors a _
-        ∙ (ap (λ (q : Actor). ask q q.place AskAbort) s.1 ∙ sym (c.clear.ensures.words ∙ c.abort.ensures.actor)),
+        ∙ (ap (λ (q : Actor). ask q q.place AskAbort) s ∙ sym (c.clear.ensures.words ∙ c.abort.ensures.actor)),
+    c.clear.ensures.knows _ tt,
   ),
   refl,
 )

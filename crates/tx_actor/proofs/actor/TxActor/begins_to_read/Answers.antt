@@ -8,7 +8,8 @@ pub returns : goal.returns
 returns g c a w s = (
   (
     put-same w.seats a _,
-    put-same w.boosted.words.actors a _ ∙ (ap (λ (q : Actor). ask q q.place AskBeginRead) s.1 ∙ sym c.begin.ensures),
+    put-same w.boosted.words.actors a _ ∙ (ap (λ (q : Actor). ask q q.place AskBeginRead) s ∙ sym c.begin.ensures),
+    tt,
   ),
   refl,
 )

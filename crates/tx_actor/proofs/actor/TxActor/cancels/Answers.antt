@@ -6,7 +6,7 @@ use Rattle.tx_actor.proofs.actor.TxActor.cancels.Goals as goal
 
 pub returns : goal.returns
 returns g c a w s = (
-  cancels_as a (seat_of c.args.self.now) _ _ _ w c.cancel.ensures.actor
-      (λ i. at_stage (seat_of c.args.self.now) (c.leaving_or_cancelling.ensures i)) s,
+  cancels_as a (seat_of c.args.self.now) _ _ _ _ w (c.leaving_or_cancelling.ensures.knows _) c.cancel.ensures.actor
+      (λ i. at_stage (seat_of c.args.self.now) (c.leaving_or_cancelling.ensures.stage i)) s,
   refl,
 )

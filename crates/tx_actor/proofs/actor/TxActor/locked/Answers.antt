@@ -9,10 +9,11 @@ returns g c a w hs s = (
   (
     put-same w.seats a _
         ∙ sym (λ i. record (seat_of c.args.self.now) {
-          stage = (c.gating_or_ready.ensures ∙ (λ j. takes_gates [] (hs j))) i;
+          stage = (c.gating_or_ready.ensures.stage ∙ (λ j. takes_gates [] (hs j))) i;
           wv = c.args.number;
         }),
-    s.1,
+    s,
+    c.gating_or_ready.ensures.knows _,
   ),
   refl,
 )

@@ -9,7 +9,8 @@ returns g c a w s = (
   (
     put-same w.seats a _
         ∙ sym (λ i. record (seat_of c.args.self.now) { stage = Open; calls = c.push_reserved.ensures.items i }),
-    s.1,
+    s,
+    tt,
   ),
   refl,
 )

@@ -3,4 +3,4 @@ use Rattle.word_machine.proofs.Sets.{put-same}
 use Rattle.tx_actor.proofs.actor.TxActor.stored_one.Goals as goal
 
 pub returns : goal.returns
-returns g c a w s = ((put-same w.seats a _, s.1), refl)
+returns g c a w s = ((put-same w.seats a _, s, tt), refl)

@@ -1,0 +1,245 @@
+//! What an actor makes of its atomic action, by its stage: of what a step of the words told, of a try on a gate, of a gate that was
+//! put back, of a base that has gone home, and of a want of memory.
+ghost use Rattle.std.specs.Prelude.{◌≡◌, ◌<◌, ℕ, [], ◌∷◌};
+ghost use Rattle.std.specs.Vec.{vec_len, vec_capacity};
+ghost use Rattle.seq_model.specs.declared.refusal.Refusal.TheVariants as refusal;
+ghost use Rattle.replay_log.specs.Worlds.{because, gives_up};
+ghost use Rattle.tx_actor.specs.Dispatch.{HasRoom, IsToldWord, Starves, Steps, after_home, after_put, after_try, notice_told, shown_notice};
+ghost use Rattle.tx_actor.specs.Running.{Does, Reseats, at, seat_of, stage_of};
+
+use crate::actor::{Asked, Stage, Told, TxActor};
+use crate::notice::{WordNotice, of_told};
+use crate::steps::has_none;
+use seq_model::Refusal;
+use std::collections::VecDeque;
+use std::mem;
+use step_core::{WordAnswer, WordRefusal};
+
+impl<V: Drop> TxActor<V> {
+    /// Nothing has come of the step.
+    pub(crate) fn stays(&mut self, stage: Stage<V>) -> Told<V>
+        ensures stage { self.new ≡ at self.old stage }
+        ensures told { result ≡ Told.Quiet }
+    {
+        self.stage = stage;
+        Told::Quiet
+    }
+
+    fn has_begun(&mut self, heard: WordNotice) -> Told<V>
+        ensures { IsToldWord (at self.old Stage.Beginning) self.new result (shown_notice heard) }
+    {
+        match heard {
+            WordNotice::Begun(rv) => self.begun(rv),
+            WordNotice::Exhausted(clock) => self.exhausted(clock),
+            _ => self.stays(Stage::Beginning),
+        }
+    }
+
+    fn has_read(&mut self, heard: WordNotice, location: u32) -> Told<V>
+        requires { vec_len self.old.calls < vec_capacity self.old.calls }
+        ensures { IsToldWord (at self.old (Stage.Reading location)) self.new result (shown_notice heard) }
+    {
+        match heard {
+            WordNotice::Number(value) => self.read(location, value),
+            WordNotice::Moved(location, word) => self.gives_up(Refusal::Moved { location, word }),
+            _ => self.stays(Stage::Reading(location)),
+        }
+    }
+
+    fn has_locked(&mut self, heard: WordNotice, homes: VecDeque<u32>) -> Told<V>
+        ensures { IsToldWord (at self.old (Stage.Locking homes)) self.new result (shown_notice heard) }
+    {
+        match heard {
+            WordNotice::Locked(number) => self.locked(number, homes),
+            WordNotice::Busy(location, word) => self.gives_up(Refusal::Busy { location, word }),
+            WordNotice::Invalid(location, word) => {
+                self.gives_up(Refusal::Invalid { location, word })
+            }
+            _ => self.stays(Stage::Locking(homes)),
+        }
+    }
+
+    fn has_first_stored(&mut self, heard: WordNotice, homes: VecDeque<u32>) -> Told<V>
+        ensures { IsToldWord (at self.old (Stage.Ready homes)) self.new result (shown_notice heard) }
+    {
+        match heard {
+            WordNotice::Stored => self.goes_home(homes),
+            _ => self.stored_one(homes),
+        }
+    }
+
+    fn has_stored(&mut self, heard: WordNotice, homes: VecDeque<u32>) -> Told<V>
+        ensures { IsToldWord (at self.old (Stage.Storing homes)) self.new result (shown_notice heard) }
+    {
+        match heard {
+            WordNotice::Stored => self.goes_home(homes),
+            _ => self.stored_one(homes),
+        }
+    }
+
+    fn has_released(&mut self, heard: WordNotice) -> Told<V>
+        ensures { IsToldWord (at self.old Stage.Releasing) self.new result (shown_notice heard) }
+    {
+        match heard {
+            WordNotice::Released => self.released(),
+            _ => self.stays(Stage::Releasing),
+        }
+    }
+
+    fn has_cancelled(&mut self, heard: WordNotice) -> Told<V>
+        ensures { IsToldWord (at self.old Stage.Cancelling) self.new result (shown_notice heard) }
+    {
+        match heard {
+            WordNotice::Cancelled => self.cancelled(),
+            _ => self.stays(Stage::Cancelling),
+        }
+    }
+
+    /// Its word actor has taken a step, which told this.
+    pub fn stepped(&mut self, told: Result<Option<WordAnswer>, WordRefusal>) -> Told<V>
+        requires { HasRoom self.old self.old.stage }
+        ensures { IsToldWord self.old self.new result (notice_told told) }
+    {
+        let heard = of_told(told);
+        let stage = mem::replace(&mut self.stage, Stage::Idle);
+        match stage {
+            Stage::Beginning => self.has_begun(heard),
+            Stage::Reading(location) => self.has_read(heard, location),
+            Stage::Locking(homes) => self.has_locked(heard, homes),
+            Stage::Ready(homes) => self.has_first_stored(heard, homes),
+            Stage::Storing(homes) => self.has_stored(heard, homes),
+            Stage::Releasing => self.has_released(heard),
+            Stage::Closing => self.closed(),
+            Stage::Cancelling => self.has_cancelled(heard),
+            Stage::Leaving => self.ended(),
+            other => self.stays(other),
+        }
+    }
+
+    fn tried_next(&mut self, homes: VecDeque<u32>, got: usize, tries: u32, free: bool) -> Told<V>
+        ensures { let r = at self.old (Stage.Gating homes got tries) in
+            Does r self.new result (λ a w. after_try w a (seat_of r) (stage_of r.stage) free) }
+    {
+        if got < homes.len() {
+            self.tried_home(homes, got, tries, free)
+        } else {
+            self.stays(Stage::Gating(homes, got, tries))
+        }
+    }
+
+    fn tried_call(&mut self, asked: Asked<V>, tries: u32, free: bool) -> Told<V>
+        ensures { let r = at self.old (Stage.Trying asked tries) in
+            Does r self.new result (λ a w. after_try w a (seat_of r) (stage_of r.stage) free) }
+    {
+        self.tried(asked, tries, free)
+    }
+
+    /// The gate that was to be tried was found free or not; where it was free it is held now.
+    pub fn tried_gate(&mut self, free: bool) -> Told<V>
+        ensures { Does self.old self.new result (λ a w. after_try w a (seat_of self.old) (stage_of self.old.stage) free) }
+    {
+        let stage = mem::replace(&mut self.stage, Stage::Idle);
+        match stage {
+            Stage::Trying(asked, tries) => self.tried_call(asked, tries, free),
+            Stage::Gating(homes, got, tries) => self.tried_next(homes, got, tries, free),
+            other => self.stays(other),
+        }
+    }
+
+    fn put_first(&mut self, homes: VecDeque<u32>) -> Told<V>
+        ensures { let r = at self.old (Stage.Returning homes) in
+            Does r self.new result (λ a w. after_put w a (seat_of r) (stage_of r.stage)) }
+    {
+        if has_none(&homes) {
+            return self.stays(Stage::Returning(homes));
+        }
+        let mut left = homes;
+        let _ = left.pop_front();
+        self.puts_back(left)
+    }
+
+    /// The gate that was to be put back is free again, its base unchanged.
+    pub fn put_gate(&mut self) -> Told<V>
+        ensures { Does self.old self.new result (λ a w. after_put w a (seat_of self.old) (stage_of self.old.stage)) }
+    {
+        let stage = mem::replace(&mut self.stage, Stage::Idle);
+        match stage {
+            Stage::Returning(homes) => self.put_first(homes),
+            Stage::ReturningOne(_) => self.cancels(),
+            other => self.stays(other),
+        }
+    }
+
+    fn first_home(&mut self, homes: VecDeque<u32>) -> Told<V>
+        ensures { let r = at self.old (Stage.Homing homes) in
+            Steps r self.new result (λ a w. after_home w a (seat_of r) (stage_of r.stage)) }
+    {
+        if has_none(&homes) {
+            return self.stays(Stage::Homing(homes));
+        }
+        let mut left = homes;
+        let _ = left.pop_front();
+        self.goes_home(left)
+    }
+
+    /// The base that was to go home has gone, with its changes, and its gate is free.
+    pub fn went_home(&mut self) -> Told<V>
+        ensures { Steps self.old self.new result (λ a w. after_home w a (seat_of self.old) (stage_of self.old.stage)) }
+    {
+        let stage = mem::replace(&mut self.stage, Stage::Idle);
+        match stage {
+            Stage::Homing(homes) => self.first_home(homes),
+            other => self.stays(other),
+        }
+    }
+
+    /// A call is given up while the gate of its collection is held.
+    fn starves_copying(&mut self, collection: u32) -> Told<V>
+        ensures { Reseats self.old self.new result (λ a w. gives_up w a (because (seat_of self.old) refusal.OutOfMemory) (collection ∷ [])) }
+    {
+        self.cause = Some(Refusal::OutOfMemory);
+        self.stage = Stage::ReturningOne(collection);
+        Told::Quiet
+    }
+
+    fn starves_gating(&mut self, homes: VecDeque<u32>, got: usize) -> Told<V>
+        ensures { (n : ℕ) → Starves (at self.old (Stage.Gating homes got n)) self.new result }
+    {
+        let mut held = homes;
+        held.truncate(got);
+        self.gives_up_with(Refusal::OutOfMemory, held)
+    }
+
+    fn starves_ready(&mut self, homes: VecDeque<u32>) -> Told<V>
+        ensures { Starves (at self.old (Stage.Ready homes)) self.new result }
+    {
+        self.gives_up_with(Refusal::OutOfMemory, homes)
+    }
+
+    /// Its request is refused memory, where it may still be.
+    pub fn starves(&mut self) -> Told<V>
+        ensures { Starves self.old self.new result }
+    {
+        let stage = mem::replace(&mut self.stage, Stage::Idle);
+        match stage {
+            Stage::Idle => {
+                self.stage = Stage::Idle;
+                Told::Refused(Refusal::NoTransaction)
+            }
+            Stage::Open => {
+                self.stage = Stage::Open;
+                Told::Refused(Refusal::NoTransaction)
+            }
+            Stage::Beginning => self.begin_starves(),
+            Stage::Reading(_) => self.gives_up(Refusal::OutOfMemory),
+            Stage::Trying(_, _) => self.gives_up(Refusal::OutOfMemory),
+            Stage::Copying(asked) => self.starves_copying(asked.collection),
+            Stage::Loading(_, _) => self.gives_up(Refusal::OutOfMemory),
+            Stage::Locking(_) => self.gives_up(Refusal::OutOfMemory),
+            Stage::Gating(homes, got, _) => self.starves_gating(homes, got),
+            Stage::Ready(homes) => self.starves_ready(homes),
+            Stage::Closing => self.gives_up(Refusal::OutOfMemory),
+            other => self.stays(other),
+        }
+    }
+}
