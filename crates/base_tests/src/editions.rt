@@ -13,7 +13,7 @@ use std::alloc::Global;
 use std::process::Abort;
 use std::test::Fail;
 
-pub fn map_after_two_puts(alloc: Global) -> Result<MapBase<u64>, Refusal>
+fn map_after_two_puts(alloc: Global) -> Result<MapBase<u64>, Refusal>
     ensures { IfOk result (λ base. base.stripes ≡ 2) }
 {
     let mut base = MapBase::new(alloc, 2)?;

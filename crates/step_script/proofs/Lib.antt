@@ -1,4 +1,5 @@
-pub mod PairLemmas
+pub mod NumberLemmas
 pub mod EventLemmas
 pub mod EntryLemmas
 pub mod LineLemmas
+pub mod ScriptLemmas
