@@ -67,17 +67,18 @@ fn open(alloc: Global, items: u64, tables: &mut Tables) -> Result<(), ActionRefu
 /// Adds the items of an id, one of each kind.
 fn opening_of(alloc: Global, id: u64) -> Result<Action, Memory> {
     let mut changes = Items::new(alloc);
-    changes.push(added(Kind::Car, id, id))?;
-    changes.push(added(Kind::Flight, id, id))?;
-    changes.push(added(Kind::Room, id, id))?;
+    changes.push(added(Kind::Car, id, 10, id))?;
+    changes.push(added(Kind::Flight, id, 10, id))?;
+    changes.push(added(Kind::Room, id, 10, id))?;
     Ok(Action::Update { changes })
 }
 
-fn added(kind: Kind, id: u64, random: u64) -> Change {
+/// So many units more of an item, at a price drawn.
+fn added(kind: Kind, id: u64, units: u64, random: u64) -> Change {
     Change::Add {
         kind,
         id,
-        units: 10,
+        units,
         price: 50 + random % 500,
     }
 }
@@ -99,7 +100,8 @@ fn run(
     Ok(())
 }
 
-// Of a hundred actions about eighty are reservations, ten deletions and ten updates.
+// Of a hundred actions about eighty are reservations, ten deletions and ten updates, which set a price: so with few items and with many
+// as many units are there for each customer, and the answers are of one mix.
 fn drawn(alloc: Global, items: u64, random: &mut Xoshiro256PlusPlus) -> Result<Action, Memory>
     requires { 0 < items }
 {
@@ -114,7 +116,8 @@ fn drawn(alloc: Global, items: u64, random: &mut Xoshiro256PlusPlus) -> Result<A
         _ => {
             let mut changes = Items::new(alloc);
             let id = random.next_u64() % items;
-            changes.push(added(kind_of(random.next_u64()), id, random.next_u64()))?;
+            let kind = kind_of(random.next_u64());
+            changes.push(added(kind, id, 0, random.next_u64()))?;
             Ok(Action::Update { changes })
         }
     }
