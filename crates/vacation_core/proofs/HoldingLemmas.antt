@@ -66,7 +66,7 @@ module _ {X : Type 0} (f : X → Entry) where
       record {
         part = empty;
         are = e ∙ same_map nat_cmp_total nat_cmp-IsAntisymmetric _ _ (λ q.
-          get-empty nat_cmp q ∙ sym (get_as empty q ∙ ap (option_map f) (get-empty nat_cmp q)));
+            get-empty nat_cmp q ∙ sym (get_as empty q ∙ ap (option_map f) (get-empty nat_cmp q)));
         rest = ap (inserts empty) i ∙ inserts_all m;
       }
 

@@ -1,4 +1,4 @@
-use Rattle.std.proofs.Common.{rules, ◌∙◌}
+use Rattle.std.proofs.Common.{◌∙◌}
 use Rattle.vacation_core.specs.declared.entry.Entry.TheVariants as entry
 use Rattle.vacation_core.proofs.HoldingLemmas.{put_none, put_one}
 use Rattle.vacation_core.proofs.state.items_held.Goals as goal
