@@ -35,6 +35,11 @@ if [ "${#tests[@]}" -eq 0 ] || grep -q '^test .* FAILED$' "$folder/output"; then
     exit 1
 fi
 
+# Whether a test printed that it returned an error, and that this says that memory was refused.
+returned_memory() {
+    grep -q 'its result gives status 1' <<<"$1" && grep -qE '^(error: .*)?(AllocError|AllocFailed|OutOfMemory|Memory)' <<<"$1"
+}
+
 declare -A refused quiet
 left=("${tests[@]}")
 total=0
@@ -47,7 +52,7 @@ while [ "${#left[@]}" -gt 0 ] && { [ "$last" -eq 0 ] || [ "$n" -le "$last" ]; };
         status=$?
         if [ "$status" -eq 0 ]; then
             quiet[$test]=$((${quiet[$test]:-0} + 1))
-        elif [ "$status" -eq 101 ] && grep -qE '^error: .*(AllocError|AllocFailed|OutOfMemory|Memory)' <<<"$output"; then
+        elif [ "$status" -eq 101 ] && returned_memory "$output"; then
             quiet[$test]=0
             refused[$test]=$((${refused[$test]:-0} + 1))
             total=$((total + 1))

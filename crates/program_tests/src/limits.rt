@@ -1,5 +1,5 @@
 //! What is refused beyond a limit, in the order in which faults are found.
-use crate::runs::{expect_refused, run, words_of};
+use crate::runs::{expect_refused, had_memory, room, run, words_of};
 use command_line::{REFUSED, run_tool};
 use std::io;
 use std::io::Read;
@@ -27,8 +27,8 @@ impl Read for Endless {
 #[test]
 fn a_file_beyond_the_limit(rt: HostRuntime) -> Result<(), Fail> {
     let words = words_of(rt.alloc(), &["step", "-"])?;
-    let mut out: Vec<u8> = Vec::new(rt.alloc());
-    let mut err: Vec<u8> = Vec::new(rt.alloc());
+    let mut out: Vec<u8> = room(rt.alloc())?;
+    let mut err: Vec<u8> = room(rt.alloc())?;
     let status = run_tool(
         rt.alloc(),
         words.as_slice(),
@@ -37,9 +37,7 @@ fn a_file_beyond_the_limit(rt: HostRuntime) -> Result<(), Fail> {
         &mut err,
     );
     assert_eq!(rt; out.as_slice(), b"".as_slice());
-    if err.as_slice() == b"Memory\n".as_slice() {
-        return Err(Fail::new("Memory"));
-    }
+    had_memory(status)?;
     assert_eq!(rt; status, REFUSED);
     assert_eq!(rt; err.as_slice(), b"TooLong\n".as_slice());
     Ok(())

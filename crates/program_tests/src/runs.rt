@@ -22,16 +22,27 @@ pub fn words_of(alloc: Global, words: &[&str]) -> Result<Vec<String>, AllocError
     Ok(list)
 }
 
+/// What is written to has room for all of it, so that a write is never refused memory.
+pub fn room(alloc: Global) -> Result<Vec<u8>, AllocError> {
+    Vec::with_capacity(alloc, 65_536)
+}
+
 pub fn run(alloc: Global, words: &[&str], text: &[u8]) -> Result<Left, AllocError> {
     let words = words_of(alloc, words)?;
     let mut reader = text;
-    let mut out = Vec::new(alloc);
-    let mut err = Vec::new(alloc);
+    let mut out = room(alloc)?;
+    let mut err = room(alloc)?;
     let status = run_tool(alloc, words.as_slice(), &mut reader, &mut out, &mut err);
+    had_memory(status)?;
+    Ok(Left { status, out, err })
+}
+
+/// A run that was refused memory ends with its own status.
+pub fn had_memory(status: u8) -> Result<(), AllocError> {
     if status == MEMORY {
         return Err(AllocError);
     }
-    Ok(Left { status, out, err })
+    Ok(())
 }
 
 pub fn step(alloc: Global, text: &[u8]) -> Result<Left, AllocError> {
@@ -87,28 +98,22 @@ fn refused_words_and_shapes(rt: HostRuntime) -> Result<(), Fail> {
     Ok(())
 }
 
+fn file_named(alloc: Global, words: &[&str]) -> Result<Option<String>, AllocError> {
+    let words = words_of(alloc, words)?;
+    match file_of(alloc, words.as_slice()) {
+        Ok(file) => Ok(file),
+        Err(_) => Err(AllocError),
+    }
+}
+
 #[test]
 fn the_file_that_the_words_name(rt: HostRuntime) -> Result<(), Fail> {
-    let named = words_of(rt.alloc(), &["step", "a"])?;
-    let file = file_of(rt.alloc(), named.as_slice())
-        .ok()
-        .flatten()
-        .ok_or("no file")?;
+    let file = file_named(rt.alloc(), &["step", "a"])?.ok_or("no file")?;
     assert_eq!(rt; file.as_str(), "a");
-    let dash = words_of(rt.alloc(), &["step", "-"])?;
-    assert!(rt;
-        file_of(rt.alloc(), dash.as_slice())
-            .ok()
-            .flatten()
-            .is_none()
-    );
-    let refused = words_of(rt.alloc(), &["bench"])?;
-    assert!(rt;
-        file_of(rt.alloc(), refused.as_slice())
-            .ok()
-            .flatten()
-            .is_none()
-    );
+    let dash = file_named(rt.alloc(), &["step", "-"])?;
+    assert!(rt; dash.is_none());
+    let refused = file_named(rt.alloc(), &["bench"])?;
+    assert!(rt; refused.is_none());
     Ok(())
 }
 
@@ -133,8 +138,8 @@ impl Read for FailsAtSecondRead {
 fn a_read_that_fails(rt: HostRuntime) -> Result<(), Fail> {
     let words = words_of(rt.alloc(), &["step", "-"])?;
     let mut reader = FailsAtSecondRead { read: false };
-    let mut out: Vec<u8> = Vec::new(rt.alloc());
-    let mut err: Vec<u8> = Vec::new(rt.alloc());
+    let mut out: Vec<u8> = room(rt.alloc())?;
+    let mut err: Vec<u8> = room(rt.alloc())?;
     let status = run_tool(
         rt.alloc(),
         words.as_slice(),
@@ -142,6 +147,7 @@ fn a_read_that_fails(rt: HostRuntime) -> Result<(), Fail> {
         &mut out,
         &mut err,
     );
+    had_memory(status)?;
     assert_eq!(rt; status, REFUSED);
     assert_eq!(rt; out.as_slice(), b"".as_slice());
     assert_eq!(rt; err.as_slice(), b"cannot read the file\n".as_slice());
@@ -166,7 +172,7 @@ impl Write for FailsToWrite {
 fn a_write_that_fails(rt: HostRuntime) -> Result<(), Fail> {
     let words = words_of(rt.alloc(), &["step", "-"])?;
     let mut reader = b"map 1\n".as_slice();
-    let mut err: Vec<u8> = Vec::new(rt.alloc());
+    let mut err: Vec<u8> = room(rt.alloc())?;
     let status = run_tool(
         rt.alloc(),
         words.as_slice(),
@@ -174,6 +180,7 @@ fn a_write_that_fails(rt: HostRuntime) -> Result<(), Fail> {
         &mut FailsToWrite,
         &mut err,
     );
+    had_memory(status)?;
     assert_eq!(rt; status, REFUSED);
     Ok(())
 }
