@@ -43,7 +43,8 @@ module _ {C A : Type 0} (look : C → ℕ → A) where
   known_there known k q a b same e =
       some_same a b (sym (get-insert nat_cmp_total known k a q ∙ ap (λ t. cond t (Some a) (get known q)) same) ∙ e)
 
-  known_elsewhere : (known : FinMap nat_cmp A) (k q : ℕ) (a : A) (o : Option A) → eq_by_cmp nat_cmp q k ≡ false → get (insert known k a) q ≡ o → get known q ≡ o
+  known_elsewhere : (known : FinMap nat_cmp A) (k q : ℕ) (a : A) (o : Option A) → eq_by_cmp nat_cmp q k ≡ false
+      → get (insert known k a) q ≡ o → get known q ≡ o
   known_elsewhere known k q a o other e =
       sym (get-insert nat_cmp_total known k a q ∙ ap (λ t. cond t (Some a) (get known q)) other) ∙ e
 
@@ -66,7 +67,8 @@ module _ {C A : Type 0} (look : C → ℕ → A) where
   )
 
   -- one more key is known
-  pub learnt_known : (known : FinMap nat_cmp A) (s now : C) (k : ℕ) (a : A) → get known k ≡ None → look s k ≡ a → Known known s now → Known (insert known k a) s now
+  pub learnt_known : (known : FinMap nat_cmp A) (s now : C) (k : ℕ) (a : A) → get known k ≡ None → look s k ≡ a → Known known s now
+      → Known (insert known k a) s now
   learnt_known known s now k a new shown is = (
     λ q b e. elim (eq_by_cmp nat_cmp q k) as (λ t. eq_by_cmp nat_cmp q k ≡ t → look now q ≡ b) [
       | true ↦ λ same. ap (look now) (same_key q k same) ∙ is.1 k new ∙ shown ∙ known_there known k q a b same e
@@ -84,7 +86,8 @@ held_some None h = absurd (true≢false (sym h))
 held_some (Some a) h = (a, refl)
 
 -- giving a key that is held something else holds the same keys
-pub holds_same : {A : Type 0} (known : FinMap nat_cmp A) (k : ℕ) (a : A) (q : ℕ) → has_key known k ≡ true → has_key (insert known k a) q ≡ has_key known q
+pub holds_same : {A : Type 0} (known : FinMap nat_cmp A) (k : ℕ) (a : A) (q : ℕ) → has_key known k ≡ true
+    → has_key (insert known k a) q ≡ has_key known q
 holds_same known k a q held =
     ap is_some (get-insert nat_cmp_total known k a q)
     ∙ elim (eq_by_cmp nat_cmp q k) as (λ t. eq_by_cmp nat_cmp q k ≡ t → is_some (cond t (Some a) (get known q)) ≡ has_key known q) [
@@ -140,7 +143,8 @@ counted c =
 
 more_counted : (o : Option ℕ) → unwrap_or (multisets.more o) 0 ≡ counted_up (unwrap_or o 0)
 more_counted o =
-    elim (nat_lt (unwrap_or o 0) COPY_LIMIT) as (λ b. unwrap_or (cond b (multisets.some_copies (unwrap_or o 0 + 1)) o) 0 ≡ cond b (suc (unwrap_or o 0)) (unwrap_or o 0)) [
+    elim (nat_lt (unwrap_or o 0) COPY_LIMIT) as (λ b. unwrap_or (cond b (multisets.some_copies (unwrap_or o 0 + 1)) o) 0 ≡ cond b
+        (suc (unwrap_or o 0)) (unwrap_or o 0)) [
       | true ↦ counted (unwrap_or o 0 + 1) ∙ omega arith
       | false ↦ refl
     ]
@@ -150,7 +154,8 @@ copies_at : (x q : ℕ) (g : Option ℕ → Option ℕ) (f : Multiset → Multis
     → unwrap_or (g (get m x)) 0 ≡ n → copies (f m) q ≡ cond (eq_by_cmp nat_cmp q x) n (copies m q)
 copies_at x q g f m n at is =
     ap (λ o. unwrap_or o 0) (at m q)
-    ∙ elim (eq_by_cmp nat_cmp q x) as (λ t. unwrap_or (cond t (g (get m x)) (get m q)) 0 ≡ cond t n (copies m q)) [ true ↦ is | false ↦ refl ]
+    ∙ elim (eq_by_cmp nat_cmp q x) as (λ t. unwrap_or (cond t (g (get m x)) (get m q)) 0 ≡ cond t n
+        (copies m q)) [ true ↦ is | false ↦ refl ]
 
 abbrev OfBag-known : FinMap nat_cmp ℕ → Multiset → Multiset → Type 0
 OfBag-known cs m now = IsKnown copies cs m now
@@ -165,7 +170,8 @@ module _ {V : Type 0} where
       → applied (bag.rules V) (changes ++ more) m ≡ applied (bag.rules V) more (applied (bag.rules V) changes m)
   bag_next changes more m = fold-append bag.change_multiset m changes more
 
-  count_kept : (op : Op V) (r : Reply V) (b : Multiset) (es : FinMap nat_cmp (Option V)) (cs m now : Multiset) → holds_by (OfBag b) es cs op ≡ true → OfBag-known cs m now
+  count_kept : (op : Op V) (r : Reply V) (b : Multiset) (es : FinMap nat_cmp (Option V)) (cs m now : Multiset)
+      → holds_by (OfBag b) es cs op ≡ true → OfBag-known cs m now
       → OfBag-known (copies_after op r cs) m (applied (bag.rules V) (bag.changes_by op r) now)
   count_kept (Add x) Done b es cs m now held is =
       changed_known copies cs m now (multisets.one_more now x) x (counted_up (copies cs x))
@@ -184,17 +190,22 @@ module _ {V : Type 0} where
   abbrev Given : Option (Outcome V) → Outcome V → Type 0
   Given a out = (o : Outcome V) → a ≡ Some o → out ≡ o
 
-  known_now : (es : FinMap nat_cmp (Option V)) (m now : FinMap nat_cmp V) (k : ℕ) → has_key es k ≡ true → IsKnown get es m now → get now k ≡ known_entry es k
+  known_now : (es : FinMap nat_cmp (Option V)) (m now : FinMap nat_cmp V) (k : ℕ) → has_key es k ≡ true → IsKnown get es m now
+      → get now k ≡ known_entry es k
   known_now es m now k held is = let h = held_some (get es k) held in is.0 k h.0 h.1 ∙ sym (ap (λ o. unwrap_or o None) h.1)
 
-  entry_answered : (op : Op V) (b : FinMap nat_cmp V) (es : FinMap nat_cmp (Option V)) (cs : FinMap nat_cmp ℕ) (m now : FinMap nat_cmp V) (out : Outcome V)
+  entry_answered : (op : Op V) (b : FinMap nat_cmp V) (es : FinMap nat_cmp (Option V)) (cs : FinMap nat_cmp ℕ) (m now : FinMap nat_cmp V)
+      (out : Outcome V)
       → holds_by (OfMap b) es cs op ≡ true → IsKnown get es m now → Given (map_answer op es) out → map.outcome_of op now ≡ Some out
   entry_answered (Get k) b es cs m now out held is given =
-      ap (λ a. Some (entry_outcome (Get k) a)) (known_now es m now k held is) ∙ ap Some (sym (given (entry_outcome (Get k) (known_entry es k)) refl))
+      ap (λ a. Some (entry_outcome (Get k) a)) (known_now es m now k held is)
+          ∙ ap Some (sym (given (entry_outcome (Get k) (known_entry es k)) refl))
   entry_answered (Put k v) b es cs m now out held is given =
-      ap (λ a. Some (entry_outcome (Put k v) a)) (known_now es m now k held is) ∙ ap Some (sym (given (entry_outcome (Put k v) (known_entry es k)) refl))
+      ap (λ a. Some (entry_outcome (Put k v) a)) (known_now es m now k held is)
+          ∙ ap Some (sym (given (entry_outcome (Put k v) (known_entry es k)) refl))
   entry_answered (Remove k) b es cs m now out held is given =
-      ap (λ a. Some (entry_outcome (Remove k) a)) (known_now es m now k held is) ∙ ap Some (sym (given (entry_outcome (Remove k) (known_entry es k)) refl))
+      ap (λ a. Some (entry_outcome (Remove k) a)) (known_now es m now k held is)
+          ∙ ap Some (sym (given (entry_outcome (Remove k) (known_entry es k)) refl))
   entry_answered _ b es cs m now out held is given = absurd (true≢false (sym held))
 
   abbrev counted_outcome : Op V → Reply V → Outcome V
@@ -214,10 +225,13 @@ module _ {V : Type 0} where
   count_answered _ b es cs m now out held is given = absurd (true≢false (sym held))
 
   -- what the memo answers is what the collection answers after the accepted changes
-  pub answered : (op : Op V) (b s : Shown V) (es : FinMap nat_cmp (Option V)) (cs : FinMap nat_cmp ℕ) (changes : List (Change V)) (out : Outcome V)
+  pub answered : (op : Op V) (b s : Shown V) (es : FinMap nat_cmp (Option V)) (cs : FinMap nat_cmp ℕ) (changes : List (Change V))
+      (out : Outcome V)
       → holds_by b es cs op ≡ true → IsOfBy b es cs changes s → answer_by b es cs op ≡ Some out → outcome_of op (after changes s) ≡ Some out
-  answered op (OfMap b) (OfMap m) es cs changes out held is given = entry_answered op b es cs m (applied (map.rules V) changes m) out held is (λ o e. some_same out o (sym given ∙ e))
-  answered op (OfBag b) (OfBag m) es cs changes out held is given = count_answered op b es cs m (applied (bag.rules V) changes m) out held is (λ o e. some_same out o (sym given ∙ e))
+  answered op (OfMap b) (OfMap m) es cs changes out held is given =
+      entry_answered op b es cs m (applied (map.rules V) changes m) out held is (λ o e. some_same out o (sym given ∙ e))
+  answered op (OfBag b) (OfBag m) es cs changes out held is given =
+      count_answered op b es cs m (applied (bag.rules V) changes m) out held is (λ o e. some_same out o (sym given ∙ e))
   answered op (OfMap b) (OfBag m) es cs changes out held is given = absurd is
   answered op (OfMap b) (OfPq m) es cs changes out held is given = absurd is
   answered op (OfMap b) (OfQueue m) es cs changes out held is given = absurd is
@@ -228,7 +242,8 @@ module _ {V : Type 0} where
   answered op (OfQueue b) s es cs changes out held is given = absurd is
 
   -- ---- acceptance
-  pub count_accepted : (op : Op V) (r : Reply V) (b : Multiset) (es : FinMap nat_cmp (Option V)) (cs : FinMap nat_cmp ℕ) (changes : List (Change V)) (m : Multiset)
+  pub count_accepted : (op : Op V) (r : Reply V) (b : Multiset) (es : FinMap nat_cmp (Option V)) (cs : FinMap nat_cmp ℕ)
+      (changes : List (Change V)) (m : Multiset)
       → holds_by (OfBag b) es cs op ≡ true → IsKnown copies cs m (applied (bag.rules V) changes m)
       → IsKnown copies (copies_after op r cs) m (applied (bag.rules V) (changes ++ bag.changes_by op r) m)
   count_accepted op r b es cs changes m held is =
@@ -265,24 +280,29 @@ module _ {V : Type 0} where
   copies_same (Take x) _ b es cs q held = refl
   copies_same _ r b es cs q held = refl
 
-  map_holds_same : (op : Op V) (b : FinMap nat_cmp V) (es fs : FinMap nat_cmp (Option V)) (cs : FinMap nat_cmp ℕ) → ((q : ℕ) → has_key fs q ≡ has_key es q)
+  map_holds_same : (op : Op V) (b : FinMap nat_cmp V) (es fs : FinMap nat_cmp (Option V)) (cs : FinMap nat_cmp ℕ)
+      → ((q : ℕ) → has_key fs q ≡ has_key es q)
       → holds_by (OfMap b) fs cs op ≡ holds_by (OfMap b) es cs op
   map_holds_same (Get k) b es fs cs same = same k
   map_holds_same (Put k v) b es fs cs same = same k
   map_holds_same (Remove k) b es fs cs same = same k
   map_holds_same _ b es fs cs same = refl
 
-  bag_holds_same : (op : Op V) (b : Multiset) (es : FinMap nat_cmp (Option V)) (cs ds : FinMap nat_cmp ℕ) → ((q : ℕ) → has_key ds q ≡ has_key cs q)
+  bag_holds_same : (op : Op V) (b : Multiset) (es : FinMap nat_cmp (Option V)) (cs ds : FinMap nat_cmp ℕ)
+      → ((q : ℕ) → has_key ds q ≡ has_key cs q)
       → holds_by (OfBag b) es ds op ≡ holds_by (OfBag b) es cs op
   bag_holds_same (Count x) b es cs ds same = same x
   bag_holds_same (Add x) b es cs ds same = same x
   bag_holds_same (Take x) b es cs ds same = same x
   bag_holds_same _ b es cs ds same = refl
 
-  pub accepted_holds : (o : Outcome V) (b : Shown V) (es : FinMap nat_cmp (Option V)) (cs : FinMap nat_cmp ℕ) (op : Op V) → holds_by b es cs o.op ≡ true
+  pub accepted_holds : (o : Outcome V) (b : Shown V) (es : FinMap nat_cmp (Option V)) (cs : FinMap nat_cmp ℕ) (op : Op V)
+      → holds_by b es cs o.op ≡ true
       → holds_by b (entries_kept b o es) (copies_kept b o cs) op ≡ holds_by b es cs op
-  accepted_holds o (OfMap b) es cs op held = map_holds_same op b es (entries_after o.op o.reply es) cs (λ q. entries_same o.op o.reply b es cs q held)
-  accepted_holds o (OfBag b) es cs op held = bag_holds_same op b es cs (copies_after o.op o.reply cs) (λ q. copies_same o.op o.reply b es cs q held)
+  accepted_holds o (OfMap b) es cs op held = map_holds_same op b es (entries_after o.op o.reply es) cs
+      (λ q. entries_same o.op o.reply b es cs q held)
+  accepted_holds o (OfBag b) es cs op held = bag_holds_same op b es cs (copies_after o.op o.reply cs)
+      (λ q. copies_same o.op o.reply b es cs q held)
   accepted_holds o (OfPq b) es cs op held = refl
   accepted_holds o (OfQueue b) es cs op held = refl
 
