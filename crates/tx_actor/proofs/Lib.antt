@@ -6,3 +6,8 @@ mod StepLemmas
 mod CopiesLemmas
 mod AcceptsLemmas
 mod CopyingLemmas
+mod FootprintLemmas
+mod KeptLemmas
+mod WriteLemmas
+mod AnswerLemmas
+mod KeepsLemmas

@@ -4,3 +4,7 @@ pub mod Running
 pub mod Dispatch
 pub mod Copies
 pub mod Accepts
+pub mod Footprints
+pub mod Writes
+pub mod Keeps
+pub mod Answers

@@ -5,17 +5,21 @@
 #![tactic(auto)]
 
 mod actor;
+mod answers;
 mod calls;
 mod copies;
 mod dispatch;
 mod ending;
+mod footprints;
 mod judged;
 pub mod laws;
 mod next;
 mod notice;
 mod steps;
+mod weigh;
+mod writes;
 
-pub use actor::{Answered, Asked, Piece, Stage, Told, TxActor};
+pub use actor::{Answered, Asked, CopyOf, Stage, Told, TxActor};
 pub use calls::has_room;
 pub use copies::{Copied, Found, find};
 pub use ending::cancel;
