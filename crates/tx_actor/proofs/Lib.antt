@@ -6,3 +6,8 @@ mod StepLemmas
 mod CopiesLemmas
 mod AcceptsLemmas
 mod CopyingLemmas
+mod KeepingLemmas
+mod BlocksLemmas
+mod HomesLemmas
+mod RequestLemmas
+mod AskLemmas

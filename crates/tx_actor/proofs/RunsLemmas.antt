@@ -2,14 +2,13 @@
 -- where it is given up its word actor cancels and leaves (`gives_it_up`).
 use Rattle.std.proofs.Common.{◌≡◌, ◌<◌, ◌-◌, ℕ, zero, suc, Bool, true, false, true≢false, eqb, eqb-true, length, List, [], ◌∷◌, refl, sym, ap, arith, ◌∙◌}
 use Rattle.std.proofs.Math.Seq.{drop-cons, take-suc}
-use Rattle.std.proofs.Common.{subst, take, drop, ◌+◌, ◌++◌, get_or}
+use Rattle.std.proofs.Common.{take, drop, ◌+◌, ◌++◌, get_or}
 use Rattle.word_machine.specs.Actor.{Actor}
 use Rattle.word_machine.specs.Requests.{ask, AskRelease}
 use Rattle.word_machine.proofs.Sets.{put-same}
-use Rattle.seq_model.specs.declared.event.Notice.{Notice}
 use Rattle.seq_model.specs.declared.event.Notice.TheVariants.{Quiet}
 use Rattle.seq_model.specs.declared.refusal.Refusal.TheVariants as refusal
-use Rattle.replay_log.specs.Worlds.{World, Seat, After, Stage, Gating, Ready, Homing, Releasing, Returning, takes_gates, more_tries, goes_home, at_stage, because, cancels, gives_up, has_tried, actor_of}
+use Rattle.replay_log.specs.Worlds.{World, Seat, Stage, Gating, Ready, Homing, Releasing, Returning, takes_gates, more_tries, goes_home, at_stage, because, cancels, gives_up, has_tried, actor_of}
 use Rattle.tx_actor.specs.Shows.{cancelled, ending}
 use Rattle.tx_actor.specs.Dispatch.{MayRelease}
 use Rattle.tx_actor.proofs.ShowsLemmas.{gives_it_up, guarded_asked}

@@ -3,9 +3,8 @@ use Rattle.std.specs.Prelude.{◌≡◌, ℕ, ◌<◌, Bool, true, false, List, 
 use Rattle.tx_sets.specs.Entries.{Entries, locations}
 use Rattle.word_machine.specs.Notices as notice
 use Rattle.word_machine.specs.Requests.{AskStore}
-use Rattle.seq_model.specs.declared.refusal.Refusal.TheVariants as refusal
 use Rattle.seq_model.specs.declared.event.Answer.TheVariants as answer
-use Rattle.seq_model.specs.declared.event.Notice.TheVariants.{Quiet, Answered, Refused}
+use Rattle.seq_model.specs.declared.event.Notice.TheVariants.{Quiet, Answered}
 use Rattle.step_core.specs.declared.answer.WordAnswer.{WordAnswer}
 use Rattle.step_core.specs.declared.answer.WordAnswer.TheVariants as word
 use Rattle.step_core.specs.declared.answer.WordRefusal.{WordRefusal}
@@ -13,11 +12,10 @@ use Rattle.step_core.specs.declared.answer.WordRefusal.TheVariants as stop
 use Rattle.step_core.specs.Answers.{result_of}
 use Rattle.collection_machine.specs.Boosted.{Action, TakeGate, PutGate, GoHome, every, is_given, is_none}
 use Rattle.replay_log.specs.Contents.{Asked, content}
-use Rattle.replay_log.specs.Pieces.{covers_at}
 use Rattle.replay_log.specs.Guards.{step_action}
 use Rattle.replay_log.specs.Worlds as worlds
 use Rattle.replay_log.specs.Worlds.{World, Seat, Stage, After, acted, asks, moves, actor_of, word_notice, seated, recorded, no_one, has_begun, has_read, has_locked, has_stored, has_released, has_cancelled, ended, has_tried, takes_gates, gives_up, goes_home, starve_at, step_at}
-use Rattle.tx_actor.specs.Running.{Does, Runs, at, notice_of, seat_of, stage_of}
+use Rattle.tx_actor.specs.Running.{Does, Runs, notice_of, seat_of, stage_of}
 use Rattle.std.specs.Vec.{vec_len, vec_capacity}
 use Rattle.tx_actor.specs.declared.actor.Stage as running
 use Rattle.tx_actor.specs.declared.actor.Stage.TheVariants as stage

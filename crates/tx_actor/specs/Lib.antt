@@ -4,3 +4,6 @@ pub mod Running
 pub mod Dispatch
 pub mod Copies
 pub mod Accepts
+pub mod Blocks
+pub mod Keeping
+pub mod Asks
