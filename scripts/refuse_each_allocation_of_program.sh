@@ -16,26 +16,35 @@ fi
 crate=$1
 first=${2:-1}
 last=${3:-0}
-rt=${RT:-rt}
+source "$(dirname "$0")/refused_allocation.sh"
 cd "$(dirname "$0")/../crates/$crate" || exit 2
-mapfile -t words < args
+words=()
+[ -f args ] && mapfile -t words < args
 wanted=$(cat stdout)
+stdin=/dev/null
+[ -f stdin ] && stdin=stdin
+
+if ! keep_program -- "${words[@]}" < "$stdin"; then
+    tail -n 20 "$folder/output"
+    echo "$crate: its program was not built"
+    exit 1
+fi
 
 refused=0
 quiet=0
 n=$first
 while [ "$quiet" -lt 8 ] && { [ "$last" -eq 0 ] || [ "$n" -le "$last" ]; }; do
-    output=$("$rt" try --fail-alloc "$n" -- "${words[@]}" < stdin 2>&1)
-    status=$(sed -n 's/^checked: ended status=\([0-9]*\)$/\1/p' <<<"$output")
-    text=$(grep -vE '^(allocations: |interpreter: |checked: |run=)' <<<"$output")
-    if [ "$status" = 0 ] && [ "$text" = "$wanted" ]; then
+    refuse "$n"
+    output=$(run_refusing "${words[@]}" < "$stdin" 2>&1)
+    status=$?
+    if [ "$status" -eq 0 ] && [ "$output" = "$wanted" ]; then
         quiet=$((quiet + 1))
-    elif [ "$status" = 2 ] && [ "$text" = Memory ]; then
+    elif [ "$status" -eq 2 ] && [ "$output" = Memory ]; then
         refused=$((refused + 1))
         quiet=0
     else
         printf '%s\n' "$output" | tail -n 20
-        echo "$crate: with allocation $n refused the run ended otherwise"
+        echo "$crate: with allocation $n refused the run ended otherwise (status $status)"
         exit 1
     fi
     n=$((n + 1))

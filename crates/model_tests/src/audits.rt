@@ -1,24 +1,53 @@
 //! Audits of records on one word that is 0 at first.
-use crate::states::{on, words_of};
-use seq_model::{AuditFault, Items, Memory, Op, Record, Refusal, Reply, audit};
+use crate::states::words_of;
+use seq_model::{AuditFault, Call, Items, Memory, Op, Record, Refusal, Reply, audit};
 use std::alloc::Global;
+use std::process::Abort;
 use std::test::Fail;
 
-/// A record of one call on the word.
-fn record(
-    alloc: Global,
-    number: u64,
-    writes: bool,
-    op: Op<u64>,
-    reply: Reply<u64>,
-) -> Result<Record<u64>, Memory> {
+/// A call on a word with its reply, as plain numbers: what was written, or what was found.
+#[derive(Clone, Copy)]
+pub enum Made {
+    Wrote(u64),
+    Found(u64),
+}
+
+/// A record: its number, whether it is a writer's, and its calls, each with the number of its word.
+pub type Row = (u64, bool, &'static [(u32, Made)]);
+
+fn call_of(target: u32, made: Made) -> (Call<u64>, Reply<u64>) {
+    match made {
+        Made::Wrote(value) => {
+            let op = Op::Write(value);
+            (Call { target, op }, Reply::Done)
+        }
+        Made::Found(value) => {
+            let op = Op::Read;
+            (Call { target, op }, Reply::Number(value))
+        }
+    }
+}
+
+/// The record of a row.
+pub fn record_of(alloc: Global, row: Row) -> Result<Record<u64>, Memory> {
+    let (number, writes, made) = row;
     let mut calls = Items::new(alloc);
-    calls.push(on(0, op, reply))?;
+    for (target, made) in made {
+        calls.push(call_of(*target, *made))?;
+    }
     Ok(Record {
         number,
         writes,
         calls,
     })
+}
+
+fn records_of(alloc: Global, rows: &[Row]) -> Result<Vec<Record<u64>>, Memory> {
+    let mut records = Vec::new(alloc);
+    for row in rows {
+        records.push(record_of(alloc, *row)?)?;
+    }
+    Ok(records)
 }
 
 /// What an audit answers that leaves the word at `last`.
@@ -36,82 +65,91 @@ fn audited(
     }
 }
 
-/// A write of 6 with this number, a write of 5 with number 1, and a reader at 1 that found this.
-fn two_writers_and_a_reader(
+/// The audit of the records must answer this.
+fn expect_fault(
+    rt: &impl Abort,
     alloc: Global,
-    number: u64,
-    found: u64,
-) -> Result<Vec<Record<u64>>, Memory> {
-    let mut records = Vec::new(alloc);
-    records.push(record(alloc, number, true, Op::Write(6), Reply::Done)?)?;
-    records.push(record(alloc, 1, true, Op::Write(5), Reply::Done)?)?;
-    records.push(record(alloc, 1, false, Op::Read, Reply::Number(found))?)?;
-    Ok(records)
+    rows: &[Row],
+    last: u64,
+    wanted: Option<AuditFault>,
+) -> Result<(), Refusal> {
+    let records = records_of(alloc, rows)?;
+    let fault = audited(alloc, records.as_slice(), last)?;
+    assert_eq!(rt; fault, wanted);
+    Ok(())
 }
+
+const WROTE_6: &[(u32, Made)] = &[(0, Made::Wrote(6))];
+
+const WROTE_5: &[(u32, Made)] = &[(0, Made::Wrote(5))];
+
+const FOUND_5: &[(u32, Made)] = &[(0, Made::Found(5))];
+
+const FOUND_6: &[(u32, Made)] = &[(0, Made::Found(6))];
 
 #[test]
 fn a_run_has_no_fault(rt: HostRuntime) -> Result<(), Fail> {
-    let records = two_writers_and_a_reader(rt.alloc(), 2, 5)?;
-    assert_eq!(rt; audited(rt.alloc(), records.as_slice(), 6)?, None);
+    let rows = [(2, true, WROTE_6), (1, true, WROTE_5), (1, false, FOUND_5)];
+    expect_fault(&rt, rt.alloc(), &rows, 6, None)?;
     Ok(())
 }
 
 #[test]
 fn a_run_that_leaves_another_state(rt: HostRuntime) -> Result<(), Fail> {
-    let records = two_writers_and_a_reader(rt.alloc(), 2, 5)?;
-    let fault = audited(rt.alloc(), records.as_slice(), 5)?;
-    assert_eq!(rt; fault, Some(AuditFault::WrongState));
+    let rows = [(2, true, WROTE_6), (1, true, WROTE_5), (1, false, FOUND_5)];
+    let wanted = Some(AuditFault::WrongState);
+    expect_fault(&rt, rt.alloc(), &rows, 5, wanted)?;
     Ok(())
 }
 
 #[test]
 fn a_wrong_reply_is_named_as_it_was_handed_in(rt: HostRuntime) -> Result<(), Fail> {
-    let records = two_writers_and_a_reader(rt.alloc(), 2, 6)?;
-    let fault = audited(rt.alloc(), records.as_slice(), 6)?;
-    assert_eq!(rt; fault, Some(AuditFault::WrongReply { entry: 2, call: 0 }));
+    let rows = [(2, true, WROTE_6), (1, true, WROTE_5), (1, false, FOUND_6)];
+    let wanted = Some(AuditFault::WrongReply { entry: 2, call: 0 });
+    expect_fault(&rt, rt.alloc(), &rows, 6, wanted)?;
     Ok(())
 }
 
 #[test]
 fn two_writers_share_a_number(rt: HostRuntime) -> Result<(), Fail> {
-    let records = two_writers_and_a_reader(rt.alloc(), 1, 6)?;
-    let fault = audited(rt.alloc(), records.as_slice(), 9)?;
-    assert_eq!(rt; fault, Some(AuditFault::DoubleNumber(1)));
+    let rows = [(1, true, WROTE_6), (1, true, WROTE_5), (1, false, FOUND_6)];
+    let wanted = Some(AuditFault::DoubleNumber(1));
+    expect_fault(&rt, rt.alloc(), &rows, 9, wanted)?;
     Ok(())
 }
 
 // Two pairs of writers share a number.
 #[test]
 fn the_least_double_number_is_named(rt: HostRuntime) -> Result<(), Fail> {
-    let alloc = rt.alloc();
-    let mut records = two_writers_and_a_reader(alloc, 7, 5)?;
-    records.push(record(alloc, 7, true, Op::Write(8), Reply::Done)?)?;
-    records.push(record(alloc, 1, true, Op::Write(9), Reply::Done)?)?;
-    let fault = audited(alloc, records.as_slice(), 9)?;
-    assert_eq!(rt; fault, Some(AuditFault::DoubleNumber(1)));
+    let rows = [
+        (7, true, WROTE_6),
+        (1, true, WROTE_5),
+        (1, false, FOUND_5),
+        (7, true, &[(0, Made::Wrote(8))]),
+        (1, true, &[(0, Made::Wrote(9))]),
+    ];
+    let wanted = Some(AuditFault::DoubleNumber(1));
+    expect_fault(&rt, rt.alloc(), &rows, 9, wanted)?;
     Ok(())
 }
 
 // The flag alone says who is a writer: the readers here write, and the last one handed in has the last word.
 #[test]
 fn readers_at_one_number_come_as_handed_in(rt: HostRuntime) -> Result<(), Fail> {
-    let alloc = rt.alloc();
-    let mut records = Vec::new(alloc);
-    records.push(record(alloc, 1, false, Op::Write(6), Reply::Done)?)?;
-    records.push(record(alloc, 1, false, Op::Read, Reply::Number(6))?)?;
-    records.push(record(alloc, 1, false, Op::Write(7), Reply::Done)?)?;
-    records.push(record(alloc, 1, true, Op::Write(5), Reply::Done)?)?;
-    assert_eq!(rt; audited(alloc, records.as_slice(), 7)?, None);
+    let rows = [
+        (1, false, WROTE_6),
+        (1, false, FOUND_6),
+        (1, false, &[(0, Made::Wrote(7))]),
+        (1, true, WROTE_5),
+    ];
+    expect_fault(&rt, rt.alloc(), &rows, 7, None)?;
     Ok(())
 }
 
 #[test]
 fn a_call_without_a_reply_is_wrong(rt: HostRuntime) -> Result<(), Fail> {
-    let alloc = rt.alloc();
-    let mut writer = record(alloc, 3, true, Op::Write(6), Reply::Done)?;
-    writer.calls.push(on(1, Op::Read, Reply::Number(0)))?;
-    let records = [writer];
-    let fault = audited(alloc, &records, 6)?;
-    assert_eq!(rt; fault, Some(AuditFault::WrongReply { entry: 0, call: 1 }));
+    let rows: [Row; 1] = [(3, true, &[(0, Made::Wrote(6)), (1, Made::Found(0))])];
+    let wanted = Some(AuditFault::WrongReply { entry: 0, call: 1 });
+    expect_fault(&rt, rt.alloc(), &rows, 6, wanted)?;
     Ok(())
 }

@@ -1,12 +1,10 @@
 //! Tests of the sequential model and of what all four collections use, by their public calls.
 //!
-//! What tests of other crates build their states from stands in [`states`].
+//! What tests of other crates build their states from stands in [`states`], and how a reply is printed in [`replies`].
 #![tactic(auto)]
 
 #[cfg(test)]
 mod audits;
-#[cfg(test)]
-mod calls;
 #[cfg(test)]
 mod copies;
 #[cfg(test)]
@@ -17,6 +15,9 @@ mod limits;
 mod locations;
 #[cfg(test)]
 mod replays;
+pub mod replies;
+#[cfg(test)]
+mod sessions;
 pub mod states;
 #[cfg(test)]
 mod tables;

@@ -1,21 +1,30 @@
 //! Sets of locations, and which of them conflict.
 use conflict::{LocSet, conflicts};
 use smallvec::SmallVec;
+use std::process::Abort;
 use std::test::Fail;
 
+// A look at the least element, beside an insert below it, above it, and beside another look.
+fn expect_of_a_look(
+    rt: &impl Abort,
+    none: &LocSet,
+    least: &LocSet,
+    both: &LocSet,
+    stripe: &LocSet,
+) {
+    assert!(rt; conflicts(least, none, both, both));
+    assert!(rt; conflicts(both, both, least, none));
+    assert!(rt; !conflicts(least, none, both, stripe));
+    assert!(rt; !conflicts(least, none, least, none));
+}
+
 #[test]
-fn a_read_meets_a_write(rt: HostRuntime) -> Result<(), Fail> {
-    let alloc = rt.alloc();
-    let none = LocSet::empty(alloc);
-    let least = LocSet::single(alloc, 0);
-    let both = LocSet::pair(alloc, 0, 2);
-    let stripe = LocSet::single(alloc, 2);
-    // a look at the least element, beside an insert below it, above it, and beside another look
-    assert!(rt; conflicts(&least, &none, &both, &both));
-    assert!(rt; conflicts(&both, &both, &least, &none));
-    assert!(rt; !conflicts(&least, &none, &both, &stripe));
-    assert!(rt; !conflicts(&least, &none, &least, &none));
-    Ok(())
+fn a_read_meets_a_write(rt: HostRuntime) {
+    let none = LocSet::empty(rt.alloc());
+    let least = LocSet::single(rt.alloc(), 0);
+    let both = LocSet::pair(rt.alloc(), 0, 2);
+    let stripe = LocSet::single(rt.alloc(), 2);
+    expect_of_a_look(&rt, &none, &least, &both, &stripe);
 }
 
 #[test]
@@ -26,12 +35,17 @@ fn takes_each_location_once(rt: HostRuntime) -> Result<(), Fail> {
     Ok(())
 }
 
+fn expect_all_below_65(rt: &impl Abort, all: &LocSet) {
+    assert_eq!(rt;
+        [all.contains(0), all.contains(64), all.contains(65)],
+        [true, true, false]
+    );
+    assert_eq!(rt; all.as_slice().len(), 65);
+}
+
 #[test]
 fn holds_more_than_eight(rt: HostRuntime) -> Result<(), Fail> {
     let all = LocSet::all_below(rt.alloc(), 65)?;
-    assert!(rt; all.contains(0));
-    assert!(rt; all.contains(64));
-    assert!(rt; !all.contains(65));
-    assert_eq!(rt; all.as_slice().len(), 65);
+    expect_all_below_65(&rt, &all);
     Ok(())
 }

@@ -1,119 +1,72 @@
 //! What transactions leave that came one after another.
-use crate::calls::make_all;
-use crate::states::{bag_of, map_of, on, pq_of, queue_of, state_of};
-use seq_model::{Op, Reply};
+use crate::sessions::expect;
 use std::test::Fail;
 
 #[test]
-fn a_map_answers_old_values(rt: HostRuntime) -> Result<(), Fail> {
-    let alloc = rt.alloc();
-    let mut state = state_of(alloc, &[], map_of(alloc, &[])?)?;
-    let calls = [
-        on(0, Op::Put(5, 50), Reply::Nothing),
-        on(0, Op::Get(5), Reply::Value(50)),
-    ];
-    make_all(&rt, &mut state, &calls)?;
-    let want = state_of(alloc, &[], map_of(alloc, &[(5, 50)])?)?;
-    assert!(rt; state.same(&want));
+fn of_maps(rt: HostRuntime) -> Result<(), Fail> {
+    let old_values = b"map 1\n1 call 0 put 5 50\n1 call 0 get 5\n";
+    expect(
+        &rt,
+        rt.alloc(),
+        old_values,
+        "Nothing\nValue 50\n",
+        b"map 1 5:50\n",
+    )?;
+    let removed =
+        b"map 1 5:1 7:2\n1 call 0 put 5 3\n1 call 0 len\n1 call 0 remove 5\n1 call 0 remove 5\n1 call 0 len\n";
+    let answers = "Value 1\nNumber 2\nValue 3\nNothing\nNumber 1\n";
+    expect(&rt, rt.alloc(), removed, answers, b"map 1 7:2\n")?;
     Ok(())
 }
 
 #[test]
-fn a_map_loses_what_is_removed(rt: HostRuntime) -> Result<(), Fail> {
-    let alloc = rt.alloc();
-    let mut state = state_of(alloc, &[], map_of(alloc, &[(5, 1), (7, 2)])?)?;
-    let calls = [
-        on(0, Op::Put(5, 3), Reply::Value(1)),
-        on(0, Op::Len, Reply::Number(2)),
-        on(0, Op::Remove(5), Reply::Value(3)),
-        on(0, Op::Remove(5), Reply::Nothing),
-        on(0, Op::Len, Reply::Number(1)),
-    ];
-    make_all(&rt, &mut state, &calls)?;
-    let want = state_of(alloc, &[], map_of(alloc, &[(7, 2)])?)?;
-    assert!(rt; state.same(&want));
+fn of_a_multiset_that_keeps_equal_copies(rt: HostRuntime) -> Result<(), Fail> {
+    let script =
+        b"bag 1\n1 call 0 add 3\n1 call 0 add 3\n1 call 0 take 3\n1 call 0 take 3\n1 call 0 take 3\n1 call 0 add 3\n1 call 0 add 3\n1 call 0 count 3\n";
+    let answers = "Done\nDone\nYes\nYes\nNo\nDone\nDone\nNumber 2\n";
+    expect(&rt, rt.alloc(), script, answers, b"bag 1 3:2\n")?;
     Ok(())
 }
 
-// A transaction inserts 7, and one that comes after it takes the two least.
+// A transaction inserts 7, and one that comes after it takes the two least. Words stand beside the other.
 #[test]
-fn a_priority_queue_takes_its_least(rt: HostRuntime) -> Result<(), Fail> {
-    let alloc = rt.alloc();
-    let mut state = state_of(alloc, &[], pq_of(alloc, &[(5, 1), (9, 1)])?)?;
-    let calls = [
-        on(0, Op::Insert(7), Reply::Done),
-        on(0, Op::TakeLeast, Reply::Found(5)),
-        on(0, Op::TakeLeast, Reply::Found(7)),
-    ];
-    make_all(&rt, &mut state, &calls)?;
-    let want = state_of(alloc, &[], pq_of(alloc, &[(9, 1)])?)?;
-    assert!(rt; state.same(&want));
+fn of_priority_queues(rt: HostRuntime) -> Result<(), Fail> {
+    let takes_its_least =
+        b"pq 1 5:1 9:1\n1 call 0 insert 7\n1 call 0 take_least\n1 call 0 take_least\n";
+    let answers = "Done\nFound 5\nFound 7\n";
+    expect(&rt, rt.alloc(), takes_its_least, answers, b"pq 1 9:1\n")?;
+    let beside_words =
+        b"words 0\npq 1 5:1\n1 call 0 insert 9\n1 call 0 least\n1 write 0 1\n1 read 0\n";
+    let answers = "Done\nFound 5\nDone\nNumber 1\n";
+    expect(
+        &rt,
+        rt.alloc(),
+        beside_words,
+        answers,
+        b"words 1\npq 1 5:1 9:1\n",
+    )?;
     Ok(())
 }
 
+// What left a queue counts in its head.
 #[test]
-fn words_beside_a_priority_queue(rt: HostRuntime) -> Result<(), Fail> {
-    let alloc = rt.alloc();
-    let mut state = state_of(alloc, &[0], pq_of(alloc, &[(5, 1)])?)?;
-    let calls = [
-        on(0, Op::Insert(9), Reply::Done),
-        on(0, Op::Least, Reply::Found(5)),
-        on(0, Op::Write(1), Reply::Done),
-        on(0, Op::Read, Reply::Number(1)),
-    ];
-    make_all(&rt, &mut state, &calls)?;
-    let want = state_of(alloc, &[1], pq_of(alloc, &[(5, 1), (9, 1)])?)?;
-    assert!(rt; state.same(&want));
-    Ok(())
-}
-
-#[test]
-fn a_queue_counts_what_left_it(rt: HostRuntime) -> Result<(), Fail> {
-    let alloc = rt.alloc();
-    let mut state = state_of(alloc, &[], queue_of(alloc, 0, &[8])?)?;
-    let calls = [
-        on(0, Op::Enqueue(9), Reply::Done),
-        on(0, Op::Len, Reply::Number(2)),
-        on(0, Op::Dequeue, Reply::Found(8)),
-        on(0, Op::Peek, Reply::Found(9)),
-    ];
-    make_all(&rt, &mut state, &calls)?;
-    let want = state_of(alloc, &[], queue_of(alloc, 1, &[9])?)?;
-    assert!(rt; state.same(&want));
-    Ok(())
-}
-
-#[test]
-fn an_empty_queue_answers_nothing(rt: HostRuntime) -> Result<(), Fail> {
-    let alloc = rt.alloc();
-    let mut state = state_of(alloc, &[], queue_of(alloc, 0, &[])?)?;
-    let calls = [
-        on(0, Op::Peek, Reply::Nothing),
-        on(0, Op::Dequeue, Reply::Nothing),
-        on(0, Op::Enqueue(4), Reply::Done),
-    ];
-    make_all(&rt, &mut state, &calls)?;
-    let want = state_of(alloc, &[], queue_of(alloc, 0, &[4])?)?;
-    assert!(rt; state.same(&want));
-    Ok(())
-}
-
-#[test]
-fn a_multiset_keeps_equal_copies(rt: HostRuntime) -> Result<(), Fail> {
-    let alloc = rt.alloc();
-    let mut state = state_of(alloc, &[], bag_of(alloc, &[])?)?;
-    let calls = [
-        on(0, Op::Add(3), Reply::Done),
-        on(0, Op::Add(3), Reply::Done),
-        on(0, Op::Take(3), Reply::Yes),
-        on(0, Op::Take(3), Reply::Yes),
-        on(0, Op::Take(3), Reply::No),
-        on(0, Op::Add(3), Reply::Done),
-        on(0, Op::Add(3), Reply::Done),
-        on(0, Op::Count(3), Reply::Number(2)),
-    ];
-    make_all(&rt, &mut state, &calls)?;
-    let want = state_of(alloc, &[], bag_of(alloc, &[(3, 2)])?)?;
-    assert!(rt; state.same(&want));
+fn of_queues(rt: HostRuntime) -> Result<(), Fail> {
+    let leaves = b"queue 1 8\n1 call 0 enqueue 9\n1 call 0 len\n1 call 0 dequeue\n1 call 0 peek\n";
+    let left = b"queue 1 7 9\n1 call 0 dequeue\n";
+    expect(
+        &rt,
+        rt.alloc(),
+        leaves,
+        "Done\nNumber 2\nFound 8\nFound 9\n",
+        left,
+    )?;
+    let empty = b"queue 1\n1 call 0 peek\n1 call 0 dequeue\n1 call 0 enqueue 4\n";
+    expect(
+        &rt,
+        rt.alloc(),
+        empty,
+        "Nothing\nNothing\nDone\n",
+        b"queue 1 4\n",
+    )?;
     Ok(())
 }

@@ -1,11 +1,6 @@
 //! States and collections to test with.
-use seq_model::{Call, Counts, Entries, Held, Memory, Op, QueueItems, Refusal, Reply, State};
+use seq_model::{Counts, Entries, Held, Memory, QueueItems, Refusal, State};
 use std::alloc::Global;
-
-/// A call with its reply.
-pub fn on(target: u32, op: Op<u64>, reply: Reply<u64>) -> (Call<u64>, Reply<u64>) {
-    (Call { target, op }, reply)
-}
 
 /// A state of these words and of one collection.
 pub fn state_of(alloc: Global, words: &[u64], held: Held<u64>) -> Result<State<u64>, Refusal> {
@@ -35,14 +30,6 @@ pub fn counts_of(alloc: Global, entries: &[(u64, u64)]) -> Result<Counts, Memory
         counts.set_copies(*element, *count)?;
     }
     Ok(counts)
-}
-
-pub fn bag_of(alloc: Global, entries: &[(u64, u64)]) -> Result<Held<u64>, Memory> {
-    Ok(Held::Bag(counts_of(alloc, entries)?))
-}
-
-pub fn pq_of(alloc: Global, entries: &[(u64, u64)]) -> Result<Held<u64>, Memory> {
-    Ok(Held::Pq(counts_of(alloc, entries)?))
 }
 
 /// A queue whose first item has the index `head`.

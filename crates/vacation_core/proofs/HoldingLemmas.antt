@@ -3,7 +3,7 @@ use Rattle.std.proofs.Common.{◌≡◌, ℕ, ◌+◌, ◌<◌, true, false, con
 use Rattle.std.specs.Prelude.{map, option_map, nat_lt, slice_set, unwrap_or}
 use Rattle.std.specs.Ordering.{nat_cmp, eq_by_cmp}
 use Rattle.std.specs.Cmp.{nat_cmp_total}
-use Rattle.std.specs.FinMap.{FinMap, entries, find, get, insert, remove, get-from_entries, get-entries, get-insert, get-remove, same_map, nat_cmp-IsAntisymmetric}
+use Rattle.std.specs.FinMap.{FinMap, empty, entries, get-empty, find, get, insert, remove, get-from_entries, get-entries, get-insert, get-remove, same_map, nat_cmp-IsAntisymmetric}
 use Rattle.std.proofs.lemmas.Bool.Decides.{nat_tests}
 use Rattle.seq_model.specs.declared.call.Reply.{Reply}
 use Rattle.seq_model.specs.declared.call.Reply.TheVariants.{Done, Full, Found}
@@ -12,6 +12,8 @@ use Rattle.seq_model.specs.declared.limits.TheConstants.{INDEX_LIMIT}
 use Rattle.seq_model.specs.Calls.{value_reply, peek_reply, dequeue_call, enqueue_call}
 use Rattle.seq_model.specs.Contents.{Contents}
 use Rattle.seq_model.specs.Queues.{first_of, rest_of}
+use Rattle.seq_model.specs.Entries.{inserts}
+use Rattle.seq_model.proofs.EntryLemmas.{inserts_all}
 use Rattle.vac_model.specs.declared.item.Kind.{Kind}
 use Rattle.vac_model.specs.declared.item.Kind.TheVariants.{Car, Flight, Room}
 use Rattle.vac_model.specs.declared.item.Item.{Item}
@@ -21,7 +23,7 @@ use Rattle.vac_model.specs.Holdings.{Holdings, item, put_item, remove_item, cust
 use Rattle.vac_model.specs.Actions.{take_off, give_ticket}
 use Rattle.vacation_core.specs.declared.entry.Entry.{Entry}
 use Rattle.vacation_core.specs.declared.entry.Entry.TheVariants.{Item as Stock, Customer as Client, Ticket as Slip}
-use Rattle.vacation_core.specs.Holding.{Entries, as_entries, holding, stock_of, state_of}
+use Rattle.vacation_core.specs.Holding.{ArePutIn, Entries, as_entries, holding, stock_of, state_of}
 use Rattle.tx_engine.specs.Programs.{run}
 use Rattle.vacation_core.specs.Sessions as ask
 
@@ -58,6 +60,27 @@ module _ {X : Type 0} (f : X → Entry) where
       (λ b. cond b None (get (as_entries f m) q) ≡ option_map f (cond b None (get m q))) [ true ↦ refl | false ↦ get_as m q ])
       ∙ ap (option_map f) (sym (get-remove nat_cmp_total m k q))
       ∙ sym (get_as (remove m k) q))
+
+  pub put_none : (m : FinMap nat_cmp X) (held : Entries) (left : List (ℕ × X)) → held ≡ empty → left ≡ entries m → ArePutIn f m held left
+  put_none m held left e i =
+      record {
+        part = empty;
+        are = e ∙ same_map nat_cmp_total nat_cmp-IsAntisymmetric _ _ (λ q.
+            get-empty nat_cmp q ∙ sym (get_as empty q ∙ ap (option_map f) (get-empty nat_cmp q)));
+        rest = ap (inserts empty) i ∙ inserts_all m;
+      }
+
+  pub put_one : (m : FinMap nat_cmp X) (held new : Entries) (k : ℕ) (v : X) (before left : List (ℕ × X))
+      → ArePutIn f m held before → before ≡ (k, v) ∷ left → new ≡ insert held k (f v) → ArePutIn f m new left
+  put_one m held new k v before left h i e =
+      record {
+        part = insert h.part k v;
+        are = e ∙ ap (λ t. insert t k (f v)) h.are ∙ insert_as h.part k v;
+        rest = sym (ap (inserts h.part) i) ∙ h.rest;
+      }
+
+  pub put_all : (m : FinMap nat_cmp X) (held : Entries) (left : List (ℕ × X)) → ArePutIn f m held left → left ≡ [] → held ≡ as_entries f m
+  put_all m held left h e = h.are ∙ ap (as_entries f) (sym (ap (inserts h.part) e) ∙ h.rest)
 
 -- ---- each call, run on the state that holds tables
 

@@ -11,8 +11,10 @@ mod entry;
 pub mod laws;
 mod reserve;
 mod session;
+mod state;
 mod update;
 mod walk;
 
 pub use entry::Entry;
 pub use session::Session;
+pub use state::state_of;
