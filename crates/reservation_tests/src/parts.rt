@@ -40,14 +40,24 @@ fn copy_of_lines(tables: &Tables) -> Result<Each<Queue>, Memory> {
     })
 }
 
-/// Tables of the parts that these tables' readers give.
-fn rebuilt(alloc: Global, tables: &Tables) -> Result<Tables, Memory> {
-    let items = copy_of_items(alloc, tables)?;
-    let customers = copy_of(alloc, tables.customers())?;
+/// Tables of the parts that these tables' readers give, with these items and customers.
+fn rebuilt_with(
+    alloc: Global,
+    tables: &Tables,
+    items: Each<Entries<Item>>,
+    customers: Entries<Customer>,
+) -> Result<Tables, Memory> {
     let tickets = copy_of(alloc, tables.tickets())?;
     let waiting = copy_of_lines(tables)?;
     let next = tables.next_ticket();
     Ok(Tables::of_parts(alloc, items, customers, tickets, waiting, next))
+}
+
+/// Tables of the parts that these tables' readers give.
+fn rebuilt(alloc: Global, tables: &Tables) -> Result<Tables, Memory> {
+    let items = copy_of_items(alloc, tables)?;
+    let customers = copy_of(alloc, tables.customers())?;
+    rebuilt_with(alloc, tables, items, customers)
 }
 
 /// Tables of the parts of these must hold what the text says.
@@ -108,16 +118,29 @@ const BOOKING: Booking = Booking {
     price: 10,
 };
 
-/// Whether a customer is the same as its copy, and whether it still is once the copy has one booking more.
-fn same_as_copies(alloc: Global) -> Result<(bool, bool), Memory> {
+fn with_a_booking(alloc: Global) -> Result<Customer, Memory> {
     let mut who = Customer::new(alloc);
     who.bookings.push(BOOKING)?;
-    let mut copy = who.try_copy()?;
-    let before = who.same(&copy);
-    copy.bookings.push(BOOKING)?;
-    Ok((before, who.same(&copy)))
+    Ok(who)
 }
 
+fn is_same_as_its_copy(who: &Customer) -> Result<bool, Memory> {
+    let copy = who.try_copy()?;
+    Ok(who.same(&copy))
+}
+
+fn is_same_with_one_more(who: &Customer) -> Result<bool, Memory> {
+    let mut copy = who.try_copy()?;
+    copy.bookings.push(BOOKING)?;
+    Ok(who.same(&copy))
+}
+
+fn same_as_copies(alloc: Global) -> Result<(bool, bool), Memory> {
+    let who = with_a_booking(alloc)?;
+    Ok((is_same_as_its_copy(&who)?, is_same_with_one_more(&who)?))
+}
+
+// It is not once the copy has one booking more.
 #[test]
 fn a_customer_is_the_same_as_its_copy(rt: HostRuntime) -> Result<(), Fail> {
     let same = same_as_copies(rt.alloc())?;
@@ -125,14 +148,30 @@ fn a_customer_is_the_same_as_its_copy(rt: HostRuntime) -> Result<(), Fail> {
     Ok(())
 }
 
-/// What both tests of balance say of tables in whose queue of cars these tickets stand, for which nobody waits.
-fn balance_of_line(alloc: Global, tickets: &[u64]) -> Result<&'static str, Memory> {
-    let empty = Tables::new(alloc);
-    let items = copy_of_items(alloc, &empty)?;
-    let mut waiting = copy_of_lines(&empty)?;
-    waiting.car.tickets = QueueItems::from_vec(Vec::from_slice(alloc, tickets)?);
+fn line_of(alloc: Global, tickets: &[u64]) -> Result<Queue, Memory> {
+    let tickets = QueueItems::from_vec(Vec::from_slice(alloc, tickets)?);
+    Ok(Queue { head: 0, tickets })
+}
+
+/// Tables in whose queue of cars these tickets stand, for which nobody waits.
+fn with_line(alloc: Global, tickets: &[u64]) -> Result<Tables, Memory> {
+    let waiting = Each {
+        car: line_of(alloc, tickets)?,
+        flight: Queue::new(alloc),
+        room: Queue::new(alloc),
+    };
+    let items = Each {
+        car: Entries::new(alloc),
+        flight: Entries::new(alloc),
+        room: Entries::new(alloc),
+    };
     let (customers, tickets) = (Entries::new(alloc), Entries::new(alloc));
-    let tables = Tables::of_parts(alloc, items, customers, tickets, waiting, 2);
+    Ok(Tables::of_parts(alloc, items, customers, tickets, waiting, 2))
+}
+
+/// What both tests of balance say of such tables.
+fn balance_of_line(alloc: Global, tickets: &[u64]) -> Result<&'static str, Memory> {
+    let tables = with_line(alloc, tickets)?;
     balance_of(alloc, &tables)
 }
 

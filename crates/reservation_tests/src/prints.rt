@@ -21,15 +21,27 @@ fn name_of(kind: Kind) -> &'static str {
     }
 }
 
+fn print_numbers(text: &mut String, numbers: &[u64]) -> Result<(), AllocError> {
+    for number in numbers {
+        write!(text, " {number}")?;
+    }
+    Ok(())
+}
+
+fn print_row(text: &mut String, name: &str, numbers: &[u64]) -> Result<(), AllocError> {
+    text.push_str(name)?;
+    print_numbers(text, numbers)
+}
+
 /// Prints what a reservation answers for one kind.
 pub fn print_part(text: &mut String, part: Part) -> Result<(), AllocError> {
     match part {
         Part::Nothing => text.push_str("nothing"),
-        Part::Already { id } => write!(text, "already {id}"),
-        Part::Full { id } => write!(text, "full {id}"),
-        Part::Booked { id, units, price } => write!(text, "booked {id} {units} {price}"),
-        Part::NoFree { id } => write!(text, "nofree {id}"),
-        Part::Waits { id, ticket } => write!(text, "waits {id} {ticket}"),
+        Part::Already { id } => print_row(text, "already", &[id]),
+        Part::Full { id } => print_row(text, "full", &[id]),
+        Part::Booked { id, units, price } => print_row(text, "booked", &[id, units, price]),
+        Part::NoFree { id } => print_row(text, "nofree", &[id]),
+        Part::Waits { id, ticket } => print_row(text, "waits", &[id, ticket]),
     }
 }
 
@@ -55,17 +67,22 @@ fn print_changes(text: &mut String, changes: &[Changed]) -> Result<(), AllocErro
 }
 
 fn print_item(text: &mut String, item: &Item) -> Result<(), AllocError> {
-    let (total, used, free, price) = (item.total, item.used, item.free, item.price);
-    write!(text, "total {total} used {used} free {free} price {price}")
+    print_row(text, "total", &[item.total])?;
+    print_row(text, " used", &[item.used])?;
+    print_row(text, " free", &[item.free])?;
+    print_row(text, " price", &[item.price])
 }
 
 fn print_reply(text: &mut String, reply: &ActionReply) -> Result<(), AllocError> {
     match reply {
         ActionReply::Reserved { parts } => print_parts(text, parts),
-        ActionReply::Deleted { bill, served } => write!(text, "bill {bill} served {served}"),
+        ActionReply::Deleted { bill, served } => {
+            print_row(text, "bill", &[*bill])?;
+            print_row(text, " served", &[*served])
+        }
         ActionReply::Updated { changes } => print_changes(text, changes.as_slice()),
         ActionReply::Found { item } => print_item(text, item),
-        ActionReply::Bill { sum } => write!(text, "bill {sum}"),
+        ActionReply::Bill { sum } => print_row(text, "bill", &[*sum]),
         ActionReply::Absent => text.push_str("absent"),
     }
 }
@@ -118,15 +135,15 @@ fn print_items(text: &mut String, tables: &Tables, kind: Kind) -> Result<(), All
 }
 
 fn print_booking(text: &mut String, booking: &Booking) -> Result<(), AllocError> {
-    let (name, id) = (name_of(booking.kind), booking.id);
-    let (units, price) = (booking.units, booking.price);
-    write!(text, " {name} {id} {units} {price}")
+    text.push(' ')?;
+    let numbers = [booking.id, booking.units, booking.price];
+    print_row(text, name_of(booking.kind), &numbers)
 }
 
 fn print_wait(text: &mut String, wait: &Wait) -> Result<(), AllocError> {
-    let (name, id) = (name_of(wait.kind), wait.id);
-    let (units, ticket) = (wait.units, wait.ticket);
-    write!(text, " wait {name} {id} {units} {ticket}")
+    text.push_str(" wait ")?;
+    let numbers = [wait.id, wait.units, wait.ticket];
+    print_row(text, name_of(wait.kind), &numbers)
 }
 
 fn print_customer(text: &mut String, who: &Customer) -> Result<(), AllocError> {
@@ -149,24 +166,14 @@ fn print_customers(text: &mut String, tables: &Tables) -> Result<(), AllocError>
 }
 
 fn print_ticket(text: &mut String, number: u64, ticket: &Ticket) -> Result<(), AllocError> {
-    let (customer, name) = (ticket.customer, name_of(ticket.kind));
-    let (id, units) = (ticket.id, ticket.units);
-    writeln!(
-        text,
-        "ticket {number}: customer {customer} {name} {id} {units}"
-    )
+    write!(text, "ticket {number}: customer {} ", ticket.customer)?;
+    print_row(text, name_of(ticket.kind), &[ticket.id, ticket.units])?;
+    text.push('\n')
 }
 
 fn print_tickets(text: &mut String, tables: &Tables) -> Result<(), AllocError> {
     for (number, ticket) in tables.tickets() {
         print_ticket(text, *number, ticket)?;
-    }
-    Ok(())
-}
-
-fn print_numbers(text: &mut String, numbers: &[u64]) -> Result<(), AllocError> {
-    for number in numbers {
-        write!(text, " {number}")?;
     }
     Ok(())
 }

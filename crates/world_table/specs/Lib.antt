@@ -1,1 +1,4 @@
 pub mod Tables
+pub mod Openings
+pub mod States
+pub mod Audits

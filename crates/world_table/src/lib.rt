@@ -4,6 +4,10 @@
 //! world of the definitions that has this table; what the step makes of the actor is no matter of the table.
 #![tactic(auto)]
 
+mod auditing;
+mod opening;
 mod table;
 
+pub use auditing::audit_records;
+pub use opening::{COLLECTION_LIMIT, LOCATION_LIMIT};
 pub use table::Table;

@@ -1,9 +1,9 @@
 //! The words, the gates and the bases of a world, and one atomic step on them.
-ghost use Rattle.std.specs.Prelude.{◌≡◌, ℕ, Bool, true, false, ◌+◌, ◌^◌, ◌<◌, ◌≤◌, List, ◌∷◌, [], All, Some, length, slice_get, slice_index};
+ghost use Rattle.std.specs.Prelude.{◌≡◌, ◌≢◌, ℕ, Bool, true, false, ◌+◌, ◌^◌, ◌<◌, ◌≤◌, List, ◌∷◌, [], All, IfErr, IfOk, IsOk, Some, length, map, slice_get, slice_index, take, ◌⊎◌};
 ghost use Rattle.seq_model.specs.declared.event.Event.{Event};
 ghost use Rattle.seq_model.specs.declared.event.Event.TheVariants.{Step};
 ghost use Rattle.seq_model.specs.declared.held.Held.{Held};
-ghost use Rattle.replay_log.specs.Base.{editions_of, locations_of, room_of, shown_of, stripes_of};
+ghost use Rattle.replay_log.specs.Base.{editions_of, held_of, locations_of, room_of, shown_of, stripes_of};
 ghost use Rattle.replay_log.specs.Contents.{Block, HaveStripes, block_of};
 ghost use Rattle.replay_log.specs.Worlds.{happens, opened, run};
 ghost use Rattle.atomic_steps.specs.Bases.{IsBaseOf, log_changes, log_locations};
@@ -14,10 +14,18 @@ ghost use Rattle.step_core.specs.Answers.{result_of};
 ghost use Rattle.step_core.specs.CellSteps.{Grows, HaveLength};
 ghost use Rattle.step_core.specs.Shown as words;
 ghost use Rattle.step_core.specs.Sound.{Fits, owed, due};
+ghost use Rattle.seq_model.specs.Calls.{IsWithinLimits};
+ghost use Rattle.seq_model.specs.Refusals.{IsNoSuchOrTooLong};
+ghost use Rattle.replay_log.specs.Collections.{Suit};
+ghost use Rattle.world_table.specs.Openings.{HasShape, IsWithin, blocks_of, world_of};
+ghost use Rattle.replay_log.specs.WorldTraces.{state};
+ghost use Rattle.world_table.specs.States.{held_in};
 ghost use Rattle.world_table.specs.Tables.{HasTable};
 
+use crate::opening::{COLLECTION_LIMIT, locations, open_bases};
 use replay_log::{Base, Log};
-use seq_model::Value;
+use seq_model::{CLOCK_LIMIT, Held, Memory, Refusal, Shape, State, Value};
+use std::alloc::Global;
 use step_core::{Actor, Cells, WordAnswer, WordRefusal};
 
 /// The words, the gates and the bases of a world.
@@ -29,7 +37,89 @@ pub struct Table<V> {
     pub bases: Vec<Base<V>>,
 }
 
+// What each base holds, as a copy.
+fn held_by<V: Value>(alloc: Global, bases: &[Base<V>]) -> Result<Vec<Held<V>>, Memory>
+    ensures { IfOk result (λ held. held.items ≡ map (λ base. held_of (shown_of base)) bases.now) }
+{
+    let mut held = Vec::with_capacity(alloc, bases.len())?;
+    for base in bases {
+        held.push(base.held()?)?;
+    }
+    Ok(held)
+}
+
 impl<V: Value> Table<V> {
+    /// The table of a world that opens with these words and collections, and with this clock. Each collection is in as many stripes
+    /// as the shape says, its gate is free, all lock words are of version 0, and a collection's words are 0, as its editions are.
+    ///
+    /// `NoSuch` where the shape has not as many numbers of stripes as there are collections. `TooLong` where the clock is above its
+    /// limit, there are more than 256 collections or more than 1,048,576 locations, or a collection can't have so many stripes. What
+    /// was moved in is dropped. Only where nothing of these is so, memory is asked for: once for the lock words, the values, the gates
+    /// and the list of bases, and for each base.
+    pub fn open(alloc: Global, shape: &Shape, state: State<V>) -> Result<Table<V>, Refusal>
+        ensures opens { IfOk result (λ table. HasTable table (world_of shape.now.stripes shape.now.clock state)) }
+        ensures shape { IfOk result (λ table. HasShape table (length state.words) (blocks_of shape.now.stripes state.held)) }
+        ensures suits { IsOk result → Suit (blocks_of shape.now.stripes state.held) state.held }
+        ensures stripes { IsOk result → HaveStripes (blocks_of shape.now.stripes state.held) }
+        ensures refused { IfErr result (λ refusal. IsNoSuchOrTooLong refusal (length shape.now.stripes ≢ length state.held)
+            (IsWithin shape.now.stripes shape.now.clock state)) }
+        ensures fits { IsOk result → (length shape.now.stripes ≡ length state.held) × IsWithin shape.now.stripes shape.now.clock state }
+    {
+        let stripes = shape.stripes.as_slice();
+        let collections = state.held().len();
+        if stripes.len() != collections {
+            return Err(Refusal::NoSuch);
+        }
+        if shape.clock > CLOCK_LIMIT || collections > COLLECTION_LIMIT {
+            return Err(Refusal::TooLong);
+        }
+        let Some(count) = locations(state.words().len(), stripes, state.held()) else {
+            return Err(Refusal::TooLong);
+        };
+        let (mut values, held) = state.into_parts();
+        values.resize(count, 0)?;
+        let locks = vec![in alloc; 0; count]?;
+        let gates = vec![in alloc; 0; collections]?;
+        let bases = open_bases(alloc, stripes, held)?;
+        Ok(Table {
+            cells: Cells {
+                clock: shape.clock,
+                locks,
+                values,
+            },
+            gates,
+            bases,
+        })
+    }
+
+    /// What the first so many words and the bases hold, as copies: the state that a world with so many words shows.
+    ///
+    /// `TooLong` where what a base holds is beyond the limits of a state.
+    pub fn state(&self, words: usize) -> Result<State<V>, Refusal>
+        requires { words ≤ length self.now.cells.values.items }
+        ensures shows { IfOk result (λ shown. (w : World V) → HasTable self.now w → HasShape self.now w.words w.blocks →
+            HaveStripes w.blocks → w.words ≡ words → state w ≡ shown) }
+        ensures within { IsOk result → All IsWithinLimits (held_in self.now) }
+        ensures refused { IfErr result (λ refusal. (refusal ≡ Refusal.OutOfMemory)
+            ⊎ ((refusal ≡ Refusal.TooLong) × ¬ All IsWithinLimits (held_in self.now))) }
+    {
+        let Ok(parts) = self.parts(words) else {
+            return Err(Refusal::OutOfMemory);
+        };
+        State::new(parts.0, parts.1)
+    }
+
+    fn parts(&self, words: usize) -> Result<(Vec<u64>, Vec<Held<V>>), Memory>
+        requires { words ≤ length self.now.cells.values.items }
+        ensures words { IfOk result (λ parts. parts.0.items ≡ take words self.now.cells.values.items) }
+        ensures held { IfOk result (λ parts. parts.1.items ≡ held_in self.now) }
+    {
+        let alloc = *self.gates.allocator();
+        let first = Vec::from_slice(alloc, &self.cells.values[..words])?;
+        let held = held_by(alloc, self.bases.as_slice())?;
+        Ok((first, held))
+    }
+
     /// The next atomic step of an actor on the words.
     pub fn step(&mut self, actor: &mut Actor) -> Result<Option<WordAnswer>, WordRefusal>
         requires fits { Fits (length self.old.cells.locks.items) actor.old }
@@ -42,6 +132,7 @@ impl<V: Value> Table<V> {
         ensures shape { HaveLength self.old.cells self.new.cells }
         ensures grows { Grows self.old.cells actor.old self.new.cells actor.new }
         ensures due { due actor.new.place ≤ due actor.old.place }
+        ensures keeps { (n : ℕ) (bs : List Block) → HasShape self.old n bs → HasShape self.new n bs }
         ensures rest { (self.new.gates ≡ self.old.gates) × (self.new.bases ≡ self.old.bases) }
     {
         self.cells.step(actor)
@@ -53,6 +144,7 @@ impl<V: Value> Table<V> {
         requires actor { 0 < actor }
         ensures tries { (w : World V) → HasTable self.old w → is_committing (actor_of w actor).place ≡ false →
             HasTable self.new (acted w (TakeGate actor k ∷ [])) × (result ≡ is_none (w.boosted.gates k)) }
+        ensures keeps { (n : ℕ) (bs : List Block) → HasShape self.old n bs → HasShape self.new n bs }
         ensures rest { (self.new.cells ≡ self.old.cells) × (self.new.bases ≡ self.old.bases)
             × (length self.new.gates.items ≡ length self.old.gates.items) }
     {
@@ -68,6 +160,7 @@ impl<V: Value> Table<V> {
         requires inside { k < length self.old.gates.items }
         ensures puts { (w : World V) (a : ℕ) (which : ℕ → Bool) → HasTable self.old w → is_actor a (w.boosted.gates k) ≡ true →
             is_committing (actor_of w a).place ≡ false → HasTable self.new (acted w (PutGate a k which ∷ [])) }
+        ensures keeps { (n : ℕ) (bs : List Block) → HasShape self.old n bs → HasShape self.new n bs }
         ensures rest { (self.new.cells ≡ self.old.cells) × (self.new.bases ≡ self.old.bases)
             × (length self.new.gates.items ≡ length self.old.gates.items) }
     {
@@ -91,6 +184,7 @@ impl<V: Value> Table<V> {
             slice_get self.old.bases.items k ≡ Some before → IsBaseOf b before →
             log.changes ≡ log_changes k b outcomes → log.locations ≡ log_locations k b outcomes →
             HasTable self.new (happens w (Step a)).0 }
+        ensures keeps { (n : ℕ) (bs : List Block) → HasShape self.old n bs → HasShape self.new n bs }
         ensures rest { (self.new.cells ≡ self.old.cells) × (length self.new.gates.items ≡ length self.old.gates.items)
             × (length self.new.bases.items ≡ length self.old.bases.items) }
     {

@@ -3,6 +3,8 @@ use Rattle.std.proofs.lemmas.Option.{slice_get_read}
 use Rattle.std.specs.Vec.{with_item}
 use Rattle.step_core.proofs.Lists.{same_at}
 use Rattle.atomic_steps.specs.Bases.{IsFolded}
+use Rattle.std.proofs.lemmas.List.{length-set}
+use Rattle.world_table.proofs.ShapeLemmas.{keeps_shape_home}
 use Rattle.world_table.proofs.TableLemmas.{goes_home}
 use Rattle.world_table.proofs.table.Table.go_home.Goals as goal
 
@@ -19,3 +21,14 @@ returns-clause-homes g c = λ blocks clock values held events a b before have h 
     (subst (λ base. IsFolded c.args.log.changes c.args.log.locations base now) same
     (record { shown = c.fold_into.ensures.shown; stripes = c.fold_into.ensures.stripes; editions = c.fold_into.ensures.editions }))
     have h home is got fits cl ll)
+
+pub returns-clause-keeps : goal.returns-clause-keeps
+returns-clause-keeps g c = λ n bs. (
+    let t = c.args.self.now in
+    let k = c.args.k in
+    let old = c.index_mut.result.now in
+    let now = c.fold_into.new.base in
+    let read = slice_get_read t.bases.items _ k old refl c.requires.inside.1 c.index_mut.ensures.value in
+    keeps_shape_home t (record { cells = t.cells; gates = with_item t.gates k 0; bases = with_item t.bases k now }) n bs k old now
+    c.args.log.changes c.args.log.locations refl (length-set t.gates.items k 0) refl read
+    (record { shown = c.fold_into.ensures.shown; stripes = c.fold_into.ensures.stripes; editions = c.fold_into.ensures.editions }))

@@ -2,6 +2,8 @@ use Rattle.std.proofs.Common.{◌≡◌, refl, ◌∙◌, get_or}
 use Rattle.std.proofs.Common.{eq-eqb}
 use Rattle.std.specs.Vec.{with_item}
 use Rattle.step_core.proofs.CellMoves.{found}
+use Rattle.std.proofs.lemmas.List.{length-set}
+use Rattle.world_table.proofs.ShapeLemmas.{keeps_shape}
 use Rattle.world_table.proofs.TableLemmas.{takes_free}
 use Rattle.world_table.proofs.table.Table.take_gate.Goals as goal
 
@@ -14,3 +16,8 @@ returns-then-free-clause-tries g c = λ w h quiet. (
     let taken = takes_free t (record { cells = t.cells; gates = with_item t.gates k c.args.actor; bases = t.bases }) k c.args.actor
     refl refl refl c.requires.inside c.requires.actor free w h quiet in
     (taken.0, eq-eqb c.index.result.now 0 c.if-free.true ∙ taken.1))
+
+pub returns-then-free-clause-keeps : goal.returns-then-free-clause-keeps
+returns-then-free-clause-keeps g c = λ n bs. (let t = c.args.self.now in keeps_shape t
+    (record { cells = t.cells; gates = with_item t.gates c.args.k c.args.actor; bases = t.bases }) n bs refl refl
+    (length-set t.gates.items c.args.k c.args.actor) refl)
