@@ -227,6 +227,13 @@ impl<V: Value> Memo<V> {
         }
     }
 
+    /// An empty collection of its kind and stripes, which reads and writes the same locations.
+    pub fn blank(&self) -> &Base<V>
+        ensures { result.now ≡ self.now.blank }
+    {
+        &self.blank
+    }
+
     /// The accepted changes, in order: what a base has to be prepared for.
     pub fn changes(&self) -> &[Change<V>]
         ensures { result.now ≡ self.now.changes }

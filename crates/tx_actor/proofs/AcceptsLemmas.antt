@@ -7,7 +7,7 @@ use Rattle.word_machine.specs.World as machine
 use Rattle.word_machine.proofs.Sets.{put-same}
 use Rattle.collection_machine.specs.Boosted.{Boosted, writes_asked, longer}
 use Rattle.replay_log.specs.Contents.{content}
-use Rattle.replay_log.specs.Worlds.{actor_of, outcome_at}
+use Rattle.replay_log.specs.Worlds.{outcome_at}
 use Rattle.tx_actor.specs.Accepts.{Accepts, written}
 
 runs_writes : (a : ℕ) (editions : ℕ → ℕ) (ls : List ℕ) (s : machine.World) (y : Actor) → s.actors a ≡ y

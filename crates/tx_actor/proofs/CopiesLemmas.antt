@@ -1,6 +1,6 @@
 -- What a transaction has of a collection, against its shadow in a world. A log is one outcome after another (`shows_log`), so after its own
 -- calls the world shows the whole of what is kept with the log made on it, and there a held call has the answer that is kept.
-use Rattle.std.proofs.Common.{◌≡◌, ◌≢◌, ℕ, ◌+◌, ◌<◌, ◌++◌, ◌==◌, Bool, true, false, List, [], ◌∷◌, Option, Some, eq-eqb, eqb-true, append-nil, refl, sym, ap, subst, ◌∙◌}
+use Rattle.std.proofs.Common.{◌≡◌, ◌≢◌, ℕ, ◌+◌, ◌<◌, ◌++◌, ◌==◌, Bool, true, false, List, [], Option, Some, eq-eqb, eqb-true, append-nil, refl, sym, ap, subst, ◌∙◌}
 use Rattle.std.specs.Prelude.{slice_get}
 use Rattle.std.specs.FinMap as map
 use Rattle.std.specs.FinMap.{FinMap}
@@ -15,7 +15,7 @@ use Rattle.conflict.specs.declared.outcome.Outcome.{Outcome}
 use Rattle.collection_machine.specs.Boosted.{Shadow, changes, longer}
 use Rattle.replay_log.specs.Base.{Shown, OfMap, OfBag, OfPq, OfQueue, after, changes_of, outcome_of, shown_of, stripes_of, writes_of}
 use Rattle.replay_log.specs.Parts.{kind_of, part, whole}
-use Rattle.replay_log.specs.Contents.{Answered, Block, HaveStripes, answer, blank, block_of, content, first_of, seen, size}
+use Rattle.replay_log.specs.Contents.{Answered, Block, HaveStripes, answer, blank, block_of, content, first_of, seen}
 use Rattle.replay_log.proofs.ContentLemmas.{positive_at}
 use Rattle.replay_log.proofs.PartLemmas.{is_whole, whole_local}
 use Rattle.atomic_steps.specs.Bases.{changes_on, log_changes, log_locations, writes_on}

@@ -6,6 +6,11 @@ mod StepLemmas
 mod CopiesLemmas
 mod AcceptsLemmas
 mod CopyingLemmas
+mod FootprintLemmas
+mod KeptLemmas
+mod WriteLemmas
+mod AnswerLemmas
+mod KeepsLemmas
 mod KeepingLemmas
 mod BlocksLemmas
 mod HomesLemmas

@@ -4,6 +4,10 @@ pub mod Running
 pub mod Dispatch
 pub mod Copies
 pub mod Accepts
+pub mod Footprints
+pub mod Writes
+pub mod Keeps
+pub mod Answers
 pub mod Blocks
 pub mod Keeping
 pub mod Asks

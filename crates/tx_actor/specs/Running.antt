@@ -1,5 +1,5 @@
 -- What a running actor shows, and what a step of it makes of every world that shows it.
-use Rattle.std.specs.Prelude.{◌≡◌, ℕ, Bool, false, ◌&&◌, ◌||◌, ◌==◌, List, [], ◌∷◌, take, drop}
+use Rattle.std.specs.Prelude.{◌≡◌, ℕ, Bool, false, ◌==◌, List, [], ◌∷◌, take, drop, Option, Some, None, if◌then◌else◌}
 use Rattle.seq_model.specs.declared.event.Notice.{Notice}
 use Rattle.seq_model.specs.declared.event.Notice.TheVariants.{Quiet, Answered, Refused}
 use Rattle.step_core.specs.Shown as words
@@ -7,8 +7,9 @@ use Rattle.replay_log.specs.Pieces as pieces
 use Rattle.replay_log.specs.Contents as contents
 use Rattle.replay_log.specs.Worlds as worlds
 use Rattle.replay_log.specs.Worlds.{World, Seat, After}
-use Rattle.tx_actor.specs.declared.actor.Piece.{Piece}
-use Rattle.tx_actor.specs.declared.actor.Piece.TheVariants as piece
+use Rattle.tx_actor.specs.Copies as copies
+use Rattle.tx_actor.specs.declared.copies.Copied.{Copied}
+use Rattle.tx_actor.specs.declared.actor.CopyOf.{CopyOf}
 use Rattle.tx_actor.specs.declared.actor.Asked.{Asked}
 use Rattle.tx_actor.specs.declared.actor.Answered as running
 use Rattle.tx_actor.specs.declared.actor.Stage.{Stage}
@@ -17,17 +18,16 @@ use Rattle.tx_actor.specs.declared.actor.Told.{Told}
 use Rattle.tx_actor.specs.declared.actor.Told.TheVariants as told
 use Rattle.tx_actor.specs.declared.actor.TxActor.{TxActor}
 
-abbrev pub piece_of : Piece → pieces.Piece
-piece_of (piece.Entry k) = pieces.Entry k
-piece_of piece.Counts = pieces.Counts
-piece_of piece.Whole = pieces.Whole
-
--- whether piece q of collection k is among these
-abbrev pub has_piece : List (ℕ × Piece) → ℕ → pieces.Piece → Bool
-has_piece [] k q = false
-has_piece (p ∷ ps) k q = (k == p.0 && pieces.is_piece (piece_of p.1) q) || has_piece ps k q
-
 module _ {V : Type 0} where
+  -- what there is of collection k, and whether piece q is among that
+  abbrev pub copy_of : List (CopyOf V) → ℕ → Option (Copied V)
+  copy_of [] k = None
+  copy_of (c ∷ cs) k = if k == c.collection then Some c.copied else copy_of cs k
+
+  abbrev pub has_piece : Option (Copied V) → pieces.Piece → Bool
+  has_piece None q = false
+  has_piece (Some c) q = copies.has_piece c q
+
   abbrev pub asked_of : Asked V → contents.Asked V
   asked_of asked = record { collection = asked.collection; op = asked.op }
 
@@ -62,7 +62,7 @@ module _ {V : Type 0} where
         wv = r.wv;
         cause = r.cause;
         calls = r.calls.items;
-        copied = has_piece r.copied.items;
+        copied = λ k q. has_piece (copy_of r.copies.items k) q;
       }
 
   -- what is told of actor a

@@ -1,16 +1,9 @@
-//! What an actor keeps: its word actor, where its request stands, its numbers, its cause, its calls, and which pieces it has copied.
+//! What an actor keeps: its word actor, where its request stands, its numbers, its cause, its calls, and what it has of collections.
+use crate::copies::Copied;
 use conflict::Outcome;
 use seq_model::{Answer, Call, Op, Refusal, Reply};
 use std::collections::VecDeque;
 use step_core::Actor;
-
-/// What a call touches: a key, the number of all keys, or the whole.
-#[derive(Clone, Copy)]
-pub enum Piece {
-    Entry(u64),
-    Counts,
-    Whole,
-}
 
 /// A call on a collection.
 #[derive(Drop)]
@@ -19,11 +12,18 @@ pub struct Asked<V> {
     pub op: Op<V>,
 }
 
-/// A call with the outcome that it is going to have.
+/// A call with the outcome that it is going to have, and what its acceptance takes.
 #[derive(Drop)]
 pub struct Answered<V> {
     pub asked: Asked<V>,
     pub outcome: Option<Outcome<V>>,
+    /// Where the copy of its collection stands among the copies.
+    pub place: usize,
+    /// The locations that it writes, each with the edition after the copied one.
+    pub writes: Vec<(u32, u64)>,
+    /// Its reply, to be kept and to be told.
+    pub kept: Reply<V>,
+    pub told: Reply<V>,
 }
 
 /// Where an actor's request stands, with what its next step needs.
@@ -66,6 +66,13 @@ pub enum Told<V> {
     Refused(Refusal),
 }
 
+/// What a transaction has of this collection.
+#[derive(Drop)]
+pub struct CopyOf<V> {
+    pub collection: u32,
+    pub copied: Copied<V>,
+}
+
 /// An actor with its transaction.
 #[derive(Drop)]
 pub struct TxActor<V> {
@@ -76,6 +83,6 @@ pub struct TxActor<V> {
     /// Why it is being aborted; none where its actor asked for it.
     pub cause: Option<Refusal>,
     pub calls: Vec<(Call<V>, Reply<V>)>,
-    /// The pieces of collections that it has copied.
-    pub copied: Vec<(u32, Piece)>,
+    /// What it has of the collections that its calls touched, each of which stands here once.
+    pub copies: Vec<CopyOf<V>>,
 }

@@ -20,6 +20,7 @@ ghost use Rattle.tx_actor.specs.Accepts.{Accepts, PutsBack};
 ghost use Rattle.tx_actor.specs.Dispatch.{AreSteps};
 ghost use Rattle.tx_actor.specs.Judged.{IsJudged};
 ghost use Rattle.tx_actor.specs.Shows.{GivesUp, AsksStores, CopiesForCall, ReadsNext};
+ghost use Rattle.tx_actor.specs.Keeps.{AnswersHeld};
 
 use seq_model::Value;
 
@@ -63,6 +64,12 @@ pub fn puts_back_as_worlds<V>()
 /// Where a call may be accepted, its acceptance asks the word actor for the writes, and puts the outcome behind those of its shadow.
 pub fn accepts_as_worlds<V>()
     ensures { Accepts V }
+{}
+
+/// A call that is held takes no gate: it is judged with the editions that what there is of its collection was copied with, in every
+/// world in which that is the transaction's own; one whose locations don't fit the sets is TooLong.
+pub fn answers_held_as_worlds<V>()
+    ensures { AnswersHeld V }
 {}
 
 /// What a transaction has of a collection answers a call that it holds as the world does, after its own calls; and once it has accepted

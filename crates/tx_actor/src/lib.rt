@@ -5,12 +5,14 @@
 #![tactic(auto)]
 
 mod actor;
+mod answers;
 mod asks;
 mod blocks;
 mod calls;
 mod copies;
 mod dispatch;
 mod ending;
+mod footprints;
 mod homes;
 mod judged;
 pub mod laws;
@@ -18,8 +20,10 @@ mod next;
 mod notice;
 mod requests;
 mod steps;
+mod weigh;
+mod writes;
 
-pub use actor::{Answered, Asked, Piece, Stage, Told, TxActor};
+pub use actor::{Answered, Asked, CopyOf, Stage, Told, TxActor};
 pub use blocks::{Blocks, COLLECTION_LIMIT, Kind, TABLE_LIMIT};
 pub use calls::has_room;
 pub use copies::{Copied, Found, find};

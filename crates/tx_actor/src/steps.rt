@@ -62,7 +62,7 @@ fn next_gate<V: Drop>(homes: VecDeque<u32>, got: usize) -> Stage<V>
 }
 
 /// The stage of a transaction that is to end: its locks go back, where there are some, and then the clock is loaded.
-fn leaving_or_cancelling<V>(words: &Actor) -> Stage<V>
+pub(crate) fn leaving_or_cancelling<V>(words: &Actor) -> Stage<V>
     ensures stage { stage_of result ≡ (if is_leaving (actor_of words.now).place then worlds.Leaving else worlds.Cancelling) }
     ensures knows { (ks : List ℕ) → KnowsHomes result ks }
 {
@@ -84,7 +84,7 @@ impl<V: Drop> TxActor<V> {
         self.wv = 0;
         self.cause = None;
         self.calls.clear();
-        self.copied.clear();
+        self.copies.clear();
     }
 
     /// A transaction has begun.

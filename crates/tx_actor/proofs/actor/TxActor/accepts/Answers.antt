@@ -1,0 +1,25 @@
+use Rattle.std.proofs.Common.{[], ◌∷◌, ◌++◌, sym, ap, ◌∙◌}
+use Rattle.word_machine.specs.Actor as machine
+use Rattle.tx_sets.specs.Entries.{Entries}
+use Rattle.seq_model.specs.declared.event.Answer.TheVariants as answer
+use Rattle.seq_model.specs.declared.event.Notice.TheVariants.{Answered}
+use Rattle.step_core.specs.Shown.{actor_of}
+use Rattle.replay_log.specs.Worlds.{Open, call_of}
+use Rattle.tx_actor.specs.Running.{answered_of, seat_of}
+use Rattle.tx_actor.specs.Writes.{written_as}
+use Rattle.tx_actor.proofs.AnswerLemmas.{accepted_as, pieces_stay}
+use Rattle.tx_actor.proofs.actor.TxActor.accepts.Goals as goal
+
+pub returns : goal.returns
+returns g c a w s may =
+    let old = c.args.self.now in
+    let call = c.args.call in
+    let calls = c.push_reserved.ensures.items ∙ (λ i. old.calls.items ++ (call_of (answered_of call), c.requires.prepared.kept i) ∷ []) in
+    let pieces = pieces_stay call.place call.outcome old.copies.items c.accept_at.new.copies.items c.accept_at.ensures in (
+      accepted_as a w (seat_of old) _ _ (answered_of call) _ tt may.guard may.outcome
+          (c.write_all.ensures.actor
+          ∙ (ap (λ (ds : Entries). written_as (actor_of old.words) ds) c.deref.ensures.value
+          ∙ (ap (λ (y : machine.Actor). written_as y call.writes.items) (sym s) ∙ sym may.writes)))
+          (λ i. record (seat_of old) { stage = Open; calls = calls i; copied = λ k q. pieces k q i }),
+      (λ i. Answered a (answer.Replied (c.requires.prepared.told i))),
+    )

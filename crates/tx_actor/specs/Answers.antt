@@ -1,0 +1,41 @@
+-- What the acceptance of a call on a copied collection takes, and what it leaves.
+use Rattle.std.specs.Prelude.{◌≡◌, ℕ, ◌<◌, true, List, Option, Some, None, length, slice_get, slice_set}
+use Rattle.std.specs.Vec.{vec_capacity, vec_len}
+use Rattle.conflict.specs.declared.outcome.Outcome.{Outcome}
+use Rattle.collection_machine.specs.Boosted.{Accept}
+use Rattle.replay_log.specs.Contents.{content}
+use Rattle.replay_log.specs.Guards.{Allows}
+use Rattle.replay_log.specs.Worlds.{World, actor_of, outcome_at, reply_of}
+use Rattle.tx_actor.specs.declared.actor.Answered as running
+use Rattle.tx_actor.specs.declared.actor.CopyOf.{CopyOf}
+use Rattle.tx_actor.specs.declared.actor.TxActor.{TxActor}
+use Rattle.tx_actor.specs.Accepts.{written}
+use Rattle.tx_actor.specs.Copies.{IsAccepted, IsReady, holds_call}
+use Rattle.tx_actor.specs.Running.{answered_of, asked_of}
+use Rattle.tx_actor.specs.Writes.{MayWrite, written_as}
+
+-- The copy at this place has accepted the outcome, if there is one, and the others are as they were.
+abbrev pub IsAcceptedAt : {V : Type 0} → ℕ → Option (Outcome V) → (before now : List (CopyOf V)) → Type 0
+IsAcceptedAt {V} i None before now = now ≡ before
+IsAcceptedAt {V} i (Some o) before now =
+    (c d : CopyOf V) × (slice_get before i ≡ Some c) × (d.collection ≡ c.collection) × IsAccepted o c.copied d.copied
+    × (holds_call c.copied o.op ≡ true) × (now ≡ slice_set before i d)
+
+-- All that accepting the call takes is there: room for its writes and for its entry among the calls, and in the copy at its place its
+-- outcome is ready.
+pub record IsPrepared {V : Type 0} (r : TxActor V) (o : running.Answered V) : Type 0 where
+  pub writes : MayWrite r.words o.writes.items
+  pub calls : vec_len r.calls < vec_capacity r.calls
+  pub place : o.place < length r.copies.items
+  pub ready : (c : CopyOf V) (x : Outcome V) → slice_get r.copies.items o.place ≡ Some c → o.outcome ≡ Some x
+      → IsReady x c.copied × (holds_call c.copied x.op ≡ true)
+  pub kept : o.kept ≡ reply_of (answered_of o)
+  pub told : o.told ≡ reply_of (answered_of o)
+
+-- In this world the call may be accepted: what it reads has been read, with the copied editions; its outcome is the world's, and its
+-- writes are the world's.
+pub record MayAccept {V : Type 0} (w : World V) (a : ℕ) (o : running.Answered V) : Type 0 where
+  pub guard : Allows (content w.words w.blocks) w.boosted (Accept a (asked_of o.asked))
+  pub outcome : outcome_at w a (asked_of o.asked) ≡ answered_of o
+  pub writes : written (actor_of w a) (w.boosted.shadows a).editions ((content w.words w.blocks).writes (answered_of o))
+      ≡ written_as (actor_of w a) o.writes.items
