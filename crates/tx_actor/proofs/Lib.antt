@@ -16,3 +16,4 @@ mod BlocksLemmas
 mod HomesLemmas
 mod RequestLemmas
 mod AskLemmas
+mod GuardedLemmas

@@ -11,3 +11,4 @@ pub mod Answers
 pub mod Blocks
 pub mod Keeping
 pub mod Asks
+pub mod Guarded
