@@ -1,11 +1,12 @@
 //! Each line of the grammar, well formed and ill formed.
 use crate::runs::expect_refused;
-use seq_model::{Call, Held, Op, Request};
-use std::alloc::Global;
+use seq_model::{Call, Held, Op, Refusal, Request};
+use std::alloc::{AllocError, Global};
 use std::collections::btree_map::Iter;
+use std::fmt::Write;
 use std::process::Abort;
 use std::test::Fail;
-use step_script::{Line, Script, parse_steps};
+use step_script::{Collection, Line, parse_steps};
 
 fn expect_bad_lines(rt: &impl Abort, alloc: Global, scripts: &[&[u8]]) -> Result<(), Fail> {
     for script in scripts {
@@ -191,117 +192,114 @@ fn ill_formed_events_behind_a_header(rt: HostRuntime) -> Result<(), Fail> {
 }
 
 // The script's one line.
-fn line_of(alloc: Global, text: &[u8]) -> Result<Line, Fail> {
+fn line_of(alloc: Global, text: &[u8]) -> Result<Line, Refusal> {
     let script = parse_steps(alloc, text)?;
-    let Script {
-        words: _,
-        clock: _,
-        collections: _,
-        lines,
-    } = script;
-    let mut lines = lines.into_vec();
-    let line = lines.pop().ok_or("no line")?;
-    Ok(line)
+    let mut lines = script.lines.into_vec();
+    lines.pop().ok_or(Refusal::NoSuch)
+}
+
+/// A line, a request or a call, as its name and its numbers, where 0 stands for none.
+type Parts = (&'static str, u64, u64);
+
+fn parts_of_op(op: &Op<u64>) -> Parts {
+    match op {
+        Op::Read => ("Read", 0, 0),
+        Op::Write(value) => ("Write", *value, 0),
+        Op::Get(key) => ("Get", *key, 0),
+        Op::Put(key, value) => ("Put", *key, *value),
+        Op::Remove(key) => ("Remove", *key, 0),
+        Op::Len => ("Len", 0, 0),
+        Op::Count(element) => ("Count", *element, 0),
+        Op::Add(element) => ("Add", *element, 0),
+        Op::Take(element) => ("Take", *element, 0),
+        Op::Least => ("Least", 0, 0),
+        Op::Insert(element) => ("Insert", *element, 0),
+        Op::TakeLeast => ("TakeLeast", 0, 0),
+        Op::Enqueue(item) => ("Enqueue", *item, 0),
+        Op::Dequeue => ("Dequeue", 0, 0),
+        Op::Peek => ("Peek", 0, 0),
+    }
+}
+
+fn parts_of_request(request: &Request<u64>) -> Parts {
+    match request {
+        Request::Begin => ("Begin", 0, 0),
+        Request::BeginRead => ("BeginRead", 0, 0),
+        Request::Call(Call { target: 7, op }) => parts_of_op(op),
+        Request::Call(_) => ("another target", 0, 0),
+        Request::Commit => ("Commit", 0, 0),
+        Request::Abort => ("Abort", 0, 0),
+    }
+}
+
+fn parts_of(line: &Line) -> Parts {
+    match line {
+        Line::Ask(1, request) => parts_of_request(request),
+        Line::Do(64, Request::Begin) => ("Do", 64, 0),
+        Line::Steps(actor, count) => ("Steps", u64::from(*actor), *count),
+        Line::Starve(actor) => ("Starve", u64::from(*actor), 0),
+        Line::Alternate(one, other) => ("Alternate", u64::from(*one), u64::from(*other)),
+        _ => ("another line", 0, 0),
+    }
+}
+
+/// Each line must be read as this.
+fn expect_lines(rt: &impl Abort, alloc: Global, rows: &[(&[u8], Parts)]) -> Result<(), Refusal> {
+    for (text, wanted) in rows {
+        let line = line_of(alloc, text)?;
+        assert_eq!(rt; parts_of(&line), *wanted);
+    }
+    Ok(())
 }
 
 #[test]
 fn each_event(rt: HostRuntime) -> Result<(), Fail> {
-    let alloc = rt.alloc();
-    let begins = line_of(alloc, b"64 do begin\n")?;
-    assert!(rt; matches!(&begins, Line::Do(64, Request::Begin)));
-    let steps = line_of(alloc, b"1 step\n")?;
-    assert!(rt; matches!(&steps, Line::Steps(1, 1)));
-    let many = line_of(alloc, b"1 step 1000000\n")?;
-    assert!(rt; matches!(&many, Line::Steps(1, 1_000_000)));
-    let goes = line_of(alloc, b"2 go\n")?;
-    assert!(rt; matches!(&goes, Line::Steps(2, 1_000_000)));
-    let starves = line_of(alloc, b"3 starve\n")?;
-    assert!(rt; matches!(&starves, Line::Starve(3)));
-    let turns = line_of(alloc, b"alt 64 1\n")?;
-    assert!(rt; matches!(&turns, Line::Alternate(64, 1)));
+    let rows: [(&[u8], Parts); 6] = [
+        (b"64 do begin\n", ("Do", 64, 0)),
+        (b"1 step\n", ("Steps", 1, 1)),
+        (b"1 step 1000000\n", ("Steps", 1, 1_000_000)),
+        (b"2 go\n", ("Steps", 2, 1_000_000)),
+        (b"3 starve\n", ("Starve", 3, 0)),
+        (b"alt 64 1\n", ("Alternate", 64, 1)),
+    ];
+    expect_lines(&rt, rt.alloc(), rows.as_slice())?;
     Ok(())
-}
-
-// The request of a script's one line.
-fn request_of(alloc: Global, text: &[u8]) -> Result<Request<u64>, Fail> {
-    let request = match line_of(alloc, text)? {
-        Line::Ask(1, request) => Some(request),
-        _ => None,
-    };
-    Ok(request.ok_or("no request of actor 1")?)
-}
-
-fn op_of(alloc: Global, text: &[u8]) -> Result<Op<u64>, Fail> {
-    let op = match request_of(alloc, text)? {
-        Request::Call(Call { target: 7, op }) => Some(op),
-        _ => None,
-    };
-    Ok(op.ok_or("no call of target 7")?)
 }
 
 #[test]
 fn each_request(rt: HostRuntime) -> Result<(), Fail> {
-    let alloc = rt.alloc();
-    let begin = request_of(alloc, b"1 begin\n")?;
-    assert!(rt; matches!(&begin, Request::Begin));
-    let commit = request_of(alloc, b"1 commit\n")?;
-    assert!(rt; matches!(&commit, Request::Commit));
-    let abort = request_of(alloc, b"1 abort\n")?;
-    assert!(rt; matches!(&abort, Request::Abort));
-    let read = op_of(alloc, b"1 read 7\n")?;
-    assert!(rt; matches!(&read, Op::Read));
-    let write = op_of(alloc, b"1 write 7 18446744073709551615\n")?;
-    assert!(rt; matches!(&write, Op::Write(u64::MAX)));
+    let rows: [(&[u8], Parts); 5] = [
+        (b"1 begin\n", ("Begin", 0, 0)),
+        (b"1 commit\n", ("Commit", 0, 0)),
+        (b"1 abort\n", ("Abort", 0, 0)),
+        (b"1 read 7\n", ("Read", 0, 0)),
+        (
+            b"1 write 7 18446744073709551615\n",
+            ("Write", 18_446_744_073_709_551_615, 0),
+        ),
+    ];
+    expect_lines(&rt, rt.alloc(), rows.as_slice())?;
     Ok(())
 }
 
 #[test]
-fn each_op_of_a_map(rt: HostRuntime) -> Result<(), Fail> {
-    let alloc = rt.alloc();
-    let get = op_of(alloc, b"1 call 7 get 1\n")?;
-    assert!(rt; matches!(&get, Op::Get(1)));
-    let put = op_of(alloc, b"1 call 7 put 1 2\n")?;
-    assert!(rt; matches!(&put, Op::Put(1, 2)));
-    let remove = op_of(alloc, b"1 call 7 remove 1\n")?;
-    assert!(rt; matches!(&remove, Op::Remove(1)));
-    let len = op_of(alloc, b"1 call 7 len\n")?;
-    assert!(rt; matches!(&len, Op::Len));
-    Ok(())
-}
-
-#[test]
-fn each_op_of_a_bag(rt: HostRuntime) -> Result<(), Fail> {
-    let alloc = rt.alloc();
-    let count = op_of(alloc, b"1 call 7 count 1\n")?;
-    assert!(rt; matches!(&count, Op::Count(1)));
-    let add = op_of(alloc, b"1 call 7 add 1\n")?;
-    assert!(rt; matches!(&add, Op::Add(1)));
-    let take = op_of(alloc, b"1 call 7 take 1\n")?;
-    assert!(rt; matches!(&take, Op::Take(1)));
-    Ok(())
-}
-
-#[test]
-fn each_op_of_a_priority_queue(rt: HostRuntime) -> Result<(), Fail> {
-    let alloc = rt.alloc();
-    let least = op_of(alloc, b"1 call 7 least\n")?;
-    assert!(rt; matches!(&least, Op::Least));
-    let insert = op_of(alloc, b"1 call 7 insert 1\n")?;
-    assert!(rt; matches!(&insert, Op::Insert(1)));
-    let take = op_of(alloc, b"1 call 7 take_least\n")?;
-    assert!(rt; matches!(&take, Op::TakeLeast));
-    Ok(())
-}
-
-#[test]
-fn each_op_of_a_queue(rt: HostRuntime) -> Result<(), Fail> {
-    let alloc = rt.alloc();
-    let enqueue = op_of(alloc, b"1 call 7 enqueue 1\n")?;
-    assert!(rt; matches!(&enqueue, Op::Enqueue(1)));
-    let dequeue = op_of(alloc, b"1 call 7 dequeue\n")?;
-    assert!(rt; matches!(&dequeue, Op::Dequeue));
-    let peek = op_of(alloc, b"1 call 7 peek\n")?;
-    assert!(rt; matches!(&peek, Op::Peek));
+fn each_op(rt: HostRuntime) -> Result<(), Fail> {
+    let rows: [(&[u8], Parts); 13] = [
+        (b"1 call 7 get 1\n", ("Get", 1, 0)),
+        (b"1 call 7 put 1 2\n", ("Put", 1, 2)),
+        (b"1 call 7 remove 1\n", ("Remove", 1, 0)),
+        (b"1 call 7 len\n", ("Len", 0, 0)),
+        (b"1 call 7 count 1\n", ("Count", 1, 0)),
+        (b"1 call 7 add 1\n", ("Add", 1, 0)),
+        (b"1 call 7 take 1\n", ("Take", 1, 0)),
+        (b"1 call 7 least\n", ("Least", 0, 0)),
+        (b"1 call 7 insert 1\n", ("Insert", 1, 0)),
+        (b"1 call 7 take_least\n", ("TakeLeast", 0, 0)),
+        (b"1 call 7 enqueue 1\n", ("Enqueue", 1, 0)),
+        (b"1 call 7 dequeue\n", ("Dequeue", 0, 0)),
+        (b"1 call 7 peek\n", ("Peek", 0, 0)),
+    ];
+    expect_lines(&rt, rt.alloc(), rows.as_slice())?;
     Ok(())
 }
 
@@ -315,31 +313,57 @@ fn words_and_clock(rt: HostRuntime) -> Result<(), Fail> {
     Ok(())
 }
 
-fn lists(entries: Iter<'_, u64, u64>, pairs: &[(u64, u64)]) -> bool {
-    entries
-        .map(|(key, value)| (*key, *value))
-        .eq(pairs.iter().copied())
+fn list(text: &mut String, entries: Iter<'_, u64, u64>) -> Result<(), AllocError> {
+    for (key, value) in entries {
+        write!(text, " {key}:{value}")?;
+    }
+    Ok(())
+}
+
+fn list_held(text: &mut String, held: &Held<u64>) -> Result<(), AllocError> {
+    match held {
+        Held::Map(entries) => list(text, entries.iter()),
+        Held::Bag(counts) | Held::Pq(counts) => list(text, counts.iter()),
+        Held::Queue { head, items } => write!(text, " from {head}, {} items", items.len()),
+    }
+}
+
+fn name_of(held: &Held<u64>) -> &'static str {
+    match held {
+        Held::Map(_) => "map",
+        Held::Bag(_) => "bag",
+        Held::Pq(_) => "pq",
+        Held::Queue { .. } => "queue",
+    }
+}
+
+fn list_all(text: &mut String, collections: &[Collection]) -> Result<(), AllocError> {
+    for collection in collections {
+        write!(text, "{} {}", name_of(&collection.held), collection.stripes)?;
+        list_held(text, &collection.held)?;
+        text.push('\n')?;
+    }
+    Ok(())
+}
+
+fn listed(alloc: Global, text: &[u8]) -> Result<String, Refusal> {
+    let mut list = String::new(alloc);
+    let script = parse_steps(alloc, text)?;
+    list_all(&mut list, script.collections.as_slice())?;
+    Ok(list)
 }
 
 #[test]
 fn each_collection(rt: HostRuntime) -> Result<(), Fail> {
     let text = b"map 3 1:10 2:0\nbag 64 1:2 5:1\npq 65 3:4\nqueue 4294967296 7 6 7\nqueue 1\n";
-    let script = parse_steps(rt.alloc(), text.as_slice())?;
-    let [map, bag, pq, queue, empty] = script.collections.as_slice() else {
-        return Err(Fail::new("not five collections"));
-    };
-    assert_eq!(rt; map.stripes, 3);
-    assert!(rt;
-        matches!(&map.held, Held::Map(entries) if lists(entries.iter(), [(1, 10), (2, 0)].as_slice()))
-    );
-    assert_eq!(rt; bag.stripes, 64);
-    assert!(rt;
-        matches!(&bag.held, Held::Bag(counts) if lists(counts.iter(), [(1, 2), (5, 1)].as_slice()))
-    );
-    assert_eq!(rt; pq.stripes, 65);
-    assert!(rt; matches!(&pq.held, Held::Pq(counts) if lists(counts.iter(), [(3, 4)].as_slice())));
-    assert_eq!(rt; queue.stripes, u32::MAX);
-    assert!(rt; matches!(&queue.held, Held::Queue { head: 0, items } if items.len() == 3));
-    assert!(rt; matches!(&empty.held, Held::Queue { head: 0, items } if items.len() == 0));
+    let list = listed(rt.alloc(), text)?;
+    let wanted = "\
+map 3 1:10 2:0
+bag 64 1:2 5:1
+pq 65 3:4
+queue 4294967295 from 0, 3 items
+queue 1 from 0, 0 items
+";
+    assert_eq!(rt; list.as_str(), wanted);
     Ok(())
 }

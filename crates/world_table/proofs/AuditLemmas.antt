@@ -3,9 +3,9 @@
 -- A record that comes before none that stands before it goes to the head of those behind it, with its place for its actor: at one number
 -- only the first is a writer, and the places rise. Whether records are a run, and what they leave, does not hang on their actors. And no
 -- two writers in commit order share a number.
-use Rattle.std.proofs.Common.{◌≡◌, ℕ, zero, suc, ◌+◌, ◌<◌, ◌≤◌, ltb, eqb, Bool, true, false, cond, List, [], ◌∷◌, Option, Some, None, inl, inr, refl}
+use Rattle.std.proofs.Common.{◌≡◌, ℕ, zero, suc, ◌+◌, ◌≤◌, ltb, Bool, true, false, cond, List, [], ◌∷◌, inl, inr, refl}
 use Rattle.std.proofs.Common.{sym, ap, ◌∙◌, subst, arith, lt-ltb, le-ltb, eqb-true}
-use Rattle.std.specs.Prelude.{map, count_by, ◌&&◌, ◌==◌, IfErr, Result, Ok, Err}
+use Rattle.std.specs.Prelude.{count_by, ◌&&◌, ◌==◌, IfErr, Result, Ok, Err}
 use Rattle.std.proofs.lemmas.Bool.{cases_lt, cond-true, cond-false, cases_Bool}
 use Rattle.std.proofs.lemmas.List.Sums.{sum_by-cons}
 use Rattle.seq_model.specs.declared.call.Call.{Call}
@@ -13,7 +13,7 @@ use Rattle.seq_model.specs.declared.call.Reply.{Reply}
 use Rattle.seq_model.specs.declared.record.Record.{Record}
 use Rattle.seq_model.specs.declared.auditing.AuditFault.{AuditFault}
 use Rattle.seq_model.specs.declared.auditing.AuditFault.TheVariants.{DoubleNumber, WrongReply, WrongState, OutOfMemory}
-use Rattle.seq_model.specs.Audit.{IsAuditFault, IsFirstWrong, IsFirstWrongAt, in_run_order, run_order, writers_at}
+use Rattle.seq_model.specs.Audit.{IsAuditFault, IsFirstWrong, IsFirstWrongAt, in_run_order, writers_at}
 use Rattle.seq_model.specs.Contents.{Contents}
 use Rattle.seq_model.specs.Runs.{IsInCommitOrder, IsLegal, IsRun, NoneComesBefore, after_calls, after_run, comes_before, insert_record}
 use Rattle.seq_model.specs.declared.event.Event.{Event}

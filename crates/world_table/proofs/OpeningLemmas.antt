@@ -3,30 +3,28 @@
 -- The locations are counted along the numbers of stripes and the collections together: what has been counted, with what is left, is the
 -- end of all blocks. The bases are opened one after another, and each is the one of its collection. A location lies in the collection
 -- that its home names, and shows that part of it; its word opens as 0, and so does the edition of each base.
-use Rattle.std.proofs.Common.{◌≡◌, ℕ, zero, suc, ◌+◌, ◌-◌, ◌<◌, ◌≤◌, ltb, Bool, true, false, List, [], ◌∷◌, ◌++◌, Option, Some, None, length, drop, take}
-use Rattle.std.proofs.Common.{get_or, replicate, inl, inr, refl, sym, ap, ◌∙◌, subst, arith, lt-ltb, le-ltb, append-nil, length-append}
+use Rattle.std.proofs.Common.{◌≡◌, ℕ, zero, suc, ◌+◌, ◌-◌, ◌<◌, ◌≤◌, ltb, true, false, List, [], ◌∷◌, ◌++◌, Some, length, drop, take}
+use Rattle.std.proofs.Common.{get_or, replicate, inl, inr, refl, sym, ap, ◌∙◌, subst, arith, lt-ltb, le-ltb, length-append}
 use Rattle.std.specs.Prelude.{All, not, ◌||◌, nat_lt, slice_get}
 use Rattle.std.proofs.Math.ListN.{drop_of_length-le, get_or-append, get_or-eq_default}
-use Rattle.std.proofs.Math.Seq.{get_or-append_right, get_or-append_seam}
+use Rattle.std.proofs.Math.Seq.{get_or-append_right}
 use Rattle.std.proofs.lemmas.Bool.{cases_lt, cond-true, cond-false}
 use Rattle.std.proofs.lemmas.List.{get_or-replicate, length-replicate, take_all}
-use Rattle.std.proofs.lemmas.List.Elements.{All-get_or, All-from_get_or, All-head, All-tail}
+use Rattle.std.proofs.lemmas.List.Elements.{All-from_get_or, All-head, All-tail}
 use Rattle.vlock_word.specs.LockWord.{unbits}
 use Rattle.seq_model.specs.declared.held.Held.{Held}
 use Rattle.seq_model.specs.declared.held.Held.TheVariants.{Map, Bag, Pq, Queue}
 use Rattle.seq_model.specs.Calls.{IsWithinLimits}
 use Rattle.seq_model.specs.Contents.{Contents}
 use Rattle.conflict.specs.Refusals.{IsStripeCount}
-use Rattle.step_core.specs.CellSteps.{AreCells}
 use Rattle.replay_log.specs.declared.base.Base.{Base}
-use Rattle.replay_log.specs.Base.{Shown, editions_of, locations_of, shown_of, stripes_of, view_of}
-use Rattle.replay_log.specs.Collections.{Suit, kind_of_held, shown_at, shown_from, viewed}
+use Rattle.replay_log.specs.Base.{Shown, locations_of, shown_of, view_of}
+use Rattle.replay_log.specs.Collections.{Suit, kind_of_held, shown_from, viewed}
 use Rattle.replay_log.specs.Contents.{Block, HaveStripes, block_of, end_of, first_of, home_of, is_plain, size, size_by}
 use Rattle.replay_log.specs.Parts.{kind_of, part}
-use Rattle.replay_log.specs.Seats.{World}
 use Rattle.replay_log.proofs.CollectionLemmas.{behind, kind_viewed}
 use Rattle.replay_log.proofs.ContentLemmas.{end_above}
-use Rattle.atomic_steps.specs.Bases.{IsBaseOf, ShowsBase}
+use Rattle.atomic_steps.specs.Bases.{IsBaseOf}
 use Rattle.world_table.specs.Openings.{AreOpened, HasShape, IsOpened, blocks_of, world_of}
 use Rattle.world_table.specs.Tables.{HasTable, holder}
 use Rattle.world_table.specs.declared.opening.TheConstants.{LOCATION_LIMIT}

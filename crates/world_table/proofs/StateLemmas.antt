@@ -14,7 +14,7 @@ use Rattle.seq_model.specs.Contents.{Contents}
 use Rattle.conflict.specs.Footprints.{all_below}
 use Rattle.replay_log.specs.declared.base.Base.{Base}
 use Rattle.replay_log.specs.Base.{Shown, held_of, shown_of, stripes_of}
-use Rattle.replay_log.specs.Contents.{Block, HaveStripes, block_of, end_of, first_of, seen, size}
+use Rattle.replay_log.specs.Contents.{Block, HaveStripes, block_of, first_of, seen, size}
 use Rattle.replay_log.specs.Parts.{part, whole}
 use Rattle.replay_log.specs.Seats.{World}
 use Rattle.replay_log.specs.WorldTraces.{held_from, state}

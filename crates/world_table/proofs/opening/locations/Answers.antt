@@ -1,7 +1,6 @@
-use Rattle.std.proofs.Common.{◌≡◌, sym, ap, refl, ◌∙◌, get_or, arith}
+use Rattle.std.proofs.Common.{sym, refl, get_or, arith}
 use Rattle.world_table.proofs.OpeningLemmas.{past, all_counted}
 use Rattle.replay_log.proofs.ContentLemmas.{end_above}
-use Rattle.replay_log.specs.Contents.{end_of}
 use Rattle.world_table.specs.Openings.{blocks_of}
 use Rattle.world_table.proofs.opening.locations.Goals as goal
 

@@ -1,4 +1,4 @@
-use Rattle.std.proofs.Common.{◌≡◌, ◌∷◌, [], ◌++◌, List, length, get_or, refl, sym, ap, subst, ◌∙◌, append_assoc, arith, ◌<◌, ◌≤◌, ℕ, ◌*◌, ◌^◌}
+use Rattle.std.proofs.Common.{◌∷◌, [], ◌++◌, length, get_or, sym, ap, subst, ◌∙◌, append_assoc, arith, ◌<◌, ◌≤◌, ℕ}
 use Rattle.std.specs.Vec.Iter.{into_iter_items}
 use Rattle.std.proofs.lemmas.List.Elements.{All-get_or}
 use Rattle.conflict.specs.Refusals.{IsStripeCount}
