@@ -11,3 +11,9 @@ mod KeptLemmas
 mod WriteLemmas
 mod AnswerLemmas
 mod KeepsLemmas
+mod KeepingLemmas
+mod BlocksLemmas
+mod HomesLemmas
+mod RequestLemmas
+mod AskLemmas
+mod GuardedLemmas

@@ -8,3 +8,7 @@ pub mod Footprints
 pub mod Writes
 pub mod Keeps
 pub mod Answers
+pub mod Blocks
+pub mod Keeping
+pub mod Asks
+pub mod Guarded

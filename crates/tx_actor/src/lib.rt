@@ -6,22 +6,31 @@
 
 mod actor;
 mod answers;
+mod asks;
+mod blocks;
 mod calls;
 mod copies;
 mod dispatch;
 mod ending;
 mod footprints;
+mod homes;
 mod judged;
 pub mod laws;
 mod next;
 mod notice;
+mod requests;
 mod steps;
 mod weigh;
 mod writes;
 
 pub use actor::{Answered, Asked, CopyOf, Stage, Told, TxActor};
+pub use blocks::{Blocks, COLLECTION_LIMIT, Kind, TABLE_LIMIT};
 pub use calls::has_room;
 pub use copies::{Copied, Found, find};
 pub use ending::cancel;
+pub use homes::written_homes;
 pub use judged::{Judged, go_on, judge};
 pub use next::Next;
+pub use requests::{
+    close_words, fits_one, lock_words, may_read, read_word, store_words, write_word,
+};

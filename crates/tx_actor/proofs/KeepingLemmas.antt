@@ -1,0 +1,11 @@
+-- What keeps an actor's bounds does so one after another.
+use Rattle.std.proofs.Common.{arith}
+use Rattle.step_core.specs.Sound.{Keeps}
+use Rattle.step_core.specs.declared.actor.Actor.{Actor}
+
+pub keeps_then : (x y z : Actor) → Keeps x y → Keeps y z → Keeps x z
+keeps_then x y z p q = record {
+  fits = λ n f. q.fits n (p.fits n f);
+  owed = omega (arith, p.owed, q.owed);
+  due = omega (arith, p.due, q.due);
+}

@@ -1,0 +1,20 @@
+use Rattle.std.proofs.Common.{◌≡◌, ◌≢◌, [], refl, sym, ◌∙◌}
+use Rattle.tx_actor.specs.declared.actor.Stage.TheVariants as stage
+use Rattle.tx_actor.specs.declared.actor.TxActor.{TxActor}
+use Rattle.tx_actor.proofs.AskLemmas.{closes_as, locks_as, none_there, some_there}
+use Rattle.tx_actor.proofs.actor.TxActor.asks_to_commit.Goals as goal
+
+pub returns-then-len-eq0-clause-ok : goal.returns-then-len-eq0-clause-ok
+returns-then-len-eq0-clause-ok g c a w laid s =
+    let r = c.args.self.now in
+    let u : TxActor g.row.V.Denot = record r { words = c.close_words.new.words; stage = stage.Closing } in
+    let none : r.words.writes.entries ≡ [] = none_there r.words.writes.entries (sym c.len.ensures ∙ c.if-len-eq0.true) in
+    closes_as c.args.blocks.now r u none refl refl c.in_ok-close_words.ensures.actor a w laid s
+
+pub returns-clause-ok : goal.returns-clause-ok
+returns-clause-ok g c a w laid s =
+    let r = c.args.self.now in
+    let homes = c.in_ok-homes.homes in
+    let u : TxActor g.row.V.Denot = record r { words = c.lock_words.new.words; stage = stage.Locking homes } in
+    let some : r.words.writes.entries ≢ [] = some_there r.words.writes.entries (λ e. c.if-len-eq0.false (c.len.ensures ∙ e)) in
+    locks_as c.args.blocks.now r u homes some refl refl c.in_ok-lock_words.ensures.actor c.in_ok-homes.ensures a w laid s

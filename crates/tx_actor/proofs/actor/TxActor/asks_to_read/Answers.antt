@@ -1,0 +1,44 @@
+use Rattle.std.proofs.Common.{◌≡◌, ltb, true, Some, None, length, refl, sym, ap, ◌∙◌, arith, rules}
+use Rattle.seq_model.specs.declared.limits.TheConstants.{CALL_LIMIT}
+use Rattle.word_machine.proofs.Sets.{put-same}
+use Rattle.replay_log.specs.Worlds.{Seat}
+use Rattle.step_core.specs.Shown.{actor_of}
+use Rattle.tx_actor.specs.Asks.{may_read, number_told}
+use Rattle.tx_actor.specs.Running.{seat_of}
+use Rattle.tx_actor.specs.declared.actor.Stage.TheVariants as stage
+use Rattle.tx_actor.specs.declared.actor.Told.TheVariants as told
+use Rattle.tx_actor.specs.declared.actor.TxActor.{TxActor}
+use Rattle.tx_actor.proofs.BlocksLemmas.{is_below}
+use Rattle.tx_actor.proofs.AskLemmas.{reads_as}
+use Rattle.tx_actor.proofs.actor.TxActor.asks_to_read.Goals as goal
+
+pub returns-in-Some-clause-ok : goal.returns-in-Some-clause-ok
+returns-in-Some-clause-ok g c =
+    let r = c.args.self.now in
+    let l = c.args.word in
+    let v = c.in-Some.value in
+    let known : ltb l c.args.blocks.now.words ≡ true =
+    is_below l c.args.blocks.now.words (omega (arith, c.words.ensures, c.if-word-words.false)) in
+    let few : ltb (length r.calls.items) CALL_LIMIT ≡ true =
+    is_below (length r.calls.items) CALL_LIMIT (omega (arith, c.len.ensures, c.if-len-ge-CALL_LIMIT.false)) in
+    let room : may_read (actor_of r.words) l ≡ true = search rules in
+    let z : Seat g.row.V.Denot = record (seat_of r) { calls = c.reserve.new.self.items } in
+    let same : z ≡ seat_of r = λ j. record (seat_of r) { calls = c.in_ok-reserve.ensures.items j } in
+    reads_as c.args.blocks.now r c.read.new.self c.read.result z l (Some v) same known few room
+    (ap number_told (sym c.in-Some.is) ∙ c.in_ok-value.ensures.found)
+    (λ a w is. c.read.ensures a w (is ∙ sym c.in_ok-value.ensures.actor))
+
+pub returns-in-None-clause-ok : goal.returns-in-None-clause-ok
+returns-in-None-clause-ok g c =
+    let r = c.args.self.now in
+    let l = c.args.word in
+    let u : TxActor g.row.V.Denot = record r { words = c.read_word.new.words; stage = stage.Reading l; calls = c.reserve.new.self } in
+    let known : ltb l c.args.blocks.now.words ≡ true =
+    is_below l c.args.blocks.now.words (omega (arith, c.words.ensures, c.if-word-words.false)) in
+    let few : ltb (length r.calls.items) CALL_LIMIT ≡ true =
+    is_below (length r.calls.items) CALL_LIMIT (omega (arith, c.len.ensures, c.if-len-ge-CALL_LIMIT.false)) in
+    let room : may_read (actor_of r.words) l ≡ true = search rules in
+    let z : Seat g.row.V.Denot = record (seat_of r) { calls = c.reserve.new.self.items } in
+    let same : z ≡ seat_of r = λ j. record (seat_of r) { calls = c.in_ok-reserve.ensures.items j } in
+    reads_as c.args.blocks.now r u told.Quiet z l None same known few room (ap number_told (sym c.in-None.is) ∙ c.in_ok-value.ensures.found)
+    (λ a w is. ((put-same w.seats a _, is ∙ sym c.in_ok-value.ensures.actor, tt), refl))

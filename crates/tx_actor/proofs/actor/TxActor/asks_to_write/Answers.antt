@@ -1,0 +1,31 @@
+use Rattle.std.proofs.Common.{◌≡◌, ltb, true, [], ◌∷◌, length, refl, sym, ◌∙◌, arith, rules}
+use Rattle.seq_model.specs.declared.call.Call.{Call}
+use Rattle.seq_model.specs.declared.call.Op.TheVariants.{Write}
+use Rattle.seq_model.specs.declared.call.Reply.TheVariants.{Done}
+use Rattle.seq_model.specs.declared.limits.TheConstants.{CALL_LIMIT}
+use Rattle.word_machine.proofs.Sets.{put-same}
+use Rattle.replay_log.specs.Worlds.{fits}
+use Rattle.tx_actor.specs.Running.{seat_of}
+use Rattle.tx_actor.specs.declared.actor.Stage.TheVariants as stage
+use Rattle.tx_actor.specs.declared.actor.Told.TheVariants as told
+use Rattle.seq_model.specs.declared.event.Answer.TheVariants as answer
+use Rattle.tx_actor.specs.declared.actor.TxActor.{TxActor}
+use Rattle.tx_actor.proofs.BlocksLemmas.{is_below}
+use Rattle.tx_actor.proofs.AskLemmas.{more_calls, writes_as}
+use Rattle.tx_actor.proofs.actor.TxActor.asks_to_write.Goals as goal
+
+pub returns-clause-ok : goal.returns-clause-ok
+returns-clause-ok g c =
+    let r = c.args.self.now in
+    let l = c.args.word in
+    let u : TxActor g.row.V.Denot = record r { words = c.write_word.new.words; stage = stage.Open; calls = c.push_reserved.new.self } in
+    let known : ltb l c.args.blocks.now.words ≡ true =
+    is_below l c.args.blocks.now.words (omega (arith, c.words.ensures, c.if-word-words.false)) in
+    let few : ltb (length r.calls.items) CALL_LIMIT ≡ true =
+    is_below (length r.calls.items) CALL_LIMIT (omega (arith, c.len.ensures, c.if-len-ge-CALL_LIMIT.false)) in
+    let room : fits r.words.writes.entries (l ∷ []) ≡ true = search rules in
+    let call : Call g.row.V.Denot = record { target = l; op = Write c.args.value } in
+    let seat = more_calls (seat_of r) r.calls.items c.reserve.new.self.items c.push_reserved.new.self.items call Done
+    c.in_ok-reserve.ensures.items c.push_reserved.ensures.items in
+    writes_as c.args.blocks.now r u (told.Answered (answer.Replied Done)) l c.args.value known c.if-self.false few room
+    (λ a w is. ((put-same w.seats a _ ∙ sym seat, is ∙ sym c.in_ok-write_word.ensures.actor, tt), refl))

@@ -1,0 +1,112 @@
+//! What an actor is asked: a read or a write of a word, and the two ends of its transaction. A request that needs room makes it first,
+//! and leaves the actor as it was where memory is refused.
+ghost use Rattle.std.specs.Prelude.{◌≡◌, IfOk, OnErr, OnOk};
+ghost use Rattle.seq_model.specs.declared.event.Notice.TheVariants.{Quiet};
+ghost use Rattle.seq_model.specs.declared.call.Op.TheVariants as op;
+ghost use Rattle.replay_log.specs.Worlds as worlds;
+ghost use Rattle.replay_log.specs.Worlds.{ask_op, commits};
+ghost use Rattle.tx_actor.specs.Asks.{Asks, MayStore, Stands};
+ghost use Rattle.tx_actor.specs.Running.{Does, seat_of};
+
+use crate::actor::{Stage, Told, TxActor};
+use crate::blocks::Blocks;
+use crate::homes::written_homes;
+use crate::requests::{
+    close_words, fits_one, lock_words, may_read, read_word, store_words, write_word,
+};
+use seq_model::{Answer, CALL_LIMIT, Call, Memory, Op, Refusal, Reply};
+use std::alloc::Global;
+
+impl<V: Drop> TxActor<V> {
+    /// A word is to be read. What a set has of it is answered at once. `NoSuch` where there is no such word, then `TooLong` past the
+    /// limit of calls, or where it finds no room in the read set; neither changes anything.
+    pub fn asks_to_read(&mut self, blocks: &Blocks, word: u32) -> Result<Told<V>, Memory>
+        ensures ok { IfOk result (λ told. Asks blocks.now self.old self.new told (λ a w. ask_op w a (seat_of self.old) word op.Read)) }
+        ensures err { OnErr result (Stands self.old self.new) }
+    {
+        if word >= blocks.words() {
+            return Ok(Told::Refused(Refusal::NoSuch));
+        }
+        if self.calls.len() >= CALL_LIMIT {
+            return Ok(Told::Refused(Refusal::TooLong));
+        }
+        if !may_read(&self.words, word) {
+            return Ok(Told::Refused(Refusal::TooLong));
+        }
+        self.calls.reserve(1)?;
+        match read_word(&mut self.words, word)? {
+            Some(value) => Ok(self.read(word, value)),
+            None => {
+                self.stage = Stage::Reading(word);
+                Ok(Told::Quiet)
+            }
+        }
+    }
+
+    /// A word is to be written, which is answered at once. `NoSuch` where there is no such word, and for a declared reader, then
+    /// `TooLong` past the limit of calls, or where it finds no room in the write set; neither changes anything.
+    pub fn asks_to_write(
+        &mut self,
+        blocks: &Blocks,
+        word: u32,
+        value: u64,
+    ) -> Result<Told<V>, Memory>
+        ensures ok { IfOk result (λ told. Asks blocks.now self.old self.new told (λ a w. ask_op w a (seat_of self.old) word (op.Write value))) }
+        ensures err { OnErr result (Stands self.old self.new) }
+    {
+        if word >= blocks.words() {
+            return Ok(Told::Refused(Refusal::NoSuch));
+        }
+        if self.words.declared {
+            return Ok(Told::Refused(Refusal::NoSuch));
+        }
+        if self.calls.len() >= CALL_LIMIT {
+            return Ok(Told::Refused(Refusal::TooLong));
+        }
+        if !fits_one(&self.words.writes, word) {
+            return Ok(Told::Refused(Refusal::TooLong));
+        }
+        self.calls.reserve(1)?;
+        write_word(&mut self.words, word, value)?;
+        let call = Call {
+            target: word,
+            op: Op::Write(value),
+        };
+        self.calls.push_reserved((call, Reply::Done));
+        self.stage = Stage::Open;
+        Ok(Told::Answered(Answer::Replied(Reply::Done)))
+    }
+
+    /// Its transaction is to commit. Where it has written, the collections with a written location are found now.
+    pub fn asks_to_commit(&mut self, alloc: Global, blocks: &Blocks) -> Result<Told<V>, Memory>
+        ensures ok { IfOk result (λ told. Asks blocks.now self.old self.new told (λ a w. commits w a (seat_of self.old) (worlds.actor_of w a).writes)) }
+        ensures err { OnErr result (Stands self.old self.new) }
+    {
+        if self.words.writes.len() == 0 {
+            close_words(&mut self.words, blocks.end() as usize)?;
+            self.stage = Stage::Closing;
+            return Ok(Told::Quiet);
+        }
+        let homes = written_homes(alloc, blocks, &self.words.writes)?;
+        lock_words(&mut self.words, blocks.end() as usize)?;
+        self.stage = Stage::Locking(homes);
+        Ok(Told::Quiet)
+    }
+
+    /// Its first value is to be stored next, which is the next step of its word actor. All is locked and checked, and the gates are held.
+    pub fn asks_to_store(&mut self, blocks: &Blocks) -> Result<(), Memory>
+        ensures ok { OnOk result (MayStore self.old self.new) }
+        ensures err { OnErr result (Stands self.old self.new) }
+    {
+        store_words(&mut self.words, blocks.end() as usize)?;
+        Ok(())
+    }
+
+    /// Its transaction is to end without a commit.
+    pub fn asks_to_abort(&mut self) -> Told<V>
+        ensures { Does self.old self.new result (λ a w. (worlds.cancels w a (record (seat_of self.old) { cause = None }), Quiet)) }
+    {
+        self.cause = None;
+        self.cancels()
+    }
+}
