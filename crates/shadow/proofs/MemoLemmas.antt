@@ -144,7 +144,7 @@ counted c =
 more_counted : (o : Option ℕ) → unwrap_or (multisets.more o) 0 ≡ counted_up (unwrap_or o 0)
 more_counted o =
     elim (nat_lt (unwrap_or o 0) COPY_LIMIT) as (λ b. unwrap_or (cond b (multisets.some_copies (unwrap_or o 0 + 1)) o) 0 ≡ cond b
-        (suc (unwrap_or o 0)) (unwrap_or o 0)) [
+    (suc (unwrap_or o 0)) (unwrap_or o 0)) [
       | true ↦ counted (unwrap_or o 0 + 1) ∙ omega arith
       | false ↦ refl
     ]
@@ -155,7 +155,7 @@ copies_at : (x q : ℕ) (g : Option ℕ → Option ℕ) (f : Multiset → Multis
 copies_at x q g f m n at is =
     ap (λ o. unwrap_or o 0) (at m q)
     ∙ elim (eq_by_cmp nat_cmp q x) as (λ t. unwrap_or (cond t (g (get m x)) (get m q)) 0 ≡ cond t n
-        (copies m q)) [ true ↦ is | false ↦ refl ]
+    (copies m q)) [ true ↦ is | false ↦ refl ]
 
 abbrev OfBag-known : FinMap nat_cmp ℕ → Multiset → Multiset → Type 0
 OfBag-known cs m now = IsKnown copies cs m now
@@ -199,13 +199,13 @@ module _ {V : Type 0} where
       → holds_by (OfMap b) es cs op ≡ true → IsKnown get es m now → Given (map_answer op es) out → map.outcome_of op now ≡ Some out
   entry_answered (Get k) b es cs m now out held is given =
       ap (λ a. Some (entry_outcome (Get k) a)) (known_now es m now k held is)
-          ∙ ap Some (sym (given (entry_outcome (Get k) (known_entry es k)) refl))
+      ∙ ap Some (sym (given (entry_outcome (Get k) (known_entry es k)) refl))
   entry_answered (Put k v) b es cs m now out held is given =
       ap (λ a. Some (entry_outcome (Put k v) a)) (known_now es m now k held is)
-          ∙ ap Some (sym (given (entry_outcome (Put k v) (known_entry es k)) refl))
+      ∙ ap Some (sym (given (entry_outcome (Put k v) (known_entry es k)) refl))
   entry_answered (Remove k) b es cs m now out held is given =
       ap (λ a. Some (entry_outcome (Remove k) a)) (known_now es m now k held is)
-          ∙ ap Some (sym (given (entry_outcome (Remove k) (known_entry es k)) refl))
+      ∙ ap Some (sym (given (entry_outcome (Remove k) (known_entry es k)) refl))
   entry_answered _ b es cs m now out held is given = absurd (true≢false (sym held))
 
   abbrev counted_outcome : Op V → Reply V → Outcome V
