@@ -3,25 +3,32 @@
 use Rattle.std.proofs.Common.{◌≡◌, ◌<◌, ℕ, true, length, List, [], Option, Some, None, get_or, refl, sym, ap, subst, ◌∙◌}
 use Rattle.std.proofs.Math.ListN.{set}
 use Rattle.std.proofs.lemmas.Option.{slice_get_read}
-use Rattle.word_machine.specs.Actor.{Actor}
+use Rattle.tx_sets.specs.Entries.{Entries, lookup}
+use Rattle.word_machine.specs.Actor.{Actor, Open as AtRest}
 use Rattle.word_machine.proofs.Sets.{put-same}
+use Rattle.seq_model.specs.declared.event.Notice.TheVariants.{Quiet}
 use Rattle.conflict.specs.declared.outcome.Outcome.{Outcome}
 use Rattle.collection_machine.specs.Boosted.{Accept}
 use Rattle.replay_log.specs.Contents.{Answered, content}
 use Rattle.replay_log.specs.Guards.{Allows}
 use Rattle.replay_log.specs.Pieces.{Piece}
-use Rattle.replay_log.specs.Worlds.{World, Seat, actor_of, call_of, outcome_at, reply_of, with_call}
+use Rattle.replay_log.specs.Worlds.{World, Seat, Loading, actor_of, at_stage, call_of, outcome_at, reply_of, with_call}
 use Rattle.tx_actor.specs.declared.actor.CopyOf.{CopyOf}
 use Rattle.tx_actor.specs.declared.copies.Copied.{Copied}
-use Rattle.tx_actor.specs.declared.judged.Judged.TheVariants.{All}
+use Rattle.tx_actor.specs.declared.judged.Judged.{Judged}
+use Rattle.tx_actor.specs.declared.judged.Judged.TheVariants.{All, Next}
+use Rattle.tx_actor.specs.declared.actor.Told.{Told}
+use Rattle.tx_actor.specs.declared.actor.TxActor.{TxActor}
+use Rattle.tx_actor.specs.Shows.{actor_after}
 use Rattle.tx_actor.specs.Accepts.{written}
 use Rattle.tx_actor.specs.Answers.{IsAcceptedAt}
 use Rattle.tx_actor.specs.Copies.{IsAccepted, holds_call}
 use Rattle.tx_actor.specs.Judged.{comes_to}
-use Rattle.tx_actor.specs.Running.{copy_of, has_piece}
+use Rattle.tx_actor.specs.Running.{Runs, copy_of, has_piece, notice_of}
 use Rattle.tx_actor.proofs.AcceptsLemmas.{accepts}
 use Rattle.tx_actor.proofs.KeptLemmas.{accepted_pieces, same_pieces}
 use Rattle.tx_actor.proofs.RunsLemmas.{Seats}
+use Rattle.tx_actor.proofs.ShowsLemmas.{reads_next}
 
 module _ {V : Type 0} where
   pub accepted_at : (i : ℕ) (p : Option (Outcome V)) (o : Outcome V) (before : List (CopyOf V)) (c : CopyOf V) (e : Copied V)
@@ -61,3 +68,25 @@ module _ {V : Type 0} where
             ∙ sym e),
         k,
       )
+
+  -- what was judged is what the call comes to
+  pub by_judged : (u : TxActor V) (t : Told V) (a : ℕ) (w : World V) (x : Seat V) (o : Answered V) (left : Entries) (i j : Judged) → i ≡ j
+      → Runs a u (comes_to w a x o left i).0 × (notice_of a t ≡ (comes_to w a x o left i).1)
+      → Runs a u (comes_to w a x o left j).0 × (notice_of a t ≡ (comes_to w a x o left j).1)
+  by_judged u t a w x o left i j e is =
+      subst (λ (z : Judged). Runs a u (comes_to w a x o left z).0 × (notice_of a t ≡ (comes_to w a x o left z).1)) e is
+
+  -- the next location is read
+  reads_as : (a : ℕ) (w : World V) (x p : Seat V) (y q : Actor) (o : Answered V) (left : Entries) (l : ℕ) (K : Type 0) → K
+      → actor_of w a ≡ y → y.place ≡ AtRest → lookup y.writes l ≡ None → lookup y.reads l ≡ None → q ≡ actor_after (Next l) y
+      → p ≡ at_stage x (Loading o left) → Seats a p q K (comes_to w a x o left (Next l)).0
+  reads_as a w x p y q o left l K k s rests nw nr e f =
+      (put-same w.seats a _ ∙ sym f, (reads_next a (w.seats a) y w o left l rests nw nr (refl, s)).0.1 ∙ sym e, k)
+
+  pub reads_by : (a : ℕ) (w : World V) (x p : Seat V) (y q : Actor) (o : Answered V) (left : Entries) (l : ℕ) (K : Type 0) (j : Judged) → K
+      → Next l ≡ j → actor_of w a ≡ y → y.place ≡ AtRest → lookup y.writes l ≡ None → lookup y.reads l ≡ None → q ≡ actor_after (Next l) y
+      → p ≡ at_stage x (Loading o left)
+      → Seats a p q K (comes_to w a x o left j).0 × (Quiet ≡ (comes_to w a x o left j).1)
+  reads_by a w x p y q o left l K j k is s rests nw nr e f =
+      subst (λ (z : Judged). Seats a p q K (comes_to w a x o left z).0 × (Quiet ≡ (comes_to w a x o left z).1)) is
+      (reads_as a w x p y q o left l K k s rests nw nr e f, refl)
