@@ -1,7 +1,7 @@
 //! The editions of collections: a whole log raises each location that it writes once.
 ghost use Rattle.std.specs.Prelude.{◌≡◌, ◌<◌, IfOk};
 
-use crate::outcomes::expect_held;
+use crate::sessions::expect_on;
 use base_bag::BagBase;
 use base_map::MapBase;
 use base_pq::PqBase;
@@ -13,11 +13,27 @@ use std::alloc::Global;
 use std::process::Abort;
 use std::test::Fail;
 
+fn expect_left(
+    rt: &impl Abort,
+    alloc: Global,
+    mut base: Base<u64>,
+    left: &str,
+) -> Result<(), Refusal> {
+    expect_on(rt, alloc, &mut base, left)
+}
+
+fn two_puts(alloc: Global) -> Result<Changes<u64>, Memory> {
+    let mut changes = Items::new(alloc);
+    changes.push(Change::Put(1, 10))?;
+    changes.push(Change::Put(3, 30))?;
+    Ok(changes)
+}
+
 fn map_after_two_puts(alloc: Global) -> Result<MapBase<u64>, Refusal>
     ensures { IfOk result (λ base. base.stripes ≡ 2) }
 {
     let mut base = MapBase::new(alloc, 2)?;
-    let changes = Items::from_vec(vec![in alloc; Change::Put(1, 10), Change::Put(3, 30)]?);
+    let changes = two_puts(alloc)?;
     base.prepare(changes.as_slice())?;
     base.replay(changes, &LocSet::single(alloc, 1));
     Ok(base)
@@ -34,7 +50,7 @@ fn expect_of_copied_map(rt: &impl Abort, alloc: Global, base: &MapBase<u64>) -> 
 {
     let copy = base.try_copy()?;
     expect_of_map(rt, &copy);
-    expect_held(rt, alloc, &Base::Map(copy), b"map 1 1:10 3:30\n")
+    expect_left(rt, alloc, Base::Map(copy), "left 1:10 3:30\n")
 }
 
 #[test]
@@ -45,16 +61,18 @@ fn of_a_map(rt: HostRuntime) -> Result<(), Fail> {
     Ok(())
 }
 
+// Twice added, twice taken, and twice added again.
 fn six_changes(alloc: Global) -> Result<Changes<u64>, Memory> {
-    let changes = vec![in alloc;
-        Change::Add(3),
-        Change::Add(3),
-        Change::Take(3),
-        Change::Take(3),
-        Change::Add(3),
-        Change::Add(3),
-    ]?;
-    Ok(Items::from_vec(changes))
+    let mut changes = Items::new(alloc);
+    for adds in [true, true, false, false, true, true] {
+        let change = if adds {
+            Change::Add(3)
+        } else {
+            Change::Take(3)
+        };
+        changes.push(change)?;
+    }
+    Ok(changes)
 }
 
 fn multiset_after_six_changes(alloc: Global) -> Result<BagBase, Refusal>
@@ -78,7 +96,7 @@ fn expect_of_copied_multiset(rt: &impl Abort, alloc: Global, base: &BagBase) -> 
 {
     let copy = base.try_copy()?;
     expect_of_multiset(rt, &copy);
-    expect_held(rt, alloc, &Base::Bag(copy), b"bag 1 3:2\n")
+    expect_left(rt, alloc, Base::Bag(copy), "left 3:2\n")
 }
 
 #[test]
@@ -89,11 +107,17 @@ fn of_a_multiset(rt: HostRuntime) -> Result<(), Fail> {
     Ok(())
 }
 
+fn one_change(alloc: Global, change: Change<u64>) -> Result<Changes<u64>, Memory> {
+    let mut changes = Items::new(alloc);
+    changes.push(change)?;
+    Ok(changes)
+}
+
 fn priority_queue_after_an_add(alloc: Global) -> Result<PqBase, Refusal>
     ensures { IfOk result (λ base. base.stripes ≡ 2) }
 {
     let mut base = PqBase::new(alloc, 2)?;
-    let changes: Changes<u64> = Items::from_vec(vec![in alloc; Change::Add(9)]?);
+    let changes = one_change(alloc, Change::Add(9))?;
     base.prepare(changes.as_slice())?;
     base.replay(changes, &LocSet::single(alloc, 2));
     Ok(base)
@@ -120,7 +144,7 @@ fn queue_after_an_enqueue(alloc: Global) -> Result<QueueBase, Refusal>
     ensures { IfOk result (λ base. base.stripes ≡ 2) }
 {
     let mut base = QueueBase::new(alloc, 2)?;
-    let changes: Changes<u64> = Items::from_vec(vec![in alloc; Change::Enqueue(0, 7)]?);
+    let changes = one_change(alloc, Change::Enqueue(0, 7))?;
     base.prepare(changes.as_slice())?;
     base.replay(changes, &LocSet::pair(alloc, 1, 2));
     Ok(base)

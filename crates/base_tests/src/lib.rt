@@ -2,8 +2,8 @@
 //! and shadows of copies.
 //!
 //! They stand apart from the crates that they test, since a crate with tests is proved twice. What all four collections do stands
-//! in tables of texts over [`replay_log::Base`]: calls, as step scripts write them, and what came of each. What only one kind
-//! does, or refuses as it is opened, is called of that kind.
+//! in texts over [`replay_log::Base`]: calls, as step scripts write them, and what came of each. What only one kind does, or
+//! refuses as it is opened, is called of that kind.
 #![tactic(auto)]
 
 #[cfg(test)]
@@ -15,8 +15,8 @@ mod logs;
 #[cfg(test)]
 mod openings;
 #[cfg(test)]
-mod outcomes;
-#[cfg(test)]
 mod replays;
+#[cfg(test)]
+mod sessions;
 #[cfg(test)]
 mod shadows;

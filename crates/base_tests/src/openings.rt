@@ -1,11 +1,11 @@
 //! What is refused as a collection is opened.
+use crate::sessions::held_of;
 use base_bag::BagBase;
 use base_map::MapBase;
 use base_pq::PqBase;
 use base_queue::QueueBase;
-use model_tests::states::queue_of;
 use replay_log::Base;
-use seq_model::{Counts, Entries, Held, INDEX_LIMIT, Refusal};
+use seq_model::{Counts, Entries, Held, Memory, Refusal};
 use std::alloc::Global;
 use std::process::Abort;
 use std::test::Fail;
@@ -44,34 +44,40 @@ fn no_stripe_and_one_too_many(rt: HostRuntime) -> Result<(), Fail> {
     Ok(())
 }
 
-fn expect_too_long(rt: &impl Abort, alloc: Global, collection: &Collection) -> Result<(), Refusal> {
-    let held = collection.held.try_copy(alloc)?;
-    assert!(rt;
-        is_refused(
-            Base::open(alloc, collection.stripes, held),
-            Refusal::TooLong
-        )
-    );
-    Ok(())
+fn is_too_long(alloc: Global, collection: &Collection, index: u64) -> Result<bool, Memory> {
+    let held = held_of(alloc, collection, index)?;
+    let opened = Base::open(alloc, collection.stripes, held);
+    Ok(is_refused(opened, Refusal::TooLong))
 }
 
-#[test]
-fn what_is_beyond_a_limit(rt: HostRuntime) -> Result<(), Fail> {
-    let header =
-        b"map 0\nmap 65\nbag 0\nbag 65\npq 0\npq 65\nqueue 0\nqueue 65\nbag 2 3:4294967296\npq 2 5:4294967296\n";
-    let script = parse_steps(rt.alloc(), header.as_slice())?;
-    assert_eq!(rt; script.collections.len(), 10);
+/// Each of the script's collections must be refused, of which there are so many.
+fn expect_too_long(
+    rt: &impl Abort,
+    alloc: Global,
+    script: &[u8],
+    count: usize,
+) -> Result<(), Refusal> {
+    let script = parse_steps(alloc, script)?;
+    assert_eq!(rt; script.collections.len(), count);
     for collection in script.collections.as_slice() {
-        expect_too_long(&rt, rt.alloc(), collection)?;
+        let refused = is_too_long(alloc, collection, script.clock)?;
+        assert!(rt; refused);
     }
     Ok(())
 }
 
 #[test]
-fn indexes_past_the_limit(rt: HostRuntime) -> Result<(), Fail> {
-    let past = queue_of(rt.alloc(), INDEX_LIMIT + 1, &[])?;
-    assert!(rt; is_refused(Base::open(rt.alloc(), 1, past), Refusal::TooLong));
-    let long = queue_of(rt.alloc(), INDEX_LIMIT - 1, &[8, 9])?;
-    assert!(rt; is_refused(Base::open(rt.alloc(), 1, long), Refusal::TooLong));
+fn what_is_beyond_a_limit(rt: HostRuntime) -> Result<(), Fail> {
+    let rows: [(&[u8], usize); 3] = [
+        (
+            b"map 0\nmap 65\nbag 0\nbag 65\npq 0\npq 65\nqueue 0\nqueue 65\nbag 2 3:4294967296\npq 2 5:4294967296\n",
+            10,
+        ),
+        (b"clock 4611686018427387905\nqueue 1\n", 1),
+        (b"clock 4611686018427387903\nqueue 1 8 9\n", 1),
+    ];
+    for (script, count) in rows.as_slice() {
+        expect_too_long(&rt, rt.alloc(), script, *count)?;
+    }
     Ok(())
 }

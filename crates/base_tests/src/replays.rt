@@ -1,93 +1,75 @@
 //! What calls leave whose changes are replayed.
-use crate::outcomes::{base_of, call, expect, expect_held, expect_queue, queue};
-use base_bag::BagBase;
-use base_map::MapBase;
-use base_pq::PqBase;
-use base_queue::QueueBase;
-use conflict::{Change, Changes, LocSet};
-use model_tests::states::{queue_of, state_of};
+use crate::sessions::{base_of, call, collection_of, expect, expect_on, held_of, opened_in};
+use model_tests::states::state_of;
 use replay_log::Base;
-use seq_model::{Call, Held, INDEX_LIMIT, Items, Op, Refusal, Request, State};
+use seq_model::{Call, Refusal, Request, State};
 use std::alloc::Global;
 use std::process::Abort;
 use std::test::Fail;
-use step_script::{Line, parse_steps};
-
-fn expect_to_leave(
-    rt: &impl Abort,
-    alloc: Global,
-    base: &mut Base<u64>,
-    calls: &[u8],
-    wanted: &[u8],
-    left: &[u8],
-) -> Result<(), Refusal> {
-    expect(rt, alloc, base, calls, wanted)?;
-    expect_held(rt, alloc, base, left)
-}
-
-/// Opens a collection so, makes the calls, which must have these outcomes, and must then hold this.
-fn expect_left(
-    rt: &impl Abort,
-    alloc: Global,
-    header: &[u8],
-    calls: &[u8],
-    wanted: &[u8],
-    left: &[u8],
-) -> Result<(), Refusal> {
-    let mut base = base_of(alloc, header)?;
-    expect_to_leave(rt, alloc, &mut base, calls, wanted, left)
-}
+use step_script::{Line, Script, parse_steps};
 
 #[test]
 fn of_a_map(rt: HostRuntime) -> Result<(), Fail> {
-    let calls =
-        b"1 do call 0 put 1 10\n1 do call 0 put 3 30\n1 do call 0 put 3 31\n1 do call 0 remove 1\n1 do call 0 remove 1\n1 call 0 len\n";
-    let wanted =
-        b"Nothing, reads 1, writes 1, Put 1 10\nNothing, reads 1, writes 1, Put 3 30\nValue 30, reads 1, writes 1, Put 3 31\nValue 10, reads 1, writes 1, Remove 1\nNothing, reads 1, writes\nNumber 1, reads 0 1, writes\n";
-    expect_left(&rt, rt.alloc(), b"map 2\n", calls, wanted, b"map 1 3:31\n")?;
+    let text = "\
+do call 0 put 1 10 = Nothing, reads 1, writes 1, Put 1 10
+do call 0 put 3 30 = Nothing, reads 1, writes 1, Put 3 30
+do call 0 put 3 31 = Value 30, reads 1, writes 1, Put 3 31
+do call 0 remove 1 = Value 10, reads 1, writes 1, Remove 1
+do call 0 remove 1 = Nothing, reads 1, writes
+call 0 len = Number 1, reads 0 1, writes
+left 3:31
+";
+    expect(&rt, rt.alloc(), b"map 2\n", text)?;
     Ok(())
 }
 
 #[test]
 fn of_a_multiset(rt: HostRuntime) -> Result<(), Fail> {
-    let calls =
-        b"1 do call 0 add 3\n1 do call 0 add 3\n1 do call 0 take 3\n1 do call 0 take 3\n1 do call 0 take 3\n1 do call 0 add 3\n1 do call 0 add 3\n";
-    let wanted =
-        b"Done, reads 0, writes 0, Add 3\nDone, reads 0, writes 0, Add 3\nYes, reads 0, writes 0, Take 3\nYes, reads 0, writes 0, Take 3\nNo, reads 0, writes\nDone, reads 0, writes 0, Add 3\nDone, reads 0, writes 0, Add 3\n";
-    expect_left(&rt, rt.alloc(), b"bag 1\n", calls, wanted, b"bag 1 3:2\n")?;
-    Ok(())
-}
-
-#[test]
-fn of_a_full_multiset(rt: HostRuntime) -> Result<(), Fail> {
-    let full = b"bag 2 3:4294967295\n";
-    let wanted = b"Full, reads 1, writes\n";
-    expect_left(&rt, rt.alloc(), full, b"1 do call 0 add 3\n", wanted, full)?;
+    let text = "\
+do call 0 add 3 = Done, reads 0, writes 0, Add 3
+do call 0 add 3 = Done, reads 0, writes 0, Add 3
+do call 0 take 3 = Yes, reads 0, writes 0, Take 3
+do call 0 take 3 = Yes, reads 0, writes 0, Take 3
+do call 0 take 3 = No, reads 0, writes
+do call 0 add 3 = Done, reads 0, writes 0, Add 3
+do call 0 add 3 = Done, reads 0, writes 0, Add 3
+left 3:2
+";
+    expect(&rt, rt.alloc(), b"bag 1\n", text)?;
     Ok(())
 }
 
 #[test]
 fn of_a_priority_queue(rt: HostRuntime) -> Result<(), Fail> {
-    let calls =
-        b"1 do call 0 insert 4\n1 do call 0 insert 4\n1 do call 0 take_least\n1 do call 0 take_least\n1 do call 0 least\n";
-    let wanted =
-        b"Done, reads 0 1, writes 0 1, Add 4, SetLeast 4\nDone, reads 0 1, writes 1, Add 4\nFound 4, reads 0 1 2, writes 0 1, Take 4, SetLeast 4\nFound 4, reads 0 1 2, writes 0 1, Take 4, SetLeast 5\nFound 5, reads 0, writes\n";
-    expect_left(&rt, rt.alloc(), b"pq 2 5:1\n", calls, wanted, b"pq 1 5:1\n")?;
+    let text = "\
+do call 0 insert 4 = Done, reads 0 1, writes 0 1, Add 4, SetLeast 4
+do call 0 insert 4 = Done, reads 0 1, writes 1, Add 4
+do call 0 take_least = Found 4, reads 0 1 2, writes 0 1, Take 4, SetLeast 4
+do call 0 take_least = Found 4, reads 0 1 2, writes 0 1, Take 4, SetLeast 5
+do call 0 least = Found 5, reads 0, writes
+left 5:1
+";
+    expect(&rt, rt.alloc(), b"pq 2 5:1\n", text)?;
+    Ok(())
+}
+
+#[test]
+fn of_a_full_multiset(rt: HostRuntime) -> Result<(), Fail> {
+    let text = "\
+do call 0 add 3 = Full, reads 1, writes
+left 3:4294967295
+";
+    expect(&rt, rt.alloc(), b"bag 2 3:4294967295\n", text)?;
     Ok(())
 }
 
 #[test]
 fn of_a_full_priority_queue(rt: HostRuntime) -> Result<(), Fail> {
-    let full = b"pq 2 5:4294967295\n";
-    let wanted = b"Full, reads 0 2, writes\n";
-    expect_left(
-        &rt,
-        rt.alloc(),
-        full,
-        b"1 do call 0 insert 5\n",
-        wanted,
-        full,
-    )?;
+    let text = "\
+do call 0 insert 5 = Full, reads 0 2, writes
+left 5:4294967295
+";
+    expect(&rt, rt.alloc(), b"pq 2 5:4294967295\n", text)?;
     Ok(())
 }
 
@@ -124,39 +106,33 @@ fn holds_the_same(base: &Base<u64>, state: &State<u64>) -> Result<bool, Refusal>
     Ok(state.held().iter().all(|held| held.same(&left)))
 }
 
-// Whether the calls are answered as by the sequential model, and leave the same.
-fn follows(
-    alloc: Global,
-    base: &mut Base<u64>,
-    opening: Held<u64>,
-    lines: &[Line],
-) -> Result<bool, Refusal> {
-    let mut state = state_of(alloc, &[], opening)?;
-    let are_answered = are_followed(alloc, base, &mut state, lines)?;
-    Ok(are_answered && holds_the_same(base, &state)?)
-}
-
 fn follows_in(
     alloc: Global,
-    stripes: u32,
-    (head, items): (u64, &[u64]),
+    base: &mut Base<u64>,
+    state: &mut State<u64>,
     lines: &[Line],
 ) -> Result<bool, Refusal> {
-    let opening = queue_of(alloc, head, items)?;
-    let mut base = queue(alloc, stripes, head, items)?;
-    follows(alloc, &mut base, opening, lines)
+    let are_answered = are_followed(alloc, base, state, lines)?;
+    Ok(are_answered && holds_the_same(base, state)?)
+}
+
+fn state_opened(alloc: Global, script: &Script) -> Result<State<u64>, Refusal> {
+    let held = held_of(alloc, collection_of(script)?, script.clock)?;
+    state_of(alloc, &[], held)
+}
+
+// Whether the calls are answered as by the sequential model, and leave the same.
+fn follows(alloc: Global, stripes: u32, script: &Script) -> Result<bool, Refusal> {
+    let mut state = state_opened(alloc, script)?;
+    let mut base = opened_in(alloc, stripes, script)?;
+    follows_in(alloc, &mut base, &mut state, script.lines.as_slice())
 }
 
 /// Opens queues of one, two and three stripes so, and makes the calls.
-fn expect_to_follow(
-    rt: &impl Abort,
-    alloc: Global,
-    opening: (u64, &[u64]),
-    calls: &[u8],
-) -> Result<(), Refusal> {
-    let script = parse_steps(alloc, calls)?;
+fn expect_to_follow(rt: &impl Abort, alloc: Global, script: &[u8]) -> Result<(), Refusal> {
+    let script = parse_steps(alloc, script)?;
     for stripes in 1..4 {
-        let is_well = follows_in(alloc, stripes, opening, script.lines.as_slice())?;
+        let is_well = follows(alloc, stripes, &script)?;
         assert!(rt; is_well, "in {stripes} stripes");
     }
     Ok(())
@@ -164,145 +140,172 @@ fn expect_to_follow(
 
 #[test]
 fn of_a_queue_go_round_the_cells(rt: HostRuntime) -> Result<(), Fail> {
-    let calls =
-        b"1 do call 0 enqueue 1\n1 do call 0 enqueue 2\n1 do call 0 dequeue\n1 do call 0 enqueue 3\n1 do call 0 peek\n1 do call 0 enqueue 4\n1 do call 0 dequeue\n1 do call 0 len\n";
-    expect_to_follow(&rt, rt.alloc(), (0, &[]), calls)?;
+    let script = b"\
+queue 1
+1 do call 0 enqueue 1
+1 do call 0 enqueue 2
+1 do call 0 dequeue
+1 do call 0 enqueue 3
+1 do call 0 peek
+1 do call 0 enqueue 4
+1 do call 0 dequeue
+1 do call 0 len
+";
+    expect_to_follow(&rt, rt.alloc(), script)?;
     Ok(())
 }
 
 #[test]
 fn of_a_queue_go_on_from_a_later_head(rt: HostRuntime) -> Result<(), Fail> {
-    let calls =
-        b"1 do call 0 dequeue\n1 do call 0 dequeue\n1 do call 0 enqueue 1\n1 do call 0 len\n1 do call 0 dequeue\n1 do call 0 dequeue\n1 do call 0 peek\n1 do call 0 enqueue 2\n";
-    expect_to_follow(&rt, rt.alloc(), (5, &[8, 7, 8, 9]), calls)?;
+    let script = b"\
+clock 5
+queue 1 8 7 8 9
+1 do call 0 dequeue
+1 do call 0 dequeue
+1 do call 0 enqueue 1
+1 do call 0 len
+1 do call 0 dequeue
+1 do call 0 dequeue
+1 do call 0 peek
+1 do call 0 enqueue 2
+";
+    expect_to_follow(&rt, rt.alloc(), script)?;
     Ok(())
 }
+
+const PAST_THE_LAST_ITEM: [&[u8]; 2] = [
+    b"\
+queue 1
+1 do call 0 len
+1 do call 0 peek
+1 do call 0 dequeue
+1 do call 0 dequeue
+1 do call 0 peek
+1 do call 0 enqueue 1
+1 do call 0 dequeue
+1 do call 0 dequeue
+1 do call 0 len
+",
+    b"\
+clock 4
+queue 1 3
+1 do call 0 len
+1 do call 0 peek
+1 do call 0 dequeue
+1 do call 0 dequeue
+1 do call 0 peek
+1 do call 0 enqueue 1
+1 do call 0 dequeue
+1 do call 0 dequeue
+1 do call 0 len
+",
+];
 
 #[test]
 fn of_a_queue_go_past_its_last_item(rt: HostRuntime) -> Result<(), Fail> {
-    let calls =
-        b"1 do call 0 len\n1 do call 0 peek\n1 do call 0 dequeue\n1 do call 0 dequeue\n1 do call 0 peek\n1 do call 0 enqueue 1\n1 do call 0 dequeue\n1 do call 0 dequeue\n1 do call 0 len\n";
-    expect_to_follow(&rt, rt.alloc(), (0, &[]), calls)?;
-    expect_to_follow(&rt, rt.alloc(), (4, &[3]), calls)?;
+    for script in PAST_THE_LAST_ITEM.as_slice() {
+        expect_to_follow(&rt, rt.alloc(), script)?;
+    }
     Ok(())
 }
+
+const UP_TO_THE_LAST_INDEX: [&[u8]; 2] = [
+    b"\
+clock 4611686018427387902
+queue 1 8
+1 do call 0 enqueue 1
+1 do call 0 enqueue 2
+1 do call 0 len
+1 do call 0 dequeue
+1 do call 0 dequeue
+1 do call 0 dequeue
+1 do call 0 enqueue 3
+1 do call 0 peek
+1 do call 0 len
+",
+    b"\
+clock 4611686018427387904
+queue 1
+1 do call 0 enqueue 1
+1 do call 0 enqueue 2
+1 do call 0 len
+1 do call 0 dequeue
+1 do call 0 dequeue
+1 do call 0 dequeue
+1 do call 0 enqueue 3
+1 do call 0 peek
+1 do call 0 len
+",
+];
 
 #[test]
 fn of_a_queue_go_up_to_the_last_index(rt: HostRuntime) -> Result<(), Fail> {
-    let calls =
-        b"1 do call 0 enqueue 1\n1 do call 0 enqueue 2\n1 do call 0 len\n1 do call 0 dequeue\n1 do call 0 dequeue\n1 do call 0 dequeue\n1 do call 0 enqueue 3\n1 do call 0 peek\n1 do call 0 len\n";
-    expect_to_follow(&rt, rt.alloc(), (INDEX_LIMIT - 2, &[8]), calls)?;
-    expect_to_follow(&rt, rt.alloc(), (INDEX_LIMIT, &[]), calls)?;
+    for script in UP_TO_THE_LAST_INDEX.as_slice() {
+        expect_to_follow(&rt, rt.alloc(), script)?;
+    }
     Ok(())
 }
 
-fn expect_call(
-    rt: &impl Abort,
-    alloc: Global,
-    base: &mut Base<u64>,
-    op: &Op<u64>,
-    left: &[u8],
-) -> Result<(), Refusal> {
-    call(alloc, base, op)?;
-    expect_held(rt, alloc, base, left)
-}
-
-fn expect_call_on_a_copy(
+fn expect_on_a_copy(
     rt: &impl Abort,
     alloc: Global,
     base: &Base<u64>,
-    op: &Op<u64>,
-    left: &[u8],
+    text: &str,
 ) -> Result<(), Refusal> {
     let mut copy = base.try_copy()?;
-    expect_call(rt, alloc, &mut copy, op, left)
+    expect_on(rt, alloc, &mut copy, text)
 }
 
-// Makes a call on the collection and another on a copy of it, which alone must be changed by that.
+// Makes the calls of the first text on the collection and those of the second on a copy of it, which alone must be changed by
+// them.
 fn expect_copied(
     rt: &impl Abort,
     alloc: Global,
-    base: &mut Base<u64>,
-    (op, left): (&Op<u64>, &[u8]),
-    (later, left_in_the_copy): (&Op<u64>, &[u8]),
-) -> Result<(), Refusal> {
-    expect_call(rt, alloc, base, op, left)?;
-    expect_call_on_a_copy(rt, alloc, base, later, left_in_the_copy)?;
-    expect_held(rt, alloc, base, left)
-}
-
-fn expect_copy_of(
-    rt: &impl Abort,
-    alloc: Global,
     header: &[u8],
-    made: (&Op<u64>, &[u8]),
-    made_on_the_copy: (&Op<u64>, &[u8]),
+    (made, made_on_the_copy, left): (&str, &str, &str),
 ) -> Result<(), Refusal> {
     let mut base = base_of(alloc, header)?;
-    expect_copied(rt, alloc, &mut base, made, made_on_the_copy)
+    expect_on(rt, alloc, &mut base, made)?;
+    expect_on_a_copy(rt, alloc, &base, made_on_the_copy)?;
+    expect_on(rt, alloc, &mut base, left)
 }
 
 #[test]
 fn leave_alone_what_a_map_was_copied_from(rt: HostRuntime) -> Result<(), Fail> {
-    let put = (&Op::Put(2, 20), b"map 2 1:10 2:20\n".as_slice());
-    let remove = (&Op::Remove(1), b"map 2 2:20\n".as_slice());
-    expect_copy_of(&rt, rt.alloc(), b"map 2 1:10\n", put, remove)?;
+    let made = "do call 0 put 2 20 = Nothing, reads 0, writes 0, Put 2 20\nleft 1:10 2:20\n";
+    let made_on_the_copy =
+        "do call 0 remove 1 = Value 10, reads 1, writes 1, Remove 1\nleft 2:20\n";
+    let texts = (made, made_on_the_copy, "left 1:10 2:20\n");
+    expect_copied(&rt, rt.alloc(), b"map 2 1:10\n", texts)?;
     Ok(())
 }
 
 #[test]
 fn leave_alone_what_a_multiset_was_copied_from(rt: HostRuntime) -> Result<(), Fail> {
-    let add = (&Op::Add(4), b"bag 2 3:1 4:1\n".as_slice());
-    let take = (&Op::Take(3), b"bag 2 4:1\n".as_slice());
-    expect_copy_of(&rt, rt.alloc(), b"bag 2 3:1\n", add, take)?;
+    let made = "do call 0 add 4 = Done, reads 0, writes 0, Add 4\nleft 3:1 4:1\n";
+    let made_on_the_copy = "do call 0 take 3 = Yes, reads 1, writes 1, Take 3\nleft 4:1\n";
+    let texts = (made, made_on_the_copy, "left 3:1 4:1\n");
+    expect_copied(&rt, rt.alloc(), b"bag 2 3:1\n", texts)?;
     Ok(())
 }
 
 #[test]
 fn leave_alone_what_a_priority_queue_was_copied_from(rt: HostRuntime) -> Result<(), Fail> {
-    let insert = (&Op::Insert(4), b"pq 2 4:1 5:1\n".as_slice());
-    let take = (&Op::TakeLeast, b"pq 2 5:1\n".as_slice());
-    expect_copy_of(&rt, rt.alloc(), b"pq 2 5:1\n", insert, take)?;
+    let made =
+        "do call 0 insert 4 = Done, reads 0 1, writes 0 1, Add 4, SetLeast 4\nleft 4:1 5:1\n";
+    let made_on_the_copy =
+        "do call 0 take_least = Found 4, reads 0 1 2, writes 0 1, Take 4, SetLeast 5\nleft 5:1\n";
+    let texts = (made, made_on_the_copy, "left 4:1 5:1\n");
+    expect_copied(&rt, rt.alloc(), b"pq 2 5:1\n", texts)?;
     Ok(())
-}
-
-fn expect_queue_after(
-    rt: &impl Abort,
-    alloc: Global,
-    base: &mut Base<u64>,
-    op: &Op<u64>,
-    (head, items): (u64, &[u64]),
-) -> Result<(), Refusal> {
-    call(alloc, base, op)?;
-    expect_queue(rt, alloc, base, head, items)
-}
-
-fn expect_dequeue_on_a_copy(
-    rt: &impl Abort,
-    alloc: Global,
-    base: &Base<u64>,
-) -> Result<(), Refusal> {
-    let mut copy = base.try_copy()?;
-    expect_queue_after(rt, alloc, &mut copy, &Op::Dequeue, (6, &[9]))
-}
-
-fn expect_queue_copied(
-    rt: &impl Abort,
-    alloc: Global,
-    base: &mut Base<u64>,
-) -> Result<(), Refusal> {
-    expect_queue_after(rt, alloc, base, &Op::Enqueue(9), (5, &[8, 9]))?;
-    expect_dequeue_on_a_copy(rt, alloc, base)?;
-    expect_queue(rt, alloc, base, 5, &[8, 9])
-}
-
-fn expect_copy_of_queue(rt: &impl Abort, alloc: Global) -> Result<(), Refusal> {
-    let mut base = queue(alloc, 2, 5, &[8])?;
-    expect_queue_copied(rt, alloc, &mut base)
 }
 
 #[test]
 fn leave_alone_what_a_queue_was_copied_from(rt: HostRuntime) -> Result<(), Fail> {
-    expect_copy_of_queue(&rt, rt.alloc())?;
+    let made = "do call 0 enqueue 9 = Done, reads 1 2, writes 1 2, Enqueue 6 9\nleft from 5 8 9\n";
+    let made_on_the_copy =
+        "do call 0 dequeue = Found 8, reads 0 3, writes 0 3, Dequeue 5\nleft from 6 9\n";
+    let texts = (made, made_on_the_copy, "left from 5 8 9\n");
+    expect_copied(&rt, rt.alloc(), b"clock 5\nqueue 2 8\n", texts)?;
     Ok(())
 }
