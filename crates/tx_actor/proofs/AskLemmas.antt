@@ -104,10 +104,10 @@ module _ {V : Type 0} where
 
   -- ---- a write of a word
   may_write : (w : World V) (a l : ℕ) (n : ℕ) (declared b : Bool) → w.words ≡ n → (actor_of w a).declared ≡ declared
-  → (ltb l n && not declared) ≡ b
+      → (ltb l n && not declared) ≡ b
       → (ltb l w.words && not (actor_of w a).declared) ≡ b
   may_write w a l n declared b e d h =
-  ap (λ (m : ℕ). ltb l m && not (actor_of w a).declared) e ∙ (ap (λ (q : Bool). ltb l n && not q) d ∙ h)
+      ap (λ (m : ℕ). ltb l m && not (actor_of w a).declared) e ∙ (ap (λ (q : Bool). ltb l n && not q) d ∙ h)
 
   pub writes_as : (v : BlocksView) (r u : TxActor V) (t : Told V) (l val : ℕ) → ltb l v.words ≡ true → r.words.declared ≡ false
       → ltb (length r.calls.items) CALL_LIMIT ≡ true → fits r.words.writes.entries (l ∷ []) ≡ true

@@ -61,6 +61,10 @@ home_at l w (p ∷ ps) e (suc i) le low high =
     cond-false (ltb l (w + size (block_of p))) 0 _ (is_not_below l (w + size (block_of p)) (omega (arith, h, e.0)))
     ∙ ap suc (ap (λ (v : ℕ). home_of v (map block_of ps) l) (sym e.0) ∙ rest)
 
+pub end_behind : (w : ℕ) (bs : List Block) → w ≤ end_of w bs
+end_behind w [] = omega arith
+end_behind w (b ∷ bs) = let h = end_behind (w + size b) bs in omega (arith, h)
+
 end_above : (w : ℕ) (ps : List Placed) → w ≤ end_of w (map block_of ps)
 end_above w [] = omega arith
 end_above w (p ∷ ps) = let h = end_above (w + size (block_of p)) ps in omega (arith, h)

@@ -11,3 +11,4 @@ mod BlocksLemmas
 mod HomesLemmas
 mod RequestLemmas
 mod AskLemmas
+mod GuardedLemmas

@@ -7,3 +7,4 @@ pub mod Accepts
 pub mod Blocks
 pub mod Keeping
 pub mod Asks
+pub mod Guarded

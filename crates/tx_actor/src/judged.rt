@@ -40,7 +40,7 @@ pub fn judge(reads: &ReadSet, left: &mut VecDeque<(u32, u64)>) -> Judged
 }
 
 /// Judges a call's locations, and lets the word actor read the next one, or end where one is stale.
-pub fn go_on(words: &mut Actor, locations: usize, left: &mut VecDeque<(u32, u64)>) -> Judged
+pub fn go_on(words: &mut Actor, left: &mut VecDeque<(u32, u64)>) -> Judged
     ensures judged { result ≡ judged words.old.reads.entries left.old.items }
     ensures left { left.new.items ≡ left_after words.old.reads.entries left.old.items }
     ensures actor { actor_of words.new ≡ actor_after result (actor_of words.old) }
@@ -48,7 +48,7 @@ pub fn go_on(words: &mut Actor, locations: usize, left: &mut VecDeque<(u32, u64)
     let judged = judge(&words.reads, left);
     match judged {
         Judged::Next(location) => words.place = Place::Look(location),
-        Judged::Stale(_, _, _) => cancel(words, locations),
+        Judged::Stale(_, _, _) => cancel(words),
         Judged::All => {}
     }
     judged

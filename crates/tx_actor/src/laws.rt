@@ -17,7 +17,11 @@ ghost use Rattle.tx_actor.specs.declared.copies.Copied.{Copied};
 ghost use Rattle.tx_actor.specs.declared.copies.Copied.TheVariants.{Keys};
 ghost use Rattle.tx_actor.specs.Copies.{IsAccepted, IsCopied, IsLearnt, IsOf, ShowParts, answer_of, answered_on, has_piece, holds_call};
 ghost use Rattle.tx_actor.specs.Accepts.{Accepts, PutsBack};
-ghost use Rattle.tx_actor.specs.Dispatch.{AreSteps};
+ghost use Rattle.seq_model.specs.declared.event.Event.{Event};
+ghost use Rattle.seq_model.specs.declared.held.Held.{Held};
+ghost use Rattle.replay_log.specs.Worlds.{opened, run};
+ghost use Rattle.tx_actor.specs.Dispatch.{AreSteps, MayGoOn};
+ghost use Rattle.tx_actor.specs.Guarded.{committed_at};
 ghost use Rattle.tx_actor.specs.Judged.{IsJudged};
 ghost use Rattle.tx_actor.specs.Shows.{GivesUp, AsksStores, CopiesForCall, ReadsNext};
 
@@ -53,6 +57,15 @@ pub fn reads_next_as_worlds<V>()
 /// methods of the stages make of it; the load of a call's location apart.
 pub fn steps_as_worlds<V>()
     ensures { AreSteps V }
+{}
+
+/// What the steps of a commit ask of their world before the locks are given back holds wherever events have led: their actor holds no
+/// gate of a written location any more.
+pub fn goes_on_as_worlds<V: Value>()
+    ensures { (blocks : List Block) (clock : ℕ) (values : List ℕ) (held : List (Held V)) (events : List (Event V)) (a : ℕ) →
+        HaveStripes blocks →
+        let w = run (opened blocks clock values held) events in
+        MayGoOn a (committed_at w a (w.seats a).stage) (w.seats a).stage }
 {}
 
 /// At the store of a call's gate its actor's shadow gets the parts that the call touches, but for those that have been read.

@@ -9,7 +9,8 @@ ghost use Rattle.seq_model.specs.declared.event.Answer.TheVariants as answer;
 ghost use Rattle.seq_model.specs.declared.event.Notice.TheVariants.{Quiet, Answered};
 ghost use Rattle.replay_log.specs.Worlds as worlds;
 ghost use Rattle.replay_log.specs.Worlds.{is_leaving, no_one, because, seated, recorded, has_begun, has_read, has_cancelled, has_released, has_stored, has_tried, has_locked, takes_gates, written_homes, ended, ask_idle, starve_at, World};
-ghost use Rattle.tx_actor.specs.Dispatch.{MayRelease};
+ghost use Rattle.tx_actor.specs.Dispatch.{HasRoom, MayRelease};
+ghost use Rattle.tx_actor.specs.Keeping.{KeepsNeeds};
 ghost use Rattle.tx_actor.specs.Running.{KnowsHomes, Reseats, Runs, asked_of, notice_of, seat_of, stage_of};
 
 use crate::actor::{Asked, Stage, Told, TxActor};
@@ -65,6 +66,7 @@ fn next_gate<V: Drop>(homes: VecDeque<u32>, got: usize) -> Stage<V>
 fn leaving_or_cancelling<V>(words: &Actor) -> Stage<V>
     ensures stage { stage_of result ≡ (if is_leaving (actor_of words.now).place then worlds.Leaving else worlds.Cancelling) }
     ensures knows { (ks : List ℕ) → KnowsHomes result ks }
+    ensures room { (r : TxActor V) → HasRoom r result }
 {
     match words.place {
         Place::Leave => Stage::Leaving,
@@ -136,7 +138,9 @@ impl<V: Drop> TxActor<V> {
     /// A word was read.
     pub fn read(&mut self, location: u32, value: u64) -> Told<V>
         requires room { vec_len self.old.calls < vec_capacity self.old.calls }
-        ensures { Reseats self.old self.new result (λ a w. has_read w a (seat_of self.old) location (notice.Number value)) }
+        ensures does { Reseats self.old self.new result (λ a w. has_read w a (seat_of self.old) location (notice.Number value)) }
+        ensures words { self.new.words ≡ self.old.words }
+        ensures rests { self.new.stage ≡ Stage.Open }
     {
         let call = Call {
             target: location,
@@ -149,9 +153,10 @@ impl<V: Drop> TxActor<V> {
 
     /// It is to end, and holds no gate.
     pub(crate) fn cancels(&mut self) -> Told<V>
-        ensures { Reseats self.old self.new result (λ a w. (worlds.cancels w a (seat_of self.old), Quiet)) }
+        ensures does { Reseats self.old self.new result (λ a w. (worlds.cancels w a (seat_of self.old), Quiet)) }
+        ensures keeps { (n : ℕ) → KeepsNeeds n self.old self.new }
     {
-        cancel(&mut self.words, 0);
+        cancel(&mut self.words);
         self.stage = leaving_or_cancelling(&self.words);
         Told::Quiet
     }
@@ -247,7 +252,7 @@ impl<V: Drop> TxActor<V> {
     pub fn begin_starves(&mut self) -> Told<V>
         ensures { Reseats self.old self.new result (λ a w. starve_at w a (seat_of self.old) worlds.Beginning) }
     {
-        abort(&mut self.words, 0);
+        abort(&mut self.words);
         self.clear(Stage::Idle, 0);
         Told::Refused(Refusal::OutOfMemory)
     }
@@ -267,7 +272,7 @@ impl<V: Drop> TxActor<V> {
     pub fn cancelled(&mut self) -> Told<V>
         ensures { Reseats self.old self.new result (λ a w. has_cancelled w a (seat_of self.old) notice.Cancelled) }
     {
-        abort(&mut self.words, 0);
+        abort(&mut self.words);
         self.stage = Stage::Leaving;
         Told::Quiet
     }
@@ -287,7 +292,7 @@ impl<V: Drop> TxActor<V> {
             Runs a self.new f.0 × (notice_of a result ≡ f.1) }
     {
         if has_none(&homes) {
-            release(&mut self.words, 0);
+            release(&mut self.words);
             self.stage = Stage::Releasing;
             return Told::Quiet;
         }

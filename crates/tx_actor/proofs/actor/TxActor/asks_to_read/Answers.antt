@@ -1,14 +1,16 @@
-use Rattle.std.proofs.Common.{◌≡◌, ltb, true, Some, None, length, refl, sym, ap, ◌∙◌, arith, rules}
+use Rattle.std.proofs.Common.{◌<◌, subst, ◌≡◌, ltb, true, Some, None, length, refl, sym, ap, ◌∙◌, arith, rules}
 use Rattle.seq_model.specs.declared.limits.TheConstants.{CALL_LIMIT}
 use Rattle.word_machine.proofs.Sets.{put-same}
 use Rattle.replay_log.specs.Worlds.{Seat}
 use Rattle.step_core.specs.Shown.{actor_of}
 use Rattle.tx_actor.specs.Asks.{may_read, number_told}
+use Rattle.tx_actor.specs.Dispatch.{HasRoom}
+use Rattle.tx_actor.specs.Keeping.{KeepsAt}
 use Rattle.tx_actor.specs.Running.{seat_of}
 use Rattle.tx_actor.specs.declared.actor.Stage.TheVariants as stage
 use Rattle.tx_actor.specs.declared.actor.Told.TheVariants as told
 use Rattle.tx_actor.specs.declared.actor.TxActor.{TxActor}
-use Rattle.tx_actor.proofs.BlocksLemmas.{is_below}
+use Rattle.tx_actor.proofs.BlocksLemmas.{end_behind, is_below}
 use Rattle.tx_actor.proofs.AskLemmas.{reads_as}
 use Rattle.tx_actor.proofs.actor.TxActor.asks_to_read.Goals as goal
 
@@ -26,7 +28,7 @@ returns-in-Some-clause-ok g c =
     let same : z ≡ seat_of r = λ j. record (seat_of r) { calls = c.in_ok-reserve.ensures.items j } in
     reads_as c.args.blocks.now r c.read.new.self c.read.result z l (Some v) same known few room
     (ap number_told (sym c.in-Some.is) ∙ c.in_ok-value.ensures.found)
-    (λ a w is. c.read.ensures a w (is ∙ sym c.in_ok-value.ensures.actor))
+    (λ a w is. c.read.ensures.does a w (is ∙ sym c.in_ok-value.ensures.actor))
 
 pub returns-in-None-clause-ok : goal.returns-in-None-clause-ok
 returns-in-None-clause-ok g c =
@@ -42,3 +44,23 @@ returns-in-None-clause-ok g c =
     let same : z ≡ seat_of r = λ j. record (seat_of r) { calls = c.in_ok-reserve.ensures.items j } in
     reads_as c.args.blocks.now r u told.Quiet z l None same known few room (ap number_told (sym c.in-None.is) ∙ c.in_ok-value.ensures.found)
     (λ a w is. ((put-same w.seats a _, is ∙ sym c.in_ok-value.ensures.actor, tt), refl))
+
+-- what is kept
+pub returns-in-Some-clause-keeps : goal.returns-in-Some-clause-keeps
+returns-in-Some-clause-keeps g c none =
+    let r = c.args.self.now in
+    let n = end_of c.args.blocks.now.words c.args.blocks.now.blocks in
+    let behind = end_behind c.args.blocks.now.words c.args.blocks.now.blocks in
+    let below : c.args.word < n = omega (arith, behind, c.words.ensures, c.if-word-words.false) in
+    record {
+      words = subst (KeepsAt n r.words) (sym c.read.ensures.words) (c.read_word.ensures.keeps n below none);
+      room = λ h. subst (HasRoom c.read.new.self) (sym c.read.ensures.rests) tt;
+    }
+
+pub returns-in-None-clause-keeps : goal.returns-in-None-clause-keeps
+returns-in-None-clause-keeps g c none =
+    let n = end_of c.args.blocks.now.words c.args.blocks.now.blocks in
+    let behind = end_behind c.args.blocks.now.words c.args.blocks.now.blocks in
+    let below : c.args.word < n = omega (arith, behind, c.words.ensures, c.if-word-words.false) in
+    let free = c.in_ok-reserve.ensures.ok in
+    record { words = c.read_word.ensures.keeps n below none; room = λ h. omega (arith, free, c.in_ok-reserve.ensures.len) }

@@ -1,4 +1,4 @@
-use Rattle.std.proofs.Common.{◌≡◌, ltb, true, [], ◌∷◌, length, refl, sym, ◌∙◌, arith, rules}
+use Rattle.std.proofs.Common.{◌<◌, ◌≡◌, ltb, true, [], ◌∷◌, length, refl, sym, ◌∙◌, arith, rules}
 use Rattle.seq_model.specs.declared.call.Call.{Call}
 use Rattle.seq_model.specs.declared.call.Op.TheVariants.{Write}
 use Rattle.seq_model.specs.declared.call.Reply.TheVariants.{Done}
@@ -10,7 +10,7 @@ use Rattle.tx_actor.specs.declared.actor.Stage.TheVariants as stage
 use Rattle.tx_actor.specs.declared.actor.Told.TheVariants as told
 use Rattle.seq_model.specs.declared.event.Answer.TheVariants as answer
 use Rattle.tx_actor.specs.declared.actor.TxActor.{TxActor}
-use Rattle.tx_actor.proofs.BlocksLemmas.{is_below}
+use Rattle.tx_actor.proofs.BlocksLemmas.{end_behind, is_below}
 use Rattle.tx_actor.proofs.AskLemmas.{more_calls, writes_as}
 use Rattle.tx_actor.proofs.actor.TxActor.asks_to_write.Goals as goal
 
@@ -29,3 +29,10 @@ returns-clause-ok g c =
     c.in_ok-reserve.ensures.items c.push_reserved.ensures.items in
     writes_as c.args.blocks.now r u (told.Answered (answer.Replied Done)) l c.args.value known c.if-self.false few room
     (λ a w is. ((put-same w.seats a _ ∙ sym seat, is ∙ sym c.in_ok-write_word.ensures.actor, tt), refl))
+
+pub returns-clause-keeps : goal.returns-clause-keeps
+returns-clause-keeps g c =
+    let n = end_of c.args.blocks.now.words c.args.blocks.now.blocks in
+    let behind = end_behind c.args.blocks.now.words c.args.blocks.now.blocks in
+    let below : c.args.word < n = omega (arith, behind, c.words.ensures, c.if-word-words.false) in
+    record { words = c.write_word.ensures.keeps n below; room = λ h. tt }

@@ -7,7 +7,7 @@ use Rattle.tx_actor.proofs.actor.TxActor.has_read.Goals as goal
 pub returns-in-Number : goal.returns-in-Number
 returns-in-Number g c =
     heard_as (at c.args.self.now (stage.Reading c.args.location)) c.read.new.self c.read.result _ _ c.in-Number.is (λ a w m s.
-    c.read.ensures a w s.1)
+    c.read.ensures.does a w s.1)
 
 pub returns-in-Moved : goal.returns-in-Moved
 returns-in-Moved g c =

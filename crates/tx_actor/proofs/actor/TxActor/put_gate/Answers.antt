@@ -15,7 +15,7 @@ pub returns-in-ReturningOne : goal.returns-in-ReturningOne
 returns-in-ReturningOne g c =
     does_at_stage after_put c.args.self.now c.cancels.new.self c.cancels.result (stage.ReturningOne c.in-ReturningOne.field-0) (sym
     c.replace-stage.ensures.value ∙ c.in-ReturningOne.is)
-    (λ a w s. c.cancels.ensures a w s.1)
+    (λ a w s. c.cancels.ensures.does a w s.1)
 
 pub returns-in_default : goal.returns-in_default
 returns-in_default g c =

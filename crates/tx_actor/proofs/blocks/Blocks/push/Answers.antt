@@ -13,7 +13,8 @@ invariant_of-self-2 c =
     let behind : c.end.result ≡ end_of w (map block_of ps) =
     c.end.ensures ∙ sym (ap (λ (v : BlocksView). end_of v.words v.blocks) c.self.view_is) in
     let more : size (block_of p) ≡ c.args.stripes + c.more_locations.result = c.more_locations.ensures.size c.args.stripes in
-    let at_end : p.end ≡ end_of w (map block_of ps) + size (block_of p) = omega (arith, c.from.ensures, c.from-2.ensures, behind, more) in
+    let at_end : p.end ≡ end_of w (map block_of ps) + size (block_of p) =
+    omega (arith, c.from.ensures, c.from-2.ensures, behind, more) in
     let few : length (ps ++ p ∷ []) ≤ 256 = simp length-append (omega (arith, c.len.ensures, c.if-len-ge-COLLECTION_LIMIT.false)) in
     subst (λ (qs : List Placed). AreEnds w qs × (length qs ≤ 256)) (sym c.in_ok-push.ensures.items)
     (ends_more w ps p c.self.invariant.0 at_end, few)
