@@ -5,6 +5,7 @@ use Rattle.std.specs.Prelude.{nat_lt, if◌then◌else◌}
 use Rattle.std.proofs.Common.{inl, inr, ltb, ltb-true}
 use Rattle.std.proofs.lemmas.Bool.{cases_Bool, cond-false}
 use Rattle.step_core.specs.declared.answer.WordRefusal.TheVariants.{TooLong}
+use Rattle.tx_sets.specs.declared.access_set.TheConstants.{LOCATION_LIMIT}
 use Rattle.tx_sets.specs.Entries.{Entries, IsRising, lookup, with_entry}
 use Rattle.tx_sets.proofs.EntryLemmas.{All-with_entry, IsRising-with_entry, length-with_entry_new, length-with_entry_there}
 use Rattle.word_machine.specs.Actor.{with_read}
@@ -21,23 +22,23 @@ All-one P e p zero d h = p
 All-one P e p (suc k) d h = absurd (omega (arith, h))
 
 -- a set within its limit stays so, where a new location finds a place left
-few-with_entry : (es : Entries) (l v : ℕ) → IsRising es → length es ≤ 4096 → (lookup es l ≡ None → length es < 4096)
-    → length (with_entry es l v) ≤ 4096
+few-with_entry : (es : Entries) (l v : ℕ) → IsRising es → length es ≤ LOCATION_LIMIT → (lookup es l ≡ None → length es < LOCATION_LIMIT)
+    → length (with_entry es l v) ≤ LOCATION_LIMIT
 few-with_entry es l v rise few room = go (lookup es l) refl
   where
-    go : (found : Option ℕ) → lookup es l ≡ found → length (with_entry es l v) ≤ 4096
+    go : (found : Option ℕ) → lookup es l ≡ found → length (with_entry es l v) ≤ LOCATION_LIMIT
     go None e = (let q = length-with_entry_new es l v e in let r = room e in omega (arith, q, r))
     go (Some u) e = (let q = length-with_entry_there es l v rise (λ z. let w : Some u ≡ None = sym e ∙ z in let b : ⊥ = cc in b) in omega
         (arith, q, few))
 
 -- what the limit of a set says of a new location
-pub place_left : (es : Entries) (l : ℕ) → if_new (lookup es l) None es ≡ None → lookup es l ≡ None → length es < 4096
+pub place_left : (es : Entries) (l : ℕ) → if_new (lookup es l) None es ≡ None → lookup es l ≡ None → length es < LOCATION_LIMIT
 place_left es l h e = below (length es) (subst (λ (o : Option ℕ). if_new o None es ≡ None) e h)
   where
-    below : (n : ℕ) → (if nat_lt n 4096 then None else Some TooLong) ≡ None → n < 4096
-    below n h = elim (cases_Bool (ltb n 4096)) [
-      | inl t ↦ ltb-true n 4096 t
-      | inr f ↦ (let z : Some TooLong ≡ None = sym (cond-false (ltb n 4096) None (Some TooLong) f) ∙ h in let b : ⊥ = cc in absurd b)
+    below : (n : ℕ) → (if nat_lt n LOCATION_LIMIT then None else Some TooLong) ≡ None → n < LOCATION_LIMIT
+    below n h = elim (cases_Bool (ltb n LOCATION_LIMIT)) [
+      | inl t ↦ ltb-true n LOCATION_LIMIT t
+      | inr f ↦ (let z : Some TooLong ≡ None = sym (cond-false (ltb n LOCATION_LIMIT) None (Some TooLong) f) ∙ h in let b : ⊥ = cc in absurd b)
     ]
 
 pub lock_keeps : (x : Actor) (l k i : ℕ) → x.place ≡ Lock i → i < length x.writes.entries → ((n : ℕ) → Fits n x → l < n) → k < 2 ^ 63
@@ -77,8 +78,8 @@ IsRising-with_read : (declared : Bool) (es : Entries) (l v : ℕ) → IsRising e
 IsRising-with_read true es l v r = r
 IsRising-with_read false es l v r = IsRising-with_entry es l v r
 
-few-with_read : (declared : Bool) (es : Entries) (l v : ℕ) → IsRising es → length es ≤ 4096 → length es < 4096
-    → length (with_read declared es l v) ≤ 4096
+few-with_read : (declared : Bool) (es : Entries) (l v : ℕ) → IsRising es → length es ≤ LOCATION_LIMIT → length es < LOCATION_LIMIT
+    → length (with_read declared es l v) ≤ LOCATION_LIMIT
 few-with_read true es l v rise few room = few
 few-with_read false es l v rise few room = few-with_entry es l v rise few (λ _. room)
 
@@ -91,9 +92,9 @@ read_keeps x y l k v at_p at_q wv rs ws hs = record {
     writes = subst (All (λ (e : ℕ × ℕ). e.0 < n)) (sym ws) f.writes;
     reads_rise = subst IsRising (sym rs) (IsRising-with_read x.declared x.reads.entries l v f.reads_rise);
     writes_rise = subst IsRising (sym ws) f.writes_rise;
-    reads_few = subst (λ (es : Entries). length es ≤ 4096) (sym rs)
+    reads_few = subst (λ (es : Entries). length es ≤ LOCATION_LIMIT) (sym rs)
         (few-with_read x.declared x.reads.entries l v f.reads_rise f.reads_few pl.2);
-    writes_few = subst (λ (es : Entries). length es ≤ 4096) (sym ws) f.writes_few;
+    writes_few = subst (λ (es : Entries). length es ≤ LOCATION_LIMIT) (sym ws) f.writes_few;
     held = subst (All (λ (e : ℕ × ℕ). (e.0 < n) × (e.1 < 2 ^ 63))) (sym hs) f.held;
     wv = subst (λ (z : ℕ). z < 2 ^ 63) (sym wv) f.wv;
     place = subst (FitsPlace n y) (sym at_q) tt;
@@ -112,8 +113,8 @@ take_keeps x y l k i at_p at_q wv hs len most rs ws w = record {
     writes = subst (All (λ (e : ℕ × ℕ). e.0 < n)) (sym ws) f.writes;
     reads_rise = subst IsRising (sym rs) f.reads_rise;
     writes_rise = subst IsRising (sym ws) f.writes_rise;
-    reads_few = subst (λ (es : Entries). length es ≤ 4096) (sym rs) f.reads_few;
-    writes_few = subst (λ (es : Entries). length es ≤ 4096) (sym ws) f.writes_few;
+    reads_few = subst (λ (es : Entries). length es ≤ LOCATION_LIMIT) (sym rs) f.reads_few;
+    writes_few = subst (λ (es : Entries). length es ≤ LOCATION_LIMIT) (sym ws) f.writes_few;
     held = subst (All (λ (e : ℕ × ℕ). (e.0 < n) × (e.1 < 2 ^ 63))) (sym hs)
         (All-append (λ (e : ℕ × ℕ). (e.0 < n) × (e.1 < 2 ^ 63)) x.held.items ((l, k) ∷ []) f.held
         (All-one (λ (e : ℕ × ℕ). (e.0 < n) × (e.1 < 2 ^ 63)) (l, k) (pl.0, pl.1)));
@@ -134,8 +135,8 @@ write_fits n x y l v at_p below limit ws f same wv rs hs = record {
   writes = subst (All (λ (e : ℕ × ℕ). e.0 < n)) (sym ws) (All-with_entry (λ (e : ℕ × ℕ). e.0 < n) x.writes.entries l v below f.writes);
   reads_rise = subst IsRising (sym rs) f.reads_rise;
   writes_rise = subst IsRising (sym ws) (IsRising-with_entry x.writes.entries l v f.writes_rise);
-  reads_few = subst (λ (es : Entries). length es ≤ 4096) (sym rs) f.reads_few;
-  writes_few = subst (λ (es : Entries). length es ≤ 4096) (sym ws)
+  reads_few = subst (λ (es : Entries). length es ≤ LOCATION_LIMIT) (sym rs) f.reads_few;
+  writes_few = subst (λ (es : Entries). length es ≤ LOCATION_LIMIT) (sym ws)
       (few-with_entry x.writes.entries l v f.writes_rise f.writes_few (place_left x.writes.entries l limit));
   held = subst (All (λ (e : ℕ × ℕ). (e.0 < n) × (e.1 < 2 ^ 63))) (sym hs) f.held;
   wv = subst (λ (z : ℕ). z < 2 ^ 63) (sym wv) f.wv;

@@ -9,7 +9,7 @@ use Rattle.word_machine.specs.World.{Memory, Record, World, Event, Step, blank, 
 use Rattle.word_machine.specs.Opacity.{IsRun, IsInOrder, IsLegal, IsHalfDone, AllUpto, NoWriterHas, memory_after, memory_at, upto}
 use Rattle.word_machine.proofs.Invariant.{Inv}
 use Rattle.word_machine.specs.Notices.{Notice, Quiet, NoTransaction, Begun, Number, LockedAt, Written, Stored, Released, Cancelled, Closed, Moved, Busy, Invalid, Exhausted, notice}
-use Rattle.word_machine.specs.Progress.{steps_left, IsAnswered}
+use Rattle.word_machine.specs.Progress.{step_limit, steps_left, IsAnswered}
 use Rattle.word_machine.proofs.Schedules.{all_upto, reached, opened_at, legal_of, serial, aborted_later, actor_saw, run_saw, words_at_rest, owned, begins_at}
 use Rattle.word_machine.proofs.Progress.{progress}
 use Rattle.word_machine.proofs.Answered.{step_other, step_further}
@@ -178,7 +178,7 @@ nears v u a answer r st =
     }
 
 -- no request takes many steps, as no set has many locations
-pub soon : (w : Machine) (a : ℕ) → Sound w → Reached (shown w) → steps_due (shown w) a < 1000000
+pub soon : (w : Machine) (a : ℕ) → Sound w → Reached (shown w) → steps_due (shown w) a < step_limit
 soon w a v r = go (slice_get w.actors.items a) refl
   where
     s : World
@@ -193,7 +193,7 @@ soon w a v r = go (slice_get w.actors.items a) refl
     none (x ∷ xs) zero h = (let b : ⊥ = cc in absurd b)
     none (x ∷ xs) (suc i) h = none xs i h
 
-    go : (o : Option Actor) → slice_get w.actors.items a ≡ o → steps_due (shown w) a < 1000000
+    go : (o : Option Actor) → slice_get w.actors.items a ≡ o → steps_due (shown w) a < step_limit
     go None e = (let q = ap (λ (z : machine.Actor). steps_left z z.place) (none w.actors.items a e) in omega (arith, q))
     go (Some x) e =
         (let f = All-at (Fits (length w.cells.locks.items)) w.actors.items a x v.actors e in

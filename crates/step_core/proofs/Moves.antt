@@ -33,6 +33,7 @@ use Rattle.step_core.specs.declared.answer.WordAnswer.{WordAnswer}
 use Rattle.step_core.specs.declared.record.WordRecord.{WordRecord}
 use Rattle.step_core.specs.declared.actor.Actor.{Actor}
 use Rattle.step_core.specs.declared.machine.Machine.{Machine}
+use Rattle.step_core.specs.declared.machine.TheConstants.{SEATS}
 use Rattle.step_core.specs.CellSteps.{StepsOn, HaveLength, Grows}
 use Rattle.step_core.proofs.Lists.{Answer, inside, All-at}
 use Rattle.word_machine.proofs.Answered.{step_other}
@@ -405,13 +406,13 @@ is_begin q = cases_Bool (opens q)
 -- a begin makes room for a record of each actor, and no other request makes one due
 pub sound_asked : (w t : Machine) (a : ℕ) (x y : Actor) (q : Request) → Sound w → slice_get w.actors.items a ≡ Some x
     → (Fits (length w.cells.locks.items) x → Fits (length w.cells.locks.items) y) → owed y.place ≤ owed x.place
-    → (opens q ≡ false → due y.place ≤ due x.place) → (opens q ≡ true → vec_len t.history + 65 ≤ vec_capacity t.history) → t.cells.clock
+    → (opens q ≡ false → due y.place ≤ due x.place) → (opens q ≡ true → vec_len t.history + SEATS ≤ vec_capacity t.history) → t.cells.clock
     ≡ w.cells.clock → t.cells.locks.items ≡ w.cells.locks.items → t.cells.values.items ≡ w.cells.values.items
     → t.actors.items ≡ slice_set w.actors.items a y → vec_len t.history ≡ vec_len w.history
     → vec_capacity w.history ≤ vec_capacity t.history → Sound t
 sound_asked w t a x y q v got fits owe dues room_ c ls vs xs len most =
     let n : length t.cells.locks.items ≡ length w.cells.locks.items = ap (λ (z : List ℕ). length z) ls in
-    let m : length t.actors.items ≡ 65 = ap (λ (z : List Actor). length z) xs ∙ length-set w.actors.items a y ∙ v.seats in
+    let m : length t.actors.items ≡ SEATS = ap (λ (z : List Actor). length z) xs ∙ length-set w.actors.items a y ∙ v.seats in
     let d : total due t.actors.items ≡ total due (slice_set w.actors.items a y) = ap (total due) xs in
     record {
       same = ap (λ (z : List ℕ). length z) vs ∙ v.same ∙ sym n;

@@ -1,5 +1,6 @@
 -- Which requests an actor may be asked where it stands, and why the others are refused.
 use Rattle.std.specs.Prelude.{ℕ, Bool, true, false, Option, Some, None, [], ◌∷◌, length, nat_lt, not, ◌&&◌, if◌then◌else◌}
+use Rattle.tx_sets.specs.declared.access_set.TheConstants.{LOCATION_LIMIT}
 use Rattle.tx_sets.specs.Entries.{Entries, lookup}
 use Rattle.word_machine.specs.Actor.{Place, Actor}
 use Rattle.word_machine.specs.Actor as machine
@@ -83,13 +84,9 @@ takes_memory AskCancel = false
 takes_memory AskAbort = false
 takes_memory request = true
 
--- the most locations that a set holds
-abbrev pub set_limit : ℕ
-set_limit = 4096
-
 -- a set takes a new location below its limit
 abbrev pub if_full : Entries → Option WordRefusal
-if_full es = if nat_lt (length es) set_limit then None else Some TooLong
+if_full es = if nat_lt (length es) LOCATION_LIMIT then None else Some TooLong
 
 -- a location that is in one of the sets is not new
 abbrev pub if_new : Option ℕ → Option ℕ → Entries → Option WordRefusal

@@ -17,6 +17,7 @@ use Rattle.step_core.specs.declared.answer.WordRefusal.{WordRefusal}
 use Rattle.step_core.specs.declared.answer.WordRefusal.TheVariants.{NoSuch, OutOfMemory}
 use Rattle.step_core.specs.declared.actor.Actor.{Actor}
 use Rattle.step_core.specs.declared.machine.Machine.{Machine}
+use Rattle.step_core.specs.declared.machine.TheConstants.{LAST_ACTOR}
 use Rattle.step_core.specs.Answers.{result_of}
 use Rattle.step_core.specs.Phases.{phase_of, allows, refusal_at}
 
@@ -130,7 +131,7 @@ Asks v a request u answer =
 
 -- the actors are 1 to 64
 abbrev pub is_actor : ℕ → Bool
-is_actor a = nat_le 1 a && nat_le a 64
+is_actor a = nat_le 1 a && nat_le a LAST_ACTOR
 
 -- why a request of actor a is refused, memory aside
 abbrev pub refusal_of : Shown → ℕ → Request → Option WordRefusal

@@ -4,11 +4,14 @@ use Rattle.std.specs.Vec.{vec_len, vec_capacity}
 use Rattle.std.specs.VecDeque.{deque_len, deque_capacity}
 use Rattle.std.specs.List.{All}
 use Rattle.tx_sets.specs.Entries.{IsRising}
+use Rattle.tx_sets.specs.declared.access_set.TheConstants.{LOCATION_LIMIT}
+use Rattle.word_machine.specs.Actor.{clock_limit}
 use Rattle.word_machine.specs.Requests.{Request, AskRead, AskWrite}
 use Rattle.step_core.specs.declared.actor.Place.{Place}
 use Rattle.step_core.specs.declared.actor.Place.TheVariants.{Idle, Open, Look, Fetch, Again, Lock, Take, First, Store, Release, Close}
 use Rattle.step_core.specs.declared.actor.Actor.{Actor}
 use Rattle.step_core.specs.declared.machine.Machine.{Machine}
+use Rattle.step_core.specs.declared.machine.TheConstants.{SEATS}
 
 -- room for one more read; a declared reader needs none
 abbrev pub HasRoom : Actor → Type 0
@@ -16,9 +19,9 @@ HasRoom x = x.declared ≡ false → 0 < x.reads.room
 
 -- the room and the bounds that a place needs, with n locations
 abbrev pub FitsPlace : ℕ → Actor → Place → Type 0
-FitsPlace n x (Look l) = (l < n) × HasRoom x × (length x.reads.entries < 4096) × (vec_len x.calls < vec_capacity x.calls)
-FitsPlace n x (Fetch l k) = (l < n) × HasRoom x × (length x.reads.entries < 4096) × (vec_len x.calls < vec_capacity x.calls)
-FitsPlace n x (Again l k v) = (l < n) × HasRoom x × (length x.reads.entries < 4096) × (vec_len x.calls < vec_capacity x.calls)
+FitsPlace n x (Look l) = (l < n) × HasRoom x × (length x.reads.entries < LOCATION_LIMIT) × (vec_len x.calls < vec_capacity x.calls)
+FitsPlace n x (Fetch l k) = (l < n) × HasRoom x × (length x.reads.entries < LOCATION_LIMIT) × (vec_len x.calls < vec_capacity x.calls)
+FitsPlace n x (Again l k v) = (l < n) × HasRoom x × (length x.reads.entries < LOCATION_LIMIT) × (vec_len x.calls < vec_capacity x.calls)
 FitsPlace n x (Lock i) = deque_len x.held + (length x.writes.entries - i) ≤ deque_capacity x.held
 FitsPlace n x (Take l k i) = (l < n) × (k < 2 ^ 63) × (deque_len x.held + (1 + (length x.writes.entries - i)) ≤ deque_capacity x.held)
 FitsPlace n x First = x.ready.items ≡ x.calls.items
@@ -31,8 +34,8 @@ pub record Fits (n : ℕ) (x : Actor) : Type 0 where
   pub writes : All (λ e. e.0 < n) x.writes.entries
   pub reads_rise : IsRising x.reads.entries
   pub writes_rise : IsRising x.writes.entries
-  pub reads_few : length x.reads.entries ≤ 4096
-  pub writes_few : length x.writes.entries ≤ 4096
+  pub reads_few : length x.reads.entries ≤ LOCATION_LIMIT
+  pub writes_few : length x.writes.entries ≤ LOCATION_LIMIT
   pub held : All (λ e. (e.0 < n) × (e.1 < 2 ^ 63)) x.held.items
   pub wv : x.wv < 2 ^ 63
   pub place : FitsPlace n x x.place
@@ -62,9 +65,9 @@ total f (x ∷ xs) = f x.place + total f xs
 -- Each location has a lock word and a value, each actor a seat; the clock is far from its end, and there is room for the records to come.
 pub record Sound (w : Machine) : Type 0 where
   pub same : length w.cells.values.items ≡ length w.cells.locks.items
-  pub seats : length w.actors.items ≡ 65
+  pub seats : length w.actors.items ≡ SEATS
   pub actors : All (Fits (length w.cells.locks.items)) w.actors.items
-  pub clock : w.cells.clock + total owed w.actors.items ≤ 2 ^ 62 + 65
+  pub clock : w.cells.clock + total owed w.actors.items ≤ clock_limit + SEATS
   pub room : vec_len w.history + total due w.actors.items ≤ vec_capacity w.history
 
 -- a step keeps an actor's bounds, takes no number that was not owed and makes no record due

@@ -24,7 +24,7 @@ use crate::record::{WordCall, WordCalls};
 use std::alloc::Global;
 use std::collections::VecDeque;
 use std::mem;
-use tx_sets::{ReadSet, WriteSet};
+use tx_sets::{LOCATION_LIMIT, ReadSet, WriteSet};
 use vlock_word::LockWord;
 
 mod asks;
@@ -80,7 +80,7 @@ pub struct Actor {
 /// Puts a value that was read into its set, which has the room. A declared reader keeps none.
 fn keep(reads: &mut ReadSet, declared: bool, location: u32, value: u64)
     requires room { declared ≡ false → 0 < reads.old.room }
-    requires limit { length reads.old.entries < 4096 }
+    requires limit { length reads.old.entries < LOCATION_LIMIT }
     ensures { reads.new.entries ≡ with_read declared reads.old.entries location value }
 {
     if declared {
@@ -190,7 +190,7 @@ impl Actor {
     ) -> Result<Option<WordAnswer>, WordRefusal>
         requires place { self.old.place ≡ Again location version value }
         requires room { HasRoom self.old }
-        requires limit { length self.old.reads.entries < 4096 }
+        requires limit { length self.old.reads.entries < LOCATION_LIMIT }
         requires calls { vec_len self.old.calls < vec_capacity self.old.calls }
         ensures actor { actor_of self.new ≡ seen_again (actor_of self.old) location version value (unbits word) }
         ensures answer { result ≡ result_of (again_notice location version value (unbits word)) }

@@ -20,10 +20,10 @@ use crate::record::WordRecord;
 use std::alloc::{AllocError, Global};
 
 /// The seats of the actors 1 to 64, and one that no actor takes, so that an actor's number is its index.
-const SEATS: usize = 65;
+pub const SEATS: usize = 65;
 
 /// The last actor.
-const LAST_ACTOR: usize = 64;
+pub const LAST_ACTOR: usize = 64;
 
 /// The cells, the actors and the history.
 #[derive(Drop)]
@@ -40,7 +40,7 @@ pub fn seats(alloc: Global) -> Result<Vec<Actor>, AllocError>
     ensures blank { IfOk result (λ v. AreBlank v.items) }
 {
     let mut actors = Vec::with_capacity(alloc, SEATS)?;
-    for i in 0..65usize {
+    for i in 0..SEATS {
         actors.push_reserved(Actor::new(alloc));
     }
     Ok(actors)
@@ -59,7 +59,7 @@ fn make_room(history: &mut Vec<WordRecord>, request: WordRequest) -> Result<(), 
     ensures items { history.new.items ≡ history.old.items }
     ensures len { vec_len history.new ≡ vec_len history.old }
     ensures capacity { vec_capacity history.old ≤ vec_capacity history.new }
-    ensures room { OnOk result (opens (request_of request) ≡ true → vec_len history.new + 65 ≤ vec_capacity history.new) }
+    ensures room { OnOk result (opens (request_of request) ≡ true → vec_len history.new + SEATS ≤ vec_capacity history.new) }
     ensures served { takes_memory (request_of request) ≡ false → IsOk result }
 {
     match request {
@@ -138,7 +138,7 @@ impl Machine {
 
     /// Why a request of an actor is refused, memory aside.
     pub fn refusal(&self, a: usize, request: WordRequest) -> Option<WordRefusal>
-        requires seats { length self.now.actors.items ≡ 65 }
+        requires seats { length self.now.actors.items ≡ SEATS }
         ensures { result ≡ refusal_of (shown self.now) a (request_of request) }
     {
         if a < 1 || a > LAST_ACTOR {

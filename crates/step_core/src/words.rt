@@ -31,6 +31,7 @@ impl Model for Words {
 impl Words {
     ghost use Rattle.std.specs.Prelude.{◌≡◌, ◌≢◌, ℕ, ◌<◌, ◌≤◌, length, map, get_or, [], true, false, None, IsOk, OnOk, OnErr, IfOk, IfErr, IfSome, replicate};
     ghost use Rattle.word_machine.specs.World.{start};
+    ghost use Rattle.word_machine.specs.Progress.{step_limit};
     ghost use Rattle.step_core.specs.Answers.{request_of};
     ghost use Rattle.step_core.specs.Phases.{takes_memory};
     ghost use Rattle.step_core.specs.Shown.{Steps, Asks, Shows, Reached, record_of, actor_in, refusal_of, IsRefusal, snapshot_of};
@@ -98,7 +99,7 @@ impl Words {
 
         // A request is answered at once or by one of its own steps, fewer than 1,000,000.
         ensures due { IfOk result (λ answer. answer ≡ None → 0 < steps_due self.new actor) }
-        ensures soon { steps_due self.new actor < 1000000 }
+        ensures soon { steps_due self.new actor < step_limit }
         ensures reached { Reached self.new }
     {
         let a = actor as usize;

@@ -1,4 +1,5 @@
 use Rattle.std.proofs.Common.{◌≡◌, ◌<◌, true, subst}
+use Rattle.word_machine.specs.Progress.{step_limit}
 use Rattle.step_core.specs.Answers.{request_of}
 use Rattle.step_core.specs.Shown.{Shown, shown, actor_in}
 use Rattle.step_core.specs.Opaque.{steps_due}
@@ -28,7 +29,7 @@ returns-clause-soon c =
 
 pub returns-in-Some-clause-soon : goal.returns-in-Some-clause-soon
 returns-in-Some-clause-soon c =
-    subst (λ (v : Shown). steps_due v c.args.actor < 1000000) c.self.view_is
+    subst (λ (v : Shown). steps_due v c.args.actor < step_limit) c.self.view_is
     (soon c.self.inside.machine c.args.actor c.self.invariant.sound c.self.invariant.reached)
 
 pub returns-in-Some-clause-unlimited : goal.returns-in-Some-clause-unlimited
