@@ -11,7 +11,7 @@ use Rattle.vlock_word.specs.LockWord.{bits, unbits}
 use Rattle.vlock_word.proofs.LockWordLemmas.{unbits_bits}
 use Rattle.word_machine.specs.Requests as word
 use Rattle.word_machine.specs.World as machine
-use Rattle.word_machine.specs.World.{Ask, Step, plan, put}
+use Rattle.word_machine.specs.World.{Ask, Step, put}
 use Rattle.word_machine.specs.Cells.{Cell, ClockCell, LockCell, ValueCell, cell, word_of}
 use Rattle.word_machine.proofs.Sets.{put-same, put-other}
 use Rattle.seq_model.specs.declared.event.Event.TheVariants as event

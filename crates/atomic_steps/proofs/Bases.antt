@@ -21,28 +21,25 @@ use Rattle.seq_model.specs.declared.held.Held.{Held}
 use Rattle.seq_model.specs.declared.event.Event.{Event}
 use Rattle.seq_model.specs.declared.event.Event.TheVariants.{Step}
 use Rattle.collection_machine.specs.Content.{IsIn, has}
-use Rattle.collection_machine.specs.Boosted.{GoHome, Shadow, changes, is_none}
+use Rattle.collection_machine.specs.Boosted.{Shadow, changes, is_none}
 use Rattle.collection_machine.specs.Serial.{IsWritten, does_write}
 use Rattle.collection_machine.proofs.Parts.{Untouched, in_has, written_does, untouched_does}
 use Rattle.collection_machine.proofs.Invariant.{ShadowOk}
 use Rattle.replay_log.specs.declared.base.Base.{Base}
 use Rattle.replay_log.specs.Base.{Shown, OfMap, OfBag, OfPq, OfQueue, after, changes_of, editions_of, shown_of, writes_of}
-use Rattle.replay_log.specs.Guards.{IsAllowed, step_action}
 use Rattle.replay_log.specs.Parts.{Kind, MapKind, BagKind, PqKind, QueueKind, kind_of, part, whole}
 use Rattle.replay_log.specs.Contents.{Block, Answered, HaveStripes, block_of, end_of, first_of, home_of, is_plain, content, size, shifted}
 use Rattle.replay_log.specs.Contents.{blank, seen, changed, writes_in}
-use Rattle.replay_log.specs.Seats.{World, Stage, Ready, actor_of}
+use Rattle.replay_log.specs.Seats.{World, actor_of}
 use Rattle.replay_log.specs.Worlds.{happens, opened, run}
 use Rattle.replay_log.proofs.PartLemmas.{is_whole, leaves_other_parts, whole_local}
 use Rattle.replay_log.proofs.ContentLemmas.{shifted_in, in_shifted, same_block, read_at, positive_at, home_is, not_plain, content_frame}
 use Rattle.replay_log.proofs.LogLemmas.{raises_each, keeps_others}
 use Rattle.replay_log.proofs.EventLemmas.{run_linked, opened_linked}
-use Rattle.replay_log.proofs.GuardLemmas.{world_allows}
 use Rattle.atomic_steps.specs.Bases.{IsBaseOf, ShowsBase, changes_on, writes_on, log_changes, log_locations, IsFolded}
 use Rattle.atomic_steps.specs.Gates.{GoesHome, Homed}
 use Rattle.atomic_steps.specs.Own.{Alike}
 use Rattle.atomic_steps.proofs.Guards.{home_allowed}
-use Rattle.atomic_steps.specs.Steps.{atomic_action}
 use Rattle.atomic_steps.proofs.Turned.{in_list, out_list, home_turned}
 
 -- where a location of collection k lies in its block

@@ -2,7 +2,7 @@
 --
 -- In the reached world the machine does the action that is due (`world_allows`). Each of these guards speaks of the actor's place and of
 -- whether a gate is its own, which are the same where worlds are alike to it.
-use Rattle.std.proofs.Common.{◌≡◌, ℕ, Bool, true, false, List, Option, Some, None, sym, ap, ◌∙◌, subst}
+use Rattle.std.proofs.Common.{◌≡◌, ℕ, Bool, true, false, List, Some, sym, ap, ◌∙◌, subst}
 use Rattle.word_machine.specs.Actor.{Actor}
 use Rattle.seq_model.specs.declared.held.Held.{Held}
 use Rattle.seq_model.specs.declared.event.Event.{Event}

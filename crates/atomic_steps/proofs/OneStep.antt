@@ -10,11 +10,8 @@ use Rattle.tx_sets.specs.Entries.{Entries, lookup}
 use Rattle.word_machine.specs.Actor.{Actor}
 use Rattle.word_machine.specs.Requests as word
 use Rattle.word_machine.specs.World as machine
-use Rattle.word_machine.specs.World.{plan}
 use Rattle.word_machine.specs.Cells.{Cell, ClockCell, LockCell, ValueCell, cell}
 use Rattle.word_machine.specs.Notices as told
-use Rattle.word_machine.specs.Notices.{notice, begin_notice, look_notice, again_notice, when_none_left, lock_notice, take_notice}
-use Rattle.word_machine.specs.Notices.{check_notice}
 use Rattle.word_machine.proofs.Sets.{put-same, put-other}
 use Rattle.seq_model.specs.declared.call.Op.{Op}
 use Rattle.seq_model.specs.declared.call.Op.TheVariants.{Read, Write}

@@ -1,26 +1,21 @@
 -- The frame laws of a map.
-use Rattle.std.proofs.Common.{◌≡◌, ◌≢◌, ℕ, zero, suc, ◌+◌, ◌<◌, ◌%◌, Bool, true, false, cond, List, [], ◌∷◌, length, get_or, Option, Some, None, Contains, refl, sym, ap, subst, ◌∙◌, arith}
+use Rattle.std.proofs.Common.{◌≡◌, ℕ, ◌<◌, ◌%◌, true, false, cond, [], ◌∷◌, Option, Some, None, Contains, refl, sym, ap, subst, ◌∙◌, arith}
 use Rattle.std.specs.Prelude.{option_map}
 use Rattle.std.proofs.Math.Nat.{mod-lt}
 use Rattle.std.specs.Cmp.{nat_cmp_total}
-use Rattle.std.specs.List.{range_with_len}
 use Rattle.std.specs.Ordering.{nat_cmp, eq_by_cmp}
-use Rattle.std.specs.declared.cmp.Ordering.TheVariants.{Less, Equal, Greater}
-use Rattle.std.proofs.lemmas.Bool.Decides.{nat_tests}
-use Rattle.std.proofs.lemmas.List.FromFn.{length-range_with_len}
 use Rattle.std.specs.FinMap.{FinMap, get, insert, remove, get-insert, get-remove, same_map, nat_cmp-IsAntisymmetric}
 use Rattle.seq_model.specs.declared.call.Op.{Op}
 use Rattle.seq_model.specs.declared.call.Op.TheVariants.{Get, Put, Remove, Len}
 use Rattle.seq_model.specs.declared.call.Reply.{Reply}
-use Rattle.seq_model.specs.declared.call.Reply.TheVariants.{Nothing, Value}
+use Rattle.seq_model.specs.declared.call.Reply.TheVariants.{Value}
 use Rattle.seq_model.specs.Calls.{map_call, held_call, value_reply}
-use Rattle.conflict.specs.declared.change.Change.{Change}
 use Rattle.conflict.specs.declared.change.Change.TheVariants as change
 use Rattle.conflict.specs.declared.outcome.Outcome.{Outcome}
 use Rattle.conflict.specs.declared.outcome.Note.TheVariants.{Plain}
-use Rattle.base_map.specs.Conflicts.{outcome_of, reads_of, writes_of, changes_by, changes_of, change_map, view_of, rules}
+use Rattle.base_map.specs.Conflicts.{outcome_of, changes_by, changes_of, view_of, rules}
 use Rattle.conflict.specs.Footprints.{map_reads, map_writes}
-use Rattle.conflict.specs.Rules.{Rules, FrameLaws, Commute, applied, LegalWhereReadsAgree, ChangesOnlyWrites, WritesWhereItChanges, OutcomesWriteWhereTheyChange, ChangesByPart, FollowsCall, AnswersItsKind, WritesWithinReads, ReadsLocations, PointsLieOnLocations, PartsDecide, ViewsDecide}
+use Rattle.conflict.specs.Rules.{FrameLaws, Commute, applied, LegalWhereReadsAgree, ChangesOnlyWrites, WritesWhereItChanges, OutcomesWriteWhereTheyChange, ChangesByPart, FollowsCall, AnswersItsKind, PartsDecide, ViewsDecide}
 use Rattle.conflict.specs.Commute.{commute}
 use Rattle.conflict.specs.Places.{in_single, of_none, of_single, in_range, of_range, same_key, some_same, none_some, some_none}
 use Rattle.seq_model.specs.declared.held.Held.{Held}

@@ -1,6 +1,6 @@
 -- What calls on a queue answer, read, write and change, in n stripes. Location 0 is the head, location 1 the tail, and the
 -- others are the stripes, each with the cells whose indexes fall on it.
-use Rattle.std.specs.Prelude.{ℕ, zero, suc, ◌+◌, ◌-◌, List, [], ◌∷◌, length, map, Option, Some, None, nat_lt, if◌then◌else◌, refl}
+use Rattle.std.specs.Prelude.{ℕ, zero, suc, ◌+◌, ◌-◌, List, [], ◌∷◌, length, Option, Some, None, nat_lt, if◌then◌else◌, refl}
 use Rattle.std.specs.Ordering.{nat_cmp}
 use Rattle.std.specs.Coded.{Coded, code_by, coded_ℕ, coded×}
 use Rattle.std.specs.FinMap.{FinMap, get, insert, remove, empty, values, code}

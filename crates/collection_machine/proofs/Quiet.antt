@@ -15,7 +15,6 @@ use Rattle.word_machine.proofs.Calls.{first_read-more}
 use Rattle.word_machine.proofs.Saw.{first_read_good}
 use Rattle.word_machine.proofs.Sets.{put_both, put-same, put-other, Member, member_locations, lookup-with_entry_same}
 use Rattle.word_machine.proofs.Sets.{lookup-with_entry_other}
-use Rattle.word_machine.proofs.Invariant.{Good}
 use Rattle.word_machine.proofs.Invariant as machine
 use Rattle.word_machine.proofs.Frame.{Moved, quiet}
 use Rattle.word_machine.proofs.Quiet.{none_if, lookup-none, ask_ok, begin_ok}

@@ -13,7 +13,7 @@ use Rattle.word_machine.specs.Actor.{Place, Begin, Open, Actor, goes}
 use Rattle.word_machine.specs.Requests.{Request, AskBegin, AskBeginRead, AskRead, AskWrite, AskLock, AskStore, AskRelease, AskCancel}
 use Rattle.word_machine.specs.Requests.{AskAbort, AskClose, ask, write, wrote}
 use Rattle.word_machine.specs.World as world
-use Rattle.word_machine.specs.World.{World, put, plan, does, noted, outcome, step, Deed, Outcome, Ask, Step}
+use Rattle.word_machine.specs.World.{World, put, plan, does, noted, outcome, step, Deed, Outcome, Ask}
 use Rattle.word_machine.proofs.Sets.{put-same, put-other}
 use Rattle.std.proofs.lemmas.List.{append-nil}
 use Rattle.std.proofs.lemmas.List.Elements.{filter-append}

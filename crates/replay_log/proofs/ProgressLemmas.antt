@@ -4,11 +4,11 @@
 use Rattle.std.proofs.Common.{◌≡◌, ℕ, zero, suc, ◌+◌, ◌*◌, ◌<◌, ◌≤◌, Bool, true, false, cond, ◌&&◌, List, [], ◌∷◌, ◌++◌, length, filter}
 use Rattle.std.proofs.Common.{Option, Some, None, inl, inr, refl, sym, ◌∙◌, ap, subst, arith, eqb}
 use Rattle.std.specs.Prelude.{nat_lt, nat_le, not, if◌then◌else◌}
-use Rattle.std.proofs.lemmas.Bool.{cases_eq, cond-true, cond-false, cond_both}
+use Rattle.std.proofs.lemmas.Bool.{cond-true, cond-false, cond_both}
 use Rattle.vlock_word.specs.declared.lock_word.LockWord.{LockWord}
 use Rattle.vlock_word.specs.declared.lock_word.LockWord.TheVariants.{Free, Locked}
 use Rattle.vlock_word.specs.LockWord.{bits}
-use Rattle.tx_sets.specs.Entries.{Entries, lookup, with_entry, locations}
+use Rattle.tx_sets.specs.Entries.{Entries, lookup, locations}
 use Rattle.word_machine.specs.Actor as machine
 use Rattle.word_machine.specs.Actor.{Place, Actor, goes}
 use Rattle.word_machine.specs.Requests as word
@@ -18,15 +18,12 @@ use Rattle.word_machine.specs.Progress.{steps_left}
 use Rattle.word_machine.specs.Notices as told
 use Rattle.word_machine.specs.Notices.{notice, look_notice, again_notice, lock_notice, take_notice, check_notice, when_none_left}
 use Rattle.word_machine.specs.Notices.{last_notice}
-use Rattle.word_machine.proofs.Sets.{put-same, lookup-with_entry_same, lookup-with_entry_other}
+use Rattle.word_machine.proofs.Sets.{put-same}
 use Rattle.word_machine.proofs.Invariant.{IsSomeEntry, PlaceOk}
 use Rattle.seq_model.specs.declared.refusal.Refusal.{Refusal}
 use Rattle.seq_model.specs.declared.refusal.Refusal.TheVariants as refusal
 use Rattle.seq_model.specs.declared.call.Op.{Op}
-use Rattle.seq_model.specs.declared.call.Reply.{Reply}
-use Rattle.seq_model.specs.declared.call.Reply.TheVariants.{Found}
-use Rattle.seq_model.specs.declared.call.Op.TheVariants.{Read, Write, Get, Put, Remove, Len, Count, Add, Take, Least, Insert, TakeLeast}
-use Rattle.seq_model.specs.declared.call.Op.TheVariants.{Enqueue, Dequeue, Peek}
+use Rattle.seq_model.specs.declared.call.Op.TheVariants.{Read, Write, Take}
 use Rattle.seq_model.specs.declared.held.Held.{Held}
 use Rattle.seq_model.specs.declared.event.Event.{Event}
 use Rattle.seq_model.specs.declared.event.Event.TheVariants.{Ask, Step}
@@ -34,28 +31,20 @@ use Rattle.seq_model.specs.declared.event.Request.{Request}
 use Rattle.seq_model.specs.declared.event.Request.TheVariants as request
 use Rattle.seq_model.specs.declared.limits.TheConstants.{CALL_LIMIT}
 use Rattle.collection_machine.specs.Boosted.{TakeGate, PutGate, GoHome, is_none, is_open, is_committing, copied}
-use Rattle.replay_log.specs.Base.{Shown, OfMap, reads_of}
-use Rattle.replay_log.specs.Parts.{Kind, MapKind, BagKind, PqKind, QueueKind, whole}
-use Rattle.conflict.specs.declared.outcome.Outcome.{Outcome}
-use Rattle.conflict.specs.declared.outcome.Note.{Note}
-use Rattle.conflict.specs.declared.outcome.Note.TheVariants.{Index}
-use Rattle.conflict.specs.Footprints.{all_below, map_reads, multiset_reads, priority_queue_reads, queue_reads}
-use Rattle.std.specs.FinMap.{empty}
-use Rattle.std.proofs.lemmas.List.FromFn.{length-range_with_len}
-use Rattle.replay_log.specs.Contents.{Block, Asked, Answered, HaveStripes, block_of, first_of, blank, shifted, reads_in, home_of, is_plain}
+use Rattle.replay_log.specs.Contents.{Block, Asked, Answered, HaveStripes, home_of, is_plain}
 use Rattle.replay_log.specs.Contents.{content}
 use Rattle.replay_log.specs.Worlds.{World, Seat, Stage, Idle, Beginning, Open, Locking, Releasing, Closing, Cancelling, Leaving, Reading}
 use Rattle.replay_log.specs.Worlds.{Trying, Copying, Loading, Gating, Ready, Storing, Homing, Returning, After, new_in, has_room}
 use Rattle.replay_log.specs.Worlds.{with_editions, at_stage, because, seated, acted, asks, moves, actor_of, is_leaving, cancels, gives_up}
 use Rattle.replay_log.specs.Worlds.{is_fresh, judges, loads, answers, has_read, has_tried, has_loaded, takes_gates, all_of, distinct}
-use Rattle.replay_log.specs.Worlds.{with_new, has_locked, goes_home, has_stored, has_released, has_cancelled, has_begun, with_piece}
+use Rattle.replay_log.specs.Worlds.{has_locked, goes_home, has_stored, has_released, has_cancelled, has_begun, with_piece}
 use Rattle.replay_log.specs.Worlds.{outcome_at, sized_by, recorded, why, step_at, reads, if_allowed, calls_on, more_tries, ask_op, commits}
 use Rattle.replay_log.specs.Worlds.{ask_at, happens, run, opened}
 use Rattle.replay_log.proofs.CountLemmas.{length-locations, filter_shorter, read_fewer, homes_few, locations_of, locations-cons, call_few}
 use Rattle.replay_log.proofs.EventLemmas.{run_linked, opened_linked}
 use Rattle.replay_log.specs.Pieces.{piece_at, covers_at}
 use Rattle.replay_log.specs.WorldProgress as measure
-use Rattle.replay_log.specs.WorldProgress.{most_by, AreSmall, unlocked, whose, IsQuiet, left_of, Nears}
+use Rattle.replay_log.specs.WorldProgress.{AreSmall, unlocked, whose, IsQuiet, left_of, Nears}
 use Rattle.replay_log.proofs.RequestLemmas.{happens_by, run_by}
 use Rattle.collection_machine.specs.Content.{has}
 use Rattle.replay_log.proofs.ActionLemmas.{mine, without_gate, exchanges, learns}

@@ -1,7 +1,7 @@
 -- What becomes of the calls of a transaction. One pass over the functions of a call: each answers it with the reply that it puts behind
 -- the calls before it, or leaves the calls, with the same call under way, refused or given up. One over all others: they leave the
 -- calls, but for the one that begins a transaction and those that end one.
-use Rattle.std.proofs.Common.{◌≡◌, ◌≢◌, ◌⊎◌, ℕ, zero, suc, Bool, true, false, cond, ◌&&◌, List, [], ◌∷◌, ◌++◌, length, Option, Some, None}
+use Rattle.std.proofs.Common.{◌≡◌, ◌≢◌, ℕ, zero, suc, Bool, true, false, cond, ◌&&◌, List, [], ◌∷◌, ◌++◌, length, Option, Some, None}
 use Rattle.std.proofs.Common.{inl, inr, refl, sym, ◌∙◌, ap, subst, eqb}
 use Rattle.std.specs.Prelude.{nat_lt}
 use Rattle.tx_sets.specs.Entries.{Entries, lookup}

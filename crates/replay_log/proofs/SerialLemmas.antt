@@ -8,9 +8,8 @@ use Rattle.word_machine.specs.Actor as machine
 use Rattle.word_machine.specs.Actor.{Place, Actor}
 use Rattle.word_machine.specs.World as world
 use Rattle.word_machine.specs.World.{Memory}
-use Rattle.word_machine.specs.Opacity.{IsLegal, IsRun, IsInOrder, IsHalfDone, IsNoneHalfDone, AllEnded, NoWriterHas, memory_at}
+use Rattle.word_machine.specs.Opacity.{IsLegal, IsRun, IsInOrder, IsHalfDone, IsNoneHalfDone, AllEnded, memory_at}
 use Rattle.word_machine.specs.Opacity.{memory_after, upto}
-use Rattle.word_machine.specs.Refusals.{IsEnding}
 use Rattle.word_machine.proofs.Schedules.{legal_of, actor_saw, words_at_rest}
 use Rattle.std.proofs.lemmas.Bool.{cases_eq, cases_lt, cases_Bool, cond-true, cond-false}
 use Rattle.tx_sets.specs.Entries.{Entries, lookup}

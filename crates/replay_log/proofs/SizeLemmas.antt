@@ -17,7 +17,7 @@ use Rattle.word_machine.specs.Requests as word
 use Rattle.word_machine.specs.World as world
 use Rattle.word_machine.specs.World.{plan}
 use Rattle.word_machine.specs.Notices as told
-use Rattle.word_machine.specs.Notices.{notice, read_reply}
+use Rattle.word_machine.specs.Notices.{read_reply}
 use Rattle.word_machine.proofs.Sets.{put-same}
 use Rattle.seq_model.specs.declared.call.Op.{Op}
 use Rattle.seq_model.specs.declared.call.Op.TheVariants.{Read, Write}

@@ -11,7 +11,6 @@ use Rattle.tx_sets.specs.Entries.{Entries, lookup, locations}
 use Rattle.word_machine.specs.Actor as machine
 use Rattle.word_machine.specs.Actor.{Place, Actor, goes}
 use Rattle.word_machine.specs.Requests as word
-use Rattle.word_machine.specs.Requests.{ask, wrote}
 use Rattle.word_machine.specs.World as world
 use Rattle.word_machine.specs.World.{plan, outcome}
 use Rattle.word_machine.specs.Notices as told

@@ -6,7 +6,7 @@ use Rattle.seq_model.specs.declared.event.Answer.TheVariants as answer
 use Rattle.seq_model.specs.declared.event.Notice.{Notice}
 use Rattle.seq_model.specs.declared.event.Notice.TheVariants.{Quiet, Answered, Refused}
 use Rattle.replay_log.specs.Contents.{Asked}
-use Rattle.replay_log.specs.Worlds.{Stage, Seat, After, Idle, Beginning, Open, Reading, Trying, Copying, Loading, Closing, call_of}
+use Rattle.replay_log.specs.Worlds.{Stage, Seat, Idle, Beginning, Open, Reading, Trying, Copying, Loading, Closing, call_of}
 use Rattle.replay_log.specs.WorldRefusals.{is_ending}
 
 module _ {V : Type 0} where

@@ -12,7 +12,7 @@ use Rattle.vlock_word.specs.LockWord.{bits, unbits}
 use Rattle.vlock_word.proofs.LockWordLemmas.{bits_unbits, unbits_free, unbits_locked}
 use Rattle.tx_sets.specs.Entries.{Entries, locations, lookup}
 use Rattle.word_machine.specs.Actor as machine
-use Rattle.word_machine.specs.Actor.{goes, begun, seen, seen_again, seen_to_lock, to_check, stamped_at, taken, seen_in_check, freed, after_release, clock_limit}
+use Rattle.word_machine.specs.Actor.{goes, begun, seen, seen_again, seen_to_lock, to_check, stamped_at, taken, seen_in_check, freed, after_release}
 use Rattle.word_machine.specs.World.{World, Step, happens, step, put, now}
 use Rattle.word_machine.specs.Notices.{LockedAt, Quiet, Busy, NoTransaction, Stored, Released, Cancelled, last_notice, take_notice, when_none_left, notice, begin_notice, look_notice, again_notice, lock_notice, check_notice}
 use Rattle.word_machine.proofs.Sets.{put-same, put-other}

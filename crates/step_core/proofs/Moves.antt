@@ -13,13 +13,11 @@ use Rattle.word_machine.specs.World as world
 use Rattle.word_machine.specs.Requests.{Request}
 use Rattle.vlock_word.specs.declared.lock_word.LockWord.{LockWord}
 use Rattle.vlock_word.specs.declared.lock_word.LockWord.TheVariants.{Free, Locked}
-use Rattle.word_machine.specs.Actor.{goes}
 use Rattle.word_machine.specs.Requests.{ask}
 use Rattle.word_machine.specs.World.{World, Ask, Event, Step, Outcome, GoesOn, outcome, first_outcome, happens, run, start, step, put, now}
 use Rattle.word_machine.specs.Notices.{reply, notice}
 use Rattle.word_machine.proofs.Sets.{put-same, put-other}
 use Rattle.vlock_word.specs.LockWord.{unbits}
-use Rattle.word_machine.specs.Actor.{begun, seen, to_check, stamped_at, taken, freed, after_release, seen_again, seen_to_lock, seen_in_check}
 use Rattle.word_machine.specs.World.{in_order}
 use Rattle.word_machine.specs.World.{blank}
 use Rattle.step_core.specs.Answers.{result_of}

@@ -1,16 +1,15 @@
 -- Legal calls that a program asked lead where its run leads.
 -- By induction on the calls: the first is the one that the program asks, and its reply is that of the sequential call, so the run
 -- goes on with what is left of the program at the state after the call.
-use Rattle.std.proofs.Common.{◌≡◌, ◌<◌, zero, suc, length, arith, ℕ, Option, Some, None, refl, List, [], ◌∷◌, sym, ◌∙◌, ap}
+use Rattle.std.proofs.Common.{◌≡◌, zero, suc, arith, Option, Some, None, refl, List, [], ◌∷◌, sym, ◌∙◌, ap}
 use Rattle.std.specs.Prelude.{option_and_then, option_map}
 use Rattle.std.specs.Option.{option_map_or}
 use Rattle.seq_model.specs.declared.call.Call.{Call}
 use Rattle.seq_model.specs.declared.call.Reply.{Reply}
 use Rattle.seq_model.specs.Contents.{Contents, call_of}
 use Rattle.seq_model.specs.Runs.{reply_of, after_call, IsLegal, after_calls}
-use Rattle.tx_engine.specs.declared.job.Ask.{Ask}
 use Rattle.tx_engine.specs.declared.job.Ask.TheVariants as ask
-use Rattle.tx_engine.specs.Programs.{after, asked, replies_of, AreAsked, Program, Asks, Answers, GivesUp, run, Follows}
+use Rattle.tx_engine.specs.Programs.{after, replies_of, AreAsked, Program, Asks, Answers, GivesUp, run, Follows}
 
 pub none_some : {A : Type 0} (x : A) → ◌≡◌ {A = Option A} None (Some x) → ⊥
 none_some x e = cc

@@ -1,7 +1,7 @@
 -- Changes that were admitted and then settled are made. What was admitted has at each key that is not changed what the
 -- tables had, so the changes laid over it are the changes laid over the tables; and of a queue no more tickets of its
 -- own are taken off than it has, so those that are given out at its end stay.
-use Rattle.std.proofs.Common.{◌≡◌, ℕ, ◌+◌, ◌<◌, ◌≤◌, ◌==◌, Bool, true, false, cond, List, [], ◌∷◌, ◌++◌, length, drop, refl, sym, ◌∙◌, ap, subst, arith}
+use Rattle.std.proofs.Common.{◌≡◌, ℕ, ◌+◌, ◌≤◌, true, List, ◌++◌, length, drop, sym, ◌∙◌, ap, subst, arith}
 use Rattle.std.specs.Prelude.{min, nat_le}
 use Rattle.std.proofs.lemmas.List.{drop-append-le, drop_all}
 use Rattle.std.proofs.lemmas.Bool.Decides.{nat_tests}
@@ -14,7 +14,7 @@ use Rattle.vac_model.specs.declared.item.Kind.TheVariants.{Car, Flight, Room}
 use Rattle.vac_model.specs.Holdings.{Holdings}
 use Rattle.vac_model.specs.Balanced.{IsBalanced}
 use Rattle.vac_model.specs.Overlays.{moved, with_changes}
-use Rattle.vac_model.specs.Makings.{IsAdmitted, AreHeadsWithin, settled, lens, extended, each_extended, without_taken, each_without_taken}
+use Rattle.vac_model.specs.Makings.{IsAdmitted, AreHeadsWithin, settled, lens, extended, without_taken, each_without_taken}
 use Rattle.vac_model.proofs.OverlayLemmas.{laid_alike}
 
 pub heads_within : (s t : Holdings) (c : Changes) → IsBalanced (with_changes s c) → IsAdmitted c s t → AreHeadsWithin t c

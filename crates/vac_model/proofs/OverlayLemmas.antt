@@ -1,7 +1,7 @@
 -- A map with changes made has, at each key, what the changes have there, and else what the map has. All else follows
 -- from this: a further change is made on top, no change leaves the map, and what stands at other keys is all that the
 -- changes need of the map below them.
-use Rattle.std.proofs.Common.{Bor, ◌≡◌, ◌≢◌, ℕ, zero, suc, ◌<◌, Bool, true, false, not, cond, List, [], ◌∷◌, ◌++◌, ◌⊎◌, inl, inr, Option, Some, None, refl, sym, ◌∙◌, ap, subst, arith, get_or, length, drop, append-nil, ◌+◌}
+use Rattle.std.proofs.Common.{Bor, ◌≡◌, ◌≢◌, ℕ, zero, suc, ◌<◌, Bool, true, false, not, cond, List, [], ◌∷◌, ◌++◌, ◌⊎◌, inl, inr, Option, Some, None, refl, sym, ◌∙◌, ap, subst, arith, length, drop, append-nil, ◌+◌}
 use Rattle.std.specs.Ordering.{nat_cmp, is_eq}
 use Rattle.std.specs.Option.{option_copied, is_some}
 use Rattle.std.specs.Cmp.{nat_cmp_total}
@@ -10,7 +10,7 @@ use Rattle.seq_model.specs.Entries.{IsRising}
 use Rattle.seq_model.proofs.EntryLemmas.{by_cases, both_true, below_at, find_below}
 use Rattle.vac_model.specs.declared.queue.Queue.{Queue}
 use Rattle.vac_model.specs.Holdings.{Holdings}
-use Rattle.vac_model.specs.Overlays.{placed, laid_by, laid, without, HasPlaces, AreElsewhereAlike, moved, no_moves, no_changes, with_changes}
+use Rattle.vac_model.specs.Overlays.{placed, laid_by, laid, without, AreElsewhereAlike, moved, no_moves, no_changes, with_changes}
 use Rattle.vac_model.proofs.MapLemmas.{insert_both, remove_both}
 use Rattle.vac_model.proofs.HoldingLemmas.{some_same}
 use Rattle.std.proofs.lemmas.List.{drop_more}

@@ -15,7 +15,7 @@ use Rattle.word_machine.specs.Requests.{AskRead, AskWrite, read, write, lock, cl
 use Rattle.word_machine.specs.World.{Memory, Record, World, Event, Ask, Step, Deed, Rests, LoadClock, AddToClock, LoadLock, LoadValue}
 use Rattle.word_machine.specs.World.{ExchangeLock, StoreValue, StoreLock, insert, comes_before, now, put, does, exchanged, noted, plan}
 use Rattle.word_machine.specs.World.{outcome, first_outcome, step, happens, run, start}
-use Rattle.word_machine.specs.Opacity.{NoWriterHas, actor_of}
+use Rattle.word_machine.specs.Opacity.{NoWriterHas, whose}
 use Rattle.word_machine.specs.Refusals.{IsEnding}
 use Rattle.word_machine.proofs.Worlds.{looked, looked_again, to_lock, locked, tried, checked, first, released, undone}
 use Rattle.word_machine.proofs.Sets.{put-same, put-other}
@@ -283,7 +283,7 @@ noted_listed n a t x p f g = g
 
 -- ---- an event
 -- no writer gets a number in the history by it but its own actor, by the first value store
-event_listed : (s : World) (e : Event) (n : ℕ) → ((s.actors (actor_of e)).place ≡ First → (s.actors (actor_of e)).wv ≡ n → ⊥)
+event_listed : (s : World) (e : Event) (n : ℕ) → ((s.actors (whose e)).place ≡ First → (s.actors (whose e)).wv ≡ n → ⊥)
     → NoWriterHas n s.history
     → NoWriterHas n (happens s e).history
 event_listed s (Ask a request) n f g = g
@@ -291,22 +291,22 @@ event_listed s (Step a) n f g =
     let x = s.actors a in
     noted_listed n a (does s a (plan x x.place)) x x.place f (subst (NoWriterHas n) (sym (does_history s a (plan x x.place))) g)
 
-event_turns : (s : World) (e : Event) → NumberOk s (s.actors (actor_of e))
-    → Turns s.clock (s.actors (actor_of e)) (s.actors (actor_of e)).place ((happens s e).actors (actor_of e))
+event_turns : (s : World) (e : Event) → NumberOk s (s.actors (whose e))
+    → Turns s.clock (s.actors (whose e)) (s.actors (whose e)).place ((happens s e).actors (whose e))
 event_turns s (Ask a request) ok =
     let x = s.actors a in
     turns_put s.clock x x.place s.actors a (ask x x.place request) (ask_turns s.clock x x.place request refl ok.none)
 event_turns s (Step a) ok = let x = s.actors a in step_turns s a x x.place ok.none (stays s.clock x x.place refl ok.none)
 
-event_other : (s : World) (e : Event) (b : ℕ) → b ≢ actor_of e → (happens s e).actors b ≡ s.actors b
+event_other : (s : World) (e : Event) (b : ℕ) → b ≢ whose e → (happens s e).actors b ≡ s.actors b
 event_other s (Ask a request) b ne = put-other s.actors a (ask (s.actors a) (s.actors a).place request) b ne
 event_other s (Step a) b ne = step_other s a b ne
 
 -- what is spent stays so
-spent_kept : (s : World) (e : Event) (n : ℕ) → Inv s → NumberOk s (s.actors (actor_of e)) → Spent s n → Spent (happens s e) n
+spent_kept : (s : World) (e : Event) (n : ℕ) → Inv s → NumberOk s (s.actors (whose e)) → Spent s n → Spent (happens s e) n
 spent_kept s e n v ok g =
     let t = happens s e in
-    let a = actor_of e in
+    let a = whose e in
     let later = (happens_ok s e v).keeps.clock in
     record {
       past = (let h = g.past in omega (arith, h, later));
@@ -352,12 +352,12 @@ not_both (Check ls) h g = h
 not_both First h g = h
 not_both p h g = g
 
-spent_given : (s : World) (e : Event) → Inv s → IsChecking (s.actors (actor_of e)).place
-    → IsEnding ((happens s e).actors (actor_of e)).place
-    → Spent (happens s e) (s.actors (actor_of e)).wv
+spent_given : (s : World) (e : Event) → Inv s → IsChecking (s.actors (whose e)).place
+    → IsEnding ((happens s e).actors (whose e)).place
+    → Spent (happens s e) (s.actors (whose e)).wv
 spent_given s e v at_check ends =
     let t = happens s e in
-    let a = actor_of e in
+    let a = whose e in
     let x = s.actors a in
     let later = (happens_ok s e v).keeps.clock in
     let at_p = is_pending x.place at_check in
@@ -377,12 +377,12 @@ spent_given s e v at_check ends =
 abbrev AllNumberOk : World → Type 0
 AllNumberOk s = (a : ℕ) → NumberOk s (s.actors a)
 
-number_own : (s : World) (e : Event) → Inv s → NumberOk s (s.actors (actor_of e))
-    → NumberOk (happens s e) ((happens s e).actors (actor_of e))
+number_own : (s : World) (e : Event) → Inv s → NumberOk s (s.actors (whose e))
+    → NumberOk (happens s e) ((happens s e).actors (whose e))
 number_own s e v ok =
     let t = happens s e in
-    let x = s.actors (actor_of e) in
-    let y = t.actors (actor_of e) in
+    let x = s.actors (whose e) in
+    let y = t.actors (whose e) in
     let turns = event_turns s e ok in
     record {
       none = turns.none;
@@ -395,7 +395,7 @@ number_own s e v ok =
 number_kept : (s : World) (e : Event) → Inv s → AllNumberOk s → AllNumberOk (happens s e)
 number_kept s e v all b =
     let t = happens s e in
-    let a = actor_of e in
+    let a = whose e in
     elim (cases_eq b a) [
       | inl q ↦ subst (λ (i : ℕ). NumberOk t (t.actors i)) (sym q) (number_own s e v (all a))
       | inr ne ↦
@@ -410,7 +410,7 @@ run_number (e ∷ es) s v all = run_number es (happens s e) (happens_ok s e v).i
 run_spent : (events : List Event) (s : World) (n : ℕ) → Inv s → AllNumberOk s → Spent s n → Spent (run events s) n
 run_spent [] s n v all g = g
 run_spent (e ∷ es) s n v all g = run_spent es (happens s e) n (happens_ok s e v).inv (number_kept s e v all)
-    (spent_kept s e n v (all (actor_of e)) g)
+    (spent_kept s e n v (all (whose e)) g)
 
 all_numbers : (clock : ℕ) (memory : Memory) (events : List Event) → AllNumberOk (run events (start clock memory))
 all_numbers clock memory events = run_number events (start clock memory) (start_ok clock memory)

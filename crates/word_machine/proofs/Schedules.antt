@@ -9,7 +9,7 @@ use Rattle.word_machine.specs.Actor.{Leave, Close, Actor, goes, opened, clock_li
 use Rattle.word_machine.specs.Requests.{ask}
 use Rattle.word_machine.specs.World.{Memory, put, Record, Ended, World, Event, Ask, Step, now, step, happens, run, start}
 use Rattle.word_machine.proofs.Worlds.{tried}
-use Rattle.word_machine.specs.Opacity.{IsLegal, IsRun, IsNoneHalfDone, AllEnded, AllUpto, actor_of, memory_at, memory_after, upto}
+use Rattle.word_machine.specs.Opacity.{IsLegal, IsRun, IsNoneHalfDone, AllEnded, AllUpto, whose, memory_at, memory_after, upto}
 use Rattle.word_machine.proofs.Sets.{put-same}
 use Rattle.word_machine.proofs.Calls.{Sets-none}
 use Rattle.word_machine.proofs.Records.{settled, memory_after-upto, memory_after-finals, AllRecords, AllRecords_map, base, LegalAt}
@@ -54,7 +54,7 @@ step_ok s a Undo v e pl = undone_ok s a (s.actors a).held v e refl
 step_ok s a Leave v e pl = left_ok s a v e pl
 step_ok s a Close v e pl = closed_ok s a v e pl
 
-pub happens_ok : (s : World) (e : Event) → Inv s → Moved s (actor_of e) (happens s e)
+pub happens_ok : (s : World) (e : Event) → Inv s → Moved s (whose e) (happens s e)
 happens_ok s (Ask a request) v = quiet s a (ask (s.actors a) (s.actors a).place request) v
     (ask_ok s a (s.actors a).place request v refl (v.actors a).place)
 happens_ok s (Step a) v = step_ok s a (s.actors a).place v refl (v.actors a).place
@@ -130,7 +130,7 @@ actor_saw s a v = (v.actors a).saw
 pub words_at_rest : (s : World) → Inv s → IsNoneHalfDone s → (l : ℕ) → s.values l ≡ memory_after s.opening s.history l
 words_at_rest s v none l = v.current l (v.behind l (λ a half. absurd (none a half))) ∙ sym (memory_after-finals s.history s.opening l)
 
-pub owned : (s : World) (e : Event) (a l k : ℕ) → Inv s → lookup (s.actors a).held l ≡ Some k → (a ≡ actor_of e → ⊥)
+pub owned : (s : World) (e : Event) (a l k : ℕ) → Inv s → lookup (s.actors a).held l ≡ Some k → (a ≡ whose e → ⊥)
     → ((happens s e).locks l ≡ s.locks l) × ((happens s e).values l ≡ s.values l)
 owned s e a l k v h ne = let m = (happens_ok s e v).others a ne in (m.locks l k h, m.values l k h)
 

@@ -76,9 +76,10 @@ abbrev pub NoWriterHas : ℕ → List Record → Type 0
 NoWriterHas n [] = Unit {0}
 NoWriterHas n (r ∷ rs) = (r.writer ≡ true → r.number ≢ n) × NoWriterHas n rs
 
-abbrev pub actor_of : Event → ℕ
-actor_of (Ask a request) = a
-actor_of (Step a) = a
+-- the actor of an event
+abbrev pub whose : Event → ℕ
+whose (Ask a request) = a
+whose (Step a) = a
 
 -- the world after these events, from an opening
 abbrev pub after_events : ℕ → Memory → List Event → World

@@ -1,11 +1,11 @@
 -- Schedules worked by hand, computed by the definitions: what each event answers, and what is left.
-use Rattle.std.specs.Prelude.{◌≡◌, ℕ, zero, suc, Bool, true, false, List, [], ◌∷◌, ◌++◌, refl}
+use Rattle.std.specs.Prelude.{◌≡◌, ℕ, zero, suc, true, false, List, [], ◌∷◌, ◌++◌, refl}
 use Rattle.vlock_word.specs.LockWord.{bits}
-use Rattle.tx_sets.specs.Entries.{Entries, lookup, with_entry, locations}
-use Rattle.word_machine.specs.Actor.{Call, Read, Write, Place, Idle, Open, Look, Check, Broken, Undo, Actor}
+use Rattle.tx_sets.specs.Entries.{lookup, with_entry, locations}
+use Rattle.word_machine.specs.Actor.{Call, Read, Write, Place, Idle, Open, Broken, Undo}
 use Rattle.word_machine.specs.Requests.{Request, AskBegin, AskBeginRead, AskLock, AskStore, AskRelease, AskCancel, AskAbort, AskClose}
 use Rattle.word_machine.specs.Requests.{AskRead, AskWrite}
-use Rattle.word_machine.specs.World.{put, Record, Ended, comes_before, insert, World, Event, Ask, Step, happens, run, start}
+use Rattle.word_machine.specs.World.{put, Record, comes_before, insert, World, Event, Ask, Step, happens, run, start}
 use Rattle.word_machine.specs.Notices.{Notice, Quiet, NoTransaction, Begun, Number, LockedAt, Written, Stored, Released, Cancelled, Closed}
 use Rattle.word_machine.specs.Notices.{Moved, Busy, Invalid, Exhausted, notice, reply}
 use Rattle.word_machine.specs.Opacity.{IsLegal, after, memory_at, memory_after, upto}

@@ -21,7 +21,7 @@ ghost use Rattle.word_machine.specs.Opacity.{
   AllEnded,
   AllUpto,
   NoWriterHas,
-  actor_of,
+  whose,
   after_events,
   memory_at,
   memory_after,
@@ -51,7 +51,7 @@ pub fn opacity()
         IsNoneHalfDone s → (l : ℕ) → s.values l ≡ memory_after memory s.history l }
     ensures owned { (clock : ℕ) (memory : Memory) (events : List Event) (event : Event) (a l k : ℕ) →
         let s = after_events clock memory events in
-        lookup (s.actors a).held l ≡ Some k → a ≢ actor_of event →
+        lookup (s.actors a).held l ≡ Some k → a ≢ whose event →
         ((happens s event).locks l ≡ s.locks l) × ((happens s event).values l ≡ s.values l) }
     ensures begins { (clock : ℕ) (memory : Memory) (events : List Event) (a : ℕ) →
         let s = after_events clock memory events in

@@ -1,4 +1,4 @@
-use Rattle.std.proofs.Common.{rules, take}
+use Rattle.std.proofs.Common.{rules}
 use Rattle.std.proofs.KnownBytes.{Appends-kept}
 use Rattle.command_line.proofs.ToldLemmas.{begun_with, written_on}
 use Rattle.command_line.proofs.tool.tell.Goals as goal

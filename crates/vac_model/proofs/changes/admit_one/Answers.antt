@@ -1,4 +1,4 @@
-use Rattle.std.proofs.Common.{◌≡◌, ◌≢◌, ℕ, Option, Some, None, refl, sym, ◌∙◌, ap}
+use Rattle.std.proofs.Common.{◌≡◌, None, refl, ◌∙◌, ap}
 use Rattle.std.specs.FinMap.{get, insert}
 use Rattle.vac_model.specs.Overlays.{without}
 use Rattle.vac_model.proofs.OverlayLemmas.{back_by, added_elsewhere, added_there, added_stays, copied_none}

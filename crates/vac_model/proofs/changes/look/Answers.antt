@@ -1,4 +1,4 @@
-use Rattle.std.proofs.Common.{◌≡◌, ◌∙◌, sym, ap}
+use Rattle.std.proofs.Common.{◌∙◌, sym, ap}
 use Rattle.std.specs.Option.{option_copied}
 use Rattle.vac_model.proofs.OverlayLemmas.{laid_at, laid_below}
 use Rattle.vac_model.proofs.changes.look.Goals as goal

@@ -1,9 +1,8 @@
-use Rattle.std.proofs.Common.{◌≡◌, ◌≢◌, ℕ, List, [], ◌∷◌, Option, Some, None, refl, sym, ◌∙◌, ap, subst}
-use lib.Dec.{T}
+use Rattle.std.proofs.Common.{◌∷◌, Some, None, sym, ◌∙◌, ap, subst}
 use Rattle.std.specs.Ordering.{nat_cmp}
-use Rattle.std.specs.FinMap.{FinMap, get, find, entries, entries_sorted, get-entries, insert, remove}
+use Rattle.std.specs.FinMap.{get, find, entries, entries_sorted, get-entries, remove}
 use Rattle.seq_model.specs.Entries.{IsRising}
-use Rattle.vac_model.specs.Overlays.{laid_by, laid}
+use Rattle.vac_model.specs.Overlays.{laid_by}
 use Rattle.vac_model.proofs.OverlayLemmas.{settles_next, found_first}
 use Rattle.vac_model.proofs.changes.settle.Goals as goal
 

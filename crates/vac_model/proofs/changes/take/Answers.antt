@@ -1,4 +1,4 @@
-use Rattle.std.proofs.Common.{◌≡◌, ◌∙◌, ap, None}
+use Rattle.std.proofs.Common.{◌∙◌, ap, None}
 use Rattle.vac_model.specs.Overlays.{laid}
 use Rattle.vac_model.proofs.OverlayLemmas.{laid-insert}
 use Rattle.vac_model.proofs.changes.take.Goals as goal

@@ -1,8 +1,8 @@
-use Rattle.std.proofs.Common.{◌≡◌, ap, sym, subst, ◌∙◌}
+use Rattle.std.proofs.Common.{ap, sym, subst, ◌∙◌}
 use Rattle.std.specs.FinMap.{empty}
 use Rattle.seq_model.specs.Counts.{HasNoZero}
 use Rattle.base_pq.specs.StripeView.{StripeView}
-use Rattle.base_pq.specs.Joined.{joined, poured}
+use Rattle.base_pq.specs.Joined.{poured}
 use Rattle.base_pq.proofs.JoinedLemmas.{poured_joined}
 use Rattle.base_pq.proofs.stripes.Stripes.to_counts.Goals as goal
 

@@ -1,4 +1,4 @@
-use Rattle.std.proofs.Common.{◌≡◌, ◌<◌, sym, ◌∙◌, subst, length}
+use Rattle.std.proofs.Common.{◌<◌, sym, ◌∙◌, subst, length}
 use Rattle.vac_model.proofs.OverlayLemmas.{first_within}
 use Rattle.vac_model.proofs.moves.Moves.first.Goals as goal
 

@@ -1,4 +1,4 @@
-use Rattle.std.proofs.Common.{◌≡◌, ℕ, ◌+◌, ◌<◌, subst, length, arith}
+use Rattle.std.proofs.Common.{◌≡◌, ◌+◌, ◌<◌, subst, length, arith}
 use Rattle.vac_model.proofs.OverlayLemmas.{taken_within}
 use Rattle.vac_model.proofs.moves.Moves.take_off.Goals as goal
 

@@ -1,4 +1,4 @@
-use Rattle.std.proofs.Common.{◌≡◌, ◌∙◌, ap}
+use Rattle.std.proofs.Common.{◌∙◌, ap}
 use Rattle.seq_model.specs.Queues.{rest_of}
 use Rattle.vac_model.proofs.OverlayLemmas.{rest_drop}
 use Rattle.vac_model.proofs.queue.Queue.take_off.Goals as goal

@@ -1,4 +1,4 @@
-use Rattle.std.proofs.Common.{◌≡◌, ◌∙◌, ap}
+use Rattle.std.proofs.Common.{◌∙◌, ap}
 use Rattle.vac_model.specs.Makings.{settled}
 use Rattle.vac_model.proofs.MakingLemmas.{heads_within, settles}
 use Rattle.vac_model.proofs.tables.Tables.make.Goals as goal

@@ -1,4 +1,4 @@
-use Rattle.std.proofs.Common.{◌≡◌, ◌∙◌, ap}
+use Rattle.std.proofs.Common.{◌∙◌, ap}
 use Rattle.vac_model.specs.Overlays.{with_changes, no_changes}
 use Rattle.vac_model.proofs.OverlayLemmas.{without_changes}
 use Rattle.vac_model.proofs.tables.Tables.unchanged.Goals as goal
