@@ -33,7 +33,8 @@ copies_decide : (s t : Multiset) → ((x : ℕ) → get s x ≡ get t x) → s �
 copies_decide s t same = same_map nat_cmp_total nat_cmp-IsAntisymmetric _ _ same
 
 -- a change of one element leaves the other stripes
-one_changed : (n l x : ℕ) (f : Multiset → Multiset) (s : Multiset) → ((q : ℕ) → ((q ≡ x) → ⊥) → get s q ≡ get (f s) q) → ¬ Contains (x % n ∷ []) l → SamePart n l s (f s)
+one_changed : (n l x : ℕ) (f : Multiset → Multiset) (s : Multiset) → ((q : ℕ) → ((q ≡ x) → ⊥) → get s q ≡ get (f s) q)
+    → ¬ Contains (x % n ∷ []) l → SamePart n l s (f s)
 one_changed n l x f s stays unread q on =
     stays q (λ same. unread (subst (λ k. Contains (x % n ∷ []) k) (ap (λ k. k % n) (sym same) ∙ on) (in_single (x % n))))
 
@@ -58,7 +59,8 @@ module _ {V : Type 0} where
   op_of (Take x) s o e = ap (λ y. y.op) (some_same _ _ e)
   op_of _ s o e = absurd (none_some o e)
 
-  same_outcome : (n : ℕ) (op : Op V) (s t : Multiset) → ((l : ℕ) → Contains (multiset_reads n op) l → SamePart n l s t) → outcome_of op t ≡ outcome_of op s
+  same_outcome : (n : ℕ) (op : Op V) (s t : Multiset) → ((l : ℕ) → Contains (multiset_reads n op) l → SamePart n l s t)
+      → outcome_of op t ≡ outcome_of op s
   same_outcome n (Count x) s t agree = ap (counted x) (same_copies n x s t agree)
   same_outcome n (Add x) s t agree = ap (added x) (same_copies n x s t agree)
   same_outcome n (Take x) s t agree = ap (taken x) (same_copies n x s t agree)
@@ -69,9 +71,12 @@ module _ {V : Type 0} where
       same_outcome n op s t (λ l c. agree l (subst (λ y. Contains (multiset_reads n y) l) (op_of op s o e) c)) ∙ e
 
   -- ---- writes
-  only_writes : (n l : ℕ) (op : Op V) (r : Reply V) (s : Multiset) → ¬ Contains (multiset_writes n op r) l → SamePart n l s (applied (rules V) (changes_by op r) s)
-  only_writes n l (Add x) Done s un = one_changed n l x (λ m. one_more m x) s (λ q. unchanged_elsewhere x more (λ m. one_more m x) (more_at x) q s) un
-  only_writes n l (Take x) Yes s un = one_changed n l x (λ m. one_fewer m x) s (λ q. unchanged_elsewhere x fewer (λ m. one_fewer m x) (fewer_at x) q s) un
+  only_writes : (n l : ℕ) (op : Op V) (r : Reply V) (s : Multiset) → ¬ Contains (multiset_writes n op r) l
+      → SamePart n l s (applied (rules V) (changes_by op r) s)
+  only_writes n l (Add x) Done s un = one_changed n l x (λ m. one_more m x) s
+      (λ q. unchanged_elsewhere x more (λ m. one_more m x) (more_at x) q s) un
+  only_writes n l (Take x) Yes s un = one_changed n l x (λ m. one_fewer m x) s
+      (λ q. unchanged_elsewhere x fewer (λ m. one_fewer m x) (fewer_at x) q s) un
   only_writes n l _ _ s un = λ q on. refl
 
   pub changes_only_writes : ChangesOnlyWrites (rules V)
@@ -84,16 +89,19 @@ module _ {V : Type 0} where
 
   -- ---- the sequential call
   abbrev Follows : Op V → Multiset → Outcome V → Type 0
-  Follows op m o = (after : Held V) × ((held_call op (Bag m) ≡ Some (o.reply, after)) × (view_of after ≡ Some (applied (rules V) (changes_of o) m)))
+  Follows op m o = (after : Held V) × ((held_call op (Bag m) ≡ Some (o.reply, after))
+      × (view_of after ≡ Some (applied (rules V) (changes_of o) m)))
 
   abbrev answered : Reply V × Multiset → Option (Reply V × Held V)
   answered r = Some (r.0, Bag r.1)
 
-  add_follows : (x : ℕ) (m : Multiset) → Follows (Add x) m (record { op = Add x; reply = cond (nat_lt (copies m x) COPY_LIMIT) Done Full; note = Plain })
+  add_follows : (x : ℕ) (m : Multiset) → Follows (Add x) m (record
+      { op = Add x; reply = cond (nat_lt (copies m x) COPY_LIMIT) Done Full; note = Plain })
   add_follows x m =
       let grown : Multiset = with_copies m x (copies m x + 1) in
       let calls : Bool → Option (Reply V × Held V) = λ b. answered (cond b (Done, grown) (Full, m)) in
-      elim (nat_lt (copies m x) COPY_LIMIT) as (λ b. nat_lt (copies m x) COPY_LIMIT ≡ b → Follows (Add x) m (record { op = Add x; reply = cond b Done Full; note = Plain })) [
+      elim (nat_lt (copies m x) COPY_LIMIT) as (λ b. nat_lt (copies m x) COPY_LIMIT ≡ b
+          → Follows (Add x) m (record { op = Add x; reply = cond b Done Full; note = Plain })) [
         | true ↦ λ is. (Bag grown, (ap calls is, ap (λ b. Some (cond b grown m)) (sym is)))
         | false ↦ λ is. (Bag m, (ap calls is, refl))
       ] refl
@@ -101,7 +109,8 @@ module _ {V : Type 0} where
   take_follows : (x : ℕ) (m : Multiset) → Follows (Take x) m (record { op = Take x; reply = cond (copies m x == 0) No Yes; note = Plain })
   take_follows x m =
       let calls : Bool → Option (Reply V × Held V) = λ b. answered (cond b (No, m) (Yes, one_fewer m x)) in
-      elim (copies m x == 0) as (λ b. (copies m x == 0) ≡ b → Follows (Take x) m (record { op = Take x; reply = cond b No Yes; note = Plain })) [
+      elim (copies m x == 0) as (λ b. (copies m x == 0) ≡ b → Follows (Take x) m
+          (record { op = Take x; reply = cond b No Yes; note = Plain })) [
         | true ↦ λ is. (Bag m, (ap calls is, refl))
         | false ↦ λ is. (Bag (one_fewer m x), (ap calls is, refl))
       ] refl
@@ -114,7 +123,9 @@ module _ {V : Type 0} where
 
   pub follows_call : FollowsCall (rules V)
   follows_call op (Bag m) s o within view e =
-      let P : Multiset → Type 0 = λ s. outcome_of op s ≡ Some o → (after : Held V) × ((held_call op (Bag m) ≡ Some (o.reply, after)) × (view_of after ≡ Some (applied (rules V) (changes_of o) s))) in
+      let P : Multiset → Type 0 = λ s. outcome_of op s ≡ Some o
+              → (after : Held V) × ((held_call op (Bag m) ≡ Some (o.reply, after))
+              × (view_of after ≡ Some (applied (rules V) (changes_of o) s))) in
       subst P (some_same _ _ view) (at_state op m o) e
   follows_call op (Map m) s o within view e = absurd (none_some s view)
   follows_call op (Pq m) s o within view e = absurd (none_some s view)

@@ -45,11 +45,13 @@ module _ {V : Type 0} where
   outcome op r = record { op = op; reply = r.0; note = Plain }
 
   -- a legal outcome is that of its call
-  legal : (op : Op V) (s : FinMap nat_cmp V) (o : Outcome V) → outcome_of op s ≡ Some o → (r : Answer V) × ((map_call op s ≡ Some r) × (outcome op r ≡ o))
+  legal : (op : Op V) (s : FinMap nat_cmp V) (o : Outcome V) → outcome_of op s ≡ Some o
+      → (r : Answer V) × ((map_call op s ≡ Some r) × (outcome op r ≡ o))
   legal op s o e = from_map (outcome op) (map_call op s) o e
 
   -- ---- reads
-  same_outcome : (n : ℕ) (op : Op V) (s t : FinMap nat_cmp V) → 0 < n → ((l : ℕ) → Contains (map_reads n op) l → SamePart n l s t) → outcome_of op t ≡ outcome_of op s
+  same_outcome : (n : ℕ) (op : Op V) (s t : FinMap nat_cmp V) → 0 < n → ((l : ℕ) → Contains (map_reads n op) l → SamePart n l s t)
+      → outcome_of op t ≡ outcome_of op s
   same_outcome n (Get k) s t pos agree =
       let O : Option V → Option (Outcome V) = λ r. Some (record { op = Get k; reply = value_reply r; note = Plain }) in
       ap O (sym (agree (k % n) (in_single (k % n)) k refl))
@@ -60,7 +62,8 @@ module _ {V : Type 0} where
       let O : Option V → Option (Outcome V) = λ r. Some (record { op = Remove k; reply = value_reply r; note = Plain }) in
       ap O (sym (agree (k % n) (in_single (k % n)) k refl))
   same_outcome n Len s t pos agree =
-      let same : t ≡ s = same_map nat_cmp_total nat_cmp-IsAntisymmetric _ _ (λ q. sym (agree (q % n) (in_range n (q % n) (mod-lt q pos)) q refl)) in
+      let same : t ≡ s = same_map nat_cmp_total nat_cmp-IsAntisymmetric _ _
+              (λ q. sym (agree (q % n) (in_range n (q % n) (mod-lt q pos)) q refl)) in
       ap (outcome_of Len) same
   same_outcome n _ s t pos agree = refl
 
@@ -73,18 +76,21 @@ module _ {V : Type 0} where
   insert_elsewhere : (n l k : ℕ) (v : V) (t : FinMap nat_cmp V) → ¬ Contains (k % n ∷ []) l → SamePart n l t (insert t k v)
   insert_elsewhere n l k v t unread q on =
       elim (eq_by_cmp nat_cmp q k) as (λ b. eq_by_cmp nat_cmp q k ≡ b → get t q ≡ cond b (Some v) (get t q)) [
-        | true ↦ λ same. absurd (unread (subst (λ x. Contains (k % n ∷ []) x) (ap (λ x. x % n) (sym (same_key q k same)) ∙ on) (in_single (k % n))))
+        | true ↦ λ same. absurd (unread (subst (λ x. Contains (k % n ∷ []) x) (ap (λ x. x % n) (sym (same_key q k same)) ∙ on)
+            (in_single (k % n))))
         | false ↦ λ _. refl
       ] refl ∙ sym (get-insert nat_cmp_total t k v q)
 
   remove_elsewhere : (n l k : ℕ) (t : FinMap nat_cmp V) → ¬ Contains (k % n ∷ []) l → SamePart n l t (remove t k)
   remove_elsewhere n l k t unread q on =
       elim (eq_by_cmp nat_cmp q k) as (λ b. eq_by_cmp nat_cmp q k ≡ b → get t q ≡ cond b None (get t q)) [
-        | true ↦ λ same. absurd (unread (subst (λ x. Contains (k % n ∷ []) x) (ap (λ x. x % n) (sym (same_key q k same)) ∙ on) (in_single (k % n))))
+        | true ↦ λ same. absurd (unread (subst (λ x. Contains (k % n ∷ []) x) (ap (λ x. x % n) (sym (same_key q k same)) ∙ on)
+            (in_single (k % n))))
         | false ↦ λ _. refl
       ] refl ∙ sym (get-remove nat_cmp_total t k q)
 
-  elsewhere : (n l : ℕ) (op : Op V) (r : Reply V) (t : FinMap nat_cmp V) → ¬ Contains (map_writes n op r) l → SamePart n l t (applied (rules V) (changes_by op r) t)
+  elsewhere : (n l : ℕ) (op : Op V) (r : Reply V) (t : FinMap nat_cmp V) → ¬ Contains (map_writes n op r) l
+      → SamePart n l t (applied (rules V) (changes_by op r) t)
   elsewhere n l (Put k v) r t unread = insert_elsewhere n l k v t unread
   elsewhere n l (Remove k) (Value w) t unread = remove_elsewhere n l k t unread
   elsewhere n l _ _ t unread = λ q on. refl
@@ -107,7 +113,8 @@ module _ {V : Type 0} where
         | false ↦ λ _. refl
       ] refl)
 
-  after_remove : (s : FinMap nat_cmp V) (k : ℕ) (o : Option V) → get s k ≡ o → remove s k ≡ applied (rules V) (changes_by (Remove k) (value_reply o)) s
+  after_remove : (s : FinMap nat_cmp V) (k : ℕ) (o : Option V) → get s k ≡ o
+      → remove s k ≡ applied (rules V) (changes_by (Remove k) (value_reply o)) s
   after_remove s k None is = remove_absent s k is
   after_remove s k (Some v) is = refl
 
@@ -123,12 +130,14 @@ module _ {V : Type 0} where
       none_some : (x : Answer V) → None ≡ Some x → ⊥
       none_some x e = cc
 
-  follows_map : (op : Op V) (s : FinMap nat_cmp V) (o : Outcome V) → outcome_of op s ≡ Some o → map_call op s ≡ Some (o.reply, applied (rules V) (changes_of o) s)
+  follows_map : (op : Op V) (s : FinMap nat_cmp V) (o : Outcome V) → outcome_of op s ≡ Some o
+      → map_call op s ≡ Some (o.reply, applied (rules V) (changes_of o) s)
   follows_map op s o e =
       let l = legal op s o e in
       let P : Outcome V → Type 0 = λ x. map_call op s ≡ Some (x.reply, applied (rules V) (changes_of x) s) in
       let r = l.0 in
-      let both : Some r ≡ Some (r.0, applied (rules V) (changes_by op r.0) s) = ap (λ (x : FinMap nat_cmp V). Some (r.0, x)) (after op s r l.1.0) in
+      let both : Some r ≡ Some (r.0, applied (rules V) (changes_by op r.0) s) = ap (λ (x : FinMap nat_cmp V). Some (r.0, x))
+              (after op s r l.1.0) in
       subst P l.1.1 (l.1.0 ∙ both)
 
   none_held : (s : FinMap nat_cmp V) → None ≡ Some s → ⊥
@@ -136,8 +145,11 @@ module _ {V : Type 0} where
 
   pub follows_call : FollowsCall (rules V)
   follows_call op (Map m) s o within view e =
-      let P : FinMap nat_cmp V → Type 0 = λ s. outcome_of op s ≡ Some o → (after : Held V) × ((held_call op (Map m) ≡ Some (o.reply, after)) × (view_of after ≡ Some (applied (rules V) (changes_of o) s))) in
-      subst P (some_same _ _ view) (λ legal. (Map (applied (rules V) (changes_of o) m), (ap (option_map (λ r. (r.0, Map r.1))) (follows_map op m o legal), refl))) e
+      let P : FinMap nat_cmp V → Type 0 = λ s. outcome_of op s ≡ Some o
+              → (after : Held V) × ((held_call op (Map m) ≡ Some (o.reply, after))
+              × (view_of after ≡ Some (applied (rules V) (changes_of o) s))) in
+      subst P (some_same _ _ view) (λ legal. (Map (applied (rules V) (changes_of o) m),
+          (ap (option_map (λ r. (r.0, Map r.1))) (follows_map op m o legal), refl))) e
   follows_call op (Bag m) s o within view e = absurd (none_held s view)
   follows_call op (Pq m) s o within view e = absurd (none_held s view)
   follows_call op (Queue head items) s o within view e = absurd (none_held s view)
@@ -181,7 +193,8 @@ module _ {V : Type 0} where
   remove_written n k (Value w) = (refl, refl)
   remove_written n k _ = (refl, refl)
 
-  call_written : (n : ℕ) (op : Op V) (s : FinMap nat_cmp V) (r : Answer V) → map_call op s ≡ Some r → WritesWhereItChanges (rules V) n (outcome op r)
+  call_written : (n : ℕ) (op : Op V) (s : FinMap nat_cmp V) (r : Answer V) → map_call op s ≡ Some r
+      → WritesWhereItChanges (rules V) n (outcome op r)
   call_written n (Get k) s r e = (refl, refl)
   call_written n (Put k v) s r e = (refl, refl)
   call_written n (Remove k) s r e = remove_written n k r.0

@@ -30,14 +30,17 @@ below_cells : (h q : ℕ) (items : List ℕ) → q < h → get (cells_from h ite
 below_cells h q [] lt = get-empty nat_cmp q
 below_cells h q (x ∷ items) lt =
     let other : eq_by_cmp nat_cmp q h ≡ false = grind (arith, nat_tests) in
-    get-insert nat_cmp_total (cells_from (suc h) items) h x q ∙ ap (λ b. cond b (Some x) (get (cells_from (suc h) items) q)) other ∙ below_cells (suc h) q items (omega arith)
+    get-insert nat_cmp_total (cells_from (suc h) items) h x q ∙ ap (λ b. cond b (Some x) (get (cells_from (suc h) items) q)) other
+        ∙ below_cells (suc h) q items (omega arith)
 
 first_cell : (h x : ℕ) (items : List ℕ) → get (cells_from h (x ∷ items)) h ≡ Some x
-first_cell h x items = get-insert nat_cmp_total (cells_from (suc h) items) h x h ∙ ap (λ b. cond b (Some x) (get (cells_from (suc h) items) h)) (key_itself h)
+first_cell h x items = get-insert nat_cmp_total (cells_from (suc h) items) h x h
+    ∙ ap (λ b. cond b (Some x) (get (cells_from (suc h) items) h)) (key_itself h)
 
 remove_new : (m : FinMap nat_cmp ℕ) (k v : ℕ) → get m k ≡ None → remove (insert m k v) k ≡ m
 remove_new m k v none = same_map nat_cmp_total nat_cmp-IsAntisymmetric _ _ (λ q.
-    get-remove nat_cmp_total (insert m k v) k q ∙ elim (eq_by_cmp nat_cmp q k) as (λ b. eq_by_cmp nat_cmp q k ≡ b → cond b None (get (insert m k v) q) ≡ get m q) [
+    get-remove nat_cmp_total (insert m k v) k q ∙ elim (eq_by_cmp nat_cmp q k) as
+        (λ b. eq_by_cmp nat_cmp q k ≡ b → cond b None (get (insert m k v) q) ≡ get m q) [
       | true ↦ λ is. sym (ap (get m) (same_key q k is) ∙ none)
       | false ↦ λ is. get-insert nat_cmp_total m k v q ∙ ap (λ b. cond b (Some v) (get m q)) is
     ] refl)
@@ -45,7 +48,9 @@ remove_new m k v none = same_map nat_cmp_total nat_cmp-IsAntisymmetric _ _ (λ q
 inserts_commute : (m : FinMap nat_cmp ℕ) (k v j w : ℕ) → k < j → insert (insert m k v) j w ≡ insert (insert m j w) k v
 inserts_commute m k v j w lt = same_map nat_cmp_total nat_cmp-IsAntisymmetric _ _ (λ q.
     get-insert nat_cmp_total (insert m k v) j w q ∙ ap (cond (eq_by_cmp nat_cmp q j) (Some w)) (get-insert nat_cmp_total m k v q)
-    ∙ elim (eq_by_cmp nat_cmp q j) as (λ b. eq_by_cmp nat_cmp q j ≡ b → cond b (Some w) (cond (eq_by_cmp nat_cmp q k) (Some v) (get m q)) ≡ cond (eq_by_cmp nat_cmp q k) (Some v) (cond b (Some w) (get m q))) [
+    ∙ elim (eq_by_cmp nat_cmp q j) as (λ b. eq_by_cmp nat_cmp q j ≡ b
+        → cond b (Some w) (cond (eq_by_cmp nat_cmp q k) (Some v) (get m q))
+        ≡ cond (eq_by_cmp nat_cmp q k) (Some v) (cond b (Some w) (get m q))) [
       | true ↦ λ is.
           let same = same_key q j is in
           let other : eq_by_cmp nat_cmp q k ≡ false = grind (arith, nat_tests) in
@@ -74,7 +79,8 @@ put_first : (h x : ℕ) (items : List ℕ) → put nat_cmp h x (indexed (suc h) 
 put_first h x [] = refl
 put_first h x (y ∷ items) =
     let less : nat_cmp h (suc h) ≡ Less = grind (arith, nat_tests) in
-    ap (λ r. by_order r ((h, x) ∷ (suc h, y) ∷ indexed (suc (suc h)) items) ((suc h, x) ∷ indexed (suc (suc h)) items) ((suc h, y) ∷ put nat_cmp h x (indexed (suc (suc h)) items))) less
+    ap (λ r. by_order r ((h, x) ∷ (suc h, y) ∷ indexed (suc (suc h)) items) ((suc h, x) ∷ indexed (suc (suc h)) items)
+        ((suc h, y) ∷ put nat_cmp h x (indexed (suc (suc h)) items))) less
 
 no_entries : (es : List (ℕ × ℕ)) → length es ≡ 0 → es ≡ []
 no_entries [] e = refl
@@ -82,7 +88,8 @@ no_entries (x ∷ es) e = absurd (omega arith)
 
 pub cell_entries : (h : ℕ) (items : List ℕ) → entries (cells_from h items) ≡ indexed h items
 cell_entries h [] = no_entries _ (sym (len-entries empty) ∙ len-empty nat_cmp ℕ)
-cell_entries h (x ∷ items) = entries-insert nat_cmp_total (cells_from (suc h) items) h x ∙ ap (put nat_cmp h x) (cell_entries (suc h) items) ∙ put_first h x items
+cell_entries h (x ∷ items) = entries-insert nat_cmp_total (cells_from (suc h) items) h x
+    ∙ ap (put nat_cmp h x) (cell_entries (suc h) items) ∙ put_first h x items
 
 indexed_values : (h : ℕ) (items : List ℕ) → map (λ (e : ℕ × ℕ). e.1) (indexed h items) ≡ items
 indexed_values h [] = refl
@@ -110,31 +117,38 @@ Same n l s t = (q : ℕ) → place n q ≡ l → look s q ≡ look t q
 other_cell : (n k q x : ℕ) → ¬ Contains (x ∷ cell_place n k ∷ []) (cell_place n q) → eq_by_cmp nat_cmp q k ≡ false
 other_cell n k q x un =
     elim (eq_by_cmp nat_cmp q k) as (λ b. eq_by_cmp nat_cmp q k ≡ b → b ≡ false) [
-      | true ↦ λ is. absurd (un (subst (λ y. Contains (x ∷ cell_place n k ∷ []) (cell_place n y)) (sym (same_key q k is)) (second_of_two x (cell_place n k))))
+      | true ↦ λ is. absurd (un (subst (λ y. Contains (x ∷ cell_place n k ∷ []) (cell_place n y)) (sym (same_key q k is))
+          (second_of_two x (cell_place n k))))
       | false ↦ λ is. refl
     ] refl
 
-enqueued : (n l t x : ℕ) (s : Shown) → ¬ Contains (1 ∷ cell_place n t ∷ []) l → Same n l s (record { cells = insert s.cells t x; head = s.head; tail = t + 1 })
+enqueued : (n l t x : ℕ) (s : Shown) → ¬ Contains (1 ∷ cell_place n t ∷ []) l
+    → Same n l s (record { cells = insert s.cells t x; head = s.head; tail = t + 1 })
 enqueued n l t x s un zero on = refl
 enqueued n l t x s un (suc zero) on = absurd (un (subst (λ y. Contains (1 ∷ cell_place n t ∷ []) y) on (first_of_two 1 (cell_place n t))))
 enqueued n l t x s un (suc (suc q)) on =
     let other = other_cell n t q 1 (subst (λ y. ¬ Contains (1 ∷ cell_place n t ∷ []) y) (sym on) un) in
     sym (get-insert nat_cmp_total s.cells t x q ∙ ap (λ b. cond b (Some x) (get s.cells q)) other)
 
-dequeued : (n l h : ℕ) (s : Shown) → ¬ Contains (0 ∷ cell_place n h ∷ []) l → Same n l s (record { cells = remove s.cells h; head = h + 1; tail = s.tail })
+dequeued : (n l h : ℕ) (s : Shown) → ¬ Contains (0 ∷ cell_place n h ∷ []) l
+    → Same n l s (record { cells = remove s.cells h; head = h + 1; tail = s.tail })
 dequeued n l h s un zero on = absurd (un (subst (λ y. Contains (0 ∷ cell_place n h ∷ []) y) on (first_of_two 0 (cell_place n h))))
 dequeued n l h s un (suc zero) on = refl
 dequeued n l h s un (suc (suc q)) on =
     let other = other_cell n h q 0 (subst (λ y. ¬ Contains (0 ∷ cell_place n h ∷ []) y) (sym on) un) in
     sym (get-remove nat_cmp_total s.cells h q ∙ ap (λ b. cond b None (get s.cells q)) other)
 
-enqueue_by_point : (t x q : ℕ) (s u : Shown) → look s q ≡ look u q → look (record { cells = insert s.cells t x; head = s.head; tail = t + 1 }) q ≡ look (record { cells = insert u.cells t x; head = u.head; tail = t + 1 }) q
+enqueue_by_point : (t x q : ℕ) (s u : Shown) → look s q ≡ look u q
+    → look (record { cells = insert s.cells t x; head = s.head; tail = t + 1 }) q
+    ≡ look (record { cells = insert u.cells t x; head = u.head; tail = t + 1 }) q
 enqueue_by_point t x zero s u same = same
 enqueue_by_point t x (suc zero) s u same = refl
 enqueue_by_point t x (suc (suc q)) s u same =
     get-insert nat_cmp_total s.cells t x q ∙ ap (cond (eq_by_cmp nat_cmp q t) (Some x)) same ∙ sym (get-insert nat_cmp_total u.cells t x q)
 
-dequeue_by_point : (h q : ℕ) (s u : Shown) → look s q ≡ look u q → look (record { cells = remove s.cells h; head = h + 1; tail = s.tail }) q ≡ look (record { cells = remove u.cells h; head = h + 1; tail = u.tail }) q
+dequeue_by_point : (h q : ℕ) (s u : Shown) → look s q ≡ look u q
+    → look (record { cells = remove s.cells h; head = h + 1; tail = s.tail }) q
+    ≡ look (record { cells = remove u.cells h; head = h + 1; tail = u.tail }) q
 dequeue_by_point h zero s u same = refl
 dequeue_by_point h (suc zero) s u same = same
 dequeue_by_point h (suc (suc q)) s u same =
@@ -146,18 +160,21 @@ two_below n l x k pos lt c =
     elim (of_two x (cell_place n k) l c) as (λ _. l < suc (suc n)) [ inl is ↦ omega arith | inr is ↦ omega arith ]
 
 -- ---- what is written
-enqueue_written : (V : Type 0) (n x t : ℕ) (b : Bool) → WritesWhereItChanges (rules V) n (cond b (record { op = Enqueue x; reply = Done; note = Index t }) (record { op = Enqueue x; reply = Full; note = Plain }))
+enqueue_written : (V : Type 0) (n x t : ℕ) (b : Bool) → WritesWhereItChanges (rules V) n
+    (cond b (record { op = Enqueue x; reply = Done; note = Index t }) (record { op = Enqueue x; reply = Full; note = Plain }))
 enqueue_written V n x t true = (refl, refl)
 enqueue_written V n x t false = (refl, refl)
 
-dequeue_written : (V : Type 0) (n h : ℕ) (first : Option ℕ) → WritesWhereItChanges (rules V) n (record { op = Dequeue; reply = found_reply first; note = Index h })
+dequeue_written : (V : Type 0) (n h : ℕ) (first : Option ℕ) → WritesWhereItChanges (rules V) n
+    (record { op = Dequeue; reply = found_reply first; note = Index h })
 dequeue_written V n h None = (refl, refl)
 dequeue_written V n h (Some x) = (refl, refl)
 
 module _ {V : Type 0} where
   -- ---- reads
   abbrev enqueue_by : ℕ → Bool → ℕ → Outcome V
-  enqueue_by x b t = cond b (record { op = Enqueue x; reply = Done; note = Index t }) (record { op = Enqueue x; reply = Full; note = Plain })
+  enqueue_by x b t = cond b (record { op = Enqueue x; reply = Done; note = Index t })
+      (record { op = Enqueue x; reply = Full; note = Plain })
 
   enqueue_reads : (n x : ℕ) (b : Bool) (t : ℕ) (o : Outcome V) → enqueue_by x b t ≡ o → Contains (reads_of n o) 1
   enqueue_reads n x true t o is = subst (λ (y : Outcome V). Contains (reads_of n y) 1) is (first_of_two 1 (cell_place n t))
@@ -166,10 +183,12 @@ module _ {V : Type 0} where
   abbrev found_at : Op V → ℕ → Option ℕ → Outcome V
   found_at op h f = record { op = op; reply = found_reply f; note = Index h }
 
-  found_same : (n : ℕ) (op : Op V) (s t : Shown) → Agree (rules V) n (0 ∷ cell_place n s.head ∷ []) s t → Some (found_at op t.head (get t.cells t.head)) ≡ Some (found_at op s.head (get s.cells s.head))
+  found_same : (n : ℕ) (op : Op V) (s t : Shown) → Agree (rules V) n (0 ∷ cell_place n s.head ∷ []) s t
+      → Some (found_at op t.head (get t.cells t.head)) ≡ Some (found_at op s.head (get s.cells s.head))
   found_same n op s t agree =
       let head : t.head ≡ s.head = sym (some_same _ _ (agree 0 (first_of_two 0 (cell_place n s.head)) 0 refl)) in
-      let cell : get t.cells t.head ≡ get s.cells s.head = ap (get t.cells) head ∙ sym (agree (cell_place n s.head) (second_of_two 0 (cell_place n s.head)) (suc (suc s.head)) refl) in
+      let cell : get t.cells t.head ≡ get s.cells s.head = ap (get t.cells) head
+              ∙ sym (agree (cell_place n s.head) (second_of_two 0 (cell_place n s.head)) (suc (suc s.head)) refl) in
       λ i. Some (found_at op (head i) (cell i))
 
   pub legal_where_reads_agree : LegalWhereReadsAgree (rules V)
@@ -192,11 +211,14 @@ module _ {V : Type 0} where
   legal_where_reads_agree n _ s t o pos e agree = absurd (none_some o e)
 
   -- ---- writes
-  only_writes : (n l : ℕ) (op : Op V) (r : Reply V) (w : Note) (s : Shown) → ¬ Contains (queue_writes n op r w) l → Same n l s (applied (rules V) (changes_by op r w) s)
+  only_writes : (n l : ℕ) (op : Op V) (r : Reply V) (w : Note) (s : Shown) → ¬ Contains (queue_writes n op r w) l
+      → Same n l s (applied (rules V) (changes_by op r w) s)
   only_writes n l (Enqueue x) Done (Index t) s un =
-      elim (nat_lt t INDEX_LIMIT) as (λ b. Same n l s (cond b (record { cells = insert s.cells t x; head = s.head; tail = t + 1 }) s)) [ true ↦ enqueued n l t x s un | false ↦ λ q on. refl ]
+      elim (nat_lt t INDEX_LIMIT) as (λ b. Same n l s (cond b (record { cells = insert s.cells t x; head = s.head; tail = t + 1 }) s))
+          [ true ↦ enqueued n l t x s un | false ↦ λ q on. refl ]
   only_writes n l Dequeue (Found x) (Index h) s un =
-      elim (nat_lt h INDEX_LIMIT) as (λ b. Same n l s (cond b (record { cells = remove s.cells h; head = h + 1; tail = s.tail }) s)) [ true ↦ dequeued n l h s un | false ↦ λ q on. refl ]
+      elim (nat_lt h INDEX_LIMIT) as (λ b. Same n l s (cond b (record { cells = remove s.cells h; head = h + 1; tail = s.tail }) s))
+          [ true ↦ dequeued n l h s un | false ↦ λ q on. refl ]
   only_writes n l _ _ _ s un = λ q on. refl
 
   pub changes_only_writes : ChangesOnlyWrites (rules V)
@@ -204,12 +226,14 @@ module _ {V : Type 0} where
 
   pub changes_by_part : ChangesByPart (rules V)
   changes_by_part (change.Enqueue t x) q s u same =
-      elim (nat_lt t INDEX_LIMIT) as (λ b. look (cond b (record { cells = insert s.cells t x; head = s.head; tail = t + 1 }) s) q ≡ look (cond b (record { cells = insert u.cells t x; head = u.head; tail = t + 1 }) u) q) [
+      elim (nat_lt t INDEX_LIMIT) as (λ b. look (cond b (record { cells = insert s.cells t x; head = s.head; tail = t + 1 }) s) q
+          ≡ look (cond b (record { cells = insert u.cells t x; head = u.head; tail = t + 1 }) u) q) [
         | true ↦ enqueue_by_point t x q s u same
         | false ↦ same
       ]
   changes_by_part (change.Dequeue h) q s u same =
-      elim (nat_lt h INDEX_LIMIT) as (λ b. look (cond b (record { cells = remove s.cells h; head = h + 1; tail = s.tail }) s) q ≡ look (cond b (record { cells = remove u.cells h; head = h + 1; tail = u.tail }) u) q) [
+      elim (nat_lt h INDEX_LIMIT) as (λ b. look (cond b (record { cells = remove s.cells h; head = h + 1; tail = s.tail }) s) q
+          ≡ look (cond b (record { cells = remove u.cells h; head = h + 1; tail = u.tail }) u) q) [
         | true ↦ dequeue_by_point h q s u same
         | false ↦ same
       ]
@@ -217,12 +241,14 @@ module _ {V : Type 0} where
 
   -- ---- the sequential call
   abbrev Follows : Op V → ℕ → List ℕ → Outcome V → Type 0
-  Follows op head items o = (after : Held V) × ((held_call op (Queue head items) ≡ Some (o.reply, after)) × (view_of after ≡ Some (applied (rules V) (changes_of o) (queue_view head items))))
+  Follows op head items o = (after : Held V) × ((held_call op (Queue head items) ≡ Some (o.reply, after))
+      × (view_of after ≡ Some (applied (rules V) (changes_of o) (queue_view head items))))
 
   abbrev answered : Reply V × ℕ × List ℕ → Option (Reply V × Held V)
   answered r = Some (r.0, Queue r.1 r.2)
 
-  enqueue_follows : (x head : ℕ) (items : List ℕ) → Follows (Enqueue x) head items (enqueue_by x (nat_lt (head + length items) INDEX_LIMIT) (head + length items))
+  enqueue_follows : (x head : ℕ) (items : List ℕ) → Follows (Enqueue x) head items
+      (enqueue_by x (nat_lt (head + length items) INDEX_LIMIT) (head + length items))
   enqueue_follows x head items =
       let t : ℕ = head + length items in
       let calls : Bool → Option (Reply V × Held V) = λ b. answered (cond b (Done, head, items ++ x ∷ []) (Full, head, items)) in
@@ -231,32 +257,42 @@ module _ {V : Type 0} where
             let longer = length_pushed x items in
             let tail : head + length (items ++ x ∷ []) ≡ head + length items + 1 = omega arith in
             let cells = next_cell head x items in
-            let after : Shown = record { cells = insert (cells_from head items) (head + length items) x; head = head; tail = head + length items + 1 } in
-            (Queue head (items ++ x ∷ []), (ap calls is, (λ i. Some (record { cells = sym cells i; head = head; tail = tail i })) ∙ ap (λ b. Some (cond b after (queue_view head items))) (sym is)))
+            let after : Shown = record { cells = insert (cells_from head items) (head + length items) x; head = head; tail = head + length
+                    items + 1 } in
+            (Queue head (items ++ x ∷ []), (ap calls is, (λ i. Some (record { cells = sym cells i; head = head; tail = tail i }))
+                ∙ ap (λ b. Some (cond b after (queue_view head items))) (sym is)))
         | false ↦ λ is. (Queue head items, (ap calls is, refl))
       ] refl
 
-  dequeue_follows : (head : ℕ) (items : List ℕ) → head + length items ≤ INDEX_LIMIT → Follows Dequeue head items (found_at Dequeue head (get (cells_from head items) head))
-  dequeue_follows head [] within = subst (λ (f : Option ℕ). Follows Dequeue head [] (found_at Dequeue head f)) (sym (get-empty nat_cmp head)) (Queue head [], (refl, refl))
+  dequeue_follows : (head : ℕ) (items : List ℕ) → head + length items ≤ INDEX_LIMIT
+      → Follows Dequeue head items (found_at Dequeue head (get (cells_from head items) head))
+  dequeue_follows head [] within = subst (λ (f : Option ℕ). Follows Dequeue head [] (found_at Dequeue head f))
+      (sym (get-empty nat_cmp head)) (Queue head [], (refl, refl))
   dequeue_follows head (x ∷ items) within =
       let is : nat_lt head INDEX_LIMIT ≡ true = grind (arith, nat_tests) in
       let tail : head + 1 + length items ≡ head + suc (length items) = omega arith in
       let next : head + 1 ≡ suc head = omega arith in
-      let cells : cells_from (head + 1) items ≡ remove (cells_from head (x ∷ items)) head = ap (λ h. cells_from h items) next ∙ sym (remove_new (cells_from (suc head) items) head x (below_cells (suc head) head items (omega arith))) in
+      let cells : cells_from (head + 1) items ≡ remove (cells_from head (x ∷ items)) head = ap (λ h. cells_from h items) next
+              ∙ sym (remove_new (cells_from (suc head) items) head x (below_cells (suc head) head items (omega arith))) in
       let after : Shown = record { cells = remove (cells_from head (x ∷ items)) head; head = head + 1; tail = head + suc (length items) } in
       subst (λ (f : Option ℕ). Follows Dequeue head (x ∷ items) (found_at Dequeue head f)) (sym (first_cell head x items))
-      (Queue (head + 1) items, (refl, (λ i. Some (record { cells = cells i; head = head + 1; tail = tail i })) ∙ ap (λ b. Some (cond b after (queue_view head (x ∷ items)))) (sym is)))
+      (Queue (head + 1) items, (refl, (λ i. Some (record { cells = cells i; head = head + 1; tail = tail i }))
+          ∙ ap (λ b. Some (cond b after (queue_view head (x ∷ items)))) (sym is)))
 
   peek_follows : (head : ℕ) (items : List ℕ) → Follows Peek head items (found_at Peek head (get (cells_from head items) head))
-  peek_follows head [] = subst (λ (f : Option ℕ). Follows Peek head [] (found_at Peek head f)) (sym (get-empty nat_cmp head)) (Queue head [], (refl, refl))
-  peek_follows head (x ∷ items) = subst (λ (f : Option ℕ). Follows Peek head (x ∷ items) (found_at Peek head f)) (sym (first_cell head x items)) (Queue head (x ∷ items), (refl, refl))
+  peek_follows head [] = subst (λ (f : Option ℕ). Follows Peek head [] (found_at Peek head f)) (sym (get-empty nat_cmp head))
+      (Queue head [], (refl, refl))
+  peek_follows head (x ∷ items) = subst (λ (f : Option ℕ). Follows Peek head (x ∷ items) (found_at Peek head f))
+      (sym (first_cell head x items)) (Queue head (x ∷ items), (refl, refl))
 
-  len_follows : (head : ℕ) (items : List ℕ) → Follows Len head items (record { op = Len; reply = Number (head + length items - head); note = Plain })
+  len_follows : (head : ℕ) (items : List ℕ) → Follows Len head items
+      (record { op = Len; reply = Number (head + length items - head); note = Plain })
   len_follows head items =
       let count : length items ≡ head + length items - head = omega arith in
       (Queue head items, (ap (λ k. Some (Number k, Queue head items)) count, refl))
 
-  at_state : (op : Op V) (head : ℕ) (items : List ℕ) (o : Outcome V) → head + length items ≤ INDEX_LIMIT → outcome_of op (queue_view head items) ≡ Some o → Follows op head items o
+  at_state : (op : Op V) (head : ℕ) (items : List ℕ) (o : Outcome V) → head + length items ≤ INDEX_LIMIT
+      → outcome_of op (queue_view head items) ≡ Some o → Follows op head items o
   at_state (Enqueue x) head items o within e = subst (Follows (Enqueue x) head items) (some_same _ _ e) (enqueue_follows x head items)
   at_state Dequeue head items o within e = subst (Follows Dequeue head items) (some_same _ _ e) (dequeue_follows head items within)
   at_state Peek head items o within e = subst (Follows Peek head items) (some_same _ _ e) (peek_follows head items)
@@ -265,7 +301,8 @@ module _ {V : Type 0} where
 
   pub follows_call : FollowsCall (rules V)
   follows_call op (Queue head items) s o within view e =
-      let P : Shown → Type 0 = λ s. outcome_of op s ≡ Some o → (after : Held V) × ((held_call op (Queue head items) ≡ Some (o.reply, after)) × (view_of after ≡ Some (applied (rules V) (changes_of o) s))) in
+      let P : Shown → Type 0 = λ s. outcome_of op s ≡ Some o → (after : Held V)
+              × ((held_call op (Queue head items) ≡ Some (o.reply, after)) × (view_of after ≡ Some (applied (rules V) (changes_of o) s))) in
       subst P (some_same _ _ view) (at_state op head items o within) e
   follows_call op (Map m) s o within view e = absurd (none_some s view)
   follows_call op (Bag m) s o within view e = absurd (none_some s view)
@@ -285,7 +322,8 @@ module _ {V : Type 0} where
   answers_its_kind op (Pq m) s view e = absurd (none_some s view)
 
   pub views_decide : ViewsDecide (rules V)
-  views_decide (Queue head items) s view = ap (λ x. Queue x.head (values x.cells)) (sym (some_same _ _ view)) ∙ ap (λ l. Queue head l) (cell_values head items)
+  views_decide (Queue head items) s view = ap (λ x. Queue x.head (values x.cells)) (sym (some_same _ _ view))
+      ∙ ap (λ l. Queue head l) (cell_values head items)
   views_decide (Map m) s view = absurd (none_some s view)
   views_decide (Bag m) s view = absurd (none_some s view)
   views_decide (Pq m) s view = absurd (none_some s view)

@@ -11,7 +11,8 @@ use Rattle.command_line.specs.declared.tool.TheConstants.{FILE_LIMIT}
 use Rattle.command_line.specs.Ends.{HasBegun, HasToldFault, file_fault_text, line_of}
 
 pub written_on : (old now new : Option (List ℕ)) (w n : ℕ) (bytes : List ℕ)
-    → Appends old now (take w bytes) → Appends now new (take n (take (length bytes - w) (drop w bytes))) → Appends old new (take (w + n) bytes)
+    → Appends old now (take w bytes) → Appends now new (take n (take (length bytes - w) (drop w bytes)))
+        → Appends old new (take (w + n) bytes)
 written_on old now new w n bytes before more =
     let sized = length-drop w bytes in
     let rest = take_all (length bytes - w) (drop w bytes) (omega (arith, sized)) in
@@ -26,7 +27,8 @@ begun_with old new k bytes grown = record {
   grown = grown;
 }
 
-pub line_begun : (old now new : Option (List ℕ)) (text : List ℕ) → Appends old now text → HasBegun now new (10 ∷ []) → HasBegun old new (line_of text)
+pub line_begun : (old now new : Option (List ℕ)) (text : List ℕ) → Appends old now text → HasBegun now new (10 ∷ [])
+    → HasBegun old new (line_of text)
 line_begun old now new text whole end = record {
   begun = text ++ end.begun;
   left = end.left;

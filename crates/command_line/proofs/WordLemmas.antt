@@ -10,7 +10,8 @@ use Rattle.clap.specs.declared.parser.matches.ArgMatches.TheViews.{out-ArgMatche
 use Rattle.command_line.specs.Words.{AskForInformation, IsInformation, faults, if_none}
 
 -- an error that is not of memory is one of the words' faults
-pub is_fault : (kinds : Kinds) (error : Error) → HasKind kinds error → (kind_of error ≡ kind.OutOfMemory → ⊥) → IsAmong (kind_of error) kinds
+pub is_fault : (kinds : Kinds) (error : Error) → HasKind kinds error → (kind_of error ≡ kind.OutOfMemory → ⊥)
+    → IsAmong (kind_of error) kinds
 is_fault kinds error (inl memory) other = absurd (other memory)
 is_fault kinds error (inr among) other = among
 
@@ -22,11 +23,14 @@ pub not_taken : (kinds : Kinds) (error : Error) → IsAmong (kind_of error) kind
 not_taken [] error among none = among
 not_taken (k ∷ ks) error among none = cc
 
-pub asks_for_information : (words : List Text) (error : Error) → HasKind (faults words) error → IsInformation error → AskForInformation words
+pub asks_for_information : (words : List Text) (error : Error) → HasKind (faults words) error → IsInformation error
+    → AskForInformation words
 asks_for_information words error has (inl help) =
-    inl (rw (sym help) (is_fault (faults words) error has (λ memory. let no : kind.DisplayHelp ≡ kind.OutOfMemory = sym help ∙ memory in cc)))
+    inl (rw (sym help) (is_fault (faults words) error has (λ memory.
+        let no : kind.DisplayHelp ≡ kind.OutOfMemory = sym help ∙ memory in cc)))
 asks_for_information words error has (inr version) =
-    inr (rw (sym version) (is_fault (faults words) error has (λ memory. let no : kind.DisplayVersion ≡ kind.OutOfMemory = sym version ∙ memory in cc)))
+    inr (rw (sym version) (is_fault (faults words) error has (λ memory.
+        let no : kind.DisplayVersion ≡ kind.OutOfMemory = sym version ∙ memory in cc)))
 
 pair_of : {B : Type 0} (met : Option B) (both : B → Text × List Row) (name : Text) (rows : List Row)
     → option_map (λ (p : Text × List Row). p.1) (option_map both met) ≡ Some rows → option_map (λ b. (both b).0) met ≡ Some name
@@ -42,5 +46,6 @@ pub subcommand_met : (m : ArgMatches) (name : Text) (rows : List Row)
     → option_map (λ (p : Text × List Row). p.1) (subcommand_rows_of m) ≡ Some rows → subcommand_name_of m ≡ Some name
     → subcommand_rows_of m ≡ Some (name, rows)
 subcommand_met m name rows has-rows has-name =
-    pair_of (out-ArgMatches m).subcommand (λ b. ((out-SubCommand (box_value b)).name.now, rows_of (found_of (out-SubCommand (box_value b)).matches)))
+    pair_of (out-ArgMatches m).subcommand (λ b. ((out-SubCommand (box_value b)).name.now, rows_of
+        (found_of (out-SubCommand (box_value b)).matches)))
     name rows has-rows has-name

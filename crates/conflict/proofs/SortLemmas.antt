@@ -15,13 +15,17 @@ refilled [] (w ∷ ws) same = absurd (omega (arith, same))
 refilled (x ∷ xs) [] same = absurd (omega (arith, same))
 refilled (x ∷ xs) (w ∷ ws) same = ap (λ (zs : List ℕ). w ∷ zs) (refilled xs ws (omega (arith, same)))
 
-pub kept_rises : (xs ws kept : List ℕ) → length ws ≡ length xs → IsSorted nat_cmp ws → kept ≡ dedup nat_eq (refill (length xs) xs ws) → IsStrictlyIncreasing kept
+pub kept_rises : (xs ws kept : List ℕ) → length ws ≡ length xs → IsSorted nat_cmp ws → kept ≡ dedup nat_eq (refill (length xs) xs ws)
+    → IsStrictlyIncreasing kept
 kept_rises xs ws kept same sorted is =
-    subst IsStrictlyIncreasing (sym is) (subst (λ (zs : List ℕ). IsStrictlyIncreasing (dedup nat_eq zs)) (sym (refilled xs ws same)) (IsStrictlyIncreasing-dedup ws sorted))
+    subst IsStrictlyIncreasing (sym is) (subst (λ (zs : List ℕ). IsStrictlyIncreasing (dedup nat_eq zs)) (sym (refilled xs ws same))
+        (IsStrictlyIncreasing-dedup ws sorted))
 
-pub kept_members : (xs ws kept : List ℕ) (x : ℕ) → length ws ≡ length xs → IsPermutation xs ws → kept ≡ dedup nat_eq (refill (length xs) xs ws) → Contains kept x ↔ Contains xs x
+pub kept_members : (xs ws kept : List ℕ) (x : ℕ) → length ws ≡ length xs → IsPermutation xs ws
+    → kept ≡ dedup nat_eq (refill (length xs) xs ws) → Contains kept x ↔ Contains xs x
 kept_members xs ws kept x same moved is =
     let all : kept ≡ dedup nat_eq ws = is ∙ ap (dedup nat_eq) (refilled xs ws same) in (
-      (λ c. Contains-permutation ws xs x (IsPermutation-sym xs ws moved) (Contains-from_dedup nat_eq ws x (subst (λ zs. Contains zs x) all c))),
+      (λ c. Contains-permutation ws xs x (IsPermutation-sym xs ws moved)
+          (Contains-from_dedup nat_eq ws x (subst (λ zs. Contains zs x) all c))),
       (λ c. subst (λ zs. Contains zs x) (sym all) (Contains-dedup_nat ws x (Contains-permutation xs ws x moved c))),
     )

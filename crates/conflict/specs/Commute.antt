@@ -25,7 +25,8 @@ decided [] l = inr (λ c. omega (arith, c.1))
 decided (x ∷ xs) l =
     elim (nat_eq x l) as (λ b. nat_eq x l ≡ b → Contains (x ∷ xs) l ⊎ (¬ Contains (x ∷ xs) l)) [
       | true ↦ λ is. inl (0, omega arith, same_number x l is)
-      | false ↦ λ is. elim (decided xs l) as (λ _. Contains (x ∷ xs) l ⊎ (¬ Contains (x ∷ xs) l)) [ inl c ↦ inl (later x l xs c) | inr c ↦ inr (not_later x l xs (other_number x l is) c) ]
+      | false ↦ λ is. elim (decided xs l) as (λ _. Contains (x ∷ xs) l ⊎ (¬ Contains (x ∷ xs) l))
+          [ inl c ↦ inl (later x l xs c) | inr c ↦ inr (not_later x l xs (other_number x l is) c) ]
     ] refl
 
 -- an element of both
@@ -52,16 +53,20 @@ module _ {V C Q A : Type 0} (r : Rules V C Q A) (laws : FrameLaws r) where
             by_point_all q ds (applied r cs s) s (sym (within_w l s c q refl)) ∙ within_w l (applied r ds s) c q refl
       ])
 
-  pub legal_after : (n : ℕ) (op : Op V) (a b : Outcome V) (s : C) → 0 < n → r.outcome op s ≡ Some b → ¬ Any (Contains (r.reads n b)) (r.writes n a) → r.outcome op (applied r (r.changes a) s) ≡ Some b
+  pub legal_after : (n : ℕ) (op : Op V) (a b : Outcome V) (s : C) → 0 < n → r.outcome op s ≡ Some b
+      → ¬ Any (Contains (r.reads n b)) (r.writes n a) → r.outcome op (applied r (r.changes a) s) ≡ Some b
   legal_after n op a b s pos is apart =
-      laws.legal n op s (applied r (r.changes a) s) b pos is (λ l c. laws.untouched n l a s (λ d. apart (shared (r.writes n a) (r.reads n b) l d c)))
+      laws.legal n op s (applied r (r.changes a) s) b pos is (λ l c. laws.untouched n l a s
+          (λ d. apart (shared (r.writes n a) (r.reads n b) l d c)))
 
   pub commute : Commute r
   commute n p q a b s pos is_a is_b apart =
-      let written_apart : ¬ Any (Contains (r.writes n b)) (r.writes n a) = λ y. apart (inl (y.0, y.1, y.2, y.3, laws.writes_read n y.1 b pos y.4)) in (
+      let written_apart : ¬ Any (Contains (r.writes n b)) (r.writes n a) = λ y. apart
+              (inl (y.0, y.1, y.2, y.3, laws.writes_read n y.1 b pos y.4)) in (
         legal_after n q a b s pos is_b (λ y. apart (inl y)),
         (
           legal_after n p b a s pos is_a (λ y. apart (inr y)),
-          disjoint_changes_commute n (r.writes n a) (r.writes n b) (r.changes a) (r.changes b) s (λ l t. laws.untouched n l a t) (λ l t. laws.untouched n l b t) written_apart,
+          disjoint_changes_commute n (r.writes n a) (r.writes n b) (r.changes a) (r.changes b) s (λ l t. laws.untouched n l a t)
+              (λ l t. laws.untouched n l b t) written_apart,
         ),
       )

@@ -14,4 +14,5 @@ abbrev pub room_of : {V S : Type 0} → index.IndexMap ℕ V S → Room V
 room_of m = record { contents = map.from_entries m.entries; room = index.spare m }
 
 abbrev pub room_code : {V : Type 0} → Coded V → Coded (Room V)
-room_code {V} v = code_by (map.FinMap nat_cmp V × ℕ) (coded× (map.code coded_ℕ v) coded_ℕ) (λ r. (r.contents, r.room)) (λ p. record { contents = p.0; room = p.1 }) (λ _. refl)
+room_code {V} v = code_by (map.FinMap nat_cmp V × ℕ) (coded× (map.code coded_ℕ v) coded_ℕ) (λ r. (r.contents, r.room))
+    (λ p. record { contents = p.0; room = p.1 }) (λ _. refl)

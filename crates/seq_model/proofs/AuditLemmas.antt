@@ -16,7 +16,8 @@ use Rattle.seq_model.proofs.TurnLemmas.{rising_numbers}
 
 -- ---- turns of records
 -- with its place below the other's, a record comes before it where its turn does
-ahead : (n m a b : ℕ) (w v : Bool) → a < b → cond (nat_lt n m) true (cond (nat_lt m n) false (cond w true (cond v false (nat_lt a b)))) ≡ is_lt (ordering_then (ordering_then (nat_cmp n m) (bool_cmp (not w) (not v))) (nat_cmp a b))
+ahead : (n m a b : ℕ) (w v : Bool) → a < b → cond (nat_lt n m) true (cond (nat_lt m n) false (cond w true (cond v false (nat_lt a b))))
+    ≡ is_lt (ordering_then (ordering_then (nat_cmp n m) (bool_cmp (not w) (not v))) (nat_cmp a b))
 ahead n m a b true true lt = grind (arith, nat_tests)
 ahead n m a b true false lt = grind (arith, nat_tests)
 ahead n m a b false true lt = grind (arith, nat_tests)
@@ -34,13 +35,16 @@ module _ {V : Type 0} where
   placed_inserted : (p : ℕ) (e : ℕ × Record V) (es : List (ℕ × Record V)) → p ≤ e.0 → PlacedFrom p es → PlacedFrom p (insert_record e es)
   placed_inserted p e [] le h = (le, tt)
   placed_inserted p e (x ∷ xs) le h =
-      elim (comes_before e x) as (λ b. PlacedFrom p (cond b (e ∷ x ∷ xs) (x ∷ insert_record e xs))) [ true ↦ (le, h) | false ↦ (h.0, placed_inserted p e xs le h.1) ]
+      elim (comes_before e x) as (λ b. PlacedFrom p (cond b (e ∷ x ∷ xs) (x ∷ insert_record e xs)))
+          [ true ↦ (le, h) | false ↦ (h.0, placed_inserted p e xs le h.1) ]
 
   placed_order : (p : ℕ) (rs : List (Record V)) → PlacedFrom p (in_run_order p rs)
   placed_order p [] = tt
-  placed_order p (r ∷ rs) = placed_inserted p (p, r) (in_run_order (p + 1) rs) (omega arith) (placed_later p (p + 1) (in_run_order (p + 1) rs) (omega arith) (placed_order (p + 1) rs))
+  placed_order p (r ∷ rs) = placed_inserted p (p, r) (in_run_order (p + 1) rs) (omega arith)
+      (placed_later p (p + 1) (in_run_order (p + 1) rs) (omega arith) (placed_order (p + 1) rs))
 
-  turns_inserted : (e : ℕ × Record V) (es : List (ℕ × Record V)) → PlacedFrom (e.0 + 1) es → map turn_of (insert_record e es) ≡ put_turn (turn_of e) (map turn_of es)
+  turns_inserted : (e : ℕ × Record V) (es : List (ℕ × Record V)) → PlacedFrom (e.0 + 1) es
+      → map turn_of (insert_record e es) ≡ put_turn (turn_of e) (map turn_of es)
   turns_inserted e [] h = refl
   turns_inserted e (x ∷ xs) h =
       let same = ahead e.1.number x.1.number e.0 x.0 e.1.writes x.1.writes (omega (arith, h.0)) in
@@ -53,12 +57,15 @@ module _ {V : Type 0} where
 
   pub turns_run_order : (p : ℕ) (rs : List (Record V)) → map turn_of (in_run_order p rs) ≡ sort_turns (turns_from p rs)
   turns_run_order p [] = refl
-  turns_run_order p (r ∷ rs) = turns_inserted (p, r) (in_run_order (p + 1) rs) (placed_order (p + 1) rs) ∙ ap (put_turn (turn_of {V = V} (p, r))) (turns_run_order (p + 1) rs)
+  turns_run_order p (r ∷ rs) = turns_inserted (p, r) (in_run_order (p + 1) rs) (placed_order (p + 1) rs)
+      ∙ ap (put_turn (turn_of {V = V} (p, r))) (turns_run_order (p + 1) rs)
 
-  pub turns_from-more : (place i p : ℕ) (rs : List (Record V)) (d : Record V) → i < length rs → p ≡ place + i → turns_from place (take (suc i) rs) ≡ turns_from place (take i rs) ++ turn_of {V = V} (p, get_or rs i d) ∷ []
+  pub turns_from-more : (place i p : ℕ) (rs : List (Record V)) (d : Record V) → i < length rs → p ≡ place + i
+      → turns_from place (take (suc i) rs) ≡ turns_from place (take i rs) ++ turn_of {V = V} (p, get_or rs i d) ∷ []
   turns_from-more place i p [] d lt e = absurd (omega arith)
   turns_from-more place zero p (r ∷ rs) d lt e = let same : place ≡ p = omega arith in ap (λ q. turn_of {V = V} (q, r) ∷ []) same
-  turns_from-more place (suc i) p (r ∷ rs) d lt e = ap (λ l. turn_of {V = V} (place, r) ∷ l) (turns_from-more (place + 1) i p rs d (omega arith) (omega arith))
+  turns_from-more place (suc i) p (r ∷ rs) d lt e = ap (λ l. turn_of {V = V} (place, r) ∷ l)
+      (turns_from-more (place + 1) i p rs d (omega arith) (omega arith))
 
   -- ---- each entry of the run order is a record that was handed in, at its place
   abbrev pub IsHandedIn : ℕ → List (Record V) → ℕ × Record V → Type 0
@@ -68,58 +75,72 @@ module _ {V : Type 0} where
   AllHandedIn p rs [] = Unit {0}
   AllHandedIn p rs (e ∷ es) = IsHandedIn p rs e × AllHandedIn p rs es
 
-  handed_inserted : (p : ℕ) (rs : List (Record V)) (e : ℕ × Record V) (es : List (ℕ × Record V)) → IsHandedIn p rs e → AllHandedIn p rs es → AllHandedIn p rs (insert_record e es)
+  handed_inserted : (p : ℕ) (rs : List (Record V)) (e : ℕ × Record V) (es : List (ℕ × Record V)) → IsHandedIn p rs e → AllHandedIn p rs es
+      → AllHandedIn p rs (insert_record e es)
   handed_inserted p rs e [] one all = (one, tt)
   handed_inserted p rs e (x ∷ xs) one all =
-      elim (comes_before e x) as (λ b. AllHandedIn p rs (cond b (e ∷ x ∷ xs) (x ∷ insert_record e xs))) [ true ↦ (one, all) | false ↦ (all.0, handed_inserted p rs e xs one all.1) ]
+      elim (comes_before e x) as (λ b. AllHandedIn p rs (cond b (e ∷ x ∷ xs) (x ∷ insert_record e xs)))
+          [ true ↦ (one, all) | false ↦ (all.0, handed_inserted p rs e xs one all.1) ]
 
-  handed_behind : (p : ℕ) (r : Record V) (rs : List (Record V)) (es : List (ℕ × Record V)) → AllHandedIn (p + 1) rs es → AllHandedIn p (r ∷ rs) es
+  handed_behind : (p : ℕ) (r : Record V) (rs : List (Record V)) (es : List (ℕ × Record V)) → AllHandedIn (p + 1) rs es
+      → AllHandedIn p (r ∷ rs) es
   handed_behind p r rs [] h = tt
   handed_behind p r rs (e ∷ es) h = ((suc h.0.0, omega (arith, h.0.1), omega (arith, h.0.2), h.0.3), handed_behind p r rs es h.1)
 
   pub handed_order : (p : ℕ) (rs : List (Record V)) → AllHandedIn p rs (in_run_order p rs)
   handed_order p [] = tt
-  handed_order p (r ∷ rs) = handed_inserted p (r ∷ rs) (p, r) (in_run_order (p + 1) rs) (zero, omega arith, omega arith, λ d. refl) (handed_behind p r rs (in_run_order (p + 1) rs) (handed_order (p + 1) rs))
+  handed_order p (r ∷ rs) = handed_inserted p (r ∷ rs) (p, r) (in_run_order (p + 1) rs) (zero, omega arith, omega arith, λ d. refl)
+      (handed_behind p r rs (in_run_order (p + 1) rs) (handed_order (p + 1) rs))
 
-  handed_at : (p : ℕ) (rs : List (Record V)) (es : List (ℕ × Record V)) (i : ℕ) (d : ℕ × Record V) → AllHandedIn p rs es → i < length es → IsHandedIn p rs (get_or es i d)
+  handed_at : (p : ℕ) (rs : List (Record V)) (es : List (ℕ × Record V)) (i : ℕ) (d : ℕ × Record V) → AllHandedIn p rs es → i < length es
+      → IsHandedIn p rs (get_or es i d)
   handed_at p rs [] i d h lt = absurd (omega arith)
   handed_at p rs (e ∷ es) zero d h lt = h.0
   handed_at p rs (e ∷ es) (suc i) d h lt = handed_at p rs es i d h.1 (omega arith)
 
-  pub handed_in : (rs : List (Record V)) (i : ℕ) (d : ℕ × Record V) → i < length (in_run_order 0 rs) → ((get_or (in_run_order 0 rs) i d).0 < length rs) × ((e : Record V) → get_or rs (get_or (in_run_order 0 rs) i d).0 e ≡ (get_or (in_run_order 0 rs) i d).1)
+  pub handed_in : (rs : List (Record V)) (i : ℕ) (d : ℕ × Record V) → i < length (in_run_order 0 rs)
+      → ((get_or (in_run_order 0 rs) i d).0 < length rs) × ((e : Record V)
+      → get_or rs (get_or (in_run_order 0 rs) i d).0 e ≡ (get_or (in_run_order 0 rs) i d).1)
   handed_in rs i d lt =
       let h = handed_at 0 rs (in_run_order 0 rs) i d (handed_order 0 rs) lt in
       let same : (get_or (in_run_order 0 rs) i d).0 ≡ h.0 = omega (arith, h.1) in
       (omega (arith, h.1, h.2), λ e. ap (λ k. get_or rs k e) same ∙ h.3 e)
 
   -- ---- calls in turn
-  pub legal_more : (cs : List (Call V × Reply V)) (i : ℕ) (s : Contents V) (d : Call V × Reply V) → i < length cs → IsLegal (take i cs) s → reply_of (get_or cs i d).0 (after_calls (take i cs) s) ≡ Some (get_or cs i d).1 → IsLegal (take (suc i) cs) s
+  pub legal_more : (cs : List (Call V × Reply V)) (i : ℕ) (s : Contents V) (d : Call V × Reply V) → i < length cs → IsLegal (take i cs) s
+      → reply_of (get_or cs i d).0 (after_calls (take i cs) s) ≡ Some (get_or cs i d).1 → IsLegal (take (suc i) cs) s
   legal_more [] i s d lt h g = absurd (omega arith)
   legal_more (c ∷ cs) zero s d lt h g = (g, tt)
   legal_more (c ∷ cs) (suc i) s d lt h g = (h.0, legal_more cs i (after_call c.0 s) d (omega arith) h.1 g)
 
-  pub after_more : (cs : List (Call V × Reply V)) (i : ℕ) (s : Contents V) (d : Call V × Reply V) → i < length cs → after_calls (take (suc i) cs) s ≡ after_call (get_or cs i d).0 (after_calls (take i cs) s)
+  pub after_more : (cs : List (Call V × Reply V)) (i : ℕ) (s : Contents V) (d : Call V × Reply V) → i < length cs
+      → after_calls (take (suc i) cs) s ≡ after_call (get_or cs i d).0 (after_calls (take i cs) s)
   after_more [] i s d lt = absurd (omega arith)
   after_more (c ∷ cs) zero s d lt = refl
   after_more (c ∷ cs) (suc i) s d lt = after_more cs i (after_call c.0 s) d (omega arith)
 
-  pub wrong_here : (cs : List (Call V × Reply V)) (i : ℕ) (s : Contents V) (d : Call V × Reply V) → i < length cs → IsLegal (take i cs) s → reply_of (get_or cs i d).0 (after_calls (take i cs) s) ≢ Some (get_or cs i d).1 → IsFirstWrong i cs s
+  pub wrong_here : (cs : List (Call V × Reply V)) (i : ℕ) (s : Contents V) (d : Call V × Reply V) → i < length cs → IsLegal (take i cs) s
+      → reply_of (get_or cs i d).0 (after_calls (take i cs) s) ≢ Some (get_or cs i d).1 → IsFirstWrong i cs s
   wrong_here [] i s d lt h g = absurd (omega arith)
   wrong_here (c ∷ cs) zero s d lt h g = g
   wrong_here (c ∷ cs) (suc i) s d lt h g = (h.0, wrong_here cs i (after_call c.0 s) d (omega arith) h.1 g)
 
   -- ---- records in turn
-  pub run_more : (rs : List (ℕ × Record V)) (i : ℕ) (s : Contents V) (d : ℕ × Record V) → i < length rs → IsRun (take i rs) s → IsLegal (get_or rs i d).1.calls (after_run (take i rs) s) → IsRun (take (suc i) rs) s
+  pub run_more : (rs : List (ℕ × Record V)) (i : ℕ) (s : Contents V) (d : ℕ × Record V) → i < length rs → IsRun (take i rs) s
+      → IsLegal (get_or rs i d).1.calls (after_run (take i rs) s) → IsRun (take (suc i) rs) s
   run_more [] i s d lt h g = absurd (omega arith)
   run_more (r ∷ rs) zero s d lt h g = (g, tt)
   run_more (r ∷ rs) (suc i) s d lt h g = (h.0, run_more rs i (after_calls r.1.calls s) d (omega arith) h.1 g)
 
-  pub after_run_more : (rs : List (ℕ × Record V)) (i : ℕ) (s : Contents V) (d : ℕ × Record V) → i < length rs → after_run (take (suc i) rs) s ≡ after_calls (get_or rs i d).1.calls (after_run (take i rs) s)
+  pub after_run_more : (rs : List (ℕ × Record V)) (i : ℕ) (s : Contents V) (d : ℕ × Record V) → i < length rs
+      → after_run (take (suc i) rs) s ≡ after_calls (get_or rs i d).1.calls (after_run (take i rs) s)
   after_run_more [] i s d lt = absurd (omega arith)
   after_run_more (r ∷ rs) zero s d lt = refl
   after_run_more (r ∷ rs) (suc i) s d lt = after_run_more rs i (after_calls r.1.calls s) d (omega arith)
 
-  pub wrong_at : (rs : List (ℕ × Record V)) (i : ℕ) (s : Contents V) (d : ℕ × Record V) (entry call : ℕ) → i < length rs → IsRun (take i rs) s → (get_or rs i d).0 ≡ entry → IsFirstWrong call (get_or rs i d).1.calls (after_run (take i rs) s) → IsFirstWrongAt entry call rs s
+  pub wrong_at : (rs : List (ℕ × Record V)) (i : ℕ) (s : Contents V) (d : ℕ × Record V) (entry call : ℕ) → i < length rs
+      → IsRun (take i rs) s → (get_or rs i d).0 ≡ entry → IsFirstWrong call (get_or rs i d).1.calls (after_run (take i rs) s)
+      → IsFirstWrongAt entry call rs s
   wrong_at [] i s d entry call lt h e g = absurd (omega arith)
   wrong_at (r ∷ rs) zero s d entry call lt h e g = inl (e, g)
   wrong_at (r ∷ rs) (suc i) s d entry call lt h e g = inr (h.0, wrong_at rs i (after_calls r.1.calls s) d entry call (omega arith) h.1 e g)
@@ -144,7 +165,8 @@ counted_put p t (u ∷ us) =
 
 pub counted_sorted : (p : Turn → Bool) (ts : List Turn) → count_by p (sort_turns ts) ≡ count_by p ts
 counted_sorted p [] = refl
-counted_sorted p (t ∷ ts) = counted_put p t (sort_turns ts) ∙ count-cons p t (sort_turns ts) ∙ ap (λ n. cond (p t) 1 0 + n) (counted_sorted p ts) ∙ sym (count-cons p t ts)
+counted_sorted p (t ∷ ts) = counted_put p t (sort_turns ts) ∙ count-cons p t (sort_turns ts)
+    ∙ ap (λ n. cond (p t) 1 0 + n) (counted_sorted p ts) ∙ sym (count-cons p t ts)
 
 not_not : (w b : Bool) → (not (not w) && b) ≡ (w && b)
 not_not true b = refl
@@ -219,7 +241,8 @@ none_below : (n m : ℕ) (ts : List Turn) → m < n → AllFrom n ts → count_b
 none_below n m [] lt h = refl
 none_below n m (t ∷ ts) lt h =
     let ne : t.0 ≢ m = omega (arith, h.0) in
-    count-cons (writes_at m) t ts ∙ ap (λ b. cond (not t.1 && b) 1 0 + count_by (writes_at m) ts) (tested_other t.0 m ne) ∙ uncounted t.1 (count_by (writes_at m) ts) (none_below n m ts lt h.1)
+    count-cons (writes_at m) t ts ∙ ap (λ b. cond (not t.1 && b) 1 0 + count_by (writes_at m) ts) (tested_other t.0 m ne)
+        ∙ uncounted t.1 (count_by (writes_at m) ts) (none_below n m ts lt h.1)
 
 -- counts that differ at one number alone, where neither is above one
 at_or_off : (f g : ℕ → ℕ) (n0 n : ℕ) → (n ≢ n0 → f n ≡ g n) → g n0 ≤ 1 → f n ≤ 1 → g n ≤ 1
@@ -236,7 +259,8 @@ above_one f g n0 n e a h =
       | inr other ↦ let alike = e (other_number n n0 other) in subst (λ k. 1 < k) alike h
     ]
 
-widened : (f g : ℕ → ℕ) (n0 : ℕ) (r : Option ℕ) → ((n : ℕ) → n ≢ n0 → f n ≡ g n) → f n0 ≤ 1 → g n0 ≤ 1 → IsLeastDouble f r → IsLeastDouble g r
+widened : (f g : ℕ → ℕ) (n0 : ℕ) (r : Option ℕ) → ((n : ℕ) → n ≢ n0 → f n ≡ g n) → f n0 ≤ 1 → g n0 ≤ 1 → IsLeastDouble f r
+    → IsLeastDouble g r
 widened f g n0 None e a b h = λ n. at_or_off f g n0 n (e n) b (h n)
 widened f g n0 (Some n) e a b h = (above_one f g n0 n (e n) a h.0, λ m lt. at_or_off f g n0 m (e m) b (h.1 m lt))
 
@@ -276,7 +300,9 @@ twice w k ts same from = (
   λ m lt. let ne : k ≢ m = omega arith in at_most_one (w == m) (k == m) (count_by (writes_at m) ts) (tested_other k m ne) (none_below k m ts lt from),
 )
 
-behind_writer : (last : Option ℕ) (k : ℕ) (ts : List Turn) → NotBelow last k → AllFrom k ts → IsLeastDouble (counted (Some k) ts) (double_behind (Some k) ts) → IsLeastDouble (both last k ts) (cond (number_is last k) (Some k) (double_behind (Some k) ts))
+behind_writer : (last : Option ℕ) (k : ℕ) (ts : List Turn) → NotBelow last k → AllFrom k ts
+    → IsLeastDouble (counted (Some k) ts) (double_behind (Some k) ts)
+    → IsLeastDouble (both last k ts) (cond (number_is last k) (Some k) (double_behind (Some k) ts))
 behind_writer None k ts h from rest = least_alike (counted (Some k) ts) (both None k ts) (double_behind (Some k) ts) (λ n. omega arith) rest
 behind_writer (Some w) k ts h from rest =
     elim (cases_Bool (w == k)) [
@@ -296,12 +322,16 @@ behind_writer (Some w) k ts h from rest =
 scanned : (last : Option ℕ) (ts : List Turn) → AllBehind last ts → Rise ts → IsLeastDouble (counted last ts) (double_behind last ts)
 scanned last [] h up = λ n. one_at_most (number_is last n) 0 refl
 scanned last (t ∷ ts) h up =
-    least_alike (λ n. cond (number_is last n) 1 0 + (cond (not t.1 && (t.0 == n)) 1 0 + count_by (writes_at n) ts)) (counted last (t ∷ ts)) (double_behind last (t ∷ ts))
+    least_alike (λ n. cond (number_is last n) 1 0 + (cond (not t.1 && (t.0 == n)) 1 0 + count_by (writes_at n) ts)) (counted last (t ∷ ts))
+        (double_behind last (t ∷ ts))
     (λ n. ap (λ k. cond (number_is last n) 1 0 + k) (sym (count-cons (writes_at n) t ts)))
-    (elim t.1 as (λ b. IsLeastDouble (λ n. cond (number_is last n) 1 0 + (cond (not b && (t.0 == n)) 1 0 + count_by (writes_at n) ts)) (cond b (double_behind last ts) (cond (number_is last t.0) (Some t.0) (double_behind (Some t.0) ts)))) [
-      | true ↦ least_alike (counted last ts) (λ n. cond (number_is last n) 1 0 + (0 + count_by (writes_at n) ts)) (double_behind last ts) (λ n. omega arith) (scanned last ts (all_behind last t ts h) up.1)
+    (elim t.1 as (λ b. IsLeastDouble (λ n. cond (number_is last n) 1 0 + (cond (not b && (t.0 == n)) 1 0 + count_by (writes_at n) ts))
+        (cond b (double_behind last ts) (cond (number_is last t.0) (Some t.0) (double_behind (Some t.0) ts)))) [
+      | true ↦ least_alike (counted last ts) (λ n. cond (number_is last n) 1 0 + (0 + count_by (writes_at n) ts)) (double_behind last ts)
+          (λ n. omega arith) (scanned last ts (all_behind last t ts h) up.1)
       | false ↦ behind_writer last t.0 ts (first_behind last t ts h) up.0 (scanned (Some t.0) ts up.0 up.1)
     ])
 
 pub least_double : (ts : List Turn) → AreInTurn ts → IsLeastDouble (λ n. count_by (writes_at n) ts) (double_behind None ts)
-least_double ts h = least_alike (counted None ts) (λ n. count_by (writes_at n) ts) (double_behind None ts) (λ n. omega arith) (scanned None ts tt (rise ts h))
+least_double ts h = least_alike (counted None ts) (λ n. count_by (writes_at n) ts) (double_behind None ts) (λ n. omega arith)
+    (scanned None ts tt (rise ts h))

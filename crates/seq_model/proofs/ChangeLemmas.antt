@@ -59,9 +59,11 @@ module _ {V : Type 0} where
   map_unchanged Len m n r h c = sym (left _ _ m n h)
   map_unchanged op m n r h c = none _ h
 
-  add_unchanged : (op : Op V) (x : ℕ) (m n : Multiset) (r : Reply V) → changes op Done ≡ true → Some (add_call x m) ≡ some r n → changes op r ≡ false → n ≡ m
+  add_unchanged : (op : Op V) (x : ℕ) (m n : Multiset) (r : Reply V) → changes op Done ≡ true → Some (add_call x m) ≡ some r n
+      → changes op r ≡ false → n ≡ m
   add_unchanged op x m n r adds h c =
-      elim (nat_lt (copies m x) COPY_LIMIT) as (λ b. Some (cond {A = Reply V × Multiset} b (Done, with_copies m x (copies m x + 1)) (Full, m)) ≡ some r n → n ≡ m) [
+      elim (nat_lt (copies m x) COPY_LIMIT) as (λ b. Some (cond {A = Reply V × Multiset} b (Done, with_copies m x (copies m x + 1))
+          (Full, m)) ≡ some r n → n ≡ m) [
         | true ↦ λ g. changed op r Done (replied Done r _ _ g) adds c
         | false ↦ λ g. sym (left Full r m n g)
       ] h
@@ -70,7 +72,8 @@ module _ {V : Type 0} where
   multiset_unchanged (Count x) m n r h c = sym (left _ _ m n h)
   multiset_unchanged (Add x) m n r h c = add_unchanged (Add x) x m n r refl h c
   multiset_unchanged (Take x) m n r h c =
-      elim (copies m x == 0) as (λ b. Some (cond {A = Reply V × Multiset} b (No, m) (Yes, with_copies m x (copies m x - 1))) ≡ some r n → n ≡ m) [
+      elim (copies m x == 0) as (λ b. Some (cond {A = Reply V × Multiset} b (No, m) (Yes, with_copies m x (copies m x - 1))) ≡ some r n
+          → n ≡ m) [
         | true ↦ λ g. sym (left No r m n g)
         | false ↦ λ g. changed (Take x) r Yes (replied Yes r _ _ g) refl c
       ] h
@@ -90,9 +93,12 @@ module _ {V : Type 0} where
   abbrev as_held : Reply V × ℕ × List ℕ → Reply V × Held V
   as_held r = (r.0, Queue r.1 r.2)
 
-  queue_unchanged : (op : Op V) (head : ℕ) (items : List ℕ) (n : Held V) (r : Reply V) → option_map as_held (queue_call op head items) ≡ some r n → changes op r ≡ false → n ≡ Queue head items
+  queue_unchanged : (op : Op V) (head : ℕ) (items : List ℕ) (n : Held V) (r : Reply V)
+      → option_map as_held (queue_call op head items) ≡ some r n → changes op r ≡ false → n ≡ Queue head items
   queue_unchanged (Enqueue x) head items n r h c =
-      elim (nat_lt (head + length items) INDEX_LIMIT) as (λ b. Some (as_held (cond {A = Reply V × ℕ × List ℕ} b (Done, head, items ++ x ∷ []) (Full, head, items))) ≡ some r n → n ≡ Queue head items) [
+      elim (nat_lt (head + length items) INDEX_LIMIT) as (λ b. Some
+          (as_held (cond {A = Reply V × ℕ × List ℕ} b (Done, head, items ++ x ∷ []) (Full, head, items))) ≡ some r n
+          → n ≡ Queue head items) [
         | true ↦ λ g. changed (Enqueue x) r Done (replied Done r _ _ g) refl c
         | false ↦ λ g. sym (left Full r (Queue head items) n g)
       ] h
@@ -103,7 +109,8 @@ module _ {V : Type 0} where
   queue_unchanged op head items n r h c = none _ h
 
   -- the answer on one kind, as the collection's
-  of_kind : {A : Type 0} (wrap : A → Held V) (m : A) (r : Reply V) (n : Held V) (answer : Option (Reply V × A)) → ((k : A) → answer ≡ some r k → k ≡ m) → option_map {U = Reply V × Held V} (λ a. (a.0, wrap a.1)) answer ≡ some r n → n ≡ wrap m
+  of_kind : {A : Type 0} (wrap : A → Held V) (m : A) (r : Reply V) (n : Held V) (answer : Option (Reply V × A))
+      → ((k : A) → answer ≡ some r k → k ≡ m) → option_map {U = Reply V × Held V} (λ a. (a.0, wrap a.1)) answer ≡ some r n → n ≡ wrap m
   of_kind wrap m r n None same h = none _ h
   of_kind wrap m r n (Some a) same h =
       sym (left a.0 r (wrap a.1) n h) ∙ ap wrap (same a.1 (ap (λ q. some q a.1) (replied a.0 r (wrap a.1) n h)))
@@ -117,25 +124,34 @@ module _ {V : Type 0} where
   abbrev put_back : Contents V → ℕ → Reply V × Held V → Reply V × Contents V
   put_back s t r = (r.0, record s { held = slice_set s.held t r.1 })
 
-  collection_unchanged : (op : Op V) (t : ℕ) (s : Contents V) (r : Reply V) → option_map (λ a. a.0) (collection_call op t s) ≡ Some r → changes op r ≡ false → option_map_or (λ a. a.1) (collection_call op t s) s ≡ s
+  collection_unchanged : (op : Op V) (t : ℕ) (s : Contents V) (r : Reply V) → option_map (λ a. a.0) (collection_call op t s) ≡ Some r
+      → changes op r ≡ false → option_map_or (λ a. a.1) (collection_call op t s) s ≡ s
   collection_unchanged op t s r h c =
-      elim (slice_get s.held t) as (λ o. slice_get s.held t ≡ o → option_map (λ a. a.0) (option_and_then (λ m. option_map (put_back s t) (held_call op m)) o) ≡ Some r → option_map_or (λ a. a.1) (option_and_then (λ m. option_map (put_back s t) (held_call op m)) o) s ≡ s) [
+      elim (slice_get s.held t) as (λ o. slice_get s.held t ≡ o
+          → option_map (λ a. a.0) (option_and_then (λ m. option_map (put_back s t) (held_call op m)) o) ≡ Some r
+          → option_map_or (λ a. a.1) (option_and_then (λ m. option_map (put_back s t) (held_call op m)) o) s ≡ s) [
         | None ↦ λ e g. refl
         | Some m ↦ λ e g. at m (held_call op m) e (λ n q. held_unchanged op m n r q c) g
       ] refl h
     where
-      at : (m : Held V) (answer : Option (Reply V × Held V)) → slice_get s.held t ≡ Some m → ((n : Held V) → answer ≡ some r n → n ≡ m) → option_map (λ a. a.0) (option_map (put_back s t) answer) ≡ Some r → option_map_or (λ a. a.1) (option_map (put_back s t) answer) s ≡ s
+      at : (m : Held V) (answer : Option (Reply V × Held V)) → slice_get s.held t ≡ Some m → ((n : Held V) → answer ≡ some r n → n ≡ m)
+          → option_map (λ a. a.0) (option_map (put_back s t) answer) ≡ Some r
+          → option_map_or (λ a. a.1) (option_map (put_back s t) answer) s ≡ s
       at m None e same g = refl
       at m (Some a) e same g =
           let reply : a.0 ≡ r = ap (λ o. unwrap_or o a.0) g in
-          let back : a.1 ≡ get_or s.held t m = same a.1 (ap (λ q. some q a.1) reply) ∙ ap (λ o. unwrap_or o m) (sym e) ∙ unwrap_or-slice_get s.held t m in
+          let back : a.1 ≡ get_or s.held t m = same a.1 (ap (λ q. some q a.1) reply) ∙ ap (λ o. unwrap_or o m) (sym e)
+                  ∙ unwrap_or-slice_get s.held t m in
           ap (λ held. record s { held = held }) (ap (set s.held t) back ∙ set-get_or s.held t m)
 
-  op_unchanged : (op : Op V) (t : ℕ) (s : Contents V) (r : Reply V) → option_map (λ a. a.0) (op_call op t s) ≡ Some r → changes op r ≡ false → option_map_or (λ a. a.1) (op_call op t s) s ≡ s
-  op_unchanged Read t s r h c = elim (slice_get s.words t) as (λ o. option_map_or (λ a. a.1) (option_map {U = Reply V × Contents V} (λ w. (Number w, s)) o) s ≡ s) [ None ↦ refl | Some w ↦ refl ]
+  op_unchanged : (op : Op V) (t : ℕ) (s : Contents V) (r : Reply V) → option_map (λ a. a.0) (op_call op t s) ≡ Some r
+      → changes op r ≡ false → option_map_or (λ a. a.1) (op_call op t s) s ≡ s
+  op_unchanged Read t s r h c = elim (slice_get s.words t) as
+      (λ o. option_map_or (λ a. a.1) (option_map {U = Reply V × Contents V} (λ w. (Number w, s)) o) s ≡ s) [ None ↦ refl | Some w ↦ refl ]
   op_unchanged (Write w) t s r h c = changed (Write w) r r refl refl c
   op_unchanged op t s r h c = collection_unchanged op t s r h c
 
   -- a call that changes nothing leaves the state
-  pub unchanged : (call : Call V) (r : Reply V) (s : Contents V) → reply_of call s ≡ Some r → changes call.op r ≡ false → after_call call s ≡ s
+  pub unchanged : (call : Call V) (r : Reply V) (s : Contents V) → reply_of call s ≡ Some r → changes call.op r ≡ false
+      → after_call call s ≡ s
   unchanged call r s h c = op_unchanged call.op call.target s r h c

@@ -44,7 +44,8 @@ module _ {V : Type 0} where
   parts_of_run (r ∷ rs) qs s h = let rest = parts_of_run rs qs (after_calls r.1.calls s) h.1 in ((h.0, rest.0), rest.1)
 
   pub calls_compose : CallsCompose V
-  calls_compose first second s = ((parts_of_calls first second s, λ h. IsLegal-append first second s h.0 h.1), after_calls-append first second s)
+  calls_compose first second s = ((parts_of_calls first second s, λ h. IsLegal-append first second s h.0 h.1), after_calls-append first
+      second s)
 
   pub runs_compose : RunsCompose V
   runs_compose first second s = ((parts_of_run first second s, λ h. IsRun-append first second s h.0 h.1), after_run-append first second s)
@@ -87,7 +88,8 @@ module _ {V : Type 0} where
   no_wrong_record : (entry call : ℕ) (rs : List (ℕ × Record V)) (s : Contents V) → IsRun rs s → IsFirstWrongAt entry call rs s → ⊥
   no_wrong_record entry call [] s h g = g
   no_wrong_record entry call (r ∷ rs) s h g =
-      elim g [ inl here ↦ no_wrong_call call r.1.calls s h.0 here.1 | inr later ↦ no_wrong_record entry call rs (after_calls r.1.calls s) h.1 later.1 ]
+      elim g [ inl here ↦ no_wrong_call call r.1.calls s h.0 here.1
+          | inr later ↦ no_wrong_record entry call rs (after_calls r.1.calls s) h.1 later.1 ]
 
   one_wrong_call : (a b : ℕ) (cs : List (Call V × Reply V)) (s : Contents V) → IsFirstWrong a cs s → IsFirstWrong b cs s → a ≡ b
   one_wrong_call a b [] s h g = absurd h
@@ -96,7 +98,8 @@ module _ {V : Type 0} where
   one_wrong_call (suc a) zero (c ∷ cs) s h g = absurd (g h.0)
   one_wrong_call (suc a) (suc b) (c ∷ cs) s h g = ap (λ n. suc n) (one_wrong_call a b cs (after_call c.0 s) h.1 g.1)
 
-  one_wrong_record : (e f a b : ℕ) (rs : List (ℕ × Record V)) (s : Contents V) → IsFirstWrongAt e a rs s → IsFirstWrongAt f b rs s → (e ≡ f) × (a ≡ b)
+  one_wrong_record : (e f a b : ℕ) (rs : List (ℕ × Record V)) (s : Contents V) → IsFirstWrongAt e a rs s → IsFirstWrongAt f b rs s
+      → (e ≡ f) × (a ≡ b)
   one_wrong_record e f a b [] s h g = absurd h
   one_wrong_record e f a b (r ∷ rs) s (inl h) (inl g) = (sym h.0 ∙ g.0, one_wrong_call a b r.1.calls s h.1 g.1)
   one_wrong_record e f a b (r ∷ rs) s (inl h) (inr g) = absurd (no_wrong_call a r.1.calls s g.0 h.1)
@@ -105,21 +108,27 @@ module _ {V : Type 0} where
 
   pub runs_have_no_fault : RunsHaveNoFault V
   runs_have_no_fault opening last records (DoubleNumber n) h g = absurd (omega (arith, h.0 n, g.0))
-  runs_have_no_fault opening last records (WrongReply entry call) h g = absurd (no_wrong_record entry call (run_order records) opening h.1 g.1)
+  runs_have_no_fault opening last records (WrongReply entry call) h g = absurd
+      (no_wrong_record entry call (run_order records) opening h.1 g.1)
   runs_have_no_fault opening last records WrongState h g = absurd (g.2 h.2)
   runs_have_no_fault opening last records OutOfMemory h g = refl
 
   pub faults_are_determined : FaultsAreDetermined V
-  faults_are_determined opening last records (DoubleNumber n) (DoubleNumber m) h g f e = ap (λ k. DoubleNumber k) (one_least (writers_at records) n m h g)
-  faults_are_determined opening last records (DoubleNumber n) (WrongReply entry call) h g f e = absurd (not_double (writers_at records) n h g.0)
+  faults_are_determined opening last records (DoubleNumber n) (DoubleNumber m) h g f e = ap (λ k. DoubleNumber k)
+      (one_least (writers_at records) n m h g)
+  faults_are_determined opening last records (DoubleNumber n) (WrongReply entry call) h g f e = absurd
+      (not_double (writers_at records) n h g.0)
   faults_are_determined opening last records (DoubleNumber n) WrongState h g f e = absurd (not_double (writers_at records) n h g.0)
-  faults_are_determined opening last records (WrongReply entry call) (DoubleNumber n) h g f e = absurd (not_double (writers_at records) n g h.0)
+  faults_are_determined opening last records (WrongReply entry call) (DoubleNumber n) h g f e = absurd
+      (not_double (writers_at records) n g h.0)
   faults_are_determined opening last records (WrongReply entry call) (WrongReply other_entry other_call) h g f e =
       let places = one_wrong_record entry other_entry call other_call (run_order records) opening h.1 g.1 in
       ap (λ k. WrongReply k call) places.0 ∙ ap (λ k. WrongReply other_entry k) places.1
-  faults_are_determined opening last records (WrongReply entry call) WrongState h g f e = absurd (no_wrong_record entry call (run_order records) opening g.1 h.1)
+  faults_are_determined opening last records (WrongReply entry call) WrongState h g f e = absurd
+      (no_wrong_record entry call (run_order records) opening g.1 h.1)
   faults_are_determined opening last records WrongState (DoubleNumber n) h g f e = absurd (not_double (writers_at records) n g h.0)
-  faults_are_determined opening last records WrongState (WrongReply entry call) h g f e = absurd (no_wrong_record entry call (run_order records) opening h.1 g.1)
+  faults_are_determined opening last records WrongState (WrongReply entry call) h g f e = absurd
+      (no_wrong_record entry call (run_order records) opening h.1 g.1)
   faults_are_determined opening last records WrongState WrongState h g f e = refl
   faults_are_determined opening last records OutOfMemory other h g f e = absurd (f refl)
   faults_are_determined opening last records (DoubleNumber n) OutOfMemory h g f e = absurd (e refl)

@@ -29,12 +29,14 @@ module _ {V : Type 0} where
   later r x y h g = before_later r.1.number x.1.number y.1.number r.1.writes x.1.writes y.1.writes r.0 x.0 y.0 h g
 
   -- every place behind one that the record comes before is one too
-  after_first : (r x : ℕ × Record V) (xs : List (ℕ × Record V)) → comes_before r x ≡ true → IsInCommitOrder (x ∷ xs) → (j : ℕ) (d : ℕ × Record V) → j < length xs → comes_before r (get_or xs j d) ≡ true
+  after_first : (r x : ℕ × Record V) (xs : List (ℕ × Record V)) → comes_before r x ≡ true → IsInCommitOrder (x ∷ xs)
+      → (j : ℕ) (d : ℕ × Record V) → j < length xs → comes_before r (get_or xs j d) ≡ true
   after_first r x [] h ordered j d lt = absurd (omega arith)
   after_first r x (y ∷ ys) h ordered zero d lt = later r x y h ordered.0.0
   after_first r x (y ∷ ys) h ordered (suc j) d lt = after_first r x ys h (ordered.0.1, ordered.1.1) j d (omega arith)
 
-  pub parted : (r : ℕ × Record V) (xs : List (ℕ × Record V)) → IsInCommitOrder xs → (i j : ℕ) (d : ℕ × Record V) → i ≤ j → j < length xs → stays r (get_or xs j d) ≡ true → stays r (get_or xs i d) ≡ true
+  pub parted : (r : ℕ × Record V) (xs : List (ℕ × Record V)) → IsInCommitOrder xs → (i j : ℕ) (d : ℕ × Record V) → i ≤ j → j < length xs
+      → stays r (get_or xs j d) ≡ true → stays r (get_or xs i d) ≡ true
   parted r [] ordered i j d le lt h = absurd (omega arith)
   parted r (x ∷ xs) ordered zero zero d le lt h = h
   parted r (x ∷ xs) ordered zero (suc j) d le lt h =
@@ -52,7 +54,10 @@ module _ {V : Type 0} where
   inserted r [] zero le low high = refl
   inserted r [] (suc i) le low high = absurd (omega arith)
   inserted r (x ∷ xs) zero le low high =
-      elim (comes_before r x) as (λ b. not b ≡ false → r ∷ x ∷ xs ≡ cond b (r ∷ x ∷ xs) (x ∷ insert_record r xs)) [ true ↦ λ e. refl | false ↦ λ e. cc ] (high 0 x (omega arith) (omega arith))
+      elim (comes_before r x) as (λ b. not b ≡ false → r ∷ x ∷ xs ≡ cond b (r ∷ x ∷ xs) (x ∷ insert_record r xs))
+          [ true ↦ λ e. refl | false ↦ λ e. cc ] (high 0 x (omega arith) (omega arith))
   inserted r (x ∷ xs) (suc i) le low high =
-      let rest = inserted r xs i (omega arith) (λ j d lt. low (suc j) d (omega arith)) (λ j d ge lt. high (suc j) d (omega arith) (omega arith)) in
-      elim (comes_before r x) as (λ b. not b ≡ true → x ∷ insert xs i r ≡ cond b (r ∷ x ∷ xs) (x ∷ insert_record r xs)) [ true ↦ λ e. cc | false ↦ λ e. ap (λ l. x ∷ l) rest ] (low 0 x (omega arith))
+      let rest = inserted r xs i (omega arith) (λ j d lt. low (suc j) d (omega arith))
+              (λ j d ge lt. high (suc j) d (omega arith) (omega arith)) in
+      elim (comes_before r x) as (λ b. not b ≡ true → x ∷ insert xs i r ≡ cond b (r ∷ x ∷ xs) (x ∷ insert_record r xs))
+          [ true ↦ λ e. cc | false ↦ λ e. ap (λ l. x ∷ l) rest ] (low 0 x (omega arith))

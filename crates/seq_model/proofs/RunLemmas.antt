@@ -28,7 +28,8 @@ module _ {V : Type 0} where
   after_calls-append [] ds s = refl
   after_calls-append (c ∷ cs) ds s = after_calls-append cs ds (after_call c.0 s)
 
-  pub IsLegal-append : (cs ds : List (Call V × Reply V)) (s : Contents V) → IsLegal cs s → IsLegal ds (after_calls cs s) → IsLegal (cs ++ ds) s
+  pub IsLegal-append : (cs ds : List (Call V × Reply V)) (s : Contents V) → IsLegal cs s → IsLegal ds (after_calls cs s)
+      → IsLegal (cs ++ ds) s
   IsLegal-append [] ds s h g = g
   IsLegal-append (c ∷ cs) ds s h g = (h.0, IsLegal-append cs ds (after_call c.0 s) h.1 g)
 
@@ -71,10 +72,12 @@ module _ {V : Type 0} where
   AllReadBehind r (x ∷ xs) = (comes_before r x ≡ true → AllRead (x ∷ xs)) × AllReadBehind r xs
 
   -- a reader that is legal at the end is legal in its place, where those behind it are readers too
-  pub reader_inserted : (r : ℕ × Record V) (rs : List (ℕ × Record V)) (s : Contents V) → is_writer r.1.calls ≡ false → AllReadBehind r rs → IsRun rs s → IsLegal r.1.calls (after_run rs s) → IsRun (insert_record r rs) s × (after_run (insert_record r rs) s ≡ after_run rs s)
+  pub reader_inserted : (r : ℕ × Record V) (rs : List (ℕ × Record V)) (s : Contents V) → is_writer r.1.calls ≡ false → AllReadBehind r rs
+      → IsRun rs s → IsLegal r.1.calls (after_run rs s) → IsRun (insert_record r rs) s × (after_run (insert_record r rs) s ≡ after_run rs s)
   reader_inserted r [] s reads behind h g = ((g, tt), after_reads r.1.calls s reads g)
   reader_inserted r (x ∷ xs) s reads behind h g =
-      elim (comes_before r x) as (λ b. comes_before r x ≡ b → IsRun (cond b (r ∷ x ∷ xs) (x ∷ insert_record r xs)) s × (after_run (cond b (r ∷ x ∷ xs) (x ∷ insert_record r xs)) s ≡ after_run (x ∷ xs) s)) [
+      elim (comes_before r x) as (λ b. comes_before r x ≡ b → IsRun (cond b (r ∷ x ∷ xs) (x ∷ insert_record r xs)) s
+          × (after_run (cond b (r ∷ x ∷ xs) (x ∷ insert_record r xs)) s ≡ after_run (x ∷ xs) s)) [
         | true ↦ λ e.
             let legal : IsLegal r.1.calls s = subst (IsLegal r.1.calls) (after_readers (x ∷ xs) s (behind.0 e) h) g in
             let same : after_calls r.1.calls s ≡ s = after_reads r.1.calls s reads legal in
@@ -93,23 +96,28 @@ module _ {V : Type 0} where
   up_to_more n m [] le h = tt
   up_to_more n m (r ∷ rs) le h = (omega arith, up_to_more n m rs le h.1)
 
-  pub up_to_inserted : (n : ℕ) (r : ℕ × Record V) (rs : List (ℕ × Record V)) → r.1.number ≤ n → AllUpTo n rs → AllUpTo n (insert_record r rs)
+  pub up_to_inserted : (n : ℕ) (r : ℕ × Record V) (rs : List (ℕ × Record V)) → r.1.number ≤ n → AllUpTo n rs
+      → AllUpTo n (insert_record r rs)
   up_to_inserted n r [] le h = (le, tt)
   up_to_inserted n r (x ∷ xs) le h =
-      elim (comes_before r x) as (λ b. AllUpTo n (cond b (r ∷ x ∷ xs) (x ∷ insert_record r xs))) [ true ↦ (le, h) | false ↦ (h.0, up_to_inserted n r xs le h.1) ]
+      elim (comes_before r x) as (λ b. AllUpTo n (cond b (r ∷ x ∷ xs) (x ∷ insert_record r xs)))
+          [ true ↦ (le, h) | false ↦ (h.0, up_to_inserted n r xs le h.1) ]
 
   -- a record whose number is above all goes last
-  pub inserted_last : (n : ℕ) (r : ℕ × Record V) (rs : List (ℕ × Record V)) → n < r.1.number → AllUpTo n rs → insert_record r rs ≡ rs ++ r ∷ []
+  pub inserted_last : (n : ℕ) (r : ℕ × Record V) (rs : List (ℕ × Record V)) → n < r.1.number → AllUpTo n rs
+      → insert_record r rs ≡ rs ++ r ∷ []
   inserted_last n r [] lt h = refl
   inserted_last n r (x ∷ xs) lt h =
       let late : comes_before r x ≡ false = behind_less r.1.number x.1.number r.1.writes x.1.writes (nat_lt r.0 x.0) (omega arith) in
       ap (λ b. cond b (r ∷ x ∷ xs) (x ∷ insert_record r xs)) late ∙ ap (λ l. x ∷ l) (inserted_last n r xs lt h.1)
     where
-      behind_less : (n m : ℕ) (w v c : Bool) → m < n → cond (nat_lt n m) true (cond (nat_lt m n) false (cond w true (cond v false c))) ≡ false
+      behind_less : (n m : ℕ) (w v c : Bool) → m < n → cond (nat_lt n m) true (cond (nat_lt m n) false (cond w true (cond v false c)))
+          ≡ false
       behind_less n m w v c lt = grind (arith, nat_tests)
 
   -- the state at a number below the record's is as it was
-  pub up_to-inserted : (p : ℕ × Record V → Bool) (r : ℕ × Record V) (rs : List (ℕ × Record V)) → p r ≡ false → filter p (insert_record r rs) ≡ filter p rs
+  pub up_to-inserted : (p : ℕ × Record V → Bool) (r : ℕ × Record V) (rs : List (ℕ × Record V)) → p r ≡ false
+      → filter p (insert_record r rs) ≡ filter p rs
   up_to-inserted p r [] no-r = ap (λ b. cond b (r ∷ []) []) no-r
   up_to-inserted p r (x ∷ xs) no-r =
       elim (comes_before r x) as (λ b. filter p (cond b (r ∷ x ∷ xs) (x ∷ insert_record r xs)) ≡ filter p (x ∷ xs)) [
@@ -121,7 +129,8 @@ module _ {V : Type 0} where
   up_to-all n m [] le h = refl
   up_to-all n m (r ∷ rs) le h =
       let yes-r : nat_le r.1.number m ≡ true = passes r.1.number n m h.0 le in
-      ap (λ b. cond b (r ∷ filter (λ r. nat_le r.1.number m) rs) (filter (λ r. nat_le r.1.number m) rs)) yes-r ∙ ap (λ l. r ∷ l) (up_to-all n m rs le h.1)
+      ap (λ b. cond b (r ∷ filter (λ r. nat_le r.1.number m) rs) (filter (λ r. nat_le r.1.number m) rs)) yes-r
+          ∙ ap (λ l. r ∷ l) (up_to-all n m rs le h.1)
     where
       passes : (k n m : ℕ) → k ≤ n → n ≤ m → nat_le k m ≡ true
       passes k n m h g = grind (arith, nat_tests)
@@ -132,19 +141,24 @@ module _ {V : Type 0} where
   NoClash r [] = Unit {0}
   NoClash r (x ∷ xs) = (r.1.writes ≡ true → x.1.writes ≡ true → r.1.number ≢ x.1.number) × NoClash r xs
 
-  behind : (r x : ℕ × Record V) → comes_before r x ≡ true → (r.1.writes ≡ true → x.1.writes ≡ true → r.1.number ≢ x.1.number) → comes_before x r ≡ false
+  behind : (r x : ℕ × Record V) → comes_before r x ≡ true → (r.1.writes ≡ true → x.1.writes ≡ true → r.1.number ≢ x.1.number)
+      → comes_before x r ≡ false
   behind r x h clash = not_both r.1.number x.1.number r.1.writes x.1.writes r.0 x.0 h clash
 
-  none_behind : (r x : ℕ × Record V) (ys : List (ℕ × Record V)) → comes_before r x ≡ true → NoneComesBefore x ys → NoClash r ys → NoneComesBefore r ys
+  none_behind : (r x : ℕ × Record V) (ys : List (ℕ × Record V)) → comes_before r x ≡ true → NoneComesBefore x ys → NoClash r ys
+      → NoneComesBefore r ys
   none_behind r x [] h none clash = tt
   none_behind r x (y ∷ ys) h none clash = (behind r y (later r x y h none.0) clash.0, none_behind r x ys h none.1 clash.1)
 
-  none_inserted : (x r : ℕ × Record V) (xs : List (ℕ × Record V)) → comes_before r x ≡ false → NoneComesBefore x xs → NoneComesBefore x (insert_record r xs)
+  none_inserted : (x r : ℕ × Record V) (xs : List (ℕ × Record V)) → comes_before r x ≡ false → NoneComesBefore x xs
+      → NoneComesBefore x (insert_record r xs)
   none_inserted x r [] h none = (h, tt)
   none_inserted x r (y ∷ ys) h none =
-      elim (comes_before r y) as (λ b. NoneComesBefore x (cond b (r ∷ y ∷ ys) (y ∷ insert_record r ys))) [ true ↦ (h, none) | false ↦ (none.0, none_inserted x r ys h none.1) ]
+      elim (comes_before r y) as (λ b. NoneComesBefore x (cond b (r ∷ y ∷ ys) (y ∷ insert_record r ys)))
+          [ true ↦ (h, none) | false ↦ (none.0, none_inserted x r ys h none.1) ]
 
-  pub order_inserted : (r : ℕ × Record V) (xs : List (ℕ × Record V)) → IsInCommitOrder xs → NoClash r xs → IsInCommitOrder (insert_record r xs)
+  pub order_inserted : (r : ℕ × Record V) (xs : List (ℕ × Record V)) → IsInCommitOrder xs → NoClash r xs
+      → IsInCommitOrder (insert_record r xs)
   order_inserted r [] ordered clash = (tt, tt)
   order_inserted r (x ∷ xs) ordered clash =
       elim (comes_before r x) as (λ b. comes_before r x ≡ b → IsInCommitOrder (cond b (r ∷ x ∷ xs) (x ∷ insert_record r xs))) [

@@ -11,7 +11,8 @@ use Rattle.seq_model.specs.Turns.{Turn, is_before, put_turn, sort_turns, NoneIsB
 
 -- ---- the order of turns
 ranked : IsStrictWeakOrder is_before
-ranked = ranks_by (then_total (then_total (on_total (λ (t : Turn). t.0) nat_cmp_total) (on_total (λ (t : Turn). t.1) bool_cmp_total)) (on_total (λ (t : Turn). t.2) nat_cmp_total)) (λ t. t)
+ranked = ranks_by (then_total (then_total (on_total (λ (t : Turn). t.0) nat_cmp_total) (on_total (λ (t : Turn). t.1) bool_cmp_total))
+    (on_total (λ (t : Turn). t.2) nat_cmp_total)) (λ t. t)
 
 abbrev before : ℕ → Bool → ℕ → ℕ → Bool → ℕ → Bool
 before n r a m s b = is_lt (ordering_then (ordering_then (nat_cmp n m) (bool_cmp r s)) (nat_cmp a b))
@@ -66,7 +67,8 @@ filter-kept p t ts h = cond-true _ _ _ h
 filter-dropped : (p : Turn → Bool) (t : Turn) (ts : List Turn) → p t ≡ false → filter p (t ∷ ts) ≡ filter p ts
 filter-dropped p t ts h = cond-false _ _ _ h
 
-exchanged : (a b : Bool) (t u : Turn) (ts : List Turn) → (a ≡ true → b ≡ true → t ≡ u) → cond b (u ∷ cond a (t ∷ ts) ts) (cond a (t ∷ ts) ts) ≡ cond a (t ∷ cond b (u ∷ ts) ts) (cond b (u ∷ ts) ts)
+exchanged : (a b : Bool) (t u : Turn) (ts : List Turn) → (a ≡ true → b ≡ true → t ≡ u)
+    → cond b (u ∷ cond a (t ∷ ts) ts) (cond a (t ∷ ts) ts) ≡ cond a (t ∷ cond b (u ∷ ts) ts) (cond b (u ∷ ts) ts)
 exchanged true true t u ts h = let e : t ≡ u = h refl refl in cc
 exchanged true false t u ts h = refl
 exchanged false true t u ts h = refl
@@ -89,7 +91,8 @@ filter-sort x (t ∷ ts) = filter-put x t (sort_turns ts) ∙ ap (λ l. cond (sa
 none_put : (x t : Turn) (ts : List Turn) → is_before t x ≡ false → NoneIsBefore x ts → NoneIsBefore x (put_turn t ts)
 none_put x t [] h none = (h, tt)
 none_put x t (u ∷ us) h none =
-    elim (is_before t u) as (λ b. NoneIsBefore x (cond b (t ∷ u ∷ us) (u ∷ put_turn t us))) [ true ↦ (h, none) | false ↦ (none.0, none_put x t us h none.1) ]
+    elim (is_before t u) as (λ b. NoneIsBefore x (cond b (t ∷ u ∷ us) (u ∷ put_turn t us)))
+        [ true ↦ (h, none) | false ↦ (none.0, none_put x t us h none.1) ]
 
 none_further : (t u : Turn) (ts : List Turn) → is_before u t ≡ false → NoneIsBefore u ts → NoneIsBefore t ts
 none_further t u [] h none = tt
@@ -139,7 +142,8 @@ none_at : (t : Turn) (ts : List Turn) → ((j : ℕ) (d : Turn) → j < length t
 none_at t [] h = tt
 none_at t (u ∷ us) h = (h zero u (suc-le-suc zero-le), none_at t us (λ j d lt. h (suc j) d (suc-le-suc lt)))
 
-in_turn_far : (ts : List Turn) → ((i j : ℕ) (d : Turn) → i ≤ j → j < length ts → is_before (get_or ts j d) (get_or ts i d) ≡ false) → AreInTurn ts
+in_turn_far : (ts : List Turn) → ((i j : ℕ) (d : Turn) → i ≤ j → j < length ts → is_before (get_or ts j d) (get_or ts i d) ≡ false)
+    → AreInTurn ts
 in_turn_far [] h = tt
 in_turn_far (t ∷ ts) h = (
   none_at t ts (λ j d lt. h zero (suc j) d zero-le (suc-le-suc lt)),
@@ -149,4 +153,5 @@ in_turn_far (t ∷ ts) h = (
 -- what a stable sort makes
 pub sorted_turns : (xs ys : List Turn) → IsSortedBy is_before ys → IsStableBy is_before xs ys → ys ≡ sort_turns xs
 sorted_turns xs ys sorted stable =
-    only_one ys (sort_turns xs) (in_turn_far ys (sorted_far is_before ranked ys sorted)) (in_turn_sorted xs) (λ x. stable x ∙ sym (filter-sort x xs))
+    only_one ys (sort_turns xs) (in_turn_far ys (sorted_far is_before ranked ys sorted)) (in_turn_sorted xs)
+        (λ x. stable x ∙ sym (filter-sort x xs))

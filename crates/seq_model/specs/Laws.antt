@@ -12,7 +12,8 @@ use Rattle.seq_model.specs.Audit.{IsRunBetween, IsAuditFault}
 -- from a state, the calls of a legal transaction determine its replies
 abbrev pub CallsDetermineReplies : Type 0 → Type 0
 CallsDetermineReplies V =
-    (one other : List (Call V × Reply V)) (s : Contents V) → IsLegal one s → IsLegal other s → map (λ c. c.0) one ≡ map (λ c. c.0) other → one ≡ other
+    (one other : List (Call V × Reply V)) (s : Contents V) → IsLegal one s → IsLegal other s → map (λ c. c.0) one ≡ map (λ c. c.0) other
+        → one ≡ other
 
 -- calls after calls: legal where the second are legal at what the first leave, and that is where they go on from
 abbrev pub CallsCompose : Type 0 → Type 0
@@ -30,7 +31,8 @@ RunsCompose V =
 
 -- a legal transaction that changes nothing leaves the state
 abbrev pub ReadersLeaveTheState : Type 0 → Type 0
-ReadersLeaveTheState V = (calls : List (Call V × Reply V)) (s : Contents V) → is_writer calls ≡ false → IsLegal calls s → after_calls calls s ≡ s
+ReadersLeaveTheState V = (calls : List (Call V × Reply V)) (s : Contents V) → is_writer calls ≡ false → IsLegal calls s
+    → after_calls calls s ≡ s
 
 -- a writer's number is no other writer's
 abbrev pub HasItsOwnNumber : {V : Type 0} → ℕ × Record V → List (ℕ × Record V) → Type 0
@@ -39,7 +41,8 @@ HasItsOwnNumber r (x ∷ xs) = (r.1.writes ≡ true → x.1.writes ≡ true → 
 
 -- a record with its own number goes into commit order
 abbrev pub InsertingKeepsTheOrder : Type 0 → Type 0
-InsertingKeepsTheOrder V = (r : ℕ × Record V) (rs : List (ℕ × Record V)) → IsInCommitOrder rs → HasItsOwnNumber r rs → IsInCommitOrder (insert_record r rs)
+InsertingKeepsTheOrder V = (r : ℕ × Record V) (rs : List (ℕ × Record V)) → IsInCommitOrder rs → HasItsOwnNumber r rs
+    → IsInCommitOrder (insert_record r rs)
 
 abbrev pub AreReaders : {V : Type 0} → List (ℕ × Record V) → Type 0
 AreReaders [] = ⊤
@@ -58,7 +61,8 @@ InsertingAReaderKeepsTheRun V =
 
 -- records that are a run between two states have no fault but a want of memory
 abbrev pub RunsHaveNoFault : Type 0 → Type 0
-RunsHaveNoFault V = (opening last : Contents V) (records : List (Record V)) (fault : AuditFault) → IsRunBetween opening records last → IsAuditFault opening records last fault → fault ≡ OutOfMemory
+RunsHaveNoFault V = (opening last : Contents V) (records : List (Record V)) (fault : AuditFault) → IsRunBetween opening records last
+    → IsAuditFault opening records last fault → fault ≡ OutOfMemory
 
 -- and other records have one
 abbrev pub FaultsAreDetermined : Type 0 → Type 0

@@ -13,7 +13,8 @@ use Rattle.session_text.specs.Worlds.{ShownWorld, Feeds}
 use Rattle.session_text.specs.Plays.{ArePlays, AreSteps, AreTurns, HasPlayed, IsDone, IsOne, IsPlay, IsStepOf, Keeps, Lead, heard, telling, tells_nothing, waiting_after, waiting_then, waits}
 
 -- ---- events after events
-lead_on : (w v u : ShownWorld) (xs ys : List (Event ℕ)) (ms ns : List (Notice ℕ)) → Lead w xs ms v → Lead v ys ns u → Lead w (xs ++ ys) (ms ++ ns) u
+lead_on : (w v u : ShownWorld) (xs ys : List (Event ℕ)) (ms ns : List (Notice ℕ)) → Lead w xs ms v → Lead v ys ns u
+    → Lead w (xs ++ ys) (ms ++ ns) u
 lead_on w v u [] ys [] ns first second = subst (λ (z : ShownWorld). Lead z ys ns u) first second
 lead_on w v u [] ys (m ∷ ms) ns first second = absurd first
 lead_on w v u (x ∷ xs) ys [] ns first second = absurd first
@@ -34,7 +35,8 @@ after_append ws (x ∷ xs) ys [] ns paired = cc
 after_append ws (x ∷ xs) ys (m ∷ ms) ns paired = after_append (waiting_then ws x (tells_nothing m)) xs ys ms ns (omega arith)
 
 -- events of one kind, and behind them events of another
-pub played_on : {P Q R : List (Event ℕ) → List (Notice ℕ) → Type 0} {w v u : ShownWorld} {before then after : List (Notice ℕ)} {ws vs us : List Bool}
+pub played_on : {P Q R : List (Event ℕ) → List (Notice ℕ) → Type 0} {w v u : ShownWorld} {before then after : List (Notice ℕ)}
+    {ws vs us : List Bool}
     → ((xs ys : List (Event ℕ)) (ms ns : List (Notice ℕ)) → length ms ≡ length xs → length ns ≡ length ys → vs ≡ waiting_after ws xs ms
     → P xs ms → Q ys ns → R (xs ++ ys) (ms ++ ns))
     → HasPlayed (Keeps P ws vs) w before v then → HasPlayed (Keeps Q vs us) v then u after → HasPlayed (Keeps R ws us) w before u after
@@ -119,7 +121,8 @@ pub quiet_on : (actor n : ℕ) (xs ys : List (Event ℕ)) (ms ns : List (Notice 
     → AreQuietSteps actor n xs ms → IsOne (event.Step actor) true ys ns → AreQuietSteps actor (n + 1) (xs ++ ys) (ms ++ ns)
 quiet_on actor n xs ys ms ns quiet one = (
   ap₂ (λ (z y : List (Event ℕ)). z ++ y) quiet.0 one.1.0 ∙ replicate-append-replicate n 1 (event.Step actor),
-  ap₂ (λ (z y : List (Notice ℕ)). z ++ y) quiet.1 (one.1.1.0 ∙ ap (λ z. z ∷ []) (is_quiet one.0 one.1.1.1)) ∙ replicate-append-replicate n 1 Quiet,
+  ap₂ (λ (z y : List (Notice ℕ)). z ++ y) quiet.1 (one.1.1.0 ∙ ap (λ z. z ∷ []) (is_quiet one.0 one.1.1.1))
+      ∙ replicate-append-replicate n 1 Quiet,
 )
 
 steps_all : (actor n : ℕ) → AreSteps actor n (replicate n (event.Step actor)) (replicate n Quiet)
@@ -189,22 +192,28 @@ turns_join (suc n) k (suc m) a b c d p q ws (x ∷ xs) ys (y ∷ ms) ns sum firs
     ]
 
 -- the turn of the first
-pub turn_on : (n a b c d : ℕ) (quiet : Bool) (ws vs : List Bool) (xs ys : List (Event ℕ)) (ms ns : List (Notice ℕ)) → vs ≡ waiting_after ws xs ms
-    → waits vs c ≡ true → AreTurnsTo n a b ws xs ms c d → IsOne (event.Step c) quiet ys ns → AreTurnsTo (n + 1) a b ws (xs ++ ys) (ms ++ ns) d c
+pub turn_on : (n a b c d : ℕ) (quiet : Bool) (ws vs : List Bool) (xs ys : List (Event ℕ)) (ms ns : List (Notice ℕ))
+    → vs ≡ waiting_after ws xs ms
+    → waits vs c ≡ true → AreTurnsTo n a b ws xs ms c d → IsOne (event.Step c) quiet ys ns
+        → AreTurnsTo (n + 1) a b ws (xs ++ ys) (ms ++ ns) d c
 turn_on n a b c d quiet ws vs xs ys ms ns after waiting turns one =
     rw (one.1.0, one.1.1.0)
-    (turns_join n 1 (n + 1) a b c d d c ws xs (event.Step c ∷ []) ms (one.0 ∷ []) refl turns (inl ((rw after at waiting, refl), (refl, refl))))
+    (turns_join n 1 (n + 1) a b c d d c ws xs (event.Step c ∷ []) ms (one.0 ∷ []) refl turns
+        (inl ((rw after at waiting, refl), (refl, refl))))
 
 -- the first is passed over
-pub turn_over : (n a b c d : ℕ) (quiet : Bool) (ws vs : List Bool) (xs ys : List (Event ℕ)) (ms ns : List (Notice ℕ)) → vs ≡ waiting_after ws xs ms
+pub turn_over : (n a b c d : ℕ) (quiet : Bool) (ws vs : List Bool) (xs ys : List (Event ℕ)) (ms ns : List (Notice ℕ))
+    → vs ≡ waiting_after ws xs ms
     → waits vs c ≡ false → waits vs d ≡ true → AreTurnsTo n a b ws xs ms c d → IsOne (event.Step d) quiet ys ns
     → AreTurnsTo (n + 1) a b ws (xs ++ ys) (ms ++ ns) c d
 turn_over n a b c d quiet ws vs xs ys ms ns after idle waiting turns one =
     rw (one.1.0, one.1.1.0)
-    (turns_join n 1 (n + 1) a b c d c d ws xs (event.Step d ∷ []) ms (one.0 ∷ []) refl turns (inr (rw after at idle, ((rw after at waiting, refl), (refl, refl)))))
+    (turns_join n 1 (n + 1) a b c d c d ws xs (event.Step d ∷ []) ms (one.0 ∷ []) refl turns
+        (inr (rw after at idle, ((rw after at waiting, refl), (refl, refl)))))
 
 -- as many as there may be
-all_turns : (n a b c d : ℕ) (ws : List Bool) (xs : List (Event ℕ)) (ms : List (Notice ℕ)) → AreTurnsTo n a b ws xs ms c d → AreTurns n a b ws xs ms
+all_turns : (n a b c d : ℕ) (ws : List Bool) (xs : List (Event ℕ)) (ms : List (Notice ℕ)) → AreTurnsTo n a b ws xs ms c d
+    → AreTurns n a b ws xs ms
 unfolding AreTurns
 all_turns zero a b c d ws [] [] turns = tt
 all_turns zero a b c d ws [] (m ∷ ms) turns = absurd turns
@@ -218,12 +227,14 @@ all_turns (suc n) a b c d ws (x ∷ xs) (m ∷ ms) turns =
       | inr other ↦ inr (other.0, (other.1.0, all_turns n a b c d vs xs ms other.1.1))
     ]
 
-pub turns_all : (n k a b c d : ℕ) (ws : List Bool) (xs : List (Event ℕ)) (ms : List (Notice ℕ)) → k ≡ n → AreTurnsTo k a b ws xs ms c d → AreTurns n a b ws xs ms
+pub turns_all : (n k a b c d : ℕ) (ws : List Bool) (xs : List (Event ℕ)) (ms : List (Notice ℕ)) → k ≡ n → AreTurnsTo k a b ws xs ms c d
+    → AreTurns n a b ws xs ms
 turns_all n k a b c d ws xs ms same turns = subst (λ (m : ℕ). AreTurns m a b ws xs ms) same (all_turns k a b c d ws xs ms turns)
 
 -- neither has an unanswered request any more
 done_turns : (n k a b c d : ℕ) (ws : List Bool) (xs : List (Event ℕ)) (ms : List (Notice ℕ)) → k < n
-    → waits (waiting_after ws xs ms) c ≡ false → waits (waiting_after ws xs ms) d ≡ false → AreTurnsTo k a b ws xs ms c d → AreTurns n a b ws xs ms
+    → waits (waiting_after ws xs ms) c ≡ false → waits (waiting_after ws xs ms) d ≡ false → AreTurnsTo k a b ws xs ms c d
+        → AreTurns n a b ws xs ms
 unfolding AreTurns
 done_turns zero k a b c d ws xs ms lt first second turns = absurd (omega arith)
 done_turns (suc n) zero a b c d ws [] [] lt first second turns = (rw turns.0 at first, rw turns.1 at second)
@@ -241,7 +252,8 @@ done_turns (suc n) (suc k) a b c d ws (x ∷ xs) (m ∷ ms) lt first second turn
 
 pub turns_done : (n k a b c d : ℕ) (ws vs : List Bool) (xs : List (Event ℕ)) (ms : List (Notice ℕ)) → k < n → vs ≡ waiting_after ws xs ms
     → waits vs c ≡ false → waits vs d ≡ false → AreTurnsTo k a b ws xs ms c d → AreTurns n a b ws xs ms
-turns_done n k a b c d ws vs xs ms lt after first second turns = done_turns n k a b c d ws xs ms lt (rw after at first) (rw after at second) turns
+turns_done n k a b c d ws vs xs ms lt after first second turns = done_turns n k a b c d ws xs ms lt (rw after at first)
+    (rw after at second) turns
 
 -- one more line
 plays_on : (ws : List Bool) (lines : List Line) (line : Line) (xs ys : List (Event ℕ)) (ms ns : List (Notice ℕ)) → length ns ≡ length ys
@@ -295,6 +307,7 @@ plays_on ws (first ∷ lines) line xs ys ms ns paired has play =
       ),
     )
 
-pub plays_after : (ws vs : List Bool) (lines : List Line) (line : Line) (xs ys : List (Event ℕ)) (ms ns : List (Notice ℕ)) → length ns ≡ length ys
+pub plays_after : (ws vs : List Bool) (lines : List Line) (line : Line) (xs ys : List (Event ℕ)) (ms ns : List (Notice ℕ))
+    → length ns ≡ length ys
     → vs ≡ waiting_after ws xs ms → ArePlays ws lines xs ms → IsPlay vs line ys ns → ArePlays ws (lines ++ line ∷ []) (xs ++ ys) (ms ++ ns)
 plays_after ws vs lines line xs ys ms ns paired after plays play = plays_on ws lines line xs ys ms ns paired plays (rw after at play)

@@ -81,7 +81,8 @@ AreTurns zero first second waiting [] [] = ⊤
 AreTurns (suc n) first second waiting [] [] = (waits waiting first ≡ false) × (waits waiting second ≡ false)
 AreTurns (suc n) first second waiting (e ∷ es) (notice ∷ told) =
     (IsStepOf waiting first e × AreTurns n second first (waiting_then waiting e (tells_nothing notice)) es told)
-    ⊎ ((waits waiting first ≡ false) × (IsStepOf waiting second e × AreTurns n first second (waiting_then waiting e (tells_nothing notice)) es told))
+    ⊎ ((waits waiting first ≡ false) × (IsStepOf waiting second e
+        × AreTurns n first second (waiting_then waiting e (tells_nothing notice)) es told))
 AreTurns n first second waiting es told = ⊥
 
 abbrev pub IsPlay : List Bool → Line → List (Event ℕ) → List (Notice ℕ) → Type 0
@@ -116,7 +117,8 @@ Lead w (e ∷ es) (notice ∷ told) v = (u : ShownWorld) × (Feeds w e u notice 
 Lead w es told v = ⊥
 
 -- events of a kind have led from one world to another, and what was heard of them was added to what was heard before
-pub record HasPlayed (IsKind : List (Event ℕ) → List (Notice ℕ) → Type 0) (w : ShownWorld) (before : List (Notice ℕ)) (v : ShownWorld) (after : List (Notice ℕ)) : Type 0 where
+pub record HasPlayed (IsKind : List (Event ℕ) → List (Notice ℕ) → Type 0) (w : ShownWorld) (before : List (Notice ℕ)) (v : ShownWorld)
+    (after : List (Notice ℕ)) : Type 0 where
   pub events : List (Event ℕ)
   pub told : List (Notice ℕ)
   pub kind : IsKind events told

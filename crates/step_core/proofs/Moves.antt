@@ -53,7 +53,8 @@ length-map_actors (x ∷ xs) = ap suc (length-map_actors xs)
 -- what t shows: actor a is y, and the rest is as said
 pub shows_next : (w t : Machine) (s u : World) (a : ℕ) (y : Actor) → Shows (shown w) s → a < length w.actors.items → t.actors.items
     ≡ slice_set w.actors.items a y → u.actors ≡ put s.actors a (actor_of y)
-    → u.clock ≡ t.cells.clock → ((l : ℕ) → u.locks l ≡ unbits (get_or t.cells.locks.items l 0)) → ((l : ℕ) → u.values l ≡ get_or t.cells.values.items l 0)
+    → u.clock ≡ t.cells.clock → ((l : ℕ) → u.locks l ≡ unbits (get_or t.cells.locks.items l 0))
+        → ((l : ℕ) → u.values l ≡ get_or t.cells.values.items l 0)
     → u.history ≡ in_order [] (map record_of t.history.items)
     → Shows (shown t) u
 shows_next w t s u a y h inn xs us c ls vs hs = record {
@@ -86,7 +87,8 @@ shows_moved w s a x y h got = shows_next w (moved w a y) s (now s a (actor_of y)
     (inside w.actors.items a x got) refl refl h.clock h.locks h.values h.history
 
 -- the history, which a step leaves, until it takes note of what that ends
-exchanged_history : (s : World) (a l k : ℕ) (won lost : machine.Actor) (w : LockWord) → (world.exchanged s a l k won lost w).history ≡ s.history
+exchanged_history : (s : World) (a l k : ℕ) (won lost : machine.Actor) (w : LockWord)
+    → (world.exchanged s a l k won lost w).history ≡ s.history
 exchanged_history s a l k won lost (Free j) = either (eqb j k)
   where
     either : (b : Bool) → (if b then record (now s a won) { locks = put s.locks l (Locked k) } else now s a lost).history ≡ s.history
@@ -426,7 +428,8 @@ sound_asked w t a x y q v got fits owe dues room_ c ls vs xs len most =
     }
 
 -- more room for records
-pub sound_room : (w t : Machine) → Sound w → t.cells.clock ≡ w.cells.clock → t.cells.locks.items ≡ w.cells.locks.items → t.cells.values.items ≡ w.cells.values.items
+pub sound_room : (w t : Machine) → Sound w → t.cells.clock ≡ w.cells.clock → t.cells.locks.items ≡ w.cells.locks.items
+    → t.cells.values.items ≡ w.cells.values.items
     → t.actors.items ≡ w.actors.items → vec_len t.history ≡ vec_len w.history → vec_capacity w.history ≤ vec_capacity t.history → Sound t
 sound_room w t v c ls vs xs len room_ =
     let n : length t.cells.locks.items ≡ length w.cells.locks.items = ap (λ (z : List ℕ). length z) ls in

@@ -47,7 +47,8 @@ with_entry_above e es l v lt =
     ∙ cond-false (eqb l e.0) ((l, v) ∷ es) (e ∷ with_entry es l v) (ne_eqb l e.0 (λ q. omega (arith, lt, q)))
 
 -- the three cases of an entry set in a list that isn't empty
-pub by_head : (P : Entries → Type 0) (e : ℕ × ℕ) (es : Entries) (l v : ℕ) → (l < e.0 → P ((l, v) ∷ (e ∷ es))) → (l ≡ e.0 → P ((l, v) ∷ es)) → (e.0 < l → P (e ∷ with_entry es l v)) → P (with_entry (e ∷ es) l v)
+pub by_head : (P : Entries → Type 0) (e : ℕ × ℕ) (es : Entries) (l v : ℕ) → (l < e.0 → P ((l, v) ∷ (e ∷ es))) → (l ≡ e.0 → P ((l, v) ∷ es))
+    → (e.0 < l → P (e ∷ with_entry es l v)) → P (with_entry (e ∷ es) l v)
 unfolding with_entry
 by_head P e es l v below at above =
     cond_both (ltb l e.0) ((l, v) ∷ (e ∷ es)) (cond (eqb l e.0) ((l, v) ∷ es) (e ∷ with_entry es l v)) P
@@ -108,7 +109,8 @@ unfolding each
 IsRising-with_entry [] l v rising = subst IsRising (sym (with_entry-nil l v)) ((λ k d h. absurd (omega (arith, h))), tt)
 IsRising-with_entry (e ∷ es) l v rising =
     by_head IsRising e es l v
-    (λ lt. ((λ k d h. from_each (λ x. l < x.0) (e ∷ es) (lt, to_each (λ x. l < x.0) es (λ j c g. omega (arith, lt, rising.0 j c g))) k d h), rising))
+    (λ lt. ((λ k d h. from_each (λ x. l < x.0) (e ∷ es) (lt, to_each (λ x. l < x.0) es (λ j c g. omega (arith, lt, rising.0 j c g))) k d
+        h), rising))
     (λ same. ((λ k d h. omega (arith, same, rising.0 k d h)), rising.1))
     (λ lt. (All-with_entry (λ x. e.0 < x.0) es l v lt rising.0, IsRising-with_entry es l v rising.1))
 
@@ -147,7 +149,8 @@ pub lookup-Contains : (es : Entries) (l v : ℕ) → IsRising es → Contains es
 lookup-Contains [] l v rising c = absurd (omega (arith, c.1))
 lookup-Contains (e ∷ es) l v rising c = go (lookup-Contains es l v rising.1) c.0 c.1 c.2
   where
-    go : (Contains es (l, v) → lookup es l ≡ Some v) → (k : ℕ) → k < length (e ∷ es) → get_or (e ∷ es) k (l, v) ≡ (l, v) → lookup (e ∷ es) l ≡ Some v
+    go : (Contains es (l, v) → lookup es l ≡ Some v) → (k : ℕ) → k < length (e ∷ es) → get_or (e ∷ es) k (l, v) ≡ (l, v)
+        → lookup (e ∷ es) l ≡ Some v
     go rest zero h q = ap (lookup (e ∷ es)) (sym (ap (λ (x : ℕ × ℕ). x.0) q)) ∙ lookup-head e es ∙ ap (λ (x : ℕ × ℕ). Some x.1) q
     go rest (suc k) h q =
         let above : e.0 < (get_or es k (l, v)).0 = rising.0 k (l, v) (omega (arith, h)) in
@@ -155,17 +158,21 @@ lookup-Contains (e ∷ es) l v rising c = go (lookup-Contains es l v rising.1) c
         lookup-tail e es l (λ same. omega (arith, above, at, same)) ∙ rest (k, omega (arith, h), q)
 
 -- a location below all others is found in one list alone
-apart : (e : ℕ × ℕ) (es : Entries) (f : ℕ × ℕ) (fs : Entries) → e.0 < f.0 → IsRising (f ∷ fs) → lookup (e ∷ es) e.0 ≡ lookup (f ∷ fs) e.0 → ⊥
+apart : (e : ℕ × ℕ) (es : Entries) (f : ℕ × ℕ) (fs : Entries) → e.0 < f.0 → IsRising (f ∷ fs) → lookup (e ∷ es) e.0 ≡ lookup (f ∷ fs) e.0
+    → ⊥
 apart e es f fs lt rising same =
-    let gone : lookup (f ∷ fs) e.0 ≡ None = lookup-tail f fs e.0 (λ q. omega (arith, lt, q)) ∙ lookup_above fs e.0 (λ k d h. omega (arith, lt, rising.0 k d h)) in
+    let gone : lookup (f ∷ fs) e.0 ≡ None = lookup-tail f fs e.0 (λ q. omega (arith, lt, q))
+            ∙ lookup_above fs e.0 (λ k d h. omega (arith, lt, rising.0 k d h)) in
     let x : Some e.1 ≡ None = sym (lookup-head e es) ∙ same ∙ gone in
     cc
 
 -- the tails' look-ups are equal where those of the whole lists are
-tails : (e : ℕ × ℕ) (es : Entries) (f : ℕ × ℕ) (fs : Entries) → e.0 ≡ f.0 → All (λ x. e.0 < x.0) es → All (λ x. f.0 < x.0) fs → (l : ℕ) → lookup (e ∷ es) l ≡ lookup (f ∷ fs) l → lookup es l ≡ lookup fs l
+tails : (e : ℕ × ℕ) (es : Entries) (f : ℕ × ℕ) (fs : Entries) → e.0 ≡ f.0 → All (λ x. e.0 < x.0) es → All (λ x. f.0 < x.0) fs → (l : ℕ)
+    → lookup (e ∷ es) l ≡ lookup (f ∷ fs) l → lookup es l ≡ lookup fs l
 tails e es f fs at above_e above_f l same =
     elim (cases_eq l e.0) [
-      | inl q ↦ lookup_above es l (λ k d h. omega (arith, q, above_e k d h)) ∙ sym (lookup_above fs l (λ k d h. omega (arith, q, at, above_f k d h)))
+      | inl q ↦ lookup_above es l (λ k d h. omega (arith, q, above_e k d h))
+          ∙ sym (lookup_above fs l (λ k d h. omega (arith, q, at, above_f k d h)))
       | inr ne ↦ sym (lookup-tail e es l ne) ∙ same ∙ lookup-tail f fs l (λ q. ne (q ∙ sym at))
     ]
 

@@ -30,8 +30,10 @@ IsRising (e ∷ es) = All (λ x. e.0 < x.0) es × IsRising es
 pub record AreFiniteMaps : Type 0 where
   pub empty : (location : ℕ) → lookup [] location ≡ None
   pub put : (es : Entries) (location value : ℕ) → lookup (with_entry es location value) location ≡ Some value
-  pub others : (es : Entries) (location value other : ℕ) → (other ≡ location → ⊥) → lookup (with_entry es location value) other ≡ lookup es other
-  pub length_there : (es : Entries) (location value : ℕ) → IsRising es → (lookup es location ≡ None → ⊥) → length (with_entry es location value) ≡ length es
+  pub others : (es : Entries) (location value other : ℕ) → (other ≡ location → ⊥)
+      → lookup (with_entry es location value) other ≡ lookup es other
+  pub length_there : (es : Entries) (location value : ℕ) → IsRising es → (lookup es location ≡ None → ⊥)
+      → length (with_entry es location value) ≡ length es
   pub length_new : (es : Entries) (location value : ℕ) → lookup es location ≡ None → length (with_entry es location value) ≡ length es + 1
   pub rising : (es : Entries) (location value : ℕ) → IsRising es → IsRising (with_entry es location value)
   pub listed : (es : Entries) (location value : ℕ) → IsRising es → (lookup es location ≡ Some value) ↔ Contains es (location, value)

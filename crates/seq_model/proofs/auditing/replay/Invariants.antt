@@ -4,4 +4,5 @@ use Rattle.seq_model.specs.Audit.{run_order}
 use Rattle.seq_model.proofs.auditing.replay.Given as goal
 
 abbrev pub invariant-loop-place : goal.invariant-loop-place
-invariant-loop-place g l = IsRun (take l.place-index (run_order l.records)) l.initial.state × (l.state ≡ after_run (take l.place-index (run_order l.records)) l.initial.state)
+invariant-loop-place g l = IsRun (take l.place-index (run_order l.records)) l.initial.state
+    × (l.state ≡ after_run (take l.place-index (run_order l.records)) l.initial.state)

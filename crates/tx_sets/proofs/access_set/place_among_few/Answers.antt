@@ -10,6 +10,7 @@ returns c =
     let n = c.count_below-at.result in
     counted_gap c.args.location es n c.requires c.count_below-at.ensures
     (elim c.else-at-entries.branch [
-      | else-at-entries-via-then-at-entries+else-entries-at w ↦ λ d inside same. w.if-entries-at.false (ap (λ (e : ℕ × ℕ). e.0) (get_or_default es n _ d inside) ∙ same)
+      | else-at-entries-via-then-at-entries+else-entries-at w ↦ λ d inside same. w.if-entries-at.false
+          (ap (λ (e : ℕ × ℕ). e.0) (get_or_default es n _ d inside) ∙ same)
       | else-at-entries-via-else-at-entries w ↦ λ d inside same. omega (arith, inside, w.if-at-entries.false)
     ])

@@ -13,6 +13,7 @@ loop-element-init c =
 
 pub loop-element-preserved : goal.loop-element-preserved
 loop-element-preserved c = (
-  (λ i. gives (c.in_ok-give.ensures.elements i) c.next.new.self) ∙ ap (gives c.loop-element.stripes.elements) (sym c.in-Some.ensures.steps) ∙ c.loop-element.invariant.0,
+  (λ i. gives (c.in_ok-give.ensures.elements i) c.next.new.self) ∙ ap (gives c.loop-element.stripes.elements) (sym c.in-Some.ensures.steps)
+      ∙ c.loop-element.invariant.0,
   c.give.ensures.stripes ∙ c.loop-element.invariant.1,
 )

@@ -3,7 +3,8 @@ use Rattle.conflict.proofs.SortLemmas.{kept_rises, kept_members}
 use Rattle.conflict.proofs.loc_set.LocSet.from_locations.Goals as goal
 
 pub invariant_of-result : goal.invariant_of-result
-invariant_of-result c = kept_rises c.args.locations.items c.sort_unstable.new.self c.dedup.new.self.items (c.sort_unstable.ensures.len ∙ ap length c.as_mut_slice.ensures.value) c.sort_unstable.ensures.sorted c.dedup.ensures.items
+invariant_of-result c = kept_rises c.args.locations.items c.sort_unstable.new.self c.dedup.new.self.items
+    (c.sort_unstable.ensures.len ∙ ap length c.as_mut_slice.ensures.value) c.sort_unstable.ensures.sorted c.dedup.ensures.items
 
 pub returns : goal.returns
 returns c =

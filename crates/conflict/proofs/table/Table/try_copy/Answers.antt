@@ -7,6 +7,7 @@ pub loop-key-init : goal.loop-key-init
 loop-key-init g c =
     let items = c.into_iter-key-iterator.ensures.into_iter_gives ∙ c.iter-key-items.ensures.rest in
     let empty_now = c.in_ok-reserve.ensures.contents ∙ c.new-copy.ensures in (
-      (λ i. inserts (empty_now i) (items i)) ∙ inserts_distinct c.self.inside.entries.entries c.iter-key-items.ensures.unique ∙ ap (λ r. r.contents) c.self.view_is,
+      (λ i. inserts (empty_now i) (items i)) ∙ inserts_distinct c.self.inside.entries.entries c.iter-key-items.ensures.unique
+          ∙ ap (λ r. r.contents) c.self.view_is,
       subst (λ n. n ≤ c.reserve.new.self.room) (c.len.ensures.len ∙ ap length (sym items)) c.in_ok-reserve.ensures.ok,
     )

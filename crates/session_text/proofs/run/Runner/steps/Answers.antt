@@ -5,7 +5,8 @@ use Rattle.session_text.proofs.run.Runner.steps.Goals as goal
 pub returns-then-not-branch-clause-plays : goal.returns-then-not-branch-clause-plays
 returns-then-not-branch-clause-plays c =
     let loud = c.if-not-branch.true in
-    played_on (λ xs ys ms ns _ _ _ quiet one. loud_last c.args.actor c.args.count c.loop-taken._taken xs ys ms ns c.loop-taken-test.true quiet one)
+    played_on (λ xs ys ms ns _ _ _ quiet one. loud_last c.args.actor c.args.count c.loop-taken._taken xs ys ms ns c.loop-taken-test.true
+        quiet one)
     c.loop-taken.invariant.played (rw loud at c.in_ok-happen.ensures.plays)
 
 pub loop-taken-preserved : goal.loop-taken-preserved
@@ -13,9 +14,11 @@ loop-taken-preserved c =
     let quiet = c.if-not-branch.false in
     record {
       opening = c.in_ok-happen.ensures.opening ∙ c.loop-taken.invariant.opening;
-      played = played_on (λ xs ys ms ns _ _ _ steps one. quiet_on c.args.actor c.loop-taken._taken xs ys ms ns steps one) c.loop-taken.invariant.played (rw quiet at c.in_ok-happen.ensures.plays);
+      played = played_on (λ xs ys ms ns _ _ _ steps one. quiet_on c.args.actor c.loop-taken._taken xs ys ms ns steps one)
+          c.loop-taken.invariant.played (rw quiet at c.in_ok-happen.ensures.plays);
     }
 
 pub returns-clause-plays : goal.returns-clause-plays
 returns-clause-plays c =
-    kept_as (λ xs ms _ steps. all_quiet c.args.actor c.args.count c.loop-taken._taken xs ms (omega (arith, c.loop-taken-test.false, c.loop-taken.auto._taken-end)) steps) c.loop-taken.invariant.played
+    kept_as (λ xs ms _ steps. all_quiet c.args.actor c.args.count c.loop-taken._taken xs ms
+        (omega (arith, c.loop-taken-test.false, c.loop-taken.auto._taken-end)) steps) c.loop-taken.invariant.played

@@ -13,9 +13,11 @@ returns-then-count-eq0 g c =
     let same : c.self.inside.entries.items ≡ c.args.self.now.entries = ap (λ (v : SetView). v.entries) c.self.view_is in
     subst (λ (es : Entries). IsPlaceOf l es (Err n)) same
     (elim c.then-count-eq0.branch [
-      | then-count-eq0-via-then-count-eq0 w ↦ empty_place l c.self.inside.entries.items n (c.len-count.ensures ∙ c.self.inside.entries.ok.0) w.if-count-eq0.true
+      | then-count-eq0-via-then-count-eq0 w ↦ empty_place l c.self.inside.entries.items n
+          (c.len-count.ensures ∙ c.self.inside.entries.ok.0) w.if-count-eq0.true
       | then-count-eq0-via-else-count-eq0+then-index-location w ↦
-          last_place l c.self.inside.entries.items n w.index.result.now c.self.invariant.rising (c.len-count.ensures ∙ c.self.inside.entries.ok.0)
+          last_place l c.self.inside.entries.items n w.index.result.now c.self.invariant.rising
+              (c.len-count.ensures ∙ c.self.inside.entries.ok.0)
           (subst (λ (e : ℕ × ℕ). e.0 < l) w.index.ensures w.if-index-location.true)
     ])
 
