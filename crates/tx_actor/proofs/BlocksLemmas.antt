@@ -65,6 +65,10 @@ end_above : (w : ℕ) (ps : List Placed) → w ≤ end_of w (map block_of ps)
 end_above w [] = omega arith
 end_above w (p ∷ ps) = let h = end_above (w + size (block_of p)) ps in omega (arith, h)
 
+pub end_behind : (w : ℕ) (bs : List Block) → w ≤ end_of w bs
+end_behind w [] = omega arith
+end_behind w (b ∷ bs) = let h = end_behind (w + size b) bs in omega (arith, h)
+
 -- a location at which a block ends later lies before the end of all
 pub inside : (l w : ℕ) (ps : List Placed) → AreEnds w ps → (i : ℕ) (d : Placed) → i < length ps → l < (get_or ps i d).end
     → ltb l (end_of w (map block_of ps)) ≡ true

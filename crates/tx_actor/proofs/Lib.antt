@@ -17,3 +17,4 @@ mod HomesLemmas
 mod RequestLemmas
 mod AskLemmas
 mod GuardedLemmas
+mod LogLemmas

@@ -12,3 +12,4 @@ pub mod Blocks
 pub mod Keeping
 pub mod Asks
 pub mod Guarded
+pub mod Logs

@@ -1,11 +1,14 @@
 //! The laws of the definitions that the contracts cite.
-ghost use Rattle.std.specs.Prelude.{◌≡◌, ◌≢◌, ◌<◌, ℕ, Bool, Contains, List, Some, true, if◌then◌else◌};
+ghost use Rattle.std.specs.Prelude.{◌≡◌, ◌≢◌, ◌<◌, ◌≤◌, ℕ, All, Bool, Contains, List, Some, length, slice_index, true, if◌then◌else◌};
 ghost use Rattle.seq_model.specs.declared.call.Op.{Op};
 ghost use Rattle.conflict.specs.Table.{Room};
 ghost use Rattle.conflict.specs.declared.change.Change.{Change};
 ghost use Rattle.conflict.specs.declared.outcome.Outcome.{Outcome};
 ghost use Rattle.collection_machine.specs.Boosted.{Shadow, changes, longer};
-ghost use Rattle.replay_log.specs.Base.{Shown, outcome_of, reads_of, shown_of};
+ghost use Rattle.replay_log.specs.declared.base.Base.{Base};
+ghost use Rattle.replay_log.specs.Base.{Shown, editions_of, locations_of, outcome_of, reads_of, shown_of, stripes_of};
+ghost use Rattle.replay_log.specs.Collections.{Suit};
+ghost use Rattle.atomic_steps.specs.Bases.{IsBaseOf, ShowsBase, log_changes, log_locations};
 ghost use Rattle.replay_log.specs.Parts.{kind_of, part};
 ghost use Rattle.replay_log.specs.Pieces.{piece_of};
 ghost use Rattle.replay_log.specs.declared.touch.Touch.{Touch};
@@ -15,16 +18,16 @@ ghost use Rattle.shadow.specs.Memo.{IsAlike, MemoView, holds};
 ghost use Rattle.replay_log.specs.Contents.{Answered, Block, HaveStripes, block_of, content, first_of};
 ghost use Rattle.tx_actor.specs.declared.copies.Copied.{Copied};
 ghost use Rattle.tx_actor.specs.declared.copies.Copied.TheVariants.{Keys};
-ghost use Rattle.tx_actor.specs.Copies.{IsAccepted, IsCopied, IsLearnt, IsOf, ShowParts, answer_of, answered_on, has_piece, holds_call};
+ghost use Rattle.tx_actor.specs.Copies.{IsAccepted, IsCopied, IsLearnt, IsOf, ShowParts, answer_of, answered_on, changes_in, has_piece, holds_call, locations_in};
 ghost use Rattle.tx_actor.specs.Accepts.{Accepts, PutsBack};
 ghost use Rattle.seq_model.specs.declared.event.Event.{Event};
 ghost use Rattle.seq_model.specs.declared.held.Held.{Held};
-ghost use Rattle.replay_log.specs.Worlds.{opened, run};
+ghost use Rattle.replay_log.specs.Worlds.{World, opened, run};
 ghost use Rattle.tx_actor.specs.Dispatch.{AreSteps, MayGoOn};
 ghost use Rattle.tx_actor.specs.Guarded.{committed_at};
 ghost use Rattle.tx_actor.specs.Judged.{IsJudged};
 ghost use Rattle.tx_actor.specs.Shows.{GivesUp, AsksStores, CopiesForCall, ReadsNext};
-ghost use Rattle.tx_actor.specs.Keeps.{AnswersHeld};
+ghost use Rattle.tx_actor.specs.Keeps.{AnswersHeld, IsOwnCopy};
 
 use seq_model::Value;
 
@@ -107,6 +110,21 @@ pub fn copies_follow<V: Value>()
         IsOf b u changes locations (Keys m es) }
     ensures others { (b : Block) (f k : ℕ) (x : Shadow (Shown V) (Answered V)) (c : Copied V) (o : Answered V) →
         IsCopied b f k x c → o.asked.collection ≢ k → IsCopied b f k (longer x o) c }
+{}
+
+/// What a commit hands home. The log of what a transaction has of a collection is that of its calls there; each location in it lies in
+/// each base of the collection's block, and in no world that events have reached has such a base an edition there above the clock.
+pub fn logs_as_worlds<V: Value>()
+    ensures log { (w : World V) (a k : ℕ) (b : Block) (f : ℕ) (c : Copied V) → IsOwnCopy w a k b f c →
+        let outcomes = (w.boosted.shadows a).outcomes in
+        (changes_in c ≡ log_changes k b outcomes) × (locations_in c ≡ log_locations k b outcomes) }
+    ensures within { (k : ℕ) (b : Block) (outcomes : List (Answered V)) (base : Base V) → 0 < b.stripes → IsBaseOf b base →
+        All (λ i. i < locations_of (stripes_of base) (shown_of base)) (log_locations k b outcomes) }
+    ensures editions { (blocks : List Block) (clock : ℕ) (values : List ℕ) (held : List (Held V)) (events : List (Event V)) (k : ℕ)
+        (b : Block) (outcomes : List (Answered V)) (base : Base V) → HaveStripes blocks → Suit blocks held → block_of blocks k ≡ Some b →
+        let w = run (opened blocks clock values held) events in
+        ShowsBase (length values) blocks w k base →
+        All (λ i. slice_index (editions_of base) i ≤ w.boosted.words.clock) (log_locations k b outcomes) }
 {}
 
 /// What copying for a call leaves. A memo's keys are answered alike by a collection that has the parts which they are read from; the

@@ -16,6 +16,7 @@ mod footprints;
 mod homes;
 mod judged;
 pub mod laws;
+mod logs;
 mod next;
 mod notice;
 mod requests;
