@@ -11,6 +11,10 @@ mod KeptLemmas
 mod WriteLemmas
 mod AnswerLemmas
 mod KeepsLemmas
+mod OutcomeLemmas
+mod OwnsLemmas
+mod PreparesLemmas
+mod CallingLemmas
 mod KeepingLemmas
 mod BlocksLemmas
 mod HomesLemmas

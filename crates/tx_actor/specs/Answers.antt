@@ -10,7 +10,7 @@ use Rattle.tx_actor.specs.declared.actor.Answered as running
 use Rattle.tx_actor.specs.declared.actor.CopyOf.{CopyOf}
 use Rattle.tx_actor.specs.declared.actor.TxActor.{TxActor}
 use Rattle.tx_actor.specs.Accepts.{written}
-use Rattle.tx_actor.specs.Copies.{IsAccepted, IsReady, holds_call}
+use Rattle.tx_actor.specs.Copies.{IsAccepted, IsReady, answer_of, holds_call}
 use Rattle.tx_actor.specs.Running.{answered_of, asked_of}
 use Rattle.tx_actor.specs.Writes.{MayWrite, written_as}
 
@@ -22,7 +22,7 @@ IsAcceptedAt {V} i (Some o) before now =
     × (holds_call c.copied o.op ≡ true) × (now ≡ slice_set before i d)
 
 -- All that accepting the call takes is there: room for its writes and for its entry among the calls, and in the copy at its place its
--- outcome is ready.
+-- outcome is ready, which is what that copy of its collection answers.
 pub record IsPrepared {V : Type 0} (r : TxActor V) (o : running.Answered V) : Type 0 where
   pub writes : MayWrite r.words o.writes.items
   pub calls : vec_len r.calls < vec_capacity r.calls
@@ -31,6 +31,8 @@ pub record IsPrepared {V : Type 0} (r : TxActor V) (o : running.Answered V) : Ty
       → IsReady x c.copied × (holds_call c.copied x.op ≡ true)
   pub kept : o.kept ≡ reply_of (answered_of o)
   pub told : o.told ≡ reply_of (answered_of o)
+  pub own : (c : CopyOf V) → slice_get r.copies.items o.place ≡ Some c
+      → (x : Outcome V) × (o.outcome ≡ Some x) × (c.collection ≡ o.asked.collection) × (answer_of c.copied o.asked.op ≡ Some x)
 
 -- In this world the call may be accepted: what it reads has been read, with the copied editions; its outcome is the world's, and its
 -- writes are the world's.

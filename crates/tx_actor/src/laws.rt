@@ -1,5 +1,5 @@
 //! The laws of the definitions that the contracts cite.
-ghost use Rattle.std.specs.Prelude.{◌≡◌, ◌≢◌, ◌<◌, ◌≤◌, ℕ, All, Bool, Contains, List, Some, length, slice_index, true, if◌then◌else◌};
+ghost use Rattle.std.specs.Prelude.{◌≡◌, ◌≢◌, ◌<◌, ◌≤◌, ℕ, [], All, Bool, Contains, List, Some, length, slice_get, slice_index, true, if◌then◌else◌};
 ghost use Rattle.seq_model.specs.declared.call.Op.{Op};
 ghost use Rattle.conflict.specs.Table.{Room};
 ghost use Rattle.conflict.specs.declared.change.Change.{Change};
@@ -22,12 +22,17 @@ ghost use Rattle.tx_actor.specs.Copies.{IsAccepted, IsCopied, IsLearnt, IsOf, Sh
 ghost use Rattle.tx_actor.specs.Accepts.{Accepts, PutsBack};
 ghost use Rattle.seq_model.specs.declared.event.Event.{Event};
 ghost use Rattle.seq_model.specs.declared.held.Held.{Held};
-ghost use Rattle.replay_log.specs.Worlds.{World, opened, run};
+ghost use Rattle.replay_log.specs.Worlds.{Open, World, opened, run};
 ghost use Rattle.tx_actor.specs.Dispatch.{AreSteps, MayGoOn};
 ghost use Rattle.tx_actor.specs.Guarded.{committed_at};
 ghost use Rattle.tx_actor.specs.Judged.{IsJudged};
 ghost use Rattle.tx_actor.specs.Shows.{GivesUp, AsksStores, CopiesForCall, ReadsNext};
 ghost use Rattle.tx_actor.specs.Keeps.{AnswersHeld, IsOwnCopy};
+ghost use Rattle.tx_actor.specs.declared.actor.CopyOf.{CopyOf};
+ghost use Rattle.tx_actor.specs.declared.actor.TxActor.{TxActor};
+ghost use Rattle.tx_actor.specs.Answers.{IsAcceptedAt};
+ghost use Rattle.tx_actor.specs.Blocks.{BlocksView, IsLaid};
+ghost use Rattle.tx_actor.specs.Owns.{AreOfBlocks, MayCall, OwnsCopies};
 
 use seq_model::Value;
 
@@ -139,4 +144,32 @@ pub fn copies_found<V: Value>()
     ensures touched { (n : ℕ) (op : Op V) (s t : Shown V) → 0 < n → kind_of s ≡ kind_of t →
         ((h : Touched V) → touched_by n op t ≡ Some h → (i : ℕ) → Contains (touched_places n h) i → part n i t ≡ part n i s) →
         touched_by n op s ≡ touched_by n op t }
+{}
+
+/// What an actor has of all collections is its own in a world: of an actor that has begun, which has nothing, where its shadow shows
+/// collections. It depends on how the locations lie and on the actor's own shadow alone, so it stays whatever else happens. An accepted
+/// outcome keeps it. The copies are then of the kind and the stripes of their blocks.
+pub fn copies_stay_own<V: Value>()
+    ensures begun { (r : TxActor V) (w : World V) (a : ℕ) → r.copies.items ≡ [] → HaveStripes w.blocks →
+        (w.boosted.shadows a).outcomes ≡ [] →
+        ((k : ℕ) (b : Block) → block_of w.blocks k ≡ Some b →
+        (s : Shown V) × ShowParts b (first_of w.words w.blocks k) (w.boosted.shadows a).parts s) →
+        OwnsCopies r w a }
+    ensures same { (r u : TxActor V) (w v : World V) (a : ℕ) → u.copies.items ≡ r.copies.items → v.words ≡ w.words → v.blocks ≡ w.blocks →
+        v.boosted.shadows a ≡ w.boosted.shadows a → OwnsCopies r w a → OwnsCopies u v a }
+    ensures accepted { (r u : TxActor V) (w v : World V) (a i j : ℕ) (o : Outcome V) → v.words ≡ w.words → v.blocks ≡ w.blocks →
+        v.boosted.shadows a ≡ longer (w.boosted.shadows a) (answered_on j o.op o) →
+        IsAcceptedAt i (Some o) r.copies.items u.copies.items →
+        ((c : CopyOf V) → slice_get r.copies.items i ≡ Some c → (c.collection ≡ j) × (answer_of c.copied o.op ≡ Some o)) →
+        OwnsCopies r w a → OwnsCopies u v a }
+    ensures blocks { (v : BlocksView) (r : TxActor V) (w : World V) (a : ℕ) → IsLaid v w → OwnsCopies r w a → AreOfBlocks v r.copies.items }
+{}
+
+/// In every world that events have reached, an actor at rest in its transaction may call: a call whose locations have all been read with
+/// the copied editions may be accepted, and a location that is to be read next has not been written.
+pub fn calls_as_worlds<V: Value>()
+    ensures { (blocks : List Block) (clock : ℕ) (values : List ℕ) (held : List (Held V)) (events : List (Event V)) (a : ℕ) →
+        HaveStripes blocks →
+        let w = run (opened blocks clock values held) events in
+        (w.seats a).stage ≡ Open → MayCall w a }
 {}

@@ -22,7 +22,7 @@ use std::collections::VecDeque;
 use step_core::{Actor, Place};
 
 /// The tries on a gate, but for the first.
-const MORE_TRIES: u32 = 63;
+pub(crate) const MORE_TRIES: u32 = 63;
 
 /// Whether there are none.
 pub(crate) fn has_none(homes: &VecDeque<u32>) -> bool
@@ -170,6 +170,7 @@ impl<V: Drop> TxActor<V> {
     pub(crate) fn cancels(&mut self) -> Told<V>
         ensures does { Reseats self.old self.new result (λ a w. (worlds.cancels w a (seat_of self.old), Quiet)) }
         ensures keeps { (v : BlocksView) → KeepsIn v (at self.old Stage.Idle) self.new }
+        ensures copies { self.new.copies ≡ self.old.copies }
     {
         cancel(&mut self.words, 0);
         self.stage = leaving_or_cancelling(&self.words);
@@ -192,6 +193,7 @@ impl<V: Drop> TxActor<V> {
     pub fn gives_up(&mut self, cause: Refusal) -> Told<V>
         ensures does { Reseats self.old self.new result (λ a w. worlds.gives_up w a (because (seat_of self.old) cause) []) }
         ensures keeps { (v : BlocksView) → KeepsIn v (at self.old Stage.Idle) self.new }
+        ensures copies { self.new.copies ≡ self.old.copies }
     {
         self.cause = Some(cause);
         self.cancels()
