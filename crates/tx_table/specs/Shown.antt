@@ -28,18 +28,11 @@ use Rattle.atomic_steps.specs.Own.{Alike}
 use Rattle.atomic_steps.specs.Spots.{gate_word}
 use Rattle.tx_table.specs.Layout.{address, gate_address, IsInside, width}
 use Rattle.tx_table.specs.Turns.{Turn, asked_all, lone, ends, stage_of}
+pub use Rattle.tx_table.specs.declared.view.View.{View}
 
 abbrev pub total : {A : Type 0} → (A → ℕ) → List A → ℕ
 total f [] = 0
 total f (x ∷ xs) = f x + total f xs
-
--- What a seat knows: its shares, the last clock that it loaded, what its actor has asked and found, and the transactions that were
--- committed, by its actor and by those whose seats were joined into it.
-pub record View (V : Type 0) : Type 0 where
-  pub shares : ℕ
-  pub clock : ℕ
-  pub turns : List (Turn V)
-  pub receipts : List (ℕ × Record V)
 
 -- what a slot holds: a base, or none while a seat works on it
 abbrev pub Slot : Type 0 → Type 0
