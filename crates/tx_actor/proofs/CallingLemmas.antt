@@ -12,11 +12,11 @@ use Rattle.seq_model.specs.declared.held.Held.{Held}
 use Rattle.seq_model.specs.declared.event.Event.{Event}
 use Rattle.conflict.specs.declared.outcome.Outcome.{Outcome}
 use Rattle.collection_machine.specs.Content.{IsIn}
-use Rattle.collection_machine.specs.Boosted.{Accept, changes, every, is_edition, is_open, is_sound, may_write}
+use Rattle.collection_machine.specs.Boosted.{Accept, changes, is_edition, is_open, is_sound, may_write}
 use Rattle.replay_log.specs.Base.{Shown}
-use Rattle.replay_log.specs.Contents.{Answered, Asked, Block, HaveStripes, answer, blank, block_of, content, first_of, is_plain, seen, shifted, writes_in}
+use Rattle.replay_log.specs.Contents.{Asked, Block, HaveStripes, answer, blank, block_of, content, first_of, is_plain, seen, shifted, writes_in}
 use Rattle.replay_log.specs.Guards.{Allows}
-use Rattle.replay_log.specs.Worlds.{World, Seat, Stage, Open, actor_of, is_change, opened, outcome_at, run, with_editions}
+use Rattle.replay_log.specs.Worlds.{World, Stage, Open, actor_of, is_change, opened, outcome_at, run, with_editions}
 use Rattle.replay_log.proofs.CallLemmas.{known_some, reads_ok}
 use Rattle.replay_log.proofs.EventLemmas.{opened_linked, run_linked}
 use Rattle.replay_log.proofs.ReadLemmas.{in_set}
@@ -31,7 +31,7 @@ use Rattle.tx_actor.proofs.OutcomeLemmas.{outcome_op, writes_nothing}
 no_none : (v : ℕ) → Some v ≡ None → ⊥
 no_none v e = cc
 
-in_set_some : (declared : Bool) (o : Option ℕ) (v : ℕ) → in_set declared o ≡ Some v → o ≡ Some v
+pub in_set_some : (declared : Bool) (o : Option ℕ) (v : ℕ) → in_set declared o ≡ Some v → o ≡ Some v
 in_set_some true o v e = absurd (no_none v (sym e))
 in_set_some false o v e = e
 
@@ -48,7 +48,7 @@ all_next l e = cc
 stale_next : (l b v i : ℕ) → Stale l b v ≡ Next i → ⊥
 stale_next l b v i e = cc
 
-one_all : (d : ℕ × ℕ) (rest : Judged) (o : Option ℕ) → judged_one d rest o ≡ All → (o ≡ Some d.1) × (rest ≡ All)
+pub one_all : (d : ℕ × ℕ) (rest : Judged) (o : Option ℕ) → judged_one d rest o ≡ All → (o ≡ Some d.1) × (rest ≡ All)
 one_all d rest None e = absurd (next_all d.0 e)
 one_all d rest (Some v) e = by (eqb d.1 v) refl e
   where

@@ -8,7 +8,7 @@ use Rattle.step_core.specs.declared.actor.Actor.{Actor}
 use Rattle.replay_log.specs.Contents.{end_of}
 use Rattle.tx_actor.specs.Blocks.{BlocksView}
 use Rattle.tx_actor.specs.Dispatch.{HasRoom}
-use Rattle.tx_actor.specs.Keeping.{IsRunning, KeepsAt, KeepsIn, NamesAmong}
+use Rattle.tx_actor.specs.Keeping.{KeepsAt, KeepsIn, NamesAmong}
 use Rattle.tx_actor.specs.Running.{at}
 use Rattle.tx_actor.specs.declared.actor.Stage.{Stage}
 use Rattle.tx_actor.specs.declared.actor.Stage.TheVariants as stage

@@ -22,3 +22,4 @@ mod RequestLemmas
 mod AskLemmas
 mod GuardedLemmas
 mod LogLemmas
+mod LoadLemmas

@@ -16,7 +16,7 @@ use Rattle.replay_log.specs.Contents.{Answered, Block, HaveStripes, block_of, fi
 use Rattle.replay_log.specs.Worlds.{World, opened, run}
 use Rattle.replay_log.proofs.ContentLemmas.{home_is, not_plain, positive_at}
 use Rattle.replay_log.proofs.SerialLemmas.{editions_past}
-use Rattle.atomic_steps.specs.Bases.{IsBaseOf, ShowsBase, log_changes, log_locations, writes_on}
+use Rattle.atomic_steps.specs.Bases.{IsBaseOf, ShowsBase, log_locations, writes_on}
 use Rattle.tx_actor.specs.declared.copies.Copied.{Copied}
 use Rattle.tx_actor.specs.declared.copies.Copied.TheVariants.{Keys, Whole}
 use Rattle.tx_actor.specs.declared.actor.CopyOf.{CopyOf}

@@ -1,8 +1,8 @@
 -- Of an outcome, row by row: it is of the call that was answered, a call that changes nothing writes nothing, and no collection answers a
 -- call on a word.
-use Rattle.std.proofs.Common.{◌≡◌, ℕ, Bool, true, false, true≢false, cond, List, [], Option, Some, None, refl, sym, ap}
+use Rattle.std.proofs.Common.{◌≡◌, ℕ, Bool, true, false, true≢false, cond, [], Option, Some, None, refl, sym, ap}
 use Rattle.std.specs.Ordering.{nat_cmp}
-use Rattle.std.specs.FinMap.{FinMap, empty}
+use Rattle.std.specs.FinMap.{FinMap}
 use Rattle.seq_model.specs.declared.call.Op.{Op}
 use Rattle.seq_model.specs.declared.call.Op.TheVariants.{Get, Put, Remove, Len, Count, Add, Take, Least, Insert, TakeLeast, Enqueue, Dequeue, Peek}
 use Rattle.seq_model.specs.declared.call.Reply.{Reply}
@@ -10,7 +10,7 @@ use Rattle.seq_model.specs.Counts.{Multiset}
 use Rattle.conflict.specs.declared.outcome.Note.{Note}
 use Rattle.conflict.specs.declared.outcome.Outcome.{Outcome}
 use Rattle.conflict.specs.Footprints.{map_writes, multiset_writes, priority_queue_writes, queue_writes}
-use Rattle.conflict.specs.Places.{none_some, some_same}
+use Rattle.conflict.specs.Places.{none_some}
 use Rattle.base_map.specs.Conflicts as map
 use Rattle.base_bag.specs.Conflicts as bag
 use Rattle.base_pq.specs.Conflicts as pq

@@ -1,14 +1,13 @@
 -- What an actor has of all collections, and of which worlds that is its own: it depends on how the locations lie and on the actor's own
 -- shadow (`owns_by`). An acceptance puts one outcome behind those of the shadow, and into the copy of its collection, which stands once
 -- among the copies: that copy follows by the law on copies, and the others leave out an outcome on another collection.
-use Rattle.std.proofs.Common.{◌≡◌, ◌≢◌, ℕ, zero, suc, ◌+◌, ◌<◌, ◌++◌, ◌==◌, Bool, true, false, cond, true≢false, eqb-true, eq-eqb, List, [], ◌∷◌, Option, Some, None, append-nil, refl, sym, ap, subst, ◌∙◌}
+use Rattle.std.proofs.Common.{◌≡◌, ◌≢◌, ℕ, zero, suc, ◌++◌, ◌==◌, Bool, true, false, cond, true≢false, eqb-true, eq-eqb, List, [], ◌∷◌, Option, Some, None, append-nil, refl, sym, ap, subst, ◌∙◌}
 use Rattle.std.specs.Prelude.{slice_get}
 use Rattle.std.proofs.lemmas.Bool.{cond-true, cond-false}
 use Rattle.std.proofs.Math.ListN.{set}
 use Rattle.seq_model.specs.declared.call.Op.{Op}
 use Rattle.conflict.specs.declared.outcome.Outcome.{Outcome}
 use Rattle.collection_machine.specs.Boosted.{Shadow as Part, longer}
-use Rattle.replay_log.specs.declared.base.Base.{Base}
 use Rattle.replay_log.specs.Base.{Shown, changes_of, reads_of, shown_of, stripes_of}
 use Rattle.replay_log.specs.Parts.{kind_of}
 use Rattle.replay_log.specs.Contents.{Answered, Block, HaveStripes, block_of, first_of}
@@ -17,7 +16,7 @@ use Rattle.replay_log.specs.Worlds.{World}
 use Rattle.replay_log.proofs.ContentLemmas.{positive_at}
 use Rattle.atomic_steps.specs.Bases.{changes_on, log_changes, log_locations, writes_on}
 use Rattle.atomic_steps.proofs.Bases.{kind_stays, more_changes, more_locations}
-use Rattle.shadow.specs.Memo.{copies_kept, entries_kept, holds_with}
+use Rattle.shadow.specs.Memo.{holds_with}
 use Rattle.shadow.proofs.CopyLemmas.{copy_holds}
 use Rattle.tx_actor.specs.declared.copies.Copied.{Copied}
 use Rattle.tx_actor.specs.declared.copies.Copied.TheVariants.{Keys, Whole}
@@ -25,7 +24,7 @@ use Rattle.tx_actor.specs.declared.actor.CopyOf.{CopyOf}
 use Rattle.tx_actor.specs.declared.actor.TxActor.{TxActor}
 use Rattle.tx_actor.specs.Answers.{IsAcceptedAt}
 use Rattle.tx_actor.specs.Blocks.{BlocksView, IsLaid}
-use Rattle.tx_actor.specs.Copies.{IsAccepted, IsCopied, IsOf, ShowParts, answer_of, answered_on, edition_at, holds_call}
+use Rattle.tx_actor.specs.Copies.{IsAccepted, IsCopied, IsOf, ShowParts, answer_of, answered_on, holds_call}
 use Rattle.tx_actor.specs.Footprints.{base_in, reads_in}
 use Rattle.tx_actor.specs.Keeps.{IsOwnCopy, Knows}
 use Rattle.tx_actor.specs.Owns.{AreOfBlocks, AreOnce, IsOfBlock, IsOwn, IsUncalled, OwnsCopies}

@@ -1,7 +1,7 @@
 -- A call that is made ready. What is made ready in a copy changes nothing that it shows (`IsKept`), so the actor is alike (`IsAlike`) in
 -- every world that shows it, and what it has is its own where it was. Its outcome is what its copy answers, a declared reader's call
 -- writes nothing, and what fits the sets may be written.
-use Rattle.std.proofs.Common.{◌≡◌, ◌<◌, ◌≤◌, ◌+◌, ◌&&◌, ◌||◌, ◌==◌, ℕ, zero, suc, Bool, true, false, true≢false, not, cond, leb, length, List, [], ◌∷◌, Option, Some, None, refl, sym, ap, subst, ◌∙◌, arith}
+use Rattle.std.proofs.Common.{◌≡◌, ◌<◌, ◌≤◌, ◌+◌, ◌&&◌, ◌||◌, ◌==◌, ℕ, zero, suc, Bool, true, false, true≢false, not, cond, length, List, [], ◌∷◌, Option, Some, None, refl, sym, ap, subst, ◌∙◌, arith}
 use Rattle.std.specs.Prelude.{is_some, slice_get}
 use Rattle.std.specs.Vec.{vec_capacity, vec_len}
 use Rattle.std.specs.FinMap as map
@@ -20,7 +20,6 @@ use Rattle.replay_log.specs.Worlds as worlds
 use Rattle.replay_log.specs.Worlds.{World, is_change, new_in, reply_of}
 use Rattle.replay_log.proofs.CountLemmas.{locations-cons}
 use Rattle.shadow.specs.Memo.{MemoView, answer_with, has_key, holds_with}
-use Rattle.step_core.specs.Shown as words
 use Rattle.tx_actor.specs.declared.actor.Answered as running
 use Rattle.tx_actor.specs.declared.actor.CopyOf.{CopyOf}
 use Rattle.tx_actor.specs.declared.actor.TxActor.{TxActor}
@@ -30,11 +29,10 @@ use Rattle.tx_actor.specs.Answers.{IsPrepared}
 use Rattle.tx_actor.specs.Copies as copies
 use Rattle.tx_actor.specs.Copies.{IsCopied, IsKept, IsOf, IsReady, answer_of, edition_at, holds_call, memo_piece}
 use Rattle.tx_actor.specs.Footprints.{known_edition, reads_in, writes_in}
-use Rattle.tx_actor.specs.Keeps.{IsOwnCopy, Knows}
+use Rattle.tx_actor.specs.Keeps.{Knows}
 use Rattle.tx_actor.specs.Owns.{AreOnce, IsOwn, OwnsCopies}
 use Rattle.tx_actor.specs.Prepares.{AreKept, HasRoomFor, IsAlike, MayPrepare, fits}
-use Rattle.tx_actor.specs.Running.{Runs, KnowsHomes, answered_of, asked_of, copy_of, has_piece, seat_of, stage_of}
-use Rattle.tx_actor.specs.declared.actor.Stage.{Stage}
+use Rattle.tx_actor.specs.Running.{answered_of, asked_of, copy_of, has_piece, seat_of, stage_of}
 use Rattle.tx_actor.specs.Writes.{MayWrite, with_next}
 use Rattle.tx_actor.proofs.BlocksLemmas.{up_to}
 use Rattle.tx_actor.proofs.CopiesLemmas.{same_copy}

@@ -15,3 +15,4 @@ pub mod Guarded
 pub mod Owns
 pub mod Prepares
 pub mod Logs
+pub mod Loads

@@ -4,7 +4,7 @@ ghost use Rattle.std.specs.Prelude.{◌≡◌, ◌<◌, ℕ, [], ◌∷◌};
 ghost use Rattle.std.specs.Vec.{vec_len, vec_capacity};
 ghost use Rattle.seq_model.specs.declared.refusal.Refusal.TheVariants as refusal;
 ghost use Rattle.replay_log.specs.Worlds.{because, gives_up};
-ghost use Rattle.tx_actor.specs.Dispatch.{HasRoom, IsToldWord, Starves, Steps, after_home, after_put, after_try, notice_told, shown_notice};
+ghost use Rattle.tx_actor.specs.Dispatch.{HasRoom, IsGoneHome, IsToldWord, Records, Starves, after_put, after_try, notice_told, shown_notice};
 ghost use Rattle.tx_actor.specs.Blocks.{BlocksView};
 ghost use Rattle.tx_actor.specs.Keeping.{KeepsIn};
 ghost use Rattle.tx_actor.specs.Running.{Does, Reseats, at, seat_of, stage_of};
@@ -67,7 +67,9 @@ impl<V: Drop> TxActor<V> {
     fn has_first_stored(&mut self, heard: WordNotice, homes: VecDeque<u32>) -> Told<V>
         ensures does { IsToldWord (at self.old (Stage.Ready homes)) self.new result (shown_notice heard) }
         ensures keeps { (v : BlocksView) → KeepsIn v (at self.old (Stage.Ready homes)) self.new }
+        ensures made { self.new.made.items ≡ self.old.calls.items }
     {
+        mem::swap(&mut self.made, &mut self.calls);
         match heard {
             WordNotice::Stored => self.goes_home(homes),
             _ => self.stored_one(homes),
@@ -109,6 +111,7 @@ impl<V: Drop> TxActor<V> {
         requires { HasRoom self.old self.old.stage }
         ensures does { IsToldWord self.old self.new result (notice_told told) }
         ensures keeps { (v : BlocksView) → KeepsIn v self.old self.new }
+        ensures made { Records self.old.stage → self.new.made.items ≡ self.old.calls.items }
     {
         let heard = of_told(told);
         let stage = mem::replace(&mut self.stage, Stage::Idle);
@@ -186,8 +189,7 @@ impl<V: Drop> TxActor<V> {
     }
 
     fn first_home(&mut self, homes: VecDeque<u32>) -> Told<V>
-        ensures does { let r = at self.old (Stage.Homing homes) in
-            Steps r self.new result (λ a w. after_home w a (seat_of r) (stage_of r.stage)) }
+        ensures does { IsGoneHome (at self.old (Stage.Homing homes)) self.new result }
         ensures keeps { (v : BlocksView) → KeepsIn v (at self.old (Stage.Homing homes)) self.new }
     {
         if has_none(&homes) {
@@ -200,7 +202,7 @@ impl<V: Drop> TxActor<V> {
 
     /// The base that was to go home has gone, with its changes, and its gate is free.
     pub fn went_home(&mut self) -> Told<V>
-        ensures does { Steps self.old self.new result (λ a w. after_home w a (seat_of self.old) (stage_of self.old.stage)) }
+        ensures does { IsGoneHome self.old self.new result }
         ensures keeps { (v : BlocksView) → KeepsIn v self.old self.new }
     {
         let stage = mem::replace(&mut self.stage, Stage::Idle);

@@ -17,6 +17,7 @@ mod homes;
 mod judged;
 mod known;
 pub mod laws;
+mod loads;
 mod logs;
 mod next;
 mod notice;

@@ -8,17 +8,20 @@ ghost use Rattle.step_core.specs.Shown.{actor_of};
 ghost use Rattle.seq_model.specs.declared.event.Answer.TheVariants as answer;
 ghost use Rattle.seq_model.specs.declared.event.Notice.TheVariants.{Quiet, Answered};
 ghost use Rattle.replay_log.specs.Worlds as worlds;
-ghost use Rattle.replay_log.specs.Worlds.{is_leaving, no_one, because, seated, recorded, has_begun, has_read, has_cancelled, has_released, has_stored, has_tried, has_locked, takes_gates, written_homes, ended, ask_idle, starve_at, World};
+ghost use Rattle.replay_log.specs.Worlds.{is_leaving, no_one, because, seated, recorded, has_begun, has_read, has_cancelled, has_released, has_stored, has_tried, has_locked, takes_gates, written_homes, ended, ask_idle, starve_at, Seat, World};
+ghost use Rattle.step_core.specs.Blank.{IsBlank};
 ghost use Rattle.step_core.specs.Sound.{Fits, owed};
 ghost use Rattle.tx_actor.specs.Blocks.{BlocksView};
 ghost use Rattle.tx_actor.specs.Dispatch.{HasRoom, MayRelease};
-ghost use Rattle.tx_actor.specs.Keeping.{KeepsIn, NamesAmong};
-ghost use Rattle.tx_actor.specs.Running.{KnowsHomes, Reseats, Runs, asked_of, at, notice_of, seat_of, stage_of};
+ghost use Rattle.tx_actor.specs.Keeping.{IsRunning, KeepsIn, NamesAmong};
+ghost use Rattle.tx_actor.specs.Running.{IsSeatOf, KnowsHomes, Reseats, Runs, asked_of, at, is_recorded, notice_of, seat_in, seat_of, stage_in, stage_of};
 
 use crate::actor::{Asked, Stage, Told, TxActor};
 use crate::ending::{abort, cancel, release};
 use seq_model::{Answer, Call, Op, Refusal, Reply};
+use std::alloc::Global;
 use std::collections::VecDeque;
+use std::mem;
 use step_core::{Actor, Place};
 
 /// The tries on a gate, but for the first.
@@ -45,10 +48,11 @@ fn begin(words: &mut Actor, declared: bool)
 
 /// The stage of a transaction that is locked: its gates are tried, where there are some.
 fn gating_or_ready<V: Drop>(homes: VecDeque<u32>) -> Stage<V>
-    ensures stage { stage_of result ≡ takes_gates [] homes.items }
+    ensures stage { (s : worlds.Stage V) → stage_in s result ≡ takes_gates [] homes.items }
     ensures knows { (ks : List ℕ) → KnowsHomes result ks }
     ensures names { (n : ℕ) → All (λ k. k < n) homes.items → NamesAmong n result }
     ensures room { (r : TxActor V) → HasRoom r result }
+    ensures shown { is_recorded result ≡ false }
 {
     if has_none(&homes) {
         return Stage::Ready(homes);
@@ -59,10 +63,11 @@ fn gating_or_ready<V: Drop>(homes: VecDeque<u32>) -> Stage<V>
 /// The stage of a transaction that holds the gates of so many of these collections.
 fn next_gate<V: Drop>(homes: VecDeque<u32>, got: usize) -> Stage<V>
     requires inside { got ≤ length homes.items }
-    ensures stage { stage_of result ≡ takes_gates (take got homes.items) (drop got homes.items) }
+    ensures stage { (s : worlds.Stage V) → stage_in s result ≡ takes_gates (take got homes.items) (drop got homes.items) }
     ensures knows { (ks : List ℕ) → KnowsHomes result ks }
     ensures names { (n : ℕ) → All (λ k. k < n) homes.items → NamesAmong n result }
     ensures room { (r : TxActor V) → HasRoom r result }
+    ensures shown { is_recorded result ≡ false }
 {
     if homes.len() <= got {
         return Stage::Ready(homes);
@@ -72,10 +77,11 @@ fn next_gate<V: Drop>(homes: VecDeque<u32>, got: usize) -> Stage<V>
 
 /// The stage of a transaction that is to end: its locks go back, where there are some, and then the clock is loaded.
 pub(crate) fn leaving_or_cancelling<V>(words: &Actor) -> Stage<V>
-    ensures stage { stage_of result ≡ (if is_leaving (actor_of words.now).place then worlds.Leaving else worlds.Cancelling) }
+    ensures stage { (s : worlds.Stage V) → stage_in s result ≡ (if is_leaving (actor_of words.now).place then worlds.Leaving else worlds.Cancelling) }
     ensures knows { (ks : List ℕ) → KnowsHomes result ks }
     ensures names { (n : ℕ) → NamesAmong n result }
     ensures room { (r : TxActor V) → HasRoom r result }
+    ensures shown { is_recorded result ≡ false }
 {
     match words.place {
         Place::Leave => Stage::Leaving,
@@ -84,9 +90,29 @@ pub(crate) fn leaving_or_cancelling<V>(words: &Actor) -> Stage<V>
 }
 
 impl<V: Drop> TxActor<V> {
+    /// An actor without a transaction. It takes no memory.
+    pub fn new(alloc: Global) -> TxActor<V>
+        ensures seat { seat_of result ≡ no_one }
+        ensures stage { result.stage ≡ Stage.Idle }
+        ensures words { IsBlank result.words }
+        ensures running { (v : BlocksView) → IsRunning v result }
+    {
+        TxActor {
+            words: Actor::new(alloc),
+            stage: Stage::Idle,
+            rv: 0,
+            wv: 0,
+            cause: None,
+            calls: Vec::new(alloc),
+            made: Vec::new(alloc),
+            copies: Vec::new(alloc),
+        }
+    }
+
     /// It has no transaction any more, or a new one.
     fn clear(&mut self, stage: Stage<V>, rv: u64)
-        ensures seat { seat_of self.new ≡ record no_one { stage = stage_of stage; rv = rv } }
+        ensures seat { (s : worlds.Stage V) → seat_in s self.new ≡ record no_one { stage = stage_in s stage; rv = rv } }
+        ensures made { self.new.made ≡ self.old.made }
         ensures words { actor_of self.new.words ≡ actor_of self.old.words }
         ensures knows { (ks : List ℕ) → KnowsHomes stage ks → KnowsHomes self.new.stage ks }
         ensures stage { self.new.stage ≡ stage }
@@ -132,8 +158,10 @@ impl<V: Drop> TxActor<V> {
     pub fn closed(&mut self) -> Told<V>
         ensures does { Reseats self.old self.new result (λ a w. (seated (recorded w a (seat_of self.old) false self.old.rv) a no_one, Answered a (answer.Committed self.old.rv))) }
         ensures keeps { (v : BlocksView) → KeepsIn v (at self.old Stage.Idle) self.new }
+        ensures made { self.new.made.items ≡ self.old.calls.items }
     {
         let number = self.rv;
+        mem::swap(&mut self.made, &mut self.calls);
         self.clear(Stage::Idle, 0);
         Told::Answered(Answer::Committed(number))
     }
@@ -142,8 +170,10 @@ impl<V: Drop> TxActor<V> {
     pub fn ended(&mut self) -> Told<V>
         ensures does { Reseats self.old self.new result (λ a w. ended w a (seat_of self.old)) }
         ensures keeps { (v : BlocksView) → KeepsIn v (at self.old Stage.Idle) self.new }
+        ensures made { self.new.made.items ≡ self.old.calls.items }
     {
         let cause = self.cause;
+        mem::swap(&mut self.made, &mut self.calls);
         self.clear(Stage::Idle, 0);
         match cause {
             None => Told::Answered(Answer::Aborted),
@@ -306,7 +336,10 @@ impl<V: Drop> TxActor<V> {
 
     /// A value was stored, and others are left.
     pub fn stored_one(&mut self, homes: VecDeque<u32>) -> Told<V>
-        ensures does { Reseats self.old self.new result (λ a w. has_stored w a (seat_of self.old) homes.items notice.Quiet) }
+        ensures does { (a : ℕ) (w : World V) (x : Seat V) → IsSeatOf x self.old → worlds.actor_of w a ≡ actor_of self.old.words →
+            let f = has_stored w a x homes.items notice.Quiet in
+            Runs a self.new f.0 × (notice_of a result ≡ f.1) }
+        ensures made { self.new.made ≡ self.old.made }
         ensures keeps { (v : BlocksView) → KeepsIn v (at self.old (Stage.Storing homes)) self.new }
     {
         self.stage = Stage::Storing(homes);
@@ -315,9 +348,11 @@ impl<V: Drop> TxActor<V> {
 
     /// All values are stored, or a base has gone home, and these are still to go.
     pub fn goes_home(&mut self, homes: VecDeque<u32>) -> Told<V>
-        ensures does { (a : ℕ) (w : World V) → MayRelease a w homes.items → worlds.actor_of w a ≡ actor_of self.old.words →
-            let f = worlds.goes_home w a (seat_of self.old) homes.items in
+        ensures does { (a : ℕ) (w : World V) (x : Seat V) → IsSeatOf x self.old → MayRelease a w homes.items →
+            worlds.actor_of w a ≡ actor_of self.old.words →
+            let f = worlds.goes_home w a x homes.items in
             Runs a self.new f.0 × (notice_of a result ≡ f.1) }
+        ensures made { self.new.made ≡ self.old.made }
         ensures keeps { (v : BlocksView) → KeepsIn v (at self.old (Stage.Homing homes)) self.new }
     {
         if has_none(&homes) {

@@ -13,7 +13,7 @@ returns-then-len-eq0-clause-ok g c a w laid s =
     let r = c.args.self.now in
     let u : TxActor g.row.V.Denot = record r { words = c.close_words.new.words; stage = stage.Closing } in
     let none : r.words.writes.entries ≡ [] = none_there r.words.writes.entries (sym c.len.ensures ∙ c.if-len-eq0.true) in
-    closes_as c.args.blocks.now r u none refl refl c.in_ok-close_words.ensures.actor a w laid s
+    closes_as c.args.blocks.now r u none refl (λ st. refl) c.in_ok-close_words.ensures.actor a w laid s
 
 pub returns-clause-ok : goal.returns-clause-ok
 returns-clause-ok g c a w laid s =
@@ -21,7 +21,7 @@ returns-clause-ok g c a w laid s =
     let homes = c.in_ok-homes.homes in
     let u : TxActor g.row.V.Denot = record r { words = c.lock_words.new.words; stage = stage.Locking homes } in
     let some : r.words.writes.entries ≢ [] = some_there r.words.writes.entries (λ e. c.if-len-eq0.false (c.len.ensures ∙ e)) in
-    locks_as c.args.blocks.now r u homes some refl refl c.in_ok-lock_words.ensures.actor c.in_ok-homes.ensures a w laid s
+    locks_as c.args.blocks.now r u homes some refl (λ st. refl) c.in_ok-lock_words.ensures.actor c.in_ok-homes.ensures a w laid s
 
 -- the bounds and the room
 pub returns-then-len-eq0-clause-keeps : goal.returns-then-len-eq0-clause-keeps

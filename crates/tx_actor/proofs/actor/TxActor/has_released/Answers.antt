@@ -1,5 +1,5 @@
 use Rattle.std.proofs.Common.{refl}
-use Rattle.tx_actor.specs.Running.{at, seat_of}
+use Rattle.tx_actor.specs.Running.{at, seat_at}
 use Rattle.tx_actor.specs.Dispatch.{shown_notice}
 use Rattle.tx_actor.specs.declared.actor.Stage.TheVariants as stage
 use Rattle.tx_actor.proofs.DispatchLemmas.{heard_as, word_stays, released_else}
@@ -15,7 +15,7 @@ pub returns-in_default-clause-does : goal.returns-in_default-clause-does
 returns-in_default-clause-does g c =
     word_stays (at c.args.self.now stage.Releasing) c.stays.new.self c.stays.result (shown_notice c.args.heard)
     c.stays.ensures.stage c.stays.ensures.told
-    (λ a w. released_else w a (seat_of (at c.args.self.now stage.Releasing)) c.args.heard c.in_default.not-Released)
+    (λ a w. released_else w a (seat_at (w.seats a) (at c.args.self.now stage.Releasing)) c.args.heard c.in_default.not-Released)
 
 pub returns-in-Released-clause-keeps : goal.returns-in-Released-clause-keeps
 returns-in-Released-clause-keeps g c v =

@@ -7,6 +7,7 @@ use Rattle.tx_actor.specs.Logs.{changes_had, locations_had}
 use Rattle.tx_actor.specs.Running.{copy_of}
 use Rattle.tx_actor.proofs.KeepingLemmas.{keeps_asked, keeps_same, room_as, words_same}
 use Rattle.tx_actor.proofs.LogLemmas.{found_at, others_stand}
+use Rattle.tx_actor.proofs.RunsLemmas.{left_alike}
 use Rattle.tx_actor.proofs.actor.TxActor.log_of.Goals as goal
 
 pub returns-in-Some-clause-changes : goal.returns-in-Some-clause-changes
@@ -53,3 +54,10 @@ returns-in-None-clause-locations g c =
 
 pub returns-in-None-clause-keeps : goal.returns-in-None-clause-keeps
 returns-in-None-clause-keeps g c v = keeps_same v c.args.self.now c.args.self.now refl
+
+pub returns-in-Some-clause-stands : goal.returns-in-Some-clause-stands
+returns-in-Some-clause-stands g c left a w s =
+    (s.0 ∙ left_alike (w.seats a) c.args.self.now c.remove.new.self left, s.1, s.2)
+
+pub returns-in-None-clause-stands : goal.returns-in-None-clause-stands
+returns-in-None-clause-stands g c left a w s = s

@@ -1,4 +1,4 @@
-use Rattle.std.proofs.Common.{length, Some, refl, rules}
+use Rattle.std.proofs.Common.{length, refl, rules}
 use Rattle.std.proofs.lemmas.Option.{slice_get_read}
 use Rattle.tx_actor.proofs.PreparesLemmas.{all_kept, kept_set, ready_at}
 use Rattle.tx_actor.proofs.actor.TxActor.make_room.Goals as goal

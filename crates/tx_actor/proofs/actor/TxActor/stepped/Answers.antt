@@ -1,8 +1,9 @@
+use Rattle.tx_actor.specs.declared.actor.Stage.{Stage}
 use Rattle.std.proofs.Common.{sym, subst, ◌∙◌, refl}
-use Rattle.tx_actor.specs.Running.{at, seat_of}
-use Rattle.tx_actor.specs.Dispatch.{HasRoom, notice_told}
+use Rattle.tx_actor.specs.Running.{at, seat_at}
+use Rattle.tx_actor.specs.Dispatch.{Records, HasRoom, notice_told}
 use Rattle.tx_actor.specs.declared.actor.Stage.TheVariants as stage
-use Rattle.tx_actor.proofs.DispatchLemmas.{told_as, word_at_stage, word_stays, word_else}
+use Rattle.tx_actor.proofs.DispatchLemmas.{records_else, told_as, word_at_stage, word_stays, word_else}
 use Rattle.tx_actor.proofs.KeepingLemmas.{keeps_at, keeps_from, keeps_same}
 use Rattle.tx_actor.proofs.actor.TxActor.stepped.Goals as goal
 
@@ -74,7 +75,7 @@ returns-in_default-clause-does g c =
     let n = notice_told c.args.told in
     word_at_stage c.args.self.now c.stays.new.self c.stays.result n other (sym c.replace-stage.ensures.value)
     (word_stays (at c.args.self.now other) c.stays.new.self c.stays.result n c.stays.ensures.stage c.stays.ensures.told
-    (λ a w. word_else w a (seat_of (at c.args.self.now other)) other n c.in_default.not-Beginning c.in_default.not-Reading
+    (λ a w. word_else w a (seat_at (w.seats a) (at c.args.self.now other)) other n c.in_default.not-Beginning c.in_default.not-Reading
     c.in_default.not-Locking c.in_default.not-Storing c.in_default.not-Releasing c.in_default.not-Closing
     c.in_default.not-Cancelling c.in_default.not-Leaving c.in_default.not-Ready))
 
@@ -133,3 +134,42 @@ pub returns-in_default-clause-keeps : goal.returns-in_default-clause-keeps
 returns-in_default-clause-keeps g c v =
     keeps_at v c.args.self.now c.stays.new.self c.replace-stage.result (sym c.replace-stage.ensures.value)
     (keeps_same v (at c.args.self.now c.replace-stage.result) c.stays.new.self c.stays.ensures.stage)
+
+-- the calls of a transaction that is recorded, or ends
+pub returns-in-Beginning-clause-made : goal.returns-in-Beginning-clause-made
+returns-in-Beginning-clause-made g c h =
+    absurd (subst (λ (z : Stage g.row.V.Denot). Records z) (sym c.replace-stage.ensures.value ∙ c.in-Beginning.is) h)
+
+pub returns-in-Reading-clause-made : goal.returns-in-Reading-clause-made
+returns-in-Reading-clause-made g c h =
+    absurd (subst (λ (z : Stage g.row.V.Denot). Records z) (sym c.replace-stage.ensures.value ∙ c.in-Reading.is) h)
+
+pub returns-in-Locking-clause-made : goal.returns-in-Locking-clause-made
+returns-in-Locking-clause-made g c h =
+    absurd (subst (λ (z : Stage g.row.V.Denot). Records z) (sym c.replace-stage.ensures.value ∙ c.in-Locking.is) h)
+
+pub returns-in-Storing-clause-made : goal.returns-in-Storing-clause-made
+returns-in-Storing-clause-made g c h =
+    absurd (subst (λ (z : Stage g.row.V.Denot). Records z) (sym c.replace-stage.ensures.value ∙ c.in-Storing.is) h)
+
+pub returns-in-Releasing-clause-made : goal.returns-in-Releasing-clause-made
+returns-in-Releasing-clause-made g c h =
+    absurd (subst (λ (z : Stage g.row.V.Denot). Records z) (sym c.replace-stage.ensures.value ∙ c.in-Releasing.is) h)
+
+pub returns-in-Cancelling-clause-made : goal.returns-in-Cancelling-clause-made
+returns-in-Cancelling-clause-made g c h =
+    absurd (subst (λ (z : Stage g.row.V.Denot). Records z) (sym c.replace-stage.ensures.value ∙ c.in-Cancelling.is) h)
+
+pub returns-in-Ready-clause-made : goal.returns-in-Ready-clause-made
+returns-in-Ready-clause-made g c h = c.has_first_stored.ensures.made
+
+pub returns-in-Closing-clause-made : goal.returns-in-Closing-clause-made
+returns-in-Closing-clause-made g c h = c.closed.ensures.made
+
+pub returns-in-Leaving-clause-made : goal.returns-in-Leaving-clause-made
+returns-in-Leaving-clause-made g c h = c.ended.ensures.made
+
+pub returns-in_default-clause-made : goal.returns-in_default-clause-made
+returns-in_default-clause-made g c h =
+    absurd (records_else c.replace-stage.result c.in_default.not-Ready c.in_default.not-Closing c.in_default.not-Leaving
+    (subst (λ (z : Stage g.row.V.Denot). Records z) (sym c.replace-stage.ensures.value) h))

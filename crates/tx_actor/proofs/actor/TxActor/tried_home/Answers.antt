@@ -5,7 +5,8 @@ use Rattle.seq_model.specs.declared.refusal.Refusal.TheVariants.{GateBusy}
 use Rattle.replay_log.specs.Worlds.{Gating, because, gives_up, takes_gates, at_stage}
 use Rattle.tx_actor.specs.Running.{seat_of}
 use Rattle.tx_actor.proofs.DispatchLemmas.{by_result}
-use Rattle.tx_actor.proofs.RunsLemmas.{at_next, last_try, tried_again, tried_free}
+use Rattle.tx_actor.specs.declared.actor.TxActor.{TxActor}
+use Rattle.tx_actor.proofs.RunsLemmas.{at_next, last_try, seat_as, tried_again, tried_free}
 use Rattle.tx_actor.proofs.KeepingLemmas.{keeps_from, keeps_plain}
 use Rattle.tx_actor.specs.declared.actor.Stage.TheVariants as stage
 use Rattle.tx_actor.proofs.actor.TxActor.tried_home.Goals as goal
@@ -13,11 +14,20 @@ use Rattle.tx_actor.proofs.actor.TxActor.tried_home.Goals as goal
 pub returns-then-free-clause-does : goal.returns-then-free-clause-does
 returns-then-free-clause-does g c k ks e a w s =
     let n = at_next c.args.got c.args.homes.items k 0 ks c.requires.next e in
-    tried_free a (seat_of c.args.self.now) _ _ _ w c.args.free k (take c.args.got c.args.homes.items)
+    let old = c.args.self.now in
+    let u : TxActor g.row.V.Denot = record old { stage = c.next_gate.result } in
+    let next = takes_gates (take c.args.got c.args.homes.items ++ k ∷ []) ks in
+    let r = tried_free a (seat_of old) (at_stage (seat_of old) next) _ _ w c.args.free k (take c.args.got c.args.homes.items)
     (λ n. Gating (take c.args.got c.args.homes.items) (drop c.args.got c.args.homes.items) n)
-    (takes_gates (take c.args.got c.args.homes.items ++ k ∷ []) ks) c.args.tries
-    (c.next_gate.ensures.knows _) c.if-free.true
-    (λ j. at_stage (seat_of c.args.self.now) ((c.next_gate.ensures.stage ∙ (λ i. takes_gates (n.1.0 i) (n.1.1 i))) j)) s
+    next c.args.tries (c.next_gate.ensures.knows _) c.if-free.true refl s in (
+      (
+        seat_as u _ _ c.next_gate.ensures.shown r.0.0 (λ st j. at_stage (seat_of old) ((c.next_gate.ensures.stage st ∙ (λ i. takes_gates
+            (n.1.0 i) (n.1.1 i))) j)),
+        r.0.1,
+        r.0.2,
+      ),
+      r.1,
+    )
 
 pub returns-then-tries-gt0-clause-does : goal.returns-then-tries-gt0-clause-does
 returns-then-tries-gt0-clause-does g c k ks e a w s =

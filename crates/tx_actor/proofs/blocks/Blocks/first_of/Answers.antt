@@ -1,5 +1,5 @@
 use Rattle.std.proofs.Common.{◌≡◌, ◌<◌, length, get_or, Some, sym, ap, ◌∙◌, arith}
-use Rattle.replay_log.specs.Contents.{Block, block_of, first_of, size}
+use Rattle.replay_log.specs.Contents.{block_of, first_of, size}
 use Rattle.tx_actor.specs.Blocks as blocks
 use Rattle.tx_actor.specs.Blocks.{BlocksView}
 use Rattle.tx_actor.proofs.BlocksLemmas.{begins_at, block_at, length_blocks}

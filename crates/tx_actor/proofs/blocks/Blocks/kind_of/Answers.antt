@@ -1,6 +1,5 @@
-use Rattle.std.proofs.Common.{◌≡◌, ◌<◌, Option, Some, None, length, get_or, refl, sym, ap, subst, ◌∙◌, arith}
+use Rattle.std.proofs.Common.{◌<◌, Some, None, length, get_or, sym, ap, subst, arith}
 use Rattle.tx_actor.specs.Blocks.{BlocksView, IsKindAt, block_of, kind_of}
-use Rattle.tx_actor.specs.declared.blocks.Kind.{Kind}
 use Rattle.tx_actor.specs.declared.blocks.Placed.{Placed}
 use Rattle.tx_actor.proofs.BlocksLemmas.{block_at, length_blocks, no_block_at}
 use Rattle.tx_actor.proofs.blocks.Blocks.kind_of.Goals as goal
