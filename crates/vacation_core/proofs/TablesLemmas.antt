@@ -64,7 +64,8 @@ module _ {X : Type 0} (f : X → Entry) (g : Entry → Option X) (back : (x : X)
   all_of es = list_all (λ e. is_some (g e.1)) es
 
   -- entries of the kind are those of the values among them
-  put_as : (m : FinMap nat_cmp X) (es : List (ℕ × Entry)) → all_of es ≡ true → inserts (as_entries f m) es ≡ as_entries f (inserts m (kept g es))
+  put_as : (m : FinMap nat_cmp X) (es : List (ℕ × Entry)) → all_of es ≡ true
+      → inserts (as_entries f m) es ≡ as_entries f (inserts m (kept g es))
   put_as m [] h = refl
   put_as m (e ∷ es) h =
       let each = both_are (is_some (g e.1)) (all_of es) h in

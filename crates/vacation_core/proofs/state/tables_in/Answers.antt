@@ -12,25 +12,33 @@ pub returns-in_err-items-clause-refused : goal.returns-in_err-items-clause-refus
 returns-in_err-items-clause-refused c =
     wants_memory _ _ (reads _ _ c.in-len1.len_at_least c.in-len1.len_below c.in-len8.len_at_least c.in-len8.len_below
     c.cars-item.is c.flights-item.is c.rooms-item.is c.customers-item.is c.tickets-item.is c.for_cars-item.is c.for_flights-item.is
-    c.for_rooms-item.is (sym c.are_maps.ensures ∙ c.if-not-are_maps.false) (sym c.are_queues.ensures ∙ c.if-not-are_queues.false)) c.from_residual.result c.from_residual.ensures.1
+    c.for_rooms-item.is (sym c.are_maps.ensures ∙ c.if-not-are_maps.false)
+    (sym c.are_queues.ensures ∙ c.if-not-are_queues.false))
+    c.from_residual.result c.from_residual.ensures.1
 
 pub returns-in_err-waiting-clause-refused : goal.returns-in_err-waiting-clause-refused
 returns-in_err-waiting-clause-refused c =
     wants_memory _ _ (reads _ _ c.in-len1.len_at_least c.in-len1.len_below c.in-len8.len_at_least c.in-len8.len_below
     c.cars-item.is c.flights-item.is c.rooms-item.is c.customers-item.is c.tickets-item.is c.for_cars-item.is c.for_flights-item.is
-    c.for_rooms-item.is (sym c.are_maps.ensures ∙ c.if-not-are_maps.false) (sym c.are_queues.ensures ∙ c.if-not-are_queues.false)) c.from_residual-in_err-waiting.result c.from_residual-in_err-waiting.ensures.1
+    c.for_rooms-item.is (sym c.are_maps.ensures ∙ c.if-not-are_maps.false)
+    (sym c.are_queues.ensures ∙ c.if-not-are_queues.false))
+    c.from_residual-in_err-waiting.result c.from_residual-in_err-waiting.ensures.1
 
 pub returns-in_err-customers-clause-refused : goal.returns-in_err-customers-clause-refused
 returns-in_err-customers-clause-refused c =
     wants_memory _ _ (reads _ _ c.in-len1.len_at_least c.in-len1.len_below c.in-len8.len_at_least c.in-len8.len_below
     c.cars-item.is c.flights-item.is c.rooms-item.is c.customers-item.is c.tickets-item.is c.for_cars-item.is c.for_flights-item.is
-    c.for_rooms-item.is (sym c.are_maps.ensures ∙ c.if-not-are_maps.false) (sym c.are_queues.ensures ∙ c.if-not-are_queues.false)) c.from_residual-in_err-customers.result c.from_residual-in_err-customers.ensures.1
+    c.for_rooms-item.is (sym c.are_maps.ensures ∙ c.if-not-are_maps.false)
+    (sym c.are_queues.ensures ∙ c.if-not-are_queues.false))
+    c.from_residual-in_err-customers.result c.from_residual-in_err-customers.ensures.1
 
 pub returns-in_err-tickets-clause-refused : goal.returns-in_err-tickets-clause-refused
 returns-in_err-tickets-clause-refused c =
     wants_memory _ _ (reads _ _ c.in-len1.len_at_least c.in-len1.len_below c.in-len8.len_at_least c.in-len8.len_below
     c.cars-item.is c.flights-item.is c.rooms-item.is c.customers-item.is c.tickets-item.is c.for_cars-item.is c.for_flights-item.is
-    c.for_rooms-item.is (sym c.are_maps.ensures ∙ c.if-not-are_maps.false) (sym c.are_queues.ensures ∙ c.if-not-are_queues.false)) c.from_residual-in_err-tickets.result c.from_residual-in_err-tickets.ensures.1
+    c.for_rooms-item.is (sym c.are_maps.ensures ∙ c.if-not-are_maps.false)
+    (sym c.are_queues.ensures ∙ c.if-not-are_queues.false))
+    c.from_residual-in_err-tickets.result c.from_residual-in_err-tickets.ensures.1
 
 pub returns-clause-ok : goal.returns-clause-ok
 returns-clause-ok c =
