@@ -23,6 +23,7 @@ use Rattle.running_world.specs.declared.parts.Parts.{Parts}
 use Rattle.running_world.specs.declared.trace.Ended.{Ended}
 use Rattle.running_world.specs.Openings.{AreIdle, IsIdle}
 use Rattle.running_world.specs.Parts.{IsSeat, IsWorld, ended_of, total_owed}
+use Rattle.running_world.proofs.SeatLemmas.{idle_as}
 
 module _ {V : Type 0} where
   laid_next : (ns : List ℕ) (hs : List (Held V)) (i n : ℕ) (h : Held V) → i < length ns → i < length hs → get_or ns i n ≡ n
@@ -82,7 +83,7 @@ module _ {V : Type 0} where
         let w = world_of ns clock s in
         record {
           runs = (
-            sym own_idle.seat,
+            idle_as r own_idle.seat own_idle.stage,
             sym own_idle.words.actor,
             subst (λ (p : own.Stage V). KnowsHomes p (written_homes w (i + 1))) (sym own_idle.stage) tt,
           );

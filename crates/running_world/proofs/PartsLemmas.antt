@@ -20,7 +20,7 @@ use Rattle.step_core.specs.declared.cells.Cells.{Cells}
 use Rattle.tx_actor.specs.Blocks.{BlocksView}
 use Rattle.tx_actor.specs.Dispatch.{Starves, is_loading, next_of}
 use Rattle.tx_actor.specs.Keeping.{IsRunning, KeepsIn}
-use Rattle.tx_actor.specs.Running.{seat_of, stage_of}
+use Rattle.tx_actor.specs.Running.{seat_at, stage_of}
 use Rattle.tx_actor.specs.declared.actor.Stage as own
 use Rattle.tx_actor.specs.declared.actor.Stage.TheVariants as stage
 use Rattle.tx_actor.specs.declared.actor.Told.{Told}
@@ -33,7 +33,7 @@ use Rattle.running_world.specs.declared.parts.Parts.{Parts}
 use Rattle.running_world.specs.Parts.{Happens, IsWorld, ended_of}
 use Rattle.running_world.specs.Reached.{IsReached}
 use Rattle.running_world.specs.Turns.{IsTurn}
-use Rattle.running_world.proofs.SeatLemmas.{seated_as}
+use Rattle.running_world.proofs.SeatLemmas.{stage_by}
 use Rattle.running_world.proofs.TurnLemmas.{starve_turns}
 use Rattle.running_world.proofs.WorldLemmas.{turned}
 
@@ -48,23 +48,22 @@ module _ {V : Type 0} where
     pub ended : (a : ℕ) (x : Seat V) → ended_by a x s ≡ []
 
   pub step_happens : (c d : Parts V) (i : ℕ) (r s : TxActor V) (n : Told V) → slice_get c.actors.items i ≡ Some r
-      → is_loading (stage_of r.stage) ≡ false → d.blocks ≡ c.blocks → d.actors.items ≡ slice_set c.actors.items i s
+      → d.blocks ≡ c.blocks → d.actors.items ≡ slice_set c.actors.items i s
       → IsTurn c.blocks (Step (i + 1)) c.table r d.table s n
       → ((m : ℕ) (bs : List Block) → HasShape c.table m bs → HasShape d.table m bs)
       → (IsRunning c.blocks r → IsRunning c.blocks s) → Grows c.table.cells r.words d.table.cells s.words
-      → d.records.items ≡ with_record (i + 1) (committed_by (seat_of r) (stage_of r.stage)) c.records.items
-      → map ended_of d.aborted.items ≡ map ended_of c.aborted.items ++ ended_by (i + 1) (seat_of r) (stage_of r.stage)
+      → ((x : Seat V) → x ≡ seat_at x r → d.records.items ≡ with_record (i + 1) (committed_by x x.stage) c.records.items)
+      → ((x : Seat V) → x ≡ seat_at x r → map ended_of d.aborted.items ≡ map ended_of c.aborted.items ++ ended_by (i + 1) x x.stage)
       → Happens c (Step (i + 1)) d n
-  step_happens c d i r s n got quiet laid es turn shape keeps grows rs ends = record {
+  step_happens c d i r s n got laid es turn shape keeps grows rs ends = record {
     parts = λ o w reached h. (
         let a = i + 1 in
-        let own_seat = seated_as w a r quiet (h.seats i r got).runs in
+        let x = w.seats a in
+        let is = (h.seats i r got).runs.0 in
         let adds = steps_end w a in
         turned o c d w (Step a) i r s n reached h refl got laid es turn shape keeps grows
-        (rs ∙ (ap (λ (xs : List (ℕ × Record V)). with_record a (committed_by (seat_of r) (stage_of r.stage)) xs) h.records
-        ∙ (ap (λ (x : Seat V). with_record a (committed_by x x.stage) w.records) (sym own_seat) ∙ sym adds.0)))
-        (ends ∙ (ap (λ (xs : List (seats.Ended V)). xs ++ ended_by a (seat_of r) (stage_of r.stage)) h.aborted
-        ∙ (ap (λ (x : Seat V). w.aborted ++ ended_by a x x.stage) (sym own_seat) ∙ sym adds.1))));
+        (rs x is ∙ (ap (λ (xs : List (ℕ × Record V)). with_record a (committed_by x x.stage) xs) h.records ∙ sym adds.0))
+        (ends x is ∙ (ap (λ (xs : List (seats.Ended V)). xs ++ ended_by a x x.stage) h.aborted ∙ sym adds.1)));
     told = λ o w reached h. (turn.turns o w reached h.laid h.table (h.seats i r got).runs).2;
   }
 
@@ -75,10 +74,12 @@ module _ {V : Type 0} where
       → (IsRunning c.blocks r → IsRunning c.blocks s) → Grows c.table.cells r.words u.cells s.words
       → Happens c (Step (i + 1)) (with_turn c u i s) n
   passes c u i r s n got quiet none turn shape keeps grows =
-      step_happens c (with_turn c u i s) i r s n got quiet refl refl turn shape keeps grows
-      (sym (ap (λ (o : Option (Record V)). with_record (i + 1) o c.records.items) (none.committed (seat_of r))))
-      (sym (append-nil (map ended_of c.aborted.items))
-      ∙ ap (λ (xs : List (seats.Ended V)). map ended_of c.aborted.items ++ xs) (sym (none.ended (i + 1) (seat_of r))))
+      step_happens c (with_turn c u i s) i r s n got refl refl turn shape keeps grows
+      (λ x is. sym (ap (λ (o : Option (Record V)). with_record (i + 1) o c.records.items)
+      (ap (λ (k : Stage V). committed_by x k) (stage_by x r quiet is) ∙ none.committed x)))
+      (λ x is. sym (append-nil (map ended_of c.aborted.items))
+      ∙ ap (λ (xs : List (seats.Ended V)). map ended_of c.aborted.items ++ xs)
+      (sym (ap (λ (k : Stage V). ended_by (i + 1) x k) (stage_by x r quiet is) ∙ none.ended (i + 1) x)))
 
   -- where the words stand
   pub same_cells : (t u : Table V) (r s : TxActor V) → u.cells ≡ t.cells → owed s.words.place ≤ owed r.words.place

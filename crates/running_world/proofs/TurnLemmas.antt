@@ -46,11 +46,11 @@ use Rattle.step_core.specs.declared.answer.WordRefusal.{WordRefusal}
 use Rattle.tx_actor.specs.Asks.{Asks, MayStore}
 use Rattle.tx_actor.specs.Blocks.{BlocksView}
 use Rattle.tx_actor.specs.Dispatch.{AreSteps, HasRoom, IsDue, IsToldWord, MayGoOn, Starves, after_put, after_try, after_word, is_loading}
-use Rattle.tx_actor.specs.Dispatch.{next_of, notice_told}
+use Rattle.tx_actor.specs.Dispatch.{first, next_home, next_of, notice_told}
 use Rattle.tx_actor.specs.Guarded.{committed_at}
 use Rattle.tx_actor.specs.Keeping.{IsRunning}
 use Rattle.tx_actor.specs.Running as ran
-use Rattle.tx_actor.specs.Running.{KnowsHomes, Runs, notice_of, seat_of, stage_of}
+use Rattle.tx_actor.specs.Running.{KnowsHomes, Runs, is_recorded, notice_of, seat_at, seat_of, stage_of}
 use Rattle.tx_actor.specs.declared.actor.Stage as own
 use Rattle.tx_actor.specs.declared.actor.Stage.TheVariants as stage
 use Rattle.tx_actor.specs.declared.actor.Told.{Told}
@@ -63,7 +63,7 @@ use Rattle.world_table.specs.declared.table.Table.{Table}
 use Rattle.world_table.proofs.TableLemmas.{still_has}
 use Rattle.running_world.specs.Reached.{IsReached}
 use Rattle.running_world.specs.Turns.{IsTurn}
-use Rattle.running_world.proofs.SeatLemmas.{asked_as, next_as, ready_as, seated_as, starved_as}
+use Rattle.running_world.proofs.SeatLemmas.{asked_as, next_as, ready_as, seated_by, stage_by, starved_as}
 
 -- ---- a step of a locking actor writes nothing
 to_lock_writes : (x : Actor) (l : ℕ) (ls : List ℕ) (w : LockWord) → (seen_to_lock x l ls w).writes ≡ x.writes
@@ -112,6 +112,14 @@ grows_less t u x y z (inr h) less = inr h
 pub grows_more : (t u : Cells) (x y z : running.Actor) → owed y.place ≤ owed x.place → Grows t y u z → Grows t x u z
 grows_more t u x y z more (inl h) = inl (omega (arith, h, more))
 grows_more t u x y z more (inr h) = inr h
+
+no_try : (xs : List ℕ) (k : ℕ) → next_home (first xs) ≡ next.TryGate k → ⊥
+no_try [] k e = cc
+no_try (j ∷ js) k e = cc
+
+no_put : (xs : List ℕ) (k : ℕ) → next_home (first xs) ≡ next.PutGate k → ⊥
+no_put [] k e = cc
+no_put (j ∷ js) k e = cc
 
 -- the law on the steps of a commit, wherever events have led
 abbrev pub GoesOn : Type 0 → Type 0
@@ -249,8 +257,7 @@ module _ {V : Type 0} where
     turns = λ o w reached laid has runs. (
         let linked = reached_linked o w reached in
         let z = acted w (moves a ∷ []) in
-        let own_seat = seated_as w a r quiet runs in
-        let st : (w.seats a).stage ≡ stage_of r.stage = ap (λ (x : Seat V). x.stage) own_seat in
+        let st : (w.seats a).stage ≡ stage_of r.stage = stage_by (w.seats a) r quiet runs.0 in
         let took = step w a has runs.1 in
         let ok = subst (λ (p : Stage V). StageOk w.words w.blocks (w.seats a) (actor_of w a) (w.boosted.shadows a) p (actor_of w a).place)
         st (linked.seats a).stage in
@@ -260,10 +267,12 @@ module _ {V : Type 0} where
         (subst (λ (p : Stage V). MayGoOn a (committed_at w a p) p) st (reached_goes_on goes o w a reached)) in
         let after = heard a z may here in
         let e : step_at w a (w.seats a) (w.seats a).stage
-        ≡ after_word z a (seat_of r) (stage_of r.stage) (notice_told told) =
-        ap (λ (x : Seat V). step_at w a x x.stage) own_seat
-        ∙ (steps.words w a (seat_of r) (stage_of r.stage) due quiet
-        ∙ ap (after_word z a (seat_of r) (stage_of r.stage)) (sym (steps.told (word_notice w a)) ∙ ap notice_told (sym took.2))) in (
+        ≡ after_word z a (seat_at (w.seats a) r) (stage_of r.stage) (notice_told told) =
+        ap (λ (k : Stage V). step_at w a (w.seats a) k) st
+        ∙ (steps.words w a (w.seats a) (stage_of r.stage) due quiet
+        ∙ (ap (λ (x : Seat V). after_word z a x (stage_of r.stage) (word_notice w a)) runs.0
+        ∙ ap (after_word z a (seat_at (w.seats a) r) (stage_of r.stage))
+        (sym (steps.told (word_notice w a)) ∙ ap notice_told (sym took.2)))) in (
           action_has u w (happens w (Step a)).0 a (w.seats a) (w.seats a).stage (moves a)
               (λ q. let e : next.FirstStore ≡ next.Word = sym q ∙ (ap next_of st ∙ due) in let z : ⊥ = cc in z)
               (due_word a _ (due_as steps w a (w.seats a).stage next.Word (ap next_of st ∙ due))) (one_step w (Step a)) took.0,
@@ -282,6 +291,18 @@ module _ {V : Type 0} where
   quiet_put (Loading o []) k e = let z : ⊥ = cc in absurd z
   quiet_put (Loading o (d ∷ es)) k e = let z : ⊥ = cc in absurd z
   quiet_put s k e = refl
+
+  plain_try : (t : own.Stage V) (k : ℕ) → next_of (stage_of t) ≡ next.TryGate k → is_recorded t ≡ false
+  plain_try (stage.Storing homes) k e = let z : ⊥ = cc in absurd z
+  plain_try (stage.Homing homes) k e = absurd (no_try homes.items k e)
+  plain_try stage.Releasing k e = let z : ⊥ = cc in absurd z
+  plain_try t k e = refl
+
+  plain_put : (t : own.Stage V) (k : ℕ) → next_of (stage_of t) ≡ next.PutGate k → is_recorded t ≡ false
+  plain_put (stage.Storing homes) k e = let z : ⊥ = cc in absurd z
+  plain_put (stage.Homing homes) k e = absurd (no_put homes.items k e)
+  plain_put stage.Releasing k e = let z : ⊥ = cc in absurd z
+  plain_put t k e = refl
 
   runs_moved : (w : World V) (a : ℕ) (r : TxActor V) (e : Action (Asked V)) → (acted w (e ∷ [])).boosted.words ≡ w.boosted.words
       → Runs a r w → Runs a r (acted w (e ∷ []))
@@ -312,7 +333,7 @@ module _ {V : Type 0} where
   try_turns steps v a k t u r s free n due tries does = record {
     turns = λ o w reached laid has runs. (
         let z = acted w (TakeGate a k ∷ []) in
-        let own_seat = seated_as w a r (quiet_try (stage_of r.stage) k due) runs in
+        let own_seat = seated_by (w.seats a) r (quiet_try (stage_of r.stage) k due) (plain_try r.stage k due) runs.0 in
         let st : (w.seats a).stage ≡ stage_of r.stage = ap (λ (x : Seat V). x.stage) own_seat in
         let next_is : next_of (w.seats a).stage ≡ next.TryGate k = ap next_of st ∙ due in
         let action : step_action w a (w.seats a).stage ≡ Some (TakeGate a k) =
@@ -342,7 +363,7 @@ module _ {V : Type 0} where
     turns = λ o w reached laid has runs. (
         let none = λ (l : ℕ). false in
         let z = acted w (PutGate a k none ∷ []) in
-        let own_seat = seated_as w a r (quiet_put (stage_of r.stage) k due) runs in
+        let own_seat = seated_by (w.seats a) r (quiet_put (stage_of r.stage) k due) (plain_put r.stage k due) runs.0 in
         let st : (w.seats a).stage ≡ stage_of r.stage = ap (λ (x : Seat V). x.stage) own_seat in
         let next_is : next_of (w.seats a).stage ≡ next.PutGate k = ap next_of st ∙ due in
         let action : step_action w a (w.seats a).stage ≡ Some (PutGate a k none) =
@@ -397,7 +418,7 @@ module _ {V : Type 0} where
         let first = first_is (stage_of r.stage) due in
         let ks = first.0 in
         let quiet : is_loading (stage_of r.stage) ≡ false = ap is_loading first.1 in
-        let st : (w.seats a).stage ≡ Ready ks = ap (λ (x : Seat V). x.stage) (seated_as w a r quiet runs) ∙ first.1 in
+        let st : (w.seats a).stage ≡ Ready ks = stage_by (w.seats a) r quiet runs.0 ∙ first.1 in
         let ready = acted w (asks a AskStore ∷ []) in
         let z = acted ready (moves a ∷ []) in
         let may = subst (λ (k : Stage V). IsAllowed w k (step_action w a k)) st (reached_allows o w a reached) in
@@ -405,18 +426,18 @@ module _ {V : Type 0} where
         let there : HasTable t ready = still_has t a w ready (ask_calm a w AskStore) has in
         let took = step ready a there asked.1 in
         let own_stage : stage_of p.stage ≡ Ready ks = ready_as ready a p ks asked st in
-        let quiet_p : is_loading (stage_of p.stage) ≡ false = ap is_loading own_stage in
-        let own_seat : w.seats a ≡ seat_of p = seated_as ready a p quiet_p asked in
         let here : Runs a (record p { words = y }) z = (asked.0, took.1, knows_ready p.stage ks (written_homes z a) own_stage) in
         let goes : MayGoOn a z (Ready ks) =
         subst (λ (k : Stage V). MayGoOn a (committed_at w a k) k) st (reached_goes_on goes o w a reached) in
         let after = heard a z (subst (λ (k : Stage V). MayGoOn a z k) (sym own_stage) goes) here in
-        let e : step_at w a (w.seats a) (w.seats a).stage ≡ after_word z a (seat_of p) (stage_of p.stage) (notice_told told) =
-        ap (λ (x : Seat V). step_at w a x x.stage) own_seat
-        ∙ (ap (λ (k : Stage V). step_at w a (seat_of p) k) own_stage
-        ∙ (steps.first w a (seat_of p) ks
-        ∙ (ap (λ (k : Stage V). after_word z a (seat_of p) k (word_notice ready a)) (sym own_stage)
-        ∙ ap (after_word z a (seat_of p) (stage_of p.stage)) (sym (steps.told (word_notice ready a)) ∙ ap notice_told (sym took.2))))) in
+        let e : step_at w a (w.seats a) (w.seats a).stage
+        ≡ after_word z a (seat_at (w.seats a) p) (stage_of p.stage) (notice_told told) =
+        ap (λ (k : Stage V). step_at w a (w.seats a) k) st
+        ∙ (steps.first w a (w.seats a) ks
+        ∙ (ap (λ (x : Seat V). after_word z a x (Ready ks) (word_notice ready a)) asked.0
+        ∙ (ap (λ (k : Stage V). after_word z a (seat_at (w.seats a) p) k (word_notice ready a)) (sym own_stage)
+        ∙ ap (after_word z a (seat_at (w.seats a) p) (stage_of p.stage))
+        (sym (steps.told (word_notice ready a)) ∙ ap notice_told (sym took.2))))) in
         let does : Does a ready (w.seats a) (Ready ks) (Some (moves a)) (happens w (Step a)).0 =
         subst (λ (k : Stage V). Does a (ready_at a w k) (w.seats a) k (atomic_action a w k) (happens w (Step a)).0) st
         (one_step w (Step a)) in (

@@ -1,17 +1,13 @@
 //! The parts that a world opens with.
 ghost use Rattle.std.specs.Prelude.{◌≡◌, IfOk, length};
-ghost use Rattle.step_core.specs.Blank.{IsBlank};
 ghost use Rattle.replay_log.specs.Collections.{kind_of_held};
-ghost use Rattle.replay_log.specs.Worlds.{no_one};
 ghost use Rattle.tx_actor.specs.Blocks.{kind_of};
-ghost use Rattle.tx_actor.specs.Running.{seat_of};
 ghost use Rattle.world_table.specs.Openings.{blocks_of};
 ghost use Rattle.running_world.specs.Openings.{AreIdle};
 
 use seq_model::{Held, Memory, Refusal};
 use std::alloc::Global;
-use step_core::Actor;
-use tx_actor::{Blocks, Kind, Stage, TABLE_LIMIT, TxActor};
+use tx_actor::{Blocks, Kind, TABLE_LIMIT, TxActor};
 
 /// The actors of a world.
 const ACTORS: usize = 64;
@@ -49,23 +45,6 @@ pub fn lay<V>(
     Ok(blocks)
 }
 
-/// An actor without a transaction.
-fn idle<V: Drop>(alloc: Global) -> TxActor<V>
-    ensures seat { seat_of result ≡ no_one }
-    ensures stage { result.stage ≡ Stage.Idle }
-    ensures words { IsBlank result.words }
-{
-    TxActor {
-        words: Actor::new(alloc),
-        stage: Stage::Idle,
-        rv: 0,
-        wv: 0,
-        cause: None,
-        calls: Vec::new(alloc),
-        copies: Vec::new(alloc),
-    }
-}
-
 /// The actors of a world, none of which has a transaction.
 pub fn actors<V: Drop>(alloc: Global) -> Result<Vec<TxActor<V>>, Memory>
     ensures count { IfOk result (λ actors. length actors.items ≡ 64) }
@@ -73,7 +52,7 @@ pub fn actors<V: Drop>(alloc: Global) -> Result<Vec<TxActor<V>>, Memory>
 {
     let mut actors = Vec::with_capacity(alloc, ACTORS)?;
     for _ in 0..ACTORS {
-        actors.push(idle(alloc))?;
+        actors.push(TxActor::new(alloc))?;
     }
     Ok(actors)
 }

@@ -5,8 +5,8 @@ use Rattle.running_world.proofs.opening.actors.Goals as goal
 
 pub loop-preserved : goal.loop-preserved
 loop-preserved g c =
-    let grown = ap length c.in_ok-push.ensures.items ∙ length_push c.loop.actors.items c.idle.result in
-    let own : IsIdle c.idle.result = record { seat = c.idle.ensures.seat; stage = c.idle.ensures.stage; words = c.idle.ensures.words } in (
+    let grown = ap length c.in_ok-push.ensures.items ∙ length_push c.loop.actors.items c.new.result in
+    let own : IsIdle c.new.result = record { seat = c.new.ensures.seat; stage = c.new.ensures.stage; words = c.new.ensures.words } in (
       omega (arith, grown, c.loop.invariant.0),
-      subst AreIdle (sym c.in_ok-push.ensures.items) (AreIdle-push c.loop.actors.items c.idle.result own c.loop.invariant.1),
+      subst AreIdle (sym c.in_ok-push.ensures.items) (AreIdle-push c.loop.actors.items c.new.result own c.loop.invariant.1),
     )
