@@ -1,18 +1,16 @@
 -- A table that was laid out meets its rule: the words lie at their addresses, the gates are free, and each base is in its slot.
-use Rattle.std.proofs.Common.{◌≡◌, ℕ, zero, suc, ◌+◌, ◌-◌, ◌*◌, ◌<◌, ◌≤◌, List, [], ◌∷◌, ◌++◌, Option as Maybe, Some, None, length, get_or, sym, refl, ap, ◌∙◌, subst, arith, length-append}
+use Rattle.std.proofs.Common.{◌≡◌, ℕ, zero, suc, ◌+◌, ◌-◌, ◌*◌, ◌<◌, ◌≤◌, List, [], ◌∷◌, ◌++◌, Some, length, get_or, sym, refl, ap, ◌∙◌, subst, arith, length-append}
 use Rattle.std.specs.Prelude.{map, replicate, slice_get}
 use Rattle.std.proofs.lemmas.List.{length-map, length-replicate, get_or-replicate, get_or_append_left, get_or-append_right}
-use mathlib.Core.Option.{Option, none, some, some-injective, some-ne-none}
+use mathlib.Core.Option.{some, some-injective, some-ne-none}
 use lib.ListN.{get_elem?}
 use Rattle.seq_model.specs.Contents.{Contents}
 use Rattle.seq_model.specs.declared.event.Shape.{Shape}
 use Rattle.word_machine.specs.Actor.{clock_limit}
 use Rattle.word_machine.specs.Cells.{Cell, ClockCell, LockCell, ValueCell, cell}
-use Rattle.replay_log.specs.declared.base.Base.{Base}
 use Rattle.replay_log.specs.Collections.{Suit}
-use Rattle.replay_log.specs.Contents.{Block, HaveStripes}
+use Rattle.replay_log.specs.Contents.{HaveStripes}
 use Rattle.replay_log.proofs.ContentLemmas.{end_above}
-use Rattle.replay_log.specs.Seats.{World}
 use Rattle.world_table.specs.declared.table.Table.{Table as Laid}
 use Rattle.world_table.specs.Openings.{HasShape, IsWithin, blocks_of, world_of}
 use Rattle.world_table.proofs.OpeningLemmas.{as_many}
@@ -20,7 +18,7 @@ use Rattle.world_table.specs.Tables.{HasTable}
 use Rattle.tx_table.specs.declared.view.Opening.{Opening}
 use Rattle.tx_table.specs.Layout.{address, gate_address, IsInside, width}
 use Rattle.tx_table.specs.Opening.{Holds, blocks_at, locations_at, words_at, world_at}
-use Rattle.tx_table.specs.Shown.{View, Slot, Table, first}
+use Rattle.tx_table.specs.Shown.{Slot, Table, first}
 use Rattle.tx_table.proofs.Numbers.{map_at, there}
 use Rattle.tx_table.proofs.Ends.{opening_is, opens_rule}
 
@@ -131,7 +129,8 @@ module _ {V : Type 0} where
   }
 
   -- a table that was laid out for this shape and these contents, as its opening notes them
-  module _ (key : Opening V) (shape : Shape) (s : Contents V) (t : Laid V) (row : List ℕ) (xs : List (Slot V)) (shape_is : key.shape.value ≡ shape)
+  module _ (key : Opening V) (shape : Shape) (s : Contents V) (t : Laid V) (row : List ℕ) (xs : List (Slot V))
+      (shape_is : key.shape.value ≡ shape)
       (state_is : key.state.value ≡ s) (fits : HasShape t (length s.words) (blocks_of shape.stripes s.held))
       (is : row ≡ row_for t.cells.clock (length t.cells.locks.items) t.cells.values.items (length t.gates.items))
       (homes : xs ≡ map Some t.bases.items) where

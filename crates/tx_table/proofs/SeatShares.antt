@@ -1,18 +1,22 @@
 -- A seat that is cut in two, two that become one, and the last one: what the rule of a table says of them.
-use Rattle.std.proofs.Common.{◌≡◌, ℕ, zero, suc, ◌+◌, ◌<◌, ◌≤◌, List, [], ◌∷◌, Option as Maybe, Some, None, length, get_or, set, sym, refl, ap, ◌∙◌, subst, arith}
+use Rattle.std.proofs.Common.{◌≡◌, ℕ, zero, suc, ◌+◌, ◌<◌, ◌≤◌, List, [], ◌∷◌, Some, None, length, get_or, set, sym, refl, ap, ◌∙◌, subst, arith, ◌≢◌, ⊎_elim, length-set}
 use Rattle.std.specs.Prelude.{map}
-use mathlib.Core.Option.{Option, none, some, some-injective, some-ne-none}
+use mathlib.Core.Option.{some, some-injective}
 use lib.ListN.{get_elem?}
 use lib.Seq.{set-get_or}
-use Rattle.atomic_table.specs.Table.{State, Me, Allows, Splits, Joins, Final, Seen, keeps}
-use Rattle.replay_log.specs.declared.base.Base.{Base}
+use Rattle.atomic_table.specs.Table.{Me, Allows, Splits, Joins, Final, Seen, keeps}
+use Rattle.atomic_table.proofs.Lists.{at_set}
+use Rattle.word_machine.specs.Actor.{clock_limit}
+use Rattle.word_machine.specs.Cells.{ClockCell}
 use Rattle.replay_log.specs.Seats.{World}
+use Rattle.replay_log.specs.Worlds.{run}
+use Rattle.replay_log.specs.WorldSerial.{AreUpTo}
 use Rattle.tx_table.specs.declared.view.Opening.{Opening}
 use Rattle.tx_table.specs.Opening.{Holds, blocks_at, locations_at, words_at, world_at}
 use Rattle.tx_table.specs.Turns.{lone}
-use Rattle.tx_table.specs.Shown.{View, Slot, Closes, left_of, right_of, both_of, spent_of}
+use Rattle.tx_table.specs.Shown.{View, Slot, Closes, IsOwn, IsSpent, Shows, total, owed, looking, left_of, right_of, both_of, spent_of}
 use Rattle.tx_table.specs.Seated.{Rests}
-use Rattle.tx_table.proofs.Numbers.{map_at, total_part, inside}
+use Rattle.tx_table.proofs.Numbers.{map_at, tally_set, total_set, total_part, inside}
 use Rattle.tx_table.proofs.Ends.{splits, joins, opening_is, world_closes}
 
 module _ {A : Type 0} where
@@ -36,7 +40,8 @@ module _ {V : Type 0} where
         fewer s h.rule here;
   }
 
-  pub merges : (key : Opening V) (id other : ℕ) (v u : View V) → 0 < v.shares → 0 < u.shares → Rests other (lone other (world_at key) u.turns)
+  pub merges : (key : Opening V) (id other : ℕ) (v u : View V) → 0 < v.shares → 0 < u.shares
+      → Rests other (lone other (world_at key) u.turns)
       → Joins (Holds key) id v other u (both_of v u) (spent_of u)
   merges key id other v u live alive rests s h here apart there = record {
     stripes = h.stripes;
@@ -60,6 +65,56 @@ module _ {V : Type 0} where
         (refl, omega arith),
       )
 
+  -- a load of the clock that is no step of the actor: the seat knows the clock from then on
+  pub looks : (key : Opening V) (slots id : ℕ) (m : Me (Slot V) (View V))
+      → Allows (Holds key) slots id m 0 (λ k. k)
+      (λ found t. (t ≡ (looking m.0 found, m.1)) × (m.0.clock ≤ found) × (found ≤ clock_limit + 64))
+  looks key slots id m s h len here small =
+      let S = h.rule.shows in
+      let o : World V = world_at key in
+      let w : World V = run o h.rule.events in
+      let vs : List (View V) = s.views in
+      let found : ℕ = get_or s.words 0 0 in
+      let word : found ≡ w.boosted.words.clock = S.table.cells ClockCell tt in
+      let v : View V = looking m.0 found in
+      let same : set s.words 0 found ≡ s.words = set-get_or s.words 0 0 in
+      let old = S.clocks id m.0 here in
+      let room = S.room in (
+        v,
+        keeps,
+        tt,
+        record {
+          stripes = h.stripes;
+          suits = h.suits;
+          rule = record {
+            events = h.rule.events;
+            shows = subst (λ (ws : List ℕ). Shows o w record { words = ws; homes = s.homes; views = set vs id v }) (sym same) record {
+              shape = S.shape;
+              table = S.table;
+              clocks = λ j z e. ⊎_elim
+                  (λ (t : (j ≡ id) × (v ≡ z)). let q : found ≡ z.clock = ap (λ (p : View V). p.clock) t.1 in omega arith)
+                  (λ (t : (j ≢ id) × (get_elem? vs j ≡ some z)). S.clocks j z t.1) (at_set vs id j v z e);
+              room = (let t = tally_set (owed o) 0 vs id m.0 v here in
+                  let q : owed o (0 + id) v ≡ owed o (0 + id) m.0 = refl in omega arith);
+              shares = (let t = total_set (λ (z : View V). z.shares) vs id m.0 v here in let a = S.shares in omega arith);
+              own = λ j z e. ⊎_elim
+                  (λ (t : (j ≡ id) × (v ≡ z)). subst (λ (p : ℕ × View V). IsOwn p.0 w (lone p.0 o p.1.turns)) (λ i. (sym t.0 i, t.1 i))
+                  (S.own id m.0 here))
+                  (λ (t : (j ≢ id) × (get_elem? vs j ≡ some z)). S.own j z t.1) (at_set vs id j v z e);
+              fresh = λ a l. (let len = length-set vs id v in S.fresh a (omega arith));
+              spent = λ j z e none. ⊎_elim
+                  (λ (t : (j ≡ id) × (v ≡ z)). let q = S.spent id m.0 here (ap (λ (p : View V). p.shares) t.1 ∙ none) in
+                  subst (λ (p : ℕ × View V). IsSpent o p.0 p.1) (λ i. (sym t.0 i, t.1 i))
+                  (record { receipts = q.receipts; done = q.done; bare = q.bare }))
+                  (λ (t : (j ≢ id) × (get_elem? vs j ≡ some z)). S.spent j z t.1 none) (at_set vs id j v z e);
+              receipts = λ f. (let t = total_set (λ (z : View V). total f z.receipts) vs id m.0 v here in
+                  let a = S.receipts f in omega arith);
+            };
+          };
+        },
+        (refl, omega arith, omega arith),
+      )
+
   pub closes_all : (key : Opening V) (id : ℕ) (v : View V) (ws : List ℕ) (xs : List (Slot V)) → v.shares ≡ 64
       → Rests id (lone id (world_at key) v.turns) → Final (Seen (Holds key) id v) ws xs
       → Closes (words_at key) (blocks_at key) key.state.value v ws (map some xs)
@@ -72,6 +127,7 @@ module _ {V : Type 0} where
         order = c.order;
         same = c.same;
         in_order = c.in_order;
+        numbers = subst (λ (w : List ℕ). AreUpTo (get_or w 0 0) c.order) last.2 c.numbers;
         serial = c.serial;
         values = λ l low. ap (λ (w : List ℕ). get_or w (1 + locations_at key + l) 0) (sym last.2) ∙ c.values l low;
         bases = λ k low. (let b = c.bases k low in (b.0, map_at some xs k (Some b.0) (last.4 k (Some b.0) b.1), b.2));

@@ -2,7 +2,7 @@
 --
 -- The laws of the rule speak of what was asked as a list that stands beside the seat; a seat keeps that list itself. What is due to the
 -- actor in its own world is the same by either, and after a turn nothing is asked, so the actor's own world is what the turn left.
-use Rattle.std.proofs.Common.{◌≡◌, ℕ, ◌+◌, ◌%◌, ◌^◌, ◌<◌, ◌≤◌, Bool, true, false, eqb, List, [], ◌∷◌, ◌++◌, Option as Maybe, Some, None, ◌⊎◌, ⊎_elim, length, sym, refl, ap, ◌∙◌, subst, arith}
+use Rattle.std.proofs.Common.{◌≡◌, ℕ, ◌+◌, ◌%◌, ◌^◌, ◌<◌, ◌≤◌, Bool, true, false, eqb, List, [], ◌∷◌, ◌++◌, Option as Maybe, Some, None, ⊎_elim, length, sym, refl, ap, ◌∙◌, subst, arith}
 use Rattle.std.specs.Prelude.{if◌then◌else◌, MatchOption}
 use prog.Atomic.{either}
 use Rattle.atomic_table.specs.Table.{State, Me, Allows, rest, turned as shifted}
@@ -44,7 +44,8 @@ module _ {V : Type 0} where
       let r = may s rule len here small in (r.0, r.1, r.2, r.3, so _ _ r.4)
 
   -- what an actor's own world is once its seat took a turn and asks nothing
-  acts_after : (o : World V) (a b : ℕ) (v u : View V) (es : List (Event V)) (i : Turn V) (rs : List (ℕ × Record V)) (k : ℕ) → b ≡ a → es ≡ []
+  acts_after : (o : World V) (a b : ℕ) (v u : View V) (es : List (Event V)) (i : Turn V) (rs : List (ℕ × Record V)) (k : ℕ) → b ≡ a
+      → es ≡ []
       → u ≡ acting v i rs k
       → asked_all b (lone b o u.turns) es ≡ (moved a (asked_all a (lone a o v.turns) i.asks) i.found i.base).0
   acts_after o a b v u es i rs k id none is =
@@ -86,7 +87,8 @@ module _ {V : Type 0} where
         r.4,
       )
 
-  module _ (key : Opening V) (slots id : ℕ) (m : Me (Slot V) (View V)) (asks qs : List (Event V)) (are : asks ≡ qs) (live : 0 < m.0.shares) where
+  module _ (key : Opening V) (slots id : ℕ) (m : Me (Slot V) (View V)) (asks qs : List (Event V)) (are : asks ≡ qs)
+      (live : 0 < m.0.shares) where
     abbrev o : World V
     o = world_at key
 
@@ -95,7 +97,8 @@ module _ {V : Type 0} where
     mine = asked_all id (lone id o m.0.turns) qs
 
     -- a word becomes f of what it was, as the actor's next step makes of it
-    goes : (c : Cell) (i : ℕ) (f : ℕ → ℕ) → spot id mine ≡ Word c → ((k : ℕ) → turned id mine k ≡ f k) → IsInside (end_of o.words o.blocks) c
+    goes : (c : Cell) (i : ℕ) (f : ℕ → ℕ) → spot id mine ≡ Word c → ((k : ℕ) → turned id mine k ≡ f k)
+        → IsInside (end_of o.words o.blocks) c
         → i ≡ address (end_of o.words o.blocks) c
         → Allows (Holds key) slots id m i f (λ found t. Told o id asks m.0.clock m found None t.0 × (t.1 ≡ m.1))
     goes c i f at is inner place =
@@ -103,7 +106,8 @@ module _ {V : Type 0} where
         × ((k : ℕ) → turned id (asked_all id (lone id o m.0.turns) asks) k ≡ f k) =
         subst (λ (q : List (Event V)). (spot id (asked_all id (lone id o m.0.turns) q) ≡ Word c)
         × ((k : ℕ) → turned id (asked_all id (lone id o m.0.turns) q) k ≡ f k)) (sym are) (at, is) in
-        subst (λ (j : ℕ). Allows (Holds key) slots id m j f (λ found t. Told o id asks m.0.clock m found None t.0 × (t.1 ≡ m.1))) (sym place)
+        subst (λ (j : ℕ). Allows (Holds key) slots id m j f (λ found t. Told o id asks m.0.clock m found None t.0 × (t.1 ≡ m.1)))
+        (sym place)
         (lifted key slots id m (address (end_of o.words o.blocks) c) f (λ found t. Told o id asks m.0.clock m found None t.0 × (t.1 ≡ m.1))
         (λ stripes. word_allowed o slots id m asks c f live there.0 inner there.1))
 
@@ -211,7 +215,8 @@ module _ {V : Type 0} where
     pub tries : Tries (alone qs) id k → Allows (Holds key) slots id m i (λ n. either (eqb n 0) 1 n) (Took start id asks m k)
     tries due = subst (λ (j : ℕ). Allows (Holds key) slots id m j (λ n. either (eqb n 0) 1 n) (Took start id asks m k)) (sym place)
         (lifted key slots id m (gate_address (locations_at key) k) (λ n. either (eqb n 0) 1 n) (Took start id asks m k)
-        (λ stripes. gates.take (blocks_at key) key.shape.value.clock key.state.value.words key.state.value.held stripes slots id m asks k live
+        (λ stripes. gates.take (blocks_at key) key.shape.value.clock key.state.value.words key.state.value.held stripes slots id m asks k
+        live
         low (subst (λ (q : List (Event V)). Tries (alone q) id k) (sym are) due)))
 
     pub puts : (b : Base V) → m.1 ≡ (k, Some b) ∷ rest m.1 → IsHome start id (alone qs) k b

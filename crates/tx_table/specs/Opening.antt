@@ -1,5 +1,5 @@
 -- The world that a table opened with.
-use Rattle.std.specs.Prelude.{ℕ, zero, suc, List, [], ◌∷◌, length}
+use Rattle.std.specs.Prelude.{ℕ, List, length}
 use Rattle.atomic_table.specs.Table.{State}
 use Rattle.replay_log.specs.Collections.{Suit}
 use Rattle.replay_log.specs.Contents.{Block, HaveStripes, end_of}

@@ -1,24 +1,24 @@
 -- A seat with what its actor has asked since its last step, and what a step makes of it.
-use Rattle.std.specs.Prelude.{◌≡◌, ◌⊎◌, ℕ, ◌+◌, ◌<◌, List, [], ◌∷◌, ◌++◌, length, Option, Some, None, false, ◌==◌, if◌then◌else◌}
+use Rattle.std.specs.Prelude.{◌≡◌, ◌⊎◌, ℕ, ◌+◌, List, [], ◌∷◌, ◌++◌, Option, Some, None, false, ◌==◌, if◌then◌else◌}
 use Rattle.word_machine.specs.Cells.{Cell, ClockCell, becomes}
-use Rattle.word_machine.specs.Actor.{clock_limit}
 use Rattle.seq_model.specs.declared.event.Event.{Event}
+use Rattle.seq_model.specs.Contents.{Contents}
 use Rattle.seq_model.specs.declared.event.Event.TheVariants.{Step}
 use Rattle.collection_machine.specs.Boosted.{is_actor}
 use Rattle.replay_log.specs.declared.base.Base.{Base}
-use Rattle.replay_log.specs.Contents.{Block, block_of, end_of}
+use Rattle.replay_log.specs.Contents.{Block, block_of}
 use Rattle.replay_log.specs.Seats.{World}
 use Rattle.replay_log.specs.Worlds.{happens}
 use Rattle.replay_log.specs.WorldTraces.{is_half_done}
 use Rattle.atomic_steps.specs.Bases.{IsBaseOf, ShowsBase, IsFolded, log_changes, log_locations}
-use Rattle.atomic_steps.specs.Gates.{Tries, Puts, GoesHome}
+use Rattle.atomic_steps.specs.Gates.{Puts, GoesHome}
 use Rattle.atomic_steps.specs.Spots.{Word, Gate, deed_of}
 use Rattle.atomic_steps.specs.Steps.{ready_at}
 use Rattle.tx_table.specs.declared.seat.Asked.{Asked, Nothing, More'}
 use Rattle.tx_table.specs.declared.seat.Seat.{Seat}
-use Rattle.tx_table.specs.Layout.{address, IsInside}
-use Rattle.tx_table.specs.Opening.{world_at}
-use Rattle.tx_table.specs.Turns.{Turn, asked_all, lone, spot, stage_of, found_at, moved, ends}
+use Rattle.tx_table.specs.declared.table.TxTable.{TxTable}
+use Rattle.tx_table.specs.Opening.{blocks_at, locations_at, words_at, world_at}
+use Rattle.tx_table.specs.Turns.{asked_all, lone, spot, stage_of, found_at, moved, ends}
 use Rattle.tx_table.specs.Shown.{View, Slot, IsBaseAt, acting}
 
 module _ {V : Type 0} where
@@ -40,6 +40,30 @@ module _ {V : Type 0} where
   -- the world that its actor has for itself, without what it has asked since its last step
   abbrev pub kept : World V → Seat V → World V
   kept o s = lone s.place.id o (view s).turns
+
+  -- the actor of a seat
+  abbrev pub actor : Seat V → ℕ
+  actor s = s.place.id
+
+  -- the seat is one of the table
+  abbrev pub Owns : TxTable V → Seat V → Type 0
+  Owns t s = s.place.table_id ≡ t.whole.shared.table_id
+
+  -- the world that a table opened with, its shape and its contents
+  abbrev pub opening_of : TxTable V → World V
+  opening_of t = world_at t.whole.shared.key
+
+  abbrev pub blocks_in : TxTable V → List Block
+  blocks_in t = blocks_at t.whole.shared.key
+
+  abbrev pub words_in : TxTable V → ℕ
+  words_in t = words_at t.whole.shared.key
+
+  abbrev pub locations_in : TxTable V → ℕ
+  locations_in t = locations_at t.whole.shared.key
+
+  abbrev pub contents_in : TxTable V → Contents V
+  contents_in t = t.whole.shared.key.state.value
 
   abbrev pub IsSameSeat : Seat V → Seat V → Type 0
   IsSameSeat s t = (t.place.table_id ≡ s.place.table_id) × (t.place.id ≡ s.place.id) × (t.last ≡ s.last)
@@ -77,7 +101,8 @@ module _ {V : Type 0} where
     pub there : block_of o.blocks k ≡ Some block
     pub sort : IsBaseOf block before
     pub shown : ShowsBase o.words o.blocks w k before
-    pub folded : IsFolded (log_changes k block (w.boosted.shadows a).outcomes) (log_locations k block (w.boosted.shadows a).outcomes) before base
+    pub folded : IsFolded (log_changes k block (w.boosted.shadows a).outcomes)
+        (log_locations k block (w.boosted.shadows a).outcomes) before base
 
   -- the base goes home as the actor found it, or with its log folded in
   abbrev pub IsHome : World V → (a : ℕ) → World V → (k : ℕ) → Base V → Type 0

@@ -1,5 +1,5 @@
 //! What a seat says of itself, and requests, which reach the table with the next step.
-ghost use Rattle.std.specs.Prelude.{◌≡◌, ◌≤◌, ◌++◌, ◌∷◌, []};
+ghost use Rattle.std.specs.Prelude.{◌≡◌, ◌≤◌, ◌++◌, ◌∷◌, [], max};
 ghost use Rattle.tx_table.specs.Seated.{IsSameSeat, list_of, view};
 
 use crate::seat::{Asked, Seat};
@@ -20,6 +20,16 @@ impl<V> Seat<V> {
         ensures known { result ≤ (view self.now).clock }
     {
         self.last
+    }
+
+    /// The seat committed this number, or learnt it; it is no higher than the clock that the seat knows.
+    pub fn note(&mut self, number: u64)
+        requires { number ≤ (view self.old).clock }
+        ensures last { self.new.last ≡ max self.old.last number }
+        ensures same { self.new.place ≡ self.old.place }
+        ensures asked { self.new.asked ≡ self.old.asked }
+    {
+        self.last = self.last.max(number);
     }
 
     /// The actor of this seat asks, or wants memory. The next step takes it in.

@@ -4,10 +4,9 @@ ghost use Rattle.std.specs.Slots.{IsFull, slots_items, slots_len};
 ghost use mathlib.Core.Option.{some};
 ghost use lib.ListN.{get_elem?};
 ghost use Rattle.tx_table.specs.Layout.{width};
-ghost use Rattle.tx_table.specs.Opening.{blocks_at, locations_at, words_at, world_at};
 ghost use Rattle.tx_table.specs.Shown.{Closes};
 ghost use Rattle.tx_table.specs.Ends.{homes_of, row_of};
-ghost use Rattle.tx_table.specs.Seated.{Rests, kept, view};
+ghost use Rattle.tx_table.specs.Seated.{Owns, Rests, actor, blocks_in, contents_in, kept, locations_in, opening_of, view, words_in};
 
 use crate::closed::Closed;
 use crate::seat::Seat;
@@ -19,13 +18,13 @@ impl<V: Value> TxTable<V> {
     /// What the table holds, once every seat was joined into this one. No commit of it is half done, and it holds no gate. It takes no
     /// memory.
     pub fn close(self, seat: Seat<V>) -> Closed<V>
-        requires own { seat.place.table_id ≡ self.whole.shared.table_id }
+        requires own { Owns self seat }
         requires all { (view seat).shares ≡ 64 }
-        requires rests { Rests seat.place.id (kept (world_at self.whole.shared.key) seat) }
-        ensures words { result.words ≡ words_at self.whole.shared.key }
-        ensures locations { result.locations ≡ locations_at self.whole.shared.key }
-        ensures collections { length (homes_of result) ≡ length (blocks_at self.whole.shared.key) }
-        ensures closes { Closes (words_at self.whole.shared.key) (blocks_at self.whole.shared.key) self.whole.shared.key.state.value
+        requires rests { Rests (actor seat) (kept (opening_of self) seat) }
+        ensures words { result.words ≡ words_in self }
+        ensures locations { result.locations ≡ locations_in self }
+        ensures collections { length (homes_of result) ≡ length (blocks_in self) }
+        ensures closes { Closes (words_in self) (blocks_in self) (contents_in self)
             (view seat) (row_of result) (map some (homes_of result)) }
     {
         let TxTable {

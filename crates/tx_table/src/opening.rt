@@ -1,9 +1,9 @@
 //! Opening a table.
 ghost use Rattle.std.specs.Prelude.{◌≡◌, ◌≢◌, ◌≤◌, ◌++◌, ◌∷◌, [], IfErr, IfOk, IsOk, Some, length, map, replicate};
 ghost use Rattle.seq_model.specs.Refusals.{IsNoSuchOrTooLong};
-ghost use Rattle.world_table.specs.Openings.{IsWithin};
+ghost use Rattle.world_table.specs.Openings.{IsWithin, blocks_of, world_of};
 ghost use Rattle.tx_table.specs.Shown.{first as first_view};
-ghost use Rattle.tx_table.specs.Seated.{list_of};
+ghost use Rattle.tx_table.specs.Seated.{Owns, blocks_in, contents_in, list_of, opening_of};
 
 use crate::rule::Whole;
 use crate::seat::{Asked, Seat};
@@ -52,9 +52,10 @@ impl<V: Value> TxTable<V> {
         shape: &Shape,
         state: State<V>,
     ) -> Result<(TxTable<V>, Seat<V>), Refusal>
-        ensures shape { IfOk result (λ opened. opened.0.whole.shared.key.shape.value ≡ shape.now) }
-        ensures state { IfOk result (λ opened. opened.0.whole.shared.key.state.value ≡ state) }
-        ensures owns { IfOk result (λ opened. opened.1.place.table_id ≡ opened.0.whole.shared.table_id) }
+        ensures opens { IfOk result (λ opened. opening_of opened.0 ≡ world_of shape.now.stripes shape.now.clock state) }
+        ensures blocks { IfOk result (λ opened. blocks_in opened.0 ≡ blocks_of shape.now.stripes state.held) }
+        ensures contents { IfOk result (λ opened. contents_in opened.0 ≡ state) }
+        ensures owns { IfOk result (λ opened. Owns opened.0 opened.1) }
         ensures seat { IfOk result (λ opened. opened.1.place.me ≡ (first_view, [])) }
         ensures new { IfOk result (λ opened. (list_of opened.1.asked ≡ []) × (opened.1.last ≡ 0)) }
         ensures refused { IfErr result (λ refusal. IsNoSuchOrTooLong refusal (length shape.now.stripes ≢ length state.held)

@@ -1,4 +1,4 @@
-use Rattle.std.proofs.Common.{None, refl, arith}
+use Rattle.std.proofs.Common.{None, refl}
 use Rattle.tx_table.specs.Opening.{world_at}
 use Rattle.tx_table.specs.Seated.{list_of, out}
 use Rattle.tx_table.proofs.SeatSteps.{loads_clock, still, takes}
@@ -24,5 +24,6 @@ pub returns-clause-step : goal.returns-clause-step
 returns-clause-step g c =
     let s = c.args.seat.now in
     let e = c.load-found.ensures in
-    takes (world_at c.args.board.now.key) s _ g.asks c.load-found.result c.load-found.result None (out s) c.requires.1.0 (e.0, e.1, refl) e.2.0
+    takes (world_at c.args.board.now.key) s _ g.asks c.load-found.result c.load-found.result None (out s) c.requires.1.0
+    (e.0, e.1, refl) e.2.0
     e.2.1 refl

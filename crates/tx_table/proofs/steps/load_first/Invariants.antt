@@ -1,4 +1,4 @@
-use Rattle.std.proofs.Common.{◌≡◌, ◌+◌, ◌≤◌, ℕ, None}
+use Rattle.std.proofs.Common.{◌≡◌, ◌+◌, ◌≤◌, None}
 use Rattle.word_machine.specs.Actor.{clock_limit}
 use Rattle.tx_table.specs.Opening.{world_at}
 use Rattle.tx_table.specs.Shown.{Told}

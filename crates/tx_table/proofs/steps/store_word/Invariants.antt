@@ -1,5 +1,4 @@
-use Rattle.std.proofs.Common.{◌≡◌, ◌+◌, ◌≤◌, ℕ, None}
-use Rattle.word_machine.specs.Actor.{clock_limit}
+use Rattle.std.proofs.Common.{◌≡◌, ℕ, None}
 use Rattle.tx_table.specs.Opening.{world_at}
 use Rattle.tx_table.specs.Shown.{Told}
 use Rattle.tx_table.proofs.steps.store_word.Given as goal

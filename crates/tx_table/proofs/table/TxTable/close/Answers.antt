@@ -1,4 +1,4 @@
-use Rattle.std.proofs.Common.{◌≡◌, ◌≤◌, ◌∙◌, ℕ, ap, arith, length, sym}
+use Rattle.std.proofs.Common.{◌≡◌, ◌∙◌, ℕ, ap, arith, length, sym}
 use Rattle.std.specs.Slots.{slots_items}
 use Rattle.replay_log.proofs.ContentLemmas.{end_above}
 use Rattle.tx_table.specs.Layout.{width}
@@ -23,7 +23,8 @@ invariant_of-result g c =
       wide = counts.0 ∙ (table.wide ∙ ap (λ (m : ℕ). width table.locations m) (sym long));
       inside = (omega arith, table.few.0);
       home = all_home key s.place.me.0 (slots_items r.words) (slots_items r.slots)
-          (closes_all key s.place.id s.place.me.0 (slots_items r.words) (slots_items r.slots) c.requires.all c.requires.rests values.2) long;
+          (closes_all key s.place.id s.place.me.0 (slots_items r.words) (slots_items r.slots) c.requires.all c.requires.rests
+          values.2) long;
     }
 
 pub returns-clause-closes : goal.returns-clause-closes

@@ -1,4 +1,5 @@
-use Rattle.std.proofs.Common.{◌≡◌, ◌≤◌, ◌<◌, ◌++◌, ◌∷◌, ◌∙◌, ℕ, ap, arith, length, refl, sym}
+use Rattle.std.proofs.Common.{◌≡◌, ◌∙◌, ℕ, ap, arith, length, refl, sym}
+use Rattle.world_table.specs.Openings.{blocks_of, world_of}
 use Rattle.tx_table.specs.Layout.{width}
 use Rattle.tx_table.specs.Opening.{blocks_at}
 use Rattle.tx_table.proofs.LaidOut.{few, few_words, locations_are, meets, row_for, slots_are, wide_as, words_are}
@@ -28,7 +29,8 @@ invariant_of-table g c =
     let shape_is = ap (λ k. k.shape.value) n.5 ∙ c.of.ensures in
     let state_is = ap (λ k. k.state.value) n.5 ∙ c.of-2.ensures in
     let row_is = c.as_slice.ensures.value ∙ (c.in_ok-row.ensures
-    ∙ ap (λ (m : ℕ). row_for laid.cells.clock (length laid.cells.locks.items) laid.cells.values.items m) (c.len.ensures ∙ laid.gates.ok.0)) in
+    ∙ ap (λ (m : ℕ). row_for laid.cells.clock (length laid.cells.locks.items) laid.cells.values.items m)
+    (c.len.ensures ∙ laid.gates.ok.0)) in
     let sh = c.args.shape.now in
     let s = c.args.state in
     let row = c.as_slice.result.now in
@@ -44,3 +46,20 @@ invariant_of-table g c =
       slots = n.1 ∙ slots_are key sh s laid row xs shape_is state_is e.shape row_is homes;
       few = (let a = small.0 in omega arith, small.1);
     }
+
+pub returns-clause-opens : goal.returns-clause-opens
+returns-clause-opens g c =
+    let n = c.in-Ok.ensures.ok in
+    let shape_is = ap (λ k. k.shape.value) n.5 ∙ c.of.ensures in
+    let state_is = ap (λ k. k.state.value) n.5 ∙ c.of-2.ensures in
+    λ i. world_of (shape_is i).stripes (shape_is i).clock (state_is i)
+
+pub returns-clause-blocks : goal.returns-clause-blocks
+returns-clause-blocks g c =
+    let n = c.in-Ok.ensures.ok in
+    let shape_is = ap (λ k. k.shape.value) n.5 ∙ c.of.ensures in
+    let state_is = ap (λ k. k.state.value) n.5 ∙ c.of-2.ensures in
+    λ i. blocks_of (shape_is i).stripes (state_is i).held
+
+pub returns-clause-contents : goal.returns-clause-contents
+returns-clause-contents g c = ap (λ k. k.state.value) c.in-Ok.ensures.ok.5 ∙ c.of-2.ensures
