@@ -4,7 +4,8 @@ use Rattle.std.proofs.lemmas.Bool.Decides.{nat_tests}
 use Rattle.std.specs.Ordering.{nat_cmp}
 use Rattle.std.specs.FinMap.{FinMap, insert}
 use Rattle.seq_model.specs.Counts.{with_copies}
-use Rattle.step_script.specs.Tokens.{IsNumber, IsPair, texts}
+use Rattle.step_script.specs.Tokens.{IsPair}
+use Rattle.text_lines.specs.Tokens.{IsNumber, texts}
 use Rattle.step_script.specs.Lines.{AreEntries, AreNumbers, IsAbove}
 
 left_at : (ts : List (Bor (List ℕ))) (i : ℕ) (d : Bor (List ℕ)) → i < length ts → texts (drop i ts) ≡ (slice_index_or ts i d).now ∷ texts (drop (suc i) ts)

@@ -4,7 +4,7 @@ use Rattle.std.proofs.lemmas.Fmt.{decimal_injective}
 use Rattle.step_script.specs.declared.script.Line.{Line}
 use Rattle.step_script.specs.declared.script.Line.TheVariants.{Ask, Do, Steps, Starve, Alternate}
 use Rattle.step_script.specs.Events.{IsActor, IsAlternation, IsEvent, IsEventOf}
-use Rattle.step_script.proofs.NumberLemmas.{lead_digit}
+use Rattle.text_lines.proofs.NumberLemmas.{lead_digit}
 
 small : (token : List ℕ) (actor : ℕ) → IsActor token actor → actor < 2 ^ 64
 small token actor is = omega (arith, is.1)

@@ -1,5 +1,4 @@
-pub mod NumberLemmas
+pub mod PairLemmas
 pub mod EventLemmas
 pub mod EntryLemmas
 pub mod LineLemmas
-pub mod ScriptLemmas

@@ -8,10 +8,10 @@ use Rattle.step_script.specs.declared.script.Line.TheVariants.{Ask, Do, Steps, S
 use Rattle.step_script.specs.declared.script.Collection.{Collection}
 use Rattle.step_script.specs.declared.line.ScriptLine.{ScriptLine}
 use Rattle.step_script.specs.declared.line.ScriptLine.TheVariants.{Words, Clock, Holds, Event}
-use Rattle.step_script.specs.Tokens.{texts}
+use Rattle.text_lines.specs.Tokens.{texts}
 use Rattle.step_script.specs.Events.{IsActor, IsAlternation, IsEvent}
 use Rattle.step_script.specs.Lines.{IsClock, IsCollection, IsHeld, IsKind, IsLine, IsWords, AreNumbers}
-use Rattle.step_script.proofs.NumberLemmas.{first_byte}
+use Rattle.text_lines.proofs.NumberLemmas.{first_byte}
 use lib.ListN.{get_or}
 
 -- a word that is no number and not `alt` begins no event

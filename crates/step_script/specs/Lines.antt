@@ -7,7 +7,8 @@ use Rattle.seq_model.specs.declared.held.Held.TheVariants.{Map, Bag, Pq, Queue}
 use Rattle.step_script.specs.declared.script.Collection.{Collection}
 use Rattle.step_script.specs.declared.line.ScriptLine.{ScriptLine}
 use Rattle.step_script.specs.declared.line.ScriptLine.TheVariants as line
-use Rattle.step_script.specs.Tokens.{IsNumber, IsPair, narrowed}
+use Rattle.step_script.specs.Tokens.{IsPair, narrowed}
+use Rattle.text_lines.specs.Tokens.{IsNumber}
 use Rattle.step_script.specs.Events.{IsEvent}
 
 abbrev pub AreNumbers : List (List ℕ) → List ℕ → Type 0

@@ -1,6 +1,5 @@
 -- The grammar of whole scripts: lines, each ended by a line feed, of tokens with one space between.
-use Rattle.std.specs.Prelude.{◌≡◌, ◌≢◌, ℕ, zero, suc, List, [], ◌∷◌, ◌++◌, Option, Some, None, ◌==◌, ⊤}
-use Rattle.std.specs.List.{slice_split}
+use Rattle.std.specs.Prelude.{◌≡◌, ℕ, List, [], ◌∷◌, ◌++◌, Option, Some, None, ⊤}
 use Rattle.std.specs.Str.{IsUtf8}
 use Rattle.seq_model.specs.declared.refusal.Refusal.{Refusal}
 use Rattle.seq_model.specs.declared.refusal.Refusal.TheVariants.{BadText, OutOfMemory}
@@ -10,13 +9,8 @@ use Rattle.step_script.specs.declared.line.ScriptLine.TheVariants as line
 use Rattle.step_script.specs.declared.parse.Part.{Part}
 use Rattle.step_script.specs.declared.parse.Part.TheVariants as part
 use Rattle.step_script.specs.Lines.{IsLine}
-
--- what stands between the line feeds of a text, and between the spaces of a line
-abbrev pub pieces : List ℕ → List (List ℕ)
-pieces text = slice_split (λ byte. byte == 10) text
-
-abbrev pub tokens : List ℕ → List (List ℕ)
-tokens line = slice_split (λ byte. byte == 32) line
+use Rattle.text_lines.specs.Cuts.{pieces, tokens}
+use Rattle.text_lines.specs.Readings.{IsBad, Reads}
 
 -- The parts of a script come in their order: where a line may stand, the first part that the next line may belong
 -- to. Words and clock come once.
@@ -46,27 +40,12 @@ pub record IsNext (at : Part) (bytes : List ℕ) (read : ScriptLine) (behind : P
   pub spelled : IsLine (tokens bytes) read
   pub in_order : part_behind at read ≡ Some behind
 
--- reading on from a script, line after line, comes to the whole; nothing stands behind the last line feed
-abbrev pub Reads : Part → Script → List (List ℕ) → Script → Type 0
-Reads at script [] whole = ⊥
-Reads at script (last ∷ []) whole = (last ≡ []) × (whole ≡ script)
-Reads at script (bytes ∷ next ∷ more) whole =
-    (read : ScriptLine) × (behind : Part) × IsNext at bytes read behind × Reads behind (with_line script read) (next ∷ more) whole
-
 abbrev pub IsScriptText : List ℕ → Script → Type 0
-IsScriptText text script = Reads part.Words nothing (pieces text) script
+IsScriptText text script = Reads IsNext with_line part.Words nothing (pieces text) script
 
--- the line with this number, counted from 1, is the first that is no line or may not stand where it does, or that
--- ends without a line feed
-abbrev pub IsBad : Part → List (List ℕ) → ℕ → Type 0
-IsBad at [] n = ⊥
-IsBad at (last ∷ []) n = (n ≡ 1) × (last ≢ [])
-IsBad at (bytes ∷ next ∷ more) zero = ⊥
-IsBad at (bytes ∷ next ∷ more) (suc zero) = (read : ScriptLine) (behind : Part) → IsNext at bytes read behind → ⊥
-IsBad at (bytes ∷ next ∷ more) (suc (suc n)) = (read : ScriptLine) × (behind : Part) × IsNext at bytes read behind × IsBad behind (next ∷ more) (suc n)
-
+-- the line with this number, counted from 1, is the first that is wrong
 abbrev pub IsBadLine : List ℕ → ℕ → Type 0
-IsBadLine text n = IsBad part.Words (pieces text) n
+IsBadLine text n = IsBad IsNext part.Words (pieces text) n
 
 -- why a text is not read: a line is outside the grammar, or a growth was refused
 abbrev pub IsUnreadable : List ℕ → Refusal → Type 0

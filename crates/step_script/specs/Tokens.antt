@@ -1,15 +1,6 @@
--- Numbers as the tokens of a text.
-use Rattle.std.specs.Prelude.{◌≡◌, ℕ, ◌<◌, ◌-◌, ◌^◌, min, List, ◌++◌, codes, map}
-use Rattle.std.proofs.Common.{Bor}
+-- Pairs of numbers as the tokens of a text, and numbers of 32 bits.
+use Rattle.std.specs.Prelude.{◌≡◌, ℕ, ◌<◌, ◌-◌, ◌^◌, min, List, ◌++◌, codes}
 use Rattle.std.specs.Fmt.{decimal}
-
--- the tokens that are borrowed
-abbrev pub texts : List (Bor (List ℕ)) → List (List ℕ)
-texts tokens = map (λ token. token.now) tokens
-
--- decimal, within 64 bits, with no leading zero
-abbrev pub IsNumber : List ℕ → ℕ → Type 0
-IsNumber token n = (n < 2 ^ 64) × (token ≡ decimal n)
 
 -- two numbers with a colon between
 abbrev pub IsPair : List ℕ → ℕ × ℕ → Type 0

@@ -3,10 +3,10 @@ ghost use Rattle.std.specs.Prelude.{◌≡◌, ℕ, IfSome, Some, map, codes, �
 ghost use Rattle.step_script.specs.declared.script.Line.{Line};
 ghost use Rattle.step_script.specs.Events.{IsActor, IsAlternation, IsEvent, IsEventOf};
 
-use crate::number::number;
 use crate::request::read_request;
 use crate::script::{Line, STEP_LIMIT};
 use seq_model::ACTOR_LIMIT;
+use text_lines::number;
 
 /// The event that these tokens spell.
 #[tactic(auto, using(crate::proofs::EventLemmas::actor_event))]

@@ -5,14 +5,15 @@ ghost use Rattle.std.specs.FinMap as map;
 ghost use Rattle.seq_model.specs.declared.held.Held.{Held};
 ghost use Rattle.step_script.specs.declared.line.ScriptLine.{ScriptLine};
 ghost use Rattle.step_script.specs.declared.script.Collection.{Collection};
-ghost use Rattle.step_script.specs.Tokens.{texts};
+ghost use Rattle.text_lines.specs.Tokens.{texts};
 ghost use Rattle.step_script.specs.Lines.{AreNumbers, IsAbove, IsClock, IsCollection, IsHeld, IsKind, IsLine, IsMap, IsMultiset, IsWords};
 
 use crate::event::read_event;
-use crate::number::{clamped, number, pair};
+use crate::number::{clamped, pair};
 use crate::script::{Collection, Line};
 use seq_model::{Counts, Entries, Held, Items, Memory, QueueItems};
 use std::alloc::Global;
+use text_lines::number;
 
 /// One line of a script.
 #[derive(Drop)]

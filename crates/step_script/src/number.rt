@@ -1,21 +1,8 @@
-//! Decimal numbers.
+//! Pairs of numbers, and numbers of 32 bits.
 ghost use Rattle.std.specs.Prelude.{◌≡◌, ℕ, IfSome, Some};
-ghost use Rattle.step_script.specs.Tokens.{IsNumber, IsPair, narrowed};
+ghost use Rattle.step_script.specs.Tokens.{IsPair, narrowed};
 
-/// The number of a token: decimal, within `u64`, with no sign and no leading zero but that of `0` itself.
-#[tactic(auto, using(crate::proofs::NumberLemmas::parsed, crate::proofs::NumberLemmas::lead_digit, crate::proofs::NumberLemmas::parses))]
-pub fn number(token: &str) -> Option<u64>
-    ensures found { IfSome result (IsNumber token.now) }
-    ensures only { (n : ℕ) → IsNumber token.now n → result ≡ Some n }
-{
-    if token == "0" {
-        return Some(0);
-    }
-    match token.as_bytes() {
-        [b'1'..=b'9', ..] => token.parse().ok(),
-        _ => None,
-    }
-}
+use text_lines::number;
 
 /// Two numbers with a colon between.
 pub fn pair(token: &str) -> Option<(u64, u64)>

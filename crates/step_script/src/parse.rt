@@ -1,16 +1,16 @@
 //! Reads a script.
-ghost use Rattle.std.specs.Prelude.{◌≡◌, ◌<◌, ◌∷◌, [], IfOk, IfErr, IfSome, IfNone, OnOk, Some, MatchResult, length};
+ghost use Rattle.std.specs.Prelude.{◌≡◌, IfOk, IfErr, IfSome, OnOk, Some, MatchResult};
 ghost use Rattle.seq_model.specs.declared.refusal.Refusal.TheVariants.{OutOfMemory};
 ghost use Rattle.step_script.specs.declared.script.Script.{Script};
 ghost use Rattle.step_script.specs.declared.line.ScriptLine.{ScriptLine};
 ghost use Rattle.step_script.specs.declared.parse.Part.{Part};
-ghost use Rattle.step_script.specs.Tokens.{texts};
-ghost use Rattle.step_script.specs.Scripts.{IsNext, IsScriptText, IsUnreadable, nothing, part_behind, pieces, tokens, with_line};
+ghost use Rattle.step_script.specs.Scripts.{IsNext, IsScriptText, IsUnreadable, nothing, part_behind, with_line};
 
 use crate::line::{ScriptLine, read_line};
 use crate::script::Script;
 use seq_model::{Items, Memory, Refusal};
-use std::alloc::{AllocError, Global};
+use std::alloc::Global;
+use text_lines::{first_line, tokens_of};
 
 /// The parts of a script, in their order.
 #[derive(Clone, Copy)]
@@ -46,17 +46,6 @@ pub fn parse_steps(alloc: Global, text: &[u8]) -> Result<Script, Refusal>
     Ok(script)
 }
 
-// The first line, and what stands behind its line feed.
-fn first_line(text: &[u8]) -> Option<(&[u8], &[u8])>
-    ensures some { IfSome result (λ cut. pieces text.now ≡ cut.0.now ∷ pieces cut.1.now) }
-    ensures shorter { IfSome result (λ cut. length cut.1.now < length text.now) }
-    ensures none { IfNone result (pieces text.now ≡ text.now ∷ []) }
-{
-    let end = text.iter().position(|byte| *byte == b'\n')?;
-    let (line, behind) = text.split_at(end);
-    Some((line, &behind[1..]))
-}
-
 // The line that these bytes are, where it may stand here, and the part behind it.
 fn read_next(alloc: Global, at: Part, bytes: &[u8]) -> Result<Option<(ScriptLine, Part)>, Memory>
     ensures found { IfOk result (λ read. IfSome read (λ r. IsNext at bytes.now r.0 r.1)) }
@@ -73,12 +62,6 @@ fn read_next(alloc: Global, at: Part, bytes: &[u8]) -> Result<Option<(ScriptLine
         Some(behind) => Ok(Some((line, behind))),
         None => Ok(None),
     }
-}
-
-fn tokens_of(alloc: Global, line: &str) -> Result<Vec<&str>, AllocError>
-    ensures { IfOk result (λ read. texts read.items ≡ tokens line.now) }
-{
-    line.split(' ').collect(alloc)
 }
 
 fn part_behind(at: Part, line: &ScriptLine) -> Option<Part>

@@ -4,11 +4,13 @@ ghost use Rattle.std.specs.Fmt.{decimal};
 ghost use Rattle.seq_model.specs.declared.call.Op.{Op};
 ghost use Rattle.seq_model.specs.declared.event.Request.{Request};
 ghost use Rattle.seq_model.specs.declared.event.Request.TheVariants as request;
-ghost use Rattle.step_script.specs.Tokens.{IsNumber, narrowed};
+ghost use Rattle.step_script.specs.Tokens.{narrowed};
+ghost use Rattle.text_lines.specs.Tokens.{IsNumber};
 ghost use Rattle.step_script.specs.Requests.{Fits, IsRequest, call_tokens};
 
-use crate::number::{clamped, number};
+use crate::number::clamped;
 use seq_model::{Call, Op, Request};
+use text_lines::number;
 
 /// The request that these tokens spell.
 pub fn read_request(tokens: &[&str]) -> Option<Request<u64>>

@@ -1,27 +1,35 @@
 -- A call that is accepted: its copy has one outcome more and the pieces that it had, and the world is the one in which the call is
--- replied, by the law on acceptances.
+-- replied, by the law on acceptances. Where its locations are judged, each answer of the judging is what the definitions come to
+-- (`by_judged`); the location that is read next leaves the world's outcome in its stage (`reads_by`).
 use Rattle.std.proofs.Common.{◌≡◌, ◌<◌, ℕ, true, length, List, [], Option, Some, None, get_or, refl, sym, ap, subst, ◌∙◌}
 use Rattle.std.proofs.Math.ListN.{set}
 use Rattle.std.proofs.lemmas.Option.{slice_get_read}
-use Rattle.word_machine.specs.Actor.{Actor}
+use Rattle.tx_sets.specs.Entries.{Entries, lookup}
+use Rattle.word_machine.specs.Actor.{Actor, Open as AtRest}
 use Rattle.word_machine.proofs.Sets.{put-same}
+use Rattle.seq_model.specs.declared.event.Notice.TheVariants.{Quiet}
 use Rattle.conflict.specs.declared.outcome.Outcome.{Outcome}
 use Rattle.collection_machine.specs.Boosted.{Accept}
 use Rattle.replay_log.specs.Contents.{Answered, content}
 use Rattle.replay_log.specs.Guards.{Allows}
 use Rattle.replay_log.specs.Pieces.{Piece}
-use Rattle.replay_log.specs.Worlds.{World, Seat, actor_of, call_of, outcome_at, reply_of, with_call}
+use Rattle.replay_log.specs.Worlds.{World, Seat, Stage, Loading, actor_of, at_stage, call_of, outcome_at, reply_of, with_call}
 use Rattle.tx_actor.specs.declared.actor.CopyOf.{CopyOf}
 use Rattle.tx_actor.specs.declared.copies.Copied.{Copied}
-use Rattle.tx_actor.specs.declared.judged.Judged.TheVariants.{All}
+use Rattle.tx_actor.specs.declared.judged.Judged.{Judged}
+use Rattle.tx_actor.specs.declared.judged.Judged.TheVariants.{All, Next}
+use Rattle.tx_actor.specs.declared.actor.Told.{Told}
+use Rattle.tx_actor.specs.declared.actor.TxActor.{TxActor}
+use Rattle.tx_actor.specs.Shows.{actor_after}
 use Rattle.tx_actor.specs.Accepts.{written}
 use Rattle.tx_actor.specs.Answers.{IsAcceptedAt}
 use Rattle.tx_actor.specs.Copies.{IsAccepted, holds_call}
 use Rattle.tx_actor.specs.Judged.{comes_to}
-use Rattle.tx_actor.specs.Running.{copy_of, has_piece}
+use Rattle.tx_actor.specs.Running.{Runs, copy_of, has_piece, notice_of}
 use Rattle.tx_actor.proofs.AcceptsLemmas.{accepts}
 use Rattle.tx_actor.proofs.KeptLemmas.{accepted_pieces, same_pieces}
 use Rattle.tx_actor.proofs.RunsLemmas.{Seats}
+use Rattle.tx_actor.proofs.ShowsLemmas.{reads_next}
 
 module _ {V : Type 0} where
   pub accepted_at : (i : ℕ) (p : Option (Outcome V)) (o : Outcome V) (before : List (CopyOf V)) (c : CopyOf V) (e : Copied V)
@@ -61,3 +69,38 @@ module _ {V : Type 0} where
             ∙ sym e),
         k,
       )
+
+  -- what was judged is what the call comes to
+  pub by_judged : (u : TxActor V) (t : Told V) (a : ℕ) (w : World V) (x : Seat V) (o : Answered V) (left : Entries) (i j : Judged) → i ≡ j
+      → Runs a u (comes_to w a x o left i).0 × (notice_of a t ≡ (comes_to w a x o left i).1)
+      → Runs a u (comes_to w a x o left j).0 × (notice_of a t ≡ (comes_to w a x o left j).1)
+  by_judged u t a w x o left i j e is =
+      subst (λ (z : Judged). Runs a u (comes_to w a x o left z).0 × (notice_of a t ≡ (comes_to w a x o left z).1)) e is
+
+  -- and so where the call has this outcome
+  pub by_outcome : (u : TxActor V) (t : Told V) (a : ℕ) (w : World V) (x : Seat V) (o p : Answered V) (left : Entries) (j : Judged)
+      → o ≡ p → j ≡ All
+      → Runs a u (comes_to w a x o [] All).0 × (notice_of a t ≡ (comes_to w a x o [] All).1)
+      → Runs a u (comes_to w a x p left j).0 × (notice_of a t ≡ (comes_to w a x p left j).1)
+  by_outcome u t a w x o p left j same all is =
+      by_judged u t a w x p left All j (sym all)
+      (subst (λ (z : Answered V). Runs a u (comes_to w a x z [] All).0 × (notice_of a t ≡ (comes_to w a x z [] All).1)) same is)
+
+  -- the next location is read; the actor's seat hangs on the stage that the world has then
+  pub reads_by : (a : ℕ) (w : World V) (x : Seat V) (p : Stage V → Seat V) (y q : Actor) (o : Answered V) (left : Entries) (l : ℕ)
+      (K : Type 0) (j : Judged) → K → Next l ≡ j → actor_of w a ≡ y → y.place ≡ AtRest → lookup y.writes l ≡ None → lookup y.reads l ≡ None
+      → q ≡ actor_after (Next l) y → p (Loading o left) ≡ at_stage x (Loading o left)
+      → Seats a (p ((comes_to w a x o left j).0.seats a).stage) q K (comes_to w a x o left j).0 × (Quiet ≡ (comes_to w a x o left j).1)
+  reads_by a w x p y q o left l K j k is s rests nw nr e f =
+      subst (λ (z : Judged). Seats a (p ((comes_to w a x o left z).0.seats a).stage) q K (comes_to w a x o left z).0
+      × (Quiet ≡ (comes_to w a x o left z).1)) is (
+        (
+          seat ∙ sym (ap (λ (z : Seat V). p z.stage) seat ∙ f),
+          (reads_next a (w.seats a) y w o left l rests nw nr (refl, s)).0.1 ∙ sym e,
+          k,
+        ),
+        refl,
+      )
+    where
+      seat : (comes_to w a x o left (Next l)).0.seats a ≡ at_stage x (Loading o left)
+      seat = put-same w.seats a (at_stage x (Loading o left))

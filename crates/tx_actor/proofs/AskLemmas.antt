@@ -28,7 +28,8 @@ use Rattle.tx_actor.specs.declared.actor.Told.TheVariants as told
 use Rattle.tx_actor.specs.declared.actor.TxActor.{TxActor}
 use Rattle.tx_actor.specs.Asks.{Asks, MayStore, may_read, number_told, when_found}
 use Rattle.tx_actor.specs.Blocks.{BlocksView, homes_in}
-use Rattle.tx_actor.specs.Running.{KnowsHomes, Runs, notice_of, seat_of}
+use Rattle.tx_actor.specs.Running.{KnowsHomes, Runs, is_recorded, notice_of, seat_at, seat_in, seat_of}
+use Rattle.tx_actor.proofs.RunsLemmas.{seat_as}
 use Rattle.tx_actor.proofs.ShowsLemmas.{guarded_asked}
 
 -- ---- what a request of the word actor leaves
@@ -142,7 +143,7 @@ module _ {V : Type 0} where
   commits_some w a x (e ∷ es) some = refl
 
   pub closes_as : (v : BlocksView) (r u : TxActor V) → r.words.writes.entries ≡ [] → u.stage ≡ stage.Closing
-      → seat_of u ≡ at_stage (seat_of r) worlds.Closing
+      → ((st : worlds.Stage V) → seat_in st u ≡ at_stage (seat_of r) worlds.Closing)
       → words.actor_of u.words ≡ ask (words.actor_of r.words) (words.actor_of r.words).place AskClose
       → Asks v r u told.Quiet (λ a w. commits w a (seat_of r) (actor_of w a).writes)
   closes_as v r u none closing seat is a w laid s =
@@ -150,7 +151,7 @@ module _ {V : Type 0} where
       let now : World V = seated (acted w (asks a AskClose ∷ [])) a (at_stage (seat_of r) worlds.Closing) in
       subst (λ (z : After V). Runs a u z.0 × (Quiet ≡ z.1)) (sym all) (
         (
-          put-same w.seats a _ ∙ sym seat,
+          seat_as u (now.seats a) _ (ap is_recorded closing) (put-same w.seats a _) seat,
           put-same w.boosted.words.actors a _ ∙ (ap (λ (q : machine.Actor). ask q q.place AskClose) s.1 ∙ sym is),
           subst (λ (z : Stage V). KnowsHomes z (written_homes now a)) (sym closing) tt,
         ),
@@ -158,7 +159,7 @@ module _ {V : Type 0} where
       )
 
   pub locks_as : (v : BlocksView) (r u : TxActor V) (homes : VecDeque ℕ Global) → r.words.writes.entries ≢ []
-      → u.stage ≡ stage.Locking homes → seat_of u ≡ at_stage (seat_of r) worlds.Locking
+      → u.stage ≡ stage.Locking homes → ((st : worlds.Stage V) → seat_in st u ≡ at_stage (seat_of r) worlds.Locking)
       → words.actor_of u.words ≡ ask (words.actor_of r.words) (words.actor_of r.words).place AskLock
       → homes.items ≡ homes_in v r.words.writes.entries
       → Asks v r u told.Quiet (λ a w. commits w a (seat_of r) (actor_of w a).writes)
@@ -173,7 +174,7 @@ module _ {V : Type 0} where
       ∙ (ap (λ (q : machine.Actor). q.writes) is ∙ lock_writes (words.actor_of r.words) (words.actor_of r.words).place))) in
       subst (λ (z : After V). Runs a u z.0 × (Quiet ≡ z.1)) (sym all) (
         (
-          put-same w.seats a _ ∙ sym seat,
+          seat_as u (now.seats a) _ (ap is_recorded at_locking) (put-same w.seats a _) seat,
           at_now,
           subst (λ (z : Stage V). KnowsHomes z (written_homes now a)) (sym at_locking) known,
         ),
@@ -181,7 +182,7 @@ module _ {V : Type 0} where
       )
 
   -- ---- the first value store
-  pub stores_as : (r u : TxActor V) → u.stage ≡ r.stage → seat_of u ≡ seat_of r
+  pub stores_as : (r u : TxActor V) → u.stage ≡ r.stage → ((x : Seat V) → seat_at x u ≡ seat_at x r)
       → words.actor_of u.words ≡ ask (words.actor_of r.words) (words.actor_of r.words).place AskStore
       → MayStore r u
   stores_as r u same seat is a w held s =
@@ -194,7 +195,7 @@ module _ {V : Type 0} where
       let known : written_homes w a ≡ written_homes now a =
       ap (homes_in (record { words = w.words; blocks = w.blocks }))
       (ap (λ (q : machine.Actor). q.writes) s.1 ∙ (sym writes ∙ sym (ap (λ (q : machine.Actor). q.writes) at_now))) in (
-        s.0 ∙ sym seat,
+        s.0 ∙ sym (seat (w.seats a)),
         at_now,
         subst (λ (z : Stage V). KnowsHomes z (written_homes now a)) (sym same) (subst (KnowsHomes r.stage) known s.2),
       )

@@ -3,6 +3,7 @@
 use Rattle.std.proofs.Common.{◌≡◌, ℕ, zero, suc, ◌+◌, ◌<◌, ◌≤◌, cond, ltb, leb, Bool, true, false, not, ◌||◌, Some, None, List, [], ◌∷◌, ◌++◌, length, get_or, map, refl, sym, ap, ◌∙◌, arith}
 use Rattle.std.proofs.lemmas.Bool.Decides.{nat_tests}
 use Rattle.std.proofs.lemmas.Bool.{cond-true, cond-false}
+use Rattle.replay_log.specs.Contents as contents
 use Rattle.replay_log.specs.Contents.{Block, home_of, end_of, size}
 use Rattle.tx_actor.specs.declared.blocks.Placed.{Placed}
 use Rattle.tx_actor.specs.Blocks.{AreEnds, block_of, home_in}
@@ -65,6 +66,10 @@ end_above : (w : ℕ) (ps : List Placed) → w ≤ end_of w (map block_of ps)
 end_above w [] = omega arith
 end_above w (p ∷ ps) = let h = end_above (w + size (block_of p)) ps in omega (arith, h)
 
+pub end_behind : (w : ℕ) (bs : List Block) → w ≤ end_of w bs
+end_behind w [] = omega arith
+end_behind w (b ∷ bs) = let h = end_behind (w + size b) bs in omega (arith, h)
+
 -- a location at which a block ends later lies before the end of all
 pub inside : (l w : ℕ) (ps : List Placed) → AreEnds w ps → (i : ℕ) (d : Placed) → i < length ps → l < (get_or ps i d).end
     → ltb l (end_of w (map block_of ps)) ≡ true
@@ -125,3 +130,33 @@ ends_more w (q ∷ qs) p e is =
 pub map_more : (ps : List Placed) (p : Placed) → map block_of (ps ++ p ∷ []) ≡ map block_of ps ++ block_of p ∷ []
 map_more [] p = refl
 map_more (q ∷ qs) p = ap (λ (bs : List Block). block_of q ∷ bs) (map_more qs p)
+
+-- ---- the block of a collection
+pub block_at : (ps : List Placed) (i : ℕ) (d : Placed) → i < length ps → contents.block_of (map block_of ps) i ≡ Some (block_of (get_or ps i d))
+block_at [] i d lt = absurd (omega arith)
+block_at (p ∷ ps) zero d lt = refl
+block_at (p ∷ ps) (suc i) d lt = block_at ps i d (omega arith)
+
+pub no_block_at : (ps : List Placed) (i : ℕ) → length ps ≤ i → contents.block_of (map block_of ps) i ≡ None
+no_block_at [] i le = refl
+no_block_at (p ∷ ps) zero le = absurd (omega arith)
+no_block_at (p ∷ ps) (suc i) le = no_block_at ps i (omega arith)
+
+pub end_at : (w : ℕ) (ps : List Placed) → AreEnds w ps → (i : ℕ) (d : Placed) → i < length ps
+    → (get_or ps i d).end ≡ contents.first_of w (map block_of ps) i + size (block_of (get_or ps i d))
+end_at w [] e i d lt = absurd (omega arith)
+end_at w (p ∷ ps) e zero d lt = e.0
+end_at w (p ∷ ps) e (suc i) d lt =
+    end_at p.end ps e.1 i d (omega arith)
+    ∙ ap (λ (v : ℕ). contents.first_of v (map block_of ps) i + size (block_of (get_or ps i d))) e.0
+
+pub length_blocks : (ps : List Placed) → length (map block_of ps) ≡ length ps
+length_blocks [] = refl
+length_blocks (p ∷ ps) = ap suc (length_blocks ps)
+
+-- of the block that was found at its place
+pub begins_at : (w : ℕ) (ps : List Placed) → AreEnds w ps → (i : ℕ) (d : Placed) → i < length ps → d ≡ get_or ps i d
+    → d.end ≡ contents.first_of w (map block_of ps) i + size (block_of d)
+begins_at w ps e i d lt is =
+    ap (λ (p : Placed). p.end) is
+    ∙ (end_at w ps e i d lt ∙ ap (λ (p : Placed). contents.first_of w (map block_of ps) i + size (block_of p)) (sym is))

@@ -66,7 +66,7 @@ module _ {V : Type 0} where
       λ j. record { asked = record { collection = k; op = op }; outcome = there j }
 
   -- ---- what is accepted
-  same_copy : (b c : Shown V) (es fs : FinMap nat_cmp (Option V)) (cs ds : FinMap nat_cmp ℕ) (t u : Option ℕ) (g h i j : ℕ)
+  pub same_copy : (b c : Shown V) (es fs : FinMap nat_cmp (Option V)) (cs ds : FinMap nat_cmp ℕ) (t u : Option ℕ) (g h i j : ℕ)
       (xs ys : List (Change V)) (s : Shown V) → c ≡ b → fs ≡ es → ds ≡ cs → u ≡ t → h ≡ g → j ≡ i → ys ≡ xs
       → IsCopyBy b es cs t g i xs s → IsCopyBy c fs ds u h j ys s
   same_copy b c es fs cs ds t u g h i j xs ys s e0 e1 e2 e3 e4 e5 e6 is =
@@ -105,7 +105,7 @@ module _ {V : Type 0} where
   kept_accepts b s cs ls (Keys m es) (Whole u) o is held e acc = absurd acc
   kept_accepts b s cs ls (Whole t) (Keys n fs) o is held e acc = absurd acc
 
-  editions_stay : (o : Outcome V) (c d : Copied V) → IsAccepted o c d → (i : ℕ) → edition_at d i ≡ edition_at c i
+  pub editions_stay : (o : Outcome V) (c d : Copied V) → IsAccepted o c d → (i : ℕ) → edition_at d i ≡ edition_at c i
   editions_stay o (Keys m es) (Keys n fs) acc i = ap (λ z. map.get z i) acc.8
   editions_stay o (Whole t) (Whole u) acc i = ap (λ z. slice_get z i) acc.2
   editions_stay o (Keys m es) (Whole u) acc i = absurd acc

@@ -19,9 +19,9 @@ use Rattle.tx_actor.specs.declared.actor.Stage.TheVariants as stage
 use Rattle.tx_actor.specs.declared.actor.Told.{Told}
 use Rattle.tx_actor.specs.declared.actor.Told.TheVariants as told
 use Rattle.tx_actor.specs.declared.actor.TxActor.{TxActor}
-use Rattle.tx_actor.specs.Dispatch.{IsToldWord, MayGoOn, MayRelease, Steps, after_home, after_put, after_try, after_word, shown_notice}
-use Rattle.tx_actor.specs.Running.{Does, Runs, at, notice_of, seat_of, stage_of}
-use Rattle.tx_actor.proofs.RunsLemmas.{not_none}
+use Rattle.tx_actor.specs.Dispatch.{IsGoneHome, IsToldWord, MayGoOn, MayRelease, Records, after_home, after_put, after_try, after_word, shown_notice}
+use Rattle.tx_actor.specs.Running.{Does, IsSeatOf, Runs, at, notice_of, seat_at, seat_of, stage_of}
+use Rattle.tx_actor.proofs.RunsLemmas.{not_none, seat_numbers}
 
 module _ {V : Type 0} where
   -- what comes of it is the same
@@ -30,13 +30,13 @@ module _ {V : Type 0} where
   by_result u t a p q e h = subst (λ (z : After V). Runs a u z.0 × (notice_of a t ≡ z.1)) (sym e) h
 
   -- nothing comes of it, and the actor is as it was
-  stays_as : (r u : TxActor V) (t : Told V) (a : ℕ) (w : World V) (p : After V) → u ≡ r → t ≡ told.Quiet → p ≡ (w, Quiet)
+  pub stays_as : (r u : TxActor V) (t : Told V) (a : ℕ) (w : World V) (p : After V) → u ≡ r → t ≡ told.Quiet → p ≡ (w, Quiet)
       → Runs a r w → Runs a u p.0 × (notice_of a t ≡ p.1)
   stays_as r u t a w p same quiet e s =
       by_result u t a p (w, Quiet) e (subst (λ (z : TxActor V). Runs a z w) (sym same) s, ap (notice_of a) quiet)
 
   pub word_stays : (r u : TxActor V) (t : Told V) (n : notice.Notice) → u ≡ r → t ≡ told.Quiet
-      → ((a : ℕ) (w : World V) → after_word w a (seat_of r) (stage_of r.stage) n ≡ (w, Quiet)) → IsToldWord r u t n
+      → ((a : ℕ) (w : World V) → after_word w a (seat_at (w.seats a) r) (stage_of r.stage) n ≡ (w, Quiet)) → IsToldWord r u t n
   word_stays r u t n same quiet e a w m s = stays_as r u t a w _ same quiet (e a w) s
 
   pub does_stays : (f : World V → ℕ → Seat V → worlds.Stage V → After V) (r u : TxActor V) (t : Told V) → u ≡ r → t ≡ told.Quiet
@@ -44,21 +44,15 @@ module _ {V : Type 0} where
       → Does r u t (λ a w. f w a (seat_of r) (stage_of r.stage))
   does_stays f r u t same quiet e a w s = stays_as r u t a w _ same quiet (e a w) s
 
-  pub steps_stays : (f : World V → ℕ → Seat V → worlds.Stage V → After V) (r u : TxActor V) (t : Told V) → u ≡ r → t ≡ told.Quiet
-      → ((a : ℕ) (w : World V) → f w a (seat_of r) (stage_of r.stage) ≡ (w, Quiet))
-      → Steps r u t (λ a w. f w a (seat_of r) (stage_of r.stage))
-  steps_stays f r u t same quiet e a w m s = stays_as r u t a w _ same quiet (e a w) s
+  pub home_stays : (r u : TxActor V) (t : Told V) → u ≡ r → t ≡ told.Quiet
+      → ((a : ℕ) (w : World V) → after_home w a (seat_at (w.seats a) r) (stage_of r.stage) ≡ (w, Quiet)) → IsGoneHome r u t
+  home_stays r u t same quiet e a w m s = stays_as r u t a w _ same quiet (e a w) s
 
   -- what is made of a seat does not hang on its stage
   pub give_up_at : (w : World V) (a : ℕ) (x : Seat V) (s : worlds.Stage V) (ks : List ℕ)
       → gives_up w a (at_stage x s) ks ≡ gives_up w a x ks
   give_up_at w a x s [] = refl
   give_up_at w a x s (k ∷ ks) = refl
-
-  go_home_at : (w : World V) (a : ℕ) (x : Seat V) (s : worlds.Stage V) (ks : List ℕ)
-      → goes_home w a (at_stage x s) ks ≡ goes_home w a x ks
-  go_home_at w a x s [] = refl
-  go_home_at w a x s (k ∷ ks) = refl
 
   pub tried_at : (w : World V) (a : ℕ) (x : Seat V) (s : worlds.Stage V) (free : Bool) (k : ℕ) (got : List ℕ)
       (again : ℕ → worlds.Stage V) (next : worlds.Stage V) (n : ℕ)
@@ -68,14 +62,10 @@ module _ {V : Type 0} where
   tried_at w a x s false k got again next zero = give_up_at w a (because x (refusal.GateBusy k)) s got
 
   -- the bases go home, where the locks may be released
-  abbrev pub GoesHome : TxActor V → TxActor V → Told V → Seat V → List ℕ → Type 0
-  GoesHome r u t x ks = (a : ℕ) (w : World V) → MayRelease a w ks → worlds.actor_of w a ≡ words.actor_of r.words
+  abbrev pub GoesHome : TxActor V → TxActor V → Told V → List ℕ → Type 0
+  GoesHome r u t ks = (a : ℕ) (w : World V) (x : Seat V) → IsSeatOf x r → MayRelease a w ks
+      → worlds.actor_of w a ≡ words.actor_of r.words
       → Runs a u (goes_home w a x ks).0 × (notice_of a t ≡ (goes_home w a x ks).1)
-
-  pub home_at_stage : (r u : TxActor V) (t : Told V) (x : Seat V) (s : worlds.Stage V) (ks : List ℕ) → GoesHome r u t x ks
-      → GoesHome r u t (at_stage x s) ks
-  home_at_stage r u t x s ks h a w may is =
-      subst (λ (z : After V). Runs a u z.0 × (notice_of a t ≡ z.1)) (sym (go_home_at w a x s ks)) (h a w may is)
 
   -- what was told is what was heard
   pub heard_as : (r u : TxActor V) (t : Told V) (h k : WordNotice) → h ≡ k → IsToldWord r u t (shown_notice k)
@@ -96,11 +86,8 @@ module _ {V : Type 0} where
       → Does r u t (λ a w. f w a (seat_of r) (stage_of r.stage))
   does_at_stage f r u t s e p = subst (λ (z : Stage V). Does (at r z) u t (λ a w. f w a (seat_of (at r z)) (stage_of z))) (sym e) p
 
-  pub steps_at_stage : (f : World V → ℕ → Seat V → worlds.Stage V → After V) (r u : TxActor V) (t : Told V) (s : Stage V)
-      → r.stage ≡ s
-      → Steps (at r s) u t (λ a w. f w a (seat_of (at r s)) (stage_of s))
-      → Steps r u t (λ a w. f w a (seat_of r) (stage_of r.stage))
-  steps_at_stage f r u t s e p = subst (λ (z : Stage V). Steps (at r z) u t (λ a w. f w a (seat_of (at r z)) (stage_of z))) (sym e) p
+  pub home_at_stage : (r u : TxActor V) (t : Told V) (s : Stage V) → r.stage ≡ s → IsGoneHome (at r s) u t → IsGoneHome r u t
+  home_at_stage r u t s e p = subst (λ (z : Stage V). IsGoneHome (at r z) u t) (sym e) p
 
   -- any other notice
   pub begun_else : (w : World V) (a : ℕ) (x : Seat V) (h : WordNotice) → ((rv : ℕ) → h ≡ Begun rv → ⊥)
@@ -210,17 +197,16 @@ module _ {V : Type 0} where
   may_go a w (k ∷ ks) len m = m
 
   pub homes_as : (r u : TxActor V) (t : Told V) (homes : VecDeque ℕ Global) (left : List ℕ) → r.stage ≡ stage.Homing homes
-      → eqb (length homes.items) 0 ≡ false → left ≡ drop 1 homes.items
-      → GoesHome r u t (seat_of r) left
-      → Steps r u t (λ a w. after_home w a (seat_of r) (stage_of r.stage))
+      → eqb (length homes.items) 0 ≡ false → left ≡ drop 1 homes.items → GoesHome r u t left → IsGoneHome r u t
   homes_as r u t homes left at_home some e h a w m s =
-      let now : after_home w a (seat_of r) (stage_of r.stage) ≡ goes_home w a (seat_of r) left =
-      ap (λ (z : Stage V). after_home w a (seat_of r) (stage_of z)) at_home
-      ∙ (homes_first w a (seat_of r) homes.items some ∙ ap (goes_home w a (seat_of r)) (sym e)) in
+      let x = seat_at (w.seats a) r in
+      let now : after_home w a x (stage_of r.stage) ≡ goes_home w a x left =
+      ap (λ (z : Stage V). after_home w a x (stage_of z)) at_home
+      ∙ (homes_first w a x homes.items some ∙ ap (goes_home w a x) (sym e)) in
       let may : MayRelease a w left =
       subst (MayRelease a w) (sym e)
       (may_go a w homes.items some (subst (λ (z : Stage V). MayGoOn a w (stage_of z)) at_home m)) in
-      subst (λ (z : After V). Runs a u z.0 × (notice_of a t ≡ z.1)) (sym now) (h a w may s.1)
+      subst (λ (z : After V). Runs a u z.0 × (notice_of a t ≡ z.1)) (sym now) (h a w x (seat_numbers (w.seats a) r) may s.1)
 
   pub starve_else : (w : World V) (a : ℕ) (x : Seat V) (s : Stage V)
       → (s ≡ stage.Idle → ⊥) → (s ≡ stage.Open → ⊥) → (s ≡ stage.Beginning → ⊥) → ((l : ℕ) → s ≡ stage.Reading l → ⊥)
@@ -242,3 +228,11 @@ module _ {V : Type 0} where
   starve_else w a x (stage.Ready ks) i o b r t c l lo g re cl = absurd (re ks refl)
   starve_else w a x stage.Closing i o b r t c l lo g re cl = absurd (cl refl)
   starve_else w a x other i o b r t c l lo g re cl = refl
+
+-- no record is made at any other stage
+pub records_else : {V : Type 0} → (s : Stage V) → ((ks : VecDeque ℕ Global) → s ≡ stage.Ready ks → ⊥) → (s ≡ stage.Closing → ⊥)
+    → (s ≡ stage.Leaving → ⊥) → Records s → ⊥
+records_else (stage.Ready ks) r c l h = r ks refl
+records_else stage.Closing r c l h = c refl
+records_else stage.Leaving r c l h = l refl
+records_else s r c l h = h

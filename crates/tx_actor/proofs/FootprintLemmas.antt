@@ -45,7 +45,7 @@ module _ {V : Type 0} where
       let lt : z.0 < size b = z.2 in
       omega (arith, same, lt)
 
-  sized : (n : ℕ) (s : Shown V) → size (record { kind = kind_of s; stripes = n }) ≡ locations_of n s
+  pub sized : (n : ℕ) (s : Shown V) → size (record { kind = kind_of s; stripes = n }) ≡ locations_of n s
   sized n (OfMap m) = refl
   sized n (OfBag m) = refl
   sized n (OfPq m) = refl

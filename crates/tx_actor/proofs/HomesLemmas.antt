@@ -1,13 +1,14 @@
 -- The collections with a written location, from the last location to the first: a location's collection is not above those of the
 -- locations behind it, so it is new exactly where it is not the first of them (`first_is`).
-use Rattle.std.proofs.Common.{◌≡◌, ℕ, zero, suc, drop, get_or, ◌+◌, ◌<◌, ◌≤◌, cond, eqb, ltb, Bool, true, false, true≢false, not, filter, Some, None, List, [], ◌∷◌, length, refl, sym, ap, subst, ◌∙◌, arith, ne_eqb}
+use Rattle.std.proofs.Common.{◌≡◌, ℕ, zero, suc, drop, get_or, ◌+◌, ◌<◌, ◌≤◌, cond, eqb, ltb, Bool, true, false, true≢false, not, ◌||◌, filter, Some, None, List, [], ◌∷◌, length, refl, sym, ap, subst, ◌∙◌, arith, ne_eqb}
 use Rattle.std.proofs.lemmas.Bool.Decides.{nat_tests}
 use Rattle.std.proofs.lemmas.Bool.{cond-false}
 use Rattle.std.proofs.lemmas.List.{drop_more}
 use Rattle.std.specs.List.{All}
+use Rattle.std.proofs.lemmas.List.Elements.{All-cons, All-nil}
 use Rattle.tx_sets.specs.Entries.{Entries, IsRising, locations}
 use Rattle.collection_machine.specs.Content.{has}
-use Rattle.replay_log.specs.Contents.{Block, home_of, is_plain, size}
+use Rattle.replay_log.specs.Contents.{Block, end_of, home_of, is_plain, size}
 use Rattle.replay_log.specs.Worlds.{all_of, distinct, with_new}
 use Rattle.tx_actor.specs.Blocks.{BlocksView, home_in, homes_in, is_first, with_home}
 use Rattle.tx_actor.proofs.RunsLemmas.{not_none}
@@ -158,3 +159,48 @@ first_there k r (x ∷ xs) some e = ap (eqb k) e
 pub first_none : (k : ℕ) (xs : List ℕ) → eqb (length xs) 0 ≡ true → false ≡ is_first k xs
 first_none k [] none = refl
 first_none k (x ∷ xs) none = absurd (not_none (length xs) none)
+
+-- ---- a location's collection is one of those that there are
+not_false : (b : Bool) → not b ≡ false → b ≡ true
+not_false true e = refl
+not_false false e = absurd (true≢false e)
+
+home_within : (w : ℕ) (bs : List Block) (l : ℕ) → ltb l (end_of w bs) ≡ true → ltb l w ≡ false → home_of w bs l < length bs
+home_within w [] l e f = absurd (true≢false (sym e ∙ f))
+home_within w (b ∷ bs) l e f =
+    let here = home_of (w + size b) bs l in
+    elim (ltb l (w + size b)) as (λ t. ltb l (w + size b) ≡ t → cond t 0 (suc here) < length (b ∷ bs)) [
+      | true ↦ λ g. omega arith
+      | false ↦ λ g.
+          let h : here < length bs = home_within (w + size b) bs l e g in
+          omega (arith, h)
+    ] refl
+
+home_below : (w : ℕ) (bs : List Block) (l : ℕ) → is_plain w bs l ≡ false → home_of w bs l < length bs
+home_below w bs l e =
+    elim (ltb l w) as (λ t. ltb l w ≡ t → (t || not (ltb l (end_of w bs))) ≡ false → home_of w bs l < length bs) [
+      | true ↦ λ f h. absurd (true≢false h)
+      | false ↦ λ f h. home_within w bs l (not_false (ltb l (end_of w bs)) h) f
+    ] refl e
+
+new_below : (n k : ℕ) (ks : List ℕ) → k < n → All (λ (i : ℕ). i < n) ks → All (λ (i : ℕ). i < n) (with_new k ks)
+new_below n k ks lt h =
+    elim (has ks k) as (λ b. All (λ (i : ℕ). i < n) (cond b ks (k ∷ ks))) [
+      | true ↦ h
+      | false ↦ All-cons (λ (i : ℕ). i < n) k ks lt h
+    ]
+
+pub homes_below : (v : BlocksView) (es : Entries) → All (λ (k : ℕ). k < length v.blocks) (homes_in v es)
+unfolding locations
+homes_below v [] = All-nil (λ (k : ℕ). k < length v.blocks)
+homes_below v (e ∷ es) =
+    let n = length v.blocks in
+    let hs = homes_in v es in
+    let rest : All (λ (k : ℕ). k < n) hs = homes_below v es in
+    elim (is_plain v.words v.blocks e.0) as (λ b. is_plain v.words v.blocks e.0 ≡ b
+    → All (λ (k : ℕ). k < n) (distinct (all_of (home_of v.words v.blocks)
+    (cond (not b) (e.0 ∷ filter (λ l. not (is_plain v.words v.blocks l)) (locations es))
+    (filter (λ l. not (is_plain v.words v.blocks l)) (locations es)))))) [
+      | true ↦ λ f. rest
+      | false ↦ λ f. new_below n (home_of v.words v.blocks e.0) hs (home_below v.words v.blocks e.0 f) rest
+    ] refl

@@ -24,12 +24,13 @@ use Rattle.tx_actor.specs.Judged.{comes_to, judged, left_after}
 use Rattle.tx_actor.specs.Keeps.{AnswersHeld, IsOwnCopy, Knows, call_on}
 use Rattle.tx_actor.proofs.CopiesLemmas.{follows_answered}
 use Rattle.tx_actor.proofs.JudgedLemmas.{is_judged}
+use Rattle.tx_actor.proofs.OutcomeLemmas.{answered_op}
 use Rattle.tx_actor.proofs.FootprintLemmas.{reads_by, reads_within}
 
-head_in : (l : ℕ) (ls : List ℕ) → Contains (l ∷ ls) l
+pub head_in : (l : ℕ) (ls : List ℕ) → Contains (l ∷ ls) l
 head_in l ls = (0, omega arith, refl)
 
-tail_in : (l i : ℕ) (ls : List ℕ) → Contains ls i → Contains (l ∷ ls) i
+pub tail_in : (l i : ℕ) (ls : List ℕ) → Contains ls i → Contains (l ∷ ls) i
 tail_in l i ls c = (suc c.0, (let lt : c.0 < length ls = c.1 in omega arith), c.2)
 
 module _ {V : Type 0} where
@@ -51,17 +52,49 @@ module _ {V : Type 0} where
   known_as (Keys m es) i e is = ap (λ (z : Option ℕ). unwrap_or z 0) is
   known_as (Whole t) i e is = get_or_from_slice_get (editions_of t.base) i e 0 is
 
+  pub known_at : (b : Block) (f : ℕ) (x : Shadow (Shown V) (Answered V)) (c : Copied V) (i : ℕ) → HasEditions b f x c → i < size b
+      → (e : ℕ) × (edition_at c i ≡ Some e) → x.editions (f + i) ≡ known_edition c i
+  known_at b f x c i has below known = (has i known.0 below known.1).1 ∙ sym (known_as c i known.0 known.1)
+
   pub known_all : (b : Block) (f : ℕ) (x : Shadow (Shown V) (Answered V)) (c : Copied V) (ls : List ℕ) → HasEditions b f x c
       → ((i : ℕ) → Contains ls i → i < size b) → Knows c ls → with_editions x.editions (shifted f ls) ≡ with_known c f ls
   known_all b f x c [] has below knows = refl
   known_all b f x c (l ∷ ls) has below knows =
-      let known = knows l (head_in l ls) in
-      let is = has l known.0 (below l (head_in l ls)) known.1 in
-      let same : x.editions (f + l) ≡ known_edition c l = is.1 ∙ sym (known_as c l known.0 known.1) in
+      let same : x.editions (f + l) ≡ known_edition c l = known_at b f x c l has (below l (head_in l ls)) (knows l (head_in l ls)) in
       let rest = known_all b f x c ls has (λ i q. below i (tail_in l i ls q)) (λ i q. knows i (tail_in l i ls q)) in
       λ j. (f + l, same j) ∷ rest j
 
   -- a call that is held
+  module _ (w : World V) (a k : ℕ) (b : Block) (c : Copied V) (op : Op V) (o : Outcome V)
+      (is : IsOwnCopy w a k b (first_of w.words w.blocks k) c) (holds : holds_call c op ≡ true) (answer : answer_of c op ≡ Some o) where
+    abbrev f : ℕ
+    f = first_of w.words w.blocks k
+
+    pub held_outcome : outcome_at w a (call_on k op) ≡ answered_on k op o
+    held_outcome = follows_answered w.words w.blocks k b (w.boosted.shadows a) c op o is.stripes is.block is.copied holds answer
+
+    -- the locations that it reads, and those that it writes
+    pub held_read : (content w.words w.blocks).reads (answered_on k op o) ≡ shifted f (reads_in c o)
+    held_read = ap (λ q. reads_at q f (Some o)) is.block ∙ ap (shifted f) (same_reads b _ _ _ c o is.copied.0.2)
+
+    pub held_written : (content w.words w.blocks).writes (answered_on k op o) ≡ shifted f (writes_in c o)
+    held_written = ap (λ q. writes_at q f (Some o)) is.block ∙ ap (shifted f) (same_writes b _ _ _ c o is.copied.0.2)
+
+    held_within : (i : ℕ) → Contains (reads_in c o) i → i < size b
+    held_within =
+        subst (λ (ls : List ℕ). (i : ℕ) → Contains ls i → i < size b) (same_reads b _ _ _ c o is.copied.0.2)
+        (reads_within b o (positive_at w.blocks k b is.stripes is.block))
+
+    held_knows : Knows c (reads_in c o)
+    held_knows = is.knows o (ap (holds_call c) (answered_op c op o answer) ∙ holds)
+
+    -- with which editions what it reads was copied
+    pub held_known : (i : ℕ) → Contains (reads_in c o) i → (w.boosted.shadows a).editions (f + i) ≡ known_edition c i
+    held_known i there = known_at b f (w.boosted.shadows a) c i is.copied.1 (held_within i there) (held_knows i there)
+
+    pub held_editions : with_editions (w.boosted.shadows a).editions (shifted f (reads_in c o)) ≡ with_known c f (reads_in c o)
+    held_editions = known_all b f (w.boosted.shadows a) c (reads_in c o) is.copied.1 held_within held_knows
+
   module _ (w : World V) (a : ℕ) (x : Seat V) (k : ℕ) (b : Block) (c : Copied V) (op : Op V) (o : Outcome V) where
     abbrev Answer : Answered V → List ℕ → List ℕ → (es : List (ℕ × ℕ)) → After V
     Answer p rs ws es =
@@ -77,24 +110,16 @@ module _ {V : Type 0} where
         (comes_to w a x (answered_on k op o) (left_after y.reads es) (judged y.reads es))
         (seated w a (at_stage x Open), Refused a refusal.TooLong)
     held_at is holds answer has =
-        let n = w.words in
-        let bs = w.blocks in
-        let f = first_of n bs k in
+        let f = first_of w.words w.blocks k in
         let y = actor_of w a in
         let p = answered_on k op o in
         let z = w.boosted.shadows a in
-        let e : outcome_at w a (call_on k op) ≡ p = follows_answered n bs k b z c op o is.stripes is.block is.copied holds answer in
-        let of = is.copied.0.2 in
-        let rs : (content n bs).reads p ≡ shifted f (reads_in c o) =
-        ap (λ q. reads_at q f (Some o)) is.block ∙ ap (shifted f) (same_reads b _ _ _ c o of) in
-        let ws : (content n bs).writes p ≡ shifted f (writes_in c o) =
-        ap (λ q. writes_at q f (Some o)) is.block ∙ ap (shifted f) (same_writes b _ _ _ c o of) in
-        let pos = positive_at bs k b is.stripes is.block in
-        let within : (i : ℕ) → Contains (reads_in c o) i → i < size b =
-        subst (λ (ls : List ℕ). (i : ℕ) → Contains ls i → i < size b) (same_reads b _ _ _ c o of) (reads_within b o pos) in
+        let e : outcome_at w a (call_on k op) ≡ p = held_outcome w a k b c op o is holds answer in
+        let rs : (content w.words w.blocks).reads p ≡ shifted f (reads_in c o) = held_read w a k b c op o is holds answer in
+        let ws : (content w.words w.blocks).writes p ≡ shifted f (writes_in c o) = held_written w a k b c op o is holds answer in
         let es : with_editions z.editions (shifted f (reads_in c o)) ≡ with_known c f (reads_in c o) =
-        known_all b f z c (reads_in c o) is.copied.1 within (is.knows op o holds answer) in
-        cond-true (x.copied k (piece_at bs (call_on k op)))
+        held_editions w a k b c op o is holds answer in
+        cond-true (x.copied k (piece_at w.blocks (call_on k op)))
         (answers w a x x (outcome_at w a (call_on k op)) (outcome_at w a (call_on k op)) z.editions) _ has
         ∙ ((λ i. answers w a x x (e i) (e i) z.editions)
         ∙ ((λ i. Answer p (rs i) (ws i) (with_editions z.editions (rs i)))

@@ -11,9 +11,15 @@ mod KeptLemmas
 mod WriteLemmas
 mod AnswerLemmas
 mod KeepsLemmas
+mod OutcomeLemmas
+mod OwnsLemmas
+mod PreparesLemmas
+mod CallingLemmas
 mod KeepingLemmas
 mod BlocksLemmas
 mod HomesLemmas
 mod RequestLemmas
 mod AskLemmas
 mod GuardedLemmas
+mod LogLemmas
+mod LoadLemmas

@@ -1,6 +1,6 @@
 -- What a running actor makes of itself is what its world makes of its seat and its word actor: the world seats it anew (`put-same`), and
 -- where it is given up its word actor cancels and leaves (`gives_it_up`).
-use Rattle.std.proofs.Common.{◌≡◌, ◌<◌, ◌-◌, ℕ, zero, suc, Bool, true, false, true≢false, eqb, eqb-true, length, List, [], ◌∷◌, refl, sym, ap, arith, ◌∙◌}
+use Rattle.std.proofs.Common.{◌≡◌, ◌<◌, ◌-◌, ℕ, zero, suc, Bool, true, false, true≢false, eqb, cond, eqb-true, length, List, [], ◌∷◌, refl, sym, ap, arith, ◌∙◌}
 use Rattle.std.proofs.Math.Seq.{drop-cons, take-suc}
 use Rattle.std.proofs.Common.{take, drop, ◌+◌, ◌++◌, get_or}
 use Rattle.word_machine.specs.Actor.{Actor}
@@ -11,6 +11,11 @@ use Rattle.seq_model.specs.declared.refusal.Refusal.TheVariants as refusal
 use Rattle.replay_log.specs.Worlds.{World, Seat, Stage, Gating, Ready, Homing, Releasing, Returning, takes_gates, more_tries, goes_home, at_stage, because, cancels, gives_up, has_tried, actor_of}
 use Rattle.tx_actor.specs.Shows.{cancelled, ending}
 use Rattle.tx_actor.specs.Dispatch.{MayRelease}
+use Rattle.step_core.specs.Shown as words
+use Rattle.tx_actor.specs.Running.{IsSeatOf, is_recorded, seat_at, seat_in, stage_in}
+use Rattle.std.specs.Global.{Vec}
+use Rattle.tx_actor.specs.declared.actor.CopyOf.{CopyOf}
+use Rattle.tx_actor.specs.declared.actor.TxActor.{TxActor}
 use Rattle.tx_actor.proofs.ShowsLemmas.{gives_it_up, guarded_asked}
 
 pub not_none : (n : ℕ) → eqb (suc n) 0 ≡ true → ⊥
@@ -36,6 +41,46 @@ module _ {V : Type 0} where
   -- actor a of the world w has the seat p and the word actor q, and K holds
   abbrev pub Seats : ℕ → Seat V → Actor → Type 0 → World V → Type 0
   Seats a p q K w = (w.seats a ≡ p) × (actor_of w a ≡ q) × K
+
+  -- the seat that u has in a world which seats it so, whatever stage it had before
+  pub seat_as : (u : TxActor V) (z x : Seat V) → is_recorded u.stage ≡ false → z ≡ x → ((s : Stage V) → seat_in s u ≡ x) → z ≡ seat_at z u
+  seat_as u z x closed e h =
+      e
+      ∙ (sym (h z.stage)
+      ∙ sym (ap (λ (b : Bool). cond b (record (seat_in z.stage u) { calls = z.calls; copied = z.copied }) (seat_in z.stage u)) closed))
+
+  -- and once its transaction is recorded, when it may have handed out its calls and its copies
+  pub seat_left : (u : TxActor V) (z x : Seat V) (s : Stage V) → is_recorded u.stage ≡ true → z ≡ at_stage x s → IsSeatOf x u
+      → ((t : Stage V) → stage_in t u.stage ≡ s) → z ≡ seat_at z u
+  seat_left u z x s left e of h =
+      let y : Seat V = record { stage = s; rv = u.rv; wv = u.wv; cause = u.cause; calls = x.calls; copied = x.copied } in
+      let f : z ≡ y =
+      e ∙ (λ i. record { stage = s; rv = of.0 i; wv = of.1 i; cause = of.2 i; calls = x.calls; copied = x.copied }) in
+      f
+      ∙ ((λ i. record {
+        stage = sym (h z.stage) i;
+        rv = u.rv;
+        wv = u.wv;
+        cause = u.cause;
+        calls = (sym f i).calls;
+        copied = (sym f i).copied;
+      })
+      ∙ sym (ap (λ (b : Bool). cond b (record (seat_in z.stage u) { calls = z.calls; copied = z.copied }) (seat_in z.stage u)) left))
+
+  -- then its copies may go
+  pub left_alike : (x : Seat V) (r : TxActor V) (cs : Vec (CopyOf V)) → is_recorded r.stage ≡ true
+      → seat_at x r ≡ seat_at x (record r { copies = cs })
+  left_alike x r cs left =
+      let u : TxActor V = record r { copies = cs } in
+      ap (λ (b : Bool). cond b (record (seat_in x.stage r) { calls = x.calls; copied = x.copied }) (seat_in x.stage r)) left
+      ∙ sym (ap (λ (b : Bool). cond b (record (seat_in x.stage u) { calls = x.calls; copied = x.copied }) (seat_in x.stage u)) left)
+
+  pub seat_numbers : (x : Seat V) (r : TxActor V) → IsSeatOf (seat_at x r) r
+  seat_numbers x r = go (is_recorded r.stage)
+    where
+      go : (b : Bool) → IsSeatOf (cond b (record (seat_in x.stage r) { calls = x.calls; copied = x.copied }) (seat_in x.stage r)) r
+      go true = (refl, refl, refl)
+      go false = (refl, refl, refl)
 
   pub cancels_as : (a : ℕ) (z p : Seat V) (y q : Actor) (K : Type 0) (w : World V) → K → q ≡ cancelled y → p ≡ ending z q
       → actor_of w a ≡ y → Seats a p q K (cancels w a z)
@@ -82,21 +127,31 @@ module _ {V : Type 0} where
   gates_some (k ∷ ks) len = refl
 
   -- the bases are home, and no gate is held any more: the locks are released
-  pub home_none : (a : ℕ) (x p : Seat V) (y q : Actor) (K : Type 0) (w : World V) (ks : List ℕ) → K → eqb (length ks) 0 ≡ true
-      → MayRelease a w ks
-      → p ≡ at_stage x Releasing → q ≡ ask y y.place AskRelease → actor_of w a ≡ y
-      → Seats a p q K (goes_home w a x ks).0 × (Quiet ≡ (goes_home w a x ks).1)
-  home_none a x p y q K w [] known len is e eq s = (
-    (put-same w.seats a _ ∙ sym e, guarded_asked a w AskRelease _ is ∙ (ap (λ (z : Actor). ask z z.place AskRelease) s ∙ sym eq), known),
+  pub rests_home : (a : ℕ) (x : Seat V) (u : TxActor V) (y : Actor) (K : Type 0) (w : World V) (ks : List ℕ) → K
+      → eqb (length ks) 0 ≡ true → MayRelease a w ks → IsSeatOf x u → is_recorded u.stage ≡ true
+      → ((t : Stage V) → stage_in t u.stage ≡ Releasing) → words.actor_of u.words ≡ ask y y.place AskRelease → actor_of w a ≡ y →
+      let f = goes_home w a x ks in
+      Seats a (seat_at (f.0.seats a) u) (words.actor_of u.words) K f.0 × (Quiet ≡ f.1)
+  rests_home a x u y K w [] known len is of left h eq s = (
+    (
+      seat_left u _ x Releasing left (put-same w.seats a _) of h,
+      guarded_asked a w AskRelease _ is ∙ (ap (λ (z : Actor). ask z z.place AskRelease) s ∙ sym eq),
+      known,
+    ),
     refl,
   )
-  home_none a x p y q K w (k ∷ ks) known len is e eq s = absurd (not_none (length ks) len)
+  rests_home a x u y K w (k ∷ ks) known len is of left h eq s = absurd (not_none (length ks) len)
 
-  pub home_some : (a : ℕ) (x p : Seat V) (q : Actor) (K : Type 0) (w : World V) (ks : List ℕ) → K → eqb (length ks) 0 ≡ false
-      → p ≡ at_stage x (Homing ks) → actor_of w a ≡ q
-      → Seats a p q K (goes_home w a x ks).0 × (Quiet ≡ (goes_home w a x ks).1)
-  home_some a x p q K w [] known len e s = absurd (true≢false len)
-  home_some a x p q K w (k ∷ ks) known len e s = ((put-same w.seats a _ ∙ sym e, s, known), refl)
+  pub takes_home : (a : ℕ) (x : Seat V) (u : TxActor V) (K : Type 0) (w : World V) (ks : List ℕ) → K → eqb (length ks) 0 ≡ false
+      → IsSeatOf x u → is_recorded u.stage ≡ true → ((t : Stage V) → stage_in t u.stage ≡ Homing ks)
+      → actor_of w a ≡ words.actor_of u.words →
+      let f = goes_home w a x ks in
+      Seats a (seat_at (f.0.seats a) u) (words.actor_of u.words) K f.0 × (Quiet ≡ f.1)
+  takes_home a x u K w [] known len of left h s = absurd (true≢false len)
+  takes_home a x u K w (k ∷ ks) known len of left h s = (
+    (seat_left u _ x (Homing (k ∷ ks)) left (put-same w.seats a _) of h, s, known),
+    refl,
+  )
 
   pub gates_next : (i : ℕ) (ks : List ℕ) → i < length ks
       → Gating (take i ks) (drop i ks) more_tries ≡ takes_gates {V = V} (take i ks) (drop i ks)

@@ -1,4 +1,4 @@
--- What the acceptance of a call on a copied collection takes, and what it leaves.
+-- What the acceptance of a call on a copied collection takes, what it leaves, and where a call may go on.
 use Rattle.std.specs.Prelude.{◌≡◌, ℕ, ◌<◌, true, List, Option, Some, None, length, slice_get, slice_set}
 use Rattle.std.specs.Vec.{vec_capacity, vec_len}
 use Rattle.conflict.specs.declared.outcome.Outcome.{Outcome}
@@ -9,8 +9,14 @@ use Rattle.replay_log.specs.Worlds.{World, actor_of, outcome_at, reply_of}
 use Rattle.tx_actor.specs.declared.actor.Answered as running
 use Rattle.tx_actor.specs.declared.actor.CopyOf.{CopyOf}
 use Rattle.tx_actor.specs.declared.actor.TxActor.{TxActor}
+use Rattle.tx_sets.specs.Entries.{Entries, lookup}
+use Rattle.word_machine.specs.Actor.{Open as AtRest}
+use Rattle.step_core.specs.Shown as words
+use Rattle.step_core.specs.declared.actor.Actor.{Actor}
+use Rattle.tx_actor.specs.declared.judged.Judged.TheVariants.{All, Next}
+use Rattle.tx_actor.specs.Judged.{judged}
 use Rattle.tx_actor.specs.Accepts.{written}
-use Rattle.tx_actor.specs.Copies.{IsAccepted, IsReady, holds_call}
+use Rattle.tx_actor.specs.Copies.{IsAccepted, IsReady, answer_of, holds_call}
 use Rattle.tx_actor.specs.Running.{answered_of, asked_of}
 use Rattle.tx_actor.specs.Writes.{MayWrite, written_as}
 
@@ -22,7 +28,7 @@ IsAcceptedAt {V} i (Some o) before now =
     × (holds_call c.copied o.op ≡ true) × (now ≡ slice_set before i d)
 
 -- All that accepting the call takes is there: room for its writes and for its entry among the calls, and in the copy at its place its
--- outcome is ready.
+-- outcome is ready, which is what that copy of its collection answers.
 pub record IsPrepared {V : Type 0} (r : TxActor V) (o : running.Answered V) : Type 0 where
   pub writes : MayWrite r.words o.writes.items
   pub calls : vec_len r.calls < vec_capacity r.calls
@@ -31,6 +37,8 @@ pub record IsPrepared {V : Type 0} (r : TxActor V) (o : running.Answered V) : Ty
       → IsReady x c.copied × (holds_call c.copied x.op ≡ true)
   pub kept : o.kept ≡ reply_of (answered_of o)
   pub told : o.told ≡ reply_of (answered_of o)
+  pub own : (c : CopyOf V) → slice_get r.copies.items o.place ≡ Some c
+      → (x : Outcome V) × (o.outcome ≡ Some x) × (c.collection ≡ o.asked.collection) × (answer_of c.copied o.asked.op ≡ Some x)
 
 -- In this world the call may be accepted: what it reads has been read, with the copied editions; its outcome is the world's, and its
 -- writes are the world's.
@@ -39,3 +47,11 @@ pub record MayAccept {V : Type 0} (w : World V) (a : ℕ) (o : running.Answered 
   pub outcome : outcome_at w a (asked_of o.asked) ≡ answered_of o
   pub writes : written (actor_of w a) (w.boosted.shadows a).editions ((content w.words w.blocks).writes (answered_of o))
       ≡ written_as (actor_of w a) o.writes.items
+
+-- In this world, which has x as its outcome, a call may go on whose locations, with these editions, are judged by the read set of y: with
+-- all of them there it may be accepted, and x is its own outcome; the one that is to be read is in no set, and its word actor rests.
+pub record MayAnswer {V : Type 0} (w : World V) (a : ℕ) (y : Actor) (x : Option (Outcome V)) (o : running.Answered V) (es : Entries)
+    : Type 0 where
+  pub accepts : judged y.reads.entries es ≡ All → MayAccept w a o × (x ≡ o.outcome)
+  pub reads : (l : ℕ) → judged y.reads.entries es ≡ Next l
+      → ((words.actor_of y).place ≡ AtRest) × (lookup y.writes.entries l ≡ None) × (lookup y.reads.entries l ≡ None)

@@ -2,6 +2,7 @@
 use Rattle.std.specs.Prelude.{◌≡◌, ◌⊎◌, ℕ, ◌+◌, ◌<◌, ◌≤◌, ◌++◌, length, Bool, false, not, ◌==◌, if◌then◌else◌, List, [], ◌∷◌, Option, Some, None, filter}
 use Rattle.tx_sets.specs.Entries.{Entries, locations}
 use Rattle.replay_log.specs.Contents.{Block, end_of, home_of, is_plain, size, size_by}
+use Rattle.replay_log.specs.Contents as contents
 use Rattle.replay_log.specs.Parts as parts
 use Rattle.replay_log.specs.Worlds.{World, all_of, distinct}
 use Rattle.tx_actor.specs.declared.blocks.Kind.{Kind}
@@ -55,3 +56,8 @@ with_block v k n = record v { blocks = v.blocks ++ record { kind = kind_of k; st
 -- there are as many collections as there may be, or the locations would be too many
 abbrev pub IsBeyond : BlocksView → Kind → ℕ → Type 0
 IsBeyond v k n = (256 ≤ length v.blocks) ⊎ (1048576 < end_of v.words v.blocks + size_by (kind_of k) n)
+
+-- this is the kind of collection k; none, where it isn't there
+abbrev pub IsKindAt : BlocksView → ℕ → Option Kind → Type 0
+IsKindAt v k None = contents.block_of v.blocks k ≡ None
+IsKindAt v k (Some kind) = (b : Block) × (k < length v.blocks) × (contents.block_of v.blocks k ≡ Some b) × (b.kind ≡ kind_of kind)

@@ -15,7 +15,7 @@ use Rattle.replay_log.specs.Contents.{Asked, content}
 use Rattle.replay_log.specs.Guards.{step_action}
 use Rattle.replay_log.specs.Worlds as worlds
 use Rattle.replay_log.specs.Worlds.{World, Seat, Stage, After, acted, asks, moves, actor_of, word_notice, seated, recorded, no_one, has_begun, has_read, has_locked, has_stored, has_released, has_cancelled, ended, has_tried, takes_gates, gives_up, goes_home, starve_at, step_at}
-use Rattle.tx_actor.specs.Running.{Does, Runs, notice_of, seat_of, stage_of}
+use Rattle.tx_actor.specs.Running.{Does, Runs, notice_of, seat_at, seat_of, stage_of}
 use Rattle.std.specs.Vec.{vec_len, vec_capacity}
 use Rattle.tx_actor.specs.declared.actor.Stage as running
 use Rattle.tx_actor.specs.declared.actor.Stage.TheVariants as stage
@@ -135,7 +135,18 @@ module _ {V : Type 0} where
 
   -- r becomes u by what the words told
   abbrev pub IsToldWord : TxActor V → TxActor V → Told V → notice.Notice → Type 0
-  IsToldWord r u t n = Steps r u t (λ a w. after_word w a (seat_of r) (stage_of r.stage) n)
+  IsToldWord r u t n = Steps r u t (λ a w. after_word w a (seat_at (w.seats a) r) (stage_of r.stage) n)
+
+  -- and by a base that has gone home
+  abbrev pub IsGoneHome : TxActor V → TxActor V → Told V → Type 0
+  IsGoneHome r u t = Steps r u t (λ a w. after_home w a (seat_at (w.seats a) r) (stage_of r.stage))
+
+  -- a step of the words that makes a record of the transaction, or ends it
+  abbrev pub Records : running.Stage V → Type 0
+  Records (stage.Ready homes) = Unit {0}
+  Records stage.Closing = Unit {0}
+  Records stage.Leaving = Unit {0}
+  Records s = ⊥
 
   -- r becomes u by a want of memory
   abbrev pub Starves : TxActor V → TxActor V → Told V → Type 0

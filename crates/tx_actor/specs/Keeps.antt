@@ -5,10 +5,10 @@ use Rattle.seq_model.specs.declared.refusal.Refusal.TheVariants as refusal
 use Rattle.seq_model.specs.declared.event.Notice.TheVariants.{Refused}
 use Rattle.conflict.specs.declared.outcome.Outcome.{Outcome}
 use Rattle.replay_log.specs.Contents.{Asked, Block, HaveStripes, block_of, first_of, shifted}
-use Rattle.replay_log.specs.Pieces.{piece_at}
-use Rattle.replay_log.specs.Worlds.{World, Seat, Open, actor_of, at_stage, calls_on, has_room, seated}
+use Rattle.replay_log.specs.Pieces.{piece_at, piece_of}
+use Rattle.replay_log.specs.Worlds.{World, Seat, Open, actor_of, at_stage, calls_on, has_room, is_known, seated}
 use Rattle.tx_actor.specs.declared.copies.Copied.{Copied}
-use Rattle.tx_actor.specs.Copies.{IsCopied, answer_of, answered_on, edition_at, holds_call}
+use Rattle.tx_actor.specs.Copies.{IsCopied, answer_of, answered_on, edition_at, has_piece, holds_call}
 use Rattle.tx_actor.specs.Footprints.{reads_in, with_known, writes_in}
 use Rattle.tx_actor.specs.Judged.{comes_to, judged, left_after}
 
@@ -22,13 +22,14 @@ module _ {V : Type 0} where
   call_on k op = record { collection = k; op = op }
 
 -- It is what actor a has in the world w of collection k, which stands in block b from location f on: what a shadow of a has, with the
--- edition of each location that a held call reads.
+-- edition of each location that a held call reads, whatever its outcome. It holds a call where it has the piece that the call touches.
 pub record IsOwnCopy {V : Type 0} (w : World V) (a k : ℕ) (b : Block) (f : ℕ) (c : Copied V) : Type 0 where
   pub stripes : HaveStripes w.blocks
   pub block : block_of w.blocks k ≡ Some b
   pub first : first_of w.words w.blocks k ≡ f
   pub copied : IsCopied b f k (w.boosted.shadows a) c
-  pub knows : (op : Op V) (o : Outcome V) → holds_call c op ≡ true → answer_of c op ≡ Some o → Knows c (reads_in c o)
+  pub knows : (o : Outcome V) → holds_call c o.op ≡ true → Knows c (reads_in c o)
+  pub pieces : (op : Op V) → is_known (Some b) op ≡ true → holds_call c op ≡ has_piece c (piece_of b.kind op)
 
 -- A call that is held is judged with the copied editions, and one whose locations don't fit is TooLong.
 abbrev pub AnswersHeld : Type 0 → Type 0

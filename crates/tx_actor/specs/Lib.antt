@@ -12,3 +12,7 @@ pub mod Blocks
 pub mod Keeping
 pub mod Asks
 pub mod Guarded
+pub mod Owns
+pub mod Prepares
+pub mod Logs
+pub mod Loads

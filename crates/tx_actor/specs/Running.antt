@@ -1,5 +1,6 @@
 -- What a running actor shows, and what a step of it makes of every world that shows it.
-use Rattle.std.specs.Prelude.{◌≡◌, ℕ, Bool, false, ◌==◌, List, [], ◌∷◌, take, drop, Option, Some, None, if◌then◌else◌}
+use Rattle.std.specs.Prelude.{◌≡◌, ℕ, Bool, true, false, ◌==◌, List, [], ◌∷◌, take, drop, Option, Some, None, if◌then◌else◌}
+use Rattle.conflict.specs.declared.outcome.Outcome.{Outcome}
 use Rattle.seq_model.specs.declared.event.Notice.{Notice}
 use Rattle.seq_model.specs.declared.event.Notice.TheVariants.{Quiet, Answered, Refused}
 use Rattle.step_core.specs.Shown as words
@@ -34,6 +35,10 @@ module _ {V : Type 0} where
   abbrev pub answered_of : running.Answered V → contents.Answered V
   answered_of o = record { asked = asked_of o.asked; outcome = o.outcome }
 
+  -- the call with this outcome
+  abbrev pub with_outcome : running.Answered V → Option (Outcome V) → contents.Answered V
+  with_outcome o x = record { asked = asked_of o.asked; outcome = x }
+
   abbrev pub stage_of : Stage V → worlds.Stage V
   stage_of stage.Idle = worlds.Idle
   stage_of stage.Beginning = worlds.Beginning
@@ -65,6 +70,38 @@ module _ {V : Type 0} where
         copied = λ k q. has_piece (copy_of r.copies.items k) q;
       }
 
+  -- the outcome of the call whose locations are read
+  abbrev pub outcome_in : worlds.Stage V → Option (Outcome V)
+  outcome_in (worlds.Loading o left) = o.outcome
+  outcome_in s = None
+
+  -- The actor's stage in a world that has it at s. While the locations of a call are read, its outcome there is the world's: where a
+  -- piece is copied after another's commit, of a location that was read before it, the actor can't know that outcome, and the call
+  -- comes to nothing.
+  abbrev pub stage_in : worlds.Stage V → Stage V → worlds.Stage V
+  stage_in s (stage.Loading o left) = worlds.Loading (with_outcome o (outcome_in s)) left.items
+  stage_in s t = stage_of t
+
+  abbrev pub seat_in : worlds.Stage V → TxActor V → Seat V
+  seat_in s r = worlds.at_stage (seat_of r) (stage_in s r.stage)
+
+  -- From the first value store on nothing reads the calls and the copies of a seat: its record has the calls, and its logs go home. So an
+  -- actor may have handed them out, and what the world's seat has of them is the world's alone.
+  abbrev pub is_recorded : Stage V → Bool
+  is_recorded (stage.Storing homes) = true
+  is_recorded (stage.Homing homes) = true
+  is_recorded stage.Releasing = true
+  is_recorded s = false
+
+  -- the seat that the actor has in a world that has x for it
+  abbrev pub seat_at : Seat V → TxActor V → Seat V
+  seat_at x r =
+      if is_recorded r.stage then record (seat_in x.stage r) { calls = x.calls; copied = x.copied } else seat_in x.stage r
+
+  -- a seat with the actor's numbers and cause
+  abbrev pub IsSeatOf : Seat V → TxActor V → Type 0
+  IsSeatOf x r = (x.rv ≡ r.rv) × (x.wv ≡ r.wv) × (x.cause ≡ r.cause)
+
   -- what is told of actor a
   abbrev pub notice_of : ℕ → Told V → Notice V
   notice_of a told.Quiet = Quiet
@@ -76,9 +113,10 @@ module _ {V : Type 0} where
   KnowsHomes (stage.Locking homes) ks = homes.items ≡ ks
   KnowsHomes stage ks = Unit {0}
 
-  -- r is actor a of the world w: its seat and its word actor are those that r shows
+  -- r is actor a of the world w: its seat, but for what is left open, and its word actor are those that r shows
   abbrev pub Runs : ℕ → TxActor V → World V → Type 0
-  Runs a r w = (w.seats a ≡ seat_of r) × (worlds.actor_of w a ≡ words.actor_of r.words) × KnowsHomes r.stage (worlds.written_homes w a)
+  Runs a r w =
+      (w.seats a ≡ seat_at (w.seats a) r) × (worlds.actor_of w a ≡ words.actor_of r.words) × KnowsHomes r.stage (worlds.written_homes w a)
 
   -- In every world in which r is an actor, it is u after f, which tells t.
   abbrev pub Does : TxActor V → TxActor V → Told V → (ℕ → World V → After V) → Type 0

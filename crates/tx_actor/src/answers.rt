@@ -1,20 +1,23 @@
-//! How a call on a copied collection is accepted.
-ghost use Rattle.std.specs.Prelude.{◌≡◌, ◌<◌, ℕ, [], Some, length, slice_get, true};
+//! How a call on a copied collection is answered: it is accepted, or a location is read first, or its copy is found stale.
+ghost use Rattle.std.specs.Prelude.{◌≡◌, ◌<◌, ℕ, [], Option, Some, length, slice_get, true};
 ghost use Rattle.replay_log.specs.Worlds as worlds;
 ghost use Rattle.replay_log.specs.Worlds.{World};
 ghost use Rattle.step_core.specs.Shown.{actor_of};
-ghost use Rattle.tx_actor.specs.Answers.{IsAcceptedAt, IsPrepared, MayAccept};
+ghost use Rattle.tx_actor.specs.Answers.{IsAcceptedAt, IsPrepared, MayAccept, MayAnswer};
 ghost use Rattle.conflict.specs.declared.outcome.Outcome.{Outcome};
 ghost use Rattle.tx_actor.specs.declared.actor.CopyOf.{CopyOf};
 ghost use Rattle.tx_actor.specs.Copies.{IsReady, holds_call};
-ghost use Rattle.tx_actor.specs.Judged.{comes_to};
+ghost use Rattle.tx_actor.specs.Judged.{comes_to, judged, left_after};
 ghost use Rattle.tx_actor.specs.declared.judged.Judged.TheVariants.{All};
-ghost use Rattle.tx_actor.specs.Running.{Runs, answered_of, notice_of, seat_of};
+ghost use Rattle.tx_actor.specs.Running.{Runs, answered_of, notice_of, seat_of, with_outcome};
 
 use crate::actor::{Answered, CopyOf, Stage, Told, TxActor};
+use crate::judged::{Judged, judge};
 use crate::writes::write_all;
 use conflict::Outcome;
-use seq_model::{Answer, Call, Value};
+use seq_model::{Answer, Call, Refusal, Value};
+use std::collections::VecDeque;
+use step_core::Place;
 
 /// The outcome, which is ready in the copy at this place, joins it.
 fn accept_at<V: Value>(copies: &mut Vec<CopyOf<V>>, place: usize, outcome: Option<Outcome<V>>)
@@ -54,5 +57,33 @@ impl<V: Value> TxActor<V> {
         self.calls.push_reserved((made, kept));
         self.stage = Stage::Open;
         Told::Answered(Answer::Replied(told))
+    }
+
+    /// A call that is prepared goes on: its locations are judged by the read set, from the first. Where the set has them all with these
+    /// editions it is accepted; the first that the set does not have is read next; one that it has with another edition is stale.
+    pub(crate) fn goes_on(&mut self, call: Answered<V>, left: VecDeque<(u32, u64)>) -> Told<V>
+        requires prepared { IsPrepared self.old call }
+        ensures { (a : ℕ) (w : World V) (x : Option (Outcome V)) → worlds.actor_of w a ≡ actor_of self.old.words →
+            MayAnswer w a self.old.words x call left.items →
+            let reads = self.old.words.reads.entries in
+            let f = comes_to w a (seat_of self.old) (with_outcome call x) (left_after reads left.items) (judged reads left.items) in
+            Runs a self.new f.0 × (notice_of a result ≡ f.1) }
+    {
+        let mut left = left;
+        match judge(&self.words.reads, &mut left) {
+            Judged::All => self.accepts(call),
+            Judged::Next(location) => {
+                self.words.place = Place::Look(location);
+                self.stage = Stage::Loading(call, left);
+                Told::Quiet
+            }
+            Judged::Stale(location, base_edition, word_edition) => {
+                self.gives_up(Refusal::Stale {
+                    location,
+                    base_edition,
+                    word_edition,
+                })
+            }
+        }
     }
 }

@@ -6,6 +6,8 @@ ghost use Rattle.seq_model.specs.declared.call.Op.TheVariants as op;
 ghost use Rattle.replay_log.specs.Worlds as worlds;
 ghost use Rattle.replay_log.specs.Worlds.{ask_op, commits};
 ghost use Rattle.tx_actor.specs.Asks.{Asks, MayStore, Stands};
+ghost use Rattle.tx_actor.specs.Blocks.{BlocksView};
+ghost use Rattle.tx_actor.specs.Keeping.{HasNoReads, KeepsIn};
 ghost use Rattle.tx_actor.specs.Running.{Does, seat_of};
 
 use crate::actor::{Stage, Told, TxActor};
@@ -23,6 +25,7 @@ impl<V: Drop> TxActor<V> {
     pub fn asks_to_read(&mut self, blocks: &Blocks, word: u32) -> Result<Told<V>, Memory>
         ensures ok { IfOk result (λ told. Asks blocks.now self.old self.new told (λ a w. ask_op w a (seat_of self.old) word op.Read)) }
         ensures err { OnErr result (Stands self.old self.new) }
+        ensures keeps { HasNoReads self.old.words → KeepsIn blocks.now self.old self.new }
     {
         if word >= blocks.words() {
             return Ok(Told::Refused(Refusal::NoSuch));
@@ -53,6 +56,7 @@ impl<V: Drop> TxActor<V> {
     ) -> Result<Told<V>, Memory>
         ensures ok { IfOk result (λ told. Asks blocks.now self.old self.new told (λ a w. ask_op w a (seat_of self.old) word (op.Write value))) }
         ensures err { OnErr result (Stands self.old self.new) }
+        ensures keeps { KeepsIn blocks.now self.old self.new }
     {
         if word >= blocks.words() {
             return Ok(Told::Refused(Refusal::NoSuch));
@@ -81,6 +85,7 @@ impl<V: Drop> TxActor<V> {
     pub fn asks_to_commit(&mut self, alloc: Global, blocks: &Blocks) -> Result<Told<V>, Memory>
         ensures ok { IfOk result (λ told. Asks blocks.now self.old self.new told (λ a w. commits w a (seat_of self.old) (worlds.actor_of w a).writes)) }
         ensures err { OnErr result (Stands self.old self.new) }
+        ensures keeps { KeepsIn blocks.now self.old self.new }
     {
         if self.words.writes.len() == 0 {
             close_words(&mut self.words, blocks.end() as usize)?;
@@ -97,6 +102,7 @@ impl<V: Drop> TxActor<V> {
     pub fn asks_to_store(&mut self, blocks: &Blocks) -> Result<(), Memory>
         ensures ok { OnOk result (MayStore self.old self.new) }
         ensures err { OnErr result (Stands self.old self.new) }
+        ensures keeps { KeepsIn blocks.now self.old self.new }
     {
         store_words(&mut self.words, blocks.end() as usize)?;
         Ok(())
@@ -104,7 +110,8 @@ impl<V: Drop> TxActor<V> {
 
     /// Its transaction is to end without a commit.
     pub fn asks_to_abort(&mut self) -> Told<V>
-        ensures { Does self.old self.new result (λ a w. (worlds.cancels w a (record (seat_of self.old) { cause = None }), Quiet)) }
+        ensures does { Does self.old self.new result (λ a w. (worlds.cancels w a (record (seat_of self.old) { cause = None }), Quiet)) }
+        ensures keeps { (v : BlocksView) → KeepsIn v self.old self.new }
     {
         self.cause = None;
         self.cancels()

@@ -45,6 +45,22 @@ pub struct Placed {
     pub end: u32,
 }
 
+impl Placed {
+    ghost use Rattle.std.specs.Prelude.{◌<◌, ◌^◌};
+    ghost use Rattle.replay_log.specs.Contents.{size};
+    ghost use Rattle.tx_actor.specs.Blocks.{block_of};
+
+    // Its first location.
+    fn first(self) -> u32
+        requires { size (block_of self) ≤ self.end }
+        ensures first { result + size (block_of self) ≡ self.end }
+        ensures within { self.end < 2 ^ 32 }
+    {
+        let size = u64::from(self.stripes) + more_locations(self.kind);
+        (u64::from(self.end) - size) as u32
+    }
+}
+
 /// How the locations of a world lie. A location's collection is found by halves.
 #[derive(Drop)]
 pub struct Blocks {
@@ -64,7 +80,9 @@ impl Model for Blocks {
 }
 
 impl Blocks {
-    ghost use Rattle.tx_actor.specs.Blocks.{IsBeyond, home_in, with_block};
+    ghost use Rattle.std.specs.Prelude.{◌<◌, ◌^◌, Some, length};
+    ghost use Rattle.replay_log.specs.Contents.{Block, block_of, first_of, size};
+    ghost use Rattle.tx_actor.specs.Blocks.{IsBeyond, IsKindAt, home_in, with_block};
 
     /// So many words, and no collection yet.
     pub fn new(alloc: Global, words: u32) -> Blocks
@@ -93,6 +111,26 @@ impl Blocks {
             return self.words;
         }
         self.placed[count - 1].end
+    }
+
+    /// The kind of a collection; none, where it isn't there.
+    pub fn kind_of(&self, collection: u32) -> Option<Kind>
+        ensures { IsKindAt self.now collection result }
+    {
+        let i = collection as usize;
+        if i >= self.placed.len() {
+            return None;
+        }
+        Some(self.placed[i].kind)
+    }
+
+    /// The first location of a collection.
+    pub fn first_of(&self, collection: u32) -> u32
+        requires { collection < length self.now.blocks }
+        ensures first { result ≡ first_of self.now.words self.now.blocks collection }
+        ensures within { (b : Block) → block_of self.now.blocks collection ≡ Some b → result + size b < 2 ^ 32 }
+    {
+        self.placed[collection as usize].first()
     }
 
     /// The block of the next collection. `TooLong` past 256 collections, or 1,048,576 locations. A refusal leaves the blocks as they were.

@@ -93,7 +93,7 @@ impl<V: Value> Copied<V> {
     }
 
     /// The log of the accepted calls.
-    fn log(self) -> Log<V>
+    pub fn log(self) -> Log<V>
         ensures changes { result.changes ≡ changes_in self }
         ensures locations { result.locations ≡ locations_in self }
     {

@@ -4,7 +4,9 @@ ghost use Rattle.std.specs.Prelude.{◌≡◌, ◌<◌, ℕ, [], ◌∷◌};
 ghost use Rattle.std.specs.Vec.{vec_len, vec_capacity};
 ghost use Rattle.seq_model.specs.declared.refusal.Refusal.TheVariants as refusal;
 ghost use Rattle.replay_log.specs.Worlds.{because, gives_up};
-ghost use Rattle.tx_actor.specs.Dispatch.{HasRoom, IsToldWord, Starves, Steps, after_home, after_put, after_try, notice_told, shown_notice};
+ghost use Rattle.tx_actor.specs.Dispatch.{HasRoom, IsGoneHome, IsToldWord, Records, Starves, after_put, after_try, notice_told, shown_notice};
+ghost use Rattle.tx_actor.specs.Blocks.{BlocksView};
+ghost use Rattle.tx_actor.specs.Keeping.{KeepsIn};
 ghost use Rattle.tx_actor.specs.Running.{Does, Reseats, at, seat_of, stage_of};
 
 use crate::actor::{Asked, Stage, Told, TxActor};
@@ -26,7 +28,8 @@ impl<V: Drop> TxActor<V> {
     }
 
     fn has_begun(&mut self, heard: WordNotice) -> Told<V>
-        ensures { IsToldWord (at self.old Stage.Beginning) self.new result (shown_notice heard) }
+        ensures does { IsToldWord (at self.old Stage.Beginning) self.new result (shown_notice heard) }
+        ensures keeps { (v : BlocksView) → KeepsIn v (at self.old Stage.Beginning) self.new }
     {
         match heard {
             WordNotice::Begun(rv) => self.begun(rv),
@@ -37,7 +40,8 @@ impl<V: Drop> TxActor<V> {
 
     fn has_read(&mut self, heard: WordNotice, location: u32) -> Told<V>
         requires { vec_len self.old.calls < vec_capacity self.old.calls }
-        ensures { IsToldWord (at self.old (Stage.Reading location)) self.new result (shown_notice heard) }
+        ensures does { IsToldWord (at self.old (Stage.Reading location)) self.new result (shown_notice heard) }
+        ensures keeps { (v : BlocksView) → KeepsIn v (at self.old (Stage.Reading location)) self.new }
     {
         match heard {
             WordNotice::Number(value) => self.read(location, value),
@@ -47,7 +51,8 @@ impl<V: Drop> TxActor<V> {
     }
 
     fn has_locked(&mut self, heard: WordNotice, homes: VecDeque<u32>) -> Told<V>
-        ensures { IsToldWord (at self.old (Stage.Locking homes)) self.new result (shown_notice heard) }
+        ensures does { IsToldWord (at self.old (Stage.Locking homes)) self.new result (shown_notice heard) }
+        ensures keeps { (v : BlocksView) → KeepsIn v (at self.old (Stage.Locking homes)) self.new }
     {
         match heard {
             WordNotice::Locked(number) => self.locked(number, homes),
@@ -60,8 +65,11 @@ impl<V: Drop> TxActor<V> {
     }
 
     fn has_first_stored(&mut self, heard: WordNotice, homes: VecDeque<u32>) -> Told<V>
-        ensures { IsToldWord (at self.old (Stage.Ready homes)) self.new result (shown_notice heard) }
+        ensures does { IsToldWord (at self.old (Stage.Ready homes)) self.new result (shown_notice heard) }
+        ensures keeps { (v : BlocksView) → KeepsIn v (at self.old (Stage.Ready homes)) self.new }
+        ensures made { self.new.made.items ≡ self.old.calls.items }
     {
+        mem::swap(&mut self.made, &mut self.calls);
         match heard {
             WordNotice::Stored => self.goes_home(homes),
             _ => self.stored_one(homes),
@@ -69,7 +77,8 @@ impl<V: Drop> TxActor<V> {
     }
 
     fn has_stored(&mut self, heard: WordNotice, homes: VecDeque<u32>) -> Told<V>
-        ensures { IsToldWord (at self.old (Stage.Storing homes)) self.new result (shown_notice heard) }
+        ensures does { IsToldWord (at self.old (Stage.Storing homes)) self.new result (shown_notice heard) }
+        ensures keeps { (v : BlocksView) → KeepsIn v (at self.old (Stage.Storing homes)) self.new }
     {
         match heard {
             WordNotice::Stored => self.goes_home(homes),
@@ -78,7 +87,8 @@ impl<V: Drop> TxActor<V> {
     }
 
     fn has_released(&mut self, heard: WordNotice) -> Told<V>
-        ensures { IsToldWord (at self.old Stage.Releasing) self.new result (shown_notice heard) }
+        ensures does { IsToldWord (at self.old Stage.Releasing) self.new result (shown_notice heard) }
+        ensures keeps { (v : BlocksView) → KeepsIn v (at self.old Stage.Releasing) self.new }
     {
         match heard {
             WordNotice::Released => self.released(),
@@ -87,7 +97,8 @@ impl<V: Drop> TxActor<V> {
     }
 
     fn has_cancelled(&mut self, heard: WordNotice) -> Told<V>
-        ensures { IsToldWord (at self.old Stage.Cancelling) self.new result (shown_notice heard) }
+        ensures does { IsToldWord (at self.old Stage.Cancelling) self.new result (shown_notice heard) }
+        ensures keeps { (v : BlocksView) → KeepsIn v (at self.old Stage.Cancelling) self.new }
     {
         match heard {
             WordNotice::Cancelled => self.cancelled(),
@@ -98,7 +109,9 @@ impl<V: Drop> TxActor<V> {
     /// Its word actor has taken a step, which told this.
     pub fn stepped(&mut self, told: Result<Option<WordAnswer>, WordRefusal>) -> Told<V>
         requires { HasRoom self.old self.old.stage }
-        ensures { IsToldWord self.old self.new result (notice_told told) }
+        ensures does { IsToldWord self.old self.new result (notice_told told) }
+        ensures keeps { (v : BlocksView) → KeepsIn v self.old self.new }
+        ensures made { Records self.old.stage → self.new.made.items ≡ self.old.calls.items }
     {
         let heard = of_told(told);
         let stage = mem::replace(&mut self.stage, Stage::Idle);
@@ -117,8 +130,9 @@ impl<V: Drop> TxActor<V> {
     }
 
     fn tried_next(&mut self, homes: VecDeque<u32>, got: usize, tries: u32, free: bool) -> Told<V>
-        ensures { let r = at self.old (Stage.Gating homes got tries) in
+        ensures does { let r = at self.old (Stage.Gating homes got tries) in
             Does r self.new result (λ a w. after_try w a (seat_of r) (stage_of r.stage) free) }
+        ensures keeps { (v : BlocksView) → KeepsIn v (at self.old (Stage.Gating homes got tries)) self.new }
     {
         if got < homes.len() {
             self.tried_home(homes, got, tries, free)
@@ -128,15 +142,17 @@ impl<V: Drop> TxActor<V> {
     }
 
     fn tried_call(&mut self, asked: Asked<V>, tries: u32, free: bool) -> Told<V>
-        ensures { let r = at self.old (Stage.Trying asked tries) in
+        ensures does { let r = at self.old (Stage.Trying asked tries) in
             Does r self.new result (λ a w. after_try w a (seat_of r) (stage_of r.stage) free) }
+        ensures keeps { (v : BlocksView) → KeepsIn v (at self.old (Stage.Trying asked tries)) self.new }
     {
         self.tried(asked, tries, free)
     }
 
     /// The gate that was to be tried was found free or not; where it was free it is held now.
     pub fn tried_gate(&mut self, free: bool) -> Told<V>
-        ensures { Does self.old self.new result (λ a w. after_try w a (seat_of self.old) (stage_of self.old.stage) free) }
+        ensures does { Does self.old self.new result (λ a w. after_try w a (seat_of self.old) (stage_of self.old.stage) free) }
+        ensures keeps { (v : BlocksView) → KeepsIn v self.old self.new }
     {
         let stage = mem::replace(&mut self.stage, Stage::Idle);
         match stage {
@@ -147,8 +163,9 @@ impl<V: Drop> TxActor<V> {
     }
 
     fn put_first(&mut self, homes: VecDeque<u32>) -> Told<V>
-        ensures { let r = at self.old (Stage.Returning homes) in
+        ensures does { let r = at self.old (Stage.Returning homes) in
             Does r self.new result (λ a w. after_put w a (seat_of r) (stage_of r.stage)) }
+        ensures keeps { (v : BlocksView) → KeepsIn v (at self.old (Stage.Returning homes)) self.new }
     {
         if has_none(&homes) {
             return self.stays(Stage::Returning(homes));
@@ -160,7 +177,8 @@ impl<V: Drop> TxActor<V> {
 
     /// The gate that was to be put back is free again, its base unchanged.
     pub fn put_gate(&mut self) -> Told<V>
-        ensures { Does self.old self.new result (λ a w. after_put w a (seat_of self.old) (stage_of self.old.stage)) }
+        ensures does { Does self.old self.new result (λ a w. after_put w a (seat_of self.old) (stage_of self.old.stage)) }
+        ensures keeps { (v : BlocksView) → KeepsIn v self.old self.new }
     {
         let stage = mem::replace(&mut self.stage, Stage::Idle);
         match stage {
@@ -171,8 +189,8 @@ impl<V: Drop> TxActor<V> {
     }
 
     fn first_home(&mut self, homes: VecDeque<u32>) -> Told<V>
-        ensures { let r = at self.old (Stage.Homing homes) in
-            Steps r self.new result (λ a w. after_home w a (seat_of r) (stage_of r.stage)) }
+        ensures does { IsGoneHome (at self.old (Stage.Homing homes)) self.new result }
+        ensures keeps { (v : BlocksView) → KeepsIn v (at self.old (Stage.Homing homes)) self.new }
     {
         if has_none(&homes) {
             return self.stays(Stage::Homing(homes));
@@ -184,7 +202,8 @@ impl<V: Drop> TxActor<V> {
 
     /// The base that was to go home has gone, with its changes, and its gate is free.
     pub fn went_home(&mut self) -> Told<V>
-        ensures { Steps self.old self.new result (λ a w. after_home w a (seat_of self.old) (stage_of self.old.stage)) }
+        ensures does { IsGoneHome self.old self.new result }
+        ensures keeps { (v : BlocksView) → KeepsIn v self.old self.new }
     {
         let stage = mem::replace(&mut self.stage, Stage::Idle);
         match stage {
@@ -195,7 +214,8 @@ impl<V: Drop> TxActor<V> {
 
     /// A call is given up while the gate of its collection is held.
     fn starves_copying(&mut self, collection: u32) -> Told<V>
-        ensures { Reseats self.old self.new result (λ a w. gives_up w a (because (seat_of self.old) refusal.OutOfMemory) (collection ∷ [])) }
+        ensures does { Reseats self.old self.new result (λ a w. gives_up w a (because (seat_of self.old) refusal.OutOfMemory) (collection ∷ [])) }
+        ensures keeps { (v : BlocksView) → KeepsIn v (at self.old (Stage.ReturningOne collection)) self.new }
     {
         self.cause = Some(Refusal::OutOfMemory);
         self.stage = Stage::ReturningOne(collection);
@@ -203,7 +223,8 @@ impl<V: Drop> TxActor<V> {
     }
 
     fn starves_gating(&mut self, homes: VecDeque<u32>, got: usize) -> Told<V>
-        ensures { (n : ℕ) → Starves (at self.old (Stage.Gating homes got n)) self.new result }
+        ensures does { (n : ℕ) → Starves (at self.old (Stage.Gating homes got n)) self.new result }
+        ensures keeps { (v : BlocksView) → KeepsIn v (at self.old (Stage.Gating homes got 0)) self.new }
     {
         let mut held = homes;
         held.truncate(got);
@@ -211,14 +232,16 @@ impl<V: Drop> TxActor<V> {
     }
 
     fn starves_ready(&mut self, homes: VecDeque<u32>) -> Told<V>
-        ensures { Starves (at self.old (Stage.Ready homes)) self.new result }
+        ensures does { Starves (at self.old (Stage.Ready homes)) self.new result }
+        ensures keeps { (v : BlocksView) → KeepsIn v (at self.old (Stage.Ready homes)) self.new }
     {
         self.gives_up_with(Refusal::OutOfMemory, homes)
     }
 
     /// Its request is refused memory, where it may still be.
     pub fn starves(&mut self) -> Told<V>
-        ensures { Starves self.old self.new result }
+        ensures does { Starves self.old self.new result }
+        ensures keeps { (v : BlocksView) → KeepsIn v self.old self.new }
     {
         let stage = mem::replace(&mut self.stage, Stage::Idle);
         match stage {

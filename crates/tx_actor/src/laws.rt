@@ -1,11 +1,14 @@
 //! The laws of the definitions that the contracts cite.
-ghost use Rattle.std.specs.Prelude.{◌≡◌, ◌≢◌, ◌<◌, ℕ, Bool, Contains, List, Some, true, if◌then◌else◌};
+ghost use Rattle.std.specs.Prelude.{◌≡◌, ◌≢◌, ◌<◌, ◌≤◌, ℕ, [], All, Bool, Contains, List, Some, length, slice_get, slice_index, true, if◌then◌else◌};
 ghost use Rattle.seq_model.specs.declared.call.Op.{Op};
 ghost use Rattle.conflict.specs.Table.{Room};
 ghost use Rattle.conflict.specs.declared.change.Change.{Change};
 ghost use Rattle.conflict.specs.declared.outcome.Outcome.{Outcome};
 ghost use Rattle.collection_machine.specs.Boosted.{Shadow, changes, longer};
-ghost use Rattle.replay_log.specs.Base.{Shown, outcome_of, reads_of, shown_of};
+ghost use Rattle.replay_log.specs.declared.base.Base.{Base};
+ghost use Rattle.replay_log.specs.Base.{Shown, editions_of, locations_of, outcome_of, reads_of, shown_of, stripes_of};
+ghost use Rattle.replay_log.specs.Collections.{Suit};
+ghost use Rattle.atomic_steps.specs.Bases.{IsBaseOf, ShowsBase, log_changes, log_locations};
 ghost use Rattle.replay_log.specs.Parts.{kind_of, part};
 ghost use Rattle.replay_log.specs.Pieces.{piece_of};
 ghost use Rattle.replay_log.specs.declared.touch.Touch.{Touch};
@@ -15,16 +18,21 @@ ghost use Rattle.shadow.specs.Memo.{IsAlike, MemoView, holds};
 ghost use Rattle.replay_log.specs.Contents.{Answered, Block, HaveStripes, block_of, content, first_of};
 ghost use Rattle.tx_actor.specs.declared.copies.Copied.{Copied};
 ghost use Rattle.tx_actor.specs.declared.copies.Copied.TheVariants.{Keys};
-ghost use Rattle.tx_actor.specs.Copies.{IsAccepted, IsCopied, IsLearnt, IsOf, ShowParts, answer_of, answered_on, has_piece, holds_call};
+ghost use Rattle.tx_actor.specs.Copies.{IsAccepted, IsCopied, IsLearnt, IsOf, ShowParts, answer_of, answered_on, changes_in, has_piece, holds_call, locations_in};
 ghost use Rattle.tx_actor.specs.Accepts.{Accepts, PutsBack};
 ghost use Rattle.seq_model.specs.declared.event.Event.{Event};
 ghost use Rattle.seq_model.specs.declared.held.Held.{Held};
-ghost use Rattle.replay_log.specs.Worlds.{opened, run};
+ghost use Rattle.replay_log.specs.Worlds.{Open, World, opened, run};
 ghost use Rattle.tx_actor.specs.Dispatch.{AreSteps, MayGoOn};
 ghost use Rattle.tx_actor.specs.Guarded.{committed_at};
 ghost use Rattle.tx_actor.specs.Judged.{IsJudged};
 ghost use Rattle.tx_actor.specs.Shows.{GivesUp, AsksStores, CopiesForCall, ReadsNext};
-ghost use Rattle.tx_actor.specs.Keeps.{AnswersHeld};
+ghost use Rattle.tx_actor.specs.Keeps.{AnswersHeld, IsOwnCopy};
+ghost use Rattle.tx_actor.specs.declared.actor.CopyOf.{CopyOf};
+ghost use Rattle.tx_actor.specs.declared.actor.TxActor.{TxActor};
+ghost use Rattle.tx_actor.specs.Answers.{IsAcceptedAt};
+ghost use Rattle.tx_actor.specs.Blocks.{BlocksView, IsLaid};
+ghost use Rattle.tx_actor.specs.Owns.{AreOfBlocks, MayCall, OwnsCopies};
 
 use seq_model::Value;
 
@@ -109,6 +117,21 @@ pub fn copies_follow<V: Value>()
         IsCopied b f k x c → o.asked.collection ≢ k → IsCopied b f k (longer x o) c }
 {}
 
+/// What a commit hands home. The log of what a transaction has of a collection is that of its calls there; each location in it lies in
+/// each base of the collection's block, and in no world that events have reached has such a base an edition there above the clock.
+pub fn logs_as_worlds<V: Value>()
+    ensures log { (w : World V) (a k : ℕ) (b : Block) (f : ℕ) (c : Copied V) → IsOwnCopy w a k b f c →
+        let outcomes = (w.boosted.shadows a).outcomes in
+        (changes_in c ≡ log_changes k b outcomes) × (locations_in c ≡ log_locations k b outcomes) }
+    ensures within { (k : ℕ) (b : Block) (outcomes : List (Answered V)) (base : Base V) → 0 < b.stripes → IsBaseOf b base →
+        All (λ i. i < locations_of (stripes_of base) (shown_of base)) (log_locations k b outcomes) }
+    ensures editions { (blocks : List Block) (clock : ℕ) (values : List ℕ) (held : List (Held V)) (events : List (Event V)) (k : ℕ)
+        (b : Block) (outcomes : List (Answered V)) (base : Base V) → HaveStripes blocks → Suit blocks held → block_of blocks k ≡ Some b →
+        let w = run (opened blocks clock values held) events in
+        ShowsBase (length values) blocks w k base →
+        All (λ i. slice_index (editions_of base) i ≤ w.boosted.words.clock) (log_locations k b outcomes) }
+{}
+
 /// What copying for a call leaves. A memo's keys are answered alike by a collection that has the parts which they are read from; the
 /// parts of a collection, some of them replaced by those of another of its kind, are those of a third; and what a call touches is
 /// the same where the parts that it is touched from are.
@@ -121,4 +144,32 @@ pub fn copies_found<V: Value>()
     ensures touched { (n : ℕ) (op : Op V) (s t : Shown V) → 0 < n → kind_of s ≡ kind_of t →
         ((h : Touched V) → touched_by n op t ≡ Some h → (i : ℕ) → Contains (touched_places n h) i → part n i t ≡ part n i s) →
         touched_by n op s ≡ touched_by n op t }
+{}
+
+/// What an actor has of all collections is its own in a world: of an actor that has begun, which has nothing, where its shadow shows
+/// collections. It depends on how the locations lie and on the actor's own shadow alone, so it stays whatever else happens. An accepted
+/// outcome keeps it. The copies are then of the kind and the stripes of their blocks.
+pub fn copies_stay_own<V: Value>()
+    ensures begun { (r : TxActor V) (w : World V) (a : ℕ) → r.copies.items ≡ [] → HaveStripes w.blocks →
+        (w.boosted.shadows a).outcomes ≡ [] →
+        ((k : ℕ) (b : Block) → block_of w.blocks k ≡ Some b →
+        (s : Shown V) × ShowParts b (first_of w.words w.blocks k) (w.boosted.shadows a).parts s) →
+        OwnsCopies r w a }
+    ensures same { (r u : TxActor V) (w v : World V) (a : ℕ) → u.copies.items ≡ r.copies.items → v.words ≡ w.words → v.blocks ≡ w.blocks →
+        v.boosted.shadows a ≡ w.boosted.shadows a → OwnsCopies r w a → OwnsCopies u v a }
+    ensures accepted { (r u : TxActor V) (w v : World V) (a i j : ℕ) (o : Outcome V) → v.words ≡ w.words → v.blocks ≡ w.blocks →
+        v.boosted.shadows a ≡ longer (w.boosted.shadows a) (answered_on j o.op o) →
+        IsAcceptedAt i (Some o) r.copies.items u.copies.items →
+        ((c : CopyOf V) → slice_get r.copies.items i ≡ Some c → (c.collection ≡ j) × (answer_of c.copied o.op ≡ Some o)) →
+        OwnsCopies r w a → OwnsCopies u v a }
+    ensures blocks { (v : BlocksView) (r : TxActor V) (w : World V) (a : ℕ) → IsLaid v w → OwnsCopies r w a → AreOfBlocks v r.copies.items }
+{}
+
+/// In every world that events have reached, an actor at rest in its transaction may call: a call whose locations have all been read with
+/// the copied editions may be accepted, and a location that is to be read next has not been written.
+pub fn calls_as_worlds<V: Value>()
+    ensures { (blocks : List Block) (clock : ℕ) (values : List ℕ) (held : List (Held V)) (events : List (Event V)) (a : ℕ) →
+        HaveStripes blocks →
+        let w = run (opened blocks clock values held) events in
+        (w.seats a).stage ≡ Open → MayCall w a }
 {}

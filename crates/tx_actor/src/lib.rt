@@ -15,9 +15,13 @@ mod ending;
 mod footprints;
 mod homes;
 mod judged;
+mod known;
 pub mod laws;
+mod loads;
+mod logs;
 mod next;
 mod notice;
+mod prepares;
 mod requests;
 mod steps;
 mod weigh;
@@ -31,6 +35,7 @@ pub use ending::cancel;
 pub use homes::written_homes;
 pub use judged::{Judged, go_on, judge};
 pub use next::Next;
+pub use prepares::Prepared;
 pub use requests::{
     close_words, fits_one, lock_words, may_read, read_word, store_words, write_word,
 };

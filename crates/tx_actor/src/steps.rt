@@ -1,5 +1,5 @@
 //! What each stage makes of an actor, given what its step found. The contracts speak of every world that shows the actor.
-ghost use Rattle.std.specs.Prelude.{◌≡◌, ◌<◌, ◌≤◌, ◌==◌, ℕ, true, false, List, [], ◌∷◌, ◌++◌, take, drop, length, if◌then◌else◌};
+ghost use Rattle.std.specs.Prelude.{◌≡◌, ◌<◌, All, ◌≤◌, ◌==◌, ℕ, true, false, List, [], ◌∷◌, ◌++◌, take, drop, length, if◌then◌else◌};
 ghost use Rattle.std.specs.Vec.{vec_len, vec_capacity};
 ghost use Rattle.word_machine.specs.Notices as notice;
 ghost use Rattle.word_machine.specs.Requests.{ask, AskBegin, AskBeginRead};
@@ -8,18 +8,24 @@ ghost use Rattle.step_core.specs.Shown.{actor_of};
 ghost use Rattle.seq_model.specs.declared.event.Answer.TheVariants as answer;
 ghost use Rattle.seq_model.specs.declared.event.Notice.TheVariants.{Quiet, Answered};
 ghost use Rattle.replay_log.specs.Worlds as worlds;
-ghost use Rattle.replay_log.specs.Worlds.{is_leaving, no_one, because, seated, recorded, has_begun, has_read, has_cancelled, has_released, has_stored, has_tried, has_locked, takes_gates, written_homes, ended, ask_idle, starve_at, World};
-ghost use Rattle.tx_actor.specs.Dispatch.{MayRelease};
-ghost use Rattle.tx_actor.specs.Running.{KnowsHomes, Reseats, Runs, asked_of, notice_of, seat_of, stage_of};
+ghost use Rattle.replay_log.specs.Worlds.{is_leaving, no_one, because, seated, recorded, has_begun, has_read, has_cancelled, has_released, has_stored, has_tried, has_locked, takes_gates, written_homes, ended, ask_idle, starve_at, Seat, World};
+ghost use Rattle.step_core.specs.Blank.{IsBlank};
+ghost use Rattle.step_core.specs.Sound.{Fits, owed};
+ghost use Rattle.tx_actor.specs.Blocks.{BlocksView};
+ghost use Rattle.tx_actor.specs.Dispatch.{HasRoom, MayRelease};
+ghost use Rattle.tx_actor.specs.Keeping.{IsRunning, KeepsIn, NamesAmong};
+ghost use Rattle.tx_actor.specs.Running.{IsSeatOf, KnowsHomes, Reseats, Runs, asked_of, at, is_recorded, notice_of, seat_in, seat_of, stage_in, stage_of};
 
 use crate::actor::{Asked, Stage, Told, TxActor};
 use crate::ending::{abort, cancel, release};
 use seq_model::{Answer, Call, Op, Refusal, Reply};
+use std::alloc::Global;
 use std::collections::VecDeque;
+use std::mem;
 use step_core::{Actor, Place};
 
 /// The tries on a gate, but for the first.
-const MORE_TRIES: u32 = 63;
+pub(crate) const MORE_TRIES: u32 = 63;
 
 /// Whether there are none.
 pub(crate) fn has_none(homes: &VecDeque<u32>) -> bool
@@ -30,7 +36,9 @@ pub(crate) fn has_none(homes: &VecDeque<u32>) -> bool
 
 /// A transaction is to begin, of a declared reader or not.
 fn begin(words: &mut Actor, declared: bool)
-    ensures { actor_of words.new ≡ ask (actor_of words.old) (actor_of words.old).place (if declared then AskBeginRead else AskBegin) }
+    ensures actor { actor_of words.new ≡ ask (actor_of words.old) (actor_of words.old).place (if declared then AskBeginRead else AskBegin) }
+    ensures fits { (n : ℕ) → Fits n words.old → Fits n words.new }
+    ensures owed { owed words.new.place ≤ owed words.old.place }
 {
     if let Place::Idle = words.place {
         words.place = Place::Begin;
@@ -40,8 +48,11 @@ fn begin(words: &mut Actor, declared: bool)
 
 /// The stage of a transaction that is locked: its gates are tried, where there are some.
 fn gating_or_ready<V: Drop>(homes: VecDeque<u32>) -> Stage<V>
-    ensures stage { stage_of result ≡ takes_gates [] homes.items }
+    ensures stage { (s : worlds.Stage V) → stage_in s result ≡ takes_gates [] homes.items }
     ensures knows { (ks : List ℕ) → KnowsHomes result ks }
+    ensures names { (n : ℕ) → All (λ k. k < n) homes.items → NamesAmong n result }
+    ensures room { (r : TxActor V) → HasRoom r result }
+    ensures shown { is_recorded result ≡ false }
 {
     if has_none(&homes) {
         return Stage::Ready(homes);
@@ -52,8 +63,11 @@ fn gating_or_ready<V: Drop>(homes: VecDeque<u32>) -> Stage<V>
 /// The stage of a transaction that holds the gates of so many of these collections.
 fn next_gate<V: Drop>(homes: VecDeque<u32>, got: usize) -> Stage<V>
     requires inside { got ≤ length homes.items }
-    ensures stage { stage_of result ≡ takes_gates (take got homes.items) (drop got homes.items) }
+    ensures stage { (s : worlds.Stage V) → stage_in s result ≡ takes_gates (take got homes.items) (drop got homes.items) }
     ensures knows { (ks : List ℕ) → KnowsHomes result ks }
+    ensures names { (n : ℕ) → All (λ k. k < n) homes.items → NamesAmong n result }
+    ensures room { (r : TxActor V) → HasRoom r result }
+    ensures shown { is_recorded result ≡ false }
 {
     if homes.len() <= got {
         return Stage::Ready(homes);
@@ -63,8 +77,11 @@ fn next_gate<V: Drop>(homes: VecDeque<u32>, got: usize) -> Stage<V>
 
 /// The stage of a transaction that is to end: its locks go back, where there are some, and then the clock is loaded.
 pub(crate) fn leaving_or_cancelling<V>(words: &Actor) -> Stage<V>
-    ensures stage { stage_of result ≡ (if is_leaving (actor_of words.now).place then worlds.Leaving else worlds.Cancelling) }
+    ensures stage { (s : worlds.Stage V) → stage_in s result ≡ (if is_leaving (actor_of words.now).place then worlds.Leaving else worlds.Cancelling) }
     ensures knows { (ks : List ℕ) → KnowsHomes result ks }
+    ensures names { (n : ℕ) → NamesAmong n result }
+    ensures room { (r : TxActor V) → HasRoom r result }
+    ensures shown { is_recorded result ≡ false }
 {
     match words.place {
         Place::Leave => Stage::Leaving,
@@ -73,11 +90,33 @@ pub(crate) fn leaving_or_cancelling<V>(words: &Actor) -> Stage<V>
 }
 
 impl<V: Drop> TxActor<V> {
+    /// An actor without a transaction. It takes no memory.
+    pub fn new(alloc: Global) -> TxActor<V>
+        ensures seat { seat_of result ≡ no_one }
+        ensures stage { result.stage ≡ Stage.Idle }
+        ensures words { IsBlank result.words }
+        ensures running { (v : BlocksView) → IsRunning v result }
+    {
+        TxActor {
+            words: Actor::new(alloc),
+            stage: Stage::Idle,
+            rv: 0,
+            wv: 0,
+            cause: None,
+            calls: Vec::new(alloc),
+            made: Vec::new(alloc),
+            copies: Vec::new(alloc),
+        }
+    }
+
     /// It has no transaction any more, or a new one.
     fn clear(&mut self, stage: Stage<V>, rv: u64)
-        ensures seat { seat_of self.new ≡ record no_one { stage = stage_of stage; rv = rv } }
+        ensures seat { (s : worlds.Stage V) → seat_in s self.new ≡ record no_one { stage = stage_in s stage; rv = rv } }
+        ensures made { self.new.made ≡ self.old.made }
         ensures words { actor_of self.new.words ≡ actor_of self.old.words }
         ensures knows { (ks : List ℕ) → KnowsHomes stage ks → KnowsHomes self.new.stage ks }
+        ensures stage { self.new.stage ≡ stage }
+        ensures rest { self.new.words ≡ self.old.words }
     {
         self.stage = stage;
         self.rv = rv;
@@ -89,7 +128,8 @@ impl<V: Drop> TxActor<V> {
 
     /// A transaction has begun.
     pub fn begun(&mut self, rv: u64) -> Told<V>
-        ensures { Reseats self.old self.new result (λ a w. has_begun w a (seat_of self.old) (notice.Begun rv)) }
+        ensures does { Reseats self.old self.new result (λ a w. has_begun w a (seat_of self.old) (notice.Begun rv)) }
+        ensures keeps { (v : BlocksView) → KeepsIn v (at self.old Stage.Idle) self.new }
     {
         self.clear(Stage::Open, rv);
         Told::Answered(Answer::Begun(rv))
@@ -97,7 +137,8 @@ impl<V: Drop> TxActor<V> {
 
     /// None begins at this reading of the clock.
     pub fn exhausted(&mut self, clock: u64) -> Told<V>
-        ensures { Reseats self.old self.new result (λ a w. has_begun w a (seat_of self.old) (notice.Exhausted clock)) }
+        ensures does { Reseats self.old self.new result (λ a w. has_begun w a (seat_of self.old) (notice.Exhausted clock)) }
+        ensures keeps { (v : BlocksView) → KeepsIn v (at self.old Stage.Idle) self.new }
     {
         self.clear(Stage::Idle, 0);
         Told::Refused(Refusal::Exhausted { clock })
@@ -105,7 +146,8 @@ impl<V: Drop> TxActor<V> {
 
     /// The last lock of a commit was given back.
     pub fn released(&mut self) -> Told<V>
-        ensures { Reseats self.old self.new result (λ a w. has_released w a (seat_of self.old) notice.Released) }
+        ensures does { Reseats self.old self.new result (λ a w. has_released w a (seat_of self.old) notice.Released) }
+        ensures keeps { (v : BlocksView) → KeepsIn v (at self.old Stage.Idle) self.new }
     {
         let number = self.wv;
         self.clear(Stage::Idle, 0);
@@ -114,18 +156,24 @@ impl<V: Drop> TxActor<V> {
 
     /// The clock was loaded that commits a transaction without writes.
     pub fn closed(&mut self) -> Told<V>
-        ensures { Reseats self.old self.new result (λ a w. (seated (recorded w a (seat_of self.old) false self.old.rv) a no_one, Answered a (answer.Committed self.old.rv))) }
+        ensures does { Reseats self.old self.new result (λ a w. (seated (recorded w a (seat_of self.old) false self.old.rv) a no_one, Answered a (answer.Committed self.old.rv))) }
+        ensures keeps { (v : BlocksView) → KeepsIn v (at self.old Stage.Idle) self.new }
+        ensures made { self.new.made.items ≡ self.old.calls.items }
     {
         let number = self.rv;
+        mem::swap(&mut self.made, &mut self.calls);
         self.clear(Stage::Idle, 0);
         Told::Answered(Answer::Committed(number))
     }
 
     /// The clock was loaded that ends an aborted transaction.
     pub fn ended(&mut self) -> Told<V>
-        ensures { Reseats self.old self.new result (λ a w. ended w a (seat_of self.old)) }
+        ensures does { Reseats self.old self.new result (λ a w. ended w a (seat_of self.old)) }
+        ensures keeps { (v : BlocksView) → KeepsIn v (at self.old Stage.Idle) self.new }
+        ensures made { self.new.made.items ≡ self.old.calls.items }
     {
         let cause = self.cause;
+        mem::swap(&mut self.made, &mut self.calls);
         self.clear(Stage::Idle, 0);
         match cause {
             None => Told::Answered(Answer::Aborted),
@@ -136,7 +184,8 @@ impl<V: Drop> TxActor<V> {
     /// A word was read.
     pub fn read(&mut self, location: u32, value: u64) -> Told<V>
         requires room { vec_len self.old.calls < vec_capacity self.old.calls }
-        ensures { Reseats self.old self.new result (λ a w. has_read w a (seat_of self.old) location (notice.Number value)) }
+        ensures does { Reseats self.old self.new result (λ a w. has_read w a (seat_of self.old) location (notice.Number value)) }
+        ensures keeps { (v : BlocksView) → KeepsIn v (at self.old Stage.Idle) self.new }
     {
         let call = Call {
             target: location,
@@ -149,7 +198,9 @@ impl<V: Drop> TxActor<V> {
 
     /// It is to end, and holds no gate.
     pub(crate) fn cancels(&mut self) -> Told<V>
-        ensures { Reseats self.old self.new result (λ a w. (worlds.cancels w a (seat_of self.old), Quiet)) }
+        ensures does { Reseats self.old self.new result (λ a w. (worlds.cancels w a (seat_of self.old), Quiet)) }
+        ensures keeps { (v : BlocksView) → KeepsIn v (at self.old Stage.Idle) self.new }
+        ensures copies { self.new.copies ≡ self.old.copies }
     {
         cancel(&mut self.words, 0);
         self.stage = leaving_or_cancelling(&self.words);
@@ -158,7 +209,8 @@ impl<V: Drop> TxActor<V> {
 
     /// It is to end, once the gates of these collections are put back.
     pub fn puts_back(&mut self, homes: VecDeque<u32>) -> Told<V>
-        ensures { Reseats self.old self.new result (λ a w. worlds.gives_up w a (seat_of self.old) homes.items) }
+        ensures does { Reseats self.old self.new result (λ a w. worlds.gives_up w a (seat_of self.old) homes.items) }
+        ensures keeps { (v : BlocksView) → KeepsIn v (at self.old (Stage.Returning homes)) self.new }
     {
         if has_none(&homes) {
             return self.cancels();
@@ -169,7 +221,9 @@ impl<V: Drop> TxActor<V> {
 
     /// It is given up for this cause, and holds no gate.
     pub fn gives_up(&mut self, cause: Refusal) -> Told<V>
-        ensures { Reseats self.old self.new result (λ a w. worlds.gives_up w a (because (seat_of self.old) cause) []) }
+        ensures does { Reseats self.old self.new result (λ a w. worlds.gives_up w a (because (seat_of self.old) cause) []) }
+        ensures keeps { (v : BlocksView) → KeepsIn v (at self.old Stage.Idle) self.new }
+        ensures copies { self.new.copies ≡ self.old.copies }
     {
         self.cause = Some(cause);
         self.cancels()
@@ -177,7 +231,8 @@ impl<V: Drop> TxActor<V> {
 
     /// It is given up for this cause, and holds the gates of these collections.
     pub fn gives_up_with(&mut self, cause: Refusal, homes: VecDeque<u32>) -> Told<V>
-        ensures { Reseats self.old self.new result (λ a w. worlds.gives_up w a (because (seat_of self.old) cause) homes.items) }
+        ensures does { Reseats self.old self.new result (λ a w. worlds.gives_up w a (because (seat_of self.old) cause) homes.items) }
+        ensures keeps { (v : BlocksView) → KeepsIn v (at self.old (Stage.Returning homes)) self.new }
     {
         self.cause = Some(cause);
         self.puts_back(homes)
@@ -185,7 +240,8 @@ impl<V: Drop> TxActor<V> {
 
     /// The gate of a call was tried, and found free or not.
     pub fn tried(&mut self, asked: Asked<V>, tries: u32, free: bool) -> Told<V>
-        ensures { Reseats self.old self.new result (λ a w. has_tried w a (seat_of self.old) free asked.collection [] (λ n. worlds.Trying (asked_of asked) n) (worlds.Copying (asked_of asked)) tries) }
+        ensures does { Reseats self.old self.new result (λ a w. has_tried w a (seat_of self.old) free asked.collection [] (λ n. worlds.Trying (asked_of asked) n) (worlds.Copying (asked_of asked)) tries) }
+        ensures keeps { (v : BlocksView) → KeepsIn v (at self.old (Stage.Trying asked tries)) self.new }
     {
         if free {
             self.stage = Stage::Copying(asked);
@@ -208,8 +264,9 @@ impl<V: Drop> TxActor<V> {
         free: bool,
     ) -> Told<V>
         requires next { got < length homes.items }
-        ensures { (k : ℕ) (ks : List ℕ) → drop got homes.items ≡ k ∷ ks →
+        ensures does { (k : ℕ) (ks : List ℕ) → drop got homes.items ≡ k ∷ ks →
             Reseats self.old self.new result (λ a w. has_tried w a (seat_of self.old) free k (take got homes.items) (λ n. worlds.Gating (take got homes.items) (drop got homes.items) n) (takes_gates (take got homes.items ++ k ∷ []) ks) tries) }
+        ensures keeps { (v : BlocksView) → KeepsIn v (at self.old (Stage.Gating homes got tries)) self.new }
     {
         if free {
             self.stage = next_gate(homes, got + 1);
@@ -227,7 +284,8 @@ impl<V: Drop> TxActor<V> {
 
     /// A transaction is to begin.
     pub fn begins(&mut self) -> Told<V>
-        ensures { Reseats self.old self.new result (λ a w. ask_idle w a (seat_of self.old) request.Begin) }
+        ensures does { Reseats self.old self.new result (λ a w. ask_idle w a (seat_of self.old) request.Begin) }
+        ensures keeps { (v : BlocksView) → KeepsIn v self.old self.new }
     {
         begin(&mut self.words, false);
         self.stage = Stage::Beginning;
@@ -236,7 +294,8 @@ impl<V: Drop> TxActor<V> {
 
     /// A transaction that writes nothing is to begin.
     pub fn begins_to_read(&mut self) -> Told<V>
-        ensures { Reseats self.old self.new result (λ a w. ask_idle w a (seat_of self.old) request.BeginRead) }
+        ensures does { Reseats self.old self.new result (λ a w. ask_idle w a (seat_of self.old) request.BeginRead) }
+        ensures keeps { (v : BlocksView) → KeepsIn v self.old self.new }
     {
         begin(&mut self.words, true);
         self.stage = Stage::Beginning;
@@ -245,7 +304,8 @@ impl<V: Drop> TxActor<V> {
 
     /// A begin is refused memory.
     pub fn begin_starves(&mut self) -> Told<V>
-        ensures { Reseats self.old self.new result (λ a w. starve_at w a (seat_of self.old) worlds.Beginning) }
+        ensures does { Reseats self.old self.new result (λ a w. starve_at w a (seat_of self.old) worlds.Beginning) }
+        ensures keeps { (v : BlocksView) → KeepsIn v (at self.old Stage.Idle) self.new }
     {
         abort(&mut self.words, 0);
         self.clear(Stage::Idle, 0);
@@ -254,9 +314,10 @@ impl<V: Drop> TxActor<V> {
 
     /// All is locked and checked, at this number; a location of each of these collections was written.
     pub fn locked(&mut self, number: u64, homes: VecDeque<u32>) -> Told<V>
-        ensures { (a : ℕ) (w : World V) → homes.items ≡ written_homes w a → worlds.actor_of w a ≡ actor_of self.old.words →
+        ensures does { (a : ℕ) (w : World V) → homes.items ≡ written_homes w a → worlds.actor_of w a ≡ actor_of self.old.words →
             let f = has_locked w a (seat_of self.old) (notice.LockedAt number) in
             Runs a self.new f.0 × (notice_of a result ≡ f.1) }
+        ensures keeps { (v : BlocksView) → KeepsIn v (at self.old (Stage.Locking homes)) self.new }
     {
         self.wv = number;
         self.stage = gating_or_ready(homes);
@@ -265,7 +326,8 @@ impl<V: Drop> TxActor<V> {
 
     /// The last lock of a transaction that is given up was given back.
     pub fn cancelled(&mut self) -> Told<V>
-        ensures { Reseats self.old self.new result (λ a w. has_cancelled w a (seat_of self.old) notice.Cancelled) }
+        ensures does { Reseats self.old self.new result (λ a w. has_cancelled w a (seat_of self.old) notice.Cancelled) }
+        ensures keeps { (v : BlocksView) → KeepsIn v (at self.old Stage.Idle) self.new }
     {
         abort(&mut self.words, 0);
         self.stage = Stage::Leaving;
@@ -274,7 +336,11 @@ impl<V: Drop> TxActor<V> {
 
     /// A value was stored, and others are left.
     pub fn stored_one(&mut self, homes: VecDeque<u32>) -> Told<V>
-        ensures { Reseats self.old self.new result (λ a w. has_stored w a (seat_of self.old) homes.items notice.Quiet) }
+        ensures does { (a : ℕ) (w : World V) (x : Seat V) → IsSeatOf x self.old → worlds.actor_of w a ≡ actor_of self.old.words →
+            let f = has_stored w a x homes.items notice.Quiet in
+            Runs a self.new f.0 × (notice_of a result ≡ f.1) }
+        ensures made { self.new.made ≡ self.old.made }
+        ensures keeps { (v : BlocksView) → KeepsIn v (at self.old (Stage.Storing homes)) self.new }
     {
         self.stage = Stage::Storing(homes);
         Told::Quiet
@@ -282,9 +348,12 @@ impl<V: Drop> TxActor<V> {
 
     /// All values are stored, or a base has gone home, and these are still to go.
     pub fn goes_home(&mut self, homes: VecDeque<u32>) -> Told<V>
-        ensures { (a : ℕ) (w : World V) → MayRelease a w homes.items → worlds.actor_of w a ≡ actor_of self.old.words →
-            let f = worlds.goes_home w a (seat_of self.old) homes.items in
+        ensures does { (a : ℕ) (w : World V) (x : Seat V) → IsSeatOf x self.old → MayRelease a w homes.items →
+            worlds.actor_of w a ≡ actor_of self.old.words →
+            let f = worlds.goes_home w a x homes.items in
             Runs a self.new f.0 × (notice_of a result ≡ f.1) }
+        ensures made { self.new.made ≡ self.old.made }
+        ensures keeps { (v : BlocksView) → KeepsIn v (at self.old (Stage.Homing homes)) self.new }
     {
         if has_none(&homes) {
             release(&mut self.words, 0);

@@ -10,18 +10,18 @@ use native.Mathlib.Decide.{ℕ_discrete, dec_lt}
 use lib.ListN.{get_elem?}
 use Rattle.atomic_table.specs.Table.{State, Splits, Joins}
 use Rattle.atomic_table.proofs.Lists.{at_set}
-use Rattle.word_machine.specs.Cells.{ValueCell}
+use Rattle.word_machine.specs.Cells.{ClockCell, ValueCell}
 use Rattle.seq_model.specs.declared.held.Held.{Held}
 use Rattle.seq_model.specs.Contents.{Contents}
 use Rattle.collection_machine.specs.Boosted.{is_actor}
 use Rattle.replay_log.specs.Collections.{Suit, shown_at}
 use Rattle.seq_model.specs.Runs.{after_run}
-use Rattle.replay_log.proofs.SerialLemmas.{serial_world}
+use Rattle.replay_log.proofs.SerialLemmas.{numbers_past, serial_world}
 use Rattle.replay_log.specs.Contents as contents
 use Rattle.replay_log.specs.Contents.{Block, HaveStripes, end_of, first_of, home_of, is_plain}
 use Rattle.replay_log.specs.Seats.{World, Seat, actor_of}
 use Rattle.replay_log.specs.Worlds.{run, opened}
-use Rattle.replay_log.specs.WorldSerial.{IsSerial}
+use Rattle.replay_log.specs.WorldSerial.{AreUpTo, IsSerial}
 use Rattle.replay_log.specs.WorldTraces.{is_half_done}
 use Rattle.atomic_steps.specs.Own.{Alike}
 use Rattle.atomic_steps.proofs.Alike.{alike_same}
@@ -134,10 +134,11 @@ module _ {V : Type 0} where
       }
 
   pub closes : (o : World V) (opening : Contents V) (id : ℕ) (v : View V) (s : State (Slot V) (View V)) (rule : Rule o s) → IsOpening o
-      → IsSerial opening (run o rule.events) → get_elem? s.views id ≡ some v → v.shares ≡ 64
+      → IsSerial opening (run o rule.events)
+      → AreUpTo (run o rule.events).boosted.words.clock (run o rule.events).records → get_elem? s.views id ≡ some v → v.shares ≡ 64
       → is_half_done (stage_of (lone id o v.turns) id) ≡ false → ((k : ℕ) → is_actor id ((lone id o v.turns).boosted.gates k) ≡ false)
       → o.words ≤ end_of o.words o.blocks → Closes o.words o.blocks opening v s.words s.homes
-  closes o opening id v s rule start serial here all done bare wide =
+  closes o opening id v s rule start serial past here all done bare wide =
       let S = rule.shows in
       let w : World V = run o rule.events in
       let held = serial.left rests in
@@ -147,6 +148,7 @@ module _ {V : Type 0} where
         same = λ h. sym (total_alone (λ (z : View V). total h z.receipts) s.views id v here
             (λ j u ne e. ap (total h) (S.spent j u e (spent_at j u ne e)).receipts)) ∙ S.receipts h;
         in_order = serial.ordered;
+        numbers = subst (λ k. AreUpTo k w.records) (sym (S.table.cells ClockCell tt)) past;
         serial = serial.run;
         values = λ l lt. S.table.cells (ValueCell l) (omega (arith, lt, wide)) ∙ held.words l (let q = e1 in omega (arith, lt, q));
         bases = λ k lt. (let b = (S.table.slots k lt).0 (free k) in (
@@ -202,7 +204,8 @@ module _ {V : Type 0} where
       → Closes (length values) blocks (record { words = values; held = held }) v s.words s.homes
   world_closes blocks clock values held stripes suit id v s rule here all done bare =
       closes (opened blocks clock values held) (record { words = values; held = held }) id v s rule (opening_is blocks clock values held)
-      (serial_world blocks stripes clock values held suit rule.events) here all done bare (above (length values) blocks)
+      (serial_world blocks stripes clock values held suit rule.events) (numbers_past blocks stripes clock values held suit rule.events)
+      here all done bare (above (length values) blocks)
 
   pub opens_rule : (o : World V) (ws : List ℕ) (hs : List (Option (Slot V))) → IsOpening o → o.boosted.words.clock ≤ clock_limit
       → o.records ≡ [] → Table o.words o.blocks o ws hs

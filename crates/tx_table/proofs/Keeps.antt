@@ -204,8 +204,9 @@ module _ {V : Type 0} where
     word_at : (c : Cell) (f kf : ℕ → ℕ) → 0 < m.0.shares → spot id alone ≡ Word c → IsInside (end_of o.words o.blocks) c
         → ((s : State (Slot V) (View V)) → Rule o s → becomes (deed_of (ready_at id alone (stage_of alone id)) id)
         (get_or s.words (address (end_of o.words o.blocks) c) 0) ≡ f (get_or s.words (address (end_of o.words o.blocks) c) 0))
-        → ((w u : World V) → w.boosted.words.clock ≤ u.boosted.words.clock → m.0.clock ≤ w.boosted.words.clock
-        → kf (cell w.boosted.words c) ≤ u.boosted.words.clock)
+        → ((s : State (Slot V) (View V)) (rule : Rule o s) (u : World V) → let w = run o rule.events in
+        m.0.clock ≤ w.boosted.words.clock → w.boosted.words.clock ≤ u.boosted.words.clock
+        → f (cell w.boosted.words c) ≡ cell u.boosted.words c → kf (cell w.boosted.words c) ≤ u.boosted.words.clock)
         → Allows (Rule o) slots id m (address (end_of o.words o.blocks) c) f
         (λ found t. Told o id qs (kf found) m found None t.0 × (t.1 ≡ m.1))
     word_at c f kf live touches inner is knows s rule len here small =
@@ -271,7 +272,7 @@ module _ {V : Type 0} where
         (λ b ne. alike_trans b w w1 u (calm_alike id b ne w w1 g) (others w1 (Step id) b ne))
         (λ b j ne gate. keeps_base (Word c) j w u K (λ e. cc))
         grown
-        (subst (λ (k : ℕ). kf k ≤ u.boosted.words.clock) (sym word_is) (knows w u grown.rises (S.clocks id m.0 here)))
+        (subst (λ (k : ℕ). kf k ≤ u.boosted.words.clock) (sym word_is) (knows s rule u (S.clocks id m.0 here) grown.rises (ap f (sym word_is) ∙ new_is)))
         (λ h. records_grow h id w1 ∙ (λ j. total h (g.records j) + total h (ends_same id w1 alone al1 j))) in (
           v,
           keeps,
@@ -290,19 +291,23 @@ module _ {V : Type 0} where
         → Allows (Rule o) slots id m (address (end_of o.words o.blocks) c) f
         (λ found t. Told o id qs m.0.clock m found None t.0 × (t.1 ≡ m.1))
     word_allowed c f live touches inner is = word_at c f (λ _. m.0.clock) live touches inner
-        (λ s rule. is (get_or s.words (address (end_of o.words o.blocks) c) 0)) (λ w u rises k. omega arith)
+        (λ s rule. is (get_or s.words (address (end_of o.words o.blocks) c) 0)) (λ s rule u k rises new. omega arith)
 
-    -- a step on the clock, which has room
-    pub clock_allowed : (f : ℕ → ℕ) → 0 < m.0.shares → spot id alone ≡ Word ClockCell
+    -- a step on the clock, which has room; kf is what it leaves there
+    pub clock_allowed : (f kf : ℕ → ℕ) → 0 < m.0.shares → spot id alone ≡ Word ClockCell
         → ((k : ℕ) → k ≤ clock_limit + 64 → becomes (deed_of (ready_at id alone (stage_of alone id)) id) k ≡ f k)
+        → ((k : ℕ) → k ≤ clock_limit + 64 → kf k ≡ f k)
         → Allows (Rule o) slots id m 0 f
-        (λ found t. Told o id qs found m found None t.0 × (t.1 ≡ m.1) × (m.0.clock ≤ found) × (found ≤ clock_limit + 64))
-    clock_allowed f live touches is s rule len here small =
+        (λ found t. Told o id qs (kf found) m found None t.0 × (t.1 ≡ m.1) × (m.0.clock ≤ found) × (found ≤ clock_limit + 64))
+    clock_allowed f kf live touches is leaves s rule len here small =
         let room = rule.shows.room in
         let word_is : get_or s.words 0 0 ≡ (run o rule.events).boosted.words.clock = rule.shows.table.cells ClockCell tt in
-        let r = word_at ClockCell f (λ k. k) live touches tt
+        let r = word_at ClockCell f kf live touches tt
         (λ t other. let a = other.shows.room in let b : get_or t.words 0 0
         ≡ (run o other.events).boosted.words.clock = other.shows.table.cells ClockCell tt in is (get_or t.words 0 0) (omega arith))
-        (λ w u rises k. rises) s rule len here small in
+        (λ t other u k rises new. let a = other.shows.room in
+        let w : World V = run o other.events in
+        let b : kf w.boosted.words.clock ≡ f w.boosted.words.clock = leaves w.boosted.words.clock (omega arith) in
+        let c : f w.boosted.words.clock ≡ u.boosted.words.clock = new in omega arith) s rule len here small in
         let c = rule.shows.clocks id m.0 here in
         (r.0, r.1, r.2, r.3, (r.4.0, r.4.1, omega arith, omega arith))

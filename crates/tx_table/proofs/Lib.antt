@@ -4,3 +4,6 @@ pub mod Keeps
 pub mod Gates
 pub mod Ends
 pub mod Opened
+pub mod SeatSteps
+pub mod SeatShares
+pub mod LaidOut

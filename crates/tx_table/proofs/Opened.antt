@@ -2,7 +2,7 @@
 --
 -- Wherever the rule holds, the seat's own world is alike to its actor in a world that events have reached; so what is proved of such
 -- worlds holds of it (`Guards` and `Bases` of `atomic_steps`), and a seat needs to know only which step is due to it.
-use Rattle.std.proofs.Common.{◌≡◌, ℕ, ◌+◌, ◌<◌, eqb, List, [], ◌∷◌, ◌++◌, length, Option as Maybe, Some, None, sym, ap, ◌∙◌, subst, refl}
+use Rattle.std.proofs.Common.{◌≡◌, ℕ, ◌<◌, eqb, List, [], ◌∷◌, ◌++◌, length, Some, None, sym, ap, ◌∙◌, subst, refl}
 use prog.Atomic.{either}
 use mathlib.Core.Option.{some}
 use lib.ListN.{get_elem?}

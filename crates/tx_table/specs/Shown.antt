@@ -20,6 +20,7 @@ use Rattle.seq_model.specs.Contents.{Contents}
 use Rattle.seq_model.specs.Runs.{IsInCommitOrder, IsRun, after_run}
 use Rattle.replay_log.specs.Seats.{World, actor_of}
 use Rattle.replay_log.specs.Worlds.{run}
+use Rattle.replay_log.specs.WorldSerial.{AreUpTo}
 use Rattle.replay_log.specs.WorldTraces.{is_half_done}
 use Rattle.atomic_steps.specs.Bases.{IsBaseOf, ShowsBase}
 use Rattle.atomic_steps.specs.Clock.{stamps_left}
@@ -28,18 +29,11 @@ use Rattle.atomic_steps.specs.Own.{Alike}
 use Rattle.atomic_steps.specs.Spots.{gate_word}
 use Rattle.tx_table.specs.Layout.{address, gate_address, IsInside, width}
 use Rattle.tx_table.specs.Turns.{Turn, asked_all, lone, ends, stage_of}
+pub use Rattle.tx_table.specs.declared.view.View.{View}
 
 abbrev pub total : {A : Type 0} → (A → ℕ) → List A → ℕ
 total f [] = 0
 total f (x ∷ xs) = f x + total f xs
-
--- What a seat knows: its shares, the last clock that it loaded, what its actor has asked and found, and the transactions that were
--- committed, by its actor and by those whose seats were joined into it.
-pub record View (V : Type 0) : Type 0 where
-  pub shares : ℕ
-  pub clock : ℕ
-  pub turns : List (Turn V)
-  pub receipts : List (ℕ × Record V)
 
 -- what a slot holds: a base, or none while a seat works on it
 abbrev pub Slot : Type 0 → Type 0
@@ -60,6 +54,10 @@ module _ {V : Type 0} where
   -- the seat, once its actor has taken this turn, has committed these, and knows this clock
   abbrev pub acting : View V → Turn V → List (ℕ × Record V) → ℕ → View V
   acting v i rs k = record { shares = v.shares; clock = k; turns = v.turns ++ i ∷ []; receipts = v.receipts ++ rs }
+
+  -- the seat, once it knows this clock
+  abbrev pub looking : View V → ℕ → View V
+  looking v k = record { shares = v.shares; clock = k; turns = v.turns; receipts = v.receipts }
 
   -- what the seat of actor j may still add to the clock; one without shares steps no more
   abbrev pub owed : World V → ℕ → View V → ℕ
@@ -142,13 +140,14 @@ module _ {V : Type 0} where
     pub rests : (a : ℕ) → stamps_left (actor_of o a).place ≡ 0
     pub idle : (a : ℕ) → is_half_done (stage_of o a) ≡ false
 
-  -- What a closed table leaves: the receipts, in commit order, are a run of the sequential model from the opening, and words and bases
-  -- are what it leaves.
+  -- What a closed table leaves: the receipts, in commit order, are a run of the sequential model from the opening, no number of theirs is
+  -- above the clock, and words and bases are what it leaves.
   pub record Closes (n : ℕ) (bs : List Block) (opening : Contents V) (v : View V) (words : List ℕ)
       (homes : List (Option (Slot V))) : Type 0 where
     pub order : List (ℕ × Record V)
     pub same : (h : ℕ × Record V → ℕ) → total h v.receipts ≡ total h order
     pub in_order : IsInCommitOrder order
+    pub numbers : AreUpTo (get_or words 0 0) order
     pub serial : IsRun order opening
     pub values : (l : ℕ) → l < n → get_or words (1 + end_of n bs + l) 0 ≡ get_or (after_run order opening).words l 0
     pub bases :

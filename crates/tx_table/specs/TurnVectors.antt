@@ -1,5 +1,5 @@
 -- A table's addresses, and an actor's own world turn by turn, computed by the definitions.
-use Rattle.std.specs.Prelude.{◌≡◌, ℕ, true, false, List, [], ◌∷◌, None, refl}
+use Rattle.std.specs.Prelude.{◌≡◌, ℕ, true, List, [], ◌∷◌, None, refl}
 use Rattle.tx_sets.specs.Entries.{lookup, with_entry, locations}
 use Rattle.vlock_word.specs.LockWord.{unbits}
 use Rattle.word_machine.specs.World.{put, comes_before, insert}
@@ -10,12 +10,11 @@ use Rattle.seq_model.specs.declared.event.Event.{Event}
 use Rattle.seq_model.specs.declared.event.Event.TheVariants.{Ask}
 use Rattle.seq_model.specs.declared.event.Request.{Request}
 use Rattle.seq_model.specs.declared.event.Request.TheVariants as request
-use Rattle.seq_model.specs.declared.record.Record.{Record}
 use Rattle.collection_machine.specs.Boosted.{insert_commit}
 use Rattle.replay_log.specs.Seats.{World}
 use Rattle.replay_log.specs.Worlds.{opened}
 use Rattle.tx_table.specs.Layout.{address, gate_address, width}
-use Rattle.tx_table.specs.Turns.{Turn, asked_all, ends, lone}
+use Rattle.tx_table.specs.Turns.{Turn, ends, lone}
 
 -- three locations and two gates lie side by side
 nine_words :

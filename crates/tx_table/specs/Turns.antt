@@ -10,12 +10,7 @@ use Rattle.replay_log.specs.Contents.{first_of}
 use Rattle.replay_log.specs.Seats.{World, After, Seat, Stage, Ready, Closing}
 use Rattle.replay_log.specs.Worlds.{happens}
 use Rattle.atomic_steps.specs.Spots.{Spot, Gate, spot_at, planted}
-
--- A turn: what was asked before a step, the number that the step found, and of a gate that it found free the base.
-pub record Turn (V : Type 0) : Type 0 where
-  pub asks : List (Event V)
-  pub found : ℕ
-  pub base : Option (Base V)
+pub use Rattle.tx_table.specs.declared.view.Turn.{Turn}
 
 module _ {V : Type 0} where
   -- what a asks, or that it wants memory

@@ -53,7 +53,7 @@ pub fn turns<V>()
 {}
 
 /// A step on a word of the table keeps its rule, whatever the table is by then: a word becomes what the machine says, and the
-/// seat takes note of what it found. On the clock it finds room.
+/// seat takes note of what it found. On the clock it finds room, and the seat knows what it left there.
 pub fn word_steps<V>()
     ensures any { (o : World V) (slots id : ℕ) (m : Me (Slot V) (View V)) (asks : List (Event V)) (c : Cell) (f : ℕ → ℕ) →
         let alone = asked_all id (lone id o m.0.turns) asks in
@@ -61,12 +61,13 @@ pub fn word_steps<V>()
         ((k : ℕ) → becomes (deed_of (ready_at id alone (stage_of alone id)) id) k ≡ f k) →
         Allows (Rule o) slots id m (address (end_of o.words o.blocks) c) f
         (λ found t. Told o id asks m.0.clock m found None t.0 × (t.1 ≡ m.1)) }
-    ensures clock { (o : World V) (slots id : ℕ) (m : Me (Slot V) (View V)) (asks : List (Event V)) (f : ℕ → ℕ) →
+    ensures clock { (o : World V) (slots id : ℕ) (m : Me (Slot V) (View V)) (asks : List (Event V)) (f left : ℕ → ℕ) →
         let alone = asked_all id (lone id o m.0.turns) asks in
         0 < m.0.shares → spot id alone ≡ Word ClockCell →
         ((k : ℕ) → k ≤ clock_limit + 64 → becomes (deed_of (ready_at id alone (stage_of alone id)) id) k ≡ f k) →
+        ((k : ℕ) → k ≤ clock_limit + 64 → left k ≡ f k) →
         Allows (Rule o) slots id m 0 f
-        (λ found t. Told o id asks found m found None t.0 × (t.1 ≡ m.1) × (m.0.clock ≤ found) × (found ≤ clock_limit + 64)) }
+        (λ found t. Told o id asks (left found) m found None t.0 × (t.1 ≡ m.1) × (m.0.clock ≤ found) × (found ≤ clock_limit + 64)) }
 {}
 
 /// A step on a gate of a table that was opened keeps the rule, whatever the table is by then. A gate that is tried and found free goes

@@ -61,12 +61,16 @@ module _ {X : Type 0} (f : X → Entry) where
       ∙ ap (option_map f) (sym (get-remove nat_cmp_total m k q))
       ∙ sym (get_as (remove m k) q))
 
+  pub empty_as : empty ≡ as_entries f empty
+  empty_as =
+      same_map nat_cmp_total nat_cmp-IsAntisymmetric _ _ (λ q.
+      get-empty nat_cmp q ∙ sym (get_as empty q ∙ ap (option_map f) (get-empty nat_cmp q)))
+
   pub put_none : (m : FinMap nat_cmp X) (held : Entries) (left : List (ℕ × X)) → held ≡ empty → left ≡ entries m → ArePutIn f m held left
   put_none m held left e i =
       record {
         part = empty;
-        are = e ∙ same_map nat_cmp_total nat_cmp-IsAntisymmetric _ _ (λ q.
-            get-empty nat_cmp q ∙ sym (get_as empty q ∙ ap (option_map f) (get-empty nat_cmp q)));
+        are = e ∙ empty_as;
         rest = ap (inserts empty) i ∙ inserts_all m;
       }
 

@@ -1,4 +1,5 @@
 pub mod HoldingLemmas
+pub mod TablesLemmas
 pub mod SessionLemmas
 pub mod WalkLemmas
 pub mod DraftLemmas

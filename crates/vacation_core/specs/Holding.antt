@@ -46,3 +46,8 @@ pub record ArePutIn {X : Type 0} (f : X → Entry) (m : FinMap nat_cmp X) (held 
   pub part : FinMap nat_cmp X
   pub are : held ≡ as_entries f part
   pub rest : inserts part left ≡ m
+
+-- The state is that of some tables.
+pub record HoldsTables (s : Contents Entry) : Type 0 where
+  pub tables : Holdings
+  pub are : s ≡ state_of tables

@@ -1,4 +1,4 @@
--- A session is its action.
+-- A session is its action, and a state is that of one tables.
 use Rattle.std.specs.Prelude.{◌≡◌, ◌≢◌, List, None}
 use Rattle.seq_model.specs.declared.call.Call.{Call}
 use Rattle.seq_model.specs.declared.call.Reply.{Reply}
@@ -37,3 +37,7 @@ AsksLegalCalls =
     (action : Action) (tables : Holdings) (calls : List (Call Entry × Reply Entry)) (call : Call Entry) (next : Reply Entry → Plan)
     → IsAllowed action → IsBalanced tables → Reaches action tables calls (Asks call next)
     → call_of call (after_calls calls (state_of tables)) ≢ None
+
+-- no two tables have one state
+abbrev pub StatesTellTables : Type 0
+StatesTellTables = (one other : Holdings) → state_of one ≡ state_of other → one ≡ other

@@ -1,4 +1,5 @@
 pub mod Holding
+pub mod Parts
 pub mod Sessions
 pub mod Laws
 pub mod Walks

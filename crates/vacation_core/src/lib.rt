@@ -17,4 +17,4 @@ mod walk;
 
 pub use entry::Entry;
 pub use session::Session;
-pub use state::state_of;
+pub use state::{state_of, tables_of};

@@ -2,7 +2,7 @@ use Rattle.std.proofs.Common.{ℕ, ◌<◌, drop}
 use Rattle.std.specs.Ordering.{nat_cmp}
 use Rattle.std.specs.FinMap as map
 use Rattle.step_script.specs.Lines.{AreEntries, IsMultiset}
-use Rattle.step_script.specs.Tokens.{texts}
+use Rattle.text_lines.specs.Tokens.{texts}
 use Rattle.step_script.proofs.line.read_counts.Given as goal
 
 abbrev pub invariant-loop-token : goal.invariant-loop-token

@@ -3,7 +3,7 @@ use Rattle.std.specs.Prelude.{⊤}
 use Rattle.std.specs.Ordering.{nat_cmp}
 use Rattle.std.specs.FinMap as map
 use Rattle.step_script.specs.Lines.{AreEntries, IsMap}
-use Rattle.step_script.specs.Tokens.{texts}
+use Rattle.text_lines.specs.Tokens.{texts}
 use Rattle.step_script.proofs.line.read_entries.Given as goal
 
 abbrev pub invariant-loop-token : goal.invariant-loop-token

@@ -1,6 +1,6 @@
 use Rattle.std.proofs.Common.{◌≡◌, ℕ, List, ◌++◌, drop}
 use Rattle.step_script.specs.Lines.{AreNumbers}
-use Rattle.step_script.specs.Tokens.{texts}
+use Rattle.text_lines.specs.Tokens.{texts}
 use Rattle.step_script.proofs.line.read_numbers.Given as goal
 
 abbrev pub invariant-loop-token : goal.invariant-loop-token

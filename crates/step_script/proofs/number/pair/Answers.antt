@@ -1,5 +1,5 @@
 use Rattle.std.proofs.Common.{rules}
-use Rattle.step_script.proofs.NumberLemmas.{uncut_pair, first_of_pair}
+use Rattle.step_script.proofs.PairLemmas.{uncut_pair, first_of_pair}
 use Rattle.step_script.proofs.number.pair.Goals as goal
 
 -- src/number.rt:25:27

@@ -1,6 +1,8 @@
 use Rattle.std.proofs.Common.{ℕ, suc, length, ◌+◌, ◌≤◌}
 use Rattle.step_script.specs.declared.script.Script.{Script}
-use Rattle.step_script.specs.Scripts.{IsBad, IsBadLine, IsScriptText, Reads, pieces}
+use Rattle.step_script.specs.Scripts.{IsBadLine, IsNext, IsScriptText, with_line}
+use Rattle.text_lines.specs.Cuts.{pieces}
+use Rattle.text_lines.specs.Readings.{IsBad, Reads}
 use Rattle.step_script.proofs.parse.parse_steps.Given as goal
 
 abbrev pub decreases-loop-line : goal.decreases-loop-line
@@ -8,8 +10,8 @@ decreases-loop-line l = length l.rest
 
 abbrev pub invariant-loop-line : goal.invariant-loop-line
 invariant-loop-line l = record {
-  front : (whole : Script) → Reads l.part l.script (pieces l.rest) whole → IsScriptText l.fn.text whole;
-  back : (whole : Script) → IsScriptText l.fn.text whole → Reads l.part l.script (pieces l.rest) whole;
-  bad : (n : ℕ) → IsBad l.part (pieces l.rest) (suc n) → IsBadLine l.fn.text (l.number + n);
+  front : (whole : Script) → Reads IsNext with_line l.part l.script (pieces l.rest) whole → IsScriptText l.fn.text whole;
+  back : (whole : Script) → IsScriptText l.fn.text whole → Reads IsNext with_line l.part l.script (pieces l.rest) whole;
+  bad : (n : ℕ) → IsBad IsNext l.part (pieces l.rest) (suc n) → IsBadLine l.fn.text (l.number + n);
   few : l.number + length l.rest ≤ length l.fn.text + 1;
 }

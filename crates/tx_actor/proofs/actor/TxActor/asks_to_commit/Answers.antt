@@ -1,7 +1,11 @@
-use Rattle.std.proofs.Common.{◌≡◌, ◌≢◌, [], refl, sym, ◌∙◌}
+use Rattle.std.proofs.Common.{◌≡◌, ◌≢◌, ◌<◌, ℕ, [], length, refl, sym, subst, ◌∙◌}
 use Rattle.tx_actor.specs.declared.actor.Stage.TheVariants as stage
 use Rattle.tx_actor.specs.declared.actor.TxActor.{TxActor}
 use Rattle.tx_actor.proofs.AskLemmas.{closes_as, locks_as, none_there, some_there}
+use Rattle.std.specs.List.{All}
+use Rattle.tx_actor.specs.Keeping.{KeepsAt}
+use Rattle.tx_actor.proofs.HomesLemmas.{homes_below}
+use Rattle.tx_actor.proofs.KeepingLemmas.{keeps_asked}
 use Rattle.tx_actor.proofs.actor.TxActor.asks_to_commit.Goals as goal
 
 pub returns-then-len-eq0-clause-ok : goal.returns-then-len-eq0-clause-ok
@@ -9,7 +13,7 @@ returns-then-len-eq0-clause-ok g c a w laid s =
     let r = c.args.self.now in
     let u : TxActor g.row.V.Denot = record r { words = c.close_words.new.words; stage = stage.Closing } in
     let none : r.words.writes.entries ≡ [] = none_there r.words.writes.entries (sym c.len.ensures ∙ c.if-len-eq0.true) in
-    closes_as c.args.blocks.now r u none refl refl c.in_ok-close_words.ensures.actor a w laid s
+    closes_as c.args.blocks.now r u none refl (λ st. refl) c.in_ok-close_words.ensures.actor a w laid s
 
 pub returns-clause-ok : goal.returns-clause-ok
 returns-clause-ok g c a w laid s =
@@ -17,4 +21,22 @@ returns-clause-ok g c a w laid s =
     let homes = c.in_ok-homes.homes in
     let u : TxActor g.row.V.Denot = record r { words = c.lock_words.new.words; stage = stage.Locking homes } in
     let some : r.words.writes.entries ≢ [] = some_there r.words.writes.entries (λ e. c.if-len-eq0.false (c.len.ensures ∙ e)) in
-    locks_as c.args.blocks.now r u homes some refl refl c.in_ok-lock_words.ensures.actor c.in_ok-homes.ensures a w laid s
+    locks_as c.args.blocks.now r u homes some refl (λ st. refl) c.in_ok-lock_words.ensures.actor c.in_ok-homes.ensures a w laid s
+
+-- the bounds and the room
+pub returns-then-len-eq0-clause-keeps : goal.returns-then-len-eq0-clause-keeps
+returns-then-len-eq0-clause-keeps g c =
+    let r = c.args.self.now in
+    let v = c.args.blocks.now in
+    let u : TxActor g.row.V.Denot = record r { words = c.close_words.new.words; stage = stage.Closing } in
+    keeps_asked v r u (subst (λ (n : ℕ). KeepsAt n r.words u.words) c.end.ensures c.close_words.ensures.keeps) (λ h. tt) (λ h. tt)
+
+pub returns-clause-keeps : goal.returns-clause-keeps
+returns-clause-keeps g c =
+    let r = c.args.self.now in
+    let v = c.args.blocks.now in
+    let homes = c.in_ok-homes.homes in
+    let u : TxActor g.row.V.Denot = record r { words = c.lock_words.new.words; stage = stage.Locking homes } in
+    let named : All (λ (k : ℕ). k < length v.blocks) homes.items =
+    subst (All (λ (k : ℕ). k < length v.blocks)) (sym c.in_ok-homes.ensures) (homes_below v r.words.writes.entries) in
+    keeps_asked v r u (subst (λ (n : ℕ). KeepsAt n r.words u.words) c.end-2.ensures c.lock_words.ensures.keeps) (λ h. tt) (λ h. named)

@@ -1,4 +1,4 @@
-use Rattle.std.proofs.Common.{◌≡◌, ltb, true, Some, None, length, refl, sym, ap, ◌∙◌, arith, rules}
+use Rattle.std.proofs.Common.{◌≡◌, ◌<◌, ltb, true, Some, None, length, refl, sym, ap, ◌∙◌, arith, rules}
 use Rattle.seq_model.specs.declared.limits.TheConstants.{CALL_LIMIT}
 use Rattle.word_machine.proofs.Sets.{put-same}
 use Rattle.replay_log.specs.Worlds.{Seat}
@@ -8,7 +8,10 @@ use Rattle.tx_actor.specs.Running.{seat_of}
 use Rattle.tx_actor.specs.declared.actor.Stage.TheVariants as stage
 use Rattle.tx_actor.specs.declared.actor.Told.TheVariants as told
 use Rattle.tx_actor.specs.declared.actor.TxActor.{TxActor}
-use Rattle.tx_actor.proofs.BlocksLemmas.{is_below}
+use Rattle.tx_actor.proofs.BlocksLemmas.{end_behind, is_below}
+use Rattle.tx_actor.proofs.KeepingLemmas.{keeps_asked, keeps_through, room_as}
+use Rattle.std.specs.Vec.{vec_capacity, vec_len}
+use Rattle.replay_log.specs.Contents.{end_of}
 use Rattle.tx_actor.proofs.AskLemmas.{reads_as}
 use Rattle.tx_actor.proofs.actor.TxActor.asks_to_read.Goals as goal
 
@@ -26,7 +29,7 @@ returns-in-Some-clause-ok g c =
     let same : z ≡ seat_of r = λ j. record (seat_of r) { calls = c.in_ok-reserve.ensures.items j } in
     reads_as c.args.blocks.now r c.read.new.self c.read.result z l (Some v) same known few room
     (ap number_told (sym c.in-Some.is) ∙ c.in_ok-value.ensures.found)
-    (λ a w is. c.read.ensures a w (is ∙ sym c.in_ok-value.ensures.actor))
+    (λ a w is. c.read.ensures.does a w (is ∙ sym c.in_ok-value.ensures.actor))
 
 pub returns-in-None-clause-ok : goal.returns-in-None-clause-ok
 returns-in-None-clause-ok g c =
@@ -42,3 +45,36 @@ returns-in-None-clause-ok g c =
     let same : z ≡ seat_of r = λ j. record (seat_of r) { calls = c.in_ok-reserve.ensures.items j } in
     reads_as c.args.blocks.now r u told.Quiet z l None same known few room (ap number_told (sym c.in-None.is) ∙ c.in_ok-value.ensures.found)
     (λ a w is. ((put-same w.seats a _, is ∙ sym c.in_ok-value.ensures.actor, tt), refl))
+
+-- the bounds and the room
+pub returns-in-Some-clause-keeps : goal.returns-in-Some-clause-keeps
+returns-in-Some-clause-keeps g c none =
+    let r = c.args.self.now in
+    let v = c.args.blocks.now in
+    let q : TxActor g.row.V.Denot = record r { words = c.read_word.new.words; calls = c.reserve.new.self } in
+    let behind = end_behind v.words v.blocks in
+    let below : c.args.word < end_of v.words v.blocks = omega (arith, behind, c.words.ensures, c.if-word-words.false) in
+    keeps_through v r q c.read.new.self (c.read_word.ensures.keeps (end_of v.words v.blocks) below none) (c.read.ensures.keeps v)
+
+pub returns-in-None-clause-keeps : goal.returns-in-None-clause-keeps
+returns-in-None-clause-keeps g c none =
+    let r = c.args.self.now in
+    let v = c.args.blocks.now in
+    let u : TxActor g.row.V.Denot =
+    record r { words = c.read_word.new.words; stage = stage.Reading c.args.word; calls = c.reserve.new.self } in
+    let behind = end_behind v.words v.blocks in
+    let below : c.args.word < end_of v.words v.blocks = omega (arith, behind, c.words.ensures, c.if-word-words.false) in
+    let free = c.in_ok-reserve.ensures.ok in
+    let room : vec_len c.reserve.new.self < vec_capacity c.reserve.new.self = omega (arith, free) in
+    keeps_asked v r u (c.read_word.ensures.keeps (end_of v.words v.blocks) below none) (λ h. room) (λ h. tt)
+
+pub returns-in_err-value-clause-keeps : goal.returns-in_err-value-clause-keeps
+returns-in_err-value-clause-keeps g c none =
+    let r = c.args.self.now in
+    let v = c.args.blocks.now in
+    let u : TxActor g.row.V.Denot = record r { words = c.read_word.new.words; calls = c.reserve.new.self } in
+    let behind = end_behind v.words v.blocks in
+    let below : c.args.word < end_of v.words v.blocks = omega (arith, behind, c.words.ensures, c.if-word-words.false) in
+    let free = c.in_ok-reserve.ensures.ok in
+    let room : vec_len c.reserve.new.self < vec_capacity c.reserve.new.self = omega (arith, free) in
+    keeps_asked v r u (c.read_word.ensures.keeps (end_of v.words v.blocks) below none) (room_as r u r.stage (λ h. room)) (λ h. h)

@@ -1,4 +1,4 @@
-use Rattle.std.proofs.Common.{◌≡◌, ltb, true, [], ◌∷◌, length, refl, sym, ◌∙◌, arith, rules}
+use Rattle.std.proofs.Common.{◌≡◌, ◌<◌, ltb, true, [], ◌∷◌, length, refl, sym, ◌∙◌, arith, rules}
 use Rattle.seq_model.specs.declared.call.Call.{Call}
 use Rattle.seq_model.specs.declared.call.Op.TheVariants.{Write}
 use Rattle.seq_model.specs.declared.call.Reply.TheVariants.{Done}
@@ -10,7 +10,10 @@ use Rattle.tx_actor.specs.declared.actor.Stage.TheVariants as stage
 use Rattle.tx_actor.specs.declared.actor.Told.TheVariants as told
 use Rattle.seq_model.specs.declared.event.Answer.TheVariants as answer
 use Rattle.tx_actor.specs.declared.actor.TxActor.{TxActor}
-use Rattle.tx_actor.proofs.BlocksLemmas.{is_below}
+use Rattle.tx_actor.proofs.BlocksLemmas.{end_behind, is_below}
+use Rattle.tx_actor.proofs.KeepingLemmas.{keeps_asked, room_as}
+use Rattle.std.specs.Vec.{vec_capacity, vec_len}
+use Rattle.replay_log.specs.Contents.{end_of}
 use Rattle.tx_actor.proofs.AskLemmas.{more_calls, writes_as}
 use Rattle.tx_actor.proofs.actor.TxActor.asks_to_write.Goals as goal
 
@@ -29,3 +32,23 @@ returns-clause-ok g c =
     c.in_ok-reserve.ensures.items c.push_reserved.ensures.items in
     writes_as c.args.blocks.now r u (told.Answered (answer.Replied Done)) l c.args.value known c.if-self.false few room
     (λ a w is. ((put-same w.seats a _ ∙ sym seat, is ∙ sym c.in_ok-write_word.ensures.actor, tt), refl))
+
+pub returns-clause-keeps : goal.returns-clause-keeps
+returns-clause-keeps g c =
+    let r = c.args.self.now in
+    let v = c.args.blocks.now in
+    let u : TxActor g.row.V.Denot = record r { words = c.write_word.new.words; stage = stage.Open; calls = c.push_reserved.new.self } in
+    let behind = end_behind v.words v.blocks in
+    let below : c.args.word < end_of v.words v.blocks = omega (arith, behind, c.words.ensures, c.if-word-words.false) in
+    keeps_asked v r u (c.write_word.ensures.keeps (end_of v.words v.blocks) below) (λ h. tt) (λ h. tt)
+
+pub returns-in_err-write_word-clause-keeps : goal.returns-in_err-write_word-clause-keeps
+returns-in_err-write_word-clause-keeps g c =
+    let r = c.args.self.now in
+    let v = c.args.blocks.now in
+    let u : TxActor g.row.V.Denot = record r { words = c.write_word.new.words; calls = c.reserve.new.self } in
+    let behind = end_behind v.words v.blocks in
+    let below : c.args.word < end_of v.words v.blocks = omega (arith, behind, c.words.ensures, c.if-word-words.false) in
+    let free = c.in_ok-reserve.ensures.ok in
+    let room : vec_len c.reserve.new.self < vec_capacity c.reserve.new.self = omega (arith, free) in
+    keeps_asked v r u (c.write_word.ensures.keeps (end_of v.words v.blocks) below) (room_as r u r.stage (λ h. room)) (λ h. h)

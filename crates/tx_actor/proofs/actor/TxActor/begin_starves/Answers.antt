@@ -2,15 +2,24 @@ use Rattle.std.proofs.Common.{refl, sym, ap, ◌∙◌}
 use Rattle.word_machine.proofs.Sets.{put-same}
 use Rattle.word_machine.specs.Actor.{Actor}
 use Rattle.word_machine.specs.Requests.{ask, AskAbort}
+use Rattle.tx_actor.specs.Running.{is_recorded}
+use Rattle.tx_actor.proofs.RunsLemmas.{seat_as}
+use Rattle.tx_actor.proofs.KeepingLemmas.{keeps_cleared}
+use Rattle.tx_actor.specs.declared.actor.Stage.TheVariants as stage
 use Rattle.tx_actor.proofs.actor.TxActor.begin_starves.Goals as goal
 
-pub returns : goal.returns
-returns g c a w s = (
+pub returns-clause-does : goal.returns-clause-does
+returns-clause-does g c a w s = (
   (
-    put-same w.seats a _ ∙ sym c.clear.ensures.seat,
+    seat_as c.clear.new.self _ _ (ap is_recorded c.clear.ensures.stage) (put-same w.seats a _) c.clear.ensures.seat,
     put-same w.boosted.words.actors a _
         ∙ (ap (λ (q : Actor). ask q q.place AskAbort) s ∙ sym (c.clear.ensures.words ∙ c.abort.ensures.actor)),
     c.clear.ensures.knows _ tt,
   ),
   refl,
 )
+
+pub returns-clause-keeps : goal.returns-clause-keeps
+returns-clause-keeps g c v =
+    keeps_cleared v c.args.self.now c.clear.new.self c.abort.new.words stage.Idle stage.Idle c.abort.ensures.keeps c.clear.ensures.rest
+    c.clear.ensures.stage (λ n h. tt) (λ z. tt)

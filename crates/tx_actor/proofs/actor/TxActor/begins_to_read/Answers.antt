@@ -2,14 +2,20 @@ use Rattle.std.proofs.Common.{refl, sym, ap, ◌∙◌}
 use Rattle.word_machine.proofs.Sets.{put-same}
 use Rattle.word_machine.specs.Actor.{Actor}
 use Rattle.word_machine.specs.Requests.{ask, AskBeginRead}
+use Rattle.tx_actor.proofs.KeepingLemmas.{keeps_to}
+use Rattle.tx_actor.specs.declared.actor.Stage.TheVariants as stage
 use Rattle.tx_actor.proofs.actor.TxActor.begins_to_read.Goals as goal
 
-pub returns : goal.returns
-returns g c a w s = (
+pub returns-clause-does : goal.returns-clause-does
+returns-clause-does g c a w s = (
   (
     put-same w.seats a _,
-    put-same w.boosted.words.actors a _ ∙ (ap (λ (q : Actor). ask q q.place AskBeginRead) s ∙ sym c.begin.ensures),
+    put-same w.boosted.words.actors a _ ∙ (ap (λ (q : Actor). ask q q.place AskBeginRead) s ∙ sym c.begin.ensures.actor),
     tt,
   ),
   refl,
 )
+
+pub returns-clause-keeps : goal.returns-clause-keeps
+returns-clause-keeps g c v =
+    keeps_to v c.args.self.now _ c.args.self.now.stage stage.Beginning c.begin.ensures.fits c.begin.ensures.owed refl (λ n h. tt) (λ z. tt)

@@ -2,10 +2,12 @@ use Rattle.std.proofs.Common.{refl, sym, ap, ◌∙◌}
 use Rattle.word_machine.proofs.Sets.{put-same}
 use Rattle.word_machine.specs.Actor.{Actor}
 use Rattle.word_machine.specs.Requests.{ask, AskAbort}
+use Rattle.tx_actor.proofs.KeepingLemmas.{keeps_to}
+use Rattle.tx_actor.specs.declared.actor.Stage.TheVariants as stage
 use Rattle.tx_actor.proofs.actor.TxActor.cancelled.Goals as goal
 
-pub returns : goal.returns
-returns g c a w s = (
+pub returns-clause-does : goal.returns-clause-does
+returns-clause-does g c a w s = (
   (
     put-same w.seats a _,
     put-same w.boosted.words.actors a _ ∙ (ap (λ (q : Actor). ask q q.place AskAbort) s ∙ sym c.abort.ensures.actor),
@@ -13,3 +15,7 @@ returns g c a w s = (
   ),
   refl,
 )
+
+pub returns-clause-keeps : goal.returns-clause-keeps
+returns-clause-keeps g c v =
+    keeps_to v c.args.self.now _ stage.Idle stage.Leaving c.abort.ensures.keeps.fits c.abort.ensures.keeps.owed refl (λ n h. tt) (λ z. tt)

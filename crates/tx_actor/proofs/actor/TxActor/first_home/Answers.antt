@@ -1,19 +1,30 @@
-use Rattle.std.proofs.Common.{refl, sym, ◌∙◌}
-use Rattle.tx_actor.specs.Running.{at, seat_of, stage_of}
-use Rattle.tx_actor.specs.Dispatch.{after_home}
+use Rattle.std.proofs.lemmas.List.Elements.{All-drop}
+use Rattle.std.specs.List.{All}
+use Rattle.std.proofs.Common.{refl, sym, ◌∙◌, subst, ℕ, ◌<◌}
+use Rattle.tx_actor.specs.Running.{at, seat_at}
 use Rattle.tx_actor.specs.declared.actor.Stage.TheVariants as stage
-use Rattle.tx_actor.proofs.DispatchLemmas.{home_at_stage, homes_as, homes_none, steps_stays}
+use Rattle.tx_actor.proofs.DispatchLemmas.{home_stays, homes_as, homes_none}
+use Rattle.tx_actor.proofs.KeepingLemmas.{keeps_from, keeps_same}
 use Rattle.tx_actor.proofs.actor.TxActor.first_home.Goals as goal
 
-pub returns-then-has_none : goal.returns-then-has_none
-returns-then-has_none g c =
+pub returns-then-has_none-clause-does : goal.returns-then-has_none-clause-does
+returns-then-has_none-clause-does g c =
     let r = at c.args.self.now (stage.Homing c.args.homes) in
-    steps_stays after_home r c.stays.new.self c.stays.result c.stays.ensures.stage c.stays.ensures.told
-    (λ a w. homes_none w a (seat_of r) c.args.homes.items (sym c.has_none.ensures ∙ c.if-has_none.true))
+    home_stays r c.stays.new.self c.stays.result c.stays.ensures.stage c.stays.ensures.told
+    (λ a w. homes_none w a (seat_at (w.seats a) r) c.args.homes.items (sym c.has_none.ensures ∙ c.if-has_none.true))
 
-pub returns : goal.returns
-returns g c =
+pub returns-clause-does : goal.returns-clause-does
+returns-clause-does g c =
     let r = at c.args.self.now (stage.Homing c.args.homes) in
     homes_as r c.goes_home.new.self c.goes_home.result c.args.homes _ refl (sym c.has_none.ensures ∙ c.if-has_none.false)
-    c.pop_front.ensures.rest
-    (home_at_stage r c.goes_home.new.self c.goes_home.result (seat_of c.args.self.now) (stage_of r.stage) _ c.goes_home.ensures)
+    c.pop_front.ensures.rest c.goes_home.ensures.does
+
+pub returns-then-has_none-clause-keeps : goal.returns-then-has_none-clause-keeps
+returns-then-has_none-clause-keeps g c v =
+    keeps_same v (at c.args.self.now (stage.Homing c.args.homes)) c.stays.new.self c.stays.ensures.stage
+
+pub returns-clause-keeps : goal.returns-clause-keeps
+returns-clause-keeps g c v =
+    keeps_from v c.args.self.now c.args.self.now c.goes_home.new.self (stage.Homing c.args.homes) (stage.Homing c.pop_front.new.self)
+    refl (c.goes_home.ensures.keeps v)
+    (λ n h. subst (All (λ (k : ℕ). k < n)) (sym c.pop_front.ensures.rest) (All-drop (λ (k : ℕ). k < n) 1 c.args.homes.items h)) (λ z. tt)

@@ -1,4 +1,12 @@
+use Rattle.tx_actor.proofs.KeepingLemmas.{keeps_from}
+use Rattle.tx_actor.specs.declared.actor.Stage.TheVariants as stage
+use Rattle.std.proofs.Common.{Some, refl}
 use Rattle.tx_actor.proofs.actor.TxActor.gives_up.Goals as goal
 
-pub returns : goal.returns
-returns g c a w s = c.cancels.ensures a w s
+pub returns-clause-does : goal.returns-clause-does
+returns-clause-does g c a w s = c.cancels.ensures.does a w s
+
+pub returns-clause-keeps : goal.returns-clause-keeps
+returns-clause-keeps g c v =
+    keeps_from v c.args.self.now (record c.args.self.now { cause = Some c.args.cause }) c.cancels.new.self stage.Idle stage.Idle refl
+    (c.cancels.ensures.keeps v) (λ n h. tt) (λ z. tt)

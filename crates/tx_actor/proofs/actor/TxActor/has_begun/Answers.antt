@@ -1,20 +1,36 @@
+use Rattle.std.proofs.Common.{refl}
 use Rattle.tx_actor.specs.Running.{at, seat_of}
 use Rattle.tx_actor.specs.Dispatch.{shown_notice}
 use Rattle.tx_actor.specs.declared.actor.Stage.TheVariants as stage
 use Rattle.tx_actor.proofs.DispatchLemmas.{heard_as, word_stays, begun_else}
+use Rattle.tx_actor.proofs.KeepingLemmas.{keeps_from, keeps_same}
 use Rattle.tx_actor.proofs.actor.TxActor.has_begun.Goals as goal
 
-pub returns-in-Begun : goal.returns-in-Begun
-returns-in-Begun g c =
-    heard_as (at c.args.self.now stage.Beginning) c.begun.new.self c.begun.result _ _ c.in-Begun.is (λ a w m s. c.begun.ensures a w s.1)
+pub returns-in-Begun-clause-does : goal.returns-in-Begun-clause-does
+returns-in-Begun-clause-does g c =
+    heard_as (at c.args.self.now stage.Beginning) c.begun.new.self c.begun.result _ _ c.in-Begun.is (λ a w m s. c.begun.ensures.does a w
+    s.1)
 
-pub returns-in-Exhausted : goal.returns-in-Exhausted
-returns-in-Exhausted g c =
+pub returns-in-Exhausted-clause-does : goal.returns-in-Exhausted-clause-does
+returns-in-Exhausted-clause-does g c =
     heard_as (at c.args.self.now stage.Beginning) c.exhausted.new.self c.exhausted.result _ _ c.in-Exhausted.is (λ a w m s.
-    c.exhausted.ensures a w s.1)
+    c.exhausted.ensures.does a w s.1)
 
-pub returns-in_default : goal.returns-in_default
-returns-in_default g c =
+pub returns-in_default-clause-does : goal.returns-in_default-clause-does
+returns-in_default-clause-does g c =
     word_stays (at c.args.self.now stage.Beginning) c.stays.new.self c.stays.result (shown_notice c.args.heard)
     c.stays.ensures.stage c.stays.ensures.told
     (λ a w. begun_else w a (seat_of (at c.args.self.now stage.Beginning)) c.args.heard c.in_default.not-Begun c.in_default.not-Exhausted)
+
+pub returns-in-Begun-clause-keeps : goal.returns-in-Begun-clause-keeps
+returns-in-Begun-clause-keeps g c v =
+    keeps_from v c.args.self.now c.args.self.now c.begun.new.self stage.Beginning stage.Idle refl (c.begun.ensures.keeps v) (λ n h. tt)
+    (λ z. tt)
+
+pub returns-in-Exhausted-clause-keeps : goal.returns-in-Exhausted-clause-keeps
+returns-in-Exhausted-clause-keeps g c v =
+    keeps_from v c.args.self.now c.args.self.now c.exhausted.new.self stage.Beginning stage.Idle refl (c.exhausted.ensures.keeps v) (λ n
+    h. tt) (λ z. tt)
+
+pub returns-in_default-clause-keeps : goal.returns-in_default-clause-keeps
+returns-in_default-clause-keeps g c v = keeps_same v (at c.args.self.now stage.Beginning) c.stays.new.self c.stays.ensures.stage

@@ -1,16 +1,26 @@
+use Rattle.std.proofs.Common.{refl}
 use Rattle.tx_actor.specs.Running.{at, seat_of}
 use Rattle.tx_actor.specs.Dispatch.{shown_notice}
 use Rattle.tx_actor.specs.declared.actor.Stage.TheVariants as stage
 use Rattle.tx_actor.proofs.DispatchLemmas.{heard_as, word_stays, cancelled_else}
+use Rattle.tx_actor.proofs.KeepingLemmas.{keeps_from, keeps_same}
 use Rattle.tx_actor.proofs.actor.TxActor.has_cancelled.Goals as goal
 
-pub returns-in-Cancelled : goal.returns-in-Cancelled
-returns-in-Cancelled g c =
+pub returns-in-Cancelled-clause-does : goal.returns-in-Cancelled-clause-does
+returns-in-Cancelled-clause-does g c =
     heard_as (at c.args.self.now stage.Cancelling) c.cancelled.new.self c.cancelled.result _ _ c.in-Cancelled.is (λ a w m s.
-    c.cancelled.ensures a w s.1)
+    c.cancelled.ensures.does a w s.1)
 
-pub returns-in_default : goal.returns-in_default
-returns-in_default g c =
+pub returns-in_default-clause-does : goal.returns-in_default-clause-does
+returns-in_default-clause-does g c =
     word_stays (at c.args.self.now stage.Cancelling) c.stays.new.self c.stays.result (shown_notice c.args.heard)
     c.stays.ensures.stage c.stays.ensures.told
     (λ a w. cancelled_else w a (seat_of (at c.args.self.now stage.Cancelling)) c.args.heard c.in_default.not-Cancelled)
+
+pub returns-in-Cancelled-clause-keeps : goal.returns-in-Cancelled-clause-keeps
+returns-in-Cancelled-clause-keeps g c v =
+    keeps_from v c.args.self.now c.args.self.now c.cancelled.new.self stage.Cancelling stage.Idle refl (c.cancelled.ensures.keeps v) (λ n
+    h. tt) (λ z. tt)
+
+pub returns-in_default-clause-keeps : goal.returns-in_default-clause-keeps
+returns-in_default-clause-keeps g c v = keeps_same v (at c.args.self.now stage.Cancelling) c.stays.new.self c.stays.ensures.stage

@@ -1,21 +1,45 @@
-use Rattle.replay_log.specs.Worlds as worlds
+use Rattle.std.specs.Global.{Vec}
+use Rattle.seq_model.specs.declared.call.Call.{Call}
+use Rattle.seq_model.specs.declared.call.Reply.{Reply}
+use Rattle.std.proofs.Common.{ap, ◌∙◌, refl}
 use Rattle.replay_log.specs.Worlds.{recorded}
 use Rattle.std.specs.Prelude.{true}
 use Rattle.tx_actor.specs.Running.{at, seat_of}
 use Rattle.tx_actor.specs.declared.actor.Stage.TheVariants as stage
-use Rattle.tx_actor.proofs.DispatchLemmas.{by_result, heard_as, home_at_stage, stored_else}
+use Rattle.tx_actor.proofs.DispatchLemmas.{by_result, heard_as, stored_else}
+use Rattle.tx_actor.proofs.KeepingLemmas.{keeps_from}
 use Rattle.tx_actor.proofs.actor.TxActor.has_first_stored.Goals as goal
 
-pub returns-in-Stored : goal.returns-in-Stored
-returns-in-Stored g c =
+pub returns-in-Stored-clause-does : goal.returns-in-Stored-clause-does
+returns-in-Stored-clause-does g c =
     let r = at c.args.self.now (stage.Ready c.args.homes) in
     heard_as r c.goes_home.new.self c.goes_home.result _ _ c.in-Stored.is
-    (λ a w m s. home_at_stage r c.goes_home.new.self c.goes_home.result (seat_of c.args.self.now) (worlds.Ready c.args.homes.items)
-    c.args.homes.items c.goes_home.ensures a (recorded w a (seat_of r) true r.wv) m s.1)
+    (λ a w m s. c.goes_home.ensures.does a (recorded w a (seat_of r) true r.wv) (seat_of r) (refl, refl, refl) m s.1)
 
-pub returns-in_default : goal.returns-in_default
-returns-in_default g c a w m s =
+pub returns-in_default-clause-does : goal.returns-in_default-clause-does
+returns-in_default-clause-does g c a w m s =
     let r = at c.args.self.now (stage.Ready c.args.homes) in
     let now = recorded w a (seat_of r) true r.wv in
     by_result c.stored_one.new.self c.stored_one.result a _ _
-    (stored_else now a (seat_of r) c.args.homes.items c.args.heard c.in_default.not-Stored) (c.stored_one.ensures a now s.1)
+    (stored_else now a (seat_of r) c.args.homes.items c.args.heard c.in_default.not-Stored)
+    (c.stored_one.ensures.does a now (seat_of r) (refl, refl, refl) s.1)
+
+pub returns-in-Stored-clause-made : goal.returns-in-Stored-clause-made
+returns-in-Stored-clause-made g c =
+    ap (λ (v : Vec (Call g.row.V.Denot × Reply g.row.V.Denot)). v.items) (c.goes_home.ensures.made ∙ c.swap.ensures.x_after)
+
+pub returns-in_default-clause-made : goal.returns-in_default-clause-made
+returns-in_default-clause-made g c =
+    ap (λ (v : Vec (Call g.row.V.Denot × Reply g.row.V.Denot)). v.items) (c.stored_one.ensures.made ∙ c.swap.ensures.x_after)
+
+pub returns-in-Stored-clause-keeps : goal.returns-in-Stored-clause-keeps
+returns-in-Stored-clause-keeps g c v =
+    keeps_from v c.args.self.now (record c.args.self.now { made = c.swap.new.x; calls = c.swap.new.y }) c.goes_home.new.self (stage.Ready
+    c.args.homes) (stage.Homing c.args.homes) refl
+    (c.goes_home.ensures.keeps v) (λ n h. h) (λ z. tt)
+
+pub returns-in_default-clause-keeps : goal.returns-in_default-clause-keeps
+returns-in_default-clause-keeps g c v =
+    keeps_from v c.args.self.now (record c.args.self.now { made = c.swap.new.x; calls = c.swap.new.y }) c.stored_one.new.self
+    (stage.Ready c.args.homes) (stage.Storing c.args.homes) refl
+    (c.stored_one.ensures.keeps v) (λ n h. h) (λ z. tt)

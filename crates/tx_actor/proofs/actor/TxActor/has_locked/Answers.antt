@@ -1,27 +1,46 @@
+use Rattle.std.proofs.Common.{refl}
 use Rattle.tx_actor.specs.Running.{at, seat_of}
 use Rattle.tx_actor.specs.Dispatch.{shown_notice}
 use Rattle.tx_actor.specs.declared.actor.Stage.TheVariants as stage
 use Rattle.tx_actor.proofs.DispatchLemmas.{heard_as, word_stays, locked_else}
+use Rattle.tx_actor.proofs.KeepingLemmas.{keeps_from, keeps_same}
 use Rattle.tx_actor.proofs.actor.TxActor.has_locked.Goals as goal
 
-pub returns-in-Locked : goal.returns-in-Locked
-returns-in-Locked g c =
+pub returns-in-Locked-clause-does : goal.returns-in-Locked-clause-does
+returns-in-Locked-clause-does g c =
     heard_as (at c.args.self.now (stage.Locking c.args.homes)) c.locked.new.self c.locked.result _ _ c.in-Locked.is (λ a w m s.
-    c.locked.ensures a w s.2 s.1)
+    c.locked.ensures.does a w s.2 s.1)
 
-pub returns-in-Busy : goal.returns-in-Busy
-returns-in-Busy g c =
+pub returns-in-Busy-clause-does : goal.returns-in-Busy-clause-does
+returns-in-Busy-clause-does g c =
     heard_as (at c.args.self.now (stage.Locking c.args.homes)) c.gives_up.new.self c.gives_up.result _ _ c.in-Busy.is (λ a w m s.
-    c.gives_up.ensures a w s.1)
+    c.gives_up.ensures.does a w s.1)
 
-pub returns-in-Invalid : goal.returns-in-Invalid
-returns-in-Invalid g c =
+pub returns-in-Invalid-clause-does : goal.returns-in-Invalid-clause-does
+returns-in-Invalid-clause-does g c =
     heard_as (at c.args.self.now (stage.Locking c.args.homes)) c.gives_up-in-Invalid.new.self c.gives_up-in-Invalid.result _ _
-    c.in-Invalid.is (λ a w m s. c.gives_up-in-Invalid.ensures a w s.1)
+    c.in-Invalid.is (λ a w m s. c.gives_up-in-Invalid.ensures.does a w s.1)
 
-pub returns-in_default : goal.returns-in_default
-returns-in_default g c =
+pub returns-in_default-clause-does : goal.returns-in_default-clause-does
+returns-in_default-clause-does g c =
     word_stays (at c.args.self.now (stage.Locking c.args.homes)) c.stays.new.self c.stays.result (shown_notice c.args.heard)
     c.stays.ensures.stage c.stays.ensures.told
     (λ a w. locked_else w a (seat_of (at c.args.self.now (stage.Locking c.args.homes))) c.args.heard c.in_default.not-Locked
     c.in_default.not-Busy c.in_default.not-Invalid)
+
+pub returns-in-Locked-clause-keeps : goal.returns-in-Locked-clause-keeps
+returns-in-Locked-clause-keeps g c v = c.locked.ensures.keeps v
+
+pub returns-in-Busy-clause-keeps : goal.returns-in-Busy-clause-keeps
+returns-in-Busy-clause-keeps g c v =
+    keeps_from v c.args.self.now c.args.self.now c.gives_up.new.self (stage.Locking c.args.homes) stage.Idle refl
+    (c.gives_up.ensures.keeps v) (λ n h. tt) (λ z. tt)
+
+pub returns-in-Invalid-clause-keeps : goal.returns-in-Invalid-clause-keeps
+returns-in-Invalid-clause-keeps g c v =
+    keeps_from v c.args.self.now c.args.self.now c.gives_up-in-Invalid.new.self (stage.Locking c.args.homes) stage.Idle refl
+    (c.gives_up-in-Invalid.ensures.keeps v) (λ n h. tt) (λ z. tt)
+
+pub returns-in_default-clause-keeps : goal.returns-in_default-clause-keeps
+returns-in_default-clause-keeps g c v =
+    keeps_same v (at c.args.self.now (stage.Locking c.args.homes)) c.stays.new.self c.stays.ensures.stage

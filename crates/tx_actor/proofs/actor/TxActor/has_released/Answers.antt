@@ -1,16 +1,26 @@
-use Rattle.tx_actor.specs.Running.{at, seat_of}
+use Rattle.std.proofs.Common.{refl}
+use Rattle.tx_actor.specs.Running.{at, seat_at}
 use Rattle.tx_actor.specs.Dispatch.{shown_notice}
 use Rattle.tx_actor.specs.declared.actor.Stage.TheVariants as stage
 use Rattle.tx_actor.proofs.DispatchLemmas.{heard_as, word_stays, released_else}
+use Rattle.tx_actor.proofs.KeepingLemmas.{keeps_from, keeps_same}
 use Rattle.tx_actor.proofs.actor.TxActor.has_released.Goals as goal
 
-pub returns-in-Released : goal.returns-in-Released
-returns-in-Released g c =
+pub returns-in-Released-clause-does : goal.returns-in-Released-clause-does
+returns-in-Released-clause-does g c =
     heard_as (at c.args.self.now stage.Releasing) c.released.new.self c.released.result _ _ c.in-Released.is (λ a w m s.
-    c.released.ensures a w s.1)
+    c.released.ensures.does a w s.1)
 
-pub returns-in_default : goal.returns-in_default
-returns-in_default g c =
+pub returns-in_default-clause-does : goal.returns-in_default-clause-does
+returns-in_default-clause-does g c =
     word_stays (at c.args.self.now stage.Releasing) c.stays.new.self c.stays.result (shown_notice c.args.heard)
     c.stays.ensures.stage c.stays.ensures.told
-    (λ a w. released_else w a (seat_of (at c.args.self.now stage.Releasing)) c.args.heard c.in_default.not-Released)
+    (λ a w. released_else w a (seat_at (w.seats a) (at c.args.self.now stage.Releasing)) c.args.heard c.in_default.not-Released)
+
+pub returns-in-Released-clause-keeps : goal.returns-in-Released-clause-keeps
+returns-in-Released-clause-keeps g c v =
+    keeps_from v c.args.self.now c.args.self.now c.released.new.self stage.Releasing stage.Idle refl (c.released.ensures.keeps v) (λ n h.
+    tt) (λ z. tt)
+
+pub returns-in_default-clause-keeps : goal.returns-in_default-clause-keeps
+returns-in_default-clause-keeps g c v = keeps_same v (at c.args.self.now stage.Releasing) c.stays.new.self c.stays.ensures.stage

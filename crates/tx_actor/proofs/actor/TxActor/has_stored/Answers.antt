@@ -1,18 +1,28 @@
-use Rattle.replay_log.specs.Worlds as worlds
-use Rattle.tx_actor.specs.Running.{at, seat_of}
+use Rattle.std.proofs.Common.{refl}
+use Rattle.tx_actor.specs.Running.{at, seat_at}
 use Rattle.tx_actor.specs.declared.actor.Stage.TheVariants as stage
-use Rattle.tx_actor.proofs.DispatchLemmas.{by_result, heard_as, home_at_stage, stored_else}
+use Rattle.tx_actor.proofs.DispatchLemmas.{by_result, heard_as, stored_else}
+use Rattle.tx_actor.proofs.KeepingLemmas.{keeps_from}
 use Rattle.tx_actor.proofs.actor.TxActor.has_stored.Goals as goal
 
-pub returns-in-Stored : goal.returns-in-Stored
-returns-in-Stored g c =
+pub returns-in-Stored-clause-does : goal.returns-in-Stored-clause-does
+returns-in-Stored-clause-does g c =
     let r = at c.args.self.now (stage.Storing c.args.homes) in
     heard_as r c.goes_home.new.self c.goes_home.result _ _ c.in-Stored.is
-    (λ a w m s. home_at_stage r c.goes_home.new.self c.goes_home.result (seat_of c.args.self.now) (worlds.Storing c.args.homes.items)
-    c.args.homes.items c.goes_home.ensures a w m s.1)
+    (λ a w m s. c.goes_home.ensures.does a w (seat_at (w.seats a) r) (refl, refl, refl) m s.1)
 
-pub returns-in_default : goal.returns-in_default
-returns-in_default g c a w m s =
+pub returns-in_default-clause-does : goal.returns-in_default-clause-does
+returns-in_default-clause-does g c a w m s =
     let r = at c.args.self.now (stage.Storing c.args.homes) in
+    let x = seat_at (w.seats a) r in
     by_result c.stored_one.new.self c.stored_one.result a _ _
-    (stored_else w a (seat_of r) c.args.homes.items c.args.heard c.in_default.not-Stored) (c.stored_one.ensures a w s.1)
+    (stored_else w a x c.args.homes.items c.args.heard c.in_default.not-Stored)
+    (c.stored_one.ensures.does a w x (refl, refl, refl) s.1)
+
+pub returns-in-Stored-clause-keeps : goal.returns-in-Stored-clause-keeps
+returns-in-Stored-clause-keeps g c v =
+    keeps_from v c.args.self.now c.args.self.now c.goes_home.new.self (stage.Storing c.args.homes) (stage.Homing c.args.homes) refl
+    (c.goes_home.ensures.keeps v) (λ n h. h) (λ z. tt)
+
+pub returns-in_default-clause-keeps : goal.returns-in_default-clause-keeps
+returns-in_default-clause-keeps g c v = c.stored_one.ensures.keeps v

@@ -1,25 +1,44 @@
-use Rattle.std.proofs.Common.{sym, ◌∙◌}
+use Rattle.std.proofs.Common.{sym, ◌∙◌, refl}
 use Rattle.tx_actor.specs.Running.{at, seat_of}
 use Rattle.tx_actor.specs.Dispatch.{after_put}
 use Rattle.tx_actor.specs.declared.actor.Stage.TheVariants as stage
 use Rattle.tx_actor.proofs.DispatchLemmas.{does_at_stage, does_stays, put_else}
+use Rattle.tx_actor.proofs.KeepingLemmas.{keeps_at, keeps_from, keeps_same}
 use Rattle.tx_actor.proofs.actor.TxActor.put_gate.Goals as goal
 
-pub returns-in-Returning : goal.returns-in-Returning
-returns-in-Returning g c =
+pub returns-in-Returning-clause-does : goal.returns-in-Returning-clause-does
+returns-in-Returning-clause-does g c =
     does_at_stage after_put c.args.self.now c.put_first.new.self c.put_first.result (stage.Returning c.in-Returning.homes) (sym
     c.replace-stage.ensures.value ∙ c.in-Returning.is)
-    c.put_first.ensures
+    c.put_first.ensures.does
 
-pub returns-in-ReturningOne : goal.returns-in-ReturningOne
-returns-in-ReturningOne g c =
+pub returns-in-ReturningOne-clause-does : goal.returns-in-ReturningOne-clause-does
+returns-in-ReturningOne-clause-does g c =
     does_at_stage after_put c.args.self.now c.cancels.new.self c.cancels.result (stage.ReturningOne c.in-ReturningOne.field-0) (sym
     c.replace-stage.ensures.value ∙ c.in-ReturningOne.is)
-    (λ a w s. c.cancels.ensures a w s.1)
+    (λ a w s. c.cancels.ensures.does a w s.1)
 
-pub returns-in_default : goal.returns-in_default
-returns-in_default g c =
+pub returns-in_default-clause-does : goal.returns-in_default-clause-does
+returns-in_default-clause-does g c =
     let other = c.replace-stage.result in
     does_at_stage after_put c.args.self.now c.stays.new.self c.stays.result other (sym c.replace-stage.ensures.value)
     (does_stays after_put (at c.args.self.now other) c.stays.new.self c.stays.result c.stays.ensures.stage c.stays.ensures.told
     (λ a w. put_else w a (seat_of (at c.args.self.now other)) other c.in_default.not-Returning c.in_default.not-ReturningOne))
+
+pub returns-in-Returning-clause-keeps : goal.returns-in-Returning-clause-keeps
+returns-in-Returning-clause-keeps g c v =
+    keeps_at v c.args.self.now c.put_first.new.self (stage.Returning c.in-Returning.homes) (sym c.replace-stage.ensures.value ∙
+    c.in-Returning.is)
+    (c.put_first.ensures.keeps v)
+
+pub returns-in-ReturningOne-clause-keeps : goal.returns-in-ReturningOne-clause-keeps
+returns-in-ReturningOne-clause-keeps g c v =
+    keeps_at v c.args.self.now c.cancels.new.self (stage.ReturningOne c.in-ReturningOne.field-0) (sym c.replace-stage.ensures.value ∙
+    c.in-ReturningOne.is)
+    (keeps_from v c.args.self.now c.args.self.now c.cancels.new.self (stage.ReturningOne c.in-ReturningOne.field-0) stage.Idle refl
+    (c.cancels.ensures.keeps v) (λ n h. tt) (λ z. tt))
+
+pub returns-in_default-clause-keeps : goal.returns-in_default-clause-keeps
+returns-in_default-clause-keeps g c v =
+    keeps_at v c.args.self.now c.stays.new.self c.replace-stage.result (sym c.replace-stage.ensures.value)
+    (keeps_same v (at c.args.self.now c.replace-stage.result) c.stays.new.self c.stays.ensures.stage)

@@ -1,8 +1,19 @@
 use Rattle.std.proofs.Common.{refl, sym, ◌∙◌}
 use Rattle.tx_actor.specs.Running.{seat_of}
 use Rattle.tx_actor.proofs.RunsLemmas.{returns_as}
+use Rattle.tx_actor.proofs.KeepingLemmas.{keeps_from, keeps_plain}
+use Rattle.tx_actor.specs.declared.actor.Stage.TheVariants as stage
 use Rattle.tx_actor.proofs.actor.TxActor.puts_back.Goals as goal
 
-pub returns : goal.returns
-returns g c a w s = returns_as a (seat_of c.args.self.now) _ _ _ w c.args.homes.items tt (sym c.has_none.ensures ∙
+pub returns-clause-does : goal.returns-clause-does
+returns-clause-does g c a w s = returns_as a (seat_of c.args.self.now) _ _ _ w c.args.homes.items tt (sym c.has_none.ensures ∙
     c.if-has_none.false) refl s
+
+pub returns-then-has_none-clause-keeps : goal.returns-then-has_none-clause-keeps
+returns-then-has_none-clause-keeps g c v =
+    keeps_from v c.args.self.now c.args.self.now c.cancels.new.self (stage.Returning c.args.homes) stage.Idle refl
+    (c.cancels.ensures.keeps v) (λ n h. tt) (λ z. tt)
+
+pub returns-clause-keeps : goal.returns-clause-keeps
+returns-clause-keeps g c v =
+    keeps_plain v c.args.self.now _ (stage.Returning c.args.homes) (stage.Returning c.args.homes) refl refl (λ n h. h) (λ z. tt)

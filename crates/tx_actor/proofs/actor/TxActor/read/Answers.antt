@@ -2,10 +2,12 @@ use Rattle.std.proofs.Common.{refl, sym, ◌∙◌}
 use Rattle.word_machine.proofs.Sets.{put-same}
 use Rattle.replay_log.specs.Worlds.{Open}
 use Rattle.tx_actor.specs.Running.{seat_of}
+use Rattle.tx_actor.proofs.KeepingLemmas.{keeps_plain}
+use Rattle.tx_actor.specs.declared.actor.Stage.TheVariants as stage
 use Rattle.tx_actor.proofs.actor.TxActor.read.Goals as goal
 
-pub returns : goal.returns
-returns g c a w s = (
+pub returns-clause-does : goal.returns-clause-does
+returns-clause-does g c a w s = (
   (
     put-same w.seats a _
         ∙ sym (λ i. record (seat_of c.args.self.now) { stage = Open; calls = c.push_reserved.ensures.items i }),
@@ -14,3 +16,6 @@ returns g c a w s = (
   ),
   refl,
 )
+
+pub returns-clause-keeps : goal.returns-clause-keeps
+returns-clause-keeps g c v = keeps_plain v c.args.self.now _ stage.Idle stage.Open refl refl (λ n h. tt) (λ z. tt)

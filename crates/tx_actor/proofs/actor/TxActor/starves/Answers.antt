@@ -5,71 +5,146 @@ use Rattle.replay_log.specs.Worlds.{starve_at}
 use Rattle.tx_actor.specs.declared.actor.Stage.TheVariants as stage
 use Rattle.tx_actor.specs.declared.actor.Told.TheVariants.{Refused}
 use Rattle.tx_actor.proofs.DispatchLemmas.{does_at_stage, does_stays, starve_else}
+use Rattle.tx_actor.proofs.KeepingLemmas.{keeps_at, keeps_from, keeps_same}
 use Rattle.tx_actor.proofs.actor.TxActor.starves.Goals as goal
 
-pub returns-in-Idle : goal.returns-in-Idle
-returns-in-Idle g c =
+pub returns-in-Idle-clause-does : goal.returns-in-Idle-clause-does
+returns-in-Idle-clause-does g c =
     does_at_stage starve_at c.args.self.now (at c.args.self.now stage.Idle) (Refused refusal.NoTransaction) stage.Idle (sym
     c.replace-stage.ensures.value ∙ c.in-Idle.is) (λ a w s. (s, refl))
 
-pub returns-in-Open : goal.returns-in-Open
-returns-in-Open g c =
+pub returns-in-Open-clause-does : goal.returns-in-Open-clause-does
+returns-in-Open-clause-does g c =
     does_at_stage starve_at c.args.self.now (at c.args.self.now stage.Open) (Refused refusal.NoTransaction) stage.Open (sym
     c.replace-stage.ensures.value ∙ c.in-Open.is) (λ a w s. (s, refl))
 
-pub returns-in-Beginning : goal.returns-in-Beginning
-returns-in-Beginning g c =
+pub returns-in-Beginning-clause-does : goal.returns-in-Beginning-clause-does
+returns-in-Beginning-clause-does g c =
     does_at_stage starve_at c.args.self.now c.begin_starves.new.self c.begin_starves.result stage.Beginning (sym
-    c.replace-stage.ensures.value ∙ c.in-Beginning.is) (λ a w s. c.begin_starves.ensures a w s.1)
+    c.replace-stage.ensures.value ∙ c.in-Beginning.is) (λ a w s. c.begin_starves.ensures.does a w s.1)
 
-pub returns-in-Reading : goal.returns-in-Reading
-returns-in-Reading g c =
+pub returns-in-Reading-clause-does : goal.returns-in-Reading-clause-does
+returns-in-Reading-clause-does g c =
     does_at_stage starve_at c.args.self.now c.gives_up.new.self c.gives_up.result (stage.Reading c.in-Reading.field-0) (sym
-    c.replace-stage.ensures.value ∙ c.in-Reading.is) (λ a w s. c.gives_up.ensures a w s.1)
+    c.replace-stage.ensures.value ∙ c.in-Reading.is) (λ a w s. c.gives_up.ensures.does a w s.1)
 
-pub returns-in-Trying : goal.returns-in-Trying
-returns-in-Trying g c =
+pub returns-in-Trying-clause-does : goal.returns-in-Trying-clause-does
+returns-in-Trying-clause-does g c =
     does_at_stage starve_at c.args.self.now c.gives_up-in-Trying.new.self c.gives_up-in-Trying.result (stage.Trying
     c.in-Trying.field-0 c.in-Trying.field-1) (sym c.replace-stage.ensures.value ∙ c.in-Trying.is) (λ a w s.
-    c.gives_up-in-Trying.ensures a w s.1)
+    c.gives_up-in-Trying.ensures.does a w s.1)
 
-pub returns-in-Copying : goal.returns-in-Copying
-returns-in-Copying g c =
+pub returns-in-Copying-clause-does : goal.returns-in-Copying-clause-does
+returns-in-Copying-clause-does g c =
     does_at_stage starve_at c.args.self.now c.starves_copying.new.self c.starves_copying.result (stage.Copying c.in-Copying.asked)
-    (sym c.replace-stage.ensures.value ∙ c.in-Copying.is) (λ a w s. c.starves_copying.ensures a w s.1)
+    (sym c.replace-stage.ensures.value ∙ c.in-Copying.is) (λ a w s. c.starves_copying.ensures.does a w s.1)
 
-pub returns-in-Loading : goal.returns-in-Loading
-returns-in-Loading g c =
+pub returns-in-Loading-clause-does : goal.returns-in-Loading-clause-does
+returns-in-Loading-clause-does g c =
     does_at_stage starve_at c.args.self.now c.gives_up-in-Loading.new.self c.gives_up-in-Loading.result (stage.Loading
     c.in-Loading.field-0 c.in-Loading.field-1) (sym c.replace-stage.ensures.value ∙ c.in-Loading.is) (λ a w s.
-    c.gives_up-in-Loading.ensures a w s.1)
+    c.gives_up-in-Loading.ensures.does a w s.1)
 
-pub returns-in-Locking : goal.returns-in-Locking
-returns-in-Locking g c =
+pub returns-in-Locking-clause-does : goal.returns-in-Locking-clause-does
+returns-in-Locking-clause-does g c =
     does_at_stage starve_at c.args.self.now c.gives_up-in-Locking.new.self c.gives_up-in-Locking.result (stage.Locking
-    c.in-Locking.field-0) (sym c.replace-stage.ensures.value ∙ c.in-Locking.is) (λ a w s. c.gives_up-in-Locking.ensures a w s.1)
+    c.in-Locking.field-0) (sym c.replace-stage.ensures.value ∙ c.in-Locking.is) (λ a w s. c.gives_up-in-Locking.ensures.does a w s.1)
 
-pub returns-in-Gating : goal.returns-in-Gating
-returns-in-Gating g c =
+pub returns-in-Gating-clause-does : goal.returns-in-Gating-clause-does
+returns-in-Gating-clause-does g c =
     does_at_stage starve_at c.args.self.now c.starves_gating.new.self c.starves_gating.result (stage.Gating c.in-Gating.homes
-    c.in-Gating.got c.in-Gating.field-2) (sym c.replace-stage.ensures.value ∙ c.in-Gating.is) (c.starves_gating.ensures
+    c.in-Gating.got c.in-Gating.field-2) (sym c.replace-stage.ensures.value ∙ c.in-Gating.is) (c.starves_gating.ensures.does
     c.in-Gating.field-2)
 
-pub returns-in-Ready : goal.returns-in-Ready
-returns-in-Ready g c =
+pub returns-in-Ready-clause-does : goal.returns-in-Ready-clause-does
+returns-in-Ready-clause-does g c =
     does_at_stage starve_at c.args.self.now c.starves_ready.new.self c.starves_ready.result (stage.Ready c.in-Ready.homes) (sym
-    c.replace-stage.ensures.value ∙ c.in-Ready.is) c.starves_ready.ensures
+    c.replace-stage.ensures.value ∙ c.in-Ready.is) c.starves_ready.ensures.does
 
-pub returns-in-Closing : goal.returns-in-Closing
-returns-in-Closing g c =
+pub returns-in-Closing-clause-does : goal.returns-in-Closing-clause-does
+returns-in-Closing-clause-does g c =
     does_at_stage starve_at c.args.self.now c.gives_up-in-Closing.new.self c.gives_up-in-Closing.result stage.Closing (sym
-    c.replace-stage.ensures.value ∙ c.in-Closing.is) (λ a w s. c.gives_up-in-Closing.ensures a w s.1)
+    c.replace-stage.ensures.value ∙ c.in-Closing.is) (λ a w s. c.gives_up-in-Closing.ensures.does a w s.1)
 
-pub returns-in_default : goal.returns-in_default
-returns-in_default g c =
+pub returns-in_default-clause-does : goal.returns-in_default-clause-does
+returns-in_default-clause-does g c =
     let other = c.replace-stage.result in
     does_at_stage starve_at c.args.self.now c.stays.new.self c.stays.result other (sym c.replace-stage.ensures.value)
     (does_stays starve_at (at c.args.self.now other) c.stays.new.self c.stays.result c.stays.ensures.stage c.stays.ensures.told
     (λ a w. starve_else w a (seat_of (at c.args.self.now other)) other c.in_default.not-Idle c.in_default.not-Open
     c.in_default.not-Beginning c.in_default.not-Reading c.in_default.not-Trying c.in_default.not-Copying c.in_default.not-Loading
     c.in_default.not-Locking c.in_default.not-Gating c.in_default.not-Ready c.in_default.not-Closing))
+
+pub returns-in-Idle-clause-keeps : goal.returns-in-Idle-clause-keeps
+returns-in-Idle-clause-keeps g c v =
+    keeps_at v c.args.self.now (at c.args.self.now stage.Idle) stage.Idle (sym c.replace-stage.ensures.value ∙ c.in-Idle.is)
+    (keeps_same v (at c.args.self.now stage.Idle) (at c.args.self.now stage.Idle) refl)
+
+pub returns-in-Open-clause-keeps : goal.returns-in-Open-clause-keeps
+returns-in-Open-clause-keeps g c v =
+    keeps_at v c.args.self.now (at c.args.self.now stage.Open) stage.Open (sym c.replace-stage.ensures.value ∙ c.in-Open.is)
+    (keeps_same v (at c.args.self.now stage.Open) (at c.args.self.now stage.Open) refl)
+
+pub returns-in-Reading-clause-keeps : goal.returns-in-Reading-clause-keeps
+returns-in-Reading-clause-keeps g c v =
+    keeps_at v c.args.self.now c.gives_up.new.self (stage.Reading c.in-Reading.field-0) (sym c.replace-stage.ensures.value ∙
+    c.in-Reading.is)
+    (keeps_from v c.args.self.now c.args.self.now c.gives_up.new.self (stage.Reading c.in-Reading.field-0) stage.Idle refl
+    (c.gives_up.ensures.keeps v) (λ n h. tt) (λ z. tt))
+
+pub returns-in-Trying-clause-keeps : goal.returns-in-Trying-clause-keeps
+returns-in-Trying-clause-keeps g c v =
+    keeps_at v c.args.self.now c.gives_up-in-Trying.new.self (stage.Trying c.in-Trying.field-0 c.in-Trying.field-1) (sym
+    c.replace-stage.ensures.value ∙ c.in-Trying.is)
+    (keeps_from v c.args.self.now c.args.self.now c.gives_up-in-Trying.new.self (stage.Trying c.in-Trying.field-0 c.in-Trying.field-1)
+    stage.Idle refl (c.gives_up-in-Trying.ensures.keeps v) (λ n h. tt) (λ z. tt))
+
+pub returns-in-Loading-clause-keeps : goal.returns-in-Loading-clause-keeps
+returns-in-Loading-clause-keeps g c v =
+    keeps_at v c.args.self.now c.gives_up-in-Loading.new.self (stage.Loading c.in-Loading.field-0 c.in-Loading.field-1) (sym
+    c.replace-stage.ensures.value ∙ c.in-Loading.is)
+    (keeps_from v c.args.self.now c.args.self.now c.gives_up-in-Loading.new.self (stage.Loading c.in-Loading.field-0
+    c.in-Loading.field-1) stage.Idle refl (c.gives_up-in-Loading.ensures.keeps v) (λ n h. tt) (λ z. tt))
+
+pub returns-in-Locking-clause-keeps : goal.returns-in-Locking-clause-keeps
+returns-in-Locking-clause-keeps g c v =
+    keeps_at v c.args.self.now c.gives_up-in-Locking.new.self (stage.Locking c.in-Locking.field-0) (sym c.replace-stage.ensures.value ∙
+    c.in-Locking.is)
+    (keeps_from v c.args.self.now c.args.self.now c.gives_up-in-Locking.new.self (stage.Locking c.in-Locking.field-0) stage.Idle refl
+    (c.gives_up-in-Locking.ensures.keeps v) (λ n h. tt) (λ z. tt))
+
+pub returns-in-Closing-clause-keeps : goal.returns-in-Closing-clause-keeps
+returns-in-Closing-clause-keeps g c v =
+    keeps_at v c.args.self.now c.gives_up-in-Closing.new.self stage.Closing (sym c.replace-stage.ensures.value ∙ c.in-Closing.is)
+    (keeps_from v c.args.self.now c.args.self.now c.gives_up-in-Closing.new.self stage.Closing stage.Idle refl
+    (c.gives_up-in-Closing.ensures.keeps v) (λ n h. tt) (λ z. tt))
+
+pub returns-in-Beginning-clause-keeps : goal.returns-in-Beginning-clause-keeps
+returns-in-Beginning-clause-keeps g c v =
+    keeps_at v c.args.self.now c.begin_starves.new.self stage.Beginning (sym c.replace-stage.ensures.value ∙ c.in-Beginning.is)
+    (keeps_from v c.args.self.now c.args.self.now c.begin_starves.new.self stage.Beginning stage.Idle refl (c.begin_starves.ensures.keeps
+    v) (λ n h. tt) (λ z. tt))
+
+pub returns-in-Copying-clause-keeps : goal.returns-in-Copying-clause-keeps
+returns-in-Copying-clause-keeps g c v =
+    keeps_at v c.args.self.now c.starves_copying.new.self (stage.Copying c.in-Copying.asked) (sym c.replace-stage.ensures.value ∙
+    c.in-Copying.is)
+    (keeps_from v c.args.self.now c.args.self.now c.starves_copying.new.self (stage.Copying c.in-Copying.asked) (stage.ReturningOne
+    c.in-Copying.asked.collection) refl (c.starves_copying.ensures.keeps v) (λ n h. h) (λ z. tt))
+
+pub returns-in-Gating-clause-keeps : goal.returns-in-Gating-clause-keeps
+returns-in-Gating-clause-keeps g c v =
+    keeps_at v c.args.self.now c.starves_gating.new.self (stage.Gating c.in-Gating.homes c.in-Gating.got c.in-Gating.field-2) (sym
+    c.replace-stage.ensures.value ∙ c.in-Gating.is)
+    (keeps_from v c.args.self.now c.args.self.now c.starves_gating.new.self (stage.Gating c.in-Gating.homes c.in-Gating.got
+    c.in-Gating.field-2) (stage.Gating c.in-Gating.homes c.in-Gating.got 0) refl (c.starves_gating.ensures.keeps v) (λ n h. h) (λ z. tt))
+
+pub returns-in-Ready-clause-keeps : goal.returns-in-Ready-clause-keeps
+returns-in-Ready-clause-keeps g c v =
+    keeps_at v c.args.self.now c.starves_ready.new.self (stage.Ready c.in-Ready.homes) (sym c.replace-stage.ensures.value ∙ c.in-Ready.is)
+    (c.starves_ready.ensures.keeps v)
+
+pub returns-in_default-clause-keeps : goal.returns-in_default-clause-keeps
+returns-in_default-clause-keeps g c v =
+    keeps_at v c.args.self.now c.stays.new.self c.replace-stage.result (sym c.replace-stage.ensures.value)
+    (keeps_same v (at c.args.self.now c.replace-stage.result) c.stays.new.self c.stays.ensures.stage)

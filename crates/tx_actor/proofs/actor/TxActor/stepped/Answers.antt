@@ -1,77 +1,175 @@
-use Rattle.std.proofs.Common.{sym, subst, ◌∙◌}
-use Rattle.tx_actor.specs.Running.{at, seat_of}
-use Rattle.tx_actor.specs.Dispatch.{HasRoom, notice_told}
+use Rattle.tx_actor.specs.declared.actor.Stage.{Stage}
+use Rattle.std.proofs.Common.{sym, subst, ◌∙◌, refl}
+use Rattle.tx_actor.specs.Running.{at, seat_at}
+use Rattle.tx_actor.specs.Dispatch.{Records, HasRoom, notice_told}
 use Rattle.tx_actor.specs.declared.actor.Stage.TheVariants as stage
-use Rattle.tx_actor.proofs.DispatchLemmas.{told_as, word_at_stage, word_stays, word_else}
+use Rattle.tx_actor.proofs.DispatchLemmas.{records_else, told_as, word_at_stage, word_stays, word_else}
+use Rattle.tx_actor.proofs.KeepingLemmas.{keeps_at, keeps_from, keeps_same}
 use Rattle.tx_actor.proofs.actor.TxActor.stepped.Goals as goal
 
 pub has_read-requires : goal.has_read-requires
 has_read-requires g c = subst (λ s. HasRoom c.args.self.now s) (sym c.replace-stage.ensures.value ∙ c.in-Reading.is) c.requires
 
-pub returns-in-Beginning : goal.returns-in-Beginning
-returns-in-Beginning g c =
+pub returns-in-Beginning-clause-does : goal.returns-in-Beginning-clause-does
+returns-in-Beginning-clause-does g c =
     word_at_stage c.args.self.now c.has_begun.new.self c.has_begun.result _ stage.Beginning (sym c.replace-stage.ensures.value ∙
     c.in-Beginning.is)
-    (told_as (at c.args.self.now stage.Beginning) c.has_begun.new.self c.has_begun.result _ _ c.of_told-heard.ensures c.has_begun.ensures)
+    (told_as (at c.args.self.now stage.Beginning) c.has_begun.new.self c.has_begun.result _ _ c.of_told-heard.ensures
+    c.has_begun.ensures.does)
 
-pub returns-in-Reading : goal.returns-in-Reading
-returns-in-Reading g c =
+pub returns-in-Reading-clause-does : goal.returns-in-Reading-clause-does
+returns-in-Reading-clause-does g c =
     word_at_stage c.args.self.now c.has_read.new.self c.has_read.result _ (stage.Reading c.in-Reading.location) (sym
     c.replace-stage.ensures.value ∙ c.in-Reading.is)
     (told_as (at c.args.self.now (stage.Reading c.in-Reading.location)) c.has_read.new.self c.has_read.result _ _
-    c.of_told-heard.ensures c.has_read.ensures)
+    c.of_told-heard.ensures c.has_read.ensures.does)
 
-pub returns-in-Locking : goal.returns-in-Locking
-returns-in-Locking g c =
+pub returns-in-Locking-clause-does : goal.returns-in-Locking-clause-does
+returns-in-Locking-clause-does g c =
     word_at_stage c.args.self.now c.has_locked.new.self c.has_locked.result _ (stage.Locking c.in-Locking.homes) (sym
     c.replace-stage.ensures.value ∙ c.in-Locking.is)
     (told_as (at c.args.self.now (stage.Locking c.in-Locking.homes)) c.has_locked.new.self c.has_locked.result _ _
-    c.of_told-heard.ensures c.has_locked.ensures)
+    c.of_told-heard.ensures c.has_locked.ensures.does)
 
-pub returns-in-Ready : goal.returns-in-Ready
-returns-in-Ready g c =
+pub returns-in-Ready-clause-does : goal.returns-in-Ready-clause-does
+returns-in-Ready-clause-does g c =
     word_at_stage c.args.self.now c.has_first_stored.new.self c.has_first_stored.result _ (stage.Ready c.in-Ready.homes) (sym
     c.replace-stage.ensures.value ∙ c.in-Ready.is)
     (told_as (at c.args.self.now (stage.Ready c.in-Ready.homes)) c.has_first_stored.new.self c.has_first_stored.result _ _
-    c.of_told-heard.ensures c.has_first_stored.ensures)
+    c.of_told-heard.ensures c.has_first_stored.ensures.does)
 
-pub returns-in-Storing : goal.returns-in-Storing
-returns-in-Storing g c =
+pub returns-in-Storing-clause-does : goal.returns-in-Storing-clause-does
+returns-in-Storing-clause-does g c =
     word_at_stage c.args.self.now c.has_stored.new.self c.has_stored.result _ (stage.Storing c.in-Storing.homes) (sym
     c.replace-stage.ensures.value ∙ c.in-Storing.is)
     (told_as (at c.args.self.now (stage.Storing c.in-Storing.homes)) c.has_stored.new.self c.has_stored.result _ _
-    c.of_told-heard.ensures c.has_stored.ensures)
+    c.of_told-heard.ensures c.has_stored.ensures.does)
 
-pub returns-in-Releasing : goal.returns-in-Releasing
-returns-in-Releasing g c =
+pub returns-in-Releasing-clause-does : goal.returns-in-Releasing-clause-does
+returns-in-Releasing-clause-does g c =
     word_at_stage c.args.self.now c.has_released.new.self c.has_released.result _ stage.Releasing (sym
     c.replace-stage.ensures.value ∙ c.in-Releasing.is)
     (told_as (at c.args.self.now stage.Releasing) c.has_released.new.self c.has_released.result _ _ c.of_told-heard.ensures
-    c.has_released.ensures)
+    c.has_released.ensures.does)
 
-pub returns-in-Cancelling : goal.returns-in-Cancelling
-returns-in-Cancelling g c =
+pub returns-in-Cancelling-clause-does : goal.returns-in-Cancelling-clause-does
+returns-in-Cancelling-clause-does g c =
     word_at_stage c.args.self.now c.has_cancelled.new.self c.has_cancelled.result _ stage.Cancelling (sym
     c.replace-stage.ensures.value ∙ c.in-Cancelling.is)
     (told_as (at c.args.self.now stage.Cancelling) c.has_cancelled.new.self c.has_cancelled.result _ _ c.of_told-heard.ensures
-    c.has_cancelled.ensures)
+    c.has_cancelled.ensures.does)
 
-pub returns-in-Closing : goal.returns-in-Closing
-returns-in-Closing g c =
+pub returns-in-Closing-clause-does : goal.returns-in-Closing-clause-does
+returns-in-Closing-clause-does g c =
     word_at_stage c.args.self.now c.closed.new.self c.closed.result _ stage.Closing (sym c.replace-stage.ensures.value ∙
-    c.in-Closing.is) (λ a w m s. c.closed.ensures a w s.1)
+    c.in-Closing.is) (λ a w m s. c.closed.ensures.does a w s.1)
 
-pub returns-in-Leaving : goal.returns-in-Leaving
-returns-in-Leaving g c =
+pub returns-in-Leaving-clause-does : goal.returns-in-Leaving-clause-does
+returns-in-Leaving-clause-does g c =
     word_at_stage c.args.self.now c.ended.new.self c.ended.result _ stage.Leaving (sym c.replace-stage.ensures.value ∙
-    c.in-Leaving.is) (λ a w m s. c.ended.ensures a w s.1)
+    c.in-Leaving.is) (λ a w m s. c.ended.ensures.does a w s.1)
 
-pub returns-in_default : goal.returns-in_default
-returns-in_default g c =
+pub returns-in_default-clause-does : goal.returns-in_default-clause-does
+returns-in_default-clause-does g c =
     let other = c.replace-stage.result in
     let n = notice_told c.args.told in
     word_at_stage c.args.self.now c.stays.new.self c.stays.result n other (sym c.replace-stage.ensures.value)
     (word_stays (at c.args.self.now other) c.stays.new.self c.stays.result n c.stays.ensures.stage c.stays.ensures.told
-    (λ a w. word_else w a (seat_of (at c.args.self.now other)) other n c.in_default.not-Beginning c.in_default.not-Reading
+    (λ a w. word_else w a (seat_at (w.seats a) (at c.args.self.now other)) other n c.in_default.not-Beginning c.in_default.not-Reading
     c.in_default.not-Locking c.in_default.not-Storing c.in_default.not-Releasing c.in_default.not-Closing
     c.in_default.not-Cancelling c.in_default.not-Leaving c.in_default.not-Ready))
+
+pub returns-in-Beginning-clause-keeps : goal.returns-in-Beginning-clause-keeps
+returns-in-Beginning-clause-keeps g c v =
+    keeps_at v c.args.self.now c.has_begun.new.self stage.Beginning (sym c.replace-stage.ensures.value ∙ c.in-Beginning.is)
+    (c.has_begun.ensures.keeps v)
+
+pub returns-in-Reading-clause-keeps : goal.returns-in-Reading-clause-keeps
+returns-in-Reading-clause-keeps g c v =
+    keeps_at v c.args.self.now c.has_read.new.self (stage.Reading c.in-Reading.location) (sym c.replace-stage.ensures.value ∙
+    c.in-Reading.is)
+    (c.has_read.ensures.keeps v)
+
+pub returns-in-Locking-clause-keeps : goal.returns-in-Locking-clause-keeps
+returns-in-Locking-clause-keeps g c v =
+    keeps_at v c.args.self.now c.has_locked.new.self (stage.Locking c.in-Locking.homes) (sym c.replace-stage.ensures.value ∙
+    c.in-Locking.is)
+    (c.has_locked.ensures.keeps v)
+
+pub returns-in-Ready-clause-keeps : goal.returns-in-Ready-clause-keeps
+returns-in-Ready-clause-keeps g c v =
+    keeps_at v c.args.self.now c.has_first_stored.new.self (stage.Ready c.in-Ready.homes) (sym c.replace-stage.ensures.value ∙
+    c.in-Ready.is)
+    (c.has_first_stored.ensures.keeps v)
+
+pub returns-in-Storing-clause-keeps : goal.returns-in-Storing-clause-keeps
+returns-in-Storing-clause-keeps g c v =
+    keeps_at v c.args.self.now c.has_stored.new.self (stage.Storing c.in-Storing.homes) (sym c.replace-stage.ensures.value ∙
+    c.in-Storing.is)
+    (c.has_stored.ensures.keeps v)
+
+pub returns-in-Releasing-clause-keeps : goal.returns-in-Releasing-clause-keeps
+returns-in-Releasing-clause-keeps g c v =
+    keeps_at v c.args.self.now c.has_released.new.self stage.Releasing (sym c.replace-stage.ensures.value ∙ c.in-Releasing.is)
+    (c.has_released.ensures.keeps v)
+
+pub returns-in-Closing-clause-keeps : goal.returns-in-Closing-clause-keeps
+returns-in-Closing-clause-keeps g c v =
+    keeps_at v c.args.self.now c.closed.new.self stage.Closing (sym c.replace-stage.ensures.value ∙ c.in-Closing.is)
+    (keeps_from v c.args.self.now c.args.self.now c.closed.new.self stage.Closing stage.Idle refl (c.closed.ensures.keeps v) (λ n h. tt)
+    (λ z. tt))
+
+pub returns-in-Cancelling-clause-keeps : goal.returns-in-Cancelling-clause-keeps
+returns-in-Cancelling-clause-keeps g c v =
+    keeps_at v c.args.self.now c.has_cancelled.new.self stage.Cancelling (sym c.replace-stage.ensures.value ∙ c.in-Cancelling.is)
+    (c.has_cancelled.ensures.keeps v)
+
+pub returns-in-Leaving-clause-keeps : goal.returns-in-Leaving-clause-keeps
+returns-in-Leaving-clause-keeps g c v =
+    keeps_at v c.args.self.now c.ended.new.self stage.Leaving (sym c.replace-stage.ensures.value ∙ c.in-Leaving.is)
+    (keeps_from v c.args.self.now c.args.self.now c.ended.new.self stage.Leaving stage.Idle refl (c.ended.ensures.keeps v) (λ n h. tt) (λ
+    z. tt))
+
+pub returns-in_default-clause-keeps : goal.returns-in_default-clause-keeps
+returns-in_default-clause-keeps g c v =
+    keeps_at v c.args.self.now c.stays.new.self c.replace-stage.result (sym c.replace-stage.ensures.value)
+    (keeps_same v (at c.args.self.now c.replace-stage.result) c.stays.new.self c.stays.ensures.stage)
+
+-- the calls of a transaction that is recorded, or ends
+pub returns-in-Beginning-clause-made : goal.returns-in-Beginning-clause-made
+returns-in-Beginning-clause-made g c h =
+    absurd (subst (λ (z : Stage g.row.V.Denot). Records z) (sym c.replace-stage.ensures.value ∙ c.in-Beginning.is) h)
+
+pub returns-in-Reading-clause-made : goal.returns-in-Reading-clause-made
+returns-in-Reading-clause-made g c h =
+    absurd (subst (λ (z : Stage g.row.V.Denot). Records z) (sym c.replace-stage.ensures.value ∙ c.in-Reading.is) h)
+
+pub returns-in-Locking-clause-made : goal.returns-in-Locking-clause-made
+returns-in-Locking-clause-made g c h =
+    absurd (subst (λ (z : Stage g.row.V.Denot). Records z) (sym c.replace-stage.ensures.value ∙ c.in-Locking.is) h)
+
+pub returns-in-Storing-clause-made : goal.returns-in-Storing-clause-made
+returns-in-Storing-clause-made g c h =
+    absurd (subst (λ (z : Stage g.row.V.Denot). Records z) (sym c.replace-stage.ensures.value ∙ c.in-Storing.is) h)
+
+pub returns-in-Releasing-clause-made : goal.returns-in-Releasing-clause-made
+returns-in-Releasing-clause-made g c h =
+    absurd (subst (λ (z : Stage g.row.V.Denot). Records z) (sym c.replace-stage.ensures.value ∙ c.in-Releasing.is) h)
+
+pub returns-in-Cancelling-clause-made : goal.returns-in-Cancelling-clause-made
+returns-in-Cancelling-clause-made g c h =
+    absurd (subst (λ (z : Stage g.row.V.Denot). Records z) (sym c.replace-stage.ensures.value ∙ c.in-Cancelling.is) h)
+
+pub returns-in-Ready-clause-made : goal.returns-in-Ready-clause-made
+returns-in-Ready-clause-made g c h = c.has_first_stored.ensures.made
+
+pub returns-in-Closing-clause-made : goal.returns-in-Closing-clause-made
+returns-in-Closing-clause-made g c h = c.closed.ensures.made
+
+pub returns-in-Leaving-clause-made : goal.returns-in-Leaving-clause-made
+returns-in-Leaving-clause-made g c h = c.ended.ensures.made
+
+pub returns-in_default-clause-made : goal.returns-in_default-clause-made
+returns-in_default-clause-made g c h =
+    absurd (records_else c.replace-stage.result c.in_default.not-Ready c.in_default.not-Closing c.in_default.not-Leaving
+    (subst (λ (z : Stage g.row.V.Denot). Records z) (sym c.replace-stage.ensures.value) h))

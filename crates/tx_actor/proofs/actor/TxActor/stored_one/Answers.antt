@@ -1,6 +1,17 @@
 use Rattle.std.proofs.Common.{refl}
 use Rattle.word_machine.proofs.Sets.{put-same}
+use Rattle.replay_log.specs.Worlds.{Storing}
+use Rattle.tx_actor.specs.declared.actor.TxActor.{TxActor}
+use Rattle.tx_actor.specs.declared.actor.Stage.TheVariants as stage
+use Rattle.tx_actor.proofs.KeepingLemmas.{keeps_plain}
+use Rattle.tx_actor.proofs.RunsLemmas.{seat_left}
 use Rattle.tx_actor.proofs.actor.TxActor.stored_one.Goals as goal
 
-pub returns : goal.returns
-returns g c a w s = ((put-same w.seats a _, s, tt), refl)
+pub returns-clause-does : goal.returns-clause-does
+returns-clause-does g c a w x of s =
+    let u : TxActor g.row.V.Denot = record c.args.self.now { stage = stage.Storing c.args.homes } in
+    ((seat_left u _ x (Storing c.args.homes.items) refl (put-same w.seats a _) of (λ t. refl), s, tt), refl)
+
+pub returns-clause-keeps : goal.returns-clause-keeps
+returns-clause-keeps g c v =
+    keeps_plain v c.args.self.now _ (stage.Storing c.args.homes) (stage.Storing c.args.homes) refl refl (λ n h. h) (λ z. tt)

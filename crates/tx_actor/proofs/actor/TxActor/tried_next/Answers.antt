@@ -4,21 +4,29 @@ use Rattle.tx_actor.specs.Running.{at, seat_of, stage_of}
 use Rattle.tx_actor.specs.Dispatch.{after_try}
 use Rattle.tx_actor.specs.declared.actor.Stage.TheVariants as stage
 use Rattle.tx_actor.proofs.DispatchLemmas.{by_result, does_stays, gating_some, gating_none, tried_at}
+use Rattle.tx_actor.proofs.KeepingLemmas.{keeps_same}
 use Rattle.tx_actor.proofs.actor.TxActor.tried_next.Goals as goal
 
-pub returns-then-got-len : goal.returns-then-got-len
-returns-then-got-len g c a w s =
+pub returns-then-got-len-clause-does : goal.returns-then-got-len-clause-does
+returns-then-got-len-clause-does g c a w s =
     let r = at c.args.self.now (stage.Gating c.args.homes c.args.got c.args.tries) in
     let inside : c.args.got < length c.args.homes.items = search rules in
     let e = drop_more c.args.homes.items c.args.got 0 inside in
     by_result c.tried_home.new.self c.tried_home.result a _ _
     (gating_some w a (seat_of r) c.args.free (take c.args.got c.args.homes.items) (drop c.args.got c.args.homes.items) c.args.tries _ _ e
     ∙ tried_at w a (seat_of c.args.self.now) (stage_of r.stage) c.args.free _ _ _ _ c.args.tries)
-    (c.tried_home.ensures _ _ e a w s.1)
+    (c.tried_home.ensures.does _ _ e a w s.1)
 
-pub returns-else-got-len : goal.returns-else-got-len
-returns-else-got-len g c =
+pub returns-else-got-len-clause-does : goal.returns-else-got-len-clause-does
+returns-else-got-len-clause-does g c =
     let r = at c.args.self.now (stage.Gating c.args.homes c.args.got c.args.tries) in
     let outside : length c.args.homes.items ≤ c.args.got = search rules in
     does_stays (λ w a x s. after_try w a x s c.args.free) r c.stays.new.self c.stays.result c.stays.ensures.stage c.stays.ensures.told
     (λ a w. gating_none w a (seat_of r) c.args.free _ _ c.args.tries (drop_all c.args.got c.args.homes.items outside))
+
+pub returns-then-got-len-clause-keeps : goal.returns-then-got-len-clause-keeps
+returns-then-got-len-clause-keeps g c v = c.tried_home.ensures.keeps v
+
+pub returns-else-got-len-clause-keeps : goal.returns-else-got-len-clause-keeps
+returns-else-got-len-clause-keeps g c v =
+    keeps_same v (at c.args.self.now (stage.Gating c.args.homes c.args.got c.args.tries)) c.stays.new.self c.stays.ensures.stage

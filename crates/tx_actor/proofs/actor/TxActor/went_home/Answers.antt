@@ -1,19 +1,28 @@
 use Rattle.std.proofs.Common.{sym, ◌∙◌}
-use Rattle.tx_actor.specs.Running.{at, seat_of}
-use Rattle.tx_actor.specs.Dispatch.{after_home}
+use Rattle.tx_actor.specs.Running.{at, seat_at}
 use Rattle.tx_actor.specs.declared.actor.Stage.TheVariants as stage
-use Rattle.tx_actor.proofs.DispatchLemmas.{home_else, steps_at_stage, steps_stays}
+use Rattle.tx_actor.proofs.DispatchLemmas.{home_at_stage, home_else, home_stays}
+use Rattle.tx_actor.proofs.KeepingLemmas.{keeps_at, keeps_same}
 use Rattle.tx_actor.proofs.actor.TxActor.went_home.Goals as goal
 
-pub returns-in-Homing : goal.returns-in-Homing
-returns-in-Homing g c =
-    steps_at_stage after_home c.args.self.now c.first_home.new.self c.first_home.result (stage.Homing c.in-Homing.homes) (sym
-    c.replace-stage.ensures.value ∙ c.in-Homing.is)
-    c.first_home.ensures
+pub returns-in-Homing-clause-does : goal.returns-in-Homing-clause-does
+returns-in-Homing-clause-does g c =
+    home_at_stage c.args.self.now c.first_home.new.self c.first_home.result (stage.Homing c.in-Homing.homes)
+    (sym c.replace-stage.ensures.value ∙ c.in-Homing.is) c.first_home.ensures.does
 
-pub returns-in_default : goal.returns-in_default
-returns-in_default g c =
+pub returns-in_default-clause-does : goal.returns-in_default-clause-does
+returns-in_default-clause-does g c =
     let other = c.replace-stage.result in
-    steps_at_stage after_home c.args.self.now c.stays.new.self c.stays.result other (sym c.replace-stage.ensures.value)
-    (steps_stays after_home (at c.args.self.now other) c.stays.new.self c.stays.result c.stays.ensures.stage c.stays.ensures.told
-    (λ a w. home_else w a (seat_of (at c.args.self.now other)) other c.in_default.not-Homing))
+    home_at_stage c.args.self.now c.stays.new.self c.stays.result other (sym c.replace-stage.ensures.value)
+    (home_stays (at c.args.self.now other) c.stays.new.self c.stays.result c.stays.ensures.stage c.stays.ensures.told
+    (λ a w. home_else w a (seat_at (w.seats a) (at c.args.self.now other)) other c.in_default.not-Homing))
+
+pub returns-in-Homing-clause-keeps : goal.returns-in-Homing-clause-keeps
+returns-in-Homing-clause-keeps g c v =
+    keeps_at v c.args.self.now c.first_home.new.self (stage.Homing c.in-Homing.homes) (sym c.replace-stage.ensures.value ∙ c.in-Homing.is)
+    (c.first_home.ensures.keeps v)
+
+pub returns-in_default-clause-keeps : goal.returns-in_default-clause-keeps
+returns-in_default-clause-keeps g c v =
+    keeps_at v c.args.self.now c.stays.new.self c.replace-stage.result (sym c.replace-stage.ensures.value)
+    (keeps_same v (at c.args.self.now c.replace-stage.result) c.stays.new.self c.stays.ensures.stage)

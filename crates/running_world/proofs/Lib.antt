@@ -1,0 +1,6 @@
+pub mod OpeningLemmas
+pub mod PartsLemmas
+pub mod SeatLemmas
+pub mod TraceLemmas
+pub mod TurnLemmas
+pub mod WorldLemmas

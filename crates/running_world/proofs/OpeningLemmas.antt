@@ -1,0 +1,100 @@
+-- A world opens with these parts: each block stands behind those before it, and no actor has a transaction, so none may take a number.
+use Rattle.std.proofs.Common.{◌≡◌, ℕ, zero, suc, ◌+◌, ◌<◌, ◌≤◌, ◌^◌, List, [], ◌∷◌, ◌++◌, map, Some, None, length, get_or, take}
+use Rattle.std.proofs.Common.{refl, sym, ap, ◌∙◌, subst, arith}
+use Rattle.std.specs.Prelude.{slice_get}
+use Rattle.seq_model.specs.declared.held.Held.{Held}
+use Rattle.seq_model.specs.Contents.{Contents}
+use Rattle.replay_log.specs.Collections.{kind_of_held}
+use Rattle.replay_log.specs.Contents.{Block, end_of}
+use Rattle.replay_log.specs.Worlds.{written_homes}
+use Rattle.replay_log.specs.Parts as parts
+use Rattle.step_core.specs.Sound.{owed}
+use Rattle.step_core.proofs.Lists.{get_or_same}
+use Rattle.tx_actor.specs.Blocks.{kind_of}
+use Rattle.tx_actor.specs.declared.blocks.Kind.{Kind}
+use Rattle.tx_actor.specs.Dispatch.{HasRoom}
+use Rattle.tx_actor.specs.Keeping.{NamesAmong}
+use Rattle.tx_actor.specs.Running.{KnowsHomes}
+use Rattle.tx_actor.specs.declared.actor.Stage as own
+use Rattle.tx_actor.specs.declared.actor.TxActor.{TxActor}
+use Rattle.world_table.specs.Openings.{HasShape, blocks_of, world_of}
+use Rattle.world_table.specs.Tables.{HasTable}
+use Rattle.running_world.specs.declared.parts.Parts.{Parts}
+use Rattle.running_world.specs.declared.trace.Ended.{Ended}
+use Rattle.running_world.specs.Openings.{AreIdle, IsIdle}
+use Rattle.running_world.specs.Parts.{IsSeat, IsWorld, ended_of, total_owed}
+use Rattle.running_world.proofs.SeatLemmas.{idle_as}
+
+module _ {V : Type 0} where
+  laid_next : (ns : List ℕ) (hs : List (Held V)) (i n : ℕ) (h : Held V) → i < length ns → i < length hs → get_or ns i n ≡ n
+      → get_or hs i h ≡ h
+      → let b : Block = record { kind = kind_of_held h; stripes = n } in
+      blocks_of (take (suc i) ns) (take (suc i) hs) ≡ blocks_of (take i ns) (take i hs) ++ b ∷ []
+  laid_next [] hs i n h low inn at is = absurd (omega (arith, low))
+  laid_next (m ∷ ns) [] i n h low inn at is = absurd (omega (arith, inn))
+  laid_next (m ∷ ns) (g ∷ hs) zero n h low inn at is =
+      let block = λ (k : ℕ) (x : Held V). let b : Block = record { kind = kind_of_held x; stripes = k } in b in
+      ap (λ (k : ℕ). block k g ∷ []) at ∙ ap (λ (x : Held V). block n x ∷ []) is
+  laid_next (m ∷ ns) (g ∷ hs) (suc i) n h low inn at is =
+      let b : Block = record { kind = kind_of_held g; stripes = m } in
+      ap (λ (bs : List Block). b ∷ bs) (laid_next ns hs i n h (omega (arith, low)) (omega (arith, inn)) at is)
+
+  pub laid_more : (ns : List ℕ) (hs : List (Held V)) (i n : ℕ) (h : Held V) (bs : List Block) (b : Block) → i < length ns
+      → length ns ≡ length hs → get_or ns i 0 ≡ n → get_or hs i h ≡ h → b ≡ record { kind = kind_of_held h; stripes = n }
+      → bs ≡ blocks_of (take i ns) (take i hs) → bs ++ b ∷ [] ≡ blocks_of (take (i + 1) ns) (take (i + 1) hs)
+  laid_more ns hs i n h bs b low same at is eb e =
+      let more : suc i ≡ i + 1 = omega arith in
+      ap (λ (x : List Block). x ++ b ∷ []) e ∙ (ap (λ (x : Block). blocks_of (take i ns) (take i hs) ++ x ∷ []) eb
+      ∙ (sym (laid_next ns hs i n h low (omega (arith, low, same)) (get_or_same ns i n 0 low ∙ at) is)
+      ∙ ap (λ (k : ℕ). blocks_of (take k ns) (take k hs)) more))
+
+  pub kind_laid : (k : Kind) (h : Held V) (n : ℕ) → kind_of k ≡ kind_of_held h → let b : Block = record { kind = kind_of k; stripes = n } in
+      let d : Block = record { kind = kind_of_held h; stripes = n } in b ≡ d
+  kind_laid k h n e = ap (λ (x : parts.Kind). record { kind = x; stripes = n }) e
+
+  pub AreIdle-push : (rs : List (TxActor V)) (r : TxActor V) → IsIdle r → AreIdle rs → AreIdle (rs ++ r ∷ [])
+  AreIdle-push [] r h k = (h, tt)
+  AreIdle-push (q ∷ rs) r h k = (k.0, AreIdle-push rs r h k.1)
+
+  pub length_push : (rs : List (TxActor V)) (r : TxActor V) → length (rs ++ r ∷ []) ≡ length rs + 1
+  length_push [] r = refl
+  length_push (q ∷ rs) r = omega (arith, length_push rs r)
+
+  idle_at : (rs : List (TxActor V)) (i : ℕ) (r : TxActor V) → AreIdle rs → slice_get rs i ≡ Some r → IsIdle r
+  idle_at [] i r h at = absurd (let z : None ≡ Some r = at in cc)
+  idle_at (q ∷ rs) zero r h at = (let z : Some q ≡ Some r = at in let e : q ≡ r = cc in subst (λ (x : TxActor V). IsIdle x) e h.0)
+  idle_at (q ∷ rs) (suc i) r h at = idle_at rs i r h.1 at
+
+  owed_none : (rs : List (TxActor V)) → AreIdle rs → total_owed rs ≡ 0
+  owed_none [] h = refl
+  owed_none (r ∷ rs) h = omega (arith, ap owed h.0.words.place, owed_none rs h.1)
+
+  pub opens : (d : Parts V) (ns : List ℕ) (clock : ℕ) (s : Contents V) → HasTable d.table (world_of ns clock s)
+      → HasShape d.table (length s.words) (blocks_of ns s.held) → d.blocks.words ≡ length s.words → d.blocks.blocks ≡ blocks_of ns s.held
+      → length d.actors.items ≡ 64 → AreIdle d.actors.items → d.records.items ≡ [] → d.aborted.items ≡ [] → clock ≤ 2 ^ 62
+      → IsWorld d (world_of ns clock s)
+  opens d ns clock s table shape words blocks many idle rs es low = record {
+    laid = (sym words, sym blocks);
+    table = table;
+    shape = shape;
+    count = many;
+    seats = λ i r at. (
+        let own_idle = idle_at d.actors.items i r idle at in
+        let w = world_of ns clock s in
+        record {
+          runs = (
+            idle_as r own_idle.seat own_idle.stage,
+            sym own_idle.words.actor,
+            subst (λ (p : own.Stage V). KnowsHomes p (written_homes w (i + 1))) (sym own_idle.stage) tt,
+          );
+          running = record {
+            fits = own_idle.words.fits (end_of d.blocks.words d.blocks.blocks);
+            room = subst (λ (p : own.Stage V). HasRoom r p) (sym own_idle.stage) tt;
+            names = subst (λ (p : own.Stage V). NamesAmong (length d.blocks.blocks) p) (sym own_idle.stage) tt;
+          };
+        });
+    others = λ a none. refl;
+    records = rs;
+    aborted = ap (λ (xs : List (Ended V)). map ended_of xs) es;
+    clock = omega (arith, low, owed_none d.actors.items idle, table.cells.clock);
+  }

@@ -1,0 +1,489 @@
+-- What an event makes of the table and of its actor is what it makes of the world.
+--
+-- A request and a want of memory change nothing that is shared, so the table stands. A step of the words is the machine's on the table, and
+-- then what the actor makes of what it was told: that changes nothing that is shared either. Between the two, the actor has its seat as
+-- before, and its word actor after the step; the collections that it has written stand, since a step of a locking actor writes nothing.
+use Rattle.std.proofs.Common.{◌≡◌, ℕ, ◌+◌, Bool, true, false, true≢false, List, [], ◌∷◌, Option, Some, None, Result, ◌≤◌, inl, inr, refl, sym, ap, ◌∙◌, subst, arith}
+use Rattle.std.specs.Prelude.{not, filter}
+use Rattle.std.proofs.lemmas.Bool.{cond_both}
+use Rattle.vlock_word.specs.declared.lock_word.LockWord.{LockWord}
+use Rattle.vlock_word.specs.declared.lock_word.LockWord.TheVariants.{Free, Locked}
+use Rattle.tx_sets.specs.Entries.{Entries, locations, lookup}
+use Rattle.word_machine.specs.Actor as machine
+use Rattle.word_machine.specs.Actor.{Actor, Place, goes, seen_to_lock, seen_in_check, stamped_at, taken}
+use Rattle.word_machine.specs.Requests.{AskStore}
+use Rattle.word_machine.specs.World as machine_world
+use Rattle.word_machine.specs.World.{now, exchanged, put}
+use Rattle.word_machine.proofs.Sets.{put-same}
+use Rattle.seq_model.specs.declared.event.Event.{Event}
+use Rattle.seq_model.specs.declared.event.Event.TheVariants.{Ask, Step, Starve}
+use Rattle.seq_model.specs.declared.event.Notice.TheVariants.{Refused}
+use Rattle.seq_model.specs.declared.event.Request.{Request}
+use Rattle.seq_model.specs.declared.refusal.Refusal.TheVariants.{NoTransaction}
+use Rattle.seq_model.specs.declared.held.Held.{Held}
+use Rattle.seq_model.specs.Contents.{Contents}
+use Rattle.collection_machine.specs.Boosted.{Boosted, Action, TakeGate, PutGate, gated, is_actor, is_committing, is_none, shadows_copied}
+use Rattle.collection_machine.specs.Boosted.{word_step}
+use Rattle.replay_log.specs.Base.{Shown}
+use Rattle.replay_log.specs.Contents.{Answered, Asked, Block, HaveStripes, content, end_of, home_of, is_plain}
+use Rattle.replay_log.specs.Guards.{IsAllowed, step_action}
+use Rattle.replay_log.specs.Worlds.{World, Seat, Stage, After, Idle, Beginning, Open, Locking, Releasing, Closing, Cancelling, Leaving, Reading}
+use Rattle.replay_log.specs.Worlds.{Trying, Copying, Loading, Gating, Ready, Storing, Homing, Returning, acted, asks, at_stage, actor_of, moves, word_notice}
+use Rattle.replay_log.specs.Worlds.{all_of, distinct, ask_at, step_at, starve_at, happens, opened, run, written_homes}
+use Rattle.replay_log.proofs.GuardLemmas.{world_allows}
+use Rattle.replay_log.proofs.EventLemmas.{opened_linked, run_linked}
+use Rattle.replay_log.proofs.SeatLemmas.{AtLocking, Copy, Linked, StageOk}
+use Rattle.atomic_steps.specs.Steps.{Does, atomic_action, ended_at, ready_at}
+use Rattle.atomic_steps.proofs.OneStep.{ask_calm, one_step}
+use Rattle.step_core.specs.Answers.{result_of}
+use Rattle.step_core.specs.CellSteps.{Grows}
+use Rattle.step_core.specs.Shown as words
+use Rattle.step_core.specs.Sound.{Fits, owed}
+use Rattle.step_core.specs.declared.cells.Cells.{Cells}
+use Rattle.step_core.specs.declared.actor.Actor as running
+use Rattle.step_core.specs.declared.answer.WordAnswer.{WordAnswer}
+use Rattle.step_core.specs.declared.answer.WordRefusal.{WordRefusal}
+use Rattle.tx_actor.specs.Asks.{Asks, MayStore}
+use Rattle.tx_actor.specs.Blocks.{BlocksView}
+use Rattle.tx_actor.specs.Dispatch.{AreSteps, HasRoom, IsDue, IsToldWord, MayGoOn, Starves, after_put, after_try, after_word, is_loading}
+use Rattle.tx_actor.specs.Dispatch.{first, next_home, next_of, notice_told}
+use Rattle.tx_actor.specs.Guarded.{committed_at}
+use Rattle.tx_actor.specs.Keeping.{IsRunning}
+use Rattle.tx_actor.specs.Running as ran
+use Rattle.tx_actor.specs.Running.{KnowsHomes, Runs, is_recorded, notice_of, seat_at, seat_of, stage_of}
+use Rattle.tx_actor.specs.declared.actor.Stage as own
+use Rattle.tx_actor.specs.declared.actor.Stage.TheVariants as stage
+use Rattle.tx_actor.specs.declared.actor.Told.{Told}
+use Rattle.tx_actor.specs.declared.actor.Told.TheVariants as told
+use Rattle.tx_actor.specs.declared.actor.TxActor.{TxActor}
+use Rattle.tx_actor.specs.declared.next.Next.{Next}
+use Rattle.tx_actor.specs.declared.next.Next.TheVariants as next
+use Rattle.world_table.specs.Tables.{HasTable}
+use Rattle.world_table.specs.declared.table.Table.{Table}
+use Rattle.world_table.proofs.TableLemmas.{still_has}
+use Rattle.running_world.specs.Reached.{IsReached}
+use Rattle.running_world.specs.Turns.{IsTurn}
+use Rattle.running_world.proofs.SeatLemmas.{asked_as, next_as, ready_as, seated_by, stage_by, starved_as}
+
+-- ---- a step of a locking actor writes nothing
+to_lock_writes : (x : Actor) (l : ℕ) (ls : List ℕ) (w : LockWord) → (seen_to_lock x l ls w).writes ≡ x.writes
+to_lock_writes x l ls (Free k) = refl
+to_lock_writes x l ls (Locked k) = refl
+
+in_check_writes : (x : Actor) (ls : List ℕ) (w : LockWord) (o : Option ℕ) → (seen_in_check x ls w o).writes ≡ x.writes
+in_check_writes x ls (Free k) o =
+    cond_both {A = Actor} _ (goes x (machine.Check ls)) (goes x machine.Broken) (λ (y : Actor). y.writes ≡ x.writes) (λ _. refl) (λ _. refl)
+in_check_writes x ls (Locked k) (Some v) =
+    cond_both {A = Actor} _ (goes x (machine.Check ls)) (goes x machine.Broken) (λ (y : Actor). y.writes ≡ x.writes) (λ _. refl) (λ _. refl)
+in_check_writes x ls (Locked k) None = refl
+
+put_writes : (f : ℕ → Actor) (a : ℕ) (x y : Actor) → y.writes ≡ x.writes → (put f a y a).writes ≡ x.writes
+put_writes f a x y e = ap (λ (z : Actor). z.writes) (put-same f a y) ∙ e
+
+exchanged_writes : (s : machine_world.World) (a l k : ℕ) (x won lost : Actor) (w : LockWord) → won.writes ≡ x.writes
+    → lost.writes ≡ x.writes → ((exchanged s a l k won lost w).actors a).writes ≡ x.writes
+exchanged_writes s a l k x won lost (Free j) p q =
+    cond_both {A = machine_world.World} _ (record (now s a won) { locks = put s.locks l (Locked k) }) (now s a lost)
+    (λ (z : machine_world.World). (z.actors a).writes ≡ x.writes) (λ _. put_writes s.actors a x won p) (λ _. put_writes s.actors a x lost q)
+exchanged_writes s a l k x won lost (Locked j) p q = put_writes s.actors a x lost q
+
+locking_writes : {X Out : Type 0} (s : Boosted X Out) (a : ℕ) (p : Place) → AtLocking p
+    → ((word_step s a (s.words.actors a) p).words.actors a).writes ≡ (s.words.actors a).writes
+locking_writes s a (machine.Lock []) h =
+    let x = s.words.actors a in
+    put_writes s.words.actors a x (stamped_at x (s.words.clock + 1)) refl
+locking_writes s a (machine.Lock (l ∷ ls)) h =
+    let x = s.words.actors a in
+    put_writes s.words.actors a x (seen_to_lock x l ls (s.words.locks l)) (to_lock_writes x l ls (s.words.locks l))
+locking_writes s a (machine.Take l k ls) h =
+    let x = s.words.actors a in
+    exchanged_writes s.words a l k x (taken x l k ls) (goes x machine.Broken) (s.words.locks l) refl refl
+locking_writes s a (machine.Check (l ∷ ls)) h =
+    let x = s.words.actors a in
+    put_writes s.words.actors a x (seen_in_check x ls (s.words.locks l) (lookup x.writes l))
+    (in_check_writes x ls (s.words.locks l) (lookup x.writes l))
+locking_writes s a p h = absurd h
+
+-- an actor that owes less afterwards, and one that owed more before
+pub grows_less : (t u : Cells) (x y z : running.Actor) → Grows t x u y → owed z.place ≤ owed y.place → Grows t x u z
+grows_less t u x y z (inl h) less = inl (omega (arith, h, less))
+grows_less t u x y z (inr h) less = inr h
+
+pub grows_more : (t u : Cells) (x y z : running.Actor) → owed y.place ≤ owed x.place → Grows t y u z → Grows t x u z
+grows_more t u x y z more (inl h) = inl (omega (arith, h, more))
+grows_more t u x y z more (inr h) = inr h
+
+no_try : (xs : List ℕ) (k : ℕ) → next_home (first xs) ≡ next.TryGate k → ⊥
+no_try [] k e = cc
+no_try (j ∷ js) k e = cc
+
+no_put : (xs : List ℕ) (k : ℕ) → next_home (first xs) ≡ next.PutGate k → ⊥
+no_put [] k e = cc
+no_put (j ∷ js) k e = cc
+
+-- the law on the steps of a commit, wherever events have led
+abbrev pub GoesOn : Type 0 → Type 0
+GoesOn V =
+    (blocks : List Block) (clock : ℕ) (values : List ℕ) (held : List (Held V)) (events : List (Event V)) (a : ℕ) → HaveStripes blocks
+    → let w = run (opened blocks clock values held) events in MayGoOn a (committed_at w a (w.seats a).stage) (w.seats a).stage
+
+module _ {V : Type 0} where
+  pub reached_linked : (o : Contents V) (w : World V) → IsReached o w → Linked w
+  reached_linked o w h =
+      subst (λ (z : World V). Linked z) h.world
+      (run_linked h.events (opened h.blocks h.clock o.words o.held) (opened_linked h.blocks h.clock o.words o.held h.stripes))
+
+  reached_goes_on : GoesOn V → (o : Contents V) (w : World V) (a : ℕ) → IsReached o w
+      → MayGoOn a (committed_at w a (w.seats a).stage) (w.seats a).stage
+  reached_goes_on goes o w a h =
+      subst (λ (z : World V). MayGoOn a (committed_at z a (z.seats a).stage) (z.seats a).stage) h.world
+      (goes h.blocks h.clock o.words o.held h.events a h.stripes)
+
+  -- taking note of what a step ends changes no word, gate or base
+  ended_has : (t : Table V) (a : ℕ) (x : Seat V) (s : Stage V) (w : World V) → HasTable t w → HasTable t (ended_at a x s w)
+  ended_has t a x (Ready ks) w h = record { cells = h.cells; gates = h.gates; bases = h.bases }
+  ended_has t a x Closing w h = record { cells = h.cells; gates = h.gates; bases = h.bases }
+  ended_has t a x Leaving w h = record { cells = h.cells; gates = h.gates; bases = h.bases }
+  ended_has t a x s w h = h
+
+  -- the homes of these entries
+  abbrev homes_by : World V → Entries → List ℕ
+  homes_by w es = distinct (all_of (home_of w.words w.blocks) (filter (λ l. not (is_plain w.words w.blocks l)) (locations es)))
+
+  knows_moved : (w : World V) (a : ℕ) (s : own.Stage V)
+      → StageOk w.words w.blocks (w.seats a) (actor_of w a) (w.boosted.shadows a) (stage_of s) (actor_of w a).place
+      → KnowsHomes s (written_homes w a) → KnowsHomes s (written_homes (acted w (moves a ∷ [])) a)
+  knows_moved w a (stage.Locking homes) ok k =
+      k ∙ sym (ap (λ (es : Entries). homes_by w es) (locking_writes w.boosted a (actor_of w a).place ok.0))
+  knows_moved w a s ok k = tt
+
+  -- the room of an actor hangs on no word
+  room_moved : (r : TxActor V) (y : running.Actor) (s : own.Stage V) → HasRoom r s → HasRoom (record r { words = y }) s
+  room_moved r y (stage.Reading l) h = h
+  room_moved r y s h = tt
+
+  pub running_moved : (v : BlocksView) (r : TxActor V) (y : running.Actor) → ((n : ℕ) → Fits n r.words → Fits n y) → IsRunning v r
+      → IsRunning v (record r { words = y })
+  running_moved v r y fits h = record {
+    fits = fits (end_of v.words v.blocks) h.fits;
+    room = room_moved r y r.stage h.room;
+    names = h.names;
+  }
+
+  -- ---- a request, and a want of memory
+  pub ask_turns : (v : BlocksView) (a : ℕ) (q : Request V) (t : Table V) (r s : TxActor V) (n : Told V)
+      → Asks v r s n (λ a w. ask_at w a (seat_of r) (stage_of r.stage) q) → IsTurn v (Ask a q) t r t s n
+  ask_turns v a q t r s n h = record {
+    turns = λ o w reached laid has runs. (
+        let e = asked_as w a q r runs in
+        let told = h a w laid runs in (
+          still_has t a w (happens w (Ask a q)).0 (one_step w (Ask a q)) has,
+          subst (λ (z : After V). Runs a s z.0) (sym e) told.0,
+          told.1 ∙ sym (ap (λ (z : After V). z.1) e),
+        ));
+  }
+
+  pub starve_turns : (v : BlocksView) (a : ℕ) (t : Table V) (r s : TxActor V) (n : Told V) → Starves r s n
+      → IsTurn v (Starve a) t r t s n
+  starve_turns v a t r s n h = record {
+    turns = λ o w reached laid has runs. (
+        let e = starved_as w a r runs in
+        let told = h a w runs in (
+          still_has t a w (happens w (Starve a)).0 (one_step w (Starve a)) has,
+          subst (λ (z : After V). Runs a s z.0) (sym e) told.0,
+          told.1 ∙ sym (ap (λ (z : After V). z.1) e),
+        ));
+  }
+
+  -- ---- the action that is due
+  due_word : (a : ℕ) (o : Option (Action (Asked V))) → IsDue a next.Word o → o ≡ Some (moves a)
+  due_word a None h = absurd h
+  due_word a (Some e) h = ap Some h
+
+  due_try : (a k : ℕ) (o : Option (Action (Asked V))) → IsDue a (next.TryGate k) o → o ≡ Some (TakeGate a k)
+  due_try a k None h = absurd h
+  due_try a k (Some e) h = ap Some h
+
+  due_put : (a k : ℕ) (o : Option (Action (Asked V))) → IsDue a (next.PutGate k) o → o ≡ Some (PutGate a k (λ l. false))
+  due_put a k None h = absurd h
+  due_put a k (Some e) h = ap Some h
+
+  due_as : AreSteps V → (w : World V) (a : ℕ) (s : Stage V) (n : Next) → next_of s ≡ n → IsDue a n (step_action w a s)
+  due_as steps w a s n e = subst (λ (m : Next). IsDue a m (step_action w a s)) e (steps.due w a s)
+
+  -- but for the first value store it is done in the world as it is
+  same_action : (w : World V) (a : ℕ) (s : Stage V) → (next_of s ≡ next.FirstStore → ⊥) → atomic_action a w s ≡ step_action w a s
+  same_action w a (Ready ks) ne = absurd (ne refl)
+  same_action w a s ne = refl
+
+  same_world : (w : World V) (a : ℕ) (s : Stage V) → (next_of s ≡ next.FirstStore → ⊥) → ready_at a w s ≡ w
+  same_world w a (Ready ks) ne = absurd (ne refl)
+  same_world w a s ne = refl
+
+  action_has : (t : Table V) (w u : World V) (a : ℕ) (x : Seat V) (s : Stage V) (e : Action (Asked V))
+      → (next_of s ≡ next.FirstStore → ⊥) → step_action w a s ≡ Some e → Does a (ready_at a w s) x s (atomic_action a w s) u
+      → HasTable t (acted w (e ∷ [])) → HasTable t u
+  action_has t w u a x s e ne is d h =
+      let there : Does a w x s (atomic_action a w s) u =
+      subst (λ (z : World V). Does a z x s (atomic_action a w s) u) (same_world w a s ne) d in
+      let does : Does a w x s (Some e) u =
+      subst (λ (o : Option (Action (Asked V))). Does a w x s o u) (same_action w a s ne ∙ is) there in
+      still_has t a (ended_at a x s (acted w (e ∷ []))) u does.1 (ended_has t a x s (acted w (e ∷ [])) h)
+
+  reached_allows : (o : Contents V) (w : World V) (a : ℕ) → IsReached o w
+      → IsAllowed w (w.seats a).stage (step_action w a (w.seats a).stage)
+  reached_allows o w a h =
+      subst (λ (z : World V). IsAllowed z (z.seats a).stage (step_action z a (z.seats a).stage)) h.world
+      (world_allows h.blocks h.clock o.words o.held h.events a h.stripes)
+
+  -- ---- a step of the words
+  may_move : (w : World V) (a : ℕ) (s : Stage V) → next_of s ≡ next.Word → MayGoOn a (committed_at w a s) s
+      → MayGoOn a (acted w (moves a ∷ [])) s
+  may_move w a (Ready ks) e m = let z : ⊥ = cc in absurd z
+  may_move w a (Homing (k ∷ ks)) e m = let z : ⊥ = cc in absurd z
+  may_move w a s e m = m
+
+  -- the words make this of the table t and of the word actor x: u and y, and tell n
+  abbrev pub StepsWords : Table V → running.Actor → Table V → running.Actor → Result (Option WordAnswer) WordRefusal → Type 0
+  StepsWords t x u y n =
+      (w : World V) (a : ℕ) → HasTable t w → actor_of w a ≡ words.actor_of x
+      → HasTable u (acted w (moves a ∷ [])) × (actor_of (acted w (moves a ∷ [])) a ≡ words.actor_of y) × (n ≡ result_of (word_notice w a))
+
+  pub word_turns : AreSteps V → GoesOn V → (v : BlocksView) (a : ℕ) (t u : Table V) (r s : TxActor V) (y : running.Actor)
+      (told : Result (Option WordAnswer) WordRefusal) (n : Told V)
+      → next_of (stage_of r.stage) ≡ next.Word → is_loading (stage_of r.stage) ≡ false → StepsWords t r.words u y told
+      → IsToldWord (record r { words = y }) s n (notice_told told) → IsTurn v (Step a) t r u s n
+  word_turns steps goes v a t u r s y told n due quiet step heard = record {
+    turns = λ o w reached laid has runs. (
+        let linked = reached_linked o w reached in
+        let z = acted w (moves a ∷ []) in
+        let st : (w.seats a).stage ≡ stage_of r.stage = stage_by (w.seats a) r quiet runs.0 in
+        let took = step w a has runs.1 in
+        let ok = subst (λ (p : Stage V). StageOk w.words w.blocks (w.seats a) (actor_of w a) (w.boosted.shadows a) p (actor_of w a).place)
+        st (linked.seats a).stage in
+        let here : Runs a (record r { words = y }) z = (runs.0, took.1, knows_moved w a r.stage ok runs.2) in
+        let may : MayGoOn a z (stage_of r.stage) =
+        may_move w a (stage_of r.stage) due
+        (subst (λ (p : Stage V). MayGoOn a (committed_at w a p) p) st (reached_goes_on goes o w a reached)) in
+        let after = heard a z may here in
+        let e : step_at w a (w.seats a) (w.seats a).stage
+        ≡ after_word z a (seat_at (w.seats a) r) (stage_of r.stage) (notice_told told) =
+        ap (λ (k : Stage V). step_at w a (w.seats a) k) st
+        ∙ (steps.words w a (w.seats a) (stage_of r.stage) due quiet
+        ∙ (ap (λ (x : Seat V). after_word z a x (stage_of r.stage) (word_notice w a)) runs.0
+        ∙ ap (after_word z a (seat_at (w.seats a) r) (stage_of r.stage))
+        (sym (steps.told (word_notice w a)) ∙ ap notice_told (sym took.2)))) in (
+          action_has u w (happens w (Step a)).0 a (w.seats a) (w.seats a).stage (moves a)
+              (λ q. let e : next.FirstStore ≡ next.Word = sym q ∙ (ap next_of st ∙ due) in let z : ⊥ = cc in z)
+              (due_word a _ (due_as steps w a (w.seats a).stage next.Word (ap next_of st ∙ due))) (one_step w (Step a)) took.0,
+          subst (λ (p : After V). Runs a s p.0) (sym e) after.0,
+          after.1 ∙ sym (ap (λ (p : After V). p.1) e),
+        ));
+  }
+
+  -- ---- an action on a gate leaves the words
+  pub quiet_try : (s : Stage V) (k : ℕ) → next_of s ≡ next.TryGate k → is_loading s ≡ false
+  quiet_try (Loading o []) k e = let z : ⊥ = cc in absurd z
+  quiet_try (Loading o (d ∷ es)) k e = let z : ⊥ = cc in absurd z
+  quiet_try s k e = refl
+
+  pub quiet_put : (s : Stage V) (k : ℕ) → next_of s ≡ next.PutGate k → is_loading s ≡ false
+  quiet_put (Loading o []) k e = let z : ⊥ = cc in absurd z
+  quiet_put (Loading o (d ∷ es)) k e = let z : ⊥ = cc in absurd z
+  quiet_put s k e = refl
+
+  plain_try : (t : own.Stage V) (k : ℕ) → next_of (stage_of t) ≡ next.TryGate k → is_recorded t ≡ false
+  plain_try (stage.Storing homes) k e = let z : ⊥ = cc in absurd z
+  plain_try (stage.Homing homes) k e = absurd (no_try homes.items k e)
+  plain_try stage.Releasing k e = let z : ⊥ = cc in absurd z
+  plain_try t k e = refl
+
+  plain_put : (t : own.Stage V) (k : ℕ) → next_of (stage_of t) ≡ next.PutGate k → is_recorded t ≡ false
+  plain_put (stage.Storing homes) k e = let z : ⊥ = cc in absurd z
+  plain_put (stage.Homing homes) k e = absurd (no_put homes.items k e)
+  plain_put stage.Releasing k e = let z : ⊥ = cc in absurd z
+  plain_put t k e = refl
+
+  runs_moved : (w : World V) (a : ℕ) (r : TxActor V) (e : Action (Asked V)) → (acted w (e ∷ [])).boosted.words ≡ w.boosted.words
+      → Runs a r w → Runs a r (acted w (e ∷ []))
+  runs_moved w a r e same h = (
+    h.0,
+    ap (λ (x : machine_world.World). x.actors a) same ∙ h.1,
+    subst (λ (x : machine_world.World). KnowsHomes r.stage (homes_by w (x.actors a).writes)) (sym same) h.2,
+  )
+
+  try_words : (w : World V) (a k : ℕ) → (acted w (TakeGate a k ∷ [])).boosted.words ≡ w.boosted.words
+  try_words w a k =
+      let b = w.boosted in
+      cond_both {A = Boosted (Shown V) (Answered V)} _ (gated b (put b.gates k (Some a)) b.shadows) b
+      (λ (z : Boosted (Shown V) (Answered V)). z.words ≡ b.words) (λ _. refl) (λ _. refl)
+
+  put_words : (w : World V) (a k : ℕ) (which : ℕ → Bool) → (acted w (PutGate a k which ∷ [])).boosted.words ≡ w.boosted.words
+  put_words w a k which =
+      let b = w.boosted in
+      cond_both {A = Boosted (Shown V) (Answered V)} _
+      (gated b (put b.gates k None) (shadows_copied (content w.words w.blocks) b a k which)) b
+      (λ (z : Boosted (Shown V) (Answered V)). z.words ≡ b.words) (λ _. refl) (λ _. refl)
+
+  pub try_turns : AreSteps V → (v : BlocksView) (a k : ℕ) (t u : Table V) (r s : TxActor V) (free : Bool) (n : Told V)
+      → next_of (stage_of r.stage) ≡ next.TryGate k
+      → ((w : World V) → HasTable t w → is_committing (actor_of w a).place ≡ false
+      → HasTable u (acted w (TakeGate a k ∷ [])) × (free ≡ is_none (w.boosted.gates k)))
+      → ran.Does r s n (λ a w. after_try w a (seat_of r) (stage_of r.stage) free) → IsTurn v (Step a) t r u s n
+  try_turns steps v a k t u r s free n due tries does = record {
+    turns = λ o w reached laid has runs. (
+        let z = acted w (TakeGate a k ∷ []) in
+        let own_seat = seated_by (w.seats a) r (quiet_try (stage_of r.stage) k due) (plain_try r.stage k due) runs.0 in
+        let st : (w.seats a).stage ≡ stage_of r.stage = ap (λ (x : Seat V). x.stage) own_seat in
+        let next_is : next_of (w.seats a).stage ≡ next.TryGate k = ap next_of st ∙ due in
+        let action : step_action w a (w.seats a).stage ≡ Some (TakeGate a k) =
+        due_try a k _ (due_as steps w a (w.seats a).stage (next.TryGate k) next_is) in
+        let calm : is_committing (actor_of w a).place ≡ false =
+        subst (λ (q : Option (Action (Asked V))). IsAllowed w (w.seats a).stage q) action (reached_allows o w a reached) in
+        let took = tries w has calm in
+        let after = does a z (runs_moved w a r (TakeGate a k) (try_words w a k) runs) in
+        let e : step_at w a (w.seats a) (w.seats a).stage ≡ after_try z a (seat_of r) (stage_of r.stage) free =
+        ap (λ (x : Seat V). step_at w a x x.stage) own_seat
+        ∙ (steps.tries w a (seat_of r) (stage_of r.stage) k due
+        ∙ ap (after_try z a (seat_of r) (stage_of r.stage)) (sym took.1)) in (
+          action_has u w (happens w (Step a)).0 a (w.seats a) (w.seats a).stage (TakeGate a k)
+              (λ q. let e : next.FirstStore ≡ next.TryGate k = sym q ∙ next_is in let z : ⊥ = cc in z)
+              action (one_step w (Step a)) took.0,
+          subst (λ (p : After V). Runs a s p.0) (sym e) after.0,
+          after.1 ∙ sym (ap (λ (p : After V). p.1) e),
+        ));
+  }
+
+  pub put_turns : AreSteps V → (v : BlocksView) (a k : ℕ) (t u : Table V) (r s : TxActor V) (n : Told V)
+      → next_of (stage_of r.stage) ≡ next.PutGate k
+      → ((w : World V) (which : ℕ → Bool) → HasTable t w → is_actor a (w.boosted.gates k) ≡ true
+      → is_committing (actor_of w a).place ≡ false → HasTable u (acted w (PutGate a k which ∷ [])))
+      → ran.Does r s n (λ a w. after_put w a (seat_of r) (stage_of r.stage)) → IsTurn v (Step a) t r u s n
+  put_turns steps v a k t u r s n due puts does = record {
+    turns = λ o w reached laid has runs. (
+        let none = λ (l : ℕ). false in
+        let z = acted w (PutGate a k none ∷ []) in
+        let own_seat = seated_by (w.seats a) r (quiet_put (stage_of r.stage) k due) (plain_put r.stage k due) runs.0 in
+        let st : (w.seats a).stage ≡ stage_of r.stage = ap (λ (x : Seat V). x.stage) own_seat in
+        let next_is : next_of (w.seats a).stage ≡ next.PutGate k = ap next_of st ∙ due in
+        let action : step_action w a (w.seats a).stage ≡ Some (PutGate a k none) =
+        due_put a k _ (due_as steps w a (w.seats a).stage (next.PutGate k) next_is) in
+        let calm : (is_actor a (w.boosted.gates k) ≡ true) × (is_committing (actor_of w a).place ≡ false) =
+        subst (λ (q : Option (Action (Asked V))). IsAllowed w (w.seats a).stage q) action (reached_allows o w a reached) in
+        let after = does a z (runs_moved w a r (PutGate a k none) (put_words w a k none) runs) in
+        let e : step_at w a (w.seats a) (w.seats a).stage ≡ after_put z a (seat_of r) (stage_of r.stage) =
+        ap (λ (x : Seat V). step_at w a x x.stage) own_seat ∙ steps.puts w a (seat_of r) (stage_of r.stage) k due in (
+          action_has u w (happens w (Step a)).0 a (w.seats a) (w.seats a).stage (PutGate a k none)
+              (λ q. let e : next.FirstStore ≡ next.PutGate k = sym q ∙ next_is in let z : ⊥ = cc in z)
+              action (one_step w (Step a)) (puts w none has calm.0 calm.1),
+          subst (λ (p : After V). Runs a s p.0) (sym e) after.0,
+          after.1 ∙ sym (ap (λ (p : After V). p.1) e),
+        ));
+  }
+
+  -- ---- the first value store: its request, and then a step of the words
+  first_is : (s : Stage V) → next_of s ≡ next.FirstStore → (ks : List ℕ) × (s ≡ Ready ks)
+  first_is (Ready ks) e = (ks, refl)
+  first_is Idle e = let z : ⊥ = cc in absurd z
+  first_is Open e = let z : ⊥ = cc in absurd z
+  first_is (Trying asked n) e = let z : ⊥ = cc in absurd z
+  first_is (Copying asked) e = let z : ⊥ = cc in absurd z
+  first_is (Loading o []) e = let z : ⊥ = cc in absurd z
+  first_is (Loading o (d ∷ es)) e = let z : ⊥ = cc in absurd z
+  first_is (Gating got [] n) e = let z : ⊥ = cc in absurd z
+  first_is (Gating got (k ∷ ks) n) e = let z : ⊥ = cc in absurd z
+  first_is (Homing []) e = let z : ⊥ = cc in absurd z
+  first_is (Homing (k ∷ ks)) e = let z : ⊥ = cc in absurd z
+  first_is (Returning []) e = let z : ⊥ = cc in absurd z
+  first_is (Returning (k ∷ ks)) e = let z : ⊥ = cc in absurd z
+  first_is Beginning e = let z : ⊥ = cc in absurd z
+  first_is (Reading l) e = let z : ⊥ = cc in absurd z
+  first_is Locking e = let z : ⊥ = cc in absurd z
+  first_is (Storing ks) e = let z : ⊥ = cc in absurd z
+  first_is Releasing e = let z : ⊥ = cc in absurd z
+  first_is Closing e = let z : ⊥ = cc in absurd z
+  first_is Cancelling e = let z : ⊥ = cc in absurd z
+  first_is Leaving e = let z : ⊥ = cc in absurd z
+
+  knows_ready : (t : own.Stage V) (ks js : List ℕ) → stage_of t ≡ Ready ks → KnowsHomes t js
+  knows_ready (stage.Locking homes) ks js e = let z : ⊥ = cc in absurd z
+  knows_ready t ks js e = tt
+
+  pub first_turns : AreSteps V → GoesOn V → (v : BlocksView) (a : ℕ) (t u : Table V) (r p s : TxActor V) (y : running.Actor)
+      (told : Result (Option WordAnswer) WordRefusal) (n : Told V)
+      → next_of (stage_of r.stage) ≡ next.FirstStore → MayStore r p → StepsWords t p.words u y told
+      → IsToldWord (record p { words = y }) s n (notice_told told) → IsTurn v (Step a) t r u s n
+  first_turns steps goes v a t u r p s y told n due stores step heard = record {
+    turns = λ o w reached laid has runs. (
+        let first = first_is (stage_of r.stage) due in
+        let ks = first.0 in
+        let quiet : is_loading (stage_of r.stage) ≡ false = ap is_loading first.1 in
+        let st : (w.seats a).stage ≡ Ready ks = stage_by (w.seats a) r quiet runs.0 ∙ first.1 in
+        let ready = acted w (asks a AskStore ∷ []) in
+        let z = acted ready (moves a ∷ []) in
+        let may = subst (λ (k : Stage V). IsAllowed w k (step_action w a k)) st (reached_allows o w a reached) in
+        let asked = stores a w may.1 runs in
+        let there : HasTable t ready = still_has t a w ready (ask_calm a w AskStore) has in
+        let took = step ready a there asked.1 in
+        let own_stage : stage_of p.stage ≡ Ready ks = ready_as ready a p ks asked st in
+        let here : Runs a (record p { words = y }) z = (asked.0, took.1, knows_ready p.stage ks (written_homes z a) own_stage) in
+        let goes : MayGoOn a z (Ready ks) =
+        subst (λ (k : Stage V). MayGoOn a (committed_at w a k) k) st (reached_goes_on goes o w a reached) in
+        let after = heard a z (subst (λ (k : Stage V). MayGoOn a z k) (sym own_stage) goes) here in
+        let e : step_at w a (w.seats a) (w.seats a).stage
+        ≡ after_word z a (seat_at (w.seats a) p) (stage_of p.stage) (notice_told told) =
+        ap (λ (k : Stage V). step_at w a (w.seats a) k) st
+        ∙ (steps.first w a (w.seats a) ks
+        ∙ (ap (λ (x : Seat V). after_word z a x (Ready ks) (word_notice ready a)) asked.0
+        ∙ (ap (λ (k : Stage V). after_word z a (seat_at (w.seats a) p) k (word_notice ready a)) (sym own_stage)
+        ∙ ap (after_word z a (seat_at (w.seats a) p) (stage_of p.stage))
+        (sym (steps.told (word_notice ready a)) ∙ ap notice_told (sym took.2))))) in
+        let does : Does a ready (w.seats a) (Ready ks) (Some (moves a)) (happens w (Step a)).0 =
+        subst (λ (k : Stage V). Does a (ready_at a w k) (w.seats a) k (atomic_action a w k) (happens w (Step a)).0) st
+        (one_step w (Step a)) in (
+          still_has u a (ended_at a (w.seats a) (Ready ks) z) (happens w (Step a)).0 does.1
+              (ended_has u a (w.seats a) (Ready ks) z took.0),
+          subst (λ (q : After V). Runs a s q.0) (sym e) after.0,
+          after.1 ∙ sym (ap (λ (q : After V). q.1) e),
+        ));
+  }
+
+  -- ---- no step is due
+  nothing_at : (n : ℕ) (bs : List Block) (x : Seat V) (y : Actor) (z : Copy V) (s : Stage V) (p : Place) → next_of s ≡ next.Nothing
+      → StageOk n bs x y z s p → (w : World V) (a : ℕ) → step_at w a x s ≡ (w, Refused a NoTransaction)
+  nothing_at n bs x y z Idle p e ok w a = refl
+  nothing_at n bs x y z Open p e ok w a = refl
+  nothing_at n bs x y z (Loading o []) p e ok w a = absurd ok
+  nothing_at n bs x y z (Gating got [] t) p e ok w a = absurd ok
+  nothing_at n bs x y z (Homing []) p e ok w a = absurd ok
+  nothing_at n bs x y z (Returning []) p e ok w a = absurd ok
+  nothing_at n bs x y z (Trying asked t) p e ok w a = let q : ⊥ = cc in absurd q
+  nothing_at n bs x y z (Copying asked) p e ok w a = let q : ⊥ = cc in absurd q
+  nothing_at n bs x y z (Loading o (d ∷ es)) p e ok w a = let q : ⊥ = cc in absurd q
+  nothing_at n bs x y z (Gating got (k ∷ ks) t) p e ok w a = let q : ⊥ = cc in absurd q
+  nothing_at n bs x y z (Ready ks) p e ok w a = let q : ⊥ = cc in absurd q
+  nothing_at n bs x y z (Homing (k ∷ ks)) p e ok w a = let q : ⊥ = cc in absurd q
+  nothing_at n bs x y z (Returning (k ∷ ks)) p e ok w a = let q : ⊥ = cc in absurd q
+  nothing_at n bs x y z Beginning p e ok w a = let q : ⊥ = cc in absurd q
+  nothing_at n bs x y z (Reading l) p e ok w a = let q : ⊥ = cc in absurd q
+  nothing_at n bs x y z Locking p e ok w a = let q : ⊥ = cc in absurd q
+  nothing_at n bs x y z (Storing ks) p e ok w a = let q : ⊥ = cc in absurd q
+  nothing_at n bs x y z Releasing p e ok w a = let q : ⊥ = cc in absurd q
+  nothing_at n bs x y z Closing p e ok w a = let q : ⊥ = cc in absurd q
+  nothing_at n bs x y z Cancelling p e ok w a = let q : ⊥ = cc in absurd q
+  nothing_at n bs x y z Leaving p e ok w a = let q : ⊥ = cc in absurd q
+
+  pub nothing_turns : (v : BlocksView) (a : ℕ) (t : Table V) (r : TxActor V) → next_of (stage_of r.stage) ≡ next.Nothing
+      → IsTurn v (Step a) t r t r (told.Refused NoTransaction)
+  nothing_turns v a t r due = record {
+    turns = λ o w reached laid has runs. (
+        let st : next_of (w.seats a).stage ≡ next.Nothing =
+        next_as w a r runs ∙ due in
+        let ok = ((reached_linked o w reached).seats a).stage in
+        let e = nothing_at w.words w.blocks (w.seats a) (actor_of w a) (w.boosted.shadows a) (w.seats a).stage (actor_of w a).place
+        st ok w a in (
+          subst (λ (p : After V). HasTable t p.0) (sym e) has,
+          subst (λ (p : After V). Runs a r p.0) (sym e) runs,
+          sym (ap (λ (p : After V). p.1) e),
+        ));
+  }

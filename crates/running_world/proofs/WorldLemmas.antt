@@ -1,0 +1,266 @@
+-- The parts of a world stay its parts through an event: the event's actor and the table are what it makes of them, and the other actors
+-- stand, since what an event leaves of another actor's own is as it was. The numbers that are still to be taken change by what the
+-- event's actor still may take, or the clock stands below its limit and each actor may take one at most.
+use Rattle.std.proofs.Common.{◌≡◌, ◌≢◌, ◌⊎◌, ℕ, zero, suc, ◌+◌, ◌<◌, ◌≤◌, ◌^◌, Bool, true, false, not, ◌&&◌, List, [], ◌∷◌, map, Some, None, length}
+use Rattle.std.proofs.Common.{◌-◌, drop, drop-cons, get_or, length-drop, refl, sym, ap, ◌∙◌, subst, inl, inr, arith}
+use Rattle.std.specs.Prelude.{slice_get, slice_set, filter}
+use Rattle.std.specs.List.{All}
+use Rattle.std.proofs.lemmas.Bool.{cases_eq}
+use Rattle.std.proofs.lemmas.Bool.Decides.{nat_tests}
+use Rattle.tx_sets.specs.Entries.{Entries}
+use Rattle.seq_model.specs.declared.event.Event.{Event}
+use Rattle.seq_model.specs.Contents.{Contents}
+use Rattle.replay_log.specs.Contents.{Block}
+use Rattle.replay_log.specs.WorldProgress.{whose}
+use Rattle.replay_log.specs.Worlds.{World, happens, no_one}
+use Rattle.atomic_steps.specs.Own.{Alike}
+use Rattle.atomic_steps.proofs.Others.{others}
+use Rattle.step_core.specs.CellSteps.{Grows}
+use Rattle.step_core.specs.Shown.{is_actor}
+use Rattle.step_core.specs.Sound.{owed}
+use Rattle.step_core.specs.declared.actor.Place.{Place}
+use Rattle.step_core.specs.declared.actor.Place.TheVariants as place
+use Rattle.step_core.proofs.Lists.{same_at}
+use Rattle.tx_actor.specs.Blocks.{BlocksView}
+use Rattle.tx_actor.specs.Dispatch.{first, next_home, next_load, next_of, next_put, next_try}
+use Rattle.tx_actor.specs.Keeping.{IsRunning, NamesAmong}
+use Rattle.tx_actor.specs.Running.{Runs, stage_of}
+use Rattle.tx_actor.specs.declared.actor.Stage as own
+use Rattle.tx_actor.specs.declared.actor.Stage.TheVariants as stage
+use Rattle.tx_actor.specs.declared.next.Next.TheVariants as next
+use Rattle.tx_actor.specs.declared.actor.Told.{Told}
+use Rattle.tx_actor.specs.declared.actor.TxActor.{TxActor}
+use Rattle.world_table.specs.Openings.{HasShape}
+use Rattle.running_world.specs.declared.parts.Parts.{Parts}
+use Rattle.running_world.specs.Parts.{IsSeat, IsWorld, ended_of, total_owed}
+use Rattle.running_world.specs.Reached.{IsReached}
+use Rattle.running_world.specs.Turns.{IsTurn}
+use Rattle.running_world.proofs.SeatLemmas.{runs_stand}
+
+owed_one : (p : Place) → owed p ≤ 1
+owed_one place.Open = omega arith
+owed_one (place.Look l) = omega arith
+owed_one (place.Fetch l k) = omega arith
+owed_one (place.Again l k v) = omega arith
+owed_one (place.Lock i) = omega arith
+owed_one (place.Take l k i) = omega arith
+owed_one place.Idle = omega arith
+owed_one place.Begin = omega arith
+owed_one (place.Check i) = omega arith
+owed_one place.Broken = omega arith
+owed_one place.First = omega arith
+owed_one (place.Store i) = omega arith
+owed_one place.Release = omega arith
+owed_one place.Undo = omega arith
+owed_one place.Leave = omega arith
+owed_one place.Close = omega arith
+
+-- a list with one entry changed
+set_length : {X : Type 0} → (xs : List X) (i : ℕ) (v : X) → length (slice_set xs i v) ≡ length xs
+set_length [] i v = refl
+set_length (z ∷ zs) zero v = refl
+set_length (z ∷ zs) (suc i) v = ap suc (set_length zs i v)
+
+set_here : {X : Type 0} → (xs : List X) (i : ℕ) (x y : X) → slice_get xs i ≡ Some x → slice_get (slice_set xs i y) i ≡ Some y
+set_here [] i x y h = absurd (let z : None ≡ Some x = h in cc)
+set_here (z ∷ zs) zero x y h = refl
+set_here (z ∷ zs) (suc i) x y h = set_here zs i x y h
+
+set_there : {X : Type 0} → (xs : List X) (i j : ℕ) (y : X) → (j ≡ i → ⊥) → slice_get (slice_set xs i y) j ≡ slice_get xs j
+set_there [] i j y ne = refl
+set_there (z ∷ zs) zero zero y ne = absurd (ne refl)
+set_there (z ∷ zs) zero (suc j) y ne = refl
+set_there (z ∷ zs) (suc i) zero y ne = refl
+set_there (z ∷ zs) (suc i) (suc j) y ne = set_there zs i j y (λ e. ne (ap suc e))
+
+inside : {X : Type 0} → (xs : List X) (i : ℕ) (x : X) → slice_get xs i ≡ Some x → i < length xs
+inside [] i x h = absurd (let z : None ≡ Some x = h in cc)
+inside (y ∷ ys) zero x h = omega arith
+inside (y ∷ ys) (suc i) x h = omega (arith, inside ys i x h)
+
+-- one of the actors 1 to 64
+is_one : (a : ℕ) → is_actor a ≡ false → (i : ℕ) → i < 64 → a ≢ i + 1
+is_one a none i lt e = grind (arith, nat_tests)
+
+-- the collection whose gate is tried, or put back, next
+first_named : (xs ys : List ℕ) (i j n : ℕ) (js : List ℕ) → drop i xs ≡ ys → ys ≡ j ∷ js → All (λ k. k < n) xs → j < n
+first_named xs ys i j n js e f all =
+    let len : length xs - i ≡ suc (length js) = sym (length-drop i xs) ∙ ap length (e ∙ f) in
+    let inn : i < length xs = omega (arith, len) in
+    let is : get_or xs i 0 ∷ drop (suc i) xs ≡ j ∷ js = sym (drop-cons xs i 0 inn) ∙ (e ∙ f) in
+    let at : get_or xs i 0 ≡ j = cc in
+    subst (λ (k : ℕ). k < n) at (all i 0 inn)
+
+tried_next : (xs ys : List ℕ) (i k n : ℕ) → drop i xs ≡ ys → next_try (first ys) ≡ next.TryGate k → All (λ j. j < n) xs → k < n
+tried_next xs [] i k n e t all = let z : ⊥ = cc in absurd z
+tried_next xs (j ∷ js) i k n e t all = (let q : j ≡ k = cc in subst (λ (m : ℕ). m < n) q (first_named xs (j ∷ js) i j n js e refl all))
+
+put_next : (xs : List ℕ) (k n : ℕ) → next_put (first xs) ≡ next.PutGate k → All (λ j. j < n) xs → k < n
+put_next [] k n t all = let z : ⊥ = cc in absurd z
+put_next (j ∷ js) k n t all = (let q : j ≡ k = cc in subst (λ (m : ℕ). m < n) q (all 0 0 (omega arith)))
+
+module _ {V : Type 0} where
+  -- ---- the numbers that are owed
+  owed_set : (rs : List (TxActor V)) (i : ℕ) (r s : TxActor V) → slice_get rs i ≡ Some r
+      → total_owed (slice_set rs i s) + owed r.words.place ≡ total_owed rs + owed s.words.place
+  owed_set [] i r s h = absurd (let z : None ≡ Some r = h in cc)
+  owed_set (z ∷ zs) zero r s h = (
+      let q : Some z ≡ Some r = h in
+      let e : z ≡ r = cc in
+      let g : owed z.words.place ≡ owed r.words.place = ap (λ (u : TxActor V). owed u.words.place) e in
+      omega (arith, g))
+  owed_set (z ∷ zs) (suc i) r s h = omega (arith, owed_set zs i r s h)
+
+  owed_few : (rs : List (TxActor V)) → total_owed rs ≤ length rs
+  owed_few [] = omega arith
+  owed_few (r ∷ rs) = omega (arith, owed_one r.words.place, owed_few rs)
+
+  owed_among : (rs : List (TxActor V)) (i : ℕ) (r : TxActor V) → slice_get rs i ≡ Some r → owed r.words.place ≤ total_owed rs
+  owed_among [] i r h = absurd (let z : None ≡ Some r = h in cc)
+  owed_among (z ∷ zs) zero r h = (
+      let q : Some z ≡ Some r = h in
+      let e : z ≡ r = cc in
+      let g : owed z.words.place ≡ owed r.words.place = ap (λ (u : TxActor V). owed u.words.place) e in
+      omega (arith, g))
+  owed_among (z ∷ zs) (suc i) r h = omega (arith, owed_among zs i r h)
+
+  -- an actor may still take its numbers
+  pub may_take : (c : Parts V) (w : World V) (i : ℕ) (r : TxActor V) → IsWorld c w → slice_get c.actors.items i ≡ Some r
+      → c.table.cells.clock + owed r.words.place < 2 ^ 63
+  may_take c w i r h got = omega (arith, h.clock, owed_among c.actors.items i r got)
+
+  -- ---- the other actors
+  pub seat_stands : (v : BlocksView) (w u : World V) (b : ℕ) (r : TxActor V) → Alike b w u → IsSeat v w b r → IsSeat v u b r
+  seat_stands v w u b r h s = record { runs = runs_stand w u b r h s.runs; running = s.running }
+
+  clock_after : (c d : Parts V) (i : ℕ) (r s : TxActor V) → slice_get c.actors.items i ≡ Some r
+      → d.actors.items ≡ slice_set c.actors.items i s → length c.actors.items ≡ 64
+      → Grows c.table.cells r.words d.table.cells s.words → c.table.cells.clock + total_owed c.actors.items ≤ 2 ^ 62 + 65
+      → d.table.cells.clock + total_owed d.actors.items ≤ 2 ^ 62 + 65
+  clock_after c d i r s got es many (inl fewer) h =
+      omega (arith, owed_set c.actors.items i r s got, ap total_owed es, fewer, h)
+  clock_after c d i r s got es many (inr below) h =
+      omega (arith, owed_few (slice_set c.actors.items i s), set_length c.actors.items i s, many, ap total_owed es, below.0, below.1)
+
+  -- an event of the actor at place i leaves a world with these parts
+  pub turned : (opening : Contents V) (c d : Parts V) (w : World V) (e : Event V) (i : ℕ) (r s : TxActor V) (n : Told V)
+      → IsReached opening w → IsWorld c w → whose e ≡ i + 1 → slice_get c.actors.items i ≡ Some r
+      → d.blocks ≡ c.blocks → d.actors.items ≡ slice_set c.actors.items i s
+      → IsTurn c.blocks e c.table r d.table s n
+      → ((m : ℕ) (bs : List Block) → HasShape c.table m bs → HasShape d.table m bs)
+      → (IsRunning c.blocks r → IsRunning c.blocks s)
+      → Grows c.table.cells r.words d.table.cells s.words
+      → d.records.items ≡ (happens w e).0.records → map ended_of d.aborted.items ≡ (happens w e).0.aborted
+      → IsWorld d (happens w e).0
+  turned opening c d w e i r s n reached h is got laid es turn shape keeps grows rs ends =
+      let u = (happens w e).0 in
+      let next : suc (whose e) ≢ whose e = λ q. omega (arith, q) in
+      let alike : (b : ℕ) → b ≢ whose e → Alike b w u = λ b ne. others w e b ne in
+      let same = alike (suc (whose e)) next in
+      let own = h.seats i r got in
+      let here : Runs (whose e) r w = subst (λ (a : ℕ). Runs a r w) (sym is) own.runs in
+      let after = turn.turns opening w reached h.laid h.table here in
+      let moved : IsSeat d.blocks u (i + 1) s = record {
+        runs = subst (λ (a : ℕ). Runs a s u) is after.1;
+        running = subst (λ (v : BlocksView). IsRunning v s) (sym laid) (keeps own.running);
+      } in
+      let low = inside c.actors.items i r got in
+      record {
+        laid = (sym same.words ∙ (h.laid.0 ∙ ap (λ v. v.words) (sym laid)), sym same.blocks ∙ (h.laid.1 ∙ ap (λ v. v.blocks) (sym laid)));
+        table = after.0;
+        shape = subst (λ (m : ℕ). HasShape d.table m u.blocks) same.words
+            (subst (λ (bs : List Block). HasShape d.table w.words bs) same.blocks (shape w.words w.blocks h.shape));
+        count = ap length es ∙ (set_length c.actors.items i s ∙ h.count);
+        seats = λ j q at. elim (cases_eq j i) [
+          | inl at_i ↦ (
+              let there : slice_get (slice_set c.actors.items i s) i ≡ Some q =
+              subst (λ (k : ℕ). slice_get (slice_set c.actors.items i s) k ≡ Some q) at_i
+              (subst (λ (xs : List (TxActor V)). slice_get xs j ≡ Some q) es at) in
+              let is_s : s ≡ q = same_at (slice_set c.actors.items i s) i s q (set_here c.actors.items i r s got) there in
+              subst (λ (k : ℕ). IsSeat d.blocks u (k + 1) q) (sym at_i)
+              (subst (λ (x : TxActor V). IsSeat d.blocks u (i + 1) x) is_s moved))
+          | inr ne ↦ (
+              let there : slice_get c.actors.items j ≡ Some q =
+              sym (set_there c.actors.items i j s ne) ∙ subst (λ (xs : List (TxActor V)). slice_get xs j ≡ Some q) es at in
+              let apart : j + 1 ≢ whose e = λ z. ne (omega (arith, z, is)) in
+              subst (λ (v : BlocksView). IsSeat v u (j + 1) q) (sym laid)
+              (seat_stands c.blocks w u (j + 1) q (alike (j + 1) apart) (h.seats j q there)))
+        ];
+        others = λ a none. (
+            let low64 : i < 64 = omega (arith, low, h.count) in
+            let apart : a ≢ whose e = λ z. is_one a none i low64 (z ∙ is) in
+            sym (alike a apart).seat ∙ h.others a none);
+        records = rs;
+        aborted = ends;
+        clock = clock_after c d i r s got es h.count grows h.clock;
+      }
+
+  -- ---- what the parts of a world have
+  pub shape_laid : (c : Parts V) (w : World V) → IsWorld c w → HasShape c.table c.blocks.words c.blocks.blocks
+  shape_laid c w h =
+      subst (λ (m : ℕ). HasShape c.table m c.blocks.blocks) h.laid.0
+      (subst (λ (bs : List Block). HasShape c.table w.words bs) h.laid.1 h.shape)
+
+  pub named_try : (t : own.Stage V) (k n : ℕ) → next_of (stage_of t) ≡ next.TryGate k → NamesAmong n t → k < n
+  named_try (stage.Trying asked tries) k n e h = (let q : asked.collection ≡ k = cc in subst (λ (m : ℕ). m < n) q h)
+  named_try (stage.Gating homes got tries) k n e h = tried_next homes.items (drop got homes.items) got k n refl e h
+  named_try stage.Idle k n e h = let z : ⊥ = cc in absurd z
+  named_try stage.Beginning k n e h = let z : ⊥ = cc in absurd z
+  named_try stage.Open k n e h = let z : ⊥ = cc in absurd z
+  named_try stage.Releasing k n e h = let z : ⊥ = cc in absurd z
+  named_try stage.Closing k n e h = let z : ⊥ = cc in absurd z
+  named_try stage.Cancelling k n e h = let z : ⊥ = cc in absurd z
+  named_try stage.Leaving k n e h = let z : ⊥ = cc in absurd z
+  named_try (stage.Reading l) k n e h = let z : ⊥ = cc in absurd z
+  named_try (stage.Copying asked) k n e h = let z : ⊥ = cc in absurd z
+  named_try (stage.Loading o left) k n e h = absurd (load_tries left.items k e)
+    where
+      load_tries : (es : Entries) (k : ℕ) → next_load es ≡ next.TryGate k → ⊥
+      load_tries [] k e = cc
+      load_tries (d ∷ es) k e = cc
+  named_try (stage.Locking homes) k n e h = let z : ⊥ = cc in absurd z
+  named_try (stage.Ready homes) k n e h = let z : ⊥ = cc in absurd z
+  named_try (stage.Storing homes) k n e h = let z : ⊥ = cc in absurd z
+  named_try (stage.Homing homes) k n e h = absurd (home_tries homes.items k e)
+    where
+      home_tries : (xs : List ℕ) (k : ℕ) → next_home (first xs) ≡ next.TryGate k → ⊥
+      home_tries [] k e = cc
+      home_tries (j ∷ js) k e = cc
+  named_try (stage.Returning homes) k n e h = absurd (put_tries homes.items k e)
+    where
+      put_tries : (xs : List ℕ) (k : ℕ) → next_put (first xs) ≡ next.TryGate k → ⊥
+      put_tries [] k e = cc
+      put_tries (j ∷ js) k e = cc
+  named_try (stage.ReturningOne j) k n e h = let z : ⊥ = cc in absurd z
+
+  pub named_put : (t : own.Stage V) (k n : ℕ) → next_of (stage_of t) ≡ next.PutGate k → NamesAmong n t → k < n
+  named_put (stage.Returning homes) k n e h = put_next homes.items k n e h
+  named_put (stage.ReturningOne j) k n e h = (let q : j ≡ k = cc in subst (λ (m : ℕ). m < n) q h)
+  named_put (stage.Trying asked tries) k n e h = let z : ⊥ = cc in absurd z
+  named_put (stage.Gating homes got tries) k n e h = absurd (try_puts (drop got homes.items) k e)
+    where
+      try_puts : (xs : List ℕ) (k : ℕ) → next_try (first xs) ≡ next.PutGate k → ⊥
+      try_puts [] k e = cc
+      try_puts (j ∷ js) k e = cc
+  named_put stage.Idle k n e h = let z : ⊥ = cc in absurd z
+  named_put stage.Beginning k n e h = let z : ⊥ = cc in absurd z
+  named_put stage.Open k n e h = let z : ⊥ = cc in absurd z
+  named_put stage.Releasing k n e h = let z : ⊥ = cc in absurd z
+  named_put stage.Closing k n e h = let z : ⊥ = cc in absurd z
+  named_put stage.Cancelling k n e h = let z : ⊥ = cc in absurd z
+  named_put stage.Leaving k n e h = let z : ⊥ = cc in absurd z
+  named_put (stage.Reading l) k n e h = let z : ⊥ = cc in absurd z
+  named_put (stage.Copying asked) k n e h = let z : ⊥ = cc in absurd z
+  named_put (stage.Loading o left) k n e h = absurd (load_puts left.items k e)
+    where
+      load_puts : (es : Entries) (k : ℕ) → next_load es ≡ next.PutGate k → ⊥
+      load_puts [] k e = cc
+      load_puts (d ∷ es) k e = cc
+  named_put (stage.Locking homes) k n e h = let z : ⊥ = cc in absurd z
+  named_put (stage.Ready homes) k n e h = let z : ⊥ = cc in absurd z
+  named_put (stage.Storing homes) k n e h = let z : ⊥ = cc in absurd z
+  named_put (stage.Homing homes) k n e h = absurd (home_puts homes.items k e)
+    where
+      home_puts : (xs : List ℕ) (k : ℕ) → next_home (first xs) ≡ next.PutGate k → ⊥
+      home_puts [] k e = cc
+      home_puts (j ∷ js) k e = cc

@@ -1,0 +1,10 @@
+use Rattle.std.proofs.Common.{refl}
+use Rattle.std.proofs.lemmas.Option.{slice_get_read}
+use Rattle.running_world.proofs.PartsLemmas.{starve_happens}
+use Rattle.running_world.proofs.parts.Parts.starve.Goals as goal
+
+pub returns : goal.returns
+returns g c =
+    let got = slice_get_read c.args.self.now.actors.items _ c.args.i c.index_mut.result.now refl c.requires c.index_mut.ensures.value in
+    starve_happens c.args.self.now c.args.i c.index_mut.result.now c.starves.new.self c.starves.result got c.starves.ensures.does
+    c.starves.ensures.keeps

@@ -1,0 +1,5 @@
+pub mod Openings
+pub mod Parts
+pub mod Reached
+pub mod Traces
+pub mod Turns

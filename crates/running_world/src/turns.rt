@@ -1,0 +1,94 @@
+//! What an event makes of the table and of its actor.
+ghost use Rattle.std.specs.Prelude.{◌≡◌, ◌+◌, ◌<◌, ◌^◌, ℕ, List, false, length, IfOk, OnErr};
+ghost use Rattle.seq_model.specs.declared.event.Event.TheVariants.{Step};
+ghost use Rattle.step_core.specs.CellSteps.{Grows};
+ghost use Rattle.step_core.specs.Sound.{Fits, owed};
+ghost use Rattle.replay_log.specs.Contents.{Block, end_of};
+ghost use Rattle.tx_actor.specs.Asks.{Stands};
+ghost use Rattle.tx_actor.specs.Blocks.{BlocksView};
+ghost use Rattle.tx_actor.specs.Dispatch.{is_loading, next_of};
+ghost use Rattle.tx_actor.specs.Keeping.{IsRunning, KeepsIn};
+ghost use Rattle.tx_actor.specs.Running.{stage_of};
+ghost use Rattle.world_table.specs.Openings.{HasShape};
+ghost use Rattle.running_world.specs.Turns.{IsTurn};
+
+use seq_model::{Memory, Value};
+use tx_actor::laws::{goes_on_as_worlds, steps_as_worlds};
+use tx_actor::{Blocks, Next, Told, TxActor};
+use world_table::Table;
+
+/// The next step of an actor's words.
+pub fn step_word<V: Value>(table: &mut Table<V>, actor: &mut TxActor<V>, blocks: &Blocks) -> Told<V>
+    requires running { IsRunning blocks.now actor.old }
+    requires shape { HasShape table.old blocks.now.words blocks.now.blocks }
+    requires clock { table.old.cells.clock + owed actor.old.words.place < 2 ^ 63 }
+    requires due { next_of (stage_of actor.old.stage) ≡ Next.Word }
+    requires word { is_loading (stage_of actor.old.stage) ≡ false }
+    ensures turns { (v : BlocksView) (a : ℕ) → IsTurn v (Step a) table.old actor.old table.new actor.new result }
+    ensures shape { (n : ℕ) (bs : List Block) → HasShape table.old n bs → HasShape table.new n bs }
+    ensures running { IsRunning blocks.now actor.new }
+    ensures grows { Grows table.old.cells actor.old.words table.new.cells actor.new.words }
+{
+    steps_as_worlds::<V>();
+    goes_on_as_worlds::<V>();
+    let told = table.step(&mut actor.words);
+    actor.stepped(told)
+}
+
+/// The first value store of a commit: its request, and then the step of the words. Where memory is refused the actor shows what it did.
+pub fn first_store<V: Value>(
+    table: &mut Table<V>,
+    actor: &mut TxActor<V>,
+    blocks: &Blocks,
+) -> Result<Told<V>, Memory>
+    requires running { IsRunning blocks.now actor.old }
+    requires shape { HasShape table.old blocks.now.words blocks.now.blocks }
+    requires clock { table.old.cells.clock + owed actor.old.words.place < 2 ^ 63 }
+    requires due { next_of (stage_of actor.old.stage) ≡ Next.FirstStore }
+    ensures turns { IfOk result (λ told. (v : BlocksView) (a : ℕ) → IsTurn v (Step a) table.old actor.old table.new actor.new told) }
+    ensures stands { OnErr result (Stands actor.old actor.new) }
+    ensures table { OnErr result (table.new ≡ table.old) }
+    ensures shape { (n : ℕ) (bs : List Block) → HasShape table.old n bs → HasShape table.new n bs }
+    ensures running { IsRunning blocks.now actor.new }
+    ensures grows { Grows table.old.cells actor.old.words table.new.cells actor.new.words }
+{
+    steps_as_worlds::<V>();
+    goes_on_as_worlds::<V>();
+    actor.asks_to_store(blocks)?;
+    let told = table.step(&mut actor.words);
+    Ok(actor.stepped(told))
+}
+
+/// A try on the gate of a collection, by the actor of this number.
+pub fn try_gate<V: Value>(
+    table: &mut Table<V>,
+    actor: &mut TxActor<V>,
+    number: u32,
+    k: u32,
+) -> Told<V>
+    requires number { 0 < number }
+    requires inside { k < length table.old.gates.items }
+    requires due { next_of (stage_of actor.old.stage) ≡ Next.TryGate k }
+    ensures turns { (v : BlocksView) → IsTurn v (Step number) table.old actor.old table.new actor.new result }
+    ensures shape { (n : ℕ) (bs : List Block) → HasShape table.old n bs → HasShape table.new n bs }
+    ensures keeps { (v : BlocksView) → KeepsIn v actor.old actor.new }
+    ensures cells { table.new.cells ≡ table.old.cells }
+{
+    steps_as_worlds::<V>();
+    let free = table.take_gate(k as usize, number);
+    actor.tried_gate(free)
+}
+
+/// The store that puts a gate back which the actor holds, its base as it was.
+pub fn put_gate<V: Value>(table: &mut Table<V>, actor: &mut TxActor<V>, k: u32) -> Told<V>
+    requires inside { k < length table.old.gates.items }
+    requires due { next_of (stage_of actor.old.stage) ≡ Next.PutGate k }
+    ensures turns { (v : BlocksView) (a : ℕ) → IsTurn v (Step a) table.old actor.old table.new actor.new result }
+    ensures shape { (n : ℕ) (bs : List Block) → HasShape table.old n bs → HasShape table.new n bs }
+    ensures keeps { (v : BlocksView) → KeepsIn v actor.old actor.new }
+    ensures cells { table.new.cells ≡ table.old.cells }
+{
+    steps_as_worlds::<V>();
+    table.put_gate(k as usize);
+    actor.put_gate()
+}

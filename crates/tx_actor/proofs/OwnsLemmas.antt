@@ -1,0 +1,270 @@
+-- What an actor has of all collections, and of which worlds that is its own: it depends on how the locations lie and on the actor's own
+-- shadow (`owns_by`). An acceptance puts one outcome behind those of the shadow, and into the copy of its collection, which stands once
+-- among the copies: that copy follows by the law on copies, and the others leave out an outcome on another collection.
+use Rattle.std.proofs.Common.{◌≡◌, ◌≢◌, ℕ, zero, suc, ◌++◌, ◌==◌, Bool, true, false, cond, true≢false, eqb-true, eq-eqb, List, [], ◌∷◌, Option, Some, None, append-nil, refl, sym, ap, subst, ◌∙◌}
+use Rattle.std.specs.Prelude.{slice_get}
+use Rattle.std.proofs.lemmas.Bool.{cond-true, cond-false}
+use Rattle.std.proofs.Math.ListN.{set}
+use Rattle.seq_model.specs.declared.call.Op.{Op}
+use Rattle.conflict.specs.declared.outcome.Outcome.{Outcome}
+use Rattle.collection_machine.specs.Boosted.{Shadow as Part, longer}
+use Rattle.replay_log.specs.Base.{Shown, changes_of, reads_of, shown_of, stripes_of}
+use Rattle.replay_log.specs.Parts.{kind_of}
+use Rattle.replay_log.specs.Contents.{Answered, Block, HaveStripes, block_of, first_of}
+use Rattle.replay_log.specs.Pieces.{piece_of}
+use Rattle.replay_log.specs.Worlds.{World}
+use Rattle.replay_log.proofs.ContentLemmas.{positive_at}
+use Rattle.atomic_steps.specs.Bases.{changes_on, log_changes, log_locations, writes_on}
+use Rattle.atomic_steps.proofs.Bases.{kind_stays, more_changes, more_locations}
+use Rattle.shadow.specs.Memo.{holds_with}
+use Rattle.shadow.proofs.CopyLemmas.{copy_holds}
+use Rattle.tx_actor.specs.declared.copies.Copied.{Copied}
+use Rattle.tx_actor.specs.declared.copies.Copied.TheVariants.{Keys, Whole}
+use Rattle.tx_actor.specs.declared.actor.CopyOf.{CopyOf}
+use Rattle.tx_actor.specs.declared.actor.TxActor.{TxActor}
+use Rattle.tx_actor.specs.Answers.{IsAcceptedAt}
+use Rattle.tx_actor.specs.Blocks.{BlocksView, IsLaid}
+use Rattle.tx_actor.specs.Copies.{IsAccepted, IsCopied, IsOf, ShowParts, answer_of, answered_on, holds_call}
+use Rattle.tx_actor.specs.Footprints.{base_in, reads_in}
+use Rattle.tx_actor.specs.Keeps.{IsOwnCopy, Knows}
+use Rattle.tx_actor.specs.Owns.{AreOfBlocks, AreOnce, IsOfBlock, IsOwn, IsUncalled, OwnsCopies}
+use Rattle.tx_actor.specs.Running.{copy_of}
+use Rattle.tx_actor.proofs.CopiesLemmas.{editions_stay, follows_accepted, follows_others}
+use Rattle.tx_actor.proofs.FootprintLemmas.{reads_by}
+use Rattle.tx_actor.proofs.KeptLemmas.{accepted_pieces}
+
+apart : (j k : ℕ) → j ≢ k → (b : Bool) → (j == k) ≡ b → (j == k) ≡ false
+apart j k other true is = absurd (other (eqb-true j k is))
+apart j k other false is = is
+
+differ : (j k : ℕ) → (j == k) ≡ false → j ≢ k
+differ j k e same = true≢false (sym (eq-eqb j k same) ∙ e)
+
+module _ {V : Type 0} where
+  -- ---- each collection stands once
+  none_some : (c : Copied V) → None ≡ Some c → ⊥
+  none_some c e = cc
+
+  pub copy_at : (cs : List (CopyOf V)) (i : ℕ) (c : CopyOf V) → AreOnce cs → slice_get cs i ≡ Some c → copy_of cs c.collection ≡ Some c.copied
+  copy_at [] i c once at = let h : ⊥ = cc in absurd h
+  copy_at (d ∷ cs) zero c once at =
+      let e : d ≡ c = cc in
+      cond-true (c.collection == d.collection) (Some d.copied) (copy_of cs c.collection)
+      (eq-eqb c.collection d.collection (ap (λ (z : CopyOf V). z.collection) (sym e)))
+      ∙ ap (λ (z : CopyOf V). Some z.copied) e
+  copy_at (d ∷ cs) (suc i) c once at =
+      let rest = copy_at cs i c once.1 at in
+      let other : c.collection ≢ d.collection =
+      λ e. none_some c.copied (sym once.0 ∙ (ap (copy_of cs) (sym e) ∙ rest)) in
+      cond-false (c.collection == d.collection) (Some d.copied) (copy_of cs c.collection)
+      (apart c.collection d.collection other (c.collection == d.collection) refl) ∙ rest
+
+  set_other : (cs : List (CopyOf V)) (i k : ℕ) (c d : CopyOf V) → slice_get cs i ≡ Some c → d.collection ≡ c.collection → k ≢ c.collection
+      → copy_of (set cs i d) k ≡ copy_of cs k
+  set_other [] i k c d at same other = let h : ⊥ = cc in absurd h
+  set_other (x ∷ cs) zero k c d at same other =
+      let e : x ≡ c = cc in
+      let not_d : k ≢ d.collection = λ h. other (h ∙ same) in
+      let not_x : k ≢ x.collection = λ h. other (h ∙ ap (λ (z : CopyOf V). z.collection) e) in
+      cond-false (k == d.collection) (Some d.copied) (copy_of cs k) (apart k d.collection not_d (k == d.collection) refl)
+      ∙ sym (cond-false (k == x.collection) (Some x.copied) (copy_of cs k) (apart k x.collection not_x (k == x.collection) refl))
+  set_other (x ∷ cs) (suc i) k c d at same other =
+      ap (λ (o : Option (Copied V)). cond (k == x.collection) (Some x.copied) o) (set_other cs i k c d at same other)
+
+  pub once_set : (cs : List (CopyOf V)) (i : ℕ) (c d : CopyOf V) → AreOnce cs → slice_get cs i ≡ Some c → d.collection ≡ c.collection
+      → AreOnce (set cs i d)
+  once_set [] i c d once at same = let h : ⊥ = cc in absurd h
+  once_set (x ∷ cs) zero c d once at same =
+      let e : x ≡ c = cc in
+      (ap (copy_of cs) (same ∙ ap (λ (z : CopyOf V). z.collection) (sym e)) ∙ once.0, once.1)
+  once_set (x ∷ cs) (suc i) c d once at same =
+      let there = copy_at cs i c once.1 at in
+      let other : x.collection ≢ c.collection = λ e. none_some c.copied (sym once.0 ∙ (ap (copy_of cs) e ∙ there)) in
+      (set_other cs i x.collection c d at same other ∙ once.0, once_set cs i c d once.1 at same)
+
+  set_there : (cs : List (CopyOf V)) (i : ℕ) (c d : CopyOf V) → slice_get cs i ≡ Some c → slice_get (set cs i d) i ≡ Some d
+  set_there [] i c d at = let h : ⊥ = cc in absurd h
+  set_there (x ∷ cs) zero c d at = refl
+  set_there (x ∷ cs) (suc i) c d at = set_there cs i c d at
+
+  -- ---- the world
+  own_by : (w v : World V) (a k : ℕ) (o : Option (Copied V)) → v.words ≡ w.words → v.blocks ≡ w.blocks
+      → v.boosted.shadows a ≡ w.boosted.shadows a → IsOwn w a k o → IsOwn v a k o
+  own_by w v a k (Some c) ew eb es is =
+      let first : first_of v.words v.blocks k ≡ first_of w.words w.blocks k = λ i. first_of (ew i) (eb i) k in
+      let b = is.0 in
+      let here : IsOwnCopy v a k b (first_of w.words w.blocks k) c = record {
+        stripes = subst HaveStripes (sym eb) is.1.stripes;
+        block = ap (λ bs. block_of bs k) eb ∙ is.1.block;
+        first = first;
+        copied = subst (λ z. IsCopied b (first_of w.words w.blocks k) k z c) (sym es) is.1.copied;
+        knows = is.1.knows;
+        pieces = is.1.pieces;
+      } in
+      (b, subst (λ f. IsOwnCopy v a k b f c) (sym first) here)
+  own_by w v a k None ew eb es is =
+      λ b there. (
+      let first : first_of v.words v.blocks k ≡ first_of w.words w.blocks k = λ i. first_of (ew i) (eb i) k in
+      let here = is b (ap (λ bs. block_of bs k) (sym eb) ∙ there) in
+      subst (λ f. IsUncalled b f k (v.boosted.shadows a)) (sym first)
+      (subst (λ z. IsUncalled b (first_of w.words w.blocks k) k z) (sym es) here))
+
+  pub owns_by : (r u : TxActor V) (w v : World V) (a : ℕ) → u.copies.items ≡ r.copies.items → v.words ≡ w.words → v.blocks ≡ w.blocks
+      → v.boosted.shadows a ≡ w.boosted.shadows a → OwnsCopies r w a → OwnsCopies u v a
+  owns_by r u w v a ec ew eb es is = record {
+    stripes = subst HaveStripes (sym eb) is.stripes;
+    own = λ k. subst (λ cs. IsOwn v a k (copy_of cs k)) (sym ec) (own_by w v a k (copy_of r.copies.items k) ew eb es (is.own k));
+    once = subst AreOnce (sym ec) is.once;
+  }
+
+  -- an actor that has begun
+  pub owns_nothing : (r : TxActor V) (w : World V) (a : ℕ) → r.copies.items ≡ [] → HaveStripes w.blocks → (w.boosted.shadows a).outcomes ≡ []
+      → ((k : ℕ) (b : Block) → block_of w.blocks k ≡ Some b
+      → (s : Shown V) × ShowParts b (first_of w.words w.blocks k) (w.boosted.shadows a).parts s)
+      → OwnsCopies r w a
+  owns_nothing r w a none stripes begun shows = record {
+    stripes = stripes;
+    own = λ k. subst (λ cs. IsOwn w a k (copy_of cs k)) (sym none)
+        (λ b is. (shows k b is, ap (log_changes k b) begun, ap (log_locations k b) begun));
+    once = subst AreOnce (sym none) tt;
+  }
+
+  -- ---- the kind and the stripes
+  of_block : (b : Block) (s : Shown V) (k : ℕ) (x : Part (Shown V) (Answered V)) (c : Copied V)
+      → IsOf b s (log_changes k b x.outcomes) (log_locations k b x.outcomes) c
+      → (kind_of (shown_of (base_in c)) ≡ b.kind) × (stripes_of (base_in c) ≡ b.stripes)
+  of_block b s k x (Keys m es) is = (is.0, is.1)
+  of_block b s k x (Whole t) is = (is.0, is.1)
+
+  own_block : (v : BlocksView) (w : World V) (a k : ℕ) (o : Option (Copied V)) (c : Copied V) → IsLaid v w → o ≡ Some c → IsOwn w a k o
+      → IsOfBlock v k c
+  own_block v w a k None c laid e is = absurd (none_some c e)
+  own_block v w a k (Some d) c laid e is =
+      let b = is.0 in
+      let same : d ≡ c = cc in
+      let of = of_block b is.1.copied.0.0 k (w.boosted.shadows a) d is.1.copied.0.2 in
+      subst (IsOfBlock v k) same (record {
+        block = b;
+        there = ap (λ bs. block_of bs k) (sym laid.1) ∙ is.1.block;
+        kind = of.0;
+        stripes = of.1;
+        some = positive_at w.blocks k b is.1.stripes is.1.block;
+      })
+
+  pub of_blocks : (v : BlocksView) (r : TxActor V) (w : World V) (a : ℕ) → IsLaid v w → OwnsCopies r w a → AreOfBlocks v r.copies.items
+  of_blocks v r w a laid is k c e = own_block v w a k (copy_of r.copies.items k) c laid e (is.own k)
+
+  -- ---- an acceptance
+  same_holds : (o : Outcome V) (c d : Copied V) (op : Op V) → holds_call c o.op ≡ true → IsAccepted o c d → holds_call d op ≡ holds_call c op
+  same_holds o (Keys m es) (Keys n fs) op held acc =
+      (λ j. holds_with (shown_of (acc.0 j)) (acc.1 j) (acc.2 j) (acc.3 j) op)
+      ∙ copy_holds o (shown_of m.blank) m.entries m.copies m.total op held
+  same_holds o (Whole s) (Whole t) op held acc = refl
+  same_holds o (Keys m es) (Whole t) op held acc = absurd acc
+  same_holds o (Whole s) (Keys n fs) op held acc = absurd acc
+
+  reads_alike : (n : ℕ) (o : Outcome V) (s t : Shown V) → kind_of t ≡ kind_of s → reads_of n o t ≡ reads_of n o s
+  reads_alike n o s t e = sym (reads_by (kind_of s) n o t e) ∙ reads_by (kind_of s) n o s refl
+
+  same_reads : (o q : Outcome V) (c d : Copied V) → IsAccepted o c d → reads_in d q ≡ reads_in c q
+  same_reads o q (Keys m es) (Keys n fs) acc = λ j. reads_of (stripes_of (acc.0 j)) q (shown_of (acc.0 j))
+  same_reads o q (Whole s) (Whole t) acc =
+      let kind : kind_of (shown_of t.base) ≡ kind_of (shown_of s.base) =
+      ap kind_of acc.0 ∙ kind_stays (changes_of o (shown_of s.base)) (shown_of s.base) in
+      ap (λ n. reads_of n q (shown_of t.base)) acc.1 ∙ reads_alike (stripes_of s.base) q (shown_of s.base) (shown_of t.base) kind
+  same_reads o q (Keys m es) (Whole t) acc = absurd acc
+  same_reads o q (Whole s) (Keys n fs) acc = absurd acc
+
+  same_knows : (o q : Outcome V) (c d : Copied V) → holds_call c o.op ≡ true → IsAccepted o c d
+      → ((q : Outcome V) → holds_call c q.op ≡ true → Knows c (reads_in c q)) → holds_call d q.op ≡ true → Knows d (reads_in d q)
+  same_knows o q c d held acc knows here =
+      let before = knows q (sym (same_holds o c d q.op held acc) ∙ here) in
+      subst (Knows d) (sym (same_reads o q c d acc))
+      (λ i in_reads. (let e = before i in_reads in (e.0, editions_stay o c d acc i ∙ e.1)))
+
+  module _ (w v : World V) (a j : ℕ) (o : Outcome V) where
+    -- the world after an outcome on collection j
+    abbrev pub IsAfter : Type 0
+    IsAfter = (v.words ≡ w.words) × (v.blocks ≡ w.blocks) × (v.boosted.shadows a ≡ longer (w.boosted.shadows a) (answered_on j o.op o))
+
+    accepted_own : (c d : Copied V) → IsAfter → holds_call c o.op ≡ true → answer_of c o.op ≡ Some o → IsAccepted o c d
+        → IsOwn w a j (Some c) → IsOwn v a j (Some d)
+    accepted_own c d after held answer acc is =
+        let b = is.0 in
+        let first : first_of v.words v.blocks j ≡ first_of w.words w.blocks j = λ i. first_of (after.0 i) (after.1 i) j in
+        let here : IsOwnCopy v a j b (first_of w.words w.blocks j) d = record {
+          stripes = subst HaveStripes (sym after.1) is.1.stripes;
+          block = ap (λ bs. block_of bs j) after.1 ∙ is.1.block;
+          first = first;
+          copied = subst (λ z. IsCopied b (first_of w.words w.blocks j) j z d) (sym after.2)
+              (follows_accepted b (first_of w.words w.blocks j) j (w.boosted.shadows a) c d o is.1.copied held answer acc);
+          knows = λ q here. same_knows o q c d held acc is.1.knows here;
+          pieces = λ op known. same_holds o c d op held acc
+              ∙ (is.1.pieces op known ∙ sym (accepted_pieces o c d (piece_of b.kind op) held acc));
+        } in
+        (b, subst (λ f. IsOwnCopy v a j b f d) (sym first) here)
+
+    other_own : (k : ℕ) (p : Option (Copied V)) → IsAfter → j ≢ k → IsOwn w a k p → IsOwn v a k p
+    other_own k (Some c) after other is =
+        let b = is.0 in
+        let first : first_of v.words v.blocks k ≡ first_of w.words w.blocks k = λ i. first_of (after.0 i) (after.1 i) k in
+        let here : IsOwnCopy v a k b (first_of w.words w.blocks k) c = record {
+          stripes = subst HaveStripes (sym after.1) is.1.stripes;
+          block = ap (λ bs. block_of bs k) after.1 ∙ is.1.block;
+          first = first;
+          copied = subst (λ z. IsCopied b (first_of w.words w.blocks k) k z c) (sym after.2)
+              (follows_others b (first_of w.words w.blocks k) k (w.boosted.shadows a) c (answered_on j o.op o) is.1.copied other);
+          knows = is.1.knows;
+          pieces = is.1.pieces;
+        } in
+        (b, subst (λ f. IsOwnCopy v a k b f c) (sym first) here)
+    other_own k None after other is =
+        λ b there. (
+        let x = w.boosted.shadows a in
+        let p = answered_on j o.op o in
+        let none = apart j k other (j == k) refl in
+        let first : first_of v.words v.blocks k ≡ first_of w.words w.blocks k = λ i. first_of (after.0 i) (after.1 i) k in
+        let f = first_of w.words w.blocks k in
+        let here = is b (ap (λ bs. block_of bs k) (sym after.1) ∙ there) in
+        let more : IsUncalled b f k (longer x p) = (
+          here.0,
+          more_changes k b x.outcomes p
+              ∙ (ap (λ z. log_changes k b x.outcomes ++ z) (cond-false (j == k) (changes_on b (Some o)) [] none)
+              ∙ (append-nil (log_changes k b x.outcomes) ∙ here.1)),
+          more_locations k b x.outcomes p
+              ∙ (ap (λ z. log_locations k b x.outcomes ++ z) (cond-false (j == k) (writes_on b (Some o)) [] none)
+              ∙ (append-nil (log_locations k b x.outcomes) ∙ here.2)),
+        ) in
+        subst (λ g. IsUncalled b g k (v.boosted.shadows a)) (sym first)
+        (subst (λ z. IsUncalled b f k z) (sym after.2) more))
+
+    pub owns_accepted : (r u : TxActor V) (i : ℕ) (p : Option (Outcome V)) → IsAfter → p ≡ Some o
+        → IsAcceptedAt i p r.copies.items u.copies.items
+        → ((c : CopyOf V) → slice_get r.copies.items i ≡ Some c → (c.collection ≡ j) × (answer_of c.copied o.op ≡ Some o))
+        → OwnsCopies r w a → OwnsCopies u v a
+    owns_accepted r u i p after some at of is =
+        let cs = r.copies.items in
+        let acc : IsAcceptedAt i (Some o) cs u.copies.items = subst (λ q. IsAcceptedAt i q cs u.copies.items) some at in
+        let c = acc.0 in
+        let d = acc.1 in
+        let here = of c acc.2 in
+        let there = copy_at cs i c is.once acc.2 in
+        let own_c : IsOwn w a j (Some c.copied) = subst (λ q. IsOwn w a j q) (ap (copy_of cs) (sym here.0) ∙ there) (is.own j) in
+        let own_d = accepted_own c.copied d.copied after acc.5 here.1 acc.4 own_c in
+        let once_now = once_set cs i c d is.once acc.2 acc.3 in
+        let at_d : copy_of (set cs i d) j ≡ Some d.copied =
+        ap (copy_of (set cs i d)) (sym (acc.3 ∙ here.0)) ∙ copy_at (set cs i d) i d once_now (set_there cs i c d acc.2) in
+        let each : (k : ℕ) (b : Bool) → (j == k) ≡ b → IsOwn v a k (copy_of (set cs i d) k) = λ k b. elim b as
+        (λ (q : Bool). (j == k) ≡ q → IsOwn v a k (copy_of (set cs i d) k)) [
+          | true ↦ λ e. subst (λ m. IsOwn v a m (copy_of (set cs i d) m)) (eqb-true j k e) (subst (λ q. IsOwn v a j q) (sym at_d) own_d)
+          | false ↦ λ e. (
+              let other : j ≢ k = differ j k e in
+              subst (λ q. IsOwn v a k q)
+              (sym (set_other cs i k c d acc.2 acc.3 (λ h. other (sym (h ∙ here.0)))))
+              (other_own k (copy_of cs k) after other (is.own k)))
+        ] in
+        record {
+          stripes = subst HaveStripes (sym after.1) is.stripes;
+          own = λ k. subst (λ ds. IsOwn v a k (copy_of ds k)) (sym acc.6) (each k (j == k) refl);
+          once = subst AreOnce (sym acc.6) once_now;
+        }

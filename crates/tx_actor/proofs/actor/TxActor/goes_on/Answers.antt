@@ -1,0 +1,35 @@
+use Rattle.std.proofs.Common.{refl, sym, ◌∙◌}
+use Rattle.step_core.specs.Shown.{actor_of}
+use Rattle.replay_log.specs.Worlds.{Loading, Seat, Stage, at_stage}
+use Rattle.tx_actor.specs.Judged.{left_after}
+use Rattle.tx_actor.specs.Running.{answered_of, outcome_in, seat_of, with_outcome}
+use Rattle.tx_actor.proofs.AnswerLemmas.{by_judged, by_outcome, reads_by}
+use Rattle.tx_actor.proofs.actor.TxActor.goes_on.Goals as goal
+
+pub returns-in-All : goal.returns-in-All
+returns-in-All g c a w x s may =
+    let old = c.args.self.now in
+    let left = left_after old.words.reads.entries c.args.left.items in
+    let all = sym c.judge.ensures.judged ∙ c.in-All.is in
+    let yes = may.accepts all in
+    by_outcome c.accepts.new.self c.accepts.result a w (seat_of old) (answered_of c.args.call) (with_outcome c.args.call x) left _
+    (λ i. with_outcome c.args.call (sym yes.1 i)) all (c.accepts.ensures a w s yes.0)
+
+pub returns-in-Next : goal.returns-in-Next
+returns-in-Next g c a w x s may =
+    let old = c.args.self.now in
+    let call = c.args.call in
+    let left = left_after old.words.reads.entries c.args.left.items in
+    let o = with_outcome call x in
+    let may_read = may.reads c.in-Next.location (sym c.judge.ensures.judged ∙ c.in-Next.is) in
+    let seat : Stage g.row.V.Denot → Seat g.row.V.Denot =
+    λ st. at_stage (seat_of old) (Loading (with_outcome call (outcome_in st)) c.judge.new.left.items) in
+    reads_by a w (seat_of old) seat (actor_of old.words) _ o left c.in-Next.location _ _ tt (sym c.in-Next.is ∙ c.judge.ensures.judged) s
+    may_read.0 may_read.1 may_read.2 refl (λ i. at_stage (seat_of old) (Loading o (c.judge.ensures.left i)))
+
+pub returns-in-Stale : goal.returns-in-Stale
+returns-in-Stale g c a w x s may =
+    let old = c.args.self.now in
+    let left = left_after old.words.reads.entries c.args.left.items in
+    by_judged c.gives_up.new.self c.gives_up.result a w (seat_of old) (with_outcome c.args.call x) left _ _
+    (sym c.in-Stale.is ∙ c.judge.ensures.judged) (c.gives_up.ensures.does a w s)

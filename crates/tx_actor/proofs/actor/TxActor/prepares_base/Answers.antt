@@ -1,0 +1,15 @@
+use Rattle.std.proofs.Common.{rules, ◌≤◌, OnOk, Option, length, sym, subst}
+use Rattle.replay_log.specs.Base.{room_of}
+use Rattle.tx_actor.specs.declared.copies.Copied.{Copied}
+use Rattle.tx_actor.specs.Footprints.{IsPlaceOf}
+use Rattle.tx_actor.specs.Logs.{changes_had}
+use Rattle.tx_actor.proofs.LogLemmas.{found_at}
+use Rattle.tx_actor.proofs.actor.TxActor.prepares_base.Goals as goal
+
+pub returns-in-Some-clause-ok : goal.returns-in-Some-clause-ok
+returns-in-Some-clause-ok g c =
+    let cs = c.args.self.now.copies.items in
+    let at : IsPlaceOf cs c.args.collection c.place_of.result = search rules in
+    let z = found_at cs c.in-Some.place c.args.collection c.index.result.now _ c.in-Some.is at c.index.ensures in
+    subst (λ (o : Option (Copied g.row.V.Denot)). OnOk c.prepare.result (length (changes_had o) ≤ room_of c.prepare.new.base)) (sym z.2)
+    c.prepare.ensures.ok

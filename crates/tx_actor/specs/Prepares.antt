@@ -1,0 +1,87 @@
+-- What making a call ready leaves of an actor, and what it gives.
+use Rattle.std.specs.Prelude.{◌≡◌, ℕ, ◌+◌, ◌<◌, ◌≤◌, ◌^◌, Bool, true, false, List, [], ◌∷◌, Option, Some, None, length, slice_get}
+use Rattle.std.specs.Vec.{vec_capacity, vec_len}
+use Rattle.seq_model.specs.declared.call.Op.{Op}
+use Rattle.conflict.specs.declared.outcome.Outcome.{Outcome}
+use Rattle.replay_log.specs.Base.{stripes_of}
+use Rattle.replay_log.specs.Contents.{shifted}
+use Rattle.replay_log.specs.Worlds as worlds
+use Rattle.step_core.specs.Shown as words
+use Rattle.step_core.specs.declared.actor.Place.TheVariants as place
+use Rattle.tx_actor.specs.declared.actor.CopyOf.{CopyOf}
+use Rattle.tx_actor.specs.declared.actor.TxActor.{TxActor}
+use Rattle.tx_actor.specs.declared.copies.Copied.{Copied}
+use Rattle.tx_actor.specs.declared.prepares.Prepared.{Prepared}
+use Rattle.tx_actor.specs.Answers.{IsPrepared}
+use Rattle.tx_actor.specs.Copies.{IsKept, IsReady, answer_of, holds_call}
+use Rattle.tx_actor.specs.Footprints.{base_in, places_in, reads_in, with_known, writes_in}
+use Rattle.tx_actor.specs.Running.{copy_of}
+use Rattle.tx_actor.specs.Writes.{with_next}
+
+module _ {V : Type 0} where
+  -- the copies are as they were, but for what is ready in them
+  abbrev pub AreKept : List (CopyOf V) → List (CopyOf V) → Type 0
+  AreKept [] [] = Unit {0}
+  AreKept (c ∷ cs) (d ∷ ds) = (d.collection ≡ c.collection) × IsKept c.copied d.copied × AreKept cs ds
+  AreKept cs ds = ⊥
+
+-- The actor u is r, but for its room and what is ready in its copies.
+pub record IsAlike {V : Type 0} (r u : TxActor V) : Type 0 where
+  pub words : words.actor_of u.words ≡ words.actor_of r.words
+  pub place : u.words.place ≡ r.words.place
+  pub stage : u.stage ≡ r.stage
+  pub rv : u.rv ≡ r.rv
+  pub wv : u.wv ≡ r.wv
+  pub cause : u.cause ≡ r.cause
+  pub calls : u.calls.items ≡ r.calls.items
+  pub copies : AreKept r.copies.items u.copies.items
+
+-- There is room for a call more, with n locations to be read and m to be written, and its outcome is ready in the copy at this place.
+pub record HasRoomFor {V : Type 0} (u : TxActor V) (i : ℕ) (o : Outcome V) (n m : ℕ) : Type 0 where
+  pub calls : vec_len u.calls < vec_capacity u.calls
+  pub word_calls : vec_len u.words.calls + (n + m) ≤ vec_capacity u.words.calls
+  pub reads : u.words.declared ≡ false → n ≤ u.words.reads.room
+  pub writes : m ≤ u.words.writes.room
+  pub few : length u.words.writes.entries ≤ 4096
+  pub ready : (c : CopyOf V) → slice_get u.copies.items i ≡ Some c → IsReady o c.copied
+
+-- A call on the copy at this place, of a collection that begins at location f, may be made ready: the copy holds it, its locations are
+-- numbers, and the word actor rests; a declared reader asks for no change.
+pub record MayPrepare {V : Type 0} (r : TxActor V) (i f : ℕ) (op : Op V) : Type 0 where
+  pub there : i < length r.copies.items
+  pub rests : r.words.place ≡ place.Open
+  pub may : worlds.may_ask (words.actor_of r.words) op ≡ true
+  pub stripes : (c : CopyOf V) → slice_get r.copies.items i ≡ Some c → 0 < stripes_of (base_in c.copied)
+  pub range : (c : CopyOf V) → slice_get r.copies.items i ≡ Some c → f + places_in c.copied ≤ 2 ^ 32
+  pub held : (c : CopyOf V) → slice_get r.copies.items i ≡ Some c → holds_call c.copied op ≡ true
+
+-- whether the locations of an outcome fit the sets of r
+abbrev pub fits : {V : Type 0} → TxActor V → (f : ℕ) → Copied V → Outcome V → Bool
+fits r f c o = worlds.has_room (words.actor_of r.words) (shifted f (reads_in c o)) (shifted f (writes_in c o))
+
+-- What u has ready of a call on the copy c at this place: its outcome, what it writes, and what is left to be judged.
+pub record IsReadyCall {V : Type 0} (r u : TxActor V) (i f : ℕ) (op : Op V) (c : CopyOf V) (p : Prepared V) : Type 0 where
+  pub outcome : Outcome V
+  pub answer : answer_of c.copied op ≡ Some outcome
+  pub fits : fits r f c.copied outcome ≡ true
+  pub is : p.call.outcome ≡ Some outcome
+  pub at : p.call.place ≡ i
+  pub collection : p.call.asked.collection ≡ c.collection
+  pub asked : p.call.asked.op ≡ op
+  pub left : p.left.items ≡ with_known c.copied f (reads_in c.copied outcome)
+  pub writes : p.call.writes.items ≡ with_next c.copied f (writes_in c.copied outcome)
+  pub prepared : IsPrepared u p.call
+
+-- the call is ready, or its locations don't fit
+abbrev pub ArePrepared : {V : Type 0} → (r u : TxActor V) → (i f : ℕ) → Op V → CopyOf V → Option (Prepared V) → Type 0
+ArePrepared {V} r u i f op c None = (o : Outcome V) × (answer_of c.copied op ≡ Some o) × (fits r f c.copied o ≡ false)
+ArePrepared {V} r u i f op c (Some p) = IsReadyCall r u i f op c p
+
+-- The copy of collection k stands at this place, the first of it, and holds the call.
+pub record IsHeldAt {V : Type 0} (cs : List (CopyOf V)) (i k : ℕ) (op : Op V) : Type 0 where
+  pub there : i < length cs
+  pub copy : CopyOf V
+  pub at : slice_get cs i ≡ Some copy
+  pub of : copy_of cs k ≡ Some copy.copied
+  pub collection : copy.collection ≡ k
+  pub holds : holds_call copy.copied op ≡ true

@@ -1,0 +1,106 @@
+//! What the load of a call's location makes of its actor: with the copied edition the other locations are judged, with another the copy
+//! is stale.
+ghost use Rattle.std.specs.Prelude.{◌≡◌, Some};
+ghost use Rattle.word_machine.specs.Notices as notice;
+ghost use Rattle.tx_actor.specs.Answers.{IsPrepared};
+ghost use Rattle.tx_actor.specs.Dispatch.{notice_told, shown_notice};
+ghost use Rattle.tx_actor.specs.Loads.{IsLoadable, IsToldLoad, first_entry};
+ghost use Rattle.tx_actor.specs.Running.{at};
+
+use crate::actor::{Answered, Stage, Told, TxActor};
+use crate::notice::{WordNotice, of_told};
+use seq_model::{Refusal, Value};
+use std::collections::VecDeque;
+use std::mem;
+use step_core::{WordAnswer, WordRefusal};
+
+/// The location that is read next, with its copied edition.
+fn first_left(left: &VecDeque<(u32, u64)>) -> Option<(u32, u64)>
+    ensures { result ≡ first_entry left.now.items }
+{
+    if 0 < left.len() { Some(left[0]) } else { None }
+}
+
+impl<V: Value> TxActor<V> {
+    /// The first location, which was copied with this edition, was read with that one.
+    fn has_first(
+        &mut self,
+        call: Answered<V>,
+        left: VecDeque<(u32, u64)>,
+        first: (u32, u64),
+        edition: u64,
+    ) -> Told<V>
+        requires prepared { IsPrepared self.old call }
+        requires first { first_entry left.items ≡ Some first }
+        ensures { IsToldLoad (at self.old (Stage.Loading call left)) self.new result (notice.Number edition) }
+    {
+        let copied = first.1;
+        if copied != edition {
+            return self.gives_up(Refusal::Stale {
+                location: first.0,
+                base_edition: copied,
+                word_edition: edition,
+            });
+        }
+        let mut left = left;
+        let _ = left.pop_front();
+        self.goes_on(call, left)
+    }
+
+    /// The first location was read with this edition.
+    fn has_found(&mut self, call: Answered<V>, left: VecDeque<(u32, u64)>, edition: u64) -> Told<V>
+        requires prepared { IsPrepared self.old call }
+        ensures { IsToldLoad (at self.old (Stage.Loading call left)) self.new result (notice.Number edition) }
+    {
+        match first_left(&left) {
+            None => self.stays(Stage::Loading(call, left)),
+            Some(first) => self.has_first(call, left, first, edition),
+        }
+    }
+
+    /// The first location has moved.
+    fn has_moved(
+        &mut self,
+        call: Answered<V>,
+        left: VecDeque<(u32, u64)>,
+        location: u32,
+        word: u64,
+    ) -> Told<V>
+        ensures { IsToldLoad (at self.old (Stage.Loading call left)) self.new result (notice.Moved location word) }
+    {
+        match first_left(&left) {
+            None => self.stays(Stage::Loading(call, left)),
+            Some(_) => self.gives_up(Refusal::Moved { location, word }),
+        }
+    }
+
+    fn has_loaded(
+        &mut self,
+        heard: WordNotice,
+        call: Answered<V>,
+        left: VecDeque<(u32, u64)>,
+    ) -> Told<V>
+        requires prepared { IsLoadable self.old (Stage.Loading call left) (shown_notice heard) }
+        ensures { IsToldLoad (at self.old (Stage.Loading call left)) self.new result (shown_notice heard) }
+    {
+        match heard {
+            WordNotice::Number(edition) => self.has_found(call, left, edition),
+            WordNotice::Moved(location, word) => self.has_moved(call, left, location, word),
+            _ => self.stays(Stage::Loading(call, left)),
+        }
+    }
+
+    /// Its word actor has taken a step of the load of a call's location, which told this. Where an edition was read, all that the call's
+    /// acceptance takes is there.
+    pub fn loaded(&mut self, told: Result<Option<WordAnswer>, WordRefusal>) -> Told<V>
+        requires prepared { IsLoadable self.old self.old.stage (notice_told told) }
+        ensures { IsToldLoad self.old self.new result (notice_told told) }
+    {
+        let heard = of_told(told);
+        let stage = mem::replace(&mut self.stage, Stage::Idle);
+        match stage {
+            Stage::Loading(call, left) => self.has_loaded(heard, call, left),
+            other => self.stays(other),
+        }
+    }
+}

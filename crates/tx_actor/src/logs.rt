@@ -1,0 +1,47 @@
+//! What a commit prepares of the bases that it writes, and the logs that it hands home.
+ghost use Rattle.std.specs.Prelude.{◌≡◌, ◌≤◌, OnOk, length, true};
+ghost use Rattle.replay_log.specs.Base.{editions_of, room_of, shown_of, stripes_of};
+ghost use Rattle.tx_actor.specs.Blocks.{BlocksView};
+ghost use Rattle.tx_actor.specs.Keeping.{KeepsIn};
+ghost use Rattle.tx_actor.specs.Logs.{OthersStand, changes_had, locations_had};
+ghost use Rattle.tx_actor.specs.Asks.{Stands};
+ghost use Rattle.tx_actor.specs.Running.{copy_of, is_recorded};
+
+use crate::actor::TxActor;
+use crate::footprints::place_of;
+use replay_log::{Base, Log};
+use seq_model::{Memory, Value};
+use std::alloc::Global;
+
+impl<V: Value> TxActor<V> {
+    /// Makes room in the base of a collection for what its transaction has changed there, so that it goes home without memory. The
+    /// base shows what it did, also where memory is refused.
+    pub fn prepares_base(&self, collection: u32, base: &mut Base<V>) -> Result<(), Memory>
+        ensures ok { OnOk result (length (changes_had (copy_of self.now.copies.items collection)) ≤ room_of base.new) }
+        ensures shown { shown_of base.new ≡ shown_of base.old }
+        ensures stripes { stripes_of base.new ≡ stripes_of base.old }
+        ensures editions { editions_of base.new ≡ editions_of base.old }
+    {
+        match place_of(&self.copies, collection) {
+            Some(place) => self.copies[place].copied.prepare(base),
+            None => Ok(()),
+        }
+    }
+
+    /// The log of its transaction's calls on a collection, to go home. It is moved out with what there is of the collection: from its
+    /// first value store on the transaction asks for that no more, and the actor is what it was in every world. Without a copy there
+    /// was no call, and the log is empty. It takes no memory.
+    pub fn log_of(&mut self, alloc: Global, collection: u32) -> Log<V>
+        ensures changes { result.changes ≡ changes_had (copy_of self.old.copies.items collection) }
+        ensures locations { result.locations ≡ locations_had (copy_of self.old.copies.items collection) }
+        ensures others { OthersStand collection self.old.copies.items self.new.copies.items }
+        ensures rest { self.new ≡ record self.old { copies = self.new.copies } }
+        ensures stands { is_recorded self.old.stage ≡ true → Stands self.old self.new }
+        ensures keeps { (v : BlocksView) → KeepsIn v self.old self.new }
+    {
+        match place_of(&self.copies, collection) {
+            Some(place) => self.copies.remove(place).copied.log(),
+            None => Log::new(alloc),
+        }
+    }
+}

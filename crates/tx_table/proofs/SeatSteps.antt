@@ -1,0 +1,261 @@
+-- What a step of a running seat may do, and what it makes of the seat.
+--
+-- The laws of the rule speak of what was asked as a list that stands beside the seat; a seat keeps that list itself. What is due to the
+-- actor in its own world is the same by either, and after a turn nothing is asked, so the actor's own world is what the turn left.
+use Rattle.std.proofs.Common.{◌≡◌, ℕ, ◌+◌, ◌%◌, ◌^◌, ◌<◌, ◌≤◌, Bool, true, false, eqb, List, [], ◌∷◌, ◌++◌, Option as Maybe, Some, None, ⊎_elim, length, sym, refl, ap, ◌∙◌, subst, arith}
+use Rattle.std.specs.Prelude.{if◌then◌else◌, MatchOption}
+use prog.Atomic.{either}
+use Rattle.atomic_table.specs.Table.{State, Me, Allows, rest, turned as shifted}
+use Rattle.word_machine.specs.Actor.{clock_limit}
+use Rattle.word_machine.specs.Cells.{Cell, ClockCell}
+use Rattle.seq_model.specs.declared.event.Event.{Event}
+use Rattle.seq_model.specs.declared.record.Record.{Record}
+use Rattle.replay_log.specs.declared.base.Base.{Base}
+use Rattle.replay_log.specs.Contents.{HaveStripes, end_of}
+use Rattle.replay_log.specs.Seats.{World}
+use Rattle.atomic_steps.specs.Gates.{Tries}
+use Rattle.atomic_steps.specs.Spots.{Word}
+use Rattle.tx_table.specs.declared.seat.Seat.{Seat}
+use Rattle.tx_table.specs.Layout.{address, gate_address, IsInside}
+use Rattle.tx_table.specs.declared.view.Opening.{Opening}
+use Rattle.tx_table.specs.Opening.{Holds, blocks_at, locations_at, world_at}
+use Rattle.tx_table.specs.Turns.{Turn, asked_all, lone, spot, moved, ends}
+use Rattle.tx_table.specs.Shown.{View, Slot, IsBaseAt, Rule, Told, Took, acting}
+use Rattle.tx_table.specs.Seated.{Adds, Exchanges, IsHome, IsSameSeat, Loads, Stores, Takes, acts, list_of, out, turned, view}
+use Rattle.tx_table.proofs.Turned.{lone_snoc}
+use Rattle.tx_table.proofs.Keeps.{word_allowed, clock_allowed}
+use Rattle.tx_table.proofs.Opened as gates
+
+-- the slot in front
+abbrev slot_of : {S : Type 0} → List (ℕ × Maybe S) → Maybe S
+slot_of [] = None
+slot_of (x ∷ xs) = x.1
+
+either_is : (b : Bool) (x y : ℕ) → (if b then x else y) ≡ either b x y
+either_is true x y = refl
+either_is false x y = refl
+
+module _ {V : Type 0} where
+  -- the same step may tell less
+  pub weaker : (holds : State (Slot V) (View V) → Type 0) (slots id : ℕ) (m : Me (Slot V) (View V)) (i : ℕ) (f : ℕ → ℕ)
+      (tells less : ℕ → Me (Slot V) (View V) → Type 0) → ((k : ℕ) (t : Me (Slot V) (View V)) → tells k t → less k t)
+      → Allows holds slots id m i f tells → Allows holds slots id m i f less
+  weaker holds slots id m i f tells less so may s rule len here small =
+      let r = may s rule len here small in (r.0, r.1, r.2, r.3, so _ _ r.4)
+
+  -- what an actor's own world is once its seat took a turn and asks nothing
+  acts_after : (o : World V) (a b : ℕ) (v u : View V) (es : List (Event V)) (i : Turn V) (rs : List (ℕ × Record V)) (k : ℕ) → b ≡ a
+      → es ≡ []
+      → u ≡ acting v i rs k
+      → asked_all b (lone b o u.turns) es ≡ (moved a (asked_all a (lone a o v.turns) i.asks) i.found i.base).0
+  acts_after o a b v u es i rs k id none is =
+      (λ j. asked_all (id j) (lone (id j) o (is j).turns) (none j)) ∙ lone_snoc a v.turns o i
+
+  pub takes : (o : World V) (s t : Seat V) (asks : List (Event V)) (clock found : ℕ) (base : Maybe (Base V)) (bases : List (ℕ × Slot V))
+      → asks ≡ list_of s.asked → IsSameSeat s t → Told o s.place.id asks clock s.place.me found base t.place.me.0 → out t ≡ bases
+      → list_of t.asked ≡ [] → Takes o s clock found base bases t
+  takes o s t asks clock found base bases are same told held none =
+      let i : Turn V = record { asks = list_of s.asked; found = found; base = base } in
+      let rs : List (ℕ × Record V) = ends s.place.id (acts o s) in
+      let is : view t ≡ acting (view s) i rs clock = told ∙ (λ j. acting (view s) (record { asks = are j; found = found; base = base })
+      (ends s.place.id (asked_all s.place.id (lone s.place.id o (view s).turns) (are j))) clock) in
+      record {
+        seat = same;
+        turn = is;
+        held = held;
+        none = none;
+        own = acts_after o s.place.id t.place.id (view s) (view t) (list_of t.asked) i rs clock same.1 none is;
+      }
+
+  -- the seat has its shares, and knows its last number, once it took a turn
+  pub still : (s : Seat V) (w : View V) (i : Turn V) (rs : List (ℕ × Record V)) (k : ℕ) → w ≡ acting (view s) i rs k → (view s).clock ≤ k
+      → (s.shares ≡ w.shares) × (s.last ≤ w.clock)
+  still s w i rs k is low = (
+    s.counted ∙ sym (ap (λ (v : View V). v.shares) is),
+    (let a = s.known in let b : w.clock ≡ k = ap (λ (v : View V). v.clock) is in omega arith),
+  )
+
+  -- a step that keeps the rule of the world keeps that of the table
+  lifted : (key : Opening V) (slots id : ℕ) (m : Me (Slot V) (View V)) (i : ℕ) (f : ℕ → ℕ) (tells : ℕ → Me (Slot V) (View V) → Type 0)
+      → (HaveStripes (blocks_at key) → Allows (Rule (world_at key)) slots id m i f tells) → Allows (Holds key) slots id m i f tells
+  lifted key slots id m i f tells may s h len here small =
+      let r = may h.stripes s h.rule len here small in (
+        r.0,
+        r.1,
+        r.2,
+        record { stripes = h.stripes; suits = h.suits; rule = r.3 },
+        r.4,
+      )
+
+  module _ (key : Opening V) (slots id : ℕ) (m : Me (Slot V) (View V)) (asks qs : List (Event V)) (are : asks ≡ qs)
+      (live : 0 < m.0.shares) where
+    abbrev o : World V
+    o = world_at key
+
+    -- the actor's own world, as the seat has it
+    abbrev mine : World V
+    mine = asked_all id (lone id o m.0.turns) qs
+
+    -- a word becomes f of what it was, as the actor's next step makes of it
+    goes : (c : Cell) (i : ℕ) (f : ℕ → ℕ) → spot id mine ≡ Word c → ((k : ℕ) → turned id mine k ≡ f k)
+        → IsInside (end_of o.words o.blocks) c
+        → i ≡ address (end_of o.words o.blocks) c
+        → Allows (Holds key) slots id m i f (λ found t. Told o id asks m.0.clock m found None t.0 × (t.1 ≡ m.1))
+    goes c i f at is inner place =
+        let there : (spot id (asked_all id (lone id o m.0.turns) asks) ≡ Word c)
+        × ((k : ℕ) → turned id (asked_all id (lone id o m.0.turns) asks) k ≡ f k) =
+        subst (λ (q : List (Event V)). (spot id (asked_all id (lone id o m.0.turns) q) ≡ Word c)
+        × ((k : ℕ) → turned id (asked_all id (lone id o m.0.turns) q) k ≡ f k)) (sym are) (at, is) in
+        subst (λ (j : ℕ). Allows (Holds key) slots id m j f (λ found t. Told o id asks m.0.clock m found None t.0 × (t.1 ≡ m.1)))
+        (sym place)
+        (lifted key slots id m (address (end_of o.words o.blocks) c) f (λ found t. Told o id asks m.0.clock m found None t.0 × (t.1 ≡ m.1))
+        (λ stripes. word_allowed o slots id m asks c f live there.0 inner there.1))
+
+    pub loads : (c : Cell) (i : ℕ) → Loads id mine c → IsInside (end_of o.words o.blocks) c → i ≡ address (end_of o.words o.blocks) c
+        → Allows (Holds key) slots id m i (λ k. k) (λ found t. Told o id asks m.0.clock m found None t.0 × (t.1 ≡ m.1))
+    loads c i due inner place = goes c i (λ k. k) due.0 due.1 inner place
+
+    pub exchanges : (c : Cell) (i old new : ℕ) → Exchanges id mine c old new → IsInside (end_of o.words o.blocks) c
+        → i ≡ address (end_of o.words o.blocks) c
+        → Allows (Holds key) slots id m i (λ k. either (eqb k old) new k)
+        (λ found t. Told o id asks m.0.clock m found None t.0 × (t.1 ≡ m.1))
+    exchanges c i old new due inner place =
+        goes c i (λ k. either (eqb k old) new k) due.0 (λ k. due.1 k ∙ either_is (eqb k old) new k) inner place
+
+    -- a store finds some number, and isn't told which
+    pub stores : (c : Cell) (i new : ℕ) → Stores id mine c new → IsInside (end_of o.words o.blocks) c
+        → i ≡ address (end_of o.words o.blocks) c
+        → Allows (Holds key) slots id m i (λ _. new)
+        (λ _ t. (found : ℕ) × Told o id asks m.0.clock m found None t.0 × (t.1 ≡ m.1))
+    stores c i new due inner place =
+        weaker (Holds key) slots id m i (λ _. new) (λ found t. Told o id asks m.0.clock m found None t.0 × (t.1 ≡ m.1))
+        (λ _ t. (found : ℕ) × Told o id asks m.0.clock m found None t.0 × (t.1 ≡ m.1)) (λ k t told. (k, told.0, told.1))
+        (goes c i (λ _. new) due.0 due.1 inner place)
+
+    -- a step on the clock, which knows what it left there
+    clocked : (f left : ℕ → ℕ) → spot id mine ≡ Word ClockCell → ((k : ℕ) → k ≤ clock_limit + 64 → turned id mine k ≡ f k)
+        → ((k : ℕ) → k ≤ clock_limit + 64 → left k ≡ f k)
+        → Allows (Holds key) slots id m 0 f
+        (λ found t. Told o id asks (left found) m found None t.0 × (t.1 ≡ m.1) × (m.0.clock ≤ found) × (found ≤ clock_limit + 64))
+    clocked f left at is leaves =
+        let there : (spot id (asked_all id (lone id o m.0.turns) asks) ≡ Word ClockCell)
+        × ((k : ℕ) → k ≤ clock_limit + 64 → turned id (asked_all id (lone id o m.0.turns) asks) k ≡ f k) =
+        subst (λ (q : List (Event V)). (spot id (asked_all id (lone id o m.0.turns) q) ≡ Word ClockCell)
+        × ((k : ℕ) → k ≤ clock_limit + 64 → turned id (asked_all id (lone id o m.0.turns) q) k ≡ f k)) (sym are) (at, is) in
+        lifted key slots id m 0 f
+        (λ found t. Told o id asks (left found) m found None t.0 × (t.1 ≡ m.1) × (m.0.clock ≤ found) × (found ≤ clock_limit + 64))
+        (λ stripes. clock_allowed o slots id m asks f left live there.0 there.1 leaves)
+
+    pub loads_clock : Loads id mine ClockCell → Allows (Holds key) slots id m 0 (λ k. k)
+        (λ found t. Told o id asks found m found None t.0 × (t.1 ≡ m.1) × (m.0.clock ≤ found) × (found ≤ clock_limit + 64))
+    loads_clock due = clocked (λ k. k) (λ k. k) due.0 (λ k low. due.1 k) (λ k low. refl)
+
+    pub adds_clock : Adds id mine → Allows (Holds key) slots id m 0 (λ k. (k + 1) % 2 ^ 64)
+        (λ found t. Told o id asks (found + 1) m found None t.0 × (t.1 ≡ m.1) × (m.0.clock ≤ found) × (found ≤ clock_limit + 64))
+    adds_clock due = clocked (λ k. (k + 1) % 2 ^ 64) (λ k. k + 1) due.0 (λ k low. let e = due.1 k in omega arith) (λ k low. omega arith)
+
+  -- ---- gates of a table that was opened
+  -- a gate that was tried: what the seat has, once it has turned to the bases that it took before
+  pub won : (o : World V) (s t : Seat V) (asks : List (Event V)) (k found : ℕ) (m n : Me (Slot V) (View V)) (base : Slot V)
+      → asks ≡ list_of s.asked → found ≡ 0 → Took o s.place.id asks s.place.me k found m → m.1 ≡ (k, base) ∷ rest m.1
+      → n ≡ (m.0, (k, None) ∷ rest m.1) → t.place.me ≡ (n.0, shifted n.1) → IsSameSeat s t → list_of t.asked ≡ []
+      → MatchOption base (Takes o s (view s).clock 1 None (out s) t)
+      (λ b. IsBaseAt o.blocks k b × Takes o s (view s).clock 0 (Some b) (out s ++ (k, None) ∷ []) t)
+  won o s t asks k found m n base are free told top swapped turned same none = ⊎_elim
+      (λ p. let b : Base V = p.1 in
+      let had : (k, Some b) ∷ s.place.me.1 ≡ (k, base) ∷ rest m.1 = sym p.4 ∙ top in
+      let here : Some b ≡ base = ap (λ (l : List (ℕ × Slot V)). slot_of l) had in
+      let others : s.place.me.1 ≡ rest m.1 = ap (λ (l : List (ℕ × Slot V)). rest l) had in
+      subst (λ (x : Slot V). MatchOption x (Takes o s (view s).clock 1 None (out s) t)
+      (λ b. IsBaseAt o.blocks k b × Takes o s (view s).clock 0 (Some b) (out s ++ (k, None) ∷ []) t)) here (
+        p.2,
+        takes o s t asks (view s).clock 0 (Some b) (out s ++ (k, None) ∷ []) are same
+            (ap (λ (z : Me (Slot V) (View V)). z.0) turned ∙ ap (λ (z : Me (Slot V) (View V)). z.0) swapped
+            ∙ subst (λ (z : ℕ). Told o s.place.id asks (view s).clock s.place.me z (Some b) m.0) p.0 p.3)
+            (ap (λ (z : Me (Slot V) (View V)). z.1) turned
+            ∙ ap (λ (z : Me (Slot V) (View V)). shifted z.1) swapped
+            ∙ ap (λ (l : List (ℕ × Slot V)). l ++ (k, None) ∷ []) (sym others))
+            none,
+      ))
+      (λ p. absurd (let q : found ≡ 1 = p.0 in omega arith)) told
+
+  -- a gate that was found taken
+  pub lost : (o : World V) (s t : Seat V) (asks : List (Event V)) (k found : ℕ) → asks ≡ list_of s.asked → ¬ (found ≡ 0)
+      → Took o s.place.id asks s.place.me k found t.place.me → IsSameSeat s t → list_of t.asked ≡ []
+      → Takes o s (view s).clock 1 None (out s) t
+  lost o s t asks k found are taken told same none = ⊎_elim
+      (λ p. absurd (taken p.0))
+      (λ p. takes o s t asks (view s).clock 1 None (out s) are same
+      (subst (λ (z : ℕ). Told o s.place.id asks (view s).clock s.place.me z None t.place.me.0) p.0 p.1) p.2 none) told
+
+  -- the slot that was taken is in front
+  pub topped : (o : World V) (s : Seat V) (asks : List (Event V)) (k gate found : ℕ) (m : Me (Slot V) (View V)) → k ≡ gate → found ≡ 0
+      → Took o s.place.id asks s.place.me k found m → (b : Slot V) × (m.1 ≡ (gate, b) ∷ rest m.1)
+  topped o s asks k gate found m same free told = ⊎_elim
+      (λ p. let others : s.place.me.1 ≡ rest m.1 = sym (ap (λ (l : List (ℕ × Slot V)). rest l) p.4) in (
+        Some p.1,
+        p.4 ∙ (λ i. (same i, Some p.1) ∷ others i),
+      ))
+      (λ p. absurd (let q : found ≡ 1 = p.0 in omega arith)) told
+
+  -- either way the seat has its shares
+  pub still_tried : (o : World V) (s : Seat V) (asks : List (Event V)) (k found : ℕ) (t : Me (Slot V) (View V))
+      → Took o s.place.id asks s.place.me k found t → (s.shares ≡ t.0.shares) × (s.last ≤ t.0.clock)
+  still_tried o s asks k found t told = ⊎_elim (λ p. still s t.0 _ _ (view s).clock p.3 (omega arith))
+      (λ p. still s t.0 _ _ (view s).clock p.1 (omega arith)) told
+
+  module _ (key : Opening V) (slots id : ℕ) (m : Me (Slot V) (View V)) (asks qs : List (Event V)) (are : asks ≡ qs) (live : 0 < m.0.shares)
+      (k i : ℕ) (low : k < length (blocks_at key)) (place : i ≡ gate_address (locations_at key) k) where
+    abbrev start : World V
+    start = world_at key
+
+    abbrev alone : List (Event V) → World V
+    alone es = asked_all id (lone id start m.0.turns) es
+
+    pub tries : Tries (alone qs) id k → Allows (Holds key) slots id m i (λ n. either (eqb n 0) 1 n) (Took start id asks m k)
+    tries due = subst (λ (j : ℕ). Allows (Holds key) slots id m j (λ n. either (eqb n 0) 1 n) (Took start id asks m k)) (sym place)
+        (lifted key slots id m (gate_address (locations_at key) k) (λ n. either (eqb n 0) 1 n) (Took start id asks m k)
+        (λ stripes. gates.take (blocks_at key) key.shape.value.clock key.state.value.words key.state.value.held stripes slots id m asks k
+        live
+        low (subst (λ (q : List (Event V)). Tries (alone q) id k) (sym are) due)))
+
+    pub puts : (b : Base V) → m.1 ≡ (k, Some b) ∷ rest m.1 → IsHome start id (alone qs) k b
+        → Allows (Holds key) slots id m i (λ _. 0) (λ _ t. Told start id asks m.0.clock m 1 None t.0 × (t.1 ≡ rest m.1))
+    puts b top due = subst (λ (j : ℕ). Allows (Holds key) slots id m j (λ _. 0)
+        (λ _ t. Told start id asks m.0.clock m 1 None t.0 × (t.1 ≡ rest m.1))) (sym place)
+        (lifted key slots id m (gate_address (locations_at key) k) (λ _. 0)
+        (λ _ t. Told start id asks m.0.clock m 1 None t.0 × (t.1 ≡ rest m.1))
+        (λ stripes. ⊎_elim
+        (λ p. gates.put (blocks_at key) key.shape.value.clock key.state.value.words key.state.value.held stripes slots id m asks k b
+        (rest m.1) live low top p.0 p.1 p.2)
+        (λ p. let f = p.1 in gates.home (blocks_at key) key.shape.value.clock key.state.value.words key.state.value.held stripes slots id m
+        asks k f.block f.before b (rest m.1) live low top p.0 f.there f.sort f.shown f.folded)
+        (subst (λ (q : List (Event V)). IsHome start id (alone q) k b) (sym are) due)))
+
+  -- the base that goes home was put into the slot in front
+  pub puts_back : (key : Opening V) (slots : ℕ) (s : Seat V) (id : ℕ) (n : Me (Slot V) (View V)) (asks : List (Event V)) (k gate i : ℕ)
+      (b : Base V) → asks ≡ list_of s.asked → k ≡ gate → 0 < (view s).shares → k < length (blocks_at key)
+      → i ≡ gate_address (locations_at key) k → id ≡ s.place.id → n ≡ (view s, (gate, Some b) ∷ rest (out s))
+      → IsHome (world_at key) s.place.id (acts (world_at key) s) k b
+      → Allows (Holds key) slots id n i (λ _. 0) (λ _ t. Told (world_at key) id asks n.0.clock n 1 None t.0 × (t.1 ≡ rest n.1))
+  puts_back key slots s id n asks k gate i b are same live low place id_is is due =
+      let o : World V = world_at key in
+      let views : n.0 ≡ view s = ap (λ (z : Me (Slot V) (View V)). z.0) is in
+      let front : n.1 ≡ (gate, Some b) ∷ rest (out s) = ap (λ (z : Me (Slot V) (View V)). z.1) is in
+      let others : rest n.1 ≡ rest (out s) = ap (λ (l : List (ℕ × Slot V)). rest l) front in
+      puts key slots id n asks (list_of s.asked) are (subst (λ (v : View V). 0 < v.shares) (sym views) live) k i low place b
+      (front ∙ (λ j. (sym same j, Some b) ∷ sym others j))
+      (subst (λ (z : ℕ × View V). IsHome o z.0 (asked_all z.0 (lone z.0 o z.1.turns) (list_of s.asked)) k b)
+      (λ j. (sym id_is j, sym views j)) due)
+
+  pub put_takes : (o : World V) (s t : Seat V) (id : ℕ) (n : Me (Slot V) (View V)) (asks : List (Event V)) (gate : ℕ) (b : Base V)
+      → asks ≡ list_of s.asked → id ≡ s.place.id → n ≡ (view s, (gate, Some b) ∷ rest (out s))
+      → Told o id asks n.0.clock n 1 None t.place.me.0 × (t.place.me.1 ≡ rest n.1) → IsSameSeat s t → list_of t.asked ≡ []
+      → Takes o s (view s).clock 1 None (rest (out s)) t
+  put_takes o s t id n asks gate b are id_is is told same none =
+      let views : n.0 ≡ view s = ap (λ (z : Me (Slot V) (View V)). z.0) is in
+      let others : rest n.1 ≡ rest (out s) = ap (λ (z : Me (Slot V) (View V)). rest z.1) is in
+      takes o s t asks (view s).clock 1 None (rest (out s)) are same
+      (subst (λ (z : ℕ × View V). t.place.me.0 ≡ acting z.1 (record { asks = asks; found = 1; base = None })
+      (ends z.0 (asked_all z.0 (lone z.0 o z.1.turns) asks)) z.1.clock) (λ j. (id_is j, views j)) told.0)
+      (told.1 ∙ others) none

@@ -1,0 +1,16 @@
+use Rattle.std.proofs.Common.{◌∙◌, ap}
+use Rattle.std.specs.Slots.{slots_items}
+use mathlib.Core.Option.{some}
+use Rattle.tx_table.proofs.SeatShares.{stands}
+use Rattle.tx_table.proofs.closed.Closed.collection.Goals as goal
+
+pub unreachable-requires : goal.unreachable-requires
+unreachable-requires g c =
+    let s = c.args.self.now in
+    s.home c.args.collection (stands (slots_items s.row.slots) c.args.collection c.get.result.now c.requires c.get.ensures
+    ∙ ap (λ x. some x) c.in-None.is)
+
+pub returns : goal.returns
+returns g c =
+    stands (slots_items c.args.self.now.row.slots) c.args.collection c.get.result.now c.requires c.get.ensures
+    ∙ ap (λ x. some x) c.in-Some.is

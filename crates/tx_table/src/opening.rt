@@ -1,0 +1,90 @@
+//! Opening a table.
+ghost use Rattle.std.specs.Prelude.{◌≡◌, ◌≢◌, ◌≤◌, ◌++◌, ◌∷◌, [], IfErr, IfOk, IsOk, Some, length, map, replicate};
+ghost use Rattle.seq_model.specs.Refusals.{IsNoSuchOrTooLong};
+ghost use Rattle.world_table.specs.Openings.{IsWithin, blocks_of, world_of};
+ghost use Rattle.tx_table.specs.Shown.{first as first_view};
+ghost use Rattle.tx_table.specs.Seated.{Owns, blocks_in, contents_in, list_of, opening_of};
+
+use crate::rule::Whole;
+use crate::seat::{Asked, Seat};
+use crate::table::TxTable;
+use crate::view::Opening;
+use replay_log::Base;
+use seq_model::{Memory, Refusal, Shape, State, Value};
+use std::alloc::Global;
+use std::snapshot::Snapshot;
+use step_core::Cells;
+
+// The words of the table: the clock, the lock words, the values, the gates.
+fn laid_out(alloc: Global, cells: &Cells, gates: usize) -> Result<Vec<u64>, Memory>
+    ensures { IfOk result (λ row. row.items ≡
+        ((cells.now.clock ∷ replicate (length cells.now.locks.items) 0) ++ cells.now.values.items) ++ replicate gates 0) }
+{
+    let locks = vec![in alloc; 0; cells.locks.len()]?;
+    let free = vec![in alloc; 0; gates]?;
+    let mut row = Vec::new(alloc);
+    row.push(cells.clock)?;
+    row.extend_from_slice(&locks)?;
+    row.extend_from_slice(&cells.values)?;
+    row.extend_from_slice(&free)?;
+    Ok(row)
+}
+
+fn at_home<V: Value>(alloc: Global, bases: Vec<Base<V>>) -> Result<Vec<Option<Base<V>>>, Memory>
+    ensures { IfOk result (λ homes. homes.items ≡ map Some bases.items) }
+{
+    let mut homes = Vec::with_capacity(alloc, bases.len())?;
+    for base in bases {
+        homes.push(Some(base))?;
+    }
+    Ok(homes)
+}
+
+impl<V: Value> TxTable<V> {
+    /// A table that opens with these words and collections, and with this clock, and its first seat, which has all 64 shares. Each
+    /// collection is in as many stripes as the shape says.
+    ///
+    /// `NoSuch` where the shape has not as many numbers of stripes as there are collections. `TooLong` where the clock is above its
+    /// limit, there are more than 256 collections or more than 1,048,576 locations, or a collection can't have so many stripes. What
+    /// was moved in is dropped. Only where nothing of these is so, memory is asked for.
+    pub fn open(
+        alloc: Global,
+        shape: &Shape,
+        state: State<V>,
+    ) -> Result<(TxTable<V>, Seat<V>), Refusal>
+        ensures opens { IfOk result (λ opened. opening_of opened.0 ≡ world_of shape.now.stripes shape.now.clock state) }
+        ensures blocks { IfOk result (λ opened. blocks_in opened.0 ≡ blocks_of shape.now.stripes state.held) }
+        ensures contents { IfOk result (λ opened. contents_in opened.0 ≡ state) }
+        ensures owns { IfOk result (λ opened. Owns opened.0 opened.1) }
+        ensures seat { IfOk result (λ opened. opened.1.place.me ≡ (first_view, [])) }
+        ensures new { IfOk result (λ opened. (list_of opened.1.asked ≡ []) × (opened.1.last ≡ 0)) }
+        ensures refused { IfErr result (λ refusal. IsNoSuchOrTooLong refusal (length shape.now.stripes ≢ length state.held)
+            (IsWithin shape.now.stripes shape.now.clock state)) }
+        ensures fits { IsOk result → (length shape.now.stripes ≡ length state.held) × IsWithin shape.now.stripes shape.now.clock state }
+    {
+        let about = Opening {
+            shape: Snapshot::of(shape),
+            state: Snapshot::of(&state),
+        };
+        let words = state.words().len();
+        let laid = world_table::Table::open(alloc, shape, state)?;
+        let locations = laid.cells.locks.len();
+        let row = laid_out(alloc, &laid.cells, laid.gates.len())?;
+        let homes = at_home(alloc, laid.bases)?;
+        let Ok((whole, place)) = Whole::new(alloc, row.as_slice(), homes, &about) else {
+            return Err(Refusal::OutOfMemory);
+        };
+        let table = TxTable {
+            whole,
+            words: words as u32,
+            locations,
+        };
+        let seat = Seat {
+            place,
+            asked: Asked::Nothing,
+            shares: 64,
+            last: 0,
+        };
+        Ok((table, seat))
+    }
+}

@@ -1,0 +1,45 @@
+//! The rule of a running table.
+use crate::view::{Opening, View};
+use atomic_table::{Join, Play, Seat, Shared, Split, Table, TableRule};
+use replay_log::Base;
+use std::alloc::Global;
+use std::marker::Brand;
+
+/// Some list of events reaches, from the opening, a world that the table shows.
+pub struct Order;
+
+impl<V> TableRule<Option<Base<V>>, View<V>, Opening<V>> for Order {
+    ghost use Rattle.tx_table.specs.Shown.{first as first_view};
+    ghost use Rattle.tx_table.specs.Opening.{Holds};
+
+    ghost holds = { λ k. Holds k };
+
+    ghost first = { λ _. first_view };
+}
+
+// Each call picks what its step tells.
+impl<V> Play<Option<Base<V>>, View<V>> for Brand {
+    ghost then = { λ _ _ _ _. Unit {0} };
+}
+
+// Each call picks how many shares go.
+impl<V> Split<View<V>> for Brand {
+    ghost left = { λ v. v };
+
+    ghost right = { λ v. v };
+}
+
+// Each call picks what is left of the other seat.
+impl<V> Join<View<V>> for Brand {
+    ghost use Rattle.tx_table.specs.Shown.{first};
+
+    ghost both = { λ v _. v };
+
+    ghost spent = { first };
+}
+
+pub type Board<V> = Shared<Option<Base<V>>, View<V>, Opening<V>, Order>;
+
+pub type Whole<V> = Table<Option<Base<V>>, View<V>, Opening<V>, Order, Global>;
+
+pub type Place<V> = Seat<Option<Base<V>>, View<V>>;

@@ -1,0 +1,24 @@
+//! A seat at the table.
+ghost use Rattle.std.specs.Prelude.{◌≡◌, ◌≤◌};
+
+use crate::rule::Place;
+use seq_model::Event;
+use std::snapshot::Snapshot;
+
+/// What an actor has asked since its last step. It holds no request, and only clauses read it.
+#[derive(Drop)]
+pub enum Asked<V> {
+    Nothing,
+    More(Snapshot<Asked<V>>, Snapshot<Event<V>>),
+}
+
+/// What one thread steps with at a table: an actor of its own, and shares of the table.
+#[derive(Drop)]
+pub struct Seat<V> {
+    pub(crate) place: Place<V>,
+    pub(crate) asked: Asked<V>,
+    pub(crate) shares: u64,
+    pub(crate) last: u64,
+    ghost counted: { shares ≡ place.me.0.shares },
+    ghost known: { last ≤ place.me.0.clock },
+}

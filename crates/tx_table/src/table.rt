@@ -1,0 +1,19 @@
+//! The table.
+ghost use Rattle.std.specs.Prelude.{◌≡◌, ◌≤◌, length};
+ghost use Rattle.tx_table.specs.Layout.{width};
+ghost use Rattle.tx_table.specs.Opening.{blocks_at, locations_at, words_at};
+
+use crate::rule::Whole;
+
+/// A table of words and collections that threads share.
+#[derive(Drop)]
+pub struct TxTable<V> {
+    pub(crate) whole: Whole<V>,
+    pub(crate) words: u32,
+    pub(crate) locations: usize,
+    ghost words_are: { words ≡ words_at whole.shared.key },
+    ghost locations_are: { locations ≡ locations_at whole.shared.key },
+    ghost wide: { whole.shared.table_id.words ≡ width locations (length (blocks_at whole.shared.key)) },
+    ghost slots: { whole.shared.table_id.slots ≡ length (blocks_at whole.shared.key) },
+    ghost few: { (locations ≤ 1048576) × (length (blocks_at whole.shared.key) ≤ 256) },
+}

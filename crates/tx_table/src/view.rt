@@ -1,0 +1,29 @@
+//! What a table opened with, and what its seats know.
+//!
+//! No view and no turn is ever made: the rule of the table speaks of them.
+use replay_log::Base;
+use seq_model::{Event, Items, Record, Shape, State};
+use std::snapshot::Snapshot;
+
+/// What a table opened with, as clauses see it.
+#[derive(Drop)]
+pub struct Opening<V> {
+    pub shape: Snapshot<Shape>,
+    pub state: Snapshot<State<V>>,
+}
+
+/// A turn of an actor: what was asked before a step, the number that the step found, and of a gate that it found free the base.
+pub struct Turn<V> {
+    pub asks: Items<Event<V>>,
+    pub found: u64,
+    pub base: Option<Base<V>>,
+}
+
+/// What a seat knows: its shares, the clock as it last left it, what its actor has asked and found, and the transactions that were
+/// committed, by its actor and by those whose seats were joined into it.
+pub struct View<V> {
+    pub shares: u64,
+    pub clock: u64,
+    pub turns: Items<Turn<V>>,
+    pub receipts: Items<(u64, Record<V>)>,
+}
