@@ -23,3 +23,6 @@ mod AskLemmas
 mod GuardedLemmas
 mod LogLemmas
 mod LoadLemmas
+mod LoadingLemmas
+mod HearLemmas
+mod SeatedLemmas

@@ -16,3 +16,5 @@ pub mod Owns
 pub mod Prepares
 pub mod Logs
 pub mod Loads
+pub mod Loading
+pub mod Seated
