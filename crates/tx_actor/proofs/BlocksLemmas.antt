@@ -11,7 +11,7 @@ use Rattle.tx_actor.specs.Blocks.{AreEnds, block_of, home_in}
 pub is_below : (m n : ℕ) → m < n → ltb m n ≡ true
 is_below m n h = grind (arith, nat_tests)
 
-is_not_below : (m n : ℕ) → n ≤ m → ltb m n ≡ false
+pub is_not_below : (m n : ℕ) → n ≤ m → ltb m n ≡ false
 is_not_below m n h = grind (arith, nat_tests)
 
 is_up_to : (m n : ℕ) → m ≤ n → leb m n ≡ true

@@ -15,6 +15,9 @@ mod OutcomeLemmas
 mod OwnsLemmas
 mod PreparesLemmas
 mod CallingLemmas
+mod CallsLemmas
+mod OwnAsksLemmas
+mod AskedLemmas
 mod KeepingLemmas
 mod BlocksLemmas
 mod HomesLemmas

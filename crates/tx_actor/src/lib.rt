@@ -7,6 +7,8 @@
 mod actor;
 mod answers;
 mod asks;
+mod asks_at;
+mod asks_calls;
 mod blocks;
 mod calls;
 mod copies;
