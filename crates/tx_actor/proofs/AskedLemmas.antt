@@ -1,5 +1,5 @@
--- A request, by where its actor's request stands. A request on words, a commit or an abort leaves the actor's shadow and its copies; what is
--- refused leaves the world; a call on a collection is as its own method says.
+-- A request, by where its actor's request stands. A request on words, a commit or an abort leaves the actor's shadow and its copies;
+-- what is refused leaves the world; a call on a collection is as its own method says.
 use Rattle.std.proofs.Common.{◌≡◌, ℕ, cond, refl, sym, ap, subst, ◌∙◌}
 use Rattle.std.specs.Prelude.{OnErr, Result, Ok, Err}
 use Rattle.seq_model.specs.declared.call.Op.{Op}
@@ -101,7 +101,8 @@ module _ {V : Type 0} where
       let e : ask_at w a (seat_of r) (stage_of r.stage) q ≡ ask_open w a (seat_of r) q =
       ap (λ (st : Stage V). ask_at w a (seat_of r) (stage_of st) q) is in
       let both = own is in
-      let now = subst (λ (z : After V). Runs a u z.0 × (notice_of a t ≡ z.1) × OwnsCopies u z.0 a) (sym e) (asks a w laid s both.0 both.1) in
+      let now = subst (λ (z : After V). Runs a u z.0 × (notice_of a t ≡ z.1) × OwnsCopies u z.0 a) (sym e) (asks a w laid s both.0 both.1)
+      in
       (now.0, now.1, λ rests. now.2)
 
   pub asked_else : (v : BlocksView) (r : TxActor V) (q : Request V) → (r.stage ≡ stage.Idle → ⊥) → (r.stage ≡ stage.Open → ⊥)

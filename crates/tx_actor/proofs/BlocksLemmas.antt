@@ -132,7 +132,8 @@ map_more [] p = refl
 map_more (q ∷ qs) p = ap (λ (bs : List Block). block_of q ∷ bs) (map_more qs p)
 
 -- ---- the block of a collection
-pub block_at : (ps : List Placed) (i : ℕ) (d : Placed) → i < length ps → contents.block_of (map block_of ps) i ≡ Some (block_of (get_or ps i d))
+pub block_at : (ps : List Placed) (i : ℕ) (d : Placed) → i < length ps
+    → contents.block_of (map block_of ps) i ≡ Some (block_of (get_or ps i d))
 block_at [] i d lt = absurd (omega arith)
 block_at (p ∷ ps) zero d lt = refl
 block_at (p ∷ ps) (suc i) d lt = block_at ps i d (omega arith)

@@ -66,7 +66,8 @@ written_same c f editions [] y known = refl
 written_same c f editions (l ∷ ls) y known =
     let e : editions (f + l) ≡ known_edition c l = known l (head_in l ls) in
     ap (λ v. written (ask y y.place (word.AskWrite (f + l) (v + 1))) editions (shifted f ls)) e
-    ∙ written_same c f editions ls (ask y y.place (word.AskWrite (f + l) (known_edition c l + 1))) (λ i there. known i (tail_in l i ls there))
+    ∙ written_same c f editions ls (ask y y.place (word.AskWrite (f + l) (known_edition c l + 1)))
+    (λ i there. known i (tail_in l i ls there))
 
 module _ {V : Type 0} where
   some_piece : (w : World V) (a k : ℕ) (c : Copied V) (op : Op V) → IsOwn w a k (Some c) → is_known (block_of w.blocks k) op ≡ true
@@ -168,7 +169,8 @@ module _ {V : Type 0} where
         }
 
     -- what the world makes of the call
-    pub held_comes : Held → (u : Actor) (x : Seat V) (call : running.Answered V) (es : Entries) → actor_of w a ≡ words.actor_of u → x ≡ seat_of r
+    pub held_comes : Held → (u : Actor) (x : Seat V) (call : running.Answered V) (es : Entries) → actor_of w a ≡ words.actor_of u
+        → x ≡ seat_of r
         → x.copied k (piece_at w.blocks (call_on k op)) ≡ true
         → asked_of call.asked ≡ call_on k op → call.outcome ≡ Some o → es ≡ with_known c f (reads_in c o)
         → has_room (words.actor_of u) (shifted f (reads_in c o)) (shifted f (writes_in c o)) ≡ true
@@ -184,7 +186,8 @@ module _ {V : Type 0} where
         ap (λ q. has_room q (shifted f (reads_in c o)) (shifted f (writes_in c o))) s ∙ room in
         (λ i. comes_to w a x (all i) (left_after (reads i) (left i)) (judged (reads i) (left i)))
         ∙ (sym (cond-true (has_room y (shifted f (reads_in c o)) (shifted f (writes_in c o)))
-        (comes_to w a x (answered_on k op o) (left_after y.reads kn) (judged y.reads kn)) (seated w a (at_stage x Open), Refused a refusal.TooLong) fit)
+        (comes_to w a x (answered_on k op o) (left_after y.reads kn) (judged y.reads kn))
+        (seated w a (at_stage x Open), Refused a refusal.TooLong) fit)
         ∙ (sym (answers_held w a x k h.own.0 f c op o own h.holds h.answer has)
         ∙ ap (λ z. calls_on w a z (call_on k op)) seat))
 
@@ -197,7 +200,8 @@ module _ {V : Type 0} where
         let y = actor_of w a in
         let fit : has_room y (shifted f (reads_in c o)) (shifted f (writes_in c o)) ≡ false =
         ap (λ q. has_room q (shifted f (reads_in c o)) (shifted f (writes_in c o))) s ∙ room in
-        sym (cond-false (has_room y (shifted f (reads_in c o)) (shifted f (writes_in c o))) _ (seated w a (at_stage x Open), Refused a refusal.TooLong) fit)
+        sym (cond-false (has_room y (shifted f (reads_in c o)) (shifted f (writes_in c o))) _
+        (seated w a (at_stage x Open), Refused a refusal.TooLong) fit)
         ∙ (sym (answers_held w a x k h.own.0 f c op o own h.holds h.answer has)
         ∙ ap (λ z. calls_on w a z (call_on k op)) seat)
 
@@ -253,7 +257,8 @@ module _ {V : Type 0} where
       let same : (d : CopyOf V) → slice_get r.copies.items i ≡ Some d → c ≡ d = λ d at. some_copy c d (sym h.at ∙ at) in
       let some : 0 < stripes_of (base_in c.copied) = subst (λ n. 0 < n) (sym b.stripes) b.some in
       let places : size b.block ≡ places_in c.copied =
-      (λ j. size (record { kind = sym b.kind j; stripes = sym b.stripes j })) ∙ sized (stripes_of (base_in c.copied)) (shown_of (base_in c.copied)) in
+      (λ j. size (record { kind = sym b.kind j; stripes = sym b.stripes j }))
+      ∙ sized (stripes_of (base_in c.copied)) (shown_of (base_in c.copied)) in
       let below = within b.block b.there in
       let range : f + places_in c.copied ≤ 2 ^ 32 = omega (arith, below, places) in
       record {

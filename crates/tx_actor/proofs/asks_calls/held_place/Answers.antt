@@ -22,4 +22,5 @@ returns-else-holds g c =
     let here = c.index-copies-place.result in
     let at = subst (λ (o : Option ℕ). IsPlaceOf cs c.args.collection o) c.in-Some.is c.place_of.ensures in
     not_held_at cs i c.args.collection c.args.op.now here at (slice_get_read cs (length cs) i here refl at.0 c.index-copies-place.is)
-    (ap (λ (z : CopyOf g.row.V.Denot). holds_call z.copied c.args.op.now) c.index-copies-place.is ∙ (sym c.holds.ensures ∙ c.if-holds.false))
+    (ap (λ (z : CopyOf g.row.V.Denot). holds_call z.copied c.args.op.now) c.index-copies-place.is
+    ∙ (sym c.holds.ensures ∙ c.if-holds.false))

@@ -21,7 +21,8 @@ returns-in_ok-asks_to_read-in-Read-clause-ok g c =
     let k = c.args.call.target in
     let t = c.in_ok-asks_to_read-in-Read.field-0 in
     subst (λ (op : Op g.row.V.Denot). AsksOwn v r u t (λ a w. ask_op w a (seat_of r) k op)) (sym c.in-Read.is)
-    (own_still v r u t (λ a w. ask_op w a (seat_of r) k Read) c.in_ok-asks_to_read-in-Read.ensures.copies (λ a w. read_same a w (seat_of r) k)
+    (own_still v r u t (λ a w. ask_op w a (seat_of r) k Read) c.in_ok-asks_to_read-in-Read.ensures.copies
+    (λ a w. read_same a w (seat_of r) k)
     c.in_ok-asks_to_read-in-Read.ensures.ok)
 
 pub returns-in_ok-asks_to_write-in-Write-clause-ok : goal.returns-in_ok-asks_to_write-in-Write-clause-ok
@@ -38,5 +39,6 @@ returns-in_ok-asks_to_write-in-Write-clause-ok g c =
 
 pub returns-in_ok-asks_to_call-in_default-clause-ok : goal.returns-in_ok-asks_to_call-in_default-clause-ok
 returns-in_ok-asks_to_call-in_default-clause-ok g c =
-    call_as c.args.blocks.now c.args.self.now c.asks_to_call.new.self c.in_ok-asks_to_call-in_default.field-0 c.args.call.target c.args.call.op
+    call_as c.args.blocks.now c.args.self.now c.asks_to_call.new.self c.in_ok-asks_to_call-in_default.field-0 c.args.call.target
+    c.args.call.op
     c.in_default.not-Read c.in_default.not-Write c.in_ok-asks_to_call-in_default.ensures.ok

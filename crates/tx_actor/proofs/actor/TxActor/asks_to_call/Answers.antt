@@ -37,6 +37,7 @@ returns-clause-ok g c =
     let op = c.args.op in
     let few : ltb (length r.calls.items) CALL_LIMIT ≡ true =
     is_below (length r.calls.items) CALL_LIMIT (omega (arith, c.len.ensures, c.if-len-ge-CALL_LIMIT.false)) in
-    asked_as v r c.calls_on.new.self c.in_ok-told.told (λ a w. calls_on w a (seat_of r) (call_on k op)) (λ a w. ask_call w a (seat_of r) k op)
+    asked_as v r c.calls_on.new.self c.in_ok-told.told (λ a w. calls_on w a (seat_of r) (call_on k op))
+    (λ a w. ask_call w a (seat_of r) k op)
     (λ a w laid s. asks_allowed v w a r k op laid s (sym c.is_allowed.ensures.allowed ∙ c.if-not-is_allowed.false) few)
     c.in_ok-told.ensures.ok

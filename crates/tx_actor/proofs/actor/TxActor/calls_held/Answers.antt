@@ -7,7 +7,8 @@ use Rattle.tx_actor.proofs.actor.TxActor.calls_held.Goals as goal
 
 pub prepares-requires : goal.prepares-requires
 prepares-requires g c =
-    may_prepare c.args.blocks.now c.args.self.now c.args.place c.first_of-first.result c.args.collection c.args.op c.requires.held c.requires.can
+    may_prepare c.args.blocks.now c.args.self.now c.args.place c.first_of-first.result c.args.collection c.args.op c.requires.held
+    c.requires.can
     c.requires.may c.first_of-first.ensures.within
 
 pub returns-in-Some-clause-ok : goal.returns-in-Some-clause-ok
@@ -20,7 +21,8 @@ returns-in-Some-clause-ok g c =
     let ready = subst (λ (o : Option (Prepared g.row.V.Denot)). ArePrepared r u c.args.place f c.args.op h.copy o) c.in-Some.is
     (c.in_ok-prepared.ensures.ok h.copy h.at) in
     held_goes_on c.args.blocks.now r u c.goes_on.new.self c.goes_on.result c.args.place f c.args.collection c.args.op h p
-    (ap is_recorded c.requires.can.stage) c.first_of-first.ensures.first c.requires.known c.requires.may c.in_ok-prepared.ensures.alike ready c.goes_on.ensures.does
+    (ap is_recorded c.requires.can.stage) c.first_of-first.ensures.first c.requires.known c.requires.may c.in_ok-prepared.ensures.alike
+    ready c.goes_on.ensures.does
     c.goes_on.ensures.copies
 
 pub returns-in-None-clause-ok : goal.returns-in-None-clause-ok
@@ -31,5 +33,6 @@ returns-in-None-clause-ok g c =
     let f = c.first_of-first.result in
     let none = subst (λ (o : Option (Prepared g.row.V.Denot)). ArePrepared r u c.args.place f c.args.op h.copy o) c.in-None.is
     (c.in_ok-prepared.ensures.ok h.copy h.at) in
-    held_is_too_long c.args.blocks.now r u c.args.place f c.args.collection c.args.op h (ap is_recorded c.requires.can.stage) c.first_of-first.ensures.first c.requires.known
+    held_is_too_long c.args.blocks.now r u c.args.place f c.args.collection c.args.op h (ap is_recorded c.requires.can.stage)
+    c.first_of-first.ensures.first c.requires.known
     c.requires.may c.in_ok-prepared.ensures.alike none
