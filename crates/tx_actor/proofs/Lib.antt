@@ -29,3 +29,4 @@ mod LoadLemmas
 mod LoadingLemmas
 mod HearLemmas
 mod SeatedLemmas
+mod FirstLemmas

@@ -19,3 +19,4 @@ pub mod Loads
 pub mod Calls
 pub mod Loading
 pub mod Seated
+pub mod First

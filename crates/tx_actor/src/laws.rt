@@ -25,6 +25,7 @@ ghost use Rattle.seq_model.specs.declared.held.Held.{Held};
 ghost use Rattle.replay_log.specs.Worlds.{Open, World, opened, run};
 ghost use Rattle.tx_actor.specs.Dispatch.{AreSteps, MayGoOn};
 ghost use Rattle.tx_actor.specs.Guarded.{committed_at};
+ghost use Rattle.tx_actor.specs.First.{FirstCopies};
 ghost use Rattle.tx_actor.specs.Judged.{IsJudged};
 ghost use Rattle.tx_actor.specs.Loading.{KeepsCall, LoadsReached, MayHear};
 ghost use Rattle.tx_actor.specs.Seated.{SeatsActors};
@@ -93,6 +94,11 @@ pub fn loads_as_worlds<V: Value>()
 /// makes of the actor's own, which it is but for the outcome of a call whose locations are read.
 pub fn seats_as_actors<V>()
     ensures { SeatsActors V }
+{}
+
+/// The first copy of what was found of a base is of what the base shows.
+pub fn first_copies<V: Value>()
+    ensures { FirstCopies V }
 {}
 
 /// At the store of a call's gate its actor's shadow gets the parts that the call touches, but for those that have been read.
