@@ -11,7 +11,7 @@ use Rattle.tx_actor.specs.Blocks.{AreEnds, block_of, home_in}
 pub is_below : (m n : ℕ) → m < n → ltb m n ≡ true
 is_below m n h = grind (arith, nat_tests)
 
-is_not_below : (m n : ℕ) → n ≤ m → ltb m n ≡ false
+pub is_not_below : (m n : ℕ) → n ≤ m → ltb m n ≡ false
 is_not_below m n h = grind (arith, nat_tests)
 
 is_up_to : (m n : ℕ) → m ≤ n → leb m n ≡ true
@@ -132,7 +132,8 @@ map_more [] p = refl
 map_more (q ∷ qs) p = ap (λ (bs : List Block). block_of q ∷ bs) (map_more qs p)
 
 -- ---- the block of a collection
-pub block_at : (ps : List Placed) (i : ℕ) (d : Placed) → i < length ps → contents.block_of (map block_of ps) i ≡ Some (block_of (get_or ps i d))
+pub block_at : (ps : List Placed) (i : ℕ) (d : Placed) → i < length ps
+    → contents.block_of (map block_of ps) i ≡ Some (block_of (get_or ps i d))
 block_at [] i d lt = absurd (omega arith)
 block_at (p ∷ ps) zero d lt = refl
 block_at (p ∷ ps) (suc i) d lt = block_at ps i d (omega arith)

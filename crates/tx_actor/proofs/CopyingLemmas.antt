@@ -37,7 +37,7 @@ both false q e f = absurd (true≢false (sym e))
 both true true e f = absurd (true≢false f)
 
 module _ {V : Type 0} where
-  after_none : (s : Shown V) → after [] s ≡ s
+  pub after_none : (s : Shown V) → after [] s ≡ s
   after_none (OfMap m) = refl
   after_none (OfBag m) = refl
   after_none (OfPq m) = refl

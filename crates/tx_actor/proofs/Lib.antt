@@ -15,6 +15,9 @@ mod OutcomeLemmas
 mod OwnsLemmas
 mod PreparesLemmas
 mod CallingLemmas
+mod CallsLemmas
+mod OwnAsksLemmas
+mod AskedLemmas
 mod KeepingLemmas
 mod BlocksLemmas
 mod HomesLemmas
@@ -23,3 +26,7 @@ mod AskLemmas
 mod GuardedLemmas
 mod LogLemmas
 mod LoadLemmas
+mod LoadingLemmas
+mod HearLemmas
+mod SeatedLemmas
+mod FirstLemmas

@@ -46,7 +46,7 @@ differ i j other true is = absurd (other (eqb-true i j is))
 differ i j other false is = is
 
 module _ {V : Type 0} where
-  comes_at : (w : World V) (a : ℕ) (x : Seat V) (s : worlds.Stage V) (o : contents.Answered V) (left : Entries) (j : Judged)
+  pub comes_at : (w : World V) (a : ℕ) (x : Seat V) (s : worlds.Stage V) (o : contents.Answered V) (left : Entries) (j : Judged)
       → comes_to w a (at_stage x s) o left j ≡ comes_to w a x o left j
   comes_at w a x s o left All = refl
   comes_at w a x s o left (Next l) = refl

@@ -45,7 +45,8 @@ module _ {V : Type 0} where
   none_some : (c : Copied V) → None ≡ Some c → ⊥
   none_some c e = cc
 
-  pub copy_at : (cs : List (CopyOf V)) (i : ℕ) (c : CopyOf V) → AreOnce cs → slice_get cs i ≡ Some c → copy_of cs c.collection ≡ Some c.copied
+  pub copy_at : (cs : List (CopyOf V)) (i : ℕ) (c : CopyOf V) → AreOnce cs → slice_get cs i ≡ Some c
+      → copy_of cs c.collection ≡ Some c.copied
   copy_at [] i c once at = let h : ⊥ = cc in absurd h
   copy_at (d ∷ cs) zero c once at =
       let e : d ≡ c = cc in
@@ -118,7 +119,8 @@ module _ {V : Type 0} where
   }
 
   -- an actor that has begun
-  pub owns_nothing : (r : TxActor V) (w : World V) (a : ℕ) → r.copies.items ≡ [] → HaveStripes w.blocks → (w.boosted.shadows a).outcomes ≡ []
+  pub owns_nothing : (r : TxActor V) (w : World V) (a : ℕ) → r.copies.items ≡ [] → HaveStripes w.blocks
+      → (w.boosted.shadows a).outcomes ≡ []
       → ((k : ℕ) (b : Block) → block_of w.blocks k ≡ Some b
       → (s : Shown V) × ShowParts b (first_of w.words w.blocks k) (w.boosted.shadows a).parts s)
       → OwnsCopies r w a
@@ -155,7 +157,8 @@ module _ {V : Type 0} where
   of_blocks v r w a laid is k c e = own_block v w a k (copy_of r.copies.items k) c laid e (is.own k)
 
   -- ---- an acceptance
-  same_holds : (o : Outcome V) (c d : Copied V) (op : Op V) → holds_call c o.op ≡ true → IsAccepted o c d → holds_call d op ≡ holds_call c op
+  same_holds : (o : Outcome V) (c d : Copied V) (op : Op V) → holds_call c o.op ≡ true → IsAccepted o c d
+      → holds_call d op ≡ holds_call c op
   same_holds o (Keys m es) (Keys n fs) op held acc =
       (λ j. holds_with (shown_of (acc.0 j)) (acc.1 j) (acc.2 j) (acc.3 j) op)
       ∙ copy_holds o (shown_of m.blank) m.entries m.copies m.total op held

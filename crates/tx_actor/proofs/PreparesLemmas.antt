@@ -41,7 +41,8 @@ use Rattle.tx_actor.proofs.OutcomeLemmas.{answered_op, writes_nothing}
 next_locations : {V : Type 0} → (c : Copied V) (f : ℕ) (ls : List ℕ) → locations (with_next c f ls) ≡ shifted f ls
 unfolding locations
 next_locations c f [] = refl
-next_locations c f (l ∷ ls) = locations-cons (f + l, known_edition c l + 1) (with_next c f ls) ∙ ap (λ is. (f + l) ∷ is) (next_locations c f ls)
+next_locations c f (l ∷ ls) = locations-cons (f + l, known_edition c l + 1) (with_next c f ls)
+    ∙ ap (λ is. (f + l) ∷ is) (next_locations c f ls)
 
 nothing_new : (es : Entries) → new_in es (locations []) ≡ []
 unfolding locations
@@ -190,7 +191,8 @@ module _ {V : Type 0} where
   kept_editions (Keys m es) (Whole t) i h = absurd h
   kept_editions (Whole s) (Keys n fs) i h = absurd h
 
-  kept_of : (b : Block) (s : Shown V) (xs : List (Change V)) (ls : List ℕ) (c d : Copied V) → IsKept c d → IsOf b s xs ls c → IsOf b s xs ls d
+  kept_of : (b : Block) (s : Shown V) (xs : List (Change V)) (ls : List ℕ) (c d : Copied V) → IsKept c d → IsOf b s xs ls c
+      → IsOf b s xs ls d
   kept_of b s xs ls (Keys m es) (Keys n fs) h is = (
     ap (λ z. kind_of (shown_of z)) h.0 ∙ is.0,
     ap stripes_of h.0 ∙ is.1,
@@ -246,7 +248,8 @@ module _ {V : Type 0} where
   pub alike_owns : (r u : TxActor V) (w : World V) (a : ℕ) → IsAlike r u → OwnsCopies r w a → OwnsCopies u w a
   alike_owns r u w a h is = record {
     stripes = is.stripes;
-    own = λ k. kept_own w a k (copy_of r.copies.items k) (copy_of u.copies.items k) (kept_copy r.copies.items u.copies.items k h.copies) (is.own k);
+    own = λ k. kept_own w a k (copy_of r.copies.items k) (copy_of u.copies.items k) (kept_copy r.copies.items u.copies.items k h.copies)
+        (is.own k);
     once = kept_once r.copies.items u.copies.items h.copies is.once;
   }
 
@@ -280,7 +283,8 @@ module _ {V : Type 0} where
       let none : r.words.declared ≡ true → ds ≡ [] = λ d.
       is ∙ ap (with_next c f) (writes_nothing _ o _
       (ap is_change (answered_op c op o answer) ∙ no_change r.words.declared (is_change op) may.may d)) in
-      let small : (b : Bool) → r.words.declared ≡ b → length u.words.writes.entries + length (new_in u.words.writes.entries (locations ds)) ≤ 4096 =
+      let small : (b : Bool) → r.words.declared ≡ b → length u.words.writes.entries + length (new_in u.words.writes.entries (locations ds))
+      ≤ 4096 =
       λ b. elim b as (λ q. r.words.declared ≡ q →
       length u.words.writes.entries + length (new_in u.words.writes.entries (locations ds)) ≤ 4096) [
         | true ↦ λ d. subst (λ (es : Entries). length u.words.writes.entries + length (new_in u.words.writes.entries (locations es)) ≤ 4096)
@@ -310,7 +314,8 @@ module _ {V : Type 0} where
   prepared_by r u i f op c o call n alike may room at answer fit writes is place collection same kept told =
       let reply : o.reply ≡ reply_of (answered_of call) =
       sym (ap (λ q. reply_of (let p : Outcomes V = record { asked = asked_of call.asked; outcome = q } in p)) is) in
-      let here : (d : CopyOf V) → slice_get u.copies.items call.place ≡ Some d → (d.collection ≡ c.collection) × IsKept c.copied d.copied = λ d there. (
+      let here : (d : CopyOf V) → slice_get u.copies.items call.place ≡ Some d
+      → (d.collection ≡ c.collection) × IsKept c.copied d.copied = λ d there. (
       let before = kept_at r.copies.items u.copies.items i d alike.copies (ap (slice_get u.copies.items) (sym place) ∙ there) in
       let e : before.0 ≡ c = some_copy before.0 c (sym before.1 ∙ at) in
       (before.2 ∙ ap (λ (z : CopyOf V). z.collection) e, subst (λ (z : CopyOf V). IsKept z.copied d.copied) e before.3)) in

@@ -82,6 +82,14 @@ module _ {V : Type 0} where
       go true = (refl, refl, refl)
       go false = (refl, refl, refl)
 
+  pub seat_stage : (x : Seat V) (r : TxActor V) → (seat_at x r).stage ≡ stage_in x.stage r.stage
+  seat_stage x r = go (is_recorded r.stage)
+    where
+      go : (b : Bool) → (cond b (record (seat_in x.stage r) { calls = x.calls; copied = x.copied }) (seat_in x.stage r)).stage
+          ≡ stage_in x.stage r.stage
+      go true = refl
+      go false = refl
+
   pub cancels_as : (a : ℕ) (z p : Seat V) (y q : Actor) (K : Type 0) (w : World V) → K → q ≡ cancelled y → p ≡ ending z q
       → actor_of w a ≡ y → Seats a p q K (cancels w a z)
   cancels_as a z p y q K w k e pe s =

@@ -13,6 +13,7 @@ use Rattle.tx_sets.specs.Entries.{Entries, lookup}
 use Rattle.word_machine.specs.Actor.{Open as AtRest}
 use Rattle.step_core.specs.Shown as words
 use Rattle.step_core.specs.declared.actor.Actor.{Actor}
+use Rattle.tx_actor.specs.declared.judged.Judged.{Judged}
 use Rattle.tx_actor.specs.declared.judged.Judged.TheVariants.{All, Next}
 use Rattle.tx_actor.specs.Judged.{judged}
 use Rattle.tx_actor.specs.Accepts.{written}
@@ -26,6 +27,11 @@ IsAcceptedAt {V} i None before now = now ≡ before
 IsAcceptedAt {V} i (Some o) before now =
     (c d : CopyOf V) × (slice_get before i ≡ Some c) × (d.collection ≡ c.collection) × IsAccepted o c.copied d.copied
     × (holds_call c.copied o.op ≡ true) × (now ≡ slice_set before i d)
+
+-- What judging a call's locations leaves of the copies: its outcome joins its copy where the call is accepted, and else all stand.
+abbrev pub CopiesAfter : {V : Type 0} → Judged → running.Answered V → (before now : List (CopyOf V)) → Type 0
+CopiesAfter {V} All o before now = IsAcceptedAt o.place o.outcome before now
+CopiesAfter {V} j o before now = now ≡ before
 
 -- All that accepting the call takes is there: room for its writes and for its entry among the calls, and in the copy at its place its
 -- outcome is ready, which is what that copy of its collection answers.

@@ -16,3 +16,7 @@ pub mod Owns
 pub mod Prepares
 pub mod Logs
 pub mod Loads
+pub mod Calls
+pub mod Loading
+pub mod Seated
+pub mod First

@@ -85,3 +85,13 @@ pub record IsHeldAt {V : Type 0} (cs : List (CopyOf V)) (i k : ℕ) (op : Op V) 
   pub of : copy_of cs k ≡ Some copy.copied
   pub collection : copy.collection ≡ k
   pub holds : holds_call copy.copied op ≡ true
+
+-- whether what there is of a collection has what the call touches; where there is nothing, it has not
+abbrev pub holds_of : {V : Type 0} → Option (Copied V) → Op V → Bool
+holds_of {V} None op = false
+holds_of {V} (Some c) op = holds_call c op
+
+-- where the copy of collection k stands that holds the call; none, if there is no such
+abbrev pub IsHeldPlace : {V : Type 0} → List (CopyOf V) → ℕ → Op V → Option ℕ → Type 0
+IsHeldPlace {V} cs k op None = holds_of (copy_of cs k) op ≡ false
+IsHeldPlace {V} cs k op (Some i) = IsHeldAt cs i k op

@@ -3,7 +3,7 @@ ghost use Rattle.std.specs.Prelude.{◌≡◌, ◌<◌, ℕ, [], Option, Some, l
 ghost use Rattle.replay_log.specs.Worlds as worlds;
 ghost use Rattle.replay_log.specs.Worlds.{World};
 ghost use Rattle.step_core.specs.Shown.{actor_of};
-ghost use Rattle.tx_actor.specs.Answers.{IsAcceptedAt, IsPrepared, MayAccept, MayAnswer};
+ghost use Rattle.tx_actor.specs.Answers.{CopiesAfter, IsAcceptedAt, IsPrepared, MayAccept, MayAnswer};
 ghost use Rattle.conflict.specs.declared.outcome.Outcome.{Outcome};
 ghost use Rattle.tx_actor.specs.declared.actor.CopyOf.{CopyOf};
 ghost use Rattle.tx_actor.specs.Copies.{IsReady, holds_call};
@@ -36,9 +36,10 @@ impl<V: Value> TxActor<V> {
     /// A call is accepted, for which all is prepared: its writes are asked, and its outcome joins what there is of its collection.
     fn accepts(&mut self, call: Answered<V>) -> Told<V>
         requires prepared { IsPrepared self.old call }
-        ensures { (a : ℕ) (w : World V) → worlds.actor_of w a ≡ actor_of self.old.words → MayAccept w a call →
+        ensures does { (a : ℕ) (w : World V) → worlds.actor_of w a ≡ actor_of self.old.words → MayAccept w a call →
             let f = comes_to w a (seat_of self.old) (answered_of call) [] All in
             Runs a self.new f.0 × (notice_of a result ≡ f.1) }
+        ensures copies { IsAcceptedAt call.place call.outcome self.old.copies.items self.new.copies.items }
     {
         let Answered {
             asked,
@@ -63,11 +64,12 @@ impl<V: Value> TxActor<V> {
     /// editions it is accepted; the first that the set does not have is read next; one that it has with another edition is stale.
     pub(crate) fn goes_on(&mut self, call: Answered<V>, left: VecDeque<(u32, u64)>) -> Told<V>
         requires prepared { IsPrepared self.old call }
-        ensures { (a : ℕ) (w : World V) (x : Option (Outcome V)) → worlds.actor_of w a ≡ actor_of self.old.words →
+        ensures does { (a : ℕ) (w : World V) (x : Option (Outcome V)) → worlds.actor_of w a ≡ actor_of self.old.words →
             MayAnswer w a self.old.words x call left.items →
             let reads = self.old.words.reads.entries in
             let f = comes_to w a (seat_of self.old) (with_outcome call x) (left_after reads left.items) (judged reads left.items) in
             Runs a self.new f.0 × (notice_of a result ≡ f.1) }
+        ensures copies { CopiesAfter (judged self.old.words.reads.entries left.items) call self.old.copies.items self.new.copies.items }
     {
         let mut left = left;
         match judge(&self.words.reads, &mut left) {

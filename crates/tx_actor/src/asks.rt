@@ -26,6 +26,7 @@ impl<V: Drop> TxActor<V> {
         ensures ok { IfOk result (λ told. Asks blocks.now self.old self.new told (λ a w. ask_op w a (seat_of self.old) word op.Read)) }
         ensures err { OnErr result (Stands self.old self.new) }
         ensures keeps { HasNoReads self.old.words → KeepsIn blocks.now self.old self.new }
+        ensures copies { self.new.copies ≡ self.old.copies }
     {
         if word >= blocks.words() {
             return Ok(Told::Refused(Refusal::NoSuch));
@@ -57,6 +58,7 @@ impl<V: Drop> TxActor<V> {
         ensures ok { IfOk result (λ told. Asks blocks.now self.old self.new told (λ a w. ask_op w a (seat_of self.old) word (op.Write value))) }
         ensures err { OnErr result (Stands self.old self.new) }
         ensures keeps { KeepsIn blocks.now self.old self.new }
+        ensures copies { self.new.copies ≡ self.old.copies }
     {
         if word >= blocks.words() {
             return Ok(Told::Refused(Refusal::NoSuch));
@@ -86,6 +88,7 @@ impl<V: Drop> TxActor<V> {
         ensures ok { IfOk result (λ told. Asks blocks.now self.old self.new told (λ a w. commits w a (seat_of self.old) (worlds.actor_of w a).writes)) }
         ensures err { OnErr result (Stands self.old self.new) }
         ensures keeps { KeepsIn blocks.now self.old self.new }
+        ensures copies { self.new.copies ≡ self.old.copies }
     {
         if self.words.writes.len() == 0 {
             close_words(&mut self.words, blocks.end() as usize)?;
@@ -112,6 +115,7 @@ impl<V: Drop> TxActor<V> {
     pub fn asks_to_abort(&mut self) -> Told<V>
         ensures does { Does self.old self.new result (λ a w. (worlds.cancels w a (record (seat_of self.old) { cause = None }), Quiet)) }
         ensures keeps { (v : BlocksView) → KeepsIn v self.old self.new }
+        ensures copies { self.new.copies ≡ self.old.copies }
     {
         self.cause = None;
         self.cancels()

@@ -25,7 +25,10 @@ ghost use Rattle.seq_model.specs.declared.held.Held.{Held};
 ghost use Rattle.replay_log.specs.Worlds.{Open, World, opened, run};
 ghost use Rattle.tx_actor.specs.Dispatch.{AreSteps, MayGoOn};
 ghost use Rattle.tx_actor.specs.Guarded.{committed_at};
+ghost use Rattle.tx_actor.specs.First.{FirstCopies};
 ghost use Rattle.tx_actor.specs.Judged.{IsJudged};
+ghost use Rattle.tx_actor.specs.Loading.{KeepsCall, LoadsReached, MayHear};
+ghost use Rattle.tx_actor.specs.Seated.{SeatsActors};
 ghost use Rattle.tx_actor.specs.Shows.{GivesUp, AsksStores, CopiesForCall, ReadsNext};
 ghost use Rattle.tx_actor.specs.Keeps.{AnswersHeld, IsOwnCopy};
 ghost use Rattle.tx_actor.specs.declared.actor.CopyOf.{CopyOf};
@@ -75,6 +78,27 @@ pub fn goes_on_as_worlds<V: Value>()
         HaveStripes blocks →
         let w = run (opened blocks clock values held) events in
         MayGoOn a (committed_at w a (w.seats a).stage) (w.seats a).stage }
+{}
+
+/// Wherever events have led: where the load of a call's last location told the copied edition, the acceptance is allowed, and the world's
+/// outcome is the one of its stage; where another location is to be read next, no set has it. So the load may be heard by an actor whose
+/// call stands on its own copy, or has a location that was read with another edition before, and is then not accepted; what is left to be
+/// judged stands on that copy too.
+pub fn loads_as_worlds<V: Value>()
+    ensures reached { LoadsReached V }
+    ensures heard { MayHear V }
+    ensures kept { KeepsCall V }
+{}
+
+/// In a world that shows an actor its seat does next what the actor does, and a want of memory, or what a load told, makes of it what it
+/// makes of the actor's own, which it is but for the outcome of a call whose locations are read.
+pub fn seats_as_actors<V>()
+    ensures { SeatsActors V }
+{}
+
+/// The first copy of what was found of a base is of what the base shows.
+pub fn first_copies<V: Value>()
+    ensures { FirstCopies V }
 {}
 
 /// At the store of a call's gate its actor's shadow gets the parts that the call touches, but for those that have been read.

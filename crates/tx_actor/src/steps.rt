@@ -186,6 +186,7 @@ impl<V: Drop> TxActor<V> {
         requires room { vec_len self.old.calls < vec_capacity self.old.calls }
         ensures does { Reseats self.old self.new result (λ a w. has_read w a (seat_of self.old) location (notice.Number value)) }
         ensures keeps { (v : BlocksView) → KeepsIn v (at self.old Stage.Idle) self.new }
+        ensures copies { self.new.copies ≡ self.old.copies }
     {
         let call = Call {
             target: location,

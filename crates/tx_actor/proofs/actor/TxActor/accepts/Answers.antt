@@ -10,8 +10,8 @@ use Rattle.tx_actor.specs.Writes.{written_as}
 use Rattle.tx_actor.proofs.AnswerLemmas.{accepted_as, pieces_stay}
 use Rattle.tx_actor.proofs.actor.TxActor.accepts.Goals as goal
 
-pub returns : goal.returns
-returns g c a w s may =
+pub returns-clause-does : goal.returns-clause-does
+returns-clause-does g c a w s may =
     let old = c.args.self.now in
     let call = c.args.call in
     let calls = c.push_reserved.ensures.items ∙ (λ i. old.calls.items ++ (call_of (answered_of call), c.requires.prepared.kept i) ∷ []) in

@@ -1,22 +1,23 @@
-use Rattle.std.proofs.Common.{refl, sym, ◌∙◌}
+use Rattle.std.proofs.Common.{refl, subst, sym, ◌∙◌}
 use Rattle.step_core.specs.Shown.{actor_of}
 use Rattle.replay_log.specs.Worlds.{Loading, Seat, Stage, at_stage}
+use Rattle.tx_actor.specs.Answers.{CopiesAfter}
 use Rattle.tx_actor.specs.Judged.{left_after}
 use Rattle.tx_actor.specs.Running.{answered_of, outcome_in, seat_of, with_outcome}
 use Rattle.tx_actor.proofs.AnswerLemmas.{by_judged, by_outcome, reads_by}
 use Rattle.tx_actor.proofs.actor.TxActor.goes_on.Goals as goal
 
-pub returns-in-All : goal.returns-in-All
-returns-in-All g c a w x s may =
+pub returns-in-All-clause-does : goal.returns-in-All-clause-does
+returns-in-All-clause-does g c a w x s may =
     let old = c.args.self.now in
     let left = left_after old.words.reads.entries c.args.left.items in
     let all = sym c.judge.ensures.judged ∙ c.in-All.is in
     let yes = may.accepts all in
     by_outcome c.accepts.new.self c.accepts.result a w (seat_of old) (answered_of c.args.call) (with_outcome c.args.call x) left _
-    (λ i. with_outcome c.args.call (sym yes.1 i)) all (c.accepts.ensures a w s yes.0)
+    (λ i. with_outcome c.args.call (sym yes.1 i)) all (c.accepts.ensures.does a w s yes.0)
 
-pub returns-in-Next : goal.returns-in-Next
-returns-in-Next g c a w x s may =
+pub returns-in-Next-clause-does : goal.returns-in-Next-clause-does
+returns-in-Next-clause-does g c a w x s may =
     let old = c.args.self.now in
     let call = c.args.call in
     let left = left_after old.words.reads.entries c.args.left.items in
@@ -27,9 +28,24 @@ returns-in-Next g c a w x s may =
     reads_by a w (seat_of old) seat (actor_of old.words) _ o left c.in-Next.location _ _ tt (sym c.in-Next.is ∙ c.judge.ensures.judged) s
     may_read.0 may_read.1 may_read.2 refl (λ i. at_stage (seat_of old) (Loading o (c.judge.ensures.left i)))
 
-pub returns-in-Stale : goal.returns-in-Stale
-returns-in-Stale g c a w x s may =
+pub returns-in-Stale-clause-does : goal.returns-in-Stale-clause-does
+returns-in-Stale-clause-does g c a w x s may =
     let old = c.args.self.now in
     let left = left_after old.words.reads.entries c.args.left.items in
     by_judged c.gives_up.new.self c.gives_up.result a w (seat_of old) (with_outcome c.args.call x) left _ _
     (sym c.in-Stale.is ∙ c.judge.ensures.judged) (c.gives_up.ensures.does a w s)
+
+pub returns-in-All-clause-copies : goal.returns-in-All-clause-copies
+returns-in-All-clause-copies g c =
+    subst (λ j. CopiesAfter j c.args.call c.args.self.now.copies.items c.accepts.new.self.copies.items)
+    (sym c.in-All.is ∙ c.judge.ensures.judged) c.accepts.ensures.copies
+
+pub returns-in-Next-clause-copies : goal.returns-in-Next-clause-copies
+returns-in-Next-clause-copies g c =
+    let cs = c.args.self.now.copies.items in
+    subst (λ j. CopiesAfter j c.args.call cs cs) (sym c.in-Next.is ∙ c.judge.ensures.judged) refl
+
+pub returns-in-Stale-clause-copies : goal.returns-in-Stale-clause-copies
+returns-in-Stale-clause-copies g c =
+    subst (λ j. CopiesAfter j c.args.call c.args.self.now.copies.items c.gives_up.new.self.copies.items)
+    (sym c.in-Stale.is ∙ c.judge.ensures.judged) (λ i. (c.gives_up.ensures.copies i).items)

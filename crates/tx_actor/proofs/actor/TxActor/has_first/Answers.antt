@@ -13,4 +13,4 @@ pub returns : goal.returns
 returns g c =
     let left = c.args.left in
     goes_as c.args.self.now c.goes_on.new.self c.goes_on.result c.args.call left c.args.first _ c.args.edition
-    (first_rest left.items c.args.first _ c.requires.first c.pop_front.ensures.rest) c.if-copied-edition.false c.goes_on.ensures
+    (first_rest left.items c.args.first _ c.requires.first c.pop_front.ensures.rest) c.if-copied-edition.false c.goes_on.ensures.does

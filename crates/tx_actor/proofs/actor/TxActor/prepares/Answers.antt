@@ -65,6 +65,7 @@ returns-clause-ok g c copy at =
       asked = refl;
       left = c.in_ok-call.ensures.left ∙ ap (λ (z : CopyOf g.row.V.Denot). with_known z.copied f (reads_in z.copied o)) e;
       writes = writes;
-      prepared = prepared_by r u c.args.place f c.args.op copy o _ c.len.result c.make_room.ensures.alike c.requires room at answer fit writes
+      prepared = prepared_by r u c.args.place f c.args.op copy o _ c.len.result c.make_room.ensures.alike c.requires room at answer fit
+          writes
           refl refl named refl c.in_ok-kept.ensures c.in_ok-told.ensures;
     }

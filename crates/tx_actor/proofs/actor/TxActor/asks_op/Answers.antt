@@ -1,0 +1,44 @@
+use Rattle.std.proofs.Common.{sym, subst}
+use Rattle.seq_model.specs.declared.call.Op.{Op}
+use Rattle.seq_model.specs.declared.call.Op.TheVariants.{Read, Write}
+use Rattle.replay_log.specs.Worlds.{ask_op}
+use Rattle.tx_actor.specs.Calls.{AsksOwn}
+use Rattle.tx_actor.specs.Running.{seat_of}
+use Rattle.tx_actor.proofs.AskedLemmas.{alike_stands, call_as, on_err, own_still}
+use Rattle.tx_actor.proofs.OwnAsksLemmas.{read_same, write_same}
+use Rattle.tx_actor.proofs.actor.TxActor.asks_op.Goals as goal
+
+pub returns-in_err-asks_to_call-in_default-clause-err : goal.returns-in_err-asks_to_call-in_default-clause-err
+returns-in_err-asks_to_call-in_default-clause-err g c =
+    on_err c.from_residual-in_err-asks_to_call-in_default.result
+    (alike_stands c.args.self.now c.asks_to_call.new.self c.in_err-asks_to_call-in_default.ensures.err)
+
+pub returns-in_ok-asks_to_read-in-Read-clause-ok : goal.returns-in_ok-asks_to_read-in-Read-clause-ok
+returns-in_ok-asks_to_read-in-Read-clause-ok g c =
+    let r = c.args.self.now in
+    let u = c.asks_to_read.new.self in
+    let v = c.args.blocks.now in
+    let k = c.args.call.target in
+    let t = c.in_ok-asks_to_read-in-Read.field-0 in
+    subst (λ (op : Op g.row.V.Denot). AsksOwn v r u t (λ a w. ask_op w a (seat_of r) k op)) (sym c.in-Read.is)
+    (own_still v r u t (λ a w. ask_op w a (seat_of r) k Read) c.in_ok-asks_to_read-in-Read.ensures.copies
+    (λ a w. read_same a w (seat_of r) k)
+    c.in_ok-asks_to_read-in-Read.ensures.ok)
+
+pub returns-in_ok-asks_to_write-in-Write-clause-ok : goal.returns-in_ok-asks_to_write-in-Write-clause-ok
+returns-in_ok-asks_to_write-in-Write-clause-ok g c =
+    let r = c.args.self.now in
+    let u = c.asks_to_write.new.self in
+    let v = c.args.blocks.now in
+    let k = c.args.call.target in
+    let n = c.in-Write.value in
+    let t = c.in_ok-asks_to_write-in-Write.field-0 in
+    subst (λ (op : Op g.row.V.Denot). AsksOwn v r u t (λ a w. ask_op w a (seat_of r) k op)) (sym c.in-Write.is)
+    (own_still v r u t (λ a w. ask_op w a (seat_of r) k (Write n)) c.in_ok-asks_to_write-in-Write.ensures.copies
+    (λ a w. write_same a w (seat_of r) k n) c.in_ok-asks_to_write-in-Write.ensures.ok)
+
+pub returns-in_ok-asks_to_call-in_default-clause-ok : goal.returns-in_ok-asks_to_call-in_default-clause-ok
+returns-in_ok-asks_to_call-in_default-clause-ok g c =
+    call_as c.args.blocks.now c.args.self.now c.asks_to_call.new.self c.in_ok-asks_to_call-in_default.field-0 c.args.call.target
+    c.args.call.op
+    c.in_default.not-Read c.in_default.not-Write c.in_ok-asks_to_call-in_default.ensures.ok

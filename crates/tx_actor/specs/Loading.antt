@@ -1,0 +1,111 @@
+-- A call whose locations are read, in a world that events have reached: where its last location is read with the copied edition, it may be
+-- accepted, with the outcome that its actor's own copy answers.
+use Rattle.std.specs.Prelude.{◌≡◌, ◌≢◌, ◌⊎◌, ℕ, true, List, [], ◌∷◌, None, Some}
+use Rattle.tx_sets.specs.Entries.{Entries, lookup}
+use Rattle.word_machine.specs.Actor.{Call, Open as AtRest}
+use Rattle.word_machine.specs.Notices as notice
+use Rattle.word_machine.specs.Opacity.{first_read}
+use Rattle.seq_model.specs.declared.event.Event.{Event}
+use Rattle.seq_model.specs.declared.held.Held.{Held}
+use Rattle.conflict.specs.declared.outcome.Outcome.{Outcome}
+use Rattle.collection_machine.specs.Boosted.{Accept}
+use Rattle.replay_log.specs.Contents.{Answered, Block, HaveStripes, content}
+use Rattle.replay_log.specs.Guards.{Allows}
+use Rattle.replay_log.specs.Worlds.{World, Loading, acted, actor_of, moves, opened, outcome_at, run, word_notice}
+use Rattle.tx_actor.specs.declared.actor.Answered as running
+use Rattle.tx_actor.specs.declared.actor.Stage.{Stage}
+use Rattle.tx_actor.specs.declared.actor.Stage.TheVariants as stage
+use Rattle.tx_actor.specs.declared.actor.TxActor.{TxActor}
+use Rattle.tx_actor.specs.declared.copies.Copied.{Copied}
+use Rattle.tx_actor.specs.declared.judged.Judged.TheVariants.{All, Next}
+use Rattle.tx_actor.specs.Copies.{answer_of, holds_call}
+use Rattle.tx_actor.specs.Footprints.{writes_in}
+use Rattle.tx_actor.specs.Judged.{judged, left_after}
+use Rattle.tx_actor.specs.Keeps.{IsOwnCopy}
+use Rattle.tx_actor.specs.Loads.{MayLoad}
+use Rattle.tx_actor.specs.Running.{Runs}
+use Rattle.tx_actor.specs.Writes.{with_next}
+
+-- these locations were read with these editions first
+abbrev pub AreRead : List Call → Entries → Type 0
+AreRead cs [] = Unit {0}
+AreRead cs (d ∷ es) = (first_read cs d.0 ≡ Some d.1) × AreRead cs es
+
+-- one of these locations was read with another edition first: what is judged by these editions is never accepted
+abbrev pub IsDoomed : List Call → Entries → Type 0
+IsDoomed cs [] = ⊥
+IsDoomed cs (d ∷ es) = ((e : ℕ) × (first_read cs d.0 ≡ Some e) × (e ≢ d.1)) ⊎ IsDoomed cs es
+
+-- What the load of a call's location d leaves in the world w, which told the copied edition, with these locations still to be judged.
+pub record LoadsIn {V : Type 0} (w : World V) (a : ℕ) (o : Answered V) (d : ℕ × ℕ) (es : Entries) : Type 0 where
+  pub accepts : let u = acted w (moves a ∷ []) in
+      judged (actor_of u a).reads es ≡ All →
+      Allows (content u.words u.blocks) u.boosted (Accept a o.asked) × (outcome_at u a o.asked ≡ o) × AreRead (actor_of u a).calls (d ∷ es)
+  pub reads : let u = acted w (moves a ∷ []) in
+      (l : ℕ) → judged (actor_of u a).reads es ≡ Next l →
+      ((actor_of u a).place ≡ AtRest) × (lookup (actor_of u a).writes l ≡ None) × (lookup (actor_of u a).reads l ≡ None)
+  pub more : let u = acted w (moves a ∷ []) in
+      (l e : ℕ) → first_read (actor_of w a).calls l ≡ Some e → first_read (actor_of u a).calls l ≡ Some e
+  pub shadow : let u = acted w (moves a ∷ []) in u.boosted.shadows a ≡ w.boosted.shadows a
+  pub keeps : let u = acted w (moves a ∷ []) in
+      IsDoomed (actor_of w a).calls (d ∷ es) → IsDoomed (actor_of u a).calls (left_after (actor_of u a).reads es)
+
+-- So it is in every world that events have reached.
+abbrev pub LoadsReached : Type 0 → Type 0
+LoadsReached V =
+    (blocks : List Block) (clock : ℕ) (values : List ℕ) (held : List (Held V)) (events : List (Event V)) (a : ℕ) (o : Answered V)
+    (d : ℕ × ℕ) (es : Entries) → HaveStripes blocks →
+    let w = run (opened blocks clock values held) events in
+    (w.seats a).stage ≡ Loading o (d ∷ es) → word_notice w a ≡ notice.Number d.1 → LoadsIn w a o d es
+
+-- The call is one that this copy of its collection, whose first location is f, holds: it has the outcome that the copy answers, and writes
+-- what that writes.
+pub record IsCallOn {V : Type 0} (f : ℕ) (c : Copied V) (call : running.Answered V) (o : Outcome V) : Type 0 where
+  pub outcome : call.outcome ≡ Some o
+  pub holds : holds_call c call.asked.op ≡ true
+  pub answer : answer_of c call.asked.op ≡ Some o
+  pub writes : call.writes.items ≡ with_next c f (writes_in c o)
+
+-- In the world w the copy on which the call of a stands is a's own, or one of its locations was read with another edition.
+pub record OwnsCall {V : Type 0} (w : World V) (a : ℕ) (call : running.Answered V) (left : Entries) : Type 0 where
+  pub block : Block
+  pub first : ℕ
+  pub copy : Copied V
+  pub answer : Outcome V
+  pub call_on : IsCallOn first copy call answer
+  pub own : IsOwnCopy w a call.asked.collection block first copy ⊎ IsDoomed (actor_of w a).calls left
+
+abbrev pub OwnsCallAt : {V : Type 0} → World V → ℕ → Stage V → Type 0
+OwnsCallAt w a (stage.Loading call left) = OwnsCall w a call left.items
+OwnsCallAt w a s = Unit {0}
+
+-- So the load of a location may be heard, in every world that events have reached in which the call under way stands on the actor's own
+-- copy; r has taken the step of the words already.
+abbrev pub MayHear : Type 0 → Type 0
+MayHear V =
+    (blocks : List Block) (clock : ℕ) (values : List ℕ) (held : List (Held V)) (events : List (Event V)) (a : ℕ) (r : TxActor V)
+    → HaveStripes blocks →
+    let w = run (opened blocks clock values held) events in
+    let u = acted w (moves a ∷ []) in
+    Runs a r u → OwnsCallAt w a r.stage → MayLoad a u r r.stage (word_notice w a)
+
+-- What is left of a call stands on the actor's own copy, as its call did, in each world with its shadow and its calls: after a load that
+-- told the copied edition those still to be judged, and after one that told nothing all of them.
+abbrev pub KeepsOne : {V : Type 0} → World V → ℕ → running.Answered V → Entries → notice.Notice → Type 0
+KeepsOne {V} u a call (d ∷ es) (notice.Number v) =
+    d.1 ≡ v → (w : World V) → w.words ≡ u.words → w.blocks ≡ u.blocks → w.boosted.shadows a ≡ u.boosted.shadows a
+    → (actor_of w a).calls ≡ (actor_of u a).calls → OwnsCall w a call (left_after (actor_of u a).reads es)
+KeepsOne u a call (d ∷ es) notice.Quiet = OwnsCall u a call (d ∷ es)
+KeepsOne u a call es n = Unit {0}
+
+abbrev pub KeepsAt : {V : Type 0} → World V → ℕ → Stage V → notice.Notice → Type 0
+KeepsAt u a (stage.Loading call left) n = KeepsOne u a call left.items n
+KeepsAt u a s n = Unit {0}
+
+abbrev pub KeepsCall : Type 0 → Type 0
+KeepsCall V =
+    (blocks : List Block) (clock : ℕ) (values : List ℕ) (held : List (Held V)) (events : List (Event V)) (a : ℕ) (r : TxActor V)
+    → HaveStripes blocks →
+    let w = run (opened blocks clock values held) events in
+    let u = acted w (moves a ∷ []) in
+    Runs a r u → OwnsCallAt w a r.stage → KeepsAt u a r.stage (word_notice w a)

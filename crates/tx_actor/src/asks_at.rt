@@ -1,0 +1,74 @@
+//! What an actor is asked, whatever it is: where its request stands decides what may be asked.
+ghost use Rattle.std.specs.Prelude.{◌≡◌, IfOk, OnErr};
+ghost use Rattle.replay_log.specs.Worlds.{ask_at, ask_idle, ask_op, ask_open};
+ghost use Rattle.tx_actor.specs.Calls.{AsksAt, AsksOwn, CanCall, StandsOwn};
+ghost use Rattle.tx_actor.specs.Running.{Does, seat_of, stage_of};
+
+use crate::actor::{Stage, Told, TxActor};
+use crate::blocks::Blocks;
+use seq_model::{Call, Memory, Op, Refusal, Request, Value};
+use std::alloc::Global;
+
+impl<V: Value> TxActor<V> {
+    /// It has no transaction.
+    fn asks_idle(&mut self, request: Request<V>) -> Told<V>
+        ensures { Does self.old self.new result (λ a w. ask_idle w a (seat_of self.old) request) }
+    {
+        match request {
+            Request::Begin => self.begins(),
+            Request::BeginRead => self.begins_to_read(),
+            _ => Told::Refused(Refusal::NoTransaction),
+        }
+    }
+
+    fn asks_op(&mut self, alloc: Global, blocks: &Blocks, call: Call<V>) -> Result<Told<V>, Memory>
+        requires { CanCall blocks.now self.old }
+        ensures ok { IfOk result (λ told. AsksOwn blocks.now self.old self.new told (λ a w. ask_op w a (seat_of self.old) call.target call.op)) }
+        ensures err { OnErr result (StandsOwn self.old self.new) }
+    {
+        match call.op {
+            Op::Read => Ok(self.asks_to_read(blocks, call.target)?),
+            Op::Write(value) => Ok(self.asks_to_write(blocks, call.target, value)?),
+            op => Ok(self.asks_to_call(alloc, blocks, call.target, op)?),
+        }
+    }
+
+    /// It is at rest in its transaction.
+    fn asks_open(
+        &mut self,
+        alloc: Global,
+        blocks: &Blocks,
+        request: Request<V>,
+    ) -> Result<Told<V>, Memory>
+        requires { CanCall blocks.now self.old }
+        ensures ok { IfOk result (λ told. AsksOwn blocks.now self.old self.new told (λ a w. ask_open w a (seat_of self.old) request)) }
+        ensures err { OnErr result (StandsOwn self.old self.new) }
+    {
+        match request {
+            Request::Begin => Ok(Told::Refused(Refusal::NotIdle)),
+            Request::BeginRead => Ok(Told::Refused(Refusal::NotIdle)),
+            Request::Call(call) => Ok(self.asks_op(alloc, blocks, call)?),
+            Request::Commit => Ok(self.asks_to_commit(alloc, blocks)?),
+            Request::Abort => Ok(self.asks_to_abort()),
+        }
+    }
+
+    /// A request. `NotIdle` where another is under way, or a begin within a transaction, and `NoTransaction` for a call or an end without
+    /// one; else as the request's own method says. A want of memory leaves the actor as it was.
+    pub fn asks(
+        &mut self,
+        alloc: Global,
+        blocks: &Blocks,
+        request: Request<V>,
+    ) -> Result<Told<V>, Memory>
+        requires { self.old.stage ≡ Stage.Open → CanCall blocks.now self.old }
+        ensures ok { IfOk result (λ told. AsksAt blocks.now self.old self.new told (λ a w. ask_at w a (seat_of self.old) (stage_of self.old.stage) request)) }
+        ensures err { OnErr result (StandsOwn self.old self.new) }
+    {
+        match self.stage {
+            Stage::Idle => Ok(self.asks_idle(request)),
+            Stage::Open => Ok(self.asks_open(alloc, blocks, request)?),
+            _ => Ok(Told::Refused(Refusal::NotIdle)),
+        }
+    }
+}

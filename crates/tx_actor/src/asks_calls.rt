@@ -1,0 +1,127 @@
+//! What an actor is asked of a collection. What it has of the collection answers, and else the collection's gate is tried.
+ghost use Rattle.std.specs.Prelude.{◌≡◌, ◌<◌, true, length, IfOk, OnErr};
+ghost use Rattle.replay_log.specs.Contents.{block_of};
+ghost use Rattle.replay_log.specs.Worlds as worlds;
+ghost use Rattle.replay_log.specs.Worlds.{calls_on, is_known};
+ghost use Rattle.step_core.specs.Shown.{actor_of};
+ghost use Rattle.tx_actor.specs.Calls.{AsksOwn, CanCall, ask_call, is_allowed};
+ghost use Rattle.tx_actor.specs.Keeps.{call_on};
+ghost use Rattle.tx_actor.specs.Prepares.{IsAlike, IsHeldAt, IsHeldPlace};
+ghost use Rattle.tx_actor.specs.Running.{seat_of};
+
+use crate::actor::{Asked, CopyOf, Stage, Told, TxActor};
+use crate::blocks::Blocks;
+use crate::footprints::place_of;
+use crate::known::{is_change, is_known};
+use crate::steps::MORE_TRIES;
+use seq_model::{CALL_LIMIT, Memory, Op, Refusal, Value};
+use std::alloc::Global;
+use step_core::Actor;
+
+/// Whether the collection is there and answers the call, which is no change where a declared reader asks it.
+fn is_allowed<V>(blocks: &Blocks, words: &Actor, collection: u32, op: &Op<V>) -> bool
+    ensures allowed { result ≡ is_allowed blocks.now words.now collection op.now }
+    ensures there { result ≡ true → collection < length blocks.now.blocks }
+{
+    match blocks.kind_of(collection) {
+        Some(kind) => is_known(kind, op) && !(words.declared && is_change(op)),
+        None => false,
+    }
+}
+
+/// Where the copy of the collection stands, if it has what the call touches.
+fn held_place<V: Value>(copies: &[CopyOf<V>], collection: u32, op: &Op<V>) -> Option<usize>
+    ensures { IsHeldPlace copies.now collection op.now result }
+{
+    match place_of(copies, collection) {
+        Some(place) => {
+            if copies[place].copied.holds(op) {
+                return Some(place);
+            }
+            None
+        }
+        None => None,
+    }
+}
+
+impl<V: Value> TxActor<V> {
+    /// The copy at this place has what the call touches.
+    fn calls_held(
+        &mut self,
+        alloc: Global,
+        blocks: &Blocks,
+        place: usize,
+        collection: u32,
+        op: Op<V>,
+    ) -> Result<Told<V>, Memory>
+        requires can { CanCall blocks.now self.old }
+        requires there { collection < length blocks.now.blocks }
+        requires known { is_known (block_of blocks.now.blocks collection) op ≡ true }
+        requires may { worlds.may_ask (actor_of self.old.words) op ≡ true }
+        requires held { IsHeldAt self.old.copies.items place collection op }
+        ensures ok { IfOk result (λ told. AsksOwn blocks.now self.old self.new told (λ a w. calls_on w a (seat_of self.old) (call_on collection op))) }
+        ensures err { OnErr result (IsAlike self.old self.new) }
+    {
+        let first = blocks.first_of(collection);
+        match self.prepares(alloc, place, first, op)? {
+            Some(prepared) => Ok(self.goes_on(prepared.call, prepared.left)),
+            None => {
+                self.stage = Stage::Open;
+                Ok(Told::Refused(Refusal::TooLong))
+            }
+        }
+    }
+
+    /// A call that is allowed.
+    fn calls_on(
+        &mut self,
+        alloc: Global,
+        blocks: &Blocks,
+        collection: u32,
+        op: Op<V>,
+    ) -> Result<Told<V>, Memory>
+        requires can { CanCall blocks.now self.old }
+        requires there { collection < length blocks.now.blocks }
+        requires known { is_known (block_of blocks.now.blocks collection) op ≡ true }
+        requires may { worlds.may_ask (actor_of self.old.words) op ≡ true }
+        ensures ok { IfOk result (λ told. AsksOwn blocks.now self.old self.new told (λ a w. calls_on w a (seat_of self.old) (call_on collection op))) }
+        ensures err { OnErr result (IsAlike self.old self.new) }
+    {
+        match held_place(&self.copies, collection, &op) {
+            Some(place) => {
+                let told = self.calls_held(alloc, blocks, place, collection, op)?;
+                Ok(told)
+            }
+            None => {
+                self.stage = Stage::Trying(Asked { collection, op }, MORE_TRIES);
+                Ok(Told::Quiet)
+            }
+        }
+    }
+
+    /// A call on a collection. `NoSuch` where there is no such collection, or it is of another kind, and for a change in a declared
+    /// reader, then `TooLong` past the limit of calls; neither changes anything. What the transaction has of the collection answers:
+    /// `TooLong` where the call's locations don't fit the sets, else it is accepted, or a location is read first, or the transaction is
+    /// given up, as its copy is stale. Where it has not what the call touches, the collection's gate is tried next. A want of memory
+    /// leaves the actor as it was.
+    pub fn asks_to_call(
+        &mut self,
+        alloc: Global,
+        blocks: &Blocks,
+        collection: u32,
+        op: Op<V>,
+    ) -> Result<Told<V>, Memory>
+        requires { CanCall blocks.now self.old }
+        ensures ok { IfOk result (λ told. AsksOwn blocks.now self.old self.new told (λ a w. ask_call w a (seat_of self.old) collection op)) }
+        ensures err { OnErr result (IsAlike self.old self.new) }
+    {
+        if !is_allowed(blocks, &self.words, collection, &op) {
+            return Ok(Told::Refused(Refusal::NoSuch));
+        }
+        if self.calls.len() >= CALL_LIMIT {
+            return Ok(Told::Refused(Refusal::TooLong));
+        }
+        let told = self.calls_on(alloc, blocks, collection, op)?;
+        Ok(told)
+    }
+}
