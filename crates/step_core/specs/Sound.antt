@@ -76,6 +76,20 @@ pub record Keeps (x y : Actor) : Type 0 where
   pub owed : owed y.place ≤ owed x.place
   pub due : due y.place ≤ due x.place
 
+-- a load of a location that is read
+abbrev pub IsLoad : Place → Type 0
+IsLoad (Look l) = Unit {0}
+IsLoad (Fetch l k) = Unit {0}
+IsLoad (Again l k v) = Unit {0}
+IsLoad p = ⊥
+
+-- it leaves the room that there is for more calls and writes, and takes that of one read at most
+pub record KeepsRoom (x y : Actor) : Type 0 where
+  pub calls : vec_capacity y.calls ≡ vec_capacity x.calls
+  pub count : vec_len y.calls ≤ vec_len x.calls + 1
+  pub writes : y.writes.room ≡ x.writes.room
+  pub reads : x.reads.room ≤ y.reads.room + 1
+
 -- actor a stands at p
 abbrev pub At : Machine → ℕ → Place → Type 0
 At w a p = (x : Actor) → slice_get w.actors.items a ≡ Some x → x.place ≡ p

@@ -15,7 +15,7 @@ ghost use Rattle.word_machine.specs.Notices.{begin_notice, look_notice, again_no
 ghost use Rattle.step_core.specs.Answers.{result_of};
 ghost use Rattle.step_core.specs.Blank.{IsBlank};
 ghost use Rattle.step_core.specs.Shown.{actor_of};
-ghost use Rattle.step_core.specs.Sound.{HasRoom, Fits, FitsPlace, Keeps, owed, due};
+ghost use Rattle.step_core.specs.Sound.{HasRoom, Fits, FitsPlace, Keeps, KeepsRoom, owed, due};
 ghost use Rattle.step_core.specs.declared.actor.Place.TheVariants.{Look, Fetch, Again, Lock, Take, Check, First, Store, Release, Undo};
 ghost use Rattle.step_core.specs.declared.answer.WordRefusal.TheVariants.{Invalid};
 
@@ -81,7 +81,8 @@ pub struct Actor {
 fn keep(reads: &mut ReadSet, declared: bool, location: u32, value: u64)
     requires room { declared ≡ false → 0 < reads.old.room }
     requires limit { length reads.old.entries < LOCATION_LIMIT }
-    ensures { reads.new.entries ≡ with_read declared reads.old.entries location value }
+    ensures entries { reads.new.entries ≡ with_read declared reads.old.entries location value }
+    ensures room { reads.old.room ≤ reads.new.room + 1 }
 {
     if declared {
         return;
@@ -151,6 +152,7 @@ impl Actor {
         ensures actor { actor_of self.new ≡ seen (actor_of self.old) location (unbits word) }
         ensures answer { result ≡ result_of (look_notice self.old.rv location (unbits word)) }
         ensures keeps { Keeps self.old self.new }
+        ensures room { KeepsRoom self.old self.new }
     {
         match LockWord::read(word) {
             LockWord::Free(version) if version <= self.rv => {
@@ -175,6 +177,7 @@ impl Actor {
         ensures actor { actor_of self.new ≡ goes (actor_of self.old) (machine.Again location version value) }
         ensures answer { result ≡ result_of notice.Quiet }
         ensures keeps { Keeps self.old self.new }
+        ensures room { KeepsRoom self.old self.new }
     {
         self.place = Place::Again(location, version, value);
         Ok(None)
@@ -195,6 +198,7 @@ impl Actor {
         ensures actor { actor_of self.new ≡ seen_again (actor_of self.old) location version value (unbits word) }
         ensures answer { result ≡ result_of (again_notice location version value (unbits word)) }
         ensures keeps { Keeps self.old self.new }
+        ensures room { KeepsRoom self.old self.new }
     {
         match LockWord::read(word) {
             LockWord::Free(found) if found == version => {

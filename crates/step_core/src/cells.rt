@@ -5,7 +5,7 @@
 ghost use Rattle.std.specs.Prelude.{◌≡◌, ℕ, ◌+◌, ◌^◌, ◌<◌, ◌≤◌, length};
 ghost use Rattle.std.specs.VecDeque.{deque_len};
 ghost use Rattle.step_core.specs.CellSteps.{StepsOn, Grows, IsLike, HaveLength};
-ghost use Rattle.step_core.specs.Sound.{Fits, Keeps, owed, due};
+ghost use Rattle.step_core.specs.Sound.{Fits, IsLoad, Keeps, KeepsRoom, owed, due};
 ghost use Rattle.step_core.specs.declared.actor.Place.TheVariants.{Idle, Begin, Look, Fetch, Again, Lock, Take, Check, First, Store, Release, Undo, Leave, Close};
 
 use crate::actor::{Actor, Place};
@@ -38,6 +38,7 @@ impl Cells {
         requires inside { location < length self.now.locks.items }
         ensures steps { StepsOn self.now actor.old self.now actor.new result }
         ensures keeps { Keeps actor.old actor.new }
+        ensures room { KeepsRoom actor.old actor.new }
     {
         let word = self.locks[location as usize];
         actor.look(location, word)
@@ -54,6 +55,7 @@ impl Cells {
         requires inside { location < length self.now.values.items }
         ensures steps { StepsOn self.now actor.old self.now actor.new result }
         ensures keeps { Keeps actor.old actor.new }
+        ensures room { KeepsRoom actor.old actor.new }
     {
         let value = self.values[location as usize];
         actor.fetch(location, version, value)
@@ -71,6 +73,7 @@ impl Cells {
         requires place { actor.old.place ≡ Again location version value }
         ensures steps { StepsOn self.now actor.old self.now actor.new result }
         ensures keeps { Keeps actor.old actor.new }
+        ensures room { KeepsRoom actor.old actor.new }
     {
         let word = self.locks[location as usize];
         actor.again(location, version, value, word)
@@ -240,6 +243,7 @@ impl Cells {
         ensures shape { HaveLength self.old self.new }
         ensures grows { Grows self.old actor.old self.new actor.new }
         ensures due { due actor.new.place ≤ due actor.old.place }
+        ensures room { IsLoad actor.old.place → KeepsRoom actor.old actor.new }
     {
         let place = actor.place;
         match place {

@@ -13,7 +13,7 @@ ghost use Rattle.replay_log.specs.Seats.{World, acted, actor_of, moves, word_not
 ghost use Rattle.step_core.specs.Answers.{result_of};
 ghost use Rattle.step_core.specs.CellSteps.{Grows, HaveLength};
 ghost use Rattle.step_core.specs.Shown as words;
-ghost use Rattle.step_core.specs.Sound.{Fits, owed, due};
+ghost use Rattle.step_core.specs.Sound.{Fits, IsLoad, KeepsRoom, owed, due};
 ghost use Rattle.seq_model.specs.Calls.{IsWithinLimits};
 ghost use Rattle.seq_model.specs.Refusals.{IsNoSuchOrTooLong};
 ghost use Rattle.replay_log.specs.Collections.{Suit};
@@ -132,6 +132,7 @@ impl<V: Value> Table<V> {
         ensures shape { HaveLength self.old.cells self.new.cells }
         ensures grows { Grows self.old.cells actor.old self.new.cells actor.new }
         ensures due { due actor.new.place ≤ due actor.old.place }
+        ensures room { IsLoad actor.old.place → KeepsRoom actor.old actor.new }
         ensures keeps { (n : ℕ) (bs : List Block) → HasShape self.old n bs → HasShape self.new n bs }
         ensures rest { (self.new.gates ≡ self.old.gates) × (self.new.bases ≡ self.old.bases) }
     {
