@@ -4,7 +4,11 @@ use Rattle.std.proofs.Common.{◌≡◌, ℕ, ◌+◌, ◌≤◌, Bool, true, fa
 use Rattle.std.proofs.Common.{subst, inl, inr, arith}
 use Rattle.std.specs.Prelude.{slice_get, slice_set}
 use Rattle.std.specs.Vec.{with_item}
-use Rattle.std.proofs.lemmas.List.{append-nil}
+use Rattle.std.proofs.lemmas.List.{append-nil, map-append}
+use Rattle.seq_model.specs.declared.call.Call.{Call}
+use Rattle.seq_model.specs.declared.call.Reply.{Reply}
+use Rattle.seq_model.specs.declared.refusal.Refusal.{Refusal}
+use Rattle.seq_model.specs.Runs.{insert_record}
 use Rattle.seq_model.specs.declared.event.Event.TheVariants.{Step, Starve}
 use Rattle.seq_model.specs.declared.record.Record.{Record}
 use Rattle.seq_model.specs.declared.refusal.Refusal.TheVariants.{NoTransaction}
@@ -20,7 +24,7 @@ use Rattle.step_core.specs.declared.cells.Cells.{Cells}
 use Rattle.tx_actor.specs.Blocks.{BlocksView}
 use Rattle.tx_actor.specs.Dispatch.{Starves, is_loading, next_of}
 use Rattle.tx_actor.specs.Keeping.{IsRunning, KeepsIn}
-use Rattle.tx_actor.specs.Running.{seat_at, stage_of}
+use Rattle.tx_actor.specs.Running.{is_recorded, seat_at, seat_of, stage_of}
 use Rattle.tx_actor.specs.declared.actor.Stage as own
 use Rattle.tx_actor.specs.declared.actor.Stage.TheVariants as stage
 use Rattle.tx_actor.specs.declared.actor.Told.{Told}
@@ -30,10 +34,11 @@ use Rattle.tx_actor.specs.declared.next.Next.TheVariants as next
 use Rattle.world_table.specs.Openings.{HasShape}
 use Rattle.world_table.specs.declared.table.Table.{Table}
 use Rattle.running_world.specs.declared.parts.Parts.{Parts}
+use Rattle.running_world.specs.declared.trace.Ended.{Ended}
 use Rattle.running_world.specs.Parts.{Happens, IsWorld, ended_of}
 use Rattle.running_world.specs.Reached.{IsReached}
 use Rattle.running_world.specs.Turns.{IsTurn}
-use Rattle.running_world.proofs.SeatLemmas.{stage_by}
+use Rattle.running_world.proofs.SeatLemmas.{seated_by, stage_by}
 use Rattle.running_world.proofs.TurnLemmas.{starve_turns}
 use Rattle.running_world.proofs.WorldLemmas.{turned}
 
@@ -139,3 +144,48 @@ module _ {V : Type 0} where
             kept.running (inl (omega (arith, less))) (h.records ∙ sym adds.0) (h.aborted ∙ sym adds.1));
         told = λ o w reached h. (turn.turns o w reached h.laid h.table (h.seats i r got).runs).2;
       }
+
+  -- ---- the steps that end a transaction
+  record_is : (m : Record V) (n : ℕ) (b : Bool) (cs : List (Call V × Reply V)) → m.number ≡ n → m.writes ≡ b → m.calls ≡ cs
+      → let own : Record V = record { number = n; writes = b; calls = cs } in m ≡ own
+  record_is m n b cs p q r j = record { number = p j; writes = q j; calls = r j }
+
+  pub closing_record : (a : ℕ) (r : TxActor V) (m : Record V) (rs : List (ℕ × Record V)) → r.stage ≡ stage.Closing → m.number ≡ r.rv
+      → m.writes ≡ false → m.calls ≡ r.calls.items → (x : Seat V) → x ≡ seat_at x r
+      → insert_record (a, m) rs ≡ with_record a (committed_by x x.stage) rs
+  closing_record a r m rs at p q s x is =
+      let seat = seated_by x r (ap (λ (t : own.Stage V). is_loading (stage_of t)) at) (ap (λ (t : own.Stage V). is_recorded t) at) is in
+      ap (λ (z : Record V). insert_record (a, z) rs) (record_is m r.rv false r.calls.items p q s)
+      ∙ sym (ap (λ (y : Seat V). with_record a (committed_by y y.stage) rs) seat
+      ∙ ap (λ (t : own.Stage V). with_record a (committed_by (seat_of r) (stage_of t)) rs) at)
+
+  pub closing_ends : (a : ℕ) (r : TxActor V) (es : List (seats.Ended V)) → r.stage ≡ stage.Closing → (x : Seat V) → x ≡ seat_at x r
+      → es ≡ es ++ ended_by a x x.stage
+  closing_ends a r es at x is =
+      sym (append-nil es)
+      ∙ ap (λ (k : Stage V). es ++ ended_by a x k)
+      (sym (stage_by x r (ap (λ (t : own.Stage V). is_loading (stage_of t)) at) is
+      ∙ ap (λ (t : own.Stage V). stage_of t) at))
+
+  pub leaving_record : (a : ℕ) (r : TxActor V) (rs : List (ℕ × Record V)) → r.stage ≡ stage.Leaving → (x : Seat V) → x ≡ seat_at x r
+      → rs ≡ with_record a (committed_by x x.stage) rs
+  leaving_record a r rs at x is =
+      ap (λ (k : Stage V). with_record a (committed_by x k) rs)
+      (sym (stage_by x r (ap (λ (t : own.Stage V). is_loading (stage_of t)) at) is
+      ∙ ap (λ (t : own.Stage V). stage_of t) at))
+
+  ended_is : (e : Ended V) (a rv : ℕ) (cs : List (Call V × Reply V)) (cause : Option Refusal) → e.actor ≡ a → e.rv ≡ rv → e.calls ≡ cs
+      → e.cause ≡ cause
+      → let own : seats.Ended V = record { actor = a; rv = rv; calls = cs; cause = cause } in ended_of e ≡ own
+  ended_is e a rv cs cause p q r s j = record { actor = p j; rv = q j; calls = r j; cause = s j }
+
+  pub leaving_ends : (a : ℕ) (r : TxActor V) (e : Ended V) (es now : List (Ended V)) → r.stage ≡ stage.Leaving → e.actor ≡ a
+      → e.rv ≡ r.rv → e.calls ≡ r.calls.items → e.cause ≡ r.cause → now ≡ es ++ e ∷ [] → (x : Seat V) → x ≡ seat_at x r
+      → map ended_of now ≡ map ended_of es ++ ended_by a x x.stage
+  leaving_ends a r e es now at p q s t all x is =
+      let seat = seated_by x r (ap (λ (t : own.Stage V). is_loading (stage_of t)) at) (ap (λ (t : own.Stage V). is_recorded t) at) is in
+      ap (λ (xs : List (Ended V)). map ended_of xs) all
+      ∙ (map-append ended_of es (e ∷ [])
+      ∙ (ap (λ (y : seats.Ended V). map ended_of es ++ y ∷ []) (ended_is e a r.rv r.calls.items r.cause p q s t)
+      ∙ sym (ap (λ (y : Seat V). map ended_of es ++ ended_by a y y.stage) seat
+      ∙ ap (λ (t : own.Stage V). map ended_of es ++ ended_by a (seat_of r) (stage_of t)) at)))

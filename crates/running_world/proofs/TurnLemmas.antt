@@ -5,6 +5,8 @@
 -- before, and its word actor after the step; the collections that it has written stand, since a step of a locking actor writes nothing.
 use Rattle.std.proofs.Common.{◌≡◌, ℕ, ◌+◌, Bool, true, false, true≢false, List, [], ◌∷◌, Option, Some, None, Result, ◌≤◌, inl, inr, refl, sym, ap, ◌∙◌, subst, arith}
 use Rattle.std.specs.Prelude.{not, filter}
+use Rattle.std.specs.declared.alloc.Global.{Global}
+use Rattle.std.specs.declared.vec.Vec.{Vec}
 use Rattle.std.proofs.lemmas.Bool.{cond_both}
 use Rattle.vlock_word.specs.declared.lock_word.LockWord.{LockWord}
 use Rattle.vlock_word.specs.declared.lock_word.LockWord.TheVariants.{Free, Locked}
@@ -15,6 +17,8 @@ use Rattle.word_machine.specs.Requests.{AskStore}
 use Rattle.word_machine.specs.World as machine_world
 use Rattle.word_machine.specs.World.{now, exchanged, put}
 use Rattle.word_machine.proofs.Sets.{put-same}
+use Rattle.seq_model.specs.declared.call.Call.{Call}
+use Rattle.seq_model.specs.declared.call.Reply.{Reply}
 use Rattle.seq_model.specs.declared.event.Event.{Event}
 use Rattle.seq_model.specs.declared.event.Event.TheVariants.{Ask, Step, Starve}
 use Rattle.seq_model.specs.declared.event.Notice.TheVariants.{Refused}
@@ -169,6 +173,27 @@ module _ {V : Type 0} where
     room = room_moved r y r.stage h.room;
     names = h.names;
   }
+
+  -- an actor that has handed its calls out
+  room_made : (s : TxActor V) (m : Vec (Call V × Reply V) Global) (t : own.Stage V) → HasRoom s t → HasRoom (record s { made = m }) t
+  room_made s m (stage.Reading l) h = h
+  room_made s m t h = tt
+
+  pub running_made : (v : BlocksView) (s : TxActor V) (m : Vec (Call V × Reply V) Global) → IsRunning v s
+      → IsRunning v (record s { made = m })
+  running_made v s m h = record { fits = h.fits; room = room_made s m s.stage h.room; names = h.names }
+
+  pub turns_made : (v : BlocksView) (e : Event V) (t u : Table V) (r s : TxActor V) (m : Vec (Call V × Reply V) Global) (n : Told V)
+      → IsTurn v e t r u s n → IsTurn v e t r u (record s { made = m }) n
+  turns_made v e t u r s m n h = record { turns = h.turns }
+
+  pub stage_due : (r : TxActor V) (s : own.Stage V) → r.stage ≡ s → next_of (stage_of s) ≡ next.Word
+      → next_of (stage_of r.stage) ≡ next.Word
+  stage_due r s e d = ap (λ (t : own.Stage V). next_of (stage_of t)) e ∙ d
+
+  pub stage_quiet : (r : TxActor V) (s : own.Stage V) → r.stage ≡ s → is_loading (stage_of s) ≡ false
+      → is_loading (stage_of r.stage) ≡ false
+  stage_quiet r s e d = ap (λ (t : own.Stage V). is_loading (stage_of t)) e ∙ d
 
   -- ---- a request, and a want of memory
   pub ask_turns : (v : BlocksView) (a : ℕ) (q : Request V) (t : Table V) (r s : TxActor V) (n : Told V)

@@ -11,6 +11,7 @@ use Rattle.tx_actor.specs.Blocks.{BlocksView, IsLaid}
 use Rattle.tx_actor.specs.Dispatch.{next_of}
 use Rattle.tx_actor.specs.Keeping.{IsRunning}
 use Rattle.tx_actor.specs.Running.{Runs, notice_of, stage_of}
+use Rattle.tx_actor.specs.declared.actor.Stage as own
 use Rattle.tx_actor.specs.declared.actor.Told.{Told}
 use Rattle.tx_actor.specs.declared.actor.TxActor.{TxActor}
 use Rattle.tx_actor.specs.declared.next.Next.{Next}
@@ -62,3 +63,7 @@ module _ {V : Type 0} where
   -- this is what the next step of the actor at place i does
   abbrev pub IsDue : Parts V → ℕ → Next → Type 0
   IsDue c i n = (r : TxActor V) → slice_get c.actors.items i ≡ Some r → next_of (stage_of r.stage) ≡ n
+
+  -- and there it stands
+  abbrev pub IsAt : Parts V → ℕ → own.Stage V → Type 0
+  IsAt c i s = (r : TxActor V) → slice_get c.actors.items i ≡ Some r → r.stage ≡ s

@@ -6,15 +6,18 @@ ghost use Rattle.step_core.specs.Sound.{Fits, owed};
 ghost use Rattle.replay_log.specs.Contents.{Block, end_of};
 ghost use Rattle.tx_actor.specs.Asks.{Stands};
 ghost use Rattle.tx_actor.specs.Blocks.{BlocksView};
-ghost use Rattle.tx_actor.specs.Dispatch.{is_loading, next_of};
+ghost use Rattle.tx_actor.specs.Dispatch.{Records, is_loading, next_of};
 ghost use Rattle.tx_actor.specs.Keeping.{IsRunning, KeepsIn};
 ghost use Rattle.tx_actor.specs.Running.{stage_of};
 ghost use Rattle.world_table.specs.Openings.{HasShape};
 ghost use Rattle.running_world.specs.Turns.{IsTurn};
 
-use seq_model::{Memory, Value};
+use crate::trace::Ended;
+use seq_model::{Items, Memory, Record, Value};
+use std::alloc::Global;
+use std::mem;
 use tx_actor::laws::{goes_on_as_worlds, steps_as_worlds};
-use tx_actor::{Blocks, Next, Told, TxActor};
+use tx_actor::{Blocks, Next, Stage, Told, TxActor};
 use world_table::Table;
 
 /// The next step of an actor's words.
@@ -28,11 +31,76 @@ pub fn step_word<V: Value>(table: &mut Table<V>, actor: &mut TxActor<V>, blocks:
     ensures shape { (n : ℕ) (bs : List Block) → HasShape table.old n bs → HasShape table.new n bs }
     ensures running { IsRunning blocks.now actor.new }
     ensures grows { Grows table.old.cells actor.old.words table.new.cells actor.new.words }
+    ensures made { Records actor.old.stage → actor.new.made.items ≡ actor.old.calls.items }
 {
     steps_as_worlds::<V>();
     goes_on_as_worlds::<V>();
     let told = table.step(&mut actor.words);
     actor.stepped(told)
+}
+
+/// The load of the clock that commits a transaction without writes, with its record. It takes no memory.
+pub fn close<V: Value>(
+    alloc: Global,
+    table: &mut Table<V>,
+    actor: &mut TxActor<V>,
+    blocks: &Blocks,
+) -> (Told<V>, Record<V>)
+    requires running { IsRunning blocks.now actor.old }
+    requires shape { HasShape table.old blocks.now.words blocks.now.blocks }
+    requires clock { table.old.cells.clock + owed actor.old.words.place < 2 ^ 63 }
+    requires stage { actor.old.stage ≡ Stage.Closing }
+    ensures turns { (v : BlocksView) (a : ℕ) → IsTurn v (Step a) table.old actor.old table.new actor.new result.0 }
+    ensures shape { (n : ℕ) (bs : List Block) → HasShape table.old n bs → HasShape table.new n bs }
+    ensures running { IsRunning blocks.now actor.new }
+    ensures grows { Grows table.old.cells actor.old.words table.new.cells actor.new.words }
+    ensures number { result.1.number ≡ actor.old.rv }
+    ensures reads { result.1.writes ≡ false }
+    ensures calls { result.1.calls ≡ actor.old.calls.items }
+{
+    let number = actor.rv;
+    let told = step_word(table, actor, blocks);
+    let calls = Items::from_vec(mem::replace(&mut actor.made, Vec::new(alloc)));
+    let record = Record {
+        number,
+        writes: false,
+        calls,
+    };
+    (told, record)
+}
+
+/// The load of the clock that ends the aborted transaction of the actor of this number, with what is told of it. It takes no memory.
+pub fn leave<V: Value>(
+    alloc: Global,
+    table: &mut Table<V>,
+    actor: &mut TxActor<V>,
+    blocks: &Blocks,
+    number: u32,
+) -> (Told<V>, Ended<V>)
+    requires running { IsRunning blocks.now actor.old }
+    requires shape { HasShape table.old blocks.now.words blocks.now.blocks }
+    requires clock { table.old.cells.clock + owed actor.old.words.place < 2 ^ 63 }
+    requires stage { actor.old.stage ≡ Stage.Leaving }
+    ensures turns { (v : BlocksView) (a : ℕ) → IsTurn v (Step a) table.old actor.old table.new actor.new result.0 }
+    ensures shape { (n : ℕ) (bs : List Block) → HasShape table.old n bs → HasShape table.new n bs }
+    ensures running { IsRunning blocks.now actor.new }
+    ensures grows { Grows table.old.cells actor.old.words table.new.cells actor.new.words }
+    ensures actor { result.1.actor ≡ number }
+    ensures rv { result.1.rv ≡ actor.old.rv }
+    ensures cause { result.1.cause ≡ actor.old.cause }
+    ensures calls { result.1.calls ≡ actor.old.calls.items }
+{
+    let rv = actor.rv;
+    let cause = actor.cause;
+    let told = step_word(table, actor, blocks);
+    let calls = Items::from_vec(mem::replace(&mut actor.made, Vec::new(alloc)));
+    let ended = Ended {
+        actor: number,
+        rv,
+        calls,
+        cause,
+    };
+    (told, ended)
 }
 
 /// The first value store of a commit: its request, and then the step of the words. Where memory is refused the actor shows what it did.

@@ -1,0 +1,43 @@
+use Rattle.std.proofs.Common.{◌∙◌, refl, subst, sym}
+use Rattle.std.proofs.lemmas.Option.{slice_get_read}
+use Rattle.seq_model.specs.Runs.{IsInCommitOrder}
+use Rattle.running_world.proofs.PartsLemmas.{closing_ends, closing_record, step_happens, with_turn}
+use Rattle.running_world.proofs.TraceLemmas.{serial_at}
+use Rattle.running_world.proofs.WorldLemmas.{may_take, shape_laid}
+use Rattle.running_world.proofs.parts.Parts.close.Goals as goal
+
+pub close-told-requires-clause-running : goal.close-told-requires-clause-running
+close-told-requires-clause-running g c =
+    let got = slice_get_read c.args.self.now.actors.items _ c.args.i c.index_mut.result.now refl c.requires.inside c.index_mut.ensures.value in
+    (c.requires.world.parts.seats c.args.i c.index_mut.result.now got).running
+
+pub close-told-requires-clause-shape : goal.close-told-requires-clause-shape
+close-told-requires-clause-shape g c = shape_laid c.args.self.now c.requires.world.world c.requires.world.parts
+
+pub close-told-requires-clause-clock : goal.close-told-requires-clause-clock
+close-told-requires-clause-clock g c =
+    let got = slice_get_read c.args.self.now.actors.items _ c.args.i c.index_mut.result.now refl c.requires.inside c.index_mut.ensures.value in
+    may_take c.args.self.now c.requires.world.world c.args.i c.index_mut.result.now c.requires.world.parts got
+
+pub close-told-requires-clause-stage : goal.close-told-requires-clause-stage
+close-told-requires-clause-stage g c =
+    let got = slice_get_read c.args.self.now.actors.items _ c.args.i c.index_mut.result.now refl c.requires.inside c.index_mut.ensures.value in
+    c.requires.stage c.index_mut.result.now got
+
+pub insert_record-requires : goal.insert_record-requires
+insert_record-requires g c =
+    let w = c.requires.world in
+    subst IsInCommitOrder (sym w.parts.records) (serial_at w.opening w.world w.reached).ordered
+
+pub returns : goal.returns
+returns g c =
+    let t = c.close-told in
+    let p = c.args.self.now in
+    let r = c.index_mut.result.now in
+    let got = slice_get_read p.actors.items _ c.args.i r refl c.requires.inside c.index_mut.ensures.value in
+    let at = c.requires.stage r got in
+    step_happens p (record (with_turn p t.new.table c.args.i t.new.actor) { records = c.insert_record.new.records }) c.args.i r
+    t.new.actor t.result.0 got refl refl (t.ensures.turns p.blocks _) t.ensures.shape (λ _. t.ensures.running) t.ensures.grows
+    (λ x is. c.in_ok-insert_record.ensures.ok
+    ∙ closing_record _ r t.result.1 p.records.items at t.ensures.number t.ensures.reads t.ensures.calls x is)
+    (λ x is. closing_ends _ r _ at x is)
