@@ -101,7 +101,7 @@ module _ {V : Type 0} where
       let grown : Multiset = with_copies m x (copies m x + 1) in
       let calls : Bool → Option (Reply V × Held V) = λ b. answered (cond b (Done, grown) (Full, m)) in
       elim (nat_lt (copies m x) COPY_LIMIT) as (λ b. nat_lt (copies m x) COPY_LIMIT ≡ b
-          → Follows (Add x) m (record { op = Add x; reply = cond b Done Full; note = Plain })) [
+      → Follows (Add x) m (record { op = Add x; reply = cond b Done Full; note = Plain })) [
         | true ↦ λ is. (Bag grown, (ap calls is, ap (λ b. Some (cond b grown m)) (sym is)))
         | false ↦ λ is. (Bag m, (ap calls is, refl))
       ] refl
@@ -110,7 +110,7 @@ module _ {V : Type 0} where
   take_follows x m =
       let calls : Bool → Option (Reply V × Held V) = λ b. answered (cond b (No, m) (Yes, one_fewer m x)) in
       elim (copies m x == 0) as (λ b. (copies m x == 0) ≡ b → Follows (Take x) m
-          (record { op = Take x; reply = cond b No Yes; note = Plain })) [
+      (record { op = Take x; reply = cond b No Yes; note = Plain })) [
         | true ↦ λ is. (Bag m, (ap calls is, refl))
         | false ↦ λ is. (Bag (one_fewer m x), (ap calls is, refl))
       ] refl
@@ -124,8 +124,8 @@ module _ {V : Type 0} where
   pub follows_call : FollowsCall (rules V)
   follows_call op (Bag m) s o within view e =
       let P : Multiset → Type 0 = λ s. outcome_of op s ≡ Some o
-              → (after : Held V) × ((held_call op (Bag m) ≡ Some (o.reply, after))
-              × (view_of after ≡ Some (applied (rules V) (changes_of o) s))) in
+      → (after : Held V) × ((held_call op (Bag m) ≡ Some (o.reply, after))
+      × (view_of after ≡ Some (applied (rules V) (changes_of o) s))) in
       subst P (some_same _ _ view) (at_state op m o) e
   follows_call op (Map m) s o within view e = absurd (none_some s view)
   follows_call op (Pq m) s o within view e = absurd (none_some s view)

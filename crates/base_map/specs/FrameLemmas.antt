@@ -63,7 +63,7 @@ module _ {V : Type 0} where
       ap O (sym (agree (k % n) (in_single (k % n)) k refl))
   same_outcome n Len s t pos agree =
       let same : t ≡ s = same_map nat_cmp_total nat_cmp-IsAntisymmetric _ _
-              (λ q. sym (agree (q % n) (in_range n (q % n) (mod-lt q pos)) q refl)) in
+      (λ q. sym (agree (q % n) (in_range n (q % n) (mod-lt q pos)) q refl)) in
       ap (outcome_of Len) same
   same_outcome n _ s t pos agree = refl
 
@@ -137,7 +137,7 @@ module _ {V : Type 0} where
       let P : Outcome V → Type 0 = λ x. map_call op s ≡ Some (x.reply, applied (rules V) (changes_of x) s) in
       let r = l.0 in
       let both : Some r ≡ Some (r.0, applied (rules V) (changes_by op r.0) s) = ap (λ (x : FinMap nat_cmp V). Some (r.0, x))
-              (after op s r l.1.0) in
+      (after op s r l.1.0) in
       subst P l.1.1 (l.1.0 ∙ both)
 
   none_held : (s : FinMap nat_cmp V) → None ≡ Some s → ⊥
@@ -146,10 +146,12 @@ module _ {V : Type 0} where
   pub follows_call : FollowsCall (rules V)
   follows_call op (Map m) s o within view e =
       let P : FinMap nat_cmp V → Type 0 = λ s. outcome_of op s ≡ Some o
-              → (after : Held V) × ((held_call op (Map m) ≡ Some (o.reply, after))
-              × (view_of after ≡ Some (applied (rules V) (changes_of o) s))) in
-      subst P (some_same _ _ view) (λ legal. (Map (applied (rules V) (changes_of o) m),
-          (ap (option_map (λ r. (r.0, Map r.1))) (follows_map op m o legal), refl))) e
+      → (after : Held V) × ((held_call op (Map m) ≡ Some (o.reply, after))
+      × (view_of after ≡ Some (applied (rules V) (changes_of o) s))) in
+      subst P (some_same _ _ view) (λ legal. (
+        Map (applied (rules V) (changes_of o) m),
+        (ap (option_map (λ r. (r.0, Map r.1))) (follows_map op m o legal), refl),
+      )) e
   follows_call op (Bag m) s o within view e = absurd (none_held s view)
   follows_call op (Pq m) s o within view e = absurd (none_held s view)
   follows_call op (Queue head items) s o within view e = absurd (none_held s view)

@@ -36,7 +36,7 @@ shown_code =
 abbrev pub outcome_of : {V : Type 0} → Op V → Shown → Option (Outcome V)
 outcome_of (Enqueue x) s =
     Some (if nat_lt s.tail INDEX_LIMIT then record { op = Enqueue x; reply = Done; note = Index s.tail } else record
-        { op = Enqueue x; reply = Full; note = Plain })
+    { op = Enqueue x; reply = Full; note = Plain })
 outcome_of Dequeue s = Some (record { op = Dequeue; reply = found_reply (get s.cells s.head); note = Index s.head })
 outcome_of Peek s = Some (record { op = Peek; reply = found_reply (get s.cells s.head); note = Index s.head })
 outcome_of Len s = Some (record { op = Len; reply = Number (s.tail - s.head); note = Plain })

@@ -31,7 +31,7 @@ below_cells h q [] lt = get-empty nat_cmp q
 below_cells h q (x ∷ items) lt =
     let other : eq_by_cmp nat_cmp q h ≡ false = grind (arith, nat_tests) in
     get-insert nat_cmp_total (cells_from (suc h) items) h x q ∙ ap (λ b. cond b (Some x) (get (cells_from (suc h) items) q)) other
-        ∙ below_cells (suc h) q items (omega arith)
+    ∙ below_cells (suc h) q items (omega arith)
 
 first_cell : (h x : ℕ) (items : List ℕ) → get (cells_from h (x ∷ items)) h ≡ Some x
 first_cell h x items = get-insert nat_cmp_total (cells_from (suc h) items) h x h
@@ -40,7 +40,7 @@ first_cell h x items = get-insert nat_cmp_total (cells_from (suc h) items) h x h
 remove_new : (m : FinMap nat_cmp ℕ) (k v : ℕ) → get m k ≡ None → remove (insert m k v) k ≡ m
 remove_new m k v none = same_map nat_cmp_total nat_cmp-IsAntisymmetric _ _ (λ q.
     get-remove nat_cmp_total (insert m k v) k q ∙ elim (eq_by_cmp nat_cmp q k) as
-        (λ b. eq_by_cmp nat_cmp q k ≡ b → cond b None (get (insert m k v) q) ≡ get m q) [
+    (λ b. eq_by_cmp nat_cmp q k ≡ b → cond b None (get (insert m k v) q) ≡ get m q) [
       | true ↦ λ is. sym (ap (get m) (same_key q k is) ∙ none)
       | false ↦ λ is. get-insert nat_cmp_total m k v q ∙ ap (λ b. cond b (Some v) (get m q)) is
     ] refl)
@@ -49,8 +49,8 @@ inserts_commute : (m : FinMap nat_cmp ℕ) (k v j w : ℕ) → k < j → insert 
 inserts_commute m k v j w lt = same_map nat_cmp_total nat_cmp-IsAntisymmetric _ _ (λ q.
     get-insert nat_cmp_total (insert m k v) j w q ∙ ap (cond (eq_by_cmp nat_cmp q j) (Some w)) (get-insert nat_cmp_total m k v q)
     ∙ elim (eq_by_cmp nat_cmp q j) as (λ b. eq_by_cmp nat_cmp q j ≡ b
-        → cond b (Some w) (cond (eq_by_cmp nat_cmp q k) (Some v) (get m q))
-        ≡ cond (eq_by_cmp nat_cmp q k) (Some v) (cond b (Some w) (get m q))) [
+    → cond b (Some w) (cond (eq_by_cmp nat_cmp q k) (Some v) (get m q))
+    ≡ cond (eq_by_cmp nat_cmp q k) (Some v) (cond b (Some w) (get m q))) [
       | true ↦ λ is.
           let same = same_key q j is in
           let other : eq_by_cmp nat_cmp q k ≡ false = grind (arith, nat_tests) in
@@ -80,7 +80,7 @@ put_first h x [] = refl
 put_first h x (y ∷ items) =
     let less : nat_cmp h (suc h) ≡ Less = grind (arith, nat_tests) in
     ap (λ r. by_order r ((h, x) ∷ (suc h, y) ∷ indexed (suc (suc h)) items) ((suc h, x) ∷ indexed (suc (suc h)) items)
-        ((suc h, y) ∷ put nat_cmp h x (indexed (suc (suc h)) items))) less
+    ((suc h, y) ∷ put nat_cmp h x (indexed (suc (suc h)) items))) less
 
 no_entries : (es : List (ℕ × ℕ)) → length es ≡ 0 → es ≡ []
 no_entries [] e = refl
@@ -188,7 +188,7 @@ module _ {V : Type 0} where
   found_same n op s t agree =
       let head : t.head ≡ s.head = sym (some_same _ _ (agree 0 (first_of_two 0 (cell_place n s.head)) 0 refl)) in
       let cell : get t.cells t.head ≡ get s.cells s.head = ap (get t.cells) head
-              ∙ sym (agree (cell_place n s.head) (second_of_two 0 (cell_place n s.head)) (suc (suc s.head)) refl) in
+      ∙ sym (agree (cell_place n s.head) (second_of_two 0 (cell_place n s.head)) (suc (suc s.head)) refl) in
       λ i. Some (found_at op (head i) (cell i))
 
   pub legal_where_reads_agree : LegalWhereReadsAgree (rules V)
@@ -215,10 +215,10 @@ module _ {V : Type 0} where
       → Same n l s (applied (rules V) (changes_by op r w) s)
   only_writes n l (Enqueue x) Done (Index t) s un =
       elim (nat_lt t INDEX_LIMIT) as (λ b. Same n l s (cond b (record { cells = insert s.cells t x; head = s.head; tail = t + 1 }) s))
-          [ true ↦ enqueued n l t x s un | false ↦ λ q on. refl ]
+      [ true ↦ enqueued n l t x s un | false ↦ λ q on. refl ]
   only_writes n l Dequeue (Found x) (Index h) s un =
       elim (nat_lt h INDEX_LIMIT) as (λ b. Same n l s (cond b (record { cells = remove s.cells h; head = h + 1; tail = s.tail }) s))
-          [ true ↦ dequeued n l h s un | false ↦ λ q on. refl ]
+      [ true ↦ dequeued n l h s un | false ↦ λ q on. refl ]
   only_writes n l _ _ _ s un = λ q on. refl
 
   pub changes_only_writes : ChangesOnlyWrites (rules V)
@@ -227,13 +227,13 @@ module _ {V : Type 0} where
   pub changes_by_part : ChangesByPart (rules V)
   changes_by_part (change.Enqueue t x) q s u same =
       elim (nat_lt t INDEX_LIMIT) as (λ b. look (cond b (record { cells = insert s.cells t x; head = s.head; tail = t + 1 }) s) q
-          ≡ look (cond b (record { cells = insert u.cells t x; head = u.head; tail = t + 1 }) u) q) [
+      ≡ look (cond b (record { cells = insert u.cells t x; head = u.head; tail = t + 1 }) u) q) [
         | true ↦ enqueue_by_point t x q s u same
         | false ↦ same
       ]
   changes_by_part (change.Dequeue h) q s u same =
       elim (nat_lt h INDEX_LIMIT) as (λ b. look (cond b (record { cells = remove s.cells h; head = h + 1; tail = s.tail }) s) q
-          ≡ look (cond b (record { cells = remove u.cells h; head = h + 1; tail = u.tail }) u) q) [
+      ≡ look (cond b (record { cells = remove u.cells h; head = h + 1; tail = u.tail }) u) q) [
         | true ↦ dequeue_by_point h q s u same
         | false ↦ same
       ]
@@ -257,10 +257,19 @@ module _ {V : Type 0} where
             let longer = length_pushed x items in
             let tail : head + length (items ++ x ∷ []) ≡ head + length items + 1 = omega arith in
             let cells = next_cell head x items in
-            let after : Shown = record { cells = insert (cells_from head items) (head + length items) x; head = head; tail = head + length
-                    items + 1 } in
-            (Queue head (items ++ x ∷ []), (ap calls is, (λ i. Some (record { cells = sym cells i; head = head; tail = tail i }))
-                ∙ ap (λ b. Some (cond b after (queue_view head items))) (sym is)))
+            let after : Shown = record {
+              cells = insert (cells_from head items) (head + length items) x;
+              head = head;
+              tail = head + length
+                  items + 1;
+            } in (
+              Queue head (items ++ x ∷ []),
+              (
+                ap calls is,
+                (λ i. Some (record { cells = sym cells i; head = head; tail = tail i }))
+                    ∙ ap (λ b. Some (cond b after (queue_view head items))) (sym is),
+              ),
+            )
         | false ↦ λ is. (Queue head items, (ap calls is, refl))
       ] refl
 
@@ -273,11 +282,16 @@ module _ {V : Type 0} where
       let tail : head + 1 + length items ≡ head + suc (length items) = omega arith in
       let next : head + 1 ≡ suc head = omega arith in
       let cells : cells_from (head + 1) items ≡ remove (cells_from head (x ∷ items)) head = ap (λ h. cells_from h items) next
-              ∙ sym (remove_new (cells_from (suc head) items) head x (below_cells (suc head) head items (omega arith))) in
+      ∙ sym (remove_new (cells_from (suc head) items) head x (below_cells (suc head) head items (omega arith))) in
       let after : Shown = record { cells = remove (cells_from head (x ∷ items)) head; head = head + 1; tail = head + suc (length items) } in
-      subst (λ (f : Option ℕ). Follows Dequeue head (x ∷ items) (found_at Dequeue head f)) (sym (first_cell head x items))
-      (Queue (head + 1) items, (refl, (λ i. Some (record { cells = cells i; head = head + 1; tail = tail i }))
-          ∙ ap (λ b. Some (cond b after (queue_view head (x ∷ items)))) (sym is)))
+      subst (λ (f : Option ℕ). Follows Dequeue head (x ∷ items) (found_at Dequeue head f)) (sym (first_cell head x items)) (
+        Queue (head + 1) items,
+        (
+          refl,
+          (λ i. Some (record { cells = cells i; head = head + 1; tail = tail i }))
+              ∙ ap (λ b. Some (cond b after (queue_view head (x ∷ items)))) (sym is),
+        ),
+      )
 
   peek_follows : (head : ℕ) (items : List ℕ) → Follows Peek head items (found_at Peek head (get (cells_from head items) head))
   peek_follows head [] = subst (λ (f : Option ℕ). Follows Peek head [] (found_at Peek head f)) (sym (get-empty nat_cmp head))
@@ -302,7 +316,7 @@ module _ {V : Type 0} where
   pub follows_call : FollowsCall (rules V)
   follows_call op (Queue head items) s o within view e =
       let P : Shown → Type 0 = λ s. outcome_of op s ≡ Some o → (after : Held V)
-              × ((held_call op (Queue head items) ≡ Some (o.reply, after)) × (view_of after ≡ Some (applied (rules V) (changes_of o) s))) in
+      × ((held_call op (Queue head items) ≡ Some (o.reply, after)) × (view_of after ≡ Some (applied (rules V) (changes_of o) s))) in
       subst P (some_same _ _ view) (at_state op head items o within) e
   follows_call op (Map m) s o within view e = absurd (none_some s view)
   follows_call op (Bag m) s o within view e = absurd (none_some s view)

@@ -12,7 +12,7 @@ use Rattle.command_line.specs.Ends.{HasBegun, HasToldFault, file_fault_text, lin
 
 pub written_on : (old now new : Option (List ℕ)) (w n : ℕ) (bytes : List ℕ)
     → Appends old now (take w bytes) → Appends now new (take n (take (length bytes - w) (drop w bytes)))
-        → Appends old new (take (w + n) bytes)
+    → Appends old new (take (w + n) bytes)
 written_on old now new w n bytes before more =
     let sized = length-drop w bytes in
     let rest = take_all (length bytes - w) (drop w bytes) (omega (arith, sized)) in

@@ -27,10 +27,10 @@ pub asks_for_information : (words : List Text) (error : Error) → HasKind (faul
     → AskForInformation words
 asks_for_information words error has (inl help) =
     inl (rw (sym help) (is_fault (faults words) error has (λ memory.
-        let no : kind.DisplayHelp ≡ kind.OutOfMemory = sym help ∙ memory in cc)))
+    let no : kind.DisplayHelp ≡ kind.OutOfMemory = sym help ∙ memory in cc)))
 asks_for_information words error has (inr version) =
     inr (rw (sym version) (is_fault (faults words) error has (λ memory.
-        let no : kind.DisplayVersion ≡ kind.OutOfMemory = sym version ∙ memory in cc)))
+    let no : kind.DisplayVersion ≡ kind.OutOfMemory = sym version ∙ memory in cc)))
 
 pair_of : {B : Type 0} (met : Option B) (both : B → Text × List Row) (name : Text) (rows : List Row)
     → option_map (λ (p : Text × List Row). p.1) (option_map both met) ≡ Some rows → option_map (λ b. (both b).0) met ≡ Some name
@@ -46,6 +46,9 @@ pub subcommand_met : (m : ArgMatches) (name : Text) (rows : List Row)
     → option_map (λ (p : Text × List Row). p.1) (subcommand_rows_of m) ≡ Some rows → subcommand_name_of m ≡ Some name
     → subcommand_rows_of m ≡ Some (name, rows)
 subcommand_met m name rows has-rows has-name =
-    pair_of (out-ArgMatches m).subcommand (λ b. ((out-SubCommand (box_value b)).name.now, rows_of
-        (found_of (out-SubCommand (box_value b)).matches)))
+    pair_of (out-ArgMatches m).subcommand (λ b. (
+      (out-SubCommand (box_value b)).name.now,
+      rows_of
+          (found_of (out-SubCommand (box_value b)).matches),
+    ))
     name rows has-rows has-name

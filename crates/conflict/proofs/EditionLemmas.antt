@@ -13,7 +13,7 @@ raised_other [] es l un = refl
 raised_other (w ∷ ws) es l un =
     let other : l ≢ w = λ is. un (0, omega arith, sym is) in
     raised_other ws (set es w (get_or es w 0 + 1)) l (λ c. un (suc c.0, omega (arith, c.1), c.2))
-        ∙ get_or-set_other es w l (get_or es w 0 + 1) 0 other
+    ∙ get_or-set_other es w l (get_or es w 0 + 1) 0 other
 
 -- those before a place differ from the one that stands there
 pub not_before : (ws : List ℕ) (k : ℕ) → IsStrictlyIncreasing ws → k < length ws → ¬ Contains (take k ws) (get_or ws k 0)
@@ -44,10 +44,10 @@ raised_written ws es l rising there lt = raised_once ws es l (AllPairs-from_incr
         let P : ℕ → Type 0 = λ x. get_or (set es w (get_or es w 0 + 1)) x 0 ≡ get_or es x 0 + 1 in
         let gone : ¬ Contains ws l = λ c. let less = h zero (suc c.0) l (omega arith) (omega (arith, c.1)) in let at = c.2 in omega arith in
         raised_other ws (set es w (get_or es w 0 + 1)) l gone ∙ subst P is
-            (get_or-set_same es w (get_or es w 0 + 1) 0 (subst (λ x. x < length es) (sym is) lt))
+        (get_or-set_same es w (get_or es w 0 + 1) 0 (subst (λ x. x < length es) (sym is) lt))
     raised_once (w ∷ ws) es l h (suc k, below, is) lt =
         let less = h zero (suc k) l (omega arith) (omega (arith, below)) in
         let other : l ≢ w = λ e. omega arith in
         raised_once ws (set es w (get_or es w 0 + 1)) l (λ i j d first last. h (suc i) (suc j) d (omega arith) (omega (arith, last)))
-            (k, omega (arith, below), is) (subst (λ n. l < n) (sym (length-set es w (get_or es w 0 + 1))) lt)
+        (k, omega (arith, below), is) (subst (λ n. l < n) (sym (length-set es w (get_or es w 0 + 1))) lt)
         ∙ ap (λ n. n + 1) (get_or-set_other es w l (get_or es w 0 + 1) 0 other)

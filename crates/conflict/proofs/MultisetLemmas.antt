@@ -33,7 +33,7 @@ none_later e es rising none x is =
     elim (eq_by_cmp nat_cmp x e.0) as (λ b. eq_by_cmp nat_cmp x e.0 ≡ b → ⊥) [
       | true ↦ λ same.
           let absent : find nat_cmp x es ≡ None = ap (λ k. find nat_cmp k es) (same_key x e.0 same)
-                  ∙ find_below e.0 es (below_at e.0 es (both_true _ _ rising).0) in
+          ∙ find_below e.0 es (below_at e.0 es (both_true _ _ rising).0) in
           cc
       | false ↦ λ other. none x (ap (λ b. cond b (Some e.1) (find nat_cmp x es)) other ∙ is)
     ] refl
@@ -44,7 +44,7 @@ given_inserted (e ∷ es) rising none m =
     let some = some_first e es none in
     let test : (e.1 == 0) ≡ false = grind (arith, nat_tests) in
     ap (λ b. gives (cond b (remove m e.0) (insert m e.0 e.1)) es) test
-        ∙ given_inserted es (both_true _ _ rising).1 (none_later e es rising none) (insert m e.0 e.1)
+    ∙ given_inserted es (both_true _ _ rising).1 (none_later e es rising none) (insert m e.0 e.1)
 
 -- the entries of a multiset, given to the empty one, give it back
 pub gives_all : (m : Multiset) → HasNoZero m → gives empty (entries m) ≡ m

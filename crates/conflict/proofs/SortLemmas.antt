@@ -19,7 +19,7 @@ pub kept_rises : (xs ws kept : List ℕ) → length ws ≡ length xs → IsSorte
     → IsStrictlyIncreasing kept
 kept_rises xs ws kept same sorted is =
     subst IsStrictlyIncreasing (sym is) (subst (λ (zs : List ℕ). IsStrictlyIncreasing (dedup nat_eq zs)) (sym (refilled xs ws same))
-        (IsStrictlyIncreasing-dedup ws sorted))
+    (IsStrictlyIncreasing-dedup ws sorted))
 
 pub kept_members : (xs ws kept : List ℕ) (x : ℕ) → length ws ≡ length xs → IsPermutation xs ws
     → kept ≡ dedup nat_eq (refill (length xs) xs ws) → Contains kept x ↔ Contains xs x

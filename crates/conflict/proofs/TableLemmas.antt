@@ -29,12 +29,12 @@ module _ {V S : Type 0} (m n : index.IndexMap ℕ V S) (k : ℕ) where
   pub insert_of : (v : V) → index.Updates nat_eq m n k (Some v) → from_entries {R = nat_cmp} n.entries ≡ insert (from_entries m.entries) k v
   insert_of v updates = same_map nat_cmp_total nat_cmp-IsAntisymmetric _ _ (λ q.
       get_of n.entries q ∙ updates.0 q ∙ (λ i. cond (turned_test q k i) (Some v) (sym (get_of m.entries q) i))
-          ∙ sym (get-insert nat_cmp_total (from_entries m.entries) k v q))
+      ∙ sym (get-insert nat_cmp_total (from_entries m.entries) k v q))
 
   pub remove_of : index.Updates nat_eq m n k None → from_entries {R = nat_cmp} n.entries ≡ remove (from_entries m.entries) k
   remove_of updates = same_map nat_cmp_total nat_cmp-IsAntisymmetric _ _ (λ q.
       get_of n.entries q ∙ updates.0 q ∙ (λ i. cond (turned_test q k i) None (sym (get_of m.entries q) i))
-          ∙ sym (get-remove nat_cmp_total (from_entries m.entries) k q))
+      ∙ sym (get-remove nat_cmp_total (from_entries m.entries) k q))
 
 -- no entry has a key that differs from each of them
 absent : {V : Type 0} (k : ℕ) (es : List (ℕ × V)) → AllByRecursion (λ y. nat_eq k y ≡ false) (keys_of es) → lookup (nat_eq k) es ≡ None
@@ -48,7 +48,7 @@ len_of (e ∷ es) h =
     let rest = len_of es h.1 in
     len-insert nat_cmp_total (from_entries es) e.0 e.1
     ∙ ap (λ o. cond (is_some o) (len (from_entries {R = nat_cmp} es)) (len (from_entries {R = nat_cmp} es) + 1))
-        (get_of es e.0 ∙ absent e.0 es h.0)
+    (get_of es e.0 ∙ absent e.0 es h.0)
     ∙ omega arith
 
 -- ---- entries inserted one after another

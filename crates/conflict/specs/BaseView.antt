@@ -18,7 +18,7 @@ abbrev pub base_view_code : {C : Type 0} → Coded C → Coded (BaseView C)
 base_view_code {C} shown =
     code_by (C × (ℕ × (List ℕ × ℕ))) (coded× shown (coded× coded_ℕ (coded× (coded_list coded_ℕ) coded_ℕ)))
     (λ s. (s.shown, (s.stripes, (s.editions, s.room)))) (λ p. record { shown = p.0; stripes = p.1.0; editions = p.1.1.0; room = p.1.1.1 })
-        (λ _. refl)
+    (λ _. refl)
 
 abbrev pub roomy_view_code : {C : Type 0} → Coded C → Coded (RoomyView C)
 roomy_view_code {C} shown =

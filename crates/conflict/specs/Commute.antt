@@ -57,12 +57,12 @@ module _ {V C Q A : Type 0} (r : Rules V C Q A) (laws : FrameLaws r) where
       → ¬ Any (Contains (r.reads n b)) (r.writes n a) → r.outcome op (applied r (r.changes a) s) ≡ Some b
   legal_after n op a b s pos is apart =
       laws.legal n op s (applied r (r.changes a) s) b pos is (λ l c. laws.untouched n l a s
-          (λ d. apart (shared (r.writes n a) (r.reads n b) l d c)))
+      (λ d. apart (shared (r.writes n a) (r.reads n b) l d c)))
 
   pub commute : Commute r
   commute n p q a b s pos is_a is_b apart =
       let written_apart : ¬ Any (Contains (r.writes n b)) (r.writes n a) = λ y. apart
-              (inl (y.0, y.1, y.2, y.3, laws.writes_read n y.1 b pos y.4)) in (
+      (inl (y.0, y.1, y.2, y.3, laws.writes_read n y.1 b pos y.4)) in (
         legal_after n q a b s pos is_b (λ y. apart (inl y)),
         (
           legal_after n p b a s pos is_a (λ y. apart (inr y)),

@@ -10,7 +10,7 @@ raised written editions = fold (λ es l. slice_set es l (slice_index es l + 1)) 
 abbrev pub RaisesWritten : Type 0
 RaisesWritten =
     (written editions : List ℕ) (l : ℕ) → IsStrictlyIncreasing written → Contains written l → l < length editions
-        → slice_index (raised written editions) l ≡ slice_index editions l + 1
+    → slice_index (raised written editions) l ≡ slice_index editions l + 1
 
 abbrev pub KeepsOthers : Type 0
 KeepsOthers = (written editions : List ℕ) (l : ℕ) → ¬ Contains written l → slice_index (raised written editions) l ≡ slice_index editions l

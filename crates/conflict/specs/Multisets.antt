@@ -31,17 +31,17 @@ IsChangeAt x g f = (m : Multiset) (q : ℕ) → get (f m) q ≡ cond (eq_by_cmp 
 pub get_with : (m : Multiset) (x c q : ℕ) → get (with_copies m x c) q ≡ cond (eq_by_cmp nat_cmp q x) (some_copies c) (get m q)
 get_with m x c q =
     elim (c == 0) as (λ b. get (cond b (remove m x) (insert m x c)) q ≡ cond (eq_by_cmp nat_cmp q x) (cond b None (Some c)) (get m q))
-        [ true ↦ get-remove nat_cmp_total m x q | false ↦ get-insert nat_cmp_total m x c q ]
+    [ true ↦ get-remove nat_cmp_total m x q | false ↦ get-insert nat_cmp_total m x c q ]
 
 unchanged : (m : Multiset) (x q : ℕ) → get m q ≡ cond (eq_by_cmp nat_cmp q x) (get m x) (get m q)
 unchanged m x q =
     elim (eq_by_cmp nat_cmp q x) as (λ b. eq_by_cmp nat_cmp q x ≡ b → get m q ≡ cond b (get m x) (get m q))
-        [ true ↦ λ is. ap (get m) (same_key q x is) | false ↦ λ _. refl ] refl
+    [ true ↦ λ is. ap (get m) (same_key q x is) | false ↦ λ _. refl ] refl
 
 pub more_at : (x : ℕ) → IsChangeAt x more (λ m. one_more m x)
 more_at x m q =
     elim (nat_lt (copies m x) COPY_LIMIT) as (λ b. get (cond b (with_copies m x (copies m x + 1)) m) q
-        ≡ cond (eq_by_cmp nat_cmp q x) (cond b (some_copies (copies m x + 1)) (get m x)) (get m q)) [
+    ≡ cond (eq_by_cmp nat_cmp q x) (cond b (some_copies (copies m x + 1)) (get m x)) (get m q)) [
       | true ↦ get_with m x (copies m x + 1) q
       | false ↦ unchanged m x q
     ]
@@ -54,7 +54,7 @@ module _ (x : ℕ) (g : Option ℕ → Option ℕ) (f : Multiset → Multiset) (
   pub changed_by_element : (q : ℕ) (s t : Multiset) → get s q ≡ get t q → get (f s) q ≡ get (f t) q
   changed_by_element q s t same =
       at s q ∙ elim (eq_by_cmp nat_cmp q x) as (λ b. eq_by_cmp nat_cmp q x ≡ b
-          → cond b (g (get s x)) (get s q) ≡ cond b (g (get t x)) (get t q)) [
+      → cond b (g (get s x)) (get s q) ≡ cond b (g (get t x)) (get t q)) [
         | true ↦ λ is. ap g (subst (λ y. get s y ≡ get t y) (same_key q x is) same)
         | false ↦ λ _. same
       ] refl ∙ sym (at t q)
@@ -63,4 +63,4 @@ module _ (x : ℕ) (g : Option ℕ → Option ℕ) (f : Multiset → Multiset) (
   pub unchanged_elsewhere : (q : ℕ) (s : Multiset) → ((q ≡ x) → ⊥) → get s q ≡ get (f s) q
   unchanged_elsewhere q s other =
       elim (eq_by_cmp nat_cmp q x) as (λ b. eq_by_cmp nat_cmp q x ≡ b → get s q ≡ cond b (g (get s x)) (get s q))
-          [ true ↦ λ is. absurd (other (same_key q x is)) | false ↦ λ _. refl ] refl ∙ sym (at s q)
+      [ true ↦ λ is. absurd (other (same_key q x is)) | false ↦ λ _. refl ] refl ∙ sym (at s q)

@@ -68,7 +68,7 @@ ChangesByPart {V} {C} {Q} r = (c : Change V) (q : Q) (s t : C) → r.look s q �
 abbrev pub FollowsCall : {V C Q A : Type 0} → Rules V C Q A → Type 0
 FollowsCall {V} {C} r =
     (op : Op V) (h : Held V) (s : C) (o : Outcome V) → IsWithinLimits h → r.view_of h ≡ Some s → r.outcome op s ≡ Some o
-        → (after : Held V) × ((held_call op h ≡ Some (o.reply, after)) × (r.view_of after ≡ Some (applied r (r.changes o) s)))
+    → (after : Held V) × ((held_call op h ≡ Some (o.reply, after)) × (r.view_of after ≡ Some (applied r (r.changes o) s)))
 
 -- a call has an outcome where it has a reply
 abbrev pub AnswersItsKind : {V C Q A : Type 0} → Rules V C Q A → Type 0
@@ -113,9 +113,9 @@ AreConflicting reads writes other_reads other_writes = Any (Contains other_reads
 abbrev pub Commute : {V C Q A : Type 0} → Rules V C Q A → Type 0
 Commute {V} {C} r =
     (n : ℕ) (p q : Op V) (a b : Outcome V) (s : C) → 0 < n → r.outcome p s ≡ Some a → r.outcome q s ≡ Some b
-        → ¬ AreConflicting (r.reads n a) (r.writes n a) (r.reads n b) (r.writes n b) →
+    → ¬ AreConflicting (r.reads n a) (r.writes n a) (r.reads n b) (r.writes n b) →
     (r.outcome q (applied r (r.changes a) s) ≡ Some b) × ((r.outcome p (applied r (r.changes b) s) ≡ Some a)
-        × (applied r (r.changes b) (applied r (r.changes a) s) ≡ applied r (r.changes a) (applied r (r.changes b) s)))
+    × (applied r (r.changes b) (applied r (r.changes a) s) ≡ applied r (r.changes a) (applied r (r.changes b) s)))
 
 -- changes that leave each part outside these locations
 abbrev pub AreWithin : {V C Q A : Type 0} → Rules V C Q A → ℕ → List ℕ → List (Change V) → Type 0
@@ -125,5 +125,5 @@ AreWithin {V} {C} r n writes changes = (l : ℕ) (t : C) → ¬ Contains writes 
 abbrev pub DisjointChangesCommute : {V C Q A : Type 0} → Rules V C Q A → Type 0
 DisjointChangesCommute {V} {C} r =
     (n : ℕ) (writes other_writes : List ℕ) (changes other_changes : List (Change V)) (s : C) → AreWithin r n writes changes
-        → AreWithin r n other_writes other_changes → ¬ Any (Contains other_writes) writes
-        → applied r other_changes (applied r changes s) ≡ applied r changes (applied r other_changes s)
+    → AreWithin r n other_writes other_changes → ¬ Any (Contains other_writes) writes
+    → applied r other_changes (applied r changes s) ≡ applied r changes (applied r other_changes s)

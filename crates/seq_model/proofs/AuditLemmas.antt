@@ -36,7 +36,7 @@ module _ {V : Type 0} where
   placed_inserted p e [] le h = (le, tt)
   placed_inserted p e (x ∷ xs) le h =
       elim (comes_before e x) as (λ b. PlacedFrom p (cond b (e ∷ x ∷ xs) (x ∷ insert_record e xs)))
-          [ true ↦ (le, h) | false ↦ (h.0, placed_inserted p e xs le h.1) ]
+      [ true ↦ (le, h) | false ↦ (h.0, placed_inserted p e xs le h.1) ]
 
   placed_order : (p : ℕ) (rs : List (Record V)) → PlacedFrom p (in_run_order p rs)
   placed_order p [] = tt
@@ -80,7 +80,7 @@ module _ {V : Type 0} where
   handed_inserted p rs e [] one all = (one, tt)
   handed_inserted p rs e (x ∷ xs) one all =
       elim (comes_before e x) as (λ b. AllHandedIn p rs (cond b (e ∷ x ∷ xs) (x ∷ insert_record e xs)))
-          [ true ↦ (one, all) | false ↦ (all.0, handed_inserted p rs e xs one all.1) ]
+      [ true ↦ (one, all) | false ↦ (all.0, handed_inserted p rs e xs one all.1) ]
 
   handed_behind : (p : ℕ) (r : Record V) (rs : List (Record V)) (es : List (ℕ × Record V)) → AllHandedIn (p + 1) rs es
       → AllHandedIn p (r ∷ rs) es
@@ -242,7 +242,7 @@ none_below n m [] lt h = refl
 none_below n m (t ∷ ts) lt h =
     let ne : t.0 ≢ m = omega (arith, h.0) in
     count-cons (writes_at m) t ts ∙ ap (λ b. cond (not t.1 && b) 1 0 + count_by (writes_at m) ts) (tested_other t.0 m ne)
-        ∙ uncounted t.1 (count_by (writes_at m) ts) (none_below n m ts lt h.1)
+    ∙ uncounted t.1 (count_by (writes_at m) ts) (none_below n m ts lt h.1)
 
 -- counts that differ at one number alone, where neither is above one
 at_or_off : (f g : ℕ → ℕ) (n0 n : ℕ) → (n ≢ n0 → f n ≡ g n) → g n0 ≤ 1 → f n ≤ 1 → g n ≤ 1
@@ -323,10 +323,10 @@ scanned : (last : Option ℕ) (ts : List Turn) → AllBehind last ts → Rise ts
 scanned last [] h up = λ n. one_at_most (number_is last n) 0 refl
 scanned last (t ∷ ts) h up =
     least_alike (λ n. cond (number_is last n) 1 0 + (cond (not t.1 && (t.0 == n)) 1 0 + count_by (writes_at n) ts)) (counted last (t ∷ ts))
-        (double_behind last (t ∷ ts))
+    (double_behind last (t ∷ ts))
     (λ n. ap (λ k. cond (number_is last n) 1 0 + k) (sym (count-cons (writes_at n) t ts)))
     (elim t.1 as (λ b. IsLeastDouble (λ n. cond (number_is last n) 1 0 + (cond (not b && (t.0 == n)) 1 0 + count_by (writes_at n) ts))
-        (cond b (double_behind last ts) (cond (number_is last t.0) (Some t.0) (double_behind (Some t.0) ts)))) [
+    (cond b (double_behind last ts) (cond (number_is last t.0) (Some t.0) (double_behind (Some t.0) ts)))) [
       | true ↦ least_alike (counted last ts) (λ n. cond (number_is last n) 1 0 + (0 + count_by (writes_at n) ts)) (double_behind last ts)
           (λ n. omega arith) (scanned last ts (all_behind last t ts h) up.1)
       | false ↦ behind_writer last t.0 ts (first_behind last t ts h) up.0 (scanned (Some t.0) ts up.0 up.1)

@@ -63,7 +63,7 @@ module _ {V : Type 0} where
       → changes op r ≡ false → n ≡ m
   add_unchanged op x m n r adds h c =
       elim (nat_lt (copies m x) COPY_LIMIT) as (λ b. Some (cond {A = Reply V × Multiset} b (Done, with_copies m x (copies m x + 1))
-          (Full, m)) ≡ some r n → n ≡ m) [
+      (Full, m)) ≡ some r n → n ≡ m) [
         | true ↦ λ g. changed op r Done (replied Done r _ _ g) adds c
         | false ↦ λ g. sym (left Full r m n g)
       ] h
@@ -73,7 +73,7 @@ module _ {V : Type 0} where
   multiset_unchanged (Add x) m n r h c = add_unchanged (Add x) x m n r refl h c
   multiset_unchanged (Take x) m n r h c =
       elim (copies m x == 0) as (λ b. Some (cond {A = Reply V × Multiset} b (No, m) (Yes, with_copies m x (copies m x - 1))) ≡ some r n
-          → n ≡ m) [
+      → n ≡ m) [
         | true ↦ λ g. sym (left No r m n g)
         | false ↦ λ g. changed (Take x) r Yes (replied Yes r _ _ g) refl c
       ] h
@@ -97,8 +97,8 @@ module _ {V : Type 0} where
       → option_map as_held (queue_call op head items) ≡ some r n → changes op r ≡ false → n ≡ Queue head items
   queue_unchanged (Enqueue x) head items n r h c =
       elim (nat_lt (head + length items) INDEX_LIMIT) as (λ b. Some
-          (as_held (cond {A = Reply V × ℕ × List ℕ} b (Done, head, items ++ x ∷ []) (Full, head, items))) ≡ some r n
-          → n ≡ Queue head items) [
+      (as_held (cond {A = Reply V × ℕ × List ℕ} b (Done, head, items ++ x ∷ []) (Full, head, items))) ≡ some r n
+      → n ≡ Queue head items) [
         | true ↦ λ g. changed (Enqueue x) r Done (replied Done r _ _ g) refl c
         | false ↦ λ g. sym (left Full r (Queue head items) n g)
       ] h
@@ -128,8 +128,8 @@ module _ {V : Type 0} where
       → changes op r ≡ false → option_map_or (λ a. a.1) (collection_call op t s) s ≡ s
   collection_unchanged op t s r h c =
       elim (slice_get s.held t) as (λ o. slice_get s.held t ≡ o
-          → option_map (λ a. a.0) (option_and_then (λ m. option_map (put_back s t) (held_call op m)) o) ≡ Some r
-          → option_map_or (λ a. a.1) (option_and_then (λ m. option_map (put_back s t) (held_call op m)) o) s ≡ s) [
+      → option_map (λ a. a.0) (option_and_then (λ m. option_map (put_back s t) (held_call op m)) o) ≡ Some r
+      → option_map_or (λ a. a.1) (option_and_then (λ m. option_map (put_back s t) (held_call op m)) o) s ≡ s) [
         | None ↦ λ e g. refl
         | Some m ↦ λ e g. at m (held_call op m) e (λ n q. held_unchanged op m n r q c) g
       ] refl h
@@ -141,7 +141,7 @@ module _ {V : Type 0} where
       at m (Some a) e same g =
           let reply : a.0 ≡ r = ap (λ o. unwrap_or o a.0) g in
           let back : a.1 ≡ get_or s.held t m = same a.1 (ap (λ q. some q a.1) reply) ∙ ap (λ o. unwrap_or o m) (sym e)
-                  ∙ unwrap_or-slice_get s.held t m in
+          ∙ unwrap_or-slice_get s.held t m in
           ap (λ held. record s { held = held }) (ap (set s.held t) back ∙ set-get_or s.held t m)
 
   op_unchanged : (op : Op V) (t : ℕ) (s : Contents V) (r : Reply V) → option_map (λ a. a.0) (op_call op t s) ≡ Some r

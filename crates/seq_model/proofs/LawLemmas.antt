@@ -44,8 +44,11 @@ module _ {V : Type 0} where
   parts_of_run (r ∷ rs) qs s h = let rest = parts_of_run rs qs (after_calls r.1.calls s) h.1 in ((h.0, rest.0), rest.1)
 
   pub calls_compose : CallsCompose V
-  calls_compose first second s = ((parts_of_calls first second s, λ h. IsLegal-append first second s h.0 h.1), after_calls-append first
-      second s)
+  calls_compose first second s = (
+    (parts_of_calls first second s, λ h. IsLegal-append first second s h.0 h.1),
+    after_calls-append first
+        second s,
+  )
 
   pub runs_compose : RunsCompose V
   runs_compose first second s = ((parts_of_run first second s, λ h. IsRun-append first second s h.0 h.1), after_run-append first second s)
@@ -88,8 +91,10 @@ module _ {V : Type 0} where
   no_wrong_record : (entry call : ℕ) (rs : List (ℕ × Record V)) (s : Contents V) → IsRun rs s → IsFirstWrongAt entry call rs s → ⊥
   no_wrong_record entry call [] s h g = g
   no_wrong_record entry call (r ∷ rs) s h g =
-      elim g [ inl here ↦ no_wrong_call call r.1.calls s h.0 here.1
-          | inr later ↦ no_wrong_record entry call rs (after_calls r.1.calls s) h.1 later.1 ]
+      elim g [
+        | inl here ↦ no_wrong_call call r.1.calls s h.0 here.1
+        | inr later ↦ no_wrong_record entry call rs (after_calls r.1.calls s) h.1 later.1
+      ]
 
   one_wrong_call : (a b : ℕ) (cs : List (Call V × Reply V)) (s : Contents V) → IsFirstWrong a cs s → IsFirstWrong b cs s → a ≡ b
   one_wrong_call a b [] s h g = absurd h

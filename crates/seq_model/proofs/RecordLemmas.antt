@@ -55,9 +55,9 @@ module _ {V : Type 0} where
   inserted r [] (suc i) le low high = absurd (omega arith)
   inserted r (x ∷ xs) zero le low high =
       elim (comes_before r x) as (λ b. not b ≡ false → r ∷ x ∷ xs ≡ cond b (r ∷ x ∷ xs) (x ∷ insert_record r xs))
-          [ true ↦ λ e. refl | false ↦ λ e. cc ] (high 0 x (omega arith) (omega arith))
+      [ true ↦ λ e. refl | false ↦ λ e. cc ] (high 0 x (omega arith) (omega arith))
   inserted r (x ∷ xs) (suc i) le low high =
       let rest = inserted r xs i (omega arith) (λ j d lt. low (suc j) d (omega arith))
-              (λ j d ge lt. high (suc j) d (omega arith) (omega arith)) in
+      (λ j d ge lt. high (suc j) d (omega arith) (omega arith)) in
       elim (comes_before r x) as (λ b. not b ≡ true → x ∷ insert xs i r ≡ cond b (r ∷ x ∷ xs) (x ∷ insert_record r xs))
-          [ true ↦ λ e. cc | false ↦ λ e. ap (λ l. x ∷ l) rest ] (low 0 x (omega arith))
+      [ true ↦ λ e. cc | false ↦ λ e. ap (λ l. x ∷ l) rest ] (low 0 x (omega arith))

@@ -28,7 +28,7 @@ pub found_turn : (last r : Option ℕ) (ts : List Turn) (i : ℕ) (d : Turn) →
     → last ≡ Some (get_or ts i d).0 → double_behind last (drop i ts) ≡ r → r ≡ last
 found_turn last r ts i d lt writes again h =
     sym (ap (double_behind last) (sym (drop-cons ts i d lt)) ∙ h) ∙ at_writer (get_or ts i d) (drop (suc i) ts) last writes again
-        ∙ sym again
+    ∙ sym again
 
 pub past_all : (last r : Option ℕ) (ts : List Turn) (i : ℕ) → length ts ≤ i → double_behind last (drop i ts) ≡ r → None ≡ r
 past_all last r ts i le h = sym (ap (double_behind last) (drop_of_length-le ts le)) ∙ h
@@ -49,7 +49,7 @@ module _ {V : Type 0} where
       → SoFar cs i s0 s → reply_of c.0 s ≡ Some c.1 → t ≡ after_call c.0 s → SoFar cs (i + 1) s0 t
   call_step cs i s0 s t c lt is h reply after =
       let here = subst (λ z. reply_of (get_or cs i c).0 z ≡ Some (get_or cs i c).1) h.1 (subst (λ x. reply_of x.0 s ≡ Some x.1) is reply)
-              in (
+      in (
         subst (λ n. IsLegal (take n cs) s0) (one_more i) (legal_more cs i s0 c lt h.0 here),
         after ∙ ap (λ x. after_call x.0 s) is ∙ ap (λ z. after_call (get_or cs i c).0 z) h.1 ∙ sym (after_more cs i s0 c lt)
             ∙ ap (λ n. after_calls (take n cs) s0) (one_more i),
@@ -59,7 +59,7 @@ module _ {V : Type 0} where
       → SoFar cs i s0 s → (reply_of c.0 s ≡ Some c.1 → ⊥) → IsFirstWrong i cs s0
   call_wrong cs i s0 s c lt is h differs =
       wrong_here cs i s0 c lt h.0 (λ e. differs (subst (λ x. reply_of x.0 s ≡ Some x.1) (sym is)
-          (subst (λ z. reply_of (get_or cs i c).0 z ≡ Some (get_or cs i c).1) (sym h.1) e)))
+      (subst (λ z. reply_of (get_or cs i c).0 z ≡ Some (get_or cs i c).1) (sym h.1) e)))
 
   pub calls_done : (cs : List (Call V × Reply V)) (i : ℕ) (s0 s : Contents V) → length cs ≤ i → SoFar cs i s0 s
       → IsLegal cs s0 × (s ≡ after_calls cs s0)
@@ -90,7 +90,7 @@ module _ {V : Type 0} where
       let long : length ts ≡ length (run_order rs) = ap length same ∙ length-map (run_order rs) turn_of in
       let below : i < length (run_order rs) = omega arith in
       let turn : (get_or ts i d).2 ≡ (get_or (run_order rs) i (place, r)).0 = ap (λ l. (get_or l i d).2) same
-              ∙ ap (λ (t : Turn). t.2) (get_or-map (turn_of {V = V}) (run_order rs) i (place, r) d below) in
+      ∙ ap (λ (t : Turn). t.2) (get_or-map (turn_of {V = V}) (run_order rs) i (place, r) d below) in
       let here : (get_or (run_order rs) i (place, r)).0 ≡ place = sym turn ∙ at in
       record {
         below = below;
@@ -107,7 +107,7 @@ module _ {V : Type 0} where
   record_step rs ts i place r d s0 s t same lt at is h legal after =
       let e = entry rs ts i place r d same lt at is in
       let here = subst (λ (x : Record V). IsLegal x.calls (after_run (take i (run_order rs)) s0)) (sym e.record_is)
-              (subst (IsLegal r.calls) h.1 legal) in (
+      (subst (IsLegal r.calls) h.1 legal) in (
         subst (λ n. IsRun (take n (run_order rs)) s0) (one_more i) (run_more (run_order rs) i s0 (place, r) e.below h.0 here),
         after ∙ ap (after_calls r.calls) h.1 ∙ ap (λ (x : Record V). after_calls x.calls (after_run (take i (run_order rs)) s0))
             (sym e.record_is)
@@ -120,7 +120,7 @@ module _ {V : Type 0} where
   record_wrong rs ts i place call r d s0 s same lt at is h wrong =
       let e = entry rs ts i place r d same lt at is in
       let here = subst (λ (x : Record V). IsFirstWrong call x.calls (after_run (take i (run_order rs)) s0)) (sym e.record_is)
-              (subst (IsFirstWrong call r.calls) h.1 wrong) in
+      (subst (IsFirstWrong call r.calls) h.1 wrong) in
       wrong_at (run_order rs) i s0 (place, r) place call e.below h.0 e.place_is here
 
   pub records_done : (rs : List (Record V)) (ts : List Turn) (i : ℕ) (s0 s : Contents V) → ts ≡ map turn_of (run_order rs) → length ts ≤ i
@@ -139,7 +139,7 @@ module _ {V : Type 0} where
   shared_numbers rs ts r same h =
       least_alike (λ n. count_by (writes_at n) ts) (writers_at rs) r
       (λ n. ap (count_by (writes_at n)) (same ∙ turns_run_order 0 rs) ∙ counted_sorted (writes_at n) (turns_from 0 rs)
-          ∙ counted_records n 0 rs) h
+      ∙ counted_records n 0 rs) h
 
   pub replay_fault : (opening s last : Contents V) (rs : List (Record V)) (f : AuditFault) → s ≡ opening
       → IsLeastDouble (writers_at rs) None → IsReplayFault (run_order rs) s f → IsAuditFault opening rs last f

@@ -77,7 +77,7 @@ module _ {V : Type 0} where
   reader_inserted r [] s reads behind h g = ((g, tt), after_reads r.1.calls s reads g)
   reader_inserted r (x ∷ xs) s reads behind h g =
       elim (comes_before r x) as (λ b. comes_before r x ≡ b → IsRun (cond b (r ∷ x ∷ xs) (x ∷ insert_record r xs)) s
-          × (after_run (cond b (r ∷ x ∷ xs) (x ∷ insert_record r xs)) s ≡ after_run (x ∷ xs) s)) [
+      × (after_run (cond b (r ∷ x ∷ xs) (x ∷ insert_record r xs)) s ≡ after_run (x ∷ xs) s)) [
         | true ↦ λ e.
             let legal : IsLegal r.1.calls s = subst (IsLegal r.1.calls) (after_readers (x ∷ xs) s (behind.0 e) h) g in
             let same : after_calls r.1.calls s ≡ s = after_reads r.1.calls s reads legal in
@@ -101,7 +101,7 @@ module _ {V : Type 0} where
   up_to_inserted n r [] le h = (le, tt)
   up_to_inserted n r (x ∷ xs) le h =
       elim (comes_before r x) as (λ b. AllUpTo n (cond b (r ∷ x ∷ xs) (x ∷ insert_record r xs)))
-          [ true ↦ (le, h) | false ↦ (h.0, up_to_inserted n r xs le h.1) ]
+      [ true ↦ (le, h) | false ↦ (h.0, up_to_inserted n r xs le h.1) ]
 
   -- a record whose number is above all goes last
   pub inserted_last : (n : ℕ) (r : ℕ × Record V) (rs : List (ℕ × Record V)) → n < r.1.number → AllUpTo n rs
@@ -130,7 +130,7 @@ module _ {V : Type 0} where
   up_to-all n m (r ∷ rs) le h =
       let yes-r : nat_le r.1.number m ≡ true = passes r.1.number n m h.0 le in
       ap (λ b. cond b (r ∷ filter (λ r. nat_le r.1.number m) rs) (filter (λ r. nat_le r.1.number m) rs)) yes-r
-          ∙ ap (λ l. r ∷ l) (up_to-all n m rs le h.1)
+      ∙ ap (λ l. r ∷ l) (up_to-all n m rs le h.1)
     where
       passes : (k n m : ℕ) → k ≤ n → n ≤ m → nat_le k m ≡ true
       passes k n m h g = grind (arith, nat_tests)
@@ -155,7 +155,7 @@ module _ {V : Type 0} where
   none_inserted x r [] h none = (h, tt)
   none_inserted x r (y ∷ ys) h none =
       elim (comes_before r y) as (λ b. NoneComesBefore x (cond b (r ∷ y ∷ ys) (y ∷ insert_record r ys)))
-          [ true ↦ (h, none) | false ↦ (none.0, none_inserted x r ys h none.1) ]
+      [ true ↦ (h, none) | false ↦ (none.0, none_inserted x r ys h none.1) ]
 
   pub order_inserted : (r : ℕ × Record V) (xs : List (ℕ × Record V)) → IsInCommitOrder xs → NoClash r xs
       → IsInCommitOrder (insert_record r xs)

@@ -18,7 +18,7 @@ module _ {V : Type 0} where
   put_is k v [] = refl
   put_is k v (e ∷ es) =
       by_cases k e.0 (λ r. match_ordering r ((k, v) ∷ e ∷ es) ((e.0, v) ∷ es) (e ∷ insert_entry nat_cmp es k v)
-          ≡ by_order r ((k, v) ∷ e ∷ es) ((e.0, v) ∷ es) (e ∷ put nat_cmp k v es))
+      ≡ by_order r ((k, v) ∷ e ∷ es) ((e.0, v) ∷ es) (e ∷ put nat_cmp k v es))
       (λ _. refl) (λ _. refl) (λ _. ap (λ t. e ∷ t) (put_is k v es))
 
   find_is : (k : ℕ) (es : List (ℕ × V)) → lookup (is_at (nat_cmp k)) es ≡ find nat_cmp k es
@@ -29,7 +29,7 @@ module _ {V : Type 0} where
   without_is k [] s = refl
   without_is k (e ∷ es) s =
       by_cases k e.0 (λ r. cond (is_eq r) es (e ∷ remove_entry (is_at (nat_cmp k)) es)
-          ≡ cond (not (is_eq r)) (e ∷ without k es) (without k es))
+      ≡ cond (not (is_eq r)) (e ∷ without k es) (without k es))
       (λ _. ap (λ t. e ∷ t) (without_is k es (both_true _ _ s).1))
       (λ same. sym (without_below k es (λ j d l. omega (arith, below_at e.0 es (both_true _ _ s).0 j d l))))
       (λ _. ap (λ t. e ∷ t) (without_is k es (both_true _ _ s).1))

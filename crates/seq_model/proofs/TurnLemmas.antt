@@ -92,7 +92,7 @@ none_put : (x t : Turn) (ts : List Turn) → is_before t x ≡ false → NoneIsB
 none_put x t [] h none = (h, tt)
 none_put x t (u ∷ us) h none =
     elim (is_before t u) as (λ b. NoneIsBefore x (cond b (t ∷ u ∷ us) (u ∷ put_turn t us)))
-        [ true ↦ (h, none) | false ↦ (none.0, none_put x t us h none.1) ]
+    [ true ↦ (h, none) | false ↦ (none.0, none_put x t us h none.1) ]
 
 none_further : (t u : Turn) (ts : List Turn) → is_before u t ≡ false → NoneIsBefore u ts → NoneIsBefore t ts
 none_further t u [] h none = tt
@@ -154,4 +154,4 @@ in_turn_far (t ∷ ts) h = (
 pub sorted_turns : (xs ys : List Turn) → IsSortedBy is_before ys → IsStableBy is_before xs ys → ys ≡ sort_turns xs
 sorted_turns xs ys sorted stable =
     only_one ys (sort_turns xs) (in_turn_far ys (sorted_far is_before ranked ys sorted)) (in_turn_sorted xs)
-        (λ x. stable x ∙ sym (filter-sort x xs))
+    (λ x. stable x ∙ sym (filter-sort x xs))

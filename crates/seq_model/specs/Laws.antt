@@ -13,7 +13,7 @@ use Rattle.seq_model.specs.Audit.{IsRunBetween, IsAuditFault}
 abbrev pub CallsDetermineReplies : Type 0 → Type 0
 CallsDetermineReplies V =
     (one other : List (Call V × Reply V)) (s : Contents V) → IsLegal one s → IsLegal other s → map (λ c. c.0) one ≡ map (λ c. c.0) other
-        → one ≡ other
+    → one ≡ other
 
 -- calls after calls: legal where the second are legal at what the first leave, and that is where they go on from
 abbrev pub CallsCompose : Type 0 → Type 0

@@ -195,11 +195,11 @@ turns_join (suc n) k (suc m) a b c d p q ws (x ∷ xs) ys (y ∷ ms) ns sum firs
 pub turn_on : (n a b c d : ℕ) (quiet : Bool) (ws vs : List Bool) (xs ys : List (Event ℕ)) (ms ns : List (Notice ℕ))
     → vs ≡ waiting_after ws xs ms
     → waits vs c ≡ true → AreTurnsTo n a b ws xs ms c d → IsOne (event.Step c) quiet ys ns
-        → AreTurnsTo (n + 1) a b ws (xs ++ ys) (ms ++ ns) d c
+    → AreTurnsTo (n + 1) a b ws (xs ++ ys) (ms ++ ns) d c
 turn_on n a b c d quiet ws vs xs ys ms ns after waiting turns one =
     rw (one.1.0, one.1.1.0)
     (turns_join n 1 (n + 1) a b c d d c ws xs (event.Step c ∷ []) ms (one.0 ∷ []) refl turns
-        (inl ((rw after at waiting, refl), (refl, refl))))
+    (inl ((rw after at waiting, refl), (refl, refl))))
 
 -- the first is passed over
 pub turn_over : (n a b c d : ℕ) (quiet : Bool) (ws vs : List Bool) (xs ys : List (Event ℕ)) (ms ns : List (Notice ℕ))
@@ -209,7 +209,7 @@ pub turn_over : (n a b c d : ℕ) (quiet : Bool) (ws vs : List Bool) (xs ys : Li
 turn_over n a b c d quiet ws vs xs ys ms ns after idle waiting turns one =
     rw (one.1.0, one.1.1.0)
     (turns_join n 1 (n + 1) a b c d c d ws xs (event.Step d ∷ []) ms (one.0 ∷ []) refl turns
-        (inr (rw after at idle, ((rw after at waiting, refl), (refl, refl)))))
+    (inr (rw after at idle, ((rw after at waiting, refl), (refl, refl)))))
 
 -- as many as there may be
 all_turns : (n a b c d : ℕ) (ws : List Bool) (xs : List (Event ℕ)) (ms : List (Notice ℕ)) → AreTurnsTo n a b ws xs ms c d
@@ -234,7 +234,7 @@ turns_all n k a b c d ws xs ms same turns = subst (λ (m : ℕ). AreTurns m a b 
 -- neither has an unanswered request any more
 done_turns : (n k a b c d : ℕ) (ws : List Bool) (xs : List (Event ℕ)) (ms : List (Notice ℕ)) → k < n
     → waits (waiting_after ws xs ms) c ≡ false → waits (waiting_after ws xs ms) d ≡ false → AreTurnsTo k a b ws xs ms c d
-        → AreTurns n a b ws xs ms
+    → AreTurns n a b ws xs ms
 unfolding AreTurns
 done_turns zero k a b c d ws xs ms lt first second turns = absurd (omega arith)
 done_turns (suc n) zero a b c d ws [] [] lt first second turns = (rw turns.0 at first, rw turns.1 at second)

@@ -82,7 +82,7 @@ AreTurns (suc n) first second waiting [] [] = (waits waiting first ≡ false) ×
 AreTurns (suc n) first second waiting (e ∷ es) (notice ∷ told) =
     (IsStepOf waiting first e × AreTurns n second first (waiting_then waiting e (tells_nothing notice)) es told)
     ⊎ ((waits waiting first ≡ false) × (IsStepOf waiting second e
-        × AreTurns n first second (waiting_then waiting e (tells_nothing notice)) es told))
+    × AreTurns n first second (waiting_then waiting e (tells_nothing notice)) es told))
 AreTurns n first second waiting es told = ⊥
 
 abbrev pub IsPlay : List Bool → Line → List (Event ℕ) → List (Notice ℕ) → Type 0

@@ -89,10 +89,10 @@ at_place : (w t : Cells) (x y : Actor) (p : Place) (r : Answer) → x.place ≡ 
 at_place w t x y p r at_p does s a h e =
     let turn : happens s (Step a) ≡ step s a (actor_of x) (place_of x.reads.entries x.writes.entries p) =
     ap (λ (z : machine.Actor). step s a z z.place) e ∙ ap (λ (z : Place). step s a (actor_of x)
-        (place_of x.reads.entries x.writes.entries z)) at_p in
+    (place_of x.reads.entries x.writes.entries z)) at_p in
     let told : notice s (s.actors a) (s.actors a).place ≡ notice s (actor_of x) (place_of x.reads.entries x.writes.entries p) =
     ap (λ (z : machine.Actor). notice s z z.place) e ∙ ap (λ (z : Place). notice s (actor_of x)
-        (place_of x.reads.entries x.writes.entries z)) at_p in
+    (place_of x.reads.entries x.writes.entries z)) at_p in
     let d = does s a h in (
       subst (AreCells t) (sym turn) d.0,
       ap (λ (u : World). u.actors a) turn ∙ d.1,
@@ -210,7 +210,7 @@ takes w x y l k i word at_p inn found free own = at_place w (relocked w l (word 
     let won : tried s a (actor_of x) l k ls (Free k) ≡ locked s a (actor_of x) l k ls = cond-true (eqb k k)
     (locked s a (actor_of x) l k ls) (now s a (goes (actor_of x) machine.Broken)) (eq-eqb k k refl) in
     let turn : tried s a (actor_of x) l k ls (s.locks l) ≡ locked s a (actor_of x) l k ls = ap (tried s a (actor_of x) l k ls) is_free
-            ∙ won in
+    ∙ won in
     let quiet : take_notice l k (Free k) ≡ Quiet = cond-true (eqb k k) Quiet (Busy l (2 * k)) (eq-eqb k k refl) in (
       subst (AreCells (relocked w l (word + 1))) (sym turn)
           (record {

@@ -54,7 +54,7 @@ length-map_actors (x ∷ xs) = ap suc (length-map_actors xs)
 pub shows_next : (w t : Machine) (s u : World) (a : ℕ) (y : Actor) → Shows (shown w) s → a < length w.actors.items → t.actors.items
     ≡ slice_set w.actors.items a y → u.actors ≡ put s.actors a (actor_of y)
     → u.clock ≡ t.cells.clock → ((l : ℕ) → u.locks l ≡ unbits (get_or t.cells.locks.items l 0))
-        → ((l : ℕ) → u.values l ≡ get_or t.cells.values.items l 0)
+    → ((l : ℕ) → u.values l ≡ get_or t.cells.values.items l 0)
     → u.history ≡ in_order [] (map record_of t.history.items)
     → Shows (shown t) u
 shows_next w t s u a y h inn xs us c ls vs hs = record {

@@ -64,8 +64,13 @@ shows_opening w z b h = record {
 }
 
 pub reached_opening : (w : Machine) → AreZero w.cells.locks.items → AreBlank w.actors.items → w.history.items ≡ [] → Reached (shown w)
-reached_opening w z b h = record { clock = w.cells.clock; opening = λ l. get_or w.cells.values.items l 0; events = []; shows =
-    shows_opening w z b h }
+reached_opening w z b h = record {
+  clock = w.cells.clock;
+  opening = λ l. get_or w.cells.values.items l 0;
+  events = [];
+  shows =
+      shows_opening w z b h;
+}
 
 pub sound_opening : (w : Machine) → length w.cells.values.items ≡ length w.cells.locks.items → length w.actors.items ≡ SEATS
     → AreBlank w.actors.items

@@ -109,8 +109,11 @@ unfolding each
 IsRising-with_entry [] l v rising = subst IsRising (sym (with_entry-nil l v)) ((λ k d h. absurd (omega (arith, h))), tt)
 IsRising-with_entry (e ∷ es) l v rising =
     by_head IsRising e es l v
-    (λ lt. ((λ k d h. from_each (λ x. l < x.0) (e ∷ es) (lt, to_each (λ x. l < x.0) es (λ j c g. omega (arith, lt, rising.0 j c g))) k d
-        h), rising))
+    (λ lt. (
+      (λ k d h. from_each (λ x. l < x.0) (e ∷ es) (lt, to_each (λ x. l < x.0) es (λ j c g. omega (arith, lt, rising.0 j c g))) k d
+          h),
+      rising,
+    ))
     (λ same. ((λ k d h. omega (arith, same, rising.0 k d h)), rising.1))
     (λ lt. (All-with_entry (λ x. e.0 < x.0) es l v lt rising.0, IsRising-with_entry es l v rising.1))
 
@@ -162,7 +165,7 @@ apart : (e : ℕ × ℕ) (es : Entries) (f : ℕ × ℕ) (fs : Entries) → e.0 
     → ⊥
 apart e es f fs lt rising same =
     let gone : lookup (f ∷ fs) e.0 ≡ None = lookup-tail f fs e.0 (λ q. omega (arith, lt, q))
-            ∙ lookup_above fs e.0 (λ k d h. omega (arith, lt, rising.0 k d h)) in
+    ∙ lookup_above fs e.0 (λ k d h. omega (arith, lt, rising.0 k d h)) in
     let x : Some e.1 ≡ None = sym (lookup-head e es) ∙ same ∙ gone in
     cc
 

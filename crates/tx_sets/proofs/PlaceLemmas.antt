@@ -37,7 +37,7 @@ set_there (e ∷ es) l v zero rising inside is = sym (with_entry_at e es l v (sy
 set_there (e ∷ es) l v (suc i) rising inside is =
     let above = rising.0 i e (omega (arith, inside)) in
     ap (λ (z : Entries). e ∷ z) (set_there es l v i rising.1 (omega (arith, inside)) is)
-        ∙ sym (with_entry_above e es l v (omega (arith, above, is e)))
+    ∙ sym (with_entry_above e es l v (omega (arith, above, is e)))
 
 -- the value of an entry that is there, written over
 pub write_there : (es : Entries) (l v i : ℕ) (d : ℕ × ℕ) → IsRising es → IsPlaceOf l es (Ok i) → d ≡ get_or es i d
@@ -57,7 +57,7 @@ insert_gap (e ∷ es) l v zero le below above = sym (with_entry_below e es l v (
 insert_gap (e ∷ es) l v (suc i) le below above =
     ap (λ (z : Entries). e ∷ z)
     (insert_gap es l v i (omega (arith, le)) (λ k d ge lt. below (suc k) d (omega arith) (omega (arith, lt)))
-        (λ k d ge lt. above (suc k) d (omega (arith, ge)) (omega (arith, lt))))
+    (λ k d ge lt. above (suc k) d (omega (arith, ge)) (omega (arith, lt))))
     ∙ sym (with_entry_above e es l v (below 0 e (omega arith) (omega arith)))
 
 index_le : (x y k : ℕ) → x < y → ordering_index (nat_cmp x k) ≤ ordering_index (nat_cmp y k)
@@ -101,8 +101,12 @@ last_place l es n d rising all last = above_all l es n all below
         let first = ap (λ (x : ℕ × ℕ). x.0) (get_or_default es k c d inside) in
         elim (cases_eq k (n - 1)) [
           | inl q ↦ omega (arith, last, ap (λ (i : ℕ). (get_or es i d).0) q, first)
-          | inr ne ↦ omega (arith, last, rising_at es rising k (n - 1) d (omega (arith, inside, ne, all)) (omega (arith, inside, all)),
-              first)
+          | inr ne ↦ omega (
+            arith,
+            last,
+            rising_at es rising k (n - 1) d (omega (arith, inside, ne, all)) (omega (arith, inside, all)),
+            first,
+          )
         ]
 
 -- a new entry put where it goes
@@ -123,8 +127,12 @@ orderly_new es fs gs l v i orderly place same is fewer =
     let put = put_new es fs gs l v i place same is in
     record {
       rising = subst IsRising (sym put) (IsRising-with_entry es l v orderly.rising);
-      within = omega (arith, ap (λ (z : Entries). length z) put, length-with_entry_new es l v (lookup_gap es l i place.1.0 place.1.1),
-          fewer);
+      within = omega (
+        arith,
+        ap (λ (z : Entries). length z) put,
+        length-with_entry_new es l v (lookup_gap es l i place.1.0 place.1.1),
+        fewer,
+      );
     }
 
 pub not_there : (o : Option ℕ) → o ≡ None → IsSome o → ⊥
@@ -195,7 +203,7 @@ counted_gap l es n rising counted other =
             elim (cases_eq k n) [
               | inl q ↦
                   let apart : (get_or es k d).0 ≡ l → ⊥ = λ z. other d (omega (arith, lt, q))
-                          (ap (λ (i : ℕ). (get_or es i d).0) (sym q) ∙ z) in
+                  (ap (λ (i : ℕ). (get_or es i d).0) (sym q) ∙ z) in
                   omega (arith, parts.2 k d (omega (arith, ge, same)) lt, apart)
               | inr ne ↦
                   omega (

@@ -27,4 +27,4 @@ LacksRoom set location = (lookup set.entries location ≡ None) × (set.room ≡
 abbrev pub IsPlaceOf : ℕ → Entries → Result ℕ ℕ → Type 0
 IsPlaceOf location es place =
     MatchResult place (λ i. (i < length es) × HoldsAt (λ e. e.0 ≡ location) es i)
-        (λ i. (i ≤ length es) × IsPartitionPoint (λ e. e.0 < location) (λ e. location < e.0) es i)
+    (λ i. (i ≤ length es) × IsPartitionPoint (λ e. e.0 < location) (λ e. location < e.0) es i)

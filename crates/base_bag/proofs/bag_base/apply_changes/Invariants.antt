@@ -8,5 +8,5 @@ use Rattle.base_bag.proofs.bag_base.apply_changes.Given as goal
 abbrev pub invariant-loop-change : goal.invariant-loop-change
 invariant-loop-change g l =
     (applied (rules _) (into_iter_items l.change-iterator) l.elements.shown ≡ applied (rules _) l.fn.changes l.fn.elements.shown)
-        × (length (into_iter_items l.change-iterator) ≤ l.elements.room)
+    × (length (into_iter_items l.change-iterator) ≤ l.elements.room)
     × (l.fn.elements.room + length (into_iter_items l.change-iterator) ≤ l.elements.room + length l.fn.changes)

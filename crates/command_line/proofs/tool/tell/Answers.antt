@@ -12,7 +12,7 @@ loop-written-preserved g c = record {
 pub returns-in_default-clause-begun : goal.returns-in_default-clause-begun
 returns-in_default-clause-begun g c =
     begun_with _ _ _ c.args.bytes.now (written_on _ _ _ c.loop-written.written c.in-Ok.count c.args.bytes.now
-        c.loop-written.invariant.grown c.in-Ok.ensures.bytes)
+    c.loop-written.invariant.grown c.in-Ok.ensures.bytes)
 
 pub returns-in_default-2-clause-begun : goal.returns-in_default-2-clause-begun
 returns-in_default-2-clause-begun g c =

@@ -12,20 +12,20 @@ double_number-requires g c = in_turn c.args.records.now c.deref.result.now (c.de
 pub returns-in-Some-clause-fault : goal.returns-in-Some-clause-fault
 returns-in-Some-clause-fault g c =
     shared_numbers c.args.records.now c.deref.result.now (Some c.in-Some.number) (c.deref.ensures.value ∙ c.in_ok-turns.ensures.turns)
-        c.in-Some.ensures
+    c.in-Some.ensures
 
 pub returns-in_err-replay-clause-fault : goal.returns-in_err-replay-clause-fault
 returns-in_err-replay-clause-fault g c =
     let own = shared_numbers c.args.records.now c.deref.result.now None (c.deref.ensures.value ∙ c.in_ok-turns.ensures.turns)
-            c.in_default.ensures in
+    c.in_default.ensures in
     let p = err_from_is_err_and c.from_residual-in_err-replay.result c.from_residual-in_err-replay.ensures.1 in
     rw (p.1, p.2) (replay_fault c.args.opening.now c.in_ok-state.state c.args.last.now c.args.records.now c.in_err-replay.field-0.0
-        c.in_ok-state.ensures own c.in_err-replay.ensures.fault)
+    c.in_ok-state.ensures own c.in_err-replay.ensures.fault)
 
 pub returns-then-not-same-clause-fault : goal.returns-then-not-same-clause-fault
 returns-then-not-same-clause-fault g c =
     let own = shared_numbers c.args.records.now c.deref.result.now None (c.deref.ensures.value ∙ c.in_ok-turns.ensures.turns)
-            c.in_default.ensures in
+    c.in_default.ensures in
     let order = run_order c.args.records.now in
     let run = c.in_ok-replay.ensures.ok in (
       own,
@@ -36,8 +36,11 @@ returns-then-not-same-clause-fault g c =
 pub returns-clause-ok : goal.returns-clause-ok
 returns-clause-ok g c =
     let own = shared_numbers c.args.records.now c.deref.result.now None (c.deref.ensures.value ∙ c.in_ok-turns.ensures.turns)
-            c.in_default.ensures in
+    c.in_default.ensures in
     let order = run_order c.args.records.now in
-    let run = c.in_ok-replay.ensures.ok in
-    (own, subst (IsRun order) c.in_ok-state.ensures run.0, sym (run.1 ∙ ap (after_run order) c.in_ok-state.ensures)
-        ∙ c.same.ensures.0 c.if-not-same.false)
+    let run = c.in_ok-replay.ensures.ok in (
+      own,
+      subst (IsRun order) c.in_ok-state.ensures run.0,
+      sym (run.1 ∙ ap (after_run order) c.in_ok-state.ensures)
+          ∙ c.same.ensures.0 c.if-not-same.false,
+    )

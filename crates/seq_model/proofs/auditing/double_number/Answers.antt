@@ -12,7 +12,7 @@ returns-then-eq c =
     let i = c.loop-number.number-index in
     let again : c.loop-number.last ≡ Some (get_or turns i (0, false, 0)).0 = first_of (search rules, grind (arith, common_steps)) in
     subst (IsLeastDouble (λ n. count_by (writes_at n) turns)) (found_turn c.loop-number.last _ turns i (0, false, 0)
-        c.loop-number-test.true c.if-not-only_reads.true again c.loop-number.invariant)
+    c.loop-number-test.true c.if-not-only_reads.true again c.loop-number.invariant)
     (least_double turns c.requires)
 
 pub returns : goal.returns
@@ -20,4 +20,4 @@ returns c =
     let turns = c.args.turns.now in
     let le : length turns ≤ c.loop-number.number-index = omega arith in
     subst (IsLeastDouble (λ n. count_by (writes_at n) turns)) (sym
-        (past_all c.loop-number.last _ turns c.loop-number.number-index le c.loop-number.invariant)) (least_double turns c.requires)
+    (past_all c.loop-number.last _ turns c.loop-number.number-index le c.loop-number.invariant)) (least_double turns c.requires)

@@ -21,8 +21,8 @@ returns-in-Some-clause-fault g c =
     let calls = c.as_slice-calls.ensures ∙ ap (λ (r : Record g.row.V.Denot). r.calls) (sym c.index-records-place.is) in
     let wrong = rw c.in-Some.is at c.in_ok-call.ensures in
     record_wrong c.args.records.now c.args.turns.now c.loop-place.place-index
-        (get_or c.args.turns.now c.loop-place.place-index (0, false, 0)).2 c.in-Some.call c.index-records-place.result (0, false, 0)
-        c.args.state.now c.loop-place.state
+    (get_or c.args.turns.now c.loop-place.place-index (0, false, 0)).2 c.in-Some.call c.index-records-place.result (0, false, 0)
+    c.args.state.now c.loop-place.state
     c.requires c.loop-place-test.true refl c.index-records-place.is c.loop-place.invariant
     (subst (λ cs. IsFirstWrong c.in-Some.call cs c.loop-place.state) calls wrong)
 
@@ -31,7 +31,7 @@ loop-place-preserved g c =
     let calls = c.as_slice-calls.ensures ∙ ap (λ (r : Record g.row.V.Denot). r.calls) (sym c.index-records-place.is) in
     let legal = rw c.in_default.is at c.in_ok-call.ensures in
     record_step c.args.records.now c.args.turns.now c.loop-place.place-index
-        (get_or c.args.turns.now c.loop-place.place-index (0, false, 0)).2 c.index-records-place.result (0, false, 0) c.args.state.now
-        c.loop-place.state c.first_wrong.new.state
+    (get_or c.args.turns.now c.loop-place.place-index (0, false, 0)).2 c.index-records-place.result (0, false, 0) c.args.state.now
+    c.loop-place.state c.first_wrong.new.state
     c.requires c.loop-place-test.true refl c.index-records-place.is c.loop-place.invariant
     (subst (λ cs. IsLegal cs c.loop-place.state) calls legal.0) (legal.1 ∙ ap (λ cs. after_calls cs c.loop-place.state) calls)

@@ -9,12 +9,12 @@ use Rattle.seq_model.proofs.auditing.turns_of.Goals as goal
 pub loop-place-preserved : goal.loop-place-preserved
 loop-place-preserved g c =
     turns_step c.args.records.now c.loop-place.place c.loop-place.turns.items c.push.new.self.items c.index-records-place.result
-        (omega arith) c.index-records-place.is c.loop-place.invariant c.in_ok-push.ensures.items
+    (omega arith) c.index-records-place.is c.loop-place.invariant c.in_ok-push.ensures.items
 
 pub returns : goal.returns
 returns g c =
     let all : take c.loop-place.place c.args.records.now ≡ c.args.records.now = take_all c.loop-place.place c.args.records.now
-            (omega arith) in
+    (omega arith) in
     record {
       turns = sorted_turns c.loop-place.turns.items c.sort.new.self.items c.in_ok-sort.ensures.sorted c.sort.ensures.stable
           ∙ ap sort_turns (c.loop-place.invariant ∙ ap (λ l. turns_from 0 l) all) ∙ sym (turns_run_order 0 c.args.records.now);

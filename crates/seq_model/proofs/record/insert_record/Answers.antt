@@ -11,11 +11,11 @@ returns-clause-ok g c =
     let same = c.deref.ensures.value in
     let place = c.partition_point-place.result in
     let sorted : IsPartitionedBy (stays r) c.deref.result.now = subst (IsPartitionedBy (stays r)) (sym same)
-            (parted r c.args.records.now.items c.requires) in
+    (parted r c.args.records.now.items c.requires) in
     let point = IsPartitionPoint-from_clause (stays r) c.deref.result.now place c.partition_point-place.ensures.partitioned sorted
-            (λ a b h called. search rules) in
+    (λ a b h called. search rules) in
     let here : IsPartitionPoint (λ x. stays r x ≡ true) (λ x. stays r x ≡ false) c.args.records.now.items place = subst
-            (λ xs. IsPartitionPoint (λ x. stays r x ≡ true) (λ x. stays r x ≡ false) xs place) same point in
+    (λ xs. IsPartitionPoint (λ x. stays r x ≡ true) (λ x. stays r x ≡ false) xs place) same point in
     c.in_ok-insert.ensures.items
     ∙ inserted r c.args.records.now.items place (subst (λ xs. place ≤ length xs) same c.partition_point-place.ensures.bound)
-        (λ j d lt. here.0 j d (omega arith) lt) (λ j d ge lt. here.1 j d ge lt)
+    (λ j d lt. here.0 j d (omega arith) lt) (λ j d ge lt. here.1 j d ge lt)

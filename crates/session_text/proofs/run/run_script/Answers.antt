@@ -18,6 +18,6 @@ loop-line-preserved c =
       opening = c.in_ok-run_line.ensures.opening ∙ c.loop-line.invariant.opening;
       played = rw taken
           (played_on (λ xs ys ms ns _ paired after plays play. plays_after nobody c.loop-line.runner.waiting.items (take i lines) line xs
-              ys ms ns paired after plays play) c.loop-line.invariant.played
+          ys ms ns paired after plays play) c.loop-line.invariant.played
           (rw c.as_slice-line-items.ensures at c.in_ok-run_line.ensures.plays));
     }

@@ -10,4 +10,4 @@ invariant_of-self c = subst HasNoZero (sym c.remove.ensures.contents)
 pub invariant_of-self-else-count-eq0 : goal.invariant_of-self-else-count-eq0
 invariant_of-self-else-count-eq0 c =
     subst HasNoZero (sym c.insert_reserved.ensures.contents) (no_zero_insert c.self.inside.table.contents c.args.element c.args.count
-        c.self.invariant c.if-count-eq0.false)
+    c.self.invariant c.if-count-eq0.false)

@@ -32,7 +32,7 @@ invariant_of-result c = subst IsStrictlyIncreasing (sym c.loop-location.invarian
 pub returns-in_err-push-clause-served : goal.returns-in_err-push-clause-served
 returns-in_err-push-clause-served c =
     let len : length c.loop-location.locations.items ≡ c.loop-location.location = ap length c.loop-location.invariant.0
-            ∙ length-range_with_len 0 c.loop-location.location in
+    ∙ length-range_with_len 0 c.loop-location.location in
     let room = c.loop-location.invariant.1 in
     let below = c.loop-location-test.true in
     λ few. let no = c.in_err-push.ensures.succeeds (omega (arith, few)) in cc

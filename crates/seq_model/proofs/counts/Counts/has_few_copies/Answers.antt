@@ -11,4 +11,4 @@ pub returns : goal.returns
 returns c =
     let P : Bool → Type 0 = λ b. IsTrue b ↔ HasFewCopies c.args.self.now in
     subst P (sym (c.are_few.ensures ∙ ap (list_all (λ (e : ℕ × ℕ). nat_le e.1 COPY_LIMIT)) (ap entries c.self.view_is)))
-        (few_tested c.args.self.now)
+    (few_tested c.args.self.now)

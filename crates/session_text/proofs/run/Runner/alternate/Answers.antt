@@ -34,7 +34,7 @@ loop-taken-preserved c =
             played = played_on (λ xs ys ms ns _ _ after turns one. turn_over n c.args.first c.args.second actor other
                 w.in_ok-happen-2.field-0 start waiting xs ys ms ns after
                 (sym c.is_waiting.ensures ∙ w.if-is_waiting.false) (sym w.is_waiting-else-is_waiting.ensures ∙ w.if-is_waiting-2.true)
-                    turns one) before.played w.in_ok-happen-2.ensures.plays;
+                turns one) before.played w.in_ok-happen-2.ensures.plays;
           })
     ]
 
@@ -43,10 +43,10 @@ returns-else-is_waiting-2-clause-plays c =
     kept_as (λ xs ms after turns. turns_done STEP_LIMIT c.loop-taken._taken c.args.first c.args.second c.loop-taken.actor c.loop-taken.other
     c.args.self.now.waiting.items c.loop-taken.self.waiting.items xs ms c.loop-taken-test.true after
     (sym c.is_waiting.ensures ∙ c.if-is_waiting.false) (sym c.is_waiting-else-is_waiting.ensures ∙ c.if-is_waiting-2.false) turns)
-        c.loop-taken.invariant.played
+    c.loop-taken.invariant.played
 
 pub returns-clause-plays : goal.returns-clause-plays
 returns-clause-plays c =
     kept_as (λ xs ms _ turns. turns_all STEP_LIMIT c.loop-taken._taken c.args.first c.args.second c.loop-taken.actor c.loop-taken.other
     c.args.self.now.waiting.items xs ms (omega (arith, c.loop-taken-test.false, c.loop-taken.auto._taken-end)) turns)
-        c.loop-taken.invariant.played
+    c.loop-taken.invariant.played

@@ -7,16 +7,16 @@ use Rattle.session_text.proofs.run.Runner.happen.Goals as goal
 pub returns-in-Quiet-clause-plays : goal.returns-in-Quiet-clause-plays
 returns-in-Quiet-clause-plays c =
     let waiting = c.note.ensures.waiting ∙ ap₂ (λ (a : ℕ) (b : Bool). noted c.args.self.now.waiting.items a b true) c.whose-actor.ensures
-            c.is_request-asks.ensures in
+    c.is_request-asks.ensures in
     rw (c.note.ensures.world, c.note.ensures.notices)
     (played_one _ _ _ _ _ Quiet _ _ _ (rw c.in-Quiet.is at c.in_ok-notice.ensures.ok) (sym (append-nil c.args.self.now.notices)) refl
-        waiting)
+    waiting)
 
 pub returns : goal.returns
 returns c =
     let loud = loud_notice c.in_ok-notice.notice c.in_default.not-Quiet in
     let waiting = c.note-2.ensures.waiting ∙ ap₂ (λ (a : ℕ) (b : Bool). noted c.args.self.now.waiting.items a b false)
-            c.whose-actor.ensures c.is_request-asks.ensures in
+    c.whose-actor.ensures c.is_request-asks.ensures in
     rw (c.note-2.ensures.world, c.note-2.ensures.notices, c.in_ok-push.ensures.ok)
     (record {
       opening = c.in_ok-notice.ensures.opening;

@@ -6,7 +6,7 @@ pub returns-then-not-branch-clause-plays : goal.returns-then-not-branch-clause-p
 returns-then-not-branch-clause-plays c =
     let loud = c.if-not-branch.true in
     played_on (λ xs ys ms ns _ _ _ quiet one. loud_last c.args.actor c.args.count c.loop-taken._taken xs ys ms ns c.loop-taken-test.true
-        quiet one)
+    quiet one)
     c.loop-taken.invariant.played (rw loud at c.in_ok-happen.ensures.plays)
 
 pub loop-taken-preserved : goal.loop-taken-preserved
@@ -21,4 +21,4 @@ loop-taken-preserved c =
 pub returns-clause-plays : goal.returns-clause-plays
 returns-clause-plays c =
     kept_as (λ xs ms _ steps. all_quiet c.args.actor c.args.count c.loop-taken._taken xs ms
-        (omega (arith, c.loop-taken-test.false, c.loop-taken.auto._taken-end)) steps) c.loop-taken.invariant.played
+    (omega (arith, c.loop-taken-test.false, c.loop-taken.auto._taken-end)) steps) c.loop-taken.invariant.played

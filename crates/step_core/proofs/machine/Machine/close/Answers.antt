@@ -33,7 +33,7 @@ returns-clause-steps c =
     let own : WordRecord = record { actor = c.args.a; number = x.rv; writes = false; calls = c.take_ready-calls.result } in
     let given : map call_of c.take_ready-calls.result ≡ map call_of x.calls.items = ap (λ (z : List WordCall). map call_of z)
     (c.take_ready-calls.ensures.calls ∙ ap vec_items c.close-answer.ensures.rest.1
-        ∙ place_fits x _ Close at_p (fits_here w c.args.a x c.requires.sound got)) in
+    ∙ place_fits x _ Close at_p (fits_here w c.args.a x c.requires.sound got)) in
     steps_committing w t c.args.a x y _ own got
     (same_actor w.cells t.cells x c.close-answer.new.actor y _ c.close-answer.ensures.steps c.take_ready-calls.ensures.actor) refl
     refl c.push_reserved.ensures.items
@@ -52,6 +52,6 @@ returns-clause-sound c =
     let owes = ap owed to in
     sound_next w _ c.args.a x y c.requires.sound got
     (c.take_ready-calls.ensures.fits _ (subst (FitsPlace _ y) (sym to) tt)
-        (c.close-answer.ensures.keeps.fits _ (fits_here w c.args.a x c.requires.sound got)))
+    (c.close-answer.ensures.keeps.fits _ (fits_here w c.args.a x c.requires.sound got)))
     (refl, refl) (inl (omega (arith, owes))) refl
     (omega (arith, c.push_reserved.ensures.len, before, after)) (omega (arith, c.push_reserved.ensures.capacity))

@@ -33,7 +33,7 @@ returns-clause-steps c =
     let own : WordRecord = record { actor = c.args.a; number = x.wv; writes = true; calls = c.take_ready-calls.result } in
     let given : map call_of c.take_ready-calls.result ≡ map call_of x.calls.items = ap (λ (z : List WordCall). map call_of z)
     (c.take_ready-calls.ensures.calls ∙ ap vec_items c.first-answer.ensures.rest.1
-        ∙ place_fits x _ First at_p (fits_here w c.args.a x c.requires.sound got)) in
+    ∙ place_fits x _ First at_p (fits_here w c.args.a x c.requires.sound got)) in
     steps_committing w t c.args.a x y _ own got
     (same_actor w.cells t.cells x c.first-answer.new.actor y _ c.first-answer.ensures.steps c.take_ready-calls.ensures.actor) refl
     c.first-answer.ensures.shape.0.1 c.push_reserved.ensures.items
@@ -52,6 +52,6 @@ returns-clause-sound c =
     let owes = ap owed to in
     sound_next w _ c.args.a x y c.requires.sound got
     (c.take_ready-calls.ensures.fits _ (subst (FitsPlace _ y) (sym to) tt)
-        (c.first-answer.ensures.keeps.fits _ (fits_here w c.args.a x c.requires.sound got)))
+    (c.first-answer.ensures.keeps.fits _ (fits_here w c.args.a x c.requires.sound got)))
     c.first-answer.ensures.shape.0 (let same = c.first-answer.ensures.shape.1 in inl (omega (arith, owes, same))) refl
     (omega (arith, c.push_reserved.ensures.len, before, after)) (omega (arith, c.push_reserved.ensures.capacity))

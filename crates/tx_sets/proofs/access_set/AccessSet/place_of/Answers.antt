@@ -17,7 +17,7 @@ returns-then-count-eq0 g c =
           (c.len-count.ensures ∙ c.self.inside.entries.ok.0) w.if-count-eq0.true
       | then-count-eq0-via-else-count-eq0+then-index-location w ↦
           last_place l c.self.inside.entries.items n w.index.result.now c.self.invariant.rising
-              (c.len-count.ensures ∙ c.self.inside.entries.ok.0)
+          (c.len-count.ensures ∙ c.self.inside.entries.ok.0)
           (subst (λ (e : ℕ × ℕ). e.0 < l) w.index.ensures w.if-index-location.true)
     ])
 

@@ -24,16 +24,27 @@ returns-in-Ok-clause-too_long g c =
     let es = c.args.self.now.entries in
     let same : c.self.inside.entries.items ≡ es = ap (λ (v : SetView). v.entries) c.self.view_is in
     let there = lookup_there es c.args.location c.in-Ok.at (0, 0) (subst IsRising same c.self.invariant.rising) c.in-Ok.ensures.0
-            c.in-Ok.ensures.1 in
+    c.in-Ok.ensures.1 in
     ((λ refused. absurd (let b : ⊥ = cc in b)), (λ beyond. let none = beyond.0 in absurd (let b : ⊥ = cc in b)))
 
 pub returns-then-len-ge-LOCATION_LIMIT-clause-too_long : goal.returns-then-len-ge-LOCATION_LIMIT-clause-too_long
 returns-then-len-ge-LOCATION_LIMIT-clause-too_long g c =
     let es = c.args.self.now.entries in
     let same : c.self.inside.entries.items ≡ es = ap (λ (v : SetView). v.entries) c.self.view_is in
-    let absent = lookup_gap es c.args.location c.in-Err.at c.in-Err.ensures.1.0 c.in-Err.ensures.1.1 in
-    ((λ _. (absent, omega (arith, c.if-len-ge-LOCATION_LIMIT.true, c.len.ensures, c.self.inside.entries.ok.0, ap
-        (λ (z : Entries). length z) same))), (λ _. refl))
+    let absent = lookup_gap es c.args.location c.in-Err.at c.in-Err.ensures.1.0 c.in-Err.ensures.1.1 in (
+      (λ _. (
+        absent,
+        omega (
+          arith,
+          c.if-len-ge-LOCATION_LIMIT.true,
+          c.len.ensures,
+          c.self.inside.entries.ok.0,
+          ap
+              (λ (z : Entries). length z) same,
+        ),
+      )),
+      (λ _. refl),
+    )
 
 pub returns-then-len-ge-LOCATION_LIMIT-clause-there : goal.returns-then-len-ge-LOCATION_LIMIT-clause-there
 returns-then-len-ge-LOCATION_LIMIT-clause-there g c =
@@ -57,7 +68,7 @@ invariant_of-self-in-Err g c =
     let same : es ≡ c.args.self.now.entries = ap (λ (v : SetView). v.entries) c.self.view_is in
     let place = subst (λ (z : Entries). IsPlaceOf c.args.location z (Err c.in-Err.at)) (sym same) c.in-Err.ensures in
     orderly_new es _ _ c.args.location c.args.value c.in-Err.at c.self.invariant place c.in_ok-reserve-in-Err.ensures.items
-        c.insert_reserved.ensures.items
+    c.insert_reserved.ensures.items
     (omega (arith, c.if-len-ge-LOCATION_LIMIT.false, c.len.ensures, c.self.inside.entries.ok.0))
 
 pub returns-in_ok-reserve-in-Err-clause-ok : goal.returns-in_ok-reserve-in-Err-clause-ok
