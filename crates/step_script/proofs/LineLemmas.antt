@@ -1,5 +1,28 @@
 -- What the first token of a line says of it.
-use Rattle.std.proofs.Common.{rules, arith, refl, inl, inr, sym, ◌∙◌, codes, ◌≡◌, ◌≢◌, ℕ, ◌≤◌, ◌∷◌, [], List, length, take, take_all, drop, ◌-◌, Bor, slice_index_or}
+use Rattle.std.proofs.Common.{
+  rules,
+  arith,
+  refl,
+  inl,
+  inr,
+  sym,
+  ◌∙◌,
+  codes,
+  ◌≡◌,
+  ◌≢◌,
+  ℕ,
+  ◌≤◌,
+  ◌∷◌,
+  [],
+  List,
+  length,
+  take,
+  take_all,
+  drop,
+  ◌-◌,
+  Bor,
+  slice_index_or,
+}
 use Rattle.std.specs.Int.{IsInRange}
 use Rattle.seq_model.specs.declared.held.Held.{Held}
 use Rattle.seq_model.specs.declared.held.Held.TheVariants.{Map, Bag, Pq, Queue}
@@ -28,7 +51,8 @@ no_alternation word (one ∷ (other ∷ (more ∷ rest))) event differs is = eli
 digit : (word : List ℕ) (actor : ℕ) → IsActor word actor → IsInRange 49 57 (get_or word 0 0)
 digit word actor is = rw is.2 (first_byte actor (omega (arith, is.1)) is.0)
 
-no_event : (word : List ℕ) (rest : List (List ℕ)) (event : Line) → word ≢ codes "alt" → (IsInRange 49 57 (get_or word 0 0) → ⊥) → IsEvent (word ∷ rest) event → ⊥
+no_event : (word : List ℕ) (rest : List (List ℕ)) (event : Line) → word ≢ codes "alt" → (IsInRange 49 57 (get_or word 0 0) → ⊥)
+    → IsEvent (word ∷ rest) event → ⊥
 no_event word rest event not_alt letter (inl is) = no_alternation word rest event not_alt is
 no_event word rest event not_alt letter (inr is) = letter (digit word is.0 is.1)
 
@@ -58,44 +82,76 @@ record Apart (word : List ℕ) : Type 0 where
   letter : IsInRange 49 57 (get_or word 0 0) → ⊥
 
 kind_apart : (word : List ℕ) → IsKind word → Apart word
-kind_apart word (inl e) = record { words = λ f. search (rules, sym e ∙ f); clock = λ f. search (rules, sym e ∙ f); alt = λ f. search (rules, sym e ∙ f); letter = λ d. omega (arith, rw e at d) }
-kind_apart word (inr (inl e)) = record { words = λ f. search (rules, sym e ∙ f); clock = λ f. search (rules, sym e ∙ f); alt = λ f. search (rules, sym e ∙ f); letter = λ d. omega (arith, rw e at d) }
-kind_apart word (inr (inr (inl e))) = record { words = λ f. search (rules, sym e ∙ f); clock = λ f. search (rules, sym e ∙ f); alt = λ f. search (rules, sym e ∙ f); letter = λ d. omega (arith, rw e at d) }
-kind_apart word (inr (inr (inr e))) = record { words = λ f. search (rules, sym e ∙ f); clock = λ f. search (rules, sym e ∙ f); alt = λ f. search (rules, sym e ∙ f); letter = λ d. omega (arith, rw e at d) }
+kind_apart word (inl e) = record {
+  words = λ f. search (rules, sym e ∙ f);
+  clock = λ f. search (rules, sym e ∙ f);
+  alt = λ f. search (rules, sym e ∙ f);
+  letter = λ d. omega (arith, rw e at d);
+}
+kind_apart word (inr (inl e)) = record {
+  words = λ f. search (rules, sym e ∙ f);
+  clock = λ f. search (rules, sym e ∙ f);
+  alt = λ f. search (rules, sym e ∙ f);
+  letter = λ d. omega (arith, rw e at d);
+}
+kind_apart word (inr (inr (inl e))) = record {
+  words = λ f. search (rules, sym e ∙ f);
+  clock = λ f. search (rules, sym e ∙ f);
+  alt = λ f. search (rules, sym e ∙ f);
+  letter = λ d. omega (arith, rw e at d);
+}
+kind_apart word (inr (inr (inr e))) = record {
+  words = λ f. search (rules, sym e ∙ f);
+  clock = λ f. search (rules, sym e ∙ f);
+  alt = λ f. search (rules, sym e ∙ f);
+  letter = λ d. omega (arith, rw e at d);
+}
 
 -- ---- lines
-words_only : (word : List ℕ) (rest : List (List ℕ)) (line : ScriptLine) → word ≡ codes "words" → IsLine (word ∷ rest) line → (values : List ℕ) × (line ≡ Words values) × IsWords (word ∷ rest) values
+words_only : (word : List ℕ) (rest : List (List ℕ)) (line : ScriptLine) → word ≡ codes "words" → IsLine (word ∷ rest) line
+    → (values : List ℕ) × (line ≡ Words values) × IsWords (word ∷ rest) values
 words_only word rest (Words values) e is = (values, refl, is)
 words_only word rest (Clock clock) e is = absurd (no_clock word rest clock (λ f. search (rules, sym e ∙ f)) is)
 words_only word rest (Holds c) e is = absurd (no_collection word rest c (λ k. (kind_apart word k).words e) is)
-words_only word rest (Event event) e is = absurd (no_event word rest event (λ f. search (rules, sym e ∙ f)) (λ d. omega (arith, rw e at d)) is)
+words_only word rest (Event event) e is = absurd (no_event word rest event (λ f. search (rules, sym e ∙ f))
+    (λ d. omega (arith, rw e at d)) is)
 
-clock_only : (word : List ℕ) (rest : List (List ℕ)) (line : ScriptLine) → word ≡ codes "clock" → IsLine (word ∷ rest) line → (clock : ℕ) × (line ≡ Clock clock) × IsClock (word ∷ rest) clock
+clock_only : (word : List ℕ) (rest : List (List ℕ)) (line : ScriptLine) → word ≡ codes "clock" → IsLine (word ∷ rest) line
+    → (clock : ℕ) × (line ≡ Clock clock) × IsClock (word ∷ rest) clock
 clock_only word rest (Words values) e is = absurd (no_words word rest values (λ f. search (rules, sym e ∙ f)) is)
 clock_only word rest (Clock clock) e is = (clock, refl, is)
 clock_only word rest (Holds c) e is = absurd (no_collection word rest c (λ k. (kind_apart word k).clock e) is)
-clock_only word rest (Event event) e is = absurd (no_event word rest event (λ f. search (rules, sym e ∙ f)) (λ d. omega (arith, rw e at d)) is)
+clock_only word rest (Event event) e is = absurd (no_event word rest event (λ f. search (rules, sym e ∙ f))
+    (λ d. omega (arith, rw e at d)) is)
 
-collection_only : (word : List ℕ) (rest : List (List ℕ)) (line : ScriptLine) → IsKind word → IsLine (word ∷ rest) line → (c : Collection) × (line ≡ Holds c) × IsCollection (word ∷ rest) c
+collection_only : (word : List ℕ) (rest : List (List ℕ)) (line : ScriptLine) → IsKind word → IsLine (word ∷ rest) line
+    → (c : Collection) × (line ≡ Holds c) × IsCollection (word ∷ rest) c
 collection_only word rest (Words values) kind is = absurd (no_words word rest values (kind_apart word kind).words is)
 collection_only word rest (Clock clock) kind is = absurd (no_clock word rest clock (kind_apart word kind).clock is)
 collection_only word rest (Holds c) kind is = (c, refl, is)
-collection_only word rest (Event event) kind is = absurd (no_event word rest event (kind_apart word kind).alt (kind_apart word kind).letter is)
+collection_only word rest (Event event) kind is = absurd (no_event word rest event (kind_apart word kind).alt
+    (kind_apart word kind).letter is)
 
 -- ---- the same of the tokens that are borrowed
-pub words_line : (ts : List (Bor (List ℕ))) (d : Bor (List ℕ)) (line : ScriptLine) → 1 ≤ length ts → (slice_index_or ts 0 d).now ≡ codes "words" → IsLine (texts ts) line → (values : List ℕ) × (line ≡ Words values) × IsWords (texts ts) values
+pub words_line : (ts : List (Bor (List ℕ))) (d : Bor (List ℕ)) (line : ScriptLine) → 1 ≤ length ts
+    → (slice_index_or ts 0 d).now ≡ codes "words" → IsLine (texts ts) line
+    → (values : List ℕ) × (line ≡ Words values) × IsWords (texts ts) values
 words_line [] d line some e is = absurd (omega (arith, some))
 words_line (t ∷ ts) d line some e is = words_only t.now (texts ts) line e is
 
-pub clock_line : (ts : List (Bor (List ℕ))) (d : Bor (List ℕ)) (line : ScriptLine) → 1 ≤ length ts → (slice_index_or ts 0 d).now ≡ codes "clock" → IsLine (texts ts) line → (clock : ℕ) × (line ≡ Clock clock) × IsClock (texts ts) clock
+pub clock_line : (ts : List (Bor (List ℕ))) (d : Bor (List ℕ)) (line : ScriptLine) → 1 ≤ length ts
+    → (slice_index_or ts 0 d).now ≡ codes "clock" → IsLine (texts ts) line → (clock : ℕ) × (line ≡ Clock clock) × IsClock (texts ts) clock
 clock_line [] d line some e is = absurd (omega (arith, some))
 clock_line (t ∷ ts) d line some e is = clock_only t.now (texts ts) line e is
 
-pub collection_line : (ts : List (Bor (List ℕ))) (d : Bor (List ℕ)) (line : ScriptLine) → 1 ≤ length ts → IsKind (slice_index_or ts 0 d).now → IsLine (texts ts) line → (c : Collection) × (line ≡ Holds c) × IsCollection (texts ts) c
+pub collection_line : (ts : List (Bor (List ℕ))) (d : Bor (List ℕ)) (line : ScriptLine) → 1 ≤ length ts → IsKind (slice_index_or ts 0 d).now
+    → IsLine (texts ts) line → (c : Collection) × (line ≡ Holds c) × IsCollection (texts ts) c
 collection_line [] d line some kind is = absurd (omega (arith, some))
 collection_line (t ∷ ts) d line some kind is = collection_only t.now (texts ts) line kind is
 
-pub event_line : (ts : List (Bor (List ℕ))) (d : Bor (List ℕ)) (line : ScriptLine) → (slice_index_or ts 0 d).now ≢ codes "words" → (slice_index_or ts 0 d).now ≢ codes "clock" → (IsKind (slice_index_or ts 0 d).now → ⊥) → IsLine (texts ts) line → (event : Line) × (line ≡ Event event) × IsEvent (texts ts) event
+pub event_line : (ts : List (Bor (List ℕ))) (d : Bor (List ℕ)) (line : ScriptLine) → (slice_index_or ts 0 d).now ≢ codes "words"
+    → (slice_index_or ts 0 d).now ≢ codes "clock" → (IsKind (slice_index_or ts 0 d).now → ⊥) → IsLine (texts ts) line
+    → (event : Line) × (line ≡ Event event) × IsEvent (texts ts) event
 event_line [] d (Words values) words clock kind is = elim is [ ]
 event_line [] d (Clock number) words clock kind is = elim is [ ]
 event_line [] d (Holds c) words clock kind is = elim is [ ]
@@ -106,7 +162,8 @@ event_line (t ∷ ts) d (Holds c) words clock kind is = absurd (no_collection t.
 event_line (t ∷ ts) d (Event event) words clock kind is = (event, refl, is)
 
 -- the numbers that stand behind the first token
-pub behind_words : (ts : List (Bor (List ℕ))) (values : List ℕ) → 1 ≤ length ts → IsWords (texts ts) values → AreNumbers (texts (take (length ts - 1) (drop 1 ts))) values
+pub behind_words : (ts : List (Bor (List ℕ))) (values : List ℕ) → 1 ≤ length ts → IsWords (texts ts) values
+    → AreNumbers (texts (take (length ts - 1) (drop 1 ts))) values
 behind_words [] values some is = absurd (omega (arith, some))
 behind_words (t ∷ ts) values some is = rw (take_all (length (t ∷ ts) - 1) ts (omega arith)) is.2
 

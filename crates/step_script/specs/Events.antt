@@ -33,7 +33,8 @@ IsOfActor [] line = ⊥
 
 -- `alt` and two actors
 abbrev pub IsAlternation : List (List ℕ) → Line → Type 0
-IsAlternation (word ∷ one ∷ other ∷ []) (Alternate first second) = (word ≡ codes "alt") × IsActor one first × IsActor other second × (first ≢ second)
+IsAlternation (word ∷ one ∷ other ∷ []) (Alternate first second) = (word ≡ codes "alt") × IsActor one first ×
+    IsActor other second × (first ≢ second)
 IsAlternation tokens line = ⊥
 
 abbrev pub IsEvent : List (List ℕ) → Line → Type 0

@@ -3,7 +3,23 @@ use Rattle.std.specs.Prelude.{◌≡◌, ℕ, ◌<◌, ◌^◌, List, [], ◌∷
 use Rattle.std.specs.Fmt.{decimal}
 use Rattle.seq_model.specs.declared.call.Call.{Call}
 use Rattle.seq_model.specs.declared.call.Op.{Op}
-use Rattle.seq_model.specs.declared.call.Op.TheVariants.{Read, Write, Get, Put, Remove, Len, Count, Add, Take, Least, Insert, TakeLeast, Enqueue, Dequeue, Peek}
+use Rattle.seq_model.specs.declared.call.Op.TheVariants.{
+  Read,
+  Write,
+  Get,
+  Put,
+  Remove,
+  Len,
+  Count,
+  Add,
+  Take,
+  Least,
+  Insert,
+  TakeLeast,
+  Enqueue,
+  Dequeue,
+  Peek,
+}
 use Rattle.seq_model.specs.declared.event.Request.{Request}
 use Rattle.seq_model.specs.declared.event.Request.TheVariants as request
 use Rattle.step_script.specs.Tokens.{narrowed}

@@ -7,6 +7,8 @@ use Rattle.step_script.proofs.line.read_counts.Given as goal
 
 abbrev pub invariant-loop-token : goal.invariant-loop-token
 invariant-loop-token l = record {
-  front : (m : map.FinMap nat_cmp ℕ) → AreEntries (λ p. 0 < p.1) l.last l.counts (texts (drop l.token-index l.tokens)) m → IsMultiset (texts l.tokens) m;
-  back : (m : map.FinMap nat_cmp ℕ) → IsMultiset (texts l.tokens) m → AreEntries (λ p. 0 < p.1) l.last l.counts (texts (drop l.token-index l.tokens)) m;
+  front : (m : map.FinMap nat_cmp ℕ) → AreEntries (λ p. 0 < p.1) l.last l.counts (texts (drop l.token-index l.tokens)) m
+      → IsMultiset (texts l.tokens) m;
+  back : (m : map.FinMap nat_cmp ℕ) → IsMultiset (texts l.tokens) m → AreEntries (λ p. 0 < p.1) l.last l.counts
+      (texts (drop l.token-index l.tokens)) m;
 }

@@ -8,6 +8,8 @@ use Rattle.step_script.proofs.line.read_entries.Given as goal
 
 abbrev pub invariant-loop-token : goal.invariant-loop-token
 invariant-loop-token l = record {
-  front : (m : map.FinMap nat_cmp ℕ) → AreEntries (λ p. ⊤) l.last l.entries (texts (drop l.token-index l.tokens)) m → IsMap (texts l.tokens) m;
-  back : (m : map.FinMap nat_cmp ℕ) → IsMap (texts l.tokens) m → AreEntries (λ p. ⊤) l.last l.entries (texts (drop l.token-index l.tokens)) m;
+  front : (m : map.FinMap nat_cmp ℕ) → AreEntries (λ p. ⊤) l.last l.entries (texts (drop l.token-index l.tokens)) m
+      → IsMap (texts l.tokens) m;
+  back : (m : map.FinMap nat_cmp ℕ) → IsMap (texts l.tokens) m → AreEntries (λ p. ⊤) l.last l.entries
+      (texts (drop l.token-index l.tokens)) m;
 }

@@ -3,8 +3,10 @@ use Rattle.step_script.proofs.line.read_numbers.Goals as goal
 
 pub loop-token-preserved : goal.loop-token-preserved
 loop-token-preserved c = record {
-  front = numbers_front _ _ _ _ _ _ _ c.loop-token-test.true c.in-Some.is c.in_ok-push.ensures.ok c.number.ensures.found c.loop-token.invariant.front;
-  back = λ ns h. numbers_back _ _ _ _ _ _ _ c.loop-token-test.true c.in-Some.is c.in_ok-push.ensures.ok c.number.ensures.only ns (c.loop-token.invariant.back ns h);
+  front = numbers_front _ _ _ _ _ _ _ c.loop-token-test.true c.in-Some.is c.in_ok-push.ensures.ok c.number.ensures.found
+      c.loop-token.invariant.front;
+  back = λ ns h. numbers_back _ _ _ _ _ _ _ c.loop-token-test.true c.in-Some.is c.in_ok-push.ensures.ok c.number.ensures.only ns
+      (c.loop-token.invariant.back ns h);
 }
 
 pub returns-clause-found : goal.returns-clause-found

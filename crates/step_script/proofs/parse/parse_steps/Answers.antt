@@ -2,7 +2,18 @@ use Rattle.std.proofs.Common.{rules, arith, ◌≡◌, zero, suc}
 use Rattle.step_script.specs.declared.line.ScriptLine.{ScriptLine}
 use Rattle.step_script.specs.declared.parse.Part.{Part}
 use Rattle.step_script.specs.Scripts.{IsBadLine, IsNext, with_line}
-use Rattle.text_lines.proofs.ReadingLemmas.{bad_behind, bad_here, bad_last, line_number, next_number, next_of, only_one, reads_back, reads_front, unread}
+use Rattle.text_lines.proofs.ReadingLemmas.{
+  bad_behind,
+  bad_here,
+  bad_last,
+  line_number,
+  next_number,
+  next_of,
+  only_one,
+  reads_back,
+  reads_front,
+  unread,
+}
 use Rattle.step_script.proofs.parse.parse_steps.Goals as goal
 
 pub returns-in_default-2-clause-refused : goal.returns-in_default-2-clause-refused
