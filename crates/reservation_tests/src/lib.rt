@@ -1,4 +1,4 @@
-//! Tests of the reservation tables, by the calls that other crates make.
+//! Tests of the reservation tables and of session files, by the calls that other crates make.
 //!
 //! What an action answers and leaves is in its contract. These tests run the actions on what was worked by hand, at the
 //! limits, and with each allocation refused in turn. An action is a line of text, and so is what it answers.
@@ -14,5 +14,11 @@ mod prints;
 mod reads;
 #[cfg(test)]
 mod serving;
+#[cfg(test)]
+mod session_rows;
+#[cfg(test)]
+mod session_runs;
+#[cfg(test)]
+mod session_texts;
 #[cfg(test)]
 mod sessions;

@@ -1,5 +1,5 @@
 //! Texts outside the grammar of session files.
-use crate::runs::expect_bad;
+use crate::session_runs::expect_bad;
 use std::test::Fail;
 
 #[test]

@@ -1,5 +1,5 @@
 //! What is printed of session files.
-use crate::runs::expect_printed;
+use crate::session_runs::expect_printed;
 use std::test::Fail;
 
 #[test]
