@@ -10,8 +10,8 @@ use Rattle.replay_log.specs.Worlds.{written_homes}
 use Rattle.replay_log.specs.Parts as parts
 use Rattle.step_core.specs.Sound.{owed}
 use Rattle.step_core.proofs.Lists.{get_or_same}
-use Rattle.tx_actor.specs.Blocks.{kind_of}
-use Rattle.tx_actor.specs.declared.blocks.Kind.{Kind}
+use Rattle.actor_words.specs.Blocks.{kind_of}
+use Rattle.actor_words.specs.declared.blocks.Kind.{Kind}
 use Rattle.tx_actor.specs.Dispatch.{HasRoom}
 use Rattle.tx_actor.specs.Keeping.{NamesAmong}
 use Rattle.tx_actor.specs.Running.{KnowsHomes}

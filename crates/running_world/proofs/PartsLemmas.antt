@@ -21,8 +21,9 @@ use Rattle.replay_log.proofs.TraceLemmas.{starved_adds, steps_end}
 use Rattle.step_core.specs.CellSteps.{Grows}
 use Rattle.step_core.specs.Sound.{owed}
 use Rattle.step_core.specs.declared.cells.Cells.{Cells}
-use Rattle.tx_actor.specs.Blocks.{BlocksView}
-use Rattle.tx_actor.specs.Dispatch.{Starves, is_loading, next_of}
+use Rattle.actor_words.specs.Blocks.{BlocksView}
+use Rattle.tx_actor.specs.Dispatch.{Starves}
+use Rattle.actor_words.specs.Dispatch.{is_loading, next_of}
 use Rattle.tx_actor.specs.Keeping.{IsRunning, KeepsIn}
 use Rattle.tx_actor.specs.Running.{is_recorded, seat_at, seat_of, stage_of}
 use Rattle.tx_actor.specs.declared.actor.Stage as own
@@ -30,7 +31,7 @@ use Rattle.tx_actor.specs.declared.actor.Stage.TheVariants as stage
 use Rattle.tx_actor.specs.declared.actor.Told.{Told}
 use Rattle.tx_actor.specs.declared.actor.Told.TheVariants as told
 use Rattle.tx_actor.specs.declared.actor.TxActor.{TxActor}
-use Rattle.tx_actor.specs.declared.next.Next.TheVariants as next
+use Rattle.actor_words.specs.declared.next.Next.TheVariants as next
 use Rattle.world_table.specs.Openings.{HasShape}
 use Rattle.world_table.specs.declared.table.Table.{Table}
 use Rattle.running_world.specs.declared.parts.Parts.{Parts}

@@ -48,10 +48,10 @@ use Rattle.step_core.specs.declared.actor.Actor as running
 use Rattle.step_core.specs.declared.answer.WordAnswer.{WordAnswer}
 use Rattle.step_core.specs.declared.answer.WordRefusal.{WordRefusal}
 use Rattle.tx_actor.specs.Asks.{Asks, MayStore}
-use Rattle.tx_actor.specs.Blocks.{BlocksView}
-use Rattle.tx_actor.specs.Dispatch.{AreSteps, HasRoom, IsDue, IsToldWord, MayGoOn, Starves, after_put, after_try, after_word, is_loading}
-use Rattle.tx_actor.specs.Dispatch.{first, next_home, next_of, notice_told}
-use Rattle.tx_actor.specs.Guarded.{committed_at}
+use Rattle.actor_words.specs.Blocks.{BlocksView}
+use Rattle.actor_words.specs.Dispatch.{AreSteps, IsDue, MayGoOn, after_put, after_try, after_word, first, is_loading, next_home, next_of, notice_told}
+use Rattle.tx_actor.specs.Dispatch.{HasRoom, IsToldWord, Starves}
+use Rattle.actor_words.specs.Guarded.{committed_at}
 use Rattle.tx_actor.specs.Keeping.{IsRunning}
 use Rattle.tx_actor.specs.Running as ran
 use Rattle.tx_actor.specs.Running.{KnowsHomes, Runs, is_recorded, notice_of, seat_at, seat_of, stage_of}
@@ -60,8 +60,8 @@ use Rattle.tx_actor.specs.declared.actor.Stage.TheVariants as stage
 use Rattle.tx_actor.specs.declared.actor.Told.{Told}
 use Rattle.tx_actor.specs.declared.actor.Told.TheVariants as told
 use Rattle.tx_actor.specs.declared.actor.TxActor.{TxActor}
-use Rattle.tx_actor.specs.declared.next.Next.{Next}
-use Rattle.tx_actor.specs.declared.next.Next.TheVariants as next
+use Rattle.actor_words.specs.declared.next.Next.{Next}
+use Rattle.actor_words.specs.declared.next.Next.TheVariants as next
 use Rattle.world_table.specs.Tables.{HasTable}
 use Rattle.world_table.specs.declared.table.Table.{Table}
 use Rattle.world_table.proofs.TableLemmas.{still_has}

@@ -21,13 +21,13 @@ use Rattle.step_core.specs.Sound.{owed}
 use Rattle.step_core.specs.declared.actor.Place.{Place}
 use Rattle.step_core.specs.declared.actor.Place.TheVariants as place
 use Rattle.step_core.proofs.Lists.{same_at}
-use Rattle.tx_actor.specs.Blocks.{BlocksView}
-use Rattle.tx_actor.specs.Dispatch.{first, next_home, next_load, next_of, next_put, next_try}
+use Rattle.actor_words.specs.Blocks.{BlocksView}
+use Rattle.actor_words.specs.Dispatch.{first, next_home, next_load, next_of, next_put, next_try}
 use Rattle.tx_actor.specs.Keeping.{IsRunning, NamesAmong}
 use Rattle.tx_actor.specs.Running.{Runs, stage_of}
 use Rattle.tx_actor.specs.declared.actor.Stage as own
 use Rattle.tx_actor.specs.declared.actor.Stage.TheVariants as stage
-use Rattle.tx_actor.specs.declared.next.Next.TheVariants as next
+use Rattle.actor_words.specs.declared.next.Next.TheVariants as next
 use Rattle.tx_actor.specs.declared.actor.Told.{Told}
 use Rattle.tx_actor.specs.declared.actor.TxActor.{TxActor}
 use Rattle.world_table.specs.Openings.{HasShape}

@@ -1,13 +1,14 @@
 //! The parts that a world opens with.
 ghost use Rattle.std.specs.Prelude.{◌≡◌, IfOk, length};
 ghost use Rattle.replay_log.specs.Collections.{kind_of_held};
-ghost use Rattle.tx_actor.specs.Blocks.{kind_of};
+ghost use Rattle.actor_words.specs.Blocks.{kind_of};
 ghost use Rattle.world_table.specs.Openings.{blocks_of};
 ghost use Rattle.running_world.specs.Openings.{AreIdle};
 
+use actor_words::{Blocks, Kind, TABLE_LIMIT};
 use seq_model::{Held, Memory, Refusal};
 use std::alloc::Global;
-use tx_actor::{Blocks, Kind, TABLE_LIMIT, TxActor};
+use tx_actor::TxActor;
 
 /// The actors of a world.
 const ACTORS: usize = 64;

@@ -11,9 +11,10 @@ ghost use Rattle.running_world.specs.Traces.{IsSerialTrace, IsTraceOf};
 
 use crate::opening::{actors, lay};
 use crate::trace::{Ended, Trace, copy_of_aborted, copy_of_records, half_done};
+use actor_words::Blocks;
 use seq_model::{Items, Memory, Record, Refusal, Shape, State, Value};
 use std::alloc::Global;
-use tx_actor::{Blocks, TxActor};
+use tx_actor::TxActor;
 use world_table::Table;
 
 /// The parts of a world.

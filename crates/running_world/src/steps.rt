@@ -1,15 +1,16 @@
 //! What an event makes of the parts of a world, by what its actor's next step does.
 ghost use Rattle.std.specs.Prelude.{◌≡◌, ◌≢◌, ◌+◌, ◌<◌, false, length, slice_get, IfOk, Some};
 ghost use Rattle.seq_model.specs.declared.event.Event.TheVariants.{Starve, Step};
-ghost use Rattle.tx_actor.specs.Dispatch.{is_loading, next_of};
+ghost use Rattle.actor_words.specs.Dispatch.{is_loading, next_of};
 ghost use Rattle.tx_actor.specs.Running.{stage_of};
 ghost use Rattle.tx_actor.specs.declared.actor.TxActor as running;
 ghost use Rattle.running_world.specs.Parts.{Happens, HasWorld, IsAt, IsDue};
 
 use crate::parts::Parts;
 use crate::turns::{close, leave, put_gate, step_word, try_gate};
+use actor_words::Next;
 use seq_model::{Memory, Value, insert_record};
-use tx_actor::{Next, Stage, Told};
+use tx_actor::{Stage, Told};
 
 impl<V: Value> Parts<V> {
     /// The request of the actor at this place is refused memory, where it may still be.

@@ -5,19 +5,21 @@ ghost use Rattle.step_core.specs.CellSteps.{Grows};
 ghost use Rattle.step_core.specs.Sound.{Fits, owed};
 ghost use Rattle.replay_log.specs.Contents.{Block, end_of};
 ghost use Rattle.tx_actor.specs.Asks.{Stands};
-ghost use Rattle.tx_actor.specs.Blocks.{BlocksView};
-ghost use Rattle.tx_actor.specs.Dispatch.{Records, is_loading, next_of};
+ghost use Rattle.actor_words.specs.Blocks.{BlocksView};
+ghost use Rattle.tx_actor.specs.Dispatch.{Records};
+ghost use Rattle.actor_words.specs.Dispatch.{is_loading, next_of};
 ghost use Rattle.tx_actor.specs.Keeping.{IsRunning, KeepsIn};
 ghost use Rattle.tx_actor.specs.Running.{stage_of};
 ghost use Rattle.world_table.specs.Openings.{HasShape};
 ghost use Rattle.running_world.specs.Turns.{IsTurn};
 
 use crate::trace::Ended;
+use actor_words::laws::{goes_on_as_worlds, steps_as_worlds};
+use actor_words::{Blocks, Next};
 use seq_model::{Items, Memory, Record, Value};
 use std::alloc::Global;
 use std::mem;
-use tx_actor::laws::{goes_on_as_worlds, steps_as_worlds};
-use tx_actor::{Blocks, Next, Stage, Told, TxActor};
+use tx_actor::{Stage, Told, TxActor};
 use world_table::Table;
 
 /// The next step of an actor's words.

@@ -30,30 +30,32 @@ use Rattle.replay_log.specs.Worlds.{World, Seat, After, Trying, Open, actor_of, 
 use Rattle.replay_log.proofs.ContentLemmas.{content_frame, in_shifted, positive_at, shifted_in}
 use Rattle.step_core.specs.Shown as words
 use Rattle.tx_actor.specs.declared.actor.Answered as running
-use Rattle.tx_actor.specs.declared.actor.CopyOf.{CopyOf}
+use Rattle.actor_copies.specs.declared.copies.CopyOf.{CopyOf}
 use Rattle.tx_actor.specs.declared.actor.Told.{Told}
 use Rattle.tx_actor.specs.declared.actor.Told.TheVariants as told
 use Rattle.tx_actor.specs.declared.actor.TxActor.{TxActor}
-use Rattle.tx_actor.specs.declared.copies.Copied.{Copied}
-use Rattle.tx_actor.specs.declared.judged.Judged.{Judged}
-use Rattle.tx_actor.specs.declared.judged.Judged.TheVariants.{All, Next, Stale}
-use Rattle.tx_actor.specs.Accepts.{written}
+use Rattle.actor_copies.specs.declared.copies.Copied.{Copied}
+use Rattle.actor_words.specs.declared.judged.Judged.{Judged}
+use Rattle.actor_words.specs.declared.judged.Judged.TheVariants.{All, Next, Stale}
+use Rattle.actor_words.specs.Accepts.{written}
 use Rattle.tx_actor.specs.Answers.{CopiesAfter, MayAccept, MayAnswer}
-use Rattle.tx_actor.specs.Blocks.{BlocksView, IsLaid}
+use Rattle.actor_words.specs.Blocks.{BlocksView, IsLaid}
 use Rattle.tx_actor.specs.Calls.{AsksOwn, CanCall, ask_call, is_allowed}
-use Rattle.tx_actor.specs.Copies as copies
-use Rattle.tx_actor.specs.Copies.{answer_of, answered_on, holds_call}
-use Rattle.tx_actor.specs.Footprints.{IsPlaceOf, base_in, known_edition, places_in, reads_in, with_known, writes_in}
-use Rattle.tx_actor.specs.Judged.{comes_to, judged, left_after}
-use Rattle.tx_actor.specs.Keeps.{IsOwnCopy, call_on}
-use Rattle.tx_actor.specs.Owns.{IsHeldAsk, IsOwn, MayCall, OwnsCopies, read_at}
+use Rattle.actor_copies.specs.Copies as copies
+use Rattle.actor_copies.specs.Copies.{answer_of, answered_on, holds_call}
+use Rattle.actor_copies.specs.Footprints.{IsPlaceOf, base_in, known_edition, places_in, reads_in, with_known, writes_in}
+use Rattle.actor_words.specs.Judged.{comes_to, judged, left_after}
+use Rattle.actor_copies.specs.Keeps.{IsOwnCopy, call_on}
+use Rattle.actor_copies.specs.Owns.{IsHeldAsk, IsOwn, MayCall, read_at}
+use Rattle.tx_actor.specs.Owns.{OwnsCopies}
 use Rattle.tx_actor.specs.Prepares.{ArePrepared, IsAlike, IsHeldAt, IsReadyCall, MayPrepare, holds_of}
-use Rattle.tx_actor.specs.Running.{Runs, asked_of, answered_of, copy_of, has_piece, notice_of, seat_of, with_outcome, is_recorded, seat_at, seat_in}
-use Rattle.tx_actor.specs.Writes.{with_next, written_as}
-use Rattle.tx_actor.proofs.KeepsLemmas.{answers_held, head_in, held_editions, held_known, held_outcome, held_read, held_written, tail_in}
-use Rattle.tx_actor.proofs.CallingLemmas.{not_read}
-use Rattle.tx_actor.proofs.FootprintLemmas.{sized}
-use Rattle.tx_actor.proofs.KeptLemmas.{first_at}
+use Rattle.tx_actor.specs.Running.{Runs, asked_of, answered_of, notice_of, seat_of, with_outcome, is_recorded, seat_at, seat_in}
+use Rattle.actor_copies.specs.Kept.{copy_of, has_piece}
+use Rattle.actor_copies.specs.Writes.{with_next, written_as}
+use Rattle.actor_copies.proofs.KeepsLemmas.{answers_held, head_in, held_editions, held_known, held_outcome, held_read, held_written, tail_in}
+use Rattle.actor_copies.proofs.CallingLemmas.{not_read}
+use Rattle.actor_copies.proofs.FootprintLemmas.{sized}
+use Rattle.actor_copies.proofs.KeptLemmas.{first_at}
 use Rattle.tx_actor.proofs.OwnAsksLemmas.{comes_owns}
 use Rattle.tx_actor.proofs.OwnsLemmas.{owns_by}
 use Rattle.tx_actor.proofs.PreparesLemmas.{alike_owns, alike_seat, some_copy}

@@ -6,20 +6,14 @@ use Rattle.std.specs.Vec.{vec_capacity, vec_len}
 use Rattle.step_core.specs.Sound.{Fits, Keeps, owed}
 use Rattle.step_core.specs.declared.actor.Actor.{Actor}
 use Rattle.replay_log.specs.Contents.{end_of}
-use Rattle.tx_actor.specs.Blocks.{BlocksView}
+use Rattle.actor_words.specs.Blocks.{BlocksView}
 use Rattle.tx_actor.specs.Dispatch.{HasRoom}
-use Rattle.tx_actor.specs.Keeping.{KeepsAt, KeepsIn, NamesAmong}
+use Rattle.actor_words.specs.Requests.{KeepsAt}
+use Rattle.tx_actor.specs.Keeping.{KeepsIn, NamesAmong}
 use Rattle.tx_actor.specs.Running.{at}
 use Rattle.tx_actor.specs.declared.actor.Stage.{Stage}
 use Rattle.tx_actor.specs.declared.actor.Stage.TheVariants as stage
 use Rattle.tx_actor.specs.declared.actor.TxActor.{TxActor}
-
-pub keeps_then : (x y z : Actor) → Keeps x y → Keeps y z → Keeps x z
-keeps_then x y z p q = record {
-  fits = λ n f. q.fits n (p.fits n f);
-  owed = omega (arith, p.owed, q.owed);
-  due = omega (arith, p.due, q.due);
-}
 
 pub words_same : (n : ℕ) (x : Actor) → KeepsAt n x x
 words_same n x = record { fits = λ f. f; owed = omega arith; due = omega arith }

@@ -1,8 +1,8 @@
 -- The load of a call's location: with the copied edition the definitions judge the others, which is the judging of the actor's own lists;
 -- with another the call is given up. What is made of a seat does not hang on its stage (`comes_at`), and the outcome at the stage is the
 -- world's, whatever it is.
-use Rattle.std.proofs.Common.{◌≡◌, ◌≢◌, ◌==◌, ℕ, Bool, true, false, eqb-true, eq-eqb, [], ◌∷◌, drop, Option, Some, None, refl, sym, ap, subst, ◌∙◌}
-use Rattle.std.proofs.lemmas.Bool.{cond-true, cond-false}
+use Rattle.std.proofs.Common.{◌≡◌, ◌≢◌, ◌==◌, ℕ, Bool, true, false, eqb-true, [], ◌∷◌, drop, Option, Some, None, refl, sym, ap, subst, ◌∙◌}
+use Rattle.std.proofs.lemmas.Bool.{cond-false}
 use Rattle.tx_sets.specs.Entries.{Entries}
 use Rattle.word_machine.specs.Actor as machine
 use Rattle.word_machine.specs.Notices as notice
@@ -12,7 +12,7 @@ use Rattle.seq_model.specs.declared.refusal.Refusal.TheVariants as refusal
 use Rattle.conflict.specs.declared.outcome.Outcome.{Outcome}
 use Rattle.replay_log.specs.Contents as contents
 use Rattle.replay_log.specs.Worlds as worlds
-use Rattle.replay_log.specs.Worlds.{World, Seat, After, actor_of, at_stage, because, gives_up, has_loaded, loads}
+use Rattle.replay_log.specs.Worlds.{World, Seat, actor_of, at_stage, because, gives_up, has_loaded, loads}
 use Rattle.std.specs.declared.alloc.Global.{Global}
 use Rattle.std.specs.declared.collections.VecDeque.{VecDeque}
 use Rattle.step_core.specs.Shown as words
@@ -22,17 +22,17 @@ use Rattle.tx_actor.specs.declared.actor.Stage.TheVariants as stage
 use Rattle.tx_actor.specs.declared.actor.Told.{Told}
 use Rattle.tx_actor.specs.declared.actor.Told.TheVariants as told
 use Rattle.tx_actor.specs.declared.actor.TxActor.{TxActor}
-use Rattle.tx_actor.specs.declared.notice.WordNotice.{WordNotice}
-use Rattle.tx_actor.specs.declared.notice.WordNotice.TheVariants.{Number, Moved}
-use Rattle.tx_actor.specs.declared.judged.Judged.{Judged}
-use Rattle.tx_actor.specs.declared.judged.Judged.TheVariants.{All, Next, Stale}
+use Rattle.actor_words.specs.declared.notice.WordNotice.{WordNotice}
+use Rattle.actor_words.specs.declared.notice.WordNotice.TheVariants.{Number, Moved}
+use Rattle.actor_words.specs.declared.judged.Judged.{Judged}
+use Rattle.actor_words.specs.declared.judged.Judged.TheVariants.{All, Next, Stale}
 use Rattle.tx_actor.specs.Answers.{IsPrepared, MayAnswer}
-use Rattle.tx_actor.specs.Dispatch.{shown_notice}
-use Rattle.tx_actor.specs.Judged.{comes_to, judged, left_after}
+use Rattle.actor_words.specs.Dispatch.{shown_notice}
+use Rattle.actor_words.specs.Judged.{comes_to, judged, left_after}
 use Rattle.tx_actor.specs.Loads.{IsLoadable, IsToldLoad, MayJudge, after_load, first_entry}
 use Rattle.tx_actor.specs.Running.{Runs, at, notice_of, outcome_in, seat_of, stage_in, with_outcome}
+use Rattle.actor_words.proofs.JudgedLemmas.{found_fresh}
 use Rattle.tx_actor.proofs.DispatchLemmas.{by_result, stays_as}
-use Rattle.tx_actor.proofs.JudgedLemmas.{is_judged}
 
 -- the location that is read next, and the others
 pub first_rest : (es : Entries) (d : ℕ × ℕ) (fs : Entries) → first_entry es ≡ Some d → fs ≡ drop 1 es → es ≡ d ∷ fs
@@ -53,12 +53,6 @@ module _ {V : Type 0} where
   comes_at w a x s o left (Stale l b v) = refl
 
   -- ---- the first location
-  pub found_fresh : (w : World V) (a : ℕ) (x : Seat V) (o : contents.Answered V) (d : ℕ × ℕ) (es : Entries) (v : ℕ) → d.1 ≡ v
-      → has_loaded w a x o d es (notice.Number v) ≡ comes_to w a x o (left_after (actor_of w a).reads es) (judged (actor_of w a).reads es)
-  found_fresh w a x o d es v same =
-      cond-true (d.1 == v) (loads w a x o es) (gives_up w a (because x (refusal.Stale d.0 d.1 v)) []) (eq-eqb d.1 v same)
-      ∙ is_judged w a x o es
-
   found_stale : (w : World V) (a : ℕ) (x : Seat V) (o : contents.Answered V) (d : ℕ × ℕ) (es : Entries) (v : ℕ) → d.1 ≢ v
       → has_loaded w a x o d es (notice.Number v) ≡ gives_up w a (because x (refusal.Stale d.0 d.1 v)) []
   found_stale w a x o d es v other =

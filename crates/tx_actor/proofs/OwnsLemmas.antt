@@ -18,20 +18,21 @@ use Rattle.atomic_steps.specs.Bases.{changes_on, log_changes, log_locations, wri
 use Rattle.atomic_steps.proofs.Bases.{kind_stays, more_changes, more_locations}
 use Rattle.shadow.specs.Memo.{holds_with}
 use Rattle.shadow.proofs.CopyLemmas.{copy_holds}
-use Rattle.tx_actor.specs.declared.copies.Copied.{Copied}
-use Rattle.tx_actor.specs.declared.copies.Copied.TheVariants.{Keys, Whole}
-use Rattle.tx_actor.specs.declared.actor.CopyOf.{CopyOf}
+use Rattle.actor_copies.specs.declared.copies.Copied.{Copied}
+use Rattle.actor_copies.specs.declared.copies.Copied.TheVariants.{Keys, Whole}
+use Rattle.actor_copies.specs.declared.copies.CopyOf.{CopyOf}
 use Rattle.tx_actor.specs.declared.actor.TxActor.{TxActor}
 use Rattle.tx_actor.specs.Answers.{IsAcceptedAt}
-use Rattle.tx_actor.specs.Blocks.{BlocksView, IsLaid}
-use Rattle.tx_actor.specs.Copies.{IsAccepted, IsCopied, IsOf, ShowParts, answer_of, answered_on, holds_call}
-use Rattle.tx_actor.specs.Footprints.{base_in, reads_in}
-use Rattle.tx_actor.specs.Keeps.{IsOwnCopy, Knows}
-use Rattle.tx_actor.specs.Owns.{AreOfBlocks, AreOnce, IsOfBlock, IsOwn, IsUncalled, OwnsCopies}
-use Rattle.tx_actor.specs.Running.{copy_of}
-use Rattle.tx_actor.proofs.CopiesLemmas.{editions_stay, follows_accepted, follows_others}
-use Rattle.tx_actor.proofs.FootprintLemmas.{reads_by}
-use Rattle.tx_actor.proofs.KeptLemmas.{accepted_pieces}
+use Rattle.actor_words.specs.Blocks.{BlocksView, IsLaid}
+use Rattle.actor_copies.specs.Copies.{IsAccepted, IsCopied, IsOf, ShowParts, answer_of, answered_on, holds_call}
+use Rattle.actor_copies.specs.Footprints.{base_in, reads_in}
+use Rattle.actor_copies.specs.Keeps.{IsOwnCopy, Knows}
+use Rattle.actor_copies.specs.Owns.{AreOfBlocks, AreOnce, IsOfBlock, IsOwn, IsUncalled}
+use Rattle.tx_actor.specs.Owns.{OwnsCopies}
+use Rattle.actor_copies.specs.Kept.{copy_of}
+use Rattle.actor_copies.proofs.CopiesLemmas.{editions_stay, follows_accepted, follows_others}
+use Rattle.actor_copies.proofs.FootprintLemmas.{reads_by}
+use Rattle.actor_copies.proofs.KeptLemmas.{accepted_pieces}
 
 apart : (j k : ℕ) → j ≢ k → (b : Bool) → (j == k) ≡ b → (j == k) ≡ false
 apart j k other true is = absurd (other (eqb-true j k is))

@@ -21,22 +21,24 @@ use Rattle.replay_log.specs.Worlds.{World, is_change, new_in, reply_of}
 use Rattle.replay_log.proofs.CountLemmas.{locations-cons}
 use Rattle.shadow.specs.Memo.{MemoView, answer_with, has_key, holds_with}
 use Rattle.tx_actor.specs.declared.actor.Answered as running
-use Rattle.tx_actor.specs.declared.actor.CopyOf.{CopyOf}
+use Rattle.actor_copies.specs.declared.copies.CopyOf.{CopyOf}
 use Rattle.tx_actor.specs.declared.actor.TxActor.{TxActor}
-use Rattle.tx_actor.specs.declared.copies.Copied.{Copied}
-use Rattle.tx_actor.specs.declared.copies.Copied.TheVariants.{Keys, Whole}
+use Rattle.actor_copies.specs.declared.copies.Copied.{Copied}
+use Rattle.actor_copies.specs.declared.copies.Copied.TheVariants.{Keys, Whole}
 use Rattle.tx_actor.specs.Answers.{IsPrepared}
-use Rattle.tx_actor.specs.Copies as copies
-use Rattle.tx_actor.specs.Copies.{IsCopied, IsKept, IsOf, IsReady, answer_of, edition_at, holds_call, memo_piece}
-use Rattle.tx_actor.specs.Footprints.{known_edition, reads_in, writes_in}
-use Rattle.tx_actor.specs.Keeps.{Knows}
-use Rattle.tx_actor.specs.Owns.{AreOnce, IsOwn, OwnsCopies}
+use Rattle.actor_copies.specs.Copies as copies
+use Rattle.actor_copies.specs.Copies.{IsCopied, IsKept, IsOf, IsReady, answer_of, edition_at, holds_call, memo_piece}
+use Rattle.actor_copies.specs.Footprints.{known_edition, reads_in, writes_in}
+use Rattle.actor_copies.specs.Keeps.{Knows}
+use Rattle.actor_copies.specs.Owns.{AreOnce, IsOwn}
+use Rattle.tx_actor.specs.Owns.{OwnsCopies}
 use Rattle.tx_actor.specs.Prepares.{AreKept, HasRoomFor, IsAlike, MayPrepare, fits}
-use Rattle.tx_actor.specs.Running.{answered_of, asked_of, copy_of, has_piece, seat_of, stage_of}
-use Rattle.tx_actor.specs.Writes.{MayWrite, with_next}
-use Rattle.tx_actor.proofs.BlocksLemmas.{up_to}
-use Rattle.tx_actor.proofs.CopiesLemmas.{same_copy}
-use Rattle.tx_actor.proofs.OutcomeLemmas.{answered_op, writes_nothing}
+use Rattle.tx_actor.specs.Running.{answered_of, asked_of, seat_of, stage_of}
+use Rattle.actor_copies.specs.Kept.{copy_of, has_piece}
+use Rattle.actor_copies.specs.Writes.{MayWrite, with_next}
+use Rattle.actor_words.proofs.BlocksLemmas.{up_to}
+use Rattle.actor_copies.proofs.CopiesLemmas.{same_copy}
+use Rattle.actor_copies.proofs.OutcomeLemmas.{answered_op, writes_nothing}
 
 next_locations : {V : Type 0} → (c : Copied V) (f : ℕ) (ls : List ℕ) → locations (with_next c f ls) ≡ shifted f ls
 unfolding locations

@@ -1,6 +1,6 @@
 -- What a running actor makes of itself is what its world makes of its seat and its word actor: the world seats it anew (`put-same`), and
 -- where it is given up its word actor cancels and leaves (`gives_it_up`).
-use Rattle.std.proofs.Common.{◌≡◌, ◌<◌, ◌-◌, ℕ, zero, suc, Bool, true, false, true≢false, eqb, cond, eqb-true, length, List, [], ◌∷◌, refl, sym, ap, arith, ◌∙◌}
+use Rattle.std.proofs.Common.{◌≡◌, ◌<◌, ◌-◌, ℕ, zero, suc, Bool, true, false, true≢false, eqb, cond, length, List, [], ◌∷◌, refl, sym, ap, arith, ◌∙◌}
 use Rattle.std.proofs.Math.Seq.{drop-cons, take-suc}
 use Rattle.std.proofs.Common.{take, drop, ◌+◌, ◌++◌, get_or}
 use Rattle.word_machine.specs.Actor.{Actor}
@@ -9,19 +9,15 @@ use Rattle.word_machine.proofs.Sets.{put-same}
 use Rattle.seq_model.specs.declared.event.Notice.TheVariants.{Quiet}
 use Rattle.seq_model.specs.declared.refusal.Refusal.TheVariants as refusal
 use Rattle.replay_log.specs.Worlds.{World, Seat, Stage, Gating, Ready, Homing, Releasing, Returning, takes_gates, more_tries, goes_home, at_stage, because, cancels, gives_up, has_tried, actor_of}
-use Rattle.tx_actor.specs.Shows.{cancelled, ending}
-use Rattle.tx_actor.specs.Dispatch.{MayRelease}
+use Rattle.actor_words.specs.Shows.{cancelled, ending}
+use Rattle.actor_words.specs.Dispatch.{MayRelease}
 use Rattle.step_core.specs.Shown as words
 use Rattle.tx_actor.specs.Running.{IsSeatOf, is_recorded, seat_at, seat_in, stage_in}
 use Rattle.std.specs.Global.{Vec}
-use Rattle.tx_actor.specs.declared.actor.CopyOf.{CopyOf}
+use Rattle.actor_copies.specs.declared.copies.CopyOf.{CopyOf}
 use Rattle.tx_actor.specs.declared.actor.TxActor.{TxActor}
-use Rattle.tx_actor.proofs.ShowsLemmas.{gives_it_up, guarded_asked}
-
-pub not_none : (n : ℕ) → eqb (suc n) 0 ≡ true → ⊥
-not_none n len =
-    let e : suc n ≡ 0 = eqb-true (suc n) 0 len in
-    omega arith
+use Rattle.actor_words.proofs.HomesLemmas.{not_none}
+use Rattle.actor_words.proofs.ShowsLemmas.{gives_it_up, guarded_asked}
 
 -- the first of those behind the i-th place, and the others
 pub at_next : (i : ℕ) (xs : List ℕ) (k d : ℕ) (ks : List ℕ) → i < length xs → drop i xs ≡ k ∷ ks

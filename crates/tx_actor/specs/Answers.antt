@@ -7,19 +7,19 @@ use Rattle.replay_log.specs.Contents.{content}
 use Rattle.replay_log.specs.Guards.{Allows}
 use Rattle.replay_log.specs.Worlds.{World, actor_of, outcome_at, reply_of}
 use Rattle.tx_actor.specs.declared.actor.Answered as running
-use Rattle.tx_actor.specs.declared.actor.CopyOf.{CopyOf}
+use Rattle.actor_copies.specs.declared.copies.CopyOf.{CopyOf}
 use Rattle.tx_actor.specs.declared.actor.TxActor.{TxActor}
 use Rattle.tx_sets.specs.Entries.{Entries, lookup}
 use Rattle.word_machine.specs.Actor.{Open as AtRest}
 use Rattle.step_core.specs.Shown as words
 use Rattle.step_core.specs.declared.actor.Actor.{Actor}
-use Rattle.tx_actor.specs.declared.judged.Judged.{Judged}
-use Rattle.tx_actor.specs.declared.judged.Judged.TheVariants.{All, Next}
-use Rattle.tx_actor.specs.Judged.{judged}
-use Rattle.tx_actor.specs.Accepts.{written}
-use Rattle.tx_actor.specs.Copies.{IsAccepted, IsReady, answer_of, holds_call}
+use Rattle.actor_words.specs.declared.judged.Judged.{Judged}
+use Rattle.actor_words.specs.declared.judged.Judged.TheVariants.{All, Next}
+use Rattle.actor_words.specs.Judged.{judged}
+use Rattle.actor_words.specs.Accepts.{written}
+use Rattle.actor_copies.specs.Copies.{IsAccepted, IsReady, answer_of, holds_call}
 use Rattle.tx_actor.specs.Running.{answered_of, asked_of}
-use Rattle.tx_actor.specs.Writes.{MayWrite, written_as}
+use Rattle.actor_copies.specs.Writes.{MayWrite, written_as}
 
 -- The copy at this place has accepted the outcome, if there is one, and the others are as they were.
 abbrev pub IsAcceptedAt : {V : Type 0} → ℕ → Option (Outcome V) → (before now : List (CopyOf V)) → Type 0

@@ -1,29 +1,18 @@
 -- What a request makes of an actor, where the locations of its world lie as v says.
-use Rattle.std.specs.Prelude.{◌≡◌, ℕ, ◌||◌, Bool, true, not, [], ◌∷◌, Option, Some, None}
-use Rattle.tx_sets.specs.Entries.{locations, lookup}
-use Rattle.word_machine.specs.Actor.{Actor}
-use Rattle.word_machine.specs.Notices as notice
+use Rattle.std.specs.Prelude.{◌≡◌, ℕ, true, [], ◌∷◌, Option, Some, None}
+use Rattle.tx_sets.specs.Entries.{locations}
 use Rattle.word_machine.specs.Requests.{AskStore}
 use Rattle.seq_model.specs.declared.call.Op.TheVariants.{Read}
 use Rattle.seq_model.specs.declared.call.Reply.TheVariants as reply
 use Rattle.seq_model.specs.declared.event.Notice.TheVariants.{Quiet}
-use Rattle.collection_machine.specs.Boosted.{every, is_held, is_none}
+use Rattle.collection_machine.specs.Boosted.{every, is_held}
 use Rattle.replay_log.specs.Contents.{content}
 use Rattle.replay_log.specs.Worlds as worlds
-use Rattle.replay_log.specs.Worlds.{World, Seat, After, acted, actor_of, asks, at_stage, fits, replied, seated}
-use Rattle.tx_actor.specs.Blocks.{IsLaid, BlocksView}
+use Rattle.replay_log.specs.Worlds.{World, Seat, After, acted, actor_of, asks, at_stage, replied, seated}
+use Rattle.actor_words.specs.Blocks.{IsLaid, BlocksView}
 use Rattle.tx_actor.specs.Running.{Runs, notice_of}
 use Rattle.tx_actor.specs.declared.actor.Told.{Told}
 use Rattle.tx_actor.specs.declared.actor.TxActor.{TxActor}
-
--- a location that is in no set and finds no room in the read set is not read; a declared reader has no sets
-abbrev pub may_read : Actor → ℕ → Bool
-may_read y l = y.declared || (not (is_none (lookup y.writes l)) || fits y.reads (l ∷ []))
-
--- what a set has of a location
-abbrev pub number_told : Option ℕ → notice.Notice
-number_told None = notice.Quiet
-number_told (Some v) = notice.Number v
 
 module _ {V : Type 0} where
   -- In every world that lies so and in which r is an actor, it is u after f, which tells t.

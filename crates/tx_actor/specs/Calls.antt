@@ -10,9 +10,10 @@ use Rattle.tx_actor.specs.declared.actor.Stage.TheVariants as stage
 use Rattle.tx_actor.specs.declared.actor.Told.{Told}
 use Rattle.tx_actor.specs.declared.actor.TxActor.{TxActor}
 use Rattle.tx_actor.specs.Asks.{Stands}
-use Rattle.tx_actor.specs.Blocks.{BlocksView, IsLaid}
-use Rattle.tx_actor.specs.Keeps.{call_on}
-use Rattle.tx_actor.specs.Owns.{AreOfBlocks, MayCall, OwnsCopies}
+use Rattle.actor_words.specs.Blocks.{BlocksView, IsLaid}
+use Rattle.actor_copies.specs.Keeps.{call_on}
+use Rattle.actor_copies.specs.Owns.{AreOfBlocks, MayCall}
+use Rattle.tx_actor.specs.Owns.{OwnsCopies}
 use Rattle.tx_actor.specs.Running.{Runs, notice_of}
 
 -- The actor can be asked calls on collections that lie so: it is at rest in its transaction, and so is its word actor, and its copies are

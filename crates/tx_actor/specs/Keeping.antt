@@ -1,25 +1,14 @@
 -- What a request or a step keeps of an actor, besides what it shows: the bounds and the room that the steps on the words ask for, and the
 -- numbers that are still to come.
-use Rattle.std.specs.Prelude.{◌≡◌, ℕ, ◌<◌, ◌≤◌, true, [], length}
+use Rattle.std.specs.Prelude.{ℕ, ◌<◌, ◌≤◌, length}
 use Rattle.std.specs.List.{All}
-use Rattle.step_core.specs.Sound.{Fits, due, owed}
-use Rattle.step_core.specs.declared.actor.Actor.{Actor}
+use Rattle.step_core.specs.Sound.{Fits, owed}
 use Rattle.replay_log.specs.Contents.{end_of}
-use Rattle.tx_actor.specs.Blocks.{BlocksView}
+use Rattle.actor_words.specs.Blocks.{BlocksView}
 use Rattle.tx_actor.specs.Dispatch.{HasRoom}
 use Rattle.tx_actor.specs.declared.actor.Stage.{Stage}
 use Rattle.tx_actor.specs.declared.actor.Stage.TheVariants as stage
 use Rattle.tx_actor.specs.declared.actor.TxActor.{TxActor}
-
--- with n locations, as `Keeps` has it with any number of them
-pub record KeepsAt (n : ℕ) (x y : Actor) : Type 0 where
-  pub fits : Fits n x → Fits n y
-  pub owed : owed y.place ≤ owed x.place
-  pub due : due y.place ≤ due x.place
-
--- a declared reader has no read set
-abbrev pub HasNoReads : Actor → Type 0
-HasNoReads x = x.declared ≡ true → x.reads.entries ≡ []
 
 module _ {V : Type 0} where
   -- the collections that a stage names are among the first n

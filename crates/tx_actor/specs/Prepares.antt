@@ -8,15 +8,15 @@ use Rattle.replay_log.specs.Contents.{shifted}
 use Rattle.replay_log.specs.Worlds as worlds
 use Rattle.step_core.specs.Shown as words
 use Rattle.step_core.specs.declared.actor.Place.TheVariants as place
-use Rattle.tx_actor.specs.declared.actor.CopyOf.{CopyOf}
+use Rattle.actor_copies.specs.declared.copies.CopyOf.{CopyOf}
 use Rattle.tx_actor.specs.declared.actor.TxActor.{TxActor}
-use Rattle.tx_actor.specs.declared.copies.Copied.{Copied}
+use Rattle.actor_copies.specs.declared.copies.Copied.{Copied}
 use Rattle.tx_actor.specs.declared.prepares.Prepared.{Prepared}
 use Rattle.tx_actor.specs.Answers.{IsPrepared}
-use Rattle.tx_actor.specs.Copies.{IsKept, IsReady, answer_of, holds_call}
-use Rattle.tx_actor.specs.Footprints.{base_in, places_in, reads_in, with_known, writes_in}
-use Rattle.tx_actor.specs.Running.{copy_of}
-use Rattle.tx_actor.specs.Writes.{with_next}
+use Rattle.actor_copies.specs.Copies.{IsKept, IsReady, answer_of, holds_call}
+use Rattle.actor_copies.specs.Footprints.{base_in, places_in, reads_in, with_known, writes_in}
+use Rattle.actor_copies.specs.Kept.{copy_of}
+use Rattle.actor_copies.specs.Writes.{with_next}
 
 module _ {V : Type 0} where
   -- the copies are as they were, but for what is ready in them

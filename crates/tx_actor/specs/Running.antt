@@ -1,16 +1,13 @@
 -- What a running actor shows, and what a step of it makes of every world that shows it.
-use Rattle.std.specs.Prelude.{◌≡◌, ℕ, Bool, true, false, ◌==◌, List, [], ◌∷◌, take, drop, Option, Some, None, if◌then◌else◌}
+use Rattle.std.specs.Prelude.{◌≡◌, ℕ, Bool, true, false, List, [], ◌∷◌, take, drop, Option, None, if◌then◌else◌}
 use Rattle.conflict.specs.declared.outcome.Outcome.{Outcome}
 use Rattle.seq_model.specs.declared.event.Notice.{Notice}
 use Rattle.seq_model.specs.declared.event.Notice.TheVariants.{Quiet, Answered, Refused}
 use Rattle.step_core.specs.Shown as words
-use Rattle.replay_log.specs.Pieces as pieces
 use Rattle.replay_log.specs.Contents as contents
 use Rattle.replay_log.specs.Worlds as worlds
 use Rattle.replay_log.specs.Worlds.{World, Seat, After}
-use Rattle.tx_actor.specs.Copies as copies
-use Rattle.tx_actor.specs.declared.copies.Copied.{Copied}
-use Rattle.tx_actor.specs.declared.actor.CopyOf.{CopyOf}
+use Rattle.actor_copies.specs.Kept.{copy_of, has_piece}
 use Rattle.tx_actor.specs.declared.actor.Asked.{Asked}
 use Rattle.tx_actor.specs.declared.actor.Answered as running
 use Rattle.tx_actor.specs.declared.actor.Stage.{Stage}
@@ -20,15 +17,6 @@ use Rattle.tx_actor.specs.declared.actor.Told.TheVariants as told
 use Rattle.tx_actor.specs.declared.actor.TxActor.{TxActor}
 
 module _ {V : Type 0} where
-  -- what there is of collection k, and whether piece q is among that
-  abbrev pub copy_of : List (CopyOf V) → ℕ → Option (Copied V)
-  copy_of [] k = None
-  copy_of (c ∷ cs) k = if k == c.collection then Some c.copied else copy_of cs k
-
-  abbrev pub has_piece : Option (Copied V) → pieces.Piece → Bool
-  has_piece None q = false
-  has_piece (Some c) q = copies.has_piece c q
-
   abbrev pub asked_of : Asked V → contents.Asked V
   asked_of asked = record { collection = asked.collection; op = asked.op }
 

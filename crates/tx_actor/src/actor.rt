@@ -1,5 +1,5 @@
 //! What an actor keeps: its word actor, where its request stands, its numbers, its cause, its calls, and what it has of collections.
-use crate::copies::Copied;
+use actor_copies::CopyOf;
 use conflict::Outcome;
 use seq_model::{Answer, Call, Op, Refusal, Reply};
 use std::collections::VecDeque;
@@ -64,13 +64,6 @@ pub enum Told<V> {
     Quiet,
     Answered(Answer<V>),
     Refused(Refusal),
-}
-
-/// What a transaction has of this collection.
-#[derive(Drop)]
-pub struct CopyOf<V> {
-    pub collection: u32,
-    pub copied: Copied<V>,
 }
 
 /// An actor with its transaction.

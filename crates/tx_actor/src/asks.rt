@@ -6,15 +6,15 @@ ghost use Rattle.seq_model.specs.declared.call.Op.TheVariants as op;
 ghost use Rattle.replay_log.specs.Worlds as worlds;
 ghost use Rattle.replay_log.specs.Worlds.{ask_op, commits};
 ghost use Rattle.tx_actor.specs.Asks.{Asks, MayStore, Stands};
-ghost use Rattle.tx_actor.specs.Blocks.{BlocksView};
-ghost use Rattle.tx_actor.specs.Keeping.{HasNoReads, KeepsIn};
+ghost use Rattle.actor_words.specs.Blocks.{BlocksView};
+ghost use Rattle.actor_words.specs.Requests.{HasNoReads};
+ghost use Rattle.tx_actor.specs.Keeping.{KeepsIn};
 ghost use Rattle.tx_actor.specs.Running.{Does, seat_of};
 
 use crate::actor::{Stage, Told, TxActor};
-use crate::blocks::Blocks;
-use crate::homes::written_homes;
-use crate::requests::{
-    close_words, fits_one, lock_words, may_read, read_word, store_words, write_word,
+use actor_words::{
+    Blocks, close_words, fits_one, lock_words, may_read, read_word, store_words, write_word,
+    written_homes,
 };
 use seq_model::{Answer, CALL_LIMIT, Call, Memory, Op, Refusal, Reply};
 use std::alloc::Global;

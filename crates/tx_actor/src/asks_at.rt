@@ -5,7 +5,7 @@ ghost use Rattle.tx_actor.specs.Calls.{AsksAt, AsksOwn, CanCall, StandsOwn};
 ghost use Rattle.tx_actor.specs.Running.{Does, seat_of, stage_of};
 
 use crate::actor::{Stage, Told, TxActor};
-use crate::blocks::Blocks;
+use actor_words::Blocks;
 use seq_model::{Call, Memory, Op, Refusal, Request, Value};
 use std::alloc::Global;
 

@@ -4,14 +4,15 @@ ghost use Rattle.std.specs.Prelude.{◌≡◌, ◌<◌, ℕ, [], ◌∷◌};
 ghost use Rattle.std.specs.Vec.{vec_len, vec_capacity};
 ghost use Rattle.seq_model.specs.declared.refusal.Refusal.TheVariants as refusal;
 ghost use Rattle.replay_log.specs.Worlds.{because, gives_up};
-ghost use Rattle.tx_actor.specs.Dispatch.{HasRoom, IsGoneHome, IsToldWord, Records, Starves, after_put, after_try, notice_told, shown_notice};
-ghost use Rattle.tx_actor.specs.Blocks.{BlocksView};
+ghost use Rattle.tx_actor.specs.Dispatch.{HasRoom, IsGoneHome, IsToldWord, Records, Starves};
+ghost use Rattle.actor_words.specs.Dispatch.{after_put, after_try, notice_told, shown_notice};
+ghost use Rattle.actor_words.specs.Blocks.{BlocksView};
 ghost use Rattle.tx_actor.specs.Keeping.{KeepsIn};
 ghost use Rattle.tx_actor.specs.Running.{Does, Reseats, at, seat_of, stage_of};
 
 use crate::actor::{Asked, Stage, Told, TxActor};
-use crate::notice::{WordNotice, of_told};
 use crate::steps::has_none;
+use actor_words::{WordNotice, of_told};
 use seq_model::Refusal;
 use std::collections::VecDeque;
 use std::mem;

@@ -3,12 +3,12 @@
 ghost use Rattle.std.specs.Prelude.{◌≡◌, Some};
 ghost use Rattle.word_machine.specs.Notices as notice;
 ghost use Rattle.tx_actor.specs.Answers.{IsPrepared};
-ghost use Rattle.tx_actor.specs.Dispatch.{notice_told, shown_notice};
+ghost use Rattle.actor_words.specs.Dispatch.{notice_told, shown_notice};
 ghost use Rattle.tx_actor.specs.Loads.{IsLoadable, IsToldLoad, first_entry};
 ghost use Rattle.tx_actor.specs.Running.{at};
 
 use crate::actor::{Answered, Stage, Told, TxActor};
-use crate::notice::{WordNotice, of_told};
+use actor_words::{WordNotice, of_told};
 use seq_model::{Refusal, Value};
 use std::collections::VecDeque;
 use std::mem;

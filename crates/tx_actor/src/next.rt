@@ -1,78 +1,10 @@
 //! What an actor's next step does.
-ghost use Rattle.std.specs.Prelude.{◌≡◌, drop};
-ghost use Rattle.tx_actor.specs.Dispatch.{first, next_home, next_load, next_of, next_put, next_try};
+ghost use Rattle.std.specs.Prelude.{◌≡◌};
+ghost use Rattle.actor_words.specs.Dispatch.{next_of};
 ghost use Rattle.tx_actor.specs.Running.{stage_of};
 
 use crate::actor::{Stage, TxActor};
-use std::collections::VecDeque;
-
-/// What an actor's next step does.
-#[derive(Clone, Copy)]
-pub enum Next {
-    /// No step is due.
-    Nothing,
-    /// The next step of its word actor.
-    Word,
-    /// A try on the gate of this collection.
-    TryGate(u32),
-    /// The gate of this collection is held: what a call touches is copied, and the gate put back.
-    Copy(u32),
-    /// The first value store, which commits.
-    FirstStore,
-    /// The base of this collection goes home with its changes, and its gate is put back.
-    GoHome(u32),
-    /// The gate of this collection is put back, its base unchanged.
-    PutGate(u32),
-}
-
-/// The one at this place, where there is one.
-fn at_place(homes: &VecDeque<u32>, i: usize) -> Option<u32>
-    ensures { result ≡ first (drop i homes.now.items) }
-{
-    if i < homes.len() {
-        Some(homes[i])
-    } else {
-        None
-    }
-}
-
-fn next_try(k: Option<u32>) -> Next
-    ensures { result ≡ next_try k }
-{
-    match k {
-        Some(k) => Next::TryGate(k),
-        None => Next::Nothing,
-    }
-}
-
-fn next_home(k: Option<u32>) -> Next
-    ensures { result ≡ next_home k }
-{
-    match k {
-        Some(k) => Next::GoHome(k),
-        None => Next::Nothing,
-    }
-}
-
-fn next_put(k: Option<u32>) -> Next
-    ensures { result ≡ next_put k }
-{
-    match k {
-        Some(k) => Next::PutGate(k),
-        None => Next::Nothing,
-    }
-}
-
-/// The load of a call's next location, where there is one.
-fn next_load(left: &VecDeque<(u32, u64)>) -> Next
-    ensures { result ≡ next_load left.now.items }
-{
-    if left.is_empty() {
-        Next::Nothing
-    } else {
-        Next::Word
-    }
-}
+use actor_words::{Next, at_place, next_home, next_load, next_put, next_try};
 
 impl<V> TxActor<V> {
     /// What the next step does. It is the atomic action that the definitions have at this stage.

@@ -1,13 +1,10 @@
 //! What a call on a copied collection takes is made ready before its first location is read: nothing of it can be refused memory then.
-ghost use Rattle.std.specs.Prelude.{◌≡◌, ◌+◌, ◌<◌, ◌≤◌, IfOk, OnOk, Some, false, length, slice_get};
-ghost use Rattle.std.specs.Vec.{vec_capacity, vec_len};
-ghost use Rattle.step_core.specs.Shown.{actor_of};
-ghost use Rattle.tx_actor.specs.declared.actor.CopyOf.{CopyOf};
+ghost use Rattle.std.specs.Prelude.{◌≡◌, ◌<◌, IfOk, OnOk, Some, length, slice_get};
+ghost use Rattle.actor_copies.specs.declared.copies.CopyOf.{CopyOf};
 ghost use Rattle.tx_actor.specs.Prepares.{ArePrepared, HasRoomFor, IsAlike, MayPrepare};
 
 use crate::actor::{Answered, Asked, TxActor};
-use crate::weigh::weigh;
-use crate::writes::reserve_writes;
+use actor_copies::{reserve_words, weigh};
 use conflict::Outcome;
 use seq_model::{Memory, Op, Value};
 use std::alloc::Global;
@@ -19,25 +16,6 @@ use step_core::Actor;
 pub struct Prepared<V> {
     pub call: Answered<V>,
     pub left: VecDeque<(u32, u64)>,
-}
-
-/// Makes room for so many reads and so many writes. A declared reader keeps no reads.
-fn reserve_words(words: &mut Actor, reads: usize, writes: usize) -> Result<(), Memory>
-    ensures actor { actor_of words.new ≡ actor_of words.old }
-    ensures place { words.new.place ≡ words.old.place }
-    ensures calls { OnOk result (vec_len words.new.calls + (reads + writes) ≤ vec_capacity words.new.calls) }
-    ensures reads { OnOk result (words.new.declared ≡ false → reads ≤ words.new.reads.room) }
-    ensures writes { OnOk result (writes ≤ words.new.writes.room) }
-    ensures few { length words.new.writes.entries ≤ 4096 }
-{
-    let _entries = words.writes.in_order();
-    let more = reads.checked_add(writes).ok_or(Memory)?;
-    reserve_writes(words, writes)?;
-    words.calls.reserve(more)?;
-    if !words.declared {
-        words.reads.reserve(reads)?;
-    }
-    Ok(())
 }
 
 impl<V: Value> TxActor<V> {

@@ -11,13 +11,14 @@ ghost use Rattle.replay_log.specs.Worlds as worlds;
 ghost use Rattle.replay_log.specs.Worlds.{is_leaving, no_one, because, seated, recorded, has_begun, has_read, has_cancelled, has_released, has_stored, has_tried, has_locked, takes_gates, written_homes, ended, ask_idle, starve_at, Seat, World};
 ghost use Rattle.step_core.specs.Blank.{IsBlank};
 ghost use Rattle.step_core.specs.Sound.{Fits, owed};
-ghost use Rattle.tx_actor.specs.Blocks.{BlocksView};
-ghost use Rattle.tx_actor.specs.Dispatch.{HasRoom, MayRelease};
+ghost use Rattle.actor_words.specs.Blocks.{BlocksView};
+ghost use Rattle.tx_actor.specs.Dispatch.{HasRoom};
+ghost use Rattle.actor_words.specs.Dispatch.{MayRelease};
 ghost use Rattle.tx_actor.specs.Keeping.{IsRunning, KeepsIn, NamesAmong};
 ghost use Rattle.tx_actor.specs.Running.{IsSeatOf, KnowsHomes, Reseats, Runs, asked_of, at, is_recorded, notice_of, seat_in, seat_of, stage_in, stage_of};
 
 use crate::actor::{Asked, Stage, Told, TxActor};
-use crate::ending::{abort, cancel, release};
+use actor_words::{abort, cancel, release};
 use seq_model::{Answer, Call, Op, Refusal, Reply};
 use std::alloc::Global;
 use std::collections::VecDeque;

@@ -1,5 +1,5 @@
 use Rattle.std.proofs.Common.{refl, sym, ap, ◌∙◌, get_or}
-use Rattle.tx_actor.specs.Blocks.{BlocksView}
+use Rattle.actor_words.specs.Blocks.{BlocksView}
 use Rattle.running_world.proofs.OpeningLemmas.{kind_laid, laid_more}
 use Rattle.running_world.proofs.opening.lay.Goals as goal
 

@@ -6,7 +6,7 @@ use Rattle.seq_model.specs.declared.event.Notice.TheVariants.{Answered}
 use Rattle.step_core.specs.Shown.{actor_of}
 use Rattle.replay_log.specs.Worlds.{Open, call_of}
 use Rattle.tx_actor.specs.Running.{answered_of, seat_of}
-use Rattle.tx_actor.specs.Writes.{written_as}
+use Rattle.actor_copies.specs.Writes.{written_as}
 use Rattle.tx_actor.proofs.AnswerLemmas.{accepted_as, pieces_stay}
 use Rattle.tx_actor.proofs.actor.TxActor.accepts.Goals as goal
 

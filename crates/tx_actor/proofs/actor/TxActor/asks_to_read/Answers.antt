@@ -3,12 +3,12 @@ use Rattle.seq_model.specs.declared.limits.TheConstants.{CALL_LIMIT}
 use Rattle.word_machine.proofs.Sets.{put-same}
 use Rattle.replay_log.specs.Worlds.{Seat}
 use Rattle.step_core.specs.Shown.{actor_of}
-use Rattle.tx_actor.specs.Asks.{may_read, number_told}
+use Rattle.actor_words.specs.Requests.{may_read, number_told}
 use Rattle.tx_actor.specs.Running.{seat_of}
 use Rattle.tx_actor.specs.declared.actor.Stage.TheVariants as stage
 use Rattle.tx_actor.specs.declared.actor.Told.TheVariants as told
 use Rattle.tx_actor.specs.declared.actor.TxActor.{TxActor}
-use Rattle.tx_actor.proofs.BlocksLemmas.{end_behind, is_below}
+use Rattle.actor_words.proofs.BlocksLemmas.{end_behind, is_below}
 use Rattle.tx_actor.proofs.KeepingLemmas.{keeps_asked, keeps_through, room_as}
 use Rattle.std.specs.Vec.{vec_capacity, vec_len}
 use Rattle.replay_log.specs.Contents.{end_of}

@@ -1,10 +1,10 @@
 use Rattle.std.proofs.Common.{◌≡◌, true, length, Some, refl, sym, ap, subst, ◌∙◌, arith}
 use Rattle.std.proofs.lemmas.Option.{slice_get_read}
-use Rattle.tx_actor.specs.declared.actor.CopyOf.{CopyOf}
-use Rattle.tx_actor.specs.Copies.{answer_of}
-use Rattle.tx_actor.specs.Footprints.{reads_in, with_known, writes_in}
+use Rattle.actor_copies.specs.declared.copies.CopyOf.{CopyOf}
+use Rattle.actor_copies.specs.Copies.{answer_of}
+use Rattle.actor_copies.specs.Footprints.{reads_in, with_known, writes_in}
 use Rattle.tx_actor.specs.Prepares.{HasRoomFor, fits}
-use Rattle.tx_actor.specs.Writes.{with_next}
+use Rattle.actor_copies.specs.Writes.{with_next}
 use Rattle.tx_actor.proofs.PreparesLemmas.{alike_itself, prepared_by, some_copy}
 use Rattle.tx_actor.proofs.actor.TxActor.prepares.Goals as goal
 

@@ -1,9 +1,9 @@
 use Rattle.std.proofs.Common.{rules, ◌≤◌, OnOk, Option, length, sym, subst}
 use Rattle.replay_log.specs.Base.{room_of}
-use Rattle.tx_actor.specs.declared.copies.Copied.{Copied}
-use Rattle.tx_actor.specs.Footprints.{IsPlaceOf}
-use Rattle.tx_actor.specs.Logs.{changes_had}
-use Rattle.tx_actor.proofs.LogLemmas.{found_at}
+use Rattle.actor_copies.specs.declared.copies.Copied.{Copied}
+use Rattle.actor_copies.specs.Footprints.{IsPlaceOf}
+use Rattle.actor_copies.specs.Logs.{changes_had}
+use Rattle.actor_copies.proofs.LogLemmas.{found_at}
 use Rattle.tx_actor.proofs.actor.TxActor.prepares_base.Goals as goal
 
 pub returns-in-Some-clause-ok : goal.returns-in-Some-clause-ok

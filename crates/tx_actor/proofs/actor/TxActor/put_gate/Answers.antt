@@ -1,6 +1,6 @@
 use Rattle.std.proofs.Common.{sym, ◌∙◌, refl}
 use Rattle.tx_actor.specs.Running.{at, seat_of}
-use Rattle.tx_actor.specs.Dispatch.{after_put}
+use Rattle.actor_words.specs.Dispatch.{after_put}
 use Rattle.tx_actor.specs.declared.actor.Stage.TheVariants as stage
 use Rattle.tx_actor.proofs.DispatchLemmas.{does_at_stage, does_stays, put_else}
 use Rattle.tx_actor.proofs.KeepingLemmas.{keeps_at, keeps_from, keeps_same}

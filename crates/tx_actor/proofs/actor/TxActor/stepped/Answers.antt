@@ -1,7 +1,8 @@
 use Rattle.tx_actor.specs.declared.actor.Stage.{Stage}
 use Rattle.std.proofs.Common.{sym, subst, ◌∙◌, refl}
 use Rattle.tx_actor.specs.Running.{at, seat_at}
-use Rattle.tx_actor.specs.Dispatch.{Records, HasRoom, notice_told}
+use Rattle.tx_actor.specs.Dispatch.{Records, HasRoom}
+use Rattle.actor_words.specs.Dispatch.{notice_told}
 use Rattle.tx_actor.specs.declared.actor.Stage.TheVariants as stage
 use Rattle.tx_actor.proofs.DispatchLemmas.{records_else, told_as, word_at_stage, word_stays, word_else}
 use Rattle.tx_actor.proofs.KeepingLemmas.{keeps_at, keeps_from, keeps_same}

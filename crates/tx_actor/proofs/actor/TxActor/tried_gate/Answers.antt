@@ -1,6 +1,6 @@
 use Rattle.std.proofs.Common.{sym, ◌∙◌}
 use Rattle.tx_actor.specs.Running.{at, seat_of}
-use Rattle.tx_actor.specs.Dispatch.{after_try}
+use Rattle.actor_words.specs.Dispatch.{after_try}
 use Rattle.tx_actor.specs.declared.actor.Stage.TheVariants as stage
 use Rattle.tx_actor.proofs.DispatchLemmas.{does_at_stage, does_stays, try_else}
 use Rattle.tx_actor.proofs.KeepingLemmas.{keeps_at, keeps_same}

@@ -1,0 +1,11 @@
+pub mod CopiesLemmas
+mod CopyingLemmas
+mod FirstLemmas
+pub mod FootprintLemmas
+pub mod KeepsLemmas
+pub mod OutcomeLemmas
+mod WriteLemmas
+pub mod KeptLemmas
+pub mod LogLemmas
+pub mod CallingLemmas
+pub mod LoadingLemmas

@@ -1,0 +1,9 @@
+pub mod Copies
+pub mod Kept
+pub mod First
+pub mod Footprints
+pub mod Writes
+pub mod Keeps
+pub mod Owns
+pub mod Logs
+pub mod Loading

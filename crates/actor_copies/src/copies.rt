@@ -1,0 +1,161 @@
+//! What a transaction has of collections: what it touched of each map and multiset, and a copy of each priority queue and queue.
+ghost use Rattle.std.specs.Prelude.{◌≡◌, ◌<◌, ◌≤◌, ◌^◌, All, IfOk, IfErr, OnOk, OnErr, Some, None, length, slice_index};
+ghost use Rattle.seq_model.specs.Calls.{IsRefusal};
+ghost use Rattle.seq_model.specs.Entries.{inserts};
+ghost use Rattle.replay_log.specs.Base.{editions_of, locations_of, room_of, shown_of, stripes_of};
+ghost use Rattle.atomic_steps.specs.Bases.{IsFolded};
+ghost use Rattle.actor_copies.specs.Copies.{IsAccepted, IsFound, IsKept, IsLearnt, IsReady, answer_of, changes_in, holds_call, locations_in};
+
+use conflict::{Change, Outcome, Table};
+use replay_log::{Base, Log, Touch};
+use seq_model::{Items, Memory, Op, Refusal, Value};
+use shadow::{Memo, Shadow};
+
+/// What a transaction has of one collection, with the changes of its own accepted calls.
+#[derive(Drop)]
+pub enum Copied<V> {
+    /// Of a map or a multiset what was touched, with the edition of each location that it was copied from.
+    Keys(Memo<V>, Table<u64>),
+    /// Of a priority queue or a queue the whole.
+    Whole(Shadow<V>),
+}
+
+/// What a transaction has of this collection.
+#[derive(Drop)]
+pub struct CopyOf<V> {
+    pub collection: u32,
+    pub copied: Copied<V>,
+}
+
+impl<V: Value> Copied<V> {
+    /// Whether it has what the call touches. It takes no memory.
+    pub fn holds(&self, op: &Op<V>) -> bool
+        ensures { result ≡ holds_call self.now op.now }
+    {
+        match self {
+            Copied::Keys(memo, _) => memo.holds(op),
+            Copied::Whole(_) => true,
+        }
+    }
+
+    /// The outcome that the call has after the accepted ones, where it has what the call touches. A call of another kind of collection
+    /// is refused as NoSuch.
+    pub fn outcome(&self, op: &Op<V>) -> Result<Outcome<V>, Refusal>
+        ensures ok { IfOk result (λ outcome. answer_of self.now op.now ≡ Some outcome) }
+        ensures refused { IfErr result (λ refusal. IsRefusal refusal (answer_of self.now op.now ≡ None)) }
+    {
+        match self {
+            Copied::Keys(memo, _) => memo.answer(op),
+            Copied::Whole(shadow) => shadow.answer(op),
+        }
+    }
+
+    /// Has from now on what was touched of its map or multiset as well, with the editions that it was touched with; what it has already
+    /// stays. One that is refused memory has what it had.
+    pub fn learn(&mut self, touch: Touch<V>) -> Result<(), Memory>
+        ensures learnt { OnOk result (IsLearnt touch self.old self.new) }
+        ensures err { OnErr result (IsKept self.old self.new) }
+    {
+        match self {
+            Copied::Keys(memo, editions) => {
+                editions.reserve(touch.editions.len())?;
+                memo.add(touch.held)?;
+                keep_editions(editions, touch.editions);
+            }
+            Copied::Whole(_) => {}
+        }
+        Ok(())
+    }
+
+    /// Makes ready what accepting the outcome will take. Nothing else changes, also where memory is refused.
+    pub fn ready(&mut self, outcome: &Outcome<V>) -> Result<(), Memory>
+        ensures ok { OnOk result (IsReady outcome.now self.new) }
+        ensures kept { IsKept self.old self.new }
+    {
+        match self {
+            Copied::Keys(memo, _) => memo.ready(outcome),
+            Copied::Whole(shadow) => shadow.ready(outcome),
+        }
+    }
+
+    /// Accepts the outcome, which has been made ready. It takes no memory and is never refused.
+    pub fn accept(&mut self, outcome: Outcome<V>)
+        requires ready { IsReady outcome self.old }
+        ensures accepted { IsAccepted outcome self.old self.new }
+    {
+        match self {
+            Copied::Keys(memo, _) => memo.accept(outcome),
+            Copied::Whole(shadow) => shadow.accept(outcome),
+        }
+    }
+
+    /// The changes of the accepted calls, in order.
+    fn changes(&self) -> &[Change<V>]
+        ensures { result.now ≡ changes_in self.now }
+    {
+        match self {
+            Copied::Keys(memo, _) => memo.changes(),
+            Copied::Whole(shadow) => shadow.changes(),
+        }
+    }
+
+    /// The log of the accepted calls.
+    pub fn log(self) -> Log<V>
+        ensures changes { result.changes ≡ changes_in self }
+        ensures locations { result.locations ≡ locations_in self }
+    {
+        match self {
+            Copied::Keys(memo, _) => memo.log(),
+            Copied::Whole(shadow) => shadow.log(),
+        }
+    }
+
+    /// Makes room in the base for the changes of the accepted calls, so that they go home without memory. The base shows what it did,
+    /// also where memory is refused.
+    pub fn prepare(&self, base: &mut Base<V>) -> Result<(), Memory>
+        ensures ok { OnOk result (length (changes_in self.now) ≤ room_of base.new) }
+        ensures shown { shown_of base.new ≡ shown_of base.old }
+        ensures stripes { stripes_of base.new ≡ stripes_of base.old }
+        ensures editions { editions_of base.new ≡ editions_of base.old }
+    {
+        base.prepare(self.changes())
+    }
+
+    /// Makes the changes of the accepted calls on the base, which is prepared for them, and raises the edition of each location that
+    /// they write by one. It takes no memory and is never refused.
+    pub fn goes_home(self, base: &mut Base<V>)
+        requires prepared { length (changes_in self) ≤ room_of base.old }
+        requires within { All (λ location. location < locations_of (stripes_of base.old) (shown_of base.old)) (locations_in self) }
+        requires below { All (λ location. slice_index (editions_of base.old) location < 2 ^ 63) (locations_in self) }
+        ensures { IsFolded (changes_in self) (locations_in self) base.old base.new }
+    {
+        self.log().fold_into(base);
+    }
+}
+
+fn keep_editions(known: &mut Table<u64>, editions: Items<(u32, u64)>)
+    requires { length editions ≤ known.old.room }
+    ensures { known.new.contents ≡ inserts known.old.contents editions }
+{
+    for (location, edition) in editions.into_vec() {
+        known.insert_reserved(location as u64, edition);
+    }
+}
+
+/// What a call touches of a collection, as its base has it.
+#[derive(Drop)]
+pub enum Found<V> {
+    Keys(Touch<V>),
+    Whole(Base<V>),
+}
+
+/// What the call touches of the base: of a map or a multiset its key, or the counts of all, and of the others the whole. A call of
+/// another kind than a map or a multiset is refused there as NoSuch.
+pub fn find<V: Value>(base: &Base<V>, op: &Op<V>) -> Result<Found<V>, Refusal>
+    ensures { IfOk result (λ found. IsFound base.now op.now found) }
+{
+    Ok(match base {
+        Base::Map(_) | Base::Bag(_) => Found::Keys(base.touch(op)?),
+        Base::Pq(_) | Base::Queue(_) => Found::Whole(base.try_copy()?),
+    })
+}

@@ -1,0 +1,63 @@
+//! The first copy of a collection, by what was found of it for a call, and the locations of a call on the base itself.
+ghost use Rattle.std.specs.Prelude.{◌≡◌, IfOk};
+ghost use Rattle.actor_copies.specs.declared.copies.Found.TheVariants as found;
+ghost use Rattle.actor_copies.specs.First.{IsFirst, IsFirstTouch, IsFootprint, memo_kind};
+
+use crate::copies::{Copied, Found};
+use conflict::{LocSet, Table};
+use replay_log::{Base, Touch, Touched};
+use seq_model::{Op, Refusal, Value};
+use shadow::{Memo, MemoKind, Shadow};
+use std::alloc::Global;
+
+/// The locations that a call reads and writes.
+#[derive(Drop)]
+pub struct Footprint {
+    pub reads: LocSet,
+    pub writes: LocSet,
+}
+
+/// The locations of the call on the base as it is. A call of another kind of collection is refused as NoSuch.
+pub fn find_footprint<V: Value>(base: &Base<V>, op: &Op<V>) -> Result<Footprint, Refusal>
+    ensures { IfOk result (λ sets. IsFootprint base.now op.now sets) }
+{
+    let outcome = base.outcome(op)?;
+    let reads = base.reads(&outcome)?;
+    let writes = base.writes(&outcome)?;
+    Ok(Footprint { reads, writes })
+}
+
+/// The kind of the collection that was touched.
+fn memo_kind<V>(held: &Touched<V>) -> MemoKind
+    ensures { result ≡ memo_kind held.now }
+{
+    match held {
+        Touched::Copies(_, _) => MemoKind::Bag,
+        Touched::Entry(_, _) => MemoKind::Map,
+        Touched::Counts(_) => MemoKind::Map,
+    }
+}
+
+fn first_touch<V: Value>(alloc: Global, stripes: u32, touch: Touch<V>) -> Result<Copied<V>, Refusal>
+    ensures { IfOk result (λ copied. IsFirstTouch stripes touch copied) }
+{
+    let memo = Memo::new(alloc, stripes, memo_kind(&touch.held))?;
+    let mut copied = Copied::Keys(memo, Table::new(alloc));
+    copied.learn(touch)?;
+    Ok(copied)
+}
+
+/// What there is of a collection in so many stripes once this was found of it, and no call is accepted yet. A number of stripes outside 1
+/// to `STRIPE_LIMIT` is refused as TooLong.
+pub fn first_copy<V: Value>(
+    alloc: Global,
+    stripes: u32,
+    found: Found<V>,
+) -> Result<Copied<V>, Refusal>
+    ensures { IfOk result (λ copied. IsFirst stripes found copied) }
+{
+    match found {
+        Found::Keys(touch) => first_touch(alloc, stripes, touch),
+        Found::Whole(base) => Ok(Copied::Whole(Shadow::of_copy(alloc, base))),
+    }
+}

@@ -1,0 +1,82 @@
+//! The locations of a call on a collection that is copied, with the editions with which they were copied.
+ghost use Rattle.std.specs.Prelude.{◌≡◌, ◌+◌, ◌<◌, ◌^◌, All, IfOk};
+ghost use Rattle.actor_copies.specs.Footprints.{IsPlaceOf, base_in, known_edition, places_in, reads_in, with_known, writes_in};
+
+use crate::copies::{Copied, CopyOf};
+use conflict::{LocSet, Outcome};
+use replay_log::Base;
+use seq_model::{Memory, Value};
+use std::alloc::Global;
+use std::collections::VecDeque;
+
+/// Where the copy of a collection stands. A transaction touches few collections.
+pub fn place_of<V>(copies: &[CopyOf<V>], collection: u32) -> Option<usize>
+    ensures { IsPlaceOf copies.now collection result }
+{
+    let mut i = 0;
+    while i < copies.len() {
+        if copies[i].collection == collection {
+            return Some(i);
+        }
+        i += 1;
+    }
+    None
+}
+
+impl<V: Value> Copied<V> {
+    /// A collection of its kind and stripes.
+    fn base(&self) -> &Base<V>
+        ensures { result.now ≡ base_in self.now }
+    {
+        match self {
+            Copied::Keys(memo, _) => memo.blank(),
+            Copied::Whole(shadow) => shadow.base(),
+        }
+    }
+
+    /// The locations that an outcome reads.
+    pub fn reads(&self, outcome: &Outcome<V>) -> Result<LocSet, Memory>
+        ensures { IfOk result (λ set. set ≡ reads_in self.now outcome.now) }
+    {
+        self.base().reads(outcome)
+    }
+
+    /// The locations that an outcome writes.
+    pub fn writes(&self, outcome: &Outcome<V>) -> Result<LocSet, Memory>
+        ensures { IfOk result (λ set. set ≡ writes_in self.now outcome.now) }
+    {
+        self.base().writes(outcome)
+    }
+
+    /// The edition with which a location was copied.
+    pub fn edition(&self, location: u32) -> u64
+        requires { location < places_in self.now }
+        ensures { result ≡ known_edition self.now location }
+    {
+        match self {
+            Copied::Keys(_, editions) => match editions.get(location as u64) {
+                Some(edition) => *edition,
+                None => 0,
+            },
+            Copied::Whole(shadow) => shadow.base().edition(location),
+        }
+    }
+}
+
+/// Locations of a collection that begins at location `first`, with the editions with which they were copied.
+pub(crate) fn with_known<V: Value>(
+    alloc: Global,
+    copied: &Copied<V>,
+    first: u32,
+    locations: &LocSet,
+) -> Result<VecDeque<(u32, u64)>, Memory>
+    requires within { All (λ location. location < places_in copied.now) locations.now }
+    requires range { All (λ location. first + location < 2 ^ 32) locations.now }
+    ensures { IfOk result (λ left. left.items ≡ with_known copied.now first locations.now) }
+{
+    let mut left = VecDeque::new(alloc);
+    for location in locations.as_slice() {
+        left.push_back((first + *location, copied.edition(*location)))?;
+    }
+    Ok(left)
+}

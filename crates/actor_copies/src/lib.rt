@@ -1,0 +1,18 @@
+//! What a transaction has of collections: of each that its calls touched a copy, with the changes of its accepted calls.
+//!
+//! A call that a copy holds is weighed before anything is read for it: its outcome, the locations that are to be judged, the writes of its
+//! acceptance. The laws say what the definitions make of copies and of calls on them.
+#![tactic(auto)]
+
+mod copies;
+mod first;
+mod footprints;
+pub mod laws;
+mod weighed;
+mod writes;
+
+pub use copies::{Copied, CopyOf, Found, find};
+pub use first::{Footprint, find_footprint, first_copy};
+pub use footprints::place_of;
+pub use weighed::{Weighed, weigh};
+pub use writes::{reserve_words, write_all};

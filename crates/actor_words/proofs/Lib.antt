@@ -1,0 +1,8 @@
+pub mod JudgedLemmas
+pub mod ShowsLemmas
+pub mod AcceptsLemmas
+pub mod BlocksLemmas
+pub mod HomesLemmas
+mod RequestLemmas
+mod StepLemmas
+mod GuardedLemmas
