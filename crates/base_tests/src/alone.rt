@@ -1,0 +1,220 @@
+//! Rows that open a base of their own.
+ghost use Rattle.std.specs.Prelude.{◌≡◌, ◌<◌, ◌≤◌, ◌^◌, IfOk, IsTrue, slice_index};
+ghost use Rattle.replay_log.specs.Base.{editions_of, locations_of, shown_of, stripes_of};
+
+use crate::bench::{print_base, script_of, stripes_in};
+use base_bag::BagBase;
+use base_map::MapBase;
+use base_pq::PqBase;
+use base_queue::QueueBase;
+use conflict::{Change, Changes, LocSet};
+use replay_log::{Base, Log};
+use seq_model::{Held, Items, Memory, Refusal};
+use std::alloc::Global;
+use std::fmt::Write;
+use step_script::Collection;
+use text_lines::{number, tokens_of};
+
+/// No edition that is raised here is so high.
+const HIGH: u64 = 1 << 62;
+
+/// `KIND COLLECTION`: opens what the header says as a base of this kind.
+pub fn answer_of_kind(text: &mut String, row: &str) -> Result<(), Refusal> {
+    let (kind, opening) = row.split_once(' ').ok_or(Refusal::NoSuch)?;
+    let script = script_of(*text.allocator(), opening)?;
+    match script.collections.as_slice().first() {
+        Some(collection) => answer_as(text, kind, collection),
+        None => Err(Refusal::NoSuch),
+    }
+}
+
+fn answer_as(text: &mut String, kind: &str, collection: &Collection) -> Result<(), Refusal> {
+    let alloc = *text.allocator();
+    let held = collection.held.try_copy(alloc)?;
+    let base = open_as(alloc, kind, collection.stripes, held)?;
+    print_base(text, &base)
+}
+
+fn open_as(alloc: Global, kind: &str, stripes: u32, held: Held<u64>) -> Result<Base<u64>, Refusal> {
+    Ok(match kind {
+        "map" => Base::Map(MapBase::open(alloc, stripes, held)?),
+        "bag" => Base::Bag(BagBase::open(alloc, stripes, held)?),
+        "pq" => Base::Pq(PqBase::open(alloc, stripes, held)?),
+        _ => Base::Queue(QueueBase::open(alloc, stripes, held)?),
+    })
+}
+
+fn new_of(alloc: Global, kind: &str, stripes: u32) -> Result<Base<u64>, Refusal>
+    ensures { IfOk result (λ base. stripes_of base ≡ stripes) }
+{
+    Ok(match kind {
+        "map" => Base::Map(MapBase::new(alloc, stripes)?),
+        "bag" => Base::Bag(BagBase::new(alloc, stripes)?),
+        "pq" => Base::Pq(PqBase::new(alloc, stripes)?),
+        _ => Base::Queue(QueueBase::new(alloc, stripes)?),
+    })
+}
+
+fn locations(base: &Base<u64>, stripes: u32) -> u32
+    requires { stripes_of base.now ≡ stripes }
+    ensures { result ≤ locations_of (stripes_of base.now) (shown_of base.now) }
+{
+    match base {
+        Base::Map(_) | Base::Bag(_) => stripes,
+        Base::Pq(_) => stripes.saturating_add(1),
+        Base::Queue(_) => stripes.saturating_add(2),
+    }
+}
+
+fn print_editions(text: &mut String, base: &Base<u64>, stripes: u32) -> Result<(), Memory>
+    requires { stripes_of base.now ≡ stripes }
+{
+    text.push_str("editions")?;
+    for location in 0..locations(base, stripes) {
+        let edition = base.edition(location);
+        write!(text, " {edition}")?;
+    }
+    Ok(())
+}
+
+/// `KIND STRIPES`: the editions of an empty base.
+pub fn answer_new(text: &mut String, row: &str) -> Result<(), Refusal> {
+    let (kind, stripes) = row.split_once(' ').ok_or(Refusal::NoSuch)?;
+    let stripes = stripes_in(stripes)?;
+    let base = new_of(*text.allocator(), kind, stripes)?;
+    print_editions(text, &base, stripes)?;
+    Ok(())
+}
+
+fn change_of(tokens: &[&str]) -> Option<Change<u64>> {
+    match tokens {
+        ["put", key, value] => Some(Change::Put(number(key)?, number(value)?)),
+        ["remove", key] => Some(Change::Remove(number(key)?)),
+        ["add", element] => Some(Change::Add(number(element)?)),
+        ["take", element] => Some(Change::Take(number(element)?)),
+        ["least", least] => Some(Change::SetLeast(Some(number(least)?))),
+        ["enqueue", index, item] => Some(Change::Enqueue(number(index)?, number(item)?)),
+        ["dequeue", index] => Some(Change::Dequeue(number(index)?)),
+        _ => None,
+    }
+}
+
+/// The changes that the row spells, with `, ` between.
+pub fn changes_of(alloc: Global, row: &str) -> Result<Changes<u64>, Refusal> {
+    let mut changes = Items::new(alloc);
+    for change in row.split(", ") {
+        let tokens = tokens_of(alloc, change)?;
+        changes.push(change_of(tokens.as_slice()).ok_or(Refusal::NoSuch)?)?;
+    }
+    Ok(changes)
+}
+
+fn is_raisable(base: &Base<u64>, stripes: u32, location: u32) -> bool
+    requires { stripes_of base.now ≡ stripes }
+    ensures within { IsTrue result → location < locations_of (stripes_of base.now) (shown_of base.now) }
+    ensures below { IsTrue result → slice_index (editions_of base.now) location < 2 ^ 63 }
+{
+    location < locations(base, stripes) && base.edition(location) < HIGH
+}
+
+// Replays the changes, which write these two locations, or one where they are the same.
+fn raise(
+    alloc: Global,
+    base: &mut Base<u64>,
+    stripes: u32,
+    changes: Changes<u64>,
+    written: (u32, u32),
+) -> Result<(), Refusal>
+    requires { stripes_of base.old ≡ stripes }
+    ensures { stripes_of base.new ≡ stripes }
+{
+    let (lower, higher) = written;
+    base.prepare(changes.as_slice())?;
+    if !is_raisable(base, stripes, lower) || !is_raisable(base, stripes, higher) {
+        return Err(Refusal::NoSuch);
+    }
+    let written = if lower < higher {
+        LocSet::pair(alloc, lower, higher)
+    } else {
+        LocSet::single(alloc, lower)
+    };
+    base.replay(changes, &written);
+    Ok(())
+}
+
+fn locations_in(tokens: &[&str]) -> Result<(u32, u32), Refusal> {
+    match tokens {
+        [one] => {
+            let location = stripes_in(one)?;
+            Ok((location, location))
+        }
+        [lower, higher] => Ok((stripes_in(lower)?, stripes_in(higher)?)),
+        _ => Err(Refusal::NoSuch),
+    }
+}
+
+/// `KIND STRIPES at LOCATIONS: CHANGES`: the editions of an empty base after the changes, which write these one or two locations;
+/// those of its copy, and what the copy holds.
+pub fn answer_raised(text: &mut String, row: &str) -> Result<(), Refusal> {
+    let (place, changes) = row.split_once(": ").ok_or(Refusal::NoSuch)?;
+    let tokens = tokens_of(*text.allocator(), place)?;
+    match tokens.as_slice() {
+        [kind, stripes, "at", locations @ ..] => {
+            let written = locations_in(locations)?;
+            raise_new(text, kind, stripes_in(stripes)?, changes, written)
+        }
+        _ => Err(Refusal::NoSuch),
+    }
+}
+
+fn raise_new(
+    text: &mut String,
+    kind: &str,
+    stripes: u32,
+    changes: &str,
+    written: (u32, u32),
+) -> Result<(), Refusal> {
+    let alloc = *text.allocator();
+    let changes = changes_of(alloc, changes)?;
+    let mut base = new_of(alloc, kind, stripes)?;
+    raise(alloc, &mut base, stripes, changes, written)?;
+    print_raised(text, &base, stripes)
+}
+
+fn print_raised(text: &mut String, base: &Base<u64>, stripes: u32) -> Result<(), Refusal>
+    requires { stripes_of base.now ≡ stripes }
+{
+    print_editions(text, base, stripes)?;
+    text.push_str(", copied ")?;
+    let copy = base.try_copy()?;
+    print_copy(text, &copy, stripes)
+}
+
+fn print_copy(text: &mut String, copy: &Base<u64>, stripes: u32) -> Result<(), Refusal>
+    requires { stripes_of copy.now ≡ stripes }
+{
+    print_editions(text, copy, stripes)?;
+    text.push_str(", ")?;
+    print_base(text, copy)
+}
+
+// Two puts on one stripe, each pushed with it.
+fn two_puts(alloc: Global) -> Result<Base<u64>, Refusal>
+    ensures { IfOk result (λ base. stripes_of base ≡ 2) }
+{
+    let mut base = Base::Map(MapBase::new(alloc, 2)?);
+    let stripe = LocSet::single(alloc, 1);
+    let mut log = Log::new(alloc);
+    log.push(Change::Put(1, 10), &stripe)?;
+    log.push(Change::Put(3, 30), &stripe)?;
+    base.prepare(log.changes())?;
+    log.fold_into(&mut base);
+    Ok(base)
+}
+
+/// The editions of a map in two stripes after two puts on one of them, each logged with it.
+pub fn answer_log(text: &mut String) -> Result<(), Refusal> {
+    let base = two_puts(*text.allocator())?;
+    print_editions(text, &base, 2)?;
+    Ok(())
+}
