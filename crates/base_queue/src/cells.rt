@@ -1,8 +1,8 @@
 //! The items of a queue by their indexes. An item keeps its index for as long as it stands in the queue, and no index returns.
 ghost use Rattle.std.specs.Prelude.{◌≡◌, ◌+◌, ◌<◌, ◌≤◌, [], Some, IsOk, IfOk, OnOk, length};
-ghost use Rattle.std.specs.FinMap.{get, empty, values};
+ghost use Rattle.std.specs.FinMap.{get, values};
 ghost use Rattle.seq_model.specs.Calls.{found_reply};
-ghost use Rattle.base_queue.specs.Conflicts.{change_shown, cells_from, queue_view};
+ghost use Rattle.base_queue.specs.Conflicts.{change_shown, queue_view};
 
 use conflict::{Change, Table};
 use seq_model::{INDEX_LIMIT, Memory, QueueItems, Reply};

@@ -3,7 +3,7 @@ ghost use Rattle.std.specs.Prelude.{◌≡◌, ◌≤◌, ◌<◌, ◌⊎◌, �
 ghost use Rattle.std.specs.String.{string_bytes};
 ghost use Rattle.std.specs.Vec.{vec_len};
 ghost use Rattle.std.specs.Io.KnownBytes.{Appends};
-ghost use Rattle.clap.specs.Words.{FailsBy, app_of, found_of, kind_of, subcommand_of, subcommand_rows_of};
+ghost use Rattle.clap.specs.Words.{FailsBy, app_of, kind_of, subcommand_of, subcommand_rows_of};
 ghost use Rattle.command_line.specs.Words.{AreTaken, AskForInformation, IsInformation, faults, file_word, named_file, not_dash, tool_app};
 ghost use Rattle.command_line.specs.declared.tool.ReadFault.TheVariants.{OutOfMemory};
 ghost use Rattle.command_line.specs.Ends.{HasBegun, HasOutput, HasToldFault, HasToldRefusal, HasWorked, IsFault, IsKnownOutput, IsOutput, IsRead, file_fault_text, line_of, unreadable_text};

@@ -1,5 +1,5 @@
 //! The conflict abstraction: what a collection answers, reads, writes and changes, and the laws of these.
-ghost use Rattle.std.specs.Prelude.{◌≡◌, ◌<◌, ◌≤◌, ℕ, [], List, Option, Some, None, Contains, IsOk, IfOk, IfErr, length};
+ghost use Rattle.std.specs.Prelude.{◌≡◌, ◌<◌, ◌≤◌, ℕ, [], Some, None, IsOk, IfOk, IfErr, length};
 ghost use Rattle.seq_model.specs.Calls.{IsRefusal};
 ghost use Rattle.conflict.specs.Rules.{Rules, FrameLaws};
 

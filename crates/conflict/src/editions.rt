@@ -1,6 +1,6 @@
 //! The editions of a collection's locations: for each the number of commits that changed it. A reader compares the edition of
 //! a copy with that of the location to see that the copy is not stale.
-ghost use Rattle.std.specs.Prelude.{◌≡◌, ◌^◌, ◌<◌, ◌≤◌, All, replicate, IfOk, length, slice_index};
+ghost use Rattle.std.specs.Prelude.{◌≡◌, ◌^◌, ◌<◌, All, replicate, IfOk, length, slice_index};
 ghost use Rattle.conflict.specs.Editions.{raised};
 
 use crate::loc_set::LocSet;

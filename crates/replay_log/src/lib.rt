@@ -8,6 +8,10 @@
 //! what its calls answer, read, write and change. A [`Log`] is folded into a base without memory, once the base is prepared for
 //! its changes. [`laws`] has what follows: outcomes that do not conflict commute, and a log folded is its changes one after
 //! another.
+//!
+//! Beside them `specs/` defines a whole *world* of words and collections, one atomic step at a time (`specs/Worlds.antt`), over
+//! the machine of `collection_machine`. No code here runs one; [`laws`] says of every list of its events that its records are in
+//! serial order, what it shows, what it refuses and what a refusal leaves, and that each request is answered.
 #![tactic(auto)]
 
 mod base;

@@ -1,7 +1,7 @@
 //! Whether records are a run from one state to another.
 ghost use Rattle.std.specs.Prelude.{◌≡◌, ◌↔◌, ◌<◌, IsTrue, IfOk, IfErr, OnOk, Some, MatchOption, map, count_by};
 ghost use Rattle.seq_model.specs.Runs.{reply_of, after_call, IsLegal, after_calls, IsRun, after_run};
-ghost use Rattle.seq_model.specs.Turns.{Turn, turn_of, AreInTurn, writes_at};
+ghost use Rattle.seq_model.specs.Turns.{turn_of, AreInTurn, writes_at};
 ghost use Rattle.seq_model.specs.Texts.{audit_fault_text};
 ghost use Rattle.seq_model.specs.Audit.{run_order, IsLeastDouble, IsFirstWrong, IsReplayFault, IsRunBetween, IsAuditFault};
 

@@ -1,6 +1,5 @@
 //! The lines of a session file.
-ghost use Rattle.std.specs.Prelude.{◌≡◌, ◌<◌, ◌^◌, ◌∷◌, ◌++◌, [], ℕ, List, IfOk, IfSome, Some, MatchOption, codes, length};
-ghost use Rattle.std.specs.Fmt.{decimal};
+ghost use Rattle.std.specs.Prelude.{◌≡◌, ◌<◌, ◌∷◌, [], ℕ, List, IfOk, IfSome, Some, MatchOption, codes};
 ghost use Rattle.vac_model.specs.declared.action.Action.{Action};
 ghost use Rattle.vac_model.specs.declared.action.Action.TheVariants.{Reserve};
 ghost use Rattle.vac_model.specs.declared.action.Ask.{Ask};

@@ -1,15 +1,14 @@
 //! Prints what came of sessions.
-ghost use Rattle.std.specs.Prelude.{◌≡◌, ◌+◌, ◌++◌, ◌∷◌, [], IfOk, OnOk, flat_map, codes};
+ghost use Rattle.std.specs.Prelude.{◌≡◌, ◌+◌, ◌++◌, IfOk, OnOk, flat_map, codes};
 ghost use Rattle.std.specs.FinMap as map;
 ghost use Rattle.std.specs.String.{string_bytes};
-ghost use Rattle.vac_model.specs.Holdings.{of_kind};
 ghost use Rattle.session_script.specs.Lines.{kind_token};
 ghost use Rattle.session_script.specs.Prints.{line_text, lines_text, printed, booking_text, changed_text, changes_text, customer_line, item_text, items_text, number_text, part_text, parts_text, queue_text, reply_text, tables_text, wait_text};
 
 use seq_model::Memory;
 use std::alloc::Global;
 use std::fmt::Write;
-use vac_model::{ActionReply, Booking, Changed, Customer, Each, Item, Kind, Part, Tables, Wait};
+use vac_model::{ActionReply, Booking, Changed, Each, Item, Kind, Part, Tables, Wait};
 
 /// What became of a session.
 #[derive(Drop)]

@@ -1,7 +1,7 @@
-//! Readers and printers of the program's texts.
+//! Runs of step scripts, and what is printed of them.
 //!
 //! A step script lays out a world and says, event by event, what happens in it. `step_script` reads one, `run_script`
-//! feeds it to a world, and `print_trace` prints what came of it. The texts' grammar stands in docs/formats.md.
+//! feeds it to a world, and `print_trace` prints what came of it. What it prints stands in docs/formats.md.
 #![tactic(auto)]
 
 mod print;

@@ -5,12 +5,12 @@ ghost use Rattle.seq_model.specs.Calls.{IsWithinLimits};
 ghost use Rattle.session_text.specs.Scripts as opens;
 ghost use Rattle.session_text.specs.Scripts.{HasRefusedCollections, IsOpeningOf, IsRefusedScript};
 ghost use Rattle.session_text.specs.Worlds.{opening_in};
-ghost use Rattle.session_text.specs.Plays.{AreSteps, AreTurns, HasPlayed, IsOne, IsPlay, IsRunOf, Keeps, whose, is_request, noted, nobody, waits};
+ghost use Rattle.session_text.specs.Plays.{AreSteps, AreTurns, HasPlayed, IsOne, IsPlay, IsRunOf, Keeps, whose, is_request, noted, waits};
 ghost use Rattle.step_script.specs.declared.script.TheConstants.{STEP_LIMIT};
 
 use seq_model::{Event, Items, Memory, Notice, Refusal, Request, SEATS, Shape, State};
 use std::alloc::Global;
-use step_script::{Collection, Line, STEP_LIMIT, Script};
+use step_script::{Line, STEP_LIMIT, Script};
 use step_world::{Trace, World};
 
 /// What came of a script.

@@ -1,5 +1,5 @@
 //! Requests of a script's events.
-ghost use Rattle.std.specs.Prelude.{◌≡◌, ◌<◌, ◌^◌, ℕ, IfSome, Some, map, codes, ◌∷◌};
+ghost use Rattle.std.specs.Prelude.{◌≡◌, ◌<◌, ℕ, IfSome, Some, map, codes, ◌∷◌};
 ghost use Rattle.std.specs.Fmt.{decimal};
 ghost use Rattle.seq_model.specs.declared.call.Op.{Op};
 ghost use Rattle.seq_model.specs.declared.event.Request.{Request};

@@ -18,7 +18,7 @@ use Rattle.replay_log.specs.Collections.{Suit, shown_at}
 use Rattle.seq_model.specs.Runs.{after_run}
 use Rattle.replay_log.proofs.SerialLemmas.{numbers_past, serial_world}
 use Rattle.replay_log.specs.Contents as contents
-use Rattle.replay_log.specs.Contents.{Block, HaveStripes, end_of, first_of, home_of, is_plain}
+use Rattle.replay_log.specs.Contents.{Block, HaveStripes, end_of, is_plain}
 use Rattle.replay_log.specs.Seats.{World, Seat, actor_of}
 use Rattle.replay_log.specs.Worlds.{run, opened}
 use Rattle.replay_log.specs.WorldSerial.{AreUpTo, IsSerial}

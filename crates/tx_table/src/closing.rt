@@ -1,9 +1,7 @@
 //! A table that no thread shares any more.
-ghost use Rattle.std.specs.Prelude.{◌≡◌, ◌+◌, ◌<◌, ◌≤◌, Some, get_or, length, map};
-ghost use Rattle.std.specs.Slots.{IsFull, slots_items, slots_len};
+ghost use Rattle.std.specs.Prelude.{◌≡◌, ◌+◌, ◌<◌, Some, get_or, length, map};
 ghost use mathlib.Core.Option.{some};
 ghost use lib.ListN.{get_elem?};
-ghost use Rattle.tx_table.specs.Layout.{width};
 ghost use Rattle.tx_table.specs.Shown.{Closes};
 ghost use Rattle.tx_table.specs.Ends.{homes_of, row_of};
 ghost use Rattle.tx_table.specs.Seated.{Owns, Rests, actor, blocks_in, contents_in, kept, locations_in, opening_of, view, words_in};

@@ -1,6 +1,6 @@
 //! The laws of the table's rule, in the form in which `atomic_table` asks for them: what a step, a split or a join makes of a table that
 //! meets the rule meets it again.
-ghost use Rattle.std.specs.Prelude.{◌≡◌, ◌+◌, ◌<◌, ◌≤◌, ◌==◌, ◌⊎◌, ◌∷◌, ℕ, List, Option, [], Some, None, true, false, length};
+ghost use Rattle.std.specs.Prelude.{◌≡◌, ◌+◌, ◌<◌, ◌≤◌, ◌==◌, ◌∷◌, ℕ, List, Option, [], Some, None, false, length};
 ghost use mathlib.Core.Option.{some, Option as Home};
 ghost use lib.ListN.{get_elem?};
 ghost use prog.Atomic.{either};

@@ -1,5 +1,5 @@
 //! The making of changes: first what can be refused memory, and then the rest.
-ghost use Rattle.std.specs.Prelude.{◌≡◌, ◌<◌, ◌+◌, OnOk, OnErr};
+ghost use Rattle.std.specs.Prelude.{◌≡◌, ◌<◌, OnOk, OnErr};
 ghost use Rattle.vac_model.specs.Balanced.{IsBalanced};
 ghost use Rattle.vac_model.specs.Makings as makings;
 ghost use Rattle.vac_model.specs.Overlays.{laid_each, with_changes};

@@ -1,12 +1,12 @@
 //! The plan of a reservation, walked.
-ghost use Rattle.std.specs.Prelude.{◌≡◌, ◌≤◌, ℕ, Option, Some, None, IfOk, OnOk, ◌||◌, unwrap_or, is_none, ◌&&◌};
+ghost use Rattle.std.specs.Prelude.{◌≡◌, ℕ, Option, Some, None, IfOk, OnOk, ◌||◌, unwrap_or, is_none, ◌&&◌};
 ghost use Rattle.std.specs.Option.{option_copied};
 ghost use Rattle.tx_engine.specs.Programs.{after, Answers};
 ghost use Rattle.vac_model.specs.Actions as actions;
 ghost use Rattle.vac_model.specs.declared.item.Item.{Item as AnItem};
 ghost use Rattle.vac_model.specs.declared.item.Customer.{Customer as ACustomer};
 ghost use Rattle.vac_model.specs.declared.action.Part.{Part as APart};
-ghost use Rattle.vac_model.specs.Holdings.{customer_or_new, newcomer};
+ghost use Rattle.vac_model.specs.Holdings.{newcomer};
 ghost use Rattle.vacation_core.specs.Sessions as plans;
 ghost use Rattle.vacation_core.specs.Sessions.{Plan};
 ghost use Rattle.vacation_core.specs.Walks.{Comes, with_part};

@@ -1,7 +1,6 @@
 //! The session of one action.
 ghost use Rattle.std.specs.Prelude.{◌≡◌, IfOk, IfErr};
 ghost use Rattle.tx_engine.specs.Programs.{after, asked, replies_of, Answers};
-ghost use Rattle.vac_model.specs.Actions as actions;
 ghost use Rattle.vac_model.specs.Actions.{IsAllowed};
 ghost use Rattle.vacation_core.specs.Sessions as plans;
 ghost use Rattle.vacation_core.specs.Walks.{Comes};

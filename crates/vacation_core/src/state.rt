@@ -1,5 +1,5 @@
 //! The tables as the state of a world, and back.
-ghost use Rattle.std.specs.Prelude.{◌≡◌, ◌≢◌, ℕ, Err, Some, None, IfOk, IfErr, map};
+ghost use Rattle.std.specs.Prelude.{◌≡◌, Err, Some, None, IfOk, IfErr, map};
 ghost use Rattle.seq_model.specs.Calls.{IsRefusal};
 ghost use Rattle.seq_model.specs.declared.refusal.Refusal.TheVariants as refusal;
 ghost use Rattle.seq_model.specs.declared.held.Held.TheVariants as held;
@@ -12,7 +12,7 @@ ghost use Rattle.vacation_core.specs.Refusals.{IsNoneSuch};
 ghost use Rattle.vacation_core.specs.Holding as holding;
 
 use crate::entry::Entry;
-use seq_model::{Entries, Held, Memory, QueueItems, Refusal, State, Value};
+use seq_model::{Entries, Held, Memory, Refusal, State, Value};
 use std::alloc::Global;
 use vac_model::{Customer, Each, Item, Kind, Queue, Tables, Ticket};
 

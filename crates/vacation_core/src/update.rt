@@ -1,6 +1,6 @@
 //! The plan of an update, walked.
 ghost use Rattle.std.specs.Prelude.{◌≡◌, List, All};
-ghost use Rattle.tx_engine.specs.Programs.{after, Answers};
+ghost use Rattle.tx_engine.specs.Programs.{after};
 ghost use Rattle.vac_model.specs.Actions as actions;
 ghost use Rattle.vac_model.specs.declared.action.Changed.{Changed as AChanged};
 ghost use Rattle.vacation_core.specs.Sessions as plans;

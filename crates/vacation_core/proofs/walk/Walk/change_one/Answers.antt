@@ -4,7 +4,6 @@ use Rattle.tx_engine.specs.Programs.{after}
 use Rattle.vac_model.specs.declared.item.Kind.{Kind}
 use Rattle.vac_model.specs.Actions as actions
 use Rattle.vacation_core.specs.Sessions as plans
-use Rattle.vacation_core.specs.Sessions.{Plan}
 use Rattle.vacation_core.proofs.WalkLemmas.{stops_along}
 use Rattle.vacation_core.proofs.walk.Walk.change_one.Goals as goal
 

@@ -5,7 +5,6 @@ use Rattle.seq_model.specs.declared.call.Reply.{Reply}
 use Rattle.tx_engine.specs.Programs.{after}
 use Rattle.vacation_core.specs.declared.entry.Entry.{Entry}
 use Rattle.vacation_core.specs.Sessions as plans
-use Rattle.vacation_core.specs.Sessions.{Plan}
 use Rattle.vacation_core.specs.Serving.{waiter}
 use Rattle.vacation_core.proofs.WalkLemmas.{stops_along, replied}
 use Rattle.vacation_core.proofs.walk.Walk.change_waiter.Goals as goal

@@ -3,7 +3,6 @@ use Rattle.std.proofs.lemmas.Result.{err_from_is_err_and}
 use Rattle.tx_engine.specs.Programs.{after}
 use Rattle.vac_model.specs.declared.action.Part.TheVariants as part
 use Rattle.vacation_core.specs.Sessions as plans
-use Rattle.vacation_core.specs.Sessions.{Plan}
 use Rattle.vacation_core.specs.Drafts.{drafted}
 use Rattle.vacation_core.proofs.WalkLemmas.{lines_up, books, along, stops_along}
 use Rattle.vacation_core.proofs.walk.Walk.decide.Goals as goal

@@ -3,7 +3,6 @@ use Rattle.std.specs.Option.{option_copied}
 use Rattle.std.proofs.lemmas.Result.{err_from_is_err_and}
 use Rattle.tx_engine.specs.Programs.{after}
 use Rattle.vacation_core.specs.Sessions as plans
-use Rattle.vacation_core.specs.Sessions.{Plan}
 use Rattle.vacation_core.specs.Serving.{deletes}
 use Rattle.vacation_core.proofs.WalkLemmas.{along}
 use Rattle.vacation_core.proofs.walk.Walk.delete.Goals as goal

@@ -4,7 +4,6 @@ use Rattle.tx_engine.specs.Programs.{Answers}
 use Rattle.vac_model.specs.declared.action.ActionReply.TheVariants as reply
 use Rattle.vac_model.specs.Actions as actions
 use Rattle.vacation_core.specs.Sessions as plans
-use Rattle.vacation_core.specs.Sessions.{Plan}
 use Rattle.vacation_core.proofs.WalkLemmas.{stops_along}
 use Rattle.vacation_core.proofs.walk.Walk.delete_found.Goals as goal
 

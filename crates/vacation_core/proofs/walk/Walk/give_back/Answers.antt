@@ -2,7 +2,6 @@ use Rattle.std.proofs.Common.{◌∙◌, ap}
 use Rattle.std.proofs.lemmas.Result.{err_from_is_err_and}
 use Rattle.tx_engine.specs.Programs.{after, asked}
 use Rattle.vacation_core.specs.Sessions as plans
-use Rattle.vacation_core.specs.Sessions.{Plan}
 use Rattle.vacation_core.proofs.WalkLemmas.{along, back_refused, back_given}
 use Rattle.vacation_core.proofs.walk.Walk.give_back.Goals as goal
 

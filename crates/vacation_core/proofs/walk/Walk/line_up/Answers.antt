@@ -2,7 +2,6 @@ use Rattle.std.proofs.Common.{◌∙◌, ap}
 use Rattle.std.proofs.lemmas.Result.{err_from_is_err_and}
 use Rattle.tx_engine.specs.Programs.{after}
 use Rattle.vacation_core.specs.Sessions as plans
-use Rattle.vacation_core.specs.Sessions.{Plan}
 use Rattle.vacation_core.specs.Drafts.{drafted}
 use Rattle.vacation_core.proofs.WalkLemmas.{stops_along, no_ticket, a_ticket, puts, enqueues, waits_on}
 use Rattle.vacation_core.proofs.walk.Walk.line_up.Goals as goal

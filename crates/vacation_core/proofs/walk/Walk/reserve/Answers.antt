@@ -2,7 +2,6 @@ use Rattle.std.proofs.Common.{◌∙◌, ap, sym}
 use Rattle.std.proofs.lemmas.Result.{err_from_is_err_and}
 use Rattle.tx_engine.specs.Programs.{after}
 use Rattle.vacation_core.specs.Sessions as plans
-use Rattle.vacation_core.specs.Sessions.{Plan}
 use Rattle.vacation_core.proofs.WalkLemmas.{someone, along, stops_along}
 use Rattle.vacation_core.proofs.walk.Walk.reserve.Goals as goal
 

@@ -1,7 +1,6 @@
 use Rattle.std.proofs.Common.{◌∙◌, ◌+◌}
 use Rattle.std.proofs.lemmas.Result.{err_from_is_err_and}
 use Rattle.vacation_core.specs.Sessions as plans
-use Rattle.vacation_core.specs.Sessions.{Plan}
 use Rattle.vacation_core.proofs.WalkLemmas.{stops_along}
 use Rattle.vac_model.specs.declared.item.Kind.TheVariants.{Flight, Room}
 use Rattle.vacation_core.proofs.walk.Walk.serve_all.Goals as goal

@@ -2,7 +2,6 @@ use Rattle.std.proofs.Common.{◌∙◌, ap}
 use Rattle.std.proofs.lemmas.Result.{err_from_is_err_and}
 use Rattle.tx_engine.specs.Programs.{after}
 use Rattle.vacation_core.specs.Sessions as plans
-use Rattle.vacation_core.specs.Sessions.{Plan}
 use Rattle.vacation_core.proofs.WalkLemmas.{along, stops_along}
 use Rattle.vacation_core.proofs.walk.Walk.serve_ticket.Goals as goal
 
