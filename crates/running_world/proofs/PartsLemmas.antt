@@ -3,27 +3,31 @@
 use Rattle.std.proofs.Common.{◌≡◌, ℕ, ◌+◌, ◌≤◌, Bool, true, false, true≢false, List, [], ◌∷◌, ◌++◌, map, Option, Some, None, refl, sym, ap, ◌∙◌}
 use Rattle.std.proofs.Common.{subst, inl, inr, arith}
 use Rattle.std.specs.Prelude.{slice_get, slice_set}
+use Rattle.std.specs.declared.alloc.Global.{Global}
+use Rattle.std.specs.declared.vec.Vec.{Vec}
 use Rattle.std.specs.Vec.{with_item}
 use Rattle.std.proofs.lemmas.List.{append-nil, map-append}
 use Rattle.seq_model.specs.declared.call.Call.{Call}
 use Rattle.seq_model.specs.declared.call.Reply.{Reply}
 use Rattle.seq_model.specs.declared.refusal.Refusal.{Refusal}
 use Rattle.seq_model.specs.Runs.{insert_record}
-use Rattle.seq_model.specs.declared.event.Event.TheVariants.{Step, Starve}
+use Rattle.seq_model.specs.declared.event.Event.TheVariants.{Ask, Step, Starve}
+use Rattle.seq_model.specs.declared.event.Request.{Request}
 use Rattle.seq_model.specs.declared.record.Record.{Record}
 use Rattle.seq_model.specs.declared.refusal.Refusal.TheVariants.{NoTransaction}
 use Rattle.seq_model.specs.Contents.{Contents}
 use Rattle.replay_log.specs.Contents.{Block}
 use Rattle.replay_log.specs.Seats as seats
-use Rattle.replay_log.specs.Worlds.{World, Seat, Stage, Closing, Leaving, Ready, happens}
+use Rattle.replay_log.specs.Worlds.{World, Seat, Stage, Closing, Leaving, Ready, ask_at, happens}
 use Rattle.replay_log.specs.WorldTraces.{committed_by, ended_by, with_record}
-use Rattle.replay_log.proofs.TraceLemmas.{starved_adds, steps_end}
+use Rattle.replay_log.proofs.TraceLemmas.{asked_adds, starved_adds, steps_end}
 use Rattle.step_core.specs.CellSteps.{Grows}
 use Rattle.step_core.specs.Sound.{owed}
 use Rattle.step_core.specs.declared.cells.Cells.{Cells}
 use Rattle.actor_words.specs.Blocks.{BlocksView}
+use Rattle.actor_words.specs.Dispatch.{first, is_loading, next_home, next_of}
+use Rattle.tx_actor.specs.Asks.{Asks, Stands}
 use Rattle.tx_actor.specs.Dispatch.{Starves}
-use Rattle.actor_words.specs.Dispatch.{is_loading, next_of}
 use Rattle.tx_actor.specs.Keeping.{IsRunning, KeepsIn}
 use Rattle.tx_actor.specs.Running.{is_recorded, seat_at, seat_of, stage_of}
 use Rattle.tx_actor.specs.declared.actor.Stage as own
@@ -36,17 +40,20 @@ use Rattle.world_table.specs.Openings.{HasShape}
 use Rattle.world_table.specs.declared.table.Table.{Table}
 use Rattle.running_world.specs.declared.parts.Parts.{Parts}
 use Rattle.running_world.specs.declared.trace.Ended.{Ended}
-use Rattle.running_world.specs.Parts.{Happens, IsWorld, ended_of}
+use Rattle.running_world.specs.Parts.{Happens, IsStarved, IsWorld, Stays, ended_of}
 use Rattle.running_world.specs.Reached.{IsReached}
 use Rattle.running_world.specs.Turns.{IsTurn}
 use Rattle.running_world.proofs.SeatLemmas.{seated_by, stage_by}
-use Rattle.running_world.proofs.TurnLemmas.{starve_turns}
-use Rattle.running_world.proofs.WorldLemmas.{turned}
+use Rattle.running_world.proofs.TurnLemmas.{ask_turns, first_is, starve_turns}
+use Rattle.running_world.proofs.WorldLemmas.{stood, turned}
 
 module _ {V : Type 0} where
   -- with this table, and this actor at this place
   abbrev pub with_turn : Parts V → Table V → ℕ → TxActor V → Parts V
   with_turn c u i s = record c { table = u; actors = with_item c.actors i s }
+
+  pub keeps_same : (v : BlocksView) (r : TxActor V) → KeepsIn v r r
+  keeps_same v r = record { running = λ h. h; owed = omega arith }
 
   -- nothing is recorded, and nothing has ended
   pub record EndsNone (s : Stage V) : Type 0 where
@@ -131,6 +138,21 @@ module _ {V : Type 0} where
       ended stage.Leaving l a x = absurd (l refl)
       ended t l a x = refl
 
+  -- ---- a request
+  pub ask_happens : (c : Parts V) (i : ℕ) (q : Request V) (r s : TxActor V) (n : Told V) → slice_get c.actors.items i ≡ Some r
+      → Asks c.blocks r s n (λ a w. ask_at w a (seat_of r) (stage_of r.stage) q) → KeepsIn c.blocks r s
+      → Happens c (Ask (i + 1) q) (with_turn c c.table i s) n
+  ask_happens c i q r s n got asks kept =
+      let turn = ask_turns c.blocks (i + 1) q c.table r s n asks in
+      let less = kept.owed in
+      record {
+        parts = λ o w reached h. (
+            let adds = asked_adds w (i + 1) q in
+            turned o c (with_turn c c.table i s) w (Ask (i + 1) q) i r s n reached h refl got refl refl turn (λ m bs x. x)
+            kept.running (inl (omega (arith, less))) (h.records ∙ sym adds.0) (h.aborted ∙ sym adds.1));
+        told = λ o w reached h. (turn.turns o w reached h.laid h.table (h.seats i r got).runs).2;
+      }
+
   -- ---- a want of memory
   pub starve_happens : (c : Parts V) (i : ℕ) (r s : TxActor V) (n : Told V) → slice_get c.actors.items i ≡ Some r → Starves r s n
       → ((v : BlocksView) → KeepsIn v r s) → Happens c (Starve (i + 1)) (with_turn c c.table i s) n
@@ -145,6 +167,49 @@ module _ {V : Type 0} where
             kept.running (inl (omega (arith, less))) (h.records ∙ sym adds.0) (h.aborted ∙ sym adds.1));
         told = λ o w reached h. (turn.turns o w reached h.laid h.table (h.seats i r got).runs).2;
       }
+
+  -- ---- parts of the same worlds: what memory is asked for before a step
+  pub more_records : (c : Parts V) (rs : Vec (ℕ × Record V) Global) → rs.items ≡ c.records.items
+      → Stays c (record c { records = rs })
+  more_records c rs same = λ o w reached h. record {
+    laid = h.laid;
+    table = h.table;
+    shape = h.shape;
+    count = h.count;
+    seats = h.seats;
+    others = h.others;
+    records = same ∙ h.records;
+    aborted = h.aborted;
+    clock = h.clock;
+  }
+
+  pub more_aborted : (c : Parts V) (es : Vec (Ended V) Global) → es.items ≡ c.aborted.items → Stays c (record c { aborted = es })
+  more_aborted c es same = λ o w reached h. record {
+    laid = h.laid;
+    table = h.table;
+    shape = h.shape;
+    count = h.count;
+    seats = h.seats;
+    others = h.others;
+    records = h.records;
+    aborted = ap (λ (xs : List (Ended V)). map ended_of xs) same ∙ h.aborted;
+    clock = h.clock;
+  }
+
+  -- an actor that shows what the one at its place does
+  pub stays_by : (c : Parts V) (u : Table V) (i : ℕ) (r s : TxActor V) → slice_get c.actors.items i ≡ Some r → u ≡ c.table → Stands r s
+      → (IsRunning c.blocks r → IsRunning c.blocks s) → Grows c.table.cells r.words u.cells s.words → Stays c (with_turn c u i s)
+  stays_by c u i r s got same stands keeps grows = λ o w reached h.
+      stood c (with_turn c u i s) w i r s h got refl same refl refl refl stands (keeps (h.seats i r got).running) grows
+
+  pub starved_then : (b c d : Parts V) (i : ℕ) → Stays b c → IsStarved c i d → IsStarved b i d
+  starved_then b c d i same h = record {
+    told = h.told;
+    happens = record {
+      parts = λ o w reached k. h.happens.parts o w reached (same o w reached k);
+      told = λ o w reached k. h.happens.told o w reached (same o w reached k);
+    };
+  }
 
   -- ---- the steps that end a transaction
   record_is : (m : Record V) (n : ℕ) (b : Bool) (cs : List (Call V × Reply V)) → m.number ≡ n → m.writes ≡ b → m.calls ≡ cs
@@ -167,6 +232,35 @@ module _ {V : Type 0} where
       ∙ ap (λ (k : Stage V). es ++ ended_by a x k)
       (sym (stage_by x r (ap (λ (t : own.Stage V). is_loading (stage_of t)) at) is
       ∙ ap (λ (t : own.Stage V). stage_of t) at))
+
+  plain_first : (t : own.Stage V) → next_of (stage_of t) ≡ next.FirstStore → is_recorded t ≡ false
+  plain_first (stage.Storing homes) e = let z : ⊥ = cc in absurd z
+  plain_first (stage.Homing homes) e = absurd (no_home (first homes.items) e)
+    where
+      no_home : (o : Option ℕ) → next_home o ≡ next.FirstStore → ⊥
+      no_home None e = cc
+      no_home (Some k) e = cc
+  plain_first stage.Releasing e = let z : ⊥ = cc in absurd z
+  plain_first t e = refl
+
+  first_seat : (r : TxActor V) → next_of (stage_of r.stage) ≡ next.FirstStore → (x : Seat V) → x ≡ seat_at x r → x ≡ seat_of r
+  first_seat r due x is =
+      seated_by x r (ap is_loading (first_is (stage_of r.stage) due).1) (plain_first r.stage due) is
+
+  pub committing_record : (a : ℕ) (r : TxActor V) (m : Record V) (rs : List (ℕ × Record V)) → next_of (stage_of r.stage) ≡ next.FirstStore
+      → m.number ≡ r.wv → m.writes ≡ true → m.calls ≡ r.calls.items → (x : Seat V) → x ≡ seat_at x r
+      → insert_record (a, m) rs ≡ with_record a (committed_by x x.stage) rs
+  committing_record a r m rs due p q s x is =
+      ap (λ (z : Record V). insert_record (a, z) rs) (record_is m r.wv true r.calls.items p q s)
+      ∙ sym (ap (λ (y : Seat V). with_record a (committed_by y y.stage) rs) (first_seat r due x is)
+      ∙ ap (λ (k : Stage V). with_record a (committed_by (seat_of r) k) rs) (first_is (stage_of r.stage) due).1)
+
+  pub committing_ends : (a : ℕ) (r : TxActor V) (es : List (seats.Ended V)) → next_of (stage_of r.stage) ≡ next.FirstStore → (x : Seat V)
+      → x ≡ seat_at x r → es ≡ es ++ ended_by a x x.stage
+  committing_ends a r es due x is =
+      sym (append-nil es)
+      ∙ ap (λ (k : Stage V). es ++ ended_by a x k)
+      (sym (ap (λ (y : Seat V). y.stage) (first_seat r due x is) ∙ (first_is (stage_of r.stage) due).1))
 
   pub leaving_record : (a : ℕ) (r : TxActor V) (rs : List (ℕ × Record V)) → r.stage ≡ stage.Leaving → (x : Seat V) → x ≡ seat_at x r
       → rs ≡ with_record a (committed_by x x.stage) rs

@@ -3,7 +3,7 @@
 -- A request and a want of memory change nothing that is shared, so the table stands. A step of the words is the machine's on the table, and
 -- then what the actor makes of what it was told: that changes nothing that is shared either. Between the two, the actor has its seat as
 -- before, and its word actor after the step; the collections that it has written stand, since a step of a locking actor writes nothing.
-use Rattle.std.proofs.Common.{◌≡◌, ℕ, ◌+◌, Bool, true, false, true≢false, List, [], ◌∷◌, Option, Some, None, Result, ◌≤◌, inl, inr, refl, sym, ap, ◌∙◌, subst, arith}
+use Rattle.std.proofs.Common.{◌≡◌, ℕ, ◌+◌, Bool, true, false, true≢false, List, [], ◌∷◌, Option, Some, None, Result, ◌≤◌, inl, inr, refl, sym, ap, ◌∙◌, subst, arith, drop}
 use Rattle.std.specs.Prelude.{not, filter}
 use Rattle.std.specs.declared.alloc.Global.{Global}
 use Rattle.std.specs.declared.vec.Vec.{Vec}
@@ -16,6 +16,7 @@ use Rattle.word_machine.specs.Actor.{Actor, Place, goes, seen_to_lock, seen_in_c
 use Rattle.word_machine.specs.Requests.{AskStore}
 use Rattle.word_machine.specs.World as machine_world
 use Rattle.word_machine.specs.World.{now, exchanged, put}
+use Rattle.word_machine.proofs.Declared.{has_no_sets}
 use Rattle.word_machine.proofs.Sets.{put-same}
 use Rattle.seq_model.specs.declared.call.Call.{Call}
 use Rattle.seq_model.specs.declared.call.Reply.{Reply}
@@ -49,9 +50,11 @@ use Rattle.step_core.specs.declared.answer.WordAnswer.{WordAnswer}
 use Rattle.step_core.specs.declared.answer.WordRefusal.{WordRefusal}
 use Rattle.tx_actor.specs.Asks.{Asks, MayStore}
 use Rattle.actor_words.specs.Blocks.{BlocksView}
-use Rattle.actor_words.specs.Dispatch.{AreSteps, IsDue, MayGoOn, after_put, after_try, after_word, first, is_loading, next_home, next_of, notice_told}
-use Rattle.tx_actor.specs.Dispatch.{HasRoom, IsToldWord, Starves}
+use Rattle.actor_words.specs.Dispatch.{AreSteps, IsDue, MayGoOn, after_put, after_try, after_word, first, is_loading}
+use Rattle.actor_words.specs.Dispatch.{next_home, next_load, next_of, next_put, next_try, notice_told}
 use Rattle.actor_words.specs.Guarded.{committed_at}
+use Rattle.actor_words.specs.Requests.{HasNoReads}
+use Rattle.tx_actor.specs.Dispatch.{HasRoom, IsToldWord, Records, Starves}
 use Rattle.tx_actor.specs.Keeping.{IsRunning}
 use Rattle.tx_actor.specs.Running as ran
 use Rattle.tx_actor.specs.Running.{KnowsHomes, Runs, is_recorded, notice_of, seat_at, seat_of, stage_of}
@@ -142,6 +145,19 @@ module _ {V : Type 0} where
   reached_goes_on goes o w a h =
       subst (λ (z : World V). MayGoOn a (committed_at z a (z.seats a).stage) (z.seats a).stage) h.world
       (goes h.blocks h.clock o.words o.held h.events a h.stripes)
+
+  -- a declared reader at rest has read nothing that it keeps
+  pub no_reads : (o : Contents V) (w : World V) (a : ℕ) (r : TxActor V) → IsReached o w → Runs a r w → r.stage ≡ stage.Open
+      → HasNoReads r.words
+  no_reads o w a r reached runs at d =
+      let linked = reached_linked o w reached in
+      let st : (w.seats a).stage ≡ Open =
+      stage_by (w.seats a) r (ap (λ (t : own.Stage V). is_loading (stage_of t)) at) runs.0 ∙ ap (λ (t : own.Stage V). stage_of t) at in
+      let ok = subst (λ (k : Stage V). StageOk w.words w.blocks (w.seats a) (actor_of w a) (w.boosted.shadows a) k (actor_of w a).place)
+      st (linked.seats a).stage in
+      let is : actor_of w a ≡ words.actor_of r.words = runs.1 in
+      sym (ap (λ (y : Actor). y.reads) is)
+      ∙ (has_no_sets w.boosted.words a linked.base.inv.machine (ap (λ (y : Actor). y.declared) is ∙ d) ok.0).0
 
   -- taking note of what a step ends changes no word, gate or base
   ended_has : (t : Table V) (a : ℕ) (x : Seat V) (s : Stage V) (w : World V) → HasTable t w → HasTable t (ended_at a x s w)
@@ -407,7 +423,7 @@ module _ {V : Type 0} where
   }
 
   -- ---- the first value store: its request, and then a step of the words
-  first_is : (s : Stage V) → next_of s ≡ next.FirstStore → (ks : List ℕ) × (s ≡ Ready ks)
+  pub first_is : (s : Stage V) → next_of s ≡ next.FirstStore → (ks : List ℕ) × (s ≡ Ready ks)
   first_is (Ready ks) e = (ks, refl)
   first_is Idle e = let z : ⊥ = cc in absurd z
   first_is Open e = let z : ⊥ = cc in absurd z
@@ -472,6 +488,32 @@ module _ {V : Type 0} where
           after.1 ∙ sym (ap (λ (q : After V). q.1) e),
         ));
   }
+
+  pub first_records : (t : own.Stage V) → next_of (stage_of t) ≡ next.FirstStore → Records t
+  first_records (stage.Ready homes) e = tt
+  first_records stage.Closing e = tt
+  first_records stage.Leaving e = tt
+  first_records (stage.Loading o left) e = absurd (no_load left.items e)
+    where
+      no_load : (es : Entries) → next_load es ≡ next.FirstStore → ⊥
+      no_load [] e = cc
+      no_load (d ∷ es) e = cc
+  first_records (stage.Gating homes got tries) e = absurd (no_gate (first (drop got homes.items)) e)
+    where
+      no_gate : (o : Option ℕ) → next_try o ≡ next.FirstStore → ⊥
+      no_gate None e = cc
+      no_gate (Some k) e = cc
+  first_records (stage.Homing homes) e = absurd (no_home (first homes.items) e)
+    where
+      no_home : (o : Option ℕ) → next_home o ≡ next.FirstStore → ⊥
+      no_home None e = cc
+      no_home (Some k) e = cc
+  first_records (stage.Returning homes) e = absurd (no_return (first homes.items) e)
+    where
+      no_return : (o : Option ℕ) → next_put o ≡ next.FirstStore → ⊥
+      no_return None e = cc
+      no_return (Some k) e = cc
+  first_records t e = let z : ⊥ = cc in absurd z
 
   -- ---- no step is due
   nothing_at : (n : ℕ) (bs : List Block) (x : Seat V) (y : Actor) (z : Copy V) (s : Stage V) (p : Place) → next_of s ≡ next.Nothing

@@ -21,8 +21,9 @@ use Rattle.step_core.specs.Sound.{owed}
 use Rattle.step_core.specs.declared.actor.Place.{Place}
 use Rattle.step_core.specs.declared.actor.Place.TheVariants as place
 use Rattle.step_core.proofs.Lists.{same_at}
-use Rattle.actor_words.specs.Blocks.{BlocksView}
+use Rattle.actor_words.specs.Blocks.{BlocksView, IsLaid}
 use Rattle.actor_words.specs.Dispatch.{first, next_home, next_load, next_of, next_put, next_try}
+use Rattle.tx_actor.specs.Asks.{Stands}
 use Rattle.tx_actor.specs.Keeping.{IsRunning, NamesAmong}
 use Rattle.tx_actor.specs.Running.{Runs, stage_of}
 use Rattle.tx_actor.specs.declared.actor.Stage as own
@@ -31,7 +32,10 @@ use Rattle.actor_words.specs.declared.next.Next.TheVariants as next
 use Rattle.tx_actor.specs.declared.actor.Told.{Told}
 use Rattle.tx_actor.specs.declared.actor.TxActor.{TxActor}
 use Rattle.world_table.specs.Openings.{HasShape}
+use Rattle.world_table.specs.Tables.{HasTable}
+use Rattle.world_table.specs.declared.table.Table.{Table}
 use Rattle.running_world.specs.declared.parts.Parts.{Parts}
+use Rattle.running_world.specs.declared.trace.Ended.{Ended}
 use Rattle.running_world.specs.Parts.{IsSeat, IsWorld, ended_of, total_owed}
 use Rattle.running_world.specs.Reached.{IsReached}
 use Rattle.running_world.specs.Turns.{IsTurn}
@@ -133,6 +137,24 @@ module _ {V : Type 0} where
   pub seat_stands : (v : BlocksView) (w u : World V) (b : ℕ) (r : TxActor V) → Alike b w u → IsSeat v w b r → IsSeat v u b r
   seat_stands v w u b r h s = record { runs = runs_stand w u b r h s.runs; running = s.running }
 
+  -- the actors with one that takes the place of another
+  seats_set : (v : BlocksView) (u : World V) (rs now : List (TxActor V)) (i : ℕ) (r s : TxActor V) → slice_get rs i ≡ Some r
+      → now ≡ slice_set rs i s → IsSeat v u (i + 1) s
+      → ((j : ℕ) (q : TxActor V) → j ≢ i → slice_get rs j ≡ Some q → IsSeat v u (j + 1) q)
+      → (j : ℕ) (q : TxActor V) → slice_get now j ≡ Some q → IsSeat v u (j + 1) q
+  seats_set v u rs now i r s got es moved others j q at = elim (cases_eq j i) [
+    | inl at_i ↦ (
+        let there : slice_get (slice_set rs i s) i ≡ Some q =
+        subst (λ (k : ℕ). slice_get (slice_set rs i s) k ≡ Some q) at_i
+        (subst (λ (xs : List (TxActor V)). slice_get xs j ≡ Some q) es at) in
+        let is_s : s ≡ q = same_at (slice_set rs i s) i s q (set_here rs i r s got) there in
+        subst (λ (k : ℕ). IsSeat v u (k + 1) q) (sym at_i) (subst (λ (x : TxActor V). IsSeat v u (i + 1) x) is_s moved))
+    | inr ne ↦ (
+        let there : slice_get rs j ≡ Some q =
+        sym (set_there rs i j s ne) ∙ subst (λ (xs : List (TxActor V)). slice_get xs j ≡ Some q) es at in
+        others j q ne there)
+  ]
+
   clock_after : (c d : Parts V) (i : ℕ) (r s : TxActor V) → slice_get c.actors.items i ≡ Some r
       → d.actors.items ≡ slice_set c.actors.items i s → length c.actors.items ≡ 64
       → Grows c.table.cells r.words d.table.cells s.words → c.table.cells.clock + total_owed c.actors.items ≤ 2 ^ 62 + 65
@@ -171,27 +193,41 @@ module _ {V : Type 0} where
         shape = subst (λ (m : ℕ). HasShape d.table m u.blocks) same.words
             (subst (λ (bs : List Block). HasShape d.table w.words bs) same.blocks (shape w.words w.blocks h.shape));
         count = ap length es ∙ (set_length c.actors.items i s ∙ h.count);
-        seats = λ j q at. elim (cases_eq j i) [
-          | inl at_i ↦ (
-              let there : slice_get (slice_set c.actors.items i s) i ≡ Some q =
-              subst (λ (k : ℕ). slice_get (slice_set c.actors.items i s) k ≡ Some q) at_i
-              (subst (λ (xs : List (TxActor V)). slice_get xs j ≡ Some q) es at) in
-              let is_s : s ≡ q = same_at (slice_set c.actors.items i s) i s q (set_here c.actors.items i r s got) there in
-              subst (λ (k : ℕ). IsSeat d.blocks u (k + 1) q) (sym at_i)
-              (subst (λ (x : TxActor V). IsSeat d.blocks u (i + 1) x) is_s moved))
-          | inr ne ↦ (
-              let there : slice_get c.actors.items j ≡ Some q =
-              sym (set_there c.actors.items i j s ne) ∙ subst (λ (xs : List (TxActor V)). slice_get xs j ≡ Some q) es at in
-              let apart : j + 1 ≢ whose e = λ z. ne (omega (arith, z, is)) in
-              subst (λ (v : BlocksView). IsSeat v u (j + 1) q) (sym laid)
-              (seat_stands c.blocks w u (j + 1) q (alike (j + 1) apart) (h.seats j q there)))
-        ];
+        seats = seats_set d.blocks u c.actors.items d.actors.items i r s got es moved
+            (λ j q ne at. (
+            let apart : j + 1 ≢ whose e = λ z. ne (omega (arith, z, is)) in
+            subst (λ (v : BlocksView). IsSeat v u (j + 1) q) (sym laid)
+            (seat_stands c.blocks w u (j + 1) q (alike (j + 1) apart) (h.seats j q at))));
         others = λ a none. (
             let low64 : i < 64 = omega (arith, low, h.count) in
             let apart : a ≢ whose e = λ z. is_one a none i low64 (z ∙ is) in
             sym (alike a apart).seat ∙ h.others a none);
         records = rs;
         aborted = ends;
+        clock = clock_after c d i r s got es h.count grows h.clock;
+      }
+
+  -- an actor that shows what the one at its place does may stand there
+  pub stood : (c d : Parts V) (w : World V) (i : ℕ) (r s : TxActor V) → IsWorld c w → slice_get c.actors.items i ≡ Some r
+      → d.blocks ≡ c.blocks → d.table ≡ c.table → d.actors.items ≡ slice_set c.actors.items i s → d.records.items ≡ c.records.items
+      → d.aborted.items ≡ c.aborted.items → Stands r s → IsRunning c.blocks s → Grows c.table.cells r.words d.table.cells s.words
+      → IsWorld d w
+  stood c d w i r s h got laid same es rs ends stands running grows =
+      let own = h.seats i r got in
+      let moved : IsSeat d.blocks w (i + 1) s = record {
+        runs = stands (i + 1) w own.runs;
+        running = subst (λ (v : BlocksView). IsRunning v s) (sym laid) running;
+      } in
+      record {
+        laid = subst (λ (v : BlocksView). IsLaid v w) (sym laid) h.laid;
+        table = subst (λ (t : Table V). HasTable t w) (sym same) h.table;
+        shape = subst (λ (t : Table V). HasShape t w.words w.blocks) (sym same) h.shape;
+        count = ap length es ∙ (set_length c.actors.items i s ∙ h.count);
+        seats = seats_set d.blocks w c.actors.items d.actors.items i r s got es moved
+            (λ j q ne at. subst (λ (v : BlocksView). IsSeat v w (j + 1) q) (sym laid) (h.seats j q at));
+        others = h.others;
+        records = rs ∙ h.records;
+        aborted = ap (λ (xs : List (Ended V)). map ended_of xs) ends ∙ h.aborted;
         clock = clock_after c d i r s got es h.count grows h.clock;
       }
 

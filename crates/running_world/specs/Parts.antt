@@ -1,6 +1,7 @@
 -- The parts of a running world, the world of the definitions that they are, and what an event makes of both.
 use Rattle.std.specs.Prelude.{◌≡◌, ℕ, ◌+◌, ◌≤◌, ◌^◌, false, List, [], ◌∷◌, map, Some, length, slice_get}
 use Rattle.seq_model.specs.declared.event.Event.{Event}
+use Rattle.seq_model.specs.declared.event.Event.TheVariants.{Starve}
 use Rattle.seq_model.specs.Contents.{Contents}
 use Rattle.step_core.specs.Shown.{is_actor}
 use Rattle.step_core.specs.Sound.{owed}
@@ -59,6 +60,15 @@ module _ {V : Type 0} where
   pub record Happens (c : Parts V) (e : Event V) (d : Parts V) (n : Told V) : Type 0 where
     pub parts : (opening : Contents V) (w : World V) → IsReached opening w → IsWorld c w → IsWorld d (happens w e).0
     pub told : (opening : Contents V) (w : World V) → IsReached opening w → IsWorld c w → notice_of (whose e) n ≡ (happens w e).1
+
+  -- d are the parts of each world that events have reached and of which c are
+  abbrev pub Stays : Parts V → Parts V → Type 0
+  Stays c d = (opening : Contents V) (w : World V) → IsReached opening w → IsWorld c w → IsWorld d w
+
+  -- The request of the actor at place i was refused memory, and d are the parts that this leaves.
+  pub record IsStarved (c : Parts V) (i : ℕ) (d : Parts V) : Type 0 where
+    pub told : Told V
+    pub happens : Happens c (Starve (i + 1)) d told
 
   -- this is what the next step of the actor at place i does
   abbrev pub IsDue : Parts V → ℕ → Next → Type 0

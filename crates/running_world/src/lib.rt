@@ -4,6 +4,7 @@
 //! contracts say that what is left is the world that the definitions' event leaves, wherever events have led.
 #![tactic(auto)]
 
+mod asks;
 mod opening;
 mod parts;
 mod steps;

@@ -11,7 +11,7 @@ use std::alloc::Global;
 use tx_actor::TxActor;
 
 /// The actors of a world.
-const ACTORS: usize = 64;
+pub const ACTORS: usize = 64;
 
 fn kind<V>(held: &Held<V>) -> Kind
     ensures { kind_of result ≡ kind_of_held held.now }

@@ -1,15 +1,16 @@
 //! What an event makes of the parts of a world, by what its actor's next step does.
-ghost use Rattle.std.specs.Prelude.{◌≡◌, ◌≢◌, ◌+◌, ◌<◌, false, length, slice_get, IfOk, Some};
-ghost use Rattle.seq_model.specs.declared.event.Event.TheVariants.{Starve, Step};
+ghost use Rattle.std.specs.Prelude.{◌≡◌, ◌≢◌, ◌+◌, ◌<◌, [], false, length, slice_get, IfOk, OnErr, Some};
+ghost use Rattle.seq_model.specs.declared.event.Event.TheVariants.{Ask, Starve, Step};
 ghost use Rattle.actor_words.specs.Dispatch.{is_loading, next_of};
 ghost use Rattle.tx_actor.specs.Running.{stage_of};
 ghost use Rattle.tx_actor.specs.declared.actor.TxActor as running;
-ghost use Rattle.running_world.specs.Parts.{Happens, HasWorld, IsAt, IsDue};
+ghost use Rattle.running_world.specs.Parts.{Happens, HasWorld, IsAt, IsDue, IsStarved, Stays};
 
+use crate::asks::ask;
 use crate::parts::Parts;
-use crate::turns::{close, leave, put_gate, step_word, try_gate};
+use crate::turns::{close, commit, leave, put_gate, step_word, try_gate};
 use actor_words::Next;
-use seq_model::{Memory, Value, insert_record};
+use seq_model::{Memory, Request, Value, insert_record};
 use tx_actor::{Stage, Told};
 
 impl<V: Value> Parts<V> {
@@ -19,6 +20,21 @@ impl<V: Value> Parts<V> {
         ensures { Happens self.old (Starve (i + 1)) self.new result }
     {
         self.actors[i].starves()
+    }
+
+    /// A request of the actor at this place, where there is no collection. A want of memory leaves the world as it was.
+    pub fn ask(&mut self, i: usize, request: Request<V>) -> Result<Told<V>, Memory>
+        requires inside { i < length self.old.actors.items }
+        requires world { HasWorld self.old }
+        requires none { self.old.blocks.blocks ≡ [] }
+        ensures ok { IfOk result (λ told. Happens self.old (Ask (i + 1) request) self.new told) }
+        ensures err { OnErr result (Stays self.old self.new) }
+    {
+        let alloc = *self.records.allocator();
+        match ask(alloc, &mut self.actors[i], &self.blocks, request) {
+            Ok(told) => Ok(told),
+            Err(_) => Err(Memory),
+        }
     }
 
     /// A step of the words that ends no transaction.
@@ -54,26 +70,66 @@ impl<V: Value> Parts<V> {
         put_gate(&mut self.table, &mut self.actors[i], k)
     }
 
-    /// The load of the clock that commits a transaction without writes. `Memory` where there is no room for its record.
+    /// The request of the actor at this place is refused memory, as there is none for what its step was to leave.
+    fn starved(&mut self, i: usize) -> Memory
+        requires { i < length self.old.actors.items }
+        ensures { IsStarved self.old i self.new }
+    {
+        let _told = self.starve(i);
+        Memory
+    }
+
+    /// The first value store of a commit, at which the transaction is recorded. Where there is no memory for its record, or for what its
+    /// word actor keeps, it stores nothing, and its request is refused memory.
+    fn commit(&mut self, i: usize) -> Result<Told<V>, Memory>
+        requires inside { i < length self.old.actors.items }
+        requires world { HasWorld self.old }
+        requires due { IsDue self.old i Next.FirstStore }
+        ensures ok { IfOk result (λ told. Happens self.old (Step (i + 1)) self.new told) }
+        ensures err { OnErr result (IsStarved self.old i self.new) }
+    {
+        let Ok(()) = self.records.reserve(1) else {
+            return Err(self.starved(i));
+        };
+        let alloc = *self.records.allocator();
+        match commit(alloc, &mut self.table, &mut self.actors[i], &self.blocks) {
+            Ok((told, record)) => {
+                insert_record(&mut self.records, i as u32 + 1, record)?;
+                Ok(told)
+            }
+            Err(_) => Err(self.starved(i)),
+        }
+    }
+
+    /// The load of the clock that commits a transaction without writes, at which it is recorded. Where there is no memory for its record,
+    /// it loads nothing, and its request is refused memory.
     fn close(&mut self, i: usize) -> Result<Told<V>, Memory>
         requires inside { i < length self.old.actors.items }
         requires world { HasWorld self.old }
         requires stage { IsAt self.old i Stage.Closing }
-        ensures { IfOk result (λ told. Happens self.old (Step (i + 1)) self.new told) }
+        ensures ok { IfOk result (λ told. Happens self.old (Step (i + 1)) self.new told) }
+        ensures err { OnErr result (IsStarved self.old i self.new) }
     {
+        let Ok(()) = self.records.reserve(1) else {
+            return Err(self.starved(i));
+        };
         let alloc = *self.records.allocator();
         let (told, record) = close(alloc, &mut self.table, &mut self.actors[i], &self.blocks);
         insert_record(&mut self.records, i as u32 + 1, record)?;
         Ok(told)
     }
 
-    /// The load of the clock that ends an aborted transaction. `Memory` where there is no room to tell of it.
+    /// The load of the clock that ends an aborted transaction. Where there is no memory to tell of it, it loads nothing.
     fn leave(&mut self, i: usize) -> Result<Told<V>, Memory>
         requires inside { i < length self.old.actors.items }
         requires world { HasWorld self.old }
         requires stage { IsAt self.old i Stage.Leaving }
-        ensures { IfOk result (λ told. Happens self.old (Step (i + 1)) self.new told) }
+        ensures ok { IfOk result (λ told. Happens self.old (Step (i + 1)) self.new told) }
+        ensures err { OnErr result (IsStarved self.old i self.new) }
     {
+        let Ok(()) = self.aborted.reserve(1) else {
+            return Err(self.starved(i));
+        };
         let alloc = *self.records.allocator();
         let number = i as u32 + 1;
         let (told, ended) = leave(
@@ -83,7 +139,7 @@ impl<V: Value> Parts<V> {
             &self.blocks,
             number,
         );
-        self.aborted.push(ended)?;
+        self.aborted.push_reserved(ended);
         Ok(told)
     }
 }

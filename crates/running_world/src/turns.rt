@@ -1,5 +1,5 @@
 //! What an event makes of the table and of its actor.
-ghost use Rattle.std.specs.Prelude.{◌≡◌, ◌+◌, ◌<◌, ◌^◌, ℕ, List, false, length, IfOk, OnErr};
+ghost use Rattle.std.specs.Prelude.{◌≡◌, ◌+◌, ◌<◌, ◌^◌, ℕ, List, false, true, length, IfOk, OnErr, OnOk};
 ghost use Rattle.seq_model.specs.declared.event.Event.TheVariants.{Step};
 ghost use Rattle.step_core.specs.CellSteps.{Grows};
 ghost use Rattle.step_core.specs.Sound.{Fits, owed};
@@ -121,12 +121,45 @@ pub fn first_store<V: Value>(
     ensures shape { (n : ℕ) (bs : List Block) → HasShape table.old n bs → HasShape table.new n bs }
     ensures running { IsRunning blocks.now actor.new }
     ensures grows { Grows table.old.cells actor.old.words table.new.cells actor.new.words }
+    ensures made { OnOk result (actor.new.made.items ≡ actor.old.calls.items) }
 {
     steps_as_worlds::<V>();
     goes_on_as_worlds::<V>();
     actor.asks_to_store(blocks)?;
     let told = table.step(&mut actor.words);
     Ok(actor.stepped(told))
+}
+
+/// The first value store of a commit, with the record that it makes. Where memory is refused the actor shows what it did.
+pub fn commit<V: Value>(
+    alloc: Global,
+    table: &mut Table<V>,
+    actor: &mut TxActor<V>,
+    blocks: &Blocks,
+) -> Result<(Told<V>, Record<V>), Memory>
+    requires running { IsRunning blocks.now actor.old }
+    requires shape { HasShape table.old blocks.now.words blocks.now.blocks }
+    requires clock { table.old.cells.clock + owed actor.old.words.place < 2 ^ 63 }
+    requires due { next_of (stage_of actor.old.stage) ≡ Next.FirstStore }
+    ensures turns { IfOk result (λ done. (v : BlocksView) (a : ℕ) → IsTurn v (Step a) table.old actor.old table.new actor.new done.0) }
+    ensures stands { OnErr result (Stands actor.old actor.new) }
+    ensures table { OnErr result (table.new ≡ table.old) }
+    ensures shape { (n : ℕ) (bs : List Block) → HasShape table.old n bs → HasShape table.new n bs }
+    ensures running { IsRunning blocks.now actor.new }
+    ensures grows { Grows table.old.cells actor.old.words table.new.cells actor.new.words }
+    ensures number { IfOk result (λ done. done.1.number ≡ actor.old.wv) }
+    ensures writes { IfOk result (λ done. done.1.writes ≡ true) }
+    ensures calls { IfOk result (λ done. done.1.calls ≡ actor.old.calls.items) }
+{
+    let number = actor.wv;
+    let told = first_store(table, actor, blocks)?;
+    let calls = Items::from_vec(mem::replace(&mut actor.made, Vec::new(alloc)));
+    let record = Record {
+        number,
+        writes: true,
+        calls,
+    };
+    Ok((told, record))
 }
 
 /// A try on the gate of a collection, by the actor of this number.

@@ -106,6 +106,7 @@ impl<V: Drop> TxActor<V> {
         ensures ok { OnOk result (MayStore self.old self.new) }
         ensures err { OnErr result (Stands self.old self.new) }
         ensures keeps { KeepsIn blocks.now self.old self.new }
+        ensures rest { self.new ≡ record self.old { words = self.new.words } }
     {
         store_words(&mut self.words, blocks.end() as usize)?;
         Ok(())

@@ -1,7 +1,7 @@
-use Rattle.std.proofs.Common.{◌∙◌, refl, subst, sym}
+use Rattle.std.proofs.Common.{◌∙◌, ◌+◌, ap, refl, subst, sym}
 use Rattle.std.proofs.lemmas.Option.{slice_get_read}
-use Rattle.seq_model.specs.Runs.{IsInCommitOrder}
-use Rattle.running_world.proofs.PartsLemmas.{closing_ends, closing_record, step_happens, with_turn}
+use Rattle.seq_model.specs.Runs.{IsInCommitOrder, insert_record}
+use Rattle.running_world.proofs.PartsLemmas.{closing_ends, closing_record, more_records, starved_then, step_happens, with_turn}
 use Rattle.running_world.proofs.TraceLemmas.{serial_at}
 use Rattle.running_world.proofs.WorldLemmas.{may_take, shape_laid}
 use Rattle.running_world.proofs.parts.Parts.close.Goals as goal
@@ -27,10 +27,16 @@ close-told-requires-clause-stage g c =
 pub insert_record-requires : goal.insert_record-requires
 insert_record-requires g c =
     let w = c.requires.world in
-    subst IsInCommitOrder (sym w.parts.records) (serial_at w.opening w.world w.reached).ordered
+    subst IsInCommitOrder (sym (c.reserve.ensures.items ∙ w.parts.records)) (serial_at w.opening w.world w.reached).ordered
 
-pub returns : goal.returns
-returns g c =
+pub returns-in_default-clause-err : goal.returns-in_default-clause-err
+returns-in_default-clause-err g c =
+    let p = c.args.self.now in
+    starved_then p (record p { records = c.reserve.new.self }) c.starved.new.self c.args.i
+    (more_records p c.reserve.new.self c.reserve.ensures.items) c.starved.ensures
+
+pub returns-clause-ok : goal.returns-clause-ok
+returns-clause-ok g c =
     let t = c.close-told in
     let p = c.args.self.now in
     let r = c.index_mut.result.now in
@@ -39,5 +45,6 @@ returns g c =
     step_happens p (record (with_turn p t.new.table c.args.i t.new.actor) { records = c.insert_record.new.records }) c.args.i r
     t.new.actor t.result.0 got refl refl (t.ensures.turns p.blocks _) t.ensures.shape (λ _. t.ensures.running) t.ensures.grows
     (λ x is. c.in_ok-insert_record.ensures.ok
-    ∙ closing_record _ r t.result.1 p.records.items at t.ensures.number t.ensures.reads t.ensures.calls x is)
+    ∙ (ap (λ rs. insert_record (c.args.i + 1, t.result.1) rs) c.reserve.ensures.items
+    ∙ closing_record _ r t.result.1 p.records.items at t.ensures.number t.ensures.reads t.ensures.calls x is))
     (λ x is. closing_ends _ r _ at x is)

@@ -1,6 +1,6 @@
-use Rattle.std.proofs.Common.{◌∙◌, refl, subst, sym}
+use Rattle.std.proofs.Common.{◌∙◌, [], ◌∷◌, ◌++◌, ap, refl, subst, sym}
 use Rattle.std.proofs.lemmas.Option.{slice_get_read}
-use Rattle.running_world.proofs.PartsLemmas.{leaving_ends, leaving_record, step_happens, with_turn}
+use Rattle.running_world.proofs.PartsLemmas.{leaving_ends, leaving_record, more_aborted, starved_then, step_happens, with_turn}
 use Rattle.running_world.proofs.WorldLemmas.{may_take, shape_laid}
 use Rattle.running_world.proofs.parts.Parts.leave.Goals as goal
 
@@ -22,15 +22,21 @@ leave-told-requires-clause-stage g c =
     let got = slice_get_read c.args.self.now.actors.items _ c.args.i c.index_mut.result.now refl c.requires.inside c.index_mut.ensures.value in
     c.requires.stage c.index_mut.result.now got
 
-pub returns : goal.returns
-returns g c =
+pub returns-in_default-clause-err : goal.returns-in_default-clause-err
+returns-in_default-clause-err g c =
+    let p = c.args.self.now in
+    starved_then p (record p { aborted = c.reserve.new.self }) c.starved.new.self c.args.i
+    (more_aborted p c.reserve.new.self c.reserve.ensures.items) c.starved.ensures
+
+pub returns-clause-ok : goal.returns-clause-ok
+returns-clause-ok g c =
     let t = c.leave-told in
     let p = c.args.self.now in
     let r = c.index_mut.result.now in
     let got = slice_get_read p.actors.items _ c.args.i r refl c.requires.inside c.index_mut.ensures.value in
     let at = c.requires.stage r got in
-    step_happens p (record (with_turn p t.new.table c.args.i t.new.actor) { aborted = c.push.new.self }) c.args.i r
+    step_happens p (record (with_turn p t.new.table c.args.i t.new.actor) { aborted = c.push_reserved.new.self }) c.args.i r
     t.new.actor t.result.0 got refl refl (t.ensures.turns p.blocks _) t.ensures.shape (λ _. t.ensures.running) t.ensures.grows
     (λ x is. leaving_record _ r p.records.items at x is)
     (λ x is. leaving_ends _ r t.result.1 p.aborted.items _ at t.ensures.actor t.ensures.rv t.ensures.calls t.ensures.cause
-    c.in_ok-push.ensures.items x is)
+    (c.push_reserved.ensures.items ∙ ap (λ es. es ++ t.result.1 ∷ []) c.reserve.ensures.items) x is)

@@ -1,0 +1,6 @@
+use Rattle.running_world.proofs.TurnLemmas.{turns_made}
+use Rattle.running_world.proofs.turns.commit.Goals as goal
+
+pub returns-clause-turns : goal.returns-clause-turns
+returns-clause-turns g c = λ v a. turns_made v _ c.args.table.now c.first_store.new.table c.args.actor.now c.first_store.new.actor
+    c.replace.new.dest c.in_ok-told.told (c.in_ok-told.ensures.turns v a)
