@@ -117,6 +117,7 @@ impl<V: Value> Copied<V> {
         ensures shown { shown_of base.new ≡ shown_of base.old }
         ensures stripes { stripes_of base.new ≡ stripes_of base.old }
         ensures editions { editions_of base.new ≡ editions_of base.old }
+        ensures room { room_of base.old ≤ room_of base.new }
     {
         base.prepare(self.changes())
     }

@@ -1,5 +1,7 @@
+pub mod HomeLemmas
 pub mod OpeningLemmas
 pub mod PartsLemmas
+pub mod PrepareLemmas
 pub mod SeatLemmas
 pub mod TraceLemmas
 pub mod TurnLemmas

@@ -33,8 +33,8 @@ use Rattle.replay_log.specs.Base.{Shown}
 use Rattle.replay_log.specs.Contents.{Answered, Asked, Block, HaveStripes, content, end_of, home_of, is_plain}
 use Rattle.replay_log.specs.Guards.{IsAllowed, step_action}
 use Rattle.replay_log.specs.Worlds.{World, Seat, Stage, After, Idle, Beginning, Open, Locking, Releasing, Closing, Cancelling, Leaving, Reading}
-use Rattle.replay_log.specs.Worlds.{Trying, Copying, Loading, Gating, Ready, Storing, Homing, Returning, acted, asks, at_stage, actor_of, moves, word_notice}
-use Rattle.replay_log.specs.Worlds.{all_of, distinct, ask_at, step_at, starve_at, happens, opened, run, written_homes}
+use Rattle.replay_log.specs.Worlds.{Trying, Copying, Loading, Gating, Ready, Storing, Homing, Returning, acted, asks, actor_of, moves, word_notice}
+use Rattle.replay_log.specs.Worlds.{all_of, distinct, ask_at, step_at, happens, opened, run, written_homes}
 use Rattle.replay_log.proofs.GuardLemmas.{world_allows}
 use Rattle.replay_log.proofs.EventLemmas.{opened_linked, run_linked}
 use Rattle.replay_log.proofs.SeatLemmas.{AtLocking, Copy, Linked, StageOk}
@@ -140,7 +140,7 @@ module _ {V : Type 0} where
       subst (λ (z : World V). Linked z) h.world
       (run_linked h.events (opened h.blocks h.clock o.words o.held) (opened_linked h.blocks h.clock o.words o.held h.stripes))
 
-  reached_goes_on : GoesOn V → (o : Contents V) (w : World V) (a : ℕ) → IsReached o w
+  pub reached_goes_on : GoesOn V → (o : Contents V) (w : World V) (a : ℕ) → IsReached o w
       → MayGoOn a (committed_at w a (w.seats a).stage) (w.seats a).stage
   reached_goes_on goes o w a h =
       subst (λ (z : World V). MayGoOn a (committed_at z a (z.seats a).stage) (z.seats a).stage) h.world
@@ -249,11 +249,11 @@ module _ {V : Type 0} where
   due_put a k None h = absurd h
   due_put a k (Some e) h = ap Some h
 
-  due_as : AreSteps V → (w : World V) (a : ℕ) (s : Stage V) (n : Next) → next_of s ≡ n → IsDue a n (step_action w a s)
+  pub due_as : AreSteps V → (w : World V) (a : ℕ) (s : Stage V) (n : Next) → next_of s ≡ n → IsDue a n (step_action w a s)
   due_as steps w a s n e = subst (λ (m : Next). IsDue a m (step_action w a s)) e (steps.due w a s)
 
   -- but for the first value store it is done in the world as it is
-  same_action : (w : World V) (a : ℕ) (s : Stage V) → (next_of s ≡ next.FirstStore → ⊥) → atomic_action a w s ≡ step_action w a s
+  pub same_action : (w : World V) (a : ℕ) (s : Stage V) → (next_of s ≡ next.FirstStore → ⊥) → atomic_action a w s ≡ step_action w a s
   same_action w a (Ready ks) ne = absurd (ne refl)
   same_action w a s ne = refl
 
@@ -345,7 +345,7 @@ module _ {V : Type 0} where
   plain_put stage.Releasing k e = let z : ⊥ = cc in absurd z
   plain_put t k e = refl
 
-  runs_moved : (w : World V) (a : ℕ) (r : TxActor V) (e : Action (Asked V)) → (acted w (e ∷ [])).boosted.words ≡ w.boosted.words
+  pub runs_moved : (w : World V) (a : ℕ) (r : TxActor V) (e : Action (Asked V)) → (acted w (e ∷ [])).boosted.words ≡ w.boosted.words
       → Runs a r w → Runs a r (acted w (e ∷ []))
   runs_moved w a r e same h = (
     h.0,

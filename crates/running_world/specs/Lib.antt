@@ -1,3 +1,4 @@
+pub mod Homes
 pub mod Openings
 pub mod Parts
 pub mod Reached

@@ -5,6 +5,7 @@
 #![tactic(auto)]
 
 mod asks;
+mod homes;
 mod opening;
 mod parts;
 mod steps;

@@ -192,6 +192,7 @@ impl<V: Drop> TxActor<V> {
     fn first_home(&mut self, homes: VecDeque<u32>) -> Told<V>
         ensures does { IsGoneHome (at self.old (Stage.Homing homes)) self.new result }
         ensures keeps { (v : BlocksView) → KeepsIn v (at self.old (Stage.Homing homes)) self.new }
+        ensures copies { self.new.copies ≡ self.old.copies }
     {
         if has_none(&homes) {
             return self.stays(Stage::Homing(homes));
@@ -205,6 +206,7 @@ impl<V: Drop> TxActor<V> {
     pub fn went_home(&mut self) -> Told<V>
         ensures does { IsGoneHome self.old self.new result }
         ensures keeps { (v : BlocksView) → KeepsIn v self.old self.new }
+        ensures copies { self.new.copies ≡ self.old.copies }
     {
         let stage = mem::replace(&mut self.stage, Stage::Idle);
         match stage {

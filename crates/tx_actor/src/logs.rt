@@ -22,6 +22,7 @@ impl<V: Value> TxActor<V> {
         ensures shown { shown_of base.new ≡ shown_of base.old }
         ensures stripes { stripes_of base.new ≡ stripes_of base.old }
         ensures editions { editions_of base.new ≡ editions_of base.old }
+        ensures room { room_of base.old ≤ room_of base.new }
     {
         match place_of(&self.copies, collection) {
             Some(place) => self.copies[place].copied.prepare(base),

@@ -355,6 +355,7 @@ impl<V: Drop> TxActor<V> {
             let f = worlds.goes_home w a x homes.items in
             Runs a self.new f.0 × (notice_of a result ≡ f.1) }
         ensures made { self.new.made ≡ self.old.made }
+        ensures copies { self.new.copies ≡ self.old.copies }
         ensures keeps { (v : BlocksView) → KeepsIn v (at self.old (Stage.Homing homes)) self.new }
     {
         if has_none(&homes) {

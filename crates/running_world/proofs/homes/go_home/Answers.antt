@@ -1,0 +1,38 @@
+use Rattle.std.proofs.Common.{◌≤◌, ℕ, ap, arith, length, subst, sym, ◌∙◌}
+use Rattle.replay_log.specs.Base.{room_of}
+use Rattle.actor_copies.specs.Kept.{copy_of}
+use Rattle.tx_actor.specs.declared.actor.TxActor.{TxActor}
+use Rattle.running_world.proofs.HomeLemmas.{home_turns, log_below, log_within, recorded_home}
+use Rattle.running_world.proofs.homes.go_home.Goals as goal
+
+pub go_home-requires-clause-prepared : goal.go_home-requires-clause-prepared
+go_home-requires-clause-prepared g c = λ base at. (
+    let room = c.requires.may.room base at in
+    subst (λ (n : ℕ). n ≤ room_of base) (sym (ap length c.log_of-log.ensures.changes)) room)
+
+pub go_home-requires-clause-within : goal.go_home-requires-clause-within
+go_home-requires-clause-within g c = λ base at. log_within c.logs_as_worlds.ensures.log c.logs_as_worlds.ensures.within c.args.k c.args.table.now
+    c.args.actor.now c.log_of-log.result.locations base c.requires.may c.log_of-log.ensures.locations at
+
+pub go_home-requires-clause-below : goal.go_home-requires-clause-below
+go_home-requires-clause-below g c = λ base at. log_below c.logs_as_worlds.ensures.log c.logs_as_worlds.ensures.editions c.args.k
+    c.args.table.now c.args.actor.now c.log_of-log.result.locations base c.requires.may c.log_of-log.ensures.locations at
+
+pub returns-clause-turns : goal.returns-clause-turns
+returns-clause-turns g c =
+    let r = c.args.actor.now in
+    let p = c.log_of-log.new.self in
+    home_turns c.steps_as_worlds.ensures c.goes_on_as_worlds.ensures c.logs_as_worlds.ensures.log c.args.k c.args.table.now
+    c.go_home.new.self r p c.went_home.new.self c.log_of-log.result.changes c.log_of-log.result.locations c.went_home.result c.requires.due
+    c.requires.inside.1 (c.log_of-log.ensures.stands (recorded_home r.stage c.args.k c.requires.due)) (ap (λ (z : TxActor _). z.stage) c.log_of-log.ensures.rest)
+    c.log_of-log.ensures.changes c.log_of-log.ensures.locations c.go_home.ensures.homes c.went_home.ensures.does
+
+pub returns-clause-keeps : goal.returns-clause-keeps
+returns-clause-keeps g c = λ v. (
+    let first = c.log_of-log.ensures.keeps v in
+    let then = c.went_home.ensures.keeps v in
+    record { running = λ h. then.running (first.running h); owed = omega (arith, first.owed, then.owed) })
+
+pub returns-clause-others : goal.returns-clause-others
+returns-clause-others g c = λ j other.
+    ap (λ z. copy_of z.items j) c.went_home.ensures.copies ∙ c.log_of-log.ensures.others j other
