@@ -17,6 +17,7 @@ use Rattle.collection_machine.specs.Boosted.{is_actor}
 use Rattle.replay_log.specs.Collections.{Suit, shown_at}
 use Rattle.seq_model.specs.Runs.{after_run}
 use Rattle.replay_log.proofs.SerialLemmas.{numbers_past, serial_world}
+use Rattle.replay_log.proofs.TraceLemmas.{shows_state}
 use Rattle.replay_log.specs.Contents as contents
 use Rattle.replay_log.specs.Contents.{Block, HaveStripes, end_of, is_plain}
 use Rattle.replay_log.specs.Seats.{World, Seat, actor_of}
@@ -29,6 +30,7 @@ use Rattle.tx_table.specs.Turns.{stage_of, lone}
 use Rattle.tx_table.specs.Shown.{View, Slot, total, owed, Table, IsOwn, IsSpent, Rule, left_of, right_of, both_of, spent_of, IsOpening, Closes, first}
 use Rattle.tx_table.proofs.Numbers.{total_set, total_snoc, total_append, there, at_end, tally_set, tally_snoc, total_alone, total_two}
 use Rattle.tx_table.proofs.Keeps.{owed_some}
+use Rattle.tx_table.proofs.Left.{shows_left, suit_within}
 use Rattle.word_machine.specs.Actor.{clock_limit}
 
 module _ {V : Type 0} where
@@ -133,12 +135,13 @@ module _ {V : Type 0} where
         };
       }
 
-  pub closes : (o : World V) (opening : Contents V) (id : ℕ) (v : View V) (s : State (Slot V) (View V)) (rule : Rule o s) → IsOpening o
+  pub closes : (o : World V) (opening : Contents V) (id : ℕ) (v : View V) (s : State (Slot V) (View V)) (rule : Rule o s)
+      → HaveStripes o.blocks → IsOpening o
       → IsSerial opening (run o rule.events)
       → AreUpTo (run o rule.events).boosted.words.clock (run o rule.events).records → get_elem? s.views id ≡ some v → v.shares ≡ 64
       → is_half_done (stage_of (lone id o v.turns) id) ≡ false → ((k : ℕ) → is_actor id ((lone id o v.turns).boosted.gates k) ≡ false)
       → o.words ≤ end_of o.words o.blocks → Closes o.words o.blocks opening v s.words s.homes
-  closes o opening id v s rule start serial past here all done bare wide =
+  closes o opening id v s rule stripes start serial past here all done bare wide =
       let S = rule.shows in
       let w : World V = run o rule.events in
       let held = serial.left rests in
@@ -158,6 +161,10 @@ module _ {V : Type 0} where
               sym (b.3 l p at).0 ∙
               (held.held l ((λ i. is_plain (e1 i) (e2 i) l) ∙ p) ∙ (λ i. shown_at (e1 i) (e2 i) (after_run w.records opening).held l)),
         ));
+        within = suit_within w.blocks (after_run w.records opening).held held.suit;
+        state = λ ds long home.
+            sym (shows_state w (after_run w.records opening) (subst HaveStripes (sym e2) stripes) held)
+            ∙ shows_left o.words o.blocks w s.words s.homes ds e1 e2 stripes S.table free long home;
       }
     where
       spent_at : (j : ℕ) (u : View V) → j ≢ id → get_elem? s.views j ≡ some u → u.shares ≡ 0
@@ -203,7 +210,7 @@ module _ {V : Type 0} where
       → is_half_done (stage_of (lone id o v.turns) id) ≡ false → ((k : ℕ) → is_actor id ((lone id o v.turns).boosted.gates k) ≡ false)
       → Closes (length values) blocks (record { words = values; held = held }) v s.words s.homes
   world_closes blocks clock values held stripes suit id v s rule here all done bare =
-      closes (opened blocks clock values held) (record { words = values; held = held }) id v s rule (opening_is blocks clock values held)
+      closes (opened blocks clock values held) (record { words = values; held = held }) id v s rule stripes (opening_is blocks clock values held)
       (serial_world blocks stripes clock values held suit rule.events) (numbers_past blocks stripes clock values held suit rule.events)
       here all done bare (above (length values) blocks)
 

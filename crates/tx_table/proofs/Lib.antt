@@ -2,6 +2,7 @@ pub mod Numbers
 pub mod Turned
 pub mod Keeps
 pub mod Gates
+pub mod Left
 pub mod Ends
 pub mod Opened
 pub mod SeatSteps

@@ -1,6 +1,7 @@
 -- A seat that is cut in two, two that become one, and the last one: what the rule of a table says of them.
 use Rattle.std.proofs.Common.{◌≡◌, ℕ, zero, suc, ◌+◌, ◌<◌, ◌≤◌, List, [], ◌∷◌, Some, None, length, get_or, set, sym, refl, ap, ◌∙◌, subst, arith, ◌≢◌, ⊎_elim, length-set}
-use Rattle.std.specs.Prelude.{map}
+use Rattle.std.specs.Prelude.{drop, map, take}
+use Rattle.std.proofs.lemmas.Option.{slice_get_within}
 use mathlib.Core.Option.{some, some-injective}
 use lib.ListN.{get_elem?}
 use lib.Seq.{set-get_or}
@@ -8,6 +9,7 @@ use Rattle.atomic_table.specs.Table.{Me, Allows, Splits, Joins, Final, Seen, kee
 use Rattle.atomic_table.proofs.Lists.{at_set}
 use Rattle.word_machine.specs.Actor.{clock_limit}
 use Rattle.word_machine.specs.Cells.{ClockCell}
+use Rattle.replay_log.specs.Base.{held_of, shown_of}
 use Rattle.replay_log.specs.Seats.{World}
 use Rattle.replay_log.specs.Worlds.{run}
 use Rattle.replay_log.specs.WorldSerial.{AreUpTo}
@@ -18,6 +20,7 @@ use Rattle.tx_table.specs.Shown.{View, Slot, Closes, IsOwn, IsSpent, Shows, tota
 use Rattle.tx_table.specs.Seated.{Rests}
 use Rattle.tx_table.proofs.Numbers.{map_at, tally_set, total_set, total_part, inside}
 use Rattle.tx_table.proofs.Ends.{splits, joins, opening_is, world_closes}
+use Rattle.tx_table.proofs.Left.{same_home}
 
 module _ {A : Type 0} where
   set_here : (l : List A) (i : ℕ) (v : A) → get_elem? l i ≡ some v → set l i v ≡ l
@@ -131,6 +134,18 @@ module _ {V : Type 0} where
         serial = c.serial;
         values = λ l low. ap (λ (w : List ℕ). get_or w (1 + locations_at key + l) 0) (sym last.2) ∙ c.values l low;
         bases = λ k low. (let b = c.bases k low in (b.0, map_at some xs k (Some b.0) (last.4 k (Some b.0) b.1), b.2));
+        within = c.within;
+        state = λ ds long home.
+            c.state ds long (λ k d at. (
+            let low = slice_get_within ds k d at in
+            let b = c.bases k (omega (arith, low, long)) in
+            let same : b.0 ≡ d =
+            same_home (get_elem? (map some xs) k) b.0 d (map_at some xs k (Some b.0) (last.4 k (Some b.0) b.1)) (home k d at) in
+            subst (λ x. get_elem? s.homes k ≡ some (some (Some x))) same b.1))
+            ∙ ap (λ (w : List ℕ). record {
+              words = take (words_at key) (drop (1 + locations_at key) w);
+              held = map (λ d. held_of (shown_of d)) ds;
+            }) last.2;
       }
 
   -- every base is at home

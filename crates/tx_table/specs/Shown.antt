@@ -2,7 +2,7 @@
 --
 -- A gate and the base of its collection go together: the base lies in its slot while the gate is free, and is out with the seat that has
 -- the gate. Each seat's actor knows the world in which it is alone with what it found.
-use Rattle.std.specs.Prelude.{◌≡◌, ◌⊎◌, ℕ, zero, suc, ◌+◌, ◌-◌, ◌<◌, ◌≤◌, true, false, max, List, [], ◌∷◌, ◌++◌, length, get_or, Option as Maybe, Some, None}
+use Rattle.std.specs.Prelude.{◌≡◌, ◌⊎◌, ℕ, zero, suc, ◌+◌, ◌-◌, ◌<◌, ◌≤◌, true, false, max, All, List, [], ◌∷◌, ◌++◌, drop, map, take, length, get_or, slice_get, Option as Maybe, Some, None}
 use mathlib.Core.Option.{Option, none, some}
 use lib.ListN.{get_elem?}
 use Rattle.atomic_table.specs.Table.{State, Me}
@@ -13,9 +13,10 @@ use Rattle.seq_model.specs.declared.record.Record.{Record}
 use Rattle.collection_machine.specs.Boosted.{is_actor}
 use Rattle.replay_log.specs.declared.base.Base.{Base}
 use Rattle.replay_log.specs.Contents.{Block, block_of, content, end_of, first_of, home_of, is_plain}
-use Rattle.replay_log.specs.Base.{shown_of, stripes_of}
+use Rattle.replay_log.specs.Base.{held_of, shown_of, stripes_of}
 use Rattle.replay_log.specs.Parts.{part}
 use Rattle.replay_log.specs.Collections.{shown_at}
+use Rattle.seq_model.specs.Calls.{IsWithinLimits}
 use Rattle.seq_model.specs.Contents.{Contents}
 use Rattle.seq_model.specs.Runs.{IsInCommitOrder, IsRun, after_run}
 use Rattle.replay_log.specs.Seats.{World, actor_of}
@@ -141,7 +142,8 @@ module _ {V : Type 0} where
     pub idle : (a : ℕ) → is_half_done (stage_of o a) ≡ false
 
   -- What a closed table leaves: the receipts, in commit order, are a run of the sequential model from the opening, no number of theirs is
-  -- above the clock, and words and bases are what it leaves.
+  -- above the clock, and words and bases are what it leaves: each by itself, and all of them as the state that they make up, which is within
+  -- the limits of states.
   pub record Closes (n : ℕ) (bs : List Block) (opening : Contents V) (v : View V) (words : List ℕ)
       (homes : List (Option (Slot V))) : Type 0 where
     pub order : List (ℕ × Record V)
@@ -155,3 +157,8 @@ module _ {V : Type 0} where
         → (b : Base V) × (get_elem? homes k ≡ some (some (Some b)))
         × ((l : ℕ) → is_plain n bs l ≡ false → home_of n bs l ≡ k → part (stripes_of b) (l - first_of n bs k) (shown_of b)
         ≡ shown_at n bs (after_run order opening).held l)
+    pub within : All IsWithinLimits (after_run order opening).held
+    pub state : (ds : List (Base V)) → length ds ≡ length bs
+        → ((k : ℕ) (d : Base V) → slice_get ds k ≡ Some d → get_elem? homes k ≡ some (some (Some d)))
+        → after_run order opening
+        ≡ record { words = take n (drop (1 + end_of n bs) words); held = map (λ d. held_of (shown_of d)) ds }

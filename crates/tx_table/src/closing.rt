@@ -1,16 +1,18 @@
 //! A table that no thread shares any more.
-ghost use Rattle.std.specs.Prelude.{◌≡◌, ◌+◌, ◌<◌, Some, get_or, length, map};
+ghost use Rattle.std.specs.Prelude.{◌≡◌, ◌+◌, ◌<◌, All, IfOk, Some, drop, get_or, length, map, take};
+ghost use Rattle.seq_model.specs.Calls.{IsWithinLimits};
 ghost use mathlib.Core.Option.{some};
 ghost use lib.ListN.{get_elem?};
 ghost use Rattle.tx_table.specs.Shown.{Closes};
-ghost use Rattle.tx_table.specs.Ends.{homes_of, row_of};
+ghost use Rattle.tx_table.specs.Ends.{held_in, homes_of, row_of};
 ghost use Rattle.tx_table.specs.Seated.{Owns, Rests, actor, blocks_in, contents_in, kept, locations_in, opening_of, view, words_in};
 
 use crate::closed::Closed;
 use crate::seat::Seat;
 use crate::table::TxTable;
 use replay_log::Base;
-use seq_model::Value;
+use seq_model::{Held, Memory, State, Value};
+use std::alloc::Global;
 
 impl<V: Value> TxTable<V> {
     /// What the table holds, once every seat was joined into this one. No commit of it is half done, and it holds no gate. It takes no
@@ -72,9 +74,51 @@ impl<V: Value> Closed<V> {
         requires { collection < length (homes_of self.now) }
         ensures { get_elem? (homes_of self.now) collection ≡ some (Some result.now) }
     {
-        match self.row.slots.get(collection as usize) {
+        self.base_at(collection as usize)
+    }
+
+    fn base_at(&self, k: usize) -> &Base<V>
+        requires { k < length (homes_of self.now) }
+        ensures { get_elem? (homes_of self.now) k ≡ some (Some result.now) }
+    {
+        match self.row.slots.get(k) {
             Some(base) => base,
             None => unreachable!(),
         }
+    }
+
+    /// What the words and the collections hold, as the state that the receipts' run leaves. Each collection has to be within the limits of
+    /// a state, as `close` tells that it is. `Memory` where there is none for the copies; what was closed is gone either way.
+    pub fn state(self, alloc: Global) -> Result<State<V>, Memory>
+        requires { All IsWithinLimits (held_in self) }
+        ensures words { IfOk result (λ state. state.words ≡ take self.words (drop (1 + self.locations) (row_of self))) }
+        ensures held { IfOk result (λ state. state.held ≡ held_in self) }
+    {
+        let words = self.values(alloc)?;
+        let held = self.held(alloc)?;
+        match State::new(words, held) {
+            Ok(state) => Ok(state),
+            Err(_) => unreachable!(),
+        }
+    }
+
+    fn values(&self, alloc: Global) -> Result<Vec<u64>, Memory>
+        ensures { IfOk result (λ words. words.items ≡ take self.now.words (drop (1 + self.now.locations) (row_of self.now))) }
+    {
+        let mut words = Vec::with_capacity(alloc, self.words as usize)?;
+        for word in 0..self.words {
+            words.push(self.word(word))?;
+        }
+        Ok(words)
+    }
+
+    fn held(&self, alloc: Global) -> Result<Vec<Held<V>>, Memory>
+        ensures { IfOk result (λ held. held.items ≡ held_in self.now) }
+    {
+        let mut held = Vec::with_capacity(alloc, self.collections())?;
+        for k in 0..self.collections() {
+            held.push(self.base_at(k).held()?)?;
+        }
+        Ok(held)
     }
 }

@@ -27,14 +27,14 @@ use Rattle.world_table.specs.Tables.{HasTable}
 use Rattle.world_table.specs.declared.table.Table.{Table}
 
 -- the first of the numbers of a function are those of a list
-words_are : (count : ℕ) (values : ℕ → ℕ) (ws : List ℕ) → count ≤ length ws → ((l : ℕ) → values l ≡ get_or ws l 0)
+pub words_are : (count : ℕ) (values : ℕ → ℕ) (ws : List ℕ) → count ≤ length ws → ((l : ℕ) → l < count → values l ≡ get_or ws l 0)
     → map values (all_below count) ≡ take count ws
 words_are count values ws low same =
     let long = length-map-range_with_len values 0 count in
     let short = length-take-le count ws low in
     ext_get_or 0 (map values (all_below count)) (take count ws) (long ∙ sym short)
     (λ i lt. (let below : i < count = omega (arith, lt, long) in
-    get_or-map-range_with_len values 0 count i i 0 below (omega arith) ∙ same i ∙ sym (get_or-take count ws i 0 below)))
+    get_or-map-range_with_len values 0 count i i 0 below (omega arith) ∙ same i below ∙ sym (get_or-take count ws i 0 below)))
 
 module _ {V : Type 0} where
   -- the parts of a base make up what it shows
@@ -47,12 +47,12 @@ module _ {V : Type 0} where
       ∙ is_whole b.stripes (shown_of base) pos
 
   -- base k shows what lies on the locations of block k
-  abbrev Shows : ℕ → List Block → (ℕ → Shown V) → List (Base V) → Type 0
+  abbrev pub Shows : ℕ → List Block → (ℕ → Shown V) → List (Base V) → Type 0
   Shows f bs v bases =
       (k : ℕ) (b : Block) (base : Base V) → block_of bs k ≡ Some b → slice_get bases k ≡ Some base
       → IsBaseOf b base × ((i : ℕ) → i < size b → v (first_of f bs k + i) ≡ part (stripes_of base) i (shown_of base))
 
-  all_held : (f : ℕ) (bs : List Block) (v : ℕ → Shown V) (bases : List (Base V)) → length bases ≡ length bs → HaveStripes bs
+  pub all_held : (f : ℕ) (bs : List Block) (v : ℕ → Shown V) (bases : List (Base V)) → length bases ≡ length bs → HaveStripes bs
       → Shows f bs v bases → held_from f bs v ≡ map (λ base. held_of (shown_of base)) bases
   all_held f [] v [] same pos each = refl
   all_held f [] v (x ∷ bases) same pos each = absurd (omega (arith, same))
@@ -69,7 +69,7 @@ module _ {V : Type 0} where
       let f = λ (k : ℕ). first_of w.words w.blocks k in
       ap (λ (x : List ℕ). record { words = x; held = held_from w.words w.blocks w.boosted.parts })
       (words_are w.words w.boosted.words.values t.cells.values.items
-      (let above = end_above w.words w.blocks in let long = shape.values in omega (arith, above, long)) h.cells.values ∙ sym is)
+      (let above = end_above w.words w.blocks in let long = shape.values in omega (arith, above, long)) (λ l _. h.cells.values l) ∙ sym is)
       ∙ ap (λ (hs : List (Held V)). record { words = ws; held = hs })
       (all_held w.words w.blocks w.boosted.parts t.bases.items shape.bases pos
       (λ k b base at got. (

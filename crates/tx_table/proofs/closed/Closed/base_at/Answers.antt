@@ -2,15 +2,15 @@ use Rattle.std.proofs.Common.{◌∙◌, ap}
 use Rattle.std.specs.Slots.{slots_items}
 use mathlib.Core.Option.{some}
 use Rattle.tx_table.proofs.SeatShares.{stands}
-use Rattle.tx_table.proofs.closed.Closed.collection.Goals as goal
+use Rattle.tx_table.proofs.closed.Closed.base_at.Goals as goal
 
 pub unreachable-requires : goal.unreachable-requires
 unreachable-requires g c =
     let s = c.args.self.now in
-    s.home c.args.collection (stands (slots_items s.row.slots) c.args.collection c.get.result.now c.requires c.get.ensures
+    s.home c.args.k (stands (slots_items s.row.slots) c.args.k c.get.result.now c.requires c.get.ensures
     ∙ ap (λ x. some x) c.in-None.is)
 
 pub returns : goal.returns
 returns g c =
-    stands (slots_items c.args.self.now.row.slots) c.args.collection c.get.result.now c.requires c.get.ensures
+    stands (slots_items c.args.self.now.row.slots) c.args.k c.get.result.now c.requires c.get.ensures
     ∙ ap (λ x. some x) c.in-Some.is
