@@ -2,7 +2,7 @@
 use Rattle.std.specs.Prelude.{◌≡◌, ℕ, suc, ◌+◌, ◌-◌, ◌^◌, ◌<◌, ◌≤◌, ⊤, length, Bool, true, false, List, Option, Some, None, is_some, nat_lt, unwrap_or, if◌then◌else◌}
 use Rattle.std.specs.Ordering.{nat_cmp}
 use Rattle.std.specs.List.{sum}
-use Rattle.std.specs.FinMap.{FinMap, empty, get, insert, len}
+use Rattle.std.specs.FinMap.{FinMap, empty, get, insert, len, remove}
 use Rattle.seq_model.specs.declared.call.Op.{Op}
 use Rattle.seq_model.specs.declared.call.Op.TheVariants.{Get, Put, Remove, Len, Count, Add, Take}
 use Rattle.seq_model.specs.declared.call.Reply.{Reply}
@@ -100,6 +100,23 @@ module _ {V : Type 0} where
   abbrev pub with_total : Touched V → Option ℕ → Option ℕ
   with_total (Counts cs) total = with_counts cs total
   with_total t total = total
+
+  -- without what a call touches
+  abbrev pub entries_without : Op V → FinMap nat_cmp (Option V) → FinMap nat_cmp (Option V)
+  entries_without (Get k) es = remove es k
+  entries_without (Put k v) es = remove es k
+  entries_without (Remove k) es = remove es k
+  entries_without op es = es
+
+  abbrev pub copies_without : Op V → FinMap nat_cmp ℕ → FinMap nat_cmp ℕ
+  copies_without (Count x) cs = remove cs x
+  copies_without (Add x) cs = remove cs x
+  copies_without (Take x) cs = remove cs x
+  copies_without op cs = cs
+
+  abbrev pub total_without : Op V → Option ℕ → Option ℕ
+  total_without Len total = None
+  total_without op total = total
 
   -- what was touched is what the collection shows there, in n stripes
   abbrev pub IsShown : ℕ → Touched V → Shown V → Type 0

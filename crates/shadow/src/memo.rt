@@ -7,7 +7,7 @@ ghost use Rattle.seq_model.specs.Counts.{copies};
 ghost use Rattle.conflict.specs.Refusals.{IsTooLong, IsStripeCount};
 ghost use Rattle.base_bag.specs.Conflicts as bag;
 ghost use Rattle.replay_log.specs.Base.{changes_of, shown_of, stripes_of, writes_of};
-ghost use Rattle.shadow.specs.Memo.{IsReadyFor, answer_with, copies_after, copies_kept, entries_after, entries_kept, grown_after, grown_kept, holds, map_answer, shape, shrunk_after, shrunk_kept, with_count, with_counts, with_entry, with_key, with_total, IsTold};
+ghost use Rattle.shadow.specs.Memo.{IsReadyFor, answer_with, copies_after, copies_kept, copies_without, entries_after, entries_kept, entries_without, grown_after, grown_kept, holds, map_answer, shape, shrunk_after, shrunk_kept, total_without, with_count, with_counts, with_entry, with_key, with_total, IsTold};
 
 use base_bag::BagBase;
 use base_map::MapBase;
@@ -142,6 +142,29 @@ impl<V: Value> Memo<V> {
             Touched::Entry(key, value) => hold(&mut self.entries, key, value),
             Touched::Copies(element, copies) => hold(&mut self.copies, element, copies),
             Touched::Counts(counts) => hold_total(&mut self.total, &counts),
+        }
+    }
+
+    /// Holds no more the key of the call, or for the number of all keys their counts: takes back what was added for a call that is not made.
+    /// It takes no memory.
+    pub fn forget(&mut self, op: &Op<V>)
+        ensures blank { self.new.blank ≡ self.old.blank }
+        ensures entries { self.new.entries ≡ entries_without op.now self.old.entries }
+        ensures copies { self.new.copies ≡ copies_without op.now self.old.copies }
+        ensures total { self.new.total ≡ total_without op.now self.old.total }
+        ensures grown { self.new.grown ≡ self.old.grown }
+        ensures shrunk { self.new.shrunk ≡ self.old.shrunk }
+        ensures changes { self.new.changes ≡ self.old.changes }
+        ensures locations { self.new.locations ≡ self.old.locations }
+    {
+        self.ready = None;
+        match op {
+            Op::Get(key) | Op::Put(key, _) | Op::Remove(key) => self.entries.remove(*key),
+            Op::Count(element) | Op::Add(element) | Op::Take(element) => {
+                self.copies.remove(*element)
+            }
+            Op::Len => self.total = None,
+            _ => {}
         }
     }
 
