@@ -28,7 +28,7 @@ use Rattle.actor_words.specs.Judged.{judged, judged_one}
 use Rattle.actor_copies.specs.Owns.{IsHeldAsk, MayCall, read_at}
 use Rattle.actor_copies.proofs.OutcomeLemmas.{outcome_op, writes_nothing}
 
-no_none : (v : ℕ) → Some v ≡ None → ⊥
+pub no_none : (v : ℕ) → Some v ≡ None → ⊥
 no_none v e = cc
 
 pub in_set_some : (declared : Bool) (o : Option ℕ) (v : ℕ) → in_set declared o ≡ Some v → o ≡ Some v

@@ -111,7 +111,7 @@ module _ {V : Type 0} where
   editions_stay o (Keys m es) (Whole u) acc i = absurd acc
   editions_stay o (Whole t) (Keys n fs) acc i = absurd acc
 
-  same_log : (b : Block) (s : Shown V) (xs ys : List (Change V)) (ls ms : List ℕ) (c : Copied V) → ys ≡ xs → ms ≡ ls
+  pub same_log : (b : Block) (s : Shown V) (xs ys : List (Change V)) (ls ms : List ℕ) (c : Copied V) → ys ≡ xs → ms ≡ ls
       → IsOf b s xs ls c → IsOf b s ys ms c
   same_log b s xs ys ls ms c e f is = subst (λ z. IsOf b s z ms c) (sym e) (subst (λ z. IsOf b s xs z c) (sym f) is)
 

@@ -43,14 +43,14 @@ module _ {V : Type 0} where
   after_none (OfPq m) = refl
   after_none (OfQueue m) = refl
 
-  kind_whole : (n : ℕ) (k : Kind) (v : ℕ → Shown V) → kind_of (whole n k v) ≡ k
+  pub kind_whole : (n : ℕ) (k : Kind) (v : ℕ → Shown V) → kind_of (whole n k v) ≡ k
   kind_whole n MapKind v = refl
   kind_whole n BagKind v = refl
   kind_whole n PqKind v = refl
   kind_whole n QueueKind v = refl
 
   -- a collection is the whole of its parts
-  of_parts : (n : ℕ) (k : Kind) (s : Shown V) → 0 < n → kind_of s ≡ k → whole n k (λ i. part n i s) ≡ s
+  pub of_parts : (n : ℕ) (k : Kind) (s : Shown V) → 0 < n → kind_of s ≡ k → whole n k (λ i. part n i s) ≡ s
   of_parts n k s pos is = (λ j. whole n (sym is j) (λ i. part n i s)) ∙ is_whole n s pos
 
   -- a call answers alike where it reads the same parts
@@ -142,11 +142,11 @@ module _ {V : Type 0} where
     bag_touched (Take x) m l same = ap (λ c. Some (Copies x c)) (copies_same m l x (same _ refl))
     bag_touched _ m l same = refl
 
-    nothing_pq : (op : Op V) (m : pq.Shown) → touched_by {V = V} n op (OfPq m) ≡ None
+    pub nothing_pq : (op : Op V) (m : pq.Shown) → touched_by {V = V} n op (OfPq m) ≡ None
     nothing_pq (Get k) m = refl
     nothing_pq _ m = refl
 
-    nothing_queue : (op : Op V) (m : queue.Shown) → touched_by {V = V} n op (OfQueue m) ≡ None
+    pub nothing_queue : (op : Op V) (m : queue.Shown) → touched_by {V = V} n op (OfQueue m) ≡ None
     nothing_queue (Get k) m = refl
     nothing_queue _ m = refl
 

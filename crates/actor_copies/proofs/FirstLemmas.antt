@@ -38,7 +38,7 @@ module _ {V : Type 0} where
   same_kind h i e = ap (λ (z : Touched V). kind_of {V = V} (shape (memo_kind z))) (sym e)
 
   -- what is touched is of the collection's kind
-  kind_touched : (n : ℕ) (op : Op V) (s : Shown V) (h : Touched V) → touched_by n op s ≡ Some h
+  pub kind_touched : (n : ℕ) (op : Op V) (s : Shown V) (h : Touched V) → touched_by n op s ≡ Some h
       → kind_of {V = V} (shape (memo_kind h)) ≡ kind_of s
   kind_touched n (Get k) (OfMap m) h e = same_kind _ h (some_same _ h e)
   kind_touched n (Put k v) (OfMap m) h e = same_kind _ h (some_same _ h e)
@@ -49,7 +49,7 @@ module _ {V : Type 0} where
   kind_touched n (Take x) (OfBag m) h e = same_kind _ h (some_same _ h e)
   kind_touched n op s h e = absurd (none_some h e)
 
-  blank_of : (b : Block) (s : Shown V) (k : MemoKind) (m : MemoView V) (es : Room ℕ) → IsBlank b.stripes k m
+  pub blank_of : (b : Block) (s : Shown V) (k : MemoKind) (m : MemoView V) (es : Room ℕ) → IsBlank b.stripes k m
       → kind_of {V = V} (shape k) ≡ kind_of s → kind_of s ≡ b.kind → IsOf b s [] [] (Keys m es)
   blank_of b s k m es blank same kind = (
     ap kind_of blank.blank ∙ (same ∙ kind),

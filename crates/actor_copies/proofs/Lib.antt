@@ -9,3 +9,5 @@ pub mod KeptLemmas
 pub mod LogLemmas
 pub mod CallingLemmas
 pub mod LoadingLemmas
+pub mod CopiedLemmas
+pub mod TakenLemmas

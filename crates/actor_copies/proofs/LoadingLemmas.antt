@@ -2,7 +2,7 @@
 -- shadow answers. Were the acceptance refused, the world after the step would have told one call more than its shadow has outcomes; so the
 -- guard holds (`allowed`). Each location was read with the copied edition first: the read set says so of one that keeps a read set, and a
 -- declared reader reads all from one memory (`read_again`).
-use Rattle.std.proofs.Common.{◌≡◌, ◌≢◌, ℕ, Bool, true, false, cond, not, ◌&&◌, eqb, eq-eqb, eqb-true, ne_eqb, List, [], ◌∷◌, ◌++◌, Option, Some, None, inl, inr, refl, sym, ap, subst, ◌∙◌, true≢false}
+use Rattle.std.proofs.Common.{◌≡◌, ℕ, Bool, true, false, cond, not, ◌&&◌, eqb, eq-eqb, eqb-true, ne_eqb, List, [], ◌∷◌, ◌++◌, Option, Some, None, inl, inr, refl, sym, ap, subst, ◌∙◌, true≢false}
 use Rattle.std.specs.Prelude.{unwrap_or, ◌==◌}
 use Rattle.std.proofs.lemmas.Bool.{cases_eq, cond-true, cond-false}
 use Rattle.std.proofs.lemmas.List.Elements.{filter-append}
@@ -27,7 +27,7 @@ use Rattle.collection_machine.specs.Boosted.{Accept, Boosted, changes, every, is
 use Rattle.replay_log.specs.Base.{Shown}
 use Rattle.replay_log.specs.Contents.{Answered, Block, HaveStripes, content, is_plain}
 use Rattle.replay_log.specs.Guards.{Allows}
-use Rattle.replay_log.specs.Worlds.{World, Seat, Stage, Loading, Open, After, acted, actor_of, call_of, happens, asks, at_stage, has_loaded, moves, opened, outcome_at, reply_of, run, seated, step_at, with_call, word_notice}
+use Rattle.replay_log.specs.Worlds.{World, Seat, Stage, Loading, After, acted, actor_of, call_of, happens, asks, at_stage, has_loaded, moves, opened, outcome_at, reply_of, run, seated, step_at, with_call, word_notice}
 use Rattle.replay_log.proofs.ActionLemmas.{learns, mine}
 use Rattle.replay_log.proofs.CallLemmas.{reading_none, reading_unwritten}
 use Rattle.replay_log.proofs.EventLemmas.{opened_linked, run_linked}

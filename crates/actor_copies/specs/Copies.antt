@@ -1,5 +1,5 @@
 -- What a transaction has of one collection, and what that is of its shadow in a world.
-use Rattle.std.specs.Prelude.{◌≡◌, ℕ, ◌+◌, ◌<◌, ◌++◌, Bool, true, false, List, Option, Some, is_some, slice_get}
+use Rattle.std.specs.Prelude.{◌≡◌, ℕ, ◌+◌, ◌<◌, ◌++◌, Bool, true, false, List, Option, Some, None, is_some, slice_get}
 use Rattle.std.specs.FinMap as map
 use Rattle.seq_model.specs.declared.call.Op.{Op}
 use Rattle.conflict.specs.declared.change.Change.{Change}
@@ -8,7 +8,7 @@ use Rattle.replay_log.specs.declared.base.Base.{Base}
 use Rattle.replay_log.specs.declared.touch.Touch.{Touch}
 use Rattle.seq_model.specs.Entries.{inserts}
 use Rattle.replay_log.specs.Base.{Shown, OfMap, OfBag, after, changes_of, editions_of, outcome_of, shown_of, stripes_of, writes_of}
-use Rattle.replay_log.specs.Parts.{kind_of, part}
+use Rattle.replay_log.specs.Parts.{Kind, PqKind, QueueKind, kind_of, part}
 use Rattle.replay_log.specs.Pieces as pieces
 use Rattle.replay_log.specs.Pieces.{Piece, is_piece}
 use Rattle.replay_log.specs.Touches.{editions_at, touched_by, touched_places}
@@ -24,11 +24,22 @@ use Rattle.actor_copies.specs.declared.copies.Found.{Found}
 use Rattle.actor_copies.specs.declared.copies.Found.TheVariants as found
 use Rattle.actor_copies.specs.declared.copies.Copied.TheVariants.{Keys, Whole}
 
+-- a priority queue and a queue are copied whole
+abbrev pub is_copied_whole : Kind → Bool
+is_copied_whole PqKind = true
+is_copied_whole QueueKind = true
+is_copied_whole k = false
+
 module _ {V : Type 0} where
   -- it has what the call touches, and what that answers after the accepted calls
   abbrev pub holds_call : Copied V → Op V → Bool
   holds_call (Keys m es) op = holds m op
   holds_call (Whole s) op = true
+
+  -- whether what there is of a collection has what the call touches; where there is nothing, it has not
+  abbrev pub holds_of : Option (Copied V) → Op V → Bool
+  holds_of None op = false
+  holds_of (Some c) op = holds_call c op
 
   abbrev pub answer_of : Copied V → Op V → Option (Outcome V)
   answer_of (Keys m es) op = answer_with (shown_of m.blank) m.entries m.copies m.total m.grown m.shrunk op
@@ -101,6 +112,7 @@ module _ {V : Type 0} where
       × (t.editions ≡ editions_at (touched_places (stripes_of base) t.held) (editions_of base))
   IsFound base op (found.Whole c) =
       (shown_of c ≡ shown_of base) × (stripes_of c ≡ stripes_of base) × (editions_of c ≡ editions_of base)
+      × (is_copied_whole (kind_of (shown_of base)) ≡ true)
 
   -- ---- of a collection s in the block b, with the log of its own accepted calls
   abbrev pub IsOf : Block → Shown V → List (Change V) → List ℕ → Copied V → Type 0

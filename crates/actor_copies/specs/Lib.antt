@@ -7,3 +7,4 @@ pub mod Keeps
 pub mod Owns
 pub mod Logs
 pub mod Loading
+pub mod Copied

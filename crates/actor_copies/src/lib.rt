@@ -4,6 +4,7 @@
 //! acceptance. The laws say what the definitions make of copies and of calls on them.
 #![tactic(auto)]
 
+mod copied;
 mod copies;
 mod first;
 mod footprints;
@@ -11,6 +12,7 @@ pub mod laws;
 mod weighed;
 mod writes;
 
+pub use copied::copied_as_worlds;
 pub use copies::{Copied, CopyOf, Found, find};
 pub use first::{Footprint, find_footprint, first_copy};
 pub use footprints::place_of;

@@ -42,13 +42,13 @@ use Rattle.tx_actor.specs.Answers.{CopiesAfter, MayAccept, MayAnswer}
 use Rattle.actor_words.specs.Blocks.{BlocksView, IsLaid}
 use Rattle.tx_actor.specs.Calls.{AsksOwn, CanCall, ask_call, is_allowed}
 use Rattle.actor_copies.specs.Copies as copies
-use Rattle.actor_copies.specs.Copies.{answer_of, answered_on, holds_call}
+use Rattle.actor_copies.specs.Copies.{answer_of, answered_on, holds_call, holds_of}
 use Rattle.actor_copies.specs.Footprints.{IsPlaceOf, base_in, known_edition, places_in, reads_in, with_known, writes_in}
 use Rattle.actor_words.specs.Judged.{comes_to, judged, left_after}
 use Rattle.actor_copies.specs.Keeps.{IsOwnCopy, call_on}
 use Rattle.actor_copies.specs.Owns.{IsHeldAsk, IsOwn, MayCall, read_at}
 use Rattle.tx_actor.specs.Owns.{OwnsCopies}
-use Rattle.tx_actor.specs.Prepares.{ArePrepared, IsAlike, IsHeldAt, IsReadyCall, MayPrepare, holds_of}
+use Rattle.tx_actor.specs.Prepares.{ArePrepared, IsAlike, IsHeldAt, IsReadyCall, MayPrepare}
 use Rattle.tx_actor.specs.Running.{Runs, asked_of, answered_of, notice_of, seat_of, with_outcome, is_recorded, seat_at, seat_in}
 use Rattle.actor_copies.specs.Kept.{copy_of, has_piece}
 use Rattle.actor_copies.specs.Writes.{with_next, written_as}

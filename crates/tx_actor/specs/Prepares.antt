@@ -13,7 +13,7 @@ use Rattle.tx_actor.specs.declared.actor.TxActor.{TxActor}
 use Rattle.actor_copies.specs.declared.copies.Copied.{Copied}
 use Rattle.tx_actor.specs.declared.prepares.Prepared.{Prepared}
 use Rattle.tx_actor.specs.Answers.{IsPrepared}
-use Rattle.actor_copies.specs.Copies.{IsKept, IsReady, answer_of, holds_call}
+use Rattle.actor_copies.specs.Copies.{IsKept, IsReady, answer_of, holds_call, holds_of}
 use Rattle.actor_copies.specs.Footprints.{base_in, places_in, reads_in, with_known, writes_in}
 use Rattle.actor_copies.specs.Kept.{copy_of}
 use Rattle.actor_copies.specs.Writes.{with_next}
@@ -85,11 +85,6 @@ pub record IsHeldAt {V : Type 0} (cs : List (CopyOf V)) (i k : ℕ) (op : Op V) 
   pub of : copy_of cs k ≡ Some copy.copied
   pub collection : copy.collection ≡ k
   pub holds : holds_call copy.copied op ≡ true
-
--- whether what there is of a collection has what the call touches; where there is nothing, it has not
-abbrev pub holds_of : {V : Type 0} → Option (Copied V) → Op V → Bool
-holds_of {V} None op = false
-holds_of {V} (Some c) op = holds_call c op
 
 -- where the copy of collection k stands that holds the call; none, if there is no such
 abbrev pub IsHeldPlace : {V : Type 0} → List (CopyOf V) → ℕ → Op V → Option ℕ → Type 0

@@ -1,0 +1,107 @@
+-- What is copied for a call while its gate is held, and what its transaction has of the collection then.
+use Rattle.std.specs.Prelude.{◌≡◌, ◌⊎◌, ℕ, ◌+◌, ◌<◌, true, false, List, Option, Some, None, Contains}
+use Rattle.word_machine.specs.Actor.{Call}
+use Rattle.word_machine.specs.Opacity.{first_read}
+use Rattle.conflict.specs.declared.outcome.Outcome.{Outcome}
+use Rattle.collection_machine.specs.Boosted.{Shadow as Part}
+use Rattle.replay_log.specs.declared.base.Base.{Base}
+use Rattle.replay_log.specs.Base.{Shown, editions_of, shown_of}
+use Rattle.replay_log.specs.Contents.{Answered, Asked, Block, HaveStripes, block_of, content, first_of, shifted, size}
+use Rattle.replay_log.specs.Parts.{part}
+use Rattle.std.specs.Prelude.{Bool, slice_index, if◌then◌else◌}
+use Rattle.actor_copies.specs.declared.copies.Copied.{Copied}
+use Rattle.actor_copies.specs.declared.copies.Copied.TheVariants.{Keys, Whole}
+use Rattle.actor_copies.specs.declared.copies.Found.{Found}
+use Rattle.actor_copies.specs.declared.copies.Found.TheVariants as found
+use Rattle.actor_copies.specs.Copies.{IsFound, IsLearnt, answer_of, holds_call, holds_of}
+use Rattle.actor_copies.specs.First.{IsFirst}
+use Rattle.actor_copies.specs.Footprints.{reads_in, with_known, writes_in}
+use Rattle.actor_copies.specs.Keeps.{IsOwnCopy}
+use Rattle.actor_copies.specs.Loading.{AreRead, IsDoomed}
+use Rattle.actor_copies.specs.Owns.{IsOwn}
+use Rattle.actor_words.specs.Shows.{put_back}
+use Rattle.seq_model.specs.declared.event.Event.{Event}
+use Rattle.seq_model.specs.declared.held.Held.{Held}
+use Rattle.atomic_steps.specs.Bases.{IsBaseOf, ShowsBase}
+use Rattle.replay_log.specs.Worlds.{Copying, World, actor_of, has_room, opened, outcome_at, run, sized_by, with_editions}
+
+module _ {V : Type 0} where
+  -- each location that a call on a held key reads has been read: with what edition first
+  abbrev pub IsReadBy : (ℕ → Option ℕ) → (f : ℕ) → Copied V → Type 0
+  IsReadBy read f (Keys m es) =
+      (o : Outcome V) → holds_call (Keys m es) o.op ≡ true → (i : ℕ) → Contains (reads_in (Keys m es) o) i
+      → (e : ℕ) × (read (f + i) ≡ Some e)
+  IsReadBy read f (Whole s) = Unit {0}
+
+  -- what there is of a collection in n stripes, once this was found of it
+  abbrev pub IsTaken : ℕ → Found V → Option (Copied V) → Copied V → Type 0
+  IsTaken n x None d = IsFirst n x d
+  IsTaken n (found.Keys t) (Some c) d = IsLearnt t c d
+  IsTaken n (found.Whole base) (Some c) d = d ≡ c
+
+  -- what an actor has copied, once these locations are copied as they are now
+  abbrev pub taken_from : (taken : ℕ → Bool) → (now : ℕ → Shown V) → (editions : ℕ → ℕ) → Part (Shown V) (Answered V)
+      → Part (Shown V) (Answered V)
+  taken_from taken now editions x =
+      record x {
+        copied = λ l. if taken l then true else x.copied l;
+        parts = λ l. if taken l then now l else x.parts l;
+        editions = λ l. if taken l then editions l else x.editions l;
+      }
+
+  -- the same of what actor a has of collection k; where it has nothing, nothing was read there
+  abbrev pub IsReadOf : World V → (a k : ℕ) → Option (Copied V) → Type 0
+  IsReadOf w a k (Some c) = IsReadBy (first_read (actor_of w a).calls) (first_of w.words w.blocks k) c
+  IsReadOf w a k None =
+      (b : Block) → block_of w.blocks k ≡ Some b → (i : ℕ) → i < size b
+      → first_read (actor_of w a).calls (first_of w.words w.blocks k + i) ≡ None
+
+-- The base that is found shows what there is now from location f on; what was read there with an edition was copied with it, and is the
+-- same now where that edition stands.
+pub record IsFoundAt {V : Type 0} (b : Block) (f : ℕ) (x : Part (Shown V) (Answered V)) (base : Base V) (now : ℕ → Shown V)
+    (editions : ℕ → ℕ) (read : ℕ → Option ℕ) : Type 0 where
+  pub shows : (i : ℕ) → i < size b → now (f + i) ≡ part b.stripes i (shown_of base)
+  pub dated : (i : ℕ) → i < size b → editions (f + i) ≡ slice_index (editions_of base) i
+  pub sound : (i e : ℕ) → i < size b → read (f + i) ≡ Some e → (x.copied (f + i) ≡ true) × (x.editions (f + i) ≡ e)
+  pub same : (i e : ℕ) → i < size b → read (f + i) ≡ Some e → editions (f + i) ≡ e → x.parts (f + i) ≡ now (f + i)
+
+-- These are copied: of a block what is covered and was not read.
+pub record AreTaken (b : Block) (f : ℕ) (read : ℕ → Option ℕ) (which taken : ℕ → Bool) : Type 0 where
+  pub takes : (i : ℕ) → i < size b → which (f + i) ≡ true → read (f + i) ≡ None → taken (f + i) ≡ true
+  pub leaves : (i e : ℕ) → i < size b → read (f + i) ≡ Some e → taken (f + i) ≡ false
+  pub covers : (i : ℕ) → i < size b → which (f + i) ≡ false → taken (f + i) ≡ false
+
+-- What actor a has of the collection that it asked a call of, which lies in block b, once it is copied and the gate put back: d is its own
+-- copy, or one of the locations that the call reads was read with another edition. It holds the call, which is judged with the editions of
+-- the base, and its locations fit the sets where those of the definitions' outcome do. Once these have been read, with further calls, each
+-- location that a call on a held key reads has been.
+pub record IsCopyFor {V : Type 0} (w : World V) (a : ℕ) (b : Block) (asked : Asked V) (d : Copied V) : Type 0 where
+  pub own : let u = put_back a w asked in
+      let f = first_of w.words w.blocks asked.collection in
+      IsOwnCopy u a asked.collection b f d
+      ⊎ ((o : Outcome V) → answer_of d asked.op ≡ Some o → IsDoomed (actor_of u a).calls (with_known d f (reads_in d o)))
+  pub editions : let u = put_back a w asked in
+      let f = first_of w.words w.blocks asked.collection in
+      (o : Outcome V) → answer_of d asked.op ≡ Some o →
+      with_editions w.boosted.editions ((content w.words w.blocks).reads (outcome_at u a asked)) ≡ with_known d f (reads_in d o)
+  pub holds : holds_call d asked.op ≡ true
+  pub room : let u = put_back a w asked in
+      let f = first_of w.words w.blocks asked.collection in
+      let c = content w.words w.blocks in
+      let sized = sized_by u a asked (outcome_at u a asked) in
+      (o : Outcome V) → answer_of d asked.op ≡ Some o →
+      has_room (actor_of w a) (c.reads sized) (c.writes sized)
+      ≡ has_room (actor_of w a) (shifted f (reads_in d o)) (shifted f (writes_in d o))
+  pub read : let f = first_of w.words w.blocks asked.collection in
+      (cs : List Call) (o : Outcome V) → ((l e : ℕ) → first_read (actor_of w a).calls l ≡ Some e → first_read cs l ≡ Some e)
+      → answer_of d asked.op ≡ Some o → AreRead cs (with_known d f (reads_in d o)) → IsReadBy (first_read cs) f d
+
+-- So it is in every world that events have reached in which what the actor had was its own, and was read.
+abbrev pub CopiesFor : Type 0 → Type 0
+CopiesFor V =
+    (blocks : List Block) (clock : ℕ) (values : List ℕ) (held : List (Held V)) (events : List (Event V)) (a : ℕ) (b : Block)
+    (asked : Asked V) (base : Base V) (x : Found V) (c : Option (Copied V)) (d : Copied V) → HaveStripes blocks →
+    let w = run (opened blocks clock values held) events in
+    (w.seats a).stage ≡ Copying asked → block_of w.blocks asked.collection ≡ Some b → IsBaseOf b base
+    → ShowsBase w.words w.blocks w asked.collection base → IsOwn w a asked.collection c → IsReadOf w a asked.collection c
+    → holds_of c asked.op ≡ false → IsFound base asked.op x → IsTaken b.stripes x c d → IsCopyFor w a b asked d
