@@ -1,4 +1,4 @@
-//! Each line of the grammar, well formed and ill formed.
+//! What each line of the grammar is read as.
 use crate::runs::expect_refused;
 use seq_model::{Call, Held, Op, Refusal, Request};
 use std::alloc::{AllocError, Global};
@@ -15,180 +15,17 @@ fn expect_bad_lines(rt: &impl Abort, alloc: Global, scripts: &[&[u8]]) -> Result
     Ok(())
 }
 
-fn expect_bad_second_lines(rt: &impl Abort, alloc: Global, scripts: &[&[u8]]) -> Result<(), Fail> {
-    for script in scripts {
-        expect_refused(rt, alloc, script, b"line 2: BadText\n".as_slice())?;
-    }
-    Ok(())
-}
-
+// Bytes that no line of a text file has; all other lines stand in `script_tests`.
 #[test]
-fn numbers_and_line_ends(rt: HostRuntime) -> Result<(), Fail> {
-    let scripts: [&[u8]; 12] = [
-        b"words 01\n",
-        b"words 00\n",
-        b"words -1\n",
-        b"words +1\n",
-        b"words 1x\n",
-        b"words 18446744073709551616\n",
-        b"words 99999999999999999999999\n",
+fn bytes_outside_of_lines(rt: HostRuntime) -> Result<(), Fail> {
+    let scripts: [&[u8]; 5] = [
         b"words 1\r\n",
-        b"words 1",
         b"words 1\0\n",
         b"words \xff\n",
         b"\xff\n",
-    ];
-    expect_bad_lines(&rt, rt.alloc(), scripts.as_slice())
-}
-
-#[test]
-fn spaces(rt: HostRuntime) -> Result<(), Fail> {
-    let scripts: [&[u8]; 9] = [
-        b"\n",
-        b" \n",
-        b" words 1\n",
-        b"words 1 \n",
-        b"words  1\n",
         b"words\t1\n",
-        b"1  do begin\n",
-        b"1 do begin \n",
-        b"# remark\n",
     ];
     expect_bad_lines(&rt, rt.alloc(), scripts.as_slice())
-}
-
-#[test]
-fn header_lines(rt: HostRuntime) -> Result<(), Fail> {
-    let scripts: [&[u8]; 12] = [
-        b"words\n",
-        b"clock\n",
-        b"clock 1 2\n",
-        b"map\n",
-        b"map 01\n",
-        b"map 1 5\n",
-        b"map 1 5:\n",
-        b"map 1 :5\n",
-        b"map 1 5:1:1\n",
-        b"map 1 05:1\n",
-        b"Map 1\n",
-        b"tree 1\n",
-    ];
-    expect_bad_lines(&rt, rt.alloc(), scripts.as_slice())
-}
-
-#[test]
-fn contents_of_collections(rt: HostRuntime) -> Result<(), Fail> {
-    let scripts: [&[u8]; 10] = [
-        b"map 1 2:1 1:1\n",
-        b"map 1 2:1 2:2\n",
-        b"bag 1 3:0\n",
-        b"bag 1 3:1 3:1\n",
-        b"bag 1 3\n",
-        b"pq 1 3:0\n",
-        b"pq 1 3:1 2:1\n",
-        b"pq 1 3\n",
-        b"queue 1 1:1\n",
-        b"queue\n",
-    ];
-    expect_bad_lines(&rt, rt.alloc(), scripts.as_slice())
-}
-
-#[test]
-fn header_lines_out_of_order(rt: HostRuntime) -> Result<(), Fail> {
-    let scripts: [&[u8]; 8] = [
-        b"words 1\nwords 2\n",
-        b"clock 1\nwords 2\n",
-        b"clock 1\nclock 1\n",
-        b"map 1\nwords 1\n",
-        b"map 1\nclock 1\n",
-        b"1 begin\nmap 1\n",
-        b"1 begin\nclock 1\n",
-        b"bag 1 3:4294967296\nbag\n",
-    ];
-    expect_bad_second_lines(&rt, rt.alloc(), scripts.as_slice())
-}
-
-#[test]
-fn actors_and_steps(rt: HostRuntime) -> Result<(), Fail> {
-    let scripts: [&[u8]; 12] = [
-        b"0 do begin\n",
-        b"65 do begin\n",
-        b"4294967297 do begin\n",
-        b"1\n",
-        b"1 step 0\n",
-        b"1 step 1000001\n",
-        b"1 step 1 1\n",
-        b"1 go 1\n",
-        b"1 starve 1\n",
-        b"1 stop\n",
-        b"do begin\n",
-        b"01 begin\n",
-    ];
-    expect_bad_lines(&rt, rt.alloc(), scripts.as_slice())
-}
-
-#[test]
-fn turns_of_two_actors(rt: HostRuntime) -> Result<(), Fail> {
-    let scripts: [&[u8]; 6] = [
-        b"alt\n",
-        b"alt 1\n",
-        b"alt 1 1\n",
-        b"alt 0 1\n",
-        b"alt 1 65\n",
-        b"alt 1 2 3\n",
-    ];
-    expect_bad_lines(&rt, rt.alloc(), scripts.as_slice())
-}
-
-#[test]
-fn requests(rt: HostRuntime) -> Result<(), Fail> {
-    let scripts: [&[u8]; 12] = [
-        b"1 do\n",
-        b"1 do do begin\n",
-        b"1 do step\n",
-        b"1 begin 1\n",
-        b"1 commit 1\n",
-        b"1 abort 1\n",
-        b"1 read\n",
-        b"1 read 1 1\n",
-        b"1 write 0\n",
-        b"1 write 0 1 2\n",
-        b"1 call 0\n",
-        b"1 call len\n",
-    ];
-    expect_bad_lines(&rt, rt.alloc(), scripts.as_slice())
-}
-
-#[test]
-fn ops(rt: HostRuntime) -> Result<(), Fail> {
-    let scripts: [&[u8]; 12] = [
-        b"1 call 0 get\n",
-        b"1 call 0 put 1\n",
-        b"1 call 0 remove\n",
-        b"1 call 0 len 1\n",
-        b"1 call 0 count\n",
-        b"1 call 0 add\n",
-        b"1 call 0 take\n",
-        b"1 call 0 least 1\n",
-        b"1 call 0 insert\n",
-        b"1 call 0 enqueue\n",
-        b"1 call 0 dequeue 1\n",
-        b"1 call 0 read 1\n",
-    ];
-    expect_bad_lines(&rt, rt.alloc(), scripts.as_slice())
-}
-
-#[test]
-fn ill_formed_events_behind_a_header(rt: HostRuntime) -> Result<(), Fail> {
-    let scripts: [&[u8]; 6] = [
-        b"words 1\n65 do begin\n",
-        b"words 1\n1 step 0\n",
-        b"words 1\n\n",
-        b"map 1\n1 do beg",
-        b"map 1\n1 do begin",
-        b"map 0\n1 do beg\n",
-    ];
-    expect_bad_second_lines(&rt, rt.alloc(), scripts.as_slice())
 }
 
 // The script's one line.

@@ -1,8 +1,7 @@
-//! Tests of the program: its texts, and whole runs over readers and writers in memory.
+//! Tests of the program: its texts, and runs over readers and writers in memory that no script spells. Runs of whole scripts are
+//! those of `script_tests`.
 #![tactic(auto)]
 
-#[cfg(test)]
-mod events;
 #[cfg(test)]
 mod grammar;
 #[cfg(test)]
@@ -13,5 +12,3 @@ mod prints;
 mod runs;
 #[cfg(test)]
 mod scripts;
-#[cfg(test)]
-mod words;

@@ -1,18 +1,9 @@
 //! What is refused beyond a limit, in the order in which faults are found.
-use crate::runs::{expect_refused, had_memory, room, run, words_of};
+use crate::runs::{had_memory, room, run, words_of};
 use command_line::{REFUSED, run_tool};
 use std::io;
 use std::io::Read;
 use std::test::Fail;
-
-#[test]
-fn numbers_beyond_a_limit(rt: HostRuntime) -> Result<(), Fail> {
-    let alloc = rt.alloc();
-    expect_refused(&rt, alloc, b"bag 1 3:4294967296\n", b"TooLong\n")?;
-    expect_refused(&rt, alloc, b"pq 1 3:4294967296\n", b"TooLong\n")?;
-    expect_refused(&rt, alloc, b"clock 4611686018427387905\n", b"TooLong\n")?;
-    Ok(())
-}
 
 /// Gives zeros without end.
 #[derive(Drop)]

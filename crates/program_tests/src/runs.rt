@@ -49,21 +49,6 @@ pub fn step(alloc: Global, text: &[u8]) -> Result<Left, AllocError> {
     run(alloc, &["step", "-"], text)
 }
 
-/// The script must print this, with status 0 and no fault.
-pub fn expect_printed(
-    rt: &impl Abort,
-    alloc: Global,
-    name: &str,
-    script: &[u8],
-    printed: &[u8],
-) -> Result<(), AllocError> {
-    let left = step(alloc, script)?;
-    assert_eq!(rt; left.err.as_slice(), b"".as_slice(), "{name}");
-    assert_eq!(rt; left.out.as_slice(), printed, "{name}");
-    assert_eq!(rt; left.status, DONE, "{name}");
-    Ok(())
-}
-
 /// The script must be refused with this fault, and nothing printed.
 pub fn expect_refused(
     rt: &impl Abort,
@@ -79,22 +64,10 @@ pub fn expect_refused(
 }
 
 #[test]
-fn a_bad_line_is_named(rt: HostRuntime) -> Result<(), Fail> {
-    let left = step(rt.alloc(), b"map 1\n1 do beg")?;
-    assert_eq!(rt; left.status, REFUSED);
-    assert_eq!(rt; left.out.as_slice(), b"".as_slice());
-    assert_eq!(rt; left.err.as_slice(), b"line 2: BadText\n".as_slice());
-    Ok(())
-}
-
-#[test]
-fn refused_words_and_shapes(rt: HostRuntime) -> Result<(), Fail> {
+fn refused_words(rt: HostRuntime) -> Result<(), Fail> {
     let words = run(rt.alloc(), &["stride", "-"], b"")?;
     assert_eq!(rt; words.status, REFUSED);
     assert_eq!(rt; words.out.as_slice(), b"".as_slice());
-    let shape = step(rt.alloc(), b"map 2\n")?;
-    assert_eq!(rt; shape.status, REFUSED);
-    assert_eq!(rt; shape.err.as_slice(), b"NoSuch\n".as_slice());
     Ok(())
 }
 
