@@ -1,3 +1,4 @@
+pub mod FeedLemmas
 pub mod HomeLemmas
 pub mod OpeningLemmas
 pub mod PartsLemmas

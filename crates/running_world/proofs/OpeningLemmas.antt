@@ -22,7 +22,7 @@ use Rattle.world_table.specs.Tables.{HasTable}
 use Rattle.running_world.specs.declared.parts.Parts.{Parts}
 use Rattle.running_world.specs.declared.trace.Ended.{Ended}
 use Rattle.running_world.specs.Openings.{AreIdle, IsIdle}
-use Rattle.running_world.specs.Parts.{IsSeat, IsWorld, ended_of, total_owed}
+use Rattle.running_world.specs.Parts.{IsWorld, ended_of, total_owed}
 use Rattle.running_world.proofs.SeatLemmas.{idle_as}
 
 module _ {V : Type 0} where

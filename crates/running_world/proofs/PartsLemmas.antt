@@ -1,7 +1,7 @@
 -- An event of the actor at a place leaves a world with the parts that its method leaves: the table and the actor by what the event makes
 -- of both, the records and the aborted transactions by what a step adds to them.
-use Rattle.std.proofs.Common.{◌≡◌, ℕ, ◌+◌, ◌≤◌, Bool, true, false, true≢false, List, [], ◌∷◌, ◌++◌, map, Option, Some, None, refl, sym, ap, ◌∙◌}
-use Rattle.std.proofs.Common.{subst, inl, inr, arith}
+use Rattle.std.proofs.Common.{◌≡◌, ℕ, ◌+◌, ◌≤◌, Bool, true, false, List, [], ◌∷◌, ◌++◌, map, Option, Some, None, refl, sym, ap, ◌∙◌}
+use Rattle.std.proofs.Common.{subst, inl, arith}
 use Rattle.std.specs.Prelude.{slice_get, slice_set}
 use Rattle.std.specs.declared.alloc.Global.{Global}
 use Rattle.std.specs.declared.vec.Vec.{Vec}
@@ -14,11 +14,9 @@ use Rattle.seq_model.specs.Runs.{insert_record}
 use Rattle.seq_model.specs.declared.event.Event.TheVariants.{Ask, Step, Starve}
 use Rattle.seq_model.specs.declared.event.Request.{Request}
 use Rattle.seq_model.specs.declared.record.Record.{Record}
-use Rattle.seq_model.specs.declared.refusal.Refusal.TheVariants.{NoTransaction}
-use Rattle.seq_model.specs.Contents.{Contents}
 use Rattle.replay_log.specs.Contents.{Block}
 use Rattle.replay_log.specs.Seats as seats
-use Rattle.replay_log.specs.Worlds.{World, Seat, Stage, Closing, Leaving, Ready, ask_at, happens}
+use Rattle.replay_log.specs.Worlds.{Seat, Stage, Closing, Leaving, Ready, ask_at}
 use Rattle.replay_log.specs.WorldTraces.{committed_by, ended_by, with_record}
 use Rattle.replay_log.proofs.TraceLemmas.{asked_adds, starved_adds, steps_end}
 use Rattle.step_core.specs.CellSteps.{Grows}
@@ -33,15 +31,13 @@ use Rattle.tx_actor.specs.Running.{is_recorded, seat_at, seat_of, stage_of}
 use Rattle.tx_actor.specs.declared.actor.Stage as own
 use Rattle.tx_actor.specs.declared.actor.Stage.TheVariants as stage
 use Rattle.tx_actor.specs.declared.actor.Told.{Told}
-use Rattle.tx_actor.specs.declared.actor.Told.TheVariants as told
 use Rattle.tx_actor.specs.declared.actor.TxActor.{TxActor}
 use Rattle.actor_words.specs.declared.next.Next.TheVariants as next
 use Rattle.world_table.specs.Openings.{HasShape}
 use Rattle.world_table.specs.declared.table.Table.{Table}
 use Rattle.running_world.specs.declared.parts.Parts.{Parts}
 use Rattle.running_world.specs.declared.trace.Ended.{Ended}
-use Rattle.running_world.specs.Parts.{Happens, IsStarved, IsWorld, Stays, ended_of}
-use Rattle.running_world.specs.Reached.{IsReached}
+use Rattle.running_world.specs.Parts.{Happens, IsStarved, Stays, ended_of}
 use Rattle.running_world.specs.Turns.{IsTurn}
 use Rattle.running_world.proofs.SeatLemmas.{seated_by, stage_by}
 use Rattle.running_world.proofs.TurnLemmas.{ask_turns, first_is, starve_turns}

@@ -1,12 +1,12 @@
 -- The seat that a world has of a running actor: but for what is left open while a call is read for, and once its record is made, it is what
 -- the actor shows. What a request, a want of memory or a step makes of it hangs on nothing that is left open.
-use Rattle.std.proofs.Common.{◌≡◌, ℕ, Bool, true, false, true≢false, List, refl, sym, ap, ◌∙◌, subst, cond}
+use Rattle.std.proofs.Common.{◌≡◌, ℕ, false, true≢false, List, refl, sym, ap, ◌∙◌, subst}
 use Rattle.std.specs.Prelude.{not, filter, if◌then◌else◌}
 use Rattle.tx_sets.specs.Entries.{locations}
 use Rattle.word_machine.specs.Actor.{Actor}
 use Rattle.seq_model.specs.declared.event.Request.{Request}
 use Rattle.replay_log.specs.Contents.{Block, home_of, is_plain}
-use Rattle.replay_log.specs.Worlds.{World, Seat, Stage, Idle, Ready, actor_of, all_of, ask_at, at_stage, distinct, is_half_done, no_one, starve_at}
+use Rattle.replay_log.specs.Worlds.{World, Seat, Idle, Ready, actor_of, all_of, ask_at, at_stage, distinct, is_half_done, no_one, starve_at}
 use Rattle.replay_log.specs.Worlds.{written_homes}
 use Rattle.atomic_steps.specs.Own.{Alike}
 use Rattle.actor_words.specs.Dispatch.{is_loading, next_of}

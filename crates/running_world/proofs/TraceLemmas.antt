@@ -2,7 +2,7 @@
 -- what is serial of the world is serial of the trace, and where no number is half done no actor is.
 use Rattle.std.proofs.Common.{◌≡◌, ℕ, zero, suc, ◌+◌, ◌-◌, ◌<◌, ◌≤◌, Bool, true, false, ◌&&◌, ◌==◌, List, [], ◌∷◌, ◌++◌, map, Option, Some, None}
 use Rattle.std.proofs.Common.{length, get_or, take, refl, sym, ap, ◌∙◌, subst, inl, inr, arith, true≢false}
-use Rattle.std.specs.Prelude.{if◌then◌else◌, slice_get, nat_le}
+use Rattle.std.specs.Prelude.{if◌then◌else◌, slice_get}
 use Rattle.std.proofs.Math.Seq.{take-suc}
 use Rattle.std.proofs.lemmas.Bool.{cases_Bool, cases_lt}
 use Rattle.std.proofs.lemmas.Bool.Decides.{nat_tests}
@@ -11,7 +11,7 @@ use Rattle.seq_model.specs.Contents.{Contents}
 use Rattle.seq_model.specs.Runs.{IsInCommitOrder, IsRun, after_run}
 use Rattle.collection_machine.specs.Content.{has}
 use Rattle.replay_log.specs.Seats as seats
-use Rattle.replay_log.specs.Worlds.{World, Seat, Stage, no_one, half, is_half_done, opened, run, state}
+use Rattle.replay_log.specs.Worlds.{World, Seat, no_one, half, is_half_done, opened, run, state}
 use Rattle.replay_log.specs.WorldTraces.{half_in}
 use Rattle.replay_log.specs.WorldSerial.{AllSaw, AreHalfDone, IsSerial}
 use Rattle.replay_log.proofs.RecordLemmas.{all_own, half_done}
@@ -24,7 +24,7 @@ use Rattle.tx_actor.specs.declared.actor.TxActor.{TxActor}
 use Rattle.running_world.specs.declared.parts.Parts.{Parts}
 use Rattle.running_world.specs.declared.trace.Ended.{Ended}
 use Rattle.running_world.specs.declared.trace.Trace.{Trace}
-use Rattle.running_world.specs.Parts.{IsSeat, IsWorld, ended_of}
+use Rattle.running_world.specs.Parts.{IsWorld, ended_of}
 use Rattle.running_world.specs.Reached.{IsReached}
 use Rattle.running_world.specs.Traces.{IsSerialTrace, IsTraceOf, is_half, seat_at, seat_found, with_number}
 use Rattle.running_world.proofs.SeatLemmas.{IsLike, like_as}

@@ -3,7 +3,7 @@
 -- A request and a want of memory change nothing that is shared, so the table stands. A step of the words is the machine's on the table, and
 -- then what the actor makes of what it was told: that changes nothing that is shared either. Between the two, the actor has its seat as
 -- before, and its word actor after the step; the collections that it has written stand, since a step of a locking actor writes nothing.
-use Rattle.std.proofs.Common.{◌≡◌, ℕ, ◌+◌, Bool, true, false, true≢false, List, [], ◌∷◌, Option, Some, None, Result, ◌≤◌, inl, inr, refl, sym, ap, ◌∙◌, subst, arith, drop}
+use Rattle.std.proofs.Common.{◌≡◌, ℕ, ◌+◌, Bool, true, false, List, [], ◌∷◌, Option, Some, None, Result, ◌≤◌, inl, inr, refl, sym, ap, ◌∙◌, subst, arith, drop}
 use Rattle.std.specs.Prelude.{not, filter}
 use Rattle.std.specs.declared.alloc.Global.{Global}
 use Rattle.std.specs.declared.vec.Vec.{Vec}
@@ -61,7 +61,6 @@ use Rattle.tx_actor.specs.Running.{KnowsHomes, Runs, is_recorded, notice_of, sea
 use Rattle.tx_actor.specs.declared.actor.Stage as own
 use Rattle.tx_actor.specs.declared.actor.Stage.TheVariants as stage
 use Rattle.tx_actor.specs.declared.actor.Told.{Told}
-use Rattle.tx_actor.specs.declared.actor.Told.TheVariants as told
 use Rattle.tx_actor.specs.declared.actor.TxActor.{TxActor}
 use Rattle.actor_words.specs.declared.next.Next.{Next}
 use Rattle.actor_words.specs.declared.next.Next.TheVariants as next
@@ -540,17 +539,10 @@ module _ {V : Type 0} where
   nothing_at n bs x y z Cancelling p e ok w a = let q : ⊥ = cc in absurd q
   nothing_at n bs x y z Leaving p e ok w a = let q : ⊥ = cc in absurd q
 
-  pub nothing_turns : (v : BlocksView) (a : ℕ) (t : Table V) (r : TxActor V) → next_of (stage_of r.stage) ≡ next.Nothing
-      → IsTurn v (Step a) t r t r (told.Refused NoTransaction)
-  nothing_turns v a t r due = record {
-    turns = λ o w reached laid has runs. (
-        let st : next_of (w.seats a).stage ≡ next.Nothing =
-        next_as w a r runs ∙ due in
-        let ok = ((reached_linked o w reached).seats a).stage in
-        let e = nothing_at w.words w.blocks (w.seats a) (actor_of w a) (w.boosted.shadows a) (w.seats a).stage (actor_of w a).place
-        st ok w a in (
-          subst (λ (p : After V). HasTable t p.0) (sym e) has,
-          subst (λ (p : After V). Runs a r p.0) (sym e) runs,
-          sym (ap (λ (p : After V). p.1) e),
-        ));
-  }
+  pub nothing_is : (o : Contents V) (w : World V) (a : ℕ) (r : TxActor V) → IsReached o w → Runs a r w
+      → next_of (stage_of r.stage) ≡ next.Nothing → happens w (Step a) ≡ (w, Refused a NoTransaction)
+  nothing_is o w a r reached runs due =
+      let st : next_of (w.seats a).stage ≡ next.Nothing =
+      next_as w a r runs ∙ due in
+      nothing_at w.words w.blocks (w.seats a) (actor_of w a) (w.boosted.shadows a) (w.seats a).stage (actor_of w a).place
+      st ((reached_linked o w reached).seats a).stage w a

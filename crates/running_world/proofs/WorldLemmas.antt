@@ -1,9 +1,9 @@
 -- The parts of a world stay its parts through an event: the event's actor and the table are what it makes of them, and the other actors
 -- stand, since what an event leaves of another actor's own is as it was. The numbers that are still to be taken change by what the
 -- event's actor still may take, or the clock stands below its limit and each actor may take one at most.
-use Rattle.std.proofs.Common.{◌≡◌, ◌≢◌, ◌⊎◌, ℕ, zero, suc, ◌+◌, ◌<◌, ◌≤◌, ◌^◌, Bool, true, false, not, ◌&&◌, List, [], ◌∷◌, map, Some, None, length}
+use Rattle.std.proofs.Common.{◌≡◌, ◌≢◌, ℕ, zero, suc, ◌+◌, ◌<◌, ◌≤◌, ◌^◌, false, List, [], ◌∷◌, map, Some, None, length}
 use Rattle.std.proofs.Common.{◌-◌, drop, drop-cons, get_or, length-drop, refl, sym, ap, ◌∙◌, subst, inl, inr, arith}
-use Rattle.std.specs.Prelude.{slice_get, slice_set, filter}
+use Rattle.std.specs.Prelude.{slice_get, slice_set}
 use Rattle.std.specs.List.{All}
 use Rattle.std.proofs.lemmas.Bool.{cases_eq}
 use Rattle.std.proofs.lemmas.Bool.Decides.{nat_tests}
@@ -12,7 +12,7 @@ use Rattle.seq_model.specs.declared.event.Event.{Event}
 use Rattle.seq_model.specs.Contents.{Contents}
 use Rattle.replay_log.specs.Contents.{Block}
 use Rattle.replay_log.specs.WorldProgress.{whose}
-use Rattle.replay_log.specs.Worlds.{World, happens, no_one}
+use Rattle.replay_log.specs.Worlds.{World, happens}
 use Rattle.atomic_steps.specs.Own.{Alike}
 use Rattle.atomic_steps.proofs.Others.{others}
 use Rattle.step_core.specs.CellSteps.{Grows}

@@ -5,12 +5,15 @@
 #![tactic(auto)]
 
 mod asks;
+mod feeding;
 mod homes;
 mod opening;
 mod parts;
 mod steps;
 mod trace;
 mod turns;
+mod world;
 
 pub use parts::Parts;
 pub use trace::{Ended, Trace};
+pub use world::{World, run_world};

@@ -42,6 +42,7 @@ impl<V: Value> Parts<V> {
         ensures reached { IsOk result → IsReached state (world_of shape.now.stripes shape.now.clock state) }
         ensures refused { IfErr result (λ refusal. IsNoSuchOrTooLong refusal (length shape.now.stripes ≢ length state.held)
             (IsWithin shape.now.stripes shape.now.clock state)) }
+        ensures fits { IsOk result → (length shape.now.stripes ≡ length state.held) × IsWithin shape.now.stripes shape.now.clock state }
     {
         let stripes = shape.stripes.as_slice();
         if stripes.len() != state.held().len() {
@@ -89,6 +90,25 @@ impl<V: Value> Parts<V> {
         Ok(Trace {
             records: Items::from_vec(records),
             aborted: Items::from_vec(aborted),
+            state,
+            half: Items::from_vec(half),
+        })
+    }
+
+    /// What has come of all events. The records and the aborted transactions are moved, not copied.
+    pub fn into_trace(self) -> Result<Trace<V>, Memory>
+        requires { self.blocks.words ≤ length self.table.cells.values.items }
+        ensures trace { IfOk result (λ trace. (opening : Contents V) (w : World V) → IsReached opening w → IsWorld self w →
+            IsTraceOf w trace) }
+        ensures serial { IfOk result (λ trace. (opening : Contents V) (w : World V) → IsReached opening w → IsWorld self w →
+            IsSerialTrace opening trace) }
+    {
+        let alloc = *self.records.allocator();
+        let state = self.state()?;
+        let half = half_done(alloc, &self.actors, &self.records)?;
+        Ok(Trace {
+            records: Items::from_vec(self.records),
+            aborted: Items::from_vec(self.aborted),
             state,
             half: Items::from_vec(half),
         })

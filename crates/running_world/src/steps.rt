@@ -38,7 +38,7 @@ impl<V: Value> Parts<V> {
     }
 
     /// A step of the words that ends no transaction.
-    fn move_on(&mut self, i: usize) -> Told<V>
+    pub(crate) fn move_on(&mut self, i: usize) -> Told<V>
         requires inside { i < length self.old.actors.items }
         requires world { HasWorld self.old }
         requires due { IsDue self.old i Next.Word }
@@ -50,7 +50,7 @@ impl<V: Value> Parts<V> {
     }
 
     /// A try on the gate of a collection.
-    fn try_gate(&mut self, i: usize, k: u32) -> Told<V>
+    pub(crate) fn try_gate(&mut self, i: usize, k: u32) -> Told<V>
         requires inside { i < length self.old.actors.items }
         requires world { HasWorld self.old }
         requires due { IsDue self.old i (Next.TryGate k) }
@@ -61,7 +61,7 @@ impl<V: Value> Parts<V> {
     }
 
     /// A gate is put back.
-    fn put_gate(&mut self, i: usize, k: u32) -> Told<V>
+    pub(crate) fn put_gate(&mut self, i: usize, k: u32) -> Told<V>
         requires inside { i < length self.old.actors.items }
         requires world { HasWorld self.old }
         requires due { IsDue self.old i (Next.PutGate k) }
@@ -81,7 +81,7 @@ impl<V: Value> Parts<V> {
 
     /// The first value store of a commit, at which the transaction is recorded. Where there is no memory for its record, or for what its
     /// word actor keeps, it stores nothing, and its request is refused memory.
-    fn commit(&mut self, i: usize) -> Result<Told<V>, Memory>
+    pub(crate) fn commit(&mut self, i: usize) -> Result<Told<V>, Memory>
         requires inside { i < length self.old.actors.items }
         requires world { HasWorld self.old }
         requires due { IsDue self.old i Next.FirstStore }
@@ -103,7 +103,7 @@ impl<V: Value> Parts<V> {
 
     /// The load of the clock that commits a transaction without writes, at which it is recorded. Where there is no memory for its record,
     /// it loads nothing, and its request is refused memory.
-    fn close(&mut self, i: usize) -> Result<Told<V>, Memory>
+    pub(crate) fn close(&mut self, i: usize) -> Result<Told<V>, Memory>
         requires inside { i < length self.old.actors.items }
         requires world { HasWorld self.old }
         requires stage { IsAt self.old i Stage.Closing }
@@ -120,7 +120,7 @@ impl<V: Value> Parts<V> {
     }
 
     /// The load of the clock that ends an aborted transaction. Where there is no memory to tell of it, it loads nothing.
-    fn leave(&mut self, i: usize) -> Result<Told<V>, Memory>
+    pub(crate) fn leave(&mut self, i: usize) -> Result<Told<V>, Memory>
         requires inside { i < length self.old.actors.items }
         requires world { HasWorld self.old }
         requires stage { IsAt self.old i Stage.Leaving }

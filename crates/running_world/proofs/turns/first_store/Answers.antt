@@ -1,6 +1,6 @@
-use Rattle.std.proofs.Common.{◌∙◌, ◌+◌, ◌<◌, ◌^◌, arith, sym, subst}
+use Rattle.std.proofs.Common.{◌∙◌, arith, sym, subst}
 use Rattle.step_core.specs.Sound.{Fits}
-use Rattle.running_world.proofs.TurnLemmas.{first_records, first_turns, grows_less, grows_more, running_moved}
+use Rattle.running_world.proofs.TurnLemmas.{first_turns, grows_less, grows_more, running_moved}
 use Rattle.running_world.proofs.turns.first_store.Goals as goal
 
 pub step-told-requires-clause-fits : goal.step-told-requires-clause-fits

@@ -1,4 +1,4 @@
-use Rattle.std.proofs.Common.{inl, refl, arith, ◌≤◌}
+use Rattle.std.proofs.Common.{inl, refl, arith}
 use Rattle.std.proofs.lemmas.Option.{slice_get_read}
 use Rattle.running_world.proofs.PartsLemmas.{ask_happens, stays_by}
 use Rattle.running_world.proofs.TurnLemmas.{no_reads}

@@ -1,4 +1,4 @@
-use Rattle.std.proofs.Common.{◌∙◌, [], ◌∷◌, ◌++◌, ap, refl, subst, sym}
+use Rattle.std.proofs.Common.{◌∙◌, [], ◌∷◌, ◌++◌, ap, refl}
 use Rattle.std.proofs.lemmas.Option.{slice_get_read}
 use Rattle.running_world.proofs.PartsLemmas.{leaving_ends, leaving_record, more_aborted, starved_then, step_happens, with_turn}
 use Rattle.running_world.proofs.WorldLemmas.{may_take, shape_laid}

@@ -27,3 +27,6 @@ returns-clause-reached g c = λ _. record {
   suits = c.in_ok-table.ensures.suits refl;
   world = refl;
 }
+
+pub returns-clause-fits : goal.returns-clause-fits
+returns-clause-fits g c = λ _. c.in_ok-table.ensures.fits refl

@@ -1,4 +1,4 @@
-use Rattle.std.proofs.Common.{◌≡◌, ◌+◌, ◌<◌, ◌≤◌, arith, inl, length, refl, subst, sym, ◌∙◌}
+use Rattle.std.proofs.Common.{arith, length, refl}
 use Rattle.std.proofs.lemmas.Option.{slice_get_read}
 use Rattle.tx_actor.specs.Running.{stage_of}
 use Rattle.running_world.proofs.PartsLemmas.{none_at_put, passes, same_cells}

@@ -1,4 +1,4 @@
-use Rattle.std.proofs.Common.{List, ap, ◌∙◌}
+use Rattle.std.proofs.Common.{ap, ◌∙◌}
 use Rattle.replay_log.specs.WorldTraces.{half_in}
 use Rattle.running_world.specs.Traces.{seat_at}
 use Rattle.running_world.proofs.TraceLemmas.{serial_trace, traced}

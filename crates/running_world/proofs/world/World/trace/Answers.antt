@@ -1,0 +1,20 @@
+use Rattle.std.proofs.Common.{IfOk, subst}
+use Rattle.running_world.specs.Parts.{IsWorld}
+use Rattle.running_world.specs.Reached.{IsReached}
+use Rattle.running_world.specs.Traces.{IsSerialTrace, IsTraceOf}
+use Rattle.running_world.specs.Worlds.{WorldShown}
+use Rattle.running_world.proofs.FeedLemmas.{words_fit}
+use Rattle.running_world.proofs.world.World.trace.Goals as goal
+
+pub trace-requires : goal.trace-requires
+trace-requires g c = words_fit c.self.inside.parts (c.self.invariant c.if-self.false)
+
+pub returns-clause-trace : goal.returns-clause-trace
+returns-clause-trace g c =
+    subst (λ (s : WorldShown g.row.V.Denot). IfOk c.trace.result (λ t. (o : _) (w : _) → IsReached o w → IsWorld s.parts w → IsTraceOf w t))
+    c.self.view_is c.trace.ensures.trace
+
+pub returns-clause-serial : goal.returns-clause-serial
+returns-clause-serial g c =
+    subst (λ (s : WorldShown g.row.V.Denot). IfOk c.trace.result (λ t. (o : _) (w : _) → IsReached o w → IsWorld s.parts w → IsSerialTrace o t))
+    c.self.view_is c.trace.ensures.serial

@@ -1,0 +1,154 @@
+//! A world, fed event by event.
+ghost use Rattle.std.specs.Prelude.{◌≡◌, ◌≢◌, [], false, true, IfErr, IfOk, IsOk, OnErr, OnOk};
+ghost use Rattle.seq_model.specs.Contents.{Contents};
+ghost use Rattle.seq_model.specs.Refusals.{IsNoSuchOrTooLong};
+ghost use Rattle.replay_log.specs.Seats.{World as PureWorld};
+ghost use Rattle.world_table.specs.Openings.{IsWithin, world_of};
+ghost use Rattle.running_world.specs.Feeds.{Feeds, fed_all};
+ghost use Rattle.running_world.specs.Parts.{IsWorld};
+ghost use Rattle.running_world.specs.Reached.{IsReached};
+ghost use Rattle.running_world.specs.Traces.{IsSerialTrace, IsTraceOf};
+ghost use Rattle.running_world.specs.Worlds.{IsOther};
+
+use crate::parts::Parts;
+use crate::trace::Trace;
+use seq_model::{Event, Held, Memory, Notice, Refusal, Shape, State, Value};
+use std::alloc::Global;
+use std::marker::Model;
+
+/// A world of transactions over words. Collections are to come.
+///
+/// Contracts see its parts, and whether a growth was refused to an event (`failed`): then every later call answers `Memory`.
+#[derive(Drop)]
+pub struct World<V> {
+    parts: Parts<V>,
+    failed: bool,
+}
+
+impl<V> Model for World<V> {
+    ghost use Rattle.std.specs.Prelude.{◌≡◌, false};
+    ghost use Rattle.std.specs.Coded.{codes, coded_ℕ, coded_option};
+    ghost use Rattle.std.specs.FinMap as map;
+    ghost use Rattle.std.specs.Ordering.{nat_cmp};
+    ghost use Rattle.base_pq.specs.Conflicts as pq;
+    ghost use Rattle.base_queue.specs.Conflicts as queue;
+    ghost use Rattle.running_world.specs.Feeds.{IsWell};
+    ghost use Rattle.running_world.specs.Worlds.{WorldShown};
+
+    ghost Value = { WorldShown V };
+
+    ghost coded = { Prim.hlevel (
+      codes,
+      map.code {R = nat_cmp} coded_ℕ V.code,
+      map.code {R = nat_cmp} coded_ℕ (coded_option V.code),
+      map.code {R = nat_cmp} coded_ℕ coded_ℕ,
+      pq.shown_code,
+      queue.shown_code,
+    ) };
+
+    ghost view = { λ a. record { failed = a.failed; parts = a.parts } };
+
+    ghost invariant = { λ a. a.failed ≡ false → IsWell a.parts };
+}
+
+/// Whether there is a collection.
+fn has_some<V>(held: &[Held<V>]) -> bool
+    ensures some { result ≡ true → held.now ≢ [] }
+    ensures none { result ≡ false → held.now ≡ [] }
+{
+    match held {
+        [] => false,
+        _ => true,
+    }
+}
+
+impl<V: Value> World<V> {
+    /// Opens a world of this shape on this state.
+    ///
+    /// `NoSuch` where there is a collection, for now, or a number of stripes. `TooLong` where the clock is above its limit or there are
+    /// more than 1,048,576 words. What was moved in is dropped.
+    pub fn open(alloc: Global, shape: &Shape, state: State<V>) -> Result<World<V>, Refusal>
+        ensures world { IfOk result (λ world. IsWorld world.parts (world_of shape.now.stripes shape.now.clock state)) }
+        ensures reached { IsOk result → IsReached state (world_of shape.now.stripes shape.now.clock state) }
+        ensures lasting { IfOk result (λ world. world.failed ≡ false) }
+        ensures refused { IfErr result (λ refusal. IsNoSuchOrTooLong refusal (IsOther shape.now.stripes state)
+            (IsWithin shape.now.stripes shape.now.clock state)) }
+        ensures fits { IsOk result → (¬ IsOther shape.now.stripes state) × IsWithin shape.now.stripes shape.now.clock state }
+    {
+        if has_some(state.held()) {
+            return Err(Refusal::NoSuch);
+        }
+        let parts = Parts::open(alloc, shape, state)?;
+        Ok(World {
+            parts,
+            failed: false,
+        })
+    }
+
+    /// One event, and what it tells.
+    ///
+    /// `Memory` where a growth was refused, and to each later event.
+    pub fn feed(&mut self, event: Event<V>) -> Result<Notice<V>, Memory>
+        ensures ok { IfOk result (Feeds self.old.parts event self.new.parts) }
+        ensures lasting { OnOk result ((self.old.failed ≡ false) × (self.new.failed ≡ false)) }
+        ensures failed { OnErr result (self.new.failed ≡ true) }
+    {
+        if self.failed {
+            return Err(Memory);
+        }
+        self.failed = true;
+        let notice = self.parts.feed(event)?;
+        self.failed = false;
+        Ok(notice)
+    }
+
+    /// What has come of the events so far.
+    pub fn trace(&self) -> Result<Trace<V>, Memory>
+        ensures lasting { IsOk result → self.now.failed ≡ false }
+        ensures trace { IfOk result (λ trace. (opening : Contents V) (w : PureWorld V) → IsReached opening w →
+            IsWorld self.now.parts w → IsTraceOf w trace) }
+        ensures serial { IfOk result (λ trace. (opening : Contents V) (w : PureWorld V) → IsReached opening w →
+            IsWorld self.now.parts w → IsSerialTrace opening trace) }
+    {
+        if self.failed {
+            return Err(Memory);
+        }
+        self.parts.trace()
+    }
+
+    /// What has come of all events. The records and the aborted transactions are moved, not copied.
+    pub fn into_trace(self) -> Result<Trace<V>, Memory>
+        ensures lasting { IsOk result → self.failed ≡ false }
+        ensures trace { IfOk result (λ trace. (opening : Contents V) (w : PureWorld V) → IsReached opening w →
+            IsWorld self.parts w → IsTraceOf w trace) }
+        ensures serial { IfOk result (λ trace. (opening : Contents V) (w : PureWorld V) → IsReached opening w →
+            IsWorld self.parts w → IsSerialTrace opening trace) }
+    {
+        if self.failed {
+            return Err(Memory);
+        }
+        self.parts.into_trace()
+    }
+}
+
+/// Opens a world, feeds it the events in their order, and answers what has come of them.
+///
+/// Refused as `World::open`, and `OutOfMemory` where a growth was refused.
+pub fn run_world<V: Value>(
+    alloc: Global,
+    shape: &Shape,
+    state: State<V>,
+    events: &[Event<V>],
+) -> Result<Trace<V>, Refusal>
+    ensures trace { IfOk result (IsTraceOf (fed_all (world_of shape.now.stripes shape.now.clock state) events.now)) }
+    ensures serial { IfOk result (IsSerialTrace state) }
+    ensures refused { IfErr result (λ refusal. IsNoSuchOrTooLong refusal (IsOther shape.now.stripes state)
+        (IsWithin shape.now.stripes shape.now.clock state)) }
+{
+    let mut world = World::open(alloc, shape, state)?;
+    for event in events {
+        let _notice = world.feed(event.try_copy()?)?;
+    }
+    let trace = world.into_trace()?;
+    Ok(trace)
+}
