@@ -11,3 +11,4 @@ pub mod CallingLemmas
 pub mod LoadingLemmas
 pub mod CopiedLemmas
 pub mod TakenLemmas
+mod ForgottenLemmas

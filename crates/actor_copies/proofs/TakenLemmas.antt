@@ -160,13 +160,13 @@ known_itself known k a d none =
     ∙ ap (λ o. unwrap_or o d) (get-insert nat_cmp_total known k a k ∙ ap (λ t. cond t (Some a) (get known k)) (key_itself k))
 
 module _ {V : Type 0} where
-  at_map : (P : Shown V → Type 0) → ((m : FinMap nat_cmp V) → P (OfMap m)) → (s : Shown V) → kind_of s ≡ MapKind → P s
+  pub at_map : (P : Shown V → Type 0) → ((m : FinMap nat_cmp V) → P (OfMap m)) → (s : Shown V) → kind_of s ≡ MapKind → P s
   at_map P each (OfMap m) e = each m
   at_map P each (OfBag m) e = absurd (let z : BagKind ≡ MapKind = e in let y : ⊥ = cc in y)
   at_map P each (OfPq m) e = absurd (let z : PqKind ≡ MapKind = e in let y : ⊥ = cc in y)
   at_map P each (OfQueue m) e = absurd (let z : QueueKind ≡ MapKind = e in let y : ⊥ = cc in y)
 
-  at_bag : (P : Shown V → Type 0) → ((m : Multiset) → P (OfBag m)) → (s : Shown V) → kind_of s ≡ BagKind → P s
+  pub at_bag : (P : Shown V → Type 0) → ((m : Multiset) → P (OfBag m)) → (s : Shown V) → kind_of s ≡ BagKind → P s
   at_bag P each (OfMap m) e = absurd (let z : MapKind ≡ BagKind = e in let y : ⊥ = cc in y)
   at_bag P each (OfBag m) e = each m
   at_bag P each (OfPq m) e = absurd (let z : PqKind ≡ BagKind = e in let y : ⊥ = cc in y)

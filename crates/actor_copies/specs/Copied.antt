@@ -2,20 +2,24 @@
 use Rattle.std.specs.Prelude.{◌≡◌, ◌⊎◌, ℕ, ◌+◌, ◌<◌, true, false, List, Option, Some, None, Contains}
 use Rattle.word_machine.specs.Actor.{Call}
 use Rattle.word_machine.specs.Opacity.{first_read}
+use Rattle.seq_model.specs.declared.call.Op.{Op}
 use Rattle.conflict.specs.declared.outcome.Outcome.{Outcome}
 use Rattle.collection_machine.specs.Boosted.{Shadow as Part}
 use Rattle.replay_log.specs.declared.base.Base.{Base}
 use Rattle.replay_log.specs.Base.{Shown, editions_of, shown_of}
 use Rattle.replay_log.specs.Contents.{Answered, Asked, Block, HaveStripes, block_of, content, first_of, shifted, size}
-use Rattle.replay_log.specs.Parts.{part}
+use Rattle.replay_log.specs.Parts.{kind_of, part}
+use Rattle.replay_log.specs.Pieces.{Piece}
+use Rattle.replay_log.specs.Touches.{touched_by}
+use Rattle.replay_log.specs.declared.touch.Touch.{Touch}
 use Rattle.std.specs.Prelude.{Bool, slice_index, if◌then◌else◌}
 use Rattle.actor_copies.specs.declared.copies.Copied.{Copied}
 use Rattle.actor_copies.specs.declared.copies.Copied.TheVariants.{Keys, Whole}
 use Rattle.actor_copies.specs.declared.copies.Found.{Found}
 use Rattle.actor_copies.specs.declared.copies.Found.TheVariants as found
-use Rattle.actor_copies.specs.Copies.{IsFound, IsLearnt, answer_of, holds_call, holds_of}
+use Rattle.actor_copies.specs.Copies.{IsForgotten, IsFound, IsKept, IsLearnt, answer_of, has_piece, holds_call, holds_of}
 use Rattle.actor_copies.specs.First.{IsFirst}
-use Rattle.actor_copies.specs.Footprints.{reads_in, with_known, writes_in}
+use Rattle.actor_copies.specs.Footprints.{base_in, reads_in, with_known, writes_in}
 use Rattle.actor_copies.specs.Keeps.{IsOwnCopy}
 use Rattle.actor_copies.specs.Loading.{AreRead, IsDoomed}
 use Rattle.actor_copies.specs.Owns.{IsOwn}
@@ -105,3 +109,11 @@ CopiesFor V =
     (w.seats a).stage ≡ Copying asked → block_of w.blocks asked.collection ≡ Some b → IsBaseOf b base
     → ShowsBase w.words w.blocks w asked.collection base → IsOwn w a asked.collection c → IsReadOf w a asked.collection c
     → holds_of c asked.op ≡ false → IsFound base asked.op x → IsTaken b.stripes x c d → IsCopyFor w a b asked d
+
+-- What a memo learnt of a collection s for a call, and then forgets, leaves the pieces that it had; between the two it may have been made
+-- ready.
+abbrev pub ForgetsPieces : Type 0 → Type 0
+ForgetsPieces V =
+    (n : ℕ) (op : Op V) (s : Shown V) (t : Touch V) (c d e g : Copied V) (q : Piece) → touched_by n op s ≡ Some t.held
+    → kind_of (shown_of (base_in c)) ≡ kind_of s → holds_call c op ≡ false → IsLearnt t c d → IsKept d e → IsForgotten op e g
+    → has_piece g q ≡ has_piece c q

@@ -16,7 +16,7 @@ use Rattle.replay_log.specs.Contents.{Answered, Block, size}
 use Rattle.collection_machine.specs.Boosted.{Shadow as Part}
 use Rattle.atomic_steps.specs.Bases.{log_changes, log_locations}
 use Rattle.shadow.specs.Memo as memo
-use Rattle.shadow.specs.Memo.{MemoView, IsCopyBy, answer_with, copies_kept, entries_kept, grown_kept, has_key, holds, shrunk_kept, with_count, with_entry, with_total}
+use Rattle.shadow.specs.Memo.{MemoView, IsCopyBy, answer_with, copies_kept, copies_without, entries_kept, entries_without, grown_kept, has_key, holds, shrunk_kept, total_without, with_count, with_entry, with_total}
 use Rattle.shadow.specs.Shadow as shadow
 use Rattle.shadow.specs.Shadow.{IsFolded}
 use Rattle.actor_copies.specs.declared.copies.Copied.{Copied}
@@ -104,6 +104,15 @@ module _ {V : Type 0} where
       × (n.locations ≡ m.locations) × (fs.contents ≡ inserts es.contents t.editions)
   IsLearnt t (Whole s) d = d ≡ Whole s
   IsLearnt t c d = ⊥
+
+  -- without what the call touches
+  abbrev pub IsForgotten : Op V → Copied V → Copied V → Type 0
+  IsForgotten op (Keys m es) (Keys n fs) =
+      (n.blank ≡ m.blank) × (n.entries ≡ entries_without op m.entries) × (n.copies ≡ copies_without op m.copies)
+      × (n.total ≡ total_without op m.total) × (n.grown ≡ m.grown) × (n.shrunk ≡ m.shrunk) × (n.changes ≡ m.changes)
+      × (n.locations ≡ m.locations) × (fs.contents ≡ es.contents)
+  IsForgotten op (Whole s) d = d ≡ Whole s
+  IsForgotten op c d = ⊥
 
   -- what a call touches of a base
   abbrev pub IsFound : Base V → Op V → Found V → Type 0

@@ -1,5 +1,5 @@
 //! What a call makes of an actor that holds the gate of its collection.
-ghost use Rattle.actor_copies.specs.Copied.{CopiesFor};
+ghost use Rattle.actor_copies.specs.Copied.{CopiesFor, ForgetsPieces};
 
 use seq_model::Value;
 
@@ -8,4 +8,9 @@ use seq_model::Value;
 /// definitions' outcome does.
 pub fn copied_as_worlds<V: Value>()
     ensures { CopiesFor V }
+{}
+
+/// What was learnt for a call that is not made and is forgotten leaves the pieces that there were.
+pub fn copied_forgets<V: Value>()
+    ensures { ForgetsPieces V }
 {}

@@ -4,7 +4,7 @@ ghost use Rattle.seq_model.specs.Calls.{IsRefusal};
 ghost use Rattle.seq_model.specs.Entries.{inserts};
 ghost use Rattle.replay_log.specs.Base.{editions_of, locations_of, room_of, shown_of, stripes_of};
 ghost use Rattle.atomic_steps.specs.Bases.{IsFolded};
-ghost use Rattle.actor_copies.specs.Copies.{IsAccepted, IsFound, IsKept, IsLearnt, IsReady, answer_of, changes_in, holds_call, locations_in};
+ghost use Rattle.actor_copies.specs.Copies.{IsAccepted, IsForgotten, IsFound, IsKept, IsLearnt, IsReady, answer_of, changes_in, holds_call, locations_in};
 
 use conflict::{Change, Outcome, Table};
 use replay_log::{Base, Log, Touch};
@@ -65,6 +65,17 @@ impl<V: Value> Copied<V> {
             Copied::Whole(_) => {}
         }
         Ok(())
+    }
+
+    /// Has no more what the call touches, and takes so back what was learnt for a call that is not made. The editions that are known
+    /// stay. It takes no memory.
+    pub fn forget(&mut self, op: &Op<V>)
+        ensures { IsForgotten op.now self.old self.new }
+    {
+        match self {
+            Copied::Keys(memo, _) => memo.forget(op),
+            Copied::Whole(_) => {}
+        }
     }
 
     /// Makes ready what accepting the outcome will take. Nothing else changes, also where memory is refused.
