@@ -11,4 +11,6 @@ pub mod CallingLemmas
 pub mod LoadingLemmas
 pub mod CopiedLemmas
 pub mod TakenLemmas
+mod BegunLemmas
+pub mod ReadLemmas
 mod ForgottenLemmas

@@ -1,5 +1,5 @@
 -- What is copied for a call while its gate is held, and what its transaction has of the collection then.
-use Rattle.std.specs.Prelude.{◌≡◌, ◌⊎◌, ℕ, ◌+◌, ◌<◌, true, false, List, Option, Some, None, Contains}
+use Rattle.std.specs.Prelude.{◌≡◌, ◌⊎◌, ℕ, ◌+◌, ◌<◌, true, false, List, [], ◌∷◌, Option, Some, None, Contains}
 use Rattle.word_machine.specs.Actor.{Call}
 use Rattle.word_machine.specs.Opacity.{first_read}
 use Rattle.seq_model.specs.declared.call.Op.{Op}
@@ -27,7 +27,10 @@ use Rattle.actor_words.specs.Shows.{put_back}
 use Rattle.seq_model.specs.declared.event.Event.{Event}
 use Rattle.seq_model.specs.declared.held.Held.{Held}
 use Rattle.atomic_steps.specs.Bases.{IsBaseOf, ShowsBase}
-use Rattle.replay_log.specs.Worlds.{Copying, World, actor_of, has_room, opened, outcome_at, run, sized_by, with_editions}
+use Rattle.word_machine.specs.Notices as notice
+use Rattle.replay_log.specs.Collections.{Suit}
+use Rattle.replay_log.specs.Worlds.{Beginning, Copying, World, acted, actor_of, has_room, moves, opened, outcome_at, run, sized_by}
+use Rattle.replay_log.specs.Worlds.{with_editions, word_notice}
 
 module _ {V : Type 0} where
   -- each location that a call on a held key reads has been read: with what edition first
@@ -117,3 +120,12 @@ ForgetsPieces V =
     (n : ℕ) (op : Op V) (s : Shown V) (t : Touch V) (c d e g : Copied V) (q : Piece) → touched_by n op s ≡ Some t.held
     → kind_of (shown_of (base_in c)) ≡ kind_of s → holds_call c op ≡ false → IsLearnt t c d → IsKept d e → IsForgotten op e g
     → has_piece g q ≡ has_piece c q
+
+-- A transaction that begins has nothing of any collection, in each world that events have reached, and has read nothing there.
+abbrev pub BeginsWithNothing : Type 0 → Type 0
+BeginsWithNothing V =
+    (blocks : List Block) (clock : ℕ) (values : List ℕ) (held : List (Held V)) (events : List (Event V)) (a rv : ℕ)
+    → HaveStripes blocks → Suit blocks held →
+    let w = run (opened blocks clock values held) events in
+    let u = acted w (moves a ∷ []) in
+    (w.seats a).stage ≡ Beginning → word_notice w a ≡ notice.Begun rv → (k : ℕ) → IsOwn u a k None × IsReadOf u a k None

@@ -1,5 +1,5 @@
 //! The laws of the definitions that the contracts cite.
-ghost use Rattle.std.specs.Prelude.{◌≡◌, ◌≢◌, ◌<◌, ◌≤◌, ℕ, All, Bool, Contains, List, Some, length, slice_index, true, if◌then◌else◌};
+ghost use Rattle.std.specs.Prelude.{◌≡◌, ◌≢◌, ◌+◌, ◌<◌, ◌≤◌, ℕ, All, Bool, Contains, List, Option, Some, length, slice_index, true, if◌then◌else◌};
 ghost use Rattle.seq_model.specs.declared.call.Op.{Op};
 ghost use Rattle.conflict.specs.Table.{Room};
 ghost use Rattle.conflict.specs.declared.change.Change.{Change};
@@ -22,7 +22,9 @@ ghost use Rattle.actor_copies.specs.Copies.{IsAccepted, IsCopied, IsLearnt, IsOf
 ghost use Rattle.actor_words.specs.Accepts.{PutsBack};
 ghost use Rattle.seq_model.specs.declared.event.Event.{Event};
 ghost use Rattle.seq_model.specs.declared.held.Held.{Held};
-ghost use Rattle.replay_log.specs.Worlds.{Open, World, opened, run};
+ghost use Rattle.replay_log.specs.Worlds.{Open, World, actor_of, opened, run};
+ghost use Rattle.word_machine.specs.Opacity.{first_read};
+ghost use Rattle.actor_copies.specs.Copied.{BeginsWithNothing, IsReadOf};
 ghost use Rattle.actor_copies.specs.First.{FirstCopies};
 ghost use Rattle.actor_copies.specs.Keeps.{AnswersHeld, IsOwnCopy};
 ghost use Rattle.actor_copies.specs.Owns.{MayCall};
@@ -105,4 +107,24 @@ pub fn calls_as_worlds<V: Value>()
         HaveStripes blocks →
         let w = run (opened blocks clock values held) events in
         (w.seats a).stage ≡ Open → MayCall w a }
+{}
+
+/// A transaction that begins has nothing of any collection, wherever events have led: its shadow shows the collections of the opening,
+/// with no call, and it has read no location.
+pub fn begins_with_nothing<V: Value>()
+    ensures { BeginsWithNothing V }
+{}
+
+/// What has been read of what a transaction has of a collection depends on how the locations lie and on what it read there; further reads
+/// keep it where there is something, and so does an accepted outcome.
+pub fn reads_stay<V: Value>()
+    ensures same { (w v : World V) (a k : ℕ) (c : Option (Copied V)) → v.words ≡ w.words → v.blocks ≡ w.blocks →
+        ((i : ℕ) → first_read (actor_of v a).calls (first_of w.words w.blocks k + i)
+        ≡ first_read (actor_of w a).calls (first_of w.words w.blocks k + i)) →
+        IsReadOf w a k c → IsReadOf v a k c }
+    ensures more { (w v : World V) (a k : ℕ) (c : Copied V) → v.words ≡ w.words → v.blocks ≡ w.blocks →
+        ((l e : ℕ) → first_read (actor_of w a).calls l ≡ Some e → first_read (actor_of v a).calls l ≡ Some e) →
+        IsReadOf w a k (Some c) → IsReadOf v a k (Some c) }
+    ensures accepted { (w : World V) (a k : ℕ) (c d : Copied V) (o : Outcome V) → holds_call c o.op ≡ true → IsAccepted o c d →
+        IsReadOf w a k (Some c) → IsReadOf w a k (Some d) }
 {}

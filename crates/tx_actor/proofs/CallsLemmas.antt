@@ -1,7 +1,7 @@
 -- A call of an actor at rest on a collection. Where its copy has what the call touches, the world judges it by the law on held calls, and
 -- what is ready is the world's: its outcome by the law on copies, and its writes, since what is written is read, and so was copied with its
 -- edition. Where it has not, its seat has not copied the piece, and the gate is tried.
-use Rattle.std.proofs.Common.{◌≡◌, ◌≢◌, ℕ, ◌+◌, ◌^◌, ◌<◌, ◌≤◌, Bool, true, false, true≢false, ◌&&◌, cond, eqb, ltb, length, List, [], ◌∷◌, Option, Some, None, refl, sym, ap, subst, ◌∙◌, arith}
+use Rattle.std.proofs.Common.{◌≡◌, ℕ, ◌+◌, ◌^◌, ◌<◌, ◌≤◌, true, false, ◌&&◌, cond, ltb, length, List, [], ◌∷◌, Option, Some, None, refl, sym, ap, subst, ◌∙◌, arith}
 use Rattle.std.specs.Prelude.{Contains, slice_get}
 use Rattle.std.proofs.lemmas.Bool.{cond-true, cond-false}
 use Rattle.tx_sets.specs.Entries.{Entries, lookup}
@@ -15,19 +15,17 @@ use Rattle.seq_model.specs.declared.refusal.Refusal.TheVariants as refusal
 use Rattle.seq_model.specs.declared.event.Notice.TheVariants.{Quiet, Refused}
 use Rattle.conflict.specs.declared.outcome.Outcome.{Outcome}
 use Rattle.collection_machine.specs.Content.{IsIn}
-use Rattle.collection_machine.specs.Boosted.{Accept, longer}
+use Rattle.collection_machine.specs.Boosted.{Accept}
 use Rattle.replay_log.specs.Guards.{Allows}
 use Rattle.step_core.specs.declared.actor.Actor.{Actor}
 use Rattle.replay_log.specs.Contents.{Answered, Block, block_of, content, first_of, shifted, size}
 use Rattle.replay_log.specs.Base.{shown_of, stripes_of}
-use Rattle.replay_log.specs.Parts.{kind_of}
 use Rattle.seq_model.specs.declared.refusal.Refusal.{Refusal}
 use Rattle.tx_actor.specs.declared.actor.Stage.TheVariants as stage
 use Rattle.tx_actor.specs.declared.prepares.Prepared.{Prepared}
 use Rattle.replay_log.specs.Pieces.{piece_at, piece_in}
-use Rattle.replay_log.specs.Worlds as worlds
 use Rattle.replay_log.specs.Worlds.{World, Seat, After, Trying, Open, actor_of, at_stage, calls_on, has_room, if_allowed, is_known, may_ask, more_tries, outcome_at, seated, with_editions}
-use Rattle.replay_log.proofs.ContentLemmas.{content_frame, in_shifted, positive_at, shifted_in}
+use Rattle.replay_log.proofs.ContentLemmas.{content_frame, in_shifted, shifted_in}
 use Rattle.step_core.specs.Shown as words
 use Rattle.tx_actor.specs.declared.actor.Answered as running
 use Rattle.actor_copies.specs.declared.copies.CopyOf.{CopyOf}
@@ -35,8 +33,6 @@ use Rattle.tx_actor.specs.declared.actor.Told.{Told}
 use Rattle.tx_actor.specs.declared.actor.Told.TheVariants as told
 use Rattle.tx_actor.specs.declared.actor.TxActor.{TxActor}
 use Rattle.actor_copies.specs.declared.copies.Copied.{Copied}
-use Rattle.actor_words.specs.declared.judged.Judged.{Judged}
-use Rattle.actor_words.specs.declared.judged.Judged.TheVariants.{All, Next, Stale}
 use Rattle.actor_words.specs.Accepts.{written}
 use Rattle.tx_actor.specs.Answers.{CopiesAfter, MayAccept, MayAnswer}
 use Rattle.actor_words.specs.Blocks.{BlocksView, IsLaid}

@@ -16,7 +16,7 @@ use Rattle.replay_log.specs.Base.{Shown}
 use Rattle.replay_log.specs.Contents as contents
 use Rattle.replay_log.specs.Contents.{Block, HaveStripes, block_of, content, first_of, shifted, size}
 use Rattle.replay_log.specs.Guards.{Allows}
-use Rattle.replay_log.specs.Worlds.{World, Seat, Stage, Loading, acted, actor_of, moves, opened, outcome_at, run, word_notice}
+use Rattle.replay_log.specs.Worlds.{World, Seat, Loading, acted, actor_of, moves, opened, outcome_at, run, word_notice}
 use Rattle.replay_log.proofs.ContentLemmas.{content_frame, in_shifted, positive_at, shifted_in}
 use Rattle.step_core.specs.Shown as words
 use Rattle.tx_actor.specs.declared.actor.Answered.{Answered}

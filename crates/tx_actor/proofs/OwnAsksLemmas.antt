@@ -1,9 +1,8 @@
 -- What a request leaves of an actor's shadow: a request on words leaves it, and so does a commit or an abort, so what the actor has of
 -- collections stays its own; the acceptance of a call puts its outcome there, and into the copy.
-use Rattle.std.proofs.Common.{◌≡◌, ◌<◌, ℕ, zero, suc, length, arith, Bool, true, false, ◌&&◌, cond, List, [], ◌∷◌, Option, Some, None, refl, sym, ap, subst, ◌∙◌}
+use Rattle.std.proofs.Common.{◌≡◌, ◌<◌, ℕ, zero, suc, length, arith, Bool, true, false, ◌&&◌, cond, List, [], ◌∷◌, Some, refl, sym, ap, ◌∙◌}
 use Rattle.tx_sets.specs.Entries.{Entries}
 use Rattle.word_machine.specs.Notices as told
-use Rattle.seq_model.specs.declared.call.Op.{Op}
 use Rattle.seq_model.specs.declared.call.Op.TheVariants.{Read, Write}
 use Rattle.std.specs.Prelude.{slice_get}
 use Rattle.word_machine.specs.Requests.{AskWrite}

@@ -5,34 +5,31 @@ use Rattle.std.proofs.Common.{◌≡◌, ◌≢◌, ℕ, zero, suc, ◌++◌, �
 use Rattle.std.specs.Prelude.{slice_get}
 use Rattle.std.proofs.lemmas.Bool.{cond-true, cond-false}
 use Rattle.std.proofs.Math.ListN.{set}
-use Rattle.seq_model.specs.declared.call.Op.{Op}
 use Rattle.conflict.specs.declared.outcome.Outcome.{Outcome}
 use Rattle.collection_machine.specs.Boosted.{Shadow as Part, longer}
-use Rattle.replay_log.specs.Base.{Shown, changes_of, reads_of, shown_of, stripes_of}
+use Rattle.replay_log.specs.Base.{Shown, shown_of, stripes_of}
 use Rattle.replay_log.specs.Parts.{kind_of}
 use Rattle.replay_log.specs.Contents.{Answered, Block, HaveStripes, block_of, first_of}
 use Rattle.replay_log.specs.Pieces.{piece_of}
 use Rattle.replay_log.specs.Worlds.{World}
 use Rattle.replay_log.proofs.ContentLemmas.{positive_at}
 use Rattle.atomic_steps.specs.Bases.{changes_on, log_changes, log_locations, writes_on}
-use Rattle.atomic_steps.proofs.Bases.{kind_stays, more_changes, more_locations}
-use Rattle.shadow.specs.Memo.{holds_with}
-use Rattle.shadow.proofs.CopyLemmas.{copy_holds}
+use Rattle.atomic_steps.proofs.Bases.{more_changes, more_locations}
 use Rattle.actor_copies.specs.declared.copies.Copied.{Copied}
 use Rattle.actor_copies.specs.declared.copies.Copied.TheVariants.{Keys, Whole}
 use Rattle.actor_copies.specs.declared.copies.CopyOf.{CopyOf}
 use Rattle.tx_actor.specs.declared.actor.TxActor.{TxActor}
 use Rattle.tx_actor.specs.Answers.{IsAcceptedAt}
 use Rattle.actor_words.specs.Blocks.{BlocksView, IsLaid}
-use Rattle.actor_copies.specs.Copies.{IsAccepted, IsCopied, IsOf, ShowParts, answer_of, answered_on, holds_call}
+use Rattle.actor_copies.specs.Copies.{IsAccepted, IsCopied, IsOf, answer_of, answered_on, holds_call}
 use Rattle.actor_copies.specs.Footprints.{base_in, reads_in}
 use Rattle.actor_copies.specs.Keeps.{IsOwnCopy, Knows}
 use Rattle.actor_copies.specs.Owns.{AreOfBlocks, AreOnce, IsOfBlock, IsOwn, IsUncalled}
 use Rattle.tx_actor.specs.Owns.{OwnsCopies}
 use Rattle.actor_copies.specs.Kept.{copy_of}
 use Rattle.actor_copies.proofs.CopiesLemmas.{editions_stay, follows_accepted, follows_others}
-use Rattle.actor_copies.proofs.FootprintLemmas.{reads_by}
 use Rattle.actor_copies.proofs.KeptLemmas.{accepted_pieces}
+use Rattle.actor_copies.proofs.ReadLemmas.{same_holds, same_reads}
 
 apart : (j k : ℕ) → j ≢ k → (b : Bool) → (j == k) ≡ b → (j == k) ≡ false
 apart j k other true is = absurd (other (eqb-true j k is))
@@ -119,16 +116,12 @@ module _ {V : Type 0} where
     once = subst AreOnce (sym ec) is.once;
   }
 
-  -- an actor that has begun
-  pub owns_nothing : (r : TxActor V) (w : World V) (a : ℕ) → r.copies.items ≡ [] → HaveStripes w.blocks
-      → (w.boosted.shadows a).outcomes ≡ []
-      → ((k : ℕ) (b : Block) → block_of w.blocks k ≡ Some b
-      → (s : Shown V) × ShowParts b (first_of w.words w.blocks k) (w.boosted.shadows a).parts s)
+  -- an actor that has nothing
+  pub owns_nothing : (r : TxActor V) (w : World V) (a : ℕ) → r.copies.items ≡ [] → HaveStripes w.blocks → ((k : ℕ) → IsOwn w a k None)
       → OwnsCopies r w a
-  owns_nothing r w a none stripes begun shows = record {
+  owns_nothing r w a none stripes nothing = record {
     stripes = stripes;
-    own = λ k. subst (λ cs. IsOwn w a k (copy_of cs k)) (sym none)
-        (λ b is. (shows k b is, ap (log_changes k b) begun, ap (log_locations k b) begun));
+    own = λ k. subst (λ cs. IsOwn w a k (copy_of cs k)) (sym none) (nothing k);
     once = subst AreOnce (sym none) tt;
   }
 
@@ -158,27 +151,6 @@ module _ {V : Type 0} where
   of_blocks v r w a laid is k c e = own_block v w a k (copy_of r.copies.items k) c laid e (is.own k)
 
   -- ---- an acceptance
-  same_holds : (o : Outcome V) (c d : Copied V) (op : Op V) → holds_call c o.op ≡ true → IsAccepted o c d
-      → holds_call d op ≡ holds_call c op
-  same_holds o (Keys m es) (Keys n fs) op held acc =
-      (λ j. holds_with (shown_of (acc.0 j)) (acc.1 j) (acc.2 j) (acc.3 j) op)
-      ∙ copy_holds o (shown_of m.blank) m.entries m.copies m.total op held
-  same_holds o (Whole s) (Whole t) op held acc = refl
-  same_holds o (Keys m es) (Whole t) op held acc = absurd acc
-  same_holds o (Whole s) (Keys n fs) op held acc = absurd acc
-
-  reads_alike : (n : ℕ) (o : Outcome V) (s t : Shown V) → kind_of t ≡ kind_of s → reads_of n o t ≡ reads_of n o s
-  reads_alike n o s t e = sym (reads_by (kind_of s) n o t e) ∙ reads_by (kind_of s) n o s refl
-
-  same_reads : (o q : Outcome V) (c d : Copied V) → IsAccepted o c d → reads_in d q ≡ reads_in c q
-  same_reads o q (Keys m es) (Keys n fs) acc = λ j. reads_of (stripes_of (acc.0 j)) q (shown_of (acc.0 j))
-  same_reads o q (Whole s) (Whole t) acc =
-      let kind : kind_of (shown_of t.base) ≡ kind_of (shown_of s.base) =
-      ap kind_of acc.0 ∙ kind_stays (changes_of o (shown_of s.base)) (shown_of s.base) in
-      ap (λ n. reads_of n q (shown_of t.base)) acc.1 ∙ reads_alike (stripes_of s.base) q (shown_of s.base) (shown_of t.base) kind
-  same_reads o q (Keys m es) (Whole t) acc = absurd acc
-  same_reads o q (Whole s) (Keys n fs) acc = absurd acc
-
   same_knows : (o q : Outcome V) (c d : Copied V) → holds_call c o.op ≡ true → IsAccepted o c d
       → ((q : Outcome V) → holds_call c q.op ≡ true → Knows c (reads_in c q)) → holds_call d q.op ≡ true → Knows d (reads_in d q)
   same_knows o q c d held acc knows here =

@@ -1,5 +1,5 @@
 -- What a call on a collection makes of an actor that is asked it at rest, where what it has of the collections is its own.
-use Rattle.std.specs.Prelude.{◌≡◌, ℕ, ◌<◌, ◌&&◌, Bool, true, length}
+use Rattle.std.specs.Prelude.{◌≡◌, ℕ, ◌&&◌, Bool, true}
 use Rattle.seq_model.specs.declared.call.Op.{Op}
 use Rattle.replay_log.specs.Worlds.{World, Seat, After, actor_of, calls_on, if_allowed, is_known, may_ask}
 use Rattle.replay_log.specs.Contents.{block_of}

@@ -1,10 +1,9 @@
 //! The laws of the definitions that the contracts cite.
-ghost use Rattle.std.specs.Prelude.{◌≡◌, ◌<◌, ℕ, [], Some, slice_get};
+ghost use Rattle.std.specs.Prelude.{◌≡◌, ◌<◌, ℕ, [], None, Some, slice_get};
 ghost use Rattle.conflict.specs.declared.outcome.Outcome.{Outcome};
 ghost use Rattle.collection_machine.specs.Boosted.{longer};
-ghost use Rattle.replay_log.specs.Base.{Shown};
-ghost use Rattle.replay_log.specs.Contents.{Block, HaveStripes, block_of, first_of};
-ghost use Rattle.actor_copies.specs.Copies.{ShowParts, answer_of, answered_on};
+ghost use Rattle.replay_log.specs.Contents.{HaveStripes};
+ghost use Rattle.actor_copies.specs.Copies.{answer_of, answered_on};
 ghost use Rattle.replay_log.specs.Worlds.{World};
 ghost use Rattle.tx_actor.specs.Loading.{KeepsCall, MayHear};
 ghost use Rattle.actor_copies.specs.Loading.{LoadsReached};
@@ -13,7 +12,7 @@ ghost use Rattle.actor_copies.specs.declared.copies.CopyOf.{CopyOf};
 ghost use Rattle.tx_actor.specs.declared.actor.TxActor.{TxActor};
 ghost use Rattle.tx_actor.specs.Answers.{IsAcceptedAt};
 ghost use Rattle.actor_words.specs.Blocks.{BlocksView, IsLaid};
-ghost use Rattle.actor_copies.specs.Owns.{AreOfBlocks};
+ghost use Rattle.actor_copies.specs.Owns.{AreOfBlocks, IsOwn};
 ghost use Rattle.tx_actor.specs.Owns.{OwnsCopies};
 
 use seq_model::Value;
@@ -34,15 +33,12 @@ pub fn seats_as_actors<V>()
     ensures { SeatsActors V }
 {}
 
-/// What an actor has of all collections is its own in a world: of an actor that has begun, which has nothing, where its shadow shows
-/// collections. It depends on how the locations lie and on the actor's own shadow alone, so it stays whatever else happens. An accepted
-/// outcome keeps it. The copies are then of the kind and the stripes of their blocks.
+/// What an actor has of all collections is its own in a world: nothing, where its transaction has nothing of each. It depends on how the
+/// locations lie and on the actor's own shadow alone, so it stays whatever else happens. An accepted outcome keeps it. The copies are then
+/// of the kind and the stripes of their blocks.
 pub fn copies_stay_own<V: Value>()
     ensures begun { (r : TxActor V) (w : World V) (a : ℕ) → r.copies.items ≡ [] → HaveStripes w.blocks →
-        (w.boosted.shadows a).outcomes ≡ [] →
-        ((k : ℕ) (b : Block) → block_of w.blocks k ≡ Some b →
-        (s : Shown V) × ShowParts b (first_of w.words w.blocks k) (w.boosted.shadows a).parts s) →
-        OwnsCopies r w a }
+        ((k : ℕ) → IsOwn w a k None) → OwnsCopies r w a }
     ensures same { (r u : TxActor V) (w v : World V) (a : ℕ) → u.copies.items ≡ r.copies.items → v.words ≡ w.words → v.blocks ≡ w.blocks →
         v.boosted.shadows a ≡ w.boosted.shadows a → OwnsCopies r w a → OwnsCopies u v a }
     ensures accepted { (r u : TxActor V) (w v : World V) (a i j : ℕ) (o : Outcome V) → v.words ≡ w.words → v.blocks ≡ w.blocks →

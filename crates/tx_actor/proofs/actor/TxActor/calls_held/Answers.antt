@@ -1,4 +1,4 @@
-use Rattle.std.proofs.Common.{◌≡◌, Option, Some, None, ◌∙◌, ap, sym, subst}
+use Rattle.std.proofs.Common.{Option, ap, subst}
 use Rattle.tx_actor.specs.Running.{is_recorded}
 use Rattle.tx_actor.specs.Prepares.{ArePrepared}
 use Rattle.tx_actor.specs.declared.prepares.Prepared.{Prepared}

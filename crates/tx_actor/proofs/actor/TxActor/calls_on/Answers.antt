@@ -1,4 +1,4 @@
-use Rattle.std.proofs.Common.{◌≡◌, Option, ℕ, None, sym, subst, ◌∙◌}
+use Rattle.std.proofs.Common.{Option, ℕ, subst}
 use Rattle.tx_actor.specs.Prepares.{IsHeldPlace}
 use Rattle.tx_actor.proofs.CallsLemmas.{gate_is_tried}
 use Rattle.tx_actor.proofs.actor.TxActor.calls_on.Goals as goal
