@@ -124,6 +124,14 @@ impl Blocks {
         Some(self.placed[i].kind)
     }
 
+    /// The stripes of a collection.
+    pub fn stripes_of(&self, collection: u32) -> u32
+        requires { collection < length self.now.blocks }
+        ensures { (b : Block) → block_of self.now.blocks collection ≡ Some b → result ≡ b.stripes }
+    {
+        self.placed[collection as usize].stripes
+    }
+
     /// The first location of a collection.
     pub fn first_of(&self, collection: u32) -> u32
         requires { collection < length self.now.blocks }
