@@ -38,7 +38,7 @@ back_again {A} known k j a none =
 
 module _ {V : Type 0} where
   -- the pieces of a memo, by what it has
-  abbrev piece_by : Shown V → FinMap nat_cmp (Option V) → FinMap nat_cmp ℕ → Option ℕ → Piece → Bool
+  abbrev pub piece_by : Shown V → FinMap nat_cmp (Option V) → FinMap nat_cmp ℕ → Option ℕ → Piece → Bool
   piece_by (OfMap b) es cs total (pieces.Entry k) = has_key es k
   piece_by (OfMap b) es cs total pieces.Counts = is_some total
   piece_by (OfBag b) es cs total (pieces.Entry x) = has_key cs x
@@ -91,7 +91,7 @@ module _ {V : Type 0} where
     forgets op s h q e z kind = absurd (none_some h e)
 
   -- the pieces of a memo are those that it has by its keys
-  as_piece : (z : Shown V) (m : MemoView V) (q : Piece) → memo_piece z m q ≡ piece_by z m.entries m.copies m.total q
+  pub as_piece : (z : Shown V) (m : MemoView V) (q : Piece) → memo_piece z m q ≡ piece_by z m.entries m.copies m.total q
   as_piece (OfMap b) m (pieces.Entry k) = refl
   as_piece (OfMap b) m pieces.Counts = refl
   as_piece (OfMap b) m pieces.Whole = refl

@@ -13,4 +13,5 @@ pub mod CopiedLemmas
 pub mod TakenLemmas
 mod BegunLemmas
 pub mod ReadLemmas
+pub mod PiecesLemmas
 mod ForgottenLemmas

@@ -1,4 +1,19 @@
 //! What a call makes of an actor that holds the gate of its collection.
+ghost use Rattle.std.specs.Prelude.{◌≡◌, ℕ, Some, false, true, if◌then◌else◌};
+ghost use Rattle.conflict.specs.Table.{Room};
+ghost use Rattle.seq_model.specs.declared.call.Op.{Op};
+ghost use Rattle.replay_log.specs.declared.base.Base.{Base};
+ghost use Rattle.replay_log.specs.declared.touch.Touch.{Touch};
+ghost use Rattle.replay_log.specs.Base.{Shown, shown_of, stripes_of};
+ghost use Rattle.replay_log.specs.Parts.{kind_of};
+ghost use Rattle.replay_log.specs.Pieces.{Piece, is_piece, piece_of};
+ghost use Rattle.replay_log.specs.Touches.{touched_by};
+ghost use Rattle.shadow.specs.Memo.{MemoView};
+ghost use Rattle.actor_copies.specs.declared.copies.Copied.{Copied};
+ghost use Rattle.actor_copies.specs.declared.copies.Copied.TheVariants.{Keys};
+ghost use Rattle.actor_copies.specs.declared.copies.Found.{Found};
+ghost use Rattle.actor_copies.specs.Copies.{IsFound, IsLearnt, has_piece};
+ghost use Rattle.actor_copies.specs.First.{IsFirst};
 ghost use Rattle.actor_copies.specs.Copied.{CopiesFor, ForgetsPieces};
 
 use seq_model::Value;
@@ -13,4 +28,14 @@ pub fn copied_as_worlds<V: Value>()
 /// What was learnt for a call that is not made and is forgotten leaves the pieces that there were.
 pub fn copied_forgets<V: Value>()
     ensures { ForgetsPieces V }
+{}
+
+/// What is copied for a call: there are then the pieces that there were, and the one that the call touches; at first that one alone.
+pub fn copied_takes<V: Value>()
+    ensures learnt { (n : ℕ) (op : Op V) (s : Shown V) (t : Touch V) (m : MemoView V) (es : Room ℕ) (d : Copied V) (q : Piece) →
+        touched_by n op s ≡ Some t.held → kind_of (shown_of m.blank) ≡ kind_of s → IsLearnt t (Keys m es) d →
+        has_piece d q ≡ (if is_piece (piece_of (kind_of s) op) q then true else has_piece (Keys m es) q) }
+    ensures first { (base : Base V) (op : Op V) (x : Found V) (d : Copied V) (q : Piece) → IsFound base op x →
+        IsFirst (stripes_of base) x d →
+        has_piece d q ≡ (if is_piece (piece_of (kind_of (shown_of base)) op) q then true else false) }
 {}
