@@ -8,7 +8,9 @@ mod WriteLemmas
 pub mod KeptLemmas
 pub mod LogLemmas
 pub mod CallingLemmas
+mod ComesLemmas
 pub mod LoadingLemmas
+mod GoingLemmas
 pub mod CopiedLemmas
 pub mod TakenLemmas
 mod BegunLemmas

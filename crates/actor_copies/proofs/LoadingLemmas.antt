@@ -1,47 +1,41 @@
 -- Where the last location of a call is read with the copied edition. What events keep of a world says that the call's outcome is what the
--- shadow answers. Were the acceptance refused, the world after the step would have told one call more than its shadow has outcomes; so the
--- guard holds (`allowed`). Each location was read with the copied edition first: the read set says so of one that keeps a read set, and a
--- declared reader reads all from one memory (`read_again`).
-use Rattle.std.proofs.Common.{◌≡◌, ℕ, Bool, true, false, cond, not, ◌&&◌, eqb, eq-eqb, eqb-true, ne_eqb, List, [], ◌∷◌, ◌++◌, Option, Some, None, inl, inr, refl, sym, ap, subst, ◌∙◌, true≢false}
+-- shadow answers, and the step leads where events lead, so the lemmas on what a judged call comes to serve. Each location was read with the
+-- copied edition first: the read set says so of one that keeps a read set, and a declared reader reads all from one memory (`read_again`).
+use Rattle.std.proofs.Common.{◌≡◌, ℕ, Bool, true, false, cond, eqb, eq-eqb, eqb-true, ne_eqb, List, [], ◌∷◌, ◌++◌, Option, Some, None, inl, inr, refl, sym, ap, subst, ◌∙◌, true≢false}
 use Rattle.std.specs.Prelude.{unwrap_or, ◌==◌}
 use Rattle.std.proofs.lemmas.Bool.{cases_eq, cond-true, cond-false}
-use Rattle.std.proofs.lemmas.List.Elements.{filter-append}
 use Rattle.tx_sets.specs.Entries.{Entries, lookup}
 use Rattle.word_machine.specs.Actor as machine
 use Rattle.word_machine.specs.Actor.{Actor, Call, Read, Write}
 use Rattle.word_machine.specs.Notices as told
-use Rattle.word_machine.specs.Requests as requests
-use Rattle.word_machine.specs.Requests.{AskRead, ask}
 use Rattle.word_machine.specs.Opacity.{IsLegal, first_read}
 use Rattle.word_machine.specs.World as words
 use Rattle.word_machine.specs.World.{Memory, put}
 use Rattle.word_machine.proofs.Calls.{touched, first_read_is, first_read-more}
 use Rattle.word_machine.proofs.Invariant.{Saw}
-use Rattle.word_machine.proofs.Sets.{put-same, put-other}
+use Rattle.word_machine.proofs.Sets.{put-other}
 use Rattle.seq_model.specs.declared.event.Event.{Event}
 use Rattle.seq_model.specs.declared.event.Event.TheVariants.{Step}
 use Rattle.seq_model.specs.declared.held.Held.{Held}
-use Rattle.seq_model.specs.declared.call.Call as model
-use Rattle.seq_model.specs.declared.call.Reply.{Reply}
-use Rattle.collection_machine.specs.Boosted.{Accept, Boosted, changes, every, is_open, is_sound, may_write}
-use Rattle.replay_log.specs.Base.{Shown}
+use Rattle.collection_machine.specs.Boosted.{Accept, changes}
 use Rattle.replay_log.specs.Contents.{Answered, Block, HaveStripes, content, is_plain}
 use Rattle.replay_log.specs.Guards.{Allows}
-use Rattle.replay_log.specs.Worlds.{World, Seat, Stage, Loading, After, acted, actor_of, call_of, happens, asks, at_stage, has_loaded, moves, opened, outcome_at, reply_of, run, seated, step_at, with_call, word_notice}
+use Rattle.replay_log.specs.Worlds.{World, Seat, Stage, Loading, After, acted, actor_of, has_loaded, moves, opened, outcome_at, run, step_at, word_notice}
 use Rattle.replay_log.proofs.ActionLemmas.{learns, mine}
 use Rattle.replay_log.proofs.CallLemmas.{reading_none, reading_unwritten}
 use Rattle.replay_log.proofs.EventLemmas.{opened_linked, run_linked}
-use Rattle.replay_log.proofs.MixedLemmas.{Told, is_on_word, on_held}
+use Rattle.replay_log.proofs.MixedLemmas.{Told, on_held}
 use Rattle.replay_log.proofs.PlaceLemmas.{AfterRead, read_after, reading_quiet}
 use Rattle.replay_log.proofs.ReadLemmas.{first_read-new, kept_at}
-use Rattle.replay_log.proofs.SeatLemmas.{At, AtReading, Copy, Kept, Left, Linked, StageOk, at_of}
+use Rattle.replay_log.proofs.SeatLemmas.{At, Copy, IsLeft, Kept, Left, Linked, StageOk, at_of}
 use Rattle.replay_log.proofs.StageLemmas.{at_move}
 use Rattle.actor_words.specs.declared.judged.Judged.{Judged}
 use Rattle.actor_words.specs.declared.judged.Judged.TheVariants.{All, Next}
 use Rattle.actor_words.specs.Judged.{comes_to, judged, left_after, left_one}
 use Rattle.actor_copies.specs.Loading.{AreRead, IsDoomed, LoadsIn, LoadsReached}
-use Rattle.actor_copies.proofs.CallingLemmas.{in_set_some, not_read, one_all}
+use Rattle.actor_copies.proofs.CallingLemmas.{in_set_some, not_read}
 use Rattle.actor_words.proofs.JudgedLemmas.{found_fresh}
+use Rattle.actor_copies.proofs.ComesLemmas.{all_read, allowed, unwritten}
 
 -- ---- what was read
 -- a location that was read twice, and not written, was read alike
@@ -81,36 +75,13 @@ doomed_more cs ds (d ∷ es) more h =
 not_off : (cs : List Call) (f : ℕ × ℕ) (fs : Entries) → first_read cs f.0 ≡ Some f.1 → IsDoomed cs (f ∷ fs) → IsDoomed cs fs
 not_off cs f fs is h = elim h [ inl q ↦ absurd (q.2 (some_is q.0 f.1 (sym q.1 ∙ is))) | inr rest ↦ rest ]
 
--- the three of a guard that holds
-parts : (p q r : Bool) → (p && (q && r)) ≡ true → (p ≡ true) × (q ≡ true) × (r ≡ true)
-parts true true true e = (refl, refl, refl)
-parts true true false e = absurd (true≢false (sym e))
-parts true false r e = absurd (true≢false (sym e))
-parts false q r e = absurd (true≢false (sym e))
-
--- what a guard that fails leaves
-not_done : {X : Type 0} (s t : X) (b : Bool) → b ≡ false → cond b t s ≡ s
-not_done s t true e = absurd (true≢false e)
-not_done s t false e = refl
-
 module _ {V : Type 0} where
-  -- one call more than outcomes
-  told_longer : (cs : List (model.Call V × Reply V)) (c : model.Call V × Reply V) (os : List (Answered V)) → Told cs os
-      → Told (cs ++ c ∷ []) os → ⊥
-  told_longer [] c [] h more = more
-  told_longer [] c (o ∷ os) h more = h
-  told_longer (d ∷ cs) c [] h more = h
-  told_longer (d ∷ cs) c (o ∷ os) h more = told_longer cs c os h.2 more.2
-
-  -- what was judged by the read set was read so first
-  all_read : (n : ℕ) (bs : List Block) (y : Actor) (z : Copy V) (y0 : Actor) (es : Entries) → Kept n bs y → Left n bs y0 z es
-      → judged y.reads es ≡ All → AreRead y.calls es
-  all_read n bs y z y0 [] kept left all = tt
-  all_read n bs y z y0 (d ∷ es) kept left all =
-      let one = one_all d (judged y.reads es) (lookup y.reads d.0) all in (
-        in_set_some y.declared (first_read y.calls d.0) d.1 (sym (kept d.0 left.0) ∙ one.0),
-        all_read n bs y z y0 es kept left.3 one.1,
-      )
+  -- what is left to be judged lies in collections
+  left_plain : (n : ℕ) (bs : List Block) (y : Actor) (z : Copy V) (es : Entries) → Left n bs y z es → (l : ℕ) → IsLeft l es
+      → is_plain n bs l ≡ false
+  left_plain n bs y z [] left l m = absurd m
+  left_plain n bs y z (d ∷ es) left l m =
+      elim m [ inl e ↦ ap (is_plain n bs) e ∙ left.0 | inr rest ↦ left_plain n bs y z es left.3 l rest ]
 
   -- ---- the load
   module _ (w : World V) (a : ℕ) (o : Answered V) (d : ℕ × ℕ) (es : Entries) (k : Linked w) (st : (w.seats a).stage ≡ Loading o (d ∷ es))
@@ -186,7 +157,7 @@ module _ {V : Type 0} where
         (λ l e is. first_read-more y.calls (Read d.0 d.1 ∷ []) l e is) h))
 
     are_read : judged read.reads es ≡ All → AreRead read.calls (d ∷ es)
-    are_read all = (first_is, all_read w.words w.blocks read z y es kept ok.2.left.3 all)
+    are_read all = (first_is, all_read w.words w.blocks read es kept (left_plain w.words w.blocks y z es ok.2.left.3) all)
 
     outcome_is : outcome_at u a o.asked ≡ o
     outcome_is =
@@ -197,102 +168,35 @@ module _ {V : Type 0} where
     abbrev x : Seat V
     x = w.seats a
 
-    abbrev accepted : World V
-    accepted = acted u (Accept a o.asked ∷ [])
-
-    abbrev told_one : Seat V
-    told_one = with_call x (call_of o) (reply_of o)
-
-    steps_to : judged read.reads es ≡ All → happens w (Step a) ≡ comes_to u a x o [] All
-    steps_to all =
-        ap (λ (s : Stage V). step_at w a x s) st
-        ∙ (ap (λ m. has_loaded u a x o d es m) n
-        ∙ (found_fresh u a x o d es d.1 refl
-        ∙ (ap (λ (q : Actor). comes_to u a x o (left_after q.reads es) (judged q.reads es)) now
-        ∙ ap (λ (j : Judged). comes_to u a x o (left_after read.reads es) j) all)))
-
-    linked : judged read.reads es ≡ All → Linked (comes_to u a x o [] All).0
-    linked all = subst (λ (p : After V). Linked p.0) (steps_to all) (run_linked (Step a ∷ []) w k)
-
-    told_there : judged read.reads es ≡ All → Told (on_held told_one.calls) (accepted.boosted.shadows a).outcomes
-    told_there all =
-        let s = (linked all).seats a in
-        let at_open = subst (λ (q : Seat V). StageOk w.words w.blocks q (actor_of accepted a) (accepted.boosted.shadows a) q.stage
-        (actor_of accepted a).place) (put-same u.seats a told_one) s.stage in
-        at_open.1.tx.1.held
-
-    refused : judged read.reads es ≡ All → accepted.boosted ≡ u.boosted → ⊥
-    refused all none =
-        let c : model.Call V × Reply V = (call_of o, reply_of o) in
-        let held : on_held (x.calls ++ c ∷ []) ≡ on_held x.calls ++ c ∷ [] =
-        filter-append (λ (q : model.Call V × Reply V). not (is_on_word q)) x.calls (c ∷ [])
-        ∙ ap (λ (b : Bool). on_held x.calls ++ cond (not b) (c ∷ []) []) ok.2.kind in
-        told_longer (on_held x.calls) c z.outcomes ok.1.tx.1.held
-        (subst (λ (cs : List (model.Call V × Reply V)). Told cs z.outcomes) held
-        (subst (λ (q : Copy V). Told (on_held told_one.calls) q.outcomes)
-        (ap (λ (s : Boosted (Shown V) (Answered V)). s.shadows a) none ∙ moved.own.shadow)
-        (told_there all)))
-
-    allowed : judged read.reads es ≡ All → Allows (content u.words u.blocks) u.boosted (Accept a o.asked)
-    allowed all = by guard refl
-      where
-        guard : Bool
-        guard =
-            let c = content u.words u.blocks in
-            let s = u.boosted in
-            let p = outcome_at u a o.asked in
-            is_open (s.words.actors a).place && (may_write (s.words.actors a).declared (c.writes p) && every (is_sound c s a) (c.reads p))
-
-        by : (b : Bool) → guard ≡ b → Allows (content u.words u.blocks) u.boosted (Accept a o.asked)
-        by true is = parts _ _ _ is
-        by false is = absurd (refused all (not_done u.boosted _ guard is))
-
-    -- the location that is read next
-    abbrev next_world : ℕ → Entries → World V
-    next_world l left = seated (acted u (asks a (AskRead l) ∷ [])) a (at_stage x (Loading o left))
-
-    linked_next : (l : ℕ) → judged read.reads es ≡ Next l → Linked (next_world l (left_after read.reads es))
-    linked_next l next =
+    linked : (j : Judged) → judged read.reads es ≡ j → Linked (comes_to u a x o (left_after read.reads es) j).0
+    linked j is =
         subst (λ (p : After V). Linked p.0)
         (ap (λ (s : Stage V). step_at w a x s) st
         ∙ (ap (λ m. has_loaded u a x o d es m) n
         ∙ (found_fresh u a x o d es d.1 refl
         ∙ (ap (λ (q : Actor). comes_to u a x o (left_after q.reads es) (judged q.reads es)) now
-        ∙ ap (λ (j : Judged). comes_to u a x o (left_after read.reads es) j) next))))
+        ∙ ap (λ (i : Judged). comes_to u a x o (left_after read.reads es) i) is))))
         (run_linked (Step a ∷ []) w k)
 
-    not_open : (v : Seat V) (q : Actor) (c : Copy V) (left : Entries) → StageOk w.words w.blocks v q c (Loading o left) q.place
-        → q.place ≡ machine.Open → ⊥
-    not_open v q c [] h e = h
-    not_open v q c (f ∷ fs) h e = subst (AtReading f.0) e h.0
+    accepts : judged read.reads es ≡ All → Allows (content u.words u.blocks) u.boosted (Accept a o.asked)
+    accepts all =
+        allowed u a x o (left_after read.reads es) (linked All all) ok.2.kind
+        (subst (λ (q : Copy V). Told (on_held x.calls) q.outcomes) (sym moved.own.shadow) ok.1.tx.1.held)
 
-    unwritten : (l : ℕ) → judged read.reads es ≡ Next l → lookup read.writes l ≡ None
-    unwritten l next = at (lookup read.writes l) refl
-      where
-        at : (found : Option ℕ) → lookup read.writes l ≡ found → lookup read.writes l ≡ None
-        at None is = is
-        at (Some v) is =
-            let left = left_after read.reads es in
-            let there = next_world l left in
-            let s = (linked_next l next).seats a in
-            let here = subst (λ (q : Seat V). StageOk w.words w.blocks q (actor_of there a) (there.boosted.shadows a) q.stage
-            (actor_of there a).place) (put-same u.seats a (at_stage x (Loading o left))) s.stage in
-            let asked : actor_of there a ≡ requests.read read l (Some v) (lookup read.reads l) =
-            put-same u.boosted.words.actors a _
-            ∙ (ap (λ (q : Actor). ask q q.place (AskRead l)) now
-            ∙ ap (λ (q : Option ℕ). requests.read read l q (lookup read.reads l)) is) in
-            absurd (not_open (at_stage x (Loading o left)) (actor_of there a) (there.boosted.shadows a) left here
-            (ap (λ (q : Actor). q.place) asked))
+    -- the location that is read next
+    next_unwritten : (l : ℕ) → judged read.reads es ≡ Next l → lookup (actor_of u a).writes l ≡ None
+    next_unwritten l next =
+        unwritten u a x o (left_after read.reads es) l (linked (Next l) next) (ap (λ (q : Actor). q.place) now)
 
     pub loads_in : LoadsIn w a o d es
     loads_in = record {
       accepts = λ all.
           let is : judged read.reads es ≡ All = ap (λ (q : Actor). judged q.reads es) (sym now) ∙ all in
-          (allowed is, outcome_is, subst (λ (q : Actor). AreRead q.calls (d ∷ es)) (sym now) (are_read is));
+          (accepts is, outcome_is, subst (λ (q : Actor). AreRead q.calls (d ∷ es)) (sym now) (are_read is));
       reads = λ l next.
           let is : judged read.reads es ≡ Next l = ap (λ (q : Actor). judged q.reads es) (sym now) ∙ next in (
             ap (λ (q : Actor). q.place) now,
-            ap (λ (q : Actor). lookup q.writes l) now ∙ unwritten l is,
+            next_unwritten l is,
             ap (λ (q : Actor). lookup q.reads l) now ∙ not_read read.reads es l is,
           );
       more = λ l e is. ap (λ (q : Actor). first_read q.calls l) now ∙ first_read-more y.calls (Read d.0 d.1 ∷ []) l e is;

@@ -1,13 +1,15 @@
 -- What is copied for a call while its gate is held, and what its transaction has of the collection then.
 use Rattle.std.specs.Prelude.{◌≡◌, ◌⊎◌, ℕ, ◌+◌, ◌<◌, true, false, List, [], ◌∷◌, Option, Some, None, Contains}
-use Rattle.word_machine.specs.Actor.{Call}
+use Rattle.tx_sets.specs.Entries.{lookup}
+use Rattle.word_machine.specs.Actor.{Call, Open as AtRest}
 use Rattle.word_machine.specs.Opacity.{first_read}
 use Rattle.seq_model.specs.declared.call.Op.{Op}
 use Rattle.conflict.specs.declared.outcome.Outcome.{Outcome}
-use Rattle.collection_machine.specs.Boosted.{Shadow as Part}
+use Rattle.collection_machine.specs.Boosted.{Accept, Shadow as Part}
 use Rattle.replay_log.specs.declared.base.Base.{Base}
 use Rattle.replay_log.specs.Base.{Shown, editions_of, shown_of}
 use Rattle.replay_log.specs.Contents.{Answered, Asked, Block, HaveStripes, block_of, content, first_of, shifted, size}
+use Rattle.replay_log.specs.Guards.{Allows}
 use Rattle.replay_log.specs.Parts.{kind_of, part}
 use Rattle.replay_log.specs.Pieces.{Piece}
 use Rattle.replay_log.specs.Touches.{touched_by}
@@ -23,13 +25,15 @@ use Rattle.actor_copies.specs.Footprints.{base_in, reads_in, with_known, writes_
 use Rattle.actor_copies.specs.Keeps.{IsOwnCopy}
 use Rattle.actor_copies.specs.Loading.{AreRead, IsDoomed}
 use Rattle.actor_copies.specs.Owns.{IsOwn}
+use Rattle.actor_words.specs.declared.judged.Judged.TheVariants.{All, Next}
+use Rattle.actor_words.specs.Judged.{judged}
 use Rattle.actor_words.specs.Shows.{put_back}
 use Rattle.seq_model.specs.declared.event.Event.{Event}
 use Rattle.seq_model.specs.declared.held.Held.{Held}
 use Rattle.atomic_steps.specs.Bases.{IsBaseOf, ShowsBase}
 use Rattle.word_machine.specs.Notices as notice
 use Rattle.replay_log.specs.Collections.{Suit}
-use Rattle.replay_log.specs.Worlds.{Beginning, Copying, World, acted, actor_of, has_room, moves, opened, outcome_at, run, sized_by}
+use Rattle.replay_log.specs.Worlds.{Beginning, Copying, World, acted, actor_of, has_room, is_known, may_ask, moves, opened, outcome_at, run, sized_by}
 use Rattle.replay_log.specs.Worlds.{with_editions, word_notice}
 
 module _ {V : Type 0} where
@@ -112,6 +116,33 @@ CopiesFor V =
     (w.seats a).stage ≡ Copying asked → block_of w.blocks asked.collection ≡ Some b → IsBaseOf b base
     → ShowsBase w.words w.blocks w asked.collection base → IsOwn w a asked.collection c → IsReadOf w a asked.collection c
     → holds_of c asked.op ≡ false → IsFound base asked.op x → IsTaken b.stripes x c d → IsCopyFor w a b asked d
+
+-- What a call comes to once it is copied and its gate put back, where its locations fit the sets: where all have been read with the
+-- editions of the base it may be accepted, and the one that is to be read next is not written.
+pub record CopiesGoOn {V : Type 0} (w : World V) (a : ℕ) (asked : Asked V) : Type 0 where
+  pub rests : (actor_of w a).place ≡ AtRest
+  pub known : is_known (block_of w.blocks asked.collection) asked.op ≡ true
+  pub may : may_ask (actor_of w a) asked.op ≡ true
+  pub accepts : let u = put_back a w asked in
+      let c = content w.words w.blocks in
+      let o = outcome_at u a asked in
+      let es = with_editions w.boosted.editions (c.reads o) in
+      has_room (actor_of w a) (c.reads o) (c.writes o) ≡ true → judged (actor_of u a).reads es ≡ All →
+      Allows (content u.words u.blocks) u.boosted (Accept a asked) × AreRead (actor_of u a).calls es
+  pub reads : let u = put_back a w asked in
+      let c = content w.words w.blocks in
+      let o = outcome_at u a asked in
+      let es = with_editions w.boosted.editions (c.reads o) in
+      (l : ℕ) → has_room (actor_of w a) (c.reads o) (c.writes o) ≡ true → judged (actor_of u a).reads es ≡ Next l →
+      lookup (actor_of u a).writes l ≡ None
+
+-- So it is in every world that events have reached.
+abbrev pub CopiesReached : Type 0 → Type 0
+CopiesReached V =
+    (blocks : List Block) (clock : ℕ) (values : List ℕ) (held : List (Held V)) (events : List (Event V)) (a : ℕ) (asked : Asked V)
+    → HaveStripes blocks →
+    let w = run (opened blocks clock values held) events in
+    (w.seats a).stage ≡ Copying asked → CopiesGoOn w a asked
 
 -- What a memo learnt of a collection s for a call, and then forgets, leaves the pieces that it had; between the two it may have been made
 -- ready.

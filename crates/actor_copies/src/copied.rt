@@ -14,7 +14,7 @@ ghost use Rattle.actor_copies.specs.declared.copies.Copied.TheVariants.{Keys};
 ghost use Rattle.actor_copies.specs.declared.copies.Found.{Found};
 ghost use Rattle.actor_copies.specs.Copies.{IsFound, IsLearnt, has_piece};
 ghost use Rattle.actor_copies.specs.First.{IsFirst};
-ghost use Rattle.actor_copies.specs.Copied.{CopiesFor, ForgetsPieces};
+ghost use Rattle.actor_copies.specs.Copied.{CopiesFor, CopiesReached, ForgetsPieces};
 
 use seq_model::Value;
 
@@ -23,6 +23,12 @@ use seq_model::Value;
 /// definitions' outcome does.
 pub fn copied_as_worlds<V: Value>()
     ensures { CopiesFor V }
+{}
+
+/// What a call comes to once it is copied and its gate put back, in every world that events have reached. Where its locations fit the sets
+/// and have all been read with the editions of the base, it may be accepted; a location that is to be read next has not been written.
+pub fn copies_go_on<V: Value>()
+    ensures { CopiesReached V }
 {}
 
 /// What was learnt for a call that is not made and is forgotten leaves the pieces that there were.

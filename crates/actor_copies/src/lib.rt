@@ -12,7 +12,7 @@ pub mod laws;
 mod weighed;
 mod writes;
 
-pub use copied::{copied_as_worlds, copied_forgets};
+pub use copied::{copied_as_worlds, copied_forgets, copied_takes, copies_go_on};
 pub use copies::{Copied, CopyOf, Found, find};
 pub use first::{Footprint, find_footprint, first_copy};
 pub use footprints::place_of;
