@@ -11,6 +11,12 @@ pub mod CallingLemmas
 mod ComesLemmas
 pub mod LoadingLemmas
 mod GoingLemmas
+mod StillLemmas
+mod StayingLemmas
+mod SteppedLemmas
+mod HomedLemmas
+pub mod OwnLemmas
+mod EventsLemmas
 pub mod CopiedLemmas
 pub mod TakenLemmas
 mod BegunLemmas

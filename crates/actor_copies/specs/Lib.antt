@@ -8,3 +8,4 @@ pub mod Owns
 pub mod Logs
 pub mod Loading
 pub mod Copied
+pub mod Staying

@@ -9,6 +9,7 @@ mod copies;
 mod first;
 mod footprints;
 pub mod laws;
+mod staying;
 mod weighed;
 mod writes;
 
@@ -16,5 +17,6 @@ pub use copied::{copied_as_worlds, copied_forgets, copied_takes, copies_go_on};
 pub use copies::{Copied, CopyOf, Found, find};
 pub use first::{Footprint, find_footprint, first_copy};
 pub use footprints::place_of;
+pub use staying::copies_stay;
 pub use weighed::{Weighed, weigh};
 pub use writes::{reserve_words, write_all};
