@@ -1,7 +1,7 @@
 -- What an actor has of all collections, and of which worlds that is its own: it depends on how the locations lie and on the actor's own
 -- shadow (`owns_by`). An acceptance puts one outcome behind those of the shadow, and into the copy of its collection, which stands once
--- among the copies: that copy follows by the law on copies, and the others leave out an outcome on another collection.
-use Rattle.std.proofs.Common.{◌≡◌, ◌≢◌, ℕ, zero, suc, ◌++◌, ◌==◌, Bool, true, false, cond, true≢false, eqb-true, eq-eqb, List, [], ◌∷◌, Option, Some, None, append-nil, refl, sym, ap, subst, ◌∙◌}
+-- among the copies: that copy follows by the law on copies, and the others leave out an outcome on another collection (`OwnLemmas`).
+use Rattle.std.proofs.Common.{◌≡◌, ◌≢◌, ℕ, zero, suc, ◌==◌, Bool, true, false, cond, true≢false, eqb-true, eq-eqb, List, [], ◌∷◌, Option, Some, None, refl, sym, ap, subst, ◌∙◌}
 use Rattle.std.specs.Prelude.{slice_get}
 use Rattle.std.proofs.lemmas.Bool.{cond-true, cond-false}
 use Rattle.std.proofs.Math.ListN.{set}
@@ -13,8 +13,7 @@ use Rattle.replay_log.specs.Contents.{Answered, Block, HaveStripes, block_of, fi
 use Rattle.replay_log.specs.Pieces.{piece_of}
 use Rattle.replay_log.specs.Worlds.{World}
 use Rattle.replay_log.proofs.ContentLemmas.{positive_at}
-use Rattle.atomic_steps.specs.Bases.{changes_on, log_changes, log_locations, writes_on}
-use Rattle.atomic_steps.proofs.Bases.{more_changes, more_locations}
+use Rattle.atomic_steps.specs.Bases.{log_changes, log_locations}
 use Rattle.actor_copies.specs.declared.copies.Copied.{Copied}
 use Rattle.actor_copies.specs.declared.copies.Copied.TheVariants.{Keys, Whole}
 use Rattle.actor_copies.specs.declared.copies.CopyOf.{CopyOf}
@@ -24,11 +23,12 @@ use Rattle.actor_words.specs.Blocks.{BlocksView, IsLaid}
 use Rattle.actor_copies.specs.Copies.{IsAccepted, IsCopied, IsOf, answer_of, answered_on, holds_call}
 use Rattle.actor_copies.specs.Footprints.{base_in, reads_in}
 use Rattle.actor_copies.specs.Keeps.{IsOwnCopy, Knows}
-use Rattle.actor_copies.specs.Owns.{AreOfBlocks, AreOnce, IsOfBlock, IsOwn, IsUncalled}
+use Rattle.actor_copies.specs.Owns.{AreOfBlocks, AreOnce, IsOfBlock, IsOwn}
 use Rattle.tx_actor.specs.Owns.{OwnsCopies}
 use Rattle.actor_copies.specs.Kept.{copy_of}
-use Rattle.actor_copies.proofs.CopiesLemmas.{editions_stay, follows_accepted, follows_others}
+use Rattle.actor_copies.proofs.CopiesLemmas.{editions_stay, follows_accepted}
 use Rattle.actor_copies.proofs.KeptLemmas.{accepted_pieces}
+use Rattle.actor_copies.proofs.OwnLemmas.{own_joined, own_same}
 use Rattle.actor_copies.proofs.ReadLemmas.{same_holds, same_reads}
 
 apart : (j k : ℕ) → j ≢ k → (b : Bool) → (j == k) ≡ b → (j == k) ≡ false
@@ -87,32 +87,11 @@ module _ {V : Type 0} where
   set_there (x ∷ cs) (suc i) c d at = set_there cs i c d at
 
   -- ---- the world
-  own_by : (w v : World V) (a k : ℕ) (o : Option (Copied V)) → v.words ≡ w.words → v.blocks ≡ w.blocks
-      → v.boosted.shadows a ≡ w.boosted.shadows a → IsOwn w a k o → IsOwn v a k o
-  own_by w v a k (Some c) ew eb es is =
-      let first : first_of v.words v.blocks k ≡ first_of w.words w.blocks k = λ i. first_of (ew i) (eb i) k in
-      let b = is.0 in
-      let here : IsOwnCopy v a k b (first_of w.words w.blocks k) c = record {
-        stripes = subst HaveStripes (sym eb) is.1.stripes;
-        block = ap (λ bs. block_of bs k) eb ∙ is.1.block;
-        first = first;
-        copied = subst (λ z. IsCopied b (first_of w.words w.blocks k) k z c) (sym es) is.1.copied;
-        knows = is.1.knows;
-        pieces = is.1.pieces;
-      } in
-      (b, subst (λ f. IsOwnCopy v a k b f c) (sym first) here)
-  own_by w v a k None ew eb es is =
-      λ b there. (
-      let first : first_of v.words v.blocks k ≡ first_of w.words w.blocks k = λ i. first_of (ew i) (eb i) k in
-      let here = is b (ap (λ bs. block_of bs k) (sym eb) ∙ there) in
-      subst (λ f. IsUncalled b f k (v.boosted.shadows a)) (sym first)
-      (subst (λ z. IsUncalled b (first_of w.words w.blocks k) k z) (sym es) here))
-
   pub owns_by : (r u : TxActor V) (w v : World V) (a : ℕ) → u.copies.items ≡ r.copies.items → v.words ≡ w.words → v.blocks ≡ w.blocks
       → v.boosted.shadows a ≡ w.boosted.shadows a → OwnsCopies r w a → OwnsCopies u v a
   owns_by r u w v a ec ew eb es is = record {
     stripes = subst HaveStripes (sym eb) is.stripes;
-    own = λ k. subst (λ cs. IsOwn v a k (copy_of cs k)) (sym ec) (own_by w v a k (copy_of r.copies.items k) ew eb es (is.own k));
+    own = λ k. subst (λ cs. IsOwn v a k (copy_of cs k)) (sym ec) (own_same w v a k (copy_of r.copies.items k) ew eb es (is.own k));
     once = subst AreOnce (sym ec) is.once;
   }
 
@@ -180,40 +159,6 @@ module _ {V : Type 0} where
         } in
         (b, subst (λ f. IsOwnCopy v a j b f d) (sym first) here)
 
-    other_own : (k : ℕ) (p : Option (Copied V)) → IsAfter → j ≢ k → IsOwn w a k p → IsOwn v a k p
-    other_own k (Some c) after other is =
-        let b = is.0 in
-        let first : first_of v.words v.blocks k ≡ first_of w.words w.blocks k = λ i. first_of (after.0 i) (after.1 i) k in
-        let here : IsOwnCopy v a k b (first_of w.words w.blocks k) c = record {
-          stripes = subst HaveStripes (sym after.1) is.1.stripes;
-          block = ap (λ bs. block_of bs k) after.1 ∙ is.1.block;
-          first = first;
-          copied = subst (λ z. IsCopied b (first_of w.words w.blocks k) k z c) (sym after.2)
-              (follows_others b (first_of w.words w.blocks k) k (w.boosted.shadows a) c (answered_on j o.op o) is.1.copied other);
-          knows = is.1.knows;
-          pieces = is.1.pieces;
-        } in
-        (b, subst (λ f. IsOwnCopy v a k b f c) (sym first) here)
-    other_own k None after other is =
-        λ b there. (
-        let x = w.boosted.shadows a in
-        let p = answered_on j o.op o in
-        let none = apart j k other (j == k) refl in
-        let first : first_of v.words v.blocks k ≡ first_of w.words w.blocks k = λ i. first_of (after.0 i) (after.1 i) k in
-        let f = first_of w.words w.blocks k in
-        let here = is b (ap (λ bs. block_of bs k) (sym after.1) ∙ there) in
-        let more : IsUncalled b f k (longer x p) = (
-          here.0,
-          more_changes k b x.outcomes p
-              ∙ (ap (λ z. log_changes k b x.outcomes ++ z) (cond-false (j == k) (changes_on b (Some o)) [] none)
-              ∙ (append-nil (log_changes k b x.outcomes) ∙ here.1)),
-          more_locations k b x.outcomes p
-              ∙ (ap (λ z. log_locations k b x.outcomes ++ z) (cond-false (j == k) (writes_on b (Some o)) [] none)
-              ∙ (append-nil (log_locations k b x.outcomes) ∙ here.2)),
-        ) in
-        subst (λ g. IsUncalled b g k (v.boosted.shadows a)) (sym first)
-        (subst (λ z. IsUncalled b f k z) (sym after.2) more))
-
     pub owns_accepted : (r u : TxActor V) (i : ℕ) (p : Option (Outcome V)) → IsAfter → p ≡ Some o
         → IsAcceptedAt i p r.copies.items u.copies.items
         → ((c : CopyOf V) → slice_get r.copies.items i ≡ Some c → (c.collection ≡ j) × (answer_of c.copied o.op ≡ Some o))
@@ -237,7 +182,7 @@ module _ {V : Type 0} where
               let other : j ≢ k = differ j k e in
               subst (λ q. IsOwn v a k q)
               (sym (set_other cs i k c d acc.2 acc.3 (λ h. other (sym (h ∙ here.0)))))
-              (other_own k (copy_of cs k) after other (is.own k)))
+              (own_joined w v a k (answered_on j o.op o) (copy_of cs k) after.0 after.1 after.2 other (is.own k)))
         ] in
         record {
           stripes = subst HaveStripes (sym after.1) is.stripes;
