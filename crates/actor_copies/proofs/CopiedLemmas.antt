@@ -37,7 +37,7 @@ use Rattle.shadow.specs.Memo.{IsAlike, MemoView, has_key, holds, holds_with, sha
 use Rattle.actor_copies.specs.declared.copies.Copied.{Copied}
 use Rattle.actor_copies.specs.declared.copies.Copied.TheVariants.{Keys, Whole}
 use Rattle.actor_copies.specs.Copied.{AreTaken, IsFoundAt, IsReadBy, taken_from}
-use Rattle.actor_copies.specs.Copies.{HasEditions, IsLearnt, IsOf, ShowParts, has_piece, holds_call}
+use Rattle.actor_copies.specs.Copies.{HasEditions, IsLearnt, IsOf, ShowParts, edition_at, has_piece, holds_call}
 use Rattle.actor_copies.specs.First.{IsBlank}
 use Rattle.actor_copies.specs.Footprints.{known_edition, reads_in}
 use Rattle.actor_copies.specs.Keeps.{Knows}
@@ -281,10 +281,10 @@ module _ {V : Type 0} where
             let here : Contains (reads_in (Keys m es) o) i =
             subst (λ js. Contains js i) (sym (reads_by b.kind b.stripes o s shows.0) ∙ same_reads b s cs ls (Keys m es) o is) c in
             let lt = reads_within b o pos i (subst (λ js. Contains js i) (sym (reads_by b.kind b.stripes o s shows.0)) c) in
-            let r = was_read o (ap (holds m) (outcome_op s op o e) ∙ held) i here in
+            let r = was_read.0 o (ap (holds m) (outcome_op s op o e) ∙ held) i here in
             sym (shows.1 i lt) ∙ (sym (left_part i r.0 lt r.1) ∙ mixed.1.1 i lt)))
 
-        moved : IsOf b u cs ls (Keys m es)
+        pub moved : IsOf b u cs ls (Keys m es)
         moved = follows_moved b s u cs ls m es is alike
 
         module _ (has : HasEditions b f x (Keys m es)) (t : Touch V) (op : Op V) (c : Copied V) (learnt : IsLearnt t (Keys m es) c)
@@ -351,18 +351,28 @@ module _ {V : Type 0} where
               by (inr other) (inl before) = let r = known o before.0 i before.1 in (r.0, other.1 ∙ r.1)
               by (inr other) (inr more) = absurd (other.0 (contains_in places i more))
 
-          -- where what is touched has been read too, so has what each held call reads
-          module _ (later : ℕ → Option ℕ) (more : (l e : ℕ) → read l ≡ Some e → later l ≡ Some e)
-              (all : (i : ℕ) → Contains places i → (e : ℕ) × (later (f + i) ≡ Some e)) where
-            read_either : (o : Outcome V) (i : ℕ)
+          -- where what is touched has been read too, with the known editions, so has all that there is then
+          module _ (later : ℕ → Option ℕ) (more : (l e : ℕ) → read l ≡ Some e → later l ≡ Some e) where
+            abbrev Later : Copied V → Type 0
+            Later d = (i : ℕ) → Contains places i → later (f + i) ≡ Some (known_edition d i)
+
+            read_either : (d : Copied V) → Later d → (o : Outcome V) (i : ℕ)
                 → ((holds_call (Keys m es) o.op ≡ true) × Contains (reads_in (Keys m es) o) i) ⊎ Contains places i
                 → (e : ℕ) × (later (f + i) ≡ Some e)
-            read_either o i (inl before) = let r = was_read o before.0 i before.1 in (r.0, more (f + i) r.0 r.1)
-            read_either o i (inr here) = all i here
+            read_either d all o i (inl before) = let r = was_read.0 o before.0 i before.1 in (r.0, more (f + i) r.0 r.1)
+            read_either d all o i (inr here) = (known_edition d i, all i here)
 
-            pub now_read : (d : Copied V) → IsLearnt t (Keys m es) d → IsReadBy later f d
-            now_read (Keys n fs) now = λ o held i c. read_either o i (reads_either n fs now o held i c)
-            now_read (Whole w) now = absurd now
+            known_then : (n : MemoView V) (fs : Room ℕ) → Later (Keys n fs) → (i e : ℕ) → get fs.contents i ≡ Some e
+                → Learnt places (editions_of base) es.contents fs.contents i → later (f + i) ≡ Some e
+            known_then n fs all i e is (inl there) = all i (in_list places i there.0) ∙ ap (λ o. Some (unwrap_or o 0)) is
+            known_then n fs all i e is (inr other) = more (f + i) e (was_read.1 i e (sym other.1 ∙ is))
+
+            pub now_read : (d : Copied V) → IsLearnt t (Keys m es) d → Later d → IsReadBy later f d
+            now_read (Keys n fs) now all = (
+              λ o held i c. read_either (Keys n fs) all o i (reads_either n fs now o held i c),
+              λ i e is. known_then n fs all i e is (learnt_at n fs i now),
+            )
+            now_read (Whole w) now all = absurd now
 
           pub now_knows : ((o : Outcome V) → holds_call (Keys m es) o.op ≡ true → Knows (Keys m es) (reads_in (Keys m es) o))
               → (d : Copied V) → IsLearnt t (Keys m es) d → (o : Outcome V) → holds_call d o.op ≡ true → Knows d (reads_in d o)
@@ -420,10 +430,12 @@ module _ {V : Type 0} where
   blank_holds n k m es op is held =
       true≢false (sym held ∙ ((λ j. holds_with (is.blank j) (is.entries j) (is.copies j) (is.total j) op) ∙ no_holds k op))
 
+  pub blank_knows : (m : MemoView V) (es : Room ℕ) (i e : ℕ) → es.contents ≡ empty → edition_at (Keys m es) i ≡ Some e → ⊥
+  blank_knows m es i e none is = none_some e (sym (get-empty nat_cmp i) ∙ (ap (λ g. get g i) (sym none) ∙ is))
+
   pub blank_editions : (b : Block) (f : ℕ) (x : Part (Shown V) (Answered V)) (m : MemoView V) (es : Room ℕ) → es.contents ≡ empty
       → HasEditions b f x (Keys m es)
-  blank_editions b f x m es none i e lt is =
-      absurd (none_some e (sym (get-empty nat_cmp i) ∙ (ap (λ g. get g i) (sym none) ∙ is)))
+  blank_editions b f x m es none i e lt is = absurd (blank_knows m es i e none is)
 
   -- ---- the whole
   module _ (b : Block) (f k : ℕ) (x : Part (Shown V) (Answered V)) (pos : 0 < b.stripes) (base : Base V) (is_base : IsBaseOf b base)

@@ -4,6 +4,7 @@ use Rattle.std.specs.Prelude.{All, Contains, slice_index_or}
 use Rattle.std.proofs.lemmas.List.Elements.{All-contains_itself}
 use Rattle.std.specs.FinMap.{empty}
 use Rattle.conflict.specs.declared.outcome.Outcome.{Outcome}
+use Rattle.replay_log.specs.declared.base.Base.{Base}
 use Rattle.replay_log.specs.Base.{Shown, OfMap, OfBag, OfPq, OfQueue, locations_of, reads_of, shown_of, stripes_of, writes_of}
 use Rattle.replay_log.specs.Parts.{Kind, MapKind, BagKind, PqKind, QueueKind, kind_of, whole}
 use Rattle.replay_log.specs.Contents.{Block, blank, size}
@@ -11,6 +12,7 @@ use Rattle.replay_log.proofs.ContentLemmas.{read_at, shifted_in, written_at}
 use Rattle.atomic_steps.proofs.Bases.{writes_by}
 use Rattle.actor_copies.specs.declared.copies.Copied.{Copied}
 use Rattle.actor_copies.specs.Footprints.{base_in, places_in, reads_in, writes_in}
+use Rattle.actor_copies.specs.Sizes.{LieIn, base_reads, base_writes}
 
 -- each element of a list has what all of them have
 pub all_of : (P : ℕ → Type 0) (ls : List ℕ) → ((i : ℕ) → Contains ls i → P i) → All P ls
@@ -51,27 +53,37 @@ module _ {V : Type 0} where
   sized n (OfPq m) = refl
   sized n (OfQueue m) = refl
 
-  pub reads_below : (c : Copied V) (o : Outcome V) → 0 < stripes_of (base_in c) → All (λ l. l < places_in c) (reads_in c o)
-  reads_below c o pos =
-      let n = stripes_of (base_in c) in
-      let s = shown_of (base_in c) in
+  pub base_reads_below : (base : Base V) (o : Outcome V) → 0 < stripes_of base → LieIn base (base_reads base o)
+  base_reads_below base o pos =
+      let n = stripes_of base in
+      let s = shown_of base in
       let b : Block = record { kind = kind_of s; stripes = n } in
-      all_of (λ l. l < places_in c) (reads_in c o) (λ i h.
+      all_of (λ l. l < locations_of n s) (base_reads base o) (λ i h.
       subst (λ (m : ℕ). i < m) (sized n s)
       (reads_within b o pos i (subst (λ (ls : List ℕ). Contains ls i) (sym (reads_by (kind_of s) n o s refl)) h)))
 
-  pub writes_below : (c : Copied V) (o : Outcome V) → 0 < stripes_of (base_in c) → All (λ l. l < places_in c) (writes_in c o)
-  writes_below c o pos =
-      let n = stripes_of (base_in c) in
-      let s = shown_of (base_in c) in
+  pub base_writes_below : (base : Base V) (o : Outcome V) → 0 < stripes_of base → LieIn base (base_writes base o)
+  base_writes_below base o pos =
+      let n = stripes_of base in
+      let s = shown_of base in
       let b : Block = record { kind = kind_of s; stripes = n } in
-      all_of (λ l. l < places_in c) (writes_in c o) (λ i h.
+      all_of (λ l. l < locations_of n s) (base_writes base o) (λ i h.
       subst (λ (m : ℕ). i < m) (sized n s)
       (writes_within b o pos i (subst (λ (ls : List ℕ). Contains ls i) (sym (writes_by (kind_of s) n o s refl)) h)))
 
+  pub reads_below : (c : Copied V) (o : Outcome V) → 0 < stripes_of (base_in c) → All (λ l. l < places_in c) (reads_in c o)
+  reads_below c o pos = base_reads_below (base_in c) o pos
+
+  pub writes_below : (c : Copied V) (o : Outcome V) → 0 < stripes_of (base_in c) → All (λ l. l < places_in c) (writes_in c o)
+  writes_below c o pos = base_writes_below (base_in c) o pos
+
   -- they are numbers of locations, where the collection begins at f
+  pub base_range : (base : Base V) (f : ℕ) (ls : List ℕ) → f + locations_of (stripes_of base) (shown_of base) ≤ 2 ^ 32 → LieIn base ls
+      → All (λ l. f + l < 2 ^ 32) ls
+  base_range base f ls le all k d lt =
+      let here : slice_index_or ls k d < locations_of (stripes_of base) (shown_of base) = all k d lt in
+      omega (arith, here, le)
+
   pub in_range : (c : Copied V) (f : ℕ) (ls : List ℕ) → f + places_in c ≤ 2 ^ 32 → All (λ l. l < places_in c) ls
       → All (λ l. f + l < 2 ^ 32) ls
-  in_range c f ls le all k d lt =
-      let here : slice_index_or ls k d < places_in c = all k d lt in
-      omega (arith, here, le)
+  in_range c f ls le all = base_range (base_in c) f ls le all

@@ -28,7 +28,7 @@ use Rattle.actor_copies.specs.Loading.{AreRead}
 use Rattle.actor_copies.proofs.ComesLemmas.{all_read, allowed, left_in, unwritten}
 
 -- ---- a copy that is not stale
-abbrev GoesOn : Judged → Type 0
+abbrev pub GoesOn : Judged → Type 0
 GoesOn All = Unit {0}
 GoesOn (Next l) = Unit {0}
 GoesOn (Stale l b v) = ⊥
@@ -42,7 +42,7 @@ fresh_one d rest others (Some v) later h = by (eqb d.1 v) h
     by true g = later g
     by false g = absurd g
 
-fresh : (reads es : Entries) → GoesOn (judged reads es) → is_stale reads es ≡ false
+pub fresh : (reads es : Entries) → GoesOn (judged reads es) → is_stale reads es ≡ false
 fresh reads [] h = refl
 fresh reads (d ∷ es) h = fresh_one d (judged reads es) (is_stale reads es) (lookup reads d.0) (fresh reads es) h
 

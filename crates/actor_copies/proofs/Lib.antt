@@ -6,11 +6,12 @@ pub mod KeepsLemmas
 pub mod OutcomeLemmas
 mod WriteLemmas
 pub mod KeptLemmas
+pub mod AlikeLemmas
 pub mod LogLemmas
 pub mod CallingLemmas
 mod ComesLemmas
 pub mod LoadingLemmas
-mod GoingLemmas
+pub mod GoingLemmas
 mod StillLemmas
 mod StayingLemmas
 mod SteppedLemmas
@@ -23,3 +24,6 @@ mod BegunLemmas
 pub mod ReadLemmas
 pub mod PiecesLemmas
 mod ForgottenLemmas
+mod SizesLemmas
+pub mod TakingLemmas
+mod PutBackLemmas

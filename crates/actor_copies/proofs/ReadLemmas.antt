@@ -1,6 +1,7 @@
 -- What has been read of what a transaction has of a collection. It depends on how the locations lie and on what was read there, and more
 -- reads keep it. An accepted outcome leaves which calls are held and what they read, so it keeps it too.
 use Rattle.std.proofs.Common.{◌≡◌, ℕ, ◌+◌, true, List, Option, Some, None, Contains, refl, sym, ap, subst, ◌∙◌}
+use Rattle.std.specs.FinMap.{get}
 use Rattle.word_machine.specs.Opacity.{first_read}
 use Rattle.seq_model.specs.declared.call.Op.{Op}
 use Rattle.conflict.specs.declared.outcome.Outcome.{Outcome}
@@ -43,10 +44,12 @@ module _ {V : Type 0} where
 
   read_accepted : (read : ℕ → Option ℕ) (f : ℕ) (o : Outcome V) (c d : Copied V) → holds_call c o.op ≡ true → IsAccepted o c d
       → IsReadBy read f c → IsReadBy read f d
-  read_accepted read f o (Keys m es) (Keys n fs) held acc is =
-      λ q here i there.
-      is q (sym (same_holds o (Keys m es) (Keys n fs) q.op held acc) ∙ here) i
-      (subst (λ (ls : List ℕ). Contains ls i) (same_reads o q (Keys m es) (Keys n fs) acc) there)
+  read_accepted read f o (Keys m es) (Keys n fs) held acc is = (
+    λ q here i there.
+        is.0 q (sym (same_holds o (Keys m es) (Keys n fs) q.op held acc) ∙ here) i
+        (subst (λ (ls : List ℕ). Contains ls i) (same_reads o q (Keys m es) (Keys n fs) acc) there),
+    λ i e there. is.1 i e (ap (λ h. get h i) (sym acc.8) ∙ there),
+  )
   read_accepted read f o (Whole s) (Whole t) held acc is = tt
   read_accepted read f o (Keys m es) (Whole t) held acc is = tt
   read_accepted read f o (Whole s) (Keys n fs) held acc is = absurd acc
@@ -59,8 +62,10 @@ module _ {V : Type 0} where
   -- ---- other calls
   read_more : (read now : ℕ → Option ℕ) (f g : ℕ) (c : Copied V) → g ≡ f → ((i e : ℕ) → read (f + i) ≡ Some e → now (f + i) ≡ Some e)
       → IsReadBy read f c → IsReadBy now g c
-  read_more read now f g (Keys m es) same more is =
-      λ o held i there. (let r = is o held i there in (r.0, ap (λ h. now (h + i)) same ∙ more i r.0 r.1))
+  read_more read now f g (Keys m es) same more is = (
+    λ o held i there. (let r = is.0 o held i there in (r.0, ap (λ h. now (h + i)) same ∙ more i r.0 r.1)),
+    λ i e there. ap (λ h. now (h + i)) same ∙ more i e (is.1 i e there),
+  )
   read_more read now f g (Whole s) same more is = tt
 
   pub reads_more : (w v : World V) (a k : ℕ) (c : Copied V) → v.words ≡ w.words → v.blocks ≡ w.blocks

@@ -61,13 +61,16 @@ use Rattle.actor_copies.specs.declared.copies.Found.TheVariants as found
 use Rattle.actor_copies.specs.Copies.{HasEditions, IsCopied, IsFound, IsLearnt, IsOf, ShowParts, answer_of, holds_call, holds_of, is_copied_whole, answered_on}
 use Rattle.actor_copies.specs.Footprints.{known_edition, reads_in, with_known, writes_in}
 use Rattle.actor_copies.specs.Keeps.{IsOwnCopy, Knows}
-use Rattle.actor_copies.proofs.CopiedLemmas.{IsWholeOf, blank_editions, blank_holds, contains_in, has_pieces, known_at, mixed, now_dated, now_has, now_knows, now_of, now_read, touched_facts, whole_editions, whole_knows, whole_parts, in_list}
+use Rattle.actor_copies.proofs.CopiedLemmas.{IsWholeOf, blank_editions, blank_holds, blank_knows, contains_in, has_pieces, known_at, mixed, now_dated, now_has, now_knows, now_of, now_read, touched_facts, whole_editions, whole_knows, whole_parts, in_list}
 use Rattle.actor_copies.proofs.CopiesLemmas.{same_log}
 use Rattle.actor_copies.proofs.FootprintLemmas.{reads_by, reads_within}
 use Rattle.actor_copies.proofs.KeepsLemmas.{head_in, held_outcome, held_read, same_reads, tail_in, held_written, same_writes}
 use Rattle.actor_copies.proofs.OutcomeLemmas.{answered_op, outcome_op, writes_nothing}
 use Rattle.actor_copies.specs.Copied.{AreTaken, CopiesFor, IsCopyFor, IsFoundAt, IsReadBy, IsReadOf, IsTaken, taken_from}
 use Rattle.actor_copies.specs.Loading.{AreRead, IsDoomed}
+use Rattle.actor_copies.specs.Sizes as on_base
+use Rattle.actor_copies.specs.Sizes.{SizesAs, base_reads}
+use Rattle.atomic_steps.proofs.Bases.{writes_by}
 use Rattle.actor_copies.proofs.CopyingLemmas.{kind_whole, nothing_pq, nothing_queue, puts_back, of_parts}
 
 -- ---- what is copied
@@ -287,7 +290,7 @@ module _ {V : Type 0} where
   whole_piece QueueKind op e = refl
 
   -- a memo is of no kind that is copied whole
-  no_memo : (s t : Shown V) (es : FinMap nat_cmp (Option V)) (cs : FinMap nat_cmp ℕ) (total : Option ℕ) (g h : ℕ) (changes : List _)
+  pub no_memo : (s t : Shown V) (es : FinMap nat_cmp (Option V)) (cs : FinMap nat_cmp ℕ) (total : Option ℕ) (g h : ℕ) (changes : List _)
       → IsCopyBy s es cs total g h changes t → is_copied_whole (kind_of s) ≡ true → ⊥
   no_memo (OfMap m) t es cs total g h changes is e = true≢false (sym e)
   no_memo (OfBag m) t es cs total g h changes is e = true≢false (sym e)
@@ -362,7 +365,7 @@ module _ {V : Type 0} (w : World V) (a : ℕ) (b : Block) (asked : Asked V) (bas
   pub actor_now : actor_of (put_back a w asked) a ≡ y
   actor_now = ap (λ (s : Words). s.actors a) (put_words (content w.words w.blocks) w.boosted a home which)
 
-  pos : 0 < b.stripes
+  pub pos : 0 < b.stripes
   pos = positive_at w.blocks home b k.base.stripes block
 
   known : is_known (Some b) asked.op ≡ true
@@ -557,16 +560,17 @@ module _ {V : Type 0} (w : World V) (a : ℕ) (b : Block) (asked : Asked V) (bas
           ap (λ p. has_room y ((content w.words w.blocks).reads p) ((content w.words w.blocks).writes p)) (sized_as false fresh ∙ is_own)
           ∙ (λ j. has_room y (rs j) (ws j))
 
-      still_room : (o : Outcome V) → answer_of d asked.op ≡ Some o → is_change asked.op ≡ false → (q : Bool)
+      still_room : (o : Outcome V) → o.op ≡ asked.op → is_change asked.op ≡ false → (q : Bool)
           → Fits (cond q (outcome_now after asked) own_outcome) o
-      still_room o ans still true =
-          let same = answered_op d asked.op o ans in
-          outcome_locations after.boosted.parts o same (still_writes after.boosted.parts o same still)
-      still_room o ans still false =
-          let same = answered_op d asked.op o ans in
+      still_room o same still true = outcome_locations after.boosted.parts o same (still_writes after.boosted.parts o same still)
+      still_room o same still false =
           let x2 = after.boosted.shadows a in
           let v = changes (content w.words w.blocks) x2.outcomes x2.parts in
           outcome_locations v o same (still_writes v o same still)
+
+      -- whether the copy is found stale
+      abbrev stale_now : Bool
+      stale_now = is_stale (actor_of after a).reads (with_editions after.boosted.editions ((content w.words w.blocks).reads own_outcome))
 
       stale_room : (o : Outcome V) → answer_of d asked.op ≡ Some o → is_change asked.op ≡ true → Fits (outcome_now after asked) o
       stale_room o ans change =
@@ -596,14 +600,31 @@ module _ {V : Type 0} (w : World V) (a : ℕ) (b : Block) (asked : Asked V) (bas
       doomed_room doomed o ans false true declared change =
           subst (λ p. Fits p o) (sym (sized_as true (is_found_stale declared change doomed))) (stale_room o ans change)
       doomed_room doomed o ans false false declared still =
-          still_room o ans still (is_stale (actor_of after a).reads
-          (with_editions after.boosted.editions ((content w.words w.blocks).reads own_outcome)))
+          still_room o (answered_op d asked.op o ans) still stale_now
 
       either_room : (o : Outcome V) → answer_of d asked.op ≡ Some o
           → ((i e : ℕ) → IsIn i places → read (f + i) ≡ Some e → e ≡ w.boosted.editions (f + i))
           ⊎ IsDoomed y.calls (with_editions w.boosted.editions (shifted f places)) → Fits (sized_by after a asked own_outcome) o
       either_room o ans (inl judged) = fresh_room judged o ans
       either_room o ans (inr doomed) = doomed_room doomed o ans y.declared (is_change asked.op) refl refl
+
+      -- and so where those of the outcome on the base do
+      pub base_room : (o : Outcome V) → outcome_of asked.op (shown_of base) ≡ Some o → SizesAs w a asked base o
+      base_room o is_o =
+          let s = shown_of base in
+          let same = outcome_op s asked.op o is_o in
+          let rs : reads_in d o ≡ base_reads base o =
+          reads_now d learnt o same
+          ∙ sym (ap (λ n. reads_of n o s) of.stripes ∙ (touched_facts b.stripes f asked.op s t.held touched).2 o is_o) in
+          let ws : writes_in d o ≡ on_base.base_writes base o =
+          sym (writes_now d learnt o) ∙ (writes_by b.kind b.stripes o s of.kind ∙ sym (ap (λ n. writes_of n o s) of.stripes)) in
+          by (is_change asked.op) refl same
+          ∙ (λ j. has_room y (shifted f (rs j)) (shifted f (ws j)))
+        where
+          by : (q : Bool) → is_change asked.op ≡ q → o.op ≡ asked.op → Fits (sized_by after a asked own_outcome) o
+          by true change same =
+              either_room o (answer_at d learnt change ∙ is_o) (judged_by read y.calls w.boosted.editions f places (λ l. refl))
+          by false still same = still_room o same still stale_now
 
       abbrev changed : List (Change V)
       changed = cs
@@ -613,10 +634,10 @@ module _ {V : Type 0} (w : World V) (a : ℕ) (b : Block) (asked : Asked V) (bas
       read_then cs o more ans all =
           now_read b f home x pos base of w.boosted.parts w.boosted.editions read which taken found_at takes s parts m es changed ls is
           was_read
-          has t asked.op d learnt touched dates cover back (first_read cs) more
+          has t asked.op d learnt touched dates cover back (first_read cs) more d learnt
           (λ i c. (
           let same = reads_now d learnt o (answered_op d asked.op o ans) in
-          (known_edition d i, all_read cs d f (reads_in d o) all i (subst (λ js. Contains js i) (sym same) c)))) d learnt
+          all_read cs d f (reads_in d o) all i (subst (λ js. Contains js i) (sym same) c)))
 
       from_memo : IsCopyFor w a b asked d
       from_memo = record {
@@ -738,7 +759,8 @@ module _ {V : Type 0} (w : World V) (a : ℕ) (b : Block) (asked : Asked V) (bas
       let is = blank_of b s (memo_kind t.held) first.memo first.editions first.blank kind none.0.1.0 in
       let no : (o : Outcome V) → holds_call (Keys first.memo first.editions) o.op ≡ true → ⊥ =
       λ o. blank_holds b.stripes (memo_kind t.held) first.memo first.editions o.op first.blank in
-      from_memo t here first.memo first.editions s none.0.1 [] [] is none.1 none.2 (λ o held i c. absurd (no o held))
+      from_memo t here first.memo first.editions s none.0.1 [] [] is none.1 none.2
+      (λ o held i c. absurd (no o held), λ i e at. absurd (blank_knows first.memo first.editions i e first.none at))
       (blank_editions b f x first.memo first.editions first.none) (λ o held. absurd (no o held)) d first.learnt
       (not_true (holds_call (Keys first.memo first.editions) asked.op)
       (blank_holds b.stripes (memo_kind t.held) first.memo first.editions asked.op first.blank))

@@ -19,7 +19,7 @@ use Rattle.actor_copies.specs.declared.copies.Copied.{Copied}
 use Rattle.actor_copies.specs.declared.copies.Copied.TheVariants.{Keys, Whole}
 use Rattle.actor_copies.specs.declared.copies.Found.{Found}
 use Rattle.actor_copies.specs.declared.copies.Found.TheVariants as found
-use Rattle.actor_copies.specs.Copies.{IsForgotten, IsFound, IsKept, IsLearnt, answer_of, has_piece, holds_call, holds_of}
+use Rattle.actor_copies.specs.Copies.{IsForgotten, IsFound, IsKept, IsLearnt, answer_of, edition_at, has_piece, holds_call, holds_of}
 use Rattle.actor_copies.specs.First.{IsFirst}
 use Rattle.actor_copies.specs.Footprints.{base_in, reads_in, with_known, writes_in}
 use Rattle.actor_copies.specs.Keeps.{IsOwnCopy}
@@ -37,11 +37,13 @@ use Rattle.replay_log.specs.Worlds.{Beginning, Copying, World, acted, actor_of, 
 use Rattle.replay_log.specs.Worlds.{with_editions, word_notice}
 
 module _ {V : Type 0} where
-  -- each location that a call on a held key reads has been read: with what edition first
+  -- each location that a call on a held key reads has been read, with whatever edition first, and each location whose edition is known was
+  -- read with that edition first
   abbrev pub IsReadBy : (ℕ → Option ℕ) → (f : ℕ) → Copied V → Type 0
   IsReadBy read f (Keys m es) =
-      (o : Outcome V) → holds_call (Keys m es) o.op ≡ true → (i : ℕ) → Contains (reads_in (Keys m es) o) i
-      → (e : ℕ) × (read (f + i) ≡ Some e)
+      ((o : Outcome V) → holds_call (Keys m es) o.op ≡ true → (i : ℕ) → Contains (reads_in (Keys m es) o) i
+      → (e : ℕ) × (read (f + i) ≡ Some e))
+      × ((i e : ℕ) → edition_at (Keys m es) i ≡ Some e → read (f + i) ≡ Some e)
   IsReadBy read f (Whole s) = Unit {0}
 
   -- what there is of a collection in n stripes, once this was found of it
@@ -84,8 +86,8 @@ pub record AreTaken (b : Block) (f : ℕ) (read : ℕ → Option ℕ) (which tak
 
 -- What actor a has of the collection that it asked a call of, which lies in block b, once it is copied and the gate put back: d is its own
 -- copy, or one of the locations that the call reads was read with another edition. It holds the call, which is judged with the editions of
--- the base, and its locations fit the sets where those of the definitions' outcome do. Once these have been read, with further calls, each
--- location that a call on a held key reads has been.
+-- the base, and its locations fit the sets where those of the definitions' outcome do. Once these have been read, with further calls, so has
+-- all that it has of single keys.
 pub record IsCopyFor {V : Type 0} (w : World V) (a : ℕ) (b : Block) (asked : Asked V) (d : Copied V) : Type 0 where
   pub own : let u = put_back a w asked in
       let f = first_of w.words w.blocks asked.collection in

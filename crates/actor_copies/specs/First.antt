@@ -1,14 +1,13 @@
--- The first copy of a collection, by what was found of it for a call, and the locations of a call on the base itself.
-use Rattle.std.specs.Prelude.{◌≡◌, ℕ, ◌<◌, [], Some, None}
+-- The first copy of a collection, by what was found of it for a call.
+use Rattle.std.specs.Prelude.{◌≡◌, ℕ, ◌<◌, [], None}
 use Rattle.std.specs.FinMap.{empty}
 use Rattle.seq_model.specs.declared.call.Op.{Op}
 use Rattle.conflict.specs.Table.{Room}
-use Rattle.conflict.specs.declared.outcome.Outcome.{Outcome}
 use Rattle.replay_log.specs.declared.base.Base.{Base}
 use Rattle.replay_log.specs.declared.touch.Touch.{Touch}
 use Rattle.replay_log.specs.declared.touch.Touched.{Touched}
 use Rattle.replay_log.specs.declared.touch.Touched.TheVariants as touched
-use Rattle.replay_log.specs.Base.{outcome_of, reads_of, shown_of, stripes_of, writes_of}
+use Rattle.replay_log.specs.Base.{shown_of, stripes_of}
 use Rattle.replay_log.specs.Contents.{Block}
 use Rattle.atomic_steps.specs.Bases.{IsBaseOf}
 use Rattle.shadow.specs.Memo.{MemoView, shape}
@@ -18,7 +17,6 @@ use Rattle.actor_copies.specs.declared.copies.Copied.{Copied}
 use Rattle.actor_copies.specs.declared.copies.Copied.TheVariants.{Keys, Whole}
 use Rattle.actor_copies.specs.declared.copies.Found.{Found}
 use Rattle.actor_copies.specs.declared.copies.Found.TheVariants as found
-use Rattle.actor_copies.specs.declared.first.Footprint.{Footprint}
 use Rattle.actor_copies.specs.Copies.{IsFound, IsLearnt, IsOf}
 
 -- a memo of so many stripes, with no key
@@ -51,12 +49,6 @@ module _ {V : Type 0} where
   IsFirst n (found.Keys t) c = IsFirstTouch n t c
   IsFirst n (found.Whole base) (Whole s) = (s.base ≡ base) × (s.changes ≡ []) × (s.locations ≡ [])
   IsFirst n (found.Whole base) c = ⊥
-
-  -- the locations that a call on the base itself reads and writes
-  abbrev pub IsFootprint : Base V → Op V → Footprint → Type 0
-  IsFootprint base op sets =
-      (o : Outcome V) → outcome_of op (shown_of base) ≡ Some o →
-      (sets.reads ≡ reads_of (stripes_of base) o (shown_of base)) × (sets.writes ≡ writes_of (stripes_of base) o (shown_of base))
 
 -- The first copy of what was found of a base is of what the base shows, with no accepted call.
 abbrev pub FirstCopies : Type 0 → Type 0

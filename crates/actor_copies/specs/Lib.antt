@@ -9,3 +9,6 @@ pub mod Logs
 pub mod Loading
 pub mod Copied
 pub mod Staying
+pub mod Sizes
+pub mod Taking
+pub mod PutBack

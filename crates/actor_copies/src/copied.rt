@@ -15,6 +15,7 @@ ghost use Rattle.actor_copies.specs.declared.copies.Found.{Found};
 ghost use Rattle.actor_copies.specs.Copies.{IsFound, IsLearnt, has_piece};
 ghost use Rattle.actor_copies.specs.First.{IsFirst};
 ghost use Rattle.actor_copies.specs.Copied.{CopiesFor, CopiesReached, ForgetsPieces};
+ghost use Rattle.actor_copies.specs.PutBack.{KeepsCopies, ReadsCopies};
 
 use seq_model::Value;
 
@@ -29,6 +30,14 @@ pub fn copied_as_worlds<V: Value>()
 /// and have all been read with the editions of the base, it may be accepted; a location that is to be read next has not been written.
 pub fn copies_go_on<V: Value>()
     ensures { CopiesReached V }
+{}
+
+/// What there is of a call's collection once its gate is put back. What there was before is the transaction's own still, and read, wherever
+/// events have led, so that a call that is not made leaves it. What is copied for the call is its own, and read, once the call's locations
+/// have been read with the copied editions; where one was read with another, they never are.
+pub fn copies_put_back<V: Value>()
+    ensures kept { KeepsCopies V }
+    ensures read { ReadsCopies V }
 {}
 
 /// What was learnt for a call that is not made and is forgotten leaves the pieces that there were.

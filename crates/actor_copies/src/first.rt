@@ -1,31 +1,14 @@
-//! The first copy of a collection, by what was found of it for a call, and the locations of a call on the base itself.
+//! The first copy of a collection, by what was found of it for a call.
 ghost use Rattle.std.specs.Prelude.{◌≡◌, IfOk};
 ghost use Rattle.actor_copies.specs.declared.copies.Found.TheVariants as found;
-ghost use Rattle.actor_copies.specs.First.{IsFirst, IsFirstTouch, IsFootprint, memo_kind};
+ghost use Rattle.actor_copies.specs.First.{IsFirst, IsFirstTouch, memo_kind};
 
 use crate::copies::{Copied, Found};
-use conflict::{LocSet, Table};
-use replay_log::{Base, Touch, Touched};
-use seq_model::{Op, Refusal, Value};
+use conflict::Table;
+use replay_log::{Touch, Touched};
+use seq_model::{Refusal, Value};
 use shadow::{Memo, MemoKind, Shadow};
 use std::alloc::Global;
-
-/// The locations that a call reads and writes.
-#[derive(Drop)]
-pub struct Footprint {
-    pub reads: LocSet,
-    pub writes: LocSet,
-}
-
-/// The locations of the call on the base as it is. A call of another kind of collection is refused as NoSuch.
-pub fn find_footprint<V: Value>(base: &Base<V>, op: &Op<V>) -> Result<Footprint, Refusal>
-    ensures { IfOk result (λ sets. IsFootprint base.now op.now sets) }
-{
-    let outcome = base.outcome(op)?;
-    let reads = base.reads(&outcome)?;
-    let writes = base.writes(&outcome)?;
-    Ok(Footprint { reads, writes })
-}
 
 /// The kind of the collection that was touched.
 fn memo_kind<V>(held: &Touched<V>) -> MemoKind

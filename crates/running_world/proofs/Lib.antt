@@ -7,3 +7,4 @@ pub mod SeatLemmas
 pub mod TraceLemmas
 pub mod TurnLemmas
 pub mod WorldLemmas
+mod OwnTurnLemmas

@@ -13,7 +13,8 @@ use Rattle.step_core.proofs.Lists.{get_or_same}
 use Rattle.actor_words.specs.Blocks.{kind_of}
 use Rattle.actor_words.specs.declared.blocks.Kind.{Kind}
 use Rattle.tx_actor.specs.Dispatch.{HasRoom}
-use Rattle.tx_actor.specs.Keeping.{NamesAmong}
+use Rattle.tx_actor.specs.Having.{HasCopiesAt}
+use Rattle.tx_actor.specs.Keeping.{IsCallAt, NamesAmong}
 use Rattle.tx_actor.specs.Running.{KnowsHomes}
 use Rattle.tx_actor.specs.declared.actor.Stage as own
 use Rattle.tx_actor.specs.declared.actor.TxActor.{TxActor}
@@ -91,7 +92,9 @@ module _ {V : Type 0} where
             fits = own_idle.words.fits (end_of d.blocks.words d.blocks.blocks);
             room = subst (λ (p : own.Stage V). HasRoom r p) (sym own_idle.stage) tt;
             names = subst (λ (p : own.Stage V). NamesAmong (length d.blocks.blocks) p) (sym own_idle.stage) tt;
+            call = subst (λ (p : own.Stage V). IsCallAt d.blocks r.copies.items p) (sym own_idle.stage) tt;
           };
+          copies = subst (λ (p : own.Stage V). HasCopiesAt r w (i + 1) p) (sym own_idle.stage) tt;
         });
     others = λ a none. refl;
     records = rs;

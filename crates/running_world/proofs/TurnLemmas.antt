@@ -3,7 +3,7 @@
 -- A request and a want of memory change nothing that is shared, so the table stands. A step of the words is the machine's on the table, and
 -- then what the actor makes of what it was told: that changes nothing that is shared either. Between the two, the actor has its seat as
 -- before, and its word actor after the step; the collections that it has written stand, since a step of a locking actor writes nothing.
-use Rattle.std.proofs.Common.{◌≡◌, ℕ, ◌+◌, Bool, true, false, List, [], ◌∷◌, Option, Some, None, Result, ◌≤◌, inl, inr, refl, sym, ap, ◌∙◌, subst, arith, drop}
+use Rattle.std.proofs.Common.{◌≡◌, ℕ, ◌+◌, Bool, true, false, true≢false, List, [], ◌∷◌, Option, Some, None, Result, ◌≤◌, inl, inr, refl, sym, ap, ◌∙◌, subst, arith, drop}
 use Rattle.std.specs.Prelude.{not, filter}
 use Rattle.std.specs.declared.alloc.Global.{Global}
 use Rattle.std.specs.declared.vec.Vec.{Vec}
@@ -21,9 +21,8 @@ use Rattle.word_machine.proofs.Sets.{put-same}
 use Rattle.seq_model.specs.declared.call.Call.{Call}
 use Rattle.seq_model.specs.declared.call.Reply.{Reply}
 use Rattle.seq_model.specs.declared.event.Event.{Event}
-use Rattle.seq_model.specs.declared.event.Event.TheVariants.{Ask, Step, Starve}
+use Rattle.seq_model.specs.declared.event.Event.TheVariants.{Step, Starve}
 use Rattle.seq_model.specs.declared.event.Notice.TheVariants.{Refused}
-use Rattle.seq_model.specs.declared.event.Request.{Request}
 use Rattle.seq_model.specs.declared.refusal.Refusal.TheVariants.{NoTransaction}
 use Rattle.seq_model.specs.declared.held.Held.{Held}
 use Rattle.seq_model.specs.Contents.{Contents}
@@ -34,7 +33,7 @@ use Rattle.replay_log.specs.Contents.{Answered, Asked, Block, HaveStripes, conte
 use Rattle.replay_log.specs.Guards.{IsAllowed, step_action}
 use Rattle.replay_log.specs.Worlds.{World, Seat, Stage, After, Idle, Beginning, Open, Locking, Releasing, Closing, Cancelling, Leaving, Reading}
 use Rattle.replay_log.specs.Worlds.{Trying, Copying, Loading, Gating, Ready, Storing, Homing, Returning, acted, asks, actor_of, moves, word_notice}
-use Rattle.replay_log.specs.Worlds.{all_of, distinct, ask_at, step_at, happens, opened, run, written_homes}
+use Rattle.replay_log.specs.Worlds.{all_of, distinct, step_at, happens, opened, run, written_homes}
 use Rattle.replay_log.proofs.GuardLemmas.{world_allows}
 use Rattle.replay_log.proofs.EventLemmas.{opened_linked, run_linked}
 use Rattle.replay_log.proofs.SeatLemmas.{AtLocking, Copy, Linked, StageOk}
@@ -48,7 +47,7 @@ use Rattle.step_core.specs.declared.cells.Cells.{Cells}
 use Rattle.step_core.specs.declared.actor.Actor as running
 use Rattle.step_core.specs.declared.answer.WordAnswer.{WordAnswer}
 use Rattle.step_core.specs.declared.answer.WordRefusal.{WordRefusal}
-use Rattle.tx_actor.specs.Asks.{Asks, MayStore}
+use Rattle.tx_actor.specs.Asks.{MayStore}
 use Rattle.actor_words.specs.Blocks.{BlocksView}
 use Rattle.actor_words.specs.Dispatch.{AreSteps, IsDue, MayGoOn, after_put, after_try, after_word, first, is_loading}
 use Rattle.actor_words.specs.Dispatch.{next_home, next_load, next_of, next_put, next_try, notice_told}
@@ -69,7 +68,7 @@ use Rattle.world_table.specs.declared.table.Table.{Table}
 use Rattle.world_table.proofs.TableLemmas.{still_has}
 use Rattle.running_world.specs.Reached.{IsReached}
 use Rattle.running_world.specs.Turns.{IsTurn}
-use Rattle.running_world.proofs.SeatLemmas.{asked_as, next_as, ready_as, seated_by, stage_by, starved_as}
+use Rattle.running_world.proofs.SeatLemmas.{next_as, ready_as, seated_by, stage_by, starved_as}
 
 -- ---- a step of a locking actor writes nothing
 to_lock_writes : (x : Actor) (l : ℕ) (ls : List ℕ) (w : LockWord) → (seen_to_lock x l ls w).writes ≡ x.writes
@@ -176,27 +175,47 @@ module _ {V : Type 0} where
       k ∙ sym (ap (λ (es : Entries). homes_by w es) (locking_writes w.boosted a (actor_of w a).place ok.0))
   knows_moved w a s ok k = tt
 
-  -- the room of an actor hangs on no word
-  room_moved : (r : TxActor V) (y : running.Actor) (s : own.Stage V) → HasRoom r s → HasRoom (record r { words = y }) s
-  room_moved r y (stage.Reading l) h = h
-  room_moved r y s h = tt
+  -- the room of an actor that reads for no call hangs on no word
+  room_moved : (r : TxActor V) (y : running.Actor) (s : own.Stage V) → is_loading (stage_of s) ≡ false → HasRoom r s
+      → HasRoom (record r { words = y }) s
+  room_moved r y (stage.Reading l) quiet h = h
+  room_moved r y (stage.Trying asked tries) quiet h = h
+  room_moved r y (stage.Copying asked) quiet h = h
+  room_moved r y (stage.Loading o left) quiet h = absurd (true≢false quiet)
+  room_moved r y s quiet h = tt
 
-  pub running_moved : (v : BlocksView) (r : TxActor V) (y : running.Actor) → ((n : ℕ) → Fits n r.words → Fits n y) → IsRunning v r
-      → IsRunning v (record r { words = y })
-  running_moved v r y fits h = record {
+  pub running_moved : (v : BlocksView) (r : TxActor V) (y : running.Actor) → ((n : ℕ) → Fits n r.words → Fits n y)
+      → is_loading (stage_of r.stage) ≡ false → IsRunning v r → IsRunning v (record r { words = y })
+  running_moved v r y fits quiet h = record {
     fits = fits (end_of v.words v.blocks) h.fits;
-    room = room_moved r y r.stage h.room;
+    room = room_moved r y r.stage quiet h.room;
     names = h.names;
+    call = h.call;
   }
 
   -- an actor that has handed its calls out
   room_made : (s : TxActor V) (m : Vec (Call V × Reply V) Global) (t : own.Stage V) → HasRoom s t → HasRoom (record s { made = m }) t
   room_made s m (stage.Reading l) h = h
+  room_made s m (stage.Trying asked tries) h = h
+  room_made s m (stage.Copying asked) h = h
+  room_made s m (stage.Loading o left) h = record {
+    place = h.place;
+    room = h.room;
+    accept = record {
+      writes = h.accept.writes;
+      calls = h.accept.calls;
+      place = h.accept.place;
+      ready = h.accept.ready;
+      kept = h.accept.kept;
+      told = h.accept.told;
+      own = h.accept.own;
+    };
+  }
   room_made s m t h = tt
 
   pub running_made : (v : BlocksView) (s : TxActor V) (m : Vec (Call V × Reply V) Global) → IsRunning v s
       → IsRunning v (record s { made = m })
-  running_made v s m h = record { fits = h.fits; room = room_made s m s.stage h.room; names = h.names }
+  running_made v s m h = record { fits = h.fits; room = room_made s m s.stage h.room; names = h.names; call = h.call }
 
   pub turns_made : (v : BlocksView) (e : Event V) (t u : Table V) (r s : TxActor V) (m : Vec (Call V × Reply V) Global) (n : Told V)
       → IsTurn v e t r u s n → IsTurn v e t r u (record s { made = m }) n
@@ -210,23 +229,11 @@ module _ {V : Type 0} where
       → is_loading (stage_of r.stage) ≡ false
   stage_quiet r s e d = ap (λ (t : own.Stage V). is_loading (stage_of t)) e ∙ d
 
-  -- ---- a request, and a want of memory
-  pub ask_turns : (v : BlocksView) (a : ℕ) (q : Request V) (t : Table V) (r s : TxActor V) (n : Told V)
-      → Asks v r s n (λ a w. ask_at w a (seat_of r) (stage_of r.stage) q) → IsTurn v (Ask a q) t r t s n
-  ask_turns v a q t r s n h = record {
-    turns = λ o w reached laid has runs. (
-        let e = asked_as w a q r runs in
-        let told = h a w laid runs in (
-          still_has t a w (happens w (Ask a q)).0 (one_step w (Ask a q)) has,
-          subst (λ (z : After V). Runs a s z.0) (sym e) told.0,
-          told.1 ∙ sym (ap (λ (z : After V). z.1) e),
-        ));
-  }
-
+  -- ---- a want of memory
   pub starve_turns : (v : BlocksView) (a : ℕ) (t : Table V) (r s : TxActor V) (n : Told V) → Starves r s n
       → IsTurn v (Starve a) t r t s n
   starve_turns v a t r s n h = record {
-    turns = λ o w reached laid has runs. (
+    turns = λ o w reached laid has runs copies. (
         let e = starved_as w a r runs in
         let told = h a w runs in (
           still_has t a w (happens w (Starve a)).0 (one_step w (Starve a)) has,
@@ -294,7 +301,7 @@ module _ {V : Type 0} where
       → next_of (stage_of r.stage) ≡ next.Word → is_loading (stage_of r.stage) ≡ false → StepsWords t r.words u y told
       → IsToldWord (record r { words = y }) s n (notice_told told) → IsTurn v (Step a) t r u s n
   word_turns steps goes v a t u r s y told n due quiet step heard = record {
-    turns = λ o w reached laid has runs. (
+    turns = λ o w reached laid has runs copies. (
         let linked = reached_linked o w reached in
         let z = acted w (moves a ∷ []) in
         let st : (w.seats a).stage ≡ stage_of r.stage = stage_by (w.seats a) r quiet runs.0 in
@@ -371,7 +378,7 @@ module _ {V : Type 0} where
       → HasTable u (acted w (TakeGate a k ∷ [])) × (free ≡ is_none (w.boosted.gates k)))
       → ran.Does r s n (λ a w. after_try w a (seat_of r) (stage_of r.stage) free) → IsTurn v (Step a) t r u s n
   try_turns steps v a k t u r s free n due tries does = record {
-    turns = λ o w reached laid has runs. (
+    turns = λ o w reached laid has runs copies. (
         let z = acted w (TakeGate a k ∷ []) in
         let own_seat = seated_by (w.seats a) r (quiet_try (stage_of r.stage) k due) (plain_try r.stage k due) runs.0 in
         let st : (w.seats a).stage ≡ stage_of r.stage = ap (λ (x : Seat V). x.stage) own_seat in
@@ -400,7 +407,7 @@ module _ {V : Type 0} where
       → is_committing (actor_of w a).place ≡ false → HasTable u (acted w (PutGate a k which ∷ [])))
       → ran.Does r s n (λ a w. after_put w a (seat_of r) (stage_of r.stage)) → IsTurn v (Step a) t r u s n
   put_turns steps v a k t u r s n due puts does = record {
-    turns = λ o w reached laid has runs. (
+    turns = λ o w reached laid has runs copies. (
         let none = λ (l : ℕ). false in
         let z = acted w (PutGate a k none ∷ []) in
         let own_seat = seated_by (w.seats a) r (quiet_put (stage_of r.stage) k due) (plain_put r.stage k due) runs.0 in
@@ -445,6 +452,14 @@ module _ {V : Type 0} where
   first_is Cancelling e = let z : ⊥ = cc in absurd z
   first_is Leaving e = let z : ⊥ = cc in absurd z
 
+  pub quiet_first : (s : Stage V) → next_of s ≡ next.FirstStore → is_loading s ≡ false
+  quiet_first s e = ap is_loading (first_is s e).1
+
+  -- a request of its words leaves an actor at its stage
+  pub still_quiet : (r p : TxActor V) → (let s : TxActor V = record r { words = p.words } in p ≡ s)
+      → is_loading (stage_of r.stage) ≡ false → is_loading (stage_of p.stage) ≡ false
+  still_quiet r p e quiet = ap (λ (z : TxActor V). is_loading (stage_of z.stage)) e ∙ quiet
+
   knows_ready : (t : own.Stage V) (ks js : List ℕ) → stage_of t ≡ Ready ks → KnowsHomes t js
   knows_ready (stage.Locking homes) ks js e = let z : ⊥ = cc in absurd z
   knows_ready t ks js e = tt
@@ -454,7 +469,7 @@ module _ {V : Type 0} where
       → next_of (stage_of r.stage) ≡ next.FirstStore → MayStore r p → StepsWords t p.words u y told
       → IsToldWord (record p { words = y }) s n (notice_told told) → IsTurn v (Step a) t r u s n
   first_turns steps goes v a t u r p s y told n due stores step heard = record {
-    turns = λ o w reached laid has runs. (
+    turns = λ o w reached laid has runs copies. (
         let first = first_is (stage_of r.stage) due in
         let ks = first.0 in
         let quiet : is_loading (stage_of r.stage) ≡ false = ap is_loading first.1 in

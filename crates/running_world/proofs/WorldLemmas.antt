@@ -38,7 +38,8 @@ use Rattle.running_world.specs.declared.parts.Parts.{Parts}
 use Rattle.running_world.specs.declared.trace.Ended.{Ended}
 use Rattle.running_world.specs.Parts.{IsSeat, IsWorld, ended_of, total_owed}
 use Rattle.running_world.specs.Reached.{IsReached}
-use Rattle.running_world.specs.Turns.{IsTurn}
+use Rattle.tx_actor.specs.Having.{HasCopies}
+use Rattle.running_world.specs.Turns.{IsTurn, KeepsOwn}
 use Rattle.running_world.proofs.SeatLemmas.{runs_stand}
 
 owed_one : (p : Place) → owed p ≤ 1
@@ -134,8 +135,9 @@ module _ {V : Type 0} where
   may_take c w i r h got = omega (arith, h.clock, owed_among c.actors.items i r got)
 
   -- ---- the other actors
-  pub seat_stands : (v : BlocksView) (w u : World V) (b : ℕ) (r : TxActor V) → Alike b w u → IsSeat v w b r → IsSeat v u b r
-  seat_stands v w u b r h s = record { runs = runs_stand w u b r h s.runs; running = s.running }
+  pub seat_stands : (v : BlocksView) (w u : World V) (b : ℕ) (r : TxActor V) → Alike b w u → (HasCopies r w b → HasCopies r u b)
+      → IsSeat v w b r → IsSeat v u b r
+  seat_stands v w u b r h keep s = record { runs = runs_stand w u b r h s.runs; running = s.running; copies = keep s.copies }
 
   -- the actors with one that takes the place of another
   seats_set : (v : BlocksView) (u : World V) (rs now : List (TxActor V)) (i : ℕ) (r s : TxActor V) → slice_get rs i ≡ Some r
@@ -168,23 +170,25 @@ module _ {V : Type 0} where
   pub turned : (opening : Contents V) (c d : Parts V) (w : World V) (e : Event V) (i : ℕ) (r s : TxActor V) (n : Told V)
       → IsReached opening w → IsWorld c w → whose e ≡ i + 1 → slice_get c.actors.items i ≡ Some r
       → d.blocks ≡ c.blocks → d.actors.items ≡ slice_set c.actors.items i s
-      → IsTurn c.blocks e c.table r d.table s n
+      → IsTurn c.blocks e c.table r d.table s n → KeepsOwn c.blocks e r s
       → ((m : ℕ) (bs : List Block) → HasShape c.table m bs → HasShape d.table m bs)
       → (IsRunning c.blocks r → IsRunning c.blocks s)
       → Grows c.table.cells r.words d.table.cells s.words
       → d.records.items ≡ (happens w e).0.records → map ended_of d.aborted.items ≡ (happens w e).0.aborted
       → IsWorld d (happens w e).0
-  turned opening c d w e i r s n reached h is got laid es turn shape keeps grows rs ends =
+  turned opening c d w e i r s n reached h is got laid es turn kept shape keeps grows rs ends =
       let u = (happens w e).0 in
       let next : suc (whose e) ≢ whose e = λ q. omega (arith, q) in
       let alike : (b : ℕ) → b ≢ whose e → Alike b w u = λ b ne. others w e b ne in
       let same = alike (suc (whose e)) next in
       let own = h.seats i r got in
       let here : Runs (whose e) r w = subst (λ (a : ℕ). Runs a r w) (sym is) own.runs in
-      let after = turn.turns opening w reached h.laid h.table here in
+      let copies : HasCopies r w (whose e) = subst (λ (a : ℕ). HasCopies r w a) (sym is) own.copies in
+      let after = turn.turns opening w reached h.laid h.table here copies in
       let moved : IsSeat d.blocks u (i + 1) s = record {
         runs = subst (λ (a : ℕ). Runs a s u) is after.1;
         running = subst (λ (v : BlocksView). IsRunning v s) (sym laid) (keeps own.running);
+        copies = subst (λ (a : ℕ). HasCopies s u a) is (kept.own opening w reached h.laid here after.1 (keeps own.running) copies);
       } in
       let low = inside c.actors.items i r got in
       record {
@@ -197,7 +201,7 @@ module _ {V : Type 0} where
             (λ j q ne at. (
             let apart : j + 1 ≢ whose e = λ z. ne (omega (arith, z, is)) in
             subst (λ (v : BlocksView). IsSeat v u (j + 1) q) (sym laid)
-            (seat_stands c.blocks w u (j + 1) q (alike (j + 1) apart) (h.seats j q at))));
+            (seat_stands c.blocks w u (j + 1) q (alike (j + 1) apart) (kept.others w (j + 1) q apart) (h.seats j q at))));
         others = λ a none. (
             let low64 : i < 64 = omega (arith, low, h.count) in
             let apart : a ≢ whose e = λ z. is_one a none i low64 (z ∙ is) in
@@ -210,13 +214,14 @@ module _ {V : Type 0} where
   -- an actor that shows what the one at its place does may stand there
   pub stood : (c d : Parts V) (w : World V) (i : ℕ) (r s : TxActor V) → IsWorld c w → slice_get c.actors.items i ≡ Some r
       → d.blocks ≡ c.blocks → d.table ≡ c.table → d.actors.items ≡ slice_set c.actors.items i s → d.records.items ≡ c.records.items
-      → d.aborted.items ≡ c.aborted.items → Stands r s → IsRunning c.blocks s → Grows c.table.cells r.words d.table.cells s.words
+      → d.aborted.items ≡ c.aborted.items → Stands r s → (HasCopies r w (i + 1) → HasCopies s w (i + 1)) → IsRunning c.blocks s → Grows c.table.cells r.words d.table.cells s.words
       → IsWorld d w
-  stood c d w i r s h got laid same es rs ends stands running grows =
+  stood c d w i r s h got laid same es rs ends stands has running grows =
       let own = h.seats i r got in
       let moved : IsSeat d.blocks w (i + 1) s = record {
         runs = stands (i + 1) w own.runs;
         running = subst (λ (v : BlocksView). IsRunning v s) (sym laid) running;
+        copies = has own.copies;
       } in
       record {
         laid = subst (λ (v : BlocksView). IsLaid v w) (sym laid) h.laid;

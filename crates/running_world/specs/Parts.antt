@@ -10,6 +10,7 @@ use Rattle.replay_log.specs.WorldProgress.{whose}
 use Rattle.replay_log.specs.Worlds.{World, happens, no_one}
 use Rattle.actor_words.specs.Blocks.{BlocksView, IsLaid}
 use Rattle.actor_words.specs.Dispatch.{next_of}
+use Rattle.tx_actor.specs.Having.{HasCopies}
 use Rattle.tx_actor.specs.Keeping.{IsRunning}
 use Rattle.tx_actor.specs.Running.{Runs, notice_of, stage_of}
 use Rattle.tx_actor.specs.declared.actor.Stage as own
@@ -31,10 +32,11 @@ module _ {V : Type 0} where
   total_owed [] = 0
   total_owed (r ∷ rs) = owed r.words.place + total_owed rs
 
-  -- r is actor a of the world w, whose locations lie as v says, and has what its steps ask of it.
+  -- r is actor a of the world w, whose locations lie as v says, and has what its steps ask of it, and of collections what its stage asks.
   pub record IsSeat (v : BlocksView) (w : World V) (a : ℕ) (r : TxActor V) : Type 0 where
     pub runs : Runs a r w
     pub running : IsRunning v r
+    pub copies : HasCopies r w a
 
   -- The parts are those of the world w: its table, its actors 1 to 64, each at the place before its number, and what has come of it so
   -- far. The clock is far from its end.

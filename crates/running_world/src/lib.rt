@@ -4,7 +4,6 @@
 //! contracts say that what is left is the world that the definitions' event leaves, wherever events have led.
 #![tactic(auto)]
 
-mod asks;
 mod feeding;
 mod homes;
 mod opening;

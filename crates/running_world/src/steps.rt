@@ -1,16 +1,18 @@
 //! What an event makes of the parts of a world, by what its actor's next step does.
-ghost use Rattle.std.specs.Prelude.{◌≡◌, ◌≢◌, ◌+◌, ◌<◌, [], false, length, slice_get, IfOk, OnErr, Some};
+ghost use Rattle.std.specs.Prelude.{◌≡◌, ◌≢◌, ◌+◌, ◌<◌, false, length, slice_get, IfOk, OnErr, Some};
 ghost use Rattle.seq_model.specs.declared.event.Event.TheVariants.{Ask, Starve, Step};
 ghost use Rattle.actor_words.specs.Dispatch.{is_loading, next_of};
 ghost use Rattle.tx_actor.specs.Running.{stage_of};
 ghost use Rattle.tx_actor.specs.declared.actor.TxActor as running;
 ghost use Rattle.running_world.specs.Parts.{Happens, HasWorld, IsAt, IsDue, IsStarved, Stays};
 
-use crate::asks::ask;
 use crate::parts::Parts;
 use crate::turns::{close, commit, leave, put_gate, step_word, try_gate};
+use actor_copies::copies_stay;
+use actor_copies::laws::{begins_with_nothing, calls_as_worlds};
 use actor_words::Next;
 use seq_model::{Memory, Request, Value, insert_record};
+use tx_actor::laws::{copies_by_stage, copies_stay_own};
 use tx_actor::{Stage, Told};
 
 impl<V: Value> Parts<V> {
@@ -19,19 +21,24 @@ impl<V: Value> Parts<V> {
         requires { i < length self.old.actors.items }
         ensures { Happens self.old (Starve (i + 1)) self.new result }
     {
+        copies_by_stage::<V>();
+        copies_stay::<V>();
         self.actors[i].starves()
     }
 
-    /// A request of the actor at this place, where there is no collection. A want of memory leaves the world as it was.
+    /// A request of the actor at this place. A want of memory leaves the world as it was.
     pub fn ask(&mut self, i: usize, request: Request<V>) -> Result<Told<V>, Memory>
         requires inside { i < length self.old.actors.items }
         requires world { HasWorld self.old }
-        requires none { self.old.blocks.blocks ≡ [] }
         ensures ok { IfOk result (λ told. Happens self.old (Ask (i + 1) request) self.new told) }
         ensures err { OnErr result (Stays self.old self.new) }
     {
+        copies_by_stage::<V>();
+        copies_stay::<V>();
+        copies_stay_own::<V>();
+        calls_as_worlds::<V>();
         let alloc = *self.records.allocator();
-        match ask(alloc, &mut self.actors[i], &self.blocks, request) {
+        match self.actors[i].asks(alloc, &self.blocks, request) {
             Ok(told) => Ok(told),
             Err(_) => Err(Memory),
         }
@@ -46,6 +53,9 @@ impl<V: Value> Parts<V> {
             × (is_loading (stage_of r.stage) ≡ false) }
         ensures { Happens self.old (Step (i + 1)) self.new result }
     {
+        copies_by_stage::<V>();
+        copies_stay::<V>();
+        begins_with_nothing::<V>();
         step_word(&mut self.table, &mut self.actors[i], &self.blocks)
     }
 
@@ -56,6 +66,9 @@ impl<V: Value> Parts<V> {
         requires due { IsDue self.old i (Next.TryGate k) }
         ensures { Happens self.old (Step (i + 1)) self.new result }
     {
+        copies_by_stage::<V>();
+        copies_stay::<V>();
+        begins_with_nothing::<V>();
         let number = i as u32 + 1;
         try_gate(&mut self.table, &mut self.actors[i], number, k)
     }
@@ -67,6 +80,9 @@ impl<V: Value> Parts<V> {
         requires due { IsDue self.old i (Next.PutGate k) }
         ensures { Happens self.old (Step (i + 1)) self.new result }
     {
+        copies_by_stage::<V>();
+        copies_stay::<V>();
+        begins_with_nothing::<V>();
         put_gate(&mut self.table, &mut self.actors[i], k)
     }
 
@@ -91,6 +107,9 @@ impl<V: Value> Parts<V> {
         let Ok(()) = self.records.reserve(1) else {
             return Err(self.starved(i));
         };
+        copies_by_stage::<V>();
+        copies_stay::<V>();
+        begins_with_nothing::<V>();
         let alloc = *self.records.allocator();
         match commit(alloc, &mut self.table, &mut self.actors[i], &self.blocks) {
             Ok((told, record)) => {
@@ -113,6 +132,9 @@ impl<V: Value> Parts<V> {
         let Ok(()) = self.records.reserve(1) else {
             return Err(self.starved(i));
         };
+        copies_by_stage::<V>();
+        copies_stay::<V>();
+        begins_with_nothing::<V>();
         let alloc = *self.records.allocator();
         let (told, record) = close(alloc, &mut self.table, &mut self.actors[i], &self.blocks);
         insert_record(&mut self.records, i as u32 + 1, record)?;
@@ -130,6 +152,9 @@ impl<V: Value> Parts<V> {
         let Ok(()) = self.aborted.reserve(1) else {
             return Err(self.starved(i));
         };
+        copies_by_stage::<V>();
+        copies_stay::<V>();
+        begins_with_nothing::<V>();
         let alloc = *self.records.allocator();
         let number = i as u32 + 1;
         let (told, ended) = leave(

@@ -8,6 +8,7 @@ ghost use Rattle.tx_actor.specs.Asks.{Stands};
 ghost use Rattle.actor_words.specs.Blocks.{BlocksView};
 ghost use Rattle.tx_actor.specs.Dispatch.{Records};
 ghost use Rattle.actor_words.specs.Dispatch.{is_loading, next_of};
+ghost use Rattle.tx_actor.specs.Having.{KeepsCopies};
 ghost use Rattle.tx_actor.specs.Keeping.{IsRunning, KeepsIn};
 ghost use Rattle.tx_actor.specs.Running.{stage_of};
 ghost use Rattle.world_table.specs.Openings.{HasShape};
@@ -32,6 +33,7 @@ pub fn step_word<V: Value>(table: &mut Table<V>, actor: &mut TxActor<V>, blocks:
     ensures turns { (v : BlocksView) (a : ℕ) → IsTurn v (Step a) table.old actor.old table.new actor.new result }
     ensures shape { (n : ℕ) (bs : List Block) → HasShape table.old n bs → HasShape table.new n bs }
     ensures running { IsRunning blocks.now actor.new }
+    ensures leaves { KeepsCopies actor.old actor.new }
     ensures grows { Grows table.old.cells actor.old.words table.new.cells actor.new.words }
     ensures made { Records actor.old.stage → actor.new.made.items ≡ actor.old.calls.items }
 {
@@ -55,6 +57,7 @@ pub fn close<V: Value>(
     ensures turns { (v : BlocksView) (a : ℕ) → IsTurn v (Step a) table.old actor.old table.new actor.new result.0 }
     ensures shape { (n : ℕ) (bs : List Block) → HasShape table.old n bs → HasShape table.new n bs }
     ensures running { IsRunning blocks.now actor.new }
+    ensures leaves { KeepsCopies actor.old actor.new }
     ensures grows { Grows table.old.cells actor.old.words table.new.cells actor.new.words }
     ensures number { result.1.number ≡ actor.old.rv }
     ensures reads { result.1.writes ≡ false }
@@ -86,6 +89,7 @@ pub fn leave<V: Value>(
     ensures turns { (v : BlocksView) (a : ℕ) → IsTurn v (Step a) table.old actor.old table.new actor.new result.0 }
     ensures shape { (n : ℕ) (bs : List Block) → HasShape table.old n bs → HasShape table.new n bs }
     ensures running { IsRunning blocks.now actor.new }
+    ensures leaves { KeepsCopies actor.old actor.new }
     ensures grows { Grows table.old.cells actor.old.words table.new.cells actor.new.words }
     ensures actor { result.1.actor ≡ number }
     ensures rv { result.1.rv ≡ actor.old.rv }
@@ -120,6 +124,8 @@ pub fn first_store<V: Value>(
     ensures table { OnErr result (table.new ≡ table.old) }
     ensures shape { (n : ℕ) (bs : List Block) → HasShape table.old n bs → HasShape table.new n bs }
     ensures running { IsRunning blocks.now actor.new }
+    ensures leaves { OnOk result (KeepsCopies actor.old actor.new) }
+    ensures rest { OnErr result (actor.new ≡ record actor.old { words = actor.new.words }) }
     ensures grows { Grows table.old.cells actor.old.words table.new.cells actor.new.words }
     ensures made { OnOk result (actor.new.made.items ≡ actor.old.calls.items) }
 {
@@ -146,6 +152,8 @@ pub fn commit<V: Value>(
     ensures table { OnErr result (table.new ≡ table.old) }
     ensures shape { (n : ℕ) (bs : List Block) → HasShape table.old n bs → HasShape table.new n bs }
     ensures running { IsRunning blocks.now actor.new }
+    ensures leaves { OnOk result (KeepsCopies actor.old actor.new) }
+    ensures rest { OnErr result (actor.new ≡ record actor.old { words = actor.new.words }) }
     ensures grows { Grows table.old.cells actor.old.words table.new.cells actor.new.words }
     ensures number { IfOk result (λ done. done.1.number ≡ actor.old.wv) }
     ensures writes { IfOk result (λ done. done.1.writes ≡ true) }
@@ -175,6 +183,7 @@ pub fn try_gate<V: Value>(
     ensures turns { (v : BlocksView) → IsTurn v (Step number) table.old actor.old table.new actor.new result }
     ensures shape { (n : ℕ) (bs : List Block) → HasShape table.old n bs → HasShape table.new n bs }
     ensures keeps { (v : BlocksView) → KeepsIn v actor.old actor.new }
+    ensures leaves { KeepsCopies actor.old actor.new }
     ensures cells { table.new.cells ≡ table.old.cells }
 {
     steps_as_worlds::<V>();
@@ -189,6 +198,7 @@ pub fn put_gate<V: Value>(table: &mut Table<V>, actor: &mut TxActor<V>, k: u32) 
     ensures turns { (v : BlocksView) (a : ℕ) → IsTurn v (Step a) table.old actor.old table.new actor.new result }
     ensures shape { (n : ℕ) (bs : List Block) → HasShape table.old n bs → HasShape table.new n bs }
     ensures keeps { (v : BlocksView) → KeepsIn v actor.old actor.new }
+    ensures leaves { KeepsCopies actor.old actor.new }
     ensures cells { table.new.cells ≡ table.old.cells }
 {
     steps_as_worlds::<V>();

@@ -198,7 +198,7 @@ module _ {V : Type 0} where
       at s is own = tt
 
   -- ---- what is kept
-  owns_stands : (w u : World V) (a : ℕ) (call : Answered V) (left fs : Entries) → u.words ≡ w.words → u.blocks ≡ w.blocks
+  unfoldable pub owns_stands : (w u : World V) (a : ℕ) (call : Answered V) (left fs : Entries) → u.words ≡ w.words → u.blocks ≡ w.blocks
       → u.boosted.shadows a ≡ w.boosted.shadows a
       → (IsDoomed (actor_of w a).calls left → IsDoomed (actor_of u a).calls fs) → OwnsCall w a call left → OwnsCall u a call fs
   owns_stands w u a call left fs words blocks shadow doomed own = record {

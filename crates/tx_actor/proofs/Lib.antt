@@ -3,6 +3,7 @@ mod RunsLemmas
 mod AnswerLemmas
 mod OwnsLemmas
 mod PreparesLemmas
+mod CopyingLemmas
 mod CallsLemmas
 mod OwnAsksLemmas
 mod AskedLemmas
@@ -11,3 +12,7 @@ mod AskLemmas
 mod LoadLemmas
 mod HearLemmas
 mod SeatedLemmas
+mod HavingLemmas
+mod RoomLemmas
+mod HeardLemmas
+mod StageLemmas

@@ -26,7 +26,7 @@ use Rattle.actor_words.specs.declared.notice.WordNotice.{WordNotice}
 use Rattle.actor_words.specs.declared.notice.WordNotice.TheVariants.{Number, Moved}
 use Rattle.actor_words.specs.declared.judged.Judged.{Judged}
 use Rattle.actor_words.specs.declared.judged.Judged.TheVariants.{All, Next, Stale}
-use Rattle.tx_actor.specs.Answers.{IsPrepared, MayAnswer}
+use Rattle.tx_actor.specs.Answers.{CanAccept, MayAnswer}
 use Rattle.actor_words.specs.Dispatch.{shown_notice}
 use Rattle.actor_words.specs.Judged.{comes_to, judged, left_after}
 use Rattle.tx_actor.specs.Loads.{IsLoadable, IsToldLoad, MayJudge, after_load, first_entry}
@@ -165,7 +165,7 @@ module _ {V : Type 0} where
       → IsToldLoad r u t n
   load_at_stage r u t n s e p = subst (λ (z : Stage V). IsToldLoad (at r z) u t n) (sym e) p
 
-  prepared_at : (r : TxActor V) (s : Stage V) (o : Answered V) → IsPrepared r o → IsPrepared (at r s) o
+  prepared_at : (r : TxActor V) (s : Stage V) (o : Answered V) → CanAccept r o → CanAccept (at r s) o
   prepared_at r s o p = record {
     writes = p.writes;
     calls = p.calls;

@@ -16,7 +16,7 @@ use Rattle.actor_copies.specs.declared.copies.CopyOf.{CopyOf}
 use Rattle.tx_actor.specs.declared.actor.TxActor.{TxActor}
 use Rattle.actor_words.specs.declared.judged.Judged.{Judged}
 use Rattle.actor_words.specs.declared.judged.Judged.TheVariants.{All, Next, Stale}
-use Rattle.tx_actor.specs.Answers.{CopiesAfter, IsAcceptedAt, IsPrepared, MayAccept}
+use Rattle.tx_actor.specs.Answers.{CanAccept, CopiesAfter, IsAcceptedAt, MayAccept}
 use Rattle.actor_copies.specs.Copies.{answer_of, answered_on}
 use Rattle.actor_words.specs.Judged.{comes_to}
 use Rattle.tx_actor.specs.Owns.{OwnsCopies}
@@ -85,7 +85,7 @@ module _ {V : Type 0} where
   some_outcome : (o p : Outcome V) → Some o ≡ Some p → o ≡ p
   some_outcome o p e = cc
 
-  accepted_owns : (w : World V) (a : ℕ) (x : Seat V) (u n : TxActor V) (call : running.Answered V) (left : Entries) → IsPrepared u call
+  accepted_owns : (w : World V) (a : ℕ) (x : Seat V) (u n : TxActor V) (call : running.Answered V) (left : Entries) → CanAccept u call
       → IsAcceptedAt call.place call.outcome u.copies.items n.copies.items → MayAccept w a call → OwnsCopies u w a
       → OwnsCopies n (comes_to w a x (answered_of call) left All).0 a
   accepted_owns w a x u n call left prepared at may own =
@@ -109,7 +109,7 @@ module _ {V : Type 0} where
       ))) own
 
   pub comes_owns : (w : World V) (a : ℕ) (x : Seat V) (u n : TxActor V) (call : running.Answered V) (left : Entries) (j : Judged)
-      → IsPrepared u call → CopiesAfter j call u.copies.items n.copies.items → (j ≡ All → MayAccept w a call) → OwnsCopies u w a
+      → CanAccept u call → CopiesAfter j call u.copies.items n.copies.items → (j ≡ All → MayAccept w a call) → OwnsCopies u w a
       → OwnsCopies n (comes_to w a x (answered_of call) left j).0 a
   comes_owns w a x u n call left All prepared at may own = accepted_owns w a x u n call left prepared at (may refl) own
   comes_owns w a x u n call left (Next l) prepared at may own =

@@ -1,23 +1,28 @@
 -- What the acceptance of a call on a copied collection takes, what it leaves, and where a call may go on.
-use Rattle.std.specs.Prelude.{◌≡◌, ℕ, ◌<◌, true, List, Option, Some, None, length, slice_get, slice_set}
+use Rattle.std.specs.Prelude.{◌≡◌, ℕ, ◌+◌, ◌<◌, ◌≤◌, true, false, List, ◌∷◌, Option, Some, None, length, slice_get, slice_set}
 use Rattle.std.specs.Vec.{vec_capacity, vec_len}
 use Rattle.conflict.specs.declared.outcome.Outcome.{Outcome}
 use Rattle.collection_machine.specs.Boosted.{Accept}
 use Rattle.replay_log.specs.Contents.{content}
 use Rattle.replay_log.specs.Guards.{Allows}
-use Rattle.replay_log.specs.Worlds.{World, actor_of, outcome_at, reply_of}
+use Rattle.replay_log.specs.Worlds.{World, actor_of, new_in, outcome_at, reply_of}
 use Rattle.tx_actor.specs.declared.actor.Answered as running
 use Rattle.actor_copies.specs.declared.copies.CopyOf.{CopyOf}
 use Rattle.tx_actor.specs.declared.actor.TxActor.{TxActor}
-use Rattle.tx_sets.specs.Entries.{Entries, lookup}
+use Rattle.tx_sets.specs.Entries.{Entries, locations, lookup}
+use Rattle.tx_sets.specs.declared.access_set.TheConstants.{LOCATION_LIMIT}
 use Rattle.word_machine.specs.Actor.{Open as AtRest}
 use Rattle.step_core.specs.Shown as words
 use Rattle.step_core.specs.declared.actor.Actor.{Actor}
+use Rattle.step_core.specs.declared.actor.Place.{Place}
+use Rattle.step_core.specs.declared.actor.Place.TheVariants as place
+use Rattle.actor_words.specs.Requests.{HasNoReads}
 use Rattle.actor_words.specs.declared.judged.Judged.{Judged}
 use Rattle.actor_words.specs.declared.judged.Judged.TheVariants.{All, Next}
 use Rattle.actor_words.specs.Judged.{judged}
 use Rattle.actor_words.specs.Accepts.{written}
 use Rattle.actor_copies.specs.Copies.{IsAccepted, IsReady, answer_of, holds_call}
+use Rattle.actor_copies.specs.Footprints.{reads_in}
 use Rattle.tx_actor.specs.Running.{answered_of, asked_of}
 use Rattle.actor_copies.specs.Writes.{MayWrite, written_as}
 
@@ -35,7 +40,7 @@ CopiesAfter {V} j o before now = now ≡ before
 
 -- All that accepting the call takes is there: room for its writes and for its entry among the calls, and in the copy at its place its
 -- outcome is ready, which is what that copy of its collection answers.
-pub record IsPrepared {V : Type 0} (r : TxActor V) (o : running.Answered V) : Type 0 where
+pub record CanAccept {V : Type 0} (r : TxActor V) (o : running.Answered V) : Type 0 where
   pub writes : MayWrite r.words o.writes.items
   pub calls : vec_len r.calls < vec_capacity r.calls
   pub place : o.place < length r.copies.items
@@ -45,6 +50,38 @@ pub record IsPrepared {V : Type 0} (r : TxActor V) (o : running.Answered V) : Ty
   pub told : o.told ≡ reply_of (answered_of o)
   pub own : (c : CopyOf V) → slice_get r.copies.items o.place ≡ Some c
       → (x : Outcome V) × (o.outcome ≡ Some x) × (c.collection ≡ o.asked.collection) × (answer_of c.copied o.asked.op ≡ Some x)
+
+-- The call is made ready: it can be accepted, and before that there is room to read all that it reads.
+pub record IsPrepared {V : Type 0} (r : TxActor V) (o : running.Answered V) : Type 0 where
+  pub accept : CanAccept r o
+  pub calls : (c : CopyOf V) (x : Outcome V) → slice_get r.copies.items o.place ≡ Some c → o.outcome ≡ Some x
+      → vec_len r.words.calls + (length (reads_in c.copied x) + length o.writes.items) ≤ vec_capacity r.words.calls
+  pub reads : (c : CopyOf V) (x : Outcome V) → slice_get r.copies.items o.place ≡ Some c → o.outcome ≡ Some x
+      → r.words.declared ≡ false → length (reads_in c.copied x) ≤ r.words.reads.room
+
+-- A word actor has room to read these locations one after another, and for so many writes behind them; they fit its read set.
+pub record HasRoomToLoad (x : Actor) (es : Entries) (writes : ℕ) : Type 0 where
+  pub calls : vec_len x.calls + (length es + writes) ≤ vec_capacity x.calls
+  pub reads : x.declared ≡ false → length es ≤ x.reads.room
+  pub few : x.declared ≡ false → length x.reads.entries + length (new_in x.reads.entries (locations es)) ≤ LOCATION_LIMIT
+  pub none : HasNoReads x
+
+-- the next load is of the first of these locations
+abbrev pub IsLoadOf : Place → Entries → Type 0
+IsLoadOf (place.Look l) (d ∷ es) = l ≡ d.0
+IsLoadOf (place.Fetch l k) (d ∷ es) = l ≡ d.0
+IsLoadOf (place.Again l k v) (d ∷ es) = l ≡ d.0
+IsLoadOf p es = ⊥
+
+-- the actor, once its word actor rests
+abbrev pub at_rest : {V : Type 0} → TxActor V → TxActor V
+at_rest r = record r { words = record r.words { place = place.Open } }
+
+-- The first of these locations is being read, there is room for the others, and once all are read the call can be accepted.
+pub record CanLoad {V : Type 0} (r : TxActor V) (o : running.Answered V) (left : Entries) : Type 0 where
+  pub place : IsLoadOf r.words.place left
+  pub room : HasRoomToLoad r.words left (length o.writes.items)
+  pub accept : CanAccept (at_rest r) o
 
 -- In this world the call may be accepted: what it reads has been read, with the copied editions; its outcome is the world's, and its
 -- writes are the world's.

@@ -1,8 +1,11 @@
 -- What a step makes of an actor at each stage, once its atomic action is done.
-use Rattle.std.specs.Prelude.{◌≡◌, ℕ, ◌<◌}
+use Rattle.std.specs.Prelude.{◌≡◌, ℕ, ◌<◌, false}
 use Rattle.word_machine.specs.Notices as notice
 use Rattle.replay_log.specs.Worlds.{World, After, starve_at}
 use Rattle.actor_words.specs.Dispatch.{MayGoOn, after_home, after_word}
+use Rattle.actor_copies.specs.Copies.{holds_of}
+use Rattle.actor_copies.specs.Kept.{copy_of}
+use Rattle.tx_actor.specs.Answers.{CanLoad}
 use Rattle.tx_actor.specs.Running.{Does, Runs, notice_of, seat_at, seat_of, stage_of}
 use Rattle.std.specs.Vec.{vec_len, vec_capacity}
 use Rattle.tx_actor.specs.declared.actor.Stage as running
@@ -35,7 +38,11 @@ module _ {V : Type 0} where
   abbrev pub Starves : TxActor V → TxActor V → Told V → Type 0
   Starves r u t = Does r u t (λ a w. starve_at w a (seat_of r) (stage_of r.stage))
 
-  -- room for the reply of the read that is under way
+  -- What the request that is under way has to find in its actor: room for the reply of a read; a gate is tried, and held, for a call that
+  -- the actor's copies don't hold; and a call whose locations are read is made ready.
   abbrev pub HasRoom : TxActor V → running.Stage V → Type 0
   HasRoom r (stage.Reading l) = vec_len r.calls < vec_capacity r.calls
+  HasRoom r (stage.Trying asked tries) = holds_of (copy_of r.copies.items asked.collection) asked.op ≡ false
+  HasRoom r (stage.Copying asked) = holds_of (copy_of r.copies.items asked.collection) asked.op ≡ false
+  HasRoom r (stage.Loading call left) = CanLoad r call left.items
   HasRoom r s = Unit {0}

@@ -5,7 +5,9 @@ pub mod Keeping
 pub mod Asks
 pub mod Owns
 pub mod Prepares
+pub mod Copying
 pub mod Loads
 pub mod Calls
 pub mod Loading
 pub mod Seated
+pub mod Having

@@ -11,7 +11,7 @@ use Rattle.tx_actor.specs.declared.actor.Stage.{Stage}
 use Rattle.tx_actor.specs.declared.actor.Stage.TheVariants as stage
 use Rattle.tx_actor.specs.declared.actor.Told.{Told}
 use Rattle.tx_actor.specs.declared.actor.TxActor.{TxActor}
-use Rattle.tx_actor.specs.Answers.{IsPrepared, MayAnswer}
+use Rattle.tx_actor.specs.Answers.{CanAccept, MayAnswer}
 use Rattle.tx_actor.specs.Running.{Runs, notice_of, outcome_in, seat_of, stage_in}
 
 -- the location that is read next, with its copied edition
@@ -27,7 +27,7 @@ module _ {V : Type 0} where
 
   -- where an edition was read, all that the acceptance of the call takes is there
   abbrev pub IsLoadable : TxActor V → Stage V → notice.Notice → Type 0
-  IsLoadable r (stage.Loading o left) (notice.Number v) = IsPrepared r o
+  IsLoadable r (stage.Loading o left) (notice.Number v) = CanAccept r o
   IsLoadable r s n = Unit {0}
 
   -- where the copied edition was read, the call may go on in this world, which has x as its outcome

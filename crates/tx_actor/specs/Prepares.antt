@@ -11,19 +11,14 @@ use Rattle.step_core.specs.declared.actor.Place.TheVariants as place
 use Rattle.actor_copies.specs.declared.copies.CopyOf.{CopyOf}
 use Rattle.tx_actor.specs.declared.actor.TxActor.{TxActor}
 use Rattle.actor_copies.specs.declared.copies.Copied.{Copied}
+use Rattle.tx_actor.specs.declared.actor.Asked.{Asked}
 use Rattle.tx_actor.specs.declared.prepares.Prepared.{Prepared}
+use Rattle.tx_actor.specs.declared.prepares.Readied.{Readied}
 use Rattle.tx_actor.specs.Answers.{IsPrepared}
-use Rattle.actor_copies.specs.Copies.{IsKept, IsReady, answer_of, holds_call, holds_of}
+use Rattle.actor_copies.specs.Copies.{IsReady, answer_of, holds_call, holds_of}
 use Rattle.actor_copies.specs.Footprints.{base_in, places_in, reads_in, with_known, writes_in}
-use Rattle.actor_copies.specs.Kept.{copy_of}
+use Rattle.actor_copies.specs.Kept.{AreKept, copy_of}
 use Rattle.actor_copies.specs.Writes.{with_next}
-
-module _ {V : Type 0} where
-  -- the copies are as they were, but for what is ready in them
-  abbrev pub AreKept : List (CopyOf V) → List (CopyOf V) → Type 0
-  AreKept [] [] = Unit {0}
-  AreKept (c ∷ cs) (d ∷ ds) = (d.collection ≡ c.collection) × IsKept c.copied d.copied × AreKept cs ds
-  AreKept cs ds = ⊥
 
 -- The actor u is r, but for its room and what is ready in its copies.
 pub record IsAlike {V : Type 0} (r u : TxActor V) : Type 0 where
@@ -72,10 +67,24 @@ pub record IsReadyCall {V : Type 0} (r u : TxActor V) (i f : ℕ) (op : Op V) (c
   pub writes : p.call.writes.items ≡ with_next c.copied f (writes_in c.copied outcome)
   pub prepared : IsPrepared u p.call
 
+-- the call asked, on the copy at this place, with what is ready for it
+abbrev pub prepared_of : {V : Type 0} → Readied V → Asked V → ℕ → Prepared V
+prepared_of x asked i =
+    record {
+      call = record { asked = asked; outcome = Some x.outcome; place = i; writes = x.writes; kept = x.kept; told = x.told };
+      left = x.left;
+    }
+
 -- the call is ready, or its locations don't fit
 abbrev pub ArePrepared : {V : Type 0} → (r u : TxActor V) → (i f : ℕ) → Op V → CopyOf V → Option (Prepared V) → Type 0
 ArePrepared {V} r u i f op c None = (o : Outcome V) × (answer_of c.copied op ≡ Some o) × (fits r f c.copied o ≡ false)
 ArePrepared {V} r u i f op c (Some p) = IsReadyCall r u i f op c p
+
+-- the same, of a call that is still to be handed over
+abbrev pub AreReadied : {V : Type 0} → (r u : TxActor V) → (i f : ℕ) → Op V → CopyOf V → Option (Readied V) → Type 0
+AreReadied {V} r u i f op c None = ArePrepared r u i f op c None
+AreReadied {V} r u i f op c (Some x) =
+    (asked : Asked V) → asked.collection ≡ c.collection → asked.op ≡ op → IsReadyCall r u i f op c (prepared_of x asked i)
 
 -- The copy of collection k stands at this place, the first of it, and holds the call.
 pub record IsHeldAt {V : Type 0} (cs : List (CopyOf V)) (i k : ℕ) (op : Op V) : Type 0 where

@@ -1,15 +1,19 @@
 //! How a call on a copied collection is answered: it is accepted, or a location is read first, or its copy is found stale.
-ghost use Rattle.std.specs.Prelude.{◌≡◌, ◌<◌, ℕ, [], Option, Some, length, slice_get, true};
+ghost use Rattle.std.specs.Prelude.{◌≡◌, ◌<◌, ◌≤◌, ℕ, [], All, Option, Some, length, slice_get, true};
+ghost use Rattle.replay_log.specs.Contents.{end_of};
+ghost use Rattle.step_core.specs.Sound.{owed};
 ghost use Rattle.replay_log.specs.Worlds as worlds;
 ghost use Rattle.replay_log.specs.Worlds.{World};
 ghost use Rattle.step_core.specs.Shown.{actor_of};
-ghost use Rattle.tx_actor.specs.Answers.{CopiesAfter, IsAcceptedAt, IsPrepared, MayAccept, MayAnswer};
+ghost use Rattle.tx_actor.specs.Answers.{CanAccept, CopiesAfter, IsAcceptedAt, MayAccept, MayAnswer};
 ghost use Rattle.conflict.specs.declared.outcome.Outcome.{Outcome};
 ghost use Rattle.actor_copies.specs.declared.copies.CopyOf.{CopyOf};
 ghost use Rattle.actor_copies.specs.Copies.{IsReady, holds_call};
 ghost use Rattle.actor_words.specs.Judged.{comes_to, judged, left_after};
-ghost use Rattle.actor_words.specs.declared.judged.Judged.TheVariants.{All};
-ghost use Rattle.tx_actor.specs.Running.{Runs, answered_of, notice_of, seat_of, with_outcome};
+ghost use Rattle.actor_words.specs.declared.judged.Judged.TheVariants as judged_as;
+ghost use Rattle.actor_words.specs.Blocks.{BlocksView};
+ghost use Rattle.tx_actor.specs.Keeping.{CanGoOn, KeepsIn};
+ghost use Rattle.tx_actor.specs.Running.{Runs, answered_of, at, notice_of, seat_of, with_outcome};
 
 use crate::actor::{Answered, Stage, Told, TxActor};
 use actor_copies::{CopyOf, write_all};
@@ -35,11 +39,13 @@ fn accept_at<V: Value>(copies: &mut Vec<CopyOf<V>>, place: usize, outcome: Optio
 impl<V: Value> TxActor<V> {
     /// A call is accepted, for which all is prepared: its writes are asked, and its outcome joins what there is of its collection.
     fn accepts(&mut self, call: Answered<V>) -> Told<V>
-        requires prepared { IsPrepared self.old call }
+        requires prepared { CanAccept self.old call }
         ensures does { (a : ℕ) (w : World V) → worlds.actor_of w a ≡ actor_of self.old.words → MayAccept w a call →
-            let f = comes_to w a (seat_of self.old) (answered_of call) [] All in
+            let f = comes_to w a (seat_of self.old) (answered_of call) [] judged_as.All in
             Runs a self.new f.0 × (notice_of a result ≡ f.1) }
         ensures copies { IsAcceptedAt call.place call.outcome self.old.copies.items self.new.copies.items }
+        ensures keeps { (v : BlocksView) → All (λ d. d.0 < end_of v.words v.blocks) call.writes.items → KeepsIn v (at self.old Stage.Idle) self.new }
+        ensures owed { owed self.new.words.place ≤ owed self.old.words.place }
     {
         let Answered {
             asked,
@@ -63,13 +69,15 @@ impl<V: Value> TxActor<V> {
     /// A call that is prepared goes on: its locations are judged by the read set, from the first. Where the set has them all with these
     /// editions it is accepted; the first that the set does not have is read next; one that it has with another edition is stale.
     pub(crate) fn goes_on(&mut self, call: Answered<V>, left: VecDeque<(u32, u64)>) -> Told<V>
-        requires prepared { IsPrepared self.old call }
+        requires prepared { CanAccept self.old call }
         ensures does { (a : ℕ) (w : World V) (x : Option (Outcome V)) → worlds.actor_of w a ≡ actor_of self.old.words →
             MayAnswer w a self.old.words x call left.items →
             let reads = self.old.words.reads.entries in
             let f = comes_to w a (seat_of self.old) (with_outcome call x) (left_after reads left.items) (judged reads left.items) in
             Runs a self.new f.0 × (notice_of a result ≡ f.1) }
         ensures copies { CopiesAfter (judged self.old.words.reads.entries left.items) call self.old.copies.items self.new.copies.items }
+        ensures keeps { (v : BlocksView) → CanGoOn v self.old call left.items → KeepsIn v (at self.old Stage.Idle) self.new }
+        ensures owed { owed self.new.words.place ≤ owed self.old.words.place }
     {
         let mut left = left;
         match judge(&self.words.reads, &mut left) {

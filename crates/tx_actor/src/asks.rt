@@ -1,6 +1,6 @@
 //! What an actor is asked: a read or a write of a word, and the two ends of its transaction. A request that needs room makes it first,
 //! and leaves the actor as it was where memory is refused.
-ghost use Rattle.std.specs.Prelude.{◌≡◌, IfOk, OnErr, OnOk};
+ghost use Rattle.std.specs.Prelude.{◌≡◌, IfOk, OnErr, OnOk, false};
 ghost use Rattle.seq_model.specs.declared.event.Notice.TheVariants.{Quiet};
 ghost use Rattle.seq_model.specs.declared.call.Op.TheVariants as op;
 ghost use Rattle.replay_log.specs.Worlds as worlds;
@@ -9,7 +9,8 @@ ghost use Rattle.tx_actor.specs.Asks.{Asks, MayStore, Stands};
 ghost use Rattle.actor_words.specs.Blocks.{BlocksView};
 ghost use Rattle.actor_words.specs.Requests.{HasNoReads};
 ghost use Rattle.tx_actor.specs.Keeping.{KeepsIn};
-ghost use Rattle.tx_actor.specs.Running.{Does, seat_of};
+ghost use Rattle.actor_words.specs.Dispatch.{is_loading};
+ghost use Rattle.tx_actor.specs.Running.{Does, seat_of, stage_of};
 
 use crate::actor::{Stage, Told, TxActor};
 use actor_words::{
@@ -25,7 +26,7 @@ impl<V: Drop> TxActor<V> {
     pub fn asks_to_read(&mut self, blocks: &Blocks, word: u32) -> Result<Told<V>, Memory>
         ensures ok { IfOk result (λ told. Asks blocks.now self.old self.new told (λ a w. ask_op w a (seat_of self.old) word op.Read)) }
         ensures err { OnErr result (Stands self.old self.new) }
-        ensures keeps { HasNoReads self.old.words → KeepsIn blocks.now self.old self.new }
+        ensures keeps { HasNoReads self.old.words → is_loading (stage_of self.old.stage) ≡ false → KeepsIn blocks.now self.old self.new }
         ensures copies { self.new.copies ≡ self.old.copies }
     {
         if word >= blocks.words() {
@@ -57,7 +58,7 @@ impl<V: Drop> TxActor<V> {
     ) -> Result<Told<V>, Memory>
         ensures ok { IfOk result (λ told. Asks blocks.now self.old self.new told (λ a w. ask_op w a (seat_of self.old) word (op.Write value))) }
         ensures err { OnErr result (Stands self.old self.new) }
-        ensures keeps { KeepsIn blocks.now self.old self.new }
+        ensures keeps { is_loading (stage_of self.old.stage) ≡ false → KeepsIn blocks.now self.old self.new }
         ensures copies { self.new.copies ≡ self.old.copies }
     {
         if word >= blocks.words() {
@@ -87,7 +88,7 @@ impl<V: Drop> TxActor<V> {
     pub fn asks_to_commit(&mut self, alloc: Global, blocks: &Blocks) -> Result<Told<V>, Memory>
         ensures ok { IfOk result (λ told. Asks blocks.now self.old self.new told (λ a w. commits w a (seat_of self.old) (worlds.actor_of w a).writes)) }
         ensures err { OnErr result (Stands self.old self.new) }
-        ensures keeps { KeepsIn blocks.now self.old self.new }
+        ensures keeps { is_loading (stage_of self.old.stage) ≡ false → KeepsIn blocks.now self.old self.new }
         ensures copies { self.new.copies ≡ self.old.copies }
     {
         if self.words.writes.len() == 0 {
@@ -105,7 +106,7 @@ impl<V: Drop> TxActor<V> {
     pub fn asks_to_store(&mut self, blocks: &Blocks) -> Result<(), Memory>
         ensures ok { OnOk result (MayStore self.old self.new) }
         ensures err { OnErr result (Stands self.old self.new) }
-        ensures keeps { KeepsIn blocks.now self.old self.new }
+        ensures keeps { is_loading (stage_of self.old.stage) ≡ false → KeepsIn blocks.now self.old self.new }
         ensures rest { self.new ≡ record self.old { words = self.new.words } }
     {
         store_words(&mut self.words, blocks.end() as usize)?;

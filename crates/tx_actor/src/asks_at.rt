@@ -1,7 +1,11 @@
 //! What an actor is asked, whatever it is: where its request stands decides what may be asked.
-ghost use Rattle.std.specs.Prelude.{◌≡◌, IfOk, OnErr};
+ghost use Rattle.std.specs.Prelude.{◌≡◌, ◌≢◌, ◌⊎◌, IfOk, OnErr};
 ghost use Rattle.replay_log.specs.Worlds.{ask_at, ask_idle, ask_op, ask_open};
 ghost use Rattle.tx_actor.specs.Calls.{AsksAt, AsksOwn, CanCall, StandsOwn};
+ghost use Rattle.actor_words.specs.Blocks.{BlocksView};
+ghost use Rattle.actor_words.specs.Requests.{HasNoReads};
+ghost use Rattle.tx_actor.specs.Having.{ReadsStill};
+ghost use Rattle.tx_actor.specs.Keeping.{KeepsIn};
 ghost use Rattle.tx_actor.specs.Running.{Does, seat_of, stage_of};
 
 use crate::actor::{Stage, Told, TxActor};
@@ -12,7 +16,10 @@ use std::alloc::Global;
 impl<V: Value> TxActor<V> {
     /// It has no transaction.
     fn asks_idle(&mut self, request: Request<V>) -> Told<V>
-        ensures { Does self.old self.new result (λ a w. ask_idle w a (seat_of self.old) request) }
+        ensures does { Does self.old self.new result (λ a w. ask_idle w a (seat_of self.old) request) }
+        ensures keeps { (v : BlocksView) → KeepsIn v self.old self.new }
+        ensures copies { self.new.copies ≡ self.old.copies }
+        ensures apart { (self.new.stage ≡ Stage.Beginning) ⊎ (self.new ≡ self.old) }
     {
         match request {
             Request::Begin => self.begins(),
@@ -25,6 +32,8 @@ impl<V: Value> TxActor<V> {
         requires { CanCall blocks.now self.old }
         ensures ok { IfOk result (λ told. AsksOwn blocks.now self.old self.new told (λ a w. ask_op w a (seat_of self.old) call.target call.op)) }
         ensures err { OnErr result (StandsOwn self.old self.new) }
+        ensures keeps { HasNoReads self.old.words → KeepsIn blocks.now self.old self.new }
+        ensures still { ReadsStill self.old.copies.items self.new.copies.items }
     {
         match call.op {
             Op::Read => Ok(self.asks_to_read(blocks, call.target)?),
@@ -43,6 +52,8 @@ impl<V: Value> TxActor<V> {
         requires { CanCall blocks.now self.old }
         ensures ok { IfOk result (λ told. AsksOwn blocks.now self.old self.new told (λ a w. ask_open w a (seat_of self.old) request)) }
         ensures err { OnErr result (StandsOwn self.old self.new) }
+        ensures keeps { HasNoReads self.old.words → KeepsIn blocks.now self.old self.new }
+        ensures still { ReadsStill self.old.copies.items self.new.copies.items }
     {
         match request {
             Request::Begin => Ok(Told::Refused(Refusal::NotIdle)),
@@ -54,7 +65,8 @@ impl<V: Value> TxActor<V> {
     }
 
     /// A request. `NotIdle` where another is under way, or a begin within a transaction, and `NoTransaction` for a call or an end without
-    /// one; else as the request's own method says. A want of memory leaves the actor as it was.
+    /// one; else as the request's own method says. A want of memory leaves the actor as it was. Where it is not at rest in its transaction
+    /// it begins one, or stays as it is.
     pub fn asks(
         &mut self,
         alloc: Global,
@@ -64,6 +76,9 @@ impl<V: Value> TxActor<V> {
         requires { self.old.stage ≡ Stage.Open → CanCall blocks.now self.old }
         ensures ok { IfOk result (λ told. AsksAt blocks.now self.old self.new told (λ a w. ask_at w a (seat_of self.old) (stage_of self.old.stage) request)) }
         ensures err { OnErr result (StandsOwn self.old self.new) }
+        ensures keeps { (self.old.stage ≡ Stage.Open → HasNoReads self.old.words) → KeepsIn blocks.now self.old self.new }
+        ensures still { ReadsStill self.old.copies.items self.new.copies.items }
+        ensures apart { self.old.stage ≢ Stage.Open → (self.new.stage ≡ Stage.Beginning) ⊎ (self.new ≡ self.old) }
     {
         match self.stage {
             Stage::Idle => Ok(self.asks_idle(request)),

@@ -6,6 +6,9 @@ ghost use Rattle.replay_log.specs.Worlds.{calls_on, is_known};
 ghost use Rattle.step_core.specs.Shown.{actor_of};
 ghost use Rattle.tx_actor.specs.Calls.{AsksOwn, CanCall, ask_call, is_allowed};
 ghost use Rattle.actor_copies.specs.Keeps.{call_on};
+ghost use Rattle.actor_words.specs.Requests.{HasNoReads};
+ghost use Rattle.tx_actor.specs.Having.{ReadsStill};
+ghost use Rattle.tx_actor.specs.Keeping.{KeepsIn};
 ghost use Rattle.tx_actor.specs.Prepares.{IsAlike, IsHeldAt, IsHeldPlace};
 ghost use Rattle.tx_actor.specs.Running.{seat_of};
 
@@ -60,6 +63,8 @@ impl<V: Value> TxActor<V> {
         requires held { IsHeldAt self.old.copies.items place collection op }
         ensures ok { IfOk result (λ told. AsksOwn blocks.now self.old self.new told (λ a w. calls_on w a (seat_of self.old) (call_on collection op))) }
         ensures err { OnErr result (IsAlike self.old self.new) }
+        ensures keeps { HasNoReads self.old.words → KeepsIn blocks.now self.old self.new }
+        ensures still { ReadsStill self.old.copies.items self.new.copies.items }
     {
         let first = blocks.first_of(collection);
         match self.prepares(alloc, place, first, op)? {
@@ -85,6 +90,8 @@ impl<V: Value> TxActor<V> {
         requires may { worlds.may_ask (actor_of self.old.words) op ≡ true }
         ensures ok { IfOk result (λ told. AsksOwn blocks.now self.old self.new told (λ a w. calls_on w a (seat_of self.old) (call_on collection op))) }
         ensures err { OnErr result (IsAlike self.old self.new) }
+        ensures keeps { HasNoReads self.old.words → KeepsIn blocks.now self.old self.new }
+        ensures still { ReadsStill self.old.copies.items self.new.copies.items }
     {
         match held_place(&self.copies, collection, &op) {
             Some(place) => {
@@ -113,6 +120,8 @@ impl<V: Value> TxActor<V> {
         requires { CanCall blocks.now self.old }
         ensures ok { IfOk result (λ told. AsksOwn blocks.now self.old self.new told (λ a w. ask_call w a (seat_of self.old) collection op)) }
         ensures err { OnErr result (IsAlike self.old self.new) }
+        ensures keeps { HasNoReads self.old.words → KeepsIn blocks.now self.old self.new }
+        ensures still { ReadsStill self.old.copies.items self.new.copies.items }
     {
         if !is_allowed(blocks, &self.words, collection, &op) {
             return Ok(Told::Refused(Refusal::NoSuch));

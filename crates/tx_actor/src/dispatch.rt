@@ -1,12 +1,13 @@
 //! What an actor makes of its atomic action, by its stage: of what a step of the words told, of a try on a gate, of a gate that was
 //! put back, of a base that has gone home, and of a want of memory.
-ghost use Rattle.std.specs.Prelude.{◌≡◌, ◌<◌, ℕ, [], ◌∷◌};
+ghost use Rattle.std.specs.Prelude.{◌≡◌, ◌<◌, ℕ, [], ◌∷◌, false};
 ghost use Rattle.std.specs.Vec.{vec_len, vec_capacity};
 ghost use Rattle.seq_model.specs.declared.refusal.Refusal.TheVariants as refusal;
 ghost use Rattle.replay_log.specs.Worlds.{because, gives_up};
 ghost use Rattle.tx_actor.specs.Dispatch.{HasRoom, IsGoneHome, IsToldWord, Records, Starves};
-ghost use Rattle.actor_words.specs.Dispatch.{after_put, after_try, notice_told, shown_notice};
+ghost use Rattle.actor_words.specs.Dispatch.{after_put, after_try, is_loading, notice_told, shown_notice};
 ghost use Rattle.actor_words.specs.Blocks.{BlocksView};
+ghost use Rattle.tx_actor.specs.Having.{KeepsCopies};
 ghost use Rattle.tx_actor.specs.Keeping.{KeepsIn};
 ghost use Rattle.tx_actor.specs.Running.{Does, Reseats, at, seat_of, stage_of};
 
@@ -31,6 +32,7 @@ impl<V: Drop> TxActor<V> {
     fn has_begun(&mut self, heard: WordNotice) -> Told<V>
         ensures does { IsToldWord (at self.old Stage.Beginning) self.new result (shown_notice heard) }
         ensures keeps { (v : BlocksView) → KeepsIn v (at self.old Stage.Beginning) self.new }
+        ensures leaves { KeepsCopies (at self.old Stage.Beginning) self.new }
     {
         match heard {
             WordNotice::Begun(rv) => self.begun(rv),
@@ -43,6 +45,7 @@ impl<V: Drop> TxActor<V> {
         requires { vec_len self.old.calls < vec_capacity self.old.calls }
         ensures does { IsToldWord (at self.old (Stage.Reading location)) self.new result (shown_notice heard) }
         ensures keeps { (v : BlocksView) → KeepsIn v (at self.old (Stage.Reading location)) self.new }
+        ensures leaves { KeepsCopies (at self.old (Stage.Reading location)) self.new }
     {
         match heard {
             WordNotice::Number(value) => self.read(location, value),
@@ -54,6 +57,7 @@ impl<V: Drop> TxActor<V> {
     fn has_locked(&mut self, heard: WordNotice, homes: VecDeque<u32>) -> Told<V>
         ensures does { IsToldWord (at self.old (Stage.Locking homes)) self.new result (shown_notice heard) }
         ensures keeps { (v : BlocksView) → KeepsIn v (at self.old (Stage.Locking homes)) self.new }
+        ensures leaves { KeepsCopies (at self.old (Stage.Locking homes)) self.new }
     {
         match heard {
             WordNotice::Locked(number) => self.locked(number, homes),
@@ -68,6 +72,7 @@ impl<V: Drop> TxActor<V> {
     fn has_first_stored(&mut self, heard: WordNotice, homes: VecDeque<u32>) -> Told<V>
         ensures does { IsToldWord (at self.old (Stage.Ready homes)) self.new result (shown_notice heard) }
         ensures keeps { (v : BlocksView) → KeepsIn v (at self.old (Stage.Ready homes)) self.new }
+        ensures leaves { KeepsCopies (at self.old (Stage.Ready homes)) self.new }
         ensures made { self.new.made.items ≡ self.old.calls.items }
     {
         mem::swap(&mut self.made, &mut self.calls);
@@ -80,6 +85,7 @@ impl<V: Drop> TxActor<V> {
     fn has_stored(&mut self, heard: WordNotice, homes: VecDeque<u32>) -> Told<V>
         ensures does { IsToldWord (at self.old (Stage.Storing homes)) self.new result (shown_notice heard) }
         ensures keeps { (v : BlocksView) → KeepsIn v (at self.old (Stage.Storing homes)) self.new }
+        ensures leaves { KeepsCopies (at self.old (Stage.Storing homes)) self.new }
     {
         match heard {
             WordNotice::Stored => self.goes_home(homes),
@@ -90,6 +96,7 @@ impl<V: Drop> TxActor<V> {
     fn has_released(&mut self, heard: WordNotice) -> Told<V>
         ensures does { IsToldWord (at self.old Stage.Releasing) self.new result (shown_notice heard) }
         ensures keeps { (v : BlocksView) → KeepsIn v (at self.old Stage.Releasing) self.new }
+        ensures leaves { KeepsCopies (at self.old Stage.Releasing) self.new }
     {
         match heard {
             WordNotice::Released => self.released(),
@@ -100,6 +107,7 @@ impl<V: Drop> TxActor<V> {
     fn has_cancelled(&mut self, heard: WordNotice) -> Told<V>
         ensures does { IsToldWord (at self.old Stage.Cancelling) self.new result (shown_notice heard) }
         ensures keeps { (v : BlocksView) → KeepsIn v (at self.old Stage.Cancelling) self.new }
+        ensures leaves { KeepsCopies (at self.old Stage.Cancelling) self.new }
     {
         match heard {
             WordNotice::Cancelled => self.cancelled(),
@@ -112,6 +120,7 @@ impl<V: Drop> TxActor<V> {
         requires { HasRoom self.old self.old.stage }
         ensures does { IsToldWord self.old self.new result (notice_told told) }
         ensures keeps { (v : BlocksView) → KeepsIn v self.old self.new }
+        ensures leaves { is_loading (stage_of self.old.stage) ≡ false → KeepsCopies self.old self.new }
         ensures made { Records self.old.stage → self.new.made.items ≡ self.old.calls.items }
     {
         let heard = of_told(told);
@@ -134,6 +143,7 @@ impl<V: Drop> TxActor<V> {
         ensures does { let r = at self.old (Stage.Gating homes got tries) in
             Does r self.new result (λ a w. after_try w a (seat_of r) (stage_of r.stage) free) }
         ensures keeps { (v : BlocksView) → KeepsIn v (at self.old (Stage.Gating homes got tries)) self.new }
+        ensures leaves { KeepsCopies (at self.old (Stage.Gating homes got tries)) self.new }
     {
         if got < homes.len() {
             self.tried_home(homes, got, tries, free)
@@ -146,6 +156,7 @@ impl<V: Drop> TxActor<V> {
         ensures does { let r = at self.old (Stage.Trying asked tries) in
             Does r self.new result (λ a w. after_try w a (seat_of r) (stage_of r.stage) free) }
         ensures keeps { (v : BlocksView) → KeepsIn v (at self.old (Stage.Trying asked tries)) self.new }
+        ensures leaves { KeepsCopies (at self.old (Stage.Trying asked tries)) self.new }
     {
         self.tried(asked, tries, free)
     }
@@ -154,6 +165,7 @@ impl<V: Drop> TxActor<V> {
     pub fn tried_gate(&mut self, free: bool) -> Told<V>
         ensures does { Does self.old self.new result (λ a w. after_try w a (seat_of self.old) (stage_of self.old.stage) free) }
         ensures keeps { (v : BlocksView) → KeepsIn v self.old self.new }
+        ensures leaves { is_loading (stage_of self.old.stage) ≡ false → KeepsCopies self.old self.new }
     {
         let stage = mem::replace(&mut self.stage, Stage::Idle);
         match stage {
@@ -167,6 +179,7 @@ impl<V: Drop> TxActor<V> {
         ensures does { let r = at self.old (Stage.Returning homes) in
             Does r self.new result (λ a w. after_put w a (seat_of r) (stage_of r.stage)) }
         ensures keeps { (v : BlocksView) → KeepsIn v (at self.old (Stage.Returning homes)) self.new }
+        ensures leaves { KeepsCopies (at self.old (Stage.Returning homes)) self.new }
     {
         if has_none(&homes) {
             return self.stays(Stage::Returning(homes));
@@ -180,6 +193,7 @@ impl<V: Drop> TxActor<V> {
     pub fn put_gate(&mut self) -> Told<V>
         ensures does { Does self.old self.new result (λ a w. after_put w a (seat_of self.old) (stage_of self.old.stage)) }
         ensures keeps { (v : BlocksView) → KeepsIn v self.old self.new }
+        ensures leaves { is_loading (stage_of self.old.stage) ≡ false → KeepsCopies self.old self.new }
     {
         let stage = mem::replace(&mut self.stage, Stage::Idle);
         match stage {
@@ -192,6 +206,7 @@ impl<V: Drop> TxActor<V> {
     fn first_home(&mut self, homes: VecDeque<u32>) -> Told<V>
         ensures does { IsGoneHome (at self.old (Stage.Homing homes)) self.new result }
         ensures keeps { (v : BlocksView) → KeepsIn v (at self.old (Stage.Homing homes)) self.new }
+        ensures leaves { KeepsCopies (at self.old (Stage.Homing homes)) self.new }
         ensures copies { self.new.copies ≡ self.old.copies }
     {
         if has_none(&homes) {
@@ -206,6 +221,7 @@ impl<V: Drop> TxActor<V> {
     pub fn went_home(&mut self) -> Told<V>
         ensures does { IsGoneHome self.old self.new result }
         ensures keeps { (v : BlocksView) → KeepsIn v self.old self.new }
+        ensures leaves { is_loading (stage_of self.old.stage) ≡ false → KeepsCopies self.old self.new }
         ensures copies { self.new.copies ≡ self.old.copies }
     {
         let stage = mem::replace(&mut self.stage, Stage::Idle);
@@ -216,9 +232,10 @@ impl<V: Drop> TxActor<V> {
     }
 
     /// A call is given up while the gate of its collection is held.
-    fn starves_copying(&mut self, collection: u32) -> Told<V>
+    pub(crate) fn starves_copying(&mut self, collection: u32) -> Told<V>
         ensures does { Reseats self.old self.new result (λ a w. gives_up w a (because (seat_of self.old) refusal.OutOfMemory) (collection ∷ [])) }
         ensures keeps { (v : BlocksView) → KeepsIn v (at self.old (Stage.ReturningOne collection)) self.new }
+        ensures leaves { KeepsCopies (at self.old Stage.Idle) self.new }
     {
         self.cause = Some(Refusal::OutOfMemory);
         self.stage = Stage::ReturningOne(collection);
@@ -228,6 +245,7 @@ impl<V: Drop> TxActor<V> {
     fn starves_gating(&mut self, homes: VecDeque<u32>, got: usize) -> Told<V>
         ensures does { (n : ℕ) → Starves (at self.old (Stage.Gating homes got n)) self.new result }
         ensures keeps { (v : BlocksView) → KeepsIn v (at self.old (Stage.Gating homes got 0)) self.new }
+        ensures leaves { KeepsCopies (at self.old Stage.Idle) self.new }
     {
         let mut held = homes;
         held.truncate(got);
@@ -237,6 +255,7 @@ impl<V: Drop> TxActor<V> {
     fn starves_ready(&mut self, homes: VecDeque<u32>) -> Told<V>
         ensures does { Starves (at self.old (Stage.Ready homes)) self.new result }
         ensures keeps { (v : BlocksView) → KeepsIn v (at self.old (Stage.Ready homes)) self.new }
+        ensures leaves { KeepsCopies (at self.old Stage.Idle) self.new }
     {
         self.gives_up_with(Refusal::OutOfMemory, homes)
     }
@@ -245,6 +264,7 @@ impl<V: Drop> TxActor<V> {
     pub fn starves(&mut self) -> Told<V>
         ensures does { Starves self.old self.new result }
         ensures keeps { (v : BlocksView) → KeepsIn v self.old self.new }
+        ensures leaves { KeepsCopies self.old self.new }
     {
         let stage = mem::replace(&mut self.stage, Stage::Idle);
         match stage {

@@ -1,10 +1,10 @@
 //! The laws of the definitions that the contracts cite.
-ghost use Rattle.std.specs.Prelude.{◌≡◌, ◌<◌, ℕ, [], None, Some, slice_get};
+ghost use Rattle.std.specs.Prelude.{◌≡◌, ◌≢◌, ◌<◌, ℕ, [], None, Option, Some, slice_get};
 ghost use Rattle.conflict.specs.declared.outcome.Outcome.{Outcome};
 ghost use Rattle.collection_machine.specs.Boosted.{longer};
 ghost use Rattle.replay_log.specs.Contents.{HaveStripes};
 ghost use Rattle.actor_copies.specs.Copies.{answer_of, answered_on};
-ghost use Rattle.replay_log.specs.Worlds.{World};
+ghost use Rattle.replay_log.specs.Worlds.{World, actor_of};
 ghost use Rattle.tx_actor.specs.Loading.{KeepsCall, MayHear};
 ghost use Rattle.actor_copies.specs.Loading.{LoadsReached};
 ghost use Rattle.tx_actor.specs.Seated.{SeatsActors};
@@ -13,8 +13,15 @@ ghost use Rattle.tx_actor.specs.declared.actor.TxActor.{TxActor};
 ghost use Rattle.tx_actor.specs.Answers.{IsAcceptedAt};
 ghost use Rattle.actor_words.specs.Blocks.{BlocksView, IsLaid};
 ghost use Rattle.actor_copies.specs.Owns.{AreOfBlocks, IsOwn};
+ghost use Rattle.actor_copies.specs.declared.copies.Copied.{Copied};
+ghost use Rattle.actor_copies.specs.Copied.{IsReadOf};
+ghost use Rattle.actor_copies.specs.Staying.{Stays};
+ghost use Rattle.tx_actor.specs.Having.{HasCopies, KeepsCopies, OwnsAll, ReadsStill};
+ghost use Rattle.tx_actor.specs.Keeping.{IsRunning};
 ghost use Rattle.tx_actor.specs.Owns.{OwnsCopies};
 
+use crate::actor::Stage;
+use actor_copies::copies_stay;
 use seq_model::Value;
 
 /// Wherever events have led: where the load of a call's last location told the copied edition, the acceptance is allowed, and the world's
@@ -48,3 +55,21 @@ pub fn copies_stay_own<V: Value>()
         OwnsCopies r w a → OwnsCopies u v a }
     ensures blocks { (v : BlocksView) (r : TxActor V) (w : World V) (a : ℕ) → IsLaid v w → OwnsCopies r w a → AreOfBlocks v r.copies.items }
 {}
+
+/// What an actor has of collections stays its own from stage to stage. A step, or a want of memory, that leaves its copies as the next
+/// stage asks for them leaves it, where its event leaves all that its transaction has; one that begins has nothing. Another actor's
+/// event leaves it. At rest, what a request leaves of its copies has been read where they were; and where all is its own, so is what a
+/// call reads for that it has made ready.
+pub fn copies_by_stage<V: Value>()
+    ensures steps { (r u : TxActor V) (w v : World V) (a : ℕ) → r.stage ≢ Stage.Beginning → KeepsCopies r u → Stays w v a →
+        HasCopies r w a → HasCopies u v a }
+    ensures begun { (r u : TxActor V) (v : World V) (a : ℕ) → r.stage ≡ Stage.Beginning → KeepsCopies r u → HaveStripes v.blocks →
+        (u.stage ≡ Stage.Open → (k : ℕ) → IsOwn v a k None × IsReadOf v a k None) → HasCopies u v a }
+    ensures others { (r : TxActor V) (w v : World V) (a : ℕ) → actor_of v a ≡ actor_of w a → Stays w v a → HasCopies r w a →
+        HasCopies r v a }
+    ensures asked { (r u : TxActor V) (w v : World V) (a : ℕ) → ReadsStill r.copies.items u.copies.items →
+        ((k : ℕ) (c : Option (Copied V)) → IsReadOf w a k c → IsReadOf v a k c) → OwnsAll r w a → OwnsCopies u v a → OwnsAll u v a }
+    ensures all { (b : BlocksView) (r : TxActor V) (w : World V) (a : ℕ) → IsLaid b w → IsRunning b r → OwnsAll r w a → HasCopies r w a }
+{
+    copies_stay::<V>();
+}

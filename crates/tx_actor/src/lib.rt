@@ -9,6 +9,7 @@ mod answers;
 mod asks;
 mod asks_at;
 mod asks_calls;
+mod copying;
 mod dispatch;
 pub mod laws;
 mod loads;

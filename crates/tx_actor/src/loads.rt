@@ -2,9 +2,11 @@
 //! is stale.
 ghost use Rattle.std.specs.Prelude.{◌≡◌, Some};
 ghost use Rattle.word_machine.specs.Notices as notice;
-ghost use Rattle.tx_actor.specs.Answers.{IsPrepared};
+ghost use Rattle.tx_actor.specs.Answers.{CanAccept};
 ghost use Rattle.actor_words.specs.Dispatch.{notice_told, shown_notice};
 ghost use Rattle.tx_actor.specs.Loads.{IsLoadable, IsToldLoad, first_entry};
+ghost use Rattle.actor_words.specs.Blocks.{BlocksView};
+ghost use Rattle.tx_actor.specs.Keeping.{KeepsHeard};
 ghost use Rattle.tx_actor.specs.Running.{at};
 
 use crate::actor::{Answered, Stage, Told, TxActor};
@@ -30,9 +32,10 @@ impl<V: Value> TxActor<V> {
         first: (u32, u64),
         edition: u64,
     ) -> Told<V>
-        requires prepared { IsPrepared self.old call }
+        requires prepared { CanAccept self.old call }
         requires first { first_entry left.items ≡ Some first }
-        ensures { IsToldLoad (at self.old (Stage.Loading call left)) self.new result (notice.Number edition) }
+        ensures does { IsToldLoad (at self.old (Stage.Loading call left)) self.new result (notice.Number edition) }
+        ensures keeps { (v : BlocksView) → KeepsHeard v (at self.old (Stage.Loading call left)) self.new (notice.Number edition) }
     {
         let copied = first.1;
         if copied != edition {
@@ -49,8 +52,9 @@ impl<V: Value> TxActor<V> {
 
     /// The first location was read with this edition.
     fn has_found(&mut self, call: Answered<V>, left: VecDeque<(u32, u64)>, edition: u64) -> Told<V>
-        requires prepared { IsPrepared self.old call }
-        ensures { IsToldLoad (at self.old (Stage.Loading call left)) self.new result (notice.Number edition) }
+        requires prepared { CanAccept self.old call }
+        ensures does { IsToldLoad (at self.old (Stage.Loading call left)) self.new result (notice.Number edition) }
+        ensures keeps { (v : BlocksView) → KeepsHeard v (at self.old (Stage.Loading call left)) self.new (notice.Number edition) }
     {
         match first_left(&left) {
             None => self.stays(Stage::Loading(call, left)),
@@ -66,7 +70,8 @@ impl<V: Value> TxActor<V> {
         location: u32,
         word: u64,
     ) -> Told<V>
-        ensures { IsToldLoad (at self.old (Stage.Loading call left)) self.new result (notice.Moved location word) }
+        ensures does { IsToldLoad (at self.old (Stage.Loading call left)) self.new result (notice.Moved location word) }
+        ensures keeps { (v : BlocksView) → KeepsHeard v (at self.old (Stage.Loading call left)) self.new (notice.Moved location word) }
     {
         match first_left(&left) {
             None => self.stays(Stage::Loading(call, left)),
@@ -81,7 +86,8 @@ impl<V: Value> TxActor<V> {
         left: VecDeque<(u32, u64)>,
     ) -> Told<V>
         requires prepared { IsLoadable self.old (Stage.Loading call left) (shown_notice heard) }
-        ensures { IsToldLoad (at self.old (Stage.Loading call left)) self.new result (shown_notice heard) }
+        ensures does { IsToldLoad (at self.old (Stage.Loading call left)) self.new result (shown_notice heard) }
+        ensures keeps { (v : BlocksView) → KeepsHeard v (at self.old (Stage.Loading call left)) self.new (shown_notice heard) }
     {
         match heard {
             WordNotice::Number(edition) => self.has_found(call, left, edition),
@@ -94,7 +100,8 @@ impl<V: Value> TxActor<V> {
     /// acceptance takes is there.
     pub fn loaded(&mut self, told: Result<Option<WordAnswer>, WordRefusal>) -> Told<V>
         requires prepared { IsLoadable self.old self.old.stage (notice_told told) }
-        ensures { IsToldLoad self.old self.new result (notice_told told) }
+        ensures does { IsToldLoad self.old self.new result (notice_told told) }
+        ensures keeps { (v : BlocksView) → KeepsHeard v self.old self.new (notice_told told) }
     {
         let heard = of_told(told);
         let stage = mem::replace(&mut self.stage, Stage::Idle);

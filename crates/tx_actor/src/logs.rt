@@ -39,7 +39,7 @@ impl<V: Value> TxActor<V> {
         ensures others { OthersStand collection self.old.copies.items self.new.copies.items }
         ensures rest { self.new ≡ record self.old { copies = self.new.copies } }
         ensures stands { is_recorded self.old.stage ≡ true → Stands self.old self.new }
-        ensures keeps { (v : BlocksView) → KeepsIn v self.old self.new }
+        ensures keeps { is_recorded self.old.stage ≡ true → (v : BlocksView) → KeepsIn v self.old self.new }
     {
         match place_of(&self.copies, collection) {
             Some(place) => self.copies.remove(place).copied.log(),

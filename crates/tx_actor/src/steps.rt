@@ -14,6 +14,8 @@ ghost use Rattle.step_core.specs.Sound.{Fits, owed};
 ghost use Rattle.actor_words.specs.Blocks.{BlocksView};
 ghost use Rattle.tx_actor.specs.Dispatch.{HasRoom};
 ghost use Rattle.actor_words.specs.Dispatch.{MayRelease};
+ghost use Rattle.actor_copies.specs.declared.copies.CopyOf.{CopyOf};
+ghost use Rattle.tx_actor.specs.Having.{IsWhole, KeepsCopies, KeepsFrom};
 ghost use Rattle.tx_actor.specs.Keeping.{IsRunning, KeepsIn, NamesAmong};
 ghost use Rattle.tx_actor.specs.Running.{IsSeatOf, KnowsHomes, Reseats, Runs, asked_of, at, is_recorded, notice_of, seat_in, seat_of, stage_in, stage_of};
 
@@ -54,6 +56,7 @@ fn gating_or_ready<V: Drop>(homes: VecDeque<u32>) -> Stage<V>
     ensures names { (n : ℕ) → All (λ k. k < n) homes.items → NamesAmong n result }
     ensures room { (r : TxActor V) → HasRoom r result }
     ensures shown { is_recorded result ≡ false }
+    ensures copies { (s : Stage V) (cs : List (CopyOf V)) → IsWhole s → KeepsFrom result s cs cs }
 {
     if has_none(&homes) {
         return Stage::Ready(homes);
@@ -69,6 +72,7 @@ fn next_gate<V: Drop>(homes: VecDeque<u32>, got: usize) -> Stage<V>
     ensures names { (n : ℕ) → All (λ k. k < n) homes.items → NamesAmong n result }
     ensures room { (r : TxActor V) → HasRoom r result }
     ensures shown { is_recorded result ≡ false }
+    ensures copies { (s : Stage V) (cs : List (CopyOf V)) → IsWhole s → KeepsFrom result s cs cs }
 {
     if homes.len() <= got {
         return Stage::Ready(homes);
@@ -83,6 +87,7 @@ pub(crate) fn leaving_or_cancelling<V>(words: &Actor) -> Stage<V>
     ensures names { (n : ℕ) → NamesAmong n result }
     ensures room { (r : TxActor V) → HasRoom r result }
     ensures shown { is_recorded result ≡ false }
+    ensures copies { (s : Stage V) (before now : List (CopyOf V)) → KeepsFrom result s before now }
 {
     match words.place {
         Place::Leave => Stage::Leaving,
@@ -118,6 +123,7 @@ impl<V: Drop> TxActor<V> {
         ensures knows { (ks : List ℕ) → KnowsHomes stage ks → KnowsHomes self.new.stage ks }
         ensures stage { self.new.stage ≡ stage }
         ensures rest { self.new.words ≡ self.old.words }
+        ensures copies { self.new.copies.items ≡ [] }
     {
         self.stage = stage;
         self.rv = rv;
@@ -131,6 +137,7 @@ impl<V: Drop> TxActor<V> {
     pub fn begun(&mut self, rv: u64) -> Told<V>
         ensures does { Reseats self.old self.new result (λ a w. has_begun w a (seat_of self.old) (notice.Begun rv)) }
         ensures keeps { (v : BlocksView) → KeepsIn v (at self.old Stage.Idle) self.new }
+        ensures leaves { KeepsCopies (at self.old Stage.Beginning) self.new }
     {
         self.clear(Stage::Open, rv);
         Told::Answered(Answer::Begun(rv))
@@ -140,6 +147,7 @@ impl<V: Drop> TxActor<V> {
     pub fn exhausted(&mut self, clock: u64) -> Told<V>
         ensures does { Reseats self.old self.new result (λ a w. has_begun w a (seat_of self.old) (notice.Exhausted clock)) }
         ensures keeps { (v : BlocksView) → KeepsIn v (at self.old Stage.Idle) self.new }
+        ensures leaves { KeepsCopies (at self.old Stage.Idle) self.new }
     {
         self.clear(Stage::Idle, 0);
         Told::Refused(Refusal::Exhausted { clock })
@@ -149,6 +157,7 @@ impl<V: Drop> TxActor<V> {
     pub fn released(&mut self) -> Told<V>
         ensures does { Reseats self.old self.new result (λ a w. has_released w a (seat_of self.old) notice.Released) }
         ensures keeps { (v : BlocksView) → KeepsIn v (at self.old Stage.Idle) self.new }
+        ensures leaves { KeepsCopies (at self.old Stage.Idle) self.new }
     {
         let number = self.wv;
         self.clear(Stage::Idle, 0);
@@ -159,6 +168,7 @@ impl<V: Drop> TxActor<V> {
     pub fn closed(&mut self) -> Told<V>
         ensures does { Reseats self.old self.new result (λ a w. (seated (recorded w a (seat_of self.old) false self.old.rv) a no_one, Answered a (answer.Committed self.old.rv))) }
         ensures keeps { (v : BlocksView) → KeepsIn v (at self.old Stage.Idle) self.new }
+        ensures leaves { KeepsCopies (at self.old Stage.Idle) self.new }
         ensures made { self.new.made.items ≡ self.old.calls.items }
     {
         let number = self.rv;
@@ -171,6 +181,7 @@ impl<V: Drop> TxActor<V> {
     pub fn ended(&mut self) -> Told<V>
         ensures does { Reseats self.old self.new result (λ a w. ended w a (seat_of self.old)) }
         ensures keeps { (v : BlocksView) → KeepsIn v (at self.old Stage.Idle) self.new }
+        ensures leaves { KeepsCopies (at self.old Stage.Idle) self.new }
         ensures made { self.new.made.items ≡ self.old.calls.items }
     {
         let cause = self.cause;
@@ -187,6 +198,7 @@ impl<V: Drop> TxActor<V> {
         requires room { vec_len self.old.calls < vec_capacity self.old.calls }
         ensures does { Reseats self.old self.new result (λ a w. has_read w a (seat_of self.old) location (notice.Number value)) }
         ensures keeps { (v : BlocksView) → KeepsIn v (at self.old Stage.Idle) self.new }
+        ensures leaves { KeepsCopies (at self.old (Stage.Reading location)) self.new }
         ensures copies { self.new.copies ≡ self.old.copies }
     {
         let call = Call {
@@ -202,6 +214,7 @@ impl<V: Drop> TxActor<V> {
     pub(crate) fn cancels(&mut self) -> Told<V>
         ensures does { Reseats self.old self.new result (λ a w. (worlds.cancels w a (seat_of self.old), Quiet)) }
         ensures keeps { (v : BlocksView) → KeepsIn v (at self.old Stage.Idle) self.new }
+        ensures leaves { KeepsCopies (at self.old Stage.Idle) self.new }
         ensures copies { self.new.copies ≡ self.old.copies }
     {
         cancel(&mut self.words, 0);
@@ -213,6 +226,7 @@ impl<V: Drop> TxActor<V> {
     pub fn puts_back(&mut self, homes: VecDeque<u32>) -> Told<V>
         ensures does { Reseats self.old self.new result (λ a w. worlds.gives_up w a (seat_of self.old) homes.items) }
         ensures keeps { (v : BlocksView) → KeepsIn v (at self.old (Stage.Returning homes)) self.new }
+        ensures leaves { KeepsCopies (at self.old Stage.Idle) self.new }
     {
         if has_none(&homes) {
             return self.cancels();
@@ -225,6 +239,7 @@ impl<V: Drop> TxActor<V> {
     pub fn gives_up(&mut self, cause: Refusal) -> Told<V>
         ensures does { Reseats self.old self.new result (λ a w. worlds.gives_up w a (because (seat_of self.old) cause) []) }
         ensures keeps { (v : BlocksView) → KeepsIn v (at self.old Stage.Idle) self.new }
+        ensures leaves { KeepsCopies (at self.old Stage.Idle) self.new }
         ensures copies { self.new.copies ≡ self.old.copies }
     {
         self.cause = Some(cause);
@@ -235,6 +250,7 @@ impl<V: Drop> TxActor<V> {
     pub fn gives_up_with(&mut self, cause: Refusal, homes: VecDeque<u32>) -> Told<V>
         ensures does { Reseats self.old self.new result (λ a w. worlds.gives_up w a (because (seat_of self.old) cause) homes.items) }
         ensures keeps { (v : BlocksView) → KeepsIn v (at self.old (Stage.Returning homes)) self.new }
+        ensures leaves { KeepsCopies (at self.old Stage.Idle) self.new }
     {
         self.cause = Some(cause);
         self.puts_back(homes)
@@ -244,6 +260,7 @@ impl<V: Drop> TxActor<V> {
     pub fn tried(&mut self, asked: Asked<V>, tries: u32, free: bool) -> Told<V>
         ensures does { Reseats self.old self.new result (λ a w. has_tried w a (seat_of self.old) free asked.collection [] (λ n. worlds.Trying (asked_of asked) n) (worlds.Copying (asked_of asked)) tries) }
         ensures keeps { (v : BlocksView) → KeepsIn v (at self.old (Stage.Trying asked tries)) self.new }
+        ensures leaves { KeepsCopies (at self.old (Stage.Trying asked tries)) self.new }
     {
         if free {
             self.stage = Stage::Copying(asked);
@@ -269,6 +286,7 @@ impl<V: Drop> TxActor<V> {
         ensures does { (k : ℕ) (ks : List ℕ) → drop got homes.items ≡ k ∷ ks →
             Reseats self.old self.new result (λ a w. has_tried w a (seat_of self.old) free k (take got homes.items) (λ n. worlds.Gating (take got homes.items) (drop got homes.items) n) (takes_gates (take got homes.items ++ k ∷ []) ks) tries) }
         ensures keeps { (v : BlocksView) → KeepsIn v (at self.old (Stage.Gating homes got tries)) self.new }
+        ensures leaves { KeepsCopies (at self.old (Stage.Gating homes got tries)) self.new }
     {
         if free {
             self.stage = next_gate(homes, got + 1);
@@ -288,6 +306,8 @@ impl<V: Drop> TxActor<V> {
     pub fn begins(&mut self) -> Told<V>
         ensures does { Reseats self.old self.new result (λ a w. ask_idle w a (seat_of self.old) request.Begin) }
         ensures keeps { (v : BlocksView) → KeepsIn v self.old self.new }
+        ensures copies { self.new.copies ≡ self.old.copies }
+        ensures stage { self.new.stage ≡ Stage.Beginning }
     {
         begin(&mut self.words, false);
         self.stage = Stage::Beginning;
@@ -298,6 +318,8 @@ impl<V: Drop> TxActor<V> {
     pub fn begins_to_read(&mut self) -> Told<V>
         ensures does { Reseats self.old self.new result (λ a w. ask_idle w a (seat_of self.old) request.BeginRead) }
         ensures keeps { (v : BlocksView) → KeepsIn v self.old self.new }
+        ensures copies { self.new.copies ≡ self.old.copies }
+        ensures stage { self.new.stage ≡ Stage.Beginning }
     {
         begin(&mut self.words, true);
         self.stage = Stage::Beginning;
@@ -308,6 +330,7 @@ impl<V: Drop> TxActor<V> {
     pub fn begin_starves(&mut self) -> Told<V>
         ensures does { Reseats self.old self.new result (λ a w. starve_at w a (seat_of self.old) worlds.Beginning) }
         ensures keeps { (v : BlocksView) → KeepsIn v (at self.old Stage.Idle) self.new }
+        ensures leaves { KeepsCopies (at self.old Stage.Idle) self.new }
     {
         abort(&mut self.words, 0);
         self.clear(Stage::Idle, 0);
@@ -320,6 +343,7 @@ impl<V: Drop> TxActor<V> {
             let f = has_locked w a (seat_of self.old) (notice.LockedAt number) in
             Runs a self.new f.0 × (notice_of a result ≡ f.1) }
         ensures keeps { (v : BlocksView) → KeepsIn v (at self.old (Stage.Locking homes)) self.new }
+        ensures leaves { KeepsCopies (at self.old (Stage.Locking homes)) self.new }
     {
         self.wv = number;
         self.stage = gating_or_ready(homes);
@@ -330,6 +354,7 @@ impl<V: Drop> TxActor<V> {
     pub fn cancelled(&mut self) -> Told<V>
         ensures does { Reseats self.old self.new result (λ a w. has_cancelled w a (seat_of self.old) notice.Cancelled) }
         ensures keeps { (v : BlocksView) → KeepsIn v (at self.old Stage.Idle) self.new }
+        ensures leaves { KeepsCopies (at self.old Stage.Idle) self.new }
     {
         abort(&mut self.words, 0);
         self.stage = Stage::Leaving;
@@ -343,6 +368,7 @@ impl<V: Drop> TxActor<V> {
             Runs a self.new f.0 × (notice_of a result ≡ f.1) }
         ensures made { self.new.made ≡ self.old.made }
         ensures keeps { (v : BlocksView) → KeepsIn v (at self.old (Stage.Storing homes)) self.new }
+        ensures leaves { KeepsCopies (at self.old (Stage.Storing homes)) self.new }
     {
         self.stage = Stage::Storing(homes);
         Told::Quiet
@@ -357,6 +383,7 @@ impl<V: Drop> TxActor<V> {
         ensures made { self.new.made ≡ self.old.made }
         ensures copies { self.new.copies ≡ self.old.copies }
         ensures keeps { (v : BlocksView) → KeepsIn v (at self.old (Stage.Homing homes)) self.new }
+        ensures leaves { KeepsCopies (at self.old (Stage.Homing homes)) self.new }
     {
         if has_none(&homes) {
             release(&mut self.words, 0);

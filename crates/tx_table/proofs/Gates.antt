@@ -42,7 +42,7 @@ use Rattle.tx_table.specs.Shown.{View, Slot, total, acting, IsBaseAt, OneBase, H
 use Rattle.tx_table.proofs.Turned.{asked_calm, asked_alike, found_alike, records_grow}
 use Rattle.tx_table.proofs.Keeps.{gate_apart, base_trans, base_sym, calm_base, keeps_base, ends_same, shows_after, own_all, run_append, run_own}
 
-at_set_same : {A : Type 0} → (l : List A) (k : ℕ) (x y : A) → get_elem? l k ≡ some x → get_elem? (set l k y) k ≡ some y
+pub at_set_same : {A : Type 0} → (l : List A) (k : ℕ) (x y : A) → get_elem? l k ≡ some x → get_elem? (set l k y) k ≡ some y
 at_set_same [] k x y e = absurd (some-ne-none x (sym e))
 at_set_same (z ∷ l) zero x y e = refl
 at_set_same (z ∷ l) (suc k) x y e = at_set_same l k x y e

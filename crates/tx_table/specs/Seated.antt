@@ -6,7 +6,9 @@ use Rattle.seq_model.specs.Contents.{Contents}
 use Rattle.seq_model.specs.declared.event.Event.TheVariants.{Step}
 use Rattle.collection_machine.specs.Boosted.{is_actor}
 use Rattle.replay_log.specs.declared.base.Base.{Base}
-use Rattle.replay_log.specs.Contents.{Block, block_of}
+use Rattle.replay_log.specs.Contents.{Block, block_of, first_of}
+use Rattle.actor_words.specs.Blocks.{kind_of}
+use Rattle.tx_table.specs.declared.blocks.Block as placed
 use Rattle.replay_log.specs.Seats.{World}
 use Rattle.replay_log.specs.Worlds.{happens}
 use Rattle.replay_log.specs.WorldTraces.{is_half_done}
@@ -19,7 +21,12 @@ use Rattle.tx_table.specs.declared.seat.Seat.{Seat}
 use Rattle.tx_table.specs.declared.table.TxTable.{TxTable}
 use Rattle.tx_table.specs.Opening.{blocks_at, locations_at, words_at, world_at}
 use Rattle.tx_table.specs.Turns.{asked_all, lone, spot, stage_of, found_at, moved, ends}
-use Rattle.tx_table.specs.Shown.{View, Slot, IsBaseAt, acting}
+use Rattle.tx_table.specs.Shown.{View, Slot, IsBaseAt, IsReached, acting}
+
+-- The place of collection k among the locations behind n words.
+pub record IsBlockAt (n : ℕ) (bs : List Block) (k : ℕ) (b : placed.Block) : Type 0 where
+  pub block : block_of bs k ≡ Some (record { kind = kind_of b.kind; stripes = b.stripes })
+  pub first : b.first ≡ first_of n bs k
 
 module _ {V : Type 0} where
   abbrev pub list_of : Asked V → List (Event V)
@@ -112,7 +119,7 @@ module _ {V : Type 0} where
 
   -- ---- what a step makes of a seat
   -- The seat took the turn that was due, which found this; it knows this clock, and has these bases out. Its actor's own world is what
-  -- the step of the definitions leaves of it.
+  -- the step of the definitions leaves of it, and some events lead to one that is so to the actor.
   pub record Takes (o : World V) (s : Seat V) (clock found : ℕ) (base : Option (Base V)) (bases : List (ℕ × Slot V)) (t : Seat V)
       : Type 0 where
     pub seat : IsSameSeat s t
@@ -120,6 +127,7 @@ module _ {V : Type 0} where
     pub held : out t ≡ bases
     pub none : list_of t.asked ≡ []
     pub own : acts o t ≡ (moved s.place.id (acts o s) found base).0
+    pub reached : IsReached o t.place.id (acts o t)
 
   -- a step on a word
   abbrev pub Stepped : World V → Seat V → ℕ → Seat V → Type 0

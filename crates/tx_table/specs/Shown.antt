@@ -12,7 +12,7 @@ use Rattle.seq_model.specs.declared.event.Event.{Event}
 use Rattle.seq_model.specs.declared.record.Record.{Record}
 use Rattle.collection_machine.specs.Boosted.{is_actor}
 use Rattle.replay_log.specs.declared.base.Base.{Base}
-use Rattle.replay_log.specs.Contents.{Block, block_of, content, end_of, first_of, home_of, is_plain}
+use Rattle.replay_log.specs.Contents.{Block, HaveStripes, block_of, content, end_of, first_of, home_of, is_plain}
 use Rattle.replay_log.specs.Base.{held_of, shown_of, stripes_of}
 use Rattle.replay_log.specs.Parts.{part}
 use Rattle.replay_log.specs.Collections.{shown_at}
@@ -111,6 +111,17 @@ module _ {V : Type 0} where
   pub record Rule (o : World V) (s : State (Slot V) (View V)) : Type 0 where
     pub events : List (Event V)
     pub shows : Shows o (run o events) s
+
+  -- Some events lead from the opening o, whose collections have stripes, to a world that is to actor a as u is; u is of the same shape.
+  pub record IsReached (o : World V) (a : ℕ) (u : World V) : Type 0 where
+    pub stripes : HaveStripes o.blocks
+    pub shape : (u.words ≡ o.words) × (u.blocks ≡ o.blocks)
+    pub events : List (Event V)
+    pub alike : Alike a (run o events) u
+
+  -- to a world that is to a as the one that it has for itself, by what its seat knows
+  abbrev pub Went : World V → ℕ → Me (Slot V) (View V) → Type 0
+  Went o a m = IsReached o a (lone a o m.0.turns)
 
   -- what a step tells of a seat: it took this turn
   abbrev pub Told : World V → ℕ → List (Event V) → ℕ → Me (Slot V) (View V) → ℕ → Maybe (Base V) → View V → Type 0

@@ -23,7 +23,6 @@ ghost use Rattle.tx_table.specs.Seated.{
   opening_of,
   out,
   view,
-  words_in,
 };
 
 use crate::seat::Seat;
@@ -178,12 +177,5 @@ impl<V: Value> TxTable<V> {
             collection as usize,
             base,
         );
-    }
-
-    /// How many words there are.
-    pub fn words(&self) -> u32
-        ensures { result ≡ words_in self.now }
-    {
-        self.words
     }
 }

@@ -31,6 +31,7 @@ impl<V: Value> TxTable<V> {
             whole,
             words,
             locations,
+            blocks: _,
         } = self;
         let Seat {
             place,

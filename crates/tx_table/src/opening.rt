@@ -1,5 +1,6 @@
 //! Opening a table.
-ghost use Rattle.std.specs.Prelude.{◌≡◌, ◌≢◌, ◌++◌, ◌∷◌, [], IfErr, IfOk, IsOk, Some, length, map, replicate};
+ghost use Rattle.std.specs.Prelude.{◌≡◌, ◌≢◌, ◌++◌, ◌∷◌, [], IfErr, IfOk, IfSome, IsOk, Some, length, map, replicate};
+ghost use Rattle.replay_log.specs.Contents.{HaveStripes};
 ghost use Rattle.seq_model.specs.Refusals.{IsNoSuchOrTooLong};
 ghost use Rattle.world_table.specs.Openings.{IsWithin, blocks_of, world_of};
 ghost use Rattle.tx_table.specs.Shown.{first as first_view};
@@ -9,11 +10,13 @@ use crate::rule::Whole;
 use crate::seat::{Asked, Seat};
 use crate::table::TxTable;
 use crate::view::Opening;
+use actor_words::Blocks;
 use replay_log::Base;
 use seq_model::{Memory, Refusal, Shape, State, Value};
 use std::alloc::Global;
 use std::snapshot::Snapshot;
 use step_core::Cells;
+use world_table::lay;
 
 // The words of the table: the clock, the lock words, the values, the gates.
 fn laid_out(alloc: Global, cells: &Cells, gates: usize) -> Result<Vec<u64>, Memory>
@@ -40,13 +43,29 @@ fn at_home<V: Value>(alloc: Global, bases: Vec<Base<V>>) -> Result<Vec<Option<Ba
     Ok(homes)
 }
 
+// How the locations lie, where there is a number of stripes for each collection, and it is not refused.
+fn blocks_for<V: Value>(alloc: Global, shape: &Shape, state: &State<V>) -> Option<Blocks>
+    ensures words { IfSome result (λ blocks. blocks.words ≡ length state.now.words) }
+    ensures blocks { IfSome result (λ blocks. blocks.blocks ≡ blocks_of shape.now.stripes state.now.held) }
+{
+    let stripes = shape.stripes.as_slice();
+    let held = state.held();
+    if stripes.len() != held.len() {
+        return None;
+    }
+    match lay(alloc, state.words().len(), stripes, held) {
+        Ok(blocks) => Some(blocks),
+        Err(_) => None,
+    }
+}
+
 impl<V: Value> TxTable<V> {
     /// A table that opens with these words and collections, and with this clock, and its first seat, which has all 64 shares. Each
     /// collection is in as many stripes as the shape says.
     ///
     /// `NoSuch` where the shape has not as many numbers of stripes as there are collections. `TooLong` where the clock is above its
     /// limit, there are more than 256 collections or more than 1,048,576 locations, or a collection can't have so many stripes. What
-    /// was moved in is dropped. Only where nothing of these is so, memory is asked for.
+    /// was moved in is dropped. A want of memory is told only where nothing of these is so.
     pub fn open(
         alloc: Global,
         shape: &Shape,
@@ -54,6 +73,7 @@ impl<V: Value> TxTable<V> {
     ) -> Result<(TxTable<V>, Seat<V>), Refusal>
         ensures opens { IfOk result (λ opened. opening_of opened.0 ≡ world_of shape.now.stripes shape.now.clock state) }
         ensures blocks { IfOk result (λ opened. blocks_in opened.0 ≡ blocks_of shape.now.stripes state.held) }
+        ensures stripes { IfOk result (λ opened. HaveStripes (blocks_in opened.0)) }
         ensures contents { IfOk result (λ opened. contents_in opened.0 ≡ state) }
         ensures owns { IfOk result (λ opened. Owns opened.0 opened.1) }
         ensures seat { IfOk result (λ opened. opened.1.place.me ≡ (first_view, [])) }
@@ -67,7 +87,11 @@ impl<V: Value> TxTable<V> {
             state: Snapshot::of(&state),
         };
         let words = state.words().len();
+        let blocks = blocks_for(alloc, shape, &state);
         let laid = world_table::Table::open(alloc, shape, state)?;
+        let Some(blocks) = blocks else {
+            return Err(Refusal::OutOfMemory);
+        };
         let locations = laid.cells.locks.len();
         let row = laid_out(alloc, &laid.cells, laid.gates.len())?;
         let homes = at_home(alloc, laid.bases)?;
@@ -78,6 +102,7 @@ impl<V: Value> TxTable<V> {
             whole,
             words: words as u32,
             locations,
+            blocks,
         };
         let seat = Seat {
             place,

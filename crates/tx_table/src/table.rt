@@ -4,6 +4,7 @@ ghost use Rattle.tx_table.specs.Layout.{width};
 ghost use Rattle.tx_table.specs.Opening.{blocks_at, locations_at, words_at};
 
 use crate::rule::Whole;
+use actor_words::Blocks;
 
 /// A table of words and collections that threads share.
 #[derive(Drop)]
@@ -11,8 +12,10 @@ pub struct TxTable<V> {
     pub(crate) whole: Whole<V>,
     pub(crate) words: u32,
     pub(crate) locations: usize,
+    pub(crate) blocks: Blocks,
     ghost words_are: { words ≡ words_at whole.shared.key },
     ghost locations_are: { locations ≡ locations_at whole.shared.key },
+    ghost laid: { (blocks.words ≡ words_at whole.shared.key) × (blocks.blocks ≡ blocks_at whole.shared.key) },
     ghost wide: { whole.shared.table_id.words ≡ width locations (length (blocks_at whole.shared.key)) },
     ghost slots: { whole.shared.table_id.slots ≡ length (blocks_at whole.shared.key) },
     ghost few: { (locations ≤ 1048576) × (length (blocks_at whole.shared.key) ≤ 256) },

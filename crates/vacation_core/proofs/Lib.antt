@@ -1,5 +1,6 @@
 pub mod HoldingLemmas
 pub mod TablesLemmas
 pub mod SessionLemmas
+pub mod RunLemmas
 pub mod WalkLemmas
 pub mod DraftLemmas

@@ -1,6 +1,7 @@
 pub mod Holding
 pub mod Parts
 pub mod Sessions
+pub mod Runs
 pub mod Laws
 pub mod Walks
 pub mod Left

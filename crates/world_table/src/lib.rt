@@ -5,9 +5,11 @@
 #![tactic(auto)]
 
 mod auditing;
+mod layout;
 mod opening;
 mod table;
 
 pub use auditing::audit_records;
+pub use layout::lay;
 pub use opening::{COLLECTION_LIMIT, LOCATION_LIMIT};
 pub use table::Table;

@@ -29,7 +29,7 @@ returns-clause-turns g c =
 
 pub returns-clause-keeps : goal.returns-clause-keeps
 returns-clause-keeps g c = λ v. (
-    let first = c.log_of-log.ensures.keeps v in
+    let first = c.log_of-log.ensures.keeps (recorded_home c.args.actor.now.stage c.args.k c.requires.due) v in
     let then = c.went_home.ensures.keeps v in
     record { running = λ h. then.running (first.running h); owed = omega (arith, first.owed, then.owed) })
 

@@ -22,3 +22,6 @@ returns-clause-running g c = running_made c.args.blocks.now c.step_word-told.new
 pub returns-clause-calls : goal.returns-clause-calls
 returns-clause-calls g c = c.from_vec-calls.ensures ∙ (ap (λ (v : Vec _ Global). v.items) c.replace.ensures.value
     ∙ c.step_word-told.ensures.made (subst (λ t. Records t) (sym c.requires.stage) tt))
+
+pub returns-clause-leaves : goal.returns-clause-leaves
+returns-clause-leaves g c = c.step_word-told.ensures.leaves

@@ -26,4 +26,4 @@ returns-clause-step g c =
     let e = c.fetch_add-found.ensures in
     takes (world_at c.args.board.now.key) s _ g.asks (c.fetch_add-found.result + 1) c.fetch_add-found.result None (out s) c.requires.1.0
     (e.0, e.1, refl) e.2.0
-    e.2.1 refl
+    e.2.1 refl e.2.4

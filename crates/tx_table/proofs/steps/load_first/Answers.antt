@@ -26,4 +26,4 @@ returns-clause-step g c =
     let e = c.load-found.ensures in
     takes (world_at c.args.board.now.key) s _ g.asks c.load-found.result c.load-found.result None (out s) c.requires.1.0
     (e.0, e.1, refl) e.2.0
-    e.2.1 refl
+    e.2.1 refl e.2.4

@@ -27,4 +27,4 @@ returns g c =
     let e = c.compare_exchange-found.ensures in
     takes (world_at c.args.board.now.key) s _ g.asks (view s).clock c.compare_exchange-found.result None (out s) c.requires.1.0
     (e.0, e.1, refl) e.2.0
-    e.2.1 refl
+    e.2.1 refl e.2.2

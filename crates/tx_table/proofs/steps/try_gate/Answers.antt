@@ -19,7 +19,7 @@ pub returns-then-found-ne0 : goal.returns-then-found-ne0
 returns-then-found-ne0 g c =
     let e = c.compare_exchange-found.ensures in
     lost (world_at c.args.board.now.key) c.args.seat.now _ g.of.0 g.of.1 c.compare_exchange-found.result c.requires.1.0 c.if-found-ne0.true
-    e.2 (e.0, e.1, refl) refl
+    e.2.0 (e.0, e.1, refl) refl e.2.1
 
 pub exchange-base-requires : goal.exchange-base-requires
 exchange-base-requires g c =
@@ -27,7 +27,7 @@ exchange-base-requires g c =
     let r = c.requires.1.1 in (
       e.0 ∙ r.1.0,
       topped (world_at c.args.board.now.key) c.args.seat.now g.of.0 g.of.1 c.args.gate c.compare_exchange-found.result
-          c.compare_exchange-found.new.seat.me r.0 c.if-found-ne0.false e.2,
+          c.compare_exchange-found.new.seat.me r.0 c.if-found-ne0.false e.2.0,
     )
 
 pub returns : goal.returns
@@ -39,5 +39,5 @@ returns g c =
     let t = c.turn.ensures in
     let gate = c.requires.1.1.0 in
     won (world_at c.args.board.now.key) s _ g.of.0 g.of.1 c.compare_exchange-found.result m c.exchange-base.new.seat.me
-    c.exchange-base.result c.requires.1.0 c.if-found-ne0.false e.2 (x.2 ∙ (λ i. (sym gate i, c.exchange-base.result) ∷ rest m.1))
-    (x.3 ∙ (λ i. (m.0, (sym gate i, None) ∷ rest m.1))) t.2 (t.0 ∙ (x.0 ∙ e.0), t.1 ∙ (x.1 ∙ e.1), refl) refl
+    c.exchange-base.result c.requires.1.0 c.if-found-ne0.false e.2.0 (x.2 ∙ (λ i. (sym gate i, c.exchange-base.result) ∷ rest m.1))
+    (x.3 ∙ (λ i. (m.0, (sym gate i, None) ∷ rest m.1))) t.2 (t.0 ∙ (x.0 ∙ e.0), t.1 ∙ (x.1 ∙ e.1), refl) refl e.2.1

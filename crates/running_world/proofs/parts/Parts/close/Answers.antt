@@ -4,6 +4,11 @@ use Rattle.seq_model.specs.Runs.{IsInCommitOrder, insert_record}
 use Rattle.running_world.proofs.PartsLemmas.{closing_ends, closing_record, more_records, starved_then, step_happens, with_turn}
 use Rattle.running_world.proofs.TraceLemmas.{serial_at}
 use Rattle.running_world.proofs.WorldLemmas.{may_take, shape_laid}
+use Rattle.running_world.proofs.OwnTurnLemmas.{calm_at, keeps_step}
+use Rattle.tx_actor.specs.Running.{stage_of}
+use Rattle.actor_words.specs.declared.next.Next.TheVariants as next
+use Rattle.running_world.proofs.TurnLemmas.{stage_due, stage_quiet}
+use Rattle.tx_actor.specs.declared.actor.Stage.TheVariants as stage
 use Rattle.running_world.proofs.parts.Parts.close.Goals as goal
 
 pub close-told-requires-clause-running : goal.close-told-requires-clause-running
@@ -43,7 +48,11 @@ returns-clause-ok g c =
     let got = slice_get_read p.actors.items _ c.args.i r refl c.requires.inside c.index_mut.ensures.value in
     let at = c.requires.stage r got in
     step_happens p (record (with_turn p t.new.table c.args.i t.new.actor) { records = c.insert_record.new.records }) c.args.i r
-    t.new.actor t.result.0 got refl refl (t.ensures.turns p.blocks _) t.ensures.shape (λ _. t.ensures.running) t.ensures.grows
+    t.new.actor t.result.0 got refl refl (t.ensures.turns p.blocks _)
+    (keeps_step c.copies_by_stage.ensures.steps c.copies_by_stage.ensures.begun c.copies_stay.ensures.events c.begins_with_nothing.ensures
+    c.copies_stay.ensures.others c.copies_by_stage.ensures.others
+    p.blocks _ r t.new.actor (stage_quiet r stage.Closing at refl)
+    (λ asked. calm_at (stage_of r.stage) next.Word (stage_due r stage.Closing at refl) (λ k q. let z : ⊥ = cc in z) asked) t.ensures.leaves) t.ensures.shape (λ _. t.ensures.running) t.ensures.grows
     (λ x is. c.in_ok-insert_record.ensures.ok
     ∙ (ap (λ rs. insert_record (c.args.i + 1, t.result.1) rs) c.reserve.ensures.items
     ∙ closing_record _ r t.result.1 p.records.items at t.ensures.number t.ensures.reads t.ensures.calls x is))

@@ -2,6 +2,11 @@ use Rattle.std.proofs.Common.{◌∙◌, [], ◌∷◌, ◌++◌, ap, refl}
 use Rattle.std.proofs.lemmas.Option.{slice_get_read}
 use Rattle.running_world.proofs.PartsLemmas.{leaving_ends, leaving_record, more_aborted, starved_then, step_happens, with_turn}
 use Rattle.running_world.proofs.WorldLemmas.{may_take, shape_laid}
+use Rattle.running_world.proofs.OwnTurnLemmas.{calm_at, keeps_step}
+use Rattle.tx_actor.specs.Running.{stage_of}
+use Rattle.actor_words.specs.declared.next.Next.TheVariants as next
+use Rattle.running_world.proofs.TurnLemmas.{stage_due, stage_quiet}
+use Rattle.tx_actor.specs.declared.actor.Stage.TheVariants as stage
 use Rattle.running_world.proofs.parts.Parts.leave.Goals as goal
 
 pub leave-told-requires-clause-running : goal.leave-told-requires-clause-running
@@ -36,7 +41,11 @@ returns-clause-ok g c =
     let got = slice_get_read p.actors.items _ c.args.i r refl c.requires.inside c.index_mut.ensures.value in
     let at = c.requires.stage r got in
     step_happens p (record (with_turn p t.new.table c.args.i t.new.actor) { aborted = c.push_reserved.new.self }) c.args.i r
-    t.new.actor t.result.0 got refl refl (t.ensures.turns p.blocks _) t.ensures.shape (λ _. t.ensures.running) t.ensures.grows
+    t.new.actor t.result.0 got refl refl (t.ensures.turns p.blocks _)
+    (keeps_step c.copies_by_stage.ensures.steps c.copies_by_stage.ensures.begun c.copies_stay.ensures.events c.begins_with_nothing.ensures
+    c.copies_stay.ensures.others c.copies_by_stage.ensures.others
+    p.blocks _ r t.new.actor (stage_quiet r stage.Leaving at refl)
+    (λ asked. calm_at (stage_of r.stage) next.Word (stage_due r stage.Leaving at refl) (λ k q. let z : ⊥ = cc in z) asked) t.ensures.leaves) t.ensures.shape (λ _. t.ensures.running) t.ensures.grows
     (λ x is. leaving_record _ r p.records.items at x is)
     (λ x is. leaving_ends _ r t.result.1 p.aborted.items _ at t.ensures.actor t.ensures.rv t.ensures.calls t.ensures.cause
     (c.push_reserved.ensures.items ∙ ap (λ es. es ++ t.result.1 ∷ []) c.reserve.ensures.items) x is)

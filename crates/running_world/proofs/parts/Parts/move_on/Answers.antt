@@ -2,6 +2,9 @@ use Rattle.std.proofs.Common.{refl}
 use Rattle.std.proofs.lemmas.Option.{slice_get_read}
 use Rattle.running_world.proofs.PartsLemmas.{none_at_word, passes}
 use Rattle.running_world.proofs.WorldLemmas.{may_take, shape_laid}
+use Rattle.running_world.proofs.OwnTurnLemmas.{calm_at, keeps_step}
+use Rattle.tx_actor.specs.Running.{stage_of}
+use Rattle.actor_words.specs.declared.next.Next.TheVariants as next
 use Rattle.running_world.proofs.parts.Parts.move_on.Goals as goal
 
 pub step_word-requires-clause-running : goal.step_word-requires-clause-running
@@ -34,5 +37,8 @@ returns g c =
     let stays = c.requires.stays r got in
     passes c.args.self.now c.step_word.new.table c.args.i r c.step_word.new.actor c.step_word.result got stays.2
     (none_at_word r.stage (c.requires.due r got) stays.0 stays.1)
-    (c.step_word.ensures.turns c.args.self.now.blocks _) c.step_word.ensures.shape (λ _. c.step_word.ensures.running)
+    (c.step_word.ensures.turns c.args.self.now.blocks _)
+    (keeps_step c.copies_by_stage.ensures.steps c.copies_by_stage.ensures.begun c.copies_stay.ensures.events c.begins_with_nothing.ensures
+    c.copies_stay.ensures.others c.copies_by_stage.ensures.others
+    c.args.self.now.blocks _ r c.step_word.new.actor stays.2 (λ asked. calm_at (stage_of r.stage) next.Word (c.requires.due r got) (λ k q. let z : ⊥ = cc in z) asked) c.step_word.ensures.leaves) c.step_word.ensures.shape (λ _. c.step_word.ensures.running)
     c.step_word.ensures.grows

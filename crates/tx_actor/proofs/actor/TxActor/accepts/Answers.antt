@@ -1,4 +1,4 @@
-use Rattle.std.proofs.Common.{[], ◌∷◌, ◌++◌, sym, ap, ◌∙◌}
+use Rattle.std.proofs.Common.{◌≡◌, ◌≤◌, [], ◌∷◌, ◌++◌, refl, sym, ap, subst, ◌∙◌, arith}
 use Rattle.word_machine.specs.Actor as machine
 use Rattle.tx_sets.specs.Entries.{Entries}
 use Rattle.seq_model.specs.declared.event.Answer.TheVariants as answer
@@ -7,6 +7,11 @@ use Rattle.step_core.specs.Shown.{actor_of}
 use Rattle.replay_log.specs.Worlds.{Open, call_of}
 use Rattle.tx_actor.specs.Running.{answered_of, seat_of}
 use Rattle.actor_copies.specs.Writes.{written_as}
+use Rattle.replay_log.specs.Contents.{end_of}
+use Rattle.step_core.specs.Sound.{owed}
+use Rattle.step_core.specs.declared.actor.Place.{Place}
+use Rattle.tx_actor.proofs.KeepingLemmas.{keeps_open}
+use Rattle.tx_actor.proofs.RoomLemmas.{fits_written}
 use Rattle.tx_actor.proofs.AnswerLemmas.{accepted_as, pieces_stay}
 use Rattle.tx_actor.proofs.actor.TxActor.accepts.Goals as goal
 
@@ -23,3 +28,17 @@ returns-clause-does g c a w s may =
           (λ i. record (seat_of old) { stage = Open; calls = calls i; copied = λ k q. pieces k q i }),
       (λ i. Answered a (answer.Replied (c.requires.prepared.told i))),
     )
+
+pub returns-clause-keeps : goal.returns-clause-keeps
+returns-clause-keeps g c v below =
+    let old = c.args.self.now in
+    let ds = c.args.call.writes.items in
+    let end = end_of v.words v.blocks in
+    let made : actor_of c.write_all.new.words ≡ written_as (actor_of old.words) ds =
+    c.write_all.ensures.actor ∙ ap (λ (es : Entries). written_as (actor_of old.words) es) c.deref.ensures.value in
+    keeps_open v old _ (fits_written end old.words c.write_all.new.words ds c.requires.prepared.writes below made c.write_all.ensures.place)
+    (subst (λ (p : Place). owed p ≤ owed old.words.place) (sym c.write_all.ensures.place) (omega arith)) refl
+
+pub returns-clause-owed : goal.returns-clause-owed
+returns-clause-owed g c =
+    subst (λ (p : Place). owed p ≤ owed c.args.self.now.words.place) (sym c.write_all.ensures.place) (omega arith)

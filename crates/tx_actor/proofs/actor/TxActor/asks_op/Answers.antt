@@ -1,4 +1,4 @@
-use Rattle.std.proofs.Common.{sym, subst}
+use Rattle.std.proofs.Common.{sym, subst, ap}
 use Rattle.seq_model.specs.declared.call.Op.{Op}
 use Rattle.seq_model.specs.declared.call.Op.TheVariants.{Read, Write}
 use Rattle.replay_log.specs.Worlds.{ask_op}
@@ -6,6 +6,10 @@ use Rattle.tx_actor.specs.Calls.{AsksOwn}
 use Rattle.tx_actor.specs.Running.{seat_of}
 use Rattle.tx_actor.proofs.AskedLemmas.{alike_stands, call_as, on_err, own_still}
 use Rattle.tx_actor.proofs.OwnAsksLemmas.{read_same, write_same}
+use Rattle.actor_words.specs.Dispatch.{is_loading}
+use Rattle.tx_actor.specs.Running.{stage_of}
+use Rattle.tx_actor.specs.declared.actor.Stage.{Stage}
+use Rattle.tx_actor.proofs.HavingLemmas.{still_same}
 use Rattle.tx_actor.proofs.actor.TxActor.asks_op.Goals as goal
 
 pub returns-in_err-asks_to_call-in_default-clause-err : goal.returns-in_err-asks_to_call-in_default-clause-err
@@ -42,3 +46,48 @@ returns-in_ok-asks_to_call-in_default-clause-ok g c =
     call_as c.args.blocks.now c.args.self.now c.asks_to_call.new.self c.in_ok-asks_to_call-in_default.field-0 c.args.call.target
     c.args.call.op
     c.in_default.not-Read c.in_default.not-Write c.in_ok-asks_to_call-in_default.ensures.ok
+
+-- the bounds and the room, and what was read
+pub returns-in_ok-asks_to_read-in-Read-clause-keeps : goal.returns-in_ok-asks_to_read-in-Read-clause-keeps
+returns-in_ok-asks_to_read-in-Read-clause-keeps g c noreads =
+    c.asks_to_read.ensures.keeps noreads (ap (λ (s : Stage g.row.V.Denot). is_loading (stage_of s)) c.requires.stage)
+
+pub returns-in_ok-asks_to_read-in-Read-clause-still : goal.returns-in_ok-asks_to_read-in-Read-clause-still
+returns-in_ok-asks_to_read-in-Read-clause-still g c =
+    still_same c.args.self.now.copies.items c.asks_to_read.new.self.copies.items (λ i. (c.asks_to_read.ensures.copies i).items)
+
+pub returns-in_err-asks_to_read-in-Read-clause-keeps : goal.returns-in_err-asks_to_read-in-Read-clause-keeps
+returns-in_err-asks_to_read-in-Read-clause-keeps g c noreads =
+    c.asks_to_read.ensures.keeps noreads (ap (λ (s : Stage g.row.V.Denot). is_loading (stage_of s)) c.requires.stage)
+
+pub returns-in_err-asks_to_read-in-Read-clause-still : goal.returns-in_err-asks_to_read-in-Read-clause-still
+returns-in_err-asks_to_read-in-Read-clause-still g c =
+    still_same c.args.self.now.copies.items c.asks_to_read.new.self.copies.items (λ i. (c.asks_to_read.ensures.copies i).items)
+
+pub returns-in_ok-asks_to_write-in-Write-clause-keeps : goal.returns-in_ok-asks_to_write-in-Write-clause-keeps
+returns-in_ok-asks_to_write-in-Write-clause-keeps g c noreads =
+    c.asks_to_write.ensures.keeps (ap (λ (s : Stage g.row.V.Denot). is_loading (stage_of s)) c.requires.stage)
+
+pub returns-in_ok-asks_to_write-in-Write-clause-still : goal.returns-in_ok-asks_to_write-in-Write-clause-still
+returns-in_ok-asks_to_write-in-Write-clause-still g c =
+    still_same c.args.self.now.copies.items c.asks_to_write.new.self.copies.items (λ i. (c.asks_to_write.ensures.copies i).items)
+
+pub returns-in_err-asks_to_write-in-Write-clause-keeps : goal.returns-in_err-asks_to_write-in-Write-clause-keeps
+returns-in_err-asks_to_write-in-Write-clause-keeps g c noreads =
+    c.asks_to_write.ensures.keeps (ap (λ (s : Stage g.row.V.Denot). is_loading (stage_of s)) c.requires.stage)
+
+pub returns-in_err-asks_to_write-in-Write-clause-still : goal.returns-in_err-asks_to_write-in-Write-clause-still
+returns-in_err-asks_to_write-in-Write-clause-still g c =
+    still_same c.args.self.now.copies.items c.asks_to_write.new.self.copies.items (λ i. (c.asks_to_write.ensures.copies i).items)
+
+pub returns-in_ok-asks_to_call-in_default-clause-keeps : goal.returns-in_ok-asks_to_call-in_default-clause-keeps
+returns-in_ok-asks_to_call-in_default-clause-keeps g c noreads = c.asks_to_call.ensures.keeps noreads
+
+pub returns-in_ok-asks_to_call-in_default-clause-still : goal.returns-in_ok-asks_to_call-in_default-clause-still
+returns-in_ok-asks_to_call-in_default-clause-still g c = c.asks_to_call.ensures.still
+
+pub returns-in_err-asks_to_call-in_default-clause-keeps : goal.returns-in_err-asks_to_call-in_default-clause-keeps
+returns-in_err-asks_to_call-in_default-clause-keeps g c noreads = c.asks_to_call.ensures.keeps noreads
+
+pub returns-in_err-asks_to_call-in_default-clause-still : goal.returns-in_err-asks_to_call-in_default-clause-still
+returns-in_err-asks_to_call-in_default-clause-still g c = c.asks_to_call.ensures.still

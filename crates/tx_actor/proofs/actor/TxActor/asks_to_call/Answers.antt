@@ -1,4 +1,4 @@
-use Rattle.std.proofs.Common.{◌≡◌, true, false, length, ltb, sym, ◌∙◌, arith}
+use Rattle.std.proofs.Common.{◌≡◌, true, false, length, ltb, refl, sym, ◌∙◌, arith}
 use Rattle.seq_model.specs.declared.limits.TheConstants.{CALL_LIMIT}
 use Rattle.seq_model.specs.declared.refusal.Refusal.TheVariants.{NoSuch, TooLong}
 use Rattle.replay_log.specs.Worlds.{calls_on}
@@ -7,6 +7,7 @@ use Rattle.actor_copies.specs.Keeps.{call_on}
 use Rattle.tx_actor.specs.Running.{seat_of}
 use Rattle.actor_words.proofs.BlocksLemmas.{is_below, is_not_below}
 use Rattle.tx_actor.proofs.CallsLemmas.{asked_as, asks_allowed, no_such, refused_as, too_long}
+use Rattle.tx_actor.proofs.KeepingLemmas.{keeps_same}
 use Rattle.tx_actor.proofs.actor.TxActor.asks_to_call.Goals as goal
 
 pub returns-then-not-is_allowed-clause-ok : goal.returns-then-not-is_allowed-clause-ok
@@ -41,3 +42,15 @@ returns-clause-ok g c =
     (λ a w. ask_call w a (seat_of r) k op)
     (λ a w laid s. asks_allowed v w a r k op laid s (sym c.is_allowed.ensures.allowed ∙ c.if-not-is_allowed.false) few)
     c.in_ok-told.ensures.ok
+
+pub returns-then-not-is_allowed-clause-keeps : goal.returns-then-not-is_allowed-clause-keeps
+returns-then-not-is_allowed-clause-keeps g c noreads = keeps_same c.args.blocks.now c.args.self.now c.args.self.now refl
+
+pub returns-then-not-is_allowed-clause-still : goal.returns-then-not-is_allowed-clause-still
+returns-then-not-is_allowed-clause-still g c w a k is = is
+
+pub returns-then-len-ge-CALL_LIMIT-clause-keeps : goal.returns-then-len-ge-CALL_LIMIT-clause-keeps
+returns-then-len-ge-CALL_LIMIT-clause-keeps g c noreads = keeps_same c.args.blocks.now c.args.self.now c.args.self.now refl
+
+pub returns-then-len-ge-CALL_LIMIT-clause-still : goal.returns-then-len-ge-CALL_LIMIT-clause-still
+returns-then-len-ge-CALL_LIMIT-clause-still g c w a k is = is

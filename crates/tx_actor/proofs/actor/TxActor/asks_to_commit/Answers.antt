@@ -25,18 +25,18 @@ returns-clause-ok g c a w laid s =
 
 -- the bounds and the room
 pub returns-then-len-eq0-clause-keeps : goal.returns-then-len-eq0-clause-keeps
-returns-then-len-eq0-clause-keeps g c =
+returns-then-len-eq0-clause-keeps g c quiet =
     let r = c.args.self.now in
     let v = c.args.blocks.now in
     let u : TxActor g.row.V.Denot = record r { words = c.close_words.new.words; stage = stage.Closing } in
-    keeps_asked v r u (subst (λ (n : ℕ). KeepsAt n r.words u.words) c.end.ensures c.close_words.ensures.keeps) (λ h. tt) (λ h. tt)
+    keeps_asked v r u (subst (λ (n : ℕ). KeepsAt n r.words u.words) c.end.ensures c.close_words.ensures.keeps) (λ h. tt) (λ h. tt) refl
 
 pub returns-clause-keeps : goal.returns-clause-keeps
-returns-clause-keeps g c =
+returns-clause-keeps g c quiet =
     let r = c.args.self.now in
     let v = c.args.blocks.now in
     let homes = c.in_ok-homes.homes in
     let u : TxActor g.row.V.Denot = record r { words = c.lock_words.new.words; stage = stage.Locking homes } in
     let named : All (λ (k : ℕ). k < length v.blocks) homes.items =
     subst (All (λ (k : ℕ). k < length v.blocks)) (sym c.in_ok-homes.ensures) (homes_below v r.words.writes.entries) in
-    keeps_asked v r u (subst (λ (n : ℕ). KeepsAt n r.words u.words) c.end-2.ensures c.lock_words.ensures.keeps) (λ h. tt) (λ h. named)
+    keeps_asked v r u (subst (λ (n : ℕ). KeepsAt n r.words u.words) c.end-2.ensures c.lock_words.ensures.keeps) (λ h. tt) (λ h. named) refl

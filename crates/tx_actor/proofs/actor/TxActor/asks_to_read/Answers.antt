@@ -48,7 +48,7 @@ returns-in-None-clause-ok g c =
 
 -- the bounds and the room
 pub returns-in-Some-clause-keeps : goal.returns-in-Some-clause-keeps
-returns-in-Some-clause-keeps g c none =
+returns-in-Some-clause-keeps g c none quiet =
     let r = c.args.self.now in
     let v = c.args.blocks.now in
     let q : TxActor g.row.V.Denot = record r { words = c.read_word.new.words; calls = c.reserve.new.self } in
@@ -57,7 +57,7 @@ returns-in-Some-clause-keeps g c none =
     keeps_through v r q c.read.new.self (c.read_word.ensures.keeps (end_of v.words v.blocks) below none) (c.read.ensures.keeps v)
 
 pub returns-in-None-clause-keeps : goal.returns-in-None-clause-keeps
-returns-in-None-clause-keeps g c none =
+returns-in-None-clause-keeps g c none quiet =
     let r = c.args.self.now in
     let v = c.args.blocks.now in
     let u : TxActor g.row.V.Denot =
@@ -66,10 +66,10 @@ returns-in-None-clause-keeps g c none =
     let below : c.args.word < end_of v.words v.blocks = omega (arith, behind, c.words.ensures, c.if-word-words.false) in
     let free = c.in_ok-reserve.ensures.ok in
     let room : vec_len c.reserve.new.self < vec_capacity c.reserve.new.self = omega (arith, free) in
-    keeps_asked v r u (c.read_word.ensures.keeps (end_of v.words v.blocks) below none) (λ h. room) (λ h. tt)
+    keeps_asked v r u (c.read_word.ensures.keeps (end_of v.words v.blocks) below none) (λ h. room) (λ h. tt) refl
 
 pub returns-in_err-value-clause-keeps : goal.returns-in_err-value-clause-keeps
-returns-in_err-value-clause-keeps g c none =
+returns-in_err-value-clause-keeps g c none quiet =
     let r = c.args.self.now in
     let v = c.args.blocks.now in
     let u : TxActor g.row.V.Denot = record r { words = c.read_word.new.words; calls = c.reserve.new.self } in
@@ -77,4 +77,5 @@ returns-in_err-value-clause-keeps g c none =
     let below : c.args.word < end_of v.words v.blocks = omega (arith, behind, c.words.ensures, c.if-word-words.false) in
     let free = c.in_ok-reserve.ensures.ok in
     let room : vec_len c.reserve.new.self < vec_capacity c.reserve.new.self = omega (arith, free) in
-    keeps_asked v r u (c.read_word.ensures.keeps (end_of v.words v.blocks) below none) (room_as r u r.stage (λ h. room)) (λ h. h)
+    keeps_asked v r u (c.read_word.ensures.keeps (end_of v.words v.blocks) below none) (room_as r u r.stage quiet refl (λ h. room)) (λ h. h)
+    quiet

@@ -11,9 +11,9 @@ returns-clause-ok g c a w held s =
     stores_as c.args.self.now u refl (λ st. refl) c.in_ok-store_words.ensures.actor a w held s
 
 pub returns-clause-keeps : goal.returns-clause-keeps
-returns-clause-keeps g c =
+returns-clause-keeps g c quiet =
     let r = c.args.self.now in
     let v = c.args.blocks.now in
     let u : TxActor g.row.V.Denot = record r { words = c.store_words.new.words } in
     keeps_asked v r u (subst (λ (n : ℕ). KeepsAt n r.words u.words) c.end.ensures c.store_words.ensures.keeps)
-    (room_as r u r.stage (λ h. h)) (λ h. h)
+    (room_as r u r.stage quiet refl (λ h. h)) (λ h. h) quiet

@@ -34,16 +34,16 @@ returns-clause-ok g c =
     (λ a w is. ((put-same w.seats a _ ∙ sym seat, is ∙ sym c.in_ok-write_word.ensures.actor, tt), refl))
 
 pub returns-clause-keeps : goal.returns-clause-keeps
-returns-clause-keeps g c =
+returns-clause-keeps g c quiet =
     let r = c.args.self.now in
     let v = c.args.blocks.now in
     let u : TxActor g.row.V.Denot = record r { words = c.write_word.new.words; stage = stage.Open; calls = c.push_reserved.new.self } in
     let behind = end_behind v.words v.blocks in
     let below : c.args.word < end_of v.words v.blocks = omega (arith, behind, c.words.ensures, c.if-word-words.false) in
-    keeps_asked v r u (c.write_word.ensures.keeps (end_of v.words v.blocks) below) (λ h. tt) (λ h. tt)
+    keeps_asked v r u (c.write_word.ensures.keeps (end_of v.words v.blocks) below) (λ h. tt) (λ h. tt) refl
 
 pub returns-in_err-write_word-clause-keeps : goal.returns-in_err-write_word-clause-keeps
-returns-in_err-write_word-clause-keeps g c =
+returns-in_err-write_word-clause-keeps g c quiet =
     let r = c.args.self.now in
     let v = c.args.blocks.now in
     let u : TxActor g.row.V.Denot = record r { words = c.write_word.new.words; calls = c.reserve.new.self } in
@@ -51,4 +51,4 @@ returns-in_err-write_word-clause-keeps g c =
     let below : c.args.word < end_of v.words v.blocks = omega (arith, behind, c.words.ensures, c.if-word-words.false) in
     let free = c.in_ok-reserve.ensures.ok in
     let room : vec_len c.reserve.new.self < vec_capacity c.reserve.new.self = omega (arith, free) in
-    keeps_asked v r u (c.write_word.ensures.keeps (end_of v.words v.blocks) below) (room_as r u r.stage (λ h. room)) (λ h. h)
+    keeps_asked v r u (c.write_word.ensures.keeps (end_of v.words v.blocks) below) (room_as r u r.stage quiet refl (λ h. room)) (λ h. h) quiet

@@ -2,10 +2,11 @@ use Rattle.std.proofs.Common.{refl, sym, ap, ◌∙◌}
 use Rattle.word_machine.proofs.Sets.{put-same}
 use Rattle.word_machine.specs.Actor.{Actor}
 use Rattle.word_machine.specs.Requests.{ask, AskAbort}
-use Rattle.tx_actor.specs.Running.{is_recorded}
+use Rattle.tx_actor.specs.Running.{is_recorded, at}
 use Rattle.tx_actor.proofs.RunsLemmas.{seat_as}
 use Rattle.tx_actor.proofs.KeepingLemmas.{keeps_cleared}
 use Rattle.tx_actor.specs.declared.actor.Stage.TheVariants as stage
+use Rattle.tx_actor.proofs.HavingLemmas.{copies_to}
 use Rattle.tx_actor.proofs.actor.TxActor.begin_starves.Goals as goal
 
 pub returns-clause-does : goal.returns-clause-does
@@ -23,3 +24,7 @@ pub returns-clause-keeps : goal.returns-clause-keeps
 returns-clause-keeps g c v =
     keeps_cleared v c.args.self.now c.clear.new.self c.abort.new.words stage.Idle stage.Idle c.abort.ensures.keeps c.clear.ensures.rest
     c.clear.ensures.stage (λ n h. tt) (λ z. tt)
+
+pub returns-clause-leaves : goal.returns-clause-leaves
+returns-clause-leaves g c =
+    copies_to (at c.args.self.now stage.Idle) c.clear.new.self stage.Idle c.clear.ensures.stage tt

@@ -27,3 +27,7 @@ pub returns-clause-keeps : goal.returns-clause-keeps
 returns-clause-keeps g c v =
     keeps_to v c.args.self.now _ stage.Idle _ c.cancel.ensures.keeps.fits c.cancel.ensures.keeps.owed refl (λ n h.
     c.leaving_or_cancelling.ensures.names n) c.leaving_or_cancelling.ensures.room
+
+pub returns-clause-leaves : goal.returns-clause-leaves
+returns-clause-leaves g c =
+    c.leaving_or_cancelling.ensures.copies stage.Idle c.args.self.now.copies.items c.args.self.now.copies.items

@@ -3,10 +3,11 @@ use Rattle.seq_model.specs.declared.call.Call.{Call}
 use Rattle.seq_model.specs.declared.call.Reply.{Reply}
 use Rattle.std.proofs.Common.{ap, refl, sym, ◌∙◌}
 use Rattle.word_machine.proofs.Sets.{put-same}
-use Rattle.tx_actor.specs.Running.{is_recorded}
+use Rattle.tx_actor.specs.Running.{is_recorded, at}
 use Rattle.tx_actor.proofs.RunsLemmas.{seat_as}
 use Rattle.tx_actor.proofs.KeepingLemmas.{keeps_plain}
 use Rattle.tx_actor.specs.declared.actor.Stage.TheVariants as stage
+use Rattle.tx_actor.proofs.HavingLemmas.{copies_to}
 use Rattle.tx_actor.proofs.actor.TxActor.closed.Goals as goal
 
 pub returns-clause-does : goal.returns-clause-does
@@ -27,3 +28,7 @@ returns-clause-keeps g c v =
 pub returns-clause-made : goal.returns-clause-made
 returns-clause-made g c =
     ap (λ (v : Vec (Call g.row.V.Denot × Reply g.row.V.Denot)). v.items) (c.clear.ensures.made ∙ c.swap.ensures.x_after)
+
+pub returns-clause-leaves : goal.returns-clause-leaves
+returns-clause-leaves g c =
+    copies_to (at c.args.self.now stage.Idle) c.clear.new.self stage.Idle c.clear.ensures.stage tt

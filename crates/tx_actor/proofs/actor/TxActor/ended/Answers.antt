@@ -5,10 +5,11 @@ use Rattle.std.proofs.Common.{Option, sym, ap, ◌∙◌}
 use Rattle.word_machine.proofs.Sets.{put-same}
 use Rattle.seq_model.specs.declared.refusal.Refusal.{Refusal}
 use Rattle.replay_log.specs.Worlds.{why}
-use Rattle.tx_actor.specs.Running.{is_recorded}
+use Rattle.tx_actor.specs.Running.{is_recorded, at}
 use Rattle.tx_actor.proofs.RunsLemmas.{seat_as}
 use Rattle.tx_actor.proofs.KeepingLemmas.{keeps_plain}
 use Rattle.tx_actor.specs.declared.actor.Stage.TheVariants as stage
+use Rattle.tx_actor.proofs.HavingLemmas.{copies_to}
 use Rattle.tx_actor.proofs.actor.TxActor.ended.Goals as goal
 
 pub returns-in-None-clause-does : goal.returns-in-None-clause-does
@@ -48,3 +49,11 @@ returns-in-None-clause-made g c =
 pub returns-in-Some-clause-made : goal.returns-in-Some-clause-made
 returns-in-Some-clause-made g c =
     ap (λ (v : Vec (Call g.row.V.Denot × Reply g.row.V.Denot)). v.items) (c.clear.ensures.made ∙ c.swap.ensures.x_after)
+
+pub returns-in-None-clause-leaves : goal.returns-in-None-clause-leaves
+returns-in-None-clause-leaves g c =
+    copies_to (at c.args.self.now stage.Idle) c.clear.new.self stage.Idle c.clear.ensures.stage tt
+
+pub returns-in-Some-clause-leaves : goal.returns-in-Some-clause-leaves
+returns-in-Some-clause-leaves g c =
+    copies_to (at c.args.self.now stage.Idle) c.clear.new.self stage.Idle c.clear.ensures.stage tt

@@ -1,6 +1,8 @@
 use Rattle.tx_actor.proofs.KeepingLemmas.{keeps_from}
 use Rattle.tx_actor.specs.declared.actor.Stage.TheVariants as stage
 use Rattle.std.proofs.Common.{Some, refl}
+use Rattle.tx_actor.proofs.HavingLemmas.{copies_idle}
+use Rattle.tx_actor.specs.Running.{at}
 use Rattle.tx_actor.proofs.actor.TxActor.gives_up_with.Goals as goal
 
 pub returns-clause-does : goal.returns-clause-does
@@ -10,3 +12,7 @@ pub returns-clause-keeps : goal.returns-clause-keeps
 returns-clause-keeps g c v =
     keeps_from v c.args.self.now (record c.args.self.now { cause = Some c.args.cause }) c.puts_back.new.self (stage.Returning
     c.args.homes) (stage.Returning c.args.homes) refl (c.puts_back.ensures.keeps v) (λ n h. h) (λ z. tt)
+
+pub returns-clause-leaves : goal.returns-clause-leaves
+returns-clause-leaves g c =
+    copies_idle (at c.args.self.now stage.Idle) (record c.args.self.now { cause = Some c.args.cause }) c.puts_back.new.self c.puts_back.ensures.leaves

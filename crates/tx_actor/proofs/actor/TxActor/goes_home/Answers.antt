@@ -24,3 +24,11 @@ returns-then-has_none-clause-keeps g c v =
 pub returns-clause-keeps : goal.returns-clause-keeps
 returns-clause-keeps g c v =
     keeps_plain v c.args.self.now _ (stage.Homing c.args.homes) (stage.Homing c.args.homes) refl refl (λ n h. h) (λ z. tt)
+
+pub returns-then-has_none-clause-leaves : goal.returns-then-has_none-clause-leaves
+returns-then-has_none-clause-leaves g c =
+    tt
+
+pub returns-clause-leaves : goal.returns-clause-leaves
+returns-clause-leaves g c =
+    (λ k h. h, refl)

@@ -1,10 +1,13 @@
-use Rattle.std.proofs.Common.{refl, subst, sym, ◌∙◌}
+use Rattle.std.proofs.Common.{◌≤◌, [], refl, subst, sym, ◌∙◌, arith}
 use Rattle.step_core.specs.Shown.{actor_of}
 use Rattle.replay_log.specs.Worlds.{Loading, Seat, Stage, at_stage}
 use Rattle.tx_actor.specs.Answers.{CopiesAfter}
 use Rattle.actor_words.specs.Judged.{left_after}
 use Rattle.tx_actor.specs.Running.{answered_of, outcome_in, seat_of, with_outcome}
 use Rattle.tx_actor.proofs.AnswerLemmas.{by_judged, by_outcome, reads_by}
+use Rattle.tx_actor.proofs.RoomLemmas.{goes_on_next}
+use Rattle.step_core.specs.Sound.{owed}
+use Rattle.step_core.specs.declared.actor.Place.{Place}
 use Rattle.tx_actor.proofs.actor.TxActor.goes_on.Goals as goal
 
 pub returns-in-All-clause-does : goal.returns-in-All-clause-does
@@ -49,3 +52,24 @@ pub returns-in-Stale-clause-copies : goal.returns-in-Stale-clause-copies
 returns-in-Stale-clause-copies g c =
     subst (λ j. CopiesAfter j c.args.call c.args.self.now.copies.items c.gives_up.new.self.copies.items)
     (sym c.in-Stale.is ∙ c.judge.ensures.judged) (λ i. (c.gives_up.ensures.copies i).items)
+
+-- the bounds and the room
+pub returns-in-All-clause-keeps : goal.returns-in-All-clause-keeps
+returns-in-All-clause-keeps g c v can = c.accepts.ensures.keeps v can.call.writes
+
+pub returns-in-Next-clause-keeps : goal.returns-in-Next-clause-keeps
+returns-in-Next-clause-keeps g c v can =
+    goes_on_next v c.args.self.now c.args.call c.args.left.items c.in-Next.location c.judge.new.left
+    (sym c.judge.ensures.judged ∙ c.in-Next.is) c.judge.ensures.left c.requires.prepared can
+
+pub returns-in-Stale-clause-keeps : goal.returns-in-Stale-clause-keeps
+returns-in-Stale-clause-keeps g c v can = c.gives_up.ensures.keeps v
+
+pub returns-in-All-clause-owed : goal.returns-in-All-clause-owed
+returns-in-All-clause-owed g c = c.accepts.ensures.owed
+
+pub returns-in-Next-clause-owed : goal.returns-in-Next-clause-owed
+returns-in-Next-clause-owed g c = subst (λ (p : Place). 1 ≤ owed p) (sym c.requires.prepared.writes.0) (omega arith)
+
+pub returns-in-Stale-clause-owed : goal.returns-in-Stale-clause-owed
+returns-in-Stale-clause-owed g c = (c.gives_up.ensures.keeps (record { words = 0; blocks = [] })).owed

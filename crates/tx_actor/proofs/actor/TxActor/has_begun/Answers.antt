@@ -4,6 +4,7 @@ use Rattle.actor_words.specs.Dispatch.{shown_notice}
 use Rattle.tx_actor.specs.declared.actor.Stage.TheVariants as stage
 use Rattle.tx_actor.proofs.DispatchLemmas.{heard_as, word_stays, begun_else}
 use Rattle.tx_actor.proofs.KeepingLemmas.{keeps_from, keeps_same}
+use Rattle.tx_actor.proofs.HavingLemmas.{copies_idle, copies_same}
 use Rattle.tx_actor.proofs.actor.TxActor.has_begun.Goals as goal
 
 pub returns-in-Begun-clause-does : goal.returns-in-Begun-clause-does
@@ -34,3 +35,15 @@ returns-in-Exhausted-clause-keeps g c v =
 
 pub returns-in_default-clause-keeps : goal.returns-in_default-clause-keeps
 returns-in_default-clause-keeps g c v = keeps_same v (at c.args.self.now stage.Beginning) c.stays.new.self c.stays.ensures.stage
+
+pub returns-in-Begun-clause-leaves : goal.returns-in-Begun-clause-leaves
+returns-in-Begun-clause-leaves g c =
+    c.begun.ensures.leaves
+
+pub returns-in-Exhausted-clause-leaves : goal.returns-in-Exhausted-clause-leaves
+returns-in-Exhausted-clause-leaves g c =
+    copies_idle (at c.args.self.now stage.Beginning) c.args.self.now c.exhausted.new.self c.exhausted.ensures.leaves
+
+pub returns-in_default-clause-leaves : goal.returns-in_default-clause-leaves
+returns-in_default-clause-leaves g c =
+    copies_same (at c.args.self.now stage.Beginning) c.stays.new.self refl c.stays.ensures.stage

@@ -4,6 +4,7 @@ use Rattle.actor_words.specs.Dispatch.{shown_notice}
 use Rattle.tx_actor.specs.declared.actor.Stage.TheVariants as stage
 use Rattle.tx_actor.proofs.DispatchLemmas.{heard_as, word_stays, cancelled_else}
 use Rattle.tx_actor.proofs.KeepingLemmas.{keeps_from, keeps_same}
+use Rattle.tx_actor.proofs.HavingLemmas.{copies_idle, copies_same}
 use Rattle.tx_actor.proofs.actor.TxActor.has_cancelled.Goals as goal
 
 pub returns-in-Cancelled-clause-does : goal.returns-in-Cancelled-clause-does
@@ -24,3 +25,11 @@ returns-in-Cancelled-clause-keeps g c v =
 
 pub returns-in_default-clause-keeps : goal.returns-in_default-clause-keeps
 returns-in_default-clause-keeps g c v = keeps_same v (at c.args.self.now stage.Cancelling) c.stays.new.self c.stays.ensures.stage
+
+pub returns-in-Cancelled-clause-leaves : goal.returns-in-Cancelled-clause-leaves
+returns-in-Cancelled-clause-leaves g c =
+    copies_idle (at c.args.self.now stage.Cancelling) c.args.self.now c.cancelled.new.self c.cancelled.ensures.leaves
+
+pub returns-in_default-clause-leaves : goal.returns-in_default-clause-leaves
+returns-in_default-clause-leaves g c =
+    copies_same (at c.args.self.now stage.Cancelling) c.stays.new.self refl c.stays.ensures.stage

@@ -8,6 +8,7 @@ use Rattle.tx_actor.specs.Running.{at, seat_of}
 use Rattle.tx_actor.specs.declared.actor.Stage.TheVariants as stage
 use Rattle.tx_actor.proofs.DispatchLemmas.{by_result, heard_as, stored_else}
 use Rattle.tx_actor.proofs.KeepingLemmas.{keeps_from}
+use Rattle.tx_actor.proofs.HavingLemmas.{from_homing, from_storing}
 use Rattle.tx_actor.proofs.actor.TxActor.has_first_stored.Goals as goal
 
 pub returns-in-Stored-clause-does : goal.returns-in-Stored-clause-does
@@ -43,3 +44,13 @@ returns-in_default-clause-keeps g c v =
     keeps_from v c.args.self.now (record c.args.self.now { made = c.swap.new.x; calls = c.swap.new.y }) c.stored_one.new.self
     (stage.Ready c.args.homes) (stage.Storing c.args.homes) refl
     (c.stored_one.ensures.keeps v) (λ n h. h) (λ z. tt)
+
+pub returns-in-Stored-clause-leaves : goal.returns-in-Stored-clause-leaves
+returns-in-Stored-clause-leaves g c =
+    from_homing c.goes_home.new.self.stage c.args.homes (stage.Ready c.args.homes) c.args.self.now.copies.items c.goes_home.new.self.copies.items (λ ks h. tt)
+    c.goes_home.ensures.leaves
+
+pub returns-in_default-clause-leaves : goal.returns-in_default-clause-leaves
+returns-in_default-clause-leaves g c =
+    from_storing c.stored_one.new.self.stage c.args.homes (stage.Ready c.args.homes) c.args.self.now.copies.items c.stored_one.new.self.copies.items (λ ks h. tt)
+    c.stored_one.ensures.leaves

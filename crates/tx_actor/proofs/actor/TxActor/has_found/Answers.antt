@@ -1,9 +1,18 @@
 use Rattle.std.proofs.Common.{sym, ◌∙◌}
 use Rattle.word_machine.specs.Notices as notice
 use Rattle.tx_actor.proofs.LoadLemmas.{none_as}
+use Rattle.tx_actor.proofs.HeardLemmas.{heard_none}
 use Rattle.tx_actor.proofs.actor.TxActor.has_found.Goals as goal
 
-pub returns-in-None : goal.returns-in-None
-returns-in-None g c =
+pub returns-in-None-clause-does : goal.returns-in-None-clause-does
+returns-in-None-clause-does g c =
     none_as c.args.self.now c.stays.new.self c.stays.result c.args.call c.args.left (notice.Number c.args.edition)
     c.stays.ensures.stage c.stays.ensures.told (sym c.first_left.ensures ∙ c.in-None.is)
+
+pub returns-in-None-clause-keeps : goal.returns-in-None-clause-keeps
+returns-in-None-clause-keeps g c v =
+    heard_none v c.args.self.now c.stays.new.self c.args.call c.args.left c.args.edition c.stays.ensures.stage
+    (sym c.first_left.ensures ∙ c.in-None.is)
+
+pub returns-in-Some-clause-keeps : goal.returns-in-Some-clause-keeps
+returns-in-Some-clause-keeps g c v = c.has_first.ensures.keeps v

@@ -4,6 +4,7 @@ use Rattle.actor_words.specs.Dispatch.{shown_notice}
 use Rattle.tx_actor.specs.declared.actor.Stage.TheVariants as stage
 use Rattle.tx_actor.proofs.DispatchLemmas.{heard_as, word_stays, locked_else}
 use Rattle.tx_actor.proofs.KeepingLemmas.{keeps_from, keeps_same}
+use Rattle.tx_actor.proofs.HavingLemmas.{copies_idle, copies_same}
 use Rattle.tx_actor.proofs.actor.TxActor.has_locked.Goals as goal
 
 pub returns-in-Locked-clause-does : goal.returns-in-Locked-clause-does
@@ -44,3 +45,19 @@ returns-in-Invalid-clause-keeps g c v =
 pub returns-in_default-clause-keeps : goal.returns-in_default-clause-keeps
 returns-in_default-clause-keeps g c v =
     keeps_same v (at c.args.self.now (stage.Locking c.args.homes)) c.stays.new.self c.stays.ensures.stage
+
+pub returns-in-Locked-clause-leaves : goal.returns-in-Locked-clause-leaves
+returns-in-Locked-clause-leaves g c =
+    c.locked.ensures.leaves
+
+pub returns-in-Busy-clause-leaves : goal.returns-in-Busy-clause-leaves
+returns-in-Busy-clause-leaves g c =
+    copies_idle (at c.args.self.now (stage.Locking c.args.homes)) c.args.self.now c.gives_up.new.self c.gives_up.ensures.leaves
+
+pub returns-in-Invalid-clause-leaves : goal.returns-in-Invalid-clause-leaves
+returns-in-Invalid-clause-leaves g c =
+    copies_idle (at c.args.self.now (stage.Locking c.args.homes)) c.args.self.now c.gives_up-in-Invalid.new.self c.gives_up-in-Invalid.ensures.leaves
+
+pub returns-in_default-clause-leaves : goal.returns-in_default-clause-leaves
+returns-in_default-clause-leaves g c =
+    copies_same (at c.args.self.now (stage.Locking c.args.homes)) c.stays.new.self refl c.stays.ensures.stage

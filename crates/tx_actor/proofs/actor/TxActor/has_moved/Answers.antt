@@ -1,14 +1,26 @@
 use Rattle.std.proofs.Common.{sym, ◌∙◌}
 use Rattle.word_machine.specs.Notices as notice
 use Rattle.tx_actor.proofs.LoadLemmas.{moved_as, none_as}
+use Rattle.tx_actor.specs.declared.actor.Stage.TheVariants as stage
+use Rattle.tx_actor.proofs.HeardLemmas.{heard_ends, moved_none}
 use Rattle.tx_actor.proofs.actor.TxActor.has_moved.Goals as goal
 
-pub returns-in-None : goal.returns-in-None
-returns-in-None g c =
+pub returns-in-None-clause-does : goal.returns-in-None-clause-does
+returns-in-None-clause-does g c =
     none_as c.args.self.now c.stays.new.self c.stays.result c.args.call c.args.left (notice.Moved c.args.location c.args.word)
     c.stays.ensures.stage c.stays.ensures.told (sym c.first_left.ensures ∙ c.in-None.is)
 
-pub returns-in-Some : goal.returns-in-Some
-returns-in-Some g c =
+pub returns-in-Some-clause-does : goal.returns-in-Some-clause-does
+returns-in-Some-clause-does g c =
     moved_as c.args.self.now c.gives_up.new.self c.gives_up.result c.args.call c.args.left _ c.args.location c.args.word
     (sym c.first_left.ensures ∙ c.in-Some.is) c.gives_up.ensures.does
+
+pub returns-in-None-clause-keeps : goal.returns-in-None-clause-keeps
+returns-in-None-clause-keeps g c v =
+    moved_none v c.args.self.now c.stays.new.self c.args.call c.args.left c.args.location c.args.word c.stays.ensures.stage
+    (sym c.first_left.ensures ∙ c.in-None.is)
+
+pub returns-in-Some-clause-keeps : goal.returns-in-Some-clause-keeps
+returns-in-Some-clause-keeps g c v =
+    heard_ends v c.args.self.now c.gives_up.new.self (stage.Loading c.args.call c.args.left) (notice.Moved c.args.location c.args.word)
+    (c.gives_up.ensures.keeps v)

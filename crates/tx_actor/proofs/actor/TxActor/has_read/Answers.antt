@@ -4,6 +4,7 @@ use Rattle.actor_words.specs.Dispatch.{shown_notice}
 use Rattle.tx_actor.specs.declared.actor.Stage.TheVariants as stage
 use Rattle.tx_actor.proofs.DispatchLemmas.{heard_as, word_stays, read_else}
 use Rattle.tx_actor.proofs.KeepingLemmas.{keeps_from, keeps_same}
+use Rattle.tx_actor.proofs.HavingLemmas.{copies_idle, copies_same}
 use Rattle.tx_actor.proofs.actor.TxActor.has_read.Goals as goal
 
 pub returns-in-Number-clause-does : goal.returns-in-Number-clause-does
@@ -36,3 +37,15 @@ returns-in-Moved-clause-keeps g c v =
 pub returns-in_default-clause-keeps : goal.returns-in_default-clause-keeps
 returns-in_default-clause-keeps g c v =
     keeps_same v (at c.args.self.now (stage.Reading c.args.location)) c.stays.new.self c.stays.ensures.stage
+
+pub returns-in-Number-clause-leaves : goal.returns-in-Number-clause-leaves
+returns-in-Number-clause-leaves g c =
+    c.read.ensures.leaves
+
+pub returns-in-Moved-clause-leaves : goal.returns-in-Moved-clause-leaves
+returns-in-Moved-clause-leaves g c =
+    copies_idle (at c.args.self.now (stage.Reading c.args.location)) c.args.self.now c.gives_up.new.self c.gives_up.ensures.leaves
+
+pub returns-in_default-clause-leaves : goal.returns-in_default-clause-leaves
+returns-in_default-clause-leaves g c =
+    copies_same (at c.args.self.now (stage.Reading c.args.location)) c.stays.new.self refl c.stays.ensures.stage

@@ -4,6 +4,7 @@ use Rattle.actor_words.specs.Dispatch.{shown_notice}
 use Rattle.tx_actor.specs.declared.actor.Stage.TheVariants as stage
 use Rattle.tx_actor.proofs.DispatchLemmas.{heard_as, word_stays, released_else}
 use Rattle.tx_actor.proofs.KeepingLemmas.{keeps_from, keeps_same}
+use Rattle.tx_actor.proofs.HavingLemmas.{copies_idle, copies_same}
 use Rattle.tx_actor.proofs.actor.TxActor.has_released.Goals as goal
 
 pub returns-in-Released-clause-does : goal.returns-in-Released-clause-does
@@ -24,3 +25,11 @@ returns-in-Released-clause-keeps g c v =
 
 pub returns-in_default-clause-keeps : goal.returns-in_default-clause-keeps
 returns-in_default-clause-keeps g c v = keeps_same v (at c.args.self.now stage.Releasing) c.stays.new.self c.stays.ensures.stage
+
+pub returns-in-Released-clause-leaves : goal.returns-in-Released-clause-leaves
+returns-in-Released-clause-leaves g c =
+    copies_idle (at c.args.self.now stage.Releasing) c.args.self.now c.released.new.self c.released.ensures.leaves
+
+pub returns-in_default-clause-leaves : goal.returns-in_default-clause-leaves
+returns-in_default-clause-leaves g c =
+    copies_same (at c.args.self.now stage.Releasing) c.stays.new.self refl c.stays.ensures.stage

@@ -3,6 +3,7 @@ use Rattle.tx_actor.specs.Running.{at, seat_at}
 use Rattle.tx_actor.specs.declared.actor.Stage.TheVariants as stage
 use Rattle.tx_actor.proofs.DispatchLemmas.{by_result, heard_as, stored_else}
 use Rattle.tx_actor.proofs.KeepingLemmas.{keeps_from}
+use Rattle.tx_actor.proofs.HavingLemmas.{from_homing}
 use Rattle.tx_actor.proofs.actor.TxActor.has_stored.Goals as goal
 
 pub returns-in-Stored-clause-does : goal.returns-in-Stored-clause-does
@@ -26,3 +27,12 @@ returns-in-Stored-clause-keeps g c v =
 
 pub returns-in_default-clause-keeps : goal.returns-in_default-clause-keeps
 returns-in_default-clause-keeps g c v = c.stored_one.ensures.keeps v
+
+pub returns-in-Stored-clause-leaves : goal.returns-in-Stored-clause-leaves
+returns-in-Stored-clause-leaves g c =
+    from_homing c.goes_home.new.self.stage c.args.homes (stage.Storing c.args.homes) c.args.self.now.copies.items c.goes_home.new.self.copies.items (λ ks h. h)
+    c.goes_home.ensures.leaves
+
+pub returns-in_default-clause-leaves : goal.returns-in_default-clause-leaves
+returns-in_default-clause-leaves g c =
+    c.stored_one.ensures.leaves

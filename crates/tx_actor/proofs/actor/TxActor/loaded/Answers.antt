@@ -1,11 +1,26 @@
-use Rattle.std.proofs.Common.{sym, ◌∙◌}
+use Rattle.std.proofs.Common.{refl, sym, ◌∙◌}
 use Rattle.tx_actor.specs.Running.{at}
 use Rattle.tx_actor.specs.declared.actor.Stage.TheVariants as stage
 use Rattle.tx_actor.proofs.LoadLemmas.{load_at_stage, load_heard}
+use Rattle.actor_words.specs.Dispatch.{notice_told}
+use Rattle.tx_actor.proofs.HeardLemmas.{heard_apart, heard_at}
 use Rattle.tx_actor.proofs.actor.TxActor.loaded.Goals as goal
 
-pub returns-in-Loading : goal.returns-in-Loading
-returns-in-Loading g c =
+pub returns-in-Loading-clause-does : goal.returns-in-Loading-clause-does
+returns-in-Loading-clause-does g c =
     let now = stage.Loading c.in-Loading.call c.in-Loading.left in
     load_at_stage c.args.self.now c.has_loaded.new.self c.has_loaded.result _ now (sym c.replace-stage.ensures.value ∙ c.in-Loading.is)
-    (load_heard (at c.args.self.now now) c.has_loaded.new.self c.has_loaded.result _ _ c.of_told-heard.ensures c.has_loaded.ensures)
+    (load_heard (at c.args.self.now now) c.has_loaded.new.self c.has_loaded.result _ _ c.of_told-heard.ensures c.has_loaded.ensures.does)
+
+pub returns-in-Loading-clause-keeps : goal.returns-in-Loading-clause-keeps
+returns-in-Loading-clause-keeps g c v =
+    let now = stage.Loading c.in-Loading.call c.in-Loading.left in
+    heard_at v c.args.self.now c.has_loaded.new.self now _ _ (sym c.replace-stage.ensures.value ∙ c.in-Loading.is)
+    c.of_told-heard.ensures (c.has_loaded.ensures.keeps v)
+
+pub returns-in_default-clause-keeps : goal.returns-in_default-clause-keeps
+returns-in_default-clause-keeps g c v =
+    let other = c.replace-stage.result in
+    let n = notice_told c.args.told in
+    heard_at v c.args.self.now c.stays.new.self other n n (sym c.replace-stage.ensures.value) refl
+    (heard_apart v (at c.args.self.now other) c.stays.new.self n c.stays.ensures.stage c.in_default.not-Loading)

@@ -27,3 +27,7 @@ pub returns-clause-keeps : goal.returns-clause-keeps
 returns-clause-keeps g c v =
     keeps_plain v c.args.self.now _ (stage.Locking c.args.homes) _ refl refl (λ n h. c.gating_or_ready.ensures.names n h)
     c.gating_or_ready.ensures.room
+
+pub returns-clause-leaves : goal.returns-clause-leaves
+returns-clause-leaves g c =
+    c.gating_or_ready.ensures.copies (stage.Locking c.args.homes) c.args.self.now.copies.items tt

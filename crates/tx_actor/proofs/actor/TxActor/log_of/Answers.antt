@@ -5,7 +5,7 @@ use Rattle.tx_actor.specs.declared.actor.TxActor.{TxActor}
 use Rattle.actor_copies.specs.Footprints.{IsPlaceOf}
 use Rattle.actor_copies.specs.Logs.{changes_had, locations_had}
 use Rattle.actor_copies.specs.Kept.{copy_of}
-use Rattle.tx_actor.proofs.KeepingLemmas.{keeps_asked, keeps_same, room_as, words_same}
+use Rattle.tx_actor.proofs.KeepingLemmas.{keeps_asked, keeps_same, recorded_quiet, recorded_room, words_same}
 use Rattle.actor_copies.proofs.LogLemmas.{found_at, others_stand}
 use Rattle.tx_actor.proofs.RunsLemmas.{left_alike}
 use Rattle.tx_actor.proofs.actor.TxActor.log_of.Goals as goal
@@ -33,10 +33,11 @@ returns-in-Some-clause-others g c j other =
     (others_stand cs c.in-Some.place c.args.collection c.remove.result z.0 z.1 j other)
 
 pub returns-in-Some-clause-keeps : goal.returns-in-Some-clause-keeps
-returns-in-Some-clause-keeps g c v =
+returns-in-Some-clause-keeps g c made v =
     let r = c.args.self.now in
     let u : TxActor g.row.V.Denot = record r { copies = c.remove.new.self } in
-    keeps_asked v r u (words_same (end_of v.words v.blocks) r.words) (room_as r u r.stage (λ h. h)) (λ h. h)
+    keeps_asked v r u (words_same (end_of v.words v.blocks) r.words) (λ h. recorded_room u r.stage made) (λ h. h)
+    (recorded_quiet r.stage made)
 
 pub returns-in-None-clause-changes : goal.returns-in-None-clause-changes
 returns-in-None-clause-changes g c =
@@ -53,7 +54,7 @@ returns-in-None-clause-locations g c =
     c.new.ensures.locations ∙ sym (ap locations_had none)
 
 pub returns-in-None-clause-keeps : goal.returns-in-None-clause-keeps
-returns-in-None-clause-keeps g c v = keeps_same v c.args.self.now c.args.self.now refl
+returns-in-None-clause-keeps g c made v = keeps_same v c.args.self.now c.args.self.now refl
 
 pub returns-in-Some-clause-stands : goal.returns-in-Some-clause-stands
 returns-in-Some-clause-stands g c left a w s =

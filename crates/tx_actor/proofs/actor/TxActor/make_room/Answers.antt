@@ -1,6 +1,7 @@
 use Rattle.std.proofs.Common.{length, refl, rules}
 use Rattle.std.proofs.lemmas.Option.{slice_get_read}
-use Rattle.tx_actor.proofs.PreparesLemmas.{all_kept, kept_set, ready_at}
+use Rattle.actor_copies.proofs.AlikeLemmas.{all_kept, kept_set}
+use Rattle.tx_actor.proofs.PreparesLemmas.{ready_at}
 use Rattle.tx_actor.proofs.actor.TxActor.make_room.Goals as goal
 
 pub returns-in_err-reserve-clause-alike : goal.returns-in_err-reserve-clause-alike

@@ -1,71 +1,31 @@
-use Rattle.std.proofs.Common.{◌≡◌, true, length, Some, refl, sym, ap, subst, ◌∙◌, arith}
+use Rattle.std.proofs.Common.{Option, length, refl, sym, ap, subst, ◌∙◌}
 use Rattle.std.proofs.lemmas.Option.{slice_get_read}
 use Rattle.actor_copies.specs.declared.copies.CopyOf.{CopyOf}
-use Rattle.actor_copies.specs.Copies.{answer_of}
-use Rattle.actor_copies.specs.Footprints.{reads_in, with_known, writes_in}
-use Rattle.tx_actor.specs.Prepares.{HasRoomFor, fits}
-use Rattle.actor_copies.specs.Writes.{with_next}
-use Rattle.tx_actor.proofs.PreparesLemmas.{alike_itself, prepared_by, some_copy}
+use Rattle.tx_actor.specs.declared.actor.Asked.{Asked}
+use Rattle.tx_actor.specs.declared.prepares.Prepared.{Prepared}
+use Rattle.tx_actor.specs.declared.prepares.Readied.{Readied}
+use Rattle.tx_actor.specs.Prepares.{AreReadied, IsReadyCall}
+use Rattle.tx_actor.proofs.PreparesLemmas.{some_copy}
 use Rattle.tx_actor.proofs.actor.TxActor.prepares.Goals as goal
 
-pub returns-in_err-call-clause-alike : goal.returns-in_err-call-clause-alike
-returns-in_err-call-clause-alike g c = alike_itself c.args.self.now
-
-pub returns-then-not-call-clause-alike : goal.returns-then-not-call-clause-alike
-returns-then-not-call-clause-alike g c = alike_itself c.args.self.now
-
-pub returns-in_err-kept-clause-alike : goal.returns-in_err-kept-clause-alike
-returns-in_err-kept-clause-alike g c = alike_itself c.args.self.now
-
-pub returns-in_err-told-clause-alike : goal.returns-in_err-told-clause-alike
-returns-in_err-told-clause-alike g c = alike_itself c.args.self.now
-
-pub returns-then-not-call-clause-ok : goal.returns-then-not-call-clause-ok
-returns-then-not-call-clause-ok g c copy at =
+pub returns-in-Some-clause-ok : goal.returns-in-Some-clause-ok
+returns-in-Some-clause-ok g c copy at =
     let r = c.args.self.now in
-    let cs = r.copies.items in
-    let here = c.index-2.result.now in
-    let there = slice_get_read cs (length cs) c.args.place here refl c.requires.there c.index-2.ensures in
-    let e = some_copy here copy (sym there ∙ at) in
-    let o = c.in_ok-call.call.outcome in (
-      o,
-      ap (λ (z : CopyOf g.row.V.Denot). answer_of z.copied c.args.op) (sym e) ∙ c.in_ok-call.ensures.outcome,
-      ap (λ (z : CopyOf g.row.V.Denot). fits r c.args.first z.copied o) (sym e) ∙ (sym c.in_ok-call.ensures.fits ∙ c.if-not-call.true),
-    )
-
-pub returns-clause-ok : goal.returns-clause-ok
-returns-clause-ok g c copy at =
-    let r = c.args.self.now in
-    let u = c.make_room.new.self in
-    let cs = r.copies.items in
+    let u = c.readies.new.self in
+    let place = c.args.place in
     let f = c.args.first in
-    let found = c.index.result.now in
-    let here = c.index-2.result.now in
-    let e = some_copy here copy
-    (sym (slice_get_read cs (length cs) c.args.place here refl c.requires.there c.index-2.ensures) ∙ at) in
+    let op = c.args.op in
+    let cs = r.copies.items in
+    let here = c.index.result.now in
     let named = ap (λ (z : CopyOf g.row.V.Denot). z.collection)
-    (some_copy found copy (sym (slice_get_read cs (length cs) c.args.place found refl c.requires.there c.index.ensures) ∙ at)) in
-    let o = c.in_ok-call.call.outcome in
-    let answer : answer_of copy.copied c.args.op ≡ Some o =
-    ap (λ (z : CopyOf g.row.V.Denot). answer_of z.copied c.args.op) (sym e) ∙ c.in_ok-call.ensures.outcome in
-    let fit : fits r f copy.copied o ≡ true =
-    ap (λ (z : CopyOf g.row.V.Denot). fits r f z.copied o) (sym e) ∙ (sym c.in_ok-call.ensures.fits ∙ c.if-not-call.false) in
-    let writes : c.in_ok-call.call.writes.items ≡ with_next copy.copied f (writes_in copy.copied o) =
-    c.in_ok-call.ensures.writes ∙ ap (λ (z : CopyOf g.row.V.Denot). with_next z.copied f (writes_in z.copied o)) e in
-    let room : HasRoomFor u c.args.place o c.len.result (length c.in_ok-call.call.writes.items) =
-    let same : c.len-2.result ≡ length c.in_ok-call.call.writes.items = omega (arith, c.len-2.ensures, c.in_ok-call.call.writes.ok.0) in
-    subst (λ m. HasRoomFor u c.args.place o c.len.result m) same c.in_ok-make_room.ensures.room in
-    record {
-      outcome = o;
-      answer = answer;
-      fits = fit;
-      is = refl;
-      at = refl;
-      collection = named;
-      asked = refl;
-      left = c.in_ok-call.ensures.left ∙ ap (λ (z : CopyOf g.row.V.Denot). with_known z.copied f (reads_in z.copied o)) e;
-      writes = writes;
-      prepared = prepared_by r u c.args.place f c.args.op copy o _ c.len.result c.make_room.ensures.alike c.requires room at answer fit
-          writes
-          refl refl named refl c.in_ok-kept.ensures c.in_ok-told.ensures;
-    }
+    (some_copy here copy (sym (slice_get_read cs (length cs) place here refl c.requires.there c.index.ensures) ∙ at)) in
+    let ready = subst (λ (o : Option (Readied g.row.V.Denot)). AreReadied r u place f op copy o) c.in-Some.is
+    (c.in_ok-readied.ensures.ok copy at) in
+    let asked : Asked g.row.V.Denot = record { collection = here.collection; op = op } in
+    subst (λ (p : Prepared g.row.V.Denot). IsReadyCall r u place f op copy p) (sym c.prepared.ensures) (ready asked named refl)
+
+pub returns-in-None-clause-ok : goal.returns-in-None-clause-ok
+returns-in-None-clause-ok g c copy at =
+    subst (λ (o : Option (Readied g.row.V.Denot)). AreReadied c.args.self.now c.readies.new.self c.args.place c.args.first c.args.op copy o)
+    c.in-None.is
+    (c.in_ok-readied.ensures.ok copy at)

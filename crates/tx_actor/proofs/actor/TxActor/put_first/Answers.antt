@@ -7,6 +7,7 @@ use Rattle.actor_words.specs.Dispatch.{after_put}
 use Rattle.tx_actor.specs.declared.actor.Stage.TheVariants as stage
 use Rattle.tx_actor.proofs.DispatchLemmas.{by_result, does_stays, give_up_at, puts_first, puts_none}
 use Rattle.tx_actor.proofs.KeepingLemmas.{keeps_from, keeps_same}
+use Rattle.tx_actor.proofs.HavingLemmas.{copies_idle, copies_same}
 use Rattle.tx_actor.proofs.actor.TxActor.put_first.Goals as goal
 
 pub returns-then-has_none-clause-does : goal.returns-then-has_none-clause-does
@@ -32,3 +33,11 @@ returns-clause-keeps g c v =
     keeps_from v c.args.self.now c.args.self.now c.puts_back.new.self (stage.Returning c.args.homes) (stage.Returning
     c.pop_front.new.self) refl (c.puts_back.ensures.keeps v)
     (λ n h. subst (All (λ (k : ℕ). k < n)) (sym c.pop_front.ensures.rest) (All-drop (λ (k : ℕ). k < n) 1 c.args.homes.items h)) (λ z. tt)
+
+pub returns-then-has_none-clause-leaves : goal.returns-then-has_none-clause-leaves
+returns-then-has_none-clause-leaves g c =
+    copies_same (at c.args.self.now (stage.Returning c.args.homes)) c.stays.new.self refl c.stays.ensures.stage
+
+pub returns-clause-leaves : goal.returns-clause-leaves
+returns-clause-leaves g c =
+    copies_idle (at c.args.self.now (stage.Returning c.args.homes)) c.args.self.now c.puts_back.new.self c.puts_back.ensures.leaves

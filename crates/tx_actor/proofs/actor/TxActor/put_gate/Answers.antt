@@ -1,9 +1,11 @@
-use Rattle.std.proofs.Common.{sym, ◌∙◌, refl}
-use Rattle.tx_actor.specs.Running.{at, seat_of}
-use Rattle.actor_words.specs.Dispatch.{after_put}
+use Rattle.std.proofs.Common.{sym, ◌∙◌, refl, ◌≡◌, false, subst}
+use Rattle.tx_actor.specs.Running.{at, seat_of, stage_of}
+use Rattle.actor_words.specs.Dispatch.{after_put, is_loading}
 use Rattle.tx_actor.specs.declared.actor.Stage.TheVariants as stage
 use Rattle.tx_actor.proofs.DispatchLemmas.{does_at_stage, does_stays, put_else}
 use Rattle.tx_actor.proofs.KeepingLemmas.{keeps_at, keeps_from, keeps_same}
+use Rattle.tx_actor.proofs.HavingLemmas.{copies_at, copies_idle, copies_same}
+use Rattle.tx_actor.specs.declared.actor.Stage.{Stage}
 use Rattle.tx_actor.proofs.actor.TxActor.put_gate.Goals as goal
 
 pub returns-in-Returning-clause-does : goal.returns-in-Returning-clause-does
@@ -42,3 +44,19 @@ pub returns-in_default-clause-keeps : goal.returns-in_default-clause-keeps
 returns-in_default-clause-keeps g c v =
     keeps_at v c.args.self.now c.stays.new.self c.replace-stage.result (sym c.replace-stage.ensures.value)
     (keeps_same v (at c.args.self.now c.replace-stage.result) c.stays.new.self c.stays.ensures.stage)
+
+pub returns-in-Returning-clause-leaves : goal.returns-in-Returning-clause-leaves
+returns-in-Returning-clause-leaves g c quiet =
+    copies_at c.args.self.now c.put_first.new.self (stage.Returning c.in-Returning.homes) (sym c.replace-stage.ensures.value ∙ c.in-Returning.is)
+    c.put_first.ensures.leaves
+
+pub returns-in-ReturningOne-clause-leaves : goal.returns-in-ReturningOne-clause-leaves
+returns-in-ReturningOne-clause-leaves g c quiet =
+    copies_at c.args.self.now c.cancels.new.self (stage.ReturningOne c.in-ReturningOne.field-0) (sym c.replace-stage.ensures.value ∙ c.in-ReturningOne.is)
+    (copies_idle (at c.args.self.now (stage.ReturningOne c.in-ReturningOne.field-0)) c.args.self.now c.cancels.new.self c.cancels.ensures.leaves)
+
+pub returns-in_default-clause-leaves : goal.returns-in_default-clause-leaves
+returns-in_default-clause-leaves g c quiet =
+    copies_at c.args.self.now c.stays.new.self c.replace-stage.result (sym c.replace-stage.ensures.value)
+    (copies_same (at c.args.self.now c.replace-stage.result) c.stays.new.self
+    (subst (λ (z : Stage g.row.V.Denot). is_loading (stage_of z) ≡ false) (sym c.replace-stage.ensures.value) quiet) c.stays.ensures.stage)

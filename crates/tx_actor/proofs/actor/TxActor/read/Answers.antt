@@ -19,3 +19,7 @@ returns-clause-does g c a w s = (
 
 pub returns-clause-keeps : goal.returns-clause-keeps
 returns-clause-keeps g c v = keeps_plain v c.args.self.now _ stage.Idle stage.Open refl refl (λ n h. tt) (λ z. tt)
+
+pub returns-clause-leaves : goal.returns-clause-leaves
+returns-clause-leaves g c =
+    (tt, refl)

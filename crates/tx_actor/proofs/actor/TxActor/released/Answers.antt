@@ -1,9 +1,10 @@
 use Rattle.std.proofs.Common.{ap, refl, sym, ◌∙◌}
 use Rattle.word_machine.proofs.Sets.{put-same}
-use Rattle.tx_actor.specs.Running.{is_recorded}
+use Rattle.tx_actor.specs.Running.{is_recorded, at}
 use Rattle.tx_actor.proofs.RunsLemmas.{seat_as}
 use Rattle.tx_actor.proofs.KeepingLemmas.{keeps_plain}
 use Rattle.tx_actor.specs.declared.actor.Stage.TheVariants as stage
+use Rattle.tx_actor.proofs.HavingLemmas.{copies_to}
 use Rattle.tx_actor.proofs.actor.TxActor.released.Goals as goal
 
 pub returns-clause-does : goal.returns-clause-does
@@ -20,3 +21,7 @@ returns-clause-does g c a w s = (
 pub returns-clause-keeps : goal.returns-clause-keeps
 returns-clause-keeps g c v =
     keeps_plain v c.args.self.now c.clear.new.self stage.Idle stage.Idle c.clear.ensures.rest c.clear.ensures.stage (λ n h. tt) (λ z. tt)
+
+pub returns-clause-leaves : goal.returns-clause-leaves
+returns-clause-leaves g c =
+    copies_to (at c.args.self.now stage.Idle) c.clear.new.self stage.Idle c.clear.ensures.stage tt

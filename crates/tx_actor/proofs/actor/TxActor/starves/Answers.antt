@@ -6,6 +6,7 @@ use Rattle.tx_actor.specs.declared.actor.Stage.TheVariants as stage
 use Rattle.tx_actor.specs.declared.actor.Told.TheVariants.{Refused}
 use Rattle.tx_actor.proofs.DispatchLemmas.{does_at_stage, does_stays, starve_else}
 use Rattle.tx_actor.proofs.KeepingLemmas.{keeps_at, keeps_from, keeps_same}
+use Rattle.tx_actor.proofs.HavingLemmas.{copies_at, copies_idle, copies_same, quiet_by}
 use Rattle.tx_actor.proofs.actor.TxActor.starves.Goals as goal
 
 pub returns-in-Idle-clause-does : goal.returns-in-Idle-clause-does
@@ -148,3 +149,65 @@ pub returns-in_default-clause-keeps : goal.returns-in_default-clause-keeps
 returns-in_default-clause-keeps g c v =
     keeps_at v c.args.self.now c.stays.new.self c.replace-stage.result (sym c.replace-stage.ensures.value)
     (keeps_same v (at c.args.self.now c.replace-stage.result) c.stays.new.self c.stays.ensures.stage)
+
+-- the copies
+pub returns-in-Idle-clause-leaves : goal.returns-in-Idle-clause-leaves
+returns-in-Idle-clause-leaves g c =
+    copies_at c.args.self.now (at c.args.self.now stage.Idle) stage.Idle (sym c.replace-stage.ensures.value ∙ c.in-Idle.is)
+    (copies_same (at c.args.self.now stage.Idle) (at c.args.self.now stage.Idle) refl refl)
+
+pub returns-in-Open-clause-leaves : goal.returns-in-Open-clause-leaves
+returns-in-Open-clause-leaves g c =
+    copies_at c.args.self.now (at c.args.self.now stage.Open) stage.Open (sym c.replace-stage.ensures.value ∙ c.in-Open.is)
+    (copies_same (at c.args.self.now stage.Open) (at c.args.self.now stage.Open) refl refl)
+
+pub returns-in-Beginning-clause-leaves : goal.returns-in-Beginning-clause-leaves
+returns-in-Beginning-clause-leaves g c =
+    copies_at c.args.self.now c.begin_starves.new.self stage.Beginning (sym c.replace-stage.ensures.value ∙ c.in-Beginning.is)
+    (copies_idle (at c.args.self.now stage.Beginning) c.args.self.now c.begin_starves.new.self c.begin_starves.ensures.leaves)
+
+pub returns-in-Reading-clause-leaves : goal.returns-in-Reading-clause-leaves
+returns-in-Reading-clause-leaves g c =
+    copies_at c.args.self.now c.gives_up.new.self (stage.Reading c.in-Reading.field-0) (sym c.replace-stage.ensures.value ∙ c.in-Reading.is)
+    (copies_idle (at c.args.self.now (stage.Reading c.in-Reading.field-0)) c.args.self.now c.gives_up.new.self c.gives_up.ensures.leaves)
+
+pub returns-in-Trying-clause-leaves : goal.returns-in-Trying-clause-leaves
+returns-in-Trying-clause-leaves g c =
+    copies_at c.args.self.now c.gives_up-in-Trying.new.self (stage.Trying c.in-Trying.field-0 c.in-Trying.field-1) (sym c.replace-stage.ensures.value ∙ c.in-Trying.is)
+    (copies_idle (at c.args.self.now (stage.Trying c.in-Trying.field-0 c.in-Trying.field-1)) c.args.self.now c.gives_up-in-Trying.new.self c.gives_up-in-Trying.ensures.leaves)
+
+pub returns-in-Copying-clause-leaves : goal.returns-in-Copying-clause-leaves
+returns-in-Copying-clause-leaves g c =
+    copies_at c.args.self.now c.starves_copying.new.self (stage.Copying c.in-Copying.asked) (sym c.replace-stage.ensures.value ∙ c.in-Copying.is)
+    (copies_idle (at c.args.self.now (stage.Copying c.in-Copying.asked)) c.args.self.now c.starves_copying.new.self c.starves_copying.ensures.leaves)
+
+pub returns-in-Loading-clause-leaves : goal.returns-in-Loading-clause-leaves
+returns-in-Loading-clause-leaves g c =
+    copies_at c.args.self.now c.gives_up-in-Loading.new.self (stage.Loading c.in-Loading.field-0 c.in-Loading.field-1) (sym c.replace-stage.ensures.value ∙ c.in-Loading.is)
+    (copies_idle (at c.args.self.now (stage.Loading c.in-Loading.field-0 c.in-Loading.field-1)) c.args.self.now c.gives_up-in-Loading.new.self c.gives_up-in-Loading.ensures.leaves)
+
+pub returns-in-Locking-clause-leaves : goal.returns-in-Locking-clause-leaves
+returns-in-Locking-clause-leaves g c =
+    copies_at c.args.self.now c.gives_up-in-Locking.new.self (stage.Locking c.in-Locking.field-0) (sym c.replace-stage.ensures.value ∙ c.in-Locking.is)
+    (copies_idle (at c.args.self.now (stage.Locking c.in-Locking.field-0)) c.args.self.now c.gives_up-in-Locking.new.self c.gives_up-in-Locking.ensures.leaves)
+
+pub returns-in-Gating-clause-leaves : goal.returns-in-Gating-clause-leaves
+returns-in-Gating-clause-leaves g c =
+    copies_at c.args.self.now c.starves_gating.new.self (stage.Gating c.in-Gating.homes c.in-Gating.got c.in-Gating.field-2) (sym c.replace-stage.ensures.value ∙ c.in-Gating.is)
+    (copies_idle (at c.args.self.now (stage.Gating c.in-Gating.homes c.in-Gating.got c.in-Gating.field-2)) c.args.self.now c.starves_gating.new.self c.starves_gating.ensures.leaves)
+
+pub returns-in-Ready-clause-leaves : goal.returns-in-Ready-clause-leaves
+returns-in-Ready-clause-leaves g c =
+    copies_at c.args.self.now c.starves_ready.new.self (stage.Ready c.in-Ready.homes) (sym c.replace-stage.ensures.value ∙ c.in-Ready.is)
+    (copies_idle (at c.args.self.now (stage.Ready c.in-Ready.homes)) c.args.self.now c.starves_ready.new.self c.starves_ready.ensures.leaves)
+
+pub returns-in-Closing-clause-leaves : goal.returns-in-Closing-clause-leaves
+returns-in-Closing-clause-leaves g c =
+    copies_at c.args.self.now c.gives_up-in-Closing.new.self stage.Closing (sym c.replace-stage.ensures.value ∙ c.in-Closing.is)
+    (copies_idle (at c.args.self.now stage.Closing) c.args.self.now c.gives_up-in-Closing.new.self c.gives_up-in-Closing.ensures.leaves)
+
+pub returns-in_default-clause-leaves : goal.returns-in_default-clause-leaves
+returns-in_default-clause-leaves g c =
+    copies_at c.args.self.now c.stays.new.self c.replace-stage.result (sym c.replace-stage.ensures.value)
+    (copies_same (at c.args.self.now c.replace-stage.result) c.stays.new.self
+    (quiet_by c.replace-stage.result c.in_default.not-Loading) c.stays.ensures.stage)

@@ -11,3 +11,7 @@ pub returns-clause-keeps : goal.returns-clause-keeps
 returns-clause-keeps g c v =
     keeps_plain v c.args.self.now _ (stage.ReturningOne c.args.collection) (stage.ReturningOne c.args.collection) refl refl (λ n h. h) (λ
     z. tt)
+
+pub returns-clause-leaves : goal.returns-clause-leaves
+returns-clause-leaves g c =
+    tt

@@ -23,3 +23,6 @@ returns-clause-keeps g c v =
     c.truncate.new.self) refl (c.gives_up_with.ensures.keeps v)
     (λ n h. subst (All (λ (k : ℕ). k < n)) (sym c.truncate.ensures.items) (All-take (λ (k : ℕ). k < n) c.args.got c.args.homes.items h))
     (λ z. tt)
+
+pub returns-clause-leaves : goal.returns-clause-leaves
+returns-clause-leaves g c = c.gives_up_with.ensures.leaves

@@ -17,3 +17,6 @@ pub returns-clause-keeps : goal.returns-clause-keeps
 returns-clause-keeps g c v =
     keeps_from v c.args.self.now c.args.self.now c.gives_up_with.new.self (stage.Ready c.args.homes) (stage.Returning c.args.homes) refl
     (c.gives_up_with.ensures.keeps v) (λ n h. h) (λ z. tt)
+
+pub returns-clause-leaves : goal.returns-clause-leaves
+returns-clause-leaves g c = c.gives_up_with.ensures.leaves

@@ -1,11 +1,12 @@
 use Rattle.tx_actor.specs.declared.actor.Stage.{Stage}
-use Rattle.std.proofs.Common.{sym, subst, ◌∙◌, refl}
-use Rattle.tx_actor.specs.Running.{at, seat_at}
+use Rattle.std.proofs.Common.{sym, subst, ◌∙◌, refl, ◌≡◌, false}
+use Rattle.tx_actor.specs.Running.{at, seat_at, stage_of}
 use Rattle.tx_actor.specs.Dispatch.{Records, HasRoom}
-use Rattle.actor_words.specs.Dispatch.{notice_told}
+use Rattle.actor_words.specs.Dispatch.{notice_told, is_loading}
 use Rattle.tx_actor.specs.declared.actor.Stage.TheVariants as stage
 use Rattle.tx_actor.proofs.DispatchLemmas.{records_else, told_as, word_at_stage, word_stays, word_else}
 use Rattle.tx_actor.proofs.KeepingLemmas.{keeps_at, keeps_from, keeps_same}
+use Rattle.tx_actor.proofs.HavingLemmas.{copies_at, copies_idle, copies_same}
 use Rattle.tx_actor.proofs.actor.TxActor.stepped.Goals as goal
 
 pub has_read-requires : goal.has_read-requires
@@ -174,3 +175,55 @@ pub returns-in_default-clause-made : goal.returns-in_default-clause-made
 returns-in_default-clause-made g c h =
     absurd (records_else c.replace-stage.result c.in_default.not-Ready c.in_default.not-Closing c.in_default.not-Leaving
     (subst (λ (z : Stage g.row.V.Denot). Records z) (sym c.replace-stage.ensures.value) h))
+
+-- the copies
+pub returns-in-Beginning-clause-leaves : goal.returns-in-Beginning-clause-leaves
+returns-in-Beginning-clause-leaves g c quiet =
+    copies_at c.args.self.now c.has_begun.new.self stage.Beginning (sym c.replace-stage.ensures.value ∙ c.in-Beginning.is)
+    c.has_begun.ensures.leaves
+
+pub returns-in-Reading-clause-leaves : goal.returns-in-Reading-clause-leaves
+returns-in-Reading-clause-leaves g c quiet =
+    copies_at c.args.self.now c.has_read.new.self (stage.Reading c.in-Reading.location) (sym c.replace-stage.ensures.value ∙ c.in-Reading.is)
+    c.has_read.ensures.leaves
+
+pub returns-in-Locking-clause-leaves : goal.returns-in-Locking-clause-leaves
+returns-in-Locking-clause-leaves g c quiet =
+    copies_at c.args.self.now c.has_locked.new.self (stage.Locking c.in-Locking.homes) (sym c.replace-stage.ensures.value ∙ c.in-Locking.is)
+    c.has_locked.ensures.leaves
+
+pub returns-in-Ready-clause-leaves : goal.returns-in-Ready-clause-leaves
+returns-in-Ready-clause-leaves g c quiet =
+    copies_at c.args.self.now c.has_first_stored.new.self (stage.Ready c.in-Ready.homes) (sym c.replace-stage.ensures.value ∙ c.in-Ready.is)
+    c.has_first_stored.ensures.leaves
+
+pub returns-in-Storing-clause-leaves : goal.returns-in-Storing-clause-leaves
+returns-in-Storing-clause-leaves g c quiet =
+    copies_at c.args.self.now c.has_stored.new.self (stage.Storing c.in-Storing.homes) (sym c.replace-stage.ensures.value ∙ c.in-Storing.is)
+    c.has_stored.ensures.leaves
+
+pub returns-in-Releasing-clause-leaves : goal.returns-in-Releasing-clause-leaves
+returns-in-Releasing-clause-leaves g c quiet =
+    copies_at c.args.self.now c.has_released.new.self stage.Releasing (sym c.replace-stage.ensures.value ∙ c.in-Releasing.is)
+    c.has_released.ensures.leaves
+
+pub returns-in-Closing-clause-leaves : goal.returns-in-Closing-clause-leaves
+returns-in-Closing-clause-leaves g c quiet =
+    copies_at c.args.self.now c.closed.new.self stage.Closing (sym c.replace-stage.ensures.value ∙ c.in-Closing.is)
+    (copies_idle (at c.args.self.now stage.Closing) c.args.self.now c.closed.new.self c.closed.ensures.leaves)
+
+pub returns-in-Cancelling-clause-leaves : goal.returns-in-Cancelling-clause-leaves
+returns-in-Cancelling-clause-leaves g c quiet =
+    copies_at c.args.self.now c.has_cancelled.new.self stage.Cancelling (sym c.replace-stage.ensures.value ∙ c.in-Cancelling.is)
+    c.has_cancelled.ensures.leaves
+
+pub returns-in-Leaving-clause-leaves : goal.returns-in-Leaving-clause-leaves
+returns-in-Leaving-clause-leaves g c quiet =
+    copies_at c.args.self.now c.ended.new.self stage.Leaving (sym c.replace-stage.ensures.value ∙ c.in-Leaving.is)
+    (copies_idle (at c.args.self.now stage.Leaving) c.args.self.now c.ended.new.self c.ended.ensures.leaves)
+
+pub returns-in_default-clause-leaves : goal.returns-in_default-clause-leaves
+returns-in_default-clause-leaves g c quiet =
+    copies_at c.args.self.now c.stays.new.self c.replace-stage.result (sym c.replace-stage.ensures.value)
+    (copies_same (at c.args.self.now c.replace-stage.result) c.stays.new.self
+    (subst (λ (z : Stage g.row.V.Denot). is_loading (stage_of z) ≡ false) (sym c.replace-stage.ensures.value) quiet) c.stays.ensures.stage)

@@ -15,3 +15,7 @@ returns-clause-does g c a w x of s =
 pub returns-clause-keeps : goal.returns-clause-keeps
 returns-clause-keeps g c v =
     keeps_plain v c.args.self.now _ (stage.Storing c.args.homes) (stage.Storing c.args.homes) refl refl (λ n h. h) (λ z. tt)
+
+pub returns-clause-leaves : goal.returns-clause-leaves
+returns-clause-leaves g c =
+    (λ k h. h, refl)

@@ -1,10 +1,11 @@
 use Rattle.std.proofs.Common.{◌≡◌, [], arith, refl}
 use Rattle.replay_log.specs.Worlds.{Trying, Copying}
-use Rattle.tx_actor.specs.Running.{asked_of, seat_of}
+use Rattle.tx_actor.specs.Running.{asked_of, seat_of, at}
 use Rattle.tx_actor.proofs.DispatchLemmas.{by_result}
 use Rattle.tx_actor.proofs.RunsLemmas.{last_try, tried_again, tried_free}
-use Rattle.tx_actor.proofs.KeepingLemmas.{keeps_from, keeps_plain}
+use Rattle.tx_actor.proofs.KeepingLemmas.{keeps_from, keeps_room}
 use Rattle.tx_actor.specs.declared.actor.Stage.TheVariants as stage
+use Rattle.tx_actor.proofs.HavingLemmas.{copies_idle}
 use Rattle.tx_actor.proofs.actor.TxActor.tried.Goals as goal
 
 pub returns-then-free-clause-does : goal.returns-then-free-clause-does
@@ -30,13 +31,25 @@ returns-clause-does g c a w s =
 
 pub returns-then-free-clause-keeps : goal.returns-then-free-clause-keeps
 returns-then-free-clause-keeps g c v =
-    keeps_plain v c.args.self.now _ (stage.Trying c.args.asked c.args.tries) (stage.Copying c.args.asked) refl refl (λ n h. h) (λ z. tt)
+    keeps_room v c.args.self.now _ (stage.Trying c.args.asked c.args.tries) (stage.Copying c.args.asked) refl refl (λ n h. h) (λ h. h) refl
 
 pub returns-then-tries-gt0-clause-keeps : goal.returns-then-tries-gt0-clause-keeps
 returns-then-tries-gt0-clause-keeps g c v =
-    keeps_plain v c.args.self.now _ (stage.Trying c.args.asked c.args.tries) _ refl refl (λ n h. h) (λ z. tt)
+    keeps_room v c.args.self.now _ (stage.Trying c.args.asked c.args.tries) _ refl refl (λ n h. h) (λ h. h) refl
 
 pub returns-clause-keeps : goal.returns-clause-keeps
 returns-clause-keeps g c v =
     keeps_from v c.args.self.now c.args.self.now c.gives_up.new.self (stage.Trying c.args.asked c.args.tries) stage.Idle refl
     (c.gives_up.ensures.keeps v) (λ n h. tt) (λ z. tt)
+
+pub returns-then-free-clause-leaves : goal.returns-then-free-clause-leaves
+returns-then-free-clause-leaves g c =
+    (tt, refl)
+
+pub returns-then-tries-gt0-clause-leaves : goal.returns-then-tries-gt0-clause-leaves
+returns-then-tries-gt0-clause-leaves g c =
+    (tt, refl)
+
+pub returns-clause-leaves : goal.returns-clause-leaves
+returns-clause-leaves g c =
+    copies_idle (at c.args.self.now (stage.Trying c.args.asked c.args.tries)) c.args.self.now c.gives_up.new.self c.gives_up.ensures.leaves

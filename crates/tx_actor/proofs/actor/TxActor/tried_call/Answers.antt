@@ -14,3 +14,7 @@ returns-clause-does g c a w s =
 
 pub returns-clause-keeps : goal.returns-clause-keeps
 returns-clause-keeps g c v = c.tried.ensures.keeps v
+
+pub returns-clause-leaves : goal.returns-clause-leaves
+returns-clause-leaves g c =
+    c.tried.ensures.leaves

@@ -3,12 +3,13 @@ use Rattle.std.specs.List.{All}
 use Rattle.std.proofs.Common.{◌≡◌, arith, refl, sym, ◌∙◌, take, drop, ◌++◌, ◌∷◌, [], subst, ℕ, ◌<◌}
 use Rattle.seq_model.specs.declared.refusal.Refusal.TheVariants.{GateBusy}
 use Rattle.replay_log.specs.Worlds.{Gating, because, gives_up, takes_gates, at_stage}
-use Rattle.tx_actor.specs.Running.{seat_of}
+use Rattle.tx_actor.specs.Running.{seat_of, at}
 use Rattle.tx_actor.proofs.DispatchLemmas.{by_result}
 use Rattle.tx_actor.specs.declared.actor.TxActor.{TxActor}
 use Rattle.tx_actor.proofs.RunsLemmas.{at_next, last_try, seat_as, tried_again, tried_free}
 use Rattle.tx_actor.proofs.KeepingLemmas.{keeps_from, keeps_plain}
 use Rattle.tx_actor.specs.declared.actor.Stage.TheVariants as stage
+use Rattle.tx_actor.proofs.HavingLemmas.{copies_idle}
 use Rattle.tx_actor.proofs.actor.TxActor.tried_home.Goals as goal
 
 pub returns-then-free-clause-does : goal.returns-then-free-clause-does
@@ -66,3 +67,15 @@ returns-clause-keeps g c v =
     (stage.Returning c.truncate.new.self) refl (c.gives_up_with.ensures.keeps v)
     (λ n h. subst (All (λ (k : ℕ). k < n)) (sym c.truncate.ensures.items) (All-take (λ (k : ℕ). k < n) c.args.got c.args.homes.items h))
     (λ z. tt)
+
+pub returns-then-free-clause-leaves : goal.returns-then-free-clause-leaves
+returns-then-free-clause-leaves g c =
+    c.next_gate.ensures.copies (stage.Gating c.args.homes c.args.got c.args.tries) c.args.self.now.copies.items tt
+
+pub returns-then-tries-gt0-clause-leaves : goal.returns-then-tries-gt0-clause-leaves
+returns-then-tries-gt0-clause-leaves g c =
+    (tt, refl)
+
+pub returns-clause-leaves : goal.returns-clause-leaves
+returns-clause-leaves g c =
+    copies_idle (at c.args.self.now (stage.Gating c.args.homes c.args.got c.args.tries)) c.args.self.now c.gives_up_with.new.self c.gives_up_with.ensures.leaves

@@ -1,10 +1,11 @@
-use Rattle.std.proofs.Common.{◌<◌, ◌≤◌, ◌∙◌, drop, length, rules, take}
+use Rattle.std.proofs.Common.{◌<◌, ◌≤◌, ◌∙◌, drop, length, rules, take, refl}
 use Rattle.std.proofs.lemmas.List.{drop_all, drop_more}
 use Rattle.tx_actor.specs.Running.{at, seat_of, stage_of}
 use Rattle.actor_words.specs.Dispatch.{after_try}
 use Rattle.tx_actor.specs.declared.actor.Stage.TheVariants as stage
 use Rattle.tx_actor.proofs.DispatchLemmas.{by_result, does_stays, gating_some, gating_none, tried_at}
 use Rattle.tx_actor.proofs.KeepingLemmas.{keeps_same}
+use Rattle.tx_actor.proofs.HavingLemmas.{copies_same}
 use Rattle.tx_actor.proofs.actor.TxActor.tried_next.Goals as goal
 
 pub returns-then-got-len-clause-does : goal.returns-then-got-len-clause-does
@@ -30,3 +31,11 @@ returns-then-got-len-clause-keeps g c v = c.tried_home.ensures.keeps v
 pub returns-else-got-len-clause-keeps : goal.returns-else-got-len-clause-keeps
 returns-else-got-len-clause-keeps g c v =
     keeps_same v (at c.args.self.now (stage.Gating c.args.homes c.args.got c.args.tries)) c.stays.new.self c.stays.ensures.stage
+
+pub returns-then-got-len-clause-leaves : goal.returns-then-got-len-clause-leaves
+returns-then-got-len-clause-leaves g c =
+    c.tried_home.ensures.leaves
+
+pub returns-else-got-len-clause-leaves : goal.returns-else-got-len-clause-leaves
+returns-else-got-len-clause-leaves g c =
+    copies_same (at c.args.self.now (stage.Gating c.args.homes c.args.got c.args.tries)) c.stays.new.self refl c.stays.ensures.stage

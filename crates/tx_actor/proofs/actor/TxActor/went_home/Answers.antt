@@ -1,8 +1,11 @@
-use Rattle.std.proofs.Common.{sym, ◌∙◌}
-use Rattle.tx_actor.specs.Running.{at, seat_at}
+use Rattle.std.proofs.Common.{sym, ◌∙◌, ◌≡◌, false, subst}
+use Rattle.tx_actor.specs.Running.{at, seat_at, stage_of}
 use Rattle.tx_actor.specs.declared.actor.Stage.TheVariants as stage
 use Rattle.tx_actor.proofs.DispatchLemmas.{home_at_stage, home_else, home_stays}
 use Rattle.tx_actor.proofs.KeepingLemmas.{keeps_at, keeps_same}
+use Rattle.tx_actor.proofs.HavingLemmas.{copies_at, copies_same}
+use Rattle.actor_words.specs.Dispatch.{is_loading}
+use Rattle.tx_actor.specs.declared.actor.Stage.{Stage}
 use Rattle.tx_actor.proofs.actor.TxActor.went_home.Goals as goal
 
 pub returns-in-Homing-clause-does : goal.returns-in-Homing-clause-does
@@ -26,3 +29,14 @@ pub returns-in_default-clause-keeps : goal.returns-in_default-clause-keeps
 returns-in_default-clause-keeps g c v =
     keeps_at v c.args.self.now c.stays.new.self c.replace-stage.result (sym c.replace-stage.ensures.value)
     (keeps_same v (at c.args.self.now c.replace-stage.result) c.stays.new.self c.stays.ensures.stage)
+
+pub returns-in-Homing-clause-leaves : goal.returns-in-Homing-clause-leaves
+returns-in-Homing-clause-leaves g c quiet =
+    copies_at c.args.self.now c.first_home.new.self (stage.Homing c.in-Homing.homes) (sym c.replace-stage.ensures.value ∙ c.in-Homing.is)
+    c.first_home.ensures.leaves
+
+pub returns-in_default-clause-leaves : goal.returns-in_default-clause-leaves
+returns-in_default-clause-leaves g c quiet =
+    copies_at c.args.self.now c.stays.new.self c.replace-stage.result (sym c.replace-stage.ensures.value)
+    (copies_same (at c.args.self.now c.replace-stage.result) c.stays.new.self
+    (subst (λ (z : Stage g.row.V.Denot). is_loading (stage_of z) ≡ false) (sym c.replace-stage.ensures.value) quiet) c.stays.ensures.stage)

@@ -1,5 +1,7 @@
-use Rattle.std.proofs.Common.{◌≡◌, ◌∙◌, ℕ, ap, arith, length, refl, sym}
+use Rattle.std.proofs.Common.{◌≡◌, ◌∙◌, ℕ, ap, arith, length, refl, subst, sym}
+use Rattle.replay_log.specs.Contents.{HaveStripes}
 use Rattle.world_table.specs.Openings.{blocks_of, world_of}
+use Rattle.seq_model.specs.Contents.{Contents}
 use Rattle.tx_table.specs.Layout.{width}
 use Rattle.tx_table.specs.Opening.{blocks_at}
 use Rattle.tx_table.proofs.LaidOut.{few, few_words, locations_are, meets, row_for, slots_are, wide_as, words_are}
@@ -41,6 +43,10 @@ invariant_of-table g c =
     record {
       words_are = ap length c.words-words.ensures ∙ words_are key sh s laid row xs shape_is state_is e.shape row_is homes;
       locations_are = count ∙ locations_are key sh s laid row xs shape_is state_is e.shape row_is homes;
+      laid = (
+        c.in-Some.ensures.words ∙ ap (λ (z : Contents _). length z.words) (sym state_is),
+        c.in-Some.ensures.blocks ∙ (λ i. blocks_of (sym shape_is i).stripes (sym state_is i).held),
+      );
       wide = n.0 ∙ (wide_as key sh s laid row xs shape_is state_is e.shape row_is homes
           ∙ ap (λ (m : ℕ). width m (length (blocks_at key))) (sym count));
       slots = n.1 ∙ slots_are key sh s laid row xs shape_is state_is e.shape row_is homes;
@@ -63,3 +69,10 @@ returns-clause-blocks g c =
 
 pub returns-clause-contents : goal.returns-clause-contents
 returns-clause-contents g c = ap (λ k. k.state.value) c.in-Ok.ensures.ok.5 ∙ c.of-2.ensures
+
+pub returns-clause-stripes : goal.returns-clause-stripes
+returns-clause-stripes g c =
+    let n = c.in-Ok.ensures.ok in
+    let shape_is = ap (λ k. k.shape.value) n.5 ∙ c.of.ensures in
+    let state_is = ap (λ k. k.state.value) n.5 ∙ c.of-2.ensures in
+    subst (λ bs. HaveStripes bs) (λ i. blocks_of (sym shape_is i).stripes (sym state_is i).held) (c.in_ok-laid.ensures.stripes refl)

@@ -1,0 +1,111 @@
+//! What a call touches joins what a transaction has of collections, while the gate of its collection is held, and is taken back where
+//! the call is not made.
+ghost use Rattle.std.specs.Prelude.{◌≡◌, ◌+◌, ◌<◌, ◌≤◌, ◌^◌, IfOk, OnErr, OnOk, Some, length};
+ghost use Rattle.conflict.specs.declared.outcome.Outcome.{Outcome};
+ghost use Rattle.replay_log.specs.Base.{locations_of, outcome_of, shown_of, stripes_of};
+ghost use Rattle.actor_copies.specs.Copies.{IsKept};
+ghost use Rattle.actor_copies.specs.Kept.{HaveSame};
+ghost use Rattle.actor_copies.specs.Taking.{IsAdded, IsPushed, IsTakenAt, TakenBack, TakesBack, fits_base};
+
+use crate::copies::{Copied, CopyOf, Found};
+use crate::first::first_copy;
+use crate::footprints::place_of;
+use actor_words::has_room;
+use replay_log::Base;
+use seq_model::{Memory, Op, Value};
+use std::alloc::Global;
+use step_core::Actor;
+
+/// Whether the locations of the call on the base as it is fit the sets of the transaction. The collection begins at location `first`.
+/// It is asked before anything is learnt for the call: an edition that is learnt is not forgotten.
+pub fn fits_base<V: Value>(
+    words: &Actor,
+    base: &Base<V>,
+    first: u32,
+    op: &Op<V>,
+) -> Result<bool, Memory>
+    requires stripes { 0 < stripes_of base.now }
+    requires range { first + locations_of (stripes_of base.now) (shown_of base.now) ≤ 2 ^ 32 }
+    ensures { IfOk result (λ fits. (o : Outcome V) × (outcome_of op.now (shown_of base.now) ≡ Some o) × (fits ≡ fits_base words.now base.now first o)) }
+{
+    let outcome = base.outcome(op).or(Err(Memory))?;
+    let reads = base.reads(&outcome)?;
+    let writes = base.writes(&outcome)?;
+    Ok(has_room(words, first, &reads, &writes))
+}
+
+/// The copy has what was found besides. A whole collection that is copied already has all.
+fn add<V: Value>(copied: &mut Copied<V>, found: Found<V>) -> Result<(), Memory>
+    ensures ok { OnOk result (IsAdded found copied.old copied.new) }
+    ensures err { OnErr result (IsKept copied.old copied.new) }
+{
+    match found {
+        Found::Keys(touch) => copied.learn(touch),
+        Found::Whole(_) => Ok(()),
+    }
+}
+
+fn push_first<V: Value>(
+    copies: &mut Vec<CopyOf<V>>,
+    alloc: Global,
+    stripes: u32,
+    collection: u32,
+    found: Found<V>,
+) -> Result<(), Memory>
+    ensures ok { OnOk result (IsPushed stripes collection found copies.old.items copies.new.items) }
+    ensures err { OnErr result (copies.new.items ≡ copies.old.items) }
+{
+    copies.reserve(1)?;
+    match first_copy(alloc, stripes, found) {
+        Ok(copied) => {
+            copies.push_reserved(CopyOf { collection, copied });
+            Ok(())
+        }
+        Err(_) => Err(Memory),
+    }
+}
+
+/// What was found of the collection for a call is taken: where there is a copy of it that learns it, and else a first copy. Answers
+/// where that stands. A want of memory leaves the pieces that there were.
+pub fn take<V: Value>(
+    copies: &mut Vec<CopyOf<V>>,
+    alloc: Global,
+    stripes: u32,
+    collection: u32,
+    found: Found<V>,
+) -> Result<usize, Memory>
+    ensures ok { IfOk result (λ place. IsTakenAt stripes collection found place copies.old.items copies.new.items) }
+    ensures err { OnErr result (HaveSame copies.old.items copies.new.items) }
+{
+    match place_of(copies, collection) {
+        Some(place) => {
+            match add(&mut copies[place].copied, found) {
+                Ok(()) => Ok(place),
+                Err(_) => Err(Memory),
+            }
+        }
+        None => {
+            let place = copies.len();
+            push_first(copies, alloc, stripes, collection, found)?;
+            Ok(place)
+        }
+    }
+}
+
+/// What was taken for a call that is not made goes: the copy at this place forgets what the call touches, where it is one of the first
+/// `count` copies, and goes itself where it is not.
+pub fn take_back<V: Value>(copies: &mut Vec<CopyOf<V>>, count: usize, place: usize, op: &Op<V>)
+    requires { place < length copies.old.items }
+    ensures { TakesBack count place op.now copies.old.items copies.new.items }
+{
+    if place < count {
+        copies[place].copied.forget(op);
+    } else {
+        copies.truncate(count);
+    }
+}
+
+/// What was taken for a call that is not made, and is taken back, leaves the pieces that there were.
+pub fn taken_back<V: Value>()
+    ensures { TakenBack V }
+{}

@@ -1,0 +1,4 @@
+pub mod Draws
+pub mod Openings
+pub mod Options
+pub mod Sessions

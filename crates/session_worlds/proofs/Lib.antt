@@ -1,0 +1,4 @@
+pub mod FollowLemmas
+pub mod ServeLemmas
+pub mod PhaseLemmas
+pub mod AloneLemmas

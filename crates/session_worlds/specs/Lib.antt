@@ -1,0 +1,4 @@
+pub mod Alone
+pub mod Asking
+pub mod Phases
+pub mod Serial

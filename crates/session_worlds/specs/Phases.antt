@@ -1,0 +1,92 @@
+-- Where the transaction of an actor stands, as a client may know it: and what it is told says how it goes on.
+use Rattle.std.specs.Prelude.{◌≡◌, ◌⊎◌, ℕ, Bool, true, false, is_some, List, [], ◌∷◌, ◌++◌}
+use Rattle.seq_model.specs.declared.call.Call.{Call}
+use Rattle.seq_model.specs.declared.call.Op.TheVariants.{Read}
+use Rattle.seq_model.specs.declared.call.Reply.{Reply}
+use Rattle.seq_model.specs.declared.event.Answer.TheVariants as answer
+use Rattle.seq_model.specs.declared.event.Event.TheVariants.{Ask, Step}
+use Rattle.seq_model.specs.declared.event.Notice.{Notice}
+use Rattle.seq_model.specs.declared.event.Notice.TheVariants.{Quiet, Answered, Refused}
+use Rattle.seq_model.specs.declared.event.Request.{Request}
+use Rattle.seq_model.specs.declared.event.Request.TheVariants as request
+use Rattle.replay_log.specs.Worlds.{World, Seat, Stage, Idle, Beginning, Open, Locking, Releasing, Closing, Cancelling, Leaving, Reading}
+use Rattle.replay_log.specs.Worlds.{Trying, Copying, Loading, Gating, Ready, Storing, Homing, Returning, call_of, happens}
+use Rattle.replay_log.specs.WorldReplies.{as_call}
+use Rattle.replay_log.specs.WorldTraces.{committed_by}
+
+pub data Phase (V : Type 0) : Type 0 where
+  Rests : Phase V  -- it has no transaction
+  Begins : Phase V
+  Stands : List (Call V × Reply V) → Phase V  -- it is open, and these calls are made
+  Calls : List (Call V × Reply V) → Call V → Phase V  -- and this one is under way
+  Commits : List (Call V × Reply V) → Phase V  -- and is to commit
+  Committed : Phase V  -- it has committed, and is to release
+  Ends : Phase V  -- it is being given up
+
+module _ {V : Type 0} where
+  abbrev pub phase_at : List (Call V × Reply V) → Stage V → Phase V
+  phase_at calls Idle = Rests
+  phase_at calls Beginning = Begins
+  phase_at calls Open = Stands calls
+  phase_at calls (Reading l) = Calls calls (record { target = l; op = Read })
+  phase_at calls (Trying asked tries) = Calls calls (as_call asked)
+  phase_at calls (Copying asked) = Calls calls (as_call asked)
+  phase_at calls (Loading o left) = Calls calls (call_of o)
+  phase_at calls Locking = Commits calls
+  phase_at calls (Gating got ks tries) = Commits calls
+  phase_at calls (Ready ks) = Commits calls
+  phase_at calls Closing = Commits calls
+  phase_at calls (Storing ks) = Committed
+  phase_at calls (Homing ks) = Committed
+  phase_at calls Releasing = Committed
+  phase_at calls (Returning ks) = Ends
+  phase_at calls Cancelling = Ends
+  phase_at calls Leaving = Ends
+
+  abbrev pub phase : Seat V → Phase V
+  phase x = phase_at x.calls x.stage
+
+  -- What a call comes to, by what is told of it: with its reply it joins the calls before it; refused, it leaves them; else it is under
+  -- way, or its transaction is being given up.
+  abbrev pub CallMoves : List (Call V × Reply V) → Call V → Notice V → Phase V → Type 0
+  CallMoves calls call (Answered b (answer.Replied r)) later = later ≡ Stands (calls ++ (call, r) ∷ [])
+  CallMoves calls call (Refused b cause) later = later ≡ Stands calls
+  CallMoves calls call Quiet later = (later ≡ Calls calls call) ⊎ (later ≡ Ends)
+  CallMoves calls call n later = ⊥
+
+  -- what a step comes to, and whether it commits
+  abbrev pub StepMoves : Phase V → (commits : Bool) → Notice V → Phase V → Type 0
+  StepMoves Rests false (Refused b cause) later = later ≡ Rests
+  StepMoves Begins false (Answered b (answer.Begun rv)) later = later ≡ Stands []
+  StepMoves Begins false (Refused b cause) later = later ≡ Rests
+  StepMoves Begins false Quiet later = later ≡ Begins
+  StepMoves (Stands calls) false (Refused b cause) later = later ≡ Stands calls
+  StepMoves (Calls calls call) false n later = CallMoves calls call n later
+  StepMoves (Commits calls) false Quiet later = (later ≡ Commits calls) ⊎ (later ≡ Ends)
+  StepMoves (Commits calls) true Quiet later = later ≡ Committed
+  StepMoves (Commits calls) true (Answered b (answer.Committed n)) later = later ≡ Rests
+  StepMoves Committed false Quiet later = later ≡ Committed
+  StepMoves Committed false (Answered b (answer.Committed n)) later = later ≡ Rests
+  StepMoves Ends false Quiet later = later ≡ Ends
+  StepMoves Ends false (Answered b answer.Aborted) later = later ≡ Rests
+  StepMoves Ends false (Refused b cause) later = later ≡ Rests
+  StepMoves before commits n later = ⊥
+
+  -- what a request comes to
+  abbrev pub AskMoves : Phase V → Request V → Notice V → Phase V → Type 0
+  AskMoves Rests request.Begin Quiet later = later ≡ Begins
+  AskMoves Rests request.BeginRead Quiet later = later ≡ Begins
+  AskMoves (Stands calls) (request.Call call) n later = CallMoves calls call n later
+  AskMoves (Stands calls) request.Commit Quiet later = later ≡ Commits calls
+  AskMoves (Stands calls) request.Abort Quiet later = later ≡ Ends
+  AskMoves before q (Refused b cause) later = later ≡ before
+  AskMoves before q n later = ⊥
+
+-- what each step and each request of an actor comes to
+abbrev pub StepsMove : Type 0 → Type 0
+StepsMove V = (w : World V) (a : ℕ) → StepMoves (phase (w.seats a)) (is_some (committed_by (w.seats a) (w.seats a).stage))
+    (happens w (Step a)).1 (phase ((happens w (Step a)).0.seats a))
+
+abbrev pub AsksMove : Type 0 → Type 0
+AsksMove V = (w : World V) (a : ℕ) (q : Request V) → AskMoves (phase (w.seats a)) q (happens w (Ask a q)).1
+    (phase ((happens w (Ask a q)).0.seats a))

@@ -1,0 +1,37 @@
+use Rattle.std.proofs.Common.{IfOk, OnErr, OnOk, sym, subst, ◌∙◌}
+use Rattle.tx_actor.specs.Copying.{HasTaken, HasTakenAt, StepsOnAt}
+use Rattle.tx_actor.specs.Dispatch.{Starves}
+use Rattle.tx_actor.specs.Keeping.{KeepsIn}
+use Rattle.tx_actor.specs.Running.{at}
+use Rattle.tx_actor.specs.declared.actor.Stage.{Stage}
+use Rattle.tx_actor.specs.declared.actor.Told.TheVariants.{Quiet}
+use Rattle.tx_actor.proofs.actor.TxActor.copied.Goals as goal
+
+pub returns-in-Copying-clause-ok : goal.returns-in-Copying-clause-ok
+returns-in-Copying-clause-ok g c =
+    let r = c.args.self.now in
+    let n = c.has_copied.new.self in
+    subst (λ (s : Stage g.row.V.Denot). IfOk c.has_copied.result (λ told. StepsOnAt c.args.blocks.now (at r s) n told c.args.base.now s))
+    (sym (sym c.replace-stage.ensures.value ∙ c.in-Copying.is)) c.has_copied.ensures.ok
+
+pub returns-in-Copying-clause-err : goal.returns-in-Copying-clause-err
+returns-in-Copying-clause-err g c =
+    let r = c.args.self.now in
+    let n = c.has_copied.new.self in
+    subst (λ (s : Stage g.row.V.Denot). OnErr c.has_copied.result (Starves (at r s) n Quiet))
+    (sym (sym c.replace-stage.ensures.value ∙ c.in-Copying.is)) c.has_copied.ensures.err
+
+pub returns-in-Copying-clause-keeps : goal.returns-in-Copying-clause-keeps
+returns-in-Copying-clause-keeps g c noreads =
+    let r = c.args.self.now in
+    subst (λ (s : Stage g.row.V.Denot). KeepsIn c.args.blocks.now (at r s) c.has_copied.new.self)
+    (sym (sym c.replace-stage.ensures.value ∙ c.in-Copying.is)) (c.has_copied.ensures.keeps noreads)
+
+pub returns-in-Copying-clause-copies : goal.returns-in-Copying-clause-copies
+returns-in-Copying-clause-copies g c =
+    let r = c.args.self.now in
+    let n = c.has_copied.new.self in
+    subst (λ (s : Stage g.row.V.Denot). OnOk c.has_copied.result (HasTakenAt c.args.blocks.now (at r s) n c.args.base.now s))
+    (sym (sym c.replace-stage.ensures.value ∙ c.in-Copying.is))
+    (subst (λ (s : Stage g.row.V.Denot). OnOk c.has_copied.result (HasTaken c.args.blocks.now (at r s) n c.args.base.now c.in-Copying.asked))
+    c.replace-stage.ensures.after c.has_copied.ensures.copies)

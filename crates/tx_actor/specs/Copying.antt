@@ -1,0 +1,134 @@
+-- What a call makes of an actor that holds the gate of its collection, and is given the base.
+use Rattle.std.specs.Prelude.{◌≡◌, ◌⊎◌, ℕ, ◌+◌, ◌<◌, ◌≤◌, ◌^◌, Bool, true, false, List, Option, Some, None, length}
+use Rattle.std.specs.Global.{Vec}
+use Rattle.conflict.specs.declared.outcome.Outcome.{Outcome}
+use Rattle.replay_log.specs.declared.base.Base.{Base}
+use Rattle.replay_log.specs.Base.{locations_of, outcome_of, shown_of, stripes_of}
+use Rattle.replay_log.specs.Parts.{kind_of}
+use Rattle.replay_log.specs.Contents.{Block, block_of, content, first_of}
+use Rattle.replay_log.specs.Worlds as worlds
+use Rattle.replay_log.specs.Worlds.{World, actor_of, has_room, outcome_at, sized_by, step_at}
+use Rattle.step_core.specs.Shown as words
+use Rattle.step_core.specs.declared.actor.Place.TheVariants as place
+use Rattle.atomic_steps.specs.Bases.{IsBaseOf}
+use Rattle.actor_words.specs.Blocks.{BlocksView, IsLaid}
+use Rattle.actor_words.specs.Shows.{put_back}
+use Rattle.actor_copies.specs.declared.copies.Copied.{Copied}
+use Rattle.actor_copies.specs.declared.copies.CopyOf.{CopyOf}
+use Rattle.actor_copies.specs.declared.copies.Found.{Found}
+use Rattle.actor_copies.specs.Copied.{CopiesGoOn, IsCopyFor, IsTaken}
+use Rattle.actor_copies.specs.Copies.{IsFound, holds_call, holds_of}
+use Rattle.actor_copies.specs.Footprints.{base_in, places_in}
+use Rattle.actor_copies.specs.Kept.{HaveSame, copy_of}
+use Rattle.actor_copies.specs.Owns.{AreOfBlocks}
+use Rattle.actor_copies.specs.Sizes.{SizesAs}
+use Rattle.actor_copies.specs.Taking.{IsTakenAt, copy_with, fits_base}
+use Rattle.tx_actor.specs.declared.actor.Asked.{Asked}
+use Rattle.tx_actor.specs.declared.actor.Stage.{Stage}
+use Rattle.tx_actor.specs.declared.actor.Stage.TheVariants as stage
+use Rattle.tx_actor.specs.declared.actor.Told.{Told}
+use Rattle.tx_actor.specs.declared.actor.Told.TheVariants as told
+use Rattle.tx_actor.specs.declared.actor.TxActor.{TxActor}
+use Rattle.tx_actor.specs.declared.prepares.Readied.{Readied}
+use Rattle.actor_words.specs.Judged.{judged}
+use Rattle.tx_actor.specs.Answers.{CopiesAfter}
+use Rattle.tx_actor.specs.Prepares.{IsAlike, IsReadyCall, prepared_of}
+use Rattle.tx_actor.specs.Running.{Runs, asked_of, at, notice_of, seat_of}
+
+-- What is copied is of a base of the collection's block, and the call is one that this collection answers, which has not what the call
+-- touches, and may be asked. Whatever is copied of the base for it holds the call.
+pub record CanCopy {V : Type 0} (v : BlocksView) (r : TxActor V) (base : Base V) (asked : Asked V) : Type 0 where
+  pub rests : r.words.place ≡ place.Open
+  pub may : worlds.may_ask (words.actor_of r.words) asked.op ≡ true
+  pub blocks : AreOfBlocks v r.copies.items
+  pub block : Block
+  pub there : block_of v.blocks asked.collection ≡ Some block
+  pub among : asked.collection < length v.blocks
+  pub stripes : 0 < block.stripes
+  pub is : IsBaseOf block base
+  pub unheld : holds_of (copy_of r.copies.items asked.collection) asked.op ≡ false
+  pub holds : (x : Found V) (d : Copied V) → IsFound base asked.op x
+      → IsTaken block.stripes x (copy_of r.copies.items asked.collection) d → holds_call d asked.op ≡ true
+
+module _ {V : Type 0} where
+  -- u is r, but for its room, and for its copies, which show the same pieces
+  pub record IsUnmoved (r u : TxActor V) : Type 0 where
+    pub words : words.actor_of u.words ≡ words.actor_of r.words
+    pub place : u.words.place ≡ r.words.place
+    pub rv : u.rv ≡ r.rv
+    pub wv : u.wv ≡ r.wv
+    pub cause : u.cause ≡ r.cause
+    pub calls : u.calls.items ≡ r.calls.items
+    pub pieces : HaveSame r.copies.items u.copies.items
+
+  -- What was found is taken, for a call that is ready now, of the copy at place i.
+  pub record IsReadyAt (r u : TxActor V) (n f : ℕ) (found : Found V) (asked : Asked V) (i : ℕ) (x : Readied V) : Type 0 where
+    pub copies : Vec (CopyOf V)
+    pub at : IsTakenAt n asked.collection found i r.copies.items copies.items
+    pub alike : IsAlike (record r { copies = copies }) u
+    pub ready : IsReadyCall (record r { copies = copies }) u i f asked.op (copy_with asked.collection at.copy) (prepared_of x asked i)
+
+  -- The call is asked of a base in n stripes, of a collection that begins at location f, and this was found of it: so it may be taken.
+  pub record MayTake (r : TxActor V) (n f : ℕ) (found : Found V) (asked : Asked V) : Type 0 where
+    pub rests : r.words.place ≡ place.Open
+    pub may : worlds.may_ask (words.actor_of r.words) asked.op ≡ true
+    pub base : Base V
+    pub is : IsFound base asked.op found
+    pub stripes : 0 < n
+    pub kinds : (c : Copied V) → copy_of r.copies.items asked.collection ≡ Some c → kind_of (shown_of (base_in c)) ≡ kind_of (shown_of base)
+    pub unheld : holds_of (copy_of r.copies.items asked.collection) asked.op ≡ false
+    pub copy : (d : Copied V) → IsTaken n found (copy_of r.copies.items asked.collection) d
+        → (holds_call d asked.op ≡ true) × (0 < stripes_of (base_in d)) × (f + places_in d ≤ 2 ^ 32)
+
+  -- what the call touches of the base is taken, or the locations of the call don't fit the sets
+  abbrev pub AreReadyAt : BlocksView → (r u : TxActor V) → Base V → Asked V → Option (ℕ × Readied V) → Type 0
+  AreReadyAt v r u base asked None =
+      (u ≡ r) × ((o : Outcome V) × (outcome_of asked.op (shown_of base) ≡ Some o)
+      × (fits_base r.words base (first_of v.words v.blocks asked.collection) o ≡ false))
+  AreReadyAt v r u base asked (Some p) =
+      (b : Block) × (x : Found V) × (block_of v.blocks asked.collection ≡ Some b) × IsFound base asked.op x
+      × IsReadyAt r u b.stripes (first_of v.words v.blocks asked.collection) x asked p.0 p.1
+
+
+  -- A world in which the gate of the call is held, and the base is that of its collection: what is copied is the transaction's own or
+  -- doomed, the call goes on by it, and its locations fit the sets where those on the base do.
+  pub record MayCopy (v : BlocksView) (w : World V) (a : ℕ) (r : TxActor V) (base : Base V) (asked : Asked V) : Type 0 where
+    pub copy : (b : Block) (x : Found V) (d : Copied V) → block_of v.blocks asked.collection ≡ Some b → IsFound base asked.op x
+        → IsTaken b.stripes x (copy_of r.copies.items asked.collection) d → IsCopyFor w a b (asked_of asked) d
+    pub goes_on : CopiesGoOn w a (asked_of asked)
+    pub sizes : (o : Outcome V) → outcome_of asked.op (shown_of base) ≡ Some o → SizesAs w a (asked_of asked) base o
+
+  -- In every such world the actor is, after the step, what the world makes of its seat.
+  abbrev pub StepsOn : BlocksView → TxActor V → TxActor V → Told V → Base V → Asked V → Type 0
+  StepsOn v r u t base asked =
+      (a : ℕ) (w : World V) → IsLaid v w → Runs a r w → MayCopy v w a r base asked →
+      let f = step_at w a (seat_of r) (worlds.Copying (asked_of asked)) in
+      Runs a u f.0 × (notice_of a t ≡ f.1)
+
+  abbrev pub CanCopyAt : BlocksView → TxActor V → Base V → Stage V → Type 0
+  CanCopyAt v r base (stage.Copying asked) = CanCopy v r base asked
+  CanCopyAt v r base s = Unit {0}
+
+  abbrev pub StepsOnAt : BlocksView → TxActor V → TxActor V → Told V → Base V → Stage V → Type 0
+  StepsOnAt v r u t base (stage.Copying asked) = StepsOn v r u t base asked
+  StepsOnAt v r u t base s = (u ≡ r) × (t ≡ told.Quiet)
+
+  -- A call that is ready now, of a copy that was taken for it: how it is judged is what becomes of the copies.
+  pub record HasGoneOn (v : BlocksView) (r u : TxActor V) (base : Base V) (asked : Asked V) : Type 0 where
+    pub block : Block
+    pub found : Found V
+    pub at : ℕ
+    pub call : Readied V
+    pub middle : TxActor V
+    pub there : block_of v.blocks asked.collection ≡ Some block
+    pub is : IsFound base asked.op found
+    pub ready : IsReadyAt r middle block.stripes (first_of v.words v.blocks asked.collection) found asked at call
+    pub after : CopiesAfter (judged middle.words.reads.entries call.left.items) (prepared_of call asked at).call middle.copies.items u.copies.items
+
+  -- What the step leaves of the copies: all of them, of a call that is TooLong.
+  abbrev pub HasTaken : BlocksView → TxActor V → TxActor V → Base V → Asked V → Type 0
+  HasTaken v r u base asked = ((u.stage ≡ stage.Open) × (u.copies ≡ r.copies)) ⊎ HasGoneOn v r u base asked
+
+  abbrev pub HasTakenAt : BlocksView → TxActor V → TxActor V → Base V → Stage V → Type 0
+  HasTakenAt v r u base (stage.Copying asked) = HasTaken v (at r stage.Idle) u base asked
+  HasTakenAt v r u base s = u ≡ r

@@ -1,0 +1,125 @@
+//! What a call makes of its actor while the gate of its collection is held: what it touches is copied from the base, and it goes on by
+//! that copy once the gate is put back.
+ghost use Rattle.std.specs.Prelude.{◌≡◌, ◌<◌, ◌+◌, ◌≤◌, ◌^◌, IfOk, OnErr, OnOk, Some, length};
+ghost use Rattle.replay_log.specs.Base.{locations_of, shown_of, stripes_of};
+ghost use Rattle.replay_log.specs.Contents.{block_of, first_of};
+ghost use Rattle.actor_copies.specs.Copies.{IsFound};
+ghost use Rattle.tx_actor.specs.Copying.{AreReadyAt, CanCopy, CanCopyAt, HasTaken, HasTakenAt, IsReadyAt, IsUnmoved, MayTake, StepsOn, StepsOnAt};
+ghost use Rattle.actor_words.specs.Requests.{HasNoReads};
+ghost use Rattle.tx_actor.specs.Dispatch.{Starves};
+ghost use Rattle.tx_actor.specs.Keeping.{KeepsIn};
+ghost use Rattle.tx_actor.specs.Running.{at};
+ghost use Rattle.tx_actor.specs.declared.actor.Told.TheVariants as told;
+
+use crate::actor::{Asked, Stage, Told, TxActor};
+use crate::prepares::Readied;
+use actor_copies::{Found, find, fits_base, take, take_back};
+use actor_words::Blocks;
+use replay_log::Base;
+use seq_model::{Memory, Refusal, Value};
+use std::alloc::Global;
+use std::mem;
+
+impl<V: Value> TxActor<V> {
+    /// What was found for the call is taken, and what the call takes is made ready. Answers where the copy of its collection stands. A
+    /// want of memory takes it back.
+    fn readies_copy(
+        &mut self,
+        alloc: Global,
+        stripes: u32,
+        first: u32,
+        found: Found<V>,
+        asked: &Asked<V>,
+    ) -> Result<(usize, Readied<V>), Memory>
+        requires { MayTake self.old stripes first found asked.now }
+        ensures ok { IfOk result (λ readied. IsReadyAt self.old self.new stripes first found asked.now readied.0 readied.1) }
+        ensures err { OnErr result (IsUnmoved self.old self.new) }
+    {
+        let count = self.copies.len();
+        let place = take(&mut self.copies, alloc, stripes, asked.collection, found)?;
+        match self.readies(alloc, place, first, &asked.op) {
+            Ok(Some(readied)) => Ok((place, readied)),
+            _ => {
+                take_back(&mut self.copies, count, place, &asked.op);
+                Err(Memory)
+            }
+        }
+    }
+
+    /// What the call touches of the base is copied, where its locations fit the sets; none where they don't.
+    fn copies_for(
+        &mut self,
+        alloc: Global,
+        blocks: &Blocks,
+        base: &Base<V>,
+        asked: &Asked<V>,
+    ) -> Result<Option<(usize, Readied<V>)>, Memory>
+        requires { CanCopy blocks.now self.old base.now asked.now }
+        ensures ok { IfOk result (λ copied. AreReadyAt blocks.now self.old self.new base.now asked.now copied) }
+        ensures err { OnErr result (IsUnmoved self.old self.new) }
+    {
+        let first = blocks.first_of(asked.collection);
+        if !fits_base(&self.words, base, first, &asked.op)? {
+            return Ok(None);
+        }
+        let stripes = blocks.stripes_of(asked.collection);
+        match find(base, &asked.op) {
+            Ok(found) => {
+                let copied = self.readies_copy(alloc, stripes, first, found, asked)?;
+                Ok(Some(copied))
+            }
+            Err(_) => Err(Memory),
+        }
+    }
+
+    fn has_copied(
+        &mut self,
+        alloc: Global,
+        blocks: &Blocks,
+        base: &Base<V>,
+        asked: Asked<V>,
+    ) -> Result<Told<V>, Memory>
+        requires { CanCopy blocks.now self.old base.now asked }
+        ensures ok { IfOk result (λ told. StepsOn blocks.now (at self.old (Stage.Copying asked)) self.new told base.now asked) }
+        ensures err { OnErr result (Starves (at self.old (Stage.Copying asked)) self.new told.Quiet) }
+        ensures keeps { HasNoReads self.old.words → KeepsIn blocks.now (at self.old (Stage.Copying asked)) self.new }
+        ensures copies { OnOk result (HasTaken blocks.now self.old self.new base.now asked) }
+    {
+        match self.copies_for(alloc, blocks, base, &asked) {
+            Ok(Some((place, readied))) => {
+                let prepared = readied.prepared(asked, place);
+                Ok(self.goes_on(prepared.call, prepared.left))
+            }
+            Ok(None) => {
+                self.stage = Stage::Open;
+                Ok(Told::Refused(Refusal::TooLong))
+            }
+            Err(_) => {
+                let _ = self.starves_copying(asked.collection);
+                Err(Memory)
+            }
+        }
+    }
+
+    /// The gate of its call is held, and this is the base of the call's collection: what the call touches is copied, and the gate may be put
+    /// back. `TooLong` where its locations don't fit the sets, else it is accepted, or a location is read first, or the transaction is
+    /// given up, as the copy is stale. With a want of memory the transaction is given up as one that starves, and holds the gate.
+    pub fn copied(
+        &mut self,
+        alloc: Global,
+        blocks: &Blocks,
+        base: &Base<V>,
+    ) -> Result<Told<V>, Memory>
+        requires { CanCopyAt blocks.now self.old base.now self.old.stage }
+        ensures ok { IfOk result (λ told. StepsOnAt blocks.now self.old self.new told base.now self.old.stage) }
+        ensures err { OnErr result (Starves self.old self.new told.Quiet) }
+        ensures keeps { HasNoReads self.old.words → KeepsIn blocks.now self.old self.new }
+        ensures copies { OnOk result (HasTakenAt blocks.now self.old self.new base.now self.old.stage) }
+    {
+        let stage = mem::replace(&mut self.stage, Stage::Idle);
+        match stage {
+            Stage::Copying(asked) => self.has_copied(alloc, blocks, base, asked),
+            other => Ok(self.stays(other)),
+        }
+    }
+}
