@@ -260,10 +260,10 @@ module _ {V : Type 0} where
               all b s v a (sym alike.words ∙ laid.0, sym alike.blocks ∙ laid.1) running
               (asked r s w v a still (asked_reads stay join w a (call_in q) f (reached_stays stays o w reached (Ask a q))) whole own))
           | inr other ↦ elim (apart other) [
-              | inl begins ↦ subst (λ (t : own.Stage V). HasCopiesAt s v a t) (sym begins) tt
-              | inr same ↦ subst (λ (z : TxActor V). HasCopies z v a) (sym same)
-                  (subst (λ (p : After V). HasCopies r p.0 a) (sym e) (ask_stays w a (seat_of r) r q r.stage other h))
-            ]
+            | inl begins ↦ subst (λ (t : own.Stage V). HasCopiesAt s v a t) (sym begins) tt
+            | inr same ↦ subst (λ (z : TxActor V). HasCopies z v a) (sym same)
+                (subst (λ (p : After V). HasCopies r p.0 a) (sym e) (ask_stays w a (seat_of r) r q r.stage other h))
+          ]
         ];
     others = others_keep stand law (Ask a q);
   }
@@ -315,7 +315,7 @@ module _ {V : Type 0} where
             all b s w a laid running
             (record { own = stands.1 a w whole.own; read = λ k. still w a k (whole.read k) }))
         | inr other ↦ elim (apart other) [
-            | inl begins ↦ subst (λ (t : own.Stage V). HasCopiesAt s w a t) (sym begins) tt
-            | inr same ↦ subst (λ (z : TxActor V). HasCopies z w a) (sym same) h
-          ]
+          | inl begins ↦ subst (λ (t : own.Stage V). HasCopiesAt s w a t) (sym begins) tt
+          | inr same ↦ subst (λ (z : TxActor V). HasCopies z w a) (sym same) h
+        ]
       ]

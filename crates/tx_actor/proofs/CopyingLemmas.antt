@@ -305,7 +305,7 @@ module _ {V : Type 0} where
               let accept = may_accept t a b f d p.call o mine on_copy g.0 in
               (accept, ap (λ (q : contents.Answered V). q.outcome) accept.outcome))
           | inr doomed ↦ absurd (never (actor_of t a).calls (actor_of t a).calls es (λ l e h. h)
-          (subst (IsDoomed (actor_of t a).calls) (sym (copied.editions o ready.ready.answer)) (doomed o ready.ready.answer)) g.1)
+              (subst (IsDoomed (actor_of t a).calls) (sym (copied.editions o ready.ready.answer)) (doomed o ready.ready.answer)) g.1)
         ]
 
     answers : MayAnswer t a u.words own.outcome p.call p.left.items

@@ -258,4 +258,3 @@ module _ {V : Type 0} where
         omega (arith, calls, same),
         λ plain. (let reads = ready.prepared.reads d.0 o d.1 ready.is plain in omega (arith, reads, same)),
       )
-

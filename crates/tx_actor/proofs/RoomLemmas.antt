@@ -290,16 +290,16 @@ same_keeps n x y rests same placed =
     let wv : y.wv ≡ x.wv = ap (λ (q : machine.Actor). q.wv) same in
     record {
       fits = λ f. (let fx = f.wv in record {
-          reads = subst (All (λ (e : ℕ × ℕ). e.0 < n)) (sym reads) f.reads;
-          writes = subst (All (λ (e : ℕ × ℕ). e.0 < n)) (sym writes) f.writes;
-          reads_rise = subst IsRising (sym reads) f.reads_rise;
-          writes_rise = subst IsRising (sym writes) f.writes_rise;
-          reads_few = subst (λ (es : Entries). length es ≤ 4096) (sym reads) f.reads_few;
-          writes_few = subst (λ (es : Entries). length es ≤ 4096) (sym writes) f.writes_few;
-          held = subst (All (λ (e : ℕ × ℕ). (e.0 < n) × (e.1 < 2 ^ 63))) (sym held) f.held;
-          wv = omega (arith, fx, wv);
-          place = subst (λ (p : Place). FitsPlace n y p) (sym (placed ∙ rests)) tt;
-        });
+        reads = subst (All (λ (e : ℕ × ℕ). e.0 < n)) (sym reads) f.reads;
+        writes = subst (All (λ (e : ℕ × ℕ). e.0 < n)) (sym writes) f.writes;
+        reads_rise = subst IsRising (sym reads) f.reads_rise;
+        writes_rise = subst IsRising (sym writes) f.writes_rise;
+        reads_few = subst (λ (es : Entries). length es ≤ 4096) (sym reads) f.reads_few;
+        writes_few = subst (λ (es : Entries). length es ≤ 4096) (sym writes) f.writes_few;
+        held = subst (All (λ (e : ℕ × ℕ). (e.0 < n) × (e.1 < 2 ^ 63))) (sym held) f.held;
+        wv = omega (arith, fx, wv);
+        place = subst (λ (p : Place). FitsPlace n y p) (sym (placed ∙ rests)) tt;
+      });
       owed = subst (λ (p : Place). owed p ≤ owed x.place) (sym placed) (omega arith);
       due = subst (λ (p : Place). due p ≤ due x.place) (sym placed) (omega arith);
     }
@@ -339,22 +339,22 @@ module _ {V : Type 0} where
       let low : c.0 < end = all_head (λ (d : ℕ × ℕ). d.0 < end) c gs (subst (All (λ (d : ℕ × ℕ). d.0 < end)) items below) in
       record {
         running = λ i. record {
-            fits = fits_look end r.words c gs (length o.writes.items) l here none first.3 low i.fits;
-            room = record {
-              place = subst (λ (fs : Entries). IsLoadOf (place.Look l) fs) (sym items) (sym first.3);
-              room = record { calls = room.calls; reads = room.reads; few = room.few; none = room.none };
-              accept = accept_look r (stage.Loading o left) l o accept;
-            };
-            names = can.named;
-            call = record {
-              reads = below;
-              writes = can.call.writes;
-              copy = can.call.copy;
-              at = can.call.at;
-              answer = can.call.answer;
-              call_on = can.call.call_on;
-            };
+          fits = fits_look end r.words c gs (length o.writes.items) l here none first.3 low i.fits;
+          room = record {
+            place = subst (λ (fs : Entries). IsLoadOf (place.Look l) fs) (sym items) (sym first.3);
+            room = record { calls = room.calls; reads = room.reads; few = room.few; none = room.none };
+            accept = accept_look r (stage.Loading o left) l o accept;
           };
+          names = can.named;
+          call = record {
+            reads = below;
+            writes = can.call.writes;
+            copy = can.call.copy;
+            at = can.call.at;
+            answer = can.call.answer;
+            call_on = can.call.call_on;
+          };
+        };
         owed = subst (λ (p : Place). 1 ≤ owed p) (sym accept.writes.0) (omega arith);
       }
 

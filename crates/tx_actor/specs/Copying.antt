@@ -89,7 +89,6 @@ module _ {V : Type 0} where
       (b : Block) × (x : Found V) × (block_of v.blocks asked.collection ≡ Some b) × IsFound base asked.op x
       × IsReadyAt r u b.stripes (first_of v.words v.blocks asked.collection) x asked p.0 p.1
 
-
   -- A world in which the gate of the call is held, and the base is that of its collection: what is copied is the transaction's own or
   -- doomed, the call goes on by it, and its locations fit the sets where those on the base do.
   pub record MayCopy (v : BlocksView) (w : World V) (a : ℕ) (r : TxActor V) (base : Base V) (asked : Asked V) : Type 0 where
