@@ -83,12 +83,17 @@ IsLoad (Fetch l k) = Unit {0}
 IsLoad (Again l k v) = Unit {0}
 IsLoad p = ⊥
 
--- it leaves the room that there is for more calls and writes, and takes that of one read at most
+-- what a load takes that leaves its actor here: room for one read, where it was told, and else none
+abbrev pub taken_at : Place → ℕ
+taken_at Open = 1
+taken_at p = 0
+
+-- it leaves the room that there is for more calls and writes, but for what it takes
 pub record KeepsRoom (x y : Actor) : Type 0 where
   pub calls : vec_capacity y.calls ≡ vec_capacity x.calls
-  pub count : vec_len y.calls ≤ vec_len x.calls + 1
+  pub count : vec_len y.calls ≤ vec_len x.calls + taken_at y.place
   pub writes : y.writes.room ≡ x.writes.room
-  pub reads : x.reads.room ≤ y.reads.room + 1
+  pub reads : x.reads.room ≤ y.reads.room + taken_at y.place
 
 -- actor a stands at p
 abbrev pub At : Machine → ℕ → Place → Type 0
