@@ -16,3 +16,4 @@ mod HavingLemmas
 mod RoomLemmas
 mod HeardLemmas
 mod StageLemmas
+mod ReadingLemmas

@@ -81,7 +81,7 @@ rising_entries es [] h = h
 rising_entries es (d ∷ ds) h = rising_entries (with_entry es d.0 d.1) ds (IsRising-with_entry es d.0 d.1 h)
 
 -- an entry more takes no more than was left for it
-one_more : (es : Entries) (l v : ℕ) (ls : List ℕ) → IsRising es
+pub one_more : (es : Entries) (l v : ℕ) (ls : List ℕ) → IsRising es
     → length (with_entry es l v) + length (new_in (with_entry es l v) ls) ≤ length es + length (new_in es (l ∷ ls))
 one_more es l v ls rising = by (lookup es l) refl
   where

@@ -5,6 +5,7 @@ pub mod Keeping
 pub mod Asks
 pub mod Owns
 pub mod Prepares
+pub mod Reading
 pub mod Copying
 pub mod Loads
 pub mod Calls

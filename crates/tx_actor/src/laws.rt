@@ -18,6 +18,7 @@ ghost use Rattle.actor_copies.specs.Copied.{IsReadOf};
 ghost use Rattle.actor_copies.specs.Staying.{Stays};
 ghost use Rattle.tx_actor.specs.Having.{HasCopies, KeepsCopies, OwnsAll, ReadsStill};
 ghost use Rattle.tx_actor.specs.Keeping.{IsRunning};
+ghost use Rattle.tx_actor.specs.Reading.{LoadsKeep};
 ghost use Rattle.tx_actor.specs.Owns.{OwnsCopies};
 
 use crate::actor::Stage;
@@ -32,6 +33,12 @@ pub fn loads_as_worlds<V: Value>()
     ensures reached { LoadsReached V }
     ensures heard { MayHear V }
     ensures kept { KeepsCall V }
+{}
+
+/// While a call's locations are read, a step of the word actor tells nothing, and is in a load of the same location, with the room as it
+/// was; or it has read the edition, and there is room for the other locations and for the writes; or the location has moved.
+pub fn loads_keep_running<V: Value>()
+    ensures { LoadsKeep V }
 {}
 
 /// In a world that shows an actor its seat does next what the actor does, and a want of memory, or what a load told, makes of it what it
