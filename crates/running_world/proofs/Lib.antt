@@ -6,5 +6,6 @@ pub mod PrepareLemmas
 pub mod SeatLemmas
 pub mod TraceLemmas
 pub mod TurnLemmas
+pub mod LoadLemmas
 pub mod WorldLemmas
 mod OwnTurnLemmas

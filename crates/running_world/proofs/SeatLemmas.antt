@@ -73,6 +73,13 @@ module _ {V : Type 0} where
   pub next_as : (w : World V) (a : ℕ) (r : TxActor V) → Runs a r w → next_of (w.seats a).stage ≡ next_of (stage_of r.stage)
   next_as w a r runs = ap (λ (x : Seat V). next_of x.stage) runs.0 ∙ next_at (w.seats a) (seat_of r) r.stage
 
+  loading_at : (x y : Seat V) (t : own.Stage V) → is_loading (seat_by x y t).stage ≡ is_loading (stage_of t)
+  loading_at x y (stage.Loading o left) = refl
+  loading_at x y t = refl
+
+  pub loading_as : (w : World V) (a : ℕ) (r : TxActor V) → Runs a r w → is_loading (w.seats a).stage ≡ is_loading (stage_of r.stage)
+  loading_as w a r runs = ap (λ (x : Seat V). is_loading x.stage) runs.0 ∙ loading_at (w.seats a) (seat_of r) r.stage
+
   ready_at : (x y : Seat V) (t : own.Stage V) (ks : List ℕ) → (seat_by x y t).stage ≡ Ready ks → stage_of t ≡ Ready ks
   ready_at x y (stage.Loading o left) ks e = let z : ⊥ = cc in absurd z
   ready_at x y t ks e = e

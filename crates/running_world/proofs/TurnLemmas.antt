@@ -243,7 +243,7 @@ module _ {V : Type 0} where
   }
 
   -- ---- the action that is due
-  due_word : (a : ℕ) (o : Option (Action (Asked V))) → IsDue a next.Word o → o ≡ Some (moves a)
+  pub due_word : (a : ℕ) (o : Option (Action (Asked V))) → IsDue a next.Word o → o ≡ Some (moves a)
   due_word a None h = absurd h
   due_word a (Some e) h = ap Some h
 
@@ -267,7 +267,7 @@ module _ {V : Type 0} where
   same_world w a (Ready ks) ne = absurd (ne refl)
   same_world w a s ne = refl
 
-  action_has : (t : Table V) (w u : World V) (a : ℕ) (x : Seat V) (s : Stage V) (e : Action (Asked V))
+  pub action_has : (t : Table V) (w u : World V) (a : ℕ) (x : Seat V) (s : Stage V) (e : Action (Asked V))
       → (next_of s ≡ next.FirstStore → ⊥) → step_action w a s ≡ Some e → Does a (ready_at a w s) x s (atomic_action a w s) u
       → HasTable t (acted w (e ∷ [])) → HasTable t u
   action_has t w u a x s e ne is d h =

@@ -1,5 +1,6 @@
 pub mod Feeds
 pub mod Homes
+pub mod Loading
 pub mod Openings
 pub mod Parts
 pub mod Reached

@@ -6,6 +6,7 @@
 
 mod feeding;
 mod homes;
+mod loading;
 mod opening;
 mod parts;
 mod steps;
