@@ -1,0 +1,4 @@
+pub mod DueLemmas
+pub mod FoundLemmas
+pub mod TurnLemmas
+pub mod FirstLemmas
