@@ -112,7 +112,7 @@ module _ {V : Type 0} where
         let d = content u.words u.blocks in
         let es = with_editions editions (d.reads o) in
         choose M a (has_room (actor_of u a) (d.reads sized) (d.writes sized)) (loads u a x o es) _ (loaded es u a x o e is)
-        (sits M u a (at_stage before Open) (Refused a refusal.TooLong) (ap Stands old))
+        (sits M u a (at_stage before Open) (Refused a refusal.TooLong) (ap Stands old, tt))
 
     called_on : (w : World V) (a : ℕ) (x : Seat V) (asked : Asked V) → x.calls ≡ calls → as_call asked ≡ call
         → Turns M a (calls_on w a x asked)
@@ -126,8 +126,8 @@ module _ {V : Type 0} where
         → Turns M a next → Turns M a (if_allowed w a x known room next)
     allowed w a x known room next seat at e h =
         choose M a known _ _
-        (choose M a (nat_lt (length x.calls) CALL_LIMIT && room) next _ h (stays M w a x Open (Refused a refusal.TooLong) seat at (ap Stands e)))
-        (stays M w a x Open (Refused a refusal.NoSuch) seat at (ap Stands e))
+        (choose M a (nat_lt (length x.calls) CALL_LIMIT && room) next _ h (stays M w a x Open (Refused a refusal.TooLong) seat at (ap Stands e, tt)))
+        (stays M w a x Open (Refused a refusal.NoSuch) seat at (ap Stands e, tt))
 
     word_read : (w : World V) (a : ℕ) (x : Seat V) (l : ℕ) (n : told.Notice) → x.calls ≡ calls → record { target = l; op = Read } ≡ call
         → Turns M a (reads w a x l n)

@@ -9,6 +9,8 @@ use Rattle.seq_model.specs.declared.event.Notice.{Notice}
 use Rattle.seq_model.specs.declared.event.Notice.TheVariants.{Quiet, Answered, Refused}
 use Rattle.seq_model.specs.declared.event.Request.{Request}
 use Rattle.seq_model.specs.declared.event.Request.TheVariants as request
+use Rattle.seq_model.specs.declared.refusal.Refusal.{Refusal}
+use Rattle.seq_model.specs.declared.refusal.Refusal.TheVariants.{NoSuch, TooLong}
 use Rattle.replay_log.specs.Worlds.{World, Seat, Stage, Idle, Beginning, Open, Locking, Releasing, Closing, Cancelling, Leaving, Reading}
 use Rattle.replay_log.specs.Worlds.{Trying, Copying, Loading, Gating, Ready, Storing, Homing, Returning, call_of, happens}
 use Rattle.replay_log.specs.WorldReplies.{as_call}
@@ -22,6 +24,12 @@ pub data Phase (V : Type 0) : Type 0 where
   Commits : List (Call V × Reply V) → Phase V  -- and is to commit
   Committed : Phase V  -- it has committed, and is to release
   Ends : Phase V  -- it is being given up
+
+-- a call that nothing answers, or one too many
+abbrev pub IsMistaken : Refusal → Type 0
+IsMistaken NoSuch = Unit {0}
+IsMistaken TooLong = Unit {0}
+IsMistaken cause = ⊥
 
 module _ {V : Type 0} where
   abbrev pub phase_at : List (Call V × Reply V) → Stage V → Phase V
@@ -46,11 +54,11 @@ module _ {V : Type 0} where
   abbrev pub phase : Seat V → Phase V
   phase x = phase_at x.calls x.stage
 
-  -- What a call comes to, by what is told of it: with its reply it joins the calls before it; refused, it leaves them; else it is under
-  -- way, or its transaction is being given up.
+  -- What a call comes to, by what is told of it: with its reply it joins the calls before it; refused, which is as NoSuch or TooLong, it
+  -- leaves them; else it is under way, or its transaction is being given up.
   abbrev pub CallMoves : List (Call V × Reply V) → Call V → Notice V → Phase V → Type 0
   CallMoves calls call (Answered b (answer.Replied r)) later = later ≡ Stands (calls ++ (call, r) ∷ [])
-  CallMoves calls call (Refused b cause) later = later ≡ Stands calls
+  CallMoves calls call (Refused b cause) later = (later ≡ Stands calls) × IsMistaken cause
   CallMoves calls call Quiet later = (later ≡ Calls calls call) ⊎ (later ≡ Ends)
   CallMoves calls call n later = ⊥
 
