@@ -2,3 +2,4 @@ pub mod DueLemmas
 pub mod FoundLemmas
 pub mod TurnLemmas
 pub mod FirstLemmas
+pub mod AskedLemmas

@@ -6,6 +6,8 @@
 //! makes of what was found there: it keeps the tie, tells what the definitions tell, and the seat gains what the step commits.
 #![tactic(auto)]
 
+mod asks;
 mod words;
 
+pub use asks::{ask_abort, ask_begin, ask_begin_read, ask_commit, ask_read, ask_write};
 pub use words::{close, step_word, store_first};

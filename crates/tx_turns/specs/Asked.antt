@@ -1,0 +1,28 @@
+-- What a request makes of a seat, and what it is answered at once.
+use Rattle.std.specs.Prelude.{◌≡◌, ℕ, [], ◌∷◌, ◌++◌}
+use Rattle.seq_model.specs.declared.event.Event.TheVariants.{Ask}
+use Rattle.seq_model.specs.declared.call.Op.TheVariants.{Read, Write}
+use Rattle.seq_model.specs.declared.event.Request.{Request}
+use Rattle.seq_model.specs.declared.event.Request.TheVariants.{Call}
+use Rattle.replay_log.specs.Seats.{World}
+use Rattle.replay_log.specs.Worlds.{happens}
+use Rattle.tx_actor.specs.Running.{notice_of}
+use Rattle.tx_actor.specs.declared.actor.Told.{Told}
+use Rattle.tx_table.specs.declared.seat.Seat.{Seat}
+use Rattle.tx_table.specs.Seated.{IsSameSeat, actor, acts, list_of}
+
+module _ {V : Type 0} where
+  -- the seat's actor has asked this too since its last step; the number of the event is no matter
+  abbrev pub HasAsked : Seat V → Request V → Seat V → Type 0
+  HasAsked s q u = IsSameSeat s u × (u.place.me ≡ s.place.me) × (list_of u.asked ≡ list_of s.asked ++ Ask 0 q ∷ [])
+
+  -- the requests on a word
+  abbrev pub read_of : ℕ → Request V
+  read_of word = Call (record { target = word; op = Read })
+
+  abbrev pub write_of : ℕ → ℕ → Request V
+  write_of word value = Call (record { target = word; op = Write value })
+
+  -- the definitions answer the request so, in the own world of the seat
+  abbrev pub Answers : World V → Seat V → Request V → Told V → Type 0
+  Answers o s q n = notice_of (actor s) n ≡ (happens (acts o s) (Ask (actor s) q)).1
