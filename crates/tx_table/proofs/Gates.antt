@@ -27,7 +27,7 @@ use Rattle.atomic_steps.specs.Bases.{ShowsBase}
 use Rattle.atomic_steps.specs.Clock.{stamps_left, Grows}
 use Rattle.atomic_steps.specs.Gates.{Tries, Puts, GoesHome, Gated}
 use Rattle.atomic_steps.specs.Machine.{FindsBelow}
-use Rattle.atomic_steps.specs.Own.{Alike, FindsBy, FindsAt, SameCopy}
+use Rattle.atomic_steps.specs.Own.{Alike, FindsBy, FindsAt, SameAfter, SameCopy}
 use Rattle.atomic_steps.specs.Spots.{Spot, Gate, spot_by, gate_word, found_gate}
 use Rattle.atomic_steps.specs.Steps.{atomic_action, ready_at}
 use Rattle.atomic_steps.proofs.Alike.{alike_trans, action_same, spot_same}
@@ -37,10 +37,10 @@ use Rattle.atomic_steps.proofs.OwnEvents.{own_event}
 use Rattle.atomic_steps.proofs.Spots.{Keeps, one_spot, after_calm}
 use Rattle.atomic_steps.proofs.Turned.{try_turned, put_turned, home_turned, home_same}
 use Rattle.tx_table.specs.Layout.{address, gate_address, width}
-use Rattle.tx_table.specs.Turns.{Turn, asked_all, stage_of, spot, parts_found, editions_found, found_at, ends, took, lone}
-use Rattle.tx_table.specs.Shown.{View, Slot, total, acting, IsBaseAt, OneBase, HomeOk, Table, Shows, Rule, Told, Took}
+use Rattle.tx_table.specs.Turns.{Turn, asked_all, stage_of, spot, parts_found, editions_found, found_at, moved, ends, took, lone}
+use Rattle.tx_table.specs.Shown.{View, Slot, total, acting, HasHappened, IsBaseAt, OneBase, HomeOk, Table, Shows, Rule, Told, Took}
 use Rattle.tx_table.proofs.Turned.{asked_calm, asked_alike, found_alike, records_grow}
-use Rattle.tx_table.proofs.Keeps.{gate_apart, base_trans, base_sym, calm_base, keeps_base, ends_same, shows_after, own_all, run_append, run_own}
+use Rattle.tx_table.proofs.Keeps.{gate_apart, base_trans, base_sym, calm_base, has_happened, keeps_base, ends_same, shows_after, own_all, run_append, run_own}
 
 pub at_set_same : {A : Type 0} → (l : List A) (k : ℕ) (x y : A) → get_elem? l k ≡ some x → get_elem? (set l k y) k ≡ some y
 at_set_same [] k x y e = absurd (some-ne-none x (sym e))
@@ -66,6 +66,12 @@ gates_apart n k j ne e = ne (omega arith)
 module _ {V : Type 0} where
   tries_spot : (a : ℕ) (v : World V) (k : ℕ) → Tries v a k → spot a v ≡ Gate k
   tries_spot a v k e = ap (spot_by a (ready_at a v (stage_of v a))) e
+
+  -- what is so of the step where this is found at a gate is so of the next step there
+  at_gate : (a : ℕ) (v w : World V) (k n : ℕ) (b : Maybe (Base V)) → spot a w ≡ Gate k
+      → SameAfter a (happens v (Step a)) (happens (found_at a w (Gate k) n b) (Step a)) → SameAfter a (happens v (Step a)) (moved a w n b)
+  at_gate a v w k n b e h =
+      subst (λ (z : Spot). SameAfter a (happens v (Step a)) (happens (found_at a w z n b) (Step a))) (sym e) h
 
   puts_spot : (a : ℕ) (v : World V) (k : ℕ) → Puts v a k → spot a v ≡ Gate k
   puts_spot a v k e = ap (spot_by a (ready_at a v (stage_of v a))) e.1
@@ -364,7 +370,8 @@ module _ {V : Type 0} where
         let stripes1 : HaveStripes w1.blocks = subst HaveStripes (sym sh.1) stripes in
         let base1 : OneBase k w1 planted = base_trans k w1 alone planted (sym al1.words) (sym al1.blocks) (out_of s rule here k gate1)
         (none_base id alone k 1 k) in
-        let al2 : Alike id u after = (own_event id w1 planted (Step id) al_p (refl, finds_put id w1 planted k stripes1 puts1 base1)).0 in
+        let own2 = own_event id w1 planted (Step id) al_p (refl, finds_put id w1 planted k stripes1 puts1 base1) in
+        let al2 : Alike id u after = own2.0 in
         let other = others_of w1 in
         let same : OneBase k u after = base_trans k u w1 after other.0 other.1 (λ l p at. (P.parts l, P.editions l))
         (base_trans k w1 planted after (sym al_p.words) (sym al_p.blocks) base1 (λ l p at. (sym (Q.parts l), sym (Q.editions l)))) in
@@ -375,7 +382,10 @@ module _ {V : Type 0} where
           subst (λ (c : List (ℕ × Slot V)). Rule o
               (stepped s (gate_address (end_of o.words o.blocks) k) 0 id c
               (acting m.0 (record { asks = qs; found = 1; base = None }) (ends id alone) m.0.clock) gives)) (sym top) r,
-          (refl, ap rest_of top),
+          (
+            (refl, has_happened o id alone rule.events qs 1 None al1 (at_gate id w1 alone k 1 None (puts_spot id alone k puts) own2)),
+            ap rest_of top,
+          ),
         )
       where
         others_of : (w : World V) → (w.words ≡ (happens w (Step id)).0.words) × (w.blocks ≡ (happens w (Step id)).0.blocks)
@@ -406,7 +416,8 @@ module _ {V : Type 0} where
         let stripes1 : HaveStripes w1.blocks = subst HaveStripes (sym sh.1) stripes in
         let base1 : OneBase k w1 planted = base_trans k w1 alone planted (sym al1.words) (sym al1.blocks) (out_of s rule here k gate1)
         (none_base id alone k 1 k) in
-        let al2 : Alike id u after = (own_event id w1 planted (Step id) al_p (refl, finds_home id w1 planted k goes1)).0 in
+        let own2 = own_event id w1 planted (Step id) al_p (refl, finds_home id w1 planted k goes1) in
+        let al2 : Alike id u after = own2.0 in
         let other = others_stand w1 id in
         let same : OneBase k u after = λ l p at. home_same id w1 planted k stripes1 al_p base1 P Q l
         ((λ i. is_plain (other.words i) (other.blocks i) l) ∙ p) ((λ i. home_of (other.words i) (other.blocks i) l) ∙ at) in
@@ -417,7 +428,10 @@ module _ {V : Type 0} where
           subst (λ (c : List (ℕ × Slot V)). Rule o
               (stepped s (gate_address (end_of o.words o.blocks) k) 0 id c
               (acting m.0 (record { asks = qs; found = 1; base = None }) (ends id alone) m.0.clock) gives)) (sym top) r,
-          (refl, ap rest_of top),
+          (
+            (refl, has_happened o id alone rule.events qs 1 None al1 (at_gate id w1 alone k 1 None (home_spot id alone k goes) own2)),
+            ap rest_of top,
+          ),
         )
 
     -- a gate is tried: where it was free, its base goes out
@@ -462,16 +476,22 @@ module _ {V : Type 0} where
         al_p : (b : Maybe (Base V)) → Alike id w1 (planted b)
         al_p b = found_alike id w1 alone (Gate k) found b al1
 
-        al2 : (b : Maybe (Base V)) → Alike id u (happens (planted b) (Step id)).0
-        al2 b =
-            (own_event id w1 (planted b) (Step id) (al_p b) (
+        own2 : (b : Maybe (Base V)) → SameAfter id (happens w1 (Step id)) (happens (planted b) (Step id))
+        own2 b =
+            own_event id w1 (planted b) (Step id) (al_p b) (
               refl,
               finds_try id w1 (planted b) k tries1
                   (ap is_none gates1 ∙
                   (found_free id (alone.boosted.gates k) (w.boosted.gates k) (ap (is_actor id) (sym gates1) ∙ al1.boosted.gates k)
                   ∙ ((λ i. is_none (found_gate id (sym is_found i) (alone.boosted.gates k)))
                   ∙ sym (ap is_none (put-same alone.boosted.gates k (found_gate id found (alone.boosted.gates k))))))),
-            )).0
+            )
+
+        al2 : (b : Maybe (Base V)) → Alike id u (happens (planted b) (Step id)).0
+        al2 b = (own2 b).0
+
+        told_of : (b : Maybe (Base V)) → HasHappened o id alone found b
+        told_of b = has_happened o id alone rule.events qs found b al1 (at_gate id w1 alone k found b (tries_spot id alone k tries) (own2 b))
 
         Q : (b : Maybe (Base V)) → Gated id k (planted b) (happens (planted b) (Step id)).0
             (if is_none ((planted b).boosted.gates k) then Some id else (planted b).boosted.gates k)
@@ -526,7 +546,7 @@ module _ {V : Type 0} where
                     (λ j taken. at_set_same s.homes k (some (Some b)) none q.1),
                   )
                   (λ j ne. at_set_other s.homes k j none ne),
-              inl (zero_is, b, q.2, refl, refl),
+              inl (zero_is, b, q.2, (refl, told_of (Some b)), refl),
             )
         by_gate (Some j) e =
             let one_is : found ≡ 1 = is_found ∙ ap gate_word e in
@@ -546,5 +566,5 @@ module _ {V : Type 0} where
                   (ap (λ (n : ℕ). either (eqb n 0) 1 n) one_is ∙ sym (ap gate_word (gate_u ∙ e)))
                   ((λ free. absurd (let z : Some j ≡ None = sym e ∙ (sym gate_u ∙ free) in cc)), (λ i taken. T.1 i (sym gate_u ∙ taken)))
                   (λ i ne. refl),
-              inr (one_is, refl, refl),
+              inr (one_is, (refl, told_of None), refl),
             )

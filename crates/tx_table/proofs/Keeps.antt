@@ -16,11 +16,13 @@ use Rattle.seq_model.specs.declared.event.Event.{Event}
 use Rattle.seq_model.specs.declared.event.Event.TheVariants.{Step}
 use Rattle.seq_model.specs.declared.record.Record.{Record}
 use Rattle.collection_machine.specs.Boosted.{is_actor}
+use Rattle.std.specs.Prelude.{Option as Maybe}
+use Rattle.replay_log.specs.declared.base.Base.{Base}
 use Rattle.replay_log.specs.Contents.{Block, end_of, home_of, is_plain}
 use Rattle.replay_log.specs.Seats.{World, Seat, actor_of}
 use Rattle.replay_log.specs.Worlds.{happens, run}
 use Rattle.atomic_steps.specs.Clock.{stamps_left, Grows}
-use Rattle.atomic_steps.specs.Own.{Alike}
+use Rattle.atomic_steps.specs.Own.{Alike, SameAfter}
 use Rattle.atomic_steps.specs.Spots.{Spot, Word, Gate, deed_of, gate_word}
 use Rattle.atomic_steps.specs.Steps.{OnlyOwn, ready_at}
 use Rattle.atomic_steps.proofs.Alike.{alike_sym, alike_trans, spot_same, deed_same}
@@ -29,8 +31,8 @@ use Rattle.atomic_steps.proofs.Others.{others, calm_alike}
 use Rattle.atomic_steps.proofs.Spots.{Keeps, one_spot, after_calm}
 use Rattle.atomic_steps.proofs.Turned.{word_turned}
 use Rattle.tx_table.specs.Layout.{address, gate_address, IsInside, width}
-use Rattle.tx_table.specs.Turns.{Turn, own, asked_all, stage_of, spot, found_at, ends, ends_of, took, lone}
-use Rattle.tx_table.specs.Shown.{View, Slot, total, owed, owed_of, acting, OneBase, Table, IsOwn, Shows, Rule, Told}
+use Rattle.tx_table.specs.Turns.{Turn, own, asked_all, stage_of, spot, found_at, moved, ends, ends_of, took, lone}
+use Rattle.tx_table.specs.Shown.{View, Slot, total, owed, owed_of, acting, HasHappened, OneBase, Table, IsOwn, Shows, Rule, Told}
 use Rattle.tx_table.proofs.Numbers.{total_set, total_append, inside, tally_set, tally_below}
 use Rattle.tx_table.proofs.Turned.{lone_snoc, asked_calm, asked_alike, found_alike, word_own, records_grow}
 
@@ -171,6 +173,28 @@ module _ {V : Type 0} where
   run_own a [] w = refl
   run_own a (e ∷ es) w = run_own a es (happens w (own a e)).0
 
+  -- what was asked, as events
+  pub asked_events : ℕ → List (Event V) → List (Event V)
+  asked_events a [] = []
+  asked_events a (e ∷ es) = own a e ∷ asked_events a es
+
+  pub run_asked : (a : ℕ) (es : List (Event V)) (w : World V) → run w (asked_events a es) ≡ asked_all a w es
+  unfolding asked_events
+  run_asked a [] w = refl
+  run_asked a (e ∷ es) w = run_asked a es (happens w (own a e)).0
+
+  -- a step that is one of the actor's own world has happened behind these events and what the actor asked
+  pub has_happened : (o : World V) (a : ℕ) (w : World V) (es qs : List (Event V)) (found : ℕ) (b : Maybe (Base V))
+      → Alike a (asked_all a (run o es) qs) w → SameAfter a (happens (asked_all a (run o es) qs) (Step a)) (moved a w found b)
+      → HasHappened o a w found b
+  has_happened o a w es qs found b al same =
+      let e = run_append es (asked_events a qs) o ∙ run_asked a qs (run o es) in
+      record {
+        events = es ++ asked_events a qs;
+        alike = subst (λ (v : World V). Alike a v w) (sym e) al;
+        same = subst (λ (v : World V). SameAfter a (happens v (Step a)) (moved a w found b)) (sym e) same;
+      }
+
   -- ---- a step on a word
   word_table : (n : ℕ) (bs : List Block) (w u : World V) (c : Cell) (new : ℕ) (ws : List ℕ) (hs : List (Option (Slot V)))
       → Table n bs w ws hs → IsInside (end_of n bs) c → Keeps (Word c) w u
@@ -233,7 +257,8 @@ module _ {V : Type 0} where
         let rs : List (ℕ × Record V) = ends id alone in
         let v : View V = acting m.0 i rs (kf found) in
         let took_is : after ≡ took id l i = (λ j. (happens (found_at id alone (sym touches j) (sym found1 j) None) (Step id)).0) in
-        let al2 : Alike id u after = (word_own id w1 alone c None al1 at1).0 in
+        let own2 = word_own id w1 alone c None al1 at1 in
+        let al2 : Alike id u after = own2.0 in
         let al_p : Alike id w1 planted = found_alike id w1 alone (Word c) (cell w1.boosted.words c) None al1 in
         let KP : Keeps (Word c) planted after = subst (λ (z : Spot). Keeps z planted after) (sym (spot_same id w1 planted al_p) ∙ at1)
         (one_spot planted id) in
@@ -282,7 +307,15 @@ module _ {V : Type 0} where
             shows = subst (λ (k : World V). Shows o k (stepped s (address N c) (f found) id m.1 v keeps))
                 (sym (run_append rule.events (own_all id qs) o ∙ run_own id qs w)) now;
           },
-          (refl, refl),
+          (
+            (
+              refl,
+              has_happened o id alone rule.events qs found None al1
+                  (subst (λ (z : Spot × ℕ). SameAfter id (happens w1 (Step id)) (happens (found_at id alone z.0 z.1 None) (Step id)))
+                  (λ j. (sym touches j, sym found1 j)) own2),
+            ),
+            refl,
+          ),
         )
 
     -- a step on a word that becomes what the machine says

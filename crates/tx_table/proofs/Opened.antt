@@ -2,7 +2,7 @@
 --
 -- Wherever the rule holds, the seat's own world is alike to its actor in a world that events have reached; so what is proved of such
 -- worlds holds of it (`Guards` and `Bases` of `atomic_steps`), and a seat needs to know only which step is due to it.
-use Rattle.std.proofs.Common.{◌≡◌, ℕ, ◌<◌, eqb, List, [], ◌∷◌, ◌++◌, length, Some, None, sym, ap, ◌∙◌, subst, refl}
+use Rattle.std.proofs.Common.{◌≡◌, ℕ, ◌<◌, eqb, List, ◌∷◌, ◌++◌, length, Some, None, sym, ap, ◌∙◌, subst}
 use prog.Atomic.{either}
 use mathlib.Core.Option.{some}
 use lib.ListN.{get_elem?}
@@ -23,23 +23,13 @@ use Rattle.atomic_steps.proofs.Alike.{action_same}
 use Rattle.atomic_steps.proofs.Bases.{goes_home}
 use Rattle.atomic_steps.proofs.Guards as guards
 use Rattle.tx_table.specs.Layout.{gate_address}
-use Rattle.tx_table.specs.Turns.{own, asked_all, found_at, lone}
+use Rattle.tx_table.specs.Turns.{asked_all, found_at, lone}
 use Rattle.tx_table.specs.Shown.{View, Slot, IsBaseAt, Rule, Told, Took}
 use Rattle.tx_table.proofs.Turned.{found_alike}
-use Rattle.tx_table.proofs.Keeps.{run_append}
+use Rattle.tx_table.proofs.Keeps.{asked_events, run_append, run_asked}
 use Rattle.tx_table.proofs.Gates.{alike_of, shape_of, none_base, take_allowed, put_allowed, home_allowed}
 
 module _ {V : Type 0} where
-  -- what was asked, as events
-  asked_events : ℕ → List (Event V) → List (Event V)
-  asked_events a [] = []
-  asked_events a (e ∷ es) = own a e ∷ asked_events a es
-
-  run_asked : (a : ℕ) (es : List (Event V)) (w : World V) → run w (asked_events a es) ≡ asked_all a w es
-  unfolding asked_events
-  run_asked a [] w = refl
-  run_asked a (e ∷ es) w = run_asked a es (happens w (own a e)).0
-
   module _ (blocks : List Block) (clock : ℕ) (values : List ℕ) (held : List (Held V)) (stripes : HaveStripes blocks) (slots id : ℕ)
       (m : Me (Slot V) (View V)) (qs : List (Event V)) where
     abbrev o : World V

@@ -20,7 +20,7 @@ use Rattle.tx_table.specs.Layout.{address, gate_address, IsInside}
 use Rattle.tx_table.specs.declared.view.Opening.{Opening}
 use Rattle.tx_table.specs.Opening.{Holds, blocks_at, locations_at, world_at}
 use Rattle.tx_table.specs.Turns.{Turn, asked_all, lone, spot, moved, ends}
-use Rattle.tx_table.specs.Shown.{View, Slot, IsBaseAt, IsReached, Rule, Told, Took, Went, acting}
+use Rattle.tx_table.specs.Shown.{View, Slot, HasHappened, IsBaseAt, IsReached, Rule, Told, Took, Went, acting}
 use Rattle.tx_table.specs.Seated.{Adds, Exchanges, IsHome, IsSameSeat, Loads, Stores, Takes, acts, list_of, out, turned, view}
 use Rattle.tx_table.proofs.Turned.{lone_snoc}
 use Rattle.tx_table.proofs.Gates.{at_set_same}
@@ -58,13 +58,15 @@ module _ {V : Type 0} where
   takes o s t asks clock found base bases are same told held none went =
       let i : Turn V = record { asks = list_of s.asked; found = found; base = base } in
       let rs : List (ℕ × Record V) = ends s.place.id (acts o s) in
-      let is : view t ≡ acting (view s) i rs clock = told ∙ (λ j. acting (view s) (record { asks = are j; found = found; base = base })
+      let is : view t ≡ acting (view s) i rs clock = told.0 ∙ (λ j. acting (view s) (record { asks = are j; found = found; base = base })
       (ends s.place.id (asked_all s.place.id (lone s.place.id o (view s).turns) (are j))) clock) in
       record {
         seat = same;
         turn = is;
         held = held;
         none = none;
+        happened = subst (λ (es : List (Event V)). HasHappened o s.place.id (asked_all s.place.id (lone s.place.id o (view s).turns) es) found base)
+            are told.1;
         own = acts_after o s.place.id t.place.id (view s) (view t) (list_of t.asked) i rs clock same.1 none is;
         reached = subst (λ (z : ℕ × List (Event V)). IsReached o z.0 (asked_all z.0 (lone z.0 o (view t).turns) z.1))
             (λ j. (sym same.1 j, sym none j)) went;
@@ -192,8 +194,8 @@ module _ {V : Type 0} where
       (λ b. IsBaseAt o.blocks k b × Takes o s (view s).clock 0 (Some b) (out s ++ (k, None) ∷ []) t)) here (
         p.2,
         takes o s t asks (view s).clock 0 (Some b) (out s ++ (k, None) ∷ []) are same
-            (ap (λ (z : Me (Slot V) (View V)). z.0) turned ∙ ap (λ (z : Me (Slot V) (View V)). z.0) swapped
-            ∙ subst (λ (z : ℕ). Told o s.place.id asks (view s).clock s.place.me z (Some b) m.0) p.0 p.3)
+            (let q = subst (λ (z : ℕ). Told o s.place.id asks (view s).clock s.place.me z (Some b) m.0) p.0 p.3 in
+            (ap (λ (z : Me (Slot V) (View V)). z.0) turned ∙ ap (λ (z : Me (Slot V) (View V)). z.0) swapped ∙ q.0, q.1))
             (ap (λ (z : Me (Slot V) (View V)). z.1) turned
             ∙ ap (λ (z : Me (Slot V) (View V)). shifted z.1) swapped
             ∙ ap (λ (l : List (ℕ × Slot V)). l ++ (k, None) ∷ []) (sym others))
@@ -225,8 +227,8 @@ module _ {V : Type 0} where
   -- either way the seat has its shares
   pub still_tried : (o : World V) (s : Seat V) (asks : List (Event V)) (k found : ℕ) (t : Me (Slot V) (View V))
       → Took o s.place.id asks s.place.me k found t → (s.shares ≡ t.0.shares) × (s.last ≤ t.0.clock)
-  still_tried o s asks k found t told = ⊎_elim (λ p. still s t.0 _ _ (view s).clock p.3 (omega arith))
-      (λ p. still s t.0 _ _ (view s).clock p.1 (omega arith)) told
+  still_tried o s asks k found t told = ⊎_elim (λ p. still s t.0 _ _ (view s).clock p.3.0 (omega arith))
+      (λ p. still s t.0 _ _ (view s).clock p.1.0 (omega arith)) told
 
   module _ (key : Opening V) (slots id : ℕ) (m : Me (Slot V) (View V)) (asks qs : List (Event V)) (are : asks ≡ qs) (live : 0 < m.0.shares)
       (k i : ℕ) (low : k < length (blocks_at key)) (place : i ≡ gate_address (locations_at key) k) where
@@ -285,6 +287,7 @@ module _ {V : Type 0} where
       let views : n.0 ≡ view s = ap (λ (z : Me (Slot V) (View V)). z.0) is in
       let others : rest n.1 ≡ rest (out s) = ap (λ (z : Me (Slot V) (View V)). rest z.1) is in
       takes o s t asks (view s).clock 1 None (rest (out s)) are same
-      (subst (λ (z : ℕ × View V). t.place.me.0 ≡ acting z.1 (record { asks = asks; found = 1; base = None })
-      (ends z.0 (asked_all z.0 (lone z.0 o z.1.turns) asks)) z.1.clock) (λ j. (id_is j, views j)) told.0)
+      (subst (λ (z : ℕ × View V). (t.place.me.0 ≡ acting z.1 (record { asks = asks; found = 1; base = None })
+      (ends z.0 (asked_all z.0 (lone z.0 o z.1.turns) asks)) z.1.clock)
+      × HasHappened o z.0 (asked_all z.0 (lone z.0 o z.1.turns) asks) 1 None) (λ j. (id_is j, views j)) told.0)
       (told.1 ∙ others) none (subst (λ (z : ℕ). Went o z t.place.me) id_is told.2)

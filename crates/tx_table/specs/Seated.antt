@@ -21,7 +21,7 @@ use Rattle.tx_table.specs.declared.seat.Seat.{Seat}
 use Rattle.tx_table.specs.declared.table.TxTable.{TxTable}
 use Rattle.tx_table.specs.Opening.{blocks_at, locations_at, words_at, world_at}
 use Rattle.tx_table.specs.Turns.{asked_all, lone, spot, stage_of, found_at, moved, ends}
-use Rattle.tx_table.specs.Shown.{View, Slot, IsBaseAt, IsReached, acting}
+use Rattle.tx_table.specs.Shown.{View, Slot, HasHappened, IsBaseAt, IsReached, acting}
 
 -- The place of collection k among the locations behind n words.
 pub record IsBlockAt (n : ℕ) (bs : List Block) (k : ℕ) (b : placed.Block) : Type 0 where
@@ -119,7 +119,8 @@ module _ {V : Type 0} where
 
   -- ---- what a step makes of a seat
   -- The seat took the turn that was due, which found this; it knows this clock, and has these bases out. Its actor's own world is what
-  -- the step of the definitions leaves of it, and some events lead to one that is so to the actor.
+  -- the step of the definitions leaves of it. The step has happened in a world that events have reached, and they lead on to one that is
+  -- to the actor as its own world is now.
   pub record Takes (o : World V) (s : Seat V) (clock found : ℕ) (base : Option (Base V)) (bases : List (ℕ × Slot V)) (t : Seat V)
       : Type 0 where
     pub seat : IsSameSeat s t
@@ -127,6 +128,7 @@ module _ {V : Type 0} where
     pub held : out t ≡ bases
     pub none : list_of t.asked ≡ []
     pub own : acts o t ≡ (moved s.place.id (acts o s) found base).0
+    pub happened : HasHappened o s.place.id (acts o s) found base
     pub reached : IsReached o t.place.id (acts o t)
 
   -- a step on a word

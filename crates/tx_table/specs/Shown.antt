@@ -9,6 +9,7 @@ use Rattle.atomic_table.specs.Table.{State, Me}
 use Rattle.word_machine.specs.Actor.{Place, clock_limit}
 use Rattle.word_machine.specs.Cells.{Cell, cell}
 use Rattle.seq_model.specs.declared.event.Event.{Event}
+use Rattle.seq_model.specs.declared.event.Event.TheVariants.{Step}
 use Rattle.seq_model.specs.declared.record.Record.{Record}
 use Rattle.collection_machine.specs.Boosted.{is_actor}
 use Rattle.replay_log.specs.declared.base.Base.{Base}
@@ -20,16 +21,16 @@ use Rattle.seq_model.specs.Calls.{IsWithinLimits}
 use Rattle.seq_model.specs.Contents.{Contents}
 use Rattle.seq_model.specs.Runs.{IsInCommitOrder, IsRun, after_run}
 use Rattle.replay_log.specs.Seats.{World, actor_of}
-use Rattle.replay_log.specs.Worlds.{run}
+use Rattle.replay_log.specs.Worlds.{happens, run}
 use Rattle.replay_log.specs.WorldSerial.{AreUpTo}
 use Rattle.replay_log.specs.WorldTraces.{is_half_done}
 use Rattle.atomic_steps.specs.Bases.{IsBaseOf, ShowsBase}
 use Rattle.atomic_steps.specs.Clock.{stamps_left}
 use Rattle.atomic_steps.specs.Machine.{SameBase}
-use Rattle.atomic_steps.specs.Own.{Alike}
+use Rattle.atomic_steps.specs.Own.{Alike, SameAfter}
 use Rattle.atomic_steps.specs.Spots.{gate_word}
 use Rattle.tx_table.specs.Layout.{address, gate_address, IsInside, width}
-use Rattle.tx_table.specs.Turns.{Turn, asked_all, lone, ends, stage_of}
+use Rattle.tx_table.specs.Turns.{Turn, asked_all, lone, moved, ends, stage_of}
 pub use Rattle.tx_table.specs.declared.view.View.{View}
 
 abbrev pub total : {A : Type 0} → (A → ℕ) → List A → ℕ
@@ -123,10 +124,18 @@ module _ {V : Type 0} where
   abbrev pub Went : World V → ℕ → Me (Slot V) (View V) → Type 0
   Went o a m = IsReached o a (lone a o m.0.turns)
 
-  -- what a step tells of a seat: it took this turn
+  -- Some events lead from the opening o to a world that is to actor a as w is; and a's next step there leaves to it, and tells, what it
+  -- does in w with what it found.
+  pub record HasHappened (o : World V) (a : ℕ) (w : World V) (found : ℕ) (base : Maybe (Base V)) : Type 0 where
+    pub events : List (Event V)
+    pub alike : Alike a (run o events) w
+    pub same : SameAfter a (happens (run o events) (Step a)) (moved a w found base)
+
+  -- what a step tells of a seat: it took this turn, which is the step that happened
   abbrev pub Told : World V → ℕ → List (Event V) → ℕ → Me (Slot V) (View V) → ℕ → Maybe (Base V) → View V → Type 0
-  Told o id qs k m found b v = v ≡ acting m.0 (record { asks = qs; found = found; base = b })
-      (ends id (asked_all id (lone id o m.0.turns) qs)) k
+  Told o id qs k m found b v =
+      let w = asked_all id (lone id o m.0.turns) qs in
+      (v ≡ acting m.0 (record { asks = qs; found = found; base = b }) (ends id w) k) × HasHappened o id w found b
 
   -- what a try on the gate of k tells: it found the gate free and has its base, or found it taken
   abbrev pub Took : World V → ℕ → List (Event V) → Me (Slot V) (View V) → ℕ → ℕ → Me (Slot V) (View V) → Type 0

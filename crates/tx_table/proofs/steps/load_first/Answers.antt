@@ -17,7 +17,7 @@ load-found-requires g c =
 pub invariant_of-seat : goal.invariant_of-seat
 invariant_of-seat g c =
     let e = c.load-found.ensures in
-    let h = still c.args.seat.now c.load-found.new.seat.me.0 _ _ c.load-found.result e.2.0 e.2.2 in
+    let h = still c.args.seat.now c.load-found.new.seat.me.0 _ _ c.load-found.result e.2.0.0 e.2.2 in
     record { counted = h.0; known = h.1 }
 
 pub returns-clause-step : goal.returns-clause-step

@@ -18,7 +18,7 @@ store-requires g c =
 pub invariant_of-seat : goal.invariant_of-seat
 invariant_of-seat g c =
     let e = c.store.ensures in
-    let h = still c.args.seat.now c.store.new.seat.me.0 _ _ (view c.args.seat.now).clock e.2.1 (omega arith) in
+    let h = still c.args.seat.now c.store.new.seat.me.0 _ _ (view c.args.seat.now).clock e.2.1.0 (omega arith) in
     record { counted = h.0; known = h.1 }
 
 pub returns : goal.returns

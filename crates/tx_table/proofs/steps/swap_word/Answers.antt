@@ -18,7 +18,7 @@ compare_exchange-found-requires g c =
 pub invariant_of-seat : goal.invariant_of-seat
 invariant_of-seat g c =
     let e = c.compare_exchange-found.ensures in
-    let h = still c.args.seat.now c.compare_exchange-found.new.seat.me.0 _ _ (view c.args.seat.now).clock e.2.0 (omega arith) in
+    let h = still c.args.seat.now c.compare_exchange-found.new.seat.me.0 _ _ (view c.args.seat.now).clock e.2.0.0 (omega arith) in
     record { counted = h.0; known = h.1 }
 
 pub returns : goal.returns
