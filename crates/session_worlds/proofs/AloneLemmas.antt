@@ -17,7 +17,7 @@ use Rattle.vacation_core.specs.Holding.{state_of}
 use Rattle.vacation_core.specs.Runs.{AreSessions, Deal}
 use Rattle.session_worlds.specs.Alone.{AloneIsInOrder, AreOf, AreRecordsOf}
 use Rattle.session_worlds.specs.Asking.{Actions, AskAsSessions, MayHappen, Turn, begun, events_of}
-use Rattle.session_worlds.specs.Phases.{Phase, Rests, Committed, phase_at}
+use Rattle.tx_phases.specs.Phases.{Phase, Rests, Committed, phase_at}
 use Rattle.session_worlds.specs.Serial.{IsSerialSessions, actions_of, begun_all, committed_in, committed_of}
 use Rattle.session_worlds.proofs.ServeLemmas.{sessions_are_serial}
 

@@ -27,10 +27,10 @@ use Rattle.vacation_core.specs.Sessions.{session}
 use Rattle.session_worlds.specs.Alone.{AreOf}
 use Rattle.session_worlds.specs.Asking.{Actions, MayHappen, Turn, at_idle, begun}
 use Rattle.session_worlds.specs.Histories.{History, IsAt, IsLawful, action_in, done_in, later, opening_of, world_in}
-use Rattle.session_worlds.specs.Phases.{AskMoves, Phase, Rests, Begins, Stands, StepMoves, phase, phase_at}
+use Rattle.tx_phases.specs.Phases.{AskMoves, Phase, Rests, Begins, Stands, StepMoves, phase, phase_at}
 use Rattle.session_worlds.specs.Serial.{begun_all, committed_in, if_committed}
 use Rattle.session_worlds.proofs.AloneLemmas.{asks_on, begun_on, committed_on, run_on}
-use Rattle.session_worlds.proofs.PhaseLemmas.{asks_move, steps_move}
+use Rattle.tx_phases.proofs.PhaseLemmas.{asks_move, steps_move}
 use Rattle.session_worlds.proofs.ServeLemmas.{sessions_are_serial}
 
 -- ---- a turn more

@@ -13,7 +13,7 @@ use Rattle.vacation_core.specs.declared.entry.Entry.{Entry}
 use Rattle.vacation_core.specs.Holding.{state_of}
 use Rattle.vacation_core.specs.Runs.{AreDone, AreSessions, Deal, after_deals}
 use Rattle.session_worlds.specs.Asking.{Actions, AskAsSessions, Turn, events_of}
-use Rattle.session_worlds.specs.Phases.{Rests, phase}
+use Rattle.tx_phases.specs.Phases.{Rests, phase}
 use Rattle.session_worlds.specs.Serial.{committed_of}
 
 -- only actor a does anything

@@ -10,7 +10,7 @@ use Rattle.vac_model.specs.Holdings.{Holdings}
 use Rattle.vacation_core.specs.declared.entry.Entry.{Entry}
 use Rattle.vacation_core.specs.Holding.{state_of}
 use Rattle.session_worlds.specs.Asking.{Actions, AskAsSessions, Turn, events_of}
-use Rattle.session_worlds.specs.Phases.{Phase, phase}
+use Rattle.tx_phases.specs.Phases.{Phase, phase}
 use Rattle.session_worlds.specs.Serial.{begun_all, committed_of}
 
 -- the turns that a world has taken since it opened on these tables, its locations in these blocks

@@ -35,8 +35,8 @@ use Rattle.replay_log.specs.WorldReplies.{as_call}
 use Rattle.replay_log.specs.WorldTraces.{committed_by}
 use Rattle.std.proofs.Common.{inl, inr}
 use Rattle.std.specs.Prelude.{is_some}
-use Rattle.session_worlds.specs.Phases.{AskMoves, AsksMove, CallMoves, Phase, StepMoves, StepsMove, phase, phase_at}
-use Rattle.session_worlds.specs.Phases.{Rests, Begins, Stands, Calls, Commits, Committed, Ends}
+use Rattle.tx_phases.specs.Phases.{AskMoves, AsksMove, CallMoves, Phase, StepMoves, StepsMove, phase, phase_at}
+use Rattle.tx_phases.specs.Phases.{Rests, Begins, Stands, Calls, Commits, Committed, Ends}
 
 why_on : (V : Type 0) (a : ℕ) (cause : Option Refusal) → StepMoves {V = V} Ends false (why a cause) Rests
 why_on V a None = refl

@@ -1,5 +1,5 @@
-use Rattle.session_worlds.proofs.PhaseLemmas.{asks_move, steps_move}
-use Rattle.session_worlds.proofs.laws.phases.Goals as goal
+use Rattle.tx_phases.proofs.PhaseLemmas.{asks_move, steps_move}
+use Rattle.tx_phases.proofs.laws.phases.Goals as goal
 
 pub returns-clause-steps : goal.returns-clause-steps
 returns-clause-steps g c = steps_move
