@@ -1,1 +1,2 @@
 pub mod PhaseLemmas
+pub mod CourseLemmas

@@ -1,4 +1,5 @@
-//! The law of phases. The function computes nothing: its contract is the law.
+//! The laws of phases. The functions compute nothing: their contracts are the laws.
+ghost use Rattle.tx_phases.specs.Courses.{StepsComeTo};
 ghost use Rattle.tx_phases.specs.Phases.{AsksMove, StepsMove};
 
 use seq_model::Value;
@@ -9,4 +10,12 @@ use seq_model::Value;
 pub fn phases<V: Value>()
     ensures steps { StepsMove V }
     ensures asks { AsksMove V }
+{}
+
+/// A request that is under way goes on, or ends, by each own step of its actor, in every world that events have reached: a transaction
+/// begins, or is refused at the limit of the clock; a call joins the calls with the reply that is told, or was mistaken and leaves them; a
+/// commit makes its record of all calls, and tells the number of it; and what is given up for a cause is told so last, and has no
+/// transaction any more.
+pub fn courses<V: Value>()
+    ensures { StepsComeTo V }
 {}
