@@ -83,9 +83,6 @@ module _ {V : Type 0} where
   pub no_copy : (t : own.Stage V) (k : ℕ) → NamesAmong 0 t → next_of (stage_of t) ≡ next.Copy k → ⊥
   no_copy t k h e = subst (λ (n : Next). IsPlain n) e (plain_next t h)
 
-  pub no_home : (t : own.Stage V) (k : ℕ) → NamesAmong 0 t → next_of (stage_of t) ≡ next.GoHome k → ⊥
-  no_home t k h e = subst (λ (n : Next). IsPlain n) e (plain_next t h)
-
   pub no_load : (t : own.Stage V) → NamesAmong 0 t → is_loading (stage_of t) ≡ false
   no_load (stage.Loading o left) h = absurd (omega (arith, h))
   no_load t h = refl

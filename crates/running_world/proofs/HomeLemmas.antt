@@ -7,6 +7,8 @@
 use Rattle.std.proofs.Common.{◌≡◌, ℕ, zero, suc, ◌<◌, ◌≤◌, ◌^◌, true, false, List, [], ◌∷◌, Option, Some, None, length, slice_get, refl, sym, ap, ◌∙◌, subst, arith}
 use Rattle.std.specs.List.{All}
 use Rattle.std.specs.Prelude.{slice_index}
+use Rattle.std.specs.declared.alloc.Global.{Global}
+use Rattle.std.specs.declared.collections.VecDeque.{VecDeque}
 use Rattle.std.proofs.lemmas.Bool.{cond_both}
 use Rattle.conflict.specs.declared.change.Change.{Change}
 use Rattle.seq_model.specs.declared.event.Event.{Event}
@@ -18,7 +20,6 @@ use Rattle.replay_log.specs.declared.base.Base.{Base}
 use Rattle.replay_log.specs.Base.{Shown, editions_of, locations_of, shown_of, stripes_of}
 use Rattle.replay_log.specs.Collections.{Suit}
 use Rattle.replay_log.specs.Contents.{Answered, Asked, Block, HaveStripes, block_of, content}
-use Rattle.replay_log.specs.Guards.{step_action}
 use Rattle.replay_log.specs.WorldProgress.{whose}
 use Rattle.replay_log.specs.Worlds.{World, Seat, Stage, After, Homing, Idle, Beginning, Open, Locking, Releasing, Closing, Cancelling, Leaving}
 use Rattle.replay_log.specs.Worlds.{Reading, Trying, Copying, Loading, Gating, Ready, Storing, Returning, acted, happens, opened, run, step_at}
@@ -50,7 +51,7 @@ use Rattle.running_world.proofs.SeatLemmas.{next_as, stage_by}
 use Rattle.running_world.proofs.TurnLemmas.{GoesOn, due_as, reached_goes_on, runs_moved, same_action}
 
 -- ---- what stands at a place
-block_here : (bs : List Block) (k : ℕ) → k < length bs → (b : Block) × (block_of bs k ≡ Some b)
+pub block_here : (bs : List Block) (k : ℕ) → k < length bs → (b : Block) × (block_of bs k ≡ Some b)
 block_here [] k low = let z : ⊥ = omega (arith, low) in absurd z
 block_here (b ∷ bs) zero low = (b, refl)
 block_here (b ∷ bs) (suc k) low = block_here bs k (omega (arith, low))
@@ -130,7 +131,7 @@ module _ {V : Type 0} where
       (folds h.blocks h.clock o.words o.held h.events a b before h.stripes)
 
   -- ---- the stage of a commit whose base goes home
-  home_is : (s : Stage V) (k : ℕ) → next_of s ≡ next.GoHome k → (ks : List ℕ) × (s ≡ Homing (k ∷ ks))
+  pub home_is : (s : Stage V) (k : ℕ) → next_of s ≡ next.GoHome k → (ks : List ℕ) × (s ≡ Homing (k ∷ ks))
   home_is (Homing []) k e = let z : ⊥ = cc in absurd z
   home_is (Homing (j ∷ ks)) k e = let same : j ≡ k = cc in (ks, ap (λ (i : ℕ). Homing (i ∷ ks)) same)
   home_is Idle k e = let z : ⊥ = cc in absurd z
@@ -153,32 +154,35 @@ module _ {V : Type 0} where
   home_is Cancelling k e = let z : ⊥ = cc in absurd z
   home_is Leaving k e = let z : ⊥ = cc in absurd z
 
-  recorded_at : (t : own.Stage V) (k : ℕ) (ks : List ℕ) → stage_of t ≡ Homing (k ∷ ks) → is_recorded t ≡ true
-  recorded_at (stage.Homing homes) k ks e = refl
-  recorded_at (stage.Storing homes) k ks e = refl
-  recorded_at stage.Releasing k ks e = refl
-  recorded_at stage.Idle k ks e = let z : ⊥ = cc in absurd z
-  recorded_at stage.Beginning k ks e = let z : ⊥ = cc in absurd z
-  recorded_at stage.Open k ks e = let z : ⊥ = cc in absurd z
-  recorded_at stage.Closing k ks e = let z : ⊥ = cc in absurd z
-  recorded_at stage.Cancelling k ks e = let z : ⊥ = cc in absurd z
-  recorded_at stage.Leaving k ks e = let z : ⊥ = cc in absurd z
-  recorded_at (stage.Reading l) k ks e = let z : ⊥ = cc in absurd z
-  recorded_at (stage.Trying asked n) k ks e = let z : ⊥ = cc in absurd z
-  recorded_at (stage.Copying asked) k ks e = let z : ⊥ = cc in absurd z
-  recorded_at (stage.Loading o left) k ks e = let z : ⊥ = cc in absurd z
-  recorded_at (stage.Locking homes) k ks e = let z : ⊥ = cc in absurd z
-  recorded_at (stage.Gating homes got n) k ks e = let z : ⊥ = cc in absurd z
-  recorded_at (stage.Ready homes) k ks e = let z : ⊥ = cc in absurd z
-  recorded_at (stage.Returning homes) k ks e = let z : ⊥ = cc in absurd z
-  recorded_at (stage.ReturningOne j) k ks e = let z : ⊥ = cc in absurd z
+  homing_at : (t : own.Stage V) (ks : List ℕ) → stage_of t ≡ Homing ks
+      → (homes : VecDeque ℕ Global) × (t ≡ stage.Homing homes) × (homes.items ≡ ks)
+  homing_at (stage.Homing homes) ks e = (homes, refl, cc)
+  homing_at t ks e = let z : ⊥ = cc in absurd z
+
+  -- so the actor stands there, and this collection is the first that is left to it
+  pub homing_is : (t : own.Stage V) (k : ℕ) → next_of (stage_of t) ≡ next.GoHome k
+      → (homes : VecDeque ℕ Global) × (t ≡ stage.Homing homes) × (ks : List ℕ) × (homes.items ≡ k ∷ ks)
+  homing_is t k e =
+      let home = home_is (stage_of t) k e in
+      let at = homing_at t (k ∷ home.0) home.1 in (at.0, at.1, home.0, at.2)
+
+  pub quiet_home : (s : Stage V) (k : ℕ) → next_of s ≡ next.GoHome k → is_loading s ≡ false
+  quiet_home s k due = ap is_loading (home_is s k due).1
 
   pub recorded_home : (t : own.Stage V) (k : ℕ) → next_of (stage_of t) ≡ next.GoHome k → is_recorded t ≡ true
-  recorded_home t k e = let h = home_is (stage_of t) k e in recorded_at t k h.0 h.1
+  recorded_home t k e = ap is_recorded (homing_is t k e).1
 
   due_home : (a k : ℕ) (o : Option (Action (Asked V))) → IsDue a (next.GoHome k) o → o ≡ Some (GoHome a k)
   due_home a k None h = absurd h
   due_home a k (Some e) h = ap Some h
+
+  -- the action of its next step
+  pub home_due : AreSteps V → (w : World V) (a k : ℕ) (r : TxActor V) → Runs a r w → next_of (stage_of r.stage) ≡ next.GoHome k
+      → GoesHome w a k
+  home_due steps w a k r runs due =
+      let next_is : next_of (w.seats a).stage ≡ next.GoHome k = next_as w a r runs ∙ due in
+      same_action w a (w.seats a).stage (λ q. let e : next.FirstStore ≡ next.GoHome k = sym q ∙ next_is in let c : ⊥ = cc in c)
+      ∙ due_home a k _ (due_as steps w a (w.seats a).stage (next.GoHome k) next_is)
 
   home_words : (w : World V) (a k : ℕ) → (acted w (GoHome a k ∷ [])).boosted.words ≡ w.boosted.words
   home_words w a k =
@@ -198,11 +202,7 @@ module _ {V : Type 0} where
         let quiet : is_loading (stage_of r.stage) ≡ false = ap is_loading first.1 in
         let st : (w.seats a).stage ≡ stage_of r.stage = stage_by (w.seats a) r quiet runs.0 in
         let next_is : next_of (w.seats a).stage ≡ next.GoHome k = next_as w a r runs ∙ due in
-        let action : step_action w a (w.seats a).stage ≡ Some (GoHome a k) =
-        due_home a k _ (due_as steps w a (w.seats a).stage (next.GoHome k) next_is) in
-        let home : GoesHome w a k =
-        same_action w a (w.seats a).stage (λ q. let e : next.FirstStore ≡ next.GoHome k = sym q ∙ next_is in let c : ⊥ = cc in c)
-        ∙ action in
+        let home = home_due steps w a k r runs due in
         let here : Runs a p w = stands a w runs in
         let there : Runs a p z = runs_moved w a p (GoHome a k) (home_words w a k) here in
         let at_home : (w.seats a).stage ≡ Homing (k ∷ first.0) = st ∙ first.1 in

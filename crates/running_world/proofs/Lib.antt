@@ -3,6 +3,8 @@ pub mod HomeLemmas
 pub mod OpeningLemmas
 pub mod PartsLemmas
 pub mod PrepareLemmas
+mod RoomLemmas
+mod HomingLemmas
 pub mod SeatLemmas
 pub mod TraceLemmas
 pub mod TurnLemmas

@@ -22,6 +22,7 @@ use Rattle.world_table.specs.Openings.{HasShape, blocks_of, world_of}
 use Rattle.world_table.specs.Tables.{HasTable}
 use Rattle.running_world.specs.declared.parts.Parts.{Parts}
 use Rattle.running_world.specs.declared.trace.Ended.{Ended}
+use Rattle.running_world.specs.Homes.{HaveRoom, homes_left}
 use Rattle.running_world.specs.Openings.{AreIdle, IsIdle}
 use Rattle.running_world.specs.Parts.{IsWorld, ended_of, total_owed}
 use Rattle.running_world.proofs.SeatLemmas.{idle_as}
@@ -96,6 +97,10 @@ module _ {V : Type 0} where
           };
           copies = subst (λ (p : own.Stage V). HasCopiesAt r w (i + 1) p) (sym own_idle.stage) tt;
         });
+    room = λ i r at. (
+        let own_idle = idle_at d.actors.items i r idle at in
+        subst (λ (p : own.Stage V). HaveRoom d.table r.copies.items (homes_left p)) (sym own_idle.stage)
+        (λ j k low. (let z : ⊥ = omega (arith, low) in absurd z)));
     others = λ a none. refl;
     records = rs;
     aborted = ap (λ (xs : List (Ended V)). map ended_of xs) es;

@@ -33,9 +33,9 @@ use Rattle.actor_copies.specs.Owns.{AreOfBlocks, IsOwn, MayCall}
 use Rattle.actor_copies.specs.Staying.{EventStays, EventsStay, Joins, StaysAsked, StepStays, Stays, call_in}
 use Rattle.tx_actor.specs.Calls.{AsksAt, CanCall, StandsOwn}
 use Rattle.tx_actor.specs.Having.{HasCopies, HasCopiesAt, KeepsCopies, KeepsFrom, OwnsAll, ReadsStill}
-use Rattle.tx_actor.specs.Keeping.{IsRunning, KeepsIn}
+use Rattle.tx_actor.specs.Keeping.{IsRunning}
 use Rattle.tx_actor.specs.Owns.{OwnsCopies}
-use Rattle.tx_actor.specs.Running.{Runs, notice_of, seat_of, stage_of}
+use Rattle.tx_actor.specs.Running.{Runs, seat_of, stage_of}
 use Rattle.tx_actor.specs.declared.actor.Stage as own
 use Rattle.tx_actor.specs.declared.actor.Stage.TheVariants as stage
 use Rattle.tx_actor.specs.declared.actor.Told.{Told}
@@ -106,7 +106,7 @@ not_both : {V : Type 0} → (let s : Stage V = Beginning in s) ≡ Open → ⊥
 not_both e = let z : ⊥ = cc in z
 
 module _ {V : Type 0} where
-  reached_stays : EventsStay V → (o : Contents V) (w : World V) → IsReached o w → (e : Event V) → EventStays w e
+  pub reached_stays : EventsStay V → (o : Contents V) (w : World V) → IsReached o w → (e : Event V) → EventStays w e
   reached_stays stays o w h e =
       subst (λ (z : World V). EventStays z e) h.world (stays h.blocks h.clock o.words o.held h.events e h.stripes)
 
@@ -118,7 +118,7 @@ module _ {V : Type 0} where
   stripes_stand : (o : Contents V) (w : World V) (e : Event V) → IsReached o w → HaveStripes (happens w e).0.blocks
   stripes_stand o w e h = subst HaveStripes (sym (blocks_stand w e)) (reached_linked o w h).base.stripes
 
-  others_keep : StandLaw V → OthersLaw V → (e : Event V) (w : World V) (b : ℕ) (q : TxActor V) → b ≢ whose e → HasCopies q w b
+  pub others_keep : StandLaw V → OthersLaw V → (e : Event V) (w : World V) (b : ℕ) (q : TxActor V) → b ≢ whose e → HasCopies q w b
       → HasCopies q (happens w e).0 b
   others_keep stand law e w b q ne h = (let s = stand w e b ne in law q w (happens w e).0 b s.1 s.2 h)
 
@@ -126,7 +126,7 @@ module _ {V : Type 0} where
   begins_or stage.Beginning = inl refl
   begins_or t = inr (λ e. let z : ⊥ = cc in z)
 
-  open_stage : (v : World V) (a : ℕ) (s : TxActor V) → Runs a s v → s.stage ≡ stage.Open → (v.seats a).stage ≡ Open
+  pub open_stage : (v : World V) (a : ℕ) (s : TxActor V) → Runs a s v → s.stage ≡ stage.Open → (v.seats a).stage ≡ Open
   open_stage v a s runs at =
       stage_by (v.seats a) s (ap (λ (t : own.Stage V). is_loading (stage_of t)) at) runs.0 ∙ ap (λ (t : own.Stage V). stage_of t) at
 
@@ -211,7 +211,7 @@ module _ {V : Type 0} where
   }
 
   -- ---- a request
-  open_or : (t : own.Stage V) → (t ≡ stage.Open) ⊎ (t ≡ stage.Open → ⊥)
+  pub open_or : (t : own.Stage V) → (t ≡ stage.Open) ⊎ (t ≡ stage.Open → ⊥)
   open_or stage.Open = inl refl
   open_or t = inr (λ e. let z : ⊥ = cc in z)
 

@@ -10,7 +10,9 @@ use Rattle.std.proofs.lemmas.List.{append-nil, map-append}
 use Rattle.seq_model.specs.declared.call.Call.{Call}
 use Rattle.seq_model.specs.declared.call.Reply.{Reply}
 use Rattle.seq_model.specs.declared.refusal.Refusal.{Refusal}
+use Rattle.seq_model.specs.Contents.{Contents}
 use Rattle.seq_model.specs.Runs.{insert_record}
+use Rattle.seq_model.specs.declared.event.Event.{Event}
 use Rattle.seq_model.specs.declared.event.Event.TheVariants.{Ask, Step, Starve}
 use Rattle.seq_model.specs.declared.event.Request.{Request}
 use Rattle.seq_model.specs.declared.record.Record.{Record}
@@ -29,7 +31,7 @@ use Rattle.tx_actor.specs.Calls.{AsksAt}
 use Rattle.tx_actor.specs.Having.{HasCopies}
 use Rattle.tx_actor.specs.Dispatch.{Starves}
 use Rattle.tx_actor.specs.Keeping.{IsRunning, KeepsIn}
-use Rattle.tx_actor.specs.Running.{is_recorded, seat_at, seat_of, stage_of}
+use Rattle.tx_actor.specs.Running.{Runs, is_recorded, seat_at, seat_of, stage_of}
 use Rattle.tx_actor.specs.declared.actor.Stage as own
 use Rattle.tx_actor.specs.declared.actor.Stage.TheVariants as stage
 use Rattle.tx_actor.specs.declared.actor.Told.{Told}
@@ -40,7 +42,9 @@ use Rattle.world_table.specs.declared.table.Table.{Table}
 use Rattle.running_world.specs.declared.parts.Parts.{Parts}
 use Rattle.running_world.specs.declared.trace.Ended.{Ended}
 use Rattle.running_world.specs.Parts.{Happens, IsStarved, Stays, ended_of}
-use Rattle.running_world.specs.Turns.{IsTurn, KeepsOwn}
+use Rattle.running_world.specs.Homes.{HasRoomLeft}
+use Rattle.running_world.specs.Reached.{IsReached}
+use Rattle.running_world.specs.Turns.{IsTurn, KeepsOwn, KeepsRoom}
 use Rattle.running_world.proofs.SeatLemmas.{seated_by, stage_by}
 use Rattle.running_world.proofs.TurnLemmas.{first_is, starve_turns}
 use Rattle.running_world.proofs.OwnTurnLemmas.{CallsLaw, ask_turns}
@@ -62,18 +66,19 @@ module _ {V : Type 0} where
   pub step_happens : (c d : Parts V) (i : ℕ) (r s : TxActor V) (n : Told V) → slice_get c.actors.items i ≡ Some r
       → d.blocks ≡ c.blocks → d.actors.items ≡ slice_set c.actors.items i s
       → IsTurn c.blocks (Step (i + 1)) c.table r d.table s n → KeepsOwn c.blocks (Step (i + 1)) r s
+      → KeepsRoom (Step (i + 1)) c.table r d.table s
       → ((m : ℕ) (bs : List Block) → HasShape c.table m bs → HasShape d.table m bs)
       → (IsRunning c.blocks r → IsRunning c.blocks s) → Grows c.table.cells r.words d.table.cells s.words
       → ((x : Seat V) → x ≡ seat_at x r → d.records.items ≡ with_record (i + 1) (committed_by x x.stage) c.records.items)
       → ((x : Seat V) → x ≡ seat_at x r → map ended_of d.aborted.items ≡ map ended_of c.aborted.items ++ ended_by (i + 1) x x.stage)
       → Happens c (Step (i + 1)) d n
-  step_happens c d i r s n got laid es turn kept shape keeps grows rs ends = record {
+  step_happens c d i r s n got laid es turn kept rooms shape keeps grows rs ends = record {
     parts = λ o w reached h. (
         let a = i + 1 in
         let x = w.seats a in
         let is = (h.seats i r got).runs.0 in
         let adds = steps_end w a in
-        turned o c d w (Step a) i r s n reached h refl got laid es turn kept shape keeps grows
+        turned o c d w (Step a) i r s n reached h refl got laid es turn kept rooms shape keeps grows
         (rs x is ∙ (ap (λ (xs : List (ℕ × Record V)). with_record a (committed_by x x.stage) xs) h.records ∙ sym adds.0))
         (ends x is ∙ (ap (λ (xs : List (seats.Ended V)). xs ++ ended_by a x x.stage) h.aborted ∙ sym adds.1)));
     told = λ o w reached h. (turn.turns o w reached h.laid h.table (h.seats i r got).runs (h.seats i r got).copies).2;
@@ -82,12 +87,12 @@ module _ {V : Type 0} where
   -- a step that ends nothing
   pub passes : (c : Parts V) (u : Table V) (i : ℕ) (r s : TxActor V) (n : Told V) → slice_get c.actors.items i ≡ Some r
       → is_loading (stage_of r.stage) ≡ false → EndsNone (stage_of r.stage) → IsTurn c.blocks (Step (i + 1)) c.table r u s n
-      → KeepsOwn c.blocks (Step (i + 1)) r s
+      → KeepsOwn c.blocks (Step (i + 1)) r s → KeepsRoom (Step (i + 1)) c.table r u s
       → ((m : ℕ) (bs : List Block) → HasShape c.table m bs → HasShape u m bs)
       → (IsRunning c.blocks r → IsRunning c.blocks s) → Grows c.table.cells r.words u.cells s.words
       → Happens c (Step (i + 1)) (with_turn c u i s) n
-  passes c u i r s n got quiet none turn kept shape keeps grows =
-      step_happens c (with_turn c u i s) i r s n got refl refl turn kept shape keeps grows
+  passes c u i r s n got quiet none turn kept rooms shape keeps grows =
+      step_happens c (with_turn c u i s) i r s n got refl refl turn kept rooms shape keeps grows
       (λ x is. sym (ap (λ (o : Option (Record V)). with_record (i + 1) o c.records.items)
       (ap (λ (k : Stage V). committed_by x k) (stage_by x r quiet is) ∙ none.committed x)))
       (λ x is. sym (append-nil (map ended_of c.aborted.items))
@@ -140,30 +145,30 @@ module _ {V : Type 0} where
 
   -- ---- a request
   pub ask_happens : CallsLaw V → (c : Parts V) (i : ℕ) (q : Request V) (r s : TxActor V) (n : Told V) → slice_get c.actors.items i ≡ Some r
-      → AsksAt c.blocks r s n (λ a w. ask_at w a (seat_of r) (stage_of r.stage) q) → KeepsOwn c.blocks (Ask (i + 1) q) r s → KeepsIn c.blocks r s
-      → Happens c (Ask (i + 1) q) (with_turn c c.table i s) n
-  ask_happens calls c i q r s n got asks own kept =
+      → AsksAt c.blocks r s n (λ a w. ask_at w a (seat_of r) (stage_of r.stage) q) → KeepsOwn c.blocks (Ask (i + 1) q) r s
+      → KeepsRoom (Ask (i + 1) q) c.table r c.table s → KeepsIn c.blocks r s → Happens c (Ask (i + 1) q) (with_turn c c.table i s) n
+  ask_happens calls c i q r s n got asks own rooms kept =
       let turn = ask_turns calls c.blocks (i + 1) q c.table r s n asks in
       let less = kept.owed in
       record {
         parts = λ o w reached h. (
             let adds = asked_adds w (i + 1) q in
-            turned o c (with_turn c c.table i s) w (Ask (i + 1) q) i r s n reached h refl got refl refl turn own (λ m bs x. x)
+            turned o c (with_turn c c.table i s) w (Ask (i + 1) q) i r s n reached h refl got refl refl turn own rooms (λ m bs x. x)
             kept.running (inl (omega (arith, less))) (h.records ∙ sym adds.0) (h.aborted ∙ sym adds.1));
         told = λ o w reached h. (turn.turns o w reached h.laid h.table (h.seats i r got).runs (h.seats i r got).copies).2;
       }
 
   -- ---- a want of memory
   pub starve_happens : (c : Parts V) (i : ℕ) (r s : TxActor V) (n : Told V) → slice_get c.actors.items i ≡ Some r → Starves r s n
-      → KeepsOwn c.blocks (Starve (i + 1)) r s → ((v : BlocksView) → KeepsIn v r s) → Happens c (Starve (i + 1)) (with_turn c c.table i s) n
-  starve_happens c i r s n got starves own keeps =
+      → KeepsOwn c.blocks (Starve (i + 1)) r s → KeepsRoom (Starve (i + 1)) c.table r c.table s → ((v : BlocksView) → KeepsIn v r s) → Happens c (Starve (i + 1)) (with_turn c c.table i s) n
+  starve_happens c i r s n got starves own rooms keeps =
       let turn = starve_turns c.blocks (i + 1) c.table r s n starves in
       let kept = keeps c.blocks in
       let less = kept.owed in
       record {
         parts = λ o w reached h. (
             let adds = starved_adds w (i + 1) in
-            turned o c (with_turn c c.table i s) w (Starve (i + 1)) i r s n reached h refl got refl refl turn own (λ m bs x. x)
+            turned o c (with_turn c c.table i s) w (Starve (i + 1)) i r s n reached h refl got refl refl turn own rooms (λ m bs x. x)
             kept.running (inl (omega (arith, less))) (h.records ∙ sym adds.0) (h.aborted ∙ sym adds.1));
         told = λ o w reached h. (turn.turns o w reached h.laid h.table (h.seats i r got).runs (h.seats i r got).copies).2;
       }
@@ -177,6 +182,7 @@ module _ {V : Type 0} where
     shape = h.shape;
     count = h.count;
     seats = h.seats;
+    room = h.room;
     others = h.others;
     records = same ∙ h.records;
     aborted = h.aborted;
@@ -190,6 +196,7 @@ module _ {V : Type 0} where
     shape = h.shape;
     count = h.count;
     seats = h.seats;
+    room = h.room;
     others = h.others;
     records = h.records;
     aborted = ap (λ (xs : List (Ended V)). map ended_of xs) same ∙ h.aborted;
@@ -199,18 +206,26 @@ module _ {V : Type 0} where
   -- an actor that shows what the one at its place does
   pub stays_by : (c : Parts V) (u : Table V) (i : ℕ) (r s : TxActor V) → slice_get c.actors.items i ≡ Some r → u ≡ c.table → Stands r s
       → ((w : World V) → IsLaid c.blocks w → HasCopies r w (i + 1) → HasCopies s w (i + 1))
+      → ((o : Contents V) (w : World V) → IsReached o w → Runs (i + 1) r w → Runs (i + 1) s w → HasRoomLeft c.table r → HasRoomLeft c.table s)
       → (IsRunning c.blocks r → IsRunning c.blocks s) → Grows c.table.cells r.words u.cells s.words → Stays c (with_turn c u i s)
-  stays_by c u i r s got same stands has keeps grows = λ o w reached h.
-      stood c (with_turn c u i s) w i r s h got refl same refl refl refl stands (has w h.laid) (keeps (h.seats i r got).running) grows
+  stays_by c u i r s got same stands has room keeps grows = λ o w reached h. (
+      let runs = (h.seats i r got).runs in
+      stood c (with_turn c u i s) w i r s h got refl same refl refl refl stands (has w h.laid)
+      (subst (λ (t : Table V). HasRoomLeft t s) (sym same) (room o w reached runs (stands (i + 1) w runs) (h.room i r got)))
+      (keeps (h.seats i r got).running) grows)
+
+  -- parts of the same worlds, and then an event
+  pub happens_then : (b c d : Parts V) (e : Event V) (n : Told V) → Stays b c → Happens c e d n → Happens b e d n
+  happens_then b c d e n same h = record {
+    parts = λ o w reached k. h.parts o w reached (same o w reached k);
+    told = λ o w reached k. h.told o w reached (same o w reached k);
+  }
+
+  pub stays_then : (b c d : Parts V) → Stays b c → Stays c d → Stays b d
+  stays_then b c d first then = λ o w reached h. then o w reached (first o w reached h)
 
   pub starved_then : (b c d : Parts V) (i : ℕ) → Stays b c → IsStarved c i d → IsStarved b i d
-  starved_then b c d i same h = record {
-    told = h.told;
-    happens = record {
-      parts = λ o w reached k. h.happens.parts o w reached (same o w reached k);
-      told = λ o w reached k. h.happens.told o w reached (same o w reached k);
-    };
-  }
+  starved_then b c d i same h = record { told = h.told; happens = happens_then b c d (Starve (i + 1)) h.told same h.happens }
 
   -- ---- the steps that end a transaction
   record_is : (m : Record V) (n : ℕ) (b : Bool) (cs : List (Call V × Reply V)) → m.number ≡ n → m.writes ≡ b → m.calls ≡ cs

@@ -2,7 +2,7 @@
 --
 -- So a table stays that of each world of which it was, and keeps its shape; and the room that one base has been given stays while the next
 -- is given its.
-use Rattle.std.proofs.Common.{◌≡◌, ℕ, zero, suc, ◌+◌, ◌-◌, ◌<◌, List, [], ◌∷◌, Some, length, slice_get, get_or, refl, sym, ap, ◌∙◌, subst, arith, inl, inr}
+use Rattle.std.proofs.Common.{◌≡◌, ℕ, zero, suc, ◌+◌, ◌-◌, ◌<◌, ◌≤◌, ◌^◌, List, [], ◌∷◌, Some, length, slice_get, get_or, refl, sym, ap, ◌∙◌, subst, arith, inl, inr}
 use Rattle.std.specs.Prelude.{set, slice_index, slice_index_or}
 use Rattle.std.proofs.lemmas.Bool.{cases_eq}
 use Rattle.std.proofs.lemmas.List.{length-set}
@@ -14,10 +14,20 @@ use Rattle.replay_log.specs.Worlds.{World}
 use Rattle.step_core.specs.CellSteps.{AreCells}
 use Rattle.atomic_steps.specs.Bases.{ShowsBase}
 use Rattle.actor_copies.specs.declared.copies.CopyOf.{CopyOf}
+use Rattle.tx_actor.specs.declared.actor.Stage as own
+use Rattle.tx_actor.specs.declared.actor.Stage.TheVariants as stage
 use Rattle.world_table.specs.Openings.{HasShape}
 use Rattle.world_table.specs.Tables.{HasTable, holder}
 use Rattle.world_table.specs.declared.table.Table.{Table}
-use Rattle.running_world.specs.Homes.{AreAlike, HasRoomAt, IsAlike}
+use Rattle.std.specs.declared.alloc.Global.{Global}
+use Rattle.std.specs.declared.collections.VecDeque.{VecDeque}
+use Rattle.std.specs.declared.vec.Vec.{Vec}
+use Rattle.seq_model.specs.declared.record.Record.{Record}
+use Rattle.step_core.specs.declared.cells.Cells.{Cells}
+use Rattle.running_world.specs.declared.parts.Parts.{Parts}
+use Rattle.running_world.specs.Homes.{AreAlike, HasRoomAt, HasRoomDue, IsAlike}
+use Rattle.running_world.specs.Parts.{Stays, total_owed}
+use Rattle.running_world.proofs.PartsLemmas.{more_records, stays_then}
 
 -- what stands at a place, by whatever it is looked up with
 pub at_any : (ks : List ℕ) (i k : ℕ) → i < length ks → k ≡ get_or ks i k → (d : ℕ) → slice_index_or ks i d ≡ k
@@ -115,3 +125,34 @@ module _ {V : Type 0} where
     | inl e ↦ subst (HasRoomAt u cs) (sym (ap (λ (n : ℕ). slice_index_or ks n d) e ∙ is d)) room
     | inr ne ↦ room_stays t u cs (slice_index_or ks j d) alike (so_far j d (omega (arith, low, ne)))
   ]
+
+  pub none_due : (t : Table V) (cs : List (CopyOf V)) (s : own.Stage V) → ((homes : VecDeque ℕ Global) → s ≡ stage.Ready homes → ⊥)
+      → HasRoomDue t cs s
+  none_due t cs (stage.Ready homes) ready = absurd (ready homes refl)
+  none_due t cs s ready = tt
+
+  -- ---- the parts with that table
+  pub prepared_stays : (c : Parts V) (u : Table V) → AreAlike c.table.bases.items u.bases.items
+      → (u.cells ≡ c.table.cells) × (u.gates ≡ c.table.gates) → Stays c (record c { table = u })
+  prepared_stays c u alike rest = λ o w reached h. record {
+    laid = h.laid;
+    table = table_alike c.table u w rest.0 rest.1 alike h.table;
+    shape = shape_alike c.table u w.words w.blocks rest.0 rest.1 alike h.shape;
+    count = h.count;
+    seats = h.seats;
+    room = λ i r at j d low. room_stays c.table u r.copies.items _ alike (h.room i r at j d low);
+    others = h.others;
+    records = h.records;
+    aborted = h.aborted;
+    clock = subst (λ (x : Cells). x.clock + total_owed c.actors.items ≤ 2 ^ 62 + 65) (sym rest.0) h.clock;
+  }
+
+  -- and with room for a record more
+  abbrev pub room_made : Parts V → Vec (ℕ × Record V) Global → Table V → Parts V
+  room_made c rs u = record c { records = rs; table = u }
+
+  pub has_room_made : (c : Parts V) (rs : Vec (ℕ × Record V) Global) (u : Table V) → rs.items ≡ c.records.items
+      → AreAlike c.table.bases.items u.bases.items → (u.cells ≡ c.table.cells) × (u.gates ≡ c.table.gates) → Stays c (room_made c rs u)
+  has_room_made c rs u same alike rest =
+      let more : Parts V = record c { records = rs } in
+      stays_then c more (room_made c rs u) (more_records c rs same) (prepared_stays more u alike rest)

@@ -39,7 +39,8 @@ use Rattle.running_world.specs.declared.trace.Ended.{Ended}
 use Rattle.running_world.specs.Parts.{IsSeat, IsWorld, ended_of, total_owed}
 use Rattle.running_world.specs.Reached.{IsReached}
 use Rattle.tx_actor.specs.Having.{HasCopies}
-use Rattle.running_world.specs.Turns.{IsTurn, KeepsOwn}
+use Rattle.running_world.specs.Homes.{HasRoomLeft}
+use Rattle.running_world.specs.Turns.{IsTurn, KeepsOwn, KeepsRoom}
 use Rattle.running_world.proofs.SeatLemmas.{runs_stand}
 
 owed_one : (p : Place) → owed p ≤ 1
@@ -139,18 +140,17 @@ module _ {V : Type 0} where
       → IsSeat v w b r → IsSeat v u b r
   seat_stands v w u b r h keep s = record { runs = runs_stand w u b r h s.runs; running = s.running; copies = keep s.copies }
 
-  -- the actors with one that takes the place of another
-  seats_set : (v : BlocksView) (u : World V) (rs now : List (TxActor V)) (i : ℕ) (r s : TxActor V) → slice_get rs i ≡ Some r
-      → now ≡ slice_set rs i s → IsSeat v u (i + 1) s
-      → ((j : ℕ) (q : TxActor V) → j ≢ i → slice_get rs j ≡ Some q → IsSeat v u (j + 1) q)
-      → (j : ℕ) (q : TxActor V) → slice_get now j ≡ Some q → IsSeat v u (j + 1) q
-  seats_set v u rs now i r s got es moved others j q at = elim (cases_eq j i) [
+  -- what each of these is at its place, with one that takes the place of another
+  all_set : (P : ℕ → TxActor V → Type 0) (rs now : List (TxActor V)) (i : ℕ) (r s : TxActor V) → slice_get rs i ≡ Some r
+      → now ≡ slice_set rs i s → P i s → ((j : ℕ) (q : TxActor V) → j ≢ i → slice_get rs j ≡ Some q → P j q)
+      → (j : ℕ) (q : TxActor V) → slice_get now j ≡ Some q → P j q
+  all_set P rs now i r s got es moved others j q at = elim (cases_eq j i) [
     | inl at_i ↦ (
         let there : slice_get (slice_set rs i s) i ≡ Some q =
         subst (λ (k : ℕ). slice_get (slice_set rs i s) k ≡ Some q) at_i
         (subst (λ (xs : List (TxActor V)). slice_get xs j ≡ Some q) es at) in
         let is_s : s ≡ q = same_at (slice_set rs i s) i s q (set_here rs i r s got) there in
-        subst (λ (k : ℕ). IsSeat v u (k + 1) q) (sym at_i) (subst (λ (x : TxActor V). IsSeat v u (i + 1) x) is_s moved))
+        subst (λ (k : ℕ). P k q) (sym at_i) (subst (λ (x : TxActor V). P i x) is_s moved))
     | inr ne ↦ (
         let there : slice_get rs j ≡ Some q =
         sym (set_there rs i j s ne) ∙ subst (λ (xs : List (TxActor V)). slice_get xs j ≡ Some q) es at in
@@ -170,13 +170,13 @@ module _ {V : Type 0} where
   pub turned : (opening : Contents V) (c d : Parts V) (w : World V) (e : Event V) (i : ℕ) (r s : TxActor V) (n : Told V)
       → IsReached opening w → IsWorld c w → whose e ≡ i + 1 → slice_get c.actors.items i ≡ Some r
       → d.blocks ≡ c.blocks → d.actors.items ≡ slice_set c.actors.items i s
-      → IsTurn c.blocks e c.table r d.table s n → KeepsOwn c.blocks e r s
+      → IsTurn c.blocks e c.table r d.table s n → KeepsOwn c.blocks e r s → KeepsRoom e c.table r d.table s
       → ((m : ℕ) (bs : List Block) → HasShape c.table m bs → HasShape d.table m bs)
       → (IsRunning c.blocks r → IsRunning c.blocks s)
       → Grows c.table.cells r.words d.table.cells s.words
       → d.records.items ≡ (happens w e).0.records → map ended_of d.aborted.items ≡ (happens w e).0.aborted
       → IsWorld d (happens w e).0
-  turned opening c d w e i r s n reached h is got laid es turn kept shape keeps grows rs ends =
+  turned opening c d w e i r s n reached h is got laid es turn kept rooms shape keeps grows rs ends =
       let u = (happens w e).0 in
       let next : suc (whose e) ≢ whose e = λ q. omega (arith, q) in
       let alike : (b : ℕ) → b ≢ whose e → Alike b w u = λ b ne. others w e b ne in
@@ -197,11 +197,17 @@ module _ {V : Type 0} where
         shape = subst (λ (m : ℕ). HasShape d.table m u.blocks) same.words
             (subst (λ (bs : List Block). HasShape d.table w.words bs) same.blocks (shape w.words w.blocks h.shape));
         count = ap length es ∙ (set_length c.actors.items i s ∙ h.count);
-        seats = seats_set d.blocks u c.actors.items d.actors.items i r s got es moved
+        seats = all_set (λ j q. IsSeat d.blocks u (j + 1) q) c.actors.items d.actors.items i r s got es moved
             (λ j q ne at. (
             let apart : j + 1 ≢ whose e = λ z. ne (omega (arith, z, is)) in
             subst (λ (v : BlocksView). IsSeat v u (j + 1) q) (sym laid)
             (seat_stands c.blocks w u (j + 1) q (alike (j + 1) apart) (kept.others w (j + 1) q apart) (h.seats j q at))));
+        room = all_set (λ j q. HasRoomLeft d.table q) c.actors.items d.actors.items i r s got es
+            (rooms.own opening w reached here after.1 (h.room i r got))
+            (λ j q ne at. (
+            let apart : j + 1 ≢ whose e = λ z. ne (omega (arith, z, is)) in
+            rooms.others opening w (j + 1) q reached here (runs_stand w u (j + 1) q (alike (j + 1) apart) (h.seats j q at).runs)
+            (h.room j q at)));
         others = λ a none. (
             let low64 : i < 64 = omega (arith, low, h.count) in
             let apart : a ≢ whose e = λ z. is_one a none i low64 (z ∙ is) in
@@ -214,9 +220,9 @@ module _ {V : Type 0} where
   -- an actor that shows what the one at its place does may stand there
   pub stood : (c d : Parts V) (w : World V) (i : ℕ) (r s : TxActor V) → IsWorld c w → slice_get c.actors.items i ≡ Some r
       → d.blocks ≡ c.blocks → d.table ≡ c.table → d.actors.items ≡ slice_set c.actors.items i s → d.records.items ≡ c.records.items
-      → d.aborted.items ≡ c.aborted.items → Stands r s → (HasCopies r w (i + 1) → HasCopies s w (i + 1)) → IsRunning c.blocks s → Grows c.table.cells r.words d.table.cells s.words
-      → IsWorld d w
-  stood c d w i r s h got laid same es rs ends stands has running grows =
+      → d.aborted.items ≡ c.aborted.items → Stands r s → (HasCopies r w (i + 1) → HasCopies s w (i + 1)) → HasRoomLeft d.table s
+      → IsRunning c.blocks s → Grows c.table.cells r.words d.table.cells s.words → IsWorld d w
+  stood c d w i r s h got laid same es rs ends stands has room running grows =
       let own = h.seats i r got in
       let moved : IsSeat d.blocks w (i + 1) s = record {
         runs = stands (i + 1) w own.runs;
@@ -228,8 +234,10 @@ module _ {V : Type 0} where
         table = subst (λ (t : Table V). HasTable t w) (sym same) h.table;
         shape = subst (λ (t : Table V). HasShape t w.words w.blocks) (sym same) h.shape;
         count = ap length es ∙ (set_length c.actors.items i s ∙ h.count);
-        seats = seats_set d.blocks w c.actors.items d.actors.items i r s got es moved
+        seats = all_set (λ j q. IsSeat d.blocks w (j + 1) q) c.actors.items d.actors.items i r s got es moved
             (λ j q ne at. subst (λ (v : BlocksView). IsSeat v w (j + 1) q) (sym laid) (h.seats j q at));
+        room = all_set (λ j q. HasRoomLeft d.table q) c.actors.items d.actors.items i r s got es room
+            (λ j q ne at. subst (λ (t : Table V). HasRoomLeft t q) (sym same) (h.room j q at));
         others = h.others;
         records = rs ∙ h.records;
         aborted = ap (λ (xs : List (Ended V)). map ended_of xs) ends ∙ h.aborted;

@@ -1,5 +1,5 @@
 -- What a base that goes home asks of its actor, and what it makes of the world.
-use Rattle.std.specs.Prelude.{◌≡◌, ℕ, ◌<◌, ◌≤◌, ◌^◌, List, All, Some, length, slice_get}
+use Rattle.std.specs.Prelude.{◌≡◌, ℕ, ◌<◌, ◌≤◌, ◌^◌, List, [], All, Some, length, slice_get}
 use Rattle.seq_model.specs.declared.event.Event.TheVariants.{Step}
 use Rattle.seq_model.specs.Contents.{Contents}
 use Rattle.replay_log.specs.declared.base.Base.{Base}
@@ -11,6 +11,8 @@ use Rattle.actor_copies.specs.Owns.{IsOwn}
 use Rattle.actor_copies.specs.Kept.{copy_of}
 use Rattle.tx_actor.specs.Running.{Runs, notice_of}
 use Rattle.actor_copies.specs.declared.copies.CopyOf.{CopyOf}
+use Rattle.tx_actor.specs.declared.actor.Stage.{Stage}
+use Rattle.tx_actor.specs.declared.actor.Stage.TheVariants as stage
 use Rattle.tx_actor.specs.declared.actor.Told.{Told}
 use Rattle.tx_actor.specs.declared.actor.TxActor.{TxActor}
 use Rattle.world_table.specs.Openings.{HasShape}
@@ -37,6 +39,21 @@ module _ {V : Type 0} where
 
   abbrev pub HaveRoom : Table V → List (CopyOf V) → List ℕ → Type 0
   HaveRoom t cs ks = All (HasRoomAt t cs) ks
+
+  -- the collections that a commit has written whose bases are still to go home, from its first value store on
+  abbrev pub homes_left : Stage V → List ℕ
+  homes_left (stage.Storing homes) = homes.items
+  homes_left (stage.Homing homes) = homes.items
+  homes_left s = []
+
+  -- the base of each that is left to r has room for the log of r's calls on it
+  abbrev pub HasRoomLeft : Table V → TxActor V → Type 0
+  HasRoomLeft t r = HaveRoom t r.copies.items (homes_left r.stage)
+
+  -- and has it before the first value store of r, where that is due
+  abbrev pub HasRoomDue : Table V → List (CopyOf V) → Stage V → Type 0
+  HasRoomDue t cs (stage.Ready homes) = HaveRoom t cs homes.items
+  HasRoomDue t cs s = Unit {0}
 
   -- The table is that of some world that events have reached, in which r has its own of collection k, and the base of k has room for the
   -- log of r's calls on it.

@@ -21,6 +21,7 @@ use Rattle.world_table.specs.Openings.{HasShape}
 use Rattle.world_table.specs.Tables.{HasTable}
 use Rattle.running_world.specs.declared.parts.Parts.{Parts}
 use Rattle.running_world.specs.declared.trace.Ended.{Ended}
+use Rattle.running_world.specs.Homes.{HasRoomLeft}
 use Rattle.running_world.specs.Reached.{IsReached}
 
 module _ {V : Type 0} where
@@ -39,13 +40,14 @@ module _ {V : Type 0} where
     pub copies : HasCopies r w a
 
   -- The parts are those of the world w: its table, its actors 1 to 64, each at the place before its number, and what has come of it so
-  -- far. The clock is far from its end.
+  -- far. The bases that are still to go home have room for it. The clock is far from its end.
   pub record IsWorld (c : Parts V) (w : World V) : Type 0 where
     pub laid : IsLaid c.blocks w
     pub table : HasTable c.table w
     pub shape : HasShape c.table w.words w.blocks
     pub count : length c.actors.items ≡ 64
     pub seats : (i : ℕ) (r : TxActor V) → slice_get c.actors.items i ≡ Some r → IsSeat c.blocks w (i + 1) r
+    pub room : (i : ℕ) (r : TxActor V) → slice_get c.actors.items i ≡ Some r → HasRoomLeft c.table r
     pub others : (a : ℕ) → is_actor a ≡ false → w.seats a ≡ no_one
     pub records : c.records.items ≡ w.records
     pub aborted : map ended_of c.aborted.items ≡ w.aborted

@@ -12,6 +12,7 @@ use Rattle.tx_actor.specs.declared.actor.Told.{Told}
 use Rattle.tx_actor.specs.declared.actor.TxActor.{TxActor}
 use Rattle.world_table.specs.Tables.{HasTable}
 use Rattle.world_table.specs.declared.table.Table.{Table}
+use Rattle.running_world.specs.Homes.{HasRoomLeft}
 use Rattle.running_world.specs.Reached.{IsReached}
 
 -- In every world that events have reached, which lies so, of which t is the table and in which r is the event's actor, and has of
@@ -27,3 +28,11 @@ pub record KeepsOwn {V : Type 0} (v : BlocksView) (e : Event V) (r s : TxActor V
   pub own : (opening : Contents V) (w : World V) → IsReached opening w → IsLaid v w → Runs (whose e) r w → Runs (whose e) s (happens w e).0
       → IsRunning v s → HasCopies r w (whose e) → HasCopies s (happens w e).0 (whose e)
   pub others : (w : World V) (b : ℕ) (q : TxActor V) → b ≢ whose e → HasCopies q w b → HasCopies q (happens w e).0 b
+
+-- In every world that events have reached, in which r is the event's actor and s is afterwards: where the bases of t that are left to r to
+-- go home have room, those of u that are left to s have; and so have those that are left to every other actor of the world afterwards.
+pub record KeepsRoom {V : Type 0} (e : Event V) (t : Table V) (r : TxActor V) (u : Table V) (s : TxActor V) : Type 0 where
+  pub own : (opening : Contents V) (w : World V) → IsReached opening w → Runs (whose e) r w → Runs (whose e) s (happens w e).0
+      → HasRoomLeft t r → HasRoomLeft u s
+  pub others : (opening : Contents V) (w : World V) (b : ℕ) (q : TxActor V) → IsReached opening w → Runs (whose e) r w
+      → Runs b q (happens w e).0 → HasRoomLeft t q → HasRoomLeft u q

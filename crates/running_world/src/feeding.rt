@@ -64,7 +64,7 @@ impl<V: Value> Parts<V> {
             Next::TryGate(k) => Ok(self.try_gate(i, k)),
             Next::PutGate(k) => Ok(self.put_gate(i, k)),
             Next::Copy(_) => unreachable!(),
-            Next::GoHome(_) => unreachable!(),
+            Next::GoHome(k) => Ok(self.go_home(i, k)),
         }
     }
 

@@ -1,13 +1,14 @@
 //! What a base that goes home makes of the table and of its actor.
-ghost use Rattle.std.specs.Prelude.{◌≡◌, ◌<◌, ℕ, List, All, OnOk, length};
+ghost use Rattle.std.specs.Prelude.{◌≡◌, ◌≢◌, ◌<◌, ℕ, List, All, OnOk, length, slice_get};
 ghost use Rattle.replay_log.specs.Contents.{Block};
 ghost use Rattle.actor_words.specs.Blocks.{BlocksView};
 ghost use Rattle.actor_words.specs.Dispatch.{next_of};
-ghost use Rattle.tx_actor.specs.Keeping.{KeepsIn};
+ghost use Rattle.tx_actor.specs.Having.{KeepsFrom};
+ghost use Rattle.tx_actor.specs.Keeping.{KeepsIn, NamesAmong};
 ghost use Rattle.actor_copies.specs.Logs.{OthersStand};
 ghost use Rattle.tx_actor.specs.Running.{stage_of};
 ghost use Rattle.world_table.specs.Openings.{HasShape};
-ghost use Rattle.running_world.specs.Homes.{AreAlike, HasRoomAt, HaveRoom, IsHomeTurn, MayGoHome};
+ghost use Rattle.running_world.specs.Homes.{AreAlike, HasRoomAt, HasRoomDue, HaveRoom, IsHomeTurn, MayGoHome};
 
 use actor_copies::laws::logs_as_worlds;
 use actor_words::Next;
@@ -15,7 +16,7 @@ use actor_words::laws::{goes_on_as_worlds, steps_as_worlds};
 use seq_model::{Memory, Value};
 use std::alloc::Global;
 use std::collections::VecDeque;
-use tx_actor::{Told, TxActor};
+use tx_actor::{Stage, Told, TxActor};
 use world_table::Table;
 
 fn prepare_base<V: Value>(table: &mut Table<V>, actor: &TxActor<V>, k: u32) -> Result<(), Memory>
@@ -29,7 +30,7 @@ fn prepare_base<V: Value>(table: &mut Table<V>, actor: &TxActor<V>, k: u32) -> R
 
 /// Makes room in the bases of these collections for the logs of the actor's calls there, so that they go home without memory. The bases
 /// hold what they did, also where memory is refused.
-pub fn prepare_bases<V: Value>(
+fn prepare_bases<V: Value>(
     table: &mut Table<V>,
     actor: &TxActor<V>,
     homes: &VecDeque<u32>,
@@ -43,6 +44,19 @@ pub fn prepare_bases<V: Value>(
         prepare_base(table, actor, homes[i])?;
     }
     Ok(())
+}
+
+/// The same for the bases that a commit has written, where its first value store is due.
+pub fn prepare<V: Value>(table: &mut Table<V>, actor: &TxActor<V>) -> Result<(), Memory>
+    requires { NamesAmong (length table.old.bases.items) actor.now.stage }
+    ensures room { OnOk result (HasRoomDue table.new actor.now.copies.items actor.now.stage) }
+    ensures alike { AreAlike table.old.bases.items table.new.bases.items }
+    ensures rest { (table.new.cells ≡ table.old.cells) × (table.new.gates ≡ table.old.gates) }
+{
+    match &actor.stage {
+        Stage::Ready(homes) => prepare_bases(table, actor, homes),
+        _ => Ok(()),
+    }
 }
 
 /// The base of a collection goes home with the log of its actor's calls there, and its gate is put back. There has to be room in the base
@@ -60,6 +74,8 @@ pub fn go_home<V: Value>(
     ensures shape { (n : ℕ) (bs : List Block) → HasShape table.old n bs → HasShape table.new n bs }
     ensures keeps { (v : BlocksView) → KeepsIn v actor.old actor.new }
     ensures others { OthersStand k actor.old.copies.items actor.new.copies.items }
+    ensures left { KeepsFrom actor.new.stage actor.old.stage actor.new.copies.items actor.new.copies.items }
+    ensures bases { (j : ℕ) → j ≢ k → slice_get table.new.bases.items j ≡ slice_get table.old.bases.items j }
     ensures cells { table.new.cells ≡ table.old.cells }
 {
     steps_as_worlds::<V>();

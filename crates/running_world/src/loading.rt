@@ -28,6 +28,7 @@ pub fn load_word<V: Value>(table: &mut Table<V>, actor: &mut TxActor<V>, blocks:
     requires seen { IsSeen table.old actor.old }
     ensures turns { (v : BlocksView) (a : ℕ) → IsTurn v (Step a) table.old actor.old table.new actor.new result }
     ensures shape { (n : ℕ) (bs : List Block) → HasShape table.old n bs → HasShape table.new n bs }
+    ensures bases { table.new.bases ≡ table.old.bases }
     ensures running { IsRunning blocks.now actor.new }
     ensures grows { Grows table.old.cells actor.old.words table.new.cells actor.new.words }
 {

@@ -6,11 +6,13 @@ ghost use Rattle.tx_actor.specs.Running.{stage_of};
 ghost use Rattle.tx_actor.specs.declared.actor.TxActor as running;
 ghost use Rattle.running_world.specs.Parts.{Happens, HasWorld, IsAt, IsDue, IsStarved, Stays};
 
+use crate::homes::{go_home, prepare};
 use crate::parts::Parts;
 use crate::turns::{close, commit, leave, put_gate, step_word, try_gate};
 use actor_copies::copies_stay;
 use actor_copies::laws::{begins_with_nothing, calls_as_worlds};
 use actor_words::Next;
+use actor_words::laws::steps_as_worlds;
 use seq_model::{Memory, Request, Value, insert_record};
 use tx_actor::laws::{copies_by_stage, copies_stay_own};
 use tx_actor::{Stage, Told};
@@ -86,6 +88,20 @@ impl<V: Value> Parts<V> {
         put_gate(&mut self.table, &mut self.actors[i], k)
     }
 
+    /// The base of a collection that its actor has written goes home.
+    pub(crate) fn go_home(&mut self, i: usize, k: u32) -> Told<V>
+        requires inside { i < length self.old.actors.items }
+        requires world { HasWorld self.old }
+        requires due { IsDue self.old i (Next.GoHome k) }
+        ensures { Happens self.old (Step (i + 1)) self.new result }
+    {
+        steps_as_worlds::<V>();
+        copies_by_stage::<V>();
+        copies_stay::<V>();
+        let alloc = *self.records.allocator();
+        go_home(alloc, &mut self.table, &mut self.actors[i], k)
+    }
+
     /// The request of the actor at this place is refused memory, as there is none for what its step was to leave.
     fn starved(&mut self, i: usize) -> Memory
         requires { i < length self.old.actors.items }
@@ -95,8 +111,8 @@ impl<V: Value> Parts<V> {
         Memory
     }
 
-    /// The first value store of a commit, at which the transaction is recorded. Where there is no memory for its record, or for what its
-    /// word actor keeps, it stores nothing, and its request is refused memory.
+    /// The first value store of a commit, at which the transaction is recorded. Where there is no memory for its record, for its calls in
+    /// a base that is to go home, or for what its word actor keeps, it stores nothing, and its request is refused memory.
     pub(crate) fn commit(&mut self, i: usize) -> Result<Told<V>, Memory>
         requires inside { i < length self.old.actors.items }
         requires world { HasWorld self.old }
@@ -105,6 +121,9 @@ impl<V: Value> Parts<V> {
         ensures err { OnErr result (IsStarved self.old i self.new) }
     {
         let Ok(()) = self.records.reserve(1) else {
+            return Err(self.starved(i));
+        };
+        let Ok(()) = prepare(&mut self.table, &self.actors[i]) else {
             return Err(self.starved(i));
         };
         copies_by_stage::<V>();

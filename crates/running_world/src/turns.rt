@@ -32,6 +32,7 @@ pub fn step_word<V: Value>(table: &mut Table<V>, actor: &mut TxActor<V>, blocks:
     requires word { is_loading (stage_of actor.old.stage) ≡ false }
     ensures turns { (v : BlocksView) (a : ℕ) → IsTurn v (Step a) table.old actor.old table.new actor.new result }
     ensures shape { (n : ℕ) (bs : List Block) → HasShape table.old n bs → HasShape table.new n bs }
+    ensures bases { table.new.bases ≡ table.old.bases }
     ensures running { IsRunning blocks.now actor.new }
     ensures leaves { KeepsCopies actor.old actor.new }
     ensures grows { Grows table.old.cells actor.old.words table.new.cells actor.new.words }
@@ -56,6 +57,7 @@ pub fn close<V: Value>(
     requires stage { actor.old.stage ≡ Stage.Closing }
     ensures turns { (v : BlocksView) (a : ℕ) → IsTurn v (Step a) table.old actor.old table.new actor.new result.0 }
     ensures shape { (n : ℕ) (bs : List Block) → HasShape table.old n bs → HasShape table.new n bs }
+    ensures bases { table.new.bases ≡ table.old.bases }
     ensures running { IsRunning blocks.now actor.new }
     ensures leaves { KeepsCopies actor.old actor.new }
     ensures grows { Grows table.old.cells actor.old.words table.new.cells actor.new.words }
@@ -88,6 +90,7 @@ pub fn leave<V: Value>(
     requires stage { actor.old.stage ≡ Stage.Leaving }
     ensures turns { (v : BlocksView) (a : ℕ) → IsTurn v (Step a) table.old actor.old table.new actor.new result.0 }
     ensures shape { (n : ℕ) (bs : List Block) → HasShape table.old n bs → HasShape table.new n bs }
+    ensures bases { table.new.bases ≡ table.old.bases }
     ensures running { IsRunning blocks.now actor.new }
     ensures leaves { KeepsCopies actor.old actor.new }
     ensures grows { Grows table.old.cells actor.old.words table.new.cells actor.new.words }
@@ -123,6 +126,7 @@ pub fn first_store<V: Value>(
     ensures stands { OnErr result (Stands actor.old actor.new) }
     ensures table { OnErr result (table.new ≡ table.old) }
     ensures shape { (n : ℕ) (bs : List Block) → HasShape table.old n bs → HasShape table.new n bs }
+    ensures bases { table.new.bases ≡ table.old.bases }
     ensures running { IsRunning blocks.now actor.new }
     ensures leaves { OnOk result (KeepsCopies actor.old actor.new) }
     ensures rest { OnErr result (actor.new ≡ record actor.old { words = actor.new.words }) }
@@ -151,6 +155,7 @@ pub fn commit<V: Value>(
     ensures stands { OnErr result (Stands actor.old actor.new) }
     ensures table { OnErr result (table.new ≡ table.old) }
     ensures shape { (n : ℕ) (bs : List Block) → HasShape table.old n bs → HasShape table.new n bs }
+    ensures bases { table.new.bases ≡ table.old.bases }
     ensures running { IsRunning blocks.now actor.new }
     ensures leaves { OnOk result (KeepsCopies actor.old actor.new) }
     ensures rest { OnErr result (actor.new ≡ record actor.old { words = actor.new.words }) }
@@ -182,6 +187,7 @@ pub fn try_gate<V: Value>(
     requires due { next_of (stage_of actor.old.stage) ≡ Next.TryGate k }
     ensures turns { (v : BlocksView) → IsTurn v (Step number) table.old actor.old table.new actor.new result }
     ensures shape { (n : ℕ) (bs : List Block) → HasShape table.old n bs → HasShape table.new n bs }
+    ensures bases { table.new.bases ≡ table.old.bases }
     ensures keeps { (v : BlocksView) → KeepsIn v actor.old actor.new }
     ensures leaves { KeepsCopies actor.old actor.new }
     ensures cells { table.new.cells ≡ table.old.cells }
@@ -197,6 +203,7 @@ pub fn put_gate<V: Value>(table: &mut Table<V>, actor: &mut TxActor<V>, k: u32) 
     requires due { next_of (stage_of actor.old.stage) ≡ Next.PutGate k }
     ensures turns { (v : BlocksView) (a : ℕ) → IsTurn v (Step a) table.old actor.old table.new actor.new result }
     ensures shape { (n : ℕ) (bs : List Block) → HasShape table.old n bs → HasShape table.new n bs }
+    ensures bases { table.new.bases ≡ table.old.bases }
     ensures keeps { (v : BlocksView) → KeepsIn v actor.old actor.new }
     ensures leaves { KeepsCopies actor.old actor.new }
     ensures cells { table.new.cells ≡ table.old.cells }

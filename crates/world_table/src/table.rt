@@ -188,6 +188,7 @@ impl<V: Value> Table<V> {
         ensures keeps { (n : ℕ) (bs : List Block) → HasShape self.old n bs → HasShape self.new n bs }
         ensures rest { (self.new.cells ≡ self.old.cells) × (length self.new.gates.items ≡ length self.old.gates.items)
             × (length self.new.bases.items ≡ length self.old.bases.items) }
+        ensures others { (j : ℕ) → j ≢ k → slice_get self.new.bases.items j ≡ slice_get self.old.bases.items j }
     {
         log.fold_into(&mut self.bases[k]);
         self.gates[k] = 0;

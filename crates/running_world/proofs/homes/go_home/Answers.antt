@@ -1,8 +1,15 @@
-use Rattle.std.proofs.Common.{◌≤◌, ℕ, ap, arith, length, subst, sym, ◌∙◌}
+use Rattle.std.proofs.Common.{◌≡◌, ◌≤◌, ℕ, ap, arith, length, subst, sym, ◌∙◌}
 use Rattle.replay_log.specs.Base.{room_of}
 use Rattle.actor_copies.specs.Kept.{copy_of}
+use Rattle.std.specs.declared.alloc.Global.{Global}
+use Rattle.std.specs.declared.vec.Vec.{Vec}
+use Rattle.actor_copies.specs.declared.copies.CopyOf.{CopyOf}
+use Rattle.actor_words.specs.Dispatch.{is_loading}
+use Rattle.tx_actor.specs.Having.{KeepsFrom}
+use Rattle.tx_actor.specs.Running.{stage_of}
+use Rattle.tx_actor.specs.declared.actor.Stage.{Stage}
 use Rattle.tx_actor.specs.declared.actor.TxActor.{TxActor}
-use Rattle.running_world.proofs.HomeLemmas.{home_turns, log_below, log_within, recorded_home}
+use Rattle.running_world.proofs.HomeLemmas.{home_turns, log_below, log_within, quiet_home, recorded_home}
 use Rattle.running_world.proofs.homes.go_home.Goals as goal
 
 pub go_home-requires-clause-prepared : goal.go_home-requires-clause-prepared
@@ -36,3 +43,15 @@ returns-clause-keeps g c = λ v. (
 pub returns-clause-others : goal.returns-clause-others
 returns-clause-others g c = λ j other.
     ap (λ z. copy_of z.items j) c.went_home.ensures.copies ∙ c.log_of-log.ensures.others j other
+
+pub returns-clause-left : goal.returns-clause-left
+returns-clause-left g c =
+    let r = c.args.actor.now in
+    let p = c.log_of-log.new.self in
+    let s = c.went_home.new.self in
+    let at : p.stage ≡ r.stage = ap (λ (z : TxActor g.row.V.Denot). z.stage) c.log_of-log.ensures.rest in
+    let copies = ap (λ (z : Vec (CopyOf g.row.V.Denot) Global). z.items) c.went_home.ensures.copies in
+    let quiet = quiet_home (stage_of r.stage) c.args.k c.requires.due in
+    subst (λ (t : Stage g.row.V.Denot). KeepsFrom s.stage t s.copies.items s.copies.items) at
+    (subst (λ cs. KeepsFrom s.stage p.stage cs s.copies.items) (sym copies)
+    (c.went_home.ensures.leaves (ap (λ (t : Stage g.row.V.Denot). is_loading (stage_of t)) at ∙ quiet)))

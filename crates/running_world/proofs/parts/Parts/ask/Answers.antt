@@ -2,6 +2,7 @@ use Rattle.std.proofs.Common.{inl, refl, arith}
 use Rattle.std.proofs.lemmas.Option.{slice_get_read}
 use Rattle.running_world.proofs.OwnTurnLemmas.{can_call, keeps_ask, may_call, refused_ask}
 use Rattle.running_world.proofs.PartsLemmas.{ask_happens, stays_by}
+use Rattle.running_world.proofs.RoomLemmas.{room_ask, room_stands}
 use Rattle.running_world.proofs.TurnLemmas.{no_reads}
 use Rattle.running_world.proofs.parts.Parts.ask.Goals as goal
 
@@ -25,7 +26,8 @@ returns-in-Ok-clause-ok g c =
     ask_happens calls c.args.self.now c.args.i c.args.request r c.asks.new.self c.in-Ok.told got c.in-Ok.ensures.ok
     (keeps_ask c.copies_stay.ensures.events c.copies_stay.ensures.stays c.copies_stay.ensures.joins c.copies_by_stage.ensures.asked
     c.copies_by_stage.ensures.all c.copies_stay.ensures.others c.copies_by_stage.ensures.others calls c.args.self.now.blocks _
-    c.args.request r c.asks.new.self c.in-Ok.told c.in-Ok.ensures.ok c.asks.ensures.still c.asks.ensures.apart) kept
+    c.args.request r c.asks.new.self c.in-Ok.told c.in-Ok.ensures.ok c.asks.ensures.still c.asks.ensures.apart)
+    (room_ask _ c.args.request c.args.self.now.table r c.asks.new.self c.asks.ensures.apart) kept
 
 pub returns-in-Err-clause-err : goal.returns-in-Err-clause-err
 returns-in-Err-clause-err g c =
@@ -38,4 +40,5 @@ returns-in-Err-clause-err g c =
     let less = kept.owed in
     stays_by p p.table c.args.i r c.asks.new.self got refl c.in-Err.ensures.err.0
     (λ w laid. refused_ask c.copies_by_stage.ensures.all p.blocks r c.asks.new.self c.in-Err.ensures.err c.asks.ensures.still
-    c.asks.ensures.apart (kept.running s.running) w _ laid) kept.running (inl (omega (arith, less)))
+    c.asks.ensures.apart (kept.running s.running) w _ laid)
+    (λ o w reached. room_stands o w _ p.table r c.asks.new.self reached c.asks.ensures.apart) kept.running (inl (omega (arith, less)))

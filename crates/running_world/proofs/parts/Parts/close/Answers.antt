@@ -5,6 +5,7 @@ use Rattle.running_world.proofs.PartsLemmas.{closing_ends, closing_record, more_
 use Rattle.running_world.proofs.TraceLemmas.{serial_at}
 use Rattle.running_world.proofs.WorldLemmas.{may_take, shape_laid}
 use Rattle.running_world.proofs.OwnTurnLemmas.{calm_at, keeps_step}
+use Rattle.running_world.proofs.RoomLemmas.{not_first, room_kept}
 use Rattle.tx_actor.specs.Running.{stage_of}
 use Rattle.actor_words.specs.declared.next.Next.TheVariants as next
 use Rattle.running_world.proofs.TurnLemmas.{stage_due, stage_quiet}
@@ -52,7 +53,10 @@ returns-clause-ok g c =
     (keeps_step c.copies_by_stage.ensures.steps c.copies_by_stage.ensures.begun c.copies_stay.ensures.events c.begins_with_nothing.ensures
     c.copies_stay.ensures.others c.copies_by_stage.ensures.others
     p.blocks _ r t.new.actor (stage_quiet r stage.Closing at refl)
-    (λ asked. calm_at (stage_of r.stage) next.Word (stage_due r stage.Closing at refl) (λ k q. let z : ⊥ = cc in z) asked) t.ensures.leaves) t.ensures.shape (λ _. t.ensures.running) t.ensures.grows
+    (λ asked. calm_at (stage_of r.stage) next.Word (stage_due r stage.Closing at refl) (λ k q. let z : ⊥ = cc in z) asked) t.ensures.leaves)
+    (room_kept _ p.table t.new.table r t.new.actor t.ensures.bases
+    (not_first (stage_of r.stage) next.Word (stage_due r stage.Closing at refl) (λ e. let z : ⊥ = cc in z)) t.ensures.leaves)
+    t.ensures.shape (λ _. t.ensures.running) t.ensures.grows
     (λ x is. c.in_ok-insert_record.ensures.ok
     ∙ (ap (λ rs. insert_record (c.args.i + 1, t.result.1) rs) c.reserve.ensures.items
     ∙ closing_record _ r t.result.1 p.records.items at t.ensures.number t.ensures.reads t.ensures.calls x is))

@@ -3,6 +3,7 @@ use Rattle.std.proofs.lemmas.Option.{slice_get_read}
 use Rattle.running_world.proofs.PartsLemmas.{leaving_ends, leaving_record, more_aborted, starved_then, step_happens, with_turn}
 use Rattle.running_world.proofs.WorldLemmas.{may_take, shape_laid}
 use Rattle.running_world.proofs.OwnTurnLemmas.{calm_at, keeps_step}
+use Rattle.running_world.proofs.RoomLemmas.{not_first, room_kept}
 use Rattle.tx_actor.specs.Running.{stage_of}
 use Rattle.actor_words.specs.declared.next.Next.TheVariants as next
 use Rattle.running_world.proofs.TurnLemmas.{stage_due, stage_quiet}
@@ -45,7 +46,10 @@ returns-clause-ok g c =
     (keeps_step c.copies_by_stage.ensures.steps c.copies_by_stage.ensures.begun c.copies_stay.ensures.events c.begins_with_nothing.ensures
     c.copies_stay.ensures.others c.copies_by_stage.ensures.others
     p.blocks _ r t.new.actor (stage_quiet r stage.Leaving at refl)
-    (λ asked. calm_at (stage_of r.stage) next.Word (stage_due r stage.Leaving at refl) (λ k q. let z : ⊥ = cc in z) asked) t.ensures.leaves) t.ensures.shape (λ _. t.ensures.running) t.ensures.grows
+    (λ asked. calm_at (stage_of r.stage) next.Word (stage_due r stage.Leaving at refl) (λ k q. let z : ⊥ = cc in z) asked) t.ensures.leaves)
+    (room_kept _ p.table t.new.table r t.new.actor t.ensures.bases
+    (not_first (stage_of r.stage) next.Word (stage_due r stage.Leaving at refl) (λ e. let z : ⊥ = cc in z)) t.ensures.leaves)
+    t.ensures.shape (λ _. t.ensures.running) t.ensures.grows
     (λ x is. leaving_record _ r p.records.items at x is)
     (λ x is. leaving_ends _ r t.result.1 p.aborted.items _ at t.ensures.actor t.ensures.rv t.ensures.calls t.ensures.cause
     (c.push_reserved.ensures.items ∙ ap (λ es. es ++ t.result.1 ∷ []) c.reserve.ensures.items) x is)

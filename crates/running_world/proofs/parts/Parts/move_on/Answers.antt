@@ -3,6 +3,7 @@ use Rattle.std.proofs.lemmas.Option.{slice_get_read}
 use Rattle.running_world.proofs.PartsLemmas.{none_at_word, passes}
 use Rattle.running_world.proofs.WorldLemmas.{may_take, shape_laid}
 use Rattle.running_world.proofs.OwnTurnLemmas.{calm_at, keeps_step}
+use Rattle.running_world.proofs.RoomLemmas.{not_first, room_kept}
 use Rattle.tx_actor.specs.Running.{stage_of}
 use Rattle.actor_words.specs.declared.next.Next.TheVariants as next
 use Rattle.running_world.proofs.parts.Parts.move_on.Goals as goal
@@ -40,5 +41,8 @@ returns g c =
     (c.step_word.ensures.turns c.args.self.now.blocks _)
     (keeps_step c.copies_by_stage.ensures.steps c.copies_by_stage.ensures.begun c.copies_stay.ensures.events c.begins_with_nothing.ensures
     c.copies_stay.ensures.others c.copies_by_stage.ensures.others
-    c.args.self.now.blocks _ r c.step_word.new.actor stays.2 (λ asked. calm_at (stage_of r.stage) next.Word (c.requires.due r got) (λ k q. let z : ⊥ = cc in z) asked) c.step_word.ensures.leaves) c.step_word.ensures.shape (λ _. c.step_word.ensures.running)
+    c.args.self.now.blocks _ r c.step_word.new.actor stays.2 (λ asked. calm_at (stage_of r.stage) next.Word (c.requires.due r got) (λ k q. let z : ⊥ = cc in z) asked) c.step_word.ensures.leaves)
+    (room_kept _ c.args.self.now.table c.step_word.new.table r c.step_word.new.actor c.step_word.ensures.bases
+    (not_first (stage_of r.stage) next.Word (c.requires.due r got) (λ e. let z : ⊥ = cc in z)) c.step_word.ensures.leaves)
+    c.step_word.ensures.shape (λ _. c.step_word.ensures.running)
     c.step_word.ensures.grows

@@ -1,7 +1,7 @@
 use Rattle.std.proofs.Common.{length, refl, subst, sym, ◌∙◌}
 use Rattle.std.proofs.lemmas.Option.{slice_get_read}
 use Rattle.tx_actor.specs.Keeping.{NamesAmong}
-use Rattle.running_world.proofs.FeedLemmas.{no_copy, no_home, nothing_happens}
+use Rattle.running_world.proofs.FeedLemmas.{no_copy, nothing_happens}
 use Rattle.running_world.proofs.parts.Parts.step.Goals as goal
 
 pub unreachable-requires : goal.unreachable-requires
@@ -10,13 +10,6 @@ unreachable-requires g c =
     let got = slice_get_read c.args.self.now.actors.items _ c.args.i r refl c.requires.inside c.index.ensures in
     let named = (c.requires.world.parts.seats c.args.i r got).running.names in
     no_copy r.stage c.in-Copy.field-0 (subst (λ bs. NamesAmong (length bs) r.stage) c.requires.none named) (sym c.next.ensures ∙ c.in-Copy.is)
-
-pub unreachable-requires-in-GoHome : goal.unreachable-requires-in-GoHome
-unreachable-requires-in-GoHome g c =
-    let r = c.index.result.now in
-    let got = slice_get_read c.args.self.now.actors.items _ c.args.i r refl c.requires.inside c.index.ensures in
-    let named = (c.requires.world.parts.seats c.args.i r got).running.names in
-    no_home r.stage c.in-GoHome.field-0 (subst (λ bs. NamesAmong (length bs) r.stage) c.requires.none named) (sym c.next.ensures ∙ c.in-GoHome.is)
 
 pub returns-in-Nothing-clause-ok : goal.returns-in-Nothing-clause-ok
 returns-in-Nothing-clause-ok g c =

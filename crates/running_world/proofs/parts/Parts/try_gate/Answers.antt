@@ -5,6 +5,7 @@ use Rattle.running_world.proofs.PartsLemmas.{none_at_try, passes, same_cells}
 use Rattle.running_world.proofs.TurnLemmas.{quiet_try}
 use Rattle.running_world.proofs.WorldLemmas.{named_try, shape_laid}
 use Rattle.running_world.proofs.OwnTurnLemmas.{calm_at, keeps_step}
+use Rattle.running_world.proofs.RoomLemmas.{not_first, room_kept}
 use Rattle.actor_words.specs.declared.next.Next.TheVariants as next
 use Rattle.running_world.proofs.parts.Parts.try_gate.Goals as goal
 
@@ -33,5 +34,8 @@ returns g c =
     (keeps_step c.copies_by_stage.ensures.steps c.copies_by_stage.ensures.begun c.copies_stay.ensures.events c.begins_with_nothing.ensures
     c.copies_stay.ensures.others c.copies_by_stage.ensures.others
     c.args.self.now.blocks _ r c.try_gate.new.actor (quiet_try (stage_of r.stage) c.args.k (c.requires.due r got))
-    (λ asked. calm_at (stage_of r.stage) (next.TryGate c.args.k) (c.requires.due r got) (λ k q. let z : ⊥ = cc in z) asked) c.try_gate.ensures.leaves) c.try_gate.ensures.shape kept.running
+    (λ asked. calm_at (stage_of r.stage) (next.TryGate c.args.k) (c.requires.due r got) (λ k q. let z : ⊥ = cc in z) asked) c.try_gate.ensures.leaves)
+    (room_kept _ c.args.self.now.table c.try_gate.new.table r c.try_gate.new.actor c.try_gate.ensures.bases
+    (not_first (stage_of r.stage) (next.TryGate c.args.k) (c.requires.due r got) (λ e. let z : ⊥ = cc in z)) c.try_gate.ensures.leaves)
+    c.try_gate.ensures.shape kept.running
     (same_cells c.args.self.now.table c.try_gate.new.table r c.try_gate.new.actor c.try_gate.ensures.cells kept.owed)
