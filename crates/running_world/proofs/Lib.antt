@@ -6,6 +6,7 @@ pub mod PrepareLemmas
 mod RoomLemmas
 mod HomingLemmas
 pub mod SeatLemmas
+pub mod SerialLemmas
 pub mod TraceLemmas
 pub mod TurnLemmas
 pub mod LoadLemmas

@@ -5,9 +5,12 @@ use Rattle.std.specs.Prelude.{not, filter, if◌then◌else◌}
 use Rattle.tx_sets.specs.Entries.{locations}
 use Rattle.word_machine.specs.Actor.{Actor}
 use Rattle.seq_model.specs.declared.event.Request.{Request}
+use Rattle.seq_model.specs.declared.record.Record.{Record}
+use Rattle.seq_model.specs.Contents.{Contents}
 use Rattle.replay_log.specs.Contents.{Block, home_of, is_plain}
 use Rattle.replay_log.specs.Worlds.{World, Seat, Idle, Ready, actor_of, all_of, ask_at, at_stage, distinct, is_half_done, no_one, starve_at}
 use Rattle.replay_log.specs.Worlds.{written_homes}
+use Rattle.replay_log.specs.WorldSerial.{SawAt}
 use Rattle.atomic_steps.specs.Own.{Alike}
 use Rattle.actor_words.specs.Dispatch.{is_loading, next_of}
 use Rattle.tx_actor.specs.Running.{KnowsHomes, Runs, is_recorded, seat_at, seat_of, stage_in, stage_of}
@@ -119,3 +122,19 @@ module _ {V : Type 0} where
     sym h.boosted.actor ∙ runs.1,
     subst (λ (ks : List ℕ). KnowsHomes r.stage ks) (sym (same_homes w u b h)) runs.2,
   )
+
+  saw_at : (o : Contents V) (rs : List (ℕ × Record V)) (x y : Seat V) (t : own.Stage V) → SawAt o rs (seat_by x y t) (seat_by x y t).stage
+      → SawAt o rs y (stage_of t)
+  saw_at o rs x y stage.Idle h = tt
+  saw_at o rs x y stage.Beginning h = tt
+  saw_at o rs x y (stage.Storing homes) h = tt
+  saw_at o rs x y (stage.Homing homes) h = tt
+  saw_at o rs x y stage.Releasing h = tt
+  saw_at o rs x y (stage.Loading a left) h = h
+  saw_at o rs x y t h = h
+
+  -- what the transaction of a seat saw, that of its actor saw
+  pub saw_as : (o : Contents V) (rs : List (ℕ × Record V)) (w : World V) (a : ℕ) (r : TxActor V) → Runs a r w
+      → SawAt o rs (w.seats a) (w.seats a).stage → SawAt o rs (seat_of r) (stage_of r.stage)
+  saw_as o rs w a r runs h =
+      saw_at o rs (w.seats a) (seat_of r) r.stage (subst (λ (x : Seat V). SawAt o rs x x.stage) runs.0 h)

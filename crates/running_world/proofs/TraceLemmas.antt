@@ -107,7 +107,7 @@ module _ {V : Type 0} where
   no_place (r ∷ rs) zero h = absurd (omega (arith, h))
   no_place (r ∷ rs) (suc i) h = no_place rs i (omega (arith, h))
 
-  seat_like : (c : Parts V) (w : World V) (a : ℕ) → IsWorld c w → IsLike (w.seats a) (seat_at c.actors.items a)
+  pub seat_like : (c : Parts V) (w : World V) (a : ℕ) → IsWorld c w → IsLike (w.seats a) (seat_at c.actors.items a)
   seat_like c w zero h = subst (λ (x : Seat V). IsLike x no_one) (sym (h.others 0 refl)) (refl, refl)
   seat_like c w (suc i) h =
       elim (cases_lt i 64) [

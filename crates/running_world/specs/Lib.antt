@@ -4,6 +4,7 @@ pub mod Loading
 pub mod Openings
 pub mod Parts
 pub mod Reached
+pub mod Serial
 pub mod Traces
 pub mod Turns
 pub mod Worlds

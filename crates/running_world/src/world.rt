@@ -3,10 +3,12 @@ ghost use Rattle.std.specs.Prelude.{◌≡◌, ◌≢◌, [], false, true, IfErr
 ghost use Rattle.seq_model.specs.Contents.{Contents};
 ghost use Rattle.seq_model.specs.Refusals.{IsNoSuchOrTooLong};
 ghost use Rattle.replay_log.specs.Seats.{World as PureWorld};
+ghost use Rattle.replay_log.specs.WorldSerial.{IsSerial};
 ghost use Rattle.world_table.specs.Openings.{IsWithin, world_of};
 ghost use Rattle.running_world.specs.Feeds.{Feeds, fed_all};
 ghost use Rattle.running_world.specs.Parts.{IsWorld};
 ghost use Rattle.running_world.specs.Reached.{IsReached};
+ghost use Rattle.running_world.specs.Serial.{IsFrom, IsSerialFrom};
 ghost use Rattle.running_world.specs.Traces.{IsSerialTrace, IsTraceOf};
 ghost use Rattle.running_world.specs.Worlds.{IsOther};
 
@@ -70,6 +72,8 @@ impl<V: Value> World<V> {
     pub fn open(alloc: Global, shape: &Shape, state: State<V>) -> Result<World<V>, Refusal>
         ensures world { IfOk result (λ world. IsWorld world.parts (world_of shape.now.stripes shape.now.clock state)) }
         ensures reached { IsOk result → IsReached state (world_of shape.now.stripes shape.now.clock state) }
+        ensures from { IfOk result (λ world. IsFrom state world.parts) }
+        ensures serial { IfOk result (λ world. IsSerialFrom state world.parts) }
         ensures lasting { IfOk result (λ world. world.failed ≡ false) }
         ensures refused { IfErr result (λ refusal. IsNoSuchOrTooLong refusal (IsOther shape.now.stripes state)
             (IsWithin shape.now.stripes shape.now.clock state)) }
@@ -90,6 +94,8 @@ impl<V: Value> World<V> {
     /// `Memory` where a growth was refused, and to each later event.
     pub fn feed(&mut self, event: Event<V>) -> Result<Notice<V>, Memory>
         ensures ok { IfOk result (Feeds self.old.parts event self.new.parts) }
+        ensures from { OnOk result ((opening : Contents V) → IsFrom opening self.old.parts → IsFrom opening self.new.parts) }
+        ensures serial { OnOk result ((opening : Contents V) → IsFrom opening self.old.parts → IsSerialFrom opening self.new.parts) }
         ensures lasting { OnOk result ((self.old.failed ≡ false) × (self.new.failed ≡ false)) }
         ensures failed { OnErr result (self.new.failed ≡ true) }
     {
@@ -107,8 +113,7 @@ impl<V: Value> World<V> {
         ensures lasting { IsOk result → self.now.failed ≡ false }
         ensures trace { IfOk result (λ trace. (opening : Contents V) (w : PureWorld V) → IsReached opening w →
             IsWorld self.now.parts w → IsTraceOf w trace) }
-        ensures serial { IfOk result (λ trace. (opening : Contents V) (w : PureWorld V) → IsReached opening w →
-            IsWorld self.now.parts w → IsSerialTrace opening trace) }
+        ensures serial { IfOk result (λ trace. (opening : Contents V) → IsFrom opening self.now.parts → IsSerialTrace opening trace) }
     {
         if self.failed {
             return Err(Memory);
@@ -121,8 +126,7 @@ impl<V: Value> World<V> {
         ensures lasting { IsOk result → self.failed ≡ false }
         ensures trace { IfOk result (λ trace. (opening : Contents V) (w : PureWorld V) → IsReached opening w →
             IsWorld self.parts w → IsTraceOf w trace) }
-        ensures serial { IfOk result (λ trace. (opening : Contents V) (w : PureWorld V) → IsReached opening w →
-            IsWorld self.parts w → IsSerialTrace opening trace) }
+        ensures serial { IfOk result (λ trace. (opening : Contents V) → IsFrom opening self.parts → IsSerialTrace opening trace) }
     {
         if self.failed {
             return Err(Memory);
@@ -142,6 +146,7 @@ pub fn run_world<V: Value>(
 ) -> Result<Trace<V>, Refusal>
     ensures trace { IfOk result (IsTraceOf (fed_all (world_of shape.now.stripes shape.now.clock state) events.now)) }
     ensures serial { IfOk result (IsSerialTrace state) }
+    ensures law { IsOk result → IsSerial state (fed_all (world_of shape.now.stripes shape.now.clock state) events.now) }
     ensures refused { IfErr result (λ refusal. IsNoSuchOrTooLong refusal (IsOther shape.now.stripes state)
         (IsWithin shape.now.stripes shape.now.clock state)) }
 {

@@ -2,6 +2,7 @@ use Rattle.std.proofs.Common.{refl, subst}
 use Rattle.world_table.specs.Openings.{world_of}
 use Rattle.running_world.specs.Feeds.{Feeds, fed_all}
 use Rattle.running_world.proofs.FeedLemmas.{has_all, has_one, memory_refused}
+use Rattle.running_world.proofs.TraceLemmas.{serial_at}
 use Rattle.running_world.proofs.world.run_world.Goals as goal
 
 pub loop-event-init : goal.loop-event-init
@@ -27,7 +28,7 @@ returns-clause-serial g c =
     let w = world_of c.args.shape.now.stripes c.args.shape.now.clock c.args.state in
     let h = has_all c.args.state w c.args.events.now c.loop-event.event-index c.loop-event.world.parts c.loop-event-test.false
     c.loop-event.invariant in
-    c.in_ok-trace.ensures.serial c.args.state (fed_all w c.args.events.now) h.0 h.1
+    c.in_ok-trace.ensures.serial c.args.state (record { world = fed_all w c.args.events.now; reached = h.0; parts = h.1 })
 
 pub returns-in_err-try_copy-clause-refused : goal.returns-in_err-try_copy-clause-refused
 returns-in_err-try_copy-clause-refused g c =
@@ -40,3 +41,10 @@ returns-in_err-_notice-clause-refused g c =
 pub returns-in_err-trace-clause-refused : goal.returns-in_err-trace-clause-refused
 returns-in_err-trace-clause-refused g c =
     memory_refused c.from_residual-in_err-trace.result (c.in_ok-world.ensures.fits refl) c.from_residual-in_err-trace.ensures.1
+
+pub returns-clause-law : goal.returns-clause-law
+returns-clause-law g c = λ _. (
+    let w = world_of c.args.shape.now.stripes c.args.shape.now.clock c.args.state in
+    let h = has_all c.args.state w c.args.events.now c.loop-event.event-index c.loop-event.world.parts c.loop-event-test.false
+    c.loop-event.invariant in
+    serial_at c.args.state (fed_all w c.args.events.now) h.0)

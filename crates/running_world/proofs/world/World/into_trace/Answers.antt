@@ -1,9 +1,11 @@
 use Rattle.std.proofs.Common.{IfOk, subst}
 use Rattle.running_world.specs.Parts.{IsWorld}
 use Rattle.running_world.specs.Reached.{IsReached}
+use Rattle.running_world.specs.Serial.{IsFrom}
 use Rattle.running_world.specs.Traces.{IsSerialTrace, IsTraceOf}
 use Rattle.running_world.specs.Worlds.{WorldShown}
 use Rattle.running_world.proofs.FeedLemmas.{words_fit}
+use Rattle.running_world.proofs.SerialLemmas.{serial_traced}
 use Rattle.running_world.proofs.world.World.into_trace.Goals as goal
 
 pub into_trace-requires : goal.into_trace-requires
@@ -16,5 +18,5 @@ returns-clause-trace g c =
 
 pub returns-clause-serial : goal.returns-clause-serial
 returns-clause-serial g c =
-    subst (λ (s : WorldShown g.row.V.Denot). IfOk c.into_trace.result (λ t. (o : _) (w : _) → IsReached o w → IsWorld s.parts w → IsSerialTrace o t))
-    c.self.view_is c.into_trace.ensures.serial
+    subst (λ (s : WorldShown g.row.V.Denot). IfOk c.into_trace.result (λ t. (o : _) → IsFrom o s.parts → IsSerialTrace o t))
+    c.self.view_is (serial_traced c.self.inside.parts c.into_trace.result c.into_trace.ensures.serial)

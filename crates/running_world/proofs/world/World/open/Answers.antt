@@ -1,5 +1,7 @@
 use Rattle.std.proofs.Common.{inl, inr, refl, sym, ◌∙◌}
+use Rattle.world_table.specs.Openings.{world_of}
 use Rattle.running_world.proofs.FeedLemmas.{opened_well}
+use Rattle.running_world.proofs.SerialLemmas.{serial_from}
 use Rattle.running_world.proofs.world.World.open.Goals as goal
 
 pub invariant_of-result : goal.invariant_of-result
@@ -17,3 +19,13 @@ returns-clause-fits g c = λ _. (
       ],
       fits.1,
     ))
+
+pub returns-clause-from : goal.returns-clause-from
+returns-clause-from g c = record {
+  world = world_of c.args.shape.now.stripes c.args.shape.now.clock c.args.state;
+  reached = c.in_ok-parts.ensures.reached refl;
+  parts = c.in_ok-parts.ensures.world;
+}
+
+pub returns-clause-serial : goal.returns-clause-serial
+returns-clause-serial g c = serial_from c.args.state c.in_ok-parts.parts (returns-clause-from g c)
