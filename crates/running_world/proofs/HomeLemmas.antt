@@ -4,7 +4,8 @@
 -- as the world does. Each location in it lies in the base and has an edition not above the clock, as events never change how the locations
 -- lie. The actor hands its log out, and is the same in every world from its first value store on; the action changes no word, so the word
 -- actor stands, and the rest is what the actor makes of its base gone home.
-use Rattle.std.proofs.Common.{◌≡◌, ℕ, zero, suc, ◌<◌, ◌≤◌, ◌^◌, true, false, List, [], ◌∷◌, Option, Some, None, length, slice_get, refl, sym, ap, ◌∙◌, subst, arith}
+use Rattle.std.proofs.Common.{◌≡◌, ℕ, zero, suc, ◌<◌, ◌≤◌, ◌^◌, true, false, List, [], ◌∷◌, Option, Some, None, length, slice_get, refl}
+use Rattle.std.proofs.Common.{sym, ap, ◌∙◌, subst, arith}
 use Rattle.std.specs.List.{All}
 use Rattle.std.specs.Prelude.{slice_index}
 use Rattle.std.specs.declared.alloc.Global.{Global}
@@ -21,8 +22,9 @@ use Rattle.replay_log.specs.Base.{Shown, editions_of, locations_of, shown_of, st
 use Rattle.replay_log.specs.Collections.{Suit}
 use Rattle.replay_log.specs.Contents.{Answered, Asked, Block, HaveStripes, block_of, content}
 use Rattle.replay_log.specs.WorldProgress.{whose}
-use Rattle.replay_log.specs.Worlds.{World, Seat, Stage, After, Homing, Idle, Beginning, Open, Locking, Releasing, Closing, Cancelling, Leaving}
-use Rattle.replay_log.specs.Worlds.{Reading, Trying, Copying, Loading, Gating, Ready, Storing, Returning, acted, happens, opened, run, step_at}
+use Rattle.replay_log.specs.Worlds.{World, Seat, Stage, After, Homing, Idle, Beginning, Open, Locking, Releasing, Closing, Cancelling}
+use Rattle.replay_log.specs.Worlds.{Leaving, Reading, Trying, Copying, Loading, Gating, Ready, Storing, Returning, acted, happens, opened}
+use Rattle.replay_log.specs.Worlds.{run, step_at}
 use Rattle.replay_log.proofs.ContentLemmas.{positive_at}
 use Rattle.atomic_steps.specs.Bases.{IsBaseOf, ShowsBase, log_changes, log_locations}
 use Rattle.atomic_steps.specs.Gates.{GoesHome}
@@ -99,7 +101,8 @@ module _ {V : Type 0} where
   -- ---- the log of what is an actor's own is that of its calls
   abbrev pub IsLogOf : World V → (a k : ℕ) → Block → Option (Copied V) → Type 0
   IsLogOf w a k b c =
-      (changes_had c ≡ log_changes k b (w.boosted.shadows a).outcomes) × (locations_had c ≡ log_locations k b (w.boosted.shadows a).outcomes)
+      (changes_had c ≡ log_changes k b (w.boosted.shadows a).outcomes)
+      × (locations_had c ≡ log_locations k b (w.boosted.shadows a).outcomes)
 
   pub own_log : Logs V → (w : World V) (a k : ℕ) (c : Option (Copied V)) → IsOwn w a k c → (b : Block) → block_of w.blocks k ≡ Some b
       → IsLogOf w a k b c
@@ -246,7 +249,8 @@ module _ {V : Type 0} where
       (subst (λ (n : ℕ). ShowsBase n w.blocks w k base) (reached_words o w h) shows) in
       subst (λ (z : World V). ShowsBase (length o.words) h.blocks z k base
       → All (λ i. slice_index (editions_of base) i ≤ z.boosted.words.clock) (log_locations k b os)) h.world
-      (few h.blocks h.clock o.words o.held h.events k b os base h.stripes h.suits (ap (λ (bs : List Block). block_of bs k) (sym blocks) ∙ is))
+      (few h.blocks h.clock o.words o.held h.events k b os base h.stripes h.suits
+      (ap (λ (bs : List Block). block_of bs k) (sym blocks) ∙ is))
       from
 
   all_below : (base : Base V) (n : ℕ) (ls : List ℕ) → n < 2 ^ 63 → All (λ i. slice_index (editions_of base) i ≤ n) ls

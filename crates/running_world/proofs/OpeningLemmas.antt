@@ -1,17 +1,11 @@
--- A world opens with these parts: each block stands behind those before it, and no actor has a transaction, so none may take a number.
-use Rattle.std.proofs.Common.{◌≡◌, ℕ, zero, suc, ◌+◌, ◌<◌, ◌≤◌, ◌^◌, List, [], ◌∷◌, ◌++◌, map, Some, None, length, get_or, take}
-use Rattle.std.proofs.Common.{refl, sym, ap, ◌∙◌, subst, arith}
+-- A world opens with these parts: no actor has a transaction, so none may take a number, and nothing is to go home.
+use Rattle.std.proofs.Common.{◌≡◌, ℕ, zero, suc, ◌+◌, ◌≤◌, ◌^◌, List, [], ◌∷◌, ◌++◌, map, Some, None, length}
+use Rattle.std.proofs.Common.{refl, sym, ap, subst, arith}
 use Rattle.std.specs.Prelude.{slice_get}
-use Rattle.seq_model.specs.declared.held.Held.{Held}
 use Rattle.seq_model.specs.Contents.{Contents}
-use Rattle.replay_log.specs.Collections.{kind_of_held}
-use Rattle.replay_log.specs.Contents.{Block, end_of}
+use Rattle.replay_log.specs.Contents.{end_of}
 use Rattle.replay_log.specs.Worlds.{written_homes}
-use Rattle.replay_log.specs.Parts as parts
 use Rattle.step_core.specs.Sound.{owed}
-use Rattle.step_core.proofs.Lists.{get_or_same}
-use Rattle.actor_words.specs.Blocks.{kind_of}
-use Rattle.actor_words.specs.declared.blocks.Kind.{Kind}
 use Rattle.tx_actor.specs.Dispatch.{HasRoom}
 use Rattle.tx_actor.specs.Having.{HasCopiesAt}
 use Rattle.tx_actor.specs.Keeping.{IsCallAt, NamesAmong}
@@ -28,32 +22,6 @@ use Rattle.running_world.specs.Parts.{IsWorld, ended_of, total_owed}
 use Rattle.running_world.proofs.SeatLemmas.{idle_as}
 
 module _ {V : Type 0} where
-  laid_next : (ns : List ℕ) (hs : List (Held V)) (i n : ℕ) (h : Held V) → i < length ns → i < length hs → get_or ns i n ≡ n
-      → get_or hs i h ≡ h
-      → let b : Block = record { kind = kind_of_held h; stripes = n } in
-      blocks_of (take (suc i) ns) (take (suc i) hs) ≡ blocks_of (take i ns) (take i hs) ++ b ∷ []
-  laid_next [] hs i n h low inn at is = absurd (omega (arith, low))
-  laid_next (m ∷ ns) [] i n h low inn at is = absurd (omega (arith, inn))
-  laid_next (m ∷ ns) (g ∷ hs) zero n h low inn at is =
-      let block = λ (k : ℕ) (x : Held V). let b : Block = record { kind = kind_of_held x; stripes = k } in b in
-      ap (λ (k : ℕ). block k g ∷ []) at ∙ ap (λ (x : Held V). block n x ∷ []) is
-  laid_next (m ∷ ns) (g ∷ hs) (suc i) n h low inn at is =
-      let b : Block = record { kind = kind_of_held g; stripes = m } in
-      ap (λ (bs : List Block). b ∷ bs) (laid_next ns hs i n h (omega (arith, low)) (omega (arith, inn)) at is)
-
-  pub laid_more : (ns : List ℕ) (hs : List (Held V)) (i n : ℕ) (h : Held V) (bs : List Block) (b : Block) → i < length ns
-      → length ns ≡ length hs → get_or ns i 0 ≡ n → get_or hs i h ≡ h → b ≡ record { kind = kind_of_held h; stripes = n }
-      → bs ≡ blocks_of (take i ns) (take i hs) → bs ++ b ∷ [] ≡ blocks_of (take (i + 1) ns) (take (i + 1) hs)
-  laid_more ns hs i n h bs b low same at is eb e =
-      let more : suc i ≡ i + 1 = omega arith in
-      ap (λ (x : List Block). x ++ b ∷ []) e ∙ (ap (λ (x : Block). blocks_of (take i ns) (take i hs) ++ x ∷ []) eb
-      ∙ (sym (laid_next ns hs i n h low (omega (arith, low, same)) (get_or_same ns i n 0 low ∙ at) is)
-      ∙ ap (λ (k : ℕ). blocks_of (take k ns) (take k hs)) more))
-
-  pub kind_laid : (k : Kind) (h : Held V) (n : ℕ) → kind_of k ≡ kind_of_held h → let b : Block = record { kind = kind_of k; stripes = n } in
-      let d : Block = record { kind = kind_of_held h; stripes = n } in b ≡ d
-  kind_laid k h n e = ap (λ (x : parts.Kind). record { kind = x; stripes = n }) e
-
   pub AreIdle-push : (rs : List (TxActor V)) (r : TxActor V) → IsIdle r → AreIdle rs → AreIdle (rs ++ r ∷ [])
   AreIdle-push [] r h k = (h, tt)
   AreIdle-push (q ∷ rs) r h k = (k.0, AreIdle-push rs r h k.1)

@@ -1,7 +1,8 @@
 -- What an event leaves of what its actor has of collections, by its stage, and of what the others have. The event leaves all of it in the
 -- world, by the law on events, and the actor's copies stand as its next stage asks for them; a transaction that begins has nothing. A
 -- request at rest is told by its contract, and anywhere else it changes nothing that a stage asks for.
-use Rattle.std.proofs.Common.{◌≡◌, ◌≢◌, ◌⊎◌, ℕ, suc, false, true≢false, List, [], ◌∷◌, Option, Some, None, inl, inr, refl, sym, ap, ◌∙◌, subst, arith}
+use Rattle.std.proofs.Common.{◌≡◌, ◌≢◌, ◌⊎◌, ℕ, suc, false, true≢false, List, [], ◌∷◌, Option, Some, None, inl, inr, refl, sym, ap, ◌∙◌}
+use Rattle.std.proofs.Common.{subst, arith}
 use Rattle.word_machine.specs.Notices as told
 use Rattle.word_machine.specs.Actor as machine
 use Rattle.word_machine.specs.Actor.{Open as AtRest}
@@ -17,7 +18,8 @@ use Rattle.seq_model.specs.declared.event.Request.{Request}
 use Rattle.seq_model.specs.declared.held.Held.{Held}
 use Rattle.replay_log.specs.Contents.{Answered, Asked, Block, HaveStripes}
 use Rattle.replay_log.specs.WorldProgress.{whose}
-use Rattle.replay_log.specs.Worlds.{World, Seat, Stage, After, Beginning, Copying, Loading, Open, Ready, acted, actor_of, ask_at, happens, has_begun, moves, no_one, opened, outcome_at, run, starve_at, step_at, word_notice}
+use Rattle.replay_log.specs.Worlds.{World, Seat, Stage, After, Beginning, Copying, Loading, Open, Ready, acted, actor_of, ask_at, happens}
+use Rattle.replay_log.specs.Worlds.{has_begun, moves, no_one, opened, outcome_at, run, starve_at, step_at, word_notice}
 use Rattle.atomic_steps.proofs.Others.{others}
 use Rattle.actor_words.specs.Blocks.{BlocksView, IsLaid}
 use Rattle.actor_words.specs.Dispatch.{is_loading, next_of}
@@ -148,7 +150,8 @@ module _ {V : Type 0} where
   -- a transaction is at rest only where the clock was told
   begun_nothing : (u : World V) (a : ℕ) (x : Seat V) (n : told.Notice) → (u.seats a).stage ≡ Beginning
       → ((rv : ℕ) → n ≡ told.Begun rv → (k : ℕ) → IsOwn u a k None × IsReadOf u a k None)
-      → ((has_begun u a x n).0.seats a).stage ≡ Open → (k : ℕ) → IsOwn (has_begun u a x n).0 a k None × IsReadOf (has_begun u a x n).0 a k None
+      → ((has_begun u a x n).0.seats a).stage ≡ Open → (k : ℕ)
+      → IsOwn (has_begun u a x n).0 a k None × IsReadOf (has_begun u a x n).0 a k None
   begun_nothing u a x (told.Begun rv) at none open_at k = none rv refl k
   begun_nothing u a x (told.Exhausted clock) at none open_at k =
       absurd (not_open (sym (ap (λ (y : Seat V). y.stage) (put-same u.seats a no_one)) ∙ open_at))

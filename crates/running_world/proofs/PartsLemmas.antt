@@ -160,7 +160,8 @@ module _ {V : Type 0} where
 
   -- ---- a want of memory
   pub starve_happens : (c : Parts V) (i : ℕ) (r s : TxActor V) (n : Told V) → slice_get c.actors.items i ≡ Some r → Starves r s n
-      → KeepsOwn c.blocks (Starve (i + 1)) r s → KeepsRoom (Starve (i + 1)) c.table r c.table s → ((v : BlocksView) → KeepsIn v r s) → Happens c (Starve (i + 1)) (with_turn c c.table i s) n
+      → KeepsOwn c.blocks (Starve (i + 1)) r s → KeepsRoom (Starve (i + 1)) c.table r c.table s
+      → ((v : BlocksView) → KeepsIn v r s) → Happens c (Starve (i + 1)) (with_turn c c.table i s) n
   starve_happens c i r s n got starves own rooms keeps =
       let turn = starve_turns c.blocks (i + 1) c.table r s n starves in
       let kept = keeps c.blocks in
@@ -206,7 +207,8 @@ module _ {V : Type 0} where
   -- an actor that shows what the one at its place does
   pub stays_by : (c : Parts V) (u : Table V) (i : ℕ) (r s : TxActor V) → slice_get c.actors.items i ≡ Some r → u ≡ c.table → Stands r s
       → ((w : World V) → IsLaid c.blocks w → HasCopies r w (i + 1) → HasCopies s w (i + 1))
-      → ((o : Contents V) (w : World V) → IsReached o w → Runs (i + 1) r w → Runs (i + 1) s w → HasRoomLeft c.table r → HasRoomLeft c.table s)
+      → ((o : Contents V) (w : World V) → IsReached o w → Runs (i + 1) r w → Runs (i + 1) s w → HasRoomLeft c.table r
+      → HasRoomLeft c.table s)
       → (IsRunning c.blocks r → IsRunning c.blocks s) → Grows c.table.cells r.words u.cells s.words → Stays c (with_turn c u i s)
   stays_by c u i r s got same stands has room keeps grows = λ o w reached h. (
       let runs = (h.seats i r got).runs in

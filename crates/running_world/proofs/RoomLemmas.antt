@@ -4,7 +4,8 @@
 -- which frees its gate, is left to no actor afterwards; and the other bases stand. A step that changes no base leaves its actor with no
 -- more bases than before, but for the first value store, which leaves it with those whose gates it held; a request finds it without a
 -- gate, and a want of memory before the first value store ends its commit.
-use Rattle.std.proofs.Common.{◌≡◌, ◌≢◌, ◌⊎◌, ℕ, zero, suc, ◌≤◌, Bool, true, false, true≢false, List, [], ◌∷◌, Option, Some, inl, inr, refl, sym, ap, ◌∙◌, subst, arith, eqb, eqb-true, eq-eqb, length, slice_get}
+use Rattle.std.proofs.Common.{◌≡◌, ◌≢◌, ◌⊎◌, ℕ, zero, suc, ◌≤◌, Bool, true, false, true≢false, List, [], ◌∷◌, Option, Some, inl, inr}
+use Rattle.std.proofs.Common.{refl, sym, ap, ◌∙◌, subst, arith, eqb, eqb-true, eq-eqb, length, slice_get}
 use Rattle.std.specs.Prelude.{All, Contains, slice_index_or}
 use Rattle.std.specs.declared.alloc.Global.{Global}
 use Rattle.std.specs.declared.vec.Vec.{Vec}
@@ -21,7 +22,8 @@ use Rattle.collection_machine.specs.Boosted.{is_actor}
 use Rattle.collection_machine.specs.Content.{has}
 use Rattle.replay_log.specs.declared.base.Base.{Base}
 use Rattle.replay_log.specs.Base.{room_of}
-use Rattle.replay_log.specs.Worlds.{World, Seat, Stage, Ready, Cancelling, Leaving, Open, because, gives_up, goes_home, happens, has_stored, is_half_done, starve_at, step_at}
+use Rattle.replay_log.specs.Worlds.{World, Seat, Stage, Ready, Cancelling, Leaving, Open, because, gives_up, goes_home, happens}
+use Rattle.replay_log.specs.Worlds.{has_stored, is_half_done, starve_at, step_at}
 use Rattle.replay_log.proofs.EventLemmas.{run_linked}
 use Rattle.replay_log.proofs.SeatLemmas.{Linked, gates_of}
 use Rattle.atomic_steps.proofs.OneStep.{one_step}

@@ -3,7 +3,8 @@
 -- A request and a want of memory change nothing that is shared, so the table stands. A step of the words is the machine's on the table, and
 -- then what the actor makes of what it was told: that changes nothing that is shared either. Between the two, the actor has its seat as
 -- before, and its word actor after the step; the collections that it has written stand, since a step of a locking actor writes nothing.
-use Rattle.std.proofs.Common.{◌≡◌, ℕ, ◌+◌, Bool, true, false, true≢false, List, [], ◌∷◌, Option, Some, None, Result, ◌≤◌, inl, inr, refl, sym, ap, ◌∙◌, subst, arith, drop}
+use Rattle.std.proofs.Common.{◌≡◌, ℕ, ◌+◌, Bool, true, false, true≢false, List, [], ◌∷◌, Option, Some, None, Result, ◌≤◌, inl, inr, refl}
+use Rattle.std.proofs.Common.{sym, ap, ◌∙◌, subst, arith, drop}
 use Rattle.std.specs.Prelude.{not, filter}
 use Rattle.std.specs.declared.alloc.Global.{Global}
 use Rattle.std.specs.declared.vec.Vec.{Vec}
@@ -31,9 +32,9 @@ use Rattle.collection_machine.specs.Boosted.{word_step}
 use Rattle.replay_log.specs.Base.{Shown}
 use Rattle.replay_log.specs.Contents.{Answered, Asked, Block, HaveStripes, content, end_of, home_of, is_plain}
 use Rattle.replay_log.specs.Guards.{IsAllowed, step_action}
-use Rattle.replay_log.specs.Worlds.{World, Seat, Stage, After, Idle, Beginning, Open, Locking, Releasing, Closing, Cancelling, Leaving, Reading}
-use Rattle.replay_log.specs.Worlds.{Trying, Copying, Loading, Gating, Ready, Storing, Homing, Returning, acted, asks, actor_of, moves, word_notice}
-use Rattle.replay_log.specs.Worlds.{all_of, distinct, step_at, happens, opened, run, written_homes}
+use Rattle.replay_log.specs.Worlds.{World, Seat, Stage, After, Idle, Beginning, Open, Locking, Releasing, Closing, Cancelling, Leaving}
+use Rattle.replay_log.specs.Worlds.{Reading, Trying, Copying, Loading, Gating, Ready, Storing, Homing, Returning, acted, asks, actor_of}
+use Rattle.replay_log.specs.Worlds.{moves, word_notice, all_of, distinct, step_at, happens, opened, run, written_homes}
 use Rattle.replay_log.proofs.GuardLemmas.{world_allows}
 use Rattle.replay_log.proofs.EventLemmas.{opened_linked, run_linked}
 use Rattle.replay_log.proofs.SeatLemmas.{AtLocking, Copy, Linked, StageOk}

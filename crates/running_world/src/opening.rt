@@ -1,50 +1,13 @@
-//! The parts that a world opens with.
+//! The actors that a world opens with.
 ghost use Rattle.std.specs.Prelude.{◌≡◌, IfOk, length};
-ghost use Rattle.replay_log.specs.Collections.{kind_of_held};
-ghost use Rattle.actor_words.specs.Blocks.{kind_of};
-ghost use Rattle.world_table.specs.Openings.{blocks_of};
 ghost use Rattle.running_world.specs.Openings.{AreIdle};
 
-use actor_words::{Blocks, Kind, TABLE_LIMIT};
-use seq_model::{Held, Memory, Refusal};
+use seq_model::Memory;
 use std::alloc::Global;
 use tx_actor::TxActor;
 
 /// The actors of a world.
 pub const ACTORS: usize = 64;
-
-fn kind<V>(held: &Held<V>) -> Kind
-    ensures { kind_of result ≡ kind_of_held held.now }
-{
-    match held {
-        Held::Map(_) => Kind::Map,
-        Held::Bag(_) => Kind::Bag,
-        Held::Pq(_) => Kind::Pq,
-        Held::Queue { .. } => Kind::Queue,
-    }
-}
-
-/// How the locations of so many words and of these collections lie, each collection in so many stripes. It is refused where there are too
-/// many, or for want of memory.
-pub fn lay<V>(
-    alloc: Global,
-    words: usize,
-    stripes: &[u32],
-    held: &[Held<V>],
-) -> Result<Blocks, Refusal>
-    requires { length stripes.now ≡ length held.now }
-    ensures words { IfOk result (λ blocks. blocks.words ≡ words) }
-    ensures blocks { IfOk result (λ blocks. blocks.blocks ≡ blocks_of stripes.now held.now) }
-{
-    if words > TABLE_LIMIT as usize {
-        return Err(Refusal::TooLong);
-    }
-    let mut blocks = Blocks::new(alloc, words as u32);
-    for (i, count) in stripes.iter().enumerate() {
-        blocks.push(kind(&held[i]), *count)?;
-    }
-    Ok(blocks)
-}
 
 /// The actors of a world, none of which has a transaction.
 pub fn actors<V: Drop>(alloc: Global) -> Result<Vec<TxActor<V>>, Memory>

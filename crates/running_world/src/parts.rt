@@ -9,13 +9,13 @@ ghost use Rattle.replay_log.specs.Worlds.{state};
 ghost use Rattle.running_world.specs.Reached.{IsReached};
 ghost use Rattle.running_world.specs.Traces.{IsSerialTrace, IsTraceOf};
 
-use crate::opening::{actors, lay};
+use crate::opening::actors;
 use crate::trace::{Ended, Trace, copy_of_aborted, copy_of_records, half_done};
 use actor_words::Blocks;
 use seq_model::{Items, Memory, Record, Refusal, Shape, State, Value};
 use std::alloc::Global;
 use tx_actor::TxActor;
-use world_table::Table;
+use world_table::{Table, lay};
 
 /// The parts of a world.
 #[derive(Drop)]

@@ -51,7 +51,8 @@ impl<V: Value> Parts<V> {
         requires inside { i < length self.old.actors.items }
         requires world { HasWorld self.old }
         requires due { IsDue self.old i Next.Word }
-        requires stays { (r : running.TxActor V) → slice_get self.old.actors.items i ≡ Some r → (r.stage ≢ Stage.Closing) × (r.stage ≢ Stage.Leaving)
+        requires stays { (r : running.TxActor V) → slice_get self.old.actors.items i ≡ Some r →
+            (r.stage ≢ Stage.Closing) × (r.stage ≢ Stage.Leaving)
             × (is_loading (stage_of r.stage) ≡ false) }
         ensures { Happens self.old (Step (i + 1)) self.new result }
     {

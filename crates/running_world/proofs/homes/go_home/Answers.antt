@@ -18,7 +18,8 @@ go_home-requires-clause-prepared g c = λ base at. (
     subst (λ (n : ℕ). n ≤ room_of base) (sym (ap length c.log_of-log.ensures.changes)) room)
 
 pub go_home-requires-clause-within : goal.go_home-requires-clause-within
-go_home-requires-clause-within g c = λ base at. log_within c.logs_as_worlds.ensures.log c.logs_as_worlds.ensures.within c.args.k c.args.table.now
+go_home-requires-clause-within g c =
+    λ base at. log_within c.logs_as_worlds.ensures.log c.logs_as_worlds.ensures.within c.args.k c.args.table.now
     c.args.actor.now c.log_of-log.result.locations base c.requires.may c.log_of-log.ensures.locations at
 
 pub go_home-requires-clause-below : goal.go_home-requires-clause-below
@@ -31,7 +32,8 @@ returns-clause-turns g c =
     let p = c.log_of-log.new.self in
     home_turns c.steps_as_worlds.ensures c.goes_on_as_worlds.ensures c.logs_as_worlds.ensures.log c.args.k c.args.table.now
     c.go_home.new.self r p c.went_home.new.self c.log_of-log.result.changes c.log_of-log.result.locations c.went_home.result c.requires.due
-    c.requires.inside.1 (c.log_of-log.ensures.stands (recorded_home r.stage c.args.k c.requires.due)) (ap (λ (z : TxActor _). z.stage) c.log_of-log.ensures.rest)
+    c.requires.inside.1 (c.log_of-log.ensures.stands (recorded_home r.stage c.args.k c.requires.due))
+    (ap (λ (z : TxActor _). z.stage) c.log_of-log.ensures.rest)
     c.log_of-log.ensures.changes c.log_of-log.ensures.locations c.go_home.ensures.homes c.went_home.ensures.does
 
 pub returns-clause-keeps : goal.returns-clause-keeps

@@ -10,4 +10,6 @@ loop-entry-preserved g c = half_next (seat_at c.args.actors.now) c.args.records.
     c.is_half-half.ensures c.loop-entry.invariant c.in_ok-add_number.ensures
 
 pub returns : goal.returns
-returns g c = c.loop-entry.invariant ∙ ap (half_in (seat_at c.args.actors.now)) (take_all c.args.records.now c.loop-entry.entry-index c.loop-entry-test.false)
+returns g c =
+    c.loop-entry.invariant ∙ ap (half_in (seat_at c.args.actors.now))
+    (take_all c.args.records.now c.loop-entry.entry-index c.loop-entry-test.false)

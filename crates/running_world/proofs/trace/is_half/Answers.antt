@@ -12,7 +12,8 @@ returns-in-Some g c =
     let h = c.in-Some.ensures.lookup in
     half_found c.args.actors.now c.args.entry.now c.in-Some.running.now c.both.result c.both-theirs.result c.if-actor-eq0.false
     (slice_get-get_or c.args.actors.now _ c.in-Some.running.now h.3.0 ∙ ap Some (sym h.1))
-    (c.both-theirs.ensures ∙ ap (λ (b : Bool). b && (c.args.entry.now.1.number == c.in-Some.running.now.wv)) c.is_between.ensures) c.both.ensures
+    (c.both-theirs.ensures ∙ ap
+    (λ (b : Bool). b && (c.args.entry.now.1.number == c.in-Some.running.now.wv)) c.is_between.ensures) c.both.ensures
 
 pub returns-in-None : goal.returns-in-None
 returns-in-None g c =

@@ -14,7 +14,9 @@ pub step-told-requires-clause-same : goal.step-told-requires-clause-same
 step-told-requires-clause-same g c = c.requires.shape.values ∙ sym c.requires.shape.locks
 
 pub step-told-requires-clause-clock : goal.step-told-requires-clause-clock
-step-told-requires-clause-clock g c = (let less = (c.asks_to_store.ensures.keeps (quiet_first (stage_of c.args.actor.now.stage) c.requires.due)).owed in omega (arith, less, c.requires.clock))
+step-told-requires-clause-clock g c =
+    (let less = (c.asks_to_store.ensures.keeps (quiet_first (stage_of c.args.actor.now.stage) c.requires.due)).owed in
+    omega (arith, less, c.requires.clock))
 
 pub stepped-requires : goal.stepped-requires
 stepped-requires g c = (running_moved c.args.blocks.now c.asks_to_store.new.self c.step-told.new.actor c.step-told.ensures.fits
@@ -23,7 +25,9 @@ stepped-requires g c = (running_moved c.args.blocks.now c.asks_to_store.new.self
     ((c.asks_to_store.ensures.keeps (quiet_first (stage_of c.args.actor.now.stage) c.requires.due)).running c.requires.running)).room
 
 pub returns-clause-turns : goal.returns-clause-turns
-returns-clause-turns g c = λ v a. first_turns c.steps_as_worlds.ensures c.goes_on_as_worlds.ensures v a c.args.table.now c.step-told.new.self c.args.actor.now c.asks_to_store.new.self
+returns-clause-turns g c =
+    λ v a. first_turns c.steps_as_worlds.ensures c.goes_on_as_worlds.ensures v a c.args.table.now c.step-told.new.self c.args.actor.now
+    c.asks_to_store.new.self
     c.stepped.new.self c.step-told.new.actor c.step-told.result c.stepped.result c.requires.due c.in_ok-asks_to_store.ensures.ok
     c.step-told.ensures.steps c.stepped.ensures.does
 
@@ -36,7 +40,8 @@ returns-clause-running g c = (c.stepped.ensures.keeps c.args.blocks.now).running
 
 pub returns-clause-grows : goal.returns-clause-grows
 returns-clause-grows g c = grows_more c.args.table.now.cells c.step-told.new.self.cells c.args.actor.now.words
-    c.asks_to_store.new.self.words c.stepped.new.self.words (c.asks_to_store.ensures.keeps (quiet_first (stage_of c.args.actor.now.stage) c.requires.due)).owed
+    c.asks_to_store.new.self.words c.stepped.new.self.words (c.asks_to_store.ensures.keeps
+    (quiet_first (stage_of c.args.actor.now.stage) c.requires.due)).owed
     (grows_less c.args.table.now.cells c.step-told.new.self.cells c.asks_to_store.new.self.words c.step-told.new.actor
     c.stepped.new.self.words c.step-told.ensures.grows (c.stepped.ensures.keeps c.args.blocks.now).owed)
 

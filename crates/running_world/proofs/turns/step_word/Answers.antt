@@ -10,10 +10,14 @@ pub step-told-requires-clause-same : goal.step-told-requires-clause-same
 step-told-requires-clause-same g c = c.requires.shape.values ∙ sym c.requires.shape.locks
 
 pub stepped-requires : goal.stepped-requires
-stepped-requires g c = (running_moved c.args.blocks.now c.args.actor.now c.step-told.new.actor c.step-told.ensures.fits c.requires.word c.requires.running).room
+stepped-requires g c =
+    (running_moved c.args.blocks.now c.args.actor.now c.step-told.new.actor c.step-told.ensures.fits c.requires.word
+    c.requires.running).room
 
 pub returns-clause-turns : goal.returns-clause-turns
-returns-clause-turns g c = λ v a. word_turns c.steps_as_worlds.ensures c.goes_on_as_worlds.ensures v a c.args.table.now c.step-told.new.self c.args.actor.now c.stepped.new.self
+returns-clause-turns g c =
+    λ v a. word_turns c.steps_as_worlds.ensures c.goes_on_as_worlds.ensures v a c.args.table.now c.step-told.new.self c.args.actor.now
+    c.stepped.new.self
     c.step-told.new.actor c.step-told.result c.stepped.result c.requires.due c.requires.word c.step-told.ensures.steps
     c.stepped.ensures.does
 

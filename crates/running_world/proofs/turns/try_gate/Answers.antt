@@ -3,7 +3,8 @@ use Rattle.tx_actor.specs.Running.{stage_of}
 use Rattle.running_world.proofs.turns.try_gate.Goals as goal
 
 pub returns-clause-turns : goal.returns-clause-turns
-returns-clause-turns g c = λ v. try_turns c.steps_as_worlds.ensures v c.args.number c.args.k c.args.table.now c.take_gate-free.new.self c.args.actor.now
+returns-clause-turns g c =
+    λ v. try_turns c.steps_as_worlds.ensures v c.args.number c.args.k c.args.table.now c.take_gate-free.new.self c.args.actor.now
     c.tried_gate.new.self c.take_gate-free.result c.tried_gate.result c.requires.due c.take_gate-free.ensures.tries
     c.tried_gate.ensures.does
 

@@ -14,7 +14,8 @@ use Rattle.running_world.proofs.parts.Parts.close.Goals as goal
 
 pub close-told-requires-clause-running : goal.close-told-requires-clause-running
 close-told-requires-clause-running g c =
-    let got = slice_get_read c.args.self.now.actors.items _ c.args.i c.index_mut.result.now refl c.requires.inside c.index_mut.ensures.value in
+    let got = slice_get_read c.args.self.now.actors.items _ c.args.i c.index_mut.result.now refl c.requires.inside
+    c.index_mut.ensures.value in
     (c.requires.world.parts.seats c.args.i c.index_mut.result.now got).running
 
 pub close-told-requires-clause-shape : goal.close-told-requires-clause-shape
@@ -22,12 +23,14 @@ close-told-requires-clause-shape g c = shape_laid c.args.self.now c.requires.wor
 
 pub close-told-requires-clause-clock : goal.close-told-requires-clause-clock
 close-told-requires-clause-clock g c =
-    let got = slice_get_read c.args.self.now.actors.items _ c.args.i c.index_mut.result.now refl c.requires.inside c.index_mut.ensures.value in
+    let got = slice_get_read c.args.self.now.actors.items _ c.args.i c.index_mut.result.now refl c.requires.inside
+    c.index_mut.ensures.value in
     may_take c.args.self.now c.requires.world.world c.args.i c.index_mut.result.now c.requires.world.parts got
 
 pub close-told-requires-clause-stage : goal.close-told-requires-clause-stage
 close-told-requires-clause-stage g c =
-    let got = slice_get_read c.args.self.now.actors.items _ c.args.i c.index_mut.result.now refl c.requires.inside c.index_mut.ensures.value in
+    let got = slice_get_read c.args.self.now.actors.items _ c.args.i c.index_mut.result.now refl c.requires.inside
+    c.index_mut.ensures.value in
     c.requires.stage c.index_mut.result.now got
 
 pub insert_record-requires : goal.insert_record-requires

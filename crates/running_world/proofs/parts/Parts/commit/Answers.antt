@@ -3,7 +3,8 @@ use Rattle.std.proofs.lemmas.Option.{slice_get_read}
 use Rattle.seq_model.specs.Runs.{IsInCommitOrder}
 use Rattle.seq_model.specs.declared.event.Event.TheVariants.{Step}
 use Rattle.step_core.proofs.Lists.{same_at}
-use Rattle.running_world.proofs.PartsLemmas.{committing_ends, committing_record, happens_then, more_records, starved_then, stays_by, stays_then, step_happens, with_turn}
+use Rattle.running_world.proofs.PartsLemmas.{committing_ends, committing_record, happens_then, more_records, starved_then, stays_by}
+use Rattle.running_world.proofs.PartsLemmas.{stays_then, step_happens, with_turn}
 use Rattle.running_world.proofs.PrepareLemmas.{has_room_made, room_made}
 use Rattle.running_world.proofs.RoomLemmas.{room_first}
 use Rattle.running_world.proofs.TraceLemmas.{serial_at}
@@ -19,7 +20,8 @@ use Rattle.running_world.proofs.parts.Parts.commit.Goals as goal
 
 pub commit-requires-clause-running : goal.commit-requires-clause-running
 commit-requires-clause-running g c =
-    let got = slice_get_read c.args.self.now.actors.items _ c.args.i c.index_mut.result.now refl c.requires.inside c.index_mut.ensures.value in
+    let got = slice_get_read c.args.self.now.actors.items _ c.args.i c.index_mut.result.now refl c.requires.inside
+    c.index_mut.ensures.value in
     (c.requires.world.parts.seats c.args.i c.index_mut.result.now got).running
 
 pub commit-requires-clause-shape : goal.commit-requires-clause-shape
@@ -41,7 +43,8 @@ commit-requires-clause-clock g c =
 
 pub commit-requires-clause-due : goal.commit-requires-clause-due
 commit-requires-clause-due g c =
-    let got = slice_get_read c.args.self.now.actors.items _ c.args.i c.index_mut.result.now refl c.requires.inside c.index_mut.ensures.value in
+    let got = slice_get_read c.args.self.now.actors.items _ c.args.i c.index_mut.result.now refl c.requires.inside
+    c.index_mut.ensures.value in
     c.requires.due c.index_mut.result.now got
 
 pub insert_record-requires : goal.insert_record-requires

@@ -8,4 +8,5 @@ pub returns : goal.returns
 returns g c =
     let at = c.in-Some.ensures in
     subst (λ n. Feeds c.args.self.now (Ask c.args.actor c.args.request) c.ask.new.self n) (sym c.notice.ensures)
-    (feeds_at (λ b. Ask b c.args.request) (λ b. refl) c.args.self.now c.ask.new.self c.args.actor c.in-Some.i c.in_ok-told.told at.0 at.1 c.in_ok-told.ensures.ok)
+    (feeds_at (λ b. Ask b c.args.request)
+    (λ b. refl) c.args.self.now c.ask.new.self c.args.actor c.in-Some.i c.in_ok-told.told at.0 at.1 c.in_ok-told.ensures.ok)

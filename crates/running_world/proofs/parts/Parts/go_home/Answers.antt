@@ -17,7 +17,8 @@ go_home-requires-clause-inside g c =
 
 pub go_home-requires-clause-due : goal.go_home-requires-clause-due
 go_home-requires-clause-due g c =
-    let got = slice_get_read c.args.self.now.actors.items _ c.args.i c.index_mut.result.now refl c.requires.inside c.index_mut.ensures.value in
+    let got = slice_get_read c.args.self.now.actors.items _ c.args.i c.index_mut.result.now refl c.requires.inside
+    c.index_mut.ensures.value in
     c.requires.due c.index_mut.result.now got
 
 pub go_home-requires-clause-may : goal.go_home-requires-clause-may

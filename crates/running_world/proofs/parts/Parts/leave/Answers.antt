@@ -12,7 +12,8 @@ use Rattle.running_world.proofs.parts.Parts.leave.Goals as goal
 
 pub leave-told-requires-clause-running : goal.leave-told-requires-clause-running
 leave-told-requires-clause-running g c =
-    let got = slice_get_read c.args.self.now.actors.items _ c.args.i c.index_mut.result.now refl c.requires.inside c.index_mut.ensures.value in
+    let got = slice_get_read c.args.self.now.actors.items _ c.args.i c.index_mut.result.now refl c.requires.inside
+    c.index_mut.ensures.value in
     (c.requires.world.parts.seats c.args.i c.index_mut.result.now got).running
 
 pub leave-told-requires-clause-shape : goal.leave-told-requires-clause-shape
@@ -20,12 +21,14 @@ leave-told-requires-clause-shape g c = shape_laid c.args.self.now c.requires.wor
 
 pub leave-told-requires-clause-clock : goal.leave-told-requires-clause-clock
 leave-told-requires-clause-clock g c =
-    let got = slice_get_read c.args.self.now.actors.items _ c.args.i c.index_mut.result.now refl c.requires.inside c.index_mut.ensures.value in
+    let got = slice_get_read c.args.self.now.actors.items _ c.args.i c.index_mut.result.now refl c.requires.inside
+    c.index_mut.ensures.value in
     may_take c.args.self.now c.requires.world.world c.args.i c.index_mut.result.now c.requires.world.parts got
 
 pub leave-told-requires-clause-stage : goal.leave-told-requires-clause-stage
 leave-told-requires-clause-stage g c =
-    let got = slice_get_read c.args.self.now.actors.items _ c.args.i c.index_mut.result.now refl c.requires.inside c.index_mut.ensures.value in
+    let got = slice_get_read c.args.self.now.actors.items _ c.args.i c.index_mut.result.now refl c.requires.inside
+    c.index_mut.ensures.value in
     c.requires.stage c.index_mut.result.now got
 
 pub returns-in_default-clause-err : goal.returns-in_default-clause-err

@@ -10,7 +10,8 @@ use Rattle.running_world.proofs.parts.Parts.move_on.Goals as goal
 
 pub step_word-requires-clause-running : goal.step_word-requires-clause-running
 step_word-requires-clause-running g c =
-    let got = slice_get_read c.args.self.now.actors.items _ c.args.i c.index_mut.result.now refl c.requires.inside c.index_mut.ensures.value in
+    let got = slice_get_read c.args.self.now.actors.items _ c.args.i c.index_mut.result.now refl c.requires.inside
+    c.index_mut.ensures.value in
     (c.requires.world.parts.seats c.args.i c.index_mut.result.now got).running
 
 pub step_word-requires-clause-shape : goal.step_word-requires-clause-shape
@@ -18,17 +19,20 @@ step_word-requires-clause-shape g c = shape_laid c.args.self.now c.requires.worl
 
 pub step_word-requires-clause-clock : goal.step_word-requires-clause-clock
 step_word-requires-clause-clock g c =
-    let got = slice_get_read c.args.self.now.actors.items _ c.args.i c.index_mut.result.now refl c.requires.inside c.index_mut.ensures.value in
+    let got = slice_get_read c.args.self.now.actors.items _ c.args.i c.index_mut.result.now refl c.requires.inside
+    c.index_mut.ensures.value in
     may_take c.args.self.now c.requires.world.world c.args.i c.index_mut.result.now c.requires.world.parts got
 
 pub step_word-requires-clause-due : goal.step_word-requires-clause-due
 step_word-requires-clause-due g c =
-    let got = slice_get_read c.args.self.now.actors.items _ c.args.i c.index_mut.result.now refl c.requires.inside c.index_mut.ensures.value in
+    let got = slice_get_read c.args.self.now.actors.items _ c.args.i c.index_mut.result.now refl c.requires.inside
+    c.index_mut.ensures.value in
     c.requires.due c.index_mut.result.now got
 
 pub step_word-requires-clause-word : goal.step_word-requires-clause-word
 step_word-requires-clause-word g c =
-    let got = slice_get_read c.args.self.now.actors.items _ c.args.i c.index_mut.result.now refl c.requires.inside c.index_mut.ensures.value in
+    let got = slice_get_read c.args.self.now.actors.items _ c.args.i c.index_mut.result.now refl c.requires.inside
+    c.index_mut.ensures.value in
     (c.requires.stays c.index_mut.result.now got).2
 
 pub returns : goal.returns
@@ -41,7 +45,8 @@ returns g c =
     (c.step_word.ensures.turns c.args.self.now.blocks _)
     (keeps_step c.copies_by_stage.ensures.steps c.copies_by_stage.ensures.begun c.copies_stay.ensures.events c.begins_with_nothing.ensures
     c.copies_stay.ensures.others c.copies_by_stage.ensures.others
-    c.args.self.now.blocks _ r c.step_word.new.actor stays.2 (λ asked. calm_at (stage_of r.stage) next.Word (c.requires.due r got) (λ k q. let z : ⊥ = cc in z) asked) c.step_word.ensures.leaves)
+    c.args.self.now.blocks _ r c.step_word.new.actor stays.2 (λ asked. calm_at (stage_of r.stage) next.Word (c.requires.due r got)
+    (λ k q. let z : ⊥ = cc in z) asked) c.step_word.ensures.leaves)
     (room_kept _ c.args.self.now.table c.step_word.new.table r c.step_word.new.actor c.step_word.ensures.bases
     (not_first (stage_of r.stage) next.Word (c.requires.due r got) (λ e. let z : ⊥ = cc in z)) c.step_word.ensures.leaves)
     c.step_word.ensures.shape (λ _. c.step_word.ensures.running)

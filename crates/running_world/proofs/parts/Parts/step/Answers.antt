@@ -9,7 +9,8 @@ unreachable-requires g c =
     let r = c.index.result.now in
     let got = slice_get_read c.args.self.now.actors.items _ c.args.i r refl c.requires.inside c.index.ensures in
     let named = (c.requires.world.parts.seats c.args.i r got).running.names in
-    no_copy r.stage c.in-Copy.field-0 (subst (λ bs. NamesAmong (length bs) r.stage) c.requires.none named) (sym c.next.ensures ∙ c.in-Copy.is)
+    no_copy r.stage c.in-Copy.field-0 (subst (λ bs. NamesAmong (length bs) r.stage) c.requires.none named)
+    (sym c.next.ensures ∙ c.in-Copy.is)
 
 pub returns-in-Nothing-clause-ok : goal.returns-in-Nothing-clause-ok
 returns-in-Nothing-clause-ok g c =

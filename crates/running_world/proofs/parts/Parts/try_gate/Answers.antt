@@ -20,7 +20,8 @@ try_gate-requires-clause-inside g c =
 
 pub try_gate-requires-clause-due : goal.try_gate-requires-clause-due
 try_gate-requires-clause-due g c =
-    let got = slice_get_read c.args.self.now.actors.items _ c.args.i c.index_mut.result.now refl c.requires.inside c.index_mut.ensures.value in
+    let got = slice_get_read c.args.self.now.actors.items _ c.args.i c.index_mut.result.now refl c.requires.inside
+    c.index_mut.ensures.value in
     c.requires.due c.index_mut.result.now got
 
 pub returns : goal.returns
@@ -34,7 +35,8 @@ returns g c =
     (keeps_step c.copies_by_stage.ensures.steps c.copies_by_stage.ensures.begun c.copies_stay.ensures.events c.begins_with_nothing.ensures
     c.copies_stay.ensures.others c.copies_by_stage.ensures.others
     c.args.self.now.blocks _ r c.try_gate.new.actor (quiet_try (stage_of r.stage) c.args.k (c.requires.due r got))
-    (λ asked. calm_at (stage_of r.stage) (next.TryGate c.args.k) (c.requires.due r got) (λ k q. let z : ⊥ = cc in z) asked) c.try_gate.ensures.leaves)
+    (λ asked. calm_at (stage_of r.stage) (next.TryGate c.args.k) (c.requires.due r got)
+    (λ k q. let z : ⊥ = cc in z) asked) c.try_gate.ensures.leaves)
     (room_kept _ c.args.self.now.table c.try_gate.new.table r c.try_gate.new.actor c.try_gate.ensures.bases
     (not_first (stage_of r.stage) (next.TryGate c.args.k) (c.requires.due r got) (λ e. let z : ⊥ = cc in z)) c.try_gate.ensures.leaves)
     c.try_gate.ensures.shape kept.running
