@@ -4,12 +4,12 @@ use Rattle.std.proofs.Common.{◌≡◌, ℕ, ◌<◌, false, List, [], ◌∷�
 use Rattle.word_machine.specs.Actor as machine
 use Rattle.word_machine.proofs.Declared.{has_no_sets}
 use Rattle.seq_model.specs.declared.event.Event.{Event}
-use Rattle.seq_model.specs.declared.event.Event.TheVariants.{Ask}
+use Rattle.seq_model.specs.declared.event.Event.TheVariants.{Ask, Step, Starve}
 use Rattle.seq_model.specs.declared.event.Request.{Request}
 use Rattle.replay_log.proofs.EventLemmas.{opened_linked, run-append, run_linked}
 use Rattle.replay_log.proofs.SeatLemmas.{StageOk}
 use Rattle.replay_log.specs.Seats.{World, Seat, After, actor_of, at_stage}
-use Rattle.replay_log.specs.Worlds.{ask_at, ask_open, happens, run}
+use Rattle.replay_log.specs.Worlds.{ask_at, ask_open, happens, run, starve_at}
 use Rattle.step_core.specs.Shown as words
 use Rattle.actor_words.specs.Blocks.{BlocksView}
 use Rattle.actor_words.specs.Dispatch.{is_loading}
@@ -17,7 +17,9 @@ use Rattle.actor_words.specs.Requests.{HasNoReads}
 use Rattle.atomic_steps.proofs.OneStep.{one_step}
 use Rattle.atomic_steps.proofs.OwnEvents.{own_event}
 use Rattle.atomic_steps.specs.Own.{Alike}
+use Rattle.atomic_steps.specs.Steps.{OnlyOwn}
 use Rattle.tx_actor.specs.Asks.{Asks, Stands}
+use Rattle.tx_actor.specs.Dispatch.{Starves}
 use Rattle.tx_actor.specs.Keeping.{IsRunning, KeepsIn}
 use Rattle.tx_actor.specs.Running.{Does, Runs, seat_of, stage_of}
 use Rattle.tx_actor.specs.declared.actor.Stage as own
@@ -33,7 +35,7 @@ use Rattle.tx_table.specs.Shown.{IsReached}
 use Rattle.tx_table.specs.declared.view.View.{View}
 use Rattle.tx_table.specs.Turns.{asked_all, lone}
 use Rattle.tx_table.specs.Turns as turns
-use Rattle.tx_turns.specs.Asked.{Answers, HasAsked}
+use Rattle.tx_turns.specs.Asked.{Answers, HasAsked, HasTaken, Starved}
 use Rattle.tx_turns.specs.Ties.{Ties, laid_in}
 use Rattle.tx_turns.proofs.TurnLemmas.{laid_as, own_place, seat_by}
 
@@ -43,23 +45,66 @@ module _ {V : Type 0} where
   asked_last a w [] e = refl
   asked_last a w (d ∷ es) e = asked_last a (happens w (turns.own a d)).0 es e
 
-  -- the own world of a seat that has asked
-  acts_asked : (o : World V) (s u : table.Seat V) (q : Request V) → HasAsked s q u
-      → acts o u ≡ (happens (acts o s) (Ask (seated.actor s) q)).0
-  acts_asked o s u q h =
+  -- the own world of a seat that has asked, or wanted memory
+  pub acts_taken : (o : World V) (s u : table.Seat V) (e : Event V) → HasTaken s e u
+      → acts o u ≡ (happens (acts o s) (turns.own (seated.actor s) e)).0
+  acts_taken o s u e h =
       (λ i. asked_all (h.0.1 i) (lone (h.0.1 i) o (h.1 i).0.turns) (h.2 i))
-      ∙ asked_last (seated.actor s) (lone (seated.actor s) o (view s).turns) (seated.list_of s.asked) (Ask 0 q)
+      ∙ asked_last (seated.actor s) (lone (seated.actor s) o (view s).turns) (seated.list_of s.asked) e
 
-  reached_ask : (o : World V) (a : ℕ) (w : World V) (q : Request V) → IsReached o a w → IsReached o a (happens w (Ask a q)).0
-  reached_ask o a w q h =
-      let calm = one_step w (Ask a q) in
+  reached_by : (o : World V) (a : ℕ) (w : World V) (e : Event V) → OnlyOwn a w (happens w e).0
+      → ((v : World V) → Alike a v w → Alike a (happens v e).0 (happens w e).0) → IsReached o a w → IsReached o a (happens w e).0
+  reached_by o a w e calm alike h = record {
+    stripes = h.stripes;
+    shape = (calm.words ∙ h.shape.0, calm.blocks ∙ h.shape.1);
+    events = h.events ++ e ∷ [];
+    alike = subst (λ (z : World V). Alike a z (happens w e).0) (sym (run-append h.events (e ∷ []) o)) (alike (run o h.events) h.alike);
+  }
+
+  reached_own : (o : World V) (a : ℕ) (w : World V) (e : Event V) → IsReached o a w → IsReached o a (happens w (turns.own a e)).0
+  reached_own o a w (Ask b q) h = reached_by o a w (Ask a q) (one_step w (Ask a q)) (λ v k. (own_event a v w (Ask a q) k refl).0) h
+  reached_own o a w (Step b) h = reached_by o a w (Starve a) (one_step w (Starve a)) (λ v k. (own_event a v w (Starve a) k refl).0) h
+  reached_own o a w (Starve b) h = reached_by o a w (Starve a) (one_step w (Starve a)) (λ v k. (own_event a v w (Starve a) k refl).0) h
+
+  -- the seat is tied to the actor that is its own world's by then
+  pub taken_tied : (t : TxTable V) (s u : table.Seat V) (r q : TxActor V) (e : Event V) → Ties t s r → HasTaken s e u
+      → IsRunning (laid_in t) q → Runs (seated.actor s) q (happens (acts (opening_of t) s) (turns.own (seated.actor s) e)).0 → Ties t u q
+  taken_tied t s u r q e ties has running runs =
+      let a = seated.actor s in
+      let own_is = acts_taken (opening_of t) s u e has in
       record {
-        stripes = h.stripes;
-        shape = (calm.words ∙ h.shape.0, calm.blocks ∙ h.shape.1);
-        events = h.events ++ Ask a q ∷ [];
-        alike = subst (λ (z : World V). Alike a z (happens w (Ask a q)).0) (sym (run-append h.events (Ask a q ∷ []) o))
-            (own_event a (run o h.events) w (Ask a q) h.alike refl).0;
+        owns = has.0.0 ∙ ties.owns;
+        live = subst (λ (v : View V). 0 < v.shares) (sym (ap (λ m. m.0) has.1)) ties.live;
+        reached = subst (λ (z : ℕ × World V). IsReached (opening_of t) z.0 z.1) (λ i. (sym has.0.1 i, sym own_is i))
+            (reached_own (opening_of t) a (acts (opening_of t) s) e ties.reached);
+        runs = subst (λ (z : ℕ × World V). Runs z.0 q z.1) (λ i. (sym has.0.1 i, sym own_is i)) runs;
+        running = running;
       }
+
+  -- ---- a want of memory
+  starved_at : (w : World V) (a : ℕ) (x y : Seat V) (t : own.Stage V)
+      → starve_at w a (seat_by x y t) (seat_by x y t).stage ≡ starve_at w a (at_stage y (stage_of t)) (stage_of t)
+  starved_at w a x y (stage.Loading o left) = refl
+  starved_at w a x y (stage.Storing homes) = refl
+  starved_at w a x y (stage.Homing homes) = refl
+  starved_at w a x y stage.Releasing = refl
+  starved_at w a x y t = refl
+
+  pub starved : (t : TxTable V) (s u : table.Seat V) (r q : TxActor V) (n : Told V) → Ties t s r → HasTaken s (Starve 0) u
+      → IsRunning (laid_in t) q → Starves r q n → Ties t u q × Starved (opening_of t) s u n
+  starved t s u r q n ties has running starves =
+      let a = seated.actor s in
+      let w = acts (opening_of t) s in
+      let e : happens w (Starve a) ≡ starve_at w a (seat_of r) (stage_of r.stage) =
+      ap (λ (x : Seat V). starve_at w a x x.stage) ties.runs.0 ∙ starved_at w a (w.seats a) (seat_of r) r.stage in
+      let there = starves a w ties.runs in (
+        taken_tied t s u r q (Starve 0) ties has running (subst (λ (z : After V). Runs a q z.0) (sym e) there.0),
+        record {
+          taken = has;
+          own = acts_taken (opening_of t) s u (Starve 0) has;
+          tells = there.1 ∙ sym (ap (λ (z : After V). z.1) e);
+        },
+      )
 
   -- it is made of the actor's own seat
   asked_at : (w : World V) (a : ℕ) (q : Request V) (x y : Seat V) (t : own.Stage V)
@@ -84,17 +129,8 @@ module _ {V : Type 0} where
       let a = seated.actor s in
       let w = acts (opening_of t) s in
       let e : happens w (Ask a x) ≡ f a w = asked_as w a x r ties.runs ∙ is a w in
-      let there = asks a w ties.reached.shape ties.runs in
-      let own_is = acts_asked (opening_of t) s u x has in
-      let reached = reached_ask (opening_of t) a w x ties.reached in (
-        record {
-          owns = has.0.0 ∙ ties.owns;
-          live = subst (λ (v : View V). 0 < v.shares) (sym (ap (λ m. m.0) has.1)) ties.live;
-          reached = subst (λ (z : ℕ × World V). IsReached (opening_of t) z.0 z.1) (λ i. (sym has.0.1 i, sym own_is i)) reached;
-          runs = subst (λ (z : ℕ × World V). Runs z.0 q z.1) (λ i. (sym has.0.1 i, sym own_is i))
-              (subst (λ (z : After V). Runs a q z.0) (sym e) there.0);
-          running = running;
-        },
+      let there = asks a w ties.reached.shape ties.runs in (
+        taken_tied t s u r q (Ask 0 x) ties has running (subst (λ (z : After V). Runs a q z.0) (sym e) there.0),
         there.1 ∙ sym (ap (λ (z : After V). z.1) e),
       )
 

@@ -2,11 +2,11 @@
 -- word that the machine plans, and that word becomes what the machine makes of it.
 use Rattle.std.proofs.Common.{◌≡◌, ℕ, ◌+◌, eqb, cond, false, Some, refl, sym, ap, ◌∙◌}
 use Rattle.word_machine.specs.Actor as machine
-use Rattle.word_machine.specs.Cells.{becomes, word_of}
+use Rattle.word_machine.specs.Cells.{ClockCell, becomes, word_of}
 use Rattle.word_machine.specs.World.{Deed, plan}
 use Rattle.replay_log.specs.Guards.{step_action}
 use Rattle.replay_log.specs.Seats.{World, Stage, Ready, actor_of, moves}
-use Rattle.atomic_steps.specs.Spots.{deed_of, spot_at, spot_by, spot_of}
+use Rattle.atomic_steps.specs.Spots.{Spot, Word, deed_of, spot_at, spot_by, spot_of}
 use Rattle.atomic_steps.specs.Steps.{atomic_action, ready_at}
 use Rattle.actor_words.specs.Dispatch.{is_loading, next_of}
 use Rattle.actor_words.specs.declared.next.Next.TheVariants as next
@@ -17,7 +17,7 @@ use Rattle.tx_table.specs.Turns.{stage_of}
 use Rattle.tx_table.specs.declared.seat.Seat.{Seat}
 use Rattle.tx_threads.proofs.OwnLemmas.{word_action}
 use Rattle.tx_threads.specs.Dues.{IsDeed}
-use Rattle.tx_threads.specs.Touches.{IsNext, changed, spot_due}
+use Rattle.tx_threads.specs.Touches.{Finds, IsClock, IsNext, changed, spot_due}
 use Rattle.tx_threads.specs.declared.due.Due.{Due}
 use Rattle.tx_threads.specs.declared.due.Due.TheVariants as due
 
@@ -42,6 +42,18 @@ becomes_is (due.Lock l old) e h k =
     ap (λ (x : Deed). becomes x k) h.3 ∙ ap (λ (n : ℕ). cond (eqb k n) (n + 1) k) (sym h.4)
 becomes_is (due.StoreValue l v) e h k = ap (λ (x : Deed). becomes x k) h.1
 becomes_is (due.StoreLock l w) e h k = ap (λ (x : Deed). becomes x k) h.2 ∙ sym h.3
+
+-- what a step on the clock left there
+pub clock_left : (d : Due) (p : Spot) (told found clock left : ℕ) → p ≡ spot_due d → left ≡ changed d found → Finds d told found
+    → IsClock d told clock → p ≡ Word ClockCell → clock ≡ left
+clock_left due.Nothing p told found clock left at is finds known e = absurd (let q = sym at ∙ e in let z : ⊥ = cc in z)
+clock_left due.LoadClock p told found clock left at is finds known e = known ∙ finds ∙ sym is
+clock_left due.AddToClock p told found clock left at is finds known e = known.0 ∙ ap (λ (k : ℕ). k + 1) finds ∙ sym is
+clock_left (due.LoadLock l) p told found clock left at is finds known e = absurd (let q = sym at ∙ e in let z : ⊥ = cc in z)
+clock_left (due.LoadValue l) p told found clock left at is finds known e = absurd (let q = sym at ∙ e in let z : ⊥ = cc in z)
+clock_left (due.Lock l old) p told found clock left at is finds known e = absurd (let q = sym at ∙ e in let z : ⊥ = cc in z)
+clock_left (due.StoreValue l v) p told found clock left at is finds known e = absurd (let q = sym at ∙ e in let z : ⊥ = cc in z)
+clock_left (due.StoreLock l w) p told found clock left at is finds known e = absurd (let q = sym at ∙ e in let z : ⊥ = cc in z)
 
 module _ {V : Type 0} where
   -- ---- a stage of the words

@@ -54,8 +54,8 @@ use Rattle.tx_threads.proofs.OwnLemmas.{own_writes}
 use Rattle.tx_threads.specs.Dues.{IsDeed}
 use Rattle.tx_threads.specs.Touches.{Finds, IsNext, StepsWords}
 use Rattle.tx_threads.specs.declared.due.Due.{Due}
-use Rattle.tx_turns.specs.Ties.{Ties, Turned, laid_in}
-use Rattle.tx_turns.proofs.DueLemmas.{becomes_is, spot_is}
+use Rattle.tx_turns.specs.Ties.{Ties, Turned, commits_at, laid_in}
+use Rattle.tx_turns.proofs.DueLemmas.{becomes_is, clock_left, spot_is}
 use Rattle.tx_turns.proofs.FoundLemmas.{found_cell, learns_found, may_release, runs_found, step_gates, step_learns_cell, step_tells_cell, tells_found}
 use Rattle.tx_turns.proofs.TurnLemmas.{laid_as, own_held, own_place, own_stage, some_word, tied}
 
@@ -164,6 +164,12 @@ module _ {V : Type 0} where
   records_ready stage.Leaving ks e = tt
   records_ready t ks e = let z : ⊥ = cc in absurd z
 
+  -- what it commits
+  pub first_commits : (a : ℕ) (r : TxActor V) (t : own.Stage V) (ks : List ℕ) → stage_of t ≡ Ready ks
+      → commits_at a r t ≡ (a, record { number = r.wv; writes = true; calls = r.calls.items }) ∷ []
+  first_commits a r (stage.Ready homes) ks e = refl
+  first_commits a r t ks e = let z : ⊥ = cc in absurd z
+
   -- it is one of the table still
   pub running_asked : (t : TxTable V) (b : BlocksView) (r p : TxActor V) (ks : List ℕ) → b.words ≡ seated.words_in t
       → b.blocks ≡ seated.blocks_in t → stage_of r.stage ≡ Ready ks → (is_loading (stage_of r.stage) ≡ false → KeepsIn b r p)
@@ -236,12 +242,16 @@ module _ {V : Type 0} where
       let w = acts (opening_of t) s in
       let x = words.actor_of p.words in
       let f = step.touches.found in
+      let next_due = first_next t s r p ks h in
       let some = some_word (plan x x.place) h.due in
       let here : spot a w ≡ Word some.0 =
       ready_spot w a ks (w.seats a).stage h.there
       ∙ (ap (λ (z : machine.Actor). spot_of (word_of (plan z z.place))) h.runs.1 ∙ ap spot_of some.1) in
       let after = planted_first steps w a r p q y told n step.due step.number f some.0 ks h.at h.own_at h.there ties.runs h.all h.place stores
       h.held step.deed some.1 step.touches.finds step.learns.actor step.learns.told heard in
-      tied t s u r q n step.touches.clock f None (seated.out s) ties step.touches.takes step.touches.rises running
+      tied t s u r q n step.touches.clock f None (seated.out s) ties step.touches.takes step.touches.rises
+      (clock_left step.due (spot a w) step.number f step.touches.clock (seated.turned a w f) (next_due step.due step.deed).spot
+      ((next_due step.due step.deed).becomes f) step.touches.finds step.touches.clocks)
+      (λ _. refl) running
       (subst (λ (z : Spot). Runs a q (happens (found_at a w z f None) (Step a)).0
       × (notice_of a n ≡ (happens (found_at a w z f None) (Step a)).1)) (sym here) after)

@@ -53,8 +53,8 @@ use Rattle.tx_threads.proofs.OwnLemmas.{own_due, own_gates, own_ok}
 use Rattle.tx_threads.specs.Dues.{IsDeed}
 use Rattle.tx_threads.specs.Touches.{Finds, IsNext, StepsWords}
 use Rattle.tx_threads.specs.declared.due.Due.{Due}
-use Rattle.tx_turns.specs.Ties.{Ties, Turned, commits, commits_at, laid_in}
-use Rattle.tx_turns.proofs.DueLemmas.{next_is, word_spot}
+use Rattle.tx_turns.specs.Ties.{IsOnWord, Ties, Turned, commits, commits_at, laid_in}
+use Rattle.tx_turns.proofs.DueLemmas.{clock_left, next_is, word_spot}
 use Rattle.tx_turns.proofs.FoundLemmas.{LocksAt, found_cell, knows_moved, learns_found, may_go_on, runs_found, step_gates, step_learns_cell, step_tells_cell, tells_found}
 
 -- a deed that does not rest is on a word
@@ -167,11 +167,14 @@ module _ {V : Type 0} where
   -- what the seat and its actor are after a step that is so in the own world
   pub tied : (t : TxTable V) (s u : table.Seat V) (r q : TxActor V) (n : Told V) (clock found : ℕ) (base : Option (Base V))
       (bases : List (ℕ × Slot V)) → Ties t s r → Takes (opening_of t) s clock found base bases u → (view s).clock ≤ clock
+      → (spot (seated.actor s) (acts (opening_of t) s) ≡ Word ClockCell
+      → clock ≡ seated.turned (seated.actor s) (acts (opening_of t) s) found)
+      → (IsOnWord (next_of (stage_of r.stage)) → bases ≡ seated.out s)
       → IsRunning (laid_in t) q
       → (let f = moved (seated.actor s) (acts (opening_of t) s) found base in
       Runs (seated.actor s) q f.0 × (notice_of (seated.actor s) n ≡ f.1))
       → Ties t u q × Turned (opening_of t) s r u n
-  tied t s u r q n clock found base bases ties takes rises running turn = (
+  tied t s u r q n clock found base bases ties takes rises clocks outs running turn = (
     record {
       owns = takes.seat.0 ∙ ties.owns;
       live = subst (λ (k : ℕ). 0 < k) (sym (ap (λ (v : View V). v.shares) takes.turn)) ties.live;
@@ -186,6 +189,8 @@ module _ {V : Type 0} where
       bases = bases;
       takes = takes;
       rises = rises;
+      clocks = clocks;
+      outs = λ on. takes.held ∙ outs on;
       gains = ap (λ (v : View V). v.receipts) takes.turn
           ∙ ap (λ (rs : List (ℕ × Record V)). (view s).receipts ++ rs) (ends_as (acts (opening_of t) s) (seated.actor s) r ties.runs);
       tells = turn.1;
@@ -239,6 +244,7 @@ module _ {V : Type 0} where
       let x = words.actor_of r.words in
       let f = step.touches.found in
       let st = own_stage t s r quiet ties in
+      let next_due = word_is_next t s r due quiet ties in
       let some = some_word (plan x x.place) (word_is_due t s r due quiet ties) in
       let here : spot a w ≡ Word some.0 =
       word_spot w a (w.seats a).stage (ap next_of st ∙ due) (ap is_loading st ∙ quiet)
@@ -246,7 +252,10 @@ module _ {V : Type 0} where
       let after = planted_step steps w a r q y told n step.due step.number f some.0 due quiet ties.runs
       (locks_at w.words w.blocks (w.seats a) (actor_of w a) (w.boosted.shadows a) r.stage (actor_of w a).place (own_place t s r quiet ties))
       (own_held t s r quiet ties) step.deed some.1 step.touches.finds step.learns.actor step.learns.told heard in
-      tied t s u r q n step.touches.clock f None (seated.out s) ties step.touches.takes step.touches.rises running
+      tied t s u r q n step.touches.clock f None (seated.out s) ties step.touches.takes step.touches.rises
+      (clock_left step.due (spot a w) step.number f step.touches.clock (seated.turned a w f) (next_due step.due step.deed).spot
+      ((next_due step.due step.deed).becomes f) step.touches.finds step.touches.clocks)
+      (λ _. refl) running
       (subst (λ (p : Spot). Runs a q (happens (found_at a w p f None) (Step a)).0
       × (notice_of a n ≡ (happens (found_at a w p f None) (Step a)).1)) (sym here) after)
 

@@ -1,6 +1,7 @@
 -- What a request makes of a seat, and what it is answered at once.
 use Rattle.std.specs.Prelude.{◌≡◌, ℕ, [], ◌∷◌, ◌++◌}
-use Rattle.seq_model.specs.declared.event.Event.TheVariants.{Ask}
+use Rattle.seq_model.specs.declared.event.Event.{Event}
+use Rattle.seq_model.specs.declared.event.Event.TheVariants.{Ask, Starve}
 use Rattle.seq_model.specs.declared.call.Op.TheVariants.{Read, Write}
 use Rattle.seq_model.specs.declared.event.Request.{Request}
 use Rattle.seq_model.specs.declared.event.Request.TheVariants.{Call}
@@ -12,9 +13,18 @@ use Rattle.tx_table.specs.declared.seat.Seat.{Seat}
 use Rattle.tx_table.specs.Seated.{IsSameSeat, actor, acts, list_of}
 
 module _ {V : Type 0} where
-  -- the seat's actor has asked this too since its last step; the number of the event is no matter
+  -- the seat's actor has asked this too since its last step, or wanted memory; the number of the event is no matter
+  abbrev pub HasTaken : Seat V → Event V → Seat V → Type 0
+  HasTaken s e u = IsSameSeat s u × (u.place.me ≡ s.place.me) × (list_of u.asked ≡ list_of s.asked ++ e ∷ [])
+
   abbrev pub HasAsked : Seat V → Request V → Seat V → Type 0
-  HasAsked s q u = IsSameSeat s u × (u.place.me ≡ s.place.me) × (list_of u.asked ≡ list_of s.asked ++ Ask 0 q ∷ [])
+  HasAsked s q u = HasTaken s (Ask 0 q) u
+
+  -- its request was refused memory, which the definitions tell so in the own world of the seat
+  pub record Starved (o : World V) (s u : Seat V) (n : Told V) : Type 0 where
+    pub taken : HasTaken s (Starve 0) u
+    pub own : acts o u ≡ (happens (acts o s) (Starve (actor s))).0
+    pub tells : notice_of (actor s) n ≡ (happens (acts o s) (Starve (actor s))).1
 
   -- the requests on a word
   abbrev pub read_of : ℕ → Request V

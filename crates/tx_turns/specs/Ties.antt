@@ -5,16 +5,27 @@ use Rattle.replay_log.specs.declared.base.Base.{Base}
 use Rattle.replay_log.specs.Seats.{World}
 use Rattle.actor_words.specs.Blocks.{BlocksView}
 use Rattle.tx_actor.specs.Keeping.{IsRunning}
-use Rattle.tx_actor.specs.Running.{Runs, notice_of}
+use Rattle.tx_actor.specs.Running.{Runs, notice_of, stage_of}
 use Rattle.tx_actor.specs.declared.actor.Stage.{Stage}
 use Rattle.tx_actor.specs.declared.actor.Stage.TheVariants as stage
 use Rattle.tx_actor.specs.declared.actor.Told.{Told}
 use Rattle.tx_actor.specs.declared.actor.TxActor.{TxActor}
 use Rattle.tx_table.specs.declared.seat.Seat.{Seat}
 use Rattle.tx_table.specs.declared.table.TxTable.{TxTable}
-use Rattle.tx_table.specs.Turns.{moved}
+use Rattle.tx_table.specs.Turns.{moved, spot}
 use Rattle.tx_table.specs.Shown.{IsReached, Slot}
-use Rattle.tx_table.specs.Seated.{Owns, Takes, actor, acts, blocks_in, opening_of, view, words_in}
+use Rattle.tx_table.specs.Seated.{Owns, Takes, actor, acts, blocks_in, opening_of, out, turned, view, words_in}
+use Rattle.atomic_steps.specs.Spots.{Word}
+use Rattle.word_machine.specs.Cells.{ClockCell}
+use Rattle.actor_words.specs.Dispatch.{next_of}
+use Rattle.actor_words.specs.declared.next.Next.{Next}
+use Rattle.actor_words.specs.declared.next.Next.TheVariants as next
+
+-- the step is on a word
+abbrev pub IsOnWord : Next → Type 0
+IsOnWord next.Word = Unit {0}
+IsOnWord next.FirstStore = Unit {0}
+IsOnWord n = ⊥
 
 module _ {V : Type 0} where
   -- how the locations of a table lie
@@ -39,8 +50,9 @@ module _ {V : Type 0} where
   abbrev pub commits : ℕ → TxActor V → List (ℕ × Record V)
   commits a r = commits_at a r r.stage
 
-  -- The seat s, which runs r, took the turn that was due in its own world, and became u: it found this, knows this clock, and has gained
-  -- what the step commits. The definitions' step tells n.
+  -- The seat s, which runs r, took the turn that was due in its own world, and became u: it found this, knows this clock, which is what a
+  -- step on the clock left there, and has gained what the step commits. A step on a word leaves the bases that it has out. The
+  -- definitions' step tells n.
   pub record Turned (o : World V) (s : Seat V) (r : TxActor V) (u : Seat V) (n : Told V) : Type 0 where
     pub clock : ℕ
     pub found : ℕ
@@ -48,5 +60,7 @@ module _ {V : Type 0} where
     pub bases : List (ℕ × Slot V)
     pub takes : Takes o s clock found base bases u
     pub rises : (view s).clock ≤ clock
+    pub clocks : spot (actor s) (acts o s) ≡ Word ClockCell → clock ≡ turned (actor s) (acts o s) found
+    pub outs : IsOnWord (next_of (stage_of r.stage)) → out u ≡ out s
     pub gains : (view u).receipts ≡ (view s).receipts ++ commits (actor s) r
     pub tells : notice_of (actor s) n ≡ (moved (actor s) (acts o s) found base).1

@@ -1,7 +1,8 @@
 //! What the actor of a seat is asked. The seat keeps it until its next step takes it in.
 ghost use Rattle.std.specs.Prelude.{◌≡◌, IfOk, OnErr, OnOk};
+ghost use Rattle.tx_actor.specs.Having.{KeepsCopies};
 ghost use Rattle.tx_table.specs.Seated.{opening_of};
-ghost use Rattle.tx_turns.specs.Asked.{Answers, HasAsked, read_of, write_of};
+ghost use Rattle.tx_turns.specs.Asked.{Answers, HasAsked, Starved, read_of, write_of};
 ghost use Rattle.tx_turns.specs.Ties.{Ties};
 
 use seq_model::{Call, Event, Memory, Op, Request, Value};
@@ -116,4 +117,16 @@ pub fn ask_abort<V: Value>(table: &TxTable<V>, seat: &mut Seat<V>, actor: &mut T
     let _ = table;
     seat.ask(&Event::Ask(0, Request::Abort));
     let _ = actor.asks_to_abort();
+}
+
+/// The request that is under way is refused memory. A begin is refused at once; any other is given up for it, up to its first value store.
+pub fn starve<V: Value>(table: &TxTable<V>, seat: &mut Seat<V>, actor: &mut TxActor<V>) -> Told<V>
+    requires ties { Ties table.now seat.old actor.old }
+    ensures starved { Starved (opening_of table.now) seat.old seat.new result }
+    ensures ties { Ties table.now seat.new actor.new }
+    ensures leaves { KeepsCopies actor.old actor.new }
+{
+    let _ = table;
+    seat.ask(&Event::Starve(0));
+    actor.starves()
 }

@@ -9,5 +9,5 @@
 mod asks;
 mod words;
 
-pub use asks::{ask_abort, ask_begin, ask_begin_read, ask_commit, ask_read, ask_write};
-pub use words::{close, step_word, store_first};
+pub use asks::{ask_abort, ask_begin, ask_begin_read, ask_commit, ask_read, ask_write, starve};
+pub use words::{close, commit, step_word, store_first};

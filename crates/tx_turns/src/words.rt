@@ -1,5 +1,5 @@
 //! Turns on the words.
-ghost use Rattle.std.specs.Prelude.{◌≡◌, ◌++◌, ◌∷◌, [], IfOk, OnErr, OnOk, false};
+ghost use Rattle.std.specs.Prelude.{◌≡◌, ◌++◌, ◌∷◌, [], IfOk, OnErr, OnOk, false, true};
 ghost use Rattle.actor_words.specs.Dispatch.{is_loading, next_of};
 ghost use Rattle.tx_actor.specs.Dispatch.{Records};
 ghost use Rattle.tx_actor.specs.Having.{KeepsCopies};
@@ -83,4 +83,34 @@ pub fn store_first<V: Value>(
     actor.asks_to_store(table.blocks())?;
     let told = step_words(table, seat, &mut actor.words);
     Ok(actor.stepped(told))
+}
+
+/// The first value store of a commit, with its receipt. Where memory is refused no step is taken, and the actor is as it was.
+pub fn commit<V: Value>(
+    alloc: Global,
+    table: &TxTable<V>,
+    seat: &mut Seat<V>,
+    actor: &mut TxActor<V>,
+) -> Result<(Told<V>, Record<V>), Memory>
+    requires ties { Ties table.now seat.old actor.old }
+    requires due { next_of (stage_of actor.old.stage) ≡ Next.FirstStore }
+    ensures turned { IfOk result (λ done. Turned (opening_of table.now) seat.old actor.old seat.new done.0) }
+    ensures ties { Ties table.now seat.new actor.new }
+    ensures seat { OnErr result (seat.new ≡ seat.old) }
+    ensures rest { OnErr result (actor.new ≡ record actor.old { words = actor.new.words }) }
+    ensures leaves { OnOk result (KeepsCopies actor.old actor.new) }
+    ensures gains { IfOk result (λ done. (view seat.new).receipts ≡ (view seat.old).receipts ++ (actor_of_seat seat.old, done.1) ∷ []) }
+    ensures number { IfOk result (λ done. done.1.number ≡ actor.old.wv) }
+    ensures writes { IfOk result (λ done. done.1.writes ≡ true) }
+    ensures calls { IfOk result (λ done. done.1.calls ≡ actor.old.calls.items) }
+{
+    let number = actor.wv;
+    let told = store_first(table, seat, actor)?;
+    let calls = Items::from_vec(mem::replace(&mut actor.made, Vec::new(alloc)));
+    let receipt = Record {
+        number,
+        writes: true,
+        calls,
+    };
+    Ok((told, receipt))
 }
