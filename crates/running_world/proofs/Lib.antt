@@ -5,6 +5,7 @@ pub mod PartsLemmas
 pub mod PrepareLemmas
 mod RoomLemmas
 mod HomingLemmas
+mod GateLemmas
 pub mod SeatLemmas
 pub mod SerialLemmas
 pub mod TraceLemmas

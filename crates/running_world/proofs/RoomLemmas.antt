@@ -87,7 +87,7 @@ module _ {V : Type 0} where
   linked_after o w e h = run_linked (e ∷ []) w (reached_linked o w h)
 
   -- ---- room where bases and copies stand
-  room_same : (t u : Table V) (r : TxActor V) → u.bases ≡ t.bases → HasRoomLeft t r → HasRoomLeft u r
+  pub room_same : (t u : Table V) (r : TxActor V) → u.bases ≡ t.bases → HasRoomLeft t r → HasRoomLeft u r
   room_same t u r e h =
       subst (λ (bs : Vec (Base V) Global). All (λ k. (b : Base V) → slice_get bs.items k ≡ Some b
       → length (changes_had (copy_of r.copies.items k)) ≤ room_of b) (homes_left r.stage)) (sym e) h
@@ -135,7 +135,7 @@ module _ {V : Type 0} where
   not_first s n due ne e = ne (sym due ∙ e)
 
   -- where nothing is left to an actor
-  room_none : (u : Table V) (s : TxActor V) → ((k : ℕ) → Contains (homes_left s.stage) k → ⊥) → HasRoomLeft u s
+  pub room_none : (u : Table V) (s : TxActor V) → ((k : ℕ) → Contains (homes_left s.stage) k → ⊥) → HasRoomLeft u s
   room_none u s none = of_each (HasRoomAt u s.copies.items) (homes_left s.stage) (λ k c. absurd (none k c))
 
   -- ---- a want of memory
