@@ -212,7 +212,7 @@ module _ {V : Type 0} where
       → with_next d f (writes_in d o) ≡ with_next c f (writes_in c o)
   writes_kept c d f o h = ap (with_next d f) (kept_writes c d o h) ∙ next_kept c d f (writes_in c o) h
 
-  read_kept : (read : ℕ → Option ℕ) (f : ℕ) (c d : Copied V) → IsKept c d → IsReadBy read f c → IsReadBy read f d
+  pub read_kept : (read : ℕ → Option ℕ) (f : ℕ) (c d : Copied V) → IsKept c d → IsReadBy read f c → IsReadBy read f d
   read_kept read f (Keys m es) (Keys n fs) h is = (
     λ o held i there. is.0 o (sym (kept_holds (Keys m es) (Keys n fs) o.op h) ∙ held) i
         (subst (λ (ls : List ℕ). Contains ls i) (kept_reads (Keys m es) (Keys n fs) o h) there),

@@ -1,11 +1,11 @@
 -- What a call comes to once it is judged, in a world that keeps what events keep after it. Were the acceptance refused, that world would
 -- have told one call more than its shadow has outcomes; so the guard holds (`allowed`). Were the location that is read next written, its
 -- word actor would rest at a stage that loads (`unwritten`).
-use Rattle.std.proofs.Common.{◌≡◌, ℕ, Bool, true, false, true≢false, cond, not, ◌&&◌, List, [], ◌∷◌, ◌++◌, Option, Some, None, inl, inr, refl, sym, ap, subst, ◌∙◌}
+use Rattle.std.proofs.Common.{◌≡◌, ℕ, Bool, true, false, true≢false, cond, not, ◌&&◌, eqb, eqb-true, List, [], ◌∷◌, ◌++◌, Option, Some, None, inl, inr, refl, sym, ap, subst, ◌∙◌}
 use Rattle.std.proofs.lemmas.List.Elements.{filter-append}
 use Rattle.tx_sets.specs.Entries.{Entries, lookup}
 use Rattle.word_machine.specs.Actor as machine
-use Rattle.word_machine.specs.Actor.{Actor}
+use Rattle.word_machine.specs.Actor.{Actor, Call}
 use Rattle.word_machine.specs.Requests as requests
 use Rattle.word_machine.specs.Requests.{AskRead, ask}
 use Rattle.word_machine.specs.Opacity.{first_read}
@@ -21,8 +21,8 @@ use Rattle.replay_log.specs.Worlds.{World, Seat, Loading, acted, actor_of, at_st
 use Rattle.replay_log.proofs.MixedLemmas.{Told, is_on_word, is_word_op, on_held}
 use Rattle.replay_log.proofs.SeatLemmas.{AtReading, Copy, IsLeft, Kept, Linked, StageOk}
 use Rattle.actor_words.specs.declared.judged.Judged.TheVariants.{All, Next}
-use Rattle.actor_words.specs.Judged.{comes_to, judged}
-use Rattle.actor_copies.specs.Loading.{AreRead}
+use Rattle.actor_words.specs.Judged.{comes_to, judged, left_after, left_one}
+use Rattle.actor_copies.specs.Loading.{AreRead, IsDoomed}
 use Rattle.actor_copies.proofs.CallingLemmas.{in_set_some, one_all}
 
 -- the three of a guard that holds
@@ -46,6 +46,52 @@ all_read n bs y (d ∷ es) kept plain all =
       in_set_some y.declared (first_read y.calls d.0) d.1 (sym (kept d.0 (plain d.0 (inl refl))) ∙ one.0),
       all_read n bs y es kept (λ l m. plain l (inr m)) one.1,
     )
+
+-- one that was judged by the read set, or is left, is among those that are read once the rest is
+passed_if : (cs : List Call) (d : ℕ × ℕ) (es rest : Entries) (found : Option ℕ) → (AreRead cs rest → AreRead cs es)
+    → ((v : ℕ) → found ≡ Some v → first_read cs d.0 ≡ Some v) → AreRead cs (left_one d es rest found) → AreRead cs (d ∷ es)
+passed_if cs d es rest None later was h = h
+passed_if cs d es rest (Some v) later was h = by (eqb d.1 v) refl h
+  where
+    by : (b : Bool) → eqb d.1 v ≡ b → AreRead cs (cond b rest (d ∷ es)) → AreRead cs (d ∷ es)
+    by true same g = (was v refl ∙ ap Some (sym (eqb-true d.1 v same)), later g)
+    by false same g = g
+
+-- once all that is left has been read, so have all
+pub passed_read : (n : ℕ) (bs : List Block) (y : Actor) (cs : List Call) (es : Entries) → Kept n bs y
+    → ((l : ℕ) → IsLeft l es → is_plain n bs l ≡ false) → ((l e : ℕ) → first_read y.calls l ≡ Some e → first_read cs l ≡ Some e)
+    → AreRead cs (left_after y.reads es) → AreRead cs es
+passed_read n bs y cs [] kept plain more h = h
+passed_read n bs y cs (d ∷ es) kept plain more h =
+    passed_if cs d es (left_after y.reads es) (lookup y.reads d.0)
+    (passed_read n bs y cs es kept (λ l m. plain l (inr m)) more)
+    (λ v is. more d.0 v (in_set_some y.declared (first_read y.calls d.0) v (sym (kept d.0 (plain d.0 (inl refl))) ∙ is))) h
+
+-- a location that was read with this edition is not one that was read with another
+pub not_off : (cs : List Call) (d : ℕ × ℕ) (es : Entries) → first_read cs d.0 ≡ Some d.1 → IsDoomed cs (d ∷ es) → IsDoomed cs es
+not_off cs d es is h =
+    elim h [
+      | inl q ↦ let same : d.1 ≡ q.0 = let e : Some d.1 ≡ Some q.0 = sym is ∙ q.1 in cc in absurd (q.2 (sym same))
+      | inr rest ↦ rest
+    ]
+
+doomed_if : (cs : List Call) (d : ℕ × ℕ) (es rest : Entries) (found : Option ℕ) → (IsDoomed cs es → IsDoomed cs rest)
+    → ((v : ℕ) → found ≡ Some v → first_read cs d.0 ≡ Some v) → IsDoomed cs (d ∷ es) → IsDoomed cs (left_one d es rest found)
+doomed_if cs d es rest None later was h = h
+doomed_if cs d es rest (Some v) later was h = by (eqb d.1 v) refl
+  where
+    by : (b : Bool) → eqb d.1 v ≡ b → IsDoomed cs (cond b rest (d ∷ es))
+    by true same = later (not_off cs d es (was v refl ∙ ap Some (sym (eqb-true d.1 v same))) h)
+    by false same = h
+
+-- one that was read with another edition is left to be judged
+pub doomed_left : (n : ℕ) (bs : List Block) (y : Actor) (es : Entries) → Kept n bs y → ((l : ℕ) → IsLeft l es → is_plain n bs l ≡ false)
+    → IsDoomed y.calls es → IsDoomed y.calls (left_after y.reads es)
+doomed_left n bs y [] kept plain h = h
+doomed_left n bs y (d ∷ es) kept plain h =
+    doomed_if y.calls d es (left_after y.reads es) (lookup y.reads d.0)
+    (doomed_left n bs y es kept (λ l m. plain l (inr m)))
+    (λ v is. in_set_some y.declared (first_read y.calls d.0) v (sym (kept d.0 (plain d.0 (inl refl))) ∙ is)) h
 
 -- locations with their editions are these locations
 pub left_in : (editions : ℕ → ℕ) (ls : List ℕ) (l : ℕ) → IsLeft l (with_editions editions ls) → IsIn l ls

@@ -3,7 +3,8 @@
 use Rattle.std.proofs.Common.{◌≡◌, ℕ, Bool, true, false, cond, eqb, not, ◌&&◌, List, Option, Some, None, [], ◌∷◌, refl, sym, ap, subst, ◌∙◌}
 use Rattle.std.proofs.lemmas.Bool.{cond-true, cond_both}
 use Rattle.tx_sets.specs.Entries.{Entries, lookup}
-use Rattle.word_machine.specs.Actor.{Actor}
+use Rattle.word_machine.specs.Actor.{Actor, Call}
+use Rattle.word_machine.specs.Opacity.{first_read}
 use Rattle.word_machine.specs.World.{put}
 use Rattle.word_machine.proofs.Sets.{put-same}
 use Rattle.seq_model.specs.declared.event.Event.TheVariants.{Step}
@@ -24,8 +25,8 @@ use Rattle.actor_words.specs.Judged.{comes_to, judged, judged_one, left_after}
 use Rattle.actor_words.specs.Shows.{put_back}
 use Rattle.actor_words.proofs.ShowsLemmas.{copies_for_call}
 use Rattle.actor_copies.specs.Copied.{CopiesGoOn, CopiesReached}
-use Rattle.actor_copies.specs.Loading.{AreRead}
-use Rattle.actor_copies.proofs.ComesLemmas.{all_read, allowed, left_in, unwritten}
+use Rattle.actor_copies.specs.Loading.{AreRead, IsDoomed}
+use Rattle.actor_copies.proofs.ComesLemmas.{all_read, allowed, doomed_left, left_in, passed_read, unwritten}
 
 -- ---- a copy that is not stale
 abbrev pub GoesOn : Judged → Type 0
@@ -126,6 +127,10 @@ module _ {V : Type 0} where
       reads = λ l fits next.
           let is : judged y.reads es ≡ Next l = ap (λ (q : Actor). judged q.reads es) (sym now) ∙ next in
           unwritten u a x o (left_after y.reads es) l (linked (Next l) fits is tt) (ap (λ (q : Actor). q.place) now ∙ ok.0);
+      keeps = subst (λ (q : Actor). IsDoomed q.calls es → IsDoomed q.calls (left_after q.reads es)) (sym now)
+          (doomed_left w.words w.blocks y es ok.1.kept plain);
+      passed = subst (λ (q : Actor). (cs : List Call) → ((l e : ℕ) → first_read q.calls l ≡ Some e → first_read cs l ≡ Some e)
+          → AreRead cs (left_after q.reads es) → AreRead cs es) (sym now) (λ cs. passed_read w.words w.blocks y cs es ok.1.kept plain);
     }
 
   pub copies_reached : CopiesReached V

@@ -1,8 +1,8 @@
 -- Where the last location of a call is read with the copied edition. What events keep of a world says that the call's outcome is what the
 -- shadow answers, and the step leads where events lead, so the lemmas on what a judged call comes to serve. Each location was read with the
 -- copied edition first: the read set says so of one that keeps a read set, and a declared reader reads all from one memory (`read_again`).
-use Rattle.std.proofs.Common.{◌≡◌, ℕ, Bool, true, false, cond, eqb, eq-eqb, eqb-true, ne_eqb, List, [], ◌∷◌, ◌++◌, Option, Some, None, inl, inr, refl, sym, ap, subst, ◌∙◌, true≢false}
-use Rattle.std.specs.Prelude.{unwrap_or, ◌==◌}
+use Rattle.std.proofs.Common.{◌≡◌, ℕ, true, false, eqb, eq-eqb, ne_eqb, List, [], ◌∷◌, ◌++◌, Option, Some, None, inl, inr, refl, sym, ap, subst, ◌∙◌, true≢false}
+use Rattle.std.specs.Prelude.{unwrap_or}
 use Rattle.std.proofs.lemmas.Bool.{cases_eq, cond-true, cond-false}
 use Rattle.tx_sets.specs.Entries.{Entries, lookup}
 use Rattle.word_machine.specs.Actor as machine
@@ -31,11 +31,11 @@ use Rattle.replay_log.proofs.SeatLemmas.{At, Copy, IsLeft, Kept, Left, Linked, S
 use Rattle.replay_log.proofs.StageLemmas.{at_move}
 use Rattle.actor_words.specs.declared.judged.Judged.{Judged}
 use Rattle.actor_words.specs.declared.judged.Judged.TheVariants.{All, Next}
-use Rattle.actor_words.specs.Judged.{comes_to, judged, left_after, left_one}
+use Rattle.actor_words.specs.Judged.{comes_to, judged, left_after}
 use Rattle.actor_copies.specs.Loading.{AreRead, IsDoomed, LoadsIn, LoadsReached}
-use Rattle.actor_copies.proofs.CallingLemmas.{in_set_some, not_read}
+use Rattle.actor_copies.proofs.CallingLemmas.{not_read}
 use Rattle.actor_words.proofs.JudgedLemmas.{found_fresh}
-use Rattle.actor_copies.proofs.ComesLemmas.{all_read, allowed, unwritten}
+use Rattle.actor_copies.proofs.ComesLemmas.{all_read, allowed, doomed_left, not_off, passed_read, unwritten}
 
 -- ---- what was read
 -- a location that was read twice, and not written, was read alike
@@ -62,7 +62,7 @@ pub some_is : (x y : ℕ) → Some x ≡ Some y → x ≡ y
 some_is x y e = cc
 
 -- further calls leave what was read first
-doomed_more : (cs ds : List Call) (es : Entries) → ((l e : ℕ) → first_read cs l ≡ Some e → first_read ds l ≡ Some e) → IsDoomed cs es
+pub doomed_more : (cs ds : List Call) (es : Entries) → ((l e : ℕ) → first_read cs l ≡ Some e → first_read ds l ≡ Some e) → IsDoomed cs es
     → IsDoomed ds es
 doomed_more cs ds [] more h = h
 doomed_more cs ds (d ∷ es) more h =
@@ -70,10 +70,6 @@ doomed_more cs ds (d ∷ es) more h =
       | inl q ↦ inl (q.0, more d.0 q.0 q.1, q.2)
       | inr rest ↦ inr (doomed_more cs ds es more rest)
     ]
-
--- a location that was read with another edition is none that was judged to be read with this one
-not_off : (cs : List Call) (f : ℕ × ℕ) (fs : Entries) → first_read cs f.0 ≡ Some f.1 → IsDoomed cs (f ∷ fs) → IsDoomed cs fs
-not_off cs f fs is h = elim h [ inl q ↦ absurd (q.2 (some_is q.0 f.1 (sym q.1 ∙ is))) | inr rest ↦ rest ]
 
 module _ {V : Type 0} where
   -- what is left to be judged lies in collections
@@ -131,33 +127,17 @@ module _ {V : Type 0} where
             first_read-more y.calls (Read d.0 d.1 ∷ []) d.0 e is
             ∙ ap Some (read_again u.boosted.words y.rv y.calls d.0 d.1 e saw untouched is)
 
-    -- one that was judged off was read with its edition
-    off_one : (f : ℕ × ℕ) (fs rest : Entries) (v : ℕ) (b : Bool) → (f.1 == v) ≡ b → is_plain w.words w.blocks f.0 ≡ false
-        → lookup read.reads f.0 ≡ Some v → IsDoomed read.calls (f ∷ fs) → (IsDoomed read.calls fs → IsDoomed read.calls rest)
-        → IsDoomed read.calls (cond b rest (f ∷ fs))
-    off_one f fs rest v true same pl is h next =
-        next (not_off read.calls f fs
-        (in_set_some y.declared (first_read read.calls f.0) v (sym (kept f.0 pl) ∙ is) ∙ ap Some (sym (eqb-true f.1 v same))) h)
-    off_one f fs rest v false same pl is h next = h
-
-    off_if : (f : ℕ × ℕ) (fs rest : Entries) (found : Option ℕ) → lookup read.reads f.0 ≡ found → is_plain w.words w.blocks f.0 ≡ false
-        → IsDoomed read.calls (f ∷ fs) → (IsDoomed read.calls fs → IsDoomed read.calls rest)
-        → IsDoomed read.calls (left_one f fs rest found)
-    off_if f fs rest None is pl h next = h
-    off_if f fs rest (Some v) is pl h next = off_one f fs rest v (f.1 == v) refl pl is h next
-
-    doomed_left : (fs : Entries) → Left w.words w.blocks y z fs → IsDoomed read.calls fs → IsDoomed read.calls (left_after read.reads fs)
-    doomed_left [] left h = h
-    doomed_left (f ∷ fs) left h =
-        off_if f fs (left_after read.reads fs) (lookup read.reads f.0) refl left.0 h (λ rest. doomed_left fs left.3 rest)
-
-    keeps_doomed : IsDoomed y.calls (d ∷ es) → IsDoomed read.calls (left_after read.reads es)
+    keeps_doomed : IsDoomed read.calls (d ∷ es) → IsDoomed read.calls (left_after read.reads es)
     keeps_doomed h =
-        doomed_left es ok.2.left.3 (not_off read.calls d es first_is (doomed_more y.calls read.calls (d ∷ es)
-        (λ l e is. first_read-more y.calls (Read d.0 d.1 ∷ []) l e is) h))
+        doomed_left w.words w.blocks read es kept (left_plain w.words w.blocks y z es ok.2.left.3) (not_off read.calls d es first_is h)
 
     are_read : judged read.reads es ≡ All → AreRead read.calls (d ∷ es)
     are_read all = (first_is, all_read w.words w.blocks read es kept (left_plain w.words w.blocks y z es ok.2.left.3) all)
+
+    passed : (cs : List Call) → ((l e : ℕ) → first_read read.calls l ≡ Some e → first_read cs l ≡ Some e)
+        → AreRead cs (left_after read.reads es) → AreRead cs (d ∷ es)
+    passed cs more h =
+        (more d.0 d.1 first_is, passed_read w.words w.blocks read cs es kept (left_plain w.words w.blocks y z es ok.2.left.3) more h)
 
     outcome_is : outcome_at u a o.asked ≡ o
     outcome_is =
@@ -201,7 +181,9 @@ module _ {V : Type 0} where
           );
       more = λ l e is. ap (λ (q : Actor). first_read q.calls l) now ∙ first_read-more y.calls (Read d.0 d.1 ∷ []) l e is;
       shadow = moved.own.shadow;
-      keeps = λ h. subst (λ (q : Actor). IsDoomed q.calls (left_after q.reads es)) (sym now) (keeps_doomed h);
+      keeps = subst (λ (q : Actor). IsDoomed q.calls (d ∷ es) → IsDoomed q.calls (left_after q.reads es)) (sym now) keeps_doomed;
+      passed = subst (λ (q : Actor). (cs : List Call) → ((l e : ℕ) → first_read q.calls l ≡ Some e → first_read cs l ≡ Some e)
+          → AreRead cs (left_after q.reads es) → AreRead cs (d ∷ es)) (sym now) passed;
     }
 
   pub loads_reached : LoadsReached V

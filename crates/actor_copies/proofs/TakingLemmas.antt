@@ -78,7 +78,7 @@ module _ {V : Type 0} where
   set_there (x ∷ cs) zero c d at = refl
   set_there (x ∷ cs) (suc i) c d at = set_there cs i c d at
 
-  at_place : (cs : List (CopyOf V)) (i : ℕ) → i < length cs → (c : CopyOf V) × (slice_get cs i ≡ Some c)
+  pub at_place : (cs : List (CopyOf V)) (i : ℕ) → i < length cs → (c : CopyOf V) × (slice_get cs i ≡ Some c)
   at_place [] i lt = absurd (omega (arith, lt))
   at_place (x ∷ cs) zero lt = (x, refl)
   at_place (x ∷ cs) (suc i) lt = at_place cs i (omega (arith, lt))

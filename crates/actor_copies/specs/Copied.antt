@@ -26,7 +26,7 @@ use Rattle.actor_copies.specs.Keeps.{IsOwnCopy}
 use Rattle.actor_copies.specs.Loading.{AreRead, IsDoomed}
 use Rattle.actor_copies.specs.Owns.{IsOwn}
 use Rattle.actor_words.specs.declared.judged.Judged.TheVariants.{All, Next}
-use Rattle.actor_words.specs.Judged.{judged}
+use Rattle.actor_words.specs.Judged.{judged, left_after}
 use Rattle.actor_words.specs.Shows.{put_back}
 use Rattle.seq_model.specs.declared.event.Event.{Event}
 use Rattle.seq_model.specs.declared.held.Held.{Held}
@@ -120,7 +120,8 @@ CopiesFor V =
     → holds_of c asked.op ≡ false → IsFound base asked.op x → IsTaken b.stripes x c d → IsCopyFor w a b asked d
 
 -- What a call comes to once it is copied and its gate put back, where its locations fit the sets: where all have been read with the
--- editions of the base it may be accepted, and the one that is to be read next is not written.
+-- editions of the base it may be accepted, and the one that is to be read next is not written. Those that are passed have been read, and
+-- one that was read with another edition is left.
 pub record CopiesGoOn {V : Type 0} (w : World V) (a : ℕ) (asked : Asked V) : Type 0 where
   pub rests : (actor_of w a).place ≡ AtRest
   pub known : is_known (block_of w.blocks asked.collection) asked.op ≡ true
@@ -137,6 +138,13 @@ pub record CopiesGoOn {V : Type 0} (w : World V) (a : ℕ) (asked : Asked V) : T
       let es = with_editions w.boosted.editions (c.reads o) in
       (l : ℕ) → has_room (actor_of w a) (c.reads o) (c.writes o) ≡ true → judged (actor_of u a).reads es ≡ Next l →
       lookup (actor_of u a).writes l ≡ None
+  pub keeps : let u = put_back a w asked in
+      let es = with_editions w.boosted.editions ((content w.words w.blocks).reads (outcome_at u a asked)) in
+      IsDoomed (actor_of u a).calls es → IsDoomed (actor_of u a).calls (left_after (actor_of u a).reads es)
+  pub passed : let u = put_back a w asked in
+      let es = with_editions w.boosted.editions ((content w.words w.blocks).reads (outcome_at u a asked)) in
+      (cs : List Call) → ((l e : ℕ) → first_read (actor_of u a).calls l ≡ Some e → first_read cs l ≡ Some e)
+      → AreRead cs (left_after (actor_of u a).reads es) → AreRead cs es
 
 -- So it is in every world that events have reached.
 abbrev pub CopiesReached : Type 0 → Type 0

@@ -36,7 +36,10 @@ pub record LoadsIn {V : Type 0} (w : World V) (a : ℕ) (o : Answered V) (d : �
       (l e : ℕ) → first_read (actor_of w a).calls l ≡ Some e → first_read (actor_of u a).calls l ≡ Some e
   pub shadow : let u = acted w (moves a ∷ []) in u.boosted.shadows a ≡ w.boosted.shadows a
   pub keeps : let u = acted w (moves a ∷ []) in
-      IsDoomed (actor_of w a).calls (d ∷ es) → IsDoomed (actor_of u a).calls (left_after (actor_of u a).reads es)
+      IsDoomed (actor_of u a).calls (d ∷ es) → IsDoomed (actor_of u a).calls (left_after (actor_of u a).reads es)
+  pub passed : let u = acted w (moves a ∷ []) in
+      (cs : List Call) → ((l e : ℕ) → first_read (actor_of u a).calls l ≡ Some e → first_read cs l ≡ Some e)
+      → AreRead cs (left_after (actor_of u a).reads es) → AreRead cs (d ∷ es)
 
 -- So it is in every world that events have reached.
 abbrev pub LoadsReached : Type 0 → Type 0

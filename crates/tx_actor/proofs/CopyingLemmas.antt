@@ -3,20 +3,19 @@
 -- starves as its seat does. Where the call is ready its seat has the piece that the call touches besides, and the world judges the call by the
 -- same locations with the same editions; and what the actor has is its own, or one of these locations was read with another edition, so that
 -- the world does not accept it.
-use Rattle.std.proofs.Common.{◌≡◌, ◌⊎◌, inl, inr, eq-eqb, eqb-true, ℕ, ◌+◌, ◌<◌, ◌≤◌, ◌^◌, ◌==◌, ◌&&◌, Bool, true, false, cond, length, List, [], ◌∷◌, Option, Some, None, refl, sym, ap, subst, ◌∙◌, arith}
+use Rattle.std.proofs.Common.{◌≡◌, inl, inr, eq-eqb, eqb-true, ℕ, ◌+◌, ◌<◌, ◌≤◌, ◌^◌, ◌==◌, ◌&&◌, Bool, true, false, cond, length, List, [], ◌∷◌, Option, Some, refl, sym, ap, subst, ◌∙◌, arith}
 use Rattle.std.specs.Prelude.{slice_get}
 use Rattle.std.proofs.lemmas.Bool.{cond-true, cond-false}
 use Rattle.std.specs.Global.{Vec}
 use Rattle.tx_sets.specs.Entries.{Entries, lookup}
 use Rattle.word_machine.specs.Actor as machine
 use Rattle.word_machine.proofs.Sets.{put-same}
-use Rattle.collection_machine.specs.Boosted.{Boosted, Accept, Shadow}
-use Rattle.seq_model.specs.declared.call.Op.{Op}
+use Rattle.collection_machine.specs.Boosted.{Boosted, Shadow}
 use Rattle.seq_model.specs.declared.refusal.Refusal.TheVariants as refusal
-use Rattle.seq_model.specs.declared.event.Notice.TheVariants.{Quiet, Refused}
+use Rattle.seq_model.specs.declared.event.Notice.TheVariants.{Refused}
 use Rattle.conflict.specs.declared.outcome.Outcome.{Outcome}
 use Rattle.replay_log.specs.declared.base.Base.{Base}
-use Rattle.replay_log.specs.Base.{locations_of, outcome_of, shown_of, stripes_of}
+use Rattle.replay_log.specs.Base.{outcome_of, shown_of, stripes_of}
 use Rattle.replay_log.specs.Parts.{kind_of}
 use Rattle.replay_log.specs.Pieces.{Piece, is_piece, piece_at, piece_in, piece_of}
 use Rattle.replay_log.specs.Contents as contents
@@ -34,22 +33,19 @@ use Rattle.actor_words.proofs.ShowsLemmas.{copies_for_call}
 use Rattle.actor_copies.specs.declared.copies.Copied.{Copied}
 use Rattle.actor_copies.specs.declared.copies.CopyOf.{CopyOf}
 use Rattle.actor_copies.specs.declared.copies.Found.{Found}
-use Rattle.actor_copies.specs.Copied.{CopiesGoOn, IsCopyFor, IsTaken}
-use Rattle.actor_copies.specs.Copies.{IsFound, answer_of, holds_call, holds_of}
+use Rattle.actor_copies.specs.Copied.{IsCopyFor, IsTaken}
+use Rattle.actor_copies.specs.Copies.{IsFound, holds_call}
 use Rattle.actor_copies.specs.Footprints.{base_in, places_in, reads_in, with_known, writes_in}
-use Rattle.actor_copies.specs.Keeps.{IsOwnCopy}
-use Rattle.actor_copies.specs.Kept.{AreKept, HaveSame, copy_of, has_piece}
+use Rattle.actor_copies.specs.Kept.{copy_of, has_piece}
 use Rattle.actor_copies.specs.Owns.{AreOfBlocks, IsOfBlock}
 use Rattle.actor_copies.specs.Sizes.{base_reads, base_writes}
 use Rattle.actor_copies.specs.Taking.{IsTakenAt, TakesBack, copy_with, fits_base}
-use Rattle.actor_copies.proofs.AlikeLemmas.{kept_copy, kept_has}
-use Rattle.actor_copies.specs.Loading.{IsDoomed}
+use Rattle.actor_copies.specs.Loading.{AreRead, IsDoomed}
 use Rattle.actor_copies.specs.Writes.{with_next}
 use Rattle.actor_copies.proofs.CallingLemmas.{not_read}
 use Rattle.actor_copies.proofs.FootprintLemmas.{sized}
 use Rattle.actor_copies.proofs.GoingLemmas.{GoesOn, fresh}
 use Rattle.actor_copies.proofs.TakingLemmas.{kept_same, taken_copies, taken_goes_back, taken_in_block, taken_pieces, taken_there}
-use Rattle.tx_actor.specs.declared.actor.Answered as running
 use Rattle.tx_actor.specs.declared.actor.Asked.{Asked}
 use Rattle.tx_actor.specs.declared.actor.Stage.TheVariants as stage
 use Rattle.tx_actor.specs.declared.actor.Told.{Told}
@@ -62,7 +58,7 @@ use Rattle.tx_actor.specs.Copying.{AreReadyAt, CanCopy, IsReadyAt, IsUnmoved, Ma
 use Rattle.tx_actor.specs.Dispatch.{Starves}
 use Rattle.tx_actor.specs.Loading.{IsCallOn}
 use Rattle.tx_actor.specs.Keeping.{CanGoOn, KeepsIn}
-use Rattle.tx_actor.specs.Prepares.{IsAlike, IsHeldAt, IsReadyCall, MayPrepare, prepared_of}
+use Rattle.tx_actor.specs.Prepares.{IsAlike, IsHeldAt, MayPrepare, prepared_of}
 use Rattle.tx_actor.specs.Running.{Runs, asked_of, answered_of, at, notice_of, seat_of, with_outcome}
 use Rattle.tx_actor.proofs.DispatchLemmas.{by_result}
 use Rattle.tx_actor.proofs.HearLemmas.{may_accept, never}
@@ -243,21 +239,21 @@ module _ {V : Type 0} where
     abbrev es : Entries
     es = with_editions w.boosted.editions ((content w.words w.blocks).reads own)
 
-    copied : IsCopyFor w a b call d
+    pub copied : IsCopyFor w a b call d
     copied = may.copy b found d there is ready.at.taken
 
     first_same : first_of v.words v.blocks k ≡ f
     first_same = λ j. first_of (sym laid.0 j) (sym laid.1 j) k
 
     -- the word actor is the same in all
-    back_words : actor_of t a ≡ actor_of w a
+    pub back_words : actor_of t a ≡ actor_of w a
     back_words = (copies_for_call a (w.seats a) (actor_of w a) w call (refl, refl)).0.1
 
-    now_words : actor_of w a ≡ words.actor_of u.words
+    pub now_words : actor_of w a ≡ words.actor_of u.words
     now_words = s.1 ∙ sym ready.alike.words
 
     -- what is left is judged by the editions of the base
-    left_same : p.left.items ≡ es
+    pub left_same : p.left.items ≡ es
     left_same =
         ready.ready.left ∙ ((λ j. with_known d (first_same j) (reads_in d o)) ∙ sym (copied.editions o ready.ready.answer))
 
@@ -307,6 +303,14 @@ module _ {V : Type 0} where
           | inr doomed ↦ absurd (never (actor_of t a).calls (actor_of t a).calls es (λ l e h. h)
               (subst (IsDoomed (actor_of t a).calls) (sym (copied.editions o ready.ready.answer)) (doomed o ready.ready.answer)) g.1)
         ]
+
+    pub accepts_all : judged u.words.reads.entries p.left.items ≡ All → AreRead (actor_of t a).calls p.left.items × (own ≡ answered_of p.call)
+    accepts_all all =
+        let here : judged (actor_of w a).reads es ≡ All = sym judged_same ∙ all in
+        let then : judged (actor_of t a).reads es ≡ All = ap (λ (q : machine.Actor). judged q.reads es) back_words ∙ here in (
+          subst (AreRead (actor_of t a).calls) (sym left_same) (may.goes_on.accepts (own_room All here tt) then).1,
+          (accepts all).0.outcome,
+        )
 
     answers : MayAnswer t a u.words own.outcome p.call p.left.items
     answers = record {

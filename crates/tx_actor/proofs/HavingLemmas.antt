@@ -1,7 +1,7 @@
 -- What a step leaves of an actor's copies. A stage asks no more of them than the one before (`copies_from`), one that starts from a stage
 -- that asks nothing leaves nothing to be asked (`copies_idle`), and an actor that stays asks what it asked (`copies_same`). What is ready in
 -- a copy, and an outcome that it accepts, leave which calls on it have been read.
-use Rattle.std.proofs.Common.{◌≡◌, ◌≢◌, ℕ, zero, suc, Bool, true, false, true≢false, cond, eqb, List, [], ◌∷◌, Option, Some, None, Contains, drop, refl, sym, ap, subst, ◌∙◌}
+use Rattle.std.proofs.Common.{◌≡◌, ℕ, zero, suc, Bool, true, false, true≢false, cond, List, [], ◌∷◌, Option, Some, None, Contains, drop, refl, sym, ap, subst, ◌∙◌}
 use Rattle.std.specs.Prelude.{◌==◌, slice_get}
 use Rattle.std.proofs.Math.ListN.{set}
 use Rattle.conflict.specs.declared.outcome.Outcome.{Outcome}
@@ -21,7 +21,7 @@ use Rattle.tx_actor.specs.declared.actor.Stage.{Stage}
 use Rattle.tx_actor.specs.declared.actor.Stage.TheVariants as stage
 use Rattle.tx_actor.specs.declared.actor.TxActor.{TxActor}
 use Rattle.tx_actor.specs.Answers.{CopiesAfter, IsAcceptedAt}
-use Rattle.tx_actor.specs.Having.{IsWholeOf, KeepsCopies, KeepsFrom, ReadsStill}
+use Rattle.tx_actor.specs.Having.{AsksNothing, IsWholeOf, KeepsCopies, KeepsFrom, ReadsStill}
 use Rattle.actor_words.specs.Dispatch.{is_loading}
 use Rattle.tx_actor.specs.Running.{at, stage_of}
 
@@ -78,6 +78,9 @@ module _ {V : Type 0} where
 
   pub copies_idle : (r q u : TxActor V) → KeepsCopies (at q stage.Idle) u → KeepsCopies r u
   copies_idle r q u k = from_idle u.stage r.stage q.copies.items r.copies.items u.copies.items k
+
+  pub asks_nothing : (r u : TxActor V) → KeepsCopies (at r stage.Idle) u → AsksNothing u
+  asks_nothing r u k = from_idle u.stage stage.Idle r.copies.items [] u.copies.items k
 
   -- from a stage of a commit that stores, or goes home, to one where as much is known
   pub from_storing : (t : Stage V) (homes : VecDeque ℕ Global) (last : Stage V) (before now : List (CopyOf V))

@@ -40,7 +40,7 @@ use Rattle.actor_copies.proofs.FootprintLemmas.{writes_within}
 use Rattle.actor_copies.proofs.KeepsLemmas.{head_in, held_outcome, held_read, held_written, known_at, same_writes, tail_in}
 use Rattle.tx_actor.proofs.RunsLemmas.{seat_stage}
 use Rattle.actor_copies.proofs.OutcomeLemmas.{answered_op}
-use Rattle.actor_copies.proofs.LoadingLemmas.{loads_reached, rests_in, some_is}
+use Rattle.actor_copies.proofs.LoadingLemmas.{doomed_more, loads_reached, rests_in, some_is}
 
 pub never : (cs ds : List Call) (es : Entries) → ((l e : ℕ) → first_read cs l ≡ Some e → first_read ds l ≡ Some e) → IsDoomed cs es
     → AreRead ds es → ⊥
@@ -236,7 +236,8 @@ module _ {V : Type 0} where
           → OwnsCall v a call (left_after (actor_of u a).reads es)
       after call d es own l v words blocks_same shadow calls =
           owns_stands w v a call (d ∷ es) (left_after (actor_of u a).reads es) words blocks_same (shadow ∙ l.shadow)
-          (λ h. subst (λ (cs : List Call). IsDoomed cs (left_after (actor_of u a).reads es)) (sym calls) (l.keeps h)) own
+          (λ h. subst (λ (cs : List Call). IsDoomed cs (left_after (actor_of u a).reads es)) (sym calls)
+          (l.keeps (doomed_more (actor_of w a).calls (actor_of u a).calls (d ∷ es) l.more h))) own
 
       keep : (call : Answered V) (left es : Entries) (n : notice.Notice) → OwnsCall w a call left → left ≡ es → word_notice w a ≡ n
           → (w.seats a).stage ≡ Loading (with_outcome call (outcome_in (w.seats a).stage)) left → KeepsOne u a call es n

@@ -1,6 +1,6 @@
 -- What an actor keeps that has heard a load: where the call goes on, or is given up, what it asks is there; where nothing came of the load
 -- it is as it was.
-use Rattle.std.proofs.Common.{◌≡◌, ◌≤◌, ℕ, [], ◌∷◌, length, Option, Some, None, refl, sym, ap, subst, ◌∙◌, arith}
+use Rattle.std.proofs.Common.{◌≡◌, ◌≤◌, ℕ, [], ◌∷◌, length, None, refl, sym, subst}
 use Rattle.std.specs.declared.alloc.Global.{Global}
 use Rattle.std.specs.declared.collections.VecDeque.{VecDeque}
 use Rattle.tx_sets.specs.Entries.{Entries}
@@ -15,11 +15,10 @@ use Rattle.tx_actor.specs.declared.actor.Stage.{Stage}
 use Rattle.tx_actor.specs.declared.actor.Stage.TheVariants as stage
 use Rattle.tx_actor.specs.declared.actor.TxActor.{TxActor}
 use Rattle.tx_actor.specs.Dispatch.{HasRoom}
-use Rattle.tx_actor.specs.Keeping.{CanGoOn, CanGoOnBehind, HasHeard, HeardAt, IsCallAt, IsRunning, IsSome, KeepsHeard, KeepsIn, NamesAmong}
+use Rattle.tx_actor.specs.Keeping.{CanGoOn, CanGoOnBehind, HeardAt, IsCallAt, IsRunning, IsSome, KeepsHeard, KeepsIn, NamesAmong}
 use Rattle.tx_actor.specs.Loads.{first_entry}
 use Rattle.tx_actor.specs.Running.{at}
 use Rattle.tx_actor.proofs.KeepingLemmas.{keeps_same}
-use Rattle.tx_actor.proofs.LoadLemmas.{first_rest}
 
 module _ {V : Type 0} where
   -- what it asks of its call hangs on no stage

@@ -15,7 +15,7 @@ use Rattle.tx_actor.specs.Answers.{at_rest}
 use Rattle.tx_actor.specs.Dispatch.{HasRoom}
 use Rattle.actor_words.specs.Dispatch.{is_loading}
 use Rattle.actor_words.specs.Requests.{KeepsAt}
-use Rattle.tx_actor.specs.Keeping.{IsCallAt, IsRunning, KeepsIn, NamesAmong}
+use Rattle.tx_actor.specs.Keeping.{IsCallAt, KeepsIn, NamesAmong}
 use Rattle.tx_actor.specs.Running.{at, is_recorded, stage_of}
 use Rattle.tx_actor.specs.declared.actor.Stage.{Stage}
 use Rattle.tx_actor.specs.declared.actor.Stage.TheVariants as stage

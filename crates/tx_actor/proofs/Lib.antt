@@ -17,3 +17,6 @@ mod RoomLemmas
 mod HeardLemmas
 mod StageLemmas
 mod ReadingLemmas
+mod GoneLemmas
+mod OwnLoadLemmas
+mod OwnCopyLemmas

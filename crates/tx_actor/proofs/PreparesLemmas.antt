@@ -1,38 +1,26 @@
 -- A call that is made ready. What is made ready in a copy changes nothing that it shows (`IsKept`), so the actor is alike (`IsAlike`) in
 -- every world that shows it, and what it has is its own where it was. Its outcome is what its copy answers, a declared reader's call
 -- writes nothing, and what fits the sets may be written.
-use Rattle.std.proofs.Common.{◌≡◌, ◌<◌, ◌≤◌, ◌+◌, ◌&&◌, ◌||◌, ◌==◌, ℕ, zero, suc, Bool, true, false, true≢false, not, cond, length, List, [], ◌∷◌, Option, Some, None, refl, sym, ap, subst, ◌∙◌, arith}
-use Rattle.std.specs.Prelude.{Contains, is_some, slice_get, slice_index, unwrap_or}
+use Rattle.std.proofs.Common.{◌≡◌, ◌<◌, ◌≤◌, ◌+◌, ◌&&◌, ◌||◌, ℕ, zero, suc, Bool, true, false, true≢false, not, length, List, [], ◌∷◌, Option, Some, None, refl, sym, ap, subst, ◌∙◌, arith}
+use Rattle.std.specs.Prelude.{slice_get}
 use Rattle.std.specs.Vec.{vec_capacity, vec_len}
-use Rattle.std.specs.FinMap as map
 use Rattle.std.proofs.Math.ListN.{set}
 use Rattle.tx_sets.specs.Entries.{Entries, locations}
 use Rattle.word_machine.specs.Actor as machine
 use Rattle.seq_model.specs.declared.call.Op.{Op}
 use Rattle.conflict.specs.declared.outcome.Outcome.{Outcome}
-use Rattle.conflict.specs.declared.change.Change.{Change}
-use Rattle.replay_log.specs.Base.{Shown, OfMap, OfBag, OfPq, OfQueue, after, outcome_of, reads_of, shown_of, stripes_of, writes_of}
-use Rattle.replay_log.specs.Parts.{kind_of}
-use Rattle.replay_log.specs.Contents.{Answered as Outcomes, Block, first_of, shifted}
-use Rattle.replay_log.specs.Pieces.{Piece, Entry, Counts, piece_of}
-use Rattle.replay_log.specs.Pieces as pieces
+use Rattle.replay_log.specs.Contents.{Answered as Outcomes, shifted}
+use Rattle.replay_log.specs.Pieces.{Piece}
 use Rattle.replay_log.specs.Worlds as worlds
 use Rattle.replay_log.specs.Worlds.{World, actor_of, is_change, new_in, reply_of}
 use Rattle.replay_log.proofs.CountLemmas.{locations-cons}
-use Rattle.shadow.specs.Memo.{MemoView, answer_with, has_key, holds_with}
 use Rattle.tx_actor.specs.declared.actor.Answered as running
 use Rattle.actor_copies.specs.declared.copies.CopyOf.{CopyOf}
 use Rattle.tx_actor.specs.declared.actor.TxActor.{TxActor}
 use Rattle.actor_copies.specs.declared.copies.Copied.{Copied}
-use Rattle.actor_copies.specs.declared.copies.Copied.TheVariants.{Keys, Whole}
 use Rattle.tx_actor.specs.Answers.{CanAccept, IsPrepared}
-use Rattle.word_machine.specs.Opacity.{first_read}
-use Rattle.actor_copies.specs.Copied.{IsReadBy, IsReadOf}
-use Rattle.actor_copies.specs.Copies as copies
-use Rattle.actor_copies.specs.Copies.{IsCopied, IsKept, IsOf, IsReady, answer_of, edition_at, holds_call, memo_piece}
+use Rattle.actor_copies.specs.Copies.{IsKept, IsReady, answer_of, holds_call}
 use Rattle.actor_copies.specs.Footprints.{known_edition, reads_in, with_known, writes_in}
-use Rattle.actor_copies.specs.Keeps.{Knows}
-use Rattle.actor_copies.specs.Owns.{AreOnce, IsOwn}
 use Rattle.tx_actor.specs.Having.{ReadsStill}
 use Rattle.tx_actor.specs.Owns.{OwnsCopies}
 use Rattle.tx_actor.specs.declared.prepares.Prepared.{Prepared}
@@ -41,7 +29,7 @@ use Rattle.tx_actor.specs.Running.{answered_of, asked_of, seat_of, stage_of}
 use Rattle.actor_copies.specs.Kept.{copy_of, has_piece}
 use Rattle.actor_copies.specs.Writes.{MayWrite, with_next}
 use Rattle.actor_words.proofs.BlocksLemmas.{up_to}
-use Rattle.actor_copies.proofs.AlikeLemmas.{KeptOf, all_kept, kept_answers, kept_at, kept_copy, kept_has, kept_holds, kept_itself, kept_length, kept_once, kept_own, kept_reads, read_of_kept}
+use Rattle.actor_copies.proofs.AlikeLemmas.{KeptOf, all_kept, kept_answers, kept_at, kept_copy, kept_has, kept_holds, kept_length, kept_once, kept_own, kept_reads, read_of_kept}
 use Rattle.actor_copies.proofs.OutcomeLemmas.{answered_op, writes_nothing}
 
 next_locations : {V : Type 0} → (c : Copied V) (f : ℕ) (ls : List ℕ) → locations (with_next c f ls) ≡ shifted f ls

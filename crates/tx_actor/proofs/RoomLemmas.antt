@@ -1,8 +1,7 @@
 -- The room that a call finds as it goes on. Its writes keep the bounds of the word actor (`fits_written`): they are locations of the world,
 -- and they fit the write set. Judging its locations leaves an end of them, so what there was room for is left; the first that is not read
 -- is not in the read set, so that one more fits (`fits_look`). What is made ready has the room for all its reads (`can_go_on`).
-use Rattle.std.proofs.Common.{◌≡◌, ◌+◌, ◌<◌, ◌≤◌, ◌==◌, ◌||◌, ◌&&◌, ◌^◌, ℕ, zero, suc, Bool, true, false, true≢false, cond, length, List, [], ◌∷◌, Option, Some, None, Contains, refl, sym, ap, subst, ◌∙◌, arith}
-use Rattle.std.specs.Prelude.{slice_get, slice_index_or}
+use Rattle.std.proofs.Common.{◌≡◌, ◌+◌, ◌<◌, ◌≤◌, ◌==◌, ◌||◌, ◌&&◌, ◌^◌, ℕ, zero, suc, Bool, true, false, true≢false, cond, length, List, [], ◌∷◌, Option, Some, None, refl, sym, ap, subst, ◌∙◌, arith}
 use Rattle.std.specs.List.{All}
 use Rattle.std.specs.Vec.{vec_capacity, vec_len}
 use Rattle.tx_sets.specs.Entries.{Entries, IsRising, locations, lookup, with_entry}
@@ -10,10 +9,8 @@ use Rattle.tx_sets.proofs.EntryLemmas.{All-with_entry, IsRising-with_entry, leng
 use Rattle.word_machine.specs.Actor as machine
 use Rattle.word_machine.specs.Requests.{ask, wrote, write}
 use Rattle.word_machine.specs.Requests as word
-use Rattle.word_machine.specs.Notices as notice
 use Rattle.collection_machine.specs.Boosted.{is_none}
 use Rattle.seq_model.specs.declared.call.Op.{Op}
-use Rattle.conflict.specs.declared.outcome.Outcome.{Outcome}
 use Rattle.replay_log.specs.Base.{shown_of, stripes_of}
 use Rattle.replay_log.specs.Contents.{Block, block_of, end_of, first_of, shifted, size}
 use Rattle.replay_log.specs.Worlds as worlds
@@ -36,7 +33,6 @@ use Rattle.actor_words.specs.Judged.{judged, judged_one, left_after, left_one}
 use Rattle.actor_words.specs.Requests.{HasNoReads, KeepsAt}
 use Rattle.actor_words.proofs.BlocksLemmas.{up_to}
 use Rattle.actor_copies.specs.declared.copies.Copied.{Copied}
-use Rattle.actor_copies.specs.declared.copies.CopyOf.{CopyOf}
 use Rattle.actor_copies.specs.Copies.{answer_of, holds_call}
 use Rattle.actor_copies.specs.Footprints.{base_in, known_edition, places_in, reads_in, with_known, writes_in}
 use Rattle.actor_copies.specs.Kept.{copy_of}
@@ -49,15 +45,14 @@ use Rattle.tx_actor.specs.declared.actor.Stage.{Stage}
 use Rattle.tx_actor.specs.declared.actor.Stage.TheVariants as stage
 use Rattle.tx_actor.specs.declared.actor.TxActor.{TxActor}
 use Rattle.tx_actor.specs.declared.prepares.Prepared.{Prepared}
-use Rattle.tx_actor.specs.Answers.{CanAccept, CanLoad, HasRoomToLoad, IsLoadOf, at_rest}
+use Rattle.tx_actor.specs.Answers.{CanAccept, HasRoomToLoad, IsLoadOf, at_rest}
 use Rattle.tx_actor.specs.Dispatch.{HasRoom}
-use Rattle.tx_actor.specs.Keeping.{CanGoOn, IsCallAt, IsCallOf, IsRunning, KeepsIn, NamesAmong}
-use Rattle.tx_actor.specs.Loading.{IsCallOn}
-use Rattle.tx_actor.specs.Prepares.{IsAlike, IsHeldAt, IsReadyCall, fits}
+use Rattle.tx_actor.specs.Keeping.{CanGoOn, KeepsIn, NamesAmong}
+use Rattle.tx_actor.specs.Prepares.{IsAlike, IsHeldAt, IsReadyCall}
 use Rattle.tx_actor.specs.Running.{at, stage_of}
 use Rattle.tx_actor.proofs.KeepingLemmas.{keeps_asked}
 use Rattle.actor_copies.proofs.AlikeLemmas.{kept_answers, kept_holds, writes_kept}
-use Rattle.tx_actor.proofs.PreparesLemmas.{known_length, reads_there, there_kept}
+use Rattle.tx_actor.proofs.PreparesLemmas.{reads_there, there_kept}
 
 -- ---- writes
 abbrev with_entries : Entries → Entries → Entries

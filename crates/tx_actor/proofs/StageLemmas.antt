@@ -2,11 +2,11 @@
 -- copies; one that asks for the bases that are to go home finds these. What stays of a collection is told by the law on events (`StaysLaw`).
 -- A transaction that has begun has nothing, and of each collection nothing was read; and where all is an actor's own, so is the call that
 -- it reads for.
-use Rattle.std.proofs.Common.{◌≡◌, ◌≢◌, ◌+◌, ℕ, List, [], Option, Some, None, Contains, inl, refl, sym, ap, subst, ◌∙◌}
+use Rattle.std.proofs.Common.{◌≡◌, ◌≢◌, ◌+◌, ℕ, List, [], Option, Some, None, inl, refl, sym, ap, subst, ◌∙◌}
+use Rattle.tx_sets.specs.Entries.{Entries}
 use Rattle.word_machine.specs.Actor as machine
 use Rattle.word_machine.specs.Actor.{Call}
 use Rattle.word_machine.specs.Opacity.{first_read}
-use Rattle.conflict.specs.declared.outcome.Outcome.{Outcome}
 use Rattle.replay_log.specs.Contents.{HaveStripes, first_of}
 use Rattle.replay_log.specs.Worlds.{World, actor_of}
 use Rattle.actor_words.specs.Blocks.{BlocksView, IsLaid}
@@ -16,15 +16,16 @@ use Rattle.actor_copies.specs.declared.copies.CopyOf.{CopyOf}
 use Rattle.actor_copies.specs.Copied.{IsReadBy, IsReadOf}
 use Rattle.actor_copies.specs.Kept.{copy_of}
 use Rattle.actor_copies.specs.Loading.{AreRead, IsDoomed}
-use Rattle.actor_copies.specs.Owns.{IsOwn}
-use Rattle.actor_copies.specs.Staying.{ReadsStay, Stays}
+use Rattle.actor_copies.specs.Owns.{AreOnce, IsOwn}
+use Rattle.actor_copies.proofs.OwnLemmas.{own_same}
+use Rattle.actor_copies.specs.Staying.{Stays}
 use Rattle.tx_actor.specs.declared.actor.Answered as running
 use Rattle.tx_actor.specs.declared.actor.Stage.{Stage}
 use Rattle.tx_actor.specs.declared.actor.Stage.TheVariants as stage
 use Rattle.tx_actor.specs.declared.actor.TxActor.{TxActor}
-use Rattle.tx_actor.specs.Having.{HasCopies, HasCopiesAt, IsWhole, IsWholeOf, KeepsCopies, KeepsFrom, KeepsOpen, OwnsAll, OwnsHomes, OwnsLoading, ReadsStill}
+use Rattle.tx_actor.specs.Having.{AsksNothing, HasCopies, HasCopiesAt, IsWhole, IsWholeOf, KeepsCopies, KeepsFrom, KeepsOpen, OwnsAll, OwnsHomes, OwnsLoading, ReadsStill}
 use Rattle.tx_actor.specs.Keeping.{IsCallAt, IsRunning}
-use Rattle.tx_actor.specs.Loading.{IsCallOn, OwnsCall}
+use Rattle.tx_actor.specs.Loading.{IsCallOn}
 use Rattle.tx_actor.specs.Owns.{OwnsCopies}
 use Rattle.tx_actor.proofs.HearLemmas.{owns_stands}
 use Rattle.tx_actor.proofs.OwnsLemmas.{owns_by, owns_nothing}
@@ -55,7 +56,7 @@ module _ {V : Type 0} where
   homes_at r w a s ks is h = absurd is
 
   -- ---- and what stays of it
-  whole_stays : StaysLaw V → (r u : TxActor V) (w v : World V) (a : ℕ) → u.copies.items ≡ r.copies.items → Stays w v a → OwnsAll r w a
+  pub whole_stays : StaysLaw V → (r u : TxActor V) (w v : World V) (a : ℕ) → u.copies.items ≡ r.copies.items → Stays w v a → OwnsAll r w a
       → OwnsAll u v a
   whole_stays law r u w v a same st h = record {
     own = owns_by r u w v a same st.0.words st.0.blocks st.1 h.own;
@@ -94,6 +95,23 @@ module _ {V : Type 0} where
       → Stays w v a → HasCopies r w a → HasCopies u v a
   has_stepped law r u w v a begun k st h = step_at law u.stage r.stage r u w v a begun k st h
 
+  -- ---- a stage that asks for nothing
+  idle_at : (t : Stage V) (u : TxActor V) (v : World V) (a : ℕ) (now : List (CopyOf V)) → KeepsFrom t stage.Idle [] now → HasCopiesAt u v a t
+  idle_at stage.Open u v a now k = absurd k.0
+  idle_at (stage.Reading l) u v a now k = absurd k.0
+  idle_at (stage.Trying asked tries) u v a now k = absurd k.0
+  idle_at (stage.Copying asked) u v a now k = absurd k.0
+  idle_at (stage.Loading o left) u v a now k = absurd k
+  idle_at (stage.Locking homes) u v a now k = absurd k.0
+  idle_at (stage.Gating homes got tries) u v a now k = absurd k.0
+  idle_at (stage.Ready homes) u v a now k = absurd k.0
+  idle_at (stage.Storing homes) u v a now k = absurd k.0
+  idle_at (stage.Homing homes) u v a now k = absurd k.0
+  idle_at t u v a now k = tt
+
+  pub has_nothing : (u : TxActor V) (v : World V) (a : ℕ) → AsksNothing u → HasCopies u v a
+  has_nothing u v a k = idle_at u.stage u v a u.copies.items k
+
   -- ---- a transaction that begins
   nothing : (u : TxActor V) (v : World V) (a : ℕ) → u.copies.items ≡ [] → HaveStripes v.blocks
       → ((k : ℕ) → IsOwn v a k None × IsReadOf v a k None) → OwnsAll u v a
@@ -122,24 +140,37 @@ module _ {V : Type 0} where
       begin_at u.stage r u v a (subst (λ (s : Stage V). KeepsFrom u.stage s r.copies.items u.copies.items) at k) stripes h
 
   -- ---- another actor's event
-  loading_stays : StaysLaw V → (r : TxActor V) (w v : World V) (a : ℕ) (o : running.Answered V) (left : _)
-      → actor_of v a ≡ actor_of w a → Stays w v a → OwnsLoading r w a o left → OwnsLoading r v a o left
+  -- The call that is read for stays its actor's own where its shadow stays and what it has read, with as many locations left or fewer, once
+  -- those that are passed have been read.
+  pub loading_moves : (r u : TxActor V) (w v : World V) (a : ℕ) (o : running.Answered V) (left fs : Entries)
+      → u.copies.items ≡ r.copies.items → v.words ≡ w.words → v.blocks ≡ w.blocks → v.boosted.shadows a ≡ w.boosted.shadows a
+      → ((l e : ℕ) → first_read (actor_of w a).calls l ≡ Some e → first_read (actor_of v a).calls l ≡ Some e)
+      → ((k : ℕ) (c : Option (Copied V)) → k ≢ o.asked.collection → IsReadOf w a k c → IsReadOf v a k c)
+      → (IsDoomed (actor_of w a).calls left → IsDoomed (actor_of v a).calls fs)
+      → ((cs : List Call) → ((l e : ℕ) → first_read (actor_of v a).calls l ≡ Some e → first_read cs l ≡ Some e) → AreRead cs fs
+      → AreRead cs left)
+      → OwnsLoading r w a o left → OwnsLoading u v a o fs
   unfolding owns_stands
+  loading_moves r u w v a o left fs same words blocks shadow more others doomed passed h = record {
+    stripes = subst HaveStripes (sym blocks) h.stripes;
+    once = subst AreOnce (sym same) h.once;
+    others = λ k ne. subst (λ (cs : List (CopyOf V)). IsOwn v a k (copy_of cs k) × IsReadOf v a k (copy_of cs k)) (sym same) (
+      own_same w v a k (copy_of r.copies.items k) words blocks shadow (h.others k ne).0,
+      others k (copy_of r.copies.items k) ne (h.others k ne).1,
+    );
+    call = owns_stands w v a o left fs words blocks shadow doomed h.call;
+    at = ap (λ (cs : List (CopyOf V)). copy_of cs o.asked.collection) same ∙ h.at;
+    read = λ cs grows are. h.read cs (λ l e is. grows l e (more l e is)) (passed cs grows are);
+  }
+
+  loading_stays : StaysLaw V → (r : TxActor V) (w v : World V) (a : ℕ) (o : running.Answered V) (left : Entries)
+      → actor_of v a ≡ actor_of w a → Stays w v a → OwnsLoading r w a o left → OwnsLoading r v a o left
   loading_stays law r w v a o left same st h =
       let calls : (actor_of v a).calls ≡ (actor_of w a).calls = ap (λ (y : machine.Actor). y.calls) same in
-      record {
-        stripes = subst HaveStripes (sym st.0.blocks) h.stripes;
-        once = h.once;
-        others = λ k ne. (
-            let is = h.others k ne in
-            let l = law w v a k (copy_of r.copies.items k) st in
-            (l.0 is.0, l.1 is.1));
-        call = owns_stands w v a o left left st.0.words st.0.blocks st.1
-            (λ d. subst (λ (cs : List Call). IsDoomed cs left) (sym calls) d) h.call;
-        at = h.at;
-        read = λ cs more are. h.read cs
-            (λ l e is. more l e (ap (λ (ds : List Call). first_read ds l) calls ∙ is)) are;
-      }
+      loading_moves r r w v a o left left refl st.0.words st.0.blocks st.1
+      (λ l e is. ap (λ (ds : List Call). first_read ds l) calls ∙ is)
+      (λ k c ne is. (law w v a k c st).1 is)
+      (λ d. subst (λ (cs : List Call). IsDoomed cs left) (sym calls) d) (λ cs grows are. are) h
 
   other_at : StaysLaw V → (s : Stage V) (r : TxActor V) (w v : World V) (a : ℕ) → actor_of v a ≡ actor_of w a → Stays w v a
       → HasCopiesAt r w a s → HasCopiesAt r v a s

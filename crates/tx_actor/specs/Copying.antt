@@ -1,18 +1,18 @@
 -- What a call makes of an actor that holds the gate of its collection, and is given the base.
-use Rattle.std.specs.Prelude.{◌≡◌, ◌⊎◌, ℕ, ◌+◌, ◌<◌, ◌≤◌, ◌^◌, Bool, true, false, List, Option, Some, None, length}
+use Rattle.std.specs.Prelude.{◌≡◌, ◌⊎◌, ℕ, ◌+◌, ◌<◌, ◌≤◌, ◌^◌, true, false, Option, Some, None, length}
 use Rattle.std.specs.Global.{Vec}
+use Rattle.seq_model.specs.declared.refusal.Refusal.TheVariants as refusal
 use Rattle.conflict.specs.declared.outcome.Outcome.{Outcome}
 use Rattle.replay_log.specs.declared.base.Base.{Base}
-use Rattle.replay_log.specs.Base.{locations_of, outcome_of, shown_of, stripes_of}
+use Rattle.replay_log.specs.Base.{outcome_of, shown_of, stripes_of}
 use Rattle.replay_log.specs.Parts.{kind_of}
-use Rattle.replay_log.specs.Contents.{Block, block_of, content, first_of}
+use Rattle.replay_log.specs.Contents.{Block, block_of, first_of}
 use Rattle.replay_log.specs.Worlds as worlds
 use Rattle.replay_log.specs.Worlds.{World, actor_of, has_room, outcome_at, sized_by, step_at}
 use Rattle.step_core.specs.Shown as words
 use Rattle.step_core.specs.declared.actor.Place.TheVariants as place
 use Rattle.atomic_steps.specs.Bases.{IsBaseOf}
 use Rattle.actor_words.specs.Blocks.{BlocksView, IsLaid}
-use Rattle.actor_words.specs.Shows.{put_back}
 use Rattle.actor_copies.specs.declared.copies.Copied.{Copied}
 use Rattle.actor_copies.specs.declared.copies.CopyOf.{CopyOf}
 use Rattle.actor_copies.specs.declared.copies.Found.{Found}
@@ -31,7 +31,7 @@ use Rattle.tx_actor.specs.declared.actor.Told.TheVariants as told
 use Rattle.tx_actor.specs.declared.actor.TxActor.{TxActor}
 use Rattle.tx_actor.specs.declared.prepares.Readied.{Readied}
 use Rattle.actor_words.specs.Judged.{judged}
-use Rattle.tx_actor.specs.Answers.{CopiesAfter}
+use Rattle.tx_actor.specs.Having.{HasGone}
 use Rattle.tx_actor.specs.Prepares.{IsAlike, IsReadyCall, prepared_of}
 use Rattle.tx_actor.specs.Running.{Runs, asked_of, at, notice_of, seat_of}
 
@@ -112,8 +112,8 @@ module _ {V : Type 0} where
   StepsOnAt v r u t base (stage.Copying asked) = StepsOn v r u t base asked
   StepsOnAt v r u t base s = (u ≡ r) × (t ≡ told.Quiet)
 
-  -- A call that is ready now, of a copy that was taken for it: how it is judged is what becomes of the copies.
-  pub record HasGoneOn (v : BlocksView) (r u : TxActor V) (base : Base V) (asked : Asked V) : Type 0 where
+  -- A call that is ready now, of a copy that was taken for it: how it is judged is what is left of it, and told.
+  pub record HasGoneOn (v : BlocksView) (r u : TxActor V) (t : Told V) (base : Base V) (asked : Asked V) : Type 0 where
     pub block : Block
     pub found : Found V
     pub at : ℕ
@@ -122,12 +122,14 @@ module _ {V : Type 0} where
     pub there : block_of v.blocks asked.collection ≡ Some block
     pub is : IsFound base asked.op found
     pub ready : IsReadyAt r middle block.stripes (first_of v.words v.blocks asked.collection) found asked at call
-    pub after : CopiesAfter (judged middle.words.reads.entries call.left.items) (prepared_of call asked at).call middle.copies.items u.copies.items
+    pub goes : let p = prepared_of call asked at in
+        HasGone (judged middle.words.reads.entries p.left.items) middle u t p.call p.left.items
 
   -- What the step leaves of the copies: all of them, of a call that is TooLong.
-  abbrev pub HasTaken : BlocksView → TxActor V → TxActor V → Base V → Asked V → Type 0
-  HasTaken v r u base asked = ((u.stage ≡ stage.Open) × (u.copies ≡ r.copies)) ⊎ HasGoneOn v r u base asked
+  abbrev pub HasTaken : BlocksView → TxActor V → TxActor V → Told V → Base V → Asked V → Type 0
+  HasTaken v r u t base asked =
+      ((u.stage ≡ stage.Open) × (u.copies.items ≡ r.copies.items) × (t ≡ told.Refused refusal.TooLong)) ⊎ HasGoneOn v r u t base asked
 
-  abbrev pub HasTakenAt : BlocksView → TxActor V → TxActor V → Base V → Stage V → Type 0
-  HasTakenAt v r u base (stage.Copying asked) = HasTaken v (at r stage.Idle) u base asked
-  HasTakenAt v r u base s = u ≡ r
+  abbrev pub HasTakenAt : BlocksView → TxActor V → TxActor V → Told V → Base V → Stage V → Type 0
+  HasTakenAt v r u t base (stage.Copying asked) = HasTaken v (at r stage.Idle) u t base asked
+  HasTakenAt v r u t base s = u ≡ r

@@ -1,19 +1,32 @@
 -- What an actor has of collections in a world, by its stage, and what a request or a step leaves of it.
-use Rattle.std.specs.Prelude.{◌≡◌, ◌≢◌, ℕ, List, [], Some, Contains}
+use Rattle.std.specs.Prelude.{◌≡◌, ◌≢◌, ◌⊎◌, ℕ, List, [], ◌∷◌, Some, Contains, slice_get}
+use Rattle.std.specs.declared.alloc.Global.{Global}
+use Rattle.std.specs.declared.collections.VecDeque.{VecDeque}
 use Rattle.tx_sets.specs.Entries.{Entries}
 use Rattle.word_machine.specs.Actor.{Call}
+use Rattle.word_machine.specs.Notices as notice
 use Rattle.word_machine.specs.Opacity.{first_read}
+use Rattle.seq_model.specs.declared.event.Answer.TheVariants.{Replied}
+use Rattle.conflict.specs.declared.outcome.Outcome.{Outcome}
+use Rattle.step_core.specs.Shown as words
 use Rattle.replay_log.specs.Contents.{HaveStripes}
 use Rattle.replay_log.specs.Worlds.{World, actor_of}
 use Rattle.actor_copies.specs.declared.copies.CopyOf.{CopyOf}
+use Rattle.actor_words.specs.Judged.{judged, left_after}
+use Rattle.actor_words.specs.declared.judged.Judged.{Judged}
+use Rattle.actor_words.specs.declared.judged.Judged.TheVariants.{All, Next, Stale}
 use Rattle.actor_copies.specs.Copied.{IsReadBy, IsReadOf}
+use Rattle.actor_copies.specs.Copies.{answer_of}
 use Rattle.actor_copies.specs.Kept.{copy_of}
 use Rattle.actor_copies.specs.Loading.{AreRead}
 use Rattle.actor_copies.specs.Owns.{AreOnce, IsOwn}
 use Rattle.tx_actor.specs.declared.actor.Answered as running
 use Rattle.tx_actor.specs.declared.actor.Stage.{Stage}
 use Rattle.tx_actor.specs.declared.actor.Stage.TheVariants as stage
+use Rattle.tx_actor.specs.declared.actor.Told.{Told}
+use Rattle.tx_actor.specs.declared.actor.Told.TheVariants as told
 use Rattle.tx_actor.specs.declared.actor.TxActor.{TxActor}
+use Rattle.tx_actor.specs.Answers.{IsAcceptedAt}
 use Rattle.tx_actor.specs.Loading.{OwnsCall}
 use Rattle.tx_actor.specs.Owns.{OwnsCopies}
 
@@ -98,6 +111,50 @@ module _ {V : Type 0} where
   -- a step leaves u of r what u is to have of collections at its stage
   abbrev pub KeepsCopies : TxActor V → TxActor V → Type 0
   KeepsCopies r u = KeepsFrom u.stage r.stage r.copies.items u.copies.items
+
+  -- u is at a stage that asks nothing of the copies
+  abbrev pub AsksNothing : TxActor V → Type 0
+  AsksNothing u = KeepsFrom u.stage stage.Idle [] u.copies.items
+
+  -- ---- what a call leaves
+  -- A location is read next for the call: those that the read set does not judge are left, and nothing else has changed.
+  pub record ReadsOn (r u : TxActor V) (t : Told V) (o : running.Answered V) (es : Entries) : Type 0 where
+    pub left : VecDeque (ℕ × ℕ) Global
+    pub stage : u.stage ≡ stage.Loading o left
+    pub items : left.items ≡ left_after r.words.reads.entries es
+    pub copies : u.copies.items ≡ r.copies.items
+    pub calls : (words.actor_of u.words).calls ≡ (words.actor_of r.words).calls
+    pub told : t ≡ told.Quiet
+
+  -- The call is accepted: its outcome, which its copy answers, joins this copy.
+  pub record HasAccepted (r u : TxActor V) (t : Told V) (o : running.Answered V) : Type 0 where
+    pub stage : u.stage ≡ stage.Open
+    pub at : IsAcceptedAt o.place o.outcome r.copies.items u.copies.items
+    pub own : (c : CopyOf V) → slice_get r.copies.items o.place ≡ Some c
+        → (x : Outcome V) × (o.outcome ≡ Some x) × (c.collection ≡ o.asked.collection) × (answer_of c.copied o.asked.op ≡ Some x)
+    pub told : t ≡ told.Answered (Replied o.told)
+
+  -- what judging the locations of a call leaves of r, and tells
+  abbrev pub HasGone : Judged → TxActor V → TxActor V → Told V → running.Answered V → Entries → Type 0
+  HasGone All r u t o es = HasAccepted r u t o
+  HasGone (Next l) r u t o es = ReadsOn r u t o es
+  HasGone (Stale l b v) r u t o es = AsksNothing u
+
+  -- nothing has come of a step
+  abbrev pub IsAsBefore : TxActor V → TxActor V → Told V → Type 0
+  IsAsBefore r u t = (u ≡ r) × (t ≡ told.Quiet)
+
+  -- the first location was read with edition v
+  abbrev pub HasFound : TxActor V → TxActor V → Told V → running.Answered V → Entries → ℕ → Type 0
+  HasFound r u t o [] v = IsAsBefore r u t
+  HasFound r u t o (d ∷ es) v =
+      ((d.1 ≡ v) × HasGone (judged r.words.reads.entries es) r u t o es) ⊎ ((d.1 ≢ v) × AsksNothing u)
+
+  -- What a step of the load of a call's location leaves of r, at this stage, which the words told n.
+  abbrev pub HasLoaded : TxActor V → TxActor V → Told V → Stage V → notice.Notice → Type 0
+  HasLoaded r u t (stage.Loading o left) (notice.Number v) = HasFound r u t o left.items v
+  HasLoaded r u t (stage.Loading o left) (notice.Moved l word) = AsksNothing u ⊎ IsAsBefore r u t
+  HasLoaded r u t s n = IsAsBefore r u t
 
   -- what was read of each collection is, of what there is of it now
   abbrev pub ReadsStill : (before now : List (CopyOf V)) → Type 0

@@ -12,3 +12,4 @@ pub mod Calls
 pub mod Loading
 pub mod Seated
 pub mod Having
+pub mod Staying

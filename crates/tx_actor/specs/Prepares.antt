@@ -1,5 +1,5 @@
 -- What making a call ready leaves of an actor, and what it gives.
-use Rattle.std.specs.Prelude.{◌≡◌, ℕ, ◌+◌, ◌<◌, ◌≤◌, ◌^◌, Bool, true, false, List, [], ◌∷◌, Option, Some, None, length, slice_get}
+use Rattle.std.specs.Prelude.{◌≡◌, ℕ, ◌+◌, ◌<◌, ◌≤◌, ◌^◌, Bool, true, false, List, Option, Some, None, length, slice_get}
 use Rattle.std.specs.Vec.{vec_capacity, vec_len}
 use Rattle.seq_model.specs.declared.call.Op.{Op}
 use Rattle.conflict.specs.declared.outcome.Outcome.{Outcome}

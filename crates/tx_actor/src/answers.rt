@@ -12,8 +12,11 @@ ghost use Rattle.actor_copies.specs.Copies.{IsReady, holds_call};
 ghost use Rattle.actor_words.specs.Judged.{comes_to, judged, left_after};
 ghost use Rattle.actor_words.specs.declared.judged.Judged.TheVariants as judged_as;
 ghost use Rattle.actor_words.specs.Blocks.{BlocksView};
+ghost use Rattle.tx_actor.specs.Having.{HasGone};
 ghost use Rattle.tx_actor.specs.Keeping.{CanGoOn, KeepsIn};
 ghost use Rattle.tx_actor.specs.Running.{Runs, answered_of, at, notice_of, seat_of, with_outcome};
+ghost use Rattle.tx_actor.specs.declared.actor.Told.TheVariants as told;
+ghost use Rattle.seq_model.specs.declared.event.Answer.TheVariants.{Replied};
 
 use crate::actor::{Answered, Stage, Told, TxActor};
 use actor_copies::{CopyOf, write_all};
@@ -44,6 +47,7 @@ impl<V: Value> TxActor<V> {
             let f = comes_to w a (seat_of self.old) (answered_of call) [] judged_as.All in
             Runs a self.new f.0 × (notice_of a result ≡ f.1) }
         ensures copies { IsAcceptedAt call.place call.outcome self.old.copies.items self.new.copies.items }
+        ensures told { (self.new.stage ≡ Stage.Open) × (result ≡ told.Answered (Replied call.told)) }
         ensures keeps { (v : BlocksView) → All (λ d. d.0 < end_of v.words v.blocks) call.writes.items → KeepsIn v (at self.old Stage.Idle) self.new }
         ensures owed { owed self.new.words.place ≤ owed self.old.words.place }
     {
@@ -76,6 +80,7 @@ impl<V: Value> TxActor<V> {
             let f = comes_to w a (seat_of self.old) (with_outcome call x) (left_after reads left.items) (judged reads left.items) in
             Runs a self.new f.0 × (notice_of a result ≡ f.1) }
         ensures copies { CopiesAfter (judged self.old.words.reads.entries left.items) call self.old.copies.items self.new.copies.items }
+        ensures goes { HasGone (judged self.old.words.reads.entries left.items) self.old self.new result call left.items }
         ensures keeps { (v : BlocksView) → CanGoOn v self.old call left.items → KeepsIn v (at self.old Stage.Idle) self.new }
         ensures owed { owed self.new.words.place ≤ owed self.old.words.place }
     {

@@ -1,12 +1,13 @@
 //! What a call makes of its actor while the gate of its collection is held: what it touches is copied from the base, and it goes on by
 //! that copy once the gate is put back.
-ghost use Rattle.std.specs.Prelude.{◌≡◌, ◌<◌, ◌+◌, ◌≤◌, ◌^◌, IfOk, OnErr, OnOk, Some, length};
+ghost use Rattle.std.specs.Prelude.{◌≡◌, ◌<◌, ◌+◌, ◌≤◌, ◌^◌, IfOk, OnErr, Some, length};
 ghost use Rattle.replay_log.specs.Base.{locations_of, shown_of, stripes_of};
 ghost use Rattle.replay_log.specs.Contents.{block_of, first_of};
 ghost use Rattle.actor_copies.specs.Copies.{IsFound};
 ghost use Rattle.tx_actor.specs.Copying.{AreReadyAt, CanCopy, CanCopyAt, HasTaken, HasTakenAt, IsReadyAt, IsUnmoved, MayTake, StepsOn, StepsOnAt};
 ghost use Rattle.actor_words.specs.Requests.{HasNoReads};
 ghost use Rattle.tx_actor.specs.Dispatch.{Starves};
+ghost use Rattle.tx_actor.specs.Having.{KeepsCopies};
 ghost use Rattle.tx_actor.specs.Keeping.{KeepsIn};
 ghost use Rattle.tx_actor.specs.Running.{at};
 ghost use Rattle.tx_actor.specs.declared.actor.Told.TheVariants as told;
@@ -83,7 +84,8 @@ impl<V: Value> TxActor<V> {
         ensures ok { IfOk result (λ told. StepsOn blocks.now (at self.old (Stage.Copying asked)) self.new told base.now asked) }
         ensures err { OnErr result (Starves (at self.old (Stage.Copying asked)) self.new told.Quiet) }
         ensures keeps { HasNoReads self.old.words → KeepsIn blocks.now (at self.old (Stage.Copying asked)) self.new }
-        ensures copies { OnOk result (HasTaken blocks.now self.old self.new base.now asked) }
+        ensures copies { IfOk result (λ told. HasTaken blocks.now self.old self.new told base.now asked) }
+        ensures leaves { OnErr result (KeepsCopies (at self.old (Stage.Copying asked)) self.new) }
     {
         match self.copies_for(alloc, blocks, base, &asked) {
             Ok(Some((place, readied))) => {
@@ -114,7 +116,8 @@ impl<V: Value> TxActor<V> {
         ensures ok { IfOk result (λ told. StepsOnAt blocks.now self.old self.new told base.now self.old.stage) }
         ensures err { OnErr result (Starves self.old self.new told.Quiet) }
         ensures keeps { HasNoReads self.old.words → KeepsIn blocks.now self.old self.new }
-        ensures copies { OnOk result (HasTakenAt blocks.now self.old self.new base.now self.old.stage) }
+        ensures copies { IfOk result (λ told. HasTakenAt blocks.now self.old self.new told base.now self.old.stage) }
+        ensures leaves { OnErr result (KeepsCopies self.old self.new) }
     {
         let stage = mem::replace(&mut self.stage, Stage::Idle);
         match stage {

@@ -20,9 +20,10 @@ ghost use Rattle.tx_actor.specs.Having.{HasCopies, KeepsCopies, OwnsAll, ReadsSt
 ghost use Rattle.tx_actor.specs.Keeping.{IsRunning};
 ghost use Rattle.tx_actor.specs.Reading.{LoadsKeep};
 ghost use Rattle.tx_actor.specs.Owns.{OwnsCopies};
+ghost use Rattle.tx_actor.specs.Staying.{CopiesStayOwn, LoadsStayOwn};
 
 use crate::actor::Stage;
-use actor_copies::copies_stay;
+use actor_copies::{copies_put_back, copies_stay};
 use seq_model::Value;
 
 /// Wherever events have led: where the load of a call's last location told the copied edition, the acceptance is allowed, and the world's
@@ -79,4 +80,21 @@ pub fn copies_by_stage<V: Value>()
     ensures all { (b : BlocksView) (r : TxActor V) (w : World V) (a : ℕ) → IsLaid b w → IsRunning b r → OwnsAll r w a → HasCopies r w a }
 {
     copies_stay::<V>();
+}
+
+/// What an actor has of collections stays its own while a call's locations are read: where the call is accepted its copy follows, and where
+/// a location is read next it stands on that copy still, or was read with another edition.
+pub fn loads_stay_own<V: Value>()
+    ensures { LoadsStayOwn V }
+{
+    copies_stay::<V>();
+}
+
+/// So it does where a call's part of a base is copied: what was there stays, and what is taken is its own, or one of its locations was read
+/// with another edition, so that the call is never accepted.
+pub fn copied_stay_own<V: Value>()
+    ensures { CopiesStayOwn V }
+{
+    copies_stay::<V>();
+    copies_put_back::<V>();
 }

@@ -1,11 +1,12 @@
 //! What the load of a call's location makes of its actor: with the copied edition the other locations are judged, with another the copy
 //! is stale.
-ghost use Rattle.std.specs.Prelude.{◌≡◌, Some};
+ghost use Rattle.std.specs.Prelude.{◌≡◌, ◌⊎◌, Some};
 ghost use Rattle.word_machine.specs.Notices as notice;
 ghost use Rattle.tx_actor.specs.Answers.{CanAccept};
 ghost use Rattle.actor_words.specs.Dispatch.{notice_told, shown_notice};
 ghost use Rattle.tx_actor.specs.Loads.{IsLoadable, IsToldLoad, first_entry};
 ghost use Rattle.actor_words.specs.Blocks.{BlocksView};
+ghost use Rattle.tx_actor.specs.Having.{AsksNothing, HasFound, HasLoaded, IsAsBefore};
 ghost use Rattle.tx_actor.specs.Keeping.{KeepsHeard};
 ghost use Rattle.tx_actor.specs.Running.{at};
 
@@ -36,6 +37,7 @@ impl<V: Value> TxActor<V> {
         requires first { first_entry left.items ≡ Some first }
         ensures does { IsToldLoad (at self.old (Stage.Loading call left)) self.new result (notice.Number edition) }
         ensures keeps { (v : BlocksView) → KeepsHeard v (at self.old (Stage.Loading call left)) self.new (notice.Number edition) }
+        ensures goes { HasFound (at self.old (Stage.Loading call left)) self.new result call left.items edition }
     {
         let copied = first.1;
         if copied != edition {
@@ -55,6 +57,7 @@ impl<V: Value> TxActor<V> {
         requires prepared { CanAccept self.old call }
         ensures does { IsToldLoad (at self.old (Stage.Loading call left)) self.new result (notice.Number edition) }
         ensures keeps { (v : BlocksView) → KeepsHeard v (at self.old (Stage.Loading call left)) self.new (notice.Number edition) }
+        ensures goes { HasFound (at self.old (Stage.Loading call left)) self.new result call left.items edition }
     {
         match first_left(&left) {
             None => self.stays(Stage::Loading(call, left)),
@@ -72,6 +75,7 @@ impl<V: Value> TxActor<V> {
     ) -> Told<V>
         ensures does { IsToldLoad (at self.old (Stage.Loading call left)) self.new result (notice.Moved location word) }
         ensures keeps { (v : BlocksView) → KeepsHeard v (at self.old (Stage.Loading call left)) self.new (notice.Moved location word) }
+        ensures goes { AsksNothing self.new ⊎ IsAsBefore (at self.old (Stage.Loading call left)) self.new result }
     {
         match first_left(&left) {
             None => self.stays(Stage::Loading(call, left)),
@@ -88,6 +92,7 @@ impl<V: Value> TxActor<V> {
         requires prepared { IsLoadable self.old (Stage.Loading call left) (shown_notice heard) }
         ensures does { IsToldLoad (at self.old (Stage.Loading call left)) self.new result (shown_notice heard) }
         ensures keeps { (v : BlocksView) → KeepsHeard v (at self.old (Stage.Loading call left)) self.new (shown_notice heard) }
+        ensures goes { let r = at self.old (Stage.Loading call left) in HasLoaded r self.new result r.stage (shown_notice heard) }
     {
         match heard {
             WordNotice::Number(edition) => self.has_found(call, left, edition),
@@ -102,6 +107,7 @@ impl<V: Value> TxActor<V> {
         requires prepared { IsLoadable self.old self.old.stage (notice_told told) }
         ensures does { IsToldLoad self.old self.new result (notice_told told) }
         ensures keeps { (v : BlocksView) → KeepsHeard v self.old self.new (notice_told told) }
+        ensures goes { HasLoaded self.old self.new result self.old.stage (notice_told told) }
     {
         let heard = of_told(told);
         let stage = mem::replace(&mut self.stage, Stage::Idle);

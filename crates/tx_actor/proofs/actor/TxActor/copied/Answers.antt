@@ -1,6 +1,7 @@
-use Rattle.std.proofs.Common.{IfOk, OnErr, OnOk, sym, subst, ◌∙◌}
+use Rattle.std.proofs.Common.{IfOk, OnErr, sym, subst, ◌∙◌}
 use Rattle.tx_actor.specs.Copying.{HasTaken, HasTakenAt, StepsOnAt}
 use Rattle.tx_actor.specs.Dispatch.{Starves}
+use Rattle.tx_actor.specs.Having.{KeepsCopies}
 use Rattle.tx_actor.specs.Keeping.{KeepsIn}
 use Rattle.tx_actor.specs.Running.{at}
 use Rattle.tx_actor.specs.declared.actor.Stage.{Stage}
@@ -31,7 +32,16 @@ pub returns-in-Copying-clause-copies : goal.returns-in-Copying-clause-copies
 returns-in-Copying-clause-copies g c =
     let r = c.args.self.now in
     let n = c.has_copied.new.self in
-    subst (λ (s : Stage g.row.V.Denot). OnOk c.has_copied.result (HasTakenAt c.args.blocks.now (at r s) n c.args.base.now s))
+    let v = c.args.blocks.now in
+    let base = c.args.base.now in
+    subst (λ (s : Stage g.row.V.Denot). IfOk c.has_copied.result (λ told. HasTakenAt v (at r s) n told base s))
     (sym (sym c.replace-stage.ensures.value ∙ c.in-Copying.is))
-    (subst (λ (s : Stage g.row.V.Denot). OnOk c.has_copied.result (HasTaken c.args.blocks.now (at r s) n c.args.base.now c.in-Copying.asked))
+    (subst (λ (s : Stage g.row.V.Denot). IfOk c.has_copied.result (λ told. HasTaken v (at r s) n told base c.in-Copying.asked))
     c.replace-stage.ensures.after c.has_copied.ensures.copies)
+
+pub returns-in-Copying-clause-leaves : goal.returns-in-Copying-clause-leaves
+returns-in-Copying-clause-leaves g c =
+    let r = c.args.self.now in
+    let n = c.has_copied.new.self in
+    subst (λ (s : Stage g.row.V.Denot). OnErr c.has_copied.result (KeepsCopies (at r s) n))
+    (sym (sym c.replace-stage.ensures.value ∙ c.in-Copying.is)) c.has_copied.ensures.leaves

@@ -8,6 +8,12 @@ use Rattle.tx_actor.proofs.AnswerLemmas.{by_judged, by_outcome, reads_by}
 use Rattle.tx_actor.proofs.RoomLemmas.{goes_on_next}
 use Rattle.step_core.specs.Sound.{owed}
 use Rattle.step_core.specs.declared.actor.Place.{Place}
+use Rattle.step_core.specs.declared.actor.Place.TheVariants as place
+use Rattle.tx_actor.specs.declared.actor.Stage.TheVariants as stage
+use Rattle.tx_actor.specs.declared.actor.Told.TheVariants.{Quiet}
+use Rattle.tx_actor.specs.declared.actor.TxActor.{TxActor}
+use Rattle.tx_actor.specs.Having.{HasGone}
+use Rattle.tx_actor.proofs.HavingLemmas.{asks_nothing}
 use Rattle.tx_actor.proofs.actor.TxActor.goes_on.Goals as goal
 
 pub returns-in-All-clause-does : goal.returns-in-All-clause-does
@@ -73,3 +79,35 @@ returns-in-Next-clause-owed g c = subst (λ (p : Place). 1 ≤ owed p) (sym c.re
 
 pub returns-in-Stale-clause-owed : goal.returns-in-Stale-clause-owed
 returns-in-Stale-clause-owed g c = (c.gives_up.ensures.keeps (record { words = 0; blocks = [] })).owed
+
+-- what is left of the copies
+pub returns-in-All-clause-goes : goal.returns-in-All-clause-goes
+returns-in-All-clause-goes g c =
+    subst (λ j. HasGone j c.args.self.now c.accepts.new.self c.accepts.result c.args.call c.args.left.items)
+    (sym c.in-All.is ∙ c.judge.ensures.judged)
+    (record {
+      stage = c.accepts.ensures.told.0;
+      at = c.accepts.ensures.copies;
+      own = c.requires.prepared.own;
+      told = c.accepts.ensures.told.1;
+    })
+
+pub returns-in-Next-clause-goes : goal.returns-in-Next-clause-goes
+returns-in-Next-clause-goes g c =
+    let old = c.args.self.now in
+    let u : TxActor g.row.V.Denot =
+    record old { words = record old.words { place = place.Look c.in-Next.location }; stage = stage.Loading c.args.call c.judge.new.left } in
+    subst (λ j. HasGone j old u Quiet c.args.call c.args.left.items) (sym c.in-Next.is ∙ c.judge.ensures.judged)
+    (record {
+      left = c.judge.new.left;
+      stage = refl;
+      items = c.judge.ensures.left;
+      copies = refl;
+      calls = refl;
+      told = refl;
+    })
+
+pub returns-in-Stale-clause-goes : goal.returns-in-Stale-clause-goes
+returns-in-Stale-clause-goes g c =
+    subst (λ j. HasGone j c.args.self.now c.gives_up.new.self c.gives_up.result c.args.call c.args.left.items)
+    (sym c.in-Stale.is ∙ c.judge.ensures.judged) (asks_nothing c.args.self.now c.gives_up.new.self c.gives_up.ensures.leaves)

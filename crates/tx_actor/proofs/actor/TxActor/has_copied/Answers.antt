@@ -1,6 +1,7 @@
 use Rattle.std.proofs.Common.{ℕ, Option, inl, inr, refl, sym, ap, subst}
 use Rattle.actor_words.specs.Judged.{judged}
-use Rattle.tx_actor.specs.Answers.{CanAccept, CopiesAfter}
+use Rattle.tx_actor.specs.Answers.{CanAccept}
+use Rattle.tx_actor.specs.Having.{HasGone}
 use Rattle.tx_actor.specs.Copying.{AreReadyAt}
 use Rattle.tx_actor.specs.Keeping.{CanGoOn, KeepsIn}
 use Rattle.tx_actor.specs.Running.{at}
@@ -9,6 +10,7 @@ use Rattle.tx_actor.specs.declared.actor.TxActor.{TxActor}
 use Rattle.tx_actor.specs.declared.prepares.Prepared.{Prepared}
 use Rattle.tx_actor.specs.declared.prepares.Readied.{Readied}
 use Rattle.tx_actor.proofs.CopyingLemmas.{goes_on_as, keeps_going, keeps_open, keeps_starving, too_long_as}
+use Rattle.tx_actor.proofs.HavingLemmas.{copies_idle}
 use Rattle.tx_actor.proofs.LoadLemmas as load
 use Rattle.tx_actor.proofs.actor.TxActor.has_copied.Goals as goal
 
@@ -88,9 +90,9 @@ returns-in-Ok-Some-clause-copies g c =
       there = ready.2;
       is = ready.3;
       ready = ready.4;
-      after = subst
-          (λ (p : Prepared g.row.V.Denot). CopiesAfter (judged u.words.reads.entries p.left.items) p.call u.copies.items n.copies.items)
-          c.prepared-prepared.ensures c.goes_on.ensures.copies;
+      goes = subst
+          (λ (p : Prepared g.row.V.Denot). HasGone (judged u.words.reads.entries p.left.items) u n c.goes_on.result p.call p.left.items)
+          c.prepared-prepared.ensures c.goes_on.ensures.goes;
     })
 
 pub returns-in-Ok-None-clause-copies : goal.returns-in-Ok-None-clause-copies
@@ -98,4 +100,9 @@ returns-in-Ok-None-clause-copies g c =
     let u = c.copies_for.new.self in
     let none = subst (λ (o : Option (ℕ × Readied g.row.V.Denot)). AreReadyAt c.args.blocks.now c.args.self.now u c.args.base.now c.args.asked o)
     c.in-Ok-None.field-0-is c.in-Ok-None.ensures.ok in
-    inl (refl, ap (λ (z : TxActor g.row.V.Denot). z.copies) none.0)
+    inl (refl, ap (λ (z : TxActor g.row.V.Denot). z.copies.items) none.0, refl)
+
+pub returns-in-Err-clause-leaves : goal.returns-in-Err-clause-leaves
+returns-in-Err-clause-leaves g c =
+    copies_idle (at c.args.self.now (stage.Copying c.args.asked)) c.copies_for.new.self c.starves_copying.new.self
+    c.starves_copying.ensures.leaves

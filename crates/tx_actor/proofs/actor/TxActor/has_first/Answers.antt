@@ -3,6 +3,13 @@ use Rattle.tx_actor.proofs.LoadLemmas.{first_rest, goes_as, stale_as}
 use Rattle.word_machine.specs.Notices as notice
 use Rattle.tx_actor.specs.declared.actor.Stage.TheVariants as stage
 use Rattle.tx_actor.proofs.HeardLemmas.{heard_ends, heard_goes}
+use Rattle.std.proofs.Common.{inl, inr, subst, sym}
+use Rattle.tx_sets.specs.Entries.{Entries}
+use Rattle.actor_words.specs.Judged.{judged}
+use Rattle.tx_actor.specs.Having.{HasFound}
+use Rattle.tx_actor.specs.Running.{at}
+use Rattle.tx_actor.proofs.GoneLemmas.{gone_at}
+use Rattle.tx_actor.proofs.HavingLemmas.{asks_nothing}
 use Rattle.tx_actor.proofs.actor.TxActor.has_first.Goals as goal
 
 pub returns-then-copied-edition-clause-does : goal.returns-then-copied-edition-clause-does
@@ -30,3 +37,25 @@ returns-clause-keeps g c v =
     heard_goes v c.args.self.now c.goes_on.new.self c.args.call left c.args.first c.pop_front.new.self.items c.args.edition
     (first_rest left.items c.args.first _ c.requires.first c.pop_front.ensures.rest) (c.goes_on.ensures.keeps v)
     (c.goes_on.ensures.owed)
+
+-- what is left of the copies
+pub returns-then-copied-edition-clause-goes : goal.returns-then-copied-edition-clause-goes
+returns-then-copied-edition-clause-goes g c =
+    let left = c.args.left in
+    let r = at c.args.self.now (stage.Loading c.args.call left) in
+    subst (λ (fs : Entries). HasFound r c.gives_up.new.self c.gives_up.result c.args.call fs c.args.edition)
+    (sym (first_rest left.items c.args.first (drop 1 left.items) c.requires.first refl))
+    (inr (c.if-copied-edition.true, asks_nothing c.args.self.now c.gives_up.new.self c.gives_up.ensures.leaves))
+
+pub returns-clause-goes : goal.returns-clause-goes
+returns-clause-goes g c =
+    let left = c.args.left in
+    let s = stage.Loading c.args.call left in
+    let es = c.pop_front.new.self.items in
+    let old = c.args.self.now in
+    subst (λ (fs : Entries). HasFound (at old s) c.goes_on.new.self c.goes_on.result c.args.call fs c.args.edition)
+    (sym (first_rest left.items c.args.first es c.requires.first c.pop_front.ensures.rest))
+    (inl (
+      c.if-copied-edition.false,
+      gone_at (judged old.words.reads.entries es) old c.goes_on.new.self c.goes_on.result c.args.call es s c.goes_on.ensures.goes,
+    ))

@@ -2,6 +2,12 @@ use Rattle.std.proofs.Common.{sym, ◌∙◌}
 use Rattle.word_machine.specs.Notices as notice
 use Rattle.tx_actor.proofs.LoadLemmas.{none_as}
 use Rattle.tx_actor.proofs.HeardLemmas.{heard_none}
+use Rattle.std.proofs.Common.{subst}
+use Rattle.tx_sets.specs.Entries.{Entries}
+use Rattle.tx_actor.specs.Having.{HasFound}
+use Rattle.tx_actor.specs.Running.{at}
+use Rattle.tx_actor.specs.declared.actor.Stage.TheVariants as stage
+use Rattle.tx_actor.proofs.GoneLemmas.{first_none}
 use Rattle.tx_actor.proofs.actor.TxActor.has_found.Goals as goal
 
 pub returns-in-None-clause-does : goal.returns-in-None-clause-does
@@ -16,3 +22,12 @@ returns-in-None-clause-keeps g c v =
 
 pub returns-in-Some-clause-keeps : goal.returns-in-Some-clause-keeps
 returns-in-Some-clause-keeps g c v = c.has_first.ensures.keeps v
+
+pub returns-in-None-clause-goes : goal.returns-in-None-clause-goes
+returns-in-None-clause-goes g c =
+    let r = at c.args.self.now (stage.Loading c.args.call c.args.left) in
+    subst (λ (fs : Entries). HasFound r c.stays.new.self c.stays.result c.args.call fs c.args.edition)
+    (sym (first_none c.args.left.items (sym c.first_left.ensures ∙ c.in-None.is))) (c.stays.ensures.stage, c.stays.ensures.told)
+
+pub returns-in-Some-clause-goes : goal.returns-in-Some-clause-goes
+returns-in-Some-clause-goes g c = c.has_first.ensures.goes

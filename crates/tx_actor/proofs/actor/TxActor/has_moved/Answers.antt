@@ -3,6 +3,8 @@ use Rattle.word_machine.specs.Notices as notice
 use Rattle.tx_actor.proofs.LoadLemmas.{moved_as, none_as}
 use Rattle.tx_actor.specs.declared.actor.Stage.TheVariants as stage
 use Rattle.tx_actor.proofs.HeardLemmas.{heard_ends, moved_none}
+use Rattle.std.proofs.Common.{inl, inr}
+use Rattle.tx_actor.proofs.HavingLemmas.{asks_nothing}
 use Rattle.tx_actor.proofs.actor.TxActor.has_moved.Goals as goal
 
 pub returns-in-None-clause-does : goal.returns-in-None-clause-does
@@ -24,3 +26,9 @@ pub returns-in-Some-clause-keeps : goal.returns-in-Some-clause-keeps
 returns-in-Some-clause-keeps g c v =
     heard_ends v c.args.self.now c.gives_up.new.self (stage.Loading c.args.call c.args.left) (notice.Moved c.args.location c.args.word)
     (c.gives_up.ensures.keeps v)
+
+pub returns-in-None-clause-goes : goal.returns-in-None-clause-goes
+returns-in-None-clause-goes g c = inr (c.stays.ensures.stage, c.stays.ensures.told)
+
+pub returns-in-Some-clause-goes : goal.returns-in-Some-clause-goes
+returns-in-Some-clause-goes g c = inl (asks_nothing c.args.self.now c.gives_up.new.self c.gives_up.ensures.leaves)

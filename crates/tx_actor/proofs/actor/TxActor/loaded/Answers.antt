@@ -4,6 +4,7 @@ use Rattle.tx_actor.specs.declared.actor.Stage.TheVariants as stage
 use Rattle.tx_actor.proofs.LoadLemmas.{load_at_stage, load_heard}
 use Rattle.actor_words.specs.Dispatch.{notice_told}
 use Rattle.tx_actor.proofs.HeardLemmas.{heard_apart, heard_at}
+use Rattle.tx_actor.proofs.GoneLemmas.{apart_loaded, loaded_at}
 use Rattle.tx_actor.proofs.actor.TxActor.loaded.Goals as goal
 
 pub returns-in-Loading-clause-does : goal.returns-in-Loading-clause-does
@@ -24,3 +25,17 @@ returns-in_default-clause-keeps g c v =
     let n = notice_told c.args.told in
     heard_at v c.args.self.now c.stays.new.self other n n (sym c.replace-stage.ensures.value) refl
     (heard_apart v (at c.args.self.now other) c.stays.new.self n c.stays.ensures.stage c.in_default.not-Loading)
+
+pub returns-in-Loading-clause-goes : goal.returns-in-Loading-clause-goes
+returns-in-Loading-clause-goes g c =
+    let now = stage.Loading c.in-Loading.call c.in-Loading.left in
+    loaded_at c.args.self.now c.has_loaded.new.self c.has_loaded.result now _ _ (sym c.replace-stage.ensures.value ∙ c.in-Loading.is)
+    c.of_told-heard.ensures c.has_loaded.ensures.goes
+
+pub returns-in_default-clause-goes : goal.returns-in_default-clause-goes
+returns-in_default-clause-goes g c =
+    let other = c.replace-stage.result in
+    let n = notice_told c.args.told in
+    loaded_at c.args.self.now c.stays.new.self c.stays.result other n n (sym c.replace-stage.ensures.value) refl
+    (apart_loaded (at c.args.self.now other) c.stays.new.self c.stays.result other n c.in_default.not-Loading
+    (c.stays.ensures.stage, c.stays.ensures.told))
