@@ -1,9 +1,7 @@
--- An event that is fed to the parts of a world is the event of an actor at a place, or one that changes nothing; and in a world without
--- collections no step asks for a gate.
-use Rattle.std.proofs.Common.{◌≡◌, ℕ, zero, suc, ◌+◌, ◌<◌, ◌≢◌, Bool, true, false, List, [], ◌∷◌, ◌++◌, Some, inl, inr, refl, sym, ap, ◌∙◌, subst, arith, drop, length, get_or, take, take-suc, ◌≤◌}
+-- An event that is fed to the parts of a world is the event of an actor at a place, or one that changes nothing.
+use Rattle.std.proofs.Common.{◌≡◌, ℕ, zero, suc, ◌+◌, ◌<◌, ◌≢◌, Bool, true, false, List, [], ◌∷◌, ◌++◌, Some, inl, inr, refl, sym, ap, ◌∙◌, subst, arith, length, get_or, take, take-suc, ◌≤◌}
 use Rattle.std.specs.Prelude.{if◌then◌else◌, slice_get, IfErr, Result, Ok, Err}
 use Rattle.std.specs.Result.{IsErrAnd}
-use Rattle.std.specs.List.{All}
 use Rattle.std.proofs.lemmas.Bool.{cases_Bool}
 use Rattle.seq_model.specs.declared.event.Event.{Event}
 use Rattle.seq_model.specs.declared.event.Event.TheVariants.{Step}
@@ -13,48 +11,29 @@ use Rattle.seq_model.specs.declared.refusal.Refusal.{Refusal}
 use Rattle.seq_model.specs.declared.refusal.Refusal.TheVariants.{NoSuch, NoTransaction, OutOfMemory}
 use Rattle.seq_model.specs.Refusals.{IsNoSuchOrTooLong}
 use Rattle.seq_model.specs.Contents.{Contents}
-use Rattle.seq_model.specs.declared.held.Held.{Held}
 use Rattle.step_core.specs.Shown.{is_actor}
-use Rattle.replay_log.specs.Contents.{Block, end_of}
 use Rattle.replay_log.specs.WorldProgress.{whose}
 use Rattle.replay_log.specs.Worlds.{After, World, happens, opened}
 use Rattle.replay_log.proofs.EventLemmas.{run-append}
-use Rattle.atomic_steps.proofs.Others.{others}
-use Rattle.actor_words.specs.Dispatch.{first, is_loading, next_home, next_of, next_put, next_try}
-use Rattle.actor_words.specs.declared.next.Next.{Next}
+use Rattle.actor_words.specs.Dispatch.{is_loading, next_of}
 use Rattle.actor_words.specs.declared.next.Next.TheVariants as next
-use Rattle.tx_actor.specs.Keeping.{NamesAmong}
 use Rattle.tx_actor.specs.Running.{notice_of, stage_of}
+use Rattle.std.specs.declared.alloc.Global.{Global}
+use Rattle.std.specs.declared.collections.VecDeque.{VecDeque}
+use Rattle.tx_actor.specs.declared.actor.Answered as running
 use Rattle.tx_actor.specs.declared.actor.Stage as own
 use Rattle.tx_actor.specs.declared.actor.Stage.TheVariants as stage
 use Rattle.tx_actor.specs.declared.actor.Told.{Told}
 use Rattle.tx_actor.specs.declared.actor.Told.TheVariants as told
 use Rattle.tx_actor.specs.declared.actor.TxActor.{TxActor}
-use Rattle.world_table.specs.Openings.{blocks_of, world_of}
+use Rattle.world_table.specs.Openings.{world_of}
 use Rattle.running_world.specs.declared.parts.Parts.{Parts}
-use Rattle.running_world.specs.Feeds.{Feeds, IsWell, fed, fed_all}
-use Rattle.running_world.specs.Parts.{Happens, IsWorld}
+use Rattle.running_world.specs.Feeds.{Feeds, fed, fed_all}
+use Rattle.running_world.specs.Parts.{Happens, HasWorld, IsWorld}
 use Rattle.running_world.specs.Reached.{IsReached}
 use Rattle.running_world.proofs.TurnLemmas.{nothing_is}
+use Rattle.actor_words.proofs.BlocksLemmas.{end_behind}
 use Rattle.running_world.proofs.WorldLemmas.{shape_laid}
-
--- the next step asks for no gate
-abbrev IsPlain : Next → Type 0
-IsPlain next.Nothing = Unit {0}
-IsPlain next.Word = Unit {0}
-IsPlain next.FirstStore = Unit {0}
-IsPlain n = ⊥
-
-none_below : (xs : List ℕ) → All (λ k. k < 0) xs → xs ≡ []
-none_below [] h = refl
-none_below (x ∷ xs) h = (let low : x < 0 = h 0 0 (omega arith) in absurd (omega (arith, low)))
-
-drop_none : (i : ℕ) (xs : List ℕ) → xs ≡ [] → drop i xs ≡ []
-drop_none i xs e = ap (λ (ys : List ℕ). drop i ys) e ∙ drop_nil i
-  where
-    drop_nil : (i : ℕ) → let none : List ℕ = [] in drop i none ≡ none
-    drop_nil zero = refl
-    drop_nil (suc i) = refl
 
 take_all : {X : Type 0} → (xs : List X) (i : ℕ) → length xs ≤ i → take i xs ≡ xs
 take_all [] zero h = refl
@@ -68,24 +47,15 @@ pub memory_refused : {A O F : Type 0} → (r : Result A Refusal) → (¬ O) × F
 memory_refused {A} {O} {F} (Ok x) fits h = tt
 memory_refused {A} {O} {F} (Err e) fits h = subst (λ (x : Refusal). IsNoSuchOrTooLong x O F) (sym h) fits
 
+-- as many numbers of stripes as collections, and so not another number of them
+pub fits_as : {F : Type 0} → {m n : ℕ} → (m ≡ n) × F → (¬ (m ≢ n)) × F
+fits_as fits = (λ apart. apart fits.0, fits.1)
+
 module _ {V : Type 0} where
-  plain_next : (t : own.Stage V) → NamesAmong 0 t → IsPlain (next_of (stage_of t))
-  plain_next (stage.Trying asked tries) h = absurd (omega (arith, h))
-  plain_next (stage.Copying asked) h = absurd (omega (arith, h))
-  plain_next (stage.Loading o left) h = absurd (omega (arith, h))
-  plain_next (stage.Gating homes got tries) h =
-      subst (λ (xs : List ℕ). IsPlain (next_try (first xs))) (sym (drop_none got homes.items (none_below homes.items h))) tt
-  plain_next (stage.Homing homes) h = subst (λ (xs : List ℕ). IsPlain (next_home (first xs))) (sym (none_below homes.items h)) tt
-  plain_next (stage.Returning homes) h = subst (λ (xs : List ℕ). IsPlain (next_put (first xs))) (sym (none_below homes.items h)) tt
-  plain_next (stage.ReturningOne k) h = absurd (omega (arith, h))
-  plain_next t h = tt
-
-  pub no_copy : (t : own.Stage V) (k : ℕ) → NamesAmong 0 t → next_of (stage_of t) ≡ next.Copy k → ⊥
-  no_copy t k h e = subst (λ (n : Next). IsPlain n) e (plain_next t h)
-
-  pub no_load : (t : own.Stage V) → NamesAmong 0 t → is_loading (stage_of t) ≡ false
-  no_load (stage.Loading o left) h = absurd (omega (arith, h))
-  no_load t h = refl
+  pub quiet_unless : (t : own.Stage V) → ((o : running.Answered V) (left : VecDeque (ℕ × ℕ) Global) → t ≡ stage.Loading o left → ⊥)
+      → is_loading (stage_of t) ≡ false
+  quiet_unless (stage.Loading o left) p = absurd (p o left refl)
+  quiet_unless t p = refl
 
   pub nothing_happens : (c : Parts V) (i : ℕ) (r : TxActor V) → slice_get c.actors.items i ≡ Some r
       → next_of (stage_of r.stage) ≡ next.Nothing → Happens c (Step (i + 1)) c (told.Refused NoTransaction)
@@ -138,46 +108,24 @@ module _ {V : Type 0} where
     | inr isnt ↦ subst (λ (p : After V). IsReached o p.0) (sym (fed_none w e isnt)) h
   ]
 
-  blocks_stay : (w : World V) (e : Event V) → (happens w e).0.blocks ≡ w.blocks
-  blocks_stay w e =
-      let next : suc (whose e) ≢ whose e = λ q. omega (arith, q) in
-      sym (others w e (suc (whose e)) next).blocks
-
-  blocks_fed : (w : World V) (e : Event V) → (fed w e).0.blocks ≡ w.blocks
-  blocks_fed w e = elim (cases_Bool (is_actor (whose e))) [
-    | inl is ↦ ap (λ (p : After V). p.0.blocks) (fed_one w e is) ∙ blocks_stay w e
-    | inr isnt ↦ ap (λ (p : After V). p.0.blocks) (fed_none w e isnt)
-  ]
-
-  pub well_fed : (c d : Parts V) (e : Event V) (n : Notice V) → IsWell c → Feeds c e d n → IsWell d
-  well_fed c d e n well h =
-      let w = well.world.world in
-      let o = well.world.opening in
-      let k = well.world.parts in
-      let after = h.parts o w well.world.reached k in
-      record {
-        world = record { opening = o; world = (fed w e).0; reached = reached_fed o w e well.world.reached; parts = after };
-        none = sym after.laid.1 ∙ (blocks_fed w e ∙ (k.laid.1 ∙ well.none));
-      }
-
-  no_blocks : (ns : List ℕ) (hs : List (Held V)) → hs ≡ [] → blocks_of ns hs ≡ []
-  no_blocks [] hs e = refl
-  no_blocks (n ∷ ns) [] e = refl
-  no_blocks (n ∷ ns) (h ∷ hs) e = let z : ⊥ = cc in absurd z
-
-  pub opened_well : (c : Parts V) (ns : List ℕ) (clock : ℕ) (s : Contents V) → s.held ≡ [] → IsReached s (world_of ns clock s)
-      → IsWorld c (world_of ns clock s) → IsWell c
-  opened_well c ns clock s none reached h = record {
-    world = record { opening = s; world = world_of ns clock s; reached = reached; parts = h };
-    none = sym h.laid.1 ∙ no_blocks ns s.held none;
+  pub well_fed : (c d : Parts V) (e : Event V) (n : Notice V) → HasWorld c → Feeds c e d n → HasWorld d
+  well_fed c d e n well h = record {
+    opening = well.opening;
+    world = (fed well.world e).0;
+    reached = reached_fed well.opening well.world e well.reached;
+    parts = h.parts well.opening well.world well.reached well.parts;
   }
 
+  pub opened_well : (c : Parts V) (ns : List ℕ) (clock : ℕ) (s : Contents V) → IsReached s (world_of ns clock s)
+      → IsWorld c (world_of ns clock s) → HasWorld c
+  opened_well c ns clock s reached h = record { opening = s; world = world_of ns clock s; reached = reached; parts = h }
+
   -- the words are among the values of the table
-  pub words_fit : (c : Parts V) → IsWell c → c.blocks.words ≤ length c.table.cells.values.items
+  pub words_fit : (c : Parts V) → HasWorld c → c.blocks.words ≤ length c.table.cells.values.items
   words_fit c h =
-      let all = (shape_laid c h.world.world h.world.parts).values in
-      let none = ap (λ (bs : List Block). end_of c.blocks.words bs) h.none in
-      omega (arith, all, none)
+      let all = (shape_laid c h.world h.parts).values in
+      let behind = end_behind c.blocks.words c.blocks.blocks in
+      omega (arith, all, behind)
 
   -- ---- a list of events
   -- c are the parts of the world that these events lead to from w, which opened on o

@@ -72,7 +72,7 @@ module _ {V : Type 0} where
       ∙ ((reached_linked o w reached).seats a).gates k ∙ loading_none (w.seats a).stage k at))
 
   -- ---- a copy
-  copy_is : (s : Stage V) (k : ℕ) → next_of s ≡ next.Copy k → (asked : Asked V) × (s ≡ Copying asked) × (asked.collection ≡ k)
+  pub copy_is : (s : Stage V) (k : ℕ) → next_of s ≡ next.Copy k → (asked : Asked V) × (s ≡ Copying asked) × (asked.collection ≡ k)
   copy_is (Copying asked) k e = (asked, refl, cc)
   copy_is (Loading o []) k e = let z : ⊥ = cc in absurd z
   copy_is (Loading o (d ∷ es)) k e = let z : ⊥ = cc in absurd z

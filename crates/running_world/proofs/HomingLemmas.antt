@@ -154,11 +154,11 @@ module _ {V : Type 0} where
   has_left s v a homes (stage.Homing left) cs keep own = own
   has_left s v a homes t cs keep own = tt
 
-  pub keeps_home : AreSteps V → EventsStay V → StaysLaw V → StandLaw V → OthersLaw V → (b : BlocksView) (a k : ℕ) (r s : TxActor V)
+  pub keeps_home : AreSteps V → EventsStay V → StaysLaw V → StandLaw V → OthersLaw V → (b : BlocksView) (a k : ℕ) (t : Table V) (r s : TxActor V)
       → next_of (stage_of r.stage) ≡ next.GoHome k → OthersStand k r.copies.items s.copies.items
-      → KeepsFrom s.stage r.stage s.copies.items s.copies.items → KeepsOwn b (Step a) r s
-  keeps_home steps stays stay stand law b a k r s due copies keep = record {
-    own = λ o w reached laid runs after running h.
+      → KeepsFrom s.stage r.stage s.copies.items s.copies.items → KeepsOwn b (Step a) t r s
+  keeps_home steps stays stay stand law b a k t r s due copies keep = record {
+    own = λ o w reached laid has runs after running h.
         let v = (happens w (Step a)).0 in
         let at = homing_is r.stage k due in
         let st : (w.seats a).stage ≡ Homing (k ∷ (home_is (stage_of r.stage) k due).0) =

@@ -13,3 +13,4 @@ pub mod TurnLemmas
 pub mod LoadLemmas
 pub mod WorldLemmas
 mod OwnTurnLemmas
+mod CopyTurnLemmas

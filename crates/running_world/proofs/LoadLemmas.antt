@@ -20,21 +20,23 @@ use Rattle.actor_words.specs.Dispatch.{AreSteps, is_loading, next_load, next_of,
 use Rattle.actor_words.specs.declared.next.Next.TheVariants as next
 use Rattle.tx_actor.specs.Answers.{IsLoadOf}
 use Rattle.tx_actor.specs.Dispatch.{HasRoom}
-use Rattle.tx_actor.specs.Having.{HasCopiesAt}
+use Rattle.tx_actor.specs.Having.{HasCopies, HasCopiesAt, HasLoaded}
 use Rattle.tx_actor.specs.Keeping.{HasHeard, IsRunning}
 use Rattle.tx_actor.specs.Loading.{MayHear, OwnsCallAt}
 use Rattle.tx_actor.specs.Loads.{IsLoadable, IsToldLoad, MayLoad, after_load}
 use Rattle.tx_actor.specs.Reading.{LoadsKeep}
-use Rattle.tx_actor.specs.Running.{KnowsHomes, Runs, seat_of, stage_in, stage_of}
+use Rattle.tx_actor.specs.Running.{KnowsHomes, Runs, notice_of, seat_of, stage_in, stage_of}
+use Rattle.tx_actor.specs.Staying.{LoadsStayOwn}
 use Rattle.tx_actor.specs.Seated.{SeatsActors}
 use Rattle.tx_actor.specs.declared.actor.Stage as own
 use Rattle.tx_actor.specs.declared.actor.Stage.TheVariants as stage
 use Rattle.tx_actor.specs.declared.actor.Told.{Told}
 use Rattle.tx_actor.specs.declared.actor.TxActor.{TxActor}
 use Rattle.world_table.specs.declared.table.Table.{Table}
-use Rattle.running_world.specs.Loading.{IsSeen}
+use Rattle.running_world.specs.Loading.{IsSeated}
 use Rattle.running_world.specs.Reached.{IsReached}
-use Rattle.running_world.specs.Turns.{IsTurn}
+use Rattle.running_world.specs.Turns.{IsTurn, KeepsOwn}
+use Rattle.running_world.proofs.OwnTurnLemmas.{OthersLaw, StandLaw, others_keep}
 use Rattle.running_world.proofs.SeatLemmas.{loading_as, next_as}
 use Rattle.running_world.proofs.TurnLemmas.{StepsWords, action_has, due_as, due_word}
 
@@ -74,7 +76,7 @@ module _ {V : Type 0} where
 
   -- the load may be heard, as it may in a world that shows the actor
   pub load_heard : AreSteps V → LoadsKeep V → (v : BlocksView) (t u : Table V) (r : TxActor V) (y : running.Actor)
-      (told : Result (Option WordAnswer) WordRefusal) → is_loading (stage_of r.stage) ≡ true → IsRunning v r → IsSeen t r
+      (told : Result (Option WordAnswer) WordRefusal) → is_loading (stage_of r.stage) ≡ true → IsRunning v r → IsSeated v t r
       → StepsWords t r.words u y told → (IsLoad r.words.place → KeepsRoom r.words y) → ((n : ℕ) → Fits n r.words → Fits n y)
       → let m : TxActor V = record r { words = y } in
       IsLoadable m m.stage (notice_told told) × HasHeard v m (notice_told told)
@@ -82,10 +84,10 @@ module _ {V : Type 0} where
       let w = seen.world in
       let a = seen.actor in
       let m : TxActor V = record r { words = y } in
-      let took = step w a seen.table seen.shows in
+      let took = step w a seen.table seen.runs.1 in
       let same : word_notice w a ≡ notice_told told = sym (steps.told (word_notice w a)) ∙ ap notice_told (sym took.2) in
       subst (λ (n : notice.Notice). IsLoadable m m.stage n × HasHeard v m n) same
-      (keep v r y w a loading runs room fits seen.shows took.1)
+      (keep v r y w a loading runs room fits seen.runs.1 took.1)
 
   pub load_turns : AreSteps V → MayHear V → SeatsActors V → (b v : BlocksView) (a : ℕ) (t u : Table V) (r s : TxActor V)
       (y : running.Actor) (told : Result (Option WordAnswer) WordRefusal) (n : Told V) → is_loading (stage_of r.stage) ≡ true
@@ -115,4 +117,36 @@ module _ {V : Type 0} where
           subst (λ (p : After V). Runs a s p.0) (sym e) after.0,
           after.1 ∙ sym (ap (λ (p : After V). p.1) e),
         ));
+  }
+
+  -- what the actor has of collections then
+  moved_copies : (r : TxActor V) (y : running.Actor) (w : World V) (a : ℕ) (s : own.Stage V) → is_loading (stage_of s) ≡ true
+      → HasCopiesAt r w a s → (let m : TxActor V = record r { words = y } in HasCopiesAt m w a s)
+  moved_copies r y w a (stage.Loading o left) e h =
+      record { stripes = h.stripes; once = h.once; others = h.others; call = h.call; at = h.at; read = h.read }
+  moved_copies r y w a s e h = absurd (true≢false (sym e))
+
+  own_in : LoadsStayOwn V → (o : Contents V) (w : World V) (a : ℕ) (m s : TxActor V) (n : Told V) → IsReached o w
+      → is_loading (stage_of m.stage) ≡ true → Runs a m (acted w (moves a ∷ [])) → HasCopies m w a → HasLoaded m s n m.stage (word_notice w a)
+      → Runs a s (happens w (Step a)).0 → notice_of a n ≡ (happens w (Step a)).1 → HasCopies s (happens w (Step a)).0 a
+  own_in law o w a m s n h =
+      subst (λ (z : World V). is_loading (stage_of m.stage) ≡ true → Runs a m (acted z (moves a ∷ [])) → HasCopies m z a
+      → HasLoaded m s n m.stage (word_notice z a) → Runs a s (happens z (Step a)).0 → notice_of a n ≡ (happens z (Step a)).1
+      → HasCopies s (happens z (Step a)).0 a) h.world
+      (law h.blocks h.clock o.words o.held h.events a m s n h.stripes)
+
+  pub load_own : AreSteps V → LoadsStayOwn V → StandLaw V → OthersLaw V → (v : BlocksView) (a : ℕ) (t u : Table V) (r s : TxActor V)
+      (y : running.Actor) (told : Result (Option WordAnswer) WordRefusal) (n : Told V) → is_loading (stage_of r.stage) ≡ true
+      → StepsWords t r.words u y told → IsTurn v (Step a) t r u s n
+      → (let m : TxActor V = record r { words = y } in HasLoaded m s n m.stage (notice_told told)) → KeepsOwn v (Step a) t r s
+  load_own steps law stand other v a t u r s y told n loading step turn got = record {
+    own = λ o w reached laid has runs after ready copies. (
+        let z = acted w (moves a ∷ []) in
+        let m : TxActor V = record r { words = y } in
+        let took = step w a has runs.1 in
+        let here : Runs a m z = (runs.0, took.1, knows_loading r.stage (written_homes z a) loading) in
+        let same : word_notice w a ≡ notice_told told = sym (steps.told (word_notice w a)) ∙ ap notice_told (sym took.2) in
+        own_in law o w a m s n reached loading here (moved_copies r y w a r.stage loading copies)
+        (subst (HasLoaded m s n m.stage) (sym same) got) after (turn.turns o w reached laid has runs copies).2);
+    others = others_keep stand other (Step a);
   }

@@ -97,7 +97,7 @@ abbrev pub BlocksLaw : Type 0 → Type 0
 BlocksLaw V = (v : BlocksView) (r : TxActor V) (w : World V) (a : ℕ) → IsLaid v w → OwnsCopies r w a → AreOfBlocks v r.copies.items
 
 -- a word actor that rests in the machine
-rests_at : (x : running.Actor) (p : Place) → words.place_of x.reads.entries x.writes.entries p ≡ AtRest → p ≡ place.Open
+pub rests_at : (x : running.Actor) (p : Place) → words.place_of x.reads.entries x.writes.entries p ≡ AtRest → p ≡ place.Open
 rests_at x place.Open e = refl
 rests_at x p e = let z : ⊥ = cc in absurd z
 
@@ -166,10 +166,10 @@ module _ {V : Type 0} where
       (begins h.blocks h.clock o.words o.held h.events a rv h.stripes h.suits)
 
   pub keeps_step : StepsLaw V → BegunLaw V → EventsStay V → BeginsWithNothing V → StandLaw V → OthersLaw V → (b : BlocksView) (a : ℕ)
-      (r s : TxActor V) → is_loading (stage_of r.stage) ≡ false → ((asked : Asked V) → stage_of r.stage ≡ Copying asked → ⊥)
-      → KeepsCopies r s → KeepsOwn b (Step a) r s
-  keeps_step steps begun stays begins stand law b a r s quiet calm keep = record {
-    own = λ o w reached laid runs after running h.
+      (t : Table V) (r s : TxActor V) → is_loading (stage_of r.stage) ≡ false → ((asked : Asked V) → stage_of r.stage ≡ Copying asked → ⊥)
+      → KeepsCopies r s → KeepsOwn b (Step a) t r s
+  keeps_step steps begun stays begins stand law b a t r s quiet calm keep = record {
+    own = λ o w reached laid has runs after running h.
         let x = w.seats a in
         let v = (happens w (Step a)).0 in
         let st : x.stage ≡ stage_of r.stage = stage_by x r quiet runs.0 in
@@ -191,10 +191,10 @@ module _ {V : Type 0} where
   }
 
   -- ---- a want of memory
-  pub keeps_starve : StepsLaw V → BegunLaw V → EventsStay V → StandLaw V → OthersLaw V → (b : BlocksView) (a : ℕ) (r s : TxActor V)
-      → KeepsCopies r s → KeepsOwn b (Starve a) r s
-  keeps_starve steps begun stays stand law b a r s keep = record {
-    own = λ o w reached laid runs after running h.
+  pub keeps_starve : StepsLaw V → BegunLaw V → EventsStay V → StandLaw V → OthersLaw V → (b : BlocksView) (a : ℕ) (t : Table V) (r s : TxActor V)
+      → KeepsCopies r s → KeepsOwn b (Starve a) t r s
+  keeps_starve steps begun stays stand law b a t r s keep = record {
+    own = λ o w reached laid has runs after running h.
         let x = w.seats a in
         let v = (happens w (Starve a)).0 in
         elim (begins_or r.stage) [
@@ -244,11 +244,11 @@ module _ {V : Type 0} where
   Apart r s = r.stage ≢ stage.Open → (s.stage ≡ stage.Beginning) ⊎ (s ≡ r)
 
   pub keeps_ask : EventsStay V → StaysLaw V → JoinsLaw V → AskedLaw V → AllLaw V → StandLaw V → OthersLaw V → CallsLaw V → (b : BlocksView)
-      (a : ℕ) (q : Request V) (r s : TxActor V) (n : Told V)
+      (a : ℕ) (q : Request V) (t : Table V) (r s : TxActor V) (n : Told V)
       → AsksAt b r s n (λ a w. ask_at w a (seat_of r) (stage_of r.stage) q) → ReadsStill r.copies.items s.copies.items → Apart r s
-      → KeepsOwn b (Ask a q) r s
-  keeps_ask stays stay join asked all stand law calls b a q r s n asks still apart = record {
-    own = λ o w reached laid runs after running h.
+      → KeepsOwn b (Ask a q) t r s
+  keeps_ask stays stay join asked all stand law calls b a q t r s n asks still apart = record {
+    own = λ o w reached laid has runs after running h.
         let f = happens w (Ask a q) in
         let v = f.0 in
         let e : f ≡ ask_at w a (seat_of r) (stage_of r.stage) q = asked_as w a q r runs in

@@ -1,7 +1,7 @@
 -- An event of the actor at a place leaves a world with the parts that its method leaves: the table and the actor by what the event makes
 -- of both, the records and the aborted transactions by what a step adds to them.
 use Rattle.std.proofs.Common.{◌≡◌, ℕ, ◌+◌, ◌≤◌, Bool, true, false, List, [], ◌∷◌, ◌++◌, map, Option, Some, None, refl, sym, ap, ◌∙◌}
-use Rattle.std.proofs.Common.{subst, inl, arith}
+use Rattle.std.proofs.Common.{subst, inl, arith, true≢false}
 use Rattle.std.specs.Prelude.{slice_get, slice_set}
 use Rattle.std.specs.declared.alloc.Global.{Global}
 use Rattle.std.specs.declared.vec.Vec.{Vec}
@@ -16,9 +16,9 @@ use Rattle.seq_model.specs.declared.event.Event.{Event}
 use Rattle.seq_model.specs.declared.event.Event.TheVariants.{Ask, Step, Starve}
 use Rattle.seq_model.specs.declared.event.Request.{Request}
 use Rattle.seq_model.specs.declared.record.Record.{Record}
-use Rattle.replay_log.specs.Contents.{Block}
+use Rattle.replay_log.specs.Contents.{Asked, Block}
 use Rattle.replay_log.specs.Seats as seats
-use Rattle.replay_log.specs.Worlds.{World, Seat, Stage, Closing, Leaving, Ready, ask_at}
+use Rattle.replay_log.specs.Worlds.{World, Seat, Stage, Closing, Copying, Leaving, Loading, Ready, ask_at}
 use Rattle.replay_log.specs.WorldTraces.{committed_by, ended_by, with_record}
 use Rattle.replay_log.proofs.TraceLemmas.{asked_adds, starved_adds, steps_end}
 use Rattle.step_core.specs.CellSteps.{Grows}
@@ -45,7 +45,7 @@ use Rattle.running_world.specs.Parts.{Happens, IsStarved, Stays, ended_of}
 use Rattle.running_world.specs.Homes.{HasRoomLeft}
 use Rattle.running_world.specs.Reached.{IsReached}
 use Rattle.running_world.specs.Turns.{IsTurn, KeepsOwn, KeepsRoom}
-use Rattle.running_world.proofs.SeatLemmas.{seated_by, stage_by}
+use Rattle.running_world.proofs.SeatLemmas.{seat_loading, seated_by, stage_by}
 use Rattle.running_world.proofs.TurnLemmas.{first_is, starve_turns}
 use Rattle.running_world.proofs.OwnTurnLemmas.{CallsLaw, ask_turns}
 use Rattle.running_world.proofs.WorldLemmas.{stood, turned}
@@ -65,7 +65,7 @@ module _ {V : Type 0} where
 
   pub step_happens : (c d : Parts V) (i : ℕ) (r s : TxActor V) (n : Told V) → slice_get c.actors.items i ≡ Some r
       → d.blocks ≡ c.blocks → d.actors.items ≡ slice_set c.actors.items i s
-      → IsTurn c.blocks (Step (i + 1)) c.table r d.table s n → KeepsOwn c.blocks (Step (i + 1)) r s
+      → IsTurn c.blocks (Step (i + 1)) c.table r d.table s n → KeepsOwn c.blocks (Step (i + 1)) c.table r s
       → KeepsRoom (Step (i + 1)) c.table r d.table s
       → ((m : ℕ) (bs : List Block) → HasShape c.table m bs → HasShape d.table m bs)
       → (IsRunning c.blocks r → IsRunning c.blocks s) → Grows c.table.cells r.words d.table.cells s.words
@@ -84,20 +84,27 @@ module _ {V : Type 0} where
     told = λ o w reached h. (turn.turns o w reached h.laid h.table (h.seats i r got).runs (h.seats i r got).copies).2;
   }
 
-  -- a step that ends nothing
-  pub passes : (c : Parts V) (u : Table V) (i : ℕ) (r s : TxActor V) (n : Told V) → slice_get c.actors.items i ≡ Some r
-      → is_loading (stage_of r.stage) ≡ false → EndsNone (stage_of r.stage) → IsTurn c.blocks (Step (i + 1)) c.table r u s n
-      → KeepsOwn c.blocks (Step (i + 1)) r s → KeepsRoom (Step (i + 1)) c.table r u s
+  -- a step that ends nothing, of an actor whose seat is at such a stage
+  pub passes_by : (c : Parts V) (u : Table V) (i : ℕ) (r s : TxActor V) (n : Told V) → slice_get c.actors.items i ≡ Some r
+      → ((x : Seat V) → x ≡ seat_at x r → EndsNone x.stage) → IsTurn c.blocks (Step (i + 1)) c.table r u s n
+      → KeepsOwn c.blocks (Step (i + 1)) c.table r s → KeepsRoom (Step (i + 1)) c.table r u s
       → ((m : ℕ) (bs : List Block) → HasShape c.table m bs → HasShape u m bs)
       → (IsRunning c.blocks r → IsRunning c.blocks s) → Grows c.table.cells r.words u.cells s.words
       → Happens c (Step (i + 1)) (with_turn c u i s) n
-  passes c u i r s n got quiet none turn kept rooms shape keeps grows =
+  passes_by c u i r s n got none turn kept rooms shape keeps grows =
       step_happens c (with_turn c u i s) i r s n got refl refl turn kept rooms shape keeps grows
-      (λ x is. sym (ap (λ (o : Option (Record V)). with_record (i + 1) o c.records.items)
-      (ap (λ (k : Stage V). committed_by x k) (stage_by x r quiet is) ∙ none.committed x)))
+      (λ x is. sym (ap (λ (o : Option (Record V)). with_record (i + 1) o c.records.items) ((none x is).committed x)))
       (λ x is. sym (append-nil (map ended_of c.aborted.items))
-      ∙ ap (λ (xs : List (seats.Ended V)). map ended_of c.aborted.items ++ xs)
-      (sym (ap (λ (k : Stage V). ended_by (i + 1) x k) (stage_by x r quiet is) ∙ none.ended (i + 1) x)))
+      ∙ ap (λ (xs : List (seats.Ended V)). map ended_of c.aborted.items ++ xs) (sym ((none x is).ended (i + 1) x)))
+
+  pub passes : (c : Parts V) (u : Table V) (i : ℕ) (r s : TxActor V) (n : Told V) → slice_get c.actors.items i ≡ Some r
+      → is_loading (stage_of r.stage) ≡ false → EndsNone (stage_of r.stage) → IsTurn c.blocks (Step (i + 1)) c.table r u s n
+      → KeepsOwn c.blocks (Step (i + 1)) c.table r s → KeepsRoom (Step (i + 1)) c.table r u s
+      → ((m : ℕ) (bs : List Block) → HasShape c.table m bs → HasShape u m bs)
+      → (IsRunning c.blocks r → IsRunning c.blocks s) → Grows c.table.cells r.words u.cells s.words
+      → Happens c (Step (i + 1)) (with_turn c u i s) n
+  passes c u i r s n got quiet none =
+      passes_by c u i r s n got (λ x is. subst EndsNone (sym (stage_by x r quiet is)) none)
 
   -- where the words stand
   pub same_cells : (t u : Table V) (r s : TxActor V) → u.cells ≡ t.cells → owed s.words.place ≤ owed r.words.place
@@ -129,6 +136,17 @@ module _ {V : Type 0} where
       ended Leaving e a x = let z : ⊥ = cc in absurd z
       ended s e a x = refl
 
+  none_loading_at : (s : Stage V) → is_loading s ≡ true → EndsNone s
+  none_loading_at (Loading o es) e = record { committed = λ x. refl; ended = λ a x. refl }
+  none_loading_at s e = absurd (true≢false (sym e))
+
+  pub none_loading : (r : TxActor V) → is_loading (stage_of r.stage) ≡ true → (x : Seat V) → x ≡ seat_at x r → EndsNone x.stage
+  none_loading r loading x is = none_loading_at x.stage (seat_loading x r is ∙ loading)
+
+  pub none_copying : (s : Stage V) (asked : Asked V) → s ≡ Copying asked → EndsNone s
+  none_copying s asked e =
+      subst EndsNone (sym e) (let none : EndsNone (Copying asked) = record { committed = λ x. refl; ended = λ a x. refl } in none)
+
   pub none_at_word : (t : own.Stage V) → next_of (stage_of t) ≡ next.Word → (t ≡ stage.Closing → ⊥) → (t ≡ stage.Leaving → ⊥)
       → EndsNone (stage_of t)
   none_at_word t e c l = record { committed = committed t e c; ended = ended t l }
@@ -145,7 +163,7 @@ module _ {V : Type 0} where
 
   -- ---- a request
   pub ask_happens : CallsLaw V → (c : Parts V) (i : ℕ) (q : Request V) (r s : TxActor V) (n : Told V) → slice_get c.actors.items i ≡ Some r
-      → AsksAt c.blocks r s n (λ a w. ask_at w a (seat_of r) (stage_of r.stage) q) → KeepsOwn c.blocks (Ask (i + 1) q) r s
+      → AsksAt c.blocks r s n (λ a w. ask_at w a (seat_of r) (stage_of r.stage) q) → KeepsOwn c.blocks (Ask (i + 1) q) c.table r s
       → KeepsRoom (Ask (i + 1) q) c.table r c.table s → KeepsIn c.blocks r s → Happens c (Ask (i + 1) q) (with_turn c c.table i s) n
   ask_happens calls c i q r s n got asks own rooms kept =
       let turn = ask_turns calls c.blocks (i + 1) q c.table r s n asks in
@@ -160,17 +178,16 @@ module _ {V : Type 0} where
 
   -- ---- a want of memory
   pub starve_happens : (c : Parts V) (i : ℕ) (r s : TxActor V) (n : Told V) → slice_get c.actors.items i ≡ Some r → Starves r s n
-      → KeepsOwn c.blocks (Starve (i + 1)) r s → KeepsRoom (Starve (i + 1)) c.table r c.table s
-      → ((v : BlocksView) → KeepsIn v r s) → Happens c (Starve (i + 1)) (with_turn c c.table i s) n
+      → KeepsOwn c.blocks (Starve (i + 1)) c.table r s → KeepsRoom (Starve (i + 1)) c.table r c.table s → KeepsIn c.blocks r s
+      → Happens c (Starve (i + 1)) (with_turn c c.table i s) n
   starve_happens c i r s n got starves own rooms keeps =
       let turn = starve_turns c.blocks (i + 1) c.table r s n starves in
-      let kept = keeps c.blocks in
-      let less = kept.owed in
+      let less = keeps.owed in
       record {
         parts = λ o w reached h. (
             let adds = starved_adds w (i + 1) in
             turned o c (with_turn c c.table i s) w (Starve (i + 1)) i r s n reached h refl got refl refl turn own rooms (λ m bs x. x)
-            kept.running (inl (omega (arith, less))) (h.records ∙ sym adds.0) (h.aborted ∙ sym adds.1));
+            keeps.running (inl (omega (arith, less))) (h.records ∙ sym adds.0) (h.aborted ∙ sym adds.1));
         told = λ o w reached h. (turn.turns o w reached h.laid h.table (h.seats i r got).runs (h.seats i r got).copies).2;
       }
 

@@ -80,8 +80,11 @@ module _ {V : Type 0} where
   loading_at x y (stage.Loading o left) = refl
   loading_at x y t = refl
 
+  pub seat_loading : (x : Seat V) (r : TxActor V) → x ≡ seat_at x r → is_loading x.stage ≡ is_loading (stage_of r.stage)
+  seat_loading x r is = ap (λ (y : Seat V). is_loading y.stage) is ∙ loading_at x (seat_of r) r.stage
+
   pub loading_as : (w : World V) (a : ℕ) (r : TxActor V) → Runs a r w → is_loading (w.seats a).stage ≡ is_loading (stage_of r.stage)
-  loading_as w a r runs = ap (λ (x : Seat V). is_loading x.stage) runs.0 ∙ loading_at (w.seats a) (seat_of r) r.stage
+  loading_as w a r runs = seat_loading (w.seats a) r runs.0
 
   ready_at : (x y : Seat V) (t : own.Stage V) (ks : List ℕ) → (seat_by x y t).stage ≡ Ready ks → stage_of t ≡ Ready ks
   ready_at x y (stage.Loading o left) ks e = let z : ⊥ = cc in absurd z

@@ -145,18 +145,23 @@ module _ {V : Type 0} where
       subst (λ (z : World V). MayGoOn a (committed_at z a (z.seats a).stage) (z.seats a).stage) h.world
       (goes h.blocks h.clock o.words o.held h.events a h.stripes)
 
-  -- a declared reader at rest has read nothing that it keeps
+  -- a declared reader whose word actor rests has read nothing that it keeps
+  pub no_reads_at : (o : Contents V) (w : World V) (a : ℕ) (r : TxActor V) → IsReached o w → Runs a r w
+      → (actor_of w a).place ≡ machine.Open → HasNoReads r.words
+  no_reads_at o w a r reached runs rests d =
+      let is : actor_of w a ≡ words.actor_of r.words = runs.1 in
+      sym (ap (λ (y : Actor). y.reads) is)
+      ∙ (has_no_sets w.boosted.words a (reached_linked o w reached).base.inv.machine (ap (λ (y : Actor). y.declared) is ∙ d) rests).0
+
   pub no_reads : (o : Contents V) (w : World V) (a : ℕ) (r : TxActor V) → IsReached o w → Runs a r w → r.stage ≡ stage.Open
       → HasNoReads r.words
-  no_reads o w a r reached runs at d =
+  no_reads o w a r reached runs at =
       let linked = reached_linked o w reached in
       let st : (w.seats a).stage ≡ Open =
       stage_by (w.seats a) r (ap (λ (t : own.Stage V). is_loading (stage_of t)) at) runs.0 ∙ ap (λ (t : own.Stage V). stage_of t) at in
       let ok = subst (λ (k : Stage V). StageOk w.words w.blocks (w.seats a) (actor_of w a) (w.boosted.shadows a) k (actor_of w a).place)
       st (linked.seats a).stage in
-      let is : actor_of w a ≡ words.actor_of r.words = runs.1 in
-      sym (ap (λ (y : Actor). y.reads) is)
-      ∙ (has_no_sets w.boosted.words a linked.base.inv.machine (ap (λ (y : Actor). y.declared) is ∙ d) ok.0).0
+      no_reads_at o w a r reached runs ok.0
 
   -- taking note of what a step ends changes no word, gate or base
   ended_has : (t : Table V) (a : ℕ) (x : Seat V) (s : Stage V) (w : World V) → HasTable t w → HasTable t (ended_at a x s w)
@@ -278,7 +283,7 @@ module _ {V : Type 0} where
       subst (λ (o : Option (Action (Asked V))). Does a w x s o u) (same_action w a s ne ∙ is) there in
       still_has t a (ended_at a x s (acted w (e ∷ []))) u does.1 (ended_has t a x s (acted w (e ∷ [])) h)
 
-  reached_allows : (o : Contents V) (w : World V) (a : ℕ) → IsReached o w
+  pub reached_allows : (o : Contents V) (w : World V) (a : ℕ) → IsReached o w
       → IsAllowed w (w.seats a).stage (step_action w a (w.seats a).stage)
   reached_allows o w a h =
       subst (λ (z : World V). IsAllowed z (z.seats a).stage (step_action z a (z.seats a).stage)) h.world

@@ -36,7 +36,8 @@ use Rattle.world_table.specs.Tables.{HasTable}
 use Rattle.world_table.specs.declared.table.Table.{Table}
 use Rattle.running_world.specs.declared.parts.Parts.{Parts}
 use Rattle.running_world.specs.declared.trace.Ended.{Ended}
-use Rattle.running_world.specs.Parts.{IsSeat, IsWorld, ended_of, total_owed}
+use Rattle.running_world.specs.Loading.{IsSeated}
+use Rattle.running_world.specs.Parts.{HasWorld, IsSeat, IsWorld, ended_of, total_owed}
 use Rattle.running_world.specs.Reached.{IsReached}
 use Rattle.tx_actor.specs.Having.{HasCopies}
 use Rattle.running_world.specs.Homes.{HasRoomLeft}
@@ -170,7 +171,7 @@ module _ {V : Type 0} where
   pub turned : (opening : Contents V) (c d : Parts V) (w : World V) (e : Event V) (i : ℕ) (r s : TxActor V) (n : Told V)
       → IsReached opening w → IsWorld c w → whose e ≡ i + 1 → slice_get c.actors.items i ≡ Some r
       → d.blocks ≡ c.blocks → d.actors.items ≡ slice_set c.actors.items i s
-      → IsTurn c.blocks e c.table r d.table s n → KeepsOwn c.blocks e r s → KeepsRoom e c.table r d.table s
+      → IsTurn c.blocks e c.table r d.table s n → KeepsOwn c.blocks e c.table r s → KeepsRoom e c.table r d.table s
       → ((m : ℕ) (bs : List Block) → HasShape c.table m bs → HasShape d.table m bs)
       → (IsRunning c.blocks r → IsRunning c.blocks s)
       → Grows c.table.cells r.words d.table.cells s.words
@@ -188,7 +189,7 @@ module _ {V : Type 0} where
       let moved : IsSeat d.blocks u (i + 1) s = record {
         runs = subst (λ (a : ℕ). Runs a s u) is after.1;
         running = subst (λ (v : BlocksView). IsRunning v s) (sym laid) (keeps own.running);
-        copies = subst (λ (a : ℕ). HasCopies s u a) is (kept.own opening w reached h.laid here after.1 (keeps own.running) copies);
+        copies = subst (λ (a : ℕ). HasCopies s u a) is (kept.own opening w reached h.laid h.table here after.1 (keeps own.running) copies);
       } in
       let low = inside c.actors.items i r got in
       record {
@@ -313,3 +314,18 @@ module _ {V : Type 0} where
       home_puts : (xs : List ℕ) (k : ℕ) → next_home (first xs) ≡ next.PutGate k → ⊥
       home_puts [] k e = cc
       home_puts (j ∷ js) k e = cc
+
+  -- the actor at a place, in the world of the parts
+  pub seated_at : (c : Parts V) (i : ℕ) (r : TxActor V) → HasWorld c → slice_get c.actors.items i ≡ Some r → IsSeated c.blocks c.table r
+  seated_at c i r h got =
+      let own = h.parts.seats i r got in
+      record {
+        opening = h.opening;
+        world = h.world;
+        actor = i + 1;
+        reached = h.reached;
+        laid = h.parts.laid;
+        table = h.parts.table;
+        runs = own.runs;
+        copies = own.copies;
+      }

@@ -9,7 +9,7 @@ use Rattle.step_core.specs.Shown.{is_actor}
 use Rattle.replay_log.specs.WorldProgress.{whose}
 use Rattle.replay_log.specs.Worlds.{After, World, happens}
 use Rattle.running_world.specs.declared.parts.Parts.{Parts}
-use Rattle.running_world.specs.Parts.{HasWorld, IsWorld}
+use Rattle.running_world.specs.Parts.{IsWorld}
 use Rattle.running_world.specs.Reached.{IsReached}
 
 -- the actor of this number stands at this place; none does, where it is not one of the actors
@@ -30,8 +30,3 @@ module _ {V : Type 0} where
   pub record Feeds (c : Parts V) (e : Event V) (d : Parts V) (n : Notice V) : Type 0 where
     pub parts : (opening : Contents V) (w : World V) → IsReached opening w → IsWorld c w → IsWorld d (fed w e).0
     pub told : (opening : Contents V) (w : World V) → IsReached opening w → IsWorld c w → n ≡ (fed w e).1
-
-  -- The parts are those of some world without collections.
-  pub record IsWell (c : Parts V) : Type 0 where
-    pub world : HasWorld c
-    pub none : c.blocks.blocks ≡ []

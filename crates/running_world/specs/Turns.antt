@@ -22,11 +22,11 @@ pub record IsTurn {V : Type 0} (v : BlocksView) (e : Event V) (t : Table V) (r :
   pub turns : (opening : Contents V) (w : World V) → IsReached opening w → IsLaid v w → HasTable t w → Runs (whose e) r w
       → HasCopies r w (whose e) → HasTable u (happens w e).0 × Runs (whose e) s (happens w e).0 × (notice_of (whose e) n ≡ (happens w e).1)
 
--- In every world that events have reached and that lies so, in which r is the event's actor and s is afterwards: where r has of
--- collections what its stage asks for, s has; and so has every other actor what it had.
-pub record KeepsOwn {V : Type 0} (v : BlocksView) (e : Event V) (r s : TxActor V) : Type 0 where
-  pub own : (opening : Contents V) (w : World V) → IsReached opening w → IsLaid v w → Runs (whose e) r w → Runs (whose e) s (happens w e).0
-      → IsRunning v s → HasCopies r w (whose e) → HasCopies s (happens w e).0 (whose e)
+-- In every world that events have reached and that lies so, of which t is the table, in which r is the event's actor and s is afterwards:
+-- where r has of collections what its stage asks for, s has; and so has every other actor what it had.
+pub record KeepsOwn {V : Type 0} (v : BlocksView) (e : Event V) (t : Table V) (r s : TxActor V) : Type 0 where
+  pub own : (opening : Contents V) (w : World V) → IsReached opening w → IsLaid v w → HasTable t w → Runs (whose e) r w
+      → Runs (whose e) s (happens w e).0 → IsRunning v s → HasCopies r w (whose e) → HasCopies s (happens w e).0 (whose e)
   pub others : (w : World V) (b : ℕ) (q : TxActor V) → b ≢ whose e → HasCopies q w b → HasCopies q (happens w e).0 b
 
 -- In every world that events have reached, in which r is the event's actor and s is afterwards: where the bases of t that are left to r to

@@ -1,4 +1,4 @@
-//! What an event makes of the parts of a world without collections.
+//! What an event makes of the parts of a world.
 ghost use Rattle.std.specs.Prelude.{◌≡◌, ◌+◌, ◌<◌, [], length, IfOk, OnErr};
 ghost use Rattle.seq_model.specs.declared.event.Event.TheVariants.{Ask, Starve, Step};
 ghost use Rattle.tx_actor.specs.Running.{notice_of};
@@ -37,7 +37,6 @@ impl<V: Value> Parts<V> {
     fn step_words(&mut self, i: usize) -> Result<Told<V>, Memory>
         requires inside { i < length self.old.actors.items }
         requires world { HasWorld self.old }
-        requires none { self.old.blocks.blocks ≡ [] }
         requires due { IsDue self.old i Next.Word }
         ensures ok { IfOk result (λ told. Happens self.old (Step (i + 1)) self.new told) }
         ensures err { OnErr result (IsStarved self.old i self.new) }
@@ -45,6 +44,7 @@ impl<V: Value> Parts<V> {
         match self.actors[i].stage {
             Stage::Closing => self.close(i),
             Stage::Leaving => self.leave(i),
+            Stage::Loading(_, _) => Ok(self.load(i)),
             _ => Ok(self.move_on(i)),
         }
     }
@@ -53,7 +53,6 @@ impl<V: Value> Parts<V> {
     fn step(&mut self, i: usize) -> Result<Told<V>, Memory>
         requires inside { i < length self.old.actors.items }
         requires world { HasWorld self.old }
-        requires none { self.old.blocks.blocks ≡ [] }
         ensures ok { IfOk result (λ told. Happens self.old (Step (i + 1)) self.new told) }
         ensures err { OnErr result (IsStarved self.old i self.new) }
     {
@@ -63,14 +62,13 @@ impl<V: Value> Parts<V> {
             Next::FirstStore => self.commit(i),
             Next::TryGate(k) => Ok(self.try_gate(i, k)),
             Next::PutGate(k) => Ok(self.put_gate(i, k)),
-            Next::Copy(_) => unreachable!(),
+            Next::Copy(k) => self.copy(i, k),
             Next::GoHome(k) => Ok(self.go_home(i, k)),
         }
     }
 
     fn feed_ask(&mut self, actor: u32, request: Request<V>) -> Result<Notice<V>, Memory>
         requires world { HasWorld self.old }
-        requires none { self.old.blocks.blocks ≡ [] }
         ensures { IfOk result (Feeds self.old (Ask actor request) self.new) }
     {
         let Some(i) = place_of(actor) else {
@@ -82,7 +80,6 @@ impl<V: Value> Parts<V> {
 
     fn feed_step(&mut self, actor: u32) -> Result<Notice<V>, Memory>
         requires world { HasWorld self.old }
-        requires none { self.old.blocks.blocks ≡ [] }
         ensures { IfOk result (Feeds self.old (Step actor) self.new) }
     {
         let Some(i) = place_of(actor) else {
@@ -106,7 +103,6 @@ impl<V: Value> Parts<V> {
     /// An event, and what it tells. `NoSuch` where its actor is not one of the actors 1 to 64, which changes nothing.
     pub fn feed(&mut self, event: Event<V>) -> Result<Notice<V>, Memory>
         requires world { HasWorld self.old }
-        requires none { self.old.blocks.blocks ≡ [] }
         ensures { IfOk result (Feeds self.old event self.new) }
     {
         match event {

@@ -4,6 +4,7 @@
 //! contracts say that what is left is the world that the definitions' event leaves, wherever events have led.
 #![tactic(auto)]
 
+mod copying;
 mod feeding;
 mod homes;
 mod loading;

@@ -1,12 +1,14 @@
 //! What an event makes of the parts of a world, by what its actor's next step does.
-ghost use Rattle.std.specs.Prelude.{◌≡◌, ◌≢◌, ◌+◌, ◌<◌, false, length, slice_get, IfOk, OnErr, Some};
+ghost use Rattle.std.specs.Prelude.{◌≡◌, ◌≢◌, ◌+◌, ◌<◌, false, true, length, slice_get, IfOk, OnErr, Some};
 ghost use Rattle.seq_model.specs.declared.event.Event.TheVariants.{Ask, Starve, Step};
 ghost use Rattle.actor_words.specs.Dispatch.{is_loading, next_of};
 ghost use Rattle.tx_actor.specs.Running.{stage_of};
 ghost use Rattle.tx_actor.specs.declared.actor.TxActor as running;
 ghost use Rattle.running_world.specs.Parts.{Happens, HasWorld, IsAt, IsDue, IsStarved, Stays};
 
+use crate::copying::copy_base;
 use crate::homes::{go_home, prepare};
+use crate::loading::load_word;
 use crate::parts::Parts;
 use crate::turns::{close, commit, leave, put_gate, step_word, try_gate};
 use actor_copies::copies_stay;
@@ -87,6 +89,34 @@ impl<V: Value> Parts<V> {
         copies_stay::<V>();
         begins_with_nothing::<V>();
         put_gate(&mut self.table, &mut self.actors[i], k)
+    }
+
+    /// A load of a location that a call reads.
+    pub(crate) fn load(&mut self, i: usize) -> Told<V>
+        requires inside { i < length self.old.actors.items }
+        requires world { HasWorld self.old }
+        requires loading { (r : running.TxActor V) → slice_get self.old.actors.items i ≡ Some r → is_loading (stage_of r.stage) ≡ true }
+        ensures { Happens self.old (Step (i + 1)) self.new result }
+    {
+        load_word(&mut self.table, &mut self.actors[i], &self.blocks)
+    }
+
+    /// What a call touches of the base of its collection is copied, and the gate is put back. Where there is no memory for it, its request
+    /// is refused memory.
+    pub(crate) fn copy(&mut self, i: usize, k: u32) -> Result<Told<V>, Memory>
+        requires inside { i < length self.old.actors.items }
+        requires world { HasWorld self.old }
+        requires due { IsDue self.old i (Next.Copy k) }
+        ensures ok { IfOk result (λ told. Happens self.old (Step (i + 1)) self.new told) }
+        ensures err { OnErr result (IsStarved self.old i self.new) }
+    {
+        copies_by_stage::<V>();
+        copies_stay::<V>();
+        let alloc = *self.records.allocator();
+        match copy_base(alloc, &mut self.table, &mut self.actors[i], &self.blocks, k) {
+            Ok(told) => Ok(told),
+            Err(_) => Err(Memory),
+        }
     }
 
     /// The base of a collection that its actor has written goes home.

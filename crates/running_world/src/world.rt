@@ -1,5 +1,5 @@
 //! A world, fed event by event.
-ghost use Rattle.std.specs.Prelude.{◌≡◌, ◌≢◌, [], false, true, IfErr, IfOk, IsOk, OnErr, OnOk};
+ghost use Rattle.std.specs.Prelude.{◌≡◌, ◌≢◌, false, true, length, IfErr, IfOk, IsOk, OnErr, OnOk};
 ghost use Rattle.seq_model.specs.Contents.{Contents};
 ghost use Rattle.seq_model.specs.Refusals.{IsNoSuchOrTooLong};
 ghost use Rattle.replay_log.specs.Seats.{World as PureWorld};
@@ -10,15 +10,14 @@ ghost use Rattle.running_world.specs.Parts.{IsWorld};
 ghost use Rattle.running_world.specs.Reached.{IsReached};
 ghost use Rattle.running_world.specs.Serial.{IsFrom, IsSerialFrom};
 ghost use Rattle.running_world.specs.Traces.{IsSerialTrace, IsTraceOf};
-ghost use Rattle.running_world.specs.Worlds.{IsOther};
 
 use crate::parts::Parts;
 use crate::trace::Trace;
-use seq_model::{Event, Held, Memory, Notice, Refusal, Shape, State, Value};
+use seq_model::{Event, Memory, Notice, Refusal, Shape, State, Value};
 use std::alloc::Global;
 use std::marker::Model;
 
-/// A world of transactions over words. Collections are to come.
+/// A world of transactions over words and collections.
 ///
 /// Contracts see its parts, and whether a growth was refused to an event (`failed`): then every later call answers `Memory`.
 #[derive(Drop)]
@@ -34,7 +33,7 @@ impl<V> Model for World<V> {
     ghost use Rattle.std.specs.Ordering.{nat_cmp};
     ghost use Rattle.base_pq.specs.Conflicts as pq;
     ghost use Rattle.base_queue.specs.Conflicts as queue;
-    ghost use Rattle.running_world.specs.Feeds.{IsWell};
+    ghost use Rattle.running_world.specs.Parts.{HasWorld};
     ghost use Rattle.running_world.specs.Worlds.{WorldShown};
 
     ghost Value = { WorldShown V };
@@ -50,38 +49,25 @@ impl<V> Model for World<V> {
 
     ghost view = { λ a. record { failed = a.failed; parts = a.parts } };
 
-    ghost invariant = { λ a. a.failed ≡ false → IsWell a.parts };
-}
-
-/// Whether there is a collection.
-fn has_some<V>(held: &[Held<V>]) -> bool
-    ensures some { result ≡ true → held.now ≢ [] }
-    ensures none { result ≡ false → held.now ≡ [] }
-{
-    match held {
-        [] => false,
-        _ => true,
-    }
+    ghost invariant = { λ a. a.failed ≡ false → HasWorld a.parts };
 }
 
 impl<V: Value> World<V> {
     /// Opens a world of this shape on this state.
     ///
-    /// `NoSuch` where there is a collection, for now, or a number of stripes. `TooLong` where the clock is above its limit or there are
-    /// more than 1,048,576 words. What was moved in is dropped.
+    /// `NoSuch` where the shape has not as many numbers of stripes as there are collections. `TooLong` where the clock is above its
+    /// limit, there are more than 256 collections or more than 1,048,576 locations, or a collection can't have so many stripes. What
+    /// was moved in is dropped.
     pub fn open(alloc: Global, shape: &Shape, state: State<V>) -> Result<World<V>, Refusal>
         ensures world { IfOk result (λ world. IsWorld world.parts (world_of shape.now.stripes shape.now.clock state)) }
         ensures reached { IsOk result → IsReached state (world_of shape.now.stripes shape.now.clock state) }
         ensures from { IfOk result (λ world. IsFrom state world.parts) }
         ensures serial { IfOk result (λ world. IsSerialFrom state world.parts) }
         ensures lasting { IfOk result (λ world. world.failed ≡ false) }
-        ensures refused { IfErr result (λ refusal. IsNoSuchOrTooLong refusal (IsOther shape.now.stripes state)
+        ensures refused { IfErr result (λ refusal. IsNoSuchOrTooLong refusal (length shape.now.stripes ≢ length state.held)
             (IsWithin shape.now.stripes shape.now.clock state)) }
-        ensures fits { IsOk result → (¬ IsOther shape.now.stripes state) × IsWithin shape.now.stripes shape.now.clock state }
+        ensures fits { IsOk result → (length shape.now.stripes ≡ length state.held) × IsWithin shape.now.stripes shape.now.clock state }
     {
-        if has_some(state.held()) {
-            return Err(Refusal::NoSuch);
-        }
         let parts = Parts::open(alloc, shape, state)?;
         Ok(World {
             parts,
@@ -147,7 +133,7 @@ pub fn run_world<V: Value>(
     ensures trace { IfOk result (IsTraceOf (fed_all (world_of shape.now.stripes shape.now.clock state) events.now)) }
     ensures serial { IfOk result (IsSerialTrace state) }
     ensures law { IsOk result → IsSerial state (fed_all (world_of shape.now.stripes shape.now.clock state) events.now) }
-    ensures refused { IfErr result (λ refusal. IsNoSuchOrTooLong refusal (IsOther shape.now.stripes state)
+    ensures refused { IfErr result (λ refusal. IsNoSuchOrTooLong refusal (length shape.now.stripes ≢ length state.held)
         (IsWithin shape.now.stripes shape.now.clock state)) }
 {
     let mut world = World::open(alloc, shape, state)?;

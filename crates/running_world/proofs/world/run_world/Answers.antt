@@ -1,7 +1,7 @@
 use Rattle.std.proofs.Common.{refl, subst}
 use Rattle.world_table.specs.Openings.{world_of}
 use Rattle.running_world.specs.Feeds.{Feeds, fed_all}
-use Rattle.running_world.proofs.FeedLemmas.{has_all, has_one, memory_refused}
+use Rattle.running_world.proofs.FeedLemmas.{fits_as, has_all, has_one, memory_refused}
 use Rattle.running_world.proofs.TraceLemmas.{serial_at}
 use Rattle.running_world.proofs.world.run_world.Goals as goal
 
@@ -32,15 +32,15 @@ returns-clause-serial g c =
 
 pub returns-in_err-try_copy-clause-refused : goal.returns-in_err-try_copy-clause-refused
 returns-in_err-try_copy-clause-refused g c =
-    memory_refused c.from_residual-in_err-try_copy.result (c.in_ok-world.ensures.fits refl) c.from_residual-in_err-try_copy.ensures.1
+    memory_refused c.from_residual-in_err-try_copy.result (fits_as (c.in_ok-world.ensures.fits refl)) c.from_residual-in_err-try_copy.ensures.1
 
 pub returns-in_err-_notice-clause-refused : goal.returns-in_err-_notice-clause-refused
 returns-in_err-_notice-clause-refused g c =
-    memory_refused c.from_residual-in_err-_notice.result (c.in_ok-world.ensures.fits refl) c.from_residual-in_err-_notice.ensures.1
+    memory_refused c.from_residual-in_err-_notice.result (fits_as (c.in_ok-world.ensures.fits refl)) c.from_residual-in_err-_notice.ensures.1
 
 pub returns-in_err-trace-clause-refused : goal.returns-in_err-trace-clause-refused
 returns-in_err-trace-clause-refused g c =
-    memory_refused c.from_residual-in_err-trace.result (c.in_ok-world.ensures.fits refl) c.from_residual-in_err-trace.ensures.1
+    memory_refused c.from_residual-in_err-trace.result (fits_as (c.in_ok-world.ensures.fits refl)) c.from_residual-in_err-trace.ensures.1
 
 pub returns-clause-law : goal.returns-clause-law
 returns-clause-law g c = λ _. (

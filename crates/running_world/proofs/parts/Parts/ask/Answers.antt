@@ -26,7 +26,7 @@ returns-in-Ok-clause-ok g c =
     ask_happens calls c.args.self.now c.args.i c.args.request r c.asks.new.self c.in-Ok.told got c.in-Ok.ensures.ok
     (keeps_ask c.copies_stay.ensures.events c.copies_stay.ensures.stays c.copies_stay.ensures.joins c.copies_by_stage.ensures.asked
     c.copies_by_stage.ensures.all c.copies_stay.ensures.others c.copies_by_stage.ensures.others calls c.args.self.now.blocks _
-    c.args.request r c.asks.new.self c.in-Ok.told c.in-Ok.ensures.ok c.asks.ensures.still c.asks.ensures.apart)
+    c.args.request c.args.self.now.table r c.asks.new.self c.in-Ok.told c.in-Ok.ensures.ok c.asks.ensures.still c.asks.ensures.apart)
     (room_ask _ c.args.request c.args.self.now.table r c.asks.new.self c.asks.ensures.apart) kept
 
 pub returns-in-Err-clause-err : goal.returns-in-Err-clause-err

@@ -55,7 +55,7 @@ returns-clause-ok g c =
     t.new.actor t.result.0 got refl refl (t.ensures.turns p.blocks _)
     (keeps_step c.copies_by_stage.ensures.steps c.copies_by_stage.ensures.begun c.copies_stay.ensures.events c.begins_with_nothing.ensures
     c.copies_stay.ensures.others c.copies_by_stage.ensures.others
-    p.blocks _ r t.new.actor (stage_quiet r stage.Closing at refl)
+    p.blocks _ p.table r t.new.actor (stage_quiet r stage.Closing at refl)
     (λ asked. calm_at (stage_of r.stage) next.Word (stage_due r stage.Closing at refl) (λ k q. let z : ⊥ = cc in z) asked) t.ensures.leaves)
     (room_kept _ p.table t.new.table r t.new.actor t.ensures.bases
     (not_first (stage_of r.stage) next.Word (stage_due r stage.Closing at refl) (λ e. let z : ⊥ = cc in z)) t.ensures.leaves)

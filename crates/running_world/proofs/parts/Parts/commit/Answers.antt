@@ -90,7 +90,7 @@ returns-in_ok-insert_record-in-Ok-commit-clause-ok g c =
     (step_happens q d c.args.i r t.new.actor m.told got refl refl (m.ensures.turns p.blocks _)
     (keeps_step c.copies_by_stage.ensures.steps c.copies_by_stage.ensures.begun c.copies_stay.ensures.events c.begins_with_nothing.ensures
     c.copies_stay.ensures.others c.copies_by_stage.ensures.others
-    p.blocks _ r t.new.actor (quiet_first (stage_of r.stage) due)
+    p.blocks _ _ r t.new.actor (quiet_first (stage_of r.stage) due)
     (λ asked. calm_at (stage_of r.stage) next.FirstStore due (λ k q. let z : ⊥ = cc in z) asked) m.ensures.leaves)
     (room_first _ q.table t.new.table r t.new.actor t.ensures.bases due m.ensures.leaves
     (subst (λ (z : TxActor g.row.V.Denot). HasRoomDue q.table z.copies.items z.stage) same c.in-Ok-prepare.ensures.room))

@@ -40,6 +40,6 @@ returns g c =
     (turn_home p.blocks _ k p.table t.new.table r t.new.actor t.result (shape_laid p c.requires.world.world c.requires.world.parts) due
     t.ensures.turns)
     (keeps_home c.steps_as_worlds.ensures c.copies_stay.ensures.events c.copies_stay.ensures.stays c.copies_stay.ensures.others
-    c.copies_by_stage.ensures.others p.blocks _ k r t.new.actor due t.ensures.others t.ensures.left)
+    c.copies_by_stage.ensures.others p.blocks _ k p.table r t.new.actor due t.ensures.others t.ensures.left)
     (room_home c.steps_as_worlds.ensures _ k p.table t.new.table r t.new.actor due t.ensures.bases t.ensures.others t.ensures.left)
     t.ensures.shape kept.running (same_cells p.table t.new.table r t.new.actor t.ensures.cells kept.owed)

@@ -45,7 +45,7 @@ returns g c =
     (c.step_word.ensures.turns c.args.self.now.blocks _)
     (keeps_step c.copies_by_stage.ensures.steps c.copies_by_stage.ensures.begun c.copies_stay.ensures.events c.begins_with_nothing.ensures
     c.copies_stay.ensures.others c.copies_by_stage.ensures.others
-    c.args.self.now.blocks _ r c.step_word.new.actor stays.2 (λ asked. calm_at (stage_of r.stage) next.Word (c.requires.due r got)
+    c.args.self.now.blocks _ _ r c.step_word.new.actor stays.2 (λ asked. calm_at (stage_of r.stage) next.Word (c.requires.due r got)
     (λ k q. let z : ⊥ = cc in z) asked) c.step_word.ensures.leaves)
     (room_kept _ c.args.self.now.table c.step_word.new.table r c.step_word.new.actor c.step_word.ensures.bases
     (not_first (stage_of r.stage) next.Word (c.requires.due r got) (λ e. let z : ⊥ = cc in z)) c.step_word.ensures.leaves)

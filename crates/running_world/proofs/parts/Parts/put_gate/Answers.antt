@@ -34,7 +34,7 @@ returns g c =
     (c.put_gate.ensures.turns c.args.self.now.blocks _)
     (keeps_step c.copies_by_stage.ensures.steps c.copies_by_stage.ensures.begun c.copies_stay.ensures.events c.begins_with_nothing.ensures
     c.copies_stay.ensures.others c.copies_by_stage.ensures.others
-    c.args.self.now.blocks _ r c.put_gate.new.actor (quiet_put (stage_of r.stage) c.args.k (c.requires.due r got))
+    c.args.self.now.blocks _ _ r c.put_gate.new.actor (quiet_put (stage_of r.stage) c.args.k (c.requires.due r got))
     (λ asked. calm_at (stage_of r.stage) (next.PutGate c.args.k) (c.requires.due r got)
     (λ k q. let z : ⊥ = cc in z) asked) c.put_gate.ensures.leaves)
     (room_kept _ c.args.self.now.table c.put_gate.new.table r c.put_gate.new.actor c.put_gate.ensures.bases
