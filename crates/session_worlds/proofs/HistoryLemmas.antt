@@ -86,6 +86,27 @@ pub record Stepped (a : ℕ) (p : Phase Entry) (action : Action) (done : List Ac
   pub moves : StepMoves p commits n to
   pub at : IsAt a to action (if commits then done ++ action ∷ [] else done) h
 
+-- a step that commits adds the action to what is done
+pub step_at : (h : History) (a : ℕ) (p : Phase Entry) (action : Action) (done : List Action) → IsAt a p action done h
+    → let x = (world_in h).seats a in
+    IsAt a (phase ((happens (world_in h) (Step a)).0.seats a)) action
+    (if is_some (committed_by x x.stage) then done ++ action ∷ [] else done) (next h (Step a, action))
+step_at h a p action done at =
+    let x = (world_in h).seats a in
+    let commits = is_some (committed_by x x.stage) in
+    let t : Turn = (Step a, action) in
+    record {
+      stands = phase_next a h t;
+      does = action_next a h t ∙ at.does;
+      has =
+          done_next a h t
+          ∙ ap (λ (xs : List Action). done_in a h ++ xs)
+          (cond-true (eqb a a) (if_committed (committed_by x x.stage) (action_in a h)) [] (eq-eqb a a refl)
+          ∙ if_some (committed_by x x.stage) (action_in a h))
+          ∙ with_one commits (done_in a h) (action_in a h)
+          ∙ (λ i. if commits then at.has i ++ at.does i ∷ [] else at.has i);
+    }
+
 pub steps_to : (h : History) (a : ℕ) (p : Phase Entry) (action : Action) (done : List Action) (n : Notice Entry) → IsAt a p action done h
     → n ≡ (happens (world_in h) (Step a)).1 → Stepped a p action done n (next h (Step a, action))
 steps_to h a p action done n at told =
@@ -93,24 +114,13 @@ steps_to h a p action done n at told =
     let x = w.seats a in
     let commits = is_some (committed_by x x.stage) in
     let to = phase ((happens w (Step a)).0.seats a) in
-    let t : Turn = (Step a, action) in
     record {
       commits = commits;
       to = to;
       moves =
           subst (λ (q : Phase Entry). StepMoves q commits n to) at.stands
           (subst (λ (m : Notice Entry). StepMoves (phase x) commits m to) (sym told) (steps_move w a));
-      at = record {
-        stands = phase_next a h t;
-        does = action_next a h t ∙ at.does;
-        has =
-            done_next a h t
-            ∙ ap (λ (xs : List Action). done_in a h ++ xs)
-            (cond-true (eqb a a) (if_committed (committed_by x x.stage) (action_in a h)) [] (eq-eqb a a refl)
-            ∙ if_some (committed_by x x.stage) (action_in a h))
-            ∙ with_one commits (done_in a h) (action_in a h)
-            ∙ (λ i. if commits then at.has i ++ at.does i ∷ [] else at.has i);
-      };
+      at = step_at h a p action done at;
     }
 
 -- ---- a request inside a transaction
@@ -177,7 +187,7 @@ idle a h action done at =
     let x = (world_in h).seats a in
     idle_at x.calls x.stage (subst IsRest (sym at.stands) tt)
 
-opens : (a : ℕ) (h : History) (calls : List (Call Entry × Reply Entry)) (action : Action) (done : List Action)
+pub opens : (a : ℕ) (h : History) (calls : List (Call Entry × Reply Entry)) (action : Action) (done : List Action)
     → IsAt a (Stands calls) action done h
     → (((world_in h).seats a).stage ≡ Open) × (((world_in h).seats a).calls ≡ calls)
 opens a h calls action done at =
@@ -212,6 +222,14 @@ begins h a old action done at =
       does = action_next a h t ∙ begun_to (begun_all h.actions (opening_of h) h.turns) a action x.stage rests;
       has = done_next a h t ∙ append-nil (done_in a h) ∙ at.has;
     }
+
+-- and is told nothing yet
+pub begin_is_quiet : (h : History) (a : ℕ) (action : Action) (done : List Action) → IsAt a Rests action done h
+    → (happens (world_in h) (Ask a request.Begin)).1 ≡ Quiet
+begin_is_quiet h a action done at =
+    let w = world_in h in
+    let x = w.seats a in
+    quiet_begin w a x x.stage (idle a h action done at)
 
 -- ---- what is asked inside a transaction
 

@@ -58,6 +58,10 @@ module _ {V : Type 0} where
   ends_as calls Leaving = refl
   ends_as calls st = refl
 
+  pub ends_at : (x : Seat V) → phase x ≡ Ends → is_ending x.stage ≡ true
+  unfolding is_end
+  ends_at x e = sym (ends_as x.calls x.stage) ∙ ap is_end e
+
   -- ---- the number of a commit stays
   abbrev is_late : Seat V → Stage V → Bool
   is_late x st = is_done (phase_at x.calls st) || is_some (committed_by x st)
@@ -287,7 +291,7 @@ module _ {V : Type 0} where
       ending = ends_as x.calls x.stage
 
       later : phase (r.0.seats a) ≡ Ends → is_ending (r.0.seats a).stage ≡ true
-      later e = sym (ends_as (r.0.seats a).calls (r.0.seats a).stage) ∙ ap is_end e
+      later e = ends_at (r.0.seats a) e
 
       facts : Facts a x x.stage r.1 (r.0.seats a) (committed_by x x.stage)
       facts = record {

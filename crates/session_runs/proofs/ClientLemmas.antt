@@ -1,0 +1,467 @@
+-- What a client of a running world is told says where its transaction stands, and is told within the bound on steps.
+-- An event of the running world is one turn more in a history of the definitions' world: there a request and each step say where the
+-- transaction goes on, and bring the request nearer to its answer.
+use Rattle.std.proofs.Common.{◌≡◌, ◌⊎◌, inl, inr, ℕ, ◌+◌, ◌<◌, ◌≤◌, Bool, true, false, List, [], ◌∷◌, ◌++◌, length, Option, Some, None}
+use Rattle.std.proofs.Common.{refl, sym, ◌∙◌, ap, subst, arith}
+use Rattle.std.specs.Prelude.{if◌then◌else◌, is_some}
+use Rattle.std.proofs.Math.Dec.{ltb}
+use Rattle.std.proofs.lemmas.Bool.{cond-true, ltb-false, ltb-true}
+use Rattle.word_machine.specs.Progress.{step_limit}
+use Rattle.seq_model.specs.declared.call.Call.{Call}
+use Rattle.seq_model.specs.declared.call.Reply.{Reply}
+use Rattle.seq_model.specs.declared.event.Answer.{Answer}
+use Rattle.seq_model.specs.declared.event.Answer.TheVariants as answer
+use Rattle.seq_model.specs.declared.event.Event.{Event}
+use Rattle.seq_model.specs.declared.event.Event.TheVariants.{Ask, Step}
+use Rattle.seq_model.specs.declared.event.Notice.{Notice}
+use Rattle.seq_model.specs.declared.event.Notice.TheVariants.{Quiet, Answered, Refused}
+use Rattle.seq_model.specs.declared.event.Request.{Request}
+use Rattle.seq_model.specs.declared.event.Request.TheVariants as request
+use Rattle.seq_model.specs.declared.limits.TheConstants.{CALL_LIMIT}
+use Rattle.seq_model.specs.declared.record.Record.{Record}
+use Rattle.step_core.specs.Shown.{is_actor}
+use Rattle.replay_log.specs.WorldAnswers.{is_there}
+use Rattle.replay_log.specs.WorldProgress.{AreSmall, IsQuiet, left_of, whose}
+use Rattle.replay_log.specs.WorldTraces.{committed_by}
+use Rattle.replay_log.specs.Worlds.{Seat, World, happens, opened}
+use Rattle.replay_log.specs.WorldRefusals.{is_ending}
+use Rattle.replay_log.proofs.EventLemmas.{opened_linked, run_linked}
+use Rattle.replay_log.proofs.AskLemmas.{no_such, only_abort, too_long}
+use Rattle.replay_log.proofs.ProgressLemmas.{world_nears}
+use Rattle.replay_log.proofs.SizeLemmas.{world_soon}
+use Rattle.vac_model.specs.declared.action.Action.{Action}
+use Rattle.vac_model.specs.Holdings.{Holdings}
+use Rattle.tx_engine.specs.declared.job.Ask.TheVariants as ask
+use Rattle.vacation_core.specs.declared.entry.Entry.{Entry}
+use Rattle.vacation_core.specs.Holding.{state_of}
+use Rattle.running_world.specs.Feeds.{Feeds}
+use Rattle.running_world.specs.Parts.{IsWorld}
+use Rattle.running_world.specs.Reached.{IsReached}
+use Rattle.running_world.specs.declared.parts.Parts.{Parts}
+use Rattle.session_worlds.specs.Asking.{MayHappen, Turn, events_of}
+use Rattle.session_worlds.specs.Histories.{History, IsAt, IsLawful, opening_of, world_in}
+use Rattle.session_worlds.specs.Serial.{begun_all}
+use Rattle.session_worlds.proofs.HistoryLemmas.{all_of, begin_is_quiet, begins, calls_to, commit_is_quiet, commits_to}
+use Rattle.session_worlds.proofs.HistoryLemmas.{lawful_next, may_ask, next}
+use Rattle.session_worlds.proofs.HistoryLemmas.{opens, step_at, world_next}
+use Rattle.tx_phases.proofs.CourseLemmas.{ends_at, steps_come}
+use Rattle.tx_phases.proofs.PhaseLemmas.{steps_move}
+use Rattle.tx_phases.specs.Courses.{ComesTo, EndsFrom, IsUnderWay, IsUnderWayFrom, IsRecordOf, latest}
+use Rattle.tx_phases.specs.Phases.{AskMoves, CallMoves, Phase, Rests, Begins, Stands, Calls, Commits, Committed, StepMoves, phase}
+use Rattle.tx_phases.specs.Phases.{Ends as Ended}
+use Rattle.session_runs.specs.Clients.{IsAnswered, IsClient, IsDue, IsTold, Leads}
+
+-- ---- an event is a turn more
+
+pub reached : (h : History) → IsLawful h → IsReached (state_of h.tables) (world_in h)
+reached h l = record {
+  blocks = h.blocks;
+  clock = h.clock;
+  events = events_of h.turns;
+  stripes = l.stripes;
+  suits = l.suits;
+  world = refl;
+}
+
+told_of : (h : History) (e : Event Entry) (c d : Parts Entry) (n : Notice Entry) → is_actor (whose e) ≡ true → IsLawful h
+    → IsWorld c (world_in h) → Feeds c e d n → n ≡ (happens (world_in h) e).1
+told_of h e c d n is l at f =
+    f.told (state_of h.tables) (world_in h) (reached h l) at
+    ∙ ap (λ (r : World Entry × Notice Entry). r.1) (cond-true (is_actor (whose e)) _ _ is)
+
+parts_of : (h : History) (t : Turn) (c d : Parts Entry) (n : Notice Entry) → is_actor (whose t.0) ≡ true → IsLawful h
+    → IsWorld c (world_in h) → Feeds c t.0 d n → IsWorld d (world_in (next h t))
+parts_of h t c d n is l at f =
+    subst (IsWorld d)
+    (ap (λ (r : World Entry × Notice Entry). r.0) (cond-true (is_actor (whose t.0)) _ _ is) ∙ sym (world_next h t))
+    (f.parts (state_of h.tables) (world_in h) (reached h l) at)
+
+-- what a client's own turn may be in its world
+abbrev May : History → Turn → Type 0
+May h t = MayHappen (begun_all h.actions (opening_of h) h.turns) (world_in h) t
+
+module _ (a : ℕ) (tables : Holdings) where
+  -- the client after a turn of its own, where it stands at q then
+  abbrev goes : (p : Phase Entry) (old : Action) (had : List Action) (c d : Parts Entry) (x : IsClient a tables p old had c) (t : Turn)
+      (n : Notice Entry) (q : Phase Entry) (action : Action) (done : List Action) → whose t.0 ≡ a → May x.history t → Feeds c t.0 d n
+      → IsAt a q action done (next x.history t) → IsClient a tables q action done d
+  goes p old had c d x t n q action done own may f at = record {
+    history = next x.history t;
+    opening = x.opening;
+    actor = x.actor;
+    small = x.small;
+    lawful = lawful_next x.history t x.lawful may;
+    alone = all_of a x.history.turns (t ∷ []) x.alone (own, tt);
+    at = at;
+    parts = parts_of x.history t c d n (ap is_actor own ∙ x.actor) x.lawful x.parts f;
+  }
+
+  tells : (p : Phase Entry) (old : Action) (had : List Action) (c d : Parts Entry) (x : IsClient a tables p old had c) (t : Turn)
+      (n : Notice Entry) → whose t.0 ≡ a → May x.history t → Feeds c t.0 d n → IsTold a tables n
+  tells p old had c d x t n own may f = record {
+    history = x.history;
+    turn = t;
+    opening = x.opening;
+    lawful = lawful_next x.history t x.lawful may;
+    alone = all_of a x.history.turns (t ∷ []) x.alone (own, tt);
+    is = sym (told_of x.history t.0 c d n (ap is_actor own ∙ x.actor) x.lawful x.parts f);
+  }
+
+-- ---- a request that is under way
+
+abbrev IsRefused : Notice Entry → Type 0
+IsRefused (Refused b cause) = Unit {0}
+IsRefused n = ⊥
+
+-- as what it was asked
+abbrev pub asked_as : List (Call Entry × Reply Entry) → Request Entry → Phase Entry
+asked_as calls request.Begin = Begins
+asked_as calls (request.Call call) = Calls calls call
+asked_as calls request.Commit = Commits calls
+asked_as calls q = Rests
+
+-- and there was room for a call
+abbrev pub HasRoom : List (Call Entry × Reply Entry) → Request Entry → Type 0
+HasRoom calls (request.Call call) = length calls < CALL_LIMIT
+HasRoom calls q = Unit {0}
+
+pub record Goes (calls : List (Call Entry × Reply Entry)) (q : Request Entry) (x : Seat Entry) (made : Option (Record Entry)) : Type 0 where
+  pub start : Seat Entry
+  pub stood : phase start ≡ asked_as calls q
+  pub room : HasRoom calls q
+  pub under : IsUnderWay start x made
+
+module _ (calls : List (Call Entry × Reply Entry)) where
+  -- where it ends
+  abbrev Ends : Request Entry → Notice Entry → Phase Entry → Option (Record Entry) → Type 0
+  Ends q n p made = Leads calls q n p (is_some made)
+
+  none_leads : (q : Request Entry) (n : Notice Entry) (p : Phase Entry) (made : Option (Record Entry)) → made ≡ None
+      → Leads calls q n p false
+      → Ends q n p made
+  none_leads q n p made none h = subst (λ (b : Bool). Leads calls q n p b) (sym (ap is_some none)) h
+
+  some_leads : (n : Notice Entry) (p : Phase Entry) (k : ℕ) (made : Option (Record Entry)) → IsRecordOf calls k made
+      → Leads calls request.Commit n p true → Ends request.Commit n p made
+  some_leads n p k None is h = absurd is
+  some_leads n p k (Some r) is h = h
+
+  begun : (a : ℕ) (s x : Seat Entry) (b : ℕ) (w : Answer Entry) (made : Option (Record Entry))
+      → EndsFrom a s Begins (Answered b w) x made → Ends request.Begin (Answered b w) (phase x) made
+  begun a s x b (answer.Begun rv) made e = none_leads request.Begin (Answered b (answer.Begun rv)) (phase x) made e.2 e.0
+  begun a s x b w made e = absurd e
+
+  replied : (a : ℕ) (s x : Seat Entry) (call : Call Entry) (b : ℕ) (w : Answer Entry) (made : Option (Record Entry))
+      → length calls < CALL_LIMIT → EndsFrom a s (Calls calls call) (Answered b w) x made
+      → Ends (request.Call call) (Answered b w) (phase x) made
+  replied a s x call b (answer.Replied r) made room e =
+      none_leads (request.Call call) (Answered b (answer.Replied r)) (phase x) made e.1 (e.0, room)
+  replied a s x call b w made room e = absurd e
+
+  committed : (a : ℕ) (s x : Seat Entry) (b : ℕ) (w : Answer Entry) (made : Option (Record Entry))
+      → EndsFrom a s (Commits calls) (Answered b w) x made → Ends request.Commit (Answered b w) (phase x) made
+  committed a s x b (answer.Committed k) made e = some_leads (Answered b (answer.Committed k)) (phase x) k made e.1 e.0
+  committed a s x b w made e = absurd e
+
+  -- what the end of a request says, by what it was asked
+  ended_as : (a : ℕ) (s x : Seat Entry) (q : Request Entry) (n : Notice Entry) (made : Option (Record Entry)) → HasRoom calls q
+      → (IsQuiet n → ⊥) → EndsFrom a s (asked_as calls q) n x made → Ends q n (phase x) made
+  ended_as a s x request.Begin (Answered b w) made room told e = begun a s x b w made e
+  ended_as a s x request.Begin (Refused b cause) made room told e = none_leads request.Begin (Refused b cause) (phase x) made e.1 e.0
+  ended_as a s x (request.Call call) (Answered b w) made room told e = replied a s x call b w made room e
+  ended_as a s x (request.Call call) (Refused b cause) made room told e =
+      none_leads (request.Call call) (Refused b cause) (phase x) made e.1 e.0
+  ended_as a s x request.Commit (Answered b w) made room told e = committed a s x b w made e
+  ended_as a s x request.Commit (Refused b cause) made room told e = none_leads request.Commit (Refused b cause) (phase x) made e.1 e.0
+  ended_as a s x q Quiet made room told e = absurd (told tt)
+  ended_as a s x q n made room told e = absurd e
+
+  ends_as_told : (a : ℕ) (s x : Seat Entry) (n : Notice Entry) (made : Option (Record Entry)) → (IsQuiet n → ⊥) → ComesTo a s n x made
+      → EndsFrom a s (phase s) n x made
+  ends_as_told a s x Quiet made told h = absurd (told tt)
+  ends_as_told a s x n made told h = h
+
+  ended : (a : ℕ) (s x : Seat Entry) (q : Request Entry) (n : Notice Entry) (made : Option (Record Entry)) → phase s ≡ asked_as calls q
+      → HasRoom calls q → (IsQuiet n → ⊥) → ComesTo a s n x made → Ends q n (phase x) made
+  ended a s x q n made stood room told h =
+      ended_as a s x q n made room told
+      (subst (λ (p : Phase Entry). EndsFrom a s p n x made) stood (ends_as_told a s x n made told h))
+
+  called : (call : Call Entry) (n : Notice Entry) (p : Phase Entry) → (IsQuiet n → ⊥) → (IsRefused n ⊎ (length calls < CALL_LIMIT))
+      → CallMoves calls call n p → Leads calls (request.Call call) n p false
+  called call (Answered b (answer.Replied r)) p told (inr room) h = (h, room)
+  called call (Answered b w) p told (inl is) h = absurd is
+  called call (Answered b w) p told (inr room) h = absurd h
+  called call (Refused b cause) p told room h = inl h
+  called call Quiet p told room h = absurd (told tt)
+
+-- no record is made once there is one
+once : (s x : Seat Entry) (q : Request Entry) (calls : List (Call Entry × Reply Entry)) (o made : Option (Record Entry)) (n : Notice Entry)
+    (p : Phase Entry) → phase s ≡ asked_as calls q → IsUnderWay s x made → StepMoves (phase x) (is_some o) n p
+    → (done : List Action) (action : Action)
+    → (if is_some o then (if is_some made then done ++ action ∷ [] else done) ++ action ∷ []
+    else (if is_some made then done ++ action ∷ [] else done))
+    ≡ (if is_some (latest o made) then done ++ action ∷ [] else done)
+once s x q calls None made n p stood under moves done action = refl
+once s x q calls (Some r) None n p stood under moves done action = refl
+once s x q calls (Some r) (Some d) n p stood under moves done action =
+    absurd (never q stood (subst (λ (at : Phase Entry). IsUnderWayFrom s at x (Some d)) stood under))
+  where
+    no_record : Some d ≡ None → ⊥
+    no_record e = cc
+
+    late : phase x ≡ Committed → ⊥
+    late at = not_late n (subst (λ (z : Phase Entry). StepMoves z true n p) at moves)
+      where
+        not_late : (m : Notice Entry) → StepMoves Committed true m p → ⊥
+        not_late m h = h
+
+    never : (q : Request Entry) → phase s ≡ asked_as calls q → IsUnderWayFrom s (asked_as calls q) x (Some d) → ⊥
+    never request.Begin stood u = no_record u.1
+    never (request.Call call) stood u = no_record u.1
+    never request.Commit stood (inl u) = no_record u.1
+    never request.Commit stood (inr u) = late u.0
+    never q stood u = absurd u
+
+-- ---- a request, and the steps up to its answer
+
+-- The client was told n last; if nothing, its request is under way, and k of its steps more are within the bound.
+pub record Waits (a : ℕ) (tables : Holdings) (calls : List (Call Entry × Reply Entry)) (q : Request Entry) (n : Notice Entry)
+    (action : Action) (done : List Action) (c : Parts Entry) (k : ℕ) : Type 0 where
+  pub made : Option (Record Entry)
+  pub at : Phase Entry
+  pub client : IsClient a tables at action (if is_some made then done ++ action ∷ [] else done) c
+  pub told : IsTold a tables n
+  pub goes_on : IsQuiet n → Goes calls q ((world_in client.history).seats a) made
+  pub ends : (IsQuiet n → ⊥) → Leads calls q n at (is_some made)
+  pub left : IsQuiet n → left_of (world_in client.history) a + k < step_limit
+
+is_quiet : (n : Notice Entry) → IsQuiet n → n ≡ Quiet
+is_quiet Quiet h = refl
+is_quiet n h = absurd h
+
+module _ (a : ℕ) (tables : Holdings) (calls : List (Call Entry × Reply Entry)) (action : Action) (done : List Action) where
+  soon : (h : History) (q : Request Entry) (n : Notice Entry) → IsLawful h → AreSmall h.blocks → n ≡ (happens (world_in h) (Ask a q)).1
+      → IsQuiet n → left_of (world_in (next h (Ask a q, action))) a + 0 < step_limit
+  soon h q n l small told quiet =
+      let s = state_of h.tables in
+      let few = world_soon h.blocks h.clock s.words s.held (events_of h.turns) a q l.stripes small (subst IsQuiet told quiet) in
+      let same = ap (λ (w : World Entry). left_of w a) (world_next h (Ask a q, action)) in
+      omega (arith, few, same)
+
+  asked_begin : (p : Phase Entry) (old : Action) (c d : Parts Entry) (n : Notice Entry) → IsClient a tables p old done c
+      → IsDue old action calls p request.Begin → Feeds c (Ask a request.Begin) d n → Waits a tables calls request.Begin n action done d 0
+  asked_begin p old c d n x due f =
+      let at : IsAt a Rests old done x.history = subst (λ (r : Phase Entry). IsAt a r old done x.history) due.1 x.at in
+      let t : Turn = (Ask a request.Begin, action) in
+      let told = told_of x.history (Ask a request.Begin) c d n x.actor x.lawful x.parts f in
+      let quiet : n ≡ Quiet = told ∙ begin_is_quiet x.history a old done at in
+      let now : IsAt a Begins action done (next x.history t) = begins x.history a old action done at in
+      let y : Seat Entry = (world_in (next x.history t)).seats a in
+      record {
+        made = None;
+        at = Begins;
+        client = goes a tables p old done c d x t n Begins action done refl due.0 f now;
+        told = tells a tables p old done c d x t n refl due.0 f;
+        goes_on = λ q. record {
+          start = y;
+          stood = now.stands;
+          room = tt;
+          under = subst (λ (r : Phase Entry). IsUnderWayFrom y r y None) (sym now.stands) (now.stands, refl);
+        };
+        ends = λ q. absurd (q (subst IsQuiet (sym quiet) tt));
+        left = soon x.history request.Begin n x.lawful x.small told;
+      }
+
+  -- an open transaction
+  stands : (p : Phase Entry) (old : Action) (c : Parts Entry) (x : IsClient a tables p old done c) → old ≡ action → p ≡ Stands calls
+      → IsAt a (Stands calls) action done x.history
+  stands p old c x same on =
+      subst (λ (r : Phase Entry). IsAt a r action done x.history) on (subst (λ (y : Action). IsAt a p y done x.history) same x.at)
+
+  roomy : (h : History) (call : Call Entry) (n : Notice Entry) → IsAt a (Stands calls) action done h
+      → n ≡ (happens (world_in h) (Ask a (request.Call call))).1 → IsRefused n ⊎ (length calls < CALL_LIMIT)
+  roomy h call n at told = by (ltb (length calls) CALL_LIMIT) refl
+    where
+      w : World Entry
+      w = world_in h
+
+      refused : (b : Bool) → is_there w a call.target call.op ≡ b → CALL_LIMIT ≤ length (w.seats a).calls → IsRefused n
+      refused true there long = subst IsRefused (sym (told ∙ ap (λ (r : World Entry × Notice Entry). r.1)
+          (too_long w a call.target call.op (opens a h calls action done at).0 there long))) tt
+      refused false there long = subst IsRefused (sym (told ∙ ap (λ (r : World Entry × Notice Entry). r.1)
+          (no_such w a call.target call.op (opens a h calls action done at).0 there))) tt
+
+      by : (b : Bool) → ltb (length calls) CALL_LIMIT ≡ b → IsRefused n ⊎ (length calls < CALL_LIMIT)
+      by true e = inr (ltb-true (length calls) CALL_LIMIT e)
+      by false e =
+          inl (refused (is_there w a call.target call.op) refl
+          (subst (λ (cs : List (Call Entry × Reply Entry)). CALL_LIMIT ≤ length cs) (sym (opens a h calls action done at).1)
+          (ltb-false (length calls) CALL_LIMIT e)))
+
+  -- a call that is asked gives nothing up
+  no_end : (h : History) (call : Call Entry) → IsLawful h → IsAt a (Stands calls) action done h
+      → phase ((happens (world_in h) (Ask a (request.Call call))).0.seats a) ≡ Ended → ⊥
+  no_end h call l at e =
+      let s = state_of h.tables in
+      let start = opened h.blocks h.clock s.words s.held in
+      no_abort call
+      (only_abort (world_in h) a (request.Call call)
+      (run_linked (events_of h.turns) start (opened_linked h.blocks h.clock s.words s.held l.stripes))
+      (ap is_ending (opens a h calls action done at).0) (ends_at ((happens (world_in h) (Ask a (request.Call call))).0.seats a) e))
+    where
+      no_abort : (call : Call Entry) → request.Call call ≡ request.Abort → ⊥
+      no_abort call e = cc
+
+  asked_call : (call : Call Entry) (p : Phase Entry) (old : Action) (c d : Parts Entry) (n : Notice Entry) → IsClient a tables p old done c
+      → IsDue old action calls p (request.Call call) → Feeds c (Ask a (request.Call call)) d n
+      → Waits a tables calls (request.Call call) n action done d 0
+  asked_call call p old c d n x due f =
+      let q : Request Entry = request.Call call in
+      let at = stands p old c x due.0 due.1 in
+      let t : Turn = (Ask a q, action) in
+      let may : May x.history t = may_ask x.history a calls action done (ask.Call call) at due.2 in
+      let told = told_of x.history (Ask a q) c d n x.actor x.lawful x.parts f in
+      let asked = calls_to x.history a (Stands calls) call action done n at told in
+      let y : Seat Entry = (world_in (next x.history t)).seats a in
+      let room = roomy x.history call n at told in
+      record {
+        made = None;
+        at = asked.to;
+        client = goes a tables p old done c d x t n asked.to action done refl may f asked.at;
+        told = tells a tables p old done c d x t n refl may f;
+        goes_on = λ quiet. going y n asked.to asked.at.stands quiet room asked.moves
+            (λ e. no_end x.history call x.lawful at
+            (ap (λ (w : World Entry). phase (w.seats a)) (sym (world_next x.history t)) ∙ asked.at.stands ∙ e));
+        ends = λ q. called calls call n asked.to q room asked.moves;
+        left = soon x.history q n x.lawful x.small told;
+      }
+    where
+      under : (y : Seat Entry) (to : Phase Entry) → phase y ≡ to → (to ≡ Ended → ⊥) → (to ≡ Calls calls call) ⊎ (to ≡ Ended)
+          → (length calls < CALL_LIMIT) → Goes calls (request.Call call) y None
+      under y to at never (inl is) room =
+          record {
+            start = y;
+            stood = at ∙ is;
+            room = room;
+            under = subst (λ (r : Phase Entry). IsUnderWayFrom y r y None) (sym (at ∙ is)) (inl (at ∙ is), refl);
+          }
+      under y to at never (inr is) room = absurd (never is)
+
+      going : (y : Seat Entry) (n : Notice Entry) (to : Phase Entry) → phase y ≡ to → IsQuiet n
+          → (IsRefused n ⊎ (length calls < CALL_LIMIT)) → CallMoves calls call n to → (to ≡ Ended → ⊥) → Goes calls (request.Call call) y None
+      going y Quiet to at quiet (inl is) moves never = absurd is
+      going y Quiet to at quiet (inr room) moves never = under y to at never moves room
+      going y n to at quiet room moves never = absurd quiet
+
+  asked_commit : (p : Phase Entry) (old : Action) (c d : Parts Entry) (n : Notice Entry) → IsClient a tables p old done c
+      → IsDue old action calls p request.Commit → Feeds c (Ask a request.Commit) d n → Waits a tables calls request.Commit n action done d 0
+  asked_commit p old c d n x due f =
+      let q : Request Entry = request.Commit in
+      let at = stands p old c x due.0 due.1 in
+      let t : Turn = (Ask a q, action) in
+      let may : May x.history t = may_ask x.history a calls action done ask.Done at due.2 in
+      let told = told_of x.history (Ask a q) c d n x.actor x.lawful x.parts f in
+      let quiet : n ≡ Quiet = told ∙ commit_is_quiet x.history a calls action done at in
+      let asked = commits_to x.history a (Stands calls) action done n at told in
+      let is : asked.to ≡ Commits calls = subst (λ (m : Notice Entry). AskMoves (Stands calls) q m asked.to) quiet asked.moves in
+      let y : Seat Entry = (world_in (next x.history t)).seats a in
+      let now : phase y ≡ Commits calls = asked.at.stands ∙ is in
+      record {
+        made = None;
+        at = asked.to;
+        client = goes a tables p old done c d x t n asked.to action done refl may f asked.at;
+        told = tells a tables p old done c d x t n refl may f;
+        goes_on = λ q. record {
+          start = y;
+          stood = now;
+          room = tt;
+          under = subst (λ (r : Phase Entry). IsUnderWayFrom y r y None) (sym now) (inl (inl now, refl));
+        };
+        ends = λ q. absurd (q (subst IsQuiet (sym quiet) tt));
+        left = soon x.history q n x.lawful x.small told;
+      }
+
+  pub asks : (q : Request Entry) (p : Phase Entry) (old : Action) (c d : Parts Entry) (n : Notice Entry) → IsClient a tables p old done c
+      → IsDue old action calls p q → Feeds c (Ask a q) d n → Waits a tables calls q n action done d 0
+  asks request.Begin p old c d n x due f = asked_begin p old c d n x due f
+  asks (request.Call call) p old c d n x due f = asked_call call p old c d n x due f
+  asks request.Commit p old c d n x due f = asked_commit p old c d n x due f
+  asks q p old c d n x due f = absurd due
+
+  nearer : (h : History) (n : Notice Entry) (k : ℕ) → IsLawful h → AreSmall h.blocks → n ≡ (happens (world_in h) (Step a)).1
+      → left_of (world_in h) a + k < step_limit → IsQuiet n → left_of (world_in (next h (Step a, action))) a + (k + 1) < step_limit
+  nearer h n k l small told left quiet =
+      let s = state_of h.tables in
+      let less = world_nears h.blocks h.clock s.words s.held (events_of h.turns) l.stripes small a (subst IsQuiet told quiet) in
+      let same = ap (λ (w : World Entry). left_of w a) (world_next h (Step a, action)) in
+      omega (arith, less, same, left)
+
+  pub steps : (q : Request Entry) (c d : Parts Entry) (m n : Notice Entry) (k : ℕ) → IsQuiet m → Waits a tables calls q m action done c k
+      → Feeds c (Step a) d n → Waits a tables calls q n action done d (k + 1)
+  steps q c d m n k quiet v f =
+      let x = v.client in
+      let h = x.history in
+      let w = world_in h in
+      let s = state_of h.tables in
+      let g = v.goes_on quiet in
+      let o = committed_by (w.seats a) (w.seats a).stage in
+      let r = happens w (Step a) in
+      let had = if is_some v.made then done ++ action ∷ [] else done in
+      let t : Turn = (Step a, action) in
+      let told : n ≡ r.1 = told_of h (Step a) c d n x.actor x.lawful x.parts f in
+      let comes : ComesTo a g.start n (r.0.seats a) (latest o v.made) =
+      subst (λ (z : Notice Entry). ComesTo a g.start z (r.0.seats a) (latest o v.made)) (sym told)
+      (steps_come h.blocks h.clock s.words s.held (events_of h.turns) a g.start v.made x.lawful.stripes g.under) in
+      let now : IsAt a (phase (r.0.seats a)) action (if is_some (latest o v.made) then done ++ action ∷ [] else done) (next h t) =
+      subst (λ (xs : List Action). IsAt a (phase (r.0.seats a)) action xs (next h t))
+      (once g.start (w.seats a) q calls o v.made r.1 (phase (r.0.seats a)) g.stood g.under (steps_move w a) done action)
+      (step_at h a v.at action had x.at) in
+      let seat : (world_in (next h t)).seats a ≡ r.0.seats a = ap (λ (z : World Entry). z.seats a) (world_next h t) in
+      record {
+        made = latest o v.made;
+        at = phase (r.0.seats a);
+        client = goes a tables v.at action had c d x t n (phase (r.0.seats a)) action _ refl tt f now;
+        told = tells a tables v.at action had c d x t n refl tt f;
+        goes_on = λ still. record {
+          start = g.start;
+          stood = g.stood;
+          room = g.room;
+          under =
+              subst (λ (y : Seat Entry). IsUnderWay g.start y (latest o v.made)) (sym seat)
+              (subst (λ (z : Notice Entry). ComesTo a g.start z (r.0.seats a) (latest o v.made)) (is_quiet n still) comes);
+        };
+        ends = λ spoken. ended calls a g.start (r.0.seats a) q n (latest o v.made) g.stood g.room spoken comes;
+        left = nearer h n k x.lawful x.small told (v.left quiet);
+      }
+
+-- in every world where the client may ask q, it has asked, has made k steps since, and was told n last
+abbrev pub Waiting : Parts Entry → ℕ → Request Entry → Parts Entry → Notice Entry → ℕ → Type 0
+Waiting c a q d n k =
+    (tables : Holdings) (calls : List (Call Entry × Reply Entry)) (p : Phase Entry) (old action : Action) (done : List Action)
+    → IsClient a tables p old done c → IsDue old action calls p q → Waits a tables calls q n action done d k
+
+pub spoken : (c : Parts Entry) (a : ℕ) (q : Request Entry) (d : Parts Entry) (n : Notice Entry) (k : ℕ) → Waiting c a q d n k
+    → (IsQuiet n → ⊥) → IsAnswered c a q d n
+spoken c a q d n k w told tables calls p old action done x due =
+    let v = w tables calls p old action done x due in
+    record { at = v.at; commits = is_some v.made; leads = v.ends told; told = v.told; client = v.client }
+
+-- the bound is never reached
+pub in_time : (c : Parts Entry) (a : ℕ) (q : Request Entry) (d : Parts Entry) (n : Notice Entry) (k : ℕ) → step_limit ≤ k
+    → Waiting c a q d n k → IsAnswered c a q d n
+in_time c a q d n k all w tables calls p old action done x due =
+    let v = w tables calls p old action done x due in
+    let late : IsQuiet n → ⊥ = λ quiet. (let left = v.left quiet in omega (arith, left, all)) in
+    record { at = v.at; commits = is_some v.made; leads = v.ends late; told = v.told; client = v.client }
+
+pub at_first : (c d : Parts Entry) (a : ℕ) (q : Request Entry) (n : Notice Entry) → Feeds c (Ask a q) d n → Waiting c a q d n 0
+at_first c d a q n f tables calls p old action done x due = asks a tables calls action done q p old c d n x due f
+
+pub again : (c d e : Parts Entry) (a : ℕ) (q : Request Entry) (m n : Notice Entry) (k : ℕ) → IsQuiet m → Waiting c a q d m k
+    → Feeds d (Step a) e n → Waiting c a q e n (k + 1)
+again c d e a q m n k quiet w f tables calls p old action done x due =
+    steps a tables calls action done q d e m n k quiet (w tables calls p old action done x due) f
+
+pub told_last : (n : Notice Entry) → (n ≡ Quiet → ⊥) → IsQuiet n → ⊥
+told_last n told quiet = told (is_quiet n quiet)

@@ -1,0 +1,31 @@
+//! One request of a client, up to what it comes to.
+ghost use Rattle.std.specs.Prelude.{IfOk};
+ghost use Rattle.session_runs.specs.Clients.{IsAnswered};
+
+use running_world::World;
+use seq_model::{Event, Memory, Notice, Request};
+use vacation_core::Entry;
+
+/// Each request is answered within so many steps of its client.
+const STEP_LIMIT: u32 = 1_000_000;
+
+/// A request of the client that is this actor, and then its steps, until something is told. It is told within the bound on steps.
+pub fn ask(
+    world: &mut World<Entry>,
+    actor: u32,
+    request: Request<Entry>,
+) -> Result<Notice<Entry>, Memory>
+    ensures { IfOk result (λ notice. IsAnswered world.old.parts actor request world.new.parts notice) }
+{
+    match world.feed(Event::Ask(actor, request))? {
+        Notice::Quiet => {}
+        notice => return Ok(notice),
+    }
+    for _ in 0..STEP_LIMIT {
+        match world.feed(Event::Step(actor))? {
+            Notice::Quiet => {}
+            notice => return Ok(notice),
+        }
+    }
+    Ok(Notice::Quiet)
+}
