@@ -58,9 +58,22 @@ module _ {V : Type 0} where
   ends_as calls Leaving = refl
   ends_as calls st = refl
 
+  -- a transaction is being given up, or is not
   pub ends_at : (x : Seat V) → phase x ≡ Ends → is_ending x.stage ≡ true
   unfolding is_end
   ends_at x e = sym (ends_as x.calls x.stage) ∙ ap is_end e
+
+  pub on_call : (x : Seat V) (calls : List (Call V × Reply V)) (call : Call V) → phase x ≡ Calls calls call → is_ending x.stage ≡ false
+  unfolding is_end
+  on_call x calls call e = sym (ends_as x.calls x.stage) ∙ ap is_end e
+
+  pub on_commit : (x : Seat V) (calls : List (Call V × Reply V)) → phase x ≡ Commits calls → is_ending x.stage ≡ false
+  unfolding is_end
+  on_commit x calls e = sym (ends_as x.calls x.stage) ∙ ap is_end e
+
+  pub on_done : (x : Seat V) → phase x ≡ Committed → is_ending x.stage ≡ false
+  unfolding is_end
+  on_done x e = sym (ends_as x.calls x.stage) ∙ ap is_end e
 
   -- ---- the number of a commit stays
   abbrev is_late : Seat V → Stage V → Bool

@@ -1,0 +1,304 @@
+-- A request is driven: what its turns so far have led to, and one turn more.
+--
+-- The step of a turn has happened in a world that events have reached, which was to the actor as its own world. So the laws on such worlds
+-- say of it what the request comes to (`courses`), that a cause is true that is noted there, and that the request is nearer to its answer.
+use Rattle.std.proofs.Common.{◌≡◌, ℕ, ◌<◌, Bool, true, false, true≢false, List, [], ◌∷◌, ◌++◌, Option, Some, None, inl, inr, refl, sym, ap, ◌∙◌, subst, arith}
+use Rattle.std.specs.Prelude.{is_some}
+use Rattle.std.proofs.lemmas.List.{append-nil, append_assoc}
+use Rattle.seq_model.specs.declared.event.Event.TheVariants.{Step}
+use Rattle.seq_model.specs.declared.event.Notice.{Notice}
+use Rattle.seq_model.specs.declared.event.Notice.TheVariants.{Refused}
+use Rattle.seq_model.specs.declared.record.Record.{Record}
+use Rattle.seq_model.specs.declared.refusal.Refusal.{Refusal}
+use Rattle.replay_log.proofs.AnswerLemmas.{refused_step}
+use Rattle.replay_log.proofs.EventLemmas.{opened_linked, run_linked}
+use Rattle.replay_log.proofs.ProgressLemmas.{world_nears}
+use Rattle.replay_log.proofs.RefusalLemmas.{keeps_cause, world_causes}
+use Rattle.replay_log.proofs.SeatLemmas.{Linked}
+use Rattle.replay_log.specs.Seats.{World, After, Stage, Seat, Beginning, Cancelling, Closing, Leaving, Ready, Returning}
+use Rattle.replay_log.specs.Worlds.{happens, run}
+use Rattle.replay_log.specs.WorldAnswers.{IsRefusedAt, RefusedBy}
+use Rattle.replay_log.specs.WorldProgress.{AreSmall, IsQuiet, left_at, left_of}
+use Rattle.replay_log.specs.WorldRefusals.{IsCause, is_ending}
+use Rattle.replay_log.specs.WorldTraces.{committed_by}
+use Rattle.atomic_steps.specs.Own.{Alike}
+use Rattle.actor_words.specs.Dispatch.{next_of}
+use Rattle.tx_actor.specs.Running.{notice_of, stage_of}
+use Rattle.tx_actor.specs.declared.actor.Told.{Told}
+use Rattle.tx_actor.specs.declared.actor.Told.TheVariants as told
+use Rattle.tx_actor.specs.declared.actor.TxActor.{TxActor}
+use Rattle.tx_table.specs.declared.seat.Seat as table
+use Rattle.tx_table.specs.declared.table.TxTable.{TxTable}
+use Rattle.tx_table.specs.declared.view.View.{View}
+use Rattle.tx_table.specs.Opening.{blocks_at}
+use Rattle.tx_table.specs.Seated.{acts, blocks_in, list_of, opening_of, view}
+use Rattle.tx_table.specs.Seated as seated
+use Rattle.tx_table.specs.Turns.{asked_all, ends_of, lone}
+use Rattle.tx_table.specs.declared.view.Turn.{Turn}
+use Rattle.tx_phases.proofs.CourseLemmas.{on_call, on_commit, on_done, steps_come, ends_at}
+use Rattle.tx_phases.proofs.PhaseLemmas.{steps_move}
+use Rattle.tx_phases.specs.Courses.{ComesTo, IsUnderWay, IsUnderWayFrom, latest}
+use Rattle.tx_phases.specs.Phases.{Phase, Rests, Begins, Stands, Calls, Commits, Committed, Ends, IsMistaken, StepMoves, phase, phase_at}
+use Rattle.transactions.specs.Driven.{Driven, HasFound, IsTrue, IsTurnFrom, as_receipts, seat_in, standing}
+use Rattle.tx_turns.proofs.TurnLemmas.{ends_as as commits_as}
+use Rattle.tx_turns.specs.Ties.{IsOnWord, Ties, Turned, commits}
+
+module _ {V : Type 0} where
+  -- ---- what a step commits
+  first_in : Record V → List (ℕ × Record V) → Record V
+  first_in r [] = r
+  first_in r (q ∷ qs) = q.1
+
+  made_by : (a : ℕ) (x : Seat V) (st : Stage V) (e : Option (Record V)) → as_receipts a e ≡ ends_of a x st → e ≡ committed_by x st
+  unfolding first_in
+  made_by a x (Ready ks) None h = absurd (let z : ⊥ = cc in z)
+  made_by a x (Ready ks) (Some r) h = ap (λ qs. Some (first_in r qs)) h
+  made_by a x Closing None h = absurd (let z : ⊥ = cc in z)
+  made_by a x Closing (Some r) h = ap (λ qs. Some (first_in r qs)) h
+  made_by a x st None h = refl
+  made_by a x st (Some r) h = absurd (let z : ⊥ = cc in z)
+
+  is_commit : Phase V → Bool
+  is_commit (Commits calls) = true
+  is_commit p = false
+
+  -- only a transaction that is to commit makes a record
+  commits_first : (x : Seat V) (st : Stage V) (r : Record V) → committed_by x st ≡ Some r → is_commit (phase_at x.calls st) ≡ true
+  unfolding is_commit
+  commits_first x (Ready ks) r h = refl
+  commits_first x Closing r h = refl
+  commits_first x st r h = absurd (let z : ⊥ = cc in z)
+
+  fresh : (s x : Seat V) (d : Option (Record V)) (p : Phase V) → is_commit (phase x) ≡ true → IsUnderWayFrom s p x d → d ≡ None
+  unfolding is_commit
+  fresh s x d Begins c h = h.1
+  fresh s x d (Calls calls call) c h = h.1
+  fresh s x d (Commits calls) c (inl h) = h.1
+  fresh s x d (Commits calls) c (inr has) = absurd (true≢false (sym c ∙ ap is_commit has.0))
+  fresh s x d Ends c h = h.2
+  fresh s x d Rests c h = absurd h
+  fresh s x d (Stands calls) c h = absurd h
+  fresh s x d Committed c h = absurd h
+
+  gained : (a : ℕ) (e d : Option (Record V)) (rs : List (ℕ × Record V)) → ((r : Record V) → e ≡ Some r → d ≡ None)
+      → (rs ++ as_receipts a d) ++ as_receipts a e ≡ rs ++ as_receipts a (latest e d)
+  gained a None d rs new = append-nil (rs ++ as_receipts a d)
+  gained a (Some r) d rs new =
+      ap (λ (k : Option (Record V)). (rs ++ as_receipts a k) ++ (a, r) ∷ []) (new r refl)
+      ∙ ap (λ (qs : List (ℕ × Record V)). qs ++ (a, r) ∷ []) (append-nil rs)
+
+  -- ---- what is told of one that is given up
+  ending_told : (v u : World V) (a : ℕ) (st : Stage V) (cause : Refusal) → is_ending st ≡ true → IsRefusedAt v a st u cause
+      → (v.seats a).cause ≡ Some cause
+  ending_told v u a Leaving cause e h = h.0
+  ending_told v u a Cancelling cause e h = absurd h
+  ending_told v u a (Returning ks) cause e h = absurd h
+  ending_told v u a st cause e h = absurd (true≢false (sym e))
+
+  begins_at : (calls : List (_ × _)) (st : Stage V) → phase_at calls st ≡ Begins → st ≡ Beginning
+  begins_at calls Beginning h = refl
+  begins_at calls st h = absurd (let z : ⊥ = cc in z)
+
+  call_refused : (calls : List (_ × _)) (call : _) (b : Bool) (a : ℕ) (cause : Refusal) (p : Phase V)
+      → StepMoves (Calls calls call) b (Refused a cause) p → IsMistaken cause
+  call_refused calls call true a cause p h = absurd h
+  call_refused calls call false a cause p h = h.1
+
+  commit_refused : (calls : List (_ × _)) (b : Bool) (a : ℕ) (cause : Refusal) (p : Phase V)
+      → StepMoves (Commits calls) b (Refused a cause) p → ⊥
+  commit_refused calls true a cause p h = h
+  commit_refused calls false a cause p h = h
+
+  done_refused : (b : Bool) (a : ℕ) (cause : Refusal) (p : Phase V) → StepMoves Committed b (Refused a cause) p → ⊥
+  done_refused true a cause p h = h
+  done_refused false a cause p h = h
+
+  -- ---- before the first turn
+  true_first : (o : World V) (s : table.Seat V) (p : Phase V) → standing o s ≡ p → IsTrue o s s p told.Quiet
+  true_first o s (Calls calls call) on = λ cause ends is. absurd (let e = sym on ∙ ends in let z : ⊥ = cc in z)
+  true_first o s (Commits calls) on = λ cause ends is. absurd (let e = sym on ∙ ends in let z : ⊥ = cc in z)
+  true_first o s p on = tt
+
+  pub driven_first : (o : World V) (s : table.Seat V) → IsUnderWay (seat_in o s) (seat_in o s) None → Driven o s s told.Quiet None
+  driven_first o s under = record {
+    seat = (refl, refl, refl);
+    more = [];
+    turns = sym (append-nil (view s).turns);
+    shares = refl;
+    outs = refl;
+    gains = sym (append-nil (view s).receipts);
+    rises = omega arith;
+    comes = under;
+    is_true = true_first o s (standing o s) refl;
+  }
+
+  -- ---- one turn more
+  module _ (t : TxTable V) (s u z : table.Seat V) (r : TxActor V) (n : Told V) (d : Option (Record V)) (ties : Ties t u r)
+      (D : Driven (opening_of t) s u told.Quiet d) (T : Turned (opening_of t) u r z n) where
+    abbrev o : World V
+    o = opening_of t
+
+    abbrev a : ℕ
+    a = seated.actor u
+
+    abbrev v : World V
+    v = run o T.takes.happened.events
+
+    abbrev x : Seat V
+    x = v.seats a
+
+    abbrev after : After V
+    after = happens v (Step a)
+
+    same : a ≡ seated.actor s
+    same = D.seat.1
+
+    x_is : x ≡ seat_in o u
+    x_is = T.takes.happened.alike.seat
+
+    y_is : after.0.seats a ≡ seat_in o z
+    y_is = T.takes.happened.same.0.seat ∙ (λ i. (sym T.takes.own i).seats (sym T.takes.seat.1 i))
+
+    told_is : after.1 ≡ notice_of a n
+    told_is = T.takes.happened.same.1 ∙ sym T.tells
+
+    linked : Linked v
+    linked = run_linked T.takes.happened.events o
+        (opened_linked (blocks_at t.whole.shared.key) t.whole.shared.key.shape.value.clock t.whole.shared.key.state.value.words
+        t.whole.shared.key.state.value.held ties.reached.stripes)
+
+    -- the turn is one of those from s on
+    this : IsTurnFrom o s z v
+    this = record {
+      before = D.more;
+      turn = record { asks = list_of u.asked; found = T.found; base = T.base };
+      after = [];
+      turns = ap (λ (w : View V). w.turns) T.takes.turn
+          ∙ ap (λ (is : List (Turn V)). is ++ record { asks = list_of u.asked; found = T.found; base = T.base } ∷ []) D.turns;
+      events = T.takes.happened.events;
+      reached = refl;
+      alike = subst (λ (k : ℕ × List (Turn V)). Alike k.0 v (asked_all k.0 (lone k.0 o k.1) (list_of u.asked)))
+          (λ i. (same i, D.turns i)) T.takes.happened.alike;
+    }
+
+    -- and those before it still are
+    further : (w : World V) → IsTurnFrom o s u w → IsTurnFrom o s z w
+    further w h = record {
+      before = h.before;
+      turn = h.turn;
+      after = h.after ++ record { asks = list_of u.asked; found = T.found; base = T.base } ∷ [];
+      turns = ap (λ (k : View V). k.turns) T.takes.turn
+          ∙ (ap (λ (is : List (Turn V)). is ++ record { asks = list_of u.asked; found = T.found; base = T.base } ∷ []) h.turns
+          ∙ append_assoc ((view s).turns ++ h.before) (h.turn ∷ h.after) (record { asks = list_of u.asked; found = T.found; base = T.base } ∷ []));
+      events = h.events;
+      reached = h.reached;
+      alike = h.alike;
+    }
+
+    still : (cause : Refusal) → HasFound o s u cause → HasFound o s z cause
+    still cause h = (h.0, further h.0 h.1, h.2)
+
+    -- a cause that is noted now is true
+    found : (cause : Refusal) → is_ending x.stage ≡ false → standing o z ≡ Ends → (seat_in o z).cause ≡ Some cause → HasFound o s z cause
+    found cause on ends is =
+        let c = world_causes (blocks_at t.whole.shared.key) t.whole.shared.key.shape.value.clock t.whole.shared.key.state.value.words
+        t.whole.shared.key.state.value.held T.takes.happened.events a ties.reached.stripes on
+        (ends_at (after.0.seats a) (ap phase y_is ∙ ends)) in
+        let one : c.0 ≡ cause = (let q : Some c.0 ≡ Some cause = sym c.1 ∙ (ap (λ (k : Seat V). k.cause) y_is ∙ is) in cc) in (
+          v,
+          this,
+          subst (λ (k : ℕ × Refusal). IsCause v k.0 (v.seats k.0).stage (happens v (Step k.0)).0 k.1) (λ i. (same i, one i)) c.2,
+        )
+
+    -- one that was noted before stays
+    kept : (cause : Refusal) → phase (seat_in o u) ≡ Ends → standing o z ≡ Ends → (seat_in o z).cause ≡ Some cause
+        → (seat_in o u).cause ≡ Some cause
+    kept cause up ends is =
+        ap (λ (k : Seat V). k.cause) (sym x_is)
+        ∙ (sym (keeps_cause v a (ends_at x (ap phase x_is ∙ up)) (ends_at (after.0.seats a) (ap phase y_is ∙ ends)))
+        ∙ (ap (λ (k : Seat V). k.cause) y_is ∙ is))
+
+    refused : (cause : Refusal) → n ≡ told.Refused cause → IsRefusedAt v a x.stage after.0 cause
+    refused cause e =
+        (subst (λ (k : Notice V). RefusedBy a (IsRefusedAt v a x.stage after.0) k) (told_is ∙ ap (notice_of a) e) (refused_step v a linked)).1
+
+    -- it is told
+    told_up : (cause : Refusal) → n ≡ told.Refused cause → phase (seat_in o u) ≡ Ends → (seat_in o u).cause ≡ Some cause
+    told_up cause e up =
+        ap (λ (k : Seat V). k.cause) (sym x_is)
+        ∙ ending_told v after.0 a x.stage cause (ends_at x (ap phase x_is ∙ up)) (refused cause e)
+
+    moves : (p : Phase V) (cause : Refusal) → n ≡ told.Refused cause → phase (seat_in o u) ≡ p
+        → StepMoves p (is_some (committed_by x x.stage)) (Refused a cause) (phase (after.0.seats a))
+    moves p cause e at =
+        subst (λ (k : Phase V × Notice V). StepMoves k.0 (is_some (committed_by x x.stage)) k.1 (phase (after.0.seats a)))
+        (λ i. ((ap phase x_is ∙ at) i, (told_is ∙ ap (notice_of a) e) i)) (steps_move v a)
+
+    truth : (p : Phase V) (m : Told V) → n ≡ m → IsUnderWayFrom (seat_in o s) p (seat_in o u) d → IsTrue o s u p told.Quiet → IsTrue o s z p m
+    truth Begins told.Quiet e under was = tt
+    truth Begins (told.Answered q) e under was = tt
+    truth Begins (told.Refused cause) e under was =
+        let at : x.stage ≡ Beginning = begins_at x.calls x.stage (ap phase x_is ∙ under.0) in
+        let h = subst (λ (st : Stage V). IsRefusedAt v a st after.0 cause) at (refused cause e) in (v, this, h.0, h.1)
+    truth (Calls calls call) told.Quiet e (inl at, none) was = λ cause. found cause (on_call x calls call (ap phase x_is ∙ at))
+    truth (Calls calls call) told.Quiet e (inr up, none) was =
+        λ cause ends is. still cause (was cause up.0 (kept cause up.0 ends is))
+    truth (Calls calls call) (told.Answered q) e under was = tt
+    truth (Calls calls call) (told.Refused cause) e (inl at, none) was =
+        inr (call_refused calls call _ a cause _ (moves (Calls calls call) cause e at))
+    truth (Calls calls call) (told.Refused cause) e (inr up, none) was = inl (still cause (was cause up.0 (told_up cause e up.0)))
+    truth (Commits calls) told.Quiet e (inl (inl at, none)) was = λ cause. found cause (on_commit x calls (ap phase x_is ∙ at))
+    truth (Commits calls) told.Quiet e (inl (inr up, none)) was =
+        λ cause ends is. still cause (was cause up.0 (kept cause up.0 ends is))
+    truth (Commits calls) told.Quiet e (inr has) was = λ cause. found cause (on_done x (ap phase x_is ∙ has.0))
+    truth (Commits calls) (told.Answered q) e under was = tt
+    truth (Commits calls) (told.Refused cause) e (inl (inl at, none)) was =
+        absurd (commit_refused calls _ a cause _ (moves (Commits calls) cause e at))
+    truth (Commits calls) (told.Refused cause) e (inl (inr up, none)) was = still cause (was cause up.0 (told_up cause e up.0))
+    truth (Commits calls) (told.Refused cause) e (inr has) was = absurd (done_refused _ a cause _ (moves Committed cause e has.0))
+    truth Rests m e under was = tt
+    truth (Stands calls) m e under was = tt
+    truth Committed m e under was = tt
+    truth Ends m e under was = tt
+
+    pub driven_on : (e : Option (Record V)) → IsOnWord (next_of (stage_of r.stage)) → commits a r ≡ as_receipts a e
+        → Driven o s z n (latest e d)
+    driven_on e on makes =
+        let w = acts o u in
+        let made_u : e ≡ committed_by (seat_in o u) (seat_in o u).stage =
+        made_by a (seat_in o u) (seat_in o u).stage e (sym makes ∙ sym (commits_as w a r ties.runs)) in
+        let made : committed_by x x.stage ≡ e = ap (λ (k : Seat V). committed_by k k.stage) x_is ∙ sym made_u in
+        let course = steps_come (blocks_at t.whole.shared.key) t.whole.shared.key.shape.value.clock t.whole.shared.key.state.value.words
+        t.whole.shared.key.state.value.held T.takes.happened.events a (seat_in o s) d ties.reached.stripes
+        (subst (λ (k : Seat V). IsUnderWay (seat_in o s) k d) (sym x_is) D.comes) in
+        let new : (q : Record V) → e ≡ Some q → d ≡ None = λ q is. fresh (seat_in o s) (seat_in o u) d (phase (seat_in o s))
+        (commits_first (seat_in o u) (seat_in o u).stage q (sym made_u ∙ is)) D.comes in
+        record {
+          seat = (T.takes.seat.0 ∙ D.seat.0, T.takes.seat.1 ∙ D.seat.1, T.takes.seat.2 ∙ D.seat.2);
+          more = D.more ++ record { asks = list_of u.asked; found = T.found; base = T.base } ∷ [];
+          turns = ap (λ (k : View V). k.turns) T.takes.turn
+              ∙ (ap (λ (is : List (Turn V)). is ++ record { asks = list_of u.asked; found = T.found; base = T.base } ∷ []) D.turns
+              ∙ append_assoc (view s).turns D.more (record { asks = list_of u.asked; found = T.found; base = T.base } ∷ []));
+          shares = ap (λ (k : View V). k.shares) T.takes.turn ∙ D.shares;
+          outs = T.outs on ∙ D.outs;
+          gains = T.gains ∙ ((λ i. D.gains i ++ (makes ∙ ap (λ (b : ℕ). as_receipts b e) same) i)
+              ∙ gained (seated.actor s) e d (view s).receipts new);
+          rises = (let p = D.rises in let q = T.rises in let k : (view z).clock ≡ T.clock = ap (λ (k : View V). k.clock) T.takes.turn in omega (arith, p, q, k));
+          comes = subst (λ (k : ℕ × Notice V × Seat V × Option (Record V)). ComesTo k.0 (seat_in o s) k.1 k.2 (latest k.3 d))
+              (λ i. (same i, (told_is ∙ ap (λ (b : ℕ). notice_of b n) same) i, y_is i, made i)) course;
+          is_true = truth (standing o s) n refl D.comes D.is_true;
+        }
+
+    -- the request is nearer to its answer
+    pub nearer : blocks_in t ≡ [] → n ≡ told.Quiet → left_of (acts o z) (seated.actor z) < left_of (acts o u) (seated.actor u)
+    nearer none e =
+        let H = T.takes.happened in
+        let small = subst AreSmall (sym none) tt in
+        let quiet = subst (λ (k : Notice V). IsQuiet k) (sym (told_is ∙ ap (notice_of a) e)) tt in
+        let less = world_nears (blocks_at t.whole.shared.key) t.whole.shared.key.shape.value.clock t.whole.shared.key.state.value.words
+        t.whole.shared.key.state.value.held H.events ties.reached.stripes small a quiet in
+        let before : left_of v a ≡ left_of (acts o u) a = (λ i. left_at (x_is i).stage (H.alike.boosted.actor i)) in
+        let actor_is : after.0.boosted.words.actors a ≡ (acts o z).boosted.words.actors (seated.actor z) =
+        H.same.0.boosted.actor ∙ (λ i. (sym T.takes.own i).boosted.words.actors (sym T.takes.seat.1 i)) in
+        let now : left_of after.0 a ≡ left_of (acts o z) (seated.actor z) = (λ i. left_at (y_is i).stage (actor_is i)) in
+        omega (arith, less, before, now)

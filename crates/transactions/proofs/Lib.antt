@@ -1,0 +1,3 @@
+pub mod NextLemmas
+pub mod DrivenLemmas
+pub mod RequestLemmas

@@ -1,0 +1,180 @@
+-- Requests from a transaction at rest: where its actor stands, what the request has under way, and what it comes to.
+use Rattle.std.proofs.Common.{◌≡◌, ◌≢◌, ℕ, false, List, [], ◌∷◌, ◌++◌, length, Option, None, refl, sym, ap, ◌∙◌, subst}
+use Rattle.std.proofs.lemmas.List.{append-nil}
+use Rattle.seq_model.specs.declared.call.Call.{Call}
+use Rattle.seq_model.specs.declared.call.Reply.{Reply}
+use Rattle.seq_model.specs.declared.event.Answer.TheVariants as answer
+use Rattle.seq_model.specs.declared.event.Event.TheVariants.{Ask}
+use Rattle.seq_model.specs.declared.event.Notice.{Notice}
+use Rattle.seq_model.specs.declared.event.Notice.TheVariants.{Quiet, Answered, Refused}
+use Rattle.seq_model.specs.declared.event.Request.TheVariants.{Abort}
+use Rattle.seq_model.specs.declared.record.Record.{Record}
+use Rattle.replay_log.specs.Seats as worlds
+use Rattle.replay_log.specs.Seats.{World, After, Seat, Stage, Ready}
+use Rattle.replay_log.specs.Worlds.{ask_at, happens}
+use Rattle.actor_words.specs.Dispatch.{is_loading, next_of}
+use Rattle.actor_words.specs.declared.next.Next.TheVariants as next
+use Rattle.tx_actor.specs.Keeping.{NamesAmong}
+use Rattle.tx_actor.specs.Running.{stage_of}
+use Rattle.tx_actor.specs.declared.actor.Stage as own
+use Rattle.tx_actor.specs.declared.actor.Stage.TheVariants as stage
+use Rattle.tx_actor.specs.declared.actor.Told.{Told}
+use Rattle.tx_actor.specs.declared.actor.Told.TheVariants as told
+use Rattle.tx_actor.specs.declared.actor.TxActor.{TxActor}
+use Rattle.tx_table.specs.declared.seat.Seat as table
+use Rattle.tx_table.specs.declared.table.TxTable.{TxTable}
+use Rattle.tx_table.specs.Seated.{acts, blocks_in, opening_of, view}
+use Rattle.tx_table.specs.Seated as seated
+use Rattle.tx_table.specs.Turns.{asked_all, lone}
+use Rattle.tx_table.specs.declared.view.Turn.{Turn}
+use Rattle.atomic_steps.specs.Own.{Alike}
+use Rattle.tx_phases.proofs.PhaseLemmas.{asks_move}
+use Rattle.tx_phases.specs.Courses.{EndsFrom, IsUnderWay, IsUnderWayFrom}
+use Rattle.tx_phases.specs.Phases.{AskMoves, Phase, Rests, Begins, Stands, Commits, Ends, phase, phase_at}
+use Rattle.transactions.proofs.NextLemmas.{no_load}
+use Rattle.transactions.specs.Driven.{Driven, IsTrue, IsTurnFrom, as_receipts, seat_in, standing}
+use Rattle.transactions.specs.Requests.{BeginsTo, KeepsReceipts}
+use Rattle.tx_turns.proofs.AskedLemmas.{acts_taken}
+use Rattle.tx_turns.proofs.FirstLemmas.{first_is}
+use Rattle.tx_turns.proofs.TurnLemmas.{own_stage}
+use Rattle.tx_turns.specs.Asked.{HasAsked}
+use Rattle.tx_turns.specs.Ties.{Ties}
+
+module _ {V : Type 0} where
+  stands_open : (calls cs : List (Call V × Reply V)) (t : own.Stage V) → phase_at calls (stage_of t) ≡ Stands cs → t ≡ stage.Open
+  stands_open calls cs stage.Open h = refl
+  stands_open calls cs t h = absurd (let z : ⊥ = cc in z)
+
+  rests_idle : (calls : List (Call V × Reply V)) (t : own.Stage V) → phase_at calls (stage_of t) ≡ Rests → t ≡ stage.Idle
+  rests_idle calls stage.Idle h = refl
+  rests_idle calls t h = absurd (let z : ⊥ = cc in z)
+
+  module _ (t : TxTable V) (s : table.Seat V) (r : TxActor V) (none : blocks_in t ≡ []) (ties : Ties t s r) where
+    quiet : is_loading (stage_of r.stage) ≡ false
+    quiet = no_load r.stage (subst (λ bs. NamesAmong (length bs) r.stage) none ties.running.names)
+
+    at : (p : Phase V) → standing (opening_of t) s ≡ p → phase_at (seat_in (opening_of t) s).calls (stage_of r.stage) ≡ p
+    at p on = ap (phase_at (seat_in (opening_of t) s).calls) (sym (own_stage t s r quiet ties)) ∙ on
+
+    pub is_open : (calls : List (Call V × Reply V)) → standing (opening_of t) s ≡ Stands calls → r.stage ≡ stage.Open
+    is_open calls on = stands_open (seat_in (opening_of t) s).calls calls r.stage (at (Stands calls) on)
+
+    pub is_idle : standing (opening_of t) s ≡ Rests → r.stage ≡ stage.Idle
+    is_idle on = rests_idle (seat_in (opening_of t) s).calls r.stage (at Rests on)
+
+    pub begins : r.stage ≡ stage.Beginning → standing (opening_of t) s ≡ Begins
+    begins on =
+        ap (phase_at (seat_in (opening_of t) s).calls) (own_stage t s r quiet ties ∙ ap (λ (k : own.Stage V). stage_of k) on)
+
+    -- where the first value store is due it is to commit
+    pub commits : next_of (stage_of r.stage) ≡ next.FirstStore
+        → standing (opening_of t) s ≡ Commits (seat_in (opening_of t) s).calls
+    commits due =
+        ap (phase_at (seat_in (opening_of t) s).calls) (own_stage t s r quiet ties ∙ (first_is (stage_of r.stage) due).1)
+
+  -- the request stands at its beginning
+  pub under_begins : (x : Seat V) → phase x ≡ Begins → IsUnderWay x x None
+  under_begins x on = subst (λ (p : Phase V). IsUnderWayFrom x p x None) (sym on) (on, refl)
+
+  pub under_ends : (x : Seat V) → phase x ≡ Ends → IsUnderWay x x None
+  under_ends x on = subst (λ (p : Phase V). IsUnderWayFrom x p x None) (sym on) (on, refl, refl)
+
+  -- only a commit stops for want of memory
+  pub begins_never : (o : World V) (s u : table.Seat V) (cs : List (Call V × Reply V)) → standing o s ≡ Begins
+      → Driven o s u told.Quiet None → standing o u ≡ Commits cs → ⊥
+  begins_never o s u cs on d at =
+      let h = subst (λ (p : Phase V). IsUnderWayFrom (seat_in o s) p (seat_in o u) None) on d.comes in
+      let e : Begins ≡ Commits cs = sym h.0 ∙ at in cc
+
+  pub ends_never : (o : World V) (s u : table.Seat V) (cs : List (Call V × Reply V)) → standing o s ≡ Ends
+      → Driven o s u told.Quiet None → standing o u ≡ Commits cs → ⊥
+  ends_never o s u cs on d at =
+      let h = subst (λ (p : Phase V). IsUnderWayFrom (seat_in o s) p (seat_in o u) None) on d.comes in
+      let e : Ends ≡ Commits cs = sym h.0 ∙ at in cc
+
+  -- ---- a begin
+  none_begins : (o : World V) (s u : table.Seat V) (n : Told V) (d : Option (Record V)) → standing o s ≡ Begins → Driven o s u n d
+      → n ≢ told.Quiet → (d ≡ None) × BeginsTo o s u n
+  none_begins o s u told.Quiet d on D ne = absurd (ne refl)
+  none_begins o s u (told.Answered (answer.Begun rv)) d on D ne =
+      let a = seated.actor s in
+      let h = subst (λ (p : Phase V). EndsFrom a (seat_in o s) p (Answered a (answer.Begun rv)) (seat_in o u) d) on D.comes in
+      (h.2, (h.0, h.1))
+  none_begins o s u (told.Answered q) d on D ne =
+      let a = seated.actor s in
+      absurd (subst (λ (p : Phase V). EndsFrom a (seat_in o s) p (Answered a q) (seat_in o u) d) on D.comes)
+  none_begins o s u (told.Refused cause) d on D ne =
+      let a = seated.actor s in
+      let h = subst (λ (p : Phase V). EndsFrom a (seat_in o s) p (Refused a cause) (seat_in o u) d) on D.comes in
+      (h.1, (h.0, subst (λ (p : Phase V). IsTrue o s u p (told.Refused cause)) on D.is_true))
+
+  keeps : (s m u : table.Seat V) (o : World V) (n : Told V) (d : Option (Record V)) → d ≡ None
+      → seated.IsSameSeat s m × (m.place.me ≡ s.place.me) → Driven o m u n d → KeepsReceipts s u
+  keeps s m u o n d none had D = record {
+    seat = (D.seat.0 ∙ had.0.0, D.seat.1 ∙ had.0.1, D.seat.2 ∙ had.0.2);
+    shares = D.shares ∙ ap (λ k. k.0.shares) had.1;
+    receipts = D.gains ∙ ((λ i. (view m).receipts ++ as_receipts (seated.actor m) (none i)) ∙ (append-nil (view m).receipts ∙ ap (λ k. k.0.receipts) had.1));
+    outs = D.outs ∙ ap (λ k. k.1) had.1;
+  }
+
+  -- a turn since the request was asked is one since then
+  back : (o : World V) (s m u : table.Seat V) (v : World V) → seated.IsSameSeat s m × (m.place.me ≡ s.place.me) → IsTurnFrom o m u v
+      → IsTurnFrom o s u v
+  back o s m u v had h = record {
+    before = h.before;
+    turn = h.turn;
+    after = h.after;
+    turns = h.turns ∙ (λ i. ((had.1 i).0.turns ++ h.before) ++ h.turn ∷ h.after);
+    events = h.events;
+    reached = h.reached;
+    alike = subst (λ (k : ℕ × List (Turn V)). Alike k.0 v (asked_all k.0 (lone k.0 o (k.1 ++ h.before)) h.turn.asks))
+        (λ i. (had.0.1 i, (had.1 i).0.turns)) h.alike;
+  }
+
+  begun_since : (o : World V) (s m u : table.Seat V) (n : Told V) → seated.IsSameSeat s m × (m.place.me ≡ s.place.me) → BeginsTo o m u n
+      → BeginsTo o s u n
+  begun_since o s m u (told.Refused cause) had h = (h.0, (h.1.0, back o s m u h.1.0 had h.1.1, h.1.2, h.1.3))
+  begun_since o s m u (told.Answered (answer.Begun rv)) had h = h
+  begun_since o s m u (told.Answered q) had h = absurd h
+  begun_since o s m u told.Quiet had h = absurd h
+
+  pub begins_to : (o : World V) (s m u : table.Seat V) (n : Told V) (d : Option (Record V))
+      → seated.IsSameSeat s m × (m.place.me ≡ s.place.me) → standing o m ≡ Begins → Driven o m u n d → n ≢ told.Quiet
+      → KeepsReceipts s u × BeginsTo o s u n
+  begins_to o s m u n d had on D ne =
+      let h = none_begins o m u n d on D ne in (keeps s m u o n d h.0 had D, begun_since o s m u n had h.1)
+
+  -- ---- an abort
+  none_ends : (o : World V) (s u : table.Seat V) (n : Told V) (d : Option (Record V)) → standing o s ≡ Ends → Driven o s u n d
+      → n ≢ told.Quiet → (d ≡ None) × (standing o u ≡ Rests)
+  none_ends o s u told.Quiet d on D ne = absurd (ne refl)
+  none_ends o s u (told.Answered q) d on D ne =
+      let a = seated.actor s in
+      let h = subst (λ (p : Phase V). EndsFrom a (seat_in o s) p (Answered a q) (seat_in o u) d) on D.comes in (h.2, h.0)
+  none_ends o s u (told.Refused cause) d on D ne =
+      let a = seated.actor s in
+      let h = subst (λ (p : Phase V). EndsFrom a (seat_in o s) p (Refused a cause) (seat_in o u) d) on D.comes in (h.2, h.0)
+
+  pub ends_to : (o : World V) (s m u : table.Seat V) (n : Told V) (d : Option (Record V))
+      → seated.IsSameSeat s m × (m.place.me ≡ s.place.me) → standing o m ≡ Ends → Driven o m u n d → n ≢ told.Quiet
+      → KeepsReceipts s u × (standing o u ≡ Rests)
+  ends_to o s m u n d had on D ne =
+      let h = none_ends o m u n d on D ne in (keeps s m u o n d h.0 had D, h.1)
+
+  -- an open transaction that is to abort is being given up
+  quiet_abort : (w : World V) (a : ℕ) (x : Seat V) (st : Stage V) (calls : List (Call V × Reply V)) → phase_at x.calls st ≡ Stands calls
+      → (ask_at w a x st Abort).1 ≡ Quiet
+  quiet_abort w a x worlds.Open calls h = refl
+  quiet_abort w a x st calls h = absurd (let z : ⊥ = cc in z)
+
+  pub abort_ends : (o : World V) (s m : table.Seat V) (calls : List (Call V × Reply V)) → standing o s ≡ Stands calls → HasAsked s Abort m
+      → standing o m ≡ Ends
+  abort_ends o s m calls on has =
+      let a = seated.actor s in
+      let w = acts o s in
+      let own_is = acts_taken o s m (Ask 0 Abort) has in
+      let after = happens w (Ask a Abort) in
+      let said : after.1 ≡ Quiet = quiet_abort w a (w.seats a) (w.seats a).stage calls on in
+      let moved : AskMoves (Stands calls) Abort Quiet (phase (after.0.seats a)) =
+      subst (λ (k : Phase V × Notice V). AskMoves k.0 Abort k.1 (phase (after.0.seats a))) (λ i. (on i, said i)) (asks_move w a Abort) in
+      (λ i. phase ((own_is i).seats (has.0.1 i))) ∙ moved
