@@ -9,6 +9,7 @@ use std::env;
 mod audit;
 mod reservations;
 mod sets;
+mod worlds;
 
 fn main(rt: HostRuntime) -> anyhow::Result<()> {
     let mut words = env::args(&rt)?;
@@ -20,6 +21,7 @@ fn main(rt: HostRuntime) -> anyhow::Result<()> {
         "audit" => audit::measure(&rt),
         "reservations" => reservations::measure(&rt),
         "sets" => sets::measure(&rt),
+        "world" => worlds::measure(&rt),
         _ => bail!("no benchmark has the name {name}"),
     }
 }
