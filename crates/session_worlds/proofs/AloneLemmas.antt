@@ -52,7 +52,7 @@ own_on a (s ∷ ts) t are is = (are.0, own_on a ts t are.1 is)
 
 -- ---- nobody else has committed
 
-none_in : (c : ℕ) (actions : Actions) (w : World Entry) (t : Turn) → (whose t.0 ≡ c → ⊥) → committed_in c actions w t ≡ []
+pub none_in : (c : ℕ) (actions : Actions) (w : World Entry) (t : Turn) → (whose t.0 ≡ c → ⊥) → committed_in c actions w t ≡ []
 none_in c actions w (Step a, action) other = cond-false (eqb a c) _ _ (ne_eqb a c other)
 none_in c actions w (Ask a q, action) other = refl
 none_in c actions w (Starve a, action) other = refl

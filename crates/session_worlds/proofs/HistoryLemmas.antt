@@ -41,10 +41,10 @@ next h t = later h (t ∷ [])
 pub world_next : (h : History) (t : Turn) → world_in (next h t) ≡ (happens (world_in h) t.0).0
 world_next h t = run_on (opening_of h) h.turns t
 
-action_next : (a : ℕ) (h : History) (t : Turn) → action_in a (next h t) ≡ begun (begun_all h.actions (opening_of h) h.turns) (world_in h) t a
+pub action_next : (a : ℕ) (h : History) (t : Turn) → action_in a (next h t) ≡ begun (begun_all h.actions (opening_of h) h.turns) (world_in h) t a
 action_next a h t = ap (λ (f : Actions). f a) (begun_on h.actions (opening_of h) h.turns t)
 
-done_next : (a : ℕ) (h : History) (t : Turn)
+pub done_next : (a : ℕ) (h : History) (t : Turn)
     → done_in a (next h t) ≡ done_in a h ++ committed_in a (begun_all h.actions (opening_of h) h.turns) (world_in h) t
 done_next a h t = committed_on a h.actions (opening_of h) h.turns t
 
@@ -58,7 +58,7 @@ lawful_next h t l may = record {
   asks = asks_on h.actions (opening_of h) h.turns t l.asks may;
 }
 
-phase_next : (a : ℕ) (h : History) (t : Turn) → phase ((world_in (next h t)).seats a) ≡ phase ((happens (world_in h) t.0).0.seats a)
+pub phase_next : (a : ℕ) (h : History) (t : Turn) → phase ((world_in (next h t)).seats a) ≡ phase ((happens (world_in h) t.0).0.seats a)
 phase_next a h t = ap (λ (w : World Entry). phase (w.seats a)) (world_next h t)
 
 pub later_on : (h : History) (ts us : List Turn) → later (later h ts) us ≡ later h (ts ++ us)
@@ -182,7 +182,7 @@ open_at : (cs calls : List (Call Entry × Reply Entry)) (st : Stage Entry) → I
 open_at cs calls Open h = (refl, h)
 open_at cs calls st h = absurd h
 
-idle : (a : ℕ) (h : History) (action : Action) (done : List Action) → IsAt a Rests action done h → ((world_in h).seats a).stage ≡ Idle
+pub idle : (a : ℕ) (h : History) (action : Action) (done : List Action) → IsAt a Rests action done h → ((world_in h).seats a).stage ≡ Idle
 idle a h action done at =
     let x = (world_in h).seats a in
     idle_at x.calls x.stage (subst IsRest (sym at.stands) tt)

@@ -1,0 +1,22 @@
+-- Whatever events say, the sessions that commit are their actions, one after another.
+use Rattle.std.specs.Prelude.{◌≡◌, List, []}
+use Rattle.replay_log.specs.Contents.{Block, HaveStripes}
+use Rattle.replay_log.specs.Collections.{Suit}
+use Rattle.vac_model.specs.Balanced.{IsBalanced}
+use Rattle.vac_model.specs.Holdings.{Holdings}
+use Rattle.vacation_core.specs.Holding.{state_of}
+use Rattle.session_worlds.specs.Histories.{opening_of}
+use Rattle.session_worlds.specs.Serial.{IsSerialSessions}
+use Rattle.vac_world.specs.declared.events.VacEvent.{VacEvent}
+use Rattle.vac_world.specs.Plays.{AreAllowed, Play, played_all, unplayed}
+
+-- The turns are those of sessions in serial order, each of a committed one being of the action that its own start began; no session gave
+-- up.
+pub record IsSerialPlay (p : Play) : Type 0 where
+  pub serial : IsSerialSessions p.history.tables p.history.actions (opening_of p.history) p.history.turns
+  pub goes_on : p.given_up ≡ []
+
+abbrev pub PlaysAreSerial : Type 0
+PlaysAreSerial =
+    (blocks : List Block) (tables : Holdings) (events : List VacEvent) → HaveStripes blocks → Suit blocks (state_of tables).held
+    → IsBalanced tables → AreAllowed events → IsSerialPlay (played_all (unplayed blocks tables) events)
