@@ -1,0 +1,3 @@
+pub mod BoundLemmas
+pub mod FewLemmas
+pub mod AloneLemmas
