@@ -1,11 +1,11 @@
 -- What a client of a running world is told says where its transaction stands, and is told within the bound on steps.
 -- An event of the running world is one turn more in a history of the definitions' world: there a request and each step say where the
--- transaction goes on, and bring the request nearer to its answer.
+-- transaction goes on, bring the request nearer to its answer, and refuse nothing (`AnsweredLemmas`).
 use Rattle.std.proofs.Common.{◌≡◌, ◌⊎◌, inl, inr, ℕ, ◌+◌, ◌<◌, ◌≤◌, Bool, true, false, List, [], ◌∷◌, ◌++◌, length, Option, Some, None}
 use Rattle.std.proofs.Common.{refl, sym, ◌∙◌, ap, subst, arith}
 use Rattle.std.specs.Prelude.{if◌then◌else◌, is_some}
-use Rattle.std.proofs.Math.Dec.{ltb}
-use Rattle.std.proofs.lemmas.Bool.{cond-true, ltb-false, ltb-true}
+use Rattle.std.proofs.lemmas.Bool.{cond-true}
+use Rattle.word_machine.specs.Actor.{clock_limit}
 use Rattle.word_machine.specs.Progress.{step_limit}
 use Rattle.seq_model.specs.declared.call.Call.{Call}
 use Rattle.seq_model.specs.declared.call.Reply.{Reply}
@@ -17,23 +17,28 @@ use Rattle.seq_model.specs.declared.event.Notice.{Notice}
 use Rattle.seq_model.specs.declared.event.Notice.TheVariants.{Quiet, Answered, Refused}
 use Rattle.seq_model.specs.declared.event.Request.{Request}
 use Rattle.seq_model.specs.declared.event.Request.TheVariants as request
-use Rattle.seq_model.specs.declared.limits.TheConstants.{CALL_LIMIT}
 use Rattle.seq_model.specs.declared.record.Record.{Record}
 use Rattle.step_core.specs.Shown.{is_actor}
-use Rattle.replay_log.specs.WorldAnswers.{is_there}
+use Rattle.replay_log.specs.WorldAnswers.{IsRefusal}
 use Rattle.replay_log.specs.WorldProgress.{AreSmall, IsQuiet, left_of, whose}
 use Rattle.replay_log.specs.WorldTraces.{committed_by}
 use Rattle.replay_log.specs.Worlds.{Seat, World, happens, opened}
 use Rattle.replay_log.specs.WorldRefusals.{is_ending}
 use Rattle.replay_log.proofs.EventLemmas.{opened_linked, run_linked}
-use Rattle.replay_log.proofs.AskLemmas.{no_such, only_abort, too_long}
+use Rattle.replay_log.proofs.AskLemmas.{only_abort}
 use Rattle.replay_log.proofs.ProgressLemmas.{world_nears}
 use Rattle.replay_log.proofs.SizeLemmas.{world_soon}
 use Rattle.vac_model.specs.declared.action.Action.{Action}
 use Rattle.vac_model.specs.Holdings.{Holdings}
+use Rattle.tx_alone.specs.Alone.{ArePlain, IsPlain, commit_of, commits_in, weight, weights}
+use Rattle.tx_alone.proofs.AloneLemmas.{own}
 use Rattle.tx_engine.specs.declared.job.Ask.TheVariants as ask
+use Rattle.tx_engine.specs.Programs.{Answers, Asks, after, asked, replies_of}
+use Rattle.tx_engine.proofs.ProgramLemmas.{follows_after}
 use Rattle.vacation_core.specs.declared.entry.Entry.{Entry}
 use Rattle.vacation_core.specs.Holding.{state_of}
+use Rattle.vacation_core.specs.Sessions.{Plan, session}
+use Rattle.session_costs.proofs.CostLemmas.{asks_fit}
 use Rattle.running_world.specs.Feeds.{Feeds}
 use Rattle.running_world.specs.Parts.{IsWorld}
 use Rattle.running_world.specs.Reached.{IsReached}
@@ -49,7 +54,8 @@ use Rattle.tx_phases.proofs.PhaseLemmas.{steps_move}
 use Rattle.tx_phases.specs.Courses.{ComesTo, EndsFrom, IsUnderWay, IsUnderWayFrom, IsRecordOf, latest}
 use Rattle.tx_phases.specs.Phases.{AskMoves, CallMoves, Phase, Rests, Begins, Stands, Calls, Commits, Committed, StepMoves, phase}
 use Rattle.tx_phases.specs.Phases.{Ends as Ended}
-use Rattle.session_runs.specs.Clients.{IsAnswered, IsClient, IsDue, IsTold, Leads}
+use Rattle.session_runs.specs.Clients.{IsAnswered, IsClient, IsDue, Leads, begun, may_commit}
+use Rattle.session_runs.proofs.AnsweredLemmas.{HasRoom, asked_as, at_most_one, never_as_asked, never_in_steps, step_may}
 
 -- ---- an event is a turn more
 
@@ -76,55 +82,42 @@ parts_of h t c d n is l at f =
     (ap (λ (r : World Entry × Notice Entry). r.0) (cond-true (is_actor (whose t.0)) _ _ is) ∙ sym (world_next h t))
     (f.parts (state_of h.tables) (world_in h) (reached h l) at)
 
+plain_next : (a : ℕ) (ts : List Turn) (t : Turn) → ArePlain a (events_of ts) → IsPlain a t.0 → ArePlain a (events_of (ts ++ t ∷ []))
+plain_next a [] t m n = (n, tt)
+plain_next a (s ∷ ts) t m n = (m.0, plain_next a ts t m.1 n)
+
+commits_next : (ts : List Turn) (t : Turn) → commits_in (events_of (ts ++ t ∷ [])) ≡ commits_in (events_of ts) + commit_of t.0
+commits_next [] t = omega arith
+commits_next (s ∷ ts) t = let more = commits_next ts t in omega (arith, more)
+
 -- what a client's own turn may be in its world
 abbrev May : History → Turn → Type 0
 May h t = MayHappen (begun_all h.actions (opening_of h) h.turns) (world_in h) t
 
 module _ (a : ℕ) (tables : Holdings) where
   -- the client after a turn of its own, where it stands at q then
-  abbrev goes : (p : Phase Entry) (old : Action) (had : List Action) (c d : Parts Entry) (x : IsClient a tables p old had c) (t : Turn)
-      (n : Notice Entry) (q : Phase Entry) (action : Action) (done : List Action) → whose t.0 ≡ a → May x.history t → Feeds c t.0 d n
-      → IsAt a q action done (next x.history t) → IsClient a tables q action done d
-  goes p old had c d x t n q action done own may f at = record {
+  abbrev goes : (n : ℕ) (p : Phase Entry) (old : Action) (had : List Action) (c d : Parts Entry) (x : IsClient a tables n p old had c)
+      (t : Turn) (told : Notice Entry) (k : ℕ) (q : Phase Entry) (action : Action) (done : List Action) → IsPlain a t.0 → May x.history t
+      → Feeds c t.0 d told → commits_in (events_of x.history.turns) + (commit_of t.0 + may_commit q) ≤ k → k < clock_limit
+      → IsAt a q action done (next x.history t) → IsClient a tables k q action done d
+  goes n p old had c d x t told k q action done plain may f asked few at = record {
     history = next x.history t;
     opening = x.opening;
+    start = x.start;
     actor = x.actor;
     small = x.small;
     lawful = lawful_next x.history t x.lawful may;
-    alone = all_of a x.history.turns (t ∷ []) x.alone (own, tt);
+    alone = all_of a x.history.turns (t ∷ []) x.alone (own a t.0 plain, tt);
+    plain = plain_next a x.history.turns t x.plain plain;
+    asked = (let more = commits_next x.history.turns t in omega (arith, more, asked));
+    few = few;
     at = at;
-    parts = parts_of x.history t c d n (ap is_actor own ∙ x.actor) x.lawful x.parts f;
-  }
-
-  tells : (p : Phase Entry) (old : Action) (had : List Action) (c d : Parts Entry) (x : IsClient a tables p old had c) (t : Turn)
-      (n : Notice Entry) → whose t.0 ≡ a → May x.history t → Feeds c t.0 d n → IsTold a tables n
-  tells p old had c d x t n own may f = record {
-    history = x.history;
-    turn = t;
-    opening = x.opening;
-    lawful = lawful_next x.history t x.lawful may;
-    alone = all_of a x.history.turns (t ∷ []) x.alone (own, tt);
-    is = sym (told_of x.history t.0 c d n (ap is_actor own ∙ x.actor) x.lawful x.parts f);
+    parts = parts_of x.history t c d told (ap is_actor (own a t.0 plain) ∙ x.actor) x.lawful x.parts f;
   }
 
 -- ---- a request that is under way
 
-abbrev IsRefused : Notice Entry → Type 0
-IsRefused (Refused b cause) = Unit {0}
-IsRefused n = ⊥
-
--- as what it was asked
-abbrev pub asked_as : List (Call Entry × Reply Entry) → Request Entry → Phase Entry
-asked_as calls request.Begin = Begins
-asked_as calls (request.Call call) = Calls calls call
-asked_as calls request.Commit = Commits calls
-asked_as calls q = Rests
-
--- and there was room for a call
-abbrev pub HasRoom : List (Call Entry × Reply Entry) → Request Entry → Type 0
-HasRoom calls (request.Call call) = length calls < CALL_LIMIT
-HasRoom calls q = Unit {0}
-
+-- It was asked where the seat was `start`, with room for a call.
 pub record Goes (calls : List (Call Entry × Reply Entry)) (q : Request Entry) (x : Seat Entry) (made : Option (Record Entry)) : Type 0 where
   pub start : Seat Entry
   pub stood : phase start ≡ asked_as calls q
@@ -146,17 +139,15 @@ module _ (calls : List (Call Entry × Reply Entry)) where
   some_leads n p k None is h = absurd is
   some_leads n p k (Some r) is h = h
 
-  begun : (a : ℕ) (s x : Seat Entry) (b : ℕ) (w : Answer Entry) (made : Option (Record Entry))
+  begins_so : (a : ℕ) (s x : Seat Entry) (b : ℕ) (w : Answer Entry) (made : Option (Record Entry))
       → EndsFrom a s Begins (Answered b w) x made → Ends request.Begin (Answered b w) (phase x) made
-  begun a s x b (answer.Begun rv) made e = none_leads request.Begin (Answered b (answer.Begun rv)) (phase x) made e.2 e.0
-  begun a s x b w made e = absurd e
+  begins_so a s x b (answer.Begun rv) made e = none_leads request.Begin (Answered b (answer.Begun rv)) (phase x) made e.2 e.0
+  begins_so a s x b w made e = absurd e
 
   replied : (a : ℕ) (s x : Seat Entry) (call : Call Entry) (b : ℕ) (w : Answer Entry) (made : Option (Record Entry))
-      → length calls < CALL_LIMIT → EndsFrom a s (Calls calls call) (Answered b w) x made
-      → Ends (request.Call call) (Answered b w) (phase x) made
-  replied a s x call b (answer.Replied r) made room e =
-      none_leads (request.Call call) (Answered b (answer.Replied r)) (phase x) made e.1 (e.0, room)
-  replied a s x call b w made room e = absurd e
+      → EndsFrom a s (Calls calls call) (Answered b w) x made → Ends (request.Call call) (Answered b w) (phase x) made
+  replied a s x call b (answer.Replied r) made e = none_leads (request.Call call) (Answered b (answer.Replied r)) (phase x) made e.1 e.0
+  replied a s x call b w made e = absurd e
 
   committed : (a : ℕ) (s x : Seat Entry) (b : ℕ) (w : Answer Entry) (made : Option (Record Entry))
       → EndsFrom a s (Commits calls) (Answered b w) x made → Ends request.Commit (Answered b w) (phase x) made
@@ -164,17 +155,14 @@ module _ (calls : List (Call Entry × Reply Entry)) where
   committed a s x b w made e = absurd e
 
   -- what the end of a request says, by what it was asked
-  ended_as : (a : ℕ) (s x : Seat Entry) (q : Request Entry) (n : Notice Entry) (made : Option (Record Entry)) → HasRoom calls q
+  ended_as : (a : ℕ) (s x : Seat Entry) (q : Request Entry) (n : Notice Entry) (made : Option (Record Entry)) → (IsRefusal n → ⊥)
       → (IsQuiet n → ⊥) → EndsFrom a s (asked_as calls q) n x made → Ends q n (phase x) made
-  ended_as a s x request.Begin (Answered b w) made room told e = begun a s x b w made e
-  ended_as a s x request.Begin (Refused b cause) made room told e = none_leads request.Begin (Refused b cause) (phase x) made e.1 e.0
-  ended_as a s x (request.Call call) (Answered b w) made room told e = replied a s x call b w made room e
-  ended_as a s x (request.Call call) (Refused b cause) made room told e =
-      none_leads (request.Call call) (Refused b cause) (phase x) made e.1 e.0
-  ended_as a s x request.Commit (Answered b w) made room told e = committed a s x b w made e
-  ended_as a s x request.Commit (Refused b cause) made room told e = none_leads request.Commit (Refused b cause) (phase x) made e.1 e.0
-  ended_as a s x q Quiet made room told e = absurd (told tt)
-  ended_as a s x q n made room told e = absurd e
+  ended_as a s x q (Refused b cause) made never told e = absurd (never tt)
+  ended_as a s x q Quiet made never told e = absurd (told tt)
+  ended_as a s x request.Begin (Answered b w) made never told e = begins_so a s x b w made e
+  ended_as a s x (request.Call call) (Answered b w) made never told e = replied a s x call b w made e
+  ended_as a s x request.Commit (Answered b w) made never told e = committed a s x b w made e
+  ended_as a s x q n made never told e = absurd e
 
   ends_as_told : (a : ℕ) (s x : Seat Entry) (n : Notice Entry) (made : Option (Record Entry)) → (IsQuiet n → ⊥) → ComesTo a s n x made
       → EndsFrom a s (phase s) n x made
@@ -182,18 +170,17 @@ module _ (calls : List (Call Entry × Reply Entry)) where
   ends_as_told a s x n made told h = h
 
   ended : (a : ℕ) (s x : Seat Entry) (q : Request Entry) (n : Notice Entry) (made : Option (Record Entry)) → phase s ≡ asked_as calls q
-      → HasRoom calls q → (IsQuiet n → ⊥) → ComesTo a s n x made → Ends q n (phase x) made
-  ended a s x q n made stood room told h =
-      ended_as a s x q n made room told
+      → (IsRefusal n → ⊥) → (IsQuiet n → ⊥) → ComesTo a s n x made → Ends q n (phase x) made
+  ended a s x q n made stood never told h =
+      ended_as a s x q n made never told
       (subst (λ (p : Phase Entry). EndsFrom a s p n x made) stood (ends_as_told a s x n made told h))
 
-  called : (call : Call Entry) (n : Notice Entry) (p : Phase Entry) → (IsQuiet n → ⊥) → (IsRefused n ⊎ (length calls < CALL_LIMIT))
+  called : (call : Call Entry) (n : Notice Entry) (p : Phase Entry) → (IsRefusal n → ⊥) → (IsQuiet n → ⊥)
       → CallMoves calls call n p → Leads calls (request.Call call) n p false
-  called call (Answered b (answer.Replied r)) p told (inr room) h = (h, room)
-  called call (Answered b w) p told (inl is) h = absurd is
-  called call (Answered b w) p told (inr room) h = absurd h
-  called call (Refused b cause) p told room h = inl h
-  called call Quiet p told room h = absurd (told tt)
+  called call (Answered b (answer.Replied r)) p never told h = h
+  called call (Answered b w) p never told h = absurd h
+  called call (Refused b cause) p never told h = absurd (never tt)
+  called call Quiet p never told h = absurd (told tt)
 
 -- no record is made once there is one
 once : (s x : Seat Entry) (q : Request Entry) (calls : List (Call Entry × Reply Entry)) (o made : Option (Record Entry)) (n : Notice Entry)
@@ -225,16 +212,15 @@ once s x q calls (Some r) (Some d) n p stood under moves done action =
 
 -- ---- a request, and the steps up to its answer
 
--- The client was told n last; if nothing, its request is under way, and k of its steps more are within the bound.
-pub record Waits (a : ℕ) (tables : Holdings) (calls : List (Call Entry × Reply Entry)) (q : Request Entry) (n : Notice Entry)
+-- The client was told m last; if nothing, its request is under way, and k of its steps more are within the bound.
+pub record Waits (a : ℕ) (tables : Holdings) (n : ℕ) (calls : List (Call Entry × Reply Entry)) (q : Request Entry) (m : Notice Entry)
     (action : Action) (done : List Action) (c : Parts Entry) (k : ℕ) : Type 0 where
   pub made : Option (Record Entry)
   pub at : Phase Entry
-  pub client : IsClient a tables at action (if is_some made then done ++ action ∷ [] else done) c
-  pub told : IsTold a tables n
-  pub goes_on : IsQuiet n → Goes calls q ((world_in client.history).seats a) made
-  pub ends : (IsQuiet n → ⊥) → Leads calls q n at (is_some made)
-  pub left : IsQuiet n → left_of (world_in client.history) a + k < step_limit
+  pub client : IsClient a tables n at action (if is_some made then done ++ action ∷ [] else done) c
+  pub goes_on : IsQuiet m → Goes calls q ((world_in client.history).seats a) made
+  pub ends : (IsQuiet m → ⊥) → Leads calls q m at (is_some made)
+  pub left : IsQuiet m → left_of (world_in client.history) a + k < step_limit
 
 is_quiet : (n : Notice Entry) → IsQuiet n → n ≡ Quiet
 is_quiet Quiet h = refl
@@ -249,20 +235,21 @@ module _ (a : ℕ) (tables : Holdings) (calls : List (Call Entry × Reply Entry)
       let same = ap (λ (w : World Entry). left_of w a) (world_next h (Ask a q, action)) in
       omega (arith, few, same)
 
-  asked_begin : (p : Phase Entry) (old : Action) (c d : Parts Entry) (n : Notice Entry) → IsClient a tables p old done c
-      → IsDue old action calls p request.Begin → Feeds c (Ask a request.Begin) d n → Waits a tables calls request.Begin n action done d 0
-  asked_begin p old c d n x due f =
+  asked_begin : (n : ℕ) (p : Phase Entry) (old : Action) (c d : Parts Entry) (m : Notice Entry) → IsClient a tables n p old done c
+      → IsDue n old action calls p request.Begin → Feeds c (Ask a request.Begin) d m
+      → Waits a tables (n + 1) calls request.Begin m action done d 0
+  asked_begin n p old c d m x due f =
       let at : IsAt a Rests old done x.history = subst (λ (r : Phase Entry). IsAt a r old done x.history) due.1 x.at in
       let t : Turn = (Ask a request.Begin, action) in
-      let told = told_of x.history (Ask a request.Begin) c d n x.actor x.lawful x.parts f in
-      let quiet : n ≡ Quiet = told ∙ begin_is_quiet x.history a old done at in
+      let told = told_of x.history (Ask a request.Begin) c d m x.actor x.lawful x.parts f in
+      let quiet : m ≡ Quiet = told ∙ begin_is_quiet x.history a old done at in
       let now : IsAt a Begins action done (next x.history t) = begins x.history a old action done at in
       let y : Seat Entry = (world_in (next x.history t)).seats a in
+      let asked = x.asked in
       record {
         made = None;
         at = Begins;
-        client = goes a tables p old done c d x t n Begins action done refl due.0 f now;
-        told = tells a tables p old done c d x t n refl due.0 f;
+        client = goes a tables n p old done c d x t m (n + 1) Begins action done refl due.0 f (omega (arith, asked)) due.2 now;
         goes_on = λ q. record {
           start = y;
           stood = now.stands;
@@ -270,34 +257,14 @@ module _ (a : ℕ) (tables : Holdings) (calls : List (Call Entry × Reply Entry)
           under = subst (λ (r : Phase Entry). IsUnderWayFrom y r y None) (sym now.stands) (now.stands, refl);
         };
         ends = λ q. absurd (q (subst IsQuiet (sym quiet) tt));
-        left = soon x.history request.Begin n x.lawful x.small told;
+        left = soon x.history request.Begin m x.lawful x.small told;
       }
 
   -- an open transaction
-  stands : (p : Phase Entry) (old : Action) (c : Parts Entry) (x : IsClient a tables p old done c) → old ≡ action → p ≡ Stands calls
+  stands : (n : ℕ) (p : Phase Entry) (old : Action) (c : Parts Entry) (x : IsClient a tables n p old done c) → old ≡ action → p ≡ Stands calls
       → IsAt a (Stands calls) action done x.history
-  stands p old c x same on =
+  stands n p old c x same on =
       subst (λ (r : Phase Entry). IsAt a r action done x.history) on (subst (λ (y : Action). IsAt a p y done x.history) same x.at)
-
-  roomy : (h : History) (call : Call Entry) (n : Notice Entry) → IsAt a (Stands calls) action done h
-      → n ≡ (happens (world_in h) (Ask a (request.Call call))).1 → IsRefused n ⊎ (length calls < CALL_LIMIT)
-  roomy h call n at told = by (ltb (length calls) CALL_LIMIT) refl
-    where
-      w : World Entry
-      w = world_in h
-
-      refused : (b : Bool) → is_there w a call.target call.op ≡ b → CALL_LIMIT ≤ length (w.seats a).calls → IsRefused n
-      refused true there long = subst IsRefused (sym (told ∙ ap (λ (r : World Entry × Notice Entry). r.1)
-          (too_long w a call.target call.op (opens a h calls action done at).0 there long))) tt
-      refused false there long = subst IsRefused (sym (told ∙ ap (λ (r : World Entry × Notice Entry). r.1)
-          (no_such w a call.target call.op (opens a h calls action done at).0 there))) tt
-
-      by : (b : Bool) → ltb (length calls) CALL_LIMIT ≡ b → IsRefused n ⊎ (length calls < CALL_LIMIT)
-      by true e = inr (ltb-true (length calls) CALL_LIMIT e)
-      by false e =
-          inl (refused (is_there w a call.target call.op) refl
-          (subst (λ (cs : List (Call Entry × Reply Entry)). CALL_LIMIT ≤ length cs) (sym (opens a h calls action done at).1)
-          (ltb-false (length calls) CALL_LIMIT e)))
 
   -- a call that is asked gives nothing up
   no_end : (h : History) (call : Call Entry) → IsLawful h → IsAt a (Stands calls) action done h
@@ -313,32 +280,40 @@ module _ (a : ℕ) (tables : Holdings) (calls : List (Call Entry × Reply Entry)
       no_abort : (call : Call Entry) → request.Call call ≡ request.Abort → ⊥
       no_abort call e = cc
 
-  asked_call : (call : Call Entry) (p : Phase Entry) (old : Action) (c d : Parts Entry) (n : Notice Entry) → IsClient a tables p old done c
-      → IsDue old action calls p (request.Call call) → Feeds c (Ask a (request.Call call)) d n
-      → Waits a tables calls (request.Call call) n action done d 0
-  asked_call call p old c d n x due f =
+  asked_call : (n : ℕ) (call : Call Entry) (p : Phase Entry) (old : Action) (c d : Parts Entry) (m : Notice Entry)
+      → IsClient a tables n p old done c → IsDue n old action calls p (request.Call call) → Feeds c (Ask a (request.Call call)) d m
+      → Waits a tables n calls (request.Call call) m action done d 0
+  asked_call n call p old c d m x due f =
       let q : Request Entry = request.Call call in
-      let at = stands p old c x due.0 due.1 in
+      let at = stands n p old c x due.1 due.2 in
+      let follows = due.3.1 in
+      let fits = asks_fit action calls call due.3.0 due.0 follows in
       let t : Turn = (Ask a q, action) in
-      let may : May x.history t = may_ask x.history a calls action done (ask.Call call) at due.2 in
-      let told = told_of x.history (Ask a q) c d n x.actor x.lawful x.parts f in
-      let asked = calls_to x.history a (Stands calls) call action done n at told in
+      let asks : asked (after (session action) (replies_of calls)) ≡ ask.Call call =
+      ap (λ (r : Plan). asked r) (follows_after calls (session action) (Asks call due.3.0) follows) in
+      let may : May x.history t = may_ask x.history a calls action done (ask.Call call) at asks in
+      let told = told_of x.history (Ask a q) c d m x.actor x.lawful x.parts f in
+      let moved = calls_to x.history a (Stands calls) call action done m at told in
       let y : Seat Entry = (world_in (next x.history t)).seats a in
-      let room = roomy x.history call n at told in
+      let never : IsRefusal m → ⊥ = λ is. never_as_asked a x.history calls call action done x.lawful x.start x.plain at fits
+      (subst IsRefusal told is) in
+      let asked = x.asked in
+      let one = ap may_commit due.2 in
+      let more = at_most_one moved.to in
       record {
         made = None;
-        at = asked.to;
-        client = goes a tables p old done c d x t n asked.to action done refl may f asked.at;
-        told = tells a tables p old done c d x t n refl may f;
-        goes_on = λ quiet. going y n asked.to asked.at.stands quiet room asked.moves
+        at = moved.to;
+        client = goes a tables n p old done c d x t m n moved.to action done (refl, fits.small) may f (omega (arith, asked, one, more)) x.few
+            moved.at;
+        goes_on = λ quiet. going y m moved.to moved.at.stands quiet fits.room moved.moves
             (λ e. no_end x.history call x.lawful at
-            (ap (λ (w : World Entry). phase (w.seats a)) (sym (world_next x.history t)) ∙ asked.at.stands ∙ e));
-        ends = λ q. called calls call n asked.to q room asked.moves;
-        left = soon x.history q n x.lawful x.small told;
+            (ap (λ (w : World Entry). phase (w.seats a)) (sym (world_next x.history t)) ∙ moved.at.stands ∙ e));
+        ends = λ q. called calls call m moved.to never q moved.moves;
+        left = soon x.history q m x.lawful x.small told;
       }
     where
       under : (y : Seat Entry) (to : Phase Entry) → phase y ≡ to → (to ≡ Ended → ⊥) → (to ≡ Calls calls call) ⊎ (to ≡ Ended)
-          → (length calls < CALL_LIMIT) → Goes calls (request.Call call) y None
+          → weights calls + weight call.op ≤ 4096 → Goes calls (request.Call call) y None
       under y to at never (inl is) room =
           record {
             start = y;
@@ -349,29 +324,33 @@ module _ (a : ℕ) (tables : Holdings) (calls : List (Call Entry × Reply Entry)
       under y to at never (inr is) room = absurd (never is)
 
       going : (y : Seat Entry) (n : Notice Entry) (to : Phase Entry) → phase y ≡ to → IsQuiet n
-          → (IsRefused n ⊎ (length calls < CALL_LIMIT)) → CallMoves calls call n to → (to ≡ Ended → ⊥) → Goes calls (request.Call call) y None
-      going y Quiet to at quiet (inl is) moves never = absurd is
-      going y Quiet to at quiet (inr room) moves never = under y to at never moves room
+          → weights calls + weight call.op ≤ 4096 → CallMoves calls call n to → (to ≡ Ended → ⊥) → Goes calls (request.Call call) y None
+      going y Quiet to at quiet room moves never = under y to at never moves room
       going y n to at quiet room moves never = absurd quiet
 
-  asked_commit : (p : Phase Entry) (old : Action) (c d : Parts Entry) (n : Notice Entry) → IsClient a tables p old done c
-      → IsDue old action calls p request.Commit → Feeds c (Ask a request.Commit) d n → Waits a tables calls request.Commit n action done d 0
-  asked_commit p old c d n x due f =
+  asked_commit : (n : ℕ) (p : Phase Entry) (old : Action) (c d : Parts Entry) (m : Notice Entry) → IsClient a tables n p old done c
+      → IsDue n old action calls p request.Commit → Feeds c (Ask a request.Commit) d m
+      → Waits a tables n calls request.Commit m action done d 0
+  asked_commit n p old c d m x due f =
       let q : Request Entry = request.Commit in
-      let at = stands p old c x due.0 due.1 in
+      let at = stands n p old c x due.0 due.1 in
       let t : Turn = (Ask a q, action) in
-      let may : May x.history t = may_ask x.history a calls action done ask.Done at due.2 in
-      let told = told_of x.history (Ask a q) c d n x.actor x.lawful x.parts f in
-      let quiet : n ≡ Quiet = told ∙ commit_is_quiet x.history a calls action done at in
-      let asked = commits_to x.history a (Stands calls) action done n at told in
-      let is : asked.to ≡ Commits calls = subst (λ (m : Notice Entry). AskMoves (Stands calls) q m asked.to) quiet asked.moves in
+      let asks : asked (after (session action) (replies_of calls)) ≡ ask.Done =
+      ap (λ (r : Plan). asked r) (follows_after calls (session action) (Answers due.2.0) due.2.1) in
+      let may : May x.history t = may_ask x.history a calls action done ask.Done at asks in
+      let told = told_of x.history (Ask a q) c d m x.actor x.lawful x.parts f in
+      let quiet : m ≡ Quiet = told ∙ commit_is_quiet x.history a calls action done at in
+      let moved = commits_to x.history a (Stands calls) action done m at told in
+      let is : moved.to ≡ Commits calls = subst (λ (o : Notice Entry). AskMoves (Stands calls) q o moved.to) quiet moved.moves in
       let y : Seat Entry = (world_in (next x.history t)).seats a in
-      let now : phase y ≡ Commits calls = asked.at.stands ∙ is in
+      let now : phase y ≡ Commits calls = moved.at.stands ∙ is in
+      let asked = x.asked in
+      let one = ap may_commit due.1 in
+      let none = ap may_commit is in
       record {
         made = None;
-        at = asked.to;
-        client = goes a tables p old done c d x t n asked.to action done refl may f asked.at;
-        told = tells a tables p old done c d x t n refl may f;
+        at = moved.to;
+        client = goes a tables n p old done c d x t m n moved.to action done refl may f (omega (arith, asked, one, none)) x.few moved.at;
         goes_on = λ q. record {
           start = y;
           stood = now;
@@ -379,15 +358,16 @@ module _ (a : ℕ) (tables : Holdings) (calls : List (Call Entry × Reply Entry)
           under = subst (λ (r : Phase Entry). IsUnderWayFrom y r y None) (sym now) (inl (inl now, refl));
         };
         ends = λ q. absurd (q (subst IsQuiet (sym quiet) tt));
-        left = soon x.history q n x.lawful x.small told;
+        left = soon x.history q m x.lawful x.small told;
       }
 
-  pub asks : (q : Request Entry) (p : Phase Entry) (old : Action) (c d : Parts Entry) (n : Notice Entry) → IsClient a tables p old done c
-      → IsDue old action calls p q → Feeds c (Ask a q) d n → Waits a tables calls q n action done d 0
-  asks request.Begin p old c d n x due f = asked_begin p old c d n x due f
-  asks (request.Call call) p old c d n x due f = asked_call call p old c d n x due f
-  asks request.Commit p old c d n x due f = asked_commit p old c d n x due f
-  asks q p old c d n x due f = absurd due
+  pub asks : (q : Request Entry) (n : ℕ) (p : Phase Entry) (old : Action) (c d : Parts Entry) (m : Notice Entry)
+      → IsClient a tables n p old done c → IsDue n old action calls p q → Feeds c (Ask a q) d m
+      → Waits a tables (begun n q) calls q m action done d 0
+  asks request.Begin n p old c d m x due f = asked_begin n p old c d m x due f
+  asks (request.Call call) n p old c d m x due f = asked_call n call p old c d m x due f
+  asks request.Commit n p old c d m x due f = asked_commit n p old c d m x due f
+  asks q n p old c d m x due f = absurd due
 
   nearer : (h : History) (n : Notice Entry) (k : ℕ) → IsLawful h → AreSmall h.blocks → n ≡ (happens (world_in h) (Step a)).1
       → left_of (world_in h) a + k < step_limit → IsQuiet n → left_of (world_in (next h (Step a, action))) a + (k + 1) < step_limit
@@ -397,9 +377,9 @@ module _ (a : ℕ) (tables : Holdings) (calls : List (Call Entry × Reply Entry)
       let same = ap (λ (w : World Entry). left_of w a) (world_next h (Step a, action)) in
       omega (arith, less, same, left)
 
-  pub steps : (q : Request Entry) (c d : Parts Entry) (m n : Notice Entry) (k : ℕ) → IsQuiet m → Waits a tables calls q m action done c k
-      → Feeds c (Step a) d n → Waits a tables calls q n action done d (k + 1)
-  steps q c d m n k quiet v f =
+  pub steps : (q : Request Entry) (b : ℕ) (c d : Parts Entry) (m n : Notice Entry) (k : ℕ) → IsQuiet m
+      → Waits a tables b calls q m action done c k → Feeds c (Step a) d n → Waits a tables b calls q n action done d (k + 1)
+  steps q b c d m n k quiet v f =
       let x = v.client in
       let h = x.history in
       let w = world_in h in
@@ -407,22 +387,29 @@ module _ (a : ℕ) (tables : Holdings) (calls : List (Call Entry × Reply Entry)
       let g = v.goes_on quiet in
       let o = committed_by (w.seats a) (w.seats a).stage in
       let r = happens w (Step a) in
+      let to = phase (r.0.seats a) in
       let had = if is_some v.made then done ++ action ∷ [] else done in
       let t : Turn = (Step a, action) in
       let told : n ≡ r.1 = told_of h (Step a) c d n x.actor x.lawful x.parts f in
       let comes : ComesTo a g.start n (r.0.seats a) (latest o v.made) =
       subst (λ (z : Notice Entry). ComesTo a g.start z (r.0.seats a) (latest o v.made)) (sym told)
       (steps_come h.blocks h.clock s.words s.held (events_of h.turns) a g.start v.made x.lawful.stripes g.under) in
-      let now : IsAt a (phase (r.0.seats a)) action (if is_some (latest o v.made) then done ++ action ∷ [] else done) (next h t) =
-      subst (λ (xs : List Action). IsAt a (phase (r.0.seats a)) action xs (next h t))
-      (once g.start (w.seats a) q calls o v.made r.1 (phase (r.0.seats a)) g.stood g.under (steps_move w a) done action)
+      let now : IsAt a to action (if is_some (latest o v.made) then done ++ action ∷ [] else done) (next h t) =
+      subst (λ (xs : List Action). IsAt a to action xs (next h t))
+      (once g.start (w.seats a) q calls o v.made r.1 to g.stood g.under (steps_move w a) done action)
       (step_at h a v.at action had x.at) in
       let seat : (world_in (next h t)).seats a ≡ r.0.seats a = ap (λ (z : World Entry). z.seats a) (world_next h t) in
+      let asked = x.asked in
+      let few = x.few in
+      let fewer = step_may (phase (w.seats a)) (is_some o) r.1 to (steps_move w a) in
+      let same = ap may_commit x.at.stands in
+      let never : IsRefusal n → ⊥ = λ is.
+      never_in_steps a h calls q g.start v.made x.lawful x.start x.plain (omega (arith, asked, few)) g.stood g.room g.under
+      (subst IsRefusal told is) in
       record {
         made = latest o v.made;
-        at = phase (r.0.seats a);
-        client = goes a tables v.at action had c d x t n (phase (r.0.seats a)) action _ refl tt f now;
-        told = tells a tables v.at action had c d x t n refl tt f;
+        at = to;
+        client = goes a tables b v.at action had c d x t n b to action _ refl tt f (omega (arith, asked, fewer, same)) x.few now;
         goes_on = λ still. record {
           start = g.start;
           stood = g.stood;
@@ -431,37 +418,37 @@ module _ (a : ℕ) (tables : Holdings) (calls : List (Call Entry × Reply Entry)
               subst (λ (y : Seat Entry). IsUnderWay g.start y (latest o v.made)) (sym seat)
               (subst (λ (z : Notice Entry). ComesTo a g.start z (r.0.seats a) (latest o v.made)) (is_quiet n still) comes);
         };
-        ends = λ spoken. ended calls a g.start (r.0.seats a) q n (latest o v.made) g.stood g.room spoken comes;
+        ends = λ spoken. ended calls a g.start (r.0.seats a) q n (latest o v.made) g.stood never spoken comes;
         left = nearer h n k x.lawful x.small told (v.left quiet);
       }
 
 -- in every world where the client may ask q, it has asked, has made k steps since, and was told n last
 abbrev pub Waiting : Parts Entry → ℕ → Request Entry → Parts Entry → Notice Entry → ℕ → Type 0
-Waiting c a q d n k =
-    (tables : Holdings) (calls : List (Call Entry × Reply Entry)) (p : Phase Entry) (old action : Action) (done : List Action)
-    → IsClient a tables p old done c → IsDue old action calls p q → Waits a tables calls q n action done d k
+Waiting c a q d m k =
+    (tables : Holdings) (n : ℕ) (calls : List (Call Entry × Reply Entry)) (p : Phase Entry) (old action : Action) (done : List Action)
+    → IsClient a tables n p old done c → IsDue n old action calls p q → Waits a tables (begun n q) calls q m action done d k
 
-pub spoken : (c : Parts Entry) (a : ℕ) (q : Request Entry) (d : Parts Entry) (n : Notice Entry) (k : ℕ) → Waiting c a q d n k
-    → (IsQuiet n → ⊥) → IsAnswered c a q d n
-spoken c a q d n k w told tables calls p old action done x due =
-    let v = w tables calls p old action done x due in
-    record { at = v.at; commits = is_some v.made; leads = v.ends told; told = v.told; client = v.client }
+pub spoken : (c : Parts Entry) (a : ℕ) (q : Request Entry) (d : Parts Entry) (m : Notice Entry) (k : ℕ) → Waiting c a q d m k
+    → (IsQuiet m → ⊥) → IsAnswered c a q d m
+spoken c a q d m k w told tables n calls p old action done x due =
+    let v = w tables n calls p old action done x due in
+    record { at = v.at; commits = is_some v.made; leads = v.ends told; client = v.client }
 
 -- the bound is never reached
-pub in_time : (c : Parts Entry) (a : ℕ) (q : Request Entry) (d : Parts Entry) (n : Notice Entry) (k : ℕ) → step_limit ≤ k
-    → Waiting c a q d n k → IsAnswered c a q d n
-in_time c a q d n k all w tables calls p old action done x due =
-    let v = w tables calls p old action done x due in
-    let late : IsQuiet n → ⊥ = λ quiet. (let left = v.left quiet in omega (arith, left, all)) in
-    record { at = v.at; commits = is_some v.made; leads = v.ends late; told = v.told; client = v.client }
+pub in_time : (c : Parts Entry) (a : ℕ) (q : Request Entry) (d : Parts Entry) (m : Notice Entry) (k : ℕ) → step_limit ≤ k
+    → Waiting c a q d m k → IsAnswered c a q d m
+in_time c a q d m k all w tables n calls p old action done x due =
+    let v = w tables n calls p old action done x due in
+    let late : IsQuiet m → ⊥ = λ quiet. (let left = v.left quiet in omega (arith, left, all)) in
+    record { at = v.at; commits = is_some v.made; leads = v.ends late; client = v.client }
 
-pub at_first : (c d : Parts Entry) (a : ℕ) (q : Request Entry) (n : Notice Entry) → Feeds c (Ask a q) d n → Waiting c a q d n 0
-at_first c d a q n f tables calls p old action done x due = asks a tables calls action done q p old c d n x due f
+pub at_first : (c d : Parts Entry) (a : ℕ) (q : Request Entry) (m : Notice Entry) → Feeds c (Ask a q) d m → Waiting c a q d m 0
+at_first c d a q m f tables n calls p old action done x due = asks a tables calls action done q n p old c d m x due f
 
-pub again : (c d e : Parts Entry) (a : ℕ) (q : Request Entry) (m n : Notice Entry) (k : ℕ) → IsQuiet m → Waiting c a q d m k
-    → Feeds d (Step a) e n → Waiting c a q e n (k + 1)
-again c d e a q m n k quiet w f tables calls p old action done x due =
-    steps a tables calls action done q d e m n k quiet (w tables calls p old action done x due) f
+pub again : (c d e : Parts Entry) (a : ℕ) (q : Request Entry) (m o : Notice Entry) (k : ℕ) → IsQuiet m → Waiting c a q d m k
+    → Feeds d (Step a) e o → Waiting c a q e o (k + 1)
+again c d e a q m o k quiet w f tables n calls p old action done x due =
+    steps a tables calls action done q (begun n q) d e m o k quiet (w tables n calls p old action done x due) f
 
 pub told_last : (n : Notice Entry) → (n ≡ Quiet → ⊥) → IsQuiet n → ⊥
 told_last n told quiet = told (is_quiet n quiet)
