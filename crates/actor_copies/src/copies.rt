@@ -2,7 +2,7 @@
 ghost use Rattle.std.specs.Prelude.{◌≡◌, ◌<◌, ◌≤◌, ◌^◌, All, IfOk, IfErr, OnOk, OnErr, Some, None, length, slice_index};
 ghost use Rattle.seq_model.specs.Calls.{IsRefusal};
 ghost use Rattle.seq_model.specs.Entries.{inserts};
-ghost use Rattle.replay_log.specs.Base.{editions_of, locations_of, room_of, shown_of, stripes_of};
+ghost use Rattle.replay_log.specs.Base.{IsPreparedFor, StaysPrepared, editions_of, locations_of, shown_of, stripes_of};
 ghost use Rattle.atomic_steps.specs.Bases.{IsFolded};
 ghost use Rattle.actor_copies.specs.Copies.{IsAccepted, IsForgotten, IsFound, IsKept, IsLearnt, IsReady, answer_of, changes_in, holds_call, locations_in};
 
@@ -124,11 +124,11 @@ impl<V: Value> Copied<V> {
     /// Makes room in the base for the changes of the accepted calls, so that they go home without memory. The base shows what it did,
     /// also where memory is refused.
     pub fn prepare(&self, base: &mut Base<V>) -> Result<(), Memory>
-        ensures ok { OnOk result (length (changes_in self.now) ≤ room_of base.new) }
+        ensures ok { OnOk result (IsPreparedFor (changes_in self.now) base.new) }
         ensures shown { shown_of base.new ≡ shown_of base.old }
         ensures stripes { stripes_of base.new ≡ stripes_of base.old }
         ensures editions { editions_of base.new ≡ editions_of base.old }
-        ensures room { room_of base.old ≤ room_of base.new }
+        ensures room { StaysPrepared base.old base.new }
     {
         base.prepare(self.changes())
     }
@@ -136,7 +136,7 @@ impl<V: Value> Copied<V> {
     /// Makes the changes of the accepted calls on the base, which is prepared for them, and raises the edition of each location that
     /// they write by one. It takes no memory and is never refused.
     pub fn goes_home(self, base: &mut Base<V>)
-        requires prepared { length (changes_in self) ≤ room_of base.old }
+        requires prepared { IsPreparedFor (changes_in self) base.old }
         requires within { All (λ location. location < locations_of (stripes_of base.old) (shown_of base.old)) (locations_in self) }
         requires below { All (λ location. slice_index (editions_of base.old) location < 2 ^ 63) (locations_in self) }
         ensures { IsFolded (changes_in self) (locations_in self) base.old base.new }

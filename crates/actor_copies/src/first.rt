@@ -31,7 +31,7 @@ fn first_touch<V: Value>(alloc: Global, stripes: u32, touch: Touch<V>) -> Result
 }
 
 /// What there is of a collection in so many stripes once this was found of it, and no call is accepted yet. A number of stripes outside 1
-/// to `STRIPE_LIMIT` is refused as TooLong.
+/// to `STRIPE_LIMIT` is refused there as TooLong.
 pub fn first_copy<V: Value>(
     alloc: Global,
     stripes: u32,

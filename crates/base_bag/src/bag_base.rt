@@ -31,9 +31,9 @@ impl Model for BagBase {
     ghost use Rattle.conflict.specs.BaseView.{BaseView, base_view_code};
     ghost use Rattle.conflict.specs.Refusals.{IsStripeCount};
 
-    ghost Value = { BaseView (map.FinMap nat_cmp ℕ) };
+    ghost Value = { BaseView (map.FinMap nat_cmp ℕ) ℕ };
 
-    ghost coded = { base_view_code (map.code coded_ℕ coded_ℕ) };
+    ghost coded = { base_view_code (map.code coded_ℕ coded_ℕ) coded_ℕ };
 
     ghost view = { λ a. record {
       shown = a.elements.shown;

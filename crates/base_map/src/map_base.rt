@@ -25,16 +25,16 @@ pub struct MapBase<V> {
 }
 
 impl<V> Model for MapBase<V> {
-    ghost use Rattle.std.specs.Prelude.{◌≡◌, length};
+    ghost use Rattle.std.specs.Prelude.{◌≡◌, ℕ, length};
     ghost use Rattle.std.specs.Ordering.{nat_cmp};
     ghost use Rattle.std.specs.FinMap as map;
     ghost use Rattle.std.specs.Coded.{coded_ℕ};
     ghost use Rattle.conflict.specs.BaseView.{BaseView, base_view_code};
     ghost use Rattle.conflict.specs.Refusals.{IsStripeCount};
 
-    ghost Value = { BaseView (map.FinMap nat_cmp V) };
+    ghost Value = { BaseView (map.FinMap nat_cmp V) ℕ };
 
-    ghost coded = { base_view_code (map.code coded_ℕ V.code) };
+    ghost coded = { base_view_code (map.code coded_ℕ V.code) coded_ℕ };
 
     ghost view = { λ a. record {
       shown = a.table.contents;

@@ -22,14 +22,15 @@ pub struct QueueBase {
 }
 
 impl Model for QueueBase {
-    ghost use Rattle.std.specs.Prelude.{◌≡◌, ◌+◌, length};
+    ghost use Rattle.std.specs.Prelude.{◌≡◌, ℕ, ◌+◌, length};
+    ghost use Rattle.std.specs.Coded.{coded_ℕ};
     ghost use Rattle.conflict.specs.BaseView.{BaseView, base_view_code};
     ghost use Rattle.conflict.specs.Refusals.{IsStripeCount};
     ghost use Rattle.base_queue.specs.Conflicts.{Shown, shown_code};
 
-    ghost Value = { BaseView Shown };
+    ghost Value = { BaseView Shown ℕ };
 
-    ghost coded = { base_view_code shown_code };
+    ghost coded = { base_view_code shown_code coded_ℕ };
 
     ghost view = { λ a. record {
       shown = a.cells.shown;

@@ -28,5 +28,7 @@ pub use conflict::Conflict;
 pub use editions::Editions;
 pub use loc_set::{LocSet, conflicts};
 pub use outcome::{Note, Outcome};
-pub use stripes::{STRIPE_LIMIT, is_stripe_count};
+pub use stripes::{
+    PQ_STRIPE_LIMIT, STRIPE_LIMIT, is_pq_stripe_count, is_stripe_count, is_stripe_count_of,
+};
 pub use table::Table;

@@ -1,5 +1,5 @@
 -- A base of any of the four kinds: what it shows to calls, and what calls answer, read, write and change.
-use Rattle.std.specs.Prelude.{◌≡◌, ℕ, ◌+◌, ◌<◌, List, Option, Some, option_map}
+use Rattle.std.specs.Prelude.{◌≡◌, ℕ, ◌+◌, ◌<◌, ◌≤◌, List, ◌++◌, length, Option, Some, option_map}
 use Rattle.std.specs.Ordering.{nat_cmp}
 use Rattle.std.specs.FinMap.{FinMap}
 use Rattle.seq_model.specs.declared.call.Op.{Op}
@@ -12,6 +12,7 @@ use Rattle.conflict.specs.Rules.{applied, AreConflicting}
 use Rattle.base_map.specs.Conflicts as map
 use Rattle.base_bag.specs.Conflicts as bag
 use Rattle.base_pq.specs.Conflicts as pq
+use Rattle.base_pq.specs.Room.{HasRoom}
 use Rattle.base_queue.specs.Conflicts as queue
 use Rattle.replay_log.specs.declared.base.Base.{Base}
 use Rattle.replay_log.specs.declared.base.Base.TheVariants as base
@@ -42,12 +43,20 @@ module _ {V : Type 0} where
   editions_of (base.Pq b) = b.editions
   editions_of (base.Queue b) = b.editions
 
-  -- for how many changes it has room
-  abbrev pub room_of : Base V → ℕ
-  room_of (base.Map b) = b.room
-  room_of (base.Bag b) = b.room
-  room_of (base.Pq b) = b.room
-  room_of (base.Queue b) = b.room
+  -- it has room for these changes; a priority queue in each stripe for those that fall on it
+  abbrev pub IsPreparedFor : List (Change V) → Base V → Type 0
+  IsPreparedFor changes (base.Map b) = length changes ≤ b.room
+  IsPreparedFor changes (base.Bag b) = length changes ≤ b.room
+  IsPreparedFor changes (base.Pq b) = HasRoom b.stripes b.room changes
+  IsPreparedFor changes (base.Queue b) = length changes ≤ b.room
+
+  -- what it was prepared for, it is still prepared for
+  abbrev pub StaysPrepared : (before now : Base V) → Type 0
+  StaysPrepared before now = (changes : List (Change V)) → IsPreparedFor changes before → IsPreparedFor changes now
+
+  -- where it was prepared for these changes and others, it is prepared for the others
+  abbrev pub LeavesPrepared : List (Change V) → (before now : Base V) → Type 0
+  LeavesPrepared changes before now = (more : List (Change V)) → IsPreparedFor (changes ++ more) before → IsPreparedFor more now
 
   -- what a call answers; none, if it is of another kind
   abbrev pub outcome_of : Op V → Shown V → Option (Outcome V)

@@ -2,8 +2,11 @@
 ghost use Rattle.std.specs.Prelude.{◌≡◌, ◌+◌, ◌^◌, ◌<◌, ◌≤◌, [], All, IsOk, Some, None, replicate, IfOk, IfErr, OnOk, length, slice_index};
 ghost use Rattle.seq_model.specs.Calls.{IsRefusal, IsWithinLimits};
 ghost use Rattle.conflict.specs.Editions.{raised};
-ghost use Rattle.conflict.specs.Refusals.{IsTooLong, IsStripeCount};
+ghost use Rattle.conflict.specs.Refusals.{IsTooLong, IsStripeCountOf};
 ghost use Rattle.replay_log.specs.Base.{
+  IsPreparedFor,
+  LeavesPrepared,
+  StaysPrepared,
   after,
   changes_of,
   editions_of,
@@ -11,7 +14,6 @@ ghost use Rattle.replay_log.specs.Base.{
   locations_of,
   outcome_of,
   reads_of,
-  room_of,
   shown_of,
   stripes_of,
   view_of,
@@ -38,15 +40,15 @@ pub enum Base<V> {
 }
 
 impl<V: Value> Base<V> {
-    /// A collection that holds this, with edition 0 for each location. A number of stripes outside 1 to `STRIPE_LIMIT`, too many
-    /// copies of an element, and items whose indexes would pass `INDEX_LIMIT`, are refused as TooLong. Only then memory is asked
-    /// for.
+    /// A collection that holds this, with edition 0 for each location. A number of stripes outside 1 to `STRIPE_LIMIT`, of a priority
+    /// queue 1 to `PQ_STRIPE_LIMIT`, too many copies of an element, and items whose indexes would pass `INDEX_LIMIT`, are refused as
+    /// TooLong. Only then memory is asked for.
     pub fn open(alloc: Global, stripes: u32, held: Held<V>) -> Result<Base<V>, Refusal>
         ensures shown { IfOk result (λ base. view_of held ≡ Some (shown_of base)) }
         ensures stripes { IfOk result (λ base. stripes_of base ≡ stripes) }
         ensures editions { IfOk result (λ base. editions_of base ≡ replicate (locations_of stripes (shown_of base)) 0) }
-        ensures refused { IfErr result (λ refusal. IsTooLong refusal (IsStripeCount stripes × IsWithinLimits held)) }
-        ensures fits { IsOk result → IsStripeCount stripes × IsWithinLimits held }
+        ensures refused { IfErr result (λ refusal. IsTooLong refusal (IsStripeCountOf held stripes × IsWithinLimits held)) }
+        ensures fits { IsOk result → IsStripeCountOf held stripes × IsWithinLimits held }
     {
         Ok(match &held {
             Held::Map(_) => Base::Map(MapBase::open(alloc, stripes, held)?),
@@ -121,14 +123,14 @@ impl<V: Value> Base<V> {
     }
 
     /// Makes room for the changes. The collection stays as it is and keeps its room, also where memory is refused. Where there is
-    /// room already, nothing is refused.
+    /// room already, nothing is refused. Of a priority queue only the stripes that the changes fall on are looked at.
     pub fn prepare(&mut self, changes: &[Change<V>]) -> Result<(), Memory>
         ensures shown { shown_of self.new ≡ shown_of self.old }
         ensures stripes { stripes_of self.new ≡ stripes_of self.old }
         ensures editions { editions_of self.new ≡ editions_of self.old }
-        ensures ok { OnOk result (length changes.now ≤ room_of self.new) }
-        ensures room { room_of self.old ≤ room_of self.new }
-        ensures served { length changes.now ≤ room_of self.old → IsOk result }
+        ensures ok { OnOk result (IsPreparedFor changes.now self.new) }
+        ensures room { StaysPrepared self.old self.new }
+        ensures served { IsPreparedFor changes.now self.old → IsOk result }
     {
         match self {
             Base::Map(base) => base.prepare(changes),
@@ -141,13 +143,13 @@ impl<V: Value> Base<V> {
     /// Applies the changes in order, and raises the edition of each written location by one. There has to be room for the
     /// changes, so it takes no memory and is never refused. It uses up the room for these changes alone.
     pub fn replay(&mut self, changes: Changes<V>, written: &LocSet)
-        requires prepared { length changes ≤ room_of self.old }
+        requires prepared { IsPreparedFor changes self.old }
         requires within { All (λ location. location < locations_of (stripes_of self.old) (shown_of self.old)) written.now }
         requires below { All (λ location. slice_index (editions_of self.old) location < 2 ^ 63) written.now }
         ensures shown { shown_of self.new ≡ after changes (shown_of self.old) }
         ensures stripes { stripes_of self.new ≡ stripes_of self.old }
         ensures editions { editions_of self.new ≡ raised written.now (editions_of self.old) }
-        ensures room { room_of self.old ≤ room_of self.new + length changes }
+        ensures room { LeavesPrepared changes self.old self.new }
     {
         match self {
             Base::Map(base) => base.replay(changes, written),

@@ -1,6 +1,6 @@
 //! The log of a transaction's changes to a collection.
 ghost use Rattle.std.specs.Prelude.{◌≡◌, ◌+◌, ◌*◌, ◌^◌, ◌<◌, ◌≤◌, [], ◌∷◌, ◌++◌, All, IsOk, OnOk, OnErr, length, slice_index};
-ghost use Rattle.replay_log.specs.Base.{after, editions_of, locations_of, room_of, shown_of, stripes_of};
+ghost use Rattle.replay_log.specs.Base.{IsPreparedFor, LeavesPrepared, after, editions_of, locations_of, shown_of, stripes_of};
 ghost use Rattle.replay_log.specs.Log.{AreRaised};
 
 use crate::base::Base;
@@ -104,13 +104,13 @@ impl<V: Value> Log<V> {
     /// Applies the changes to the base in order, and raises by one the edition of each location that was pushed with them, however
     /// often. There has to be room in the base for the changes, so it takes no memory and is never refused.
     pub fn fold_into(self, base: &mut Base<V>)
-        requires prepared { length self.changes ≤ room_of base.old }
+        requires prepared { IsPreparedFor self.changes base.old }
         requires within { All (λ location. location < locations_of (stripes_of base.old) (shown_of base.old)) self.locations }
         requires below { All (λ location. slice_index (editions_of base.old) location < 2 ^ 63) self.locations }
         ensures shown { shown_of base.new ≡ after self.changes (shown_of base.old) }
         ensures stripes { stripes_of base.new ≡ stripes_of base.old }
         ensures editions { AreRaised self.locations (editions_of base.old) (editions_of base.new) }
-        ensures room { room_of base.old ≤ room_of base.new + length self.changes }
+        ensures room { LeavesPrepared self.changes base.old base.new }
     {
         let written = LocSet::from_locations(self.locations);
         base.replay(Items::from_vec(self.changes), &written);

@@ -14,6 +14,8 @@ use Rattle.replay_log.specs.Parts.{kind_of, part}
 use Rattle.replay_log.specs.Worlds.{World}
 use Rattle.step_core.specs.CellSteps.{AreCells}
 use Rattle.atomic_steps.specs.Bases.{ShowsBase}
+use Rattle.actor_copies.specs.Kept.{copy_of}
+use Rattle.actor_copies.specs.Logs.{changes_had}
 use Rattle.actor_copies.specs.declared.copies.CopyOf.{CopyOf}
 use Rattle.tx_actor.specs.declared.actor.Stage as own
 use Rattle.tx_actor.specs.declared.actor.Stage.TheVariants as stage
@@ -38,7 +40,7 @@ at_any (j ∷ ks) (suc i) k low e d = at_any ks i k (omega (arith, low)) e d
 
 module _ {V : Type 0} where
   alike_same : (b : Base V) → IsAlike b b
-  alike_same b = record { shown = refl; stripes = refl; editions = refl; room = omega arith }
+  alike_same b = record { shown = refl; stripes = refl; editions = refl; room = λ cs ready. ready }
 
   pub are_same : (ds : List (Base V)) → AreAlike ds ds
   are_same ds = record { count = refl; each = λ k b at. (b, at, alike_same b) }
@@ -55,7 +57,7 @@ module _ {V : Type 0} where
             shown = f.2.shown ∙ e.2.shown;
             stripes = f.2.stripes ∙ e.2.stripes;
             editions = f.2.editions ∙ e.2.editions;
-            room = omega (arith, e.2.room, f.2.room);
+            room = λ cs ready. f.2.room cs (e.2.room cs ready);
           },
         ));
   }
@@ -113,8 +115,7 @@ module _ {V : Type 0} where
   room_stays : (t u : Table V) (cs : List (CopyOf V)) (k : ℕ) → AreAlike t.bases.items u.bases.items → HasRoomAt t cs k → HasRoomAt u cs k
   room_stays t u cs k alike room = λ b at. (
       let f = alike.each k b at in
-      let had = room f.0 f.1 in
-      omega (arith, had, f.2.room))
+      f.2.room (changes_had (copy_of cs k)) (room f.0 f.1))
 
   -- so far
   abbrev pub HaveRoomTo : ℕ → Table V → List (CopyOf V) → List ℕ → Type 0

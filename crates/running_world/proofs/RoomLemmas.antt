@@ -4,8 +4,8 @@
 -- which frees its gate, is left to no actor afterwards; and the other bases stand. A step that changes no base leaves its actor with no
 -- more bases than before, but for the first value store, which leaves it with those whose gates it held; a request finds it without a
 -- gate, and a want of memory before the first value store ends its commit.
-use Rattle.std.proofs.Common.{◌≡◌, ◌≢◌, ◌⊎◌, ℕ, zero, suc, ◌≤◌, Bool, true, false, true≢false, List, [], ◌∷◌, Option, Some, inl, inr}
-use Rattle.std.proofs.Common.{refl, sym, ap, ◌∙◌, subst, arith, eqb, eqb-true, eq-eqb, length, slice_get}
+use Rattle.std.proofs.Common.{◌≡◌, ◌≢◌, ◌⊎◌, ℕ, zero, suc, Bool, true, false, true≢false, List, [], ◌∷◌, Option, Some, inl, inr}
+use Rattle.std.proofs.Common.{refl, sym, ap, ◌∙◌, subst, arith, eqb, eqb-true, eq-eqb, slice_get}
 use Rattle.std.specs.Prelude.{All, Contains, slice_index_or}
 use Rattle.std.specs.declared.alloc.Global.{Global}
 use Rattle.std.specs.declared.vec.Vec.{Vec}
@@ -21,7 +21,7 @@ use Rattle.seq_model.specs.declared.refusal.Refusal.TheVariants.{OutOfMemory}
 use Rattle.collection_machine.specs.Boosted.{is_actor}
 use Rattle.collection_machine.specs.Content.{has}
 use Rattle.replay_log.specs.declared.base.Base.{Base}
-use Rattle.replay_log.specs.Base.{room_of}
+use Rattle.replay_log.specs.Base.{IsPreparedFor}
 use Rattle.replay_log.specs.Worlds.{World, Seat, Stage, Ready, Cancelling, Leaving, Open, because, gives_up, goes_home, happens}
 use Rattle.replay_log.specs.Worlds.{has_stored, is_half_done, starve_at, step_at}
 use Rattle.replay_log.proofs.EventLemmas.{run_linked}
@@ -90,12 +90,12 @@ module _ {V : Type 0} where
   pub room_same : (t u : Table V) (r : TxActor V) → u.bases ≡ t.bases → HasRoomLeft t r → HasRoomLeft u r
   room_same t u r e h =
       subst (λ (bs : Vec (Base V) Global). All (λ k. (b : Base V) → slice_get bs.items k ≡ Some b
-      → length (changes_had (copy_of r.copies.items k)) ≤ room_of b) (homes_left r.stage)) (sym e) h
+      → IsPreparedFor (changes_had (copy_of r.copies.items k)) b) (homes_left r.stage)) (sym e) h
 
   pub room_at : (t u : Table V) (before now : List (CopyOf V)) (k : ℕ) → slice_get u.bases.items k ≡ slice_get t.bases.items k
       → copy_of now k ≡ copy_of before k → HasRoomAt t before k → HasRoomAt u now k
   room_at t u before now k same copy h = λ b at.
-      subst (λ (c : Option _). length (changes_had c) ≤ room_of b) (sym copy) (h b (sym same ∙ at))
+      subst (λ (c : Option _). IsPreparedFor (changes_had c) b) (sym copy) (h b (sym same ∙ at))
 
   same_at : (t u : Table V) (k : ℕ) → u.bases ≡ t.bases → slice_get u.bases.items k ≡ slice_get t.bases.items k
   same_at t u k e = ap (λ (bs : Vec (Base V) Global). slice_get bs.items k) e

@@ -1,9 +1,9 @@
 -- What a base that goes home asks of its actor, and what it makes of the world.
-use Rattle.std.specs.Prelude.{◌≡◌, ℕ, ◌<◌, ◌≤◌, ◌^◌, List, [], All, Some, length, slice_get}
+use Rattle.std.specs.Prelude.{◌≡◌, ℕ, ◌<◌, ◌^◌, List, [], All, Some, length, slice_get}
 use Rattle.seq_model.specs.declared.event.Event.TheVariants.{Step}
 use Rattle.seq_model.specs.Contents.{Contents}
 use Rattle.replay_log.specs.declared.base.Base.{Base}
-use Rattle.replay_log.specs.Base.{editions_of, room_of, shown_of, stripes_of}
+use Rattle.replay_log.specs.Base.{IsPreparedFor, StaysPrepared, editions_of, shown_of, stripes_of}
 use Rattle.replay_log.specs.Contents.{Block, block_of}
 use Rattle.replay_log.specs.Worlds.{World, happens}
 use Rattle.actor_copies.specs.Logs.{changes_had}
@@ -21,12 +21,12 @@ use Rattle.world_table.specs.declared.table.Table.{Table}
 use Rattle.running_world.specs.Reached.{IsReached}
 
 module _ {V : Type 0} where
-  -- b holds what d holds, with no less room
+  -- b holds what d holds, and has room for what d has room for
   pub record IsAlike (d b : Base V) : Type 0 where
     pub shown : shown_of b ≡ shown_of d
     pub stripes : stripes_of b ≡ stripes_of d
     pub editions : editions_of b ≡ editions_of d
-    pub room : room_of d ≤ room_of b
+    pub room : StaysPrepared d b
 
   -- and so does each of them
   pub record AreAlike (ds bs : List (Base V)) : Type 0 where
@@ -35,7 +35,7 @@ module _ {V : Type 0} where
 
   -- the base of k has room for the log of the calls on it among what there is of collections
   abbrev pub HasRoomAt : Table V → List (CopyOf V) → ℕ → Type 0
-  HasRoomAt t cs k = (base : Base V) → slice_get t.bases.items k ≡ Some base → length (changes_had (copy_of cs k)) ≤ room_of base
+  HasRoomAt t cs k = (base : Base V) → slice_get t.bases.items k ≡ Some base → IsPreparedFor (changes_had (copy_of cs k)) base
 
   abbrev pub HaveRoom : Table V → List (CopyOf V) → List ℕ → Type 0
   HaveRoom t cs ks = All (HasRoomAt t cs) ks

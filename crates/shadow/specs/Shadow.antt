@@ -3,7 +3,7 @@ use Rattle.std.specs.Prelude.{◌≡◌, ℕ, ◌≤◌, ◌+◌, List, Option, 
 use Rattle.conflict.specs.declared.change.Change.{Change}
 use Rattle.conflict.specs.declared.outcome.Outcome.{Outcome}
 use Rattle.replay_log.specs.declared.base.Base.{Base}
-use Rattle.replay_log.specs.Base.{Shown, after, changes_of, room_of, shown_of, stripes_of, writes_of}
+use Rattle.replay_log.specs.Base.{IsPreparedFor, Shown, after, changes_of, shown_of, stripes_of, writes_of}
 use Rattle.replay_log.specs.Log.{LogView}
 use Rattle.shadow.specs.declared.shadow.Ready as declared
 
@@ -35,5 +35,5 @@ module _ {V : Type 0} where
   abbrev pub IsKept : Base V → LogView V → Option (declared.Ready V) → Type 0
   IsKept b log None = ⊤
   IsKept b log (Some r) =
-      (r.own ≡ r.logged) × (length r.own ≤ room_of b) × (length r.logged ≤ log.room)
+      (r.own ≡ r.logged) × IsPreparedFor r.own b × (length r.logged ≤ log.room)
       × (length log.locations + length r.written ≤ log.places)

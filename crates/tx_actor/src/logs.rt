@@ -1,6 +1,6 @@
 //! What a commit prepares of the bases that it writes, and the logs that it hands home.
-ghost use Rattle.std.specs.Prelude.{◌≡◌, ◌≤◌, OnOk, length, true};
-ghost use Rattle.replay_log.specs.Base.{editions_of, room_of, shown_of, stripes_of};
+ghost use Rattle.std.specs.Prelude.{◌≡◌, OnOk, true};
+ghost use Rattle.replay_log.specs.Base.{IsPreparedFor, StaysPrepared, editions_of, shown_of, stripes_of};
 ghost use Rattle.actor_words.specs.Blocks.{BlocksView};
 ghost use Rattle.tx_actor.specs.Keeping.{KeepsIn};
 ghost use Rattle.actor_copies.specs.Logs.{OthersStand, changes_had, locations_had};
@@ -18,11 +18,11 @@ impl<V: Value> TxActor<V> {
     /// Makes room in the base of a collection for what its transaction has changed there, so that it goes home without memory. The
     /// base shows what it did, also where memory is refused.
     pub fn prepares_base(&self, collection: u32, base: &mut Base<V>) -> Result<(), Memory>
-        ensures ok { OnOk result (length (changes_had (copy_of self.now.copies.items collection)) ≤ room_of base.new) }
+        ensures ok { OnOk result (IsPreparedFor (changes_had (copy_of self.now.copies.items collection)) base.new) }
         ensures shown { shown_of base.new ≡ shown_of base.old }
         ensures stripes { stripes_of base.new ≡ stripes_of base.old }
         ensures editions { editions_of base.new ≡ editions_of base.old }
-        ensures room { room_of base.old ≤ room_of base.new }
+        ensures room { StaysPrepared base.old base.new }
     {
         match place_of(&self.copies, collection) {
             Some(place) => self.copies[place].copied.prepare(base),

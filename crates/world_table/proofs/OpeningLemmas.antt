@@ -5,18 +5,18 @@
 -- that its home names, and shows that part of it; its word opens as 0, and so does the edition of each base.
 use Rattle.std.proofs.Common.{◌≡◌, ℕ, zero, suc, ◌+◌, ◌-◌, ◌<◌, ◌≤◌, ltb, true, false, List, [], ◌∷◌, ◌++◌, Some, length, drop, take}
 use Rattle.std.proofs.Common.{get_or, replicate, inl, inr, refl, sym, ap, ◌∙◌, subst, arith, lt-ltb, le-ltb, length-append}
-use Rattle.std.specs.Prelude.{All, not, ◌||◌, nat_lt, slice_get}
+use Rattle.std.specs.Prelude.{All, ◌↔◌, not, ◌||◌, nat_lt, slice_get}
 use Rattle.std.proofs.Math.ListN.{drop_of_length-le, get_or-append, get_or-eq_default}
 use Rattle.std.proofs.Math.Seq.{get_or-append_right}
 use Rattle.std.proofs.lemmas.Bool.{cases_lt, cond-true, cond-false}
 use Rattle.std.proofs.lemmas.List.{get_or-replicate, length-replicate, take_all}
-use Rattle.std.proofs.lemmas.List.Elements.{All-from_get_or, All-head, All-tail}
+use Rattle.std.proofs.lemmas.List.Elements.{All-head, All-tail}
 use Rattle.vlock_word.specs.LockWord.{unbits}
 use Rattle.seq_model.specs.declared.held.Held.{Held}
 use Rattle.seq_model.specs.declared.held.Held.TheVariants.{Map, Bag, Pq, Queue}
 use Rattle.seq_model.specs.Calls.{IsWithinLimits}
 use Rattle.seq_model.specs.Contents.{Contents}
-use Rattle.conflict.specs.Refusals.{IsStripeCount}
+use Rattle.conflict.specs.Refusals.{IsStripeCountOf}
 use Rattle.replay_log.specs.declared.base.Base.{Base}
 use Rattle.replay_log.specs.Base.{Shown, locations_of, shown_of, view_of}
 use Rattle.replay_log.specs.Collections.{Suit, kind_of_held, shown_from, viewed}
@@ -24,10 +24,10 @@ use Rattle.replay_log.specs.Contents.{Block, HaveStripes, block_of, end_of, firs
 use Rattle.replay_log.specs.Parts.{kind_of, part}
 use Rattle.replay_log.proofs.CollectionLemmas.{behind, kind_viewed}
 use Rattle.replay_log.proofs.ContentLemmas.{end_above}
+use Rattle.actor_words.specs.declared.blocks.TheConstants.{TABLE_LIMIT}
 use Rattle.atomic_steps.specs.Bases.{IsBaseOf}
-use Rattle.world_table.specs.Openings.{AreOpened, HasShape, IsOpened, blocks_of, world_of}
+use Rattle.world_table.specs.Openings.{AreOpened, AreStripeCounts, HasShape, IsOpened, blocks_of, world_of}
 use Rattle.world_table.specs.Tables.{HasTable, holder}
-use Rattle.world_table.specs.declared.opening.TheConstants.{LOCATION_LIMIT}
 use Rattle.world_table.specs.declared.table.Table.{Table}
 
 module _ {V : Type 0} where
@@ -81,15 +81,40 @@ module _ {V : Type 0} where
       later (suc j) e got is more =
           more j (let z : home_of (w + size_by (kind_of_held g) m) (blocks_of ns hs) l ≡ j = omega (arith, e) in z) got is
 
-counted_all : (ns : List ℕ) → ((j : ℕ) → j < length ns → IsStripeCount (get_or ns j 0)) → All IsStripeCount ns
-counted_all ns each = All-from_get_or IsStripeCount ns 0 each
-
 -- so many collections have been counted, up to this location
 module _ {V : Type 0} where
   pub record IsCounted (words : ℕ) (ns : List ℕ) (hs : List (Held V)) (i end : ℕ) : Type 0 where
     pub rest : end_of end (blocks_of (drop i ns) (drop i hs)) ≡ end_of words (blocks_of ns hs)
-    pub low : end ≤ LOCATION_LIMIT
-    pub counts : (j : ℕ) → j < i → IsStripeCount (get_or ns j 0)
+    pub low : end ≤ TABLE_LIMIT
+    pub counts : AreStripeCounts (drop i ns) (drop i hs) ↔ AreStripeCounts ns hs
+
+  -- the numbers of stripes from one collection on, as that of this one and those of the others
+  counts_from : (i : ℕ) (ns : List ℕ) (hs : List (Held V)) (h : Held V) → i < length ns → i < length hs → get_or hs i h ≡ h
+      → AreStripeCounts (drop i ns) (drop i hs) ↔ (IsStripeCountOf h (get_or ns i 0) × AreStripeCounts (drop (suc i) ns) (drop (suc i) hs))
+  counts_from i [] hs h low inn at = absurd (omega (arith, low))
+  counts_from i (n ∷ ns) [] h low inn at = absurd (omega (arith, inn))
+  counts_from zero (n ∷ ns) (g ∷ hs) h low inn at = (
+    (λ all. (subst (λ (x : Held V). IsStripeCountOf x n) at all.0, all.1)),
+    (λ all. (subst (λ (x : Held V). IsStripeCountOf x n) (sym at) all.0, all.1)),
+  )
+  counts_from (suc i) (n ∷ ns) (g ∷ hs) h low inn at = counts_from i ns hs h (omega (arith, low)) (omega (arith, inn)) at
+
+  -- one more
+  pub counts_more : (words i end : ℕ) (ns : List ℕ) (hs : List (Held V)) (h : Held V) → IsCounted words ns hs i end → i < length ns
+      → length ns ≡ length hs → get_or hs i h ≡ h → IsStripeCountOf h (get_or ns i 0)
+      → AreStripeCounts (drop (i + 1) ns) (drop (i + 1) hs) ↔ AreStripeCounts ns hs
+  counts_more words i end ns hs h is low same at fits =
+      let from = counts_from i ns hs h low (omega (arith, same, low)) at in
+      let next : suc i ≡ i + 1 = omega arith in
+      subst (λ j. AreStripeCounts (drop j ns) (drop j hs) ↔ AreStripeCounts ns hs) next (
+        (λ left. is.counts.0 (from.1 (fits, left))),
+        (λ all. (from.0 (is.counts.1 all)).1),
+      )
+
+  -- of the next collection the number is one that it may have, where each is
+  pub count_fits : (words i end : ℕ) (ns : List ℕ) (hs : List (Held V)) (h : Held V) → IsCounted words ns hs i end → i < length ns
+      → length ns ≡ length hs → get_or hs i h ≡ h → AreStripeCounts ns hs → IsStripeCountOf h (get_or ns i 0)
+  count_fits words i end ns hs h is low same at all = ((counts_from i ns hs h low (omega (arith, same, low)) at).0 (is.counts.1 all)).0
 
   pub counts_one : (words i n end : ℕ) (ns : List ℕ) (hs : List (Held V)) (h : Held V) → IsCounted words ns hs i end → i < length ns
       → length ns ≡ length hs → get_or hs i h ≡ h → get_or ns i 0 ≡ n
@@ -101,19 +126,19 @@ module _ {V : Type 0} where
       count (next_end end i ns hs h low (omega (arith, same, low)) at ∙ is.rest))
 
   pub past : (words i n end : ℕ) (ns : List ℕ) (hs : List (Held V)) (h : Held V) → IsCounted words ns hs i end → i < length ns
-      → length ns ≡ length hs → get_or hs i h ≡ h → get_or ns i 0 ≡ n → LOCATION_LIMIT < end + size_by (kind_of_held h) n
-      → LOCATION_LIMIT < end_of words (blocks_of ns hs)
+      → length ns ≡ length hs → get_or hs i h ≡ h → get_or ns i 0 ≡ n → TABLE_LIMIT < end + size_by (kind_of_held h) n
+      → TABLE_LIMIT < end_of words (blocks_of ns hs)
   past words i n end ns hs h is low same at count over =
       let e = counts_one words i n end ns hs h is low same at count in
       let above = end_above (end + size_by (kind_of_held h) n) (blocks_of (drop (i + 1) ns) (drop (i + 1) hs)) in
       omega (arith, e, above, over)
 
   pub all_counted : (words i end : ℕ) (ns : List ℕ) (hs : List (Held V)) → IsCounted words ns hs i end → length ns ≤ i
-      → (end ≡ end_of words (blocks_of ns hs)) × All IsStripeCount ns
+      → (end ≡ end_of words (blocks_of ns hs)) × AreStripeCounts ns hs
   all_counted words i end ns hs is long = (
     (let none : drop i ns ≡ [] = drop_of_length-le ns long in
         ap (λ (ms : List ℕ). end_of end (blocks_of ms (drop i hs))) (sym none) ∙ is.rest),
-    counted_all ns (λ j lt. is.counts j (omega (arith, lt, long))),
+    is.counts.0 (subst (λ (ms : List ℕ). AreStripeCounts ms (drop i hs)) (sym (drop_of_length-le ns long)) tt),
   )
 
 -- ---- the bases, one after another
@@ -204,13 +229,17 @@ module _ {V : Type 0} where
     suits ns hs (omega (arith, same)) (All-tail IsWithinLimits h hs all),
   )
 
-  pub have_stripes : (ns : List ℕ) (hs : List (Held V)) → All IsStripeCount ns → HaveStripes (blocks_of ns hs)
+  pub have_stripes : (ns : List ℕ) (hs : List (Held V)) → AreStripeCounts ns hs → HaveStripes (blocks_of ns hs)
   have_stripes [] hs all = tt
   have_stripes (n ∷ ns) [] all = tt
-  have_stripes (n ∷ ns) (h ∷ hs) all = (
-    (All-head IsStripeCount n ns all).0,
-    have_stripes ns hs (All-tail IsStripeCount n ns all),
-  )
+  have_stripes (n ∷ ns) (h ∷ hs) all = (all.0.0, have_stripes ns hs all.1)
+
+  -- the number of the collection after these
+  pub count_of_next : (ns : List ℕ) (hs gs : List (Held V)) (h : Held V) → AreStripeCounts ns (hs ++ h ∷ gs) → length hs < length ns
+      → IsStripeCountOf h (get_or ns (length hs) 0)
+  count_of_next [] hs gs h all low = absurd (omega (arith, low))
+  count_of_next (n ∷ ns) [] gs h all low = all.0
+  count_of_next (n ∷ ns) (g ∷ hs) gs h all low = count_of_next ns hs gs h all.1 (omega (arith, low))
 
   pub as_many : (ns : List ℕ) (hs : List (Held V)) → length ns ≡ length hs → length (blocks_of ns hs) ≡ length hs
   as_many [] [] same = refl

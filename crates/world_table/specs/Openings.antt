@@ -1,17 +1,17 @@
 -- The world that a table opens as, what an opening is refused for, and the shape of a table.
-use Rattle.std.specs.Prelude.{◌≡◌, ℕ, ◌≤◌, List, [], ◌∷◌, All, Some, length, replicate, slice_get}
+use Rattle.std.specs.Prelude.{◌≡◌, ℕ, ◌≤◌, List, [], ◌∷◌, Some, length, replicate, slice_get}
 use Rattle.seq_model.specs.declared.held.Held.{Held}
 use Rattle.seq_model.specs.declared.limits.TheConstants.{CLOCK_LIMIT}
 use Rattle.seq_model.specs.Contents.{Contents}
-use Rattle.conflict.specs.Refusals.{IsStripeCount}
+use Rattle.conflict.specs.Refusals.{IsStripeCountOf}
 use Rattle.replay_log.specs.declared.base.Base.{Base}
 use Rattle.replay_log.specs.Base.{editions_of, locations_of, shown_of, stripes_of, view_of}
 use Rattle.replay_log.specs.Collections.{kind_of_held}
 use Rattle.replay_log.specs.Contents.{Block, block_of, end_of}
 use Rattle.replay_log.specs.Seats.{World}
 use Rattle.replay_log.specs.Worlds.{opened}
+use Rattle.actor_words.specs.declared.blocks.TheConstants.{COLLECTION_LIMIT, TABLE_LIMIT}
 use Rattle.atomic_steps.specs.Bases.{IsBaseOf}
-use Rattle.world_table.specs.declared.opening.TheConstants.{COLLECTION_LIMIT, LOCATION_LIMIT}
 use Rattle.world_table.specs.declared.table.Table.{Table}
 
 module _ {V : Type 0} where
@@ -25,12 +25,18 @@ module _ {V : Type 0} where
   abbrev pub world_of : (stripes : List ℕ) → (clock : ℕ) → Contents V → World V
   world_of stripes clock s = opened (blocks_of stripes s.held) clock s.words s.held
 
+  -- each of these collections may have as many stripes as it is to be in
+  abbrev pub AreStripeCounts : List ℕ → List (Held V) → Type 0
+  AreStripeCounts [] hs = Unit {0}
+  AreStripeCounts (n ∷ ns) [] = Unit {0}
+  AreStripeCounts (n ∷ ns) (h ∷ hs) = IsStripeCountOf h n × AreStripeCounts ns hs
+
   -- An opening is within the limits.
   pub record IsWithin (ns : List ℕ) (start : ℕ) (s : Contents V) : Type 0 where
     pub clock : start ≤ CLOCK_LIMIT
     pub collections : length s.held ≤ COLLECTION_LIMIT
-    pub stripes : All IsStripeCount ns
-    pub locations : end_of (length s.words) (blocks_of ns s.held) ≤ LOCATION_LIMIT
+    pub stripes : AreStripeCounts ns s.held
+    pub locations : end_of (length s.words) (blocks_of ns s.held) ≤ TABLE_LIMIT
 
   -- The base was opened on what this collection holds, in so many stripes.
   pub record IsOpened (n : ℕ) (h : Held V) (base : Base V) : Type 0 where

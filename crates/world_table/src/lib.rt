@@ -11,5 +11,4 @@ mod table;
 
 pub use auditing::audit_records;
 pub use layout::lay;
-pub use opening::{COLLECTION_LIMIT, LOCATION_LIMIT};
 pub use table::Table;

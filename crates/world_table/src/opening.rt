@@ -1,22 +1,17 @@
 //! What an opening is refused for, and the bases of its collections.
 ghost use Rattle.std.specs.Prelude.{◌≡◌, ◌<◌, ◌≤◌, All, IfNone, IfOk, IfSome, Some, length, replicate};
 ghost use Rattle.seq_model.specs.Calls.{IsWithinLimits};
-ghost use Rattle.conflict.specs.Refusals.{IsStripeCount};
+ghost use Rattle.conflict.specs.Refusals.{IsStripeCountOf};
 ghost use Rattle.replay_log.specs.Base.{editions_of, locations_of, shown_of, stripes_of, view_of};
 ghost use Rattle.replay_log.specs.Collections.{kind_of_held};
 ghost use Rattle.replay_log.specs.Contents.{end_of, size_by};
-ghost use Rattle.world_table.specs.Openings.{AreOpened, blocks_of};
+ghost use Rattle.world_table.specs.Openings.{AreOpened, AreStripeCounts, blocks_of};
 
-use conflict::is_stripe_count;
+use actor_words::{COLLECTION_LIMIT, TABLE_LIMIT};
+use conflict::is_stripe_count_of;
 use replay_log::Base;
 use seq_model::{Held, Memory, Value};
 use std::alloc::Global;
-
-/// A world has at most this many locations: its words, and those of its collections.
-pub const LOCATION_LIMIT: usize = 1_048_576;
-
-/// A world has at most this many collections.
-pub const COLLECTION_LIMIT: usize = 256;
 
 // How many locations a collection has in so many stripes.
 fn size<V>(held: &Held<V>, stripes: u32) -> usize
@@ -35,19 +30,20 @@ fn size<V>(held: &Held<V>, stripes: u32) -> usize
 pub fn locations<V>(words: usize, stripes: &[u32], held: &[Held<V>]) -> Option<usize>
     requires { length stripes.now ≡ length held.now }
     ensures count { IfSome result (λ count. count ≡ end_of words (blocks_of stripes.now held.now)) }
-    ensures fits { IfSome result (λ count. All IsStripeCount stripes.now × (count ≤ LOCATION_LIMIT)) }
-    ensures none { IfNone result (All IsStripeCount stripes.now → LOCATION_LIMIT < end_of words (blocks_of stripes.now held.now)) }
+    ensures fits { IfSome result (λ count. AreStripeCounts stripes.now held.now × (count ≤ TABLE_LIMIT)) }
+    ensures none { IfNone result (AreStripeCounts stripes.now held.now → TABLE_LIMIT < end_of words (blocks_of stripes.now held.now)) }
 {
-    if words > LOCATION_LIMIT {
+    if words > TABLE_LIMIT as usize {
         return None;
     }
     let mut end = words;
     for (i, count) in stripes.iter().enumerate() {
-        if !is_stripe_count(*count) {
+        let collection = &held[i];
+        if !is_stripe_count_of(collection, *count) {
             return None;
         }
-        end += size(&held[i], *count);
-        if end > LOCATION_LIMIT {
+        end += size(collection, *count);
+        if end > TABLE_LIMIT as usize {
             return None;
         }
     }
@@ -55,7 +51,7 @@ pub fn locations<V>(words: usize, stripes: &[u32], held: &[Held<V>]) -> Option<u
 }
 
 fn open_base<V: Value>(alloc: Global, stripes: u32, held: Held<V>) -> Result<Base<V>, Memory>
-    requires count { IsStripeCount stripes }
+    requires count { IsStripeCountOf held stripes }
     requires within { IsWithinLimits held }
     ensures shown { IfOk result (λ base. view_of held ≡ Some (shown_of base)) }
     ensures stripes { IfOk result (λ base. stripes_of base ≡ stripes) }
@@ -75,7 +71,7 @@ pub fn open_bases<V: Value>(
 ) -> Result<Vec<Base<V>>, Memory>
     requires same { length stripes.now ≡ length held.items }
     requires few { length stripes.now ≤ COLLECTION_LIMIT }
-    requires counts { All IsStripeCount stripes.now }
+    requires counts { AreStripeCounts stripes.now held.items }
     requires within { All IsWithinLimits held.items }
     ensures { IfOk result (λ bases. AreOpened stripes.now held.items bases.items) }
 {

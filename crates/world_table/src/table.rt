@@ -3,7 +3,7 @@ ghost use Rattle.std.specs.Prelude.{◌≡◌, ◌≢◌, ℕ, Bool, true, false
 ghost use Rattle.seq_model.specs.declared.event.Event.{Event};
 ghost use Rattle.seq_model.specs.declared.event.Event.TheVariants.{Step};
 ghost use Rattle.seq_model.specs.declared.held.Held.{Held};
-ghost use Rattle.replay_log.specs.Base.{editions_of, held_of, locations_of, room_of, shown_of, stripes_of};
+ghost use Rattle.replay_log.specs.Base.{IsPreparedFor, editions_of, held_of, locations_of, shown_of, stripes_of};
 ghost use Rattle.replay_log.specs.Contents.{Block, HaveStripes, block_of};
 ghost use Rattle.replay_log.specs.Worlds.{happens, opened, run};
 ghost use Rattle.atomic_steps.specs.Bases.{IsBaseOf, log_changes, log_locations};
@@ -22,7 +22,8 @@ ghost use Rattle.replay_log.specs.WorldTraces.{state};
 ghost use Rattle.world_table.specs.States.{held_in};
 ghost use Rattle.world_table.specs.Tables.{HasTable};
 
-use crate::opening::{COLLECTION_LIMIT, locations, open_bases};
+use crate::opening::{locations, open_bases};
+use actor_words::COLLECTION_LIMIT;
 use replay_log::{Base, Log};
 use seq_model::{CLOCK_LIMIT, Held, Memory, Refusal, Shape, State, Value};
 use std::alloc::Global;
@@ -172,7 +173,7 @@ impl<V: Value> Table<V> {
     /// in the base for the log, so it takes no memory and is never refused.
     pub fn go_home(&mut self, k: usize, log: Log<V>)
         requires inside { (k < length self.old.gates.items) × (k < length self.old.bases.items) }
-        requires prepared { (base : Base V) → slice_get self.old.bases.items k ≡ Some base → length log.changes ≤ room_of base }
+        requires prepared { (base : Base V) → slice_get self.old.bases.items k ≡ Some base → IsPreparedFor log.changes base }
         requires within { (base : Base V) → slice_get self.old.bases.items k ≡ Some base →
             All (λ location. location < locations_of (stripes_of base) (shown_of base)) log.locations }
         requires below { (base : Base V) → slice_get self.old.bases.items k ≡ Some base →

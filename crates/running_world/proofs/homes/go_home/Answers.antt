@@ -1,5 +1,6 @@
-use Rattle.std.proofs.Common.{◌≡◌, ◌≤◌, ℕ, ap, arith, length, subst, sym, ◌∙◌}
-use Rattle.replay_log.specs.Base.{room_of}
+use Rattle.std.proofs.Common.{◌≡◌, List, ap, arith, subst, sym, ◌∙◌}
+use Rattle.conflict.specs.declared.change.Change.{Change}
+use Rattle.replay_log.specs.Base.{IsPreparedFor}
 use Rattle.actor_copies.specs.Kept.{copy_of}
 use Rattle.std.specs.declared.alloc.Global.{Global}
 use Rattle.std.specs.declared.vec.Vec.{Vec}
@@ -14,8 +15,8 @@ use Rattle.running_world.proofs.homes.go_home.Goals as goal
 
 pub go_home-requires-clause-prepared : goal.go_home-requires-clause-prepared
 go_home-requires-clause-prepared g c = λ base at. (
-    let room = c.requires.may.room base at in
-    subst (λ (n : ℕ). n ≤ room_of base) (sym (ap length c.log_of-log.ensures.changes)) room)
+    subst (λ (changes : List (Change g.row.V.Denot)). IsPreparedFor changes base) (sym c.log_of-log.ensures.changes)
+    (c.requires.may.room base at))
 
 pub go_home-requires-clause-within : goal.go_home-requires-clause-within
 go_home-requires-clause-within g c =

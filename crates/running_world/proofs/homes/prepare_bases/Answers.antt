@@ -1,6 +1,9 @@
-use Rattle.std.proofs.Common.{◌∙◌, arith}
-use Rattle.running_world.proofs.PrepareLemmas.{are_trans, at_any, rooms_grow}
+use Rattle.std.proofs.Common.{◌∙◌, arith, refl}
+use Rattle.running_world.proofs.PrepareLemmas.{are_same, are_trans, at_any, rooms_grow}
 use Rattle.running_world.proofs.homes.prepare_bases.Goals as goal
+
+pub loop-i-init : goal.loop-i-init
+loop-i-init g c = (are_same c.args.table.now.bases.items, refl, refl, λ j d low. (let z : ⊥ = omega (arith, low) in absurd z))
 
 pub returns-in_err-prepare_base-clause-alike : goal.returns-in_err-prepare_base-clause-alike
 returns-in_err-prepare_base-clause-alike g c =

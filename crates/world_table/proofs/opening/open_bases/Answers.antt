@@ -1,9 +1,8 @@
 use Rattle.std.proofs.Common.{◌∷◌, [], ◌++◌, length, get_or, sym, ap, subst, ◌∙◌, append_assoc, arith, ◌<◌, ◌≤◌, ℕ}
 use Rattle.std.specs.Vec.Iter.{into_iter_items}
-use Rattle.std.proofs.lemmas.List.Elements.{All-get_or}
-use Rattle.conflict.specs.Refusals.{IsStripeCount}
-use Rattle.world_table.specs.Openings.{AreOpened, IsOpened}
-use Rattle.world_table.proofs.OpeningLemmas.{next_items, opened_more, next_place}
+use Rattle.conflict.specs.Refusals.{IsStripeCountOf}
+use Rattle.world_table.specs.Openings.{AreOpened, AreStripeCounts, IsOpened}
+use Rattle.world_table.proofs.OpeningLemmas.{count_of_next, next_items, opened_long, opened_more, next_place}
 use Rattle.world_table.proofs.opening.open_bases.Goals as goal
 
 pub bounds-stripes-len : goal.bounds-stripes-len
@@ -25,10 +24,14 @@ offset_bounds-stripes-len g c =
 pub open_base-requires-clause-count : goal.open_base-requires-clause-count
 open_base-requires-clause-count g c =
     let at = c.loop-collection in
-    let low = next_place c.args.stripes.now c.args.held.items at.yielded (into_iter_items c.next.new.self) c.in-Some.collection at.bases.items
-    c.requires.same at.invariant.1 (next_items at.yielded _ _ c.args.held.items c.in-Some.collection c.in-Some.ensures.steps.0 at.invariant.0) in
-    All-get_or IsStripeCount c.args.stripes.now c.len.result 0 (let z : c.len.result < length c.args.stripes.now = omega (arith, low, c.len.ensures) in z)
-    c.requires.counts
+    let ns = c.args.stripes.now in
+    let rest = into_iter_items c.next.new.self in
+    let was = next_items at.yielded _ rest c.args.held.items c.in-Some.collection c.in-Some.ensures.steps.0 at.invariant.0 in
+    let low = next_place ns c.args.held.items at.yielded rest c.in-Some.collection at.bases.items c.requires.same at.invariant.1 was in
+    let long = opened_long ns at.yielded at.bases.items at.invariant.1 in
+    let here : length at.yielded < length ns = omega (arith, low, long) in
+    subst (λ (i : ℕ). IsStripeCountOf c.in-Some.collection (get_or ns i 0)) (sym long ∙ sym at.bases.ok.0 ∙ sym c.len.ensures)
+    (count_of_next ns at.yielded rest c.in-Some.collection (subst (AreStripeCounts ns) (sym was) c.requires.counts) here)
 
 pub loop-collection-preserved : goal.loop-collection-preserved
 loop-collection-preserved g c =

@@ -16,6 +16,7 @@ invariant_of-self c =
       subst (λ k. 0 < k) (sym (same_length _ _ is)) c.self.invariant.0,
       same_dealt _ _ is c.self.invariant.1,
       subst HasNoZero (sym (same_joined _ _ is)) c.self.invariant.2,
+      c.self.invariant.3 ∙ sym (length-set ss i c.give.new.self),
     )
 
 pub invariant_of-self-2 : goal.invariant_of-self-2
@@ -31,6 +32,7 @@ invariant_of-self-2 c =
           (sym (joined_after ss c.self.invariant.0 c.self.invariant.1 c.args.element c.args.count i at c.index_mut.result.now
           c.give.new.self given))
           (no_zero_with (joined ss) c.args.element c.args.count c.self.invariant.2),
+      c.self.invariant.3 ∙ sym (length-set ss i c.give.new.self),
     )
 
 pub returns-clause-elements : goal.returns-clause-elements

@@ -9,6 +9,7 @@ invariant_of-result c =
       subst (λ k. 0 < k) (sym (same_length _ _ is)) c.self.invariant.0,
       same_dealt _ _ is c.self.invariant.1,
       subst HasNoZero (sym (same_joined _ _ is)) c.self.invariant.2,
+      c.in_ok-asked.ensures ∙ c.len.ensures ∙ c.in_ok-stripes.stripes.ok.0,
     )
 
 pub returns-clause-elements : goal.returns-clause-elements

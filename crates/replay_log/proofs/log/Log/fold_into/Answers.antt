@@ -1,6 +1,7 @@
-use Rattle.std.proofs.Common.{◌≡◌, ◌<◌, ◌^◌, ℕ, List, Contains, ◌↔◌, ap, subst}
+use Rattle.std.proofs.Common.{◌≡◌, ◌<◌, ◌^◌, ◌∙◌, ◌++◌, ℕ, List, Contains, ◌↔◌, ap, subst, sym}
 use Rattle.std.specs.List.{slice_index}
-use Rattle.replay_log.specs.Base.{editions_of, locations_of, shown_of, stripes_of}
+use Rattle.conflict.specs.declared.change.Change.{Change}
+use Rattle.replay_log.specs.Base.{IsPreparedFor, editions_of, locations_of, shown_of, stripes_of}
 use Rattle.replay_log.specs.Log.{LogView}
 use Rattle.replay_log.proofs.LogLemmas.{all_members}
 use Rattle.replay_log.proofs.log.Log.fold_into.Goals as goal
@@ -29,3 +30,8 @@ returns-clause-editions g c =
           → Contains c.from_locations-written.result l ↔ Contains ls l) same c.from_locations-written.ensures.members,
       c.replay.ensures.editions,
     )
+
+pub returns-clause-room : goal.returns-clause-room
+returns-clause-room g c = λ more h.
+    c.replay.ensures.room more (subst (λ (changes : List (Change g.row.V.Denot)). IsPreparedFor (changes ++ more) c.args.base.now)
+    (sym (c.from_vec.ensures ∙ ap (λ (v : LogView _). v.changes) c.self.view_is)) h)

@@ -1,5 +1,5 @@
-use Rattle.std.proofs.Common.{rules, ◌≤◌, OnOk, Option, length, sym, subst}
-use Rattle.replay_log.specs.Base.{room_of}
+use Rattle.std.proofs.Common.{rules, OnOk, Option, sym, subst}
+use Rattle.replay_log.specs.Base.{IsPreparedFor}
 use Rattle.actor_copies.specs.declared.copies.Copied.{Copied}
 use Rattle.actor_copies.specs.Footprints.{IsPlaceOf}
 use Rattle.actor_copies.specs.Logs.{changes_had}
@@ -11,5 +11,5 @@ returns-in-Some-clause-ok g c =
     let cs = c.args.self.now.copies.items in
     let at : IsPlaceOf cs c.args.collection c.place_of.result = search rules in
     let z = found_at cs c.in-Some.place c.args.collection c.index.result.now _ c.in-Some.is at c.index.ensures in
-    subst (λ (o : Option (Copied g.row.V.Denot)). OnOk c.prepare.result (length (changes_had o) ≤ room_of c.prepare.new.base)) (sym z.2)
+    subst (λ (o : Option (Copied g.row.V.Denot)). OnOk c.prepare.result (IsPreparedFor (changes_had o) c.prepare.new.base)) (sym z.2)
     c.prepare.ensures.ok

@@ -1,9 +1,7 @@
 use Rattle.std.proofs.Common.{◌≤◌, ◌∙◌, ap, arith, length, refl, subst, sym}
-use Rattle.std.specs.Prelude.{All}
 use Rattle.std.proofs.lemmas.List.{length-replicate}
-use Rattle.conflict.specs.Refusals.{IsStripeCount}
 use Rattle.replay_log.proofs.ContentLemmas.{end_above}
-use Rattle.world_table.specs.Openings.{blocks_of}
+use Rattle.world_table.specs.Openings.{AreStripeCounts, blocks_of}
 use Rattle.world_table.proofs.OpeningLemmas.{counted_on, filled, have_stripes, opened_on, opens, shaped, suits}
 use Rattle.world_table.proofs.table.Table.open.Goals as goal
 
@@ -48,4 +46,5 @@ returns-clause-suits g c = λ _. suits c.args.shape.now.stripes c.args.state.hel
 
 pub returns-clause-stripes : goal.returns-clause-stripes
 returns-clause-stripes g c = λ _. have_stripes c.args.shape.now.stripes c.args.state.held
-    (subst (All IsStripeCount) c.as_slice-stripes.ensures c.in-Some.ensures.fits.0)
+    (subst (λ ns. AreStripeCounts ns c.args.state.held) c.as_slice-stripes.ensures
+    (subst (λ hs. AreStripeCounts c.as_slice-stripes.result.now hs) c.held.ensures.held c.in-Some.ensures.fits.0))
