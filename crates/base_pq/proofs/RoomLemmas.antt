@@ -3,13 +3,11 @@
 -- The changes are gone through twice. First what was asked of each stripe that they fall on is set to 0: so far, either as many of the
 -- changes that are left fall on a stripe as of all, or nothing is asked of it. Then each asks one place more of its stripe, and finds it
 -- there: what was asked of a stripe, with what is left to ask, is what all changes ask, and there is room for what was asked.
-use Rattle.std.proofs.Common.{◌≡◌, ◌≢◌, ◌⊎◌, ℕ, zero, suc, ◌+◌, ◌<◌, ◌≤◌, ◌%◌, true, false, cond, nat_eq, List, [], ◌∷◌, ◌++◌, length, get_or, set, drop}
+use Rattle.std.proofs.Common.{◌≡◌, ◌≢◌, ◌⊎◌, ℕ, zero, suc, ◌+◌, ◌<◌, ◌≤◌, true, false, cond, nat_eq, List, [], ◌∷◌, length, get_or, set, drop}
 use Rattle.std.proofs.Common.{OnOk, Result, Ok, Err, Option, Some, None, inl, inr, refl, sym, ap, subst, ◌∙◌, arith}
-use Rattle.std.specs.Prelude.{map}
-use Rattle.std.specs.FinMap.{empty}
-use Rattle.std.proofs.Math.ListN.{get_or-map, drop_of_length-le}
+use Rattle.std.proofs.Math.ListN.{drop_of_length-le}
 use Rattle.std.proofs.lemmas.Bool.Decides.{nat_tests}
-use Rattle.std.proofs.lemmas.List.{drop_more, get_or-set_same, get_or-set_other, length-set, map-set}
+use Rattle.std.proofs.lemmas.List.{drop_more, get_or-set_same, get_or-set_other, map-set}
 use Rattle.conflict.specs.declared.change.Change.{Change}
 use Rattle.conflict.specs.declared.change.Change.TheVariants as change
 use Rattle.conflict.specs.Places.{mod_below, none_some, some_same}
@@ -22,9 +20,6 @@ on_ok (Ok x) f h = f h
 on_ok (Err e) f h = h
 
 -- ---- the room of a stripe
-bare : StripeView
-bare = record { elements = empty; room = 0 }
-
 pub room_is : (ss : List StripeView) (i : ℕ) (d : StripeView) → i < length ss → get_or (rooms ss) i 0 ≡ (get_or ss i d).room
 room_is [] i d lt = absurd (omega (arith, lt))
 room_is (s ∷ ss) zero d lt = refl
@@ -105,9 +100,6 @@ module _ {V : Type 0} where
 
   pub room_first : (n : ℕ) (room : List ℕ) (c : Change V) (cs : List (Change V)) → HasRoom n room (c ∷ cs) → HasRoom n room (c ∷ [])
   room_first n room c cs h i lt = let all = h i lt in omega (arith, all)
-
-  pub room_grows : (n : ℕ) (before now : List ℕ) (cs : List (Change V)) → IsNoLess before now → HasRoom n before cs → HasRoom n now cs
-  room_grows n before now cs more h i lt = let a = h i lt in let b = more i in omega (arith, a, b)
 
   -- a change that took a place in its stripe at most leaves the places of the others
   pub room_left : (n : ℕ) (before now : List ℕ) (c : Change V)

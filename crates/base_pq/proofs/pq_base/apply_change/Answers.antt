@@ -1,4 +1,4 @@
-use Rattle.std.proofs.Common.{◌%◌, Some, ap}
+use Rattle.std.proofs.Common.{◌%◌, ap}
 use Rattle.conflict.specs.declared.change.Change.{Change}
 use Rattle.conflict.specs.Places.{mod_below}
 use Rattle.base_pq.specs.Room.{stripe_of}

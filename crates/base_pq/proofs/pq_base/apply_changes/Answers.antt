@@ -1,4 +1,4 @@
-use Rattle.std.proofs.Common.{◌≡◌, ◌<◌, ◌∙◌, List, [], ◌∷◌, ◌++◌, append-nil, ap, sym, subst}
+use Rattle.std.proofs.Common.{◌∙◌, List, ◌∷◌, ◌++◌, ap, sym, subst}
 use Rattle.std.specs.Vec.Iter.{into_iter_items}
 use Rattle.std.proofs.lemmas.List.{nil_from_length}
 use Rattle.conflict.specs.Rules.{applied}

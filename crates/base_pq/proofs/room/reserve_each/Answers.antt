@@ -82,5 +82,5 @@ loop-change-preserved g c =
     ]
 
 pub returns-clause-ok : goal.returns-clause-ok
-returns-clause-ok g c = asked_all (length c.args.stripes.now.items) c.loop-change.change-index c.args.changes.now _ _ c.loop-change-test.false
-    c.loop-change.invariant.3
+returns-clause-ok g c = asked_all (length c.args.stripes.now.items) c.loop-change.change-index c.args.changes.now _ _
+    c.loop-change-test.false c.loop-change.invariant.3

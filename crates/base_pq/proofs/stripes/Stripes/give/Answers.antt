@@ -1,4 +1,4 @@
-use Rattle.std.proofs.Common.{◌≡◌, ◌<◌, ◌%◌, Result, Ok, Err, OnErr, ap, sym, subst, set, map, length, ◌∙◌}
+use Rattle.std.proofs.Common.{◌≡◌, ◌<◌, ◌%◌, Result, Ok, Err, OnErr, ap, sym, subst, length, ◌∙◌}
 use Rattle.std.proofs.Math.Seq.{map-set_same}
 use Rattle.std.proofs.lemmas.List.{length-set}
 use Rattle.seq_model.specs.Counts.{with_copies, HasNoZero}
