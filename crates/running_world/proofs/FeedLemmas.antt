@@ -31,7 +31,7 @@ use Rattle.running_world.specs.declared.parts.Parts.{Parts}
 use Rattle.running_world.specs.Feeds.{Feeds, fed, fed_all}
 use Rattle.running_world.specs.Parts.{Happens, HasWorld, IsWorld}
 use Rattle.running_world.specs.Reached.{IsReached}
-use Rattle.running_world.proofs.TurnLemmas.{nothing_is}
+use Rattle.actor_turns.proofs.StepLemmas.{nothing_is}
 use Rattle.actor_words.proofs.BlocksLemmas.{end_behind}
 use Rattle.running_world.proofs.WorldLemmas.{shape_laid}
 

@@ -31,8 +31,9 @@ use Rattle.world_table.specs.declared.table.Table.{Table}
 use Rattle.running_world.specs.Reached.{IsReached}
 use Rattle.running_world.specs.Turns.{KeepsRoom}
 use Rattle.running_world.proofs.RoomLemmas.{gate_left, linked_after, room_none, room_same}
-use Rattle.running_world.proofs.SeatLemmas.{loading_as, next_as}
-use Rattle.running_world.proofs.TurnLemmas.{reached_linked}
+use Rattle.actor_turns.proofs.SeatLemmas.{loading_as, next_as}
+use Rattle.actor_turns.proofs.StepLemmas.{reached_linked}
+use Rattle.actor_turns.proofs.CopyLemmas.{copy_is}
 
 no_word : (c : Option Cell) (k : ℕ) → spot_of c ≡ Gate k → ⊥
 no_word None k e = cc
@@ -72,29 +73,6 @@ module _ {V : Type 0} where
       ∙ ((reached_linked o w reached).seats a).gates k ∙ loading_none (w.seats a).stage k at))
 
   -- ---- a copy
-  pub copy_is : (s : Stage V) (k : ℕ) → next_of s ≡ next.Copy k → (asked : Asked V) × (s ≡ Copying asked) × (asked.collection ≡ k)
-  copy_is (Copying asked) k e = (asked, refl, cc)
-  copy_is (Loading o []) k e = let z : ⊥ = cc in absurd z
-  copy_is (Loading o (d ∷ es)) k e = let z : ⊥ = cc in absurd z
-  copy_is (Gating got [] n) k e = let z : ⊥ = cc in absurd z
-  copy_is (Gating got (j ∷ ks) n) k e = let z : ⊥ = cc in absurd z
-  copy_is (Homing []) k e = let z : ⊥ = cc in absurd z
-  copy_is (Homing (j ∷ ks)) k e = let z : ⊥ = cc in absurd z
-  copy_is (Returning []) k e = let z : ⊥ = cc in absurd z
-  copy_is (Returning (j ∷ ks)) k e = let z : ⊥ = cc in absurd z
-  copy_is Idle k e = let z : ⊥ = cc in absurd z
-  copy_is Open k e = let z : ⊥ = cc in absurd z
-  copy_is Beginning k e = let z : ⊥ = cc in absurd z
-  copy_is Locking k e = let z : ⊥ = cc in absurd z
-  copy_is Releasing k e = let z : ⊥ = cc in absurd z
-  copy_is Closing k e = let z : ⊥ = cc in absurd z
-  copy_is Cancelling k e = let z : ⊥ = cc in absurd z
-  copy_is Leaving k e = let z : ⊥ = cc in absurd z
-  copy_is (Reading l) k e = let z : ⊥ = cc in absurd z
-  copy_is (Trying asked n) k e = let z : ⊥ = cc in absurd z
-  copy_is (Ready ks) k e = let z : ⊥ = cc in absurd z
-  copy_is (Storing ks) k e = let z : ⊥ = cc in absurd z
-
   copy_frees : (o : Contents V) (w : World V) (a k : ℕ) → IsReached o w → Puts w a k → (happens w (Step a)).0.boosted.gates k ≡ None
   copy_frees o w a k h =
       subst (λ (z : World V). Puts z a k → (happens z (Step a)).0.boosted.gates k ≡ None) h.world

@@ -1,9 +1,5 @@
--- A base that goes home makes of the table and of its actor what it makes of the world.
---
--- What the actor has of the collection is its own in the world, so its log is that of its calls there: the table folds that into the base
--- as the world does. Each location in it lies in the base and has an edition not above the clock, as events never change how the locations
--- lie. The actor hands its log out, and is the same in every world from its first value store on; the action changes no word, so the word
--- actor stands, and the rest is what the actor makes of its base gone home.
+-- A base that goes home makes of the table and of its actor what it makes of the world: the table folds the log of the actor's calls into the
+-- base as the world does, and the actor goes on as in each world that events have reached.
 use Rattle.std.proofs.Common.{◌≡◌, ℕ, zero, suc, ◌<◌, ◌≤◌, ◌^◌, true, false, List, [], ◌∷◌, Option, Some, None, length, slice_get, refl}
 use Rattle.std.proofs.Common.{sym, ap, ◌∙◌, subst, arith}
 use Rattle.std.specs.List.{All}
@@ -49,69 +45,19 @@ use Rattle.world_table.specs.Tables.{HasTable}
 use Rattle.world_table.specs.declared.table.Table.{Table}
 use Rattle.running_world.specs.Homes.{IsHomeTurn, MayGoHome}
 use Rattle.running_world.specs.Reached.{IsReached}
-use Rattle.running_world.proofs.SeatLemmas.{next_as, stage_by}
-use Rattle.running_world.proofs.TurnLemmas.{GoesOn, due_as, reached_goes_on, runs_moved, same_action}
+use Rattle.actor_turns.proofs.SeatLemmas.{next_as, stage_by}
+use Rattle.actor_turns.proofs.StepLemmas.{GoesOn, due_as, reached_goes_on, runs_moved, same_action}
+use Rattle.actor_turns.proofs.HomeLemmas as there
+use Rattle.actor_turns.proofs.HomeLemmas.{FewEditions, Logs, Within, home_due, home_runs, own_log}
+use Rattle.actor_turns.proofs.CopyLemmas.{block_here}
 
 -- ---- what stands at a place
-pub block_here : (bs : List Block) (k : ℕ) → k < length bs → (b : Block) × (block_of bs k ≡ Some b)
-block_here [] k low = let z : ⊥ = omega (arith, low) in absurd z
-block_here (b ∷ bs) zero low = (b, refl)
-block_here (b ∷ bs) (suc k) low = block_here bs k (omega (arith, low))
-
 item_here : {A : Type 0} (xs : List A) (k : ℕ) → k < length xs → (x : A) × (slice_get xs k ≡ Some x)
 item_here [] k low = let z : ⊥ = omega (arith, low) in absurd z
 item_here (x ∷ xs) zero low = (x, refl)
 item_here (x ∷ xs) (suc k) low = item_here xs k (omega (arith, low))
 
--- ---- the laws on what a commit hands home
-abbrev pub Logs : Type 0 → Type 0
-Logs V = (w : World V) (a k : ℕ) (b : Block) (f : ℕ) (c : Copied V) → IsOwnCopy w a k b f c →
-    let outcomes = (w.boosted.shadows a).outcomes in
-    (changes_in c ≡ log_changes k b outcomes) × (locations_in c ≡ log_locations k b outcomes)
-
-abbrev pub Within : Type 0 → Type 0
-Within V = (k : ℕ) (b : Block) (outcomes : List (Answered V)) (base : Base V) → 0 < b.stripes → IsBaseOf b base
-    → All (λ i. i < locations_of (stripes_of base) (shown_of base)) (log_locations k b outcomes)
-
-abbrev pub FewEditions : Type 0 → Type 0
-FewEditions V =
-    (blocks : List Block) (clock : ℕ) (values : List ℕ) (held : List (Held V)) (events : List (Event V)) (k : ℕ) (b : Block)
-    (outcomes : List (Answered V)) (base : Base V) → HaveStripes blocks → Suit blocks held → block_of blocks k ≡ Some b →
-    let w = run (opened blocks clock values held) events in
-    ShowsBase (length values) blocks w k base
-    → All (λ i. slice_index (editions_of base) i ≤ w.boosted.words.clock) (log_locations k b outcomes)
-
 module _ {V : Type 0} where
-  -- ---- events never change how the locations lie
-  shape_runs : (es : List (Event V)) (w : World V) → ((run w es).words ≡ w.words) × ((run w es).blocks ≡ w.blocks)
-  shape_runs [] w = (refl, refl)
-  shape_runs (e ∷ es) w =
-      let other = others w e (suc (whose e)) (λ q. omega (arith, q)) in
-      let more = shape_runs es (happens w e).0 in
-      (more.0 ∙ sym other.words, more.1 ∙ sym other.blocks)
-
-  pub reached_words : (o : Contents V) (w : World V) (h : IsReached o w) → w.words ≡ length o.words
-  reached_words o w h =
-      ap (λ (z : World V). z.words) (sym h.world) ∙ (shape_runs h.events (opened h.blocks h.clock o.words o.held)).0
-
-  pub reached_blocks : (o : Contents V) (w : World V) (h : IsReached o w) → w.blocks ≡ h.blocks
-  reached_blocks o w h =
-      ap (λ (z : World V). z.blocks) (sym h.world) ∙ (shape_runs h.events (opened h.blocks h.clock o.words o.held)).1
-
-  -- ---- the log of what is an actor's own is that of its calls
-  abbrev pub IsLogOf : World V → (a k : ℕ) → Block → Option (Copied V) → Type 0
-  IsLogOf w a k b c =
-      (changes_had c ≡ log_changes k b (w.boosted.shadows a).outcomes)
-      × (locations_had c ≡ log_locations k b (w.boosted.shadows a).outcomes)
-
-  pub own_log : Logs V → (w : World V) (a k : ℕ) (c : Option (Copied V)) → IsOwn w a k c → (b : Block) → block_of w.blocks k ≡ Some b
-      → IsLogOf w a k b c
-  own_log logs w a k None own b is = let x = own b is in (sym x.1, sym x.2)
-  own_log logs w a k (Some c) own b is =
-      let e : Some own.0 ≡ Some b = sym own.1.block ∙ is in
-      let same : own.0 ≡ b = cc in
-      subst (λ (d : Block). IsLogOf w a k d (Some c)) same (logs w a k own.0 _ c own.1)
-
   -- ---- the action on the table, as its contract has it
   abbrev pub FoldsHome : Table V → Table V → ℕ → List (Change V) → List ℕ → Type 0
   FoldsHome t u k changes locations =
@@ -133,66 +79,6 @@ module _ {V : Type 0} where
       → locations ≡ log_locations k b (z.boosted.shadows a).outcomes → HasTable u (happens z (Step a)).0) h.world
       (folds h.blocks h.clock o.words o.held h.events a b before h.stripes)
 
-  -- ---- the stage of a commit whose base goes home
-  pub home_is : (s : Stage V) (k : ℕ) → next_of s ≡ next.GoHome k → (ks : List ℕ) × (s ≡ Homing (k ∷ ks))
-  home_is (Homing []) k e = let z : ⊥ = cc in absurd z
-  home_is (Homing (j ∷ ks)) k e = let same : j ≡ k = cc in (ks, ap (λ (i : ℕ). Homing (i ∷ ks)) same)
-  home_is Idle k e = let z : ⊥ = cc in absurd z
-  home_is Open k e = let z : ⊥ = cc in absurd z
-  home_is (Trying asked n) k e = let z : ⊥ = cc in absurd z
-  home_is (Copying asked) k e = let z : ⊥ = cc in absurd z
-  home_is (Loading o []) k e = let z : ⊥ = cc in absurd z
-  home_is (Loading o (d ∷ es)) k e = let z : ⊥ = cc in absurd z
-  home_is (Gating got [] n) k e = let z : ⊥ = cc in absurd z
-  home_is (Gating got (j ∷ ks) n) k e = let z : ⊥ = cc in absurd z
-  home_is (Ready ks) k e = let z : ⊥ = cc in absurd z
-  home_is (Returning []) k e = let z : ⊥ = cc in absurd z
-  home_is (Returning (j ∷ ks)) k e = let z : ⊥ = cc in absurd z
-  home_is Beginning k e = let z : ⊥ = cc in absurd z
-  home_is (Reading l) k e = let z : ⊥ = cc in absurd z
-  home_is Locking k e = let z : ⊥ = cc in absurd z
-  home_is (Storing ks) k e = let z : ⊥ = cc in absurd z
-  home_is Releasing k e = let z : ⊥ = cc in absurd z
-  home_is Closing k e = let z : ⊥ = cc in absurd z
-  home_is Cancelling k e = let z : ⊥ = cc in absurd z
-  home_is Leaving k e = let z : ⊥ = cc in absurd z
-
-  homing_at : (t : own.Stage V) (ks : List ℕ) → stage_of t ≡ Homing ks
-      → (homes : VecDeque ℕ Global) × (t ≡ stage.Homing homes) × (homes.items ≡ ks)
-  homing_at (stage.Homing homes) ks e = (homes, refl, cc)
-  homing_at t ks e = let z : ⊥ = cc in absurd z
-
-  -- so the actor stands there, and this collection is the first that is left to it
-  pub homing_is : (t : own.Stage V) (k : ℕ) → next_of (stage_of t) ≡ next.GoHome k
-      → (homes : VecDeque ℕ Global) × (t ≡ stage.Homing homes) × (ks : List ℕ) × (homes.items ≡ k ∷ ks)
-  homing_is t k e =
-      let home = home_is (stage_of t) k e in
-      let at = homing_at t (k ∷ home.0) home.1 in (at.0, at.1, home.0, at.2)
-
-  pub quiet_home : (s : Stage V) (k : ℕ) → next_of s ≡ next.GoHome k → is_loading s ≡ false
-  quiet_home s k due = ap is_loading (home_is s k due).1
-
-  pub recorded_home : (t : own.Stage V) (k : ℕ) → next_of (stage_of t) ≡ next.GoHome k → is_recorded t ≡ true
-  recorded_home t k e = ap is_recorded (homing_is t k e).1
-
-  due_home : (a k : ℕ) (o : Option (Action (Asked V))) → IsDue a (next.GoHome k) o → o ≡ Some (GoHome a k)
-  due_home a k None h = absurd h
-  due_home a k (Some e) h = ap Some h
-
-  -- the action of its next step
-  pub home_due : AreSteps V → (w : World V) (a k : ℕ) (r : TxActor V) → Runs a r w → next_of (stage_of r.stage) ≡ next.GoHome k
-      → GoesHome w a k
-  home_due steps w a k r runs due =
-      let next_is : next_of (w.seats a).stage ≡ next.GoHome k = next_as w a r runs ∙ due in
-      same_action w a (w.seats a).stage (λ q. let e : next.FirstStore ≡ next.GoHome k = sym q ∙ next_is in let c : ⊥ = cc in c)
-      ∙ due_home a k _ (due_as steps w a (w.seats a).stage (next.GoHome k) next_is)
-
-  home_words : (w : World V) (a k : ℕ) → (acted w (GoHome a k ∷ [])).boosted.words ≡ w.boosted.words
-  home_words w a k =
-      let b = w.boosted in
-      cond_both {A = Boosted (Shown V) (Answered V)} _ (homed (content w.words w.blocks) b a k) b
-      (λ (z : Boosted (Shown V) (Answered V)). z.words ≡ b.words) (λ _. refl) (λ _. refl)
-
   -- ---- the turn
   pub home_turns : AreSteps V → GoesOn V → Logs V → (k : ℕ) (t u : Table V) (r p s : TxActor V) (changes : List (Change V))
       (locations : List ℕ) (n : Told V) → next_of (stage_of r.stage) ≡ next.GoHome k → k < length t.bases.items → Stands r p
@@ -200,30 +86,15 @@ module _ {V : Type 0} where
       → FoldsHome t u k changes locations → IsGoneHome p s n → IsHomeTurn k t r u s n
   home_turns steps goes logs k t u r p s changes locations n due low stands at cl ll folds gone = record {
     turns = λ o w a reached has shape runs own. (
-        let z = acted w (GoHome a k ∷ []) in
-        let first = home_is (stage_of r.stage) k due in
-        let quiet : is_loading (stage_of r.stage) ≡ false = ap is_loading first.1 in
-        let st : (w.seats a).stage ≡ stage_of r.stage = stage_by (w.seats a) r quiet runs.0 in
-        let next_is : next_of (w.seats a).stage ≡ next.GoHome k = next_as w a r runs ∙ due in
         let home = home_due steps w a k r runs due in
-        let here : Runs a p w = stands a w runs in
-        let there : Runs a p z = runs_moved w a p (GoHome a k) (home_words w a k) here in
-        let at_home : (w.seats a).stage ≡ Homing (k ∷ first.0) = st ∙ first.1 in
-        let own_stage : stage_of p.stage ≡ Homing (k ∷ first.0) = ap stage_of at ∙ first.1 in
-        let may_go : MayGoOn a z (Homing (k ∷ first.0)) =
-        subst (λ (q : Stage V). MayGoOn a (committed_at w a q) q) at_home (reached_goes_on goes o w a reached) in
-        let after = gone a z (subst (λ (q : Stage V). MayGoOn a z q) (sym own_stage) may_go) there in
-        let e : step_at w a (w.seats a) (w.seats a).stage ≡ after_home z a (seat_at (z.seats a) p) (stage_of p.stage) =
-        steps.homes w a (w.seats a) (w.seats a).stage k next_is
-        ∙ (ap (λ (q : Stage V). after_home z a (w.seats a) q) (st ∙ sym (ap stage_of at))
-        ∙ ap (λ (x : Seat V). after_home z a x (stage_of p.stage)) here.0) in
+        let went = home_runs steps goes o w a k r p s n due stands at gone reached runs in
         let b = block_here w.blocks k (omega (arith, low, shape.bases)) in
         let log = own_log logs w a k (copy_of r.copies.items k) own b.0 b.1 in
         let base = item_here t.bases.items k low in (
           folds_in t u k changes locations folds o w reached a b.0 base.0 has home b.1 base.1 (shape.fit k b.0 base.0 b.1 base.1)
               (cl ∙ log.0) (ll ∙ log.1),
-          subst (λ (q : After V). Runs a s q.0) (sym e) after.0,
-          after.1 ∙ sym (ap (λ (q : After V). q.1) e),
+          went.0,
+          went.1,
         ));
   }
 
@@ -232,39 +103,12 @@ module _ {V : Type 0} where
       → locations ≡ locations_had (copy_of r.copies.items k) → slice_get t.bases.items k ≡ Some base
       → All (λ i. i < locations_of (stripes_of base) (shown_of base)) locations
   log_within logs within k t r locations base may ll at =
-      let w = may.world in
-      let log = own_log logs w may.actor k (copy_of r.copies.items k) may.own may.block may.there in
-      let stripes = subst HaveStripes (sym (reached_blocks may.opening w may.reached)) may.reached.stripes in
-      subst (All (λ i. i < locations_of (stripes_of base) (shown_of base))) (sym (ll ∙ log.1))
-      (within k may.block (w.boosted.shadows may.actor).outcomes base (positive_at w.blocks k may.block stripes may.there)
-      (may.shape.fit k may.block base may.there at))
-
-  few_in : FewEditions V → (o : Contents V) (w : World V) → IsReached o w → (k : ℕ) (b : Block) (os : List (Answered V)) (base : Base V)
-      → block_of w.blocks k ≡ Some b → ShowsBase w.words w.blocks w k base
-      → All (λ i. slice_index (editions_of base) i ≤ w.boosted.words.clock) (log_locations k b os)
-  few_in few o w h k b os base is shows =
-      let blocks = reached_blocks o w h in
-      let from : ShowsBase (length o.words) h.blocks w k base =
-      subst (λ (bs : List Block). ShowsBase (length o.words) bs w k base) blocks
-      (subst (λ (n : ℕ). ShowsBase n w.blocks w k base) (reached_words o w h) shows) in
-      subst (λ (z : World V). ShowsBase (length o.words) h.blocks z k base
-      → All (λ i. slice_index (editions_of base) i ≤ z.boosted.words.clock) (log_locations k b os)) h.world
-      (few h.blocks h.clock o.words o.held h.events k b os base h.stripes h.suits
-      (ap (λ (bs : List Block). block_of bs k) (sym blocks) ∙ is))
-      from
-
-  all_below : (base : Base V) (n : ℕ) (ls : List ℕ) → n < 2 ^ 63 → All (λ i. slice_index (editions_of base) i ≤ n) ls
-      → All (λ i. slice_index (editions_of base) i < 2 ^ 63) ls
-  all_below base n ls low h = λ i d there. (let few = h i d there in omega (arith, low, few))
+      there.log_within logs within may.opening may.world may.actor k may.block (copy_of r.copies.items k) locations base may.reached may.there
+      may.own (may.shape.fit k may.block base may.there at) ll
 
   pub log_below : Logs V → FewEditions V → (k : ℕ) (t : Table V) (r : TxActor V) (locations : List ℕ) (base : Base V) → MayGoHome k t r
       → locations ≡ locations_had (copy_of r.copies.items k) → slice_get t.bases.items k ≡ Some base
       → All (λ i. slice_index (editions_of base) i < 2 ^ 63) locations
   log_below logs few k t r locations base may ll at =
-      let w = may.world in
-      let log = own_log logs w may.actor k (copy_of r.copies.items k) may.own may.block may.there in
-      let clock : w.boosted.words.clock < 2 ^ 63 = subst (λ (n : ℕ). n < 2 ^ 63) (sym may.table.cells.clock) may.clock in
-      subst (All (λ i. slice_index (editions_of base) i < 2 ^ 63)) (sym (ll ∙ log.1))
-      (all_below base w.boosted.words.clock (log_locations k may.block (w.boosted.shadows may.actor).outcomes) clock
-      (few_in few may.opening w may.reached k may.block (w.boosted.shadows may.actor).outcomes base may.there
-      (may.table.bases k base at)))
+      there.log_below logs few may.opening may.world may.actor k may.block (copy_of r.copies.items k) locations base may.reached may.there
+      may.own (may.table.bases k base at) (subst (λ (n : ℕ). n < 2 ^ 63) (sym may.table.cells.clock) may.clock) ll

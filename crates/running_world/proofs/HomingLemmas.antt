@@ -37,11 +37,13 @@ use Rattle.running_world.specs.Homes.{HasRoomAt, IsHomeTurn, MayGoHome, homes_le
 use Rattle.running_world.specs.Parts.{HasWorld}
 use Rattle.running_world.specs.Reached.{IsReached}
 use Rattle.running_world.specs.Turns.{IsTurn, KeepsOwn, KeepsRoom}
-use Rattle.running_world.proofs.HomeLemmas.{block_here, home_due, home_is, homing_is, quiet_home}
-use Rattle.running_world.proofs.OwnTurnLemmas.{OthersLaw, StandLaw, StaysLaw, others_keep, reached_stays}
+use Rattle.actor_turns.proofs.CopyLemmas.{block_here}
+use Rattle.actor_turns.proofs.HomeLemmas.{home_due, home_is, homing_is, quiet_home}
+use Rattle.actor_turns.proofs.NameLemmas.{named_home}
+use Rattle.actor_turns.proofs.OwnLemmas.{OthersLaw, StandLaw, StaysLaw, others_keep, reached_stays}
 use Rattle.running_world.proofs.PartsLemmas.{EndsNone}
 use Rattle.running_world.proofs.RoomLemmas.{gate_left, left_from, linked_after, not_first, of_each, room_at}
-use Rattle.running_world.proofs.SeatLemmas.{stage_by}
+use Rattle.actor_turns.proofs.SeatLemmas.{stage_by}
 
 module _ {V : Type 0} where
   -- ---- the actor, where a base of its commit goes home next
@@ -49,12 +51,6 @@ module _ {V : Type 0} where
   is_left t k due =
       let at = homing_is t k due in
       subst (λ (p : own.Stage V). Contains (homes_left p) k) (sym at.1)
-      (subst (λ (ks : List ℕ). Contains ks k) (sym at.3) (0, omega arith, refl))
-
-  pub named_home : (t : own.Stage V) (k n : ℕ) → next_of (stage_of t) ≡ next.GoHome k → NamesAmong n t → k < n
-  named_home t k n due h =
-      let at = homing_is t k due in
-      All-contains (λ j. j < n) at.0.items k (subst (λ (p : own.Stage V). NamesAmong n p) at.1 h)
       (subst (λ (ks : List ℕ). Contains ks k) (sym at.3) (0, omega arith, refl))
 
   pub none_at_home : (s : Stage V) (k : ℕ) → next_of s ≡ next.GoHome k → EndsNone s

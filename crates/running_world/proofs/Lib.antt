@@ -6,7 +6,6 @@ pub mod PrepareLemmas
 mod RoomLemmas
 mod HomingLemmas
 mod GateLemmas
-pub mod SeatLemmas
 pub mod SerialLemmas
 pub mod TraceLemmas
 pub mod TurnLemmas

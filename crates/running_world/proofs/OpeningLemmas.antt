@@ -19,7 +19,7 @@ use Rattle.running_world.specs.declared.trace.Ended.{Ended}
 use Rattle.running_world.specs.Homes.{HaveRoom, homes_left}
 use Rattle.running_world.specs.Openings.{AreIdle, IsIdle}
 use Rattle.running_world.specs.Parts.{IsWorld, ended_of, total_owed}
-use Rattle.running_world.proofs.SeatLemmas.{idle_as}
+use Rattle.actor_turns.proofs.SeatLemmas.{idle_as}
 
 module _ {V : Type 0} where
   pub AreIdle-push : (rs : List (TxActor V)) (r : TxActor V) → IsIdle r → AreIdle rs → AreIdle (rs ++ r ∷ [])

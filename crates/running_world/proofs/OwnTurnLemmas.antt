@@ -1,6 +1,4 @@
--- What an event leaves of what its actor has of collections, by its stage, and of what the others have. The event leaves all of it in the
--- world, by the law on events, and the actor's copies stand as its next stage asks for them; a transaction that begins has nothing. A
--- request at rest is told by its contract, and anywhere else it changes nothing that a stage asks for.
+-- What an event leaves of what its actor has of collections, and of what the others have, as the turns of a world have it.
 use Rattle.std.proofs.Common.{◌≡◌, ◌≢◌, ◌⊎◌, ℕ, suc, false, true≢false, List, [], ◌∷◌, Option, Some, None, inl, inr, refl, sym, ap, ◌∙◌}
 use Rattle.std.proofs.Common.{subst, arith}
 use Rattle.word_machine.specs.Notices as told
@@ -44,204 +42,26 @@ use Rattle.tx_actor.specs.declared.actor.Told.{Told}
 use Rattle.tx_actor.specs.declared.actor.TxActor.{TxActor}
 use Rattle.running_world.specs.Reached.{IsReached}
 use Rattle.running_world.specs.Turns.{IsTurn, KeepsOwn}
-use Rattle.running_world.proofs.SeatLemmas.{asked_as, stage_by}
-use Rattle.running_world.proofs.TurnLemmas.{first_is, reached_linked}
-
--- ---- the laws
-abbrev pub StepsLaw : Type 0 → Type 0
-StepsLaw V =
-    (r u : TxActor V) (w v : World V) (a : ℕ) → r.stage ≢ stage.Beginning → KeepsCopies r u → Stays w v a → HasCopies r w a
-    → HasCopies u v a
-
-abbrev pub BegunLaw : Type 0 → Type 0
-BegunLaw V =
-    (r u : TxActor V) (v : World V) (a : ℕ) → r.stage ≡ stage.Beginning → KeepsCopies r u → HaveStripes v.blocks
-    → (u.stage ≡ stage.Open → (k : ℕ) → IsOwn v a k None × IsReadOf v a k None) → HasCopies u v a
-
-abbrev pub OthersLaw : Type 0 → Type 0
-OthersLaw V =
-    (r : TxActor V) (w v : World V) (a : ℕ) → actor_of v a ≡ actor_of w a → Stays w v a → HasCopies r w a → HasCopies r v a
-
-abbrev pub StandLaw : Type 0 → Type 0
-StandLaw V =
-    (w : World V) (e : Event V) (a : ℕ) → a ≢ whose e → let v = (happens w e).0 in
-    (v.seats a ≡ w.seats a) × (actor_of v a ≡ actor_of w a) × Stays w v a
-
-abbrev pub StaysLaw : Type 0 → Type 0
-StaysLaw V =
-    (w v : World V) (a k : ℕ) (c : Option (Copied V)) → Stays w v a
-    → (IsOwn w a k c → IsOwn v a k c) × (IsReadOf w a k c → IsReadOf v a k c)
-
-abbrev pub JoinsLaw : Type 0 → Type 0
-JoinsLaw V =
-    (w v : World V) (a k : ℕ) (o : Answered V) (c : Option (Copied V)) → Joins w v a o
-    → (o.asked.collection ≢ k → IsOwn w a k c → IsOwn v a k c) × (IsReadOf w a k c → IsReadOf v a k c)
-
-abbrev pub AskedLaw : Type 0 → Type 0
-AskedLaw V =
-    (r u : TxActor V) (w v : World V) (a : ℕ) → ReadsStill r.copies.items u.copies.items
-    → ((k : ℕ) (c : Option (Copied V)) → IsReadOf w a k c → IsReadOf v a k c) → OwnsAll r w a → OwnsCopies u v a → OwnsAll u v a
-
-abbrev pub AllLaw : Type 0 → Type 0
-AllLaw V = (b : BlocksView) (r : TxActor V) (w : World V) (a : ℕ) → IsLaid b w → IsRunning b r → OwnsAll r w a → HasCopies r w a
-
-abbrev pub CallsReached : Type 0 → Type 0
-CallsReached V =
-    (blocks : List Block) (clock : ℕ) (values : List ℕ) (held : List (Held V)) (events : List (Event V)) (a : ℕ) → HaveStripes blocks
-    → let w = run (opened blocks clock values held) events in (w.seats a).stage ≡ Open → MayCall w a
-
-abbrev pub CallsLaw : Type 0 → Type 0
-CallsLaw V = (w : World V) (a : ℕ) (o : Contents V) → IsReached o w → (w.seats a).stage ≡ Open → MayCall w a
-
-abbrev pub BlocksLaw : Type 0 → Type 0
-BlocksLaw V = (v : BlocksView) (r : TxActor V) (w : World V) (a : ℕ) → IsLaid v w → OwnsCopies r w a → AreOfBlocks v r.copies.items
-
--- a word actor that rests in the machine
-pub rests_at : (x : running.Actor) (p : Place) → words.place_of x.reads.entries x.writes.entries p ≡ AtRest → p ≡ place.Open
-rests_at x place.Open e = refl
-rests_at x p e = let z : ⊥ = cc in absurd z
-
-not_open : {V : Type 0} → (let s : Stage V = no_one.stage in s) ≡ Open → ⊥
-not_open e = let z : ⊥ = cc in z
-
-not_both : {V : Type 0} → (let s : Stage V = Beginning in s) ≡ Open → ⊥
-not_both e = let z : ⊥ = cc in z
+use Rattle.actor_turns.proofs.SeatLemmas.{asked_as, stage_by}
+use Rattle.actor_turns.proofs.StepLemmas.{first_is, reached_linked}
+use Rattle.actor_turns.proofs.OwnLemmas.{AllLaw, Apart, AskedLaw, BegunLaw, CallsLaw, JoinsLaw, OthersLaw, StandLaw, StaysLaw, StepsLaw, ask_keeps}
+use Rattle.actor_turns.proofs.OwnLemmas.{ask_runs, others_keep, starve_keeps, step_keeps}
 
 module _ {V : Type 0} where
-  pub reached_stays : EventsStay V → (o : Contents V) (w : World V) → IsReached o w → (e : Event V) → EventStays w e
-  reached_stays stays o w h e =
-      subst (λ (z : World V). EventStays z e) h.world (stays h.blocks h.clock o.words o.held h.events e h.stripes)
-
-  blocks_stand : (w : World V) (e : Event V) → (happens w e).0.blocks ≡ w.blocks
-  blocks_stand w e =
-      let next : suc (whose e) ≢ whose e = λ q. omega (arith, q) in
-      sym (others w e (suc (whose e)) next).blocks
-
-  stripes_stand : (o : Contents V) (w : World V) (e : Event V) → IsReached o w → HaveStripes (happens w e).0.blocks
-  stripes_stand o w e h = subst HaveStripes (sym (blocks_stand w e)) (reached_linked o w h).base.stripes
-
-  pub others_keep : StandLaw V → OthersLaw V → (e : Event V) (w : World V) (b : ℕ) (q : TxActor V) → b ≢ whose e → HasCopies q w b
-      → HasCopies q (happens w e).0 b
-  others_keep stand law e w b q ne h = (let s = stand w e b ne in law q w (happens w e).0 b s.1 s.2 h)
-
-  begins_or : (t : own.Stage V) → (t ≡ stage.Beginning) ⊎ (t ≡ stage.Beginning → ⊥)
-  begins_or stage.Beginning = inl refl
-  begins_or t = inr (λ e. let z : ⊥ = cc in z)
-
-  pub open_stage : (v : World V) (a : ℕ) (s : TxActor V) → Runs a s v → s.stage ≡ stage.Open → (v.seats a).stage ≡ Open
-  open_stage v a s runs at =
-      stage_by (v.seats a) s (ap (λ (t : own.Stage V). is_loading (stage_of t)) at) runs.0 ∙ ap (λ (t : own.Stage V). stage_of t) at
-
-  -- ---- a step
-  pub calm_at : (s : Stage V) (n : Next) → next_of s ≡ n → ((k : ℕ) → n ≡ next.Copy k → ⊥) → (asked : Asked V) → s ≡ Copying asked → ⊥
-  calm_at s n e p asked is = p asked.collection (sym e ∙ ap next_of is)
-
-  step_stays : (w : World V) (a : ℕ) (s : Stage V) (f : After V) → (s ≡ Beginning → ⊥) → ((asked : Asked V) → s ≡ Copying asked → ⊥)
-      → is_loading s ≡ false → StepStays w a s f → Stays w f.0 a
-  step_stays w a Beginning f b c l h = absurd (b refl)
-  step_stays w a (Copying asked) f b c l h = absurd (c asked refl)
-  step_stays w a (Loading o es) f b c l h = absurd (true≢false l)
-  step_stays w a s f b c l h = h
-
-  no_begin : (t : own.Stage V) → (t ≡ stage.Beginning → ⊥) → stage_of t ≡ Beginning → ⊥
-  no_begin stage.Beginning p e = p refl
-  no_begin t p e = let z : ⊥ = cc in z
-
-  -- a transaction is at rest only where the clock was told
-  begun_nothing : (u : World V) (a : ℕ) (x : Seat V) (n : told.Notice) → (u.seats a).stage ≡ Beginning
-      → ((rv : ℕ) → n ≡ told.Begun rv → (k : ℕ) → IsOwn u a k None × IsReadOf u a k None)
-      → ((has_begun u a x n).0.seats a).stage ≡ Open → (k : ℕ)
-      → IsOwn (has_begun u a x n).0 a k None × IsReadOf (has_begun u a x n).0 a k None
-  begun_nothing u a x (told.Begun rv) at none open_at k = none rv refl k
-  begun_nothing u a x (told.Exhausted clock) at none open_at k =
-      absurd (not_open (sym (ap (λ (y : Seat V). y.stage) (put-same u.seats a no_one)) ∙ open_at))
-  begun_nothing u a x n at none open_at k = absurd (not_both (sym at ∙ open_at))
-
-  begins_nothing : BeginsWithNothing V → (o : Contents V) (w : World V) (a rv : ℕ) → IsReached o w → (w.seats a).stage ≡ Beginning
-      → word_notice w a ≡ told.Begun rv → (k : ℕ)
-      → IsOwn (acted w (moves a ∷ [])) a k None × IsReadOf (acted w (moves a ∷ [])) a k None
-  begins_nothing begins o w a rv h =
-      subst (λ (z : World V). (z.seats a).stage ≡ Beginning → word_notice z a ≡ told.Begun rv → (k : ℕ)
-      → IsOwn (acted z (moves a ∷ [])) a k None × IsReadOf (acted z (moves a ∷ [])) a k None) h.world
-      (begins h.blocks h.clock o.words o.held h.events a rv h.stripes h.suits)
-
   pub keeps_step : StepsLaw V → BegunLaw V → EventsStay V → BeginsWithNothing V → StandLaw V → OthersLaw V → (b : BlocksView) (a : ℕ)
       (t : Table V) (r s : TxActor V) → is_loading (stage_of r.stage) ≡ false → ((asked : Asked V) → stage_of r.stage ≡ Copying asked → ⊥)
       → KeepsCopies r s → KeepsOwn b (Step a) t r s
   keeps_step steps begun stays begins stand law b a t r s quiet calm keep = record {
-    own = λ o w reached laid has runs after running h.
-        let x = w.seats a in
-        let v = (happens w (Step a)).0 in
-        let st : x.stage ≡ stage_of r.stage = stage_by x r quiet runs.0 in
-        elim (begins_or r.stage) [
-          | inl at ↦ (
-              let u = acted w (moves a ∷ []) in
-              let begins_at : x.stage ≡ Beginning = st ∙ ap (λ (t : own.Stage V). stage_of t) at in
-              let e : happens w (Step a) ≡ has_begun u a x (word_notice w a) = ap (λ (k : Stage V). step_at w a x k) begins_at in
-              begun r s v a at keep (stripes_stand o w (Step a) reached)
-              (λ rests. subst (λ (p : After V). (k : ℕ) → IsOwn p.0 a k None × IsReadOf p.0 a k None) (sym e)
-              (begun_nothing u a x (word_notice w a) begins_at (λ rv n. begins_nothing begins o w a rv reached begins_at n)
-              (subst (λ (p : After V). (p.0.seats a).stage ≡ Open) e (open_stage v a s after rests)))))
-          | inr other ↦
-              steps r s w v a other keep
-              (step_stays w a x.stage (happens w (Step a)) (λ q. no_begin r.stage other (sym st ∙ q)) (λ asked q. calm asked (sym st ∙ q))
-              (ap is_loading st ∙ quiet) (reached_stays stays o w reached (Step a))) h
-        ];
+    own = λ o w reached laid has runs after running h. step_keeps steps begun stays begins o w a r s quiet calm keep reached runs after h;
     others = others_keep stand law (Step a);
   }
 
-  -- ---- a want of memory
   pub keeps_starve : StepsLaw V → BegunLaw V → EventsStay V → StandLaw V → OthersLaw V → (b : BlocksView) (a : ℕ) (t : Table V) (r s : TxActor V)
       → KeepsCopies r s → KeepsOwn b (Starve a) t r s
   keeps_starve steps begun stays stand law b a t r s keep = record {
-    own = λ o w reached laid has runs after running h.
-        let x = w.seats a in
-        let v = (happens w (Starve a)).0 in
-        elim (begins_or r.stage) [
-          | inl at ↦ (
-              let begins_at : x.stage ≡ Beginning =
-              stage_by x r (ap (λ (t : own.Stage V). is_loading (stage_of t)) at) runs.0 ∙ ap (λ (t : own.Stage V). stage_of t) at in
-              let e : happens w (Starve a) ≡ starve_at w a x Beginning = ap (λ (k : Stage V). starve_at w a x k) begins_at in
-              begun r s v a at keep (stripes_stand o w (Starve a) reached)
-              (λ rests. (
-              let open_at : (v.seats a).stage ≡ Open = open_stage v a s after rests in
-              let idle : (v.seats a).stage ≡ no_one.stage =
-              ap (λ (p : After V). (p.0.seats a).stage) e ∙ ap (λ (y : Seat V). y.stage) (put-same w.seats a no_one) in
-              absurd (not_open (sym idle ∙ open_at)))))
-          | inr other ↦ steps r s w v a other keep (reached_stays stays o w reached (Starve a)) h
-        ];
+    own = λ o w reached laid has runs after running h. starve_keeps steps begun stays o w a r s keep reached runs after h;
     others = others_keep stand law (Starve a);
   }
-
-  -- ---- a request
-  pub open_or : (t : own.Stage V) → (t ≡ stage.Open) ⊎ (t ≡ stage.Open → ⊥)
-  open_or stage.Open = inl refl
-  open_or t = inr (λ e. let z : ⊥ = cc in z)
-
-  -- anywhere but at rest it changes nothing that is asked for
-  ask_stays : (w : World V) (a : ℕ) (x : Seat V) (r : TxActor V) (q : Request V) (t : own.Stage V) → (t ≡ stage.Open → ⊥)
-      → HasCopiesAt r w a t → HasCopiesAt r (ask_at w a x (stage_of t) q).0 a t
-  ask_stays w a x r q stage.Open p h = absurd (p refl)
-  ask_stays w a x r q stage.Idle p h = tt
-  ask_stays w a x r q t p h = h
-
-  asked_reads : StaysLaw V → JoinsLaw V → (w : World V) (a : ℕ) (asked : Option (Asked V)) (f : After V) → StaysAsked w a asked f
-      → (k : ℕ) (c : Option (Copied V)) → IsReadOf w a k c → IsReadOf f.0 a k c
-  asked_reads stay join w a None f is k c = (stay w f.0 a k c is).1
-  asked_reads stay join w a (Some asked) f (inl is) k c = (stay w f.0 a k c is.0).1
-  asked_reads stay join w a (Some asked) f (inr is) k c = (join w f.0 a k (outcome_at w a asked) c is.0).1
-
-  pub whole_open : (r : TxActor V) (w : World V) (a : ℕ) → r.stage ≡ stage.Open → HasCopies r w a → OwnsAll r w a
-  whole_open r w a at h = subst (λ (t : own.Stage V). HasCopiesAt r w a t) at h
-
-  -- what an actor may be asked, at rest
-  pub may_call : CallsReached V → CallsLaw V
-  may_call calls w a o h =
-      subst (λ (z : World V). (z.seats a).stage ≡ Open → MayCall z a) h.world (calls h.blocks h.clock o.words o.held h.events a h.stripes)
-
-  -- the actor stays as it was, or begins, where it is not at rest in its transaction
-  abbrev pub Apart : TxActor V → TxActor V → Type 0
-  Apart r s = r.stage ≢ stage.Open → (s.stage ≡ stage.Beginning) ⊎ (s ≡ r)
 
   pub keeps_ask : EventsStay V → StaysLaw V → JoinsLaw V → AskedLaw V → AllLaw V → StandLaw V → OthersLaw V → CallsLaw V → (b : BlocksView)
       (a : ℕ) (q : Request V) (t : Table V) (r s : TxActor V) (n : Told V)
@@ -249,25 +69,7 @@ module _ {V : Type 0} where
       → KeepsOwn b (Ask a q) t r s
   keeps_ask stays stay join asked all stand law calls b a q t r s n asks still apart = record {
     own = λ o w reached laid has runs after running h.
-        let f = happens w (Ask a q) in
-        let v = f.0 in
-        let e : f ≡ ask_at w a (seat_of r) (stage_of r.stage) q = asked_as w a q r runs in
-        elim (open_or r.stage) [
-          | inl at ↦ (
-              let whole = whole_open r w a at h in
-              let may = calls w a o reached (open_stage w a r runs at) in
-              let own : OwnsCopies s v a =
-              subst (λ (p : After V). OwnsCopies s p.0 a) (sym e) ((asks a w laid runs (λ at. (whole.own, may))).2 at) in
-              let next : suc a ≢ a = λ z. omega (arith, z) in
-              let alike = others w (Ask a q) (suc a) next in
-              all b s v a (sym alike.words ∙ laid.0, sym alike.blocks ∙ laid.1) running
-              (asked r s w v a still (asked_reads stay join w a (call_in q) f (reached_stays stays o w reached (Ask a q))) whole own))
-          | inr other ↦ elim (apart other) [
-            | inl begins ↦ subst (λ (t : own.Stage V). HasCopiesAt s v a t) (sym begins) tt
-            | inr same ↦ subst (λ (z : TxActor V). HasCopies z v a) (sym same)
-                (subst (λ (p : After V). HasCopies r p.0 a) (sym e) (ask_stays w a (seat_of r) r q r.stage other h))
-          ]
-        ];
+        ask_keeps stays stay join asked all calls b o w a q r s n asks still apart reached laid runs running h;
     others = others_keep stand law (Ask a q);
   }
 
@@ -275,50 +77,6 @@ module _ {V : Type 0} where
       → AsksAt v r s n (λ a w. ask_at w a (seat_of r) (stage_of r.stage) q) → IsTurn v (Ask a q) t r t s n
   ask_turns calls v a q t r s n h = record {
     turns = λ o w reached laid has runs copies. (
-        let e = asked_as w a q r runs in
-        let told = h a w laid runs (λ at. ((whole_open r w a at copies).own, calls w a o reached (open_stage w a r runs at))) in (
-          still_has t a w (happens w (Ask a q)).0 (one_step w (Ask a q)) has,
-          subst (λ (z : After V). Runs a s z.0) (sym e) told.0,
-          told.1 ∙ sym (ap (λ (z : After V). z.1) e),
-        ));
+        let told = ask_runs calls v o w a q r s n h reached laid runs copies in
+        (still_has t a w (happens w (Ask a q)).0 (one_step w (Ask a q)) has, told.0, told.1));
   }
-
-  -- ---- an actor that may call
-  pub can_call : CallsLaw V → BlocksLaw V → (b : BlocksView) (r : TxActor V) (o : Contents V) (w : World V) (a : ℕ) → IsReached o w
-      → IsLaid b w → Runs a r w → HasCopies r w a → r.stage ≡ stage.Open → CanCall b r
-  can_call calls of b r o w a reached laid runs h at = record {
-    stage = at;
-    rests = rests_at r.words r.words.place
-        (sym (ap (λ (q : machine.Actor). q.place) runs.1) ∙ (calls w a o reached (open_stage w a r runs at)).place);
-    blocks = of b r w a laid (whole_open r w a at h).own;
-  }
-
-  -- ---- a store that was not asked for
-  ready_same : (t : own.Stage V) (ks : List ℕ) (cs : List (CopyOf V)) → stage_of t ≡ Ready ks
-      → KeepsFrom t t cs cs × (t ≡ stage.Beginning → ⊥)
-  ready_same (stage.Ready homes) ks cs e = ((tt, refl), λ q. let z : ⊥ = cc in z)
-  ready_same t ks cs e = let z : ⊥ = cc in absurd z
-
-  pub refused_store : StepsLaw V → (r s : TxActor V) → next_of (stage_of r.stage) ≡ next.FirstStore
-      → (let p : TxActor V = record r { words = s.words } in s ≡ p) → (w : World V) (a : ℕ) → HasCopies r w a → HasCopies s w a
-  refused_store steps r s due same w a h =
-      let first = first_is (stage_of r.stage) due in
-      let k = ready_same r.stage first.0 r.copies.items first.1 in
-      let p : TxActor V = record r { words = s.words } in
-      let stay : Stays w w a = (record { words = refl; blocks = refl; reads = λ l m. refl }, refl) in
-      subst (λ (z : TxActor V). HasCopies z w a) (sym same) (steps r p w w a k.1 k.0 stay h)
-
-  -- where memory was refused to a request
-  pub refused_ask : AllLaw V → (b : BlocksView) (r s : TxActor V) → StandsOwn r s → ReadsStill r.copies.items s.copies.items → Apart r s
-      → IsRunning b s → (w : World V) (a : ℕ) → IsLaid b w → HasCopies r w a → HasCopies s w a
-  refused_ask all b r s stands still apart running w a laid h =
-      elim (open_or r.stage) [
-        | inl at ↦ (
-            let whole = whole_open r w a at h in
-            all b s w a laid running
-            (record { own = stands.1 a w whole.own; read = λ k. still w a k (whole.read k) }))
-        | inr other ↦ elim (apart other) [
-          | inl begins ↦ subst (λ (t : own.Stage V). HasCopiesAt s w a t) (sym begins) tt
-          | inr same ↦ subst (λ (z : TxActor V). HasCopies z w a) (sym same) h
-        ]
-      ]

@@ -45,9 +45,11 @@ use Rattle.running_world.specs.Parts.{Happens, IsStarved, Stays, ended_of}
 use Rattle.running_world.specs.Homes.{HasRoomLeft}
 use Rattle.running_world.specs.Reached.{IsReached}
 use Rattle.running_world.specs.Turns.{IsTurn, KeepsOwn, KeepsRoom}
-use Rattle.running_world.proofs.SeatLemmas.{seat_loading, seated_by, stage_by}
-use Rattle.running_world.proofs.TurnLemmas.{first_is, starve_turns}
-use Rattle.running_world.proofs.OwnTurnLemmas.{CallsLaw, ask_turns}
+use Rattle.actor_turns.proofs.SeatLemmas.{seat_loading, seated_by, stage_by}
+use Rattle.running_world.proofs.TurnLemmas.{starve_turns}
+use Rattle.actor_turns.proofs.StepLemmas.{first_is}
+use Rattle.running_world.proofs.OwnTurnLemmas.{ask_turns}
+use Rattle.actor_turns.proofs.OwnLemmas.{CallsLaw}
 use Rattle.running_world.proofs.WorldLemmas.{stood, turned}
 
 module _ {V : Type 0} where

@@ -42,9 +42,9 @@ use Rattle.world_table.specs.declared.table.Table.{Table}
 use Rattle.running_world.specs.Homes.{HasRoomAt, HasRoomDue, HasRoomLeft, homes_left}
 use Rattle.running_world.specs.Reached.{IsReached}
 use Rattle.running_world.specs.Turns.{KeepsRoom}
-use Rattle.running_world.proofs.OwnTurnLemmas.{Apart, open_or, open_stage}
-use Rattle.running_world.proofs.SeatLemmas.{stage_by}
-use Rattle.running_world.proofs.TurnLemmas.{first_is, reached_linked}
+use Rattle.actor_turns.proofs.OwnLemmas.{Apart, open_or, open_stage}
+use Rattle.actor_turns.proofs.SeatLemmas.{stage_by}
+use Rattle.actor_turns.proofs.StepLemmas.{first_is, reached_linked}
 
 -- ---- what is among these
 pub has_in : (ks : List ℕ) (k : ℕ) → Contains ks k → has ks k ≡ true

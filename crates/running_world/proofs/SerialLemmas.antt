@@ -24,9 +24,9 @@ use Rattle.running_world.specs.Reached.{IsReached}
 use Rattle.running_world.specs.Serial.{IsFrom, IsSerialFrom, NoneIsHalf}
 use Rattle.running_world.specs.Traces.{IsSerialTrace, seat_at, seat_found}
 use Rattle.running_world.proofs.FeedLemmas.{reached_fed}
-use Rattle.running_world.proofs.SeatLemmas.{saw_as}
+use Rattle.actor_turns.proofs.SeatLemmas.{saw_as}
 use Rattle.running_world.proofs.TraceLemmas.{seat_like, serial_at}
-use Rattle.running_world.proofs.TurnLemmas.{reached_linked}
+use Rattle.actor_turns.proofs.StepLemmas.{reached_linked}
 
 module _ {V : Type 0} where
   found_free : (o : Option (TxActor V)) → ((r : TxActor V) → o ≡ Some r → is_half_done (stage_of r.stage) ≡ false)

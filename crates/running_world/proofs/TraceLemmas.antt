@@ -27,8 +27,8 @@ use Rattle.running_world.specs.declared.trace.Trace.{Trace}
 use Rattle.running_world.specs.Parts.{IsWorld, ended_of}
 use Rattle.running_world.specs.Reached.{IsReached}
 use Rattle.running_world.specs.Traces.{IsSerialTrace, IsTraceOf, is_half, seat_at, seat_found, with_number}
-use Rattle.running_world.proofs.SeatLemmas.{IsLike, like_as}
-use Rattle.running_world.proofs.TurnLemmas.{reached_linked}
+use Rattle.actor_turns.proofs.SeatLemmas.{IsLike, like_as}
+use Rattle.actor_turns.proofs.StepLemmas.{reached_linked}
 
 -- one number more behind the others, and one in front
 swapped : (b c : Bool) (n m : ℕ) (ns : List ℕ)

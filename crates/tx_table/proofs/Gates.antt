@@ -28,7 +28,7 @@ use Rattle.atomic_steps.specs.Clock.{stamps_left, Grows}
 use Rattle.atomic_steps.specs.Gates.{Tries, Puts, GoesHome, Gated}
 use Rattle.atomic_steps.specs.Machine.{FindsBelow}
 use Rattle.atomic_steps.specs.Own.{Alike, FindsBy, FindsAt, SameAfter, SameCopy}
-use Rattle.atomic_steps.specs.Spots.{Spot, Gate, spot_by, gate_word, found_gate}
+use Rattle.atomic_steps.specs.Spots.{Spot, Gate, spot_by, gate_word, found_gate, number_at}
 use Rattle.atomic_steps.specs.Steps.{atomic_action, ready_at}
 use Rattle.atomic_steps.proofs.Alike.{alike_trans, action_same, spot_same}
 use Rattle.atomic_steps.proofs.Alone.{found_free, read_editions, read_home}
@@ -38,9 +38,10 @@ use Rattle.atomic_steps.proofs.Spots.{Keeps, one_spot, after_calm}
 use Rattle.atomic_steps.proofs.Turned.{try_turned, put_turned, home_turned, home_same}
 use Rattle.tx_table.specs.Layout.{address, gate_address, width}
 use Rattle.tx_table.specs.Turns.{Turn, asked_all, stage_of, spot, parts_found, editions_found, found_at, moved, ends, took, lone}
-use Rattle.tx_table.specs.Shown.{View, Slot, total, acting, HasHappened, IsBaseAt, OneBase, HomeOk, Table, Shows, Rule, Told, Took}
+use Rattle.tx_table.specs.Shown.{View, Slot, total, acting, HasHappened, IsBaseAt, OneBase, SameBases, HomeOk, Table, Shows, Rule, Told, Took}
 use Rattle.tx_table.proofs.Turned.{asked_calm, asked_alike, found_alike, records_grow}
-use Rattle.tx_table.proofs.Keeps.{gate_apart, base_trans, base_sym, calm_base, has_happened, keeps_base, ends_same, shows_after, own_all, run_append, run_own}
+use Rattle.tx_table.proofs.Keeps.{asked_bases, gate_apart, base_trans, base_sym, calm_base, has_happened, keeps_base, ends_same, shows_after}
+use Rattle.tx_table.proofs.Keeps.{own_all, run_append, run_own}
 
 pub at_set_same : {A : Type 0} → (l : List A) (k : ℕ) (x y : A) → get_elem? l k ≡ some x → get_elem? (set l k y) k ≡ some y
 at_set_same [] k x y e = absurd (some-ne-none x (sym e))
@@ -60,11 +61,16 @@ gate_ne k j ne e = ne (let q : k ≡ j = cc in sym q)
 gate_low : (n m k : ℕ) → k < m → gate_address n k < width n m
 gate_low n m k h = omega arith
 
+-- one's own gate is taken
+held_word : (a : ℕ) (p : Maybe ℕ) → is_actor a p ≡ true → gate_word p ≡ 1
+held_word a None e = absurd (true≢false (sym e))
+held_word a (Some j) e = refl
+
 gates_apart : (n k j : ℕ) → j ≢ k → gate_address n j ≢ gate_address n k
 gates_apart n k j ne e = ne (omega arith)
 
 module _ {V : Type 0} where
-  tries_spot : (a : ℕ) (v : World V) (k : ℕ) → Tries v a k → spot a v ≡ Gate k
+  pub tries_spot : (a : ℕ) (v : World V) (k : ℕ) → Tries v a k → spot a v ≡ Gate k
   tries_spot a v k e = ap (spot_by a (ready_at a v (stage_of v a))) e
 
   -- what is so of the step where this is found at a gate is so of the next step there
@@ -73,10 +79,10 @@ module _ {V : Type 0} where
   at_gate a v w k n b e h =
       subst (λ (z : Spot). SameAfter a (happens v (Step a)) (happens (found_at a w z n b) (Step a))) (sym e) h
 
-  puts_spot : (a : ℕ) (v : World V) (k : ℕ) → Puts v a k → spot a v ≡ Gate k
+  pub puts_spot : (a : ℕ) (v : World V) (k : ℕ) → Puts v a k → spot a v ≡ Gate k
   puts_spot a v k e = ap (spot_by a (ready_at a v (stage_of v a))) e.1
 
-  home_spot : (a : ℕ) (v : World V) (k : ℕ) → GoesHome v a k → spot a v ≡ Gate k
+  pub home_spot : (a : ℕ) (v : World V) (k : ℕ) → GoesHome v a k → spot a v ≡ Gate k
   home_spot a v k e = ap (spot_by a (ready_at a v (stage_of v a))) e
 
   -- what an action on a gate finds
@@ -114,7 +120,7 @@ module _ {V : Type 0} where
       base_copy k v t q stripes same here)
 
   -- what is planted at a gate leaves the other bases, and its own where none was found
-  found_base : (a : ℕ) (w : World V) (k n : ℕ) (b : Maybe (Base V)) (j : ℕ) → j ≢ k → OneBase j w (found_at a w (Gate k) n b)
+  pub found_base : (a : ℕ) (w : World V) (k n : ℕ) (b : Maybe (Base V)) (j : ℕ) → j ≢ k → OneBase j w (found_at a w (Gate k) n b)
   found_base a w k n b j ne l p at =
       let f : (home_of w.words w.blocks l == k) ≡ false = ap (λ (z : ℕ). z == k) at ∙ ne_eqb j k ne in
       let first = first_of w.words w.blocks k in (
@@ -182,18 +188,9 @@ module _ {V : Type 0} where
     alike_of s rule here = asked_alike id qs (run o rule.events) (lone id o m.0.turns) (rule.shows.own id m.0 here).alike
 
     -- the bases that it took out, once it has asked
-    out_of : (s : State (Slot V) (View V)) (rule : Rule o s) → get_elem? s.views id ≡ some m.0 → (k : ℕ)
-        → is_actor id ((world s rule).boosted.gates k) ≡ true → OneBase k (world s rule) alone
-    out_of s rule here k gate =
-        let w : World V = run o rule.events in
-        let l : World V = lone id o m.0.turns in
-        let mine = rule.shows.own id m.0 here in
-        let g = asked_calm id qs w in
-        let gl = asked_calm id qs l in
-        base_trans k (world s rule) w alone (sym g.words) (sym g.blocks)
-        (base_sym k w (world s rule) g.words g.blocks (calm_base id k w (world s rule) g))
-        (base_trans k w l alone (sym mine.alike.words) (sym mine.alike.blocks) (mine.out k (ap (is_actor id) (sym (g.gates k)) ∙ gate))
-        (calm_base id k l alone gl))
+    out_of : (s : State (Slot V) (View V)) (rule : Rule o s) → get_elem? s.views id ≡ some m.0 → SameBases id (world s rule) alone
+    out_of s rule here =
+        let mine = rule.shows.own id m.0 here in asked_bases id qs (run o rule.events) (lone id o m.0.turns) mine.alike mine.out
 
     -- a turn at a gate keeps the rule
     gate_at : (s : State (Slot V) (View V)) (rule : Rule o s) (k found new : ℕ) (b : Maybe (Base V)) (hs : List (Option (Slot V)))
@@ -383,7 +380,12 @@ module _ {V : Type 0} where
               (stepped s (gate_address (end_of o.words o.blocks) k) 0 id c
               (acting m.0 (record { asks = qs; found = 1; base = None }) (ends id alone) m.0.clock) gives)) (sym top) r,
           (
-            (refl, has_happened o id alone rule.events qs 1 None al1 (at_gate id w1 alone k 1 None (puts_spot id alone k puts) own2)),
+            (
+              refl,
+              has_happened o id alone rule.events qs 1 None al1 (out_of s rule here)
+                  (ap (number_at w1) (puts_spot id alone k puts) ∙ held_word id (w1.boosted.gates k) gate1)
+                  (at_gate id w1 alone k 1 None (puts_spot id alone k puts) own2),
+            ),
             ap rest_of top,
           ),
         )
@@ -429,7 +431,12 @@ module _ {V : Type 0} where
               (stepped s (gate_address (end_of o.words o.blocks) k) 0 id c
               (acting m.0 (record { asks = qs; found = 1; base = None }) (ends id alone) m.0.clock) gives)) (sym top) r,
           (
-            (refl, has_happened o id alone rule.events qs 1 None al1 (at_gate id w1 alone k 1 None (home_spot id alone k goes) own2)),
+            (
+              refl,
+              has_happened o id alone rule.events qs 1 None al1 (out_of s rule here)
+                  (ap (number_at w1) (home_spot id alone k goes) ∙ held_word id (w1.boosted.gates k) gate1)
+                  (at_gate id w1 alone k 1 None (home_spot id alone k goes) own2),
+            ),
             ap rest_of top,
           ),
         )
@@ -491,7 +498,10 @@ module _ {V : Type 0} where
         al2 b = (own2 b).0
 
         told_of : (b : Maybe (Base V)) → HasHappened o id alone found b
-        told_of b = has_happened o id alone rule.events qs found b al1 (at_gate id w1 alone k found b (tries_spot id alone k tries) (own2 b))
+        told_of b =
+            has_happened o id alone rule.events qs found b al1 (out_of s rule here)
+            (ap (number_at w1) (tries_spot id alone k tries) ∙ (ap gate_word gates1 ∙ sym is_found))
+            (at_gate id w1 alone k found b (tries_spot id alone k tries) (own2 b))
 
         Q : (b : Maybe (Base V)) → Gated id k (planted b) (happens (planted b) (Step id)).0
             (if is_none ((planted b).boosted.gates k) then Some id else (planted b).boosted.gates k)

@@ -23,7 +23,7 @@ use Rattle.replay_log.specs.Seats.{World, Seat, actor_of}
 use Rattle.replay_log.specs.Worlds.{happens, run}
 use Rattle.atomic_steps.specs.Clock.{stamps_left, Grows}
 use Rattle.atomic_steps.specs.Own.{Alike, SameAfter}
-use Rattle.atomic_steps.specs.Spots.{Spot, Word, Gate, deed_of, gate_word}
+use Rattle.atomic_steps.specs.Spots.{Spot, Word, Gate, deed_of, gate_word, number_at}
 use Rattle.atomic_steps.specs.Steps.{OnlyOwn, ready_at}
 use Rattle.atomic_steps.proofs.Alike.{alike_sym, alike_trans, spot_same, deed_same}
 use Rattle.atomic_steps.proofs.Clock.{one_left}
@@ -32,7 +32,7 @@ use Rattle.atomic_steps.proofs.Spots.{Keeps, one_spot, after_calm}
 use Rattle.atomic_steps.proofs.Turned.{word_turned}
 use Rattle.tx_table.specs.Layout.{address, gate_address, IsInside, width}
 use Rattle.tx_table.specs.Turns.{Turn, own, asked_all, stage_of, spot, found_at, moved, ends, ends_of, took, lone}
-use Rattle.tx_table.specs.Shown.{View, Slot, total, owed, owed_of, acting, HasHappened, OneBase, Table, IsOwn, Shows, Rule, Told}
+use Rattle.tx_table.specs.Shown.{View, Slot, total, owed, owed_of, acting, HasHappened, OneBase, SameBases, Table, IsOwn, Shows, Rule, Told}
 use Rattle.tx_table.proofs.Numbers.{total_set, total_append, inside, tally_set, tally_below}
 use Rattle.tx_table.proofs.Turned.{lone_snoc, asked_calm, asked_alike, found_alike, word_own, records_grow}
 
@@ -92,6 +92,17 @@ module _ {V : Type 0} where
 
   pub keeps_base : (sp : Spot) (k : ℕ) (v u : World V) → Keeps sp v u → sp ≢ Gate k → OneBase k v u
   keeps_base sp k v u g ne l p at = (sym (g.parts l (λ q. ne (q ∙ ap Gate at))), sym (g.editions l (λ q. ne (q ∙ ap Gate at))))
+
+  -- a request changes no base
+  pub asked_bases : (a : ℕ) (qs : List (Event V)) (w l : World V) → Alike a w l → SameBases a w l
+      → SameBases a (asked_all a w qs) (asked_all a l qs)
+  asked_bases a qs w l alike same k gate =
+      let g = asked_calm a qs w in
+      let gl = asked_calm a qs l in
+      base_trans k (asked_all a w qs) w (asked_all a l qs) (sym g.words) (sym g.blocks)
+      (base_sym k w (asked_all a w qs) g.words g.blocks (calm_base a k w (asked_all a w qs) g))
+      (base_trans k w l (asked_all a l qs) (sym alike.words) (sym alike.blocks) (same k (ap (is_actor a) (sym (g.gates k)) ∙ gate))
+      (calm_base a k l (asked_all a l qs) gl))
 
   -- ---- what a step commits is the actor's own
   pub ends_same : (a : ℕ) (v w : World V) → Alike a v w → ends a v ≡ ends a w
@@ -185,13 +196,16 @@ module _ {V : Type 0} where
 
   -- a step that is one of the actor's own world has happened behind these events and what the actor asked
   pub has_happened : (o : World V) (a : ℕ) (w : World V) (es qs : List (Event V)) (found : ℕ) (b : Maybe (Base V))
-      → Alike a (asked_all a (run o es) qs) w → SameAfter a (happens (asked_all a (run o es) qs) (Step a)) (moved a w found b)
-      → HasHappened o a w found b
-  has_happened o a w es qs found b al same =
+      → Alike a (asked_all a (run o es) qs) w → SameBases a (asked_all a (run o es) qs) w
+      → number_at (asked_all a (run o es) qs) (spot a w) ≡ found
+      → SameAfter a (happens (asked_all a (run o es) qs) (Step a)) (moved a w found b) → HasHappened o a w found b
+  has_happened o a w es qs found b al bases finds same =
       let e = run_append es (asked_events a qs) o ∙ run_asked a qs (run o es) in
       record {
         events = es ++ asked_events a qs;
         alike = subst (λ (v : World V). Alike a v w) (sym e) al;
+        bases = subst (λ (v : World V). SameBases a v w) (sym e) bases;
+        finds = subst (λ (v : World V). number_at v (spot a w) ≡ found) (sym e) finds;
         same = subst (λ (v : World V). SameAfter a (happens v (Step a)) (moved a w found b)) (sym e) same;
       }
 
@@ -310,7 +324,8 @@ module _ {V : Type 0} where
           (
             (
               refl,
-              has_happened o id alone rule.events qs found None al1
+              has_happened o id alone rule.events qs found None al1 (asked_bases id qs w l mine.alike mine.out)
+                  (ap (number_at w1) touches ∙ sym found1)
                   (subst (λ (z : Spot × ℕ). SameAfter id (happens w1 (Step id)) (happens (found_at id alone z.0 z.1 None) (Step id)))
                   (λ j. (sym touches j, sym found1 j)) own2),
             ),

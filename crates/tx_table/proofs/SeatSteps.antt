@@ -86,7 +86,8 @@ module _ {V : Type 0} where
       → Allows (Holds key) slots id m i f (λ k t. tells k t × Went (world_at key) id t)
   lifted key slots id m i f tells may s h len here small =
       let r = may h.stripes s h.rule len here small in
-      let mine = (r.3.shows.own id r.0 (at_set_same s.views id m.0 r.0 here)).alike in (
+      let own = r.3.shows.own id r.0 (at_set_same s.views id m.0 r.0 here) in
+      let mine = own.alike in (
         r.0,
         r.1,
         r.2,
@@ -94,10 +95,13 @@ module _ {V : Type 0} where
         (
           r.4,
           record {
+            opens = record { clock = key.shape.value.clock; contents = key.state.value; suits = h.suits; world = refl };
             stripes = h.stripes;
             shape = (sym mine.words ∙ r.3.shows.shape.0, sym mine.blocks ∙ r.3.shows.shape.1);
             events = r.3.events;
             alike = mine;
+            bases = own.out;
+            clock = (let q = r.3.shows.room in omega arith);
           },
         ),
       )

@@ -16,21 +16,21 @@ use Rattle.replay_log.specs.declared.base.Base.{Base}
 use Rattle.replay_log.specs.Contents.{Block, HaveStripes, block_of, content, end_of, first_of, home_of, is_plain}
 use Rattle.replay_log.specs.Base.{held_of, shown_of, stripes_of}
 use Rattle.replay_log.specs.Parts.{part}
-use Rattle.replay_log.specs.Collections.{shown_at}
+use Rattle.replay_log.specs.Collections.{Suit, shown_at}
 use Rattle.seq_model.specs.Calls.{IsWithinLimits}
 use Rattle.seq_model.specs.Contents.{Contents}
 use Rattle.seq_model.specs.Runs.{IsInCommitOrder, IsRun, after_run}
 use Rattle.replay_log.specs.Seats.{World, actor_of}
-use Rattle.replay_log.specs.Worlds.{happens, run}
+use Rattle.replay_log.specs.Worlds.{happens, opened, run}
 use Rattle.replay_log.specs.WorldSerial.{AreUpTo}
 use Rattle.replay_log.specs.WorldTraces.{is_half_done}
 use Rattle.atomic_steps.specs.Bases.{IsBaseOf, ShowsBase}
 use Rattle.atomic_steps.specs.Clock.{stamps_left}
 use Rattle.atomic_steps.specs.Machine.{SameBase}
 use Rattle.atomic_steps.specs.Own.{Alike, SameAfter}
-use Rattle.atomic_steps.specs.Spots.{gate_word}
+use Rattle.atomic_steps.specs.Spots.{gate_word, number_at}
 use Rattle.tx_table.specs.Layout.{address, gate_address, IsInside, width}
-use Rattle.tx_table.specs.Turns.{Turn, asked_all, lone, moved, ends, stage_of}
+use Rattle.tx_table.specs.Turns.{Turn, asked_all, lone, moved, ends, spot, stage_of}
 pub use Rattle.tx_table.specs.declared.view.View.{View}
 
 abbrev pub total : {A : Type 0} → (A → ℕ) → List A → ℕ
@@ -86,10 +86,14 @@ module _ {V : Type 0} where
     pub gates : (k : ℕ) → k < length bs → get_or words (gate_address (end_of n bs) k) 0 ≡ gate_word (w.boosted.gates k)
     pub slots : (k : ℕ) → k < length bs → HomeOk n bs w k homes
 
+  -- of each gate that a has in w, the base is the same in u
+  abbrev pub SameBases : ℕ → World V → World V → Type 0
+  SameBases a w u = (k : ℕ) → is_actor a (w.boosted.gates k) ≡ true → OneBase k w u
+
   -- the record of actor j is that of the world o, in which it is alone with what it found: also the bases that it took out
   pub record IsOwn (j : ℕ) (w o : World V) : Type 0 where
     pub alike : Alike j w o
-    pub out : (k : ℕ) → is_actor j (w.boosted.gates k) ≡ true → OneBase k w o
+    pub out : SameBases j w o
 
   -- what is left of a seat that was joined into another
   pub record IsSpent (o : World V) (j : ℕ) (v : View V) : Type 0 where
@@ -113,22 +117,35 @@ module _ {V : Type 0} where
     pub events : List (Event V)
     pub shows : Shows o (run o events) s
 
-  -- Some events lead from the opening o, whose collections have stripes, to a world that is to actor a as u is; u is of the same shape.
+  -- The world opened with this clock on these contents, which suit its blocks.
+  pub record Opens (o : World V) : Type 0 where
+    pub clock : ℕ
+    pub contents : Contents V
+    pub suits : Suit o.blocks contents.held
+    pub world : opened o.blocks clock contents.words contents.held ≡ o
+
+  -- Some events lead from the opening o, whose collections have stripes, to a world that is to actor a as u is, also in the bases that a has
+  -- out, and whose clock is within its limit; u is of the same shape.
   pub record IsReached (o : World V) (a : ℕ) (u : World V) : Type 0 where
+    pub opens : Opens o
     pub stripes : HaveStripes o.blocks
     pub shape : (u.words ≡ o.words) × (u.blocks ≡ o.blocks)
     pub events : List (Event V)
     pub alike : Alike a (run o events) u
+    pub bases : SameBases a (run o events) u
+    pub clock : (run o events).boosted.words.clock ≤ clock_limit + 64
 
   -- to a world that is to a as the one that it has for itself, by what its seat knows
   abbrev pub Went : World V → ℕ → Me (Slot V) (View V) → Type 0
   Went o a m = IsReached o a (lone a o m.0.turns)
 
-  -- Some events lead from the opening o to a world that is to actor a as w is; and a's next step there leaves to it, and tells, what it
-  -- does in w with what it found.
+  -- Some events lead from the opening o to a world that is to actor a as w is, also in the bases that a has out; and a's next step there
+  -- finds this number, and leaves to it, and tells, what it does in w with what it found.
   pub record HasHappened (o : World V) (a : ℕ) (w : World V) (found : ℕ) (base : Maybe (Base V)) : Type 0 where
     pub events : List (Event V)
     pub alike : Alike a (run o events) w
+    pub bases : SameBases a (run o events) w
+    pub finds : number_at (run o events) (spot a w) ≡ found
     pub same : SameAfter a (happens (run o events) (Step a)) (moved a w found base)
 
   -- what a step tells of a seat: it took this turn, which is the step that happened

@@ -37,8 +37,16 @@ impl<V> Seat<V> {
         ensures same { IsSameSeat self.old self.new × (self.new.place.me ≡ self.old.place.me) }
         ensures asked { list_of self.new.asked ≡ list_of self.old.asked ++ event.now ∷ [] }
     {
+        self.ask_this(Snapshot::of(event));
+    }
+
+    /// The same of an event that may be moved by then.
+    pub fn ask_this(&mut self, event: Snapshot<Event<V>>)
+        ensures same { IsSameSeat self.old self.new × (self.new.place.me ≡ self.old.place.me) }
+        ensures asked { list_of self.new.asked ≡ list_of self.old.asked ++ event.value ∷ [] }
+    {
         let before = Snapshot::of(&self.asked);
-        self.asked = Asked::More(before, Snapshot::of(event));
+        self.asked = Asked::More(before, event);
     }
 
     /// What was asked since the last step is not asked.

@@ -2,7 +2,7 @@
 --
 -- In a world that events have reached, each seat stands at a place that fits its stage, holds the gates that its stage says, and where a
 -- step of the words is due the word actor does not rest. All this is said of what is the actor's own, so it holds of its own world too.
-use Rattle.std.proofs.Common.{◌≡◌, ℕ, false, List, [], ◌∷◌, Option, Some, refl, sym, ap, ◌∙◌, subst}
+use Rattle.std.proofs.Common.{◌≡◌, ℕ, List, [], ◌∷◌, Option, Some, refl, sym, ap, ◌∙◌, subst}
 use Rattle.tx_sets.specs.Entries.{Entries}
 use Rattle.collection_machine.specs.Content.{has}
 use Rattle.collection_machine.specs.Boosted.{Action, is_actor}
@@ -19,7 +19,7 @@ use Rattle.replay_log.specs.Worlds.{run}
 use Rattle.replay_log.proofs.EventLemmas.{opened_linked, run_linked}
 use Rattle.replay_log.proofs.GuardLemmas.{world_allows}
 use Rattle.replay_log.proofs.SeatLemmas.{Copy, Linked, StageOk, gates_of}
-use Rattle.actor_words.specs.Dispatch.{is_loading, next_of}
+use Rattle.actor_words.specs.Dispatch.{next_of}
 use Rattle.actor_words.specs.declared.next.Next.TheVariants as next
 use Rattle.tx_table.specs.declared.view.Opening.{Opening}
 use Rattle.tx_table.specs.Opening.{blocks_at, world_at}
@@ -66,20 +66,21 @@ some_first x (d ∷ es) h e = cc
 
 module _ {V : Type 0} where
   -- where a step of the words is due
-  pub word_action : (w : World V) (a : ℕ) (s : Stage V) → next_of s ≡ next.Word → is_loading s ≡ false → step_action w a s ≡ Some (moves a)
-  word_action w a seats.Idle e q = let z : ⊥ = cc in absurd z
-  word_action w a seats.Open e q = let z : ⊥ = cc in absurd z
-  word_action w a (seats.Trying asked n) e q = let z : ⊥ = cc in absurd z
-  word_action w a (seats.Copying asked) e q = let z : ⊥ = cc in absurd z
-  word_action w a (seats.Loading o es) e q = let z : ⊥ = cc in absurd z
-  word_action w a (seats.Gating got [] n) e q = let z : ⊥ = cc in absurd z
-  word_action w a (seats.Gating got (k ∷ ks) n) e q = let z : ⊥ = cc in absurd z
-  word_action w a (seats.Ready ks) e q = let z : ⊥ = cc in absurd z
-  word_action w a (seats.Homing []) e q = let z : ⊥ = cc in absurd z
-  word_action w a (seats.Homing (k ∷ ks)) e q = let z : ⊥ = cc in absurd z
-  word_action w a (seats.Returning []) e q = let z : ⊥ = cc in absurd z
-  word_action w a (seats.Returning (k ∷ ks)) e q = let z : ⊥ = cc in absurd z
-  word_action w a s e q = refl
+  pub word_action : (w : World V) (a : ℕ) (s : Stage V) → next_of s ≡ next.Word → step_action w a s ≡ Some (moves a)
+  word_action w a seats.Idle e = let z : ⊥ = cc in absurd z
+  word_action w a seats.Open e = let z : ⊥ = cc in absurd z
+  word_action w a (seats.Trying asked n) e = let z : ⊥ = cc in absurd z
+  word_action w a (seats.Copying asked) e = let z : ⊥ = cc in absurd z
+  word_action w a (seats.Loading o []) e = let z : ⊥ = cc in absurd z
+  word_action w a (seats.Loading o (d ∷ es)) e = refl
+  word_action w a (seats.Gating got [] n) e = let z : ⊥ = cc in absurd z
+  word_action w a (seats.Gating got (k ∷ ks) n) e = let z : ⊥ = cc in absurd z
+  word_action w a (seats.Ready ks) e = let z : ⊥ = cc in absurd z
+  word_action w a (seats.Homing []) e = let z : ⊥ = cc in absurd z
+  word_action w a (seats.Homing (k ∷ ks)) e = let z : ⊥ = cc in absurd z
+  word_action w a (seats.Returning []) e = let z : ⊥ = cc in absurd z
+  word_action w a (seats.Returning (k ∷ ks)) e = let z : ⊥ = cc in absurd z
+  word_action w a s e = refl
 
   module _ (key : Opening V) (a : ℕ) (u : World V) (h : IsReached (world_at key) a u) where
     abbrev there : World V
@@ -103,12 +104,12 @@ module _ {V : Type 0} where
     own_gates k = sym (h.alike.boosted.gates k) ∙ (linked.seats a).gates k ∙ ap (λ (x : Seat V). has (gates_of x.stage) k) h.alike.seat
 
     -- where a step of the words is due the word actor does not rest
-    pub own_due : next_of (u.seats a).stage ≡ next.Word → is_loading (u.seats a).stage ≡ false
+    pub own_due : next_of (u.seats a).stage ≡ next.Word
         → plan (actor_of u a) (actor_of u a).place ≡ Rests → ⊥
-    own_due due quiet e =
+    own_due due e =
         let st : (there.seats a).stage ≡ (u.seats a).stage = ap (λ (x : Seat V). x.stage) h.alike.seat in
         let action : step_action there a (there.seats a).stage ≡ Some (moves a) =
-        word_action there a (there.seats a).stage (ap next_of st ∙ due) (ap is_loading st ∙ quiet) in
+        word_action there a (there.seats a).stage (ap next_of st ∙ due) in
         let may : notice there.boosted.words (actor_of there a) (actor_of there a).place ≡ NoTransaction → ⊥ =
         subst (λ (o : Option (Action (Asked V))). IsAllowed there (there.seats a).stage o) action
         (world_allows (blocks_at key) key.shape.value.clock key.state.value.words key.state.value.held h.events a h.stripes) in

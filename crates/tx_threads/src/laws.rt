@@ -1,8 +1,8 @@
 //! What holds of the own world of a seat's actor.
-ghost use Rattle.std.specs.Prelude.{◌≡◌, ℕ, false};
+ghost use Rattle.std.specs.Prelude.{◌≡◌, ℕ};
 ghost use Rattle.word_machine.specs.World.{Rests, plan};
 ghost use Rattle.replay_log.specs.Seats.{World, actor_of};
-ghost use Rattle.actor_words.specs.Dispatch.{is_loading, next_of};
+ghost use Rattle.actor_words.specs.Dispatch.{next_of};
 ghost use Rattle.actor_words.specs.declared.next.Next.TheVariants.{Word};
 ghost use Rattle.tx_table.specs.declared.view.Opening.{Opening};
 ghost use Rattle.tx_table.specs.Opening.{world_at};
@@ -12,5 +12,5 @@ ghost use Rattle.tx_table.specs.Shown.{IsReached};
 /// [`crate::step_words`] may be called.
 pub fn steps_are_due<V>()
     ensures { (key : Opening V) (a : ℕ) (u : World V) → IsReached (world_at key) a u → next_of (u.seats a).stage ≡ Word →
-        is_loading (u.seats a).stage ≡ false → plan (actor_of u a) (actor_of u a).place ≡ Rests → ⊥ }
+        plan (actor_of u a) (actor_of u a).place ≡ Rests → ⊥ }
 {}

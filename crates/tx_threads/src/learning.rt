@@ -1,6 +1,6 @@
 //! What an actor makes of the number that its step found.
 ghost use Rattle.std.specs.Prelude.{◌≡◌, ℕ, ◌+◌, ◌<◌, ◌≤◌, ◌^◌, length};
-ghost use Rattle.step_core.specs.Sound.{Fits};
+ghost use Rattle.step_core.specs.Sound.{Fits, IsLoad, KeepsRoom};
 ghost use Rattle.step_core.specs.declared.actor.Place.TheVariants.{Check, First, Lock, Release, Store, Take, Undo};
 ghost use Rattle.tx_threads.specs.Dues.{HasClock, Learns};
 
@@ -102,12 +102,14 @@ fn learn_to_undo(actor: &mut Actor, found: u64) -> Heard
     Ok(actor.undo())
 }
 
-/// The actor's step was taken, and found this number. A store finds none that anybody learns.
+/// The actor's step was taken, and found this number. A store finds none that anybody learns. A load takes no room but for the read that
+/// it tells.
 pub fn learn(actor: &mut Actor, found: u64) -> Heard
     requires fits { (n : ℕ) × Fits n actor.old }
     requires clock { HasClock found actor.old }
     ensures learns { Learns actor.old found actor.new result }
     ensures fits { (n : ℕ) → Fits n actor.old → Fits n actor.new }
+    ensures room { IsLoad actor.old.place → KeepsRoom actor.old actor.new }
 {
     match actor.place {
         Place::Begin => actor.begin(found),

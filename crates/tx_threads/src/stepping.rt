@@ -2,7 +2,7 @@
 ghost use Rattle.std.specs.Prelude.{◌≡◌, ◌≢◌, ℕ, ◌<◌};
 ghost use Rattle.word_machine.specs.World.{Rests, plan};
 ghost use Rattle.step_core.specs.Shown.{actor_of};
-ghost use Rattle.step_core.specs.Sound.{Fits};
+ghost use Rattle.step_core.specs.Sound.{Fits, IsLoad, KeepsRoom};
 ghost use Rattle.tx_table.specs.Seated.{Owns, locations_in, opening_of, view};
 ghost use Rattle.tx_threads.specs.Touches.{IsNext, StepsWords};
 
@@ -28,6 +28,7 @@ pub fn step_words<V: Value>(
     requires due { IsNext (opening_of table.now) seat.old actor.old }
     ensures steps { StepsWords (opening_of table.now) seat.old actor.old seat.new actor.new result }
     ensures fits { (n : ℕ) → Fits n actor.old → Fits n actor.new }
+    ensures room { IsLoad actor.old.place → KeepsRoom actor.old actor.new }
 {
     let due = next_due(actor);
     let found = touch(table, seat, due);

@@ -1,7 +1,9 @@
 -- A request of a seat's actor: the own world takes it in as the definitions do. It finds nothing, so it is the same to the actor in the
 -- world that events have reached, and some events lead to what it leaves.
-use Rattle.std.proofs.Common.{◌≡◌, ℕ, ◌<◌, false, List, [], ◌∷◌, ◌++◌, refl, sym, ap, ◌∙◌, subst}
+use Rattle.std.proofs.Common.{◌≡◌, ℕ, ◌+◌, ◌<◌, ◌≤◌, false, List, [], ◌∷◌, ◌++◌, refl, sym, ap, ◌∙◌, subst}
 use Rattle.word_machine.specs.Actor as machine
+use Rattle.word_machine.specs.Actor.{clock_limit}
+use Rattle.word_machine.specs.Cells.{ClockCell}
 use Rattle.word_machine.proofs.Declared.{has_no_sets}
 use Rattle.seq_model.specs.declared.event.Event.{Event}
 use Rattle.seq_model.specs.declared.event.Event.TheVariants.{Ask, Step, Starve}
@@ -31,13 +33,15 @@ use Rattle.tx_table.specs.declared.table.TxTable.{TxTable}
 use Rattle.tx_table.specs.Opening.{blocks_at, world_at}
 use Rattle.tx_table.specs.Seated.{acts, opening_of, view}
 use Rattle.tx_table.specs.Seated as seated
-use Rattle.tx_table.specs.Shown.{IsReached}
+use Rattle.tx_table.specs.Shown.{IsReached, SameBases}
+use Rattle.tx_table.proofs.Keeps.{asked_bases}
 use Rattle.tx_table.specs.declared.view.View.{View}
 use Rattle.tx_table.specs.Turns.{asked_all, lone}
 use Rattle.tx_table.specs.Turns as turns
 use Rattle.tx_turns.specs.Asked.{Answers, HasAsked, HasTaken, Starved}
 use Rattle.tx_turns.specs.Ties.{Ties, laid_in}
-use Rattle.tx_turns.proofs.TurnLemmas.{laid_as, own_place, seat_by}
+use Rattle.actor_turns.proofs.SeatLemmas.{asked_as, starved_as}
+use Rattle.tx_turns.proofs.TurnLemmas.{laid_as, own_place}
 
 module _ {V : Type 0} where
   asked_last : (a : ℕ) (w : World V) (es : List (Event V)) (e : Event V)
@@ -53,18 +57,32 @@ module _ {V : Type 0} where
       ∙ asked_last (seated.actor s) (lone (seated.actor s) o (view s).turns) (seated.list_of s.asked) e
 
   reached_by : (o : World V) (a : ℕ) (w : World V) (e : Event V) → OnlyOwn a w (happens w e).0
-      → ((v : World V) → Alike a v w → Alike a (happens v e).0 (happens w e).0) → IsReached o a w → IsReached o a (happens w e).0
-  reached_by o a w e calm alike h = record {
-    stripes = h.stripes;
-    shape = (calm.words ∙ h.shape.0, calm.blocks ∙ h.shape.1);
-    events = h.events ++ e ∷ [];
-    alike = subst (λ (z : World V). Alike a z (happens w e).0) (sym (run-append h.events (e ∷ []) o)) (alike (run o h.events) h.alike);
-  }
+      → ((v : World V) → Alike a v w → Alike a (happens v e).0 (happens w e).0) → (h : IsReached o a w)
+      → SameBases a (happens (run o h.events) e).0 (happens w e).0 → OnlyOwn a (run o h.events) (happens (run o h.events) e).0
+      → IsReached o a (happens w e).0
+  reached_by o a w e calm alike h bases same =
+      let there : (happens (run o h.events) e).0 ≡ run o (h.events ++ e ∷ []) = sym (run-append h.events (e ∷ []) o) in
+      record {
+        opens = h.opens;
+        stripes = h.stripes;
+        shape = (calm.words ∙ h.shape.0, calm.blocks ∙ h.shape.1);
+        events = h.events ++ e ∷ [];
+        alike = subst (λ (z : World V). Alike a z (happens w e).0) there (alike (run o h.events) h.alike);
+        bases = subst (λ (z : World V). SameBases a z (happens w e).0) there bases;
+        clock = subst (λ (z : World V). z.boosted.words.clock ≤ clock_limit + 64) there
+            (subst (λ (n : ℕ). n ≤ clock_limit + 64) (sym (same.cells ClockCell)) h.clock);
+      }
 
   reached_own : (o : World V) (a : ℕ) (w : World V) (e : Event V) → IsReached o a w → IsReached o a (happens w (turns.own a e)).0
-  reached_own o a w (Ask b q) h = reached_by o a w (Ask a q) (one_step w (Ask a q)) (λ v k. (own_event a v w (Ask a q) k refl).0) h
-  reached_own o a w (Step b) h = reached_by o a w (Starve a) (one_step w (Starve a)) (λ v k. (own_event a v w (Starve a) k refl).0) h
-  reached_own o a w (Starve b) h = reached_by o a w (Starve a) (one_step w (Starve a)) (λ v k. (own_event a v w (Starve a) k refl).0) h
+  reached_own o a w (Ask b q) h =
+      reached_by o a w (Ask a q) (one_step w (Ask a q)) (λ v k. (own_event a v w (Ask a q) k refl).0) h
+      (asked_bases a (Ask b q ∷ []) (run o h.events) w h.alike h.bases) (one_step (run o h.events) (Ask a q))
+  reached_own o a w (Step b) h =
+      reached_by o a w (Starve a) (one_step w (Starve a)) (λ v k. (own_event a v w (Starve a) k refl).0) h
+      (asked_bases a (Step b ∷ []) (run o h.events) w h.alike h.bases) (one_step (run o h.events) (Starve a))
+  reached_own o a w (Starve b) h =
+      reached_by o a w (Starve a) (one_step w (Starve a)) (λ v k. (own_event a v w (Starve a) k refl).0) h
+      (asked_bases a (Starve b ∷ []) (run o h.events) w h.alike h.bases) (one_step (run o h.events) (Starve a))
 
   -- the seat is tied to the actor that is its own world's by then
   pub taken_tied : (t : TxTable V) (s u : table.Seat V) (r q : TxActor V) (e : Event V) → Ties t s r → HasTaken s e u
@@ -82,21 +100,13 @@ module _ {V : Type 0} where
       }
 
   -- ---- a want of memory
-  starved_at : (w : World V) (a : ℕ) (x y : Seat V) (t : own.Stage V)
-      → starve_at w a (seat_by x y t) (seat_by x y t).stage ≡ starve_at w a (at_stage y (stage_of t)) (stage_of t)
-  starved_at w a x y (stage.Loading o left) = refl
-  starved_at w a x y (stage.Storing homes) = refl
-  starved_at w a x y (stage.Homing homes) = refl
-  starved_at w a x y stage.Releasing = refl
-  starved_at w a x y t = refl
-
   pub starved : (t : TxTable V) (s u : table.Seat V) (r q : TxActor V) (n : Told V) → Ties t s r → HasTaken s (Starve 0) u
       → IsRunning (laid_in t) q → Starves r q n → Ties t u q × Starved (opening_of t) s u n
   starved t s u r q n ties has running starves =
       let a = seated.actor s in
       let w = acts (opening_of t) s in
       let e : happens w (Starve a) ≡ starve_at w a (seat_of r) (stage_of r.stage) =
-      ap (λ (x : Seat V). starve_at w a x x.stage) ties.runs.0 ∙ starved_at w a (w.seats a) (seat_of r) r.stage in
+      starved_as w a r ties.runs in
       let there = starves a w ties.runs in (
         taken_tied t s u r q (Starve 0) ties has running (subst (λ (z : After V). Runs a q z.0) (sym e) there.0),
         record {
@@ -105,20 +115,6 @@ module _ {V : Type 0} where
           tells = there.1 ∙ sym (ap (λ (z : After V). z.1) e);
         },
       )
-
-  -- it is made of the actor's own seat
-  asked_at : (w : World V) (a : ℕ) (q : Request V) (x y : Seat V) (t : own.Stage V)
-      → ask_at w a (seat_by x y t) (seat_by x y t).stage q ≡ ask_at w a (at_stage y (stage_of t)) (stage_of t) q
-  asked_at w a q x y (stage.Loading o left) = refl
-  asked_at w a q x y (stage.Storing homes) = refl
-  asked_at w a q x y (stage.Homing homes) = refl
-  asked_at w a q x y stage.Releasing = refl
-  asked_at w a q x y t = refl
-
-  asked_as : (w : World V) (a : ℕ) (q : Request V) (r : TxActor V) → Runs a r w
-      → happens w (Ask a q) ≡ ask_at w a (seat_of r) (stage_of r.stage) q
-  asked_as w a q r runs =
-      ap (λ (x : Seat V). ask_at w a x x.stage q) runs.0 ∙ asked_at w a q (w.seats a) (seat_of r) r.stage
 
   -- a request that makes q of the actor r
   pub asked : (t : TxTable V) (s u : table.Seat V) (r q : TxActor V) (n : Told V) (x : Request V) (f : ℕ → World V → After V)

@@ -65,22 +65,21 @@ module _ {V : Type 0} where
   same_world u a (Ready ks) e = let z : ⊥ = cc in absurd z
   same_world u a s e = refl
 
-  pub word_spot : (u : World V) (a : ℕ) (s : Stage V) → next_of s ≡ next.Word → is_loading s ≡ false
-      → spot_at a u s ≡ spot_of (word_of (deed_of u a))
-  word_spot u a s e quiet =
-      let is : atomic_action a u s ≡ Some (moves a) = same_action u a s e ∙ word_action u a s e quiet in
+  pub word_spot : (u : World V) (a : ℕ) (s : Stage V) → next_of s ≡ next.Word → spot_at a u s ≡ spot_of (word_of (deed_of u a))
+  word_spot u a s e =
+      let is : atomic_action a u s ≡ Some (moves a) = same_action u a s e ∙ word_action u a s e in
       (λ i. spot_by a (same_world u a s e i) (is i))
 
   -- the own world of s has x as its word actor
   pub next_is : (o : World V) (s : Seat V) (x : Actor) → next_of (stage_of (acts o s) (actor s)) ≡ next.Word
-      → is_loading (stage_of (acts o s) (actor s)) ≡ false → actor_of (acts o s) (actor s) ≡ words.actor_of x → IsNext o s x
-  next_is o s x e quiet is d h =
+      → actor_of (acts o s) (actor s) ≡ words.actor_of x → IsNext o s x
+  next_is o s x e is d h =
       let u = acts o s in
       let a = actor s in
       let p = stage_of u a in
       let same : deed_of u a ≡ plan (words.actor_of x) (words.actor_of x).place = ap (λ (y : machine.Actor). plan y y.place) is in
       record {
-        spot = word_spot u a p e quiet ∙ ap (λ (f : Deed). spot_of (word_of f)) same ∙ spot_is d _ h;
+        spot = word_spot u a p e ∙ ap (λ (f : Deed). spot_of (word_of f)) same ∙ spot_is d _ h;
         becomes = λ k. ap (λ (v : World V). becomes (deed_of v a) k) (same_world u a p e)
             ∙ ap (λ (f : Deed). becomes f k) same ∙ becomes_is d _ h k;
       }

@@ -53,6 +53,7 @@ use Rattle.tx_threads.proofs.OwnLemmas.{own_due, own_gates, own_ok}
 use Rattle.tx_threads.specs.Dues.{IsDeed}
 use Rattle.tx_threads.specs.Touches.{Finds, IsNext, StepsWords}
 use Rattle.tx_threads.specs.declared.due.Due.{Due}
+use Rattle.actor_turns.proofs.SeatLemmas.{next_as, seat_by, stage_by}
 use Rattle.tx_turns.specs.Ties.{IsOnWord, Ties, Turned, commits, commits_at, laid_in}
 use Rattle.tx_turns.proofs.DueLemmas.{clock_left, next_is, word_spot}
 use Rattle.tx_turns.proofs.FoundLemmas.{LocksAt, found_cell, knows_moved, learns_found, may_go_on, runs_found, step_gates, step_learns_cell, step_tells_cell, tells_found}
@@ -69,20 +70,6 @@ some_word (StoreValue l v after) ne = (ValueCell l, refl)
 some_word (StoreLock l w after) ne = (LockCell l, refl)
 
 module _ {V : Type 0} where
-  -- ---- the seat of an actor
-  -- the seat in a world that has x for it, of an actor that shows y at the stage t
-  abbrev pub seat_by : Seat V → Seat V → own.Stage V → Seat V
-  seat_by x y t =
-      if is_recorded t then record (at_stage y (stage_in x.stage t)) { calls = x.calls; copied = x.copied }
-      else at_stage y (stage_in x.stage t)
-
-  stage_of_seat : (x y : Seat V) (t : own.Stage V) → is_loading (stage_of t) ≡ false → (seat_by x y t).stage ≡ stage_of t
-  stage_of_seat x y (stage.Loading o left) e = absurd (true≢false e)
-  stage_of_seat x y t e = refl
-
-  pub stage_by : (x : Seat V) (r : TxActor V) → is_loading (stage_of r.stage) ≡ false → x ≡ seat_at x r → x.stage ≡ stage_of r.stage
-  stage_by x r quiet is = ap (λ (z : Seat V). z.stage) is ∙ stage_of_seat x (seat_of r) r.stage quiet
-
   -- what it commits
   ends_at : (a : ℕ) (x : Seat V) (r : TxActor V) (t : own.Stage V)
       → ends_of a (seat_by x (seat_of r) t) (seat_by x (seat_of r) t).stage ≡ commits_at a r t
@@ -218,20 +205,33 @@ module _ {V : Type 0} where
       ∙ ap (λ (p : Stage V). has (gates_of p) k) (own_stage t s r quiet ties)
 
   -- a step of the words is due to r, and it is what the own world does next
-  pub word_is_due : (t : TxTable V) (s : table.Seat V) (r : TxActor V) → next_of (stage_of r.stage) ≡ next.Word
-      → is_loading (stage_of r.stage) ≡ false → Ties t s r
+  pub word_is_due : (t : TxTable V) (s : table.Seat V) (r : TxActor V) → next_of (stage_of r.stage) ≡ next.Word → Ties t s r
       → plan (words.actor_of r.words) (words.actor_of r.words).place ≡ Rests → ⊥
-  word_is_due t s r due quiet ties e =
+  word_is_due t s r due ties e =
       let a = seated.actor s in
       let w = acts (opening_of t) s in
-      let st = own_stage t s r quiet ties in
-      own_due t.whole.shared.key a w ties.reached (ap next_of st ∙ due) (ap is_loading st ∙ quiet)
+      own_due t.whole.shared.key a w ties.reached (next_as w a r ties.runs ∙ due)
       (ap (λ (z : machine.Actor). plan z z.place) ties.runs.1 ∙ e)
 
-  pub word_is_next : (t : TxTable V) (s : table.Seat V) (r : TxActor V) → next_of (stage_of r.stage) ≡ next.Word
-      → is_loading (stage_of r.stage) ≡ false → Ties t s r → IsNext (opening_of t) s r.words
-  word_is_next t s r due quiet ties =
-      let st = own_stage t s r quiet ties in next_is (opening_of t) s r.words (ap next_of st ∙ due) (ap is_loading st ∙ quiet) ties.runs.1
+  pub word_is_next : (t : TxTable V) (s : table.Seat V) (r : TxActor V) → next_of (stage_of r.stage) ≡ next.Word → Ties t s r
+      → IsNext (opening_of t) s r.words
+  word_is_next t s r due ties =
+      next_is (opening_of t) s r.words (next_as (acts (opening_of t) s) (seated.actor s) r ties.runs ∙ due) ties.runs.1
+
+  -- it is on this word
+  pub spot_is_word : (t : TxTable V) (s : table.Seat V) (r : TxActor V) → next_of (stage_of r.stage) ≡ next.Word → Ties t s r
+      → let x = words.actor_of r.words in
+      (c : Cell) × (word_of (plan x x.place) ≡ Some c) × (spot (seated.actor s) (acts (opening_of t) s) ≡ Word c)
+  spot_is_word t s r due ties =
+      let a = seated.actor s in
+      let w = acts (opening_of t) s in
+      let x = words.actor_of r.words in
+      let some = some_word (plan x x.place) (word_is_due t s r due ties) in (
+        some.0,
+        some.1,
+        word_spot w a (w.seats a).stage (next_as w a r ties.runs ∙ due)
+            ∙ (ap (λ (z : machine.Actor). spot_of (word_of (plan z z.place))) ties.runs.1 ∙ ap spot_of some.1),
+      )
 
   pub word_turned : AreSteps V → (t : TxTable V) (s u : table.Seat V) (r q : TxActor V) (y : Actor)
       (told : Result (Option WordAnswer) WordRefusal) (n : Told V)
@@ -243,12 +243,9 @@ module _ {V : Type 0} where
       let w = acts (opening_of t) s in
       let x = words.actor_of r.words in
       let f = step.touches.found in
-      let st = own_stage t s r quiet ties in
-      let next_due = word_is_next t s r due quiet ties in
-      let some = some_word (plan x x.place) (word_is_due t s r due quiet ties) in
-      let here : spot a w ≡ Word some.0 =
-      word_spot w a (w.seats a).stage (ap next_of st ∙ due) (ap is_loading st ∙ quiet)
-      ∙ (ap (λ (z : machine.Actor). spot_of (word_of (plan z z.place))) ties.runs.1 ∙ ap spot_of some.1) in
+      let next_due = word_is_next t s r due ties in
+      let some = spot_is_word t s r due ties in
+      let here : spot a w ≡ Word some.0 = some.2 in
       let after = planted_step steps w a r q y told n step.due step.number f some.0 due quiet ties.runs
       (locks_at w.words w.blocks (w.seats a) (actor_of w a) (w.boosted.shadows a) r.stage (actor_of w a).place (own_place t s r quiet ties))
       (own_held t s r quiet ties) step.deed some.1 step.touches.finds step.learns.actor step.learns.told heard in

@@ -10,7 +10,8 @@ use Rattle.tx_actor.specs.Having.{KeepsFrom}
 use Rattle.tx_actor.specs.Running.{stage_of}
 use Rattle.tx_actor.specs.declared.actor.Stage.{Stage}
 use Rattle.tx_actor.specs.declared.actor.TxActor.{TxActor}
-use Rattle.running_world.proofs.HomeLemmas.{home_turns, log_below, log_within, quiet_home, recorded_home}
+use Rattle.running_world.proofs.HomeLemmas.{home_turns, log_below, log_within}
+use Rattle.actor_turns.proofs.HomeLemmas.{quiet_home, recorded_home}
 use Rattle.running_world.proofs.homes.go_home.Goals as goal
 
 pub go_home-requires-clause-prepared : goal.go_home-requires-clause-prepared

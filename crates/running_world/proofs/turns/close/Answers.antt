@@ -3,7 +3,8 @@ use Rattle.std.specs.declared.alloc.Global.{Global}
 use Rattle.std.specs.declared.vec.Vec.{Vec}
 use Rattle.tx_actor.specs.Dispatch.{Records}
 use Rattle.tx_actor.specs.declared.actor.Stage.TheVariants as stage
-use Rattle.running_world.proofs.TurnLemmas.{running_made, stage_due, stage_quiet, turns_made}
+use Rattle.running_world.proofs.TurnLemmas.{turns_made}
+use Rattle.actor_turns.proofs.StepLemmas.{running_made, stage_due, stage_quiet}
 use Rattle.running_world.proofs.turns.close.Goals as goal
 
 pub step_word-told-requires-clause-due : goal.step_word-told-requires-clause-due

@@ -1,4 +1,5 @@
-use Rattle.running_world.proofs.TurnLemmas.{running_made, turns_made}
+use Rattle.running_world.proofs.TurnLemmas.{turns_made}
+use Rattle.actor_turns.proofs.StepLemmas.{running_made}
 use Rattle.running_world.proofs.turns.commit.Goals as goal
 
 pub returns-clause-turns : goal.returns-clause-turns

@@ -1,4 +1,5 @@
-use Rattle.running_world.proofs.TurnLemmas.{put_turns, quiet_put}
+use Rattle.running_world.proofs.TurnLemmas.{put_turns}
+use Rattle.actor_turns.proofs.StepLemmas.{quiet_put}
 use Rattle.tx_actor.specs.Running.{stage_of}
 use Rattle.running_world.proofs.turns.put_gate.Goals as goal
 

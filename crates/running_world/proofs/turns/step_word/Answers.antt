@@ -1,6 +1,7 @@
 use Rattle.std.proofs.Common.{◌∙◌, sym, subst}
 use Rattle.step_core.specs.Sound.{Fits}
-use Rattle.running_world.proofs.TurnLemmas.{grows_less, running_moved, word_turns}
+use Rattle.running_world.proofs.TurnLemmas.{grows_less, word_turns}
+use Rattle.actor_turns.proofs.StepLemmas.{running_moved}
 use Rattle.running_world.proofs.turns.step_word.Goals as goal
 
 pub step-told-requires-clause-fits : goal.step-told-requires-clause-fits

@@ -1,4 +1,5 @@
-use Rattle.running_world.proofs.TurnLemmas.{try_turns, quiet_try}
+use Rattle.running_world.proofs.TurnLemmas.{try_turns}
+use Rattle.actor_turns.proofs.StepLemmas.{quiet_try}
 use Rattle.tx_actor.specs.Running.{stage_of}
 use Rattle.running_world.proofs.turns.try_gate.Goals as goal
 

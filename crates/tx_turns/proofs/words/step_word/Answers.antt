@@ -13,11 +13,11 @@ step_words-told-requires-clause-fits g c = c.requires.ties.running.fits
 
 pub step_words-told-requires-clause-some : goal.step_words-told-requires-clause-some
 step_words-told-requires-clause-some g c =
-    word_is_due c.args.table.now c.args.seat.now c.args.actor.now c.requires.due c.requires.word c.requires.ties
+    word_is_due c.args.table.now c.args.seat.now c.args.actor.now c.requires.due c.requires.ties
 
 pub step_words-told-requires-clause-due : goal.step_words-told-requires-clause-due
 step_words-told-requires-clause-due g c =
-    word_is_next c.args.table.now c.args.seat.now c.args.actor.now c.requires.due c.requires.word c.requires.ties
+    word_is_next c.args.table.now c.args.seat.now c.args.actor.now c.requires.due c.requires.ties
 
 pub stepped-requires : goal.stepped-requires
 stepped-requires g c = (running_moved (laid_in c.args.table.now) c.args.actor.now c.step_words-told.new.actor c.step_words-told.ensures.fits

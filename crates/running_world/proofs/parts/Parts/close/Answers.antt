@@ -4,11 +4,12 @@ use Rattle.seq_model.specs.Runs.{IsInCommitOrder, insert_record}
 use Rattle.running_world.proofs.PartsLemmas.{closing_ends, closing_record, more_records, starved_then, step_happens, with_turn}
 use Rattle.running_world.proofs.TraceLemmas.{serial_at}
 use Rattle.running_world.proofs.WorldLemmas.{may_take, shape_laid}
-use Rattle.running_world.proofs.OwnTurnLemmas.{calm_at, keeps_step}
+use Rattle.running_world.proofs.OwnTurnLemmas.{keeps_step}
+use Rattle.actor_turns.proofs.OwnLemmas.{calm_at}
 use Rattle.running_world.proofs.RoomLemmas.{not_first, room_kept}
 use Rattle.tx_actor.specs.Running.{stage_of}
 use Rattle.actor_words.specs.declared.next.Next.TheVariants as next
-use Rattle.running_world.proofs.TurnLemmas.{stage_due, stage_quiet}
+use Rattle.actor_turns.proofs.StepLemmas.{stage_due, stage_quiet}
 use Rattle.tx_actor.specs.declared.actor.Stage.TheVariants as stage
 use Rattle.running_world.proofs.parts.Parts.close.Goals as goal
 

@@ -9,13 +9,14 @@ use Rattle.running_world.proofs.PrepareLemmas.{has_room_made, room_made}
 use Rattle.running_world.proofs.RoomLemmas.{room_first}
 use Rattle.running_world.proofs.TraceLemmas.{serial_at}
 use Rattle.running_world.proofs.WorldLemmas.{may_take, shape_laid}
-use Rattle.running_world.proofs.OwnTurnLemmas.{calm_at, keeps_step, refused_store}
+use Rattle.running_world.proofs.OwnTurnLemmas.{keeps_step}
+use Rattle.actor_turns.proofs.OwnLemmas.{calm_at, refused_store}
 use Rattle.tx_actor.specs.Keeping.{NamesAmong}
 use Rattle.tx_actor.specs.Running.{stage_of}
 use Rattle.tx_actor.specs.declared.actor.TxActor.{TxActor}
 use Rattle.running_world.specs.Homes.{HasRoomDue, HasRoomLeft}
 use Rattle.actor_words.specs.declared.next.Next.TheVariants as next
-use Rattle.running_world.proofs.TurnLemmas.{quiet_first}
+use Rattle.actor_turns.proofs.StepLemmas.{quiet_first}
 use Rattle.running_world.proofs.parts.Parts.commit.Goals as goal
 
 pub commit-requires-clause-running : goal.commit-requires-clause-running

@@ -6,7 +6,8 @@ use Rattle.tx_actor.specs.declared.actor.Stage.{Stage}
 use Rattle.tx_actor.specs.declared.actor.Told.TheVariants.{Quiet}
 use Rattle.world_table.specs.declared.table.Table.{Table}
 use Rattle.running_world.specs.Parts.{Happens}
-use Rattle.running_world.proofs.CopyTurnLemmas.{copying_is, named_copy, quiet_copy}
+use Rattle.actor_turns.proofs.CopyLemmas.{copying_is, quiet_copy}
+use Rattle.actor_turns.proofs.NameLemmas.{named_copy}
 use Rattle.running_world.proofs.OwnTurnLemmas.{keeps_starve}
 use Rattle.running_world.proofs.PartsLemmas.{none_copying, passes, same_cells, starve_happens, with_turn}
 use Rattle.running_world.proofs.GateLemmas.{room_copy}

@@ -2,11 +2,12 @@ use Rattle.std.proofs.Common.{◌∙◌, [], ◌∷◌, ◌++◌, ap, refl}
 use Rattle.std.proofs.lemmas.Option.{slice_get_read}
 use Rattle.running_world.proofs.PartsLemmas.{leaving_ends, leaving_record, more_aborted, starved_then, step_happens, with_turn}
 use Rattle.running_world.proofs.WorldLemmas.{may_take, shape_laid}
-use Rattle.running_world.proofs.OwnTurnLemmas.{calm_at, keeps_step}
+use Rattle.running_world.proofs.OwnTurnLemmas.{keeps_step}
+use Rattle.actor_turns.proofs.OwnLemmas.{calm_at}
 use Rattle.running_world.proofs.RoomLemmas.{not_first, room_kept}
 use Rattle.tx_actor.specs.Running.{stage_of}
 use Rattle.actor_words.specs.declared.next.Next.TheVariants as next
-use Rattle.running_world.proofs.TurnLemmas.{stage_due, stage_quiet}
+use Rattle.actor_turns.proofs.StepLemmas.{stage_due, stage_quiet}
 use Rattle.tx_actor.specs.declared.actor.Stage.TheVariants as stage
 use Rattle.running_world.proofs.parts.Parts.leave.Goals as goal
 

@@ -2,7 +2,8 @@ use Rattle.std.proofs.Common.{refl}
 use Rattle.std.proofs.lemmas.Option.{slice_get_read}
 use Rattle.running_world.proofs.PartsLemmas.{none_at_word, passes}
 use Rattle.running_world.proofs.WorldLemmas.{may_take, shape_laid}
-use Rattle.running_world.proofs.OwnTurnLemmas.{calm_at, keeps_step}
+use Rattle.running_world.proofs.OwnTurnLemmas.{keeps_step}
+use Rattle.actor_turns.proofs.OwnLemmas.{calm_at}
 use Rattle.running_world.proofs.RoomLemmas.{not_first, room_kept}
 use Rattle.tx_actor.specs.Running.{stage_of}
 use Rattle.actor_words.specs.declared.next.Next.TheVariants as next

@@ -2,9 +2,11 @@ use Rattle.std.proofs.Common.{arith, length, refl}
 use Rattle.std.proofs.lemmas.Option.{slice_get_read}
 use Rattle.tx_actor.specs.Running.{stage_of}
 use Rattle.running_world.proofs.PartsLemmas.{none_at_put, passes, same_cells}
-use Rattle.running_world.proofs.TurnLemmas.{quiet_put}
-use Rattle.running_world.proofs.WorldLemmas.{named_put, shape_laid}
-use Rattle.running_world.proofs.OwnTurnLemmas.{calm_at, keeps_step}
+use Rattle.actor_turns.proofs.StepLemmas.{quiet_put}
+use Rattle.running_world.proofs.WorldLemmas.{shape_laid}
+use Rattle.actor_turns.proofs.NameLemmas.{named_put}
+use Rattle.running_world.proofs.OwnTurnLemmas.{keeps_step}
+use Rattle.actor_turns.proofs.OwnLemmas.{calm_at}
 use Rattle.running_world.proofs.RoomLemmas.{not_first, room_kept}
 use Rattle.actor_words.specs.declared.next.Next.TheVariants as next
 use Rattle.running_world.proofs.parts.Parts.put_gate.Goals as goal

@@ -1,5 +1,5 @@
 use Rattle.std.proofs.Common.{sym, ◌∙◌}
-use Rattle.running_world.proofs.TurnLemmas.{reached_linked}
+use Rattle.actor_turns.proofs.StepLemmas.{reached_linked}
 use Rattle.running_world.proofs.parts.Parts.state.Goals as goal
 
 pub returns-in-Ok : goal.returns-in-Ok

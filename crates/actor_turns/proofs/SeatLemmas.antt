@@ -20,7 +20,7 @@ use Rattle.tx_actor.specs.declared.actor.TxActor.{TxActor}
 
 module _ {V : Type 0} where
   -- the seat in a world that has x for it, of an actor that shows y at the stage t
-  abbrev seat_by : Seat V → Seat V → own.Stage V → Seat V
+  abbrev pub seat_by : Seat V → Seat V → own.Stage V → Seat V
   seat_by x y t =
       if is_recorded t then record (at_stage y (stage_in x.stage t)) { calls = x.calls; copied = x.copied }
       else at_stage y (stage_in x.stage t)
