@@ -1,0 +1,119 @@
+-- A call that is copied under its gate, and the gate put back with its base as it was.
+--
+-- The base in hand is that of the collection in each world that is to the actor as its own, with its bases: so what the call asks of its
+-- actor is there before the step, and the step is what the actor made of itself (`copy_can`, `copy_tied`). The gate was the only one, so
+-- nothing is out afterwards.
+use Rattle.std.proofs.Common.{◌≡◌, ℕ, List, [], ◌∷◌, None, refl, sym, ap, ◌∙◌, subst}
+use Rattle.atomic_table.specs.Table.{rest}
+use Rattle.collection_machine.specs.Content.{has}
+use Rattle.replay_log.specs.declared.base.Base.{Base}
+use Rattle.replay_log.specs.Worlds.{run}
+use Rattle.seq_model.specs.declared.event.Event.{Event}
+use Rattle.atomic_steps.specs.Own.{Alike}
+use Rattle.actor_words.specs.Dispatch.{AreSteps, next_of}
+use Rattle.actor_words.specs.Requests.{HasNoReads}
+use Rattle.actor_words.specs.declared.next.Next.TheVariants as next
+use Rattle.actor_copies.specs.Copied.{CopiesFor, CopiesReached}
+use Rattle.actor_copies.specs.Sizes.{SizesCopies}
+use Rattle.tx_actor.specs.Copying.{CanCopyAt, HasTakenAt, StepsOnAt}
+use Rattle.tx_actor.specs.Keeping.{IsRunning}
+use Rattle.tx_actor.specs.Running.{stage_of}
+use Rattle.tx_actor.specs.Staying.{CopiesStayOwn}
+use Rattle.tx_actor.specs.declared.actor.Stage as own
+use Rattle.tx_actor.specs.declared.actor.Told.{Told}
+use Rattle.tx_actor.specs.declared.actor.TxActor.{TxActor}
+use Rattle.actor_turns.proofs.CopyLemmas.{IsBaseIn as IsBaseThere, can_copy, copy_keeps, copy_runs, copying_is, rests_to_copy}
+use Rattle.actor_turns.proofs.GatesLemmas.{has_first, step_copy_gates}
+use Rattle.actor_turns.proofs.OwnLemmas.{BlocksLaw, OthersLaw}
+use Rattle.tx_table.specs.declared.seat.Seat as table
+use Rattle.tx_table.specs.declared.table.TxTable.{TxTable}
+use Rattle.tx_table.specs.Shown.{SameBases}
+use Rattle.tx_table.specs.Seated as seated
+use Rattle.tx_table.specs.Seated.{Takes, acts, opening_of, out, view}
+use Rattle.tx_table.specs.Turns.{moved}
+use Rattle.tx_table.proofs.Gates.{puts_spot}
+use Rattle.tx_turns.specs.Ties.{IsOnWord, Ties, Turned, laid_in}
+use Rattle.gate_turns.specs.Bases.{AreBases, ArePreparedAt, IsBaseIn, gates_at, slots_of}
+use Rattle.gate_turns.specs.Own.{HasOwn}
+use Rattle.gate_turns.proofs.BasesLemmas.{are_none, prepared_none}
+use Rattle.gate_turns.proofs.GateLemmas.{copy_due, first_out, gate_tied}
+use Rattle.gate_turns.proofs.ThereLemmas.{start}
+use Rattle.gate_turns.proofs.ThereLemmas.{own_after, there_base, there_copies, there_laid, there_next, there_reached, there_runs}
+use Rattle.gate_turns.proofs.ThereLemmas.{turn_gates}
+
+module _ {V : Type 0} where
+  pub copy_first : (s : own.Stage V) (k : ℕ) → next_of (stage_of s) ≡ next.Copy k → gates_at s ≡ k ∷ []
+  copy_first s k due = (let c = copying_is s k due in ap gates_at c.1 ∙ ap (λ (j : ℕ). j ∷ []) c.2)
+
+  -- the base in hand
+  pub copy_base : (t : TxTable V) (s : table.Seat V) (r : TxActor V) (k : ℕ) (bs cs : List (Base V)) (b : Base V)
+      → next_of (stage_of r.stage) ≡ next.Copy k → HasOwn t s r bs → bs ≡ b ∷ cs
+      → AreBases (opening_of t) (acts (opening_of t) s) (k ∷ []) (b ∷ cs)
+  copy_base t s r k bs cs b due own hand =
+      let gates = copy_first r.stage k due in
+      subst (λ (z : List ℕ × List (Base V)). AreBases (opening_of t) (acts (opening_of t) s) z.0 z.1) (λ i. (gates i, hand i)) own.bases
+
+  copy_there : (t : TxTable V) (s : table.Seat V) (r : TxActor V) (ties : Ties t s r) (es : List (Event V))
+      (al : Alike (seated.actor s) (run (opening_of t) es) (acts (opening_of t) s))
+      → SameBases (seated.actor s) (run (opening_of t) es) (acts (opening_of t) s) → (k : ℕ) (b : Base V)
+      → next_of (stage_of r.stage) ≡ next.Copy k → IsBaseIn (opening_of t) (acts (opening_of t) s) k b
+      → IsBaseThere (laid_in t) (run (opening_of t) es) k b
+  copy_there t s r ties es al same k b due is =
+      there_base t s r ties es al same k b (ap (λ (ks : List ℕ). has ks k) (copy_first r.stage k due) ∙ has_first k []) is
+
+  -- what is asked of the actor
+  pub copy_can : CopiesFor V → CopiesReached V → SizesCopies V → BlocksLaw V → OthersLaw V → (t : TxTable V) (s : table.Seat V)
+      (r : TxActor V) (k : ℕ) (bs cs : List (Base V)) (b : Base V) → next_of (stage_of r.stage) ≡ next.Copy k → Ties t s r
+      → HasOwn t s r bs → bs ≡ b ∷ cs → CanCopyAt (laid_in t) r b r.stage
+  copy_can taken on sized of law t s r k bs cs b due ties own hand =
+      let h = ties.reached in
+      let is = copy_base t s r k bs cs b due own hand in
+      can_copy taken on sized of (laid_in t) (start t s r ties) _ (seated.actor s) k r b due (there_reached t s r ties h.events h.alike)
+      (there_laid t s r ties h.events h.alike) ties.running (there_runs t s r ties h.events h.alike)
+      (there_copies t s r ties h.events h.alike law own.copies) (copy_there t s r ties h.events h.alike h.bases k b due is.0)
+
+  -- a declared reader has read nothing that it keeps
+  pub copy_reads : CopiesReached V → (t : TxTable V) (s : table.Seat V) (r : TxActor V) (k : ℕ) → next_of (stage_of r.stage) ≡ next.Copy k
+      → Ties t s r → HasNoReads r.words
+  copy_reads on t s r k due ties =
+      let h = ties.reached in
+      rests_to_copy on (start t s r ties) _ (seated.actor s) k r due (there_reached t s r ties h.events h.alike)
+      (there_runs t s r ties h.events h.alike)
+
+  off_copy : (r : TxActor V) (k : ℕ) → next_of (stage_of r.stage) ≡ next.Copy k → IsOnWord (next_of (stage_of r.stage)) → ⊥
+  off_copy r k due on = subst IsOnWord due on
+
+  pub copy_tied : AreSteps V → CopiesStayOwn V → CopiesFor V → CopiesReached V → SizesCopies V → BlocksLaw V → OthersLaw V
+      → (t : TxTable V) (s u : table.Seat V) (r q : TxActor V) (n : Told V) (k : ℕ) (bs cs : List (Base V)) (b : Base V)
+      → next_of (stage_of r.stage) ≡ next.Copy k → Ties t s r → HasOwn t s r bs → bs ≡ b ∷ cs
+      → Takes (opening_of t) s (view s).clock 1 None (rest (out s)) u → StepsOnAt (laid_in t) r q n b r.stage
+      → HasTakenAt (laid_in t) r q n b r.stage → IsRunning (laid_in t) q
+      → Ties t u q × Turned (opening_of t) s r u n × HasOwn t u q cs
+  copy_tied steps stay taken on sized of law t s u r q n k bs cs b due ties own hand takes does got running =
+      let a = seated.actor s in
+      let o = opening_of t in
+      let v = laid_in t in
+      let w = acts o s in
+      let h = takes.happened in
+      let there = run o h.events in
+      let outs = rest (out s) in
+      let are = copy_base t s r k bs cs b due own hand in
+      let reached = there_reached t s r ties h.events h.alike in
+      let laid = there_laid t s r ties h.events h.alike in
+      let runs = there_runs t s r ties h.events h.alike in
+      let copies = there_copies t s r ties h.events h.alike law own.copies in
+      let is = copy_there t s r ties h.events h.alike h.bases k b due are.0 in
+      let goes = copy_runs taken on sized v (start t s r ties) there a k r q n b due ties.running does reached laid runs copies is in
+      let turn = gate_tied t s u r q n k 1 None outs ties takes (puts_spot a w k (copy_due steps t s r k due ties)) (off_copy r k due) running
+      goes in
+      let left = step_copy_gates there a k (there_next t s r ties h.events h.alike ∙ due) in
+      let gates : gates_at q.stage ≡ [] = sym (turn_gates t s u r (view s).clock 1 None outs ties takes q turn.0) ∙ left.1 in
+      let empty : cs ≡ [] = are_none o w [] cs refl are.1 in (
+        turn.0,
+        turn.1,
+        own_after t s u r (view s).clock 1 None outs ties takes q cs law
+            (copy_keeps stay taken on sized of v (start t s r ties) there a k r q n b due ties.running got reached laid runs copies is goes.0 goes.1)
+            (takes.held ∙ ((first_out s r k [] own.out (copy_first r.stage k due)).1 ∙ ap slots_of (sym gates)))
+            (subst (λ (z : List ℕ × List (Base V)). AreBases o (moved a w 1 None).0 z.0 z.1) (λ i. (sym gates i, sym empty i)) tt)
+            (subst (λ (ds : List (Base V)). ArePreparedAt q.copies.items q.stage ds) (sym empty) (prepared_none q.copies.items q.stage gates)),
+      )

@@ -1,0 +1,17 @@
+use Rattle.std.proofs.Common.{refl}
+use Rattle.std.proofs.lemmas.Option.{slice_get_read}
+use Rattle.gate_turns.proofs.HomeLemmas.{on_ok, one_alike, one_prepared}
+use Rattle.gate_turns.proofs.homes.prepare_base.Goals as goal
+
+pub returns-clause-alike : goal.returns-clause-alike
+returns-clause-alike g c =
+    let old = c.index_mut.result.now in
+    let read = slice_get_read c.args.bases.now.items _ c.args.i old refl c.requires c.index_mut.ensures.value in
+    one_alike c.args.bases.now.items c.args.i old c.prepares_base.new.base read
+    (record { shown = c.prepares_base.ensures.shown; stripes = c.prepares_base.ensures.stripes; editions = c.prepares_base.ensures.editions })
+
+pub returns-clause-prepared : goal.returns-clause-prepared
+returns-clause-prepared g c =
+    on_ok c.prepares_base.result _ _
+    (one_prepared c.args.actor.now.copies.items c.args.k c.args.i c.args.bases.now.items c.prepares_base.new.base c.requires)
+    c.prepares_base.ensures.ok

@@ -1,0 +1,125 @@
+//! Turns on the gates.
+ghost use Rattle.std.specs.Prelude.{◌≡◌, ◌<◌, ◌∷◌, IfOk, OnErr, OnOk, length};
+ghost use Rattle.actor_words.specs.Dispatch.{next_of};
+ghost use Rattle.tx_actor.specs.Running.{stage_of};
+ghost use Rattle.tx_actor.specs.declared.actor.Told.TheVariants as told;
+ghost use Rattle.tx_table.specs.Seated.{opening_of};
+ghost use Rattle.tx_turns.specs.Asked.{Starved};
+ghost use Rattle.tx_turns.specs.Ties.{Ties, Turned};
+ghost use Rattle.gate_turns.specs.Own.{HasOwn};
+
+use actor_copies::{copied_as_worlds, copies_go_on, copies_stay, sizes_copies};
+use actor_turns::laws::events_keep_copies;
+use actor_words::Next;
+use actor_words::laws::steps_as_worlds;
+use replay_log::Base;
+use seq_model::{Event, Memory, Value};
+use std::alloc::Global;
+use tx_actor::laws::{copied_stay_own, copies_by_stage, copies_stay_own};
+use tx_actor::{Told, TxActor};
+use tx_table::{Seat, TxTable};
+
+/// The first base in hand, which is taken out of it.
+pub(crate) fn first<V: Value>(bases: &mut Vec<Base<V>>) -> Base<V>
+    requires { 0 < length bases.old.items }
+    ensures { bases.old.items ≡ result ∷ bases.new.items }
+{
+    bases.remove(0)
+}
+
+/// A try on the gate of a collection. Where it was free its base comes into hand; where it was taken for the 64th time the transaction is
+/// given up, `GateBusy`. Where memory is refused no step is taken, and the actor is as it was.
+pub fn try_gate<V: Value>(
+    table: &TxTable<V>,
+    seat: &mut Seat<V>,
+    actor: &mut TxActor<V>,
+    bases: &mut Vec<Base<V>>,
+    k: u32,
+) -> Result<Told<V>, Memory>
+    requires ties { Ties table.now seat.old actor.old }
+    requires own { HasOwn table.now seat.old actor.old bases.old.items }
+    requires due { next_of (stage_of actor.old.stage) ≡ Next.TryGate k }
+    ensures turned { IfOk result (Turned (opening_of table.now) seat.old actor.old seat.new) }
+    ensures ties { Ties table.now seat.new actor.new }
+    ensures own { HasOwn table.now seat.new actor.new bases.new.items }
+    ensures seat { OnErr result (seat.new ≡ seat.old) }
+    ensures rest { OnErr result ((actor.new ≡ actor.old) × (bases.new.items ≡ bases.old.items)) }
+{
+    steps_as_worlds::<V>();
+    events_keep_copies::<V>();
+    copies_by_stage::<V>();
+    let Ok(()) = bases.reserve(1) else {
+        return Err(Memory);
+    };
+    match table.take_gate(seat, k) {
+        Some(base) => {
+            bases.push_reserved(base);
+            Ok(actor.tried_gate(true))
+        }
+        None => Ok(actor.tried_gate(false)),
+    }
+}
+
+/// The store that puts a gate back which the actor holds, its base as it was.
+pub fn put_gate<V: Value>(
+    table: &TxTable<V>,
+    seat: &mut Seat<V>,
+    actor: &mut TxActor<V>,
+    bases: &mut Vec<Base<V>>,
+    k: u32,
+) -> Told<V>
+    requires ties { Ties table.now seat.old actor.old }
+    requires own { HasOwn table.now seat.old actor.old bases.old.items }
+    requires due { next_of (stage_of actor.old.stage) ≡ Next.PutGate k }
+    ensures turned { Turned (opening_of table.now) seat.old actor.old seat.new result }
+    ensures ties { Ties table.now seat.new actor.new }
+    ensures own { HasOwn table.now seat.new actor.new bases.new.items }
+{
+    steps_as_worlds::<V>();
+    events_keep_copies::<V>();
+    copies_by_stage::<V>();
+    let base = first(bases);
+    table.put_gate(seat, k, base);
+    actor.put_gate()
+}
+
+/// What the call of an actor touches of its collection's base is copied, and the gate is put back with the base as it was. `TooLong` where
+/// its locations don't fit the sets, else it is accepted, or a location is read first, or the transaction is given up, as the copy is
+/// stale. Where there is no memory for it no step is taken, and the transaction is given up as one that starves, which holds its gate.
+pub fn copy_base<V: Value>(
+    alloc: Global,
+    table: &TxTable<V>,
+    seat: &mut Seat<V>,
+    actor: &mut TxActor<V>,
+    bases: &mut Vec<Base<V>>,
+    k: u32,
+) -> Result<Told<V>, Memory>
+    requires ties { Ties table.now seat.old actor.old }
+    requires own { HasOwn table.now seat.old actor.old bases.old.items }
+    requires due { next_of (stage_of actor.old.stage) ≡ Next.Copy k }
+    ensures turned { IfOk result (Turned (opening_of table.now) seat.old actor.old seat.new) }
+    ensures ties { Ties table.now seat.new actor.new }
+    ensures own { HasOwn table.now seat.new actor.new bases.new.items }
+    ensures starved { OnErr result (Starved (opening_of table.now) seat.old seat.new told.Quiet) }
+{
+    steps_as_worlds::<V>();
+    copied_as_worlds::<V>();
+    copies_go_on::<V>();
+    sizes_copies::<V>();
+    copies_stay::<V>();
+    copies_by_stage::<V>();
+    copies_stay_own::<V>();
+    copied_stay_own::<V>();
+    events_keep_copies::<V>();
+    match actor.copied(alloc, table.blocks(), &bases[0]) {
+        Ok(told) => {
+            let base = first(bases);
+            table.put_gate(seat, k, base);
+            Ok(told)
+        }
+        Err(_) => {
+            seat.ask(&Event::Starve(0));
+            Err(Memory)
+        }
+    }
+}
