@@ -2,9 +2,11 @@
 --
 -- The step of a turn has happened in a world that events have reached, which was to the actor as its own world. So the laws on such worlds
 -- say of it what the request comes to (`courses`), that a cause is true that is noted there, and that the request is nearer to its answer.
-use Rattle.std.proofs.Common.{◌≡◌, ℕ, ◌<◌, Bool, true, false, true≢false, List, [], ◌∷◌, ◌++◌, Option, Some, None, inl, inr, refl, sym, ap, ◌∙◌, subst, arith}
+use Rattle.std.proofs.Common.{◌≡◌, ℕ, ◌<◌, ◌≤◌, Bool, true, false, true≢false, List, [], ◌∷◌, ◌++◌, Option, Some, None, inl, inr, refl, sym, ap, ◌∙◌, subst, arith}
 use Rattle.std.specs.Prelude.{is_some}
 use Rattle.std.proofs.lemmas.List.{append-nil, append_assoc}
+use Rattle.word_machine.specs.Actor as machine
+use Rattle.seq_model.specs.declared.event.Answer.TheVariants as answer
 use Rattle.seq_model.specs.declared.event.Event.TheVariants.{Step}
 use Rattle.seq_model.specs.declared.event.Notice.{Notice}
 use Rattle.seq_model.specs.declared.event.Notice.TheVariants.{Refused}
@@ -14,8 +16,8 @@ use Rattle.replay_log.proofs.AnswerLemmas.{refused_step}
 use Rattle.replay_log.proofs.EventLemmas.{opened_linked, run_linked}
 use Rattle.replay_log.proofs.ProgressLemmas.{world_nears}
 use Rattle.replay_log.proofs.RefusalLemmas.{keeps_cause, world_causes}
-use Rattle.replay_log.proofs.SeatLemmas.{Linked}
-use Rattle.replay_log.specs.Seats.{World, After, Stage, Seat, Beginning, Cancelling, Closing, Leaving, Ready, Returning}
+use Rattle.replay_log.proofs.SeatLemmas.{Linked, StageOk}
+use Rattle.replay_log.specs.Seats.{World, After, Stage, Seat, Beginning, Cancelling, Closing, Leaving, Ready, Returning, actor_of}
 use Rattle.replay_log.specs.Worlds.{happens, run}
 use Rattle.replay_log.specs.WorldAnswers.{IsRefusedAt, RefusedBy}
 use Rattle.replay_log.specs.WorldProgress.{AreSmall, IsQuiet, left_at, left_of}
@@ -33,13 +35,18 @@ use Rattle.tx_table.specs.declared.view.View.{View}
 use Rattle.tx_table.specs.Opening.{blocks_at}
 use Rattle.tx_table.specs.Seated.{acts, blocks_in, list_of, opening_of, view}
 use Rattle.tx_table.specs.Seated as seated
-use Rattle.tx_table.specs.Turns.{asked_all, ends_of, lone}
+use Rattle.tx_table.specs.Turns.{asked_all, ends_of, lone, moved}
 use Rattle.tx_table.specs.declared.view.Turn.{Turn}
 use Rattle.tx_phases.proofs.CourseLemmas.{on_call, on_commit, on_done, steps_come, ends_at}
 use Rattle.tx_phases.proofs.PhaseLemmas.{steps_move}
 use Rattle.tx_phases.specs.Courses.{ComesTo, IsUnderWay, IsUnderWayFrom, latest}
 use Rattle.tx_phases.specs.Phases.{Phase, Rests, Begins, Stands, Calls, Commits, Committed, Ends, IsMistaken, StepMoves, phase, phase_at}
-use Rattle.transactions.specs.Driven.{Driven, HasFound, IsTrue, IsTurnFrom, as_receipts, seat_in, standing}
+use Rattle.transactions.proofs.KeptLemmas.{Keeps, steps_keep}
+use Rattle.transactions.proofs.StampLemmas.{begun_clock, numbered, stamped_step}
+use Rattle.transactions.proofs.WritingLemmas.{commits_first, is_commit, is_one, written_on}
+use Rattle.transactions.specs.Driven.{Driven, HasFound, IsNumberOf, IsStamped, IsTrue, IsTurnFrom, IsWritten, KnowsNumber}
+use Rattle.transactions.specs.Driven.{as_receipts, seat_in, standing}
+use Rattle.tx_threads.proofs.OwnLemmas.{own_ok}
 use Rattle.tx_turns.proofs.TurnLemmas.{ends_as as commits_as}
 use Rattle.tx_turns.specs.Ties.{IsOnWord, Ties, Turned, commits}
 
@@ -57,17 +64,6 @@ module _ {V : Type 0} where
   made_by a x Closing (Some r) h = ap (λ qs. Some (first_in r qs)) h
   made_by a x st None h = refl
   made_by a x st (Some r) h = absurd (let z : ⊥ = cc in z)
-
-  is_commit : Phase V → Bool
-  is_commit (Commits calls) = true
-  is_commit p = false
-
-  -- only a transaction that is to commit makes a record
-  commits_first : (x : Seat V) (st : Stage V) (r : Record V) → committed_by x st ≡ Some r → is_commit (phase_at x.calls st) ≡ true
-  unfolding is_commit
-  commits_first x (Ready ks) r h = refl
-  commits_first x Closing r h = refl
-  commits_first x st r h = absurd (let z : ⊥ = cc in z)
 
   fresh : (s x : Seat V) (d : Option (Record V)) (p : Phase V) → is_commit (phase x) ≡ true → IsUnderWayFrom s p x d → d ≡ None
   unfolding is_commit
@@ -100,9 +96,9 @@ module _ {V : Type 0} where
   begins_at calls st h = absurd (let z : ⊥ = cc in z)
 
   call_refused : (calls : List (_ × _)) (call : _) (b : Bool) (a : ℕ) (cause : Refusal) (p : Phase V)
-      → StepMoves (Calls calls call) b (Refused a cause) p → IsMistaken cause
+      → StepMoves (Calls calls call) b (Refused a cause) p → (p ≡ Stands calls) × IsMistaken cause
   call_refused calls call true a cause p h = absurd h
-  call_refused calls call false a cause p h = h.1
+  call_refused calls call false a cause p h = h
 
   commit_refused : (calls : List (_ × _)) (b : Bool) (a : ℕ) (cause : Refusal) (p : Phase V)
       → StepMoves (Commits calls) b (Refused a cause) p → ⊥
@@ -112,6 +108,29 @@ module _ {V : Type 0} where
   done_refused : (b : Bool) (a : ℕ) (cause : Refusal) (p : Phase V) → StepMoves Committed b (Refused a cause) p → ⊥
   done_refused true a cause p h = h
   done_refused false a cause p h = h
+
+  -- neither beginning nor at rest
+  abbrev IsBusy : Phase V → Type 0
+  IsBusy Begins = ⊥
+  IsBusy Rests = ⊥
+  IsBusy p = Unit {0}
+
+  apart : (q p : Phase V) → q ≡ p → IsBusy p → (q ≡ Begins → ⊥) × (q ≡ Rests → ⊥)
+  apart q p e busy = (λ k. subst IsBusy (sym e ∙ k) busy, λ k. subst IsBusy (sym e ∙ k) busy)
+
+  -- a request under way is no begin unless it was one, and not at rest
+  under_goes : (s x : Seat V) (d : Option (Record V)) (p : Phase V) → IsUnderWayFrom s p x d → (p ≡ Begins → ⊥)
+      → (phase x ≡ Begins → ⊥) × (phase x ≡ Rests → ⊥)
+  under_goes s x d Begins h isnt = absurd (isnt refl)
+  under_goes s x d (Calls calls call) (inl at, none) isnt = apart (phase x) (Calls calls call) at tt
+  under_goes s x d (Calls calls call) (inr up, none) isnt = apart (phase x) Ends up.0 tt
+  under_goes s x d (Commits calls) (inl (inl at, none)) isnt = apart (phase x) (Commits calls) at tt
+  under_goes s x d (Commits calls) (inl (inr up, none)) isnt = apart (phase x) Ends up.0 tt
+  under_goes s x d (Commits calls) (inr has) isnt = apart (phase x) Committed has.0 tt
+  under_goes s x d Ends h isnt = apart (phase x) Ends h.0 tt
+  under_goes s x d Rests h isnt = absurd h
+  under_goes s x d (Stands calls) h isnt = absurd h
+  under_goes s x d Committed h isnt = absurd h
 
   -- ---- before the first turn
   true_first : (o : World V) (s : table.Seat V) (p : Phase V) → standing o s ≡ p → IsTrue o s s p told.Quiet
@@ -130,6 +149,11 @@ module _ {V : Type 0} where
     rises = omega arith;
     comes = under;
     is_true = true_first o s (standing o s) refl;
+    tells = λ ne. absurd (ne refl);
+    written = λ calls e. refl;
+    began = λ _ _. refl;
+    stamped = λ knows. knows;
+    numbered = λ knows r none. absurd (let z : ⊥ = cc in z);
   }
 
   -- ---- one turn more
@@ -234,8 +258,19 @@ module _ {V : Type 0} where
         subst (λ (k : Phase V × Notice V). StepMoves k.0 (is_some (committed_by x x.stage)) k.1 (phase (after.0.seats a)))
         (λ i. ((ap phase x_is ∙ at) i, (told_is ∙ ap (notice_of a) e) i)) (steps_move v a)
 
+    -- where its actor stands
+    own : let w = acts o u in StageOk w.words w.blocks (w.seats a) (actor_of w a) (w.boosted.shadows a) (w.seats a).stage (actor_of w a).place
+    own = own_ok t.whole.shared.key a (acts o u) ties.reached
+
     truth : (p : Phase V) (m : Told V) → n ≡ m → IsUnderWayFrom (seat_in o s) p (seat_in o u) d → IsTrue o s u p told.Quiet → IsTrue o s z p m
     truth Begins told.Quiet e under was = tt
+    truth Begins (told.Answered (answer.Begun rv)) e under was =
+        let w = acts o u in
+        let at : (w.seats a).stage ≡ Beginning = begins_at (w.seats a).calls (w.seats a).stage under.0 in
+        let place : (actor_of w a).place ≡ machine.Begin =
+        subst (λ (st : Stage V). StageOk w.words w.blocks (w.seats a) (actor_of w a) (w.boosted.shadows a) st (actor_of w a).place) at own in
+        begun_clock w a T.found T.base T.clock rv at place T.clocks (sym T.tells ∙ ap (notice_of a) e)
+        ∙ sym (ap (λ (k : View V). k.clock) T.takes.turn)
     truth Begins (told.Answered q) e under was = tt
     truth Begins (told.Refused cause) e under was =
         let at : x.stage ≡ Beginning = begins_at x.calls x.stage (ap phase x_is ∙ under.0) in
@@ -245,7 +280,7 @@ module _ {V : Type 0} where
         λ cause ends is. still cause (was cause up.0 (kept cause up.0 ends is))
     truth (Calls calls call) (told.Answered q) e under was = tt
     truth (Calls calls call) (told.Refused cause) e (inl at, none) was =
-        inr (call_refused calls call _ a cause _ (moves (Calls calls call) cause e at))
+        let h = call_refused calls call _ a cause _ (moves (Calls calls call) cause e at) in inr (sym (ap phase y_is) ∙ h.0, h.1)
     truth (Calls calls call) (told.Refused cause) e (inr up, none) was = inl (still cause (was cause up.0 (told_up cause e up.0)))
     truth (Commits calls) told.Quiet e (inl (inl at, none)) was = λ cause. found cause (on_commit x calls (ap phase x_is ∙ at))
     truth (Commits calls) told.Quiet e (inl (inr up, none)) was =
@@ -260,6 +295,64 @@ module _ {V : Type 0} where
     truth (Stands calls) m e under was = tt
     truth Committed m e under was = tt
     truth Ends m e under was = tt
+
+    rises_to : (view u).clock ≤ (view z).clock
+    rises_to = (let q = T.rises in let k : (view z).clock ≡ T.clock = ap (λ (k : View V). k.clock) T.takes.turn in omega (arith, q, k))
+
+    -- the number at which it has begun stays
+    begun_stays : (standing o s ≡ Begins → ⊥) → (standing o z ≡ Rests → ⊥) → (seat_in o z).rv ≡ (seat_in o s).rv
+    begun_stays isnt rest =
+        let goes = under_goes (seat_in o s) (seat_in o u) d (phase (seat_in o s)) D.comes isnt in
+        let kept = steps_keep v a (λ e. goes.0 (ap phase (sym x_is) ∙ e)) in
+        kept_by kept ∙ (ap (λ (k : Seat V). k.rv) x_is ∙ D.began isnt goes.1)
+      where
+        kept_by : Keeps x.rv (after.0.seats a) → (seat_in o z).rv ≡ x.rv
+        kept_by (inl e) = ap (λ (k : Seat V). k.rv) (sym y_is) ∙ e
+        kept_by (inr e) = absurd (rest (ap phase (sym y_is) ∙ e))
+
+    known : KnowsNumber o s → is_commit (phase (seat_in o u)) ≡ true → IsStamped (view u).clock (actor_of (acts o u) a)
+    known knows c = D.stamped knows (seat_in o u).calls (is_one (seat_in o u).calls (seat_in o u).stage c)
+
+    -- the seat knows the number of its commit
+    stamped_on : KnowsNumber o s → KnowsNumber o z
+    unfolding is_commit
+    stamped_on knows calls e =
+        let w = acts o u in
+        let after_is : acts o z ≡ (moved a w T.found T.base).0 = T.takes.own in
+        let le : (view u).clock ≤ T.clock = T.rises in
+        subst (λ (k : ℕ × ℕ × World V). IsStamped k.0 (actor_of k.2 k.1))
+        (λ i. (sym (ap (λ (k : View V). k.clock) T.takes.turn) i, sym T.takes.seat.1 i, sym after_is i))
+        (stamped_step w a T.found T.base (view u).clock T.clock le T.clocks own (known knows)
+        (ap is_commit ((λ i. phase ((sym after_is i).seats (sym T.takes.seat.1 i))) ∙ e)))
+
+    numbered_on : KnowsNumber o s → (e : Option (Record V)) (r : Record V) → e ≡ committed_by (seat_in o u) (seat_in o u).stage
+        → ((q : Record V) → e ≡ Some q → d ≡ None) → latest e d ≡ Some r → IsNumberOf (seat_in o s).rv (view z).clock r
+    unfolding is_commit
+    numbered_on knows None r made new is =
+        let h = D.numbered knows r is in
+        let le : (view u).clock ≤ (view z).clock = rises_to in
+        record {
+          writer = λ yes. (let k = h.writer yes in (k.0, (let g = k.1 in omega (arith, g, le))));
+          reader = h.reader;
+        }
+    numbered_on knows (Some q) r made new is =
+        let h = numbered t.whole.shared.key a (acts o u) ties.reached (view u).clock q own (known knows) (sym made) in
+        let le : (view u).clock ≤ (view z).clock = rises_to in
+        let same : q ≡ r = (let k : Some q ≡ Some r = is in cc) in
+        let busy = commits_first (seat_in o u) (seat_in o u).stage q (sym made) in
+        let began : (seat_in o u).rv ≡ (seat_in o s).rv = D.began (λ k. begins_no k busy) (λ k. rests_no k busy) in
+        subst (λ (k : ℕ × Record V). IsNumberOf k.0 (view z).clock k.1) (λ i. (began i, same i)) (record {
+          writer = λ yes. (let k = h.writer yes in (k.0, (let g = k.1 in omega (arith, g, le))));
+          reader = h.reader;
+        })
+      where
+        begins_no : standing o s ≡ Begins → is_commit (phase (seat_in o u)) ≡ true → ⊥
+        begins_no k c =
+            let h = subst (λ (p : Phase V). IsUnderWayFrom (seat_in o s) p (seat_in o u) d) k D.comes in
+            true≢false (sym c ∙ ap is_commit h.0)
+
+        rests_no : standing o u ≡ Rests → is_commit (phase (seat_in o u)) ≡ true → ⊥
+        rests_no k c = true≢false (sym c ∙ ap is_commit k)
 
     pub driven_on : (e : Option (Record V)) → IsOnWord (next_of (stage_of r.stage)) → commits a r ≡ as_receipts a e
         → Driven o s z n (latest e d)
@@ -283,10 +376,17 @@ module _ {V : Type 0} where
           outs = T.outs on ∙ D.outs;
           gains = T.gains ∙ ((λ i. D.gains i ++ (makes ∙ ap (λ (b : ℕ). as_receipts b e) same) i)
               ∙ gained (seated.actor s) e d (view s).receipts new);
-          rises = (let p = D.rises in let q = T.rises in let k : (view z).clock ≡ T.clock = ap (λ (k : View V). k.clock) T.takes.turn in omega (arith, p, q, k));
+          rises = (let p = D.rises in let q = rises_to in omega (arith, p, q));
           comes = subst (λ (k : ℕ × Notice V × Seat V × Option (Record V)). ComesTo k.0 (seat_in o s) k.1 k.2 (latest k.3 d))
               (λ i. (same i, (told_is ∙ ap (λ (b : ℕ). notice_of b n) same) i, y_is i, made i)) course;
           is_true = truth (standing o s) n refl D.comes D.is_true;
+          tells = λ ne. (v, this, subst (λ (k : ℕ). (happens v (Step k)).1 ≡ notice_of k n) same told_is);
+          written = subst (λ (k : Seat V × Option (Record V)). IsWritten (seat_in o s).stage k.0 (latest k.1 d)) (λ i. (y_is i, made i))
+              (written_on v a x (seat_in o s).stage x.stage (committed_by x x.stage) d refl refl (steps_move v a) refl
+              (λ q is. new q (sym made ∙ is)) (subst (λ (k : Seat V). IsWritten (seat_in o s).stage k d) (sym x_is) D.written));
+          began = begun_stays;
+          stamped = stamped_on;
+          numbered = λ knows r is. numbered_on knows e r made_u new is;
         }
 
     -- the request is nearer to its answer

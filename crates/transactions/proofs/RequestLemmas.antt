@@ -1,21 +1,23 @@
 -- Requests from a transaction at rest: where its actor stands, what the request has under way, and what it comes to.
-use Rattle.std.proofs.Common.{◌≡◌, ◌≢◌, ℕ, false, List, [], ◌∷◌, ◌++◌, length, Option, None, refl, sym, ap, ◌∙◌, subst}
-use Rattle.std.proofs.lemmas.List.{append-nil}
+use Rattle.std.proofs.Common.{◌≡◌, ◌≢◌, ℕ, false, List, [], ◌∷◌, ◌++◌, length, Option, None, Result, Ok, Err, IfOk, IfErr, refl, sym, ap, ◌∙◌, subst, arith}
+use Rattle.std.proofs.lemmas.List.{append-nil, append_assoc}
 use Rattle.seq_model.specs.declared.call.Call.{Call}
 use Rattle.seq_model.specs.declared.call.Reply.{Reply}
 use Rattle.seq_model.specs.declared.event.Answer.TheVariants as answer
-use Rattle.seq_model.specs.declared.event.Event.TheVariants.{Ask}
+use Rattle.seq_model.specs.declared.event.Event.TheVariants.{Ask, Step}
 use Rattle.seq_model.specs.declared.event.Notice.{Notice}
 use Rattle.seq_model.specs.declared.event.Notice.TheVariants.{Quiet, Answered, Refused}
 use Rattle.seq_model.specs.declared.event.Request.TheVariants.{Abort}
 use Rattle.seq_model.specs.declared.record.Record.{Record}
+use Rattle.seq_model.specs.declared.refusal.Refusal.{Refusal}
 use Rattle.replay_log.specs.Seats as worlds
 use Rattle.replay_log.specs.Seats.{World, After, Seat, Stage, Ready}
 use Rattle.replay_log.specs.Worlds.{ask_at, happens}
+use Rattle.replay_log.specs.WorldRefusals.{IsCause}
 use Rattle.actor_words.specs.Dispatch.{is_loading, next_of}
 use Rattle.actor_words.specs.declared.next.Next.TheVariants as next
 use Rattle.tx_actor.specs.Keeping.{NamesAmong}
-use Rattle.tx_actor.specs.Running.{stage_of}
+use Rattle.tx_actor.specs.Running.{notice_of, stage_of}
 use Rattle.tx_actor.specs.declared.actor.Stage as own
 use Rattle.tx_actor.specs.declared.actor.Stage.TheVariants as stage
 use Rattle.tx_actor.specs.declared.actor.Told.{Told}
@@ -32,8 +34,8 @@ use Rattle.tx_phases.proofs.PhaseLemmas.{asks_move}
 use Rattle.tx_phases.specs.Courses.{EndsFrom, IsUnderWay, IsUnderWayFrom}
 use Rattle.tx_phases.specs.Phases.{AskMoves, Phase, Rests, Begins, Stands, Commits, Ends, phase, phase_at}
 use Rattle.transactions.proofs.NextLemmas.{no_load}
-use Rattle.transactions.specs.Driven.{Driven, IsTrue, IsTurnFrom, as_receipts, seat_in, standing}
-use Rattle.transactions.specs.Requests.{BeginsTo, KeepsReceipts}
+use Rattle.transactions.specs.Driven.{Driven, HasFound, HasTold, IsTrue, IsTurnFrom, as_receipts, seat_in, standing}
+use Rattle.transactions.specs.Requests.{BeginsTo, IsBeginTold, IsBegun, IsNotBegun, KeepsReceipts, begin_of}
 use Rattle.tx_turns.proofs.AskedLemmas.{acts_taken}
 use Rattle.tx_turns.proofs.FirstLemmas.{first_is}
 use Rattle.tx_turns.proofs.TurnLemmas.{own_stage}
@@ -66,7 +68,11 @@ module _ {V : Type 0} where
     begins on =
         ap (phase_at (seat_in (opening_of t) s).calls) (own_stage t s r quiet ties ∙ ap (λ (k : own.Stage V). stage_of k) on)
 
-    -- where the first value store is due it is to commit
+    -- where the first value store is due, its stage says so
+    pub ready : next_of (stage_of r.stage) ≡ next.FirstStore → (ks : List ℕ) × ((seat_in (opening_of t) s).stage ≡ Ready ks)
+    ready due = let first = first_is (stage_of r.stage) due in (first.0, own_stage t s r quiet ties ∙ first.1)
+
+    -- and it is to commit
     pub commits : next_of (stage_of r.stage) ≡ next.FirstStore
         → standing (opening_of t) s ≡ Commits (seat_in (opening_of t) s).calls
     commits due =
@@ -98,8 +104,18 @@ module _ {V : Type 0} where
   none_begins o s u told.Quiet d on D ne = absurd (ne refl)
   none_begins o s u (told.Answered (answer.Begun rv)) d on D ne =
       let a = seated.actor s in
-      let h = subst (λ (p : Phase V). EndsFrom a (seat_in o s) p (Answered a (answer.Begun rv)) (seat_in o u) d) on D.comes in
-      (h.2, (h.0, h.1))
+      let h = subst (λ (p : Phase V). EndsFrom a (seat_in o s) p (Answered a (answer.Begun rv)) (seat_in o u) d) on D.comes in (
+        h.2,
+        record {
+          stands = h.0;
+          began = h.1;
+          clock = clock_told;
+          rises = (let p = D.rises in omega (arith, p, clock_told));
+        },
+      )
+    where
+      clock_told : rv ≡ (view u).clock
+      clock_told = subst (λ (p : Phase V). IsTrue o s u p (told.Answered (answer.Begun rv))) on D.is_true
   none_begins o s u (told.Answered q) d on D ne =
       let a = seated.actor s in
       absurd (subst (λ (p : Phase V). EndsFrom a (seat_in o s) p (Answered a q) (seat_in o u) d) on D.comes)
@@ -108,41 +124,105 @@ module _ {V : Type 0} where
       let h = subst (λ (p : Phase V). EndsFrom a (seat_in o s) p (Refused a cause) (seat_in o u) d) on D.comes in
       (h.1, (h.0, subst (λ (p : Phase V). IsTrue o s u p (told.Refused cause)) on D.is_true))
 
-  keeps : (s m u : table.Seat V) (o : World V) (n : Told V) (d : Option (Record V)) → d ≡ None
-      → seated.IsSameSeat s m × (m.place.me ≡ s.place.me) → Driven o m u n d → KeepsReceipts s u
-  keeps s m u o n d none had D = record {
-    seat = (D.seat.0 ∙ had.0.0, D.seat.1 ∙ had.0.1, D.seat.2 ∙ had.0.2);
-    shares = D.shares ∙ ap (λ k. k.0.shares) had.1;
-    receipts = D.gains ∙ ((λ i. (view m).receipts ++ as_receipts (seated.actor m) (none i)) ∙ (append-nil (view m).receipts ∙ ap (λ k. k.0.receipts) had.1));
-    outs = D.outs ∙ ap (λ k. k.1) had.1;
+  -- what keeps the receipts, one after the other
+  pub then_keeps : (s m u : table.Seat V) → KeepsReceipts s m → KeepsReceipts m u → KeepsReceipts s u
+  then_keeps s m u g h = record {
+    seat = (h.seat.0 ∙ g.seat.0, h.seat.1 ∙ g.seat.1, h.seat.2 ∙ g.seat.2);
+    shares = h.shares ∙ g.shares;
+    receipts = h.receipts ∙ g.receipts;
+    outs = h.outs ∙ g.outs;
+    rises = (let p = g.rises in let q = h.rises in omega (arith, p, q));
+    more = g.more ++ h.more;
+    turns = h.turns ∙ (ap (λ (is : List (Turn V)). is ++ h.more) g.turns ∙ append_assoc (view s).turns g.more h.more);
   }
 
-  -- a turn since the request was asked is one since then
-  back : (o : World V) (s m u : table.Seat V) (v : World V) → seated.IsSameSeat s m × (m.place.me ≡ s.place.me) → IsTurnFrom o m u v
-      → IsTurnFrom o s u v
-  back o s m u v had h = record {
-    before = h.before;
+  -- what was asked keeps them
+  pub asked_keeps : (s m : table.Seat V) → seated.IsSameSeat s m × (m.place.me ≡ s.place.me) → KeepsReceipts s m
+  asked_keeps s m had = record {
+    seat = had.0;
+    shares = ap (λ k. k.0.shares) had.1;
+    receipts = ap (λ k. k.0.receipts) had.1;
+    outs = ap (λ k. k.1) had.1;
+    rises = (let e : (view m).clock ≡ (view s).clock = ap (λ k. k.0.clock) had.1 in omega (arith, e));
+    more = [];
+    turns = ap (λ k. k.0.turns) had.1 ∙ sym (append-nil (view s).turns);
+  }
+
+  -- and so do turns without a receipt
+  pub turns_keep : (o : World V) (s u : table.Seat V) (n : Told V) (d : Option (Record V)) → d ≡ None → Driven o s u n d → KeepsReceipts s u
+  turns_keep o s u n d none D = record {
+    seat = D.seat;
+    shares = D.shares;
+    receipts = D.gains ∙ ((λ i. (view s).receipts ++ as_receipts (seated.actor s) (none i)) ∙ append-nil (view s).receipts);
+    outs = D.outs;
+    rises = D.rises;
+    more = D.more;
+    turns = D.turns;
+  }
+
+  -- a turn since then is one since before
+  back : (o : World V) (s m u : table.Seat V) (v : World V) → KeepsReceipts s m → IsTurnFrom o m u v → IsTurnFrom o s u v
+  back o s m u v kept h = record {
+    before = kept.more ++ h.before;
     turn = h.turn;
     after = h.after;
-    turns = h.turns ∙ (λ i. ((had.1 i).0.turns ++ h.before) ++ h.turn ∷ h.after);
+    turns = h.turns ∙ ap (λ (is : List (Turn V)). is ++ h.turn ∷ h.after) joined;
     events = h.events;
     reached = h.reached;
-    alike = subst (λ (k : ℕ × List (Turn V)). Alike k.0 v (asked_all k.0 (lone k.0 o (k.1 ++ h.before)) h.turn.asks))
-        (λ i. (had.0.1 i, (had.1 i).0.turns)) h.alike;
+    alike = subst (λ (k : ℕ × List (Turn V)). Alike k.0 v (asked_all k.0 (lone k.0 o k.1) h.turn.asks)) (λ i. (kept.seat.1 i, joined i)) h.alike;
+  }
+    where
+      joined : (view m).turns ++ h.before ≡ (view s).turns ++ (kept.more ++ h.before)
+      joined = ap (λ (is : List (Turn V)). is ++ h.before) kept.turns ∙ append_assoc (view s).turns kept.more h.before
+
+  -- what was found since then was found since before
+  pub found_back : (o : World V) (s m u : table.Seat V) (cause : Refusal) → KeepsReceipts s m → HasFound o m u cause → HasFound o s u cause
+  found_back o s m u cause kept h = (
+    h.0,
+    back o s m u h.0 kept h.1,
+    subst (λ (k : ℕ). IsCause h.0 k (h.0.seats k).stage (happens h.0 (Step k)).0 cause) kept.seat.1 h.2,
+  )
+
+  pub told_back : (o : World V) (s m u : table.Seat V) (n : Told V) → KeepsReceipts s m → HasTold o m u n → HasTold o s u n
+  told_back o s m u n kept h = (
+    h.0,
+    back o s m u h.0 kept h.1,
+    subst (λ (k : ℕ). (happens h.0 (Step k)).1 ≡ notice_of k n) kept.seat.1 h.2,
+  )
+
+  pub not_begun_back : (o : World V) (s m u : table.Seat V) (cause : Refusal) → KeepsReceipts s m → IsNotBegun o m u cause
+      → IsNotBegun o s u cause
+  not_begun_back o s m u cause kept h = (h.0, (h.1.0, back o s m u h.1.0 kept h.1.1, h.1.2, h.1.3))
+
+  pub begun_back : (o : World V) (s m u : table.Seat V) (rv : ℕ) → KeepsReceipts s m → IsBegun o m u rv → IsBegun o s u rv
+  begun_back o s m u rv kept h = record {
+    stands = h.stands;
+    began = h.began;
+    clock = h.clock;
+    rises = (let p = h.rises in let q = kept.rises in omega (arith, p, q));
   }
 
-  begun_since : (o : World V) (s m u : table.Seat V) (n : Told V) → seated.IsSameSeat s m × (m.place.me ≡ s.place.me) → BeginsTo o m u n
-      → BeginsTo o s u n
-  begun_since o s m u (told.Refused cause) had h = (h.0, (h.1.0, back o s m u h.1.0 had h.1.1, h.1.2, h.1.3))
-  begun_since o s m u (told.Answered (answer.Begun rv)) had h = h
-  begun_since o s m u (told.Answered q) had h = absurd h
-  begun_since o s m u told.Quiet had h = absurd h
+  -- what its turn tells is the one or the other
+  pub begin_told : (o : World V) (s u : table.Seat V) (n : Told V) → BeginsTo o s u n → IsBeginTold n
+  begin_told o s u told.Quiet h = absurd h
+  begin_told o s u (told.Answered (answer.Begun rv)) h = tt
+  begin_told o s u (told.Answered q) h = absurd h
+  begin_told o s u (told.Refused cause) h = tt
 
-  pub begins_to : (o : World V) (s m u : table.Seat V) (n : Told V) (d : Option (Record V))
-      → seated.IsSameSeat s m × (m.place.me ≡ s.place.me) → standing o m ≡ Begins → Driven o m u n d → n ≢ told.Quiet
-      → KeepsReceipts s u × BeginsTo o s u n
-  begins_to o s m u n d had on D ne =
-      let h = none_begins o m u n d on D ne in (keeps s m u o n d h.0 had D, begun_since o s m u n had h.1)
+  pub begun_by : (o : World V) (s u : table.Seat V) (n : Told V) (r : Result ℕ Refusal) → n ≡ begin_of r → BeginsTo o s u n
+      → IfOk r (IsBegun o s u) × IfErr r (IsNotBegun o s u)
+  begun_by o s u n (Ok rv) e h = (subst (BeginsTo o s u) e h, tt)
+  begun_by o s u n (Err cause) e h = (tt, subst (BeginsTo o s u) e h)
+
+  pub begun_since : (o : World V) (s m u : table.Seat V) (r : Result ℕ Refusal) → KeepsReceipts s m → IfOk r (IsBegun o m u)
+      → IfErr r (IsNotBegun o m u) → IfOk r (IsBegun o s u) × IfErr r (IsNotBegun o s u)
+  begun_since o s m u (Ok rv) kept h g = (begun_back o s m u rv kept h, tt)
+  begun_since o s m u (Err cause) kept h g = (tt, not_begun_back o s m u cause kept g)
+
+  pub begins_to : (o : World V) (s u : table.Seat V) (n : Told V) (d : Option (Record V))
+      → standing o s ≡ Begins → Driven o s u n d → n ≢ told.Quiet → KeepsReceipts s u × BeginsTo o s u n
+  begins_to o s u n d on D ne =
+      let h = none_begins o s u n d on D ne in (turns_keep o s u n d h.0 D, h.1)
 
   -- ---- an abort
   none_ends : (o : World V) (s u : table.Seat V) (n : Told V) (d : Option (Record V)) → standing o s ≡ Ends → Driven o s u n d
@@ -155,11 +235,10 @@ module _ {V : Type 0} where
       let a = seated.actor s in
       let h = subst (λ (p : Phase V). EndsFrom a (seat_in o s) p (Refused a cause) (seat_in o u) d) on D.comes in (h.2, h.0)
 
-  pub ends_to : (o : World V) (s m u : table.Seat V) (n : Told V) (d : Option (Record V))
-      → seated.IsSameSeat s m × (m.place.me ≡ s.place.me) → standing o m ≡ Ends → Driven o m u n d → n ≢ told.Quiet
-      → KeepsReceipts s u × (standing o u ≡ Rests)
-  ends_to o s m u n d had on D ne =
-      let h = none_ends o m u n d on D ne in (keeps s m u o n d h.0 had D, h.1)
+  pub ends_to : (o : World V) (s u : table.Seat V) (n : Told V) (d : Option (Record V)) → standing o s ≡ Ends → Driven o s u n d
+      → n ≢ told.Quiet → KeepsReceipts s u × (standing o u ≡ Rests)
+  ends_to o s u n d on D ne =
+      let h = none_ends o s u n d on D ne in (turns_keep o s u n d h.0 D, h.1)
 
   -- an open transaction that is to abort is being given up
   quiet_abort : (w : World V) (a : ℕ) (x : Seat V) (st : Stage V) (calls : List (Call V × Reply V)) → phase_at x.calls st ≡ Stands calls

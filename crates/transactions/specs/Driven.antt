@@ -1,13 +1,16 @@
 -- The turns that a seat takes for a request of its actor, and what the request comes to.
-use Rattle.std.specs.Prelude.{◌≡◌, ◌⊎◌, ℕ, ◌≤◌, List, [], ◌∷◌, ◌++◌, Option, Some, None}
-use Rattle.word_machine.specs.Actor.{clock_limit}
+use Rattle.std.specs.Prelude.{◌≡◌, ◌≢◌, ◌⊎◌, ℕ, ◌<◌, ◌≤◌, Bool, true, false, not, List, [], ◌∷◌, ◌++◌, Option, Some, None}
+use Rattle.word_machine.specs.Actor.{Actor, Place, Check, clock_limit}
+use Rattle.seq_model.specs.declared.call.Call.{Call}
+use Rattle.seq_model.specs.declared.call.Reply.{Reply}
+use Rattle.seq_model.specs.declared.event.Answer.TheVariants as answer
 use Rattle.seq_model.specs.declared.event.Event.{Event}
 use Rattle.seq_model.specs.declared.event.Event.TheVariants.{Step}
 use Rattle.seq_model.specs.declared.record.Record.{Record}
 use Rattle.seq_model.specs.declared.refusal.Refusal.{Refusal}
 use Rattle.seq_model.specs.declared.refusal.Refusal.TheVariants.{Exhausted}
 use Rattle.replay_log.specs.Seats as worlds
-use Rattle.replay_log.specs.Seats.{World}
+use Rattle.replay_log.specs.Seats.{World, Stage, Closing, actor_of}
 use Rattle.replay_log.specs.Worlds.{happens, run}
 use Rattle.replay_log.specs.WorldRefusals.{IsCause}
 use Rattle.atomic_steps.specs.Own.{Alike}
@@ -19,7 +22,20 @@ use Rattle.tx_table.specs.Seated.{IsSameSeat, actor, acts, out, view}
 use Rattle.tx_table.specs.Turns.{asked_all, lone}
 use Rattle.tx_table.specs.declared.view.Turn.{Turn}
 use Rattle.tx_phases.specs.Courses.{ComesTo}
-use Rattle.tx_phases.specs.Phases.{Phase, Begins, Calls, Commits, Ends, IsMistaken, phase}
+use Rattle.tx_phases.specs.Phases.{Phase, Rests, Begins, Stands, Calls, Commits, Ends, IsMistaken, phase}
+
+-- a commit that has its number checks what it has read, or has done so: the number is no higher than this clock
+abbrev pub IsStampedAt : ℕ → Actor → Place → Type 0
+IsStampedAt k y (Check ls) = y.wv ≤ k
+IsStampedAt k y p = Unit {0}
+
+abbrev pub IsStamped : ℕ → Actor → Type 0
+IsStamped k y = IsStampedAt k y y.place
+
+-- A writer's number is above the one at which it has begun, and no higher than this clock; a reader's is that one.
+pub record IsNumberOf {V : Type 0} (rv k : ℕ) (r : Record V) : Type 0 where
+  pub writer : r.writes ≡ true → (rv < r.number) × (r.number ≤ k)
+  pub reader : r.writes ≡ false → r.number ≡ rv
 
 module _ {V : Type 0} where
   -- what the definitions have of the actor of a seat, in the own world of the seat
@@ -45,6 +61,10 @@ module _ {V : Type 0} where
     pub reached : run o events ≡ v
     pub alike : Alike (actor s) v (asked_all (actor s) (lone (actor s) o ((view s).turns ++ before)) turn.asks)
 
+  -- one of these turns, from such a world, told this there
+  abbrev pub HasTold : World V → Seat V → Seat V → Told V → Type 0
+  HasTold o s u n = (v : World V) × IsTurnFrom o s u v × ((happens v (Step (actor s))).1 ≡ notice_of (actor s) n)
+
   -- one of these turns found this cause
   abbrev pub HasFound : World V → Seat V → Seat V → Refusal → Type 0
   HasFound o s u cause =
@@ -55,17 +75,33 @@ module _ {V : Type 0} where
   IsExhausted o s u cause =
       (v : World V) × IsTurnFrom o s u v × (cause ≡ Exhausted v.boosted.words.clock) × (clock_limit ≤ v.boosted.words.clock)
 
-  -- What is told of a request that stood so is true: a cause was found by one of its own turns. While nothing is told, a transaction that
+  -- What is told of a request that stood so is true: a begin tells the clock that its seat knows by then, and a cause was found by one of its
+  -- own turns. While nothing is told, a transaction that
   -- is being given up has noted such a cause. One that was given up before is told the cause that it had.
   abbrev pub IsTrue : World V → Seat V → Seat V → Phase V → Told V → Type 0
+  IsTrue o s u Begins (told.Answered (answer.Begun rv)) = rv ≡ (view u).clock
   IsTrue o s u Begins (told.Refused cause) = IsExhausted o s u cause
   IsTrue o s u (Calls calls call) told.Quiet =
       (cause : Refusal) → standing o u ≡ Ends → (seat_in o u).cause ≡ Some cause → HasFound o s u cause
-  IsTrue o s u (Calls calls call) (told.Refused cause) = HasFound o s u cause ⊎ IsMistaken cause
+  IsTrue o s u (Calls calls call) (told.Refused cause) = HasFound o s u cause ⊎ ((standing o u ≡ Stands calls) × IsMistaken cause)
   IsTrue o s u (Commits calls) told.Quiet =
       (cause : Refusal) → standing o u ≡ Ends → (seat_in o u).cause ≡ Some cause → HasFound o s u cause
   IsTrue o s u (Commits calls) (told.Refused cause) = HasFound o s u cause
   IsTrue o s u before n = Unit {0}
+
+  -- a transaction without writes commits by a load of the clock
+  abbrev pub is_closing : Stage V → Bool
+  is_closing Closing = true
+  is_closing st = false
+
+  -- The record that was made says whether there were writes, and a commit without a record goes on as it stood at this stage.
+  abbrev pub IsWritten : Stage V → worlds.Seat V → Option (Record V) → Type 0
+  IsWritten at x (Some r) = r.writes ≡ not (is_closing at)
+  IsWritten at x None = (calls : List (Call V × Reply V)) → phase x ≡ Commits calls → is_closing x.stage ≡ is_closing at
+
+  -- the seat of a commit under way knows its number, where it has one
+  abbrev pub KnowsNumber : World V → Seat V → Type 0
+  KnowsNumber o u = (calls : List (Call V × Reply V)) → standing o u ≡ Commits calls → IsStamped (view u).clock (actor_of (acts o u) (actor u))
 
   -- The seat s took turns and is u, each but the last of which told nothing; the last tells n. It has these turns more, the receipt that
   -- they made, if any, and the bases that it had out; the definitions say what the request comes to, and what is told is true.
@@ -79,3 +115,8 @@ module _ {V : Type 0} where
     pub rises : (view s).clock ≤ (view u).clock
     pub comes : ComesTo (actor s) (seat_in o s) (notice_of (actor s) n) (seat_in o u) d
     pub is_true : IsTrue o s u (standing o s) n
+    pub tells : n ≢ told.Quiet → HasTold o s u n
+    pub written : IsWritten (seat_in o s).stage (seat_in o u) d
+    pub began : (standing o s ≡ Begins → ⊥) → (standing o u ≡ Rests → ⊥) → (seat_in o u).rv ≡ (seat_in o s).rv
+    pub stamped : KnowsNumber o s → KnowsNumber o u
+    pub numbered : KnowsNumber o s → (r : Record V) → d ≡ Some r → IsNumberOf (seat_in o s).rv (view u).clock r

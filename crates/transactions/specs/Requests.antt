@@ -1,31 +1,133 @@
--- What a whole request comes to, from a transaction at rest.
-use Rattle.std.specs.Prelude.{◌≡◌, List, []}
-use Rattle.seq_model.specs.declared.event.Answer.TheVariants as answer
+-- What a whole request comes to: a begin, a call, a commit, an end.
+use Rattle.std.specs.Prelude.{◌≡◌, ◌⊎◌, ℕ, ◌≤◌, Bool, true, false, List, [], ◌∷◌, ◌++◌, Option, Some, None, Result, Ok, Err}
+use Rattle.tx_sets.specs.Entries.{Entries}
 use Rattle.seq_model.specs.declared.call.Call.{Call}
 use Rattle.seq_model.specs.declared.call.Reply.{Reply}
-use Rattle.replay_log.specs.Seats.{World}
+use Rattle.seq_model.specs.declared.event.Answer.TheVariants as answer
+use Rattle.seq_model.specs.declared.event.Request.{Request}
+use Rattle.seq_model.specs.declared.event.Request.TheVariants as request
+use Rattle.seq_model.specs.declared.record.Record.{Record}
+use Rattle.seq_model.specs.declared.refusal.Refusal.{Refusal}
+use Rattle.seq_model.specs.declared.refusal.Refusal.TheVariants.{OutOfMemory}
+use Rattle.replay_log.specs.Seats.{World, actor_of}
 use Rattle.tx_actor.specs.declared.actor.Told.{Told}
 use Rattle.tx_actor.specs.declared.actor.Told.TheVariants as told
 use Rattle.tx_table.specs.declared.seat.Seat.{Seat}
-use Rattle.tx_table.specs.Seated.{IsSameSeat, out, view}
-use Rattle.tx_phases.specs.Phases.{Rests, Stands}
-use Rattle.transactions.specs.Driven.{IsExhausted, seat_in, standing}
+use Rattle.tx_table.specs.Seated.{IsSameSeat, actor, acts, out, view}
+use Rattle.tx_table.specs.declared.view.Turn.{Turn}
+use Rattle.tx_turns.specs.Asked.{Answers}
+use Rattle.tx_phases.specs.Phases.{Rests, Stands, Calls, Commits, IsMistaken}
+use Rattle.transactions.specs.Driven.{Driven, HasFound, HasTold, IsExhausted, seat_in, standing}
+
+-- there is some entry
+abbrev pub has_some : Entries → Bool
+has_some [] = false
+has_some (e ∷ es) = true
 
 module _ {V : Type 0} where
   -- a transaction is open, and has made some calls
   abbrev pub IsOpen : World V → Seat V → Type 0
   IsOpen o s = (calls : List (Call V × Reply V)) × (standing o s ≡ Stands calls)
 
-  -- The seat is the same one, with the same shares, and neither receipts nor bases were gained.
+  -- The seat is the same one, with the same shares, and neither receipts nor bases were gained. It has taken these turns, and knows no
+  -- lower clock.
   pub record KeepsReceipts (s u : Seat V) : Type 0 where
     pub seat : IsSameSeat s u
     pub shares : (view u).shares ≡ (view s).shares
     pub receipts : (view u).receipts ≡ (view s).receipts
     pub outs : out u ≡ out s
+    pub rises : (view s).clock ≤ (view u).clock
+    pub more : List (Turn V)
+    pub turns : (view u).turns ≡ (view s).turns ++ more
 
-  -- A begin tells the number at which the transaction has begun, which is open and has no calls; or it is refused, as a step of its own
-  -- found the clock at its limit, and there is no transaction.
+  -- ---- a begin
+  -- It tells the number at which the transaction has begun, which is open and has no calls. It is the clock that the seat knows by then,
+  -- which is no lower than the one that it knew.
+  pub record IsBegun (o : World V) (s u : Seat V) (rv : ℕ) : Type 0 where
+    pub stands : standing o u ≡ Stands []
+    pub began : (seat_in o u).rv ≡ rv
+    pub clock : rv ≡ (view u).clock
+    pub rises : (view s).clock ≤ rv
+
+  -- or a step of its own found the clock at its limit, and there is no transaction
+  abbrev pub IsNotBegun : World V → Seat V → Seat V → Refusal → Type 0
+  IsNotBegun o s u cause = (standing o u ≡ Rests) × IsExhausted o s u cause
+
+  -- what is told of one that comes to this
+  abbrev pub begin_of : Result ℕ Refusal → Told V
+  begin_of (Ok rv) = told.Answered (answer.Begun rv)
+  begin_of (Err cause) = told.Refused cause
+
+  abbrev pub IsBeginTold : Told V → Type 0
+  IsBeginTold (told.Answered (answer.Begun rv)) = Unit {0}
+  IsBeginTold (told.Refused cause) = Unit {0}
+  IsBeginTold n = ⊥
+
   abbrev pub BeginsTo : World V → Seat V → Seat V → Told V → Type 0
-  BeginsTo o s u (told.Answered (answer.Begun rv)) = (standing o u ≡ Stands []) × ((seat_in o u).rv ≡ rv)
-  BeginsTo o s u (told.Refused cause) = (standing o u ≡ Rests) × IsExhausted o s u cause
+  BeginsTo o s u (told.Answered (answer.Begun rv)) = IsBegun o s u rv
+  BeginsTo o s u (told.Refused cause) = IsNotBegun o s u cause
   BeginsTo o s u n = ⊥
+
+  -- ---- a call, or a commit, that ends its transaction
+  -- there is no transaction any more, for a cause that one of its own turns found, or for want of memory
+  abbrev pub IsEnded : World V → Seat V → Seat V → Refusal → Type 0
+  IsEnded o s u cause = (standing o u ≡ Rests) × (HasFound o s u cause ⊎ (cause ≡ OutOfMemory))
+
+  -- ---- a call
+  -- what is told of one that comes to this
+  abbrev pub told_of : Result (Reply V) Refusal → Told V
+  told_of (Ok reply) = told.Answered (answer.Replied reply)
+  told_of (Err cause) = told.Refused cause
+
+  abbrev pub IsCallTold : Told V → Type 0
+  IsCallTold (told.Answered (answer.Replied reply)) = Unit {0}
+  IsCallTold (told.Refused cause) = Unit {0}
+  IsCallTold n = ⊥
+
+  -- a call that is answered joins those before it with its reply; one that is mistaken leaves the transaction as it was; or it ends it
+  abbrev pub CallLeaves : World V → Seat V → List (Call V × Reply V) → Call V → Seat V → Result (Reply V) Refusal → Type 0
+  CallLeaves o s calls call u (Ok reply) = standing o u ≡ Stands (calls ++ (call, reply) ∷ [])
+  CallLeaves o s calls call u (Err cause) = ((standing o u ≡ Stands calls) × IsMistaken cause) ⊎ IsEnded o s u cause
+
+  -- the definitions answer it so at once, in the own world of the seat, or one of its turns does; or memory is wanting
+  abbrev pub IsAnswered : World V → Seat V → Request V → Seat V → Told V → Type 0
+  IsAnswered o s q u n = Answers o s q n ⊎ ((Answers o s q told.Quiet × HasTold o s u n) ⊎ (n ≡ told.Refused OutOfMemory))
+
+  -- a call is under way
+  abbrev pub IsCalling : World V → Seat V → Type 0
+  IsCalling o s = (calls : List (Call V × Reply V)) × ((call : Call V) × (standing o s ≡ Calls calls call))
+
+  -- its turns end with this
+  abbrev pub IsDriven : World V → Seat V → Seat V → Told V → Type 0
+  IsDriven o s u n = (d : Option (Record V)) × Driven o s u n d
+
+  -- what a call comes to, whatever was called before
+  pub record CallsTo (o : World V) (s : Seat V) (call : Call V) (u : Seat V) (r : Result (Reply V) Refusal) : Type 0 where
+    pub keeps : KeepsReceipts s u
+    pub leaves : (calls : List (Call V × Reply V)) → standing o s ≡ Stands calls → CallLeaves o s calls call u r
+    pub answered : IsAnswered o s (request.Call call) u (told_of r)
+    pub began : IsOpen o u → (seat_in o u).rv ≡ (seat_in o s).rv
+
+  -- ---- a commit
+  -- whether the transaction has written
+  abbrev pub has_written : World V → Seat V → Bool
+  has_written o s = has_some (actor_of (acts o s) (actor s)).writes
+
+  abbrev pub IsCommitting : World V → Seat V → Type 0
+  IsCommitting o s = (calls : List (Call V × Reply V)) × (standing o s ≡ Commits calls)
+
+  -- a commit without a receipt is refused
+  abbrev pub IsCommitTold : Told V → Option (Record V) → Type 0
+  IsCommitTold n (Some r) = Unit {0}
+  IsCommitTold (told.Refused cause) None = Unit {0}
+  IsCommitTold n None = ⊥
+
+  -- The seat has this receipt more, and no transaction; the number that is told is the receipt's.
+  pub record HasCommitted (o : World V) (s u : Seat V) (r : Record V) : Type 0 where
+    pub seat : (u.place.table_id ≡ s.place.table_id) × (actor u ≡ actor s)
+    pub shares : (view u).shares ≡ (view s).shares
+    pub receipts : (view u).receipts ≡ (view s).receipts ++ (actor s, r) ∷ []
+    pub outs : out u ≡ out s
+    pub rises : (view s).clock ≤ (view u).clock
+    pub rests : standing o u ≡ Rests
+    pub told : HasTold o s u (told.Answered (answer.Committed r.number))

@@ -5,9 +5,13 @@
 //! of the seat, which to its actor is one that events have reached (`specs/Driven.antt`).
 #![tactic(auto)]
 
+mod calls;
+mod commits;
 mod driving;
 mod requests;
 mod turns;
 
+pub use calls::{read, write};
+pub use commits::commit;
 pub use driving::drive;
-pub use requests::{abort, begin};
+pub use requests::{abort, begin, begin_read};

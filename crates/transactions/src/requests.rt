@@ -1,38 +1,88 @@
-//! Whole requests of a transaction on words: one that begins, and one that ends without a commit.
-ghost use Rattle.std.specs.Prelude.{◌≡◌, []};
+//! Requests of a transaction on words: one that begins, and one that ends without a commit.
+ghost use Rattle.std.specs.Prelude.{◌≡◌, [], IfErr, IfOk};
 ghost use Rattle.tx_table.specs.Seated.{blocks_in, opening_of};
 ghost use Rattle.tx_phases.specs.Phases.{Rests};
 ghost use Rattle.transactions.specs.Driven.{standing};
-ghost use Rattle.transactions.specs.Requests.{BeginsTo, IsOpen, KeepsReceipts};
+ghost use Rattle.transactions.specs.Requests.{IsBeginTold, IsBegun, IsNotBegun, IsOpen, KeepsReceipts, begin_of};
 ghost use Rattle.tx_turns.specs.Ties.{Ties};
 
 use crate::driving::drive;
-use seq_model::Value;
+use seq_model::{Answer, Refusal, Value};
 use std::alloc::Global;
-use tx_actor::{Told, TxActor};
+use tx_actor::{Stage, Told, TxActor};
 use tx_table::{Seat, TxTable};
-use tx_turns::{ask_abort, ask_begin};
+use tx_turns::{ask_abort, ask_begin, ask_begin_read};
 
-/// A transaction begins. It is answered with the number at which it has begun, and is open; or it is refused at the limit of the clock,
-/// and there is none.
+/// What a begin comes to of which this is told.
+fn begin_told<V: Value>(told: Told<V>) -> Result<u64, Refusal>
+    requires { IsBeginTold told }
+    ensures { told ≡ begin_of result }
+{
+    match told {
+        Told::Answered(Answer::Begun(rv)) => Ok(rv),
+        Told::Refused(cause) => Err(cause),
+        _ => unreachable!(),
+    }
+}
+
+/// The one turn of a transaction that is to begin.
+fn begun<V: Value>(
+    alloc: Global,
+    table: &TxTable<V>,
+    seat: &mut Seat<V>,
+    actor: &mut TxActor<V>,
+) -> Result<u64, Refusal>
+    requires ties { Ties table.now seat.old actor.old }
+    requires none { blocks_in table.now ≡ [] }
+    requires stage { actor.old.stage ≡ Stage.Beginning }
+    ensures ties { Ties table.now seat.new actor.new }
+    ensures keeps { KeepsReceipts seat.old seat.new }
+    ensures begun { IfOk result (IsBegun (opening_of table.now) seat.old seat.new) }
+    ensures refused { IfErr result (IsNotBegun (opening_of table.now) seat.old seat.new) }
+{
+    match drive(alloc, table, seat, actor) {
+        Ok((told, _)) => begin_told(told),
+        Err(_) => unreachable!(),
+    }
+}
+
+/// A transaction begins, and is answered with the number at which it has begun. `Exhausted` at the limit of the clock, and there is none.
 pub fn begin<V: Value>(
     alloc: Global,
     table: &TxTable<V>,
     seat: &mut Seat<V>,
     actor: &mut TxActor<V>,
-) -> Told<V>
+) -> Result<u64, Refusal>
     requires ties { Ties table.now seat.old actor.old }
     requires none { blocks_in table.now ≡ [] }
     requires rests { standing (opening_of table.now) seat.old ≡ Rests }
     ensures ties { Ties table.now seat.new actor.new }
     ensures keeps { KeepsReceipts seat.old seat.new }
-    ensures begins { BeginsTo (opening_of table.now) seat.old seat.new result }
+    ensures begun { IfOk result (IsBegun (opening_of table.now) seat.old seat.new) }
+    ensures refused { IfErr result (IsNotBegun (opening_of table.now) seat.old seat.new) }
 {
     ask_begin(table, seat, actor);
-    match drive(alloc, table, seat, actor) {
-        Ok((told, _)) => told,
-        Err(_) => unreachable!(),
-    }
+    begun(alloc, table, seat, actor)
+}
+
+/// A transaction begins that writes nothing. It keeps no read set, so that its reads are as many as its calls may be. `Exhausted` at the
+/// limit of the clock, and there is none.
+pub fn begin_read<V: Value>(
+    alloc: Global,
+    table: &TxTable<V>,
+    seat: &mut Seat<V>,
+    actor: &mut TxActor<V>,
+) -> Result<u64, Refusal>
+    requires ties { Ties table.now seat.old actor.old }
+    requires none { blocks_in table.now ≡ [] }
+    requires rests { standing (opening_of table.now) seat.old ≡ Rests }
+    ensures ties { Ties table.now seat.new actor.new }
+    ensures keeps { KeepsReceipts seat.old seat.new }
+    ensures begun { IfOk result (IsBegun (opening_of table.now) seat.old seat.new) }
+    ensures refused { IfErr result (IsNotBegun (opening_of table.now) seat.old seat.new) }
+{
+    ask_begin_read(table, seat, actor);
+    begun(alloc, table, seat, actor)
 }
 
 /// An open transaction ends without a commit. Nothing refuses it, and it takes no memory.

@@ -1,0 +1,244 @@
+-- A call is asked, and driven where nothing is told at once.
+--
+-- What the ask tells in the own world says where the transaction stands (`asks_move`); that it is not given up there is a law on worlds that
+-- events have reached, and the own world is one of these to its actor. What the turns come to is the law on courses (`Driven.comes`).
+use Rattle.std.proofs.Common.{◌≡◌, ◌≢◌, ◌⊎◌, ℕ, Bool, true, false, cond, ◌&&◌, not, List, [], ◌∷◌, length, Option, None, Result, Ok, Err, inl, inr, refl, sym, ap, ◌∙◌, subst}
+use Rattle.std.specs.Prelude.{nat_lt}
+use Rattle.word_machine.specs.Requests as word
+use Rattle.seq_model.specs.declared.call.Call.{Call}
+use Rattle.seq_model.specs.declared.call.Op.TheVariants.{Write}
+use Rattle.seq_model.specs.declared.call.Reply.{Reply}
+use Rattle.seq_model.specs.declared.call.Reply.TheVariants as replies
+use Rattle.seq_model.specs.declared.event.Answer.TheVariants as answer
+use Rattle.seq_model.specs.declared.event.Event.TheVariants.{Ask}
+use Rattle.seq_model.specs.declared.event.Notice.{Notice}
+use Rattle.seq_model.specs.declared.event.Notice.TheVariants.{Quiet, Answered, Refused}
+use Rattle.seq_model.specs.declared.event.Request.{Request}
+use Rattle.seq_model.specs.declared.event.Request.TheVariants as request
+use Rattle.seq_model.specs.declared.limits.TheConstants.{CALL_LIMIT}
+use Rattle.seq_model.specs.declared.record.Record.{Record}
+use Rattle.seq_model.specs.declared.refusal.Refusal.{Refusal}
+use Rattle.seq_model.specs.declared.refusal.Refusal.TheVariants.{NoSuch, OutOfMemory, TooLong}
+use Rattle.replay_log.proofs.AskLemmas.{only_abort}
+use Rattle.replay_log.proofs.EventLemmas.{opened_linked, run_linked}
+use Rattle.replay_log.specs.Seats as worlds
+use Rattle.replay_log.specs.Seats.{World, After, Seat, Stage, acted, actor_of, asks}
+use Rattle.replay_log.specs.Worlds.{ask_at, ask_op, fits, happens, if_allowed, replied, run}
+use Rattle.replay_log.specs.WorldRefusals.{is_ending}
+use Rattle.atomic_steps.proofs.OwnEvents.{own_event}
+use Rattle.tx_actor.specs.Running.{notice_of}
+use Rattle.tx_actor.specs.declared.actor.Told.{Told}
+use Rattle.tx_actor.specs.declared.actor.Told.TheVariants as told
+use Rattle.tx_actor.specs.declared.actor.TxActor.{TxActor}
+use Rattle.tx_table.specs.Opening.{blocks_at}
+use Rattle.tx_table.specs.declared.seat.Seat as table
+use Rattle.tx_table.specs.declared.table.TxTable.{TxTable}
+use Rattle.tx_table.specs.Seated.{acts, opening_of}
+use Rattle.tx_table.specs.Seated as seated
+use Rattle.tx_phases.proofs.CourseLemmas.{ends_at}
+use Rattle.tx_phases.proofs.PhaseLemmas.{asks_move}
+use Rattle.tx_phases.specs.Courses.{ComesTo, EndsFrom, IsGivenUp, IsUnderWay, IsUnderWayFrom}
+use Rattle.tx_phases.specs.Phases.{AskMoves, CallMoves, Phase, Rests, Begins, Stands, Calls, Commits, Ends, IsMistaken, phase, phase_at}
+use Rattle.transactions.proofs.KeptLemmas.{Keeps, asks_keep}
+use Rattle.transactions.proofs.RequestLemmas.{asked_keeps, found_back, then_keeps, told_back, turns_keep}
+use Rattle.transactions.specs.Driven.{Driven, HasFound, IsTrue, seat_in, standing}
+use Rattle.transactions.specs.Requests.{CallLeaves, CallsTo, IsCallTold, IsDriven, IsOpen, KeepsReceipts, told_of}
+use Rattle.tx_turns.proofs.AskedLemmas.{acts_taken}
+use Rattle.tx_turns.specs.Asked.{Answers, HasAsked, write_of}
+use Rattle.tx_turns.specs.Ties.{Ties}
+
+module _ {V : Type 0} where
+  -- an open transaction
+  pub stands_at : (cs calls : List (Call V × Reply V)) (st : Stage V) → phase_at cs st ≡ Stands calls → st ≡ worlds.Open
+  stands_at cs calls worlds.Open h = refl
+  stands_at cs calls st h = absurd (let z : ⊥ = cc in z)
+
+  stands_going : (cs calls : List (Call V × Reply V)) (st : Stage V) → phase_at cs st ≡ Stands calls → is_ending st ≡ false
+  stands_going cs calls st h = ap is_ending (stands_at cs calls st h)
+
+  stands_busy : (p : Phase V) (calls : List (Call V × Reply V)) → p ≡ Stands calls → p ≡ Rests → ⊥
+  stands_busy p calls e h = (let k : Stands calls ≡ Rests = sym e ∙ h in cc)
+
+  -- ---- a call that is driven
+  pub under_call : (x : Seat V) (calls : List (Call V × Reply V)) (call : Call V) → phase x ≡ Calls calls call → IsUnderWay x x None
+  under_call x calls call at = subst (λ (p : Phase V). IsUnderWayFrom x p x None) (sym at) (inl at, refl)
+
+  told_some : (r : Result (Reply V) Refusal) → told_of r ≢ told.Quiet
+  told_some (Ok r) e = cc
+  told_some (Err cause) e = cc
+
+  module _ (o : World V) (m u : table.Seat V) (calls : List (Call V × Reply V)) (call : Call V) (at : standing o m ≡ Calls calls call) where
+    abbrev b : ℕ
+    b = seated.actor m
+
+    -- only a commit stops for want of memory
+    pub call_never : (cs : List (Call V × Reply V)) → Driven o m u told.Quiet None → standing o u ≡ Commits cs → ⊥
+    call_never cs D on =
+        refuse (subst (λ (p : Phase V). IsUnderWayFrom (seat_in o m) p (seat_in o u) None) at D.comes).0
+      where
+        refuse : (standing o u ≡ Calls calls call) ⊎ IsGivenUp (seat_in o u) → ⊥
+        refuse (inl h) = (let e : Calls calls call ≡ Commits cs = sym h ∙ on in cc)
+        refuse (inr h) = (let e : Ends ≡ Commits cs = sym h.0 ∙ on in cc)
+
+    -- as the course has it
+    call_ends : (n : Told V) (d : Option (Record V)) → n ≢ told.Quiet → ComesTo b (seat_in o m) (notice_of b n) (seat_in o u) d
+        → EndsFrom b (seat_in o m) (Calls calls call) (notice_of b n) (seat_in o u) d
+    call_ends told.Quiet d ne h = absurd (ne refl)
+    call_ends (told.Answered p) d ne h = subst (λ (k : Phase V). EndsFrom b (seat_in o m) k (Answered b p) (seat_in o u) d) at h
+    call_ends (told.Refused cause) d ne h = subst (λ (k : Phase V). EndsFrom b (seat_in o m) k (Refused b cause) (seat_in o u) d) at h
+
+    made_none : (n : Told V) (d : Option (Record V)) → EndsFrom b (seat_in o m) (Calls calls call) (notice_of b n) (seat_in o u) d
+        → (d ≡ None) × IsCallTold n
+    made_none told.Quiet d h = absurd h
+    made_none (told.Answered (answer.Replied r)) d h = (h.1, tt)
+    made_none (told.Answered p) d h = absurd h
+    made_none (told.Refused cause) d h = (h.1, tt)
+
+    pub call_said : (n : Told V) (d : Option (Record V)) → n ≢ told.Quiet → Driven o m u n d → IsCallTold n
+    call_said n d ne D = (made_none n d (call_ends n d ne D.comes)).1
+
+    call_keeps : (n : Told V) (d : Option (Record V)) → n ≢ told.Quiet → Driven o m u n d → KeepsReceipts m u
+    call_keeps n d ne D = turns_keep o m u n d (made_none n d (call_ends n d ne D.comes)).0 D
+
+    call_left : (r : Result (Reply V) Refusal) (d : Option (Record V)) → Driven o m u (told_of r) d → CallLeaves o m calls call u r
+    call_left (Ok r) d D = (call_ends (told.Answered (answer.Replied r)) d (told_some (Ok r)) D.comes).0
+    call_left (Err cause) d D =
+        by_truth (call_ends (told.Refused cause) d (told_some (Err cause)) D.comes).0
+        (subst (λ (k : Phase V). IsTrue o m u k (told.Refused cause)) at D.is_true)
+      where
+        by_truth : ((standing o u ≡ Stands calls) × IsMistaken cause) ⊎ (standing o u ≡ Rests)
+            → HasFound o m u cause ⊎ ((standing o u ≡ Stands calls) × IsMistaken cause) → CallLeaves o m calls call u (Err cause)
+        by_truth (inl stays) truth = inl stays
+        by_truth (inr rests) (inl found) = inr (rests, inl found)
+        by_truth (inr rests) (inr stays) = inl stays
+
+  leaves_back : (o : World V) (s m u : table.Seat V) (calls : List (Call V × Reply V)) (call : Call V) (r : Result (Reply V) Refusal)
+      → KeepsReceipts s m → CallLeaves o m calls call u r → CallLeaves o s calls call u r
+  leaves_back o s m u calls call (Ok r) kept h = h
+  leaves_back o s m u calls call (Err cause) kept (inl stays) = inl stays
+  leaves_back o s m u calls call (Err cause) kept (inr (rests, inl found)) = inr (rests, inl (found_back o s m u cause kept found))
+  leaves_back o s m u calls call (Err cause) kept (inr (rests, inr memory)) = inr (rests, inr memory)
+
+  -- ---- what a call is told as it is asked
+  module _ (t : TxTable V) (s m : table.Seat V) (call : Call V) (opened : IsOpen (opening_of t) s)
+      (has : HasAsked s (request.Call call) m) where
+    abbrev o : World V
+    o = opening_of t
+
+    abbrev a : ℕ
+    a = seated.actor s
+
+    abbrev q : Request V
+    q = request.Call call
+
+    at_open : (seat_in o s).stage ≡ worlds.Open
+    at_open = stands_at (seat_in o s).calls opened.0 (seat_in o s).stage opened.1
+
+    seat_is : seat_in o m ≡ (happens (acts o s) (Ask a q)).0.seats a
+    seat_is i = (acts_taken o s m (Ask 0 q) has i).seats (has.0.1 i)
+
+    moves : (calls : List (Call V × Reply V)) → standing o s ≡ Stands calls → (n : Told V) → Answers o s q n
+        → CallMoves calls call (notice_of a n) (standing o m)
+    moves calls on n is =
+        subst (λ (k : Phase V × Notice V × Phase V). AskMoves k.0 q k.1 k.2) (λ i. (on i, sym is i, phase (sym seat_is i)))
+        (asks_move (acts o s) a q)
+
+    -- what is told at once is a reply or a refusal
+    pub call_told : (calls : List (Call V × Reply V)) → standing o s ≡ Stands calls → (n : Told V) → n ≢ told.Quiet → Answers o s q n
+        → IsCallTold n
+    call_told calls on told.Quiet ne is = absurd (ne refl)
+    call_told calls on (told.Answered (answer.Replied r)) ne is = tt
+    call_told calls on (told.Answered p) ne is = absurd (moves calls on (told.Answered p) is)
+    call_told calls on (told.Refused cause) ne is = tt
+
+    leaves_now : (calls : List (Call V × Reply V)) → standing o s ≡ Stands calls → (r : Result (Reply V) Refusal) → Answers o s q (told_of r)
+        → CallLeaves o s calls call m r
+    leaves_now calls on (Ok reply) is = moves calls on (told.Answered (answer.Replied reply)) is
+    leaves_now calls on (Err cause) is = inl (moves calls on (told.Refused cause) is)
+
+    began_asked : (standing o m ≡ Rests → ⊥) → (seat_in o m).rv ≡ (seat_in o s).rv
+    began_asked busy = kept (asks_keep (acts o s) a q at_open)
+      where
+        kept : Keeps (seat_in o s).rv ((happens (acts o s) (Ask a q)).0.seats a) → (seat_in o m).rv ≡ (seat_in o s).rv
+        kept (inl e) = ap (λ (x : Seat V). x.rv) seat_is ∙ e
+        kept (inr e) = absurd (busy (ap phase seat_is ∙ e))
+
+    pub at_once : (n : Told V) (r : Result (Reply V) Refusal) → n ≡ told_of r → Answers o s q n → CallsTo o s call m r
+    at_once n r e is = record {
+      keeps = asked_keeps s m (has.0, has.1);
+      leaves = λ calls on. leaves_now calls on r (subst (λ k. Answers o s q k) e is);
+      answered = inl (subst (λ k. Answers o s q k) e is);
+      began = λ still. began_asked (stands_busy (standing o m) still.0 still.1);
+    }
+
+    -- ---- where nothing is told
+    not_given_up : (r : TxActor V) → Ties t s r → (calls : List (Call V × Reply V)) → standing o s ≡ Stands calls → standing o m ≡ Ends → ⊥
+    not_given_up r ties calls on ends =
+        let key = t.whole.shared.key in
+        let h = ties.reached in
+        let w = run o h.events in
+        let linked = run_linked h.events o
+        (opened_linked (blocks_at key) key.shape.value.clock key.state.value.words key.state.value.held h.stripes) in
+        let alike = own_event a w (acts o s) (Ask a q) h.alike refl in
+        let going : is_ending (w.seats a).stage ≡ false =
+        stands_going (w.seats a).calls calls (w.seats a).stage (ap phase h.alike.seat ∙ on) in
+        let over = ends_at ((happens w (Ask a q)).0.seats a) (ap phase (alike.0.seat ∙ sym seat_is) ∙ ends) in
+        let e : q ≡ request.Abort = only_abort w a q linked going over in
+        let z : ⊥ = cc in z
+
+    pub calls_on : (r : TxActor V) → Ties t s r → (calls : List (Call V × Reply V)) → standing o s ≡ Stands calls → Answers o s q told.Quiet
+        → standing o m ≡ Calls calls call
+    calls_on r ties calls on is = elim (moves calls on told.Quiet is) [ inl h ↦ h | inr h ↦ absurd (not_given_up r ties calls on h) ]
+
+    pub driven_calls : (r : TxActor V) (u : table.Seat V) (k : Result (Reply V) Refusal) → Ties t s r → Answers o s q told.Quiet
+        → IsDriven o m u (told_of k) → CallsTo o s call u k
+    driven_calls r u k ties is driven =
+        let d = driven.0 in
+        let D = driven.1 in
+        let kept = asked_keeps s m (has.0, has.1) in
+        let at = calls_on r ties opened.0 opened.1 is in
+        record {
+          keeps = then_keeps s m u kept (call_keeps o m u opened.0 call at (told_of k) d (told_some k) D);
+          leaves = λ calls on. leaves_back o s m u calls call k kept (call_left o m u calls call (calls_on r ties calls on is) k d D);
+          answered = inr (inl (is, told_back o s m u (told_of k) kept (D.tells (told_some k))));
+          began = λ still. D.began (λ e. (let z : Calls opened.0 call ≡ Begins = sym at ∙ e in cc)) (stands_busy (standing o u) still.0 still.1)
+              ∙ began_asked (λ e. (let z : Calls opened.0 call ≡ Rests = sym at ∙ e in cc));
+        }
+
+  -- ---- where memory was refused
+  pub call_starved : (o : World V) (s u : table.Seat V) (call : Call V) → KeepsReceipts s u → standing o u ≡ Rests
+      → CallsTo o s call u (Err OutOfMemory)
+  call_starved o s u call kept rests = record {
+    keeps = kept;
+    leaves = λ calls on. inr (rests, inr refl);
+    answered = inr (inr refl);
+    began = λ still. absurd (stands_busy (standing o u) still.0 still.1 rests);
+  }
+
+  -- ---- a write is answered as it is asked
+  choose_tells : (b : Bool) (r s : After V) → (r.1 ≡ Quiet → ⊥) → (s.1 ≡ Quiet → ⊥) → (cond b r s).1 ≡ Quiet → ⊥
+  choose_tells true r s h g = h
+  choose_tells false r s h g = g
+
+  allowed_tells : (w : World V) (a : ℕ) (x : Seat V) (known room : Bool) (next : After V) → (next.1 ≡ Quiet → ⊥)
+      → (if_allowed w a x known room next).1 ≡ Quiet → ⊥
+  allowed_tells w a x known room next h =
+      let full : After V = (w, Refused a TooLong) in
+      let none : After V = (w, Refused a NoSuch) in
+      choose_tells known (cond (nat_lt (length x.calls) CALL_LIMIT && room) next full) none
+      (choose_tells (nat_lt (length x.calls) CALL_LIMIT && room) next full h (λ e. cc)) (λ e. cc)
+
+  write_quiet : (w : World V) (a : ℕ) (x : Seat V) (t v : ℕ) → (ask_op w a x t (Write v)).1 ≡ Quiet → ⊥
+  write_quiet w a x t v =
+      allowed_tells w a x (nat_lt t w.words && not (actor_of w a).declared) (fits (actor_of w a).writes (t ∷ []))
+      (replied (acted w (asks a (word.AskWrite t v) ∷ [])) a x (record { target = t; op = Write v }) replies.Done) (λ e. cc)
+
+  pub write_tells : (o : World V) (s : table.Seat V) (l value : ℕ) (calls : List (Call V × Reply V)) (n : Told V)
+      → standing o s ≡ Stands calls → Answers o s (write_of l value) n → n ≢ told.Quiet
+  write_tells o s l value calls n on is e =
+      let a = seated.actor s in
+      let w = acts o s in
+      let x = w.seats a in
+      write_quiet w a x l value
+      (ap (λ (st : Stage V). (ask_at w a x st (write_of l value)).1) (sym (stands_at x.calls calls x.stage on))
+      ∙ (sym is ∙ ap (notice_of a) e))
