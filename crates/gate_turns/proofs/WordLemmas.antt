@@ -14,6 +14,7 @@ use Rattle.atomic_steps.specs.Steps.{ready_at}
 use Rattle.atomic_steps.specs.Tells.{tells}
 use Rattle.step_core.specs.Answers.{result_of}
 use Rattle.step_core.specs.Shown as words
+use Rattle.step_core.specs.Sound.{Fits, IsLoad, KeepsRoom}
 use Rattle.step_core.specs.declared.actor.Actor as running
 use Rattle.step_core.specs.declared.answer.WordAnswer.{WordAnswer}
 use Rattle.step_core.specs.declared.answer.WordRefusal.{WordRefusal}
@@ -21,9 +22,10 @@ use Rattle.actor_words.specs.Dispatch.{AreSteps, is_loading, next_of, notice_tol
 use Rattle.actor_words.specs.declared.next.Next.{Next}
 use Rattle.actor_words.specs.declared.next.Next.TheVariants as next
 use Rattle.tx_actor.specs.Having.{HasLoaded, IsWholeOf, KeepsCopies}
-use Rattle.tx_actor.specs.Keeping.{IsRunning}
+use Rattle.tx_actor.specs.Keeping.{HasHeard, IsRunning}
 use Rattle.tx_actor.specs.Loading.{MayHear}
-use Rattle.tx_actor.specs.Loads.{IsToldLoad}
+use Rattle.tx_actor.specs.Loads.{IsLoadable, IsToldLoad}
+use Rattle.tx_actor.specs.Reading.{LoadsKeep}
 use Rattle.tx_actor.specs.Seated.{SeatsActors}
 use Rattle.tx_actor.specs.Staying.{LoadsStayOwn}
 use Rattle.tx_actor.specs.Running.{stage_of}
@@ -33,7 +35,7 @@ use Rattle.tx_actor.specs.declared.actor.Told.{Told}
 use Rattle.tx_actor.specs.declared.actor.TxActor.{TxActor}
 use Rattle.actor_turns.specs.Kept.{StepsKeep}
 use Rattle.actor_turns.proofs.GatesLemmas.{step_first_gates, step_load_gates, step_word_gates}
-use Rattle.actor_turns.proofs.LoadLemmas.{HasMoved, load_keeps, load_runs, loads_word}
+use Rattle.actor_turns.proofs.LoadLemmas.{HasMoved, load_heard, load_keeps, load_runs, loads_word}
 use Rattle.actor_turns.proofs.OwnLemmas.{OthersLaw}
 use Rattle.actor_turns.proofs.SeatLemmas.{loading_as, next_as}
 use Rattle.actor_turns.proofs.StepLemmas.{first_is, quiet_first}
@@ -153,6 +155,19 @@ module _ {V : Type 0} where
         step.learns.told ∙ ap result_of (tells_found step.due x x.place step.number f step.deed step.touches.finds
             ∙ (sym (ap (tells x x.place) is) ∙ sym (step_tells_cell w a x c runs.1 at.1))),
       )
+
+  -- so the load may be heard
+  pub load_hears : AreSteps V → LoadsKeep V → (t : TxTable V) (s u : table.Seat V) (r : TxActor V) (y : running.Actor)
+      (told : Result (Option WordAnswer) WordRefusal) → is_loading (stage_of r.stage) ≡ true → Ties t s r
+      → StepsWords (opening_of t) s r.words u y told → (IsLoad r.words.place → KeepsRoom r.words y)
+      → ((n : ℕ) → Fits n r.words → Fits n y)
+      → let m : TxActor V = record r { words = y } in
+      IsLoadable m m.stage (notice_told told) × HasHeard (laid_in t) m (notice_told told)
+  load_hears steps keep t s u r y told loading ties step room fits =
+      let h = step.touches.takes.happened in
+      load_heard steps keep (laid_in t) (run (opening_of t) h.events) (seated.actor s) r y told loading ties.running
+      (there_runs t s r ties h.events h.alike) (load_moved t s u r y told ties step (loads_word r r.stage loading ties.running.room)) room
+      fits
 
   pub load_tied : AreSteps V → MayHear V → SeatsActors V → LoadsStayOwn V → OthersLaw V → (t : TxTable V) (s u : table.Seat V)
       (r q : TxActor V) (y : running.Actor) (told : Result (Option WordAnswer) WordRefusal) (n : Told V) (bs : List (Base V))

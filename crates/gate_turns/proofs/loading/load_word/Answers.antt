@@ -1,10 +1,7 @@
-use Rattle.actor_turns.proofs.LoadLemmas.{load_heard, loads_word}
-use Rattle.replay_log.specs.Worlds.{run}
-use Rattle.tx_table.specs.Seated.{actor, opening_of}
+use Rattle.actor_turns.proofs.LoadLemmas.{loads_word}
 use Rattle.tx_turns.specs.Ties.{laid_in}
 use Rattle.tx_turns.proofs.TurnLemmas.{word_is_due, word_is_next}
-use Rattle.gate_turns.proofs.ThereLemmas.{there_runs}
-use Rattle.gate_turns.proofs.WordLemmas.{load_moved, load_tied}
+use Rattle.gate_turns.proofs.WordLemmas.{load_hears, load_tied}
 use Rattle.gate_turns.proofs.loading.load_word.Goals as goal
 
 pub step_words-told-requires-clause-own : goal.step_words-told-requires-clause-own
@@ -31,72 +28,55 @@ loaded-requires g c =
     let t = c.args.table.now in
     let s = c.args.seat.now in
     let r = c.args.actor.now in
+    let e = c.step_words-told.ensures in
     let u = c.step_words-told.new.seat in
     let y = c.step_words-told.new.actor in
     let told = c.step_words-told.result in
     let ties = c.requires.ties in
-    let step = c.step_words-told.ensures.steps in
-    let h = step.touches.takes.happened in
-    record {
-      prepared = (load_heard c.steps_as_worlds.ensures c.loads_keep_running.ensures (laid_in t) (run (opening_of t) h.events) (actor s) r y told c.requires.loading ties.running
-          (there_runs t s r ties h.events h.alike)
-          (load_moved t s u r y told ties step (loads_word r r.stage c.requires.loading ties.running.room)) c.step_words-told.ensures.room
-          c.step_words-told.ensures.fits).0;
-    }
+    let heard = load_hears c.steps_as_worlds.ensures c.loads_keep_running.ensures t s u r y told c.requires.loading ties e.steps e.room e.fits in
+    record { prepared = heard.0 }
 
 pub returns-clause-turned : goal.returns-clause-turned
 returns-clause-turned g c =
     let t = c.args.table.now in
     let s = c.args.seat.now in
     let r = c.args.actor.now in
+    let e = c.step_words-told.ensures in
     let u = c.step_words-told.new.seat in
     let y = c.step_words-told.new.actor in
     let told = c.step_words-told.result in
     let ties = c.requires.ties in
-    let step = c.step_words-told.ensures.steps in
-    let h = step.touches.takes.happened in
-    let heard = load_heard c.steps_as_worlds.ensures c.loads_keep_running.ensures (laid_in t) (run (opening_of t) h.events) (actor s) r y told c.requires.loading ties.running
-    (there_runs t s r ties h.events h.alike)
-    (load_moved t s u r y told ties step (loads_word r r.stage c.requires.loading ties.running.room)) c.step_words-told.ensures.room
-    c.step_words-told.ensures.fits in
+    let heard = load_hears c.steps_as_worlds.ensures c.loads_keep_running.ensures t s u r y told c.requires.loading ties e.steps e.room e.fits in
     (load_tied c.steps_as_worlds.ensures c.loads_as_worlds.ensures.heard c.seats_as_actors.ensures c.loads_stay_own.ensures
-    c.copies_by_stage.ensures.others t s u r c.loaded.new.self y told c.loaded.result c.args.bases.now c.requires.loading ties c.requires.own step
-    c.loaded.ensures.does ((c.loaded.ensures.keeps (laid_in t)).running heard.1) c.loaded.ensures.goes).1
+    c.copies_by_stage.ensures.others t s u r c.loaded.new.self y told c.loaded.result c.args.bases.now c.requires.loading ties
+    c.requires.own e.steps c.loaded.ensures.does ((c.loaded.ensures.keeps (laid_in t)).running heard.1) c.loaded.ensures.goes).1
 
 pub returns-clause-ties : goal.returns-clause-ties
 returns-clause-ties g c =
     let t = c.args.table.now in
     let s = c.args.seat.now in
     let r = c.args.actor.now in
+    let e = c.step_words-told.ensures in
     let u = c.step_words-told.new.seat in
     let y = c.step_words-told.new.actor in
     let told = c.step_words-told.result in
     let ties = c.requires.ties in
-    let step = c.step_words-told.ensures.steps in
-    let h = step.touches.takes.happened in
-    let heard = load_heard c.steps_as_worlds.ensures c.loads_keep_running.ensures (laid_in t) (run (opening_of t) h.events) (actor s) r y told c.requires.loading ties.running
-    (there_runs t s r ties h.events h.alike)
-    (load_moved t s u r y told ties step (loads_word r r.stage c.requires.loading ties.running.room)) c.step_words-told.ensures.room
-    c.step_words-told.ensures.fits in
+    let heard = load_hears c.steps_as_worlds.ensures c.loads_keep_running.ensures t s u r y told c.requires.loading ties e.steps e.room e.fits in
     (load_tied c.steps_as_worlds.ensures c.loads_as_worlds.ensures.heard c.seats_as_actors.ensures c.loads_stay_own.ensures
-    c.copies_by_stage.ensures.others t s u r c.loaded.new.self y told c.loaded.result c.args.bases.now c.requires.loading ties c.requires.own step
-    c.loaded.ensures.does ((c.loaded.ensures.keeps (laid_in t)).running heard.1) c.loaded.ensures.goes).0
+    c.copies_by_stage.ensures.others t s u r c.loaded.new.self y told c.loaded.result c.args.bases.now c.requires.loading ties
+    c.requires.own e.steps c.loaded.ensures.does ((c.loaded.ensures.keeps (laid_in t)).running heard.1) c.loaded.ensures.goes).0
 
 pub returns-clause-own : goal.returns-clause-own
 returns-clause-own g c =
     let t = c.args.table.now in
     let s = c.args.seat.now in
     let r = c.args.actor.now in
+    let e = c.step_words-told.ensures in
     let u = c.step_words-told.new.seat in
     let y = c.step_words-told.new.actor in
     let told = c.step_words-told.result in
     let ties = c.requires.ties in
-    let step = c.step_words-told.ensures.steps in
-    let h = step.touches.takes.happened in
-    let heard = load_heard c.steps_as_worlds.ensures c.loads_keep_running.ensures (laid_in t) (run (opening_of t) h.events) (actor s) r y told c.requires.loading ties.running
-    (there_runs t s r ties h.events h.alike)
-    (load_moved t s u r y told ties step (loads_word r r.stage c.requires.loading ties.running.room)) c.step_words-told.ensures.room
-    c.step_words-told.ensures.fits in
+    let heard = load_hears c.steps_as_worlds.ensures c.loads_keep_running.ensures t s u r y told c.requires.loading ties e.steps e.room e.fits in
     (load_tied c.steps_as_worlds.ensures c.loads_as_worlds.ensures.heard c.seats_as_actors.ensures c.loads_stay_own.ensures
-    c.copies_by_stage.ensures.others t s u r c.loaded.new.self y told c.loaded.result c.args.bases.now c.requires.loading ties c.requires.own step
-    c.loaded.ensures.does ((c.loaded.ensures.keeps (laid_in t)).running heard.1) c.loaded.ensures.goes).2
+    c.copies_by_stage.ensures.others t s u r c.loaded.new.self y told c.loaded.result c.args.bases.now c.requires.loading ties
+    c.requires.own e.steps c.loaded.ensures.does ((c.loaded.ensures.keeps (laid_in t)).running heard.1) c.loaded.ensures.goes).2
