@@ -6,3 +6,4 @@ pub mod DrivenLemmas
 pub mod RequestLemmas
 pub mod CallLemmas
 pub mod CommitLemmas
+pub mod ReadyLemmas

@@ -9,9 +9,11 @@ mod calls;
 mod commits;
 mod driving;
 mod requests;
+mod seats;
 mod turns;
 
 pub use calls::{read, write};
 pub use commits::commit;
 pub use driving::drive;
 pub use requests::{abort, begin, begin_read};
+pub use seats::TxSeat;
