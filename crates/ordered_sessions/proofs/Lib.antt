@@ -1,0 +1,3 @@
+pub mod OpeningLemmas
+pub mod OrderLemmas
+pub mod SessionLemmas

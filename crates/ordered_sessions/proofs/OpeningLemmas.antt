@@ -1,0 +1,75 @@
+-- A world opens on balanced tables wherever a collection may have so many stripes, and the client has done nothing in it.
+use Rattle.std.proofs.Common.{ℕ, ◌+◌, ◌≤◌, List, [], ◌∷◌, length, refl, arith}
+use Rattle.conflict.specs.Refusals.{IsStripeCount}
+use Rattle.seq_model.specs.declared.limits.TheConstants.{INDEX_LIMIT}
+use Rattle.replay_log.specs.Collections.{Suit}
+use Rattle.replay_log.specs.Contents.{HaveStripes}
+use Rattle.replay_log.specs.WorldProgress.{AreSmall}
+use Rattle.vac_model.specs.Balanced.{IsBalanced}
+use Rattle.vac_model.specs.Holdings.{Holdings, queue}
+use Rattle.vac_model.specs.declared.action.Action.{Action}
+use Rattle.vac_model.specs.declared.action.Action.TheVariants.{QueryItem}
+use Rattle.vac_model.specs.declared.item.Kind.TheVariants.{Car, Flight, Room}
+use Rattle.vacation_core.specs.declared.entry.Entry.{Entry}
+use Rattle.vacation_core.specs.Holding.{HaveIndexes, state_of}
+use Rattle.world_table.specs.Openings.{blocks_of, world_of}
+use Rattle.running_world.specs.Parts.{IsWorld}
+use Rattle.running_world.specs.declared.parts.Parts.{Parts}
+use Rattle.ordered_sessions.specs.Turns.{HasOpened}
+
+-- so many stripes for each collection
+abbrev pub eight : ℕ → List ℕ
+eight n = n ∷ n ∷ n ∷ n ∷ n ∷ n ∷ n ∷ n ∷ []
+
+pub have_indexes : (tables : Holdings) → IsBalanced tables → HaveIndexes tables
+have_indexes tables balanced k =
+    let within : (queue k tables).head + length (queue k tables).tickets ≤ tables.next = balanced.queues_within k in
+    let next : tables.next ≤ INDEX_LIMIT = balanced.next_within in
+    omega (arith, within, next)
+
+suits : (n : ℕ) (tables : Holdings) → HaveIndexes tables → Suit (blocks_of (eight n) (state_of tables).held) (state_of tables).held
+suits n tables within =
+    (refl, tt, (refl, tt, (refl, tt, (refl, tt, (refl, tt, (refl, within Car, (refl, within Flight, (refl, within Room, tt))))))))
+
+stripes : (n : ℕ) (tables : Holdings) → IsStripeCount n → HaveStripes (blocks_of (eight n) (state_of tables).held)
+stripes n tables count = (count.0, (count.0, (count.0, (count.0, (count.0, (count.0, (count.0, (count.0, tt))))))))
+
+small : (n : ℕ) (tables : Holdings) → IsStripeCount n → AreSmall (blocks_of (eight n) (state_of tables).held)
+small n tables count =
+    let few = count.1 in
+    let map : n ≤ 4096 = omega (arith, few) in
+    let queue : 2 ≤ 4096 = omega arith in
+    (map, (map, (map, (map, (map, (queue, (queue, (queue, tt))))))))
+
+pub opened : (n : ℕ) (tables : Holdings) (c : Parts Entry) → IsStripeCount n → IsBalanced tables
+    → IsWorld c (world_of (eight n) 0 (state_of tables)) → HasOpened tables c
+opened n tables c count balanced parts =
+    let first : Action = QueryItem Car 0 in (
+      first,
+      record {
+        history = record {
+          blocks = blocks_of (eight n) (state_of tables).held;
+          clock = 0;
+          tables = tables;
+          actions = λ a. first;
+          turns = [];
+        };
+        opening = refl;
+        start = refl;
+        actor = refl;
+        small = small n tables count;
+        lawful = record {
+          allowed = λ a. tt;
+          balanced = balanced;
+          stripes = stripes n tables count;
+          suits = suits n tables (have_indexes tables balanced);
+          asks = tt;
+        };
+        alone = tt;
+        plain = tt;
+        asked = omega arith;
+        few = omega arith;
+        at = record { stands = refl; does = refl; has = refl };
+        parts = parts;
+      },
+    )

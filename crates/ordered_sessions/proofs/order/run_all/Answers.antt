@@ -1,0 +1,19 @@
+use Rattle.std.proofs.Common.{arith, subst}
+use Rattle.vac_model.specs.declared.action.Action.{Action}
+use Rattle.ordered_sessions.specs.Turns.{Runs}
+use Rattle.ordered_sessions.proofs.OrderLemmas.{all_of_them, none_so_far, one_more}
+use Rattle.ordered_sessions.proofs.order.run_all.Goals as goal
+
+pub loop-action-init : goal.loop-action-init
+loop-action-init c = none_so_far c.args.actions.now c.args.world.now.parts
+
+pub loop-action-preserved : goal.loop-action-preserved
+loop-action-preserved c =
+    one_more c.args.actions.now c.loop-action.action-index c.action-item.result c.args.world.now.parts c.loop-action.world.parts
+    c.run_session.new.world.parts c.loop-action-test.true c.action-item.is c.requires c.loop-action.invariant
+    (subst (λ (a : Action). Runs a c.loop-action.world.parts c.run_session.new.world.parts) c.in-Ok.ensures.ok c.in_ok-run_session.ensures)
+
+pub returns : goal.returns
+returns c =
+    all_of_them c.args.actions.now c.loop-action.action-index c.args.world.now.parts c.loop-action.world.parts c.loop-action-test.false
+    (omega arith) c.loop-action.invariant

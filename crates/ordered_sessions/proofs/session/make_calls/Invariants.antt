@@ -1,0 +1,5 @@
+use Rattle.ordered_sessions.proofs.SessionLemmas.{Makes}
+use Rattle.ordered_sessions.proofs.session.make_calls.Given as goal
+
+abbrev pub invariant-loop : goal.invariant-loop
+invariant-loop l = Makes l.session l.fn.world.parts l.world.parts l.replies.items l.counter

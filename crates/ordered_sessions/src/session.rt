@@ -1,0 +1,81 @@
+//! One session of the client, from its begin to its commit.
+ghost use Rattle.std.specs.Prelude.{◌≡◌, IfOk, OnOk};
+ghost use Rattle.ordered_sessions.specs.Turns.{Begins, Calls, Commits, MakesCalls, Runs, replied};
+
+use running_world::World;
+use seq_model::{Answer, CALL_LIMIT, Call, Memory, Notice, Reply, Request};
+use session_runs::ask;
+use std::alloc::Global;
+use tx_engine::{Ask, Job};
+use vacation_core::{Entry, Session};
+
+/// The client is this actor.
+pub const CLIENT: u32 = 1;
+
+/// A session asks no more often than this: its calls, and the end.
+const ASK_LIMIT: usize = CALL_LIMIT + 1;
+
+fn reply_in(notice: Notice<Entry>) -> Option<Reply<Entry>>
+    ensures { result ≡ replied notice }
+{
+    match notice {
+        Notice::Answered(_, Answer::Replied(reply)) => Some(reply),
+        _ => None,
+    }
+}
+
+/// Begins the transaction of a session.
+fn begin(world: &mut World<Entry>) -> Result<(), Memory>
+    ensures { OnOk result (Begins world.old.parts world.new.parts) }
+{
+    let _told = ask(world, CLIENT, Request::Begin)?;
+    Ok(())
+}
+
+/// Makes a call of the session. It is refused nothing but memory.
+fn call(world: &mut World<Entry>, call: Call<Entry>) -> Result<Reply<Entry>, Memory>
+    ensures { IfOk result (λ reply. Calls call world.old.parts reply world.new.parts) }
+{
+    let told = ask(world, CLIENT, Request::Call(call))?;
+    match reply_in(told) {
+        Some(reply) => Ok(reply),
+        None => Err(Memory),
+    }
+}
+
+/// Commits the transaction of the session.
+fn commit(world: &mut World<Entry>) -> Result<(), Memory>
+    ensures { OnOk result (Commits world.old.parts world.new.parts) }
+{
+    let _told = ask(world, CLIENT, Request::Commit)?;
+    Ok(())
+}
+
+/// Makes all calls of a session, each after the replies to those before it. It doesn't give up, and asks no more than it may.
+fn make_calls(alloc: Global, world: &mut World<Entry>, session: &Session) -> Result<(), Memory>
+    ensures { OnOk result (MakesCalls session.now world.old.parts world.new.parts) }
+{
+    let mut replies = Vec::new(alloc);
+    for _ in 0..ASK_LIMIT {
+        let next = session.ask(replies.as_slice())?;
+        match next {
+            Ask::Call(asked) => {
+                let reply = call(world, asked)?;
+                replies.push(reply)?;
+            }
+            Ask::Done => return Ok(()),
+            Ask::GiveUp => return Err(Memory),
+        }
+    }
+    Err(Memory)
+}
+
+/// Runs a session: it begins, makes its calls, and commits.
+pub fn run_session(alloc: Global, world: &mut World<Entry>, session: &Session) -> Result<(), Memory>
+    ensures { OnOk result (Runs session.now world.old.parts world.new.parts) }
+{
+    begin(world)?;
+    make_calls(alloc, world, session)?;
+    commit(world)?;
+    Ok(())
+}
