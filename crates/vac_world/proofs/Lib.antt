@@ -1,1 +1,9 @@
 pub mod PlayLemmas
+pub mod HearLemmas
+pub mod TurnLemmas
+pub mod AskLemmas
+pub mod HeardLemmas
+pub mod PlayingLemmas
+pub mod ToldLemmas
+pub mod OpeningLemmas
+pub mod TraceLemmas

@@ -260,8 +260,8 @@ sound_all [] p allowed s = s
 sound_all (Start a action ∷ es) p allowed s =
     sound_all es (played p (Start a action)) allowed.1
     (if_by (is_actor a) _ _ (sound_begins a action p allowed.0 s) (sound_ends a _ p s))
-sound_all (Step a ∷ es) p allowed s = sound_all es (played p (Step a)) allowed (if_by (is_actor a) _ _ (sound_takes_step a p s) s)
-sound_all (Starve a ∷ es) p allowed s = sound_all es (played p (Starve a)) allowed (if_by (is_actor a) _ _ (sound_takes_starve a p s) s)
+sound_all (Step a ∷ es) p allowed s = sound_all es (played p (Step a)) allowed.1 (if_by (is_actor a) _ _ (sound_takes_step a p s) s)
+sound_all (Starve a ∷ es) p allowed s = sound_all es (played p (Starve a)) allowed.1 (if_by (is_actor a) _ _ (sound_takes_starve a p s) s)
 
 pub sound_unplayed : (blocks : List Block) (tables : Holdings) → HaveStripes blocks → Suit blocks (state_of tables).held → IsBalanced tables
     → IsSound (unplayed blocks tables)

@@ -1,2 +1,7 @@
 pub mod Plays
 pub mod Laws
+pub mod Clients
+pub mod Running
+pub mod Openings
+pub mod Told
+pub mod Traces

@@ -122,8 +122,11 @@ unplayed blocks tables =
       given_up = [];
     }
 
--- each action that is begun is allowed
+-- an action that is begun is allowed
+abbrev pub MayHappen : VacEvent → Type 0
+MayHappen (Start a action) = IsAllowed action
+MayHappen e = Unit {0}
+
 abbrev pub AreAllowed : List VacEvent → Type 0
 AreAllowed [] = Unit {0}
-AreAllowed (Start a action ∷ es) = IsAllowed action × AreAllowed es
-AreAllowed (e ∷ es) = AreAllowed es
+AreAllowed (e ∷ es) = MayHappen e × AreAllowed es

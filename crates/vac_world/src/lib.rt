@@ -4,7 +4,13 @@
 //! session asks next, up to the commit. `specs/Plays.antt` says what every list of events comes to.
 #![tactic(auto)]
 
+mod client;
 mod events;
 pub mod laws;
+mod run;
+mod told;
+mod world;
 
 pub use events::VacEvent;
+pub use run::VacTrace;
+pub use world::VacWorld;

@@ -1,0 +1,92 @@
+-- What a running world of clients opens as is the play in which nothing has happened.
+use Rattle.std.proofs.Common.{◌≡◌, ◌≢◌, ℕ, ◌+◌, ◌<◌, ◌≤◌, List, [], ◌∷◌, ◌++◌, length, refl, sym, ◌∙◌, ap, subst, arith}
+use Rattle.std.specs.Prelude.{Some, None, slice_get}
+use Rattle.conflict.specs.Refusals.{IsStripeCount}
+use Rattle.conflict.specs.declared.stripes.TheConstants.{STRIPE_LIMIT}
+use Rattle.seq_model.specs.declared.limits.TheConstants.{CLOCK_LIMIT, INDEX_LIMIT}
+use Rattle.seq_model.specs.declared.refusal.Refusal.{Refusal}
+use Rattle.seq_model.specs.declared.refusal.Refusal.TheVariants.{NoSuch, TooLong, OutOfMemory}
+use Rattle.seq_model.specs.Refusals.{IsNoSuchOrTooLong}
+use Rattle.step_core.specs.Shown.{is_actor}
+use Rattle.replay_log.specs.Collections.{Suit}
+use Rattle.replay_log.specs.Contents.{Block, HaveStripes}
+use Rattle.vac_model.specs.Balanced.{IsBalanced}
+use Rattle.vac_model.specs.Holdings.{Holdings, queue}
+use Rattle.vac_model.specs.declared.item.Kind.{Kind}
+use Rattle.vac_model.specs.declared.item.Kind.TheVariants.{Car, Flight, Room}
+use Rattle.vacation_core.specs.Holding.{HaveIndexes, state_of}
+use Rattle.world_table.specs.Openings.{IsWithin, blocks_of, world_of}
+use Rattle.running_world.specs.Parts.{IsWorld}
+use Rattle.tx_phases.specs.Phases.{Rests}
+use Rattle.vac_world.specs.Openings.{AreNew, IsOutOfMemory, eight, unplayed_on}
+use Rattle.vac_world.specs.Plays.{Play, unplayed}
+use Rattle.vac_world.specs.Running.{IsClient, IsPlay}
+use Rattle.vac_world.specs.declared.client.Client.{Client}
+use Rattle.vac_world.specs.declared.world.VacWorld.{VacWorld}
+use Rattle.vac_world.proofs.PlayLemmas.{IsSound, sound_unplayed}
+use Rattle.std.specs.Prelude.{zero, suc}
+
+pub have_indexes : (tables : Holdings) → IsBalanced tables → HaveIndexes tables
+have_indexes tables balanced k =
+    let within : (queue k tables).head + length (queue k tables).tickets ≤ tables.next = balanced.queues_within k in
+    let next : tables.next ≤ INDEX_LIMIT = balanced.next_within in
+    omega (arith, within, next)
+
+suits : (n : ℕ) (tables : Holdings) → HaveIndexes tables → Suit (blocks_of (eight n) (state_of tables).held) (state_of tables).held
+suits n tables within =
+    (refl, tt, (refl, tt, (refl, tt, (refl, tt, (refl, tt, (refl, within Car, (refl, within Flight, (refl, within Room, tt))))))))
+
+stripes : (n : ℕ) (tables : Holdings) → IsStripeCount n → HaveStripes (blocks_of (eight n) (state_of tables).held)
+stripes n tables count = (count.0, (count.0, (count.0, (count.0, (count.0, (count.0, (count.0, (count.0, tt))))))))
+
+pub is_within : (n : ℕ) (tables : Holdings) → IsStripeCount n → IsWithin (eight n) 0 (state_of tables)
+is_within n tables count = record {
+  clock = omega arith;
+  collections = omega arith;
+  stripes = (count, (count, (count, (count, (count, (count, (count, (count, tt))))))));
+  locations = (let few = count.1 in omega (arith, few));
+}
+
+pub refused : (n : ℕ) (tables : Holdings) (cause : Refusal) → IsStripeCount n
+    → IsNoSuchOrTooLong cause (length (eight n) ≢ length (state_of tables).held) (IsWithin (eight n) 0 (state_of tables))
+    → IsOutOfMemory cause
+refused n tables NoSuch count h = absurd (h refl)
+refused n tables TooLong count h = absurd (h.1 (is_within n tables count))
+refused n tables OutOfMemory count h = tt
+refused n tables cause count h = absurd h
+
+none_some : (x : Client) → None ≡ Some x → ⊥
+none_some x e = cc
+
+some_same : (x y : Client) → Some x ≡ Some y → x ≡ y
+some_same x y e = cc
+
+new_client : (cs : List Client) (i : ℕ) (c : Client) → AreNew cs → slice_get cs i ≡ Some c → c ≡ record { current = None; done = [] }
+new_client [] i c new got = absurd (none_some c got)
+new_client (d ∷ ds) zero c new got = sym (some_same d c got) ∙ new.0
+new_client (d ∷ ds) (suc i) c new got = new_client ds i c new.1 got
+
+pub opens : (n : ℕ) (tables : Holdings) (v : VacWorld) → IsStripeCount n → IsBalanced tables
+    → IsWorld v.world.parts (world_of (eight n) 0 (state_of tables)) → length v.clients.items ≡ 64 → AreNew v.clients.items → v.aborted ≡ []
+    → IsPlay v (unplayed_on n tables)
+opens n tables v count balanced parts many new none =
+    let s : IsSound (unplayed_on n tables) =
+    sound_unplayed (blocks_of (eight n) (state_of tables).held) tables (stripes n tables count) (suits n tables (have_indexes tables balanced))
+    balanced in
+    record {
+      on = record {
+        lawful = s.lawful;
+        goes_on = s.goes_on;
+        parts = parts;
+        count = many;
+        aborted = none;
+        absent = λ a isnt. refl;
+      };
+      clients = λ i c got.
+          let is = new_client v.clients.items i c new got in
+          record { at = Rests; stands = refl; keeps = (ap (λ (d : Client). d.current) is, ap (λ (d : Client). d.done) is) };
+    }
+
+pub new_more : (cs : List Client) (c : Client) → c ≡ record { current = None; done = [] } → AreNew cs → AreNew (cs ++ c ∷ [])
+new_more [] c is new = (is, tt)
+new_more (d ∷ ds) c is new = (new.0, new_more ds c is new.1)

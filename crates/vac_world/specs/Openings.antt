@@ -1,0 +1,26 @@
+-- What a running world of clients opens as, and why it does not.
+use Rattle.std.specs.Prelude.{◌≡◌, ℕ, List, [], ◌∷◌, None}
+use Rattle.seq_model.specs.declared.refusal.Refusal.{Refusal}
+use Rattle.seq_model.specs.declared.refusal.Refusal.TheVariants.{OutOfMemory}
+use Rattle.world_table.specs.Openings.{blocks_of}
+use Rattle.vac_model.specs.Holdings.{Holdings}
+use Rattle.vacation_core.specs.Holding.{state_of}
+use Rattle.vac_world.specs.declared.client.Client.{Client}
+use Rattle.vac_world.specs.Plays.{Play, unplayed}
+
+-- each of the five maps and three queues has so many stripes
+abbrev pub eight : ℕ → List ℕ
+eight n = n ∷ n ∷ n ∷ n ∷ n ∷ n ∷ n ∷ n ∷ []
+
+-- nothing has happened yet, on these tables
+abbrev pub unplayed_on : ℕ → Holdings → Play
+unplayed_on n tables = unplayed (blocks_of (eight n) (state_of tables).held) tables
+
+abbrev pub AreNew : List Client → Type 0
+AreNew [] = Unit {0}
+AreNew (c ∷ cs) = (c ≡ record { current = None; done = [] }) × AreNew cs
+
+-- a growth was refused
+abbrev pub IsOutOfMemory : Refusal → Type 0
+IsOutOfMemory OutOfMemory = Unit {0}
+IsOutOfMemory cause = ⊥

@@ -1,0 +1,45 @@
+-- What is told of a play.
+use Rattle.std.specs.Prelude.{◌≡◌, ◌≢◌, List, []}
+use Rattle.seq_model.specs.declared.refusal.Refusal.{Refusal}
+use Rattle.seq_model.specs.declared.refusal.Refusal.TheVariants.{NoSuch, TooLong, OutOfMemory}
+use Rattle.replay_log.specs.Worlds.{half, state}
+use Rattle.vac_model.specs.Balanced.{IsBalanced}
+use Rattle.vac_model.specs.Holdings.{Holdings}
+use Rattle.vacation_core.specs.Holding.{HoldsTables, state_of}
+use Rattle.vacation_core.specs.Runs.{after_deals}
+use Rattle.session_worlds.specs.Histories.{opening_of, world_in}
+use Rattle.session_worlds.specs.Serial.{IsSerialSessions}
+use Rattle.vac_world.specs.Plays.{Play}
+use Rattle.vac_world.specs.Told.{told_all}
+use Rattle.vac_world.specs.declared.run.VacTrace.{VacTrace}
+
+-- The trace has what came of the play. The sessions that committed were answered as their actions are, one after another, in commit order,
+-- each of the action that its own start began; where no commit is half done the tables are what these leave, balanced. What ended else
+-- stands in the order of ending, and no session gave up. The tables are what the play's world holds.
+pub record IsVacTrace (p : Play) (t : VacTrace) : Type 0 where
+  pub serial : IsSerialSessions p.history.tables p.history.actions (opening_of p.history) p.history.turns
+  pub done : t.done ≡ told_all serial.deals (world_in p.history).records
+  pub aborted : t.aborted ≡ p.aborted
+  pub goes_on : p.given_up ≡ []
+  pub half : t.half ≡ half (world_in p.history)
+  pub holds : state (world_in p.history) ≡ state_of t.tables
+  pub left : t.half ≡ [] → t.tables ≡ after_deals serial.deals p.history.tables
+  pub balanced : t.half ≡ [] → IsBalanced t.tables
+
+-- A commit is half done, and words and collections hold no tables meanwhile.
+pub record IsTorn (p : Play) : Type 0 where
+  pub half : half (world_in p.history) ≢ []
+  pub torn : ¬ HoldsTables (state (world_in p.history))
+
+-- TooLong exactly where what was asked does not fit; else the play that came of it is torn, or a growth was refused.
+abbrev pub IsRunRefusal : Refusal → (fits : Type 0) → Play → Type 0
+IsRunRefusal TooLong fits p = ¬ fits
+IsRunRefusal NoSuch fits p = fits × IsTorn p
+IsRunRefusal OutOfMemory fits p = fits
+IsRunRefusal cause fits p = ⊥
+
+-- why a play is not told of
+abbrev pub IsTraceRefusal : Refusal → Play → Type 0
+IsTraceRefusal NoSuch p = IsTorn p
+IsTraceRefusal OutOfMemory p = Unit {0}
+IsTraceRefusal cause p = ⊥
