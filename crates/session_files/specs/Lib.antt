@@ -1,0 +1,4 @@
+pub mod Faults
+pub mod Findings
+pub mod Outputs
+pub mod Runs

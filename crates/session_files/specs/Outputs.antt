@@ -1,0 +1,21 @@
+-- What is printed of a session file.
+use Rattle.std.specs.Prelude.{◌≡◌, ℕ, List, ◌++◌, codes}
+use Rattle.vac_model.specs.declared.action.Action.{Action}
+use Rattle.vac_model.specs.Holdings.{Holdings}
+use Rattle.session_script.specs.Prints.{printed}
+use Rattle.session_script.specs.Sessions.{IsSessionText}
+use Rattle.session_files.specs.declared.runs.SessionRun.{SessionRun}
+use Rattle.session_files.specs.Runs.{IsSessionRun}
+
+-- what the last two lines say
+abbrev pub ending : List ℕ
+ending = codes "audit ok\nbalanced yes\n"
+
+-- The text spells tables and actions; the output prints what came of the sessions of these actions, one after another, on these tables.
+pub record IsOutput (text bytes : List ℕ) : Type 0 where
+  pub tables : Holdings
+  pub actions : List Action
+  pub run : SessionRun
+  pub spelled : IsSessionText text tables actions
+  pub made : IsSessionRun tables actions run
+  pub written : bytes ≡ printed run.lines.items run.tables ++ ending
