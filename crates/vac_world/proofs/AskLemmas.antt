@@ -1,11 +1,10 @@
 -- What the requests of a session come to on the running world.
 -- Where its transaction stands open, a session asks what is left of its program. A reply that is told at once takes the program on, and
 -- there was room for its call; a call that is refused leaves the transaction open, which is given up then.
-use Rattle.std.proofs.Common.{◌≡◌, ◌⊎◌, ℕ, ◌+◌, ◌<◌, ◌≤◌, Bool, true, false, List, [], ◌∷◌, ◌++◌, length, inl, inr, refl, sym, ◌∙◌, ap, subst, arith, length-append}
-use Rattle.std.specs.Prelude.{Option, Some, None, map, slice_get, slice_set}
+use Rattle.std.proofs.Common.{◌≡◌, ℕ, ◌+◌, ◌<◌, ◌≤◌, Bool, true, false, List, [], ◌∷◌, ◌++◌, length, inl, inr, refl, sym, ◌∙◌, ap, subst, arith, length-append}
+use Rattle.std.specs.Prelude.{Option, Some, slice_get, slice_set}
 use Rattle.std.proofs.Math.Dec.{ltb}
 use Rattle.std.proofs.lemmas.Bool.{ltb-false, ltb-true}
-use Rattle.word_machine.specs.World.{put}
 use Rattle.word_machine.proofs.Sets.{put-other, put-same}
 use Rattle.seq_model.specs.declared.call.Call.{Call}
 use Rattle.seq_model.specs.declared.call.Reply.{Reply}
@@ -19,7 +18,7 @@ use Rattle.seq_model.specs.declared.event.Request.TheVariants as request
 use Rattle.seq_model.specs.declared.limits.TheConstants.{CALL_LIMIT}
 use Rattle.seq_model.specs.declared.refusal.Refusal.{Refusal}
 use Rattle.replay_log.specs.WorldAnswers.{is_there}
-use Rattle.replay_log.specs.Worlds.{World, Seat, Stage, Idle, Open, ask_at, happens}
+use Rattle.replay_log.specs.Worlds.{World, Stage, Idle, Open, ask_at, happens}
 use Rattle.replay_log.proofs.AskLemmas.{no_such, too_long}
 use Rattle.vac_model.specs.declared.action.Action.{Action}
 use Rattle.tx_engine.specs.declared.job.Ask.{Ask as Asked}
@@ -31,20 +30,18 @@ use Rattle.running_world.specs.Feeds.{Feeds}
 use Rattle.running_world.specs.Parts.{IsWorld}
 use Rattle.session_worlds.specs.Histories.{IsAt, action_in, done_in, world_in}
 use Rattle.session_worlds.proofs.HistoryLemmas.{abort_is_quiet, aborts_to, commit_is_quiet, commits_to, goes_on, idle, may_ask, opens}
-use Rattle.tx_phases.specs.Phases.{AskMoves, CallMoves, Phase, Rests, Stands, Calls, Commits, Ends, phase}
-use Rattle.vac_world.specs.Clients.{asks_next, failed, joined, with_reply}
-use Rattle.vac_world.specs.Plays.{Play, aborts, asks_on, if_replied, left_of, moved, seat_in, told, turned}
-use Rattle.vac_world.specs.Running.{AsksNext, AsksOn, Abandons, Called, GoesOn, HasPlace, IsAsking, IsCalling, IsClient, IsOn, IsOpen, IsOpenWith, IsPlay}
-use Rattle.vac_world.specs.Running.{IsRefused, KeepsAt, Others, Refusing, RepliesWithin}
+use Rattle.tx_phases.specs.Phases.{CallMoves, Phase, Rests, Stands, Calls, Commits, Ends, phase}
+use Rattle.vac_world.specs.Clients.{asks_next, failed, joined}
+use Rattle.vac_world.specs.Plays.{Play, aborts, asks_on, if_replied, left_of, moved, seat_in, told}
+use Rattle.vac_world.specs.Running.{AsksNext, AsksOn, Abandons, Called, HasPlace, IsAsking, IsCalling, IsClient, IsOn, IsOpen, IsOpenWith, IsPlay}
+use Rattle.vac_world.specs.Running.{IsRefused, Others, Refusing, RepliesWithin}
 use Rattle.vac_world.specs.declared.client.Client.{Client}
 use Rattle.vac_world.specs.declared.world.VacWorld.{VacWorld}
 use Rattle.vac_world.proofs.HearLemmas.{asks_is, open_failed, open_joined, open_of}
 use Rattle.vac_world.proofs.PlayLemmas.{at_now, called_at, open_calls, replied_next}
-use Rattle.vac_world.proofs.TurnLemmas.{client_as, client_at, on_turned, others_turned, own_told, parts_of, set_here, set_there}
+use Rattle.vac_world.proofs.TurnLemmas.{client_as, client_at, on_turned, others_turned, own_told, parts_of}
 use Rattle.vac_world.specs.Running.{IsOpenWith}
 use Rattle.vac_world.proofs.TurnLemmas.{on_set, others_set, own_set, all_of, actor_at}
-use Rattle.step_core.specs.Shown.{is_actor}
-use Rattle.replay_log.specs.WorldProgress.{whose}
 
 -- ---- programs
 
@@ -116,9 +113,11 @@ roomy a p calls call stands = by (ltb (length calls) CALL_LIMIT) refl
     refused : (b : Bool) → is_there w a call.target call.op ≡ b → CALL_LIMIT ≤ length (w.seats a).calls
         → RepliesWithin (told (event.Ask a (request.Call call)) p) (length calls)
     refused true there long =
-        subst (λ (r : World Entry × Notice Entry). RepliesWithin r.1 (length calls)) (sym (too_long w a call.target call.op is_open.0 there long)) tt
+        subst (λ (r : World Entry × Notice Entry). RepliesWithin r.1 (length calls))
+        (sym (too_long w a call.target call.op is_open.0 there long)) tt
     refused false there long =
-        subst (λ (r : World Entry × Notice Entry). RepliesWithin r.1 (length calls)) (sym (no_such w a call.target call.op is_open.0 there)) tt
+        subst (λ (r : World Entry × Notice Entry). RepliesWithin r.1 (length calls))
+        (sym (no_such w a call.target call.op is_open.0 there)) tt
 
     by : (b : Bool) → ltb (length calls) CALL_LIMIT ≡ b → RepliesWithin (told (event.Ask a (request.Call call)) p) (length calls)
     by true e = within (told (event.Ask a (request.Call call)) p) (ltb-true (length calls) CALL_LIMIT e)
@@ -349,7 +348,8 @@ gives_up_open i cause v u t c p inside got f clients aborted world same set r =
       absent = on.absent;
     })
 
-    current : (calls : List (Call Entry × Reply Entry)) → phase (seat_in a p) ≡ Stands calls → IsOpen c.current (action_in a p.history) (p.faults a)
+    current : (calls : List (Call Entry × Reply Entry)) → phase (seat_in a p) ≡ Stands calls
+        → IsOpen c.current (action_in a p.history) (p.faults a)
         → c.done ≡ done_in a p.history → Abandons i cause p true t
     current calls stands has had =
         let at = at_now a p (Stands calls) stands in
@@ -365,7 +365,8 @@ gives_up_open i cause v u t c p inside got f clients aborted world same set r =
                   at = Ends;
                   stands = x.at.stands ∙ x.moves;
                   keeps = (
-                    subst (λ (o : Option Refusal). IsOpen (failed cause c).current (action_in a q.history) o) (sym (put-same p.faults a (Some cause)))
+                    subst (λ (o : Option Refusal). IsOpen (failed cause c).current (action_in a q.history) o)
+                        (sym (put-same p.faults a (Some cause)))
                         (subst (λ (act : Action). IsOpen (failed cause c).current act (Some cause)) (sym x.at.does)
                         (open_failed cause c.current (action_in a p.history) (p.faults a) has)),
                     had ∙ sym x.at.has,

@@ -1,7 +1,7 @@
 -- What a client keeps of its session, by what it is told.
 -- What a step tells says where its transaction goes on, and so does a want of memory; so what the client kept before is what it is to keep,
 -- or what it is to have as it hears of an answer.
-use Rattle.std.proofs.Common.{◌≡◌, ◌⊎◌, ℕ, Bool, true, false, cond, List, [], ◌∷◌, ◌++◌, inl, inr, refl, sym, ◌∙◌, ap, subst}
+use Rattle.std.proofs.Common.{◌≡◌, ℕ, Bool, true, false, cond, List, [], ◌∷◌, ◌++◌, inl, inr, refl, sym, ◌∙◌, ap, subst}
 use Rattle.std.specs.Prelude.{Option, Some, None}
 use Rattle.seq_model.specs.declared.call.Call.{Call}
 use Rattle.seq_model.specs.declared.call.Reply.{Reply}
@@ -15,12 +15,11 @@ use Rattle.replay_log.specs.WorldRefusals.{is_ending}
 use Rattle.replay_log.specs.Worlds.{After, World, Stage, Idle, Beginning, Open, Locking, Releasing, Closing, Cancelling, Leaving, Reading}
 use Rattle.replay_log.specs.Worlds.{Trying, Copying, Loading, Gating, Ready, Storing, Homing, Returning}
 use Rattle.vac_model.specs.declared.action.Action.{Action}
-use Rattle.tx_engine.specs.declared.job.Ask.{Ask as Asked}
 use Rattle.tx_engine.specs.Programs.{after, asked, replies_of}
 use Rattle.vacation_core.specs.declared.entry.Entry.{Entry}
 use Rattle.vacation_core.specs.Sessions.{session}
 use Rattle.tx_phases.specs.Phases.{CallMoves, Phase, Rests, Begins, Stands, Calls, Commits, Committed, Ends, StepMoves, phase, phase_at}
-use Rattle.vac_world.specs.Clients.{asks_next, asks_of, failed, finished, has_open, is_under_way, joined, left, with_fault, with_open, with_reply}
+use Rattle.vac_world.specs.Clients.{asks_of, has_open, is_under_way, left, with_fault, with_open, with_reply}
 use Rattle.vac_world.specs.Running.{HearsAt, IsOpen, IsOpenWith, KeepsAt}
 use Rattle.vac_world.specs.declared.client.Client.{Client}
 use Rattle.vac_world.specs.declared.client.OpenSession.{OpenSession}
@@ -142,7 +141,8 @@ module _ (c : Client) (action : Action) (fault : Option Refusal) where
       → HearsAt n to c action fault done
   hears_as m n to done e h = subst (λ (x : Notice Entry). HearsAt x to c action fault done) (sym e) h
 
-  given_up : (a : ℕ) (r : After Entry) (done : List Action) → is_ending (r.0.seats a).stage ≡ true → r.1 ≡ Quiet → IsOpen c.current action fault
+  given_up : (a : ℕ) (r : After Entry) (done : List Action) → is_ending (r.0.seats a).stage ≡ true → r.1 ≡ Quiet
+      → IsOpen c.current action fault
       → c.done ≡ done → HearsAt r.1 (phase (r.0.seats a)) c action fault done
   given_up a r done ending quiet current same =
       hears_as Quiet r.1 (phase (r.0.seats a)) done quiet

@@ -1,5 +1,5 @@
 -- What a client does that is told of its session, and what begins one.
-use Rattle.std.proofs.Common.{◌≡◌, ◌⊎◌, ℕ, ◌+◌, ◌<◌, ◌≤◌, Bool, true, false, cond, List, [], ◌∷◌, ◌++◌, length, inl, inr, refl, sym, ◌∙◌, ap, subst, arith}
+use Rattle.std.proofs.Common.{◌≡◌, ◌⊎◌, ℕ, ◌+◌, ◌<◌, ◌≤◌, true, false, List, [], ◌∷◌, ◌++◌, length, inl, inr, refl, sym, ◌∙◌, ap, subst, arith}
 use Rattle.std.specs.Prelude.{Option, Some, None, slice_get, slice_set, if◌then◌else◌}
 use Rattle.std.proofs.lemmas.Bool.{cond-false, cond-true}
 use Rattle.word_machine.proofs.Sets.{put-other, put-same}
@@ -15,7 +15,7 @@ use Rattle.seq_model.specs.declared.limits.TheConstants.{CALL_LIMIT}
 use Rattle.seq_model.specs.declared.refusal.Refusal.{Refusal}
 use Rattle.seq_model.specs.declared.refusal.Refusal.TheVariants.{NotIdle}
 use Rattle.step_core.specs.Shown.{is_actor}
-use Rattle.replay_log.specs.Worlds.{Seat, Stage, Idle, Open}
+use Rattle.replay_log.specs.Worlds.{Stage, Idle, Open}
 use Rattle.vac_model.specs.declared.action.Action.{Action}
 use Rattle.vac_model.specs.Actions.{IsAllowed}
 use Rattle.tx_engine.specs.Programs.{replies_of}
@@ -27,8 +27,8 @@ use Rattle.session_worlds.proofs.HistoryLemmas.{idle}
 use Rattle.session_worlds.proofs.HistoryLemmas as history
 use Rattle.tx_phases.specs.Phases.{Phase, Rests, Begins, Stands, IsMistaken, phase, phase_at}
 use Rattle.vac_world.specs.Clients.{begun, fault_in, fault_of, finished, has_open, joined, left}
-use Rattle.vac_world.specs.Plays.{Play, aborts, asks_on, at_open, begins, ends, ends_for, hears, left_of, moved, seat_in, takes, told, turned}
-use Rattle.vac_world.specs.Running.{Abandons, AsksOn, Hears, HasPlace, IsAsking, IsClient, IsHearing, IsOn, IsOpen, IsOpenWith, IsPlay, IsRefused}
+use Rattle.vac_world.specs.Plays.{Play, aborts, at_open, begins, ends, ends_for, hears, moved, seat_in, takes, told, turned}
+use Rattle.vac_world.specs.Running.{Abandons, AsksOn, Hears, HasPlace, IsAsking, IsClient, IsOn, IsOpen, IsOpenWith, IsPlay}
 use Rattle.vac_world.specs.Running.{KeepsAt, Mistaken, Others, Refusing}
 use Rattle.vac_world.specs.declared.client.Client.{Client}
 use Rattle.vac_world.specs.declared.client.OpenSession.{OpenSession}
@@ -36,7 +36,7 @@ use Rattle.vac_world.specs.declared.world.VacWorld.{VacWorld}
 use Rattle.vac_world.proofs.AskLemmas.{replies_on}
 use Rattle.vac_world.proofs.HearLemmas.{at_rest, busy, done_finished, open_joined}
 use Rattle.vac_world.proofs.PlayLemmas.{at_now}
-use Rattle.vac_world.proofs.TurnLemmas.{all_of, client_as, on_set, on_turned, others_set, others_turned, own_set, own_told}
+use Rattle.vac_world.proofs.TurnLemmas.{all_of, client_as, on_set, on_turned, others_set, others_turned, own_set}
 use Rattle.running_world.specs.Parts.{IsWorld}
 use Rattle.running_world.specs.Worlds.{WorldShown}
 use Rattle.word_machine.specs.World.{put}
@@ -230,7 +230,8 @@ ends_then i b cause u p rests k =
 -- ---- events
 
 -- without a session nothing happens
-pub rests_takes : (i : ℕ) (e : Event Entry) (v : VacWorld) (c : Client) (p : Play) → slice_get v.clients.items i ≡ Some c → has_open c ≡ false
+pub rests_takes : (i : ℕ) (e : Event Entry) (v : VacWorld) (c : Client) (p : Play) → slice_get v.clients.items i ≡ Some c
+    → has_open c ≡ false
     → IsPlay v p → IsPlay v (takes (i + 1) e p)
 rests_takes i e v c p got none k =
     let a = i + 1 in
@@ -246,7 +247,8 @@ apart_of i v c p got some k rests =
     let x = k.clients i c got in
     busy x.at c (action_in a p.history) (p.faults a) (done_in a p.history) some x.keeps (sym x.stands ∙ rests)
 
-pub takes_then : (i : ℕ) (e : Event Entry) (v u w : VacWorld) (n : Notice Entry) (c : Client) (p : Play) → slice_get v.clients.items i ≡ Some c
+pub takes_then : (i : ℕ) (e : Event Entry) (v u w : VacWorld) (n : Notice Entry) (c : Client) (p : Play)
+    → slice_get v.clients.items i ≡ Some c
     → has_open c ≡ true → IsPlay v p → n ≡ told e p → IsPlay w (hears (i + 1) n (moved (i + 1) e p)) → IsPlay w (takes (i + 1) e p)
 takes_then i e v u w n c p got some k same h =
     let a = i + 1 in

@@ -1,26 +1,22 @@
 -- What a running world of clients opens as is the play in which nothing has happened.
-use Rattle.std.proofs.Common.{◌≡◌, ◌≢◌, ℕ, ◌+◌, ◌<◌, ◌≤◌, List, [], ◌∷◌, ◌++◌, length, refl, sym, ◌∙◌, ap, subst, arith}
+use Rattle.std.proofs.Common.{◌≡◌, ◌≢◌, ℕ, ◌+◌, ◌≤◌, List, [], ◌∷◌, ◌++◌, length, refl, sym, ◌∙◌, ap, arith}
 use Rattle.std.specs.Prelude.{Some, None, slice_get}
 use Rattle.conflict.specs.Refusals.{IsStripeCount}
-use Rattle.conflict.specs.declared.stripes.TheConstants.{STRIPE_LIMIT}
-use Rattle.seq_model.specs.declared.limits.TheConstants.{CLOCK_LIMIT, INDEX_LIMIT}
+use Rattle.seq_model.specs.declared.limits.TheConstants.{INDEX_LIMIT}
 use Rattle.seq_model.specs.declared.refusal.Refusal.{Refusal}
 use Rattle.seq_model.specs.declared.refusal.Refusal.TheVariants.{NoSuch, TooLong, OutOfMemory}
 use Rattle.seq_model.specs.Refusals.{IsNoSuchOrTooLong}
-use Rattle.step_core.specs.Shown.{is_actor}
 use Rattle.replay_log.specs.Collections.{Suit}
-use Rattle.replay_log.specs.Contents.{Block, HaveStripes}
+use Rattle.replay_log.specs.Contents.{HaveStripes}
 use Rattle.vac_model.specs.Balanced.{IsBalanced}
 use Rattle.vac_model.specs.Holdings.{Holdings, queue}
-use Rattle.vac_model.specs.declared.item.Kind.{Kind}
 use Rattle.vac_model.specs.declared.item.Kind.TheVariants.{Car, Flight, Room}
 use Rattle.vacation_core.specs.Holding.{HaveIndexes, state_of}
 use Rattle.world_table.specs.Openings.{IsWithin, blocks_of, world_of}
 use Rattle.running_world.specs.Parts.{IsWorld}
 use Rattle.tx_phases.specs.Phases.{Rests}
 use Rattle.vac_world.specs.Openings.{AreNew, IsOutOfMemory, eight, unplayed_on}
-use Rattle.vac_world.specs.Plays.{Play, unplayed}
-use Rattle.vac_world.specs.Running.{IsClient, IsPlay}
+use Rattle.vac_world.specs.Running.{IsPlay}
 use Rattle.vac_world.specs.declared.client.Client.{Client}
 use Rattle.vac_world.specs.declared.world.VacWorld.{VacWorld}
 use Rattle.vac_world.proofs.PlayLemmas.{IsSound, sound_unplayed}
@@ -71,7 +67,8 @@ pub opens : (n : ℕ) (tables : Holdings) (v : VacWorld) → IsStripeCount n →
     → IsPlay v (unplayed_on n tables)
 opens n tables v count balanced parts many new none =
     let s : IsSound (unplayed_on n tables) =
-    sound_unplayed (blocks_of (eight n) (state_of tables).held) tables (stripes n tables count) (suits n tables (have_indexes tables balanced))
+    sound_unplayed (blocks_of (eight n) (state_of tables).held) tables (stripes n tables count)
+    (suits n tables (have_indexes tables balanced))
     balanced in
     record {
       on = record {

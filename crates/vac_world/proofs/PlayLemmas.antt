@@ -79,7 +79,8 @@ StandsBy (Answered b (answer.Begun rv)) to = to ≡ Stands []
 StandsBy (Answered b (answer.Replied r)) to = (calls : List (Call Entry × Reply Entry)) × (to ≡ Stands calls)
 StandsBy n to = Unit {0}
 
-called_stands : (calls : List (Call Entry × Reply Entry)) (call : Call Entry) (n : Notice Entry) (to : Phase Entry) → CallMoves calls call n to
+called_stands : (calls : List (Call Entry × Reply Entry)) (call : Call Entry) (n : Notice Entry) (to : Phase Entry)
+    → CallMoves calls call n to
     → StandsBy n to
 called_stands calls call (Answered b (answer.Replied r)) to m = (calls ++ (call, r) ∷ [], m)
 called_stands calls call (Answered b (answer.Begun rv)) to m = absurd m
@@ -136,7 +137,8 @@ pub at_now : (a : ℕ) (p : Play) (at : Phase Entry) → phase (seat_in a p) ≡
     → IsAt a at (action_in a p.history) (done_in a p.history) p.history
 at_now a p at stands = record { stands = stands; does = refl; has = refl }
 
-sound_replied : (a : ℕ) (n : Notice Entry) (calls : List (Call Entry × Reply Entry)) (call : Call Entry) (next : Reply Entry → Play) (q : Play)
+sound_replied : (a : ℕ) (n : Notice Entry) (calls : List (Call Entry × Reply Entry)) (call : Call Entry) (next : Reply Entry
+    → Play) (q : Play)
     (to : Phase Entry) → IsSound q → CallMoves calls call n to
     → ((r : Reply Entry) → to ≡ Stands (calls ++ (call, r) ∷ []) → IsSound (next r)) → IsSound (if_replied a n next q)
 sound_replied a (Answered b (answer.Replied r)) calls call next q to s m goes = goes r m

@@ -1,5 +1,5 @@
 -- Events one after another, and which of them are allowed.
-use Rattle.std.proofs.Common.{◌≡◌, ℕ, List, [], ◌∷◌, length, refl, sym, ◌∙◌, ap, subst, arith}
+use Rattle.std.proofs.Common.{◌≡◌, List, [], ◌∷◌, length, refl, sym, ◌∙◌, ap, subst, arith}
 use Rattle.vac_world.specs.Plays.{AreAllowed, MayHappen, Play, played, played_all}
 use Rattle.vac_world.specs.Running.{IsPlay}
 use Rattle.vac_world.specs.declared.events.VacEvent.{VacEvent}

@@ -1,8 +1,8 @@
 -- What is told of the records is told of all of them, each with what its own session answered.
 -- Of each actor the sessions that are left begin with those of its records that are left; so the next one is that of its next record.
-use Rattle.std.proofs.Common.{◌≡◌, ℕ, zero, suc, ◌+◌, ◌<◌, ◌≤◌, Bool, true, false, cond, eqb, eq-eqb, ne_eqb, List, [], ◌∷◌, ◌++◌, length, drop}
+use Rattle.std.proofs.Common.{◌≡◌, ℕ, zero, suc, ◌+◌, ◌<◌, eqb, eq-eqb, ne_eqb, List, [], ◌∷◌, ◌++◌, length, drop}
 use Rattle.std.proofs.Common.{inl, inr, refl, sym, ◌∙◌, ap, subst, arith, get_or}
-use Rattle.std.specs.Prelude.{Option, Some, None, slice_get, slice_set, replicate}
+use Rattle.std.specs.Prelude.{Some, slice_get, slice_set}
 use Rattle.std.proofs.lemmas.Bool.{cases_eq, cond-false, cond-true}
 use Rattle.std.proofs.lemmas.Option.{slice_get-get_or}
 use Rattle.std.proofs.lemmas.List.{append_assoc, append-nil, get_or-set_other, get_or-set_same}
@@ -13,10 +13,10 @@ use Rattle.tx_engine.proofs.ProgramLemmas.{follows_after}
 use Rattle.vac_model.specs.declared.action.Action.{Action}
 use Rattle.vac_model.specs.declared.action.ActionReply.{ActionReply}
 use Rattle.vacation_core.specs.declared.entry.Entry.{Entry}
-use Rattle.vacation_core.specs.Runs.{AreSessions, Deal, IsSession}
+use Rattle.vacation_core.specs.Runs.{Deal}
 use Rattle.vacation_core.specs.Sessions.{Plan, session}
 use Rattle.session_worlds.specs.Serial.{actions_of}
-use Rattle.vac_world.specs.Told.{AreFirst, AreOwn, HaveFirst, HaveOwn, IsToldOne, Told, sessions_found, sessions_in, sessions_of, told_all}
+use Rattle.vac_world.specs.Told.{AreFirst, AreOwn, HaveFirst, IsToldOne, Told, sessions_found, sessions_in, sessions_of, told_all}
 use Rattle.vac_world.specs.Told.{told_by, told_of}
 use Rattle.vac_world.specs.declared.client.Client.{Client}
 
@@ -71,7 +71,8 @@ module _ (cs : List Client) (ns : List ℕ) (d : Deal) (r : ℕ × Record Entry)
   is_whole = follows_after r.1.calls (session d.0) (Answers d.1) are.sessions.0.whole
 
   -- and what is left then
-  rest_are : (i n : ℕ) (ms : List ℕ) → r.0 ≡ suc i → get_or ms i 0 ≡ suc (get_or ns i 0) → ((j : ℕ) → (j ≡ i → ⊥) → get_or ms j 0 ≡ get_or ns j 0)
+  rest_are : (i n : ℕ) (ms : List ℕ) → r.0 ≡ suc i → get_or ms i 0 ≡ suc (get_or ns i 0) → ((j : ℕ) → (j ≡ i → ⊥)
+      → get_or ms j 0 ≡ get_or ns j 0)
       → AreOwn cs ms ds rs
   rest_are i n ms at here there = record {
     sessions = are.sessions.1;
@@ -120,7 +121,8 @@ told_one cs ns r i c place s reply at got within is found answers = record {
   goes = λ d ds rs are.
       let same : s ≡ d.0 = next_is cs ns d r ds rs are i c place s at got is found in
       let told : reply ≡ d.1 =
-      answers_same reply d.1 (sym answers ∙ ap (λ (a : Action). after (session a) (replies_of r.1.calls)) same ∙ is_whole cs ns d r ds rs are) in
+      answers_same reply d.1
+      (sym answers ∙ ap (λ (a : Action). after (session a) (replies_of r.1.calls)) same ∙ is_whole cs ns d r ds rs are) in
       let here : get_or (slice_set ns i (place + 1)) i 0 ≡ suc (get_or ns i 0) =
       get_or-set_same ns i (place + 1) 0 within ∙ next place ∙ ap suc is in (
         rest_are cs ns d r ds rs are i 0 (slice_set ns i (place + 1)) at here

@@ -1,16 +1,15 @@
 -- The trace of a running world of clients has what came of its play.
--- The records of an actor are sessions of the actions that it committed, in its order; and these are the sessions that its client keeps, the
--- one under way, if it is committed, being the last.
-use Rattle.std.proofs.Common.{◌≡◌, ◌≢◌, ℕ, zero, suc, ◌+◌, ◌<◌, ◌≤◌, Bool, true, false, List, [], ◌∷◌, ◌++◌, length, drop, get_or, refl, sym, ◌∙◌, ap, subst, arith}
+-- The records of an actor are sessions of the actions that it committed, in its order; and these are the sessions that its client
+-- keeps, the one under way, if it is committed, being the last.
+use Rattle.std.proofs.Common.{◌≡◌, ℕ, zero, suc, ◌+◌, ◌≤◌, false, List, [], ◌∷◌, ◌++◌, length, drop, get_or, refl, sym, ◌∙◌, ap, subst, arith}
 use Rattle.std.specs.Prelude.{Option, Some, None, replicate, slice_get}
 use Rattle.std.proofs.lemmas.List.{append-nil}
 use Rattle.seq_model.specs.declared.refusal.Refusal.{Refusal}
-use Rattle.seq_model.specs.declared.refusal.Refusal.TheVariants.{NoSuch, TooLong, OutOfMemory}
+use Rattle.seq_model.specs.declared.refusal.Refusal.TheVariants.{NoSuch, OutOfMemory}
 use Rattle.step_core.specs.Shown.{is_actor}
 use Rattle.replay_log.specs.Worlds.{World, half, state}
 use Rattle.vac_model.specs.declared.action.Action.{Action}
 use Rattle.vac_model.specs.Balanced.{IsBalanced}
-use Rattle.vac_model.specs.Holdings.{Holdings}
 use Rattle.vacation_core.specs.declared.entry.Entry.{Entry}
 use Rattle.vacation_core.specs.Holding.{HoldsTables, state_of}
 use Rattle.vacation_core.specs.Refusals.{IsNoneSuch}
@@ -22,15 +21,14 @@ use Rattle.running_world.specs.Parts.{IsWorld}
 use Rattle.running_world.specs.Reached.{IsReached}
 use Rattle.running_world.specs.Traces.{IsTraceOf}
 use Rattle.running_world.specs.declared.trace.Trace.{Trace}
-use Rattle.session_worlds.specs.Histories.{action_in, done_in, opening_of, world_in}
-use Rattle.session_worlds.specs.Serial.{IsSerialSessions, actions_of}
+use Rattle.session_worlds.specs.Histories.{action_in, done_in, world_in}
 use Rattle.tx_phases.specs.Phases.{Phase, Rests, Begins, Stands, Calls, Commits, Committed, Ends}
 use Rattle.vac_world.specs.Clients.{with_open}
 use Rattle.vac_world.specs.Laws.{IsSerialPlay}
 use Rattle.vac_world.specs.Plays.{Play}
-use Rattle.vac_world.specs.Running.{HasPlay, IsClient, IsOpen, IsPlay, KeepsAt}
-use Rattle.vac_world.specs.Told.{AreFirst, AreOwn, HaveOwn, sessions_found, sessions_in, sessions_of, told_all, told_of}
-use Rattle.vac_world.specs.Traces.{IsTorn, IsTraceRefusal, IsVacTrace}
+use Rattle.vac_world.specs.Running.{IsPlay, KeepsAt}
+use Rattle.vac_world.specs.Told.{AreFirst, AreOwn, sessions_found, sessions_in, sessions_of, told_all, told_of}
+use Rattle.vac_world.specs.Traces.{IsTraceRefusal, IsVacTrace}
 use Rattle.vac_world.specs.declared.client.Client.{Client}
 use Rattle.vac_world.specs.declared.client.OpenSession.{OpenSession}
 use Rattle.vac_world.specs.declared.run.VacTrace.{VacTrace}
@@ -46,7 +44,8 @@ with_open_first : (o : Option OpenSession) (kept done : List Action) → kept �
 with_open_first None kept done e = ([], append-nil done ∙ sym e)
 with_open_first (Some o) kept done e = (o.session ∷ [], ap (λ xs. xs ++ o.session ∷ []) (sym e))
 
-keeps_first : (at : Phase Entry) (c : Client) (action : Action) (fault : Option Refusal) (done : List Action) → KeepsAt at c action fault done
+keeps_first : (at : Phase Entry) (c : Client) (action : Action) (fault : Option Refusal) (done : List Action)
+    → KeepsAt at c action fault done
     → AreFirst done (sessions_of c)
 keeps_first Rests c action fault done k = with_open_first c.current c.done done k.1
 keeps_first Begins c action fault done k = with_open_first c.current c.done done k.1
@@ -156,5 +155,6 @@ trace_of v p t k traces =
 pub own_as : (v : VacWorld) (p : Play) (rs : List (ℕ × Record Entry)) → (k : IsPlay v p) → rs ≡ (world_in p.history).records
     → AreOwn v.clients.items (replicate (length v.clients.items) 0) (serial_of v p k).serial.deals rs
 own_as v p rs k same =
-    subst (λ (xs : List (ℕ × Record Entry)). AreOwn v.clients.items (replicate (length v.clients.items) 0) (serial_of v p k).serial.deals xs)
+    subst (λ (xs : List (ℕ × Record Entry)). AreOwn v.clients.items (replicate (length v.clients.items) 0)
+    (serial_of v p k).serial.deals xs)
     (sym same) (own_all v p k)

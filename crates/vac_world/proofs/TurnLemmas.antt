@@ -1,21 +1,17 @@
 -- An event that is fed to the running world is a turn more in the play.
 -- It leaves what all other clients keep. What its own client is told of it says where its transaction goes on.
-use Rattle.std.proofs.Common.{◌≡◌, ◌⊎◌, ℕ, zero, suc, ◌+◌, ◌<◌, ◌≤◌, Bool, true, false, cond, List, [], ◌∷◌, ◌++◌, length, inl, inr, refl, sym, ◌∙◌, ap, subst, arith}
-use Rattle.std.specs.Prelude.{if◌then◌else◌, is_some, Option, Some, None, slice_get, slice_set}
+use Rattle.std.proofs.Common.{◌≡◌, ℕ, zero, suc, ◌+◌, ◌<◌, ◌≤◌, true, false, List, [], ◌∷◌, ◌++◌, length, inl, inr, refl, sym, ◌∙◌, ap, subst, arith}
+use Rattle.std.specs.Prelude.{if◌then◌else◌, Option, Some, None, slice_get, slice_set}
 use Rattle.std.proofs.lemmas.Bool.{cases_eq, cond-true}
 use Rattle.std.proofs.lemmas.List.{append-nil}
-use Rattle.word_machine.proofs.Sets.{put-other, put-same}
-use Rattle.seq_model.specs.declared.call.Call.{Call}
-use Rattle.seq_model.specs.declared.call.Reply.{Reply}
+use Rattle.word_machine.proofs.Sets.{put-other}
 use Rattle.seq_model.specs.declared.event.Event.{Event}
 use Rattle.seq_model.specs.declared.event.Event.TheVariants as event
 use Rattle.seq_model.specs.declared.event.Notice.{Notice}
-use Rattle.seq_model.specs.declared.event.Notice.TheVariants.{Quiet, Answered, Refused}
 use Rattle.seq_model.specs.declared.event.Request.TheVariants as request
 use Rattle.seq_model.specs.declared.refusal.Refusal.{Refusal}
 use Rattle.step_core.specs.Shown.{is_actor}
 use Rattle.replay_log.specs.WorldProgress.{whose}
-use Rattle.replay_log.specs.WorldTraces.{committed_by}
 use Rattle.replay_log.specs.Worlds.{World, Seat, Stage, Idle, happens}
 use Rattle.replay_log.proofs.AnswerLemmas.{starves}
 use Rattle.replay_log.proofs.RequestLemmas.{happens_by}
@@ -27,21 +23,20 @@ use Rattle.running_world.specs.Parts.{IsWorld}
 use Rattle.running_world.specs.Reached.{IsReached}
 use Rattle.running_world.specs.Worlds.{WorldShown}
 use Rattle.running_world.specs.declared.parts.Parts.{Parts}
-use Rattle.session_worlds.specs.Asking.{Actions, MayHappen, Turn, at_idle, begun, events_of}
+use Rattle.session_worlds.specs.Asking.{Actions, Turn, at_idle, begun, events_of}
 use Rattle.session_worlds.specs.Histories.{History, IsLawful, action_in, done_in, later, opening_of, world_in}
 use Rattle.session_worlds.specs.Serial.{begun_all}
 use Rattle.session_worlds.proofs.AloneLemmas.{none_in}
 use Rattle.session_worlds.proofs.HistoryLemmas.{action_next, done_next, lawful_next, phase_next, steps_to, world_next}
-use Rattle.tx_phases.specs.Phases.{Phase, Rests, Stands, phase}
+use Rattle.tx_phases.specs.Phases.{Phase, phase}
 use Rattle.tx_engine.specs.declared.job.Ask.{Ask as Asked}
 use Rattle.vac_world.specs.Clients.{asks_next, has_open}
-use Rattle.vac_world.specs.Plays.{Play, aborts, ends, moved, seat_in, told, turned}
+use Rattle.vac_world.specs.Plays.{Play, moved, told, turned}
 use Rattle.vac_world.specs.Running.{AsksNext, HasPlace, Hears, HearsAt, IsClient, IsHearing, IsOn, IsPlay, KeepsAt, Others}
 use Rattle.vac_world.specs.declared.client.Client.{Client}
 use Rattle.vac_world.specs.declared.world.VacWorld.{VacWorld}
 use Rattle.vac_world.proofs.HearLemmas.{starve_hears, step_hears}
 use Rattle.vac_world.proofs.PlayLemmas.{May, at_now}
-use Rattle.std.specs.Prelude.{nat_le, ◌&&◌}
 use Rattle.std.proofs.lemmas.Bool.Decides.{nat_tests}
 
 -- ---- places
@@ -137,7 +132,8 @@ client_other p e action b c other k =
       keeps =
           subst (λ (done : List Action). KeepsAt k.at c (action_in b q.history) (p.faults b) done)
           (sym (done_other p.history e action b other))
-          (subst (λ (x : Action). KeepsAt k.at c x (p.faults b) (done_in b p.history)) (sym (action_other p.history e action b other)) k.keeps);
+          (subst (λ (x : Action). KeepsAt k.at c x (p.faults b) (done_in b p.history)) (sym (action_other p.history e action b other))
+          k.keeps);
     }
 
 pub others_turned : (i : ℕ) (v u : VacWorld) (p : Play) (e : Event Entry) (action : Action) → whose e ≡ i + 1
@@ -262,7 +258,8 @@ step_hearing p a c n same some k =
       stands = x.at.stands;
       hears =
           subst (λ (done : List Action). HearsAt n x.to c (action_in a q.history) (p.faults a) done) (sym x.at.has)
-          (subst (λ (act : Action). HearsAt n x.to c act (p.faults a) (if x.commits then done_in a h ++ action_in a h ∷ [] else done_in a h))
+          (subst (λ (act : Action). HearsAt n x.to c act (p.faults a)
+          (if x.commits then done_in a h ++ action_in a h ∷ [] else done_in a h))
           (sym x.at.does)
           (step_hears c (action_in a h) (p.faults a) k.at x.commits n x.to (done_in a h) some k.keeps x.moves));
     }
@@ -286,7 +283,8 @@ starve_hearing p a c n same some k =
       to = phase (r.0.seats a);
       stands = phase_next a h t;
       hears =
-          subst (λ (m : Notice Entry). HearsAt m (phase (r.0.seats a)) c (action_in a q.history) (p.faults a) (done_in a q.history)) (sym same)
+          subst (λ (m : Notice Entry). HearsAt m (phase (r.0.seats a)) c (action_in a q.history) (p.faults a) (done_in a q.history))
+          (sym same)
           (subst (λ (done : List Action). HearsAt r.1 (phase (r.0.seats a)) c (action_in a q.history) (p.faults a) done) (sym has)
           (subst (λ (act : Action). HearsAt r.1 (phase (r.0.seats a)) c act (p.faults a) (done_in a h)) (sym does) hears));
     }
@@ -304,7 +302,8 @@ hears_step i v u c p n inside got some f clients aborted k =
       others = others_turned i v u p e (action_in a p.history) refl clients (λ j d apart there. k.clients j d there);
       own = λ d there.
           let is : c ≡ d = some_same c d (sym got ∙ ap (λ (cs : List Client). slice_get cs i) (sym clients) ∙ there) in
-          step_hearing p a d n same (ap has_open (sym is) ∙ some) (k.clients i d (ap (λ (cs : List Client). slice_get cs i) (sym clients) ∙ there));
+          step_hearing p a d n same (ap has_open (sym is) ∙ some)
+          (k.clients i d (ap (λ (cs : List Client). slice_get cs i) (sym clients) ∙ there));
     }
 
 pub hears_starve : (i : ℕ) (v u : VacWorld) (c : Client) (p : Play) (n : Notice Entry) → i < 64 → slice_get v.clients.items i ≡ Some c
@@ -319,7 +318,8 @@ hears_starve i v u c p n inside got some f clients aborted k =
       others = others_turned i v u p e (action_in a p.history) refl clients (λ j d apart there. k.clients j d there);
       own = λ d there.
           let is : c ≡ d = some_same c d (sym got ∙ ap (λ (cs : List Client). slice_get cs i) (sym clients) ∙ there) in
-          starve_hearing p a d n same (ap has_open (sym is) ∙ some) (k.clients i d (ap (λ (cs : List Client). slice_get cs i) (sym clients) ∙ there));
+          starve_hearing p a d n same (ap has_open (sym is) ∙ some)
+          (k.clients i d (ap (λ (cs : List Client). slice_get cs i) (sym clients) ∙ there));
     }
 
 -- a client that changes, and what an event leaves, keep their places

@@ -1,10 +1,9 @@
 -- What is told of a play.
-use Rattle.std.specs.Prelude.{◌≡◌, ◌≢◌, List, []}
+use Rattle.std.specs.Prelude.{◌≡◌, ◌≢◌, []}
 use Rattle.seq_model.specs.declared.refusal.Refusal.{Refusal}
 use Rattle.seq_model.specs.declared.refusal.Refusal.TheVariants.{NoSuch, TooLong, OutOfMemory}
 use Rattle.replay_log.specs.Worlds.{half, state}
 use Rattle.vac_model.specs.Balanced.{IsBalanced}
-use Rattle.vac_model.specs.Holdings.{Holdings}
 use Rattle.vacation_core.specs.Holding.{HoldsTables, state_of}
 use Rattle.vacation_core.specs.Runs.{after_deals}
 use Rattle.session_worlds.specs.Histories.{opening_of, world_in}

@@ -1,6 +1,5 @@
-use Rattle.std.proofs.Common.{◌≡◌, ◌-◌, ◌<◌, suc, refl, sym, ◌∙◌, arith, length, get_or}
-use Rattle.std.specs.Prelude.{slice_get, Some}
-use Rattle.std.proofs.lemmas.Option.{slice_get_read, slice_get-get_or}
+use Rattle.std.proofs.Common.{◌≡◌, ◌-◌, ◌<◌, suc, refl, arith, length}
+use Rattle.std.proofs.lemmas.Option.{slice_get_read}
 use Rattle.vac_world.proofs.ToldLemmas.{first_done, same_found, told_one}
 use Rattle.vac_world.proofs.told.tell.Goals as goal
 

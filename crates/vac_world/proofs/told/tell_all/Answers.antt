@@ -1,4 +1,4 @@
-use Rattle.std.proofs.Common.{[], ◌∙◌, refl, subst, sym, length}
+use Rattle.std.proofs.Common.{◌∙◌, subst, sym, length}
 use Rattle.std.specs.Prelude.{replicate}
 use Rattle.vac_world.proofs.ToldLemmas.{IsTelling, has_first, tells_all, tells_first, tells_one}
 use Rattle.vac_world.proofs.told.tell_all.Goals as goal
@@ -8,7 +8,8 @@ tell-requires-clause-own c =
     let h = c.requires in
     has_first c.args.clients.now c.loop-entry.all.items _ c.loop-entry.told.items c.loop-entry.left.now c.in-Some.later.now
     c.in-Some.entry.now c.in-Some.ensures.cases.0
-    (c.loop-entry.invariant.tells _ (tells_first c.args.clients.now (replicate (length c.args.clients.now) 0) h.deals c.args.records.now h.are))
+    (c.loop-entry.invariant.tells _
+    (tells_first c.args.clients.now (replicate (length c.args.clients.now) 0) h.deals c.args.records.now h.are))
 
 pub loop-entry-preserved : goal.loop-entry-preserved
 loop-entry-preserved c = record {

@@ -1,4 +1,4 @@
-use Rattle.std.proofs.Common.{◌≡◌, ◌+◌, ap, ◌∙◌, sym, subst, arith, length, length-append, ◌∷◌, []}
+use Rattle.std.proofs.Common.{ap, ◌∙◌, sym, subst, arith, length, length-append, ◌∷◌, []}
 use Rattle.vac_world.specs.Openings.{AreNew}
 use Rattle.vac_world.proofs.OpeningLemmas.{new_more}
 use Rattle.vac_world.proofs.world.clients.Goals as goal

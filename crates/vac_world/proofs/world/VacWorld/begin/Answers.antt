@@ -28,7 +28,8 @@ returns c = λ p k.
     let d = c.index.result.now in
     let x = c.index_mut.result.now in
     let got = slice_get_read v.clients.items _ c.args.i d refl (place_lt c.args.i v c.requires.place) c.index.ensures in
-    let got' = slice_get_read u.clients.items _ c.args.i x refl (place_lt c.args.i u (place_as c.args.i v u c.in_ok-_notice.ensures.clients c.requires.place)) c.index_mut.ensures.value in
+    let got' = slice_get_read u.clients.items _ c.args.i x refl
+    (place_lt c.args.i u (place_as c.args.i v u c.in_ok-_notice.ensures.clients c.requires.place)) c.index_mut.ensures.value in
     begins_now c.args.i c.args.action.now v u _ c.in_ok-_notice._notice d x p c.requires.place c.requires.allowed got got'
     (sym c.is_busy.ensures ∙ c.if-is_busy.false)
     (fed_at v.world.parts u.world.parts (λ a. event.Ask a request.Begin) _ (c.args.i + 1) _ _ c.actor_at-actor.ensures refl

@@ -1,6 +1,6 @@
-use Rattle.std.proofs.Common.{refl, subst}
+use Rattle.std.proofs.Common.{subst}
 use Rattle.std.proofs.lemmas.Result.{IfOk-weaker}
-use Rattle.seq_model.specs.declared.event.Notice.TheVariants.{Quiet, Refused}
+use Rattle.seq_model.specs.declared.event.Notice.TheVariants.{Refused}
 use Rattle.vac_world.specs.Running.{Called}
 use Rattle.vac_world.proofs.AskLemmas.{given_up, refused_on, waits_on}
 use Rattle.vac_world.proofs.world.VacWorld.called.Goals as goal

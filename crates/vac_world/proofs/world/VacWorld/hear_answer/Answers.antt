@@ -2,11 +2,9 @@ use Rattle.std.proofs.Common.{◌+◌, ap, refl, sym, subst}
 use Rattle.std.specs.Prelude.{OnOk, slice_set}
 use Rattle.std.proofs.lemmas.Option.{slice_get_read}
 use Rattle.std.proofs.lemmas.Result.{IfOk-weaker}
-use Rattle.seq_model.specs.declared.event.Answer.TheVariants as answer
 use Rattle.seq_model.specs.declared.event.Notice.TheVariants.{Answered}
 use Rattle.vac_world.specs.Plays.{Play, hears}
 use Rattle.vac_world.specs.Running.{Hears, IsPlay}
-use Rattle.vac_world.specs.declared.world.VacWorld.{VacWorld}
 use Rattle.vac_world.proofs.HeardLemmas.{begun_asks, replied_asks}
 use Rattle.vac_world.proofs.TurnLemmas.{place_lt, place_set}
 use Rattle.vac_world.proofs.world.VacWorld.hear_answer.Goals as goal

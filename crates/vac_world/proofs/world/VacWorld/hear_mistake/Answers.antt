@@ -1,4 +1,4 @@
-use Rattle.std.proofs.Common.{◌+◌, true, false, subst}
+use Rattle.std.proofs.Common.{true, false, subst}
 use Rattle.std.proofs.lemmas.Result.{IfOk-weaker}
 use Rattle.vac_world.specs.Running.{Abandons}
 use Rattle.vac_world.proofs.HeardLemmas.{ends_then, gives_up_then, refusing_of}

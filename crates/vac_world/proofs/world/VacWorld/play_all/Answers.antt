@@ -1,5 +1,3 @@
-use Rattle.std.proofs.Common.{refl}
-use Rattle.vac_world.specs.Running.{HasPlay}
 use Rattle.vac_world.proofs.PlayingLemmas.{first_allowed, plays_all, plays_first, plays_one}
 use Rattle.vac_world.proofs.world.VacWorld.play_all.Goals as goal
 
@@ -20,7 +18,8 @@ play-requires-clause-allowed c =
 
 pub loop-event-preserved : goal.loop-event-preserved
 loop-event-preserved c = record {
-  plays = λ p k. plays_one p c.args.events.now c.loop-event.self c.play.new.self c.loop-event.left.now c.in-Some.later.now c.in-Some.event.now
+  plays = λ p k. plays_one p c.args.events.now c.loop-event.self c.play.new.self c.loop-event.left.now c.in-Some.later.now
+      c.in-Some.event.now
       c.in-Some.ensures.cases.0 c.in_ok-play.ensures (c.loop-event.invariant.plays p k);
   allowed = (first_allowed c.loop-event.left.now c.in-Some.later.now c.in-Some.event.now c.in-Some.ensures.cases.0
       c.loop-event.invariant.allowed).1;

@@ -1,11 +1,10 @@
 use Rattle.std.proofs.Common.{ap, refl, subst}
 use Rattle.std.specs.Prelude.{slice_set}
 use Rattle.std.proofs.lemmas.Option.{slice_get_read}
-use Rattle.seq_model.specs.declared.event.Answer.TheVariants as answer
 use Rattle.seq_model.specs.declared.event.Notice.TheVariants.{Answered}
 use Rattle.vac_world.specs.Running.{Called}
 use Rattle.vac_world.proofs.AskLemmas.{replied_on, unreplied}
-use Rattle.vac_world.proofs.TurnLemmas.{place_lt, place_set}
+use Rattle.vac_world.proofs.TurnLemmas.{place_lt}
 use Rattle.vac_world.proofs.world.VacWorld.replied.Goals as goal
 
 pub returns-in_ok-join-in-Replied-clause-ok : goal.returns-in_ok-join-in-Replied-clause-ok

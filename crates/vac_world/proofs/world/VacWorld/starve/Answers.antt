@@ -1,4 +1,4 @@
-use Rattle.std.proofs.Common.{◌+◌, subst, sym}
+use Rattle.std.proofs.Common.{subst, sym}
 use Rattle.std.proofs.lemmas.Result.{IfOk-weaker}
 use Rattle.seq_model.specs.declared.event.Event.TheVariants as event
 use Rattle.vac_world.specs.Plays.{takes}
@@ -11,7 +11,8 @@ take_want-requires c = record { inside = c.in-Some.ensures.2; count = c.requires
 
 pub returns-in-Some : goal.returns-in-Some
 returns-in-Some c =
-    IfOk-weaker c.take_want.result _ _ (λ _ h p k. of_actor c.take_want.new.self c.args.actor (takes c.args.actor (event.Starve c.args.actor) p) p
+    IfOk-weaker c.take_want.result _ _
+    (λ _ h p k. of_actor c.take_want.new.self c.args.actor (takes c.args.actor (event.Starve c.args.actor) p) p
     c.in-Some.ensures.1
     (subst (λ a. IsPlay c.take_want.new.self (takes a (event.Starve a) p)) (sym c.in-Some.ensures.0) (h p k))) c.take_want.ensures
 
