@@ -5,10 +5,11 @@ use Rattle.clap.specs.Words.{Text}
 use Rattle.seq_model.specs.declared.refusal.Refusal.{Refusal}
 use Rattle.seq_model.specs.declared.refusal.Refusal.TheVariants.{BadText, OutOfMemory}
 use Rattle.seq_model.specs.Texts.{memory_text, refusal_text, too_long_text}
-use Rattle.step_world.specs.Traces.{IsSerialTrace}
+use Rattle.running_world.specs.Traces.{IsSerialTrace}
 use Rattle.step_script.specs.declared.script.Script.{Script}
 use Rattle.step_script.specs.Scripts.{IsBadLine, IsScriptText}
 use Rattle.session_text.specs.declared.run.ScriptRun.{ScriptRun}
+use Rattle.session_text.specs.Audits.{IsAudited}
 use Rattle.session_text.specs.Plays.{IsRunOf}
 use Rattle.session_text.specs.Scripts.{IsOpeningOf, IsRefusedScript}
 use Rattle.session_text.specs.Prints.{run_text}
@@ -18,15 +19,19 @@ use Rattle.command_line.specs.declared.tool.ReadFault.TheVariants.{Unreadable}
 use Rattle.command_line.specs.declared.tool.ReadFault.TheVariants as read
 use Rattle.command_line.specs.Words.{AreTaken, AskForInformation}
 
--- what the run of the script that a text spells prints: what came of its lines from its opening, with a trace in
--- serial order
-pub record IsOutput (text bytes : List ℕ) : Type 0 where
+-- a text spells a script, and this run is what came of its lines from its opening, with a trace in serial order
+pub record HasRun (text : List ℕ) (run : ScriptRun) : Type 0 where
   pub script : Script
-  pub run : ScriptRun
   pub spelled : IsScriptText text script
   pub opening : IsOpeningOf script run.opening
   pub made : IsRunOf script run
   pub serial : IsSerialTrace run.opening run.trace
+
+-- what the run of the script that a text spells prints, once it was audited
+pub record IsOutput (text bytes : List ℕ) : Type 0 where
+  pub run : ScriptRun
+  pub has : HasRun text run
+  pub audited : IsAudited run
   pub printed : bytes ≡ run_text run
 
 -- why a text has no output: a line is outside the grammar, memory was refused, or it spells a script that is refused
@@ -58,6 +63,9 @@ line_of text = text ++ (10 ∷ [])
 
 abbrev pub unreadable_text : List ℕ
 unreadable_text = codes "cannot read the file"
+
+abbrev pub audit_fault_line : List ℕ
+audit_fault_line = line_of (codes "audit fault")
 
 abbrev pub file_fault_text : ReadFault → List ℕ
 file_fault_text Unreadable = unreadable_text

@@ -7,5 +7,6 @@
 mod tool;
 
 pub use tool::{
-    DONE, FILE_LIMIT, MEMORY, REFUSED, fault, file_of, refuse_memory, run_file, run_tool,
+    AUDIT_FAULT, DONE, FILE_LIMIT, MEMORY, REFUSED, fault, file_of, refuse_memory, run_file,
+    run_tool,
 };

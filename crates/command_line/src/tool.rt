@@ -6,13 +6,16 @@ ghost use Rattle.std.specs.Io.KnownBytes.{Appends};
 ghost use Rattle.clap.specs.Words.{FailsBy, app_of, kind_of, subcommand_of, subcommand_rows_of};
 ghost use Rattle.command_line.specs.Words.{AreTaken, AskForInformation, IsInformation, faults, file_word, named_file, not_dash, tool_app};
 ghost use Rattle.command_line.specs.declared.tool.ReadFault.TheVariants.{OutOfMemory};
-ghost use Rattle.command_line.specs.Ends.{HasBegun, HasOutput, HasToldFault, HasToldRefusal, HasWorked, IsFault, IsKnownOutput, IsOutput, IsRead, file_fault_text, line_of, unreadable_text};
+ghost use Rattle.command_line.specs.Ends.{HasBegun, HasOutput, HasRun, HasToldFault, HasToldRefusal, HasWorked, IsFault, IsKnownOutput, IsOutput, IsRead, audit_fault_line, file_fault_text, line_of, unreadable_text};
+ghost use Rattle.running_world.specs.Traces.{IsSerialTrace};
 ghost use Rattle.seq_model.specs.Texts.{memory_text, refusal_text};
+ghost use Rattle.session_text.specs.Audits.{IsAudited};
+ghost use Rattle.session_text.specs.Prints.{run_text};
 
 use clap::error::ErrorKind;
 use clap::{Arg, ArgAction, ArgMatches, Command, Error};
-use seq_model::{Memory, Refusal};
-use session_text::{print_trace, run_script};
+use seq_model::{AuditFault, Memory, Refusal};
+use session_text::{ScriptRun, audit_run, print_trace, run_script};
 use std::alloc::{AllocError, Global};
 use std::io;
 use std::io::{Read, Write};
@@ -32,6 +35,9 @@ pub const REFUSED: u8 = 1;
 
 /// The status of a run that was refused memory.
 pub const MEMORY: u8 = 2;
+
+/// The status of a script whose committed transactions are no run of the sequential model. No script has it: see `run_tool`.
+pub const AUDIT_FAULT: u8 = 3;
 
 fn command<'a>(alloc: Global) -> Result<Command<'a>, AllocError>
     ensures { IfOk result (λ command. app_of command ≡ tool_app) }
@@ -160,10 +166,11 @@ pub fn run_file<R: Read + Drop, W: Write, E: Write>(
 /// Runs the words, without the program's own name, over what the reader gives, and answers the exit status.
 ///
 /// What it prints goes to `out`, and a fault, one line, to `err`: then nothing goes to `out`, but where a write to it
-/// failed. Faults are found in the order words, file, size, text, opening. `done`: with status 0 the words ask for help
-/// or the version, or they and the text are taken and `out` has grown by what the run of the script prints that the text
-/// spells. `unread`: nothing is read for refused words. `told`, `starved`: what `err` grows by, but where a write to it
-/// fails, is the line of the fault; it stays as it was only where the output could not be written.
+/// failed. Faults are found in the order words, file, size, text, opening, audit. `status`: no script has an audit fault.
+/// `done`: with status 0 the words ask for help or the version, or they and the text are taken and `out` has grown by what
+/// the run of the script prints that the text spells, once it was audited. `unread`: nothing is read for refused words.
+/// `told`, `starved`: what `err` grows by, but where a write to it fails, is the line of the fault; it stays as it was only
+/// where the output could not be written.
 pub fn run_tool<R: Read, W: Write, E: Write>(
     alloc: Global,
     words: &[String],
@@ -303,17 +310,45 @@ fn step<W: Write, E: Write>(alloc: Global, text: &[u8], out: &mut W, err: &mut E
     ensures told { result ≡ REFUSED → HasToldRefusal text.now (E.contents err.old) (E.contents err.new) ⊎ ((err.new ≡ err.old) × HasOutput text.now) }
     ensures starved { result ≡ MEMORY → HasBegun (E.contents err.old) (E.contents err.new) (line_of memory_text) }
 {
-    match output_of(alloc, text) {
-        Ok(text) => status_of_write(out.write_all(text.as_slice())),
+    match run_of(alloc, text) {
+        Ok(run) => print_audited(alloc, &run, out, err),
         Err(refusal) => refuse_text(alloc, err, refusal),
     }
 }
 
-fn output_of(alloc: Global, text: &[u8]) -> Result<Vec<u8>, Refusal>
-    ensures output { IfOk result (λ bytes. IsOutput text.now bytes.items) }
+fn run_of(alloc: Global, text: &[u8]) -> Result<ScriptRun, Refusal>
+    ensures run { IfOk result (HasRun text.now) }
     ensures refused { IfErr result (IsFault text.now) }
 {
     let script = parse_steps(alloc, text)?;
-    let run = run_script(alloc, &script)?;
-    Ok(print_trace(alloc, &run)?)
+    run_script(alloc, &script)
+}
+
+// Nothing is printed of a run whose audit finds a fault. A trace in serial order has none.
+fn print_audited<W: Write, E: Write>(alloc: Global, run: &ScriptRun, out: &mut W, err: &mut E) -> u8
+    ensures serial { IsSerialTrace run.now.opening run.now.trace → result ≤ MEMORY }
+    ensures printed { result ≤ REFUSED → IsAudited run.now × (err.new ≡ err.old) }
+    ensures done { result ≡ DONE → Appends (W.contents out.old) (W.contents out.new) (run_text run.now) }
+    ensures kept { MEMORY ≤ result → out.new ≡ out.old }
+    ensures starved { result ≡ MEMORY → HasBegun (E.contents err.old) (E.contents err.new) (line_of memory_text) }
+    ensures fault { MEMORY < result → (result ≡ AUDIT_FAULT) × HasBegun (E.contents err.old) (E.contents err.new) audit_fault_line }
+{
+    match audit_run(alloc, run) {
+        Ok(()) => print_run(alloc, run, out, err),
+        Err(AuditFault::OutOfMemory) => refuse_memory(err),
+        Err(_) => fault(err, AUDIT_FAULT, "audit fault"),
+    }
+}
+
+fn print_run<W: Write, E: Write>(alloc: Global, run: &ScriptRun, out: &mut W, err: &mut E) -> u8
+    ensures status { result ≤ MEMORY }
+    ensures quiet { result ≤ REFUSED → err.new ≡ err.old }
+    ensures done { result ≡ DONE → Appends (W.contents out.old) (W.contents out.new) (run_text run.now) }
+    ensures kept { MEMORY ≤ result → out.new ≡ out.old }
+    ensures starved { result ≡ MEMORY → HasBegun (E.contents err.old) (E.contents err.new) (line_of memory_text) }
+{
+    match print_trace(alloc, run) {
+        Ok(text) => status_of_write(out.write_all(text.as_slice())),
+        Err(_) => refuse_memory(err),
+    }
 }

@@ -5,16 +5,16 @@
 //! since a word that it read has changed.
 #![tactic(auto)]
 
-ghost use Rattle.std.specs.Prelude.{◌≡◌, IfOk, OnOk};
+ghost use Rattle.std.specs.Prelude.{IfOk, OnOk};
 ghost use Rattle.first_transaction.specs.Opening.{two_ones};
-ghost use Rattle.step_world.specs.Forms.{opening_in};
-ghost use Rattle.step_world.specs.Traces.{IsSerialTrace};
+ghost use Rattle.running_world.specs.Serial.{IsFrom};
+ghost use Rattle.running_world.specs.Traces.{IsSerialTrace};
 
+use running_world::{Trace, World};
 use seq_model::{Answer, Call, Event, Items, Memory, Notice, Op, Refusal, Request, Shape, State};
 use std::alloc::Global;
 use std::fmt::Write;
 use std::io;
-use step_world::{Trace, World};
 
 /// No request of a transaction on two words has so many steps.
 const STEP_LIMIT: u32 = 100;
@@ -42,22 +42,30 @@ fn overlap(alloc: Global) -> Result<(Notice<u64>, Notice<u64>, Trace<u64>), Refu
     ensures serial { IfOk result (λ told. IsSerialTrace two_ones told.2) }
 {
     let mut world = open(alloc)?;
-    ask(&mut world, 1, Request::Begin)?;
-    ask(&mut world, 2, Request::Begin)?;
-    ask(&mut world, 1, call(0, Op::Read))?;
-    ask(&mut world, 1, call(1, Op::Read))?;
-    ask(&mut world, 2, call(0, Op::Read))?;
-    ask(&mut world, 2, call(1, Op::Read))?;
-    ask(&mut world, 1, call(0, Op::Write(0)))?;
-    ask(&mut world, 2, call(1, Op::Write(0)))?;
-    let first = ask(&mut world, 1, Request::Commit)?;
-    let second = ask(&mut world, 2, Request::Commit)?;
+    let (first, second) = both(&mut world)?;
     let trace = world.into_trace()?;
     Ok((first, second, trace))
 }
 
+/// Both transactions, and what their commits are told.
+fn both(world: &mut World<u64>) -> Result<(Notice<u64>, Notice<u64>), Memory>
+    ensures { OnOk result (IsFrom two_ones world.old.parts → IsFrom two_ones world.new.parts) }
+{
+    ask(world, 1, Request::Begin)?;
+    ask(world, 2, Request::Begin)?;
+    ask(world, 1, call(0, Op::Read))?;
+    ask(world, 1, call(1, Op::Read))?;
+    ask(world, 2, call(0, Op::Read))?;
+    ask(world, 2, call(1, Op::Read))?;
+    ask(world, 1, call(0, Op::Write(0)))?;
+    ask(world, 2, call(1, Op::Write(0)))?;
+    let first = ask(world, 1, Request::Commit)?;
+    let second = ask(world, 2, Request::Commit)?;
+    Ok((first, second))
+}
+
 fn open(alloc: Global) -> Result<World<u64>, Refusal>
-    ensures opening { IfOk result (λ world. opening_in world.world ≡ two_ones) }
+    ensures { IfOk result (λ world. IsFrom two_ones world.parts) }
 {
     let shape = Shape {
         stripes: Items::new(alloc),
@@ -69,7 +77,7 @@ fn open(alloc: Global) -> Result<World<u64>, Refusal>
 
 /// Asks, and goes on by steps until the request is answered or refused.
 fn ask(world: &mut World<u64>, actor: u32, request: Request<u64>) -> Result<Notice<u64>, Memory>
-    ensures opening { OnOk result (opening_in world.new.world ≡ opening_in world.old.world) }
+    ensures { OnOk result (IsFrom two_ones world.old.parts → IsFrom two_ones world.new.parts) }
 {
     let mut notice = world.feed(Event::Ask(actor, request))?;
     for _step in 0..STEP_LIMIT {

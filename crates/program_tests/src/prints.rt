@@ -1,5 +1,6 @@
 //! Each text that a script prints.
 use model_tests::states::{counts_of, map_of};
+use running_world::Trace;
 use seq_model::{
     Answer, Call, Counts, Entries, Held, Items, Memory, Notice, Op, QueueItems, Record, Refusal,
     Reply, State,
@@ -7,7 +8,6 @@ use seq_model::{
 use session_text::{ScriptRun, print_trace};
 use std::alloc::Global;
 use std::test::Fail;
-use step_world::Trace;
 
 fn empty_state(alloc: Global) -> Result<State<u64>, Refusal> {
     State::new(Vec::new(alloc), Vec::new(alloc))

@@ -21,14 +21,14 @@ fn print_what_came_of_them(rt: HostRuntime) -> Result<(), Fail> {
             b"1: begun 0\n1: none\n1: some 50\n1: committed 1\nrecord 1 write actor 1 calls 2\nmap 5:50\n",
         ),
         (
-            "a half done commit",
-            b"words 0 0 0\n1 do begin\n1 do write 0 5\n1 do write 1 6\n1 commit\n1 step 6\n2 do begin\n2 do read 0\n2 do begin\n2 do write 2 7\n2 do commit\n",
-            b"1: begun 0\n1: done\n1: done\n2: begun 1\n2: Moved 0 1\n2: begun 1\n2: done\n2: committed 2\nrecord 1 write actor 1 calls 2\nrecord 2 write actor 2 calls 1\nhalf 1\nwords 5 0 7\n",
+            "the least taken twice beside an insert between",
+            b"pq 4 5:1 9:1\n1 do begin\n1 do call 0 take_least\n2 do begin\n2 do call 0 insert 7\n2 do commit\n1 do call 0 take_least\n1 do commit\n1 do begin\n1 do call 0 take_least\n1 do call 0 take_least\n1 do commit\n",
+            b"1: begun 0\n1: some 5\n2: begun 0\n2: done\n2: committed 1\n1: some 9\n1: Invalid 4 2\n1: begun 2\n1: some 5\n1: some 7\n1: committed 3\nrecord 1 write actor 2 calls 1\nrecord 3 write actor 1 calls 2\npq 9:1\n",
         ),
         (
-            "write skew",
-            b"words 1 1\n1 do begin\n2 do begin\n1 do read 0\n1 do read 1\n2 do read 0\n2 do read 1\n1 do write 0 0\n2 do write 1 0\n1 do commit\n2 do commit\n",
-            b"1: begun 0\n2: begun 0\n1: 1\n1: 1\n2: 1\n2: 1\n1: done\n2: done\n1: committed 1\n2: Invalid 0 2\nrecord 1 write actor 1 calls 3\nwords 0 1\n",
+            "a starved commit",
+            b"words 0\nmap 1\n1 do begin\n3 do begin\n1 do call 0 put 5 1\n2 do begin\n2 do write 0 1\n2 do commit\n1 commit\n1 step 5\n1 starve\n1 go\n2 do begin\n2 do write 0 2\n2 do commit\n3 do call 0 get 5\n3 do commit\n",
+            b"1: begun 0\n3: begun 0\n1: none\n2: begun 0\n2: done\n2: committed 1\n1: Memory\n2: begun 2\n2: done\n2: committed 3\n3: none\n3: committed 0\nrecord 0 read actor 3 calls 1\nrecord 1 write actor 2 calls 1\nrecord 3 write actor 2 calls 1\nwords 2\nmap\n",
         ),
     ];
     for (name, script, wanted) in rows.as_slice() {

@@ -1,1 +1,3 @@
+mod LeadLemmas
 mod PlayLemmas
+mod RunLemmas

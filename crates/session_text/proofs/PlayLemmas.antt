@@ -9,24 +9,12 @@ use Rattle.seq_model.specs.declared.event.Notice.{Notice}
 use Rattle.seq_model.specs.declared.event.Notice.TheVariants.{Quiet, Answered, Refused}
 use Rattle.step_script.specs.declared.script.Line.{Line}
 use Rattle.step_script.specs.declared.script.TheConstants.{STEP_LIMIT}
-use Rattle.session_text.specs.Worlds.{ShownWorld, Feeds}
-use Rattle.session_text.specs.Plays.{ArePlays, AreSteps, AreTurns, HasPlayed, IsDone, IsOne, IsPlay, IsStepOf, Keeps, Lead, heard, telling, tells_nothing, waiting_after, waiting_then, waits}
+use Rattle.running_world.specs.declared.parts.Parts.{Parts}
+use Rattle.running_world.specs.Feeds.{Feeds}
+use Rattle.session_text.specs.Plays.{ArePlays, AreSteps, AreTurns, HasPlayed, IsDone, IsOne, IsPlay, IsStepOf, Keeps, heard, telling, tells_nothing, waiting_after, waiting_then, waits}
+use Rattle.session_text.proofs.LeadLemmas.{leads_none, leads_on, leads_one}
 
 -- ---- events after events
-lead_on : (w v u : ShownWorld) (xs ys : List (Event ℕ)) (ms ns : List (Notice ℕ)) → Lead w xs ms v → Lead v ys ns u
-    → Lead w (xs ++ ys) (ms ++ ns) u
-lead_on w v u [] ys [] ns first second = subst (λ (z : ShownWorld). Lead z ys ns u) first second
-lead_on w v u [] ys (m ∷ ms) ns first second = absurd first
-lead_on w v u (x ∷ xs) ys [] ns first second = absurd first
-lead_on w v u (x ∷ xs) ys (m ∷ ms) ns first second =
-    (first.0, (first.1.0, lead_on first.0 v u xs ys ms ns first.1.1 second))
-
-lead_paired : (w v : ShownWorld) (xs : List (Event ℕ)) (ms : List (Notice ℕ)) → Lead w xs ms v → length ms ≡ length xs
-lead_paired w v [] [] lead = refl
-lead_paired w v [] (m ∷ ms) lead = absurd lead
-lead_paired w v (x ∷ xs) [] lead = absurd lead
-lead_paired w v (x ∷ xs) (m ∷ ms) lead = ap suc (lead_paired lead.0 v xs ms lead.1.1)
-
 after_append : (ws : List Bool) (xs ys : List (Event ℕ)) (ms ns : List (Notice ℕ)) → length ms ≡ length xs
     → waiting_after ws (xs ++ ys) (ms ++ ns) ≡ waiting_after (waiting_after ws xs ms) ys ns
 after_append ws [] ys [] ns paired = refl
@@ -35,66 +23,64 @@ after_append ws (x ∷ xs) ys [] ns paired = cc
 after_append ws (x ∷ xs) ys (m ∷ ms) ns paired = after_append (waiting_then ws x (tells_nothing m)) xs ys ms ns (omega arith)
 
 -- events of one kind, and behind them events of another
-pub played_on : {P Q R : List (Event ℕ) → List (Notice ℕ) → Type 0} {w v u : ShownWorld} {before then after : List (Notice ℕ)}
+pub played_on : {P Q R : List (Event ℕ) → List (Notice ℕ) → Type 0} {c d u : Parts ℕ} {before then after : List (Notice ℕ)}
     {ws vs us : List Bool}
     → ((xs ys : List (Event ℕ)) (ms ns : List (Notice ℕ)) → length ms ≡ length xs → length ns ≡ length ys → vs ≡ waiting_after ws xs ms
     → P xs ms → Q ys ns → R (xs ++ ys) (ms ++ ns))
-    → HasPlayed (Keeps P ws vs) w before v then → HasPlayed (Keeps Q vs us) v then u after → HasPlayed (Keeps R ws us) w before u after
-played_on {w = w} {v = v} {u = u} {before = before} {ws = ws} join first second =
+    → HasPlayed (Keeps P ws vs) c before d then → HasPlayed (Keeps Q vs us) d then u after → HasPlayed (Keeps R ws us) c before u after
+played_on {c = c} {d = d} {u = u} {before = before} {ws = ws} join first second =
     let xs = first.events in
     let ys = second.events in
     let ms = first.told in
     let ns = second.told in
-    let firsts : length ms ≡ length xs = lead_paired w v xs ms first.lead in
-    let seconds : length ns ≡ length ys = lead_paired v u ys ns second.lead in
     record {
       events = xs ++ ys;
       told = ms ++ ns;
       kind = (
-        join xs ys ms ns firsts seconds first.kind.1 first.kind.0 second.kind.0,
-        second.kind.1 ∙ ap (λ (z : List Bool). waiting_after z ys ns) first.kind.1 ∙ sym (after_append ws xs ys ms ns firsts),
+        join xs ys ms ns first.leads.paired second.leads.paired first.kind.1 first.kind.0 second.kind.0,
+        second.kind.1 ∙ ap (λ (z : List Bool). waiting_after z ys ns) first.kind.1 ∙ sym (after_append ws xs ys ms ns first.leads.paired),
       );
-      lead = lead_on w v u xs ys ms ns first.lead second.lead;
+      leads = leads_on c d u xs ys ms ns first.leads second.leads;
       heard-of =
           second.heard-of ∙ ap (λ (z : List (Notice ℕ)). z ++ heard ns) first.heard-of
           ∙ append_assoc before (heard ms) (heard ns)
           ∙ ap (λ (z : List (Notice ℕ)). before ++ z) (sym (flat_map-append telling ms ns));
     }
 
-pub played_as : {P Q : List (Event ℕ) → List (Notice ℕ) → Type 0} {w v : ShownWorld} {before after : List (Notice ℕ)}
-    → ((xs : List (Event ℕ)) (ms : List (Notice ℕ)) → P xs ms → Q xs ms) → HasPlayed P w before v after → HasPlayed Q w before v after
+pub played_as : {P Q : List (Event ℕ) → List (Notice ℕ) → Type 0} {c d : Parts ℕ} {before after : List (Notice ℕ)}
+    → ((xs : List (Event ℕ)) (ms : List (Notice ℕ)) → P xs ms → Q xs ms) → HasPlayed P c before d after → HasPlayed Q c before d after
 played_as turn has = record {
   events = has.events;
   told = has.told;
   kind = turn has.events has.told has.kind;
-  lead = has.lead;
+  leads = has.leads;
   heard-of = has.heard-of;
 }
 
-pub kept_as : {P Q : List (Event ℕ) → List (Notice ℕ) → Type 0} {w v : ShownWorld} {before after : List (Notice ℕ)} {ws vs : List Bool}
+pub kept_as : {P Q : List (Event ℕ) → List (Notice ℕ) → Type 0} {c d : Parts ℕ} {before after : List (Notice ℕ)} {ws vs : List Bool}
     → ((xs : List (Event ℕ)) (ms : List (Notice ℕ)) → vs ≡ waiting_after ws xs ms → P xs ms → Q xs ms)
-    → HasPlayed (Keeps P ws vs) w before v after → HasPlayed (Keeps Q ws vs) w before v after
+    → HasPlayed (Keeps P ws vs) c before d after → HasPlayed (Keeps Q ws vs) c before d after
 kept_as turn has = played_as (λ xs ms kept. (turn xs ms kept.1 kept.0, kept.1)) has
 
-pub played_none : (P : List (Event ℕ) → List (Notice ℕ) → Type 0) (w : ShownWorld) (before : List (Notice ℕ)) (ws : List Bool)
-    → P [] [] → HasPlayed (Keeps P ws ws) w before w before
-played_none P w before ws kind = record {
+pub played_none : (P : List (Event ℕ) → List (Notice ℕ) → Type 0) (c : Parts ℕ) (before : List (Notice ℕ)) (ws : List Bool)
+    → P [] [] → HasPlayed (Keeps P ws ws) c before c before
+played_none P c before ws kind = record {
   events = [];
   told = [];
   kind = (kind, refl);
-  lead = refl;
+  leads = leads_none c;
   heard-of = sym (append-nil before);
 }
 
 -- one event
-pub played_one : (w v : ShownWorld) (before after : List (Notice ℕ)) (e : Event ℕ) (notice : Notice ℕ) (quiet : Bool) (ws vs : List Bool)
-    → Feeds w e v notice → after ≡ before ++ telling notice → quiet ≡ tells_nothing notice → vs ≡ waiting_then ws e quiet
-    → HasPlayed (Keeps (IsOne e quiet) ws vs) w before v after
-played_one w v before after e notice quiet ws vs feeds added is_quiet waiting = record {
+pub played_one : (c d : Parts ℕ) (before after : List (Notice ℕ)) (e : Event ℕ) (notice : Notice ℕ) (quiet : Bool) (ws vs : List Bool)
+    → Feeds c e d notice → after ≡ before ++ telling notice → quiet ≡ tells_nothing notice → vs ≡ waiting_then ws e quiet
+    → HasPlayed (Keeps (IsOne e quiet) ws vs) c before d after
+played_one c d before after e notice quiet ws vs feeds added is_quiet waiting = record {
   events = e ∷ [];
   told = notice ∷ [];
   kind = ((notice, (refl, (refl, is_quiet))), waiting ∙ ap (waiting_then ws e) is_quiet);
-  lead = (v, (feeds, refl));
+  leads = leads_one c d e notice feeds;
   heard-of = added ∙ ap (λ (z : List (Notice ℕ)). before ++ z) (sym (append-nil (telling notice)));
 }
 

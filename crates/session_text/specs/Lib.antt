@@ -2,3 +2,4 @@ pub mod Scripts
 pub mod Prints
 pub mod Worlds
 pub mod Plays
+pub mod Audits

@@ -10,7 +10,11 @@ use Rattle.step_script.specs.declared.script.Line.TheVariants.{Ask, Do, Steps, S
 use Rattle.step_script.specs.declared.script.Script.{Script}
 use Rattle.step_script.specs.declared.script.TheConstants.{STEP_LIMIT}
 use Rattle.session_text.specs.declared.run.ScriptRun.{ScriptRun}
-use Rattle.session_text.specs.Worlds.{ShownWorld, IsOpened, Feeds, IsTraceIn}
+use Rattle.running_world.specs.declared.parts.Parts.{Parts}
+use Rattle.running_world.specs.Feeds.{fed_all}
+use Rattle.running_world.specs.Traces.{IsTraceOf}
+use Rattle.session_text.specs.Scripts.{world_in}
+use Rattle.session_text.specs.Worlds.{Leads, told_by}
 
 -- ---- what is heard
 abbrev pub tells_nothing : Notice ℕ → Bool
@@ -110,19 +114,13 @@ ArePlays waiting (line ∷ lines) es told =
 
 -- ---- in a world
 
--- the events lead from one world to another, and tell this
-abbrev pub Lead : ShownWorld → List (Event ℕ) → List (Notice ℕ) → ShownWorld → Type 0
-Lead w [] [] v = v ≡ w
-Lead w (e ∷ es) (notice ∷ told) v = (u : ShownWorld) × (Feeds w e u notice × Lead u es told v)
-Lead w es told v = ⊥
-
--- events of a kind have led from one world to another, and what was heard of them was added to what was heard before
-pub record HasPlayed (IsKind : List (Event ℕ) → List (Notice ℕ) → Type 0) (w : ShownWorld) (before : List (Notice ℕ)) (v : ShownWorld)
+-- events of a kind have led from parts of a world to others, and what was heard of them was added to what was heard before
+pub record HasPlayed (IsKind : List (Event ℕ) → List (Notice ℕ) → Type 0) (c : Parts ℕ) (before : List (Notice ℕ)) (d : Parts ℕ)
     (after : List (Notice ℕ)) : Type 0 where
   pub events : List (Event ℕ)
   pub told : List (Notice ℕ)
   pub kind : IsKind events told
-  pub lead : Lead w events told v
+  pub leads : Leads c events told d
   pub heard-of : after ≡ before ++ heard told
 
 -- events of a kind, and who has an unanswered request before and after them
@@ -135,8 +133,7 @@ IsOne e quiet es told = (notice : Notice ℕ) × ((es ≡ e ∷ []) × ((told �
 
 -- a run is what came of the events of the script's lines in the world that the script opens: all that was heard, and the trace
 pub record IsRunOf (script : Script) (made : ScriptRun) : Type 0 where
-  pub start : ShownWorld
-  pub end : ShownWorld
-  pub opened : IsOpened script.clock made.opening start
-  pub played : HasPlayed (ArePlays nobody script.lines) start [] end made.notices
-  pub trace : IsTraceIn end made.trace
+  pub events : List (Event ℕ)
+  pub plays : ArePlays nobody script.lines events (told_by (world_in script made.opening) events)
+  pub notices : made.notices ≡ heard (told_by (world_in script made.opening) events)
+  pub trace : IsTraceOf (fed_all (world_in script made.opening) events) made.trace

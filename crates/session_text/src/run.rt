@@ -1,17 +1,21 @@
 //! Runs a script.
-ghost use Rattle.std.specs.Prelude.{◌≡◌, map, All, IsOk, IfOk, IfErr, OnOk};
-ghost use Rattle.step_world.specs.Traces.{IsSerialTrace};
+ghost use Rattle.std.specs.Prelude.{◌≡◌, ℕ, map, All, IsOk, IfOk, IfErr, OnOk};
 ghost use Rattle.seq_model.specs.Calls.{IsWithinLimits};
+ghost use Rattle.seq_model.specs.Contents.{Contents};
+ghost use Rattle.replay_log.specs.Worlds.{World as PureWorld};
+ghost use Rattle.running_world.specs.Parts.{IsWorld};
+ghost use Rattle.running_world.specs.Reached.{IsReached};
+ghost use Rattle.running_world.specs.Serial.{IsFrom};
+ghost use Rattle.running_world.specs.Traces.{IsSerialTrace, IsTraceOf};
 ghost use Rattle.session_text.specs.Scripts as opens;
-ghost use Rattle.session_text.specs.Scripts.{HasRefusedCollections, IsOpeningOf, IsRefusedScript};
-ghost use Rattle.session_text.specs.Worlds.{opening_in};
-ghost use Rattle.session_text.specs.Plays.{AreSteps, AreTurns, HasPlayed, IsOne, IsPlay, IsRunOf, Keeps, whose, is_request, noted, waits};
+ghost use Rattle.session_text.specs.Scripts.{HasRefusedCollections, IsOpeningOf, IsRefusedScript, world_in};
+ghost use Rattle.session_text.specs.Plays.{ArePlays, AreSteps, AreTurns, HasPlayed, IsOne, IsPlay, IsRunOf, Keeps, whose, is_request, noted, waits};
 ghost use Rattle.step_script.specs.declared.script.TheConstants.{STEP_LIMIT};
 
+use running_world::{Trace, World};
 use seq_model::{Event, Items, Memory, Notice, Refusal, Request, SEATS, Shape, State};
 use std::alloc::Global;
 use step_script::{Line, STEP_LIMIT, Script};
-use step_world::{Trace, World};
 
 /// What came of a script.
 #[derive(Drop)]
@@ -24,8 +28,8 @@ pub struct ScriptRun {
 
 /// Opens the script's world, and feeds it the script's events.
 ///
-/// `TooLong` where a collection of the header is beyond a limit, else `NoSuch` and `TooLong` as `World::open`, and
-/// `OutOfMemory` where a growth was refused.
+/// `TooLong` where a collection of the header is beyond a limit, else as `World::open`, and `OutOfMemory` where a growth was
+/// refused.
 pub fn run_script(alloc: Global, script: &Script) -> Result<ScriptRun, Refusal>
     ensures opening { IfOk result (λ run. IsOpeningOf script.now run.opening) }
     ensures serial { IfOk result (λ run. IsSerialTrace run.opening run.trace) }
@@ -33,28 +37,27 @@ pub fn run_script(alloc: Global, script: &Script) -> Result<ScriptRun, Refusal>
     ensures refused { IfErr result (IsRefusedScript script.now) }
 {
     let opening = opening_of(alloc, script)?;
-    let shape = shape_of(alloc, script)?;
-    let state = opening.try_copy(alloc)?;
-    let world = World::open(alloc, &shape, state)?;
+    run_from(alloc, script, opening)
+}
+
+fn run_from(alloc: Global, script: &Script, opening: State<u64>) -> Result<ScriptRun, Refusal>
+    requires opening { IsOpeningOf script.now opening }
+    requires within { All IsWithinLimits (opens.opening_of script.now).held }
+    ensures opening { IfOk result (λ run. IsOpeningOf script.now run.opening) }
+    ensures serial { IfOk result (λ run. IsSerialTrace run.opening run.trace) }
+    ensures run { IfOk result (IsRunOf script.now) }
+    ensures refused { IfErr result (IsRefusedScript script.now) }
+{
+    let waiting = vec![in alloc; false; SEATS]?;
+    let world = open(alloc, script, &opening)?;
     let mut runner = Runner {
         world,
         notices: Items::new(alloc),
-        waiting: vec![in alloc; false; SEATS]?,
+        waiting,
     };
-    for line in script.lines.as_slice() {
-        runner.run_line(line)?;
-    }
-    let Runner {
-        world,
-        notices,
-        waiting: _,
-    } = runner;
-    let trace = world.into_trace()?;
-    Ok(ScriptRun {
-        notices,
-        opening,
-        trace,
-    })
+    runner.run_lines(script.lines.as_slice())?;
+    let run = runner.into_run(opening)?;
+    Ok(run)
 }
 
 fn opening_of(alloc: Global, script: &Script) -> Result<State<u64>, Refusal>
@@ -84,6 +87,19 @@ fn shape_of(alloc: Global, script: &Script) -> Result<Shape, Memory>
     })
 }
 
+// The world of the script's header, which opens on this state.
+fn open(alloc: Global, script: &Script, opening: &State<u64>) -> Result<World<u64>, Refusal>
+    requires opening { IsOpeningOf script.now opening.now }
+    requires within { All IsWithinLimits (opens.opening_of script.now).held }
+    ensures world { IfOk result (λ world. IsWorld world.parts (world_in script.now opening.now)) }
+    ensures reached { IsOk result → IsReached opening.now (world_in script.now opening.now) }
+    ensures refused { IfErr result (IsRefusedScript script.now) }
+{
+    let shape = shape_of(alloc, script)?;
+    let state = opening.try_copy(alloc)?;
+    World::open(alloc, &shape, state)
+}
+
 #[derive(Drop)]
 struct Runner {
     world: World<u64>,
@@ -93,10 +109,38 @@ struct Runner {
 }
 
 impl Runner {
+    fn run_lines(&mut self, lines: &[Line]) -> Result<(), Memory>
+        ensures { OnOk result (HasPlayed (Keeps (ArePlays self.old.waiting.items lines.now) self.old.waiting.items self.new.waiting.items)
+            self.old.world.parts self.old.notices self.new.world.parts self.new.notices) }
+    {
+        for line in lines {
+            self.run_line(line)?;
+        }
+        Ok(())
+    }
+
+    fn into_run(self, opening: State<u64>) -> Result<ScriptRun, Memory>
+        ensures opening { IfOk result (λ run. run.opening ≡ opening) }
+        ensures notices { IfOk result (λ run. run.notices ≡ self.notices) }
+        ensures trace { IfOk result (λ run. (o : Contents ℕ) (w : PureWorld ℕ) → IsReached o w → IsWorld self.world.parts w → IsTraceOf w run.trace) }
+        ensures serial { IfOk result (λ run. (o : Contents ℕ) → IsFrom o self.world.parts → IsSerialTrace o run.trace) }
+    {
+        let Runner {
+            world,
+            notices,
+            waiting: _,
+        } = self;
+        let trace = world.into_trace()?;
+        Ok(ScriptRun {
+            notices,
+            opening,
+            trace,
+        })
+    }
+
     fn run_line(&mut self, line: &Line) -> Result<(), Memory>
-        ensures opening { OnOk result (opening_in self.new.world.world ≡ opening_in self.old.world.world) }
-        ensures plays { OnOk result (HasPlayed (Keeps (IsPlay self.old.waiting.items line.now) self.old.waiting.items self.new.waiting.items)
-            self.old.world.world self.old.notices self.new.world.world self.new.notices) }
+        ensures { OnOk result (HasPlayed (Keeps (IsPlay self.old.waiting.items line.now) self.old.waiting.items self.new.waiting.items)
+            self.old.world.parts self.old.notices self.new.world.parts self.new.notices) }
     {
         match line {
             Line::Ask(actor, request) => {
@@ -120,9 +164,8 @@ impl Runner {
 
     // Whether the event told nothing.
     fn happen(&mut self, event: Event<u64>) -> Result<bool, Memory>
-        ensures opening { OnOk result (opening_in self.new.world.world ≡ opening_in self.old.world.world) }
-        ensures plays { IfOk result (λ quiet. HasPlayed (Keeps (IsOne event quiet) self.old.waiting.items self.new.waiting.items)
-            self.old.world.world self.old.notices self.new.world.world self.new.notices) }
+        ensures { IfOk result (λ quiet. HasPlayed (Keeps (IsOne event quiet) self.old.waiting.items self.new.waiting.items)
+            self.old.world.parts self.old.notices self.new.world.parts self.new.notices) }
     {
         let actor = whose(&event);
         let asks = is_request(&event);
@@ -137,17 +180,15 @@ impl Runner {
     }
 
     fn ask(&mut self, actor: u32, request: &Request<u64>) -> Result<bool, Memory>
-        ensures opening { OnOk result (opening_in self.new.world.world ≡ opening_in self.old.world.world) }
-        ensures plays { IfOk result (λ quiet. HasPlayed (Keeps (IsOne (Event.Ask actor request.now) quiet) self.old.waiting.items self.new.waiting.items)
-            self.old.world.world self.old.notices self.new.world.world self.new.notices) }
+        ensures { IfOk result (λ quiet. HasPlayed (Keeps (IsOne (Event.Ask actor request.now) quiet) self.old.waiting.items self.new.waiting.items)
+            self.old.world.parts self.old.notices self.new.world.parts self.new.notices) }
     {
         self.happen(Event::Ask(actor, request.try_copy()?))
     }
 
     fn steps(&mut self, actor: u32, count: u64) -> Result<(), Memory>
-        ensures opening { OnOk result (opening_in self.new.world.world ≡ opening_in self.old.world.world) }
-        ensures plays { OnOk result (HasPlayed (Keeps (AreSteps actor count) self.old.waiting.items self.new.waiting.items)
-            self.old.world.world self.old.notices self.new.world.world self.new.notices) }
+        ensures { OnOk result (HasPlayed (Keeps (AreSteps actor count) self.old.waiting.items self.new.waiting.items)
+            self.old.world.parts self.old.notices self.new.world.parts self.new.notices) }
     {
         for _taken in 0..count {
             if !self.happen(Event::Step(actor))? {
@@ -158,9 +199,8 @@ impl Runner {
     }
 
     fn alternate(&mut self, first: u32, second: u32) -> Result<(), Memory>
-        ensures opening { OnOk result (opening_in self.new.world.world ≡ opening_in self.old.world.world) }
-        ensures plays { OnOk result (HasPlayed (Keeps (AreTurns STEP_LIMIT first second self.old.waiting.items) self.old.waiting.items self.new.waiting.items)
-            self.old.world.world self.old.notices self.new.world.world self.new.notices) }
+        ensures { OnOk result (HasPlayed (Keeps (AreTurns STEP_LIMIT first second self.old.waiting.items) self.old.waiting.items self.new.waiting.items)
+            self.old.world.parts self.old.notices self.new.world.parts self.new.notices) }
     {
         let mut actor = first;
         let mut other = second;

@@ -1,6 +1,6 @@
-use Rattle.std.proofs.Common.{◌≡◌}
-use Rattle.step_world.specs.Forms.{opening_in}
+use Rattle.first_transaction.specs.Opening.{two_ones}
+use Rattle.running_world.specs.Serial.{IsFrom}
 use Rattle.first_transaction.proofs.ask.Given as goal
 
 abbrev pub invariant-loop-step : goal.invariant-loop-step
-invariant-loop-step l = opening_in l.world.world ≡ opening_in l.fn.world.world
+invariant-loop-step l = IsFrom two_ones l.fn.world.parts → IsFrom two_ones l.world.parts

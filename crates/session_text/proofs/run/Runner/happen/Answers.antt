@@ -4,8 +4,8 @@ use Rattle.session_text.proofs.PlayLemmas.{loud_notice, played_one}
 use Rattle.seq_model.specs.declared.event.Notice.TheVariants.{Quiet}
 use Rattle.session_text.proofs.run.Runner.happen.Goals as goal
 
-pub returns-in-Quiet-clause-plays : goal.returns-in-Quiet-clause-plays
-returns-in-Quiet-clause-plays c =
+pub returns-in-Quiet : goal.returns-in-Quiet
+returns-in-Quiet c =
     let waiting = c.note.ensures.waiting ∙ ap₂ (λ (a : ℕ) (b : Bool). noted c.args.self.now.waiting.items a b true) c.whose-actor.ensures
     c.is_request-asks.ensures in
     rw (c.note.ensures.world, c.note.ensures.notices)
@@ -18,7 +18,4 @@ returns c =
     let waiting = c.note-2.ensures.waiting ∙ ap₂ (λ (a : ℕ) (b : Bool). noted c.args.self.now.waiting.items a b false)
     c.whose-actor.ensures c.is_request-asks.ensures in
     rw (c.note-2.ensures.world, c.note-2.ensures.notices, c.in_ok-push.ensures.ok)
-    (record {
-      opening = c.in_ok-notice.ensures.opening;
-      plays = played_one _ _ _ _ _ c.in_ok-notice.notice _ _ _ c.in_ok-notice.ensures.ok (rw loud.1 refl) loud.0 waiting;
-    })
+    (played_one _ _ _ _ _ c.in_ok-notice.notice _ _ _ c.in_ok-notice.ensures.ok (rw loud.1 refl) loud.0 waiting)

@@ -1,9 +1,0 @@
-use Rattle.std.proofs.Common.{◌∙◌}
-use Rattle.step_world.specs.WordParts.{shown_of}
-use Rattle.step_world.proofs.FormLemmas.{traced}
-use Rattle.step_world.proofs.word_parts.WordParts.trace.Goals as goal
-
-pub returns : goal.returns
-returns g c =
-    traced (shown_of c.args.self.now) _ c.requires.seats
-    (c.from_vec.ensures ∙ c.in_ok-copy_of_records.ensures ∙ c.as_slice.ensures.value) (c.from_vec-2.ensures ∙ c.in_ok-copy_of_aborted.ensures ∙ c.as_slice-2.ensures.value) c.in_ok-state.ensures c.in_ok-half.ensures

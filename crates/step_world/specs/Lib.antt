@@ -1,9 +1,0 @@
-pub mod Worlds
-pub mod Parts
-pub mod Serial
-pub mod Sound
-pub mod Traces
-pub mod WordWorlds
-pub mod WordSerial
-pub mod WordParts
-pub mod Forms
