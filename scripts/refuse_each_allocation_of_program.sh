@@ -1,28 +1,39 @@
 #!/usr/bin/env bash
 # Refuses each allocation of a program's stored run in turn.
 #
-#     scripts/refuse_each_allocation_of_program.sh CRATE [FIRST [LAST]]
+#     scripts/refuse_each_allocation_of_program.sh CRATE [--on INPUT] [FIRST [LAST]]
 #
 # Runs the program of CRATE on its files args and stdin with the first allocation refused, then with the
 # second, and so on. Each run must print the file stdout with status 0, or nothing but the line `Memory`
-# with status 2. It ends after LAST, or once eight runs in a row were refused nothing. RT names the
-# command, `rt` by default.
+# with status 2. With --on it reads INPUT in place of stdin, and must print what stands beside INPUT in
+# the file of its name that ends in .out. It ends after LAST, or once eight runs in a row were refused
+# nothing. RT names the command, `rt` by default.
 set -u
 
 if [ $# -lt 1 ]; then
-    sed -n '2,9s/^# \{0,1\}//p' "$0"
+    sed -n '2,10s/^# \{0,1\}//p' "$0"
     exit 2
 fi
 crate=$1
+input=
+if [ "${2:-}" = --on ]; then
+    input=$(realpath "${3:?}") || exit 2
+    shift 2
+fi
 first=${2:-1}
 last=${3:-0}
 source "$(dirname "$0")/refused_allocation.sh"
 cd "$(dirname "$0")/../crates/$crate" || exit 2
 words=()
 [ -f args ] && mapfile -t words < args
-wanted=$(cat stdout)
 stdin=/dev/null
 [ -f stdin ] && stdin=stdin
+stdout=stdout
+if [ -n "$input" ]; then
+    stdin=$input
+    stdout=${input%.*}.out
+fi
+wanted=$(cat "$stdout") || exit 2
 
 if ! keep_program -- "${words[@]}" < "$stdin"; then
     tail -n 20 "$folder/output"
