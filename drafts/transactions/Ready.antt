@@ -1,0 +1,34 @@
+-- A seat with the actor that runs there, between its requests.
+use Rattle.std.specs.Prelude.{◌≡◌, ◌⊎◌, ◌<◌, ◌≤◌, []}
+use Rattle.replay_log.specs.Contents.{HaveStripes}
+use Rattle.tx_table.specs.declared.seat.Seat.{Seat}
+use Rattle.tx_table.specs.declared.table.TxTable.{TxTable}
+use Rattle.tx_table.specs.Seated.{Owns, blocks_in, list_of, opening_of, out, view}
+use Rattle.tx_turns.specs.Ties.{Ties}
+use Rattle.tx_phases.specs.Phases.{Rests}
+use Rattle.transactions.specs.declared.seats.TxSeat.{TxSeat}
+use Rattle.transactions.specs.Driven.{seat_in, standing}
+use Rattle.transactions.specs.Requests.{IsOpen}
+
+module _ {V : Type 0} where
+  -- a live seat of the table whose actor has asked nothing so far
+  pub record IsNew (t : TxTable V) (s : Seat V) : Type 0 where
+    pub owns : Owns t s
+    pub live : 0 < (view s).shares
+    pub stripes : HaveStripes (blocks_in t)
+    pub turns : (view s).turns ≡ []
+    pub outs : out s ≡ []
+    pub asked : list_of s.asked ≡ []
+
+  -- At a table of words alone, no request is under way: there is no transaction, or one is open.
+  pub record IsReady (t : TxTable V) (s : TxSeat V) : Type 0 where
+    pub none : blocks_in t ≡ []
+    pub ties : Ties t s.seat s.actor
+    pub outs : out s.seat ≡ []
+    pub between : (standing (opening_of t) s.seat ≡ Rests) ⊎ IsOpen (opening_of t) s.seat
+
+  -- An open transaction has begun at a number that is no lower than the last number of its seat, and no higher than the clock that it knows.
+  abbrev pub HasBegunSince : TxTable V → TxSeat V → Type 0
+  HasBegunSince t s =
+      IsOpen (opening_of t) s.seat
+      → (s.seat.last ≤ (seat_in (opening_of t) s.seat).rv) × ((seat_in (opening_of t) s.seat).rv ≤ (view s.seat).clock)

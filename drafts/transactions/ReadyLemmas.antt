@@ -1,0 +1,299 @@
+-- A seat between its requests: how it begins, and that it is there again after each of them.
+use Rattle.std.proofs.Common.{◌≡◌, ◌⊎◌, ℕ, ◌<◌, ◌≤◌, Bool, true, false, true≢false, List, [], ◌∷◌, ◌++◌, Result, Ok, Err, IfOk, IfErr}
+use Rattle.std.proofs.Common.{inl, inr, refl, sym, ap, ◌∙◌, subst, arith}
+use Rattle.std.proofs.lemmas.Bool.{false_from_ne_true}
+use Rattle.seq_model.specs.declared.call.Call.{Call}
+use Rattle.seq_model.specs.declared.call.Reply.{Reply}
+use Rattle.seq_model.specs.declared.event.Answer.TheVariants as answer
+use Rattle.seq_model.specs.declared.event.Event.{Event}
+use Rattle.seq_model.specs.declared.event.Event.TheVariants.{Ask, Step, Starve}
+use Rattle.seq_model.specs.declared.event.Request.{Request}
+use Rattle.seq_model.specs.declared.record.Record.{Record}
+use Rattle.seq_model.specs.declared.refusal.Refusal.{Refusal}
+use Rattle.word_machine.specs.World.{blank}
+use Rattle.step_core.specs.Blank.{IsBlank}
+use Rattle.collection_machine.specs.Boosted.{is_actor}
+use Rattle.collection_machine.specs.Content.{has}
+use Rattle.replay_log.proofs.SeatLemmas.{gates_of}
+use Rattle.replay_log.specs.Seats as worlds
+use Rattle.replay_log.specs.Seats.{World, Seat, Stage, Storing, Homing, Releasing, no_one}
+use Rattle.replay_log.specs.Worlds.{ask_at, happens, starve_at, written_homes}
+use Rattle.replay_log.specs.WorldTraces.{is_half_done}
+use Rattle.atomic_steps.proofs.Alike.{alike_same}
+use Rattle.atomic_steps.proofs.OneStep.{one_step}
+use Rattle.tx_actor.specs.Keeping.{IsRunning}
+use Rattle.tx_actor.specs.Running.{KnowsHomes, Runs, seat_at, seat_of}
+use Rattle.tx_actor.specs.declared.actor.Stage as own
+use Rattle.tx_actor.specs.declared.actor.Stage.TheVariants as stage
+use Rattle.tx_actor.specs.declared.actor.Told.{Told}
+use Rattle.tx_actor.specs.declared.actor.Told.TheVariants as told
+use Rattle.tx_actor.specs.declared.actor.TxActor.{TxActor}
+use Rattle.tx_table.specs.declared.seat.Seat as table
+use Rattle.tx_table.specs.declared.table.TxTable.{TxTable}
+use Rattle.tx_table.specs.Seated.{Owns, acts, blocks_in, kept, list_of, opening_of, out, view}
+use Rattle.tx_table.specs.Seated as seated
+use Rattle.tx_table.specs.Shown.{IsReached}
+use Rattle.tx_table.specs.Turns.{asked_all, lone}
+use Rattle.tx_phases.specs.Phases.{Rests, phase, phase_at}
+use Rattle.tx_threads.proofs.OwnLemmas.{own_gates}
+use Rattle.transactions.proofs.CallLemmas.{stands_at}
+use Rattle.transactions.proofs.RequestLemmas.{is_idle, is_open}
+use Rattle.transactions.specs.Driven.{HasTold, IsNumberOf, seat_in, standing}
+use Rattle.transactions.specs.Ready.{HasBegunSince, IsNew, IsReady}
+use Rattle.transactions.specs.Requests.{CallLeaves, CallsTo, HasCommitted, IsBegun, IsNotBegun, IsOpen, KeepsReceipts}
+use Rattle.transactions.specs.declared.seats.TxSeat.{TxSeat}
+use Rattle.tx_turns.specs.Ties.{Ties, laid_in}
+
+module _ {V : Type 0} where
+  -- ---- a new seat
+  -- its own world is the opening
+  new_acts : (t : TxTable V) (s : table.Seat V) → IsNew t s → acts (opening_of t) s ≡ opening_of t
+  new_acts t s h i = asked_all (seated.actor s) (lone (seated.actor s) (opening_of t) (h.turns i)) (h.asked i)
+
+  idle_seat : (r : TxActor V) → seat_of r ≡ no_one → r.stage ≡ stage.Idle → no_one ≡ seat_at no_one r
+  idle_seat r h at = subst (λ (st : own.Stage V). no_one ≡ seat_at no_one (record r { stage = st })) (sym at)
+      (sym h ∙ ap (λ (st : own.Stage V). seat_of (record r { stage = st })) at)
+
+  new_runs : (w : World V) (a : ℕ) (r : TxActor V) → w.seats a ≡ no_one → seat_of r ≡ no_one → r.stage ≡ stage.Idle
+      → w.boosted.words.actors a ≡ blank → IsBlank r.words → Runs a r w
+  new_runs w a r sits seat at none is = (
+    sits ∙ (idle_seat r seat at ∙ ap (λ (x : Seat V). seat_at x r) (sym sits)),
+    none ∙ sym is.actor,
+    subst (λ (st : own.Stage V). KnowsHomes st (written_homes w a)) (sym at) tt,
+  )
+
+  pub new_ready : (t : TxTable V) (s : TxSeat V) → blocks_in t ≡ [] → IsNew t s.seat → seat_of s.actor ≡ no_one → s.actor.stage ≡ stage.Idle
+      → IsBlank s.actor.words → IsRunning (laid_in t) s.actor → IsReady t s
+  new_ready t s none h seat at is running =
+      let o = opening_of t in
+      let a = seated.actor s.seat in
+      let e : o ≡ acts o s.seat = sym (new_acts t s.seat h) in
+      record {
+        none = none;
+        ties = record {
+          owns = h.owns;
+          live = h.live;
+          reached = subst (λ (w : World V). IsReached o a w) e (record {
+            stripes = h.stripes;
+            shape = (refl, refl);
+            events = [];
+            alike = alike_same a o;
+          });
+          runs = subst (λ (w : World V). Runs a s.actor w) e (new_runs o a s.actor refl seat at refl is);
+          running = running;
+        };
+        outs = h.outs;
+        between = inl (ap (λ (w : World V). phase (w.seats a)) (sym e));
+      }
+
+  -- ---- between its requests
+  module _ (t : TxTable V) (s : TxSeat V) (ready : IsReady t s) where
+    pub has_open : s.actor.stage ≡ stage.Open → IsOpen (opening_of t) s.seat
+    has_open at = by ready.between
+      where
+        by : (standing (opening_of t) s.seat ≡ Rests) ⊎ IsOpen (opening_of t) s.seat → IsOpen (opening_of t) s.seat
+        by (inl rests) = absurd (let e = sym (is_idle t s.seat s.actor ready.none ready.ties rests) ∙ at in let z : ⊥ = cc in z)
+        by (inr is) = is
+
+    pub has_none : (s.actor.stage ≡ stage.Open → ⊥) → standing (opening_of t) s.seat ≡ Rests
+    has_none isnt = by ready.between
+      where
+        by : (standing (opening_of t) s.seat ≡ Rests) ⊎ IsOpen (opening_of t) s.seat → standing (opening_of t) s.seat ≡ Rests
+        by (inl rests) = rests
+        by (inr is) = absurd (isnt (is_open t s.seat s.actor ready.none ready.ties is.0 is.1))
+
+  -- ---- after a request
+  -- a call leaves its transaction open, or there is none
+  call_between : (o : World V) (s u : table.Seat V) (call : Call V) (r : Result (Reply V) Refusal) → IsOpen o s → CallsTo o s call u r
+      → (standing o u ≡ Rests) ⊎ IsOpen o u
+  call_between o s u call r opened C = by r (C.leaves opened.0 opened.1)
+    where
+      by : (r : Result (Reply V) Refusal) → CallLeaves o s opened.0 call u r → (standing o u ≡ Rests) ⊎ IsOpen o u
+      by (Ok reply) h = inr (opened.0 ++ (call, reply) ∷ [], h)
+      by (Err cause) (inl stays) = inr (opened.0, stays.0)
+      by (Err cause) (inr ended) = inl ended.0
+
+  pub call_ready : (t : TxTable V) (s u : TxSeat V) (call : Call V) (r : Result (Reply V) Refusal) → IsReady t s
+      → IsOpen (opening_of t) s.seat → Ties t u.seat u.actor → CallsTo (opening_of t) s.seat call u.seat r → IsReady t u
+  call_ready t s u call r ready opened ties C = record {
+    none = ready.none;
+    ties = ties;
+    outs = C.keeps.outs ∙ ready.outs;
+    between = call_between (opening_of t) s.seat u.seat call r opened C;
+  }
+
+  pub call_since : (t : TxTable V) (s u : TxSeat V) (call : Call V) (r : Result (Reply V) Refusal) → HasBegunSince t s
+      → IsOpen (opening_of t) s.seat → CallsTo (opening_of t) s.seat call u.seat r → HasBegunSince t u
+  call_since t s u call r since opened C still =
+      let e : (seat_in (opening_of t) u.seat).rv ≡ (seat_in (opening_of t) s.seat).rv = C.began still in
+      let last : u.seat.last ≡ s.seat.last = C.keeps.seat.2 in
+      let h = since opened in
+      let low = h.0 in
+      let high = h.1 in
+      let rises = C.keeps.rises in
+      (omega (arith, low, e, last), omega (arith, high, e, rises))
+
+  -- where there is no transaction there is nothing to be said of one
+  pub rests_since : (t : TxTable V) (s : TxSeat V) → standing (opening_of t) s.seat ≡ Rests → HasBegunSince t s
+  rests_since t s rests still = absurd (let e = sym rests ∙ still.1 in let z : ⊥ = cc in z)
+
+  pub rests_ready : (t : TxTable V) (s : TxSeat V) → blocks_in t ≡ [] → Ties t s.seat s.actor → standing (opening_of t) s.seat ≡ Rests
+      → IsReady t s
+  rests_ready t s none ties rests = record { none = none; ties = ties; between = inl rests }
+
+  -- one that has just begun
+  pub begun_ready : (t : TxTable V) (s u : TxSeat V) (rv : ℕ) → IsReady t s → Ties t u.seat u.actor → IsBegun (opening_of t) s.seat u.seat rv
+      → IsReady t u
+  begun_ready t s u rv ready ties begun = record { none = ready.none; ties = ties; between = inr ([], begun.stands) }
+
+  pub begun_since : (t : TxTable V) (s u : TxSeat V) (rv : ℕ) → s.seat.last ≤ (view s.seat).clock → u.seat.last ≡ s.seat.last
+      → IsBegun (opening_of t) s.seat u.seat rv → HasBegunSince t u
+  begun_since t s u rv known last begun still =
+      let e : (seat_in (opening_of t) u.seat).rv ≡ rv = begun.began in
+      let low = begun.rises in
+      let high : rv ≡ (view u.seat).clock = begun.clock in
+      (omega (arith, known, last, e, low), omega (arith, e, high))
+
+  -- ---- a last number
+  -- nothing but the last number has changed
+  module _ (o : World V) (s u : table.Seat V) (place : u.place ≡ s.place) (asked : u.asked ≡ s.asked) where
+    noted_acts : acts o u ≡ acts o s
+    noted_acts i = asked_all (place i).id (lone (place i).id o (place i).me.0.turns) (list_of (asked i))
+
+    pub noted_stands : standing o u ≡ standing o s
+    noted_stands i = phase ((noted_acts i).seats (place i).id)
+
+    noted_told : (before : table.Seat V) (n : Told V) → HasTold o before s n → HasTold o before u n
+    noted_told before n h = (
+      h.0,
+      record {
+        before = h.1.before;
+        turn = h.1.turn;
+        after = h.1.after;
+        turns = ap (λ p. p.me.0.turns) place ∙ h.1.turns;
+        events = h.1.events;
+        reached = h.1.reached;
+        alike = h.1.alike;
+      },
+      h.2,
+    )
+
+    pub noted_committed : (before : table.Seat V) (r : Record V) → HasCommitted o before s r → HasCommitted o before u r
+    noted_committed before r h = record {
+      seat = (ap (λ p. p.table_id) place ∙ h.seat.0, ap (λ p. p.id) place ∙ h.seat.1);
+      shares = ap (λ p. p.me.0.shares) place ∙ h.shares;
+      receipts = ap (λ p. p.me.0.receipts) place ∙ h.receipts;
+      outs = ap (λ p. p.me.1) place ∙ h.outs;
+      rises = (let e : (view u).clock ≡ (view s).clock = ap (λ p. p.me.0.clock) place in let q = h.rises in omega (arith, e, q));
+      rests = noted_stands ∙ h.rests;
+      told = noted_told before (told.Answered (answer.Committed r.number)) h.told;
+    }
+
+  -- a seat whose own world is the same stays tied
+  pub stays_tied : (t : TxTable V) (s u : table.Seat V) (r : TxActor V) → Owns t u → seated.actor u ≡ seated.actor s
+      → acts (opening_of t) u ≡ acts (opening_of t) s → 0 < (view u).shares → Ties t s r → Ties t u r
+  stays_tied t s u r owns same own live ties =
+      let o = opening_of t in record {
+        owns = owns;
+        live = live;
+        reached = subst (λ (k : ℕ × World V). IsReached o k.0 k.1) (λ i. (sym same i, sym own i)) ties.reached;
+        runs = subst (λ (k : ℕ × World V). Runs k.0 r k.1) (λ i. (sym same i, sym own i)) ties.runs;
+        running = ties.running;
+      }
+
+  pub stays_standing : (o : World V) (s u : table.Seat V) → seated.actor u ≡ seated.actor s → acts o u ≡ acts o s → standing o u ≡ standing o s
+  stays_standing o s u same own i = phase ((own i).seats (same i))
+
+  pub stays_between : (o : World V) (s u : table.Seat V) → standing o u ≡ standing o s → (standing o s ≡ Rests) ⊎ IsOpen o s
+      → (standing o u ≡ Rests) ⊎ IsOpen o u
+  stays_between o s u e (inl rests) = inl (e ∙ rests)
+  stays_between o s u e (inr opened) = inr (opened.0, e ∙ opened.1)
+
+  pub noted_ties : (t : TxTable V) (s u : table.Seat V) (r : TxActor V) → u.place ≡ s.place → u.asked ≡ s.asked → Ties t s r → Ties t u r
+  noted_ties t s u r place asked ties =
+      stays_tied t s u r (ap (λ p. p.table_id) place ∙ ties.owns) (ap (λ p. p.id) place) (noted_acts (opening_of t) s u place asked)
+      (let f : (view u).shares ≡ (view s).shares = ap (λ p. p.me.0.shares) place in let l = ties.live in omega (arith, f, l)) ties
+
+  -- a committed one
+  pub commit_numbers : (rv k last : ℕ) (r : Record V) → IsNumberOf rv k r → last ≤ rv → rv ≤ k
+      → (r.writes ≡ true → last < r.number) × (last ≤ r.number) × (r.number ≤ k)
+  commit_numbers rv k last r h low high = by r.writes refl
+    where
+      by : (b : Bool) → r.writes ≡ b → (r.writes ≡ true → last < r.number) × (last ≤ r.number) × (r.number ≤ k)
+      by true e =
+          let w = h.writer e in
+          let up = w.0 in
+          let known = w.1 in
+          (λ _. omega (arith, up, low), omega (arith, up, low), known)
+      by false e =
+          let is = h.reader e in
+          (λ yes. absurd (true≢false (sym yes ∙ e)), omega (arith, is, low), omega (arith, is, high))
+
+  -- ---- a seat that is joined into another
+  half_ask : (w : World V) (a : ℕ) (x : Seat V) (st : Stage V) (q : Request V) → w.seats a ≡ x → x.stage ≡ st → is_half_done st ≡ true
+      → is_half_done ((ask_at w a x st q).0.seats a).stage ≡ true
+  half_ask w a x (Storing ks) q seat at h = ap (λ (y : Seat V). is_half_done y.stage) seat ∙ ap is_half_done at
+  half_ask w a x (Homing ks) q seat at h = ap (λ (y : Seat V). is_half_done y.stage) seat ∙ ap is_half_done at
+  half_ask w a x Releasing q seat at h = ap (λ (y : Seat V). is_half_done y.stage) seat ∙ ap is_half_done at
+  half_ask w a x st q seat at h = absurd (true≢false (sym h))
+
+  half_starve : (w : World V) (a : ℕ) (x : Seat V) (st : Stage V) → w.seats a ≡ x → x.stage ≡ st → is_half_done st ≡ true
+      → is_half_done ((starve_at w a x st).0.seats a).stage ≡ true
+  half_starve w a x (Storing ks) seat at h = ap (λ (y : Seat V). is_half_done y.stage) seat ∙ ap is_half_done at
+  half_starve w a x (Homing ks) seat at h = ap (λ (y : Seat V). is_half_done y.stage) seat ∙ ap is_half_done at
+  half_starve w a x Releasing seat at h = ap (λ (y : Seat V). is_half_done y.stage) seat ∙ ap is_half_done at
+  half_starve w a x st seat at h = absurd (true≢false (sym h))
+
+  -- a commit that is half done stays so, whatever is asked
+  half_stays : (es : List (Event V)) (a : ℕ) (w : World V) → is_half_done (w.seats a).stage ≡ true
+      → is_half_done ((asked_all a w es).seats a).stage ≡ true
+  half_stays [] a w h = h
+  half_stays (Ask b q ∷ es) a w h =
+      half_stays es a (happens w (Ask a q)).0 (half_ask w a (w.seats a) (w.seats a).stage q refl refl h)
+  half_stays (Step b ∷ es) a w h =
+      half_stays es a (happens w (Starve a)).0 (half_starve w a (w.seats a) (w.seats a).stage refl refl h)
+  half_stays (Starve b ∷ es) a w h =
+      half_stays es a (happens w (Starve a)).0 (half_starve w a (w.seats a) (w.seats a).stage refl refl h)
+
+  gates_stay : (es : List (Event V)) (a : ℕ) (w : World V) (k : ℕ) → (asked_all a w es).boosted.gates k ≡ w.boosted.gates k
+  gates_stay [] a w k = refl
+  gates_stay (Ask b q ∷ es) a w k = gates_stay es a (happens w (Ask a q)).0 k ∙ (one_step w (Ask a q)).gates k
+  gates_stay (Step b ∷ es) a w k = gates_stay es a (happens w (Starve a)).0 k ∙ (one_step w (Starve a)).gates k
+  gates_stay (Starve b ∷ es) a w k = gates_stay es a (happens w (Starve a)).0 k ∙ (one_step w (Starve a)).gates k
+
+  abbrev IsCalm : Stage V → Type 0
+  IsCalm worlds.Idle = Unit {0}
+  IsCalm worlds.Open = Unit {0}
+  IsCalm st = ⊥
+
+  calm_at : (calls : List (Call V × Reply V)) (st : Stage V) → phase_at calls st ≡ Rests → IsCalm st
+  calm_at calls worlds.Idle h = tt
+  calm_at calls st h = absurd (let z : ⊥ = cc in z)
+
+  calm_in : (o : World V) (s : table.Seat V) → (standing o s ≡ Rests) ⊎ IsOpen o s → IsCalm (seat_in o s).stage
+  calm_in o s (inl rests) = calm_at (seat_in o s).calls (seat_in o s).stage rests
+  calm_in o s (inr opened) =
+      subst IsCalm (sym (stands_at (seat_in o s).calls opened.0 (seat_in o s).stage opened.1)) tt
+
+  calm_done : (st : Stage V) → IsCalm st → is_half_done st ≡ false
+  calm_done worlds.Idle h = refl
+  calm_done worlds.Open h = refl
+  calm_done st h = absurd h
+
+  calm_bare : (st : Stage V) (k : ℕ) → IsCalm st → has (gates_of st) k ≡ false
+  calm_bare worlds.Idle k h = refl
+  calm_bare worlds.Open k h = refl
+  calm_bare st k h = absurd h
+
+  pub rests_kept : (t : TxTable V) (s : TxSeat V) → IsReady t s → seated.Rests (seated.actor s.seat) (kept (opening_of t) s.seat)
+  rests_kept t s ready =
+      let o = opening_of t in
+      let a = seated.actor s.seat in
+      let w = kept o s.seat in
+      let es = list_of s.seat.asked in
+      let calm = calm_in o s.seat ready.between in (
+        false_from_ne_true (is_half_done (w.seats a).stage)
+            (λ half. true≢false (sym (half_stays es a w half) ∙ calm_done (seat_in o s.seat).stage calm)),
+        λ k. ap (is_actor a) (sym (gates_stay es a w k))
+            ∙ (own_gates t.whole.shared.key a (acts o s.seat) ready.ties.reached k ∙ calm_bare (seat_in o s.seat).stage k calm),
+      )

@@ -1,0 +1,176 @@
+//! A seat of a table, with the actor that runs there.
+ghost use Rattle.std.specs.Prelude.{◌≡◌, ◌≢◌, ◌<◌, ◌≤◌, Err, IfErr, IfOk, MatchBool, OnErr, OnOk, [], max, true};
+ghost use Rattle.seq_model.specs.declared.call.Op.TheVariants as op;
+ghost use Rattle.seq_model.specs.declared.refusal.Refusal.TheVariants.{Ahead, NoTransaction};
+ghost use Rattle.tx_table.specs.Seated.{blocks_in, opening_of, view};
+ghost use Rattle.tx_phases.specs.Phases.{Rests, Stands};
+ghost use Rattle.transactions.specs.Driven.{standing};
+ghost use Rattle.transactions.specs.Ready.{HasBegunSince, IsNew, IsReady};
+ghost use Rattle.transactions.specs.Requests.{CallsTo, HasCommitted, IsBegun, IsEnded, IsNotBegun, IsOpen, KeepsReceipts, has_written};
+
+use seq_model::{Record, Refusal, Reply, Value};
+use std::alloc::Global;
+use tx_actor::{Stage, TxActor};
+use tx_table::{Seat, TxTable};
+
+/// A seat of a table, with the actor that runs its transactions there, one at a time.
+#[derive(Drop)]
+pub struct TxSeat<V> {
+    pub seat: Seat<V>,
+    pub actor: TxActor<V>,
+    pub(crate) alloc: Global,
+}
+
+impl<V: Value> TxSeat<V> {
+    /// A seat that opened with its table, or was split from another, gets its actor. It takes no memory.
+    pub fn new(alloc: Global, table: &TxTable<V>, seat: Seat<V>) -> TxSeat<V>
+        requires none { blocks_in table.now ≡ [] }
+        requires new { IsNew table.now seat }
+        ensures ready { IsReady table.now result }
+        ensures seat { result.seat ≡ seat }
+    {
+        let _ = table;
+        TxSeat {
+            seat,
+            actor: TxActor::new(alloc),
+            alloc,
+        }
+    }
+
+    /// Whether a transaction is open.
+    pub fn is_open(&self) -> bool
+        ensures { MatchBool result (self.now.actor.stage ≡ Stage.Open) (self.now.actor.stage ≢ Stage.Open) }
+    {
+        matches!(&self.actor.stage, Stage::Open)
+    }
+
+    /// A transaction that is open ends without a commit.
+    pub fn abort(&mut self, table: &TxTable<V>)
+        requires ready { IsReady table.now self.old }
+        ensures ready { IsReady table.now self.new }
+        ensures rests { standing (opening_of table.now) self.new.seat ≡ Rests }
+        ensures keeps { KeepsReceipts self.old.seat self.new.seat }
+    {
+        if self.is_open() {
+            crate::requests::abort(self.alloc, table, &mut self.seat, &mut self.actor);
+        }
+    }
+
+    /// A transaction begins; one that was left open is aborted first. It is answered with the number at which it has begun, which is no
+    /// lower than the last number of the seat. `Exhausted` at the limit of the clock, and there is none.
+    pub fn begin(&mut self, table: &TxTable<V>) -> Result<u64, Refusal>
+        requires ready { IsReady table.now self.old }
+        ensures ready { IsReady table.now self.new }
+        ensures since { HasBegunSince table.now self.new }
+        ensures keeps { KeepsReceipts self.old.seat self.new.seat }
+        ensures begun { IfOk result (IsBegun (opening_of table.now) self.old.seat self.new.seat) }
+        ensures last { IfOk result (λ rv. self.old.seat.last ≤ rv) }
+        ensures refused { IfErr result (IsNotBegun (opening_of table.now) self.old.seat self.new.seat) }
+    {
+        self.abort(table);
+        crate::requests::begin(self.alloc, table, &mut self.seat, &mut self.actor)
+    }
+
+    /// A transaction begins that writes nothing, as `begin` does.
+    pub fn begin_read(&mut self, table: &TxTable<V>) -> Result<u64, Refusal>
+        requires ready { IsReady table.now self.old }
+        ensures ready { IsReady table.now self.new }
+        ensures since { HasBegunSince table.now self.new }
+        ensures keeps { KeepsReceipts self.old.seat self.new.seat }
+        ensures begun { IfOk result (IsBegun (opening_of table.now) self.old.seat self.new.seat) }
+        ensures last { IfOk result (λ rv. self.old.seat.last ≤ rv) }
+        ensures refused { IfErr result (IsNotBegun (opening_of table.now) self.old.seat self.new.seat) }
+    {
+        self.abort(table);
+        crate::requests::begin_read(self.alloc, table, &mut self.seat, &mut self.actor)
+    }
+
+    /// A word is read. `NoTransaction` where none is open, then as `read` has it.
+    pub fn read(&mut self, table: &TxTable<V>, word: u32) -> Result<Reply<V>, Refusal>
+        requires ready { IsReady table.now self.old }
+        requires since { HasBegunSince table.now self.old }
+        ensures ready { IsReady table.now self.new }
+        ensures since { HasBegunSince table.now self.new }
+        ensures calls { IsOpen (opening_of table.now) self.old.seat →
+            CallsTo (opening_of table.now) self.old.seat (record { target = word; op = op.Read }) self.new.seat result }
+        ensures none { standing (opening_of table.now) self.old.seat ≡ Rests → (result ≡ Err NoTransaction) × (self.new ≡ self.old) }
+    {
+        if !self.is_open() {
+            return Err(Refusal::NoTransaction);
+        }
+        crate::calls::read(self.alloc, table, &mut self.seat, &mut self.actor, word)
+    }
+
+    /// A word is written, once the transaction commits. `NoTransaction` where none is open, then as `write` has it.
+    pub fn write(&mut self, table: &TxTable<V>, word: u32, value: u64) -> Result<Reply<V>, Refusal>
+        requires ready { IsReady table.now self.old }
+        requires since { HasBegunSince table.now self.old }
+        ensures ready { IsReady table.now self.new }
+        ensures since { HasBegunSince table.now self.new }
+        ensures calls { IsOpen (opening_of table.now) self.old.seat →
+            CallsTo (opening_of table.now) self.old.seat (record { target = word; op = op.Write value }) self.new.seat result }
+        ensures none { standing (opening_of table.now) self.old.seat ≡ Rests → (result ≡ Err NoTransaction) × (self.new ≡ self.old) }
+    {
+        if !self.is_open() {
+            return Err(Refusal::NoTransaction);
+        }
+        crate::calls::write(
+            self.alloc,
+            table,
+            &mut self.seat,
+            &mut self.actor,
+            word,
+            value,
+        )
+    }
+
+    /// The open transaction commits, with its receipt, whose number is the last number of the seat from then on. `NoTransaction` where none
+    /// is open, then as `commit` has it.
+    pub fn commit(&mut self, table: &TxTable<V>) -> Result<Record<V>, Refusal>
+        requires ready { IsReady table.now self.old }
+        requires since { HasBegunSince table.now self.old }
+        ensures ready { IsReady table.now self.new }
+        ensures rests { standing (opening_of table.now) self.new.seat ≡ Rests }
+        ensures committed { IfOk result (HasCommitted (opening_of table.now) self.old.seat self.new.seat) }
+        ensures calls { IfOk result (λ receipt. standing (opening_of table.now) self.old.seat ≡ Stands receipt.calls) }
+        ensures writes { IfOk result (λ receipt. receipt.writes ≡ has_written (opening_of table.now) self.old.seat) }
+        ensures above { IfOk result (λ receipt. receipt.writes ≡ true → self.old.seat.last < receipt.number) }
+        ensures last { IfOk result (λ receipt. (self.old.seat.last ≤ receipt.number) × (self.new.seat.last ≡ receipt.number)) }
+        ensures keeps { OnErr result (KeepsReceipts self.old.seat self.new.seat) }
+        ensures ended { IfErr result (λ cause. IsOpen (opening_of table.now) self.old.seat →
+            IsEnded (opening_of table.now) self.old.seat self.new.seat cause) }
+        ensures none { standing (opening_of table.now) self.old.seat ≡ Rests → (result ≡ Err NoTransaction) × (self.new ≡ self.old) }
+    {
+        if !self.is_open() {
+            return Err(Refusal::NoTransaction);
+        }
+        let receipt = crate::commits::commit(self.alloc, table, &mut self.seat, &mut self.actor)?;
+        self.seat.note(receipt.number);
+        Ok(receipt)
+    }
+
+    /// The seat knows of a commit with this number, which others told it of: its next transaction begins at that number, or above it.
+    /// `Ahead` where the clock is below the number, and nothing is learnt.
+    pub fn learn(&mut self, table: &TxTable<V>, number: u64) -> Result<(), Refusal>
+        requires ready { IsReady table.now self.old }
+        ensures ready { IsReady table.now self.new }
+        ensures keeps { (view self.new.seat).receipts ≡ (view self.old.seat).receipts }
+        ensures learns { OnOk result (self.new.seat.last ≡ max self.old.seat.last number) }
+        ensures ahead { IfErr result (λ cause. (cause ≡ Ahead (view self.new.seat).clock) × ((view self.new.seat).clock < number)) }
+        ensures last { OnErr result (self.new.seat.last ≡ self.old.seat.last) }
+    {
+        let clock = table.look(&mut self.seat);
+        if clock < number {
+            return Err(Refusal::Ahead { clock });
+        }
+        self.seat.note(number);
+        Ok(())
+    }
+
+    /// The greatest number that this seat committed or learnt; 0 at first.
+    pub fn last_number(&self) -> u64
+        ensures { result ≡ self.now.seat.last }
+    {
+        self.seat.last_number()
+    }
+}
