@@ -51,7 +51,8 @@ module _ {V : Type 0} where
   SameIn n a v u = Same n a v.boosted u.boosted
 
   -- ---- requests of the word actor, and a transaction that is given up
-  pub ask_stays : (n : ℕ) (v u : World V) (a : ℕ) (q : word.Request) → IsOnWords n q → SameIn n a v u → SameIn n a v (acted u (asks a q ∷ []))
+  pub ask_stays : (n : ℕ) (v u : World V) (a : ℕ) (q : word.Request) → IsOnWords n q → SameIn n a v u
+      → SameIn n a v (acted u (asks a q ∷ []))
   ask_stays n v u a q ok h =
       same_then n a v.boosted u.boosted (acted u (asks a q ∷ [])).boosted h
       (asked_same (content u.words u.blocks) n u.boosted a q ok)

@@ -227,7 +227,8 @@ module _ {V : Type 0} where
   put_at : (k : ℕ) (c : Copied V) (i : ℕ) (before now : List (CopyOf V)) (o : Option (Copied V)) → IsPutAt k c i before now o
       → (i < length now) × (slice_get now i ≡ Some (copy_with k c))
   put_at k c i before now None put = (
-    subst (λ cs. i < length cs) (sym put.1) (subst (λ j. j < length (before ++ copy_with k c ∷ [])) (sym put.0) (push_length before (copy_with k c))),
+    subst (λ cs. i < length cs) (sym put.1)
+        (subst (λ j. j < length (before ++ copy_with k c ∷ [])) (sym put.0) (push_length before (copy_with k c))),
     (λ j. slice_get (put.1 j) (put.0 j)) ∙ last_at before (copy_with k c),
   )
   put_at k c i before now (Some d) put =
@@ -288,7 +289,8 @@ module _ {V : Type 0} where
 
   pub taken_pieces : (b : Block) (base : Base V) (op : Op V) (x : Found V) (k i : ℕ) (before now : List (CopyOf V)) → IsBaseOf b base
       → IsFound base op x → ((c : Copied V) → copy_of before k ≡ Some c → kind_of (shown_of (base_in c)) ≡ b.kind)
-      → holds_of (copy_of before k) op ≡ false → (t : IsTakenAt b.stripes k x i before now) → holds_call t.copy op ≡ true → (j : ℕ) (q : Piece)
+      → holds_of (copy_of before k) op ≡ false → (t : IsTakenAt b.stripes k x i before now) → holds_call t.copy op ≡ true
+          → (j : ℕ) (q : Piece)
       → has_piece (copy_of now j) q ≡ cond ((j == k) && is_piece (piece_of b.kind op) q) true (has_piece (copy_of before j) q)
   taken_pieces b base op x k i before now is found of unheld t holds j q =
       let p = is_piece (piece_of b.kind op) q in

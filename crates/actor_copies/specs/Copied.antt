@@ -86,8 +86,8 @@ pub record AreTaken (b : Block) (f : ℕ) (read : ℕ → Option ℕ) (which tak
 
 -- What actor a has of the collection that it asked a call of, which lies in block b, once it is copied and the gate put back: d is its own
 -- copy, or one of the locations that the call reads was read with another edition. It holds the call, which is judged with the editions of
--- the base, and its locations fit the sets where those of the definitions' outcome do. Once these have been read, with further calls, so has
--- all that it has of single keys.
+-- the base, and its locations fit the sets where those of the definitions' outcome do. Once these have been read, with further calls, so
+-- has all that it has of single keys.
 pub record IsCopyFor {V : Type 0} (w : World V) (a : ℕ) (b : Block) (asked : Asked V) (d : Copied V) : Type 0 where
   pub own : let u = put_back a w asked in
       let f = first_of w.words w.blocks asked.collection in

@@ -13,6 +13,7 @@ use conflict::LocSet;
 use seq_model::{Memory, Value};
 use std::alloc::Global;
 use step_core::{Actor, WordCall};
+use tx_sets::LOCATION_LIMIT;
 
 /// Written locations of a collection that begins at location `first`, each with the edition after the copied one. No memory holds
 /// the changes that lead to the last edition there is.
@@ -53,7 +54,7 @@ pub fn reserve_words(words: &mut Actor, reads: usize, writes: usize) -> Result<(
     ensures calls { OnOk result (vec_len words.new.calls + (reads + writes) ≤ vec_capacity words.new.calls) }
     ensures reads { OnOk result (words.new.declared ≡ false → reads ≤ words.new.reads.room) }
     ensures writes { OnOk result (writes ≤ words.new.writes.room) }
-    ensures few { length words.new.writes.entries ≤ 4096 }
+    ensures few { length words.new.writes.entries ≤ LOCATION_LIMIT }
 {
     let _entries = words.writes.in_order();
     let more = reads.checked_add(writes).ok_or(Memory)?;

@@ -1,7 +1,7 @@
 -- A call whose gate is held is copied, in a world that events have reached, from a base that shows its collection there.
 --
--- What the call asks of its actor is there: what the actor has of the collection is its own and was read, so what is taken of the base holds
--- the call, and its sizes are those of the base (`may`, `can`). The step of its seat is then what the actor makes of what it took
+-- What the call asks of its actor is there: what the actor has of the collection is its own and was read, so what is taken of the base
+-- holds the call, and its sizes are those of the base (`may`, `can`). The step of its seat is then what the actor makes of what it took
 -- (`copy_runs`), and what it has of collections is told by the law on copied calls (`copy_keeps`).
 use Rattle.std.proofs.Common.{◌≡◌, ℕ, zero, suc, arith, ◌<◌, Bool, true, false, List, [], ◌∷◌, Option, Some, None, refl, sym, ap, ◌∙◌, subst}
 use Rattle.std.specs.Prelude.{length}
@@ -107,7 +107,8 @@ module _ {V : Type 0} where
   pub quiet_copy : (t : own.Stage V) (k : ℕ) → next_of (stage_of t) ≡ next.Copy k → is_loading (stage_of t) ≡ false
   quiet_copy t k e = let c = copying_is t k e in ap (λ (q : own.Stage V). is_loading (stage_of q)) c.1
 
-  pub due_copy : (a k : ℕ) (o : Option (Action (contents.Asked V))) → IsDue a (next.Copy k) o → (which : ℕ → Bool) × (o ≡ Some (PutGate a k which))
+  pub due_copy : (a k : ℕ) (o : Option (Action (contents.Asked V))) → IsDue a (next.Copy k) o → (which : ℕ → Bool)
+      × (o ≡ Some (PutGate a k which))
   due_copy a k None h = absurd h
   due_copy a k (Some e) h = (h.0, ap Some h.1)
 
@@ -137,7 +138,8 @@ module _ {V : Type 0} where
 
   -- ---- what is taken, in a world that events have reached
   module _ (taken : CopiesFor V) (on : CopiesReached V) (sized : SizesCopies V) (v : BlocksView) (o : Contents V) (w : World V) (a : ℕ)
-      (r : TxActor V) (base : Base V) (asked : Asked V) (h : IsReached o w) (laid : IsLaid v w) (running : IsRunning v r) (runs : Runs a r w)
+      (r : TxActor V) (base : Base V) (asked : Asked V) (h : IsReached o w) (laid : IsLaid v w) (running : IsRunning v r)
+          (runs : Runs a r w)
       (copies : HasCopies r w a) (st : r.stage ≡ stage.Copying asked) (is : IsBaseIn v w asked.collection base) where
     abbrev k : ℕ
     k = asked.collection
@@ -216,7 +218,8 @@ module _ {V : Type 0} where
       (can taken on sized v o w a r base c.0 h laid running runs copies c.1 (subst (λ (j : ℕ). IsBaseIn v w j base) (sym c.2) is) of)
 
   -- ---- the turn
-  pub copy_runs : CopiesFor V → CopiesReached V → SizesCopies V → (v : BlocksView) (o : Contents V) (w : World V) (a k : ℕ) (r s : TxActor V)
+  pub copy_runs : CopiesFor V → CopiesReached V → SizesCopies V
+      → (v : BlocksView) (o : Contents V) (w : World V) (a k : ℕ) (r s : TxActor V)
       (n : Told V) (base : Base V) → next_of (stage_of r.stage) ≡ next.Copy k → IsRunning v r → StepsOnAt v r s n base r.stage
       → IsReached o w → IsLaid v w → Runs a r w → HasCopies r w a → IsBaseIn v w k base
       → Runs a s (happens w (Step a)).0 × (notice_of a n ≡ (happens w (Step a)).1)

@@ -191,7 +191,8 @@ module _ {V : Type 0} where
       (λ _. seated_gates w a (at_stage x Open))
 
   -- ---- a want of memory
-  pub starve_gates : (w : World V) (a : ℕ) (x : Seat V) (s : Stage V) → (w.seats a).stage ≡ s → gates_in (starve_at w a x s).0 a ≡ gates_of s
+  pub starve_gates : (w : World V) (a : ℕ) (x : Seat V) (s : Stage V) → (w.seats a).stage ≡ s
+      → gates_in (starve_at w a x s).0 a ≡ gates_of s
   starve_gates w a x Beginning e = seated_gates (acted w (asks a word.AskAbort ∷ [])) a no_one
   starve_gates w a x (Reading l) e = up_gates w a (because x refusal.OutOfMemory) []
   starve_gates w a x (Trying asked tries) e = up_gates w a (because x refusal.OutOfMemory) []
@@ -205,7 +206,8 @@ module _ {V : Type 0} where
 
   -- ---- the actor, and the step as a whole
   gates_at : (x y : Seat V) (t : own.Stage V)
-      → gates_of (if is_recorded t then record (at_stage y (stage_in x.stage t)) { calls = x.calls; copied = x.copied } else at_stage y (stage_in x.stage t)).stage
+      → gates_of (if is_recorded t then record (at_stage y (stage_in x.stage t)) { calls = x.calls; copied = x.copied } else at_stage y
+          (stage_in x.stage t)).stage
       ≡ gates_of (stage_of t)
   gates_at x y (stage.Loading o left) = refl
   gates_at x y t = refl
@@ -268,7 +270,8 @@ module _ {V : Type 0} where
       let x = w.seats a in
       let copy = copy_is x.stage k due in (
         ap gates_of copy.1 ∙ ap (λ (j : ℕ). j ∷ []) copy.2,
-        ap (λ (s : Stage V). gates_in (step_at w a x s).0 a) copy.1 ∙ copied_gates (acted w (PutGate a copy.0.collection (covers_at w.words w.blocks copy.0) ∷ [])) a x copy.0,
+        ap (λ (s : Stage V). gates_in (step_at w a x s).0 a) copy.1
+            ∙ copied_gates (acted w (PutGate a copy.0.collection (covers_at w.words w.blocks copy.0) ∷ [])) a x copy.0,
       )
 
   pub starved_gates : (w : World V) (a : ℕ) → gates_in (happens w (Starve a)).0 a ≡ gates_in w a

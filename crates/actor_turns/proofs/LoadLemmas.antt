@@ -73,7 +73,8 @@ module _ {V : Type 0} where
   abbrev pub HasMoved : World V → ℕ → running.Actor → Result (Option WordAnswer) WordRefusal → Type 0
   HasMoved w a y told = (actor_of (acted w (moves a ∷ [])) a ≡ words.actor_of y) × (told ≡ result_of (word_notice w a))
 
-  pub told_same : AreSteps V → (w : World V) (a : ℕ) (y : running.Actor) (told : Result (Option WordAnswer) WordRefusal) → HasMoved w a y told
+  pub told_same : AreSteps V → (w : World V) (a : ℕ) (y : running.Actor) (told : Result (Option WordAnswer) WordRefusal)
+      → HasMoved w a y told
       → word_notice w a ≡ notice_told told
   told_same steps w a y told took = sym (steps.told (word_notice w a)) ∙ ap notice_told (sym took.1)
 
@@ -132,7 +133,8 @@ module _ {V : Type 0} where
   moved_copies r y w a s e h = absurd (true≢false (sym e))
 
   own_in : LoadsStayOwn V → (o : Contents V) (w : World V) (a : ℕ) (m s : TxActor V) (n : Told V) → IsReached o w
-      → is_loading (stage_of m.stage) ≡ true → Runs a m (acted w (moves a ∷ [])) → HasCopies m w a → HasLoaded m s n m.stage (word_notice w a)
+      → is_loading (stage_of m.stage) ≡ true → Runs a m (acted w (moves a ∷ [])) → HasCopies m w a
+          → HasLoaded m s n m.stage (word_notice w a)
       → Runs a s (happens w (Step a)).0 → notice_of a n ≡ (happens w (Step a)).1 → HasCopies s (happens w (Step a)).0 a
   own_in law o w a m s n h =
       subst (λ (z : World V). is_loading (stage_of m.stage) ≡ true → Runs a m (acted z (moves a ∷ [])) → HasCopies m z a

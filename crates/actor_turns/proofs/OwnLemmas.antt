@@ -1,7 +1,8 @@
 -- What an event leaves of what its actor has of collections, by its stage.
 --
--- The event leaves all of it in the world, by the law on events, and the actor's copies stand as its next stage asks for them; a transaction
--- that begins has nothing. A request at rest is told by its contract, and anywhere else it changes nothing that a stage asks for.
+-- The event leaves all of it in the world, by the law on events, and the actor's copies stand as its next stage asks for them; a
+-- transaction that begins has nothing. A request at rest is told by its contract, and anywhere else it changes nothing that a stage asks
+-- for.
 use Rattle.std.proofs.Common.{◌≡◌, ◌≢◌, ◌⊎◌, ℕ, suc, false, true≢false, List, [], ◌∷◌, Option, Some, None, inl, inr, refl, sym, ap, ◌∙◌}
 use Rattle.std.proofs.Common.{subst, arith}
 use Rattle.word_machine.specs.Notices as told
@@ -18,7 +19,7 @@ use Rattle.seq_model.specs.declared.event.Event.{Event}
 use Rattle.seq_model.specs.declared.event.Event.TheVariants.{Ask, Starve, Step}
 use Rattle.seq_model.specs.declared.event.Request.{Request}
 use Rattle.seq_model.specs.declared.held.Held.{Held}
-use Rattle.replay_log.specs.Contents.{Answered, Asked, Block, HaveStripes}
+use Rattle.replay_log.specs.Contents.{Asked, Block, HaveStripes}
 use Rattle.replay_log.specs.WorldProgress.{whose}
 use Rattle.replay_log.specs.Worlds.{World, Seat, Stage, After, Beginning, Copying, Loading, Open, Ready, acted, actor_of, ask_at, happens}
 use Rattle.replay_log.specs.Worlds.{has_begun, moves, no_one, opened, outcome_at, run, starve_at, step_at, word_notice}
@@ -32,7 +33,7 @@ use Rattle.actor_copies.specs.declared.copies.CopyOf.{CopyOf}
 use Rattle.actor_copies.specs.declared.copies.Copied.{Copied}
 use Rattle.actor_copies.specs.Copied.{BeginsWithNothing, IsReadOf}
 use Rattle.actor_copies.specs.Owns.{AreOfBlocks, IsOwn, MayCall}
-use Rattle.actor_copies.specs.Staying.{EventStays, EventsStay, Joins, StaysAsked, StepStays, Stays, call_in}
+use Rattle.actor_copies.specs.Staying.{EventStays, EventsStay, StaysAsked, StepStays, Stays, call_in}
 use Rattle.tx_actor.specs.Calls.{AsksAt, CanCall, StandsOwn}
 use Rattle.tx_actor.specs.Having.{HasCopies, HasCopiesAt, KeepsCopies, KeepsFrom, OwnsAll, ReadsStill}
 use Rattle.tx_actor.specs.Keeping.{IsRunning}
@@ -42,6 +43,8 @@ use Rattle.tx_actor.specs.declared.actor.Stage as own
 use Rattle.tx_actor.specs.declared.actor.Stage.TheVariants as stage
 use Rattle.tx_actor.specs.declared.actor.Told.{Told}
 use Rattle.tx_actor.specs.declared.actor.TxActor.{TxActor}
+pub use Rattle.tx_actor.proofs.OwnLoadLemmas.{JoinsLaw}
+pub use Rattle.tx_actor.proofs.StageLemmas.{StaysLaw}
 use Rattle.actor_turns.specs.Reached.{IsReached}
 use Rattle.actor_turns.proofs.SeatLemmas.{asked_as, stage_by}
 use Rattle.actor_turns.proofs.StepLemmas.{first_is, reached_linked}
@@ -65,16 +68,6 @@ abbrev pub StandLaw : Type 0 → Type 0
 StandLaw V =
     (w : World V) (e : Event V) (a : ℕ) → a ≢ whose e → let v = (happens w e).0 in
     (v.seats a ≡ w.seats a) × (actor_of v a ≡ actor_of w a) × Stays w v a
-
-abbrev pub StaysLaw : Type 0 → Type 0
-StaysLaw V =
-    (w v : World V) (a k : ℕ) (c : Option (Copied V)) → Stays w v a
-    → (IsOwn w a k c → IsOwn v a k c) × (IsReadOf w a k c → IsReadOf v a k c)
-
-abbrev pub JoinsLaw : Type 0 → Type 0
-JoinsLaw V =
-    (w v : World V) (a k : ℕ) (o : Answered V) (c : Option (Copied V)) → Joins w v a o
-    → (o.asked.collection ≢ k → IsOwn w a k c → IsOwn v a k c) × (IsReadOf w a k c → IsReadOf v a k c)
 
 abbrev pub AskedLaw : Type 0 → Type 0
 AskedLaw V =

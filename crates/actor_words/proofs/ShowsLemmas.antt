@@ -82,7 +82,8 @@ module _ {V : Type 0} where
           s.0,
           k,
         ),
-        if_fits u a x (has_room (actor_of u a) (c.reads now) (c.writes now)) (loads u a p o (with_editions u.boosted.editions (c.reads o))) _
+        if_fits u a x (has_room (actor_of u a) (c.reads now) (c.writes now))
+            (loads u a p o (with_editions u.boosted.editions (c.reads o))) _
             (seated u a (at_stage x Open), Refused a refusal.TooLong) (is_judged u a p o (with_editions u.boosted.editions (c.reads o)))
             ∙ ((λ i. cond (has_room (k i) (c.reads (sized (k i) (e i))) (c.writes (sized (k i) (e i))))
             (comes_to u a p o (left_after (k i).reads (with_editions (e i) (c.reads o)))

@@ -8,6 +8,7 @@ use Rattle.replay_log.specs.Worlds.{World, all_of, distinct}
 use Rattle.actor_words.specs.declared.blocks.Kind.{Kind}
 use Rattle.actor_words.specs.declared.blocks.Kind.TheVariants as kind
 use Rattle.actor_words.specs.declared.blocks.Placed.{Placed}
+use Rattle.actor_words.specs.declared.blocks.TheConstants.{COLLECTION_LIMIT, TABLE_LIMIT}
 
 -- The number of plain words, and the block of each collection behind them.
 pub record BlocksView : Type 0 where
@@ -55,7 +56,7 @@ with_block v k n = record v { blocks = v.blocks ++ record { kind = kind_of k; st
 
 -- there are as many collections as there may be, or the locations would be too many
 abbrev pub IsBeyond : BlocksView → Kind → ℕ → Type 0
-IsBeyond v k n = (256 ≤ length v.blocks) ⊎ (1048576 < end_of v.words v.blocks + size_by (kind_of k) n)
+IsBeyond v k n = (COLLECTION_LIMIT ≤ length v.blocks) ⊎ (TABLE_LIMIT < end_of v.words v.blocks + size_by (kind_of k) n)
 
 -- this is the kind of collection k; none, where it isn't there
 abbrev pub IsKindAt : BlocksView → ℕ → Option Kind → Type 0

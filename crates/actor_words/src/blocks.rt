@@ -76,7 +76,7 @@ impl Model for Blocks {
 
     ghost view = { λ a. record { words = a.words; blocks = map block_of a.placed.items } };
 
-    ghost invariant = { λ a. AreEnds a.words a.placed.items × (length a.placed.items ≤ 256) };
+    ghost invariant = { λ a. AreEnds a.words a.placed.items × (length a.placed.items ≤ COLLECTION_LIMIT) };
 }
 
 impl Blocks {

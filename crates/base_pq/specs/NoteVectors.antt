@@ -1,4 +1,5 @@
--- Which inserts make a new least element, computed: into an empty priority queue, or below its least; an element that is the least already doesn't.
+-- Which inserts make a new least element, computed: into an empty priority queue, or below its least; an element that is the least
+-- already doesn't.
 use Rattle.std.specs.Prelude.{◌≡◌, Some, None, refl}
 use Rattle.conflict.specs.declared.outcome.Note.TheVariants as note
 use Rattle.base_pq.specs.Conflicts.{insert_note}

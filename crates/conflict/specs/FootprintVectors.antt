@@ -1,4 +1,5 @@
--- The conflict table, computed row by row: what each outcome reads and writes in four stripes, and nothing beside it. Key 6 lies on stripe 2.
+-- The conflict table, computed row by row: what each outcome reads and writes in four stripes, and nothing beside it. Key 6 lies on
+-- stripe 2.
 use Rattle.std.specs.Prelude.{◌≡◌, ℕ, Some, None, List, [], ◌∷◌, refl}
 use Rattle.seq_model.specs.declared.call.Op.{Op}
 use Rattle.seq_model.specs.declared.call.Op.TheVariants.{Get, Put, Remove, Len, Count, Add, Take, Least, Insert, TakeLeast, Enqueue, Dequeue, Peek}

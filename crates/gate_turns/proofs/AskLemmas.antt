@@ -142,7 +142,8 @@ module _ {V : Type 0} where
       (ask_prepared o w r q bs apart gates own.bases own.prepared)
 
   -- where memory was refused
-  pub refused_tied : (t : TxTable V) (s : table.Seat V) (r q : TxActor V) → Ties t s r → StandsOwn r q → IsRunning (laid_in t) q → Ties t s q
+  pub refused_tied : (t : TxTable V) (s : table.Seat V) (r q : TxActor V) → Ties t s r → StandsOwn r q → IsRunning (laid_in t) q
+      → Ties t s q
   refused_tied t s r q ties stands running = stays_tied t s r q ties stands.0 running
 
   pub refused_own : AllLaw V → (t : TxTable V) (s : table.Seat V) (r q : TxActor V) (bs : List (Base V)) → Ties t s r → HasOwn t s r bs

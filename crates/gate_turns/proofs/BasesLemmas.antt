@@ -152,7 +152,8 @@ module _ {V : Type 0} where
       let al : Alike a w v = found_alike a w w (Gate k) 1 None (alike_same a w) in
       let gated = put_turned a v k (puts.0, sym (action_same a w v al) ∙ puts.1) (sym (al.boosted.gates k) ∙ gate) calm in
       shows_same o w u k b en eb
-      (base_trans k w v u (sym al.words) (sym al.blocks) (none_base a w k 1 k) (λ l p at. (sym (gated.parts l), sym (gated.editions l)))) shows
+      (base_trans k w v u (sym al.words) (sym al.blocks) (none_base a w k 1 k)
+          (λ l p at. (sym (gated.parts l), sym (gated.editions l)))) shows
 
   -- ---- bases that are prepared
   pub prepared_none : (cs : List (CopyOf V)) (s : own.Stage V) → gates_at s ≡ [] → ArePreparedAt cs s []
@@ -161,7 +162,8 @@ module _ {V : Type 0} where
   prepared_none cs s e = tt
 
   -- before the first value store, and in a transaction that ends, none has to be
-  pub prepared_no : (cs : List (CopyOf V)) (bs : List (Base V)) (t s : own.Stage V) (before now : List (CopyOf V)) → KeepsFrom t s before now
+  pub prepared_no : (cs : List (CopyOf V)) (bs : List (Base V)) (t s : own.Stage V) (before now : List (CopyOf V))
+      → KeepsFrom t s before now
       → ((ks : List ℕ) → IsWholeOf s ks → ⊥) → ArePreparedAt cs t bs
   prepared_no cs bs (stage.Storing homes) s before now h none = absurd (none homes.items h.0)
   prepared_no cs bs (stage.Homing homes) s before now h none = absurd (none homes.items h.0)

@@ -1,6 +1,6 @@
 -- The sessions of a list of actions, and what has come of them.
--- After each session the client has committed one action more. At rest its records are its sessions, one for each action, in their order: so
--- says the law of a client that is alone, of the world that its history leads to; and the trace has what has come of that world.
+-- After each session the client has committed one action more. At rest its records are its sessions, one for each action, in their order:
+-- so says the law of a client that is alone, of the world that its history leads to; and the trace has what has come of that world.
 use Rattle.std.proofs.Common.{◌≡◌, ℕ, suc, ◌+◌, ◌<◌, ◌≤◌, List, [], ◌∷◌, ◌++◌, length, Option, Some, None, refl, sym, ◌∙◌, ap, subst, arith, take}
 use Rattle.std.proofs.Common.{take-suc}
 use Rattle.std.proofs.lemmas.List.Elements.{All-get_or}
@@ -40,7 +40,8 @@ SoFar actions i c d =
 pub none_so_far : (actions : List Action) (c : Parts Entry) → SoFar actions 0 c c
 none_so_far actions c tables first allowed x = (first, x)
 
-pub one_more : (actions : List Action) (i : ℕ) (action : Action) (c d e : Parts Entry) → i < length actions → action ≡ get_or actions i action
+pub one_more : (actions : List Action) (i : ℕ) (action : Action) (c d e : Parts Entry) → i < length actions
+    → action ≡ get_or actions i action
     → length actions < clock_limit → SoFar actions i c d → Runs action d e → SoFar actions (i + 1) c e
 one_more actions i action c d e lt at few so_far runs tables first allowed x =
     let r = so_far tables first allowed x in
@@ -69,7 +70,8 @@ own_again [] are = refl
 own_again (r ∷ rs) are =
     ap (λ k. (k, r.1) ∷ of_client (map (λ s. s.1) rs)) (sym are.0) ∙ ap (λ (qs : List (ℕ × Record Entry)). r ∷ qs) (own_again rs are.1)
 
-pub receipts : (c : Parts Entry) (t : Trace Entry) (got : List (Record Entry)) (tables : Holdings) (n : ℕ) (last : Action) (done : List Action)
+pub receipts : (c : Parts Entry) (t : Trace Entry) (got : List (Record Entry)) (tables : Holdings) (n : ℕ) (last : Action)
+    (done : List Action)
     → ((opening : Contents Entry) (w : World Entry) → IsReached opening w → IsWorld c w → IsTraceOf w t)
     → ((opening : Contents Entry) → IsFrom opening c → IsSerialTrace opening t)
     → got ≡ map (λ r. r.1) t.records → IsAtRest tables n last done c → AreReceipts tables done got t.state

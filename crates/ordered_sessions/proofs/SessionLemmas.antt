@@ -1,6 +1,6 @@
 -- A session of the client, from its begin to its commit.
--- Each request is answered, and by what it is answered the client goes on (`IsAnswered`). The calls follow the session's program: each is the
--- one that is asked after the replies so far, and what is left of the program goes on with its reply.
+-- Each request is answered, and by what it is answered the client goes on (`IsAnswered`). The calls follow the session's program: each is
+-- the one that is asked after the replies so far, and what is left of the program goes on with its reply.
 use Rattle.std.proofs.Common.{◌≡◌, ℕ, ◌+◌, ◌<◌, ◌≤◌, Bool, true, false, List, [], ◌∷◌, ◌++◌, length, Some, refl, sym, ◌∙◌, ap, subst, arith}
 use Rattle.std.specs.Prelude.{if◌then◌else◌}
 use Rattle.word_machine.specs.Actor.{clock_limit}

@@ -1,5 +1,5 @@
--- A base that goes home makes of the table and of its actor what it makes of the world: the table folds the log of the actor's calls into the
--- base as the world does, and the actor goes on as in each world that events have reached.
+-- A base that goes home makes of the table and of its actor what it makes of the world: the table folds the log of the actor's calls into
+-- the base as the world does, and the actor goes on as in each world that events have reached.
 use Rattle.std.proofs.Common.{◌≡◌, ℕ, zero, suc, ◌<◌, ◌≤◌, ◌^◌, true, false, List, [], ◌∷◌, Option, Some, None, length, slice_get, refl}
 use Rattle.std.proofs.Common.{sym, ap, ◌∙◌, subst, arith}
 use Rattle.std.specs.List.{All}
@@ -103,7 +103,8 @@ module _ {V : Type 0} where
       → locations ≡ locations_had (copy_of r.copies.items k) → slice_get t.bases.items k ≡ Some base
       → All (λ i. i < locations_of (stripes_of base) (shown_of base)) locations
   log_within logs within k t r locations base may ll at =
-      there.log_within logs within may.opening may.world may.actor k may.block (copy_of r.copies.items k) locations base may.reached may.there
+      there.log_within logs within may.opening may.world may.actor k may.block
+          (copy_of r.copies.items k) locations base may.reached may.there
       may.own (may.shape.fit k may.block base may.there at) ll
 
   pub log_below : Logs V → FewEditions V → (k : ℕ) (t : Table V) (r : TxActor V) (locations : List ℕ) (base : Base V) → MayGoHome k t r

@@ -150,7 +150,8 @@ module _ {V : Type 0} where
   has_left s v a homes (stage.Homing left) cs keep own = own
   has_left s v a homes t cs keep own = tt
 
-  pub keeps_home : AreSteps V → EventsStay V → StaysLaw V → StandLaw V → OthersLaw V → (b : BlocksView) (a k : ℕ) (t : Table V) (r s : TxActor V)
+  pub keeps_home : AreSteps V → EventsStay V → StaysLaw V → StandLaw V → OthersLaw V
+      → (b : BlocksView) (a k : ℕ) (t : Table V) (r s : TxActor V)
       → next_of (stage_of r.stage) ≡ next.GoHome k → OthersStand k r.copies.items s.copies.items
       → KeepsFrom s.stage r.stage s.copies.items s.copies.items → KeepsOwn b (Step a) t r s
   keeps_home steps stays stay stand law b a k t r s due copies keep = record {

@@ -56,7 +56,8 @@ module _ {V : Type 0} where
     others = others_keep stand law (Step a);
   }
 
-  pub keeps_starve : StepsLaw V → BegunLaw V → EventsStay V → StandLaw V → OthersLaw V → (b : BlocksView) (a : ℕ) (t : Table V) (r s : TxActor V)
+  pub keeps_starve : StepsLaw V → BegunLaw V → EventsStay V → StandLaw V → OthersLaw V
+      → (b : BlocksView) (a : ℕ) (t : Table V) (r s : TxActor V)
       → KeepsCopies r s → KeepsOwn b (Starve a) t r s
   keeps_starve steps begun stays stand law b a t r s keep = record {
     own = λ o w reached laid has runs after running h. starve_keeps steps begun stays o w a r s keep reached runs after h;

@@ -126,7 +126,8 @@ module _ {V : Type 0} where
       out : (i : ℕ) → 64 ≤ i → is_actor (suc i) ≡ false
       out i high = grind (arith, nat_tests)
 
-  pub half_of : (c : Parts V) (w : World V) (ns : List ℕ) → IsWorld c w → ns ≡ half_in (seat_at c.actors.items) c.records.items → ns ≡ half w
+  pub half_of : (c : Parts V) (w : World V) (ns : List ℕ) → IsWorld c w → ns ≡ half_in (seat_at c.actors.items) c.records.items
+      → ns ≡ half w
   half_of c w ns h e =
       e ∙ (half_same (seat_at c.actors.items) w.seats c.records.items
       (λ a. sym (seat_like c w a h).0) (λ a. sym (seat_like c w a h).1)

@@ -1,8 +1,8 @@
 -- No session asks calls of more weight than a set has locations.
--- A plan takes what its call weighs and what is left of it takes after any reply. So a reservation takes one look-up for each ask, one for the
--- customer, at most five for each kind, and one to put the customer; an update two for each change. A deletion takes two for each booking and
--- one for each wait, which a customer has 1,000 of at most, since the plan gives up where there are more; and at most ten for each of the
--- thirty tickets that it may serve.
+-- A plan takes what its call weighs and what is left of it takes after any reply. So a reservation takes one look-up for each ask, one
+-- for the customer, at most five for each kind, and one to put the customer; an update two for each change. A deletion takes two for each
+-- booking and one for each wait, which a customer has 1,000 of at most, since the plan gives up where there are more; and at most ten for
+-- each of the thirty tickets that it may serve.
 use Rattle.std.proofs.Common.{◌≡◌, ◌⊎◌, inl, inr, ℕ, zero, suc, ◌+◌, ◌*◌, ◌<◌, ◌≤◌, Bool, true, false, cond, ◌&&◌, ◌||◌, List, [], ◌∷◌, ◌++◌}
 use Rattle.std.proofs.Common.{length, Option, Some, None, refl, sym, ◌∙◌, ap, subst, arith, true≢false}
 use Rattle.std.specs.Prelude.{nat_le, nat_lt, if◌then◌else◌, ◌==◌, unwrap_or, is_none}
@@ -92,7 +92,8 @@ ticket_in_takes next n h (reply.Value (Client who)) = tt
 ticket_in_takes next n h (reply.Value (Stock i)) = tt
 ticket_in_takes next n h r = tt
 
-first_in_takes : (next : Option ℕ → Plan) (n : ℕ) → ((o : Option ℕ) → Takes (next o) n) → (r : Reply Entry) → Takes (plans.first_in r next) n
+first_in_takes : (next : Option ℕ → Plan) (n : ℕ) → ((o : Option ℕ) → Takes (next o) n) → (r : Reply Entry)
+    → Takes (plans.first_in r next) n
 first_in_takes next n h reply.Nothing = h None
 first_in_takes next n h (reply.Found t) = h (Some t)
 first_in_takes next n h r = tt
@@ -155,7 +156,8 @@ gather_takes : (asks : List Ask) (car flight room : Best) (next : Best → Best 
 gather_takes [] car flight room next n h = takes_more (next car flight room) n (n + 0) (omega arith) (h car flight room)
 gather_takes (ask ∷ asks) car flight room next n h =
     takes_more (plans.gather (ask ∷ asks) car flight room next) (n + length asks + 1) (n + length (ask ∷ asks)) (omega arith)
-    (get_item_takes ask.kind ask.id _ (n + length asks) (λ o. gather_takes asks (plans.better Car ask o car) (plans.better Flight ask o flight)
+    (get_item_takes ask.kind ask.id _ (n + length asks)
+        (λ o. gather_takes asks (plans.better Car ask o car) (plans.better Flight ask o flight)
     (plans.better Room ask o room) next n h))
 
 line_up_takes : (c units : ℕ) (k : Kind) (id : ℕ) (who : Customer) (next : Part → Customer → Plan) (t n : ℕ)
@@ -211,7 +213,8 @@ reserve_takes c units asks =
 -- ---- delete
 give_back_takes : (b : Booking) (o : Option Item) (next : Plan) (n : ℕ) → Takes next n → Takes (plans.give_back b o next) (n + 1)
 give_back_takes b None next n h = tt
-give_back_takes b (Some i) next n h = takes_if (nat_lt i.used b.units) GivesUp _ (n + 1) (λ _. tt) (λ _. put_item_takes b.kind b.id (give_units b.units i) next n h)
+give_back_takes b (Some i) next n h =
+    takes_if (nat_lt i.used b.units) GivesUp _ (n + 1) (λ _. tt) (λ _. put_item_takes b.kind b.id (give_units b.units i) next n h)
 
 give_all_back_takes : (bs : List Booking) (next : Plan) (n : ℕ) → Takes next n → Takes (plans.give_all_back bs next) (n + 2 * length bs)
 give_all_back_takes [] next n h = takes_more next n (n + 2 * 0) (omega arith) h
@@ -335,7 +338,8 @@ change_each_takes (c ∷ cs) next n h =
 -- ---- the session
 pub session_takes : (action : Action) → IsAllowed action → Takes (session action) 4096
 session_takes (Reserve c units asks) allowed =
-    let few = allowed.1.1 in takes_more (plans.reserve c units asks) (17 + length asks) 4096 (omega (arith, few)) (reserve_takes c units asks)
+    let few = allowed.1.1 in takes_more (plans.reserve c units asks) (17 + length asks) 4096 (omega (arith, few))
+        (reserve_takes c units asks)
 session_takes (Delete c) allowed = takes_more (plans.delete c) 2302 4096 (omega arith) (delete_takes c)
 session_takes (Update changes) allowed =
     let few = allowed.0.1 in

@@ -1,7 +1,7 @@
 -- A client that is alone is never refused.
--- Its events are plain ones of its actor, so the law of an actor that is alone serves. There is what its session asks of: the world opened on
--- the word, the five maps and the three queues of tables. Its calls have room, by what sessions cost; and it has asked for no more commits than
--- it has begun sessions, which are below the limit of the clock.
+-- Its events are plain ones of its actor, so the law of an actor that is alone serves. There is what its session asks of: the world
+-- opened on the word, the five maps and the three queues of tables. Its calls have room, by what sessions cost; and it has asked for no
+-- more commits than it has begun sessions, which are below the limit of the clock.
 use Rattle.std.proofs.Common.{◌≡◌, ◌⊎◌, inl, inr, ℕ, zero, suc, ◌+◌, ◌<◌, ◌≤◌, Bool, true, false, not, List, [], ◌∷◌, ◌++◌, length, Option}
 use Rattle.std.proofs.Common.{Some, None, refl, sym, ◌∙◌, ap, subst, arith}
 use Rattle.std.specs.FinMap.{empty}
@@ -42,7 +42,8 @@ use Rattle.tx_phases.specs.Phases.{Phase, Rests, Begins, Stands, Calls, Commits,
 use Rattle.session_runs.specs.Clients.{may_commit}
 
 -- ---- what there is
-map_known : (b : Block) (op : Op Entry) → MapKind ≡ b.kind → ((n : ℕ) → is_missing (outcome_of op (whole n MapKind (λ i. OfMap empty))) ≡ false)
+map_known : (b : Block) (op : Op Entry) → MapKind ≡ b.kind
+    → ((n : ℕ) → is_missing (outcome_of op (whole n MapKind (λ i. OfMap empty))) ≡ false)
     → is_known (Some b) op ≡ true
 map_known b op kind is =
     subst (λ (k : Kind). not (is_missing (outcome_of op (whole b.stripes k (λ i. OfMap empty)))) ≡ true) kind (ap not (is b.stripes))
@@ -198,7 +199,8 @@ answered_in a h l start plain =
 
 -- no step is refused to a request that is under way
 pub never_in_steps : (a : ℕ) (h : History) (calls : List (Call Entry × Reply Entry)) (q : Request Entry) (s : Seat Entry)
-    (made : Option (Record Entry)) → IsLawful h → h.clock ≡ 0 → ArePlain a (events_of h.turns) → commits_in (events_of h.turns) < clock_limit
+    (made : Option (Record Entry)) → IsLawful h → h.clock ≡ 0 → ArePlain a (events_of h.turns)
+        → commits_in (events_of h.turns) < clock_limit
     → phase s ≡ asked_as calls q → HasRoom calls q → IsUnderWay s ((world_in h).seats a) made
     → IsRefusal (happens (world_in h) (Step a)).1 → ⊥
 never_in_steps a h calls q s made l start plain few stood room u =

@@ -261,7 +261,8 @@ module _ (a : ℕ) (tables : Holdings) (calls : List (Call Entry × Reply Entry)
       }
 
   -- an open transaction
-  stands : (n : ℕ) (p : Phase Entry) (old : Action) (c : Parts Entry) (x : IsClient a tables n p old done c) → old ≡ action → p ≡ Stands calls
+  stands : (n : ℕ) (p : Phase Entry) (old : Action) (c : Parts Entry) (x : IsClient a tables n p old done c) → old ≡ action
+      → p ≡ Stands calls
       → IsAt a (Stands calls) action done x.history
   stands n p old c x same on =
       subst (λ (r : Phase Entry). IsAt a r action done x.history) on (subst (λ (y : Action). IsAt a p y done x.history) same x.at)
@@ -303,7 +304,8 @@ module _ (a : ℕ) (tables : Holdings) (calls : List (Call Entry × Reply Entry)
       record {
         made = None;
         at = moved.to;
-        client = goes a tables n p old done c d x t m n moved.to action done (refl, fits.small) may f (omega (arith, asked, one, more)) x.few
+        client = goes a tables n p old done c d x t m n moved.to action done (refl, fits.small) may f
+            (omega (arith, asked, one, more)) x.few
             moved.at;
         goes_on = λ quiet. going y m moved.to moved.at.stands quiet fits.room moved.moves
             (λ e. no_end x.history call x.lawful at

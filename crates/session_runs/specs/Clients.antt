@@ -34,7 +34,8 @@ may_commit p = 0
 
 -- Actor a alone has done anything since the world opened at clock 0 on these tables, of which c are the parts: it has begun n sessions. Its
 -- transaction stands at p and is to do this action, and it has committed these.
-pub record IsClient (a : ℕ) (tables : Holdings) (n : ℕ) (p : Phase Entry) (action : Action) (done : List Action) (c : Parts Entry) : Type 0 where
+pub record IsClient (a : ℕ) (tables : Holdings) (n : ℕ) (p : Phase Entry) (action : Action) (done : List Action)
+    (c : Parts Entry) : Type 0 where
   pub history : History
   pub opening : history.tables ≡ tables
   pub start : history.clock ≡ 0

@@ -46,7 +46,8 @@ changes_text [] = []
 changes_text (first ∷ changes) = changed_text first ++ flat_map (λ made. codes " " ++ changed_text made) changes
 
 abbrev pub item_text : Item → List ℕ
-item_text i = codes "total " ++ (decimal i.total ++ (codes " used " ++ (decimal i.used ++ (codes " free " ++ (decimal i.free ++ (codes " price " ++ decimal i.price))))))
+item_text i = codes "total " ++
+    (decimal i.total ++ (codes " used " ++ (decimal i.used ++ (codes " free " ++ (decimal i.free ++ (codes " price " ++ decimal i.price))))))
 
 abbrev pub reply_text : ActionReply → List ℕ
 reply_text (Reserved parts) = parts_text parts
@@ -75,13 +76,16 @@ abbrev pub items_text : Kind → Holdings → List ℕ
 items_text k s = flat_map (item_line k) (map.entries (of_kind k s.items))
 
 abbrev pub booking_text : Booking → List ℕ
-booking_text b = codes " " ++ (kind_token b.kind ++ (codes " " ++ (decimal b.id ++ (codes " " ++ (decimal b.units ++ (codes " " ++ decimal b.price))))))
+booking_text b = codes " " ++
+    (kind_token b.kind ++ (codes " " ++ (decimal b.id ++ (codes " " ++ (decimal b.units ++ (codes " " ++ decimal b.price))))))
 
 abbrev pub wait_text : Wait → List ℕ
-wait_text w = codes " wait " ++ (kind_token w.kind ++ (codes " " ++ (decimal w.id ++ (codes " " ++ (decimal w.units ++ (codes " " ++ decimal w.ticket))))))
+wait_text w = codes " wait " ++
+    (kind_token w.kind ++ (codes " " ++ (decimal w.id ++ (codes " " ++ (decimal w.units ++ (codes " " ++ decimal w.ticket))))))
 
 abbrev pub customer_line : ℕ × Customer → List ℕ
-customer_line p = codes "customer " ++ (decimal p.0 ++ (codes ":" ++ (flat_map booking_text p.1.bookings ++ (flat_map wait_text p.1.waits ++ (10 ∷ [])))))
+customer_line p = codes "customer " ++
+    (decimal p.0 ++ (codes ":" ++ (flat_map booking_text p.1.bookings ++ (flat_map wait_text p.1.waits ++ (10 ∷ [])))))
 
 -- the tickets of a queue, where there are some
 abbrev pub tickets_line : Kind → List ℕ → List ℕ

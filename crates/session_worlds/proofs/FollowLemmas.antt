@@ -151,7 +151,8 @@ module _ {V A : Type 0} (P : ℕ → Type 0) (p : Program V A) where
   judged u a x o d es next None c h = sits (acted u (asks a (word.AskRead d.0) ∷ [])) a (at_stage x (Loading o (d ∷ es))) Quiet c tt
   judged u a x o d es next (Some v) c h = fresh u a x d v next h
 
-  loaded : (es : Entries) (u : World V) (a : ℕ) (x : Seat V) (o : Outcomes V) → (P x.rv × AsksNext p x.calls (call_of o)) → Goes a (loads u a x o es)
+  loaded : (es : Entries) (u : World V) (a : ℕ) (x : Seat V) (o : Outcomes V) → (P x.rv × AsksNext p x.calls (call_of o))
+      → Goes a (loads u a x o es)
   loaded [] u a x o c = answered (acted u (Accept a o.asked ∷ [])) a x (call_of o) (reply_of o) c
   loaded (d ∷ es) u a x o c = judged u a x o d es (loads u a x o es) (lookup (actor_of u a).reads d.0) c (loaded es u a x o c)
 
@@ -159,7 +160,8 @@ module _ {V A : Type 0} (P : ℕ → Type 0) (p : Program V A) where
   open_still : (N : Type 0) (calls : List (Call V × Reply V)) (c : Call V) → N × AsksNext p calls c → FollowsAt N p calls Open
   open_still N calls c next = (next.0, (Asks c next.1.0, next.1.1))
 
-  with_answer : (u : World V) (a : ℕ) (before x : Seat V) (sized o : Outcomes V) (editions : ℕ → ℕ) → (P before.rv × AsksNext p before.calls (call_of o))
+  with_answer : (u : World V) (a : ℕ) (before x : Seat V) (sized o : Outcomes V) (editions : ℕ → ℕ)
+      → (P before.rv × AsksNext p before.calls (call_of o))
       → (P x.rv × AsksNext p x.calls (call_of o)) → Goes a (answers u a before x sized o editions)
   with_answer u a before x sized o editions old c =
       let d = content u.words u.blocks in
@@ -167,7 +169,8 @@ module _ {V A : Type 0} (P : ℕ → Type 0) (p : Program V A) where
       choose a (has_room (actor_of u a) (d.reads sized) (d.writes sized)) (loads u a x o es) _ (loaded es u a x o c)
       (sits u a (at_stage before Open) (Refused a refusal.TooLong) (open_still (P before.rv) before.calls (call_of o) old) tt)
 
-  called_on : (w : World V) (a : ℕ) (x : Seat V) (asked : Asked V) → (P x.rv × AsksNext p x.calls (as_call asked)) → Goes a (calls_on w a x asked)
+  called_on : (w : World V) (a : ℕ) (x : Seat V) (asked : Asked V) → (P x.rv × AsksNext p x.calls (as_call asked))
+      → Goes a (calls_on w a x asked)
   called_on w a x asked c =
       let o = outcome_at w a asked in
       choose a (x.copied asked.collection (piece_at w.blocks asked)) _ _ (with_answer w a x x o o (w.boosted.shadows a).editions c c)
@@ -180,7 +183,8 @@ module _ {V A : Type 0} (P : ℕ → Type 0) (p : Program V A) where
       (choose a (nat_lt (length x.calls) CALL_LIMIT && room) next _ h (stays w a x Open (Refused a refusal.TooLong) seat at f tt))
       (stays w a x Open (Refused a refusal.NoSuch) seat at f tt)
 
-  word_read : (w : World V) (a : ℕ) (x : Seat V) (l : ℕ) (n : told.Notice) → (P x.rv × AsksNext p x.calls (record { target = l; op = Read }))
+  word_read : (w : World V) (a : ℕ) (x : Seat V) (l : ℕ) (n : told.Notice)
+      → (P x.rv × AsksNext p x.calls (record { target = l; op = Read }))
       → Goes a (reads w a x l n)
   word_read w a x l (told.Number v) c =
       answered (acted w (asks a (word.AskRead l) ∷ [])) a x (record { target = l; op = Read }) (reply.Number v) c
@@ -211,21 +215,24 @@ module _ {V A : Type 0} (P : ℕ → Type 0) (p : Program V A) where
   has_loaded_on u a x o d es n seat at c = stays u a x (Loading o (d ∷ es)) Quiet seat at c tt
 
   tried_on : (u : World V) (a : ℕ) (x : Seat V) (free : Bool) (k : ℕ) (got : List ℕ) (again : ℕ → Stage V) (next : Stage V) (tries : ℕ)
-      → FollowsAt (P x.rv) p x.calls next → ((n : ℕ) → FollowsAt (P x.rv) p x.calls (again n)) → Goes a (has_tried u a x free k got again next tries)
+      → FollowsAt (P x.rv) p x.calls next → ((n : ℕ) → FollowsAt (P x.rv) p x.calls (again n))
+          → Goes a (has_tried u a x free k got again next tries)
   tried_on u a x free k got again next zero f g =
       choose a free _ _ (sits u a (at_stage x next) Quiet f tt) (given_up u a (because x (refusal.GateBusy k)) got)
   tried_on u a x free k got again next (suc n) f g =
       choose a free _ _ (sits u a (at_stage x next) Quiet f tt) (sits u a (at_stage x (again n)) Quiet (g n) tt)
 
   -- ---- a commit
-  takes_on : (N : Type 0) (calls : List (Call V × Reply V)) (got ks : List ℕ) → N × IsWhole p calls → FollowsAt N p calls (takes_gates got ks)
+  takes_on : (N : Type 0) (calls : List (Call V × Reply V)) (got ks : List ℕ) → N × IsWhole p calls
+      → FollowsAt N p calls (takes_gates got ks)
   takes_on N calls got [] h = h
   takes_on N calls got (k ∷ ks) h = h
 
   locked_on : (u : World V) (a : ℕ) (x : Seat V) (n : told.Notice) → u.seats a ≡ x → x.stage ≡ Locking → (P x.rv × IsWhole p x.calls)
       → Goes a (has_locked u a x n)
   locked_on u a x (told.LockedAt wv) seat at h =
-      sits u a (record x { stage = takes_gates [] (written_homes u a); wv = wv }) Quiet (takes_on (P x.rv) x.calls [] (written_homes u a) h) tt
+      sits u a (record x { stage = takes_gates [] (written_homes u a); wv = wv }) Quiet
+          (takes_on (P x.rv) x.calls [] (written_homes u a) h) tt
   locked_on u a x (told.Busy l found) seat at h = given_up u a (because x (refusal.Busy l found)) []
   locked_on u a x (told.Invalid l found) seat at h = given_up u a (because x (refusal.Invalid l found)) []
   locked_on u a x n seat at h = stays u a x Locking Quiet seat at h tt
@@ -246,7 +253,8 @@ module _ {V A : Type 0} (P : ℕ → Type 0) (p : Program V A) where
   begun_on u a x (told.Exhausted clock) seat at number = sits u a no_one (Refused a (refusal.Exhausted clock)) tt tt
   begun_on u a x n seat at number = stays u a x Beginning Quiet seat at tt tt
 
-  cancelled_on : (u : World V) (a : ℕ) (x : Seat V) (n : told.Notice) → u.seats a ≡ x → x.stage ≡ Cancelling → Goes a (has_cancelled u a x n)
+  cancelled_on : (u : World V) (a : ℕ) (x : Seat V) (n : told.Notice) → u.seats a ≡ x → x.stage ≡ Cancelling
+      → Goes a (has_cancelled u a x n)
   cancelled_on u a x told.Cancelled seat at = sits (acted u (asks a word.AskAbort ∷ [])) a (at_stage x Leaving) Quiet tt tt
   cancelled_on u a x n seat at = stays u a x Cancelling Quiet seat at tt tt
 
@@ -260,7 +268,8 @@ module _ {V A : Type 0} (P : ℕ → Type 0) (p : Program V A) where
   IsLast Releasing = Unit {0}
   IsLast stage = ⊥
 
-  stepped : (w : World V) (a : ℕ) (x : Seat V) (st : Stage V) → w.seats a ≡ x → x.stage ≡ st → FollowsAt (P x.rv) p x.calls st → (IsLast st → ⊥)
+  stepped : (w : World V) (a : ℕ) (x : Seat V) (st : Stage V) → w.seats a ≡ x → x.stage ≡ st → FollowsAt (P x.rv) p x.calls st
+      → (IsLast st → ⊥)
       → ((rv : ℕ) → st ≡ Beginning → (step_at w a x st).1 ≡ Answered a (answer.Begun rv) → P rv) → Goes a (step_at w a x st)
   stepped w a x Idle seat at f l number = stays w a x Idle (Refused a refusal.NoTransaction) seat at tt tt
   stepped w a x Open seat at f l number = stays w a x Open (Refused a refusal.NoTransaction) seat at f tt
@@ -300,7 +309,8 @@ module _ {V A : Type 0} (P : ℕ → Type 0) (p : Program V A) where
   released_on u a x n seat at = (stays u a x Releasing Quiet seat at tt tt).0
 
   step_by : (w : World V) (a : ℕ) (x : Seat V) (st : Stage V) → w.seats a ≡ x → x.stage ≡ st → FollowsAt (P x.rv) p x.calls st
-      → ((rv : ℕ) → st ≡ Beginning → (step_at w a x st).1 ≡ Answered a (answer.Begun rv) → P rv) → IsFollowing ((step_at w a x st).0.seats a)
+      → ((rv : ℕ) → st ≡ Beginning → (step_at w a x st).1 ≡ Answered a (answer.Begun rv) → P rv)
+          → IsFollowing ((step_at w a x st).0.seats a)
   step_by w a x Closing seat at f number = subst IsFollowing (sym (put-same w.seats a no_one)) tt
   step_by w a x Releasing seat at f number = released_on (acted w (moves a ∷ [])) a x (word_notice w a) seat at
   step_by w a x st seat at f number = (stepped w a x st seat at f (λ l. l) number).0
@@ -354,7 +364,8 @@ module _ {V A : Type 0} (P : ℕ → Type 0) (p : Program V A) where
   MayAsk calls request.Commit = asked (after p (replies_of calls)) ≡ ask.Done
   MayAsk calls q = Unit {0}
 
-  requested : (w : World V) (a : ℕ) (x : Seat V) (st : Stage V) (q : Request V) → w.seats a ≡ x → x.stage ≡ st → FollowsAt (P x.rv) p x.calls st
+  requested : (w : World V) (a : ℕ) (x : Seat V) (st : Stage V) (q : Request V) → w.seats a ≡ x → x.stage ≡ st
+      → FollowsAt (P x.rv) p x.calls st
       → MayAsk x.calls q → Goes a (ask_at w a x st q)
   requested w a x Idle request.Begin seat at f may = sits (acted w (asks a word.AskBegin ∷ [])) a (at_stage x Beginning) Quiet tt tt
   requested w a x Idle request.BeginRead seat at f may = sits (acted w (asks a word.AskBeginRead ∷ [])) a (at_stage x Beginning) Quiet tt tt

@@ -41,7 +41,8 @@ next h t = later h (t ∷ [])
 pub world_next : (h : History) (t : Turn) → world_in (next h t) ≡ (happens (world_in h) t.0).0
 world_next h t = run_on (opening_of h) h.turns t
 
-pub action_next : (a : ℕ) (h : History) (t : Turn) → action_in a (next h t) ≡ begun (begun_all h.actions (opening_of h) h.turns) (world_in h) t a
+pub action_next : (a : ℕ) (h : History) (t : Turn)
+    → action_in a (next h t) ≡ begun (begun_all h.actions (opening_of h) h.turns) (world_in h) t a
 action_next a h t = ap (λ (f : Actions). f a) (begun_on h.actions (opening_of h) h.turns t)
 
 pub done_next : (a : ℕ) (h : History) (t : Turn)
@@ -125,7 +126,8 @@ steps_to h a p action done n at told =
 
 -- ---- a request inside a transaction
 
-pub record Asked (a : ℕ) (p : Phase Entry) (q : Request Entry) (action : Action) (done : List Action) (n : Notice Entry) (h : History) : Type 0 where
+pub record Asked (a : ℕ) (p : Phase Entry) (q : Request Entry) (action : Action) (done : List Action) (n : Notice Entry)
+    (h : History) : Type 0 where
   pub to : Phase Entry
   pub moves : AskMoves p q n to
   pub at : IsAt a to action done h
@@ -199,7 +201,8 @@ opens a h calls action done at =
 quiet_begin : (w : World Entry) (a : ℕ) (x : Seat Entry) (st : Stage Entry) → st ≡ Idle → (ask_at w a x st request.Begin).1 ≡ Quiet
 quiet_begin w a x st e = ap (λ (s : Stage Entry). (ask_at w a x s request.Begin).1) e
 
-begun_to : (actions : Actions) (a : ℕ) (action : Action) (st : Stage Entry) → st ≡ Idle → at_idle st (put actions a action) actions a ≡ action
+begun_to : (actions : Actions) (a : ℕ) (action : Action) (st : Stage Entry) → st ≡ Idle
+    → at_idle st (put actions a action) actions a ≡ action
 begun_to actions a action st e =
     ap (λ (s : Stage Entry). at_idle s (put actions a action) actions a) e ∙ put-same actions a action
 

@@ -119,7 +119,8 @@ no_own_behind a q b x s first after le above =
 -- it does not come before one that it is made behind
 behind_not_before : (q r : ℕ × Record Entry) → r.0 ≡ q.0 → IsBehind q r → comes_before q r ≡ true → ⊥
 behind_not_before q r same behind first =
-    by q.1.number r.1.number q.0 q.1.writes r.1.writes (subst (λ b. before q.1.number q.1.writes q.0 r.1.number r.1.writes b ≡ true) same first)
+    by q.1.number r.1.number q.0 q.1.writes r.1.writes
+        (subst (λ b. before q.1.number q.1.writes q.0 r.1.number r.1.writes b ≡ true) same first)
     behind.number behind.above
   where
     by : (n m a : ℕ) (u v : Bool) → before n u a m v a ≡ true → m ≤ n → (u ≡ true → m < n) → ⊥
@@ -253,7 +254,8 @@ module _ (blocks : List Block) (stripes : HaveStripes blocks) (clock : ℕ) (val
 
   above_there : (w : World Entry) (es : List (Event Entry)) → run start es ≡ w → (a rv : ℕ) → (w.seats a).stage ≡ Beginning
       → (happens w (Step a)).1 ≡ Answered a (answer.Begun rv) → AreUpTo rv w.records
-  above_there w es is a rv = subst (λ (u : World Entry). (u.seats a).stage ≡ Beginning → (happens u (Step a)).1 ≡ Answered a (answer.Begun rv)
+  above_there w es is a rv = subst (λ (u : World Entry). (u.seats a).stage ≡ Beginning
+      → (happens u (Step a)).1 ≡ Answered a (answer.Begun rv)
       → AreUpTo rv u.records) is (begins_above blocks stripes clock values held suit es a rv)
 
   more_events : (w : World Entry) (es : List (Event Entry)) (e : Event Entry) → run start es ≡ w
@@ -291,7 +293,8 @@ module _ (blocks : List Block) (stripes : HaveStripes blocks) (clock : ℕ) (val
             let x = w.seats b in
             subst (λ (y : Seat Entry). IsFollowing (OwnUpTo b rs) (session (later b)) y) (sym ((happens_by w e).seats b isnt))
             (subst (λ (action : Action). IsFollowing (OwnUpTo b rs) (session action) x) (sym (others b isnt))
-            (follows_map (OwnUpTo b w.records x.rv) (OwnUpTo b rs x.rv) (session (actions b)) x.calls x.stage (keep b x.rv isnt) (s.seats b)))
+            (follows_map (OwnUpTo b w.records x.rv) (OwnUpTo b rs x.rv) (session (actions b)) x.calls x.stage (keep b x.rv isnt)
+                (s.seats b)))
       ]
 
   no_more : (so_far : ℕ → List Action) (c : ℕ) → so_far c ++ [] ≡ so_far c
@@ -345,7 +348,8 @@ module _ (blocks : List Block) (stripes : HaveStripes blocks) (clock : ℕ) (val
         ];
       }
 
-  same_so_far : (f g : ℕ → List Action) (actions : Actions) (w : World Entry) → ((c : ℕ) → f c ≡ g c) → Serves f actions w → Serves g actions w
+  same_so_far : (f g : ℕ → List Action) (actions : Actions) (w : World Entry) → ((c : ℕ) → f c ≡ g c) → Serves f actions w
+      → Serves g actions w
   same_so_far f g actions w same s = record {
     events = s.events;
     reached = s.reached;
@@ -473,7 +477,8 @@ sessions_are_serial blocks clock tables actions ts allowed balanced stripes suit
     let opening = state_of tables in
     let first = opened blocks clock opening.words opening.held in
     let w = run first (events_of ts) in
-    let s : Serves blocks stripes clock opening.words opening.held suit (λ c. committed_of c actions first ts) (begun_all actions first ts) w =
+    let s : Serves blocks stripes clock opening.words opening.held suit (λ c. committed_of c actions first ts)
+        (begun_all actions first ts) w =
     serves_all blocks stripes clock opening.words opening.held suit (λ c. []) actions first ts
     (opens_serving blocks stripes clock opening.words opening.held suit actions allowed) may in
     let serial : IsSerial opening w = serial_world blocks stripes clock opening.words opening.held suit (events_of ts) in

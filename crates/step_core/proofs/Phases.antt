@@ -14,7 +14,7 @@ use Rattle.step_core.specs.declared.actor.Actor.{Actor}
 use Rattle.step_core.specs.declared.actor.Place.{Place}
 use Rattle.step_core.specs.declared.actor.Place.TheVariants.{Idle, Begin, Open, Look, Fetch, Again, Lock, Take, Check, Broken, First, Store, Release, Undo, Leave, Close}
 use Rattle.step_core.specs.declared.machine.Machine.{Machine}
-use Rattle.step_core.specs.declared.machine.TheConstants.{SEATS}
+use Rattle.step_core.specs.declared.machine.TheConstants.{LAST_ACTOR, SEATS}
 use Rattle.step_core.proofs.Lists.{drop_here, drop_end}
 use Rattle.step_core.proofs.Moves.{actor_at_go}
 
@@ -90,7 +90,7 @@ both_true false c h = no false refl h
 pub seat_of : (v : Shown) (a : ℕ) (q : Request) → refusal_of v a q ≡ None → a < SEATS
 seat_of v a q h =
     let t = (if_none (is_actor a) (refusal_at (length v.values) (actor_in v a) (actor_in v a).place q) NoSuch h).0 in
-    let low = leb-true a 64 (both_true (nat_le 1 a) (nat_le a 64) t).1 in omega (arith, low)
+    let low = leb-true a LAST_ACTOR (both_true (nat_le 1 a) (nat_le a LAST_ACTOR) t).1 in omega (arith, low)
 
 pub lawful : (v : Shown) (a : ℕ) (q : Request) → refusal_of v a q ≡ None
     → (allows (phase_of (actor_in v a) (actor_in v a).place) q ≡ true) × (location_refusal (length v.values) (actor_in v a) q ≡ None)

@@ -9,7 +9,7 @@ ghost use Rattle.std.specs.VecDeque.{deque_len, deque_capacity};
 ghost use Rattle.vlock_word.specs.LockWord.{unbits};
 ghost use Rattle.tx_sets.specs.Entries.{lookup, locations};
 ghost use Rattle.word_machine.specs.Actor as machine;
-ghost use Rattle.word_machine.specs.Actor.{goes, begun, with_read, seen, seen_again, seen_to_lock, taken, to_check, stamped_at, seen_in_check, freed, after_release};
+ghost use Rattle.word_machine.specs.Actor.{clock_limit, goes, begun, with_read, seen, seen_again, seen_to_lock, taken, to_check, stamped_at, seen_in_check, freed, after_release};
 ghost use Rattle.word_machine.specs.Notices as notice;
 ghost use Rattle.word_machine.specs.Notices.{begin_notice, look_notice, again_notice, lock_notice, check_notice, when_none_left};
 ghost use Rattle.step_core.specs.Answers.{result_of};
@@ -129,7 +129,7 @@ impl Actor {
         ensures actor { actor_of self.new ≡ begun (actor_of self.old) clock }
         ensures answer { result ≡ result_of (begin_notice clock) }
         ensures fits { (n : ℕ) → Fits n self.old → Fits n self.new }
-        ensures owed { owed self.new.place ≤ (if nat_lt clock 4611686018427387904 then 1 else 0) }
+        ensures owed { owed self.new.place ≤ (if nat_lt clock clock_limit then 1 else 0) }
         ensures due { due self.new.place ≤ 1 }
     {
         if clock >= CLOCK_LIMIT {

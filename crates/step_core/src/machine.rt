@@ -36,7 +36,7 @@ pub struct Machine {
 
 /// As many actors without a transaction as there are seats.
 pub fn seats(alloc: Global) -> Result<Vec<Actor>, AllocError>
-    ensures count { IfOk result (λ v. length v.items ≡ 65) }
+    ensures count { IfOk result (λ v. length v.items ≡ SEATS) }
     ensures blank { IfOk result (λ v. AreBlank v.items) }
 {
     let mut actors = Vec::with_capacity(alloc, SEATS)?;

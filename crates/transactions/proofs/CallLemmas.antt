@@ -1,7 +1,7 @@
 -- A call is asked, and driven where nothing is told at once.
 --
--- What the ask tells in the own world says where the transaction stands (`asks_move`); that it is not given up there is a law on worlds that
--- events have reached, and the own world is one of these to its actor. What the turns come to is the law on courses (`Driven.comes`).
+-- What the ask tells in the own world says where the transaction stands (`asks_move`); that it is not given up there is a law on worlds
+-- that events have reached, and the own world is one of these to its actor. What the turns come to is the law on courses (`Driven.comes`).
 use Rattle.std.proofs.Common.{◌≡◌, ◌≢◌, ◌⊎◌, ℕ, Bool, true, false, cond, ◌&&◌, not, List, [], ◌∷◌, length, Option, None, Result, Ok, Err, inl, inr, refl, sym, ap, ◌∙◌, subst}
 use Rattle.std.specs.Prelude.{nat_lt}
 use Rattle.word_machine.specs.Requests as word
@@ -151,7 +151,8 @@ module _ {V : Type 0} where
     call_told calls on (told.Answered p) ne is = absurd (moves calls on (told.Answered p) is)
     call_told calls on (told.Refused cause) ne is = tt
 
-    leaves_now : (calls : List (Call V × Reply V)) → standing o s ≡ Stands calls → (r : Result (Reply V) Refusal) → Answers o s q (told_of r)
+    leaves_now : (calls : List (Call V × Reply V)) → standing o s ≡ Stands calls → (r : Result (Reply V) Refusal)
+        → Answers o s q (told_of r)
         → CallLeaves o s calls call m r
     leaves_now calls on (Ok reply) is = moves calls on (told.Answered (answer.Replied reply)) is
     leaves_now calls on (Err cause) is = inl (moves calls on (told.Refused cause) is)
@@ -201,7 +202,8 @@ module _ {V : Type 0} where
           keeps = then_keeps s m u kept (call_keeps o m u opened.0 call at (told_of k) d (told_some k) D);
           leaves = λ calls on. leaves_back o s m u calls call k kept (call_left o m u calls call (calls_on r ties calls on is) k d D);
           answered = inr (inl (is, told_back o s m u (told_of k) kept (D.tells (told_some k))));
-          began = λ still. D.began (λ e. (let z : Calls opened.0 call ≡ Begins = sym at ∙ e in cc)) (stands_busy (standing o u) still.0 still.1)
+          began = λ still. D.began (λ e. (let z : Calls opened.0 call ≡ Begins = sym at ∙ e in cc))
+              (stands_busy (standing o u) still.0 still.1)
               ∙ began_asked (λ e. (let z : Calls opened.0 call ≡ Rests = sym at ∙ e in cc));
         }
 

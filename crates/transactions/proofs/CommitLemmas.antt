@@ -76,7 +76,8 @@ module _ {V : Type 0} where
   same_calls cs calls worlds.Open h = (let e : Stands cs ≡ Stands calls = h in cc)
   same_calls cs calls st h = absurd (let z : ⊥ = cc in z)
 
-  pub commit_asked : (o : World V) (s m : table.Seat V) (calls : List (Call V × Reply V)) → standing o s ≡ Stands calls → HasAsked s Commit m
+  pub commit_asked : (o : World V) (s m : table.Seat V) (calls : List (Call V × Reply V)) → standing o s ≡ Stands calls
+      → HasAsked s Commit m
       → (standing o m ≡ Commits calls) × (is_closing (seat_in o m).stage ≡ not (has_written o s))
   commit_asked o s m calls on has =
       let a = seated.actor s in
@@ -89,9 +90,11 @@ module _ {V : Type 0} where
       (ap phase e ∙ (h.0 ∙ same_calls x.calls calls x.stage on), ap (λ (y : Seat V). is_closing y.stage) e ∙ h.1)
 
   -- ---- its numbers
-  pub commit_began : (o : World V) (s m : table.Seat V) (calls : List (Call V × Reply V)) → standing o s ≡ Stands calls → HasAsked s Commit m
+  pub commit_began : (o : World V) (s m : table.Seat V) (calls : List (Call V × Reply V)) → standing o s ≡ Stands calls
+      → HasAsked s Commit m
       → (seat_in o m).rv ≡ (seat_in o s).rv
-  commit_began o s m calls on has = kept (asks_keep (acts o s) (seated.actor s) Commit (stands_at (seat_in o s).calls calls (seat_in o s).stage on))
+  commit_began o s m calls on has =
+      kept (asks_keep (acts o s) (seated.actor s) Commit (stands_at (seat_in o s).calls calls (seat_in o s).stage on))
     where
       seat_is : seat_in o m ≡ (happens (acts o s) (Ask (seated.actor s) Commit)).0.seats (seated.actor s)
       seat_is i = (acts_taken o s m (Ask 0 Commit) has i).seats (has.0.1 i)
@@ -181,7 +184,8 @@ module _ {V : Type 0} where
         (turns_keep o s u (told.Refused cause) None refl D, (h.0, inl truth))
 
     -- without a record it was refused
-    none_told : (n : Told V) → n ≢ told.Quiet → EndsFrom a (seat_in o s) (Commits calls) (notice_of a n) (seat_in o u) None → IsCommitTold n None
+    none_told : (n : Told V) → n ≢ told.Quiet → EndsFrom a (seat_in o s) (Commits calls) (notice_of a n) (seat_in o u) None
+        → IsCommitTold n None
     none_told told.Quiet ne h = absurd (ne refl)
     none_told (told.Answered (answer.Committed k)) ne h = absurd h.1
     none_told (told.Answered q) ne h = absurd h
@@ -219,7 +223,8 @@ module _ {V : Type 0} where
     pub keeps : OnErr r (KeepsReceipts s u)
     pub ended : IfErr r (IsEnded o s u)
 
-  same_stands : (cs calls : List (Call V × Reply V)) → ◌≡◌ {A = Phase V} (Commits cs) (Commits calls) → ◌≡◌ {A = Phase V} (Stands cs) (Stands calls)
+  same_stands : (cs calls : List (Call V × Reply V)) → ◌≡◌ {A = Phase V} (Commits cs) (Commits calls)
+      → ◌≡◌ {A = Phase V} (Stands cs) (Stands calls)
   same_stands cs calls e = cc
 
   -- the commit that was asked
@@ -238,7 +243,8 @@ module _ {V : Type 0} where
   ended_back o s m u cause kept (rests, inl found) = (rests, inl (found_back o s m u cause kept found))
   ended_back o s m u cause kept (rests, inr memory) = (rests, inr memory)
 
-  pub finishes_since : (t : TxTable V) (s m u : table.Seat V) (q : TxActor V) (calls : List (Call V × Reply V)) (r : Result (Record V) Refusal)
+  pub finishes_since : (t : TxTable V) (s m u : table.Seat V) (q : TxActor V) (calls : List (Call V × Reply V))
+      (r : Result (Record V) Refusal)
       → Ties t s q → standing (opening_of t) s ≡ Stands calls → HasAsked s Commit m → Finishes (opening_of t) m u r
       → FinishesOpen (opening_of t) s u r
   finishes_since t s m u q calls (Ok r) ties on has F =

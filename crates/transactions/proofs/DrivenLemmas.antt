@@ -213,7 +213,8 @@ module _ {V : Type 0} where
       after = h.after ++ record { asks = list_of u.asked; found = T.found; base = T.base } ∷ [];
       turns = ap (λ (k : View V). k.turns) T.takes.turn
           ∙ (ap (λ (is : List (Turn V)). is ++ record { asks = list_of u.asked; found = T.found; base = T.base } ∷ []) h.turns
-          ∙ append_assoc ((view s).turns ++ h.before) (h.turn ∷ h.after) (record { asks = list_of u.asked; found = T.found; base = T.base } ∷ []));
+          ∙ append_assoc ((view s).turns ++ h.before) (h.turn ∷ h.after)
+              (record { asks = list_of u.asked; found = T.found; base = T.base } ∷ []));
       events = h.events;
       reached = h.reached;
       alike = h.alike;
@@ -244,7 +245,8 @@ module _ {V : Type 0} where
 
     refused : (cause : Refusal) → n ≡ told.Refused cause → IsRefusedAt v a x.stage after.0 cause
     refused cause e =
-        (subst (λ (k : Notice V). RefusedBy a (IsRefusedAt v a x.stage after.0) k) (told_is ∙ ap (notice_of a) e) (refused_step v a linked)).1
+        (subst (λ (k : Notice V). RefusedBy a (IsRefusedAt v a x.stage after.0) k) (told_is
+            ∙ ap (notice_of a) e) (refused_step v a linked)).1
 
     -- it is told
     told_up : (cause : Refusal) → n ≡ told.Refused cause → phase (seat_in o u) ≡ Ends → (seat_in o u).cause ≡ Some cause
@@ -259,16 +261,19 @@ module _ {V : Type 0} where
         (λ i. ((ap phase x_is ∙ at) i, (told_is ∙ ap (notice_of a) e) i)) (steps_move v a)
 
     -- where its actor stands
-    own : let w = acts o u in StageOk w.words w.blocks (w.seats a) (actor_of w a) (w.boosted.shadows a) (w.seats a).stage (actor_of w a).place
+    own : let w = acts o u in StageOk w.words w.blocks (w.seats a) (actor_of w a) (w.boosted.shadows a) (w.seats a).stage
+        (actor_of w a).place
     own = own_ok t.whole.shared.key a (acts o u) ties.reached
 
-    truth : (p : Phase V) (m : Told V) → n ≡ m → IsUnderWayFrom (seat_in o s) p (seat_in o u) d → IsTrue o s u p told.Quiet → IsTrue o s z p m
+    truth : (p : Phase V) (m : Told V) → n ≡ m → IsUnderWayFrom (seat_in o s) p (seat_in o u) d → IsTrue o s u p told.Quiet
+        → IsTrue o s z p m
     truth Begins told.Quiet e under was = tt
     truth Begins (told.Answered (answer.Begun rv)) e under was =
         let w = acts o u in
         let at : (w.seats a).stage ≡ Beginning = begins_at (w.seats a).calls (w.seats a).stage under.0 in
         let place : (actor_of w a).place ≡ machine.Begin =
-        subst (λ (st : Stage V). StageOk w.words w.blocks (w.seats a) (actor_of w a) (w.boosted.shadows a) st (actor_of w a).place) at own in
+        subst (λ (st : Stage V). StageOk w.words w.blocks (w.seats a) (actor_of w a) (w.boosted.shadows a) st
+            (actor_of w a).place) at own in
         begun_clock w a T.found T.base T.clock rv at place T.clocks (sym T.tells ∙ ap (notice_of a) e)
         ∙ sym (ap (λ (k : View V). k.clock) T.takes.turn)
     truth Begins (told.Answered q) e under was = tt

@@ -84,7 +84,8 @@ module _ {V : Type 0} where
       let named : NamesAmong 0 r.stage = subst (λ (bs : List Block). NamesAmong (length bs) r.stage) none ties.running.names in
       let quiet = no_load r.stage named in (
         word_next _ _ _ _ _ r.stage _ named
-            (subst (λ (k : Stage V). IsAtRest k → ⊥) (own_stage t s r quiet ties) (under_busy from (seat_in (opening_of t) s) d (phase from) under))
+            (subst (λ (k : Stage V). IsAtRest k
+                → ⊥) (own_stage t s r quiet ties) (under_busy from (seat_in (opening_of t) s) d (phase from) under))
             (own_place t s r quiet ties),
         quiet,
       )

@@ -194,7 +194,8 @@ module _ {V : Type 0} where
         running = ties.running;
       }
 
-  pub stays_standing : (o : World V) (s u : table.Seat V) → seated.actor u ≡ seated.actor s → acts o u ≡ acts o s → standing o u ≡ standing o s
+  pub stays_standing : (o : World V) (s u : table.Seat V) → seated.actor u ≡ seated.actor s → acts o u ≡ acts o s
+      → standing o u ≡ standing o s
   stays_standing o s u same own i = phase ((own i).seats (same i))
 
   pub stays_between : (o : World V) (s u : table.Seat V) → standing o u ≡ standing o s → (standing o s ≡ Rests) ⊎ IsOpen o s

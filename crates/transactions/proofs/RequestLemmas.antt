@@ -169,7 +169,8 @@ module _ {V : Type 0} where
     turns = h.turns ∙ ap (λ (is : List (Turn V)). is ++ h.turn ∷ h.after) joined;
     events = h.events;
     reached = h.reached;
-    alike = subst (λ (k : ℕ × List (Turn V)). Alike k.0 v (asked_all k.0 (lone k.0 o k.1) h.turn.asks)) (λ i. (kept.seat.1 i, joined i)) h.alike;
+    alike = subst (λ (k : ℕ × List (Turn V)). Alike k.0 v (asked_all k.0 (lone k.0 o k.1) h.turn.asks))
+        (λ i. (kept.seat.1 i, joined i)) h.alike;
   }
     where
       joined : (view m).turns ++ h.before ≡ (view s).turns ++ (kept.more ++ h.before)

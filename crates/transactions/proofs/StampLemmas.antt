@@ -1,8 +1,8 @@
 -- Numbers, and the clock that a seat knows.
 --
--- The step that gives a commit its number is one on the clock, which the seat knows from then on; no other step changes the number until the
--- record is made. What an actor's place says of its numbers holds in every world that events have reached, and its own world is one to it.
--- A begin tells the clock that its own step loaded.
+-- The step that gives a commit its number is one on the clock, which the seat knows from then on; no other step changes the number until
+-- the record is made. What an actor's place says of its numbers holds in every world that events have reached, and its own world is one
+-- to it. A begin tells the clock that its own step loaded.
 use Rattle.std.proofs.Common.{◌≡◌, ◌⊎◌, ℕ, zero, suc, ◌+◌, ◌<◌, ◌≤◌, Bool, true, false, true≢false, cond, ◌&&◌, not, eqb, List, [], ◌∷◌, ◌++◌, Option, Some, None, inl, inr, refl, sym, ap, ◌∙◌, subst, arith}
 use Rattle.std.specs.Prelude.{is_some, nat_le, nat_lt}
 use Rattle.tx_sets.specs.Entries.{lookup}
@@ -214,11 +214,13 @@ module _ {V : Type 0} where
         → let r = (moved a w n b).0 in is_commit (phase (r.seats a)) ≡ true → IsStamped j (actor_of r a)
     stamped_step ok was =
         let p = found_at a w (spot a w) n b in
-        subst (λ (s : Seat V). is_commit (phase ((step_at p a s s.stage).0.seats a)) ≡ true → IsStamped j (actor_of (step_at p a s s.stage).0 a))
+        subst (λ (s : Seat V). is_commit (phase ((step_at p a s s.stage).0.seats a)) ≡ true
+            → IsStamped j (actor_of (step_at p a s s.stage).0 a))
         (sym (planted_seats w a n b (spot a w)))
         (by_stage x.stage refl ok was
         (subst (λ (s : Seat V). let r = step_at p a s s.stage in
-        StepMoves (phase s) (is_some (committed_by s s.stage)) r.1 (phase (r.0.seats a))) (planted_seats w a n b (spot a w)) (steps_move p a)))
+        StepMoves (phase s) (is_some (committed_by s s.stage)) r.1 (phase (r.0.seats a))) (planted_seats w a n b (spot a w))
+            (steps_move p a)))
 
   -- ---- its record
   abbrev IsNumberIn : ℕ → ℕ → Option (Record V) → Type 0
@@ -266,7 +268,8 @@ module _ {V : Type 0} where
     numbered k q ok was made = subst (IsNumberIn (u.seats a).rv k) made (number_at_stage k (u.seats a).stage ok was)
 
   -- ---- a begin
-  begun_is : (u : World V) (a : ℕ) (x : Seat V) (n rv : ℕ) → (has_begun u a x (notice.begin_notice n)).1 ≡ Answered a (answer.Begun rv) → rv ≡ n
+  begun_is : (u : World V) (a : ℕ) (x : Seat V) (n rv : ℕ) → (has_begun u a x (notice.begin_notice n)).1 ≡ Answered a (answer.Begun rv)
+      → rv ≡ n
   begun_is u a x n rv = by (nat_lt n clock_limit)
     where
       by : (b : Bool) → (has_begun u a x (cond b (notice.Begun n) (notice.Exhausted n))).1 ≡ Answered a (answer.Begun rv) → rv ≡ n
@@ -289,5 +292,6 @@ module _ {V : Type 0} where
       let said : (step_at p a x Beginning).1 ≡ Answered a (answer.Begun rv) =
       ap (λ (st : Stage V). (step_at p a x st).1) (sym at)
       ∙ (ap (λ (s : Spot). (happens (found_at a w s n b) (Step a)).1) (sym spot_is) ∙ told) in
-      begun_is (acted p (moves a ∷ [])) a x n rv (ap (λ (m : notice.Notice). (has_begun (acted p (moves a ∷ [])) a x m).1) (sym tells_it) ∙ said)
+      begun_is (acted p (moves a ∷ [])) a x n rv (ap (λ (m : notice.Notice). (has_begun (acted p (moves a ∷ [])) a x m).1) (sym tells_it)
+          ∙ said)
       ∙ sym (clock spot_is ∙ left)

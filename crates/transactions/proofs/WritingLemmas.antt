@@ -136,6 +136,7 @@ module _ {V : Type 0} where
     written_on st (Some r) (Some q) seat at moves made new was = absurd (let f = new r refl in let z : ⊥ = cc in z)
     written_on st None (Some q) seat at moves made new was = was
     written_on st None None seat at moves made new was = λ calls e.
-        let c = was_commit (phase_at x.calls st) (is_some (committed_by x st)) (step_at w a x st).1 (phase ((step_at w a x st).0.seats a)) moves
+        let c = was_commit (phase_at x.calls st) (is_some (committed_by x st)) (step_at w a x st).1
+            (phase ((step_at w a x st).0.seats a)) moves
         (ap is_commit e) in
         stays st seat at (closing_at st at c was) c made

@@ -75,8 +75,8 @@ module _ {V : Type 0} where
   IsExhausted o s u cause =
       (v : World V) × IsTurnFrom o s u v × (cause ≡ Exhausted v.boosted.words.clock) × (clock_limit ≤ v.boosted.words.clock)
 
-  -- What is told of a request that stood so is true: a begin tells the clock that its seat knows by then, and a cause was found by one of its
-  -- own turns. While nothing is told, a transaction that
+  -- What is told of a request that stood so is true: a begin tells the clock that its seat knows by then, and a cause was found by one of
+  -- its own turns. While nothing is told, a transaction that
   -- is being given up has noted such a cause. One that was given up before is told the cause that it had.
   abbrev pub IsTrue : World V → Seat V → Seat V → Phase V → Told V → Type 0
   IsTrue o s u Begins (told.Answered (answer.Begun rv)) = rv ≡ (view u).clock
@@ -101,7 +101,8 @@ module _ {V : Type 0} where
 
   -- the seat of a commit under way knows its number, where it has one
   abbrev pub KnowsNumber : World V → Seat V → Type 0
-  KnowsNumber o u = (calls : List (Call V × Reply V)) → standing o u ≡ Commits calls → IsStamped (view u).clock (actor_of (acts o u) (actor u))
+  KnowsNumber o u = (calls : List (Call V × Reply V)) → standing o u ≡ Commits calls
+      → IsStamped (view u).clock (actor_of (acts o u) (actor u))
 
   -- The seat s took turns and is u, each but the last of which told nothing; the last tells n. It has these turns more, the receipt that
   -- they made, if any, and the bases that it had out; the definitions say what the request comes to, and what is told is true.

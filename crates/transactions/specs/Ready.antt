@@ -31,7 +31,8 @@ module _ {V : Type 0} where
     pub outs : out s.seat ≡ []
     pub between : (standing (opening_of t) s.seat ≡ Rests) ⊎ IsOpen (opening_of t) s.seat
 
-  -- An open transaction has begun at a number that is no lower than the last number of its seat, and no higher than the clock that it knows.
+  -- An open transaction has begun at a number that is no lower than the last number of its seat, and no higher than the clock that it
+  -- knows.
   abbrev pub HasBegunSince : TxTable V → TxSeat V → Type 0
   HasBegunSince t s =
       IsOpen (opening_of t) s.seat

@@ -37,7 +37,8 @@ module _ {V : Type 0} where
       → p ≡ Some o → i < length before → c ≡ get_or before i c → IsAccepted o c.copied e → holds_call c.copied o.op ≡ true
       → IsAcceptedAt i p before (set before i (record { collection = c.collection; copied = e }))
   accepted_at i p o before c e is lt at acc held =
-      subst (λ (q : Option (Outcome V)). IsAcceptedAt i q before (set before i (record { collection = c.collection; copied = e }))) (sym is) (
+      subst (λ (q : Option (Outcome V)). IsAcceptedAt i q before (set before i (record { collection = c.collection; copied = e })))
+          (sym is) (
         c,
         record { collection = c.collection; copied = e },
         slice_get_read before (length before) i c refl lt at,

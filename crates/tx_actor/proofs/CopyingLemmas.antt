@@ -1,8 +1,8 @@
--- A call whose gate is held. What is taken for it is the one copy of its collection, of the collection's block, so that the call can be made
--- ready; where that is refused memory what was taken goes back, and the pieces that the actor shows are those that there were, so that it
--- starves as its seat does. Where the call is ready its seat has the piece that the call touches besides, and the world judges the call by the
--- same locations with the same editions; and what the actor has is its own, or one of these locations was read with another edition, so that
--- the world does not accept it.
+-- A call whose gate is held. What is taken for it is the one copy of its collection, of the collection's block, so that the call can be
+-- made ready; where that is refused memory what was taken goes back, and the pieces that the actor shows are those that there were, so
+-- that it starves as its seat does. Where the call is ready its seat has the piece that the call touches besides, and the world judges
+-- the call by the same locations with the same editions; and what the actor has is its own, or one of these locations was read with
+-- another edition, so that the world does not accept it.
 use Rattle.std.proofs.Common.{◌≡◌, inl, inr, eq-eqb, eqb-true, ℕ, ◌+◌, ◌<◌, ◌≤◌, ◌^◌, ◌==◌, ◌&&◌, Bool, true, false, cond, length, List, [], ◌∷◌, Option, Some, refl, sym, ap, subst, ◌∙◌, arith}
 use Rattle.std.specs.Prelude.{slice_get}
 use Rattle.std.proofs.lemmas.Bool.{cond-true, cond-false}
@@ -92,7 +92,8 @@ module _ {V : Type 0} where
       let same : of.block ≡ can.block = same_block of.block can.block (sym of.there ∙ can.there) in
       (of.kind ∙ ap (λ (b : Block). b.kind) same, of.stripes ∙ ap (λ (b : Block). b.stripes) same)
 
-  pub may_take : (v : BlocksView) (r : TxActor V) (base : Base V) (asked : Asked V) (n f : ℕ) (found : Found V) → (can : CanCopy v r base asked)
+  pub may_take : (v : BlocksView) (r : TxActor V) (base : Base V) (asked : Asked V) (n f : ℕ) (found : Found V)
+      → (can : CanCopy v r base asked)
       → n ≡ can.block.stripes → f + size can.block < 2 ^ 32 → IsFound base asked.op found → MayTake r n f found asked
   may_take v r base asked n f found can stripes within is = record {
     rests = can.rests;
@@ -199,7 +200,8 @@ module _ {V : Type 0} where
       ≡ fits_base r.words base (first_of v.words v.blocks asked.collection) o =
       λ j. has_room (s.1 j) (shifted (first_of (laid.0 j) (laid.1 j) asked.collection) (base_reads base o))
       (shifted (first_of (laid.0 j) (laid.1 j) asked.collection) (base_writes base o)) in
-      let room = (λ j. has_room y (c.reads (sym (sized_back w a call) j)) (c.writes (sym (sized_back w a call) j))) ∙ (may.sizes o answer ∙ (same_room ∙ unfit)) in
+      let room = (λ j. has_room y (c.reads (sym (sized_back w a call) j)) (c.writes (sym (sized_back w a call) j)))
+          ∙ (may.sizes o answer ∙ (same_room ∙ unfit)) in
       let n : TxActor V = record r { stage = stage.Open } in
       let e : step_at w a x (worlds.Copying call) ≡ z = does.1 ∙ cond-false _ _ z room in
       let runs : Runs a n z.0 = (put-same t.seats a _, does.0.1 ∙ s.1, tt) in
@@ -270,7 +272,8 @@ module _ {V : Type 0} where
     room_sized : let c = content w.words w.blocks in has_room (actor_of w a) (c.reads sized_outcome) (c.writes sized_outcome) ≡ true
     room_sized =
         copied.room o ready.ready.answer
-        ∙ ((λ j. has_room (s.1 j) (shifted (sym first_same j) (reads_in d o)) (shifted (sym first_same j) (writes_in d o))) ∙ ready.ready.fits)
+        ∙ ((λ j. has_room (s.1 j) (shifted (sym first_same j) (reads_in d o)) (shifted (sym first_same j) (writes_in d o)))
+            ∙ ready.ready.fits)
 
     own_room : (j : Judged) → judged (actor_of w a).reads es ≡ j → GoesOn j
         → let c = content w.words w.blocks in has_room (actor_of w a) (c.reads own) (c.writes own) ≡ true
@@ -304,7 +307,8 @@ module _ {V : Type 0} where
               (subst (IsDoomed (actor_of t a).calls) (sym (copied.editions o ready.ready.answer)) (doomed o ready.ready.answer)) g.1)
         ]
 
-    pub accepts_all : judged u.words.reads.entries p.left.items ≡ All → AreRead (actor_of t a).calls p.left.items × (own ≡ answered_of p.call)
+    pub accepts_all : judged u.words.reads.entries p.left.items ≡ All → AreRead (actor_of t a).calls p.left.items
+        × (own ≡ answered_of p.call)
     accepts_all all =
         let here : judged (actor_of w a).reads es ≡ All = sym judged_same ∙ all in
         let then : judged (actor_of t a).reads es ≡ All = ap (λ (q : machine.Actor). judged q.reads es) back_words ∙ here in (
@@ -366,7 +370,8 @@ module _ {V : Type 0} where
         let room = (λ j. has_room y (c.reads (sym (sized_back w a call) j)) (c.writes (sym (sized_back w a call) j))) ∙ room_sized in
         does.1
         ∙ (cond-true _ (comes_to t a seat own (left_after y.reads es) (judged y.reads es)) _ room
-        ∙ ((λ j. comes_to t a (sym seat_same j) own (left_after (sym reads_same j) (sym left_same j)) (judged (sym reads_same j) (sym left_same j)))
+        ∙ ((λ j. comes_to t a (sym seat_same j) own (left_after (sym reads_same j) (sym left_same j))
+            (judged (sym reads_same j) (sym left_same j)))
         ∙ comes_at t a (seat_of u) (worlds.Copying call) own (left_after u.words.reads.entries p.left.items)
         (judged u.words.reads.entries p.left.items)))
 
@@ -377,7 +382,8 @@ module _ {V : Type 0} where
 
   pub goes_on_as : (v : BlocksView) (r u n : TxActor V) (h : Told V) (base : Base V) (asked : Asked V) (i : ℕ) (x : Readied V)
       → CanCopy v r base asked → AreReadyAt v r u base asked (Some (i, x))
-      → load.GoesOn u n h (prepared_of x asked i).call (prepared_of x asked i).left.items → StepsOn v (at r (stage.Copying asked)) n h base asked
+      → load.GoesOn u n h (prepared_of x asked i).call (prepared_of x asked i).left.items
+          → StepsOn v (at r (stage.Copying asked)) n h base asked
   goes_on_as v r u n h base asked i x can ready does a w laid s may =
       goes_on_in v w a r u base asked ready.0 ready.1 i x laid can s may ready.2 ready.3 ready.4 n h does
 
@@ -401,7 +407,8 @@ module _ {V : Type 0} where
       (can.blocks j c)
 
   held_there : (n i : ℕ) (r : TxActor V) (asked : Asked V) (found : Found V) (cs : List (CopyOf V))
-      (t : IsTakenAt n asked.collection found i r.copies.items cs) → holds_call t.copy asked.op ≡ true → IsHeldAt cs i asked.collection asked.op
+      (t : IsTakenAt n asked.collection found i r.copies.items cs) → holds_call t.copy asked.op ≡ true
+          → IsHeldAt cs i asked.collection asked.op
   held_there n i r asked found cs t holds =
       let k = asked.collection in
       let there = taken_there n k i found r.copies.items cs t in
@@ -435,7 +442,8 @@ module _ {V : Type 0} where
       (subst (λ (z : Block). IsTaken z.stripes found (copy_of r.copies.items k) at_x.at.copy) same at_x.at.taken) in
       let h = held_there b.stripes i r asked found cs.items at_x.at holds in
       keeps_through v (at r (stage.Copying asked)) u n (alike_keeps (end_of v.words v.blocks) q u can.rests at_x.alike)
-      (keeps (can_go_on v q u i f k asked.op h (prepared_of x asked i) (taken_blocks v r base asked can i found cs.items is t) noreads refl can.among
+      (keeps (can_go_on v q u i f k asked.op h (prepared_of x asked i)
+          (taken_blocks v r base asked can i found cs.items is t) noreads refl can.among
       at_x.alike at_x.ready))
 
   pub keeps_open : (v : BlocksView) (r u : TxActor V) (asked : Asked V) → r.words.place ≡ place.Open → u ≡ r

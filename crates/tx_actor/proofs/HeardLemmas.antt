@@ -22,7 +22,8 @@ use Rattle.tx_actor.proofs.KeepingLemmas.{keeps_same}
 
 module _ {V : Type 0} where
   -- what it asks of its call hangs on no stage
-  can_at : (v : BlocksView) (r : TxActor V) (s : Stage V) (o : running.Answered V) (es : Entries) → CanGoOn v (at r s) o es → CanGoOn v r o es
+  can_at : (v : BlocksView) (r : TxActor V) (s : Stage V) (o : running.Answered V) (es : Entries) → CanGoOn v (at r s) o es
+      → CanGoOn v r o es
   can_at v r s o es h = record {
     named = h.named;
     call = record {

@@ -15,8 +15,8 @@ mod SeatedLemmas
 mod HavingLemmas
 mod RoomLemmas
 mod HeardLemmas
-mod StageLemmas
+pub mod StageLemmas
 mod ReadingLemmas
 mod GoneLemmas
-mod OwnLoadLemmas
+pub mod OwnLoadLemmas
 mod OwnCopyLemmas

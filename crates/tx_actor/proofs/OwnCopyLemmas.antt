@@ -1,6 +1,6 @@
 -- What a call that is copied leaves its actor of collections. Once its gate is put back, what there was of the other collections is as it
--- was, and what was taken is the actor's own, or one of its locations was read with another edition (`taken_loading`): so the call stands as
--- one whose locations are read, and comes to what it comes to behind a load. One that is TooLong leaves all (`too_long_own`).
+-- was, and what was taken is the actor's own, or one of its locations was read with another edition (`taken_loading`): so the call stands
+-- as one whose locations are read, and comes to what it comes to behind a load. One that is TooLong leaves all (`too_long_own`).
 use Rattle.std.proofs.Common.{◌≡◌, ◌≢◌, ◌==◌, ℕ, ◌++◌, Bool, true, false, true≢false, cond, eqb-true, eq-eqb, List, [], ◌∷◌, Option, Some, None, inl, inr, refl, sym, ap, subst, ◌∙◌}
 use Rattle.std.proofs.lemmas.Bool.{cond-true, cond-false}
 use Rattle.tx_sets.specs.Entries.{Entries}
@@ -75,7 +75,8 @@ module _ {V : Type 0} where
   apart_from true j k c o is e = let h : ⊥ = cc in absurd h
   apart_from false j k c o is e = (λ same. true≢false (sym (eq-eqb j k (sym same)) ∙ is), e)
 
-  none_if : (b : Bool) (c : Copied V) (o p : Option (Copied V)) → (o ≡ None → p ≡ None) → cond b (Some c) o ≡ None → cond b (Some c) p ≡ None
+  none_if : (b : Bool) (c : Copied V) (o p : Option (Copied V)) → (o ≡ None → p ≡ None) → cond b (Some c) o ≡ None
+      → cond b (Some c) p ≡ None
   none_if true c o p rest e = let h : ⊥ = cc in absurd h
   none_if false c o p rest e = rest e
 
@@ -99,8 +100,10 @@ module _ {V : Type 0} where
       subst AreOnce (sym put.1) (once_set before i there.0 (copy_with k c) once there.1 (sym (put.0.2 there.0 there.1)))
 
   -- ---- what was taken
-  module _ (stays : StaysLaw V) (joins : JoinsLaw V) (back : BackLaw V) (v : BlocksView) (w : World V) (a : ℕ) (r u n : TxActor V) (t : Told V)
-      (base : Base V) (asked : Asked V) (b : Block) (found : Found V) (i : ℕ) (x : Readied V) (laid : IsLaid v w) (can : CanCopy v r base asked)
+  module _ (stays : StaysLaw V) (joins : JoinsLaw V) (back : BackLaw V) (v : BlocksView) (w : World V) (a : ℕ) (r u n : TxActor V)
+      (t : Told V)
+      (base : Base V) (asked : Asked V) (b : Block) (found : Found V) (i : ℕ) (x : Readied V) (laid : IsLaid v w)
+          (can : CanCopy v r base asked)
       (s : Runs a (at r (stage.Copying asked)) w) (may : MayCopy v w a (at r (stage.Copying asked)) base asked)
       (there : block_of v.blocks asked.collection ≡ Some b) (is : IsFound base asked.op found)
       (ready : IsReadyAt r u b.stripes (first_of v.words v.blocks asked.collection) found asked i x)
@@ -262,9 +265,12 @@ module _ {V : Type 0} where
           let k = asked.collection in
           let here = keep blocks clock values held events a can.block (asked_of asked) base (copy_of r.copies.items k) stripes there
           (ap (λ (bs : List Block). block_of bs k) laid.1 ∙ can.there) can.is shows (all.own.own k) (all.read k) can.unheld in
-          let each : (j : ℕ) (b : Bool) → (k == j) ≡ b → IsOwn z a j (copy_of r.copies.items j) × IsReadOf z a j (copy_of r.copies.items j) =
-          λ j b. elim b as (λ (q : Bool). (k == j) ≡ q → IsOwn z a j (copy_of r.copies.items j) × IsReadOf z a j (copy_of r.copies.items j)) [
-            | true ↦ λ e. subst (λ m. IsOwn z a m (copy_of r.copies.items m) × IsReadOf z a m (copy_of r.copies.items m)) (eqb-true k j e) here
+          let each : (j : ℕ) (b : Bool) → (k == j) ≡ b → IsOwn z a j (copy_of r.copies.items j)
+              × IsReadOf z a j (copy_of r.copies.items j) =
+          λ j b. elim b as (λ (q : Bool). (k == j) ≡ q → IsOwn z a j (copy_of r.copies.items j)
+              × IsReadOf z a j (copy_of r.copies.items j)) [
+            | true ↦ λ e. subst (λ m. IsOwn z a m (copy_of r.copies.items m) × IsReadOf z a m (copy_of r.copies.items m))
+                (eqb-true k j e) here
             | false ↦ λ e. (
                 let law = back w a j (asked_of asked) (copy_of r.copies.items j) in
                 (law.0 (λ same. true≢false (sym (eq-eqb k j (sym same)) ∙ e)) (all.own.own j), law.1 (all.read j)))

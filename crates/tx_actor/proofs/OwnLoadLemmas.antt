@@ -1,7 +1,7 @@
 -- What a load leaves a call's actor of collections. The step of the words leaves the shadow, has read one location more, and nothing of
--- another collection (`loaded_first`). Then the call is judged (`goes_own`): where it is accepted, each of its locations has been read with the
--- copied edition, so its copy is the actor's own, and follows with the outcome; where one is read next, those that are passed have been
--- read, and one with another edition is left.
+-- another collection (`loaded_first`). Then the call is judged (`goes_own`): where it is accepted, each of its locations has been read
+-- with the copied edition, so its copy is the actor's own, and follows with the outcome; where one is read next, those that are passed
+-- have been read, and one with another edition is left.
 use Rattle.std.proofs.Common.{◌≡◌, ◌≢◌, ◌==◌, ℕ, Bool, true, false, true≢false, eqb-true, eq-eqb, List, [], ◌∷◌, Option, Some, inl, inr, refl, sym, ap, subst, ◌∙◌}
 use Rattle.std.specs.Prelude.{slice_get}
 use Rattle.std.specs.declared.alloc.Global.{Global}
@@ -117,7 +117,8 @@ module _ {V : Type 0} where
         same_op = answered_op h.call.copy o.asked.op q h.call.call_on.answer
 
         outcome : p ≡ answered_on j q.op q
-        outcome = (accepts is).1 ∙ (λ i. record { asked = record { collection = j; op = sym same_op i }; outcome = h.call.call_on.outcome i })
+        outcome = (accepts is).1 ∙ (λ i. record { asked = record { collection = j; op = sym same_op i }; outcome =
+            h.call.call_on.outcome i })
 
         of : (c : CopyOf V) → slice_get r.copies.items o.place ≡ Some c → (c.collection ≡ j) × (answer_of c.copied q.op ≡ Some q)
         of c at =
@@ -227,7 +228,8 @@ module _ {V : Type 0} where
           where
             l : LoadsIn w a (with_outcome call x) d es
             l =
-                loads_reached blocks clock values held events a (with_outcome call x) d es stripes (st ∙ ap (Loading (with_outcome call x)) e) n
+                loads_reached blocks clock values held events a (with_outcome call x) d es stripes (st
+                    ∙ ap (Loading (with_outcome call x)) e) n
 
       stands : (call : running.Answered V) (left : VecDeque (ℕ × ℕ) Global) → r.stage ≡ stage.Loading call left
           → OwnsLoading r w a call left.items → IsAsBefore r u t → HasCopies u f.0 a

@@ -133,7 +133,8 @@ module _ {V : Type 0} where
       length u.words.writes.entries + length (new_in u.words.writes.entries (locations ds)) ≤ 4096) [
         | true ↦ λ d. subst (λ (es : Entries). length u.words.writes.entries + length (new_in u.words.writes.entries (locations es)) ≤ 4096)
             (sym (none d))
-            (let len : length (new_in u.words.writes.entries (locations [])) ≡ 0 = ap (λ (ls : List ℕ). length ls) (nothing_new u.words.writes.entries) in
+            (let len : length (new_in u.words.writes.entries (locations [])) ≡ 0 =
+                ap (λ (ls : List ℕ). length ls) (nothing_new u.words.writes.entries) in
             omega (arith, room.few, len))
         | false ↦ λ d. (
             let both : worlds.fits r.words.writes.entries (shifted f (writes_in c o)) ≡ true =
@@ -228,7 +229,8 @@ module _ {V : Type 0} where
       (subst (λ (o : Option (Copied V)). KeptOf o (copy_of u.copies.items k)) at (kept_copy r.copies.items u.copies.items k h.copies))
 
   -- the room for the reads of a call that is made ready
-  pub reads_there : (r u : TxActor V) (i f : ℕ) (op : Op V) (c : CopyOf V) (p : Prepared V) → slice_get r.copies.items i ≡ Some c → IsAlike r u
+  pub reads_there : (r u : TxActor V) (i f : ℕ) (op : Op V) (c : CopyOf V) (p : Prepared V) → slice_get r.copies.items i ≡ Some c
+      → IsAlike r u
       → IsReadyCall r u i f op c p
       → (vec_len u.words.calls + (length p.left.items + length p.call.writes.items) ≤ vec_capacity u.words.calls)
       × (u.words.declared ≡ false → length p.left.items ≤ u.words.reads.room)

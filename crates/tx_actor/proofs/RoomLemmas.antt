@@ -187,7 +187,8 @@ new_more reads es d =
     subst (λ (ls : List ℕ). length (new_in reads (locations es)) ≤ length (new_in reads ls)) (sym (locations-cons d es))
     (by (is_none (lookup reads d.0)))
   where
-    by : (b : Bool) → length (new_in reads (locations es)) ≤ length (cond b (d.0 ∷ new_in reads (locations es)) (new_in reads (locations es)))
+    by : (b : Bool) → length (new_in reads (locations es)) ≤ length
+        (cond b (d.0 ∷ new_in reads (locations es)) (new_in reads (locations es)))
     by true = omega arith
     by false = omega arith
 
@@ -411,7 +412,8 @@ module _ {V : Type 0} where
         named = subst (λ (j : ℕ). j < length v.blocks) (sym named) inside;
         call = record {
           reads = subst (All (λ (e : ℕ × ℕ). e.0 < end)) (sym ready.left) (known_below c f end (reads_in c o) le (reads_below c o some));
-          writes = subst (All (λ (e : ℕ × ℕ). e.0 < end)) (sym ready.writes) (next_below c f end (writes_in c o) le (writes_below c o some));
+          writes = subst (All (λ (e : ℕ × ℕ). e.0 < end)) (sym ready.writes)
+              (next_below c f end (writes_in c o) le (writes_below c o some));
           copy = d;
           at = ap (copy_of u.copies.items) named ∙ kept.1;
           answer = o;
@@ -429,7 +431,8 @@ module _ {V : Type 0} where
           reads = there.1;
           few = λ plain. (
               let both : worlds.fits r.words.reads.entries (shifted f (reads_in c o)) ≡ true =
-              first_fits r.words.declared (worlds.fits r.words.reads.entries (shifted f (reads_in c o))) _ ready.fits (sym declared ∙ plain) in
+              first_fits r.words.declared (worlds.fits r.words.reads.entries (shifted f (reads_in c o))) _ ready.fits (sym declared
+                  ∙ plain) in
               let within = up_to _ 4096 both in
               subst (λ (es : Entries). length es + length (new_in es (locations p.left.items)) ≤ 4096) (sym entries)
               (subst (λ (ls : List ℕ). length r.words.reads.entries + length (new_in r.words.reads.entries ls) ≤ 4096)

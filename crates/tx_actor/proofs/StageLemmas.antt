@@ -1,7 +1,7 @@
 -- What an actor has of collections stays its own from stage to stage. A stage that asks for all finds all at the one before, with the same
--- copies; one that asks for the bases that are to go home finds these. What stays of a collection is told by the law on events (`StaysLaw`).
--- A transaction that has begun has nothing, and of each collection nothing was read; and where all is an actor's own, so is the call that
--- it reads for.
+-- copies; one that asks for the bases that are to go home finds these. What stays of a collection is told by the law on events
+-- (`StaysLaw`). A transaction that has begun has nothing, and of each collection nothing was read; and where all is an actor's own, so is
+-- the call that it reads for.
 use Rattle.std.proofs.Common.{◌≡◌, ◌≢◌, ◌+◌, ℕ, List, [], Option, Some, None, inl, refl, sym, ap, subst, ◌∙◌}
 use Rattle.tx_sets.specs.Entries.{Entries}
 use Rattle.word_machine.specs.Actor as machine
@@ -96,7 +96,8 @@ module _ {V : Type 0} where
   has_stepped law r u w v a begun k st h = step_at law u.stage r.stage r u w v a begun k st h
 
   -- ---- a stage that asks for nothing
-  idle_at : (t : Stage V) (u : TxActor V) (v : World V) (a : ℕ) (now : List (CopyOf V)) → KeepsFrom t stage.Idle [] now → HasCopiesAt u v a t
+  idle_at : (t : Stage V) (u : TxActor V) (v : World V) (a : ℕ) (now : List (CopyOf V)) → KeepsFrom t stage.Idle [] now
+      → HasCopiesAt u v a t
   idle_at stage.Open u v a now k = absurd k.0
   idle_at (stage.Reading l) u v a now k = absurd k.0
   idle_at (stage.Trying asked tries) u v a now k = absurd k.0

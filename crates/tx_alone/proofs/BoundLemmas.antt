@@ -201,7 +201,8 @@ step_bound s y p e d = by p e
 
     by : (p : Place) → y.place ≡ p → IsStep c p (clock_after s (plan y p)) (learns s y (plan y p))
     by machine.Idle e = stays machine.Idle e
-    by machine.Begin e = choose machine.Begin (nat_lt c machine.clock_limit) (machine.opened y.declared c) (goes y machine.Idle) refl refl refl refl
+    by machine.Begin e = choose machine.Begin (nat_lt c machine.clock_limit) (machine.opened y.declared c)
+        (goes y machine.Idle) refl refl refl refl
     by machine.Open e = stays machine.Open e
     by (machine.Look l) e = seen (machine.Look l) l (s.locks l)
     by (machine.Fetch l k) e = free (machine.Fetch l k) (goes y (machine.Again l k (s.values l))) refl refl
@@ -505,7 +506,8 @@ module _ {V : Type 0} (a : ℕ) where
   begins_bound n w x st h = h
 
   calls_bound : (n : ℕ) (w : World V) (x : Seat V) (st : Stage V) (q : Request V) → BoundAt n a w
-      → ((h : BoundAt n a w) → BoundAt n a (ask_at w a x Open q).0) → BoundAt n a (ask_at w a x Idle q).0 → BoundAt n a (ask_at w a x st q).0
+      → ((h : BoundAt n a w) → BoundAt n a (ask_at w a x Open q).0) → BoundAt n a (ask_at w a x Idle q).0
+          → BoundAt n a (ask_at w a x st q).0
   calls_bound n w x Idle q h at_open at_idle = at_idle
   calls_bound n w x Open q h at_open at_idle = at_open h
   calls_bound n w x st q h at_open at_idle = h

@@ -290,7 +290,8 @@ ask_grows y (machine.Store []) l v = (refl, omega arith)
 ask_grows y (machine.Store (k ∷ ls)) l v = (refl, omega arith)
 ask_grows y p l v = (refl, omega arith)
 
-asked_grows : (s : Words) (a l v : ℕ) → Grows 1 (s.actors a) ((world.now s a (word.ask (s.actors a) (s.actors a).place (word.AskWrite l v))).actors a)
+asked_grows : (s : Words) (a l v : ℕ)
+    → Grows 1 (s.actors a) ((world.now s a (word.ask (s.actors a) (s.actors a).place (word.AskWrite l v))).actors a)
 asked_grows s a l v =
     let y = s.actors a in
     subst (Grows 1 y) (sym (put-same s.actors a (word.ask y y.place (word.AskWrite l v)))) (ask_grows y y.place l v)
@@ -485,7 +486,8 @@ module _ {V : Type 0} (a : ℕ) where
   calls_on_sized u x asked h small =
       let c = content u.words u.blocks in
       let z = u.boosted.shadows a in
-      choose (x.copied asked.collection (piece_at u.blocks asked)) (answers u a x x (outcome_at u a asked) (outcome_at u a asked) z.editions) _
+      choose (x.copied asked.collection (piece_at u.blocks asked))
+          (answers u a x x (outcome_at u a asked) (outcome_at u a asked) z.editions) _
       (λ _. answers_sized u x x (outcome_at u a asked) (changes c z.outcomes z.parts) asked z.editions h refl small)
       (λ _. sits u (at_stage x (Trying asked more_tries)) (h, small))
 

@@ -126,7 +126,8 @@ module _ {V : Type 0} where
         → Turns M a next → Turns M a (if_allowed w a x known room next)
     allowed w a x known room next seat at e h =
         choose M a known _ _
-        (choose M a (nat_lt (length x.calls) CALL_LIMIT && room) next _ h (stays M w a x Open (Refused a refusal.TooLong) seat at (ap Stands e, tt)))
+        (choose M a (nat_lt (length x.calls) CALL_LIMIT && room) next _ h
+            (stays M w a x Open (Refused a refusal.TooLong) seat at (ap Stands e, tt)))
         (stays M w a x Open (Refused a refusal.NoSuch) seat at (ap Stands e, tt))
 
     word_read : (w : World V) (a : ℕ) (x : Seat V) (l : ℕ) (n : told.Notice) → x.calls ≡ calls → record { target = l; op = Read } ≡ call
@@ -280,7 +281,8 @@ module _ {V : Type 0} where
   Q x st q = AskMoves (phase_at x.calls st) q
 
   committing : (w : World V) (a : ℕ) (x : Seat V) (es : Entries) → Turns (AskMoves (Stands x.calls) request.Commit) a (commits w a x es)
-  committing w a x [] = sits (AskMoves (Stands x.calls) request.Commit) (acted w (asks a word.AskClose ∷ [])) a (at_stage x Closing) Quiet refl
+  committing w a x [] = sits (AskMoves (Stands x.calls) request.Commit) (acted w (asks a word.AskClose ∷ [])) a
+      (at_stage x Closing) Quiet refl
   committing w a x (e ∷ es) =
       sits (AskMoves (Stands x.calls) request.Commit) (acted w (asks a word.AskLock ∷ [])) a (at_stage x Locking) Quiet refl
 

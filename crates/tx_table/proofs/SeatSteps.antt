@@ -65,7 +65,8 @@ module _ {V : Type 0} where
         turn = is;
         held = held;
         none = none;
-        happened = subst (λ (es : List (Event V)). HasHappened o s.place.id (asked_all s.place.id (lone s.place.id o (view s).turns) es) found base)
+        happened = subst (λ (es : List (Event V)). HasHappened o s.place.id
+            (asked_all s.place.id (lone s.place.id o (view s).turns) es) found base)
             are told.1;
         own = acts_after o s.place.id t.place.id (view s) (view t) (list_of t.asked) i rs clock same.1 none is;
         reached = subst (λ (z : ℕ × List (Event V)). IsReached o z.0 (asked_all z.0 (lone z.0 o (view t).turns) z.1))
@@ -150,10 +151,12 @@ module _ {V : Type 0} where
     -- a store finds some number, and isn't told which
     pub stores : (c : Cell) (i new : ℕ) → Stores id mine c new → IsInside (end_of o.words o.blocks) c
         → i ≡ address (end_of o.words o.blocks) c
-        → Allows (Holds key) slots id m i (λ _. new) (λ _ t. (found : ℕ) × Told o id asks m.0.clock m found None t.0 × (t.1 ≡ m.1) × Went o id t)
+        → Allows (Holds key) slots id m i (λ _. new) (λ _ t. (found : ℕ) × Told o id asks m.0.clock m found None t.0 × (t.1 ≡ m.1)
+            × Went o id t)
     stores c i new due inner place =
         weaker (Holds key) slots id m i (λ _. new) Turned
-        (λ _ t. (found : ℕ) × Told o id asks m.0.clock m found None t.0 × (t.1 ≡ m.1) × Went o id t) (λ k t told. (k, told.0, told.1, told.2))
+        (λ _ t. (found : ℕ) × Told o id asks m.0.clock m found None t.0 × (t.1 ≡ m.1)
+            × Went o id t) (λ k t told. (k, told.0, told.1, told.2))
         (goes c i (λ _. new) due.0 due.1 inner place)
 
     -- what a step on the clock tells of the seat
@@ -272,7 +275,8 @@ module _ {V : Type 0} where
       (b : Base V) → asks ≡ list_of s.asked → k ≡ gate → 0 < (view s).shares → k < length (blocks_at key)
       → i ≡ gate_address (locations_at key) k → id ≡ s.place.id → n ≡ (view s, (gate, Some b) ∷ rest (out s))
       → IsHome (world_at key) s.place.id (acts (world_at key) s) k b
-      → Allows (Holds key) slots id n i (λ _. 0) (λ _ t. Told (world_at key) id asks n.0.clock n 1 None t.0 × (t.1 ≡ rest n.1) × Went (world_at key) id t)
+      → Allows (Holds key) slots id n i (λ _. 0) (λ _ t. Told (world_at key) id asks n.0.clock n 1 None t.0 × (t.1 ≡ rest n.1)
+          × Went (world_at key) id t)
   puts_back key slots s id n asks k gate i b are same live low place id_is is due =
       let o : World V = world_at key in
       let views : n.0 ≡ view s = ap (λ (z : Me (Slot V) (View V)). z.0) is in

@@ -124,8 +124,8 @@ module _ {V : Type 0} where
     pub suits : Suit o.blocks contents.held
     pub world : opened o.blocks clock contents.words contents.held ≡ o
 
-  -- Some events lead from the opening o, whose collections have stripes, to a world that is to actor a as u is, also in the bases that a has
-  -- out, and whose clock is within its limit; u is of the same shape.
+  -- Some events lead from the opening o, whose collections have stripes, to a world that is to actor a as u is, also in the bases that a
+  -- has out, and whose clock is within its limit; u is of the same shape.
   pub record IsReached (o : World V) (a : ℕ) (u : World V) : Type 0 where
     pub opens : Opens o
     pub stripes : HaveStripes o.blocks
@@ -179,8 +179,8 @@ module _ {V : Type 0} where
     pub idle : (a : ℕ) → is_half_done (stage_of o a) ≡ false
 
   -- What a closed table leaves: the receipts, in commit order, are a run of the sequential model from the opening, no number of theirs is
-  -- above the clock, and words and bases are what it leaves: each by itself, and all of them as the state that they make up, which is within
-  -- the limits of states.
+  -- above the clock, and words and bases are what it leaves: each by itself, and all of them as the state that they make up, which is
+  -- within the limits of states.
   pub record Closes (n : ℕ) (bs : List Block) (opening : Contents V) (v : View V) (words : List ℕ)
       (homes : List (Option (Slot V))) : Type 0 where
     pub order : List (ℕ × Record V)

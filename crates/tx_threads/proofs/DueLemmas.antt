@@ -48,7 +48,8 @@ learns_at x y p n r e own says = record {
 }
 
 -- the locations behind an index
-pub next_is : (es : Entries) (i : ℕ) (e : ℕ × ℕ) → i < length es → e ≡ get_or es i e → drop i (locations es) ≡ e.0 ∷ drop (i + 1) (locations es)
+pub next_is : (es : Entries) (i : ℕ) (e : ℕ × ℕ) → i < length es → e ≡ get_or es i e
+    → drop i (locations es) ≡ e.0 ∷ drop (i + 1) (locations es)
 next_is es i e low q =
     drop_here es i (0, 0) low ∙ ap (λ (z : ℕ × ℕ). z.0 ∷ drop (i + 1) (locations es)) (get_or_same es i (0, 0) e low ∙ sym q)
 
@@ -56,7 +57,8 @@ pub took_notice : (l k : ℕ) → take_notice l k (unbits (2 * k)) ≡ Quiet
 took_notice l k = ap (take_notice l k) (unbits_free k) ∙ cond-true (eqb k k) Quiet (Busy l (2 * k)) (eq-eqb k k refl)
 
 lost : (l k w : ℕ) (v : LockWord) → bits v ≡ w → (w ≡ 2 * k → ⊥) → take_notice l k v ≡ Busy l w
-lost l k w (Free j) e ne = cond-false (eqb j k) Quiet (Busy l (2 * j)) (ne_eqb j k (λ q. ne (sym e ∙ ap (λ (n : ℕ). 2 * n) q))) ∙ ap (Busy l) e
+lost l k w (Free j) e ne = cond-false (eqb j k) Quiet (Busy l (2 * j)) (ne_eqb j k (λ q. ne (sym e ∙ ap (λ (n : ℕ). 2 * n) q)))
+    ∙ ap (Busy l) e
 lost l k w (Locked j) e ne = ap (Busy l) e
 
 pub lost_notice : (l k w : ℕ) → (w ≡ 2 * k → ⊥) → take_notice l k (unbits w) ≡ Busy l w
@@ -150,7 +152,8 @@ pub learns_taken : (x y : Actor) (l k i : ℕ) → x.place ≡ Take l k i
 learns_taken x y l k i at own =
     let ls = drop i (locations x.writes.entries) in
     learns_at x y (Take l k i) (2 * k) (Ok None) at
-    (own ∙ sym (cond-true (eqb (2 * k) (2 * k)) (taken (actor_of x) l k ls) (goes (actor_of x) machine.Broken) (eq-eqb (2 * k) (2 * k) refl)))
+    (own ∙ sym (cond-true (eqb (2 * k) (2 * k)) (taken (actor_of x) l k ls) (goes (actor_of x) machine.Broken)
+        (eq-eqb (2 * k) (2 * k) refl)))
     (sym (ap result_of (took_notice l k)))
 
 pub learns_lost : (x y : Actor) (l k i n : ℕ) → x.place ≡ Take l k i → (n ≡ 2 * k → ⊥) → actor_of y ≡ goes (actor_of x) machine.Broken
@@ -175,7 +178,8 @@ learns_first x y n o at some own says =
     learns_at x y First n (Ok o) at
     (own ∙ (ap (λ (ls : List ℕ). goes (actor_of x) (machine.Store ls)) (sym (map_drop x.writes.entries))
     ∙ sym (ap (λ (z : Entries). learns (first_store (actor_of x) z) (actor_of x) n) es)))
-    (says ∙ (ap (λ (ls : List ℕ). result_of (when_none_left ls Stored)) (sym (map_drop x.writes.entries)) ∙ none_by (drop 1 x.writes.entries) Stored
+    (says ∙ (ap (λ (ls : List ℕ). result_of (when_none_left ls Stored)) (sym (map_drop x.writes.entries))
+        ∙ none_by (drop 1 x.writes.entries) Stored
     ∙ sym (ap (λ (z : Entries). result_of (last_notice z Stored)) es)))
 
 pub learns_nothing_first : (x : Actor) (n : ℕ) → x.place ≡ First → length x.writes.entries ≡ 0 → Learns x n x (Err refusal.NoTransaction)
@@ -189,7 +193,8 @@ pub learns_store : (x y : Actor) (i n : ℕ) (o : Option WordAnswer) → x.place
     → actor_of y ≡ goes (actor_of x) (machine.Store (drop (i + 1) (locations x.writes.entries)))
     → Ok o ≡ result_of (when_none_left (drop (i + 1) (locations x.writes.entries)) Stored) → Learns x n y (Ok o)
 learns_store x y i n o at low own says =
-    let ls = next_is x.writes.entries i (get_or x.writes.entries i (0, 0)) low (get_or_same x.writes.entries i (0, 0) (get_or x.writes.entries i (0, 0)) low) in
+    let ls = next_is x.writes.entries i (get_or x.writes.entries i (0, 0)) low
+        (get_or_same x.writes.entries i (0, 0) (get_or x.writes.entries i (0, 0)) low) in
     learns_at x y (Store i) n (Ok o) at (own ∙ sym (ap (λ (z : List ℕ). learns (plan (actor_of x) (machine.Store z)) (actor_of x) n) ls))
     (says ∙ sym (ap (λ (z : List ℕ). result_of (tells (actor_of x) (machine.Store z) n)) ls))
 

@@ -102,7 +102,8 @@ module _ {V : Type 0} where
       sym (λ i. held_by (h.alike.words i) (h.alike.blocks i) (λ k. h.alike.boosted.gates k i) (h.alike.boosted.actor i).writes) ∙ may.1
 
   -- ---- the step of the definitions
-  first_step : AreSteps V → (v : World V) (a : ℕ) (r p q : TxActor V) (y : Actor) (told : Result (Option WordAnswer) WordRefusal) (n : Told V)
+  first_step : AreSteps V → (v : World V) (a : ℕ) (r p q : TxActor V) (y : Actor) (told : Result (Option WordAnswer) WordRefusal)
+      (n : Told V)
       (ks : List ℕ) → stage_of r.stage ≡ Ready ks → stage_of p.stage ≡ Ready ks → (v.seats a).stage ≡ Ready ks → Runs a p (ready_in v a)
       → ((k : ℕ) → mine (ready_in v a).boosted a k ≡ has ks k)
       → actor_of (acted (ready_in v a) (moves a ∷ [])) a ≡ words.actor_of y → told ≡ result_of (word_notice (ready_in v a) a)
@@ -152,7 +153,8 @@ module _ {V : Type 0} where
       heard
 
   -- ---- what is due behind the request
-  ready_spot : (w : World V) (a : ℕ) (ks : List ℕ) (s : Stage V) → s ≡ Ready ks → spot_at a w s ≡ spot_of (word_of (deed_of (ready_in w a) a))
+  ready_spot : (w : World V) (a : ℕ) (ks : List ℕ) (s : Stage V) → s ≡ Ready ks
+      → spot_at a w s ≡ spot_of (word_of (deed_of (ready_in w a) a))
   ready_spot w a ks s e = ap (λ (k : Stage V). spot_at a w k) e
 
   ready_world : (w : World V) (a : ℕ) (ks : List ℕ) (s : Stage V) → s ≡ Ready ks → ready_at a w s ≡ ready_in w a

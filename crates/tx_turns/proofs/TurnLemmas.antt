@@ -105,7 +105,8 @@ module _ {V : Type 0} where
   locks_at n bs x y z t p h = tt
 
   -- ---- the step of the definitions
-  pub word_step : AreSteps V → (v : World V) (a : ℕ) (r q : TxActor V) (y : Actor) (told : Result (Option WordAnswer) WordRefusal) (n : Told V)
+  pub word_step : AreSteps V → (v : World V) (a : ℕ) (r q : TxActor V) (y : Actor) (told : Result (Option WordAnswer) WordRefusal)
+      (n : Told V)
       → next_of (stage_of r.stage) ≡ next.Word → is_loading (stage_of r.stage) ≡ false → Runs a r v
       → LocksAt r.stage (actor_of v a).place → ((k : ℕ) → mine v.boosted a k ≡ has (gates_of (stage_of r.stage)) k)
       → actor_of (acted v (moves a ∷ [])) a ≡ words.actor_of y → told ≡ result_of (word_notice v a)
@@ -115,7 +116,8 @@ module _ {V : Type 0} where
       let z = acted v (moves a ∷ []) in
       let st : (v.seats a).stage ≡ stage_of r.stage = stage_by (v.seats a) r quiet runs.0 in
       let here : Runs a (record r { words = y }) z = (runs.0, own, knows_moved v a r.stage locks runs.2) in
-      let may = may_go_on z a (stage_of r.stage) due (λ k. ap (λ (g : ℕ → Option ℕ). mine (record z.boosted { gates = g }) a k) (step_gates v a) ∙ held k) in
+      let may = may_go_on z a (stage_of r.stage) due
+          (λ k. ap (λ (g : ℕ → Option ℕ). mine (record z.boosted { gates = g }) a k) (step_gates v a) ∙ held k) in
       let after = heard a z may here in
       let e : step_at v a (v.seats a) (v.seats a).stage
       ≡ after_word z a (seat_at (v.seats a) r) (stage_of r.stage) (notice_told told) =
@@ -128,7 +130,8 @@ module _ {V : Type 0} where
         after.1 ∙ sym (ap (λ (p : After V). p.1) e),
       )
 
-  planted_step : AreSteps V → (w : World V) (a : ℕ) (r q : TxActor V) (y : Actor) (told : Result (Option WordAnswer) WordRefusal) (n : Told V)
+  planted_step : AreSteps V → (w : World V) (a : ℕ) (r q : TxActor V) (y : Actor) (told : Result (Option WordAnswer) WordRefusal)
+      (n : Told V)
       (d : Due) (m f : ℕ) (c : Cell) → let x = words.actor_of r.words in
       next_of (stage_of r.stage) ≡ next.Word → is_loading (stage_of r.stage) ≡ false → Runs a r w
       → LocksAt r.stage (actor_of w a).place → ((k : ℕ) → mine w.boosted a k ≡ has (gates_of (stage_of r.stage)) k)

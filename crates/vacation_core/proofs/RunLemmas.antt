@@ -20,7 +20,8 @@ use Rattle.vacation_core.specs.Runs.{AreActions, Deal, EachNumberHoldsTables, Ho
 use Rattle.vacation_core.proofs.SessionLemmas.{ends_as_action, never_gives_up}
 
 -- one session, and the tables after it
-session_done : (d : Deal) (calls : List (Call Entry × Reply Entry)) (s : Holdings) → IsBalanced s → IsSession d calls → IsLegal calls (state_of s)
+session_done : (d : Deal) (calls : List (Call Entry × Reply Entry)) (s : Holdings) → IsBalanced s → IsSession d calls
+    → IsLegal calls (state_of s)
     → (d.1 ≡ (action_of d.0 s).0) × (after_calls calls (state_of s) ≡ state_of (action_of d.0 s).1)
 session_done d calls s b is legal = ends_as_action d.0 s calls d.1 is.allowed b (is.whole, legal)
 

@@ -19,7 +19,8 @@ loop-i-preserved g c = (
   are_trans c.args.bases.now.items c.loop-i.bases.items c.prepare_base.new.bases.items c.loop-i.invariant.0 c.prepare_base.ensures.alike,
   prepared_more c.args.actor.now.copies.items c.args.homes.now.items c.index.result.now c.loop-i.i c.loop-i.bases.items
       c.prepare_base.new.bases.items
-      (read_at c.args.homes.now.items c.loop-i.i c.index.result.now (omega (arith, c.loop-i-test.true, c.len-i-end.ensures)) c.index.ensures)
+      (read_at c.args.homes.now.items c.loop-i.i c.index.result.now
+          (omega (arith, c.loop-i-test.true, c.len-i-end.ensures)) c.index.ensures)
       c.in_ok-prepare_base.ensures.prepared c.loop-i.invariant.1,
 )
 

@@ -9,6 +9,7 @@ use Rattle.generated_sessions.proofs.sessions.generate.Given as goal
 
 abbrev pub invariant-loop : goal.invariant-loop
 invariant-loop l = record {
-  drawn : Gives (times l.counter (session_drawn l.fn.options)) (stream_for l.fn.seed l.fn.worker) l.actions.items (stream_of (steps_u32 pcg32) l.random);
+  drawn : Gives (times l.counter (session_drawn l.fn.options)) (stream_for l.fn.seed l.fn.worker) l.actions.items
+      (stream_of (steps_u32 pcg32) l.random);
   allowed : All IsAllowed l.actions.items;
 }

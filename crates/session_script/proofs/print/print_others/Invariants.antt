@@ -5,4 +5,5 @@ use Rattle.session_script.specs.Prints.{changed_text}
 use Rattle.session_script.proofs.print.print_others.Given as goal
 
 abbrev pub invariant-loop-changed : goal.invariant-loop-changed
-invariant-loop-changed l = string_bytes l.text ≡ string_bytes l.fn.text ++ flat_map (λ made. codes " " ++ changed_text made) (take l.changed-index l.changes)
+invariant-loop-changed l = string_bytes l.text ≡ string_bytes l.fn.text ++ flat_map (λ made. codes " " ++ changed_text made)
+    (take l.changed-index l.changes)

@@ -13,7 +13,8 @@ driven_call-requires-clause-calls g c = (
     record { target = c.args.word; op = Read },
     calls_on c.args.table.now c.args.seat.now c.asked_read.new.seat (record { target = c.args.word; op = Read }) c.requires.open
         c.in_ok-told.ensures.asked c.args.actor.now c.requires.ties c.requires.open.0 c.requires.open.1
-        (subst (λ (n : Told _). Answers (opening_of c.args.table.now) c.args.seat.now (read_of c.args.word) n) c.in-Quiet.is c.in_ok-told.ensures.answers),
+        (subst (λ (n : Told _). Answers (opening_of c.args.table.now) c.args.seat.now
+            (read_of c.args.word) n) c.in-Quiet.is c.in_ok-told.ensures.answers),
   ),
 )
 
@@ -26,7 +27,8 @@ pub returns-in-Quiet-clause-calls : goal.returns-in-Quiet-clause-calls
 returns-in-Quiet-clause-calls g c =
     driven_calls c.args.table.now c.args.seat.now c.asked_read.new.seat (record { target = c.args.word; op = Read }) c.requires.open
     c.in_ok-told.ensures.asked c.args.actor.now c.driven_call.new.seat c.driven_call.result c.requires.ties
-    (subst (λ (n : Told _). Answers (opening_of c.args.table.now) c.args.seat.now (read_of c.args.word) n) c.in-Quiet.is c.in_ok-told.ensures.answers)
+    (subst (λ (n : Told _). Answers (opening_of c.args.table.now) c.args.seat.now
+        (read_of c.args.word) n) c.in-Quiet.is c.in_ok-told.ensures.answers)
     c.driven_call.ensures.driven
 
 pub returns-in_default-clause-calls : goal.returns-in_default-clause-calls

@@ -12,12 +12,14 @@ turns-init g c = (c.requires.ties, driven_first (opening_of c.args.table.now) c.
 
 pub turn-requires-clause-due : goal.turn-requires-clause-due
 turn-requires-clause-due g c =
-    (due_turn c.args.table.now c.turns.seat c.turns.actor (seat_in (opening_of c.args.table.now) c.args.seat.now) c.turns.kept c.requires.none
+    (due_turn c.args.table.now c.turns.seat c.turns.actor
+        (seat_in (opening_of c.args.table.now) c.args.seat.now) c.turns.kept c.requires.none
     c.turns.invariant.0 c.turns.invariant.1.comes).0
 
 pub turn-requires-clause-word : goal.turn-requires-clause-word
 turn-requires-clause-word g c =
-    (due_turn c.args.table.now c.turns.seat c.turns.actor (seat_in (opening_of c.args.table.now) c.args.seat.now) c.turns.kept c.requires.none
+    (due_turn c.args.table.now c.turns.seat c.turns.actor
+        (seat_in (opening_of c.args.table.now) c.args.seat.now) c.turns.kept c.requires.none
     c.turns.invariant.0 c.turns.invariant.1.comes).1
 
 pub turns-smaller : goal.turns-smaller
@@ -29,7 +31,8 @@ pub turns-preserved : goal.turns-preserved
 turns-preserved g c =
     let o = opening_of c.args.table.now in (
       c.turn.ensures.ties,
-      subst (λ (k : Told _ × Option (Record _)). Driven o c.args.seat.now c.turn.new.seat k.0 k.1) (λ i. (c.in-Quiet.is i, sym c.newest-kept.ensures i))
+      subst (λ (k : Told _ × Option (Record _)). Driven o c.args.seat.now c.turn.new.seat k.0 k.1)
+          (λ i. (c.in-Quiet.is i, sym c.newest-kept.ensures i))
           (driven_on c.args.table.now c.args.seat.now c.turns.seat c.turn.new.seat c.turns.actor c.in_ok-told.told c.turns.kept
           c.turns.invariant.0 c.turns.invariant.1 c.in_ok-told.ensures.turned c.in_ok-told.receipt
           (due_turn c.args.table.now c.turns.seat c.turns.actor (seat_in (opening_of c.args.table.now) c.args.seat.now) c.turns.kept

@@ -10,4 +10,5 @@ returns-then-i-len-clause-deed c = (
 )
 
 pub returns-else-i-len-clause-deed : goal.returns-else-i-len-clause-deed
-returns-else-i-len-clause-deed c = at_place c.args.actor.now _ c.requires.place ∙ stored_is c.args.actor.now c.args.i (omega (arith, c.if-i-len.false, c.len.ensures))
+returns-else-i-len-clause-deed c = at_place c.args.actor.now _ c.requires.place
+    ∙ stored_is c.args.actor.now c.args.i (omega (arith, c.if-i-len.false, c.len.ensures))

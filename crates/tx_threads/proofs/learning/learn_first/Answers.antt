@@ -7,4 +7,5 @@ returns-clause-learns c = learns_first c.args.actor.now c.first.new.self c.args.
     (omega (arith, c.if-len-eq0.false, c.len.ensures)) c.first.ensures.actor c.first.ensures.answer
 
 pub returns-then-len-eq0-clause-learns : goal.returns-then-len-eq0-clause-learns
-returns-then-len-eq0-clause-learns c = learns_nothing_first c.args.actor.now c.args.found c.requires.place (sym c.len.ensures ∙ c.if-len-eq0.true)
+returns-then-len-eq0-clause-learns c = learns_nothing_first c.args.actor.now c.args.found c.requires.place (sym c.len.ensures
+    ∙ c.if-len-eq0.true)

@@ -7,4 +7,5 @@ returns-then-i-len-clause-learns c = learns_store c.args.actor.now c.store.new.s
     (omega (arith, c.if-i-len.true, c.len.ensures)) c.store.ensures.actor c.store.ensures.answer
 
 pub returns-else-i-len-clause-learns : goal.returns-else-i-len-clause-learns
-returns-else-i-len-clause-learns c = learns_stored c.args.actor.now c.args.i c.args.found c.requires.place (omega (arith, c.if-i-len.false, c.len.ensures))
+returns-else-i-len-clause-learns c =
+    learns_stored c.args.actor.now c.args.i c.args.found c.requires.place (omega (arith, c.if-i-len.false, c.len.ensures))

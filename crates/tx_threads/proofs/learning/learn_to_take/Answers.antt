@@ -9,5 +9,6 @@ returns-then-found-version-clause-learns c = subst (λ n. Learns c.args.actor.no
     (learns_taken c.args.actor.now c.take.new.self c.args.location c.args.version c.args.i c.requires.place c.take.ensures.actor)
 
 pub returns-else-found-version-clause-learns : goal.returns-else-found-version-clause-learns
-returns-else-found-version-clause-learns c = learns_lost c.args.actor.now _ c.args.location c.args.version c.args.i c.args.found c.requires.place
+returns-else-found-version-clause-learns c =
+    learns_lost c.args.actor.now _ c.args.location c.args.version c.args.i c.args.found c.requires.place
     c.if-found-version.false refl

@@ -8,7 +8,8 @@ use Rattle.tx_turns.specs.Ties.{laid_in}
 use Rattle.tx_turns.proofs.words.store_first.Goals as goal
 
 pub step_words-told-requires-clause-some : goal.step_words-told-requires-clause-some
-step_words-told-requires-clause-some g c = (is_asked c.args.table.now c.args.seat.now c.args.actor.now c.asks_to_store.new.self c.requires.due
+step_words-told-requires-clause-some g c =
+    (is_asked c.args.table.now c.args.seat.now c.args.actor.now c.asks_to_store.new.self c.requires.due
     c.requires.ties c.in_ok-asks_to_store.ensures.ok c.asks_to_store.ensures.rest).1.due
 
 pub step_words-told-requires-clause-due : goal.step_words-told-requires-clause-due

@@ -10,7 +10,9 @@ pub loop-id-preserved : goal.loop-id-preserved
 loop-id-preserved c = put_one entry.Item _ _ _ c.in-Some.id.now c.in-Some.item.now _ _ c.loop-id.invariant c.in-Some.ensures.steps c.in_ok-insert.ensures.ok
 
 pub loop-id-preserved-in_ok-insert : goal.loop-id-preserved-in_ok-insert
-loop-id-preserved-in_ok-insert c = put_one entry.Item _ _ _ c.in-Some.id.now c.in-Some.item.now _ _ c.loop-id.invariant c.in-Some.ensures.steps c.in_ok-insert.ensures.ok
+loop-id-preserved-in_ok-insert c =
+    put_one entry.Item _ _ _ c.in-Some.id.now c.in-Some.item.now _ _ c.loop-id.invariant c.in-Some.ensures.steps c.in_ok-insert.ensures.ok
 
 pub loop-id-preserved-in_ok-insert-2 : goal.loop-id-preserved-in_ok-insert-2
-loop-id-preserved-in_ok-insert-2 c = put_one entry.Item _ _ _ c.in-Some.id.now c.in-Some.item.now _ _ c.loop-id.invariant c.in-Some.ensures.steps c.in_ok-insert.ensures.ok
+loop-id-preserved-in_ok-insert-2 c =
+    put_one entry.Item _ _ _ c.in-Some.id.now c.in-Some.item.now _ _ c.loop-id.invariant c.in-Some.ensures.steps c.in_ok-insert.ensures.ok

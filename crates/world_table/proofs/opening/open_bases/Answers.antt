@@ -8,15 +8,19 @@ use Rattle.world_table.proofs.opening.open_bases.Goals as goal
 pub bounds-stripes-len : goal.bounds-stripes-len
 bounds-stripes-len g c =
     let at = c.loop-collection in
-    let low = next_place c.args.stripes.now c.args.held.items at.yielded (into_iter_items c.next.new.self) c.in-Some.collection at.bases.items
-    c.requires.same at.invariant.1 (next_items at.yielded _ _ c.args.held.items c.in-Some.collection c.in-Some.ensures.steps.0 at.invariant.0) in
+    let low = next_place c.args.stripes.now c.args.held.items at.yielded
+        (into_iter_items c.next.new.self) c.in-Some.collection at.bases.items
+    c.requires.same at.invariant.1
+        (next_items at.yielded _ _ c.args.held.items c.in-Some.collection c.in-Some.ensures.steps.0 at.invariant.0) in
     omega (arith, low, c.len.ensures)
 
 pub offset_bounds-stripes-len : goal.offset_bounds-stripes-len
 offset_bounds-stripes-len g c =
     let at = c.loop-collection in
-    let low = next_place c.args.stripes.now c.args.held.items at.yielded (into_iter_items c.next.new.self) c.in-Some.collection at.bases.items
-    c.requires.same at.invariant.1 (next_items at.yielded _ _ c.args.held.items c.in-Some.collection c.in-Some.ensures.steps.0 at.invariant.0) in
+    let low = next_place c.args.stripes.now c.args.held.items at.yielded
+        (into_iter_items c.next.new.self) c.in-Some.collection at.bases.items
+    c.requires.same at.invariant.1
+        (next_items at.yielded _ _ c.args.held.items c.in-Some.collection c.in-Some.ensures.steps.0 at.invariant.0) in
     let few : length c.args.stripes.now ≤ 256 = c.requires.few in
     let small : c.len.result < 256 = omega (arith, low, few, c.len.ensures) in
     omega (arith, small)
@@ -36,8 +40,10 @@ open_base-requires-clause-count g c =
 pub loop-collection-preserved : goal.loop-collection-preserved
 loop-collection-preserved g c =
     let at = c.loop-collection in
-    let was = next_items at.yielded _ (into_iter_items c.next.new.self) c.args.held.items c.in-Some.collection c.in-Some.ensures.steps.0 at.invariant.0 in
-    let low = next_place c.args.stripes.now c.args.held.items at.yielded (into_iter_items c.next.new.self) c.in-Some.collection at.bases.items
+    let was = next_items at.yielded _
+        (into_iter_items c.next.new.self) c.args.held.items c.in-Some.collection c.in-Some.ensures.steps.0 at.invariant.0 in
+    let low = next_place c.args.stripes.now c.args.held.items at.yielded
+        (into_iter_items c.next.new.self) c.in-Some.collection at.bases.items
     c.requires.same at.invariant.1 was in
     let opened = subst (λ (i : ℕ). IsOpened (get_or c.args.stripes.now i 0) c.in-Some.collection c.in_ok-base.base)
     (c.len.ensures ∙ at.bases.ok.0)

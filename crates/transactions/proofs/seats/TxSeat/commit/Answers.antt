@@ -14,7 +14,8 @@ returns-clause-last g c =
     let since = c.requires.since (c.in_ok-receipt.receipt.calls, c.in_ok-receipt.ensures.calls) in
     let high = since.1 in
     let rises = c.in_ok-receipt.ensures.committed.rises in
-    let known : (seat_in (opening_of c.args.table.now) c.args.self.now.seat).rv ≤ (view c.commit.new.seat).clock = omega (arith, high, rises) in
+    let known : (seat_in (opening_of c.args.table.now) c.args.self.now.seat).rv ≤ (view c.commit.new.seat).clock =
+        omega (arith, high, rises) in
     let numbers = commit_numbers (seat_in (opening_of c.args.table.now) c.args.self.now.seat).rv (view c.commit.new.seat).clock
     c.args.self.now.seat.last c.in_ok-receipt.receipt c.in_ok-receipt.ensures.number since.0 known in
     let low = numbers.1 in

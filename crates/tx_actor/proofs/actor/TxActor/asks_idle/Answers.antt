@@ -15,7 +15,9 @@ returns-clause-keeps g c = λ v. elim c.match-request.branch [
 
 pub returns-clause-apart : goal.returns-clause-apart
 returns-clause-apart g c = elim c.match-request.branch [
-  | in-Begin w ↦ subst (λ (x : TxActor g.row.V.Denot). (x.stage ≡ Beginning) ⊎ (x ≡ c.args.self.now)) (sym w.self-is) (inl w.begins.ensures.stage)
-  | in-BeginRead w ↦ subst (λ (x : TxActor g.row.V.Denot). (x.stage ≡ Beginning) ⊎ (x ≡ c.args.self.now)) (sym w.self-is) (inl w.begins_to_read.ensures.stage)
+  | in-Begin w ↦ subst (λ (x : TxActor g.row.V.Denot). (x.stage ≡ Beginning) ⊎ (x ≡ c.args.self.now)) (sym w.self-is)
+      (inl w.begins.ensures.stage)
+  | in-BeginRead w ↦ subst (λ (x : TxActor g.row.V.Denot). (x.stage ≡ Beginning) ⊎ (x ≡ c.args.self.now)) (sym w.self-is)
+      (inl w.begins_to_read.ensures.stage)
   | in_default w ↦ inr w.self-is
 ]

@@ -51,4 +51,5 @@ returns-in_err-write_word-clause-keeps g c quiet =
     let below : c.args.word < end_of v.words v.blocks = omega (arith, behind, c.words.ensures, c.if-word-words.false) in
     let free = c.in_ok-reserve.ensures.ok in
     let room : vec_len c.reserve.new.self < vec_capacity c.reserve.new.self = omega (arith, free) in
-    keeps_asked v r u (c.write_word.ensures.keeps (end_of v.words v.blocks) below) (room_as r u r.stage quiet refl (λ h. room)) (λ h. h) quiet
+    keeps_asked v r u (c.write_word.ensures.keeps (end_of v.words v.blocks) below) (room_as r u r.stage quiet refl (λ h. room))
+        (λ h. h) quiet
