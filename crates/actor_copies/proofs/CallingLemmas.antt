@@ -17,7 +17,7 @@ use Rattle.replay_log.specs.Base.{Shown}
 use Rattle.replay_log.specs.Contents.{Asked, Block, HaveStripes, answer, blank, block_of, content, first_of, is_plain, seen, shifted, writes_in}
 use Rattle.replay_log.specs.Guards.{Allows}
 use Rattle.replay_log.specs.Worlds.{World, Stage, Open, actor_of, is_change, opened, outcome_at, run, with_editions}
-use Rattle.replay_log.proofs.CallLemmas.{known_some, reads_ok}
+use Rattle.replay_log.proofs.CallLemmas.{in_set_some, known_some, may_if, reads_ok}
 use Rattle.replay_log.proofs.EventLemmas.{opened_linked, run_linked}
 use Rattle.replay_log.proofs.ReadLemmas.{in_set}
 use Rattle.replay_log.proofs.SeatLemmas.{Linked, Live, StageOk}
@@ -30,10 +30,6 @@ use Rattle.actor_copies.proofs.OutcomeLemmas.{outcome_op, writes_nothing}
 
 pub no_none : (v : ℕ) → Some v ≡ None → ⊥
 no_none v e = cc
-
-pub in_set_some : (declared : Bool) (o : Option ℕ) (v : ℕ) → in_set declared o ≡ Some v → o ≡ Some v
-in_set_some true o v e = absurd (no_none v (sym e))
-in_set_some false o v e = e
 
 -- ---- what is judged
 next_all : (l : ℕ) → Next l ≡ All → ⊥
@@ -91,13 +87,6 @@ not_read reads (d ∷ es) l e =
       | inl here ↦ subst (λ j. lookup reads j ≡ None) here.1 here.0
       | inr rest ↦ not_read reads es l rest
     ]
-
-may_if : (declared change : Bool) (ls : List ℕ) → not (declared && change) ≡ true → (change ≡ false → ls ≡ []) → may_write declared ls
-    ≡ true
-may_if false change [] h none = refl
-may_if false change (l ∷ ls) h none = refl
-may_if true true ls h none = absurd (true≢false (sym h))
-may_if true false ls h none = ap (may_write true) (none refl)
 
 module _ {V : Type 0} where
   writes_none : (b : Option Block) (f : ℕ) (v : ℕ → Shown V) (asked : Asked V) (r : Outcome V) → answer b f v asked.op ≡ Some r

@@ -23,7 +23,8 @@ use Rattle.replay_log.proofs.SeatLemmas.{AtReading, Copy, IsLeft, Kept, Linked, 
 use Rattle.actor_words.specs.declared.judged.Judged.TheVariants.{All, Next}
 use Rattle.actor_words.specs.Judged.{comes_to, judged, left_after, left_one}
 use Rattle.actor_copies.specs.Loading.{AreRead, IsDoomed}
-use Rattle.actor_copies.proofs.CallingLemmas.{in_set_some, one_all}
+use Rattle.actor_copies.proofs.CallingLemmas.{one_all}
+use Rattle.replay_log.proofs.CallLemmas.{in_set_some}
 
 -- the three of a guard that holds
 parts : (p q r : Bool) → (p && (q && r)) ≡ true → (p ≡ true) × (q ≡ true) × (r ≡ true)

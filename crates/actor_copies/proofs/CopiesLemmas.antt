@@ -32,7 +32,7 @@ use Rattle.actor_copies.specs.Copies.{IsAccepted, IsCopied, IsLearnt, IsOf, answ
 itself : (k : ℕ) → (k == k) ≡ true
 itself k = eq-eqb k k refl
 
-apart : (j k : ℕ) → j ≢ k → (b : Bool) → (j == k) ≡ b → (j == k) ≡ false
+pub apart : (j k : ℕ) → j ≢ k → (b : Bool) → (j == k) ≡ b → (j == k) ≡ false
 apart j k other true is = absurd (other (eqb-true j k is))
 apart j k other false is = is
 

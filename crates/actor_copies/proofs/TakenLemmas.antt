@@ -15,7 +15,7 @@ use Rattle.conflict.specs.Counts.{stripe_counts}
 use Rattle.replay_log.proofs.EndingLemmas.{put_keeps}
 use Rattle.replay_log.proofs.PartLemmas.{whole_local}
 use Rattle.replay_log.proofs.ReadLemmas.{in_set}
-use Rattle.actor_copies.proofs.CallingLemmas.{in_set_some, no_none}
+use Rattle.actor_copies.proofs.CallingLemmas.{no_none}
 use Rattle.word_machine.specs.Actor.{Actor, Call}
 use Rattle.word_machine.specs.Opacity.{first_read}
 use Rattle.word_machine.specs.World.{World as Words}
@@ -72,6 +72,7 @@ use Rattle.actor_copies.specs.Sizes as on_base
 use Rattle.actor_copies.specs.Sizes.{SizesAs, base_reads}
 use Rattle.atomic_steps.proofs.Bases.{writes_by}
 use Rattle.actor_copies.proofs.CopyingLemmas.{kind_whole, nothing_pq, nothing_queue, puts_back, of_parts}
+use Rattle.replay_log.proofs.CallLemmas.{in_set_some}
 
 -- ---- what is copied
 all_four : (p q r s : Bool) → p ≡ true → q ≡ false → r ≡ true → s ≡ true → (p && (not q && (r && s))) ≡ true

@@ -73,7 +73,7 @@ module _ {V : Type 0} where
   set_same (x ∷ cs) zero j k c d g [] at of same_place each kept l q = absurd kept
   set_same (x ∷ cs) (suc i) j k c d g [] at of same_place each kept l q = absurd kept
 
-  set_there : (cs : List (CopyOf V)) (i : ℕ) (c d : CopyOf V) → slice_get cs i ≡ Some c → slice_get (set cs i d) i ≡ Some d
+  pub set_there : (cs : List (CopyOf V)) (i : ℕ) (c d : CopyOf V) → slice_get cs i ≡ Some c → slice_get (set cs i d) i ≡ Some d
   set_there [] i c d at = let h : ⊥ = cc in absurd h
   set_there (x ∷ cs) zero c d at = refl
   set_there (x ∷ cs) (suc i) c d at = set_there cs i c d at
@@ -86,7 +86,7 @@ module _ {V : Type 0} where
   some_copied : (c d : Copied V) → Some c ≡ Some d → c ≡ d
   some_copied c d e = cc
 
-  some_copy : (c d : CopyOf V) → Some c ≡ Some d → c ≡ d
+  pub some_copy : (c d : CopyOf V) → Some c ≡ Some d → c ≡ d
   some_copy c d e = cc
 
   -- ---- what is taken

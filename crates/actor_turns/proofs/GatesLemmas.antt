@@ -34,6 +34,13 @@ use Rattle.tx_actor.specs.declared.actor.TxActor.{TxActor}
 use Rattle.actor_turns.proofs.CopyLemmas.{copy_is}
 use Rattle.actor_turns.proofs.LoadLemmas.{load_is}
 use Rattle.actor_turns.proofs.StepLemmas.{first_is}
+use Rattle.word_machine.specs.Cells.{Cell}
+use Rattle.atomic_steps.specs.Spots.{Gate, spot_of}
+
+-- a spot of the words is no gate
+pub no_word : (c : Option Cell) (k : ℕ) → spot_of c ≡ Gate k → ⊥
+no_word None k e = cc
+no_word (Some c) k e = cc
 
 pub has_first : (k : ℕ) (ks : List ℕ) → has (k ∷ ks) k ≡ true
 has_first k ks = cond-true (k == k) true (has ks k) (eq-eqb k k refl)

@@ -64,7 +64,7 @@ inner w (c ∷ bs) l (suc k) b is above below at =
     (cases_Bool (ltb l (w + size c)))
 
 -- a location of a collection lies behind the words, in front of the end
-in_range : (w : ℕ) (bs : List Block) (l : ℕ) → is_plain w bs l ≡ false → (w ≤ l) × (l < end_of w bs)
+pub in_range : (w : ℕ) (bs : List Block) (l : ℕ) → is_plain w bs l ≡ false → (w ≤ l) × (l < end_of w bs)
 in_range w bs l = by (nat_lt l w) (nat_lt l (end_of w bs)) refl refl
   where
     by : (s t : Bool) → nat_lt l w ≡ s → nat_lt l (end_of w bs) ≡ t → (s || not t) ≡ false → (w ≤ l) × (l < end_of w bs)
@@ -73,7 +73,7 @@ in_range w bs l = by (nat_lt l w) (nat_lt l (end_of w bs)) refl refl
     by true t e f h = absurd (true≢false h)
 
 -- what is raised is as long
-raised_long : (ws es : List ℕ) → length (raised ws es) ≡ length es
+pub raised_long : (ws es : List ℕ) → length (raised ws es) ≡ length es
 raised_long [] es = refl
 raised_long (w ∷ ws) es = raised_long ws (set es w (get_or es w 0 + 1)) ∙ length-set es w (get_or es w 0 + 1)
 

@@ -34,7 +34,7 @@ use Rattle.tx_actor.specs.declared.actor.Stage.TheVariants as stage
 use Rattle.tx_actor.specs.declared.actor.Told.{Told}
 use Rattle.tx_actor.specs.declared.actor.TxActor.{TxActor}
 use Rattle.actor_turns.specs.Kept.{StepsKeep}
-use Rattle.actor_turns.proofs.GatesLemmas.{step_first_gates, step_load_gates, step_word_gates}
+use Rattle.actor_turns.proofs.GatesLemmas.{no_word, step_first_gates, step_load_gates, step_word_gates}
 use Rattle.actor_turns.proofs.LoadLemmas.{HasMoved, load_heard, load_keeps, load_runs, loads_word}
 use Rattle.actor_turns.proofs.OwnLemmas.{OthersLaw}
 use Rattle.actor_turns.proofs.SeatLemmas.{loading_as, next_as}
@@ -55,10 +55,6 @@ use Rattle.gate_turns.proofs.BasesLemmas.{are_none, are_stay, base_stays, prepar
 use Rattle.gate_turns.proofs.ThereLemmas.{start}
 use Rattle.gate_turns.proofs.ThereLemmas.{own_after, there_copies, there_gates, there_next, there_reached, there_runs, turn_after}
 use Rattle.gate_turns.proofs.ThereLemmas.{turn_gates, turn_runs}
-
-no_word : (c : Option Cell) (k : ℕ) → spot_of c ≡ Gate k → ⊥
-no_word None k e = cc
-no_word (Some c) k e = cc
 
 pub word_gate : (p : Spot) (c : Cell) (k : ℕ) → p ≡ Word c → p ≡ Gate k → ⊥
 word_gate p c k e f = (let z : Word c ≡ Gate k = sym e ∙ f in let y : ⊥ = cc in y)

@@ -16,23 +16,8 @@ use Rattle.world_table.specs.Openings.{blocks_of, world_of}
 use Rattle.running_world.specs.Parts.{IsWorld}
 use Rattle.running_world.specs.declared.parts.Parts.{Parts}
 use Rattle.ordered_sessions.specs.Turns.{HasOpened}
-
--- so many stripes for each collection
-abbrev pub eight : ℕ → List ℕ
-eight n = n ∷ n ∷ n ∷ n ∷ n ∷ n ∷ n ∷ n ∷ []
-
-pub have_indexes : (tables : Holdings) → IsBalanced tables → HaveIndexes tables
-have_indexes tables balanced k =
-    let within : (queue k tables).head + length (queue k tables).tickets ≤ tables.next = balanced.queues_within k in
-    let next : tables.next ≤ INDEX_LIMIT = balanced.next_within in
-    omega (arith, within, next)
-
-suits : (n : ℕ) (tables : Holdings) → HaveIndexes tables → Suit (blocks_of (eight n) (state_of tables).held) (state_of tables).held
-suits n tables within =
-    (refl, tt, (refl, tt, (refl, tt, (refl, tt, (refl, tt, (refl, within Car, (refl, within Flight, (refl, within Room, tt))))))))
-
-stripes : (n : ℕ) (tables : Holdings) → IsStripeCount n → HaveStripes (blocks_of (eight n) (state_of tables).held)
-stripes n tables count = (count.0, (count.0, (count.0, (count.0, (count.0, (count.0, (count.0, (count.0, tt))))))))
+pub use Rattle.session_runs.proofs.OpeningLemmas.{have_indexes, stripes, suits}
+pub use Rattle.session_runs.specs.Openings.{eight}
 
 small : (n : ℕ) (tables : Holdings) → IsStripeCount n → AreSmall (blocks_of (eight n) (state_of tables).held)
 small n tables count =

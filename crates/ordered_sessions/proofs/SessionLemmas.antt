@@ -13,7 +13,7 @@ use Rattle.seq_model.specs.declared.event.Request.TheVariants as request
 use Rattle.tx_engine.specs.declared.job.Ask.{Ask}
 use Rattle.tx_engine.specs.declared.job.Ask.TheVariants as ask
 use Rattle.tx_engine.specs.Programs.{Answers, Asks, Follows, GivesUp, after, asked, replies_of}
-use Rattle.tx_engine.proofs.ProgramLemmas.{follows_after}
+use Rattle.tx_engine.proofs.ProgramLemmas.{follows_after, same_call}
 use Rattle.vac_model.specs.declared.action.Action.{Action}
 use Rattle.vac_model.specs.declared.action.ActionReply.{ActionReply}
 use Rattle.vac_model.specs.Actions.{IsAllowed}
@@ -64,9 +64,6 @@ commits c d m h tables n made action done x all =
     by m p commits e y = absurd e
 
 -- ---- the program
-same_call : (c d : Call Entry) → ask.Call c ≡ ask.Call d → c ≡ d
-same_call c d e = cc
-
 no_done : (c : Call Entry) → ask.Call c ≡ ask.Done → ⊥
 no_done c e = cc
 

@@ -74,7 +74,7 @@ module _ {V : Type 0} where
   abbrev pub NoRefusal : After V → Type 0
   NoRefusal r = IsRefusal r.1 → ⊥
 
-  choose_no : (b : Bool) (r s : After V) → NoRefusal r → NoRefusal s → NoRefusal (cond b r s)
+  pub choose_no : (b : Bool) (r s : After V) → NoRefusal r → NoRefusal s → NoRefusal (cond b r s)
   choose_no true r s h g = h
   choose_no false r s h g = g
 

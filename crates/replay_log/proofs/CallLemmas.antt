@@ -123,14 +123,14 @@ all_left editions [] l m = absurd m
 all_left editions (k ∷ ls) l m = elim m [ inl e ↦ inl e | inr r ↦ inr (all_left editions ls l r) ]
 
 -- a declared reader may be accepted what writes nothing
-may_if : (declared change : Bool) (ls : List ℕ) → not (declared && change) ≡ true → (change ≡ false → ls ≡ []) → may_write declared ls
+pub may_if : (declared change : Bool) (ls : List ℕ) → not (declared && change) ≡ true → (change ≡ false → ls ≡ []) → may_write declared ls
     ≡ true
 may_if false change [] h none = refl
 may_if false change (l ∷ ls) h none = refl
 may_if true true ls h none = absurd (true≢false (sym h))
 may_if true false ls h none = ap (may_write true) (none refl)
 
-in_set_some : (declared : Bool) (o : Option ℕ) (v : ℕ) → in_set declared o ≡ Some v → o ≡ Some v
+pub in_set_some : (declared : Bool) (o : Option ℕ) (v : ℕ) → in_set declared o ≡ Some v → o ≡ Some v
 in_set_some true o v e = absurd (no_some v e)
 in_set_some false o v e = e
 

@@ -98,7 +98,7 @@ unfolding locations
 locations-cons d es = refl
 
 -- how many locations a call reads
-length-shifted : (f : ℕ) (is : List ℕ) → length (shifted f is) ≡ length is
+pub length-shifted : (f : ℕ) (is : List ℕ) → length (shifted f is) ≡ length is
 length-shifted f [] = refl
 length-shifted f (i ∷ is) = ap suc (length-shifted f is)
 

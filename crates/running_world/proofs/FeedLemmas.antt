@@ -34,12 +34,7 @@ use Rattle.running_world.specs.Reached.{IsReached}
 use Rattle.actor_turns.proofs.StepLemmas.{nothing_is}
 use Rattle.actor_words.proofs.BlocksLemmas.{end_behind}
 use Rattle.running_world.proofs.WorldLemmas.{shape_laid}
-
-take_all : {X : Type 0} → (xs : List X) (i : ℕ) → length xs ≤ i → take i xs ≡ xs
-take_all [] zero h = refl
-take_all [] (suc i) h = refl
-take_all (x ∷ xs) zero h = absurd (omega (arith, h))
-take_all (x ∷ xs) (suc i) h = ap (λ ys. x ∷ ys) (take_all xs i (omega (arith, h)))
+use Rattle.running_world.proofs.TraceLemmas.{take_all}
 
 -- a want of memory once an opening was within the limits
 pub memory_refused : {A O F : Type 0} → (r : Result A Refusal) → (¬ O) × F → IsErrAnd r (λ e. e ≡ OutOfMemory)

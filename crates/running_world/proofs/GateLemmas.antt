@@ -34,10 +34,7 @@ use Rattle.running_world.proofs.RoomLemmas.{gate_left, linked_after, room_none, 
 use Rattle.actor_turns.proofs.SeatLemmas.{loading_as, next_as}
 use Rattle.actor_turns.proofs.StepLemmas.{reached_linked}
 use Rattle.actor_turns.proofs.CopyLemmas.{copy_is}
-
-no_word : (c : Option Cell) (k : ℕ) → spot_of c ≡ Gate k → ⊥
-no_word None k e = cc
-no_word (Some c) k e = cc
+use Rattle.actor_turns.proofs.GatesLemmas.{no_word}
 
 not_has : (j k : ℕ) → j ≢ k → has (k ∷ []) j ≡ false
 not_has j k ne = elim (cases_Bool (eqb j k)) [

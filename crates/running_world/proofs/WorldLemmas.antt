@@ -20,7 +20,7 @@ use Rattle.step_core.specs.Shown.{is_actor}
 use Rattle.step_core.specs.Sound.{owed}
 use Rattle.step_core.specs.declared.actor.Place.{Place}
 use Rattle.step_core.specs.declared.actor.Place.TheVariants as place
-use Rattle.step_core.proofs.Lists.{same_at}
+use Rattle.step_core.proofs.Lists.{inside, same_at}
 use Rattle.actor_words.specs.Blocks.{BlocksView, IsLaid}
 use Rattle.actor_words.specs.Dispatch.{first, next_home, next_load, next_of, next_put, next_try}
 use Rattle.tx_actor.specs.Asks.{Stands}
@@ -63,27 +63,22 @@ owed_one place.Leave = omega arith
 owed_one place.Close = omega arith
 
 -- a list with one entry changed
-set_length : {X : Type 0} → (xs : List X) (i : ℕ) (v : X) → length (slice_set xs i v) ≡ length xs
+pub set_length : {X : Type 0} → (xs : List X) (i : ℕ) (v : X) → length (slice_set xs i v) ≡ length xs
 set_length [] i v = refl
 set_length (z ∷ zs) zero v = refl
 set_length (z ∷ zs) (suc i) v = ap suc (set_length zs i v)
 
-set_here : {X : Type 0} → (xs : List X) (i : ℕ) (x y : X) → slice_get xs i ≡ Some x → slice_get (slice_set xs i y) i ≡ Some y
+pub set_here : {X : Type 0} → (xs : List X) (i : ℕ) (x y : X) → slice_get xs i ≡ Some x → slice_get (slice_set xs i y) i ≡ Some y
 set_here [] i x y h = absurd (let z : None ≡ Some x = h in cc)
 set_here (z ∷ zs) zero x y h = refl
 set_here (z ∷ zs) (suc i) x y h = set_here zs i x y h
 
-set_there : {X : Type 0} → (xs : List X) (i j : ℕ) (y : X) → (j ≡ i → ⊥) → slice_get (slice_set xs i y) j ≡ slice_get xs j
+pub set_there : {X : Type 0} → (xs : List X) (i j : ℕ) (y : X) → (j ≡ i → ⊥) → slice_get (slice_set xs i y) j ≡ slice_get xs j
 set_there [] i j y ne = refl
 set_there (z ∷ zs) zero zero y ne = absurd (ne refl)
 set_there (z ∷ zs) zero (suc j) y ne = refl
 set_there (z ∷ zs) (suc i) zero y ne = refl
 set_there (z ∷ zs) (suc i) (suc j) y ne = set_there zs i j y (λ e. ne (ap suc e))
-
-inside : {X : Type 0} → (xs : List X) (i : ℕ) (x : X) → slice_get xs i ≡ Some x → i < length xs
-inside [] i x h = absurd (let z : None ≡ Some x = h in cc)
-inside (y ∷ ys) zero x h = omega arith
-inside (y ∷ ys) (suc i) x h = omega (arith, inside ys i x h)
 
 -- one of the actors 1 to 64
 is_one : (a : ℕ) → is_actor a ≡ false → (i : ℕ) → i < 64 → a ≢ i + 1

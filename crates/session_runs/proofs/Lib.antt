@@ -1,2 +1,3 @@
 pub mod AnsweredLemmas
 pub mod ClientLemmas
+pub mod OpeningLemmas

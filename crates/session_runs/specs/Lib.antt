@@ -1,1 +1,2 @@
 pub mod Clients
+pub mod Openings

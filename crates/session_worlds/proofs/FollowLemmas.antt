@@ -38,27 +38,18 @@ use Rattle.replay_log.specs.WorldTraces.{committed_by}
 use Rattle.tx_engine.specs.declared.job.Ask.{Ask as AnAsk}
 use Rattle.tx_engine.specs.declared.job.Ask.TheVariants as ask
 use Rattle.tx_engine.specs.Programs.{Program, Asks, Answers, GivesUp, Follows, after, asked, replies_of}
-use Rattle.tx_engine.proofs.ProgramLemmas.{follows_after}
+use Rattle.tx_engine.proofs.ProgramLemmas.{done_call, follows_after, give_up_call, same_call}
 
 -- it tells of no commit
 abbrev pub TellsNoCommit : {V : Type 0} → Notice V → Type 0
 TellsNoCommit (Answered a (answer.Committed n)) = ⊥
 TellsNoCommit n = Unit {0}
 
-same_call : {V : Type 0} (c d : Call V) → ask.Call c ≡ ask.Call d → c ≡ d
-same_call c d e = cc
-
 call_done : {V : Type 0} (c : Call V) → ask.Call c ≡ ask.Done → ⊥
 call_done c e = cc
 
 gone_done : {V : Type 0} → ◌≡◌ {A = AnAsk V} ask.GiveUp ask.Done → ⊥
 gone_done e = cc
-
-done_call : {V : Type 0} (c : Call V) → ask.Done ≡ ask.Call c → ⊥
-done_call c e = cc
-
-give_up_call : {V : Type 0} (c : Call V) → ask.GiveUp ≡ ask.Call c → ⊥
-give_up_call c e = cc
 
 none_some : {V : Type 0} (r : Record V) → None ≡ Some r → ⊥
 none_some r e = cc

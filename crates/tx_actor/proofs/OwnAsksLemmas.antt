@@ -24,6 +24,8 @@ use Rattle.tx_actor.specs.Running.{answered_of, asked_of}
 use Rattle.actor_words.proofs.AcceptsLemmas.{accepts}
 use Rattle.actor_copies.proofs.OutcomeLemmas.{answered_op}
 use Rattle.tx_actor.proofs.OwnsLemmas.{owns_accepted, owns_by}
+use Rattle.actor_copies.proofs.TakingLemmas.{at_place}
+use Rattle.tx_actor.proofs.PreparesLemmas.{same_outcome}
 
 module _ {V : Type 0} where
   -- a world that lies as w does, with a's shadow of there
@@ -77,20 +79,12 @@ module _ {V : Type 0} where
   cancel_same a w x = record { words = refl; blocks = refl; shadow = refl }
 
   -- ---- a call that goes on
-  there_at : (cs : List (CopyOf V)) (i : ℕ) → i < length cs → (c : CopyOf V) × (slice_get cs i ≡ Some c)
-  there_at [] i lt = absurd (omega (arith, lt))
-  there_at (c ∷ cs) zero lt = (c, refl)
-  there_at (c ∷ cs) (suc i) lt = there_at cs i (let h : suc i < suc (length cs) = lt in omega (arith, h))
-
-  some_outcome : (o p : Outcome V) → Some o ≡ Some p → o ≡ p
-  some_outcome o p e = cc
-
   accepted_owns : (w : World V) (a : ℕ) (x : Seat V) (u n : TxActor V) (call : running.Answered V) (left : Entries) → CanAccept u call
       → IsAcceptedAt call.place call.outcome u.copies.items n.copies.items → MayAccept w a call → OwnsCopies u w a
       → OwnsCopies n (comes_to w a x (answered_of call) left All).0 a
   accepted_owns w a x u n call left prepared at may own =
       let v : World V = (comes_to w a x (answered_of call) left All).0 in
-      let c = there_at u.copies.items call.place prepared.place in
+      let c = at_place u.copies.items call.place prepared.place in
       let here = prepared.own c.0 c.1 in
       let o = here.0 in
       let k = call.asked.collection in
@@ -103,7 +97,7 @@ module _ {V : Type 0} where
       owns_accepted w v a k o u n call.place call.outcome (refl, refl, shadow) here.1 at
       (λ d there. (
       let other = prepared.own d there in
-      let same : other.0 ≡ o = some_outcome other.0 o (sym other.1 ∙ here.1) in (
+      let same : other.0 ≡ o = same_outcome other.0 o (sym other.1 ∙ here.1) in (
         other.2,
         ap (answer_of d.copied) op ∙ (other.3 ∙ ap (λ (p : Outcome V). Some p) same),
       ))) own

@@ -56,6 +56,7 @@ use Rattle.tx_actor.proofs.OwnsLemmas.{once_set}
 use Rattle.tx_actor.proofs.PreparesLemmas.{there_kept}
 use Rattle.tx_actor.proofs.RunsLemmas.{seat_stage}
 use Rattle.tx_actor.proofs.StageLemmas.{StaysLaw, whole_stays}
+use Rattle.actor_copies.proofs.CopiesLemmas.{apart}
 
 -- what stays once the gate of a call is put back
 abbrev pub BackLaw : Type 0 → Type 0
@@ -63,10 +64,6 @@ BackLaw V =
     (w : World V) (a k : ℕ) (asked : contents.Asked V) (c : Option (Copied V))
     → (k ≢ asked.collection → IsOwn w a k c → IsOwn (put_back a w asked) a k c)
     × (IsReadOf w a k c → IsReadOf (put_back a w asked) a k c)
-
-apart : (j k : ℕ) → j ≢ k → (b : Bool) → (j == k) ≡ b → (j == k) ≡ false
-apart j k other true is = absurd (other (eqb-true j k is))
-apart j k other false is = is
 
 module _ {V : Type 0} where
   -- ---- each collection stands once

@@ -26,14 +26,11 @@ use Rattle.actor_copies.specs.Keeps.{IsOwnCopy, Knows}
 use Rattle.actor_copies.specs.Owns.{AreOfBlocks, AreOnce, IsOfBlock, IsOwn}
 use Rattle.tx_actor.specs.Owns.{OwnsCopies}
 use Rattle.actor_copies.specs.Kept.{copy_of}
-use Rattle.actor_copies.proofs.CopiesLemmas.{editions_stay, follows_accepted}
+use Rattle.actor_copies.proofs.CopiesLemmas.{apart, editions_stay, follows_accepted}
 use Rattle.actor_copies.proofs.KeptLemmas.{accepted_pieces}
 use Rattle.actor_copies.proofs.OwnLemmas.{own_joined, own_same}
 use Rattle.actor_copies.proofs.ReadLemmas.{same_holds, same_reads}
-
-apart : (j k : ℕ) → j ≢ k → (b : Bool) → (j == k) ≡ b → (j == k) ≡ false
-apart j k other true is = absurd (other (eqb-true j k is))
-apart j k other false is = is
+use Rattle.actor_copies.proofs.TakingLemmas.{set_there}
 
 differ : (j k : ℕ) → (j == k) ≡ false → j ≢ k
 differ j k e same = true≢false (sym (eq-eqb j k same) ∙ e)
@@ -80,11 +77,6 @@ module _ {V : Type 0} where
       let there = copy_at cs i c once.1 at in
       let other : x.collection ≢ c.collection = λ e. none_some c.copied (sym once.0 ∙ (ap (copy_of cs) e ∙ there)) in
       (set_other cs i x.collection c d at same other ∙ once.0, once_set cs i c d once.1 at same)
-
-  set_there : (cs : List (CopyOf V)) (i : ℕ) (c d : CopyOf V) → slice_get cs i ≡ Some c → slice_get (set cs i d) i ≡ Some d
-  set_there [] i c d at = let h : ⊥ = cc in absurd h
-  set_there (x ∷ cs) zero c d at = refl
-  set_there (x ∷ cs) (suc i) c d at = set_there cs i c d at
 
   -- ---- the world
   pub owns_by : (r u : TxActor V) (w v : World V) (a : ℕ) → u.copies.items ≡ r.copies.items → v.words ≡ w.words → v.blocks ≡ w.blocks

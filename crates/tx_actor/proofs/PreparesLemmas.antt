@@ -31,6 +31,7 @@ use Rattle.actor_copies.specs.Writes.{MayWrite, with_next}
 use Rattle.actor_words.proofs.BlocksLemmas.{up_to}
 use Rattle.actor_copies.proofs.AlikeLemmas.{KeptOf, all_kept, kept_answers, kept_at, kept_copy, kept_has, kept_holds, kept_length, kept_once, kept_own, kept_reads, read_of_kept}
 use Rattle.actor_copies.proofs.OutcomeLemmas.{answered_op, writes_nothing}
+use Rattle.actor_copies.proofs.TakingLemmas.{at_place, some_copy}
 
 next_locations : {V : Type 0} → (c : Copied V) (f : ℕ) (ls : List ℕ) → locations (with_next c f ls) ≡ shifted f ls
 unfolding locations
@@ -64,16 +65,8 @@ undeclared true ds none lt =
     absurd (omega (arith, len, lt))
 
 module _ {V : Type 0} where
-  pub some_copy : (c d : CopyOf V) → Some c ≡ Some d → c ≡ d
-  some_copy c d e = cc
-
-  same_outcome : (o p : Outcome V) → Some o ≡ Some p → o ≡ p
+  pub same_outcome : (o p : Outcome V) → Some o ≡ Some p → o ≡ p
   same_outcome o p e = cc
-
-  there_at : (cs : List (CopyOf V)) (i : ℕ) → i < length cs → (c : CopyOf V) × (slice_get cs i ≡ Some c)
-  there_at [] i lt = absurd (omega (arith, lt))
-  there_at (c ∷ cs) zero lt = (c, refl)
-  there_at (c ∷ cs) (suc i) lt = there_at cs i (let h : suc i < suc (length cs) = lt in omega (arith, h))
 
   -- what is put there is there
   pub ready_at : (cs : List (CopyOf V)) (i : ℕ) (c e d : CopyOf V) (o : Outcome V) → slice_get cs i ≡ Some c → IsReady o e.copied
@@ -236,7 +229,7 @@ module _ {V : Type 0} where
       × (u.words.declared ≡ false → length p.left.items ≤ u.words.reads.room)
   reads_there r u i f op c p at alike ready =
       let o = ready.outcome in
-      let d = there_at u.copies.items p.call.place ready.prepared.accept.place in
+      let d = at_place u.copies.items p.call.place ready.prepared.accept.place in
       let before = kept_at r.copies.items u.copies.items i d.0 alike.copies (ap (slice_get u.copies.items) (sym ready.at) ∙ d.1) in
       let e : before.0 ≡ c = some_copy before.0 c (sym before.1 ∙ at) in
       let same : length p.left.items ≡ length (reads_in d.0.copied o) =

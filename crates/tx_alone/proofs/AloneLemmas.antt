@@ -39,7 +39,7 @@ use Rattle.replay_log.specs.Worlds.{answers, ask_op, at_stage, calls_on, fits, h
 use Rattle.replay_log.specs.Worlds.{loads, may_ask, no_one, opened, outcome_at, outcome_now, reads, run, seated, sized_by, step_at}
 use Rattle.replay_log.specs.Worlds.{with_editions, with_piece}
 use Rattle.replay_log.proofs.AloneLemmas.{world_alone}
-use Rattle.replay_log.proofs.AnswerLemmas.{NoRefusal, loads_no, refused_step}
+use Rattle.replay_log.proofs.AnswerLemmas.{NoRefusal, choose_no, loads_no, refused_step}
 use Rattle.replay_log.proofs.AskLemmas.{asked_at, only_abort, under_way}
 use Rattle.replay_log.proofs.EventLemmas.{opened_linked, run-append, run_linked}
 use Rattle.replay_log.proofs.RefusalLemmas.{keeps_cause, world_causes}
@@ -65,10 +65,6 @@ same_cause c d e = cc
 
 module _ {V : Type 0} where
   -- ---- notices
-  choose_no : (b : Bool) (r s : After V) → NoRefusal r → NoRefusal s → NoRefusal (cond b r s)
-  choose_no true r s h g = h
-  choose_no false r s h g = g
-
   true_no : (b : Bool) (r s : After V) → b ≡ true → NoRefusal r → NoRefusal (cond b r s)
   true_no b r s e h = subst (λ (c : Bool). NoRefusal (cond c r s)) (sym e) h
 

@@ -56,7 +56,7 @@ use Rattle.replay_log.specs.Worlds.{reply_of, if_allowed, ask_op, commits, ask_a
 use Rattle.replay_log.specs.Worlds.{has_tried, with_piece, sized_by, has_loaded, written_homes, takes_gates}
 use Rattle.replay_log.specs.Worlds.{has_locked, goes_home, has_stored, has_released, has_cancelled, step_at, more_tries, happens, run}
 use Rattle.replay_log.proofs.ActionLemmas.{learns}
-use Rattle.replay_log.proofs.CountLemmas.{filter_shorter}
+use Rattle.replay_log.proofs.CountLemmas.{filter_shorter, length-shifted}
 use Rattle.replay_log.proofs.EventLemmas.{happens_linked}
 use Rattle.replay_log.proofs.PlaceLemmas.{SameTx, AfterRead, read_after}
 use Rattle.replay_log.proofs.SeatLemmas.{StageOk, Linked}
@@ -64,10 +64,6 @@ use Rattle.replay_log.proofs.SetLemmas.{SameSets, IsNoWrite, moved_is, take_word
 use Rattle.tx_alone.specs.Alone.{IsSmall, weight, weights, IsPlain, ArePlain}
 
 -- ---- how many locations a call has
-length-shifted : (f : ℕ) (is : List ℕ) → length (shifted f is) ≡ length is
-length-shifted f [] = refl
-length-shifted f (i ∷ is) = ap suc (length-shifted f is)
-
 module _ (V : Type 0) where
   map_few : (n : ℕ) (op : Op V) → IsSmall op → length (map_reads n op) ≤ weight op
   map_few n (Get k) s = omega arith

@@ -14,7 +14,7 @@ use Rattle.tx_engine.specs.Programs.{after, replies_of, AreAsked, Program, Asks,
 pub none_some : {A : Type 0} (x : A) → ◌≡◌ {A = Option A} None (Some x) → ⊥
 none_some x e = cc
 
-some_same : {A : Type 0} (x y : A) → Some x ≡ Some y → x ≡ y
+pub some_same : {A : Type 0} (x y : A) → Some x ≡ Some y → x ≡ y
 some_same x y e = cc
 
 call_is : {V : Type 0} (call : Call V) (s : Contents V) (reply : Reply V) → reply_of call s ≡ Some reply
@@ -46,13 +46,13 @@ follows_after (c ∷ cs) (Asks call next) q follows = follows_after cs (next c.1
 follows_after (c ∷ cs) (Answers a) q follows = absurd follows
 follows_after (c ∷ cs) GivesUp q follows = absurd follows
 
-same_call : {V : Type 0} (c d : Call V) → ask.Call c ≡ ask.Call d → c ≡ d
+pub same_call : {V : Type 0} (c d : Call V) → ask.Call c ≡ ask.Call d → c ≡ d
 same_call c d e = cc
 
-done_call : {V : Type 0} (c : Call V) → ask.Done ≡ ask.Call c → ⊥
+pub done_call : {V : Type 0} (c : Call V) → ask.Done ≡ ask.Call c → ⊥
 done_call c e = cc
 
-give_up_call : {V : Type 0} (c : Call V) → ask.GiveUp ≡ ask.Call c → ⊥
+pub give_up_call : {V : Type 0} (c : Call V) → ask.GiveUp ≡ ask.Call c → ⊥
 give_up_call c e = cc
 
 -- calls that were each asked after the replies before them are those that the program asks

@@ -58,6 +58,7 @@ use Rattle.tx_turns.specs.Ties.{Ties, Turned, commits_at, laid_in}
 use Rattle.tx_turns.proofs.DueLemmas.{becomes_is, clock_left, spot_is}
 use Rattle.tx_turns.proofs.FoundLemmas.{found_cell, learns_found, may_release, runs_found, step_gates, step_learns_cell, step_tells_cell, tells_found}
 use Rattle.tx_turns.proofs.TurnLemmas.{laid_as, own_held, own_place, own_stage, some_word, tied}
+use Rattle.actor_turns.proofs.StepLemmas.{first_is, knows_ready}
 
 some_first : (x : machine.Actor) (es : Entries) → IsSomeEntry es → first_store x es ≡ Rests → ⊥
 some_first x [] h e = h
@@ -74,22 +75,6 @@ module _ {V : Type 0} where
   -- what the request makes of a world
   abbrev pub ready_in : World V → ℕ → World V
   ready_in w a = acted w (asks a AskStore ∷ [])
-
-  pub first_is : (s : Stage V) → next_of s ≡ next.FirstStore → (ks : List ℕ) × (s ≡ Ready ks)
-  first_is (Ready ks) e = (ks, refl)
-  first_is (Loading o []) e = let z : ⊥ = cc in absurd z
-  first_is (Loading o (d ∷ es)) e = let z : ⊥ = cc in absurd z
-  first_is (Gating got [] n) e = let z : ⊥ = cc in absurd z
-  first_is (Gating got (k ∷ ks) n) e = let z : ⊥ = cc in absurd z
-  first_is (Homing []) e = let z : ⊥ = cc in absurd z
-  first_is (Homing (k ∷ ks)) e = let z : ⊥ = cc in absurd z
-  first_is (Returning []) e = let z : ⊥ = cc in absurd z
-  first_is (Returning (k ∷ ks)) e = let z : ⊥ = cc in absurd z
-  first_is s e = let z : ⊥ = cc in absurd z
-
-  knows_ready : (t : own.Stage V) (ks js : List ℕ) → stage_of t ≡ Ready ks → KnowsHomes t js
-  knows_ready (stage.Locking homes) ks js e = let z : ⊥ = cc in absurd z
-  knows_ready t ks js e = tt
 
   -- all that it has written is held, in the own world of an actor that is ready
   pub own_all_held : (key : Opening V) (a : ℕ) (u : World V) (ks : List ℕ) → IsReached (world_at key) a u → (u.seats a).stage ≡ Ready ks

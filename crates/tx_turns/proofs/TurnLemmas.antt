@@ -57,6 +57,7 @@ use Rattle.actor_turns.proofs.SeatLemmas.{next_as, seat_by, stage_by}
 use Rattle.tx_turns.specs.Ties.{IsOnWord, Ties, Turned, commits, commits_at, laid_in}
 use Rattle.tx_turns.proofs.DueLemmas.{clock_left, next_is, word_spot}
 use Rattle.tx_turns.proofs.FoundLemmas.{LocksAt, found_cell, knows_moved, learns_found, may_go_on, runs_found, step_gates, step_learns_cell, step_tells_cell, tells_found}
+use Rattle.actor_turns.proofs.StepLemmas.{running_made}
 
 -- a deed that does not rest is on a word
 pub some_word : (e : Deed) → (e ≡ Rests → ⊥) → (c : Cell) × (word_of e ≡ Some c)
@@ -81,22 +82,6 @@ module _ {V : Type 0} where
   pub ends_as : (u : World V) (a : ℕ) (r : TxActor V) → Runs a r u → ends_of a (u.seats a) (u.seats a).stage ≡ commits a r
   ends_as u a r runs = ap (λ (x : Seat V). ends_of a x x.stage) runs.0 ∙ ends_at a (u.seats a) r r.stage
 
-  -- the room of an actor that reads for no call hangs on no word
-  room_moved : (r : TxActor V) (y : Actor) (s : own.Stage V) → is_loading (stage_of s) ≡ false → HasRoom r s
-      → HasRoom (record r { words = y }) s
-  room_moved r y (stage.Reading l) quiet h = h
-  room_moved r y (stage.Trying asked tries) quiet h = h
-  room_moved r y (stage.Copying asked) quiet h = h
-  room_moved r y (stage.Loading o left) quiet h = absurd (true≢false quiet)
-  room_moved r y s quiet h = tt
-
-  pub running_moved : (v : BlocksView) (r : TxActor V) (y : Actor) → ((n : ℕ) → Fits n r.words → Fits n y)
-      → is_loading (stage_of r.stage) ≡ false → IsRunning v r → IsRunning v (record r { words = y })
-  running_moved v r y fits quiet h = record {
-    fits = fits _ h.fits;
-    room = room_moved r y r.stage quiet h.room;
-    names = h.names;
-    call = h.call;
   }
 
   locks_at : (n : ℕ) (bs : List Block) (x : Seat V) (y : machine.Actor) (z : Copy V) (t : own.Stage V) (p : Place)
@@ -260,22 +245,6 @@ module _ {V : Type 0} where
       × (notice_of a n ≡ (happens (found_at a w p f None) (Step a)).1)) (sym here) after)
 
   -- ---- an actor that has handed its calls out
-  room_made : (s : TxActor V) (m : Vec (Call V × Reply V) Global) (t : own.Stage V) → HasRoom s t → HasRoom (record s { made = m }) t
-  room_made s m (stage.Reading l) h = h
-  room_made s m (stage.Trying asked tries) h = h
-  room_made s m (stage.Copying asked) h = h
-  room_made s m (stage.Loading o left) h = record {
-    place = h.place;
-    room = h.room;
-    accept = record {
-      writes = h.accept.writes;
-      calls = h.accept.calls;
-      place = h.accept.place;
-      ready = h.accept.ready;
-      kept = h.accept.kept;
-      told = h.accept.told;
-      own = h.accept.own;
-    };
   }
   room_made s m t h = tt
 
@@ -286,12 +255,7 @@ module _ {V : Type 0} where
     live = h.live;
     reached = h.reached;
     runs = h.runs;
-    running = record {
-      fits = h.running.fits;
-      room = room_made s m s.stage h.running.room;
-      names = h.running.names;
-      call = h.running.call;
-    };
+    running = running_made (laid_in t) s m h.running;
   }
 
   -- the receipt of a transaction without writes

@@ -42,11 +42,9 @@ use Rattle.vac_world.proofs.PlayLemmas.{at_now, called_at, open_calls, replied_n
 use Rattle.vac_world.proofs.TurnLemmas.{client_as, client_at, on_turned, others_turned, own_told, parts_of}
 use Rattle.vac_world.specs.Running.{IsOpenWith}
 use Rattle.vac_world.proofs.TurnLemmas.{on_set, others_set, own_set, all_of, actor_at}
+use Rattle.tx_engine.proofs.ProgramLemmas.{same_call}
 
 -- ---- programs
-
-same_call : (c d : Call Entry) → ask.Call c ≡ ask.Call d → c ≡ d
-same_call c d e = cc
 
 done_call : (c : Call Entry) → ◌≡◌ {A = Asked Entry} ask.Done (ask.Call c) → ⊥
 done_call c e = cc

@@ -42,6 +42,7 @@ use Rattle.running_world.specs.Worlds.{WorldShown}
 use Rattle.word_machine.specs.World.{put}
 use Rattle.vac_world.proofs.TurnLemmas.{some_same}
 use Rattle.session_worlds.specs.Histories.{History, IsLawful}
+use Rattle.tx_engine.proofs.ProgramLemmas.{some_same}
 
 -- ---- stages
 

@@ -21,19 +21,8 @@ use Rattle.vac_world.specs.declared.client.Client.{Client}
 use Rattle.vac_world.specs.declared.world.VacWorld.{VacWorld}
 use Rattle.vac_world.proofs.PlayLemmas.{IsSound, sound_unplayed}
 use Rattle.std.specs.Prelude.{zero, suc}
-
-pub have_indexes : (tables : Holdings) → IsBalanced tables → HaveIndexes tables
-have_indexes tables balanced k =
-    let within : (queue k tables).head + length (queue k tables).tickets ≤ tables.next = balanced.queues_within k in
-    let next : tables.next ≤ INDEX_LIMIT = balanced.next_within in
-    omega (arith, within, next)
-
-suits : (n : ℕ) (tables : Holdings) → HaveIndexes tables → Suit (blocks_of (eight n) (state_of tables).held) (state_of tables).held
-suits n tables within =
-    (refl, tt, (refl, tt, (refl, tt, (refl, tt, (refl, tt, (refl, within Car, (refl, within Flight, (refl, within Room, tt))))))))
-
-stripes : (n : ℕ) (tables : Holdings) → IsStripeCount n → HaveStripes (blocks_of (eight n) (state_of tables).held)
-stripes n tables count = (count.0, (count.0, (count.0, (count.0, (count.0, (count.0, (count.0, (count.0, tt))))))))
+use Rattle.tx_engine.proofs.ProgramLemmas.{some_same}
+pub use Rattle.session_runs.proofs.OpeningLemmas.{have_indexes, stripes, suits}
 
 pub is_within : (n : ℕ) (tables : Holdings) → IsStripeCount n → IsWithin (eight n) 0 (state_of tables)
 is_within n tables count = record {
@@ -53,9 +42,6 @@ refused n tables cause count h = absurd h
 
 none_some : (x : Client) → None ≡ Some x → ⊥
 none_some x e = cc
-
-some_same : (x y : Client) → Some x ≡ Some y → x ≡ y
-some_same x y e = cc
 
 new_client : (cs : List Client) (i : ℕ) (c : Client) → AreNew cs → slice_get cs i ≡ Some c → c ≡ record { current = None; done = [] }
 new_client [] i c new got = absurd (none_some c got)

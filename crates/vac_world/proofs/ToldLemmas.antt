@@ -9,7 +9,7 @@ use Rattle.std.proofs.lemmas.List.{append_assoc, append-nil, get_or-set_other, g
 use Rattle.seq_model.specs.declared.record.Record.{Record}
 use Rattle.tx_engine.specs.Programs.{Answers, after, asked, replies_of}
 use Rattle.tx_engine.specs.declared.job.Ask.TheVariants as ask
-use Rattle.tx_engine.proofs.ProgramLemmas.{follows_after}
+use Rattle.tx_engine.proofs.ProgramLemmas.{follows_after, some_same}
 use Rattle.vac_model.specs.declared.action.Action.{Action}
 use Rattle.vac_model.specs.declared.action.ActionReply.{ActionReply}
 use Rattle.vacation_core.specs.declared.entry.Entry.{Entry}
@@ -38,9 +38,6 @@ drop_first [] zero y ys e = absurd (none_first y ys e)
 drop_first [] (suc n) y ys e = absurd (none_first y ys e)
 drop_first (x ∷ xs) zero y ys e = (ap Some (first_same x y xs ys e), rest_same x y xs ys e)
 drop_first (x ∷ xs) (suc n) y ys e = drop_first xs n y ys e
-
-some_same : {X : Type 0} → (x y : X) → Some x ≡ Some y → x ≡ y
-some_same x y e = cc
 
 -- ---- the actions of the records of an actor
 

@@ -38,6 +38,10 @@ use Rattle.vac_world.specs.declared.world.VacWorld.{VacWorld}
 use Rattle.vac_world.proofs.HearLemmas.{starve_hears, step_hears}
 use Rattle.vac_world.proofs.PlayLemmas.{May, at_now}
 use Rattle.std.proofs.lemmas.Bool.Decides.{nat_tests}
+pub use Rattle.running_world.proofs.WorldLemmas.{set_here, set_length, set_there}
+use Rattle.step_core.proofs.Lists.{some_at}
+use Rattle.tx_engine.proofs.ProgramLemmas.{some_same}
+pub use Rattle.session_runs.proofs.ClientLemmas.{reached}
 
 -- ---- places
 
@@ -50,25 +54,10 @@ actor_at i inside = by (i + 1) (omega arith) (omega arith)
 suc_apart : (i j : ℕ) → (j ≡ i → ⊥) → i + 1 ≡ j + 1 → ⊥
 suc_apart i j apart e = apart (omega arith)
 
-pub found : {X : Type 0} → (xs : List X) (i : ℕ) → i < length xs → (x : X) × (slice_get xs i ≡ Some x)
-found [] i lt = absurd (omega (arith, lt))
-found (x ∷ xs) zero lt = (x, refl)
-found (x ∷ xs) (suc i) lt = found xs i (omega (arith, lt))
-
 pub client_at : (i : ℕ) (v : VacWorld) → HasPlace i v → (c : Client) × (slice_get v.clients.items i ≡ Some c)
-client_at i v place = found v.clients.items i (let lt = place.inside in let n = place.count in omega (arith, lt, n))
+client_at i v place = some_at v.clients.items i (let lt = place.inside in let n = place.count in omega (arith, lt, n))
 
 -- ---- a turn of the running world
-
-pub reached : (h : History) → IsLawful h → IsReached (state_of h.tables) (world_in h)
-reached h l = record {
-  blocks = h.blocks;
-  clock = h.clock;
-  events = events_of h.turns;
-  stripes = l.stripes;
-  suits = l.suits;
-  world = refl;
-}
 
 pub told_of : (p : Play) (e : Event Entry) (c d : Parts Entry) (n : Notice Entry) → is_actor (whose e) ≡ true → IsLawful p.history
     → IsWorld c (world_in p.history) → Feeds c e d n → n ≡ told e p
@@ -191,26 +180,6 @@ own_told i v u p e n inside own f on =
 
 none_some : {X : Type 0} → (x : X) → None ≡ Some x → ⊥
 none_some x e = cc
-
-pub some_same : {X : Type 0} → (x y : X) → Some x ≡ Some y → x ≡ y
-some_same x y e = cc
-
-set_length : {X : Type 0} → (xs : List X) (i : ℕ) (v : X) → length (slice_set xs i v) ≡ length xs
-set_length [] i v = refl
-set_length (z ∷ zs) zero v = refl
-set_length (z ∷ zs) (suc i) v = ap suc (set_length zs i v)
-
-pub set_here : {X : Type 0} → (xs : List X) (i : ℕ) (x y : X) → slice_get xs i ≡ Some x → slice_get (slice_set xs i y) i ≡ Some y
-set_here [] i x y h = absurd (none_some x h)
-set_here (z ∷ zs) zero x y h = refl
-set_here (z ∷ zs) (suc i) x y h = set_here zs i x y h
-
-pub set_there : {X : Type 0} → (xs : List X) (i j : ℕ) (y : X) → (j ≡ i → ⊥) → slice_get (slice_set xs i y) j ≡ slice_get xs j
-set_there [] i j y ne = refl
-set_there (z ∷ zs) zero zero y ne = absurd (ne refl)
-set_there (z ∷ zs) zero (suc j) y ne = refl
-set_there (z ∷ zs) (suc i) zero y ne = refl
-set_there (z ∷ zs) (suc i) (suc j) y ne = set_there zs i j y (λ e. ne (ap suc e))
 
 -- the running world has changed in the client at place i alone
 pub on_set : (i : ℕ) (v u : VacWorld) (p : Play) (d : Client) → u.world ≡ v.world → u.aborted ≡ v.aborted

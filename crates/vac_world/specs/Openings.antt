@@ -7,10 +7,7 @@ use Rattle.vac_model.specs.Holdings.{Holdings}
 use Rattle.vacation_core.specs.Holding.{state_of}
 use Rattle.vac_world.specs.declared.client.Client.{Client}
 use Rattle.vac_world.specs.Plays.{Play, unplayed}
-
--- each of the five maps and three queues has so many stripes
-abbrev pub eight : ℕ → List ℕ
-eight n = n ∷ n ∷ n ∷ n ∷ n ∷ n ∷ n ∷ n ∷ []
+pub use Rattle.session_runs.specs.Openings.{eight}
 
 -- nothing has happened yet, on these tables
 abbrev pub unplayed_on : ℕ → Holdings → Play

@@ -29,6 +29,7 @@ use Rattle.atomic_steps.specs.Bases.{IsBaseOf}
 use Rattle.world_table.specs.Openings.{AreOpened, AreStripeCounts, HasShape, IsOpened, blocks_of, world_of}
 use Rattle.world_table.specs.Tables.{HasTable, holder}
 use Rattle.world_table.specs.declared.table.Table.{Table}
+use Rattle.atomic_steps.proofs.Bases.{in_range}
 
 module _ {V : Type 0} where
   -- the locations behind one more collection
@@ -248,20 +249,6 @@ module _ {V : Type 0} where
   as_many (n ∷ ns) [] same = absurd (omega (arith, same))
   as_many (n ∷ ns) (h ∷ hs) same = ap suc (as_many ns hs (omega (arith, same)))
 
-in_no_word : (w : ℕ) (bs : List Block) (l : ℕ) → is_plain w bs l ≡ false → (w ≤ l) × (l < end_of w bs)
-in_no_word w bs l plain =
-    elim (cases_lt l w) [
-      | inl low ↦ absurd (let z : true ≡ false = sym (ap (λ b. b || not (nat_lt l (end_of w bs))) (lt-ltb l w low)) ∙ plain in cc)
-      | inr high ↦ (
-        high,
-        elim (cases_lt l (end_of w bs)) [
-          | inl low ↦ low
-          | inr above ↦ absurd (let z : true ≡ false = sym (ap (λ b. b || not (nat_lt l (end_of w bs))) (le-ltb l w high)
-              ∙ ap (λ b. not b) (le-ltb l (end_of w bs) above)) ∙ plain in cc)
-        ],
-      )
-    ]
-
 zeros : (n i : ℕ) → let none : ℕ = 0 in get_or (replicate n none) i none ≡ none
 zeros n i =
     let none : ℕ = 0 in
@@ -308,7 +295,7 @@ module _ {V : Type 0} where
         let w = length s.words in
         let bs = blocks_of ns s.held in
         let z = opened_at ns s.held t.bases.items k base opened got in
-        let inside = in_no_word w bs l plain in (
+        let inside = in_range w bs l plain in (
           behind w bs s.held l inside.0
               ∙ shown_home w ns s.held k z.count l z.held inside.0 inside.1 home z.counted z.found
               ∙ ap (part z.count (l - first_of w bs k)) (viewed_is z.held (shown_of base) z.opened.shown)

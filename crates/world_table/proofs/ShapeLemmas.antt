@@ -12,13 +12,9 @@ use Rattle.replay_log.specs.Base.{editions_of, shown_of}
 use Rattle.replay_log.specs.Contents.{Block, block_of}
 use Rattle.replay_log.specs.Parts.{kind_of}
 use Rattle.atomic_steps.specs.Bases.{IsBaseOf, IsFolded}
-use Rattle.atomic_steps.proofs.Bases.{kind_stays}
+use Rattle.atomic_steps.proofs.Bases.{kind_stays, raised_long}
 use Rattle.world_table.specs.Openings.{HasShape}
 use Rattle.world_table.specs.declared.table.Table.{Table}
-
-raised_long : (ws es : List ℕ) → length (raised ws es) ≡ length es
-raised_long [] es = refl
-raised_long (w ∷ ws) es = raised_long ws (set es w (get_or es w 0 + 1)) ∙ length-set es w (get_or es w 0 + 1)
 
 module _ {V : Type 0} (t u : Table V) (n : ℕ) (bs : List Block) where
   -- where no base has changed
