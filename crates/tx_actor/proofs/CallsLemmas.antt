@@ -54,7 +54,8 @@ use Rattle.actor_copies.proofs.FootprintLemmas.{sized}
 use Rattle.actor_copies.proofs.KeptLemmas.{first_at}
 use Rattle.tx_actor.proofs.OwnAsksLemmas.{comes_owns}
 use Rattle.tx_actor.proofs.OwnsLemmas.{owns_by}
-use Rattle.tx_actor.proofs.PreparesLemmas.{alike_owns, alike_seat, some_copy}
+use Rattle.actor_copies.proofs.TakingLemmas.{some_copy}
+use Rattle.tx_actor.proofs.PreparesLemmas.{alike_owns, alike_seat}
 
 -- the writes of an accepted call are those that are ready
 written_same : {V : Type 0} → (c : Copied V) (f : ℕ) (editions : ℕ → ℕ) (ls : List ℕ) (y : machine.Actor)

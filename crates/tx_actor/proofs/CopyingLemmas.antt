@@ -45,7 +45,7 @@ use Rattle.actor_copies.specs.Writes.{with_next}
 use Rattle.actor_copies.proofs.CallingLemmas.{not_read}
 use Rattle.actor_copies.proofs.FootprintLemmas.{sized}
 use Rattle.actor_copies.proofs.GoingLemmas.{GoesOn, fresh}
-use Rattle.actor_copies.proofs.TakingLemmas.{kept_same, taken_copies, taken_goes_back, taken_in_block, taken_pieces, taken_there}
+use Rattle.actor_copies.proofs.TakingLemmas.{kept_same, some_copy, taken_copies, taken_goes_back, taken_in_block, taken_pieces, taken_there}
 use Rattle.tx_actor.specs.declared.actor.Asked.{Asked}
 use Rattle.tx_actor.specs.declared.actor.Stage.TheVariants as stage
 use Rattle.tx_actor.specs.declared.actor.Told.{Told}
@@ -68,7 +68,6 @@ use Rattle.tx_actor.proofs.KeepingLemmas.{keeps_asked, keeps_through}
 use Rattle.tx_actor.proofs.RoomLemmas.{alike_keeps, can_go_on, same_keeps}
 use Rattle.tx_actor.proofs.LoadLemmas as load
 use Rattle.tx_actor.proofs.LoadLemmas.{comes_at}
-use Rattle.tx_actor.proofs.PreparesLemmas.{some_copy}
 
 -- the store of a gate leaves the editions
 editions_stay : {X Out : Type 0} (s : Boosted X Out) (gates : ℕ → Option ℕ) (shadows : ℕ → Shadow X Out) (b : Bool)

@@ -82,8 +82,6 @@ module _ {V : Type 0} where
   pub ends_as : (u : World V) (a : ℕ) (r : TxActor V) → Runs a r u → ends_of a (u.seats a) (u.seats a).stage ≡ commits a r
   ends_as u a r runs = ap (λ (x : Seat V). ends_of a x x.stage) runs.0 ∙ ends_at a (u.seats a) r r.stage
 
-  }
-
   locks_at : (n : ℕ) (bs : List Block) (x : Seat V) (y : machine.Actor) (z : Copy V) (t : own.Stage V) (p : Place)
       → StageOk n bs x y z (stage_of t) p → LocksAt t p
   locks_at n bs x y z (stage.Locking homes) p h = h.0
@@ -245,9 +243,6 @@ module _ {V : Type 0} where
       × (notice_of a n ≡ (happens (found_at a w p f None) (Step a)).1)) (sym here) after)
 
   -- ---- an actor that has handed its calls out
-  }
-  room_made s m t h = tt
-
   pub ties_made : (t : TxTable V) (u : table.Seat V) (s : TxActor V) (m : Vec (Call V × Reply V) Global) → Ties t u s
       → Ties t u (record s { made = m })
   ties_made t u s m h = record {

@@ -5,7 +5,7 @@ use Rattle.tx_actor.specs.declared.actor.Asked.{Asked}
 use Rattle.tx_actor.specs.declared.prepares.Prepared.{Prepared}
 use Rattle.tx_actor.specs.declared.prepares.Readied.{Readied}
 use Rattle.tx_actor.specs.Prepares.{AreReadied, IsReadyCall}
-use Rattle.tx_actor.proofs.PreparesLemmas.{some_copy}
+use Rattle.actor_copies.proofs.TakingLemmas.{some_copy}
 use Rattle.tx_actor.proofs.actor.TxActor.prepares.Goals as goal
 
 pub returns-in-Some-clause-ok : goal.returns-in-Some-clause-ok

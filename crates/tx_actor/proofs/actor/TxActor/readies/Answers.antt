@@ -5,7 +5,8 @@ use Rattle.actor_copies.specs.Copies.{answer_of}
 use Rattle.actor_copies.specs.Footprints.{reads_in, with_known, writes_in}
 use Rattle.tx_actor.specs.Prepares.{HasRoomFor, fits}
 use Rattle.actor_copies.specs.Writes.{with_next}
-use Rattle.tx_actor.proofs.PreparesLemmas.{alike_itself, known_length, prepared_by, some_copy}
+use Rattle.actor_copies.proofs.TakingLemmas.{some_copy}
+use Rattle.tx_actor.proofs.PreparesLemmas.{alike_itself, known_length, prepared_by}
 use Rattle.tx_actor.proofs.actor.TxActor.readies.Goals as goal
 
 pub returns-in_err-call-clause-alike : goal.returns-in_err-call-clause-alike
