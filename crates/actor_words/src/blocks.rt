@@ -71,6 +71,7 @@ pub struct Blocks {
 impl Model for Blocks {
     ghost use Rattle.std.specs.Prelude.{◌≤◌, length, map};
     ghost use Rattle.actor_words.specs.Blocks.{AreEnds, BlocksView, block_of};
+    ghost use Rattle.actor_words.specs.declared.blocks.TheConstants.{COLLECTION_LIMIT};
 
     ghost Value = { BlocksView };
 
