@@ -37,7 +37,7 @@ use Rattle.transactions.proofs.NextLemmas.{no_load}
 use Rattle.transactions.specs.Driven.{Driven, HasFound, HasTold, IsTrue, IsTurnFrom, as_receipts, seat_in, standing}
 use Rattle.transactions.specs.Requests.{BeginsTo, IsBeginTold, IsBegun, IsNotBegun, KeepsReceipts, begin_of}
 use Rattle.tx_turns.proofs.AskedLemmas.{acts_taken}
-use Rattle.tx_turns.proofs.FirstLemmas.{first_is}
+use Rattle.actor_turns.proofs.StepLemmas.{first_is}
 use Rattle.tx_turns.proofs.TurnLemmas.{own_stage}
 use Rattle.tx_turns.specs.Asked.{HasAsked}
 use Rattle.tx_turns.specs.Ties.{Ties}

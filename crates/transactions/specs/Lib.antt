@@ -1,3 +1,5 @@
 pub mod Driven
 pub mod Requests
 pub mod Ready
+pub mod Closing
+pub mod Borrowed

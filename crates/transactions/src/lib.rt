@@ -10,10 +10,13 @@ mod commits;
 mod driving;
 mod requests;
 mod seats;
+mod shares;
 mod turns;
+mod tx;
 
 pub use calls::{read, write};
 pub use commits::commit;
 pub use driving::drive;
 pub use requests::{abort, begin, begin_read};
 pub use seats::TxSeat;
+pub use tx::Tx;

@@ -1,0 +1,17 @@
+use Rattle.std.proofs.Common.{subst, sym}
+use Rattle.tx_table.specs.Seated.{Rests, actor, blocks_in, contents_in, kept, opening_of, view, words_in}
+use Rattle.transactions.specs.Closing.{IsLeftBy}
+use Rattle.transactions.proofs.CloseLemmas.{left_by}
+use Rattle.transactions.proofs.ShareLemmas.{rests_kept}
+use Rattle.transactions.proofs.seats.TxSeat.close.Goals as goal
+
+pub close-requires-clause-rests : goal.close-requires-clause-rests
+close-requires-clause-rests g c = subst (λ s. Rests (actor s) (kept (opening_of c.args.table) s)) (sym c.into_seat.ensures)
+    (rests_kept c.args.table c.args.self c.requires.ready)
+
+pub returns-clause-left : goal.returns-clause-left
+returns-clause-left g c =
+    let t = c.args.table in
+    let e = c.close.ensures in
+    subst (λ s. IsLeftBy (contents_in t) (view s).receipts c.close.result) c.into_seat.ensures
+    (left_by (words_in t) (blocks_in t) (contents_in t) (view c.into_seat.result) c.close.result e.words e.locations e.collections e.closes)

@@ -1,0 +1,17 @@
+use Rattle.std.proofs.Common.{◌≡◌, ◌+◌, ◌<◌, ap, arith, refl, subst, sym}
+use Rattle.tx_table.specs.Seated.{Rests, actor, kept, opening_of, view}
+use Rattle.transactions.proofs.ShareLemmas.{rests_kept, stays_ready}
+use Rattle.transactions.proofs.seats.TxSeat.join.Goals as goal
+
+pub join-requires-clause-rests : goal.join-requires-clause-rests
+join-requires-clause-rests g c = subst (λ s. Rests (actor s) (kept (opening_of c.args.table.now) s)) (sym c.into_seat.ensures)
+    (rests_kept c.args.table.now c.args.other c.requires.other)
+
+pub returns-clause-ready : goal.returns-clause-ready
+returns-clause-ready g c =
+    let e = c.join.ensures in
+    let live : 0 < (view c.join.new.seat).shares =
+    (let more : (view c.join.new.seat).shares ≡ (view c.args.self.now.seat).shares + (view c.into_seat.result).shares =
+    ap (λ m. m.0.shares) e.both in
+    let low = c.requires.ready.ties.live in omega (arith, more, low)) in
+    stays_ready c.args.table.now c.args.self.now _ c.requires.ready refl e.same.0 e.same.1 e.acts live (ap (λ m. m.1) e.both)

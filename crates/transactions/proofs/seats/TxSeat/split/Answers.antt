@@ -1,0 +1,16 @@
+use Rattle.std.proofs.Common.{◌≡◌, ◌-◌, ◌<◌, ◌∙◌, ap, arith, refl}
+use Rattle.tx_table.specs.Seated.{view}
+use Rattle.transactions.proofs.ShareLemmas.{stays_ready}
+use Rattle.transactions.proofs.seats.TxSeat.split.Goals as goal
+
+pub returns-clause-ready : goal.returns-clause-ready
+returns-clause-ready g c =
+    let e = c.split-seat.ensures in
+    let live : 0 < (view c.split-seat.new.seat).shares =
+    (let fewer : (view c.split-seat.new.seat).shares ≡ (view c.args.self.now.seat).shares - c.args.shares =
+    ap (λ m. m.0.shares) e.left in
+    let room = c.requires.fewer in omega (arith, fewer, room)) in (
+      stays_ready c.args.table.now c.args.self.now _ c.requires.ready refl (e.same.0 ∙ c.requires.ready.ties.owns) e.same.1 e.acts live
+          (ap (λ m. m.1) e.left),
+      c.new.ensures.ready,
+    )

@@ -1,0 +1,22 @@
+-- A transaction that borrows its seat, and how it begins there.
+use Rattle.std.specs.Prelude.{ℕ, ◌≤◌, IfErr, Result}
+use Rattle.seq_model.specs.declared.refusal.Refusal.{Refusal}
+use Rattle.replay_log.specs.Seats.{World}
+use Rattle.tx_table.specs.declared.table.TxTable.{TxTable}
+use Rattle.tx_table.specs.Seated.{opening_of}
+use Rattle.transactions.specs.declared.seats.TxSeat.{TxSeat}
+use Rattle.transactions.specs.Ready.{IsReady}
+use Rattle.transactions.specs.Requests.{IsBegun, IsNotBegun, KeepsReceipts}
+
+module _ {V : Type 0} where
+  -- It is open, and has no calls; it has begun at the clock that its seat knows by then, which is no lower than the seat's last number.
+  pub record IsBegunSince (o : World V) (s u : TxSeat V) : Type 0 where
+    pub rv : ℕ
+    pub begun : IsBegun o s.seat u.seat rv
+    pub last : s.seat.last ≤ rv
+
+  -- There is none, and the seat that was lent is ready again, with its receipts.
+  pub record IsRefusedBegin {A : Type 0} (t : TxTable V) (s : TxSeat V) (r : Result A Refusal) (u : TxSeat V) : Type 0 where
+    pub ready : IsReady t u
+    pub keeps : KeepsReceipts s.seat u.seat
+    pub refused : IfErr r (IsNotBegun (opening_of t) s.seat u.seat)

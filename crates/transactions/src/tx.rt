@@ -1,0 +1,136 @@
+//! A transaction that borrows the seat at which it runs.
+ghost use Rattle.std.specs.Prelude.{◌≡◌, ◌<◌, ◌≤◌, Err, IfErr, IfOk, OnErr, true};
+ghost use Rattle.std.specs.Borrow.{RestsIfErr, sem};
+ghost use Rattle.seq_model.specs.declared.call.Op.TheVariants as op;
+ghost use Rattle.seq_model.specs.declared.refusal.Refusal.TheVariants.{NoTransaction};
+ghost use Rattle.tx_table.specs.Seated.{opening_of};
+ghost use Rattle.tx_phases.specs.Phases.{Rests, Stands};
+ghost use Rattle.transactions.specs.contracts.seats.TxSeat.{the_row};
+ghost use Rattle.transactions.specs.Borrowed.{IsBegunSince, IsRefusedBegin};
+ghost use Rattle.transactions.specs.Driven.{standing};
+ghost use Rattle.transactions.specs.Ready.{HasBegunSince, IsReady};
+ghost use Rattle.transactions.specs.Requests.{CallsTo, HasCommitted, IsBegun, IsEnded, IsOpen, KeepsReceipts, has_written};
+
+use crate::seats::TxSeat;
+use seq_model::{Record, Refusal, Reply, Value};
+use tx_table::TxTable;
+
+/// A transaction at a seat of a table. One that is dropped while it is open holds no lock and no gate; it stays open until its seat begins
+/// the next one, which aborts it first.
+#[derive(Drop)]
+pub struct Tx<'a, V> {
+    pub(crate) table: &'a TxTable<V>,
+    pub(crate) seat: &'a mut TxSeat<V>,
+}
+
+impl<'a, V: Value> Tx<'a, V> {
+    fn over(seat: &'a mut TxSeat<V>, table: &'a TxTable<V>) -> Tx<'a, V>
+        ensures same_reference { result.seat.ghost_name ≡ seat.entry.ghost_name }
+        ensures same_table { result.table.now ≡ table.now }
+        ensures same_seat { result.seat.now ≡ seat.old }
+    {
+        Tx { table, seat }
+    }
+
+    /// A transaction begins; one that was left open at the seat is aborted first. `Exhausted` at the limit of the clock, and there is none.
+    pub fn begin(seat: &'a mut TxSeat<V>, table: &'a TxTable<V>) -> Result<Tx<'a, V>, Refusal>
+        requires ready { IsReady table.now seat.old }
+        ensures* refused { sem 𝓛 (RestsIfErr (the_row V.row) seat.entry (λ tx. tx.seat.ghost_name) result
+            (IsRefusedBegin table.now seat.old result)) }
+        ensures same_reference { IfOk result (λ tx. tx.seat.ghost_name ≡ seat.entry.ghost_name) }
+        ensures same_table { IfOk result (λ tx. tx.table.now ≡ table.now) }
+        ensures ready { IfOk result (λ tx. IsReady table.now tx.seat.now) }
+        ensures since { IfOk result (λ tx. HasBegunSince table.now tx.seat.now) }
+        ensures keeps { IfOk result (λ tx. KeepsReceipts seat.old.seat tx.seat.now.seat) }
+        ensures begun { IfOk result (λ tx. IsBegunSince (opening_of table.now) seat.old tx.seat.now) }
+    {
+        seat.begin(table)?;
+        Ok(Tx::over(seat, table))
+    }
+
+    /// A transaction begins that writes nothing, as `begin` does.
+    pub fn begin_read(seat: &'a mut TxSeat<V>, table: &'a TxTable<V>) -> Result<Tx<'a, V>, Refusal>
+        requires ready { IsReady table.now seat.old }
+        ensures* refused { sem 𝓛 (RestsIfErr (the_row V.row) seat.entry (λ tx. tx.seat.ghost_name) result
+            (IsRefusedBegin table.now seat.old result)) }
+        ensures same_reference { IfOk result (λ tx. tx.seat.ghost_name ≡ seat.entry.ghost_name) }
+        ensures same_table { IfOk result (λ tx. tx.table.now ≡ table.now) }
+        ensures ready { IfOk result (λ tx. IsReady table.now tx.seat.now) }
+        ensures since { IfOk result (λ tx. HasBegunSince table.now tx.seat.now) }
+        ensures keeps { IfOk result (λ tx. KeepsReceipts seat.old.seat tx.seat.now.seat) }
+        ensures begun { IfOk result (λ tx. IsBegunSince (opening_of table.now) seat.old tx.seat.now) }
+    {
+        seat.begin_read(table)?;
+        Ok(Tx::over(seat, table))
+    }
+
+    /// A word is read, as `TxSeat::read` has it.
+    pub fn read(&mut self, word: u32) -> Result<Reply<V>, Refusal>
+        requires ready { IsReady self.old.table.now self.old.seat.now }
+        requires since { HasBegunSince self.old.table.now self.old.seat.now }
+        ensures same_reference { self.new.seat.ghost_name ≡ self.old.seat.ghost_name }
+        ensures same_table { self.new.table.now ≡ self.old.table.now }
+        ensures ready { IsReady self.new.table.now self.new.seat.now }
+        ensures since { HasBegunSince self.new.table.now self.new.seat.now }
+        ensures calls { IsOpen (opening_of self.old.table.now) self.old.seat.now.seat →
+            CallsTo (opening_of self.old.table.now) self.old.seat.now.seat (record { target = word; op = op.Read })
+            self.new.seat.now.seat result }
+        ensures none { standing (opening_of self.old.table.now) self.old.seat.now.seat ≡ Rests →
+            (result ≡ Err NoTransaction) × (self.new.seat.now ≡ self.old.seat.now) }
+    {
+        self.seat.read(self.table, word)
+    }
+
+    /// A word is written, once the transaction commits, as `TxSeat::write` has it.
+    pub fn write(&mut self, word: u32, value: u64) -> Result<Reply<V>, Refusal>
+        requires ready { IsReady self.old.table.now self.old.seat.now }
+        requires since { HasBegunSince self.old.table.now self.old.seat.now }
+        ensures same_reference { self.new.seat.ghost_name ≡ self.old.seat.ghost_name }
+        ensures same_table { self.new.table.now ≡ self.old.table.now }
+        ensures ready { IsReady self.new.table.now self.new.seat.now }
+        ensures since { HasBegunSince self.new.table.now self.new.seat.now }
+        ensures calls { IsOpen (opening_of self.old.table.now) self.old.seat.now.seat →
+            CallsTo (opening_of self.old.table.now) self.old.seat.now.seat (record { target = word; op = op.Write value })
+            self.new.seat.now.seat result }
+        ensures none { standing (opening_of self.old.table.now) self.old.seat.now.seat ≡ Rests →
+            (result ≡ Err NoTransaction) × (self.new.seat.now ≡ self.old.seat.now) }
+    {
+        self.seat.write(self.table, word, value)
+    }
+
+    /// The transaction commits, with its receipt, as `TxSeat::commit` has it.
+    pub fn commit(self) -> Result<Record<V>, Refusal>
+        requires ready { IsReady self.table.now self.seat.now }
+        requires since { HasBegunSince self.table.now self.seat.now }
+        ensures ready { IsReady self.entry.table.now self.exit.1.0.now }
+        ensures rests { standing (opening_of self.entry.table.now) self.exit.1.0.now.seat ≡ Rests }
+        ensures committed { IfOk result
+            (HasCommitted (opening_of self.entry.table.now) self.entry.seat.now.seat self.exit.1.0.now.seat) }
+        ensures calls { IfOk result (λ receipt.
+            standing (opening_of self.entry.table.now) self.entry.seat.now.seat ≡ Stands receipt.calls) }
+        ensures writes { IfOk result (λ receipt.
+            receipt.writes ≡ has_written (opening_of self.entry.table.now) self.entry.seat.now.seat) }
+        ensures above { IfOk result (λ receipt. receipt.writes ≡ true → self.entry.seat.now.seat.last < receipt.number) }
+        ensures last { IfOk result (λ receipt. (self.entry.seat.now.seat.last ≤ receipt.number)
+            × (self.exit.1.0.now.seat.last ≡ receipt.number)) }
+        ensures keeps { OnErr result (KeepsReceipts self.entry.seat.now.seat self.exit.1.0.now.seat) }
+        ensures ended { IfErr result (λ cause. IsOpen (opening_of self.entry.table.now) self.entry.seat.now.seat →
+            IsEnded (opening_of self.entry.table.now) self.entry.seat.now.seat self.exit.1.0.now.seat cause) }
+        ensures none { standing (opening_of self.entry.table.now) self.entry.seat.now.seat ≡ Rests →
+            (result ≡ Err NoTransaction) × (self.exit.1.0.now ≡ self.entry.seat.now) }
+    {
+        let Tx { table, seat } = self;
+        seat.commit(table)
+    }
+
+    /// The transaction ends without a commit. Where it has ended already, nothing is done.
+    pub fn abort(self)
+        requires ready { IsReady self.table.now self.seat.now }
+        ensures ready { IsReady self.entry.table.now self.exit.1.0.now }
+        ensures rests { standing (opening_of self.entry.table.now) self.exit.1.0.now.seat ≡ Rests }
+        ensures keeps { KeepsReceipts self.entry.seat.now.seat self.exit.1.0.now.seat }
+    {
+        let Tx { table, seat } = self;
+        seat.abort(table);
+    }
+}
