@@ -40,7 +40,6 @@ use Rattle.vac_world.proofs.TurnLemmas.{all_of, client_as, on_set, on_turned, ot
 use Rattle.running_world.specs.Parts.{IsWorld}
 use Rattle.running_world.specs.Worlds.{WorldShown}
 use Rattle.word_machine.specs.World.{put}
-use Rattle.vac_world.proofs.TurnLemmas.{some_same}
 use Rattle.session_worlds.specs.Histories.{History, IsLawful}
 use Rattle.tx_engine.proofs.ProgramLemmas.{some_same}
 
