@@ -72,7 +72,7 @@ module _ {V : Type 0} where
         λ b there i lt. (
         let at = first_of w.words w.blocks k + i in
         let apart : at ≡ l → ⊥ = λ same. other (sym (home_is w.words w.blocks k i b there lt)
-            ∙ (ap (home_of w.words w.blocks) same ∙ home)) in
+        ∙ (ap (home_of w.words w.blocks) same ∙ home)) in
         h.reads.1 at apart ∙ is b there i lt)
 
     step_of : (st : Stage V) → IsHomed w.words w.blocks st → StepBy w a st f → StepStays w a st f

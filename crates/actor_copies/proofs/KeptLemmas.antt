@@ -34,7 +34,7 @@ module _ {V : Type 0} where
   none_more (d ∷ cs) zero k c at other none =
       let e : d ≡ c = cc in
       cond-false (k == d.collection) (Some d.copied) None (ap (λ (z : CopyOf V). k == z.collection) e
-          ∙ apart c.collection k other (k == c.collection) refl)
+      ∙ apart c.collection k other (k == c.collection) refl)
   none_more (d ∷ cs) (suc i) k c at other none = by (k == d.collection) (none_more cs i k c at other) none
     where
       by : (b : Bool) → (copy_of (take i cs) k ≡ None → copy_of (take (suc i) cs) k ≡ None)
@@ -71,7 +71,7 @@ module _ {V : Type 0} where
   same_pieces (x ∷ cs) zero c d at same pieces k q =
       let e : x ≡ c = cc in
       let here : copies.has_piece d.copied q ≡ copies.has_piece x.copied q = pieces q
-          ∙ ap (λ (z : CopyOf V). copies.has_piece z.copied q) (sym e) in
+      ∙ ap (λ (z : CopyOf V). copies.has_piece z.copied q) (sym e) in
       let named : d.collection ≡ x.collection = same ∙ ap (λ (z : CopyOf V). z.collection) (sym e) in
       ap (λ (j : ℕ). has_piece (cond (k == j) (Some d.copied) (copy_of cs k)) q) named ∙ by (k == x.collection) here
     where

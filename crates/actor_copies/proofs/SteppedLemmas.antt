@@ -144,7 +144,7 @@ module _ {V : Type 0} where
     reading : (l : ℕ) → StageIn (Reading l) → StepBy w a (Reading l) (step_at w a x (Reading l))
     reading l ok =
         let after = after_read y (learns w.boosted.words y (plan y y.place)) l (word_notice w a)
-            (read_after w.boosted.words y l y.place ok.0) in
+        (read_after w.boosted.words y l y.place ok.0) in
         read_stays n w moved a x l (word_notice w a)
         (moved_to (content w.words w.blocks) n w.boosted a (quiet_no_begin y.place (reading_quiet l y.place ok.0))
         (λ i m. after.1 i (is_other n i l ok.1 m)))

@@ -290,7 +290,7 @@ module _ {V : Type 0} where
   pub taken_pieces : (b : Block) (base : Base V) (op : Op V) (x : Found V) (k i : ℕ) (before now : List (CopyOf V)) → IsBaseOf b base
       → IsFound base op x → ((c : Copied V) → copy_of before k ≡ Some c → kind_of (shown_of (base_in c)) ≡ b.kind)
       → holds_of (copy_of before k) op ≡ false → (t : IsTakenAt b.stripes k x i before now) → holds_call t.copy op ≡ true
-          → (j : ℕ) (q : Piece)
+      → (j : ℕ) (q : Piece)
       → has_piece (copy_of now j) q ≡ cond ((j == k) && is_piece (piece_of b.kind op) q) true (has_piece (copy_of before j) q)
   taken_pieces b base op x k i before now is found of unheld t holds j q =
       let p = is_piece (piece_of b.kind op) q in

@@ -139,7 +139,7 @@ module _ {V : Type 0} where
   -- ---- what is taken, in a world that events have reached
   module _ (taken : CopiesFor V) (on : CopiesReached V) (sized : SizesCopies V) (v : BlocksView) (o : Contents V) (w : World V) (a : ℕ)
       (r : TxActor V) (base : Base V) (asked : Asked V) (h : IsReached o w) (laid : IsLaid v w) (running : IsRunning v r)
-          (runs : Runs a r w)
+      (runs : Runs a r w)
       (copies : HasCopies r w a) (st : r.stage ≡ stage.Copying asked) (is : IsBaseIn v w asked.collection base) where
     abbrev k : ℕ
     k = asked.collection

@@ -214,7 +214,7 @@ module _ {V : Type 0} where
   -- ---- the actor, and the step as a whole
   gates_at : (x y : Seat V) (t : own.Stage V)
       → gates_of (if is_recorded t then record (at_stage y (stage_in x.stage t)) { calls = x.calls; copied = x.copied } else at_stage y
-          (stage_in x.stage t)).stage
+      (stage_in x.stage t)).stage
       ≡ gates_of (stage_of t)
   gates_at x y (stage.Loading o left) = refl
   gates_at x y t = refl

@@ -134,7 +134,7 @@ module _ {V : Type 0} where
 
   own_in : LoadsStayOwn V → (o : Contents V) (w : World V) (a : ℕ) (m s : TxActor V) (n : Told V) → IsReached o w
       → is_loading (stage_of m.stage) ≡ true → Runs a m (acted w (moves a ∷ [])) → HasCopies m w a
-          → HasLoaded m s n m.stage (word_notice w a)
+      → HasLoaded m s n m.stage (word_notice w a)
       → Runs a s (happens w (Step a)).0 → notice_of a n ≡ (happens w (Step a)).1 → HasCopies s (happens w (Step a)).0 a
   own_in law o w a m s n h =
       subst (λ (z : World V). is_loading (stage_of m.stage) ≡ true → Runs a m (acted z (moves a ∷ [])) → HasCopies m z a

@@ -153,7 +153,7 @@ module _ {V : Type 0} where
       let gated = put_turned a v k (puts.0, sym (action_same a w v al) ∙ puts.1) (sym (al.boosted.gates k) ∙ gate) calm in
       shows_same o w u k b en eb
       (base_trans k w v u (sym al.words) (sym al.blocks) (none_base a w k 1 k)
-          (λ l p at. (sym (gated.parts l), sym (gated.editions l)))) shows
+      (λ l p at. (sym (gated.parts l), sym (gated.editions l)))) shows
 
   -- ---- bases that are prepared
   pub prepared_none : (cs : List (CopyOf V)) (s : own.Stage V) → gates_at s ≡ [] → ArePreparedAt cs s []

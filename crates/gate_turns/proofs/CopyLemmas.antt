@@ -105,7 +105,7 @@ module _ {V : Type 0} where
       let is = copy_there t s r ties h.events h.alike h.bases k b due are.0 in
       let goes = copy_runs taken on sized v (start t s r ties) there a k r q n b due ties.running does reached laid runs copies is in
       let turn = gate_tied t s u r q n k 1 None outs ties takes (puts_spot a w k (copy_due steps t s r k due ties))
-          (off_copy r k due) running
+      (off_copy r k due) running
       goes in
       let left = step_copy_gates there a k (there_next t s r ties h.events h.alike ∙ due) in
       let gates : gates_at q.stage ≡ [] = sym (turn_gates t s u r (view s).clock 1 None outs ties takes q turn.0) ∙ left.1 in
@@ -114,9 +114,9 @@ module _ {V : Type 0} where
         turn.1,
         own_after t s u r (view s).clock 1 None outs ties takes q cs law
             (copy_keeps stay taken on sized of v
-                (start t s r ties) there a k r q n b due ties.running got reached laid runs copies is goes.0 goes.1)
+            (start t s r ties) there a k r q n b due ties.running got reached laid runs copies is goes.0 goes.1)
             (takes.held ∙ ((first_out s r k [] own.out (copy_first r.stage k due)).1 ∙ ap slots_of (sym gates)))
             (subst (λ (z : List ℕ × List (Base V)). AreBases o (moved a w 1 None).0 z.0 z.1) (λ i. (sym gates i, sym empty i)) tt)
             (subst (λ (ds : List (Base V)). ArePreparedAt q.copies.items q.stage ds) (sym empty)
-                (prepared_none q.copies.items q.stage gates)),
+            (prepared_none q.copies.items q.stage gates)),
       )

@@ -216,7 +216,7 @@ module _ {V : Type 0} where
       let at = homing_is r.stage k due in
       let gates = (home_gates r.stage k due).1 in
       let p : ArePrepared r.copies.items at.0.items bs =
-          subst (λ (g : Standing V). ArePreparedAt r.copies.items g bs) at.1 own.prepared in (
+      subst (λ (g : Standing V). ArePreparedAt r.copies.items g bs) at.1 own.prepared in (
         subst (λ (z : List ℕ × List (Base V)). AreBases (opening_of t) (acts (opening_of t) s) z.0 z.1) (λ i. (gates i, hand i)) own.bases,
         subst (λ (z : List ℕ × List (Base V)). ArePrepared r.copies.items z.0 z.1) (λ i. (at.3 i, hand i)) p,
       )
@@ -369,7 +369,7 @@ module _ {V : Type 0} where
       stage_by (there.seats a) r (quiet_home (stage_of r.stage) k due) runs.0 ∙ first.1 in
       let still : Stays there later a =
       subst (λ (g : Stage V). StepStays there a g (happens there (Step a))) stands_at
-          (reached_stays stays (start t s r ties) there reached (Step a)) in
+      (reached_stays stays (start t s r ties) there reached (Step a)) in
       let had = there_copies t s r ties h.events h.alike law own.copies in (
         turn.0,
         turn.1,
@@ -378,7 +378,7 @@ module _ {V : Type 0} where
             (subst (λ (g : Standing V). KeepsFrom q.stage g q.copies.items q.copies.items) homing.1 keep)
             (λ j c. (
             let other : j ≢ k = λ e. true≢false (sym (contains_has (gates_at q.stage) k (subst (Contains (gates_at q.stage)) e c))
-                ∙ apart) in
+            ∙ apart) in
             let there_is : Contains (gates_at r.stage) j =
             subst (λ (ks : List ℕ). Contains ks j) (sym gates) (Contains-append_right (k ∷ []) (gates_at q.stage) j c) in
             subst (λ d. IsOwn later a j d) (sym (copies j other))

@@ -86,7 +86,7 @@ module _ {V : Type 0} where
     pub there_held : (k : ℕ) → is_actor (seated.actor s) (there.boosted.gates k) ≡ has (gates_at r.stage) k
     there_held k =
         ((reached_linked (start t s r ties) there there_reached).seats (seated.actor s)).gates k
-            ∙ ap (λ (ks : List ℕ). has ks k) there_gates
+        ∙ ap (λ (ks : List ℕ). has ks k) there_gates
 
     pub there_differ : Differ (gates_at r.stage)
     there_differ =

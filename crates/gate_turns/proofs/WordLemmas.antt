@@ -76,7 +76,7 @@ module _ {V : Type 0} where
       let x = (moved a w turned.found turned.base).0 in
       own_after t s u r turned.clock turned.found turned.base turned.bases ties takes q bs law
       (keep (start t s r ties) (run o h.events) a r q quiet calm keeps (there_reached t s r ties h.events h.alike)
-          (there_runs t s r ties h.events h.alike)
+      (there_runs t s r ties h.events h.alike)
       (turn_after t s u r turned.clock turned.found turned.base turned.bases ties takes q tied)
       (there_copies t s r ties h.events h.alike law own.copies))
       (turned.outs on ∙ (own.out ∙ ap slots_of (sym gates)))
@@ -186,7 +186,7 @@ module _ {V : Type 0} where
       let copies = there_copies t s r ties h.events h.alike law own.copies in
       let took = load_moved t s u r y told ties step due in
       let goes = load_runs steps hear seats (laid_in t)
-          (start t s r ties) there a r q y told n loading ties.running heard reached runs copies took in
+      (start t s r ties) there a r q y told n loading ties.running heard reached runs copies took in
       let next_due = word_is_next t s r due ties in
       let turn = tied t s u r q n step.touches.clock f None (out s) ties takes step.touches.rises
       (clock_left step.due (spot a w) step.number f step.touches.clock (seated.turned a w f) (next_due step.due step.deed).spot
@@ -204,5 +204,5 @@ module _ {V : Type 0} where
             (takes.held ∙ (own.out ∙ ap slots_of (none ∙ sym gates)))
             (subst (λ (z : List ℕ × List (Base V)). AreBases o (moved a w f None).0 z.0 z.1) (λ i. (sym gates i, sym empty i)) tt)
             (subst (λ (cs : List (Base V)). ArePreparedAt q.copies.items q.stage cs) (sym empty)
-                (prepared_none q.copies.items q.stage gates)),
+            (prepared_none q.copies.items q.stage gates)),
       )

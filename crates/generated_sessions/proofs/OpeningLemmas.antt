@@ -78,21 +78,21 @@ put_cars : (n : ℕ) (xs : List Item) (items : Each (FinMap nat_cmp Item)) → A
 put_cars n [] items fresh b = b
 put_cars n (x ∷ xs) items fresh b =
     put_cars (n + 1) xs (record items { car = insert items.car n x }) (All-tail IsFresh x xs fresh)
-        (put_fresh Car n x items (All-head IsFresh x xs fresh) b)
+    (put_fresh Car n x items (All-head IsFresh x xs fresh) b)
 
 put_flights : (n : ℕ) (xs : List Item) (items : Each (FinMap nat_cmp Item)) → All IsFresh xs → IsBalanced (with_items items)
     → IsBalanced (with_items (record items { flight = inserts items.flight (numbered n xs) }))
 put_flights n [] items fresh b = b
 put_flights n (x ∷ xs) items fresh b =
     put_flights (n + 1) xs (record items { flight = insert items.flight n x }) (All-tail IsFresh x xs fresh)
-        (put_fresh Flight n x items (All-head IsFresh x xs fresh) b)
+    (put_fresh Flight n x items (All-head IsFresh x xs fresh) b)
 
 put_rooms : (n : ℕ) (xs : List Item) (items : Each (FinMap nat_cmp Item)) → All IsFresh xs → IsBalanced (with_items items)
     → IsBalanced (with_items (record items { room = inserts items.room (numbered n xs) }))
 put_rooms n [] items fresh b = b
 put_rooms n (x ∷ xs) items fresh b =
     put_rooms (n + 1) xs (record items { room = insert items.room n x }) (All-tail IsFresh x xs fresh)
-        (put_fresh Room n x items (All-head IsFresh x xs fresh) b)
+    (put_fresh Room n x items (All-head IsFresh x xs fresh) b)
 
 put_all : (cars flights rooms : List Item) → All IsFresh cars → All IsFresh flights → All IsFresh rooms
     → IsBalanced (with_items (record { car = by_id cars; flight = by_id flights; room = by_id rooms }))

@@ -86,7 +86,7 @@ module _ {V : Type 0} where
         let calm : (is_actor a (w.boosted.gates k) ≡ true) × (is_committing (actor_of w a).place ≡ false) =
         subst (λ (q : Option (Action (contents.Asked V))). IsAllowed w (w.seats a).stage q) action.1 (reached_allows o w a reached) in
         let goes = copy_runs taken on sized v o w a k r s n base due running does reached laid runs copies
-            (base_in v t w k base has shape at)
+        (base_in v t w k base has shape at)
         in (
           action_has u w (happens w (Step a)).0 a (w.seats a) (w.seats a).stage (PutGate a k action.0)
               (λ q. let e : next.FirstStore ≡ next.Copy k = sym q ∙ next_is in let z : ⊥ = cc in z)
@@ -103,7 +103,7 @@ module _ {V : Type 0} where
   copy_own law taken on sized of stand other v a k t u r s n base due shape running at turn got = record {
     own = λ o w reached laid has runs after ready copies.
         copy_keeps law taken on sized of v o w a k r s n base due running got reached laid runs copies
-            (base_in v t w k base has shape at) after
+        (base_in v t w k base has shape at) after
         (turn.turns o w reached laid has runs copies).2;
     others = others_keep stand other (Step a);
   }

@@ -104,7 +104,7 @@ module _ {V : Type 0} where
       → All (λ i. i < locations_of (stripes_of base) (shown_of base)) locations
   log_within logs within k t r locations base may ll at =
       there.log_within logs within may.opening may.world may.actor k may.block
-          (copy_of r.copies.items k) locations base may.reached may.there
+      (copy_of r.copies.items k) locations base may.reached may.there
       may.own (may.shape.fit k may.block base may.there at) ll
 
   pub log_below : Logs V → FewEditions V → (k : ℕ) (t : Table V) (r : TxActor V) (locations : List ℕ) (base : Base V) → MayGoHome k t r

@@ -157,7 +157,7 @@ gather_takes [] car flight room next n h = takes_more (next car flight room) n (
 gather_takes (ask ∷ asks) car flight room next n h =
     takes_more (plans.gather (ask ∷ asks) car flight room next) (n + length asks + 1) (n + length (ask ∷ asks)) (omega arith)
     (get_item_takes ask.kind ask.id _ (n + length asks)
-        (λ o. gather_takes asks (plans.better Car ask o car) (plans.better Flight ask o flight)
+    (λ o. gather_takes asks (plans.better Car ask o car) (plans.better Flight ask o flight)
     (plans.better Room ask o room) next n h))
 
 line_up_takes : (c units : ℕ) (k : Kind) (id : ℕ) (who : Customer) (next : Part → Customer → Plan) (t n : ℕ)
@@ -339,7 +339,7 @@ change_each_takes (c ∷ cs) next n h =
 pub session_takes : (action : Action) → IsAllowed action → Takes (session action) 4096
 session_takes (Reserve c units asks) allowed =
     let few = allowed.1.1 in takes_more (plans.reserve c units asks) (17 + length asks) 4096 (omega (arith, few))
-        (reserve_takes c units asks)
+    (reserve_takes c units asks)
 session_takes (Delete c) allowed = takes_more (plans.delete c) 2302 4096 (omega arith) (delete_takes c)
 session_takes (Update changes) allowed =
     let few = allowed.0.1 in

@@ -21,7 +21,7 @@ GoesOn actions left receipts unread lines = (ls : List Line) → AreLines left u
 
 pub one_more : (actions later : List Action) (receipts behind : List (Record Entry)) (a : Action) (r : Record Entry) (lines : List Line)
     (l : Line) → GoesOn actions (a ∷ later) receipts (r ∷ behind) lines → IsLine a r l
-        → GoesOn actions later receipts behind (lines ++ l ∷ [])
+    → GoesOn actions later receipts behind (lines ++ l ∷ [])
 one_more actions later receipts behind a r lines l goes is ls are =
     subst (AreLines actions receipts) (sym (append_assoc lines (l ∷ []) ls)) (goes (l ∷ ls) (is, are))
 

@@ -200,7 +200,7 @@ answered_in a h l start plain =
 -- no step is refused to a request that is under way
 pub never_in_steps : (a : ℕ) (h : History) (calls : List (Call Entry × Reply Entry)) (q : Request Entry) (s : Seat Entry)
     (made : Option (Record Entry)) → IsLawful h → h.clock ≡ 0 → ArePlain a (events_of h.turns)
-        → commits_in (events_of h.turns) < clock_limit
+    → commits_in (events_of h.turns) < clock_limit
     → phase s ≡ asked_as calls q → HasRoom calls q → IsUnderWay s ((world_in h).seats a) made
     → IsRefusal (happens (world_in h) (Step a)).1 → ⊥
 never_in_steps a h calls q s made l start plain few stood room u =

@@ -125,7 +125,7 @@ alone_is_in_order blocks clock tables actions ts a allowed balanced stripes suit
     let first = opened blocks clock opening.words opening.held in
     let w = run first (events_of ts) in
     let serial : IsSerialSessions tables actions first ts =
-        sessions_are_serial blocks clock tables actions ts allowed balanced stripes suit asks in
+    sessions_are_serial blocks clock tables actions ts allowed balanced stripes suit asks in
     let own : AreRecordsOf a w.records × (actions_of a serial.deals w.records ≡ map (λ d. d.0) serial.deals) =
     all_own a serial.deals w.records serial.sessions (λ c other. serial.own c ∙ none_of a c actions first ts other are) in
     let settled : half w ≡ [] = no_half a w.seats w.records (rests_at (w.seats a) (w.seats a).stage rests) own.0 in

@@ -207,7 +207,7 @@ module _ {V A : Type 0} (P : ℕ → Type 0) (p : Program V A) where
 
   tried_on : (u : World V) (a : ℕ) (x : Seat V) (free : Bool) (k : ℕ) (got : List ℕ) (again : ℕ → Stage V) (next : Stage V) (tries : ℕ)
       → FollowsAt (P x.rv) p x.calls next → ((n : ℕ) → FollowsAt (P x.rv) p x.calls (again n))
-          → Goes a (has_tried u a x free k got again next tries)
+      → Goes a (has_tried u a x free k got again next tries)
   tried_on u a x free k got again next zero f g =
       choose a free _ _ (sits u a (at_stage x next) Quiet f tt) (given_up u a (because x (refusal.GateBusy k)) got)
   tried_on u a x free k got again next (suc n) f g =
@@ -223,7 +223,7 @@ module _ {V A : Type 0} (P : ℕ → Type 0) (p : Program V A) where
       → Goes a (has_locked u a x n)
   locked_on u a x (told.LockedAt wv) seat at h =
       sits u a (record x { stage = takes_gates [] (written_homes u a); wv = wv }) Quiet
-          (takes_on (P x.rv) x.calls [] (written_homes u a) h) tt
+      (takes_on (P x.rv) x.calls [] (written_homes u a) h) tt
   locked_on u a x (told.Busy l found) seat at h = given_up u a (because x (refusal.Busy l found)) []
   locked_on u a x (told.Invalid l found) seat at h = given_up u a (because x (refusal.Invalid l found)) []
   locked_on u a x n seat at h = stays u a x Locking Quiet seat at h tt
@@ -301,7 +301,7 @@ module _ {V A : Type 0} (P : ℕ → Type 0) (p : Program V A) where
 
   step_by : (w : World V) (a : ℕ) (x : Seat V) (st : Stage V) → w.seats a ≡ x → x.stage ≡ st → FollowsAt (P x.rv) p x.calls st
       → ((rv : ℕ) → st ≡ Beginning → (step_at w a x st).1 ≡ Answered a (answer.Begun rv) → P rv)
-          → IsFollowing ((step_at w a x st).0.seats a)
+      → IsFollowing ((step_at w a x st).0.seats a)
   step_by w a x Closing seat at f number = subst IsFollowing (sym (put-same w.seats a no_one)) tt
   step_by w a x Releasing seat at f number = released_on (acted w (moves a ∷ [])) a x (word_notice w a) seat at
   step_by w a x st seat at f number = (stepped w a x st seat at f (λ l. l) number).0

@@ -120,7 +120,7 @@ no_own_behind a q b x s first after le above =
 behind_not_before : (q r : ℕ × Record Entry) → r.0 ≡ q.0 → IsBehind q r → comes_before q r ≡ true → ⊥
 behind_not_before q r same behind first =
     by q.1.number r.1.number q.0 q.1.writes r.1.writes
-        (subst (λ b. before q.1.number q.1.writes q.0 r.1.number r.1.writes b ≡ true) same first)
+    (subst (λ b. before q.1.number q.1.writes q.0 r.1.number r.1.writes b ≡ true) same first)
     behind.number behind.above
   where
     by : (n m a : ℕ) (u v : Bool) → before n u a m v a ≡ true → m ≤ n → (u ≡ true → m < n) → ⊥
@@ -294,7 +294,7 @@ module _ (blocks : List Block) (stripes : HaveStripes blocks) (clock : ℕ) (val
             subst (λ (y : Seat Entry). IsFollowing (OwnUpTo b rs) (session (later b)) y) (sym ((happens_by w e).seats b isnt))
             (subst (λ (action : Action). IsFollowing (OwnUpTo b rs) (session action) x) (sym (others b isnt))
             (follows_map (OwnUpTo b w.records x.rv) (OwnUpTo b rs x.rv) (session (actions b)) x.calls x.stage (keep b x.rv isnt)
-                (s.seats b)))
+            (s.seats b)))
       ]
 
   no_more : (so_far : ℕ → List Action) (c : ℕ) → so_far c ++ [] ≡ so_far c
@@ -478,7 +478,7 @@ sessions_are_serial blocks clock tables actions ts allowed balanced stripes suit
     let first = opened blocks clock opening.words opening.held in
     let w = run first (events_of ts) in
     let s : Serves blocks stripes clock opening.words opening.held suit (λ c. committed_of c actions first ts)
-        (begun_all actions first ts) w =
+    (begun_all actions first ts) w =
     serves_all blocks stripes clock opening.words opening.held suit (λ c. []) actions first ts
     (opens_serving blocks stripes clock opening.words opening.held suit actions allowed) may in
     let serial : IsSerial opening w = serial_world blocks stripes clock opening.words opening.held suit (events_of ts) in

@@ -38,7 +38,7 @@ module _ {V : Type 0} where
       → IsAcceptedAt i p before (set before i (record { collection = c.collection; copied = e }))
   accepted_at i p o before c e is lt at acc held =
       subst (λ (q : Option (Outcome V)). IsAcceptedAt i q before (set before i (record { collection = c.collection; copied = e })))
-          (sym is) (
+      (sym is) (
         c,
         record { collection = c.collection; copied = e },
         slice_get_read before (length before) i c refl lt at,

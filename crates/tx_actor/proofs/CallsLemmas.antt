@@ -325,7 +325,7 @@ module _ {V : Type 0} where
       let comes = held_comes w a r k c op o f held u.words (seat_of u) p.call p.left.items now seat has asks ready.is ready.left room in
       let owns = comes_owns w a (seat_of u) u n p.call (left_after u.words.reads.entries p.left.items)
       (judged u.words.reads.entries p.left.items) ready.prepared.accept after (λ all. (answer.accepts all).0)
-          (alike_owns r u w a alike own) in
+      (alike_owns r u w a alike own) in
       subst (Answers a n t) comes (runs.0, runs.1, owns)
 
   -- its locations don't fit the sets

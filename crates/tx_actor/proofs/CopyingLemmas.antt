@@ -200,7 +200,7 @@ module _ {V : Type 0} where
       λ j. has_room (s.1 j) (shifted (first_of (laid.0 j) (laid.1 j) asked.collection) (base_reads base o))
       (shifted (first_of (laid.0 j) (laid.1 j) asked.collection) (base_writes base o)) in
       let room = (λ j. has_room y (c.reads (sym (sized_back w a call) j)) (c.writes (sym (sized_back w a call) j)))
-          ∙ (may.sizes o answer ∙ (same_room ∙ unfit)) in
+      ∙ (may.sizes o answer ∙ (same_room ∙ unfit)) in
       let n : TxActor V = record r { stage = stage.Open } in
       let e : step_at w a x (worlds.Copying call) ≡ z = does.1 ∙ cond-false _ _ z room in
       let runs : Runs a n z.0 = (put-same t.seats a _, does.0.1 ∙ s.1, tt) in
@@ -272,7 +272,7 @@ module _ {V : Type 0} where
     room_sized =
         copied.room o ready.ready.answer
         ∙ ((λ j. has_room (s.1 j) (shifted (sym first_same j) (reads_in d o)) (shifted (sym first_same j) (writes_in d o)))
-            ∙ ready.ready.fits)
+        ∙ ready.ready.fits)
 
     own_room : (j : Judged) → judged (actor_of w a).reads es ≡ j → GoesOn j
         → let c = content w.words w.blocks in has_room (actor_of w a) (c.reads own) (c.writes own) ≡ true
@@ -370,7 +370,7 @@ module _ {V : Type 0} where
         does.1
         ∙ (cond-true _ (comes_to t a seat own (left_after y.reads es) (judged y.reads es)) _ room
         ∙ ((λ j. comes_to t a (sym seat_same j) own (left_after (sym reads_same j) (sym left_same j))
-            (judged (sym reads_same j) (sym left_same j)))
+        (judged (sym reads_same j) (sym left_same j)))
         ∙ comes_at t a (seat_of u) (worlds.Copying call) own (left_after u.words.reads.entries p.left.items)
         (judged u.words.reads.entries p.left.items)))
 
@@ -382,7 +382,7 @@ module _ {V : Type 0} where
   pub goes_on_as : (v : BlocksView) (r u n : TxActor V) (h : Told V) (base : Base V) (asked : Asked V) (i : ℕ) (x : Readied V)
       → CanCopy v r base asked → AreReadyAt v r u base asked (Some (i, x))
       → load.GoesOn u n h (prepared_of x asked i).call (prepared_of x asked i).left.items
-          → StepsOn v (at r (stage.Copying asked)) n h base asked
+      → StepsOn v (at r (stage.Copying asked)) n h base asked
   goes_on_as v r u n h base asked i x can ready does a w laid s may =
       goes_on_in v w a r u base asked ready.0 ready.1 i x laid can s may ready.2 ready.3 ready.4 n h does
 
@@ -407,7 +407,7 @@ module _ {V : Type 0} where
 
   held_there : (n i : ℕ) (r : TxActor V) (asked : Asked V) (found : Found V) (cs : List (CopyOf V))
       (t : IsTakenAt n asked.collection found i r.copies.items cs) → holds_call t.copy asked.op ≡ true
-          → IsHeldAt cs i asked.collection asked.op
+      → IsHeldAt cs i asked.collection asked.op
   held_there n i r asked found cs t holds =
       let k = asked.collection in
       let there = taken_there n k i found r.copies.items cs t in
@@ -442,7 +442,7 @@ module _ {V : Type 0} where
       let h = held_there b.stripes i r asked found cs.items at_x.at holds in
       keeps_through v (at r (stage.Copying asked)) u n (alike_keeps (end_of v.words v.blocks) q u can.rests at_x.alike)
       (keeps (can_go_on v q u i f k asked.op h (prepared_of x asked i)
-          (taken_blocks v r base asked can i found cs.items is t) noreads refl can.among
+      (taken_blocks v r base asked can i found cs.items is t) noreads refl can.among
       at_x.alike at_x.ready))
 
   pub keeps_open : (v : BlocksView) (r u : TxActor V) (asked : Asked V) → r.words.place ≡ place.Open → u ≡ r

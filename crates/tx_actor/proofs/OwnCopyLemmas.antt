@@ -100,7 +100,7 @@ module _ {V : Type 0} where
   module _ (stays : StaysLaw V) (joins : JoinsLaw V) (back : BackLaw V) (v : BlocksView) (w : World V) (a : ℕ) (r u n : TxActor V)
       (t : Told V)
       (base : Base V) (asked : Asked V) (b : Block) (found : Found V) (i : ℕ) (x : Readied V) (laid : IsLaid v w)
-          (can : CanCopy v r base asked)
+      (can : CanCopy v r base asked)
       (s : Runs a (at r (stage.Copying asked)) w) (may : MayCopy v w a (at r (stage.Copying asked)) base asked)
       (there : block_of v.blocks asked.collection ≡ Some b) (is : IsFound base asked.op found)
       (ready : IsReadyAt r u b.stripes (first_of v.words v.blocks asked.collection) found asked i x)
@@ -263,9 +263,9 @@ module _ {V : Type 0} where
           let here = keep blocks clock values held events a can.block (asked_of asked) base (copy_of r.copies.items k) stripes there
           (ap (λ (bs : List Block). block_of bs k) laid.1 ∙ can.there) can.is shows (all.own.own k) (all.read k) can.unheld in
           let each : (j : ℕ) (b : Bool) → (k == j) ≡ b → IsOwn z a j (copy_of r.copies.items j)
-              × IsReadOf z a j (copy_of r.copies.items j) =
+          × IsReadOf z a j (copy_of r.copies.items j) =
           λ j b. elim b as (λ (q : Bool). (k == j) ≡ q → IsOwn z a j (copy_of r.copies.items j)
-              × IsReadOf z a j (copy_of r.copies.items j)) [
+          × IsReadOf z a j (copy_of r.copies.items j)) [
             | true ↦ λ e. subst (λ m. IsOwn z a m (copy_of r.copies.items m) × IsReadOf z a m (copy_of r.copies.items m))
                 (eqb-true k j e) here
             | false ↦ λ e. (

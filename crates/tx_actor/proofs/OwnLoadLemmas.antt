@@ -117,8 +117,11 @@ module _ {V : Type 0} where
         same_op = answered_op h.call.copy o.asked.op q h.call.call_on.answer
 
         outcome : p ≡ answered_on j q.op q
-        outcome = (accepts is).1 ∙ (λ i. record { asked = record { collection = j; op = sym same_op i }; outcome =
-            h.call.call_on.outcome i })
+        outcome = (accepts is).1 ∙ (λ i. record {
+          asked = record { collection = j; op = sym same_op i };
+          outcome =
+              h.call.call_on.outcome i;
+        })
 
         of : (c : CopyOf V) → slice_get r.copies.items o.place ≡ Some c → (c.collection ≡ j) × (answer_of c.copied q.op ≡ Some q)
         of c at =
@@ -229,7 +232,7 @@ module _ {V : Type 0} where
             l : LoadsIn w a (with_outcome call x) d es
             l =
                 loads_reached blocks clock values held events a (with_outcome call x) d es stripes (st
-                    ∙ ap (Loading (with_outcome call x)) e) n
+                ∙ ap (Loading (with_outcome call x)) e) n
 
       stands : (call : running.Answered V) (left : VecDeque (ℕ × ℕ) Global) → r.stage ≡ stage.Loading call left
           → OwnsLoading r w a call left.items → IsAsBefore r u t → HasCopies u f.0 a

@@ -127,7 +127,7 @@ module _ {V : Type 0} where
         | true ↦ λ d. subst (λ (es : Entries). length u.words.writes.entries + length (new_in u.words.writes.entries (locations es)) ≤ 4096)
             (sym (none d))
             (let len : length (new_in u.words.writes.entries (locations [])) ≡ 0 =
-                ap (λ (ls : List ℕ). length ls) (nothing_new u.words.writes.entries) in
+            ap (λ (ls : List ℕ). length ls) (nothing_new u.words.writes.entries) in
             omega (arith, room.few, len))
         | false ↦ λ d. (
             let both : worlds.fits r.words.writes.entries (shifted f (writes_in c o)) ≡ true =

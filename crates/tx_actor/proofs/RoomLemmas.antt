@@ -432,7 +432,7 @@ module _ {V : Type 0} where
           few = λ plain. (
               let both : worlds.fits r.words.reads.entries (shifted f (reads_in c o)) ≡ true =
               first_fits r.words.declared (worlds.fits r.words.reads.entries (shifted f (reads_in c o))) _ ready.fits (sym declared
-                  ∙ plain) in
+              ∙ plain) in
               let within = up_to _ 4096 both in
               subst (λ (es : Entries). length es + length (new_in es (locations p.left.items)) ≤ 4096) (sym entries)
               (subst (λ (ls : List ℕ). length r.words.reads.entries + length (new_in r.words.reads.entries ls) ≤ 4096)

@@ -507,7 +507,7 @@ module _ {V : Type 0} (a : ℕ) where
 
   calls_bound : (n : ℕ) (w : World V) (x : Seat V) (st : Stage V) (q : Request V) → BoundAt n a w
       → ((h : BoundAt n a w) → BoundAt n a (ask_at w a x Open q).0) → BoundAt n a (ask_at w a x Idle q).0
-          → BoundAt n a (ask_at w a x st q).0
+      → BoundAt n a (ask_at w a x st q).0
   calls_bound n w x Idle q h at_open at_idle = at_idle
   calls_bound n w x Open q h at_open at_idle = at_open h
   calls_bound n w x st q h at_open at_idle = h

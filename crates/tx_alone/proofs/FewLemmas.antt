@@ -483,7 +483,7 @@ module _ {V : Type 0} (a : ℕ) where
       let c = content u.words u.blocks in
       let z = u.boosted.shadows a in
       choose (x.copied asked.collection (piece_at u.blocks asked))
-          (answers u a x x (outcome_at u a asked) (outcome_at u a asked) z.editions) _
+      (answers u a x x (outcome_at u a asked) (outcome_at u a asked) z.editions) _
       (λ _. answers_sized u x x (outcome_at u a asked) (changes c z.outcomes z.parts) asked z.editions h refl small)
       (λ _. sits u (at_stage x (Trying asked more_tries)) (h, small))
 

@@ -269,7 +269,7 @@ module _ {V : Type 0} where
       (subst (λ p. StepMoves p (is_some o) n (phase y)) up.0 f.moves) on
   goes_on a s x n y o d (Commits calls) f on (inl (inl same, none)) =
       commit_on a s calls x x.stage n y o d same (f.kept (ap is_call same)) f.made (λ made q. f.wv (either made) q)
-          (f.noted (ap is_end same))
+      (f.noted (ap is_end same))
       none (subst (λ p. StepMoves p (is_some o) n (phase y)) same f.moves) on
     where
       either : is_some o ≡ true → (is_done (phase x) || is_some o) ≡ true

@@ -127,7 +127,7 @@ module _ {V : Type 0} where
     allowed w a x known room next seat at e h =
         choose M a known _ _
         (choose M a (nat_lt (length x.calls) CALL_LIMIT && room) next _ h
-            (stays M w a x Open (Refused a refusal.TooLong) seat at (ap Stands e, tt)))
+        (stays M w a x Open (Refused a refusal.TooLong) seat at (ap Stands e, tt)))
         (stays M w a x Open (Refused a refusal.NoSuch) seat at (ap Stands e, tt))
 
     word_read : (w : World V) (a : ℕ) (x : Seat V) (l : ℕ) (n : told.Notice) → x.calls ≡ calls → record { target = l; op = Read } ≡ call

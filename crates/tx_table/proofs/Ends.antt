@@ -211,7 +211,7 @@ module _ {V : Type 0} where
       → Closes (length values) blocks (record { words = values; held = held }) v s.words s.homes
   world_closes blocks clock values held stripes suit id v s rule here all done bare =
       closes (opened blocks clock values held) (record { words = values; held = held }) id v s rule stripes
-          (opening_is blocks clock values held)
+      (opening_is blocks clock values held)
       (serial_world blocks stripes clock values held suit rule.events) (numbers_past blocks stripes clock values held suit rule.events)
       here all done bare (above (length values) blocks)
 

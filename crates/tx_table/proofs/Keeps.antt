@@ -312,7 +312,7 @@ module _ {V : Type 0} where
         (λ b j ne gate. keeps_base (Word c) j w u K (λ e. cc))
         grown
         (subst (λ (k : ℕ). kf k ≤ u.boosted.words.clock) (sym word_is)
-            (knows s rule u (S.clocks id m.0 here) grown.rises (ap f (sym word_is) ∙ new_is)))
+        (knows s rule u (S.clocks id m.0 here) grown.rises (ap f (sym word_is) ∙ new_is)))
         (λ h. records_grow h id w1 ∙ (λ j. total h (g.records j) + total h (ends_same id w1 alone al1 j))) in (
           v,
           keeps,

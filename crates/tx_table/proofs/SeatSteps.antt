@@ -152,11 +152,11 @@ module _ {V : Type 0} where
     pub stores : (c : Cell) (i new : ℕ) → Stores id mine c new → IsInside (end_of o.words o.blocks) c
         → i ≡ address (end_of o.words o.blocks) c
         → Allows (Holds key) slots id m i (λ _. new) (λ _ t. (found : ℕ) × Told o id asks m.0.clock m found None t.0 × (t.1 ≡ m.1)
-            × Went o id t)
+        × Went o id t)
     stores c i new due inner place =
         weaker (Holds key) slots id m i (λ _. new) Turned
         (λ _ t. (found : ℕ) × Told o id asks m.0.clock m found None t.0 × (t.1 ≡ m.1)
-            × Went o id t) (λ k t told. (k, told.0, told.1, told.2))
+        × Went o id t) (λ k t told. (k, told.0, told.1, told.2))
         (goes c i (λ _. new) due.0 due.1 inner place)
 
     -- what a step on the clock tells of the seat
@@ -276,7 +276,7 @@ module _ {V : Type 0} where
       → i ≡ gate_address (locations_at key) k → id ≡ s.place.id → n ≡ (view s, (gate, Some b) ∷ rest (out s))
       → IsHome (world_at key) s.place.id (acts (world_at key) s) k b
       → Allows (Holds key) slots id n i (λ _. 0) (λ _ t. Told (world_at key) id asks n.0.clock n 1 None t.0 × (t.1 ≡ rest n.1)
-          × Went (world_at key) id t)
+      × Went (world_at key) id t)
   puts_back key slots s id n asks k gate i b are same live low place id_is is due =
       let o : World V = world_at key in
       let views : n.0 ≡ view s = ap (λ (z : Me (Slot V) (View V)). z.0) is in

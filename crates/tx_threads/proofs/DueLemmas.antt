@@ -153,7 +153,7 @@ learns_taken x y l k i at own =
     let ls = drop i (locations x.writes.entries) in
     learns_at x y (Take l k i) (2 * k) (Ok None) at
     (own ∙ sym (cond-true (eqb (2 * k) (2 * k)) (taken (actor_of x) l k ls) (goes (actor_of x) machine.Broken)
-        (eq-eqb (2 * k) (2 * k) refl)))
+    (eq-eqb (2 * k) (2 * k) refl)))
     (sym (ap result_of (took_notice l k)))
 
 pub learns_lost : (x y : Actor) (l k i n : ℕ) → x.place ≡ Take l k i → (n ≡ 2 * k → ⊥) → actor_of y ≡ goes (actor_of x) machine.Broken
@@ -179,7 +179,7 @@ learns_first x y n o at some own says =
     (own ∙ (ap (λ (ls : List ℕ). goes (actor_of x) (machine.Store ls)) (sym (map_drop x.writes.entries))
     ∙ sym (ap (λ (z : Entries). learns (first_store (actor_of x) z) (actor_of x) n) es)))
     (says ∙ (ap (λ (ls : List ℕ). result_of (when_none_left ls Stored)) (sym (map_drop x.writes.entries))
-        ∙ none_by (drop 1 x.writes.entries) Stored
+    ∙ none_by (drop 1 x.writes.entries) Stored
     ∙ sym (ap (λ (z : Entries). result_of (last_notice z Stored)) es)))
 
 pub learns_nothing_first : (x : Actor) (n : ℕ) → x.place ≡ First → length x.writes.entries ≡ 0 → Learns x n x (Err refusal.NoTransaction)
@@ -194,7 +194,7 @@ pub learns_store : (x y : Actor) (i n : ℕ) (o : Option WordAnswer) → x.place
     → Ok o ≡ result_of (when_none_left (drop (i + 1) (locations x.writes.entries)) Stored) → Learns x n y (Ok o)
 learns_store x y i n o at low own says =
     let ls = next_is x.writes.entries i (get_or x.writes.entries i (0, 0)) low
-        (get_or_same x.writes.entries i (0, 0) (get_or x.writes.entries i (0, 0)) low) in
+    (get_or_same x.writes.entries i (0, 0) (get_or x.writes.entries i (0, 0)) low) in
     learns_at x y (Store i) n (Ok o) at (own ∙ sym (ap (λ (z : List ℕ). learns (plan (actor_of x) (machine.Store z)) (actor_of x) n) ls))
     (says ∙ sym (ap (λ (z : List ℕ). result_of (tells (actor_of x) (machine.Store z) n)) ls))
 

@@ -163,7 +163,7 @@ module _ {V : Type 0} where
       let quiet : is_loading (stage_of r.stage) ≡ false = ap (λ (k : own.Stage V). is_loading (stage_of k)) at in
       let rests : (actor_of u a).place ≡ machine.Open =
       (subst (λ (k : own.Stage V). StageOk u.words u.blocks (u.seats a) (actor_of u a) (u.boosted.shadows a) (stage_of k)
-          (actor_of u a).place)
+      (actor_of u a).place)
       at (own_place t s r quiet ties)).0 in
       let is : actor_of there a ≡ words.actor_of r.words = h.alike.boosted.actor ∙ ties.runs.1 in
       sym (ap (λ (y : machine.Actor). y.reads) is)

@@ -120,7 +120,7 @@ module _ {V : Type 0} where
       let s = v.boosted in
       let y = actor_of v a in
       recorded_gates (record s { words = machine_world.step s.words a y y.place; shadows = shadows_after s a y.place })
-          (s.shadows a).outcomes
+      (s.shadows a).outcomes
       (outcome a y y.place)
 
   pub step_learns_cell : (v : World V) (a : ℕ) (x : Actor) (c : Cell) → actor_of v a ≡ x → word_of (plan x x.place) ≡ Some c

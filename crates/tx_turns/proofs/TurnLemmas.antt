@@ -100,7 +100,7 @@ module _ {V : Type 0} where
       let st : (v.seats a).stage ≡ stage_of r.stage = stage_by (v.seats a) r quiet runs.0 in
       let here : Runs a (record r { words = y }) z = (runs.0, own, knows_moved v a r.stage locks runs.2) in
       let may = may_go_on z a (stage_of r.stage) due
-          (λ k. ap (λ (g : ℕ → Option ℕ). mine (record z.boosted { gates = g }) a k) (step_gates v a) ∙ held k) in
+      (λ k. ap (λ (g : ℕ → Option ℕ). mine (record z.boosted { gates = g }) a k) (step_gates v a) ∙ held k) in
       let after = heard a z may here in
       let e : step_at v a (v.seats a) (v.seats a).stage
       ≡ after_word z a (seat_at (v.seats a) r) (stage_of r.stage) (notice_told told) =

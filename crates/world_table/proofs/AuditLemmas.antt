@@ -125,7 +125,7 @@ module _ {V : Type 0} where
         | inl theirs ↦ (
             let at : x.1.number ≡ n = eqb-true x.1.number n (second x.1.writes (x.1.number == n) theirs) in
             let none = subst (λ m. count_by (λ (r : Record V). r.writes && (r.number == m)) (without_actors xs) ≡ 0) at
-                (none_writes x xs o.0) in
+            (none_writes x xs o.0) in
             let one = all ∙ ap (λ b. cond b 1 0 + count_by p (without_actors xs)) theirs in
             omega (arith, one, none))
         | inr other ↦ (

@@ -124,7 +124,7 @@ module _ {V : Type 0} where
       subst (λ j. end_of (end + size_by (kind_of_held h) n) (blocks_of (drop j ns) (drop j hs)) ≡ end_of words (blocks_of ns hs))
       (let z : suc i ≡ i + 1 = omega arith in z)
       (subst (λ m. end_of (end + size_by (kind_of_held h) m) (blocks_of (drop (suc i) ns) (drop (suc i) hs)) ≡ end_of words
-          (blocks_of ns hs))
+      (blocks_of ns hs))
       count (next_end end i ns hs h low (omega (arith, same, low)) at ∙ is.rest))
 
   pub past : (words i n end : ℕ) (ns : List ℕ) (hs : List (Held V)) (h : Held V) → IsCounted words ns hs i end → i < length ns

@@ -249,7 +249,7 @@ module _ {V : Type 0} (t u : Table V) (k : ℕ) (before now : Base V) (blocks : 
 
   pub goes_home : (changes : List (Change V)) (locations : List ℕ) (b : Block) → u.cells ≡ t.cells → u.gates.items ≡ set t.gates.items k 0
       → u.bases.items ≡ set t.bases.items k now → k < length t.gates.items → k < length t.bases.items
-          → IsFolded changes locations before now
+      → IsFolded changes locations before now
       → HaveStripes blocks → HasTable t here → GoesHome here a k → block_of here.blocks k ≡ Some b
       → slice_get t.bases.items k ≡ Some before → IsBaseOf b before → changes ≡ log_changes k b (here.boosted.shadows a).outcomes
       → locations ≡ log_locations k b (here.boosted.shadows a).outcomes → HasTable u next

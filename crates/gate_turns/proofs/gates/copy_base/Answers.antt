@@ -22,7 +22,7 @@ copied-requires g c =
     let bs = c.args.bases.now.items in
     let laid = laid_as t c.blocks-2.result.now c.blocks-2.ensures.words c.blocks-2.ensures.blocks in
     let front = first_here bs c.index.result.now
-        (some_held t s r k [] bs (copy_first r.stage k c.requires.due) c.requires.own) c.index.ensures in
+    (some_held t s r k [] bs (copy_first r.stage k c.requires.due) c.requires.own) c.index.ensures in
     subst (λ (v : BlocksView). CanCopyAt v r c.index.result.now r.stage) (sym laid)
     (copy_can c.copied_as_worlds.ensures c.copies_go_on.ensures c.sizes_copies.ensures.sizes c.copies_stay_own.ensures.blocks
     c.copies_by_stage.ensures.others t s r k bs front.0 c.index.result.now c.requires.due c.requires.ties c.requires.own front.1)
@@ -68,7 +68,7 @@ returns-in-Ok-clause-turned g c =
     let q = c.copied.new.self in
     let b = c.first-base.result in
     let front = first_here bs c.index.result.now
-        (some_held t s r k [] bs (copy_first r.stage k c.requires.due) c.requires.own) c.index.ensures in
+    (some_held t s r k [] bs (copy_first r.stage k c.requires.due) c.requires.own) c.index.ensures in
     let same = front_same bs c.index.result.now b front.0 c.first-base.new.bases.items front.1 c.first-base.ensures in
     let running = subst (λ (v : BlocksView). IsRunning v r → IsRunning v q) laid
     (c.in-Ok.ensures.keeps (copy_reads c.copies_go_on.ensures t s r k c.requires.due c.requires.ties)).running c.requires.ties.running in
@@ -77,7 +77,7 @@ returns-in-Ok-clause-turned g c =
     c.first-base.new.bases.items b c.requires.due c.requires.ties c.requires.own c.first-base.ensures c.put_gate.ensures
     (subst (λ (z : BlocksView × Base g.row.V.Denot). StepsOnAt z.0 r q c.in-Ok.told z.1 r.stage) (λ i. (laid i, same i)) c.in-Ok.ensures.ok)
     (subst (λ (z : BlocksView × Base g.row.V.Denot). HasTakenAt z.0 r q c.in-Ok.told z.1 r.stage)
-        (λ i. (laid i, same i)) c.in-Ok.ensures.copies) running).1
+    (λ i. (laid i, same i)) c.in-Ok.ensures.copies) running).1
 
 pub returns-in-Ok-clause-ties : goal.returns-in-Ok-clause-ties
 returns-in-Ok-clause-ties g c =
@@ -90,7 +90,7 @@ returns-in-Ok-clause-ties g c =
     let q = c.copied.new.self in
     let b = c.first-base.result in
     let front = first_here bs c.index.result.now
-        (some_held t s r k [] bs (copy_first r.stage k c.requires.due) c.requires.own) c.index.ensures in
+    (some_held t s r k [] bs (copy_first r.stage k c.requires.due) c.requires.own) c.index.ensures in
     let same = front_same bs c.index.result.now b front.0 c.first-base.new.bases.items front.1 c.first-base.ensures in
     let running = subst (λ (v : BlocksView). IsRunning v r → IsRunning v q) laid
     (c.in-Ok.ensures.keeps (copy_reads c.copies_go_on.ensures t s r k c.requires.due c.requires.ties)).running c.requires.ties.running in
@@ -99,7 +99,7 @@ returns-in-Ok-clause-ties g c =
     c.first-base.new.bases.items b c.requires.due c.requires.ties c.requires.own c.first-base.ensures c.put_gate.ensures
     (subst (λ (z : BlocksView × Base g.row.V.Denot). StepsOnAt z.0 r q c.in-Ok.told z.1 r.stage) (λ i. (laid i, same i)) c.in-Ok.ensures.ok)
     (subst (λ (z : BlocksView × Base g.row.V.Denot). HasTakenAt z.0 r q c.in-Ok.told z.1 r.stage)
-        (λ i. (laid i, same i)) c.in-Ok.ensures.copies) running).0
+    (λ i. (laid i, same i)) c.in-Ok.ensures.copies) running).0
 
 pub returns-in-Ok-clause-own : goal.returns-in-Ok-clause-own
 returns-in-Ok-clause-own g c =
@@ -112,7 +112,7 @@ returns-in-Ok-clause-own g c =
     let q = c.copied.new.self in
     let b = c.first-base.result in
     let front = first_here bs c.index.result.now
-        (some_held t s r k [] bs (copy_first r.stage k c.requires.due) c.requires.own) c.index.ensures in
+    (some_held t s r k [] bs (copy_first r.stage k c.requires.due) c.requires.own) c.index.ensures in
     let same = front_same bs c.index.result.now b front.0 c.first-base.new.bases.items front.1 c.first-base.ensures in
     let running = subst (λ (v : BlocksView). IsRunning v r → IsRunning v q) laid
     (c.in-Ok.ensures.keeps (copy_reads c.copies_go_on.ensures t s r k c.requires.due c.requires.ties)).running c.requires.ties.running in
@@ -121,7 +121,7 @@ returns-in-Ok-clause-own g c =
     c.first-base.new.bases.items b c.requires.due c.requires.ties c.requires.own c.first-base.ensures c.put_gate.ensures
     (subst (λ (z : BlocksView × Base g.row.V.Denot). StepsOnAt z.0 r q c.in-Ok.told z.1 r.stage) (λ i. (laid i, same i)) c.in-Ok.ensures.ok)
     (subst (λ (z : BlocksView × Base g.row.V.Denot). HasTakenAt z.0 r q c.in-Ok.told z.1 r.stage)
-        (λ i. (laid i, same i)) c.in-Ok.ensures.copies) running).2
+    (λ i. (laid i, same i)) c.in-Ok.ensures.copies) running).2
 
 pub returns-in-Err-clause-ties : goal.returns-in-Err-clause-ties
 returns-in-Err-clause-ties g c =
@@ -134,8 +134,11 @@ returns-in-Err-clause-ties g c =
     let q = c.copied.new.self in
     let running = subst (λ (v : BlocksView). IsRunning v r → IsRunning v q) laid
     (c.in-Err.ensures.keeps (copy_reads c.copies_go_on.ensures t s r k c.requires.due c.requires.ties)).running c.requires.ties.running in
-    let done = starved t s c.ask.new.self r q Quiet c.requires.ties (c.ask.ensures.same.0, c.ask.ensures.same.1,
-        c.ask.ensures.asked) running
+    let done = starved t s c.ask.new.self r q Quiet c.requires.ties (
+      c.ask.ensures.same.0,
+      c.ask.ensures.same.1,
+      c.ask.ensures.asked,
+    ) running
     c.in-Err.ensures.err in
     done.0
 
@@ -150,8 +153,11 @@ returns-in-Err-clause-starved g c =
     let q = c.copied.new.self in
     let running = subst (λ (v : BlocksView). IsRunning v r → IsRunning v q) laid
     (c.in-Err.ensures.keeps (copy_reads c.copies_go_on.ensures t s r k c.requires.due c.requires.ties)).running c.requires.ties.running in
-    let done = starved t s c.ask.new.self r q Quiet c.requires.ties (c.ask.ensures.same.0, c.ask.ensures.same.1,
-        c.ask.ensures.asked) running
+    let done = starved t s c.ask.new.self r q Quiet c.requires.ties (
+      c.ask.ensures.same.0,
+      c.ask.ensures.same.1,
+      c.ask.ensures.asked,
+    ) running
     c.in-Err.ensures.err in
     done.1
 
@@ -166,8 +172,11 @@ returns-in-Err-clause-own g c =
     let q = c.copied.new.self in
     let running = subst (λ (v : BlocksView). IsRunning v r → IsRunning v q) laid
     (c.in-Err.ensures.keeps (copy_reads c.copies_go_on.ensures t s r k c.requires.due c.requires.ties)).running c.requires.ties.running in
-    let done = starved t s c.ask.new.self r q Quiet c.requires.ties (c.ask.ensures.same.0, c.ask.ensures.same.1,
-        c.ask.ensures.asked) running
+    let done = starved t s c.ask.new.self r q Quiet c.requires.ties (
+      c.ask.ensures.same.0,
+      c.ask.ensures.same.1,
+      c.ask.ensures.asked,
+    ) running
     c.in-Err.ensures.err in
     starve_own c.events_keep_copies.ensures.starves c.copies_by_stage.ensures.others t s c.ask.new.self r q Quiet bs c.requires.ties c.requires.own done.1
     done.0 c.in-Err.ensures.leaves

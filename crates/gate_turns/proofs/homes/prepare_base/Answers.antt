@@ -8,8 +8,12 @@ returns-clause-alike g c =
     let old = c.index_mut.result.now in
     let read = slice_get_read c.args.bases.now.items _ c.args.i old refl c.requires c.index_mut.ensures.value in
     one_alike c.args.bases.now.items c.args.i old c.prepares_base.new.base read
-    (record { shown = c.prepares_base.ensures.shown; stripes = c.prepares_base.ensures.stripes; editions =
-        c.prepares_base.ensures.editions })
+    (record {
+      shown = c.prepares_base.ensures.shown;
+      stripes = c.prepares_base.ensures.stripes;
+      editions =
+          c.prepares_base.ensures.editions;
+    })
 
 pub returns-clause-prepared : goal.returns-clause-prepared
 returns-clause-prepared g c =

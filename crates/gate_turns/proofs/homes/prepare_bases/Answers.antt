@@ -20,7 +20,7 @@ loop-i-preserved g c = (
   prepared_more c.args.actor.now.copies.items c.args.homes.now.items c.index.result.now c.loop-i.i c.loop-i.bases.items
       c.prepare_base.new.bases.items
       (read_at c.args.homes.now.items c.loop-i.i c.index.result.now
-          (omega (arith, c.loop-i-test.true, c.len-i-end.ensures)) c.index.ensures)
+      (omega (arith, c.loop-i-test.true, c.len-i-end.ensures)) c.index.ensures)
       c.in_ok-prepare_base.ensures.prepared c.loop-i.invariant.1,
 )
 

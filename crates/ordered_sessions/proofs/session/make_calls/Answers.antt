@@ -9,7 +9,7 @@ use Rattle.ordered_sessions.proofs.session.make_calls.Goals as goal
 pub loop-init : goal.loop-init
 loop-init c =
     subst (λ (rs : List (Reply Entry)). Makes c.args.session.now c.args.world.now.parts c.args.world.now.parts rs 0)
-        (sym c.new-replies.ensures.items)
+    (sym c.new-replies.ensures.items)
     (makes_none c.args.session.now c.args.world.now.parts)
 
 pub loop-preserved : goal.loop-preserved
@@ -19,11 +19,11 @@ loop-preserved c =
     (makes_one c.args.session.now c.args.world.now.parts c.loop.world.parts c.loop.replies.items c.loop.counter c.loop.invariant
     c.in-Call.asked
     (sym c.in-Call.is ∙ c.in_ok-next.ensures
-        ∙ ap (λ (rs : List (Reply Entry)). asked (after (session c.args.session.now) rs)) c.as_slice.ensures.value)
+    ∙ ap (λ (rs : List (Reply Entry)). asked (after (session c.args.session.now) rs)) c.as_slice.ensures.value)
     c.call.new.world.parts c.in_ok-reply-in-Call.reply c.in_ok-reply-in-Call.ensures)
 
 pub returns-in-Done : goal.returns-in-Done
 returns-in-Done c =
     made_all c.args.session.now c.args.world.now.parts c.loop.world.parts c.loop.replies.items c.loop.counter c.loop.invariant
     (sym c.in-Done.is ∙ c.in_ok-next.ensures
-        ∙ ap (λ (rs : List (Reply Entry)). asked (after (session c.args.session.now) rs)) c.as_slice.ensures.value)
+    ∙ ap (λ (rs : List (Reply Entry)). asked (after (session c.args.session.now) rs)) c.as_slice.ensures.value)

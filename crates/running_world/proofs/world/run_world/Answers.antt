@@ -33,12 +33,12 @@ returns-clause-serial g c =
 pub returns-in_err-try_copy-clause-refused : goal.returns-in_err-try_copy-clause-refused
 returns-in_err-try_copy-clause-refused g c =
     memory_refused c.from_residual-in_err-try_copy.result
-        (fits_as (c.in_ok-world.ensures.fits refl)) c.from_residual-in_err-try_copy.ensures.1
+    (fits_as (c.in_ok-world.ensures.fits refl)) c.from_residual-in_err-try_copy.ensures.1
 
 pub returns-in_err-_notice-clause-refused : goal.returns-in_err-_notice-clause-refused
 returns-in_err-_notice-clause-refused g c =
     memory_refused c.from_residual-in_err-_notice.result
-        (fits_as (c.in_ok-world.ensures.fits refl)) c.from_residual-in_err-_notice.ensures.1
+    (fits_as (c.in_ok-world.ensures.fits refl)) c.from_residual-in_err-_notice.ensures.1
 
 pub returns-in_err-trace-clause-refused : goal.returns-in_err-trace-clause-refused
 returns-in_err-trace-clause-refused g c =

@@ -13,7 +13,7 @@ returns-in_err-inspect-clause-refused c =
     let are = c.in_ok-ordered.ensures.ordered in
     let memory = finds_nothing c.args.tables c.in_ok-left.left c.args.actions.now _ _ _ _ c.in_err-inspect.field-0.0 c.requires.balanced
     c.runs_are_actions.ensures.runs are
-        (c.in_ok-left.ensures.inverse (after_deals are.deals c.args.tables) are.left) c.in_ok-opening.ensures
+    (c.in_ok-left.ensures.inverse (after_deals are.deals c.args.tables) are.left) c.in_ok-opening.ensures
     c.as_slice-receipts.ensures.value c.in_err-inspect.ensures.finding in
     search (rules, memory)
 

@@ -5,7 +5,7 @@ use Rattle.session_script.proofs.line.read_changes.Goals as goal
 pub loop-rest-init : goal.loop-rest-init
 loop-rest-init c =
     let is : c.push.new.self ≡ c.in-Some.first ∷ [] = c.in_ok-push.ensures.ok
-        ∙ ap (λ before. before ++ c.in-Some.first ∷ []) c.new-changes.ensures in
+    ∙ ap (λ before. before ++ c.in-Some.first ∷ []) c.new-changes.ensures in
     record {
       front = first_front _ _ c.in-Some.first _ is c.in-Some.ensures.found;
       back = first_back _ _ c.in-Some.first _ is c.in-Some.ensures.only;

@@ -18,7 +18,7 @@ pub invariant_of-seat : goal.invariant_of-seat
 invariant_of-seat g c =
     let e = c.fetch_add-found.ensures in
     let h = still c.args.seat.now c.fetch_add-found.new.seat.me.0 _ _ (c.fetch_add-found.result + 1) e.2.0.0 (let l = e.2.2 in
-        omega arith) in
+    omega arith) in
     record { counted = h.0; known = h.1 }
 
 pub returns-clause-step : goal.returns-clause-step

@@ -26,6 +26,9 @@ returns g c =
     let s = c.args.seat.now in
     let e = c.store.ensures in (
       e.2.0,
-      takes (world_at c.args.board.now.key) s _ g.asks (view s).clock e.2.0 None (out s) c.requires.1.0 (e.0, e.1,
-          refl) e.2.1 e.2.2 refl e.2.3,
+      takes (world_at c.args.board.now.key) s _ g.asks (view s).clock e.2.0 None (out s) c.requires.1.0 (
+        e.0,
+        e.1,
+        refl,
+      ) e.2.1 e.2.2 refl e.2.3,
     )

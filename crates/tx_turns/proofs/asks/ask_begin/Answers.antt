@@ -11,8 +11,8 @@ returns-clause-ties g c =
     let t = c.args.table.now in
     let r = c.args.actor.now in
     (asked t c.args.seat.now c.ask.new.self r c.begins.new.self c.begins.result Begin
-        (λ a w. ask_idle w a (seat_of r) Begin) c.requires.ties
+    (λ a w. ask_idle w a (seat_of r) Begin) c.requires.ties
     (c.ask.ensures.same.0, c.ask.ensures.same.1, c.ask.ensures.asked) ((c.begins.ensures.keeps (laid_in t)).running c.requires.ties.running)
     (at_its_stage r Idle Begin c.requires.idle)
-        (anywhere (laid_in t) r c.begins.new.self c.begins.result (λ a w. ask_idle w a (seat_of r) Begin)
-        (λ a w runs. c.begins.ensures.does a w runs.1))).0
+    (anywhere (laid_in t) r c.begins.new.self c.begins.result (λ a w. ask_idle w a (seat_of r) Begin)
+    (λ a w runs. c.begins.ensures.does a w runs.1))).0

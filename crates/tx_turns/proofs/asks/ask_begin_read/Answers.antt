@@ -11,9 +11,9 @@ returns-clause-ties g c =
     let t = c.args.table.now in
     let r = c.args.actor.now in
     (asked t c.args.seat.now c.ask.new.self r c.begins_to_read.new.self c.begins_to_read.result BeginRead
-        (λ a w. ask_idle w a (seat_of r) BeginRead) c.requires.ties
+    (λ a w. ask_idle w a (seat_of r) BeginRead) c.requires.ties
     (c.ask.ensures.same.0, c.ask.ensures.same.1, c.ask.ensures.asked)
-        ((c.begins_to_read.ensures.keeps (laid_in t)).running c.requires.ties.running)
+    ((c.begins_to_read.ensures.keeps (laid_in t)).running c.requires.ties.running)
     (at_its_stage r Idle BeginRead c.requires.idle)
-        (anywhere (laid_in t) r c.begins_to_read.new.self c.begins_to_read.result (λ a w. ask_idle w a (seat_of r) BeginRead)
-        (λ a w runs. c.begins_to_read.ensures.does a w runs.1))).0
+    (anywhere (laid_in t) r c.begins_to_read.new.self c.begins_to_read.result (λ a w. ask_idle w a (seat_of r) BeginRead)
+    (λ a w runs. c.begins_to_read.ensures.does a w runs.1))).0

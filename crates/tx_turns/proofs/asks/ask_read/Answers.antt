@@ -12,8 +12,8 @@ returns-clause-ties g c =
     (asked_open c.args.table.now c.args.seat.now c.ask.new.self r c.asks_to_read.new.self c.in_ok-told.told (read_of c.args.word)
     (λ a w. ask_op w a (seat_of r) c.args.word Read) c.blocks-2.result.now c.blocks-2.ensures.words c.blocks-2.ensures.blocks c.requires.ties
     (c.ask.ensures.same.0, c.ask.ensures.same.1, c.ask.ensures.asked) c.requires.open (λ a w. refl)
-        (c.asks_to_read.ensures.keeps (no_reads c.args.table.now c.args.seat.now r c.requires.ties c.requires.open)
-        (quiet_open r c.requires.open)) c.in_ok-told.ensures.ok).0
+    (c.asks_to_read.ensures.keeps (no_reads c.args.table.now c.args.seat.now r c.requires.ties c.requires.open)
+    (quiet_open r c.requires.open)) c.in_ok-told.ensures.ok).0
 
 pub returns-clause-answers : goal.returns-clause-answers
 returns-clause-answers g c =
@@ -21,12 +21,12 @@ returns-clause-answers g c =
     (asked_open c.args.table.now c.args.seat.now c.ask.new.self r c.asks_to_read.new.self c.in_ok-told.told (read_of c.args.word)
     (λ a w. ask_op w a (seat_of r) c.args.word Read) c.blocks-2.result.now c.blocks-2.ensures.words c.blocks-2.ensures.blocks c.requires.ties
     (c.ask.ensures.same.0, c.ask.ensures.same.1, c.ask.ensures.asked) c.requires.open (λ a w. refl)
-        (c.asks_to_read.ensures.keeps (no_reads c.args.table.now c.args.seat.now r c.requires.ties c.requires.open)
-        (quiet_open r c.requires.open)) c.in_ok-told.ensures.ok).1
+    (c.asks_to_read.ensures.keeps (no_reads c.args.table.now c.args.seat.now r c.requires.ties c.requires.open)
+    (quiet_open r c.requires.open)) c.in_ok-told.ensures.ok).1
 
 pub returns-in_err-told-clause-ties : goal.returns-in_err-told-clause-ties
 returns-in_err-told-clause-ties g c =
     let r = c.args.actor.now in
     stands_open c.args.table.now c.args.seat.now r c.asks_to_read.new.self c.blocks-2.result.now c.blocks-2.ensures.words c.blocks-2.ensures.blocks
     c.requires.ties (c.asks_to_read.ensures.keeps (no_reads c.args.table.now c.args.seat.now r c.requires.ties c.requires.open)
-        (quiet_open r c.requires.open)) c.in_err-told.ensures.err
+    (quiet_open r c.requires.open)) c.in_err-told.ensures.err

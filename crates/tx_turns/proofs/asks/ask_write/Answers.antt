@@ -10,21 +10,21 @@ pub returns-clause-ties : goal.returns-clause-ties
 returns-clause-ties g c =
     let r = c.args.actor.now in
     (asked_open c.args.table.now c.args.seat.now c.ask.new.self r c.asks_to_write.new.self c.in_ok-told.told
-        (write_of c.args.word c.args.value)
+    (write_of c.args.word c.args.value)
     (λ a w. ask_op w a (seat_of r) c.args.word
-        (Write c.args.value)) c.blocks-2.result.now c.blocks-2.ensures.words c.blocks-2.ensures.blocks c.requires.ties
+    (Write c.args.value)) c.blocks-2.result.now c.blocks-2.ensures.words c.blocks-2.ensures.blocks c.requires.ties
     (c.ask.ensures.same.0, c.ask.ensures.same.1, c.ask.ensures.asked) c.requires.open (λ a w. refl)
-        (c.asks_to_write.ensures.keeps (quiet_open r c.requires.open)) c.in_ok-told.ensures.ok).0
+    (c.asks_to_write.ensures.keeps (quiet_open r c.requires.open)) c.in_ok-told.ensures.ok).0
 
 pub returns-clause-answers : goal.returns-clause-answers
 returns-clause-answers g c =
     let r = c.args.actor.now in
     (asked_open c.args.table.now c.args.seat.now c.ask.new.self r c.asks_to_write.new.self c.in_ok-told.told
-        (write_of c.args.word c.args.value)
+    (write_of c.args.word c.args.value)
     (λ a w. ask_op w a (seat_of r) c.args.word
-        (Write c.args.value)) c.blocks-2.result.now c.blocks-2.ensures.words c.blocks-2.ensures.blocks c.requires.ties
+    (Write c.args.value)) c.blocks-2.result.now c.blocks-2.ensures.words c.blocks-2.ensures.blocks c.requires.ties
     (c.ask.ensures.same.0, c.ask.ensures.same.1, c.ask.ensures.asked) c.requires.open (λ a w. refl)
-        (c.asks_to_write.ensures.keeps (quiet_open r c.requires.open)) c.in_ok-told.ensures.ok).1
+    (c.asks_to_write.ensures.keeps (quiet_open r c.requires.open)) c.in_ok-told.ensures.ok).1
 
 pub returns-in_err-told-clause-ties : goal.returns-in_err-told-clause-ties
 returns-in_err-told-clause-ties g c =

@@ -7,7 +7,7 @@ use Rattle.vacation_core.proofs.state.customers_held.Goals as goal
 pub loop-number-init : goal.loop-number-init
 loop-number-init c =
     put_none entry.Customer _ _ _ c.new-held.ensures (c.into_iter-number-iterator.ensures.into_iter_gives
-        ∙ c.customers-number-items.ensures)
+    ∙ c.customers-number-items.ensures)
 
 pub loop-number-preserved : goal.loop-number-preserved
 loop-number-preserved c =

@@ -9,18 +9,18 @@ pub bounds-stripes-len : goal.bounds-stripes-len
 bounds-stripes-len g c =
     let at = c.loop-collection in
     let low = next_place c.args.stripes.now c.args.held.items at.yielded
-        (into_iter_items c.next.new.self) c.in-Some.collection at.bases.items
+    (into_iter_items c.next.new.self) c.in-Some.collection at.bases.items
     c.requires.same at.invariant.1
-        (next_items at.yielded _ _ c.args.held.items c.in-Some.collection c.in-Some.ensures.steps.0 at.invariant.0) in
+    (next_items at.yielded _ _ c.args.held.items c.in-Some.collection c.in-Some.ensures.steps.0 at.invariant.0) in
     omega (arith, low, c.len.ensures)
 
 pub offset_bounds-stripes-len : goal.offset_bounds-stripes-len
 offset_bounds-stripes-len g c =
     let at = c.loop-collection in
     let low = next_place c.args.stripes.now c.args.held.items at.yielded
-        (into_iter_items c.next.new.self) c.in-Some.collection at.bases.items
+    (into_iter_items c.next.new.self) c.in-Some.collection at.bases.items
     c.requires.same at.invariant.1
-        (next_items at.yielded _ _ c.args.held.items c.in-Some.collection c.in-Some.ensures.steps.0 at.invariant.0) in
+    (next_items at.yielded _ _ c.args.held.items c.in-Some.collection c.in-Some.ensures.steps.0 at.invariant.0) in
     let few : length c.args.stripes.now ≤ 256 = c.requires.few in
     let small : c.len.result < 256 = omega (arith, low, few, c.len.ensures) in
     omega (arith, small)
@@ -41,9 +41,9 @@ pub loop-collection-preserved : goal.loop-collection-preserved
 loop-collection-preserved g c =
     let at = c.loop-collection in
     let was = next_items at.yielded _
-        (into_iter_items c.next.new.self) c.args.held.items c.in-Some.collection c.in-Some.ensures.steps.0 at.invariant.0 in
+    (into_iter_items c.next.new.self) c.args.held.items c.in-Some.collection c.in-Some.ensures.steps.0 at.invariant.0 in
     let low = next_place c.args.stripes.now c.args.held.items at.yielded
-        (into_iter_items c.next.new.self) c.in-Some.collection at.bases.items
+    (into_iter_items c.next.new.self) c.in-Some.collection at.bases.items
     c.requires.same at.invariant.1 was in
     let opened = subst (λ (i : ℕ). IsOpened (get_or c.args.stripes.now i 0) c.in-Some.collection c.in_ok-base.base)
     (c.len.ensures ∙ at.bases.ok.0)

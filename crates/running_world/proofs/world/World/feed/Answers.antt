@@ -7,7 +7,7 @@ use Rattle.running_world.proofs.world.World.feed.Goals as goal
 pub invariant_of-self-2 : goal.invariant_of-self-2
 invariant_of-self-2 g c _ =
     well_fed c.self.inside.parts c.feed.new.self c.args.event c.in_ok-notice.notice
-        (c.self.invariant c.if-self.false) c.in_ok-notice.ensures
+    (c.self.invariant c.if-self.false) c.in_ok-notice.ensures
 
 pub returns-clause-from : goal.returns-clause-from
 returns-clause-from g c = λ o from. from_fed o c.self.inside.parts c.feed.new.self c.args.event c.in_ok-notice.notice

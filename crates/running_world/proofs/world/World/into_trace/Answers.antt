@@ -14,7 +14,7 @@ into_trace-requires g c = words_fit c.self.inside.parts (c.self.invariant c.if-s
 pub returns-clause-trace : goal.returns-clause-trace
 returns-clause-trace g c =
     subst (λ (s : WorldShown g.row.V.Denot). IfOk c.into_trace.result (λ t. (o : _) (w : _) → IsReached o w → IsWorld s.parts w
-        → IsTraceOf w t))
+    → IsTraceOf w t))
     c.self.view_is c.into_trace.ensures.trace
 
 pub returns-clause-serial : goal.returns-clause-serial

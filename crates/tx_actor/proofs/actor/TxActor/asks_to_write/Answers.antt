@@ -52,4 +52,4 @@ returns-in_err-write_word-clause-keeps g c quiet =
     let free = c.in_ok-reserve.ensures.ok in
     let room : vec_len c.reserve.new.self < vec_capacity c.reserve.new.self = omega (arith, free) in
     keeps_asked v r u (c.write_word.ensures.keeps (end_of v.words v.blocks) below) (room_as r u r.stage quiet refl (λ h. room))
-        (λ h. h) quiet
+    (λ h. h) quiet

@@ -47,7 +47,7 @@ pub goes_on-requires : goal.goes_on-requires
 goes_on-requires g c =
     let h = c.requires.held in
     let ready = subst (λ (o : Option
-        (Prepared g.row.V.Denot)). ArePrepared c.args.self.now c.prepares.new.self c.args.place c.first_of-first.result
+    (Prepared g.row.V.Denot)). ArePrepared c.args.self.now c.prepares.new.self c.args.place c.first_of-first.result
     c.args.op h.copy o) c.in-Some.is (c.in_ok-prepared.ensures.ok h.copy h.at) in
     record { prepared = ready.prepared.accept }
 

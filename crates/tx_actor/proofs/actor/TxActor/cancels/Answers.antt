@@ -15,7 +15,7 @@ returns-clause-does g c a w s =
     let u : TxActor g.row.V.Denot = record old { words = c.cancel.new.words; stage = c.leaving_or_cancelling.result } in
     let z = seat_of old in
     let r = cancels_as a z (ending z (actor_of u.words)) _ _ _ w
-        (c.leaving_or_cancelling.ensures.knows _) c.cancel.ensures.actor refl s in (
+    (c.leaving_or_cancelling.ensures.knows _) c.cancel.ensures.actor refl s in (
       (
         seat_as u _ _ c.leaving_or_cancelling.ensures.shown r.0 (λ st i. at_stage z (c.leaving_or_cancelling.ensures.stage st i)),
         r.1,

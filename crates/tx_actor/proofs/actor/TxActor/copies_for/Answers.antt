@@ -9,7 +9,7 @@ readies_copy-requires g c =
     let can = c.requires in
     may_take c.args.blocks.now c.args.self.now c.args.base.now c.args.asked.now c.stripes_of-stripes.result c.first_of-first.result
     c.in-Ok.found can (c.stripes_of-stripes.ensures can.block can.there)
-        (c.first_of-first.ensures.within can.block can.there) c.in-Ok.ensures
+    (c.first_of-first.ensures.within can.block can.there) c.in-Ok.ensures
 
 pub returns-in_ok-copied-in-Ok-clause-ok : goal.returns-in_ok-copied-in-Ok-clause-ok
 returns-in_ok-copied-in-Ok-clause-ok g c =

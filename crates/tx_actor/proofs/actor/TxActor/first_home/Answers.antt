@@ -38,6 +38,6 @@ returns-then-has_none-clause-leaves g c =
 pub returns-clause-leaves : goal.returns-clause-leaves
 returns-clause-leaves g c =
     from_homing c.goes_home.new.self.stage c.pop_front.new.self
-        (stage.Homing c.args.homes) c.args.self.now.copies.items c.goes_home.new.self.copies.items
+    (stage.Homing c.args.homes) c.args.self.now.copies.items c.goes_home.new.self.copies.items
     (λ ks h k there. later_in c.args.homes.items k (subst (λ (js : List ℕ). Contains js k) c.pop_front.ensures.rest (h k there)))
     c.goes_home.ensures.leaves

@@ -16,4 +16,4 @@ returns-clause-keeps g c v =
 pub returns-clause-leaves : goal.returns-clause-leaves
 returns-clause-leaves g c =
     copies_idle (at c.args.self.now stage.Idle)
-        (record c.args.self.now { cause = Some c.args.cause }) c.puts_back.new.self c.puts_back.ensures.leaves
+    (record c.args.self.now { cause = Some c.args.cause }) c.puts_back.new.self c.puts_back.ensures.leaves

@@ -18,7 +18,7 @@ pub goes_on-requires : goal.goes_on-requires
 goes_on-requires g c =
     let u = c.copies_for.new.self in
     let ready = subst (λ (o : Option (ℕ
-        × Readied g.row.V.Denot)). AreReadyAt c.args.blocks.now c.args.self.now u c.args.base.now c.args.asked o)
+    × Readied g.row.V.Denot)). AreReadyAt c.args.blocks.now c.args.self.now u c.args.base.now c.args.asked o)
     c.in-Ok-Some.field-0-is c.in-Ok-Some.ensures.ok in
     record {
       prepared = subst (λ (p : Prepared g.row.V.Denot). CanAccept u p.call) (sym c.prepared-prepared.ensures) ready.4.ready.prepared.accept;
@@ -81,7 +81,7 @@ returns-in-Ok-Some-clause-copies g c =
     let u = c.copies_for.new.self in
     let n = c.goes_on.new.self in
     let ready = subst (λ (o : Option (ℕ
-        × Readied g.row.V.Denot)). AreReadyAt c.args.blocks.now c.args.self.now u c.args.base.now c.args.asked o)
+    × Readied g.row.V.Denot)). AreReadyAt c.args.blocks.now c.args.self.now u c.args.base.now c.args.asked o)
     c.in-Ok-Some.field-0-is c.in-Ok-Some.ensures.ok in
     inr (record {
       block = ready.0;
@@ -101,7 +101,7 @@ pub returns-in-Ok-None-clause-copies : goal.returns-in-Ok-None-clause-copies
 returns-in-Ok-None-clause-copies g c =
     let u = c.copies_for.new.self in
     let none = subst (λ (o : Option (ℕ
-        × Readied g.row.V.Denot)). AreReadyAt c.args.blocks.now c.args.self.now u c.args.base.now c.args.asked o)
+    × Readied g.row.V.Denot)). AreReadyAt c.args.blocks.now c.args.self.now u c.args.base.now c.args.asked o)
     c.in-Ok-None.field-0-is c.in-Ok-None.ensures.ok in
     inl (refl, ap (λ (z : TxActor g.row.V.Denot). z.copies.items) none.0, refl)
 

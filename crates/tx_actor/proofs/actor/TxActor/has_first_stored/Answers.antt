@@ -48,11 +48,11 @@ returns-in_default-clause-keeps g c v =
 pub returns-in-Stored-clause-leaves : goal.returns-in-Stored-clause-leaves
 returns-in-Stored-clause-leaves g c =
     from_homing c.goes_home.new.self.stage c.args.homes
-        (stage.Ready c.args.homes) c.args.self.now.copies.items c.goes_home.new.self.copies.items (λ ks h. tt)
+    (stage.Ready c.args.homes) c.args.self.now.copies.items c.goes_home.new.self.copies.items (λ ks h. tt)
     c.goes_home.ensures.leaves
 
 pub returns-in_default-clause-leaves : goal.returns-in_default-clause-leaves
 returns-in_default-clause-leaves g c =
     from_storing c.stored_one.new.self.stage c.args.homes
-        (stage.Ready c.args.homes) c.args.self.now.copies.items c.stored_one.new.self.copies.items (λ ks h. tt)
+    (stage.Ready c.args.homes) c.args.self.now.copies.items c.stored_one.new.self.copies.items (λ ks h. tt)
     c.stored_one.ensures.leaves

@@ -12,13 +12,13 @@ use Rattle.tx_actor.proofs.actor.TxActor.has_loaded.Goals as goal
 pub returns-in-Number-clause-keeps : goal.returns-in-Number-clause-keeps
 returns-in-Number-clause-keeps g c v =
     subst (λ (h : WordNotice). KeepsHeard v (at c.args.self.now (stage.Loading c.args.call c.args.left)) c.has_found.new.self
-        (shown_notice h))
+    (shown_notice h))
     (sym c.in-Number.is) (c.has_found.ensures.keeps v)
 
 pub returns-in-Moved-clause-keeps : goal.returns-in-Moved-clause-keeps
 returns-in-Moved-clause-keeps g c v =
     subst (λ (h : WordNotice). KeepsHeard v (at c.args.self.now (stage.Loading c.args.call c.args.left)) c.has_moved.new.self
-        (shown_notice h))
+    (shown_notice h))
     (sym c.in-Moved.is) (c.has_moved.ensures.keeps v)
 
 pub returns-in_default-clause-keeps : goal.returns-in_default-clause-keeps

@@ -57,7 +57,7 @@ returns-in-Busy-clause-leaves g c =
 pub returns-in-Invalid-clause-leaves : goal.returns-in-Invalid-clause-leaves
 returns-in-Invalid-clause-leaves g c =
     copies_idle (at c.args.self.now
-        (stage.Locking c.args.homes)) c.args.self.now c.gives_up-in-Invalid.new.self c.gives_up-in-Invalid.ensures.leaves
+    (stage.Locking c.args.homes)) c.args.self.now c.gives_up-in-Invalid.new.self c.gives_up-in-Invalid.ensures.leaves
 
 pub returns-in_default-clause-leaves : goal.returns-in_default-clause-leaves
 returns-in_default-clause-leaves g c =

@@ -31,7 +31,7 @@ returns-in_default-clause-keeps g c v = c.stored_one.ensures.keeps v
 pub returns-in-Stored-clause-leaves : goal.returns-in-Stored-clause-leaves
 returns-in-Stored-clause-leaves g c =
     from_homing c.goes_home.new.self.stage c.args.homes
-        (stage.Storing c.args.homes) c.args.self.now.copies.items c.goes_home.new.self.copies.items (λ ks h. h)
+    (stage.Storing c.args.homes) c.args.self.now.copies.items c.goes_home.new.self.copies.items (λ ks h. h)
     c.goes_home.ensures.leaves
 
 pub returns-in_default-clause-leaves : goal.returns-in_default-clause-leaves

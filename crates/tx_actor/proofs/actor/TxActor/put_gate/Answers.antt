@@ -48,15 +48,15 @@ returns-in_default-clause-keeps g c v =
 pub returns-in-Returning-clause-leaves : goal.returns-in-Returning-clause-leaves
 returns-in-Returning-clause-leaves g c quiet =
     copies_at c.args.self.now c.put_first.new.self (stage.Returning c.in-Returning.homes) (sym c.replace-stage.ensures.value
-        ∙ c.in-Returning.is)
+    ∙ c.in-Returning.is)
     c.put_first.ensures.leaves
 
 pub returns-in-ReturningOne-clause-leaves : goal.returns-in-ReturningOne-clause-leaves
 returns-in-ReturningOne-clause-leaves g c quiet =
     copies_at c.args.self.now c.cancels.new.self (stage.ReturningOne c.in-ReturningOne.field-0) (sym c.replace-stage.ensures.value
-        ∙ c.in-ReturningOne.is)
+    ∙ c.in-ReturningOne.is)
     (copies_idle (at c.args.self.now
-        (stage.ReturningOne c.in-ReturningOne.field-0)) c.args.self.now c.cancels.new.self c.cancels.ensures.leaves)
+    (stage.ReturningOne c.in-ReturningOne.field-0)) c.args.self.now c.cancels.new.self c.cancels.ensures.leaves)
 
 pub returns-in_default-clause-leaves : goal.returns-in_default-clause-leaves
 returns-in_default-clause-leaves g c quiet =

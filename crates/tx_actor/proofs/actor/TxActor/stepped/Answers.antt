@@ -185,7 +185,7 @@ returns-in-Beginning-clause-leaves g c quiet =
 pub returns-in-Reading-clause-leaves : goal.returns-in-Reading-clause-leaves
 returns-in-Reading-clause-leaves g c quiet =
     copies_at c.args.self.now c.has_read.new.self (stage.Reading c.in-Reading.location) (sym c.replace-stage.ensures.value
-        ∙ c.in-Reading.is)
+    ∙ c.in-Reading.is)
     c.has_read.ensures.leaves
 
 pub returns-in-Locking-clause-leaves : goal.returns-in-Locking-clause-leaves

@@ -49,13 +49,13 @@ returns-in_default-clause-keeps g c v =
 pub returns-in-Trying-clause-leaves : goal.returns-in-Trying-clause-leaves
 returns-in-Trying-clause-leaves g c quiet =
     copies_at c.args.self.now c.tried_call.new.self (stage.Trying c.in-Trying.asked c.in-Trying.tries) (sym c.replace-stage.ensures.value
-        ∙ c.in-Trying.is)
+    ∙ c.in-Trying.is)
     c.tried_call.ensures.leaves
 
 pub returns-in-Gating-clause-leaves : goal.returns-in-Gating-clause-leaves
 returns-in-Gating-clause-leaves g c quiet =
     copies_at c.args.self.now c.tried_next.new.self (stage.Gating c.in-Gating.homes c.in-Gating.got c.in-Gating.tries)
-        (sym c.replace-stage.ensures.value ∙ c.in-Gating.is)
+    (sym c.replace-stage.ensures.value ∙ c.in-Gating.is)
     c.tried_next.ensures.leaves
 
 pub returns-in_default-clause-leaves : goal.returns-in_default-clause-leaves

@@ -79,4 +79,4 @@ returns-then-tries-gt0-clause-leaves g c =
 pub returns-clause-leaves : goal.returns-clause-leaves
 returns-clause-leaves g c =
     copies_idle (at c.args.self.now
-        (stage.Gating c.args.homes c.args.got c.args.tries)) c.args.self.now c.gives_up_with.new.self c.gives_up_with.ensures.leaves
+    (stage.Gating c.args.homes c.args.got c.args.tries)) c.args.self.now c.gives_up_with.new.self c.gives_up_with.ensures.leaves
