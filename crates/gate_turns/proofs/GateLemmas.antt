@@ -276,7 +276,8 @@ module _ {V : Type 0} where
       let o = opening_of t in
       let w = acts o s in
       let h = ties.reached in
-      let guard = put_allowed (blocks_in t) key.shape.value.clock key.state.value.words key.state.value.held h.events a k w h.stripes h.alike
+      let guard = put_allowed (blocks_in t) key.shape.value.clock key.state.value.words key.state.value.held h.events a k w
+      h.stripes h.alike
       puts in
       inl (puts, is.0, put_shows o w a k b h.shape.0 h.shape.1 puts guard.0 guard.1 is.1)
 

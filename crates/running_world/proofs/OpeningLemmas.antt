@@ -2,6 +2,8 @@
 use Rattle.std.proofs.Common.{◌≡◌, ℕ, zero, suc, ◌+◌, ◌≤◌, ◌^◌, List, [], ◌∷◌, ◌++◌, map, Some, None, length}
 use Rattle.std.proofs.Common.{refl, sym, ap, subst, arith}
 use Rattle.std.specs.Prelude.{slice_get}
+use Rattle.word_machine.specs.Actor.{clock_limit}
+use Rattle.running_world.specs.declared.opening.TheConstants.{ACTORS}
 use Rattle.seq_model.specs.Contents.{Contents}
 use Rattle.replay_log.specs.Contents.{end_of}
 use Rattle.replay_log.specs.Worlds.{written_homes}
@@ -41,7 +43,7 @@ module _ {V : Type 0} where
 
   pub opens : (d : Parts V) (ns : List ℕ) (clock : ℕ) (s : Contents V) → HasTable d.table (world_of ns clock s)
       → HasShape d.table (length s.words) (blocks_of ns s.held) → d.blocks.words ≡ length s.words → d.blocks.blocks ≡ blocks_of ns s.held
-      → length d.actors.items ≡ 64 → AreIdle d.actors.items → d.records.items ≡ [] → d.aborted.items ≡ [] → clock ≤ 2 ^ 62
+      → length d.actors.items ≡ ACTORS → AreIdle d.actors.items → d.records.items ≡ [] → d.aborted.items ≡ [] → clock ≤ clock_limit
       → IsWorld d (world_of ns clock s)
   opens d ns clock s table shape words blocks many idle rs es low = record {
     laid = (sym words, sym blocks);

@@ -25,6 +25,8 @@ use Rattle.world_table.specs.declared.table.Table.{Table}
 use Rattle.std.specs.declared.alloc.Global.{Global}
 use Rattle.std.specs.declared.collections.VecDeque.{VecDeque}
 use Rattle.std.specs.declared.vec.Vec.{Vec}
+use Rattle.word_machine.specs.Actor.{clock_limit}
+use Rattle.seq_model.specs.declared.limits.TheConstants.{SEATS}
 use Rattle.seq_model.specs.declared.record.Record.{Record}
 use Rattle.step_core.specs.declared.cells.Cells.{Cells}
 use Rattle.running_world.specs.declared.parts.Parts.{Parts}
@@ -146,7 +148,7 @@ module _ {V : Type 0} where
     others = h.others;
     records = h.records;
     aborted = h.aborted;
-    clock = subst (λ (x : Cells). x.clock + total_owed c.actors.items ≤ 2 ^ 62 + 65) (sym rest.0) h.clock;
+    clock = subst (λ (x : Cells). x.clock + total_owed c.actors.items ≤ clock_limit + SEATS) (sym rest.0) h.clock;
   }
 
   -- and with room for a record more

@@ -6,6 +6,7 @@ use Rattle.std.specs.Prelude.{if◌then◌else◌, slice_get}
 use Rattle.std.proofs.Math.Seq.{take-suc}
 use Rattle.std.proofs.lemmas.Bool.{cases_Bool, cases_lt}
 use Rattle.std.proofs.lemmas.Bool.Decides.{nat_tests}
+use Rattle.running_world.specs.declared.opening.TheConstants.{ACTORS}
 use Rattle.seq_model.specs.declared.record.Record.{Record}
 use Rattle.seq_model.specs.Contents.{Contents}
 use Rattle.seq_model.specs.Runs.{IsInCommitOrder, IsRun, after_run}
@@ -110,7 +111,7 @@ module _ {V : Type 0} where
   pub seat_like : (c : Parts V) (w : World V) (a : ℕ) → IsWorld c w → IsLike (w.seats a) (seat_at c.actors.items a)
   seat_like c w zero h = subst (λ (x : Seat V). IsLike x no_one) (sym (h.others 0 refl)) (refl, refl)
   seat_like c w (suc i) h =
-      elim (cases_lt i 64) [
+      elim (cases_lt i ACTORS) [
         | inl low ↦ (
             let q = some_at c.actors.items i (omega (arith, low, h.count)) in
             let next : i + 1 ≡ suc i = omega arith in
@@ -123,7 +124,7 @@ module _ {V : Type 0} where
             (subst (λ (x : Seat V). IsLike x no_one) (sym (h.others (suc i) (out i high))) (refl, refl)))
       ]
     where
-      out : (i : ℕ) → 64 ≤ i → is_actor (suc i) ≡ false
+      out : (i : ℕ) → ACTORS ≤ i → is_actor (suc i) ≡ false
       out i high = grind (arith, nat_tests)
 
   pub half_of : (c : Parts V) (w : World V) (ns : List ℕ) → IsWorld c w → ns ≡ half_in (seat_at c.actors.items) c.records.items

@@ -7,6 +7,9 @@ use Rattle.std.specs.Prelude.{slice_get, slice_set}
 use Rattle.std.specs.List.{All}
 use Rattle.std.proofs.lemmas.Bool.{cases_eq}
 use Rattle.std.proofs.lemmas.Bool.Decides.{nat_tests}
+use Rattle.word_machine.specs.Actor.{clock_limit}
+use Rattle.seq_model.specs.declared.limits.TheConstants.{SEATS}
+use Rattle.running_world.specs.declared.opening.TheConstants.{ACTORS}
 use Rattle.tx_sets.specs.Entries.{Entries}
 use Rattle.seq_model.specs.declared.event.Event.{Event}
 use Rattle.seq_model.specs.Contents.{Contents}
@@ -81,7 +84,7 @@ set_there (z ∷ zs) (suc i) zero y ne = refl
 set_there (z ∷ zs) (suc i) (suc j) y ne = set_there zs i j y (λ e. ne (ap suc e))
 
 -- one of the actors 1 to 64
-is_one : (a : ℕ) → is_actor a ≡ false → (i : ℕ) → i < 64 → a ≢ i + 1
+is_one : (a : ℕ) → is_actor a ≡ false → (i : ℕ) → i < ACTORS → a ≢ i + 1
 is_one a none i lt e = grind (arith, nat_tests)
 
 module _ {V : Type 0} where
@@ -137,9 +140,9 @@ module _ {V : Type 0} where
   ]
 
   clock_after : (c d : Parts V) (i : ℕ) (r s : TxActor V) → slice_get c.actors.items i ≡ Some r
-      → d.actors.items ≡ slice_set c.actors.items i s → length c.actors.items ≡ 64
-      → Grows c.table.cells r.words d.table.cells s.words → c.table.cells.clock + total_owed c.actors.items ≤ 2 ^ 62 + 65
-      → d.table.cells.clock + total_owed d.actors.items ≤ 2 ^ 62 + 65
+      → d.actors.items ≡ slice_set c.actors.items i s → length c.actors.items ≡ ACTORS
+      → Grows c.table.cells r.words d.table.cells s.words → c.table.cells.clock + total_owed c.actors.items ≤ clock_limit + SEATS
+      → d.table.cells.clock + total_owed d.actors.items ≤ clock_limit + SEATS
   clock_after c d i r s got es many (inl fewer) h =
       omega (arith, owed_set c.actors.items i r s got, ap total_owed es, fewer, h)
   clock_after c d i r s got es many (inr below) h =
@@ -188,8 +191,8 @@ module _ {V : Type 0} where
             rooms.others opening w (j + 1) q reached here (runs_stand w u (j + 1) q (alike (j + 1) apart) (h.seats j q at).runs)
             (h.room j q at)));
         others = λ a none. (
-            let low64 : i < 64 = omega (arith, low, h.count) in
-            let apart : a ≢ whose e = λ z. is_one a none i low64 (z ∙ is) in
+            let low_actor : i < ACTORS = omega (arith, low, h.count) in
+            let apart : a ≢ whose e = λ z. is_one a none i low_actor (z ∙ is) in
             sym (alike a apart).seat ∙ h.others a none);
         records = rs;
         aborted = ends;

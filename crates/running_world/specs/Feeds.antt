@@ -1,5 +1,6 @@
 -- What an event makes of a world with the actors 1 to 64, and what a list of them leads to.
 use Rattle.std.specs.Prelude.{◌≡◌, ℕ, ◌+◌, ◌<◌, true, false, if◌then◌else◌, List, [], ◌∷◌, Option, Some, None}
+use Rattle.running_world.specs.declared.opening.TheConstants.{ACTORS}
 use Rattle.seq_model.specs.declared.event.Event.{Event}
 use Rattle.seq_model.specs.declared.event.Notice.{Notice}
 use Rattle.seq_model.specs.declared.event.Notice.TheVariants.{Refused}
@@ -15,7 +16,7 @@ use Rattle.running_world.specs.Reached.{IsReached}
 -- the actor of this number stands at this place; none does, where it is not one of the actors
 abbrev pub IsPlaceOf : ℕ → Option ℕ → Type 0
 IsPlaceOf a None = is_actor a ≡ false
-IsPlaceOf a (Some i) = (a ≡ i + 1) × (is_actor a ≡ true) × (i < 64)
+IsPlaceOf a (Some i) = (a ≡ i + 1) × (is_actor a ≡ true) × (i < ACTORS)
 
 module _ {V : Type 0} where
   -- an event of another actor changes nothing

@@ -1,5 +1,8 @@
 -- The parts of a running world, the world of the definitions that they are, and what an event makes of both.
 use Rattle.std.specs.Prelude.{◌≡◌, ℕ, ◌+◌, ◌≤◌, ◌^◌, false, List, [], ◌∷◌, map, Some, length, slice_get}
+use Rattle.word_machine.specs.Actor.{clock_limit}
+use Rattle.seq_model.specs.declared.limits.TheConstants.{SEATS}
+use Rattle.running_world.specs.declared.opening.TheConstants.{ACTORS}
 use Rattle.seq_model.specs.declared.event.Event.{Event}
 use Rattle.seq_model.specs.declared.event.Event.TheVariants.{Starve}
 use Rattle.seq_model.specs.Contents.{Contents}
@@ -45,13 +48,13 @@ module _ {V : Type 0} where
     pub laid : IsLaid c.blocks w
     pub table : HasTable c.table w
     pub shape : HasShape c.table w.words w.blocks
-    pub count : length c.actors.items ≡ 64
+    pub count : length c.actors.items ≡ ACTORS
     pub seats : (i : ℕ) (r : TxActor V) → slice_get c.actors.items i ≡ Some r → IsSeat c.blocks w (i + 1) r
     pub room : (i : ℕ) (r : TxActor V) → slice_get c.actors.items i ≡ Some r → HasRoomLeft c.table r
     pub others : (a : ℕ) → is_actor a ≡ false → w.seats a ≡ no_one
     pub records : c.records.items ≡ w.records
     pub aborted : map ended_of c.aborted.items ≡ w.aborted
-    pub clock : c.table.cells.clock + total_owed c.actors.items ≤ 2 ^ 62 + 65
+    pub clock : c.table.cells.clock + total_owed c.actors.items ≤ clock_limit + SEATS
 
   -- The parts are those of some world that events have reached.
   pub record HasWorld (c : Parts V) : Type 0 where

@@ -11,7 +11,7 @@ pub const ACTORS: usize = 64;
 
 /// The actors of a world, none of which has a transaction.
 pub fn actors<V: Drop>(alloc: Global) -> Result<Vec<TxActor<V>>, Memory>
-    ensures count { IfOk result (λ actors. length actors.items ≡ 64) }
+    ensures count { IfOk result (λ actors. length actors.items ≡ ACTORS) }
     ensures idle { IfOk result (λ actors. AreIdle actors.items) }
 {
     let mut actors = Vec::with_capacity(alloc, ACTORS)?;

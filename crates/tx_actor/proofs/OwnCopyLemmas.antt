@@ -237,7 +237,8 @@ module _ {V : Type 0} where
   all_at r w a s h = record { own = record { stripes = h.own.stripes; own = h.own.own; once = h.own.once }; read = h.read }
 
   pub copies_own : StaysLaw V → JoinsLaw V → BackLaw V → EventsStay V → KeepsCopies V → CopiesStayOwn V
-  copies_own stays joins back events_stay keep blocks clock values held events a v r u t base asked stripes st laid runs can shows all may got
+  copies_own stays joins back events_stay keep blocks clock values held events a v r u t base asked stripes st laid runs can shows
+      all may got
       runs_u tells = by got
     where
       w : World V

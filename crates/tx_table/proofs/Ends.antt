@@ -3,6 +3,7 @@
 -- None of these is an event: the world stands, and the sums over the seats (shares, receipts, what the clock is owed) are cut and joined
 -- as numbers. A new seat knows the opening. A seat that was joined away has no commit half done and no gate, so with all shares in one
 -- seat nothing is under way, and the world's serial order says what words and bases hold.
+use Rattle.tx_table.specs.declared.view.TheConstants.{SHARES}
 use Rattle.std.proofs.Common.{◌≡◌, ℕ, subst, zero, suc, ◌+◌, ◌-◌, ◌<◌, ◌≤◌, ◌≢◌, true, false, List, [], ◌∷◌, ◌++◌, length, set, Option as Maybe, Some, None, sym, refl, ap, ◌∙◌, ⊎_elim, arith, length-set, length-append, true≢false, eq-eqb}
 use mathlib.Core.Logic.{dite}
 use mathlib.Core.Option.{Option, some, some-injective, some-ne-none}
@@ -138,7 +139,7 @@ module _ {V : Type 0} where
   pub closes : (o : World V) (opening : Contents V) (id : ℕ) (v : View V) (s : State (Slot V) (View V)) (rule : Rule o s)
       → HaveStripes o.blocks → IsOpening o
       → IsSerial opening (run o rule.events)
-      → AreUpTo (run o rule.events).boosted.words.clock (run o rule.events).records → get_elem? s.views id ≡ some v → v.shares ≡ 64
+      → AreUpTo (run o rule.events).boosted.words.clock (run o rule.events).records → get_elem? s.views id ≡ some v → v.shares ≡ SHARES
       → is_half_done (stage_of (lone id o v.turns) id) ≡ false → ((k : ℕ) → is_actor id ((lone id o v.turns).boosted.gates k) ≡ false)
       → o.words ≤ end_of o.words o.blocks → Closes o.words o.blocks opening v s.words s.homes
   closes o opening id v s rule stripes start serial past here all done bare wide =
@@ -206,7 +207,7 @@ module _ {V : Type 0} where
 
   pub world_closes : (blocks : List Block) (clock : ℕ) (values : List ℕ) (held : List (Held V)) → HaveStripes blocks → Suit blocks held
       → let o = opened blocks clock values held in
-      (id : ℕ) (v : View V) (s : State (Slot V) (View V)) → Rule o s → get_elem? s.views id ≡ some v → v.shares ≡ 64
+      (id : ℕ) (v : View V) (s : State (Slot V) (View V)) → Rule o s → get_elem? s.views id ≡ some v → v.shares ≡ SHARES
       → is_half_done (stage_of (lone id o v.turns) id) ≡ false → ((k : ℕ) → is_actor id ((lone id o v.turns).boosted.gates k) ≡ false)
       → Closes (length values) blocks (record { words = values; held = held }) v s.words s.homes
   world_closes blocks clock values held stripes suit id v s rule here all done bare =
@@ -241,7 +242,7 @@ module _ {V : Type 0} where
       spent = λ j v e z. elim j as
           (λ k. get_elem? (first ∷ []) k ≡ some v → IsSpent o k v) [
             | zero ↦
-                (λ q. absurd (let c : 64 ≡ v.shares = ap (λ (k : View V). k.shares) (some-injective first v q) in omega arith))
+                (λ q. absurd (let c : SHARES ≡ v.shares = ap (λ (k : View V). k.shares) (some-injective first v q) in omega arith))
             | suc i ↦
                 (λ q. absurd (some-ne-none v (sym q)))
           ] e;

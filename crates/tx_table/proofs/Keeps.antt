@@ -32,7 +32,7 @@ use Rattle.atomic_steps.proofs.Spots.{Keeps, one_spot, after_calm}
 use Rattle.atomic_steps.proofs.Turned.{word_turned}
 use Rattle.tx_table.specs.Layout.{address, gate_address, IsInside, width}
 use Rattle.tx_table.specs.Turns.{Turn, own, asked_all, stage_of, spot, found_at, moved, ends, ends_of, took, lone}
-use Rattle.tx_table.specs.Shown.{View, Slot, total, owed, owed_of, acting, HasHappened, OneBase, SameBases, Table, IsOwn, Shows, Rule, Told}
+use Rattle.tx_table.specs.Shown.{highest_clock, View, Slot, total, owed, owed_of, acting, HasHappened, OneBase, SameBases, Table, IsOwn, Shows, Rule, Told}
 use Rattle.tx_table.proofs.Numbers.{total_set, total_append, inside, tally_set, tally_below}
 use Rattle.tx_table.proofs.Turned.{lone_snoc, asked_calm, asked_alike, found_alike, word_own, records_grow}
 
@@ -344,10 +344,10 @@ module _ {V : Type 0} where
 
     -- a step on the clock, which has room; kf is what it leaves there
     pub clock_allowed : (f kf : ℕ → ℕ) → 0 < m.0.shares → spot id alone ≡ Word ClockCell
-        → ((k : ℕ) → k ≤ clock_limit + 64 → becomes (deed_of (ready_at id alone (stage_of alone id)) id) k ≡ f k)
-        → ((k : ℕ) → k ≤ clock_limit + 64 → kf k ≡ f k)
+        → ((k : ℕ) → k ≤ highest_clock → becomes (deed_of (ready_at id alone (stage_of alone id)) id) k ≡ f k)
+        → ((k : ℕ) → k ≤ highest_clock → kf k ≡ f k)
         → Allows (Rule o) slots id m 0 f
-        (λ found t. Told o id qs (kf found) m found None t.0 × (t.1 ≡ m.1) × (m.0.clock ≤ found) × (found ≤ clock_limit + 64))
+        (λ found t. Told o id qs (kf found) m found None t.0 × (t.1 ≡ m.1) × (m.0.clock ≤ found) × (found ≤ highest_clock))
     clock_allowed f kf live touches is leaves s rule len here small =
         let room = rule.shows.room in
         let word_is : get_or s.words 0 0 ≡ (run o rule.events).boosted.words.clock = rule.shows.table.cells ClockCell tt in

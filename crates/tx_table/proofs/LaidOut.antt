@@ -1,4 +1,5 @@
 -- A table that was laid out meets its rule: the words lie at their addresses, the gates are free, and each base is in its slot.
+use Rattle.actor_words.specs.declared.blocks.TheConstants.{TABLE_LIMIT, COLLECTION_LIMIT}
 use Rattle.std.proofs.Common.{◌≡◌, ℕ, zero, suc, ◌+◌, ◌-◌, ◌*◌, ◌<◌, ◌≤◌, List, [], ◌∷◌, ◌++◌, Some, length, get_or, sym, refl, ap, ◌∙◌, subst, arith, length-append}
 use Rattle.std.specs.Prelude.{map, replicate, slice_get}
 use Rattle.std.proofs.lemmas.List.{length-map, length-replicate, get_or-replicate, get_or_append_left, get_or-append_right}
@@ -163,7 +164,7 @@ module _ {V : Type 0} where
     slots_are = ap (λ (ys : List (Slot V)). length ys) homes ∙ length-map t.bases.items Some ∙ fits_key.bases
 
     pub few : IsWithin shape.stripes shape.clock s → length shape.stripes ≡ length s.held
-        → (length t.cells.locks.items ≤ 1048576) × (length (blocks_at key) ≤ 256)
+        → (length t.cells.locks.items ≤ TABLE_LIMIT) × (length (blocks_at key) ≤ COLLECTION_LIMIT)
     few within same =
         let a = fits.locks in
         let b = within.locations in
@@ -172,7 +173,7 @@ module _ {V : Type 0} where
         let d = as_many shape.stripes s.held same in
         let e = within.collections in (omega arith, omega arith)
 
-  pub few_words : (shape : Shape) (s : Contents V) → IsWithin shape.stripes shape.clock s → length s.words ≤ 1048576
+  pub few_words : (shape : Shape) (s : Contents V) → IsWithin shape.stripes shape.clock s → length s.words ≤ TABLE_LIMIT
   few_words shape s within =
       let a = within.locations in
       let b = end_above (length s.words) (blocks_of shape.stripes s.held) in omega arith

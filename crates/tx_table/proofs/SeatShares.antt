@@ -1,4 +1,5 @@
 -- A seat that is cut in two, two that become one, and the last one: what the rule of a table says of them.
+use Rattle.tx_table.specs.declared.view.TheConstants.{SHARES}
 use Rattle.std.proofs.Common.{◌≡◌, ℕ, zero, suc, ◌+◌, ◌<◌, ◌≤◌, List, [], ◌∷◌, Some, None, length, get_or, set, sym, refl, ap, ◌∙◌, subst, arith, ◌≢◌, ⊎_elim, length-set}
 use Rattle.std.specs.Prelude.{drop, map, take}
 use Rattle.std.proofs.lemmas.Option.{slice_get_within}
@@ -7,7 +8,6 @@ use lib.ListN.{get_elem?}
 use lib.Seq.{set-get_or}
 use Rattle.atomic_table.specs.Table.{Me, Allows, Splits, Joins, Final, Seen, keeps}
 use Rattle.atomic_table.proofs.Lists.{at_set}
-use Rattle.word_machine.specs.Actor.{clock_limit}
 use Rattle.word_machine.specs.Cells.{ClockCell}
 use Rattle.replay_log.specs.Base.{held_of, shown_of}
 use Rattle.replay_log.specs.Seats.{World}
@@ -16,7 +16,7 @@ use Rattle.replay_log.specs.WorldSerial.{AreUpTo}
 use Rattle.tx_table.specs.declared.view.Opening.{Opening}
 use Rattle.tx_table.specs.Opening.{Holds, blocks_at, locations_at, words_at, world_at}
 use Rattle.tx_table.specs.Turns.{lone}
-use Rattle.tx_table.specs.Shown.{View, Slot, Closes, IsOwn, IsSpent, Shows, total, owed, looking, left_of, right_of, both_of, spent_of}
+use Rattle.tx_table.specs.Shown.{highest_clock, View, Slot, Closes, IsOwn, IsSpent, Shows, total, owed, looking, left_of, right_of, both_of, spent_of}
 use Rattle.tx_table.specs.Seated.{Rests}
 use Rattle.tx_table.proofs.Numbers.{map_at, tally_set, total_set, total_part, inside}
 use Rattle.tx_table.proofs.Ends.{splits, joins, opening_is, world_closes}
@@ -52,9 +52,9 @@ module _ {V : Type 0} where
     rule = joins (world_at key) id other v u live alive rests.0 rests.1 s h.rule here apart there;
   }
 
-  -- a load that is no step of the actor: there are 64 shares
+  -- a load that is no step of the actor: there are `SHARES` shares
   pub counts : (key : Opening V) (slots id : ℕ) (m : Me (Slot V) (View V))
-      → Allows (Holds key) slots id m 0 (λ k. k) (λ found t. (t ≡ m) × (m.0.shares ≤ 64))
+      → Allows (Holds key) slots id m 0 (λ k. k) (λ found t. (t ≡ m) × (m.0.shares ≤ SHARES))
   counts key slots id m s h len here small =
       let words : set s.words 0 (get_or s.words 0 0) ≡ s.words = set-get_or s.words 0 0 in
       let views : set s.views id m.0 ≡ s.views = set_here s.views id m.0 here in
@@ -71,7 +71,7 @@ module _ {V : Type 0} where
   -- a load of the clock that is no step of the actor: the seat knows the clock from then on
   pub looks : (key : Opening V) (slots id : ℕ) (m : Me (Slot V) (View V))
       → Allows (Holds key) slots id m 0 (λ k. k)
-      (λ found t. (t ≡ (looking m.0 found, m.1)) × (m.0.clock ≤ found) × (found ≤ clock_limit + 64))
+      (λ found t. (t ≡ (looking m.0 found, m.1)) × (m.0.clock ≤ found) × (found ≤ highest_clock))
   looks key slots id m s h len here small =
       let S = h.rule.shows in
       let o : World V = world_at key in
@@ -118,7 +118,7 @@ module _ {V : Type 0} where
         (refl, omega arith, omega arith),
       )
 
-  pub closes_all : (key : Opening V) (id : ℕ) (v : View V) (ws : List ℕ) (xs : List (Slot V)) → v.shares ≡ 64
+  pub closes_all : (key : Opening V) (id : ℕ) (v : View V) (ws : List ℕ) (xs : List (Slot V)) → v.shares ≡ SHARES
       → Rests id (lone id (world_at key) v.turns) → Final (Seen (Holds key) id v) ws xs
       → Closes (words_at key) (blocks_at key) key.state.value v ws (map some xs)
   closes_all key id v ws xs all rests last =

@@ -6,7 +6,6 @@ use Rattle.std.proofs.Common.{◌≡◌, ℕ, ◌+◌, ◌%◌, ◌^◌, ◌<◌
 use Rattle.std.specs.Prelude.{if◌then◌else◌, MatchOption}
 use prog.Atomic.{either}
 use Rattle.atomic_table.specs.Table.{State, Me, Allows, rest, turned as shifted}
-use Rattle.word_machine.specs.Actor.{clock_limit}
 use Rattle.word_machine.specs.Cells.{Cell, ClockCell}
 use Rattle.seq_model.specs.declared.event.Event.{Event}
 use Rattle.seq_model.specs.declared.record.Record.{Record}
@@ -20,7 +19,7 @@ use Rattle.tx_table.specs.Layout.{address, gate_address, IsInside}
 use Rattle.tx_table.specs.declared.view.Opening.{Opening}
 use Rattle.tx_table.specs.Opening.{Holds, blocks_at, locations_at, world_at}
 use Rattle.tx_table.specs.Turns.{Turn, asked_all, lone, spot, moved, ends}
-use Rattle.tx_table.specs.Shown.{View, Slot, HasHappened, IsBaseAt, IsReached, Rule, Told, Took, Went, acting}
+use Rattle.tx_table.specs.Shown.{highest_clock, View, Slot, HasHappened, IsBaseAt, IsReached, Rule, Told, Took, Went, acting}
 use Rattle.tx_table.specs.Seated.{Adds, Exchanges, IsHome, IsSameSeat, Loads, Stores, Takes, acts, list_of, out, turned, view}
 use Rattle.tx_table.proofs.Turned.{lone_snoc}
 use Rattle.tx_table.proofs.Gates.{at_set_same}
@@ -162,19 +161,19 @@ module _ {V : Type 0} where
     -- what a step on the clock tells of the seat
     abbrev Clocked : (ℕ → ℕ) → ℕ → Me (Slot V) (View V) → Type 0
     Clocked left found t =
-        Told o id asks (left found) m found None t.0 × (t.1 ≡ m.1) × (m.0.clock ≤ found) × (found ≤ clock_limit + 64) × Went o id t
+        Told o id asks (left found) m found None t.0 × (t.1 ≡ m.1) × (m.0.clock ≤ found) × (found ≤ highest_clock) × Went o id t
 
     -- a step on the clock, which knows what it left there
-    clocked : (f left : ℕ → ℕ) → spot id mine ≡ Word ClockCell → ((k : ℕ) → k ≤ clock_limit + 64 → turned id mine k ≡ f k)
-        → ((k : ℕ) → k ≤ clock_limit + 64 → left k ≡ f k)
+    clocked : (f left : ℕ → ℕ) → spot id mine ≡ Word ClockCell → ((k : ℕ) → k ≤ highest_clock → turned id mine k ≡ f k)
+        → ((k : ℕ) → k ≤ highest_clock → left k ≡ f k)
         → Allows (Holds key) slots id m 0 f (Clocked left)
     clocked f left at is leaves =
         let there : (spot id (asked_all id (lone id o m.0.turns) asks) ≡ Word ClockCell)
-        × ((k : ℕ) → k ≤ clock_limit + 64 → turned id (asked_all id (lone id o m.0.turns) asks) k ≡ f k) =
+        × ((k : ℕ) → k ≤ highest_clock → turned id (asked_all id (lone id o m.0.turns) asks) k ≡ f k) =
         subst (λ (q : List (Event V)). (spot id (asked_all id (lone id o m.0.turns) q) ≡ Word ClockCell)
-        × ((k : ℕ) → k ≤ clock_limit + 64 → turned id (asked_all id (lone id o m.0.turns) q) k ≡ f k)) (sym are) (at, is) in
+        × ((k : ℕ) → k ≤ highest_clock → turned id (asked_all id (lone id o m.0.turns) q) k ≡ f k)) (sym are) (at, is) in
         let tells = λ (found : ℕ) (t : Me (Slot V) (View V)).
-        Told o id asks (left found) m found None t.0 × (t.1 ≡ m.1) × (m.0.clock ≤ found) × (found ≤ clock_limit + 64) in
+        Told o id asks (left found) m found None t.0 × (t.1 ≡ m.1) × (m.0.clock ≤ found) × (found ≤ highest_clock) in
         weaker (Holds key) slots id m 0 f (λ k t. tells k t × Went o id t) (Clocked left)
         (λ k t told. (told.0.0, told.0.1, told.0.2, told.0.3, told.1))
         (lifted key slots id m 0 f tells (λ stripes. clock_allowed o slots id m asks f left live there.0 there.1 leaves))

@@ -8,6 +8,7 @@ use lib.ListN.{get_elem?}
 use Rattle.atomic_table.specs.Table.{State, Me}
 use Rattle.word_machine.specs.Actor.{Place, clock_limit}
 use Rattle.word_machine.specs.Cells.{Cell, cell}
+use Rattle.seq_model.specs.declared.limits.TheConstants.{ACTOR_LIMIT}
 use Rattle.seq_model.specs.declared.event.Event.{Event}
 use Rattle.seq_model.specs.declared.event.Event.TheVariants.{Step}
 use Rattle.seq_model.specs.declared.record.Record.{Record}
@@ -31,11 +32,16 @@ use Rattle.atomic_steps.specs.Own.{Alike, SameAfter}
 use Rattle.atomic_steps.specs.Spots.{gate_word, number_at}
 use Rattle.tx_table.specs.Layout.{address, gate_address, IsInside, width}
 use Rattle.tx_table.specs.Turns.{Turn, asked_all, lone, moved, ends, spot, stage_of}
+use Rattle.tx_table.specs.declared.view.TheConstants.{SHARES}
 pub use Rattle.tx_table.specs.declared.view.View.{View}
 
 abbrev pub total : {A : Type 0} → (A → ℕ) → List A → ℕ
 total f [] = 0
 total f (x ∷ xs) = f x + total f xs
+
+-- No clock gets above this: each actor that began below the limit adds one at most.
+abbrev pub highest_clock : ℕ
+highest_clock = clock_limit + ACTOR_LIMIT
 
 -- what a slot holds: a base, or none while a seat works on it
 abbrev pub Slot : Type 0 → Type 0
@@ -46,7 +52,7 @@ tally f i [] = 0
 tally f i (x ∷ xs) = f i x + tally f (suc i) xs
 
 abbrev pub first : {V : Type 0} → View V
-first = record { shares = 64; clock = 0; turns = []; receipts = [] }
+first = record { shares = SHARES; clock = 0; turns = []; receipts = [] }
 
 abbrev pub owed_of : ℕ → Place → ℕ
 owed_of zero p = 0
@@ -105,8 +111,8 @@ module _ {V : Type 0} where
     pub shape : (w.words ≡ o.words) × (w.blocks ≡ o.blocks)
     pub table : Table o.words o.blocks w s.words s.homes
     pub clocks : (j : ℕ) (v : View V) → get_elem? s.views j ≡ some v → v.clock ≤ w.boosted.words.clock
-    pub room : w.boosted.words.clock + tally (owed o) 0 s.views ≤ clock_limit + 64
-    pub shares : total (λ v. v.shares) s.views ≡ 64
+    pub room : w.boosted.words.clock + tally (owed o) 0 s.views ≤ highest_clock
+    pub shares : total (λ v. v.shares) s.views ≡ SHARES
     pub own : (j : ℕ) (v : View V) → get_elem? s.views j ≡ some v → IsOwn j w (lone j o v.turns)
     pub fresh : (a : ℕ) → length s.views ≤ a → Alike a w o
     pub spent : (j : ℕ) (v : View V) → get_elem? s.views j ≡ some v → v.shares ≡ 0 → IsSpent o j v
@@ -133,7 +139,7 @@ module _ {V : Type 0} where
     pub events : List (Event V)
     pub alike : Alike a (run o events) u
     pub bases : SameBases a (run o events) u
-    pub clock : (run o events).boosted.words.clock ≤ clock_limit + 64
+    pub clock : (run o events).boosted.words.clock ≤ highest_clock
 
   -- to a world that is to a as the one that it has for itself, by what its seat knows
   abbrev pub Went : World V → ℕ → Me (Slot V) (View V) → Type 0

@@ -7,7 +7,7 @@ use seq_model::Event;
 use std::snapshot::Snapshot;
 
 impl<V> Seat<V> {
-    /// How many of the table's 64 shares this seat has.
+    /// How many of the table's `SHARES` this seat has.
     pub fn shares(&self) -> u64
         ensures { result ≡ (view self.now).shares }
     {

@@ -2,9 +2,8 @@
 ghost use Rattle.std.specs.Prelude.{◌≡◌, ◌≢◌, ◌+◌, ◌^◌, ◌<◌, ◌≤◌, ◌∷◌, ◌++◌, [], MatchOption, None, Some, length};
 ghost use Rattle.atomic_table.specs.Table.{rest};
 ghost use Rattle.atomic_steps.specs.Gates.{Tries};
-ghost use Rattle.word_machine.specs.Actor.{clock_limit};
 ghost use Rattle.word_machine.specs.Cells.{ClockCell, LockCell, ValueCell};
-ghost use Rattle.tx_table.specs.Shown.{IsBaseAt, looking};
+ghost use Rattle.tx_table.specs.Shown.{highest_clock, IsBaseAt, looking};
 ghost use Rattle.tx_table.specs.Seated.{
   Adds,
   Exchanges,
@@ -38,7 +37,7 @@ impl<V: Value> TxTable<V> {
         requires own { Owns self.now seat.old }
         requires live { 0 < (view seat.old).shares }
         requires due { Loads (actor seat.old) (acts (opening_of self.now) seat.old) ClockCell }
-        ensures room { ((view seat.old).clock ≤ result) × (result ≤ clock_limit + 64) }
+        ensures room { ((view seat.old).clock ≤ result) × (result ≤ highest_clock) }
         ensures step { Takes (opening_of self.now) seat.old result result None (out seat.old) seat.new }
     {
         load_first(&self.whole.shared, seat)
@@ -47,7 +46,7 @@ impl<V: Value> TxTable<V> {
     /// A load of the clock that is no step of a transaction. The seat knows it from then on.
     pub fn look(&self, seat: &mut Seat<V>) -> u64
         requires own { Owns self.now seat.old }
-        ensures room { ((view seat.old).clock ≤ result) × (result ≤ clock_limit + 64) }
+        ensures room { ((view seat.old).clock ≤ result) × (result ≤ highest_clock) }
         ensures seat { seat.new.place.me ≡ (looking (view seat.old) result, out seat.old) }
         ensures same { IsSameSeat seat.old seat.new }
         ensures acts { acts (opening_of self.now) seat.new ≡ acts (opening_of self.now) seat.old }
@@ -106,7 +105,7 @@ impl<V: Value> TxTable<V> {
         requires own { Owns self.now seat.old }
         requires live { 0 < (view seat.old).shares }
         requires due { Adds (actor seat.old) (acts (opening_of self.now) seat.old) }
-        ensures room { ((view seat.old).clock ≤ result) × (result ≤ clock_limit + 64) }
+        ensures room { ((view seat.old).clock ≤ result) × (result ≤ highest_clock) }
         ensures step { Takes (opening_of self.now) seat.old (result + 1) result None (out seat.old) seat.new }
     {
         add_one(&self.whole.shared, seat)

@@ -1,4 +1,5 @@
 //! What a closed table holds.
+ghost use Rattle.actor_words.specs.declared.blocks.TheConstants.{TABLE_LIMIT};
 ghost use Rattle.std.specs.Prelude.{◌≡◌, ◌≤◌, ℕ, None, length};
 ghost use Rattle.std.specs.Slots.{IsFull, slots_items, slots_len};
 ghost use mathlib.Core.Option.{some};
@@ -15,7 +16,7 @@ pub struct Closed<V> {
     pub(crate) locations: usize,
     ghost full: { IsFull row.words × IsFull row.slots },
     ghost wide: { slots_len row.words ≡ width locations (length (slots_items row.slots)) },
-    ghost inside: { (words ≤ locations) × (locations ≤ 1048576) },
+    ghost inside: { (words ≤ locations) × (locations ≤ TABLE_LIMIT) },
     ghost home: { (k : ℕ) → get_elem? (slots_items row.slots) k ≡ some None → ⊥ },
 }
 

@@ -10,6 +10,7 @@ ghost use Rattle.tx_table.specs.Seated.{Owns, Rests, actor, blocks_in, contents_
 use crate::closed::Closed;
 use crate::seat::Seat;
 use crate::table::TxTable;
+use crate::view::SHARES;
 use replay_log::Base;
 use seq_model::{Held, Memory, State, Value};
 use std::alloc::Global;
@@ -19,7 +20,7 @@ impl<V: Value> TxTable<V> {
     /// memory.
     pub fn close(self, seat: Seat<V>) -> Closed<V>
         requires own { Owns self seat }
-        requires all { (view seat).shares ≡ 64 }
+        requires all { (view seat).shares ≡ SHARES }
         requires rests { Rests (actor seat) (kept (opening_of self) seat) }
         ensures words { result.words ≡ words_in self }
         ensures locations { result.locations ≡ locations_in self }

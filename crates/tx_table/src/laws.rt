@@ -1,5 +1,6 @@
 //! The laws of the table's rule, in the form in which `atomic_table` asks for them: what a step, a split or a join makes of a table that
 //! meets the rule meets it again.
+ghost use Rattle.tx_table.specs.declared.view.TheConstants.{SHARES};
 ghost use Rattle.std.specs.Prelude.{◌≡◌, ◌+◌, ◌<◌, ◌≤◌, ◌==◌, ◌∷◌, ℕ, List, Option, [], Some, None, false, length};
 ghost use mathlib.Core.Option.{some, Option as Home};
 ghost use lib.ListN.{get_elem?};
@@ -26,6 +27,7 @@ ghost use Rattle.atomic_steps.specs.Steps.{ready_at};
 ghost use Rattle.tx_table.specs.Layout.{address, gate_address, IsInside};
 ghost use Rattle.tx_table.specs.Turns.{spot, found_at, ends, asked_all, lone, stage_of};
 ghost use Rattle.tx_table.specs.Shown.{
+  highest_clock,
   total,
   Rule,
   Told,
@@ -64,10 +66,10 @@ pub fn word_steps<V>()
     ensures clock { (o : World V) (slots id : ℕ) (m : Me (Slot V) (View V)) (asks : List (Event V)) (f left : ℕ → ℕ) →
         let alone = asked_all id (lone id o m.0.turns) asks in
         0 < m.0.shares → spot id alone ≡ Word ClockCell →
-        ((k : ℕ) → k ≤ clock_limit + 64 → becomes (deed_of (ready_at id alone (stage_of alone id)) id) k ≡ f k) →
-        ((k : ℕ) → k ≤ clock_limit + 64 → left k ≡ f k) →
+        ((k : ℕ) → k ≤ highest_clock → becomes (deed_of (ready_at id alone (stage_of alone id)) id) k ≡ f k) →
+        ((k : ℕ) → k ≤ highest_clock → left k ≡ f k) →
         Allows (Rule o) slots id m 0 f
-        (λ found t. Told o id asks (left found) m found None t.0 × (t.1 ≡ m.1) × (m.0.clock ≤ found) × (found ≤ clock_limit + 64)) }
+        (λ found t. Told o id asks (left found) m found None t.0 × (t.1 ≡ m.1) × (m.0.clock ≤ found) × (found ≤ highest_clock)) }
 {}
 
 /// A step on a gate of a table that was opened keeps the rule, whatever the table is by then. A gate that is tried and found free goes
@@ -116,7 +118,7 @@ pub fn shares<V>()
 pub fn closed<V>()
     ensures { (blocks : List Block) (clock : ℕ) (values : List ℕ) (held : List (Held V)) → HaveStripes blocks → Suit blocks held →
         let o = opened blocks clock values held in
-        (id : ℕ) (v : View V) (s : State (Slot V) (View V)) → Rule o s → get_elem? s.views id ≡ some v → v.shares ≡ 64 →
+        (id : ℕ) (v : View V) (s : State (Slot V) (View V)) → Rule o s → get_elem? s.views id ≡ some v → v.shares ≡ SHARES →
         is_half_done (stage_of (lone id o v.turns) id) ≡ false → ((k : ℕ) → is_actor id ((lone id o v.turns).boosted.gates k) ≡ false) →
         Closes (length values) blocks (record { words = values; held = held }) v s.words s.homes }
 {}

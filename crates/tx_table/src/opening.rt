@@ -9,7 +9,7 @@ ghost use Rattle.tx_table.specs.Seated.{Owns, blocks_in, contents_in, list_of, o
 use crate::rule::Whole;
 use crate::seat::{Asked, Seat};
 use crate::table::TxTable;
-use crate::view::Opening;
+use crate::view::{Opening, SHARES};
 use actor_words::Blocks;
 use replay_log::Base;
 use seq_model::{Memory, Refusal, Shape, State, Value};
@@ -60,7 +60,7 @@ fn blocks_for<V: Value>(alloc: Global, shape: &Shape, state: &State<V>) -> Optio
 }
 
 impl<V: Value> TxTable<V> {
-    /// A table that opens with these words and collections, and with this clock, and its first seat, which has all 64 shares. Each
+    /// A table that opens with these words and collections, and with this clock, and its first seat, which has all shares. Each
     /// collection is in as many stripes as the shape says.
     ///
     /// `NoSuch` where the shape has not as many numbers of stripes as there are collections. `TooLong` where the clock is above its
@@ -107,7 +107,7 @@ impl<V: Value> TxTable<V> {
         let seat = Seat {
             place,
             asked: Asked::Nothing,
-            shares: 64,
+            shares: SHARES,
             last: 0,
         };
         Ok((table, seat))

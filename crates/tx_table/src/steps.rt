@@ -1,13 +1,12 @@
 //! One atomic step each, which takes in what the seat's actor has asked.
 ghost use Rattle.std.specs.Prelude.{◌≡◌, ◌+◌, ◌<◌, ◌≤◌, ◌∷◌, ◌++◌, ℕ, List, [], None, Some, MatchOption, length};
 ghost use Rattle.atomic_table.specs.Table.{rest};
-ghost use Rattle.word_machine.specs.Actor.{clock_limit};
 ghost use Rattle.word_machine.specs.Cells.{Cell, ClockCell};
 ghost use Rattle.seq_model.specs.declared.event.Event.{Event};
 ghost use Rattle.atomic_steps.specs.Gates.{Tries};
 ghost use Rattle.tx_table.specs.Layout.{address, gate_address, IsInside};
 ghost use Rattle.tx_table.specs.Opening.{blocks_at, locations_at, world_at};
-ghost use Rattle.tx_table.specs.Shown.{IsBaseAt};
+ghost use Rattle.tx_table.specs.Shown.{highest_clock, IsBaseAt};
 ghost use Rattle.tx_table.specs.Seated.{Adds, Exchanges, IsHome, Loads, Stepped, StepsBlind, Stores, Takes, acts, list_of, out, view};
 
 use crate::rule::Board;
@@ -73,7 +72,7 @@ pub(crate) fn load_first<V: Value>(board: &Board<V>, seat: &mut Seat<V>) -> u64
     requires inside { 0 < board.now.table_id.words }
     requires live { 0 < (view seat.old).shares }
     requires due { Loads seat.old.place.id (acts (world_at board.now.key) seat.old) ClockCell }
-    ensures room { ((view seat.old).clock ≤ result) × (result ≤ clock_limit + 64) }
+    ensures room { ((view seat.old).clock ≤ result) × (result ≤ highest_clock) }
     ensures step { Takes (world_at board.now.key) seat.old result result None (out seat.old) seat.new }
 {
     let found = board.load::<Brand>(&mut seat.place, 0);
@@ -88,7 +87,7 @@ pub(crate) fn add_one<V: Value>(board: &Board<V>, seat: &mut Seat<V>) -> u64
     requires inside { 0 < board.now.table_id.words }
     requires live { 0 < (view seat.old).shares }
     requires due { Adds seat.old.place.id (acts (world_at board.now.key) seat.old) }
-    ensures room { ((view seat.old).clock ≤ result) × (result ≤ clock_limit + 64) }
+    ensures room { ((view seat.old).clock ≤ result) × (result ≤ highest_clock) }
     ensures step { Takes (world_at board.now.key) seat.old (result + 1) result None (out seat.old) seat.new }
 {
     let found = board.fetch_add::<Brand>(&mut seat.place, 0, 1);

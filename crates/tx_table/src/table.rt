@@ -1,4 +1,5 @@
 //! The table.
+ghost use Rattle.actor_words.specs.declared.blocks.TheConstants.{TABLE_LIMIT, COLLECTION_LIMIT};
 ghost use Rattle.std.specs.Prelude.{◌≡◌, ◌≤◌, length};
 ghost use Rattle.tx_table.specs.Layout.{width};
 ghost use Rattle.tx_table.specs.Opening.{blocks_at, locations_at, words_at};
@@ -18,5 +19,5 @@ pub struct TxTable<V> {
     ghost laid: { (blocks.words ≡ words_at whole.shared.key) × (blocks.blocks ≡ blocks_at whole.shared.key) },
     ghost wide: { whole.shared.table_id.words ≡ width locations (length (blocks_at whole.shared.key)) },
     ghost slots: { whole.shared.table_id.slots ≡ length (blocks_at whole.shared.key) },
-    ghost few: { (locations ≤ 1048576) × (length (blocks_at whole.shared.key) ≤ 256) },
+    ghost few: { (locations ≤ TABLE_LIMIT) × (length (blocks_at whole.shared.key) ≤ COLLECTION_LIMIT) },
 }

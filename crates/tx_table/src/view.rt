@@ -5,6 +5,9 @@ use replay_log::Base;
 use seq_model::{Event, Items, Record, Shape, State};
 use std::snapshot::Snapshot;
 
+/// So many shares the seats of a table have together.
+pub const SHARES: u64 = 64;
+
 /// What a table opened with, as clauses see it.
 #[derive(Drop)]
 pub struct Opening<V> {

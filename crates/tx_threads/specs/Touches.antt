@@ -1,6 +1,6 @@
 -- What one atomic step on the table asks of a seat, and what it leaves.
 use Rattle.std.specs.Prelude.{◌≡◌, ℕ, ◌+◌, ◌<◌, ◌≤◌, ◌^◌, ◌==◌, if◌then◌else◌, None, Option, Result}
-use Rattle.word_machine.specs.Actor.{clock_limit}
+use Rattle.tx_table.specs.Shown.{highest_clock}
 use Rattle.word_machine.specs.Cells.{ClockCell, LockCell, ValueCell}
 use Rattle.replay_log.specs.Seats.{World}
 use Rattle.atomic_steps.specs.Spots.{Spot, Nowhere, Word}
@@ -44,7 +44,7 @@ Finds d m n = m ≡ n
 -- what the seat knows of the clock once it found it so
 abbrev pub IsClock : Due → (found clock : ℕ) → Type 0
 IsClock due.LoadClock n k = k ≡ n
-IsClock due.AddToClock n k = (k ≡ n + 1) × (n ≤ clock_limit + 64)
+IsClock due.AddToClock n k = (k ≡ n + 1) × (n ≤ highest_clock)
 IsClock d n k = Unit {0}
 
 -- the number after an old one is within a word

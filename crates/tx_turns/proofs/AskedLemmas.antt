@@ -2,7 +2,6 @@
 -- world that events have reached, and some events lead to what it leaves.
 use Rattle.std.proofs.Common.{◌≡◌, ℕ, ◌+◌, ◌<◌, ◌≤◌, false, List, [], ◌∷◌, ◌++◌, refl, sym, ap, ◌∙◌, subst}
 use Rattle.word_machine.specs.Actor as machine
-use Rattle.word_machine.specs.Actor.{clock_limit}
 use Rattle.word_machine.specs.Cells.{ClockCell}
 use Rattle.word_machine.proofs.Declared.{has_no_sets}
 use Rattle.seq_model.specs.declared.event.Event.{Event}
@@ -33,7 +32,7 @@ use Rattle.tx_table.specs.declared.table.TxTable.{TxTable}
 use Rattle.tx_table.specs.Opening.{blocks_at, world_at}
 use Rattle.tx_table.specs.Seated.{acts, opening_of, view}
 use Rattle.tx_table.specs.Seated as seated
-use Rattle.tx_table.specs.Shown.{IsReached, SameBases}
+use Rattle.tx_table.specs.Shown.{IsReached, SameBases, highest_clock}
 use Rattle.tx_table.proofs.Keeps.{asked_bases}
 use Rattle.tx_table.specs.declared.view.View.{View}
 use Rattle.tx_table.specs.Turns.{asked_all, lone}
@@ -69,8 +68,8 @@ module _ {V : Type 0} where
         events = h.events ++ e ∷ [];
         alike = subst (λ (z : World V). Alike a z (happens w e).0) there (alike (run o h.events) h.alike);
         bases = subst (λ (z : World V). SameBases a z (happens w e).0) there bases;
-        clock = subst (λ (z : World V). z.boosted.words.clock ≤ clock_limit + 64) there
-            (subst (λ (n : ℕ). n ≤ clock_limit + 64) (sym (same.cells ClockCell)) h.clock);
+        clock = subst (λ (z : World V). z.boosted.words.clock ≤ highest_clock) there
+            (subst (λ (n : ℕ). n ≤ highest_clock) (sym (same.cells ClockCell)) h.clock);
       }
 
   reached_own : (o : World V) (a : ℕ) (w : World V) (e : Event V) → IsReached o a w → IsReached o a (happens w (turns.own a e)).0

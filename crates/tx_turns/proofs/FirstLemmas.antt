@@ -234,7 +234,8 @@ module _ {V : Type 0} where
       let here : spot a w ≡ Word some.0 =
       ready_spot w a ks (w.seats a).stage h.there
       ∙ (ap (λ (z : machine.Actor). spot_of (word_of (plan z z.place))) h.runs.1 ∙ ap spot_of some.1) in
-      let after = planted_first steps w a r p q y told n step.due step.number f some.0 ks h.at h.own_at h.there ties.runs h.all h.place stores
+      let after = planted_first steps w a r p q y told n step.due step.number f some.0 ks h.at h.own_at h.there ties.runs h.all
+      h.place stores
       h.held step.deed some.1 step.touches.finds step.learns.actor step.learns.told heard in
       tied t s u r q n step.touches.clock f None (seated.out s) ties step.touches.takes step.touches.rises
       (clock_left step.due (spot a w) step.number f step.touches.clock (seated.turned a w f) (next_due step.due step.deed).spot

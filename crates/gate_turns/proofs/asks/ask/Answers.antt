@@ -73,7 +73,8 @@ returns-clause-own g c =
     let asks = subst (λ (z : BlocksView × Request g.row.V.Denot). AsksAt z.0 r q c.in_ok-told.told
     (λ a w. ask_at w a (seat_of r) (stage_of r.stage) z.1))
     (λ i. (laid i, same_request c.args.request c.request_of.result c.request_of.ensures i)) c.in_ok-told.ensures.ok in
-    ask_own c.events_keep_copies.ensures.asks c.copies_by_stage.ensures.others t s c.ask_this.new.self r q c.in_ok-told.told c.args.request bs
+    ask_own c.events_keep_copies.ensures.asks c.copies_by_stage.ensures.others t s c.ask_this.new.self r q c.in_ok-told.told
+    c.args.request bs
     c.requires.ties c.requires.own (returns-clause-asked g c) asks c.asks.ensures.still c.asks.ensures.apart running
     (ask_tied c.calls_as_worlds.ensures c.copies_by_stage.ensures.others t s c.ask_this.new.self r q c.in_ok-told.told c.args.request bs
     c.requires.ties c.requires.own (returns-clause-asked g c) asks running).0

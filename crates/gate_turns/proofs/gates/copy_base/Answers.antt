@@ -73,7 +73,8 @@ returns-in-Ok-clause-turned g c =
     let running = subst (λ (v : BlocksView). IsRunning v r → IsRunning v q) laid
     (c.in-Ok.ensures.keeps (copy_reads c.copies_go_on.ensures t s r k c.requires.due c.requires.ties)).running c.requires.ties.running in
     (copy_tied c.steps_as_worlds.ensures c.copied_stay_own.ensures c.copied_as_worlds.ensures c.copies_go_on.ensures
-    c.sizes_copies.ensures.sizes c.copies_stay_own.ensures.blocks c.copies_by_stage.ensures.others t s c.put_gate.new.seat r q c.in-Ok.told k bs
+    c.sizes_copies.ensures.sizes c.copies_stay_own.ensures.blocks c.copies_by_stage.ensures.others t s c.put_gate.new.seat r q
+    c.in-Ok.told k bs
     c.first-base.new.bases.items b c.requires.due c.requires.ties c.requires.own c.first-base.ensures c.put_gate.ensures
     (subst (λ (z : BlocksView × Base g.row.V.Denot). StepsOnAt z.0 r q c.in-Ok.told z.1 r.stage) (λ i. (laid i, same i)) c.in-Ok.ensures.ok)
     (subst (λ (z : BlocksView × Base g.row.V.Denot). HasTakenAt z.0 r q c.in-Ok.told z.1 r.stage)
@@ -95,7 +96,8 @@ returns-in-Ok-clause-ties g c =
     let running = subst (λ (v : BlocksView). IsRunning v r → IsRunning v q) laid
     (c.in-Ok.ensures.keeps (copy_reads c.copies_go_on.ensures t s r k c.requires.due c.requires.ties)).running c.requires.ties.running in
     (copy_tied c.steps_as_worlds.ensures c.copied_stay_own.ensures c.copied_as_worlds.ensures c.copies_go_on.ensures
-    c.sizes_copies.ensures.sizes c.copies_stay_own.ensures.blocks c.copies_by_stage.ensures.others t s c.put_gate.new.seat r q c.in-Ok.told k bs
+    c.sizes_copies.ensures.sizes c.copies_stay_own.ensures.blocks c.copies_by_stage.ensures.others t s c.put_gate.new.seat r q
+    c.in-Ok.told k bs
     c.first-base.new.bases.items b c.requires.due c.requires.ties c.requires.own c.first-base.ensures c.put_gate.ensures
     (subst (λ (z : BlocksView × Base g.row.V.Denot). StepsOnAt z.0 r q c.in-Ok.told z.1 r.stage) (λ i. (laid i, same i)) c.in-Ok.ensures.ok)
     (subst (λ (z : BlocksView × Base g.row.V.Denot). HasTakenAt z.0 r q c.in-Ok.told z.1 r.stage)
@@ -117,7 +119,8 @@ returns-in-Ok-clause-own g c =
     let running = subst (λ (v : BlocksView). IsRunning v r → IsRunning v q) laid
     (c.in-Ok.ensures.keeps (copy_reads c.copies_go_on.ensures t s r k c.requires.due c.requires.ties)).running c.requires.ties.running in
     (copy_tied c.steps_as_worlds.ensures c.copied_stay_own.ensures c.copied_as_worlds.ensures c.copies_go_on.ensures
-    c.sizes_copies.ensures.sizes c.copies_stay_own.ensures.blocks c.copies_by_stage.ensures.others t s c.put_gate.new.seat r q c.in-Ok.told k bs
+    c.sizes_copies.ensures.sizes c.copies_stay_own.ensures.blocks c.copies_by_stage.ensures.others t s c.put_gate.new.seat r q
+    c.in-Ok.told k bs
     c.first-base.new.bases.items b c.requires.due c.requires.ties c.requires.own c.first-base.ensures c.put_gate.ensures
     (subst (λ (z : BlocksView × Base g.row.V.Denot). StepsOnAt z.0 r q c.in-Ok.told z.1 r.stage) (λ i. (laid i, same i)) c.in-Ok.ensures.ok)
     (subst (λ (z : BlocksView × Base g.row.V.Denot). HasTakenAt z.0 r q c.in-Ok.told z.1 r.stage)
@@ -178,5 +181,6 @@ returns-in-Err-clause-own g c =
       c.ask.ensures.asked,
     ) running
     c.in-Err.ensures.err in
-    starve_own c.events_keep_copies.ensures.starves c.copies_by_stage.ensures.others t s c.ask.new.self r q Quiet bs c.requires.ties c.requires.own done.1
+    starve_own c.events_keep_copies.ensures.starves c.copies_by_stage.ensures.others t s c.ask.new.self r q Quiet bs
+    c.requires.ties c.requires.own done.1
     done.0 c.in-Err.ensures.leaves

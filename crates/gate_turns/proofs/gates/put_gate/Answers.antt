@@ -49,7 +49,8 @@ returns-clause-turned g c =
     let r = c.args.actor.now in
     let h = c.put_gate-2 in
     (put_tied c.steps_as_worlds.ensures c.events_keep_copies.ensures.steps c.copies_by_stage.ensures.others c.args.table.now c.args.seat.now
-    c.put_gate.new.seat r h.new.self h.result c.args.k c.args.bases.now.items c.first-base.new.bases.items c.first-base.result c.requires.due
+    c.put_gate.new.seat r h.new.self h.result c.args.k c.args.bases.now.items c.first-base.new.bases.items c.first-base.result
+    c.requires.due
     c.requires.ties c.requires.own c.first-base.ensures c.put_gate.ensures h.ensures.does
     ((h.ensures.keeps (laid_in c.args.table.now)).running c.requires.ties.running)
     (h.ensures.leaves (quiet_put (stage_of r.stage) c.args.k c.requires.due))).1
@@ -59,7 +60,8 @@ returns-clause-ties g c =
     let r = c.args.actor.now in
     let h = c.put_gate-2 in
     (put_tied c.steps_as_worlds.ensures c.events_keep_copies.ensures.steps c.copies_by_stage.ensures.others c.args.table.now c.args.seat.now
-    c.put_gate.new.seat r h.new.self h.result c.args.k c.args.bases.now.items c.first-base.new.bases.items c.first-base.result c.requires.due
+    c.put_gate.new.seat r h.new.self h.result c.args.k c.args.bases.now.items c.first-base.new.bases.items c.first-base.result
+    c.requires.due
     c.requires.ties c.requires.own c.first-base.ensures c.put_gate.ensures h.ensures.does
     ((h.ensures.keeps (laid_in c.args.table.now)).running c.requires.ties.running)
     (h.ensures.leaves (quiet_put (stage_of r.stage) c.args.k c.requires.due))).0
@@ -69,7 +71,8 @@ returns-clause-own g c =
     let r = c.args.actor.now in
     let h = c.put_gate-2 in
     (put_tied c.steps_as_worlds.ensures c.events_keep_copies.ensures.steps c.copies_by_stage.ensures.others c.args.table.now c.args.seat.now
-    c.put_gate.new.seat r h.new.self h.result c.args.k c.args.bases.now.items c.first-base.new.bases.items c.first-base.result c.requires.due
+    c.put_gate.new.seat r h.new.self h.result c.args.k c.args.bases.now.items c.first-base.new.bases.items c.first-base.result
+    c.requires.due
     c.requires.ties c.requires.own c.first-base.ensures c.put_gate.ensures h.ensures.does
     ((h.ensures.keeps (laid_in c.args.table.now)).running c.requires.ties.running)
     (h.ensures.leaves (quiet_put (stage_of r.stage) c.args.k c.requires.due))).2

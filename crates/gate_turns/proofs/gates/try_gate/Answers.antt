@@ -57,7 +57,8 @@ returns-in-None-clause-turned g c =
     let r = c.args.actor.now in
     let h = c.tried_gate-in-None in
     (try_lost c.steps_as_worlds.ensures c.events_keep_copies.ensures.steps c.copies_by_stage.ensures.others c.args.table.now c.args.seat.now
-    c.take_gate.new.seat r h.new.self h.result c.args.k c.args.bases.now.items c.requires.due c.requires.ties c.requires.own c.in-None.ensures
+    c.take_gate.new.seat r h.new.self h.result c.args.k c.args.bases.now.items c.requires.due c.requires.ties c.requires.own
+    c.in-None.ensures
     h.ensures.does ((h.ensures.keeps (laid_in c.args.table.now)).running c.requires.ties.running)
     (h.ensures.leaves (quiet_try (stage_of r.stage) c.args.k c.requires.due))).1
 
@@ -66,7 +67,8 @@ returns-in-None-clause-ties g c =
     let r = c.args.actor.now in
     let h = c.tried_gate-in-None in
     (try_lost c.steps_as_worlds.ensures c.events_keep_copies.ensures.steps c.copies_by_stage.ensures.others c.args.table.now c.args.seat.now
-    c.take_gate.new.seat r h.new.self h.result c.args.k c.args.bases.now.items c.requires.due c.requires.ties c.requires.own c.in-None.ensures
+    c.take_gate.new.seat r h.new.self h.result c.args.k c.args.bases.now.items c.requires.due c.requires.ties c.requires.own
+    c.in-None.ensures
     h.ensures.does ((h.ensures.keeps (laid_in c.args.table.now)).running c.requires.ties.running)
     (h.ensures.leaves (quiet_try (stage_of r.stage) c.args.k c.requires.due))).0
 
@@ -75,8 +77,10 @@ returns-in-None-clause-own g c =
     let r = c.args.actor.now in
     let h = c.tried_gate-in-None in
     subst (λ bs. HasOwn c.args.table.now c.take_gate.new.seat h.new.self bs) (sym c.reserve.ensures.items)
-    ((try_lost c.steps_as_worlds.ensures c.events_keep_copies.ensures.steps c.copies_by_stage.ensures.others c.args.table.now c.args.seat.now
-    c.take_gate.new.seat r h.new.self h.result c.args.k c.args.bases.now.items c.requires.due c.requires.ties c.requires.own c.in-None.ensures
+    ((try_lost c.steps_as_worlds.ensures c.events_keep_copies.ensures.steps c.copies_by_stage.ensures.others c.args.table.now
+    c.args.seat.now
+    c.take_gate.new.seat r h.new.self h.result c.args.k c.args.bases.now.items c.requires.due c.requires.ties c.requires.own
+    c.in-None.ensures
     h.ensures.does ((h.ensures.keeps (laid_in c.args.table.now)).running c.requires.ties.running)
     (h.ensures.leaves (quiet_try (stage_of r.stage) c.args.k c.requires.due))).2)
 

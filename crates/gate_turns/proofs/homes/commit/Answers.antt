@@ -24,7 +24,8 @@ returns-clause-own g c =
 
 pub returns-in_err-prepare-clause-own : goal.returns-in_err-prepare-clause-own
 returns-in_err-prepare-clause-own g c =
-    own_alike c.args.table.now c.args.seat.now c.args.actor.now c.args.bases.now.items c.prepare.new.bases.items c.requires.due c.requires.own
+    own_alike c.args.table.now c.args.seat.now c.args.actor.now c.args.bases.now.items c.prepare.new.bases.items c.requires.due
+    c.requires.own
     c.prepare.ensures.alike c.copies_by_stage.ensures.steps
 
 pub returns-in_err-done-clause-own : goal.returns-in_err-done-clause-own

@@ -28,7 +28,8 @@ pub fold_into-requires-clause-prepared : goal.fold_into-requires-clause-prepared
 fold_into-requires-clause-prepared g c =
     let b = c.first-base.result in
     subst (λ (cs : List (Change _)). IsPreparedFor cs b) (sym c.log_of-log.ensures.changes)
-    (home_base c.args.table.now c.args.seat.now c.args.actor.now c.args.k c.args.bases.now.items c.first-base.new.bases.items b c.requires.due
+    (home_base c.args.table.now c.args.seat.now c.args.actor.now c.args.k c.args.bases.now.items c.first-base.new.bases.items b
+    c.requires.due
     c.requires.own c.first-base.ensures).1.0
 
 pub fold_into-requires-clause-within : goal.fold_into-requires-clause-within

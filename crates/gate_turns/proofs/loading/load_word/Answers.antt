@@ -33,7 +33,8 @@ loaded-requires g c =
     let y = c.step_words-told.new.actor in
     let told = c.step_words-told.result in
     let ties = c.requires.ties in
-    let heard = load_hears c.steps_as_worlds.ensures c.loads_keep_running.ensures t s u r y told c.requires.loading ties e.steps e.room e.fits in
+    let heard = load_hears c.steps_as_worlds.ensures c.loads_keep_running.ensures t s u r y told c.requires.loading ties e.steps
+    e.room e.fits in
     record { prepared = heard.0 }
 
 pub returns-clause-turned : goal.returns-clause-turned
@@ -46,7 +47,8 @@ returns-clause-turned g c =
     let y = c.step_words-told.new.actor in
     let told = c.step_words-told.result in
     let ties = c.requires.ties in
-    let heard = load_hears c.steps_as_worlds.ensures c.loads_keep_running.ensures t s u r y told c.requires.loading ties e.steps e.room e.fits in
+    let heard = load_hears c.steps_as_worlds.ensures c.loads_keep_running.ensures t s u r y told c.requires.loading ties e.steps
+    e.room e.fits in
     (load_tied c.steps_as_worlds.ensures c.loads_as_worlds.ensures.heard c.seats_as_actors.ensures c.loads_stay_own.ensures
     c.copies_by_stage.ensures.others t s u r c.loaded.new.self y told c.loaded.result c.args.bases.now c.requires.loading ties
     c.requires.own e.steps c.loaded.ensures.does ((c.loaded.ensures.keeps (laid_in t)).running heard.1) c.loaded.ensures.goes).1
@@ -61,7 +63,8 @@ returns-clause-ties g c =
     let y = c.step_words-told.new.actor in
     let told = c.step_words-told.result in
     let ties = c.requires.ties in
-    let heard = load_hears c.steps_as_worlds.ensures c.loads_keep_running.ensures t s u r y told c.requires.loading ties e.steps e.room e.fits in
+    let heard = load_hears c.steps_as_worlds.ensures c.loads_keep_running.ensures t s u r y told c.requires.loading ties e.steps
+    e.room e.fits in
     (load_tied c.steps_as_worlds.ensures c.loads_as_worlds.ensures.heard c.seats_as_actors.ensures c.loads_stay_own.ensures
     c.copies_by_stage.ensures.others t s u r c.loaded.new.self y told c.loaded.result c.args.bases.now c.requires.loading ties
     c.requires.own e.steps c.loaded.ensures.does ((c.loaded.ensures.keeps (laid_in t)).running heard.1) c.loaded.ensures.goes).0
@@ -76,7 +79,8 @@ returns-clause-own g c =
     let y = c.step_words-told.new.actor in
     let told = c.step_words-told.result in
     let ties = c.requires.ties in
-    let heard = load_hears c.steps_as_worlds.ensures c.loads_keep_running.ensures t s u r y told c.requires.loading ties e.steps e.room e.fits in
+    let heard = load_hears c.steps_as_worlds.ensures c.loads_keep_running.ensures t s u r y told c.requires.loading ties e.steps
+    e.room e.fits in
     (load_tied c.steps_as_worlds.ensures c.loads_as_worlds.ensures.heard c.seats_as_actors.ensures c.loads_stay_own.ensures
     c.copies_by_stage.ensures.others t s u r c.loaded.new.self y told c.loaded.result c.args.bases.now c.requires.loading ties
     c.requires.own e.steps c.loaded.ensures.does ((c.loaded.ensures.keeps (laid_in t)).running heard.1) c.loaded.ensures.goes).2

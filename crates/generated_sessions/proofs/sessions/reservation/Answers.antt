@@ -5,7 +5,8 @@ use Rattle.generated_sessions.proofs.sessions.reservation.Goals as goal
 
 pub loop-preserved : goal.loop-preserved
 loop-preserved g c =
-    drawn_on (ask_drawn c.args.greatest) c.loop.counter _ _ _ c.loop.asks _ c.ask.result c.loop.invariant c.ask.ensures c.in_ok-push.ensures.ok
+    drawn_on (ask_drawn c.args.greatest) c.loop.counter _ _ _ c.loop.asks _ c.ask.result c.loop.invariant c.ask.ensures
+    c.in_ok-push.ensures.ok
 
 pub returns-clause-allowed : goal.returns-clause-allowed
 returns-clause-allowed g c =

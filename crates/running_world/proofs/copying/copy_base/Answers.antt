@@ -20,7 +20,8 @@ returns-in-Ok-clause-turns g c a =
     let base = c.index.result.now in
     let got = slice_get_read t.bases.items _ c.args.k base refl c.requires.inside.1 c.index.ensures in
     copy_turns c.steps_as_worlds.ensures c.copied_as_worlds.ensures c.copies_go_on.ensures c.sizes_copies.ensures.sizes c.args.blocks.now a
-    c.args.k t c.put_gate.new.self c.args.actor.now c.copied.new.self c.in-Ok.told base c.requires.due c.requires.shape c.requires.running got
+    c.args.k t c.put_gate.new.self c.args.actor.now c.copied.new.self c.in-Ok.told base c.requires.due c.requires.shape
+    c.requires.running got
     (λ w which. c.put_gate.ensures.puts w a which) c.in-Ok.ensures.ok
 
 pub returns-in-Ok-clause-own : goal.returns-in-Ok-clause-own
@@ -35,7 +36,8 @@ returns-in-Ok-clause-own g c a =
     copy_own c.copied_stay_own.ensures c.copied_as_worlds.ensures c.copies_go_on.ensures c.sizes_copies.ensures.sizes
     c.copies_stay_own.ensures.blocks c.copies_stay.ensures.others c.copies_by_stage.ensures.others v a c.args.k t u r s c.in-Ok.told base
     c.requires.due c.requires.shape c.requires.running got
-    (copy_turns c.steps_as_worlds.ensures c.copied_as_worlds.ensures c.copies_go_on.ensures c.sizes_copies.ensures.sizes v a c.args.k t u r s
+    (copy_turns c.steps_as_worlds.ensures c.copied_as_worlds.ensures c.copies_go_on.ensures c.sizes_copies.ensures.sizes v a
+    c.args.k t u r s
     c.in-Ok.told base c.requires.due c.requires.shape c.requires.running got (λ w which. c.put_gate.ensures.puts w a which)
     c.in-Ok.ensures.ok) c.in-Ok.ensures.copies
 

@@ -12,7 +12,8 @@ returns-clause-output c = record {
   actions = c.in_ok-tables.actions;
   run = c.in_ok-run.run';
   spelled = c.in_ok-tables.ensures.sessions;
-  made = subst (λ (actions : List Action). IsSessionRun c.in_ok-tables.tables actions c.in_ok-run.run') c.as_slice.ensures c.in_ok-run.ensures.run;
+  made = subst (λ (actions : List Action). IsSessionRun c.in_ok-tables.tables actions c.in_ok-run.run') c.as_slice.ensures
+      c.in_ok-run.ensures.run;
   written =
       c.in_ok-with_ending.ensures ∙ ap (λ (text : List ℕ). text ++ ending)
       (c.in_ok-bytes.ensures ∙ ap (λ (lines : List Line). printed lines c.in_ok-run.run'.tables) c.as_slice-2.ensures.value);

@@ -29,5 +29,6 @@ returns-clause-answers g c =
 pub returns-in_err-told-clause-ties : goal.returns-in_err-told-clause-ties
 returns-in_err-told-clause-ties g c =
     let r = c.args.actor.now in
-    stands_open c.args.table.now c.args.seat.now r c.asks_to_write.new.self c.blocks-2.result.now c.blocks-2.ensures.words c.blocks-2.ensures.blocks
+    stands_open c.args.table.now c.args.seat.now r c.asks_to_write.new.self c.blocks-2.result.now c.blocks-2.ensures.words
+    c.blocks-2.ensures.blocks
     c.requires.ties (c.asks_to_write.ensures.keeps (quiet_open r c.requires.open)) c.in_err-told.ensures.err

@@ -15,7 +15,8 @@ pub step_word-told-requires-clause-word : goal.step_word-told-requires-clause-wo
 step_word-told-requires-clause-word g c = ap (λ t. is_loading (stage_of t)) c.requires.stage
 
 pub returns-clause-ties : goal.returns-clause-ties
-returns-clause-ties g c = ties_made c.args.table.now c.step_word-told.new.seat c.step_word-told.new.actor c.replace.new.dest c.step_word-told.ensures.ties
+returns-clause-ties g c = ties_made c.args.table.now c.step_word-told.new.seat c.step_word-told.new.actor c.replace.new.dest
+    c.step_word-told.ensures.ties
 
 pub returns-clause-calls : goal.returns-clause-calls
 returns-clause-calls g c = c.from_vec-calls.ensures ∙ (ap (λ (v : Vec _ Global). v.items) c.replace.ensures.value

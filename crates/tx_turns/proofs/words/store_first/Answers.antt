@@ -39,7 +39,8 @@ returns-clause-turned g c =
     let h = is_asked t s r p c.requires.due c.requires.ties stores c.asks_to_store.ensures.rest in
     let running = running_asked t c.blocks-2.result.now r p h.0 c.blocks-2.ensures.words c.blocks-2.ensures.blocks h.1.at
     c.asks_to_store.ensures.keeps c.requires.ties.running in
-    (first_turned c.steps_as_worlds.ensures t s c.step_words-told.new.seat r p c.stepped.new.self y c.step_words-told.result c.stepped.result
+    (first_turned c.steps_as_worlds.ensures t s c.step_words-told.new.seat r p c.stepped.new.self y c.step_words-told.result
+    c.stepped.result
     h.0 h.1 c.requires.ties stores c.step_words-told.ensures.steps c.stepped.ensures.does ((c.stepped.ensures.keeps (laid_in t)).running
     (running_moved (laid_in t) p y c.step_words-told.ensures.fits (ap is_loading h.1.own_at) running))).1
 
@@ -54,7 +55,8 @@ returns-clause-ties g c =
     let h = is_asked t s r p c.requires.due c.requires.ties stores c.asks_to_store.ensures.rest in
     let running = running_asked t c.blocks-2.result.now r p h.0 c.blocks-2.ensures.words c.blocks-2.ensures.blocks h.1.at
     c.asks_to_store.ensures.keeps c.requires.ties.running in
-    (first_turned c.steps_as_worlds.ensures t s c.step_words-told.new.seat r p c.stepped.new.self y c.step_words-told.result c.stepped.result
+    (first_turned c.steps_as_worlds.ensures t s c.step_words-told.new.seat r p c.stepped.new.self y c.step_words-told.result
+    c.stepped.result
     h.0 h.1 c.requires.ties stores c.step_words-told.ensures.steps c.stepped.ensures.does ((c.stepped.ensures.keeps (laid_in t)).running
     (running_moved (laid_in t) p y c.step_words-told.ensures.fits (ap is_loading h.1.own_at) running))).0
 

@@ -9,12 +9,15 @@ loop-number-init c =
 
 pub loop-number-preserved : goal.loop-number-preserved
 loop-number-preserved c =
-    put_one entry.Ticket _ _ _ c.in-Some.number.now c.in-Some.ticket.now _ _ c.loop-number.invariant c.in-Some.ensures.steps c.in_ok-insert.ensures.ok
+    put_one entry.Ticket _ _ _ c.in-Some.number.now c.in-Some.ticket.now _ _ c.loop-number.invariant c.in-Some.ensures.steps
+    c.in_ok-insert.ensures.ok
 
 pub loop-number-preserved-in_ok-insert : goal.loop-number-preserved-in_ok-insert
 loop-number-preserved-in_ok-insert c =
-    put_one entry.Ticket _ _ _ c.in-Some.number.now c.in-Some.ticket.now _ _ c.loop-number.invariant c.in-Some.ensures.steps c.in_ok-insert.ensures.ok
+    put_one entry.Ticket _ _ _ c.in-Some.number.now c.in-Some.ticket.now _ _ c.loop-number.invariant c.in-Some.ensures.steps
+    c.in_ok-insert.ensures.ok
 
 pub loop-number-preserved-in_ok-insert-2 : goal.loop-number-preserved-in_ok-insert-2
 loop-number-preserved-in_ok-insert-2 c =
-    put_one entry.Ticket _ _ _ c.in-Some.number.now c.in-Some.ticket.now _ _ c.loop-number.invariant c.in-Some.ensures.steps c.in_ok-insert.ensures.ok
+    put_one entry.Ticket _ _ _ c.in-Some.number.now c.in-Some.ticket.now _ _ c.loop-number.invariant c.in-Some.ensures.steps
+    c.in_ok-insert.ensures.ok

@@ -25,7 +25,8 @@ copy_base-requires-clause-inside g c =
 
 pub copy_base-requires-clause-running : goal.copy_base-requires-clause-running
 copy_base-requires-clause-running g c =
-    let got = slice_get_read c.args.self.now.actors.items _ c.args.i c.index_mut.result.now refl c.requires.inside c.index_mut.ensures.value in
+    let got = slice_get_read c.args.self.now.actors.items _ c.args.i c.index_mut.result.now refl c.requires.inside
+    c.index_mut.ensures.value in
     (c.requires.world.parts.seats c.args.i c.index_mut.result.now got).running
 
 pub copy_base-requires-clause-shape : goal.copy_base-requires-clause-shape
@@ -33,12 +34,14 @@ copy_base-requires-clause-shape g c = shape_laid c.args.self.now c.requires.worl
 
 pub copy_base-requires-clause-due : goal.copy_base-requires-clause-due
 copy_base-requires-clause-due g c =
-    let got = slice_get_read c.args.self.now.actors.items _ c.args.i c.index_mut.result.now refl c.requires.inside c.index_mut.ensures.value in
+    let got = slice_get_read c.args.self.now.actors.items _ c.args.i c.index_mut.result.now refl c.requires.inside
+    c.index_mut.ensures.value in
     c.requires.due c.index_mut.result.now got
 
 pub copy_base-requires-clause-seated : goal.copy_base-requires-clause-seated
 copy_base-requires-clause-seated g c =
-    let got = slice_get_read c.args.self.now.actors.items _ c.args.i c.index_mut.result.now refl c.requires.inside c.index_mut.ensures.value in
+    let got = slice_get_read c.args.self.now.actors.items _ c.args.i c.index_mut.result.now refl c.requires.inside
+    c.index_mut.ensures.value in
     seated_at c.args.self.now c.args.i c.index_mut.result.now c.requires.world got
 
 pub returns-in-Ok-clause-ok : goal.returns-in-Ok-clause-ok

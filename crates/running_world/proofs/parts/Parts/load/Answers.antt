@@ -7,7 +7,8 @@ use Rattle.running_world.proofs.parts.Parts.load.Goals as goal
 
 pub load_word-requires-clause-running : goal.load_word-requires-clause-running
 load_word-requires-clause-running g c =
-    let got = slice_get_read c.args.self.now.actors.items _ c.args.i c.index_mut.result.now refl c.requires.inside c.index_mut.ensures.value in
+    let got = slice_get_read c.args.self.now.actors.items _ c.args.i c.index_mut.result.now refl c.requires.inside
+    c.index_mut.ensures.value in
     (c.requires.world.parts.seats c.args.i c.index_mut.result.now got).running
 
 pub load_word-requires-clause-shape : goal.load_word-requires-clause-shape
@@ -15,17 +16,20 @@ load_word-requires-clause-shape g c = shape_laid c.args.self.now c.requires.worl
 
 pub load_word-requires-clause-clock : goal.load_word-requires-clause-clock
 load_word-requires-clause-clock g c =
-    let got = slice_get_read c.args.self.now.actors.items _ c.args.i c.index_mut.result.now refl c.requires.inside c.index_mut.ensures.value in
+    let got = slice_get_read c.args.self.now.actors.items _ c.args.i c.index_mut.result.now refl c.requires.inside
+    c.index_mut.ensures.value in
     may_take c.args.self.now c.requires.world.world c.args.i c.index_mut.result.now c.requires.world.parts got
 
 pub load_word-requires-clause-loading : goal.load_word-requires-clause-loading
 load_word-requires-clause-loading g c =
-    let got = slice_get_read c.args.self.now.actors.items _ c.args.i c.index_mut.result.now refl c.requires.inside c.index_mut.ensures.value in
+    let got = slice_get_read c.args.self.now.actors.items _ c.args.i c.index_mut.result.now refl c.requires.inside
+    c.index_mut.ensures.value in
     c.requires.loading c.index_mut.result.now got
 
 pub load_word-requires-clause-seated : goal.load_word-requires-clause-seated
 load_word-requires-clause-seated g c =
-    let got = slice_get_read c.args.self.now.actors.items _ c.args.i c.index_mut.result.now refl c.requires.inside c.index_mut.ensures.value in
+    let got = slice_get_read c.args.self.now.actors.items _ c.args.i c.index_mut.result.now refl c.requires.inside
+    c.index_mut.ensures.value in
     seated_at c.args.self.now c.args.i c.index_mut.result.now c.requires.world got
 
 pub returns : goal.returns

@@ -175,7 +175,8 @@ pub returns-in-Trying-clause-leaves : goal.returns-in-Trying-clause-leaves
 returns-in-Trying-clause-leaves g c =
     copies_at c.args.self.now c.gives_up-in-Trying.new.self (stage.Trying c.in-Trying.field-0 c.in-Trying.field-1)
     (sym c.replace-stage.ensures.value ∙ c.in-Trying.is)
-    (copies_idle (at c.args.self.now (stage.Trying c.in-Trying.field-0 c.in-Trying.field-1)) c.args.self.now c.gives_up-in-Trying.new.self c.gives_up-in-Trying.ensures.leaves)
+    (copies_idle (at c.args.self.now (stage.Trying c.in-Trying.field-0 c.in-Trying.field-1)) c.args.self.now
+    c.gives_up-in-Trying.new.self c.gives_up-in-Trying.ensures.leaves)
 
 pub returns-in-Copying-clause-leaves : goal.returns-in-Copying-clause-leaves
 returns-in-Copying-clause-leaves g c =
@@ -188,7 +189,8 @@ pub returns-in-Loading-clause-leaves : goal.returns-in-Loading-clause-leaves
 returns-in-Loading-clause-leaves g c =
     copies_at c.args.self.now c.gives_up-in-Loading.new.self (stage.Loading c.in-Loading.field-0 c.in-Loading.field-1)
     (sym c.replace-stage.ensures.value ∙ c.in-Loading.is)
-    (copies_idle (at c.args.self.now (stage.Loading c.in-Loading.field-0 c.in-Loading.field-1)) c.args.self.now c.gives_up-in-Loading.new.self c.gives_up-in-Loading.ensures.leaves)
+    (copies_idle (at c.args.self.now (stage.Loading c.in-Loading.field-0 c.in-Loading.field-1)) c.args.self.now
+    c.gives_up-in-Loading.new.self c.gives_up-in-Loading.ensures.leaves)
 
 pub returns-in-Locking-clause-leaves : goal.returns-in-Locking-clause-leaves
 returns-in-Locking-clause-leaves g c =
@@ -201,7 +203,8 @@ pub returns-in-Gating-clause-leaves : goal.returns-in-Gating-clause-leaves
 returns-in-Gating-clause-leaves g c =
     copies_at c.args.self.now c.starves_gating.new.self (stage.Gating c.in-Gating.homes c.in-Gating.got c.in-Gating.field-2)
     (sym c.replace-stage.ensures.value ∙ c.in-Gating.is)
-    (copies_idle (at c.args.self.now (stage.Gating c.in-Gating.homes c.in-Gating.got c.in-Gating.field-2)) c.args.self.now c.starves_gating.new.self c.starves_gating.ensures.leaves)
+    (copies_idle (at c.args.self.now (stage.Gating c.in-Gating.homes c.in-Gating.got c.in-Gating.field-2)) c.args.self.now
+    c.starves_gating.new.self c.starves_gating.ensures.leaves)
 
 pub returns-in-Ready-clause-leaves : goal.returns-in-Ready-clause-leaves
 returns-in-Ready-clause-leaves g c =
