@@ -1,0 +1,2 @@
+pub mod ArrangeLemmas
+pub mod ServedLemmas

@@ -1,0 +1,21 @@
+//! The tables that a run of sessions leaves.
+ghost use Rattle.std.specs.Prelude.{◌≡◌, IfOk};
+ghost use Rattle.vacation_core.specs.Holding as holding;
+ghost use Rattle.vacation_core.specs.Holding.{HoldsTables};
+
+use seq_model::{Memory, Refusal, State};
+use std::alloc::Global;
+use vac_model::Tables;
+use vacation_core::{Entry, tables_of};
+
+/// The tables of a state that holds some.
+pub fn tables_left(alloc: Global, state: &State<Entry>) -> Result<Tables, Memory>
+    requires { HoldsTables state.now }
+    ensures { IfOk result (λ tables. state.now ≡ holding.state_of tables) }
+{
+    match tables_of(alloc, state) {
+        Ok(tables) => Ok(tables),
+        Err(Refusal::OutOfMemory) => Err(Memory),
+        Err(_) => unreachable!(),
+    }
+}
