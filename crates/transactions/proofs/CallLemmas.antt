@@ -2,28 +2,23 @@
 --
 -- What the ask tells in the own world says where the transaction stands (`asks_move`); that it is not given up there is a law on worlds
 -- that events have reached, and the own world is one of these to its actor. What the turns come to is the law on courses (`Driven.comes`).
-use Rattle.std.proofs.Common.{◌≡◌, ◌≢◌, ◌⊎◌, ℕ, Bool, true, false, cond, ◌&&◌, not, List, [], ◌∷◌, length, Option, None, Result, Ok, Err, inl, inr, refl, sym, ap, ◌∙◌, subst}
-use Rattle.std.specs.Prelude.{nat_lt}
-use Rattle.word_machine.specs.Requests as word
+use Rattle.std.proofs.Common.{◌≡◌, ◌≢◌, ◌⊎◌, ℕ, false, List, Option, None, Result, Ok, Err, inl, inr, refl, sym, ap, ◌∙◌, subst}
 use Rattle.seq_model.specs.declared.call.Call.{Call}
-use Rattle.seq_model.specs.declared.call.Op.TheVariants.{Write}
 use Rattle.seq_model.specs.declared.call.Reply.{Reply}
-use Rattle.seq_model.specs.declared.call.Reply.TheVariants as replies
 use Rattle.seq_model.specs.declared.event.Answer.TheVariants as answer
 use Rattle.seq_model.specs.declared.event.Event.TheVariants.{Ask}
 use Rattle.seq_model.specs.declared.event.Notice.{Notice}
 use Rattle.seq_model.specs.declared.event.Notice.TheVariants.{Quiet, Answered, Refused}
 use Rattle.seq_model.specs.declared.event.Request.{Request}
 use Rattle.seq_model.specs.declared.event.Request.TheVariants as request
-use Rattle.seq_model.specs.declared.limits.TheConstants.{CALL_LIMIT}
 use Rattle.seq_model.specs.declared.record.Record.{Record}
 use Rattle.seq_model.specs.declared.refusal.Refusal.{Refusal}
-use Rattle.seq_model.specs.declared.refusal.Refusal.TheVariants.{NoSuch, OutOfMemory, TooLong}
+use Rattle.seq_model.specs.declared.refusal.Refusal.TheVariants.{OutOfMemory}
 use Rattle.replay_log.proofs.AskLemmas.{only_abort}
 use Rattle.replay_log.proofs.EventLemmas.{opened_linked, run_linked}
 use Rattle.replay_log.specs.Seats as worlds
-use Rattle.replay_log.specs.Seats.{World, After, Seat, Stage, acted, actor_of, asks}
-use Rattle.replay_log.specs.Worlds.{ask_at, ask_op, fits, happens, if_allowed, replied, run}
+use Rattle.replay_log.specs.Seats.{World, Seat, Stage}
+use Rattle.replay_log.specs.Worlds.{happens, run}
 use Rattle.replay_log.specs.WorldRefusals.{is_ending}
 use Rattle.atomic_steps.proofs.OwnEvents.{own_event}
 use Rattle.tx_actor.specs.Running.{notice_of}
@@ -33,18 +28,18 @@ use Rattle.tx_actor.specs.declared.actor.TxActor.{TxActor}
 use Rattle.tx_table.specs.Opening.{blocks_at}
 use Rattle.tx_table.specs.declared.seat.Seat as table
 use Rattle.tx_table.specs.declared.table.TxTable.{TxTable}
-use Rattle.tx_table.specs.Seated.{acts, opening_of}
+use Rattle.tx_table.specs.Seated.{acts, opening_of, out}
 use Rattle.tx_table.specs.Seated as seated
 use Rattle.tx_phases.proofs.CourseLemmas.{ends_at}
 use Rattle.tx_phases.proofs.PhaseLemmas.{asks_move}
-use Rattle.tx_phases.specs.Courses.{ComesTo, EndsFrom, IsGivenUp, IsUnderWay, IsUnderWayFrom}
-use Rattle.tx_phases.specs.Phases.{AskMoves, CallMoves, Phase, Rests, Begins, Stands, Calls, Commits, Ends, IsMistaken, phase, phase_at}
-use Rattle.transactions.proofs.KeptLemmas.{Keeps, asks_keep}
+use Rattle.tx_phases.specs.Courses.{ComesTo, EndsFrom, IsUnderWay, IsUnderWayFrom}
+use Rattle.tx_phases.specs.Phases.{AskMoves, CallMoves, Phase, Rests, Begins, Stands, Calls, Ends, IsMistaken, phase, phase_at}
+use Rattle.driven_turns.proofs.KeptLemmas.{Keeps, asks_keep}
 use Rattle.transactions.proofs.RequestLemmas.{asked_keeps, found_back, then_keeps, told_back, turns_keep}
-use Rattle.transactions.specs.Driven.{Driven, HasFound, IsTrue, seat_in, standing}
+use Rattle.driven_turns.specs.Driven.{Driven, IsReason, IsTrue, seat_in, standing}
 use Rattle.transactions.specs.Requests.{CallLeaves, CallsTo, IsCallTold, IsDriven, IsOpen, KeepsReceipts, told_of}
 use Rattle.tx_turns.proofs.AskedLemmas.{acts_taken}
-use Rattle.tx_turns.specs.Asked.{Answers, HasAsked, write_of}
+use Rattle.tx_turns.specs.Asked.{Answers, HasAsked}
 use Rattle.tx_turns.specs.Ties.{Ties}
 
 module _ {V : Type 0} where
@@ -71,15 +66,6 @@ module _ {V : Type 0} where
     abbrev b : ℕ
     b = seated.actor m
 
-    -- only a commit stops for want of memory
-    pub call_never : (cs : List (Call V × Reply V)) → Driven o m u told.Quiet None → standing o u ≡ Commits cs → ⊥
-    call_never cs D on =
-        refuse (subst (λ (p : Phase V). IsUnderWayFrom (seat_in o m) p (seat_in o u) None) at D.comes).0
-      where
-        refuse : (standing o u ≡ Calls calls call) ⊎ IsGivenUp (seat_in o u) → ⊥
-        refuse (inl h) = (let e : Calls calls call ≡ Commits cs = sym h ∙ on in cc)
-        refuse (inr h) = (let e : Ends ≡ Commits cs = sym h.0 ∙ on in cc)
-
     -- as the course has it
     call_ends : (n : Told V) (d : Option (Record V)) → n ≢ told.Quiet → ComesTo b (seat_in o m) (notice_of b n) (seat_in o u) d
         → EndsFrom b (seat_in o m) (Calls calls call) (notice_of b n) (seat_in o u) d
@@ -97,8 +83,8 @@ module _ {V : Type 0} where
     pub call_said : (n : Told V) (d : Option (Record V)) → n ≢ told.Quiet → Driven o m u n d → IsCallTold n
     call_said n d ne D = (made_none n d (call_ends n d ne D.comes)).1
 
-    call_keeps : (n : Told V) (d : Option (Record V)) → n ≢ told.Quiet → Driven o m u n d → KeepsReceipts m u
-    call_keeps n d ne D = turns_keep o m u n d (made_none n d (call_ends n d ne D.comes)).0 D
+    call_keeps : (n : Told V) (d : Option (Record V)) → n ≢ told.Quiet → out u ≡ out m → Driven o m u n d → KeepsReceipts m u
+    call_keeps n d ne outs D = turns_keep o m u n d (made_none n d (call_ends n d ne D.comes)).0 outs D
 
     call_left : (r : Result (Reply V) Refusal) (d : Option (Record V)) → Driven o m u (told_of r) d → CallLeaves o m calls call u r
     call_left (Ok r) d D = (call_ends (told.Answered (answer.Replied r)) d (told_some (Ok r)) D.comes).0
@@ -107,9 +93,9 @@ module _ {V : Type 0} where
         (subst (λ (k : Phase V). IsTrue o m u k (told.Refused cause)) at D.is_true)
       where
         by_truth : ((standing o u ≡ Stands calls) × IsMistaken cause) ⊎ (standing o u ≡ Rests)
-            → HasFound o m u cause ⊎ ((standing o u ≡ Stands calls) × IsMistaken cause) → CallLeaves o m calls call u (Err cause)
+            → IsReason o m u cause ⊎ ((standing o u ≡ Stands calls) × IsMistaken cause) → CallLeaves o m calls call u (Err cause)
         by_truth (inl stays) truth = inl stays
-        by_truth (inr rests) (inl found) = inr (rests, inl found)
+        by_truth (inr rests) (inl reason) = inr (rests, reason)
         by_truth (inr rests) (inr stays) = inl stays
 
   leaves_back : (o : World V) (s m u : table.Seat V) (calls : List (Call V × Reply V)) (call : Call V) (r : Result (Reply V) Refusal)
@@ -192,14 +178,14 @@ module _ {V : Type 0} where
     calls_on r ties calls on is = elim (moves calls on told.Quiet is) [ inl h ↦ h | inr h ↦ absurd (not_given_up r ties calls on h) ]
 
     pub driven_calls : (r : TxActor V) (u : table.Seat V) (k : Result (Reply V) Refusal) → Ties t s r → Answers o s q told.Quiet
-        → IsDriven o m u (told_of k) → CallsTo o s call u k
-    driven_calls r u k ties is driven =
+        → out u ≡ out m → IsDriven o m u (told_of k) → CallsTo o s call u k
+    driven_calls r u k ties is outs driven =
         let d = driven.0 in
         let D = driven.1 in
         let kept = asked_keeps s m (has.0, has.1) in
         let at = calls_on r ties opened.0 opened.1 is in
         record {
-          keeps = then_keeps s m u kept (call_keeps o m u opened.0 call at (told_of k) d (told_some k) D);
+          keeps = then_keeps s m u kept (call_keeps o m u opened.0 call at (told_of k) d (told_some k) outs D);
           leaves = λ calls on. leaves_back o s m u calls call k kept (call_left o m u calls call (calls_on r ties calls on is) k d D);
           answered = inr (inl (is, told_back o s m u (told_of k) kept (D.tells (told_some k))));
           began = λ still. D.began (λ e. (let z : Calls opened.0 call ≡ Begins = sym at ∙ e in cc))
@@ -216,31 +202,3 @@ module _ {V : Type 0} where
     answered = inr (inr refl);
     began = λ still. absurd (stands_busy (standing o u) still.0 still.1 rests);
   }
-
-  -- ---- a write is answered as it is asked
-  choose_tells : (b : Bool) (r s : After V) → (r.1 ≡ Quiet → ⊥) → (s.1 ≡ Quiet → ⊥) → (cond b r s).1 ≡ Quiet → ⊥
-  choose_tells true r s h g = h
-  choose_tells false r s h g = g
-
-  allowed_tells : (w : World V) (a : ℕ) (x : Seat V) (known room : Bool) (next : After V) → (next.1 ≡ Quiet → ⊥)
-      → (if_allowed w a x known room next).1 ≡ Quiet → ⊥
-  allowed_tells w a x known room next h =
-      let full : After V = (w, Refused a TooLong) in
-      let none : After V = (w, Refused a NoSuch) in
-      choose_tells known (cond (nat_lt (length x.calls) CALL_LIMIT && room) next full) none
-      (choose_tells (nat_lt (length x.calls) CALL_LIMIT && room) next full h (λ e. cc)) (λ e. cc)
-
-  write_quiet : (w : World V) (a : ℕ) (x : Seat V) (t v : ℕ) → (ask_op w a x t (Write v)).1 ≡ Quiet → ⊥
-  write_quiet w a x t v =
-      allowed_tells w a x (nat_lt t w.words && not (actor_of w a).declared) (fits (actor_of w a).writes (t ∷ []))
-      (replied (acted w (asks a (word.AskWrite t v) ∷ [])) a x (record { target = t; op = Write v }) replies.Done) (λ e. cc)
-
-  pub write_tells : (o : World V) (s : table.Seat V) (l value : ℕ) (calls : List (Call V × Reply V)) (n : Told V)
-      → standing o s ≡ Stands calls → Answers o s (write_of l value) n → n ≢ told.Quiet
-  write_tells o s l value calls n on is e =
-      let a = seated.actor s in
-      let w = acts o s in
-      let x = w.seats a in
-      write_quiet w a x l value
-      (ap (λ (st : Stage V). (ask_at w a x st (write_of l value)).1) (sym (stands_at x.calls calls x.stage on))
-      ∙ (sym is ∙ ap (notice_of a) e))

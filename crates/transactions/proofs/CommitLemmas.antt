@@ -1,8 +1,7 @@
 -- A commit is asked, and driven.
 --
--- Whether it has written is said by the stage to which the ask leads, and by its record after all turns (`Driven.written`). Where memory is
--- wanting for the first value store, its transaction is given up in the own world, and driven to its end.
-use Rattle.std.proofs.Common.{◌≡◌, ◌≢◌, ℕ, Bool, true, false, true≢false, not, List, [], ◌∷◌, ◌++◌, Option, Some, None, Result, Ok, Err}
+-- Whether it has written is said by the stage to which the ask leads, and by its record after all turns (`Driven.written`).
+use Rattle.std.proofs.Common.{◌≡◌, ◌≢◌, ℕ, Bool, true, false, not, List, [], ◌∷◌, ◌++◌, Option, Some, None, Result, Ok, Err}
 use Rattle.std.proofs.Common.{IfOk, IfErr, MatchResult, OnErr, inl, inr, refl, sym, ap, ◌∙◌, subst, arith}
 use Rattle.tx_sets.specs.Entries.{Entries}
 use Rattle.word_machine.specs.Actor as machine
@@ -13,39 +12,36 @@ use Rattle.word_machine.proofs.Sets.{put-same}
 use Rattle.seq_model.specs.declared.call.Call.{Call}
 use Rattle.seq_model.specs.declared.call.Reply.{Reply}
 use Rattle.seq_model.specs.declared.event.Answer.TheVariants as answer
-use Rattle.seq_model.specs.declared.event.Event.TheVariants.{Ask, Starve}
+use Rattle.seq_model.specs.declared.event.Event.TheVariants.{Ask}
 use Rattle.seq_model.specs.declared.event.Notice.TheVariants.{Answered, Refused}
 use Rattle.seq_model.specs.declared.event.Request.TheVariants.{Commit}
 use Rattle.seq_model.specs.declared.record.Record.{Record}
 use Rattle.seq_model.specs.declared.refusal.Refusal.{Refusal}
 use Rattle.replay_log.proofs.ActionLemmas.{ask_goes}
-use Rattle.replay_log.proofs.AnswerLemmas.{starves}
 use Rattle.replay_log.proofs.SeatLemmas.{StageOk}
 use Rattle.replay_log.specs.Contents.{content}
 use Rattle.replay_log.specs.Seats as worlds
-use Rattle.replay_log.specs.Seats.{World, Seat, Stage, Cancelling, Closing, Leaving, Locking, Ready, Returning, acted, actor_of, asks, at_stage}
+use Rattle.replay_log.specs.Seats.{World, Seat, Stage, Closing, Locking, acted, actor_of, asks, at_stage}
 use Rattle.replay_log.specs.Worlds.{ask_at, commits, happens}
-use Rattle.replay_log.specs.WorldAnswers.{IsStarved}
-use Rattle.replay_log.specs.WorldRefusals.{is_ending}
 use Rattle.tx_actor.specs.Running.{notice_of}
 use Rattle.tx_actor.specs.declared.actor.Told.{Told}
 use Rattle.tx_actor.specs.declared.actor.Told.TheVariants as told
 use Rattle.tx_actor.specs.declared.actor.TxActor.{TxActor}
 use Rattle.tx_table.specs.declared.seat.Seat as table
 use Rattle.tx_table.specs.declared.table.TxTable.{TxTable}
-use Rattle.tx_table.specs.Seated.{acts, opening_of, view}
+use Rattle.tx_table.specs.Seated.{acts, opening_of, out, view}
 use Rattle.tx_table.specs.Seated as seated
 use Rattle.tx_phases.specs.Courses.{ComesTo, EndsFrom, IsUnderWay, IsUnderWayFrom}
-use Rattle.tx_phases.specs.Phases.{Phase, Rests, Stands, Commits, Ends, phase, phase_at}
+use Rattle.tx_phases.specs.Phases.{Phase, Rests, Stands, Commits, phase, phase_at}
 use Rattle.transactions.proofs.CallLemmas.{stands_at}
-use Rattle.transactions.proofs.KeptLemmas.{Keeps, asks_keep}
+use Rattle.driven_turns.proofs.KeptLemmas.{Keeps, asks_keep}
 use Rattle.transactions.proofs.RequestLemmas.{asked_keeps, found_back, then_keeps, told_back, turns_keep}
-use Rattle.transactions.specs.Driven.{Driven, HasTold, IsNumberOf, IsStamped, IsStampedAt, IsTrue, KnowsNumber}
-use Rattle.transactions.specs.Driven.{is_closing, seat_in, standing}
+use Rattle.driven_turns.specs.Driven.{Driven, HasTold, IsNumberOf, IsStamped, IsStampedAt, IsTrue, KnowsNumber}
+use Rattle.driven_turns.specs.Driven.{is_closing, seat_in, standing}
 use Rattle.transactions.specs.Requests.{HasCommitted, IsCommitTold, IsEnded, KeepsReceipts, has_some, has_written}
 use Rattle.tx_threads.proofs.OwnLemmas.{own_ok}
 use Rattle.tx_turns.proofs.AskedLemmas.{acts_taken}
-use Rattle.tx_turns.specs.Asked.{HasAsked, Starved}
+use Rattle.tx_turns.specs.Asked.{HasAsked}
 use Rattle.tx_turns.specs.Ties.{Ties}
 
 -- as it is asked, it has none yet: its word actor is to lock, or to load the clock
@@ -136,7 +132,7 @@ module _ {V : Type 0} where
   under_commits x calls on = subst (λ (p : Phase V). IsUnderWayFrom x p x None) (sym on) (inl (inl on, refl))
 
   -- ---- the turns
-  module _ (o : World V) (s u : table.Seat V) (calls : List (Call V × Reply V)) (on : standing o s ≡ Commits calls) where
+  module _ (o : World V) (s u : table.Seat V) (calls : List (Call V × Reply V)) (on : standing o s ≡ Commits calls) (outs : out u ≡ out s) where
     abbrev a : ℕ
     a = seated.actor s
 
@@ -167,7 +163,7 @@ module _ {V : Type 0} where
             seat = (D.seat.0, D.seat.1);
             shares = D.shares;
             receipts = D.gains;
-            outs = D.outs;
+            outs = outs;
             rises = D.rises;
             rests = h.0;
             told = subst (λ (k : Told V). HasTold o s u k) h.2 (D.tells ne);
@@ -181,7 +177,7 @@ module _ {V : Type 0} where
     refused cause D =
         let h = subst (λ (p : Phase V). EndsFrom a (seat_in o s) p (Refused a cause) (seat_in o u) None) on D.comes in
         let truth = subst (λ (p : Phase V). IsTrue o s u p (told.Refused cause)) on D.is_true in
-        (turns_keep o s u (told.Refused cause) None refl D, (h.0, inl truth))
+        (turns_keep o s u (told.Refused cause) None refl outs D, (h.0, truth))
 
     -- without a record it was refused
     none_told : (n : Told V) → n ≢ told.Quiet → EndsFrom a (seat_in o s) (Commits calls) (notice_of a n) (seat_in o u) None
@@ -204,14 +200,14 @@ module _ {V : Type 0} where
     pub keeps : OnErr r (KeepsReceipts s u)
     pub ended : IfErr r (IsEnded o s u)
 
-  pub finishes : (o : World V) (s u : table.Seat V) (calls : List (Call V × Reply V)) → standing o s ≡ Commits calls → (n : Told V)
-      (d : Option (Record V)) (r : Result (Record V) Refusal) → n ≢ told.Quiet → Driven o s u n d
+  pub finishes : (o : World V) (s u : table.Seat V) (calls : List (Call V × Reply V)) → standing o s ≡ Commits calls → out u ≡ out s
+      → (n : Told V) (d : Option (Record V)) (r : Result (Record V) Refusal) → n ≢ told.Quiet → Driven o s u n d
       → MatchResult r (λ q. d ≡ Some q) (λ cause. (d ≡ None) × (n ≡ told.Refused cause)) → Finishes o s u r
-  finishes o s u calls on n d (Ok q) ne D h =
-      let C = committed o s u calls on n q ne (subst (λ (k : Option (Record V)). Driven o s u n k) h D) in
+  finishes o s u calls on outs n d (Ok q) ne D h =
+      let C = committed o s u calls on outs n q ne (subst (λ (k : Option (Record V)). Driven o s u n k) h D) in
       record { committed = C.0; calls = C.1; writes = C.2; number = C.3; keeps = tt; ended = tt }
-  finishes o s u calls on n d (Err cause) ne D h =
-      let R = refused o s u calls on cause (subst (λ (k : Told V × Option (Record V)). Driven o s u k.0 k.1) (λ i. (h.1 i, h.0 i)) D) in
+  finishes o s u calls on outs n d (Err cause) ne D h =
+      let R = refused o s u calls on outs cause (subst (λ (k : Told V × Option (Record V)). Driven o s u k.0 k.1) (λ i. (h.1 i, h.0 i)) D) in
       record { committed = tt; calls = tt; writes = tt; number = tt; keeps = R.0; ended = R.1 }
 
   -- and since it was asked
@@ -268,20 +264,3 @@ module _ {V : Type 0} where
         keeps = then_keeps s m u kept F.keeps;
         ended = ended_back (opening_of t) s m u cause kept F.ended;
       }
-
-  -- ---- a want of memory
-  ending_ends : (calls : List (Call V × Reply V)) (st : Stage V) → is_ending st ≡ true → phase_at calls st ≡ Ends
-  ending_ends calls Cancelling h = refl
-  ending_ends calls Leaving h = refl
-  ending_ends calls (Returning ks) h = refl
-  ending_ends calls st h = absurd (true≢false (sym h))
-
-  pub starved_ends : (o : World V) (s m : table.Seat V) (n : Told V) (ks : List ℕ) → (seat_in o s).stage ≡ Ready ks → Starved o s m n
-      → standing o m ≡ Ends
-  starved_ends o s m n ks at h =
-      let a = seated.actor s in
-      let w = acts o s in
-      let r = happens w (Starve a) in
-      let x = r.0.seats a in
-      let is : IsStarved w a (Ready ks) r = subst (λ (st : Stage V). IsStarved w a st r) at (starves w a) in
-      (λ i. phase ((h.own i).seats (h.taken.0.1 i))) ∙ ending_ends x.calls x.stage is.0

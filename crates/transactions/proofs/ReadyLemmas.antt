@@ -10,6 +10,7 @@ use Rattle.word_machine.specs.World.{blank}
 use Rattle.step_core.specs.Blank.{IsBlank}
 use Rattle.replay_log.specs.Seats.{World, Seat, no_one}
 use Rattle.replay_log.specs.Worlds.{written_homes}
+use Rattle.tx_actor.specs.Having.{HasCopies}
 use Rattle.tx_actor.specs.Keeping.{IsRunning}
 use Rattle.tx_actor.specs.Running.{KnowsHomes, Runs, seat_at, seat_of}
 use Rattle.tx_actor.specs.declared.actor.Stage as own
@@ -19,17 +20,20 @@ use Rattle.tx_actor.specs.declared.actor.Told.TheVariants as told
 use Rattle.tx_actor.specs.declared.actor.TxActor.{TxActor}
 use Rattle.tx_table.specs.declared.seat.Seat as table
 use Rattle.tx_table.specs.declared.table.TxTable.{TxTable}
-use Rattle.tx_table.specs.Seated.{Owns, acts, blocks_in, kept, list_of, opening_of, out, view}
+use Rattle.tx_table.specs.Seated.{Owns, acts, list_of, opening_of, out, view}
 use Rattle.tx_table.specs.Seated as seated
 use Rattle.tx_table.specs.Shown.{IsReached}
 use Rattle.tx_table.specs.Turns.{asked_all, lone}
 use Rattle.tx_phases.specs.Phases.{Rests, phase}
 use Rattle.transactions.proofs.RequestLemmas.{is_idle, is_open}
-use Rattle.transactions.specs.Driven.{HasTold, IsNumberOf, seat_in, standing}
-use Rattle.transactions.specs.Ready.{HasBegunSince, IsNew, IsOfWords, IsReady}
+use Rattle.driven_turns.specs.Driven.{HasTold, IsNumberOf, seat_in, standing}
+use Rattle.transactions.specs.Ready.{HasBegunSince, HasOpened, IsNew, IsReady}
 use Rattle.transactions.specs.Requests.{CallLeaves, CallsTo, HasCommitted, IsBegun, IsNotBegun, IsOpen, KeepsReceipts}
 use Rattle.transactions.specs.declared.seats.TxSeat.{TxSeat}
 use Rattle.tx_turns.specs.Ties.{Ties, laid_in}
+use Rattle.gate_turns.specs.Bases.{AreBases, gates_at}
+use Rattle.gate_turns.specs.Own.{HasOwn}
+use Rattle.driven_turns.proofs.RestLemmas.{IsFree, free_own}
 
 module _ {V : Type 0} where
   -- ---- a new seat
@@ -49,22 +53,22 @@ module _ {V : Type 0} where
     subst (λ (st : own.Stage V). KnowsHomes st (written_homes w a)) (sym at) tt,
   )
 
-  pub new_ready : (t : TxTable V) (s : TxSeat V) → IsOfWords t → IsNew t s.seat → seat_of s.actor ≡ no_one → s.actor.stage ≡ stage.Idle
+  pub new_ready : (t : TxTable V) (s : TxSeat V) → HasOpened t → IsNew t s.seat → seat_of s.actor ≡ no_one → s.actor.stage ≡ stage.Idle
       → IsBlank s.actor.words → IsRunning (laid_in t) s.actor → IsReady t s
-  new_ready t s words h seat at is running =
+  new_ready t s opened h seat at is running =
       let o = opening_of t in
       let a = seated.actor s.seat in
       let e : o ≡ acts o s.seat = sym (new_acts t s.seat h) in
       record {
-        words = words;
+        table = opened;
         ties = record {
           owns = h.owns;
           live = h.live;
-          reached = subst (λ (w : World V). IsReached o a w) e (words.opening a);
+          reached = subst (λ (w : World V). IsReached o a w) e (opened.opening a);
           runs = subst (λ (w : World V). Runs a s.actor w) e (new_runs o a s.actor refl seat at refl is);
           running = running;
         };
-        outs = h.outs;
+        own = free_own t s.seat s.actor (subst IsFree (sym at) tt) (ap (λ (st : own.Stage V). gates_at st) at) h.outs;
         between = inl (ap (λ (w : World V). phase (w.seats a)) (sym e));
       }
 
@@ -74,7 +78,7 @@ module _ {V : Type 0} where
     has_open at = by ready.between
       where
         by : (standing (opening_of t) s.seat ≡ Rests) ⊎ IsOpen (opening_of t) s.seat → IsOpen (opening_of t) s.seat
-        by (inl rests) = absurd (let e = sym (is_idle t s.seat s.actor ready.words.none ready.ties rests) ∙ at in let z : ⊥ = cc in z)
+        by (inl rests) = absurd (let e = sym (is_idle t s.seat s.actor ready.ties rests) ∙ at in let z : ⊥ = cc in z)
         by (inr is) = is
 
     pub has_none : (s.actor.stage ≡ stage.Open → ⊥) → standing (opening_of t) s.seat ≡ Rests
@@ -82,7 +86,7 @@ module _ {V : Type 0} where
       where
         by : (standing (opening_of t) s.seat ≡ Rests) ⊎ IsOpen (opening_of t) s.seat → standing (opening_of t) s.seat ≡ Rests
         by (inl rests) = rests
-        by (inr is) = absurd (isnt (is_open t s.seat s.actor ready.words.none ready.ties is.0 is.1))
+        by (inr is) = absurd (isnt (is_open t s.seat s.actor ready.ties is.0 is.1))
 
   -- ---- after a request
   -- a call leaves its transaction open, or there is none
@@ -96,11 +100,12 @@ module _ {V : Type 0} where
       by (Err cause) (inr ended) = inl ended.0
 
   pub call_ready : (t : TxTable V) (s u : TxSeat V) (call : Call V) (r : Result (Reply V) Refusal) → IsReady t s
-      → IsOpen (opening_of t) s.seat → Ties t u.seat u.actor → CallsTo (opening_of t) s.seat call u.seat r → IsReady t u
-  call_ready t s u call r ready opened ties C = record {
-    words = ready.words;
+      → IsOpen (opening_of t) s.seat → Ties t u.seat u.actor → HasOwn t u.seat u.actor [] → CallsTo (opening_of t) s.seat call u.seat r
+      → IsReady t u
+  call_ready t s u call r ready opened ties own C = record {
+    table = ready.table;
     ties = ties;
-    outs = C.keeps.outs ∙ ready.outs;
+    own = own;
     between = call_between (opening_of t) s.seat u.seat call r opened C;
   }
 
@@ -119,19 +124,18 @@ module _ {V : Type 0} where
   pub rests_since : (t : TxTable V) (s : TxSeat V) → standing (opening_of t) s.seat ≡ Rests → HasBegunSince t s
   rests_since t s rests still = absurd (let e = sym rests ∙ still.1 in let z : ⊥ = cc in z)
 
-  pub rests_ready : (t : TxTable V) (s u : TxSeat V) → IsReady t s → Ties t u.seat u.actor → out u.seat ≡ out s.seat
+  pub rests_ready : (t : TxTable V) (s u : TxSeat V) → IsReady t s → Ties t u.seat u.actor → HasOwn t u.seat u.actor []
       → standing (opening_of t) u.seat ≡ Rests → IsReady t u
-  rests_ready t s u ready ties outs rests =
-      record { words = ready.words; ties = ties; outs = outs ∙ ready.outs; between = inl rests }
+  rests_ready t s u ready ties own rests = record { table = ready.table; ties = ties; own = own; between = inl rests }
 
   -- one that has just begun, from m on
   pub begun_ready : (t : TxTable V) (s m u : TxSeat V) (r : Result ℕ Refusal) → IsReady t s → Ties t u.seat u.actor
-      → KeepsReceipts s.seat u.seat → IfOk r (IsBegun (opening_of t) m.seat u.seat) → IfErr r (IsNotBegun (opening_of t) m.seat u.seat)
+      → HasOwn t u.seat u.actor [] → IfOk r (IsBegun (opening_of t) m.seat u.seat) → IfErr r (IsNotBegun (opening_of t) m.seat u.seat)
       → IsReady t u
-  begun_ready t s m u (Ok rv) ready ties kept begun isnt =
-      record { words = ready.words; ties = ties; outs = kept.outs ∙ ready.outs; between = inr ([], begun.stands) }
-  begun_ready t s m u (Err cause) ready ties kept begun isnt =
-      record { words = ready.words; ties = ties; outs = kept.outs ∙ ready.outs; between = inl isnt.0 }
+  begun_ready t s m u (Ok rv) ready ties own begun isnt =
+      record { table = ready.table; ties = ties; own = own; between = inr ([], begun.stands) }
+  begun_ready t s m u (Err cause) ready ties own begun isnt =
+      record { table = ready.table; ties = ties; own = own; between = inl isnt.0 }
 
   pub begun_since : (t : TxTable V) (m u : TxSeat V) (r : Result ℕ Refusal) → m.seat.last ≤ (view m.seat).clock → u.seat.last ≡ m.seat.last
       → IfOk r (IsBegun (opening_of t) m.seat u.seat) → IfErr r (IsNotBegun (opening_of t) m.seat u.seat) → HasBegunSince t u
@@ -193,6 +197,22 @@ module _ {V : Type 0} where
         runs = subst (λ (k : ℕ × World V). Runs k.0 r k.1) (λ i. (sym same i, sym own i)) ties.runs;
         running = ties.running;
       }
+
+  -- and has what it had out
+  pub stays_own : (t : TxTable V) (s u : table.Seat V) (r : TxActor V) → seated.actor u ≡ seated.actor s
+      → acts (opening_of t) u ≡ acts (opening_of t) s → out u ≡ out s → HasOwn t s r [] → HasOwn t u r []
+  stays_own t s u r same own outs h =
+      let o = opening_of t in record {
+        copies = subst (λ (k : ℕ × World V). HasCopies r k.1 k.0) (λ i. (sym same i, sym own i)) h.copies;
+        out = outs ∙ h.out;
+        bases = subst (λ (w : World V). AreBases o w (gates_at r.stage) []) (sym own) h.bases;
+        prepared = h.prepared;
+      }
+
+  pub noted_own : (t : TxTable V) (s u : table.Seat V) (r : TxActor V) → u.place ≡ s.place → u.asked ≡ s.asked → HasOwn t s r []
+      → HasOwn t u r []
+  noted_own t s u r place asked =
+      stays_own t s u r (ap (λ p. p.id) place) (noted_acts (opening_of t) s u place asked) (ap (λ p. p.me.1) place)
 
   pub stays_standing : (o : World V) (s u : table.Seat V) → seated.actor u ≡ seated.actor s → acts o u ≡ acts o s
       → standing o u ≡ standing o s

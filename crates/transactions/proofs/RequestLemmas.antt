@@ -1,23 +1,21 @@
 -- Requests from a transaction at rest: where its actor stands, what the request has under way, and what it comes to.
-use Rattle.std.proofs.Common.{◌≡◌, ◌≢◌, ℕ, false, List, [], ◌∷◌, ◌++◌, length, Option, None, Result, Ok, Err, IfOk, IfErr, refl, sym, ap, ◌∙◌, subst, arith}
+use Rattle.std.proofs.Common.{◌≡◌, ◌≢◌, ℕ, Bool, true, false, true≢false, List, [], ◌++◌, Option, None, Result, Ok, Err, IfOk, IfErr, refl, sym, ap, ◌∙◌, subst, arith}
 use Rattle.std.proofs.lemmas.List.{append-nil, append_assoc}
 use Rattle.seq_model.specs.declared.call.Call.{Call}
 use Rattle.seq_model.specs.declared.call.Reply.{Reply}
 use Rattle.seq_model.specs.declared.event.Answer.TheVariants as answer
-use Rattle.seq_model.specs.declared.event.Event.TheVariants.{Ask, Step}
+use Rattle.seq_model.specs.declared.event.Event.TheVariants.{Ask}
 use Rattle.seq_model.specs.declared.event.Notice.{Notice}
 use Rattle.seq_model.specs.declared.event.Notice.TheVariants.{Quiet, Answered, Refused}
 use Rattle.seq_model.specs.declared.event.Request.TheVariants.{Abort}
 use Rattle.seq_model.specs.declared.record.Record.{Record}
 use Rattle.seq_model.specs.declared.refusal.Refusal.{Refusal}
 use Rattle.replay_log.specs.Seats as worlds
-use Rattle.replay_log.specs.Seats.{World, After, Seat, Stage, Ready}
+use Rattle.replay_log.specs.Seats.{World, After, Seat, Stage}
 use Rattle.replay_log.specs.Worlds.{ask_at, happens}
-use Rattle.replay_log.specs.WorldRefusals.{IsCause}
-use Rattle.actor_words.specs.Dispatch.{is_loading, next_of}
-use Rattle.actor_words.specs.declared.next.Next.TheVariants as next
-use Rattle.tx_actor.specs.Keeping.{NamesAmong}
-use Rattle.tx_actor.specs.Running.{notice_of, stage_of}
+use Rattle.actor_words.specs.Dispatch.{is_loading}
+use Rattle.actor_turns.proofs.SeatLemmas.{loading_as}
+use Rattle.tx_actor.specs.Running.{stage_of}
 use Rattle.tx_actor.specs.declared.actor.Stage as own
 use Rattle.tx_actor.specs.declared.actor.Stage.TheVariants as stage
 use Rattle.tx_actor.specs.declared.actor.Told.{Told}
@@ -25,19 +23,20 @@ use Rattle.tx_actor.specs.declared.actor.Told.TheVariants as told
 use Rattle.tx_actor.specs.declared.actor.TxActor.{TxActor}
 use Rattle.tx_table.specs.declared.seat.Seat as table
 use Rattle.tx_table.specs.declared.table.TxTable.{TxTable}
-use Rattle.tx_table.specs.Seated.{acts, blocks_in, opening_of, view}
+use Rattle.tx_table.specs.Seated.{acts, opening_of, out, view}
 use Rattle.tx_table.specs.Seated as seated
-use Rattle.tx_table.specs.Turns.{asked_all, lone}
 use Rattle.tx_table.specs.declared.view.Turn.{Turn}
-use Rattle.atomic_steps.specs.Own.{Alike}
 use Rattle.tx_phases.proofs.PhaseLemmas.{asks_move}
 use Rattle.tx_phases.specs.Courses.{EndsFrom, IsUnderWay, IsUnderWayFrom}
-use Rattle.tx_phases.specs.Phases.{AskMoves, Phase, Rests, Begins, Stands, Commits, Ends, phase, phase_at}
-use Rattle.transactions.proofs.NextLemmas.{no_load}
-use Rattle.transactions.specs.Driven.{Driven, HasFound, HasTold, IsTrue, IsTurnFrom, as_receipts, seat_in, standing}
+use Rattle.tx_phases.specs.Phases.{AskMoves, Phase, Rests, Begins, Stands, Calls, Ends, phase, phase_at}
+use Rattle.gate_turns.specs.Bases.{gates_at}
+use Rattle.gate_turns.specs.Own.{HasOwn}
+use Rattle.driven_turns.proofs.GivenUpLemmas.{none_ends}
+use Rattle.driven_turns.proofs.RestLemmas.{IsFree, bare_out, free_own, taken_bare}
+use Rattle.driven_turns.proofs.SinceLemmas as since
+use Rattle.driven_turns.specs.Driven.{Driven, HasFound, HasTold, IsTrue, as_receipts, seat_in, standing}
 use Rattle.transactions.specs.Requests.{BeginsTo, IsBeginTold, IsBegun, IsNotBegun, KeepsReceipts, begin_of}
 use Rattle.tx_turns.proofs.AskedLemmas.{acts_taken}
-use Rattle.actor_turns.proofs.StepLemmas.{first_is}
 use Rattle.tx_turns.proofs.TurnLemmas.{own_stage}
 use Rattle.tx_turns.specs.Asked.{HasAsked}
 use Rattle.tx_turns.specs.Ties.{Ties}
@@ -51,52 +50,54 @@ module _ {V : Type 0} where
   rests_idle calls stage.Idle h = refl
   rests_idle calls t h = absurd (let z : ⊥ = cc in z)
 
-  module _ (t : TxTable V) (s : table.Seat V) (r : TxActor V) (none : blocks_in t ≡ []) (ties : Ties t s r) where
-    quiet : is_loading (stage_of r.stage) ≡ false
-    quiet = no_load r.stage (subst (λ bs. NamesAmong (length bs) r.stage) none ties.running.names)
+  -- no location of a call is read
+  is_call : Phase V → Bool
+  is_call (Calls calls call) = true
+  is_call p = false
 
-    at : (p : Phase V) → standing (opening_of t) s ≡ p → phase_at (seat_in (opening_of t) s).calls (stage_of r.stage) ≡ p
-    at p on = ap (phase_at (seat_in (opening_of t) s).calls) (sym (own_stage t s r quiet ties)) ∙ on
+  no_load : (calls : List (Call V × Reply V)) (st : Stage V) → is_call (phase_at calls st) ≡ false → is_loading st ≡ false
+  unfolding is_call
+  no_load calls (worlds.Loading o left) h = absurd (true≢false h)
+  no_load calls st h = refl
 
-    pub is_open : (calls : List (Call V × Reply V)) → standing (opening_of t) s ≡ Stands calls → r.stage ≡ stage.Open
-    is_open calls on = stands_open (seat_in (opening_of t) s).calls calls r.stage (at (Stands calls) on)
+  module _ (t : TxTable V) (s : table.Seat V) (r : TxActor V) (ties : Ties t s r) where
+    abbrev x : Seat V
+    x = seat_in (opening_of t) s
 
-    pub is_idle : standing (opening_of t) s ≡ Rests → r.stage ≡ stage.Idle
-    is_idle on = rests_idle (seat_in (opening_of t) s).calls r.stage (at Rests on)
+    at : (p : Phase V) → is_call p ≡ false → phase x ≡ p → phase_at x.calls (stage_of r.stage) ≡ p
+    at p calm on =
+        let quiet : is_loading (stage_of r.stage) ≡ false =
+        sym (loading_as (acts (opening_of t) s) (seated.actor s) r ties.runs) ∙ no_load x.calls x.stage (ap is_call on ∙ calm) in
+        ap (phase_at x.calls) (sym (own_stage t s r quiet ties)) ∙ on
 
-    pub begins : r.stage ≡ stage.Beginning → standing (opening_of t) s ≡ Begins
+    pub is_open : (calls : List (Call V × Reply V)) → phase x ≡ Stands calls → r.stage ≡ stage.Open
+    unfolding is_call
+    is_open calls on = stands_open x.calls calls r.stage (at (Stands calls) refl on)
+
+    pub is_idle : phase x ≡ Rests → r.stage ≡ stage.Idle
+    unfolding is_call
+    is_idle on = rests_idle x.calls r.stage (at Rests refl on)
+
+    pub begins : r.stage ≡ stage.Beginning → phase x ≡ Begins
     begins on =
-        ap (phase_at (seat_in (opening_of t) s).calls) (own_stage t s r quiet ties ∙ ap (λ (k : own.Stage V). stage_of k) on)
+        let quiet : is_loading (stage_of r.stage) ≡ false = ap (λ (k : own.Stage V). is_loading (stage_of k)) on in
+        ap (phase_at x.calls) (own_stage t s r quiet ties ∙ ap (λ (k : own.Stage V). stage_of k) on)
 
-    -- where the first value store is due, its stage says so
-    pub ready : next_of (stage_of r.stage) ≡ next.FirstStore → (ks : List ℕ) × ((seat_in (opening_of t) s).stage ≡ Ready ks)
-    ready due = let first = first_is (stage_of r.stage) due in (first.0, own_stage t s r quiet ties ∙ first.1)
-
-    -- and it is to commit
-    pub commits : next_of (stage_of r.stage) ≡ next.FirstStore
-        → standing (opening_of t) s ≡ Commits (seat_in (opening_of t) s).calls
-    commits due =
-        ap (phase_at (seat_in (opening_of t) s).calls) (own_stage t s r quiet ties ∙ (first_is (stage_of r.stage) due).1)
+    -- it is being given up: nothing is asked of what it has of collections
+    pub ends_free : phase x ≡ Ends → IsFree r.stage
+    unfolding is_call
+    ends_free on = free_at x.calls r.stage (at Ends refl on)
+      where
+        free_at : (calls : List (Call V × Reply V)) (t : own.Stage V) → phase_at calls (stage_of t) ≡ Ends → IsFree t
+        free_at calls (stage.Returning homes) h = tt
+        free_at calls (stage.ReturningOne k) h = tt
+        free_at calls stage.Cancelling h = tt
+        free_at calls stage.Leaving h = tt
+        free_at calls t h = absurd (let z : ⊥ = cc in z)
 
   -- the request stands at its beginning
   pub under_begins : (x : Seat V) → phase x ≡ Begins → IsUnderWay x x None
   under_begins x on = subst (λ (p : Phase V). IsUnderWayFrom x p x None) (sym on) (on, refl)
-
-  pub under_ends : (x : Seat V) → phase x ≡ Ends → IsUnderWay x x None
-  under_ends x on = subst (λ (p : Phase V). IsUnderWayFrom x p x None) (sym on) (on, refl, refl)
-
-  -- only a commit stops for want of memory
-  pub begins_never : (o : World V) (s u : table.Seat V) (cs : List (Call V × Reply V)) → standing o s ≡ Begins
-      → Driven o s u told.Quiet None → standing o u ≡ Commits cs → ⊥
-  begins_never o s u cs on d at =
-      let h = subst (λ (p : Phase V). IsUnderWayFrom (seat_in o s) p (seat_in o u) None) on d.comes in
-      let e : Begins ≡ Commits cs = sym h.0 ∙ at in cc
-
-  pub ends_never : (o : World V) (s u : table.Seat V) (cs : List (Call V × Reply V)) → standing o s ≡ Ends
-      → Driven o s u told.Quiet None → standing o u ≡ Commits cs → ⊥
-  ends_never o s u cs on d at =
-      let h = subst (λ (p : Phase V). IsUnderWayFrom (seat_in o s) p (seat_in o u) None) on d.comes in
-      let e : Ends ≡ Commits cs = sym h.0 ∙ at in cc
 
   -- ---- a begin
   none_begins : (o : World V) (s u : table.Seat V) (n : Told V) (d : Option (Record V)) → standing o s ≡ Begins → Driven o s u n d
@@ -149,51 +150,28 @@ module _ {V : Type 0} where
   }
 
   -- and so do turns without a receipt
-  pub turns_keep : (o : World V) (s u : table.Seat V) (n : Told V) (d : Option (Record V)) → d ≡ None → Driven o s u n d → KeepsReceipts s u
-  turns_keep o s u n d none D = record {
+  pub turns_keep : (o : World V) (s u : table.Seat V) (n : Told V) (d : Option (Record V)) → d ≡ None → out u ≡ out s → Driven o s u n d
+      → KeepsReceipts s u
+  turns_keep o s u n d none outs D = record {
     seat = D.seat;
     shares = D.shares;
     receipts = D.gains ∙ ((λ i. (view s).receipts ++ as_receipts (seated.actor s) (none i)) ∙ append-nil (view s).receipts);
-    outs = D.outs;
+    outs = outs;
     rises = D.rises;
     more = D.more;
     turns = D.turns;
   }
 
-  -- a turn since then is one since before
-  back : (o : World V) (s m u : table.Seat V) (v : World V) → KeepsReceipts s m → IsTurnFrom o m u v → IsTurnFrom o s u v
-  back o s m u v kept h = record {
-    before = kept.more ++ h.before;
-    turn = h.turn;
-    after = h.after;
-    turns = h.turns ∙ ap (λ (is : List (Turn V)). is ++ h.turn ∷ h.after) joined;
-    events = h.events;
-    reached = h.reached;
-    alike = subst (λ (k : ℕ × List (Turn V)). Alike k.0 v (asked_all k.0 (lone k.0 o k.1) h.turn.asks))
-        (λ i. (kept.seat.1 i, joined i)) h.alike;
-  }
-    where
-      joined : (view m).turns ++ h.before ≡ (view s).turns ++ (kept.more ++ h.before)
-      joined = ap (λ (is : List (Turn V)). is ++ h.before) kept.turns ∙ append_assoc (view s).turns kept.more h.before
-
-  -- what was found since then was found since before
+  -- what was found or told since then, was since before
   pub found_back : (o : World V) (s m u : table.Seat V) (cause : Refusal) → KeepsReceipts s m → HasFound o m u cause → HasFound o s u cause
-  found_back o s m u cause kept h = (
-    h.0,
-    back o s m u h.0 kept h.1,
-    subst (λ (k : ℕ). IsCause h.0 k (h.0.seats k).stage (happens h.0 (Step k)).0 cause) kept.seat.1 h.2,
-  )
+  found_back o s m u cause kept = since.found_back o s m kept.seat.1 kept.more kept.turns u cause
 
   pub told_back : (o : World V) (s m u : table.Seat V) (n : Told V) → KeepsReceipts s m → HasTold o m u n → HasTold o s u n
-  told_back o s m u n kept h = (
-    h.0,
-    back o s m u h.0 kept h.1,
-    subst (λ (k : ℕ). (happens h.0 (Step k)).1 ≡ notice_of k n) kept.seat.1 h.2,
-  )
+  told_back o s m u n kept = since.told_back o s m kept.seat.1 kept.more kept.turns u n
 
   pub not_begun_back : (o : World V) (s m u : table.Seat V) (cause : Refusal) → KeepsReceipts s m → IsNotBegun o m u cause
       → IsNotBegun o s u cause
-  not_begun_back o s m u cause kept h = (h.0, (h.1.0, back o s m u h.1.0 kept h.1.1, h.1.2, h.1.3))
+  not_begun_back o s m u cause kept h = (h.0, since.exhausted_back o s m kept.seat.1 kept.more kept.turns u cause h.1)
 
   pub begun_back : (o : World V) (s m u : table.Seat V) (rv : ℕ) → KeepsReceipts s m → IsBegun o m u rv → IsBegun o s u rv
   begun_back o s m u rv kept h = record {
@@ -221,25 +199,15 @@ module _ {V : Type 0} where
   begun_since o s m u (Err cause) kept h g = (tt, not_begun_back o s m u cause kept g)
 
   pub begins_to : (o : World V) (s u : table.Seat V) (n : Told V) (d : Option (Record V))
-      → standing o s ≡ Begins → Driven o s u n d → n ≢ told.Quiet → KeepsReceipts s u × BeginsTo o s u n
-  begins_to o s u n d on D ne =
-      let h = none_begins o s u n d on D ne in (turns_keep o s u n d h.0 D, h.1)
+      → standing o s ≡ Begins → out u ≡ out s → Driven o s u n d → n ≢ told.Quiet → KeepsReceipts s u × BeginsTo o s u n
+  begins_to o s u n d on outs D ne =
+      let h = none_begins o s u n d on D ne in (turns_keep o s u n d h.0 outs D, h.1)
 
   -- ---- an abort
-  none_ends : (o : World V) (s u : table.Seat V) (n : Told V) (d : Option (Record V)) → standing o s ≡ Ends → Driven o s u n d
-      → n ≢ told.Quiet → (d ≡ None) × (standing o u ≡ Rests)
-  none_ends o s u told.Quiet d on D ne = absurd (ne refl)
-  none_ends o s u (told.Answered q) d on D ne =
-      let a = seated.actor s in
-      let h = subst (λ (p : Phase V). EndsFrom a (seat_in o s) p (Answered a q) (seat_in o u) d) on D.comes in (h.2, h.0)
-  none_ends o s u (told.Refused cause) d on D ne =
-      let a = seated.actor s in
-      let h = subst (λ (p : Phase V). EndsFrom a (seat_in o s) p (Refused a cause) (seat_in o u) d) on D.comes in (h.2, h.0)
-
-  pub ends_to : (o : World V) (s u : table.Seat V) (n : Told V) (d : Option (Record V)) → standing o s ≡ Ends → Driven o s u n d
-      → n ≢ told.Quiet → KeepsReceipts s u × (standing o u ≡ Rests)
-  ends_to o s u n d on D ne =
-      let h = none_ends o s u n d on D ne in (turns_keep o s u n d h.0 D, h.1)
+  pub ends_to : (o : World V) (s u : table.Seat V) (n : Told V) (d : Option (Record V)) → standing o s ≡ Ends → out u ≡ out s
+      → Driven o s u n d → n ≢ told.Quiet → KeepsReceipts s u × (standing o u ≡ Rests)
+  ends_to o s u n d on outs D ne =
+      let h = none_ends o s u n d on D ne in (turns_keep o s u n d h.0 outs D, h.1)
 
   -- an open transaction that is to abort is being given up
   quiet_abort : (w : World V) (a : ℕ) (x : Seat V) (st : Stage V) (calls : List (Call V × Reply V)) → phase_at x.calls st ≡ Stands calls
@@ -258,3 +226,11 @@ module _ {V : Type 0} where
       let moved : AskMoves (Stands calls) Abort Quiet (phase (after.0.seats a)) =
       subst (λ (k : Phase V × Notice V). AskMoves k.0 Abort k.1 (phase (after.0.seats a))) (λ i. (on i, said i)) (asks_move w a Abort) in
       (λ i. phase ((own_is i).seats (has.0.1 i))) ∙ moved
+
+  -- it has nothing in hand
+  pub abort_own : (t : TxTable V) (s m : table.Seat V) (r q : TxActor V) (calls : List (Call V × Reply V))
+      → standing (opening_of t) s ≡ Stands calls → Ties t s r → HasOwn t s r [] → HasAsked s Abort m → Ties t m q → HasOwn t m q []
+  abort_own t s m r q calls on ties own has tied =
+      free_own t m q (ends_free t m q tied (abort_ends (opening_of t) s m calls on has))
+      (taken_bare t s m r q (Ask 0 Abort) ties tied has (ap gates_at (is_open t s r ties calls on)))
+      (ap (λ k. k.1) has.1 ∙ bare_out t s r own)

@@ -25,8 +25,9 @@ use Rattle.tx_phases.specs.Phases.{Rests, phase_at}
 use Rattle.tx_threads.proofs.OwnLemmas.{own_gates}
 use Rattle.tx_turns.specs.Ties.{Ties}
 use Rattle.transactions.proofs.CallLemmas.{stands_at}
-use Rattle.transactions.proofs.ReadyLemmas.{stays_between, stays_standing, stays_tied}
-use Rattle.transactions.specs.Driven.{seat_in, standing}
+use Rattle.gate_turns.specs.Own.{HasOwn}
+use Rattle.transactions.proofs.ReadyLemmas.{stays_between, stays_own, stays_standing, stays_tied}
+use Rattle.driven_turns.specs.Driven.{seat_in, standing}
 use Rattle.transactions.specs.Ready.{IsReady}
 use Rattle.transactions.specs.Requests.{IsOpen}
 use Rattle.transactions.specs.declared.seats.TxSeat.{TxSeat}
@@ -37,9 +38,9 @@ module _ {V : Type 0} where
       → seated.actor u.seat ≡ seated.actor s.seat → acts (opening_of t) u.seat ≡ acts (opening_of t) s.seat
       → 0 < (view u.seat).shares → out u.seat ≡ out s.seat → IsReady t u
   stays_ready t s u ready actor owns same own live outs = record {
-    words = ready.words;
+    table = ready.table;
     ties = subst (λ r. Ties t u.seat r) (sym actor) (stays_tied t s.seat u.seat s.actor owns same own live ready.ties);
-    outs = outs ∙ ready.outs;
+    own = subst (λ r. HasOwn t u.seat r []) (sym actor) (stays_own t s.seat u.seat s.actor same own outs ready.own);
     between = stays_between (opening_of t) s.seat u.seat (stays_standing (opening_of t) s.seat u.seat same own) ready.between;
   }
 

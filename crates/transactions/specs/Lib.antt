@@ -1,4 +1,3 @@
-pub mod Driven
 pub mod Requests
 pub mod Ready
 pub mod Closing

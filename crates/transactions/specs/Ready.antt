@@ -1,13 +1,15 @@
 -- A seat with the actor that runs there, between its requests.
 use Rattle.std.specs.Prelude.{◌≡◌, ◌⊎◌, ℕ, ◌<◌, ◌≤◌, []}
+use Rattle.replay_log.specs.WorldProgress.{AreSmall}
 use Rattle.tx_table.specs.declared.seat.Seat.{Seat}
 use Rattle.tx_table.specs.declared.table.TxTable.{TxTable}
 use Rattle.tx_table.specs.Seated.{Owns, blocks_in, list_of, opening_of, out, view}
 use Rattle.tx_table.specs.Shown.{IsReached}
 use Rattle.tx_turns.specs.Ties.{Ties}
+use Rattle.gate_turns.specs.Own.{HasOwn}
 use Rattle.tx_phases.specs.Phases.{Rests}
 use Rattle.transactions.specs.declared.seats.TxSeat.{TxSeat}
-use Rattle.transactions.specs.Driven.{seat_in, standing}
+use Rattle.driven_turns.specs.Driven.{seat_in, standing}
 use Rattle.transactions.specs.Requests.{IsOpen}
 
 module _ {V : Type 0} where
@@ -19,16 +21,16 @@ module _ {V : Type 0} where
     pub outs : out s ≡ []
     pub asked : list_of s.asked ≡ []
 
-  -- a table of words alone, whose opening is a world that events reach
-  pub record IsOfWords (t : TxTable V) : Type 0 where
-    pub none : blocks_in t ≡ []
+  -- A table that has opened: its opening is a world that events reach, and none of its collections has more locations than a set takes.
+  pub record HasOpened (t : TxTable V) : Type 0 where
+    pub small : AreSmall (blocks_in t)
     pub opening : (a : ℕ) → IsReached (opening_of t) a (opening_of t)
 
-  -- At a table of words alone, no request is under way: there is no transaction, or one is open.
+  -- No request is under way: there is no transaction, or one is open. No gate is held, and no base is out.
   pub record IsReady (t : TxTable V) (s : TxSeat V) : Type 0 where
-    pub words : IsOfWords t
+    pub table : HasOpened t
     pub ties : Ties t s.seat s.actor
-    pub outs : out s.seat ≡ []
+    pub own : HasOwn t s.seat s.actor []
     pub between : (standing (opening_of t) s.seat ≡ Rests) ⊎ IsOpen (opening_of t) s.seat
 
   -- An open transaction has begun at a number that is no lower than the last number of its seat, and no higher than the clock that it

@@ -17,7 +17,7 @@ use Rattle.tx_table.specs.Seated.{IsSameSeat, actor, acts, out, view}
 use Rattle.tx_table.specs.declared.view.Turn.{Turn}
 use Rattle.tx_turns.specs.Asked.{Answers}
 use Rattle.tx_phases.specs.Phases.{Rests, Stands, Calls, Commits, IsMistaken}
-use Rattle.transactions.specs.Driven.{Driven, HasFound, HasTold, IsExhausted, seat_in, standing}
+use Rattle.driven_turns.specs.Driven.{Driven, HasFound, HasTold, IsExhausted, seat_in, standing}
 
 -- there is some entry
 abbrev pub has_some : Entries → Bool

@@ -1,20 +1,21 @@
-//! The calls of a transaction on words.
-ghost use Rattle.std.specs.Prelude.{◌≡◌, IfErr, IfOk, OnErr, OnOk, []};
-ghost use Rattle.seq_model.specs.declared.call.Op.TheVariants as op;
+//! The calls of a transaction, on words and on collections.
+ghost use Rattle.std.specs.Prelude.{◌≡◌, [], IfErr, IfOk, OnErr, OnOk};
+ghost use Rattle.replay_log.specs.WorldProgress.{AreSmall};
 ghost use Rattle.tx_table.specs.Seated.{blocks_in, opening_of};
 ghost use Rattle.tx_phases.specs.Phases.{Rests};
-ghost use Rattle.transactions.specs.Driven.{standing};
-ghost use Rattle.transactions.specs.Requests.{CallsTo, IsCallTold, IsCalling, IsDriven, IsOpen, KeepsReceipts, told_of};
-ghost use Rattle.tx_turns.specs.Asked.{Answers, HasAsked, read_of};
+ghost use Rattle.tx_turns.specs.Asked.{Answers, HasAsked};
 ghost use Rattle.tx_turns.specs.Ties.{Ties};
+ghost use Rattle.gate_turns.specs.Own.{HasOwn};
+ghost use Rattle.driven_turns.specs.Driven.{standing};
+ghost use Rattle.transactions.specs.Requests.{CallsTo, IsCallTold, IsCalling, IsDriven, IsOpen, KeepsReceipts, told_of};
 
-use crate::driving::drive;
 use crate::requests::abort;
-use seq_model::{Answer, Refusal, Reply, Value};
+use driven_turns::drive;
+use gate_turns::ask;
+use seq_model::{Answer, Call, Refusal, Reply, Request, Value};
 use std::alloc::Global;
 use tx_actor::{Told, TxActor};
 use tx_table::{Seat, TxTable};
-use tx_turns::{ask_read, ask_write};
 
 /// What a call comes to of which this is told.
 fn reply_told<V: Value>(told: Told<V>) -> Result<Reply<V>, Refusal>
@@ -36,36 +37,39 @@ fn driven_call<V: Value>(
     actor: &mut TxActor<V>,
 ) -> Result<Reply<V>, Refusal>
     requires ties { Ties table.now seat.old actor.old }
-    requires none { blocks_in table.now ≡ [] }
+    requires own { HasOwn table.now seat.old actor.old [] }
+    requires small { AreSmall (blocks_in table.now) }
     requires calls { IsCalling (opening_of table.now) seat.old }
     ensures ties { Ties table.now seat.new actor.new }
+    ensures own { HasOwn table.now seat.new actor.new [] }
     ensures driven { IsDriven (opening_of table.now) seat.old seat.new (told_of result) }
 {
-    match drive(alloc, table, seat, actor) {
-        Ok((told, _)) => reply_told(told),
-        Err(_) => unreachable!(),
-    }
+    let (told, _) = drive(alloc, table, seat, actor);
+    reply_told(told)
 }
 
-/// A word is to be read. Where memory is refused the transaction is aborted in place of that.
-fn asked_read<V: Value>(
+/// A request of an open transaction. Where memory is refused the transaction is aborted in place of that.
+pub(crate) fn ask_open<V: Value>(
     alloc: Global,
     table: &TxTable<V>,
     seat: &mut Seat<V>,
     actor: &mut TxActor<V>,
-    word: u32,
+    request: Request<V>,
 ) -> Result<Told<V>, Refusal>
     requires ties { Ties table.now seat.old actor.old }
-    requires none { blocks_in table.now ≡ [] }
+    requires own { HasOwn table.now seat.old actor.old [] }
+    requires small { AreSmall (blocks_in table.now) }
     requires open { IsOpen (opening_of table.now) seat.old }
     ensures ties { Ties table.now seat.new actor.new }
-    ensures asked { OnOk result (HasAsked seat.old (read_of word) seat.new) }
-    ensures answers { IfOk result (Answers (opening_of table.now) seat.old (read_of word)) }
+    ensures own { HasOwn table.now seat.new actor.new [] }
+    ensures asked { OnOk result (HasAsked seat.old request seat.new) }
+    ensures answers { IfOk result (Answers (opening_of table.now) seat.old request) }
     ensures memory { IfErr result (λ cause. cause ≡ Refusal.OutOfMemory) }
     ensures keeps { OnErr result (KeepsReceipts seat.old seat.new) }
     ensures rests { OnErr result (standing (opening_of table.now) seat.new ≡ Rests) }
 {
-    match ask_read(table, seat, actor, word) {
+    let bases = Vec::new(alloc);
+    match ask(alloc, table, seat, actor, bases.as_slice(), request) {
         Ok(told) => Ok(told),
         Err(_) => {
             abort(alloc, table, seat, actor);
@@ -74,49 +78,30 @@ fn asked_read<V: Value>(
     }
 }
 
-/// A word is read. `NoSuch` where there is none, then `TooLong` past the limit of calls or of the read set: the transaction is as it was.
-/// `OutOfMemory`, and `Moved` where the word changed since the transaction began: the transaction is ended.
-pub fn read<V: Value>(
+/// A call on a word or on a collection, with its reply. What it changes is seen by others once the transaction commits.
+///
+/// `NoSuch` where there is no such word or collection, or it is of another kind, and for a change in a declared reader; then `TooLong` past
+/// the limit of calls, or where what it reads or writes doesn't fit the sets: the transaction is as it was. `Moved` where a word or a
+/// location of a collection changed since the transaction began, `Stale` where what it has of a collection is not what it had read,
+/// `GateBusy` where another seat held the collection's gate at each of 64 tries, and `OutOfMemory`: the transaction is ended.
+pub fn call<V: Value>(
     alloc: Global,
     table: &TxTable<V>,
     seat: &mut Seat<V>,
     actor: &mut TxActor<V>,
-    word: u32,
+    call: Call<V>,
 ) -> Result<Reply<V>, Refusal>
     requires ties { Ties table.now seat.old actor.old }
-    requires none { blocks_in table.now ≡ [] }
+    requires own { HasOwn table.now seat.old actor.old [] }
+    requires small { AreSmall (blocks_in table.now) }
     requires open { IsOpen (opening_of table.now) seat.old }
     ensures ties { Ties table.now seat.new actor.new }
-    ensures calls { CallsTo (opening_of table.now) seat.old (record { target = word; op = op.Read }) seat.new result }
+    ensures own { HasOwn table.now seat.new actor.new [] }
+    ensures calls { CallsTo (opening_of table.now) seat.old call seat.new result }
 {
-    let told = asked_read(alloc, table, seat, actor, word)?;
+    let told = ask_open(alloc, table, seat, actor, Request::Call(call))?;
     match told {
         Told::Quiet => driven_call(alloc, table, seat, actor),
         told => reply_told(told),
-    }
-}
-
-/// A word is written, once the transaction commits. `NoSuch` where there is none, and of a declared reader, then `TooLong` past the limit
-/// of calls or of the write set: the transaction is as it was. `OutOfMemory`: the transaction is ended.
-pub fn write<V: Value>(
-    alloc: Global,
-    table: &TxTable<V>,
-    seat: &mut Seat<V>,
-    actor: &mut TxActor<V>,
-    word: u32,
-    value: u64,
-) -> Result<Reply<V>, Refusal>
-    requires ties { Ties table.now seat.old actor.old }
-    requires none { blocks_in table.now ≡ [] }
-    requires open { IsOpen (opening_of table.now) seat.old }
-    ensures ties { Ties table.now seat.new actor.new }
-    ensures calls { CallsTo (opening_of table.now) seat.old (record { target = word; op = op.Write value }) seat.new result }
-{
-    match ask_write(table, seat, actor, word, value) {
-        Ok(told) => reply_told(told),
-        Err(_) => {
-            abort(alloc, table, seat, actor);
-            Err(Refusal::OutOfMemory)
-        }
     }
 }

@@ -1,21 +1,19 @@
-//! The commit of a transaction on words.
+//! The commit of a transaction.
 ghost use Rattle.std.specs.Prelude.{◌≡◌, [], IfErr, IfOk, MatchResult, None, OnErr, Some, not};
-ghost use Rattle.actor_words.specs.Dispatch.{next_of};
-ghost use Rattle.tx_actor.specs.Running.{stage_of};
+ghost use Rattle.replay_log.specs.WorldProgress.{AreSmall};
 ghost use Rattle.tx_table.specs.Seated.{blocks_in, opening_of, view};
 ghost use Rattle.tx_phases.specs.Phases.{Commits, Rests, Stands};
-ghost use Rattle.transactions.specs.Driven.{IsNumberOf, KnowsNumber, is_closing, seat_in, standing};
+ghost use Rattle.driven_turns.specs.Driven.{IsNumberOf, KnowsNumber, is_closing, seat_in, standing};
 ghost use Rattle.transactions.specs.Requests.{HasCommitted, IsCommitTold, IsCommitting, IsEnded, IsOpen, KeepsReceipts, has_written};
 ghost use Rattle.tx_turns.specs.Ties.{Ties};
+ghost use Rattle.gate_turns.specs.Own.{HasOwn};
 
-use crate::driving::drive;
-use crate::requests::abort;
-use actor_words::Next;
-use seq_model::{Record, Refusal, Value};
+use crate::calls::ask_open;
+use driven_turns::drive;
+use seq_model::{Record, Refusal, Request, Value};
 use std::alloc::Global;
 use tx_actor::{Told, TxActor};
 use tx_table::{Seat, TxTable};
-use tx_turns::{ask_commit, starve};
 
 /// What a commit comes to of which this is told, with this receipt.
 fn commit_told<V: Value>(told: Told<V>, receipt: Option<Record<V>>) -> Result<Record<V>, Refusal>
@@ -31,22 +29,6 @@ fn commit_told<V: Value>(told: Told<V>, receipt: Option<Record<V>>) -> Result<Re
     }
 }
 
-/// A commit of which the first value store is due is refused memory, and its transaction is ended.
-fn starved<V: Value>(alloc: Global, table: &TxTable<V>, seat: &mut Seat<V>, actor: &mut TxActor<V>)
-    requires ties { Ties table.now seat.old actor.old }
-    requires none { blocks_in table.now ≡ [] }
-    requires first { next_of (stage_of actor.old.stage) ≡ Next.FirstStore }
-    ensures ties { Ties table.now seat.new actor.new }
-    ensures keeps { KeepsReceipts seat.old seat.new }
-    ensures rests { standing (opening_of table.now) seat.new ≡ Rests }
-{
-    let _ = starve(table, seat, actor);
-    match drive(alloc, table, seat, actor) {
-        Ok(_) => {}
-        Err(_) => unreachable!(),
-    }
-}
-
 /// The turns of a commit.
 fn committed<V: Value>(
     alloc: Global,
@@ -55,9 +37,11 @@ fn committed<V: Value>(
     actor: &mut TxActor<V>,
 ) -> Result<Record<V>, Refusal>
     requires ties { Ties table.now seat.old actor.old }
-    requires none { blocks_in table.now ≡ [] }
+    requires own { HasOwn table.now seat.old actor.old [] }
+    requires small { AreSmall (blocks_in table.now) }
     requires commits { IsCommitting (opening_of table.now) seat.old }
     ensures ties { Ties table.now seat.new actor.new }
+    ensures own { HasOwn table.now seat.new actor.new [] }
     ensures last { seat.new.last ≡ seat.old.last }
     ensures committed { IfOk result (HasCommitted (opening_of table.now) seat.old seat.new) }
     ensures calls { IfOk result (λ receipt. standing (opening_of table.now) seat.old ≡ Commits receipt.calls) }
@@ -67,18 +51,14 @@ fn committed<V: Value>(
     ensures keeps { OnErr result (KeepsReceipts seat.old seat.new) }
     ensures ended { IfErr result (IsEnded (opening_of table.now) seat.old seat.new) }
 {
-    match drive(alloc, table, seat, actor) {
-        Ok((told, receipt)) => commit_told(told, receipt),
-        Err(_) => {
-            starved(alloc, table, seat, actor);
-            Err(Refusal::OutOfMemory)
-        }
-    }
+    let (told, receipt) = drive(alloc, table, seat, actor);
+    commit_told(told, receipt)
 }
 
-/// A transaction commits: all its words are written, and the words that it read are as it read them, at one moment. Its receipt has its
-/// calls with their replies. `Busy` where a word to be written is locked, or was changed, `Invalid` where one that was read was, and
-/// `OutOfMemory`: the transaction is ended, and has written nothing.
+/// A transaction commits: all its words are written, its changes to collections are made, and what it read is as it read it, at one moment.
+/// Its receipt has its calls with their replies. `Busy` where a location to be written is locked, or was changed, `Invalid` where one that
+/// was read was, `GateBusy` where another seat held the gate of a collection to be written at each of 64 tries, and `OutOfMemory`: the
+/// transaction is ended, and has written nothing.
 pub fn commit<V: Value>(
     alloc: Global,
     table: &TxTable<V>,
@@ -86,9 +66,11 @@ pub fn commit<V: Value>(
     actor: &mut TxActor<V>,
 ) -> Result<Record<V>, Refusal>
     requires ties { Ties table.now seat.old actor.old }
-    requires none { blocks_in table.now ≡ [] }
+    requires own { HasOwn table.now seat.old actor.old [] }
+    requires small { AreSmall (blocks_in table.now) }
     requires open { IsOpen (opening_of table.now) seat.old }
     ensures ties { Ties table.now seat.new actor.new }
+    ensures own { HasOwn table.now seat.new actor.new [] }
     ensures last { seat.new.last ≡ seat.old.last }
     ensures committed { IfOk result (HasCommitted (opening_of table.now) seat.old seat.new) }
     ensures calls { IfOk result (λ receipt. standing (opening_of table.now) seat.old ≡ Stands receipt.calls) }
@@ -97,11 +79,6 @@ pub fn commit<V: Value>(
     ensures keeps { OnErr result (KeepsReceipts seat.old seat.new) }
     ensures ended { IfErr result (IsEnded (opening_of table.now) seat.old seat.new) }
 {
-    match ask_commit(alloc, table, seat, actor) {
-        Ok(()) => committed(alloc, table, seat, actor),
-        Err(_) => {
-            abort(alloc, table, seat, actor);
-            Err(Refusal::OutOfMemory)
-        }
-    }
+    let _ = ask_open(alloc, table, seat, actor, Request::Commit)?;
+    committed(alloc, table, seat, actor)
 }

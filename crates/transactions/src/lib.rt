@@ -1,22 +1,19 @@
 //! Transactions that threads run on the shared table.
 //!
-//! A seat of the table has a running actor beside it, to which it is tied (`tx_turns`). A request is asked, and driven: its turns are taken,
-//! one atomic step on the table each, until it is answered or refused. What it comes to is what the definitions say of it in the own world
-//! of the seat, which to its actor is one that events have reached (`specs/Driven.antt`).
+//! A seat of the table has a running actor beside it, to which it is tied (`tx_turns`). A request is asked, and driven (`driven_turns`): its
+//! turns are taken, one atomic step on the table each, until it is answered or refused. What it comes to is what the definitions say of it
+//! in the own world of the seat, which to its actor is one that events have reached. Between two requests no gate is held.
 #![tactic(auto)]
 
 mod calls;
 mod commits;
-mod driving;
 mod requests;
 mod seats;
 mod shares;
-mod turns;
 mod tx;
 
-pub use calls::{read, write};
+pub use calls::call;
 pub use commits::commit;
-pub use driving::drive;
 pub use requests::{abort, begin, begin_read};
 pub use seats::TxSeat;
 pub use tx::Tx;

@@ -1,12 +1,14 @@
-//! Requests of a transaction on words: one that begins, and one that ends without a commit.
+//! Requests of a transaction: one that begins, and one that ends without a commit.
 ghost use Rattle.std.specs.Prelude.{◌≡◌, [], IfErr, IfOk};
+ghost use Rattle.replay_log.specs.WorldProgress.{AreSmall};
 ghost use Rattle.tx_table.specs.Seated.{blocks_in, opening_of};
 ghost use Rattle.tx_phases.specs.Phases.{Rests};
-ghost use Rattle.transactions.specs.Driven.{standing};
+ghost use Rattle.driven_turns.specs.Driven.{standing};
 ghost use Rattle.transactions.specs.Requests.{IsBeginTold, IsBegun, IsNotBegun, IsOpen, KeepsReceipts, begin_of};
 ghost use Rattle.tx_turns.specs.Ties.{Ties};
+ghost use Rattle.gate_turns.specs.Own.{HasOwn};
 
-use crate::driving::drive;
+use driven_turns::drive;
 use seq_model::{Answer, Refusal, Value};
 use std::alloc::Global;
 use tx_actor::{Stage, Told, TxActor};
@@ -33,17 +35,17 @@ fn begun<V: Value>(
     actor: &mut TxActor<V>,
 ) -> Result<u64, Refusal>
     requires ties { Ties table.now seat.old actor.old }
-    requires none { blocks_in table.now ≡ [] }
+    requires own { HasOwn table.now seat.old actor.old [] }
+    requires small { AreSmall (blocks_in table.now) }
     requires stage { actor.old.stage ≡ Stage.Beginning }
     ensures ties { Ties table.now seat.new actor.new }
+    ensures own { HasOwn table.now seat.new actor.new [] }
     ensures keeps { KeepsReceipts seat.old seat.new }
     ensures begun { IfOk result (IsBegun (opening_of table.now) seat.old seat.new) }
     ensures refused { IfErr result (IsNotBegun (opening_of table.now) seat.old seat.new) }
 {
-    match drive(alloc, table, seat, actor) {
-        Ok((told, _)) => begin_told(told),
-        Err(_) => unreachable!(),
-    }
+    let (told, _) = drive(alloc, table, seat, actor);
+    begin_told(told)
 }
 
 /// A transaction begins, and is answered with the number at which it has begun. `Exhausted` at the limit of the clock, and there is none.
@@ -54,9 +56,11 @@ pub fn begin<V: Value>(
     actor: &mut TxActor<V>,
 ) -> Result<u64, Refusal>
     requires ties { Ties table.now seat.old actor.old }
-    requires none { blocks_in table.now ≡ [] }
+    requires own { HasOwn table.now seat.old actor.old [] }
+    requires small { AreSmall (blocks_in table.now) }
     requires rests { standing (opening_of table.now) seat.old ≡ Rests }
     ensures ties { Ties table.now seat.new actor.new }
+    ensures own { HasOwn table.now seat.new actor.new [] }
     ensures keeps { KeepsReceipts seat.old seat.new }
     ensures begun { IfOk result (IsBegun (opening_of table.now) seat.old seat.new) }
     ensures refused { IfErr result (IsNotBegun (opening_of table.now) seat.old seat.new) }
@@ -74,9 +78,11 @@ pub fn begin_read<V: Value>(
     actor: &mut TxActor<V>,
 ) -> Result<u64, Refusal>
     requires ties { Ties table.now seat.old actor.old }
-    requires none { blocks_in table.now ≡ [] }
+    requires own { HasOwn table.now seat.old actor.old [] }
+    requires small { AreSmall (blocks_in table.now) }
     requires rests { standing (opening_of table.now) seat.old ≡ Rests }
     ensures ties { Ties table.now seat.new actor.new }
+    ensures own { HasOwn table.now seat.new actor.new [] }
     ensures keeps { KeepsReceipts seat.old seat.new }
     ensures begun { IfOk result (IsBegun (opening_of table.now) seat.old seat.new) }
     ensures refused { IfErr result (IsNotBegun (opening_of table.now) seat.old seat.new) }
@@ -93,15 +99,14 @@ pub fn abort<V: Value>(
     actor: &mut TxActor<V>,
 )
     requires ties { Ties table.now seat.old actor.old }
-    requires none { blocks_in table.now ≡ [] }
+    requires own { HasOwn table.now seat.old actor.old [] }
+    requires small { AreSmall (blocks_in table.now) }
     requires open { IsOpen (opening_of table.now) seat.old }
     ensures ties { Ties table.now seat.new actor.new }
+    ensures own { HasOwn table.now seat.new actor.new [] }
     ensures keeps { KeepsReceipts seat.old seat.new }
     ensures rests { standing (opening_of table.now) seat.new ≡ Rests }
 {
     ask_abort(table, seat, actor);
-    match drive(alloc, table, seat, actor) {
-        Ok(_) => {}
-        Err(_) => unreachable!(),
-    }
+    let _ = drive(alloc, table, seat, actor);
 }

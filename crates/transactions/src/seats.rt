@@ -4,11 +4,11 @@ ghost use Rattle.seq_model.specs.declared.call.Op.TheVariants as op;
 ghost use Rattle.seq_model.specs.declared.refusal.Refusal.TheVariants.{Ahead, NoTransaction};
 ghost use Rattle.tx_table.specs.Seated.{opening_of, view};
 ghost use Rattle.tx_phases.specs.Phases.{Rests, Stands};
-ghost use Rattle.transactions.specs.Driven.{standing};
-ghost use Rattle.transactions.specs.Ready.{HasBegunSince, IsNew, IsOfWords, IsReady};
+ghost use Rattle.driven_turns.specs.Driven.{standing};
+ghost use Rattle.transactions.specs.Ready.{HasBegunSince, HasOpened, IsNew, IsReady};
 ghost use Rattle.transactions.specs.Requests.{CallsTo, HasCommitted, IsBegun, IsEnded, IsNotBegun, IsOpen, KeepsReceipts, has_written};
 
-use seq_model::{Record, Refusal, Reply, Value};
+use seq_model::{Call, Op, Record, Refusal, Reply, Value};
 use std::alloc::Global;
 use tx_actor::{Stage, TxActor};
 use tx_table::{Seat, TxTable};
@@ -24,7 +24,7 @@ pub struct TxSeat<V> {
 impl<V: Value> TxSeat<V> {
     /// A seat that opened with its table, or was split from another, gets its actor. It takes no memory.
     pub fn new(alloc: Global, table: &TxTable<V>, seat: Seat<V>) -> TxSeat<V>
-        requires words { IsOfWords table.now }
+        requires opened { HasOpened table.now }
         requires new { IsNew table.now seat }
         ensures ready { IsReady table.now result }
         ensures seat { result.seat ≡ seat }
@@ -85,7 +85,23 @@ impl<V: Value> TxSeat<V> {
         crate::requests::begin_read(self.alloc, table, &mut self.seat, &mut self.actor)
     }
 
-    /// A word is read. `NoTransaction` where none is open, then as `read` has it.
+    /// A call on a word or a collection. `NoTransaction` where none is open, then as [`crate::call`] has it.
+    pub fn call(&mut self, table: &TxTable<V>, call: Call<V>) -> Result<Reply<V>, Refusal>
+        requires ready { IsReady table.now self.old }
+        requires since { HasBegunSince table.now self.old }
+        ensures ready { IsReady table.now self.new }
+        ensures since { HasBegunSince table.now self.new }
+        ensures calls { IsOpen (opening_of table.now) self.old.seat →
+            CallsTo (opening_of table.now) self.old.seat call self.new.seat result }
+        ensures none { standing (opening_of table.now) self.old.seat ≡ Rests → (result ≡ Err NoTransaction) × (self.new ≡ self.old) }
+    {
+        if !self.is_open() {
+            return Err(Refusal::NoTransaction);
+        }
+        crate::calls::call(self.alloc, table, &mut self.seat, &mut self.actor, call)
+    }
+
+    /// A word is read, as `call` has it.
     pub fn read(&mut self, table: &TxTable<V>, word: u32) -> Result<Reply<V>, Refusal>
         requires ready { IsReady table.now self.old }
         requires since { HasBegunSince table.now self.old }
@@ -95,13 +111,14 @@ impl<V: Value> TxSeat<V> {
             CallsTo (opening_of table.now) self.old.seat (record { target = word; op = op.Read }) self.new.seat result }
         ensures none { standing (opening_of table.now) self.old.seat ≡ Rests → (result ≡ Err NoTransaction) × (self.new ≡ self.old) }
     {
-        if !self.is_open() {
-            return Err(Refusal::NoTransaction);
-        }
-        crate::calls::read(self.alloc, table, &mut self.seat, &mut self.actor, word)
+        let call = Call {
+            target: word,
+            op: Op::Read,
+        };
+        self.call(table, call)
     }
 
-    /// A word is written, once the transaction commits. `NoTransaction` where none is open, then as `write` has it.
+    /// A word is written, once the transaction commits, as `call` has it.
     pub fn write(&mut self, table: &TxTable<V>, word: u32, value: u64) -> Result<Reply<V>, Refusal>
         requires ready { IsReady table.now self.old }
         requires since { HasBegunSince table.now self.old }
@@ -111,17 +128,11 @@ impl<V: Value> TxSeat<V> {
             CallsTo (opening_of table.now) self.old.seat (record { target = word; op = op.Write value }) self.new.seat result }
         ensures none { standing (opening_of table.now) self.old.seat ≡ Rests → (result ≡ Err NoTransaction) × (self.new ≡ self.old) }
     {
-        if !self.is_open() {
-            return Err(Refusal::NoTransaction);
-        }
-        crate::calls::write(
-            self.alloc,
-            table,
-            &mut self.seat,
-            &mut self.actor,
-            word,
-            value,
-        )
+        let call = Call {
+            target: word,
+            op: Op::Write(value),
+        };
+        self.call(table, call)
     }
 
     /// The open transaction commits, with its receipt, whose number is the last number of the seat from then on. `NoTransaction` where none

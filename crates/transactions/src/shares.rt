@@ -1,5 +1,5 @@
 //! The seats of a table: its first one, seats that are split and joined, and the last one, which closes it.
-ghost use Rattle.std.specs.Prelude.{◌≡◌, ◌≢◌, ◌<◌, ◌≤◌, [], IfErr, IfOk, IsOk, length, max};
+ghost use Rattle.std.specs.Prelude.{◌≡◌, ◌≢◌, ◌<◌, ◌≤◌, IfErr, IfOk, IsOk, length, max};
 ghost use Rattle.seq_model.specs.Refusals.{IsNoSuchOrTooLong};
 ghost use Rattle.world_table.specs.Openings.{IsWithin, blocks_of, world_of};
 ghost use Rattle.tx_table.specs.Ends.{homes_of};
@@ -21,7 +21,6 @@ impl<V: Value> TxSeat<V> {
         shape: &Shape,
         state: State<V>,
     ) -> Result<(TxTable<V>, TxSeat<V>), Refusal>
-        requires words { state.held ≡ [] }
         ensures ready { IfOk result (λ opened. IsReady opened.0 opened.1) }
         ensures opens { IfOk result (λ opened. opening_of opened.0 ≡ world_of shape.now.stripes shape.now.clock state) }
         ensures blocks { IfOk result (λ opened. blocks_in opened.0 ≡ blocks_of shape.now.stripes state.held) }

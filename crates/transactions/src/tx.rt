@@ -7,12 +7,12 @@ ghost use Rattle.tx_table.specs.Seated.{opening_of};
 ghost use Rattle.tx_phases.specs.Phases.{Rests, Stands};
 ghost use Rattle.transactions.specs.contracts.seats.TxSeat.{the_row};
 ghost use Rattle.transactions.specs.Borrowed.{IsBegunSince, IsRefusedBegin};
-ghost use Rattle.transactions.specs.Driven.{standing};
+ghost use Rattle.driven_turns.specs.Driven.{standing};
 ghost use Rattle.transactions.specs.Ready.{HasBegunSince, IsReady};
 ghost use Rattle.transactions.specs.Requests.{CallsTo, HasCommitted, IsBegun, IsEnded, IsOpen, KeepsReceipts, has_written};
 
 use crate::seats::TxSeat;
-use seq_model::{Record, Refusal, Reply, Value};
+use seq_model::{Call, Record, Refusal, Reply, Value};
 use tx_table::TxTable;
 
 /// A transaction at a seat of a table. One that is dropped while it is open holds no lock and no gate; it stays open until its seat begins
@@ -62,6 +62,22 @@ impl<'a, V: Value> Tx<'a, V> {
     {
         seat.begin_read(table)?;
         Ok(Tx::over(seat, table))
+    }
+
+    /// A call on a word or a collection, as `TxSeat::call` has it.
+    pub fn call(&mut self, call: Call<V>) -> Result<Reply<V>, Refusal>
+        requires ready { IsReady self.old.table.now self.old.seat.now }
+        requires since { HasBegunSince self.old.table.now self.old.seat.now }
+        ensures same_reference { self.new.seat.ghost_name ≡ self.old.seat.ghost_name }
+        ensures same_table { self.new.table.now ≡ self.old.table.now }
+        ensures ready { IsReady self.new.table.now self.new.seat.now }
+        ensures since { HasBegunSince self.new.table.now self.new.seat.now }
+        ensures calls { IsOpen (opening_of self.old.table.now) self.old.seat.now.seat →
+            CallsTo (opening_of self.old.table.now) self.old.seat.now.seat call self.new.seat.now.seat result }
+        ensures none { standing (opening_of self.old.table.now) self.old.seat.now.seat ≡ Rests →
+            (result ≡ Err NoTransaction) × (self.new.seat.now ≡ self.old.seat.now) }
+    {
+        self.seat.call(self.table, call)
     }
 
     /// A word is read, as `TxSeat::read` has it.

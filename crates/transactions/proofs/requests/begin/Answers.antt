@@ -1,10 +1,20 @@
+use Rattle.std.proofs.Common.{◌∙◌, ap, subst, sym}
+use Rattle.tx_actor.specs.declared.actor.Stage as own
 use Rattle.tx_table.specs.Seated.{opening_of}
+use Rattle.gate_turns.specs.Bases.{gates_at}
+use Rattle.driven_turns.proofs.RestLemmas.{IsFree, bare_out, free_own}
 use Rattle.transactions.proofs.RequestLemmas.{asked_keeps, begun_since, is_idle, then_keeps}
 use Rattle.transactions.proofs.requests.begin.Goals as goal
 
 pub ask_begin-requires-clause-idle : goal.ask_begin-requires-clause-idle
-ask_begin-requires-clause-idle g c =
-    is_idle c.args.table.now c.args.seat.now c.args.actor.now c.requires.none c.requires.ties c.requires.rests
+ask_begin-requires-clause-idle g c = is_idle c.args.table.now c.args.seat.now c.args.actor.now c.requires.ties c.requires.rests
+
+pub begun-requires-clause-own : goal.begun-requires-clause-own
+begun-requires-clause-own g c =
+    let at = c.ask_begin.ensures.stage in
+    free_own c.args.table.now c.ask_begin.new.seat c.ask_begin.new.actor (subst IsFree (sym at) tt)
+    (ap (λ (s : own.Stage _). gates_at s) at)
+    (ap (λ m. m.1) c.ask_begin.ensures.asked.1 ∙ bare_out c.args.table.now c.args.seat.now c.args.actor.now c.requires.own)
 
 pub returns-clause-keeps : goal.returns-clause-keeps
 returns-clause-keeps g c =

@@ -1,7 +1,7 @@
 use Rattle.std.proofs.Common.{◌≤◌, arith}
 use Rattle.tx_table.specs.Seated.{opening_of, view}
 use Rattle.transactions.proofs.ReadyLemmas.{commit_numbers, noted_committed}
-use Rattle.transactions.specs.Driven.{seat_in}
+use Rattle.driven_turns.specs.Driven.{seat_in}
 use Rattle.transactions.proofs.seats.TxSeat.commit.Goals as goal
 
 pub returns-clause-committed : goal.returns-clause-committed
@@ -15,7 +15,7 @@ returns-clause-last g c =
     let high = since.1 in
     let rises = c.in_ok-receipt.ensures.committed.rises in
     let known : (seat_in (opening_of c.args.table.now) c.args.self.now.seat).rv ≤ (view c.commit.new.seat).clock =
-        omega (arith, high, rises) in
+    omega (arith, high, rises) in
     let numbers = commit_numbers (seat_in (opening_of c.args.table.now) c.args.self.now.seat).rv (view c.commit.new.seat).clock
     c.args.self.now.seat.last c.in_ok-receipt.receipt c.in_ok-receipt.ensures.number since.0 known in
     let low = numbers.1 in

@@ -1,11 +1,16 @@
-use Rattle.std.proofs.Common.{◌≡◌, ◌+◌, ◌<◌, ap, arith, refl, subst, sym}
-use Rattle.tx_table.specs.Seated.{Rests, actor, kept, opening_of, view}
+use Rattle.std.proofs.Common.{◌≡◌, ◌+◌, ◌<◌, ◌∙◌, ap, arith, refl, subst, sym}
+use Rattle.tx_table.specs.Seated.{Rests, actor, kept, opening_of, out, view}
+use Rattle.driven_turns.proofs.RestLemmas.{bare_out}
 use Rattle.transactions.proofs.ShareLemmas.{rests_kept, stays_ready}
 use Rattle.transactions.proofs.seats.TxSeat.join.Goals as goal
 
 pub join-requires-clause-rests : goal.join-requires-clause-rests
 join-requires-clause-rests g c = subst (λ s. Rests (actor s) (kept (opening_of c.args.table.now) s)) (sym c.into_seat.ensures)
     (rests_kept c.args.table.now c.args.other c.requires.other)
+
+pub join-requires-clause-bare : goal.join-requires-clause-bare
+join-requires-clause-bare g c =
+    ap out c.into_seat.ensures ∙ bare_out c.args.table.now c.args.other.seat c.args.other.actor c.requires.other.own
 
 pub returns-clause-ready : goal.returns-clause-ready
 returns-clause-ready g c =

@@ -47,8 +47,8 @@ use Rattle.tx_table.specs.Shown.{IsReached}
 use Rattle.tx_table.specs.Turns.{found_at, moved, spot}
 use Rattle.tx_phases.proofs.PhaseLemmas.{steps_move}
 use Rattle.tx_phases.specs.Phases.{Phase, Commits, Ends, StepMoves, phase, phase_at}
-use Rattle.transactions.proofs.WritingLemmas.{is_commit, was_commit}
-use Rattle.transactions.specs.Driven.{IsNumberOf, IsStamped, IsStampedAt}
+use Rattle.driven_turns.proofs.WritingLemmas.{is_commit, was_commit}
+use Rattle.driven_turns.specs.Driven.{IsNumberOf, IsStamped, IsStampedAt}
 use Rattle.tx_turns.proofs.FoundLemmas.{found_cell, step_learns_cell, step_tells_cell}
 
 -- ---- what a word actor that locks learns
@@ -215,12 +215,12 @@ module _ {V : Type 0} where
     stamped_step ok was =
         let p = found_at a w (spot a w) n b in
         subst (λ (s : Seat V). is_commit (phase ((step_at p a s s.stage).0.seats a)) ≡ true
-            → IsStamped j (actor_of (step_at p a s s.stage).0 a))
+        → IsStamped j (actor_of (step_at p a s s.stage).0 a))
         (sym (planted_seats w a n b (spot a w)))
         (by_stage x.stage refl ok was
         (subst (λ (s : Seat V). let r = step_at p a s s.stage in
         StepMoves (phase s) (is_some (committed_by s s.stage)) r.1 (phase (r.0.seats a))) (planted_seats w a n b (spot a w))
-            (steps_move p a)))
+        (steps_move p a)))
 
   -- ---- its record
   abbrev IsNumberIn : ℕ → ℕ → Option (Record V) → Type 0
@@ -293,5 +293,5 @@ module _ {V : Type 0} where
       ap (λ (st : Stage V). (step_at p a x st).1) (sym at)
       ∙ (ap (λ (s : Spot). (happens (found_at a w s n b) (Step a)).1) (sym spot_is) ∙ told) in
       begun_is (acted p (moves a ∷ [])) a x n rv (ap (λ (m : notice.Notice). (has_begun (acted p (moves a ∷ [])) a x m).1) (sym tells_it)
-          ∙ said)
+      ∙ said)
       ∙ sym (clock spot_is ∙ left)

@@ -19,7 +19,7 @@ use Rattle.replay_log.specs.Worlds.{word_notice, written_homes}
 use Rattle.replay_log.specs.WorldTraces.{committed_by}
 use Rattle.tx_phases.specs.Courses.{latest}
 use Rattle.tx_phases.specs.Phases.{Phase, Rests, Begins, Stands, Calls, Commits, Committed, Ends, StepMoves, phase, phase_at}
-use Rattle.transactions.specs.Driven.{IsWritten, is_closing}
+use Rattle.driven_turns.specs.Driven.{IsWritten, is_closing}
 
 takes_open : (V : Type 0) (got ks : List ℕ) → is_closing {V = V} (takes_gates got ks) ≡ false
 takes_open V got [] = refl
@@ -137,6 +137,6 @@ module _ {V : Type 0} where
     written_on st None (Some q) seat at moves made new was = was
     written_on st None None seat at moves made new was = λ calls e.
         let c = was_commit (phase_at x.calls st) (is_some (committed_by x st)) (step_at w a x st).1
-            (phase ((step_at w a x st).0.seats a)) moves
+        (phase ((step_at w a x st).0.seats a)) moves
         (ap is_commit e) in
         stays st seat at (closing_at st at c was) c made

@@ -8,19 +8,23 @@ use Rattle.seq_model.specs.declared.event.Event.{Event}
 use Rattle.seq_model.specs.declared.event.Event.TheVariants.{Step}
 use Rattle.seq_model.specs.declared.record.Record.{Record}
 use Rattle.seq_model.specs.declared.refusal.Refusal.{Refusal}
-use Rattle.seq_model.specs.declared.refusal.Refusal.TheVariants.{Exhausted}
+use Rattle.seq_model.specs.declared.refusal.Refusal.TheVariants.{Exhausted, OutOfMemory}
 use Rattle.replay_log.specs.Seats as worlds
 use Rattle.replay_log.specs.Seats.{World, Stage, Closing, actor_of}
 use Rattle.replay_log.specs.Worlds.{happens, run}
 use Rattle.replay_log.specs.WorldRefusals.{IsCause}
 use Rattle.atomic_steps.specs.Own.{Alike}
+use Rattle.actor_words.specs.Dispatch.{next_of}
+use Rattle.actor_words.specs.declared.next.Next.{Next}
+use Rattle.actor_words.specs.declared.next.Next.TheVariants as next
 use Rattle.tx_actor.specs.Running.{notice_of}
 use Rattle.tx_actor.specs.declared.actor.Told.{Told}
 use Rattle.tx_actor.specs.declared.actor.Told.TheVariants as told
 use Rattle.tx_table.specs.declared.seat.Seat.{Seat}
-use Rattle.tx_table.specs.Seated.{IsSameSeat, actor, acts, out, view}
+use Rattle.tx_table.specs.Seated.{IsSameSeat, actor, acts, view}
 use Rattle.tx_table.specs.Turns.{asked_all, lone}
 use Rattle.tx_table.specs.declared.view.Turn.{Turn}
+use Rattle.tx_turns.specs.Asked.{Starved}
 use Rattle.tx_phases.specs.Courses.{ComesTo}
 use Rattle.tx_phases.specs.Phases.{Phase, Rests, Begins, Stands, Calls, Commits, Ends, IsMistaken, phase}
 
@@ -31,6 +35,13 @@ IsStampedAt k y p = Unit {0}
 
 abbrev pub IsStamped : ℕ → Actor → Type 0
 IsStamped k y = IsStampedAt k y y.place
+
+-- the turn takes memory: a gate's base comes into hand, a call copies of it, or bases are prepared to go home
+abbrev pub WantsMemory : Next → Type 0
+WantsMemory (next.TryGate k) = Unit {0}
+WantsMemory (next.Copy k) = Unit {0}
+WantsMemory next.FirstStore = Unit {0}
+WantsMemory n = ⊥
 
 -- A writer's number is above the one at which it has begun, and no higher than this clock; a reader's is that one.
 pub record IsNumberOf {V : Type 0} (rv k : ℕ) (r : Record V) : Type 0 where
@@ -70,23 +81,27 @@ module _ {V : Type 0} where
   HasFound o s u cause =
       (v : World V) × IsTurnFrom o s u v × IsCause v (actor s) (v.seats (actor s)).stage (happens v (Step (actor s))).0 cause
 
+  -- or memory was wanting
+  abbrev pub IsReason : World V → Seat V → Seat V → Refusal → Type 0
+  IsReason o s u cause = HasFound o s u cause ⊎ (cause ≡ OutOfMemory)
+
   -- one of these turns loaded the clock at its limit, or above
   abbrev pub IsExhausted : World V → Seat V → Seat V → Refusal → Type 0
   IsExhausted o s u cause =
       (v : World V) × IsTurnFrom o s u v × (cause ≡ Exhausted v.boosted.words.clock) × (clock_limit ≤ v.boosted.words.clock)
 
   -- What is told of a request that stood so is true: a begin tells the clock that its seat knows by then, and a cause was found by one of
-  -- its own turns. While nothing is told, a transaction that
-  -- is being given up has noted such a cause. One that was given up before is told the cause that it had.
+  -- its own turns, or is want of memory. While nothing is told, a transaction that is being given up has noted such a cause. One that was
+  -- given up before is told the cause that it had.
   abbrev pub IsTrue : World V → Seat V → Seat V → Phase V → Told V → Type 0
   IsTrue o s u Begins (told.Answered (answer.Begun rv)) = rv ≡ (view u).clock
   IsTrue o s u Begins (told.Refused cause) = IsExhausted o s u cause
   IsTrue o s u (Calls calls call) told.Quiet =
-      (cause : Refusal) → standing o u ≡ Ends → (seat_in o u).cause ≡ Some cause → HasFound o s u cause
-  IsTrue o s u (Calls calls call) (told.Refused cause) = HasFound o s u cause ⊎ ((standing o u ≡ Stands calls) × IsMistaken cause)
+      (cause : Refusal) → standing o u ≡ Ends → (seat_in o u).cause ≡ Some cause → IsReason o s u cause
+  IsTrue o s u (Calls calls call) (told.Refused cause) = IsReason o s u cause ⊎ ((standing o u ≡ Stands calls) × IsMistaken cause)
   IsTrue o s u (Commits calls) told.Quiet =
-      (cause : Refusal) → standing o u ≡ Ends → (seat_in o u).cause ≡ Some cause → HasFound o s u cause
-  IsTrue o s u (Commits calls) (told.Refused cause) = HasFound o s u cause
+      (cause : Refusal) → standing o u ≡ Ends → (seat_in o u).cause ≡ Some cause → IsReason o s u cause
+  IsTrue o s u (Commits calls) (told.Refused cause) = IsReason o s u cause
   IsTrue o s u before n = Unit {0}
 
   -- a transaction without writes commits by a load of the clock
@@ -104,14 +119,13 @@ module _ {V : Type 0} where
   KnowsNumber o u = (calls : List (Call V × Reply V)) → standing o u ≡ Commits calls
       → IsStamped (view u).clock (actor_of (acts o u) (actor u))
 
-  -- The seat s took turns and is u, each but the last of which told nothing; the last tells n. It has these turns more, the receipt that
-  -- they made, if any, and the bases that it had out; the definitions say what the request comes to, and what is told is true.
+  -- The seat s took turns and is u, each but the last of which told nothing; the last tells n. It has these turns more, and the receipt
+  -- that they made, if any; the definitions say what the request comes to, and what is told is true.
   pub record Driven (o : World V) (s u : Seat V) (n : Told V) (d : Option (Record V)) : Type 0 where
     pub seat : IsSameSeat s u
     pub more : List (Turn V)
     pub turns : (view u).turns ≡ (view s).turns ++ more
     pub shares : (view u).shares ≡ (view s).shares
-    pub outs : out u ≡ out s
     pub gains : (view u).receipts ≡ (view s).receipts ++ as_receipts (actor s) d
     pub rises : (view s).clock ≤ (view u).clock
     pub comes : ComesTo (actor s) (seat_in o s) (notice_of (actor s) n) (seat_in o u) d
@@ -121,3 +135,12 @@ module _ {V : Type 0} where
     pub began : (standing o s ≡ Begins → ⊥) → (standing o u ≡ Rests → ⊥) → (seat_in o u).rv ≡ (seat_in o s).rv
     pub stamped : KnowsNumber o s → KnowsNumber o u
     pub numbered : KnowsNumber o s → (r : Record V) → d ≡ Some r → IsNumberOf (seat_in o s).rv (view u).clock r
+
+  -- The seat s took turns, which told nothing and made no record, up to one that takes memory, and there was none: so its request is being
+  -- given up, as the seat u is.
+  pub record Stops (o : World V) (s u : Seat V) : Type 0 where
+    pub before : Seat V
+    pub driven : Driven o s before told.Quiet None
+    pub wants : WantsMemory (next_of (seat_in o before).stage)
+    pub said : Told V
+    pub starved : Starved o before u said

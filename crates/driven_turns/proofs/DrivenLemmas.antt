@@ -24,8 +24,7 @@ use Rattle.replay_log.specs.WorldProgress.{AreSmall, IsQuiet, left_at, left_of}
 use Rattle.replay_log.specs.WorldRefusals.{IsCause, is_ending}
 use Rattle.replay_log.specs.WorldTraces.{committed_by}
 use Rattle.atomic_steps.specs.Own.{Alike}
-use Rattle.actor_words.specs.Dispatch.{next_of}
-use Rattle.tx_actor.specs.Running.{notice_of, stage_of}
+use Rattle.tx_actor.specs.Running.{notice_of}
 use Rattle.tx_actor.specs.declared.actor.Told.{Told}
 use Rattle.tx_actor.specs.declared.actor.Told.TheVariants as told
 use Rattle.tx_actor.specs.declared.actor.TxActor.{TxActor}
@@ -41,14 +40,14 @@ use Rattle.tx_phases.proofs.CourseLemmas.{on_call, on_commit, on_done, steps_com
 use Rattle.tx_phases.proofs.PhaseLemmas.{steps_move}
 use Rattle.tx_phases.specs.Courses.{ComesTo, IsUnderWay, IsUnderWayFrom, latest}
 use Rattle.tx_phases.specs.Phases.{Phase, Rests, Begins, Stands, Calls, Commits, Committed, Ends, IsMistaken, StepMoves, phase, phase_at}
-use Rattle.transactions.proofs.KeptLemmas.{Keeps, steps_keep}
-use Rattle.transactions.proofs.StampLemmas.{begun_clock, numbered, stamped_step}
-use Rattle.transactions.proofs.WritingLemmas.{commits_first, is_commit, is_one, written_on}
-use Rattle.transactions.specs.Driven.{Driven, HasFound, IsNumberOf, IsStamped, IsTrue, IsTurnFrom, IsWritten, KnowsNumber}
-use Rattle.transactions.specs.Driven.{as_receipts, seat_in, standing}
+use Rattle.driven_turns.proofs.KeptLemmas.{Keeps, steps_keep}
+use Rattle.driven_turns.proofs.StampLemmas.{begun_clock, numbered, stamped_step}
+use Rattle.driven_turns.proofs.WritingLemmas.{commits_first, is_commit, is_one, written_on}
+use Rattle.driven_turns.specs.Driven.{Driven, HasFound, IsNumberOf, IsReason, IsStamped, IsTrue, IsTurnFrom, IsWritten, KnowsNumber}
+use Rattle.driven_turns.specs.Driven.{as_receipts, seat_in, standing}
 use Rattle.tx_threads.proofs.OwnLemmas.{own_ok}
 use Rattle.tx_turns.proofs.TurnLemmas.{ends_as as commits_as}
-use Rattle.tx_turns.specs.Ties.{IsOnWord, Ties, Turned, commits}
+use Rattle.tx_turns.specs.Ties.{Ties, Turned, commits}
 
 module _ {V : Type 0} where
   -- ---- what a step commits
@@ -144,7 +143,6 @@ module _ {V : Type 0} where
     more = [];
     turns = sym (append-nil (view s).turns);
     shares = refl;
-    outs = refl;
     gains = sym (append-nil (view s).receipts);
     rises = omega arith;
     comes = under;
@@ -214,14 +212,15 @@ module _ {V : Type 0} where
       turns = ap (λ (k : View V). k.turns) T.takes.turn
           ∙ (ap (λ (is : List (Turn V)). is ++ record { asks = list_of u.asked; found = T.found; base = T.base } ∷ []) h.turns
           ∙ append_assoc ((view s).turns ++ h.before) (h.turn ∷ h.after)
-              (record { asks = list_of u.asked; found = T.found; base = T.base } ∷ []));
+          (record { asks = list_of u.asked; found = T.found; base = T.base } ∷ []));
       events = h.events;
       reached = h.reached;
       alike = h.alike;
     }
 
-    still : (cause : Refusal) → HasFound o s u cause → HasFound o s z cause
-    still cause h = (h.0, further h.0 h.1, h.2)
+    still : (cause : Refusal) → IsReason o s u cause → IsReason o s z cause
+    still cause (inl h) = inl (h.0, further h.0 h.1, h.2)
+    still cause (inr memory) = inr memory
 
     -- a cause that is noted now is true
     found : (cause : Refusal) → is_ending x.stage ≡ false → standing o z ≡ Ends → (seat_in o z).cause ≡ Some cause → HasFound o s z cause
@@ -246,7 +245,7 @@ module _ {V : Type 0} where
     refused : (cause : Refusal) → n ≡ told.Refused cause → IsRefusedAt v a x.stage after.0 cause
     refused cause e =
         (subst (λ (k : Notice V). RefusedBy a (IsRefusedAt v a x.stage after.0) k) (told_is
-            ∙ ap (notice_of a) e) (refused_step v a linked)).1
+        ∙ ap (notice_of a) e) (refused_step v a linked)).1
 
     -- it is told
     told_up : (cause : Refusal) → n ≡ told.Refused cause → phase (seat_in o u) ≡ Ends → (seat_in o u).cause ≡ Some cause
@@ -273,24 +272,24 @@ module _ {V : Type 0} where
         let at : (w.seats a).stage ≡ Beginning = begins_at (w.seats a).calls (w.seats a).stage under.0 in
         let place : (actor_of w a).place ≡ machine.Begin =
         subst (λ (st : Stage V). StageOk w.words w.blocks (w.seats a) (actor_of w a) (w.boosted.shadows a) st
-            (actor_of w a).place) at own in
+        (actor_of w a).place) at own in
         begun_clock w a T.found T.base T.clock rv at place T.clocks (sym T.tells ∙ ap (notice_of a) e)
         ∙ sym (ap (λ (k : View V). k.clock) T.takes.turn)
     truth Begins (told.Answered q) e under was = tt
     truth Begins (told.Refused cause) e under was =
         let at : x.stage ≡ Beginning = begins_at x.calls x.stage (ap phase x_is ∙ under.0) in
         let h = subst (λ (st : Stage V). IsRefusedAt v a st after.0 cause) at (refused cause e) in (v, this, h.0, h.1)
-    truth (Calls calls call) told.Quiet e (inl at, none) was = λ cause. found cause (on_call x calls call (ap phase x_is ∙ at))
+    truth (Calls calls call) told.Quiet e (inl at, none) was = λ cause ends is. inl (found cause (on_call x calls call (ap phase x_is ∙ at)) ends is)
     truth (Calls calls call) told.Quiet e (inr up, none) was =
         λ cause ends is. still cause (was cause up.0 (kept cause up.0 ends is))
     truth (Calls calls call) (told.Answered q) e under was = tt
     truth (Calls calls call) (told.Refused cause) e (inl at, none) was =
         let h = call_refused calls call _ a cause _ (moves (Calls calls call) cause e at) in inr (sym (ap phase y_is) ∙ h.0, h.1)
     truth (Calls calls call) (told.Refused cause) e (inr up, none) was = inl (still cause (was cause up.0 (told_up cause e up.0)))
-    truth (Commits calls) told.Quiet e (inl (inl at, none)) was = λ cause. found cause (on_commit x calls (ap phase x_is ∙ at))
+    truth (Commits calls) told.Quiet e (inl (inl at, none)) was = λ cause ends is. inl (found cause (on_commit x calls (ap phase x_is ∙ at)) ends is)
     truth (Commits calls) told.Quiet e (inl (inr up, none)) was =
         λ cause ends is. still cause (was cause up.0 (kept cause up.0 ends is))
-    truth (Commits calls) told.Quiet e (inr has) was = λ cause. found cause (on_done x (ap phase x_is ∙ has.0))
+    truth (Commits calls) told.Quiet e (inr has) was = λ cause ends is. inl (found cause (on_done x (ap phase x_is ∙ has.0)) ends is)
     truth (Commits calls) (told.Answered q) e under was = tt
     truth (Commits calls) (told.Refused cause) e (inl (inl at, none)) was =
         absurd (commit_refused calls _ a cause _ (moves (Commits calls) cause e at))
@@ -359,9 +358,8 @@ module _ {V : Type 0} where
         rests_no : standing o u ≡ Rests → is_commit (phase (seat_in o u)) ≡ true → ⊥
         rests_no k c = true≢false (sym c ∙ ap is_commit k)
 
-    pub driven_on : (e : Option (Record V)) → IsOnWord (next_of (stage_of r.stage)) → commits a r ≡ as_receipts a e
-        → Driven o s z n (latest e d)
-    driven_on e on makes =
+    pub driven_on : (e : Option (Record V)) → commits a r ≡ as_receipts a e → Driven o s z n (latest e d)
+    driven_on e makes =
         let w = acts o u in
         let made_u : e ≡ committed_by (seat_in o u) (seat_in o u).stage =
         made_by a (seat_in o u) (seat_in o u).stage e (sym makes ∙ sym (commits_as w a r ties.runs)) in
@@ -378,7 +376,6 @@ module _ {V : Type 0} where
               ∙ (ap (λ (is : List (Turn V)). is ++ record { asks = list_of u.asked; found = T.found; base = T.base } ∷ []) D.turns
               ∙ append_assoc (view s).turns D.more (record { asks = list_of u.asked; found = T.found; base = T.base } ∷ []));
           shares = ap (λ (k : View V). k.shares) T.takes.turn ∙ D.shares;
-          outs = T.outs on ∙ D.outs;
           gains = T.gains ∙ ((λ i. D.gains i ++ (makes ∙ ap (λ (b : ℕ). as_receipts b e) same) i)
               ∙ gained (seated.actor s) e d (view s).receipts new);
           rises = (let p = D.rises in let q = rises_to in omega (arith, p, q));
@@ -395,10 +392,9 @@ module _ {V : Type 0} where
         }
 
     -- the request is nearer to its answer
-    pub nearer : blocks_in t ≡ [] → n ≡ told.Quiet → left_of (acts o z) (seated.actor z) < left_of (acts o u) (seated.actor u)
-    nearer none e =
+    pub nearer : AreSmall (blocks_in t) → n ≡ told.Quiet → left_of (acts o z) (seated.actor z) < left_of (acts o u) (seated.actor u)
+    nearer small e =
         let H = T.takes.happened in
-        let small = subst AreSmall (sym none) tt in
         let quiet = subst (λ (k : Notice V). IsQuiet k) (sym (told_is ∙ ap (notice_of a) e)) tt in
         let less = world_nears (blocks_at t.whole.shared.key) t.whole.shared.key.shape.value.clock t.whole.shared.key.state.value.words
         t.whole.shared.key.state.value.held H.events ties.reached.stripes small a quiet in

@@ -1,0 +1,14 @@
+use Rattle.tx_table.specs.Seated.{actor}
+use Rattle.driven_turns.proofs.NextLemmas.{makes_one}
+use Rattle.driven_turns.proofs.turns.store_next.Goals as goal
+
+pub returns-in-Ok-clause-receipt : goal.returns-in-Ok-clause-receipt
+returns-in-Ok-clause-receipt g c =
+    makes_one (actor c.args.seat.now) c.args.actor.now c.in-Ok.receipt c.args.actor.now.stage c.requires.due c.in-Ok.ensures.number
+    c.in-Ok.ensures.writes c.in-Ok.ensures.calls
+
+pub returns-in-Err-clause-own : goal.returns-in-Err-clause-own
+returns-in-Err-clause-own g c =
+    c.turns_keep_own.ensures.starves c.args.table.now c.commit.new.seat c.starve.new.seat c.commit.new.actor c.starve.new.actor
+    c.starve.result c.commit.new.bases.items c.commit.ensures.ties c.commit.ensures.own c.starve.ensures.starved
+    c.starve.ensures.ties c.starve.ensures.leaves

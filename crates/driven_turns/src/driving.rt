@@ -1,0 +1,123 @@
+//! A request, up to its answer.
+ghost use Rattle.std.specs.Prelude.{◌≡◌, ◌≢◌, [], None, IfOk, OnErr};
+ghost use Rattle.replay_log.specs.WorldProgress.{AreSmall};
+ghost use Rattle.tx_table.specs.Seated.{blocks_in, opening_of};
+ghost use Rattle.tx_phases.specs.Courses.{IsUnderWay, latest};
+ghost use Rattle.tx_phases.specs.Phases.{Ends};
+ghost use Rattle.tx_turns.specs.Ties.{Ties};
+ghost use Rattle.gate_turns.specs.Own.{HasOwn};
+ghost use Rattle.driven_turns.specs.Driven.{Driven, Stops, seat_in, standing};
+
+use crate::turns::turn;
+use replay_log::Base;
+use seq_model::{Memory, Record, Value};
+use std::alloc::Global;
+use tx_actor::{Told, TxActor};
+use tx_table::{Seat, TxTable};
+
+/// The receipt that was made last.
+fn newest<V: Value>(now: Option<Record<V>>, before: Option<Record<V>>) -> Option<Record<V>>
+    ensures { result ≡ latest now before }
+{
+    match now {
+        Some(receipt) => Some(receipt),
+        None => before,
+    }
+}
+
+/// The turns of a request that is under way, up to the one that tells something, with the receipt that they make. They end, whatever the
+/// other seats do. Where memory is wanting they stop, and the request is being given up.
+fn advance<V: Value>(
+    alloc: Global,
+    table: &TxTable<V>,
+    seat: &mut Seat<V>,
+    actor: &mut TxActor<V>,
+    bases: &mut Vec<Base<V>>,
+) -> Result<(Told<V>, Option<Record<V>>), Memory>
+    requires ties { Ties table.now seat.old actor.old }
+    requires own { HasOwn table.now seat.old actor.old bases.old.items }
+    requires small { AreSmall (blocks_in table.now) }
+    requires under { IsUnderWay (seat_in (opening_of table.now) seat.old) (seat_in (opening_of table.now) seat.old) None }
+    ensures driven { IfOk result (λ done. Driven (opening_of table.now) seat.old seat.new done.0 done.1) }
+    ensures answered { IfOk result (λ done. done.0 ≢ Told.Quiet) }
+    ensures ties { Ties table.now seat.new actor.new }
+    ensures own { HasOwn table.now seat.new actor.new bases.new.items }
+    ensures stops { OnErr result (Stops (opening_of table.now) seat.old seat.new) }
+{
+    let mut kept = None;
+    'turns: loop {
+        let (told, receipt) = turn(alloc, table, seat, actor, bases)?;
+        kept = newest(receipt, kept);
+        match told {
+            Told::Quiet => {}
+            told => return Ok((told, kept)),
+        }
+    }
+}
+
+/// The turns of a transaction that is being given up: its gates and its locks go back, and it is told why. They take no memory.
+fn give_up<V: Value>(
+    alloc: Global,
+    table: &TxTable<V>,
+    seat: &mut Seat<V>,
+    actor: &mut TxActor<V>,
+    bases: &mut Vec<Base<V>>,
+) -> Told<V>
+    requires ties { Ties table.now seat.old actor.old }
+    requires own { HasOwn table.now seat.old actor.old bases.old.items }
+    requires small { AreSmall (blocks_in table.now) }
+    requires ends { standing (opening_of table.now) seat.old ≡ Ends }
+    ensures driven { Driven (opening_of table.now) seat.old seat.new result None }
+    ensures answered { result ≢ Told.Quiet }
+    ensures ties { Ties table.now seat.new actor.new }
+    ensures own { HasOwn table.now seat.new actor.new bases.new.items }
+{
+    match advance(alloc, table, seat, actor, bases) {
+        Ok((told, _)) => told,
+        Err(_) => unreachable!(),
+    }
+}
+
+/// The turns of the request that is under way, up to its answer. Where memory is wanting it is given up.
+fn finish<V: Value>(
+    alloc: Global,
+    table: &TxTable<V>,
+    seat: &mut Seat<V>,
+    actor: &mut TxActor<V>,
+    bases: &mut Vec<Base<V>>,
+) -> (Told<V>, Option<Record<V>>)
+    requires ties { Ties table.now seat.old actor.old }
+    requires own { HasOwn table.now seat.old actor.old bases.old.items }
+    requires small { AreSmall (blocks_in table.now) }
+    requires under { IsUnderWay (seat_in (opening_of table.now) seat.old) (seat_in (opening_of table.now) seat.old) None }
+    ensures driven { Driven (opening_of table.now) seat.old seat.new result.0 result.1 }
+    ensures answered { result.0 ≢ Told.Quiet }
+    ensures ties { Ties table.now seat.new actor.new }
+    ensures own { HasOwn table.now seat.new actor.new [] }
+{
+    match advance(alloc, table, seat, actor, bases) {
+        Ok(done) => done,
+        Err(_) => (give_up(alloc, table, seat, actor, bases), None),
+    }
+}
+
+/// The turns of the request that is under way, up to its answer, with the receipt that they make. They end, whatever the other seats do.
+/// Where memory is wanting, the request is given up, and told so. When it is answered, no gate is held and no base is in hand.
+pub fn drive<V: Value>(
+    alloc: Global,
+    table: &TxTable<V>,
+    seat: &mut Seat<V>,
+    actor: &mut TxActor<V>,
+) -> (Told<V>, Option<Record<V>>)
+    requires ties { Ties table.now seat.old actor.old }
+    requires own { HasOwn table.now seat.old actor.old [] }
+    requires small { AreSmall (blocks_in table.now) }
+    requires under { IsUnderWay (seat_in (opening_of table.now) seat.old) (seat_in (opening_of table.now) seat.old) None }
+    ensures driven { Driven (opening_of table.now) seat.old seat.new result.0 result.1 }
+    ensures answered { result.0 ≢ Told.Quiet }
+    ensures ties { Ties table.now seat.new actor.new }
+    ensures own { HasOwn table.now seat.new actor.new [] }
+{
+    let mut bases = Vec::new(alloc);
+    finish(alloc, table, seat, actor, &mut bases)
+}

@@ -1,0 +1,130 @@
+//! One turn of a request.
+ghost use Rattle.std.specs.Prelude.{◌≡◌, ◌≢◌, IfOk, OnErr};
+ghost use Rattle.actor_words.specs.Dispatch.{next_of};
+ghost use Rattle.tx_actor.specs.Running.{stage_of};
+ghost use Rattle.tx_actor.specs.declared.actor.Told.{Told as Tells};
+ghost use Rattle.tx_table.specs.Seated.{actor as actor_of_seat, opening_of};
+ghost use Rattle.tx_turns.specs.Asked.{Starved};
+ghost use Rattle.tx_turns.specs.Ties.{Ties, Turned, commits};
+ghost use Rattle.gate_turns.specs.Own.{HasOwn};
+ghost use Rattle.driven_turns.specs.Driven.{WantsMemory, as_receipts};
+
+use actor_words::Next;
+use gate_turns::laws::turns_keep_own;
+use gate_turns::{commit, copy_base, go_home, load_word, put_gate, try_gate};
+use replay_log::Base;
+use seq_model::{Memory, Record, Value};
+use std::alloc::Global;
+use tx_actor::{Stage, Told, TxActor};
+use tx_table::{Seat, TxTable};
+use tx_turns::{close, starve, step_word};
+
+/// A step on the words, with the receipt of a transaction without writes where it commits one.
+fn step<V: Value>(
+    alloc: Global,
+    table: &TxTable<V>,
+    seat: &mut Seat<V>,
+    actor: &mut TxActor<V>,
+    bases: &[Base<V>],
+) -> (Told<V>, Option<Record<V>>)
+    requires ties { Ties table.now seat.old actor.old }
+    requires own { HasOwn table.now seat.old actor.old bases.now }
+    requires due { next_of (stage_of actor.old.stage) ≡ Next.Word }
+    ensures turned { Turned (opening_of table.now) seat.old actor.old seat.new result.0 }
+    ensures receipt { commits (actor_of_seat seat.old) actor.old ≡ as_receipts (actor_of_seat seat.old) result.1 }
+    ensures ties { Ties table.now seat.new actor.new }
+    ensures own { HasOwn table.now seat.new actor.new bases.now }
+{
+    turns_keep_own::<V>();
+    match actor.stage {
+        Stage::Loading(..) => (load_word(table, seat, actor, bases), None),
+        Stage::Closing => {
+            let (told, receipt) = close(alloc, table, seat, actor);
+            (told, Some(receipt))
+        }
+        _ => (step_word(table, seat, actor), None),
+    }
+}
+
+/// A try on a gate. Where memory is refused no step is taken, and the request is given up.
+fn try_next<V: Value>(
+    table: &TxTable<V>,
+    seat: &mut Seat<V>,
+    actor: &mut TxActor<V>,
+    bases: &mut Vec<Base<V>>,
+    k: u32,
+) -> Result<Told<V>, Memory>
+    requires ties { Ties table.now seat.old actor.old }
+    requires own { HasOwn table.now seat.old actor.old bases.old.items }
+    requires due { next_of (stage_of actor.old.stage) ≡ Next.TryGate k }
+    ensures turned { IfOk result (Turned (opening_of table.now) seat.old actor.old seat.new) }
+    ensures ties { Ties table.now seat.new actor.new }
+    ensures own { HasOwn table.now seat.new actor.new bases.new.items }
+    ensures starved { OnErr result ((said : Tells V) × Starved (opening_of table.now) seat.old seat.new said) }
+{
+    turns_keep_own::<V>();
+    match try_gate(table, seat, actor, bases, k) {
+        Ok(told) => Ok(told),
+        Err(_) => {
+            let _ = starve(table, seat, actor);
+            Err(Memory)
+        }
+    }
+}
+
+/// The first value store of a commit, with its receipt. Where memory is refused no step is taken, and the request is given up.
+fn store_next<V: Value>(
+    alloc: Global,
+    table: &TxTable<V>,
+    seat: &mut Seat<V>,
+    actor: &mut TxActor<V>,
+    bases: &mut Vec<Base<V>>,
+) -> Result<(Told<V>, Option<Record<V>>), Memory>
+    requires ties { Ties table.now seat.old actor.old }
+    requires own { HasOwn table.now seat.old actor.old bases.old.items }
+    requires due { next_of (stage_of actor.old.stage) ≡ Next.FirstStore }
+    ensures turned { IfOk result (λ done. Turned (opening_of table.now) seat.old actor.old seat.new done.0) }
+    ensures receipt { IfOk result (λ done. commits (actor_of_seat seat.old) actor.old ≡ as_receipts (actor_of_seat seat.old) done.1) }
+    ensures ties { Ties table.now seat.new actor.new }
+    ensures own { HasOwn table.now seat.new actor.new bases.new.items }
+    ensures starved { OnErr result ((said : Tells V) × Starved (opening_of table.now) seat.old seat.new said) }
+{
+    turns_keep_own::<V>();
+    match commit(alloc, table, seat, actor, bases) {
+        Ok((told, receipt)) => Ok((told, Some(receipt))),
+        Err(_) => {
+            let _ = starve(table, seat, actor);
+            Err(Memory)
+        }
+    }
+}
+
+/// The next turn of a request that is under way, with the receipt that it makes. Where memory is wanting, which only a try of a gate, what
+/// a call copies and the first value store of a commit take, no step is taken, and the request is given up.
+pub fn turn<V: Value>(
+    alloc: Global,
+    table: &TxTable<V>,
+    seat: &mut Seat<V>,
+    actor: &mut TxActor<V>,
+    bases: &mut Vec<Base<V>>,
+) -> Result<(Told<V>, Option<Record<V>>), Memory>
+    requires ties { Ties table.now seat.old actor.old }
+    requires own { HasOwn table.now seat.old actor.old bases.old.items }
+    requires due { next_of (stage_of actor.old.stage) ≢ Next.Nothing }
+    ensures turned { IfOk result (λ done. Turned (opening_of table.now) seat.old actor.old seat.new done.0) }
+    ensures receipt { IfOk result (λ done. commits (actor_of_seat seat.old) actor.old ≡ as_receipts (actor_of_seat seat.old) done.1) }
+    ensures ties { Ties table.now seat.new actor.new }
+    ensures own { HasOwn table.now seat.new actor.new bases.new.items }
+    ensures starved { OnErr result ((said : Tells V) × Starved (opening_of table.now) seat.old seat.new said) }
+    ensures wants { OnErr result (WantsMemory (next_of (stage_of actor.old.stage))) }
+{
+    match actor.next() {
+        Next::Nothing => unreachable!(),
+        Next::Word => Ok(step(alloc, table, seat, actor, bases.as_slice())),
+        Next::TryGate(k) => Ok((try_next(table, seat, actor, bases, k)?, None)),
+        Next::Copy(k) => Ok((copy_base(alloc, table, seat, actor, bases, k)?, None)),
+        Next::FirstStore => store_next(alloc, table, seat, actor, bases),
+        Next::GoHome(k) => Ok((go_home(alloc, table, seat, actor, bases, k), None)),
+        Next::PutGate(k) => Ok((put_gate(table, seat, actor, bases, k), None)),
+    }
+}
