@@ -1,0 +1,220 @@
+-- What an attempt comes to, by what its requests come to.
+--
+-- Each request keeps the receipts, and leaves the transaction open with the calls so far, or there is none; so what the attempt comes to
+-- is put together at its end. A call past the limit of calls is refused as it is asked, so a job is answered no more calls than that.
+use Rattle.std.proofs.Common.{◌≡◌, ℕ, ◌<◌, ◌≤◌, Bool, true, false, List, [], ◌∷◌, ◌++◌, length, Ok, Err}
+use Rattle.std.proofs.Common.{inl, inr, refl, sym, ap, ◌∙◌, subst, arith}
+use Rattle.std.proofs.Math.Dec.{ltb}
+use Rattle.std.proofs.lemmas.Bool.{ltb-false, ltb-true}
+use Rattle.std.proofs.lemmas.List.{length-map}
+use Rattle.seq_model.specs.declared.call.Call.{Call}
+use Rattle.seq_model.specs.declared.call.Reply.{Reply}
+use Rattle.seq_model.specs.declared.event.Answer.TheVariants as answer
+use Rattle.seq_model.specs.declared.event.Event.TheVariants.{Ask as Asks}
+use Rattle.seq_model.specs.declared.event.Notice.{Notice}
+use Rattle.seq_model.specs.declared.event.Notice.TheVariants.{Answered, Quiet, Refused}
+use Rattle.seq_model.specs.declared.event.Request.TheVariants as request
+use Rattle.seq_model.specs.declared.limits.TheConstants.{CALL_LIMIT}
+use Rattle.seq_model.specs.declared.record.Record.{Record}
+use Rattle.seq_model.specs.declared.refusal.Refusal.{Refusal}
+use Rattle.replay_log.proofs.AskLemmas.{no_such, too_long}
+use Rattle.replay_log.specs.Seats as worlds
+use Rattle.replay_log.specs.Seats.{World}
+use Rattle.replay_log.specs.WorldAnswers.{is_there}
+use Rattle.replay_log.specs.Worlds.{happens}
+use Rattle.tx_engine.specs.declared.job.Ask.{Ask}
+use Rattle.tx_engine.specs.declared.job.Ask.TheVariants as ask
+use Rattle.tx_engine.specs.Programs.{replies_of}
+use Rattle.tx_table.specs.declared.seat.Seat.{Seat}
+use Rattle.tx_table.specs.Seated.{actor, acts}
+use Rattle.tx_phases.specs.Phases.{Stands, phase_at}
+use Rattle.transactions.proofs.CallLemmas.{stands_at}
+use Rattle.transactions.proofs.RequestLemmas.{asked_keeps, then_keeps}
+use Rattle.driven_turns.specs.Driven.{standing}
+use Rattle.transactions.specs.Requests.{CallsTo, HasCommitted, IsAnswered, IsEnded, KeepsReceipts, has_written, told_of}
+use Rattle.attempts.proofs.JobLemmas.{asked_more, none_asked, replies_more}
+use Rattle.attempts.specs.Attempts.{AttemptsTo, HasGivenUp, HasMade, IsAt, IsCallRefused, IsSoFar, IsUnmade, Reaches, ask_of}
+use Rattle.attempts.specs.Jobs.{AreAskedBy}
+use Rattle.attempts.specs.declared.jobs.End.{End}
+use Rattle.attempts.specs.declared.jobs.End.TheVariants as ends
+
+module _ {V : Type 0} where
+  -- ---- a call that is answered was within the limit
+  same_calls : (calls cs : List (Call V × Reply V)) → Stands calls ≡ Stands cs → calls ≡ cs
+  same_calls calls cs e = cc
+
+  module _ (o : World V) (s u : Seat V) (call : Call V) (reply : Reply V) (calls : List (Call V × Reply V))
+      (stands : standing o s ≡ Stands calls) where
+    abbrev w : World V
+    w = acts o s
+
+    abbrev a : ℕ
+    a = actor s
+
+    at_open : (w.seats a).stage ≡ worlds.Open
+    at_open = stands_at (w.seats a).calls calls (w.seats a).stage stands
+
+    calls_are : (w.seats a).calls ≡ calls
+    calls_are = same_calls (w.seats a).calls calls (sym (ap (phase_at (w.seats a).calls) at_open) ∙ stands)
+
+    -- what is told at once past the limit
+    refuses : CALL_LIMIT ≤ length (w.seats a).calls → (b : Bool) → is_there w a call.target call.op ≡ b
+        → (cause : Refusal) × ((happens w (Asks a (request.Call call))).1 ≡ Refused a cause)
+    refuses long true there = (_, ap (λ (r : World V × Notice V). r.1) (too_long w a call.target call.op at_open there long))
+    refuses long false there = (_, ap (λ (r : World V × Notice V). r.1) (no_such w a call.target call.op at_open there))
+
+    past_never : CALL_LIMIT ≤ length (w.seats a).calls → CallsTo o s call u (Ok reply) → ⊥
+    past_never long C = by C.answered
+      where
+        no : (cause : Refusal) × ((happens w (Asks a (request.Call call))).1 ≡ Refused a cause)
+        no = refuses long (is_there w a call.target call.op) refl
+
+        by : IsAnswered o s (request.Call call) u (told_of (Ok reply)) → ⊥
+        by (inl is) = (let e : Answered a (answer.Replied reply) ≡ Refused a no.0 = is ∙ no.1 in cc)
+        by (inr (inl is)) = (let e : Quiet ≡ Refused a no.0 = is.0 ∙ no.1 in cc)
+        by (inr (inr is)) = cc
+
+    pub within_limit : CallsTo o s call u (Ok reply) → length calls < CALL_LIMIT
+    within_limit C = by (ltb (length calls) CALL_LIMIT) refl
+      where
+        by : (b : Bool) → ltb (length calls) CALL_LIMIT ≡ b → length calls < CALL_LIMIT
+        by true e = ltb-true (length calls) CALL_LIMIT e
+        by false e =
+            absurd (past_never (subst (λ (cs : List (Call V × Reply V)). CALL_LIMIT ≤ length cs) (sym calls_are)
+            (ltb-false (length calls) CALL_LIMIT e)) C)
+
+  -- ---- one request more
+  pub keeps_self : (s : Seat V) → KeepsReceipts s s
+  keeps_self s = asked_keeps s s ((refl, refl, refl), refl)
+
+  module _ (asks : List (Reply V) → Ask V → Type 0) (o : World V) where
+    -- what is asked after the replies is asked after those to the calls
+    asked_so_far : (s : Seat V) (replies : List (Reply V)) (next : Ask V) (k : IsSoFar asks o s replies) → asks replies next
+        → asks (replies_of k.calls) next
+    asked_so_far s replies next k h = subst (λ (rs : List (Reply V)). asks rs next) k.replies_are h
+
+    at_now : (s : Seat V) (replies : List (Reply V)) (next : Ask V) (k : IsSoFar asks o s replies) → asks replies next
+        → IsAt asks o s s k.calls next
+    at_now s replies next k h = record {
+      keeps = keeps_self s;
+      stands = k.stands;
+      each = k.each;
+      asked = asked_so_far s replies next k h;
+    }
+
+    pub fresh_so_far : (s : Seat V) → standing o s ≡ Stands [] → IsSoFar asks o s []
+    fresh_so_far s stands = record { calls = []; stands = stands; each = none_asked asks; replies_are = refl }
+
+    pub reaches_now : (s : Seat V) (replies : List (Reply V)) (e : End) → IsSoFar asks o s replies → asks replies (ask_of asks o e)
+        → Reaches asks o s s e
+    reaches_now s replies e k h = (k.calls, at_now s replies (ask_of asks o e) k h)
+
+    pub call_refused : (s u : Seat V) (replies : List (Reply V)) (call : Call V) (cause : Refusal) → IsSoFar asks o s replies
+        → asks replies (ask.Call call) → CallsTo o s call u (Err cause) → IsCallRefused asks o s u cause
+    call_refused s u replies call cause k h C = record {
+      calls = k.calls;
+      call = call;
+      before = s;
+      at = at_now s replies (ask.Call call) k h;
+      after = u;
+      refused = C;
+      keeps = keeps_self u;
+    }
+
+    pub call_made : (s u : Seat V) (replies : List (Reply V)) (call : Call V) (reply : Reply V) → IsSoFar asks o s replies
+        → asks replies (ask.Call call) → CallsTo o s call u (Ok reply) → IsSoFar asks o u (replies ++ reply ∷ [])
+    call_made s u replies call reply k h C = record {
+      calls = k.calls ++ (call, reply) ∷ [];
+      stands = C.leaves k.calls k.stands;
+      each = asked_more asks k.calls call reply k.each (asked_so_far s replies (ask.Call call) k h);
+      replies_are = ap (λ (rs : List (Reply V)). rs ++ reply ∷ []) k.replies_are ∙ sym (replies_more asks k.calls call reply);
+    }
+
+    pub call_within : (s u : Seat V) (replies : List (Reply V)) (call : Call V) (reply : Reply V) → IsSoFar asks o s replies
+        → CallsTo o s call u (Ok reply) → length replies < CALL_LIMIT
+    call_within s u replies call reply k C =
+        let lt : length k.calls < CALL_LIMIT = within_limit o s u call reply k.calls k.stands C in
+        let e : length replies ≡ length k.calls = ap length k.replies_are ∙ length-map k.calls (λ (c : Call V × Reply V). c.1) in
+        omega (arith, lt, e)
+
+    -- ---- from where the attempt began
+    at_before : (s m u : Seat V) (calls : List (Call V × Reply V)) (next : Ask V) → KeepsReceipts s m → IsAt asks o m u calls next
+        → IsAt asks o s u calls next
+    at_before s m u calls next kept k =
+        record { keeps = then_keeps s m u kept k.keeps; stands = k.stands; each = k.each; asked = k.asked }
+
+    pub reaches_before : (s m u : Seat V) (e : End) → KeepsReceipts s m → Reaches asks o m u e → Reaches asks o s u e
+    reaches_before s m u e kept k = (k.0, at_before s m u k.0 (ask_of asks o e) kept k.1)
+
+    pub unmade_before : (s m u : Seat V) (cause : Refusal) → KeepsReceipts s m → IsUnmade asks o m u cause → IsUnmade asks o s u cause
+    unmade_before s m u cause kept (inl k) = inl record {
+      calls = k.calls;
+      call = k.call;
+      before = k.before;
+      at = at_before s m k.before k.calls (ask.Call k.call) kept k.at;
+      after = k.after;
+      refused = k.refused;
+      keeps = k.keeps;
+    }
+    unmade_before s m u cause kept (inr none) = inr none
+
+    -- and to where it ended
+    pub unmade_after : (s m u : Seat V) (cause : Refusal) → KeepsReceipts m u → IsUnmade asks o s m cause → IsUnmade asks o s u cause
+    unmade_after s m u cause kept (inl k) = inl record {
+      calls = k.calls;
+      call = k.call;
+      before = k.before;
+      at = k.at;
+      after = k.after;
+      refused = k.refused;
+      keeps = then_keeps k.after m u k.keeps kept;
+    }
+    unmade_after s m u cause kept (inr none) = inr none
+
+    -- ---- its end
+    -- the job has come to this end
+    pub at_end : (b m : Seat V) (e end : End) → e ≡ end → Reaches asks o b m e → Reaches asks o b m end
+    at_end b m e end is k = subst (λ (f : End). Reaches asks o b m f) is k
+
+    pub has_made : (s b m u : Seat V) (r : Record V) → KeepsReceipts s b → Reaches asks o b m ends.Done → standing o m ≡ Stands r.calls
+        → r.writes ≡ has_written o m → HasCommitted o m u r → (r.writes ≡ true → m.last < r.number)
+        → (m.last ≤ r.number) × (u.last ≡ r.number) → HasMade asks o s u r
+    has_made s b m u r kept done stands writes C above last =
+        let k : IsAt asks o s m done.0 ask.Done = at_before s b m done.0 ask.Done kept done.1 in
+        let e : done.0 ≡ r.calls = same_calls done.0 r.calls (sym k.stands ∙ stands) in
+        let same : m.last ≡ s.last = k.keeps.seat.2 in
+        let low = last.0 in record {
+          job = record {
+            each = subst (λ (cs : List (Call V × Reply V)). AreAskedBy asks cs) e k.each;
+            done = subst (λ (cs : List (Call V × Reply V)). asks (replies_of cs) ask.Done) e k.asked;
+          };
+          gains = C.receipts
+              ∙ (λ i. k.keeps.receipts i ++ (k.keeps.seat.1 i, r) ∷ []);
+          shares = C.shares ∙ k.keeps.shares;
+          above = λ yes. (let lt = above yes in omega (arith, lt, same));
+          last = (omega (arith, low, same), last.1);
+          before = m;
+          at = subst (λ (cs : List (Call V × Reply V)). IsAt asks o s m cs ask.Done) e k;
+          writes = writes;
+          committed = C;
+        }
+
+    pub commit_refused : (s b m u : Seat V) (cause : Refusal) → KeepsReceipts s b → Reaches asks o b m ends.Done → KeepsReceipts m u
+        → IsEnded o m u cause → AttemptsTo asks o s u (Err cause)
+    commit_refused s b m u cause kept done ends ended =
+        let k : IsAt asks o s m done.0 ask.Done = at_before s b m done.0 ask.Done kept done.1 in (
+          then_keeps s m u k.keeps ends,
+          inr (inl record { calls = done.0; before = m; at = k; ended = ended }),
+        )
+
+    pub given_up : (s b m u : Seat V) → KeepsReceipts s b → Reaches asks o b m ends.GivenUp → KeepsReceipts m u → HasGivenUp asks o s u
+    given_up s b m u kept done ended =
+        let k : IsAt asks o s m done.0 ask.GiveUp = at_before s b m done.0 ask.GiveUp kept done.1 in
+        record { keeps = then_keeps s m u k.keeps ended; calls = done.0; before = m; at = k }
+
+    pub call_ended : (s b m u : Seat V) (cause : Refusal) → KeepsReceipts s b → KeepsReceipts b m → IsUnmade asks o b m cause
+        → KeepsReceipts m u → AttemptsTo asks o s u (Err cause)
+    call_ended s b m u cause kept keeps unmade ended = (
+      then_keeps s b u kept (then_keeps b m u keeps ended),
+      inr (inr (unmade_after s m u cause ended (unmade_before s b m cause kept unmade))),
+    )

@@ -1,0 +1,18 @@
+use Rattle.std.proofs.Common.{◌-◌, length}
+use Rattle.seq_model.specs.declared.limits.TheConstants.{CALL_LIMIT}
+use Rattle.tx_table.specs.Seated.{opening_of}
+use Rattle.transactions.specs.Ready.{HasBegunSince, IsReady}
+use Rattle.transactions.specs.Requests.{KeepsReceipts}
+use Rattle.attempts.specs.Attempts.{IsSoFar}
+use Rattle.attempts.proofs.jobs.ask_all.Given as goal
+
+abbrev pub invariant-calls : goal.invariant-calls
+invariant-calls g l = record {
+  ready : IsReady l.table l.seat;
+  since : HasBegunSince l.table l.seat;
+  keeps : KeepsReceipts l.fn.seat.seat l.seat.seat;
+  so_far : IsSoFar (g.J.Job.asks l.job) (opening_of l.table) l.seat.seat l.replies.items;
+}
+
+abbrev pub decreases-calls : goal.decreases-calls
+decreases-calls g l = CALL_LIMIT - length l.replies.items

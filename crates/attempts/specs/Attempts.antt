@@ -1,0 +1,98 @@
+-- What an attempt of a job comes to.
+use Rattle.std.specs.Prelude.{◌≡◌, ◌⊎◌, ◌<◌, ◌≤◌, true, List, [], ◌∷◌, ◌++◌, Result, Ok, Err}
+use Rattle.seq_model.specs.declared.call.Call.{Call}
+use Rattle.seq_model.specs.declared.call.Reply.{Reply}
+use Rattle.seq_model.specs.declared.record.Record.{Record}
+use Rattle.seq_model.specs.declared.refusal.Refusal.{Refusal}
+use Rattle.seq_model.specs.declared.refusal.Refusal.TheVariants.{OutOfMemory}
+use Rattle.replay_log.specs.Seats.{World}
+use Rattle.tx_engine.specs.declared.job.Ask.{Ask}
+use Rattle.tx_engine.specs.declared.job.Ask.TheVariants as ask
+use Rattle.tx_engine.specs.Programs.{replies_of}
+use Rattle.tx_table.specs.declared.seat.Seat.{Seat}
+use Rattle.tx_table.specs.Seated.{actor, view}
+use Rattle.tx_phases.specs.Phases.{Stands}
+use Rattle.driven_turns.specs.Driven.{standing}
+use Rattle.transactions.specs.Requests.{CallsTo, HasCommitted, IsEnded, IsNotBegun, KeepsReceipts, has_written}
+use Rattle.attempts.specs.Jobs.{AreAskedBy, IsWholeJob}
+use Rattle.attempts.specs.declared.jobs.Attempt.{Attempt}
+use Rattle.attempts.specs.declared.jobs.Attempt.TheVariants.{Committed, GivenUp}
+use Rattle.attempts.specs.declared.jobs.End.{End}
+use Rattle.attempts.specs.declared.jobs.End.TheVariants as ends
+
+module _ {V : Type 0} (asks : List (Reply V) → Ask V → Type 0) (o : World V) where
+  -- ---- on the way
+  -- The seat s has led to the seat m, and gained no receipt. Its transaction is open there, with these calls, each of which the job has
+  -- asked; after the replies to them it asks this.
+  pub record IsAt (s m : Seat V) (calls : List (Call V × Reply V)) (next : Ask V) : Type 0 where
+    pub keeps : KeepsReceipts s m
+    pub stands : standing o m ≡ Stands calls
+    pub each : AreAskedBy asks calls
+    pub asked : asks (replies_of calls) next
+
+  -- the transaction is open, with calls that the job has asked, and these are the replies to them
+  pub record IsSoFar (m : Seat V) (replies : List (Reply V)) : Type 0 where
+    pub calls : List (Call V × Reply V)
+    pub stands : standing o m ≡ Stands calls
+    pub each : AreAskedBy asks calls
+    pub replies_are : replies ≡ replies_of calls
+
+  abbrev pub ask_of : End → Ask V
+  ask_of ends.Done = ask.Done
+  ask_of ends.GivenUp = ask.GiveUp
+
+  -- the job has come to its end
+  abbrev pub Reaches : Seat V → Seat V → End → Type 0
+  Reaches s m e = (calls : List (Call V × Reply V)) × IsAt s m calls (ask_of e)
+
+  -- ---- what is refused
+  -- a call that the job asked was refused so
+  pub record IsCallRefused (s u : Seat V) (cause : Refusal) : Type 0 where
+    pub calls : List (Call V × Reply V)
+    pub call : Call V
+    pub before : Seat V
+    pub at : IsAt s before calls (ask.Call call)
+    pub after : Seat V
+    pub refused : CallsTo o before call after (Err cause)
+    pub keeps : KeepsReceipts after u
+
+  -- a call, or memory for the job or for its replies
+  abbrev pub IsUnmade : Seat V → Seat V → Refusal → Type 0
+  IsUnmade s u cause = IsCallRefused s u cause ⊎ (cause ≡ OutOfMemory)
+
+  -- the commit was refused so, once the job was done
+  pub record IsCommitRefused (s u : Seat V) (cause : Refusal) : Type 0 where
+    pub calls : List (Call V × Reply V)
+    pub before : Seat V
+    pub at : IsAt s before calls ask.Done
+    pub ended : IsEnded o before u cause
+
+  -- the begin, the commit, or what is between them
+  abbrev pub IsRefusedOf : Seat V → Seat V → Refusal → Type 0
+  IsRefusedOf s u cause = IsNotBegun o s u cause ⊎ (IsCommitRefused s u cause ⊎ IsUnmade s u cause)
+
+  -- ---- what an attempt comes to
+  -- The receipt has all calls of the job, with their replies, and the seat gains it, and no other. Its number is the last one of the seat
+  -- then: above the one before where the job has written, and not below it where it hasn't.
+  pub record HasMade (s u : Seat V) (r : Record V) : Type 0 where
+    pub job : IsWholeJob asks r.calls
+    pub gains : (view u).receipts ≡ (view s).receipts ++ (actor s, r) ∷ []
+    pub shares : (view u).shares ≡ (view s).shares
+    pub above : r.writes ≡ true → s.last < r.number
+    pub last : (s.last ≤ r.number) × (u.last ≡ r.number)
+    pub before : Seat V
+    pub at : IsAt s before r.calls ask.Done
+    pub writes : r.writes ≡ has_written o before
+    pub committed : HasCommitted o before u r
+
+  -- the job has given up after the replies to its calls, and the seat gains no receipt
+  pub record HasGivenUp (s u : Seat V) : Type 0 where
+    pub keeps : KeepsReceipts s u
+    pub calls : List (Call V × Reply V)
+    pub before : Seat V
+    pub at : IsAt s before calls ask.GiveUp
+
+  abbrev pub AttemptsTo : Seat V → Seat V → Result (Attempt V) Refusal → Type 0
+  AttemptsTo s u (Ok (Committed r)) = HasMade s u r
+  AttemptsTo s u (Ok GivenUp) = HasGivenUp s u
+  AttemptsTo s u (Err cause) = KeepsReceipts s u × IsRefusedOf s u cause
