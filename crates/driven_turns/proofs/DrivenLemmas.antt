@@ -2,7 +2,8 @@
 --
 -- The step of a turn has happened in a world that events have reached, which was to the actor as its own world. So the laws on such worlds
 -- say of it what the request comes to (`courses`), that a cause is true that is noted there, and that the request is nearer to its answer.
-use Rattle.std.proofs.Common.{◌≡◌, ℕ, ◌<◌, ◌≤◌, Bool, true, false, true≢false, List, [], ◌∷◌, ◌++◌, Option, Some, None, inl, inr, refl, sym, ap, ◌∙◌, subst, arith}
+use Rattle.std.proofs.Common.{◌≡◌, ℕ, ◌<◌, ◌≤◌, Bool, true, false, true≢false, List, [], ◌∷◌, ◌++◌, Option, Some, None, inl, inr, refl, sym}
+use Rattle.std.proofs.Common.{ap, ◌∙◌, subst, arith}
 use Rattle.std.specs.Prelude.{is_some}
 use Rattle.std.proofs.lemmas.List.{append-nil, append_assoc}
 use Rattle.word_machine.specs.Actor as machine
@@ -279,14 +280,16 @@ module _ {V : Type 0} where
     truth Begins (told.Refused cause) e under was =
         let at : x.stage ≡ Beginning = begins_at x.calls x.stage (ap phase x_is ∙ under.0) in
         let h = subst (λ (st : Stage V). IsRefusedAt v a st after.0 cause) at (refused cause e) in (v, this, h.0, h.1)
-    truth (Calls calls call) told.Quiet e (inl at, none) was = λ cause ends is. inl (found cause (on_call x calls call (ap phase x_is ∙ at)) ends is)
+    truth (Calls calls call) told.Quiet e (inl at, none) was =
+        λ cause ends is. inl (found cause (on_call x calls call (ap phase x_is ∙ at)) ends is)
     truth (Calls calls call) told.Quiet e (inr up, none) was =
         λ cause ends is. still cause (was cause up.0 (kept cause up.0 ends is))
     truth (Calls calls call) (told.Answered q) e under was = tt
     truth (Calls calls call) (told.Refused cause) e (inl at, none) was =
         let h = call_refused calls call _ a cause _ (moves (Calls calls call) cause e at) in inr (sym (ap phase y_is) ∙ h.0, h.1)
     truth (Calls calls call) (told.Refused cause) e (inr up, none) was = inl (still cause (was cause up.0 (told_up cause e up.0)))
-    truth (Commits calls) told.Quiet e (inl (inl at, none)) was = λ cause ends is. inl (found cause (on_commit x calls (ap phase x_is ∙ at)) ends is)
+    truth (Commits calls) told.Quiet e (inl (inl at, none)) was =
+        λ cause ends is. inl (found cause (on_commit x calls (ap phase x_is ∙ at)) ends is)
     truth (Commits calls) told.Quiet e (inl (inr up, none)) was =
         λ cause ends is. still cause (was cause up.0 (kept cause up.0 ends is))
     truth (Commits calls) told.Quiet e (inr has) was = λ cause ends is. inl (found cause (on_done x (ap phase x_is ∙ has.0)) ends is)

@@ -3,7 +3,8 @@
 -- The step that gives a commit its number is one on the clock, which the seat knows from then on; no other step changes the number until
 -- the record is made. What an actor's place says of its numbers holds in every world that events have reached, and its own world is one
 -- to it. A begin tells the clock that its own step loaded.
-use Rattle.std.proofs.Common.{◌≡◌, ◌⊎◌, ℕ, zero, suc, ◌+◌, ◌<◌, ◌≤◌, Bool, true, false, true≢false, cond, ◌&&◌, not, eqb, List, [], ◌∷◌, ◌++◌, Option, Some, None, inl, inr, refl, sym, ap, ◌∙◌, subst, arith}
+use Rattle.std.proofs.Common.{◌≡◌, ◌⊎◌, ℕ, zero, suc, ◌+◌, ◌<◌, ◌≤◌, Bool, true, false, true≢false, cond, ◌&&◌, not, eqb, List, [], ◌∷◌}
+use Rattle.std.proofs.Common.{◌++◌, Option, Some, None, inl, inr, refl, sym, ap, ◌∙◌, subst, arith}
 use Rattle.std.specs.Prelude.{is_some, nat_le, nat_lt}
 use Rattle.tx_sets.specs.Entries.{lookup}
 use Rattle.vlock_word.specs.declared.lock_word.LockWord.{LockWord}
@@ -33,7 +34,8 @@ use Rattle.replay_log.specs.declared.base.Base.{Base}
 use Rattle.replay_log.specs.Base.{Shown}
 use Rattle.replay_log.specs.Contents.{Answered as Outcomes}
 use Rattle.replay_log.specs.Worlds.{World, Seat, Stage, Beginning, Locking, Gating, Ready, Closing, Cancelling, Leaving, Returning, After}
-use Rattle.replay_log.specs.Worlds.{acted, actor_of, asks, at_stage, because, gives_up, happens, has_begun, has_locked, has_tried, is_leaving}
+use Rattle.replay_log.specs.Worlds.{acted, actor_of, asks, at_stage, because, gives_up, happens, has_begun, has_locked, has_tried}
+use Rattle.replay_log.specs.Worlds.{is_leaving}
 use Rattle.replay_log.specs.Worlds.{moves, run, step_at, takes_gates, word_notice}
 use Rattle.replay_log.specs.WorldTraces.{committed_by}
 use Rattle.atomic_steps.proofs.Alone.{same_actors}

@@ -1,6 +1,7 @@
 -- Whether a commit has written. A commit with writes never stands at the load of the clock that ends one without, and only a commit under
 -- way is one after the next step: so its record says what was asked.
-use Rattle.std.proofs.Common.{◌≡◌, ℕ, zero, suc, Bool, true, false, true≢false, cond, List, [], ◌∷◌, ◌++◌, Option, Some, None, inl, inr, refl, sym, ap, ◌∙◌}
+use Rattle.std.proofs.Common.{◌≡◌, ℕ, zero, suc, Bool, true, false, true≢false, cond, List, [], ◌∷◌, ◌++◌, Option, Some, None, inl, inr}
+use Rattle.std.proofs.Common.{refl, sym, ap, ◌∙◌}
 use Rattle.std.specs.Prelude.{is_some, not}
 use Rattle.word_machine.specs.Requests as word
 use Rattle.word_machine.specs.Notices as told
@@ -14,7 +15,8 @@ use Rattle.seq_model.specs.declared.record.Record.{Record}
 use Rattle.seq_model.specs.declared.refusal.Refusal.TheVariants as refusal
 use Rattle.collection_machine.specs.Boosted.{TakeGate, is_none}
 use Rattle.replay_log.specs.Worlds.{World, Seat, Stage, Locking, Gating, Ready, Closing, Cancelling, Leaving, Returning, acted, actor_of}
-use Rattle.replay_log.specs.Worlds.{asks, at_stage, because, gives_up, has_locked, has_tried, is_leaving, moves, seated, step_at, takes_gates}
+use Rattle.replay_log.specs.Worlds.{asks, at_stage, because, gives_up, has_locked, has_tried, is_leaving, moves, seated, step_at}
+use Rattle.replay_log.specs.Worlds.{takes_gates}
 use Rattle.replay_log.specs.Worlds.{word_notice, written_homes}
 use Rattle.replay_log.specs.WorldTraces.{committed_by}
 use Rattle.tx_phases.specs.Courses.{latest}

@@ -132,7 +132,8 @@ module _ {V : Type 0} where
   under_commits x calls on = subst (λ (p : Phase V). IsUnderWayFrom x p x None) (sym on) (inl (inl on, refl))
 
   -- ---- the turns
-  module _ (o : World V) (s u : table.Seat V) (calls : List (Call V × Reply V)) (on : standing o s ≡ Commits calls) (outs : out u ≡ out s) where
+  module _ (o : World V) (s u : table.Seat V) (calls : List (Call V × Reply V)) (on : standing o s ≡ Commits calls)
+      (outs : out u ≡ out s) where
     abbrev a : ℕ
     a = seated.actor s
 
@@ -207,7 +208,8 @@ module _ {V : Type 0} where
       let C = committed o s u calls on outs n q ne (subst (λ (k : Option (Record V)). Driven o s u n k) h D) in
       record { committed = C.0; calls = C.1; writes = C.2; number = C.3; keeps = tt; ended = tt }
   finishes o s u calls on outs n d (Err cause) ne D h =
-      let R = refused o s u calls on outs cause (subst (λ (k : Told V × Option (Record V)). Driven o s u k.0 k.1) (λ i. (h.1 i, h.0 i)) D) in
+      let R = refused o s u calls on outs cause
+      (subst (λ (k : Told V × Option (Record V)). Driven o s u k.0 k.1) (λ i. (h.1 i, h.0 i)) D) in
       record { committed = tt; calls = tt; writes = tt; number = tt; keeps = R.0; ended = R.1 }
 
   -- and since it was asked

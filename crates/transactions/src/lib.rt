@@ -1,8 +1,8 @@
 //! Transactions that threads run on the shared table.
 //!
-//! A seat of the table has a running actor beside it, to which it is tied (`tx_turns`). A request is asked, and driven (`driven_turns`): its
-//! turns are taken, one atomic step on the table each, until it is answered or refused. What it comes to is what the definitions say of it
-//! in the own world of the seat, which to its actor is one that events have reached. Between two requests no gate is held.
+//! A seat of the table has a running actor beside it, to which it is tied (`tx_turns`). A request is asked, and driven (`driven_turns`):
+//! its turns are taken, one atomic step on the table each, until it is answered or refused. What it comes to is what the definitions say of
+//! it in the own world of the seat, which to its actor is one that events have reached. Between two requests no gate is held.
 #![tactic(auto)]
 
 mod calls;

@@ -7,7 +7,9 @@ use Rattle.gate_turns.specs.Own.{HasOwn}
 use Rattle.driven_turns.proofs.driving.advance.Given as goal
 
 abbrev pub invariant-turns : goal.invariant-turns
-invariant-turns g l = Ties l.table l.seat l.actor × HasOwn l.table l.seat l.actor l.bases.items × Driven (opening_of l.table) l.initial.seat l.seat told.Quiet l.kept
+invariant-turns g l =
+    Ties l.table l.seat l.actor × HasOwn l.table l.seat l.actor l.bases.items
+    × Driven (opening_of l.table) l.initial.seat l.seat told.Quiet l.kept
 
 abbrev pub decreases-turns : goal.decreases-turns
 decreases-turns g l = left_of (acts (opening_of l.table) l.seat) (actor l.seat)

@@ -11,12 +11,12 @@ drive-told-requires-clause-under g c =
 
 pub reply_told-requires : goal.reply_told-requires
 reply_told-requires g c =
-    call_said (opening_of c.args.table.now) c.args.seat.now c.drive-told.new.seat c.requires.calls.0 c.requires.calls.1.0 c.requires.calls.1.1
-    c.drive-told.result.0 c.drive-told.result.1 c.drive-told.ensures.answered c.drive-told.ensures.driven
+    call_said (opening_of c.args.table.now) c.args.seat.now c.drive-told.new.seat c.requires.calls.0 c.requires.calls.1.0
+    c.requires.calls.1.1 c.drive-told.result.0 c.drive-told.result.1 c.drive-told.ensures.answered c.drive-told.ensures.driven
 
 pub returns-clause-driven : goal.returns-clause-driven
 returns-clause-driven g c = (
   c.drive-told.result.1,
-  subst (λ (n : Told _). Driven (opening_of c.args.table.now) c.args.seat.now c.drive-told.new.seat n c.drive-told.result.1) c.reply_told.ensures
-      c.drive-told.ensures.driven,
+  subst (λ (n : Told _). Driven (opening_of c.args.table.now) c.args.seat.now c.drive-told.new.seat n c.drive-told.result.1)
+      c.reply_told.ensures c.drive-told.ensures.driven,
 )

@@ -5,7 +5,8 @@ use Rattle.transactions.proofs.commits.commit.Goals as goal
 pub committed-requires-clause-commits : goal.committed-requires-clause-commits
 committed-requires-clause-commits g c = (
   c.requires.open.0,
-  (commit_asked (opening_of c.args.table.now) c.args.seat.now c.ask_open.new.seat c.requires.open.0 c.requires.open.1 c.in_ok-ask_open.ensures.asked).0,
+  (commit_asked (opening_of c.args.table.now) c.args.seat.now c.ask_open.new.seat c.requires.open.0 c.requires.open.1
+      c.in_ok-ask_open.ensures.asked).0,
 )
 
 pub returns-clause-committed : goal.returns-clause-committed

@@ -21,39 +21,45 @@ returns-clause-committed g c =
     (finishes (opening_of c.args.table.now) c.args.seat.now c.drive-told.new.seat c.requires.commits.0 c.requires.commits.1
     (bare_out c.args.table.now c.drive-told.new.seat c.drive-told.new.actor c.drive-told.ensures.own
     ∙ sym (bare_out c.args.table.now c.args.seat.now c.args.actor.now c.requires.own))
-    c.drive-told.result.0 c.drive-told.result.1 c.commit_told.result c.drive-told.ensures.answered c.drive-told.ensures.driven c.commit_told.ensures).committed
+    c.drive-told.result.0 c.drive-told.result.1 c.commit_told.result c.drive-told.ensures.answered c.drive-told.ensures.driven
+    c.commit_told.ensures).committed
 
 pub returns-clause-calls : goal.returns-clause-calls
 returns-clause-calls g c =
     (finishes (opening_of c.args.table.now) c.args.seat.now c.drive-told.new.seat c.requires.commits.0 c.requires.commits.1
     (bare_out c.args.table.now c.drive-told.new.seat c.drive-told.new.actor c.drive-told.ensures.own
     ∙ sym (bare_out c.args.table.now c.args.seat.now c.args.actor.now c.requires.own))
-    c.drive-told.result.0 c.drive-told.result.1 c.commit_told.result c.drive-told.ensures.answered c.drive-told.ensures.driven c.commit_told.ensures).calls
+    c.drive-told.result.0 c.drive-told.result.1 c.commit_told.result c.drive-told.ensures.answered c.drive-told.ensures.driven
+    c.commit_told.ensures).calls
 
 pub returns-clause-writes : goal.returns-clause-writes
 returns-clause-writes g c =
     (finishes (opening_of c.args.table.now) c.args.seat.now c.drive-told.new.seat c.requires.commits.0 c.requires.commits.1
     (bare_out c.args.table.now c.drive-told.new.seat c.drive-told.new.actor c.drive-told.ensures.own
     ∙ sym (bare_out c.args.table.now c.args.seat.now c.args.actor.now c.requires.own))
-    c.drive-told.result.0 c.drive-told.result.1 c.commit_told.result c.drive-told.ensures.answered c.drive-told.ensures.driven c.commit_told.ensures).writes
+    c.drive-told.result.0 c.drive-told.result.1 c.commit_told.result c.drive-told.ensures.answered c.drive-told.ensures.driven
+    c.commit_told.ensures).writes
 
 pub returns-clause-number : goal.returns-clause-number
 returns-clause-number g c =
     (finishes (opening_of c.args.table.now) c.args.seat.now c.drive-told.new.seat c.requires.commits.0 c.requires.commits.1
     (bare_out c.args.table.now c.drive-told.new.seat c.drive-told.new.actor c.drive-told.ensures.own
     ∙ sym (bare_out c.args.table.now c.args.seat.now c.args.actor.now c.requires.own))
-    c.drive-told.result.0 c.drive-told.result.1 c.commit_told.result c.drive-told.ensures.answered c.drive-told.ensures.driven c.commit_told.ensures).number
+    c.drive-told.result.0 c.drive-told.result.1 c.commit_told.result c.drive-told.ensures.answered c.drive-told.ensures.driven
+    c.commit_told.ensures).number
 
 pub returns-clause-keeps : goal.returns-clause-keeps
 returns-clause-keeps g c =
     (finishes (opening_of c.args.table.now) c.args.seat.now c.drive-told.new.seat c.requires.commits.0 c.requires.commits.1
     (bare_out c.args.table.now c.drive-told.new.seat c.drive-told.new.actor c.drive-told.ensures.own
     ∙ sym (bare_out c.args.table.now c.args.seat.now c.args.actor.now c.requires.own))
-    c.drive-told.result.0 c.drive-told.result.1 c.commit_told.result c.drive-told.ensures.answered c.drive-told.ensures.driven c.commit_told.ensures).keeps
+    c.drive-told.result.0 c.drive-told.result.1 c.commit_told.result c.drive-told.ensures.answered c.drive-told.ensures.driven
+    c.commit_told.ensures).keeps
 
 pub returns-clause-ended : goal.returns-clause-ended
 returns-clause-ended g c =
     (finishes (opening_of c.args.table.now) c.args.seat.now c.drive-told.new.seat c.requires.commits.0 c.requires.commits.1
     (bare_out c.args.table.now c.drive-told.new.seat c.drive-told.new.actor c.drive-told.ensures.own
     ∙ sym (bare_out c.args.table.now c.args.seat.now c.args.actor.now c.requires.own))
-    c.drive-told.result.0 c.drive-told.result.1 c.commit_told.result c.drive-told.ensures.answered c.drive-told.ensures.driven c.commit_told.ensures).ended
+    c.drive-told.result.0 c.drive-told.result.1 c.commit_told.result c.drive-told.ensures.answered c.drive-told.ensures.driven
+    c.commit_told.ensures).ended

@@ -19,16 +19,19 @@ begun-requires-clause-own g c =
 pub returns-clause-keeps : goal.returns-clause-keeps
 returns-clause-keeps g c =
     then_keeps c.args.seat.now c.ask_begin_read.new.seat c.begun.new.seat
-    (asked_keeps c.args.seat.now c.ask_begin_read.new.seat (c.ask_begin_read.ensures.asked.0, c.ask_begin_read.ensures.asked.1)) c.begun.ensures.keeps
+    (asked_keeps c.args.seat.now c.ask_begin_read.new.seat (c.ask_begin_read.ensures.asked.0, c.ask_begin_read.ensures.asked.1))
+    c.begun.ensures.keeps
 
 pub returns-clause-begun : goal.returns-clause-begun
 returns-clause-begun g c =
     (begun_since (opening_of c.args.table.now) c.args.seat.now c.ask_begin_read.new.seat c.begun.new.seat c.begun.result
-    (asked_keeps c.args.seat.now c.ask_begin_read.new.seat (c.ask_begin_read.ensures.asked.0, c.ask_begin_read.ensures.asked.1)) c.begun.ensures.begun
+    (asked_keeps c.args.seat.now c.ask_begin_read.new.seat (c.ask_begin_read.ensures.asked.0, c.ask_begin_read.ensures.asked.1))
+    c.begun.ensures.begun
     c.begun.ensures.refused).0
 
 pub returns-clause-refused : goal.returns-clause-refused
 returns-clause-refused g c =
     (begun_since (opening_of c.args.table.now) c.args.seat.now c.ask_begin_read.new.seat c.begun.new.seat c.begun.result
-    (asked_keeps c.args.seat.now c.ask_begin_read.new.seat (c.ask_begin_read.ensures.asked.0, c.ask_begin_read.ensures.asked.1)) c.begun.ensures.begun
+    (asked_keeps c.args.seat.now c.ask_begin_read.new.seat (c.ask_begin_read.ensures.asked.0, c.ask_begin_read.ensures.asked.1))
+    c.begun.ensures.begun
     c.begun.ensures.refused).1

@@ -29,7 +29,8 @@ returns-clause-keeps g c =
 
 pub returns-clause-begun : goal.returns-clause-begun
 returns-clause-begun g c =
-    (begun_by (opening_of c.args.table.now) c.args.seat.now c.drive-told.new.seat c.drive-told.result.0 c.begin_told.result c.begin_told.ensures
+    (begun_by (opening_of c.args.table.now) c.args.seat.now c.drive-told.new.seat c.drive-told.result.0 c.begin_told.result
+    c.begin_told.ensures
     (begins_to (opening_of c.args.table.now) c.args.seat.now c.drive-told.new.seat c.drive-told.result.0 c.drive-told.result.1
     (begins c.args.table.now c.args.seat.now c.args.actor.now c.requires.ties c.requires.stage)
     (bare_out c.args.table.now c.drive-told.new.seat c.drive-told.new.actor c.drive-told.ensures.own
@@ -38,7 +39,8 @@ returns-clause-begun g c =
 
 pub returns-clause-refused : goal.returns-clause-refused
 returns-clause-refused g c =
-    (begun_by (opening_of c.args.table.now) c.args.seat.now c.drive-told.new.seat c.drive-told.result.0 c.begin_told.result c.begin_told.ensures
+    (begun_by (opening_of c.args.table.now) c.args.seat.now c.drive-told.new.seat c.drive-told.result.0 c.begin_told.result
+    c.begin_told.ensures
     (begins_to (opening_of c.args.table.now) c.args.seat.now c.drive-told.new.seat c.drive-told.result.0 c.drive-told.result.1
     (begins c.args.table.now c.args.seat.now c.args.actor.now c.requires.ties c.requires.stage)
     (bare_out c.args.table.now c.drive-told.new.seat c.drive-told.new.actor c.drive-told.ensures.own
