@@ -1,0 +1,67 @@
+//! A priority queue.
+ghost use Rattle.std.specs.Prelude.{◌≡◌};
+ghost use Rattle.seq_model.specs.declared.call.Op.TheVariants as op;
+ghost use Rattle.transactions.specs.Ready.{HasBegunSince, IsReady};
+ghost use Rattle.tx_wrap.specs.Called.{HasCalled};
+
+use seq_model::{Call, Op, Refusal, Reply, Value};
+use transactions::Tx;
+
+/// The priority queue of this number.
+#[derive(Clone, Copy)]
+pub struct TPq {
+    number: u32,
+}
+
+impl TPq {
+    pub fn new(number: u32) -> TPq
+        ensures { result.number ≡ number }
+    {
+        TPq { number }
+    }
+
+    /// The least element: `Found`, or `Nothing` where there is none.
+    pub fn least<V: Value>(&self, tx: &mut Tx<'_, V>) -> Result<Reply<V>, Refusal>
+        requires ready { IsReady tx.old.table.now tx.old.seat.now }
+        requires since { HasBegunSince tx.old.table.now tx.old.seat.now }
+        ensures same_reference { tx.new.seat.ghost_name ≡ tx.old.seat.ghost_name }
+        ensures same_table { tx.new.table.now ≡ tx.old.table.now }
+        ensures called { HasCalled tx.old.table.now tx.old.seat.now tx.new.seat.now
+            (record { target = self.now.number; op = op.Least }) result }
+    {
+        tx.call(Call {
+            target: self.number,
+            op: Op::Least,
+        })
+    }
+
+    /// One more copy of the element: `Done`, or `Full` at the limit of copies, and nothing is changed.
+    pub fn insert<V: Value>(&self, tx: &mut Tx<'_, V>, element: u64) -> Result<Reply<V>, Refusal>
+        requires ready { IsReady tx.old.table.now tx.old.seat.now }
+        requires since { HasBegunSince tx.old.table.now tx.old.seat.now }
+        ensures same_reference { tx.new.seat.ghost_name ≡ tx.old.seat.ghost_name }
+        ensures same_table { tx.new.table.now ≡ tx.old.table.now }
+        ensures called { HasCalled tx.old.table.now tx.old.seat.now tx.new.seat.now
+            (record { target = self.now.number; op = op.Insert element }) result }
+    {
+        tx.call(Call {
+            target: self.number,
+            op: Op::Insert(element),
+        })
+    }
+
+    /// One copy of the least element is taken: `Found`, or `Nothing` where there is none.
+    pub fn take_least<V: Value>(&self, tx: &mut Tx<'_, V>) -> Result<Reply<V>, Refusal>
+        requires ready { IsReady tx.old.table.now tx.old.seat.now }
+        requires since { HasBegunSince tx.old.table.now tx.old.seat.now }
+        ensures same_reference { tx.new.seat.ghost_name ≡ tx.old.seat.ghost_name }
+        ensures same_table { tx.new.table.now ≡ tx.old.table.now }
+        ensures called { HasCalled tx.old.table.now tx.old.seat.now tx.new.seat.now
+            (record { target = self.now.number; op = op.TakeLeast }) result }
+    {
+        tx.call(Call {
+            target: self.number,
+            op: Op::TakeLeast,
+        })
+    }
+}

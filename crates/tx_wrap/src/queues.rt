@@ -1,0 +1,82 @@
+//! A queue.
+ghost use Rattle.std.specs.Prelude.{◌≡◌};
+ghost use Rattle.seq_model.specs.declared.call.Op.TheVariants as op;
+ghost use Rattle.transactions.specs.Ready.{HasBegunSince, IsReady};
+ghost use Rattle.tx_wrap.specs.Called.{HasCalled};
+
+use seq_model::{Call, Op, Refusal, Reply, Value};
+use transactions::Tx;
+
+/// The queue of this number.
+#[derive(Clone, Copy)]
+pub struct TQueue {
+    number: u32,
+}
+
+impl TQueue {
+    pub fn new(number: u32) -> TQueue
+        ensures { result.number ≡ number }
+    {
+        TQueue { number }
+    }
+
+    /// The item is the last one: `Done`, or `Full` at the limit of the index, and nothing is changed.
+    pub fn enqueue<V: Value>(&self, tx: &mut Tx<'_, V>, item: u64) -> Result<Reply<V>, Refusal>
+        requires ready { IsReady tx.old.table.now tx.old.seat.now }
+        requires since { HasBegunSince tx.old.table.now tx.old.seat.now }
+        ensures same_reference { tx.new.seat.ghost_name ≡ tx.old.seat.ghost_name }
+        ensures same_table { tx.new.table.now ≡ tx.old.table.now }
+        ensures called { HasCalled tx.old.table.now tx.old.seat.now tx.new.seat.now
+            (record { target = self.now.number; op = op.Enqueue item }) result }
+    {
+        tx.call(Call {
+            target: self.number,
+            op: Op::Enqueue(item),
+        })
+    }
+
+    /// The first item is taken off: `Found`, or `Nothing` where there is none.
+    pub fn dequeue<V: Value>(&self, tx: &mut Tx<'_, V>) -> Result<Reply<V>, Refusal>
+        requires ready { IsReady tx.old.table.now tx.old.seat.now }
+        requires since { HasBegunSince tx.old.table.now tx.old.seat.now }
+        ensures same_reference { tx.new.seat.ghost_name ≡ tx.old.seat.ghost_name }
+        ensures same_table { tx.new.table.now ≡ tx.old.table.now }
+        ensures called { HasCalled tx.old.table.now tx.old.seat.now tx.new.seat.now
+            (record { target = self.now.number; op = op.Dequeue }) result }
+    {
+        tx.call(Call {
+            target: self.number,
+            op: Op::Dequeue,
+        })
+    }
+
+    /// The first item: `Found`, or `Nothing` where there is none.
+    pub fn peek<V: Value>(&self, tx: &mut Tx<'_, V>) -> Result<Reply<V>, Refusal>
+        requires ready { IsReady tx.old.table.now tx.old.seat.now }
+        requires since { HasBegunSince tx.old.table.now tx.old.seat.now }
+        ensures same_reference { tx.new.seat.ghost_name ≡ tx.old.seat.ghost_name }
+        ensures same_table { tx.new.table.now ≡ tx.old.table.now }
+        ensures called { HasCalled tx.old.table.now tx.old.seat.now tx.new.seat.now
+            (record { target = self.now.number; op = op.Peek }) result }
+    {
+        tx.call(Call {
+            target: self.number,
+            op: Op::Peek,
+        })
+    }
+
+    /// How many items the queue has: `Number`.
+    pub fn len<V: Value>(&self, tx: &mut Tx<'_, V>) -> Result<Reply<V>, Refusal>
+        requires ready { IsReady tx.old.table.now tx.old.seat.now }
+        requires since { HasBegunSince tx.old.table.now tx.old.seat.now }
+        ensures same_reference { tx.new.seat.ghost_name ≡ tx.old.seat.ghost_name }
+        ensures same_table { tx.new.table.now ≡ tx.old.table.now }
+        ensures called { HasCalled tx.old.table.now tx.old.seat.now tx.new.seat.now
+            (record { target = self.now.number; op = op.Len }) result }
+    {
+        tx.call(Call {
+            target: self.number,
+            op: Op::Len,
+        })
+    }
+}
