@@ -1,14 +1,16 @@
 -- What is said of a fault. A line is written piece by piece: what has been written is always a beginning of it, and the next
--- piece makes it a longer one; a line that was begun behind a whole text is a beginning of both.
-use Rattle.std.proofs.Common.{◌≡◌, ◌≢◌, ◌∙◌, refl, sym, ap, subst, inl, inr, ℕ, ◌+◌, ◌-◌, ◌<◌, List, [], ◌∷◌, ◌++◌, length, take, take_all, drop, length-drop, take-append-drop, append_assoc, Option, arith}
-use Rattle.std.specs.Prelude.{IfSome}
+-- piece makes it a longer one; a line that was begun behind a whole text is a beginning of both. Want of memory
+-- is why nothing is printed, whatever is known of the file.
+use Rattle.std.proofs.Common.{◌∙◌, refl, sym, ap, ℕ, ◌+◌, ◌-◌, subst, List, [], ◌∷◌, ◌++◌, length, take, take_all, drop, length-drop, take-append-drop, append_assoc, Option, Some, None, arith}
 use Rattle.std.proofs.Math.Seq.{take-add}
 use Rattle.std.proofs.KnownBytes.{Appends-trans}
 use Rattle.std.specs.Io.KnownBytes.{Appends}
-use Rattle.command_line.specs.declared.tool.ReadFault.{ReadFault}
-use Rattle.command_line.specs.declared.tool.ReadFault.TheVariants as read
-use Rattle.command_line.specs.declared.tool.TheConstants.{FILE_LIMIT}
-use Rattle.command_line.specs.Ends.{HasBegun, HasToldFault, file_fault_text, line_of}
+use Rattle.seq_model.specs.declared.refusal.Refusal.TheVariants.{OutOfMemory}
+use Rattle.session_files.specs.declared.fault.RunFault.TheVariants.{Refused}
+use Rattle.command_line.specs.declared.work.Cause.TheVariants.{Ended}
+use Rattle.command_line.specs.declared.work.Work.{Work}
+use Rattle.command_line.specs.declared.work.Work.TheVariants.{Step, Vacation}
+use Rattle.command_line.specs.Ends.{HasBegun, IsCause, IsFaultOf, IsTextOf, line_of}
 
 pub written_on : (old now new : Option (List ℕ)) (w n : ℕ) (bytes : List ℕ)
     → Appends old now (take w bytes) → Appends now new (take n (take (length bytes - w) (drop w bytes)))
@@ -36,9 +38,14 @@ line_begun old now new text whole end = record {
   grown = Appends-trans old now new _ _ whole end.grown;
 }
 
-pub told_of_file : (cause : ReadFault) (known old new : Option (List ℕ))
-    → (cause ≡ read.TooLong → IfSome known (λ bytes. FILE_LIMIT < length bytes)) → cause ≢ read.OutOfMemory
-    → HasBegun old new (line_of (file_fault_text cause)) → HasToldFault known old new
-told_of_file read.Unreadable known old new long other told = inl told
-told_of_file read.TooLong known old new long other told = inr (inl (long refl, told))
-told_of_file read.OutOfMemory known old new long other told = absurd (other refl)
+-- any bytes, where nothing is known of the text
+text_of : (known : Option (List ℕ)) → (text : List ℕ) × IsTextOf known text
+text_of None = ([], tt)
+text_of (Some bytes) = (bytes, refl)
+
+memory_refuses : (work : Work) (text : List ℕ) → IsFaultOf work text (Refused OutOfMemory)
+memory_refuses Step text = tt
+memory_refuses Vacation text = tt
+
+pub memory_is_cause : (work : Work) (known : Option (List ℕ)) → IsCause work known (Ended (Refused OutOfMemory))
+memory_is_cause work known = let text = text_of known in (text.0, (text.1, memory_refuses work text.0))

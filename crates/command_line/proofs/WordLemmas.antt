@@ -1,13 +1,13 @@
 -- What clap's answer says of the words.
-use Rattle.std.proofs.Common.{◌≡◌, ◌∙◌, refl, sym, ap, ap₂, inl, inr, List, [], ◌∷◌, Option, Some, None, option_map}
-use Rattle.std.specs.Prelude.{unwrap_or}
+use Rattle.std.proofs.Common.{◌≡◌, ◌∙◌, refl, sym, ap, inl, inr, List, [], ◌∷◌, Option, Some, None, option_map, codes}
+use Rattle.std.specs.Prelude.{option_and_then}
 use Rattle.std.specs.Box.{box_value}
-use Rattle.clap.specs.Words.{HasKind, IsAmong, Kinds, Row, Text, found_of, kind_of, rows_of, subcommand_name_of, subcommand_rows_of}
+use Rattle.clap.specs.Words.{HasKind, IsAmong, Kinds, Row, Text, first_of, found_of, kind_of, rows_of, subcommand_name_of, subcommand_rows_of}
 use Rattle.clap.specs.declared.error.Error.{Error}
 use Rattle.clap.specs.declared.error.kind.ErrorKind.TheVariants as kind
 use Rattle.clap.specs.declared.parser.matches.ArgMatches.{ArgMatches}
 use Rattle.clap.specs.declared.parser.matches.ArgMatches.TheViews.{out-ArgMatches, out-SubCommand}
-use Rattle.command_line.specs.Words.{AskForInformation, IsInformation, faults, if_none}
+use Rattle.command_line.specs.Words.{AskForInformation, IsInformation, faults, file_word, if_none, work_by, work_of}
 
 -- an error that is not of memory is one of the words' faults
 pub is_fault : (kinds : Kinds) (error : Error) → HasKind kinds error → (kind_of error ≡ kind.OutOfMemory → ⊥)
@@ -32,23 +32,20 @@ asks_for_information words error has (inr version) =
     inr (rw (sym version) (is_fault (faults words) error has (λ memory.
     let no : kind.DisplayVersion ≡ kind.OutOfMemory = sym version ∙ memory in cc)))
 
-pair_of : {B : Type 0} (met : Option B) (both : B → Text × List Row) (name : Text) (rows : List Row)
-    → option_map (λ (p : Text × List Row). p.1) (option_map both met) ≡ Some rows → option_map (λ b. (both b).0) met ≡ Some name
-    → option_map both met ≡ Some (name, rows)
-pair_of None both name rows has-rows has-name = cc
-pair_of (Some b) both name rows has-rows has-name =
-    let rows_are : (both b).1 ≡ rows = ap (λ (o : Option (List Row)). unwrap_or o []) has-rows in
-    let name_is : (both b).0 ≡ name = ap (λ (o : Option Text). unwrap_or o []) has-name in
-    ap₂ (λ (n : Text) (rs : List Row). let p : Text × List Row = (n, rs) in Some p) name_is rows_are
+-- the subcommand that was met has its name, and what stands in FILE's place is in its rows
+name_of : {B : Type 0} (met : Option B) (both : B → Text × List Row)
+    → option_map (λ (p : Text × List Row). p.0) (option_map both met) ≡ option_map (λ b. (both b).0) met
+name_of None both = refl
+name_of (Some b) both = refl
 
--- the subcommand that was met, by its name and its rows
-pub subcommand_met : (m : ArgMatches) (name : Text) (rows : List Row)
-    → option_map (λ (p : Text × List Row). p.1) (subcommand_rows_of m) ≡ Some rows → subcommand_name_of m ≡ Some name
-    → subcommand_rows_of m ≡ Some (name, rows)
-subcommand_met m name rows has-rows has-name =
-    pair_of (out-ArgMatches m).subcommand (λ b. (
+pub work_met : (m : ArgMatches) → work_of (subcommand_rows_of m) ≡ work_by (subcommand_name_of m)
+work_met m =
+    ap work_by (name_of (out-ArgMatches m).subcommand (λ b. (
       (out-SubCommand (box_value b)).name.now,
       rows_of
           (found_of (out-SubCommand (box_value b)).matches),
-    ))
-    name rows has-rows has-name
+    )))
+
+pub file_in_rows : (met : Option (Text × List Row)) → file_word met ≡ option_and_then (first_of (codes "FILE")) (option_map (λ p. p.1) met)
+file_in_rows None = refl
+file_in_rows (Some p) = refl

@@ -4,7 +4,7 @@ use Rattle.std.specs.Io.KnownBytes.{Appends}
 use Rattle.clap.specs.Words.{Text}
 use Rattle.seq_model.specs.declared.refusal.Refusal.{Refusal}
 use Rattle.seq_model.specs.declared.refusal.Refusal.TheVariants.{BadText, OutOfMemory}
-use Rattle.seq_model.specs.Texts.{memory_text, refusal_text, too_long_text}
+use Rattle.seq_model.specs.Texts.{refusal_text, too_long_text}
 use Rattle.running_world.specs.Traces.{IsSerialTrace}
 use Rattle.step_script.specs.declared.script.Script.{Script}
 use Rattle.step_script.specs.Scripts.{IsBadLine, IsScriptText}
@@ -13,11 +13,19 @@ use Rattle.session_text.specs.Audits.{IsAudited}
 use Rattle.session_text.specs.Plays.{IsRunOf}
 use Rattle.session_text.specs.Scripts.{IsOpeningOf, IsRefusedScript}
 use Rattle.session_text.specs.Prints.{run_text}
-use Rattle.command_line.specs.declared.tool.TheConstants.{FILE_LIMIT}
-use Rattle.command_line.specs.declared.tool.ReadFault.{ReadFault}
-use Rattle.command_line.specs.declared.tool.ReadFault.TheVariants.{Unreadable}
-use Rattle.command_line.specs.declared.tool.ReadFault.TheVariants as read
-use Rattle.command_line.specs.Words.{AreTaken, AskForInformation}
+use Rattle.session_files.specs.declared.fault.RunFault.{RunFault}
+use Rattle.session_files.specs.declared.fault.RunFault.TheVariants.{Audit, NotBalanced, Refused}
+use Rattle.session_files.specs.Faults as faults
+use Rattle.session_files.specs.Outputs as outputs
+use Rattle.command_line.specs.declared.tool.TheConstants.{AUDIT_FAULT, MEMORY, REFUSED}
+use Rattle.command_line.specs.declared.work.TheConstants.{FILE_LIMIT}
+use Rattle.command_line.specs.declared.work.Cause.{Cause}
+use Rattle.command_line.specs.declared.work.Cause.TheVariants.{Ended, TooLong, Unreadable}
+use Rattle.command_line.specs.declared.work.Work.{Work}
+use Rattle.command_line.specs.declared.work.Work.TheVariants.{Step, Vacation}
+use Rattle.command_line.specs.Words.{AreTaken, AskForInformation, work_named}
+
+-- ---- what is printed of a text
 
 -- a text spells a script, and this run is what came of its lines from its opening, with a trace in serial order
 pub record HasRun (text : List ℕ) (run : ScriptRun) : Type 0 where
@@ -34,26 +42,53 @@ pub record IsOutput (text bytes : List ℕ) : Type 0 where
   pub audited : IsAudited run
   pub printed : bytes ≡ run_text run
 
--- why a text has no output: a line is outside the grammar, memory was refused, or it spells a script that is refused
-abbrev pub IsFault : List ℕ → Refusal → Type 0
-IsFault text (BadText line) = IsBadLine text line
-IsFault text OutOfMemory = ⊤
-IsFault text refusal = (script : Script) × (IsScriptText text script × IsRefusedScript script refusal)
+-- why it is refused: a line is outside the grammar, memory was refused, or it spells a script that is refused
+abbrev pub IsRefusedText : List ℕ → Refusal → Type 0
+IsRefusedText text (BadText line) = IsBadLine text line
+IsRefusedText text OutOfMemory = ⊤
+IsRefusedText text refusal = (script : Script) × (IsScriptText text script × IsRefusedScript script refusal)
+
+-- why it has no output: it is refused, and nothing else
+abbrev pub IsFault : List ℕ → RunFault → Type 0
+IsFault text (Refused refusal) = IsRefusedText text refusal
+IsFault text fault = ⊥
+
+-- what a text prints where this work is asked for
+abbrev pub IsOutputOf : Work → List ℕ → List ℕ → Type 0
+IsOutputOf Step text bytes = IsOutput text bytes
+IsOutputOf Vacation text bytes = outputs.IsOutput text bytes
+
+-- why it has no output
+abbrev pub IsFaultOf : Work → List ℕ → RunFault → Type 0
+IsFaultOf Step text fault = IsFault text fault
+IsFaultOf Vacation text fault = faults.IsFault text fault
+
+-- ---- what is printed of a file
+
+-- these bytes came from a reader of whose text this is known
+abbrev pub IsTextOf : Option (List ℕ) → List ℕ → Type 0
+IsTextOf known text = IfSome known (λ bytes. text ≡ bytes)
+
+-- what a file of which this is known prints
+abbrev pub IsKnownOutput : Work → Option (List ℕ) → List ℕ → Type 0
+IsKnownOutput work known bytes = (text : List ℕ) × (IsTextOf known text × IsOutputOf work text bytes)
+
+-- why nothing is printed of it: it can't be read, is too long, or its text has no output
+abbrev pub IsCause : Work → Option (List ℕ) → Cause → Type 0
+IsCause work known Unreadable = ⊤
+IsCause work known TooLong = IfSome known (λ bytes. FILE_LIMIT < length bytes)
+IsCause work known (Ended fault) = (text : List ℕ) × (IsTextOf known text × IsFaultOf work text fault)
 
 -- the words are taken, and what is known of the text to be read is no longer than a file may be
 pub record IsRead (words : List Text) (text : Option (List ℕ)) : Type 0 where
   pub taken : AreTaken words
   pub within : IfSome text (λ bytes. length bytes ≤ FILE_LIMIT)
 
--- these bytes came from a reader of whose text this is known
-abbrev pub IsTextOf : Option (List ℕ) → List ℕ → Type 0
-IsTextOf known text = IfSome known (λ bytes. text ≡ bytes)
-
 -- status 0: the output of the text that was read, or help or the version, stands at the end of what the writer holds
 abbrev pub HasWorked : List Text → Option (List ℕ) → Option (List ℕ) → Option (List ℕ) → Type 0
 HasWorked words known old new =
     AskForInformation words
-    ⊎ (IsRead words known × ((text : List ℕ) × IsTextOf known text × (bytes : List ℕ) × IsOutput text bytes × Appends old new bytes))
+    ⊎ (IsRead words known × ((bytes : List ℕ) × (IsKnownOutput (work_named words) known bytes × Appends old new bytes)))
 
 -- ---- what is said of a fault
 
@@ -64,13 +99,27 @@ line_of text = text ++ (10 ∷ [])
 abbrev pub unreadable_text : List ℕ
 unreadable_text = codes "cannot read the file"
 
-abbrev pub audit_fault_line : List ℕ
-audit_fault_line = line_of (codes "audit fault")
+abbrev pub fault_text : RunFault → List ℕ
+fault_text (Refused refusal) = refusal_text refusal
+fault_text Audit = codes "audit fault"
+fault_text NotBalanced = codes "not balanced"
 
-abbrev pub file_fault_text : ReadFault → List ℕ
-file_fault_text Unreadable = unreadable_text
-file_fault_text read.TooLong = too_long_text
-file_fault_text read.OutOfMemory = memory_text
+abbrev pub cause_text : Cause → List ℕ
+cause_text Unreadable = unreadable_text
+cause_text TooLong = too_long_text
+cause_text (Ended fault) = fault_text fault
+
+abbrev pub refusal_status : Refusal → ℕ
+refusal_status OutOfMemory = MEMORY
+refusal_status refusal = REFUSED
+
+abbrev pub fault_status : RunFault → ℕ
+fault_status (Refused refusal) = refusal_status refusal
+fault_status fault = AUDIT_FAULT
+
+abbrev pub status_of : Cause → ℕ
+status_of (Ended fault) = fault_status fault
+status_of cause = REFUSED
 
 -- known bytes have grown by a beginning of the line: by all of it, but where a write failed
 pub record HasBegun (old new : Option (List ℕ)) (line : List ℕ) : Type 0 where
@@ -79,22 +128,13 @@ pub record HasBegun (old new : Option (List ℕ)) (line : List ℕ) : Type 0 whe
   pub whole : line ≡ begun ++ left
   pub grown : Appends old new begun
 
--- a text is refused, and its refusal's text is said
-pub record HasToldRefusal (text : List ℕ) (old new : Option (List ℕ)) : Type 0 where
-  pub cause : Refusal
-  pub fault : IsFault text cause
-  pub said : HasBegun old new (line_of (refusal_text cause))
+-- why nothing is printed of the file is said; it is no want of memory
+pub record HasToldFault (work : Work) (known old new : Option (List ℕ)) : Type 0 where
+  pub cause : Cause
+  pub is_cause : IsCause work known cause
+  pub refused : status_of cause ≡ REFUSED
+  pub said : HasBegun old new (line_of (cause_text cause))
 
--- of a file: it can't be read, is too long, or its text is refused
-abbrev pub HasToldFault : Option (List ℕ) → Option (List ℕ) → Option (List ℕ) → Type 0
-HasToldFault known old new =
-    HasBegun old new (line_of unreadable_text)
-    ⊎ ((IfSome known (λ bytes. FILE_LIMIT < length bytes) × HasBegun old new (line_of too_long_text))
-    ⊎ ((text : List ℕ) × (IsTextOf known text × HasToldRefusal text old new)))
-
--- the text has an output
-abbrev pub HasOutput : List ℕ → Type 0
-HasOutput text = (bytes : List ℕ) × IsOutput text bytes
-
-abbrev pub IsKnownOutput : Option (List ℕ) → Type 0
-IsKnownOutput known = (text : List ℕ) × (IsTextOf known text × HasOutput text)
+-- the file has an output
+abbrev pub HasOutput : Work → Option (List ℕ) → Type 0
+HasOutput work known = (bytes : List ℕ) × IsKnownOutput work known bytes

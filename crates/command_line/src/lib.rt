@@ -1,12 +1,14 @@
 //! The program over a reader and two writers: its words, its file, and its exit status.
 //!
-//! `run_tool` does the work, `file_of` tells which file the words name, and `run_file` goes on with that file as it was
-//! opened; only this crate knows how words are read.
+//! `file_of` tells which file the words name, `run_file` goes on with that file as it was opened, and `run_tool` does the
+//! work that the words name on what a reader gives. How words are read is known in `words` alone; `work` makes of the text what is
+//! to be printed, or tells why nothing is; `tool` prints it, or the fault, and answers the status.
 #![tactic(auto)]
 
 mod tool;
+mod words;
+mod work;
 
-pub use tool::{
-    AUDIT_FAULT, DONE, FILE_LIMIT, MEMORY, REFUSED, fault, file_of, refuse_memory, run_file,
-    run_tool,
-};
+pub use tool::{AUDIT_FAULT, DONE, MEMORY, REFUSED, fault, refuse_memory, run_file, run_tool};
+pub use words::file_of;
+pub use work::FILE_LIMIT;

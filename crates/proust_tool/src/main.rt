@@ -1,4 +1,4 @@
-//! The program: runs step scripts.
+//! The program: runs step scripts and session files.
 //!
 //! `run_tool` does the work over any reader and writers; `main` hands it the file, or standard input, and the
 //! standard streams.

@@ -1,8 +1,9 @@
-//! Tests of the program: whole runs over step scripts, from the text to what is printed.
+//! Tests of the program: whole runs over step scripts and session files, from the text to what is printed.
 //!
-//! They are sections of the file `stdin`, each closed by `----`: a name, and behind it the script, to the byte. Each is run as
-//! `step -`, and its name is printed with what the run wrote, to which stream, and its status where that is not 0. What all must
-//! print stands in the file `stdout`. So the crate is proved once, however many sections there are.
+//! They are sections of the file `stdin`, each closed by `----`: a name, and behind it the text, to the byte. Each is run by the words
+//! that stand in its name behind ` | `, and by `step -` where none do. Its name is printed with what the run wrote, to which
+//! stream, and its status where that is not 0. What all must print stands in the file `stdout`. So the crate is proved once,
+//! however many sections there are.
 #![tactic(auto)]
 
 use command_line::{DONE, MEMORY, run_tool};
@@ -41,36 +42,37 @@ fn refuse(rt: &HostRuntime, error: &io::Error) -> u8 {
 }
 
 fn run_all(alloc: Global, sections: &str) -> Result<String, AllocError> {
-    let words = step_words(alloc)?;
     let mut text = String::new(alloc);
-    run_each(&mut text, words.as_slice(), sections)?;
+    run_each(&mut text, sections)?;
     Ok(text)
 }
 
-fn step_words(alloc: Global) -> Result<Vec<String>, AllocError> {
+fn words_of(alloc: Global, name: &str) -> Result<Vec<String>, AllocError> {
+    let (_, asked) = name.split_once(" | ").unwrap_or((name, "step -"));
     let mut words = Vec::new(alloc);
-    for word in ["step", "-"].as_slice() {
+    for word in asked.split(' ') {
         words.push(String::from_str(alloc, word)?)?;
     }
     Ok(words)
 }
 
-fn run_each(text: &mut String, words: &[String], sections: &str) -> Result<(), AllocError> {
+fn run_each(text: &mut String, sections: &str) -> Result<(), AllocError> {
     for section in sections.split("----\n") {
-        if let Some((name, script)) = section.split_once('\n') {
+        if let Some((name, file)) = section.split_once('\n') {
             writeln!(text, "# {name}")?;
-            run_section(text, words, script)?;
+            run_section(text, name, file)?;
         }
     }
     Ok(())
 }
 
-fn run_section(text: &mut String, words: &[String], script: &str) -> Result<(), AllocError> {
+fn run_section(text: &mut String, name: &str, file: &str) -> Result<(), AllocError> {
     let alloc = *text.allocator();
+    let words = words_of(alloc, name)?;
     let mut out: Vec<u8> = Vec::with_capacity(alloc, ROOM)?;
     let mut err: Vec<u8> = Vec::with_capacity(alloc, ROOM)?;
-    let mut reader = script.as_bytes();
-    let status = run_tool(alloc, words, &mut reader, &mut out, &mut err);
+    let mut reader = file.as_bytes();
+    let status = run_tool(alloc, words.as_slice(), &mut reader, &mut out, &mut err);
     print_run(text, status, out.as_slice(), err.as_slice())
 }
 

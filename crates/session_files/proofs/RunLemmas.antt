@@ -29,8 +29,8 @@ use Rattle.session_script.specs.declared.print.Line.TheVariants.{Done}
 use Rattle.session_lines.specs.Receipts.{AreLines, AreReceipts}
 use Rattle.ordered_sessions.specs.Orders as orders
 use Rattle.ordered_sessions.specs.Orders.{of_client}
-use Rattle.session_files.specs.declared.fault.SessionFault.{SessionFault}
-use Rattle.session_files.specs.declared.fault.SessionFault.TheVariants.{Refused, Audit, NotBalanced}
+use Rattle.session_files.specs.declared.fault.RunFault.{RunFault}
+use Rattle.session_files.specs.declared.fault.RunFault.TheVariants.{Refused, Audit, NotBalanced}
 use Rattle.session_files.specs.Findings.{IsFinding, IsSound}
 use Rattle.session_files.specs.Runs.{AreTold}
 
@@ -87,7 +87,7 @@ alone (r ∷ rs) = ap (λ xs. r ∷ xs) (alone rs)
 
 -- an inspection of the receipts, and of the tables that their actions leave, finds nothing
 pub finds_nothing : (tables left : Holdings) (actions : List Action) (opening s : Contents Entry) (rs seen : List (Record Entry))
-    (fault : SessionFault) → IsBalanced tables → RunsAreActions → (are : orders.AreReceipts tables actions rs s)
+    (fault : RunFault) → IsBalanced tables → RunsAreActions → (are : orders.AreReceipts tables actions rs s)
     → left ≡ after_deals are.deals tables → opening ≡ state_of tables → seen ≡ rs → IsFinding opening seen s left fault
     → fault ≡ Refused OutOfMemory
 finds_nothing tables left actions opening s rs seen (Refused refusal) balanced law are at opens same found = ap Refused found

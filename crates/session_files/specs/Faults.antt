@@ -4,15 +4,15 @@ use Rattle.seq_model.specs.declared.auditing.AuditFault.{AuditFault}
 use Rattle.seq_model.specs.declared.auditing.AuditFault.TheVariants as audit
 use Rattle.seq_model.specs.declared.refusal.Refusal.TheVariants.{BadText, OutOfMemory}
 use Rattle.session_script.specs.Sessions.{IsUnreadable}
-use Rattle.session_files.specs.declared.fault.SessionFault.{SessionFault}
-use Rattle.session_files.specs.declared.fault.SessionFault.TheVariants.{Refused, Audit}
+use Rattle.session_files.specs.declared.fault.RunFault.{RunFault}
+use Rattle.session_files.specs.declared.fault.RunFault.TheVariants.{Refused, Audit}
 
 -- want of memory is no finding of an audit
-abbrev pub audit_fault : AuditFault → SessionFault
+abbrev pub audit_fault : AuditFault → RunFault
 audit_fault audit.OutOfMemory = Refused OutOfMemory
 audit_fault fault = Audit
 
 -- A line is outside the grammar, or a growth was refused; nothing else.
-abbrev pub IsFault : List ℕ → SessionFault → Type 0
+abbrev pub IsFault : List ℕ → RunFault → Type 0
 IsFault text (Refused refusal) = IsUnreadable text refusal
 IsFault text fault = ⊥

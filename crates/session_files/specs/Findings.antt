@@ -9,8 +9,8 @@ use Rattle.seq_model.specs.Contents.{Contents}
 use Rattle.vac_model.specs.Balanced.{IsBalanced}
 use Rattle.vac_model.specs.Holdings.{Holdings}
 use Rattle.vacation_core.specs.declared.entry.Entry.{Entry}
-use Rattle.session_files.specs.declared.fault.SessionFault.{SessionFault}
-use Rattle.session_files.specs.declared.fault.SessionFault.TheVariants.{Refused, Audit, NotBalanced}
+use Rattle.session_files.specs.declared.fault.RunFault.{RunFault}
+use Rattle.session_files.specs.declared.fault.RunFault.TheVariants.{Refused, Audit, NotBalanced}
 
 -- the receipts are a run from one state to the other, and the tables are balanced
 pub record IsSound (opening : Contents Entry) (receipts : List (Record Entry)) (last : Contents Entry) (tables : Holdings) : Type 0 where
@@ -18,7 +18,7 @@ pub record IsSound (opening : Contents Entry) (receipts : List (Record Entry)) (
   pub balanced : IsBalanced tables
 
 -- there is a fault in the receipts, or the tables are not balanced, or memory was refused
-abbrev pub IsFinding : Contents Entry → List (Record Entry) → Contents Entry → Holdings → SessionFault → Type 0
+abbrev pub IsFinding : Contents Entry → List (Record Entry) → Contents Entry → Holdings → RunFault → Type 0
 IsFinding opening receipts last tables Audit =
     (fault : AuditFault) × ((fault ≢ audit.OutOfMemory) × IsAuditFault opening receipts last fault)
 IsFinding opening receipts last tables NotBalanced = ¬ IsBalanced tables

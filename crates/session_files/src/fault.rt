@@ -1,45 +1,45 @@
-//! Why a session file has no output.
+//! Why a text has no output.
 ghost use Rattle.std.specs.Prelude.{◌≡◌};
-ghost use Rattle.session_files.specs.declared.fault.SessionFault.TheVariants.{Refused};
+ghost use Rattle.session_files.specs.declared.fault.RunFault.TheVariants.{Refused};
 ghost use Rattle.seq_model.specs.declared.refusal.Refusal.TheVariants.{OutOfMemory};
 ghost use Rattle.session_files.specs.Faults.{audit_fault};
 
 use seq_model::{AuditFault, Memory, Refusal};
 
-/// Why a session file has no output: it is refused, or what came of its sessions does not hold water.
+/// Why a text has no output: it is refused, or what came of its run does not hold water. A step script ends by the same causes.
 #[derive(Drop, Debug)]
-pub enum SessionFault {
-    /// The text is outside the grammar, or a growth was refused.
+pub enum RunFault {
+    /// The text is outside the grammar, or a growth was refused. A step script may also be beyond a limit.
     Refused(Refusal),
-    /// The receipts are no run from the tables of the file to those that are left.
+    /// What was committed is no run from the opening to what is left.
     Audit,
-    /// The tables that are left are not balanced.
+    /// The reservation tables that are left are not balanced.
     NotBalanced,
 }
 
-impl From<Refusal> for SessionFault {
+impl From<Refusal> for RunFault {
     ghost from_gives = { λ refusal fault. fault ≡ Refused refusal };
 
-    fn from(refusal: Refusal) -> SessionFault {
-        SessionFault::Refused(refusal)
+    fn from(refusal: Refusal) -> RunFault {
+        RunFault::Refused(refusal)
     }
 }
 
-impl From<Memory> for SessionFault {
+impl From<Memory> for RunFault {
     ghost from_gives = { λ _ fault. fault ≡ Refused OutOfMemory };
 
-    fn from(_memory: Memory) -> SessionFault {
-        SessionFault::Refused(Refusal::OutOfMemory)
+    fn from(_memory: Memory) -> RunFault {
+        RunFault::Refused(Refusal::OutOfMemory)
     }
 }
 
-impl From<AuditFault> for SessionFault {
+impl From<AuditFault> for RunFault {
     ghost from_gives = { λ cause fault. fault ≡ audit_fault cause };
 
-    fn from(cause: AuditFault) -> SessionFault {
+    fn from(cause: AuditFault) -> RunFault {
         match cause {
-            AuditFault::OutOfMemory => SessionFault::Refused(Refusal::OutOfMemory),
-            _ => SessionFault::Audit,
+            AuditFault::OutOfMemory => RunFault::Refused(Refusal::OutOfMemory),
+            _ => RunFault::Audit,
         }
     }
 }

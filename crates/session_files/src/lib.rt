@@ -8,6 +8,6 @@ mod fault;
 mod output;
 mod runs;
 
-pub use fault::SessionFault;
+pub use fault::RunFault;
 pub use output::output_of;
 pub use runs::{SessionRun, inspect, run_sessions};

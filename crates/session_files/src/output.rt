@@ -3,7 +3,7 @@ ghost use Rattle.std.specs.Prelude.{◌≡◌, ◌++◌, IfErr, IfOk};
 ghost use Rattle.session_files.specs.Faults.{IsFault};
 ghost use Rattle.session_files.specs.Outputs.{IsOutput, ending};
 
-use crate::fault::SessionFault;
+use crate::fault::RunFault;
 use crate::runs::run_sessions;
 use seq_model::Memory;
 use session_script::{parse_sessions, print_sessions};
@@ -13,7 +13,7 @@ use std::alloc::Global;
 /// tables are balanced.
 ///
 /// `BadText` names the first line outside the grammar, counted from 1; `OutOfMemory` where a growth was refused.
-pub fn output_of(alloc: Global, text: &[u8]) -> Result<Vec<u8>, SessionFault>
+pub fn output_of(alloc: Global, text: &[u8]) -> Result<Vec<u8>, RunFault>
     ensures output { IfOk result (λ bytes. IsOutput text.now bytes.items) }
     ensures refused { IfErr result (IsFault text.now) }
 {

@@ -3,11 +3,11 @@ ghost use Rattle.std.specs.Prelude.{◌≡◌, All, IfErr, IfOk, OnOk};
 ghost use Rattle.seq_model.specs.declared.refusal.Refusal.TheVariants.{OutOfMemory};
 ghost use Rattle.vac_model.specs.Actions.{IsAllowed};
 ghost use Rattle.vac_model.specs.Balanced.{IsBalanced};
-ghost use Rattle.session_files.specs.declared.fault.SessionFault.TheVariants.{Refused};
+ghost use Rattle.session_files.specs.declared.fault.RunFault.TheVariants.{Refused};
 ghost use Rattle.session_files.specs.Findings.{IsFinding, IsSound};
 ghost use Rattle.session_files.specs.Runs.{IsSessionRun};
 
-use crate::fault::SessionFault;
+use crate::fault::RunFault;
 use ordered_sessions::run_in_order;
 use seq_model::{Record, State, audit};
 use session_lines::lines_of;
@@ -39,13 +39,13 @@ pub fn inspect(
     receipts: &[Record<Entry>],
     last: &State<Entry>,
     tables: &Tables,
-) -> Result<(), SessionFault>
+) -> Result<(), RunFault>
     ensures sound { OnOk result (IsSound opening.now receipts.now last.now tables.now) }
     ensures finding { IfErr result (IsFinding opening.now receipts.now last.now tables.now) }
 {
     audit(alloc, opening, receipts, last)?;
     if !is_balanced_by_tally(alloc, tables)? {
-        return Err(SessionFault::NotBalanced);
+        return Err(RunFault::NotBalanced);
     }
     Ok(())
 }
@@ -57,7 +57,7 @@ pub fn run_sessions(
     alloc: Global,
     tables: Tables,
     actions: &[Action],
-) -> Result<SessionRun, SessionFault>
+) -> Result<SessionRun, RunFault>
     requires balanced { IsBalanced tables }
     requires allowed { All IsAllowed actions.now }
     ensures run { IfOk result (IsSessionRun tables actions.now) }

@@ -1,7 +1,7 @@
 use Rattle.std.proofs.Common.{◌≤◌, vec_len}
 use Rattle.std.specs.Io.KnownBytes.{Consumes}
-use Rattle.command_line.specs.declared.tool.TheConstants.{FILE_LIMIT}
-use Rattle.command_line.proofs.tool.read_file.Given as goal
+use Rattle.command_line.specs.declared.work.TheConstants.{FILE_LIMIT}
+use Rattle.command_line.proofs.work.read_file.Given as goal
 
 abbrev pub invariant-loop-taken : goal.invariant-loop-taken
 invariant-loop-taken g l = record {

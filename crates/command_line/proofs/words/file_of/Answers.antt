@@ -3,7 +3,7 @@ use Rattle.std.specs.String.{string_bytes}
 use Rattle.std.proofs.lemmas.Result.{IfOk-weaker}
 use Rattle.command_line.specs.Words.{faults}
 use Rattle.command_line.proofs.WordLemmas.{is_fault, no_file}
-use Rattle.command_line.proofs.tool.file_of.Goals as goal
+use Rattle.command_line.proofs.words.file_of.Goals as goal
 
 pub returns-in-Err : goal.returns-in-Err
 returns-in-Err c =
