@@ -1,22 +1,28 @@
 #!/usr/bin/env bash
 # Refuses each allocation of a program's stored run in turn.
 #
-#     scripts/refuse_each_allocation_of_program.sh CRATE [--on INPUT].. [FIRST [LAST]]
+#     scripts/refuse_each_allocation_of_program.sh CRATE [--sections | --on INPUT ..] [FIRST [LAST]]
 #
 # Runs the program of CRATE on its files args and stdin with the first allocation refused, then with the
 # second, and so on. Each run must print the file stdout with status 0, or nothing but the line `Memory`
 # with status 2. With --on it reads INPUT in place of stdin, by `step -`, or by `vacation -` where INPUT
 # ends in .sessions, and must print what stands beside INPUT in the file of its name that ends in .out;
-# one build serves all inputs. It ends after LAST, or once eight runs in a row were refused nothing. RT
-# names the command, `rt` by default.
+# one build serves all inputs. With --sections it reads each section of stdin by itself, which `----` closes,
+# and must print the section of stdout in its place, which a line `# NAME` opens. It ends after LAST, or once
+# eight runs in a row were refused nothing. RT names the command, `rt` by default.
 set -u
 
 if [ $# -lt 1 ]; then
-    sed -n '2,13s/^# \{0,1\}//p' "$0"
+    sed -n '2,14s/^# \{0,1\}//p' "$0"
     exit 2
 fi
 crate=$1
 shift
+sections=
+if [ "${1:-}" = --sections ]; then
+    sections=yes
+    shift
+fi
 inputs=()
 while [ "${1:-}" = --on ]; do
     inputs+=("$(realpath -e "${2:?}")") || exit 2
@@ -44,6 +50,24 @@ take_input() {
     wanted=$(cat "$stdout") || exit 2
 }
 
+# refuse_sections: refuses each allocation of the run on each section of the stored input.
+refuse_sections() {
+    local count place
+    awk -v to="$folder/in" 'BEGIN { n = 1 } { print > (to n) } /----$/ { n++ }' stdin
+    awk -v to="$folder/out" '/^# / { n++ } { print > (to n) }' stdout
+    count=$(find "$folder" -name 'in[0-9]*' | wc -l)
+    if [ "$count" -ne "$(find "$folder" -name 'out[0-9]*' | wc -l)" ]; then
+        echo "$crate: stdin and stdout have not as many sections"
+        exit 2
+    fi
+    for place in $(seq "$count"); do
+        stdin=$folder/in$place
+        wanted=$(cat "$folder/out$place")
+        refuse_each "$crate, section $place"
+    done
+    echo "$crate: $count sections, $total refusals"
+}
+
 # refuse_each NAME: refuses each allocation of the run on what was taken.
 refuse_each() {
     local refused=0 quiet=0 n=$first output status
@@ -63,6 +87,7 @@ refuse_each() {
         fi
         n=$((n + 1))
     done
+    total=$((total + refused))
     echo "$1: $refused refusals, each answered by Memory with status 2; none from allocation $((n - quiet)) on"
 }
 
@@ -72,7 +97,10 @@ if ! keep_program -- "${words[@]}" < "$stdin"; then
     echo "$crate: its program was not built"
     exit 1
 fi
-if [ "${#inputs[@]}" -eq 0 ]; then
+total=0
+if [ -n "$sections" ]; then
+    refuse_sections
+elif [ "${#inputs[@]}" -eq 0 ]; then
     refuse_each "$crate"
 fi
 for input in "${inputs[@]}"; do
