@@ -83,7 +83,7 @@ jobs_are_actions tables actions receipts balanced whole ordered run =
     let are : AreActions d.deals receipts tables = runs_are_actions d.deals receipts tables balanced d.sessions run in
     record {
       deals = d.deals;
-      theirs = d.theirs;
+      actions = d.theirs;
       sessions = d.sessions;
       replies = are.done;
       ordered = ordered;

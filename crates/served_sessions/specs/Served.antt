@@ -34,9 +34,9 @@ AreWhole _ _ = ⊥
 
 -- These receipts are those of sessions of these actions, in order, each answered as its action is on the tables that those before it leave.
 -- They are in commit order, and a run from the state of the tables; and s is the state of what they leave, balanced.
-pub record AreServed (tables : Holdings) (actions : List Action) (receipts : List (ℕ × Record Entry)) (s : Contents Entry) : Type 0 where
+pub record AreServed (tables : Holdings) (done : List Action) (receipts : List (ℕ × Record Entry)) (s : Contents Entry) : Type 0 where
   pub deals : List Deal
-  pub theirs : map (λ d. d.0) deals ≡ actions
+  pub actions : map (λ d. d.0) deals ≡ done
   pub sessions : AreSessions deals receipts
   pub replies : AreDone deals tables
   pub ordered : IsInCommitOrder receipts

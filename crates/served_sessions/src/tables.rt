@@ -1,5 +1,6 @@
 //! The tables that a run of sessions leaves.
 ghost use Rattle.std.specs.Prelude.{◌≡◌, IfOk};
+ghost use Rattle.vac_model.specs.Holdings.{Holdings};
 ghost use Rattle.vacation_core.specs.Holding as holding;
 ghost use Rattle.vacation_core.specs.Holding.{HoldsTables};
 
@@ -8,10 +9,11 @@ use std::alloc::Global;
 use vac_model::Tables;
 use vacation_core::{Entry, tables_of};
 
-/// The tables of a state that holds some.
+/// The tables of a state that holds some; no others have this state.
 pub fn tables_left(alloc: Global, state: &State<Entry>) -> Result<Tables, Memory>
     requires { HoldsTables state.now }
-    ensures { IfOk result (λ tables. state.now ≡ holding.state_of tables) }
+    ensures held { IfOk result (λ tables. state.now ≡ holding.state_of tables) }
+    ensures inverse { (tables : Holdings) → state.now ≡ holding.state_of tables → IfOk result (λ same. same ≡ tables) }
 {
     match tables_of(alloc, state) {
         Ok(tables) => Ok(tables),
