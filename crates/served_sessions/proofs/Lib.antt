@@ -1,2 +1,3 @@
 pub mod ArrangeLemmas
 pub mod ServedLemmas
+pub mod SessionLemmas
