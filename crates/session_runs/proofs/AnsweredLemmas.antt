@@ -2,8 +2,8 @@
 -- Its events are plain ones of its actor, so the law of an actor that is alone serves. There is what its session asks of: the world
 -- opened on the word, the five maps and the three queues of tables. Its calls have room, by what sessions cost; and it has asked for no
 -- more commits than it has begun sessions, which are below the limit of the clock.
-use Rattle.std.proofs.Common.{◌≡◌, ◌⊎◌, inl, inr, ℕ, zero, suc, ◌+◌, ◌<◌, ◌≤◌, Bool, true, false, not, List, [], ◌∷◌, ◌++◌, length, Option}
-use Rattle.std.proofs.Common.{Some, None, refl, sym, ◌∙◌, ap, subst, arith}
+use Rattle.std.proofs.Common.{◌≡◌, inl, inr, ℕ, zero, suc, ◌+◌, ◌<◌, ◌≤◌, Bool, true, false, not, List, [], ◌∷◌, length, Option}
+use Rattle.std.proofs.Common.{Some, refl, sym, ◌∙◌, ap, subst, arith}
 use Rattle.std.specs.FinMap.{empty}
 use Rattle.tx_sets.specs.declared.access_set.TheConstants.{LOCATION_LIMIT}
 use Rattle.word_machine.specs.Actor.{clock_limit}
@@ -25,12 +25,11 @@ use Rattle.replay_log.specs.Contents.{Block, block_of}
 use Rattle.replay_log.specs.Guards.{IsAtRest}
 use Rattle.replay_log.specs.Parts.{Kind, MapKind, QueueKind, whole}
 use Rattle.replay_log.specs.WorldAnswers.{IsRefusal}
-use Rattle.replay_log.specs.Worlds.{World, Seat, Stage, Idle, Open, Copying, happens, is_known, is_missing, opened, run}
+use Rattle.replay_log.specs.Worlds.{World, Seat, Stage, Idle, Open, Copying, happens, is_known, is_missing}
 use Rattle.replay_log.proofs.RequestLemmas.{run_by}
 use Rattle.tx_alone.specs.Alone.{ArePlain, HasRoomFor, IsAnswered, IsThere, commits_in, weight, weights}
 use Rattle.tx_alone.proofs.AloneLemmas.{never_refused}
 use Rattle.vac_model.specs.declared.action.Action.{Action}
-use Rattle.vac_model.specs.Holdings.{Holdings}
 use Rattle.vacation_core.specs.declared.entry.Entry.{Entry}
 use Rattle.vacation_core.specs.Holding.{state_of}
 use Rattle.session_costs.specs.Costs.{Fits, IsOn}

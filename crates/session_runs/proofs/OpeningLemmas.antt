@@ -1,6 +1,7 @@
 -- Balanced tables are what a world can hold, wherever a collection may have so many stripes: the indexes of the queues are below the next
--- ticket, and so within the limit of an index (`have_indexes`); each collection is of the kind of its block (`suits`), and has stripes.
-use Rattle.std.proofs.Common.{ℕ, ◌+◌, ◌≤◌, length, refl, arith}
+-- ticket, and so within the limit of an index (`have_indexes`); each collection is of the kind of its block (`suits`), and has stripes; and
+-- there are few locations. So its opening is refused only memory (`never_refused`).
+use Rattle.std.proofs.Common.{◌≡◌, ◌≢◌, ℕ, ◌+◌, ◌≤◌, List, length, refl, arith, subst}
 use Rattle.conflict.specs.Refusals.{IsStripeCount}
 use Rattle.seq_model.specs.declared.limits.TheConstants.{INDEX_LIMIT}
 use Rattle.replay_log.specs.Collections.{Suit}
@@ -10,6 +11,12 @@ use Rattle.vac_model.specs.Holdings.{Holdings, queue}
 use Rattle.vac_model.specs.declared.item.Kind.TheVariants.{Car, Flight, Room}
 use Rattle.vacation_core.specs.Holding.{HaveIndexes, state_of}
 use Rattle.world_table.specs.Openings.{blocks_of}
+use Rattle.seq_model.specs.Contents.{Contents}
+use Rattle.seq_model.specs.Refusals.{IsNoSuchOrTooLong}
+use Rattle.seq_model.specs.declared.refusal.Refusal.{Refusal}
+use Rattle.seq_model.specs.declared.refusal.Refusal.TheVariants.{NoSuch, OutOfMemory, TooLong}
+use Rattle.vacation_core.specs.declared.entry.Entry.{Entry}
+use Rattle.world_table.specs.Openings.{IsWithin}
 use Rattle.session_runs.specs.Openings.{eight}
 
 pub have_indexes : (tables : Holdings) → IsBalanced tables → HaveIndexes tables
@@ -24,3 +31,26 @@ suits n tables within =
 
 pub stripes : (n : ℕ) (tables : Holdings) → IsStripeCount n → HaveStripes (blocks_of (eight n) (state_of tables).held)
 stripes n tables count = (count.0, (count.0, (count.0, (count.0, (count.0, (count.0, (count.0, (count.0, tt))))))))
+
+is_within : (n : ℕ) (tables : Holdings) → IsStripeCount n → IsWithin (eight n) 0 (state_of tables)
+is_within n tables count = record {
+  clock = omega arith;
+  collections = omega arith;
+  stripes = (count, (count, (count, (count, (count, (count, (count, (count, tt))))))));
+  locations = (let few = count.1 in omega (arith, few));
+}
+
+-- an opening on these stripes and this state, which are those of the tables
+pub never_refused : (n : ℕ) (tables : Holdings) (ns : List ℕ) (s : Contents Entry) (cause : Refusal) → IsStripeCount n → ns ≡ eight n
+    → s ≡ state_of tables → IsNoSuchOrTooLong cause (length ns ≢ length s.held) (IsWithin ns 0 s) → (cause ≡ OutOfMemory → ⊥) → ⊥
+never_refused n tables ns s cause count each is refused isnt =
+    by cause (subst (λ (t : Contents Entry). IsNoSuchOrTooLong cause (length (eight n) ≢ length t.held) (IsWithin (eight n) 0 t)) is
+    (subst (λ (ms : List ℕ). IsNoSuchOrTooLong cause (length ms ≢ length s.held) (IsWithin ms 0 s)) each refused)) isnt
+  where
+    by : (cause : Refusal)
+        → IsNoSuchOrTooLong cause (length (eight n) ≢ length (state_of tables).held) (IsWithin (eight n) 0 (state_of tables))
+        → (cause ≡ OutOfMemory → ⊥) → ⊥
+    by NoSuch h isnt = h refl
+    by TooLong h isnt = h.1 (is_within n tables count)
+    by OutOfMemory h isnt = isnt refl
+    by cause h isnt = h

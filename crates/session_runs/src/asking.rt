@@ -9,7 +9,8 @@ use vacation_core::Entry;
 /// Each request is answered within so many steps of its client.
 const STEP_LIMIT: u32 = 1_000_000;
 
-/// A request of the client that is this actor, and then its steps, until something is told. It is told within the bound on steps.
+/// A request of the client that is this actor, and then its steps, until something is told. Of a client that is alone and asks what its
+/// session asks, it is told within the bound on steps; `Quiet`, the last answer, is for worlds of which nothing is promised.
 pub fn ask(
     world: &mut World<Entry>,
     actor: u32,

@@ -5,5 +5,7 @@
 #![tactic(auto)]
 
 mod asking;
+mod opening;
 
 pub use asking::ask;
+pub use opening::open;
