@@ -1,17 +1,14 @@
 -- A world opens on balanced tables wherever a collection may have so many stripes, and the client has done nothing in it.
-use Rattle.std.proofs.Common.{ℕ, ◌+◌, ◌≤◌, List, [], ◌∷◌, length, refl, arith}
+use Rattle.std.proofs.Common.{ℕ, ◌≤◌, [], refl, arith}
 use Rattle.conflict.specs.Refusals.{IsStripeCount}
-use Rattle.seq_model.specs.declared.limits.TheConstants.{INDEX_LIMIT}
-use Rattle.replay_log.specs.Collections.{Suit}
-use Rattle.replay_log.specs.Contents.{HaveStripes}
 use Rattle.replay_log.specs.WorldProgress.{AreSmall}
 use Rattle.vac_model.specs.Balanced.{IsBalanced}
-use Rattle.vac_model.specs.Holdings.{Holdings, queue}
+use Rattle.vac_model.specs.Holdings.{Holdings}
 use Rattle.vac_model.specs.declared.action.Action.{Action}
 use Rattle.vac_model.specs.declared.action.Action.TheVariants.{QueryItem}
-use Rattle.vac_model.specs.declared.item.Kind.TheVariants.{Car, Flight, Room}
+use Rattle.vac_model.specs.declared.item.Kind.TheVariants.{Car}
 use Rattle.vacation_core.specs.declared.entry.Entry.{Entry}
-use Rattle.vacation_core.specs.Holding.{HaveIndexes, state_of}
+use Rattle.vacation_core.specs.Holding.{state_of}
 use Rattle.world_table.specs.Openings.{blocks_of, world_of}
 use Rattle.running_world.specs.Parts.{IsWorld}
 use Rattle.running_world.specs.declared.parts.Parts.{Parts}

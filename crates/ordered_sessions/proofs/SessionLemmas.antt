@@ -1,9 +1,9 @@
 -- A session of the client, from its begin to its commit.
 -- Each request is answered, and by what it is answered the client goes on (`IsAnswered`). The calls follow the session's program: each is
--- the one that is asked after the replies so far, and what is left of the program goes on with its reply.
-use Rattle.std.proofs.Common.{◌≡◌, ℕ, ◌+◌, ◌<◌, ◌≤◌, Bool, true, false, List, [], ◌∷◌, ◌++◌, length, Some, refl, sym, ◌∙◌, ap, subst, arith}
+-- the one that is asked after the replies so far, and what is left of the program goes on with its reply. By the laws of sessions it does
+-- not give up, and asks no more calls than a transaction may have.
+use Rattle.std.proofs.Common.{◌≡◌, ℕ, ◌+◌, ◌<◌, Bool, true, false, List, [], ◌∷◌, ◌++◌, length, Some, refl, sym, ◌∙◌, ap, subst, arith}
 use Rattle.std.specs.Prelude.{if◌then◌else◌}
-use Rattle.word_machine.specs.Actor.{clock_limit}
 use Rattle.seq_model.specs.declared.call.Call.{Call}
 use Rattle.seq_model.specs.declared.call.Reply.{Reply}
 use Rattle.seq_model.specs.declared.event.Answer.TheVariants as answer
@@ -22,8 +22,12 @@ use Rattle.vacation_core.specs.declared.entry.Entry.{Entry}
 use Rattle.vacation_core.specs.Sessions.{Plan, session}
 use Rattle.running_world.specs.declared.parts.Parts.{Parts}
 use Rattle.tx_phases.specs.Phases.{Phase, Rests, Stands}
-use Rattle.session_runs.specs.Clients.{AreAll, IsAnswered, IsClient, IsNext, Leads}
-use Rattle.ordered_sessions.specs.Turns.{Begins, Calls, Commits, IsAtRest, IsOpen, MakesCalls, Runs, replied}
+use Rattle.session_runs.specs.Clients.{IsAnswered, IsClient, IsNext, Leads}
+use Rattle.session_costs.proofs.CostLemmas.{asks_fit}
+use Rattle.session_worlds.proofs.HistoryLemmas.{goes_on}
+use Rattle.seq_model.specs.declared.limits.TheConstants.{CALL_LIMIT}
+use Rattle.std.specs.Prelude.{None}
+use Rattle.ordered_sessions.specs.Turns.{Begins, Calls, Commits, HasBegun, IsAtRest, IsOpen, MakesCalls, MayCall, MayRun, Runs, replied}
 
 -- ---- answers
 
@@ -51,6 +55,22 @@ calls c d call m reply h is tables n made action done x allowed next =
         subst (λ (s : Reply Entry). IsOpen tables n (made ++ (call, s) ∷ []) action done d) (same r reply is)
         (subst (λ (q : Phase Entry). IsClient 1 tables n q action done d) e y)
     by m p commits is e y = absurd e
+
+-- and there is a reply
+pub is_replied : (c d : Parts Entry) (call : Call Entry) (m : Notice Entry) → IsAnswered c 1 (request.Call call) d m → MayCall call c
+    → replied m ≡ None → ⊥
+is_replied c d call m h may none =
+    let made = may.calls in
+    let r = h may.tables may.count made (Stands made) may.action may.action may.done may.opened (may.allowed, refl, refl, may.next) in
+    by made m r.at r.commits none r.leads
+  where
+    some_none : (r : Reply Entry) → Some r ≡ None → ⊥
+    some_none r e = cc
+
+    by : (made : List (Call Entry × Reply Entry)) (m : Notice Entry) (p : Phase Entry) (commits : Bool) → replied m ≡ None
+        → Leads made (request.Call call) m p commits → ⊥
+    by made (Answered b (answer.Replied r)) p commits none e = some_none r none
+    by made m p commits none e = e
 
 pub commits : (c d : Parts Entry) (m : Notice Entry) → IsAnswered c 1 request.Commit d m → Commits c d
 commits c d m h tables n made action done x all =
@@ -151,6 +171,41 @@ module _ (action : Action) (c d : Parts Entry) (replies : List (Reply Entry)) (k
           client = on tables n m.calls action done m.client allowed next;
         }
 
+  -- ---- what a session doesn't do
+  module _ (begun : HasBegun action c) where
+    abbrev made : HasMade begun.tables begun.count action begun.done d replies k
+    made = so_far begun.tables begun.count begun.done begun.allowed begun.opened
+
+    -- it doesn't give up
+    pub goes_on_so : ask.GiveUp ≡ asked (after (session action) replies) → ⊥
+    goes_on_so is =
+        let m = made in
+        goes_on m.client.history 1 m.calls action begun.done m.client.lawful m.client.at
+        (sym (is ∙ ap (λ (rs : List (Reply Entry)). asked (after (session action) rs)) m.are))
+
+    -- it asks a call that the transaction has room for
+    pub asks_within : (call : Call Entry) → ask.Call call ≡ asked (after (session action) replies) → k < CALL_LIMIT
+    asks_within call is =
+        let m = made in
+        let next = next_of call is begun.tables begun.count begun.done m in
+        let short : length m.calls < CALL_LIMIT = (asks_fit action m.calls call next.0 begun.allowed next.1).short in
+        let count = m.count in
+        omega (arith, short, count)
+
+    pub may_call : (call : Call Entry) → ask.Call call ≡ asked (after (session action) replies) → MayCall call d
+    may_call call is =
+        let m = made in
+        record {
+          tables = begun.tables;
+          count = begun.count;
+          calls = m.calls;
+          action = action;
+          done = begun.done;
+          opened = m.client;
+          allowed = begun.allowed;
+          next = next_of call is begun.tables begun.count begun.done m;
+        }
+
   pub made_all : ask.Done ≡ asked (after (session action) replies) → MakesCalls action c d
   made_all is tables n done allowed x =
       let m = so_far tables n done allowed x in
@@ -163,3 +218,13 @@ pub runs : (action : Action) (c d e f : Parts Entry) → Begins c d → MakesCal
 runs action c d e f begins makes commits tables n last done allowed x few =
     let m = makes tables (n + 1) done allowed (begins tables n last action done x allowed few) in
     commits tables (n + 1) m.0 action done m.2 m.1
+
+-- once it has begun
+pub has_begun : (action : Action) (c d : Parts Entry) → MayRun action c → Begins c d → HasBegun action d
+has_begun action c d may begins = record {
+  tables = may.tables;
+  count = may.count + 1;
+  done = may.done;
+  allowed = may.allowed;
+  opened = begins may.tables may.count may.last action may.done may.rests may.allowed may.few;
+}

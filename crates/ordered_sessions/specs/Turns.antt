@@ -62,3 +62,34 @@ Runs action c d = (tables : Holdings) (n : ℕ) (last : Action) (done : List Act
 abbrev pub RunsAll : List Action → Parts Entry → Parts Entry → Type 0
 RunsAll actions c d = (tables : Holdings) (first : Action) → All IsAllowed actions → IsAtRest tables 0 first [] c
     → (last : Action) × IsAtRest tables (length actions) last actions d
+
+-- ---- where it stands, so that it may do so
+
+-- its transaction is open for some action, whose session asks this call next
+pub record MayCall (call : Call Entry) (c : Parts Entry) : Type 0 where
+  pub tables : Holdings
+  pub count : ℕ
+  pub calls : List (Call Entry × Reply Entry)
+  pub action : Action
+  pub done : List Action
+  pub opened : IsOpen tables count calls action done c
+  pub allowed : IsAllowed action
+  pub next : IsNext action calls call
+
+-- its transaction has just begun for this action
+pub record HasBegun (action : Action) (c : Parts Entry) : Type 0 where
+  pub tables : Holdings
+  pub count : ℕ
+  pub done : List Action
+  pub allowed : IsAllowed action
+  pub opened : IsOpen tables count [] action done c
+
+-- it is at rest, and a session more is below the limit of the clock
+pub record MayRun (action : Action) (c : Parts Entry) : Type 0 where
+  pub tables : Holdings
+  pub count : ℕ
+  pub last : Action
+  pub done : List Action
+  pub allowed : IsAllowed action
+  pub rests : IsAtRest tables count last done c
+  pub few : count + 1 < clock_limit

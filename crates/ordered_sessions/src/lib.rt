@@ -4,7 +4,6 @@
 //! receipts are the actions, one after another, from the tables that the world opened on.
 #![tactic(auto)]
 
-mod opening;
 mod order;
 mod session;
 

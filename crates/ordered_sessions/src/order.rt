@@ -8,13 +8,13 @@ ghost use Rattle.vac_model.specs.Actions.{IsAllowed};
 ghost use Rattle.vac_model.specs.Balanced.{IsBalanced};
 ghost use Rattle.vac_model.specs.Holdings.{Holdings};
 ghost use Rattle.ordered_sessions.specs.Orders.{AreReceipts};
-ghost use Rattle.ordered_sessions.specs.Turns.{IsAtRest, RunsAll};
+ghost use Rattle.ordered_sessions.specs.Turns.{HasOpened, IsAtRest, RunsAll};
 
-use crate::opening::open;
 use crate::session::run_session;
 use conflict::is_stripe_count;
 use running_world::World;
 use seq_model::{Items, Memory, Record, Refusal, State};
+use session_runs::open;
 use std::alloc::Global;
 use vac_model::{Action, Tables};
 use vacation_core::{Entry, Session};
@@ -56,12 +56,18 @@ fn receipts_of(
 
 /// Runs the session of each action in turn.
 fn run_all(alloc: Global, world: &mut World<Entry>, actions: &[Action]) -> Result<(), Memory>
-    requires { length actions.now < clock_limit }
+    requires few { length actions.now < clock_limit }
+    requires allowed { All IsAllowed actions.now }
+    requires opened { (tables : Holdings) × HasOpened tables world.old.parts }
     ensures { OnOk result (RunsAll actions.now world.old.parts world.new.parts) }
 {
     for action in actions {
-        let Ok(session) = Session::new(alloc, action) else {
-            return Err(Memory);
+        let session = match Session::new(alloc, action) {
+            Ok(session) => session,
+            Err(refusal) => match refusal {
+                Refusal::OutOfMemory => return Err(Memory),
+                _ => unreachable!(),
+            },
         };
         run_session(alloc, world, &session)?;
     }

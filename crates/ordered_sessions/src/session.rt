@@ -1,6 +1,6 @@
 //! One session of the client, from its begin to its commit.
 ghost use Rattle.std.specs.Prelude.{◌≡◌, IfOk, OnOk};
-ghost use Rattle.ordered_sessions.specs.Turns.{Begins, Calls, Commits, MakesCalls, Runs, replied};
+ghost use Rattle.ordered_sessions.specs.Turns.{Begins, Calls, Commits, HasBegun, MakesCalls, MayCall, MayRun, Runs, replied};
 
 use running_world::World;
 use seq_model::{Answer, CALL_LIMIT, Call, Memory, Notice, Reply, Request};
@@ -34,12 +34,13 @@ fn begin(world: &mut World<Entry>) -> Result<(), Memory>
 
 /// Makes a call of the session. It is refused nothing but memory.
 fn call(world: &mut World<Entry>, call: Call<Entry>) -> Result<Reply<Entry>, Memory>
+    requires { MayCall call world.old.parts }
     ensures { IfOk result (λ reply. Calls call world.old.parts reply world.new.parts) }
 {
     let told = ask(world, CLIENT, Request::Call(call))?;
     match reply_in(told) {
         Some(reply) => Ok(reply),
-        None => Err(Memory),
+        None => unreachable!(),
     }
 }
 
@@ -53,6 +54,7 @@ fn commit(world: &mut World<Entry>) -> Result<(), Memory>
 
 /// Makes all calls of a session, each after the replies to those before it. It doesn't give up, and asks no more than it may.
 fn make_calls(alloc: Global, world: &mut World<Entry>, session: &Session) -> Result<(), Memory>
+    requires { HasBegun session.now world.old.parts }
     ensures { OnOk result (MakesCalls session.now world.old.parts world.new.parts) }
 {
     let mut replies = Vec::new(alloc);
@@ -64,14 +66,15 @@ fn make_calls(alloc: Global, world: &mut World<Entry>, session: &Session) -> Res
                 replies.push(reply)?;
             }
             Ask::Done => return Ok(()),
-            Ask::GiveUp => return Err(Memory),
+            Ask::GiveUp => unreachable!(),
         }
     }
-    Err(Memory)
+    unreachable!()
 }
 
 /// Runs a session: it begins, makes its calls, and commits.
 pub fn run_session(alloc: Global, world: &mut World<Entry>, session: &Session) -> Result<(), Memory>
+    requires { MayRun session.now world.old.parts }
     ensures { OnOk result (Runs session.now world.old.parts world.new.parts) }
 {
     begin(world)?;

@@ -1,5 +1,9 @@
-use Rattle.ordered_sessions.proofs.SessionLemmas.{runs}
+use Rattle.ordered_sessions.proofs.SessionLemmas.{has_begun, runs}
 use Rattle.ordered_sessions.proofs.session.run_session.Goals as goal
+
+pub make_calls-requires : goal.make_calls-requires
+make_calls-requires c =
+    has_begun c.args.session.now c.args.world.now.parts c.begin.new.world.parts c.requires c.in_ok-begin.ensures
 
 pub returns : goal.returns
 returns c =
