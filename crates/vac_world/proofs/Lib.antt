@@ -6,4 +6,6 @@ pub mod HeardLemmas
 pub mod PlayingLemmas
 pub mod ToldLemmas
 pub mod OpeningLemmas
+pub mod PastLemmas
+pub mod HalfDoneLemmas
 pub mod TraceLemmas

@@ -1,21 +1,14 @@
 -- What a running world of clients opens as is the play in which nothing has happened.
-use Rattle.std.proofs.Common.{◌≡◌, ◌≢◌, ℕ, ◌+◌, ◌≤◌, List, [], ◌∷◌, ◌++◌, length, refl, sym, ◌∙◌, ap, arith}
+use Rattle.std.proofs.Common.{◌≡◌, ℕ, List, [], ◌∷◌, ◌++◌, length, refl, sym, ◌∙◌, ap}
 use Rattle.std.specs.Prelude.{Some, None, slice_get}
 use Rattle.conflict.specs.Refusals.{IsStripeCount}
-use Rattle.seq_model.specs.declared.limits.TheConstants.{INDEX_LIMIT}
-use Rattle.seq_model.specs.declared.refusal.Refusal.{Refusal}
-use Rattle.seq_model.specs.declared.refusal.Refusal.TheVariants.{NoSuch, TooLong, OutOfMemory}
-use Rattle.seq_model.specs.Refusals.{IsNoSuchOrTooLong}
-use Rattle.replay_log.specs.Collections.{Suit}
-use Rattle.replay_log.specs.Contents.{HaveStripes}
 use Rattle.vac_model.specs.Balanced.{IsBalanced}
-use Rattle.vac_model.specs.Holdings.{Holdings, queue}
-use Rattle.vac_model.specs.declared.item.Kind.TheVariants.{Car, Flight, Room}
-use Rattle.vacation_core.specs.Holding.{HaveIndexes, state_of}
-use Rattle.world_table.specs.Openings.{IsWithin, blocks_of, world_of}
+use Rattle.vac_model.specs.Holdings.{Holdings}
+use Rattle.vacation_core.specs.Holding.{state_of}
+use Rattle.world_table.specs.Openings.{blocks_of, world_of}
 use Rattle.running_world.specs.Parts.{IsWorld}
 use Rattle.tx_phases.specs.Phases.{Rests}
-use Rattle.vac_world.specs.Openings.{AreNew, IsOutOfMemory, eight, unplayed_on}
+use Rattle.vac_world.specs.Openings.{AreNew, eight, unplayed_on}
 use Rattle.vac_world.specs.Running.{IsPlay}
 use Rattle.vac_world.specs.declared.client.Client.{Client}
 use Rattle.vac_world.specs.declared.world.VacWorld.{VacWorld}
@@ -23,22 +16,6 @@ use Rattle.vac_world.proofs.PlayLemmas.{IsSound, sound_unplayed}
 use Rattle.std.specs.Prelude.{zero, suc}
 use Rattle.tx_engine.proofs.ProgramLemmas.{some_same}
 pub use Rattle.session_runs.proofs.OpeningLemmas.{have_indexes, stripes, suits}
-
-pub is_within : (n : ℕ) (tables : Holdings) → IsStripeCount n → IsWithin (eight n) 0 (state_of tables)
-is_within n tables count = record {
-  clock = omega arith;
-  collections = omega arith;
-  stripes = (count, (count, (count, (count, (count, (count, (count, (count, tt))))))));
-  locations = (let few = count.1 in omega (arith, few));
-}
-
-pub refused : (n : ℕ) (tables : Holdings) (cause : Refusal) → IsStripeCount n
-    → IsNoSuchOrTooLong cause (length (eight n) ≢ length (state_of tables).held) (IsWithin (eight n) 0 (state_of tables))
-    → IsOutOfMemory cause
-refused n tables NoSuch count h = absurd (h refl)
-refused n tables TooLong count h = absurd (h.1 (is_within n tables count))
-refused n tables OutOfMemory count h = tt
-refused n tables cause count h = absurd h
 
 none_some : (x : Client) → None ≡ Some x → ⊥
 none_some x e = cc

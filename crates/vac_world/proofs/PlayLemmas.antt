@@ -35,7 +35,8 @@ use Rattle.tx_phases.proofs.PhaseLemmas.{steps_move}
 use Rattle.tx_phases.specs.Phases.{CallMoves, Phase, Begins, Stands, Calls, StepMoves, phase}
 use Rattle.vac_world.specs.declared.events.VacEvent.{VacEvent}
 use Rattle.vac_world.specs.declared.events.VacEvent.TheVariants.{Start, Step, Starve}
-use Rattle.vac_world.specs.Laws.{IsSerialPlay, PlaysAreSerial}
+use Rattle.vac_world.specs.Laws.{IsSerialPlay, PlaysAreSerial, PlaysHoldTables}
+use Rattle.vac_world.proofs.HalfDoneLemmas.{holds_tables}
 use Rattle.vac_world.specs.Plays.{AreAllowed, Play, aborts, asks_on, at_open, begins, ends, ends_for, hears, if_replied, left_of, moved}
 use Rattle.vac_world.specs.Plays.{played, played_all, seat_in, takes, told, turned, unplayed}
 use Rattle.tx_phases.specs.Phases.{phase_at}
@@ -287,3 +288,9 @@ pub plays_are_serial : PlaysAreSerial
 plays_are_serial blocks tables events stripes suits balanced allowed =
     let p = unplayed blocks tables in
     serial_play (played_all p events) (sound_all events p allowed (sound_unplayed blocks tables stripes suits balanced))
+
+pub plays_hold_tables : PlaysHoldTables
+plays_hold_tables blocks tables events stripes suits balanced allowed =
+    let p = unplayed blocks tables in
+    let s = sound_all events p allowed (sound_unplayed blocks tables stripes suits balanced) in
+    holds_tables (played_all p events).history s.lawful

@@ -2,14 +2,14 @@
 -- Of each actor the sessions that are left begin with those of its records that are left; so the next one is that of its next record.
 use Rattle.std.proofs.Common.{◌≡◌, ℕ, zero, suc, ◌+◌, ◌<◌, eqb, eq-eqb, ne_eqb, List, [], ◌∷◌, ◌++◌, length, drop}
 use Rattle.std.proofs.Common.{inl, inr, refl, sym, ◌∙◌, ap, subst, arith, get_or}
-use Rattle.std.specs.Prelude.{Some, slice_get, slice_set}
+use Rattle.std.specs.Prelude.{◌-◌, None, Option, Some, slice_get, slice_set}
 use Rattle.std.proofs.lemmas.Bool.{cases_eq, cond-false, cond-true}
 use Rattle.std.proofs.lemmas.Option.{slice_get-get_or}
 use Rattle.std.proofs.lemmas.List.{append_assoc, append-nil, get_or-set_other, get_or-set_same}
 use Rattle.seq_model.specs.declared.record.Record.{Record}
 use Rattle.tx_engine.specs.Programs.{Answers, after, asked, replies_of}
 use Rattle.tx_engine.specs.declared.job.Ask.TheVariants as ask
-use Rattle.tx_engine.proofs.ProgramLemmas.{follows_after, some_same}
+use Rattle.tx_engine.proofs.ProgramLemmas.{follows_after, none_some, some_same}
 use Rattle.vac_model.specs.declared.action.Action.{Action}
 use Rattle.vac_model.specs.declared.action.ActionReply.{ActionReply}
 use Rattle.vacation_core.specs.declared.entry.Entry.{Entry}
@@ -97,6 +97,37 @@ module _ (cs : List Client) (ns : List ℕ) (d : Deal) (r : ℕ × Record Entry)
 
       other_told : (a : ℕ) → (r.0 ≡ a → ⊥) → told_of ms a ≡ told_of ns a
       other_told a other = by a (λ e. other (at ∙ e))
+
+-- its actor is one of the clients
+pub actor_in : (cs : List Client) (ns : List ℕ) (r : ℕ × Record Entry) → HaveFirst cs ns r → (0 < r.0) × (r.0 - 1 < length cs)
+actor_in cs ns r h = by r.0 _ (own_next cs ns h.deal r h.deals h.records h.are)
+  where
+    none_in : (n : ℕ) (y : Action) (ys : List Action) → drop n [] ≡ y ∷ ys → ⊥
+    none_in zero y ys e = none_first y ys e
+    none_in (suc n) y ys e = none_first y ys e
+
+    inside : (xs : List Client) (i : ℕ) (c : Client) → slice_get xs i ≡ Some c → i < length xs
+    inside [] i c e = absurd (none_some c e)
+    inside (x ∷ xs) zero c e = omega arith
+    inside (x ∷ xs) (suc i) c e = (let lt = inside xs i c e in omega (arith, lt))
+
+    found : (i n : ℕ) (o : Option Client) (ys : List Action) → slice_get cs i ≡ o → drop n (sessions_found o) ≡ h.deal.0 ∷ ys
+        → i < length cs
+    found i n None ys at e = absurd (none_in n h.deal.0 ys e)
+    found i n (Some c) ys at e = inside cs i c at
+
+    by : (a : ℕ) (ys : List Action) → drop (told_of ns a) (sessions_in cs a) ≡ h.deal.0 ∷ ys → (0 < a) × (a - 1 < length cs)
+    by zero ys e = absurd (none_first h.deal.0 ys e)
+    by (suc i) ys e = (omega arith, let lt = found i (told_of ns (suc i)) (slice_get cs i) ys refl e in omega (arith, lt))
+
+-- and has a session that is to be told of
+pub session_in : (cs : List Client) (ns : List ℕ) (r : ℕ × Record Entry) (i : ℕ) (c : Client) (place : ℕ) → HaveFirst cs ns r
+    → r.0 ≡ suc i → slice_get cs i ≡ Some c → place ≡ get_or ns i 0 → slice_get (sessions_of c) place ≡ None → ⊥
+session_in cs ns r i c place h at got is none =
+    let there : drop place (sessions_of c) ≡ h.deal.0 ∷ (actions_of r.0 h.deals h.records ++ (h.are.own r.0).0) =
+    (λ j. drop (is j) (sessions_found (sym got j))) ∙ (λ j. drop (told_of ns (sym at j)) (sessions_in cs (sym at j)))
+    ∙ own_next cs ns h.deal r h.deals h.records h.are in
+    none_some h.deal.0 (sym none ∙ (drop_first (sessions_of c) place h.deal.0 _ there).0)
 
 answers_same : (x y : ActionReply) → ◌≡◌ {A = Plan} (Answers x) (Answers y) → x ≡ y
 answers_same x y e = cc

@@ -1,18 +1,17 @@
 -- The trace of a running world of clients has what came of its play.
 -- The records of an actor are sessions of the actions that it committed, in its order; and these are the sessions that its client
 -- keeps, the one under way, if it is committed, being the last.
-use Rattle.std.proofs.Common.{◌≡◌, ℕ, zero, suc, ◌+◌, ◌≤◌, false, List, [], ◌∷◌, ◌++◌, length, drop, get_or, refl, sym, ◌∙◌, ap, subst, arith}
+use Rattle.std.proofs.Common.{◌≡◌, ℕ, zero, suc, ◌+◌, ◌≤◌, false, List, [], ◌∷◌, ◌++◌, length, drop, get_or, refl, sym, ◌∙◌}
+use Rattle.std.proofs.Common.{ap, subst, arith}
 use Rattle.std.specs.Prelude.{Option, Some, None, replicate, slice_get}
 use Rattle.std.proofs.lemmas.List.{append-nil}
 use Rattle.seq_model.specs.declared.refusal.Refusal.{Refusal}
-use Rattle.seq_model.specs.declared.refusal.Refusal.TheVariants.{NoSuch, OutOfMemory}
 use Rattle.step_core.specs.Shown.{is_actor}
 use Rattle.replay_log.specs.Worlds.{World, half, state}
 use Rattle.vac_model.specs.declared.action.Action.{Action}
 use Rattle.vac_model.specs.Balanced.{IsBalanced}
 use Rattle.vacation_core.specs.declared.entry.Entry.{Entry}
 use Rattle.vacation_core.specs.Holding.{HoldsTables, state_of}
-use Rattle.vacation_core.specs.Refusals.{IsNoneSuch}
 use Rattle.vacation_core.specs.Runs.{after_deals}
 use Rattle.vacation_core.proofs.TablesLemmas.{same_tables}
 use Rattle.seq_model.specs.Contents.{Contents}
@@ -28,11 +27,12 @@ use Rattle.vac_world.specs.Laws.{IsSerialPlay}
 use Rattle.vac_world.specs.Plays.{Play}
 use Rattle.vac_world.specs.Running.{IsPlay, KeepsAt}
 use Rattle.vac_world.specs.Told.{AreFirst, AreOwn, sessions_found, sessions_in, sessions_of, told_all, told_of}
-use Rattle.vac_world.specs.Traces.{IsTraceRefusal, IsVacTrace}
+use Rattle.vac_world.specs.Traces.{IsVacTrace}
 use Rattle.vac_world.specs.declared.client.Client.{Client}
 use Rattle.vac_world.specs.declared.client.OpenSession.{OpenSession}
 use Rattle.vac_world.specs.declared.run.VacTrace.{VacTrace}
 use Rattle.vac_world.specs.declared.world.VacWorld.{VacWorld}
+use Rattle.vac_world.proofs.HalfDoneLemmas.{holds_tables}
 use Rattle.vac_world.proofs.HearLemmas.{done_finished}
 use Rattle.vac_world.proofs.PlayLemmas.{serial_play}
 use Rattle.vac_world.proofs.TurnLemmas.{reached}
@@ -136,14 +136,6 @@ traced v p t k done aborted halves holds =
       balanced = λ none. subst IsBalanced (sym (left none)) s.balanced;
     }
 
--- where there are no tables, a commit is half done
-pub untraced : (v : VacWorld) (p : Play) (cause : Refusal) → IsPlay v p → IsNoneSuch cause (HoldsTables (state (world_in p.history)))
-    → IsTraceRefusal cause p
-untraced v p NoSuch k none =
-    record { half = λ e. none (record { tables = _; are = (serial_of v p k).serial.left e }); torn = none }
-untraced v p OutOfMemory k h = tt
-untraced v p cause k h = absurd h
-
 -- the trace of its world is that of the play's
 pub trace_of : (v : VacWorld) (p : Play) (t : Trace Entry) → IsPlay v p
     → ((opening : Contents Entry) (w : World Entry) → IsReached opening w → IsWorld v.world.parts w → IsTraceOf w t)
@@ -158,3 +150,8 @@ own_as v p rs k same =
     subst (λ (xs : List (ℕ × Record Entry)). AreOwn v.clients.items (replicate (length v.clients.items) 0)
     (serial_of v p k).serial.deals xs)
     (sym same) (own_all v p k)
+
+-- and there are tables in the state that it has
+pub tables_there : (v : VacWorld) (p : Play) (t : Trace Entry) → IsPlay v p → IsTraceOf (world_in p.history) t → HoldsTables t.state
+tables_there v p t k trace =
+    subst (λ (s : Contents Entry). HoldsTables s) (sym trace.state) (holds_tables p.history k.on.lawful)

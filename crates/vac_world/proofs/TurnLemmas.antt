@@ -1,6 +1,6 @@
 -- An event that is fed to the running world is a turn more in the play.
 -- It leaves what all other clients keep. What its own client is told of it says where its transaction goes on.
-use Rattle.std.proofs.Common.{◌≡◌, ℕ, zero, suc, ◌+◌, ◌<◌, ◌≤◌, true, false, List, [], ◌∷◌, ◌++◌, length, inl, inr, refl, sym, ◌∙◌, ap, subst, arith}
+use Rattle.std.proofs.Common.{◌≡◌, ℕ, ◌+◌, ◌<◌, ◌≤◌, true, false, List, [], ◌∷◌, ◌++◌, length, inl, inr, refl, sym, ◌∙◌, ap, subst, arith}
 use Rattle.std.specs.Prelude.{if◌then◌else◌, Option, Some, None, slice_get, slice_set}
 use Rattle.std.proofs.lemmas.Bool.{cases_eq, cond-true}
 use Rattle.std.proofs.lemmas.List.{append-nil}
@@ -20,10 +20,9 @@ use Rattle.vacation_core.specs.declared.entry.Entry.{Entry}
 use Rattle.vacation_core.specs.Holding.{state_of}
 use Rattle.running_world.specs.Feeds.{Feeds}
 use Rattle.running_world.specs.Parts.{IsWorld}
-use Rattle.running_world.specs.Reached.{IsReached}
 use Rattle.running_world.specs.Worlds.{WorldShown}
 use Rattle.running_world.specs.declared.parts.Parts.{Parts}
-use Rattle.session_worlds.specs.Asking.{Actions, Turn, at_idle, begun, events_of}
+use Rattle.session_worlds.specs.Asking.{Actions, Turn, at_idle, begun}
 use Rattle.session_worlds.specs.Histories.{History, IsLawful, action_in, done_in, later, opening_of, world_in}
 use Rattle.session_worlds.specs.Serial.{begun_all}
 use Rattle.session_worlds.proofs.AloneLemmas.{none_in}

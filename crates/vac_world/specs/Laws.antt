@@ -2,10 +2,11 @@
 use Rattle.std.specs.Prelude.{◌≡◌, List, []}
 use Rattle.replay_log.specs.Contents.{Block, HaveStripes}
 use Rattle.replay_log.specs.Collections.{Suit}
+use Rattle.replay_log.specs.Worlds.{state}
 use Rattle.vac_model.specs.Balanced.{IsBalanced}
 use Rattle.vac_model.specs.Holdings.{Holdings}
-use Rattle.vacation_core.specs.Holding.{state_of}
-use Rattle.session_worlds.specs.Histories.{opening_of}
+use Rattle.vacation_core.specs.Holding.{HoldsTables, state_of}
+use Rattle.session_worlds.specs.Histories.{opening_of, world_in}
 use Rattle.session_worlds.specs.Serial.{IsSerialSessions}
 use Rattle.vac_world.specs.declared.events.VacEvent.{VacEvent}
 use Rattle.vac_world.specs.Plays.{AreAllowed, Play, played_all, unplayed}
@@ -20,3 +21,9 @@ abbrev pub PlaysAreSerial : Type 0
 PlaysAreSerial =
     (blocks : List Block) (tables : Holdings) (events : List VacEvent) → HaveStripes blocks → Suit blocks (state_of tables).held
     → IsBalanced tables → AreAllowed events → IsSerialPlay (played_all (unplayed blocks tables) events)
+
+-- words and collections hold tables, whatever is half done
+abbrev pub PlaysHoldTables : Type 0
+PlaysHoldTables =
+    (blocks : List Block) (tables : Holdings) (events : List VacEvent) → HaveStripes blocks → Suit blocks (state_of tables).held
+    → IsBalanced tables → AreAllowed events → HoldsTables (state (world_in (played_all (unplayed blocks tables) events).history))

@@ -1,7 +1,5 @@
--- What a running world of clients opens as, and why it does not.
+-- What a running world of clients opens as.
 use Rattle.std.specs.Prelude.{◌≡◌, ℕ, List, [], ◌∷◌, None}
-use Rattle.seq_model.specs.declared.refusal.Refusal.{Refusal}
-use Rattle.seq_model.specs.declared.refusal.Refusal.TheVariants.{OutOfMemory}
 use Rattle.world_table.specs.Openings.{blocks_of}
 use Rattle.vac_model.specs.Holdings.{Holdings}
 use Rattle.vacation_core.specs.Holding.{state_of}
@@ -16,8 +14,3 @@ unplayed_on n tables = unplayed (blocks_of (eight n) (state_of tables).held) tab
 abbrev pub AreNew : List Client → Type 0
 AreNew [] = Unit {0}
 AreNew (c ∷ cs) = (c ≡ record { current = None; done = [] }) × AreNew cs
-
--- a growth was refused
-abbrev pub IsOutOfMemory : Refusal → Type 0
-IsOutOfMemory OutOfMemory = Unit {0}
-IsOutOfMemory cause = ⊥

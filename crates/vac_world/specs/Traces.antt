@@ -1,10 +1,8 @@
 -- What is told of a play.
-use Rattle.std.specs.Prelude.{◌≡◌, ◌≢◌, []}
-use Rattle.seq_model.specs.declared.refusal.Refusal.{Refusal}
-use Rattle.seq_model.specs.declared.refusal.Refusal.TheVariants.{NoSuch, TooLong, OutOfMemory}
+use Rattle.std.specs.Prelude.{◌≡◌, []}
 use Rattle.replay_log.specs.Worlds.{half, state}
 use Rattle.vac_model.specs.Balanced.{IsBalanced}
-use Rattle.vacation_core.specs.Holding.{HoldsTables, state_of}
+use Rattle.vacation_core.specs.Holding.{state_of}
 use Rattle.vacation_core.specs.Runs.{after_deals}
 use Rattle.session_worlds.specs.Histories.{opening_of, world_in}
 use Rattle.session_worlds.specs.Serial.{IsSerialSessions}
@@ -24,21 +22,3 @@ pub record IsVacTrace (p : Play) (t : VacTrace) : Type 0 where
   pub holds : state (world_in p.history) ≡ state_of t.tables
   pub left : t.half ≡ [] → t.tables ≡ after_deals serial.deals p.history.tables
   pub balanced : t.half ≡ [] → IsBalanced t.tables
-
--- A commit is half done, and words and collections hold no tables meanwhile.
-pub record IsTorn (p : Play) : Type 0 where
-  pub half : half (world_in p.history) ≢ []
-  pub torn : ¬ HoldsTables (state (world_in p.history))
-
--- TooLong exactly where what was asked does not fit; else the play that came of it is torn, or a growth was refused.
-abbrev pub IsRunRefusal : Refusal → (fits : Type 0) → Play → Type 0
-IsRunRefusal TooLong fits p = ¬ fits
-IsRunRefusal NoSuch fits p = fits × IsTorn p
-IsRunRefusal OutOfMemory fits p = fits
-IsRunRefusal cause fits p = ⊥
-
--- why a play is not told of
-abbrev pub IsTraceRefusal : Refusal → Play → Type 0
-IsTraceRefusal NoSuch p = IsTorn p
-IsTraceRefusal OutOfMemory p = Unit {0}
-IsTraceRefusal cause p = ⊥

@@ -1,9 +1,15 @@
-//! The law of events. The function computes nothing: its contract is the law.
-ghost use Rattle.vac_world.specs.Laws.{PlaysAreSerial};
+//! Laws of events. The functions compute nothing: their contracts are the laws.
+ghost use Rattle.vac_world.specs.Laws.{PlaysAreSerial, PlaysHoldTables};
 
 /// Over every list of events of any clients, from the state of balanced tables: the sessions that committed were answered as their actions
 /// are, one after another, in commit order, each client's in its own; where no commit is half done the world holds what they leave,
 /// balanced; and no session gives up.
 pub fn plays_are_serial()
     ensures { PlaysAreSerial }
+{}
+
+/// Over every list of events of any clients, from the state of balanced tables: words and collections hold tables at each moment. Where a
+/// commit is half done they need not be balanced, since some of what it changes is changed already and some is not.
+pub fn plays_hold_tables()
+    ensures { PlaysHoldTables }
 {}

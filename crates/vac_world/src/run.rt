@@ -1,20 +1,21 @@
 //! A whole run of events.
 ghost use Rattle.std.specs.Prelude.{◌↔◌, IfErr, IfOk, IsTrue};
 ghost use Rattle.conflict.specs.Refusals.{IsStripeCount};
+ghost use Rattle.seq_model.specs.Refusals.{IsTooLong};
 ghost use Rattle.vac_model.specs.Balanced.{IsBalanced};
 ghost use Rattle.vac_world.specs.Openings.{unplayed_on};
 ghost use Rattle.vac_world.specs.Plays.{AreAllowed, MayHappen, Play, played_all};
 ghost use Rattle.vac_world.specs.Running.{HasPlay, IsPlay};
-ghost use Rattle.vac_world.specs.Traces.{IsRunRefusal, IsTraceRefusal, IsVacTrace};
+ghost use Rattle.vac_world.specs.Traces.{IsVacTrace};
 
 use crate::events::VacEvent;
 use crate::told::tell_all;
 use crate::world::VacWorld;
 use conflict::is_stripe_count;
-use seq_model::{Items, Refusal};
+use seq_model::{Items, Memory, Refusal};
+use served_sessions::tables_left;
 use std::alloc::Global;
 use vac_model::{ActionReply, Tables};
-use vacation_core::tables_of;
 
 /// What came of events.
 #[derive(Drop)]
@@ -56,10 +57,9 @@ fn are_allowed(events: &[VacEvent]) -> bool
 
 impl VacWorld {
     /// What has come of the events so far.
-    fn into_trace(self, alloc: Global) -> Result<VacTrace, Refusal>
+    fn into_trace(self, alloc: Global) -> Result<VacTrace, Memory>
         requires { HasPlay self }
-        ensures trace { IfOk result (λ trace. (p : Play) → IsPlay self p → IsVacTrace p trace) }
-        ensures refused { IfErr result (λ refusal. (p : Play) → IsPlay self p → IsTraceRefusal refusal p) }
+        ensures { IfOk result (λ trace. (p : Play) → IsPlay self p → IsVacTrace p trace) }
     {
         let VacWorld {
             world,
@@ -69,10 +69,7 @@ impl VacWorld {
         } = self;
         let trace = world.into_trace()?;
         let done = tell_all(alloc, &clients, trace.records.as_slice())?;
-        let tables = match tables_of(alloc, &trace.state) {
-            Ok(tables) => tables,
-            Err(refusal) => return Err(refusal),
-        };
+        let tables = tables_left(alloc, &trace.state)?;
         Ok(VacTrace {
             done: Items::from_vec(done),
             aborted,
@@ -83,8 +80,9 @@ impl VacWorld {
 
     /// What comes of these events, each of its client, in a world that opens on these tables, in so many stripes.
     ///
-    /// `TooLong` where a collection can't have so many stripes, or an action is beyond its limits: nothing has run then. `NoSuch` where a
-    /// commit is half done in the end and words and collections hold no tables meanwhile; else `OutOfMemory` where a growth was refused.
+    /// The tables are what words and collections hold in the end: where no commit is half done, what the sessions that committed leave,
+    /// balanced. `TooLong` where a collection can't have so many stripes, or an action is beyond its limits: nothing has run then; and
+    /// `OutOfMemory` where a growth was refused.
     pub fn run(
         alloc: Global,
         tables: Tables,
@@ -93,8 +91,7 @@ impl VacWorld {
     ) -> Result<VacTrace, Refusal>
         requires { IsBalanced tables }
         ensures trace { IfOk result (IsVacTrace (played_all (unplayed_on stripes tables) events.now)) }
-        ensures refused { IfErr result (λ refusal. IsRunRefusal refusal (IsStripeCount stripes × AreAllowed events.now)
-            (played_all (unplayed_on stripes tables) events.now)) }
+        ensures refused { IfErr result (λ refusal. IsTooLong refusal (IsStripeCount stripes × AreAllowed events.now)) }
     {
         if !is_stripe_count(stripes) {
             return Err(Refusal::TooLong);
@@ -104,6 +101,7 @@ impl VacWorld {
         }
         let mut world = VacWorld::open(alloc, &tables, stripes)?;
         world.play_all(events)?;
-        world.into_trace(alloc)
+        let trace = world.into_trace(alloc)?;
+        Ok(trace)
     }
 }

@@ -1,5 +1,5 @@
 //! The world of the clients, event by event.
-ghost use Rattle.std.specs.Prelude.{◌≡◌, ℕ, ◌+◌, ◌<◌, length, replicate, IfErr, IfOk, OnOk};
+ghost use Rattle.std.specs.Prelude.{◌≡◌, ℕ, ◌+◌, ◌<◌, length, IfOk, OnOk};
 ghost use Rattle.conflict.specs.Refusals.{IsStripeCount};
 ghost use Rattle.seq_model.specs.declared.call.Call.{Call as ACall};
 ghost use Rattle.seq_model.specs.declared.event.Answer.TheVariants as answer;
@@ -11,18 +11,19 @@ ghost use Rattle.tx_phases.specs.Phases.{Rests, phase};
 ghost use Rattle.vac_model.specs.Actions.{IsAllowed};
 ghost use Rattle.vac_model.specs.Balanced.{IsBalanced};
 ghost use Rattle.vac_world.specs.declared.events.VacEvent.TheVariants as happening;
-ghost use Rattle.vac_world.specs.Openings.{AreNew, IsOutOfMemory, unplayed_on};
+ghost use Rattle.vac_world.specs.Openings.{AreNew, unplayed_on};
 ghost use Rattle.vac_world.specs.Plays.{AreAllowed, MayHappen, Play, begins, ends, hears, played, played_all, seat_in, takes};
 ghost use Rattle.vac_world.specs.Running.{AsksNext, AsksOn, Abandons, Called, GoesOn, HasPlace, HasPlay, Hears, IsPlay, Mistaken, Refusing};
 
 use crate::client::Client;
 use crate::events::VacEvent;
 use running_world::World;
-use seq_model::{Answer, Call, Event, Items, Memory, Notice, Refusal, Request, Shape};
+use seq_model::{Answer, Call, Event, Items, Memory, Notice, Refusal, Request};
+use session_runs::open;
 use std::alloc::Global;
 use tx_engine::Ask;
 use vac_model::{Action, Tables};
-use vacation_core::{Entry, Session, state_of};
+use vacation_core::{Entry, Session};
 
 /// The clients of a world are so many.
 const ACTORS: usize = 64;
@@ -66,13 +67,6 @@ fn is_mistaken(cause: Refusal) -> bool
     matches!(cause, Refusal::NoSuch | Refusal::TooLong)
 }
 
-/// Each of the five maps and three queues has so many stripes.
-fn stripes_of(alloc: Global, stripes: u32) -> Result<Vec<u32>, Memory>
-    ensures { IfOk result (λ all. all.items ≡ replicate 8 stripes) }
-{
-    Ok(vec![in alloc; stripes; 8]?)
-}
-
 /// The clients of a world, none of which has begun a session.
 fn clients(alloc: Global) -> Result<Vec<Client>, Memory>
     ensures count { IfOk result (λ clients. length clients.items ≡ 64) }
@@ -87,19 +81,12 @@ fn clients(alloc: Global) -> Result<Vec<Client>, Memory>
 
 impl VacWorld {
     /// The clients of a world that opens on these tables, in so many stripes.
-    pub(crate) fn open(alloc: Global, tables: &Tables, stripes: u32) -> Result<VacWorld, Refusal>
+    pub(crate) fn open(alloc: Global, tables: &Tables, stripes: u32) -> Result<VacWorld, Memory>
         requires balanced { IsBalanced tables.now }
         requires stripes { IsStripeCount stripes }
-        ensures play { IfOk result (λ world. IsPlay world (unplayed_on stripes tables.now)) }
-        ensures refused { IfErr result IsOutOfMemory }
+        ensures { IfOk result (λ world. IsPlay world (unplayed_on stripes tables.now)) }
     {
-        let state = state_of(alloc, tables)?;
-        let stripes = stripes_of(alloc, stripes)?;
-        let shape = Shape {
-            stripes: Items::from_vec(stripes),
-            clock: 0,
-        };
-        let world = World::open(alloc, &shape, state)?;
+        let world = open(alloc, tables, stripes)?;
         Ok(VacWorld {
             alloc,
             world,
@@ -350,7 +337,10 @@ impl VacWorld {
         }
         let session = match Session::new(self.alloc, action) {
             Ok(session) => session,
-            Err(_) => return Err(Memory),
+            Err(refusal) => match refusal {
+                Refusal::OutOfMemory => return Err(Memory),
+                _ => unreachable!(),
+            },
         };
         let _notice = self.feed(Event::Ask(actor, Request::Begin))?;
         self.clients[i].begin(self.alloc, session);

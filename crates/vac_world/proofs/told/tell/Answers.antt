@@ -1,18 +1,55 @@
-use Rattle.std.proofs.Common.{◌≡◌, ◌-◌, ◌<◌, suc, refl, arith, length}
+use Rattle.std.proofs.Common.{◌-◌, ◌<◌, refl, arith, length}
 use Rattle.std.proofs.lemmas.Option.{slice_get_read}
-use Rattle.vac_world.proofs.ToldLemmas.{first_done, same_found, told_one}
+use Rattle.vac_world.proofs.ToldLemmas.{actor_in, first_done, same_found, session_in, told_one}
 use Rattle.vac_world.proofs.told.tell.Goals as goal
+
+pub overflow_sub-i : goal.overflow_sub-i
+overflow_sub-i c =
+    let some = (actor_in c.args.clients.now c.args.told.now.items c.args.entry.now c.requires.own).0 in omega (arith, some)
+
+pub index-place-requires : goal.index-place-requires
+index-place-requires c =
+    let lt = (actor_in c.args.clients.now c.args.told.now.items c.args.entry.now c.requires.own).1 in
+    let n = c.requires.count in
+    omega (arith, lt, n)
+
+pub bounds-clients-i : goal.bounds-clients-i
+bounds-clients-i c = (actor_in c.args.clients.now c.args.told.now.items c.args.entry.now c.requires.own).1
+
+pub index_mut-requires : goal.index_mut-requires
+index_mut-requires c =
+    let lt = (actor_in c.args.clients.now c.args.told.now.items c.args.entry.now c.requires.own).1 in
+    let n = c.requires.count in
+    omega (arith, lt, n)
+
+pub unreachable-requires : goal.unreachable-requires
+unreachable-requires c =
+    let r = c.args.entry.now in
+    let ns = c.args.told.now.items in
+    let cs = c.args.clients.now in
+    let there = actor_in cs ns r c.requires.own in
+    let n = c.requires.count in
+    let some = there.0 in
+    let lt = there.1 in
+    let within : r.0 - 1 < length ns = omega (arith, lt, n) in
+    session_in cs ns r (r.0 - 1) c.index-clients-i.result c.index-place.result.now c.requires.own (omega (arith, some))
+    (slice_get_read cs _ (r.0 - 1) c.index-clients-i.result refl lt c.index-clients-i.is)
+    (same_found ns (r.0 - 1) c.index-place.result.now within
+    (slice_get_read ns _ (r.0 - 1) c.index-place.result.now refl within c.index-place.ensures))
+    c.in_default.ensures.there
 
 pub reply-requires : goal.reply-requires
 reply-requires c =
     let r = c.args.entry.now in
     let ns = c.args.told.now.items in
     let cs = c.args.clients.now in
-    let lt : r.0 - 1 < length cs = omega (arith, c.if-i-clients.false) in
+    let there = actor_in cs ns r c.requires.own in
     let n = c.requires.count in
+    let some = there.0 in
+    let lt = there.1 in
     let within : r.0 - 1 < length ns = omega (arith, lt, n) in
-    let at : r.0 ≡ suc (r.0 - 1) = omega (arith, c.if-actor-eq0.false) in
-    first_done cs ns r (r.0 - 1) c.index-clients-i.result c.index-place.result.now c.in-Some.session.now c.requires.own at
+    first_done cs ns r (r.0 - 1) c.index-clients-i.result c.index-place.result.now c.in-Some.session.now c.requires.own
+    (omega (arith, some))
     (slice_get_read cs _ (r.0 - 1) c.index-clients-i.result refl lt c.index-clients-i.is)
     (same_found ns (r.0 - 1) c.index-place.result.now within
     (slice_get_read ns _ (r.0 - 1) c.index-place.result.now refl within c.index-place.ensures))
@@ -23,11 +60,13 @@ returns-clause-told c =
     let r = c.args.entry.now in
     let ns = c.args.told.now.items in
     let cs = c.args.clients.now in
-    let lt : r.0 - 1 < length cs = omega (arith, c.if-i-clients.false) in
+    let there = actor_in cs ns r c.requires.own in
     let n = c.requires.count in
+    let some = there.0 in
+    let lt = there.1 in
     let within : r.0 - 1 < length ns = omega (arith, lt, n) in
-    let at : r.0 ≡ suc (r.0 - 1) = omega (arith, c.if-actor-eq0.false) in
-    told_one cs ns r (r.0 - 1) c.index-clients-i.result c.index-place.result.now c.in-Some.session.now c.in_ok-reply.reply at
+    told_one cs ns r (r.0 - 1) c.index-clients-i.result c.index-place.result.now c.in-Some.session.now c.in_ok-reply.reply
+    (omega (arith, some))
     (slice_get_read cs _ (r.0 - 1) c.index-clients-i.result refl lt c.index-clients-i.is) within
     (same_found ns (r.0 - 1) c.index-place.result.now within
     (slice_get_read ns _ (r.0 - 1) c.index-place.result.now refl within c.index-place.ensures))

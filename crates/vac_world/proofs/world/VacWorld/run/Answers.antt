@@ -1,4 +1,3 @@
-use Rattle.std.proofs.lemmas.Result.{IfOk-weaker}
 use Rattle.vac_world.specs.Openings.{unplayed_on}
 use Rattle.vac_world.specs.Plays.{played_all}
 use Rattle.vac_world.proofs.world.VacWorld.run.Goals as goal
@@ -6,9 +5,8 @@ use Rattle.vac_world.proofs.world.VacWorld.run.Goals as goal
 pub into_trace-requires : goal.into_trace-requires
 into_trace-requires c = record {
   play = played_all (unplayed_on c.args.stripes c.args.tables) c.args.events.now;
-  is = c.in_ok-play_all.ensures _ c.in_ok-world.ensures.play;
+  is = c.in_ok-play_all.ensures _ c.in_ok-world.ensures;
 }
 
 pub returns-clause-trace : goal.returns-clause-trace
-returns-clause-trace c =
-    IfOk-weaker c.into_trace.result _ _ (λ t h. h _ (c.in_ok-play_all.ensures _ c.in_ok-world.ensures.play)) c.into_trace.ensures.trace
+returns-clause-trace c = c.in_ok-trace.ensures _ (c.in_ok-play_all.ensures _ c.in_ok-world.ensures)
