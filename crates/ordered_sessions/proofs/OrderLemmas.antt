@@ -3,22 +3,18 @@
 -- so says the law of a client that is alone, of the world that its history leads to; and the trace has what has come of that world.
 use Rattle.std.proofs.Common.{◌≡◌, ℕ, suc, ◌+◌, ◌<◌, ◌≤◌, List, [], ◌∷◌, ◌++◌, length, refl, sym, ◌∙◌, ap, subst, arith, take}
 use Rattle.std.proofs.Common.{take-suc}
-use Rattle.std.proofs.lemmas.List.Elements.{All-get_or}
 use Rattle.std.specs.Prelude.{All, get_or, map}
 use Rattle.std.proofs.lemmas.List.{append_assoc, append-nil, take_all}
 use Rattle.word_machine.specs.Actor.{clock_limit}
 use Rattle.seq_model.specs.declared.record.Record.{Record}
 use Rattle.seq_model.specs.Contents.{Contents}
 use Rattle.seq_model.specs.Runs.{IsInCommitOrder, IsRun}
-use Rattle.seq_model.specs.declared.refusal.Refusal.{Refusal}
-use Rattle.seq_model.specs.declared.refusal.Refusal.TheVariants.{OutOfMemory, TooLong}
 use Rattle.replay_log.specs.Worlds.{World}
 use Rattle.vac_model.specs.declared.action.Action.{Action}
 use Rattle.vac_model.specs.Actions.{IsAllowed}
 use Rattle.vac_model.specs.Holdings.{Holdings}
 use Rattle.vacation_core.specs.declared.entry.Entry.{Entry}
 use Rattle.vacation_core.specs.Holding.{state_of}
-use Rattle.vacation_core.specs.Refusals.{IsSessionRefusal}
 use Rattle.vacation_core.specs.Runs.{AreSessions}
 use Rattle.running_world.specs.declared.parts.Parts.{Parts}
 use Rattle.running_world.specs.declared.trace.Trace.{Trace}
@@ -30,6 +26,7 @@ use Rattle.session_worlds.specs.Alone.{AreRecordsOf, IsInOrder}
 use Rattle.session_worlds.specs.Histories.{world_in}
 use Rattle.session_worlds.proofs.AloneLemmas.{alone_is_in_order}
 use Rattle.session_runs.proofs.ClientLemmas.{reached}
+use Rattle.served_sessions.proofs.SessionLemmas.{allowed_at}
 use Rattle.ordered_sessions.specs.Orders.{AreReceipts, of_client}
 use Rattle.ordered_sessions.specs.Turns.{HasOpened, IsAtRest, MayRun, Runs, RunsAll}
 
@@ -42,18 +39,7 @@ SoFar actions i c d =
 pub none_so_far : (actions : List Action) (c : Parts Entry) → SoFar actions 0 c c
 none_so_far actions c tables first allowed x = (first, x)
 
--- the next action is allowed
-pub allowed_at : (actions : List Action) (i : ℕ) (action : Action) → i < length actions → action ≡ get_or actions i action
-    → All IsAllowed actions → IsAllowed action
-allowed_at actions i action lt at allowed = subst IsAllowed (sym at) (All-get_or IsAllowed actions i action lt allowed)
-
--- so its session is refused only memory
-pub only_memory : (cause : Refusal) (P : Type 0) → IsSessionRefusal cause P → ¬ P → (cause ≡ OutOfMemory → ⊥) → ⊥
-only_memory TooLong P h never isnt = never h
-only_memory OutOfMemory P h never isnt = isnt refl
-only_memory cause P h never isnt = h
-
--- and it may run
+-- the session of the next action may run
 pub may_run : (actions : List Action) (i : ℕ) (action : Action) (c d : Parts Entry) → i < length actions
     → action ≡ get_or actions i action → length actions < clock_limit → All IsAllowed actions
     → (tables : Holdings) × HasOpened tables c → SoFar actions i c d → MayRun action d

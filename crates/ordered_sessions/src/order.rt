@@ -1,5 +1,5 @@
 //! The sessions of a list of actions, in its order.
-ghost use Rattle.std.specs.Prelude.{◌≡◌, ◌↔◌, ◌<◌, ℕ, List, All, IfErr, IfOk, IsTrue, OnOk, length, map};
+ghost use Rattle.std.specs.Prelude.{◌≡◌, ◌<◌, ℕ, List, All, IfErr, IfOk, OnOk, length, map};
 ghost use Rattle.conflict.specs.Refusals.{IsStripeCount};
 ghost use Rattle.word_machine.specs.Actor.{clock_limit};
 ghost use Rattle.seq_model.specs.Refusals.{IsTooLong};
@@ -14,10 +14,11 @@ use crate::session::run_session;
 use conflict::is_stripe_count;
 use running_world::World;
 use seq_model::{Items, Memory, Record, Refusal, State};
+use served_sessions::{are_allowed, session_of};
 use session_runs::open;
 use std::alloc::Global;
 use vac_model::{Action, Tables};
-use vacation_core::{Entry, Session};
+use vacation_core::Entry;
 
 /// What has come of the sessions of a list of actions.
 #[derive(Drop)]
@@ -26,17 +27,6 @@ pub struct Ordered {
     pub receipts: Vec<Record<Entry>>,
     /// The state that they leave.
     pub state: State<Entry>,
-}
-
-fn are_allowed(actions: &[Action]) -> bool
-    ensures { IsTrue result ↔ All IsAllowed actions.now }
-{
-    for action in actions {
-        if !action.is_allowed() {
-            return false;
-        }
-    }
-    true
 }
 
 /// The records without their actors. They are moved, not copied.
@@ -62,13 +52,7 @@ fn run_all(alloc: Global, world: &mut World<Entry>, actions: &[Action]) -> Resul
     ensures { OnOk result (RunsAll actions.now world.old.parts world.new.parts) }
 {
     for action in actions {
-        let session = match Session::new(alloc, action) {
-            Ok(session) => session,
-            Err(refusal) => match refusal {
-                Refusal::OutOfMemory => return Err(Memory),
-                _ => unreachable!(),
-            },
-        };
+        let session = session_of(alloc, action)?;
         run_session(alloc, world, &session)?;
     }
     Ok(())

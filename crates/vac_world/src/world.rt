@@ -19,11 +19,12 @@ use crate::client::Client;
 use crate::events::VacEvent;
 use running_world::World;
 use seq_model::{Answer, Call, Event, Items, Memory, Notice, Refusal, Request};
+use served_sessions::session_of;
 use session_runs::open;
 use std::alloc::Global;
 use tx_engine::Ask;
 use vac_model::{Action, Tables};
-use vacation_core::{Entry, Session};
+use vacation_core::Entry;
 
 /// The clients of a world are so many.
 const ACTORS: usize = 64;
@@ -335,13 +336,7 @@ impl VacWorld {
         if self.clients[i].is_busy() {
             return self.end(actor, Refusal::NotIdle);
         }
-        let session = match Session::new(self.alloc, action) {
-            Ok(session) => session,
-            Err(refusal) => match refusal {
-                Refusal::OutOfMemory => return Err(Memory),
-                _ => unreachable!(),
-            },
-        };
+        let session = session_of(self.alloc, action)?;
         let _notice = self.feed(Event::Ask(actor, Request::Begin))?;
         self.clients[i].begin(self.alloc, session);
         Ok(())

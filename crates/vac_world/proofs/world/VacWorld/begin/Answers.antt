@@ -35,4 +35,4 @@ returns c = λ p k.
     (fed_at v.world.parts u.world.parts (λ a. event.Ask a request.Begin) _ (c.args.i + 1) _ _ c.actor_at-actor.ensures refl
     c.in_ok-_notice.ensures.fed)
     c.in_ok-_notice.ensures.clients c.in_ok-_notice.ensures.aborted refl refl
-    (ap (λ y. slice_set u.clients.items c.args.i y) (c.begin.ensures ∙ ap (λ a. begun a x) c.in-Ok.ensures.ok)) k
+    (ap (λ y. slice_set u.clients.items c.args.i y) (c.begin.ensures ∙ ap (λ a. begun a x) c.in_ok-session.ensures)) k
