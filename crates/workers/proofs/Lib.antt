@@ -1,0 +1,3 @@
+pub mod TryLemmas
+pub mod TaskLemmas
+pub mod ReportLemmas

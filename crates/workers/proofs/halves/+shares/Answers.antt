@@ -1,0 +1,130 @@
+use Rattle.std.proofs.Common.{rules, [], ◌≡◌, ◌∙◌, sym}
+use Rattle.workers.proofs.ReportLemmas.{same_works}
+use Rattle.workers.proofs.TaskLemmas.{no_gain}
+use Rattle.workers.specs.Trees.{gained}
+use Rattle.workers.proofs.halves.+shares.Goals as goal
+
+pub both-scope-spawn_with-returns-then-load : goal.both-scope-spawn_with-returns-then-load
+both-scope-spawn_with-returns-then-load g t c = c.give_back.ensures c.captures.tries
+
+pub share-work-requires-clause-ready : goal.share-work-requires-clause-ready
+share-work-requires-clause-ready g t c = c.requires.ready
+
+pub share-split-other-requires-clause-ready : goal.share-split-other-requires-clause-ready
+share-split-other-requires-clause-ready g t c = c.requires.ready
+
+pub share-both-first-requires-clause-first : goal.share-both-first-requires-clause-first
+share-both-first-requires-clause-first g t c κs within = record {
+  ready = c.split-other.ensures.ready.0;
+  shares = search rules;
+  some = search rules;
+  few = search rules;
+  fresh = search rules;
+}
+
+pub share-both-first-requires-clause-second : goal.share-both-first-requires-clause-second
+share-both-first-requires-clause-second g t c κs within = record {
+  ready = c.split-other.ensures.ready.1;
+  shares = search rules;
+  some = search rules;
+  few = search rules;
+  fresh = search rules;
+}
+
+pub share-returns-in-Taken : goal.share-returns-in-Taken
+share-returns-in-Taken g t c =
+    let none : gained c.replace.new.dest ≡ [] = search rules in
+    record {
+      ready = c.requires.ready;
+      gains = rw none (no_gain c.args.seat);
+      works_are = search rules;
+      done = search rules;
+    }
+
+pub share-returns-in-Leaf : goal.share-returns-in-Leaf
+share-returns-in-Leaf g t c =
+    let tree_is = sym (c.replace.ensures.value ∙ c.deref_mut.ensures.value) ∙ c.in-Leaf.is in
+    record {
+      ready = c.work.ensures.ready;
+      gains = c.work.ensures.gains;
+      works_are = same_works c.in-Leaf.task c.work.new.self c.args.tree.value tree_is c.work.ensures.same;
+      done = c.work.ensures.done;
+    }
+
+-- A closure is called where what it asks of its captures holds: it stands before the bounds on types there, and behind them here.
+pub fn::both::fn::scope::spawn_with+FnOnce::call_once-spawn_with-requires :
+    goal.fn::both::fn::scope::spawn_with+FnOnce::call_once-spawn_with-requires
+fn::both::fn::scope::spawn_with+FnOnce::call_once-spawn_with-requires g t c κs within =
+    let own = c.requires.1.1.1.1 in
+    let b = own.1.1.1.1 in (
+      search rules,
+      (
+        within.0,
+        (
+          within.1.0,
+          (
+            within.1.1.0,
+            (
+              within.1.1.1,
+              (
+                b.0,
+                (
+                  b.1,
+                  (
+                    b.2,
+                    (
+                      b.3,
+                      (
+                        b.4,
+                        (
+                          b.5,
+                          (own.0, (own.1.0, (own.1.1.0, own.1.1.1.0))),
+                        ),
+                      ),
+                    ),
+                  ),
+                ),
+              ),
+            ),
+          ),
+        ),
+      ),
+    )
+
+pub fn::both::scope+FnOnce::call_once-scope-requires : goal.fn::both::scope+FnOnce::call_once-scope-requires
+fn::both::scope+FnOnce::call_once-scope-requires g t c κs within =
+    let own = c.requires.1.1.1.1 in
+    let b = own.1.1.1.1.1 in (
+      search rules,
+      (
+        within.0,
+        (
+          within.1.0,
+          (
+            within.1.1.0,
+            (
+              within.1.1.1,
+              (
+                b.0,
+                (
+                  b.1,
+                  (
+                    b.2,
+                    (
+                      b.3,
+                      (
+                        b.4,
+                        (
+                          b.5,
+                          (own.0, (own.1.0, (own.1.1.0, (own.1.1.1.0, own.1.1.1.1.0)))),
+                        ),
+                      ),
+                    ),
+                  ),
+                ),
+              ),
+            ),
+          ),
+        ),
+      ),
+    )

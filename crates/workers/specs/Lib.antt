@@ -1,0 +1,4 @@
+pub mod Tries
+pub mod Tasks
+pub mod Trees
+pub mod Reports

@@ -1,0 +1,68 @@
+-- What a run of workers reports.
+use Rattle.std.specs.Prelude.{◌≡◌, ℕ, ◌+◌, ◌≤◌, List, [], ◌∷◌, ◌++◌, flat_map, length, map, sum_by}
+use Rattle.std.specs.declared.vec.Vec.{Vec}
+use Rattle.std.specs.Vec.{vec_capacity}
+use Rattle.std.specs.declared.alloc.Global.{Global}
+use Rattle.seq_model.specs.declared.call.Reply.{Reply}
+use Rattle.seq_model.specs.declared.record.Record.{Record}
+use Rattle.tx_engine.specs.declared.job.Ask.{Ask}
+use Rattle.tx_table.specs.declared.table.TxTable.{TxTable}
+use Rattle.workers.specs.declared.causes.LastAbort.{LastAbort}
+use Rattle.workers.specs.declared.report.Draft.{Draft}
+use Rattle.workers.specs.declared.report.Report.{Report}
+use Rattle.workers.specs.declared.tree.Tree.{Tree}
+use Rattle.transactions.specs.declared.seats.TxSeat.{TxSeat}
+use Rattle.workers.specs.Trees.{IsFresh, leaves, works}
+use Rattle.workers.specs.Tasks.{AreOutcomes, Gains, Outcome, missed_in, receipts_in}
+
+module _ {J : Type 0} where
+  -- the jobs of each list
+  abbrev pub jobs_of : List (Vec J Global) → List (List J)
+  jobs_of lists = map (λ list. list.items) lists
+
+  -- the workers of these lists, from this one on, each with its jobs
+  abbrev pub numbered : ℕ → List (List J) → List (ℕ × List J)
+  numbered first [] = []
+  numbered first (jobs ∷ lists) = (first, jobs) ∷ numbered (first + 1) lists
+
+  -- how many jobs there are in all
+  abbrev pub jobs_in : List (Vec J Global) → ℕ
+  jobs_in lists = sum_by (λ list. length list.items) lists
+
+  -- of these lists the last ones were taken, so many, and are those of the workers from this one on
+  pub record AreTaken (before after : List (Vec J Global)) (count first : ℕ) (workers : List (ℕ × List J)) : Type 0 where
+    pub taken : List (Vec J Global)
+    pub many : length taken ≡ count
+    pub parts : before ≡ after ++ taken
+    pub workers_are : workers ≡ numbered first (jobs_of taken)
+
+module _ {V J : Type 0} where
+  -- nothing is reported, and there is room for the receipts of these lists, and for their jobs
+  pub record HasRoomFor (lists : List (Vec J Global)) (d : Draft V) : Type 0 where
+    pub empty : (d.receipts.items ≡ []) × (d.missed.items ≡ [])
+    pub receipts : length lists ≤ vec_capacity d.receipts
+    pub missed : jobs_in lists ≤ vec_capacity d.missed
+
+  -- its workers are those of these lists, from 1 on, of which nothing has come so far
+  pub record IsTreeOf (lists : List (Vec J Global)) (t : Tree V J) : Type 0 where
+    pub workers_are : works t ≡ numbered 1 (jobs_of lists)
+    pub many : leaves t ≡ length lists
+    pub fresh : IsFresh t
+
+-- The seat has its shares again, and has gained the receipts that are reported, and no others.
+abbrev pub HasRun : {V : Type 0} → TxSeat V → TxSeat V → Report V → Type 0
+HasRun s u report = Gains s u (flat_map (λ receipts. receipts) report.receipts)
+
+module _ {V J : Type 0} (asks : J → List (Reply V) → Ask V → Type 0) (t : TxTable V) (tries : ℕ) where
+  -- The receipts of the workers, list by list, and what they missed: each of the first one's jobs has an outcome, and so on.
+  abbrev pub Reports : List (ℕ × List J) → List (List (Record V)) → List (ℕ × ℕ × LastAbort) → Type 0
+  Reports [] receipts missed = (receipts ≡ []) × (missed ≡ [])
+  Reports (w ∷ ws) receipts missed =
+      (outcomes : List (Outcome V)) × (others : List (List (Record V))) × (later : List (ℕ × ℕ × LastAbort))
+      × AreOutcomes asks t tries w.0 w.1 outcomes
+      × (receipts ≡ receipts_in outcomes ∷ others) × (missed ≡ missed_in w.0 0 outcomes ++ later) × Reports ws others later
+
+  -- Each job of each list has one receipt, of an attempt of that job, in the order of its list, or stands once among those that were
+  -- missed, with what so many attempts of it came to.
+  abbrev pub IsReportOf : List (List J) → Report V → Type 0
+  IsReportOf lists report = Reports (numbered 1 lists) report.receipts report.missed

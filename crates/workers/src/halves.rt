@@ -1,0 +1,171 @@
+//! The halves of the lists, each by a seat of its own, and the second by a thread.
+ghost use Rattle.std.specs.Prelude.{◌≡◌, ℕ, ◌≤◌};
+ghost use Rattle.std.specs.Thread.{IsSend, IsSync};
+ghost use Rattle.tx_table.specs.Seated.{view};
+ghost use Rattle.transactions.specs.Ready.{IsReady};
+ghost use Rattle.workers.specs.Trees.{AreOthers, CanRun, IsFresh, Ran, leaves};
+
+use crate::tree::Tree;
+use attempts::Pause;
+use seq_model::Value;
+use std::alloc::Global;
+use std::snapshot::Snapshot;
+use std::sync::Wait;
+use std::sync::atomic::{AtomicBool, Ordering};
+use std::thread::{Promise, Threads};
+use std::{mem, thread};
+use transactions::TxSeat;
+use tx_engine::Job;
+use tx_table::TxTable;
+
+/// A seat, and the lists that were run with it.
+type Done<V, J> = (TxSeat<V>, Box<Tree<V, J>>);
+
+/// How the half that a thread is given comes back.
+#[derive(Drop)]
+struct Half<V, J> {
+    table: Snapshot<TxTable<V>>,
+    seat: Snapshot<TxSeat<V>>,
+    tree: Snapshot<Box<Tree<V, J>>>,
+    tries: u64,
+}
+
+impl<V: Value, J: Job<V>> Promise<Done<V, J>> for Half<V, J> {
+    ghost kept_by = { λ p r. Ran J.asks p.table.value p.tries p.seat.value r.0 p.tree.value.value r.1.value };
+}
+
+/// The lists as they came, none of their jobs started.
+fn give_back<V: Value, J: Job<V>>(
+    table: &TxTable<V>,
+    seat: TxSeat<V>,
+    mut tree: Box<Tree<V, J>>,
+) -> Done<V, J>
+    requires ready { IsReady table.now seat }
+    requires fresh { IsFresh tree.value }
+    requires others { AreOthers tree.value }
+    ensures { (tries : ℕ) → Ran J.asks table.now tries seat result.0 tree.value result.1.value }
+{
+    let _ = table;
+    tree.leave();
+    (seat, tree)
+}
+
+/// All lists of a tree: of two halves the second by a thread with a seat of its own, or not at all where none can be started.
+#[cycle(shares)]
+pub fn share<
+    R: Threads + Wait + Sync,
+    V: Value + Send + Sync,
+    J: Job<V> + Drop + Send + Sync,
+    P: Pause + Sync,
+>(
+    rt: &R,
+    alloc: Global,
+    tries: u64,
+    pause: &P,
+    table: &TxTable<V>,
+    mut seat: TxSeat<V>,
+    mut tree: Box<Tree<V, J>>,
+) -> Done<V, J>
+    requires some { 1 ≤ tries }
+    requires ready { IsReady table.now seat }
+    requires shares { leaves tree.value ≤ (view seat.seat).shares }
+    requires few { leaves tree.value ≤ 64 }
+    requires fresh { IsFresh tree.value }
+    ensures { Ran J.asks table.now tries seat result.0 tree.value result.1.value }
+{
+    match mem::replace(&mut *tree, Tree::Taken) {
+        Tree::Taken => (seat, tree),
+        Tree::Leaf(mut task) => {
+            task.work(alloc, table, &mut seat, tries, pause);
+            *tree = Tree::Leaf(task);
+            (seat, tree)
+        }
+        Tree::Both(left, right) => {
+            let _left = left.count();
+            let shares = right.count();
+            let other = seat.split(table, shares);
+            let (first, second) = both(rt, alloc, tries, pause, table, seat, left, other, right);
+            let (mut seat, left) = first;
+            let (other, right) = second;
+            seat.join(table, other);
+            *tree = Tree::Both(left, right);
+            (seat, tree)
+        }
+    }
+}
+
+/// Two halves, the second by a thread.
+#[cycle(shares)]
+fn both<
+    R: Threads + Wait + Sync,
+    V: Value + Send + Sync,
+    J: Job<V> + Drop + Send + Sync,
+    P: Pause + Sync,
+>(
+    rt: &R,
+    alloc: Global,
+    tries: u64,
+    pause: &P,
+    table: &TxTable<V>,
+    seat: TxSeat<V>,
+    left: Box<Tree<V, J>>,
+    other: TxSeat<V>,
+    right: Box<Tree<V, J>>,
+) -> (Done<V, J>, Done<V, J>)
+    requires some { 1 ≤ tries }
+    requires first { CanRun table.now seat left.value }
+    requires second { CanRun table.now other right.value }
+    requires others { AreOthers right.value }
+    ensures first { Ran J.asks table.now tries seat result.0.0 left.value result.0.1.value }
+    ensures second { Ran J.asks table.now tries other result.1.0 right.value result.1.1.value }
+{
+    let refused = AtomicBool::new(false);
+    let refused = &refused;
+    thread::scope(
+        thread::scope_env(),
+        rt,
+        |scope| -> (Done<V, J>, Done<V, J>)
+            requires sync { IsSync R.row × IsSync P.row × IsSend V.row × IsSync V.row × IsSend J.row × IsSync J.row }
+            requires some { 1 ≤ tries }
+            requires first { CanRun table.now seat left.value }
+            requires second { CanRun table.now other right.value }
+            requires others { AreOthers right.value }
+            ensures first { Ran J.asks table.entry.now tries seat result.0.0 left.value result.0.1.value }
+            ensures second { Ran J.asks table.entry.now tries other result.1.0 right.value result.1.1.value }
+        {
+            let promise = Half {
+                table: Snapshot::of(table),
+                seat: Snapshot::of(&other),
+                tree: Snapshot::of(&right),
+                tries,
+            };
+            let child = scope.spawn_with(
+                promise,
+                || -> Done<V, J>
+                    requires sync { IsSync R.row × IsSync P.row × IsSend V.row × IsSync V.row × IsSend J.row × IsSync J.row }
+                    requires some { 1 ≤ tries }
+                    requires second { CanRun table.now other right.value }
+                    requires others { AreOthers right.value }
+                    ensures { Ran J.asks table.entry.now tries other result.0 right.value result.1.value }
+                {
+                    if refused.load(Ordering::SeqCst) {
+                        give_back(table, other, right)
+                    } else {
+                        share(rt, alloc, tries, pause, table, other, right)
+                    }
+                },
+            );
+            match child {
+                Ok(child) => {
+                    let first = share(rt, alloc, tries, pause, table, seat, left);
+                    (first, child.join(rt))
+                }
+                Err(not_started) => {
+                    refused.store(true, Ordering::SeqCst);
+                    let second = (not_started.value)();
+                    (share(rt, alloc, tries, pause, table, seat, left), second)
+                }
+            }
+        },
+    )
+}

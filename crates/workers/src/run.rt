@@ -1,0 +1,79 @@
+//! A worker for each list of jobs.
+ghost use Rattle.std.specs.Prelude.{◌≡◌, ◌≤◌, IfOk, OnErr, length};
+ghost use Rattle.tx_table.specs.Seated.{opening_of, view};
+ghost use Rattle.tx_phases.specs.Phases.{Rests};
+ghost use Rattle.driven_turns.specs.Driven.{standing};
+ghost use Rattle.transactions.specs.Ready.{IsReady};
+ghost use Rattle.transactions.specs.Requests.{KeepsReceipts};
+ghost use Rattle.workers.specs.Reports.{HasRoomFor, HasRun, IsReportOf, IsTreeOf, jobs_of};
+
+use crate::halves::share;
+use crate::lists::tree_of;
+use crate::report::{Draft, Report};
+use crate::tree::Tree;
+use attempts::Pause;
+use seq_model::{Memory, Value};
+use std::alloc::Global;
+use std::sync::Wait;
+use std::thread::Threads;
+use transactions::TxSeat;
+use tx_engine::Job;
+use tx_table::TxTable;
+
+/// All that is to be filled: a report with room for what may come of these lists, and the lists as a tree.
+fn prepare<V: Value, J: Job<V> + Drop>(
+    alloc: Global,
+    mut lists: Vec<Vec<J>>,
+) -> Result<(Draft<V>, Box<Tree<V, J>>), Memory>
+    requires lists { (1 ≤ length lists.items) × (length lists.items ≤ 64) }
+    ensures draft { IfOk result (λ made. HasRoomFor lists.items made.0) }
+    ensures tree { IfOk result (λ made. IsTreeOf lists.items made.1.value) }
+{
+    let draft = Draft::reserve(alloc, lists.as_slice())?;
+    let count = lists.len() as u64;
+    let tree = tree_of(alloc, &mut lists, count, 1)?;
+    Ok((draft, tree))
+}
+
+/// Runs each list of jobs by a worker of its own, at this table: the worker 1 by the seat that is handed in, each other one by a thread and
+/// by a seat that gets one of its shares and is joined again. A worker takes its jobs in order, each with at most so many attempts
+/// (`retry`); where no thread can be started for it, they are missed as `NotStarted`. It returns once all workers have ended, with the seat,
+/// which has its shares again, has gained just the receipts that are reported, and has no transaction.
+///
+/// `Memory` where what the workers fill can't be had, before any of them has started: the seat has gained nothing.
+pub fn run_workers<
+    R: Threads + Wait + Sync,
+    V: Value + Send + Sync,
+    J: Job<V> + Drop + Send + Sync,
+    P: Pause + Sync,
+>(
+    rt: &R,
+    alloc: Global,
+    table: &TxTable<V>,
+    mut seat: TxSeat<V>,
+    lists: Vec<Vec<J>>,
+    tries: u64,
+    pause: &P,
+) -> (TxSeat<V>, Result<Report<V>, Memory>)
+    requires some { 1 ≤ tries }
+    requires ready { IsReady table.now seat }
+    requires lists { (1 ≤ length lists.items) × (length lists.items ≤ 64) }
+    requires shares { length lists.items ≤ (view seat.seat).shares }
+    ensures ready { IsReady table.now result.0 }
+    ensures rests { standing (opening_of table.now) result.0.seat ≡ Rests }
+    ensures report { IfOk result.1 (IsReportOf J.asks table.now tries (jobs_of lists.items)) }
+    ensures gains { IfOk result.1 (HasRun seat result.0) }
+    ensures memory { OnErr result.1 (KeepsReceipts seat.seat result.0.seat) }
+{
+    match prepare(alloc, lists) {
+        Ok((draft, tree)) => {
+            let (mut seat, tree) = share(rt, alloc, tries, pause, table, seat, tree);
+            seat.abort(table);
+            (seat, Ok(draft.filled(tree)))
+        }
+        Err(memory) => {
+            seat.abort(table);
+            (seat, Err(memory))
+        }
+    }
+}
