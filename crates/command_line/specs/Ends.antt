@@ -13,9 +13,9 @@ use Rattle.session_text.specs.Audits.{IsAudited}
 use Rattle.session_text.specs.Plays.{IsRunOf}
 use Rattle.session_text.specs.Scripts.{IsOpeningOf, IsRefusedScript}
 use Rattle.session_text.specs.Prints.{run_text}
-use Rattle.session_files.specs.declared.fault.RunFault.{RunFault}
-use Rattle.session_files.specs.declared.fault.RunFault.TheVariants.{Audit, NotBalanced, Refused}
-use Rattle.session_files.specs.Faults as faults
+use Rattle.session_output.specs.declared.fault.RunFault.{RunFault}
+use Rattle.session_output.specs.declared.fault.RunFault.TheVariants.{Audit, NotBalanced, Refused}
+use Rattle.session_output.specs.Faults as faults
 use Rattle.session_files.specs.Outputs as outputs
 use Rattle.command_line.specs.declared.tool.TheConstants.{AUDIT_FAULT, MEMORY, REFUSED}
 use Rattle.command_line.specs.declared.work.TheConstants.{FILE_LIMIT}

@@ -12,7 +12,7 @@ use crate::work::{Cause, output_of};
 use clap::Error;
 use clap::error::ErrorKind;
 use seq_model::Refusal;
-use session_files::RunFault;
+use session_output::RunFault;
 use std::alloc::Global;
 use std::io;
 use std::io::{Read, Write};

@@ -4,10 +4,10 @@ ghost use Rattle.std.specs.Vec.{vec_len};
 ghost use Rattle.command_line.specs.declared.work.Cause.TheVariants.{Ended};
 ghost use Rattle.command_line.specs.Ends.{IsCause, IsFault, IsKnownOutput, IsOutput};
 ghost use Rattle.seq_model.specs.declared.refusal.Refusal.TheVariants.{OutOfMemory};
-ghost use Rattle.session_files.specs.declared.fault.RunFault.TheVariants.{Refused};
+ghost use Rattle.session_output.specs.declared.fault.RunFault.TheVariants.{Refused};
 
 use seq_model::Refusal;
-use session_files::RunFault;
+use session_output::RunFault;
 use session_text::{audit_run, print_trace, run_script};
 use std::alloc::{AllocError, Global};
 use std::io::Read;

@@ -26,12 +26,13 @@ use Rattle.world_table.specs.Audits.{without_actors}
 use Rattle.world_table.proofs.AuditLemmas.{audited}
 use Rattle.session_script.specs.declared.print.Line.{Line}
 use Rattle.session_script.specs.declared.print.Line.TheVariants.{Done}
+use Rattle.session_script.specs.declared.print.Line.TheVariants as line
 use Rattle.session_lines.specs.Receipts.{AreLines, AreReceipts}
 use Rattle.ordered_sessions.specs.Orders as orders
 use Rattle.ordered_sessions.specs.Orders.{of_client}
-use Rattle.session_files.specs.declared.fault.RunFault.{RunFault}
-use Rattle.session_files.specs.declared.fault.RunFault.TheVariants.{Refused, Audit, NotBalanced}
-use Rattle.session_files.specs.Findings.{IsFinding, IsSound}
+use Rattle.session_output.specs.declared.fault.RunFault.{RunFault}
+use Rattle.session_output.specs.declared.fault.RunFault.TheVariants.{Refused, Audit, NotBalanced}
+use Rattle.session_output.specs.Findings.{IsFinding, IsSound}
 use Rattle.session_files.specs.Runs.{AreTold}
 
 receipts_of : (deals : List Deal) (rs : List (Record Entry)) → AreSessions deals (of_client rs) → AreReceipts (map (λ d. d.0) deals) rs
@@ -66,6 +67,9 @@ told [] [] (l ∷ ls) are lines = absurd lines
 told [] (r ∷ rs) ls are lines = absurd are
 told (d ∷ ds) [] ls are lines = absurd are
 told (d ∷ ds) (r ∷ rs) [] are lines = absurd lines
+told (d ∷ ds) (r ∷ rs) (line.Refused refusal ∷ ls) are lines = absurd lines.0
+told (d ∷ ds) (r ∷ rs) (line.GivenUp ∷ ls) are lines = absurd lines.0
+told (d ∷ ds) (r ∷ rs) (line.NotStarted ∷ ls) are lines = absurd lines.0
 told (d ∷ ds) (r ∷ rs) (Done number reply ∷ ls) are lines =
     (one number reply r.number d.1 lines.0.0 (answered d r reply are.0.whole lines.0.1), told ds rs ls are.1 lines.1)
   where

@@ -1,4 +1,2 @@
-pub mod Faults
-pub mod Findings
 pub mod Outputs
 pub mod Runs

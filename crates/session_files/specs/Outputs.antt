@@ -1,15 +1,11 @@
 -- What is printed of a session file.
-use Rattle.std.specs.Prelude.{◌≡◌, ℕ, List, ◌++◌, codes}
+use Rattle.std.specs.Prelude.{◌≡◌, ℕ, List}
 use Rattle.vac_model.specs.declared.action.Action.{Action}
 use Rattle.vac_model.specs.Holdings.{Holdings}
-use Rattle.session_script.specs.Prints.{printed}
 use Rattle.session_script.specs.Sessions.{IsSessionText}
-use Rattle.session_files.specs.declared.runs.SessionRun.{SessionRun}
+use Rattle.session_output.specs.declared.output.SessionRun.{SessionRun}
+use Rattle.session_output.specs.Prints.{run_text}
 use Rattle.session_files.specs.Runs.{IsSessionRun}
-
--- what the last two lines say
-abbrev pub ending : List ℕ
-ending = codes "audit ok\nbalanced yes\n"
 
 -- The text spells tables and actions; the output prints what came of the sessions of these actions, one after another, on these tables.
 pub record IsOutput (text bytes : List ℕ) : Type 0 where
@@ -18,4 +14,4 @@ pub record IsOutput (text bytes : List ℕ) : Type 0 where
   pub run : SessionRun
   pub spelled : IsSessionText text tables actions
   pub made : IsSessionRun tables actions run
-  pub written : bytes ≡ printed run.lines.items run.tables ++ ending
+  pub written : bytes ≡ run_text run

@@ -10,8 +10,8 @@ use Rattle.vacation_core.specs.Runs.{AreDone, AreSessions, Deal, after_deals}
 use Rattle.session_script.specs.declared.print.Line.{Line}
 use Rattle.session_script.specs.declared.print.Line.TheVariants.{Done}
 use Rattle.ordered_sessions.specs.Orders.{of_client}
-use Rattle.session_files.specs.declared.runs.SessionRun.{SessionRun}
-use Rattle.session_files.specs.Findings.{IsSound}
+use Rattle.session_output.specs.declared.output.SessionRun.{SessionRun}
+use Rattle.session_output.specs.Findings.{IsSound}
 
 -- each line tells the number of a receipt, and what its action was answered
 abbrev pub AreTold : List Deal → List (Record Entry) → List Line → Type 0

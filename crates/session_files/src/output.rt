@@ -1,12 +1,11 @@
 //! What is printed of a session file.
-ghost use Rattle.std.specs.Prelude.{◌≡◌, ◌++◌, IfErr, IfOk};
-ghost use Rattle.session_files.specs.Faults.{IsFault};
-ghost use Rattle.session_files.specs.Outputs.{IsOutput, ending};
+ghost use Rattle.std.specs.Prelude.{IfErr, IfOk};
+ghost use Rattle.session_output.specs.Faults.{IsFault};
+ghost use Rattle.session_files.specs.Outputs.{IsOutput};
 
-use crate::fault::RunFault;
 use crate::runs::run_sessions;
-use seq_model::Memory;
-use session_script::{parse_sessions, print_sessions};
+use session_output::{RunFault, text_of};
+use session_script::parse_sessions;
 use std::alloc::Global;
 
 /// What the sessions of a file print: a line for each session, then what the tables hold, and that the receipts were audited and the
@@ -19,14 +18,5 @@ pub fn output_of(alloc: Global, text: &[u8]) -> Result<Vec<u8>, RunFault>
 {
     let (tables, actions) = parse_sessions(alloc, text)?;
     let run = run_sessions(alloc, tables, actions.as_slice())?;
-    let bytes = print_sessions(alloc, run.lines.as_slice(), &run.tables)?;
-    Ok(with_ending(bytes)?)
-}
-
-fn with_ending(text: Vec<u8>) -> Result<Vec<u8>, Memory>
-    ensures { IfOk result (λ bytes. bytes.items ≡ text.items ++ ending) }
-{
-    let mut bytes = text;
-    bytes.extend_from_slice(b"audit ok\nbalanced yes\n")?;
-    Ok(bytes)
+    Ok(text_of(alloc, &run)?)
 }

@@ -22,6 +22,7 @@ AreReceipts _ _ = ⊥
 -- the line tells the number of the receipt, and what the session answers by the replies in it
 abbrev pub IsLine : Action → Record Entry → Line → Type 0
 IsLine action r (Done number reply) = (number ≡ r.number) × (after (session action) (replies_of r.calls) ≡ Answers reply)
+IsLine action r line = ⊥
 
 abbrev pub AreLines : List Action → List (Record Entry) → List Line → Type 0
 AreLines [] [] [] = ⊤

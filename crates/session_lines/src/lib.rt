@@ -6,4 +6,4 @@
 
 mod lines;
 
-pub use lines::lines_of;
+pub use lines::{line_of, lines_of};

@@ -3,7 +3,7 @@ ghost use Rattle.std.specs.Prelude.{◌≡◌, IfOk};
 ghost use Rattle.tx_engine.specs.Programs.{after, asked, replies_of};
 ghost use Rattle.tx_engine.specs.declared.job.Ask.TheVariants as ask;
 ghost use Rattle.vac_model.specs.Actions.{IsAllowed};
-ghost use Rattle.vacation_core.specs.Sessions.{session};
+ghost use Rattle.vacation_core.specs.Sessions.{session as plan_of};
 ghost use Rattle.session_lines.specs.Receipts.{AreLines, AreReceipts, IsLine};
 
 use seq_model::{Memory, Record};
@@ -28,23 +28,29 @@ pub fn lines_of(
         let Some((receipt, behind)) = unread.split_first() else {
             return Err(Memory);
         };
-        lines.push(line_of(alloc, action, receipt)?)?;
+        lines.push(line_for(alloc, action, receipt)?)?;
         left = later;
         unread = behind;
     }
     Ok(lines)
 }
 
-fn line_of(alloc: Global, action: &Action, receipt: &Record<Entry>) -> Result<Line, Memory>
+fn line_for(alloc: Global, action: &Action, receipt: &Record<Entry>) -> Result<Line, Memory>
     requires allowed { IsAllowed action.now }
-    requires done { asked (after (session action.now) (replies_of receipt.now.calls)) ≡ ask.Done }
+    requires done { asked (after (plan_of action.now) (replies_of receipt.now.calls)) ≡ ask.Done }
     ensures { IfOk result (IsLine action.now receipt.now) }
 {
     match Session::new(alloc, action) {
-        Ok(session) => {
-            let reply = session.reply(receipt)?;
-            Ok(Line::Done(receipt.number, reply))
-        }
+        Ok(session) => line_of(&session, receipt),
         Err(_) => Err(Memory),
     }
+}
+
+/// What became of a session that has this receipt: the number of its commit, and what it answered.
+pub fn line_of(session: &Session, receipt: &Record<Entry>) -> Result<Line, Memory>
+    requires { asked (after (plan_of session.now) (replies_of receipt.now.calls)) ≡ ask.Done }
+    ensures { IfOk result (IsLine session.now receipt.now) }
+{
+    let reply = session.reply(receipt)?;
+    Ok(Line::Done(receipt.number, reply))
 }

@@ -2,6 +2,7 @@
 use Rattle.std.specs.Prelude.{ℕ, ◌+◌, List, [], ◌∷◌, ◌++◌, codes, flat_map, length, ◌==◌, if◌then◌else◌}
 use Rattle.std.specs.Fmt.{decimal}
 use Rattle.std.specs.FinMap as map
+use Rattle.seq_model.specs.Texts.{refusal_text}
 use Rattle.vac_model.specs.declared.action.ActionReply.{ActionReply}
 use Rattle.vac_model.specs.declared.action.ActionReply.TheVariants.{Reserved, Deleted, Updated, Found, Bill, Absent}
 use Rattle.vac_model.specs.declared.action.Changed.{Changed}
@@ -18,7 +19,7 @@ use Rattle.vac_model.specs.declared.item.Kind.TheVariants.{Car, Flight, Room}
 use Rattle.vac_model.specs.declared.item.Wait.{Wait}
 use Rattle.vac_model.specs.Holdings.{Holdings, of_kind, queue}
 use Rattle.session_script.specs.declared.print.Line.{Line}
-use Rattle.session_script.specs.declared.print.Line.TheVariants.{Done}
+use Rattle.session_script.specs.declared.print.Line.TheVariants as line
 use Rattle.session_script.specs.Lines.{kind_token}
 
 abbrev pub number_text : ℕ → List ℕ
@@ -59,9 +60,16 @@ reply_text Absent = codes "absent"
 
 -- ---- sessions
 
+-- the number of its commit and its reply, or why it has none
+abbrev pub outcome_text : Line → List ℕ
+outcome_text (line.Done number reply) = decimal number ++ (codes ": " ++ reply_text reply)
+outcome_text (line.Refused refusal) = codes "missed: " ++ refusal_text refusal
+outcome_text line.GivenUp = codes "missed: given up"
+outcome_text line.NotStarted = codes "missed: not started"
+
 -- the line of the session with this number
 abbrev pub line_text : ℕ → Line → List ℕ
-line_text n (Done number reply) = decimal n ++ (codes " " ++ (decimal number ++ (codes ": " ++ (reply_text reply ++ (10 ∷ [])))))
+line_text n line = decimal n ++ (codes " " ++ (outcome_text line ++ (10 ∷ [])))
 
 -- the lines of sessions, the first with this number
 abbrev pub lines_text : ℕ → List Line → List ℕ

@@ -3,9 +3,9 @@ ghost use Rattle.std.specs.Prelude.{◌≡◌, ◌+◌, ◌++◌, IfOk, OnOk, fl
 ghost use Rattle.std.specs.FinMap as map;
 ghost use Rattle.std.specs.String.{string_bytes};
 ghost use Rattle.session_script.specs.Lines.{kind_token};
-ghost use Rattle.session_script.specs.Prints.{line_text, lines_text, printed, booking_text, changed_text, changes_text, customer_line, item_text, items_text, number_text, part_text, parts_text, queue_text, reply_text, tables_text, wait_text};
+ghost use Rattle.session_script.specs.Prints.{line_text, lines_text, outcome_text, printed, booking_text, changed_text, changes_text, customer_line, item_text, items_text, number_text, part_text, parts_text, queue_text, reply_text, tables_text, wait_text};
 
-use seq_model::Memory;
+use seq_model::{Memory, Refusal};
 use std::alloc::Global;
 use std::fmt::Write;
 use vac_model::{ActionReply, Booking, Changed, Each, Item, Kind, Part, Tables, Wait};
@@ -15,6 +15,12 @@ use vac_model::{ActionReply, Booking, Changed, Each, Item, Kind, Part, Tables, W
 pub enum Line {
     /// The number of its commit, and its reply.
     Done(u64, ActionReply),
+    /// It has no receipt: its last attempt was refused so.
+    Refused(Refusal),
+    /// It has no receipt: it gave up.
+    GivenUp,
+    /// It has no receipt: its worker was not started.
+    NotStarted,
 }
 
 /// The text of what came of sessions: a line for each, from 1, and then what the tables hold.
@@ -41,10 +47,24 @@ fn print_lines(text: &mut String, lines: &[Line]) -> Result<(), Memory>
 fn print_line(text: &mut String, session: u64, line: &Line) -> Result<(), Memory>
     ensures { OnOk result (string_bytes text.new ≡ string_bytes text.old ++ line_text session line.now) }
 {
-    let Line::Done(number, reply) = line;
-    write!(text, "{session} {number}: ")?;
-    print_reply(text, reply)?;
+    write!(text, "{session} ")?;
+    print_outcome(text, line)?;
     text.push('\n')?;
+    Ok(())
+}
+
+fn print_outcome(text: &mut String, line: &Line) -> Result<(), Memory>
+    ensures { OnOk result (string_bytes text.new ≡ string_bytes text.old ++ outcome_text line.now) }
+{
+    match line {
+        Line::Done(number, reply) => {
+            write!(text, "{number}: ")?;
+            print_reply(text, reply)?;
+        }
+        Line::Refused(refusal) => write!(text, "missed: {refusal}")?,
+        Line::GivenUp => text.push_str("missed: given up")?,
+        Line::NotStarted => text.push_str("missed: not started")?,
+    }
     Ok(())
 }
 

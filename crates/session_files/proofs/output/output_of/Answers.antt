@@ -1,8 +1,5 @@
-use Rattle.std.proofs.Common.{◌≡◌, ◌∙◌, ◌++◌, ap, subst, List, ℕ}
+use Rattle.std.proofs.Common.{subst, List}
 use Rattle.vac_model.specs.declared.action.Action.{Action}
-use Rattle.session_script.specs.declared.print.Line.{Line}
-use Rattle.session_script.specs.Prints.{printed}
-use Rattle.session_files.specs.Outputs.{ending}
 use Rattle.session_files.specs.Runs.{IsSessionRun}
 use Rattle.session_files.proofs.output.output_of.Goals as goal
 
@@ -14,7 +11,5 @@ returns-clause-output c = record {
   spelled = c.in_ok-tables.ensures.sessions;
   made = subst (λ (actions : List Action). IsSessionRun c.in_ok-tables.tables actions c.in_ok-run.run') c.as_slice.ensures
       c.in_ok-run.ensures.run;
-  written =
-      c.in_ok-with_ending.ensures ∙ ap (λ (text : List ℕ). text ++ ending)
-      (c.in_ok-bytes.ensures ∙ ap (λ (lines : List Line). printed lines c.in_ok-run.run'.tables) c.as_slice-2.ensures.value);
+  written = c.in_ok-text_of.ensures;
 }

@@ -1,8 +1,8 @@
 use Rattle.session_lines.proofs.LineLemmas.{at_end, first_of, is_done}
 use Rattle.session_lines.proofs.lines.lines_of.Goals as goal
 
-pub line_of-requires-clause-done : goal.line_of-requires-clause-done
-line_of-requires-clause-done c =
+pub line_for-requires-clause-done : goal.line_for-requires-clause-done
+line_for-requires-clause-done c =
     is_done c.in-Some.action.now c.in-Some-split_first.receipt.now
     (first_of c.loop-action.left.now c.in-Some.later.now c.loop-action.unread.now c.in-Some-split_first.behind.now c.in-Some.action.now
     c.in-Some-split_first.receipt.now c.in-Some.ensures.cases.0 c.in-Some-split_first.ensures.cases.0 c.loop-action.invariant.receipts).0

@@ -4,8 +4,8 @@ use Rattle.seq_model.specs.declared.auditing.AuditFault.{AuditFault}
 use Rattle.seq_model.specs.declared.auditing.AuditFault.TheVariants as audit
 use Rattle.seq_model.specs.declared.refusal.Refusal.TheVariants.{BadText, OutOfMemory}
 use Rattle.session_script.specs.Sessions.{IsUnreadable}
-use Rattle.session_files.specs.declared.fault.RunFault.{RunFault}
-use Rattle.session_files.specs.declared.fault.RunFault.TheVariants.{Refused, Audit}
+use Rattle.session_output.specs.declared.fault.RunFault.{RunFault}
+use Rattle.session_output.specs.declared.fault.RunFault.TheVariants.{Refused, Audit}
 
 -- want of memory is no finding of an audit
 abbrev pub audit_fault : AuditFault → RunFault

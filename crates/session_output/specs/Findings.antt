@@ -9,8 +9,8 @@ use Rattle.seq_model.specs.Contents.{Contents}
 use Rattle.vac_model.specs.Balanced.{IsBalanced}
 use Rattle.vac_model.specs.Holdings.{Holdings}
 use Rattle.vacation_core.specs.declared.entry.Entry.{Entry}
-use Rattle.session_files.specs.declared.fault.RunFault.{RunFault}
-use Rattle.session_files.specs.declared.fault.RunFault.TheVariants.{Refused, Audit, NotBalanced}
+use Rattle.session_output.specs.declared.fault.RunFault.{RunFault}
+use Rattle.session_output.specs.declared.fault.RunFault.TheVariants.{Refused, Audit, NotBalanced}
 
 -- the receipts are a run from one state to the other, and the tables are balanced
 pub record IsSound (opening : Contents Entry) (receipts : List (Record Entry)) (last : Contents Entry) (tables : Holdings) : Type 0 where

@@ -1,8 +1,8 @@
 //! Why a text has no output.
 ghost use Rattle.std.specs.Prelude.{◌≡◌};
-ghost use Rattle.session_files.specs.declared.fault.RunFault.TheVariants.{Refused};
+ghost use Rattle.session_output.specs.declared.fault.RunFault.TheVariants.{Refused};
 ghost use Rattle.seq_model.specs.declared.refusal.Refusal.TheVariants.{OutOfMemory};
-ghost use Rattle.session_files.specs.Faults.{audit_fault};
+ghost use Rattle.session_output.specs.Faults.{audit_fault};
 
 use seq_model::{AuditFault, Memory, Refusal};
 
