@@ -1,0 +1,8 @@
+-- A seat between its requests.
+use Rattle.tx_table.specs.declared.table.TxTable.{TxTable}
+use Rattle.transactions.specs.declared.seats.TxSeat.{TxSeat}
+use Rattle.transactions.specs.Ready.{HasBegunSince, IsReady}
+
+pub record IsFit {V : Type 0} (t : TxTable V) (s : TxSeat V) : Type 0 where
+  pub ready : IsReady t s
+  pub since : HasBegunSince t s

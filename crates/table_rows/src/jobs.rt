@@ -1,0 +1,63 @@
+//! Jobs that a row spells.
+use seq_model::{Items, Memory, Reply, Request};
+use std::alloc::Global;
+use step_script::{Line, Script};
+use tx_engine::{Ask, Job};
+
+/// What a job asks once its calls are made.
+#[derive(Clone, Copy)]
+enum End {
+    Done,
+    GivesUp,
+    WantsMemory,
+}
+
+/// A job that asks the calls of these lines, one after another, whatever it is replied, and then ends.
+#[derive(Drop)]
+pub struct Listed {
+    lines: Items<Line>,
+    end: End,
+}
+
+impl Listed {
+    /// It is done after its calls.
+    pub fn of(script: Script) -> Listed {
+        Listed {
+            lines: script.lines,
+            end: End::Done,
+        }
+    }
+
+    /// It gives up at once.
+    pub fn giving_up(alloc: Global) -> Listed {
+        Listed {
+            lines: Items::new(alloc),
+            end: End::GivesUp,
+        }
+    }
+
+    /// It has no memory for what it would ask first.
+    pub fn wanting_memory(alloc: Global) -> Listed {
+        Listed {
+            lines: Items::new(alloc),
+            end: End::WantsMemory,
+        }
+    }
+
+    fn end(&self) -> Result<Ask<u64>, Memory> {
+        match self.end {
+            End::Done => Ok(Ask::Done),
+            End::GivesUp => Ok(Ask::GiveUp),
+            End::WantsMemory => Err(Memory),
+        }
+    }
+}
+
+impl Job<u64> for Listed {
+    fn ask(&self, replies: &[Reply<u64>]) -> Result<Ask<u64>, Memory> {
+        match self.lines.as_slice().get(replies.len()) {
+            Some(Line::Do(_, Request::Call(call))) => Ok(Ask::Call(call.try_copy()?)),
+            _ => self.end(),
+        }
+    }
+}

@@ -1,0 +1,16 @@
+//! What test rows on the shared table are made of.
+//!
+//! A row opens a table as a step script's header does; a job is spelled by the calls that it asks; and once the table is closed, the audit
+//! of all receipts has to be Ok. Workers may be held before their commits until all stand there. Who runs the transactions stands in the crates
+//! that use this one.
+#![tactic(auto)]
+
+mod ends;
+mod jobs;
+mod meeting;
+mod openings;
+
+pub use ends::{audit_receipts, close, print_closed, print_receipt};
+pub use jobs::Listed;
+pub use meeting::Meeting;
+pub use openings::{open, opening_of, script_of};

@@ -1,0 +1,55 @@
+//! How a row opens a table.
+ghost use Rattle.std.specs.Prelude.{◌≡◌, IfOk};
+ghost use Rattle.tx_table.specs.Seated.{view};
+ghost use Rattle.transactions.specs.Ready.{IsReady};
+
+use seq_model::{Items, Memory, Refusal, Shape, State};
+use std::alloc::Global;
+use step_script::{Script, parse_steps};
+use transactions::TxSeat;
+use tx_table::TxTable;
+
+/// The script of lines with `; ` between.
+pub fn script_of(alloc: Global, row: &str) -> Result<Script, Refusal> {
+    let mut lines = String::new(alloc);
+    for line in row.split("; ") {
+        lines.push_str(line)?;
+        lines.push('\n')?;
+    }
+    parse_steps(alloc, lines.as_bytes())
+}
+
+/// The state that the header of a script says.
+pub fn opening_of(alloc: Global, script: &Script) -> Result<State<u64>, Refusal> {
+    let words = Vec::from_slice(alloc, script.words.as_slice())?;
+    let mut held = Vec::new(alloc);
+    for collection in script.collections.as_slice() {
+        held.push(collection.held.try_copy(alloc)?)?;
+    }
+    State::new(words, held)
+}
+
+fn shape_of(alloc: Global, script: &Script) -> Result<Shape, Memory> {
+    let mut stripes = Vec::new(alloc);
+    for collection in script.collections.as_slice() {
+        stripes.push(collection.stripes)?;
+    }
+    Ok(Shape {
+        stripes: Items::from_vec(stripes),
+        clock: script.clock,
+    })
+}
+
+/// The table that the header of a script says, and its first seat, which has all shares.
+pub fn open(
+    alloc: Global,
+    script: &Script,
+    opening: &State<u64>,
+) -> Result<(TxTable<u64>, TxSeat<u64>), Refusal>
+    ensures ready { IfOk result (λ opened. IsReady opened.0 opened.1) }
+    ensures shares { IfOk result (λ opened. (view opened.1.seat).shares ≡ 64) }
+{
+    let shape = shape_of(alloc, script)?;
+    let state = opening.try_copy(alloc)?;
+    TxSeat::open(alloc, &shape, state)
+}
