@@ -1,0 +1,124 @@
+-- What is reported of the workers, as outcomes of the actions of each list.
+-- A report gives one outcome for each action (`outcomes_in`). Those that are receipts, with their actions, are the receipts of the report,
+-- one list after another (`all_receipts`), and each has all calls of the session of its action (`all_whole`).
+use Rattle.std.proofs.Common.{◌≡◌, ℕ, ◌+◌, List, [], ◌∷◌, ◌++◌, refl, sym, ◌∙◌, ap, subst, inl, inr}
+use Rattle.std.proofs.lemmas.List.{map-append}
+use Rattle.std.proofs.lemmas.List.Concat.{flat_map-cons}
+use Rattle.std.proofs.lemmas.List.Elements.{All-append, All-cons, All-head, All-nil, All-tail}
+use Rattle.std.specs.Prelude.{All, Err, IfOk, Ok, flat_map, map}
+use Rattle.seq_model.specs.declared.record.Record.{Record}
+use Rattle.vac_model.specs.declared.action.Action.{Action}
+use Rattle.vac_model.specs.Actions.{IsAllowed}
+use Rattle.vacation_core.specs.declared.entry.Entry.{Entry}
+use Rattle.served_sessions.specs.Served.{IsWhole}
+use Rattle.attempts.specs.Jobs.{IsWholeJob}
+use Rattle.workers.specs.declared.causes.LastAbort.{LastAbort}
+use Rattle.workers.specs.declared.report.Report.{Report}
+use Rattle.workers.specs.Reports.{IsReportOf, Reports, numbered}
+use Rattle.workers.specs.Tasks as worked
+use Rattle.workers.specs.Tasks.{AreNotStarted, AreTried, Outcome, missed_in, receipts_in}
+use Rattle.workers.specs.Tries.{HasReceipt}
+use Rattle.tx_table.specs.declared.table.TxTable.{TxTable}
+use Rattle.transactions.specs.declared.seats.TxSeat.{TxSeat}
+use Rattle.serving.specs.Serving.{AreAllOutcomes, AreAllowed, AreOutcomes, AreReported, all_dealt, all_missed, asks_of, dealt}
+
+-- ---- the outcomes of a report
+record HasOutcomes (first : ℕ) (lists : List (List Action)) (receipts : List (List (Record Entry))) (missed : List (ℕ × ℕ × LastAbort))
+    : Type 0 where
+  outcomes : List (List (Outcome Entry))
+  each : AreAllOutcomes lists outcomes
+  receipts_are : receipts ≡ map receipts_in outcomes
+  missed_are : missed ≡ all_missed first outcomes
+
+module _ (t : TxTable Entry) (tries : ℕ) where
+  has_job : (action : Action) (s u : TxSeat Entry) (o : Outcome Entry) → IfOk o (HasReceipt (asks_of action) t tries s.seat u.seat)
+      → IfOk o (λ r. IsWholeJob (asks_of action) r.calls)
+  has_job action s u (Ok r) h = h.job
+  has_job action s u (Err cause) h = tt
+
+  of_tried : (actions : List Action) (os : List (Outcome Entry)) (s u : TxSeat Entry) → AreTried asks_of t tries actions os s u
+      → AreOutcomes actions os
+  of_tried [] [] s u h = tt
+  of_tried [] (o ∷ os) s u h = absurd h
+  of_tried (a ∷ actions) [] s u h = absurd h
+  of_tried (a ∷ actions) (o ∷ os) s u (m, tried, rest) = (has_job a s m o tried.receipt, of_tried actions os m u rest)
+
+  of_left : (actions : List Action) (os : List (Outcome Entry)) → AreNotStarted actions os → AreOutcomes actions os
+  of_left [] [] h = tt
+  of_left [] (o ∷ os) h = absurd h
+  of_left (a ∷ actions) [] h = absurd h
+  of_left (a ∷ actions) (o ∷ os) h =
+      (subst (λ (q : Outcome Entry). IfOk q (λ r. IsWholeJob (asks_of a) r.calls)) (sym h.0) tt, of_left actions os h.1)
+
+  of_outcomes : (worker : ℕ) (actions : List Action) (os : List (Outcome Entry)) → worked.AreOutcomes asks_of t tries worker actions os
+      → AreOutcomes actions os
+  of_outcomes worker actions os (inl (s, u, ready, tried)) = of_tried actions os s u tried
+  of_outcomes worker actions os (inr (later, left)) = of_left actions os left
+
+  outcomes_from : (first : ℕ) (lists : List (List Action)) (receipts : List (List (Record Entry))) (missed : List (ℕ × ℕ × LastAbort))
+      → Reports asks_of t tries (numbered first lists) receipts missed → HasOutcomes first lists receipts missed
+  outcomes_from first [] receipts missed h = record { outcomes = []; each = tt; receipts_are = h.0; missed_are = h.1 }
+  outcomes_from first (actions ∷ lists) receipts missed (os, others, later, are, receipts_are, missed_are, rest) =
+      let h = outcomes_from (first + 1) lists others later rest in
+      record {
+        outcomes = os ∷ h.outcomes;
+        each = (of_outcomes first actions os are, h.each);
+        receipts_are = receipts_are ∙ ap (λ (rs : List (List (Record Entry))). receipts_in os ∷ rs) h.receipts_are;
+        missed_are = missed_are ∙ ap (λ (ms : List (ℕ × ℕ × LastAbort)). missed_in first 0 os ++ ms) h.missed_are;
+      }
+
+  pub outcomes_in : (lists : List (List Action)) (report : Report Entry) → IsReportOf asks_of t tries lists report
+      → (outcomes : List (List (Outcome Entry))) × AreReported lists report outcomes
+  outcomes_in lists report h =
+      let o = outcomes_from 1 lists report.receipts report.missed h in (
+        o.outcomes,
+        record { each = o.each; receipts = o.receipts_are; missed = o.missed_are },
+      )
+
+-- ---- their receipts, with the actions
+receipts_dealt : (actions : List Action) (os : List (Outcome Entry)) → AreOutcomes actions os
+    → map (λ d. d.1) (dealt actions os) ≡ receipts_in os
+receipts_dealt [] [] are = refl
+receipts_dealt [] (o ∷ os) are = absurd are
+receipts_dealt (a ∷ actions) [] are = absurd are
+receipts_dealt (a ∷ actions) (Ok r ∷ os) are = ap (λ (rs : List (Record Entry)). r ∷ rs) (receipts_dealt actions os are.1)
+receipts_dealt (a ∷ actions) (Err cause ∷ os) are = receipts_dealt actions os are.1
+
+pub all_receipts : (lists : List (List Action)) (outcomes : List (List (Outcome Entry))) → AreAllOutcomes lists outcomes
+    → map (λ d. d.1) (all_dealt lists outcomes) ≡ flat_map (λ (rs : List (Record Entry)). rs) (map receipts_in outcomes)
+all_receipts [] [] are = refl
+all_receipts [] (os ∷ more) are = absurd are
+all_receipts (actions ∷ lists) [] are = absurd are
+all_receipts (actions ∷ lists) (os ∷ more) are =
+    map-append (λ (d : Action × Record Entry). d.1) (dealt actions os) (all_dealt lists more)
+    ∙ ap (λ (rs : List (Record Entry)). rs ++ map (λ (d : Action × Record Entry). d.1) (all_dealt lists more)) (receipts_dealt actions os are.0)
+    ∙ ap (λ (rs : List (Record Entry)). receipts_in os ++ rs) (all_receipts lists more are.1)
+    ∙ sym (flat_map-cons (λ (rs : List (Record Entry)). rs) (receipts_in os) (map receipts_in more))
+
+abbrev pub IsOwn : Action × Record Entry → Type 0
+IsOwn d = IsWhole d.0 d.1.calls
+
+whole_of : (action : Action) (r : Record Entry) → IsAllowed action → IsWholeJob (asks_of action) r.calls → IsWhole action r.calls
+whole_of action r allowed job = record {
+  allowed = allowed;
+  each = λ i d lt. sym (job.each i d lt);
+  done = sym job.done;
+}
+
+whole_dealt : (actions : List Action) (os : List (Outcome Entry)) → All IsAllowed actions → AreOutcomes actions os
+    → All IsOwn (dealt actions os)
+whole_dealt [] os allowed are = All-nil IsOwn
+whole_dealt (a ∷ actions) [] allowed are = All-nil IsOwn
+whole_dealt (a ∷ actions) (Ok r ∷ os) allowed are =
+    All-cons IsOwn (a, r) (dealt actions os) (whole_of a r (All-head IsAllowed a actions allowed) are.0)
+    (whole_dealt actions os (All-tail IsAllowed a actions allowed) are.1)
+whole_dealt (a ∷ actions) (Err cause ∷ os) allowed are = whole_dealt actions os (All-tail IsAllowed a actions allowed) are.1
+
+pub all_whole : (lists : List (List Action)) (outcomes : List (List (Outcome Entry))) → AreAllowed lists → AreAllOutcomes lists outcomes
+    → All IsOwn (all_dealt lists outcomes)
+all_whole [] outcomes allowed are = All-nil IsOwn
+all_whole (actions ∷ lists) [] allowed are = All-nil IsOwn
+all_whole (actions ∷ lists) (os ∷ more) allowed are =
+    let P : List Action → Type 0 = λ xs. All IsAllowed xs in
+    All-append IsOwn (dealt actions os) (all_dealt lists more) (whole_dealt actions os (All-head P actions lists allowed) are.0)
+    (all_whole lists more (All-tail P actions lists allowed) are.1)

@@ -1,0 +1,141 @@
+-- The receipts of the workers are a run of their actions.
+-- The seat has gained just the receipts that are reported, so each of its receipts is one of an action's session (`paired`); in commit order
+-- they are a run, which is what the law of whole sessions asks for. What is left is the state of tables, and only of these.
+use Rattle.std.proofs.Common.{◌≡◌, ℕ, List, [], ◌∷◌, ◌++◌, refl, sym, ◌∙◌, ap, subst}
+use Rattle.std.proofs.lemmas.List.Elements.{All-cons, All-head, All-nil, All-tail}
+use Rattle.std.proofs.lemmas.List.Recursion.{is_sum_by}
+use Rattle.std.specs.Prelude.{All, IfOk, Ok, Result, flat_map, map, sum_by}
+use Rattle.seq_model.specs.declared.record.Record.{Record}
+use Rattle.seq_model.specs.Contents.{Contents}
+use Rattle.vac_model.specs.declared.action.Action.{Action}
+use Rattle.vac_model.specs.Balanced.{IsBalanced}
+use Rattle.vac_model.specs.Holdings.{Holdings}
+use Rattle.vacation_core.specs.declared.entry.Entry.{Entry}
+use Rattle.vacation_core.specs.Holding.{HoldsTables, state_of}
+use Rattle.vacation_core.specs.Runs.{after_deals}
+use Rattle.seq_model.specs.declared.held.Held.{Held}
+use Rattle.seq_model.specs.declared.refusal.Memory.{Memory}
+use Rattle.tx_table.specs.declared.table.TxTable.{TxTable}
+use Rattle.tx_table.specs.Seated.{contents_in, view}
+use Rattle.tx_table.specs.Shown.{total}
+use Rattle.tx_table.specs.declared.view.View.{View}
+use Rattle.transactions.specs.declared.seats.TxSeat.{TxSeat}
+use Rattle.served_sessions.specs.Served.{HaveSame, IsWhole, Receipt, records_in}
+use Rattle.served_sessions.proofs.ServedLemmas.{receipts_are_actions}
+use Rattle.workers.specs.declared.report.Report.{Report}
+use Rattle.workers.specs.Reports.{HasRun, IsReportOf}
+use Rattle.workers.specs.Tasks.{Outcome, records_of}
+use Rattle.serving.specs.Serving.{AreAllowed, AreReported, AreRun, HasOpened, IsLeft, all_dealt, asks_of}
+use Rattle.serving.proofs.ReportLemmas.{IsOwn, all_receipts, all_whole, outcomes_in}
+
+-- receipts of a seat, each with the action of the reported receipt that it is
+record ArePaired (receipts : List (ℕ × Record Entry)) (reported : List (Action × Record Entry)) : Type 0 where
+  own : List Receipt
+  records : records_in own ≡ receipts
+  same : map (λ x. (x.0, x.1.1)) own ≡ reported
+
+head_same : (x y : Record Entry) (xs ys : List (Record Entry)) → ◌≡◌ {A = List (Record Entry)} (x ∷ xs) (y ∷ ys) → x ≡ y
+head_same x y xs ys e = cc
+
+tail_same : (x y : Record Entry) (xs ys : List (Record Entry)) → ◌≡◌ {A = List (Record Entry)} (x ∷ xs) (y ∷ ys) → xs ≡ ys
+tail_same x y xs ys e = cc
+
+none_some : (y : Record Entry) (ys : List (Record Entry)) → ◌≡◌ {A = List (Record Entry)} [] (y ∷ ys) → ⊥
+none_some y ys e = cc
+
+paired : (receipts : List (ℕ × Record Entry)) (reported : List (Action × Record Entry))
+    → map (λ e. e.1) receipts ≡ map (λ d. d.1) reported → ArePaired receipts reported
+paired [] [] e = record { own = []; records = refl; same = refl }
+paired [] (d ∷ ds) e = absurd (none_some d.1 (map (λ d. d.1) ds) e)
+paired (r ∷ rs) [] e = absurd (none_some r.1 (map (λ x. x.1) rs) (sym e))
+paired (r ∷ rs) (d ∷ ds) e =
+    let p = paired rs ds (tail_same r.1 d.1 (map (λ x. x.1) rs) (map (λ x. x.1) ds) e) in
+    let same : r.1 ≡ d.1 = head_same r.1 d.1 (map (λ x. x.1) rs) (map (λ x. x.1) ds) e in
+    record {
+      own = (d.0, r) ∷ p.own;
+      records = ap (λ (xs : List (ℕ × Record Entry)). r ∷ xs) p.records;
+      same = ap (λ (y : Record Entry). (d.0, y) ∷ map (λ (x : Receipt). (x.0, x.1.1)) p.own) same
+          ∙ ap (λ (xs : List (Action × Record Entry)). d ∷ xs) p.same;
+    }
+
+abbrev IsOwnReceipt : Receipt → Type 0
+IsOwnReceipt x = IsWhole x.0 x.1.1.calls
+
+own_each : (own : List Receipt) → All IsOwn (map (λ x. (x.0, x.1.1)) own) → All IsOwnReceipt own
+own_each [] all = All-nil IsOwnReceipt
+own_each (x ∷ xs) all =
+    let rest : List (Action × Record Entry) = map (λ y. (y.0, y.1.1)) xs in
+    All-cons IsOwnReceipt x xs (All-head IsOwn (x.0, x.1.1) rest all) (own_each xs (All-tail IsOwn (x.0, x.1.1) rest all))
+
+-- what the seat leaves is a run of the actions that are reported with a receipt
+pub run_of : (tables : Holdings) (lists : List (List Action)) (report : Report Entry) (receipts : List (ℕ × Record Entry))
+    (s : Contents Entry) (t : TxTable Entry) (tries : ℕ) (reported : IsReportOf asks_of t tries lists report)
+    → IsBalanced tables → AreAllowed lists → map (λ e. e.1) receipts ≡ flat_map (λ (rs : List (Record Entry)). rs) report.receipts
+    → IsLeft (state_of tables) receipts s
+    → AreRun tables (all_dealt lists (outcomes_in t tries lists report reported).0) s
+run_of tables lists report receipts s t tries reported balanced allowed gained left =
+    let o = outcomes_in t tries lists report reported in
+    let each : AreReported lists report o.0 = o.1 in
+    let all : All IsOwn (all_dealt lists o.0) = all_whole lists o.0 allowed each.each in
+    let p : ArePaired receipts (all_dealt lists o.0) =
+    paired receipts (all_dealt lists o.0)
+    (gained ∙ ap (λ (rs : List (List (Record Entry))). flat_map (λ (qs : List (Record Entry)). qs) rs) each.receipts
+    ∙ sym (all_receipts lists o.0 each.each)) in
+    record {
+      own = p.own;
+      same = p.same;
+      order = left.order;
+      served = receipts_are_actions tables p.own left.order balanced
+          (own_each p.own (subst (λ (ds : List (Action × Record Entry)). All IsOwn ds) (sym p.same) all))
+          (λ h. subst (λ (xs : List (ℕ × Record Entry)). sum_by h xs ≡ sum_by h left.order) (sym p.records) (left.same h))
+          left.in_order left.run;
+      left = left.left;
+    }
+
+-- and so are the receipts of a table that opened on the tables
+pub served_so : (tables : Holdings) (lists jobs : List (List Action)) (t : TxTable Entry) (tries : ℕ) (s u : TxSeat Entry)
+    (r : Result (Report Entry) Memory) (report : Report Entry) (state : Contents Entry)
+    → IsBalanced tables → AreAllowed lists → jobs ≡ lists → HasOpened tables t s
+    → IfOk r (IsReportOf asks_of t tries jobs) → IfOk r (HasRun s u) → r ≡ Ok report → IsLeft (contents_in t) (view u.seat).receipts state
+    → (outcomes : List (List (Outcome Entry))) × AreReported lists report outcomes × AreRun tables (all_dealt lists outcomes) state
+    × IsReportOf asks_of t tries lists report
+served_so tables lists jobs t tries s u r report state balanced allowed same opened reports runs is left =
+    let reported : IsReportOf asks_of t tries lists report =
+    subst (λ (js : List (List Action)). IsReportOf asks_of t tries js report) same
+    (subst (λ (q : Result (Report Entry) Memory). IfOk q (IsReportOf asks_of t tries jobs)) is reports) in
+    let run : HasRun s u report = subst (λ (q : Result (Report Entry) Memory). IfOk q (HasRun s u)) is runs in
+    let o = outcomes_in t tries lists report reported in (
+      o.0,
+      o.1,
+      run_of tables lists report (view u.seat).receipts state t tries reported balanced allowed
+          (subst (λ (v : View Entry). records_of u ≡ map (λ e. e.1) v.receipts ++ flat_map (λ (rs : List (Record Entry)). rs) report.receipts)
+          opened.seat_is run.records)
+          (subst (λ (c : Contents Entry). IsLeft c (view u.seat).receipts state) opened.contents left),
+      reported,
+    )
+
+-- a state by its parts
+pub same_state : (s : Contents Entry) (words : List ℕ) (held : List (Held Entry)) → s.words ≡ words → s.held ≡ held
+    → s ≡ record { words = words; held = held }
+same_state s words held same_words same_held =
+    subst (λ (hs : List (Held Entry)). s ≡ record { words = words; held = hs }) same_held
+    (subst (λ (ws : List ℕ). s ≡ record { words = ws; held = s.held }) same_words refl)
+
+-- what is added up over receipts
+total_is_sum : (h : ℕ × Record Entry → ℕ) (receipts : List (ℕ × Record Entry)) → total h receipts ≡ sum_by h receipts
+total_is_sum h receipts = is_sum_by (λ xs. total h xs) h refl (λ x xs. refl) receipts
+
+pub same_total : (receipts order : List (ℕ × Record Entry)) → ((h : ℕ × Record Entry → ℕ) → total h receipts ≡ total h order)
+    → HaveSame receipts order
+same_total receipts order same h = sym (total_is_sum h receipts) ∙ same h ∙ total_is_sum h order
+
+-- so it is the state of balanced tables
+pub holds_some : (tables : Holdings) (receipts : List (Action × Record Entry)) (s : Contents Entry) → AreRun tables receipts s
+    → HoldsTables s
+holds_some tables receipts s run = record { tables = after_deals run.served.served.deals tables; are = run.left ∙ run.served.served.left }
+
+pub are_balanced : (tables left : Holdings) (receipts : List (Action × Record Entry)) (s : Contents Entry) → AreRun tables receipts s
+    → ((others : Holdings) → s ≡ state_of others → left ≡ others) → IsBalanced left
+are_balanced tables left receipts s run inverse =
+    subst IsBalanced (sym (inverse (after_deals run.served.served.deals tables) (run.left ∙ run.served.served.left)))
+    run.served.served.balanced

@@ -1,0 +1,110 @@
+-- Sessions that workers run on a shared table: each receipt is one of its action's session, and in commit order the receipts are the
+-- actions, one after another.
+use Rattle.std.specs.Prelude.{◌≡◌, ℕ, ◌+◌, List, [], ◌∷◌, ◌++◌, All, IfOk, Ok, Err, map}
+use Rattle.seq_model.specs.declared.call.Reply.{Reply}
+use Rattle.seq_model.specs.declared.record.Record.{Record}
+use Rattle.seq_model.specs.Contents.{Contents}
+use Rattle.seq_model.specs.Runs.{IsInCommitOrder, IsRun, after_run}
+use Rattle.vac_model.specs.declared.action.Action.{Action}
+use Rattle.vac_model.specs.Actions.{IsAllowed}
+use Rattle.vac_model.specs.Balanced.{IsBalanced}
+use Rattle.vac_model.specs.Holdings.{Holdings}
+use Rattle.tx_engine.specs.declared.job.Ask.{Ask}
+use Rattle.tx_engine.specs.Programs.{after, asked}
+use Rattle.vacation_core.specs.declared.entry.Entry.{Entry}
+use Rattle.vacation_core.specs.Holding.{state_of}
+use Rattle.vacation_core.specs.Sessions.{session}
+use Rattle.served_sessions.specs.Served.{AreServedInOrder, HaveSame, Receipt}
+use Rattle.attempts.specs.Jobs.{IsWholeJob}
+use Rattle.tx_table.specs.declared.table.TxTable.{TxTable}
+use Rattle.tx_table.specs.Seated.{contents_in, view}
+use Rattle.tx_table.specs.Shown.{first}
+use Rattle.transactions.specs.declared.seats.TxSeat.{TxSeat}
+use Rattle.transactions.specs.Ready.{IsReady}
+use Rattle.workers.specs.declared.causes.LastAbort.{LastAbort}
+use Rattle.workers.specs.declared.report.Report.{Report}
+use Rattle.workers.specs.Reports.{IsReportOf}
+use Rattle.workers.specs.Tasks.{Outcome, missed_in, receipts_in}
+use Rattle.serving.specs.declared.served.Served.{Served}
+
+-- each action of each list is allowed
+abbrev pub AreAllowed : List (List Action) → Type 0
+AreAllowed lists = All (λ actions. All IsAllowed actions) lists
+
+-- what the session of an action asks after these replies
+abbrev pub asks_of : Action → List (Reply Entry) → Ask Entry → Type 0
+asks_of action replies next = next ≡ asked (after (session action) replies)
+
+-- ---- what is reported of the workers
+
+-- one outcome for each action; a receipt has all calls of the action's session
+abbrev pub AreOutcomes : List Action → List (Outcome Entry) → Type 0
+AreOutcomes [] [] = Unit {0}
+AreOutcomes (action ∷ actions) (o ∷ os) = IfOk o (λ r. IsWholeJob (asks_of action) r.calls) × AreOutcomes actions os
+AreOutcomes _ _ = ⊥
+
+-- and so for each action of each list
+abbrev pub AreAllOutcomes : List (List Action) → List (List (Outcome Entry)) → Type 0
+AreAllOutcomes [] [] = Unit {0}
+AreAllOutcomes (actions ∷ lists) (os ∷ more) = AreOutcomes actions os × AreAllOutcomes lists more
+AreAllOutcomes _ _ = ⊥
+
+-- what the workers from this one on missed
+abbrev pub all_missed : ℕ → List (List (Outcome Entry)) → List (ℕ × ℕ × LastAbort)
+all_missed worker [] = []
+all_missed worker (os ∷ more) = missed_in worker 0 os ++ all_missed (worker + 1) more
+
+-- These are the outcomes of the actions of each list: the receipts, each of all calls of its action's session, and why others have none.
+pub record AreReported (lists : List (List Action)) (report : Report Entry) (outcomes : List (List (Outcome Entry))) : Type 0 where
+  pub each : AreAllOutcomes lists outcomes
+  pub receipts : report.receipts ≡ map receipts_in outcomes
+  pub missed : report.missed ≡ all_missed 1 outcomes
+
+-- the actions that have a receipt, each with it
+abbrev pub dealt : List Action → List (Outcome Entry) → List (Action × Record Entry)
+dealt (action ∷ actions) (Ok r ∷ os) = (action, r) ∷ dealt actions os
+dealt (action ∷ actions) (Err cause ∷ os) = dealt actions os
+dealt actions os = []
+
+abbrev pub all_dealt : List (List Action) → List (List (Outcome Entry)) → List (Action × Record Entry)
+all_dealt (actions ∷ lists) (os ∷ more) = dealt actions os ++ all_dealt lists more
+all_dealt lists outcomes = []
+
+-- ---- what they leave
+
+-- These receipts, in commit order, are their actions, one after another from the tables: each session answered as its action is on the
+-- tables that those before it leave, and s is the state of what all of them leave.
+pub record AreRun (tables : Holdings) (receipts : List (Action × Record Entry)) (s : Contents Entry) : Type 0 where
+  pub own : List Receipt
+  pub same : map (λ x. (x.0, x.1.1)) own ≡ receipts
+  pub order : List (ℕ × Record Entry)
+  pub served : AreServedInOrder tables own order
+  pub left : s ≡ after_run order (state_of tables)
+
+-- Each action of each list has one receipt, or stands among the missed with what so many attempts of it came to, on a table that opened on
+-- these tables. The receipts are a run of their actions in commit order, and the tables are what they leave, balanced.
+pub record IsServed (tables : Holdings) (lists : List (List Action)) (tries : ℕ) (served : Served) : Type 0 where
+  pub outcomes : List (List (Outcome Entry))
+  pub reported : AreReported lists served.report outcomes
+  pub table : TxTable Entry
+  pub opened : contents_in table ≡ state_of tables
+  pub tried : IsReportOf asks_of table tries lists served.report
+  pub run : AreRun tables (all_dealt lists outcomes) served.state
+  pub left : served.state ≡ state_of served.tables
+  pub balanced : IsBalanced served.tables
+
+-- ---- the table
+
+-- it holds these tables, and the seat is its first one
+pub record HasOpened (tables : Holdings) (table : TxTable Entry) (seat : TxSeat Entry) : Type 0 where
+  pub ready : IsReady table seat
+  pub contents : contents_in table ≡ state_of tables
+  pub seat_is : view seat.seat ≡ first
+
+-- the receipts of the seat, in commit order, are a run that leaves this
+pub record IsLeft (opening : Contents Entry) (receipts : List (ℕ × Record Entry)) (s : Contents Entry) : Type 0 where
+  pub order : List (ℕ × Record Entry)
+  pub same : HaveSame receipts order
+  pub in_order : IsInCommitOrder order
+  pub run : IsRun order opening
+  pub left : s ≡ after_run order opening
