@@ -92,7 +92,8 @@ refuse_each() {
 }
 
 take_input ${inputs[0]:+"${inputs[0]}"}
-if ! keep_program -- "${words[@]}" < "$stdin"; then
+# What the interpreter makes of the run beside is not looked at, so it ends soon.
+if ! keep_program --steps 1000 -- "${words[@]}" < "$stdin"; then
     tail -n 20 "$folder/output"
     echo "$crate: its program was not built"
     exit 1

@@ -1,0 +1,105 @@
+//! What came of sessions, as text.
+use ordered_sessions::Ordered;
+use seq_model::{Items, Record, Refusal};
+use session_script::{Line, print_sessions};
+use std::fmt::Write;
+use vac_model::{ActionReply, Tables};
+use vac_world::VacTrace;
+use vacation_core::{Entry, tables_of};
+
+fn kind_of(writes: bool) -> &'static str {
+    if writes { "write" } else { "read" }
+}
+
+/// What came of sessions that interleaved.
+pub fn print_trace(text: &mut String, trace: VacTrace) -> Result<(), Refusal> {
+    let VacTrace {
+        done,
+        aborted,
+        tables,
+        half,
+    } = trace;
+    print_parts(text, done, aborted.as_slice(), half.as_slice(), &tables)
+}
+
+fn print_parts(
+    text: &mut String,
+    done: Items<(u32, u64, bool, ActionReply)>,
+    aborted: &[(u32, Refusal)],
+    half: &[u64],
+    tables: &Tables,
+) -> Result<(), Refusal> {
+    if is_wanting(aborted) {
+        return Err(Refusal::OutOfMemory);
+    }
+    let lines = print_done(text, done)?;
+    print_ended(text, aborted, half)?;
+    print_held(text, lines.as_slice(), tables)
+}
+
+// Whether a session ended for want of memory where no row starved it.
+fn is_wanting(aborted: &[(u32, Refusal)]) -> bool {
+    let mut refused = 0;
+    for (client, cause) in aborted {
+        if matches!(cause, Refusal::OutOfMemory) && *client != refused {
+            return true;
+        }
+        refused = if matches!(cause, Refusal::NotIdle) {
+            *client
+        } else {
+            0
+        };
+    }
+    false
+}
+
+// Whose each session is and whether it wrote. The lines have the rest.
+fn print_done(
+    text: &mut String,
+    done: Items<(u32, u64, bool, ActionReply)>,
+) -> Result<Vec<Line>, Refusal> {
+    let mut lines = Vec::with_capacity(*text.allocator(), done.len())?;
+    for (client, number, writes, reply) in done.into_vec() {
+        let kind = kind_of(writes);
+        writeln!(text, "{client} committed {number}, {kind}")?;
+        lines.push(Line::Done(number, reply))?;
+    }
+    Ok(lines)
+}
+
+// Who ended without a commit, and the numbers of the commits that are half done.
+fn print_ended(text: &mut String, aborted: &[(u32, Refusal)], half: &[u64]) -> Result<(), Refusal> {
+    for (client, cause) in aborted {
+        writeln!(text, "{client} ended: {cause}")?;
+    }
+    for number in half {
+        writeln!(text, "half {number}")?;
+    }
+    Ok(())
+}
+
+fn print_held(text: &mut String, lines: &[Line], tables: &Tables) -> Result<(), Refusal> {
+    let printed = print_sessions(*text.allocator(), lines, tables)?;
+    match std::str::from_utf8(printed.as_slice()) {
+        Ok(printed) => text.push_str(printed)?,
+        Err(_) => text.push_str("no text\n")?,
+    }
+    Ok(())
+}
+
+/// What came of sessions one after another.
+pub fn print_ordered(text: &mut String, ordered: &Ordered) -> Result<(), Refusal> {
+    for receipt in ordered.receipts.as_slice() {
+        print_receipt(text, receipt)?;
+    }
+    let tables = tables_of(*text.allocator(), &ordered.state)?;
+    print_held(text, &[], &tables)
+}
+
+fn print_receipt(text: &mut String, receipt: &Record<Entry>) -> Result<(), Refusal> {
+    let number = receipt.number;
+    let kind = kind_of(receipt.writes);
+    let calls = receipt.calls.len();
+    writeln!(text, "committed {number}, {kind}, calls {calls}")?;
+    Ok(())
+}
