@@ -1,0 +1,16 @@
+use Rattle.std.proofs.Common.{◌≡◌, ◌+◌, length, List}
+use Rattle.workers.specs.Tasks.{Outcome}
+use Rattle.vacation_core.specs.declared.entry.Entry.{Entry}
+use Rattle.served_runs.specs.Unread.{AreUnread}
+use Rattle.served_runs.proofs.LineLemmas.{IsAt, Missed}
+use Rattle.served_runs.proofs.lines.lines_of_worker.Given as goal
+
+abbrev pub decreases-sessions : goal.decreases-sessions
+decreases-sessions l = length l.left
+
+abbrev pub invariant-sessions : goal.invariant-sessions
+invariant-sessions l = record {
+  count : l.place + length l.left ≡ length l.fn.sessions;
+  told : (os : List (Outcome Entry)) (later : List Missed) → AreUnread l.worker 0 l.fn.sessions os later l.fn.receipts l.fn.missed
+      → IsAt l.worker l.place l.fn.sessions os later l.left l.unread l.misses l.lines.items;
+}

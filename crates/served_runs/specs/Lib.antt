@@ -1,0 +1,4 @@
+pub mod Drawn
+pub mod Lines
+pub mod Runs
+pub mod Unread

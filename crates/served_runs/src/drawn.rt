@@ -1,0 +1,105 @@
+//! Drawn sessions, run by workers.
+ghost use Rattle.std.specs.Prelude.{◌≡◌, All, IfErr, IfOk};
+ghost use Rattle.vac_model.specs.Actions.{IsAllowed};
+ghost use Rattle.dealing.specs.Deals.{in_lists};
+ghost use Rattle.generated_sessions.specs.Options.{AreWithin};
+ghost use Rattle.served_runs.specs.Drawn.{AreDrawn, IsDrawable, IsDrawnFault, IsDrawnRun, drawn_text};
+
+use crate::inspection::{inspected, serve_lists};
+use crate::tally::{Tally, Times, causes_of};
+use generated_sessions::{Options, generate, opening};
+use seq_model::Memory;
+use session_output::{RunFault, with_ending};
+use std::alloc::Global;
+use std::fmt::Write;
+use std::sync::Wait;
+use std::thread::Threads;
+use std::time::{Clock, Duration};
+use vac_model::Action;
+use vacation_core::state_of;
+
+/// Sessions that are to be drawn and run.
+#[derive(Clone, Copy, Debug, PartialEq, Eq)]
+pub struct Drawn {
+    /// How many workers, and what they draw.
+    pub options: Options,
+    pub seed: u64,
+    /// How many attempts a session has.
+    pub tries: u64,
+}
+
+/// What has come of drawn sessions, once their receipts were audited and the tables looked through.
+#[derive(Drop)]
+pub struct DrawnRun {
+    /// How many sessions have no receipt.
+    pub missed: u64,
+    pub times: Times,
+}
+
+/// The clock, or nothing where it can't be read.
+fn time_of<R: Clock>(rt: &R) -> Duration {
+    rt.monotonic().unwrap_or(Duration::ZERO)
+}
+
+/// The sessions of each worker.
+fn drawn_lists(alloc: Global, drawn: &Drawn) -> Result<Vec<Vec<Action>>, Memory>
+    requires { AreWithin drawn.now.options }
+    ensures drawn { IfOk result (λ lists. AreDrawn drawn.now (in_lists lists.items)) }
+    ensures allowed { IfOk result (λ lists. All (λ actions. All IsAllowed actions) (in_lists lists.items)) }
+{
+    let mut lists = Vec::new(alloc);
+    'workers: for before in 0..drawn.options.clients {
+        lists.push(generate(alloc, drawn.seed, before + 1, &drawn.options)?)?;
+    }
+    Ok(lists)
+}
+
+/// Draws tables and the sessions of each worker, has the workers run them, and inspects what came of it.
+///
+/// `OutOfMemory` where a growth was refused, and `Audit` where the receipts are no run.
+pub fn run_drawn<R: Threads + Wait + Clock + Sync>(
+    rt: &R,
+    alloc: Global,
+    drawn: &Drawn,
+) -> Result<DrawnRun, RunFault>
+    requires { IsDrawable drawn.now }
+    ensures run { IfOk result (λ run. IsDrawnRun drawn.now run.missed) }
+    ensures refused { IfErr result (IsDrawnFault drawn.now) }
+{
+    let tables = opening(alloc, drawn.seed, &drawn.options)?;
+    let lists = drawn_lists(alloc, drawn)?;
+    let first = state_of(alloc, &tables)?;
+    let tally = Tally::new(alloc, lists.len())?;
+    let begun = time_of(rt);
+    let served = serve_lists(rt, alloc, tables, lists, drawn.tries, &tally)?;
+    let run = time_of(rt).saturating_sub(begun);
+    let missed = served.report.missed.len() as u64;
+    let causes = causes_of(alloc, served.report.missed.as_slice())?;
+    let audited = time_of(rt);
+    inspected(alloc, &first, served)?;
+    let audit = time_of(rt).saturating_sub(audited);
+    let (commits, most) = tally.counts();
+    let receipts = u64::from(drawn.options.transactions).saturating_sub(missed);
+    let times = Times {
+        run,
+        audit,
+        receipts,
+        commits,
+        most,
+        causes,
+    };
+    Ok(DrawnRun { missed, times })
+}
+
+/// What is printed of drawn sessions: how many workers and sessions there were, how many were missed, and that the receipts were audited
+/// and the tables are balanced.
+pub fn print_drawn(alloc: Global, drawn: &Drawn, missed: u64) -> Result<Vec<u8>, Memory>
+    ensures { IfOk result (λ bytes. bytes.items ≡ drawn_text drawn.now missed) }
+{
+    let mut text = String::new(alloc);
+    let (clients, sessions) = (drawn.options.clients, drawn.options.transactions);
+    writeln!(text, "clients {clients}")?;
+    writeln!(text, "sessions {sessions}")?;
+    writeln!(text, "missed {missed}")?;
+    with_ending(text.into_bytes())
+}
