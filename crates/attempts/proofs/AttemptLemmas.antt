@@ -30,7 +30,7 @@ use Rattle.tx_table.specs.Seated.{actor, acts}
 use Rattle.tx_phases.specs.Phases.{Stands, phase_at}
 use Rattle.transactions.proofs.CallLemmas.{stands_at}
 use Rattle.transactions.proofs.RequestLemmas.{asked_keeps, then_keeps}
-use Rattle.driven_turns.specs.Driven.{standing}
+use Rattle.transactions.specs.Ready.{standing}
 use Rattle.transactions.specs.Requests.{CallsTo, HasCommitted, IsAnswered, IsEnded, KeepsReceipts, has_written, told_of}
 use Rattle.attempts.proofs.JobLemmas.{asked_more, none_asked, replies_more}
 use Rattle.attempts.specs.Attempts.{AttemptsTo, HasGivenUp, HasMade, IsAt, IsCallRefused, IsSoFar, IsUnmade, Reaches, ask_of}

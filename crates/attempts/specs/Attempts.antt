@@ -12,7 +12,7 @@ use Rattle.tx_engine.specs.Programs.{replies_of}
 use Rattle.tx_table.specs.declared.seat.Seat.{Seat}
 use Rattle.tx_table.specs.Seated.{actor, view}
 use Rattle.tx_phases.specs.Phases.{Stands}
-use Rattle.driven_turns.specs.Driven.{standing}
+use Rattle.transactions.specs.Ready.{standing}
 use Rattle.transactions.specs.Requests.{CallsTo, HasCommitted, IsEnded, IsNotBegun, KeepsReceipts, has_written}
 use Rattle.attempts.specs.Jobs.{AreAskedBy, IsWholeJob}
 use Rattle.attempts.specs.declared.jobs.Attempt.{Attempt}

@@ -3,8 +3,7 @@ ghost use Rattle.std.specs.Prelude.{◌≡◌, ◌+◌, ◌<◌, IfErr, IfNone, 
 ghost use Rattle.seq_model.specs.declared.limits.TheConstants.{CALL_LIMIT as AsCallLimit};
 ghost use Rattle.tx_table.specs.Seated.{opening_of};
 ghost use Rattle.tx_phases.specs.Phases.{Rests, Stands};
-ghost use Rattle.driven_turns.specs.Driven.{standing};
-ghost use Rattle.transactions.specs.Ready.{HasBegunSince, IsReady};
+ghost use Rattle.transactions.specs.Ready.{HasBegunSince, IsReady, standing};
 ghost use Rattle.transactions.specs.Requests.{KeepsReceipts};
 ghost use Rattle.attempts.specs.Attempts.{AttemptsTo, IsSoFar, IsUnmade, Reaches};
 

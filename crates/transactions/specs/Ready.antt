@@ -9,7 +9,8 @@ use Rattle.tx_turns.specs.Ties.{Ties}
 use Rattle.gate_turns.specs.Own.{HasOwn}
 use Rattle.tx_phases.specs.Phases.{Rests}
 use Rattle.transactions.specs.declared.seats.TxSeat.{TxSeat}
-use Rattle.driven_turns.specs.Driven.{seat_in, standing}
+pub use Rattle.driven_turns.specs.Driven.{standing}
+use Rattle.driven_turns.specs.Driven.{seat_in}
 use Rattle.transactions.specs.Requests.{IsOpen}
 
 module _ {V : Type 0} where

@@ -8,8 +8,7 @@ use Rattle.tx_table.specs.declared.table.TxTable.{TxTable}
 use Rattle.tx_table.specs.Seated.{opening_of}
 use Rattle.tx_phases.specs.Phases.{Rests}
 use Rattle.transactions.specs.declared.seats.TxSeat.{TxSeat}
-use Rattle.driven_turns.specs.Driven.{standing}
-use Rattle.transactions.specs.Ready.{HasBegunSince, IsReady}
+use Rattle.transactions.specs.Ready.{HasBegunSince, IsReady, standing}
 use Rattle.transactions.specs.Requests.{CallsTo, IsOpen}
 
 -- The seat s of the table t, at which a call was made, is u now: an open transaction has made it, or was refused it; where there is none

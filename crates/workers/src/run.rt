@@ -2,8 +2,7 @@
 ghost use Rattle.std.specs.Prelude.{◌≡◌, ◌≤◌, IfOk, OnErr, length};
 ghost use Rattle.tx_table.specs.Seated.{opening_of, view};
 ghost use Rattle.tx_phases.specs.Phases.{Rests};
-ghost use Rattle.driven_turns.specs.Driven.{standing};
-ghost use Rattle.transactions.specs.Ready.{IsReady};
+ghost use Rattle.transactions.specs.Ready.{IsReady, standing};
 ghost use Rattle.transactions.specs.Requests.{KeepsReceipts};
 ghost use Rattle.workers.specs.Reports.{HasRoomFor, HasRun, IsReportOf, IsTreeOf, jobs_of};
 

@@ -2,8 +2,7 @@
 ghost use Rattle.std.specs.Prelude.{◌≡◌, ◌≤◌, ◌↔◌, IfErr, IfOk, IsTrue};
 ghost use Rattle.tx_table.specs.Seated.{opening_of};
 ghost use Rattle.tx_phases.specs.Phases.{Rests};
-ghost use Rattle.driven_turns.specs.Driven.{standing};
-ghost use Rattle.transactions.specs.Ready.{IsReady};
+ghost use Rattle.transactions.specs.Ready.{IsReady, standing};
 ghost use Rattle.workers.specs.Tries.{HasReceipt, HasNoReceipt, IsTransient};
 
 use crate::causes::LastAbort;

@@ -1,8 +1,7 @@
 use Rattle.std.proofs.Common.{◌≡◌, ◌⊎◌}
 use Rattle.tx_table.specs.Seated.{opening_of}
 use Rattle.tx_phases.specs.Phases.{Rests}
-use Rattle.driven_turns.specs.Driven.{standing}
-use Rattle.transactions.specs.Ready.{IsReady}
+use Rattle.transactions.specs.Ready.{IsReady, standing}
 use Rattle.workers.specs.Tries.{HasNoReceipt}
 use Rattle.workers.proofs.TryLemmas.{InVain}
 use Rattle.workers.proofs.tries.retry.Given as goal
