@@ -8,6 +8,7 @@ use std::env;
 
 mod audit;
 mod reservations;
+mod sessions;
 mod sets;
 mod worlds;
 
@@ -20,6 +21,7 @@ fn main(rt: HostRuntime) -> anyhow::Result<()> {
     match name.as_str() {
         "audit" => audit::measure(&rt),
         "reservations" => reservations::measure(&rt),
+        "sessions" => sessions::measure(&rt),
         "sets" => sets::measure(&rt),
         "world" => worlds::measure(&rt),
         _ => bail!("no benchmark has the name {name}"),
