@@ -52,7 +52,8 @@ not_here w p q (Err cause ∷ os) later lt b first = omega (arith, first.1)
 
 -- where it is the next session's, that one has no receipt
 pub missed_next : (w p : ℕ) (a : Action) (o : Outcome Entry) (os : List (Outcome Entry)) (later : List Missed)
-    (receipts : List (Record Entry)) (missed behind : List Missed) (job : Missed) → IsNext w p a o os later receipts missed → IsFirst w p missed → missed ≡ job ∷ behind
+    (receipts : List (Record Entry)) (missed behind : List Missed) (job : Missed) → IsNext w p a o os later receipts missed
+    → IsFirst w p missed → missed ≡ job ∷ behind
     → IsLineOf a o (missed_line job.2) × (receipts ≡ receipts_in os) × (behind ≡ missed_in w (p + 1) os ++ later)
 missed_next w p a (Ok r) os later receipts missed behind job is first at =
     absurd (not_here w p (p + 1) os later (omega arith) is.beyond (subst (IsFirst w p) is.missed_are first))

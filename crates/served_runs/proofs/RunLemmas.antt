@@ -29,8 +29,8 @@ use Rattle.served_runs.specs.declared.file.TheConstants.{TRIES}
 use Rattle.served_runs.specs.Drawn.{AreDrawn, IsDrawnFault, IsDrawnRun}
 use Rattle.served_runs.specs.Lines.{AreLinesOf, AreToldOf}
 use Rattle.session_output.specs.declared.output.SessionRun.{SessionRun}
-use Rattle.served_runs.specs.Runs.{HasAuditFault, IsDealtFault, IsFileFault, IsInspected, IsServedRun, receipts_of}
-use Rattle.served_runs.specs.Unread.{AreAllOwn, AreAllUnread, AreOwn, IsTold}
+use Rattle.served_runs.specs.Runs.{HasAuditFault, IsDealtFault, IsFileFault, IsInspected, IsListsFault, IsServedRun, receipts_of}
+use Rattle.served_runs.specs.Unread.{AreAllOwn, AreAllUnread, AreOwn, IsTold, IsToldRun}
 use Rattle.served_runs.proofs.LineLemmas.{lines_at}
 
 -- ---- lists of allowed actions
@@ -86,24 +86,28 @@ audited tables lists tries served opening made opens found = record {
   found = subst (λ (o : Contents Entry). IsAuditFault o (receipts_of served) served.state found.0) opens found.1.1;
 }
 
-pub dealt_fault : (n : ℕ) (tables : Holdings) (actions : List Action) (lists : List (List Action)) (served : Served)
-    (opening : Contents Entry) (fault : RunFault) → AreDealt n actions lists → IsServed tables lists TRIES served → opening ≡ state_of tables
-    → IsFinding opening (receipts_of served) served.state served.tables fault → IsDealtFault n tables actions fault
-dealt_fault n tables actions lists served opening (Refused refusal) dealt made opens found = found
-dealt_fault n tables actions lists served opening Audit dealt made opens found =
-    record { lists = lists; dealt = dealt; fault = audited tables lists TRIES served opening made opens found }
-dealt_fault n tables actions lists served opening NotBalanced dealt made opens found = absurd (found made.balanced)
+pub lists_fault : (tables : Holdings) (lists : List (List Action)) (tries : ℕ) (served : Served) (opening : Contents Entry)
+    (fault : RunFault) → IsServed tables lists tries served → opening ≡ state_of tables
+    → IsFinding opening (receipts_of served) served.state served.tables fault → IsListsFault tables lists tries fault
+lists_fault tables lists tries served opening (Refused refusal) made opens found = found
+lists_fault tables lists tries served opening Audit made opens found = audited tables lists tries served opening made opens found
+lists_fault tables lists tries served opening NotBalanced made opens found = absurd (found made.balanced)
 
-pub drawn_fault : (d : Drawn) (tables : Holdings) (lists : List (List Action)) (served : Served) (opening : Contents Entry)
-    (fault : RunFault) → tables ≡ opening_of d.seed d.options → AreDrawn d lists → IsServed tables lists d.tries served
-    → opening ≡ state_of tables → IsFinding opening (receipts_of served) served.state served.tables fault → IsDrawnFault d fault
-drawn_fault d tables lists served opening (Refused refusal) same drawn made opens found = found
-drawn_fault d tables lists served opening Audit same drawn made opens found = record {
+pub dealt_fault : (n : ℕ) (tables : Holdings) (actions : List Action) (lists : List (List Action)) (fault : RunFault)
+    → AreDealt n actions lists → IsListsFault tables lists TRIES fault → IsDealtFault n tables actions fault
+dealt_fault n tables actions lists (Refused refusal) dealt found = found
+dealt_fault n tables actions lists Audit dealt found = record { lists = lists; dealt = dealt; fault = found }
+dealt_fault n tables actions lists NotBalanced dealt found = absurd found
+
+pub drawn_fault : (d : Drawn) (tables : Holdings) (lists : List (List Action)) (fault : RunFault) → tables ≡ opening_of d.seed d.options
+    → AreDrawn d lists → IsListsFault tables lists d.tries fault → IsDrawnFault d fault
+drawn_fault d tables lists (Refused refusal) same drawn found = found
+drawn_fault d tables lists Audit same drawn found = record {
   lists = lists;
   drawn = drawn;
-  fault = subst (λ (t : Holdings). HasAuditFault t lists d.tries) same (audited tables lists d.tries served opening made opens found);
+  fault = subst (λ (t : Holdings). HasAuditFault t lists d.tries) same found;
 }
-drawn_fault d tables lists served opening NotBalanced same drawn made opens found = absurd (found made.balanced)
+drawn_fault d tables lists NotBalanced same drawn found = absurd found
 
 pub file_fault : (n : ℕ) (text : List ℕ) (tables : Holdings) (actions : List Action) (fault : RunFault)
     → IsSessionText text tables actions → IsDealtFault n tables actions fault → IsFileFault n text fault
@@ -155,32 +159,39 @@ all_unread tables lists seen served same made =
       missed_are = made.reported.missed;
     })
 
-told_of : (n : ℕ) (actions : List Action) (lists seen : List (List Action)) (outcomes : List (List (Outcome Entry))) (lines : List Line)
-    → seen ≡ lists → AreDealt n actions lists → IsTold seen outcomes (length actions) lines → AreToldOf n actions outcomes lines
-told_of n actions lists seen outcomes lines same dealt told =
-    let many : length seen ≡ n = ap (λ ls. length ls) same ∙ dealt.many in
-    let gathered = subst (λ m. AreDealt m lines told.queues) many told.gathered in
+told_of : (n : ℕ) (actions : List Action) (lists : List (List Action)) (outcomes : List (List (Outcome Entry))) (lines : List Line)
+    → AreDealt n actions lists → IsTold lists outcomes (length actions) lines → AreToldOf n actions outcomes lines
+told_of n actions lists outcomes lines dealt told =
+    let gathered = subst (λ m. AreDealt m lines told.queues) dealt.many told.gathered in
     record {
       many = told.many;
       each = λ k lt.
-          subst (λ xs. AreLinesOf xs (get_or outcomes k []) (every n k lines)) (ap (λ ls. get_or ls k []) same ∙ dealt.each k lt)
-          (subst (AreLinesOf (get_or seen k []) (get_or outcomes k [])) (gathered.each k lt)
-          (lines_at seen outcomes told.queues told.each k));
+          subst (λ xs. AreLinesOf xs (get_or outcomes k []) (every n k lines)) (dealt.each k lt)
+          (subst (AreLinesOf (get_or lists k []) (get_or outcomes k [])) (gathered.each k lt)
+          (lines_at lists outcomes told.queues told.each k));
     }
 
-pub dealt_run : (n : ℕ) (tables : Holdings) (actions : List Action) (lists seen : List (List Action)) (served : Served)
-    (opening : Contents Entry) (run : SessionRun) → seen ≡ lists → AreDealt n actions lists → (made : IsServed tables lists TRIES served)
-    → opening ≡ state_of tables → IsSound opening (receipts_of served) served.state served.tables
-    → (total : ℕ) → total ≡ length actions → IsTold seen made.outcomes total run.lines.items → run.tables ≡ served.tables
-    → IsServedRun n tables actions run
-dealt_run n tables actions lists seen served opening run same dealt made opens sound total counted told left = record {
-  lists = lists;
-  dealt = dealt;
+pub told_run : (tables : Holdings) (lists seen : List (List Action)) (served : Served) (opening : Contents Entry) (total : ℕ)
+    (run : SessionRun) → seen ≡ lists → (made : IsServed tables lists TRIES served) → opening ≡ state_of tables
+    → IsSound opening (receipts_of served) served.state served.tables → IsTold seen made.outcomes total run.lines.items
+    → run.tables ≡ served.tables → IsToldRun tables lists total run
+told_run tables lists seen served opening total run same made opens sound told left = record {
   served = served;
   inspected = inspects tables lists TRIES served opening made opens sound;
-  told = told_of n actions lists seen made.outcomes run.lines.items same dealt
-      (subst (λ m. IsTold seen made.outcomes m run.lines.items) counted told);
+  told = subst (λ (ls : List (List Action)). IsTold ls made.outcomes total run.lines.items) same told;
   left = left;
+}
+
+pub dealt_run : (n : ℕ) (tables : Holdings) (actions : List Action) (lists : List (List Action)) (total : ℕ) (run : SessionRun)
+    → AreDealt n actions lists → total ≡ length actions → IsToldRun tables lists total run → IsServedRun n tables actions run
+dealt_run n tables actions lists total run dealt counted told = record {
+  lists = lists;
+  dealt = dealt;
+  served = told.served;
+  inspected = told.inspected;
+  told = told_of n actions lists told.inspected.made.outcomes run.lines.items dealt
+      (subst (λ m. IsTold lists told.inspected.made.outcomes m run.lines.items) counted told.told);
+  left = told.left;
 }
 
 -- ---- drawn lists

@@ -58,6 +58,12 @@ pub record HasAuditFault (tables : Holdings) (lists : List (List Action)) (tries
   pub other : cause ≢ audit.OutOfMemory
   pub found : IsAuditFault (state_of tables) (receipts_of served) served.state cause
 
+-- why nothing comes of lists that are served: memory was refused, or an audit found a fault, and nothing else
+abbrev pub IsListsFault : Holdings → List (List Action) → ℕ → RunFault → Type 0
+IsListsFault tables lists tries (Refused refusal) = refusal ≡ OutOfMemory
+IsListsFault tables lists tries Audit = HasAuditFault tables lists tries
+IsListsFault tables lists tries fault = ⊥
+
 pub record HasDealtFault (workers : ℕ) (tables : Holdings) (actions : List Action) : Type 0 where
   pub lists : List (List Action)
   pub dealt : AreDealt workers actions lists

@@ -5,13 +5,18 @@ use Rattle.seq_model.specs.declared.record.Record.{Record}
 use Rattle.tx_engine.specs.declared.job.Ask.TheVariants as ask
 use Rattle.tx_engine.specs.Programs.{after, asked, replies_of}
 use Rattle.vac_model.specs.declared.action.Action.{Action}
+use Rattle.vac_model.specs.Holdings.{Holdings}
 use Rattle.vacation_core.specs.declared.entry.Entry.{Entry}
 use Rattle.vacation_core.specs.Sessions.{session}
 use Rattle.workers.specs.declared.causes.LastAbort.{LastAbort}
 use Rattle.workers.specs.Tasks.{Outcome, missed_in, receipts_in}
 use Rattle.session_script.specs.declared.print.Line.{Line}
+use Rattle.session_output.specs.declared.output.SessionRun.{SessionRun}
+use Rattle.serving.specs.declared.served.Served.{Served}
 use Rattle.serving.specs.Serving.{all_missed}
+use Rattle.served_runs.specs.declared.file.TheConstants.{TRIES}
 use Rattle.served_runs.specs.Lines.{AreLinesOf}
+use Rattle.served_runs.specs.Runs.{IsInspected}
 
 -- after the replies in its receipt the session of the action is done
 abbrev pub IsOwn : Action → Outcome Entry → Type 0
@@ -93,3 +98,11 @@ pub record IsTold (lists : List (List Action)) (outcomes : List (List (Outcome E
   pub queues : List (List Line)
   pub gathered : AreDealt (length lists) lines queues
   pub each : AreAllLines lists outcomes queues
+
+-- Workers have served these lists from the tables, and what they reported was audited; the lines tell the outcomes of so many sessions that
+-- were dealt out to the lists, and the tables are what they leave.
+pub record IsToldRun (tables : Holdings) (lists : List (List Action)) (total : ℕ) (run : SessionRun) : Type 0 where
+  pub served : Served
+  pub inspected : IsInspected tables lists TRIES served
+  pub told : IsTold lists inspected.made.outcomes total run.lines.items
+  pub left : run.tables ≡ served.tables

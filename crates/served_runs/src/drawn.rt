@@ -1,22 +1,29 @@
 //! Drawn sessions, run by workers.
-ghost use Rattle.std.specs.Prelude.{◌≡◌, All, IfErr, IfOk};
+ghost use Rattle.std.specs.Prelude.{◌≡◌, All, IfErr, IfOk, OnOk};
 ghost use Rattle.vac_model.specs.Actions.{IsAllowed};
+ghost use Rattle.vac_model.specs.Balanced.{IsBalanced};
+ghost use Rattle.vacation_core.specs.Holding.{state_of as state_that_holds};
 ghost use Rattle.dealing.specs.Deals.{in_lists};
+ghost use Rattle.generated_sessions.specs.Openings.{opening_of};
 ghost use Rattle.generated_sessions.specs.Options.{AreWithin};
+ghost use Rattle.serving.specs.Serving.{AreAllowed};
+ghost use Rattle.session_output.specs.Findings.{IsFinding, IsSound};
+ghost use Rattle.served_runs.specs.Runs.{receipts_of};
 ghost use Rattle.served_runs.specs.Drawn.{AreDrawn, IsDrawable, IsDrawnFault, IsDrawnRun, drawn_text};
 
 use crate::inspection::{inspected, serve_lists};
 use crate::tally::{Tally, Times, causes_of};
 use generated_sessions::{Options, generate, opening};
-use seq_model::Memory;
+use seq_model::{Memory, State};
+use serving::Served;
 use session_output::{RunFault, with_ending};
 use std::alloc::Global;
 use std::fmt::Write;
 use std::sync::Wait;
 use std::thread::Threads;
 use std::time::{Clock, Duration};
-use vac_model::Action;
-use vacation_core::state_of;
+use vac_model::{Action, Tables};
+use vacation_core::{Entry, state_of};
 
 /// Sessions that are to be drawn and run.
 #[derive(Clone, Copy, Debug, PartialEq, Eq)]
@@ -69,15 +76,33 @@ pub fn run_drawn<R: Threads + Wait + Clock + Sync>(
     let tables = opening(alloc, drawn.seed, &drawn.options)?;
     let lists = drawn_lists(alloc, drawn)?;
     let first = state_of(alloc, &tables)?;
+    run_lists(rt, alloc, drawn, &first, tables, lists)
+}
+
+/// Has workers run these lists from these tables, and inspects what came of it.
+fn run_lists<R: Threads + Wait + Clock + Sync>(
+    rt: &R,
+    alloc: Global,
+    drawn: &Drawn,
+    first: &State<Entry>,
+    tables: Tables,
+    lists: Vec<Vec<Action>>,
+) -> Result<DrawnRun, RunFault>
+    requires drawable { IsDrawable drawn.now }
+    requires tables { tables ≡ opening_of drawn.now.seed drawn.now.options }
+    requires balanced { IsBalanced tables }
+    requires first { first.now ≡ state_that_holds tables }
+    requires lists { AreDrawn drawn.now (in_lists lists.items) }
+    requires allowed { AreAllowed (in_lists lists.items) }
+    ensures run { IfOk result (λ run. IsDrawnRun drawn.now run.missed) }
+    ensures refused { IfErr result (IsDrawnFault drawn.now) }
+{
     let tally = Tally::new(alloc, lists.len())?;
     let begun = time_of(rt);
     let served = serve_lists(rt, alloc, tables, lists, drawn.tries, &tally)?;
     let run = time_of(rt).saturating_sub(begun);
     let missed = served.report.missed.len() as u64;
-    let causes = causes_of(alloc, served.report.missed.as_slice())?;
-    let audited = time_of(rt);
-    inspected(alloc, &first, served)?;
-    let audit = time_of(rt).saturating_sub(audited);
+    let (causes, audit) = audited(rt, alloc, first, served)?;
     let (commits, most) = tally.counts();
     let receipts = u64::from(drawn.options.transactions).saturating_sub(missed);
     let times = Times {
@@ -89,6 +114,22 @@ pub fn run_drawn<R: Threads + Wait + Clock + Sync>(
         causes,
     };
     Ok(DrawnRun { missed, times })
+}
+
+/// Why sessions were missed, once what came of all was inspected, and how long that took.
+fn audited<R: Clock>(
+    rt: &R,
+    alloc: Global,
+    first: &State<Entry>,
+    served: Served,
+) -> Result<(Vec<(&'static str, u64)>, Duration), RunFault>
+    ensures sound { OnOk result (IsSound first.now (receipts_of served) served.state served.tables) }
+    ensures finding { IfErr result (IsFinding first.now (receipts_of served) served.state served.tables) }
+{
+    let causes = causes_of(alloc, served.report.missed.as_slice())?;
+    let begun = time_of(rt);
+    inspected(alloc, first, served)?;
+    Ok((causes, time_of(rt).saturating_sub(begun)))
 }
 
 /// What is printed of drawn sessions: how many workers and sessions there were, how many were missed, and that the receipts were audited

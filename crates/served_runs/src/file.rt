@@ -1,13 +1,18 @@
 //! What workers make of a session file.
-ghost use Rattle.std.specs.Prelude.{◌≤◌, All, IfErr, IfOk};
+ghost use Rattle.std.specs.Prelude.{◌≡◌, ◌≤◌, All, IfErr, IfOk, length};
+ghost use Rattle.dealing.specs.Deals.{AreDealt, AreDealtLike, in_lists};
 ghost use Rattle.vac_model.specs.Actions.{IsAllowed};
 ghost use Rattle.vac_model.specs.Balanced.{IsBalanced};
-ghost use Rattle.served_runs.specs.Runs.{IsDealtFault, IsFileFault, IsServedOutput, IsServedRun};
+ghost use Rattle.vacation_core.specs.Holding.{state_of as state_that_holds};
+ghost use Rattle.serving.specs.Serving.{AreAllowed};
+ghost use Rattle.served_runs.specs.Runs.{IsDealtFault, IsFileFault, IsListsFault, IsServedOutput, IsServedRun};
+ghost use Rattle.served_runs.specs.Unread.{IsToldRun};
 
 use crate::inspection::{inspected, serve_lists};
 use crate::lines::lines_of_report;
 use attempts::NoPause;
 use dealing::deal;
+use seq_model::{Memory, State};
 use served_sessions::sessions_of;
 use session_output::{RunFault, SessionRun, text_of};
 use session_script::parse_sessions;
@@ -15,7 +20,7 @@ use std::alloc::Global;
 use std::sync::Wait;
 use std::thread::Threads;
 use vac_model::{Action, Tables};
-use vacation_core::state_of;
+use vacation_core::{Entry, Session, state_of};
 
 /// The attempts of each session.
 pub const TRIES: u64 = 1_000;
@@ -54,12 +59,69 @@ fn run_dealt<R: Threads + Wait + Sync>(
     ensures run { IfOk result (IsServedRun workers tables actions.items) }
     ensures refused { IfErr result (IsDealtFault workers tables actions.items) }
 {
-    let opening = state_of(alloc, &tables)?;
     let total = actions.len();
-    let sessions = deal(alloc, sessions_of(alloc, actions.as_slice())?, workers)?;
+    let sessions = dealt_sessions(alloc, actions.as_slice(), workers)?;
     let lists = deal(alloc, actions, workers)?;
+    run_lists(rt, alloc, tables, lists, sessions.as_slice(), total)
+}
+
+/// The sessions of actions, dealt out as these are.
+fn dealt_sessions(
+    alloc: Global,
+    actions: &[Action],
+    workers: usize,
+) -> Result<Vec<Vec<Session>>, Memory>
+    requires some { 1 ≤ workers }
+    requires allowed { All IsAllowed actions.now }
+    ensures dealt { IfOk result (λ sessions. AreDealt workers actions.now (in_lists sessions.items)) }
+    ensures like { IfOk result (λ sessions. AreDealtLike workers (length actions.now) (in_lists sessions.items)) }
+{
+    deal(alloc, sessions_of(alloc, actions)?, workers)
+}
+
+/// Serves these lists from these tables, and tells their sessions, so many in all, in the order in which they were dealt out.
+fn run_lists<R: Threads + Wait + Sync>(
+    rt: &R,
+    alloc: Global,
+    tables: Tables,
+    lists: Vec<Vec<Action>>,
+    sessions: &[Vec<Session>],
+    total: usize,
+) -> Result<SessionRun, RunFault>
+    requires balanced { IsBalanced tables }
+    requires lists { (1 ≤ length lists.items) × (length lists.items ≤ 64) }
+    requires allowed { AreAllowed (in_lists lists.items) }
+    requires same { in_lists sessions.now ≡ in_lists lists.items }
+    requires some { (1 ≤ length sessions.now) × (length sessions.now ≤ 64) }
+    requires like { AreDealtLike (length sessions.now) total (in_lists sessions.now) }
+    ensures run { IfOk result (IsToldRun tables (in_lists lists.items) total) }
+    ensures refused { IfErr result (IsListsFault tables (in_lists lists.items) TRIES) }
+{
+    let opening = state_of(alloc, &tables)?;
+    run_from(rt, alloc, &opening, tables, lists, sessions, total)
+}
+
+fn run_from<R: Threads + Wait + Sync>(
+    rt: &R,
+    alloc: Global,
+    opening: &State<Entry>,
+    tables: Tables,
+    lists: Vec<Vec<Action>>,
+    sessions: &[Vec<Session>],
+    total: usize,
+) -> Result<SessionRun, RunFault>
+    requires balanced { IsBalanced tables }
+    requires opening { opening.now ≡ state_that_holds tables }
+    requires lists { (1 ≤ length lists.items) × (length lists.items ≤ 64) }
+    requires allowed { AreAllowed (in_lists lists.items) }
+    requires same { in_lists sessions.now ≡ in_lists lists.items }
+    requires some { (1 ≤ length sessions.now) × (length sessions.now ≤ 64) }
+    requires like { AreDealtLike (length sessions.now) total (in_lists sessions.now) }
+    ensures run { IfOk result (IsToldRun tables (in_lists lists.items) total) }
+    ensures refused { IfErr result (IsListsFault tables (in_lists lists.items) TRIES) }
+{
     let served = serve_lists(rt, alloc, tables, lists, TRIES, &NoPause)?;
-    let lines = lines_of_report(alloc, sessions.as_slice(), total, &served.report)?;
-    let tables = inspected(alloc, &opening, served)?;
+    let lines = lines_of_report(alloc, sessions, total, &served.report)?;
+    let tables = inspected(alloc, opening, served)?;
     Ok(SessionRun { lines, tables })
 }

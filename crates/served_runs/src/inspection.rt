@@ -15,6 +15,7 @@ use std::sync::Wait;
 use std::thread::Threads;
 use vac_model::{Action, Tables};
 use vacation_core::Entry;
+use workers::Report;
 
 /// Has each list of actions served by a worker of its own, from these tables, each session with at most so many attempts.
 pub(crate) fn serve_lists<R: Threads + Wait + Sync, P: Pause + Sync>(
@@ -55,6 +56,21 @@ fn receipts_of(
     Ok(all)
 }
 
+/// Audits the receipts of a report from this opening, and looks the tables through.
+fn look_through(
+    alloc: Global,
+    opening: &State<Entry>,
+    report: Report<Entry>,
+    state: &State<Entry>,
+    tables: &Tables,
+) -> Result<(), RunFault>
+    ensures sound { OnOk result (IsSound opening.now (flat_map (λ receipts. receipts) report.receipts) state.now tables.now) }
+    ensures finding { IfErr result (IsFinding opening.now (flat_map (λ receipts. receipts) report.receipts) state.now tables.now) }
+{
+    let receipts = receipts_of(alloc, report.receipts)?;
+    inspect(alloc, opening, receipts.as_slice(), state, tables)
+}
+
 /// The tables that workers left, once their receipts were audited from this opening and the tables looked through.
 pub(crate) fn inspected(
     alloc: Global,
@@ -70,7 +86,6 @@ pub(crate) fn inspected(
         tables,
         state,
     } = served;
-    let receipts = receipts_of(alloc, report.receipts)?;
-    inspect(alloc, opening, receipts.as_slice(), &state, &tables)?;
+    look_through(alloc, opening, report, &state, &tables)?;
     Ok(tables)
 }

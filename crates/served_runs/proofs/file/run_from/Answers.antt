@@ -1,0 +1,31 @@
+use Rattle.std.proofs.Common.{refl, rules}
+use Rattle.std.proofs.lemmas.Result.{err_from_is_err_and}
+use Rattle.dealing.specs.Deals.{in_lists}
+use Rattle.served_runs.proofs.RunLemmas.{all_unread, lists_fault, told_run}
+use Rattle.served_runs.proofs.file.run_from.Goals as goal
+
+pub lines_of_report-requires-clause-there : goal.lines_of_report-requires-clause-there
+lines_of_report-requires-clause-there g c = record {
+  outcomes = c.in_ok-served.ensures.outcomes;
+  are = all_unread c.args.tables (in_lists c.args.lists.items) (in_lists c.args.sessions.now) c.in_ok-served.served c.requires.same
+      c.in_ok-served.ensures;
+}
+
+pub returns-in_err-lines-clause-refused : goal.returns-in_err-lines-clause-refused
+returns-in_err-lines-clause-refused g c =
+    let p = err_from_is_err_and c.from_residual-in_err-lines.result c.from_residual-in_err-lines.ensures.1 in rw (p.1, p.2) refl
+
+pub returns-in_err-tables-clause-refused : goal.returns-in_err-tables-clause-refused
+returns-in_err-tables-clause-refused g c =
+    let fault = lists_fault c.args.tables (in_lists c.args.lists.items) _ c.in_ok-served.served c.args.opening.now
+    c.in_err-tables.field-0.0 c.in_ok-served.ensures c.requires.opening c.in_err-tables.ensures.finding in
+    search (rules, fault)
+
+pub returns-clause-run : goal.returns-clause-run
+returns-clause-run g c =
+    let lists = in_lists c.args.lists.items in
+    let seen = in_lists c.args.sessions.now in
+    let unread = all_unread c.args.tables lists seen c.in_ok-served.served c.requires.same c.in_ok-served.ensures in
+    told_run c.args.tables lists seen c.in_ok-served.served c.args.opening.now c.args.total _ c.requires.same c.in_ok-served.ensures
+    c.requires.opening c.in_ok-tables.ensures.sound (c.in_ok-lines.ensures c.in_ok-served.ensures.outcomes unread)
+    c.in_ok-tables.ensures.tables
