@@ -1,4 +1,4 @@
-//! Transactions on the shared table: so far what a job is, which is run as one.
+//! Jobs: what a transaction is to ask, call by call, by the replies so far.
 //!
 //! A *job* is asked for its next call, given the replies that it got so far, until it is done or gives up. It keeps nothing
 //! between the calls, so a transaction that was refused is run again by asking from the beginning. What a job asks can be

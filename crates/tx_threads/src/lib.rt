@@ -1,4 +1,4 @@
-//! Transactions that threads run on the shared table: so far the steps of their words.
+//! The steps that the word actor of a transaction takes on the shared table.
 //!
 //! A word actor of `step_core` keeps what its transaction has read, written and locked, and stands at a place. The place says which atomic
 //! step is due to it ([`next_due`]): a load, a store, a compare_exchange or a fetch_add of one word. What it makes of itself then hangs on

@@ -1,4 +1,4 @@
-//! A word.
+//! The typed calls on a word.
 ghost use Rattle.std.specs.Prelude.{◌≡◌};
 ghost use Rattle.seq_model.specs.declared.call.Op.TheVariants as op;
 ghost use Rattle.transactions.specs.Ready.{HasBegunSince, IsReady};
