@@ -1,28 +1,33 @@
 #!/usr/bin/env bash
 # Refuses each allocation of a program's stored run in turn.
 #
-#     scripts/refuse_each_allocation_of_program.sh CRATE [--sections | --on INPUT ..] [FIRST [LAST]]
+#     scripts/refuse_each_allocation_of_program.sh CRATE [--sections | --section PLACE .. | --on INPUT ..] [FIRST [LAST]]
 #
 # Runs the program of CRATE on its files args and stdin with the first allocation refused, then with the
 # second, and so on. Each run must print the file stdout with status 0, or nothing but the line `Memory`
 # with status 2. With --on it reads INPUT in place of stdin, by `step -`, or by `vacation -` where INPUT
 # ends in .sessions, and must print what stands beside INPUT in the file of its name that ends in .out;
 # one build serves all inputs. With --sections it reads each section of stdin by itself, which `----` closes,
-# and must print the section of stdout in its place, which a line `# NAME` opens. It ends after LAST, or once
-# eight runs in a row were refused nothing. RT names the command, `rt` by default.
+# and must print the section of stdout in its place, which a line `# NAME` opens; with --section only those in
+# these places, from 1 on. It ends after LAST, or once eight runs in a row were refused nothing. RT names the
+# command, `rt` by default.
 set -u
 
 if [ $# -lt 1 ]; then
-    sed -n '2,14s/^# \{0,1\}//p' "$0"
+    sed -n '2,15s/^# \{0,1\}//p' "$0"
     exit 2
 fi
 crate=$1
 shift
 sections=
 if [ "${1:-}" = --sections ]; then
-    sections=yes
+    sections=all
     shift
 fi
+while [ "${1:-}" = --section ]; do
+    sections="$sections ${2:?}"
+    shift 2
+done
 inputs=()
 while [ "${1:-}" = --on ]; do
     inputs+=("$(realpath -e "${2:?}")") || exit 2
@@ -60,12 +65,13 @@ refuse_sections() {
         echo "$crate: stdin and stdout have not as many sections"
         exit 2
     fi
-    for place in $(seq "$count"); do
+    [ "$sections" = all ] && sections=$(seq "$count")
+    for place in $sections; do
         stdin=$folder/in$place
         wanted=$(cat "$folder/out$place")
         refuse_each "$crate, section $place"
     done
-    echo "$crate: $count sections, $total refusals"
+    echo "$crate: $(wc -w <<<"$sections") of $count sections, $total refusals"
 }
 
 # refuse_each NAME: refuses each allocation of the run on what was taken.

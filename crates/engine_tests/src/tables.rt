@@ -5,20 +5,16 @@ ghost use Rattle.transactions.specs.Ready.{IsReady};
 ghost use Rattle.engine_tests.specs.Fit.{IsFit};
 
 use crate::page::Page;
-use crate::requests::ask;
 use crate::turns::{Both, at_once, in_turn};
-use seq_model::{Call, Op, Refusal, Request, State};
+use seq_model::{Refusal, State};
 use std::thread::Threads;
 use step_script::Script;
-use table_rows::{close, open};
+use table_rows::{close, commit_write, open};
 use transactions::TxSeat;
 use tx_table::TxTable;
 
 /// How many of the table's shares the second seat has.
 const SECOND_SHARES: u64 = 32;
-
-/// So many kinds of what can be written: words, and four of collections.
-const KINDS: u64 = 5;
 
 /// What stands before rows that are answered in two threads.
 const AT_ONCE: &str = "at once\n";
@@ -111,41 +107,15 @@ fn go_on(
 }
 
 // A write is committed, but for the limit of the clock.
+#[tactic(auto, using(crate::proofs::FitLemmas::rests_fit))]
 fn commit_one(page: &mut Page, table: &TxTable<u64>, seat: &mut TxSeat<u64>) -> Result<(), Refusal>
     requires fit { IsFit table.now seat.old }
     ensures fit { IsFit table.now seat.new }
 {
-    match ask(page, table, seat, &Request::Begin) {
-        Err(Refusal::Exhausted { clock: _ }) => Ok(()),
-        Err(cause) => Err(cause),
-        Ok(()) => {
-            write_any(page, table, seat)?;
-            ask(page, table, seat, &Request::Commit)
-        }
+    let written = commit_write(table, seat);
+    seat.abort(table);
+    if let Some(receipt) = written? {
+        page.keep(receipt)?;
     }
-}
-
-// A write on the first word, or else on the first collection, whatever its kind.
-fn write_any(page: &mut Page, table: &TxTable<u64>, seat: &mut TxSeat<u64>) -> Result<(), Refusal>
-    requires fit { IsFit table.now seat.old }
-    ensures fit { IsFit table.now seat.new }
-{
-    'kinds: for kind in 0..KINDS {
-        match ask(page, table, seat, &write_of(kind)) {
-            Err(Refusal::NoSuch) => {}
-            answered => return answered,
-        }
-    }
-    Err(Refusal::NoSuch)
-}
-
-fn write_of(kind: u64) -> Request<u64> {
-    let op = match kind {
-        0 => Op::Write(77),
-        1 => Op::Put(5, 77),
-        2 => Op::Add(5),
-        3 => Op::Insert(5),
-        _ => Op::Enqueue(5),
-    };
-    Request::Call(Call { target: 0, op })
+    Ok(())
 }

@@ -9,8 +9,12 @@ mod ends;
 mod jobs;
 mod meeting;
 mod openings;
+mod pages;
+mod writes;
 
 pub use ends::{audit_receipts, close, print_closed, print_receipt};
 pub use jobs::Listed;
 pub use meeting::Meeting;
 pub use openings::{open, opening_of, script_of};
+pub use pages::{Page, end_page};
+pub use writes::{commit_after, commit_write};

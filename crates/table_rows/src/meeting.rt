@@ -6,8 +6,8 @@ use std::thread::yield_now;
 /// A worker is held for at most so many turns.
 const TURNS: u64 = 10_000_000;
 
-/// So many workers that are held before their commits until all stand there, and the first until all others have a receipt. None is held
-/// once one of them has left.
+/// So many workers that are held before their commits: the first until all others have a receipt, each other one until all stand there.
+/// None is held once one of them has left.
 #[derive(Drop)]
 pub struct Meeting {
     all: u64,
@@ -62,9 +62,12 @@ impl Meeting {
 impl Pause for Meeting {
     fn before_commit(&self, worker: u64) {
         self.standing.fetch_add(1, Ordering::SeqCst);
-        let stand = self.is_reached(&self.standing, self.all);
-        let received = worker != 1 || self.waits_for_receipts();
-        if !stand || !received {
+        let is_met = if worker == 1 {
+            self.waits_for_receipts()
+        } else {
+            self.is_reached(&self.standing, self.all)
+        };
+        if !is_met {
             self.is_missed.store(true, Ordering::SeqCst);
         }
     }

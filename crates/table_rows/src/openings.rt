@@ -3,7 +3,7 @@ ghost use Rattle.std.specs.Prelude.{◌≡◌, IfOk};
 ghost use Rattle.tx_table.specs.Seated.{view};
 ghost use Rattle.transactions.specs.Ready.{IsReady};
 
-use seq_model::{Items, Memory, Refusal, Shape, State};
+use seq_model::{Held, Items, Memory, Refusal, Shape, State};
 use std::alloc::Global;
 use step_script::{Script, parse_steps};
 use transactions::TxSeat;
@@ -12,21 +12,37 @@ use tx_table::TxTable;
 /// The script of lines with `; ` between.
 pub fn script_of(alloc: Global, row: &str) -> Result<Script, Refusal> {
     let mut lines = String::new(alloc);
+    add_lines(&mut lines, row)?;
+    parse_steps(alloc, lines.as_bytes())
+}
+
+fn add_lines(lines: &mut String, row: &str) -> Result<(), Memory> {
     for line in row.split("; ") {
         lines.push_str(line)?;
         lines.push('\n')?;
     }
-    parse_steps(alloc, lines.as_bytes())
+    Ok(())
 }
 
 /// The state that the header of a script says.
 pub fn opening_of(alloc: Global, script: &Script) -> Result<State<u64>, Refusal> {
     let words = Vec::from_slice(alloc, script.words.as_slice())?;
+    let held = held_of(alloc, script)?;
+    State::new(words, held)
+}
+
+fn held_of(alloc: Global, script: &Script) -> Result<Vec<Held<u64>>, Memory> {
     let mut held = Vec::new(alloc);
+    add_held(&mut held, script)?;
+    Ok(held)
+}
+
+fn add_held(held: &mut Vec<Held<u64>>, script: &Script) -> Result<(), Memory> {
+    let alloc = *held.allocator();
     for collection in script.collections.as_slice() {
         held.push(collection.held.try_copy(alloc)?)?;
     }
-    State::new(words, held)
+    Ok(())
 }
 
 fn shape_of(alloc: Global, script: &Script) -> Result<Shape, Memory> {

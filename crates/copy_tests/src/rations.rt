@@ -1,0 +1,116 @@
+//! Values one of whose copies is refused.
+ghost use Rattle.std.specs.Prelude.{◌≡◌, ℕ, IfOk};
+
+use seq_model::{Call, Entries, Held, Memory, Op, Refusal, State, Value};
+use std::alloc::Global;
+use std::marker::Model;
+use std::sync::Arc;
+use std::sync::atomic::{AtomicBool, AtomicU64, Ordering};
+
+/// The place of a copy that no run makes.
+const NEVER: u64 = u64::MAX;
+
+/// Which copy is the refused one, of all that are made from some moment on.
+#[derive(Drop)]
+struct Copies {
+    made: AtomicU64,
+    refused: AtomicU64,
+    has_refused: AtomicBool,
+}
+
+/// Where values come from one of whose copies is refused.
+#[derive(Drop)]
+pub struct Ration {
+    copies: Arc<Copies>,
+}
+
+/// A number, one of whose copies may be refused.
+#[derive(Drop)]
+pub struct Rationed {
+    number: u64,
+    ration: Ration,
+}
+
+impl Ration {
+    pub fn new(alloc: Global) -> Result<Ration, Memory> {
+        let copies = Copies {
+            made: AtomicU64::new(0),
+            refused: AtomicU64::new(NEVER),
+            has_refused: AtomicBool::new(false),
+        };
+        Ok(Ration {
+            copies: Arc::new(alloc, copies)?,
+        })
+    }
+
+    /// From now on the copy at this place is refused, counted from 0.
+    pub fn refuse(&self, place: u64) {
+        self.copies.made.store(0, Ordering::SeqCst);
+        self.copies.refused.store(place, Ordering::SeqCst);
+    }
+
+    /// No copy is refused from now on. Whether one was.
+    pub fn lift(&self) -> bool {
+        self.copies.refused.store(NEVER, Ordering::SeqCst);
+        self.copies.has_refused.load(Ordering::SeqCst)
+    }
+
+    pub fn value(&self, number: u64) -> Result<Rationed, Memory>
+        ensures { IfOk result (λ value. value ≡ number) }
+    {
+        let copies = Arc::try_clone(&self.copies)?;
+        Ok(Rationed {
+            number,
+            ration: Ration { copies },
+        })
+    }
+
+    /// `put KEY 60` on the first collection.
+    pub fn put(&self, key: u64) -> Result<Call<Rationed>, Memory> {
+        Ok(Call {
+            target: 0,
+            op: Op::Put(key, self.value(60)?),
+        })
+    }
+
+    /// A map that holds such a value at the key 5.
+    pub fn opening(&self, alloc: Global) -> Result<State<Rationed>, Refusal> {
+        let mut map = Entries::new(alloc);
+        let _ = map.insert(5, self.value(50)?)?;
+        State::new(Vec::new(alloc), vec![in alloc; Held::Map(map)]?)
+    }
+
+    fn take(&self) -> Result<(), Memory> {
+        let made = self.copies.made.fetch_add(1, Ordering::SeqCst);
+        if made == self.copies.refused.load(Ordering::SeqCst) {
+            self.copies.has_refused.store(true, Ordering::SeqCst);
+            return Err(Memory);
+        }
+        Ok(())
+    }
+}
+
+impl Model for Rationed {
+    ghost Value = { ℕ };
+
+    ghost view = { λ value. value.number };
+}
+
+impl Value for Rationed {
+    fn try_copy(&self) -> Result<Rationed, Memory> {
+        self.ration.take()?;
+        self.ration.value(self.number)
+    }
+
+    fn same(&self, other: &Rationed) -> bool {
+        self.number == other.number
+    }
+}
+
+/// `get KEY` on the first collection.
+pub fn get(key: u64) -> Call<Rationed> {
+    Call {
+        target: 0,
+        op: Op::Get(key),
+    }
+}
