@@ -1,18 +1,21 @@
 //! A request, up to its answer.
-ghost use Rattle.std.specs.Prelude.{◌≡◌, ◌≢◌, [], None, IfOk, OnErr};
+ghost use Rattle.std.specs.Prelude.{◌≡◌, ◌≢◌, [], None, IfOk, OnErr, true};
+ghost use Rattle.actor_words.specs.Dispatch.{next_of};
 ghost use Rattle.replay_log.specs.WorldProgress.{AreSmall};
 ghost use Rattle.tx_table.specs.Seated.{blocks_in, opening_of};
 ghost use Rattle.tx_phases.specs.Courses.{IsUnderWay, latest};
+ghost use Rattle.tx_actor.specs.Running.{stage_of};
 ghost use Rattle.tx_phases.specs.Phases.{Ends};
 ghost use Rattle.tx_turns.specs.Ties.{Ties};
 ghost use Rattle.gate_turns.specs.Own.{HasOwn};
 ghost use Rattle.driven_turns.specs.Driven.{Driven, Stops, seat_in, standing};
 
-use crate::turns::turn;
+use crate::turns::{step_on, turn};
+use actor_words::Next;
 use replay_log::Base;
 use seq_model::{Memory, Record, Value};
 use std::alloc::Global;
-use tx_actor::{Told, TxActor};
+use tx_actor::{Stage, Told, TxActor};
 use tx_table::{Seat, TxTable};
 
 /// The receipt that was made last.
@@ -22,6 +25,17 @@ fn newest<V: Value>(now: Option<Record<V>>, before: Option<Record<V>>) -> Option
     match now {
         Some(receipt) => Some(receipt),
         None => before,
+    }
+}
+
+/// Whether the next turn is a step on the words that makes no receipt.
+fn is_on_words<V: Value>(actor: &TxActor<V>) -> bool
+    ensures due { result ≡ true → next_of (stage_of actor.now.stage) ≡ Next.Word }
+    ensures open { result ≡ true → actor.now.stage ≢ Stage.Closing }
+{
+    match actor.next() {
+        Next::Word => !matches!(actor.stage, Stage::Closing),
+        _ => false,
     }
 }
 
@@ -46,11 +60,22 @@ fn advance<V: Value>(
 {
     let mut kept = None;
     'turns: loop {
-        let (told, receipt) = turn(alloc, table, seat, actor, bases)?;
-        kept = newest(receipt, kept);
-        match told {
-            Told::Quiet => {}
-            told => return Ok((told, kept)),
+        if is_on_words(actor) {
+            match step_on(table, seat, actor, bases.as_slice()) {
+                Told::Quiet => {}
+                told => return Ok((told, kept)),
+            }
+        } else {
+            match turn(alloc, table, seat, actor, bases) {
+                Ok((told, receipt)) => {
+                    kept = newest(receipt, kept);
+                    match told {
+                        Told::Quiet => {}
+                        told => return Ok((told, kept)),
+                    }
+                }
+                Err(_) => return Err(Memory),
+            }
         }
     }
 }

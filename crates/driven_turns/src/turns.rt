@@ -1,5 +1,5 @@
 //! One turn of a request.
-ghost use Rattle.std.specs.Prelude.{◌≡◌, ◌≢◌, IfOk, OnErr};
+ghost use Rattle.std.specs.Prelude.{◌≡◌, ◌≢◌, [], IfOk, OnErr};
 ghost use Rattle.actor_words.specs.Dispatch.{next_of};
 ghost use Rattle.tx_actor.specs.Running.{stage_of};
 ghost use Rattle.tx_actor.specs.declared.actor.Told.{Told as Tells};
@@ -19,6 +19,29 @@ use tx_actor::{Stage, Told, TxActor};
 use tx_table::{Seat, TxTable};
 use tx_turns::{close, starve, step_word};
 
+/// A step on the words that makes no receipt.
+pub(crate) fn step_on<V: Value>(
+    table: &TxTable<V>,
+    seat: &mut Seat<V>,
+    actor: &mut TxActor<V>,
+    bases: &[Base<V>],
+) -> Told<V>
+    requires ties { Ties table.now seat.old actor.old }
+    requires own { HasOwn table.now seat.old actor.old bases.now }
+    requires due { next_of (stage_of actor.old.stage) ≡ Next.Word }
+    requires open { actor.old.stage ≢ Stage.Closing }
+    ensures turned { Turned (opening_of table.now) seat.old actor.old seat.new result }
+    ensures receipt { commits (actor_of_seat seat.old) actor.old ≡ [] }
+    ensures ties { Ties table.now seat.new actor.new }
+    ensures own { HasOwn table.now seat.new actor.new bases.now }
+{
+    turns_keep_own::<V>();
+    match actor.stage {
+        Stage::Loading(..) => load_word(table, seat, actor, bases),
+        _ => step_word(table, seat, actor),
+    }
+}
+
 /// A step on the words, with the receipt of a transaction without writes where it commits one.
 fn step<V: Value>(
     alloc: Global,
@@ -37,12 +60,11 @@ fn step<V: Value>(
 {
     turns_keep_own::<V>();
     match actor.stage {
-        Stage::Loading(..) => (load_word(table, seat, actor, bases), None),
         Stage::Closing => {
             let (told, receipt) = close(alloc, table, seat, actor);
             (told, Some(receipt))
         }
-        _ => (step_word(table, seat, actor), None),
+        _ => (step_on(table, seat, actor, bases), None),
     }
 }
 
@@ -99,6 +121,39 @@ fn store_next<V: Value>(
     }
 }
 
+/// A turn on a gate, or the first value store of a commit, as `turn` takes it. It stands apart since what these leave for a moment weighs on
+/// no turn on the words.
+fn turn_apart<V: Value>(
+    alloc: Global,
+    table: &TxTable<V>,
+    seat: &mut Seat<V>,
+    actor: &mut TxActor<V>,
+    bases: &mut Vec<Base<V>>,
+    next: Next,
+) -> Result<(Told<V>, Option<Record<V>>), Memory>
+    requires ties { Ties table.now seat.old actor.old }
+    requires own { HasOwn table.now seat.old actor.old bases.old.items }
+    requires due { next_of (stage_of actor.old.stage) ≡ next }
+    requires some { next ≢ Next.Nothing }
+    requires apart { next ≢ Next.Word }
+    ensures turned { IfOk result (λ done. Turned (opening_of table.now) seat.old actor.old seat.new done.0) }
+    ensures receipt { IfOk result (λ done. commits (actor_of_seat seat.old) actor.old ≡ as_receipts (actor_of_seat seat.old) done.1) }
+    ensures ties { Ties table.now seat.new actor.new }
+    ensures own { HasOwn table.now seat.new actor.new bases.new.items }
+    ensures starved { OnErr result ((said : Tells V) × Starved (opening_of table.now) seat.old seat.new said) }
+    ensures wants { OnErr result (WantsMemory (next_of (stage_of actor.old.stage))) }
+{
+    match next {
+        Next::Nothing => unreachable!(),
+        Next::Word => unreachable!(),
+        Next::TryGate(k) => Ok((try_next(table, seat, actor, bases, k)?, None)),
+        Next::Copy(k) => Ok((copy_base(alloc, table, seat, actor, bases, k)?, None)),
+        Next::FirstStore => store_next(alloc, table, seat, actor, bases),
+        Next::GoHome(k) => Ok((go_home(alloc, table, seat, actor, bases, k), None)),
+        Next::PutGate(k) => Ok((put_gate(table, seat, actor, bases, k), None)),
+    }
+}
+
 /// The next turn of a request that is under way, with the receipt that it makes. Where memory is wanting, which only a try of a gate, what
 /// a call copies and the first value store of a commit take, no step is taken, and the request is given up.
 pub fn turn<V: Value>(
@@ -121,10 +176,6 @@ pub fn turn<V: Value>(
     match actor.next() {
         Next::Nothing => unreachable!(),
         Next::Word => Ok(step(alloc, table, seat, actor, bases.as_slice())),
-        Next::TryGate(k) => Ok((try_next(table, seat, actor, bases, k)?, None)),
-        Next::Copy(k) => Ok((copy_base(alloc, table, seat, actor, bases, k)?, None)),
-        Next::FirstStore => store_next(alloc, table, seat, actor, bases),
-        Next::GoHome(k) => Ok((go_home(alloc, table, seat, actor, bases, k), None)),
-        Next::PutGate(k) => Ok((put_gate(table, seat, actor, bases, k), None)),
+        next => turn_apart(alloc, table, seat, actor, bases, next),
     }
 }

@@ -1,7 +1,9 @@
-use Rattle.std.proofs.Common.{Option, Result, Ok, Err, OnErr, sym, subst}
+use Rattle.std.proofs.Common.{List, None, Option, sym, subst}
+use Rattle.replay_log.specs.declared.base.Base.{Base}
 use Rattle.seq_model.specs.declared.record.Record.{Record}
 use Rattle.tx_actor.specs.declared.actor.Told.{Told}
 use Rattle.tx_table.specs.Seated.{opening_of}
+use Rattle.gate_turns.specs.Own.{HasOwn}
 use Rattle.driven_turns.proofs.DrivenLemmas.{driven_first, driven_on, nearer}
 use Rattle.driven_turns.proofs.GivenUpLemmas.{stops_at}
 use Rattle.driven_turns.proofs.NextLemmas.{due_turn}
@@ -11,6 +13,29 @@ use Rattle.driven_turns.proofs.driving.advance.Goals as goal
 pub turns-init : goal.turns-init
 turns-init g c = (c.requires.ties, c.requires.own, driven_first (opening_of c.args.table.now) c.args.seat.now c.requires.under)
 
+-- a step on the words that makes no receipt
+pub turns-smaller-in-Quiet : goal.turns-smaller-in-Quiet
+turns-smaller-in-Quiet g c =
+    nearer c.args.table.now c.args.seat.now c.turns.seat c.step_on.new.seat c.turns.actor c.step_on.result c.turns.kept c.turns.invariant.0
+    c.turns.invariant.2 c.step_on.ensures.turned c.requires.small c.in-Quiet.is
+
+pub turns-preserved-in-Quiet : goal.turns-preserved-in-Quiet
+turns-preserved-in-Quiet g c =
+    let o = opening_of c.args.table.now in (
+      c.step_on.ensures.ties,
+      subst (λ (bs : List (Base _)). HasOwn c.args.table.now c.step_on.new.seat c.step_on.new.actor bs) c.as_slice.ensures.value
+          c.step_on.ensures.own,
+      subst (λ (k : Told _). Driven o c.args.seat.now c.step_on.new.seat k c.turns.kept) c.in-Quiet.is
+          (driven_on c.args.table.now c.args.seat.now c.turns.seat c.step_on.new.seat c.turns.actor c.step_on.result c.turns.kept
+          c.turns.invariant.0 c.turns.invariant.2 c.step_on.ensures.turned None c.step_on.ensures.receipt),
+    )
+
+pub returns-in_default-clause-driven : goal.returns-in_default-clause-driven
+returns-in_default-clause-driven g c =
+    driven_on c.args.table.now c.args.seat.now c.turns.seat c.step_on.new.seat c.turns.actor c.step_on.result c.turns.kept
+    c.turns.invariant.0 c.turns.invariant.2 c.step_on.ensures.turned None c.step_on.ensures.receipt
+
+-- any other turn
 pub turn-requires-clause-due : goal.turn-requires-clause-due
 turn-requires-clause-due g c =
     due_turn c.args.table.now c.turns.seat c.turns.actor
@@ -18,8 +43,8 @@ turn-requires-clause-due g c =
 
 pub turns-smaller : goal.turns-smaller
 turns-smaller g c =
-    nearer c.args.table.now c.args.seat.now c.turns.seat c.turn.new.seat c.turns.actor c.in_ok-told.told c.turns.kept c.turns.invariant.0
-    c.turns.invariant.2 c.in_ok-told.ensures.turned c.requires.small c.in-Quiet.is
+    nearer c.args.table.now c.args.seat.now c.turns.seat c.turn.new.seat c.turns.actor c.in-Ok.told c.turns.kept c.turns.invariant.0
+    c.turns.invariant.2 c.in-Ok.ensures.turned c.requires.small c.in-Quiet-told.is
 
 pub turns-preserved : goal.turns-preserved
 turns-preserved g c =
@@ -27,24 +52,20 @@ turns-preserved g c =
       c.turn.ensures.ties,
       c.turn.ensures.own,
       subst (λ (k : Told _ × Option (Record _)). Driven o c.args.seat.now c.turn.new.seat k.0 k.1)
-          (λ i. (c.in-Quiet.is i, sym c.newest-kept.ensures i))
-          (driven_on c.args.table.now c.args.seat.now c.turns.seat c.turn.new.seat c.turns.actor c.in_ok-told.told c.turns.kept
-          c.turns.invariant.0 c.turns.invariant.2 c.in_ok-told.ensures.turned c.in_ok-told.receipt c.in_ok-told.ensures.receipt),
+          (λ i. (c.in-Quiet-told.is i, sym c.newest-kept.ensures i))
+          (driven_on c.args.table.now c.args.seat.now c.turns.seat c.turn.new.seat c.turns.actor c.in-Ok.told c.turns.kept
+          c.turns.invariant.0 c.turns.invariant.2 c.in-Ok.ensures.turned c.in-Ok.receipt c.in-Ok.ensures.receipt),
     )
 
-pub returns-in_default-clause-driven : goal.returns-in_default-clause-driven
-returns-in_default-clause-driven g c =
-    subst (λ (d : Option (Record _)). Driven (opening_of c.args.table.now) c.args.seat.now c.turn.new.seat c.in_ok-told.told d)
+pub returns-in_default-told-clause-driven : goal.returns-in_default-told-clause-driven
+returns-in_default-told-clause-driven g c =
+    subst (λ (d : Option (Record _)). Driven (opening_of c.args.table.now) c.args.seat.now c.turn.new.seat c.in-Ok.told d)
     (sym c.newest-kept.ensures)
-    (driven_on c.args.table.now c.args.seat.now c.turns.seat c.turn.new.seat c.turns.actor c.in_ok-told.told c.turns.kept
-    c.turns.invariant.0 c.turns.invariant.2 c.in_ok-told.ensures.turned c.in_ok-told.receipt c.in_ok-told.ensures.receipt)
+    (driven_on c.args.table.now c.args.seat.now c.turns.seat c.turn.new.seat c.turns.actor c.in-Ok.told c.turns.kept
+    c.turns.invariant.0 c.turns.invariant.2 c.in-Ok.ensures.turned c.in-Ok.receipt c.in-Ok.ensures.receipt)
 
-on_err : (A E F : Type 0) (r : Result A E) → F → OnErr r F
-on_err A E F (Ok x) h = tt
-on_err A E F (Err x) h = h
-
-pub returns-in_err-told-clause-stops : goal.returns-in_err-told-clause-stops
-returns-in_err-told-clause-stops g c =
-    on_err _ _ _ c.from_residual.result (stops_at c.args.table.now c.args.seat.now c.turns.seat c.turn.new.seat c.turns.actor
-    c.in_err-told.ensures.starved.0 c.turns.kept c.turns.invariant.0 c.turns.invariant.2 c.in_err-told.ensures.wants
-    c.in_err-told.ensures.starved.1)
+pub returns-in-Err-clause-stops : goal.returns-in-Err-clause-stops
+returns-in-Err-clause-stops g c =
+    stops_at c.args.table.now c.args.seat.now c.turns.seat c.turn.new.seat c.turns.actor
+    c.in-Err.ensures.starved.0 c.turns.kept c.turns.invariant.0 c.turns.invariant.2 c.in-Err.ensures.wants
+    c.in-Err.ensures.starved.1

@@ -2,8 +2,6 @@ use Rattle.std.proofs.Common.{ap}
 use Rattle.actor_words.specs.Dispatch.{is_loading}
 use Rattle.tx_actor.specs.Running.{stage_of}
 use Rattle.tx_actor.specs.declared.actor.Stage.{Stage}
-use Rattle.tx_table.specs.Seated.{actor}
-use Rattle.driven_turns.proofs.NextLemmas.{makes_none, not_loading}
 use Rattle.driven_turns.proofs.turns.step.Goals as goal
 
 pub returns-in-Closing-clause-own : goal.returns-in-Closing-clause-own
@@ -11,13 +9,3 @@ returns-in-Closing-clause-own g c =
     c.turns_keep_own.ensures.words c.args.table.now c.args.seat.now c.close-told.new.seat c.args.actor.now c.close-told.new.actor _
     c.args.bases.now c.requires.ties c.requires.own c.close-told.ensures.turned c.close-told.ensures.ties c.close-told.ensures.leaves
     c.requires.due (ap (λ (s : Stage _). is_loading (stage_of s)) c.in-Closing.is)
-
-pub returns-in_default-clause-receipt : goal.returns-in_default-clause-receipt
-returns-in_default-clause-receipt g c =
-    makes_none (actor c.args.seat.now) c.args.actor.now c.args.actor.now.stage c.requires.due c.in_default.not-Closing
-
-pub returns-in_default-clause-own : goal.returns-in_default-clause-own
-returns-in_default-clause-own g c =
-    c.turns_keep_own.ensures.words c.args.table.now c.args.seat.now c.step_word.new.seat c.args.actor.now c.step_word.new.actor
-    c.step_word.result c.args.bases.now c.requires.ties c.requires.own c.step_word.ensures.turned c.step_word.ensures.ties
-    c.step_word.ensures.leaves c.requires.due (not_loading c.args.actor.now.stage c.in_default.not-Loading)
