@@ -15,6 +15,7 @@ use actor_words::laws::steps_as_worlds;
 use replay_log::Base;
 use seq_model::{Event, Memory, Value};
 use std::alloc::Global;
+use std::thread::yield_now;
 use tx_actor::laws::{copied_stay_own, copies_by_stage, copies_stay_own};
 use tx_actor::{Told, TxActor};
 use tx_table::{Seat, TxTable};
@@ -27,8 +28,9 @@ pub(crate) fn first<V: Value>(bases: &mut Vec<Base<V>>) -> Base<V>
     bases.remove(0)
 }
 
-/// A try on the gate of a collection. Where it was free its base comes into hand; where it was taken for the 64th time the transaction is
-/// given up, `GateBusy`. Where memory is refused no step is taken, and the actor is as it was.
+/// A try on the gate of a collection. Where it was free its base comes into hand; where it was taken the thread yields, as the one that holds
+/// it may wait for a core, and at the 64th time the transaction is given up, `GateBusy`. Where memory is refused no step is taken, and the
+/// actor is as it was.
 pub fn try_gate<V: Value>(
     table: &TxTable<V>,
     seat: &mut Seat<V>,
@@ -56,7 +58,10 @@ pub fn try_gate<V: Value>(
             bases.push_reserved(base);
             Ok(actor.tried_gate(true))
         }
-        None => Ok(actor.tried_gate(false)),
+        None => {
+            yield_now();
+            Ok(actor.tried_gate(false))
+        }
     }
 }
 
