@@ -1,3 +1,4 @@
+pub mod NumberLemmas
 mod ReadLemmas
 mod ToldLemmas
 mod WordLemmas

@@ -8,8 +8,9 @@ use Rattle.std.specs.Io.KnownBytes.{Appends}
 use Rattle.seq_model.specs.declared.refusal.Refusal.TheVariants.{OutOfMemory}
 use Rattle.session_output.specs.declared.fault.RunFault.TheVariants.{Refused}
 use Rattle.command_line.specs.declared.work.Cause.TheVariants.{Ended}
+use Rattle.command_line.specs.declared.work.Task.TheVariants.{OnFile}
 use Rattle.command_line.specs.declared.work.Work.{Work}
-use Rattle.command_line.specs.declared.work.Work.TheVariants.{Step, Vacation}
+use Rattle.command_line.specs.declared.work.Work.TheVariants.{Served, Step, Vacation}
 use Rattle.command_line.specs.Ends.{HasBegun, IsCause, IsFaultOf, IsTextOf, line_of}
 
 pub written_on : (old now new : Option (List ℕ)) (w n : ℕ) (bytes : List ℕ)
@@ -46,6 +47,7 @@ text_of (Some bytes) = (bytes, refl)
 memory_refuses : (work : Work) (text : List ℕ) → IsFaultOf work text (Refused OutOfMemory)
 memory_refuses Step text = tt
 memory_refuses Vacation text = tt
+memory_refuses (Served workers) text = tt
 
-pub memory_is_cause : (work : Work) (known : Option (List ℕ)) → IsCause work known (Ended (Refused OutOfMemory))
+pub memory_is_cause : (work : Work) (known : Option (List ℕ)) → IsCause (OnFile work) known (Ended (Refused OutOfMemory))
 memory_is_cause work known = let text = text_of known in (text.0, (text.1, memory_refuses work text.0))

@@ -1,13 +1,15 @@
 -- What clap's answer says of the words.
-use Rattle.std.proofs.Common.{◌≡◌, ◌∙◌, refl, sym, ap, inl, inr, List, [], ◌∷◌, Option, Some, None, option_map, codes}
-use Rattle.std.specs.Prelude.{option_and_then}
+use Rattle.std.proofs.Common.{◌≡◌, ◌∙◌, refl, sym, ap, ap₂, inl, inr, List, [], ◌∷◌, Option, Some, None, option_map, codes}
+use Rattle.std.specs.Prelude.{option_and_then, unwrap_or}
 use Rattle.std.specs.Box.{box_value}
 use Rattle.clap.specs.Words.{HasKind, IsAmong, Kinds, Row, Text, first_of, found_of, kind_of, rows_of, subcommand_name_of, subcommand_rows_of}
 use Rattle.clap.specs.declared.error.Error.{Error}
 use Rattle.clap.specs.declared.error.kind.ErrorKind.TheVariants as kind
 use Rattle.clap.specs.declared.parser.matches.ArgMatches.{ArgMatches}
 use Rattle.clap.specs.declared.parser.matches.ArgMatches.TheViews.{out-ArgMatches, out-SubCommand}
-use Rattle.command_line.specs.Words.{AskForInformation, IsInformation, faults, file_word, if_none, work_by, work_of}
+use Rattle.command_line.specs.declared.work.Task.TheVariants.{OnFile}
+use Rattle.command_line.specs.declared.work.Work.TheVariants.{Step}
+use Rattle.command_line.specs.Words.{AskForInformation, IsInformation, faults, file_word, if_none, task_by, task_of}
 
 -- an error that is not of memory is one of the words' faults
 pub is_fault : (kinds : Kinds) (error : Error) → HasKind kinds error → (kind_of error ≡ kind.OutOfMemory → ⊥)
@@ -33,18 +35,38 @@ asks_for_information words error has (inr version) =
     let no : kind.DisplayVersion ≡ kind.OutOfMemory = sym version ∙ memory in cc)))
 
 -- the subcommand that was met has its name, and what stands in FILE's place is in its rows
+some_is : {A : Type 0} (a b : A) → Some a ≡ Some b → a ≡ b
+some_is a b is = ap (λ o. unwrap_or o a) is
+
+some_is_not_none : {A : Type 0} (a : A) → Some a ≡ None → ⊥
+some_is_not_none a is = cc
+
 name_of : {B : Type 0} (met : Option B) (both : B → Text × List Row)
     → option_map (λ (p : Text × List Row). p.0) (option_map both met) ≡ option_map (λ b. (both b).0) met
 name_of None both = refl
 name_of (Some b) both = refl
 
-pub work_met : (m : ArgMatches) → work_of (subcommand_rows_of m) ≡ work_by (subcommand_name_of m)
-work_met m =
-    ap work_by (name_of (out-ArgMatches m).subcommand (λ b. (
-      (out-SubCommand (box_value b)).name.now,
-      rows_of
-          (found_of (out-SubCommand (box_value b)).matches),
-    )))
+met_with : (met : Option (Text × List Row)) (name : Text) (rows : List Row)
+    → Some name ≡ option_map (λ (p : Text × List Row). p.0) met → Some rows ≡ option_map (λ (p : Text × List Row). p.1) met
+    → task_by name rows ≡ task_of met
+met_with None name rows named rowed = absurd (some_is_not_none name named)
+met_with (Some met) name rows named rowed = ap₂ task_by (some_is name met.0 named) (some_is rows met.1 rowed)
+
+met_none : (met : Option (Text × List Row)) → None ≡ option_map (λ (p : Text × List Row). p.0) met → OnFile Step ≡ task_of met
+met_none None named = refl
+met_none (Some met) named = absurd (some_is_not_none met.0 (sym named))
+
+names_are : (m : ArgMatches) → option_map (λ (p : Text × List Row). p.0) (subcommand_rows_of m) ≡ subcommand_name_of m
+names_are m =
+    name_of (out-ArgMatches m).subcommand (λ b. ((out-SubCommand (box_value b)).name.now, rows_of (found_of (out-SubCommand (box_value b)).matches)))
+
+-- the task of the subcommand that was met, by its name and its rows; without one it is the first
+pub task_met : (m : ArgMatches) (name : Text) (rows : List Row) → Some name ≡ subcommand_name_of m
+    → Some rows ≡ option_map (λ (p : Text × List Row). p.1) (subcommand_rows_of m) → task_by name rows ≡ task_of (subcommand_rows_of m)
+task_met m name rows named rowed = met_with (subcommand_rows_of m) name rows (named ∙ sym (names_are m)) rowed
+
+pub task_missed : (m : ArgMatches) → None ≡ subcommand_name_of m → OnFile Step ≡ task_of (subcommand_rows_of m)
+task_missed m named = met_none (subcommand_rows_of m) (named ∙ sym (names_are m))
 
 pub file_in_rows : (met : Option (Text × List Row)) → file_word met ≡ option_and_then (first_of (codes "FILE")) (option_map (λ p. p.1) met)
 file_in_rows None = refl

@@ -1,5 +1,5 @@
 -- How a run ends.
-use Rattle.std.specs.Prelude.{◌≡◌, ◌<◌, ◌≤◌, ◌⊎◌, ℕ, List, [], ◌∷◌, ◌++◌, codes, length, Option, IfSome, ⊤}
+use Rattle.std.specs.Prelude.{◌≡◌, ◌<◌, ◌≤◌, ◌⊎◌, ℕ, List, [], ◌∷◌, ◌++◌, codes, length, Option, IfSome, IsTrue, ⊤}
 use Rattle.std.specs.Io.KnownBytes.{Appends}
 use Rattle.clap.specs.Words.{Text}
 use Rattle.seq_model.specs.declared.refusal.Refusal.{Refusal}
@@ -17,13 +17,18 @@ use Rattle.session_output.specs.declared.fault.RunFault.{RunFault}
 use Rattle.session_output.specs.declared.fault.RunFault.TheVariants.{Audit, NotBalanced, Refused}
 use Rattle.session_output.specs.Faults as faults
 use Rattle.session_files.specs.Outputs as outputs
+use Rattle.served_runs.specs.declared.drawn.Drawn.{Drawn}
+use Rattle.served_runs.specs.Drawn.{IsDrawable, IsDrawnFault, IsDrawnOutput}
+use Rattle.served_runs.specs.Runs.{IsFileFault, IsServedOutput}
 use Rattle.command_line.specs.declared.tool.TheConstants.{AUDIT_FAULT, MEMORY, REFUSED}
 use Rattle.command_line.specs.declared.work.TheConstants.{FILE_LIMIT}
 use Rattle.command_line.specs.declared.work.Cause.{Cause}
 use Rattle.command_line.specs.declared.work.Cause.TheVariants.{Ended, TooLong, Unreadable}
+use Rattle.command_line.specs.declared.work.Task.{Task}
+use Rattle.command_line.specs.declared.work.Task.TheVariants.{OnDrawn, OnFile}
 use Rattle.command_line.specs.declared.work.Work.{Work}
-use Rattle.command_line.specs.declared.work.Work.TheVariants.{Step, Vacation}
-use Rattle.command_line.specs.Words.{AreTaken, AskForInformation, work_named}
+use Rattle.command_line.specs.declared.work.Work.TheVariants.{Served, Step, Vacation}
+use Rattle.command_line.specs.Words.{AreTaken, AskForInformation, task_named}
 
 -- ---- what is printed of a text
 
@@ -57,38 +62,80 @@ IsFault text fault = ⊥
 abbrev pub IsOutputOf : Work → List ℕ → List ℕ → Type 0
 IsOutputOf Step text bytes = IsOutput text bytes
 IsOutputOf Vacation text bytes = outputs.IsOutput text bytes
+IsOutputOf (Served workers) text bytes = IsServedOutput workers text bytes
 
 -- why it has no output
 abbrev pub IsFaultOf : Work → List ℕ → RunFault → Type 0
 IsFaultOf Step text fault = IsFault text fault
 IsFaultOf Vacation text fault = faults.IsFault text fault
+IsFaultOf (Served workers) text fault = IsFileFault workers text fault
 
--- ---- what is printed of a file
+-- ---- what is printed of a file, or of drawn sessions
+
+-- its workers are as many as there may be, and what is drawn is within its limits
+abbrev pub IsDoable : Task → Type 0
+IsDoable (OnFile Step) = ⊤
+IsDoable (OnFile Vacation) = ⊤
+IsDoable (OnFile (Served workers)) = (1 ≤ workers) × (workers ≤ 64)
+IsDoable (OnDrawn drawn times) = IsDrawable drawn
+
+-- sessions are drawn, and no file is read
+abbrev pub IsOnDrawn : Task → Type 0
+IsOnDrawn (OnFile work) = ⊥
+IsOnDrawn (OnDrawn drawn times) = ⊤
+
+-- what the run takes is to be told
+abbrev pub AsksForTimes : Task → Type 0
+AsksForTimes (OnFile work) = ⊥
+AsksForTimes (OnDrawn drawn times) = IsTrue times
+
+-- workers run it, each in a thread: a script and the sessions of a file that no worker runs have no audit fault
+abbrev pub IsOnThreads : Task → Type 0
+IsOnThreads (OnFile Step) = ⊥
+IsOnThreads (OnFile Vacation) = ⊥
+IsOnThreads (OnFile (Served workers)) = ⊤
+IsOnThreads (OnDrawn drawn times) = ⊤
 
 -- these bytes came from a reader of whose text this is known
 abbrev pub IsTextOf : Option (List ℕ) → List ℕ → Type 0
 IsTextOf known text = IfSome known (λ bytes. text ≡ bytes)
 
--- what a file of which this is known prints
-abbrev pub IsKnownOutput : Work → Option (List ℕ) → List ℕ → Type 0
-IsKnownOutput work known bytes = (text : List ℕ) × (IsTextOf known text × IsOutputOf work text bytes)
+-- what is printed by the task, where this is known of the file
+abbrev pub IsKnownOutput : Task → Option (List ℕ) → List ℕ → Type 0
+IsKnownOutput (OnFile work) known bytes = (text : List ℕ) × (IsTextOf known text × IsOutputOf work text bytes)
+IsKnownOutput (OnDrawn drawn times) known bytes = IsDrawnOutput drawn bytes
 
--- why nothing is printed of it: it can't be read, is too long, or its text has no output
-abbrev pub IsCause : Work → Option (List ℕ) → Cause → Type 0
-IsCause work known Unreadable = ⊤
-IsCause work known TooLong = IfSome known (λ bytes. FILE_LIMIT < length bytes)
-IsCause work known (Ended fault) = (text : List ℕ) × (IsTextOf known text × IsFaultOf work text fault)
+-- why nothing is printed of a file: it can't be read, is too long, or its text has no output
+abbrev pub IsFileCause : Work → Option (List ℕ) → Cause → Type 0
+IsFileCause work known Unreadable = ⊤
+IsFileCause work known TooLong = IfSome known (λ bytes. FILE_LIMIT < length bytes)
+IsFileCause work known (Ended fault) = (text : List ℕ) × (IsTextOf known text × IsFaultOf work text fault)
 
--- the words are taken, and what is known of the text to be read is no longer than a file may be
-pub record IsRead (words : List Text) (text : Option (List ℕ)) : Type 0 where
+-- why nothing is printed of drawn sessions
+abbrev pub IsDrawnCause : Drawn → Cause → Type 0
+IsDrawnCause drawn Unreadable = ⊥
+IsDrawnCause drawn TooLong = ⊥
+IsDrawnCause drawn (Ended fault) = IsDrawnFault drawn fault
+
+abbrev pub IsCause : Task → Option (List ℕ) → Cause → Type 0
+IsCause (OnFile work) known cause = IsFileCause work known cause
+IsCause (OnDrawn drawn times) known cause = IsDrawnCause drawn cause
+
+-- what is known of the file to be read, if one is, is no longer than a file may be
+abbrev pub IsWithin : Task → Option (List ℕ) → Type 0
+IsWithin (OnFile work) known = IfSome known (λ bytes. length bytes ≤ FILE_LIMIT)
+IsWithin (OnDrawn drawn times) known = ⊤
+
+-- the words are taken, and so is the length of the file
+pub record IsRead (words : List Text) (known : Option (List ℕ)) : Type 0 where
   pub taken : AreTaken words
-  pub within : IfSome text (λ bytes. length bytes ≤ FILE_LIMIT)
+  pub within : IsWithin (task_named words) known
 
--- status 0: the output of the text that was read, or help or the version, stands at the end of what the writer holds
+-- status 0: what the task prints, or help or the version, stands at the end of what the writer holds
 abbrev pub HasWorked : List Text → Option (List ℕ) → Option (List ℕ) → Option (List ℕ) → Type 0
 HasWorked words known old new =
     AskForInformation words
-    ⊎ (IsRead words known × ((bytes : List ℕ) × (IsKnownOutput (work_named words) known bytes × Appends old new bytes)))
+    ⊎ (IsRead words known × ((bytes : List ℕ) × (IsKnownOutput (task_named words) known bytes × Appends old new bytes)))
 
 -- ---- what is said of a fault
 
@@ -128,13 +175,13 @@ pub record HasBegun (old new : Option (List ℕ)) (line : List ℕ) : Type 0 whe
   pub whole : line ≡ begun ++ left
   pub grown : Appends old new begun
 
--- why nothing is printed of the file is said; it is no want of memory
-pub record HasToldFault (work : Work) (known old new : Option (List ℕ)) : Type 0 where
+-- why nothing is printed is said; it is the cause of this status
+pub record HasToldFault (task : Task) (status : ℕ) (known old new : Option (List ℕ)) : Type 0 where
   pub cause : Cause
-  pub is_cause : IsCause work known cause
-  pub refused : status_of cause ≡ REFUSED
+  pub is_cause : IsCause task known cause
+  pub of_status : status_of cause ≡ status
   pub said : HasBegun old new (line_of (cause_text cause))
 
--- the file has an output
-abbrev pub HasOutput : Work → Option (List ℕ) → Type 0
-HasOutput work known = (bytes : List ℕ) × IsKnownOutput work known bytes
+-- something is to be printed
+abbrev pub HasOutput : Task → Option (List ℕ) → Type 0
+HasOutput task known = (bytes : List ℕ) × IsKnownOutput task known bytes

@@ -1,2 +1,4 @@
+pub mod Numbers
+pub mod Bench
 pub mod Words
 pub mod Ends

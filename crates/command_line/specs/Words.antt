@@ -1,33 +1,29 @@
--- The words that the program takes: `step FILE` and `vacation FILE`, the latter with `--workers 0`, and `--help` and `--version`.
-use Rattle.std.specs.Prelude.{◌≡◌, ◌⊎◌, true, List, [], ◌∷◌, Option, Some, None, codes, option_and_then, option_map, if◌then◌else◌}
+-- The words that the program takes: `step FILE`, `vacation FILE` and `bench`, the latter two with options, and `--help` and `--version`.
+use Rattle.std.specs.Prelude.{◌≡◌, ◌⊎◌, ◌==◌, ℕ, true, List, [], ◌∷◌, Option, Some, None, codes, option_and_then, option_map, if◌then◌else◌}
 use Rattle.std.specs.Str.{bytes_eq}
 use Rattle.clap.specs.Words.{App, IsAmong, Kinds, Row, Rule, Text, fault_of, first_of, kind_of, new_app, new_rule, subcommand_of, with_rule, with_subcommand}
 use Rattle.clap.specs.declared.builder.action.ArgAction.TheVariants.{Set}
-use Rattle.clap.specs.declared.builder.value_parser.ValueParser.TheVariants.{Unsigned}
 use Rattle.clap.specs.declared.error.Error.{Error}
 use Rattle.clap.specs.declared.error.kind.ErrorKind.TheVariants as kind
-use Rattle.command_line.specs.declared.words.TheConstants.{WORKERS}
+use Rattle.command_line.specs.declared.work.Task.{Task}
+use Rattle.command_line.specs.declared.work.Task.TheVariants.{OnDrawn, OnFile}
 use Rattle.command_line.specs.declared.work.Work.{Work}
-use Rattle.command_line.specs.declared.work.Work.TheVariants.{Step, Vacation}
+use Rattle.command_line.specs.declared.work.Work.TheVariants.{Served, Step, Vacation}
+use Rattle.command_line.specs.Bench.{bench_app, drawn_of, has_times}
+use Rattle.command_line.specs.Numbers.{Numbered, number_of, rule_of_number}
 
 abbrev pub file_rule : Rule
 file_rule = record (new_rule (codes "FILE")) { action = Some Set; required = true }
 
--- `--workers W`: 0 where it is left out, and at most WORKERS
-abbrev pub workers_rule : Rule
-workers_rule = record (new_rule (codes "workers")) {
-  long = Some (codes "workers");
-  action = Some Set;
-  value_names = 1;
-  defaults = codes "0" ∷ [];
-  parser = Some (Unsigned 0 WORKERS);
-}
+-- `--workers N`
+abbrev pub workers : Numbered
+workers = record { name = codes "workers"; low = 0; high = 64 }
 
 abbrev pub step_app : App
 step_app = with_rule (new_app (codes "step")) file_rule
 
 abbrev pub vacation_app : App
-vacation_app = with_rule (with_rule (new_app (codes "vacation")) workers_rule) file_rule
+vacation_app = with_rule (with_rule (new_app (codes "vacation")) (rule_of_number workers (codes "0"))) file_rule
 
 -- before its subcommands are there
 abbrev pub bare_app : App
@@ -36,7 +32,7 @@ bare_app = record (new_app (codes "proust_tool")) {
 }
 
 abbrev pub tool_app : App
-tool_app = with_subcommand (with_subcommand bare_app step_app.top) vacation_app.top
+tool_app = with_subcommand (with_subcommand (with_subcommand bare_app step_app.top) vacation_app.top) bench_app.top
 
 -- what is wrong with the words: of which kinds the fault may be
 abbrev pub faults : List Text → Kinds
@@ -53,16 +49,22 @@ IsInformation error = (kind_of error ≡ kind.DisplayHelp) ⊎ (kind_of error �
 abbrev pub AskForInformation : List Text → Type 0
 AskForInformation words = IsAmong kind.DisplayHelp (faults words) ⊎ IsAmong kind.DisplayVersion (faults words)
 
--- the kind of work of the subcommand of this name: of two, what is not the second is the first
-abbrev pub work_by : Option Text → Work
-work_by None = Step
-work_by (Some name) = if bytes_eq name (codes "vacation") then Vacation else Step
+-- the sessions of a file are run by so many workers, or by none, one after another
+abbrev pub vacation_work : ℕ → Work
+vacation_work n = if n == 0 then Vacation else Served n
 
-abbrev pub work_of : Option (Text × List Row) → Work
-work_of met = work_by (option_map (λ p. p.0) met)
+-- the task of the subcommand of this name: of three, what is neither the second nor the third is the first
+abbrev pub task_by : Text → List Row → Task
+task_by name rows =
+    if bytes_eq name (codes "vacation") then OnFile (vacation_work (number_of workers rows))
+    else (if bytes_eq name (codes "bench") then OnDrawn (drawn_of rows) (has_times rows) else OnFile Step)
 
-abbrev pub work_named : List Text → Work
-work_named words = work_of (subcommand_of tool_app words)
+abbrev pub task_of : Option (Text × List Row) → Task
+task_of None = OnFile Step
+task_of (Some met) = task_by met.0 met.1
+
+abbrev pub task_named : List Text → Task
+task_named words = task_of (subcommand_of tool_app words)
 
 -- what stands in FILE's place
 abbrev pub file_word : Option (Text × List Row) → Option Text

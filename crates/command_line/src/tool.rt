@@ -1,21 +1,25 @@
 //! The program over a reader and two writers.
-ghost use Rattle.std.specs.Prelude.{◌≡◌, ◌≢◌, ◌≤◌, ◌⊎◌, ◌↔◌, map, IsOk, IsErr, IfOk, IsTrue};
+ghost use Rattle.std.specs.Prelude.{◌≡◌, ◌≢◌, ◌≤◌, ◌⊎◌, ◌↔◌, [], map, IsOk, IsErr, IfOk, IsTrue};
 ghost use Rattle.std.specs.String.{string_bytes};
 ghost use Rattle.std.specs.Io.KnownBytes.{Appends};
 ghost use Rattle.clap.specs.Words.{kind_of};
-ghost use Rattle.command_line.specs.Words.{AreTaken, AskForInformation, IsInformation, work_named};
-ghost use Rattle.command_line.specs.Ends.{HasBegun, HasOutput, HasToldFault, HasWorked, IsRead, cause_text, line_of, status_of, unreadable_text};
+ghost use Rattle.command_line.specs.Words.{AreTaken, AskForInformation, IsInformation, task_named};
+ghost use Rattle.command_line.specs.Ends.{AsksForTimes, HasBegun, HasOutput, HasToldFault, HasWorked, IsOnDrawn, IsOnThreads, IsRead, cause_text, line_of, status_of, unreadable_text};
 ghost use Rattle.seq_model.specs.Texts.{memory_text, refusal_text};
 
-use crate::words::{matches_of, work_in};
-use crate::work::{Cause, output_of};
+use crate::words::{matches_of, task_in};
+use crate::work::{Cause, Output, output_of};
 use clap::Error;
 use clap::error::ErrorKind;
 use seq_model::Refusal;
+use served_runs::Progress;
 use session_output::RunFault;
 use std::alloc::Global;
 use std::io;
 use std::io::{Read, Write};
+use std::sync::Wait;
+use std::thread::Threads;
+use std::time::Clock;
 
 /// The status of a run that did its work.
 pub const DONE: u8 = 0;
@@ -26,8 +30,8 @@ pub const REFUSED: u8 = 1;
 /// The status of a run that was refused memory.
 pub const MEMORY: u8 = 2;
 
-/// The status of a run whose committed transactions are no run of the sequential model, or which leaves reservation tables
-/// that are not balanced. No text has it: see `run_tool`.
+/// The status of a run whose committed transactions are no run of the sequential model, or which leaves reservation tables that are not
+/// balanced. No script has it, and no session file that no worker runs: see `run_tool`.
 pub const AUDIT_FAULT: u8 = 3;
 
 // Whether all the bytes were written.
@@ -66,66 +70,98 @@ pub fn refuse_memory<E: Write>(err: &mut E) -> u8
 
 /// Runs the words over the file that they name, as it was opened: `run_tool` over its text, or the fault that it can't be
 /// read.
-pub fn run_file<R: Read + Drop, W: Write, E: Write>(
+pub fn run_file<
+    H: Threads + Wait + Clock + Sync,
+    R: Read + Drop,
+    W: Write,
+    E: Write,
+    P: Progress + Sync,
+>(
+    rt: &H,
     alloc: Global,
     words: &[String],
     opened: io::Result<R>,
     out: &mut W,
     err: &mut E,
+    progress: &P,
 ) -> u8
-    ensures status { result ≤ MEMORY }
+    ensures status { result ≤ AUDIT_FAULT }
+    ensures sound { result ≡ AUDIT_FAULT → IsOnThreads (task_named (map string_bytes words.now)) }
     ensures done { result ≡ DONE
         → IfOk opened (λ reader. HasWorked (map string_bytes words.now) (R.remaining reader) (W.contents out.old) (W.contents out.new)) }
-    ensures quiet { result ≡ DONE → err.new ≡ err.old }
+    ensures quiet { result ≡ DONE → AsksForTimes (task_named (map string_bytes words.now)) ⊎ (err.new ≡ err.old) }
     ensures memory { result ≡ MEMORY → out.new ≡ out.old }
+    ensures faulted { result ≡ AUDIT_FAULT → out.new ≡ out.old }
     ensures unopened { IsErr opened → (result ≡ REFUSED) × (out.new ≡ out.old) }
     ensures told { IsErr opened → HasBegun (E.contents err.old) (E.contents err.new) (line_of unreadable_text) }
 {
     match opened {
         Ok(reader) => {
             let mut reader = reader;
-            run_tool(alloc, words, &mut reader, out, err)
+            run_tool(rt, alloc, words, &mut reader, out, err, progress)
         }
         Err(_) => fault(err, REFUSED, "cannot read the file"),
     }
 }
 
-/// Runs the words, without the program's own name, over what the reader gives, and answers the exit status.
+/// Runs the words, without the program's own name, over what the reader gives, and answers the exit status. How far workers have come is
+/// told meanwhile.
 ///
 /// What it prints goes to `out`, and a fault, one line, to `err`: then nothing goes to `out`, but where a write to it
-/// failed. Faults are found in the order words, file, size, text, opening, audit, balance. `status`: no text has an audit
-/// fault, or leaves tables that are not balanced. `done`: with status 0 the words ask for help or the version, or they and
-/// the text are taken and `out` has grown by what the work that they name prints of the text, once that was audited.
-/// `unread`: nothing is read for refused words. `told`, `starved`: what `err` grows by, but where a write to it fails, is the
-/// line of the fault; it stays as it was only where the output could not be written.
-pub fn run_tool<R: Read, W: Write, E: Write>(
+/// failed. Faults are found in the order words, file, size, text, opening, audit, balance. `sound`: only what workers run may have an audit
+/// fault, or leave tables that are not balanced. `done`: with status 0 the words ask for help or the version, or they and
+/// the text are taken and `out` has grown by what the task that they name prints, once that was audited; what a run took goes to `err`
+/// where that is asked for. `unread`, `drawn`: nothing is read for refused words, nor where sessions are drawn. `told`, `starved`,
+/// `faulted`: what `err` grows by, but where a write to it fails, is the line of the fault; it stays as it was only where the output could
+/// not be written.
+pub fn run_tool<H: Threads + Wait + Clock + Sync, R: Read, W: Write, E: Write, P: Progress + Sync>(
+    rt: &H,
     alloc: Global,
     words: &[String],
     reader: &mut R,
     out: &mut W,
     err: &mut E,
+    progress: &P,
 ) -> u8
-    ensures status { result ≤ MEMORY }
+    ensures status { result ≤ AUDIT_FAULT }
+    ensures sound { result ≡ AUDIT_FAULT → IsOnThreads (task_named (map string_bytes words.now)) }
     ensures done { result ≡ DONE
         → HasWorked (map string_bytes words.now) (R.remaining reader.old) (W.contents out.old) (W.contents out.new) }
-    ensures quiet { result ≡ DONE → err.new ≡ err.old }
+    ensures quiet { result ≡ DONE → AsksForTimes (task_named (map string_bytes words.now)) ⊎ (err.new ≡ err.old) }
     ensures refused { result ≡ REFUSED
         → (out.new ≡ out.old) ⊎ (AskForInformation (map string_bytes words.now) ⊎ IsRead (map string_bytes words.now) (R.remaining reader.old)) }
     ensures memory { result ≡ MEMORY → out.new ≡ out.old }
     ensures unread { ¬ AreTaken (map string_bytes words.now) → reader.new ≡ reader.old }
+    ensures drawn { IsOnDrawn (task_named (map string_bytes words.now)) → reader.new ≡ reader.old }
     ensures told { AreTaken (map string_bytes words.now) → result ≡ REFUSED
-        → HasToldFault (work_named (map string_bytes words.now)) (R.remaining reader.old) (E.contents err.old) (E.contents err.new)
-        ⊎ ((err.new ≡ err.old) × HasOutput (work_named (map string_bytes words.now)) (R.remaining reader.old)) }
+        → HasToldFault (task_named (map string_bytes words.now)) REFUSED (R.remaining reader.old) (E.contents err.old) (E.contents err.new)
+        ⊎ ((err.new ≡ err.old) × HasOutput (task_named (map string_bytes words.now)) (R.remaining reader.old)) }
     ensures starved { result ≡ MEMORY → HasBegun (E.contents err.old) (E.contents err.new) (line_of memory_text) }
+    ensures faulted { result ≡ AUDIT_FAULT → (out.new ≡ out.old)
+        × HasToldFault (task_named (map string_bytes words.now)) AUDIT_FAULT (R.remaining reader.old) (E.contents err.old) (E.contents err.new) }
 {
-    let work = match matches_of(alloc, words) {
-        Ok(matches) => work_in(&matches),
+    let task = match matches_of(alloc, words) {
+        Ok(matches) => task_in(&matches),
         Err(error) => return refuse_words(out, err, error),
     };
-    match output_of(alloc, work, reader) {
-        Ok(bytes) => status_of_write(out.write_all(bytes.as_slice())),
+    match output_of(rt, alloc, task, reader, progress) {
+        Ok(output) => print(out, err, &output),
         Err(cause) => refuse(alloc, err, cause),
     }
+}
+
+// Writes what is to be printed, and then what the run took, if that is to be told.
+fn print<W: Write, E: Write>(out: &mut W, err: &mut E, output: &Output) -> u8
+    ensures status { (result ≡ DONE) ⊎ (result ≡ REFUSED) }
+    ensures done { result ≡ DONE → Appends (W.contents out.old) (W.contents out.new) output.now.bytes.items }
+    ensures quiet { string_bytes output.now.times ≡ [] → err.new ≡ err.old }
+    ensures failed { result ≡ REFUSED → err.new ≡ err.old }
+{
+    let written = out.write_all(output.bytes.as_slice());
+    if written.is_ok() && !output.times.is_empty() {
+        tell(err, output.times.as_bytes());
+    }
+    status_of_write(written)
 }
 
 // A wish for help or the version is no fault: its text goes to `out`.

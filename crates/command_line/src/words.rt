@@ -1,12 +1,16 @@
-//! How words are read: the work and the file that they name.
-ghost use Rattle.std.specs.Prelude.{◌≡◌, ◌≢◌, false, map, option_map, option_and_then, IsErr, IfOk};
+//! How words are read: the task and the file that they name.
+ghost use Rattle.std.specs.Prelude.{◌≡◌, ◌≢◌, ◌≤◌, false, map, option_map, option_and_then, IsErr, IfOk};
 ghost use Rattle.std.specs.String.{string_bytes};
-ghost use Rattle.clap.specs.Words.{FailsBy, app_of, kind_of, rule_of, subcommand_of, subcommand_rows_of};
+ghost use Rattle.clap.specs.Words.{FailsBy, app_of, found_of, kind_of, rows_of, rule_of, subcommand_of, subcommand_rows_of};
 ghost use Rattle.clap.specs.declared.builder.command.Command.TheViews.{out-Command as fields_of};
-ghost use Rattle.command_line.specs.Words.{faults, file_word, named_file, not_dash, tool_app, step_app, vacation_app, file_rule, workers_rule, work_of};
+ghost use Rattle.command_line.specs.declared.work.Task.TheVariants.{OnFile};
+ghost use Rattle.command_line.specs.Ends.{IsDoable};
+ghost use Rattle.command_line.specs.Words.{faults, file_word, named_file, not_dash, tool_app, step_app, vacation_app, file_rule, task_by, task_of, vacation_work};
 
-use crate::work::Work;
-use clap::builder::ValueParser;
+use crate::bench::{bench_command, drawn_in, has_times_in};
+use crate::numbers::{number_in, with_number};
+use crate::options::WORKERS;
+use crate::work::{Task, Work};
 use clap::error::ErrorKind;
 use clap::{Arg, ArgAction, ArgMatches, Command, Error};
 use seq_model::Memory;
@@ -15,20 +19,19 @@ use std::alloc::{AllocError, Global};
 /// What `--version` prints behind the program's name.
 const VERSION: &str = "0.1.0";
 
-/// On how many workers a session file runs at most: on none, so its sessions run one after another.
-const WORKERS: u64 = 0;
-
 fn command<'a>(alloc: Global) -> Result<Command<'a>, AllocError>
     ensures { IfOk result (λ command. app_of command ≡ tool_app) }
 {
     let step = step_command(alloc)?;
     let vacation = vacation_command(alloc)?;
+    let bench = bench_command(alloc)?;
     let bare = Command::new(alloc, "proust_tool")
         .version(VERSION)
         .no_binary_name(true)
         .subcommand_required(true);
     let with_step = bare.subcommand(step)?;
-    with_step.subcommand(vacation)
+    let with_vacation = with_step.subcommand(vacation)?;
+    with_vacation.subcommand(bench)
 }
 
 fn step_command<'a>(alloc: Global) -> Result<Command<'a>, AllocError>
@@ -44,10 +47,15 @@ fn vacation_command<'a>(alloc: Global) -> Result<Command<'a>, AllocError>
     ensures app { IfOk result (λ command. app_of command ≡ vacation_app) }
     ensures local { IfOk result (λ command. (fields_of command).has_globals ≡ false) }
 {
-    Command::new(alloc, "vacation")
-        .about("Runs the sessions of a session file")
-        .arg(workers(alloc))?
-        .arg(file(alloc))
+    let named = Command::new(alloc, "vacation").about("Runs the sessions of a session file");
+    let with_workers = with_number(
+        alloc,
+        named,
+        WORKERS,
+        "0",
+        "On how many workers; with 0 one session runs after another",
+    )?;
+    with_workers.arg(file(alloc))
 }
 
 fn file<'a>(alloc: Global) -> Arg<'a>
@@ -60,19 +68,6 @@ fn file<'a>(alloc: Global) -> Arg<'a>
         .action(ArgAction::Set)
 }
 
-fn workers<'a>(alloc: Global) -> Arg<'a>
-    ensures rule { rule_of result ≡ workers_rule }
-    ensures local { result.global ≡ false }
-{
-    Arg::new(alloc, "workers")
-        .long("workers")
-        .help("On how many workers; with 0 one session runs after another")
-        .value_name("W")
-        .default_value("0")
-        .value_parser(ValueParser::unsigned(0, WORKERS))
-        .action(ArgAction::Set)
-}
-
 /// The words as they were read, or what is wrong with them.
 pub(crate) fn matches_of<'a>(alloc: Global, words: &'a [String]) -> Result<ArgMatches<'a>, Error>
     ensures faults { FailsBy (faults (map string_bytes words.entry.now)) result }
@@ -82,14 +77,39 @@ pub(crate) fn matches_of<'a>(alloc: Global, words: &'a [String]) -> Result<ArgMa
     command.try_get_matches_from(words)
 }
 
-/// The work that they name.
-#[tactic(auto, using(crate::proofs::WordLemmas::work_met))]
-pub(crate) fn work_in(matches: &ArgMatches<'_>) -> Work
-    ensures { result ≡ work_of (subcommand_rows_of matches.now) }
+/// The task that they name.
+pub(crate) fn task_in(matches: &ArgMatches<'_>) -> Task
+    ensures task { result ≡ task_of (subcommand_rows_of matches.now) }
+    ensures doable { IsDoable result }
 {
-    match matches.subcommand_name() {
-        Some(name) if name == "vacation" => Work::Vacation,
-        _ => Work::Step,
+    match matches.subcommand() {
+        Some((name, words)) => task_of_words(name, words),
+        None => Task::OnFile(Work::Step),
+    }
+}
+
+fn task_of_words(name: &str, words: &ArgMatches<'_>) -> Task
+    ensures task { result ≡ task_by name.now (rows_of (found_of words.now)) }
+    ensures doable { IsDoable result }
+{
+    if name == "vacation" {
+        Task::OnFile(work_on_sessions(number_in(words, WORKERS)))
+    } else if name == "bench" {
+        Task::OnDrawn(drawn_in(words), has_times_in(words))
+    } else {
+        Task::OnFile(Work::Step)
+    }
+}
+
+fn work_on_sessions(workers: u64) -> Work
+    requires { workers ≤ 64 }
+    ensures work { result ≡ vacation_work workers }
+    ensures doable { IsDoable (OnFile result) }
+{
+    if workers == 0 {
+        Work::Vacation
+    } else {
+        Work::Served(workers as usize)
     }
 }
 

@@ -1,16 +1,23 @@
-//! What is to be printed of the text of a file, or why nothing is.
-ghost use Rattle.std.specs.Prelude.{◌≡◌, ◌≤◌, length, IsOk, IfOk, IfErr, IfSome};
+//! What is to be printed of the text of a file, or of drawn sessions, or why nothing is.
+ghost use Rattle.std.specs.Prelude.{◌≡◌, ◌≤◌, ◌⊎◌, [], IsOk, IfOk, IfErr, IfSome, IsTrue};
+ghost use Rattle.std.specs.String.{string_bytes};
 ghost use Rattle.std.specs.Vec.{vec_len};
+ghost use Rattle.served_runs.specs.Drawn.{IsDrawable, IsDrawnFault, IsDrawnOutput};
 ghost use Rattle.command_line.specs.declared.work.Cause.TheVariants.{Ended};
-ghost use Rattle.command_line.specs.Ends.{IsCause, IsFault, IsKnownOutput, IsOutput};
+ghost use Rattle.command_line.specs.declared.work.Task.TheVariants.{OnFile};
+ghost use Rattle.command_line.specs.Ends.{AsksForTimes, IsCause, IsDoable, IsFault, IsFaultOf, IsKnownOutput, IsOnDrawn, IsOutput, IsOutputOf, IsWithin};
 ghost use Rattle.seq_model.specs.declared.refusal.Refusal.TheVariants.{OutOfMemory};
 ghost use Rattle.session_output.specs.declared.fault.RunFault.TheVariants.{Refused};
 
 use seq_model::Refusal;
+use served_runs::{Drawn, Progress, print_drawn, print_times, run_drawn};
 use session_output::RunFault;
 use session_text::{audit_run, print_trace, run_script};
 use std::alloc::{AllocError, Global};
 use std::io::Read;
+use std::sync::Wait;
+use std::thread::Threads;
+use std::time::Clock;
 use step_script::parse_steps;
 
 /// A file is at most this many bytes long.
@@ -23,6 +30,24 @@ pub(crate) enum Work {
     Step,
     /// The sessions of a session file are run, one after another.
     Vacation,
+    /// They are run by so many workers.
+    Served(usize),
+}
+
+/// What is to be done.
+#[derive(Clone, Copy)]
+pub(crate) enum Task {
+    OnFile(Work),
+    /// Sessions are drawn and run by workers; what that takes may be asked for.
+    OnDrawn(Drawn, bool),
+}
+
+/// What is to be printed.
+#[derive(Drop)]
+pub(crate) struct Output {
+    pub bytes: Vec<u8>,
+    /// What the run took, where that is asked for.
+    pub times: String,
 }
 
 /// Why nothing is printed of a file.
@@ -52,29 +77,81 @@ impl From<AllocError> for Cause {
     }
 }
 
-/// Reads the file to its end, and does this work on its text.
-pub(crate) fn output_of<R: Read>(
+/// Does this task, on the file that the reader gives or on drawn sessions.
+pub(crate) fn output_of<H: Threads + Wait + Clock + Sync, R: Read, P: Progress + Sync>(
+    rt: &H,
+    alloc: Global,
+    task: Task,
+    reader: &mut R,
+    progress: &P,
+) -> Result<Output, Cause>
+    requires { IsDoable task }
+    ensures within { IsOk result → IsWithin task (R.remaining reader.old) }
+    ensures output { IfOk result (λ output. IsKnownOutput task (R.remaining reader.old) output.bytes.items) }
+    ensures quiet { IfOk result (λ output. AsksForTimes task ⊎ (string_bytes output.times ≡ [])) }
+    ensures unread { IsOnDrawn task → reader.new ≡ reader.old }
+    ensures refused { IfErr result (IsCause task (R.remaining reader.old)) }
+{
+    match task {
+        Task::OnFile(work) => {
+            let text = read_file(alloc, reader)?;
+            let bytes = bytes_of(rt, alloc, work, text.as_slice(), progress)?;
+            Ok(Output {
+                bytes,
+                times: String::new(alloc),
+            })
+        }
+        Task::OnDrawn(drawn, times) => Ok(drawn_output(rt, alloc, &drawn, times, progress)?),
+    }
+}
+
+/// Does this work on a text.
+fn bytes_of<H: Threads + Wait + Sync, P: Progress + Sync>(
+    rt: &H,
     alloc: Global,
     work: Work,
-    reader: &mut R,
-) -> Result<Vec<u8>, Cause>
-    ensures within { IsOk result → IfSome (R.remaining reader.old) (λ bytes. length bytes ≤ FILE_LIMIT) }
-    ensures output { IfOk result (λ bytes. IsKnownOutput work (R.remaining reader.old) bytes.items) }
-    ensures refused { IfErr result (IsCause work (R.remaining reader.old)) }
+    text: &[u8],
+    progress: &P,
+) -> Result<Vec<u8>, RunFault>
+    requires { IsDoable (OnFile work) }
+    ensures output { IfOk result (λ bytes. IsOutputOf work text.now bytes.items) }
+    ensures refused { IfErr result (IsFaultOf work text.now) }
 {
-    let text = read_file(alloc, reader)?;
-    let bytes = match work {
-        Work::Step => step(alloc, text.as_slice())?,
-        Work::Vacation => session_files::output_of(alloc, text.as_slice())?,
+    match work {
+        Work::Step => step(alloc, text),
+        Work::Vacation => session_files::output_of(alloc, text),
+        Work::Served(workers) => served_runs::output_of(rt, alloc, text, workers, progress),
+    }
+}
+
+/// Draws sessions, and has workers run them.
+fn drawn_output<H: Threads + Wait + Clock + Sync, P: Progress + Sync>(
+    rt: &H,
+    alloc: Global,
+    drawn: &Drawn,
+    times: bool,
+    progress: &P,
+) -> Result<Output, RunFault>
+    requires { IsDrawable drawn.now }
+    ensures output { IfOk result (λ output. IsDrawnOutput drawn.now output.bytes.items) }
+    ensures quiet { IfOk result (λ output. IsTrue times ⊎ (string_bytes output.times ≡ [])) }
+    ensures refused { IfErr result (IsDrawnFault drawn.now) }
+{
+    let run = run_drawn(rt, alloc, drawn, progress)?;
+    let bytes = print_drawn(alloc, drawn, run.missed)?;
+    let times = if times {
+        print_times(alloc, &run.times)?
+    } else {
+        String::new(alloc)
     };
-    Ok(bytes)
+    Ok(Output { bytes, times })
 }
 
 // At most one byte past the limit is read. A file can't be read, or is too long, whatever is to be made of it.
 fn read_file<R: Read>(alloc: Global, reader: &mut R) -> Result<Vec<u8>, Cause>
     ensures whole { IfOk result (λ text. IfSome (R.remaining reader.old) (λ bytes. text.items ≡ bytes)) }
     ensures within { IfOk result (λ text. vec_len text ≤ FILE_LIMIT) }
-    ensures refused { (work : Work) → IfErr result (IsCause work (R.remaining reader.old)) }
+    ensures refused { (work : Work) → IfErr result (IsCause (OnFile work) (R.remaining reader.old)) }
 {
     let mut text = Vec::new(alloc);
     let mut buffer = [0u8; 8192];

@@ -12,6 +12,7 @@ ghost use Rattle.served_runs.specs.Runs.{receipts_of};
 ghost use Rattle.served_runs.specs.Drawn.{AreDrawn, IsDrawable, IsDrawnFault, IsDrawnRun, drawn_text};
 
 use crate::inspection::{inspected, serve_lists};
+use crate::progress::Progress;
 use crate::tally::{Tally, Times, causes_of};
 use generated_sessions::{Options, generate, opening};
 use seq_model::{Memory, State};
@@ -61,13 +62,15 @@ fn drawn_lists(alloc: Global, drawn: &Drawn) -> Result<Vec<Vec<Action>>, Memory>
     Ok(lists)
 }
 
-/// Draws tables and the sessions of each worker, has the workers run them, and inspects what came of it.
+/// Draws tables and the sessions of each worker, has the workers run them, and inspects what came of it. How far they have come is told
+/// meanwhile.
 ///
 /// `OutOfMemory` where a growth was refused, and `Audit` where the receipts are no run.
-pub fn run_drawn<R: Threads + Wait + Clock + Sync>(
+pub fn run_drawn<R: Threads + Wait + Clock + Sync, P: Progress + Sync>(
     rt: &R,
     alloc: Global,
     drawn: &Drawn,
+    progress: &P,
 ) -> Result<DrawnRun, RunFault>
     requires { IsDrawable drawn.now }
     ensures run { IfOk result (λ run. IsDrawnRun drawn.now run.missed) }
@@ -76,17 +79,18 @@ pub fn run_drawn<R: Threads + Wait + Clock + Sync>(
     let tables = opening(alloc, drawn.seed, &drawn.options)?;
     let lists = drawn_lists(alloc, drawn)?;
     let first = state_of(alloc, &tables)?;
-    run_lists(rt, alloc, drawn, &first, tables, lists)
+    run_lists(rt, alloc, drawn, &first, tables, lists, progress)
 }
 
 /// Has workers run these lists from these tables, and inspects what came of it.
-fn run_lists<R: Threads + Wait + Clock + Sync>(
+fn run_lists<R: Threads + Wait + Clock + Sync, P: Progress + Sync>(
     rt: &R,
     alloc: Global,
     drawn: &Drawn,
     first: &State<Entry>,
     tables: Tables,
     lists: Vec<Vec<Action>>,
+    progress: &P,
 ) -> Result<DrawnRun, RunFault>
     requires drawable { IsDrawable drawn.now }
     requires tables { tables ≡ opening_of drawn.now.seed drawn.now.options }
@@ -97,7 +101,7 @@ fn run_lists<R: Threads + Wait + Clock + Sync>(
     ensures run { IfOk result (λ run. IsDrawnRun drawn.now run.missed) }
     ensures refused { IfErr result (IsDrawnFault drawn.now) }
 {
-    let tally = Tally::new(alloc, lists.len())?;
+    let tally = Tally::new(alloc, lists.len(), progress)?;
     let begun = time_of(rt);
     let served = serve_lists(rt, alloc, tables, lists, drawn.tries, &tally)?;
     let run = time_of(rt).saturating_sub(begun);

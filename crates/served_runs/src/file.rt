@@ -10,7 +10,7 @@ ghost use Rattle.served_runs.specs.Unread.{IsToldRun};
 
 use crate::inspection::{inspected, serve_lists};
 use crate::lines::lines_of_report;
-use attempts::NoPause;
+use crate::progress::{Progress, Receipts};
 use dealing::deal;
 use seq_model::{Memory, State};
 use served_sessions::sessions_of;
@@ -27,31 +27,33 @@ pub const TRIES: u64 = 1_000;
 
 /// What the sessions of a file print where so many workers run them: a line for each session, in the file's order, then what the tables
 /// hold, and that the receipts were audited and the tables are balanced. The first session is the first worker's, the next one the next
-/// worker's, and so on in turn.
+/// worker's, and so on in turn. How far they have come is told meanwhile.
 ///
 /// `BadText` names the first line outside the grammar, counted from 1; `OutOfMemory` where a growth was refused; `Audit` where the receipts
 /// are no run.
-pub fn output_of<R: Threads + Wait + Sync>(
+pub fn output_of<R: Threads + Wait + Sync, P: Progress + Sync>(
     rt: &R,
     alloc: Global,
     text: &[u8],
     workers: usize,
+    progress: &P,
 ) -> Result<Vec<u8>, RunFault>
     requires { (1 ≤ workers) × (workers ≤ 64) }
     ensures output { IfOk result (λ bytes. IsServedOutput workers text.now bytes.items) }
     ensures refused { IfErr result (IsFileFault workers text.now) }
 {
     let (tables, actions) = parse_sessions(alloc, text)?;
-    let run = run_dealt(rt, alloc, tables, actions.into_vec(), workers)?;
+    let run = run_dealt(rt, alloc, tables, actions.into_vec(), workers, progress)?;
     Ok(text_of(alloc, &run)?)
 }
 
-fn run_dealt<R: Threads + Wait + Sync>(
+fn run_dealt<R: Threads + Wait + Sync, P: Progress + Sync>(
     rt: &R,
     alloc: Global,
     tables: Tables,
     actions: Vec<Action>,
     workers: usize,
+    progress: &P,
 ) -> Result<SessionRun, RunFault>
     requires workers { (1 ≤ workers) × (workers ≤ 64) }
     requires balanced { IsBalanced tables }
@@ -62,7 +64,15 @@ fn run_dealt<R: Threads + Wait + Sync>(
     let total = actions.len();
     let sessions = dealt_sessions(alloc, actions.as_slice(), workers)?;
     let lists = deal(alloc, actions, workers)?;
-    run_lists(rt, alloc, tables, lists, sessions.as_slice(), total)
+    run_lists(
+        rt,
+        alloc,
+        tables,
+        lists,
+        sessions.as_slice(),
+        total,
+        progress,
+    )
 }
 
 /// The sessions of actions, dealt out as these are.
@@ -80,13 +90,14 @@ fn dealt_sessions(
 }
 
 /// Serves these lists from these tables, and tells their sessions, so many in all, in the order in which they were dealt out.
-fn run_lists<R: Threads + Wait + Sync>(
+fn run_lists<R: Threads + Wait + Sync, P: Progress + Sync>(
     rt: &R,
     alloc: Global,
     tables: Tables,
     lists: Vec<Vec<Action>>,
     sessions: &[Vec<Session>],
     total: usize,
+    progress: &P,
 ) -> Result<SessionRun, RunFault>
     requires balanced { IsBalanced tables }
     requires lists { (1 ≤ length lists.items) × (length lists.items ≤ 64) }
@@ -98,10 +109,12 @@ fn run_lists<R: Threads + Wait + Sync>(
     ensures refused { IfErr result (IsListsFault tables (in_lists lists.items) TRIES) }
 {
     let opening = state_of(alloc, &tables)?;
-    run_from(rt, alloc, &opening, tables, lists, sessions, total)
+    run_from(
+        rt, alloc, &opening, tables, lists, sessions, total, progress,
+    )
 }
 
-fn run_from<R: Threads + Wait + Sync>(
+fn run_from<R: Threads + Wait + Sync, P: Progress + Sync>(
     rt: &R,
     alloc: Global,
     opening: &State<Entry>,
@@ -109,6 +122,7 @@ fn run_from<R: Threads + Wait + Sync>(
     lists: Vec<Vec<Action>>,
     sessions: &[Vec<Session>],
     total: usize,
+    progress: &P,
 ) -> Result<SessionRun, RunFault>
     requires balanced { IsBalanced tables }
     requires opening { opening.now ≡ state_that_holds tables }
@@ -120,7 +134,8 @@ fn run_from<R: Threads + Wait + Sync>(
     ensures run { IfOk result (IsToldRun tables (in_lists lists.items) total) }
     ensures refused { IfErr result (IsListsFault tables (in_lists lists.items) TRIES) }
 {
-    let served = serve_lists(rt, alloc, tables, lists, TRIES, &NoPause)?;
+    let receipts = Receipts::new(progress);
+    let served = serve_lists(rt, alloc, tables, lists, TRIES, &receipts)?;
     let lines = lines_of_report(alloc, sessions, total, &served.report)?;
     let tables = inspected(alloc, opening, served)?;
     Ok(SessionRun { lines, tables })

@@ -8,8 +8,10 @@ mod drawn;
 mod file;
 mod inspection;
 mod lines;
+mod progress;
 mod tally;
 
 pub use drawn::{Drawn, DrawnRun, print_drawn, run_drawn};
 pub use file::output_of;
+pub use progress::{NoProgress, Progress};
 pub use tally::{Times, print_times};

@@ -1,5 +1,6 @@
 //! How often workers tried, and how long it took.
 use crate::lines::Missed;
+use crate::progress::{Progress, Receipts};
 use attempts::Pause;
 use seq_model::{Memory, Refusal};
 use std::alloc::Global;
@@ -18,14 +19,15 @@ struct Commits {
     most: AtomicU64,
 }
 
-/// The commits that each worker tried. Workers are held nowhere.
+/// The commits that each worker tried, and the receipts of all. Workers are held nowhere.
 #[derive(Drop)]
-pub(crate) struct Tally {
+pub(crate) struct Tally<'a, P> {
     workers: Vec<Commits>,
+    receipts: Receipts<'a, P>,
 }
 
-impl Tally {
-    pub(crate) fn new(alloc: Global, count: usize) -> Result<Tally, Memory> {
+impl<'a, P: Progress> Tally<'a, P> {
+    pub(crate) fn new(alloc: Global, count: usize, told: &'a P) -> Result<Tally<'a, P>, Memory> {
         let mut workers = Vec::with_capacity(alloc, count)?;
         for _ in 0..count {
             workers.push(Commits {
@@ -34,7 +36,10 @@ impl Tally {
                 most: AtomicU64::new(0),
             })?;
         }
-        Ok(Tally { workers })
+        Ok(Tally {
+            workers,
+            receipts: Receipts::new(told),
+        })
     }
 
     fn commits_of(&self, worker: u64) -> Option<&Commits> {
@@ -52,7 +57,7 @@ impl Tally {
     }
 }
 
-impl Pause for Tally {
+impl<P: Progress> Pause for Tally<'_, P> {
     fn before_commit(&self, worker: u64) {
         if let Some(commits) = self.commits_of(worker) {
             commits.all.fetch_add(1, Ordering::SeqCst);
@@ -66,6 +71,7 @@ impl Pause for Tally {
             let most = commits.most.load(Ordering::SeqCst).max(since);
             commits.most.store(most, Ordering::SeqCst);
         }
+        self.receipts.note();
     }
 }
 

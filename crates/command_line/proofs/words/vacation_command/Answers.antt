@@ -1,21 +1,13 @@
-use Rattle.std.proofs.Common.{◌≡◌, ◌∙◌, ap, ap₂, false, ◌||◌, Bool}
+use Rattle.std.proofs.Common.{◌≡◌, ◌∙◌, ap, ap₂, false, ◌||◌, Bool, codes}
 use Rattle.std.proofs.lemmas.Result.{IfOk-weaker}
-use Rattle.clap.specs.Words.{with_rule}
+use Rattle.clap.specs.Words.{App, app_of, new_app, with_rule}
 use Rattle.clap.specs.Simple.{app_of_fields}
-use Rattle.clap.specs.declared.builder.command.Command.{Command}
-use Rattle.clap.specs.declared.builder.command.Command.TheViews.{out-Command}
-use Rattle.clap.specs.declared.builder.command.Command.TheOpen.{Command-F}
+use Rattle.command_line.specs.Numbers.{rule_of_number}
+use Rattle.command_line.specs.Words.{workers}
 use Rattle.command_line.proofs.words.vacation_command.Goals as goal
 
 pub returns-clause-app : goal.returns-clause-app
 returns-clause-app c =
-    let named = ap app_of_fields c.about.ensures ∙ c.new.ensures.app in
-    let first = c.in_ok-arg.ensures.shape c.workers.ensures.local ∙ ap₂ with_rule named c.workers.ensures.rule in
-    IfOk-weaker c.arg-2.result _ _ (λ r h. h.shape c.file.ensures.local ∙ ap₂ with_rule first c.file.ensures.rule) c.arg-2.ensures
-
-pub returns-clause-local : goal.returns-clause-local
-returns-clause-local c =
-    let of_command : (out-Command c.about.result).has_globals ≡ false =
-    ap (λ (f : Command-F Command). f.has_globals) c.about.ensures ∙ c.new.ensures.local in
-    let of_first = c.in_ok-arg.ensures.globals ∙ ap₂ (λ (a b : Bool). a || b) of_command c.workers.ensures.local in
-    IfOk-weaker c.arg-2.result _ _ (λ r h. h.globals ∙ ap₂ (λ (a b : Bool). a || b) of_first c.file.ensures.local) c.arg-2.ensures
+    let named : app_of c.about-named.result ≡ new_app (codes "vacation") = ap app_of_fields c.about-named.ensures ∙ c.new.ensures.app in
+    let first = c.in_ok-with_workers.ensures.app ∙ ap (λ (a : App). with_rule a (rule_of_number workers (codes "0"))) named in
+    IfOk-weaker c.arg.result _ _ (λ r h. h.shape c.file.ensures.local ∙ ap₂ with_rule first c.file.ensures.rule) c.arg.ensures

@@ -1,0 +1,96 @@
+//! `bench`, and what is read of its words.
+ghost use Rattle.std.specs.Prelude.{◌≡◌, false, IfOk};
+ghost use Rattle.clap.specs.Words.{app_of, found_of, rows_of, rule_of};
+ghost use Rattle.clap.specs.declared.builder.command.Command.TheViews.{out-Command as fields_of};
+ghost use Rattle.served_runs.specs.Drawn.{IsDrawable};
+ghost use Rattle.command_line.specs.Bench.{bench_app, drawn_of, has_times, times_rule};
+
+use crate::numbers::{number_in, with_number};
+use crate::options::{
+    CLIENTS, PERCENT_QUERIED, PERCENT_USER, QUERIES, RELATIONS, SEED, TRANSACTIONS, TRIES,
+};
+use clap::{Arg, ArgAction, ArgMatches, Command};
+use generated_sessions::Options;
+use served_runs::Drawn;
+use std::alloc::{AllocError, Global};
+
+/// The subcommand, with all its options.
+pub(crate) fn bench_command<'a>(alloc: Global) -> Result<Command<'a>, AllocError>
+    ensures app { IfOk result (λ command. app_of command ≡ bench_app) }
+    ensures local { IfOk result (λ command. (fields_of command).has_globals ≡ false) }
+{
+    let named = Command::new(alloc, "bench").about("Draws sessions, and has workers run them");
+    let with_clients = with_number(alloc, named, CLIENTS, "2", "Workers")?;
+    let with_queries = with_number(
+        alloc,
+        with_clients,
+        QUERIES,
+        "10",
+        "Asks of a reservation, and changes of an update",
+    )?;
+    let with_share = with_number(
+        alloc,
+        with_queries,
+        PERCENT_QUERIED,
+        "60",
+        "The share of the ids that sessions name",
+    )?;
+    let with_relations = with_number(alloc, with_share, RELATIONS, "100", "Ids of each kind")?;
+    let with_transactions = with_number(
+        alloc,
+        with_relations,
+        TRANSACTIONS,
+        "1000",
+        "Sessions of all workers together",
+    )?;
+    let with_users = with_number(
+        alloc,
+        with_transactions,
+        PERCENT_USER,
+        "90",
+        "The share of reservations among them",
+    )?;
+    let with_seed = with_number(alloc, with_users, SEED, "1", "What they are drawn from")?;
+    let with_tries = with_number(alloc, with_seed, TRIES, "1000", "Attempts of a session")?;
+    with_tries.arg(times(alloc))
+}
+
+fn times<'a>(alloc: Global) -> Arg<'a>
+    ensures rule { rule_of result ≡ times_rule }
+    ensures local { result.global ≡ false }
+{
+    Arg::new(alloc, "times")
+        .long("times")
+        .help("Also tells what it took, on standard error")
+        .action(ArgAction::SetTrue)
+}
+
+/// The sessions that are to be drawn and run.
+pub(crate) fn drawn_in(words: &ArgMatches<'_>) -> Drawn
+    ensures read { result ≡ drawn_of (rows_of (found_of words.now)) }
+    ensures drawable { IsDrawable result }
+{
+    let options = Options {
+        clients: number_in(words, CLIENTS) as u32,
+        queries: number_in(words, QUERIES) as u32,
+        percent_queried: number_in(words, PERCENT_QUERIED) as u32,
+        relations: number_in(words, RELATIONS) as u32,
+        transactions: number_in(words, TRANSACTIONS) as u32,
+        percent_user: number_in(words, PERCENT_USER) as u32,
+    };
+    Drawn {
+        options,
+        seed: number_in(words, SEED),
+        tries: number_in(words, TRIES),
+    }
+}
+
+/// Whether what the run took is asked for.
+pub(crate) fn has_times_in(words: &ArgMatches<'_>) -> bool
+    ensures { result ≡ has_times (rows_of (found_of words.now)) }
+{
+    match words.get_str("times") {
+        Some(text) => text == "true",
+        None => false,
+    }
+}
