@@ -5,10 +5,17 @@ use std::alloc::{AllocError, Global};
 use std::collections::btree_map::Iter;
 use std::fmt::Write;
 use std::process::Abort;
+use std::sync::Wait;
 use std::test::Fail;
+use std::thread::Threads;
+use std::time::Clock;
 use step_script::{Collection, Line, parse_steps};
 
-fn expect_bad_lines(rt: &impl Abort, alloc: Global, scripts: &[&[u8]]) -> Result<(), Fail> {
+fn expect_bad_lines<H: Threads + Wait + Clock + Sync + Abort>(
+    rt: &H,
+    alloc: Global,
+    scripts: &[&[u8]],
+) -> Result<(), Fail> {
     for script in scripts {
         expect_refused(rt, alloc, script, b"line 1: BadText\n".as_slice())?;
     }

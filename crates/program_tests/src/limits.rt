@@ -1,6 +1,6 @@
 //! What is refused beyond a limit, in the order in which faults are found.
 use crate::runs::{had_memory, room, run, words_of};
-use command_line::{DONE, REFUSED, run_tool};
+use command_line::{DONE, NoProgress, REFUSED, run_tool};
 use std::alloc::{AllocError, Global};
 use std::io;
 use std::io::Read;
@@ -22,11 +22,13 @@ fn a_file_beyond_the_limit(rt: HostRuntime) -> Result<(), Fail> {
     let mut out: Vec<u8> = room(rt.alloc())?;
     let mut err: Vec<u8> = room(rt.alloc())?;
     let status = run_tool(
+        &rt,
         rt.alloc(),
         words.as_slice(),
         &mut Endless,
         &mut out,
         &mut err,
+        &NoProgress,
     );
     assert_eq!(rt; out.as_slice(), b"".as_slice());
     had_memory(status)?;
@@ -37,13 +39,13 @@ fn a_file_beyond_the_limit(rt: HostRuntime) -> Result<(), Fail> {
 
 #[test]
 fn refused_words_before_the_file(rt: HostRuntime) -> Result<(), Fail> {
-    let left = run(rt.alloc(), &["step"], b"map 2\n")?;
+    let left = run(&rt, rt.alloc(), &["step"], b"map 2\n")?;
     assert_eq!(rt; left.status, REFUSED);
     assert_eq!(rt; left.out.as_slice(), b"".as_slice());
-    let more = run(rt.alloc(), &["step", "-", "-"], b"map 2\n")?;
+    let more = run(&rt, rt.alloc(), &["step", "-", "-"], b"map 2\n")?;
     assert_eq!(rt; more.status, REFUSED);
     assert_eq!(rt; more.out.as_slice(), b"".as_slice());
-    let none = run(rt.alloc(), &[], b"map 2\n")?;
+    let none = run(&rt, rt.alloc(), &[], b"map 2\n")?;
     assert_eq!(rt; none.status, REFUSED);
     assert_eq!(rt; none.out.as_slice(), b"".as_slice());
     Ok(())
@@ -76,7 +78,7 @@ fn told_of_too_many_adds(alloc: Global) -> Result<String, AllocError> {
 fn one_call_more_than_a_transaction_makes(rt: HostRuntime) -> Result<(), Fail> {
     let script = too_many_adds(rt.alloc())?;
     let wanted = told_of_too_many_adds(rt.alloc())?;
-    let left = run(rt.alloc(), &["step", "-"], script.as_bytes())?;
+    let left = run(&rt, rt.alloc(), &["step", "-"], script.as_bytes())?;
     assert_eq!(rt; left.status, DONE);
     assert_eq!(rt; left.out.as_slice(), wanted.as_bytes());
     Ok(())

@@ -1,16 +1,34 @@
-//! The program: runs step scripts and session files.
+//! The program: runs step scripts, session files and drawn sessions.
 //!
 //! `run_tool` does the work over any reader and writers; `main` hands it the file, or standard input, and the
-//! standard streams.
+//! standard streams. Where standard error is a terminal it also says how far workers have come.
 #![tactic(auto)]
 
-use command_line::{REFUSED, fault, file_of, refuse_memory, run_file, run_tool};
+use command_line::{Progress, REFUSED, fault, file_of, refuse_memory, run_file, run_tool};
+use std::io::{IsTerminal, Write};
 use std::process::ExitCode;
+use std::sync::Wait;
+use std::thread::Threads;
+use std::time::Clock;
 use std::{env, io};
+
+/// Standard error, where it is a terminal.
+struct Terminal<'a> {
+    rt: &'a HostRuntime,
+    is_there: bool,
+}
+
+impl Progress for Terminal<'_> {
+    fn receipts(&self, count: u64) {
+        if self.is_there {
+            let _ = writeln!(self.rt.stderr(), "{count} sessions committed");
+        }
+    }
+}
 
 fn main(rt: HostRuntime) -> ExitCode {
     let status = match words_of(&rt) {
-        Ok(words) => run(&rt, words.as_slice()),
+        Ok(words) => run(&rt, &rt, words.as_slice()),
         Err(error) => refuse(&rt, error),
     };
     ExitCode::from(status)
@@ -30,16 +48,21 @@ fn refuse(rt: &HostRuntime, error: io::Error) -> u8 {
     fault(&mut err, REFUSED, "cannot read the words")
 }
 
-fn run(rt: &HostRuntime, words: &[String]) -> u8 {
+// The handle on threads is the runtime, too.
+fn run<H: Threads + Wait + Clock + Sync>(threads: &H, rt: &HostRuntime, words: &[String]) -> u8 {
     let alloc = rt.alloc();
     let mut out = rt.stdout();
     let mut err = rt.stderr();
+    let told = Terminal {
+        rt,
+        is_there: err.is_terminal(),
+    };
     match file_of(alloc, words) {
         Ok(Some(file)) => {
             let opened = std::fs::open(rt, file.as_str());
-            run_file(alloc, words, opened, &mut out, &mut err)
+            run_file(threads, alloc, words, opened, &mut out, &mut err, &told)
         }
-        Ok(None) => run_tool(alloc, words, &mut rt.stdin(), &mut out, &mut err),
+        Ok(None) => run_tool(rt, alloc, words, &mut rt.stdin(), &mut out, &mut err, &told),
         Err(_) => refuse_memory(&mut err),
     }
 }
