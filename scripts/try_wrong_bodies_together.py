@@ -38,8 +38,8 @@ from typing import Optional
 
 REFUSED, BY_NAMES, MISSED, BAD, UNSURE = "refused", "BY NAMES ALONE", "NOT REFUSED", "BAD EDIT", "UNSURE"
 KINDS = (REFUSED, BY_NAMES, MISSED, BAD, UNSURE)
-# What a proof file's error says where a name is gone, and not where a statement is another one.
-NAME_IS_GONE = re.compile(r"has no field|is not in scope|has no `|was not admitted")
+# What a proof file's error says where a name is gone, or where it follows from another error, and not where a statement is another one.
+OF_A_NAME = re.compile(r"has no field|is not in scope|has no `|was not admitted|which was rejected, was not checked")
 SECONDS_BETWEEN_LOOKS = 20
 
 
@@ -265,7 +265,7 @@ def refusal_of(edit, lines):
     by_names = None
     for function in edit.functions:
         errors = errors_in_proofs_of(function, lines)
-        of_meaning = [line for line in errors if not NAME_IS_GONE.search(line)]
+        of_meaning = [line for line in errors if not OF_A_NAME.search(line)]
         why = open_goal_in(function, lines) or unanswered_goal_of(function, lines) or (of_meaning or [""])[0]
         if why:
             return REFUSED, why
@@ -277,7 +277,7 @@ def refusal_anywhere(lines):
     """The same of a check that tried one edit alone: by any goal of any function, since without the edit all are proved."""
     goals = [line for line in lines if "it is not proved" in line or re.match(r"fn \S+: no proof: (?!.*it calls)", line)]
     errors = [line for line in lines if re.match(r"(?:\./)?proofs/\S+:\d+:\d+: error: ", line)]
-    of_meaning = [line for line in errors if not NAME_IS_GONE.search(line)]
+    of_meaning = [line for line in errors if not OF_A_NAME.search(line)]
     found = (goals or of_meaning or [""])[0]
     return (REFUSED, found) if found else (BY_NAMES, errors[0]) if errors else None
 
