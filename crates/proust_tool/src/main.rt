@@ -13,6 +13,7 @@ use std::time::Clock;
 use std::{env, io};
 
 /// Standard error, where it is a terminal.
+#[derive(Drop)]
 struct Terminal<'a> {
     rt: &'a HostRuntime,
     is_there: bool,
@@ -62,7 +63,15 @@ fn run<H: Threads + Wait + Clock + Sync>(threads: &H, rt: &HostRuntime, words: &
             let opened = std::fs::open(rt, file.as_str());
             run_file(threads, alloc, words, opened, &mut out, &mut err, &told)
         }
-        Ok(None) => run_tool(rt, alloc, words, &mut rt.stdin(), &mut out, &mut err, &told),
+        Ok(None) => run_tool(
+            threads,
+            alloc,
+            words,
+            &mut rt.stdin(),
+            &mut out,
+            &mut err,
+            &told,
+        ),
         Err(_) => refuse_memory(&mut err),
     }
 }
