@@ -1,15 +1,15 @@
 //! A transaction that borrows the seat at which it runs.
-ghost use Rattle.std.specs.Prelude.{◌≡◌, ◌<◌, ◌≤◌, Err, IfErr, IfOk, OnErr, true};
+ghost use Rattle.std.specs.Prelude.{◌≡◌, Err, IfOk};
 ghost use Rattle.std.specs.Borrow.{RestsIfErr, sem};
 ghost use Rattle.seq_model.specs.declared.call.Op.TheVariants as op;
 ghost use Rattle.seq_model.specs.declared.refusal.Refusal.TheVariants.{NoTransaction};
 ghost use Rattle.tx_table.specs.Seated.{opening_of};
-ghost use Rattle.tx_phases.specs.Phases.{Rests, Stands};
+ghost use Rattle.tx_phases.specs.Phases.{Rests};
 ghost use Rattle.transactions.specs.contracts.seats.TxSeat.{the_row};
-ghost use Rattle.transactions.specs.Borrowed.{IsBegunSince, IsRefusedBegin};
+ghost use Rattle.transactions.specs.Borrowed.{CommitsTo, IsBegunSince, IsRefusedBegin};
 ghost use Rattle.driven_turns.specs.Driven.{standing};
 ghost use Rattle.transactions.specs.Ready.{HasBegunSince, IsReady};
-ghost use Rattle.transactions.specs.Requests.{CallsTo, HasCommitted, IsBegun, IsEnded, IsOpen, KeepsReceipts, has_written};
+ghost use Rattle.transactions.specs.Requests.{CallsTo, IsOpen, KeepsReceipts};
 
 use crate::seats::TxSeat;
 use seq_model::{Call, Record, Refusal, Reply, Value};
@@ -118,22 +118,7 @@ impl<'a, V: Value> Tx<'a, V> {
     pub fn commit(self) -> Result<Record<V>, Refusal>
         requires ready { IsReady self.table.now self.seat.now }
         requires since { HasBegunSince self.table.now self.seat.now }
-        ensures ready { IsReady self.entry.table.now self.exit.1.0.now }
-        ensures rests { standing (opening_of self.entry.table.now) self.exit.1.0.now.seat ≡ Rests }
-        ensures committed { IfOk result
-            (HasCommitted (opening_of self.entry.table.now) self.entry.seat.now.seat self.exit.1.0.now.seat) }
-        ensures calls { IfOk result (λ receipt.
-            standing (opening_of self.entry.table.now) self.entry.seat.now.seat ≡ Stands receipt.calls) }
-        ensures writes { IfOk result (λ receipt.
-            receipt.writes ≡ has_written (opening_of self.entry.table.now) self.entry.seat.now.seat) }
-        ensures above { IfOk result (λ receipt. receipt.writes ≡ true → self.entry.seat.now.seat.last < receipt.number) }
-        ensures last { IfOk result (λ receipt. (self.entry.seat.now.seat.last ≤ receipt.number)
-            × (self.exit.1.0.now.seat.last ≡ receipt.number)) }
-        ensures keeps { OnErr result (KeepsReceipts self.entry.seat.now.seat self.exit.1.0.now.seat) }
-        ensures ended { IfErr result (λ cause. IsOpen (opening_of self.entry.table.now) self.entry.seat.now.seat →
-            IsEnded (opening_of self.entry.table.now) self.entry.seat.now.seat self.exit.1.0.now.seat cause) }
-        ensures none { standing (opening_of self.entry.table.now) self.entry.seat.now.seat ≡ Rests →
-            (result ≡ Err NoTransaction) × (self.exit.1.0.now ≡ self.entry.seat.now) }
+        ensures commits { CommitsTo self.entry.table.now self.entry.seat.now self.exit.1.0.now result }
     {
         let Tx { table, seat } = self;
         seat.commit(table)
