@@ -69,7 +69,7 @@ fn on_four<R: Threads + Sync>(
     transactions: u32,
 ) -> Ran
     requires ready { IsReady table.now seat }
-    requires shares { 32 < (view seat.seat).shares }
+    requires shares { 33 < (view seat.seat).shares }
     ensures ready { IsReady table.now result.0 }
 {
     let other = seat.split(table, 32);

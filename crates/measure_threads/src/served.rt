@@ -16,7 +16,7 @@ const TRIES: u64 = 1_000_000;
 pub fn time<R: Runtime + AllocGlobal + Threads + Wait + Sync>(
     rt: &R,
     options: &Options,
-) -> anyhow::Result<(f64, u64)> {
+) -> anyhow::Result<(f64, u32)> {
     let drawn = Drawn {
         options: *options,
         seed: SEED,
@@ -26,7 +26,8 @@ pub fn time<R: Runtime + AllocGlobal + Threads + Wait + Sync>(
         bail!("there are no such sessions");
     }
     let times = times_of(rt, &drawn)?;
-    Ok((times.run.as_secs_f64(), times.commits))
+    let commits = u32::try_from(times.commits).unwrap_or(u32::MAX);
+    Ok((times.run.as_secs_f64(), commits))
 }
 
 fn times_of<R: Runtime + AllocGlobal + Threads + Wait + Sync>(
