@@ -1,0 +1,67 @@
+//! Transactions at seats of a shared table, each seat in a thread of its own, beside the same calls under one lock.
+use crate::counts::Counts;
+use crate::work::Work;
+use crate::{locked, seats};
+use std::rt::Runtime;
+use std::sync::Wait;
+use std::thread::Threads;
+
+/// How many transactions each thread makes.
+const TRANSACTIONS: u32 = 200_000;
+
+/// Prints how many transactions a second are committed by one thread, two and four.
+pub fn measure<R: Runtime + AllocGlobal + Threads + Wait + Sync>(rt: &R) -> anyhow::Result<()> {
+    for is_on_words in [true, false] {
+        for writes in [0, 1] {
+            let work = Work {
+                is_on_words,
+                writes,
+            };
+            for threads in [1, 2, 4] {
+                report_seats(rt, work, threads, TRANSACTIONS)?;
+                report_lock(rt, work, threads)?;
+            }
+        }
+    }
+    Ok(())
+}
+
+pub fn report_seats<R: Runtime + AllocGlobal + Threads + Sync>(
+    rt: &R,
+    work: Work,
+    threads: u32,
+    transactions: u32,
+) -> anyhow::Result<()> {
+    let (counts, seconds) = seats::time(rt, work, threads, transactions)?;
+    let name = name_of(work);
+    let writes = work.writes;
+    let speed = speed(counts, seconds);
+    let (moved, gates, others) = (counts.moved, counts.gates, counts.others);
+    println!(rt;
+        "{name}, {writes} writes of ten calls, {threads} threads: {speed:.0} thousand transactions a second; refused: {moved} moved, {gates} gates, {others} others"
+    )?;
+    Ok(())
+}
+
+fn report_lock<R: Runtime + AllocGlobal + Threads + Wait + Sync>(
+    rt: &R,
+    work: Work,
+    threads: u32,
+) -> anyhow::Result<()> {
+    let (counts, seconds) = locked::time(rt, work, threads, TRANSACTIONS)?;
+    let name = name_of(work);
+    let writes = work.writes;
+    let speed = speed(counts, seconds);
+    println!(rt;
+        "{name}, {writes} writes of ten calls, {threads} threads, one lock: {speed:.0} thousand transactions a second"
+    )?;
+    Ok(())
+}
+
+fn name_of(work: Work) -> &'static str {
+    if work.is_on_words { "words" } else { "a map" }
+}
+
+fn speed(counts: Counts, seconds: f64) -> f64 {
+    f64::from(counts.committed) / seconds / 1e3
+}

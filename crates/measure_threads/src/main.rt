@@ -1,0 +1,68 @@
+//! Benchmarks of what threads share, by name: `measure_threads NAME` prints what one took.
+//!
+//! With no name it prints nothing, so that it can be run with all other programs of the repository. Behind a name may stand numbers, which
+//! ask for one row alone:
+//!
+//! - `engine KIND WRITES THREADS TRANSACTIONS`: of transactions on words (KIND 0) or a map (1), of whose calls WRITES of ten change something;
+//! - `sessions RELATIONS CLIENTS SESSIONS`: of drawn sessions at seats of a shared table;
+//! - `lock RELATIONS CLIENTS SESSIONS`: of the same sessions under one lock.
+#![tactic(auto)]
+
+use anyhow::bail;
+use sessions::options;
+use std::env;
+use std::rt::Runtime;
+use std::sync::Wait;
+use std::thread::Threads;
+use work::Work;
+
+mod counts;
+mod engine;
+mod lock;
+mod locked;
+mod rows;
+mod seats;
+mod served;
+mod sessions;
+mod work;
+
+fn main(rt: HostRuntime) -> anyhow::Result<()> {
+    let mut words = env::args(&rt)?;
+    let _program = words.next();
+    let Some(name) = words.next() else {
+        return Ok(());
+    };
+    let mut numbers = Vec::new(rt.alloc());
+    for word in words {
+        numbers.push(word.parse::<u32>()?)?;
+    }
+    measure(&rt, name.as_str(), numbers.as_slice())
+}
+
+fn measure<R: Runtime + AllocGlobal + Threads + Wait + Sync>(
+    rt: &R,
+    name: &str,
+    numbers: &[u32],
+) -> anyhow::Result<()> {
+    match (name, numbers) {
+        ("engine", []) => engine::measure(rt),
+        ("engine", [kind, writes, threads, transactions]) => {
+            engine::report_seats(rt, work_of(*kind, *writes), *threads, *transactions)
+        }
+        ("sessions", []) => rows::measure(rt),
+        ("sessions", [relations, clients, sessions]) => {
+            rows::report_table(rt, &options(*relations, *clients, *sessions))
+        }
+        ("lock", [relations, clients, sessions]) => {
+            rows::report_lock(rt, &options(*relations, *clients, *sessions))
+        }
+        _ => bail!("no benchmark has the name {name} and these numbers"),
+    }
+}
+
+fn work_of(kind: u32, writes: u32) -> Work {
+    Work {
+        is_on_words: kind == 0,
+        writes,
+    }
+}

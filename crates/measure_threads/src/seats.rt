@@ -1,0 +1,198 @@
+//! Transactions at seats of a table, each seat in a thread of its own.
+ghost use Rattle.std.specs.Prelude.{◌<◌, ◌≡◌, IfOk};
+ghost use Rattle.std.specs.Thread.{IsSync};
+ghost use Rattle.tx_table.specs.Seated.{view};
+ghost use Rattle.transactions.specs.Ready.{HasBegunSince, IsReady};
+
+use crate::counts::Counts;
+use crate::work::{CALLS, Work, drawn, opening, shape};
+use rand_core::SeedableRng;
+use rand_xoshiro::Xoshiro256PlusPlus;
+use seq_model::Refusal;
+use std::alloc::Global;
+use std::rt::Runtime;
+use std::thread::{Threads, join};
+use std::time::Instant;
+use transactions::TxSeat;
+use tx_table::TxTable;
+
+/// A seat, and what came of its transactions.
+type Ran = (TxSeat<u64>, Counts);
+
+/// What comes of so many transactions of each thread, and the seconds that they take. There are one, two or four threads.
+pub fn time<R: Runtime + AllocGlobal + Threads + Sync>(
+    rt: &R,
+    work: Work,
+    threads: u32,
+    transactions: u32,
+) -> anyhow::Result<(Counts, f64)> {
+    let (table, seat) = open(rt.alloc(), work)?;
+    let start = Instant::now(rt);
+    let counts = run(rt, &table, seat, work, threads, transactions);
+    let seconds = start?.elapsed(rt)?.as_secs_f64();
+    Ok((counts, seconds))
+}
+
+fn open(alloc: Global, work: Work) -> Result<(TxTable<u64>, TxSeat<u64>), Refusal>
+    ensures ready { IfOk result (λ opened. IsReady opened.0 opened.1) }
+    ensures shares { IfOk result (λ opened. (view opened.1.seat).shares ≡ 64) }
+{
+    let shape = shape(alloc, work)?;
+    let state = opening(alloc, work)?;
+    TxSeat::open(alloc, &shape, state)
+}
+
+fn run<R: Threads + Sync>(
+    rt: &R,
+    table: &TxTable<u64>,
+    seat: TxSeat<u64>,
+    work: Work,
+    threads: u32,
+    transactions: u32,
+) -> Counts
+    requires ready { IsReady table.now seat }
+    requires shares { (view seat.seat).shares ≡ 64 }
+{
+    let (_, counts) = match threads {
+        1 => on_one(table, seat, work, transactions, 1),
+        2 => on_two(rt, table, seat, work, transactions, 1),
+        _ => on_four(rt, table, seat, work, transactions),
+    };
+    counts
+}
+
+fn on_four<R: Threads + Sync>(
+    rt: &R,
+    table: &TxTable<u64>,
+    mut seat: TxSeat<u64>,
+    work: Work,
+    transactions: u32,
+) -> Ran
+    requires ready { IsReady table.now seat }
+    requires shares { 33 < (view seat.seat).shares }
+    ensures ready { IsReady table.now result.0 }
+{
+    let other = seat.split(table, 32);
+    let (first, second) = join(
+        rt,
+        || -> Ran
+            requires sync { IsSync R.row }
+            requires ready { IsReady table.now seat }
+            requires shares { 1 < (view seat.seat).shares }
+            ensures ready { IsReady table.entry.now result.0 }
+        { on_two(rt, table, seat, work, transactions, 1) },
+        || -> Ran
+            requires sync { IsSync R.row }
+            requires ready { IsReady table.now other }
+            requires shares { 1 < (view other.seat).shares }
+            ensures ready { IsReady table.entry.now result.0 }
+        { on_two(rt, table, other, work, transactions, 3) },
+    );
+    joined(table, first, second)
+}
+
+fn on_two<R: Threads + Sync>(
+    rt: &R,
+    table: &TxTable<u64>,
+    mut seat: TxSeat<u64>,
+    work: Work,
+    transactions: u32,
+    seed: u64,
+) -> Ran
+    requires ready { IsReady table.now seat }
+    requires shares { 1 < (view seat.seat).shares }
+    requires seed { seed < 64 }
+    ensures ready { IsReady table.now result.0 }
+{
+    let other = seat.split(table, 1);
+    let (first, second) = join(
+        rt,
+        || -> Ran
+            requires ready { IsReady table.now seat }
+            ensures ready { IsReady table.entry.now result.0 }
+        { on_one(table, seat, work, transactions, seed) },
+        || -> Ran
+            requires ready { IsReady table.now other }
+            requires seed { seed < 64 }
+            ensures ready { IsReady table.entry.now result.0 }
+        { on_one(table, other, work, transactions, seed + 1) },
+    );
+    joined(table, first, second)
+}
+
+fn joined(table: &TxTable<u64>, first: Ran, second: Ran) -> Ran
+    requires first { IsReady table.now first.0 }
+    requires second { IsReady table.now second.0 }
+    ensures ready { IsReady table.now result.0 }
+{
+    let (mut seat, counts) = first;
+    let (other, more) = second;
+    seat.join(table, other);
+    (seat, counts.and(more))
+}
+
+fn on_one(
+    table: &TxTable<u64>,
+    mut seat: TxSeat<u64>,
+    work: Work,
+    transactions: u32,
+    seed: u64,
+) -> Ran
+    requires ready { IsReady table.now seat }
+    ensures ready { IsReady table.now result.0 }
+{
+    let mut random = Xoshiro256PlusPlus::seed_from_u64(seed);
+    let mut counts = Counts::NONE;
+    'transactions: for _ in 0..transactions {
+        counts.note(transact(table, &mut seat, work, &mut random));
+    }
+    (seat, counts)
+}
+
+fn transact(
+    table: &TxTable<u64>,
+    seat: &mut TxSeat<u64>,
+    work: Work,
+    random: &mut Xoshiro256PlusPlus,
+) -> Result<(), Refusal>
+    requires ready { IsReady table.now seat.old }
+    ensures ready { IsReady table.now seat.new }
+{
+    seat.begin(table)?;
+    make_calls(table, seat, work, random)?;
+    let _ = seat.commit(table)?;
+    Ok(())
+}
+
+fn make_calls(
+    table: &TxTable<u64>,
+    seat: &mut TxSeat<u64>,
+    work: Work,
+    random: &mut Xoshiro256PlusPlus,
+) -> Result<(), Refusal>
+    requires ready { IsReady table.now seat.old }
+    requires since { HasBegunSince table.now seat.old }
+    ensures ready { IsReady table.now seat.new }
+    ensures since { HasBegunSince table.now seat.new }
+{
+    'calls: for _ in 0..CALLS {
+        make_call(table, seat, work, random)?;
+    }
+    Ok(())
+}
+
+fn make_call(
+    table: &TxTable<u64>,
+    seat: &mut TxSeat<u64>,
+    work: Work,
+    random: &mut Xoshiro256PlusPlus,
+) -> Result<(), Refusal>
+    requires ready { IsReady table.now seat.old }
+    requires since { HasBegunSince table.now seat.old }
+    ensures ready { IsReady table.now seat.new }
+    ensures since { HasBegunSince table.now seat.new }
+{
+    let call = drawn(work, random);
+    let _ = seat.call(table, call)?;
+    Ok(())
+}
