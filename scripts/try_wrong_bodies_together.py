@@ -246,8 +246,8 @@ def open_goal_in(function, lines):
 
 
 def unanswered_goal_of(function, lines):
-    """The line which says that this function has a goal that nothing proves, other than by a callee that is not proved, or ""."""
-    has_none = re.compile(rf"fn \S*::{re.escape(function.path())}: no proof: (?!.*it calls)")
+    """The line which says that this function has a goal that nothing proves, other than by a callee or by a limit of the prover, or ""."""
+    has_none = re.compile(rf"fn \S*::{re.escape(function.path())}: no proof: (?!.*(?:it calls|does not cover))")
     return next((line for line in lines if has_none.match(line)), "")
 
 
@@ -275,7 +275,7 @@ def refusal_of(edit, lines):
 
 def refusal_anywhere(lines):
     """The same of a check that tried one edit alone: by any goal of any function, since without the edit all are proved."""
-    goals = [line for line in lines if "it is not proved" in line or re.match(r"fn \S+: no proof: (?!.*it calls)", line)]
+    goals = [line for line in lines if "it is not proved" in line or re.match(r"fn \S+: no proof: (?!.*(?:it calls|does not cover))", line)]
     errors = [line for line in lines if re.match(r"(?:\./)?proofs/\S+:\d+:\d+: error: ", line)]
     of_meaning = [line for line in errors if not OF_A_NAME.search(line)]
     found = (goals or of_meaning or [""])[0]
