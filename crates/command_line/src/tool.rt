@@ -164,7 +164,7 @@ fn print<W: Write, E: Write>(out: &mut W, err: &mut E, output: &Output) -> u8
     status_of_write(written)
 }
 
-// A wish for help or the version is no fault: its text goes to `out`. That of help has no line feed of its own.
+// A wish for help or the version is no fault: its text goes to `out`.
 fn refuse_words<W: Write, E: Write>(out: &mut W, err: &mut E, error: Error) -> u8
     ensures status { result ≤ MEMORY }
     ensures done { result ≡ DONE → IsInformation error × (err.new ≡ err.old) }
@@ -174,8 +174,10 @@ fn refuse_words<W: Write, E: Write>(out: &mut W, err: &mut E, error: Error) -> u
 {
     match error.kind() {
         ErrorKind::OutOfMemory => refuse_memory(err),
-        ErrorKind::DisplayHelp => status_of_write(writeln!(out, "{error}")),
-        ErrorKind::DisplayVersion => status_of_write(write!(out, "{error}")),
+        ErrorKind::DisplayHelp | ErrorKind::DisplayVersion => status_of_write(write!(
+            out,
+            "{error}"
+        )),
         _ => {
             let _ = write!(err, "{error}");
             REFUSED
