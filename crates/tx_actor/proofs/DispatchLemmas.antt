@@ -19,7 +19,7 @@ use Rattle.tx_actor.specs.declared.actor.Stage.TheVariants as stage
 use Rattle.tx_actor.specs.declared.actor.Told.{Told}
 use Rattle.tx_actor.specs.declared.actor.Told.TheVariants as told
 use Rattle.tx_actor.specs.declared.actor.TxActor.{TxActor}
-use Rattle.tx_actor.specs.Dispatch.{IsGoneHome, IsToldWord, Records}
+use Rattle.tx_actor.specs.Dispatch.{IsGoneHome, IsToldWord, Records, waits_at}
 use Rattle.actor_words.specs.Dispatch.{MayGoOn, MayRelease, after_home, after_put, after_try, after_word, shown_notice}
 use Rattle.tx_actor.specs.Running.{Does, IsSeatOf, Runs, at, notice_of, seat_at, seat_of, stage_of}
 use Rattle.actor_words.proofs.HomesLemmas.{not_none}
@@ -90,6 +90,20 @@ module _ {V : Type 0} where
 
   pub home_at_stage : (r u : TxActor V) (t : Told V) (s : Stage V) → r.stage ≡ s → IsGoneHome (at r s) u t → IsGoneHome r u t
   home_at_stage r u t s e p = subst (λ (z : Stage V). IsGoneHome (at r z) u t) (sym e) p
+
+  -- nothing was told, and nothing comes of it
+  waits_on : (w : World V) (a : ℕ) (x : Seat V) (s : Stage V) → waits_at s ≡ true → after_word w a x (stage_of s) notice.Quiet ≡ (w, Quiet)
+  waits_on w a x (stage.Reading l) waits = refl
+  waits_on w a x (stage.Locking ks) waits = refl
+  waits_on w a x stage.Releasing waits = refl
+  waits_on w a x stage.Cancelling waits = refl
+  waits_on w a x s waits = absurd (true≢false (sym waits))
+
+  pub word_waits : (r u : TxActor V) (t : Told V) (n : notice.Notice) → n ≡ notice.Quiet → waits_at r.stage ≡ true → u ≡ r
+      → t ≡ told.Quiet → IsToldWord r u t n
+  word_waits r u t n nothing waits same quiet =
+      told_as r u t notice.Quiet n (sym nothing)
+      (word_stays r u t notice.Quiet same quiet (λ a w. waits_on w a (seat_at (w.seats a) r) r.stage waits))
 
   -- any other notice
   pub begun_else : (w : World V) (a : ℕ) (x : Seat V) (h : WordNotice) → ((rv : ℕ) → h ≡ Begun rv → ⊥)
@@ -230,6 +244,13 @@ module _ {V : Type 0} where
   starve_else w a x (stage.Ready ks) i o b r t c l lo g re cl = absurd (re ks refl)
   starve_else w a x stage.Closing i o b r t c l lo g re cl = absurd (cl refl)
   starve_else w a x other i o b r t c l lo g re cl = refl
+
+-- no record is made where nothing comes of a step
+pub waits_unrecorded : {V : Type 0} → (s : Stage V) → waits_at s ≡ true → Records s → ⊥
+waits_unrecorded (stage.Ready ks) waits h = true≢false (sym waits)
+waits_unrecorded stage.Closing waits h = true≢false (sym waits)
+waits_unrecorded stage.Leaving waits h = true≢false (sym waits)
+waits_unrecorded s waits h = h
 
 -- no record is made at any other stage
 pub records_else : {V : Type 0} → (s : Stage V) → ((ks : VecDeque ℕ Global) → s ≡ stage.Ready ks → ⊥) → (s ≡ stage.Closing → ⊥)

@@ -44,6 +44,14 @@ module _ {V : Type 0} where
   apart_loaded r u t (stage.Loading o left) n p is = absurd (p o left refl)
   apart_loaded r u t s n p is = is
 
+  loaded_nothing : (r u : TxActor V) (t : Told V) (s : Stage V) → IsAsBefore r u t → HasLoaded r u t s notice.Quiet
+  loaded_nothing r u t (stage.Loading o left) is = is
+  loaded_nothing r u t s is = is
+
+  pub loaded_quiet : (r u : TxActor V) (t : Told V) (n : notice.Notice) → n ≡ notice.Quiet → IsAsBefore r u t → HasLoaded r u t r.stage n
+  loaded_quiet r u t n nothing is =
+      subst (λ (q : notice.Notice). HasLoaded r u t r.stage q) (sym nothing) (loaded_nothing r u t r.stage is)
+
   -- r is at this stage, and was told this
   pub loaded_at : (r u : TxActor V) (t : Told V) (s : Stage V) (n m : notice.Notice) → r.stage ≡ s → n ≡ m
       → HasLoaded (at r s) u t s n → HasLoaded r u t r.stage m

@@ -117,6 +117,15 @@ module _ {V : Type 0} where
       → ((o : running.Answered V) (left : VecDeque (ℕ × ℕ) Global) → r.stage ≡ stage.Loading o left → ⊥) → KeepsHeard v r u n
   heard_apart v r u n same p = stays_heard v r u n same (heard_other v r r.stage n p)
 
+  heard_nothing : (v : BlocksView) (r : TxActor V) (s : Stage V) → HeardAt v r s notice.Quiet → Stays v r s
+  heard_nothing v r (stage.Loading o left) is = is
+  heard_nothing v r s is = is
+
+  pub heard_quiet : (v : BlocksView) (r u : TxActor V) (n : notice.Notice) → n ≡ notice.Quiet → u ≡ r → KeepsHeard v r u n
+  heard_quiet v r u n nothing same =
+      subst (λ (q : notice.Notice). KeepsHeard v r u q) (sym nothing)
+      (stays_heard v r u notice.Quiet same (heard_nothing v r r.stage))
+
   -- r stands at this stage, and has heard this
   pub heard_at : (v : BlocksView) (r u : TxActor V) (s : Stage V) (n m : notice.Notice) → r.stage ≡ s → n ≡ m → KeepsHeard v (at r s) u n
       → KeepsHeard v r u m

@@ -147,6 +147,22 @@ module _ {V : Type 0} where
       (λ a w. loaded_else w a (seat_of (at r (stage.Loading call left)))
       (with_outcome call (outcome_in (w.seats a).stage)) left.items h p q)
 
+  told_nothing : (w : World V) (a : ℕ) (x : Seat V) (o : contents.Answered V) (es : Entries)
+      → after_load w a x (worlds.Loading o es) notice.Quiet ≡ (w, Quiet)
+  told_nothing w a x o [] = refl
+  told_nothing w a x o (d ∷ es) = refl
+
+  quiet_stage : (w : World V) (a : ℕ) (x : Seat V) (st : worlds.Stage V) (s : Stage V)
+      → after_load w a x (stage_in st s) notice.Quiet ≡ (w, Quiet)
+  quiet_stage w a x st (stage.Loading o left) = told_nothing w a x (with_outcome o (outcome_in st)) left.items
+  quiet_stage w a x st s = refl
+
+  -- nothing was told
+  pub load_quiet : (r u : TxActor V) (t : Told V) (n : notice.Notice) → n ≡ notice.Quiet → u ≡ r → t ≡ told.Quiet → IsToldLoad r u t n
+  load_quiet r u t n nothing same quiet =
+      subst (λ (q : notice.Notice). IsToldLoad r u t q) (sym nothing)
+      (load_stays r u t notice.Quiet same quiet (λ a w. quiet_stage w a (seat_of r) (w.seats a).stage r.stage))
+
   -- ---- r is at this stage
   other_stage : (w : World V) (a : ℕ) (x : Seat V) (st : worlds.Stage V) (s : Stage V) (n : notice.Notice)
       → ((o : Answered V) (left : VecDeque (ℕ × ℕ) Global) → s ≡ stage.Loading o left → ⊥)

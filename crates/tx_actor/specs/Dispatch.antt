@@ -1,5 +1,5 @@
 -- What a step makes of an actor at each stage, once its atomic action is done.
-use Rattle.std.specs.Prelude.{◌≡◌, ℕ, ◌<◌, false}
+use Rattle.std.specs.Prelude.{◌≡◌, ℕ, ◌<◌, Bool, true, false}
 use Rattle.word_machine.specs.Notices as notice
 use Rattle.replay_log.specs.Worlds.{World, After, starve_at}
 use Rattle.actor_words.specs.Dispatch.{MayGoOn, after_home, after_word}
@@ -33,6 +33,14 @@ module _ {V : Type 0} where
   Records stage.Closing = Unit {0}
   Records stage.Leaving = Unit {0}
   Records s = ⊥
+
+  -- Nothing comes of a step at this stage that told nothing.
+  abbrev pub waits_at : running.Stage V → Bool
+  waits_at (stage.Reading l) = true
+  waits_at (stage.Locking homes) = true
+  waits_at stage.Releasing = true
+  waits_at stage.Cancelling = true
+  waits_at s = false
 
   -- r becomes u by a want of memory
   abbrev pub Starves : TxActor V → TxActor V → Told V → Type 0

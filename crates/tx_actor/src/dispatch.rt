@@ -1,10 +1,11 @@
 //! What an actor makes of its atomic action, by its stage: of what a step of the words told, of a try on a gate, of a gate that was
 //! put back, of a base that has gone home, and of a want of memory.
-ghost use Rattle.std.specs.Prelude.{◌≡◌, ◌<◌, ℕ, [], ◌∷◌, false};
+ghost use Rattle.std.specs.Prelude.{◌≡◌, ◌<◌, ℕ, [], ◌∷◌, false, true};
 ghost use Rattle.std.specs.Vec.{vec_len, vec_capacity};
 ghost use Rattle.seq_model.specs.declared.refusal.Refusal.TheVariants as refusal;
+ghost use Rattle.word_machine.specs.Notices as notice;
 ghost use Rattle.replay_log.specs.Worlds.{because, gives_up};
-ghost use Rattle.tx_actor.specs.Dispatch.{HasRoom, IsGoneHome, IsToldWord, Records, Starves};
+ghost use Rattle.tx_actor.specs.Dispatch.{HasRoom, IsGoneHome, IsToldWord, Records, Starves, waits_at};
 ghost use Rattle.actor_words.specs.Dispatch.{after_put, after_try, is_loading, notice_told, shown_notice};
 ghost use Rattle.actor_words.specs.Blocks.{BlocksView};
 ghost use Rattle.tx_actor.specs.Having.{KeepsCopies};
@@ -18,6 +19,26 @@ use seq_model::Refusal;
 use std::collections::VecDeque;
 use std::mem;
 use step_core::{WordAnswer, WordRefusal};
+
+/// Whether the step told nothing.
+pub(crate) fn is_quiet(heard: WordNotice) -> bool
+    ensures { result ≡ true → shown_notice heard ≡ notice.Quiet }
+{
+    matches!(heard, WordNotice::Quiet)
+}
+
+/// Whether nothing comes of the step at this stage, since it told nothing.
+fn is_waiting<V>(stage: &Stage<V>, heard: WordNotice) -> bool
+    ensures told { result ≡ true → shown_notice heard ≡ notice.Quiet }
+    ensures stage { result ≡ true → waits_at stage.now ≡ true }
+{
+    match stage {
+        Stage::Reading(_) | Stage::Locking(_) | Stage::Releasing | Stage::Cancelling => {
+            is_quiet(heard)
+        }
+        _ => false,
+    }
+}
 
 impl<V: Drop> TxActor<V> {
     /// Nothing has come of the step.
@@ -124,6 +145,9 @@ impl<V: Drop> TxActor<V> {
         ensures made { Records self.old.stage → self.new.made.items ≡ self.old.calls.items }
     {
         let heard = of_told(told);
+        if is_waiting(&self.stage, heard) {
+            return Told::Quiet;
+        }
         let stage = mem::replace(&mut self.stage, Stage::Idle);
         match stage {
             Stage::Beginning => self.has_begun(heard),

@@ -11,6 +11,7 @@ ghost use Rattle.tx_actor.specs.Keeping.{KeepsHeard};
 ghost use Rattle.tx_actor.specs.Running.{at};
 
 use crate::actor::{Answered, Stage, Told, TxActor};
+use crate::dispatch::is_quiet;
 use actor_words::{WordNotice, of_told};
 use seq_model::{Refusal, Value};
 use std::collections::VecDeque;
@@ -110,6 +111,9 @@ impl<V: Value> TxActor<V> {
         ensures goes { HasLoaded self.old self.new result self.old.stage (notice_told told) }
     {
         let heard = of_told(told);
+        if is_quiet(heard) {
+            return Told::Quiet;
+        }
         let stage = mem::replace(&mut self.stage, Stage::Idle);
         match stage {
             Stage::Loading(call, left) => self.has_loaded(heard, call, left),

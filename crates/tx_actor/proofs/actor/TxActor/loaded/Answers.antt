@@ -1,11 +1,33 @@
 use Rattle.std.proofs.Common.{refl, sym, ◌∙◌}
 use Rattle.tx_actor.specs.Running.{at}
 use Rattle.tx_actor.specs.declared.actor.Stage.TheVariants as stage
-use Rattle.tx_actor.proofs.LoadLemmas.{load_at_stage, load_heard}
-use Rattle.actor_words.specs.Dispatch.{notice_told}
-use Rattle.tx_actor.proofs.HeardLemmas.{heard_apart, heard_at}
-use Rattle.tx_actor.proofs.GoneLemmas.{apart_loaded, loaded_at}
+use Rattle.tx_actor.proofs.LoadLemmas.{load_at_stage, load_heard, load_quiet, loadable_as}
+use Rattle.actor_words.specs.Dispatch.{notice_told, shown_notice}
+use Rattle.tx_actor.proofs.HeardLemmas.{heard_apart, heard_at, heard_quiet}
+use Rattle.tx_actor.proofs.GoneLemmas.{apart_loaded, loaded_at, loaded_quiet}
 use Rattle.tx_actor.proofs.actor.TxActor.loaded.Goals as goal
+
+-- nothing was told
+pub returns-then-is_quiet-clause-does : goal.returns-then-is_quiet-clause-does
+returns-then-is_quiet-clause-does g c =
+    load_quiet c.args.self.now _ _ (notice_told c.args.told) (sym c.of_told-heard.ensures ∙ c.is_quiet.ensures c.if-is_quiet.true) refl refl
+
+pub returns-then-is_quiet-clause-keeps : goal.returns-then-is_quiet-clause-keeps
+returns-then-is_quiet-clause-keeps g c v =
+    heard_quiet v c.args.self.now _ (notice_told c.args.told) (sym c.of_told-heard.ensures ∙ c.is_quiet.ensures c.if-is_quiet.true) refl
+
+pub returns-then-is_quiet-clause-goes : goal.returns-then-is_quiet-clause-goes
+returns-then-is_quiet-clause-goes g c =
+    loaded_quiet c.args.self.now _ _ (notice_told c.args.told) (sym c.of_told-heard.ensures ∙ c.is_quiet.ensures c.if-is_quiet.true)
+    (refl, refl)
+
+pub has_loaded-requires : goal.has_loaded-requires
+has_loaded-requires g c =
+    record {
+      prepared = loadable_as c.args.self.now c.replace-stage.new.dest (stage.Loading c.in-Loading.call c.in-Loading.left)
+          (notice_told c.args.told) (shown_notice c.of_told-heard.result) (sym c.replace-stage.ensures.value ∙ c.in-Loading.is)
+          (sym c.of_told-heard.ensures) c.requires.prepared;
+    }
 
 pub returns-in-Loading-clause-does : goal.returns-in-Loading-clause-does
 returns-in-Loading-clause-does g c =

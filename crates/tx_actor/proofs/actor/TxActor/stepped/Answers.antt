@@ -4,10 +4,27 @@ use Rattle.tx_actor.specs.Running.{at, seat_at, stage_of}
 use Rattle.tx_actor.specs.Dispatch.{Records, HasRoom}
 use Rattle.actor_words.specs.Dispatch.{notice_told, is_loading}
 use Rattle.tx_actor.specs.declared.actor.Stage.TheVariants as stage
-use Rattle.tx_actor.proofs.DispatchLemmas.{records_else, told_as, word_at_stage, word_stays, word_else}
+use Rattle.tx_actor.proofs.DispatchLemmas.{records_else, told_as, waits_unrecorded, word_at_stage, word_else, word_stays, word_waits}
 use Rattle.tx_actor.proofs.KeepingLemmas.{keeps_at, keeps_from, keeps_same}
 use Rattle.tx_actor.proofs.HavingLemmas.{copies_at, copies_idle, copies_same}
 use Rattle.tx_actor.proofs.actor.TxActor.stepped.Goals as goal
+
+-- nothing was told
+pub returns-then-is_waiting-clause-does : goal.returns-then-is_waiting-clause-does
+returns-then-is_waiting-clause-does g c =
+    word_waits c.args.self.now _ _ (notice_told c.args.told)
+    (sym c.of_told-heard.ensures ∙ c.is_waiting.ensures.told c.if-is_waiting.true) (c.is_waiting.ensures.stage c.if-is_waiting.true)
+    refl refl
+
+pub returns-then-is_waiting-clause-keeps : goal.returns-then-is_waiting-clause-keeps
+returns-then-is_waiting-clause-keeps g c v = keeps_same v c.args.self.now _ refl
+
+pub returns-then-is_waiting-clause-leaves : goal.returns-then-is_waiting-clause-leaves
+returns-then-is_waiting-clause-leaves g c quiet = copies_same c.args.self.now _ quiet refl
+
+pub returns-then-is_waiting-clause-made : goal.returns-then-is_waiting-clause-made
+returns-then-is_waiting-clause-made g c h =
+    absurd (waits_unrecorded c.args.self.now.stage (c.is_waiting.ensures.stage c.if-is_waiting.true) h)
 
 pub has_read-requires : goal.has_read-requires
 has_read-requires g c = subst (λ s. HasRoom c.args.self.now s) (sym c.replace-stage.ensures.value ∙ c.in-Reading.is) c.requires
