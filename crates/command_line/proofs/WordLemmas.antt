@@ -58,7 +58,8 @@ met_none (Some met) named = absurd (some_is_not_none met.0 (sym named))
 
 names_are : (m : ArgMatches) → option_map (λ (p : Text × List Row). p.0) (subcommand_rows_of m) ≡ subcommand_name_of m
 names_are m =
-    name_of (out-ArgMatches m).subcommand (λ b. ((out-SubCommand (box_value b)).name.now, rows_of (found_of (out-SubCommand (box_value b)).matches)))
+    name_of (out-ArgMatches m).subcommand
+    (λ b. ((out-SubCommand (box_value b)).name.now, rows_of (found_of (out-SubCommand (box_value b)).matches)))
 
 -- the task of the subcommand that was met, by its name and its rows; without one it is the first
 pub task_met : (m : ArgMatches) (name : Text) (rows : List Row) → Some name ≡ subcommand_name_of m

@@ -2,6 +2,7 @@
 use Rattle.std.specs.Prelude.{◌≡◌, ◌<◌, ◌≤◌, ◌⊎◌, ℕ, List, [], ◌∷◌, ◌++◌, codes, length, Option, IfSome, IsTrue, ⊤}
 use Rattle.std.specs.Io.KnownBytes.{Appends}
 use Rattle.clap.specs.Words.{Text}
+use Rattle.seq_model.specs.declared.limits.TheConstants.{ACTOR_LIMIT}
 use Rattle.seq_model.specs.declared.refusal.Refusal.{Refusal}
 use Rattle.seq_model.specs.declared.refusal.Refusal.TheVariants.{BadText, OutOfMemory}
 use Rattle.seq_model.specs.Texts.{refusal_text, too_long_text}
@@ -76,7 +77,7 @@ IsFaultOf (Served workers) text fault = IsFileFault workers text fault
 abbrev pub IsDoable : Task → Type 0
 IsDoable (OnFile Step) = ⊤
 IsDoable (OnFile Vacation) = ⊤
-IsDoable (OnFile (Served workers)) = (1 ≤ workers) × (workers ≤ 64)
+IsDoable (OnFile (Served workers)) = (1 ≤ workers) × (workers ≤ ACTOR_LIMIT)
 IsDoable (OnDrawn drawn times) = IsDrawable drawn
 
 -- sessions are drawn, and no file is read

@@ -129,7 +129,8 @@ pub fn run_tool<H: Threads + Wait + Clock + Sync, R: Read, W: Write, E: Write, P
         → HasWorked (map string_bytes words.now) (R.remaining reader.old) (W.contents out.old) (W.contents out.new) }
     ensures quiet { result ≡ DONE → AsksForTimes (task_named (map string_bytes words.now)) ⊎ (err.new ≡ err.old) }
     ensures refused { result ≡ REFUSED
-        → (out.new ≡ out.old) ⊎ (AskForInformation (map string_bytes words.now) ⊎ IsRead (map string_bytes words.now) (R.remaining reader.old)) }
+        → (out.new ≡ out.old)
+        ⊎ (AskForInformation (map string_bytes words.now) ⊎ IsRead (map string_bytes words.now) (R.remaining reader.old)) }
     ensures memory { result ≡ MEMORY → out.new ≡ out.old }
     ensures unread { ¬ AreTaken (map string_bytes words.now) → reader.new ≡ reader.old }
     ensures drawn { IsOnDrawn (task_named (map string_bytes words.now)) → reader.new ≡ reader.old }
@@ -138,7 +139,8 @@ pub fn run_tool<H: Threads + Wait + Clock + Sync, R: Read, W: Write, E: Write, P
         ⊎ ((err.new ≡ err.old) × HasOutput (task_named (map string_bytes words.now)) (R.remaining reader.old)) }
     ensures starved { result ≡ MEMORY → HasBegun (E.contents err.old) (E.contents err.new) (line_of memory_text) }
     ensures faulted { result ≡ AUDIT_FAULT → (out.new ≡ out.old)
-        × HasToldFault (task_named (map string_bytes words.now)) AUDIT_FAULT (R.remaining reader.old) (E.contents err.old) (E.contents err.new) }
+        × HasToldFault (task_named (map string_bytes words.now)) AUDIT_FAULT (R.remaining reader.old) (E.contents err.old)
+        (E.contents err.new) }
 {
     let task = match matches_of(alloc, words) {
         Ok(matches) => task_in(&matches),

@@ -13,7 +13,7 @@ use crate::options::WORKERS;
 use crate::work::{Task, Work};
 use clap::error::ErrorKind;
 use clap::{Arg, ArgAction, ArgMatches, Command, Error};
-use seq_model::Memory;
+use seq_model::{ACTOR_LIMIT, Memory};
 use std::alloc::{AllocError, Global};
 
 /// What `--version` prints behind the program's name.
@@ -102,7 +102,7 @@ fn task_of_words(name: &str, words: &ArgMatches<'_>) -> Task
 }
 
 fn work_on_sessions(workers: u64) -> Work
-    requires { workers ≤ 64 }
+    requires { workers ≤ ACTOR_LIMIT }
     ensures work { result ≡ vacation_work workers }
     ensures doable { IsDoable (OnFile result) }
 {

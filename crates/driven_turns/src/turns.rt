@@ -121,8 +121,8 @@ fn store_next<V: Value>(
     }
 }
 
-/// A turn on a gate, or the first value store of a commit, as `turn` takes it. It stands apart since what these leave for a moment weighs on
-/// no turn on the words.
+/// A turn on a gate, or the first value store of a commit, as `turn` takes it. It stands apart since what these leave for a moment weighs
+/// on no turn on the words.
 fn turn_apart<V: Value>(
     alloc: Global,
     table: &TxTable<V>,

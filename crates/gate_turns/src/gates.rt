@@ -28,9 +28,9 @@ pub(crate) fn first<V: Value>(bases: &mut Vec<Base<V>>) -> Base<V>
     bases.remove(0)
 }
 
-/// A try on the gate of a collection. Where it was free its base comes into hand; where it was taken the thread yields, as the one that holds
-/// it may wait for a core, and at the 64th time the transaction is given up, `GateBusy`. Where memory is refused no step is taken, and the
-/// actor is as it was.
+/// A try on the gate of a collection. Where it was free its base comes into hand; where it was taken the thread yields, as the one that
+/// holds it may wait for a core, and at the 64th time the transaction is given up, `GateBusy`. Where memory is refused no step is taken,
+/// and the actor is as it was.
 pub fn try_gate<V: Value>(
     table: &TxTable<V>,
     seat: &mut Seat<V>,

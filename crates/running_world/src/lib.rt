@@ -15,6 +15,7 @@ mod trace;
 mod turns;
 mod world;
 
+pub use opening::ACTORS;
 pub use parts::Parts;
 pub use trace::{Ended, Trace};
 pub use world::{World, run_world};

@@ -2,12 +2,12 @@
 ghost use Rattle.std.specs.Prelude.{◌≡◌, IfOk, length};
 ghost use Rattle.running_world.specs.Openings.{AreIdle};
 
-use seq_model::Memory;
+use seq_model::{ACTOR_LIMIT, Memory};
 use std::alloc::Global;
 use tx_actor::TxActor;
 
 /// The actors of a world.
-pub const ACTORS: usize = 64;
+pub const ACTORS: usize = ACTOR_LIMIT as usize;
 
 /// The actors of a world, none of which has a transaction.
 pub fn actors<V: Drop>(alloc: Global) -> Result<Vec<TxActor<V>>, Memory>

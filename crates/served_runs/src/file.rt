@@ -12,7 +12,7 @@ use crate::inspection::{inspected, serve_lists};
 use crate::lines::lines_of_report;
 use crate::progress::{Progress, Receipts};
 use dealing::deal;
-use seq_model::{Memory, State};
+use seq_model::{ACTOR_LIMIT, Memory, State};
 use served_sessions::sessions_of;
 use session_output::{RunFault, SessionRun, text_of};
 use session_script::parse_sessions;
@@ -38,7 +38,7 @@ pub fn output_of<R: Threads + Wait + Sync, P: Progress + Sync>(
     workers: usize,
     progress: &P,
 ) -> Result<Vec<u8>, RunFault>
-    requires { (1 ≤ workers) × (workers ≤ 64) }
+    requires { (1 ≤ workers) × (workers ≤ ACTOR_LIMIT) }
     ensures output { IfOk result (λ bytes. IsServedOutput workers text.now bytes.items) }
     ensures refused { IfErr result (IsFileFault workers text.now) }
 {
@@ -55,7 +55,7 @@ fn run_dealt<R: Threads + Wait + Sync, P: Progress + Sync>(
     workers: usize,
     progress: &P,
 ) -> Result<SessionRun, RunFault>
-    requires workers { (1 ≤ workers) × (workers ≤ 64) }
+    requires workers { (1 ≤ workers) × (workers ≤ ACTOR_LIMIT) }
     requires balanced { IsBalanced tables }
     requires allowed { All IsAllowed actions.items }
     ensures run { IfOk result (IsServedRun workers tables actions.items) }
@@ -100,10 +100,10 @@ fn run_lists<R: Threads + Wait + Sync, P: Progress + Sync>(
     progress: &P,
 ) -> Result<SessionRun, RunFault>
     requires balanced { IsBalanced tables }
-    requires lists { (1 ≤ length lists.items) × (length lists.items ≤ 64) }
+    requires lists { (1 ≤ length lists.items) × (length lists.items ≤ ACTOR_LIMIT) }
     requires allowed { AreAllowed (in_lists lists.items) }
     requires same { in_lists sessions.now ≡ in_lists lists.items }
-    requires some { (1 ≤ length sessions.now) × (length sessions.now ≤ 64) }
+    requires some { (1 ≤ length sessions.now) × (length sessions.now ≤ ACTOR_LIMIT) }
     requires like { AreDealtLike (length sessions.now) total (in_lists sessions.now) }
     ensures run { IfOk result (IsToldRun tables (in_lists lists.items) total) }
     ensures refused { IfErr result (IsListsFault tables (in_lists lists.items) TRIES) }
@@ -126,10 +126,10 @@ fn run_from<R: Threads + Wait + Sync, P: Progress + Sync>(
 ) -> Result<SessionRun, RunFault>
     requires balanced { IsBalanced tables }
     requires opening { opening.now ≡ state_that_holds tables }
-    requires lists { (1 ≤ length lists.items) × (length lists.items ≤ 64) }
+    requires lists { (1 ≤ length lists.items) × (length lists.items ≤ ACTOR_LIMIT) }
     requires allowed { AreAllowed (in_lists lists.items) }
     requires same { in_lists sessions.now ≡ in_lists lists.items }
-    requires some { (1 ≤ length sessions.now) × (length sessions.now ≤ 64) }
+    requires some { (1 ≤ length sessions.now) × (length sessions.now ≤ ACTOR_LIMIT) }
     requires like { AreDealtLike (length sessions.now) total (in_lists sessions.now) }
     ensures run { IfOk result (IsToldRun tables (in_lists lists.items) total) }
     ensures refused { IfErr result (IsListsFault tables (in_lists lists.items) TRIES) }

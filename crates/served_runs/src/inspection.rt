@@ -7,7 +7,7 @@ ghost use Rattle.session_output.specs.Findings.{IsFinding, IsSound};
 ghost use Rattle.served_runs.specs.Runs as specs;
 
 use attempts::Pause;
-use seq_model::{Items, Memory, Record, Refusal, State};
+use seq_model::{ACTOR_LIMIT, Items, Memory, Record, Refusal, State};
 use serving::{Served, serve};
 use session_output::{RunFault, STRIPES, inspect};
 use std::alloc::Global;
@@ -27,7 +27,7 @@ pub(crate) fn serve_lists<R: Threads + Wait + Sync, P: Pause + Sync>(
     pause: &P,
 ) -> Result<Served, Memory>
     requires balanced { IsBalanced tables }
-    requires lists { (1 ≤ length lists.items) × (length lists.items ≤ 64) }
+    requires lists { (1 ≤ length lists.items) × (length lists.items ≤ ACTOR_LIMIT) }
     requires allowed { AreAllowed (in_lists lists.items) }
     requires some { 1 ≤ tries }
     ensures { IfOk result (IsServed tables (in_lists lists.items) tries) }

@@ -9,7 +9,7 @@ ghost use Rattle.served_runs.specs.Lines as specs;
 ghost use Rattle.served_runs.specs.Unread.{AreAllUnread, AreUnread, HasAllUnread, HasNext, HasUnread, IsFirst, IsNext, IsTold};
 
 use dealing::gather;
-use seq_model::{Memory, Record};
+use seq_model::{ACTOR_LIMIT, Memory, Record};
 use session_lines::line_of;
 use session_script::Line;
 use std::alloc::Global;
@@ -100,7 +100,7 @@ pub(crate) fn lines_of_report(
     total: usize,
     report: &Report<Entry>,
 ) -> Result<Vec<Line>, Memory>
-    requires some { (1 ≤ length sessions.now) × (length sessions.now ≤ 64) }
+    requires some { (1 ≤ length sessions.now) × (length sessions.now ≤ ACTOR_LIMIT) }
     requires like { AreDealtLike (length sessions.now) total (in_lists sessions.now) }
     requires there { HasAllUnread 1 (in_lists sessions.now) report.now.receipts report.now.missed }
     ensures { (outcomes : List (List (Outcome AnEntry)))

@@ -91,7 +91,8 @@ all_receipts [] (os ∷ more) are = absurd are
 all_receipts (actions ∷ lists) [] are = absurd are
 all_receipts (actions ∷ lists) (os ∷ more) are =
     map-append (λ (d : Action × Record Entry). d.1) (dealt actions os) (all_dealt lists more)
-    ∙ ap (λ (rs : List (Record Entry)). rs ++ map (λ (d : Action × Record Entry). d.1) (all_dealt lists more)) (receipts_dealt actions os are.0)
+    ∙ ap (λ (rs : List (Record Entry)). rs ++ map (λ (d : Action × Record Entry). d.1) (all_dealt lists more))
+    (receipts_dealt actions os are.0)
     ∙ ap (λ (rs : List (Record Entry)). receipts_in os ++ rs) (all_receipts lists more are.1)
     ∙ sym (flat_map-cons (λ (rs : List (Record Entry)). rs) (receipts_in os) (map receipts_in more))
 

@@ -1,6 +1,6 @@
 -- The receipts of the workers are a run of their actions.
--- The seat has gained just the receipts that are reported, so each of its receipts is one of an action's session (`paired`); in commit order
--- they are a run, which is what the law of whole sessions asks for. What is left is the state of tables, and only of these.
+-- The seat has gained just the receipts that are reported, so each of its receipts is one of an action's session (`paired`); in commit
+-- order they are a run, which is what the law of whole sessions asks for. What is left is the state of tables, and only of these.
 use Rattle.std.proofs.Common.{◌≡◌, ℕ, List, [], ◌∷◌, ◌++◌, refl, sym, ◌∙◌, ap, subst}
 use Rattle.std.proofs.lemmas.List.Elements.{All-cons, All-head, All-nil, All-tail}
 use Rattle.std.proofs.lemmas.List.Recursion.{is_sum_by}
@@ -108,7 +108,8 @@ served_so tables lists jobs t tries s u r report state balanced allowed same ope
       o.0,
       o.1,
       run_of tables lists report (view u.seat).receipts state t tries reported balanced allowed
-          (subst (λ (v : View Entry). records_of u ≡ map (λ e. e.1) v.receipts ++ flat_map (λ (rs : List (Record Entry)). rs) report.receipts)
+          (subst
+          (λ (v : View Entry). records_of u ≡ map (λ e. e.1) v.receipts ++ flat_map (λ (rs : List (Record Entry)). rs) report.receipts)
           opened.seat_is run.records)
           (subst (λ (c : Contents Entry). IsLeft c (view u.seat).receipts state) opened.contents left),
       reported,

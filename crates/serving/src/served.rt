@@ -10,13 +10,13 @@ ghost use Rattle.serving.specs.Serving.{AreAllowed, HasOpened, IsLeft, IsServed}
 
 use attempts::Pause;
 use conflict::is_stripe_count;
-use seq_model::{Items, Memory, Refusal, Shape, State};
+use seq_model::{ACTOR_LIMIT, Items, Memory, Refusal, Shape, State};
 use served_sessions::{are_allowed, sessions_of, tables_left};
 use std::alloc::Global;
 use std::sync::Wait;
 use std::thread::Threads;
 use transactions::TxSeat;
-use tx_table::TxTable;
+use tx_table::{SHARES, TxTable};
 use vac_model::{Action, Tables};
 use vacation_core::{Entry, Session, state_of};
 use workers::{Report, run_workers};
@@ -84,7 +84,7 @@ fn open(
 /// What the table holds once its last seat closes it.
 fn close(alloc: Global, table: TxTable<Entry>, seat: TxSeat<Entry>) -> Result<State<Entry>, Memory>
     requires ready { IsReady table seat }
-    requires all { (view seat.seat).shares ≡ 64 }
+    requires all { (view seat.seat).shares ≡ SHARES }
     ensures { IfOk result (IsLeft (contents_in table) (view seat.seat).receipts) }
 {
     let closed = seat.close(table);
@@ -104,7 +104,7 @@ fn serve_allowed<R: Threads + Wait + Sync, P: Pause + Sync>(
 ) -> Result<Served, Memory>
     requires balanced { IsBalanced tables.now }
     requires stripes { IsStripeCount stripes }
-    requires lists { (1 ≤ length lists.now) × (length lists.now ≤ 64) }
+    requires lists { (1 ≤ length lists.now) × (length lists.now ≤ ACTOR_LIMIT) }
     requires allowed { AreAllowed (jobs_of lists.now) }
     requires some { 1 ≤ tries }
     ensures { IfOk result (IsServed tables.now (jobs_of lists.now) tries) }
@@ -138,7 +138,7 @@ pub fn serve<R: Threads + Wait + Sync, P: Pause + Sync>(
     pause: &P,
 ) -> Result<Served, Refusal>
     requires balanced { IsBalanced tables }
-    requires lists { (1 ≤ length lists.items) × (length lists.items ≤ 64) }
+    requires lists { (1 ≤ length lists.items) × (length lists.items ≤ ACTOR_LIMIT) }
     requires some { 1 ≤ tries }
     ensures served { IfOk result (IsServed tables (jobs_of lists.items) tries) }
     ensures refused { IfErr result (λ refusal. IsTooLong refusal (IsStripeCount stripes × AreAllowed (jobs_of lists.items))) }

@@ -122,7 +122,8 @@ impl Runner {
     fn into_run(self, opening: State<u64>) -> Result<ScriptRun, Memory>
         ensures opening { IfOk result (λ run. run.opening ≡ opening) }
         ensures notices { IfOk result (λ run. run.notices ≡ self.notices) }
-        ensures trace { IfOk result (λ run. (o : Contents ℕ) (w : PureWorld ℕ) → IsReached o w → IsWorld self.world.parts w → IsTraceOf w run.trace) }
+        ensures trace { IfOk result (λ run. (o : Contents ℕ) (w : PureWorld ℕ) → IsReached o w → IsWorld self.world.parts w
+            → IsTraceOf w run.trace) }
         ensures serial { IfOk result (λ run. (o : Contents ℕ) → IsFrom o self.world.parts → IsSerialTrace o run.trace) }
     {
         let Runner {
@@ -180,7 +181,8 @@ impl Runner {
     }
 
     fn ask(&mut self, actor: u32, request: &Request<u64>) -> Result<bool, Memory>
-        ensures { IfOk result (λ quiet. HasPlayed (Keeps (IsOne (Event.Ask actor request.now) quiet) self.old.waiting.items self.new.waiting.items)
+        ensures { IfOk result (λ quiet. HasPlayed
+            (Keeps (IsOne (Event.Ask actor request.now) quiet) self.old.waiting.items self.new.waiting.items)
             self.old.world.parts self.old.notices self.new.world.parts self.new.notices) }
     {
         self.happen(Event::Ask(actor, request.try_copy()?))
@@ -199,7 +201,8 @@ impl Runner {
     }
 
     fn alternate(&mut self, first: u32, second: u32) -> Result<(), Memory>
-        ensures { OnOk result (HasPlayed (Keeps (AreTurns STEP_LIMIT first second self.old.waiting.items) self.old.waiting.items self.new.waiting.items)
+        ensures { OnOk result (HasPlayed
+            (Keeps (AreTurns STEP_LIMIT first second self.old.waiting.items) self.old.waiting.items self.new.waiting.items)
             self.old.world.parts self.old.notices self.new.world.parts self.new.notices) }
     {
         let mut actor = first;

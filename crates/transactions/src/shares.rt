@@ -11,7 +11,7 @@ ghost use Rattle.transactions.specs.Ready.{IsReady};
 use crate::seats::TxSeat;
 use seq_model::{Refusal, Shape, State, Value};
 use std::alloc::Global;
-use tx_table::{Closed, Seat, TxTable};
+use tx_table::{Closed, SHARES, Seat, TxTable};
 
 impl<V: Value> TxSeat<V> {
     /// A table that opens with these words and collections, and with this clock, and its first seat, which has all 64 shares. It is refused
@@ -73,7 +73,7 @@ impl<V: Value> TxSeat<V> {
     /// takes no memory.
     pub fn close(self, table: TxTable<V>) -> Closed<V>
         requires ready { IsReady table self }
-        requires all { (view self.seat).shares ≡ 64 }
+        requires all { (view self.seat).shares ≡ SHARES }
         ensures words { result.words ≡ words_in table }
         ensures locations { result.locations ≡ locations_in table }
         ensures collections { length (homes_of result) ≡ length (blocks_in table) }

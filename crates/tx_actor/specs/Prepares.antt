@@ -1,6 +1,7 @@
 -- What making a call ready leaves of an actor, and what it gives.
 use Rattle.std.specs.Prelude.{◌≡◌, ℕ, ◌+◌, ◌<◌, ◌≤◌, ◌^◌, Bool, true, false, List, Option, Some, None, length, slice_get}
 use Rattle.std.specs.Vec.{vec_capacity, vec_len}
+use Rattle.tx_sets.specs.declared.access_set.TheConstants.{LOCATION_LIMIT}
 use Rattle.seq_model.specs.declared.call.Op.{Op}
 use Rattle.conflict.specs.declared.outcome.Outcome.{Outcome}
 use Rattle.replay_log.specs.Base.{stripes_of}
@@ -37,7 +38,7 @@ pub record HasRoomFor {V : Type 0} (u : TxActor V) (i : ℕ) (o : Outcome V) (n 
   pub word_calls : vec_len u.words.calls + (n + m) ≤ vec_capacity u.words.calls
   pub reads : u.words.declared ≡ false → n ≤ u.words.reads.room
   pub writes : m ≤ u.words.writes.room
-  pub few : length u.words.writes.entries ≤ 4096
+  pub few : length u.words.writes.entries ≤ LOCATION_LIMIT
   pub ready : (c : CopyOf V) → slice_get u.copies.items i ≡ Some c → IsReady o c.copied
 
 -- A call on the copy at this place, of a collection that begins at location f, may be made ready: the copy holds it, its locations are

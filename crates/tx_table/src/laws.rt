@@ -97,7 +97,8 @@ pub fn gate_steps<V>()
         let alone = asked_all id (lone id o m.0.turns) asks in
         let outcomes = (alone.boosted.shadows id).outcomes in
         0 < m.0.shares → k < length blocks → m.1 ≡ (k, Some now) ∷ others → GoesHome alone id k → block_of blocks k ≡ Some b →
-        IsBaseOf b before → ShowsBase o.words blocks alone k before → IsFolded (log_changes k b outcomes) (log_locations k b outcomes) before now →
+        IsBaseOf b before → ShowsBase o.words blocks alone k before →
+        IsFolded (log_changes k b outcomes) (log_locations k b outcomes) before now →
         Allows (Rule o) slots id m (gate_address (end_of o.words blocks) k) (λ _. 0)
         (λ _ t. Told o id asks m.0.clock m 1 None t.0 × (t.1 ≡ others)) }
 {}
@@ -109,7 +110,8 @@ pub fn shares<V>()
     ensures split { (o : World V) (id k : ℕ) (v : View V) → IsOpening o → 0 < k → k < v.shares →
         Splits (Rule o) id v (left_of k v) (right_of k v) }
     ensures join { (o : World V) (id other : ℕ) (v u : View V) → 0 < v.shares → 0 < u.shares →
-        is_half_done (stage_of (lone other o u.turns) other) ≡ false → ((k : ℕ) → is_actor other ((lone other o u.turns).boosted.gates k) ≡ false) →
+        is_half_done (stage_of (lone other o u.turns) other) ≡ false →
+        ((k : ℕ) → is_actor other ((lone other o u.turns).boosted.gates k) ≡ false) →
         Joins (Rule o) id v other u (both_of v u) (spent_of u) }
 {}
 

@@ -2,11 +2,11 @@
 //!
 //! No view and no turn is ever made: the rule of the table speaks of them.
 use replay_log::Base;
-use seq_model::{Event, Items, Record, Shape, State};
+use seq_model::{ACTOR_LIMIT, Event, Items, Record, Shape, State};
 use std::snapshot::Snapshot;
 
-/// So many shares the seats of a table have together.
-pub const SHARES: u64 = 64;
+/// So many shares the seats of a table have together: one for each actor.
+pub const SHARES: u64 = ACTOR_LIMIT as u64;
 
 /// What a table opened with, as clauses see it.
 #[derive(Drop)]

@@ -26,6 +26,7 @@ use Rattle.tx_engine.specs.declared.job.Ask.TheVariants as ask
 use Rattle.tx_engine.specs.Programs.{Asks, Answers, GivesUp, after, asked, replies_of}
 use Rattle.vacation_core.specs.declared.entry.Entry.{Entry}
 use Rattle.vacation_core.specs.Sessions.{Plan, session}
+use Rattle.running_world.specs.declared.opening.TheConstants.{ACTORS}
 use Rattle.running_world.specs.Feeds.{Feeds}
 use Rattle.running_world.specs.Parts.{IsWorld}
 use Rattle.session_worlds.specs.Histories.{IsAt, action_in, done_in, world_in}
@@ -308,7 +309,7 @@ never_up i k v to place next k' =
 -- ---- a transaction is given up
 
 -- it stood open: the abort is quiet
-pub gives_up_open : (i : ℕ) (cause : Refusal) (v u t : VacWorld) (c : Client) (p : Play) → i < 64
+pub gives_up_open : (i : ℕ) (cause : Refusal) (v u t : VacWorld) (c : Client) (p : Play) → i < ACTORS
     → slice_get u.clients.items i ≡ Some c → Feeds v.world.parts (event.Ask (i + 1) request.Abort) u.world.parts Quiet
     → u.clients.items ≡ v.clients.items → u.aborted ≡ v.aborted → t.world ≡ u.world → t.aborted ≡ u.aborted
     → t.clients.items ≡ slice_set u.clients.items i (failed cause c) → Refusing i v p → Abandons i cause p true t

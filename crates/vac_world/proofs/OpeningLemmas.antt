@@ -6,6 +6,7 @@ use Rattle.vac_model.specs.Balanced.{IsBalanced}
 use Rattle.vac_model.specs.Holdings.{Holdings}
 use Rattle.vacation_core.specs.Holding.{state_of}
 use Rattle.world_table.specs.Openings.{blocks_of, world_of}
+use Rattle.running_world.specs.declared.opening.TheConstants.{ACTORS}
 use Rattle.running_world.specs.Parts.{IsWorld}
 use Rattle.tx_phases.specs.Phases.{Rests}
 use Rattle.vac_world.specs.Openings.{AreNew, eight, unplayed_on}
@@ -26,8 +27,8 @@ new_client (d ∷ ds) zero c new got = sym (some_same d c got) ∙ new.0
 new_client (d ∷ ds) (suc i) c new got = new_client ds i c new.1 got
 
 pub opens : (n : ℕ) (tables : Holdings) (v : VacWorld) → IsStripeCount n → IsBalanced tables
-    → IsWorld v.world.parts (world_of (eight n) 0 (state_of tables)) → length v.clients.items ≡ 64 → AreNew v.clients.items → v.aborted ≡ []
-    → IsPlay v (unplayed_on n tables)
+    → IsWorld v.world.parts (world_of (eight n) 0 (state_of tables)) → length v.clients.items ≡ ACTORS → AreNew v.clients.items
+    → v.aborted ≡ [] → IsPlay v (unplayed_on n tables)
 opens n tables v count balanced parts many new none =
     let s : IsSound (unplayed_on n tables) =
     sound_unplayed (blocks_of (eight n) (state_of tables).held) tables (stripes n tables count)

@@ -18,6 +18,7 @@ use Rattle.replay_log.proofs.RequestLemmas.{happens_by}
 use Rattle.vac_model.specs.declared.action.Action.{Action}
 use Rattle.vacation_core.specs.declared.entry.Entry.{Entry}
 use Rattle.vacation_core.specs.Holding.{state_of}
+use Rattle.running_world.specs.declared.opening.TheConstants.{ACTORS}
 use Rattle.running_world.specs.Feeds.{Feeds}
 use Rattle.running_world.specs.Parts.{IsWorld}
 use Rattle.running_world.specs.Worlds.{WorldShown}
@@ -44,10 +45,10 @@ pub use Rattle.session_runs.proofs.ClientLemmas.{reached}
 
 -- ---- places
 
-pub actor_at : (i : ℕ) → i < 64 → is_actor (i + 1) ≡ true
+pub actor_at : (i : ℕ) → i < ACTORS → is_actor (i + 1) ≡ true
 actor_at i inside = by (i + 1) (omega arith) (omega arith)
   where
-    by : (a : ℕ) → 1 ≤ a → a ≤ 64 → is_actor a ≡ true
+    by : (a : ℕ) → 1 ≤ a → a ≤ ACTORS → is_actor a ≡ true
     by a low high = grind (arith, nat_tests)
 
 suc_apart : (i j : ℕ) → (j ≡ i → ⊥) → i + 1 ≡ j + 1 → ⊥
@@ -154,7 +155,7 @@ absent_turned p e action is absent a isnt =
         true_false : true ≡ false → ⊥
         true_false e = cc
 
-pub on_turned : (i : ℕ) (v u : VacWorld) (p : Play) (e : Event Entry) (action : Action) (n : Notice Entry) → i < 64 → whose e ≡ i + 1
+pub on_turned : (i : ℕ) (v u : VacWorld) (p : Play) (e : Event Entry) (action : Action) (n : Notice Entry) → i < ACTORS → whose e ≡ i + 1
     → May p e action → Feeds v.world.parts e u.world.parts n → u.clients.items ≡ v.clients.items → u.aborted ≡ v.aborted → IsOn v p
     → IsOn u (turned e action p)
 on_turned i v u p e action n inside own may f clients aborted on =
@@ -170,7 +171,7 @@ on_turned i v u p e action n inside own may f clients aborted on =
       absent = absent_turned p e action is on.absent;
     }
 
-pub own_told : (i : ℕ) (v u : VacWorld) (p : Play) (e : Event Entry) (n : Notice Entry) → i < 64 → whose e ≡ i + 1
+pub own_told : (i : ℕ) (v u : VacWorld) (p : Play) (e : Event Entry) (n : Notice Entry) → i < ACTORS → whose e ≡ i + 1
     → Feeds v.world.parts e u.world.parts n → IsOn v p → n ≡ told e p
 own_told i v u p e n inside own f on =
     told_of p e v.world.parts u.world.parts n (ap is_actor own ∙ actor_at i inside) on.lawful on.parts f
@@ -258,7 +259,7 @@ starve_hearing p a c n same some k =
     }
 
 -- the client at place i is told of a step, or a want of memory, of its session
-pub hears_step : (i : ℕ) (v u : VacWorld) (c : Client) (p : Play) (n : Notice Entry) → i < 64 → slice_get v.clients.items i ≡ Some c
+pub hears_step : (i : ℕ) (v u : VacWorld) (c : Client) (p : Play) (n : Notice Entry) → i < ACTORS → slice_get v.clients.items i ≡ Some c
     → has_open c ≡ true → Feeds v.world.parts (event.Step (i + 1)) u.world.parts n → u.clients.items ≡ v.clients.items
     → u.aborted ≡ v.aborted → IsPlay v p → Hears i n u (moved (i + 1) (event.Step (i + 1)) p)
 hears_step i v u c p n inside got some f clients aborted k =
@@ -274,7 +275,7 @@ hears_step i v u c p n inside got some f clients aborted k =
           (k.clients i d (ap (λ (cs : List Client). slice_get cs i) (sym clients) ∙ there));
     }
 
-pub hears_starve : (i : ℕ) (v u : VacWorld) (c : Client) (p : Play) (n : Notice Entry) → i < 64 → slice_get v.clients.items i ≡ Some c
+pub hears_starve : (i : ℕ) (v u : VacWorld) (c : Client) (p : Play) (n : Notice Entry) → i < ACTORS → slice_get v.clients.items i ≡ Some c
     → has_open c ≡ true → Feeds v.world.parts (event.Starve (i + 1)) u.world.parts n → u.clients.items ≡ v.clients.items
     → u.aborted ≡ v.aborted → IsPlay v p → Hears i n u (moved (i + 1) (event.Starve (i + 1)) p)
 hears_starve i v u c p n inside got some f clients aborted k =

@@ -9,6 +9,7 @@ use Rattle.seq_model.specs.declared.limits.TheConstants.{CALL_LIMIT}
 use Rattle.seq_model.specs.declared.refusal.Refusal.{Refusal}
 use Rattle.step_core.specs.Shown.{is_actor}
 use Rattle.replay_log.specs.Worlds.{Open}
+use Rattle.running_world.specs.declared.opening.TheConstants.{ACTORS}
 use Rattle.running_world.specs.Parts.{IsWorld}
 use Rattle.vac_model.specs.declared.action.Action.{Action}
 use Rattle.tx_engine.specs.declared.job.Ask.{Ask as Asked}
@@ -80,7 +81,7 @@ pub record IsOn (v : VacWorld) (p : Play) : Type 0 where
   pub lawful : IsLawful p.history
   pub goes_on : p.given_up ≡ []
   pub parts : IsWorld v.world.parts (world_in p.history)
-  pub count : length v.clients.items ≡ 64
+  pub count : length v.clients.items ≡ ACTORS
   pub aborted : v.aborted ≡ p.aborted
   pub absent : (a : ℕ) → is_actor a ≡ false → done_in a p.history ≡ []
 
@@ -166,8 +167,8 @@ GoesOn i k to false v = IsPlay v to
 
 -- there is a client at place i
 pub record HasPlace (i : ℕ) (v : VacWorld) : Type 0 where
-  pub inside : i < 64
-  pub count : length v.clients.items ≡ 64
+  pub inside : i < ACTORS
+  pub count : length v.clients.items ≡ ACTORS
 
 -- the session of the client at place i asks this next
 abbrev pub AsksNext : ℕ → VacWorld → Asked Entry → Type 0

@@ -17,7 +17,7 @@ ghost use Rattle.vac_world.specs.Running.{AsksNext, AsksOn, Abandons, Called, Go
 
 use crate::client::Client;
 use crate::events::VacEvent;
-use running_world::World;
+use running_world::{ACTORS, World};
 use seq_model::{Answer, Call, Event, Items, Memory, Notice, Refusal, Request};
 use served_sessions::session_of;
 use session_runs::open;
@@ -25,9 +25,6 @@ use std::alloc::Global;
 use tx_engine::Ask;
 use vac_model::{Action, Tables};
 use vacation_core::Entry;
-
-/// The clients of a world are so many.
-const ACTORS: usize = 64;
 
 /// So many requests of a session are answered at once at most, one for each call that a transaction may have.
 const REQUEST_LIMIT: u32 = 4097;
@@ -55,7 +52,7 @@ fn place_of(actor: u32) -> Option<usize>
 
 /// The number of the client at this place.
 fn actor_at(i: usize) -> u32
-    requires { i < 64 }
+    requires { i < ACTORS }
     ensures { result ≡ i + 1 }
 {
     i as u32 + 1
@@ -70,7 +67,7 @@ fn is_mistaken(cause: Refusal) -> bool
 
 /// The clients of a world, none of which has begun a session.
 fn clients(alloc: Global) -> Result<Vec<Client>, Memory>
-    ensures count { IfOk result (λ clients. length clients.items ≡ 64) }
+    ensures count { IfOk result (λ clients. length clients.items ≡ ACTORS) }
     ensures new { IfOk result (λ clients. AreNew clients.items) }
 {
     let mut clients = Vec::with_capacity(alloc, ACTORS)?;

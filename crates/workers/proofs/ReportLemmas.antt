@@ -1,8 +1,8 @@
 -- The report of a run.
 -- The lists that a tree was made of are its workers, from left to right, numbered from the first; the parts of a report for the workers of
--- the left half and for those of the right one, one after the other, are a report for all of them. So what is gathered from a tree from left
--- to right is the report of its lists, and for that there is room: there is one list of receipts for each list, and no more missed jobs
--- than jobs.
+-- the left half and for those of the right one, one after the other, are a report for all of them. So what is gathered from a tree from
+-- left to right is the report of its lists, and for that there is room: there is one list of receipts for each list, and no more missed
+-- jobs than jobs.
 use Rattle.std.proofs.Common.{◌≡◌, ℕ, suc, ◌+◌, ◌<◌, ◌≤◌, List, [], ◌∷◌, ◌++◌, length, refl, sym, ap, ap₂, ◌∙◌, arith}
 use Rattle.std.specs.Prelude.{flat_map, get_or, sum_by, take}
 use Rattle.std.specs.declared.alloc.Global.{Global}
@@ -154,7 +154,8 @@ module _ {V J : Type 0} (asks : J → List (Reply V) → Ask V → Type 0) (t : 
       let b = few_missed_of r h.1 in
       omega (arith, length-append (missed_of l) (missed_of r), sum_by-append (λ (w : ℕ × List J). length w.1) (works l) (works r))
 
-  module _ (lists : List (Vec J Global)) (before u : Tree V J) (of : IsTreeOf lists before) (same : works u ≡ works before) (done : AreDone asks t tries u) where
+  module _ (lists : List (Vec J Global)) (before u : Tree V J) (of : IsTreeOf lists before) (same : works u ≡ works before)
+      (done : AreDone asks t tries u) where
     pub lists_fit : length (lists_of u) ≡ length lists
     lists_fit =
         let k = as_many_lists u in

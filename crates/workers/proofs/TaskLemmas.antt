@@ -1,6 +1,6 @@
 -- A worker's list, job by job.
--- The outcomes of the jobs so far and that of the next one are those of the jobs up to it: its receipt comes last among the receipts, or its
--- cause last among the missed ones, with the number of the jobs before it as its place.
+-- The outcomes of the jobs so far and that of the next one are those of the jobs up to it: its receipt comes last among the receipts, or
+-- its cause last among the missed ones, with the number of the jobs before it as its place.
 use Rattle.std.proofs.Common.{◌≡◌, ℕ, suc, ◌+◌, ◌<◌, ◌≤◌, List, [], ◌∷◌, ◌++◌, length, Ok, Err, inl, inr, refl, sym, ap, ◌∙◌, subst, arith}
 use Rattle.std.specs.Prelude.{get_or, map, take}
 use Rattle.std.proofs.lemmas.List.{append-nil, append_assoc, length-take-le, map-append, take_more}
@@ -169,8 +169,8 @@ module _ {V J : Type 0} (asks : J → List (Reply V) → Ask V → Type 0) (t : 
       → IsDone asks t tries task
   all_tried task n s u e ready h =
       let all : take n task.jobs.items ≡ task.jobs.items = rw e (take-length task.jobs.items) in
-      weaker (λ os. AreTried asks t tries (take n task.jobs.items) os s u) (AreOutcomes asks t tries task.worker task.jobs.items) task.worker
-      task.receipts.items task.missed.items
+      weaker (λ os. AreTried asks t tries (take n task.jobs.items) os s u) (AreOutcomes asks t tries task.worker task.jobs.items)
+      task.worker task.receipts.items task.missed.items
       (λ os k. inl (s, u, ready, subst (λ (js : List J). AreTried asks t tries js os s u) all k)) h
 
   pub left_done : (task : Task V J) → 1 < task.worker → IsLeft task → IsDone asks t tries task
@@ -178,7 +178,8 @@ module _ {V J : Type 0} (asks : J → List (Reply V) → Ask V → Type 0) (t : 
       weaker (AreNotStarted task.jobs.items) (AreOutcomes asks t tries task.worker task.jobs.items) task.worker task.receipts.items
       task.missed.items (λ os k. inr (lt, k)) h
 
-  pub many_outcomes : (worker : ℕ) (jobs : List J) (os : List (Outcome V)) → AreOutcomes asks t tries worker jobs os → length os ≡ length jobs
+  pub many_outcomes : (worker : ℕ) (jobs : List J) (os : List (Outcome V)) → AreOutcomes asks t tries worker jobs os
+      → length os ≡ length jobs
   many_outcomes worker jobs os (inl (s, u, ready, h)) = many_tried jobs os s u h
   many_outcomes worker jobs os (inr h) = many_left jobs os h.1
 
@@ -203,7 +204,8 @@ module _ {V : Type 0} where
     pub tried_gains : (tries : ℕ) (s u : TxSeat V) (o : Outcome V) → IsTried asks t tries s u o → Gains s u (receipt_in o)
     tried_gains tries s u (Ok r) h = record {
       shares = h.receipt.shares;
-      records = ap (λ (es : List (ℕ × Record V)). map (λ e. e.1) es) h.receipt.gains ∙ map-append (λ (e : ℕ × Record V). e.1) (view s.seat).receipts ((actor s.seat, r) ∷ []);
+      records = ap (λ (es : List (ℕ × Record V)). map (λ e. e.1) es) h.receipt.gains
+          ∙ map-append (λ (e : ℕ × Record V). e.1) (view s.seat).receipts ((actor s.seat, r) ∷ []);
     }
     tried_gains tries s u (Err cause) h = record {
       shares = h.none.keeps.shares;

@@ -45,7 +45,13 @@ module _ {V : Type 0} (asks : List (Reply V) → Ask V → Type 0) (t : TxTable 
       → HasNoReceipt asks t tries s u (last.Refused cause)
   refused_last n tries s m u cause few h all comes = record {
     keeps = then_keeps s m u h.keeps comes.0;
-    ends = record { before = n; few = few; all = all; at = m; last = record { causes = h.causes; many = h.many; vain = h.vain; comes = comes } };
+    ends = record {
+      before = n;
+      few = few;
+      all = all;
+      at = m;
+      last = record { causes = h.causes; many = h.many; vain = h.vain; comes = comes };
+    };
   }
 
   -- all that are to be

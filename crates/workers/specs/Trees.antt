@@ -1,6 +1,7 @@
 -- The lists of jobs as a tree of halves, from left to right, and what came of them.
 use Rattle.std.specs.Prelude.{◌≡◌, ℕ, ◌+◌, ◌<◌, ◌≤◌, List, [], ◌∷◌, ◌++◌}
 use Rattle.seq_model.specs.declared.call.Reply.{Reply}
+use Rattle.seq_model.specs.declared.limits.TheConstants.{ACTOR_LIMIT}
 use Rattle.seq_model.specs.declared.record.Record.{Record}
 use Rattle.tx_engine.specs.declared.job.Ask.{Ask}
 use Rattle.tx_table.specs.declared.table.TxTable.{TxTable}
@@ -79,5 +80,5 @@ pub record CanRun {V J : Type 0} (table : TxTable V) (s : TxSeat V) (t : Tree V 
   pub ready : IsReady table s
   pub shares : leaves t ≤ (view s.seat).shares
   pub some : 1 ≤ leaves t
-  pub few : leaves t ≤ 64
+  pub few : leaves t ≤ ACTOR_LIMIT
   pub fresh : IsFresh t

@@ -7,7 +7,7 @@ ghost use Rattle.workers.specs.Trees.{AreOthers, CanRun, IsFresh, Ran, leaves};
 
 use crate::tree::Tree;
 use attempts::Pause;
-use seq_model::Value;
+use seq_model::{ACTOR_LIMIT, Value};
 use std::alloc::Global;
 use std::snapshot::Snapshot;
 use std::sync::Wait;
@@ -69,7 +69,7 @@ pub fn share<
     requires some { 1 ≤ tries }
     requires ready { IsReady table.now seat }
     requires shares { leaves tree.value ≤ (view seat.seat).shares }
-    requires few { leaves tree.value ≤ 64 }
+    requires few { leaves tree.value ≤ ACTOR_LIMIT }
     requires fresh { IsFresh tree.value }
     ensures { Ran J.asks table.now tries seat result.0 tree.value result.1.value }
 {

@@ -67,7 +67,8 @@ impl<V: Value> Draft<V> {
         requires missed { vec_len self.old.missed + length (missed_of tree) ≤ vec_capacity self.old.missed }
         ensures receipts { self.new.receipts.items ≡ self.old.receipts.items ++ lists_of tree }
         ensures missed { self.new.missed.items ≡ self.old.missed.items ++ missed_of tree }
-        ensures room { (vec_capacity self.new.receipts ≡ vec_capacity self.old.receipts) × (vec_capacity self.new.missed ≡ vec_capacity self.old.missed) }
+        ensures room { (vec_capacity self.new.receipts ≡ vec_capacity self.old.receipts)
+            × (vec_capacity self.new.missed ≡ vec_capacity self.old.missed) }
     {
         match tree {
             Tree::Taken => {}

@@ -11,7 +11,7 @@ use crate::lists::tree_of;
 use crate::report::{Draft, Report};
 use crate::tree::Tree;
 use attempts::Pause;
-use seq_model::{Memory, Value};
+use seq_model::{ACTOR_LIMIT, Memory, Value};
 use std::alloc::Global;
 use std::sync::Wait;
 use std::thread::Threads;
@@ -24,7 +24,7 @@ fn prepare<V: Value, J: Job<V> + Drop>(
     alloc: Global,
     mut lists: Vec<Vec<J>>,
 ) -> Result<(Draft<V>, Box<Tree<V, J>>), Memory>
-    requires lists { (1 ≤ length lists.items) × (length lists.items ≤ 64) }
+    requires lists { (1 ≤ length lists.items) × (length lists.items ≤ ACTOR_LIMIT) }
     ensures draft { IfOk result (λ made. HasRoomFor lists.items made.0) }
     ensures tree { IfOk result (λ made. IsTreeOf lists.items made.1.value) }
 {
@@ -36,8 +36,8 @@ fn prepare<V: Value, J: Job<V> + Drop>(
 
 /// Runs each list of jobs by a worker of its own, at this table: the worker 1 by the seat that is handed in, each other one by a thread and
 /// by a seat that gets one of its shares and is joined again. A worker takes its jobs in order, each with at most so many attempts
-/// (`retry`); where no thread can be started for it, they are missed as `NotStarted`. It returns once all workers have ended, with the seat,
-/// which has its shares again, has gained just the receipts that are reported, and has no transaction.
+/// (`retry`); where no thread can be started for it, they are missed as `NotStarted`. It returns once all workers have ended, with the
+/// seat, which has its shares again, has gained just the receipts that are reported, and has no transaction.
 ///
 /// `Memory` where what the workers fill can't be had, before any of them has started: the seat has gained nothing.
 pub fn run_workers<
@@ -56,7 +56,7 @@ pub fn run_workers<
 ) -> (TxSeat<V>, Result<Report<V>, Memory>)
     requires some { 1 ≤ tries }
     requires ready { IsReady table.now seat }
-    requires lists { (1 ≤ length lists.items) × (length lists.items ≤ 64) }
+    requires lists { (1 ≤ length lists.items) × (length lists.items ≤ ACTOR_LIMIT) }
     requires shares { length lists.items ≤ (view seat.seat).shares }
     ensures ready { IsReady table.now result.0 }
     ensures rests { standing (opening_of table.now) result.0.seat ≡ Rests }

@@ -3,7 +3,7 @@ ghost use Rattle.std.specs.Prelude.{◌≡◌, ◌≤◌, []};
 ghost use Rattle.workers.specs.Trees.{AreLeft, AreOthers, IsFresh, gained, leaves, works};
 
 use crate::tasks::Task;
-use seq_model::Value;
+use seq_model::{ACTOR_LIMIT, Value};
 use tx_engine::Job;
 
 /// The lists of jobs of some workers, halved and halved again.
@@ -18,7 +18,7 @@ pub enum Tree<V, J> {
 impl<V: Value, J: Job<V>> Tree<V, J> {
     /// How many lists there are.
     pub fn count(&self) -> u64
-        requires few { leaves self.now ≤ 64 }
+        requires few { leaves self.now ≤ ACTOR_LIMIT }
         ensures count { result ≡ leaves self.now }
         ensures some { 1 ≤ leaves self.now }
     {

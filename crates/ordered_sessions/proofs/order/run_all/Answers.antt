@@ -23,7 +23,8 @@ pub loop-action-preserved : goal.loop-action-preserved
 loop-action-preserved c =
     one_more c.args.actions.now c.loop-action.action-index c.action-item.result c.args.world.now.parts c.loop-action.world.parts
     c.run_session.new.world.parts c.loop-action-test.true c.action-item.is c.requires.few c.loop-action.invariant
-    (subst (λ (a : Action). Runs a c.loop-action.world.parts c.run_session.new.world.parts) c.in_ok-session.ensures c.in_ok-run_session.ensures)
+    (subst (λ (a : Action). Runs a c.loop-action.world.parts c.run_session.new.world.parts) c.in_ok-session.ensures
+    c.in_ok-run_session.ensures)
 
 pub returns : goal.returns
 returns c =

@@ -7,25 +7,28 @@ use Rattle.workers.proofs.run.run_workers.Goals as goal
 pub filled-requires-clause-receipts : goal.filled-requires-clause-receipts
 filled-requires-clause-receipts g c =
     let ran = c.share-seat.ensures in
-    let fit = lists_fit g.J.Job.asks c.args.table.now c.args.tries c.args.lists.items c.in-Ok.tree.value c.share-seat.result.1.value c.in-Ok.ensures.tree ran.works_are ran.done in
+    let fit = lists_fit g.J.Job.asks c.args.table.now c.args.tries c.args.lists.items c.in-Ok.tree.value c.share-seat.result.1.value
+    c.in-Ok.ensures.tree ran.works_are ran.done in
     let room = c.in-Ok.ensures.draft.receipts in
     omega arith
 
 pub filled-requires-clause-missed : goal.filled-requires-clause-missed
 filled-requires-clause-missed g c =
     let ran = c.share-seat.ensures in
-    let fit = missed_fit g.J.Job.asks c.args.table.now c.args.tries c.args.lists.items c.in-Ok.tree.value c.share-seat.result.1.value c.in-Ok.ensures.tree ran.works_are ran.done in
+    let fit = missed_fit g.J.Job.asks c.args.table.now c.args.tries c.args.lists.items c.in-Ok.tree.value c.share-seat.result.1.value
+    c.in-Ok.ensures.tree ran.works_are ran.done in
     let room = c.in-Ok.ensures.draft.missed in
     omega arith
 
 pub returns-in-Ok-clause-report : goal.returns-in-Ok-clause-report
 returns-in-Ok-clause-report g c =
     let ran = c.share-seat.ensures in
-    is_report g.J.Job.asks c.args.table.now c.args.tries c.args.lists.items c.in-Ok.tree.value c.share-seat.result.1.value c.in-Ok.ensures.tree ran.works_are ran.done
-    c.filled.result c.filled.ensures.receipts c.filled.ensures.missed
+    is_report g.J.Job.asks c.args.table.now c.args.tries c.args.lists.items c.in-Ok.tree.value c.share-seat.result.1.value
+    c.in-Ok.ensures.tree ran.works_are ran.done c.filled.result c.filled.ensures.receipts c.filled.ensures.missed
 
 pub returns-in-Ok-clause-gains : goal.returns-in-Ok-clause-gains
 returns-in-Ok-clause-gains g c =
     let after = c.share-seat.result.1.value in
-    let all = keeps_gains c.args.seat c.share-seat.result.0 c.abort.new.self (gained after) c.share-seat.ensures.gains c.abort.ensures.keeps in
+    let all = keeps_gains c.args.seat c.share-seat.result.0 c.abort.new.self (gained after) c.share-seat.ensures.gains
+    c.abort.ensures.keeps in
     rw (c.filled.ensures.receipts, flat_gained after) all

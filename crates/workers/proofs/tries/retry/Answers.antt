@@ -67,5 +67,5 @@ returns-then-not-is_transient-clause-none g c =
 pub returns-clause-none : goal.returns-clause-none
 returns-clause-none g c =
     let end : c.tries.i ≡ c.args.tries = search rules in
-    all_in_vain (g.J.Job.asks c.args.job.now) c.args.table.now c.tries.i c.args.tries c.args.seat.now.seat c.tries.seat.seat c.tries.last end
-    c.requires.some c.tries.invariant.none
+    all_in_vain (g.J.Job.asks c.args.job.now) c.args.table.now c.tries.i c.args.tries c.args.seat.now.seat c.tries.seat.seat c.tries.last
+    end c.requires.some c.tries.invariant.none
