@@ -1,4 +1,4 @@
-use Rattle.std.proofs.Common.{◌≡◌, ◌+◌, ◌≤◌, None}
+use Rattle.std.proofs.Common.{◌≡◌, ◌≤◌, None}
 use Rattle.tx_table.specs.Opening.{world_at}
 use Rattle.tx_table.specs.Shown.{highest_clock, Told, Went}
 use Rattle.tx_table.proofs.steps.load_first.Given as goal

@@ -1,4 +1,4 @@
-use Rattle.std.proofs.Common.{◌≡◌, ◌+◌, ◌≤◌}
+use Rattle.std.proofs.Common.{◌≡◌, ◌≤◌}
 use Rattle.tx_table.specs.Shown.{highest_clock, looking}
 use Rattle.tx_table.proofs.table.TxTable.look.Given as goal
 
