@@ -1,5 +1,5 @@
 -- What a text is read as: where it is a numeral that 64 bits hold `parse` gives its number, and else it gives none.
-use Rattle.std.proofs.Common.{◌≡◌, ◌^◌, ◌<◌, ◌≤◌, ℕ, Bool, true, false, List, Result, Ok, Err, refl, sym, arith, if◌then◌else◌, ap}
+use Rattle.std.proofs.Common.{◌≡◌, ◌^◌, ℕ, Bool, true, false, List, Result, Ok, Err, refl, sym, arith}
 use Rattle.std.specs.Str.Parse.{ParsesUnsigned}
 use Rattle.clap.specs.ValueTests.{is_unsigned_in}
 use Rattle.clap.specs.declared.builder.value_parser.ValueParser.TheVariants.{Unsigned}

@@ -9,10 +9,8 @@ use Rattle.std.proofs.lemmas.List.{append-nil, append_assoc}
 use Rattle.seq_model.specs.declared.call.Call.{Call}
 use Rattle.seq_model.specs.declared.call.Reply.{Reply}
 use Rattle.seq_model.specs.declared.event.Event.TheVariants.{Starve}
-use Rattle.seq_model.specs.declared.event.Notice.{Notice}
 use Rattle.seq_model.specs.declared.event.Notice.TheVariants.{Answered, Refused}
 use Rattle.seq_model.specs.declared.record.Record.{Record}
-use Rattle.seq_model.specs.declared.refusal.Refusal.{Refusal}
 use Rattle.seq_model.specs.declared.refusal.Refusal.TheVariants.{OutOfMemory}
 use Rattle.replay_log.proofs.AnswerLemmas.{starves}
 use Rattle.replay_log.specs.Seats as worlds
@@ -37,7 +35,7 @@ use Rattle.tx_turns.specs.Asked.{Starved}
 use Rattle.tx_turns.specs.Ties.{Ties}
 use Rattle.driven_turns.proofs.NextLemmas.{IsHalfway, wants_halfway}
 use Rattle.driven_turns.proofs.SinceLemmas.{told_back}
-use Rattle.driven_turns.specs.Driven.{Driven, HasTold, IsTrue, Stops, WantsMemory, seat_in, standing}
+use Rattle.driven_turns.specs.Driven.{Driven, IsTrue, Stops, WantsMemory, seat_in, standing}
 
 module _ {V : Type 0} where
   -- ---- a transaction that is being given up

@@ -2,7 +2,7 @@
 --
 -- Where a request is under way its actor is not at rest, and its own world has no stage with nothing left to try, to load, to take home or
 -- to put back: so some step is due. One that takes memory is due to a call, or to a commit without a record.
-use Rattle.std.proofs.Common.{◌≡◌, ℕ, true, false, List, [], ◌∷◌, Option, inl, inr, refl, sym, ap, ◌∙◌}
+use Rattle.std.proofs.Common.{◌≡◌, ℕ, true, false, List, [], ◌∷◌, Option, inl, inr, refl, sym, ◌∙◌}
 use Rattle.word_machine.specs.Actor as machine
 use Rattle.word_machine.specs.Actor.{Place}
 use Rattle.seq_model.specs.declared.call.Call.{Call}

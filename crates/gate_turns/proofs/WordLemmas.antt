@@ -2,14 +2,14 @@
 --
 -- None of them is on a gate, so the actor holds the gates that it held, and each base stands; what the actor has of collections is told in
 -- the world in which the step has happened. While a call is read for no gate is held.
-use Rattle.std.proofs.Common.{◌≡◌, ℕ, true, false, true≢false, List, [], Option, Some, None, Result, refl, sym, ap, ◌∙◌, subst}
+use Rattle.std.proofs.Common.{◌≡◌, ℕ, true, false, true≢false, List, [], Option, None, Result, refl, sym, ap, ◌∙◌, subst}
 use Rattle.word_machine.specs.World.{plan}
 use Rattle.word_machine.specs.Cells.{Cell, cell, learns, word_of}
 use Rattle.replay_log.specs.declared.base.Base.{Base}
 use Rattle.replay_log.specs.Contents.{Asked}
 use Rattle.replay_log.specs.Seats.{World, Copying, Ready, Stage}
 use Rattle.replay_log.specs.Worlds.{run}
-use Rattle.atomic_steps.specs.Spots.{Gate, Spot, Word, deed_of, number_at, spot_at, spot_of}
+use Rattle.atomic_steps.specs.Spots.{Gate, Spot, Word, deed_of, number_at, spot_at}
 use Rattle.atomic_steps.specs.Steps.{ready_at}
 use Rattle.atomic_steps.specs.Tells.{tells}
 use Rattle.step_core.specs.Answers.{result_of}
@@ -42,7 +42,7 @@ use Rattle.actor_turns.proofs.StepLemmas.{first_is, quiet_first}
 use Rattle.tx_table.specs.declared.seat.Seat as table
 use Rattle.tx_table.specs.declared.table.TxTable.{TxTable}
 use Rattle.tx_table.specs.Seated as seated
-use Rattle.tx_table.specs.Seated.{Takes, acts, opening_of, out}
+use Rattle.tx_table.specs.Seated.{acts, opening_of, out}
 use Rattle.tx_table.specs.Turns.{moved, spot}
 use Rattle.tx_threads.specs.Touches.{StepsWords}
 use Rattle.tx_turns.specs.Ties.{IsOnWord, Ties, Turned, laid_in}

@@ -1,42 +1,27 @@
 -- A call whose gate is held is copied: the step of its seat is the store of the gate on the table, and then what the actor makes of what it
 -- took, as in each world that events have reached and whose base this is.
-use Rattle.std.proofs.Common.{◌≡◌, ℕ, ◌<◌, Bool, true, false, List, [], ◌∷◌, Option, Some, None, refl, sym, ap, ◌∙◌, subst}
-use Rattle.std.specs.Prelude.{length, slice_get}
-use Rattle.word_machine.specs.Actor as machine
+use Rattle.std.proofs.Common.{◌≡◌, ℕ, Bool, true, false, [], ◌∷◌, Option, Some, sym, ◌∙◌, subst}
+use Rattle.std.specs.Prelude.{slice_get}
 use Rattle.seq_model.specs.Contents.{Contents}
 use Rattle.seq_model.specs.declared.event.Event.TheVariants.{Step}
-use Rattle.conflict.specs.declared.outcome.Outcome.{Outcome}
 use Rattle.collection_machine.specs.Boosted.{Action, PutGate, is_actor, is_committing}
 use Rattle.replay_log.specs.declared.base.Base.{Base}
-use Rattle.replay_log.specs.Base.{outcome_of, shown_of}
 use Rattle.replay_log.specs.Contents as contents
-use Rattle.replay_log.specs.Contents.{Block, block_of}
 use Rattle.replay_log.specs.Guards.{IsAllowed, step_action}
-use Rattle.replay_log.specs.Worlds as worlds
-use Rattle.replay_log.specs.Worlds.{World, Seat, Stage, After, acted, actor_of, happens, may_ask, step_at}
-use Rattle.replay_log.proofs.ContentLemmas.{positive_at}
-use Rattle.atomic_steps.specs.Bases.{IsBaseOf, ShowsBase}
+use Rattle.replay_log.specs.Worlds.{World, acted, actor_of, happens}
 use Rattle.atomic_steps.proofs.OneStep.{one_step}
 use Rattle.actor_words.specs.Blocks.{BlocksView, IsLaid}
-use Rattle.actor_words.specs.Dispatch.{AreSteps, IsDue, is_loading, next_of}
+use Rattle.actor_words.specs.Dispatch.{AreSteps, next_of}
 use Rattle.actor_words.specs.Requests.{HasNoReads}
 use Rattle.actor_words.specs.declared.next.Next.TheVariants as next
-use Rattle.actor_copies.specs.declared.copies.Copied.{Copied}
-use Rattle.actor_copies.specs.declared.copies.Found.{Found}
-use Rattle.actor_copies.specs.Copied.{CopiesFor, CopiesGoOn, CopiesReached, IsCopyFor, IsReadOf, IsTaken}
-use Rattle.actor_copies.specs.Copies.{IsFound, holds_of}
-use Rattle.actor_copies.specs.Kept.{copy_of}
-use Rattle.actor_copies.specs.Owns.{IsOwn}
-use Rattle.actor_copies.specs.Sizes.{SizesAs, SizesCopies}
-use Rattle.tx_actor.specs.Copying.{CanCopy, CanCopyAt, HasTaken, HasTakenAt, MayCopy, StepsOnAt}
-use Rattle.tx_actor.specs.Dispatch.{HasRoom}
-use Rattle.tx_actor.specs.Having.{HasCopies, HasCopiesAt, OwnsAll}
-use Rattle.tx_actor.specs.Keeping.{IsRunning, NamesAmong}
-use Rattle.tx_actor.specs.Running.{Runs, asked_of, at, is_recorded, notice_of, seat_of, stage_of}
+use Rattle.actor_copies.specs.Copied.{CopiesFor, CopiesReached}
+use Rattle.actor_copies.specs.Sizes.{SizesCopies}
+use Rattle.tx_actor.specs.Copying.{CanCopyAt, HasTakenAt, StepsOnAt}
+use Rattle.tx_actor.specs.Having.{HasCopies}
+use Rattle.tx_actor.specs.Keeping.{IsRunning}
+use Rattle.tx_actor.specs.Running.{Runs, at, stage_of}
 use Rattle.tx_actor.specs.Staying.{CopiesStayOwn}
 use Rattle.tx_actor.specs.declared.actor.Asked.{Asked}
-use Rattle.tx_actor.specs.declared.actor.Stage as own
-use Rattle.tx_actor.specs.declared.actor.Stage.TheVariants as stage
 use Rattle.tx_actor.specs.declared.actor.Told.{Told}
 use Rattle.tx_actor.specs.declared.actor.TxActor.{TxActor}
 use Rattle.world_table.specs.Openings.{HasShape}
@@ -45,12 +30,10 @@ use Rattle.world_table.specs.declared.table.Table.{Table}
 use Rattle.running_world.specs.Loading.{IsSeated}
 use Rattle.running_world.specs.Reached.{IsReached}
 use Rattle.running_world.specs.Turns.{IsTurn, KeepsOwn}
-use Rattle.actor_turns.proofs.CopyLemmas.{copy_is}
-use Rattle.actor_turns.proofs.CopyLemmas.{block_here}
-use Rattle.actor_turns.proofs.OwnLemmas.{BlocksLaw, OthersLaw, StandLaw, others_keep, rests_at}
-use Rattle.actor_turns.proofs.SeatLemmas.{next_as, seated_by, stage_by}
+use Rattle.actor_turns.proofs.OwnLemmas.{BlocksLaw, OthersLaw, StandLaw, others_keep}
+use Rattle.actor_turns.proofs.SeatLemmas.{next_as}
 use Rattle.running_world.proofs.TurnLemmas.{action_has}
-use Rattle.actor_turns.proofs.StepLemmas.{due_as, no_reads_at, reached_allows}
+use Rattle.actor_turns.proofs.StepLemmas.{due_as, reached_allows}
 use Rattle.actor_turns.proofs.CopyLemmas as there
 use Rattle.actor_turns.proofs.CopyLemmas.{IsBaseIn, copy_keeps, copy_runs, due_copy}
 

@@ -2,9 +2,9 @@
 --
 -- A load changes no gate, and its actor holds none; what is copied is copied as the gate is put back, which was the only one that its actor
 -- held. So no base is left to the actor to go home.
-use Rattle.std.proofs.Common.{◌≡◌, ◌≢◌, ℕ, true, false, true≢false, [], ◌∷◌, Option, Some, None, inl, inr, refl, sym, ap, ◌∙◌, subst, eqb, eqb-true}
+use Rattle.std.proofs.Common.{◌≡◌, ◌≢◌, ℕ, true, false, true≢false, [], ◌∷◌, None, inl, inr, refl, sym, ap, ◌∙◌, subst, eqb, eqb-true}
 use Rattle.std.proofs.lemmas.Bool.{cases_Bool, cases_eq, cond-false}
-use Rattle.word_machine.specs.Cells.{Cell, word_of}
+use Rattle.word_machine.specs.Cells.{word_of}
 use Rattle.seq_model.specs.Contents.{Contents}
 use Rattle.seq_model.specs.declared.event.Event.{Event}
 use Rattle.seq_model.specs.declared.event.Event.TheVariants.{Step}
@@ -13,11 +13,11 @@ use Rattle.collection_machine.specs.Content.{has}
 use Rattle.replay_log.specs.Contents.{Asked}
 use Rattle.replay_log.specs.Pieces.{covers_at}
 use Rattle.replay_log.specs.WorldProgress.{whose}
-use Rattle.replay_log.specs.Worlds.{World, Stage, Idle, Beginning, Open, Locking, Releasing, Closing, Cancelling, Leaving, Reading, Trying}
-use Rattle.replay_log.specs.Worlds.{Copying, Loading, Gating, Ready, Storing, Homing, Returning, happens, opened, run}
+use Rattle.replay_log.specs.Worlds.{World, Stage}
+use Rattle.replay_log.specs.Worlds.{Copying, Loading, happens, opened, run}
 use Rattle.replay_log.proofs.SeatLemmas.{gates_of}
 use Rattle.atomic_steps.specs.Gates.{Puts}
-use Rattle.atomic_steps.specs.Spots.{Gate, deed_of, spot_at, spot_of}
+use Rattle.atomic_steps.specs.Spots.{Gate, deed_of, spot_at}
 use Rattle.atomic_steps.specs.Steps.{atomic_action}
 use Rattle.atomic_steps.proofs.Alike.{alike_same}
 use Rattle.atomic_steps.proofs.Guards.{put_allowed}

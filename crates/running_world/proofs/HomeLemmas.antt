@@ -1,52 +1,38 @@
 -- A base that goes home makes of the table and of its actor what it makes of the world: the table folds the log of the actor's calls into
 -- the base as the world does, and the actor goes on as in each world that events have reached.
-use Rattle.std.proofs.Common.{◌≡◌, ℕ, zero, suc, ◌<◌, ◌≤◌, ◌^◌, true, false, List, [], ◌∷◌, Option, Some, None, length, slice_get, refl}
-use Rattle.std.proofs.Common.{sym, ap, ◌∙◌, subst, arith}
+use Rattle.std.proofs.Common.{◌≡◌, ℕ, zero, suc, ◌<◌, ◌^◌, List, [], ◌∷◌, Some, length, slice_get, refl}
+use Rattle.std.proofs.Common.{sym, ◌∙◌, subst, arith}
 use Rattle.std.specs.List.{All}
 use Rattle.std.specs.Prelude.{slice_index}
-use Rattle.std.specs.declared.alloc.Global.{Global}
-use Rattle.std.specs.declared.collections.VecDeque.{VecDeque}
-use Rattle.std.proofs.lemmas.Bool.{cond_both}
 use Rattle.conflict.specs.declared.change.Change.{Change}
 use Rattle.seq_model.specs.declared.event.Event.{Event}
 use Rattle.seq_model.specs.declared.event.Event.TheVariants.{Step}
 use Rattle.seq_model.specs.declared.held.Held.{Held}
 use Rattle.seq_model.specs.Contents.{Contents}
-use Rattle.collection_machine.specs.Boosted.{Boosted, Action, GoHome, homed}
+use Rattle.collection_machine.specs.Boosted.{GoHome}
 use Rattle.replay_log.specs.declared.base.Base.{Base}
-use Rattle.replay_log.specs.Base.{Shown, editions_of, locations_of, shown_of, stripes_of}
-use Rattle.replay_log.specs.Collections.{Suit}
-use Rattle.replay_log.specs.Contents.{Answered, Asked, Block, HaveStripes, block_of, content}
-use Rattle.replay_log.specs.WorldProgress.{whose}
-use Rattle.replay_log.specs.Worlds.{World, Seat, Stage, After, Homing, Idle, Beginning, Open, Locking, Releasing, Closing, Cancelling}
-use Rattle.replay_log.specs.Worlds.{Leaving, Reading, Trying, Copying, Loading, Gating, Ready, Storing, Returning, acted, happens, opened}
-use Rattle.replay_log.specs.Worlds.{run, step_at}
-use Rattle.replay_log.proofs.ContentLemmas.{positive_at}
-use Rattle.atomic_steps.specs.Bases.{IsBaseOf, ShowsBase, log_changes, log_locations}
+use Rattle.replay_log.specs.Base.{editions_of, locations_of, shown_of, stripes_of}
+use Rattle.replay_log.specs.Contents.{Block, HaveStripes, block_of}
+use Rattle.replay_log.specs.Worlds.{World}
+use Rattle.replay_log.specs.Worlds.{happens, opened}
+use Rattle.replay_log.specs.Worlds.{run}
+use Rattle.atomic_steps.specs.Bases.{IsBaseOf, log_changes, log_locations}
 use Rattle.atomic_steps.specs.Gates.{GoesHome}
-use Rattle.atomic_steps.proofs.Others.{others}
 use Rattle.tx_actor.specs.Asks.{Stands}
-use Rattle.actor_words.specs.Dispatch.{AreSteps, IsDue, MayGoOn, after_home, is_loading, next_of}
+use Rattle.actor_words.specs.Dispatch.{AreSteps, next_of}
 use Rattle.tx_actor.specs.Dispatch.{IsGoneHome}
-use Rattle.actor_words.specs.Guarded.{committed_at}
-use Rattle.actor_copies.specs.Keeps.{IsOwnCopy}
 use Rattle.actor_copies.specs.Logs.{changes_had, locations_had}
-use Rattle.actor_copies.specs.Copies.{changes_in, locations_in}
-use Rattle.actor_copies.specs.Owns.{IsOwn}
 use Rattle.actor_copies.specs.Kept.{copy_of}
-use Rattle.tx_actor.specs.Running.{Runs, is_recorded, seat_at, stage_of}
+use Rattle.tx_actor.specs.Running.{stage_of}
 use Rattle.tx_actor.specs.declared.actor.Stage as own
-use Rattle.tx_actor.specs.declared.actor.Stage.TheVariants as stage
 use Rattle.tx_actor.specs.declared.actor.Told.{Told}
 use Rattle.tx_actor.specs.declared.actor.TxActor.{TxActor}
-use Rattle.actor_copies.specs.declared.copies.Copied.{Copied}
 use Rattle.actor_words.specs.declared.next.Next.TheVariants as next
 use Rattle.world_table.specs.Tables.{HasTable}
 use Rattle.world_table.specs.declared.table.Table.{Table}
 use Rattle.running_world.specs.Homes.{IsHomeTurn, MayGoHome}
 use Rattle.running_world.specs.Reached.{IsReached}
-use Rattle.actor_turns.proofs.SeatLemmas.{next_as, stage_by}
-use Rattle.actor_turns.proofs.StepLemmas.{GoesOn, due_as, reached_goes_on, runs_moved, same_action}
+use Rattle.actor_turns.proofs.StepLemmas.{GoesOn}
 use Rattle.actor_turns.proofs.HomeLemmas as there
 use Rattle.actor_turns.proofs.HomeLemmas.{FewEditions, Logs, Within, home_due, home_runs, own_log}
 use Rattle.actor_turns.proofs.CopyLemmas.{block_here}

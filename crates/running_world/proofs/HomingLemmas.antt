@@ -24,7 +24,6 @@ use Rattle.actor_copies.specs.Logs.{OthersStand}
 use Rattle.actor_copies.specs.Owns.{IsOwn}
 use Rattle.actor_copies.specs.Staying.{EventsStay, Stays, StepStays}
 use Rattle.tx_actor.specs.Having.{HasCopies, HasCopiesAt, KeepsFrom, OwnsHomes}
-use Rattle.tx_actor.specs.Keeping.{NamesAmong}
 use Rattle.tx_actor.specs.Running.{Runs, stage_of}
 use Rattle.tx_actor.specs.declared.actor.Stage as own
 use Rattle.tx_actor.specs.declared.actor.Stage.TheVariants as stage

@@ -1,41 +1,30 @@
 -- A step of the words while the locations of a call are read: it is the machine's on the table, and then what the actor makes of what the
 -- load told, as in each world that shows the actor.
-use Rattle.std.proofs.Common.{◌≡◌, ℕ, true, true≢false, List, [], ◌∷◌, Option, Result, sym, ap, ◌∙◌, subst, refl}
-use Rattle.tx_sets.specs.Entries.{Entries}
-use Rattle.word_machine.specs.Notices as notice
+use Rattle.std.proofs.Common.{◌≡◌, ℕ, true, Option, Result, sym, ◌∙◌}
 use Rattle.seq_model.specs.declared.event.Event.TheVariants.{Step}
-use Rattle.seq_model.specs.Contents.{Contents}
-use Rattle.replay_log.specs.Worlds.{World, Seat, Stage, After, Loading, acted, happens, moves, step_at, word_notice, written_homes}
+use Rattle.replay_log.specs.Worlds.{happens, moves}
 use Rattle.atomic_steps.proofs.OneStep.{one_step}
 use Rattle.step_core.specs.Sound.{Fits, IsLoad, KeepsRoom}
 use Rattle.step_core.specs.declared.actor.Actor as running
-use Rattle.step_core.specs.declared.actor.Place.{Place}
-use Rattle.step_core.specs.declared.actor.Place.TheVariants as place
 use Rattle.step_core.specs.declared.answer.WordAnswer.{WordAnswer}
 use Rattle.step_core.specs.declared.answer.WordRefusal.{WordRefusal}
 use Rattle.actor_words.specs.Blocks.{BlocksView}
-use Rattle.actor_words.specs.Dispatch.{AreSteps, is_loading, next_load, next_of, notice_told}
+use Rattle.actor_words.specs.Dispatch.{AreSteps, is_loading, notice_told}
 use Rattle.actor_words.specs.declared.next.Next.TheVariants as next
-use Rattle.tx_actor.specs.Answers.{IsLoadOf}
-use Rattle.tx_actor.specs.Dispatch.{HasRoom}
-use Rattle.tx_actor.specs.Having.{HasCopies, HasCopiesAt, HasLoaded}
+use Rattle.tx_actor.specs.Having.{HasLoaded}
 use Rattle.tx_actor.specs.Keeping.{HasHeard, IsRunning}
-use Rattle.tx_actor.specs.Loading.{MayHear, OwnsCallAt}
-use Rattle.tx_actor.specs.Loads.{IsLoadable, IsToldLoad, MayLoad, after_load}
+use Rattle.tx_actor.specs.Loading.{MayHear}
+use Rattle.tx_actor.specs.Loads.{IsLoadable, IsToldLoad}
 use Rattle.tx_actor.specs.Reading.{LoadsKeep}
-use Rattle.tx_actor.specs.Running.{KnowsHomes, Runs, notice_of, seat_of, stage_in, stage_of}
+use Rattle.tx_actor.specs.Running.{stage_of}
 use Rattle.tx_actor.specs.Staying.{LoadsStayOwn}
 use Rattle.tx_actor.specs.Seated.{SeatsActors}
-use Rattle.tx_actor.specs.declared.actor.Stage as own
-use Rattle.tx_actor.specs.declared.actor.Stage.TheVariants as stage
 use Rattle.tx_actor.specs.declared.actor.Told.{Told}
 use Rattle.tx_actor.specs.declared.actor.TxActor.{TxActor}
 use Rattle.world_table.specs.declared.table.Table.{Table}
 use Rattle.running_world.specs.Loading.{IsSeated}
-use Rattle.running_world.specs.Reached.{IsReached}
 use Rattle.running_world.specs.Turns.{IsTurn, KeepsOwn}
 use Rattle.actor_turns.proofs.OwnLemmas.{OthersLaw, StandLaw, others_keep}
-use Rattle.actor_turns.proofs.SeatLemmas.{loading_as, next_as}
 use Rattle.running_world.proofs.TurnLemmas.{StepsWords, action_has}
 use Rattle.actor_turns.proofs.StepLemmas.{due_as, due_word}
 use Rattle.actor_turns.proofs.LoadLemmas as there

@@ -1,49 +1,24 @@
 -- What an event leaves of what its actor has of collections, and of what the others have, as the turns of a world have it.
-use Rattle.std.proofs.Common.{◌≡◌, ◌≢◌, ◌⊎◌, ℕ, suc, false, true≢false, List, [], ◌∷◌, Option, Some, None, inl, inr, refl, sym, ap, ◌∙◌}
-use Rattle.std.proofs.Common.{subst, arith}
+use Rattle.std.proofs.Common.{◌≡◌, ℕ, false}
 use Rattle.word_machine.specs.Notices as told
-use Rattle.word_machine.specs.Actor as machine
-use Rattle.word_machine.specs.Actor.{Open as AtRest}
-use Rattle.step_core.specs.Shown as words
-use Rattle.step_core.specs.declared.actor.Actor as running
-use Rattle.step_core.specs.declared.actor.Place.{Place}
-use Rattle.step_core.specs.declared.actor.Place.TheVariants as place
-use Rattle.word_machine.proofs.Sets.{put-same}
-use Rattle.seq_model.specs.Contents.{Contents}
-use Rattle.seq_model.specs.declared.event.Event.{Event}
 use Rattle.seq_model.specs.declared.event.Event.TheVariants.{Ask, Starve, Step}
 use Rattle.seq_model.specs.declared.event.Request.{Request}
-use Rattle.seq_model.specs.declared.held.Held.{Held}
-use Rattle.replay_log.specs.Contents.{Answered, Asked, Block, HaveStripes}
-use Rattle.replay_log.specs.WorldProgress.{whose}
-use Rattle.replay_log.specs.Worlds.{World, Seat, Stage, After, Beginning, Copying, Loading, Open, Ready, acted, actor_of, ask_at, happens}
-use Rattle.replay_log.specs.Worlds.{has_begun, moves, no_one, opened, outcome_at, run, starve_at, step_at, word_notice}
+use Rattle.replay_log.specs.Contents.{Asked}
+use Rattle.replay_log.specs.Worlds.{Copying, ask_at, happens}
 use Rattle.atomic_steps.proofs.Others.{others}
-use Rattle.actor_words.specs.Blocks.{BlocksView, IsLaid}
-use Rattle.actor_words.specs.Dispatch.{is_loading, next_of}
-use Rattle.actor_words.specs.declared.next.Next.{Next}
-use Rattle.actor_words.specs.declared.next.Next.TheVariants as next
+use Rattle.actor_words.specs.Blocks.{BlocksView}
+use Rattle.actor_words.specs.Dispatch.{is_loading}
 use Rattle.atomic_steps.proofs.OneStep.{one_step}
-use Rattle.actor_copies.specs.declared.copies.CopyOf.{CopyOf}
 use Rattle.world_table.specs.declared.table.Table.{Table}
 use Rattle.world_table.proofs.TableLemmas.{still_has}
-use Rattle.actor_copies.specs.declared.copies.Copied.{Copied}
-use Rattle.actor_copies.specs.Copied.{BeginsWithNothing, IsReadOf}
-use Rattle.actor_copies.specs.Owns.{AreOfBlocks, IsOwn, MayCall}
-use Rattle.actor_copies.specs.Staying.{EventStays, EventsStay, Joins, StaysAsked, StepStays, Stays, call_in}
-use Rattle.tx_actor.specs.Calls.{AsksAt, CanCall, StandsOwn}
-use Rattle.tx_actor.specs.Having.{HasCopies, HasCopiesAt, KeepsCopies, KeepsFrom, OwnsAll, ReadsStill}
-use Rattle.tx_actor.specs.Keeping.{IsRunning}
-use Rattle.tx_actor.specs.Owns.{OwnsCopies}
-use Rattle.tx_actor.specs.Running.{Runs, seat_of, stage_of}
-use Rattle.tx_actor.specs.declared.actor.Stage as own
-use Rattle.tx_actor.specs.declared.actor.Stage.TheVariants as stage
+use Rattle.actor_copies.specs.Copied.{BeginsWithNothing}
+use Rattle.actor_copies.specs.Staying.{EventsStay}
+use Rattle.tx_actor.specs.Calls.{AsksAt}
+use Rattle.tx_actor.specs.Having.{KeepsCopies, ReadsStill}
+use Rattle.tx_actor.specs.Running.{seat_of, stage_of}
 use Rattle.tx_actor.specs.declared.actor.Told.{Told}
 use Rattle.tx_actor.specs.declared.actor.TxActor.{TxActor}
-use Rattle.running_world.specs.Reached.{IsReached}
 use Rattle.running_world.specs.Turns.{IsTurn, KeepsOwn}
-use Rattle.actor_turns.proofs.SeatLemmas.{asked_as, stage_by}
-use Rattle.actor_turns.proofs.StepLemmas.{first_is, reached_linked}
 use Rattle.actor_turns.proofs.OwnLemmas.{AllLaw, Apart, AskedLaw, BegunLaw, CallsLaw, JoinsLaw, OthersLaw, StandLaw, StaysLaw, StepsLaw, ask_keeps}
 use Rattle.actor_turns.proofs.OwnLemmas.{ask_runs, others_keep, starve_keeps, step_keeps}
 

@@ -2,7 +2,7 @@
 --
 -- So a table stays that of each world of which it was, and keeps its shape; and the room that one base has been given stays while the next
 -- is given its.
-use Rattle.std.proofs.Common.{◌≡◌, ℕ, zero, suc, ◌+◌, ◌-◌, ◌<◌, ◌≤◌, ◌^◌, List, [], ◌∷◌, Some, length, slice_get, get_or, refl, sym, ap}
+use Rattle.std.proofs.Common.{◌≡◌, ℕ, zero, suc, ◌+◌, ◌-◌, ◌<◌, ◌≤◌, List, [], ◌∷◌, Some, length, slice_get, get_or, refl, sym, ap}
 use Rattle.std.proofs.Common.{◌∙◌, subst, arith, inl, inr}
 use Rattle.std.specs.Prelude.{set, slice_index, slice_index_or}
 use Rattle.std.proofs.lemmas.Bool.{cases_eq}

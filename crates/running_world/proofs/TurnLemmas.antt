@@ -3,71 +3,47 @@
 -- A request and a want of memory change nothing that is shared, so the table stands. A step of the words is the machine's on the table, and
 -- then what the actor makes of what it was told: that changes nothing that is shared either. Between the two, the actor has its seat as
 -- before, and its word actor after the step; the collections that it has written stand, since a step of a locking actor writes nothing.
-use Rattle.std.proofs.Common.{◌≡◌, ℕ, ◌+◌, Bool, true, false, true≢false, List, [], ◌∷◌, Option, Some, None, Result, ◌≤◌, inl, inr, refl}
-use Rattle.std.proofs.Common.{sym, ap, ◌∙◌, subst, arith, drop}
-use Rattle.std.specs.Prelude.{not, filter}
+use Rattle.std.proofs.Common.{◌≡◌, ℕ, Bool, true, false, [], ◌∷◌, Option, Some, Result, ◌≤◌, inl, inr}
+use Rattle.std.proofs.Common.{sym, ap, ◌∙◌, subst, arith}
 use Rattle.std.specs.declared.alloc.Global.{Global}
 use Rattle.std.specs.declared.vec.Vec.{Vec}
-use Rattle.std.proofs.lemmas.Bool.{cond_both}
-use Rattle.vlock_word.specs.declared.lock_word.LockWord.{LockWord}
-use Rattle.vlock_word.specs.declared.lock_word.LockWord.TheVariants.{Free, Locked}
-use Rattle.tx_sets.specs.Entries.{Entries, locations, lookup}
-use Rattle.word_machine.specs.Actor as machine
-use Rattle.word_machine.specs.Actor.{Actor, Place, goes, seen_to_lock, seen_in_check, stamped_at, taken}
+use Rattle.word_machine.specs.Actor.{Actor, goes}
 use Rattle.word_machine.specs.Requests.{AskStore}
-use Rattle.word_machine.specs.World as machine_world
-use Rattle.word_machine.specs.World.{now, exchanged, put}
-use Rattle.word_machine.proofs.Declared.{has_no_sets}
-use Rattle.word_machine.proofs.Sets.{put-same}
 use Rattle.seq_model.specs.declared.call.Call.{Call}
 use Rattle.seq_model.specs.declared.call.Reply.{Reply}
 use Rattle.seq_model.specs.declared.event.Event.{Event}
 use Rattle.seq_model.specs.declared.event.Event.TheVariants.{Step, Starve}
-use Rattle.seq_model.specs.declared.event.Notice.TheVariants.{Refused}
-use Rattle.seq_model.specs.declared.refusal.Refusal.TheVariants.{NoTransaction}
-use Rattle.seq_model.specs.declared.held.Held.{Held}
-use Rattle.seq_model.specs.Contents.{Contents}
-use Rattle.collection_machine.specs.Boosted.{Boosted, Action, TakeGate, PutGate, gated, is_actor, is_committing, is_none, shadows_copied}
-use Rattle.collection_machine.specs.Boosted.{word_step}
-use Rattle.replay_log.specs.Base.{Shown}
-use Rattle.replay_log.specs.Contents.{Answered, Asked, Block, HaveStripes, content, end_of, home_of, is_plain}
+use Rattle.collection_machine.specs.Boosted.{Action, TakeGate, PutGate, is_actor, is_committing, is_none}
+use Rattle.replay_log.specs.Contents.{Asked}
 use Rattle.replay_log.specs.Guards.{IsAllowed, step_action}
-use Rattle.replay_log.specs.Worlds.{World, Seat, Stage, After, Idle, Beginning, Open, Locking, Releasing, Closing, Cancelling, Leaving}
-use Rattle.replay_log.specs.Worlds.{Reading, Trying, Copying, Loading, Gating, Ready, Storing, Homing, Returning, acted, asks, actor_of}
-use Rattle.replay_log.specs.Worlds.{moves, word_notice, all_of, distinct, step_at, happens, opened, run, written_homes}
-use Rattle.replay_log.proofs.GuardLemmas.{world_allows}
-use Rattle.replay_log.proofs.EventLemmas.{opened_linked, run_linked}
-use Rattle.replay_log.proofs.SeatLemmas.{AtLocking, Copy, Linked, StageOk}
+use Rattle.replay_log.specs.Worlds.{World, Seat, Stage, After, Closing, Leaving}
+use Rattle.replay_log.specs.Worlds.{Ready, acted, asks, actor_of}
+use Rattle.replay_log.specs.Worlds.{moves, word_notice, step_at, happens, written_homes}
+use Rattle.replay_log.proofs.SeatLemmas.{StageOk}
 use Rattle.atomic_steps.specs.Steps.{Does, atomic_action, ended_at, ready_at}
 use Rattle.atomic_steps.proofs.OneStep.{ask_calm, one_step}
 use Rattle.step_core.specs.Answers.{result_of}
 use Rattle.step_core.specs.CellSteps.{Grows}
 use Rattle.step_core.specs.Shown as words
-use Rattle.step_core.specs.Sound.{Fits, owed}
+use Rattle.step_core.specs.Sound.{owed}
 use Rattle.step_core.specs.declared.cells.Cells.{Cells}
 use Rattle.step_core.specs.declared.actor.Actor as running
 use Rattle.step_core.specs.declared.answer.WordAnswer.{WordAnswer}
 use Rattle.step_core.specs.declared.answer.WordRefusal.{WordRefusal}
 use Rattle.tx_actor.specs.Asks.{MayStore}
 use Rattle.actor_words.specs.Blocks.{BlocksView}
-use Rattle.actor_words.specs.Dispatch.{AreSteps, IsDue, MayGoOn, after_put, after_try, after_word, first, is_loading}
-use Rattle.actor_words.specs.Dispatch.{next_home, next_load, next_of, next_put, next_try, notice_told}
+use Rattle.actor_words.specs.Dispatch.{AreSteps, MayGoOn, after_put, after_try, after_word, first, is_loading}
+use Rattle.actor_words.specs.Dispatch.{next_of, notice_told}
 use Rattle.actor_words.specs.Guarded.{committed_at}
-use Rattle.actor_words.specs.Requests.{HasNoReads}
-use Rattle.tx_actor.specs.Dispatch.{HasRoom, IsToldWord, Records, Starves}
-use Rattle.tx_actor.specs.Keeping.{IsRunning}
+use Rattle.tx_actor.specs.Dispatch.{IsToldWord, Starves}
 use Rattle.tx_actor.specs.Running as ran
-use Rattle.tx_actor.specs.Running.{KnowsHomes, Runs, is_recorded, notice_of, seat_at, seat_of, stage_of}
-use Rattle.tx_actor.specs.declared.actor.Stage as own
-use Rattle.tx_actor.specs.declared.actor.Stage.TheVariants as stage
+use Rattle.tx_actor.specs.Running.{Runs, seat_at, seat_of, stage_of}
 use Rattle.tx_actor.specs.declared.actor.Told.{Told}
 use Rattle.tx_actor.specs.declared.actor.TxActor.{TxActor}
-use Rattle.actor_words.specs.declared.next.Next.{Next}
 use Rattle.actor_words.specs.declared.next.Next.TheVariants as next
 use Rattle.world_table.specs.Tables.{HasTable}
 use Rattle.world_table.specs.declared.table.Table.{Table}
 use Rattle.world_table.proofs.TableLemmas.{still_has}
-use Rattle.running_world.specs.Reached.{IsReached}
 use Rattle.running_world.specs.Turns.{IsTurn}
 use Rattle.actor_turns.proofs.SeatLemmas.{next_as, ready_as, stage_by, starved_as}
 use Rattle.actor_turns.proofs.StepLemmas.{GoesOn, due_as, due_put, due_try, due_word, first_is, knows_moved, knows_ready, may_move, put_runs}

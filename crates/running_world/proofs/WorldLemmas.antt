@@ -2,15 +2,13 @@
 -- stand, since what an event leaves of another actor's own is as it was. The numbers that are still to be taken change by what the
 -- event's actor still may take, or the clock stands below its limit and each actor may take one at most.
 use Rattle.std.proofs.Common.{◌≡◌, ◌≢◌, ℕ, zero, suc, ◌+◌, ◌<◌, ◌≤◌, ◌^◌, false, List, [], ◌∷◌, map, Some, None, length}
-use Rattle.std.proofs.Common.{◌-◌, drop, drop-cons, get_or, length-drop, refl, sym, ap, ◌∙◌, subst, inl, inr, arith}
+use Rattle.std.proofs.Common.{refl, sym, ap, ◌∙◌, subst, inl, inr, arith}
 use Rattle.std.specs.Prelude.{slice_get, slice_set}
-use Rattle.std.specs.List.{All}
 use Rattle.std.proofs.lemmas.Bool.{cases_eq}
 use Rattle.std.proofs.lemmas.Bool.Decides.{nat_tests}
 use Rattle.word_machine.specs.Actor.{clock_limit}
 use Rattle.seq_model.specs.declared.limits.TheConstants.{SEATS}
 use Rattle.running_world.specs.declared.opening.TheConstants.{ACTORS}
-use Rattle.tx_sets.specs.Entries.{Entries}
 use Rattle.seq_model.specs.declared.event.Event.{Event}
 use Rattle.seq_model.specs.Contents.{Contents}
 use Rattle.replay_log.specs.Contents.{Block}
@@ -25,13 +23,10 @@ use Rattle.step_core.specs.declared.actor.Place.{Place}
 use Rattle.step_core.specs.declared.actor.Place.TheVariants as place
 use Rattle.step_core.proofs.Lists.{inside, same_at}
 use Rattle.actor_words.specs.Blocks.{BlocksView, IsLaid}
-use Rattle.actor_words.specs.Dispatch.{first, next_home, next_load, next_of, next_put, next_try}
 use Rattle.tx_actor.specs.Asks.{Stands}
-use Rattle.tx_actor.specs.Keeping.{IsRunning, NamesAmong}
-use Rattle.tx_actor.specs.Running.{Runs, stage_of}
+use Rattle.tx_actor.specs.Keeping.{IsRunning}
+use Rattle.tx_actor.specs.Running.{Runs}
 use Rattle.tx_actor.specs.declared.actor.Stage as own
-use Rattle.tx_actor.specs.declared.actor.Stage.TheVariants as stage
-use Rattle.actor_words.specs.declared.next.Next.TheVariants as next
 use Rattle.tx_actor.specs.declared.actor.Told.{Told}
 use Rattle.tx_actor.specs.declared.actor.TxActor.{TxActor}
 use Rattle.world_table.specs.Openings.{HasShape}

@@ -1,5 +1,5 @@
 -- The parts of a running world, the world of the definitions that they are, and what an event makes of both.
-use Rattle.std.specs.Prelude.{◌≡◌, ℕ, ◌+◌, ◌≤◌, ◌^◌, false, List, [], ◌∷◌, map, Some, length, slice_get}
+use Rattle.std.specs.Prelude.{◌≡◌, ℕ, ◌+◌, ◌≤◌, false, List, [], ◌∷◌, map, Some, length, slice_get}
 use Rattle.word_machine.specs.Actor.{clock_limit}
 use Rattle.seq_model.specs.declared.limits.TheConstants.{SEATS}
 use Rattle.running_world.specs.declared.opening.TheConstants.{ACTORS}

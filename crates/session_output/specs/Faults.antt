@@ -1,8 +1,8 @@
 -- Why a session file has no output.
-use Rattle.std.specs.Prelude.{ℕ, List, ⊤}
+use Rattle.std.specs.Prelude.{ℕ, List}
 use Rattle.seq_model.specs.declared.auditing.AuditFault.{AuditFault}
 use Rattle.seq_model.specs.declared.auditing.AuditFault.TheVariants as audit
-use Rattle.seq_model.specs.declared.refusal.Refusal.TheVariants.{BadText, OutOfMemory}
+use Rattle.seq_model.specs.declared.refusal.Refusal.TheVariants.{OutOfMemory}
 use Rattle.session_script.specs.Sessions.{IsUnreadable}
 use Rattle.session_output.specs.declared.fault.RunFault.{RunFault}
 use Rattle.session_output.specs.declared.fault.RunFault.TheVariants.{Refused, Audit}

@@ -5,9 +5,9 @@ use Rattle.std.proofs.Common.{◌≡◌, ◌≢◌, ℕ, Bool, true, false, not,
 use Rattle.std.proofs.Common.{IfOk, IfErr, MatchResult, OnErr, inl, inr, refl, sym, ap, ◌∙◌, subst, arith}
 use Rattle.tx_sets.specs.Entries.{Entries}
 use Rattle.word_machine.specs.Actor as machine
-use Rattle.word_machine.specs.Actor.{Actor, Place}
+use Rattle.word_machine.specs.Actor.{Actor}
 use Rattle.word_machine.specs.Requests as word
-use Rattle.word_machine.specs.Requests.{ask, close, lock}
+use Rattle.word_machine.specs.Requests.{close, lock}
 use Rattle.word_machine.proofs.Sets.{put-same}
 use Rattle.seq_model.specs.declared.call.Call.{Call}
 use Rattle.seq_model.specs.declared.call.Reply.{Reply}

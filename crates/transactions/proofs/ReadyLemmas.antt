@@ -28,7 +28,7 @@ use Rattle.tx_phases.specs.Phases.{Rests, phase}
 use Rattle.transactions.proofs.RequestLemmas.{is_idle, is_open}
 use Rattle.driven_turns.specs.Driven.{HasTold, IsNumberOf, seat_in, standing}
 use Rattle.transactions.specs.Ready.{HasBegunSince, HasOpened, IsNew, IsReady}
-use Rattle.transactions.specs.Requests.{CallLeaves, CallsTo, HasCommitted, IsBegun, IsNotBegun, IsOpen, KeepsReceipts}
+use Rattle.transactions.specs.Requests.{CallLeaves, CallsTo, HasCommitted, IsBegun, IsNotBegun, IsOpen}
 use Rattle.transactions.specs.declared.seats.TxSeat.{TxSeat}
 use Rattle.tx_turns.specs.Ties.{Ties, laid_in}
 use Rattle.gate_turns.specs.Bases.{AreBases, gates_at}

@@ -12,7 +12,7 @@ use Rattle.seq_model.specs.declared.event.Request.TheVariants.{Abort}
 use Rattle.seq_model.specs.declared.record.Record.{Record}
 use Rattle.seq_model.specs.declared.refusal.Refusal.{Refusal}
 use Rattle.replay_log.specs.Seats as worlds
-use Rattle.replay_log.specs.Seats.{World, After, Seat, Stage}
+use Rattle.replay_log.specs.Seats.{World, Seat, Stage}
 use Rattle.replay_log.specs.Worlds.{ask_at, happens}
 use Rattle.actor_words.specs.Dispatch.{is_loading}
 use Rattle.actor_turns.proofs.SeatLemmas.{loading_as}

@@ -44,7 +44,7 @@ use Rattle.conflict.specs.Footprints.{queue_reads, queue_writes}
 use Rattle.collection_machine.specs.Boosted.{Boosted, PutGate, Accept, TakeGate, GoHome, is_open, is_sound, every, may_write, changes}
 use Rattle.collection_machine.specs.Boosted.{writes_asked, longer, is_none}
 use Rattle.replay_log.specs.Base.{Shown, OfMap, OfBag, OfPq, OfQueue, outcome_of, reads_of, writes_of}
-use Rattle.replay_log.specs.Contents.{Block, Asked, Answered, answer, block_of, blank, content, first_of, reads_in, shifted}
+use Rattle.replay_log.specs.Contents.{Block, Asked, Answered, answer, block_of, blank, content, first_of, reads_in}
 use Rattle.replay_log.specs.Contents.{seen, writes_in}
 use Rattle.replay_log.specs.Parts.{Kind, MapKind, BagKind, PqKind, QueueKind, whole}
 use Rattle.replay_log.specs.Pieces.{piece_at, covers_at}

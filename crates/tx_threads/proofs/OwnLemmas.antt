@@ -8,7 +8,7 @@ use Rattle.collection_machine.specs.Content.{has}
 use Rattle.collection_machine.specs.Boosted.{Action, is_actor}
 use Rattle.word_machine.specs.Actor.{Actor, Place, Idle, Begin, Open, Look, Fetch, Again, Lock, Take, Check, Broken, First, Store, Release, Undo, Leave, Close}
 use Rattle.word_machine.specs.World as words
-use Rattle.word_machine.specs.World.{Deed, Rests, plan, first_store, release, undo}
+use Rattle.word_machine.specs.World.{Rests, plan, first_store, release, undo}
 use Rattle.word_machine.specs.Notices.{NoTransaction, last_notice, notice, Stored, Released, Cancelled}
 use Rattle.word_machine.proofs.Invariant.{IsSomeEntry, PlaceOk}
 use Rattle.replay_log.specs.Contents.{Asked, Block}

@@ -9,7 +9,7 @@ use Rattle.seq_model.specs.declared.event.Event.TheVariants.{Ask, Step, Starve}
 use Rattle.seq_model.specs.declared.event.Request.{Request}
 use Rattle.replay_log.proofs.EventLemmas.{opened_linked, run-append, run_linked}
 use Rattle.replay_log.proofs.SeatLemmas.{StageOk}
-use Rattle.replay_log.specs.Seats.{World, Seat, After, actor_of, at_stage}
+use Rattle.replay_log.specs.Seats.{World, Seat, After, actor_of}
 use Rattle.replay_log.specs.Worlds.{ask_at, ask_open, happens, run, starve_at}
 use Rattle.step_core.specs.Shown as words
 use Rattle.actor_words.specs.Blocks.{BlocksView}

@@ -1,6 +1,6 @@
 -- What is due to the word actor of a running actor is what the own world of its seat does next: at a stage of the words the step is on the
 -- word that the machine plans, and that word becomes what the machine makes of it.
-use Rattle.std.proofs.Common.{◌≡◌, ℕ, ◌+◌, eqb, cond, false, Some, refl, sym, ap, ◌∙◌}
+use Rattle.std.proofs.Common.{◌≡◌, ℕ, ◌+◌, eqb, cond, Some, refl, sym, ap, ◌∙◌}
 use Rattle.word_machine.specs.Actor as machine
 use Rattle.word_machine.specs.Cells.{ClockCell, becomes, word_of}
 use Rattle.word_machine.specs.World.{Deed, plan}
@@ -8,7 +8,7 @@ use Rattle.replay_log.specs.Guards.{step_action}
 use Rattle.replay_log.specs.Seats.{World, Stage, Ready, actor_of, moves}
 use Rattle.atomic_steps.specs.Spots.{Spot, Word, deed_of, spot_at, spot_by, spot_of}
 use Rattle.atomic_steps.specs.Steps.{atomic_action, ready_at}
-use Rattle.actor_words.specs.Dispatch.{is_loading, next_of}
+use Rattle.actor_words.specs.Dispatch.{next_of}
 use Rattle.actor_words.specs.declared.next.Next.TheVariants as next
 use Rattle.step_core.specs.Shown as words
 use Rattle.step_core.specs.declared.actor.Actor.{Actor}

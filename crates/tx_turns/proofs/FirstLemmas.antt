@@ -18,7 +18,7 @@ use Rattle.replay_log.proofs.GuardLemmas.{world_allows}
 use Rattle.replay_log.proofs.SeatLemmas.{StageOk, gates_of}
 use Rattle.replay_log.specs.Contents.{Block, content, home_of, is_plain}
 use Rattle.replay_log.specs.Guards.{IsAllowed, step_action}
-use Rattle.replay_log.specs.Seats.{World, Stage, After, Loading, Gating, Ready, Homing, Returning, acted, actor_of, asks, moves, word_notice}
+use Rattle.replay_log.specs.Seats.{World, Stage, After, Ready, acted, actor_of, asks, moves, word_notice}
 use Rattle.replay_log.specs.Worlds.{happens, run, step_at}
 use Rattle.step_core.specs.Answers.{result_of}
 use Rattle.step_core.specs.Shown as words
@@ -36,7 +36,7 @@ use Rattle.atomic_steps.specs.Steps.{ready_at}
 use Rattle.atomic_steps.specs.Tells.{tells}
 use Rattle.tx_actor.specs.Asks.{MayStore}
 use Rattle.tx_actor.specs.Dispatch.{IsToldWord, Records}
-use Rattle.tx_actor.specs.Running.{KnowsHomes, Runs, notice_of, seat_at, stage_of}
+use Rattle.tx_actor.specs.Running.{Runs, notice_of, seat_at, stage_of}
 use Rattle.tx_actor.specs.declared.actor.Stage as own
 use Rattle.tx_actor.specs.declared.actor.Stage.TheVariants as stage
 use Rattle.tx_actor.specs.declared.actor.Told.{Told}

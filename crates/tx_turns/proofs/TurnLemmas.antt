@@ -4,8 +4,7 @@
 -- gates that its stage says. The step on the table found a number, and leaves the own world as the definitions' step does once that number
 -- is planted there. In that world the step is the machine's, by what was found (`FoundLemmas`), and then what the stage makes of it, which
 -- is what the running actor makes of itself.
-use Rattle.std.proofs.Common.{◌≡◌, ℕ, ◌<◌, ◌≤◌, false, true≢false, List, [], ◌∷◌, ◌++◌, Option, Some, None, Result, refl, sym, ap, ◌∙◌, subst}
-use Rattle.std.specs.Prelude.{if◌then◌else◌}
+use Rattle.std.proofs.Common.{◌≡◌, ℕ, ◌<◌, ◌≤◌, false, List, [], ◌∷◌, ◌++◌, Option, Some, None, Result, refl, sym, ap, ◌∙◌, subst}
 use Rattle.word_machine.specs.Actor as machine
 use Rattle.word_machine.specs.Actor.{Place}
 use Rattle.word_machine.specs.Cells.{Cell, ClockCell, LockCell, ValueCell, cell, learns, word_of}
@@ -21,11 +20,10 @@ use Rattle.replay_log.proofs.ActionLemmas.{mine}
 use Rattle.replay_log.proofs.SeatLemmas.{Copy, StageOk, gates_of}
 use Rattle.replay_log.specs.declared.base.Base.{Base}
 use Rattle.replay_log.specs.Contents.{Block}
-use Rattle.replay_log.specs.Seats.{World, Seat, Stage, After, acted, actor_of, at_stage, moves, word_notice}
+use Rattle.replay_log.specs.Seats.{World, Seat, Stage, After, acted, actor_of, moves, word_notice}
 use Rattle.replay_log.specs.Worlds.{happens, step_at}
 use Rattle.step_core.specs.Answers.{result_of}
 use Rattle.step_core.specs.Shown as words
-use Rattle.step_core.specs.Sound.{Fits}
 use Rattle.step_core.specs.declared.actor.Actor.{Actor}
 use Rattle.step_core.specs.declared.answer.WordAnswer.{WordAnswer}
 use Rattle.step_core.specs.declared.answer.WordRefusal.{WordRefusal}
@@ -35,9 +33,9 @@ use Rattle.actor_words.specs.declared.next.Next.TheVariants as next
 use Rattle.atomic_steps.proofs.Alone.{same_actors}
 use Rattle.atomic_steps.specs.Spots.{Spot, Word, spot_of}
 use Rattle.atomic_steps.specs.Tells.{tells}
-use Rattle.tx_actor.specs.Dispatch.{HasRoom, IsToldWord}
+use Rattle.tx_actor.specs.Dispatch.{IsToldWord}
 use Rattle.tx_actor.specs.Keeping.{IsRunning}
-use Rattle.tx_actor.specs.Running.{Runs, is_recorded, notice_of, seat_at, seat_of, stage_in, stage_of}
+use Rattle.tx_actor.specs.Running.{Runs, notice_of, seat_at, seat_of, stage_of}
 use Rattle.tx_actor.specs.declared.actor.Stage as own
 use Rattle.tx_actor.specs.declared.actor.Stage.TheVariants as stage
 use Rattle.tx_actor.specs.declared.actor.Told.{Told}

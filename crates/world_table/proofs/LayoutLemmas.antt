@@ -1,6 +1,6 @@
 -- The blocks of the first collections, and the block of the next one, are those of one collection more.
 use Rattle.std.proofs.Common.{◌≡◌, ℕ, zero, suc, ◌+◌, ◌<◌, List, [], ◌∷◌, ◌++◌, length, get_or, take}
-use Rattle.std.proofs.Common.{refl, sym, ap, ◌∙◌, arith}
+use Rattle.std.proofs.Common.{sym, ap, ◌∙◌, arith}
 use Rattle.seq_model.specs.declared.held.Held.{Held}
 use Rattle.replay_log.specs.Collections.{kind_of_held}
 use Rattle.replay_log.specs.Contents.{Block}

@@ -3,9 +3,9 @@
 -- The locations are counted along the numbers of stripes and the collections together: what has been counted, with what is left, is the
 -- end of all blocks. The bases are opened one after another, and each is the one of its collection. A location lies in the collection
 -- that its home names, and shows that part of it; its word opens as 0, and so does the edition of each base.
-use Rattle.std.proofs.Common.{◌≡◌, ℕ, zero, suc, ◌+◌, ◌-◌, ◌<◌, ◌≤◌, ltb, true, false, List, [], ◌∷◌, ◌++◌, Some, length, drop, take}
+use Rattle.std.proofs.Common.{◌≡◌, ℕ, zero, suc, ◌+◌, ◌-◌, ◌<◌, ◌≤◌, ltb, List, [], ◌∷◌, ◌++◌, Some, length, drop, take}
 use Rattle.std.proofs.Common.{get_or, replicate, inl, inr, refl, sym, ap, ◌∙◌, subst, arith, lt-ltb, le-ltb, length-append}
-use Rattle.std.specs.Prelude.{All, ◌↔◌, not, ◌||◌, nat_lt, slice_get}
+use Rattle.std.specs.Prelude.{All, ◌↔◌, slice_get}
 use Rattle.std.proofs.Math.ListN.{drop_of_length-le, get_or-append, get_or-eq_default}
 use Rattle.std.proofs.Math.Seq.{get_or-append_right}
 use Rattle.std.proofs.lemmas.Bool.{cases_lt, cond-true, cond-false}
@@ -20,7 +20,7 @@ use Rattle.conflict.specs.Refusals.{IsStripeCountOf}
 use Rattle.replay_log.specs.declared.base.Base.{Base}
 use Rattle.replay_log.specs.Base.{Shown, locations_of, shown_of, view_of}
 use Rattle.replay_log.specs.Collections.{Suit, kind_of_held, shown_from, viewed}
-use Rattle.replay_log.specs.Contents.{Block, HaveStripes, block_of, end_of, first_of, home_of, is_plain, size, size_by}
+use Rattle.replay_log.specs.Contents.{Block, HaveStripes, block_of, end_of, first_of, home_of, size, size_by}
 use Rattle.replay_log.specs.Parts.{kind_of, part}
 use Rattle.replay_log.proofs.CollectionLemmas.{behind, kind_viewed}
 use Rattle.replay_log.proofs.ContentLemmas.{end_above}

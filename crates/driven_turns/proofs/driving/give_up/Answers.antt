@@ -1,4 +1,4 @@
-use Rattle.std.proofs.Common.{None, Option, subst}
+use Rattle.std.proofs.Common.{Option, subst}
 use Rattle.seq_model.specs.declared.record.Record.{Record}
 use Rattle.tx_table.specs.Seated.{opening_of}
 use Rattle.driven_turns.proofs.GivenUpLemmas.{ends_never, none_ends, under_ends}
