@@ -12,7 +12,7 @@ use std::marker::Model;
 pub const COLLECTION_LIMIT: usize = 256;
 
 /// A table has at most so many locations.
-pub const TABLE_LIMIT: u32 = 1_048_576;
+pub const TABLE_LIMIT: u32 = step_core::TABLE_LIMIT as u32;
 
 /// What a collection is.
 #[derive(Clone, Copy, Debug, PartialEq, Eq)]

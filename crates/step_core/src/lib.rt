@@ -36,4 +36,4 @@ pub use actor::{Actor, Place};
 pub use answer::{WordAnswer, WordRefusal, WordRequest};
 pub use cells::Cells;
 pub use record::{WordCall, WordCalls, WordRecord};
-pub use words::Words;
+pub use words::{TABLE_LIMIT, Words};

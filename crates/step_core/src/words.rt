@@ -8,7 +8,7 @@ use std::alloc::Global;
 use std::marker::Model;
 
 /// The most locations.
-const LOCATIONS: usize = 1_048_576;
+pub const TABLE_LIMIT: usize = 1_048_576;
 
 /// A clock, a table of words, and 64 actors that run transactions on them, one atomic step at a time.
 #[derive(Drop)]
@@ -51,7 +51,7 @@ impl Words {
         ensures refused { IfErr result (λ refusal. IsRefusal (opening_refusal clock (length values.items)) refusal) }
         ensures reached { IfOk result Reached }
     {
-        if clock > CLOCK_LIMIT || values.len() > LOCATIONS {
+        if clock > CLOCK_LIMIT || values.len() > TABLE_LIMIT {
             return Err(WordRefusal::TooLong);
         }
         let locks = match zeros(alloc, values.len()) {
