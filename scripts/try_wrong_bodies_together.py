@@ -227,13 +227,24 @@ class Checks:
             self.count += 1
             with open(f"{self.logs}/{self.crate.name}-{self.count}.log", "w", encoding="utf-8") as it:
                 it.write(f"{' '.join(edit.name for edit in edits)}\n{ran.stdout}")
-        return ran.returncode, ran.stdout.split("\n")
+        return ran.returncode, folded(ran.stdout.split("\n"))
 
     def check(self, copy, functions):
         only = [word for it in functions for word in ("--only", it.path())]
         words = [*self.crate.words(["--jobs", "1", *only], keeps=False), "--incremental", self.proved]
         how = {"stdin": subprocess.DEVNULL, "stdout": subprocess.PIPE, "stderr": subprocess.STDOUT, "errors": "replace"}
         return subprocess.run([*rt.rtlib.guarded(), rt.rtlib.RATTLE, "check", *words], cwd=copy, **how)
+
+
+def folded(lines):
+    """The lines, each with those that go on with it, which are indented."""
+    whole = []
+    for line in lines:
+        if whole and line.startswith("  "):
+            whole[-1] += " " + line.strip()
+        else:
+            whole.append(line)
+    return whole
 
 
 def open_goal_in(function, lines):
@@ -260,13 +271,19 @@ def errors_in_proofs_of(function, lines):
     return [line for line in lines if is_error.match(line)]
 
 
+def loses_its_invariants(errors):
+    """Whether a function's loop has none for a name that is gone. Any goal behind the loop is open then."""
+    return any("/Invariants.antt:" in line and OF_A_NAME.search(line) for line in errors)
+
+
 def refusal_of(edit, lines):
     """How these lines refuse an edit, and by which of them, or None where they don't."""
     by_names = None
     for function in edit.functions:
         errors = errors_in_proofs_of(function, lines)
         of_meaning = [line for line in errors if not OF_A_NAME.search(line)]
-        why = open_goal_in(function, lines) or unanswered_goal_of(function, lines) or (of_meaning or [""])[0]
+        goal = "" if loses_its_invariants(errors) else open_goal_in(function, lines) or unanswered_goal_of(function, lines)
+        why = goal or (of_meaning or [""])[0]
         if why:
             return REFUSED, why
         by_names = by_names or errors[:1]
