@@ -1,6 +1,6 @@
-use Rattle.std.proofs.Common.{inl, ◌∷◌, Some, None, refl, sym, ◌∙◌, ap}
+use Rattle.std.proofs.Common.{inl, ◌∷◌, refl, sym, ◌∙◌, ap}
 use Rattle.std.specs.Ordering.{nat_cmp}
-use Rattle.std.specs.FinMap.{get, find, entries, get-entries}
+use Rattle.std.specs.FinMap.{find, get-entries}
 use Rattle.vac_model.proofs.OverlayLemmas.{admits_next, passes_next, found_in, nothing_in}
 use Rattle.vac_model.proofs.changes.admit.Goals as goal
 

@@ -1,5 +1,5 @@
 use Rattle.std.proofs.Common.{◌≡◌, None, refl, ◌∙◌, ap}
-use Rattle.std.specs.FinMap.{get, insert}
+use Rattle.std.specs.FinMap.{get}
 use Rattle.vac_model.specs.Overlays.{without}
 use Rattle.vac_model.proofs.OverlayLemmas.{back_by, added_elsewhere, added_there, added_stays, copied_none}
 use Rattle.vac_model.proofs.changes.admit_one.Goals as goal

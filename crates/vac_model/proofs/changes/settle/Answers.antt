@@ -1,6 +1,6 @@
 use Rattle.std.proofs.Common.{◌∷◌, Some, None, sym, ◌∙◌, ap, subst}
 use Rattle.std.specs.Ordering.{nat_cmp}
-use Rattle.std.specs.FinMap.{get, find, entries, entries_sorted, get-entries, remove}
+use Rattle.std.specs.FinMap.{find, entries_sorted, get-entries}
 use Rattle.seq_model.specs.Entries.{IsRising}
 use Rattle.vac_model.specs.Overlays.{laid_by}
 use Rattle.vac_model.proofs.OverlayLemmas.{settles_next, found_first}
