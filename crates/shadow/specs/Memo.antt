@@ -223,9 +223,15 @@ module _ {V : Type 0} where
   shrunk_kept (OfMap b) o shrunk = shrunk_after o.op o.reply shrunk
   shrunk_kept b o shrunk = shrunk
 
+  -- the room of the table of the kind
+  abbrev pub kind_room : Shown V → (entries copies : ℕ) → ℕ
+  kind_room (OfMap b) entries copies = entries
+  kind_room (OfBag b) entries copies = copies
+  kind_room b entries copies = 1
+
   -- there is room for what is ready, and its keys can be counted
-  abbrev pub IsKept : (entries copies grown shrunk : ℕ) → LogView V → Option (declared.Ready V) → Type 0
-  IsKept entries copies grown shrunk log None = ⊤
-  IsKept entries copies grown shrunk log (Some r) =
-      (0 < entries) × (0 < copies) × (length r.changes ≤ log.room) × (length log.locations + length r.written ≤ log.places)
+  abbrev pub IsKept : Shown V → (entries copies grown shrunk : ℕ) → LogView V → Option (declared.Ready V) → Type 0
+  IsKept b entries copies grown shrunk log None = ⊤
+  IsKept b entries copies grown shrunk log (Some r) =
+      (0 < kind_room b entries copies) × (length r.changes ≤ log.room) × (length log.locations + length r.written ≤ log.places)
       × (grown < 2 ^ 63) × (shrunk < 2 ^ 63)

@@ -7,7 +7,7 @@ ghost use Rattle.seq_model.specs.Counts.{copies};
 ghost use Rattle.conflict.specs.Refusals.{IsTooLong, IsStripeCount};
 ghost use Rattle.base_bag.specs.Conflicts as bag;
 ghost use Rattle.replay_log.specs.Base.{changes_of, shown_of, stripes_of, writes_of};
-ghost use Rattle.shadow.specs.Memo.{IsReadyFor, answer_with, copies_after, copies_kept, copies_without, entries_after, entries_kept, entries_without, grown_after, grown_kept, holds, map_answer, shape, shrunk_after, shrunk_kept, total_without, with_count, with_counts, with_entry, with_key, with_total, IsTold};
+ghost use Rattle.shadow.specs.Memo.{IsReadyFor, answer_with, copies_after, copies_kept, copies_without, entries_after, entries_kept, entries_without, grown_after, grown_kept, holds, kind_room, map_answer, shape, shrunk_after, shrunk_kept, total_without, with_count, with_counts, with_entry, with_key, with_total, IsTold};
 
 use base_bag::BagBase;
 use base_map::MapBase;
@@ -55,6 +55,7 @@ impl<V> Model for Memo<V> {
     ghost use Rattle.std.specs.Ordering.{nat_cmp};
     ghost use Rattle.base_pq.specs.Conflicts as pq;
     ghost use Rattle.base_queue.specs.Conflicts as queue;
+    ghost use Rattle.replay_log.specs.Base.{shown_of};
     ghost use Rattle.shadow.specs.Memo.{MemoView, IsKept, IsTold};
 
     ghost Value = { MemoView V };
@@ -73,7 +74,7 @@ impl<V> Model for Memo<V> {
       ready = option_map (λ r. record { changes = r.changes; locations = r.written }) a.ready;
     } };
 
-    ghost invariant = { λ a. IsKept a.entries.room a.copies.room a.grown a.shrunk a.log a.ready × IsTold a.total × (a.grown ≤ 2 ^ 63) };
+    ghost invariant = { λ a. IsKept (shown_of a.blank) a.entries.room a.copies.room a.grown a.shrunk a.log a.ready × IsTold a.total × (a.grown ≤ 2 ^ 63) };
 }
 
 impl<V: Value> Memo<V> {
@@ -215,8 +216,7 @@ impl<V: Value> Memo<V> {
         }
         let changes = self.blank.changes(outcome)?;
         let written = self.blank.writes(outcome)?;
-        self.entries.reserve(1)?;
-        self.copies.reserve(1)?;
+        make_room(&self.blank, &mut self.entries, &mut self.copies)?;
         self.log
             .reserve(changes.len().max(written.as_slice().len()))?;
         self.ready = Some(Ready { changes, written });
@@ -271,6 +271,29 @@ impl<V: Value> Memo<V> {
     {
         let Memo { log, .. } = self;
         log
+    }
+}
+
+// Makes room for one more key in the table of the kind.
+fn make_room<V: Value>(
+    blank: &Base<V>,
+    entries: &mut Table<Option<V>>,
+    copies: &mut Table<u64>,
+) -> Result<(), Memory>
+    ensures room { OnOk result (0 < kind_room (shown_of blank.now) entries.new.room copies.new.room) }
+    ensures entries { entries.new.contents ≡ entries.old.contents }
+    ensures copies { copies.new.contents ≡ copies.old.contents }
+{
+    match blank {
+        Base::Map(_) => {
+            entries.reserve(1)?;
+            Ok(())
+        }
+        Base::Bag(_) => {
+            copies.reserve(1)?;
+            Ok(())
+        }
+        Base::Pq(_) | Base::Queue(_) => Ok(()),
     }
 }
 
