@@ -28,10 +28,14 @@ pub fn fits_base<V: Value>(
     requires range { first + locations_of (stripes_of base.now) (shown_of base.now) ≤ 2 ^ 32 }
     ensures { IfOk result (λ fits. (o : Outcome V) × (outcome_of op.now (shown_of base.now) ≡ Some o) × (fits ≡ fits_base words.now base.now first o)) }
 {
-    let outcome = base.outcome(op).or(Err(Memory))?;
-    let reads = base.reads(&outcome)?;
-    let writes = base.writes(&outcome)?;
-    Ok(has_room(words, first, &reads, &writes))
+    match base.outcome(op) {
+        Ok(outcome) => {
+            let reads = base.reads(&outcome)?;
+            let writes = base.writes(&outcome)?;
+            Ok(has_room(words, first, &reads, &writes))
+        }
+        Err(_) => Err(Memory),
+    }
 }
 
 /// The copy has what was found besides. A whole collection that is copied already has all.

@@ -30,6 +30,36 @@ pub struct Weighed<V> {
     pub fits: bool,
 }
 
+/// A call with this outcome: what it reads and writes.
+fn weigh_outcome<V: Value>(
+    alloc: Global,
+    words: &Actor,
+    copied: &Copied<V>,
+    first: u32,
+    outcome: Outcome<V>,
+) -> Result<Weighed<V>, Memory>
+    requires stripes { 0 < stripes_of (base_in copied.now) }
+    requires range { first + places_in copied.now ≤ 2 ^ 32 }
+    ensures outcome { IfOk result (λ call. call.outcome ≡ outcome) }
+    ensures left { IfOk result (λ call. call.left.items ≡ with_known copied.now first (reads_in copied.now call.outcome)) }
+    ensures writes { IfOk result (λ call. call.writes.items ≡ with_next copied.now first (writes_in copied.now call.outcome)) }
+    ensures fits { IfOk result (λ call. call.fits
+        ≡ worlds.has_room (actor_of words.now) (shifted first (reads_in copied.now call.outcome))
+        (shifted first (writes_in copied.now call.outcome))) }
+{
+    let reads = copied.reads(&outcome)?;
+    let writes = copied.writes(&outcome)?;
+    let fits = has_room(words, first, &reads, &writes);
+    let left = with_known(alloc, copied, first, &reads)?;
+    let writes = with_next(alloc, copied, first, &writes)?;
+    Ok(Weighed {
+        outcome,
+        left,
+        writes,
+        fits,
+    })
+}
+
 /// The call's outcome after the accepted ones, and what it reads and writes. The collection begins at location `first`. One that is
 /// refused memory changes nothing, and so is one of another kind of collection.
 pub fn weigh<V: Value>(
@@ -48,16 +78,8 @@ pub fn weigh<V: Value>(
         ≡ worlds.has_room (actor_of words.now) (shifted first (reads_in copied.now call.outcome))
         (shifted first (writes_in copied.now call.outcome))) }
 {
-    let outcome = copied.outcome(op).or(Err(Memory))?;
-    let reads = copied.reads(&outcome)?;
-    let writes = copied.writes(&outcome)?;
-    let fits = has_room(words, first, &reads, &writes);
-    let left = with_known(alloc, copied, first, &reads)?;
-    let writes = with_next(alloc, copied, first, &writes)?;
-    Ok(Weighed {
-        outcome,
-        left,
-        writes,
-        fits,
-    })
+    match copied.outcome(op) {
+        Ok(outcome) => weigh_outcome(alloc, words, copied, first, outcome),
+        Err(_) => Err(Memory),
+    }
 }

@@ -6,15 +6,15 @@ use Rattle.actor_copies.proofs.taking.fits_base.Goals as goal
 pub has_room-requires-clause-reads : goal.has_room-requires-clause-reads
 has_room-requires-clause-reads g c =
     let base = c.args.base.now in
-    let o = c.in_ok-outcome.outcome in
+    let o = c.in-Ok.outcome in
     let ls = reads_of (stripes_of base) o (shown_of base) in
-    all_alike (λ (l : ℕ). c.args.first + l < 2 ^ 32) ls c.in_ok-reads.reads (sym c.in_ok-reads.ensures.locations)
+    all_alike (λ (l : ℕ). c.args.first + l < 2 ^ 32) ls c.in_ok-reads-in-Ok.reads (sym c.in_ok-reads-in-Ok.ensures.locations)
     (base_range base c.args.first ls c.requires.range (base_reads_below base o c.requires.stripes))
 
 pub has_room-requires-clause-writes : goal.has_room-requires-clause-writes
 has_room-requires-clause-writes g c =
     let base = c.args.base.now in
-    let o = c.in_ok-outcome.outcome in
+    let o = c.in-Ok.outcome in
     let ls = writes_of (stripes_of base) o (shown_of base) in
-    all_alike (λ (l : ℕ). c.args.first + l < 2 ^ 32) ls c.in_ok-writes.writes (sym c.in_ok-writes.ensures.locations)
+    all_alike (λ (l : ℕ). c.args.first + l < 2 ^ 32) ls c.in_ok-writes-in-Ok.writes (sym c.in_ok-writes-in-Ok.ensures.locations)
     (base_range base c.args.first ls c.requires.range (base_writes_below base o c.requires.stripes))
