@@ -27,3 +27,4 @@ mod ForgottenLemmas
 mod SizesLemmas
 pub mod TakingLemmas
 mod PutBackLemmas
+mod RoomLemmas

@@ -12,3 +12,4 @@ pub mod Staying
 pub mod Sizes
 pub mod Taking
 pub mod PutBack
+pub mod Room

@@ -9,6 +9,7 @@ mod copies;
 mod first;
 mod footprints;
 pub mod laws;
+mod room;
 mod sizes;
 mod staying;
 mod taking;

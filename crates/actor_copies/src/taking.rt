@@ -1,6 +1,6 @@
 //! What a call touches joins what a transaction has of collections, while the gate of its collection is held, and is taken back where
 //! the call is not made.
-ghost use Rattle.std.specs.Prelude.{◌≡◌, ◌+◌, ◌<◌, ◌≤◌, ◌^◌, IfOk, OnErr, OnOk, Some, length};
+ghost use Rattle.std.specs.Prelude.{◌≡◌, ◌+◌, ◌<◌, ◌≤◌, ◌^◌, IfOk, OnErr, OnOk, Some, false, length};
 ghost use Rattle.conflict.specs.declared.outcome.Outcome.{Outcome};
 ghost use Rattle.replay_log.specs.Base.{locations_of, outcome_of, shown_of, stripes_of};
 ghost use Rattle.actor_copies.specs.Copies.{IsKept};
@@ -10,15 +10,43 @@ ghost use Rattle.actor_copies.specs.Taking.{IsAdded, IsPushed, IsTakenAt, TakenB
 use crate::copies::{Copied, CopyOf, Found};
 use crate::first::first_copy;
 use crate::footprints::place_of;
-use actor_words::has_room;
+use crate::room::{has_room, surely_fits};
 use replay_log::Base;
 use seq_model::{Memory, Op, Value};
 use std::alloc::Global;
 use step_core::Actor;
 
-/// Whether the locations of the call on the base as it is fit the sets of the transaction. The collection begins at location `first`.
-/// It is asked before anything is learnt for the call: an edition that is learnt is not forgotten.
+/// More locations than a collection has stripes.
+const MORE_READS: usize = 2;
+
+/// A call writes at most so many locations.
+const MOST_WRITES: usize = 2;
+
+/// Whether the locations of the call on the base as it is, which has so many stripes, fit the sets of the transaction. The collection
+/// begins at location `first`. It is asked before anything is learnt for the call: an edition that is learnt is not forgotten. Where the
+/// sets have room for the locations of any call on the base, the outcome of this one is not sought.
 pub fn fits_base<V: Value>(
+    words: &Actor,
+    base: &Base<V>,
+    stripes: u32,
+    first: u32,
+    op: &Op<V>,
+) -> Result<bool, Memory>
+    requires count { stripes ≡ stripes_of base.now }
+    requires stripes { 0 < stripes_of base.now }
+    requires range { first + locations_of (stripes_of base.now) (shown_of base.now) ≤ 2 ^ 32 }
+    ensures fits { IfOk result (λ fits. (o : Outcome V) → outcome_of op.now (shown_of base.now) ≡ Some o →
+        fits ≡ fits_base words.now base.now first o) }
+    ensures known { IfOk result (λ fits. fits ≡ false → (o : Outcome V) × (outcome_of op.now (shown_of base.now) ≡ Some o)) }
+{
+    if surely_fits(words, stripes as usize + MORE_READS, MOST_WRITES) {
+        Ok(true)
+    } else {
+        fits_outcome(words, base, first, op)
+    }
+}
+
+fn fits_outcome<V: Value>(
     words: &Actor,
     base: &Base<V>,
     first: u32,
@@ -26,7 +54,8 @@ pub fn fits_base<V: Value>(
 ) -> Result<bool, Memory>
     requires stripes { 0 < stripes_of base.now }
     requires range { first + locations_of (stripes_of base.now) (shown_of base.now) ≤ 2 ^ 32 }
-    ensures { IfOk result (λ fits. (o : Outcome V) × (outcome_of op.now (shown_of base.now) ≡ Some o) × (fits ≡ fits_base words.now base.now first o)) }
+    ensures { IfOk result (λ fits. (o : Outcome V) × (outcome_of op.now (shown_of base.now) ≡ Some o)
+        × (fits ≡ fits_base words.now base.now first o)) }
 {
     match base.outcome(op) {
         Ok(outcome) => {

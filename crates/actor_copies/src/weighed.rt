@@ -10,8 +10,8 @@ ghost use Rattle.actor_copies.specs.Writes.{with_next};
 
 use crate::copies::Copied;
 use crate::footprints::with_known;
+use crate::room::has_room;
 use crate::writes::with_next;
-use actor_words::has_room;
 use conflict::Outcome;
 use seq_model::{Memory, Op, Value};
 use std::alloc::Global;

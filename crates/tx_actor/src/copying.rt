@@ -60,10 +60,10 @@ impl<V: Value> TxActor<V> {
         ensures err { OnErr result (IsUnmoved self.old self.new) }
     {
         let first = blocks.first_of(asked.collection);
-        if !fits_base(&self.words, base, first, &asked.op)? {
+        let stripes = blocks.stripes_of(asked.collection);
+        if !fits_base(&self.words, base, stripes, first, &asked.op)? {
             return Ok(None);
         }
-        let stripes = blocks.stripes_of(asked.collection);
         match find(base, &asked.op) {
             Ok(found) => {
                 let copied = self.readies_copy(alloc, stripes, first, found, asked)?;
