@@ -19,7 +19,7 @@ use Rattle.actor_copies.specs.declared.copies.CopyOf.{CopyOf}
 use Rattle.actor_copies.specs.declared.copies.Copied.{Copied}
 use Rattle.actor_copies.specs.declared.copies.Copied.TheVariants.{Keys, Whole}
 use Rattle.actor_copies.specs.Copies as copies
-use Rattle.actor_copies.specs.Copies.{IsCopied, IsKept, IsOf, IsReady, answer_of, edition_at, holds_call, memo_piece}
+use Rattle.actor_copies.specs.Copies.{IsKept, IsOf, answer_of, edition_at, holds_call, memo_piece}
 use Rattle.actor_copies.specs.Footprints.{known_edition, reads_in, writes_in}
 use Rattle.actor_copies.specs.Copied.{IsReadBy, IsReadOf}
 use Rattle.actor_copies.specs.Keeps.{Knows}

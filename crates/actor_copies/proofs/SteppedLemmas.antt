@@ -3,7 +3,7 @@
 use Rattle.std.proofs.Common.{◌≡◌, ℕ, zero, suc, Bool, true, false, cond, List, [], ◌∷◌, ◌++◌, Some, inl, refl, sym, ap, subst, ◌∙◌, eqb}
 use Rattle.tx_sets.specs.Entries.{Entries}
 use Rattle.word_machine.specs.Actor as machine
-use Rattle.word_machine.specs.Actor.{Actor, Call, Place, Read, goes}
+use Rattle.word_machine.specs.Actor.{Actor, Call, Place, Read}
 use Rattle.word_machine.specs.Notices as told
 use Rattle.word_machine.specs.Opacity.{first_read}
 use Rattle.word_machine.specs.Requests as word

@@ -16,8 +16,8 @@ use seq_model::{Memory, Op, Value};
 use std::alloc::Global;
 use step_core::Actor;
 
-/// More locations than a collection has stripes.
-const MORE_READS: usize = 2;
+/// A call reads at most the stripes of its collection and so many locations more.
+const OTHER_READS: usize = 2;
 
 /// A call writes at most so many locations.
 const MOST_WRITES: usize = 2;
@@ -39,7 +39,7 @@ pub fn fits_base<V: Value>(
         fits ≡ fits_base words.now base.now first o) }
     ensures known { IfOk result (λ fits. fits ≡ false → (o : Outcome V) × (outcome_of op.now (shown_of base.now) ≡ Some o)) }
 {
-    if surely_fits(words, stripes as usize + MORE_READS, MOST_WRITES) {
+    if surely_fits(words, stripes as usize + OTHER_READS, MOST_WRITES) {
         Ok(true)
     } else {
         fits_outcome(words, base, first, op)

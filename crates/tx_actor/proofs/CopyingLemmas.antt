@@ -21,7 +21,7 @@ use Rattle.replay_log.specs.Pieces.{Piece, is_piece, piece_at, piece_in, piece_o
 use Rattle.replay_log.specs.Contents as contents
 use Rattle.replay_log.specs.Contents.{Block, block_of, content, end_of, first_of, shifted, size}
 use Rattle.replay_log.specs.Worlds as worlds
-use Rattle.replay_log.specs.Worlds.{World, Seat, After, acted, actor_of, at_stage, because, gives_up, has_room, is_stale, outcome_at, outcome_now, seated, sized_by, step_at, with_editions, with_piece}
+use Rattle.replay_log.specs.Worlds.{World, Seat, After, actor_of, at_stage, because, gives_up, has_room, is_stale, outcome_at, outcome_now, seated, sized_by, step_at, with_editions, with_piece}
 use Rattle.step_core.specs.Shown as words
 use Rattle.atomic_steps.specs.Bases.{IsBaseOf}
 use Rattle.actor_words.specs.Blocks.{BlocksView, IsLaid}

@@ -1,10 +1,9 @@
 -- What a request leaves of an actor's shadow: a request on words leaves it, and so does a commit or an abort, so what the actor has of
 -- collections stays its own; the acceptance of a call puts its outcome there, and into the copy.
-use Rattle.std.proofs.Common.{◌≡◌, ◌<◌, ℕ, zero, suc, length, arith, Bool, true, false, ◌&&◌, cond, List, [], ◌∷◌, Some, refl, sym, ap, ◌∙◌}
+use Rattle.std.proofs.Common.{◌≡◌, ℕ, Bool, true, false, ◌&&◌, cond, [], ◌∷◌, Some, refl, sym, ap, ◌∙◌}
 use Rattle.tx_sets.specs.Entries.{Entries}
 use Rattle.word_machine.specs.Notices as told
 use Rattle.seq_model.specs.declared.call.Op.TheVariants.{Read, Write}
-use Rattle.std.specs.Prelude.{slice_get}
 use Rattle.word_machine.specs.Requests.{AskWrite}
 use Rattle.conflict.specs.declared.outcome.Outcome.{Outcome}
 use Rattle.collection_machine.specs.Boosted.{Boosted, longer, requested}
@@ -12,7 +11,6 @@ use Rattle.replay_log.specs.Base.{Shown}
 use Rattle.replay_log.specs.Contents.{Answered, is_plain}
 use Rattle.replay_log.specs.Worlds.{World, Seat, After, ask_op, cancels, commits, if_allowed, reads}
 use Rattle.tx_actor.specs.declared.actor.Answered as running
-use Rattle.actor_copies.specs.declared.copies.CopyOf.{CopyOf}
 use Rattle.tx_actor.specs.declared.actor.TxActor.{TxActor}
 use Rattle.actor_words.specs.declared.judged.Judged.{Judged}
 use Rattle.actor_words.specs.declared.judged.Judged.TheVariants.{All, Next, Stale}

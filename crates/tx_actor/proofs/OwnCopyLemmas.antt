@@ -14,7 +14,7 @@ use Rattle.seq_model.specs.declared.refusal.Refusal.TheVariants as refusal
 use Rattle.conflict.specs.declared.outcome.Outcome.{Outcome}
 use Rattle.replay_log.specs.declared.base.Base.{Base}
 use Rattle.replay_log.specs.Contents as contents
-use Rattle.replay_log.specs.Contents.{Block, HaveStripes, block_of, content, first_of}
+use Rattle.replay_log.specs.Contents.{Block, block_of, content, first_of}
 use Rattle.replay_log.specs.Worlds as worlds
 use Rattle.replay_log.specs.Worlds.{After, Seat, World, actor_of, happens, opened, outcome_at, run, with_editions}
 use Rattle.step_core.specs.Shown as words

@@ -20,7 +20,7 @@ use Rattle.seq_model.specs.declared.event.Notice.TheVariants.{Quiet, Answered}
 use Rattle.conflict.specs.declared.outcome.Outcome.{Outcome}
 use Rattle.collection_machine.specs.Boosted.{longer}
 use Rattle.replay_log.specs.Contents as contents
-use Rattle.replay_log.specs.Contents.{Block, HaveStripes, first_of}
+use Rattle.replay_log.specs.Contents.{Block, HaveStripes}
 use Rattle.replay_log.specs.Worlds.{After, Loading, Seat, Stage, World, acted, actor_of, happens, moves, opened, run, word_notice}
 use Rattle.step_core.specs.Shown as words
 use Rattle.actor_words.specs.Dispatch.{is_loading}

@@ -12,7 +12,7 @@ use Rattle.conflict.specs.declared.outcome.Outcome.{Outcome}
 use Rattle.replay_log.specs.Contents.{Answered as Outcomes, shifted}
 use Rattle.replay_log.specs.Pieces.{Piece}
 use Rattle.replay_log.specs.Worlds as worlds
-use Rattle.replay_log.specs.Worlds.{World, actor_of, is_change, new_in, reply_of}
+use Rattle.replay_log.specs.Worlds.{World, is_change, new_in, reply_of}
 use Rattle.replay_log.proofs.CountLemmas.{locations-cons}
 use Rattle.tx_actor.specs.declared.actor.Answered as running
 use Rattle.actor_copies.specs.declared.copies.CopyOf.{CopyOf}

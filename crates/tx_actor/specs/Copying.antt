@@ -8,7 +8,7 @@ use Rattle.replay_log.specs.Base.{outcome_of, shown_of, stripes_of}
 use Rattle.replay_log.specs.Parts.{kind_of}
 use Rattle.replay_log.specs.Contents.{Block, block_of, first_of}
 use Rattle.replay_log.specs.Worlds as worlds
-use Rattle.replay_log.specs.Worlds.{World, actor_of, has_room, outcome_at, sized_by, step_at}
+use Rattle.replay_log.specs.Worlds.{World, actor_of, step_at}
 use Rattle.step_core.specs.Shown as words
 use Rattle.step_core.specs.declared.actor.Place.TheVariants as place
 use Rattle.atomic_steps.specs.Bases.{IsBaseOf}
