@@ -1,7 +1,8 @@
 -- A transaction that has begun. The load of the clock makes its shadow anew: no call, and of each location what the opening showed there,
 -- which no action changes; and the opening of a block shows the parts of the collection that was put there. Its word actor has made no
 -- call either.
-use Rattle.std.proofs.Common.{◌≡◌, ℕ, ◌+◌, Bool, true, false, cond, get_or, length, List, [], ◌∷◌, Some, None, refl, sym, ap, subst, ◌∙◌, arith}
+use Rattle.std.proofs.Common.{◌≡◌, ℕ, ◌+◌, Bool, true, false, cond, get_or, length, List, [], ◌∷◌, Some, None, refl, sym, ap, subst, ◌∙◌}
+use Rattle.std.proofs.Common.{arith}
 use Rattle.std.specs.Prelude.{nat_lt}
 use Rattle.std.proofs.lemmas.Bool.{cond-true}
 use Rattle.word_machine.specs.Actor as machine

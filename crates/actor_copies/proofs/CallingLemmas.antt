@@ -1,7 +1,8 @@
 -- A call of an actor at rest, in each world that events have reached: what is known there of its transaction (`Live`) says that what was
 -- read of a collection was read with the copied edition, and that the read set has it; so a call whose locations are all judged by the
 -- read set may be accepted. A location that no read set has is in no write set, since an outcome reads what it writes.
-use Rattle.std.proofs.Common.{◌≡◌, ◌⊎◌, ℕ, Bool, true, false, ◌&&◌, cond, eqb, eq-eqb, eqb-true, List, [], ◌∷◌, Option, Some, None, inl, inr, refl, sym, ap, subst, ◌∙◌}
+use Rattle.std.proofs.Common.{◌≡◌, ◌⊎◌, ℕ, Bool, true, false, ◌&&◌, cond, eqb, eq-eqb, eqb-true, List, [], ◌∷◌, Option, Some, None, inl}
+use Rattle.std.proofs.Common.{inr, refl, sym, ap, subst, ◌∙◌}
 use Rattle.tx_sets.specs.Entries.{Entries, lookup}
 use Rattle.word_machine.specs.Actor as machine
 use Rattle.word_machine.specs.Opacity.{first_read}
@@ -13,7 +14,8 @@ use Rattle.conflict.specs.declared.outcome.Outcome.{Outcome}
 use Rattle.collection_machine.specs.Content.{IsIn}
 use Rattle.collection_machine.specs.Boosted.{Accept, changes, is_edition, is_open, is_sound}
 use Rattle.replay_log.specs.Base.{Shown}
-use Rattle.replay_log.specs.Contents.{Asked, Block, HaveStripes, answer, blank, block_of, content, first_of, is_plain, seen, shifted, writes_in}
+use Rattle.replay_log.specs.Contents.{Asked, Block, HaveStripes, answer, blank, block_of, content, first_of, is_plain, seen, shifted}
+use Rattle.replay_log.specs.Contents.{writes_in}
 use Rattle.replay_log.specs.Guards.{Allows}
 use Rattle.replay_log.specs.Worlds.{World, Stage, Open, actor_of, is_change, opened, outcome_at, run, with_editions}
 use Rattle.replay_log.proofs.CallLemmas.{in_set_some, known_some, may_if, reads_ok}

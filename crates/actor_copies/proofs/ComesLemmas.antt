@@ -1,7 +1,8 @@
 -- What a call comes to once it is judged, in a world that keeps what events keep after it. Were the acceptance refused, that world would
 -- have told one call more than its shadow has outcomes; so the guard holds (`allowed`). Were the location that is read next written, its
 -- word actor would rest at a stage that loads (`unwritten`).
-use Rattle.std.proofs.Common.{◌≡◌, ℕ, Bool, true, false, true≢false, cond, not, ◌&&◌, eqb, eqb-true, List, [], ◌∷◌, ◌++◌, Option, Some, None, inl, inr, refl, sym, ap, subst, ◌∙◌}
+use Rattle.std.proofs.Common.{◌≡◌, ℕ, Bool, true, false, true≢false, cond, not, ◌&&◌, eqb, eqb-true, List, [], ◌∷◌, ◌++◌, Option, Some}
+use Rattle.std.proofs.Common.{None, inl, inr, refl, sym, ap, subst, ◌∙◌}
 use Rattle.std.proofs.lemmas.List.Elements.{filter-append}
 use Rattle.tx_sets.specs.Entries.{Entries, lookup}
 use Rattle.word_machine.specs.Actor as machine
@@ -17,7 +18,8 @@ use Rattle.collection_machine.specs.Content.{IsIn}
 use Rattle.replay_log.specs.Base.{Shown}
 use Rattle.replay_log.specs.Contents.{Answered, Block, content, is_plain}
 use Rattle.replay_log.specs.Guards.{Allows}
-use Rattle.replay_log.specs.Worlds.{World, Seat, Loading, acted, actor_of, at_stage, call_of, outcome_at, reply_of, with_call, with_editions}
+use Rattle.replay_log.specs.Worlds.{World, Seat, Loading, acted, actor_of, at_stage, call_of, outcome_at, reply_of, with_call}
+use Rattle.replay_log.specs.Worlds.{with_editions}
 use Rattle.replay_log.proofs.MixedLemmas.{Told, is_on_word, is_word_op, on_held}
 use Rattle.replay_log.proofs.SeatLemmas.{AtReading, Copy, IsLeft, Kept, Linked, StageOk}
 use Rattle.actor_words.specs.declared.judged.Judged.TheVariants.{All, Next}

@@ -1,7 +1,8 @@
 -- What is copied for a call. A memo's keys were read where their locations are, and what has been read is not copied anew, so a memo is of
 -- the parts that are there once others are copied too (`moved`); where what was read has the edition still that the base has, the touched
 -- key is that of these parts (`touched`), and so is what the memo learns. A base that is copied whole is what all of its parts are.
-use Rattle.std.proofs.Common.{◌≡◌, ◌⊎◌, ℕ, zero, suc, ◌+◌, ◌<◌, ◌==◌, Bool, true, false, true≢false, cond, eqb-true, eq-eqb, List, [], ◌∷◌, Option, Some, None, inl, inr, Contains, refl, sym, ap, subst, ◌∙◌, arith}
+use Rattle.std.proofs.Common.{◌≡◌, ◌⊎◌, ℕ, zero, suc, ◌+◌, ◌<◌, ◌==◌, Bool, true, false, true≢false, cond, eqb-true, eq-eqb, List, [], ◌∷◌}
+use Rattle.std.proofs.Common.{Option, Some, None, inl, inr, Contains, refl, sym, ap, subst, ◌∙◌, arith}
 use Rattle.std.specs.Prelude.{is_some, not, slice_index, slice_get, length, unwrap_or}
 use Rattle.std.specs.Cmp.{nat_cmp_total}
 use Rattle.std.proofs.lemmas.Option.{get_or_from_slice_get, slice_get-get_or}

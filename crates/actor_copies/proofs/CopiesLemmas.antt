@@ -1,6 +1,7 @@
 -- What a transaction has of a collection, against its shadow in a world. A log is one outcome after another (`shows_log`), so after its own
 -- calls the world shows the whole of what is kept with the log made on it, and there a held call has the answer that is kept.
-use Rattle.std.proofs.Common.{◌≡◌, ◌≢◌, ℕ, ◌+◌, ◌<◌, ◌++◌, ◌==◌, Bool, true, false, List, [], Option, Some, eq-eqb, eqb-true, append-nil, refl, sym, ap, subst, ◌∙◌}
+use Rattle.std.proofs.Common.{◌≡◌, ◌≢◌, ℕ, ◌+◌, ◌<◌, ◌++◌, ◌==◌, Bool, true, false, List, [], Option, Some, eq-eqb, eqb-true, append-nil}
+use Rattle.std.proofs.Common.{refl, sym, ap, subst, ◌∙◌}
 use Rattle.std.specs.Prelude.{slice_get}
 use Rattle.std.specs.FinMap as map
 use Rattle.std.specs.FinMap.{FinMap}
@@ -23,11 +24,13 @@ use Rattle.atomic_steps.proofs.Bases.{after_both, changes_by, kind_stays, more_c
 use Rattle.conflict.specs.Table.{Room}
 use Rattle.replay_log.specs.declared.touch.Touch.{Touch}
 use Rattle.replay_log.specs.Touches.{touched_by}
-use Rattle.shadow.specs.Memo.{IsAlike, IsCopyBy, MemoView, copies_kept, entries_kept, grown_kept, holds_with, shrunk_kept, with_count, with_entry, with_total}
+use Rattle.shadow.specs.Memo.{IsAlike, IsCopyBy, MemoView, copies_kept, entries_kept, grown_kept, holds_with, shrunk_kept, with_count}
+use Rattle.shadow.specs.Memo.{with_entry, with_total}
 use Rattle.shadow.proofs.CopyLemmas.{copy_accepted, copy_answered, moved_copy, touched_copy}
 use Rattle.actor_copies.specs.declared.copies.Copied.{Copied}
 use Rattle.actor_copies.specs.declared.copies.Copied.TheVariants.{Keys, Whole}
-use Rattle.actor_copies.specs.Copies.{IsAccepted, IsCopied, IsLearnt, IsOf, answer_of, answered_on, edition_at, has_piece, holds_call, memo_piece}
+use Rattle.actor_copies.specs.Copies.{IsAccepted, IsCopied, IsLearnt, IsOf, answer_of, answered_on, edition_at, has_piece, holds_call}
+use Rattle.actor_copies.specs.Copies.{memo_piece}
 
 itself : (k : ℕ) → (k == k) ≡ true
 itself k = eq-eqb k k refl

@@ -1,7 +1,8 @@
 -- What is copied for a call. A collection is the whole of its parts, and what a call answers depends on the parts that it reads; so where
 -- those are the same, what is held is answered alike, and what is touched is the same. Parts taken from two collections of one kind are
 -- the parts of a third.
-use Rattle.std.proofs.Common.{◌≡◌, ℕ, ◌+◌, ◌<◌, ◌&&◌, Bool, true, false, cond, [], ◌∷◌, Option, Some, None, Contains, not, refl, sym, ap, subst, ◌∙◌, true≢false}
+use Rattle.std.proofs.Common.{◌≡◌, ℕ, ◌+◌, ◌<◌, ◌&&◌, Bool, true, false, cond, [], ◌∷◌, Option, Some, None, Contains, not, refl, sym, ap}
+use Rattle.std.proofs.Common.{subst, ◌∙◌, true≢false}
 use Rattle.std.specs.FinMap.{FinMap, get}
 use Rattle.std.specs.Ordering.{nat_cmp}
 use Rattle.seq_model.specs.declared.call.Op.{Op}

@@ -8,7 +8,9 @@ use Rattle.seq_model.specs.declared.event.Event.{Event}
 use Rattle.seq_model.specs.declared.event.Event.TheVariants.{Ask, Step, Starve}
 use Rattle.replay_log.specs.Contents.{Answered, Asked, first_of, home_of}
 use Rattle.replay_log.specs.WorldProgress.{whose}
-use Rattle.replay_log.specs.Worlds.{World, Stage, After, Idle, Beginning, Open, Locking, Releasing, Closing, Cancelling, Leaving, Reading, Trying, Copying, Loading, Gating, Ready, Storing, Homing, Returning, acted, actor_of, happens, moves, opened, outcome_at, run}
+use Rattle.replay_log.specs.Worlds.{World, Stage, After, Idle, Beginning, Open, Locking, Releasing, Closing, Cancelling, Leaving, Reading}
+use Rattle.replay_log.specs.Worlds.{Trying, Copying, Loading, Gating, Ready, Storing, Homing, Returning, acted, actor_of, happens, moves}
+use Rattle.replay_log.specs.Worlds.{opened, outcome_at, run}
 use Rattle.replay_log.proofs.ContentLemmas.{home_is}
 use Rattle.replay_log.proofs.EventLemmas.{happens_linked, opened_linked, run_linked}
 use Rattle.replay_log.proofs.RequestLemmas.{run_by}

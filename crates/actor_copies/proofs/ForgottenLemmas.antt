@@ -16,7 +16,8 @@ use Rattle.replay_log.specs.Parts.{MapKind, BagKind, kind_of}
 use Rattle.replay_log.specs.Pieces as pieces
 use Rattle.replay_log.specs.Pieces.{Piece}
 use Rattle.replay_log.specs.Touches.{touched_by}
-use Rattle.shadow.specs.Memo.{MemoView, copies_without, entries_without, has_key, holds_with, total_without, with_count, with_entry, with_key, with_total}
+use Rattle.shadow.specs.Memo.{MemoView, copies_without, entries_without, has_key, holds_with, total_without, with_count, with_entry}
+use Rattle.shadow.specs.Memo.{with_key, with_total}
 use Rattle.actor_copies.specs.declared.copies.Copied.TheVariants.{Keys, Whole}
 use Rattle.actor_copies.specs.Copied.{ForgetsPieces}
 use Rattle.actor_copies.specs.Copies.{memo_piece}

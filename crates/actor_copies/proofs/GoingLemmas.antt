@@ -14,7 +14,8 @@ use Rattle.collection_machine.specs.Boosted.{Boosted, PutGate, changes, copied, 
 use Rattle.replay_log.specs.Base.{Shown}
 use Rattle.replay_log.specs.Contents.{Answered, Asked, block_of, content, first_of, is_plain}
 use Rattle.replay_log.specs.Pieces.{piece_at}
-use Rattle.replay_log.specs.Worlds.{World, Seat, Stage, Open, Copying, After, acted, actor_of, at_stage, differs, has_room, is_stale, opened, outcome_at, outcome_now, run, seated, step_at, with_editions, with_piece}
+use Rattle.replay_log.specs.Worlds.{World, Seat, Stage, Open, Copying, After, acted, actor_of, at_stage, differs, has_room, is_stale}
+use Rattle.replay_log.specs.Worlds.{opened, outcome_at, outcome_now, run, seated, step_at, with_editions, with_piece}
 use Rattle.replay_log.proofs.CallLemmas.{known_some, reads_ok}
 use Rattle.replay_log.proofs.EventLemmas.{opened_linked, run_linked}
 use Rattle.replay_log.proofs.MixedLemmas.{Told, on_held}

@@ -1,7 +1,8 @@
 -- While the locations of a call are read, those that are left lie in its collection: they are the locations that its outcome reads, and
 -- judging takes off the first ones. No other function of the definitions leads to that stage, so one lemma for each says it of the seat
 -- that the function leaves.
-use Rattle.std.proofs.Common.{◌≡◌, ℕ, zero, suc, Bool, true, false, cond, ◌&&◌, List, [], ◌∷◌, ◌++◌, Option, Some, None, inl, inr, refl, sym, subst, eqb, length}
+use Rattle.std.proofs.Common.{◌≡◌, ℕ, zero, suc, Bool, true, false, cond, ◌&&◌, List, [], ◌∷◌, ◌++◌, Option, Some, None, inl, inr, refl}
+use Rattle.std.proofs.Common.{sym, subst, eqb, length}
 use Rattle.std.specs.Prelude.{nat_lt}
 use Rattle.std.proofs.lemmas.Bool.{cases_eq}
 use Rattle.tx_sets.specs.Entries.{Entries, lookup}
@@ -26,7 +27,13 @@ use Rattle.replay_log.specs.Base.{Shown}
 use Rattle.replay_log.specs.Contents.{Answered, Asked, Block, HaveStripes, block_of, content, first_of, home_of, reads_in}
 use Rattle.replay_log.specs.Pieces.{piece_at}
 use Rattle.replay_log.specs.WorldProgress.{whose}
-use Rattle.replay_log.specs.Worlds.{World, Seat, Stage, Idle, Beginning, Open, Locking, Releasing, Closing, Cancelling, Leaving, Reading, Trying, Copying, Loading, Gating, Ready, Storing, Homing, Returning, Ended, After, acted, actor_of, answers, ask_at, ask_op, asks, at_stage, because, call_of, calls_on, cancels, commits, gives_up, goes_home, happens, has_begun, has_cancelled, has_loaded, has_locked, has_read, has_released, has_room, has_stored, has_tried, if_allowed, is_fresh, is_leaving, judges, loads, more_tries, moves, no_one, opened, outcome_at, reads, recorded, reply_of, run, seated, sized_by, starve_at, step_at, takes_gates, with_call, with_editions, with_piece, word_notice, written_homes}
+use Rattle.replay_log.specs.Worlds.{World, Seat, Stage, Idle, Beginning, Open, Locking, Releasing, Closing, Cancelling, Leaving, Reading}
+use Rattle.replay_log.specs.Worlds.{Trying, Copying, Loading, Gating, Ready, Storing, Homing, Returning, Ended, After, acted, actor_of}
+use Rattle.replay_log.specs.Worlds.{answers, ask_at, ask_op, asks, at_stage, because, call_of, calls_on, cancels, commits, gives_up}
+use Rattle.replay_log.specs.Worlds.{goes_home, happens, has_begun, has_cancelled, has_loaded, has_locked, has_read, has_released, has_room}
+use Rattle.replay_log.specs.Worlds.{has_stored, has_tried, if_allowed, is_fresh, is_leaving, judges, loads, more_tries, moves, no_one}
+use Rattle.replay_log.specs.Worlds.{opened, outcome_at, reads, recorded, reply_of, run, seated, sized_by, starve_at, step_at, takes_gates}
+use Rattle.replay_log.specs.Worlds.{with_call, with_editions, with_piece, word_notice, written_homes}
 use Rattle.replay_log.proofs.CallLemmas.{reads_ok}
 use Rattle.replay_log.proofs.EventLemmas.{happens_linked, opened_linked}
 use Rattle.replay_log.proofs.SeatLemmas.{IsLeft, Linked}

@@ -11,10 +11,12 @@ use Rattle.conflict.specs.declared.change.Change.{Change}
 use Rattle.conflict.specs.declared.outcome.Outcome.{Outcome}
 use Rattle.collection_machine.specs.Boosted.{Shadow}
 use Rattle.replay_log.specs.Base.{Shown, editions_of, reads_of, shown_of, writes_of}
-use Rattle.replay_log.specs.Contents.{Answered, Block, blank, content, first_of, reads_in as reads_at, writes_in as writes_at, shifted, size}
+use Rattle.replay_log.specs.Contents.{Answered, Block, blank, content, first_of, reads_in as reads_at, writes_in as writes_at, shifted}
+use Rattle.replay_log.specs.Contents.{size}
 use Rattle.replay_log.proofs.ContentLemmas.{positive_at}
 use Rattle.replay_log.specs.Pieces.{piece_at}
-use Rattle.replay_log.specs.Worlds.{World, Seat, After, Open, actor_of, answers, at_stage, calls_on, has_room, loads, outcome_at, seated, with_editions}
+use Rattle.replay_log.specs.Worlds.{World, Seat, After, Open, actor_of, answers, at_stage, calls_on, has_room, loads, outcome_at, seated}
+use Rattle.replay_log.specs.Worlds.{with_editions}
 use Rattle.atomic_steps.proofs.Bases.{writes_by}
 use Rattle.actor_copies.specs.declared.copies.Copied.{Copied}
 use Rattle.actor_copies.specs.declared.copies.Copied.TheVariants.{Keys, Whole}

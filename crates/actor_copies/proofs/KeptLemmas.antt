@@ -1,6 +1,7 @@
 -- What a transaction has of its collections, one after another: the first that is of a collection is what it has of it. An accepted
 -- outcome leaves the pieces that there are (`copy_holds`).
-use Rattle.std.proofs.Common.{◌≡◌, ◌≢◌, ◌<◌, ℕ, zero, suc, ◌==◌, Bool, true, false, cond, eq-eqb, eqb-true, length, List, [], ◌∷◌, Option, Some, None, take, get_or, refl, sym, ap, ◌∙◌}
+use Rattle.std.proofs.Common.{◌≡◌, ◌≢◌, ◌<◌, ℕ, zero, suc, ◌==◌, Bool, true, false, cond, eq-eqb, eqb-true, length, List, [], ◌∷◌, Option}
+use Rattle.std.proofs.Common.{Some, None, take, get_or, refl, sym, ap, ◌∙◌}
 use Rattle.std.proofs.lemmas.Bool.{cond-true, cond-false}
 use Rattle.std.proofs.lemmas.Option.{slice_get_read}
 use Rattle.std.specs.Prelude.{slice_get}

@@ -1,7 +1,8 @@
 -- Where the last location of a call is read with the copied edition. What events keep of a world says that the call's outcome is what the
 -- shadow answers, and the step leads where events lead, so the lemmas on what a judged call comes to serve. Each location was read with the
 -- copied edition first: the read set says so of one that keeps a read set, and a declared reader reads all from one memory (`read_again`).
-use Rattle.std.proofs.Common.{◌≡◌, ℕ, true, false, eqb, eq-eqb, ne_eqb, List, [], ◌∷◌, ◌++◌, Option, Some, None, inl, inr, refl, sym, ap, subst, ◌∙◌, true≢false}
+use Rattle.std.proofs.Common.{◌≡◌, ℕ, true, false, eqb, eq-eqb, ne_eqb, List, [], ◌∷◌, ◌++◌, Option, Some, None, inl, inr, refl, sym, ap}
+use Rattle.std.proofs.Common.{subst, ◌∙◌, true≢false}
 use Rattle.std.specs.Prelude.{unwrap_or}
 use Rattle.std.proofs.lemmas.Bool.{cases_eq, cond-true, cond-false}
 use Rattle.tx_sets.specs.Entries.{Entries, lookup}
@@ -20,7 +21,8 @@ use Rattle.seq_model.specs.declared.held.Held.{Held}
 use Rattle.collection_machine.specs.Boosted.{Accept, changes}
 use Rattle.replay_log.specs.Contents.{Answered, Block, HaveStripes, content, is_plain}
 use Rattle.replay_log.specs.Guards.{Allows}
-use Rattle.replay_log.specs.Worlds.{World, Seat, Stage, Loading, After, acted, actor_of, has_loaded, moves, opened, outcome_at, run, step_at, word_notice}
+use Rattle.replay_log.specs.Worlds.{World, Seat, Stage, Loading, After, acted, actor_of, has_loaded, moves, opened, outcome_at, run}
+use Rattle.replay_log.specs.Worlds.{step_at, word_notice}
 use Rattle.replay_log.proofs.ActionLemmas.{learns, mine}
 use Rattle.replay_log.proofs.CallLemmas.{reading_none, reading_unwritten}
 use Rattle.replay_log.proofs.EventLemmas.{opened_linked, run_linked}

@@ -1,6 +1,7 @@
 -- The log of a copy is that of its transaction's calls on the collection. Each location in it lies in the collection, by the frame laws, so
 -- in each base of its block; and the edition that such a base has there is not above the clock.
-use Rattle.std.proofs.Common.{◌≡◌, ◌≢◌, ℕ, zero, suc, ◌+◌, ◌-◌, ◌<◌, ◌≤◌, ◌++◌, ◌==◌, cond, if◌then◌else◌, Bool, true, false, eqb, eqb-true, get_or, length, List, [], ◌∷◌, Option, Some, None, take, drop, ⊎_elim, refl, sym, ap, subst, ◌∙◌, arith}
+use Rattle.std.proofs.Common.{◌≡◌, ◌≢◌, ℕ, zero, suc, ◌+◌, ◌-◌, ◌<◌, ◌≤◌, ◌++◌, ◌==◌, cond, if◌then◌else◌, Bool, true, false, eqb, eqb-true}
+use Rattle.std.proofs.Common.{get_or, length, List, [], ◌∷◌, Option, Some, None, take, drop, ⊎_elim, refl, sym, ap, subst, ◌∙◌, arith}
 use Rattle.std.specs.Prelude.{All, Contains, slice_get, slice_index}
 use Rattle.std.proofs.lemmas.Bool.{cond-false}
 use Rattle.std.proofs.lemmas.Option.{slice_get_read}

@@ -2,7 +2,8 @@
 -- and what there was knows the editions of locations that were read alone, and answers by parts that were. So it is of the parts that are
 -- there now, which are those of a collection again. What is copied for the call is the actor's own where none of its locations was read
 -- with another edition, and of a location that has been read with two editions there is none.
-use Rattle.std.proofs.Common.{◌≡◌, ◌⊎◌, ℕ, ◌+◌, Bool, true, false, true≢false, cond, List, [], ◌∷◌, Option, Some, None, inl, inr, sym, ap, subst, ◌∙◌}
+use Rattle.std.proofs.Common.{◌≡◌, ◌⊎◌, ℕ, ◌+◌, Bool, true, false, true≢false, cond, List, [], ◌∷◌, Option, Some, None, inl, inr, sym, ap}
+use Rattle.std.proofs.Common.{subst, ◌∙◌}
 use Rattle.tx_sets.specs.Entries.{Entries}
 use Rattle.word_machine.specs.Actor.{Actor, Call}
 use Rattle.word_machine.specs.Opacity.{first_read}

@@ -1,7 +1,8 @@
 -- What an event of an actor leaves of its shadow and of what it has read first: one lemma for each function of the definitions, in their
 -- order. What a call comes to (`comes`) is told by the world behind the event, as events keep it: where all its locations are judged it is
 -- accepted, and one that is read next is in no set, so its read is not answered at once.
-use Rattle.std.proofs.Common.{◌≡◌, ◌⊎◌, ℕ, ◌+◌, ◌<◌, Bool, true, false, cond, ◌&&◌, not, List, [], ◌∷◌, length, Option, Some, None, inl, inr, refl, sym, ap, subst, ◌∙◌}
+use Rattle.std.proofs.Common.{◌≡◌, ◌⊎◌, ℕ, ◌+◌, ◌<◌, Bool, true, false, cond, ◌&&◌, not, List, [], ◌∷◌, length, Option, Some, None, inl}
+use Rattle.std.proofs.Common.{inr, refl, sym, ap, subst, ◌∙◌}
 use Rattle.std.specs.Prelude.{nat_lt}
 use Rattle.tx_sets.specs.Entries.{Entries, lookup}
 use Rattle.word_machine.specs.Actor as machine
@@ -22,7 +23,10 @@ use Rattle.collection_machine.specs.Content.{has}
 use Rattle.collection_machine.specs.Boosted.{longer}
 use Rattle.replay_log.specs.Contents.{Answered, Asked, block_of, content}
 use Rattle.replay_log.specs.Pieces.{piece_at}
-use Rattle.replay_log.specs.Worlds.{World, Seat, Stage, Idle, Beginning, Open, Locking, Closing, Reading, Trying, Copying, Loading, Gating, Ready, After, acted, actor_of, answers, ask_at, ask_idle, ask_op, ask_open, asks, at_stage, because, calls_on, cancels, commits, gives_up, has_room, if_allowed, is_known, loads, may_ask, more_tries, outcome_at, reads, reply_of, seated, starve_at, with_editions}
+use Rattle.replay_log.specs.Worlds.{World, Seat, Stage, Idle, Beginning, Open, Locking, Closing, Reading, Trying, Copying, Loading, Gating}
+use Rattle.replay_log.specs.Worlds.{Ready, After, acted, actor_of, answers, ask_at, ask_idle, ask_op, ask_open, asks, at_stage, because}
+use Rattle.replay_log.specs.Worlds.{calls_on, cancels, commits, gives_up, has_room, if_allowed, is_known, loads, may_ask, more_tries}
+use Rattle.replay_log.specs.Worlds.{outcome_at, reads, reply_of, seated, starve_at, with_editions}
 use Rattle.replay_log.proofs.ActionLemmas.{mine}
 use Rattle.replay_log.proofs.MixedLemmas.{Told, is_word_op, on_held}
 use Rattle.replay_log.proofs.SeatLemmas.{Copy, Linked, StageOk, at_of, gates_of}

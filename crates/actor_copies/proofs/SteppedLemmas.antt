@@ -14,7 +14,10 @@ use Rattle.collection_machine.specs.Content.{has}
 use Rattle.collection_machine.specs.Boosted.{GoHome, PutGate, TakeGate, changes, is_none}
 use Rattle.replay_log.specs.Contents.{Answered, Asked, content}
 use Rattle.replay_log.specs.Pieces.{covers_at, piece_at}
-use Rattle.replay_log.specs.Worlds.{World, Seat, Stage, Idle, Beginning, Open, Locking, Releasing, Closing, Cancelling, Leaving, Reading, Trying, Copying, Loading, Gating, Ready, Storing, Homing, Returning, After, acted, actor_of, asks, because, gives_up, goes_home, has_cancelled, has_loaded, has_locked, has_read, has_released, has_stored, has_tried, loads, moves, outcome_at, recorded, sized_by, step_at, takes_gates, with_piece, word_notice}
+use Rattle.replay_log.specs.Worlds.{World, Seat, Stage, Idle, Beginning, Open, Locking, Releasing, Closing, Cancelling, Leaving, Reading}
+use Rattle.replay_log.specs.Worlds.{Trying, Copying, Loading, Gating, Ready, Storing, Homing, Returning, After, acted, actor_of, asks}
+use Rattle.replay_log.specs.Worlds.{because, gives_up, goes_home, has_cancelled, has_loaded, has_locked, has_read, has_released, has_stored}
+use Rattle.replay_log.specs.Worlds.{has_tried, loads, moves, outcome_at, recorded, sized_by, step_at, takes_gates, with_piece, word_notice}
 use Rattle.replay_log.proofs.ActionLemmas.{learns, mine}
 use Rattle.replay_log.proofs.MixedLemmas.{Told, on_held}
 use Rattle.replay_log.proofs.PlaceLemmas.{AfterRead, IsQuiet, read_after, reading_quiet}
@@ -25,7 +28,8 @@ use Rattle.replay_log.proofs.StageLemmas.{at_move, first_stored}
 use Rattle.actor_words.specs.Shows.{put_back}
 use Rattle.actor_copies.proofs.GoingLemmas.{put_outcomes}
 use Rattle.actor_copies.proofs.StayingLemmas.{Either, SameIn, answers_come, ask_stays, gives_up_either, gives_up_stays, loads_come}
-use Rattle.actor_copies.proofs.StillLemmas.{IsNoBegin, IsStill, back_same, home_same, is_other, moved_same, moved_to, same, same_calls, taken_same}
+use Rattle.actor_copies.proofs.StillLemmas.{IsNoBegin, IsStill, back_same, home_same, is_other, moved_same, moved_to, same, same_calls}
+use Rattle.actor_copies.proofs.StillLemmas.{taken_same}
 
 -- ---- places
 quiet_no_begin : (p : Place) → IsQuiet p → IsNoBegin p

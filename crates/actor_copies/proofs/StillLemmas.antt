@@ -1,7 +1,8 @@
 -- What an action of an actor leaves of its shadow and of what it has read first, where locations from n on are no words. A request leaves
 -- the calls of the word actor, but for the read of a word and for a write, which reads nothing first; a step leaves them, but for the last
 -- load of a read. Only the store of a call's gate, an acceptance and the load that begins a transaction change a shadow.
-use Rattle.std.proofs.Common.{◌≡◌, ℕ, ◌<◌, ◌≤◌, Bool, true, false, cond, ◌&&◌, not, List, [], ◌∷◌, Option, Some, None, refl, sym, ap, subst, ◌∙◌, arith, eqb}
+use Rattle.std.proofs.Common.{◌≡◌, ℕ, ◌<◌, ◌≤◌, Bool, true, false, cond, ◌&&◌, not, List, [], ◌∷◌, Option, Some, None, refl, sym, ap, subst}
+use Rattle.std.proofs.Common.{◌∙◌, arith, eqb}
 use Rattle.std.specs.Prelude.{nat_le}
 use Rattle.std.proofs.lemmas.Bool.{cond_both}
 use Rattle.vlock_word.specs.declared.lock_word.LockWord.{LockWord}
@@ -16,7 +17,9 @@ use Rattle.word_machine.specs.World as world
 use Rattle.word_machine.specs.World.{World as Words, Outcome, plan, put}
 use Rattle.word_machine.proofs.Sets.{put-same}
 use Rattle.collection_machine.specs.Content.{Content}
-use Rattle.collection_machine.specs.Boosted.{Boosted, GoHome, OnWords, PutGate, Shadow, TakeGate, acts, copied, every, gated, homed, is_actor, is_committing, is_given, is_held, is_none, is_open, is_stored, on_words, recorded, shadows_after, word_step}
+use Rattle.collection_machine.specs.Boosted.{Boosted, GoHome, OnWords, PutGate, Shadow, TakeGate, acts, copied, every, gated, homed}
+use Rattle.collection_machine.specs.Boosted.{is_actor, is_committing, is_given, is_held, is_none, is_open, is_stored, on_words, recorded}
+use Rattle.collection_machine.specs.Boosted.{shadows_after, word_step}
 use Rattle.replay_log.proofs.ActionLemmas.{exchanges, learns}
 use Rattle.replay_log.proofs.ReadLemmas.{first_read-other, first_read-write}
 use Rattle.replay_log.proofs.SetLemmas.{home_words, moved_is, put_words, take_words}

@@ -1,7 +1,8 @@
 -- What an actor has of a collection once a call's gate is put back, in a world that events have reached. What was read there was copied
 -- with that edition (`Live`), and where its base has the edition still, the part is the base's (`same_part`); so the lemmas on what is
 -- copied for a call speak of the actor's shadow, which has copied what the call touches but for what was read.
-use Rattle.std.proofs.Common.{◌≡◌, ◌⊎◌, ℕ, ◌+◌, ◌-◌, ◌<◌, ◌==◌, ◌&&◌, Bool, true, false, true≢false, eq-eqb, not, List, [], ◌∷◌, Option, Some, None, inl, inr, Contains, refl, sym, ap, subst, ◌∙◌, arith, cond, eqb, ne_eqb, ◌||◌}
+use Rattle.std.proofs.Common.{◌≡◌, ◌⊎◌, ℕ, ◌+◌, ◌-◌, ◌<◌, ◌==◌, ◌&&◌, Bool, true, false, true≢false, eq-eqb, not, List, [], ◌∷◌, Option}
+use Rattle.std.proofs.Common.{Some, None, inl, inr, Contains, refl, sym, ap, subst, ◌∙◌, arith, cond, eqb, ne_eqb, ◌||◌}
 use Rattle.std.specs.Prelude.{slice_index, is_some, unwrap_or, nat_lt}
 use Rattle.std.proofs.lemmas.Bool.{cases_eq, cond-true, cond-false}
 use Rattle.std.specs.Cmp.{nat_cmp_total}
@@ -24,11 +25,13 @@ use Rattle.collection_machine.specs.Content.{IsIn}
 use Rattle.conflict.specs.declared.outcome.Outcome.{Outcome}
 use Rattle.replay_log.specs.declared.base.Base.{Base}
 use Rattle.replay_log.specs.Base.{Shown, OfMap, OfBag, OfPq, OfQueue, editions_of, outcome_of, reads_of, shown_of, stripes_of, writes_of}
-use Rattle.replay_log.specs.Contents.{Answered, Asked, Block, answer, blank, block_of, content, first_of, home_of, is_plain, reads_in as reads_at, seen, shifted, size, size_by, writes_in as writes_at}
+use Rattle.replay_log.specs.Contents.{Answered, Asked, Block, answer, blank, block_of, content, first_of, home_of, is_plain}
+use Rattle.replay_log.specs.Contents.{reads_in as reads_at, seen, shifted, size, size_by, writes_in as writes_at}
 use Rattle.replay_log.specs.Guards.{Allows, IsAllowed, step_action}
 use Rattle.replay_log.specs.Parts.{Kind, MapKind, BagKind, PqKind, QueueKind, kind_of, part}
 use Rattle.replay_log.specs.Pieces.{covers, covers_at, covers_in, piece_in, piece_of}
-use Rattle.replay_log.specs.Worlds.{Copying, Stage, World, actor_of, is_known, opened, run, with_editions, differs, fits, has_room, is_change, is_stale, outcome_at, outcome_now, sized_by}
+use Rattle.replay_log.specs.Worlds.{Copying, Stage, World, actor_of, is_known, opened, run, with_editions, differs, fits, has_room}
+use Rattle.replay_log.specs.Worlds.{is_change, is_stale, outcome_at, outcome_now, sized_by}
 use Rattle.replay_log.proofs.ContentLemmas.{home_is, not_plain, positive_at, same_block}
 use Rattle.replay_log.proofs.EventLemmas.{opened_linked, run_linked}
 use Rattle.replay_log.proofs.GuardLemmas.{world_allows}
@@ -50,7 +53,8 @@ use Rattle.replay_log.specs.declared.touch.Touched.{Touched}
 use Rattle.replay_log.specs.Touches.{editions_at, touched_by, touched_places}
 use Rattle.replay_log.specs.Pieces as pieces
 use Rattle.atomic_steps.specs.Bases.{log_changes, log_locations}
-use Rattle.shadow.specs.Memo.{IsCopyBy, MemoView, answer_with, entry_outcome, has_key, holds_with, with_count, with_counts, with_entry, with_key, with_total}
+use Rattle.shadow.specs.Memo.{IsCopyBy, MemoView, answer_with, entry_outcome, has_key, holds_with, with_count, with_counts, with_entry}
+use Rattle.shadow.specs.Memo.{with_key, with_total}
 use Rattle.shadow.specs.Shadow.{ShadowView}
 use Rattle.actor_copies.specs.declared.copies.Found.{Found}
 use Rattle.actor_copies.specs.First.{IsFirst, memo_kind}
@@ -58,10 +62,13 @@ use Rattle.actor_copies.specs.Owns.{IsOwn, IsUncalled}
 use Rattle.actor_copies.proofs.FirstLemmas.{blank_of, first_copies, kind_touched}
 use Rattle.actor_copies.specs.declared.copies.Copied.TheVariants.{Keys, Whole}
 use Rattle.actor_copies.specs.declared.copies.Found.TheVariants as found
-use Rattle.actor_copies.specs.Copies.{HasEditions, IsCopied, IsFound, IsLearnt, IsOf, ShowParts, answer_of, holds_call, holds_of, is_copied_whole, answered_on}
+use Rattle.actor_copies.specs.Copies.{HasEditions, IsCopied, IsFound, IsLearnt, IsOf, ShowParts, answer_of, holds_call, holds_of}
+use Rattle.actor_copies.specs.Copies.{is_copied_whole, answered_on}
 use Rattle.actor_copies.specs.Footprints.{known_edition, reads_in, with_known, writes_in}
 use Rattle.actor_copies.specs.Keeps.{IsOwnCopy, Knows}
-use Rattle.actor_copies.proofs.CopiedLemmas.{IsWholeOf, blank_editions, blank_holds, blank_knows, contains_in, has_pieces, known_at, mixed, now_dated, now_has, now_knows, now_of, now_read, touched_facts, whole_editions, whole_knows, whole_parts, in_list}
+use Rattle.actor_copies.proofs.CopiedLemmas.{IsWholeOf, blank_editions, blank_holds, blank_knows, contains_in, has_pieces, known_at, mixed}
+use Rattle.actor_copies.proofs.CopiedLemmas.{now_dated, now_has, now_knows, now_of, now_read, touched_facts, whole_editions, whole_knows}
+use Rattle.actor_copies.proofs.CopiedLemmas.{whole_parts, in_list}
 use Rattle.actor_copies.proofs.CopiesLemmas.{same_log}
 use Rattle.actor_copies.proofs.FootprintLemmas.{reads_by, reads_within}
 use Rattle.actor_copies.proofs.KeepsLemmas.{head_in, held_outcome, held_read, same_reads, tail_in, held_written, same_writes}

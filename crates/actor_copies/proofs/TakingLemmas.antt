@@ -2,7 +2,8 @@
 -- that there were once it goes. A copy that learnt forgets what it learnt: it shows the pieces that it had (`ForgottenLemmas`), and stands
 -- where it stood. One of a kind that is copied whole shows none as a memo. Once a copy is taken it is the one of its collection, and the
 -- others are as they were.
-use Rattle.std.proofs.Common.{◌≡◌, ◌<◌, ◌==◌, ◌++◌, ◌&&◌, eq-eqb, eqb-true, ℕ, zero, suc, Bool, true, false, true≢false, cond, length, take, List, [], ◌∷◌, Option, Some, None, refl, sym, ap, subst, ◌∙◌, arith}
+use Rattle.std.proofs.Common.{◌≡◌, ◌<◌, ◌==◌, ◌++◌, ◌&&◌, eq-eqb, eqb-true, ℕ, zero, suc, Bool, true, false, true≢false, cond, length, take}
+use Rattle.std.proofs.Common.{List, [], ◌∷◌, Option, Some, None, refl, sym, ap, subst, ◌∙◌, arith}
 use Rattle.std.specs.Prelude.{slice_get}
 use Rattle.std.proofs.Math.ListN.{set}
 use Rattle.seq_model.specs.declared.call.Op.{Op}

@@ -1,5 +1,6 @@
 -- The writes of a call are made one after another: each takes the room of one entry at most, and what is left still fits.
-use Rattle.std.proofs.Common.{◌≡◌, ◌<◌, ◌≤◌, ◌+◌, ℕ, suc, true, ◌||◌, not, cond, length, List, ◌∷◌, Option, Some, None, drop, get_or, lt-ltb, refl, sym, subst, arith, ◌∙◌}
+use Rattle.std.proofs.Common.{◌≡◌, ◌<◌, ◌≤◌, ◌+◌, ℕ, suc, true, ◌||◌, not, cond, length, List, ◌∷◌, Option, Some, None, drop, get_or}
+use Rattle.std.proofs.Common.{lt-ltb, refl, sym, subst, arith, ◌∙◌}
 use Rattle.std.specs.Prelude.{nat_lt}
 use Rattle.tx_sets.specs.Entries.{Entries, IsRising, locations, lookup, with_entry}
 use Rattle.tx_sets.proofs.EntryLemmas.{length-with_entry_new, length-with_entry_there}

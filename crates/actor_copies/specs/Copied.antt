@@ -33,7 +33,8 @@ use Rattle.seq_model.specs.declared.held.Held.{Held}
 use Rattle.atomic_steps.specs.Bases.{IsBaseOf, ShowsBase}
 use Rattle.word_machine.specs.Notices as notice
 use Rattle.replay_log.specs.Collections.{Suit}
-use Rattle.replay_log.specs.Worlds.{Beginning, Copying, World, acted, actor_of, has_room, is_known, may_ask, moves, opened, outcome_at, run, sized_by}
+use Rattle.replay_log.specs.Worlds.{Beginning, Copying, World, acted, actor_of, has_room, is_known, may_ask, moves, opened, outcome_at, run}
+use Rattle.replay_log.specs.Worlds.{sized_by}
 use Rattle.replay_log.specs.Worlds.{with_editions, word_notice}
 
 module _ {V : Type 0} where

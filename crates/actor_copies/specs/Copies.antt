@@ -16,7 +16,8 @@ use Rattle.replay_log.specs.Contents.{Answered, Block, size}
 use Rattle.collection_machine.specs.Boosted.{Shadow as Part}
 use Rattle.atomic_steps.specs.Bases.{log_changes, log_locations}
 use Rattle.shadow.specs.Memo as memo
-use Rattle.shadow.specs.Memo.{MemoView, IsCopyBy, answer_with, copies_kept, copies_without, entries_kept, entries_without, grown_kept, has_key, holds, shrunk_kept, total_without, with_count, with_entry, with_total}
+use Rattle.shadow.specs.Memo.{MemoView, IsCopyBy, answer_with, copies_kept, copies_without, entries_kept, entries_without, grown_kept}
+use Rattle.shadow.specs.Memo.{has_key, holds, shrunk_kept, total_without, with_count, with_entry, with_total}
 use Rattle.shadow.specs.Shadow as shadow
 use Rattle.shadow.specs.Shadow.{IsFolded}
 use Rattle.actor_copies.specs.declared.copies.Copied.{Copied}

@@ -13,7 +13,8 @@ use Rattle.seq_model.specs.declared.event.Request.TheVariants as request
 use Rattle.seq_model.specs.declared.held.Held.{Held}
 use Rattle.collection_machine.specs.Boosted.{longer}
 use Rattle.replay_log.specs.Contents.{Answered, Asked, Block, HaveStripes}
-use Rattle.replay_log.specs.Worlds.{After, Beginning, Copying, Loading, Stage, World, acted, actor_of, happens, moves, opened, outcome_at, reply_of, run}
+use Rattle.replay_log.specs.Worlds.{After, Beginning, Copying, Loading, Stage, World, acted, actor_of, happens, moves, opened, outcome_at}
+use Rattle.replay_log.specs.Worlds.{reply_of, run}
 use Rattle.actor_words.specs.Shows.{put_back}
 use Rattle.actor_copies.specs.declared.copies.Copied.{Copied}
 use Rattle.actor_copies.specs.Copied.{IsReadOf}

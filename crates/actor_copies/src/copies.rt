@@ -4,7 +4,8 @@ ghost use Rattle.seq_model.specs.Calls.{IsRefusal};
 ghost use Rattle.seq_model.specs.Entries.{inserts};
 ghost use Rattle.replay_log.specs.Base.{IsPreparedFor, StaysPrepared, editions_of, locations_of, shown_of, stripes_of};
 ghost use Rattle.atomic_steps.specs.Bases.{IsFolded};
-ghost use Rattle.actor_copies.specs.Copies.{IsAccepted, IsForgotten, IsFound, IsKept, IsLearnt, IsReady, answer_of, changes_in, holds_call, locations_in};
+ghost use Rattle.actor_copies.specs.Copies.{IsAccepted, IsForgotten, IsFound, IsKept, IsLearnt, IsReady, answer_of, changes_in, holds_call};
+ghost use Rattle.actor_copies.specs.Copies.{locations_in};
 
 use conflict::{Change, Outcome, Table};
 use replay_log::{Base, Log, Touch};

@@ -1,5 +1,6 @@
 //! The laws of the definitions that the contracts cite.
-ghost use Rattle.std.specs.Prelude.{◌≡◌, ◌≢◌, ◌+◌, ◌<◌, ◌≤◌, ℕ, All, Bool, Contains, List, Option, Some, length, slice_index, true, if◌then◌else◌};
+ghost use Rattle.std.specs.Prelude.{◌≡◌, ◌≢◌, ◌+◌, ◌<◌, ◌≤◌, ℕ, All, Bool, Contains, List, Option, Some, length, slice_index, true};
+ghost use Rattle.std.specs.Prelude.{if◌then◌else◌};
 ghost use Rattle.seq_model.specs.declared.call.Op.{Op};
 ghost use Rattle.conflict.specs.Table.{Room};
 ghost use Rattle.conflict.specs.declared.change.Change.{Change};
@@ -18,7 +19,8 @@ ghost use Rattle.shadow.specs.Memo.{IsAlike, MemoView, holds};
 ghost use Rattle.replay_log.specs.Contents.{Answered, Block, HaveStripes, block_of, content, first_of};
 ghost use Rattle.actor_copies.specs.declared.copies.Copied.{Copied};
 ghost use Rattle.actor_copies.specs.declared.copies.Copied.TheVariants.{Keys};
-ghost use Rattle.actor_copies.specs.Copies.{IsAccepted, IsCopied, IsLearnt, IsOf, ShowParts, answer_of, answered_on, changes_in, has_piece, holds_call, locations_in};
+ghost use Rattle.actor_copies.specs.Copies.{IsAccepted, IsCopied, IsLearnt, IsOf, ShowParts, answer_of, answered_on, changes_in, has_piece};
+ghost use Rattle.actor_copies.specs.Copies.{holds_call, locations_in};
 ghost use Rattle.actor_words.specs.Accepts.{PutsBack};
 ghost use Rattle.seq_model.specs.declared.event.Event.{Event};
 ghost use Rattle.seq_model.specs.declared.held.Held.{Held};

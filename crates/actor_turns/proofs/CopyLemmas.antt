@@ -3,7 +3,8 @@
 -- What the call asks of its actor is there: what the actor has of the collection is its own and was read, so what is taken of the base
 -- holds the call, and its sizes are those of the base (`may`, `can`). The step of its seat is then what the actor makes of what it took
 -- (`copy_runs`), and what it has of collections is told by the law on copied calls (`copy_keeps`).
-use Rattle.std.proofs.Common.{◌≡◌, ℕ, zero, suc, arith, ◌<◌, Bool, true, false, List, [], ◌∷◌, Option, Some, None, refl, sym, ap, ◌∙◌, subst}
+use Rattle.std.proofs.Common.{◌≡◌, ℕ, zero, suc, arith, ◌<◌, Bool, true, false, List, [], ◌∷◌, Option, Some, None, refl, sym, ap, ◌∙◌}
+use Rattle.std.proofs.Common.{subst}
 use Rattle.std.specs.Prelude.{length}
 use Rattle.word_machine.specs.Actor as machine
 use Rattle.seq_model.specs.Contents.{Contents}
@@ -14,7 +15,8 @@ use Rattle.replay_log.specs.Base.{outcome_of, shown_of}
 use Rattle.replay_log.specs.Contents as contents
 use Rattle.replay_log.specs.Contents.{Block, block_of}
 use Rattle.replay_log.specs.Worlds as worlds
-use Rattle.replay_log.specs.Worlds.{World, Seat, Stage, After, Idle, Beginning, Open, Locking, Releasing, Closing, Cancelling, Leaving, Reading}
+use Rattle.replay_log.specs.Worlds.{World, Seat, Stage, After, Idle, Beginning, Open, Locking, Releasing, Closing, Cancelling, Leaving}
+use Rattle.replay_log.specs.Worlds.{Reading}
 use Rattle.replay_log.specs.Worlds.{Trying, Copying, Loading, Gating, Ready, Storing, Homing, Returning, happens, may_ask, step_at}
 use Rattle.replay_log.proofs.ContentLemmas.{positive_at}
 use Rattle.atomic_steps.specs.Bases.{IsBaseOf, ShowsBase}

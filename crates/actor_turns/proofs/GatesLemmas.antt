@@ -19,7 +19,8 @@ use Rattle.replay_log.specs.Pieces.{covers_at, piece_at}
 use Rattle.replay_log.specs.Contents.{Answered, Asked, content}
 use Rattle.replay_log.specs.Worlds.{World, Seat, Stage, After, Beginning, Open, Locking, Releasing, Closing, Cancelling, Leaving, Reading}
 use Rattle.replay_log.specs.Worlds.{Trying, Copying, Loading, Gating, Ready, Storing, Homing, Returning, acted, asks, at_stage, because}
-use Rattle.replay_log.specs.Worlds.{actor_of, cancels, gives_up, goes_home, has_copied, has_room, has_stored, has_tried, is_fresh, is_leaving}
+use Rattle.replay_log.specs.Worlds.{actor_of, cancels, gives_up, goes_home, has_copied, has_room, has_stored, has_tried, is_fresh}
+use Rattle.replay_log.specs.Worlds.{is_leaving}
 use Rattle.replay_log.specs.Worlds.{happens, judges, loads, moves, no_one, outcome_at, recorded, seated, sized_by, starve_at, step_at}
 use Rattle.replay_log.specs.Worlds.{call_of, reply_of, takes_gates, with_call, with_editions, with_piece, word_notice}
 use Rattle.replay_log.proofs.SeatLemmas.{gates_of}

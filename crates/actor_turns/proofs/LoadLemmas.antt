@@ -6,7 +6,8 @@ use Rattle.tx_sets.specs.Entries.{Entries}
 use Rattle.word_machine.specs.Notices as notice
 use Rattle.seq_model.specs.declared.event.Event.TheVariants.{Step}
 use Rattle.seq_model.specs.Contents.{Contents}
-use Rattle.replay_log.specs.Worlds.{World, actor_of, Seat, Stage, After, Loading, acted, happens, moves, step_at, word_notice, written_homes}
+use Rattle.replay_log.specs.Worlds.{World, actor_of, Seat, Stage, After, Loading, acted, happens, moves, step_at, word_notice}
+use Rattle.replay_log.specs.Worlds.{written_homes}
 use Rattle.step_core.specs.Sound.{Fits, IsLoad, KeepsRoom}
 use Rattle.step_core.specs.declared.actor.Actor as running
 use Rattle.step_core.specs.declared.actor.Place.{Place}

@@ -9,9 +9,11 @@ use Rattle.word_machine.specs.World.{Outcome, GoesOn, Commits, Aborts}
 use Rattle.seq_model.specs.declared.held.Held.{Held}
 use Rattle.seq_model.specs.declared.event.Event.{Event}
 use Rattle.collection_machine.specs.Content.{has}
-use Rattle.collection_machine.specs.Boosted.{Boosted, GoHome, every, is_actor, is_given, is_held, is_stored, recorded, requested, shadows_after}
+use Rattle.collection_machine.specs.Boosted.{Boosted, GoHome, every, is_actor, is_given, is_held, is_stored, recorded, requested}
+use Rattle.collection_machine.specs.Boosted.{shadows_after}
 use Rattle.replay_log.specs.Contents.{Block, HaveStripes, content, home_of, is_plain}
-use Rattle.replay_log.specs.Worlds.{World, Seat, Stage, Idle, Beginning, Open, Locking, Releasing, Closing, Cancelling, Leaving, Reading, Trying}
+use Rattle.replay_log.specs.Worlds.{World, Seat, Stage, Idle, Beginning, Open, Locking, Releasing, Closing, Cancelling, Leaving, Reading}
+use Rattle.replay_log.specs.Worlds.{Trying}
 use Rattle.replay_log.specs.Worlds.{Copying, Loading, Gating, Ready, Storing, Homing, Returning, acted, actor_of, asks, moves, opened, run}
 use Rattle.replay_log.proofs.ActionLemmas.{home_goes, mine, without_gate}
 use Rattle.replay_log.proofs.EventLemmas.{opened_linked, run_linked}

@@ -1,6 +1,7 @@
 -- The collections with a written location, from the last location to the first: a location's collection is not above those of the
 -- locations behind it, so it is new exactly where it is not the first of them (`first_is`).
-use Rattle.std.proofs.Common.{◌≡◌, ℕ, zero, suc, drop, get_or, ◌+◌, ◌<◌, ◌≤◌, cond, eqb, eqb-true, ltb, Bool, true, false, true≢false, not, ◌||◌, filter, Some, None, List, [], ◌∷◌, length, refl, sym, ap, subst, ◌∙◌, arith, ne_eqb}
+use Rattle.std.proofs.Common.{◌≡◌, ℕ, zero, suc, drop, get_or, ◌+◌, ◌<◌, ◌≤◌, cond, eqb, eqb-true, ltb, Bool, true, false, true≢false, not}
+use Rattle.std.proofs.Common.{◌||◌, filter, Some, None, List, [], ◌∷◌, length, refl, sym, ap, subst, ◌∙◌, arith, ne_eqb}
 use Rattle.std.proofs.lemmas.Bool.Decides.{nat_tests}
 use Rattle.std.proofs.lemmas.Bool.{cond-false}
 use Rattle.std.proofs.lemmas.List.{drop_more}

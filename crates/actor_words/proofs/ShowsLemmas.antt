@@ -11,7 +11,8 @@ use Rattle.replay_log.specs.Contents.{content}
 use Rattle.replay_log.specs.Pieces.{piece_at}
 use Rattle.seq_model.specs.declared.event.Notice.TheVariants.{Refused}
 use Rattle.seq_model.specs.declared.refusal.Refusal.TheVariants as refusal
-use Rattle.replay_log.specs.Worlds.{World, Seat, After, at_stage, acted, asks, actor_of, seated, loads, has_room, with_editions, with_piece, outcome_at, outcome_now, is_stale, Open}
+use Rattle.replay_log.specs.Worlds.{World, Seat, After, at_stage, acted, asks, actor_of, seated, loads, has_room, with_editions, with_piece}
+use Rattle.replay_log.specs.Worlds.{outcome_at, outcome_now, is_stale, Open}
 use Rattle.replay_log.specs.Contents.{Answered}
 use Rattle.actor_words.specs.Shows.{cancelled, ending, GivesUp, AsksStores, put_back, CopiesForCall, ReadsNext}
 use Rattle.actor_words.specs.Judged.{judged, left_after, comes_to}

@@ -6,7 +6,9 @@ use Rattle.word_machine.specs.Requests.{AskStore}
 use Rattle.collection_machine.specs.Boosted.{TakeGate, PutGate, GoHome, is_none}
 use Rattle.replay_log.specs.Guards.{step_action}
 use Rattle.replay_log.specs.Pieces.{covers_at}
-use Rattle.replay_log.specs.Worlds.{World, Seat, Stage, Idle, Beginning, Open, Locking, Releasing, Closing, Cancelling, Leaving, Reading, Trying, Copying, Loading, Gating, Ready, Storing, Homing, Returning, acted, asks, moves, word_notice, step_at}
+use Rattle.replay_log.specs.Worlds.{World, Seat, Stage, Idle, Beginning, Open, Locking, Releasing, Closing, Cancelling, Leaving, Reading}
+use Rattle.replay_log.specs.Worlds.{Trying, Copying, Loading, Gating, Ready, Storing, Homing, Returning, acted, asks, moves, word_notice}
+use Rattle.replay_log.specs.Worlds.{step_at}
 use Rattle.step_core.specs.Answers.{result_of}
 use Rattle.actor_words.specs.declared.next.Next.TheVariants as next
 use Rattle.actor_words.specs.Dispatch.{AreSteps, IsDue, after_home, after_put, after_try, after_word, is_loading, next_of, notice_told}

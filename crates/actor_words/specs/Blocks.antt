@@ -1,5 +1,6 @@
 -- How the locations of a world lie: what of a world never changes. And the collections that a transaction has written.
-use Rattle.std.specs.Prelude.{◌≡◌, ◌⊎◌, ℕ, ◌+◌, ◌<◌, ◌≤◌, ◌++◌, length, Bool, false, not, ◌==◌, if◌then◌else◌, List, [], ◌∷◌, Option, Some, None, filter}
+use Rattle.std.specs.Prelude.{◌≡◌, ◌⊎◌, ℕ, ◌+◌, ◌<◌, ◌≤◌, ◌++◌, length, Bool, false, not, ◌==◌, if◌then◌else◌, List, [], ◌∷◌, Option, Some}
+use Rattle.std.specs.Prelude.{None, filter}
 use Rattle.tx_sets.specs.Entries.{Entries, locations}
 use Rattle.replay_log.specs.Contents.{Block, end_of, home_of, is_plain, size, size_by}
 use Rattle.replay_log.specs.Contents as contents

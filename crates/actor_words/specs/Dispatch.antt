@@ -14,7 +14,9 @@ use Rattle.collection_machine.specs.Boosted.{Action, TakeGate, PutGate, GoHome, 
 use Rattle.replay_log.specs.Contents.{Asked, content}
 use Rattle.replay_log.specs.Guards.{step_action}
 use Rattle.replay_log.specs.Worlds as worlds
-use Rattle.replay_log.specs.Worlds.{World, Seat, Stage, After, acted, asks, moves, actor_of, word_notice, seated, recorded, no_one, has_begun, has_read, has_locked, has_stored, has_released, has_cancelled, ended, has_tried, takes_gates, gives_up, goes_home, step_at}
+use Rattle.replay_log.specs.Worlds.{World, Seat, Stage, After, acted, asks, moves, actor_of, word_notice, seated, recorded, no_one}
+use Rattle.replay_log.specs.Worlds.{has_begun, has_read, has_locked, has_stored, has_released, has_cancelled, ended, has_tried, takes_gates}
+use Rattle.replay_log.specs.Worlds.{gives_up, goes_home, step_at}
 use Rattle.actor_words.specs.declared.notice.WordNotice.{WordNotice}
 use Rattle.actor_words.specs.declared.notice.WordNotice.TheVariants as heard
 use Rattle.actor_words.specs.declared.next.Next.{Next}

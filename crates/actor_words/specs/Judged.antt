@@ -6,7 +6,8 @@ use Rattle.seq_model.specs.declared.refusal.Refusal.TheVariants as refusal
 use Rattle.seq_model.specs.declared.event.Notice.TheVariants.{Quiet}
 use Rattle.collection_machine.specs.Boosted.{Accept}
 use Rattle.replay_log.specs.Contents.{Answered}
-use Rattle.replay_log.specs.Worlds.{World, Seat, After, Loading, at_stage, because, seated, acted, asks, actor_of, gives_up, replied, call_of, reply_of, loads}
+use Rattle.replay_log.specs.Worlds.{World, Seat, After, Loading, at_stage, because, seated, acted, asks, actor_of, gives_up, replied}
+use Rattle.replay_log.specs.Worlds.{call_of, reply_of, loads}
 use Rattle.actor_words.specs.declared.judged.Judged.{Judged}
 use Rattle.actor_words.specs.declared.judged.Judged.TheVariants.{All, Next, Stale}
 

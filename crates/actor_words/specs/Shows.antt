@@ -10,7 +10,9 @@ use Rattle.seq_model.specs.declared.event.Notice.TheVariants.{Quiet, Refused}
 use Rattle.seq_model.specs.declared.refusal.Refusal.TheVariants as refusal
 use Rattle.collection_machine.specs.Boosted.{PutGate, every, is_held}
 use Rattle.replay_log.specs.Contents.{Asked, content}
-use Rattle.replay_log.specs.Worlds.{World, Seat, After, Leaving, Cancelling, Loading, is_leaving, at_stage, acted, asks, moves, actor_of, word_notice, gives_up, recorded, stores, has_stored, has_room, with_editions, with_piece, outcome_at, outcome_now, is_stale, has_copied, seated, Open}
+use Rattle.replay_log.specs.Worlds.{World, Seat, After, Leaving, Cancelling, Loading, is_leaving, at_stage, acted, asks, moves, actor_of}
+use Rattle.replay_log.specs.Worlds.{word_notice, gives_up, recorded, stores, has_stored, has_room, with_editions, with_piece, outcome_at}
+use Rattle.replay_log.specs.Worlds.{outcome_now, is_stale, has_copied, seated, Open}
 use Rattle.replay_log.specs.Pieces.{piece_at, covers_at}
 use Rattle.actor_words.specs.Judged.{judged, left_after, comes_to}
 use Rattle.actor_words.specs.declared.judged.Judged.{Judged}

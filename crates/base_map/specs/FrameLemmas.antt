@@ -15,7 +15,8 @@ use Rattle.conflict.specs.declared.outcome.Outcome.{Outcome}
 use Rattle.conflict.specs.declared.outcome.Note.TheVariants.{Plain}
 use Rattle.base_map.specs.Conflicts.{outcome_of, changes_by, changes_of, view_of, rules}
 use Rattle.conflict.specs.Footprints.{map_reads, map_writes}
-use Rattle.conflict.specs.Rules.{FrameLaws, Commute, applied, LegalWhereReadsAgree, ChangesOnlyWrites, WritesWhereItChanges, OutcomesWriteWhereTheyChange, ChangesByPart, FollowsCall, AnswersItsKind, PartsDecide, ViewsDecide}
+use Rattle.conflict.specs.Rules.{FrameLaws, Commute, applied, LegalWhereReadsAgree, ChangesOnlyWrites, WritesWhereItChanges}
+use Rattle.conflict.specs.Rules.{OutcomesWriteWhereTheyChange, ChangesByPart, FollowsCall, AnswersItsKind, PartsDecide, ViewsDecide}
 use Rattle.conflict.specs.Commute.{commute}
 use Rattle.conflict.specs.Places.{in_single, of_none, of_single, in_range, of_range, same_key, some_same, none_some, some_none}
 use Rattle.seq_model.specs.declared.held.Held.{Held}

@@ -3,7 +3,8 @@
 -- The changes are gone through twice. First what was asked of each stripe that they fall on is set to 0: so far, either as many of the
 -- changes that are left fall on a stripe as of all, or nothing is asked of it. Then each asks one place more of its stripe, and finds it
 -- there: what was asked of a stripe, with what is left to ask, is what all changes ask, and there is room for what was asked.
-use Rattle.std.proofs.Common.{◌≡◌, ◌≢◌, ◌⊎◌, ℕ, zero, suc, ◌+◌, ◌<◌, ◌≤◌, true, false, cond, nat_eq, List, [], ◌∷◌, length, get_or, set, drop}
+use Rattle.std.proofs.Common.{◌≡◌, ◌≢◌, ◌⊎◌, ℕ, zero, suc, ◌+◌, ◌<◌, ◌≤◌, true, false, cond, nat_eq, List, [], ◌∷◌, length, get_or, set}
+use Rattle.std.proofs.Common.{drop}
 use Rattle.std.proofs.Common.{OnOk, Result, Ok, Err, Option, Some, None, inl, inr, refl, sym, ap, subst, ◌∙◌, arith}
 use Rattle.std.proofs.Math.ListN.{drop_of_length-le}
 use Rattle.std.proofs.lemmas.Bool.Decides.{nat_tests}

@@ -1,10 +1,12 @@
 -- The frame laws of a queue.
-use Rattle.std.proofs.Common.{◌≡◌, ℕ, zero, suc, ◌+◌, ◌-◌, ◌<◌, ◌≤◌, inl, inr, Bool, true, false, cond, nat_lt, List, [], ◌∷◌, ◌++◌, length, Option, Some, None, Contains, refl, sym, ap, subst, ◌∙◌, arith}
+use Rattle.std.proofs.Common.{◌≡◌, ℕ, zero, suc, ◌+◌, ◌-◌, ◌<◌, ◌≤◌, inl, inr, Bool, true, false, cond, nat_lt, List, [], ◌∷◌, ◌++◌, length}
+use Rattle.std.proofs.Common.{Option, Some, None, Contains, refl, sym, ap, subst, ◌∙◌, arith}
 use Rattle.std.specs.Prelude.{map}
 use Rattle.std.specs.Cmp.{nat_cmp_total}
 use Rattle.std.specs.Ordering.{nat_cmp, eq_by_cmp}
 use Rattle.std.specs.declared.cmp.Ordering.TheVariants.{Less}
-use Rattle.std.specs.FinMap.{FinMap, empty, entries, values, get, insert, remove, same_map, put, entries-insert, get-empty, get-insert, get-remove, len-entries, len-empty, nat_cmp-IsAntisymmetric}
+use Rattle.std.specs.FinMap.{FinMap, empty, entries, values, get, insert, remove, same_map, put, entries-insert, get-empty, get-insert}
+use Rattle.std.specs.FinMap.{get-remove, len-entries, len-empty, nat_cmp-IsAntisymmetric}
 use Rattle.std.specs.FinMap.Entries.{by_order}
 use Rattle.std.proofs.lemmas.Bool.Decides.{nat_tests}
 use Rattle.seq_model.specs.declared.call.Op.{Op}
@@ -19,11 +21,15 @@ use Rattle.conflict.specs.declared.change.Change.TheVariants as change
 use Rattle.conflict.specs.declared.outcome.Outcome.{Outcome}
 use Rattle.conflict.specs.declared.outcome.Note.{Note}
 use Rattle.conflict.specs.declared.outcome.Note.TheVariants.{Plain, Index}
-use Rattle.conflict.specs.Rules.{FrameLaws, Commute, Agree, applied, LegalWhereReadsAgree, ChangesOnlyWrites, WritesWhereItChanges, OutcomesWriteWhereTheyChange, ChangesByPart, FollowsCall, AnswersItsKind, WritesWithinReads, ReadsLocations, ViewsDecide}
+use Rattle.conflict.specs.Rules.{FrameLaws, Commute, Agree, applied, LegalWhereReadsAgree, ChangesOnlyWrites, WritesWhereItChanges}
+use Rattle.conflict.specs.Rules.{OutcomesWriteWhereTheyChange, ChangesByPart, FollowsCall, AnswersItsKind, WritesWithinReads}
+use Rattle.conflict.specs.Rules.{ReadsLocations, ViewsDecide}
 use Rattle.conflict.specs.Commute.{commute}
-use Rattle.conflict.specs.Places.{in_single, first_of_two, second_of_two, of_none, of_single, of_two, mod_below, same_key, key_itself, some_same, none_some, some_none}
+use Rattle.conflict.specs.Places.{in_single, first_of_two, second_of_two, of_none, of_single, of_two, mod_below, same_key, key_itself}
+use Rattle.conflict.specs.Places.{some_same, none_some, some_none}
 use Rattle.conflict.specs.Footprints.{queue_reads, queue_writes, cell_place}
-use Rattle.base_queue.specs.Conflicts.{Shown, outcome_of, reads_of, changes_by, changes_of, look, place, cells_from, queue_view, view_of, rules}
+use Rattle.base_queue.specs.Conflicts.{Shown, outcome_of, reads_of, changes_by, changes_of, look, place, cells_from, queue_view, view_of}
+use Rattle.base_queue.specs.Conflicts.{rules}
 
 -- ---- cells
 below_cells : (h q : ℕ) (items : List ℕ) → q < h → get (cells_from h items) q ≡ None

@@ -1,5 +1,6 @@
 //! The collection of a queue.
-ghost use Rattle.std.specs.Prelude.{◌≡◌, ◌+◌, ◌-◌, ◌^◌, [], ◌<◌, ◌≤◌, Some, None, All, IsOk, replicate, IfOk, IfErr, OnOk, length, slice_index};
+ghost use Rattle.std.specs.Prelude.{◌≡◌, ◌+◌, ◌-◌, ◌^◌, [], ◌<◌, ◌≤◌, Some, None, All, IsOk, replicate, IfOk, IfErr, OnOk, length};
+ghost use Rattle.std.specs.Prelude.{slice_index};
 ghost use Rattle.seq_model.specs.Calls.{IsRefusal, IsWithinLimits};
 ghost use Rattle.conflict.specs.Rules.{applied};
 ghost use Rattle.conflict.specs.Footprints.{cell_place};

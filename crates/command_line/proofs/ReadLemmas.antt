@@ -1,5 +1,6 @@
 -- What was read so far of a reader whose bytes are known.
-use Rattle.std.proofs.Common.{◌≡◌, ◌∙◌, refl, sym, ap, ℕ, ◌+◌, ◌<◌, List, [], ◌++◌, length, Option, Some, None, append_assoc, append-nil, length-append, arith}
+use Rattle.std.proofs.Common.{◌≡◌, ◌∙◌, refl, sym, ap, ℕ, ◌+◌, ◌<◌, List, [], ◌++◌, length, Option, Some, None, append_assoc, append-nil}
+use Rattle.std.proofs.Common.{length-append, arith}
 use Rattle.std.specs.Prelude.{IfSome}
 use Rattle.std.specs.Io.KnownBytes.{Consumes, IsAtEnd}
 

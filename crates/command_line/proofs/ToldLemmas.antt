@@ -1,7 +1,8 @@
 -- What is said of a fault. A line is written piece by piece: what has been written is always a beginning of it, and the next
 -- piece makes it a longer one; a line that was begun behind a whole text is a beginning of both. Want of memory
 -- is why nothing is printed, whatever is known of the file.
-use Rattle.std.proofs.Common.{◌∙◌, refl, sym, ap, ℕ, ◌+◌, ◌-◌, subst, List, [], ◌∷◌, ◌++◌, length, take, take_all, drop, length-drop, take-append-drop, append_assoc, Option, Some, None, arith}
+use Rattle.std.proofs.Common.{◌∙◌, refl, sym, ap, ℕ, ◌+◌, ◌-◌, subst, List, [], ◌∷◌, ◌++◌, length, take, take_all, drop, length-drop}
+use Rattle.std.proofs.Common.{take-append-drop, append_assoc, Option, Some, None, arith}
 use Rattle.std.proofs.Math.Seq.{take-add}
 use Rattle.std.proofs.KnownBytes.{Appends-trans}
 use Rattle.std.specs.Io.KnownBytes.{Appends}

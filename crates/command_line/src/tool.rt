@@ -4,7 +4,8 @@ ghost use Rattle.std.specs.String.{string_bytes};
 ghost use Rattle.std.specs.Io.KnownBytes.{Appends};
 ghost use Rattle.clap.specs.Words.{kind_of};
 ghost use Rattle.command_line.specs.Words.{AreTaken, AskForInformation, IsInformation, task_named};
-ghost use Rattle.command_line.specs.Ends.{AsksForTimes, HasBegun, HasOutput, HasToldFault, HasWorked, IsOnDrawn, IsOnThreads, IsRead, cause_text, line_of, status_of, unreadable_text};
+ghost use Rattle.command_line.specs.Ends.{AsksForTimes, HasBegun, HasOutput, HasToldFault, HasWorked, IsOnDrawn, IsOnThreads, IsRead};
+ghost use Rattle.command_line.specs.Ends.{cause_text, line_of, status_of, unreadable_text};
 ghost use Rattle.seq_model.specs.Texts.{memory_text, refusal_text};
 
 use crate::words::{matches_of, task_in};

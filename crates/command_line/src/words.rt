@@ -5,7 +5,8 @@ ghost use Rattle.clap.specs.Words.{FailsBy, app_of, found_of, kind_of, rows_of, 
 ghost use Rattle.clap.specs.declared.builder.command.Command.TheViews.{out-Command as fields_of};
 ghost use Rattle.command_line.specs.declared.work.Task.TheVariants.{OnFile};
 ghost use Rattle.command_line.specs.Ends.{IsDoable};
-ghost use Rattle.command_line.specs.Words.{faults, file_word, named_file, not_dash, tool_app, step_app, vacation_app, file_rule, task_by, task_of, vacation_work};
+ghost use Rattle.command_line.specs.Words.{faults, file_word, named_file, not_dash, tool_app, step_app, vacation_app, file_rule, task_by};
+ghost use Rattle.command_line.specs.Words.{task_of, vacation_work};
 
 use crate::bench::{bench_command, drawn_in, has_times_in};
 use crate::numbers::{number_in, with_number};

@@ -5,7 +5,8 @@ ghost use Rattle.std.specs.Vec.{vec_len};
 ghost use Rattle.served_runs.specs.Drawn.{IsDrawable, IsDrawnFault, IsDrawnOutput};
 ghost use Rattle.command_line.specs.declared.work.Cause.TheVariants.{Ended};
 ghost use Rattle.command_line.specs.declared.work.Task.TheVariants.{OnFile};
-ghost use Rattle.command_line.specs.Ends.{AsksForTimes, IsCause, IsDoable, IsFault, IsFaultOf, IsKnownOutput, IsOnDrawn, IsOutput, IsOutputOf, IsWithin};
+ghost use Rattle.command_line.specs.Ends.{AsksForTimes, IsCause, IsDoable, IsFault, IsFaultOf, IsKnownOutput, IsOnDrawn, IsOutput};
+ghost use Rattle.command_line.specs.Ends.{IsOutputOf, IsWithin};
 ghost use Rattle.seq_model.specs.declared.refusal.Refusal.TheVariants.{OutOfMemory};
 ghost use Rattle.session_output.specs.declared.fault.RunFault.TheVariants.{Refused};
 

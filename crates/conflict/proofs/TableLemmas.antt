@@ -6,7 +6,8 @@ use Rattle.std.specs.Map.{lookup, keys_of}
 use Rattle.std.specs.List.{IsDistinct, AllByRecursion}
 use Rattle.seq_model.specs.Entries.{inserts}
 use Rattle.seq_model.proofs.EntryLemmas.{AreFresh, or_else, or_none, get_inserts}
-use Rattle.std.specs.FinMap.{find, empty, get-empty, get, insert, remove, len, from_entries, get-from_entries, get-insert, get-remove, len-insert, len-empty, same_map, nat_cmp-IsAntisymmetric}
+use Rattle.std.specs.FinMap.{find, empty, get-empty, get, insert, remove, len, from_entries, get-from_entries, get-insert, get-remove}
+use Rattle.std.specs.FinMap.{len-insert, len-empty, same_map, nat_cmp-IsAntisymmetric}
 use Rattle.std.proofs.lemmas.Bool.Decides.{nat_tests}
 use Rattle.indexmap.specs.IndexMap as index
 

@@ -1,8 +1,10 @@
 -- Items are dealt out, or gathered, one after another.
 -- How long a list waits for its next item tells whether the next one is its own: each item shortens the wait by one, and the list that got
 -- one waits for all others (`waits_on`). So one item more is one more for the list whose turn it is, and leaves the others as they were.
-use Rattle.std.proofs.Common.{◌≡◌, ◌≢◌, ◌∙◌, refl, sym, ap, subst, ℕ, zero, suc, ◌+◌, ◌-◌, ◌<◌, ◌≤◌, ◌⊎◌, inl, inr, List, [], ◌∷◌, ◌++◌, length, get_or, set, arith}
-use Rattle.std.proofs.lemmas.List.{append_assoc, append-nil, length-append, length-map, length-set, get_or-set_other, get_or-set_same, map-set}
+use Rattle.std.proofs.Common.{◌≡◌, ◌≢◌, ◌∙◌, refl, sym, ap, subst, ℕ, zero, suc, ◌+◌, ◌-◌, ◌<◌, ◌≤◌, ◌⊎◌, inl, inr, List, [], ◌∷◌, ◌++◌}
+use Rattle.std.proofs.Common.{length, get_or, set, arith}
+use Rattle.std.proofs.lemmas.List.{append_assoc, append-nil, length-append, length-map, length-set, get_or-set_other, get_or-set_same}
+use Rattle.std.proofs.lemmas.List.{map-set}
 use Rattle.std.specs.declared.alloc.Global.{Global}
 use Rattle.std.specs.declared.collections.vec_deque.VecDeque.{VecDeque}
 use Rattle.dealing.specs.Deals.{AreDealt, AreDealtLike, IsNext, every, in_queues, shares}
@@ -77,7 +79,8 @@ shares_more n k zero more =
 shares_more n zero (suc gone) more =
     ap (shares n zero) (let e : suc gone + more ≡ suc (gone + more) = omega arith in e)
     ∙ ap suc (shares_more n (n - 1) gone more)
-    ∙ (let e : suc (shares n (n - 1) gone + shares n (wait n (n - 1) gone) more) ≡ suc (shares n (n - 1) gone) + shares n (wait n (n - 1) gone) more =
+    ∙ (let e : suc (shares n (n - 1) gone + shares n (wait n (n - 1) gone) more) ≡
+    suc (shares n (n - 1) gone) + shares n (wait n (n - 1) gone) more =
     omega arith in e)
 shares_more n (suc k) (suc gone) more =
     ap (shares n (suc k)) (let e : suc gone + more ≡ suc (gone + more) = omega arith in e) ∙ shares_more n k gone more

@@ -4,7 +4,8 @@ ghost use Rattle.rand.specs.Draw.{Gives};
 ghost use Rattle.vac_model.specs.Actions.{IsAllowed, IsAmountWithin, IsListed};
 ghost use Rattle.generated_sessions.specs.Draws.{times};
 ghost use Rattle.generated_sessions.specs.Options.{AreWithin, count_of};
-ghost use Rattle.generated_sessions.specs.Sessions.{ask_drawn, change_drawn, delete_drawn, reserve_drawn, session_drawn, sessions_of, update_drawn};
+ghost use Rattle.generated_sessions.specs.Sessions.{ask_drawn, change_drawn, delete_drawn, reserve_drawn, session_drawn, sessions_of};
+ghost use Rattle.generated_sessions.specs.Sessions.{update_drawn};
 
 use crate::draws::{below, kind, price, up_to};
 use crate::options::Options;

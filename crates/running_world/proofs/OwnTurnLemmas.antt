@@ -19,7 +19,8 @@ use Rattle.tx_actor.specs.Running.{seat_of, stage_of}
 use Rattle.tx_actor.specs.declared.actor.Told.{Told}
 use Rattle.tx_actor.specs.declared.actor.TxActor.{TxActor}
 use Rattle.running_world.specs.Turns.{IsTurn, KeepsOwn}
-use Rattle.actor_turns.proofs.OwnLemmas.{AllLaw, Apart, AskedLaw, BegunLaw, CallsLaw, JoinsLaw, OthersLaw, StandLaw, StaysLaw, StepsLaw, ask_keeps}
+use Rattle.actor_turns.proofs.OwnLemmas.{AllLaw, Apart, AskedLaw, BegunLaw, CallsLaw, JoinsLaw, OthersLaw, StandLaw, StaysLaw, StepsLaw}
+use Rattle.actor_turns.proofs.OwnLemmas.{ask_keeps}
 use Rattle.actor_turns.proofs.OwnLemmas.{ask_runs, others_keep, starve_keeps, step_keeps}
 
 module _ {V : Type 0} where

@@ -46,7 +46,8 @@ use Rattle.world_table.specs.declared.table.Table.{Table}
 use Rattle.world_table.proofs.TableLemmas.{still_has}
 use Rattle.running_world.specs.Turns.{IsTurn}
 use Rattle.actor_turns.proofs.SeatLemmas.{next_as, ready_as, stage_by, starved_as}
-use Rattle.actor_turns.proofs.StepLemmas.{GoesOn, due_as, due_put, due_try, due_word, first_is, knows_moved, knows_ready, may_move, put_runs}
+use Rattle.actor_turns.proofs.StepLemmas.{GoesOn, due_as, due_put, due_try, due_word, first_is, knows_moved, knows_ready, may_move}
+use Rattle.actor_turns.proofs.StepLemmas.{put_runs}
 use Rattle.actor_turns.proofs.StepLemmas.{reached_allows, reached_goes_on, reached_linked, same_action, same_world, try_runs}
 
 -- an actor that owes less afterwards, and one that owed more before

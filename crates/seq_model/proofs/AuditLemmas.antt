@@ -1,5 +1,6 @@
 -- What an audit computes is what its definitions say.
-use Rattle.std.proofs.Common.{◌≡◌, ◌≢◌, ℕ, zero, suc, ◌+◌, ◌<◌, ◌≤◌, Bool, true, false, cond, not, ◌&&◌, ◌==◌, List, [], ◌∷◌, ◌++◌, length, get_or, take, map, nat_cmp, is_lt, Option, Some, None, refl, sym, ◌∙◌, ap, subst, arith, inl, inr, count_by}
+use Rattle.std.proofs.Common.{◌≡◌, ◌≢◌, ℕ, zero, suc, ◌+◌, ◌<◌, ◌≤◌, Bool, true, false, cond, not, ◌&&◌, ◌==◌, List, [], ◌∷◌, ◌++◌, length}
+use Rattle.std.proofs.Common.{get_or, take, map, nat_cmp, is_lt, Option, Some, None, refl, sym, ◌∙◌, ap, subst, arith, inl, inr, count_by}
 use Rattle.std.specs.Prelude.{nat_lt}
 use Rattle.std.specs.Ordering.{bool_cmp, ordering_then}
 use Rattle.std.proofs.lemmas.Bool.{cond-true, cond-false, cases_Bool, false≢true}
@@ -297,7 +298,8 @@ both last k ts n = cond (number_is last n) 1 0 + (cond (k == n) 1 0 + count_by (
 twice : (w k : ℕ) (ts : List Turn) → (w == k) ≡ true → AllFrom k ts → IsLeastDouble (both (Some w) k ts) (Some k)
 twice w k ts same from = (
   two (w == k) (k == k) (count_by (writes_at k) ts) same (tested_same k),
-  λ m lt. let ne : k ≢ m = omega arith in at_most_one (w == m) (k == m) (count_by (writes_at m) ts) (tested_other k m ne) (none_below k m ts lt from),
+  λ m lt. let ne : k ≢ m = omega arith in at_most_one (w == m) (k == m) (count_by (writes_at m) ts) (tested_other k m ne)
+      (none_below k m ts lt from),
 )
 
 behind_writer : (last : Option ℕ) (k : ℕ) (ts : List Turn) → NotBelow last k → AllFrom k ts

@@ -1,5 +1,6 @@
 -- A call that changes nothing leaves the state.
-use Rattle.std.proofs.Common.{◌≡◌, ℕ, ◌+◌, true, false, cond, ◌-◌, ◌++◌, get_or, set, unwrap_or, List, [], ◌∷◌, Option, Some, None, refl, sym, ◌∙◌, ap}
+use Rattle.std.proofs.Common.{◌≡◌, ℕ, ◌+◌, true, false, cond, ◌-◌, ◌++◌, get_or, set, unwrap_or, List, [], ◌∷◌, Option, Some, None, refl}
+use Rattle.std.proofs.Common.{sym, ◌∙◌, ap}
 use Rattle.std.specs.Prelude.{option_map, option_and_then, nat_lt, ◌==◌, slice_get, slice_set, length}
 use Rattle.std.specs.Option.{option_map_or}
 use Rattle.std.specs.Cmp.{nat_cmp_total}
@@ -12,12 +13,14 @@ use Rattle.seq_model.specs.declared.limits.TheConstants.{COPY_LIMIT, INDEX_LIMIT
 use Rattle.std.specs.FinMap.{FinMap, get, remove, get-remove, same_map, nat_cmp-IsAntisymmetric}
 use Rattle.seq_model.specs.declared.call.Call.{Call}
 use Rattle.seq_model.specs.declared.call.Op.{Op}
-use Rattle.seq_model.specs.declared.call.Op.TheVariants.{Read, Write, Get, Put, Remove, Len, Count, Add, Take, Least, Insert, TakeLeast, Enqueue, Dequeue, Peek}
+use Rattle.seq_model.specs.declared.call.Op.TheVariants.{Read, Write, Get, Put, Remove, Len, Count, Add, Take, Least, Insert, TakeLeast}
+use Rattle.seq_model.specs.declared.call.Op.TheVariants.{Enqueue, Dequeue, Peek}
 use Rattle.seq_model.specs.declared.call.Reply.{Reply}
 use Rattle.seq_model.specs.declared.call.Reply.TheVariants.{Done, Full, Nothing, Value, Found, Number, Yes, No}
 use Rattle.seq_model.specs.declared.held.Held.{Held}
 use Rattle.seq_model.specs.declared.held.Held.TheVariants.{Map, Bag, Pq, Queue}
-use Rattle.seq_model.specs.Calls.{map_call, multiset_call, priority_queue_call, queue_call, held_call, value_reply, add_call, take_least_call}
+use Rattle.seq_model.specs.Calls.{map_call, multiset_call, priority_queue_call, queue_call, held_call, value_reply, add_call}
+use Rattle.seq_model.specs.Calls.{take_least_call}
 use Rattle.seq_model.specs.Counts.{Multiset, copies, with_copies, least}
 use Rattle.seq_model.specs.Contents.{Contents, op_call, collection_call}
 use Rattle.seq_model.specs.Runs.{reply_of, after_call}

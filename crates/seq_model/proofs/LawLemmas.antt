@@ -1,5 +1,6 @@
 -- The laws of runs and audits.
-use Rattle.std.proofs.Common.{◌≡◌, ℕ, zero, suc, ◌<◌, true, false, List, [], ◌∷◌, ◌++◌, map, Some, None, refl, sym, ◌∙◌, ap, subst, arith, inl, inr}
+use Rattle.std.proofs.Common.{◌≡◌, ℕ, zero, suc, ◌<◌, true, false, List, [], ◌∷◌, ◌++◌, map, Some, None, refl, sym, ◌∙◌, ap, subst, arith}
+use Rattle.std.proofs.Common.{inl, inr}
 use Rattle.std.specs.Prelude.{nat_lt}
 use Rattle.std.proofs.lemmas.Bool.{cases_Bool}
 use Rattle.std.proofs.lemmas.Bool.Decides.{nat_tests}
@@ -10,7 +11,8 @@ use Rattle.seq_model.specs.declared.auditing.AuditFault.TheVariants.{DoubleNumbe
 use Rattle.seq_model.specs.Contents.{Contents}
 use Rattle.seq_model.specs.Runs.{reply_of, after_call, IsLegal, after_calls, IsRun, after_run}
 use Rattle.seq_model.specs.Audit.{IsLeastDouble, IsFirstWrong, IsFirstWrongAt, run_order, writers_at}
-use Rattle.seq_model.specs.Laws.{CallsDetermineReplies, CallsCompose, RunsCompose, HasItsOwnNumber, AreReaders, AreReadersBehind, RunsHaveNoFault, FaultsAreDetermined}
+use Rattle.seq_model.specs.Laws.{CallsDetermineReplies, CallsCompose, RunsCompose, HasItsOwnNumber, AreReaders, AreReadersBehind}
+use Rattle.seq_model.specs.Laws.{RunsHaveNoFault, FaultsAreDetermined}
 use Rattle.seq_model.proofs.RunLemmas.{IsLegal-append, after_calls-append, IsRun-append, after_run-append, NoClash, AllRead, AllReadBehind}
 
 -- ---- one least number

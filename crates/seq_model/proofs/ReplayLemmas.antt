@@ -1,5 +1,6 @@
 -- The steps of an audit.
-use Rattle.std.proofs.Common.{◌≡◌, ℕ, zero, suc, ◌+◌, ◌<◌, ◌≤◌, false, not, List, [], ◌∷◌, ◌++◌, length, get_or, take, drop, map, Option, Some, None, count_by, ◌==◌, sym, ◌∙◌, ap, subst, arith}
+use Rattle.std.proofs.Common.{◌≡◌, ℕ, zero, suc, ◌+◌, ◌<◌, ◌≤◌, false, not, List, [], ◌∷◌, ◌++◌, length, get_or, take, drop, map, Option}
+use Rattle.std.proofs.Common.{Some, None, count_by, ◌==◌, sym, ◌∙◌, ap, subst, arith}
 use Rattle.std.proofs.lemmas.List.{get_or-map, length-map, take_all}
 use Rattle.std.proofs.lemmas.Bool.{cond-true, cond-false}
 use Rattle.std.proofs.Math.Seq.{drop-cons}
@@ -14,7 +15,9 @@ use Rattle.seq_model.specs.declared.auditing.AuditFault.{AuditFault}
 use Rattle.seq_model.specs.declared.auditing.AuditFault.TheVariants.{DoubleNumber, WrongReply, WrongState, OutOfMemory}
 use Rattle.seq_model.specs.Audit.{run_order, writers_at, IsLeastDouble, IsFirstWrong, IsFirstWrongAt, IsReplayFault, IsAuditFault}
 use Rattle.seq_model.proofs.TurnLemmas.{in_turn_sorted}
-use Rattle.seq_model.proofs.AuditLemmas.{turns_from-more, turns_run_order, counted_sorted, counted_records, least_alike, handed_in, AllHandedIn, handed_order, legal_more, after_more, wrong_here, run_more, after_run_more, wrong_at, double_behind, tested_same}
+use Rattle.seq_model.proofs.AuditLemmas.{turns_from-more, turns_run_order, counted_sorted, counted_records, least_alike, handed_in}
+use Rattle.seq_model.proofs.AuditLemmas.{AllHandedIn, handed_order, legal_more, after_more, wrong_here, run_more, after_run_more, wrong_at}
+use Rattle.seq_model.proofs.AuditLemmas.{double_behind, tested_same}
 
 one_more : (i : ℕ) → suc i ≡ i + 1
 one_more i = omega arith

@@ -1,5 +1,6 @@
 -- Laws of transactions and runs.
-use Rattle.std.proofs.Common.{◌≡◌, ◌≢◌, ℕ, ◌<◌, ◌≤◌, Bool, true, false, cond, ◌||◌, List, [], ◌∷◌, ◌++◌, Some, refl, sym, ◌∙◌, ap, subst, arith}
+use Rattle.std.proofs.Common.{◌≡◌, ◌≢◌, ℕ, ◌<◌, ◌≤◌, Bool, true, false, cond, ◌||◌, List, [], ◌∷◌, ◌++◌, Some, refl, sym, ◌∙◌, ap, subst}
+use Rattle.std.proofs.Common.{arith}
 use Rattle.std.specs.Prelude.{nat_lt, nat_le, option_map, filter}
 use Rattle.std.specs.Option.{option_map_or}
 use Rattle.std.proofs.lemmas.Bool.Decides.{nat_tests}
@@ -7,7 +8,8 @@ use Rattle.seq_model.specs.declared.call.Call.{Call}
 use Rattle.seq_model.specs.declared.call.Reply.{Reply}
 use Rattle.seq_model.specs.declared.record.Record.{Record}
 use Rattle.seq_model.specs.Contents.{Contents, call_of}
-use Rattle.seq_model.specs.Runs.{reply_of, after_call, IsLegal, after_calls, comes_before, insert_record, NoneComesBefore, IsInCommitOrder, IsRun, after_run, is_writer}
+use Rattle.seq_model.specs.Runs.{reply_of, after_call, IsLegal, after_calls, comes_before, insert_record, NoneComesBefore, IsInCommitOrder}
+use Rattle.seq_model.specs.Runs.{IsRun, after_run, is_writer}
 use Rattle.seq_model.specs.Changes.{changes}
 use Rattle.seq_model.proofs.ChangeLemmas.{unchanged}
 use Rattle.seq_model.proofs.RecordLemmas.{before, later}

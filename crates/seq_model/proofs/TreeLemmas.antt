@@ -4,14 +4,16 @@ use Rattle.std.specs.BTreeMap.{BTreeMap, get_by, insert_entry, is_at}
 use Rattle.std.proofs.lemmas.Bool.{false≢true}
 use Rattle.std.specs.Map.{lookup, remove_entry}
 use Rattle.std.specs.Ordering.{nat_cmp, is_eq, match_ordering}
-use Rattle.std.specs.FinMap.{FinMap, put, find, get as map_get, from_sorted, insert as map_insert, remove as map_remove, len as map_len, len-entries, get-from_sorted}
+use Rattle.std.specs.FinMap.{FinMap, put, find, get as map_get, from_sorted, insert as map_insert, remove as map_remove, len as map_len}
+use Rattle.std.specs.FinMap.{len-entries, get-from_sorted}
 use Rattle.std.specs.FinMap.Entries.{by_order, is_sorted-put}
 use Rattle.std.specs.Cmp.{nat_cmp_total}
 use Rattle.std.specs.List.{slice_get}
 use Rattle.std.specs.Option.{option_map}
 use Rattle.seq_model.specs.Counts.{first_key}
 use Rattle.seq_model.specs.Entries.{IsRising}
-use Rattle.seq_model.proofs.EntryLemmas.{by_cases, both_true, below_at, items_are, insert_of, remove_of, without, without_below, rising_without}
+use Rattle.seq_model.proofs.EntryLemmas.{by_cases, both_true, below_at, items_are, insert_of, remove_of, without, without_below}
+use Rattle.seq_model.proofs.EntryLemmas.{rising_without}
 
 module _ {V : Type 0} where
   put_is : (k : ℕ) (v : V) (es : List (ℕ × V)) → insert_entry nat_cmp es k v ≡ put nat_cmp k v es

@@ -1,5 +1,6 @@
 -- Turns, sorted.
-use Rattle.std.proofs.Common.{◌≡◌, ℕ, zero, suc, ◌<◌, ◌≤◌, Bool, true, false, cond, not, ◌&&◌, List, [], ◌∷◌, length, get_or, filter, nat_cmp, is_lt, refl, sym, ◌∙◌, ap, subst, arith, inl, inr, suc-le-suc, zero-le}
+use Rattle.std.proofs.Common.{◌≡◌, ℕ, zero, suc, ◌<◌, ◌≤◌, Bool, true, false, cond, not, ◌&&◌, List, [], ◌∷◌, length, get_or, filter}
+use Rattle.std.proofs.Common.{nat_cmp, is_lt, refl, sym, ◌∙◌, ap, subst, arith, inl, inr, suc-le-suc, zero-le}
 use Rattle.std.specs.Ordering.{bool_cmp, ordering_then}
 use Rattle.std.specs.Cmp.{IsStrictWeakOrder, bool_cmp_total}
 use Rattle.std.specs.List.Sorted.{ties, IsSortedBy, IsStableBy}

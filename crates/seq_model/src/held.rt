@@ -2,7 +2,8 @@
 ghost use Rattle.std.specs.Prelude.{◌≡◌, ◌↔◌, ◌+◌, ◌≤◌, Some, None, Err, is_some, IsTrue, IfOk, IfErr, OnErr, length};
 ghost use Rattle.std.specs.FinMap as map;
 ghost use Rattle.seq_model.specs.declared.held.Held.TheVariants.{Map, Bag, Pq, Queue};
-ghost use Rattle.seq_model.specs.Calls.{map_call, multiset_call, priority_queue_call, queue_call, held_call, add_call, value_reply, found_reply, IsRefusal, IsWithinLimits, TakesMemory};
+ghost use Rattle.seq_model.specs.Calls.{map_call, multiset_call, priority_queue_call, queue_call, held_call, add_call, value_reply};
+ghost use Rattle.seq_model.specs.Calls.{found_reply, IsRefusal, IsWithinLimits, TakesMemory};
 ghost use Rattle.seq_model.specs.Counts.{HasFewCopies};
 
 use crate::call::{Op, Reply};

@@ -16,4 +16,4 @@ pub const CALL_LIMIT: usize = 4096;
 pub const ACTOR_LIMIT: u32 = 64;
 
 /// Lists by actor have so many places: an actor's number is its place, and the first is no actor's.
-pub const SEATS: usize = 65;
+pub const SEATS: usize = ACTOR_LIMIT as usize + 1;

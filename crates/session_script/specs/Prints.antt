@@ -48,7 +48,8 @@ changes_text (first ∷ changes) = changed_text first ++ flat_map (λ made. code
 
 abbrev pub item_text : Item → List ℕ
 item_text i = codes "total " ++
-    (decimal i.total ++ (codes " used " ++ (decimal i.used ++ (codes " free " ++ (decimal i.free ++ (codes " price " ++ decimal i.price))))))
+    (decimal i.total ++ (codes " used " ++ (decimal i.used ++ (codes " free " ++
+    (decimal i.free ++ (codes " price " ++ decimal i.price))))))
 
 abbrev pub reply_text : ActionReply → List ℕ
 reply_text (Reserved parts) = parts_text parts

@@ -3,7 +3,9 @@ ghost use Rattle.std.specs.Prelude.{◌≡◌, ◌+◌, ◌++◌, IfOk, OnOk, fl
 ghost use Rattle.std.specs.FinMap as map;
 ghost use Rattle.std.specs.String.{string_bytes};
 ghost use Rattle.session_script.specs.Lines.{kind_token};
-ghost use Rattle.session_script.specs.Prints.{line_text, lines_text, outcome_text, printed, booking_text, changed_text, changes_text, customer_line, item_text, items_text, number_text, part_text, parts_text, queue_text, reply_text, tables_text, wait_text};
+ghost use Rattle.session_script.specs.Prints.{line_text, lines_text, outcome_text, printed, booking_text, changed_text, changes_text};
+ghost use Rattle.session_script.specs.Prints.{customer_line, item_text, items_text, number_text, part_text, parts_text, queue_text};
+ghost use Rattle.session_script.specs.Prints.{reply_text, tables_text, wait_text};
 
 use seq_model::{Memory, Refusal};
 use std::alloc::Global;

@@ -1,5 +1,6 @@
 -- Laws of what a script's lines make happen.
-use Rattle.std.proofs.Common.{◌≡◌, ◌∙◌, refl, sym, ap, ap₂, subst, ℕ, zero, suc, ◌+◌, ◌<◌, Bool, true, false, List, [], ◌∷◌, ◌++◌, length, inl, inr, ◌⊎◌, append_assoc, append-nil, arith}
+use Rattle.std.proofs.Common.{◌≡◌, ◌∙◌, refl, sym, ap, ap₂, subst, ℕ, zero, suc, ◌+◌, ◌<◌, Bool, true, false, List, [], ◌∷◌, ◌++◌, length}
+use Rattle.std.proofs.Common.{inl, inr, ◌⊎◌, append_assoc, append-nil, arith}
 use Rattle.std.specs.Prelude.{replicate}
 use Rattle.std.proofs.lemmas.List.{replicate-append-replicate}
 use Rattle.std.proofs.lemmas.Grind.{flat_map-append}
@@ -11,7 +12,8 @@ use Rattle.step_script.specs.declared.script.Line.{Line}
 use Rattle.step_script.specs.declared.script.TheConstants.{STEP_LIMIT}
 use Rattle.running_world.specs.declared.parts.Parts.{Parts}
 use Rattle.running_world.specs.Feeds.{Feeds}
-use Rattle.session_text.specs.Plays.{ArePlays, AreSteps, AreTurns, HasPlayed, IsDone, IsOne, IsPlay, IsStepOf, Keeps, heard, telling, tells_nothing, waiting_after, waiting_then, waits}
+use Rattle.session_text.specs.Plays.{ArePlays, AreSteps, AreTurns, HasPlayed, IsDone, IsOne, IsPlay, IsStepOf, Keeps, heard, telling}
+use Rattle.session_text.specs.Plays.{tells_nothing, waiting_after, waiting_then, waits}
 use Rattle.session_text.proofs.LeadLemmas.{leads_none, leads_on, leads_one}
 
 -- ---- events after events

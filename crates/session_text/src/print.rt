@@ -1,7 +1,8 @@
 //! Prints what came of a script.
 ghost use Rattle.std.specs.Prelude.{◌≡◌, ◌++◌, IfOk, OnOk, flat_map};
 ghost use Rattle.std.specs.String.{string_bytes};
-ghost use Rattle.session_text.specs.Prints.{number_text, pair_text, reply_text, answer_text, record_text, half_text, held_text, words_text, state_text, notice_text, run_text};
+ghost use Rattle.session_text.specs.Prints.{number_text, pair_text, reply_text, answer_text, record_text, half_text, held_text, words_text};
+ghost use Rattle.session_text.specs.Prints.{state_text, notice_text, run_text};
 
 use crate::run::ScriptRun;
 use seq_model::{Answer, Held, Memory, Notice, Record, Reply, State};

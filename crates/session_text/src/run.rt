@@ -9,7 +9,8 @@ ghost use Rattle.running_world.specs.Serial.{IsFrom};
 ghost use Rattle.running_world.specs.Traces.{IsSerialTrace, IsTraceOf};
 ghost use Rattle.session_text.specs.Scripts as opens;
 ghost use Rattle.session_text.specs.Scripts.{HasRefusedCollections, IsOpeningOf, IsRefusedScript, world_in};
-ghost use Rattle.session_text.specs.Plays.{ArePlays, AreSteps, AreTurns, HasPlayed, IsOne, IsPlay, IsRunOf, Keeps, whose, is_request, noted, waits};
+ghost use Rattle.session_text.specs.Plays.{ArePlays, AreSteps, AreTurns, HasPlayed, IsOne, IsPlay, IsRunOf, Keeps, whose, is_request};
+ghost use Rattle.session_text.specs.Plays.{noted, waits};
 ghost use Rattle.step_script.specs.declared.script.TheConstants.{STEP_LIMIT};
 
 use running_world::{Trace, World};

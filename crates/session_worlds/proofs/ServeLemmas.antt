@@ -50,7 +50,8 @@ use Rattle.vacation_core.specs.Sessions.{session}
 use Rattle.vacation_core.proofs.RunLemmas.{none_gives_up, runs_are_actions}
 use Rattle.session_worlds.specs.Asking.{Actions, AskAsSessions, MayHappen, Turn, at_idle, begun, events_of}
 use Rattle.session_worlds.specs.Serial.{SessionsAreSerial, actions_of, begun_all, committed_in, committed_of, if_committed}
-use Rattle.session_worlds.proofs.FollowLemmas.{FollowsAt, IsFollowing, commits_follow, follows_map, requests_follow, starves_follow, steps_follow}
+use Rattle.session_worlds.proofs.FollowLemmas.{FollowsAt, IsFollowing, commits_follow, follows_map, requests_follow, starves_follow}
+use Rattle.session_worlds.proofs.FollowLemmas.{steps_follow}
 
 -- ---- records
 

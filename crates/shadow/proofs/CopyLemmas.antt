@@ -1,6 +1,7 @@
 -- What a memo keeps, of every collection that answers alike what is held. A key that is touched is of each of them, since they answer it
 -- alike from then on; the answer on a held key is that of each; and so is what an accepted call makes of it, whose keys are the same.
-use Rattle.std.proofs.Common.{◌≡◌, ℕ, ◌++◌, ◌<◌, Bool, true, false, cond, List, [], Option, Some, None, is_some, refl, sym, ap, subst, ◌∙◌, true≢false}
+use Rattle.std.proofs.Common.{◌≡◌, ℕ, ◌++◌, ◌<◌, Bool, true, false, cond, List, [], Option, Some, None, is_some, refl, sym, ap, subst, ◌∙◌}
+use Rattle.std.proofs.Common.{true≢false}
 use Rattle.std.specs.Cmp.{nat_cmp_total}
 use Rattle.std.specs.Ordering.{nat_cmp, eq_by_cmp}
 use Rattle.std.specs.FinMap.{FinMap, empty, get, get-insert, insert, len}
@@ -22,7 +23,8 @@ use Rattle.replay_log.specs.Base.{Shown, OfMap, OfBag, OfPq, OfQueue, after, cha
 use Rattle.replay_log.specs.Parts.{MapKind, BagKind, PqKind, QueueKind}
 use Rattle.replay_log.specs.declared.touch.Touched.{Touched}
 use Rattle.replay_log.specs.Touches.{touched_by}
-use Rattle.shadow.specs.Memo.{IsAlike, IsCopyBy, IsCountedBy, IsOfBy, answer_with, copies_kept, entries_after, entries_kept, grown_kept, has_key, holds_with, shrunk_kept, with_count, with_counts, with_entry, with_key, with_total}
+use Rattle.shadow.specs.Memo.{IsAlike, IsCopyBy, IsCountedBy, IsOfBy, answer_with, copies_kept, entries_after, entries_kept, grown_kept}
+use Rattle.shadow.specs.Memo.{has_key, holds_with, shrunk_kept, with_count, with_counts, with_entry, with_key, with_total}
 use Rattle.shadow.proofs.MemoLemmas.{accepted, accepted_holds, answered, entries_same, entry_accepted, learnt, new_map, nothing_known}
 use Rattle.shadow.proofs.LengthLemmas.{counted_accepted, len_answered, summed}
 

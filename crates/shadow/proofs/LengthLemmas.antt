@@ -1,6 +1,7 @@
 -- The number of keys of a map after the accepted changes: each change makes one key new to it, takes one out, or neither, and the reply
 -- of its call says which. With the counts of its stripes, which add up to the number of its keys, that is its length.
-use Rattle.std.proofs.Common.{◌≡◌, ℕ, zero, suc, ◌+◌, ◌-◌, ◌++◌, ◌<◌, true, cond, List, Option, Some, None, is_some, unwrap_or, refl, sym, ap, subst, ◌∙◌, arith, true≢false}
+use Rattle.std.proofs.Common.{◌≡◌, ℕ, zero, suc, ◌+◌, ◌-◌, ◌++◌, ◌<◌, true, cond, List, Option, Some, None, is_some, unwrap_or, refl, sym}
+use Rattle.std.proofs.Common.{ap, subst, ◌∙◌, arith, true≢false}
 use Rattle.std.specs.Cmp.{nat_cmp_total}
 use Rattle.std.specs.Ordering.{nat_cmp}
 use Rattle.std.specs.List.{sum}
@@ -21,7 +22,8 @@ use Rattle.base_map.specs.Conflicts as map
 use Rattle.replay_log.specs.Base.{Shown, OfMap, OfBag, OfPq, OfQueue, after, changes_of, outcome_of}
 use Rattle.replay_log.specs.declared.touch.Touched.{Touched}
 use Rattle.replay_log.specs.declared.touch.Touched.TheVariants.{Entry, Copies, Counts}
-use Rattle.shadow.specs.Memo.{IsCounted, IsCountedBy, IsShown, answer_with, grown_after, grown_kept, holds_with, len_outcome, shrunk_after, shrunk_kept, with_counts, with_total}
+use Rattle.shadow.specs.Memo.{IsCounted, IsCountedBy, IsShown, answer_with, grown_after, grown_kept, holds_with, len_outcome, shrunk_after}
+use Rattle.shadow.specs.Memo.{shrunk_kept, with_counts, with_total}
 use Rattle.shadow.proofs.MemoLemmas.{held_some, map_next}
 
 one_more : (a n h before g : ℕ) → a ≡ n + 1 → n + h ≡ before + g → a + h ≡ before + suc g

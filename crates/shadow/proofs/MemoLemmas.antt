@@ -1,7 +1,8 @@
 -- What a memo keeps of the keys that it holds is what the collection of which they were touched shows there after the accepted
 -- changes. A change is of one key, so it leaves what is known of the others; and a key that isn't held was changed by none of them,
 -- so that what is touched of it later is what the collection still shows there.
-use Rattle.std.proofs.Common.{◌≡◌, ℕ, suc, ◌+◌, ◌-◌, ◌++◌, ◌==◌, true, false, cond, List, [], Option, Some, None, is_some, nat_lt, unwrap_or, refl, sym, ap, subst, ◌∙◌, arith, true≢false}
+use Rattle.std.proofs.Common.{◌≡◌, ℕ, suc, ◌+◌, ◌-◌, ◌++◌, ◌==◌, true, false, cond, List, [], Option, Some, None, is_some, nat_lt}
+use Rattle.std.proofs.Common.{unwrap_or, refl, sym, ap, subst, ◌∙◌, arith, true≢false}
 use Rattle.std.specs.Cmp.{nat_cmp_total}
 use Rattle.std.specs.Ordering.{nat_cmp, eq_by_cmp}
 use Rattle.std.specs.FinMap.{FinMap, empty, get, get-empty, insert, get-insert, get-remove}
@@ -28,7 +29,8 @@ use Rattle.replay_log.specs.Base.{Shown, OfMap, OfBag, OfPq, OfQueue, after, cha
 use Rattle.replay_log.specs.declared.touch.Touched.{Touched}
 use Rattle.replay_log.specs.declared.touch.Touched.TheVariants.{Entry, Copies, Counts}
 use Rattle.replay_log.specs.Touches.{touched_by}
-use Rattle.shadow.specs.Memo.{IsKnown, IsOfBy, IsShown, has_key, with_key, with_entry, with_count, holds_by, entry_outcome, known_entry, map_answer, counted_up, copies_after, entries_after, answer_by, entries_kept, copies_kept}
+use Rattle.shadow.specs.Memo.{IsKnown, IsOfBy, IsShown, has_key, with_key, with_entry, with_count, holds_by, entry_outcome, known_entry}
+use Rattle.shadow.specs.Memo.{map_answer, counted_up, copies_after, entries_after, answer_by, entries_kept, copies_kept}
 
 -- ---- what is known of keys, for any collection
 module _ {C A : Type 0} (look : C → ℕ → A) where

@@ -10,7 +10,8 @@ ghost use Rattle.conflict.specs.declared.outcome.Outcome.{Outcome};
 ghost use Rattle.replay_log.specs.Base.{Shown, OfMap, OfBag, after, changes_of, outcome_of};
 ghost use Rattle.replay_log.specs.declared.touch.Touched.{Touched};
 ghost use Rattle.replay_log.specs.Touches.{touched_by};
-ghost use Rattle.shadow.specs.Memo.{IsAlike, IsCopyBy, IsCountedBy, IsOfBy, IsShown, answer_by, answer_with, copies_kept, entries_kept, grown_kept, holds_by, holds_with, shrunk_kept, with_count, with_entry, with_total};
+ghost use Rattle.shadow.specs.Memo.{IsAlike, IsCopyBy, IsCountedBy, IsOfBy, IsShown, answer_by, answer_with, copies_kept, entries_kept};
+ghost use Rattle.shadow.specs.Memo.{grown_kept, holds_by, holds_with, shrunk_kept, with_count, with_entry, with_total};
 ghost use Rattle.shadow.specs.Shadow.{IsFolded};
 
 use seq_model::Value;
@@ -32,9 +33,11 @@ pub fn memos<V: Value>()
     ensures touched { (n : ℕ) (op : Op V) (s : Shown V) (t : Touched V) → touched_by n op s ≡ Some t → IsShown n t s }
     ensures added { (n : ℕ) (t : Touched V) (b s : Shown V) (es : FinMap nat_cmp (Option V)) (cs : FinMap nat_cmp ℕ)
         (changes : List (Change V)) → IsOfBy b es cs changes s → IsShown n t s → IsOfBy b (with_entry t es) (with_count t cs) changes s }
-    ensures answered { (op : Op V) (b s : Shown V) (es : FinMap nat_cmp (Option V)) (cs : FinMap nat_cmp ℕ) (changes : List (Change V)) (o : Outcome V) →
+    ensures answered { (op : Op V) (b s : Shown V) (es : FinMap nat_cmp (Option V)) (cs : FinMap nat_cmp ℕ) (changes : List (Change V))
+        (o : Outcome V) →
         holds_by b es cs op ≡ true → IsOfBy b es cs changes s → answer_by b es cs op ≡ Some o → outcome_of op (after changes s) ≡ Some o }
-    ensures accepted { (o : Outcome V) (b s : Shown V) (es : FinMap nat_cmp (Option V)) (cs : FinMap nat_cmp ℕ) (changes : List (Change V)) →
+    ensures accepted { (o : Outcome V) (b s : Shown V) (es : FinMap nat_cmp (Option V)) (cs : FinMap nat_cmp ℕ)
+        (changes : List (Change V)) →
         holds_by b es cs o.op ≡ true → IsOfBy b es cs changes s →
         IsOfBy b (entries_kept b o es) (copies_kept b o cs) (changes ++ changes_of o b) s }
     ensures held { (o : Outcome V) (b : Shown V) (es : FinMap nat_cmp (Option V)) (cs : FinMap nat_cmp ℕ) (op : Op V) →

@@ -7,7 +7,9 @@ ghost use Rattle.seq_model.specs.Counts.{copies};
 ghost use Rattle.conflict.specs.Refusals.{IsTooLong, IsStripeCount};
 ghost use Rattle.base_bag.specs.Conflicts as bag;
 ghost use Rattle.replay_log.specs.Base.{changes_of, shown_of, stripes_of, writes_of};
-ghost use Rattle.shadow.specs.Memo.{IsReadyFor, answer_with, copies_after, copies_kept, copies_without, entries_after, entries_kept, entries_without, grown_after, grown_kept, holds, kind_room, map_answer, shape, shrunk_after, shrunk_kept, total_without, with_count, with_counts, with_entry, with_key, with_total, IsTold};
+ghost use Rattle.shadow.specs.Memo.{IsReadyFor, answer_with, copies_after, copies_kept, copies_without, entries_after, entries_kept};
+ghost use Rattle.shadow.specs.Memo.{entries_without, grown_after, grown_kept, holds, kind_room, map_answer, shape, shrunk_after};
+ghost use Rattle.shadow.specs.Memo.{shrunk_kept, total_without, with_count, with_counts, with_entry, with_key, with_total, IsTold};
 
 use base_bag::BagBase;
 use base_map::MapBase;
@@ -60,7 +62,14 @@ impl<V> Model for Memo<V> {
 
     ghost Value = { MemoView V };
 
-    ghost coded = { Prim.hlevel (codes, map.code {R = nat_cmp} coded_ℕ V.code, map.code {R = nat_cmp} coded_ℕ (coded_option V.code), map.code {R = nat_cmp} coded_ℕ coded_ℕ, pq.shown_code, queue.shown_code) };
+    ghost coded = { Prim.hlevel (
+      codes,
+      map.code {R = nat_cmp} coded_ℕ V.code,
+      map.code {R = nat_cmp} coded_ℕ (coded_option V.code),
+      map.code {R = nat_cmp} coded_ℕ coded_ℕ,
+      pq.shown_code,
+      queue.shown_code,
+    ) };
 
     ghost view = { λ a. record {
       blank = a.blank;

@@ -1,7 +1,8 @@
 -- A step of the cells is the machine's. The world that has these cells and this actor is given: what the step finds there is what the
 -- cells hold, so the machine's actor becomes the code's, its word becomes the one that was stored, and it tells what the code answers.
 -- A load leaves the cells; a store puts one number in the place of another.
-use Rattle.std.proofs.Common.{◌≡◌, ℕ, zero, suc, ◌+◌, ◌<◌, ◌≤◌, ◌^◌, ◌*◌, List, [], ◌∷◌, Ok, Err, Option, Some, None, length, get_or, set, refl, sym, ap, ◌∙◌, subst, inl, inr, arith, drop, eqb, eq-eqb, ne_eqb, get_or-set_same, get_or-set_other}
+use Rattle.std.proofs.Common.{◌≡◌, ℕ, zero, suc, ◌+◌, ◌<◌, ◌≤◌, ◌^◌, ◌*◌, List, [], ◌∷◌, Ok, Err, Option, Some, None, length, get_or, set}
+use Rattle.std.proofs.Common.{refl, sym, ap, ◌∙◌, subst, inl, inr, arith, drop, eqb, eq-eqb, ne_eqb, get_or-set_same, get_or-set_other}
 use Rattle.std.specs.Prelude.{unwrap_or}
 use Rattle.std.specs.Vec.{with_item}
 use Rattle.std.specs.List.{All}
@@ -12,9 +13,11 @@ use Rattle.vlock_word.specs.LockWord.{bits, unbits}
 use Rattle.vlock_word.proofs.LockWordLemmas.{bits_unbits, unbits_free, unbits_locked}
 use Rattle.tx_sets.specs.Entries.{Entries, locations, lookup}
 use Rattle.word_machine.specs.Actor as machine
-use Rattle.word_machine.specs.Actor.{goes, begun, seen, seen_again, seen_to_lock, to_check, stamped_at, taken, seen_in_check, freed, after_release}
+use Rattle.word_machine.specs.Actor.{goes, begun, seen, seen_again, seen_to_lock, to_check, stamped_at, taken, seen_in_check, freed}
+use Rattle.word_machine.specs.Actor.{after_release}
 use Rattle.word_machine.specs.World.{World, Step, happens, step, put, now}
-use Rattle.word_machine.specs.Notices.{LockedAt, Quiet, Busy, NoTransaction, Stored, Released, Cancelled, last_notice, take_notice, when_none_left, notice, begin_notice, look_notice, again_notice, lock_notice, check_notice}
+use Rattle.word_machine.specs.Notices.{LockedAt, Quiet, Busy, NoTransaction, Stored, Released, Cancelled, last_notice, take_notice}
+use Rattle.word_machine.specs.Notices.{when_none_left, notice, begin_notice, look_notice, again_notice, lock_notice, check_notice}
 use Rattle.word_machine.proofs.Sets.{put-same, put-other}
 use Rattle.word_machine.proofs.Worlds.{tried, locked, looked, looked_again, to_lock, checked, gives_back, released, undone, first}
 use Rattle.step_core.specs.Answers.{result_of}
@@ -22,7 +25,8 @@ use Rattle.step_core.specs.CellSteps.{AreCells, StepsOn}
 use Rattle.step_core.specs.Shown.{actor_of, place_of}
 use Rattle.step_core.specs.declared.actor.Actor.{Actor}
 use Rattle.step_core.specs.declared.actor.Place.{Place}
-use Rattle.step_core.specs.declared.actor.Place.TheVariants.{Begin, Look, Fetch, Again, Lock, Take, Check, First, Store, Release, Undo, Leave, Close}
+use Rattle.step_core.specs.declared.actor.Place.TheVariants.{Begin, Look, Fetch, Again, Lock, Take, Check, First, Store, Release, Undo}
+use Rattle.step_core.specs.declared.actor.Place.TheVariants.{Leave, Close}
 use Rattle.step_core.specs.declared.answer.WordAnswer.TheVariants as answer
 use Rattle.step_core.specs.declared.answer.WordRefusal.TheVariants as refusal
 use Rattle.step_core.specs.declared.cells.Cells.{Cells}
@@ -299,7 +303,8 @@ pub releases : (w : Cells) (x y : Actor) (r : Answer) (e : ℕ × ℕ) (word : �
     → x.held.items ≡ e ∷ drop 1 x.held.items → e.0 < length w.locks.items → word ≡ 2 * x.wv
     → actor_of y ≡ freed (actor_of x) (drop 1 x.held.items) (after_release (drop 1 x.held.items))
     → r ≡ result_of (when_none_left (drop 1 x.held.items) Released) → StepsOn w x (relocked w e.0 word) y r
-releases w x y r e word at_p hs inn is own says = let es = drop 1 x.held.items in at_place w (relocked w e.0 word) x y Release r at_p (λ s a h. (
+releases w x y r e word at_p hs inn is own says =
+    let es = drop 1 x.held.items in at_place w (relocked w e.0 word) x y Release r at_p (λ s a h. (
     let turn = ap (released s a (actor_of x)) hs ∙ released_is s a (actor_of x) e es in (
       subst (AreCells (relocked w e.0 word)) (sym turn)
           (record {

@@ -1,12 +1,16 @@
 -- A request that is not refused and not answered at once leaves its actor a step to do. What the phase allows goes to a place where a
 -- step is due, or is answered; so the cases are those of the table of phases.
-use Rattle.std.proofs.Common.{◌≡◌, ℕ, ◌<◌, Bool, true, false, Option, Some, None, Result, Ok, Err, [], ◌∷◌, length, refl, sym, ap, ◌∙◌, subst, arith, true≢false}
+use Rattle.std.proofs.Common.{◌≡◌, ℕ, ◌<◌, Bool, true, false, Option, Some, None, Result, Ok, Err, [], ◌∷◌, length, refl, sym, ap, ◌∙◌}
+use Rattle.std.proofs.Common.{subst, arith, true≢false}
 use Rattle.std.specs.Prelude.{IfOk}
 use Rattle.tx_sets.specs.Entries.{Entries, lookup}
-use Rattle.word_machine.specs.Actor.{Place, Idle, Begin, Open, Look, Fetch, Again, Lock, Take, Check, Broken, Store, Undo, Close, Actor, goes}
-use Rattle.word_machine.specs.Requests.{Request, AskBegin, AskBeginRead, AskLock, AskStore, AskRelease, AskCancel, AskAbort, AskClose, AskRead, AskWrite, read, write, lock, close, abort, ask}
+use Rattle.word_machine.specs.Actor.{Place, Idle, Begin, Open, Look, Fetch, Again, Lock, Take, Check, Broken, Store, Undo, Close, Actor}
+use Rattle.word_machine.specs.Actor.{goes}
+use Rattle.word_machine.specs.Requests.{Request, AskBegin, AskBeginRead, AskLock, AskStore, AskRelease, AskCancel, AskAbort, AskClose}
+use Rattle.word_machine.specs.Requests.{AskRead, AskWrite, read, write, lock, close, abort, ask}
 use Rattle.word_machine.specs.World.{World}
-use Rattle.word_machine.specs.Notices.{Notice, Quiet, NoTransaction, Begun, Number, LockedAt, Written, Stored, Released, Cancelled, Closed, Moved, Busy, Invalid, Exhausted, read_reply, write_reply, when_none_left, reply}
+use Rattle.word_machine.specs.Notices.{Notice, Quiet, NoTransaction, Begun, Number, LockedAt, Written, Stored, Released, Cancelled, Closed}
+use Rattle.word_machine.specs.Notices.{Moved, Busy, Invalid, Exhausted, read_reply, write_reply, when_none_left, reply}
 use Rattle.word_machine.specs.Progress.{steps_left}
 use Rattle.word_machine.proofs.Sets.{put-same}
 use Rattle.word_machine.proofs.Invariant.{IsSomeEntry, PlaceOk, Inv}

@@ -1,5 +1,6 @@
 -- What an actor's own steps keep.
-use Rattle.std.proofs.Common.{Bool, true, false, Result, Ok, Err, OnOk, IsOk, Option, Some, None, zero, suc, [], ◌∷◌, ◌++◌, length, ◌≡◌, ℕ, ◌+◌, ◌<◌, ◌≤◌, ◌^◌, refl, ap, sym, subst, arith, ◌∙◌}
+use Rattle.std.proofs.Common.{Bool, true, false, Result, Ok, Err, OnOk, IsOk, Option, Some, None, zero, suc, [], ◌∷◌, ◌++◌, length, ◌≡◌, ℕ}
+use Rattle.std.proofs.Common.{◌+◌, ◌<◌, ◌≤◌, ◌^◌, refl, ap, sym, subst, arith, ◌∙◌}
 use Rattle.std.specs.List.{All}
 use Rattle.std.specs.Prelude.{nat_lt, if◌then◌else◌}
 use Rattle.std.proofs.Common.{inl, inr, ltb, ltb-true}
@@ -38,7 +39,8 @@ place_left es l h e = below (length es) (subst (λ (o : Option ℕ). if_new o No
     below : (n : ℕ) → (if nat_lt n LOCATION_LIMIT then None else Some TooLong) ≡ None → n < LOCATION_LIMIT
     below n h = elim (cases_Bool (ltb n LOCATION_LIMIT)) [
       | inl t ↦ ltb-true n LOCATION_LIMIT t
-      | inr f ↦ (let z : Some TooLong ≡ None = sym (cond-false (ltb n LOCATION_LIMIT) None (Some TooLong) f) ∙ h in let b : ⊥ = cc in absurd b)
+      | inr f ↦ (let z : Some TooLong ≡ None = sym (cond-false (ltb n LOCATION_LIMIT) None (Some TooLong) f) ∙ h in
+          let b : ⊥ = cc in absurd b)
     ]
 
 pub lock_keeps : (x : Actor) (l k i : ℕ) → x.place ≡ Lock i → i < length x.writes.entries → ((n : ℕ) → Fits n x → l < n) → k < 2 ^ 63

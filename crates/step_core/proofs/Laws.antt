@@ -1,5 +1,6 @@
 -- The laws of the machine, of the running words.
-use Rattle.std.proofs.Common.{◌≡◌, ℕ, zero, suc, ◌<◌, List, [], ◌∷◌, Option, Some, None, Result, Ok, get_or, length, map, inl, inr, refl, sym, ap, ◌∙◌, subst, arith}
+use Rattle.std.proofs.Common.{◌≡◌, ℕ, zero, suc, ◌<◌, List, [], ◌∷◌, Option, Some, None, Result, Ok, get_or, length, map, inl, inr, refl}
+use Rattle.std.proofs.Common.{sym, ap, ◌∙◌, subst, arith}
 use Rattle.std.specs.Prelude.{IfSome, slice_get}
 use Rattle.vlock_word.specs.LockWord.{bits, unbits}
 use Rattle.vlock_word.proofs.LockWordLemmas.{bits_unbits}
@@ -8,9 +9,11 @@ use Rattle.word_machine.specs.Actor as machine
 use Rattle.word_machine.specs.World.{Memory, Record, World, Event, Step, blank, happens, run, start, in_order}
 use Rattle.word_machine.specs.Opacity.{IsRun, IsInOrder, IsLegal, IsHalfDone, AllUpto, NoWriterHas, memory_after, memory_at, upto}
 use Rattle.word_machine.proofs.Invariant.{Inv}
-use Rattle.word_machine.specs.Notices.{Notice, Quiet, NoTransaction, Begun, Number, LockedAt, Written, Stored, Released, Cancelled, Closed, Moved, Busy, Invalid, Exhausted, notice}
+use Rattle.word_machine.specs.Notices.{Notice, Quiet, NoTransaction, Begun, Number, LockedAt, Written, Stored, Released, Cancelled, Closed}
+use Rattle.word_machine.specs.Notices.{Moved, Busy, Invalid, Exhausted, notice}
 use Rattle.word_machine.specs.Progress.{step_limit, steps_left, IsAnswered}
-use Rattle.word_machine.proofs.Schedules.{all_upto, reached, opened_at, legal_of, serial, aborted_later, actor_saw, run_saw, words_at_rest, owned, begins_at}
+use Rattle.word_machine.proofs.Schedules.{all_upto, reached, opened_at, legal_of, serial, aborted_later, actor_saw, run_saw, words_at_rest}
+use Rattle.word_machine.proofs.Schedules.{owned, begins_at}
 use Rattle.word_machine.proofs.Progress.{progress}
 use Rattle.word_machine.proofs.Answered.{step_other, step_further}
 use Rattle.word_machine.proofs.Short.{few}
@@ -19,7 +22,8 @@ use Rattle.word_machine.proofs.Refusals.{notice_true, notice_names}
 use Rattle.word_machine.specs.Refusals.{IsEnding}
 use Rattle.step_core.specs.Answers.{result_of}
 use Rattle.step_core.specs.Shown.{Shown, shown, actor_in, actor_of, Steps, Reached, snapshot_of}
-use Rattle.step_core.specs.Opaque.{words_at, world_of, IsAnswerOf, IsAtRest, Opaque, AreNumbered, Saw, KeepsOthers, BeginsAbove, HasCause, Nears, steps_due}
+use Rattle.step_core.specs.Opaque.{words_at, world_of, IsAnswerOf, IsAtRest, Opaque, AreNumbered, Saw, KeepsOthers, BeginsAbove, HasCause}
+use Rattle.step_core.specs.Opaque.{Nears, steps_due}
 use Rattle.step_core.specs.Sound.{Fits, Sound}
 use Rattle.step_core.specs.declared.actor.Actor.{Actor}
 use Rattle.step_core.specs.declared.machine.Machine.{Machine}

@@ -1,6 +1,8 @@
 -- Steps of the running words are steps of the machine: what the cells and the actor make of each other is said of every world that has
 -- them, and no step touches another actor. The counts of numbers owed and of records due follow what the one actor's place changes.
-use Rattle.std.proofs.Common.{◌≡◌, ◌⊎◌, ℕ, zero, suc, ◌+◌, ◌<◌, ◌≤◌, ◌^◌, List, [], ◌∷◌, ◌++◌, Some, None, Ok, Err, IfOk, OnErr, Option, length, map, get_or, set, refl, sym, ap, ◌∙◌, subst, inl, inr, arith, Bool, true, false, eqb, get_or-set_same, get_or-set_other}
+use Rattle.std.proofs.Common.{◌≡◌, ◌⊎◌, ℕ, zero, suc, ◌+◌, ◌<◌, ◌≤◌, ◌^◌, List, [], ◌∷◌, ◌++◌, Some, None, Ok, Err, IfOk, OnErr, Option}
+use Rattle.std.proofs.Common.{length, map, get_or, set, refl, sym, ap, ◌∙◌, subst, inl, inr, arith, Bool, true, false, eqb, get_or-set_same}
+use Rattle.std.proofs.Common.{get_or-set_other}
 use Rattle.std.specs.Prelude.{slice_get, slice_set, if◌then◌else◌}
 use Rattle.std.specs.Vec.{vec_len, vec_capacity, with_item}
 use Rattle.std.specs.List.{All}
@@ -26,7 +28,8 @@ use Rattle.step_core.specs.Shown.{place_of, actor_of, call_of, record_of, Shown,
 use Rattle.step_core.specs.Sound.{Fits, owed, due, total, Sound}
 use Rattle.step_core.specs.declared.answer.WordRefusal.TheVariants as refusal
 use Rattle.step_core.specs.declared.actor.Place.{Place}
-use Rattle.step_core.specs.declared.actor.Place.TheVariants.{Idle, Begin, Open, Look, Fetch, Again, Lock, Take, Check, Broken, First, Store, Release, Undo, Leave, Close}
+use Rattle.step_core.specs.declared.actor.Place.TheVariants.{Idle, Begin, Open, Look, Fetch, Again, Lock, Take, Check, Broken, First, Store}
+use Rattle.step_core.specs.declared.actor.Place.TheVariants.{Release, Undo, Leave, Close}
 use Rattle.step_core.specs.declared.answer.WordAnswer.{WordAnswer}
 use Rattle.step_core.specs.declared.record.WordRecord.{WordRecord}
 use Rattle.step_core.specs.declared.actor.Actor.{Actor}
@@ -35,7 +38,8 @@ use Rattle.step_core.specs.declared.machine.TheConstants.{SEATS}
 use Rattle.step_core.specs.CellSteps.{StepsOn, HaveLength, Grows}
 use Rattle.step_core.proofs.Lists.{Answer, inside, All-at}
 use Rattle.word_machine.proofs.Answered.{step_other}
-use Rattle.word_machine.specs.World.{does, plan, noted, Commits, Aborts, Deed, Rests, LoadClock, AddToClock, LoadLock, LoadValue, ExchangeLock, StoreValue, StoreLock}
+use Rattle.word_machine.specs.World.{does, plan, noted, Commits, Aborts, Deed, Rests, LoadClock, AddToClock, LoadLock, LoadValue}
+use Rattle.word_machine.specs.World.{ExchangeLock, StoreValue, StoreLock}
 
 pub actor_at_go : (xs : List Actor) (a : ℕ) (x : Actor) → slice_get xs a ≡ Some x → get_or (map actor_of xs) a blank ≡ actor_of x
 actor_at_go [] a x h = absurd (let z : None ≡ Some x = h in cc)

@@ -1,5 +1,6 @@
 -- The words as they open.
-use Rattle.std.proofs.Common.{Result, Ok, Err, IfOk, Vec, Global, ◌≡◌, ℕ, zero, suc, ◌+◌, ◌≤◌, ◌^◌, List, [], ◌∷◌, ◌++◌, length, map, get_or, refl, sym, ap, ◌∙◌, subst, arith}
+use Rattle.std.proofs.Common.{Result, Ok, Err, IfOk, Vec, Global, ◌≡◌, ℕ, zero, suc, ◌+◌, ◌≤◌, ◌^◌, List, [], ◌∷◌, ◌++◌, length, map}
+use Rattle.std.proofs.Common.{get_or, refl, sym, ap, ◌∙◌, subst, arith}
 use Rattle.std.specs.Vec.{vec_len}
 use Rattle.std.specs.List.{All}
 use Rattle.std.specs.Prelude.{replicate}

@@ -1,9 +1,11 @@
 -- The phase of an actor, and what a request that is not refused says of it.
-use Rattle.std.proofs.Common.{◌≡◌, ℕ, ◌<◌, ◌≤◌, Bool, true, false, Option, Some, None, List, [], ◌∷◌, length, refl, sym, ap, ◌∙◌, subst, drop, ltb-true, leb-true, arith, true≢false}
+use Rattle.std.proofs.Common.{◌≡◌, ℕ, ◌<◌, ◌≤◌, Bool, true, false, Option, Some, None, List, [], ◌∷◌, length, refl, sym, ap, ◌∙◌, subst}
+use Rattle.std.proofs.Common.{drop, ltb-true, leb-true, arith, true≢false}
 use Rattle.std.specs.Prelude.{nat_lt, nat_le, not, ◌&&◌, if◌then◌else◌, slice_get}
 use Rattle.tx_sets.specs.Entries.{Entries, lookup, locations}
 use Rattle.word_machine.specs.Actor as machine
-use Rattle.word_machine.specs.Requests.{Request, AskBegin, AskBeginRead, AskLock, AskStore, AskRelease, AskCancel, AskAbort, AskClose, AskRead, AskWrite}
+use Rattle.word_machine.specs.Requests.{Request, AskBegin, AskBeginRead, AskLock, AskStore, AskRelease, AskCancel, AskAbort, AskClose}
+use Rattle.word_machine.specs.Requests.{AskRead, AskWrite}
 use Rattle.step_core.specs.Phases.{phase_of, allows, undo_phase, wrong_phase, location_refusal, if_new, refusal_at}
 use Rattle.step_core.specs.Shown.{place_of, actor_of, Shown, shown, actor_in, is_actor, refusal_of}
 use Rattle.step_core.specs.Sound.{IsWithin}
@@ -12,7 +14,8 @@ use Rattle.step_core.specs.declared.answer.WordRefusal.{WordRefusal}
 use Rattle.step_core.specs.declared.answer.WordRefusal.TheVariants.{NoSuch}
 use Rattle.step_core.specs.declared.actor.Actor.{Actor}
 use Rattle.step_core.specs.declared.actor.Place.{Place}
-use Rattle.step_core.specs.declared.actor.Place.TheVariants.{Idle, Begin, Open, Look, Fetch, Again, Lock, Take, Check, Broken, First, Store, Release, Undo, Leave, Close}
+use Rattle.step_core.specs.declared.actor.Place.TheVariants.{Idle, Begin, Open, Look, Fetch, Again, Lock, Take, Check, Broken, First, Store}
+use Rattle.step_core.specs.declared.actor.Place.TheVariants.{Release, Undo, Leave, Close}
 use Rattle.step_core.specs.declared.machine.Machine.{Machine}
 use Rattle.step_core.specs.declared.machine.TheConstants.{LAST_ACTOR, SEATS}
 use Rattle.step_core.proofs.Lists.{drop_here, drop_end}

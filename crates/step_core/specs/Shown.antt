@@ -1,14 +1,17 @@
 -- What callers see of the running words, and the worlds of the machine that it shows.
-use Rattle.std.specs.Prelude.{◌≡◌, ℕ, Bool, true, List, [], ◌∷◌, ◌++◌, length, map, get_or, drop, Option, Some, None, Result, Ok, nat_le, ◌&&◌, if◌then◌else◌}
+use Rattle.std.specs.Prelude.{◌≡◌, ℕ, Bool, true, List, [], ◌∷◌, ◌++◌, length, map, get_or, drop, Option, Some, None, Result, Ok, nat_le}
+use Rattle.std.specs.Prelude.{◌&&◌, if◌then◌else◌}
 use Rattle.vlock_word.specs.LockWord.{unbits}
 use Rattle.tx_sets.specs.Entries.{Entries, locations}
 use Rattle.word_machine.specs.Actor as machine
 use Rattle.word_machine.specs.Requests.{Request, ask}
 use Rattle.word_machine.specs.World as world
-use Rattle.word_machine.specs.World.{World, Memory, Event, Ask, Step, Outcome, GoesOn, Commits, Aborts, outcome, happens, run, start, in_order, blank}
+use Rattle.word_machine.specs.World.{World, Memory, Event, Ask, Step, Outcome, GoesOn, Commits, Aborts, outcome, happens, run, start}
+use Rattle.word_machine.specs.World.{in_order, blank}
 use Rattle.word_machine.specs.Notices.{notice, reply}
 use Rattle.step_core.specs.declared.actor.Place.{Place}
-use Rattle.step_core.specs.declared.actor.Place.TheVariants.{Idle, Begin, Open, Look, Fetch, Again, Lock, Take, Check, Broken, First, Store, Release, Undo, Leave, Close}
+use Rattle.step_core.specs.declared.actor.Place.TheVariants.{Idle, Begin, Open, Look, Fetch, Again, Lock, Take, Check, Broken, First, Store}
+use Rattle.step_core.specs.declared.actor.Place.TheVariants.{Release, Undo, Leave, Close}
 use Rattle.step_core.specs.declared.record.WordCall.{WordCall}
 use Rattle.step_core.specs.declared.record.WordCall.TheVariants.{Read, Write}
 use Rattle.step_core.specs.declared.record.WordRecord.{WordRecord}

@@ -9,7 +9,8 @@ ghost use Rattle.std.specs.VecDeque.{deque_len, deque_capacity};
 ghost use Rattle.vlock_word.specs.LockWord.{unbits};
 ghost use Rattle.tx_sets.specs.Entries.{lookup, locations};
 ghost use Rattle.word_machine.specs.Actor as machine;
-ghost use Rattle.word_machine.specs.Actor.{clock_limit, goes, begun, with_read, seen, seen_again, seen_to_lock, taken, to_check, stamped_at, seen_in_check, freed, after_release};
+ghost use Rattle.word_machine.specs.Actor.{clock_limit, goes, begun, with_read, seen, seen_again, seen_to_lock, taken, to_check};
+ghost use Rattle.word_machine.specs.Actor.{stamped_at, seen_in_check, freed, after_release};
 ghost use Rattle.word_machine.specs.Notices as notice;
 ghost use Rattle.word_machine.specs.Notices.{begin_notice, look_notice, again_notice, lock_notice, check_notice, when_none_left};
 ghost use Rattle.step_core.specs.Answers.{result_of};
@@ -324,8 +325,10 @@ impl Actor {
         requires place { self.old.place ≡ Check i }
         requires inside { i < length self.old.reads.entries }
         requires next { i + 1 < 2 ^ 64 }
-        ensures actor { actor_of self.new ≡ seen_in_check (actor_of self.old) (drop (i + 1) (locations self.old.reads.entries)) (unbits word) (lookup self.old.writes.entries location) }
-        ensures answer { result ≡ result_of (check_notice self.old.rv self.old.wv location (drop (i + 1) (locations self.old.reads.entries)) (unbits word) (lookup self.old.writes.entries location)) }
+        ensures actor { actor_of self.new ≡ seen_in_check (actor_of self.old) (drop (i + 1) (locations self.old.reads.entries)) (unbits word)
+            (lookup self.old.writes.entries location) }
+        ensures answer { result ≡ result_of (check_notice self.old.rv self.old.wv location (drop (i + 1) (locations self.old.reads.entries))
+            (unbits word) (lookup self.old.writes.entries location)) }
         ensures keeps { Keeps self.old self.new }
     {
         match LockWord::read(word) {

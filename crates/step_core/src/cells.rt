@@ -6,7 +6,8 @@ ghost use Rattle.std.specs.Prelude.{◌≡◌, ℕ, ◌+◌, ◌^◌, ◌<◌, �
 ghost use Rattle.std.specs.VecDeque.{deque_len};
 ghost use Rattle.step_core.specs.CellSteps.{StepsOn, Grows, IsLike, HaveLength};
 ghost use Rattle.step_core.specs.Sound.{Fits, IsLoad, Keeps, KeepsRoom, owed, due};
-ghost use Rattle.step_core.specs.declared.actor.Place.TheVariants.{Idle, Begin, Look, Fetch, Again, Lock, Take, Check, First, Store, Release, Undo, Leave, Close};
+ghost use Rattle.step_core.specs.declared.actor.Place.TheVariants.{Idle, Begin, Look, Fetch, Again, Lock, Take, Check, First, Store};
+ghost use Rattle.step_core.specs.declared.actor.Place.TheVariants.{Release, Undo, Leave, Close};
 
 use crate::actor::{Actor, Place};
 use crate::answer::{WordAnswer, WordRefusal};

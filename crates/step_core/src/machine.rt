@@ -19,11 +19,11 @@ use crate::cells::Cells;
 use crate::record::WordRecord;
 use std::alloc::{AllocError, Global};
 
-/// The seats of the actors 1 to 64, and one that no actor takes, so that an actor's number is its index.
-pub const SEATS: usize = 65;
-
 /// The last actor.
 pub const LAST_ACTOR: usize = 64;
+
+/// The seats of the actors 1 to 64, and one that no actor takes, so that an actor's number is its index.
+pub const SEATS: usize = LAST_ACTOR + 1;
 
 /// The cells, the actors and the history.
 #[derive(Drop)]

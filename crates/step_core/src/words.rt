@@ -29,7 +29,8 @@ impl Model for Words {
 }
 
 impl Words {
-    ghost use Rattle.std.specs.Prelude.{◌≡◌, ◌≢◌, ℕ, ◌<◌, ◌≤◌, length, map, get_or, [], true, false, None, IsOk, OnOk, OnErr, IfOk, IfErr, IfSome, replicate};
+    ghost use Rattle.std.specs.Prelude.{◌≡◌, ◌≢◌, ℕ, ◌<◌, ◌≤◌, length, map, get_or, [], true, false, None, IsOk, OnOk, OnErr, IfOk, IfErr};
+    ghost use Rattle.std.specs.Prelude.{IfSome, replicate};
     ghost use Rattle.word_machine.specs.World.{start};
     ghost use Rattle.word_machine.specs.Progress.{step_limit};
     ghost use Rattle.step_core.specs.Answers.{request_of};

@@ -40,7 +40,8 @@ fn call(target: &str, op: Op<u64>) -> Option<Request<u64>>
 
 fn read_op(tokens: &[&str]) -> Option<Op<u64>>
     ensures found { IfSome result (λ op. (n : ℕ) → call_tokens n op ≡ codes "call" ∷ decimal n ∷ map (λ token. token.now) tokens.now) }
-    ensures only { (n : ℕ) (op : Op ℕ) → Fits op → call_tokens n op ≡ codes "call" ∷ decimal n ∷ map (λ token. token.now) tokens.now → result ≡ Some op }
+    ensures only { (n : ℕ) (op : Op ℕ) → Fits op → call_tokens n op ≡ codes "call" ∷ decimal n ∷ map (λ token. token.now) tokens.now →
+        result ≡ Some op }
 {
     match tokens {
         ["get", key] => Some(Op::Get(number(key)?)),

@@ -1,13 +1,15 @@
 -- A token that spells a number.
 -- What is parsed of a text that begins with 1 to 9 is the number of which the text is the decimal; a number other than 0 begins so,
 -- and 0 has a text of its own. So a token spells one number at most, and the parser finds it.
-use Rattle.std.proofs.Common.{rules, arith, lit<, ap, sym, ◌∙◌, ◌≡◌, ◌<◌, ◌^◌, ℕ, zero, suc, true, false, decimal, List, [], ◌∷◌, length, IfSome, Some, Result, Ok, Err}
+use Rattle.std.proofs.Common.{rules, arith, lit<, ap, sym, ◌∙◌, ◌≡◌, ◌<◌, ◌^◌, ℕ, zero, suc, true, false, decimal, List, [], ◌∷◌, length}
+use Rattle.std.proofs.Common.{IfSome, Some, Result, Ok, Err}
 use Rattle.std.specs.Int.{IsInRange}
 use Rattle.std.specs.Str.{bytes_eq}
 use Rattle.std.specs.Str.Parse.{ParsesUnsigned, AllDigits, digits_value}
 use Rattle.std.specs.Result.{result_ok, OkIff}
 use Rattle.std.proofs.lemmas.Str.Parse.{IsNumeralModel, numerals_by_value, tells_digits, parse_plain, digit_at}
-use Rattle.std.proofs.lemmas.Fmt.{decimal-digits_value, digits_decimal, decimal_nonempty, first_decimal, parse-decimal, decimal_digit, decimal_injective}
+use Rattle.std.proofs.lemmas.Fmt.{decimal-digits_value, digits_decimal, decimal_nonempty, first_decimal, parse-decimal, decimal_digit}
+use Rattle.std.proofs.lemmas.Fmt.{decimal_injective}
 use Rattle.std.proofs.lemmas.Slice.Eq.{bytes_eq-Decides}
 use lib.ListN.{get_or}
 

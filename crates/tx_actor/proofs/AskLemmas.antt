@@ -1,6 +1,7 @@
 -- What a request makes of an actor. The definitions test what is there, the limit of calls and the room, as the code does, one after the
 -- other; what is left is one request of the word actor, and a call more or another stage.
-use Rattle.std.proofs.Common.{◌≡◌, ◌≢◌, ℕ, cond, ltb, Bool, true, false, not, ◌&&◌, ◌||◌, Option, Some, None, List, [], ◌∷◌, ◌++◌, length, refl, sym, ap, subst, ◌∙◌, arith}
+use Rattle.std.proofs.Common.{◌≡◌, ◌≢◌, ℕ, cond, ltb, Bool, true, false, not, ◌&&◌, ◌||◌, Option, Some, None, List, [], ◌∷◌, ◌++◌, length}
+use Rattle.std.proofs.Common.{refl, sym, ap, subst, ◌∙◌, arith}
 use Rattle.tx_sets.specs.Entries.{Entries, locations}
 use Rattle.word_machine.specs.Actor as machine
 use Rattle.word_machine.specs.Notices as notice
@@ -17,7 +18,8 @@ use Rattle.seq_model.specs.declared.limits.TheConstants.{CALL_LIMIT}
 use Rattle.collection_machine.specs.Boosted.{every, is_held}
 use Rattle.replay_log.specs.Contents.{content, end_of, is_plain}
 use Rattle.replay_log.specs.Worlds as worlds
-use Rattle.replay_log.specs.Worlds.{World, Seat, After, acted, actor_of, ask_op, asks, at_stage, commits, fits, if_allowed, reads, replied, seated, with_call, written_homes}
+use Rattle.replay_log.specs.Worlds.{World, Seat, After, acted, actor_of, ask_op, asks, at_stage, commits, fits, if_allowed, reads, replied}
+use Rattle.replay_log.specs.Worlds.{seated, with_call, written_homes}
 use Rattle.step_core.specs.Shown as words
 use Rattle.std.specs.declared.alloc.Global.{Global}
 use Rattle.std.specs.declared.collections.VecDeque.{VecDeque}

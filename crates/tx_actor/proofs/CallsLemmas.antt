@@ -1,7 +1,8 @@
 -- A call of an actor at rest on a collection. Where its copy has what the call touches, the world judges it by the law on held calls, and
 -- what is ready is the world's: its outcome by the law on copies, and its writes, since what is written is read, and so was copied with its
 -- edition. Where it has not, its seat has not copied the piece, and the gate is tried.
-use Rattle.std.proofs.Common.{◌≡◌, ℕ, ◌+◌, ◌^◌, ◌<◌, ◌≤◌, true, false, ◌&&◌, cond, ltb, length, List, [], ◌∷◌, Option, Some, None, refl, sym, ap, subst, ◌∙◌, arith}
+use Rattle.std.proofs.Common.{◌≡◌, ℕ, ◌+◌, ◌^◌, ◌<◌, ◌≤◌, true, false, ◌&&◌, cond, ltb, length, List, [], ◌∷◌, Option, Some, None, refl}
+use Rattle.std.proofs.Common.{sym, ap, subst, ◌∙◌, arith}
 use Rattle.std.specs.Prelude.{Contains, slice_get}
 use Rattle.std.proofs.lemmas.Bool.{cond-true, cond-false}
 use Rattle.tx_sets.specs.Entries.{Entries, lookup}
@@ -24,7 +25,8 @@ use Rattle.seq_model.specs.declared.refusal.Refusal.{Refusal}
 use Rattle.tx_actor.specs.declared.actor.Stage.TheVariants as stage
 use Rattle.tx_actor.specs.declared.prepares.Prepared.{Prepared}
 use Rattle.replay_log.specs.Pieces.{piece_at, piece_in}
-use Rattle.replay_log.specs.Worlds.{World, Seat, After, Trying, Open, actor_of, at_stage, calls_on, has_room, if_allowed, is_known, may_ask, more_tries, outcome_at, seated, with_editions}
+use Rattle.replay_log.specs.Worlds.{World, Seat, After, Trying, Open, actor_of, at_stage, calls_on, has_room, if_allowed, is_known, may_ask}
+use Rattle.replay_log.specs.Worlds.{more_tries, outcome_at, seated, with_editions}
 use Rattle.replay_log.proofs.ContentLemmas.{content_frame, in_shifted, shifted_in}
 use Rattle.step_core.specs.Shown as words
 use Rattle.tx_actor.specs.declared.actor.Answered as running
@@ -48,7 +50,8 @@ use Rattle.tx_actor.specs.Prepares.{ArePrepared, IsAlike, IsHeldAt, IsReadyCall,
 use Rattle.tx_actor.specs.Running.{Runs, asked_of, answered_of, notice_of, seat_of, with_outcome, is_recorded, seat_at, seat_in}
 use Rattle.actor_copies.specs.Kept.{copy_of, has_piece}
 use Rattle.actor_copies.specs.Writes.{with_next, written_as}
-use Rattle.actor_copies.proofs.KeepsLemmas.{answers_held, head_in, held_editions, held_known, held_outcome, held_read, held_written, tail_in}
+use Rattle.actor_copies.proofs.KeepsLemmas.{answers_held, head_in, held_editions, held_known, held_outcome, held_read, held_written}
+use Rattle.actor_copies.proofs.KeepsLemmas.{tail_in}
 use Rattle.actor_copies.proofs.CallingLemmas.{not_read}
 use Rattle.actor_copies.proofs.FootprintLemmas.{sized}
 use Rattle.actor_copies.proofs.KeptLemmas.{first_at}

@@ -3,7 +3,8 @@
 -- that it starves as its seat does. Where the call is ready its seat has the piece that the call touches besides, and the world judges
 -- the call by the same locations with the same editions; and what the actor has is its own, or one of these locations was read with
 -- another edition, so that the world does not accept it.
-use Rattle.std.proofs.Common.{◌≡◌, inl, inr, eq-eqb, eqb-true, ℕ, ◌+◌, ◌<◌, ◌≤◌, ◌^◌, ◌==◌, ◌&&◌, Bool, true, false, cond, length, List, [], ◌∷◌, Option, Some, refl, sym, ap, subst, ◌∙◌, arith}
+use Rattle.std.proofs.Common.{◌≡◌, inl, inr, eq-eqb, eqb-true, ℕ, ◌+◌, ◌<◌, ◌≤◌, ◌^◌, ◌==◌, ◌&&◌, Bool, true, false, cond, length, List, []}
+use Rattle.std.proofs.Common.{◌∷◌, Option, Some, refl, sym, ap, subst, ◌∙◌, arith}
 use Rattle.std.specs.Prelude.{slice_get}
 use Rattle.std.proofs.lemmas.Bool.{cond-true, cond-false}
 use Rattle.std.specs.Global.{Vec}
@@ -21,7 +22,8 @@ use Rattle.replay_log.specs.Pieces.{Piece, is_piece, piece_at, piece_in, piece_o
 use Rattle.replay_log.specs.Contents as contents
 use Rattle.replay_log.specs.Contents.{Block, block_of, content, end_of, first_of, shifted, size}
 use Rattle.replay_log.specs.Worlds as worlds
-use Rattle.replay_log.specs.Worlds.{World, Seat, After, actor_of, at_stage, because, gives_up, has_room, is_stale, outcome_at, outcome_now, seated, sized_by, step_at, with_editions, with_piece}
+use Rattle.replay_log.specs.Worlds.{World, Seat, After, actor_of, at_stage, because, gives_up, has_room, is_stale, outcome_at, outcome_now}
+use Rattle.replay_log.specs.Worlds.{seated, sized_by, step_at, with_editions, with_piece}
 use Rattle.step_core.specs.Shown as words
 use Rattle.atomic_steps.specs.Bases.{IsBaseOf}
 use Rattle.actor_words.specs.Blocks.{BlocksView, IsLaid}

@@ -1,14 +1,17 @@
 -- What an actor makes of its atomic action is what its world makes of it. At each stage one method does what the definitions' function
 -- does there (`at_this_stage`); where nothing comes of the step, the actor stays as it is, and so does the world (`stays_as`). What was
 -- told is one of few notices at each stage, and any other leaves the world (`.._else`).
-use Rattle.std.proofs.Common.{◌≡◌, ℕ, zero, suc, eqb, length, Bool, true, false, true≢false, List, [], ◌∷◌, ◌++◌, drop, refl, sym, ap, subst, ◌∙◌}
+use Rattle.std.proofs.Common.{◌≡◌, ℕ, zero, suc, eqb, length, Bool, true, false, true≢false, List, [], ◌∷◌, ◌++◌, drop, refl, sym, ap}
+use Rattle.std.proofs.Common.{subst, ◌∙◌}
 use Rattle.word_machine.specs.Notices as notice
 use Rattle.seq_model.specs.declared.event.Notice.TheVariants.{Quiet}
 use Rattle.replay_log.specs.Worlds as worlds
 use Rattle.seq_model.specs.declared.refusal.Refusal.TheVariants as refusal
-use Rattle.replay_log.specs.Worlds.{World, Seat, After, at_stage, because, has_begun, has_read, has_locked, has_stored, has_released, has_cancelled, has_tried, takes_gates, gives_up, goes_home, starve_at}
+use Rattle.replay_log.specs.Worlds.{World, Seat, After, at_stage, because, has_begun, has_read, has_locked, has_stored, has_released}
+use Rattle.replay_log.specs.Worlds.{has_cancelled, has_tried, takes_gates, gives_up, goes_home, starve_at}
 use Rattle.actor_words.specs.declared.notice.WordNotice.{WordNotice}
-use Rattle.actor_words.specs.declared.notice.WordNotice.TheVariants.{Begun, Number, Locked, Stored, Released, Cancelled, Moved, Busy, Invalid, Exhausted}
+use Rattle.actor_words.specs.declared.notice.WordNotice.TheVariants.{Begun, Number, Locked, Stored, Released, Cancelled, Moved, Busy}
+use Rattle.actor_words.specs.declared.notice.WordNotice.TheVariants.{Invalid, Exhausted}
 use Rattle.std.specs.declared.alloc.Global.{Global}
 use Rattle.std.specs.declared.collections.VecDeque.{VecDeque}
 use Rattle.step_core.specs.Shown as words

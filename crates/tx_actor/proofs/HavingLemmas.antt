@@ -1,7 +1,8 @@
 -- What a step leaves of an actor's copies. A stage asks no more of them than the one before (`copies_from`), one that starts from a stage
 -- that asks nothing leaves nothing to be asked (`copies_idle`), and an actor that stays asks what it asked (`copies_same`). What is ready
 -- in a copy, and an outcome that it accepts, leave which calls on it have been read.
-use Rattle.std.proofs.Common.{◌≡◌, ℕ, zero, suc, Bool, true, false, true≢false, cond, List, [], ◌∷◌, Option, Some, None, Contains, drop, refl, sym, ap, subst, ◌∙◌}
+use Rattle.std.proofs.Common.{◌≡◌, ℕ, zero, suc, Bool, true, false, true≢false, cond, List, [], ◌∷◌, Option, Some, None, Contains, drop}
+use Rattle.std.proofs.Common.{refl, sym, ap, subst, ◌∙◌}
 use Rattle.std.specs.Prelude.{◌==◌, slice_get}
 use Rattle.std.proofs.Math.ListN.{set}
 use Rattle.conflict.specs.declared.outcome.Outcome.{Outcome}

@@ -2,7 +2,8 @@
 -- another collection (`loaded_first`). Then the call is judged (`goes_own`): where it is accepted, each of its locations has been read
 -- with the copied edition, so its copy is the actor's own, and follows with the outcome; where one is read next, those that are passed
 -- have been read, and one with another edition is left.
-use Rattle.std.proofs.Common.{◌≡◌, ◌≢◌, ◌==◌, ℕ, Bool, true, false, true≢false, eqb-true, eq-eqb, List, [], ◌∷◌, Option, Some, inl, inr, refl, sym, ap, subst, ◌∙◌}
+use Rattle.std.proofs.Common.{◌≡◌, ◌≢◌, ◌==◌, ℕ, Bool, true, false, true≢false, eqb-true, eq-eqb, List, [], ◌∷◌, Option, Some, inl, inr}
+use Rattle.std.proofs.Common.{refl, sym, ap, subst, ◌∙◌}
 use Rattle.std.specs.Prelude.{slice_get}
 use Rattle.std.specs.declared.alloc.Global.{Global}
 use Rattle.std.specs.declared.collections.VecDeque.{VecDeque}
@@ -44,7 +45,8 @@ use Rattle.tx_actor.specs.declared.actor.Stage.TheVariants as stage
 use Rattle.tx_actor.specs.declared.actor.Told.{Told}
 use Rattle.tx_actor.specs.declared.actor.Told.TheVariants as told
 use Rattle.tx_actor.specs.declared.actor.TxActor.{TxActor}
-use Rattle.tx_actor.specs.Having.{HasAccepted, HasCopies, HasCopiesAt, HasFound, HasGone, HasLoaded, IsAsBefore, OwnsAll, OwnsLoading, ReadsOn}
+use Rattle.tx_actor.specs.Having.{HasAccepted, HasCopies, HasCopiesAt, HasFound, HasGone, HasLoaded, IsAsBefore, OwnsAll, OwnsLoading}
+use Rattle.tx_actor.specs.Having.{ReadsOn}
 use Rattle.tx_actor.specs.Loading.{OwnsCall}
 use Rattle.tx_actor.specs.Running.{Runs, answered_of, notice_of, outcome_in, stage_in, stage_of, with_outcome}
 use Rattle.tx_actor.specs.Staying.{LoadsStayOwn}

@@ -1,7 +1,8 @@
 -- A call that is made ready. What is made ready in a copy changes nothing that it shows (`IsKept`), so the actor is alike (`IsAlike`) in
 -- every world that shows it, and what it has is its own where it was. Its outcome is what its copy answers, a declared reader's call
 -- writes nothing, and what fits the sets may be written.
-use Rattle.std.proofs.Common.{◌≡◌, ◌<◌, ◌≤◌, ◌+◌, ◌&&◌, ◌||◌, ℕ, zero, suc, Bool, true, false, true≢false, not, length, List, [], ◌∷◌, Option, Some, None, refl, sym, ap, subst, ◌∙◌, arith}
+use Rattle.std.proofs.Common.{◌≡◌, ◌<◌, ◌≤◌, ◌+◌, ◌&&◌, ◌||◌, ℕ, zero, suc, Bool, true, false, true≢false, not, length, List, [], ◌∷◌}
+use Rattle.std.proofs.Common.{Option, Some, None, refl, sym, ap, subst, ◌∙◌, arith}
 use Rattle.std.specs.Prelude.{slice_get}
 use Rattle.std.specs.Vec.{vec_capacity, vec_len}
 use Rattle.std.proofs.Math.ListN.{set}
@@ -29,7 +30,8 @@ use Rattle.tx_actor.specs.Running.{answered_of, asked_of, seat_of, stage_of}
 use Rattle.actor_copies.specs.Kept.{copy_of, has_piece}
 use Rattle.actor_copies.specs.Writes.{MayWrite, with_next}
 use Rattle.actor_words.proofs.BlocksLemmas.{up_to}
-use Rattle.actor_copies.proofs.AlikeLemmas.{KeptOf, all_kept, kept_answers, kept_at, kept_copy, kept_has, kept_holds, kept_length, kept_once, kept_own, kept_reads, read_of_kept}
+use Rattle.actor_copies.proofs.AlikeLemmas.{KeptOf, all_kept, kept_answers, kept_at, kept_copy, kept_has, kept_holds, kept_length}
+use Rattle.actor_copies.proofs.AlikeLemmas.{kept_once, kept_own, kept_reads, read_of_kept}
 use Rattle.actor_copies.proofs.OutcomeLemmas.{answered_op, writes_nothing}
 use Rattle.actor_copies.proofs.TakingLemmas.{at_place, some_copy}
 

@@ -1,7 +1,8 @@
 -- The room that a call finds as it goes on. Its writes keep the bounds of the word actor (`fits_written`): they are locations of the world,
 -- and they fit the write set. Judging its locations leaves an end of them, so what there was room for is left; the first that is not read
 -- is not in the read set, so that one more fits (`fits_look`). What is made ready has the room for all its reads (`can_go_on`).
-use Rattle.std.proofs.Common.{◌≡◌, ◌+◌, ◌<◌, ◌≤◌, ◌==◌, ◌||◌, ◌&&◌, ◌^◌, ℕ, zero, suc, Bool, true, false, true≢false, cond, length, List, [], ◌∷◌, Option, Some, None, refl, sym, ap, subst, ◌∙◌, arith}
+use Rattle.std.proofs.Common.{◌≡◌, ◌+◌, ◌<◌, ◌≤◌, ◌==◌, ◌||◌, ◌&&◌, ◌^◌, ℕ, zero, suc, Bool, true, false, true≢false, cond, length, List}
+use Rattle.std.proofs.Common.{[], ◌∷◌, Option, Some, None, refl, sym, ap, subst, ◌∙◌, arith}
 use Rattle.std.specs.List.{All}
 use Rattle.std.specs.Vec.{vec_capacity, vec_len}
 use Rattle.tx_sets.specs.Entries.{Entries, IsRising, locations, lookup, with_entry}

@@ -1,6 +1,7 @@
 -- What a running actor makes of itself is what its world makes of its seat and its word actor: the world seats it anew (`put-same`), and
 -- where it is given up its word actor cancels and leaves (`gives_it_up`).
-use Rattle.std.proofs.Common.{◌≡◌, ◌<◌, ◌-◌, ℕ, zero, suc, Bool, true, false, true≢false, eqb, cond, length, List, [], ◌∷◌, refl, sym, ap, arith, ◌∙◌}
+use Rattle.std.proofs.Common.{◌≡◌, ◌<◌, ◌-◌, ℕ, zero, suc, Bool, true, false, true≢false, eqb, cond, length, List, [], ◌∷◌, refl, sym, ap}
+use Rattle.std.proofs.Common.{arith, ◌∙◌}
 use Rattle.std.proofs.Math.Seq.{drop-cons, take-suc}
 use Rattle.std.proofs.Common.{take, drop, ◌+◌, ◌++◌, get_or}
 use Rattle.word_machine.specs.Actor.{Actor}
@@ -8,7 +9,8 @@ use Rattle.word_machine.specs.Requests.{ask, AskRelease}
 use Rattle.word_machine.proofs.Sets.{put-same}
 use Rattle.seq_model.specs.declared.event.Notice.TheVariants.{Quiet}
 use Rattle.seq_model.specs.declared.refusal.Refusal.TheVariants as refusal
-use Rattle.replay_log.specs.Worlds.{World, Seat, Stage, Gating, Ready, Homing, Releasing, Returning, takes_gates, more_tries, goes_home, at_stage, because, cancels, gives_up, has_tried, actor_of}
+use Rattle.replay_log.specs.Worlds.{World, Seat, Stage, Gating, Ready, Homing, Releasing, Returning, takes_gates, more_tries, goes_home}
+use Rattle.replay_log.specs.Worlds.{at_stage, because, cancels, gives_up, has_tried, actor_of}
 use Rattle.actor_words.specs.Shows.{cancelled, ending}
 use Rattle.actor_words.specs.Dispatch.{MayRelease}
 use Rattle.step_core.specs.Shown as words

@@ -23,7 +23,8 @@ use Rattle.tx_actor.specs.declared.actor.Answered as running
 use Rattle.tx_actor.specs.declared.actor.Stage.{Stage}
 use Rattle.tx_actor.specs.declared.actor.Stage.TheVariants as stage
 use Rattle.tx_actor.specs.declared.actor.TxActor.{TxActor}
-use Rattle.tx_actor.specs.Having.{AsksNothing, HasCopies, HasCopiesAt, IsWhole, IsWholeOf, KeepsCopies, KeepsFrom, KeepsOpen, OwnsAll, OwnsHomes, OwnsLoading, ReadsStill}
+use Rattle.tx_actor.specs.Having.{AsksNothing, HasCopies, HasCopiesAt, IsWhole, IsWholeOf, KeepsCopies, KeepsFrom, KeepsOpen, OwnsAll}
+use Rattle.tx_actor.specs.Having.{OwnsHomes, OwnsLoading, ReadsStill}
 use Rattle.tx_actor.specs.Keeping.{IsCallAt, IsRunning}
 use Rattle.tx_actor.specs.Loading.{IsCallOn}
 use Rattle.tx_actor.specs.Owns.{OwnsCopies}

@@ -86,7 +86,8 @@ impl<V: Drop> TxActor<V> {
 
     /// Its transaction is to commit. Where it has written, the collections with a written location are found now.
     pub fn asks_to_commit(&mut self, alloc: Global, blocks: &Blocks) -> Result<Told<V>, Memory>
-        ensures ok { IfOk result (λ told. Asks blocks.now self.old self.new told (λ a w. commits w a (seat_of self.old) (worlds.actor_of w a).writes)) }
+        ensures ok { IfOk result (λ told. Asks blocks.now self.old self.new told
+            (λ a w. commits w a (seat_of self.old) (worlds.actor_of w a).writes)) }
         ensures err { OnErr result (Stands self.old self.new) }
         ensures keeps { is_loading (stage_of self.old.stage) ≡ false → KeepsIn blocks.now self.old self.new }
         ensures copies { self.new.copies ≡ self.old.copies }

@@ -74,7 +74,8 @@ impl<V: Value> TxActor<V> {
         request: Request<V>,
     ) -> Result<Told<V>, Memory>
         requires { self.old.stage ≡ Stage.Open → CanCall blocks.now self.old }
-        ensures ok { IfOk result (λ told. AsksAt blocks.now self.old self.new told (λ a w. ask_at w a (seat_of self.old) (stage_of self.old.stage) request)) }
+        ensures ok { IfOk result (λ told. AsksAt blocks.now self.old self.new told
+            (λ a w. ask_at w a (seat_of self.old) (stage_of self.old.stage) request)) }
         ensures err { OnErr result (StandsOwn self.old self.new) }
         ensures keeps { (self.old.stage ≡ Stage.Open → HasNoReads self.old.words) → KeepsIn blocks.now self.old self.new }
         ensures still { ReadsStill self.old.copies.items self.new.copies.items }

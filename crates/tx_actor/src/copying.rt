@@ -4,7 +4,8 @@ ghost use Rattle.std.specs.Prelude.{◌≡◌, ◌<◌, ◌+◌, ◌≤◌, ◌^
 ghost use Rattle.replay_log.specs.Base.{locations_of, shown_of, stripes_of};
 ghost use Rattle.replay_log.specs.Contents.{block_of, first_of};
 ghost use Rattle.actor_copies.specs.Copies.{IsFound};
-ghost use Rattle.tx_actor.specs.Copying.{AreReadyAt, CanCopy, CanCopyAt, HasTaken, HasTakenAt, IsReadyAt, IsUnmoved, MayTake, StepsOn, StepsOnAt};
+ghost use Rattle.tx_actor.specs.Copying.{AreReadyAt, CanCopy, CanCopyAt, HasTaken, HasTakenAt, IsReadyAt, IsUnmoved, MayTake, StepsOn};
+ghost use Rattle.tx_actor.specs.Copying.{StepsOnAt};
 ghost use Rattle.actor_words.specs.Requests.{HasNoReads};
 ghost use Rattle.tx_actor.specs.Dispatch.{Starves};
 ghost use Rattle.tx_actor.specs.Having.{KeepsCopies};

@@ -8,7 +8,9 @@ ghost use Rattle.step_core.specs.Shown.{actor_of};
 ghost use Rattle.seq_model.specs.declared.event.Answer.TheVariants as answer;
 ghost use Rattle.seq_model.specs.declared.event.Notice.TheVariants.{Quiet, Answered};
 ghost use Rattle.replay_log.specs.Worlds as worlds;
-ghost use Rattle.replay_log.specs.Worlds.{is_leaving, no_one, because, seated, recorded, has_begun, has_read, has_cancelled, has_released, has_stored, has_tried, has_locked, takes_gates, written_homes, ended, ask_idle, starve_at, Seat, World};
+ghost use Rattle.replay_log.specs.Worlds.{is_leaving, no_one, because, seated, recorded, has_begun, has_read, has_cancelled, has_released};
+ghost use Rattle.replay_log.specs.Worlds.{has_stored, has_tried, has_locked, takes_gates, written_homes, ended, ask_idle, starve_at, Seat};
+ghost use Rattle.replay_log.specs.Worlds.{World};
 ghost use Rattle.step_core.specs.Blank.{IsBlank};
 ghost use Rattle.step_core.specs.Sound.{Fits, owed};
 ghost use Rattle.actor_words.specs.Blocks.{BlocksView};
@@ -17,7 +19,8 @@ ghost use Rattle.actor_words.specs.Dispatch.{MayRelease};
 ghost use Rattle.actor_copies.specs.declared.copies.CopyOf.{CopyOf};
 ghost use Rattle.tx_actor.specs.Having.{IsWhole, KeepsCopies, KeepsFrom};
 ghost use Rattle.tx_actor.specs.Keeping.{IsRunning, KeepsIn, NamesAmong};
-ghost use Rattle.tx_actor.specs.Running.{IsSeatOf, KnowsHomes, Reseats, Runs, asked_of, at, is_recorded, notice_of, seat_in, seat_of, stage_in, stage_of};
+ghost use Rattle.tx_actor.specs.Running.{IsSeatOf, KnowsHomes, Reseats, Runs, asked_of, at, is_recorded, notice_of, seat_in, seat_of};
+ghost use Rattle.tx_actor.specs.Running.{stage_in, stage_of};
 
 use crate::actor::{Asked, Stage, Told, TxActor};
 use actor_words::{abort, cancel, release};
@@ -166,7 +169,11 @@ impl<V: Drop> TxActor<V> {
 
     /// The clock was loaded that commits a transaction without writes.
     pub fn closed(&mut self) -> Told<V>
-        ensures does { Reseats self.old self.new result (λ a w. (seated (recorded w a (seat_of self.old) false self.old.rv) a no_one, Answered a (answer.Committed self.old.rv))) }
+        ensures does { Reseats self.old self.new result (λ a w. (
+          seated (recorded w a (seat_of self.old) false self.old.rv) a no_one,
+          Answered a
+              (answer.Committed self.old.rv),
+        )) }
         ensures keeps { (v : BlocksView) → KeepsIn v (at self.old Stage.Idle) self.new }
         ensures leaves { KeepsCopies (at self.old Stage.Idle) self.new }
         ensures made { self.new.made.items ≡ self.old.calls.items }
@@ -258,7 +265,8 @@ impl<V: Drop> TxActor<V> {
 
     /// The gate of a call was tried, and found free or not.
     pub fn tried(&mut self, asked: Asked<V>, tries: u32, free: bool) -> Told<V>
-        ensures does { Reseats self.old self.new result (λ a w. has_tried w a (seat_of self.old) free asked.collection [] (λ n. worlds.Trying (asked_of asked) n) (worlds.Copying (asked_of asked)) tries) }
+        ensures does { Reseats self.old self.new result (λ a w. has_tried w a (seat_of self.old) free asked.collection []
+            (λ n. worlds.Trying (asked_of asked) n) (worlds.Copying (asked_of asked)) tries) }
         ensures keeps { (v : BlocksView) → KeepsIn v (at self.old (Stage.Trying asked tries)) self.new }
         ensures leaves { KeepsCopies (at self.old (Stage.Trying asked tries)) self.new }
     {
@@ -284,7 +292,9 @@ impl<V: Drop> TxActor<V> {
     ) -> Told<V>
         requires next { got < length homes.items }
         ensures does { (k : ℕ) (ks : List ℕ) → drop got homes.items ≡ k ∷ ks →
-            Reseats self.old self.new result (λ a w. has_tried w a (seat_of self.old) free k (take got homes.items) (λ n. worlds.Gating (take got homes.items) (drop got homes.items) n) (takes_gates (take got homes.items ++ k ∷ []) ks) tries) }
+            Reseats self.old self.new result (λ a w. has_tried w a (seat_of self.old) free k (take got homes.items)
+            (λ n. worlds.Gating (take got homes.items) (drop got homes.items) n)
+            (takes_gates (take got homes.items ++ k ∷ []) ks) tries) }
         ensures keeps { (v : BlocksView) → KeepsIn v (at self.old (Stage.Gating homes got tries)) self.new }
         ensures leaves { KeepsCopies (at self.old (Stage.Gating homes got tries)) self.new }
     {

@@ -1,7 +1,8 @@
 -- What a request comes to.
 -- Where a transaction stands, and what is told, say where it stands next (`PhaseLemmas`). Besides, what is told of a commit is the number
 -- of its record, which stays its seat's until its last release; and a transaction that is given up has noted its cause, and tells it last.
-use Rattle.std.proofs.Common.{◌≡◌, ◌⊎◌, ℕ, Bool, true, false, true≢false, ◌||◌, List, [], ◌∷◌, Option, Some, None, inl, inr, refl, sym, ◌∙◌, ap, subst}
+use Rattle.std.proofs.Common.{◌≡◌, ◌⊎◌, ℕ, Bool, true, false, true≢false, ◌||◌, List, [], ◌∷◌, Option, Some, None, inl, inr, refl, sym, ◌∙◌}
+use Rattle.std.proofs.Common.{ap, subst}
 use Rattle.std.specs.Prelude.{is_some}
 use Rattle.word_machine.specs.Requests as word
 use Rattle.word_machine.specs.Notices as told
@@ -17,8 +18,10 @@ use Rattle.seq_model.specs.declared.refusal.Refusal.{Refusal}
 use Rattle.collection_machine.specs.Boosted.{GoHome}
 use Rattle.replay_log.proofs.RefusalLemmas.{keeps_cause, world_causes}
 use Rattle.replay_log.proofs.ReplyLemmas.{stepped_kept}
-use Rattle.replay_log.specs.Worlds.{World, Seat, Stage, Reading, Trying, Copying, Loading, Ready, Storing, Homing, Releasing, Closing, Returning}
-use Rattle.replay_log.specs.Worlds.{Cancelling, Leaving, After, acted, asks, at_stage, gives_up, goes_home, happens, has_cancelled, has_stored, has_released}
+use Rattle.replay_log.specs.Worlds.{World, Seat, Stage, Reading, Trying, Copying, Loading, Ready, Storing, Homing, Releasing, Closing}
+use Rattle.replay_log.specs.Worlds.{Returning}
+use Rattle.replay_log.specs.Worlds.{Cancelling, Leaving, After, acted, asks, at_stage, gives_up, goes_home, happens, has_cancelled}
+use Rattle.replay_log.specs.Worlds.{has_stored, has_released}
 use Rattle.replay_log.specs.Worlds.{moves, opened, recorded, run, step_at, why, word_notice}
 use Rattle.replay_log.specs.WorldRefusals.{is_ending}
 use Rattle.replay_log.specs.WorldReplies.{IsKept, call_at, number_at}

@@ -1,5 +1,6 @@
 -- Entries in the order of their locations, as finite maps.
-use Rattle.std.proofs.Common.{◌≡◌, ℕ, zero, suc, ◌+◌, ◌<◌, ◌≤◌, cond, eqb, ltb, Option, Some, None, [], ◌∷◌, length, get_or, refl, sym, ap, ◌∙◌, arith, eq-eqb, ne_eqb, eqb-true, ltb-true, ltb-false, lt-ltb, le-ltb, inl, inr, subst}
+use Rattle.std.proofs.Common.{◌≡◌, ℕ, zero, suc, ◌+◌, ◌<◌, ◌≤◌, cond, eqb, ltb, Option, Some, None, [], ◌∷◌, length, get_or, refl, sym, ap}
+use Rattle.std.proofs.Common.{◌∙◌, arith, eq-eqb, ne_eqb, eqb-true, ltb-true, ltb-false, lt-ltb, le-ltb, inl, inr, subst}
 use Rattle.std.specs.List.{All, Contains}
 use Rattle.std.proofs.lemmas.Bool.{eqb-false, cond_both, cond-true, cond-false, cases_eq}
 use Rattle.tx_sets.specs.Entries.{Entries, lookup, with_entry, IsRising, AreFiniteMaps}
@@ -182,8 +183,10 @@ tails e es f fs at above_e above_f l same =
 -- lists whose locations rise are equal where their look-ups are
 pub same_entries : (es fs : Entries) → IsRising es → IsRising fs → ((l : ℕ) → lookup es l ≡ lookup fs l) → es ≡ fs
 same_entries [] [] r s same = refl
-same_entries [] (f ∷ fs) r s same = let x : None ≡ Some f.1 = sym (lookup-nil f.0) ∙ same f.0 ∙ lookup-head f fs in absurd (let b : ⊥ = cc in b)
-same_entries (e ∷ es) [] r s same = let x : Some e.1 ≡ None = sym (lookup-head e es) ∙ same e.0 ∙ lookup-nil e.0 in absurd (let b : ⊥ = cc in b)
+same_entries [] (f ∷ fs) r s same = let x : None ≡ Some f.1 = sym (lookup-nil f.0) ∙ same f.0 ∙ lookup-head f fs in absurd
+    (let b : ⊥ = cc in b)
+same_entries (e ∷ es) [] r s same = let x : Some e.1 ≡ None = sym (lookup-head e es) ∙ same e.0 ∙ lookup-nil e.0 in absurd
+    (let b : ⊥ = cc in b)
 same_entries (e ∷ es) (f ∷ fs) r s same =
     let not_below : e.0 < f.0 → ⊥ = λ lt. apart e es f fs lt s (same e.0) in
     let not_above : f.0 < e.0 → ⊥ = λ lt. apart f fs e es lt r (sym (same f.0)) in

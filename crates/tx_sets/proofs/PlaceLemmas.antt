@@ -1,5 +1,6 @@
 -- The place of a location among entries that rise, and what an edit there does.
-use Rattle.std.proofs.Common.{◌≡◌, ℕ, zero, suc, ◌+◌, ◌<◌, ◌≤◌, ◌-◌, cond, ltb, lt-ltb, le-ltb, refl, Option, Some, None, Result, Ok, Err, inl, inr, [], ◌∷◌, length, get_or, set, length-set, sym, ap, ◌∙◌, arith, subst}
+use Rattle.std.proofs.Common.{◌≡◌, ℕ, zero, suc, ◌+◌, ◌<◌, ◌≤◌, ◌-◌, cond, ltb, lt-ltb, le-ltb, refl, Option, Some, None, Result, Ok, Err}
+use Rattle.std.proofs.Common.{inl, inr, [], ◌∷◌, length, get_or, set, length-set, sym, ap, ◌∙◌, arith, subst}
 use Rattle.std.specs.List.{insert, All, AllWithin, count_by}
 use Rattle.std.proofs.lemmas.List.Elements.{All-cons}
 use Rattle.std.proofs.lemmas.List.Sums.{sum_by-cons}
@@ -14,7 +15,8 @@ use Rattle.std.proofs.lemmas.List.{get_or_default}
 use Rattle.tx_sets.specs.AccessSet.{AreOrderly, IsPlaceOf}
 use Rattle.tx_sets.specs.declared.access_set.TheConstants.{LOCATION_LIMIT}
 use Rattle.tx_sets.specs.Entries.{Entries, lookup, with_entry, IsRising}
-use Rattle.tx_sets.proofs.EntryLemmas.{IsRising-with_entry, length-with_entry_new, lookup-head, lookup-tail, lookup_absent, with_entry-nil, with_entry_below, with_entry_at, with_entry_above}
+use Rattle.tx_sets.proofs.EntryLemmas.{IsRising-with_entry, length-with_entry_new, lookup-head, lookup-tail, lookup_absent, with_entry-nil}
+use Rattle.tx_sets.proofs.EntryLemmas.{with_entry_below, with_entry_at, with_entry_above}
 
 pub rising_at : (es : Entries) → IsRising es → (i j : ℕ) (d : ℕ × ℕ) → i < j → j < length es → (get_or es i d).0 < (get_or es j d).0
 rising_at [] rising i j d lt inside = absurd (omega (arith, inside))
@@ -47,7 +49,8 @@ write_there es l v i d rising place is =
 
 pub lookup_gap : (es : Entries) (l i : ℕ) → AllWithin (λ e. e.0 < l) es 0 i → AllWithin (λ e. l < e.0) es i (length es) → lookup es l ≡ None
 lookup_gap es l i below above =
-    lookup_absent es l (λ k d inside same. let lt : k < i → ⊥ = λ h. omega (arith, below k d (omega arith) h, same) in omega (arith, above k d (omega (arith, lt)) inside, same))
+    lookup_absent es l (λ k d inside same. let lt : k < i → ⊥ = λ h. omega (arith, below k d (omega arith) h, same) in omega
+    (arith, above k d (omega (arith, lt)) inside, same))
 
 pub insert_gap : (es : Entries) (l v i : ℕ) → i ≤ length es → AllWithin (λ e. e.0 < l) es 0 i → AllWithin (λ e. l < e.0) es i (length es)
     → insert es i (l, v) ≡ with_entry es l v

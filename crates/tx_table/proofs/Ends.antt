@@ -4,7 +4,8 @@
 -- as numbers. A new seat knows the opening. A seat that was joined away has no commit half done and no gate, so with all shares in one
 -- seat nothing is under way, and the world's serial order says what words and bases hold.
 use Rattle.tx_table.specs.declared.view.TheConstants.{SHARES}
-use Rattle.std.proofs.Common.{◌≡◌, ℕ, subst, zero, suc, ◌+◌, ◌-◌, ◌<◌, ◌≤◌, ◌≢◌, true, false, List, [], ◌∷◌, ◌++◌, length, set, Option as Maybe, Some, None, sym, refl, ap, ◌∙◌, ⊎_elim, arith, length-set, length-append, true≢false, eq-eqb}
+use Rattle.std.proofs.Common.{◌≡◌, ℕ, subst, zero, suc, ◌+◌, ◌-◌, ◌<◌, ◌≤◌, ◌≢◌, true, false, List, [], ◌∷◌, ◌++◌, length, set}
+use Rattle.std.proofs.Common.{Option as Maybe, Some, None, sym, refl, ap, ◌∙◌, ⊎_elim, arith, length-set, length-append, true≢false, eq-eqb}
 use mathlib.Core.Logic.{dite}
 use mathlib.Core.Option.{Option, some, some-injective, some-ne-none}
 use native.Mathlib.Decide.{ℕ_discrete, dec_lt}
@@ -28,7 +29,8 @@ use Rattle.replay_log.specs.WorldTraces.{is_half_done}
 use Rattle.atomic_steps.specs.Own.{Alike}
 use Rattle.atomic_steps.proofs.Alike.{alike_same}
 use Rattle.tx_table.specs.Turns.{stage_of, lone}
-use Rattle.tx_table.specs.Shown.{View, Slot, total, owed, Table, IsOwn, IsSpent, Rule, left_of, right_of, both_of, spent_of, IsOpening, Closes, first}
+use Rattle.tx_table.specs.Shown.{View, Slot, total, owed, Table, IsOwn, IsSpent, Rule, left_of, right_of, both_of, spent_of, IsOpening}
+use Rattle.tx_table.specs.Shown.{Closes, first}
 use Rattle.tx_table.proofs.Numbers.{total_set, total_snoc, total_append, there, at_end, tally_set, tally_snoc, total_alone, total_two}
 use Rattle.tx_table.proofs.Keeps.{owed_some}
 use Rattle.tx_table.proofs.Left.{shows_left, suit_within}

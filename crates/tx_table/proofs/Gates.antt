@@ -3,7 +3,9 @@
 -- A gate that is found free gives its base to the seat, whose own world takes its parts and editions from it; so the two worlds have one
 -- base of the collection from then on, as long as the seat has the gate, since nobody else changes it. A base that comes home is the one
 -- that the own world has then.
-use Rattle.std.proofs.Common.{◌≡◌, ◌≢◌, ◌⊎◌, ℕ, zero, suc, ◌+◌, ◌-◌, ◌≤◌, ◌<◌, true, false, eqb, eq-eqb, ne_eqb, eqb-true, List, [], ◌∷◌, ◌++◌, length, get_or, set, Option as Maybe, Some, None, inl, inr, ⊎_elim, refl, sym, ap, ◌∙◌, subst, arith, length-set, get_or-set_other, get_or-set_same, true≢false}
+use Rattle.std.proofs.Common.{◌≡◌, ◌≢◌, ◌⊎◌, ℕ, zero, suc, ◌+◌, ◌-◌, ◌≤◌, ◌<◌, true, false, eqb, eq-eqb, ne_eqb, eqb-true, List, [], ◌∷◌}
+use Rattle.std.proofs.Common.{◌++◌, length, get_or, set, Option as Maybe, Some, None, inl, inr, ⊎_elim, refl, sym, ap, ◌∙◌, subst, arith}
+use Rattle.std.proofs.Common.{length-set, get_or-set_other, get_or-set_same, true≢false}
 use Rattle.std.specs.Prelude.{if◌then◌else◌, ◌==◌}
 use Rattle.std.proofs.lemmas.Bool.{cond_both, cond-true, cond-false, cases_eq}
 use prog.Atomic.{either}
@@ -38,9 +40,11 @@ use Rattle.atomic_steps.proofs.Spots.{Keeps, one_spot, after_calm}
 use Rattle.atomic_steps.proofs.Turned.{try_turned, put_turned, home_turned, home_same}
 use Rattle.tx_table.specs.Layout.{address, gate_address, width}
 use Rattle.tx_table.specs.Turns.{Turn, asked_all, stage_of, spot, parts_found, editions_found, found_at, moved, ends, took, lone}
-use Rattle.tx_table.specs.Shown.{View, Slot, total, acting, HasHappened, IsBaseAt, OneBase, SameBases, HomeOk, Table, Shows, Rule, Told, Took}
+use Rattle.tx_table.specs.Shown.{View, Slot, total, acting, HasHappened, IsBaseAt, OneBase, SameBases, HomeOk, Table, Shows, Rule, Told}
+use Rattle.tx_table.specs.Shown.{Took}
 use Rattle.tx_table.proofs.Turned.{asked_calm, asked_alike, found_alike, records_grow}
-use Rattle.tx_table.proofs.Keeps.{asked_bases, gate_apart, base_trans, base_sym, calm_base, has_happened, keeps_base, ends_same, shows_after}
+use Rattle.tx_table.proofs.Keeps.{asked_bases, gate_apart, base_trans, base_sym, calm_base, has_happened, keeps_base, ends_same}
+use Rattle.tx_table.proofs.Keeps.{shows_after}
 use Rattle.tx_table.proofs.Keeps.{own_all, run_append, run_own}
 
 pub at_set_same : {A : Type 0} → (l : List A) (k : ℕ) (x y : A) → get_elem? l k ≡ some x → get_elem? (set l k y) k ≡ some y

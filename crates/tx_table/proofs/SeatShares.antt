@@ -1,6 +1,7 @@
 -- A seat that is cut in two, two that become one, and the last one: what the rule of a table says of them.
 use Rattle.tx_table.specs.declared.view.TheConstants.{SHARES}
-use Rattle.std.proofs.Common.{◌≡◌, ℕ, zero, suc, ◌+◌, ◌<◌, ◌≤◌, List, [], ◌∷◌, Some, None, length, get_or, set, sym, refl, ap, ◌∙◌, subst, arith, ◌≢◌, ⊎_elim, length-set}
+use Rattle.std.proofs.Common.{◌≡◌, ℕ, zero, suc, ◌+◌, ◌<◌, ◌≤◌, List, [], ◌∷◌, Some, None, length, get_or, set, sym, refl, ap, ◌∙◌, subst}
+use Rattle.std.proofs.Common.{arith, ◌≢◌, ⊎_elim, length-set}
 use Rattle.std.specs.Prelude.{drop, map, take}
 use Rattle.std.proofs.lemmas.Option.{slice_get_within}
 use mathlib.Core.Option.{some, some-injective}
@@ -16,7 +17,8 @@ use Rattle.replay_log.specs.WorldSerial.{AreUpTo}
 use Rattle.tx_table.specs.declared.view.Opening.{Opening}
 use Rattle.tx_table.specs.Opening.{Holds, blocks_at, locations_at, words_at, world_at}
 use Rattle.tx_table.specs.Turns.{lone}
-use Rattle.tx_table.specs.Shown.{highest_clock, View, Slot, Closes, IsOwn, IsSpent, Shows, total, owed, looking, left_of, right_of, both_of, spent_of}
+use Rattle.tx_table.specs.Shown.{highest_clock, View, Slot, Closes, IsOwn, IsSpent, Shows, total, owed, looking, left_of, right_of, both_of}
+use Rattle.tx_table.specs.Shown.{spent_of}
 use Rattle.tx_table.specs.Seated.{Rests}
 use Rattle.tx_table.proofs.Numbers.{map_at, tally_set, total_set, total_part, inside}
 use Rattle.tx_table.proofs.Ends.{splits, joins, opening_is, world_closes}

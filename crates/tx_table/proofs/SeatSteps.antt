@@ -2,7 +2,8 @@
 --
 -- The laws of the rule speak of what was asked as a list that stands beside the seat; a seat keeps that list itself. What is due to the
 -- actor in its own world is the same by either, and after a turn nothing is asked, so the actor's own world is what the turn left.
-use Rattle.std.proofs.Common.{◌≡◌, ℕ, ◌+◌, ◌%◌, ◌^◌, ◌<◌, ◌≤◌, Bool, true, false, eqb, List, [], ◌∷◌, ◌++◌, Option as Maybe, Some, None, ⊎_elim, length, sym, refl, ap, ◌∙◌, subst, arith}
+use Rattle.std.proofs.Common.{◌≡◌, ℕ, ◌+◌, ◌%◌, ◌^◌, ◌<◌, ◌≤◌, Bool, true, false, eqb, List, [], ◌∷◌, ◌++◌, Option as Maybe, Some, None}
+use Rattle.std.proofs.Common.{⊎_elim, length, sym, refl, ap, ◌∙◌, subst, arith}
 use Rattle.std.specs.Prelude.{if◌then◌else◌, MatchOption}
 use prog.Atomic.{either}
 use Rattle.atomic_table.specs.Table.{State, Me, Allows, rest, turned as shifted}

@@ -24,7 +24,8 @@ use Rattle.atomic_steps.specs.Steps.{OnlyOwn, Does, atomic_action, ready_at, end
 use Rattle.atomic_steps.proofs.Alone.{planted_word, planted_alike}
 use Rattle.atomic_steps.proofs.OneStep.{one_step, nothing, through, ask_calm}
 use Rattle.atomic_steps.proofs.OwnEvents.{own_event}
-use Rattle.tx_table.specs.Turns.{Turn, own, asked_all, stage_of, spot, first_at, parts_found, editions_found, found_at, took, lone, ends_of, ends}
+use Rattle.tx_table.specs.Turns.{Turn, own, asked_all, stage_of, spot, first_at, parts_found, editions_found, found_at, took, lone, ends_of}
+use Rattle.tx_table.specs.Turns.{ends}
 use Rattle.tx_table.specs.Shown.{total}
 
 module _ {V : Type 0} where

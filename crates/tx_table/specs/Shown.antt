@@ -2,7 +2,8 @@
 --
 -- A gate and the base of its collection go together: the base lies in its slot while the gate is free, and is out with the seat that has
 -- the gate. Each seat's actor knows the world in which it is alone with what it found.
-use Rattle.std.specs.Prelude.{◌≡◌, ◌⊎◌, ℕ, zero, suc, ◌+◌, ◌-◌, ◌<◌, ◌≤◌, true, false, max, All, List, [], ◌∷◌, ◌++◌, drop, map, take, length, get_or, slice_get, Option as Maybe, Some, None}
+use Rattle.std.specs.Prelude.{◌≡◌, ◌⊎◌, ℕ, zero, suc, ◌+◌, ◌-◌, ◌<◌, ◌≤◌, true, false, max, All, List, [], ◌∷◌, ◌++◌, drop, map, take}
+use Rattle.std.specs.Prelude.{length, get_or, slice_get, Option as Maybe, Some, None}
 use mathlib.Core.Option.{Option, none, some}
 use lib.ListN.{get_elem?}
 use Rattle.atomic_table.specs.Table.{State, Me}

@@ -1,7 +1,8 @@
 -- The step that is due at each place, and what its number makes of the actor.
 --
 -- A place of the code is one of the machine once its index is taken for the list behind it; the deed is then that of the place.
-use Rattle.std.proofs.Common.{◌≡◌, ℕ, ◌+◌, ◌<◌, ◌≤◌, ◌*◌, ◌^◌, subst, List, [], ◌∷◌, length, drop, refl, sym, ap, ◌∙◌, get_or, arith, Ok, Err, Option, None}
+use Rattle.std.proofs.Common.{◌≡◌, ℕ, ◌+◌, ◌<◌, ◌≤◌, ◌*◌, ◌^◌, subst, List, [], ◌∷◌, length, drop, refl, sym, ap, ◌∙◌, get_or, arith, Ok}
+use Rattle.std.proofs.Common.{Err, Option, None}
 use Rattle.std.proofs.lemmas.Bool.{cond-true, cond-false}
 use Rattle.std.proofs.Common.{eqb, eq-eqb, ne_eqb}
 use Rattle.vlock_word.specs.declared.lock_word.LockWord.{LockWord}
@@ -13,7 +14,8 @@ use Rattle.word_machine.specs.Actor as machine
 use Rattle.word_machine.specs.Actor.{goes, seen_to_lock, stamped_at, taken, seen_in_check, freed, after_release, to_check}
 use Rattle.word_machine.specs.World.{Deed, Rests, AddToClock, LoadLock, StoreValue, StoreLock, plan, first_store, release, undo}
 use Rattle.word_machine.specs.Cells.{learns}
-use Rattle.word_machine.specs.Notices.{Notice, Quiet, Busy, Stored, Released, Cancelled, LockedAt, take_notice, lock_notice, check_notice, when_none_left, last_notice}
+use Rattle.word_machine.specs.Notices.{Notice, Quiet, Busy, Stored, Released, Cancelled, LockedAt, take_notice, lock_notice, check_notice}
+use Rattle.word_machine.specs.Notices.{when_none_left, last_notice}
 use Rattle.atomic_steps.specs.Tells.{tells}
 use Rattle.step_core.specs.Answers.{result_of}
 use Rattle.step_core.specs.Shown.{actor_of, place_of}

@@ -6,7 +6,8 @@ use Rattle.std.proofs.Common.{◌≡◌, ℕ, List, [], ◌∷◌, Option, Some,
 use Rattle.tx_sets.specs.Entries.{Entries}
 use Rattle.collection_machine.specs.Content.{has}
 use Rattle.collection_machine.specs.Boosted.{Action, is_actor}
-use Rattle.word_machine.specs.Actor.{Actor, Place, Idle, Begin, Open, Look, Fetch, Again, Lock, Take, Check, Broken, First, Store, Release, Undo, Leave, Close}
+use Rattle.word_machine.specs.Actor.{Actor, Place, Idle, Begin, Open, Look, Fetch, Again, Lock, Take, Check, Broken, First, Store, Release}
+use Rattle.word_machine.specs.Actor.{Undo, Leave, Close}
 use Rattle.word_machine.specs.World as words
 use Rattle.word_machine.specs.World.{Rests, plan, first_store, release, undo}
 use Rattle.word_machine.specs.Notices.{NoTransaction, last_notice, notice, Stored, Released, Cancelled}

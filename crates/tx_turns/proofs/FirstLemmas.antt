@@ -56,7 +56,8 @@ use Rattle.tx_threads.specs.Touches.{Finds, IsNext, StepsWords}
 use Rattle.tx_threads.specs.declared.due.Due.{Due}
 use Rattle.tx_turns.specs.Ties.{Ties, Turned, commits_at, laid_in}
 use Rattle.tx_turns.proofs.DueLemmas.{becomes_is, clock_left, spot_is}
-use Rattle.tx_turns.proofs.FoundLemmas.{found_cell, learns_found, may_release, runs_found, step_gates, step_learns_cell, step_tells_cell, tells_found}
+use Rattle.tx_turns.proofs.FoundLemmas.{found_cell, learns_found, may_release, runs_found, step_gates, step_learns_cell, step_tells_cell}
+use Rattle.tx_turns.proofs.FoundLemmas.{tells_found}
 use Rattle.tx_turns.proofs.TurnLemmas.{laid_as, own_held, own_place, own_stage, some_word, tied}
 use Rattle.actor_turns.proofs.StepLemmas.{first_is, knows_ready}
 

@@ -54,7 +54,8 @@ use Rattle.tx_threads.specs.declared.due.Due.{Due}
 use Rattle.actor_turns.proofs.SeatLemmas.{next_as, seat_by, stage_by}
 use Rattle.tx_turns.specs.Ties.{IsOnWord, Ties, Turned, commits, commits_at, laid_in}
 use Rattle.tx_turns.proofs.DueLemmas.{clock_left, next_is, word_spot}
-use Rattle.tx_turns.proofs.FoundLemmas.{LocksAt, found_cell, knows_moved, learns_found, may_go_on, runs_found, step_gates, step_learns_cell, step_tells_cell, tells_found}
+use Rattle.tx_turns.proofs.FoundLemmas.{LocksAt, found_cell, knows_moved, learns_found, may_go_on, runs_found, step_gates, step_learns_cell}
+use Rattle.tx_turns.proofs.FoundLemmas.{step_tells_cell, tells_found}
 use Rattle.actor_turns.proofs.StepLemmas.{running_made}
 
 -- a deed that does not rest is on a word

@@ -3,7 +3,8 @@
 -- adds the sum. The units of a sound item and the times that are allowed are below the most, so a look-up in the tally
 -- answers as the sum does. Where the customers are right each wait has its ticket, so a ticket that some wait has is
 -- awaited by its own customer.
-use Rattle.std.proofs.Common.{◌≡◌, ℕ, zero, suc, ◌+◌, ◌<◌, ◌≤◌, ◌==◌, ◌&&◌, Bool, true, false, cond, List, [], ◌∷◌, length, Some, None, All, refl, sym, ◌∙◌, ap, subst, arith, IsTrue}
+use Rattle.std.proofs.Common.{◌≡◌, ℕ, zero, suc, ◌+◌, ◌<◌, ◌≤◌, ◌==◌, ◌&&◌, Bool, true, false, cond, List, [], ◌∷◌, length, Some, None, All}
+use Rattle.std.proofs.Common.{refl, sym, ◌∙◌, ap, subst, arith, IsTrue}
 use Rattle.std.specs.Prelude.{unwrap_or, is_some, min, fold, nat_lt, nat_le, ◌↔◌}
 use Rattle.std.specs.List.{list_any, list_all, count_by, sum_by}
 use Rattle.std.specs.Ordering.{nat_cmp}
@@ -19,12 +20,18 @@ use Rattle.vac_model.specs.declared.limits.TheConstants.{AMOUNT_LIMIT, PLACE_LIM
 use Rattle.vac_model.specs.Holdings.{Holdings, same_kind, of_kind, item, customer, customer_or_new, newcomer, ticket, queue}
 use Rattle.vac_model.specs.Actions.{is_of, is_for, places}
 use Rattle.vac_model.specs.Balanced.{IsBalanced, units_held, units_booked, times, same_wait, tickets_for, times_queued, times_waiting}
-use Rattle.vac_model.specs.Tests.{is_item_sound, are_units, is_item_right, are_items_right, is_booking_right, is_wait_right, is_customer_right, are_customers_right, is_ticket_right, are_tickets_right, is_place_right, is_queue_right, is_balanced}
-use Rattle.vac_balance.specs.Tallies.{Tally, MOST, counted, with_more, with_units, with_booking, with_wait, with_awaited, with_ticket, units_tally, had_tally, awaited_tally, queued_tally, had_tallies, queued_tallies, is_item_tallied, are_items_tallied, is_customer_tallied, are_customers_tallied, is_ticket_tallied, are_tickets_tallied, times_tallied, is_place_tallied, is_queue_tallied, is_tallied}
+use Rattle.vac_model.specs.Tests.{is_item_sound, are_units, is_item_right, are_items_right, is_booking_right, is_wait_right}
+use Rattle.vac_model.specs.Tests.{is_customer_right, are_customers_right, is_ticket_right, are_tickets_right, is_place_right}
+use Rattle.vac_model.specs.Tests.{is_queue_right, is_balanced}
+use Rattle.vac_balance.specs.Tallies.{Tally, MOST, counted, with_more, with_units, with_booking, with_wait, with_awaited, with_ticket}
+use Rattle.vac_balance.specs.Tallies.{units_tally, had_tally, awaited_tally, queued_tally, had_tallies, queued_tallies, is_item_tallied}
+use Rattle.vac_balance.specs.Tallies.{are_items_tallied, is_customer_tallied, are_customers_tallied, is_ticket_tallied, are_tickets_tallied}
+use Rattle.vac_balance.specs.Tallies.{times_tallied, is_place_tallied, is_queue_tallied, is_tallied}
 use Rattle.vac_model.proofs.MapLemmas.{eq_both, insert_both, weight_of, remove_weight}
 use Rattle.vac_model.proofs.ListLemmas.{some_counted, counted_one}
 use Rattle.vac_model.proofs.HoldingLemmas.{some_same, same_wait_both, wait_of, ticket_of, ticket_found}
-use Rattle.vac_model.proofs.TestLemmas.{both, each_of, any_counted, count_weaker, counted_at, each_entry, of_each_entry, nothing_weighs, is_le, le_is, is_lt_, lt_is, is_eq_, eq_is, balance_tested}
+use Rattle.vac_model.proofs.TestLemmas.{both, each_of, any_counted, count_weaker, counted_at, each_entry, of_each_entry, nothing_weighs}
+use Rattle.vac_model.proofs.TestLemmas.{is_le, le_is, is_lt_, lt_is, is_eq_, eq_is, balance_tested}
 
 -- ---- tests
 bool_alike : (a b : Bool) → (a ≡ true → b ≡ true) → (b ≡ true → a ≡ true) → a ≡ b

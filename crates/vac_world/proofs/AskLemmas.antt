@@ -1,7 +1,8 @@
 -- What the requests of a session come to on the running world.
 -- Where its transaction stands open, a session asks what is left of its program. A reply that is told at once takes the program on, and
 -- there was room for its call; a call that is refused leaves the transaction open, which is given up then.
-use Rattle.std.proofs.Common.{◌≡◌, ℕ, ◌+◌, ◌<◌, ◌≤◌, Bool, true, false, List, [], ◌∷◌, ◌++◌, length, inl, inr, refl, sym, ◌∙◌, ap, subst, arith, length-append}
+use Rattle.std.proofs.Common.{◌≡◌, ℕ, ◌+◌, ◌<◌, ◌≤◌, Bool, true, false, List, [], ◌∷◌, ◌++◌, length, inl, inr, refl, sym, ◌∙◌, ap, subst}
+use Rattle.std.proofs.Common.{arith, length-append}
 use Rattle.std.specs.Prelude.{Option, Some, slice_get, slice_set}
 use Rattle.std.proofs.Math.Dec.{ltb}
 use Rattle.std.proofs.lemmas.Bool.{ltb-false, ltb-true}
@@ -34,7 +35,8 @@ use Rattle.session_worlds.proofs.HistoryLemmas.{abort_is_quiet, aborts_to, commi
 use Rattle.tx_phases.specs.Phases.{CallMoves, Phase, Rests, Stands, Calls, Commits, Ends, phase}
 use Rattle.vac_world.specs.Clients.{asks_next, failed, joined}
 use Rattle.vac_world.specs.Plays.{Play, aborts, asks_on, if_replied, left_of, moved, seat_in, told}
-use Rattle.vac_world.specs.Running.{AsksNext, AsksOn, Abandons, Called, HasPlace, IsAsking, IsCalling, IsClient, IsOn, IsOpen, IsOpenWith, IsPlay}
+use Rattle.vac_world.specs.Running.{AsksNext, AsksOn, Abandons, Called, HasPlace, IsAsking, IsCalling, IsClient, IsOn, IsOpen, IsOpenWith}
+use Rattle.vac_world.specs.Running.{IsPlay}
 use Rattle.vac_world.specs.Running.{IsRefused, Others, Refusing, RepliesWithin}
 use Rattle.vac_world.specs.declared.client.Client.{Client}
 use Rattle.vac_world.specs.declared.world.VacWorld.{VacWorld}

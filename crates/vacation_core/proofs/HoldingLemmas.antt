@@ -1,9 +1,11 @@
 -- What a call on the state that holds the tables answers and leaves.
-use Rattle.std.proofs.Common.{◌≡◌, ℕ, ◌+◌, ◌<◌, true, false, cond, List, [], ◌∷◌, ◌++◌, length, Option, Some, None, refl, sym, ◌∙◌, ap, arith}
+use Rattle.std.proofs.Common.{◌≡◌, ℕ, ◌+◌, ◌<◌, true, false, cond, List, [], ◌∷◌, ◌++◌, length, Option, Some, None, refl, sym, ◌∙◌, ap}
+use Rattle.std.proofs.Common.{arith}
 use Rattle.std.specs.Prelude.{map, option_map, nat_lt, slice_set, unwrap_or}
 use Rattle.std.specs.Ordering.{nat_cmp, eq_by_cmp}
 use Rattle.std.specs.Cmp.{nat_cmp_total}
-use Rattle.std.specs.FinMap.{FinMap, empty, entries, get-empty, find, get, insert, remove, get-from_entries, get-entries, get-insert, get-remove, same_map, nat_cmp-IsAntisymmetric}
+use Rattle.std.specs.FinMap.{FinMap, empty, entries, get-empty, find, get, insert, remove, get-from_entries, get-entries, get-insert}
+use Rattle.std.specs.FinMap.{get-remove, same_map, nat_cmp-IsAntisymmetric}
 use Rattle.std.proofs.lemmas.Bool.Decides.{nat_tests}
 use Rattle.seq_model.specs.declared.call.Reply.{Reply}
 use Rattle.seq_model.specs.declared.call.Reply.TheVariants.{Done, Full, Found}
@@ -19,7 +21,8 @@ use Rattle.vac_model.specs.declared.item.Kind.TheVariants.{Car, Flight, Room}
 use Rattle.vac_model.specs.declared.item.Item.{Item}
 use Rattle.vac_model.specs.declared.item.Customer.{Customer}
 use Rattle.vac_model.specs.declared.item.Ticket.{Ticket}
-use Rattle.vac_model.specs.Holdings.{Holdings, item, put_item, remove_item, customer, put_customer, remove_customer, ticket, remove_ticket, queue, put_queue}
+use Rattle.vac_model.specs.Holdings.{Holdings, item, put_item, remove_item, customer, put_customer, remove_customer, ticket, remove_ticket}
+use Rattle.vac_model.specs.Holdings.{queue, put_queue}
 use Rattle.vac_model.specs.Actions.{take_off, give_ticket}
 use Rattle.vacation_core.specs.declared.entry.Entry.{Entry}
 use Rattle.vacation_core.specs.declared.entry.Entry.TheVariants.{Item as Stock, Customer as Client, Ticket as Slip}

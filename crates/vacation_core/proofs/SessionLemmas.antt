@@ -1,5 +1,6 @@
 -- The session of an action, run on the state that holds balanced tables, is the action.
-use Rattle.std.proofs.Common.{◌≡◌, ◌≢◌, ℕ, zero, suc, ◌+◌, ◌≤◌, ◌==◌, ◌&&◌, ◌||◌, Bool, true, false, cond, List, [], ◌∷◌, length, Option, Some, None, All, refl, sym, ◌∙◌, ap, arith}
+use Rattle.std.proofs.Common.{◌≡◌, ◌≢◌, ℕ, zero, suc, ◌+◌, ◌≤◌, ◌==◌, ◌&&◌, ◌||◌, Bool, true, false, cond, List, [], ◌∷◌, length, Option}
+use Rattle.std.proofs.Common.{Some, None, All, refl, sym, ◌∙◌, ap, arith}
 use Rattle.std.specs.Prelude.{option_map, option_and_then, is_none, nat_lt, nat_le, fold, unwrap_or}
 use Rattle.std.specs.List.{list_all, list_any}
 use Rattle.std.specs.Ordering.{nat_cmp}
@@ -27,8 +28,13 @@ use Rattle.vac_model.specs.declared.action.Action.TheVariants.{Reserve, Delete, 
 use Rattle.vac_model.specs.declared.action.ActionReply.{ActionReply}
 use Rattle.vac_model.specs.declared.action.ActionReply.TheVariants.{Reserved, Deleted, Updated}
 use Rattle.vac_model.specs.declared.limits.TheConstants.{AMOUNT_LIMIT, PLACE_LIMIT, SERVE_LIMIT, TICKET_LIMIT}
-use Rattle.vac_model.specs.Holdings.{Holdings, same_kind, with_kind, item, put_item, remove_item, set_item, customer, customer_or_new, newcomer, put_customer, remove_customer, ticket, remove_ticket, queue}
-use Rattle.vac_model.specs.Actions.{has, is_full, take_units, give_units, book, give_ticket, await, candidate, dearer, part_of, settle, decide, decide_all, reserve_among, IsThere, take_off, without_wait, end_wait, serve_item, serve_ticket, serve_first, go_on, serve, serve_freed, serve_all, put_back, release, forget, give_up, bill, delete_this, changed, kind_of, id_of, change_of, update, item_reply, bill_reply, action_of, IsAmountWithin, IsAllowed, AreUnits}
+use Rattle.vac_model.specs.Holdings.{Holdings, same_kind, with_kind, item, put_item, remove_item, set_item, customer, customer_or_new}
+use Rattle.vac_model.specs.Holdings.{newcomer, put_customer, remove_customer, ticket, remove_ticket, queue}
+use Rattle.vac_model.specs.Actions.{has, is_full, take_units, give_units, book, give_ticket, await, candidate, dearer, part_of, settle}
+use Rattle.vac_model.specs.Actions.{decide, decide_all, reserve_among, IsThere, take_off, without_wait, end_wait, serve_item, serve_ticket}
+use Rattle.vac_model.specs.Actions.{serve_first, go_on, serve, serve_freed, serve_all, put_back, release, forget, give_up, bill}
+use Rattle.vac_model.specs.Actions.{delete_this, changed, kind_of, id_of, change_of, update, item_reply, bill_reply, action_of}
+use Rattle.vac_model.specs.Actions.{IsAmountWithin, IsAllowed, AreUnits}
 use Rattle.vac_model.specs.Balanced.{AreItemsSound, HasUnits, IsItemSound, IsBookingWithin, IsCustomerSound, used_of, IsBalanced}
 use Rattle.vac_model.specs.Tests.{is_item_sound, are_units}
 use Rattle.vac_model.proofs.MapLemmas.{insert_both, remove_both}
@@ -36,7 +42,8 @@ use Rattle.vac_model.proofs.HoldingLemmas.{kind_both, put_customer_both}
 use Rattle.vac_model.proofs.CandidateLemmas.{dearer_none, dearer_assoc}
 use Rattle.vac_model.proofs.BalanceLemmas.{AreCustomersSound, join_keeps, take_off_keeps, end_keeps, serve_keeps}
 use Rattle.vac_model.proofs.ReserveLemmas.{candidate_there, decided_keeps, decided_there, there_later, car_flight, reserved}
-use Rattle.vac_model.proofs.DeleteLemmas.{IsReleased, units_by, release_one, first_units, rest_units, own_units_used, give_up_keeps, serve_freed_keeps}
+use Rattle.vac_model.proofs.DeleteLemmas.{IsReleased, units_by, release_one, first_units, rest_units, own_units_used, give_up_keeps}
+use Rattle.vac_model.proofs.DeleteLemmas.{serve_freed_keeps}
 use Rattle.vac_model.proofs.UpdateLemmas.{IsSoundIfThere, change_keeps}
 use Rattle.vacation_core.specs.declared.entry.Entry.TheVariants.{Item as Stock, Customer as Client}
 use Rattle.vacation_core.specs.Holding.{state_of}
@@ -44,7 +51,8 @@ use Rattle.tx_engine.specs.Programs.{Asks, run, Answers, GivesUp}
 use Rattle.vacation_core.specs.Sessions as ask
 use Rattle.vacation_core.specs.Laws.{EndsAsAction, NeverGivesUp, AsksLegalCalls}
 use Rattle.tx_engine.proofs.ProgramLemmas.{none_some, followed_run}
-use Rattle.vacation_core.proofs.HoldingLemmas.{run_get_item, run_put_item, run_remove_item, run_get_customer, run_put_customer, run_remove_customer, got_ticket, run_remove_ticket, got_first, run_dequeue, run_give_ticket}
+use Rattle.vacation_core.proofs.HoldingLemmas.{run_get_item, run_put_item, run_remove_item, run_get_customer, run_put_customer}
+use Rattle.vacation_core.proofs.HoldingLemmas.{run_remove_customer, got_ticket, run_remove_ticket, got_first, run_dequeue, run_give_ticket}
 
 -- ---- sound entries pass the session's tests
 

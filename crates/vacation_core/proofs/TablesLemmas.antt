@@ -2,13 +2,15 @@
 -- The values among entries of one kind, put in one after another, give the same map of entries at each step: so a map whose entries
 -- are all of one kind is that of the values among them. Entries that were made of values are all of their kind, since a map keeps
 -- what was put in, and a look-up tells the values apart: so those among them are those that they were made of.
-use Rattle.std.proofs.Common.{◌≡◌, ℕ, ◌<◌, ◌≤◌, Bool, true, false, cond, ◌&&◌, List, [], ◌∷◌, length, get_or, Option, Some, None, Result, Ok, Err, refl, sym, ◌∙◌, ap, subst, arith}
+use Rattle.std.proofs.Common.{◌≡◌, ℕ, ◌<◌, ◌≤◌, Bool, true, false, cond, ◌&&◌, List, [], ◌∷◌, length, get_or, Option, Some, None, Result}
+use Rattle.std.proofs.Common.{Ok, Err, refl, sym, ◌∙◌, ap, subst, arith}
 use Rattle.std.specs.Prelude.{is_some, map, option_map, option_and_then, unwrap_or, IfOk, IfErr}
 use Rattle.std.specs.Result.{IsErrAnd}
 use Rattle.std.specs.List.{All, cons_option, list_all}
 use Rattle.std.specs.Ordering.{nat_cmp}
 use Rattle.std.specs.Cmp.{nat_cmp_total}
-use Rattle.std.specs.FinMap.{FinMap, empty, entries, from_entries, get, insert, len-empty, len-entries, entries-insert, put, same_map, nat_cmp-IsAntisymmetric}
+use Rattle.std.specs.FinMap.{FinMap, empty, entries, from_entries, get, insert, len-empty, len-entries, entries-insert, put, same_map}
+use Rattle.std.specs.FinMap.{nat_cmp-IsAntisymmetric}
 use Rattle.std.specs.FinMap.Entries.{by_order}
 use Rattle.seq_model.specs.Entries.{inserts}
 use Rattle.seq_model.proofs.EntryLemmas.{by_cases, inserts_all}
@@ -27,7 +29,8 @@ use Rattle.vac_model.specs.Holdings.{Holdings}
 use Rattle.vacation_core.specs.declared.entry.Entry.{Entry}
 use Rattle.vacation_core.specs.declared.entry.Entry.TheVariants.{Item as Stock, Customer as Client, Ticket as Slip}
 use Rattle.vacation_core.specs.Holding.{Entries, HaveIndexes, HoldsTables, as_entries, state_of}
-use Rattle.vacation_core.specs.Parts.{among, are_maps, are_queues, customer_of, is_map_of, is_queue, item_of, kept, line_of, lines_of, stock_among, tables_held, tables_in, ticket_of}
+use Rattle.vacation_core.specs.Parts.{among, are_maps, are_queues, customer_of, is_map_of, is_queue, item_of, kept, line_of, lines_of}
+use Rattle.vacation_core.specs.Parts.{stock_among, tables_held, tables_in, ticket_of}
 use Rattle.vacation_core.specs.Refusals.{IsNoneSuch}
 use Rattle.vacation_core.proofs.HoldingLemmas.{empty_as, get_as, insert_as}
 

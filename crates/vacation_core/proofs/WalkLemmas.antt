@@ -1,6 +1,7 @@
 -- Along a plan: what holds of what is left of it holds of it.
 -- Each call's contract speaks of every plan that goes on behind it, so the steps of a walk are put together by instances alone.
-use Rattle.std.proofs.Common.{◌≡◌, ◌≢◌, ℕ, suc, ◌+◌, ◌<◌, ◌≤◌, ◌==◌, true, false, cond, List, [], ◌∷◌, ◌++◌, length, drop, drop-cons, add-one, append_assoc, get_or, Option, Some, Result, sym, ◌∙◌, ap, subst, arith}
+use Rattle.std.proofs.Common.{◌≡◌, ◌≢◌, ℕ, suc, ◌+◌, ◌<◌, ◌≤◌, ◌==◌, true, false, cond, List, [], ◌∷◌, ◌++◌, length, drop, drop-cons}
+use Rattle.std.proofs.Common.{add-one, append_assoc, get_or, Option, Some, Result, sym, ◌∙◌, ap, subst, arith}
 use Rattle.std.specs.Prelude.{nat_lt, nat_le, is_none, ◌&&◌, if◌then◌else◌}
 use Rattle.std.specs.List.{list_any}
 use Rattle.std.proofs.lemmas.Bool.Decides.{nat_tests}
@@ -25,7 +26,10 @@ use Rattle.vac_model.specs.Holdings.{same_kind, everywhere}
 use Rattle.vac_model.specs.Actions.{has, is_full, take_units, give_units}
 use Rattle.vacation_core.specs.declared.entry.Entry.{Entry}
 use Rattle.vacation_core.specs.declared.walk.Stop.{Stop}
-use Rattle.vacation_core.specs.Sessions.{Plan, gather, better, get_item, put_item, get_customer, put_customer, give_back, give_all_back, remove_ticket, forget_all, change_one, change_each, with_wait, line_up, enqueue, put_ticket, write_next, serve_item, serve_first, serve, end_wait, peek, serve_freed, reserve_among, decide, decide_all, read_next, with_booking, is_same_item, set_item}
+use Rattle.vacation_core.specs.Sessions.{Plan, gather, better, get_item, put_item, get_customer, put_customer, give_back, give_all_back}
+use Rattle.vacation_core.specs.Sessions.{remove_ticket, forget_all, change_one, change_each, with_wait, line_up, enqueue, put_ticket}
+use Rattle.vacation_core.specs.Sessions.{write_next, serve_item, serve_first, serve, end_wait, peek, serve_freed, reserve_among, decide}
+use Rattle.vacation_core.specs.Sessions.{decide_all, read_next, with_booking, is_same_item, set_item}
 use Rattle.vacation_core.specs.Serving.{waiter}
 use Rattle.vacation_core.specs.Walks.{Comes, IsStop}
 

@@ -1,5 +1,6 @@
 -- The session of an action, as a program of calls.
-use Rattle.std.specs.Prelude.{ℕ, zero, suc, ◌+◌, List, [], ◌∷◌, ◌++◌, Option, Some, None, option_map, unwrap_or, is_none, Bool, true, false, ◌&&◌, ◌||◌, ◌==◌, nat_lt, nat_le, if◌then◌else◌}
+use Rattle.std.specs.Prelude.{ℕ, zero, suc, ◌+◌, List, [], ◌∷◌, ◌++◌, Option, Some, None, option_map, unwrap_or, is_none, Bool, true, false}
+use Rattle.std.specs.Prelude.{◌&&◌, ◌||◌, ◌==◌, nat_lt, nat_le, if◌then◌else◌}
 use Rattle.std.specs.List.{list_all, list_any}
 use Rattle.seq_model.specs.declared.call.Call.{Call}
 use Rattle.seq_model.specs.declared.call.Op.{Op}
@@ -25,7 +26,8 @@ use Rattle.vac_model.specs.declared.action.ActionReply.{ActionReply}
 use Rattle.vac_model.specs.declared.action.ActionReply.TheVariants.{Reserved, Deleted, Updated, Absent}
 use Rattle.vac_model.specs.declared.limits.TheConstants.{AMOUNT_LIMIT, PLACE_LIMIT, SERVE_LIMIT, TICKET_LIMIT}
 use Rattle.vac_model.specs.Holdings.{same_kind, newcomer, everywhere}
-use Rattle.vac_model.specs.Actions.{dearer, has, is_full, places, take_units, give_units, without_wait, bill, changed, kind_of, id_of, item_reply, bill_reply}
+use Rattle.vac_model.specs.Actions.{dearer, has, is_full, places, take_units, give_units, without_wait, bill, changed, kind_of, id_of}
+use Rattle.vac_model.specs.Actions.{item_reply, bill_reply}
 use Rattle.vac_model.specs.Tests.{is_item_sound, are_units}
 use Rattle.vacation_core.specs.declared.entry.Entry.{Entry}
 use Rattle.vacation_core.specs.declared.entry.Entry.TheVariants.{Item as Stock, Customer as Client, Ticket as Slip}

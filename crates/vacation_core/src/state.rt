@@ -7,7 +7,8 @@ ghost use Rattle.vac_model.specs.Holdings.{of_kind};
 ghost use Rattle.vacation_core.specs.declared.entry.Entry.TheVariants as entry;
 ghost use Rattle.vac_model.specs.Holdings.{Holdings};
 ghost use Rattle.vacation_core.specs.Holding.{HaveIndexes, HoldsTables, as_entries};
-ghost use Rattle.vacation_core.specs.Parts.{among, are_maps, are_queues, customer_of, is_map_of, is_queue, item_of, line_of, lines_of, stock_among, tables_in, ticket_of};
+ghost use Rattle.vacation_core.specs.Parts.{among, are_maps, are_queues, customer_of, is_map_of, is_queue, item_of, line_of, lines_of};
+ghost use Rattle.vacation_core.specs.Parts.{stock_among, tables_in, ticket_of};
 ghost use Rattle.vacation_core.specs.Refusals.{IsNoneSuch};
 ghost use Rattle.vacation_core.specs.Holding as holding;
 

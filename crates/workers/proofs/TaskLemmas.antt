@@ -16,7 +16,8 @@ use Rattle.transactions.specs.declared.seats.TxSeat.{TxSeat}
 use Rattle.transactions.specs.Ready.{IsReady}
 use Rattle.transactions.specs.Requests.{KeepsReceipts}
 use Rattle.workers.specs.declared.tasks.Task.{Task}
-use Rattle.workers.specs.Tasks.{AreNotStarted, AreOutcomes, AreReported, AreTried, Gains, IsDone, IsLeft, IsReported, IsSameTask, IsTried, Outcome, missed_in, receipt_in, receipts_in, records_of}
+use Rattle.workers.specs.Tasks.{AreNotStarted, AreOutcomes, AreReported, AreTried, Gains, IsDone, IsLeft, IsReported, IsSameTask, IsTried}
+use Rattle.workers.specs.Tasks.{Outcome, missed_in, receipt_in, receipts_in, records_of}
 
 module _ {V : Type 0} where
   receipts_after : (os : List (Outcome V)) (o : Outcome V) → receipts_in (os ++ o ∷ []) ≡ receipts_in os ++ receipt_in o

@@ -18,7 +18,8 @@ use Rattle.word_machine.specs.World as machine
 use Rattle.word_machine.specs.World.{Outcome, GoesOn, Commits, Aborts, outcome, put}
 use Rattle.word_machine.specs.Cells.{Cell, ClockCell, LockCell, ValueCell}
 use Rattle.word_machine.proofs.Sets.{put-same, put-other}
-use Rattle.collection_machine.specs.Boosted.{Boosted, TakeGate, PutGate, is_actor, is_none, is_committing, recorded, shadows_after, gated, shadows_copied}
+use Rattle.collection_machine.specs.Boosted.{Boosted, TakeGate, PutGate, is_actor, is_none, is_committing, recorded, shadows_after, gated}
+use Rattle.collection_machine.specs.Boosted.{shadows_copied}
 use Rattle.step_core.specs.Answers.{result_of}
 use Rattle.step_core.specs.CellSteps.{AreCells, StepsOn}
 use Rattle.step_core.specs.Shown as words

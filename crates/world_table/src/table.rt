@@ -1,5 +1,6 @@
 //! The words, the gates and the bases of a world, and one atomic step on them.
-ghost use Rattle.std.specs.Prelude.{◌≡◌, ◌≢◌, ℕ, Bool, true, false, ◌+◌, ◌^◌, ◌<◌, ◌≤◌, List, ◌∷◌, [], All, IfErr, IfOk, IsOk, Some, length, map, slice_get, slice_index, take, ◌⊎◌};
+ghost use Rattle.std.specs.Prelude.{◌≡◌, ◌≢◌, ℕ, Bool, true, false, ◌+◌, ◌^◌, ◌<◌, ◌≤◌, List, ◌∷◌, [], All, IfErr, IfOk, IsOk, Some};
+ghost use Rattle.std.specs.Prelude.{length, map, slice_get, slice_index, take, ◌⊎◌};
 ghost use Rattle.seq_model.specs.declared.event.Event.{Event};
 ghost use Rattle.seq_model.specs.declared.event.Event.TheVariants.{Step};
 ghost use Rattle.seq_model.specs.declared.held.Held.{Held};

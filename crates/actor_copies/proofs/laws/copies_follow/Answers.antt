@@ -1,4 +1,5 @@
-use Rattle.actor_copies.proofs.CopiesLemmas.{follows_answered, follows_accepted, follows_learnt, follows_moved, follows_others, follows_pieces}
+use Rattle.actor_copies.proofs.CopiesLemmas.{follows_answered, follows_accepted, follows_learnt, follows_moved, follows_others}
+use Rattle.actor_copies.proofs.CopiesLemmas.{follows_pieces}
 use Rattle.actor_copies.proofs.laws.copies_follow.Goals as goal
 
 pub returns-clause-answered : goal.returns-clause-answered

@@ -12,9 +12,15 @@ pub items-preserved : goal.items-preserved
 items-preserved g c =
     let all : length c.args.queues.items ≡ c.len-count.result = omega (arith, c.len-count.ensures, c.args.queues.ok.0) in
     record {
-      many = omega (arith, ap (λ xs. length xs) c.in_ok-push.ensures.items, length-append c.items.items.items (c.take.result ∷ []), c.items.invariant.many);
+      many = omega (
+        arith,
+        ap (λ xs. length xs) c.in_ok-push.ensures.items,
+        length-append c.items.items.items (c.take.result ∷ []),
+        c.items.invariant.many,
+      );
       taken = subst
-          (λ xs. AreTaken (length c.args.queues.items) c.after_turn-turn.result xs (in_queues c.args.queues.items) (in_queues c.take.new.queues.items))
+          (λ xs. AreTaken (length c.args.queues.items) c.after_turn-turn.result xs (in_queues c.args.queues.items)
+          (in_queues c.take.new.queues.items))
           (sym c.in_ok-push.ensures.items)
           (taken_more _ c.items.turn c.after_turn-turn.result c.items.items.items c.take.result _ _ _ c.items.invariant.taken
           (omega (arith, all, c.after_turn-turn.ensures.within))

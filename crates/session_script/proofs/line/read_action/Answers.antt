@@ -2,7 +2,11 @@ use Rattle.std.proofs.Common.{rules, arith}
 use Rattle.text_lines.specs.Tokens.{texts}
 use Rattle.session_script.proofs.ActionLemmas.{count_of, first_of, no_action}
 use Rattle.session_script.proofs.line.read_action.Goals as goal
-use Rattle.session_script.proofs.line.read_action.Goals.{in_default-via-then-tokens-lt1, in_default-via-else-tokens-lt1+then-tokens-lt2+in_default, in_default-via-else-tokens-lt1+else-tokens-lt2+then-tokens-lt3+in_default, in_default-via-else-tokens-lt1+else-tokens-lt2+else-tokens-lt3+then-tokens-lt4+in_default, in_default-via-else-tokens-lt1+else-tokens-lt2+else-tokens-lt3+else-tokens-lt4+in_default}
+use Rattle.session_script.proofs.line.read_action.Goals.{in_default-via-then-tokens-lt1}
+use Rattle.session_script.proofs.line.read_action.Goals.{in_default-via-else-tokens-lt1+then-tokens-lt2+in_default}
+use Rattle.session_script.proofs.line.read_action.Goals.{in_default-via-else-tokens-lt1+else-tokens-lt2+then-tokens-lt3+in_default}
+use Rattle.session_script.proofs.line.read_action.Goals.{in_default-via-else-tokens-lt1+else-tokens-lt2+else-tokens-lt3+then-tokens-lt4+in_default}
+use Rattle.session_script.proofs.line.read_action.Goals.{in_default-via-else-tokens-lt1+else-tokens-lt2+else-tokens-lt3+else-tokens-lt4+in_default}
 
 pub returns-in_default-clause-only : goal.returns-in_default-clause-only
 returns-in_default-clause-only c action is =

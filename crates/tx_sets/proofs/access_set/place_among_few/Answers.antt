@@ -2,7 +2,8 @@ use Rattle.std.proofs.Common.{ℕ, ap, ◌∙◌, arith}
 use Rattle.std.proofs.lemmas.List.{get_or_default}
 use Rattle.tx_sets.proofs.PlaceLemmas.{counted_gap}
 use Rattle.tx_sets.proofs.access_set.place_among_few.Goals as goal
-use Rattle.tx_sets.proofs.access_set.place_among_few.Goals.{else-at-entries-via-then-at-entries+else-entries-at, else-at-entries-via-else-at-entries}
+use Rattle.tx_sets.proofs.access_set.place_among_few.Goals.{else-at-entries-via-then-at-entries+else-entries-at}
+use Rattle.tx_sets.proofs.access_set.place_among_few.Goals.{else-at-entries-via-else-at-entries}
 
 pub returns : goal.returns
 returns c =

@@ -4,7 +4,8 @@ use Rattle.tx_sets.specs.AccessSet.{IsPlaceOf, SetView}
 use Rattle.tx_sets.specs.Entries.{Entries, IsRising}
 use Rattle.tx_sets.proofs.PlaceLemmas.{empty_place, last_place, searched}
 use Rattle.tx_sets.proofs.access_set.AccessSet.place_of.Goals as goal
-use Rattle.tx_sets.proofs.access_set.AccessSet.place_of.Goals.{then-count-eq0-via-then-count-eq0, then-count-eq0-via-else-count-eq0+then-index-location}
+use Rattle.tx_sets.proofs.access_set.AccessSet.place_of.Goals.{then-count-eq0-via-then-count-eq0}
+use Rattle.tx_sets.proofs.access_set.AccessSet.place_of.Goals.{then-count-eq0-via-else-count-eq0+then-index-location}
 
 pub returns-then-count-eq0 : goal.returns-then-count-eq0
 returns-then-count-eq0 g c =
