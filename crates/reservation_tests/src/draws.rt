@@ -1,32 +1,98 @@
-//! Sessions and tables that are drawn from a seed, as text.
-ghost use Rattle.std.specs.Prelude.{◌≤◌};
-ghost use Rattle.generated_sessions.specs.Options.{AreWithin};
-
+//! Sessions and tables that are drawn from a seed.
+use crate::prints::{name_of, print_named};
 use generated_sessions::{Options, generate, opening};
-use seq_model::{Memory, Refusal};
-use session_script::print_sessions;
-use std::alloc::{AllocError, Global};
-use std::fmt::Write;
-use std::process::Abort;
-use vac_model::{Action, Ask, Change, Kind};
+use seq_model::Refusal;
+use std::alloc::Global;
+use vac_model::{Action, Ask, Change, Tables};
 
-fn name_of(kind: Kind) -> &'static str {
-    match kind {
-        Kind::Car => "car",
-        Kind::Flight => "flight",
-        Kind::Room => "room",
+fn number_in(wide: u64) -> Result<u32, Refusal> {
+    if wide > u64::from(u32::MAX) {
+        return Err(Refusal::TooLong);
     }
+    Ok(wide as u32)
 }
 
-fn print_asks(text: &mut String, asks: &[Ask]) -> Result<(), AllocError> {
-    for ask in asks {
-        let name = name_of(ask.kind);
-        write!(text, " {name} {}", ask.id)?;
+fn options_of(numbers: &[u64]) -> Result<Options, Refusal> {
+    let [clients, queries, queried, relations, transactions, user] = numbers else {
+        return Err(Refusal::NoSuch);
+    };
+    Ok(Options {
+        clients: number_in(*clients)?,
+        queries: number_in(*queries)?,
+        percent_queried: number_in(*queried)?,
+        relations: number_in(*relations)?,
+        transactions: number_in(*transactions)?,
+        percent_user: number_in(*user)?,
+    })
+}
+
+/// The tables that are drawn from a seed.
+pub fn opened_by_draws(alloc: Global, seed: u64, options: &[u64]) -> Result<Tables, Refusal> {
+    let options = options_of(options)?;
+    if !options.are_within() {
+        return Err(Refusal::TooLong);
+    }
+    Ok(opening(alloc, seed, &options)?)
+}
+
+fn drawn(alloc: Global, seed: u64, worker: u32, options: &Options) -> Result<Vec<Action>, Refusal> {
+    if !options.are_within() || worker == 0 || worker > options.clients {
+        return Err(Refusal::TooLong);
+    }
+    Ok(generate(alloc, seed, worker, options)?)
+}
+
+/// The sessions of a worker.
+pub fn answer_drawn(text: &mut String, numbers: &[u64]) -> Result<(), Refusal> {
+    let [seed, worker, options @ ..] = numbers else {
+        return Err(Refusal::NoSuch);
+    };
+    let (worker, options) = (number_in(*worker)?, options_of(options)?);
+    let actions = drawn(*text.allocator(), *seed, worker, &options)?;
+    for action in actions.as_slice() {
+        text.push('\n')?;
+        print_action(text, action)?;
     }
     Ok(())
 }
 
-fn print_change(text: &mut String, change: &Change) -> Result<(), AllocError> {
+fn print_action(text: &mut String, action: &Action) -> Result<(), Refusal> {
+    match action {
+        Action::Reserve {
+            customer,
+            units,
+            asks,
+        } => {
+            print_named(text, "reserve", *customer)?;
+            print_named(text, "", *units)?;
+            print_asks(text, asks.as_slice())
+        }
+        Action::Delete { customer } => print_named(text, "delete", *customer),
+        Action::Update { changes } => print_changes(text, changes.as_slice()),
+        Action::QueryItem { id, .. } => print_named(text, "item", *id),
+        Action::QueryBill { customer } => print_named(text, "bill", *customer),
+    }
+}
+
+fn print_asks(text: &mut String, asks: &[Ask]) -> Result<(), Refusal> {
+    for ask in asks {
+        text.push(' ')?;
+        print_named(text, name_of(ask.kind), ask.id)?;
+    }
+    Ok(())
+}
+
+fn print_changes(text: &mut String, changes: &[Change]) -> Result<(), Refusal> {
+    let mut first = true;
+    for change in changes {
+        text.push_str(if first { "update " } else { " and " })?;
+        print_change(text, *change)?;
+        first = false;
+    }
+    Ok(())
+}
+
+fn print_change(text: &mut String, change: Change) -> Result<(), Refusal> {
     match change {
         Change::Add {
             kind,
@@ -34,95 +100,19 @@ fn print_change(text: &mut String, change: &Change) -> Result<(), AllocError> {
             units,
             price,
         } => {
-            let name = name_of(*kind);
-            write!(text, "add {name} {id} {units} {price}")
+            text.push_str("add ")?;
+            print_named(text, name_of(kind), id)?;
+            print_named(text, "", units)?;
+            print_named(text, "", price)
         }
-        Change::TakeCar { id, units } => write!(text, "take car {id} {units}"),
-        Change::TakeRoom { id, units } => write!(text, "take room {id} {units}"),
-        Change::DropFlight { id } => write!(text, "drop {id}"),
-    }
-}
-
-fn print_changes(text: &mut String, changes: &[Change]) -> Result<(), AllocError> {
-    let mut word = "update ";
-    for change in changes {
-        text.push_str(word)?;
-        print_change(text, change)?;
-        word = " and ";
-    }
-    Ok(())
-}
-
-fn print_action(text: &mut String, action: &Action) -> Result<(), AllocError> {
-    match action {
-        Action::Reserve {
-            customer,
-            units,
-            asks,
-        } => {
-            write!(text, "reserve {customer} {units}")?;
-            print_asks(text, asks.as_slice())
+        Change::TakeCar { id, units } => {
+            print_named(text, "take car", id)?;
+            print_named(text, "", units)
         }
-        Action::Delete { customer } => write!(text, "delete {customer}"),
-        Action::Update { changes } => print_changes(text, changes.as_slice()),
-        Action::QueryItem { id, .. } => write!(text, "item {id}"),
-        Action::QueryBill { customer } => write!(text, "bill {customer}"),
+        Change::TakeRoom { id, units } => {
+            print_named(text, "take room", id)?;
+            print_named(text, "", units)
+        }
+        Change::DropFlight { id } => print_named(text, "drop", id),
     }
-}
-
-fn print_actions(alloc: Global, actions: &[Action]) -> Result<String, AllocError> {
-    let mut text = String::new(alloc);
-    for action in actions {
-        print_action(&mut text, action)?;
-        text.push('\n')?;
-    }
-    Ok(text)
-}
-
-fn drawn(alloc: Global, seed: u64, worker: u32, options: &Options) -> Result<String, Memory>
-    requires within { AreWithin options.now }
-    requires worker { (1 ≤ worker) × (worker ≤ options.now.clients) }
-{
-    let actions = generate(alloc, seed, worker, options)?;
-    Ok(print_actions(alloc, actions.as_slice())?)
-}
-
-/// These are the sessions of a worker.
-pub fn expect_drawn(
-    rt: &impl Abort,
-    alloc: Global,
-    seed: u64,
-    worker: u32,
-    options: &Options,
-    expected: &str,
-) -> Result<(), Refusal> {
-    if !options.are_within() || worker == 0 || worker > options.clients {
-        return Err(Refusal::TooLong);
-    }
-    let text = drawn(alloc, seed, worker, options)?;
-    assert_eq!(rt; text.as_str(), expected);
-    Ok(())
-}
-
-fn opened(alloc: Global, seed: u64, options: &Options) -> Result<Vec<u8>, Memory>
-    requires { AreWithin options.now }
-{
-    let tables = opening(alloc, seed, options)?;
-    print_sessions(alloc, &[], &tables)
-}
-
-/// These are the tables to begin with.
-pub fn expect_opened(
-    rt: &impl Abort,
-    alloc: Global,
-    seed: u64,
-    options: &Options,
-    expected: &[u8],
-) -> Result<(), Refusal> {
-    if !options.are_within() {
-        return Err(Refusal::TooLong);
-    }
-    let text = opened(alloc, seed, options)?;
-    assert_eq!(rt; text.as_slice(), expected);
-    Ok(())
 }

@@ -1,0 +1,87 @@
+//! Session files, and the actions that stand in them.
+use crate::prints::{print_lines, say};
+use seq_model::{Items, Refusal};
+use session_script::{Line, parse_sessions};
+use std::alloc::Global;
+use text_lines::number;
+use vac_model::{Action, ActionRefusal, ActionReply, Tables};
+
+/// The numbers of a row.
+pub fn numbers_of(alloc: Global, row: &str) -> Result<Vec<u64>, Refusal> {
+    let mut numbers = Vec::new(alloc);
+    if row.is_empty() {
+        return Ok(numbers);
+    }
+    for token in row.split(' ') {
+        numbers.push(number(token).ok_or(Refusal::NoSuch)?)?;
+    }
+    Ok(numbers)
+}
+
+fn bytes_of(alloc: Global, file: &str) -> Result<Vec<u8>, Refusal> {
+    let mut bytes = Vec::new(alloc);
+    for byte in file.as_bytes() {
+        bytes.push(match byte {
+            b'|' => b'\n',
+            b'?' => 0xff,
+            other => *other,
+        })?;
+    }
+    Ok(bytes)
+}
+
+// What the parser promises is no concern of the rows.
+fn parsed(alloc: Global, bytes: &[u8]) -> Result<(Tables, Items<Action>), Refusal> {
+    parse_sessions(alloc, bytes)
+}
+
+/// The action of a line.
+pub fn action_of(alloc: Global, line: &str) -> Result<Action, Refusal> {
+    let mut bytes = bytes_of(alloc, line)?;
+    bytes.push(b'\n')?;
+    let (_, actions) = parsed(alloc, bytes.as_slice())?;
+    actions.into_vec().pop().ok_or(Refusal::NoSuch)
+}
+
+/// Makes the action. Tables that are out of balance have none.
+pub fn act(tables: &mut Tables, action: &Action) -> Result<ActionReply, Refusal> {
+    if !tables.balanced() {
+        return Err(Refusal::NoSuch);
+    }
+    match tables.act(action) {
+        Ok(reply) => Ok(reply),
+        Err(ActionRefusal::TooLong) => Err(Refusal::TooLong),
+        Err(ActionRefusal::OutOfMemory) => Err(Refusal::OutOfMemory),
+    }
+}
+
+/// Reads a session file.
+pub fn answer_file(text: &mut String, file: &str) -> Result<(), Refusal> {
+    let alloc = *text.allocator();
+    let bytes = bytes_of(alloc, file)?;
+    parsed(alloc, bytes.as_slice())?;
+    say(text, "read")
+}
+
+/// Makes the sessions of a file, which commit with these numbers: what is printed.
+pub fn answer_printed(text: &mut String, numbers: &[u64], file: &str) -> Result<(), Refusal> {
+    let alloc = *text.allocator();
+    let bytes = bytes_of(alloc, file)?;
+    let (mut tables, actions) = parsed(alloc, bytes.as_slice())?;
+    print_made(text, &mut tables, numbers, actions.as_slice())
+}
+
+fn print_made(
+    text: &mut String,
+    tables: &mut Tables,
+    numbers: &[u64],
+    actions: &[Action],
+) -> Result<(), Refusal> {
+    let alloc = *text.allocator();
+    let mut lines = Vec::new(alloc);
+    for (number, action) in numbers.iter().zip(actions) {
+        let reply = act(tables, action)?;
+        lines.push(Line::Done(*number, reply))?;
+    }
+    print_lines(text, lines.as_slice(), tables)
+}
