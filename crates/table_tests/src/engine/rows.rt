@@ -1,5 +1,4 @@
 //! Rows at two seats.
-ghost use Rattle.transactions.specs.Ready.{IsReady};
 ghost use Rattle.table_tests.specs.Fit.{IsFit};
 
 use super::requests::{ask, leave_open, try_job};
@@ -10,8 +9,7 @@ use text_lines::number;
 use transactions::TxSeat;
 use tx_table::TxTable;
 
-/// Answers the rows of a table, one after another.
-#[tactic(auto, using(crate::proofs::FitLemmas::rests_fit))]
+/// Answers the rows of two seats, one after another.
 pub fn answer_rows(
     page: &mut Page,
     table: &TxTable<u64>,
@@ -19,13 +17,11 @@ pub fn answer_rows(
     second: &mut TxSeat<u64>,
     rows: &str,
 )
-    requires first { IsReady table.now first.old }
-    requires second { IsReady table.now second.old }
-    ensures first { IsReady table.now first.new }
-    ensures second { IsReady table.now second.new }
+    requires first { IsFit table.now first.old }
+    requires second { IsFit table.now second.old }
+    ensures first { IsFit table.now first.new }
+    ensures second { IsFit table.now second.new }
 {
-    first.abort(table);
-    second.abort(table);
     let meeting = Meeting::new(2);
     'rows: for row in rows.lines() {
         answer_at(page, table, first, 1, &meeting, row);
@@ -34,7 +30,6 @@ pub fn answer_rows(
 }
 
 /// Answers the rows of one seat, one after another.
-#[tactic(auto, using(crate::proofs::FitLemmas::rests_fit))]
 pub fn answer_own(
     page: &mut Page,
     table: &TxTable<u64>,
@@ -43,10 +38,9 @@ pub fn answer_own(
     meeting: &Meeting,
     rows: &str,
 )
-    requires ready { IsReady table.now seat.old }
-    ensures ready { IsReady table.now seat.new }
+    requires fit { IsFit table.now seat.old }
+    ensures fit { IsFit table.now seat.new }
 {
-    seat.abort(table);
     'rows: for row in rows.lines() {
         answer_at(page, table, seat, worker, meeting, row);
     }
@@ -89,9 +83,9 @@ fn answer(
     match words.split_once(' ') {
         Some(("do", _)) => answer_request(page, table, seat, row),
         Some(("learn", digits)) => answer_learn(page, table, seat, digits),
-        Some(("attempts" | "meets" | "gives", _)) => {
-            answer_attempt(page, table, seat, worker, meeting, words)
-        }
+        Some(("meets", _)) => answer_attempt(page, table, seat, worker, meeting, words, true),
+        Some(("attempts", _)) => answer_attempt(page, table, seat, worker, meeting, words, false),
+        Some(("gives", _)) => answer_attempt(page, table, seat, worker, meeting, words, false),
         Some(("leaves", calls)) => answer_left(page, table, seat, calls),
         Some(("last", _)) => say_last(page, seat),
         Some(("waits", _)) => answer_wait(page, meeting),
@@ -145,20 +139,13 @@ fn answer_attempt(
     worker: u64,
     meeting: &Meeting,
     words: &str,
+    is_held: bool,
 )
     requires fit { IsFit table.now seat.old }
     ensures fit { IsFit table.now seat.new }
 {
     match job_of(page.alloc(), words) {
-        Ok(job) => try_job(
-            page,
-            table,
-            seat,
-            &job,
-            worker,
-            meeting,
-            words.starts_with("meets"),
-        ),
+        Ok(job) => try_job(page, table, seat, &job, worker, meeting, is_held),
         Err(refusal) => page.refuse(refusal),
     }
 }

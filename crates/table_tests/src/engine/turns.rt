@@ -1,5 +1,6 @@
 //! The rows of two seats: all in turn, or those of each seat in a thread of its own.
 ghost use Rattle.transactions.specs.Ready.{IsReady};
+ghost use Rattle.table_tests.specs.Fit.{IsFit};
 
 use super::rows::{answer_own, answer_rows};
 use crate::shared::{Meeting, Page};
@@ -14,7 +15,8 @@ pub type Both = (TxSeat<u64>, TxSeat<u64>);
 /// A seat, and what its rows were answered.
 type Own = (TxSeat<u64>, Page);
 
-/// The rows one after another.
+/// The rows one after another, by seats without transactions.
+#[tactic(auto, using(crate::proofs::FitLemmas::rests_fit))]
 pub fn in_turn(
     page: &mut Page,
     table: &TxTable<u64>,
@@ -27,6 +29,8 @@ pub fn in_turn(
     ensures first { IsReady table.now result.0 }
     ensures second { IsReady table.now result.1 }
 {
+    first.abort(table);
+    second.abort(table);
     answer_rows(page, table, &mut first, &mut second, rows);
     (first, second)
 }
@@ -57,6 +61,7 @@ pub fn at_once<R: Threads + Sync>(
     (first, second)
 }
 
+#[tactic(auto, using(crate::proofs::FitLemmas::rests_fit))]
 fn answer_seat(
     mut page: Page,
     table: &TxTable<u64>,
@@ -68,6 +73,7 @@ fn answer_seat(
     requires ready { IsReady table.now seat }
     ensures ready { IsReady table.now result.0 }
 {
+    seat.abort(table);
     answer_own(&mut page, table, &mut seat, worker, meeting, rows);
     meeting.leave();
     (seat, page)
