@@ -1,0 +1,14 @@
+-- A seat without a transaction is fit for its next request.
+use Rattle.std.proofs.Common.{◌≡◌}
+use Rattle.tx_table.specs.declared.table.TxTable.{TxTable}
+use Rattle.tx_table.specs.Seated.{opening_of}
+use Rattle.tx_phases.specs.Phases.{Rests}
+use Rattle.transactions.proofs.ReadyLemmas.{rests_since}
+use Rattle.driven_turns.specs.Driven.{standing}
+use Rattle.transactions.specs.Ready.{IsReady}
+use Rattle.transactions.specs.declared.seats.TxSeat.{TxSeat}
+use Rattle.table_tests.specs.Fit.{IsFit}
+
+module _ {V : Type 0} where
+  pub rests_fit : (t : TxTable V) (s : TxSeat V) → IsReady t s → standing (opening_of t) s.seat ≡ Rests → IsFit t s
+  rests_fit t s ready rests = record { ready = ready; since = rests_since t s rests }

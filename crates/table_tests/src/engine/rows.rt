@@ -1,0 +1,161 @@
+//! Rows at two seats.
+ghost use Rattle.table_tests.specs.Fit.{IsFit};
+
+use super::requests::{ask, leave_open, try_job};
+use crate::shared::{Meeting, Page, job_of, learn, say_last, script_of};
+use seq_model::Refusal;
+use step_script::Line;
+use text_lines::number;
+use transactions::TxSeat;
+use tx_table::TxTable;
+
+/// Answers the rows of two seats, one after another.
+pub fn answer_rows(
+    page: &mut Page,
+    table: &TxTable<u64>,
+    first: &mut TxSeat<u64>,
+    second: &mut TxSeat<u64>,
+    rows: &str,
+)
+    requires first { IsFit table.now first.old }
+    requires second { IsFit table.now second.old }
+    ensures first { IsFit table.now first.new }
+    ensures second { IsFit table.now second.new }
+{
+    let meeting = Meeting::new(2);
+    'rows: for row in rows.lines() {
+        answer_at(page, table, first, 1, &meeting, row);
+        answer_at(page, table, second, 2, &meeting, row);
+    }
+}
+
+/// Answers the rows of one seat, one after another.
+pub fn answer_own(
+    page: &mut Page,
+    table: &TxTable<u64>,
+    seat: &mut TxSeat<u64>,
+    worker: u64,
+    meeting: &Meeting,
+    rows: &str,
+)
+    requires fit { IsFit table.now seat.old }
+    ensures fit { IsFit table.now seat.new }
+{
+    'rows: for row in rows.lines() {
+        answer_at(page, table, seat, worker, meeting, row);
+    }
+}
+
+/// Answers the row if it is one of this seat, unless memory was wanted before: then the other seat isn't to wait for this one.
+fn answer_at(
+    page: &mut Page,
+    table: &TxTable<u64>,
+    seat: &mut TxSeat<u64>,
+    worker: u64,
+    meeting: &Meeting,
+    row: &str,
+)
+    requires fit { IsFit table.now seat.old }
+    ensures fit { IsFit table.now seat.new }
+{
+    match row.split_once(' ') {
+        Some((who, words)) if number(who) == Some(worker) && !page.wants_memory() => {
+            page.begin_row(row);
+            answer(page, table, seat, worker, meeting, row, words);
+            page.end_row();
+        }
+        _ => {}
+    }
+}
+
+fn answer(
+    page: &mut Page,
+    table: &TxTable<u64>,
+    seat: &mut TxSeat<u64>,
+    worker: u64,
+    meeting: &Meeting,
+    row: &str,
+    words: &str,
+)
+    requires fit { IsFit table.now seat.old }
+    ensures fit { IsFit table.now seat.new }
+{
+    match words.split_once(' ') {
+        Some(("do", _)) => answer_request(page, table, seat, row),
+        Some(("learn", digits)) => answer_learn(page, table, seat, digits),
+        Some(("meets", _)) => answer_attempt(page, table, seat, worker, meeting, words, true),
+        Some(("attempts", _)) => answer_attempt(page, table, seat, worker, meeting, words, false),
+        Some(("gives", _)) => answer_attempt(page, table, seat, worker, meeting, words, false),
+        Some(("leaves", calls)) => answer_left(page, table, seat, calls),
+        Some(("last", _)) => say_last(page, seat),
+        Some(("waits", _)) => answer_wait(page, meeting),
+        _ => page.refuse(Refusal::NoSuch),
+    }
+}
+
+fn answer_request(page: &mut Page, table: &TxTable<u64>, seat: &mut TxSeat<u64>, row: &str)
+    requires fit { IsFit table.now seat.old }
+    ensures fit { IsFit table.now seat.new }
+{
+    match script_of(page.alloc(), row) {
+        Ok(script) => answer_line(page, table, seat, script.lines.as_slice().first()),
+        Err(refusal) => page.refuse(refusal),
+    }
+}
+
+fn answer_line(page: &mut Page, table: &TxTable<u64>, seat: &mut TxSeat<u64>, line: Option<&Line>)
+    requires fit { IsFit table.now seat.old }
+    ensures fit { IsFit table.now seat.new }
+{
+    match line {
+        Some(Line::Do(_, request)) => ask(page, table, seat, request),
+        _ => page.refuse(Refusal::NoSuch),
+    }
+}
+
+// What was open there is aborted.
+#[tactic(auto, using(crate::proofs::FitLemmas::rests_fit))]
+fn answer_learn(page: &mut Page, table: &TxTable<u64>, seat: &mut TxSeat<u64>, digits: &str)
+    requires fit { IsFit table.now seat.old }
+    ensures fit { IsFit table.now seat.new }
+{
+    learn(page, table, seat, digits);
+    seat.abort(table);
+}
+
+// Held until the other worker has a receipt.
+fn answer_wait(page: &mut Page, meeting: &Meeting) {
+    if meeting.waits_for_receipts() {
+        page.say("waited");
+    } else {
+        page.say("waited in vain");
+    }
+}
+
+fn answer_attempt(
+    page: &mut Page,
+    table: &TxTable<u64>,
+    seat: &mut TxSeat<u64>,
+    worker: u64,
+    meeting: &Meeting,
+    words: &str,
+    is_held: bool,
+)
+    requires fit { IsFit table.now seat.old }
+    ensures fit { IsFit table.now seat.new }
+{
+    match job_of(page.alloc(), words) {
+        Ok(job) => try_job(page, table, seat, &job, worker, meeting, is_held),
+        Err(refusal) => page.refuse(refusal),
+    }
+}
+
+fn answer_left(page: &mut Page, table: &TxTable<u64>, seat: &mut TxSeat<u64>, calls: &str)
+    requires fit { IsFit table.now seat.old }
+    ensures fit { IsFit table.now seat.new }
+{
+    match script_of(page.alloc(), calls) {
+        Ok(script) => leave_open(page, table, seat, script.lines.as_slice()),
+        Err(refusal) => page.refuse(refusal),
+    }
+}

@@ -1,0 +1,89 @@
+//! Two seats of a table, whose rows are requests or transactions that borrow them.
+ghost use Rattle.std.specs.Prelude.{◌≡◌};
+ghost use Rattle.tx_table.specs.Seated.{view};
+ghost use Rattle.transactions.specs.Ready.{IsReady};
+
+use crate::borrowed::calls::Way;
+use crate::borrowed::rows::answer_borrowed;
+use crate::engine::turns::{Both, at_once, in_turn};
+use crate::shared::{Page, commit_after};
+use std::thread::Threads;
+use transactions::TxSeat;
+use tx_table::TxTable;
+
+/// How many of the table's shares the second seat has.
+const SECOND_SHARES: u64 = 32;
+
+/// What stands before requests that are answered in two threads.
+const AT_ONCE: &str = "at once\n";
+
+/// What the rows at two seats are.
+#[derive(Clone, Copy)]
+pub enum Pair {
+    Requests,
+    /// Transactions whose calls are made this way.
+    Borrowed(Way),
+}
+
+/// The rows of two seats, into which this one is split. It is the first of them, and has all shares in the end.
+pub fn run_pair<R: Threads + Sync>(
+    rt: &R,
+    page: &mut Page,
+    pair: Pair,
+    table: &TxTable<u64>,
+    mut first: TxSeat<u64>,
+    rows: &str,
+) -> TxSeat<u64>
+    requires ready { IsReady table.now first }
+    requires shares { (view first.seat).shares ≡ 64 }
+    ensures ready { IsReady table.now result }
+{
+    let second = first.split(table, SECOND_SHARES);
+    let (mut first, second) = run_both(rt, page, pair, table, first, second, rows);
+    first.join(table, second);
+    first
+}
+
+// Where memory was refused, each seat commits a write after it.
+fn run_both<R: Threads + Sync>(
+    rt: &R,
+    page: &mut Page,
+    pair: Pair,
+    table: &TxTable<u64>,
+    first: TxSeat<u64>,
+    second: TxSeat<u64>,
+    rows: &str,
+) -> Both
+    requires first { IsReady table.now first }
+    requires second { IsReady table.now second }
+    ensures first { IsReady table.now result.0 }
+    ensures second { IsReady table.now result.1 }
+{
+    let (mut first, mut second) = answer_both(rt, page, pair, table, first, second, rows);
+    commit_after(page, table, &mut first);
+    commit_after(page, table, &mut second);
+    (first, second)
+}
+
+fn answer_both<R: Threads + Sync>(
+    rt: &R,
+    page: &mut Page,
+    pair: Pair,
+    table: &TxTable<u64>,
+    first: TxSeat<u64>,
+    second: TxSeat<u64>,
+    rows: &str,
+) -> Both
+    requires first { IsReady table.now first }
+    requires second { IsReady table.now second }
+    ensures first { IsReady table.now result.0 }
+    ensures second { IsReady table.now result.1 }
+{
+    match pair {
+        Pair::Borrowed(way) => answer_borrowed(page, table, first, second, way, rows),
+        Pair::Requests => match rows.strip_prefix(AT_ONCE) {
+            Some(rows) => at_once(rt, page, table, first, second, rows),
+            None => in_turn(page, table, first, second, rows),
+        },
+    }
+}

@@ -1,0 +1,62 @@
+//! The sections, and who answers each.
+use crate::copies::answer_copies;
+use crate::sessions::answer_sessions;
+use crate::tables::answer_table;
+use seq_model::Refusal;
+use std::alloc::Global;
+use std::fmt::Write;
+use std::sync::Wait;
+use std::thread::Threads;
+
+/// The sections, each with what comes of it. A section has a name, and then a row whose first word says what the other rows are.
+///
+/// - `seats words 7 8; clock 3`: rows at two seats of a table, as [`crate::engine`] has them.
+/// - `plain map 1`, `typed map 1`: transactions that borrow such seats, as [`crate::borrowed`] has them.
+/// - `workers 1 2 on words 0 0`, `retries 3 on words 0 0`: jobs, as [`crate::worker`] has them.
+/// - `sessions 64 1000 2`: a session file, as [`crate::sessions`] has it.
+/// - `copies at a seat`, `copies in a world`: no rows; [`crate::copies`] tells what is run.
+///
+/// What opens a table are lines of a script's header with `; ` between. Behind the rows on a table stands its clock when it was closed, and
+/// what the audit of all receipts says: that what the table holds is what they leave, one after another. `closed 1 do read 0`, in any such
+/// section, is a call on the state that the closed table holds, as the sequential model has it. Where memory is refused, the rows go on, each
+/// seat is to commit a write after them, and the audit is to be Ok; only then is it answered as a want of memory.
+pub fn answer_all<R: Threads + Wait + Sync>(
+    rt: &R,
+    alloc: Global,
+    sections: &str,
+) -> Result<String, Refusal> {
+    let mut text = String::new(alloc);
+    answer_each(rt, &mut text, sections)?;
+    Ok(text)
+}
+
+fn answer_each<R: Threads + Wait + Sync>(
+    rt: &R,
+    text: &mut String,
+    sections: &str,
+) -> Result<(), Refusal> {
+    for section in sections.split("----\n") {
+        if let Some((name, rows)) = section.split_once('\n') {
+            writeln!(text, "# {name}")?;
+            answer_section(rt, text, rows)?;
+        }
+    }
+    Ok(())
+}
+
+fn answer_section<R: Threads + Wait + Sync>(
+    rt: &R,
+    text: &mut String,
+    section: &str,
+) -> Result<(), Refusal> {
+    let Some((header, rows)) = section.split_once('\n') else {
+        return Err(Refusal::NoSuch);
+    };
+    writeln!(text, "{header}")?;
+    match header.split_once(' ') {
+        Some(("sessions", options)) => answer_sessions(rt, text, options, rows),
+        Some(("copies", place)) => answer_copies(text, place),
+        Some((kind, words)) => answer_table(rt, text, kind, words, rows),
+        None => Err(Refusal::NoSuch),
+    }
+}

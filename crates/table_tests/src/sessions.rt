@@ -1,0 +1,46 @@
+//! Sessions that workers serve on a shared table.
+//!
+//! Behind a row `sessions 64 1000 2` stands a session file, whose sessions are dealt in turn to two workers, on a table with 64 stripes for
+//! each collection. Each is attempted at most 1000 times, and two workers meet: the first is held before its commit until all others have
+//! their receipts, each other one until all stand there. `0`: none is held. What comes of them is the receipts of each worker, what the
+//! tables hold, as it is printed behind a session file, and what the audit of all receipts says. Where a session is refused memory the audit
+//! is to be Ok, too; then that is answered as a want of memory.
+mod printed;
+mod served;
+
+use seq_model::Refusal;
+use served::{Options, serve_sessions};
+use std::sync::Wait;
+use std::thread::Threads;
+use text_lines::number;
+
+/// The sessions of this session file, served as these words say.
+pub fn answer_sessions<R: Threads + Wait + Sync>(
+    rt: &R,
+    text: &mut String,
+    words: &str,
+    file: &str,
+) -> Result<(), Refusal> {
+    match options_of(words) {
+        Some(options) => serve_sessions(rt, text, options, file),
+        None => Err(Refusal::NoSuch),
+    }
+}
+
+fn options_of(words: &str) -> Option<Options> {
+    let (stripes, limits) = words.split_once(' ')?;
+    let (tries, meet) = limits.split_once(' ')?;
+    Some(Options {
+        stripes: stripes_of(number(stripes)?)?,
+        tries: number(tries)?,
+        meet: number(meet)?,
+    })
+}
+
+fn stripes_of(stripes: u64) -> Option<u32> {
+    if stripes <= u32::MAX as u64 {
+        Some(stripes as u32)
+    } else {
+        None
+    }
+}

@@ -1,0 +1,89 @@
+//! How a table ends.
+ghost use Rattle.transactions.specs.Ready.{IsReady};
+
+use super::openings::script_of;
+use model_tests::replies::print_reply;
+use seq_model::{AuditFault, Memory, Record, Refusal, Request, State, Value, audit};
+use std::alloc::Global;
+use std::fmt::Write;
+use step_script::Line;
+use transactions::TxSeat;
+use tx_table::TxTable;
+
+/// How many shares a seat has into which all were joined.
+const ALL_SHARES: u64 = 64;
+
+/// The seat closes the table: the clock, and what the table holds. `NoSuch` where the seat has not all shares.
+pub fn close<V: Value>(
+    alloc: Global,
+    table: TxTable<V>,
+    seat: TxSeat<V>,
+) -> Result<(u64, State<V>), Refusal>
+    requires ready { IsReady table seat }
+{
+    if seat.shares() != ALL_SHARES {
+        return Err(Refusal::NoSuch);
+    }
+    let closed = seat.close(table);
+    let clock = closed.clock();
+    let last = closed.state(alloc)?;
+    Ok((clock, last))
+}
+
+/// What the receipts leave, one after another, is what is there at last; else `NotIdle`.
+pub fn audit_receipts<V: Value>(
+    alloc: Global,
+    opening: &State<V>,
+    receipts: &[Record<V>],
+    last: &State<V>,
+) -> Result<(), Refusal> {
+    match audit(alloc, opening, receipts, last) {
+        Ok(()) => Ok(()),
+        Err(AuditFault::OutOfMemory) => Err(Refusal::OutOfMemory),
+        Err(_) => Err(Refusal::NotIdle),
+    }
+}
+
+/// A receipt: its number, whether it has written, and how many calls it has.
+pub fn print_receipt<V>(text: &mut String, receipt: &Record<V>) -> Result<(), Memory> {
+    let number = receipt.number;
+    let kind = if receipt.writes { "write" } else { "read" };
+    let calls = receipt.calls.len();
+    write!(text, "committed {number}, {kind}, calls {calls}")?;
+    Ok(())
+}
+
+/// The clock of a table that was closed, and each row `closed 1 do CALL` with its answer on the state that the table held.
+pub fn print_closed(
+    text: &mut String,
+    clock: u64,
+    mut last: State<u64>,
+    rows: &str,
+) -> Result<(), Refusal> {
+    writeln!(text, "closed: clock {clock}, audit ok")?;
+    for row in rows.lines() {
+        if let Some(call) = row.strip_prefix("closed ") {
+            answer_call(text, &mut last, row, call)?;
+        }
+    }
+    Ok(())
+}
+
+fn answer_call(
+    text: &mut String,
+    last: &mut State<u64>,
+    row: &str,
+    call: &str,
+) -> Result<(), Refusal> {
+    let script = script_of(*text.allocator(), call)?;
+    match script.lines.as_slice().first() {
+        Some(Line::Do(_, Request::Call(call))) => {
+            let reply = last.apply(call)?;
+            write!(text, "{row} = ")?;
+            print_reply(text, &reply)?;
+            text.push('\n')?;
+            Ok(())
+        }
+        _ => Err(Refusal::NoSuch),
+    }
+}

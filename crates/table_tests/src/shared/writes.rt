@@ -1,0 +1,70 @@
+//! A write that a seat commits after a want of memory.
+ghost use Rattle.transactions.specs.Ready.{HasBegunSince, IsReady};
+
+use super::pages::Page;
+use seq_model::{Call, Op, Record, Refusal};
+use transactions::TxSeat;
+use tx_table::TxTable;
+
+/// So many kinds of what can be written: words, and four of collections.
+const KINDS: u64 = 5;
+
+/// A transaction of one write: on the first word, or else on the first collection, whatever its kind. None at the limit of the clock.
+pub fn commit_write(
+    table: &TxTable<u64>,
+    seat: &mut TxSeat<u64>,
+) -> Result<Option<Record<u64>>, Refusal>
+    requires ready { IsReady table.now seat.old }
+    ensures ready { IsReady table.now seat.new }
+{
+    match seat.begin(table) {
+        Err(Refusal::Exhausted { clock: _ }) => Ok(None),
+        Err(cause) => Err(cause),
+        Ok(_) => {
+            write_any(table, seat)?;
+            let receipt = seat.commit(table)?;
+            Ok(Some(receipt))
+        }
+    }
+}
+
+/// Where memory was wanted, the seat commits a write after it.
+pub fn commit_after(page: &mut Page, table: &TxTable<u64>, seat: &mut TxSeat<u64>)
+    requires ready { IsReady table.now seat.old }
+    ensures ready { IsReady table.now seat.new }
+{
+    if page.wants_memory() {
+        match commit_write(table, seat) {
+            Ok(Some(receipt)) => page.keep(receipt),
+            Ok(None) => {}
+            Err(refusal) => page.fail(refusal),
+        }
+    }
+}
+
+fn write_any(table: &TxTable<u64>, seat: &mut TxSeat<u64>) -> Result<(), Refusal>
+    requires ready { IsReady table.now seat.old }
+    requires since { HasBegunSince table.now seat.old }
+    ensures ready { IsReady table.now seat.new }
+    ensures since { HasBegunSince table.now seat.new }
+{
+    'kinds: for kind in 0..KINDS {
+        match seat.call(table, write_of(kind)) {
+            Ok(_) => return Ok(()),
+            Err(Refusal::NoSuch) => {}
+            Err(cause) => return Err(cause),
+        }
+    }
+    Err(Refusal::NoSuch)
+}
+
+fn write_of(kind: u64) -> Call<u64> {
+    let op = match kind {
+        0 => Op::Write(77),
+        1 => Op::Put(5, 77),
+        2 => Op::Add(5),
+        3 => Op::Insert(5),
+        _ => Op::Enqueue(5),
+    };
+    Call { target: 0, op }
+}

@@ -1,0 +1,151 @@
+//! A table, from its opening to its end.
+ghost use Rattle.std.specs.Prelude.{◌≡◌};
+ghost use Rattle.tx_table.specs.Seated.{view};
+ghost use Rattle.transactions.specs.Ready.{IsReady};
+
+use crate::borrowed::calls::Way;
+use crate::pairs::{Pair, run_pair};
+use crate::shared::{Page, close, end_page, open, opening_of, script_of};
+use crate::worker::lists::{Limits, limits_of};
+use crate::worker::retries::retry_rows;
+use crate::worker::runs::run_lists;
+use seq_model::{Refusal, State};
+use std::sync::Wait;
+use std::thread::Threads;
+use step_script::Script;
+use text_lines::number;
+use transactions::TxSeat;
+use tx_table::TxTable;
+
+/// What the rows on a table are.
+#[derive(Clone, Copy)]
+enum Kind {
+    Pair(Pair),
+    /// Jobs of workers.
+    Workers(Limits),
+    /// Jobs of one seat, each in up to so many attempts.
+    Retries(u64),
+}
+
+/// The table that the words behind the kind open, and what comes of the rows on it.
+pub fn answer_table<R: Threads + Wait + Sync>(
+    rt: &R,
+    text: &mut String,
+    kind: &str,
+    words: &str,
+    rows: &str,
+) -> Result<(), Refusal> {
+    let (limits, table) = match words.split_once(" on ") {
+        Some((limits, table)) => (limits, table),
+        None => ("", words),
+    };
+    match kind_of(kind, limits, table) {
+        Some(kind) => answer_header(rt, text, kind, table, rows),
+        None => Err(Refusal::NoSuch),
+    }
+}
+
+fn kind_of(word: &str, limits: &str, table: &str) -> Option<Kind> {
+    match word {
+        "seats" => Some(Kind::Pair(Pair::Requests)),
+        "plain" => Some(Kind::Pair(Pair::Borrowed(Way::Plain))),
+        "typed" if table.starts_with("map") => Some(Kind::Pair(Pair::Borrowed(Way::TypedMap))),
+        "typed" => Some(Kind::Pair(Pair::Borrowed(Way::Typed))),
+        "workers" => Some(Kind::Workers(limits_of(limits)?)),
+        "retries" => Some(Kind::Retries(number(limits)?)),
+        _ => None,
+    }
+}
+
+fn answer_header<R: Threads + Wait + Sync>(
+    rt: &R,
+    text: &mut String,
+    kind: Kind,
+    header: &str,
+    rows: &str,
+) -> Result<(), Refusal> {
+    let script = script_of(*text.allocator(), header)?;
+    answer_script(rt, text, kind, &script, rows)
+}
+
+fn answer_script<R: Threads + Wait + Sync>(
+    rt: &R,
+    text: &mut String,
+    kind: Kind,
+    script: &Script,
+    rows: &str,
+) -> Result<(), Refusal> {
+    let opening = opening_of(*text.allocator(), script)?;
+    answer_opening(rt, text, kind, script, &opening, rows)
+}
+
+fn answer_opening<R: Threads + Wait + Sync>(
+    rt: &R,
+    text: &mut String,
+    kind: Kind,
+    script: &Script,
+    opening: &State<u64>,
+    rows: &str,
+) -> Result<(), Refusal> {
+    let mut page = Page::new(*text.allocator())?;
+    answer_page(rt, text, &mut page, kind, script, opening, rows)
+}
+
+fn answer_page<R: Threads + Wait + Sync>(
+    rt: &R,
+    text: &mut String,
+    page: &mut Page,
+    kind: Kind,
+    script: &Script,
+    opening: &State<u64>,
+    rows: &str,
+) -> Result<(), Refusal> {
+    let (clock, last) = run_script(rt, page, kind, script, opening, rows)?;
+    end_page(text, page, opening, clock, last, rows)
+}
+
+fn run_script<R: Threads + Wait + Sync>(
+    rt: &R,
+    page: &mut Page,
+    kind: Kind,
+    script: &Script,
+    opening: &State<u64>,
+    rows: &str,
+) -> Result<(u64, State<u64>), Refusal> {
+    let (table, seat) = open(page.alloc(), script, opening)?;
+    run_table(rt, page, kind, table, seat, rows)
+}
+
+fn run_table<R: Threads + Wait + Sync>(
+    rt: &R,
+    page: &mut Page,
+    kind: Kind,
+    table: TxTable<u64>,
+    seat: TxSeat<u64>,
+    rows: &str,
+) -> Result<(u64, State<u64>), Refusal>
+    requires ready { IsReady table seat }
+    requires shares { (view seat.seat).shares ≡ 64 }
+{
+    let seat = run_seat(rt, page, kind, &table, seat, rows);
+    close(page.alloc(), table, seat)
+}
+
+fn run_seat<R: Threads + Wait + Sync>(
+    rt: &R,
+    page: &mut Page,
+    kind: Kind,
+    table: &TxTable<u64>,
+    seat: TxSeat<u64>,
+    rows: &str,
+) -> TxSeat<u64>
+    requires ready { IsReady table.now seat }
+    requires shares { (view seat.seat).shares ≡ 64 }
+    ensures ready { IsReady table.now result }
+{
+    match kind {
+        Kind::Pair(pair) => run_pair(rt, page, pair, table, seat, rows),
+        Kind::Workers(limits) => run_lists(rt, page, limits, table, seat, rows),
+        Kind::Retries(tries) => retry_rows(page, tries, table, seat, rows),
+    }
+}
