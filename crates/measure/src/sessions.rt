@@ -1,5 +1,4 @@
 //! Files of sessions on the core, in microseconds a session.
-ghost use Rattle.std.specs.Prelude.{◌≡◌};
 ghost use Rattle.generated_sessions.specs.Options.{AreWithin};
 
 use generated_sessions::{Options, generate, opening};
@@ -51,8 +50,7 @@ fn seconds_of(rt: &(impl Runtime + AllocGlobal), options: &Options) -> io::Resul
 }
 
 fn drawn(rt: &(impl Runtime + AllocGlobal), options: &Options) -> io::Result<f64>
-    requires within { AreWithin options.now }
-    requires one { options.now.clients ≡ 1 }
+    requires { AreWithin options.now }
 {
     let actions = generate(rt.alloc(), SEED, 1, options).map_err(memory)?;
     timed(rt, options, actions.as_slice())
@@ -66,11 +64,11 @@ fn timed(
     requires { AreWithin options.now }
 {
     let tables = opening(rt.alloc(), SEED, options).map_err(memory)?;
-    let start = Instant::now(rt)?;
+    let start = Instant::now(rt);
     if run_in_order(rt.alloc(), tables, STRIPES, actions).is_err() {
         return Err(io::Error::other("a session was refused"));
     }
-    Ok(start.elapsed(rt)?.as_secs_f64())
+    Ok(start?.elapsed(rt)?.as_secs_f64())
 }
 
 fn memory(_memory: Memory) -> io::Error {
