@@ -3,8 +3,7 @@
 //! With no name it prints nothing, so that it can be run with all other programs of the repository.
 #![tactic(auto)]
 
-use anyhow::bail;
-use std::env;
+use std::{env, io};
 
 mod audit;
 mod reservations;
@@ -12,18 +11,22 @@ mod sessions;
 mod sets;
 mod worlds;
 
-fn main(rt: HostRuntime) -> anyhow::Result<()> {
+fn main(rt: HostRuntime) -> io::Result<()> {
     let mut words = env::args(&rt)?;
     let _program = words.next();
-    let Some(name) = words.next() else {
-        return Ok(());
-    };
-    match name.as_str() {
-        "audit" => audit::measure(&rt),
-        "reservations" => reservations::measure(&rt),
-        "sessions" => sessions::measure(&rt),
-        "sets" => sets::measure(&rt),
-        "world" => worlds::measure(&rt),
-        _ => bail!("no benchmark has the name {name}"),
+    match words.next() {
+        Some(name) => measure(&rt, name.as_str()),
+        None => Ok(()),
+    }
+}
+
+fn measure(rt: &HostRuntime, name: &str) -> io::Result<()> {
+    match name {
+        "audit" => audit::measure(rt),
+        "reservations" => reservations::measure(rt),
+        "sessions" => sessions::measure(rt),
+        "sets" => sets::measure(rt),
+        "world" => worlds::measure(rt),
+        _ => Err(io::Error::other("no benchmark has this name")),
     }
 }

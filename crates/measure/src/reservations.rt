@@ -6,6 +6,7 @@ use rand_core::{Rng, SeedableRng};
 use rand_xoshiro::Xoshiro256PlusPlus;
 use seq_model::{Items, Memory};
 use std::alloc::Global;
+use std::io;
 use std::rt::Runtime;
 use std::time::Instant;
 use vac_model::{Action, ActionRefusal, Ask, Change, Kind, Tables};
@@ -17,22 +18,21 @@ const ACTIONS: u64 = 200_000;
 const ASKS: usize = 6;
 
 /// Prints how many actions a second are made with few items and with many.
-pub fn measure(rt: &(impl Runtime + AllocGlobal)) -> anyhow::Result<()> {
+pub fn measure(rt: &(impl Runtime + AllocGlobal)) -> io::Result<()> {
     report(rt, 100)?;
     report(rt, 10_000)
 }
 
 /// Of so many items of each kind, and as many customers.
-fn report(rt: &(impl Runtime + AllocGlobal), items: u64) -> anyhow::Result<()>
+fn report(rt: &(impl Runtime + AllocGlobal), items: u64) -> io::Result<()>
     requires { 0 < items }
 {
     let seconds = seconds_of(rt, items)?;
     let speed = ACTIONS as f64 / seconds / 1e3;
-    println!(rt; "{items} items a kind: {speed:.0} thousand actions a second")?;
-    Ok(())
+    println!(rt; "{items} items a kind: {speed:.0} thousand actions a second")
 }
 
-fn seconds_of(rt: &(impl Runtime + AllocGlobal), items: u64) -> anyhow::Result<f64>
+fn seconds_of(rt: &(impl Runtime + AllocGlobal), items: u64) -> io::Result<f64>
     requires { 0 < items }
 {
     let mut tables = Tables::new(rt.alloc());
@@ -40,16 +40,20 @@ fn seconds_of(rt: &(impl Runtime + AllocGlobal), items: u64) -> anyhow::Result<f
 }
 
 /// The time of the second half of the actions.
-fn timed(rt: &(impl Runtime + AllocGlobal), items: u64, tables: &mut Tables) -> anyhow::Result<f64>
+fn timed(rt: &(impl Runtime + AllocGlobal), items: u64, tables: &mut Tables) -> io::Result<f64>
     requires some { 0 < items }
     requires balanced { IsBalanced tables.old }
 {
     let mut random = Xoshiro256PlusPlus::seed_from_u64(1);
-    open(rt.alloc(), items, tables)?;
-    run(rt.alloc(), items, &mut random, tables)?;
+    open(rt.alloc(), items, tables).map_err(refused)?;
+    run(rt.alloc(), items, &mut random, tables).map_err(refused)?;
     let start = Instant::now(rt)?;
-    run(rt.alloc(), items, &mut random, tables)?;
+    run(rt.alloc(), items, &mut random, tables).map_err(refused)?;
     Ok(start.elapsed(rt)?.as_secs_f64())
+}
+
+fn refused(_refusal: ActionRefusal) -> io::Error {
+    io::Error::other("an action was refused")
 }
 
 /// Adds the items, each with ten units.

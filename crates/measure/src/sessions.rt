@@ -1,14 +1,13 @@
 //! Files of sessions on the core, in microseconds a session.
-ghost use Rattle.std.specs.Prelude.{IfOk};
-ghost use Rattle.vac_model.specs.Balanced.{IsBalanced};
+ghost use Rattle.generated_sessions.specs.Options.{AreWithin};
 
-use anyhow::bail;
 use generated_sessions::{Options, generate, opening};
 use ordered_sessions::run_in_order;
-use std::alloc::Global;
+use seq_model::Memory;
+use std::io;
 use std::rt::Runtime;
 use std::time::Instant;
-use vac_model::{Action, Tables};
+use vac_model::Action;
 
 /// All is drawn from this.
 const SEED: u64 = 1;
@@ -17,7 +16,7 @@ const SEED: u64 = 1;
 const STRIPES: u32 = 64;
 
 /// Prints what a session takes with few items and with many, of few sessions and of many.
-pub fn measure(rt: &(impl Runtime + AllocGlobal)) -> anyhow::Result<()> {
+pub fn measure(rt: &(impl Runtime + AllocGlobal)) -> io::Result<()> {
     for relations in [100, 10_000] {
         for transactions in [1000, 10_000, 100_000] {
             report(rt, relations, transactions)?;
@@ -27,11 +26,7 @@ pub fn measure(rt: &(impl Runtime + AllocGlobal)) -> anyhow::Result<()> {
 }
 
 /// With so many items of each kind, and so many sessions.
-fn report(
-    rt: &(impl Runtime + AllocGlobal),
-    relations: u32,
-    transactions: u32,
-) -> anyhow::Result<()> {
+fn report(rt: &(impl Runtime + AllocGlobal), relations: u32, transactions: u32) -> io::Result<()> {
     let options = Options {
         clients: 1,
         queries: 10,
@@ -44,40 +39,38 @@ fn report(
     let micros = seconds * 1e6 / f64::from(transactions);
     println!(rt;
         "{relations} items a kind, {transactions} sessions: {micros:.1} microseconds a session"
-    )?;
-    Ok(())
+    )
 }
 
-fn seconds_of(rt: &(impl Runtime + AllocGlobal), options: &Options) -> anyhow::Result<f64> {
-    let actions = actions_of(rt.alloc(), options)?;
-    let tables = tables_of(rt.alloc(), options)?;
-    timed(rt, tables, actions.as_slice())
+fn seconds_of(rt: &(impl Runtime + AllocGlobal), options: &Options) -> io::Result<f64> {
+    if !options.are_within() {
+        return Err(io::Error::other("there are no such sessions"));
+    }
+    drawn(rt, options)
+}
+
+fn drawn(rt: &(impl Runtime + AllocGlobal), options: &Options) -> io::Result<f64>
+    requires { AreWithin options.now }
+{
+    let actions = generate(rt.alloc(), SEED, 1, options).map_err(memory)?;
+    timed(rt, options, actions.as_slice())
 }
 
 fn timed(
     rt: &(impl Runtime + AllocGlobal),
-    tables: Tables,
+    options: &Options,
     actions: &[Action],
-) -> anyhow::Result<f64>
-    requires { IsBalanced tables }
+) -> io::Result<f64>
+    requires { AreWithin options.now }
 {
-    let start = Instant::now(rt)?;
-    let _ = run_in_order(rt.alloc(), tables, STRIPES, actions)?;
-    Ok(start.elapsed(rt)?.as_secs_f64())
+    let tables = opening(rt.alloc(), SEED, options).map_err(memory)?;
+    let start = Instant::now(rt);
+    if run_in_order(rt.alloc(), tables, STRIPES, actions).is_err() {
+        return Err(io::Error::other("a session was refused"));
+    }
+    Ok(start?.elapsed(rt)?.as_secs_f64())
 }
 
-fn actions_of(alloc: Global, options: &Options) -> anyhow::Result<Vec<Action>> {
-    if !options.are_within() {
-        bail!("there are no such sessions");
-    }
-    Ok(generate(alloc, SEED, 1, options)?)
-}
-
-fn tables_of(alloc: Global, options: &Options) -> anyhow::Result<Tables>
-    ensures { IfOk result IsBalanced }
-{
-    if !options.are_within() {
-        bail!("there are no such tables");
-    }
-    Ok(opening(alloc, SEED, options)?)
+fn memory(_memory: Memory) -> io::Error {
+    io::Error::from(io::ErrorKind::OutOfMemory)
 }

@@ -5,6 +5,7 @@ use rand::seq::SliceRandom;
 use rand_core::SeedableRng;
 use rand_xoshiro::Xoshiro256PlusPlus;
 use std::alloc::{AllocError, Global};
+use std::io;
 use std::rt::Runtime;
 use std::time::{Duration, Instant};
 use tx_sets::{ReadSet, SetRefusal};
@@ -16,7 +17,7 @@ const LOCATIONS: u32 = 8192;
 const ROUNDS: u32 = 1000;
 
 /// Prints the times at few locations a set and at as many as it may have, rising and in random order.
-pub fn measure(rt: &(impl Runtime + AllocGlobal)) -> anyhow::Result<()> {
+pub fn measure(rt: &(impl Runtime + AllocGlobal)) -> io::Result<()> {
     let mut locations = all_locations(rt.alloc())?;
     report(rt, "rising", 10, &locations)?;
     report(rt, "rising", 4096, &locations)?;
@@ -38,61 +39,46 @@ fn report(
     order: &str,
     size: usize,
     locations: &[u32],
-) -> anyhow::Result<()>
+) -> io::Result<()>
     requires { 0 < size }
 {
     let put = nanos_a_call(time_puts(rt, size, locations)?);
     let find = nanos_a_call(time_finds(rt, size, locations)?);
-    println!(rt; "{size} locations, {order}: {put:.1} ns a put, {find:.1} ns a find")?;
-    Ok(())
+    println!(rt; "{size} locations, {order}: {put:.1} ns a put, {find:.1} ns a find")
 }
 
 fn nanos_a_call(time: Duration) -> f64 {
     time.as_secs_f64() * 1e9 / f64::from(LOCATIONS) / f64::from(ROUNDS)
 }
 
+fn refused(_refusal: SetRefusal) -> io::Error {
+    io::Error::other("a set has no room")
+}
+
 fn time_puts(
     rt: &(impl Runtime + AllocGlobal),
     size: usize,
     locations: &[u32],
-) -> anyhow::Result<Duration>
+) -> io::Result<Duration>
     requires { 0 < size }
 {
     let mut set = ReadSet::new(rt.alloc());
     set.reserve(size)?;
     let start = Instant::now(rt)?;
+    put_rounds(&mut set, size, locations).map_err(refused)?;
+    start.elapsed(rt)
+}
+
+fn put_rounds(set: &mut ReadSet, size: usize, locations: &[u32]) -> Result<(), SetRefusal>
+    requires { 0 < size }
+{
     for _ in 0..ROUNDS {
         for chunk in locations.chunks(size) {
             set.clear();
-            put_all(&mut set, chunk)?;
+            put_all(set, chunk)?;
         }
     }
-    Ok(start.elapsed(rt)?)
-}
-
-fn time_finds(
-    rt: &(impl Runtime + AllocGlobal),
-    size: usize,
-    locations: &[u32],
-) -> anyhow::Result<Duration>
-    requires { 0 < size }
-{
-    let mut sets = Vec::new(rt.alloc());
-    for chunk in locations.chunks(size) {
-        let mut set = ReadSet::new(rt.alloc());
-        put_all(&mut set, chunk)?;
-        sets.push(set)?;
-    }
-    let start = Instant::now(rt)?;
-    let mut missing = 0;
-    for _ in 0..ROUNDS {
-        for (set, chunk) in sets.iter().zip(locations.chunks(size)) {
-            missing |= missing_in(set, chunk);
-        }
-    }
-    let time = start.elapsed(rt)?;
-    anyhow::ensure!(missing == 0, "not all locations were found");
-    Ok(time)
+    Ok(())
 }
 
 fn put_all(set: &mut ReadSet, locations: &[u32]) -> Result<(), SetRefusal> {
@@ -102,9 +88,52 @@ fn put_all(set: &mut ReadSet, locations: &[u32]) -> Result<(), SetRefusal> {
     Ok(())
 }
 
-fn missing_in(set: &ReadSet, locations: &[u32]) -> usize {
-    locations
-        .iter()
-        .filter(|location| set.find(**location).is_none())
-        .count()
+fn time_finds(
+    rt: &(impl Runtime + AllocGlobal),
+    size: usize,
+    locations: &[u32],
+) -> io::Result<Duration>
+    requires { 0 < size }
+{
+    let sets = sets_of(rt.alloc(), size, locations).map_err(refused)?;
+    let start = Instant::now(rt)?;
+    let found = find_rounds(sets.as_slice(), size, locations);
+    let time = start.elapsed(rt)?;
+    if found {
+        Ok(time)
+    } else {
+        Err(io::Error::other("not all locations were found"))
+    }
+}
+
+fn sets_of(alloc: Global, size: usize, locations: &[u32]) -> Result<Vec<ReadSet>, SetRefusal>
+    requires { 0 < size }
+{
+    let mut sets = Vec::new(alloc);
+    for chunk in locations.chunks(size) {
+        let mut set = ReadSet::new(alloc);
+        put_all(&mut set, chunk)?;
+        sets.push(set)?;
+    }
+    Ok(sets)
+}
+
+fn find_rounds(sets: &[ReadSet], size: usize, locations: &[u32]) -> bool
+    requires { 0 < size }
+{
+    let mut found = true;
+    for _ in 0..ROUNDS {
+        for (set, chunk) in sets.iter().zip(locations.chunks(size)) {
+            found &= finds_all(set, chunk);
+        }
+    }
+    found
+}
+
+fn finds_all(set: &ReadSet, locations: &[u32]) -> bool {
+    let mut found = true;
+    for location in locations {
+        found &= set.find(*location).is_some();
+    }
+    found
 }

@@ -9,6 +9,7 @@ use seq_model::{
     Request, Shape, State,
 };
 use std::alloc::Global;
+use std::io;
 use std::rt::Runtime;
 use std::time::Instant;
 
@@ -32,23 +33,30 @@ enum Work {
     Kinds,
 }
 
-/// An actor, whether its transaction is open, whether its request is under way, and how many calls it is still to make.
-#[derive(Drop)]
+/// Of an actor: whether its transaction is open, whether its request is under way, and how many calls it is still to make.
+#[derive(Clone, Copy)]
 struct Client {
-    actor: u32,
     open: bool,
     waits: bool,
     calls: u32,
 }
 
+impl Client {
+    const NEW: Client = Client {
+        open: false,
+        waits: false,
+        calls: 0,
+    };
+}
+
 /// Prints how many events a second a world takes, with few conflicts and with many.
-pub fn measure(rt: &(impl Runtime + AllocGlobal)) -> anyhow::Result<()> {
+pub fn measure(rt: &(impl Runtime + AllocGlobal)) -> io::Result<()> {
     report(rt, "words", Work::Words)?;
     report(rt, "one map", Work::Map)?;
     report(rt, "all four kinds", Work::Kinds)
 }
 
-fn report(rt: &(impl Runtime + AllocGlobal), name: &str, work: Work) -> anyhow::Result<()> {
+fn report(rt: &(impl Runtime + AllocGlobal), name: &str, work: Work) -> io::Result<()> {
     run(rt, name, work, "few", 65_536)?;
     run(rt, name, work, "many", 16)
 }
@@ -60,87 +68,128 @@ fn run(
     work: Work,
     conflicts: &str,
     keys: u32,
-) -> anyhow::Result<()>
+) -> io::Result<()>
     requires { 0 < keys }
 {
-    let alloc = rt.alloc();
-    let mut world = opened(alloc, work, keys)?;
-    let mut clients = clients(alloc)?;
-    let mut random = Xoshiro256PlusPlus::seed_from_u64(1);
-    let start = Instant::now(rt)?;
-    for _ in 0..TURNS {
-        for client in clients.iter_mut() {
-            turn(&mut world, client, work, keys, &mut random)?;
-        }
-    }
-    let seconds = start.elapsed(rt)?.as_secs_f64();
+    let (seconds, committed, aborted) = timed(rt, work, keys)?;
     let speed = f64::from(ACTORS) * f64::from(TURNS) / seconds / 1e3;
-    let trace = world.into_trace()?;
-    let committed = trace.records.as_slice().len();
-    let aborted = trace.aborted.as_slice().len();
     println!(rt;
         "{name}, {conflicts} conflicts: {speed:.0} thousand events a second, {committed} committed, {aborted} aborted"
-    )?;
+    )
+}
+
+/// The seconds of all turns, and how many transactions were committed and aborted.
+fn timed(
+    rt: &(impl Runtime + AllocGlobal),
+    work: Work,
+    keys: u32,
+) -> io::Result<(f64, usize, usize)>
+    requires { 0 < keys }
+{
+    let mut world = opened(rt.alloc(), work, keys).map_err(refused)?;
+    let start = Instant::now(rt);
+    let turned = turn_all(&mut world, work, keys);
+    let end = Instant::now(rt);
+    let (committed, aborted) = ended(world).map_err(memory)?;
+    turned.map_err(memory)?;
+    let seconds = end?.duration_since(start?).as_secs_f64();
+    Ok((seconds, committed, aborted))
+}
+
+fn refused(_refusal: Refusal) -> io::Error {
+    io::Error::other("the world can't be opened")
+}
+
+fn memory(_memory: Memory) -> io::Error {
+    io::Error::from(io::ErrorKind::OutOfMemory)
+}
+
+// The world ends in its trace, so that no drop of it is proved here.
+fn ended(world: World<u64>) -> Result<(usize, usize), Memory> {
+    let trace = world.into_trace()?;
+    Ok((trace.records.len(), trace.aborted.len()))
+}
+
+fn turn_all(world: &mut World<u64>, work: Work, keys: u32) -> Result<(), Memory>
+    requires { 0 < keys }
+{
+    let mut random = Xoshiro256PlusPlus::seed_from_u64(1);
+    let mut clients = [Client::NEW; ACTORS as usize];
+    for _ in 0..TURNS {
+        turn_each(world, &mut clients, work, keys, &mut random)?;
+    }
     Ok(())
 }
 
-fn clients(alloc: Global) -> Result<Vec<Client>, Memory> {
-    let mut clients = Vec::new(alloc);
-    for actor in 1..=ACTORS {
-        clients.push(Client {
-            actor,
-            open: false,
-            waits: false,
-            calls: 0,
-        })?;
+fn turn_each(
+    world: &mut World<u64>,
+    clients: &mut [Client],
+    work: Work,
+    keys: u32,
+    random: &mut Xoshiro256PlusPlus,
+) -> Result<(), Memory>
+    requires { 0 < keys }
+{
+    let mut actor = 0u32;
+    for client in clients {
+        actor = actor.saturating_add(1);
+        turn(world, actor, client, work, keys, random)?;
     }
-    Ok(clients)
+    Ok(())
 }
 
 fn opened(alloc: Global, work: Work, keys: u32) -> Result<World<u64>, Refusal> {
-    let held = held(alloc, work)?;
-    let mut stripes = Items::new(alloc);
-    for _ in 0..held.len() {
-        stripes.push(STRIPES)?;
-    }
-    let shape = Shape { stripes, clock: 0 };
-    let words = match work {
-        Work::Words => keys,
-        _ => 0,
-    };
-    let state = State::new(zeros(alloc, words)?, held)?;
+    let shape = shape_of(alloc, work)?;
+    let state = state_of(alloc, work, keys)?;
     World::open(alloc, &shape, state)
 }
 
-fn zeros(alloc: Global, count: u32) -> Result<Vec<u64>, Memory> {
-    let mut words = Vec::new(alloc);
-    for _ in 0..count {
-        words.push(0)?;
-    }
-    Ok(words)
+fn shape_of(alloc: Global, work: Work) -> Result<Shape, Memory> {
+    let collections = match work {
+        Work::Words => 0,
+        Work::Map => 1,
+        Work::Kinds => 4,
+    };
+    let stripes = vec![in alloc; STRIPES; collections]?;
+    Ok(Shape {
+        stripes: Items::from_vec(stripes),
+        clock: 0,
+    })
+}
+
+fn state_of(alloc: Global, work: Work, keys: u32) -> Result<State<u64>, Refusal> {
+    let words = match work {
+        Work::Words => keys as usize,
+        _ => 0,
+    };
+    let words = vec![in alloc; 0; words]?;
+    let held = held(alloc, work)?;
+    State::new(words, held)
 }
 
 fn held(alloc: Global, work: Work) -> Result<Vec<Held<u64>>, Memory> {
-    let mut held = Vec::new(alloc);
     match work {
-        Work::Words => {}
-        Work::Map => held.push(Held::Map(Entries::new(alloc)))?,
-        Work::Kinds => {
-            held.push(Held::Map(Entries::new(alloc)))?;
-            held.push(Held::Bag(Counts::new(alloc)))?;
-            held.push(Held::Pq(Counts::new(alloc)))?;
-            held.push(Held::Queue {
-                head: 0,
-                items: QueueItems::new(alloc),
-            })?;
-        }
+        Work::Words => Ok(Vec::new(alloc)),
+        Work::Map => Ok(vec![in alloc; Held::Map(Entries::new(alloc))]?),
+        Work::Kinds => four_kinds(alloc),
     }
+}
+
+/// An empty map, an empty multiset, an empty priority queue and an empty queue.
+pub fn four_kinds(alloc: Global) -> Result<Vec<Held<u64>>, Memory> {
+    let items = QueueItems::new(alloc);
+    let mut held = Vec::new(alloc);
+    held.push(Held::Map(Entries::new(alloc)))?;
+    held.push(Held::Bag(Counts::new(alloc)))?;
+    held.push(Held::Pq(Counts::new(alloc)))?;
+    held.push(Held::Queue { head: 0, items })?;
     Ok(held)
 }
 
 /// The next event of a client: a step of the request that is under way, or a new request.
 fn turn(
     world: &mut World<u64>,
+    actor: u32,
     client: &mut Client,
     work: Work,
     keys: u32,
@@ -148,13 +197,12 @@ fn turn(
 ) -> Result<(), Memory>
     requires { 0 < keys }
 {
-    if client.waits {
-        let notice = world.feed(Event::Step(client.actor))?;
-        heard(client, &notice);
-        return Ok(());
-    }
-    let request = asked(client, work, keys, random);
-    let notice = world.feed(Event::Ask(client.actor, request))?;
+    let event = if client.waits {
+        Event::Step(actor)
+    } else {
+        Event::Ask(actor, asked(client, work, keys, random))
+    };
+    let notice = world.feed(event)?;
     heard(client, &notice);
     Ok(())
 }

@@ -2,6 +2,7 @@
 use crate::counts::Counts;
 use crate::work::Work;
 use crate::{locked, seats};
+use std::io;
 use std::rt::Runtime;
 use std::sync::Wait;
 use std::thread::Threads;
@@ -10,7 +11,7 @@ use std::thread::Threads;
 const TRANSACTIONS: u32 = 200_000;
 
 /// Prints how many transactions a second are committed by one thread, two and four.
-pub fn measure<R: Runtime + AllocGlobal + Threads + Wait + Sync>(rt: &R) -> anyhow::Result<()> {
+pub fn measure<R: Runtime + AllocGlobal + Threads + Wait + Sync>(rt: &R) -> io::Result<()> {
     for is_on_words in [true, false] {
         for writes in [0, 1] {
             let work = Work {
@@ -31,7 +32,7 @@ pub fn report_seats<R: Runtime + AllocGlobal + Threads + Sync>(
     work: Work,
     threads: u32,
     transactions: u32,
-) -> anyhow::Result<()> {
+) -> io::Result<()> {
     let (counts, seconds) = seats::time(rt, work, threads, transactions)?;
     let name = name_of(work);
     let writes = work.writes;
@@ -39,23 +40,21 @@ pub fn report_seats<R: Runtime + AllocGlobal + Threads + Sync>(
     let (moved, gates, others) = (counts.moved, counts.gates, counts.others);
     println!(rt;
         "{name}, {writes} writes of ten calls, {threads} threads: {speed:.0} thousand transactions a second; refused: {moved} moved, {gates} gates, {others} others"
-    )?;
-    Ok(())
+    )
 }
 
 fn report_lock<R: Runtime + AllocGlobal + Threads + Wait + Sync>(
     rt: &R,
     work: Work,
     threads: u32,
-) -> anyhow::Result<()> {
+) -> io::Result<()> {
     let (counts, seconds) = locked::time(rt, work, threads, TRANSACTIONS)?;
     let name = name_of(work);
     let writes = work.writes;
     let speed = speed(counts, seconds);
     println!(rt;
         "{name}, {writes} writes of ten calls, {threads} threads, one lock: {speed:.0} thousand transactions a second"
-    )?;
-    Ok(())
+    )
 }
 
 fn name_of(work: Work) -> &'static str {

@@ -1,9 +1,10 @@
 //! The same sessions on tables under one lock.
+ghost use Rattle.generated_sessions.specs.Options.{AreWithin};
 ghost use Rattle.vac_model.specs.Balanced.{IsBalanced};
 
-use crate::sessions::{lists_of, tables_of};
-use anyhow::bail;
-use generated_sessions::Options;
+use crate::sessions::{SEED, lists_of, memory, no_such_sessions};
+use generated_sessions::{Options, opening};
+use std::io;
 use std::rt::Runtime;
 use std::sync::{Mutex, Wait};
 use std::thread::{Threads, map_indices};
@@ -27,40 +28,64 @@ impl Balanced {
 pub fn time<R: Runtime + AllocGlobal + Threads + Wait + Sync>(
     rt: &R,
     options: &Options,
-) -> anyhow::Result<f64> {
-    let lists = lists_of(rt.alloc(), options)?;
-    let tables = tables_of(rt.alloc(), options)?;
-    let tables = Mutex::new(Balanced { tables });
-    act_all(rt, &tables, lists.as_slice())
+) -> io::Result<f64> {
+    if options.are_within() {
+        drawn(rt, options)
+    } else {
+        Err(no_such_sessions())
+    }
+}
+
+fn drawn<R: Runtime + AllocGlobal + Threads + Wait + Sync>(
+    rt: &R,
+    options: &Options,
+) -> io::Result<f64>
+    requires { AreWithin options.now }
+{
+    let lists = lists_of(rt.alloc(), options).map_err(memory)?;
+    opened(rt, options, lists.as_slice())
+}
+
+fn opened<R: Runtime + AllocGlobal + Threads + Wait + Sync>(
+    rt: &R,
+    options: &Options,
+    lists: &[Vec<Action>],
+) -> io::Result<f64>
+    requires { AreWithin options.now }
+{
+    let tables = opening(rt.alloc(), SEED, options).map_err(memory)?;
+    act_all(rt, &Mutex::new(Balanced { tables }), lists)
 }
 
 fn act_all<R: Runtime + AllocGlobal + Threads + Wait + Sync>(
     rt: &R,
     tables: &Mutex<Balanced>,
     lists: &[Vec<Action>],
-) -> anyhow::Result<f64> {
+) -> io::Result<f64> {
     let start = Instant::now(rt)?;
-    let refused = map_indices(
+    let allowed = map_indices(
         rt,
         rt.alloc(),
         lists.len(),
         &|client| {
             match lists.get(client) {
                 Some(list) => act_each(rt, tables, list.as_slice()),
-                None => 1,
+                None => false,
             }
         },
     )?;
     let seconds = start.elapsed(rt)?.as_secs_f64();
-    if refused.iter().any(|count| *count != 0) {
-        bail!("an action was refused");
+    if allowed.as_slice().contains(&false) {
+        return Err(io::Error::other("an action was refused"));
     }
     Ok(seconds)
 }
 
-/// How many of the actions are refused.
-fn act_each<R: Wait>(rt: &R, tables: &Mutex<Balanced>, list: &[Action]) -> usize {
-    list.iter()
-        .filter(|action| !tables.lock(rt).act(action))
-        .count()
+/// Whether none of the actions is refused.
+fn act_each<R: Wait>(rt: &R, tables: &Mutex<Balanced>, list: &[Action]) -> bool {
+    let mut allowed = true;
+    for action in list {
+        allowed &= tables.lock(rt).act(action);
+    }
+    allowed
 }

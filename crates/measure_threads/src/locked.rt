@@ -1,9 +1,10 @@
 //! The same calls on a state under one lock.
 use crate::counts::Counts;
-use crate::work::{CALLS, Work, drawn, opening};
+use crate::work::{CALLS, Work, drawn, opening, refused};
 use rand_core::SeedableRng;
 use rand_xoshiro::Xoshiro256PlusPlus;
 use seq_model::{Refusal, State};
+use std::io;
 use std::rt::Runtime;
 use std::sync::{Mutex, Wait};
 use std::thread::{Threads, map_indices};
@@ -15,19 +16,29 @@ pub fn time<R: Runtime + AllocGlobal + Threads + Wait + Sync>(
     work: Work,
     threads: u32,
     transactions: u32,
-) -> anyhow::Result<(Counts, f64)> {
-    let state = Mutex::new(opening(rt.alloc(), work)?);
+) -> io::Result<(Counts, f64)> {
+    let state = opening(rt.alloc(), work).map_err(refused)?;
+    run(rt, &Mutex::new(state), work, threads, transactions)
+}
+
+fn run<R: Runtime + AllocGlobal + Threads + Wait + Sync>(
+    rt: &R,
+    state: &Mutex<State<u64>>,
+    work: Work,
+    threads: u32,
+    transactions: u32,
+) -> io::Result<(Counts, f64)> {
     let start = Instant::now(rt)?;
     let each = map_indices(
         rt,
         rt.alloc(),
         threads as usize,
-        &|thread| { transact_all(rt, &state, work, transactions, thread as u64) },
+        &|thread| { transact_all(rt, state, work, transactions, thread as u64) },
     )?;
     let seconds = start.elapsed(rt)?.as_secs_f64();
     let mut counts = Counts::NONE;
-    for one in each {
-        counts = counts.and(one);
+    for one in each.as_slice() {
+        counts = counts.and(*one);
     }
     Ok((counts, seconds))
 }

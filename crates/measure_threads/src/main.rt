@@ -8,12 +8,12 @@
 //! - `lock RELATIONS CLIENTS SESSIONS`: of the same sessions under one lock.
 #![tactic(auto)]
 
-use anyhow::bail;
 use sessions::options;
-use std::env;
+use std::alloc::Global;
 use std::rt::Runtime;
 use std::sync::Wait;
 use std::thread::Threads;
+use std::{env, io};
 use work::Work;
 
 mod counts;
@@ -26,24 +26,32 @@ mod served;
 mod sessions;
 mod work;
 
-fn main(rt: HostRuntime) -> anyhow::Result<()> {
+fn main(rt: HostRuntime) -> io::Result<()> {
     let mut words = env::args(&rt)?;
     let _program = words.next();
     let Some(name) = words.next() else {
         return Ok(());
     };
-    let mut numbers = Vec::new(rt.alloc());
-    for word in words {
-        numbers.push(word.parse::<u32>()?)?;
-    }
+    let numbers = numbers_of(rt.alloc(), words)?;
     measure(&rt, name.as_str(), numbers.as_slice())
+}
+
+fn numbers_of(alloc: Global, words: env::Args<Global>) -> io::Result<Vec<u32>> {
+    let mut numbers = Vec::new(alloc);
+    for word in words {
+        match word.parse::<u32>() {
+            Ok(number) => numbers.push(number)?,
+            Err(_) => return Err(io::Error::other("a word is no number")),
+        }
+    }
+    Ok(numbers)
 }
 
 fn measure<R: Runtime + AllocGlobal + Threads + Wait + Sync>(
     rt: &R,
     name: &str,
     numbers: &[u32],
-) -> anyhow::Result<()> {
+) -> io::Result<()> {
     match (name, numbers) {
         ("engine", []) => engine::measure(rt),
         ("engine", [kind, writes, threads, transactions]) => {
@@ -56,7 +64,7 @@ fn measure<R: Runtime + AllocGlobal + Threads + Wait + Sync>(
         ("lock", [relations, clients, sessions]) => {
             rows::report_lock(rt, &options(*relations, *clients, *sessions))
         }
-        _ => bail!("no benchmark has the name {name} and these numbers"),
+        _ => Err(io::Error::other("no benchmark has this name and these numbers")),
     }
 }
 

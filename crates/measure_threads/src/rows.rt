@@ -2,6 +2,7 @@
 use crate::sessions::options;
 use crate::{lock, served};
 use generated_sessions::Options;
+use std::io;
 use std::rt::Runtime;
 use std::sync::Wait;
 use std::thread::Threads;
@@ -10,7 +11,7 @@ use std::thread::Threads;
 const SESSIONS: u32 = 20_000;
 
 /// Prints how many sessions a second are served, with few conflicts and with many, of one client, two and four.
-pub fn measure<R: Runtime + AllocGlobal + Threads + Wait + Sync>(rt: &R) -> anyhow::Result<()> {
+pub fn measure<R: Runtime + AllocGlobal + Threads + Wait + Sync>(rt: &R) -> io::Result<()> {
     for relations in [10_000, 1000, 100, 10] {
         for clients in [1, 2, 4] {
             let options = options(relations, clients, SESSIONS);
@@ -24,7 +25,7 @@ pub fn measure<R: Runtime + AllocGlobal + Threads + Wait + Sync>(rt: &R) -> anyh
 pub fn report_table<R: Runtime + AllocGlobal + Threads + Wait + Sync>(
     rt: &R,
     options: &Options,
-) -> anyhow::Result<()> {
+) -> io::Result<()> {
     let (seconds, commits) = served::time(rt, options)?;
     let Options {
         relations,
@@ -32,17 +33,16 @@ pub fn report_table<R: Runtime + AllocGlobal + Threads + Wait + Sync>(
         ..
     } = *options;
     let speed = speed(options, seconds);
-    let tried = f64::from(commits) / f64::from(options.transactions);
+    let tried = commits as f64 / f64::from(options.transactions);
     println!(rt;
         "{relations} relations, {clients} clients, at seats: {speed:.1} thousand sessions a second, {tried:.2} commits tried for each"
-    )?;
-    Ok(())
+    )
 }
 
 pub fn report_lock<R: Runtime + AllocGlobal + Threads + Wait + Sync>(
     rt: &R,
     options: &Options,
-) -> anyhow::Result<()> {
+) -> io::Result<()> {
     let seconds = lock::time(rt, options)?;
     let Options {
         relations,
@@ -52,8 +52,7 @@ pub fn report_lock<R: Runtime + AllocGlobal + Threads + Wait + Sync>(
     let speed = speed(options, seconds);
     println!(rt;
         "{relations} relations, {clients} clients, one lock: {speed:.1} thousand sessions a second"
-    )?;
-    Ok(())
+    )
 }
 
 fn speed(options: &Options, seconds: f64) -> f64 {

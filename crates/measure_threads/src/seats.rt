@@ -5,19 +5,17 @@ ghost use Rattle.tx_table.specs.Seated.{view};
 ghost use Rattle.transactions.specs.Ready.{HasBegunSince, IsReady};
 
 use crate::counts::Counts;
-use crate::work::{CALLS, Work, drawn, opening, shape};
+use crate::work::{CALLS, Work, drawn, opening, refused, shape};
 use rand_core::SeedableRng;
 use rand_xoshiro::Xoshiro256PlusPlus;
 use seq_model::Refusal;
 use std::alloc::Global;
+use std::io;
 use std::rt::Runtime;
 use std::thread::{Threads, join};
 use std::time::Instant;
 use transactions::TxSeat;
 use tx_table::TxTable;
-
-/// A seat, and what came of its transactions.
-type Ran = (TxSeat<u64>, Counts);
 
 /// What comes of so many transactions of each thread, and the seconds that they take. There are one, two or four threads.
 pub fn time<R: Runtime + AllocGlobal + Threads + Sync>(
@@ -25,8 +23,8 @@ pub fn time<R: Runtime + AllocGlobal + Threads + Sync>(
     work: Work,
     threads: u32,
     transactions: u32,
-) -> anyhow::Result<(Counts, f64)> {
-    let (table, seat) = open(rt.alloc(), work)?;
+) -> io::Result<(Counts, f64)> {
+    let (table, seat) = open(rt.alloc(), work).map_err(refused)?;
     let start = Instant::now(rt);
     let counts = run(rt, &table, seat, work, threads, transactions);
     let seconds = start?.elapsed(rt)?.as_secs_f64();
@@ -53,12 +51,11 @@ fn run<R: Threads + Sync>(
     requires ready { IsReady table.now seat }
     requires shares { (view seat.seat).shares ≡ 64 }
 {
-    let (_, counts) = match threads {
+    match threads {
         1 => on_one(table, seat, work, transactions, 1),
         2 => on_two(rt, table, seat, work, transactions, 1),
         _ => on_four(rt, table, seat, work, transactions),
-    };
-    counts
+    }
 }
 
 fn on_four<R: Threads + Sync>(
@@ -67,28 +64,25 @@ fn on_four<R: Threads + Sync>(
     mut seat: TxSeat<u64>,
     work: Work,
     transactions: u32,
-) -> Ran
+) -> Counts
     requires ready { IsReady table.now seat }
     requires shares { 33 < (view seat.seat).shares }
-    ensures ready { IsReady table.now result.0 }
 {
     let other = seat.split(table, 32);
     let (first, second) = join(
         rt,
-        || -> Ran
+        || -> Counts
             requires sync { IsSync R.row }
             requires ready { IsReady table.now seat }
             requires shares { 1 < (view seat.seat).shares }
-            ensures ready { IsReady table.entry.now result.0 }
         { on_two(rt, table, seat, work, transactions, 1) },
-        || -> Ran
+        || -> Counts
             requires sync { IsSync R.row }
             requires ready { IsReady table.now other }
             requires shares { 1 < (view other.seat).shares }
-            ensures ready { IsReady table.entry.now result.0 }
         { on_two(rt, table, other, work, transactions, 3) },
     );
-    joined(table, first, second)
+    first.and(second)
 }
 
 fn on_two<R: Threads + Sync>(
@@ -98,37 +92,23 @@ fn on_two<R: Threads + Sync>(
     work: Work,
     transactions: u32,
     seed: u64,
-) -> Ran
+) -> Counts
     requires ready { IsReady table.now seat }
     requires shares { 1 < (view seat.seat).shares }
     requires seed { seed < 64 }
-    ensures ready { IsReady table.now result.0 }
 {
     let other = seat.split(table, 1);
     let (first, second) = join(
         rt,
-        || -> Ran
+        || -> Counts
             requires ready { IsReady table.now seat }
-            ensures ready { IsReady table.entry.now result.0 }
         { on_one(table, seat, work, transactions, seed) },
-        || -> Ran
+        || -> Counts
             requires ready { IsReady table.now other }
             requires seed { seed < 64 }
-            ensures ready { IsReady table.entry.now result.0 }
         { on_one(table, other, work, transactions, seed + 1) },
     );
-    joined(table, first, second)
-}
-
-fn joined(table: &TxTable<u64>, first: Ran, second: Ran) -> Ran
-    requires first { IsReady table.now first.0 }
-    requires second { IsReady table.now second.0 }
-    ensures ready { IsReady table.now result.0 }
-{
-    let (mut seat, counts) = first;
-    let (other, more) = second;
-    seat.join(table, other);
-    (seat, counts.and(more))
+    first.and(second)
 }
 
 fn on_one(
@@ -137,16 +117,15 @@ fn on_one(
     work: Work,
     transactions: u32,
     seed: u64,
-) -> Ran
+) -> Counts
     requires ready { IsReady table.now seat }
-    ensures ready { IsReady table.now result.0 }
 {
     let mut random = Xoshiro256PlusPlus::seed_from_u64(seed);
     let mut counts = Counts::NONE;
     'transactions: for _ in 0..transactions {
         counts.note(transact(table, &mut seat, work, &mut random));
     }
-    (seat, counts)
+    counts
 }
 
 fn transact(

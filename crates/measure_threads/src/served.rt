@@ -1,10 +1,10 @@
 //! Drawn sessions by workers on a shared table.
 ghost use Rattle.served_runs.specs.Drawn.{IsDrawable};
 
-use crate::sessions::SEED;
-use anyhow::bail;
+use crate::sessions::{SEED, no_such_sessions};
 use generated_sessions::Options;
-use served_runs::{Drawn, NoProgress, Times, run_drawn};
+use served_runs::{Drawn, NoProgress, run_drawn};
+use std::io;
 use std::rt::Runtime;
 use std::sync::Wait;
 use std::thread::Threads;
@@ -16,28 +16,26 @@ const TRIES: u64 = 1_000_000;
 pub fn time<R: Runtime + AllocGlobal + Threads + Wait + Sync>(
     rt: &R,
     options: &Options,
-) -> anyhow::Result<(f64, u32)> {
+) -> io::Result<(f64, u64)> {
     let drawn = Drawn {
         options: *options,
         seed: SEED,
         tries: TRIES,
     };
     if !options.are_within() {
-        bail!("there are no such sessions");
+        return Err(no_such_sessions());
     }
-    let times = times_of(rt, &drawn)?;
-    let commits = u32::try_from(times.commits).unwrap_or(u32::MAX);
-    Ok((times.run.as_secs_f64(), commits))
+    run(rt, &drawn)
 }
 
-fn times_of<R: Runtime + AllocGlobal + Threads + Wait + Sync>(
+fn run<R: Runtime + AllocGlobal + Threads + Wait + Sync>(
     rt: &R,
     drawn: &Drawn,
-) -> anyhow::Result<Times>
+) -> io::Result<(f64, u64)>
     requires { IsDrawable drawn.now }
 {
     match run_drawn(rt, rt.alloc(), drawn, &NoProgress) {
-        Ok(run) if run.missed == 0 => Ok(run.times),
-        _ => bail!("a session was missed, or the run has a fault"),
+        Ok(run) if run.missed == 0 => Ok((run.times.run.as_secs_f64(), run.times.commits)),
+        _ => Err(io::Error::other("a session was missed, or the run has a fault")),
     }
 }

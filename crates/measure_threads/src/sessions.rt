@@ -1,11 +1,11 @@
-//! The sessions that are run, and the tables to begin with.
-ghost use Rattle.std.specs.Prelude.{IfOk};
-ghost use Rattle.vac_model.specs.Balanced.{IsBalanced};
+//! The sessions that are run.
+ghost use Rattle.generated_sessions.specs.Options.{AreWithin};
 
-use anyhow::bail;
-use generated_sessions::{Options, generate, opening};
+use generated_sessions::{Options, generate};
+use seq_model::Memory;
 use std::alloc::Global;
-use vac_model::{Action, Tables};
+use std::io;
+use vac_model::Action;
 
 /// All is drawn from this.
 pub const SEED: u64 = 1;
@@ -23,22 +23,20 @@ pub fn options(relations: u32, clients: u32, sessions: u32) -> Options {
 }
 
 /// The sessions of each client.
-pub fn lists_of(alloc: Global, options: &Options) -> anyhow::Result<Vec<Vec<Action>>> {
+pub fn lists_of(alloc: Global, options: &Options) -> Result<Vec<Vec<Action>>, Memory>
+    requires { AreWithin options.now }
+{
     let mut lists = Vec::new(alloc);
-    if !options.are_within() {
-        bail!("there are no such sessions");
-    }
     for worker in 1..=options.clients {
         lists.push(generate(alloc, SEED, worker, options)?)?;
     }
     Ok(lists)
 }
 
-pub fn tables_of(alloc: Global, options: &Options) -> anyhow::Result<Tables>
-    ensures { IfOk result IsBalanced }
-{
-    if !options.are_within() {
-        bail!("there are no such tables");
-    }
-    Ok(opening(alloc, SEED, options)?)
+pub fn memory(_memory: Memory) -> io::Error {
+    io::Error::from(io::ErrorKind::OutOfMemory)
+}
+
+pub fn no_such_sessions() -> io::Error {
+    io::Error::other("there are no such sessions")
 }

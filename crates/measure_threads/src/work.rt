@@ -5,6 +5,7 @@ use rand_core::Rng;
 use rand_xoshiro::Xoshiro256PlusPlus;
 use seq_model::{Call, Entries, Held, Items, Memory, Op, Refusal, Shape, State};
 use std::alloc::Global;
+use std::io;
 
 /// How many words there are, or keys of the map.
 pub const KEYS: u32 = 65_536;
@@ -46,10 +47,19 @@ pub fn drawn(work: Work, random: &mut Xoshiro256PlusPlus) -> Call<u64> {
 /// Words, or a map with an entry for each key.
 pub fn opening(alloc: Global, work: Work) -> Result<State<u64>, Refusal> {
     if work.is_on_words {
-        State::new(zeros(alloc)?, Vec::new(alloc))
+        State::new(vec![in alloc; 0; KEYS as usize]?, Vec::new(alloc))
     } else {
-        State::new(Vec::new(alloc), one_map(alloc)?)
+        let map = map(alloc)?;
+        State::new(Vec::new(alloc), vec![in alloc; map]?)
     }
+}
+
+fn map(alloc: Global) -> Result<Held<u64>, Memory> {
+    let mut entries = Entries::new(alloc);
+    for key in 0..u64::from(KEYS) {
+        entries.insert(key, key)?;
+    }
+    Ok(Held::Map(entries))
 }
 
 pub fn shape(alloc: Global, work: Work) -> Result<Shape, Memory> {
@@ -60,20 +70,7 @@ pub fn shape(alloc: Global, work: Work) -> Result<Shape, Memory> {
     Ok(Shape { stripes, clock: 0 })
 }
 
-fn zeros(alloc: Global) -> Result<Vec<u64>, Memory> {
-    let mut words = Vec::new(alloc);
-    for _ in 0..KEYS {
-        words.push(0)?;
-    }
-    Ok(words)
-}
-
-fn one_map(alloc: Global) -> Result<Vec<Held<u64>>, Memory> {
-    let mut entries = Entries::new(alloc);
-    for key in 0..u64::from(KEYS) {
-        entries.insert(key, key)?;
-    }
-    let mut held = Vec::new(alloc);
-    held.push(Held::Map(entries))?;
-    Ok(held)
+/// What ends a benchmark that can't open what it is on.
+pub fn refused(_refusal: Refusal) -> io::Error {
+    io::Error::other("there is no memory for what the calls are made on")
 }

@@ -1,0 +1,197 @@
+//! The sections, and what is made of each.
+use crate::files::{Input, Output, bytes_of, ending_of};
+use crate::laid_out::print_laid_out;
+use crate::reading::print_script;
+use command_line::{DONE, MEMORY, NoProgress, file_of, run_tool};
+use seq_model::{Memory, Refusal};
+use std::alloc::{AllocError, Global};
+use std::fmt::Write;
+use std::sync::Wait;
+use std::thread::Threads;
+use std::time::Clock;
+
+/// What a run writes to has room for this many bytes, so that a write is never refused memory.
+const ROOM: usize = 65_536;
+
+/// How often a line is printed that comes so often, at most.
+const TIMES: u64 = 99;
+
+/// The sections, each by its name and what came of it. What is made of one stands at the end of its name.
+///
+/// - Behind ` | ` stand the words by which the program is run over the text, and `step -` where nothing stands there. With ` > full` it
+///   writes to what takes nothing. What it printed is told, a line that came more than 99 times with its number; then its fault, its status
+///   where that is not 0, and of what a run took the first word and the last line. In the text `\xff` is a byte, and a line behind
+///   `\times 9 ` stands so many times; a text that ends with `\fails` can't be read further, and one with `\endless` has no end.
+/// - ` = script`: the text is a script, of which each line is told as it was read.
+/// - ` = trace`: the text lays out a trace, line by line, as `laid_out` reads it. What is printed of it is told.
+/// - ` = files`: each line has words; the file that they name is told.
+pub fn run_all<H: Threads + Wait + Clock + Sync>(
+    rt: &H,
+    alloc: Global,
+    sections: &str,
+) -> Result<String, AllocError> {
+    let mut text = String::new(alloc);
+    run_each(rt, &mut text, sections)?;
+    Ok(text)
+}
+
+fn run_each<H: Threads + Wait + Clock + Sync>(
+    rt: &H,
+    text: &mut String,
+    sections: &str,
+) -> Result<(), AllocError> {
+    for section in sections.split("----\n") {
+        if let Some((name, file)) = section.split_once('\n') {
+            writeln!(text, "# {name}")?;
+            run_section(rt, text, name, file)?;
+        }
+    }
+    Ok(())
+}
+
+fn run_section<H: Threads + Wait + Clock + Sync>(
+    rt: &H,
+    text: &mut String,
+    name: &str,
+    file: &str,
+) -> Result<(), AllocError> {
+    match name.split_once(" = ") {
+        Some((_, "script")) => {
+            let outcome = print_script(text, file);
+            told(text, outcome)
+        }
+        Some((_, "trace")) => {
+            let outcome = print_laid_out(text, file);
+            told(text, outcome)
+        }
+        Some((_, "files")) => print_files(text, file),
+        _ => run_words(rt, text, name, file),
+    }
+}
+
+// A refusal is printed, but for that of memory.
+fn told(text: &mut String, outcome: Result<(), Refusal>) -> Result<(), AllocError> {
+    match outcome {
+        Ok(()) => Ok(()),
+        Err(Refusal::OutOfMemory) => Err(AllocError),
+        Err(refusal) => writeln!(text, "refused: {refusal}"),
+    }
+}
+
+fn words_of(alloc: Global, asked: &str) -> Result<Vec<String>, AllocError> {
+    let mut words = Vec::new(alloc);
+    for word in asked.split_whitespace() {
+        words.push(String::from_str(alloc, word)?)?;
+    }
+    Ok(words)
+}
+
+fn print_files(text: &mut String, lines: &str) -> Result<(), AllocError> {
+    for line in lines.lines() {
+        write!(text, "{line}: ")?;
+        print_file(text, line)?;
+        text.push('\n')?;
+    }
+    Ok(())
+}
+
+// The words' fault is told by what runs them.
+fn print_file(text: &mut String, asked: &str) -> Result<(), AllocError> {
+    let alloc = *text.allocator();
+    let words = words_of(alloc, asked)?;
+    match file_of(alloc, words.as_slice()) {
+        Ok(Some(file)) => text.push_str(file.as_str()),
+        Ok(None) => text.push_str("no file"),
+        Err(Memory) => Err(AllocError),
+    }
+}
+
+fn run_words<H: Threads + Wait + Clock + Sync>(
+    rt: &H,
+    text: &mut String,
+    name: &str,
+    file: &str,
+) -> Result<(), AllocError> {
+    let alloc = *text.allocator();
+    let (_, asked) = name.split_once(" |").unwrap_or((name, "step -"));
+    let (asked, is_full) = match asked.strip_suffix(" > full") {
+        Some(asked) => (asked, true),
+        None => (asked, false),
+    };
+    let (file, end) = ending_of(file);
+    let words = words_of(alloc, asked)?;
+    let bytes = bytes_of(alloc, file)?;
+    let mut out = output(alloc, is_full)?;
+    let mut input = Input {
+        rest: bytes.as_slice(),
+        end,
+    };
+    run_over(rt, text, words.as_slice(), &mut input, &mut out)
+}
+
+fn output(alloc: Global, is_full: bool) -> Result<Output, AllocError> {
+    let bytes = Vec::with_capacity(alloc, ROOM)?;
+    Ok(Output { bytes, is_full })
+}
+
+fn run_over<H: Threads + Wait + Clock + Sync>(
+    rt: &H,
+    text: &mut String,
+    words: &[String],
+    input: &mut Input<'_>,
+    out: &mut Output,
+) -> Result<(), AllocError> {
+    let alloc = *text.allocator();
+    let mut err = output(alloc, false)?;
+    let status = run_tool(rt, alloc, words, input, out, &mut err, &NoProgress);
+    print_run(text, status, out.bytes.as_slice(), err.bytes.as_slice())
+}
+
+fn print_run(text: &mut String, status: u8, out: &[u8], err: &[u8]) -> Result<(), AllocError> {
+    if status == MEMORY {
+        return Err(AllocError);
+    }
+    print_lines(text, text_of(out))?;
+    if status == DONE {
+        return print_times(text, text_of(err));
+    }
+    text.push_str("refused: ")?;
+    print_lines(text, text_of(err))?;
+    writeln!(text, "status {status}")
+}
+
+fn text_of(bytes: &[u8]) -> &str {
+    std::str::from_utf8(bytes).unwrap_or("no text\n")
+}
+
+fn print_lines(text: &mut String, lines: &str) -> Result<(), AllocError> {
+    let mut last = "";
+    let mut times = 0u64;
+    for line in lines.split_inclusive('\n') {
+        if line != last {
+            print_line(text, last, times)?;
+            last = line;
+            times = 0;
+        }
+        times = times.saturating_add(1);
+    }
+    print_line(text, last, times)
+}
+
+fn print_line(text: &mut String, line: &str, times: u64) -> Result<(), AllocError> {
+    if times > TIMES {
+        return write!(text, "{times} times {line}");
+    }
+    for _time in 0..times {
+        text.push_str(line)?;
+    }
+    Ok(())
+}
+
+// What a run took is never the same: its first word and its last line are.
+fn print_times(text: &mut String, times: &str) -> Result<(), AllocError> {
+    match times.split_once(' ') {
+        Some((first, rest)) => writeln!(text, "{first} .. {}", rest.lines().last().unwrap_or("")),
+        None => Ok(()),
+    }
+}
