@@ -20,3 +20,4 @@ mod ReadingLemmas
 mod GoneLemmas
 pub mod OwnLoadLemmas
 mod OwnCopyLemmas
+mod BehindLemmas

@@ -11,7 +11,7 @@ use Rattle.tx_turns.proofs.TurnLemmas.{laid_as}
 use Rattle.gate_turns.proofs.CopyLemmas.{copy_can, copy_first, copy_reads, copy_tied}
 use Rattle.gate_turns.proofs.EventLemmas.{starve_own}
 use Rattle.gate_turns.proofs.GateLemmas.{copy_due, first_here, first_out, front_same, held_base, may_put, some_held}
-use Rattle.gate_turns.proofs.gates.copy_base.Goals as goal
+use Rattle.gate_turns.proofs.gates.copy_here.Goals as goal
 
 pub copied-requires : goal.copied-requires
 copied-requires g c =
