@@ -3,7 +3,7 @@
 -- The base in hand is that of the collection in each world that is to the actor as its own, with its bases: so what the call asks of its
 -- actor is there before the step, and the step is what the actor made of itself (`copy_can`, `copy_tied`). The gate was the only one, so
 -- nothing is out afterwards.
-use Rattle.std.proofs.Common.{◌≡◌, ℕ, ◌<◌, true, true≢false, List, [], ◌∷◌, None, inr, refl, sym, ap, ◌∙◌, subst}
+use Rattle.std.proofs.Common.{◌≡◌, ℕ, ◌<◌, true, true≢false, List, [], ◌∷◌, Some, None, inr, refl, sym, ap, ◌∙◌, subst}
 use Rattle.atomic_table.specs.Table.{Me, rest}
 use Rattle.collection_machine.specs.Content.{has}
 use Rattle.replay_log.specs.declared.base.Base.{Base}
@@ -20,14 +20,19 @@ use Rattle.actor_words.specs.Requests.{HasNoReads}
 use Rattle.actor_words.specs.declared.next.Next.TheVariants as next
 use Rattle.actor_copies.specs.Copied.{CopiesFor, CopiesReached}
 use Rattle.actor_copies.specs.Sizes.{SizesCopies}
-use Rattle.tx_actor.specs.Copying.{CanCopyAt, HasTakenAt, StepsOnAt}
+use Rattle.actor_words.specs.Blocks.{BlocksView}
+use Rattle.tx_actor.specs.Copying.{CanCopy, CanCopyAt, HasTaken, HasTakenAt, StepsOn, StepsOnAt}
 use Rattle.tx_actor.specs.Having.{AsksNothing}
-use Rattle.tx_actor.specs.Keeping.{IsRunning}
-use Rattle.tx_actor.specs.Running.{Runs, stage_of}
+use Rattle.tx_actor.specs.Keeping.{IsRunning, KeepsIn}
+use Rattle.tx_actor.specs.Running.{Runs, at, stage_of}
 use Rattle.tx_actor.specs.Staying.{CopiesStayOwn}
-use Rattle.tx_actor.specs.Taking.{StarvesBehindAt}
+use Rattle.tx_actor.specs.Taking.{AreTakenAt, AreTakenFor, IsTakenCall, StarvesBehind, StarvesBehindAt}
+use Rattle.tx_actor.proofs.OwnCopyLemmas.{can_at}
 use Rattle.tx_actor.proofs.StageLemmas.{has_nothing}
+use Rattle.tx_actor.specs.declared.actor.Asked.{Asked}
+use Rattle.tx_actor.specs.declared.taking.Taken.{Taken}
 use Rattle.tx_actor.specs.declared.actor.Stage as own
+use Rattle.tx_actor.specs.declared.actor.Stage.TheVariants as stage
 use Rattle.tx_actor.specs.declared.actor.Told.{Told}
 use Rattle.tx_actor.specs.declared.actor.Told.TheVariants as told
 use Rattle.tx_actor.specs.declared.actor.TxActor.{TxActor}
@@ -205,3 +210,33 @@ module _ {V : Type 0} where
               (prepared_none q.copies.items q.stage gates);
         },
       )
+
+  -- ---- the stage of the actor
+  pub none_same : (v : BlocksView) (r m : TxActor V) (base : Base V) (k : ℕ) → next_of (stage_of r.stage) ≡ next.Copy k
+      → AreTakenAt v r m base None r.stage → m ≡ r
+  none_same v r m base k due h = subst (AreTakenAt v r m base None) (copying_is r.stage k due).1 h
+
+  pub taken_call : (v : BlocksView) (r m : TxActor V) (base : Base V) (p : Taken V) (k : ℕ) → next_of (stage_of r.stage) ≡ next.Copy k
+      → CanCopyAt v r base r.stage → AreTakenAt v r m base (Some p) r.stage
+      → (r.stage ≡ stage.Copying p.asked) × CanCopy v (at r stage.Idle) base p.asked × IsTakenCall v (at r stage.Idle) m base p
+  taken_call v r m base p k due can taken =
+      let c = copying_is r.stage k due in
+      let is : AreTakenFor v r m base c.0 (Some p) = subst (AreTakenAt v r m base (Some p)) c.1 taken in
+      let at_it : r.stage ≡ stage.Copying p.asked = c.1 ∙ ap (λ (a : Asked V). stage.Copying a) (sym is.0) in
+      (at_it, can_at v r base p.asked stage.Idle (subst (CanCopyAt v r base) at_it can), is.1)
+
+  pub steps_at : (v : BlocksView) (r q : TxActor V) (n : Told V) (base : Base V) (asked : Asked V) → r.stage ≡ stage.Copying asked
+      → StepsOn v (at r (stage.Copying asked)) q n base asked → StepsOnAt v r q n base r.stage
+  steps_at v r q n base asked st h = subst (λ (s : own.Stage V). StepsOnAt v (at r s) q n base s) (sym st) h
+
+  pub taken_at : (v : BlocksView) (r q : TxActor V) (n : Told V) (base : Base V) (asked : Asked V) → r.stage ≡ stage.Copying asked
+      → HasTaken v (at r stage.Idle) q n base asked → HasTakenAt v r q n base r.stage
+  taken_at v r q n base asked st h = subst (HasTakenAt v r q n base) (sym st) h
+
+  pub behind_at : (v : BlocksView) (r q : TxActor V) (base : Base V) (asked : Asked V) → r.stage ≡ stage.Copying asked
+      → StarvesBehind v (at r (stage.Copying asked)) q base asked → StarvesBehindAt v r q base r.stage
+  behind_at v r q base asked st h = subst (λ (s : own.Stage V). StarvesBehindAt v (at r s) q base s) (sym st) h
+
+  pub keeps_at : (v : BlocksView) (r q : TxActor V) (asked : Asked V) → r.stage ≡ stage.Copying asked
+      → KeepsIn v (at r (stage.Copying asked)) q → KeepsIn v r q
+  keeps_at v r q asked st h = subst (λ (s : own.Stage V). KeepsIn v (at r s) q) (sym st) h

@@ -1,10 +1,11 @@
 //! Turns on the gates.
 ghost use Rattle.std.specs.Prelude.{◌≡◌, ◌<◌, ◌∷◌, IfOk, OnErr, OnOk, length};
+ghost use Rattle.seq_model.specs.declared.event.Event.TheVariants.{Starve};
 ghost use Rattle.actor_words.specs.Dispatch.{next_of};
 ghost use Rattle.tx_actor.specs.Running.{stage_of};
 ghost use Rattle.tx_actor.specs.declared.actor.Told.TheVariants as told;
 ghost use Rattle.tx_table.specs.Seated.{opening_of};
-ghost use Rattle.tx_turns.specs.Asked.{Starved};
+ghost use Rattle.tx_turns.specs.Asked.{HasTaken, Starved};
 ghost use Rattle.tx_turns.specs.Ties.{Ties, Turned};
 ghost use Rattle.gate_turns.specs.Own.{HasOwn};
 ghost use Rattle.gate_turns.specs.Refused.{IsGivenUp};
@@ -27,6 +28,13 @@ pub(crate) fn first<V: Value>(bases: &mut Vec<Base<V>>) -> Base<V>
     ensures { bases.old.items ≡ result ∷ bases.new.items }
 {
     bases.remove(0)
+}
+
+/// The request of a seat is refused memory.
+fn refuse<V: Value>(seat: &mut Seat<V>)
+    ensures { HasTaken seat.old (Starve 0) seat.new }
+{
+    seat.ask(&Event::Starve(0));
 }
 
 /// A try on the gate of a collection. Where it was free its base comes into hand; where it was taken the thread yields, as the one that
@@ -122,7 +130,7 @@ fn copy_here<V: Value>(
             Ok(told)
         }
         Err(_) => {
-            seat.ask(&Event::Starve(0));
+            refuse(seat);
             Err(Memory)
         }
     }
@@ -157,21 +165,25 @@ pub fn copy_base<V: Value>(
     copies_stay_own::<V>();
     copied_stay_own::<V>();
     events_keep_copies::<V>();
-    match actor.takes(alloc, table.blocks(), &bases[0]) {
+    let blocks = table.blocks();
+    match actor.takes(alloc, blocks, &bases[0]) {
         Ok(Some(taken)) => {
             let base = first(bases);
             table.put_gate(seat, k, base);
-            match actor.goes_on_taken(alloc, table.blocks(), taken) {
+            match actor.goes_on_taken(alloc, blocks, taken) {
                 Ok(told) => Ok(told),
                 Err(_) => {
-                    seat.ask(&Event::Starve(0));
+                    refuse(seat);
                     Err(Memory)
                 }
             }
         }
-        Ok(None) => copy_here(alloc, table, seat, actor, bases, k),
+        Ok(None) => {
+            let told = copy_here(alloc, table, seat, actor, bases, k)?;
+            Ok(told)
+        }
         Err(_) => {
-            seat.ask(&Event::Starve(0));
+            refuse(seat);
             Err(Memory)
         }
     }

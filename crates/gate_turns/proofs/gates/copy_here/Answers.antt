@@ -137,11 +137,7 @@ returns-in-Err-clause-ties g c =
     let q = c.copied.new.self in
     let running = subst (λ (v : BlocksView). IsRunning v r → IsRunning v q) laid
     (c.in-Err.ensures.keeps (copy_reads c.copies_go_on.ensures t s r k c.requires.due c.requires.ties)).running c.requires.ties.running in
-    let done = starved t s c.ask.new.self r q Quiet c.requires.ties (
-      c.ask.ensures.same.0,
-      c.ask.ensures.same.1,
-      c.ask.ensures.asked,
-    ) running
+    let done = starved t s c.refuse.new.seat r q Quiet c.requires.ties c.refuse.ensures running
     c.in-Err.ensures.err in
     done.0
 
@@ -156,11 +152,7 @@ returns-in-Err-clause-starved g c =
     let q = c.copied.new.self in
     let running = subst (λ (v : BlocksView). IsRunning v r → IsRunning v q) laid
     (c.in-Err.ensures.keeps (copy_reads c.copies_go_on.ensures t s r k c.requires.due c.requires.ties)).running c.requires.ties.running in
-    let done = starved t s c.ask.new.self r q Quiet c.requires.ties (
-      c.ask.ensures.same.0,
-      c.ask.ensures.same.1,
-      c.ask.ensures.asked,
-    ) running
+    let done = starved t s c.refuse.new.seat r q Quiet c.requires.ties c.refuse.ensures running
     c.in-Err.ensures.err in
     done.1
 
@@ -175,12 +167,8 @@ returns-in-Err-clause-own g c =
     let q = c.copied.new.self in
     let running = subst (λ (v : BlocksView). IsRunning v r → IsRunning v q) laid
     (c.in-Err.ensures.keeps (copy_reads c.copies_go_on.ensures t s r k c.requires.due c.requires.ties)).running c.requires.ties.running in
-    let done = starved t s c.ask.new.self r q Quiet c.requires.ties (
-      c.ask.ensures.same.0,
-      c.ask.ensures.same.1,
-      c.ask.ensures.asked,
-    ) running
+    let done = starved t s c.refuse.new.seat r q Quiet c.requires.ties c.refuse.ensures running
     c.in-Err.ensures.err in
-    starve_own c.events_keep_copies.ensures.starves c.copies_by_stage.ensures.others t s c.ask.new.self r q Quiet bs
+    starve_own c.events_keep_copies.ensures.starves c.copies_by_stage.ensures.others t s c.refuse.new.seat r q Quiet bs
     c.requires.ties c.requires.own done.1
     done.0 c.in-Err.ensures.leaves
