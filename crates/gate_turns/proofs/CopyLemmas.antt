@@ -2,7 +2,8 @@
 --
 -- The base in hand is that of the collection in each world that is to the actor as its own, with its bases: so what the call asks of its
 -- actor is there before the step, and the step is what the actor made of itself (`copy_can`, `copy_tied`). The gate was the only one, so
--- nothing is out afterwards.
+-- nothing is out afterwards. Where memory is refused once the gate is back, the seat reads for its call by then, and takes that in as one
+-- event more (`copy_behind`).
 use Rattle.std.proofs.Common.{◌≡◌, ℕ, ◌<◌, true, true≢false, List, [], ◌∷◌, Some, None, inr, refl, sym, ap, ◌∙◌, subst}
 use Rattle.atomic_table.specs.Table.{Me, rest}
 use Rattle.collection_machine.specs.Content.{has}
@@ -214,14 +215,16 @@ module _ {V : Type 0} where
   -- ---- the stage of the actor
   pub none_same : (v : BlocksView) (r m : TxActor V) (base : Base V) (k : ℕ) → next_of (stage_of r.stage) ≡ next.Copy k
       → AreTakenAt v r m base None r.stage → m ≡ r
-  none_same v r m base k due h = subst (AreTakenAt v r m base None) (copying_is r.stage k due).1 h
+  none_same v r m base k due h =
+      let st = (copying_is r.stage k due).1 in
+      subst (AreTakenAt v r m base None) st h ∙ ap (λ (s : own.Stage V). at r s) (sym st)
 
   pub taken_call : (v : BlocksView) (r m : TxActor V) (base : Base V) (p : Taken V) (k : ℕ) → next_of (stage_of r.stage) ≡ next.Copy k
       → CanCopyAt v r base r.stage → AreTakenAt v r m base (Some p) r.stage
       → (r.stage ≡ stage.Copying p.asked) × CanCopy v (at r stage.Idle) base p.asked × IsTakenCall v (at r stage.Idle) m base p
   taken_call v r m base p k due can taken =
       let c = copying_is r.stage k due in
-      let is : AreTakenFor v r m base c.0 (Some p) = subst (AreTakenAt v r m base (Some p)) c.1 taken in
+      let is : AreTakenFor v (at r stage.Idle) m base c.0 (Some p) = subst (AreTakenAt v r m base (Some p)) c.1 taken in
       let at_it : r.stage ≡ stage.Copying p.asked = c.1 ∙ ap (λ (a : Asked V). stage.Copying a) (sym is.0) in
       (at_it, can_at v r base p.asked stage.Idle (subst (CanCopyAt v r base) at_it can), is.1)
 

@@ -3,7 +3,7 @@
 -- where memory was refused its seat is given up as one that reads (`starves_behind`). A word actor that waits for a location cancels as one
 -- that rests (`cancelled_look`), so the actor is given up where it stands.
 use Rattle.std.proofs.Common.{◌≡◌, ℕ, ◌+◌, ◌<◌, ◌==◌, ◌^◌, ◌&&◌, true, false, cond, filter, List, [], ◌∷◌, Option, Some, None, refl, sym, ap}
-use Rattle.std.proofs.Common.{arith, subst, ◌∙◌}
+use Rattle.std.proofs.Common.{subst, ◌∙◌}
 use Rattle.std.specs.Prelude.{if◌then◌else◌, not, slice_get}
 use Rattle.std.proofs.lemmas.Bool.{cond-true}
 use Rattle.tx_sets.specs.Entries.{Entries, locations, lookup}
@@ -18,11 +18,10 @@ use Rattle.collection_machine.specs.Boosted.{changes}
 use Rattle.conflict.specs.declared.outcome.Outcome.{Outcome}
 use Rattle.replay_log.specs.declared.base.Base.{Base}
 use Rattle.replay_log.specs.Base.{Shown, OfBag, OfMap, outcome_of, shown_of, stripes_of}
-use Rattle.replay_log.specs.Parts.{Kind, BagKind, MapKind, PqKind, QueueKind, kind_of}
-use Rattle.replay_log.specs.Pieces.{Piece, is_piece, piece_at, piece_in, piece_of}
+use Rattle.replay_log.specs.Parts.{Kind, BagKind, MapKind, kind_of}
+use Rattle.replay_log.specs.Pieces.{Piece, is_piece, piece_at, piece_in}
 use Rattle.replay_log.specs.Contents as contents
 use Rattle.replay_log.specs.Contents.{Block, answer, block_of, content, end_of, first_of, home_of, is_plain, reads_in, shifted, size}
-use Rattle.replay_log.specs.Contents.{size_by}
 use Rattle.replay_log.specs.Worlds as worlds
 use Rattle.replay_log.specs.Worlds.{After, Cancelling, Leaving, Seat, Stage, World, actor_of, all_of, at_stage, because, distinct, gives_up}
 use Rattle.replay_log.specs.Worlds.{has_room, is_leaving, is_stale, outcome_at, outcome_now, sized_by, starve_at, step_at, with_editions}
@@ -60,10 +59,10 @@ use Rattle.tx_actor.proofs.RoomLemmas.{alike_keeps}
 cancelled_look : (y : machine.Actor) (l : ℕ) → y.place ≡ AtRest → cancelled y ≡ cancelled (goes y (Look l))
 cancelled_look y l e = λ j. cancelled (record y { place = e j })
 
-homes_by : ℕ → List Block → machine.Actor → List ℕ
+abbrev homes_by : ℕ → List Block → machine.Actor → List ℕ
 homes_by n bs y = distinct (all_of (home_of n bs) (filter (λ l. not (is_plain n bs l)) (locations y.writes)))
 
-one_place : ℕ → Option ℕ → List ℕ
+abbrev one_place : ℕ → Option ℕ → List ℕ
 one_place f (Some i) = (f + i) ∷ []
 one_place f None = []
 
@@ -88,21 +87,6 @@ module _ {V : Type 0} where
   some_key n (OfBag m) (Add x) i e = (_, refl)
   some_key n (OfBag m) (Take x) i e = (_, refl)
   some_key n s op i e = let z : ⊥ = cc in absurd z
-
-  -- a location of a collection is a number
-  wide : (k : Kind) (n i : ℕ) → i < n → i < size_by k n
-  wide MapKind n i low = low
-  wide BagKind n i low = low
-  wide PqKind n i low = omega (arith, low)
-  wide QueueKind n i low = omega (arith, low)
-
-  pub key_within : (v : BlocksView) (r : TxActor V) (base : Base V) (asked : Asked V) (f i : ℕ) → CanCopy v r base asked
-      → ((c : Block) → block_of v.blocks asked.collection ≡ Some c → f + size c < 2 ^ 32) → i < stripes_of base → f + i < 2 ^ 32
-  key_within v r base asked f i can within low =
-      let c = can.block in
-      let all = within c can.there in
-      let here = wide c.kind c.stripes i (subst (λ (n : ℕ). i < n) can.is.stripes low) in
-      omega (arith, all, here)
 
   -- ---- given up as one that reads
   given_up_same : (a : ℕ) (t z : World V) (x p : Seat V) (n : TxActor V) → z.words ≡ t.words → z.blocks ≡ t.blocks
@@ -253,12 +237,12 @@ module _ {V : Type 0} where
     }
 
     -- ---- it is given up there
-    IsGivenUp : TxActor V → After V → Type 0
+    abbrev IsGivenUp : TxActor V → After V → Type 0
     IsGivenUp n h =
         let g = starve_at h.0 a (h.0.seats a) (h.0.seats a).stage in
         (is_loading (h.0.seats a).stage ≡ true) × (h.1 ≡ Quiet) × Runs a n g.0 × (g.1 ≡ Quiet)
 
-    IsGivenUpAt : TxActor V → Seat V → Type 0
+    abbrev IsGivenUpAt : TxActor V → Seat V → Type 0
     IsGivenUpAt n x =
         let g = starve_at z.0 a x x.stage in (is_loading x.stage ≡ true) × (z.1 ≡ Quiet) × Runs a n g.0 × (g.1 ≡ Quiet)
 

@@ -69,12 +69,13 @@ module _ {V : Type 0} where
   abbrev pub WasTaken : BlocksView → TxActor V → Taken V → Type 0
   WasTaken v u p = (r : TxActor V) × (base : Base V) × CanCopy v r base p.asked × IsTakenCall v r u base p
 
+  -- it is taken, or r is at its call still
   abbrev pub AreTakenFor : BlocksView → (r u : TxActor V) → Base V → Asked V → Option (Taken V) → Type 0
-  AreTakenFor v r u base asked None = u ≡ r
-  AreTakenFor v r u base asked (Some p) = (p.asked ≡ asked) × IsTakenCall v (at r stage.Idle) u base p
+  AreTakenFor v r u base asked None = u ≡ at r (stage.Copying asked)
+  AreTakenFor v r u base asked (Some p) = (p.asked ≡ asked) × IsTakenCall v r u base p
 
   abbrev pub AreTakenAt : BlocksView → (r u : TxActor V) → Base V → Option (Taken V) → Stage V → Type 0
-  AreTakenAt v r u base t (stage.Copying asked) = AreTakenFor v r u base asked t
+  AreTakenAt v r u base t (stage.Copying asked) = AreTakenFor v (at r stage.Idle) u base asked t
   AreTakenAt v r u base t s = (u ≡ r) × (t ≡ None)
 
   -- In every world in which the step may be taken, it tells nothing, and lets the seat read for its call; where the request is then refused

@@ -10,7 +10,7 @@ ghost use Rattle.tx_actor.specs.Dispatch.{Starves};
 ghost use Rattle.tx_actor.specs.Having.{KeepsCopies};
 ghost use Rattle.tx_actor.specs.Keeping.{KeepsIn};
 ghost use Rattle.tx_actor.specs.Running.{at};
-ghost use Rattle.tx_actor.specs.Taking.{AreTaken, AreTakenAt, AreTakenBy, IsTakenCall, StarvesBehind, WaitsForKey, WasTaken};
+ghost use Rattle.tx_actor.specs.Taking.{AreTaken, AreTakenAt, AreTakenBy, AreTakenFor, IsTakenCall, StarvesBehind, WaitsForKey, WasTaken};
 ghost use Rattle.tx_actor.specs.Taking.{key_place_in};
 ghost use Rattle.tx_actor.specs.declared.actor.Told.TheVariants as told;
 
@@ -128,7 +128,7 @@ impl<V: Value> TxActor<V> {
         asked: Asked<V>,
     ) -> Result<Option<Taken<V>>, Memory>
         requires { CanCopy blocks.now self.old base.now asked }
-        ensures ok { IfOk result (λ taken. AreTakenAt blocks.now (at self.old (Stage.Copying asked)) self.new base.now taken (Stage.Copying asked)) }
+        ensures ok { IfOk result (λ taken. AreTakenFor blocks.now self.old self.new base.now asked taken) }
         ensures err { OnErr result (Starves (at self.old (Stage.Copying asked)) self.new told.Quiet) }
         ensures keeps { OnErr result (KeepsIn blocks.now (at self.old (Stage.Copying asked)) self.new) }
         ensures leaves { OnErr result (KeepsCopies (at self.old (Stage.Copying asked)) self.new) }

@@ -1,7 +1,5 @@
-use Rattle.std.proofs.Common.{Option, inr, refl, sym, subst}
+use Rattle.std.proofs.Common.{Option, inr, sym, subst}
 use Rattle.actor_words.specs.Judged.{judged}
-use Rattle.actor_copies.specs.declared.copies.CopyOf.{CopyOf}
-use Rattle.std.specs.Prelude.{slice_get}
 use Rattle.tx_actor.specs.Answers.{CanAccept}
 use Rattle.tx_actor.specs.Having.{HasGone}
 use Rattle.tx_actor.specs.Keeping.{CanGoOn, KeepsIn}
