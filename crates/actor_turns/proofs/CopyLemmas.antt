@@ -8,7 +8,8 @@ use Rattle.std.proofs.Common.{subst}
 use Rattle.std.specs.Prelude.{length}
 use Rattle.word_machine.specs.Actor as machine
 use Rattle.seq_model.specs.Contents.{Contents}
-use Rattle.seq_model.specs.declared.event.Event.TheVariants.{Step}
+use Rattle.seq_model.specs.declared.event.Event.TheVariants.{Starve, Step}
+use Rattle.seq_model.specs.declared.event.Notice.TheVariants.{Quiet}
 use Rattle.conflict.specs.declared.outcome.Outcome.{Outcome}
 use Rattle.replay_log.specs.declared.base.Base.{Base}
 use Rattle.replay_log.specs.Base.{outcome_of, shown_of}
@@ -37,6 +38,7 @@ use Rattle.tx_actor.specs.Having.{HasCopies, HasCopiesAt, OwnsAll}
 use Rattle.tx_actor.specs.Keeping.{IsRunning, NamesAmong}
 use Rattle.tx_actor.specs.Running.{Runs, asked_of, at, is_recorded, notice_of, seat_of, stage_of}
 use Rattle.tx_actor.specs.Staying.{CopiesStayOwn}
+use Rattle.tx_actor.specs.Taking.{StarvesBehindAt}
 use Rattle.tx_actor.specs.declared.actor.Asked.{Asked}
 use Rattle.tx_actor.specs.declared.actor.Stage as own
 use Rattle.tx_actor.specs.declared.actor.Stage.TheVariants as stage
@@ -239,6 +241,27 @@ module _ {V : Type 0} where
         subst (λ (p : After V). Runs a s p.0) (sym e) after.0,
         after.1 ∙ sym (ap (λ (p : After V). p.1) e),
       )
+
+  -- ---- the turn, and a want of memory behind it
+  pub copy_starves : CopiesFor V → CopiesReached V → SizesCopies V
+      → (v : BlocksView) (o : Contents V) (w : World V) (a k : ℕ) (r s : TxActor V)
+      (base : Base V) → next_of (stage_of r.stage) ≡ next.Copy k → IsRunning v r → StarvesBehindAt v r s base r.stage
+      → IsReached o w → IsLaid v w → Runs a r w → HasCopies r w a → IsBaseIn v w k base
+      → let f = happens w (Step a) in
+      (is_loading (f.0.seats a).stage ≡ true) × (f.1 ≡ Quiet) × Runs a s (happens f.0 (Starve a)).0 × ((happens f.0 (Starve a)).1 ≡ Quiet)
+  copy_starves taken on sized v o w a k r s base due running does reached laid runs copies is =
+      let c = copying_is r.stage k due in
+      let asked = c.0 in
+      let quiet : is_loading (stage_of r.stage) ≡ false = ap (λ (q : own.Stage V). is_loading (stage_of q)) c.1 in
+      let own_seat = seated_by (w.seats a) r quiet (ap (λ (q : own.Stage V). is_recorded q) c.1) runs.0 in
+      let after = (subst (StarvesBehindAt v r s base) c.1 does) a w laid runs
+      (may taken on sized v o w a r base asked reached laid running runs copies c.1
+      (subst (λ (j : ℕ). IsBaseIn v w j base) (sym c.2) is)) in
+      let e : step_at w a (w.seats a) (w.seats a).stage ≡ step_at w a (seat_of r) (worlds.Copying (asked_of asked)) =
+      ap (λ (x : Seat V). step_at w a x x.stage) own_seat
+      ∙ ap (λ (q : own.Stage V). step_at w a (seat_of r) (stage_of q)) c.1 in
+      subst (λ (f : After V). (is_loading (f.0.seats a).stage ≡ true) × (f.1 ≡ Quiet) × Runs a s (happens f.0 (Starve a)).0
+      × ((happens f.0 (Starve a)).1 ≡ Quiet)) (sym e) after
 
   -- ---- what the actor has of collections then
   own_in : CopiesStayOwn V → (v : BlocksView) (o : Contents V) (w : World V) (a : ℕ) (r s : TxActor V) (n : Told V) (base : Base V)

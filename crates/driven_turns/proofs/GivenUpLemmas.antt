@@ -33,9 +33,11 @@ use Rattle.tx_phases.specs.Courses.{ComesTo, EndsFrom, IsUnderWay, IsUnderWayFro
 use Rattle.tx_phases.specs.Phases.{Phase, Rests, Begins, Stands, Calls, Commits, Committed, Ends, phase, phase_at}
 use Rattle.tx_turns.specs.Asked.{Starved}
 use Rattle.tx_turns.specs.Ties.{Ties}
-use Rattle.driven_turns.proofs.NextLemmas.{IsHalfway, wants_halfway}
+use Rattle.driven_turns.proofs.DrivenLemmas.{driven_on}
+use Rattle.driven_turns.proofs.NextLemmas.{IsHalfway, load_wants, turn_wants, wants_halfway}
 use Rattle.driven_turns.proofs.SinceLemmas.{told_back}
-use Rattle.driven_turns.specs.Driven.{Driven, IsTrue, Stops, WantsMemory, seat_in, standing}
+use Rattle.gate_turns.specs.Refused.{IsGivenUp}
+use Rattle.driven_turns.specs.Driven.{Driven, IsTrue, MayWant, Stops, WantsMemory, seat_in, standing}
 
 module _ {V : Type 0} where
   -- ---- a transaction that is being given up
@@ -64,7 +66,7 @@ module _ {V : Type 0} where
   abbrev IsUp : Seat V → Type 0
   IsUp x = (is_ending x.stage ≡ true) × (x.cause ≡ Some OutOfMemory)
 
-  starved_up : (w : World V) (a : ℕ) (st : Stage V) (r : After V) → WantsMemory (next_of st) → IsStarved w a st r → IsUp (r.0.seats a)
+  starved_up : (w : World V) (a : ℕ) (st : Stage V) (r : After V) → MayWant st → IsStarved w a st r → IsUp (r.0.seats a)
   starved_up w a (worlds.Trying asked tries) r h is = (is.0, is.1)
   starved_up w a (worlds.Copying asked) r h is = (is.0, is.1)
   starved_up w a (worlds.Loading o left) r h is = (is.0, is.1)
@@ -116,22 +118,30 @@ module _ {V : Type 0} where
   no_commit p calls rests e = (let f : Rests ≡ Commits calls = sym rests ∙ e in cc)
 
   -- ---- one that stopped for want of memory
-  pub stops_at : (t : TxTable V) (s u z : table.Seat V) (r : TxActor V) (said : Told V) (d : Option (Record V)) → Ties t u r
-      → Driven (opening_of t) s u told.Quiet d → WantsMemory (next_of (stage_of r.stage)) → Starved (opening_of t) u z said
-      → Stops (opening_of t) s z
-  stops_at t s u z r said d ties D wants starved =
-      let o = opening_of t in
+  pub stops_by : (o : World V) (s u z : table.Seat V) (said : Told V) (d : Option (Record V)) → Driven o s u told.Quiet d
+      → MayWant (seat_in o u).stage → Starved o u z said → Stops o s z
+  stops_by o s u z said d D wants starved =
       let x = seat_in o u in
-      let here : WantsMemory (next_of x.stage) =
-      subst WantsMemory (sym (next_as (acts o u) (seated.actor u) r ties.runs)) wants in
-      let none : d ≡ None = halfway_none (seat_in o s) x d (phase (seat_in o s)) D.comes (wants_halfway x.calls x.stage here) in
+      let none : d ≡ None = halfway_none (seat_in o s) x d (phase (seat_in o s)) D.comes (wants_halfway x.calls x.stage wants) in
       record {
         before = u;
         driven = subst (λ (k : Option (Record V)). Driven o s u told.Quiet k) none D;
-        wants = here;
+        wants = wants;
         said = said;
         starved = starved;
       }
+
+  -- at a turn, or behind the store of a gate
+  pub stops_at : (t : TxTable V) (s u z : table.Seat V) (r : TxActor V) (said : Told V) (d : Option (Record V)) → Ties t u r
+      → Driven (opening_of t) s u told.Quiet d → WantsMemory (next_of (stage_of r.stage)) → IsGivenUp (opening_of t) u r z said
+      → Stops (opening_of t) s z
+  stops_at t s u z r said d ties D wants (inl starved) =
+      let x = seat_in (opening_of t) u in
+      stops_by (opening_of t) s u z said d D
+      (turn_wants x.stage (subst WantsMemory (sym (next_as (acts (opening_of t) u) (seated.actor u) r ties.runs)) wants)) starved
+  stops_at t s u z r said d ties D wants (inr behind) =
+      stops_by (opening_of t) s behind.middle z said d (driven_on t s u behind.middle r told.Quiet d ties D behind.turned None behind.none)
+      (load_wants (seat_in (opening_of t) behind.middle).stage behind.loads) behind.starved
 
   module _ (o : World V) (s u : table.Seat V) (S : Stops o s u) where
     abbrev m : table.Seat V

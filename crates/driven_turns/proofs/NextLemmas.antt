@@ -2,7 +2,7 @@
 --
 -- Where a request is under way its actor is not at rest, and its own world has no stage with nothing left to try, to load, to take home or
 -- to put back: so some step is due. One that takes memory is due to a call, or to a commit without a record.
-use Rattle.std.proofs.Common.{◌≡◌, ℕ, true, false, List, [], ◌∷◌, Option, inl, inr, refl, sym, ◌∙◌}
+use Rattle.std.proofs.Common.{◌≡◌, ℕ, true, false, true≢false, List, [], ◌∷◌, Option, inl, inr, refl, sym, ◌∙◌}
 use Rattle.word_machine.specs.Actor as machine
 use Rattle.word_machine.specs.Actor.{Place}
 use Rattle.seq_model.specs.declared.call.Call.{Call}
@@ -29,7 +29,7 @@ use Rattle.tx_phases.specs.Courses.{IsUnderWay, IsUnderWayFrom}
 use Rattle.tx_phases.specs.Phases.{Phase, Rests, Begins, Stands, Calls, Commits, Committed, Ends, phase, phase_at}
 use Rattle.tx_threads.proofs.OwnLemmas.{own_ok}
 use Rattle.tx_turns.specs.Ties.{Ties, commits_at}
-use Rattle.driven_turns.specs.Driven.{WantsMemory, seat_in}
+use Rattle.driven_turns.specs.Driven.{MayWant, WantsMemory, seat_in}
 
 module _ {V : Type 0} where
   -- some step is due
@@ -81,7 +81,7 @@ module _ {V : Type 0} where
   IsHalfway (Commits calls) = Unit {0}
   IsHalfway p = ⊥
 
-  pub wants_halfway : (calls : List (Call V × Reply V)) (st : Stage V) → WantsMemory (next_of st) → IsHalfway (phase_at calls st)
+  pub wants_halfway : (calls : List (Call V × Reply V)) (st : Stage V) → MayWant st → IsHalfway (phase_at calls st)
   wants_halfway calls (worlds.Trying asked tries) h = tt
   wants_halfway calls (worlds.Copying asked) h = tt
   wants_halfway calls (worlds.Loading o left) h = tt
@@ -92,6 +92,14 @@ module _ {V : Type 0} where
   wants_halfway calls (worlds.Returning []) h = absurd h
   wants_halfway calls (worlds.Returning (k ∷ ks)) h = absurd h
   wants_halfway calls st h = absurd h
+
+  pub turn_wants : (st : Stage V) → WantsMemory (next_of st) → MayWant st
+  turn_wants (worlds.Loading o left) h = tt
+  turn_wants st h = h
+
+  pub load_wants : (st : Stage V) → is_loading st ≡ true → MayWant st
+  load_wants (worlds.Loading o left) e = tt
+  load_wants st e = absurd (true≢false (sym e))
 
   -- ---- what a turn makes
   pub not_loading : (t : own.Stage V) → ((o : _) (left : _) → t ≡ stage.Loading o left → ⊥) → is_loading (stage_of t) ≡ false

@@ -10,7 +10,7 @@ use Rattle.seq_model.specs.declared.record.Record.{Record}
 use Rattle.seq_model.specs.declared.refusal.Refusal.{Refusal}
 use Rattle.seq_model.specs.declared.refusal.Refusal.TheVariants.{Exhausted, OutOfMemory}
 use Rattle.replay_log.specs.Seats as worlds
-use Rattle.replay_log.specs.Seats.{World, Stage, Closing, actor_of}
+use Rattle.replay_log.specs.Seats.{World, Stage, Closing, Loading, actor_of}
 use Rattle.replay_log.specs.Worlds.{happens, run}
 use Rattle.replay_log.specs.WorldRefusals.{IsCause}
 use Rattle.atomic_steps.specs.Own.{Alike}
@@ -42,6 +42,11 @@ WantsMemory (next.TryGate k) = Unit {0}
 WantsMemory (next.Copy k) = Unit {0}
 WantsMemory next.FirstStore = Unit {0}
 WantsMemory n = ⊥
+
+-- Memory may be wanting at this stage: its turn takes some, or it reads for a call, which takes some once its gate is put back.
+abbrev pub MayWant : {V : Type 0} → Stage V → Type 0
+MayWant (Loading o left) = Unit {0}
+MayWant st = WantsMemory (next_of st)
 
 -- A writer's number is above the one at which it has begun, and no higher than this clock; a reader's is that one.
 pub record IsNumberOf {V : Type 0} (rv k : ℕ) (r : Record V) : Type 0 where
@@ -136,11 +141,11 @@ module _ {V : Type 0} where
     pub stamped : KnowsNumber o s → KnowsNumber o u
     pub numbered : KnowsNumber o s → (r : Record V) → d ≡ Some r → IsNumberOf (seat_in o s).rv (view u).clock r
 
-  -- The seat s took turns, which told nothing and made no record, up to one that takes memory, and there was none: so its request is being
-  -- given up, as the seat u is.
+  -- The seat s took turns, which told nothing and made no record, up to one that takes memory, or to the store of a call's gate, behind
+  -- which the call takes some, and there was none: so its request is being given up, as the seat u is.
   pub record Stops (o : World V) (s u : Seat V) : Type 0 where
     pub before : Seat V
     pub driven : Driven o s before told.Quiet None
-    pub wants : WantsMemory (next_of (seat_in o before).stage)
+    pub wants : MayWant (seat_in o before).stage
     pub said : Told V
     pub starved : Starved o before u said

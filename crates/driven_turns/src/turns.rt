@@ -4,9 +4,9 @@ ghost use Rattle.actor_words.specs.Dispatch.{next_of};
 ghost use Rattle.tx_actor.specs.Running.{stage_of};
 ghost use Rattle.tx_actor.specs.declared.actor.Told.{Told as Tells};
 ghost use Rattle.tx_table.specs.Seated.{actor as actor_of_seat, opening_of};
-ghost use Rattle.tx_turns.specs.Asked.{Starved};
 ghost use Rattle.tx_turns.specs.Ties.{Ties, Turned, commits};
 ghost use Rattle.gate_turns.specs.Own.{HasOwn};
+ghost use Rattle.gate_turns.specs.Refused.{IsGivenUp};
 ghost use Rattle.driven_turns.specs.Driven.{WantsMemory, as_receipts};
 
 use actor_words::Next;
@@ -82,7 +82,7 @@ fn try_next<V: Value>(
     ensures turned { IfOk result (Turned (opening_of table.now) seat.old actor.old seat.new) }
     ensures ties { Ties table.now seat.new actor.new }
     ensures own { HasOwn table.now seat.new actor.new bases.new.items }
-    ensures starved { OnErr result ((said : Tells V) × Starved (opening_of table.now) seat.old seat.new said) }
+    ensures starved { OnErr result ((said : Tells V) × IsGivenUp (opening_of table.now) seat.old actor.old seat.new said) }
 {
     turns_keep_own::<V>();
     match try_gate(table, seat, actor, bases, k) {
@@ -109,7 +109,7 @@ fn store_next<V: Value>(
     ensures receipt { IfOk result (λ done. commits (actor_of_seat seat.old) actor.old ≡ as_receipts (actor_of_seat seat.old) done.1) }
     ensures ties { Ties table.now seat.new actor.new }
     ensures own { HasOwn table.now seat.new actor.new bases.new.items }
-    ensures starved { OnErr result ((said : Tells V) × Starved (opening_of table.now) seat.old seat.new said) }
+    ensures starved { OnErr result ((said : Tells V) × IsGivenUp (opening_of table.now) seat.old actor.old seat.new said) }
 {
     turns_keep_own::<V>();
     match commit(alloc, table, seat, actor, bases) {
@@ -140,7 +140,7 @@ fn turn_apart<V: Value>(
     ensures receipt { IfOk result (λ done. commits (actor_of_seat seat.old) actor.old ≡ as_receipts (actor_of_seat seat.old) done.1) }
     ensures ties { Ties table.now seat.new actor.new }
     ensures own { HasOwn table.now seat.new actor.new bases.new.items }
-    ensures starved { OnErr result ((said : Tells V) × Starved (opening_of table.now) seat.old seat.new said) }
+    ensures starved { OnErr result ((said : Tells V) × IsGivenUp (opening_of table.now) seat.old actor.old seat.new said) }
     ensures wants { OnErr result (WantsMemory (next_of (stage_of actor.old.stage))) }
 {
     match next {
@@ -155,7 +155,8 @@ fn turn_apart<V: Value>(
 }
 
 /// The next turn of a request that is under way, with the receipt that it makes. Where memory is wanting, which only a try of a gate, what
-/// a call copies and the first value store of a commit take, no step is taken, and the request is given up.
+/// a call copies and the first value store of a commit take, the request is given up: no step is taken, or the gate of a call that is to
+/// read a location was put back.
 pub fn turn<V: Value>(
     alloc: Global,
     table: &TxTable<V>,
@@ -170,7 +171,7 @@ pub fn turn<V: Value>(
     ensures receipt { IfOk result (λ done. commits (actor_of_seat seat.old) actor.old ≡ as_receipts (actor_of_seat seat.old) done.1) }
     ensures ties { Ties table.now seat.new actor.new }
     ensures own { HasOwn table.now seat.new actor.new bases.new.items }
-    ensures starved { OnErr result ((said : Tells V) × Starved (opening_of table.now) seat.old seat.new said) }
+    ensures starved { OnErr result ((said : Tells V) × IsGivenUp (opening_of table.now) seat.old actor.old seat.new said) }
     ensures wants { OnErr result (WantsMemory (next_of (stage_of actor.old.stage))) }
 {
     match actor.next() {

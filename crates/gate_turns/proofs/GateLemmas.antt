@@ -50,7 +50,7 @@ use Rattle.tx_table.proofs.Gates.{none_base, puts_spot, tries_spot}
 use Rattle.tx_table.proofs.Keeps.{base_trans}
 use Rattle.tx_table.proofs.Turned.{found_alike}
 use Rattle.tx_turns.specs.Ties.{IsOnWord, Ties, Turned, laid_in}
-use Rattle.tx_turns.proofs.TurnLemmas.{tied}
+use Rattle.tx_turns.proofs.TurnLemmas.{tied, turned_by}
 use Rattle.gate_turns.specs.Bases.{AreBases, IsBaseIn, gates_at, slots_of}
 use Rattle.gate_turns.specs.Own.{HasOwn}
 use Rattle.gate_turns.proofs.BasesLemmas.{are_more, are_stay, base_stays, first_base, gates_is, prepared_no, put_shows, slots_more}
@@ -134,6 +134,11 @@ module _ {V : Type 0} where
     gate_tied running goes =
         tied t s u r q n (view s).clock found base bases ties takes (omega arith) (λ e. absurd (word_gate _ ClockCell k e at))
         (λ on. absurd (off on)) running (turn_runs t s u r (view s).clock found base bases ties takes q n goes)
+
+    pub gate_turned : notice_of me n ≡ (happens there (Step me)).1 → Turned (opening_of t) s r u n
+    gate_turned tells =
+        turned_by t s u r n (view s).clock found base bases ties takes (omega arith) (λ e. absurd (word_gate _ ClockCell k e at))
+        (λ on. absurd (off on)) (tells ∙ takes.happened.same.1)
 
     pub gate_kept : StepsKeep V → OthersLaw V → (bs : List (Base V)) → HasOwn t s r bs → Ties t u q → KeepsCopies r q
         → is_loading (stage_of r.stage) ≡ false → ((asked : Asked V) → stage_of r.stage ≡ Copying asked → ⊥)

@@ -1,3 +1,4 @@
 pub mod Bases
 pub mod Own
 pub mod Laws
+pub mod Refused

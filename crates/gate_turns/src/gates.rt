@@ -1,12 +1,14 @@
 //! Turns on the gates.
 ghost use Rattle.std.specs.Prelude.{◌≡◌, ◌<◌, ◌∷◌, IfOk, OnErr, OnOk, length};
+ghost use Rattle.seq_model.specs.declared.event.Event.TheVariants.{Starve};
 ghost use Rattle.actor_words.specs.Dispatch.{next_of};
 ghost use Rattle.tx_actor.specs.Running.{stage_of};
 ghost use Rattle.tx_actor.specs.declared.actor.Told.TheVariants as told;
 ghost use Rattle.tx_table.specs.Seated.{opening_of};
-ghost use Rattle.tx_turns.specs.Asked.{Starved};
+ghost use Rattle.tx_turns.specs.Asked.{HasTaken, Starved};
 ghost use Rattle.tx_turns.specs.Ties.{Ties, Turned};
 ghost use Rattle.gate_turns.specs.Own.{HasOwn};
+ghost use Rattle.gate_turns.specs.Refused.{IsGivenUp};
 
 use actor_copies::{copied_as_worlds, copies_go_on, copies_stay, sizes_copies};
 use actor_turns::laws::events_keep_copies;
@@ -26,6 +28,13 @@ pub(crate) fn first<V: Value>(bases: &mut Vec<Base<V>>) -> Base<V>
     ensures { bases.old.items ≡ result ∷ bases.new.items }
 {
     bases.remove(0)
+}
+
+/// The request of a seat is refused memory.
+fn refuse<V: Value>(seat: &mut Seat<V>)
+    ensures { HasTaken seat.old (Starve 0) seat.new }
+{
+    seat.ask(&Event::Starve(0));
 }
 
 /// A try on the gate of a collection. Where it was free its base comes into hand; where it was taken the thread yields, as the one that
@@ -88,10 +97,8 @@ pub fn put_gate<V: Value>(
     actor.put_gate()
 }
 
-/// What the call of an actor touches of its collection's base is copied, and the gate is put back with the base as it was. `TooLong` where
-/// its locations don't fit the sets, else it is accepted, or a location is read first, or the transaction is given up, as the copy is
-/// stale. Where there is no memory for it no step is taken, and the transaction is given up as one that starves, which holds its gate.
-pub fn copy_base<V: Value>(
+/// As [`copy_base`], of a call for which all is made ready before the gate is put back: where there is no memory for it no step is taken.
+fn copy_here<V: Value>(
     alloc: Global,
     table: &TxTable<V>,
     seat: &mut Seat<V>,
@@ -123,7 +130,60 @@ pub fn copy_base<V: Value>(
             Ok(told)
         }
         Err(_) => {
-            seat.ask(&Event::Starve(0));
+            refuse(seat);
+            Err(Memory)
+        }
+    }
+}
+
+/// What the call of an actor touches of its collection's base is copied, and the gate is put back with the base as it was. `TooLong` where
+/// its locations don't fit the sets, else it is accepted, or a location is read first, or the transaction is given up, as the copy is
+/// stale. Where a location is to be read first, the gate is put back before the call is made ready. Where there is no memory for it the
+/// transaction is given up as one that starves: it holds its gate and no step is taken, or the gate was put back and it waits for a location.
+pub fn copy_base<V: Value>(
+    alloc: Global,
+    table: &TxTable<V>,
+    seat: &mut Seat<V>,
+    actor: &mut TxActor<V>,
+    bases: &mut Vec<Base<V>>,
+    k: u32,
+) -> Result<Told<V>, Memory>
+    requires ties { Ties table.now seat.old actor.old }
+    requires own { HasOwn table.now seat.old actor.old bases.old.items }
+    requires due { next_of (stage_of actor.old.stage) ≡ Next.Copy k }
+    ensures turned { IfOk result (Turned (opening_of table.now) seat.old actor.old seat.new) }
+    ensures ties { Ties table.now seat.new actor.new }
+    ensures own { HasOwn table.now seat.new actor.new bases.new.items }
+    ensures starved { OnErr result (IsGivenUp (opening_of table.now) seat.old actor.old seat.new told.Quiet) }
+{
+    steps_as_worlds::<V>();
+    copied_as_worlds::<V>();
+    copies_go_on::<V>();
+    sizes_copies::<V>();
+    copies_stay::<V>();
+    copies_by_stage::<V>();
+    copies_stay_own::<V>();
+    copied_stay_own::<V>();
+    events_keep_copies::<V>();
+    let blocks = table.blocks();
+    match actor.takes(alloc, blocks, &bases[0]) {
+        Ok(Some(taken)) => {
+            let base = first(bases);
+            table.put_gate(seat, k, base);
+            match actor.goes_on_taken(alloc, blocks, taken) {
+                Ok(told) => Ok(told),
+                Err(_) => {
+                    refuse(seat);
+                    Err(Memory)
+                }
+            }
+        }
+        Ok(None) => {
+            let told = copy_here(alloc, table, seat, actor, bases, k)?;
+            Ok(told)
+        }
+        Err(_) => {
+            refuse(seat);
             Err(Memory)
         }
     }

@@ -80,12 +80,12 @@ editions_stay s gates shadows false = refl
 some_copied : {V : Type 0} → (c d : Copied V) → Some c ≡ Some d → c ≡ d
 some_copied c d e = cc
 
-same_block : (b c : Block) → Some b ≡ Some c → b ≡ c
+pub same_block : (b c : Block) → Some b ≡ Some c → b ≡ c
 same_block b c e = cc
 
 module _ {V : Type 0} where
   -- ---- what is taken can be made ready
-  of_its_block : (v : BlocksView) (r : TxActor V) (base : Base V) (asked : Asked V) → (can : CanCopy v r base asked) → (c : Copied V)
+  pub of_its_block : (v : BlocksView) (r : TxActor V) (base : Base V) (asked : Asked V) → (can : CanCopy v r base asked) → (c : Copied V)
       → copy_of r.copies.items asked.collection ≡ Some c
       → (kind_of (shown_of (base_in c)) ≡ can.block.kind) × (stripes_of (base_in c) ≡ can.block.stripes)
   of_its_block v r base asked can c e =
@@ -171,7 +171,7 @@ module _ {V : Type 0} where
       (subst (λ (p : After V). Runs a n p.0) e (does a w (s.1 ∙ sym h.words)), refl)
 
   -- ---- what the world makes of it
-  sized_back : (w : World V) (a : ℕ) (call : contents.Asked V) → let t = put_back a w call in
+  pub sized_back : (w : World V) (a : ℕ) (call : contents.Asked V) → let t = put_back a w call in
       let own = outcome_at t a call in
       let es = with_editions w.boosted.editions ((content w.words w.blocks).reads own) in
       sized_by t a call own ≡ cond (is_stale (actor_of w a).reads es) (outcome_now t call) own

@@ -19,4 +19,5 @@ pub mod StageLemmas
 mod ReadingLemmas
 mod GoneLemmas
 pub mod OwnLoadLemmas
-mod OwnCopyLemmas
+pub mod OwnCopyLemmas
+mod BehindLemmas

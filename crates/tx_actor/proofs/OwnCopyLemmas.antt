@@ -219,7 +219,7 @@ module _ {V : Type 0} where
         passed_on (accepts_all v w a r u base asked b found i x laid can s may there is ready) now_is after now tells got
 
   -- ---- the law
-  can_at : (v : BlocksView) (r : TxActor V) (base : Base V) (asked : Asked V) (s : own.Stage V) → CanCopy v r base asked
+  pub can_at : (v : BlocksView) (r : TxActor V) (base : Base V) (asked : Asked V) (s : own.Stage V) → CanCopy v r base asked
       → CanCopy v (at r s) base asked
   can_at v r base asked s c = record {
     rests = c.rests;

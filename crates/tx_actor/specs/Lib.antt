@@ -13,3 +13,4 @@ pub mod Loading
 pub mod Seated
 pub mod Having
 pub mod Staying
+pub mod Taking

@@ -17,6 +17,8 @@ mod logs;
 mod next;
 mod prepares;
 mod steps;
+mod taking;
 
 pub use actor::{Answered, Asked, Stage, Told, TxActor};
 pub use prepares::Prepared;
+pub use taking::Taken;

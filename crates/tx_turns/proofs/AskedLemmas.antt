@@ -30,7 +30,7 @@ use Rattle.tx_actor.specs.declared.actor.TxActor.{TxActor}
 use Rattle.tx_table.specs.declared.seat.Seat as table
 use Rattle.tx_table.specs.declared.table.TxTable.{TxTable}
 use Rattle.tx_table.specs.Opening.{blocks_at, world_at}
-use Rattle.tx_table.specs.Seated.{acts, opening_of, view}
+use Rattle.tx_table.specs.Seated.{Owns, acts, opening_of, view}
 use Rattle.tx_table.specs.Seated as seated
 use Rattle.tx_table.specs.Shown.{IsReached, SameBases, highest_clock}
 use Rattle.tx_table.proofs.Keeps.{asked_bases}
@@ -84,19 +84,24 @@ module _ {V : Type 0} where
       (asked_bases a (Starve b ∷ []) (run o h.events) w h.alike h.bases) (one_step (run o h.events) (Starve a))
 
   -- the seat is tied to the actor that is its own world's by then
-  pub taken_tied : (t : TxTable V) (s u : table.Seat V) (r q : TxActor V) (e : Event V) → Ties t s r → HasTaken s e u
-      → IsRunning (laid_in t) q → Runs (seated.actor s) q (happens (acts (opening_of t) s) (turns.own (seated.actor s) e)).0 → Ties t u q
-  taken_tied t s u r q e ties has running runs =
+  pub seat_tied : (t : TxTable V) (s u : table.Seat V) (q : TxActor V) (e : Event V) → Owns t s → 0 < (view s).shares
+      → IsReached (opening_of t) (seated.actor s) (acts (opening_of t) s) → HasTaken s e u → IsRunning (laid_in t) q
+      → Runs (seated.actor s) q (happens (acts (opening_of t) s) (turns.own (seated.actor s) e)).0 → Ties t u q
+  seat_tied t s u q e owns live reached has running runs =
       let a = seated.actor s in
       let own_is = acts_taken (opening_of t) s u e has in
       record {
-        owns = has.0.0 ∙ ties.owns;
-        live = subst (λ (v : View V). 0 < v.shares) (sym (ap (λ m. m.0) has.1)) ties.live;
+        owns = has.0.0 ∙ owns;
+        live = subst (λ (v : View V). 0 < v.shares) (sym (ap (λ m. m.0) has.1)) live;
         reached = subst (λ (z : ℕ × World V). IsReached (opening_of t) z.0 z.1) (λ i. (sym has.0.1 i, sym own_is i))
-            (reached_own (opening_of t) a (acts (opening_of t) s) e ties.reached);
+            (reached_own (opening_of t) a (acts (opening_of t) s) e reached);
         runs = subst (λ (z : ℕ × World V). Runs z.0 q z.1) (λ i. (sym has.0.1 i, sym own_is i)) runs;
         running = running;
       }
+
+  pub taken_tied : (t : TxTable V) (s u : table.Seat V) (r q : TxActor V) (e : Event V) → Ties t s r → HasTaken s e u
+      → IsRunning (laid_in t) q → Runs (seated.actor s) q (happens (acts (opening_of t) s) (turns.own (seated.actor s) e)).0 → Ties t u q
+  taken_tied t s u r q e ties has running runs = seat_tied t s u q e ties.owns ties.live ties.reached has running runs
 
   -- ---- a want of memory
   pub starved : (t : TxTable V) (s u : table.Seat V) (r q : TxActor V) (n : Told V) → Ties t s r → HasTaken s (Starve 0) u

@@ -136,6 +136,27 @@ module _ {V : Type 0} where
       heard
 
   -- ---- the turn
+  -- the turn of a seat whose step in the own world tells this
+  pub turned_by : (t : TxTable V) (s u : table.Seat V) (r : TxActor V) (n : Told V) (clock found : ℕ) (base : Option (Base V))
+      (bases : List (ℕ × Slot V)) → Ties t s r → Takes (opening_of t) s clock found base bases u → (view s).clock ≤ clock
+      → (spot (seated.actor s) (acts (opening_of t) s) ≡ Word ClockCell
+      → clock ≡ seated.turned (seated.actor s) (acts (opening_of t) s) found)
+      → (IsOnWord (next_of (stage_of r.stage)) → bases ≡ seated.out s)
+      → notice_of (seated.actor s) n ≡ (moved (seated.actor s) (acts (opening_of t) s) found base).1 → Turned (opening_of t) s r u n
+  turned_by t s u r n clock found base bases ties takes rises clocks outs tells = record {
+    clock = clock;
+    found = found;
+    base = base;
+    bases = bases;
+    takes = takes;
+    rises = rises;
+    clocks = clocks;
+    outs = λ on. takes.held ∙ outs on;
+    gains = ap (λ (v : View V). v.receipts) takes.turn
+        ∙ ap (λ (rs : List (ℕ × Record V)). (view s).receipts ++ rs) (ends_as (acts (opening_of t) s) (seated.actor s) r ties.runs);
+    tells = tells;
+  }
+
   -- what the seat and its actor are after a step that is so in the own world
   pub tied : (t : TxTable V) (s u : table.Seat V) (r q : TxActor V) (n : Told V) (clock found : ℕ) (base : Option (Base V))
       (bases : List (ℕ × Slot V)) → Ties t s r → Takes (opening_of t) s clock found base bases u → (view s).clock ≤ clock
@@ -154,19 +175,7 @@ module _ {V : Type 0} where
       runs = subst (λ (z : ℕ × World V). Runs z.0 q z.1) (λ i. (sym takes.seat.1 i, sym takes.own i)) turn.0;
       running = running;
     },
-    record {
-      clock = clock;
-      found = found;
-      base = base;
-      bases = bases;
-      takes = takes;
-      rises = rises;
-      clocks = clocks;
-      outs = λ on. takes.held ∙ outs on;
-      gains = ap (λ (v : View V). v.receipts) takes.turn
-          ∙ ap (λ (rs : List (ℕ × Record V)). (view s).receipts ++ rs) (ends_as (acts (opening_of t) s) (seated.actor s) r ties.runs);
-      tells = turn.1;
-    },
+    turned_by t s u r n clock found base bases ties takes rises clocks outs turn.1,
   )
 
   -- the stage of the own world, with what fits it

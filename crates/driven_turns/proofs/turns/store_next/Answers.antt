@@ -1,3 +1,4 @@
+use Rattle.std.proofs.Common.{inl}
 use Rattle.tx_table.specs.Seated.{actor}
 use Rattle.driven_turns.proofs.NextLemmas.{makes_one}
 use Rattle.driven_turns.proofs.turns.store_next.Goals as goal
@@ -12,3 +13,6 @@ returns-in-Err-clause-own g c =
     c.turns_keep_own.ensures.starves c.args.table.now c.commit.new.seat c.starve.new.seat c.commit.new.actor c.starve.new.actor
     c.starve.result c.commit.new.bases.items c.commit.ensures.ties c.commit.ensures.own c.starve.ensures.starved
     c.starve.ensures.ties c.starve.ensures.leaves
+
+pub returns-in-Err-clause-starved : goal.returns-in-Err-clause-starved
+returns-in-Err-clause-starved g c = (c.starve.result, inl c.starve.ensures.starved)

@@ -1,3 +1,4 @@
+use Rattle.std.proofs.Common.{inl}
 use Rattle.driven_turns.proofs.turns.try_next.Goals as goal
 
 pub returns-in-Err-clause-own : goal.returns-in-Err-clause-own
@@ -5,3 +6,6 @@ returns-in-Err-clause-own g c =
     c.turns_keep_own.ensures.starves c.args.table.now c.try_gate.new.seat c.starve.new.seat c.try_gate.new.actor c.starve.new.actor
     c.starve.result c.try_gate.new.bases.items c.try_gate.ensures.ties c.try_gate.ensures.own c.starve.ensures.starved
     c.starve.ensures.ties c.starve.ensures.leaves
+
+pub returns-in-Err-clause-starved : goal.returns-in-Err-clause-starved
+returns-in-Err-clause-starved g c = (c.starve.result, inl c.starve.ensures.starved)
