@@ -50,7 +50,7 @@ use Rattle.tx_table.specs.Seated as seated
 use Rattle.tx_table.specs.Seated.{Takes, acts, opening_of, out, view}
 use Rattle.tx_table.specs.Turns.{moved}
 use Rattle.tx_table.proofs.Gates.{puts_spot}
-use Rattle.tx_turns.specs.Asked.{HasTaken}
+use Rattle.tx_turns.specs.Asked.{HasTaken as HasHeard}
 use Rattle.tx_turns.specs.Ties.{IsOnWord, Ties, Turned, commits_at, laid_in}
 use Rattle.tx_turns.proofs.AskedLemmas.{acts_taken, seat_tied}
 use Rattle.gate_turns.specs.Bases.{AreBases, ArePreparedAt, IsBaseIn, gates_at, slots_of}
@@ -153,7 +153,7 @@ module _ {V : Type 0} where
   pub copy_behind : AreSteps V → CopiesFor V → CopiesReached V → SizesCopies V → BlocksLaw V → OthersLaw V
       → (t : TxTable V) (s m u : table.Seat V) (r q : TxActor V) (k : ℕ) (bs cs : List (Base V)) (b : Base V)
       → next_of (stage_of r.stage) ≡ next.Copy k → Ties t s r → HasOwn t s r bs → bs ≡ b ∷ cs
-      → Takes (opening_of t) s (view s).clock 1 None (rest (out s)) m → HasTaken m (Starve 0) u
+      → Takes (opening_of t) s (view s).clock 1 None (rest (out s)) m → HasHeard m (Starve 0) u
       → StarvesBehindAt (laid_in t) r q b r.stage → AsksNothing q → IsRunning (laid_in t) q
       → Ties t u q × IsGivenUp (opening_of t) s r u told.Quiet × HasOwn t u q cs
   copy_behind steps taken on sized of law t s m u r q k bs cs b due ties own hand takes has does nothing running =

@@ -12,7 +12,7 @@ mod AskLemmas
 mod LoadLemmas
 mod HearLemmas
 mod SeatedLemmas
-mod HavingLemmas
+pub mod HavingLemmas
 mod RoomLemmas
 mod HeardLemmas
 pub mod StageLemmas
