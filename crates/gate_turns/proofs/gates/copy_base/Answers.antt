@@ -11,9 +11,11 @@ use Rattle.tx_actor.specs.Copying.{CanCopyAt, HasTakenAt, StepsOnAt}
 use Rattle.tx_actor.specs.Keeping.{IsRunning}
 use Rattle.tx_actor.specs.Running.{at}
 use Rattle.tx_actor.specs.Taking.{AreTakenAt, StarvesBehindAt, WasTaken}
-use Rattle.tx_table.specs.Seated.{blocks_in}
+use Rattle.tx_table.specs.Seated.{blocks_in, opening_of}
+use Rattle.tx_turns.specs.Ties.{Turned}
 use Rattle.tx_turns.proofs.AskedLemmas.{starved}
 use Rattle.tx_turns.proofs.TurnLemmas.{laid_as}
+use Rattle.gate_turns.specs.Own.{HasOwn}
 use Rattle.gate_turns.proofs.CopyLemmas.{behind_at, copy_behind, copy_can, copy_first, copy_reads, copy_tied, keeps_at, none_same}
 use Rattle.gate_turns.proofs.CopyLemmas.{steps_at, taken_at, taken_call}
 use Rattle.gate_turns.proofs.EventLemmas.{starve_own}
@@ -27,8 +29,8 @@ takes-requires g c =
     let r = c.args.actor.now in
     let k = c.args.k in
     let bs = c.args.bases.now.items in
-    let v = c.blocks.result.now in
-    let laid = laid_as t v c.blocks.ensures.words c.blocks.ensures.blocks in
+    let v = c.blocks-blocks.result.now in
+    let laid = laid_as t v c.blocks-blocks.ensures.words c.blocks-blocks.ensures.blocks in
     let front = first_here bs c.index.result.now
     (some_held t s r k [] bs (copy_first r.stage k c.requires.due) c.requires.own) c.index.ensures in
     subst (λ (z : BlocksView). CanCopyAt z r c.index.result.now r.stage) (sym laid)
@@ -73,8 +75,8 @@ goes_on_taken-requires g c =
     let r = c.args.actor.now in
     let k = c.args.k in
     let bs = c.args.bases.now.items in
-    let v = c.blocks.result.now in
-    let laid = laid_as t v c.blocks.ensures.words c.blocks.ensures.blocks in
+    let v = c.blocks-blocks.result.now in
+    let laid = laid_as t v c.blocks-blocks.ensures.words c.blocks-blocks.ensures.blocks in
     let front = first_here bs c.index.result.now
     (some_held t s r k [] bs (copy_first r.stage k c.requires.due) c.requires.own) c.index.ensures in
     let can = subst (λ (z : BlocksView). CanCopyAt z r c.index.result.now r.stage) (sym laid)
@@ -88,15 +90,15 @@ goes_on_taken-requires g c =
     let asked = c.in-Ok-Some.taken.asked in
     (at r stage.Idle, base, call.1, call.2)
 
-pub returns-in-Ok-Some-in-Ok-clause-turned : goal.returns-in-Ok-Some-in-Ok-clause-turned
-returns-in-Ok-Some-in-Ok-clause-turned g c =
+pub returns-in-Ok-clause-turned : goal.returns-in-Ok-clause-turned
+returns-in-Ok-clause-turned g c =
     let t = c.args.table.now in
     let s = c.args.seat.now in
     let r = c.args.actor.now in
     let k = c.args.k in
     let bs = c.args.bases.now.items in
-    let v = c.blocks.result.now in
-    let laid = laid_as t v c.blocks.ensures.words c.blocks.ensures.blocks in
+    let v = c.blocks-blocks.result.now in
+    let laid = laid_as t v c.blocks-blocks.ensures.words c.blocks-blocks.ensures.blocks in
     let front = first_here bs c.index.result.now
     (some_held t s r k [] bs (copy_first r.stage k c.requires.due) c.requires.own) c.index.ensures in
     let can = subst (λ (z : BlocksView). CanCopyAt z r c.index.result.now r.stage) (sym laid)
@@ -114,8 +116,8 @@ returns-in-Ok-Some-in-Ok-clause-turned g c =
     let keeps = keeps_at v r q asked call.0 (c.goes_on_taken.ensures.keeps (at r stage.Idle) base call.1 call.2
     (copy_reads c.copies_go_on.ensures t s r k c.requires.due c.requires.ties)) in
     let running = subst (λ (z : BlocksView). IsRunning z r → IsRunning z q) laid keeps.running c.requires.ties.running in
-    let does = c.in-Ok-Some-in-Ok.ensures.ok (at r stage.Idle) base call.1 call.2 in
-    let n = c.in-Ok-Some-in-Ok.told in
+    let does = c.in-Ok.ensures.ok (at r stage.Idle) base call.1 call.2 in
+    let n = c.in-Ok.told in
     (copy_tied c.steps_as_worlds.ensures c.copied_stay_own.ensures c.copied_as_worlds.ensures c.copies_go_on.ensures
     c.sizes_copies.ensures.sizes c.copies_stay_own.ensures.blocks c.copies_by_stage.ensures.others t s c.put_gate.new.seat r q
     n k bs c.first-base.new.bases.items b c.requires.due c.requires.ties c.requires.own c.first-base.ensures c.put_gate.ensures
@@ -124,15 +126,15 @@ returns-in-Ok-Some-in-Ok-clause-turned g c =
     (subst (λ (z : BlocksView × Base g.row.V.Denot). HasTakenAt z.0 r q n z.1 r.stage) (λ i. (laid i, same i))
     (taken_at v r q n base asked call.0 does.1)) running).1
 
-pub returns-in-Ok-Some-in-Ok-clause-ties : goal.returns-in-Ok-Some-in-Ok-clause-ties
-returns-in-Ok-Some-in-Ok-clause-ties g c =
+pub returns-in-Ok-clause-ties : goal.returns-in-Ok-clause-ties
+returns-in-Ok-clause-ties g c =
     let t = c.args.table.now in
     let s = c.args.seat.now in
     let r = c.args.actor.now in
     let k = c.args.k in
     let bs = c.args.bases.now.items in
-    let v = c.blocks.result.now in
-    let laid = laid_as t v c.blocks.ensures.words c.blocks.ensures.blocks in
+    let v = c.blocks-blocks.result.now in
+    let laid = laid_as t v c.blocks-blocks.ensures.words c.blocks-blocks.ensures.blocks in
     let front = first_here bs c.index.result.now
     (some_held t s r k [] bs (copy_first r.stage k c.requires.due) c.requires.own) c.index.ensures in
     let can = subst (λ (z : BlocksView). CanCopyAt z r c.index.result.now r.stage) (sym laid)
@@ -150,8 +152,8 @@ returns-in-Ok-Some-in-Ok-clause-ties g c =
     let keeps = keeps_at v r q asked call.0 (c.goes_on_taken.ensures.keeps (at r stage.Idle) base call.1 call.2
     (copy_reads c.copies_go_on.ensures t s r k c.requires.due c.requires.ties)) in
     let running = subst (λ (z : BlocksView). IsRunning z r → IsRunning z q) laid keeps.running c.requires.ties.running in
-    let does = c.in-Ok-Some-in-Ok.ensures.ok (at r stage.Idle) base call.1 call.2 in
-    let n = c.in-Ok-Some-in-Ok.told in
+    let does = c.in-Ok.ensures.ok (at r stage.Idle) base call.1 call.2 in
+    let n = c.in-Ok.told in
     (copy_tied c.steps_as_worlds.ensures c.copied_stay_own.ensures c.copied_as_worlds.ensures c.copies_go_on.ensures
     c.sizes_copies.ensures.sizes c.copies_stay_own.ensures.blocks c.copies_by_stage.ensures.others t s c.put_gate.new.seat r q
     n k bs c.first-base.new.bases.items b c.requires.due c.requires.ties c.requires.own c.first-base.ensures c.put_gate.ensures
@@ -160,15 +162,15 @@ returns-in-Ok-Some-in-Ok-clause-ties g c =
     (subst (λ (z : BlocksView × Base g.row.V.Denot). HasTakenAt z.0 r q n z.1 r.stage) (λ i. (laid i, same i))
     (taken_at v r q n base asked call.0 does.1)) running).0
 
-pub returns-in-Ok-Some-in-Ok-clause-own : goal.returns-in-Ok-Some-in-Ok-clause-own
-returns-in-Ok-Some-in-Ok-clause-own g c =
+pub returns-in-Ok-clause-own : goal.returns-in-Ok-clause-own
+returns-in-Ok-clause-own g c =
     let t = c.args.table.now in
     let s = c.args.seat.now in
     let r = c.args.actor.now in
     let k = c.args.k in
     let bs = c.args.bases.now.items in
-    let v = c.blocks.result.now in
-    let laid = laid_as t v c.blocks.ensures.words c.blocks.ensures.blocks in
+    let v = c.blocks-blocks.result.now in
+    let laid = laid_as t v c.blocks-blocks.ensures.words c.blocks-blocks.ensures.blocks in
     let front = first_here bs c.index.result.now
     (some_held t s r k [] bs (copy_first r.stage k c.requires.due) c.requires.own) c.index.ensures in
     let can = subst (λ (z : BlocksView). CanCopyAt z r c.index.result.now r.stage) (sym laid)
@@ -186,8 +188,8 @@ returns-in-Ok-Some-in-Ok-clause-own g c =
     let keeps = keeps_at v r q asked call.0 (c.goes_on_taken.ensures.keeps (at r stage.Idle) base call.1 call.2
     (copy_reads c.copies_go_on.ensures t s r k c.requires.due c.requires.ties)) in
     let running = subst (λ (z : BlocksView). IsRunning z r → IsRunning z q) laid keeps.running c.requires.ties.running in
-    let does = c.in-Ok-Some-in-Ok.ensures.ok (at r stage.Idle) base call.1 call.2 in
-    let n = c.in-Ok-Some-in-Ok.told in
+    let does = c.in-Ok.ensures.ok (at r stage.Idle) base call.1 call.2 in
+    let n = c.in-Ok.told in
     (copy_tied c.steps_as_worlds.ensures c.copied_stay_own.ensures c.copied_as_worlds.ensures c.copies_go_on.ensures
     c.sizes_copies.ensures.sizes c.copies_stay_own.ensures.blocks c.copies_by_stage.ensures.others t s c.put_gate.new.seat r q
     n k bs c.first-base.new.bases.items b c.requires.due c.requires.ties c.requires.own c.first-base.ensures c.put_gate.ensures
@@ -196,15 +198,15 @@ returns-in-Ok-Some-in-Ok-clause-own g c =
     (subst (λ (z : BlocksView × Base g.row.V.Denot). HasTakenAt z.0 r q n z.1 r.stage) (λ i. (laid i, same i))
     (taken_at v r q n base asked call.0 does.1)) running).2
 
-pub returns-in-Ok-Some-in-Err-clause-ties : goal.returns-in-Ok-Some-in-Err-clause-ties
-returns-in-Ok-Some-in-Err-clause-ties g c =
+pub returns-in-Err-goes_on_taken-clause-ties : goal.returns-in-Err-goes_on_taken-clause-ties
+returns-in-Err-goes_on_taken-clause-ties g c =
     let t = c.args.table.now in
     let s = c.args.seat.now in
     let r = c.args.actor.now in
     let k = c.args.k in
     let bs = c.args.bases.now.items in
-    let v = c.blocks.result.now in
-    let laid = laid_as t v c.blocks.ensures.words c.blocks.ensures.blocks in
+    let v = c.blocks-blocks.result.now in
+    let laid = laid_as t v c.blocks-blocks.ensures.words c.blocks-blocks.ensures.blocks in
     let front = first_here bs c.index.result.now
     (some_held t s r k [] bs (copy_first r.stage k c.requires.due) c.requires.own) c.index.ensures in
     let can = subst (λ (z : BlocksView). CanCopyAt z r c.index.result.now r.stage) (sym laid)
@@ -227,18 +229,18 @@ returns-in-Ok-Some-in-Err-clause-ties g c =
     r q k bs c.first-base.new.bases.items b c.requires.due c.requires.ties c.requires.own c.first-base.ensures c.put_gate.ensures
     c.refuse.ensures
     (subst (λ (z : BlocksView × Base g.row.V.Denot). StarvesBehindAt z.0 r q z.1 r.stage) (λ i. (laid i, same i))
-    (behind_at v r q base asked call.0 (c.in-Ok-Some-in-Err.ensures.err (at r stage.Idle) base call.1 call.2)))
-    (asks_nothing m q c.in-Ok-Some-in-Err.ensures.leaves) running).0
+    (behind_at v r q base asked call.0 (c.in-Err-goes_on_taken.ensures.err (at r stage.Idle) base call.1 call.2)))
+    (asks_nothing m q c.in-Err-goes_on_taken.ensures.leaves) running).0
 
-pub returns-in-Ok-Some-in-Err-clause-starved : goal.returns-in-Ok-Some-in-Err-clause-starved
-returns-in-Ok-Some-in-Err-clause-starved g c =
+pub returns-in-Err-goes_on_taken-clause-starved : goal.returns-in-Err-goes_on_taken-clause-starved
+returns-in-Err-goes_on_taken-clause-starved g c =
     let t = c.args.table.now in
     let s = c.args.seat.now in
     let r = c.args.actor.now in
     let k = c.args.k in
     let bs = c.args.bases.now.items in
-    let v = c.blocks.result.now in
-    let laid = laid_as t v c.blocks.ensures.words c.blocks.ensures.blocks in
+    let v = c.blocks-blocks.result.now in
+    let laid = laid_as t v c.blocks-blocks.ensures.words c.blocks-blocks.ensures.blocks in
     let front = first_here bs c.index.result.now
     (some_held t s r k [] bs (copy_first r.stage k c.requires.due) c.requires.own) c.index.ensures in
     let can = subst (λ (z : BlocksView). CanCopyAt z r c.index.result.now r.stage) (sym laid)
@@ -261,18 +263,18 @@ returns-in-Ok-Some-in-Err-clause-starved g c =
     r q k bs c.first-base.new.bases.items b c.requires.due c.requires.ties c.requires.own c.first-base.ensures c.put_gate.ensures
     c.refuse.ensures
     (subst (λ (z : BlocksView × Base g.row.V.Denot). StarvesBehindAt z.0 r q z.1 r.stage) (λ i. (laid i, same i))
-    (behind_at v r q base asked call.0 (c.in-Ok-Some-in-Err.ensures.err (at r stage.Idle) base call.1 call.2)))
-    (asks_nothing m q c.in-Ok-Some-in-Err.ensures.leaves) running).1
+    (behind_at v r q base asked call.0 (c.in-Err-goes_on_taken.ensures.err (at r stage.Idle) base call.1 call.2)))
+    (asks_nothing m q c.in-Err-goes_on_taken.ensures.leaves) running).1
 
-pub returns-in-Ok-Some-in-Err-clause-own : goal.returns-in-Ok-Some-in-Err-clause-own
-returns-in-Ok-Some-in-Err-clause-own g c =
+pub returns-in-Err-goes_on_taken-clause-own : goal.returns-in-Err-goes_on_taken-clause-own
+returns-in-Err-goes_on_taken-clause-own g c =
     let t = c.args.table.now in
     let s = c.args.seat.now in
     let r = c.args.actor.now in
     let k = c.args.k in
     let bs = c.args.bases.now.items in
-    let v = c.blocks.result.now in
-    let laid = laid_as t v c.blocks.ensures.words c.blocks.ensures.blocks in
+    let v = c.blocks-blocks.result.now in
+    let laid = laid_as t v c.blocks-blocks.ensures.words c.blocks-blocks.ensures.blocks in
     let front = first_here bs c.index.result.now
     (some_held t s r k [] bs (copy_first r.stage k c.requires.due) c.requires.own) c.index.ensures in
     let can = subst (λ (z : BlocksView). CanCopyAt z r c.index.result.now r.stage) (sym laid)
@@ -295,8 +297,34 @@ returns-in-Ok-Some-in-Err-clause-own g c =
     r q k bs c.first-base.new.bases.items b c.requires.due c.requires.ties c.requires.own c.first-base.ensures c.put_gate.ensures
     c.refuse.ensures
     (subst (λ (z : BlocksView × Base g.row.V.Denot). StarvesBehindAt z.0 r q z.1 r.stage) (λ i. (laid i, same i))
-    (behind_at v r q base asked call.0 (c.in-Ok-Some-in-Err.ensures.err (at r stage.Idle) base call.1 call.2)))
-    (asks_nothing m q c.in-Ok-Some-in-Err.ensures.leaves) running).2
+    (behind_at v r q base asked call.0 (c.in-Err-goes_on_taken.ensures.err (at r stage.Idle) base call.1 call.2)))
+    (asks_nothing m q c.in-Err-goes_on_taken.ensures.leaves) running).2
+
+-- nothing was taken
+pub copy_here-requires-clause-own : goal.copy_here-requires-clause-own
+copy_here-requires-clause-own g c =
+    let t = c.args.table.now in
+    let s = c.args.seat.now in
+    let r = c.args.actor.now in
+    let v = c.blocks-blocks.result.now in
+    let base = c.index.result.now in
+    let m = c.takes.new.self in
+    let same = none_same v r m base c.args.k c.requires.due
+    (subst (λ (o : Option (Taken g.row.V.Denot)). AreTakenAt v r m base o r.stage) c.in-Ok-None.field-0-is c.in-Ok-None.ensures.ok) in
+    subst (λ (z : TxActor g.row.V.Denot). HasOwn t s z c.args.bases.now.items) (sym same) c.requires.own
+
+pub returns-in_ok-told-in-Ok-None-clause-turned : goal.returns-in_ok-told-in-Ok-None-clause-turned
+returns-in_ok-told-in-Ok-None-clause-turned g c =
+    let s = c.args.seat.now in
+    let r = c.args.actor.now in
+    let v = c.blocks-blocks.result.now in
+    let base = c.index.result.now in
+    let m = c.takes.new.self in
+    let n = c.in_ok-told-in-Ok-None.told in
+    let same = none_same v r m base c.args.k c.requires.due
+    (subst (λ (o : Option (Taken g.row.V.Denot)). AreTakenAt v r m base o r.stage) c.in-Ok-None.field-0-is c.in-Ok-None.ensures.ok) in
+    subst (λ (z : TxActor g.row.V.Denot). Turned (opening_of c.args.table.now) s z c.copy_here.new.seat n) same
+    c.in_ok-told-in-Ok-None.ensures.turned
 
 pub returns-in-Err-clause-ties : goal.returns-in-Err-clause-ties
 returns-in-Err-clause-ties g c =
@@ -304,9 +332,9 @@ returns-in-Err-clause-ties g c =
     let s = c.args.seat.now in
     let r = c.args.actor.now in
     let q = c.takes.new.self in
-    let laid = laid_as t c.blocks.result.now c.blocks.ensures.words c.blocks.ensures.blocks in
+    let laid = laid_as t c.blocks-blocks.result.now c.blocks-blocks.ensures.words c.blocks-blocks.ensures.blocks in
     let running = subst (λ (v : BlocksView). IsRunning v r → IsRunning v q) laid c.in-Err.ensures.keeps.running c.requires.ties.running in
-    let done = starved t s c.refuse-2.new.seat r q Quiet c.requires.ties c.refuse-2.ensures running c.in-Err.ensures.err in
+    let done = starved t s c.refuse-in-Err.new.seat r q Quiet c.requires.ties c.refuse-in-Err.ensures running c.in-Err.ensures.err in
     done.0
 
 pub returns-in-Err-clause-starved : goal.returns-in-Err-clause-starved
@@ -315,9 +343,9 @@ returns-in-Err-clause-starved g c =
     let s = c.args.seat.now in
     let r = c.args.actor.now in
     let q = c.takes.new.self in
-    let laid = laid_as t c.blocks.result.now c.blocks.ensures.words c.blocks.ensures.blocks in
+    let laid = laid_as t c.blocks-blocks.result.now c.blocks-blocks.ensures.words c.blocks-blocks.ensures.blocks in
     let running = subst (λ (v : BlocksView). IsRunning v r → IsRunning v q) laid c.in-Err.ensures.keeps.running c.requires.ties.running in
-    let done = starved t s c.refuse-2.new.seat r q Quiet c.requires.ties c.refuse-2.ensures running c.in-Err.ensures.err in
+    let done = starved t s c.refuse-in-Err.new.seat r q Quiet c.requires.ties c.refuse-in-Err.ensures running c.in-Err.ensures.err in
     inl done.1
 
 pub returns-in-Err-clause-own : goal.returns-in-Err-clause-own
@@ -326,9 +354,9 @@ returns-in-Err-clause-own g c =
     let s = c.args.seat.now in
     let r = c.args.actor.now in
     let q = c.takes.new.self in
-    let laid = laid_as t c.blocks.result.now c.blocks.ensures.words c.blocks.ensures.blocks in
+    let laid = laid_as t c.blocks-blocks.result.now c.blocks-blocks.ensures.words c.blocks-blocks.ensures.blocks in
     let running = subst (λ (v : BlocksView). IsRunning v r → IsRunning v q) laid c.in-Err.ensures.keeps.running c.requires.ties.running in
-    let done = starved t s c.refuse-2.new.seat r q Quiet c.requires.ties c.refuse-2.ensures running c.in-Err.ensures.err in
-    starve_own c.events_keep_copies.ensures.starves c.copies_by_stage.ensures.others t s c.refuse-2.new.seat r q Quiet c.args.bases.now.items
+    let done = starved t s c.refuse-in-Err.new.seat r q Quiet c.requires.ties c.refuse-in-Err.ensures running c.in-Err.ensures.err in
+    starve_own c.events_keep_copies.ensures.starves c.copies_by_stage.ensures.others t s c.refuse-in-Err.new.seat r q Quiet c.args.bases.now.items
     c.requires.ties c.requires.own done.1
     done.0 c.in-Err.ensures.leaves
