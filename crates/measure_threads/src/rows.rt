@@ -33,7 +33,8 @@ pub fn report_table<R: Runtime + AllocGlobal + Threads + Wait + Sync>(
         ..
     } = *options;
     let speed = speed(options, seconds);
-    let tried = commits as f64 / f64::from(options.transactions);
+    let commits = u32::try_from(commits).unwrap_or(u32::MAX);
+    let tried = f64::from(commits) / f64::from(options.transactions);
     println!(rt;
         "{relations} relations, {clients} clients, at seats: {speed:.1} thousand sessions a second, {tried:.2} commits tried for each"
     )

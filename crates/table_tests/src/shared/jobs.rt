@@ -66,15 +66,15 @@ impl Job<u64> for Listed {
 /// `runs 1 do read 0; 1 do write 0 1`, `attempts ..` or `meets ..`, `gives up`, or `wants memory`.
 pub fn job_of(alloc: Global, words: &str) -> Result<Listed, Refusal> {
     match words.split_once(' ') {
-        Some(("runs", calls)) => listed(alloc, calls),
-        Some(("attempts", calls)) => listed(alloc, calls),
-        Some(("meets", calls)) => listed(alloc, calls),
+        Some(("runs", calls)) => asking(alloc, calls),
+        Some(("attempts", calls)) => asking(alloc, calls),
+        Some(("meets", calls)) => asking(alloc, calls),
         Some(("gives", _)) => Ok(Listed::giving_up(alloc)),
         Some(("wants", _)) => Ok(Listed::wanting_memory(alloc)),
         _ => Err(Refusal::NoSuch),
     }
 }
 
-fn listed(alloc: Global, calls: &str) -> Result<Listed, Refusal> {
+fn asking(alloc: Global, calls: &str) -> Result<Listed, Refusal> {
     Ok(Listed::of(script_of(alloc, calls)?))
 }
