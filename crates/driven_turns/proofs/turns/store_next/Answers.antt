@@ -1,5 +1,7 @@
-use Rattle.std.proofs.Common.{inl}
-use Rattle.tx_table.specs.Seated.{actor}
+use Rattle.std.proofs.Common.{inl, subst}
+use Rattle.tx_table.specs.declared.seat.Seat.{Seat}
+use Rattle.tx_table.specs.Seated.{actor, opening_of}
+use Rattle.tx_turns.specs.Asked.{Starved}
 use Rattle.driven_turns.proofs.NextLemmas.{makes_one}
 use Rattle.driven_turns.proofs.turns.store_next.Goals as goal
 
@@ -15,4 +17,7 @@ returns-in-Err-clause-own g c =
     c.starve.ensures.ties c.starve.ensures.leaves
 
 pub returns-in-Err-clause-starved : goal.returns-in-Err-clause-starved
-returns-in-Err-clause-starved g c = (c.starve.result, inl c.starve.ensures.starved)
+returns-in-Err-clause-starved g c =
+    let there = subst (λ (s : Seat g.row.V.Denot). Starved (opening_of c.args.table.now) s c.starve.new.seat c.starve.result)
+    c.in-Err.ensures.seat c.starve.ensures.starved in
+    (c.starve.result, inl there)

@@ -1,4 +1,4 @@
-use Rattle.std.proofs.Common.{◌≡◌, Option, None, [], inl, length, subst, sym}
+use Rattle.std.proofs.Common.{Option, [], inl, length, subst, sym}
 use Rattle.replay_log.specs.declared.base.Base.{Base}
 use Rattle.tx_actor.specs.declared.actor.Stage.TheVariants as stage
 use Rattle.tx_actor.specs.declared.actor.Told.TheVariants.{Quiet}
@@ -10,7 +10,7 @@ use Rattle.tx_actor.proofs.HavingLemmas.{asks_nothing}
 use Rattle.tx_actor.specs.Copying.{CanCopyAt, HasTakenAt, StepsOnAt}
 use Rattle.tx_actor.specs.Keeping.{IsRunning}
 use Rattle.tx_actor.specs.Running.{at}
-use Rattle.tx_actor.specs.Taking.{AreTakenAt, StarvesBehindAt, WasTaken}
+use Rattle.tx_actor.specs.Taking.{AreTakenAt, StarvesBehindAt}
 use Rattle.tx_table.specs.Seated.{blocks_in, opening_of}
 use Rattle.tx_turns.specs.Ties.{Turned}
 use Rattle.tx_turns.proofs.AskedLemmas.{starved}
