@@ -142,7 +142,8 @@ fn raise(
     Ok(())
 }
 
-fn locations_in(tokens: &[&str]) -> Result<(u32, u32), Refusal> {
+/// One location, which stands for two, or two.
+pub fn locations_in(tokens: &[&str]) -> Result<(u32, u32), Refusal> {
     match tokens {
         [one] => {
             let location = stripes_in(one)?;

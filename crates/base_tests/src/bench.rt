@@ -4,9 +4,8 @@ ghost use Rattle.std.specs.Prelude.{◌≡◌, [], IfOk};
 use crate::alone::changes_of;
 use crate::print::{print_changes, print_held, print_outcome};
 use conflict::{Changes, LocSet, conflicts};
-use model_tests::replies::print_reply;
-use model_tests::states::state_of;
 use replay_log::{Base, Log};
+use row_parts::print_reply;
 use seq_model::{Call, Held, Memory, Op, Refusal, Reply, Request, State};
 use shadow::Shadow;
 use std::alloc::Global;
@@ -30,7 +29,8 @@ pub fn script_of(alloc: Global, row: &str) -> Result<Script, Refusal> {
     parse_steps(alloc, lines.as_bytes())
 }
 
-fn from_index(held: Held<u64>, index: u64) -> Held<u64> {
+/// A queue is taken from this index.
+pub fn from_index(held: Held<u64>, index: u64) -> Held<u64> {
     match held {
         Held::Queue { head: _, items } => Held::Queue { head: index, items },
         other => other,
@@ -58,8 +58,8 @@ fn base_in(alloc: Global, script: &Script) -> Result<Base<u64>, Refusal> {
 }
 
 fn model_in(alloc: Global, script: &Script) -> Result<State<u64>, Refusal> {
-    let held = held_in(alloc, script)?;
-    state_of(alloc, &[], held)
+    let held = vec![in alloc; held_in(alloc, script)?]?;
+    State::new(Vec::new(alloc), held)
 }
 
 impl Bench {

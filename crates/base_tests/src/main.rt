@@ -1,5 +1,5 @@
-//! Tests of the collections that transactions share, on their public calls, and of what stands over them: logs folded into bases,
-//! and shadows of copies.
+//! Tests of the sequential model, of what all collections use, of the collections that transactions share, on their public calls,
+//! and of what stands over them: logs folded into bases, and shadows of copies.
 //!
 //! They are rows of text in the file `stdin`, one test a row, each of which is printed with its answer; what all must answer
 //! stands in the file `stdout`. So the crate is proved once, however many rows there are. What a row may say is told at
@@ -7,7 +7,10 @@
 #![tactic(auto)]
 
 mod alone;
+mod audits;
 mod bench;
+mod models;
+mod parts;
 mod print;
 mod rows;
 

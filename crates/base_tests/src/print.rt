@@ -1,7 +1,7 @@
 //! Outcomes, changes and contents, as text.
 use conflict::{Change, LocSet, Outcome};
-use model_tests::replies::print_reply;
 use replay_log::Base;
+use row_parts::print_reply;
 use seq_model::{Held, Memory};
 use std::collections::btree_map::Iter;
 use std::fmt::Write;
@@ -19,7 +19,8 @@ pub fn print_outcome(
     print_changes(text, changes.as_slice())
 }
 
-fn print_locations(text: &mut String, name: &str, locations: &LocSet) -> Result<(), Memory> {
+/// Prints a name, and the locations of a set.
+pub fn print_locations(text: &mut String, name: &str, locations: &LocSet) -> Result<(), Memory> {
     text.push_str(name)?;
     for location in locations.as_slice() {
         write!(text, " {location}")?;

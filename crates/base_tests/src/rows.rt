@@ -1,6 +1,9 @@
 //! The rows, and who answers each.
 use crate::alone::{answer_log, answer_new, answer_of_kind, answer_raised};
+use crate::audits::{answer_audit, answer_records};
 use crate::bench::{Bench, script_of};
+use crate::models::{answer_event, answer_refusal, answer_same, answer_state};
+use crate::parts::{answer_below, answer_editions, answer_meet, answer_set, answer_table};
 use seq_model::{Memory, Refusal};
 use std::alloc::Global;
 use std::fmt::Write;
@@ -20,6 +23,14 @@ use std::fmt::Write;
 /// - `new KIND STRIPES` opens an empty base: the editions of its locations. `raised KIND STRIPES at LOCATIONS: CHANGES` replays
 ///   changes that write these locations: the editions, those of a copy, and what the copy holds.
 /// - `two puts logged`: the editions after two puts, each logged with the same location.
+/// - `state SCRIPT`: what calls are answered on a state of the sequential model, and what they leave. `same SCRIPT | SCRIPT`:
+///   whether a copy of what the first leaves is the same as what the second does. `event LINE`: a copy of what the line asks.
+/// - `audit LAST: RECORDS`: the fault of records on one word that is 0 at first. A record is `2 writer, 0 wrote 6, 0 found 6`.
+///   `records RECORD; RECORD`: the first record, of actor 1, and a copy of the second, of actor 2, in commit order.
+/// - `refusal moved 3 8`: what a refusal prints.
+/// - `set LOCATIONS`, `below COUNT has LOCATIONS`, `meet reads 0, writes; reads 0 2, writes 0 2`: sets of locations, and whether
+///   two calls conflict with these. `editions COUNT raised LOCATIONS`: a copy of editions, of which none, one or two are raised.
+/// - `table STEPS`: the hash map, on which `put KEY VALUE`, `remove KEY` and `get KEY` are made, and one of a copy's entries.
 pub fn answer_all(alloc: Global, rows: &str) -> Result<String, Memory> {
     let mut text = String::new(alloc);
     answer_each(&mut text, rows)?;
@@ -61,7 +72,42 @@ fn answer_row(text: &mut String, bench: &mut Option<Bench>, row: &str) -> Result
         Some(("new", opening)) => answer_new(text, opening),
         Some(("raised", changed)) => answer_raised(text, changed),
         Some(("two", "puts logged")) => answer_log(text),
+        Some((name, others)) if is_of_parts(name) => answer_parts(text, name, others, row),
+        Some((name, others)) if is_of_model(name) => answer_model(text, name, others),
         _ => answer_script(text, bench, row),
+    }
+}
+
+fn is_of_parts(name: &str) -> bool {
+    ["set", "below", "meet", "editions", "table"]
+        .as_slice()
+        .contains(&name)
+}
+
+fn is_of_model(name: &str) -> bool {
+    ["state", "same", "event", "audit", "records", "refusal"]
+        .as_slice()
+        .contains(&name)
+}
+
+fn answer_parts(text: &mut String, name: &str, others: &str, row: &str) -> Result<(), Refusal> {
+    match name {
+        "set" => answer_set(text, row),
+        "below" => answer_below(text, others),
+        "meet" => answer_meet(text, others),
+        "editions" => answer_editions(text, others),
+        _ => answer_table(text, others),
+    }
+}
+
+fn answer_model(text: &mut String, name: &str, others: &str) -> Result<(), Refusal> {
+    match name {
+        "state" => answer_state(text, others),
+        "same" => answer_same(text, others),
+        "event" => answer_event(text, others),
+        "audit" => answer_audit(text, others),
+        "records" => answer_records(text, others),
+        _ => answer_refusal(text, others),
     }
 }
 

@@ -2,7 +2,7 @@
 ghost use Rattle.transactions.specs.Ready.{IsReady};
 
 use super::openings::script_of;
-use model_tests::replies::print_reply;
+use row_parts::print_reply;
 use seq_model::{AuditFault, Memory, Record, Refusal, Request, State, Value, audit};
 use std::alloc::Global;
 use std::fmt::Write;

@@ -1,6 +1,6 @@
 //! What is printed of a table's rows, and the receipts so far.
 use super::ends::{audit_receipts, print_closed, print_receipt};
-use model_tests::replies::print_reply;
+use row_parts::print_reply;
 use seq_model::{Memory, Record, Refusal, Reply, State};
 use std::alloc::Global;
 use std::fmt::Write;
