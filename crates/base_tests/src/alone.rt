@@ -2,7 +2,7 @@
 ghost use Rattle.std.specs.Prelude.{◌≡◌, ◌<◌, ◌≤◌, ◌^◌, IfOk, IsTrue, slice_index};
 ghost use Rattle.replay_log.specs.Base.{editions_of, locations_of, shown_of, stripes_of};
 
-use crate::bench::{print_base, script_of, stripes_in};
+use crate::bench::{HIGH, print_base, script_of, stripes_in};
 use base_bag::BagBase;
 use base_map::MapBase;
 use base_pq::PqBase;
@@ -14,9 +14,6 @@ use std::alloc::Global;
 use std::fmt::Write;
 use step_script::Collection;
 use text_lines::{number, tokens_of};
-
-/// No edition that is raised here is so high.
-const HIGH: u64 = 1 << 62;
 
 /// `KIND COLLECTION`: opens what the header says as a base of this kind.
 pub fn answer_of_kind(text: &mut String, row: &str) -> Result<(), Refusal> {

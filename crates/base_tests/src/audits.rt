@@ -1,15 +1,11 @@
 //! Rows of records: audits on one word that is 0 at first, and records in commit order.
-use crate::bench::stripes_in;
+use crate::bench::{number_in, stripes_in};
 use seq_model::{
     AuditFault, Call, Items, Memory, Op, Record, Refusal, Reply, State, audit, insert_record,
 };
 use std::alloc::Global;
 use std::fmt::Write;
-use text_lines::{number, tokens_of};
-
-fn number_in(token: &str) -> Result<u64, Refusal> {
-    number(token).ok_or(Refusal::NoSuch)
-}
+use text_lines::tokens_of;
 
 fn head_of(head: &str) -> Result<(u64, bool), Refusal> {
     match head.split_once(' ') {

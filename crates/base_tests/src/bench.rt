@@ -12,6 +12,9 @@ use std::alloc::Global;
 use step_script::{Line, Script, parse_steps};
 use text_lines::number;
 
+/// No edition that is raised here is so high.
+pub const HIGH: u64 = 1 << 62;
+
 /// A collection, and the state of the sequential model after the same calls.
 #[derive(Drop)]
 pub struct Bench {
@@ -179,6 +182,11 @@ fn replay(text: &mut String, base: &mut Base<u64>, changes: &str) -> Result<(), 
     base.replay(changes, &none);
     text.push_str("done")?;
     Ok(())
+}
+
+/// The number that a token spells.
+pub fn number_in(token: &str) -> Result<u64, Refusal> {
+    number(token).ok_or(Refusal::NoSuch)
 }
 
 /// The number of stripes that the token spells.

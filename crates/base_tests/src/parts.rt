@@ -2,17 +2,14 @@
 ghost use Rattle.std.specs.Prelude.{◌≡◌, ◌<◌, ◌^◌, IfOk, IsTrue, length, slice_index};
 
 use crate::alone::locations_in;
-use crate::bench::stripes_in;
+use crate::bench::{HIGH, number_in, stripes_in};
 use crate::print::{print_held, print_locations};
 use conflict::{Editions, LocSet, Table, conflicts};
 use seq_model::{Held, Memory, Refusal};
 use smallvec::SmallVec;
 use std::alloc::Global;
 use std::fmt::Write;
-use text_lines::{number, tokens_of};
-
-/// No edition that is raised here is so high.
-const HIGH: u64 = 1 << 62;
+use text_lines::tokens_of;
 
 fn set_of_many(alloc: Global, tokens: &[&str]) -> Result<LocSet, Refusal> {
     let mut locations = SmallVec::new(alloc);
@@ -186,10 +183,6 @@ fn tell_value(text: &mut String, found: Option<&u64>) -> Result<(), Memory> {
         None => text.push_str("none; ")?,
     }
     Ok(())
-}
-
-fn number_in(token: &str) -> Result<u64, Refusal> {
-    number(token).ok_or(Refusal::NoSuch)
 }
 
 fn step(text: &mut String, table: &mut Table<u64>, tokens: &[&str]) -> Result<(), Refusal> {
