@@ -1,5 +1,5 @@
 //! Rows that open a base of their own.
-ghost use Rattle.std.specs.Prelude.{◌≡◌, ◌<◌, ◌≤◌, ◌^◌, IfOk, IsTrue, slice_index};
+ghost use Rattle.std.specs.Prelude.{◌≡◌, ◌<◌, ◌≤◌, ◌^◌, ◌∷◌, [], IfOk, IsTrue, slice_index};
 ghost use Rattle.replay_log.specs.Base.{editions_of, locations_of, shown_of, stripes_of};
 
 use crate::bench::{HIGH, print_base, script_of, stripes_in};
@@ -96,12 +96,17 @@ fn change_of(tokens: &[&str]) -> Option<Change<u64>> {
     }
 }
 
+fn change_in(alloc: Global, spelled: &str) -> Result<Change<u64>, Refusal> {
+    let tokens = tokens_of(alloc, spelled)?;
+    change_of(tokens.as_slice()).ok_or(Refusal::NoSuch)
+}
+
 /// The changes that the row spells, with `, ` between.
 pub fn changes_of(alloc: Global, row: &str) -> Result<Changes<u64>, Refusal> {
     let mut changes = Items::new(alloc);
-    for change in row.split(", ") {
-        let tokens = tokens_of(alloc, change)?;
-        changes.push(change_of(tokens.as_slice()).ok_or(Refusal::NoSuch)?)?;
+    for spelled in row.split(", ") {
+        let change = change_in(alloc, spelled)?;
+        changes.push(change)?;
     }
     Ok(changes)
 }
@@ -197,14 +202,21 @@ fn print_copy(text: &mut String, copy: &Base<u64>, stripes: u32) -> Result<(), R
 }
 
 // Two puts on one stripe, each pushed with it.
-fn two_puts(alloc: Global) -> Result<Base<u64>, Refusal>
-    ensures { IfOk result (λ base. stripes_of base ≡ 2) }
+fn log_of_two_puts(alloc: Global) -> Result<Log<u64>, Memory>
+    ensures { IfOk result (λ log. log.locations ≡ 1 ∷ 1 ∷ []) }
 {
-    let mut base = Base::Map(MapBase::new(alloc, 2)?);
     let stripe = LocSet::single(alloc, 1);
     let mut log = Log::new(alloc);
     log.push(Change::Put(1, 10), &stripe)?;
     log.push(Change::Put(3, 30), &stripe)?;
+    Ok(log)
+}
+
+fn two_puts(alloc: Global) -> Result<Base<u64>, Refusal>
+    ensures { IfOk result (λ base. stripes_of base ≡ 2) }
+{
+    let mut base = Base::Map(MapBase::new(alloc, 2)?);
+    let log = log_of_two_puts(alloc)?;
     base.prepare(log.changes())?;
     log.fold_into(&mut base);
     Ok(base)

@@ -113,7 +113,7 @@ fn answer_model(text: &mut String, name: &str, others: &str) -> Result<(), Refus
 
 fn answer_script(text: &mut String, bench: &mut Option<Bench>, row: &str) -> Result<(), Refusal> {
     if is_opening(row) {
-        *bench = Some(opened(*text.allocator(), row)?);
+        reopen(*text.allocator(), bench, row)?;
         text.push_str("opened")?;
         return Ok(());
     }
@@ -126,6 +126,11 @@ fn answer_script(text: &mut String, bench: &mut Option<Bench>, row: &str) -> Res
 fn opened(alloc: Global, row: &str) -> Result<Bench, Refusal> {
     let script = script_of(alloc, row)?;
     Bench::open(alloc, &script)
+}
+
+fn reopen(alloc: Global, bench: &mut Option<Bench>, row: &str) -> Result<(), Refusal> {
+    *bench = Some(opened(alloc, row)?);
+    Ok(())
 }
 
 fn is_opening(row: &str) -> bool {
