@@ -9,7 +9,7 @@
 # ends in .sessions, and must print what stands beside INPUT in the file of its name that ends in .out;
 # one build serves all inputs. With --sections it reads each section of stdin by itself, which `----` closes,
 # and must print the section of stdout in its place, which a line `# NAME` opens; with --section only those in
-# these places, from 1 on. It ends after LAST, or once eight runs in a row were refused nothing. RT names the
+# these places, from 1 on. It ends after LAST, or once forty runs in a row were refused nothing. RT names the
 # command, `rt` by default.
 set -u
 
@@ -77,7 +77,7 @@ refuse_sections() {
 # refuse_each NAME: refuses each allocation of the run on what was taken.
 refuse_each() {
     local refused=0 quiet=0 n=$first output status
-    while [ "$quiet" -lt 8 ] && { [ "$last" -eq 0 ] || [ "$n" -le "$last" ]; }; do
+    while [ "$quiet" -lt 40 ] && { [ "$last" -eq 0 ] || [ "$n" -le "$last" ]; }; do
         refuse "$n"
         output=$(run_refusing "${words[@]}" < "$stdin" 2>&1)
         status=$?
