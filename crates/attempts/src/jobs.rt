@@ -78,7 +78,7 @@ fn ask_all<V: Value, J: Job<V>>(
     ensures reaches { IfOk result (Reaches (J.asks job.now) (opening_of table.now) seat.old.seat seat.new.seat) }
     ensures refused { IfErr result (IsUnmade (J.asks job.now) (opening_of table.now) seat.old.seat seat.new.seat) }
 {
-    let mut replies = Vec::new(alloc);
+    let mut replies = Vec::with_capacity(alloc, seat.usual_calls())?;
     'calls: loop {
         match ask_next(table, seat, job, &mut replies)? {
             Some(end) => return Ok(end),

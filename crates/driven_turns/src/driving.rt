@@ -127,12 +127,14 @@ fn finish<V: Value>(
 }
 
 /// The turns of the request that is under way, up to its answer, with the receipt that they make. They end, whatever the other seats do.
-/// Where memory is wanting, the request is given up, and told so. When it is answered, no gate is held and no base is in hand.
+/// Where memory is wanting, the request is given up, and told so. When it is answered, no gate is held and no base is in hand. The bases that
+/// it takes on the way lie in `bases`, which keeps the room for the next request: what lies there at first is dropped.
 pub fn drive<V: Value>(
     alloc: Global,
     table: &TxTable<V>,
     seat: &mut Seat<V>,
     actor: &mut TxActor<V>,
+    bases: &mut Vec<Base<V>>,
 ) -> (Told<V>, Option<Record<V>>)
     requires ties { Ties table.now seat.old actor.old }
     requires own { HasOwn table.now seat.old actor.old [] }
@@ -143,6 +145,6 @@ pub fn drive<V: Value>(
     ensures ties { Ties table.now seat.new actor.new }
     ensures own { HasOwn table.now seat.new actor.new [] }
 {
-    let mut bases = Vec::new(alloc);
-    finish(alloc, table, seat, actor, &mut bases)
+    bases.clear();
+    finish(alloc, table, seat, actor, bases)
 }

@@ -12,6 +12,7 @@ ghost use Rattle.transactions.specs.Requests.{CallsTo, IsCallTold, IsCalling, Is
 use crate::requests::abort;
 use driven_turns::drive;
 use gate_turns::ask;
+use replay_log::Base;
 use seq_model::{Answer, Call, Refusal, Reply, Request, Value};
 use std::alloc::Global;
 use tx_actor::{Told, TxActor};
@@ -35,6 +36,7 @@ fn driven_call<V: Value>(
     table: &TxTable<V>,
     seat: &mut Seat<V>,
     actor: &mut TxActor<V>,
+    bases: &mut Vec<Base<V>>,
 ) -> Result<Reply<V>, Refusal>
     requires ties { Ties table.now seat.old actor.old }
     requires own { HasOwn table.now seat.old actor.old [] }
@@ -44,7 +46,7 @@ fn driven_call<V: Value>(
     ensures own { HasOwn table.now seat.new actor.new [] }
     ensures driven { IsDriven (opening_of table.now) seat.old seat.new (told_of result) }
 {
-    let (told, _) = drive(alloc, table, seat, actor);
+    let (told, _) = drive(alloc, table, seat, actor, bases);
     reply_told(told)
 }
 
@@ -54,6 +56,7 @@ pub(crate) fn ask_open<V: Value>(
     table: &TxTable<V>,
     seat: &mut Seat<V>,
     actor: &mut TxActor<V>,
+    bases: &mut Vec<Base<V>>,
     request: Request<V>,
 ) -> Result<Told<V>, Refusal>
     requires ties { Ties table.now seat.old actor.old }
@@ -68,11 +71,11 @@ pub(crate) fn ask_open<V: Value>(
     ensures keeps { OnErr result (KeepsReceipts seat.old seat.new) }
     ensures rests { OnErr result (standing (opening_of table.now) seat.new ≡ Rests) }
 {
-    let bases = Vec::new(alloc);
-    match ask(alloc, table, seat, actor, bases.as_slice(), request) {
+    let none = Vec::new(alloc);
+    match ask(alloc, table, seat, actor, none.as_slice(), request) {
         Ok(told) => Ok(told),
         Err(_) => {
-            abort(alloc, table, seat, actor);
+            abort(alloc, table, seat, actor, bases);
             Err(Refusal::OutOfMemory)
         }
     }
@@ -89,6 +92,7 @@ pub fn call<V: Value>(
     table: &TxTable<V>,
     seat: &mut Seat<V>,
     actor: &mut TxActor<V>,
+    bases: &mut Vec<Base<V>>,
     call: Call<V>,
 ) -> Result<Reply<V>, Refusal>
     requires ties { Ties table.now seat.old actor.old }
@@ -99,9 +103,9 @@ pub fn call<V: Value>(
     ensures own { HasOwn table.now seat.new actor.new [] }
     ensures calls { CallsTo (opening_of table.now) seat.old call seat.new result }
 {
-    let told = ask_open(alloc, table, seat, actor, Request::Call(call))?;
+    let told = ask_open(alloc, table, seat, actor, bases, Request::Call(call))?;
     match told {
-        Told::Quiet => driven_call(alloc, table, seat, actor),
+        Told::Quiet => driven_call(alloc, table, seat, actor, bases),
         told => reply_told(told),
     }
 }

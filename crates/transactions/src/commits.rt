@@ -10,6 +10,7 @@ ghost use Rattle.gate_turns.specs.Own.{HasOwn};
 
 use crate::calls::ask_open;
 use driven_turns::drive;
+use replay_log::Base;
 use seq_model::{Record, Refusal, Request, Value};
 use std::alloc::Global;
 use tx_actor::{Told, TxActor};
@@ -35,6 +36,7 @@ fn committed<V: Value>(
     table: &TxTable<V>,
     seat: &mut Seat<V>,
     actor: &mut TxActor<V>,
+    bases: &mut Vec<Base<V>>,
 ) -> Result<Record<V>, Refusal>
     requires ties { Ties table.now seat.old actor.old }
     requires own { HasOwn table.now seat.old actor.old [] }
@@ -51,7 +53,7 @@ fn committed<V: Value>(
     ensures keeps { OnErr result (KeepsReceipts seat.old seat.new) }
     ensures ended { IfErr result (IsEnded (opening_of table.now) seat.old seat.new) }
 {
-    let (told, receipt) = drive(alloc, table, seat, actor);
+    let (told, receipt) = drive(alloc, table, seat, actor, bases);
     commit_told(told, receipt)
 }
 
@@ -64,6 +66,7 @@ pub fn commit<V: Value>(
     table: &TxTable<V>,
     seat: &mut Seat<V>,
     actor: &mut TxActor<V>,
+    bases: &mut Vec<Base<V>>,
 ) -> Result<Record<V>, Refusal>
     requires ties { Ties table.now seat.old actor.old }
     requires own { HasOwn table.now seat.old actor.old [] }
@@ -79,6 +82,6 @@ pub fn commit<V: Value>(
     ensures keeps { OnErr result (KeepsReceipts seat.old seat.new) }
     ensures ended { IfErr result (IsEnded (opening_of table.now) seat.old seat.new) }
 {
-    let _ = ask_open(alloc, table, seat, actor, Request::Commit)?;
-    committed(alloc, table, seat, actor)
+    let _ = ask_open(alloc, table, seat, actor, bases, Request::Commit)?;
+    committed(alloc, table, seat, actor, bases)
 }

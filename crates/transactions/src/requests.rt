@@ -9,6 +9,7 @@ ghost use Rattle.tx_turns.specs.Ties.{Ties};
 ghost use Rattle.gate_turns.specs.Own.{HasOwn};
 
 use driven_turns::drive;
+use replay_log::Base;
 use seq_model::{Answer, Refusal, Value};
 use std::alloc::Global;
 use tx_actor::{Stage, Told, TxActor};
@@ -33,6 +34,7 @@ fn begun<V: Value>(
     table: &TxTable<V>,
     seat: &mut Seat<V>,
     actor: &mut TxActor<V>,
+    bases: &mut Vec<Base<V>>,
 ) -> Result<u64, Refusal>
     requires ties { Ties table.now seat.old actor.old }
     requires own { HasOwn table.now seat.old actor.old [] }
@@ -44,7 +46,7 @@ fn begun<V: Value>(
     ensures begun { IfOk result (IsBegun (opening_of table.now) seat.old seat.new) }
     ensures refused { IfErr result (IsNotBegun (opening_of table.now) seat.old seat.new) }
 {
-    let (told, _) = drive(alloc, table, seat, actor);
+    let (told, _) = drive(alloc, table, seat, actor, bases);
     begin_told(told)
 }
 
@@ -54,6 +56,7 @@ pub fn begin<V: Value>(
     table: &TxTable<V>,
     seat: &mut Seat<V>,
     actor: &mut TxActor<V>,
+    bases: &mut Vec<Base<V>>,
 ) -> Result<u64, Refusal>
     requires ties { Ties table.now seat.old actor.old }
     requires own { HasOwn table.now seat.old actor.old [] }
@@ -66,7 +69,7 @@ pub fn begin<V: Value>(
     ensures refused { IfErr result (IsNotBegun (opening_of table.now) seat.old seat.new) }
 {
     ask_begin(table, seat, actor);
-    begun(alloc, table, seat, actor)
+    begun(alloc, table, seat, actor, bases)
 }
 
 /// A transaction begins that writes nothing. It keeps no read set, so that its reads are as many as its calls may be. `Exhausted` at the
@@ -76,6 +79,7 @@ pub fn begin_read<V: Value>(
     table: &TxTable<V>,
     seat: &mut Seat<V>,
     actor: &mut TxActor<V>,
+    bases: &mut Vec<Base<V>>,
 ) -> Result<u64, Refusal>
     requires ties { Ties table.now seat.old actor.old }
     requires own { HasOwn table.now seat.old actor.old [] }
@@ -88,7 +92,7 @@ pub fn begin_read<V: Value>(
     ensures refused { IfErr result (IsNotBegun (opening_of table.now) seat.old seat.new) }
 {
     ask_begin_read(table, seat, actor);
-    begun(alloc, table, seat, actor)
+    begun(alloc, table, seat, actor, bases)
 }
 
 /// An open transaction ends without a commit. Nothing refuses it, and it takes no memory.
@@ -97,6 +101,7 @@ pub fn abort<V: Value>(
     table: &TxTable<V>,
     seat: &mut Seat<V>,
     actor: &mut TxActor<V>,
+    bases: &mut Vec<Base<V>>,
 )
     requires ties { Ties table.now seat.old actor.old }
     requires own { HasOwn table.now seat.old actor.old [] }
@@ -108,5 +113,5 @@ pub fn abort<V: Value>(
     ensures rests { standing (opening_of table.now) seat.new ≡ Rests }
 {
     ask_abort(table, seat, actor);
-    let _ = drive(alloc, table, seat, actor);
+    let _ = drive(alloc, table, seat, actor, bases);
 }

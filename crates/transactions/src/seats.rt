@@ -8,6 +8,7 @@ ghost use Rattle.driven_turns.specs.Driven.{standing};
 ghost use Rattle.transactions.specs.Ready.{HasBegunSince, HasOpened, IsNew, IsReady};
 ghost use Rattle.transactions.specs.Requests.{CallsTo, HasCommitted, IsBegun, IsEnded, IsNotBegun, IsOpen, KeepsReceipts, has_written};
 
+use replay_log::Base;
 use seq_model::{Call, Op, Record, Refusal, Reply, Value};
 use std::alloc::Global;
 use tx_actor::{Stage, TxActor};
@@ -18,6 +19,8 @@ use tx_table::{Seat, TxTable};
 pub struct TxSeat<V> {
     pub seat: Seat<V>,
     pub actor: TxActor<V>,
+    /// Where the bases lie that a request takes on its way. Between requests there are none, and the room is kept.
+    pub(crate) bases: Vec<Base<V>>,
     pub(crate) alloc: Global,
 }
 
@@ -33,6 +36,7 @@ impl<V: Value> TxSeat<V> {
         TxSeat {
             seat,
             actor: TxActor::new(alloc),
+            bases: Vec::new(alloc),
             alloc,
         }
     }
@@ -52,7 +56,7 @@ impl<V: Value> TxSeat<V> {
         ensures keeps { KeepsReceipts self.old.seat self.new.seat }
     {
         if self.is_open() {
-            crate::requests::abort(self.alloc, table, &mut self.seat, &mut self.actor);
+            crate::requests::abort(self.alloc, table, &mut self.seat, &mut self.actor, &mut self.bases);
         }
     }
 
@@ -68,7 +72,7 @@ impl<V: Value> TxSeat<V> {
         ensures refused { IfErr result (IsNotBegun (opening_of table.now) self.old.seat self.new.seat) }
     {
         self.abort(table);
-        crate::requests::begin(self.alloc, table, &mut self.seat, &mut self.actor)
+        crate::requests::begin(self.alloc, table, &mut self.seat, &mut self.actor, &mut self.bases)
     }
 
     /// A transaction begins that writes nothing, as `begin` does.
@@ -82,7 +86,7 @@ impl<V: Value> TxSeat<V> {
         ensures refused { IfErr result (IsNotBegun (opening_of table.now) self.old.seat self.new.seat) }
     {
         self.abort(table);
-        crate::requests::begin_read(self.alloc, table, &mut self.seat, &mut self.actor)
+        crate::requests::begin_read(self.alloc, table, &mut self.seat, &mut self.actor, &mut self.bases)
     }
 
     /// A call on a word or a collection. `NoTransaction` where none is open, then as [`crate::call`] has it.
@@ -98,7 +102,7 @@ impl<V: Value> TxSeat<V> {
         if !self.is_open() {
             return Err(Refusal::NoTransaction);
         }
-        crate::calls::call(self.alloc, table, &mut self.seat, &mut self.actor, call)
+        crate::calls::call(self.alloc, table, &mut self.seat, &mut self.actor, &mut self.bases, call)
     }
 
     /// A word is read, as `call` has it.
@@ -155,7 +159,7 @@ impl<V: Value> TxSeat<V> {
         if !self.is_open() {
             return Err(Refusal::NoTransaction);
         }
-        let receipt = crate::commits::commit(self.alloc, table, &mut self.seat, &mut self.actor)?;
+        let receipt = crate::commits::commit(self.alloc, table, &mut self.seat, &mut self.actor, &mut self.bases)?;
         self.seat.note(receipt.number);
         Ok(receipt)
     }
@@ -176,6 +180,13 @@ impl<V: Value> TxSeat<V> {
         }
         self.seat.note(number);
         Ok(())
+    }
+
+    /// How many calls the transaction had that committed or ended last at this seat; 0 at first.
+    pub fn usual_calls(&self) -> usize
+        ensures { result ≡ self.now.actor.usual_calls }
+    {
+        self.actor.usual_calls
     }
 
     /// The greatest number that this seat committed or learnt; 0 at first.

@@ -88,8 +88,10 @@ impl<V: Value> TxSeat<V> {
         let TxSeat {
             seat,
             actor,
+            bases,
             alloc: _,
         } = self;
+        drop(bases);
         drop(actor);
         seat
     }

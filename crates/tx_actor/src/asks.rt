@@ -13,6 +13,7 @@ ghost use Rattle.actor_words.specs.Dispatch.{is_loading};
 ghost use Rattle.tx_actor.specs.Running.{Does, seat_of, stage_of};
 
 use crate::actor::{Stage, Told, TxActor};
+use crate::room::reserve_call;
 use actor_words::{
     Blocks, close_words, fits_one, lock_words, may_read, read_word, store_words, write_word,
     written_homes,
@@ -38,7 +39,7 @@ impl<V: Drop> TxActor<V> {
         if !may_read(&self.words, word) {
             return Ok(Told::Refused(Refusal::TooLong));
         }
-        self.calls.reserve(1)?;
+        reserve_call(&mut self.calls, self.usual_calls)?;
         match read_word(&mut self.words, word)? {
             Some(value) => Ok(self.read(word, value)),
             None => {
@@ -73,7 +74,7 @@ impl<V: Drop> TxActor<V> {
         if !fits_one(&self.words.writes, word) {
             return Ok(Told::Refused(Refusal::TooLong));
         }
-        self.calls.reserve(1)?;
+        reserve_call(&mut self.calls, self.usual_calls)?;
         write_word(&mut self.words, word, value)?;
         let call = Call {
             target: word,

@@ -97,6 +97,7 @@ impl<V: Drop> TxActor<V> {
         ensures made { self.new.made.items ≡ self.old.calls.items }
     {
         mem::swap(&mut self.made, &mut self.calls);
+        self.usual_calls = self.made.len();
         match heard {
             WordNotice::Stored => self.goes_home(homes),
             _ => self.stored_one(homes),

@@ -16,6 +16,7 @@ mod loads;
 mod logs;
 mod next;
 mod prepares;
+mod room;
 mod steps;
 mod taking;
 

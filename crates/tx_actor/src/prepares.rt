@@ -4,6 +4,7 @@ ghost use Rattle.actor_copies.specs.declared.copies.CopyOf.{CopyOf};
 ghost use Rattle.tx_actor.specs.Prepares.{ArePrepared, AreReadied, HasRoomFor, IsAlike, MayPrepare, prepared_of};
 
 use crate::actor::{Answered, Asked, TxActor};
+use crate::room::reserve_call;
 use actor_copies::{reserve_words, weigh};
 use conflict::Outcome;
 use seq_model::{Memory, Op, Reply, Value};
@@ -61,7 +62,7 @@ impl<V: Value> TxActor<V> {
         ensures alike { IsAlike self.old self.new }
         ensures room { OnOk result (HasRoomFor self.new place outcome.now reads writes) }
     {
-        self.calls.reserve(1)?;
+        reserve_call(&mut self.calls, self.usual_calls)?;
         reserve_words(&mut self.words, reads, writes)?;
         self.copies[place].copied.ready(outcome)?;
         Ok(())

@@ -114,6 +114,7 @@ impl<V: Drop> TxActor<V> {
             cause: None,
             calls: Vec::new(alloc),
             made: Vec::new(alloc),
+            usual_calls: 0,
             copies: Vec::new(alloc),
         }
     }
@@ -180,6 +181,7 @@ impl<V: Drop> TxActor<V> {
     {
         let number = self.rv;
         mem::swap(&mut self.made, &mut self.calls);
+        self.usual_calls = self.made.len();
         self.clear(Stage::Idle, 0);
         Told::Answered(Answer::Committed(number))
     }
@@ -193,6 +195,7 @@ impl<V: Drop> TxActor<V> {
     {
         let cause = self.cause;
         mem::swap(&mut self.made, &mut self.calls);
+        self.usual_calls = self.made.len();
         self.clear(Stage::Idle, 0);
         match cause {
             None => Told::Answered(Answer::Aborted),

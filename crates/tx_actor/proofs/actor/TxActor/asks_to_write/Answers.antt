@@ -28,8 +28,8 @@ returns-clause-ok g c =
     is_below (length r.calls.items) CALL_LIMIT (omega (arith, c.len.ensures, c.if-len-ge-CALL_LIMIT.false)) in
     let room : fits r.words.writes.entries (l ∷ []) ≡ true = search rules in
     let call : Call g.row.V.Denot = record { target = l; op = Write c.args.value } in
-    let seat = more_calls (seat_of r) r.calls.items c.reserve.new.self.items c.push_reserved.new.self.items call Done
-    c.in_ok-reserve.ensures.items c.push_reserved.ensures.items in
+    let seat = more_calls (seat_of r) r.calls.items c.reserve_call.new.calls.items c.push_reserved.new.self.items call Done
+    c.in_ok-reserve_call.ensures.items c.push_reserved.ensures.items in
     writes_as c.args.blocks.now r u (told.Answered (answer.Replied Done)) l c.args.value known c.if-self.false few room
     (λ a w is. ((put-same w.seats a _ ∙ sym seat, is ∙ sym c.in_ok-write_word.ensures.actor, tt), refl))
 
@@ -46,10 +46,10 @@ pub returns-in_err-write_word-clause-keeps : goal.returns-in_err-write_word-clau
 returns-in_err-write_word-clause-keeps g c quiet =
     let r = c.args.self.now in
     let v = c.args.blocks.now in
-    let u : TxActor g.row.V.Denot = record r { words = c.write_word.new.words; calls = c.reserve.new.self } in
+    let u : TxActor g.row.V.Denot = record r { words = c.write_word.new.words; calls = c.reserve_call.new.calls } in
     let behind = end_behind v.words v.blocks in
     let below : c.args.word < end_of v.words v.blocks = omega (arith, behind, c.words.ensures, c.if-word-words.false) in
-    let free = c.in_ok-reserve.ensures.ok in
-    let room : vec_len c.reserve.new.self < vec_capacity c.reserve.new.self = omega (arith, free) in
+    let free = c.in_ok-reserve_call.ensures.ok in
+    let room : vec_len c.reserve_call.new.calls < vec_capacity c.reserve_call.new.calls = omega (arith, free) in
     keeps_asked v r u (c.write_word.ensures.keeps (end_of v.words v.blocks) below) (room_as r u r.stage quiet refl (λ h. room))
     (λ h. h) quiet

@@ -4,15 +4,15 @@ use Rattle.actor_copies.proofs.AlikeLemmas.{all_kept, kept_set}
 use Rattle.tx_actor.proofs.PreparesLemmas.{ready_at}
 use Rattle.tx_actor.proofs.actor.TxActor.make_room.Goals as goal
 
-pub returns-in_err-reserve-clause-alike : goal.returns-in_err-reserve-clause-alike
-returns-in_err-reserve-clause-alike g c = record {
+pub returns-in_err-reserve_call-clause-alike : goal.returns-in_err-reserve_call-clause-alike
+returns-in_err-reserve_call-clause-alike g c = record {
   words = refl;
   place = refl;
   stage = refl;
   rv = refl;
   wv = refl;
   cause = refl;
-  calls = c.in_err-reserve.ensures.items;
+  calls = c.in_err-reserve_call.ensures.items;
   copies = all_kept c.args.self.now.copies.items;
 }
 
@@ -24,7 +24,7 @@ returns-in_err-reserve_words-clause-alike g c = record {
   rv = refl;
   wv = refl;
   cause = refl;
-  calls = c.in_ok-reserve.ensures.items;
+  calls = c.in_ok-reserve_call.ensures.items;
   copies = all_kept c.args.self.now.copies.items;
 }
 
@@ -40,7 +40,7 @@ returns-in_err-ready-clause-alike g c =
       rv = refl;
       wv = refl;
       cause = refl;
-      calls = c.in_ok-reserve.ensures.items;
+      calls = c.in_ok-reserve_call.ensures.items;
       copies = kept_set cs c.args.place here (record { collection = here.collection; copied = c.ready.new.self }) at refl
           c.in_err-ready.ensures.kept;
     }
@@ -57,7 +57,7 @@ returns-clause-alike g c =
       rv = refl;
       wv = refl;
       cause = refl;
-      calls = c.in_ok-reserve.ensures.items;
+      calls = c.in_ok-reserve_call.ensures.items;
       copies = kept_set cs c.args.place here (record { collection = here.collection; copied = c.ready.new.self }) at refl
           c.in_ok-ready.ensures.kept;
     }
