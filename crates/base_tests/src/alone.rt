@@ -63,7 +63,7 @@ fn locations(base: &Base<u64>, stripes: u32) -> u32
     }
 }
 
-fn print_editions(text: &mut String, base: &Base<u64>, stripes: u32) -> Result<(), Memory>
+fn print_editions(text: &mut String, base: &Base<u64>, stripes: u32) -> Result<(), Refusal>
     requires { stripes_of base.now ≡ stripes }
 {
     text.push_str("editions")?;
@@ -79,8 +79,7 @@ pub fn answer_new(text: &mut String, row: &str) -> Result<(), Refusal> {
     let (kind, stripes) = row.split_once(' ').ok_or(Refusal::NoSuch)?;
     let stripes = stripes_in(stripes)?;
     let base = new_of(*text.allocator(), kind, stripes)?;
-    print_editions(text, &base, stripes)?;
-    Ok(())
+    print_editions(text, &base, stripes)
 }
 
 fn change_of(tokens: &[&str]) -> Option<Change<u64>> {
@@ -225,6 +224,5 @@ fn two_puts(alloc: Global) -> Result<Base<u64>, Refusal>
 /// The editions of a map in two stripes after two puts on one of them, each logged with it.
 pub fn answer_log(text: &mut String) -> Result<(), Refusal> {
     let base = two_puts(*text.allocator())?;
-    print_editions(text, &base, 2)?;
-    Ok(())
+    print_editions(text, &base, 2)
 }

@@ -212,27 +212,43 @@ fn refusal_at(name: &str, location: u32, word: u64) -> Option<Refusal> {
     }
 }
 
-fn stale(location: u32, base_edition: u64, word_edition: u64) -> Refusal {
-    Refusal::Stale {
-        location,
-        base_edition,
-        word_edition,
+fn refusal_of_editions(
+    name: &str,
+    location: u32,
+    base_edition: u64,
+    word_edition: u64,
+) -> Option<Refusal> {
+    match name {
+        "stale" => Some(Refusal::Stale {
+            location,
+            base_edition,
+            word_edition,
+        }),
+        _ => None,
     }
+}
+
+fn gate_busy(collection: &str) -> Option<Refusal> {
+    Some(Refusal::GateBusy {
+        collection: location_in(collection)?,
+    })
+}
+
+fn refusal_of_one(name: &str, token: &str) -> Option<Refusal> {
+    if name == "gate_busy" {
+        return gate_busy(token);
+    }
+    refusal_of_number(name, number(token)?)
 }
 
 fn refusal_of(tokens: &[&str]) -> Option<Refusal> {
     match tokens {
         [name] => plain_refusal(name),
-        ["gate_busy", collection] => Some(Refusal::GateBusy {
-            collection: location_in(collection)?,
-        }),
-        [name, of] => refusal_of_number(name, number(of)?),
+        [name, token] => refusal_of_one(name, token),
         [name, location, word] => refusal_at(name, location_in(location)?, number(word)?),
-        ["stale", location, base, word] => Some(stale(
-            location_in(location)?,
-            number(base)?,
-            number(word)?,
-        )),
+        [name, location, base, word] => {
+            refusal_of_editions(name, location_in(location)?, number(base)?, number(word)?)
+        }
         _ => None,
     }
 }

@@ -203,11 +203,24 @@ fn steps(text: &mut String, table: &mut Table<u64>, row: &str) -> Result<(), Ref
     Ok(())
 }
 
-fn print_table(text: &mut String, table: &Table<u64>) -> Result<(), Memory> {
+fn print_table(text: &mut String, table: &Table<u64>) -> Result<(), Refusal> {
     let count = table.len();
     write!(text, "{count} keys, ")?;
     let held = Held::Map(table.to_entries()?);
-    print_held(text, &held)
+    print_held(text, &held)?;
+    Ok(())
+}
+
+fn print_both(text: &mut String, table: &Table<u64>) -> Result<(), Refusal> {
+    print_table(text, table)?;
+    text.push_str("; again ")?;
+    let again = opened_again(*text.allocator(), table)?;
+    print_table(text, &again)
+}
+
+fn make_and_print(text: &mut String, table: &mut Table<u64>, row: &str) -> Result<(), Refusal> {
+    steps(text, table, row)?;
+    print_both(text, table)
 }
 
 fn opened_again(alloc: Global, table: &Table<u64>) -> Result<Table<u64>, Memory> {
@@ -220,10 +233,5 @@ fn opened_again(alloc: Global, table: &Table<u64>) -> Result<Table<u64>, Memory>
 /// opened of a copy's entries.
 pub fn answer_table(text: &mut String, row: &str) -> Result<(), Refusal> {
     let mut table = Table::new(*text.allocator());
-    steps(text, &mut table, row)?;
-    print_table(text, &table)?;
-    text.push_str("; again ")?;
-    let again = opened_again(*text.allocator(), &table)?;
-    print_table(text, &again)?;
-    Ok(())
+    make_and_print(text, &mut table, row)
 }
