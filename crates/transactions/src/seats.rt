@@ -56,7 +56,13 @@ impl<V: Value> TxSeat<V> {
         ensures keeps { KeepsReceipts self.old.seat self.new.seat }
     {
         if self.is_open() {
-            crate::requests::abort(self.alloc, table, &mut self.seat, &mut self.actor, &mut self.bases);
+            crate::requests::abort(
+                self.alloc,
+                table,
+                &mut self.seat,
+                &mut self.actor,
+                &mut self.bases,
+            );
         }
     }
 
@@ -72,7 +78,13 @@ impl<V: Value> TxSeat<V> {
         ensures refused { IfErr result (IsNotBegun (opening_of table.now) self.old.seat self.new.seat) }
     {
         self.abort(table);
-        crate::requests::begin(self.alloc, table, &mut self.seat, &mut self.actor, &mut self.bases)
+        crate::requests::begin(
+            self.alloc,
+            table,
+            &mut self.seat,
+            &mut self.actor,
+            &mut self.bases,
+        )
     }
 
     /// A transaction begins that writes nothing, as `begin` does.
@@ -86,7 +98,13 @@ impl<V: Value> TxSeat<V> {
         ensures refused { IfErr result (IsNotBegun (opening_of table.now) self.old.seat self.new.seat) }
     {
         self.abort(table);
-        crate::requests::begin_read(self.alloc, table, &mut self.seat, &mut self.actor, &mut self.bases)
+        crate::requests::begin_read(
+            self.alloc,
+            table,
+            &mut self.seat,
+            &mut self.actor,
+            &mut self.bases,
+        )
     }
 
     /// A call on a word or a collection. `NoTransaction` where none is open, then as [`crate::call`] has it.
@@ -102,7 +120,14 @@ impl<V: Value> TxSeat<V> {
         if !self.is_open() {
             return Err(Refusal::NoTransaction);
         }
-        crate::calls::call(self.alloc, table, &mut self.seat, &mut self.actor, &mut self.bases, call)
+        crate::calls::call(
+            self.alloc,
+            table,
+            &mut self.seat,
+            &mut self.actor,
+            &mut self.bases,
+            call,
+        )
     }
 
     /// A word is read, as `call` has it.
@@ -159,7 +184,13 @@ impl<V: Value> TxSeat<V> {
         if !self.is_open() {
             return Err(Refusal::NoTransaction);
         }
-        let receipt = crate::commits::commit(self.alloc, table, &mut self.seat, &mut self.actor, &mut self.bases)?;
+        let receipt = crate::commits::commit(
+            self.alloc,
+            table,
+            &mut self.seat,
+            &mut self.actor,
+            &mut self.bases,
+        )?;
         self.seat.note(receipt.number);
         Ok(receipt)
     }
