@@ -2,13 +2,14 @@
 ghost use Rattle.std.specs.Prelude.{◌≡◌, ◌<◌, ◌≤◌, ◌^◌, ◌∷◌, [], IfOk, IsTrue, slice_index};
 ghost use Rattle.replay_log.specs.Base.{editions_of, locations_of, shown_of, stripes_of};
 
-use crate::bench::{HIGH, print_base, script_of, stripes_in};
+use crate::bench::{HIGH, print_base, stripes_in};
 use base_bag::BagBase;
 use base_map::MapBase;
 use base_pq::PqBase;
 use base_queue::QueueBase;
 use conflict::{Change, Changes, LocSet};
 use replay_log::{Base, Log};
+use row_parts::script_of;
 use seq_model::{Held, Items, Memory, Refusal};
 use std::alloc::Global;
 use std::fmt::Write;

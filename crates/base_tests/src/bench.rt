@@ -5,11 +5,11 @@ use crate::alone::changes_of;
 use crate::print::{print_changes, print_held, print_outcome};
 use conflict::{Changes, LocSet, conflicts};
 use replay_log::{Base, Log};
-use row_parts::print_reply;
+use row_parts::{print_reply, script_of};
 use seq_model::{Call, Held, Memory, Op, Refusal, Reply, Request, State};
 use shadow::Shadow;
 use std::alloc::Global;
-use step_script::{Line, Script, parse_steps};
+use step_script::{Line, Script};
 use text_lines::number;
 
 /// No edition that is raised here is so high.
@@ -20,16 +20,6 @@ pub const HIGH: u64 = 1 << 62;
 pub struct Bench {
     base: Base<u64>,
     state: State<u64>,
-}
-
-/// The script of lines with `; ` between.
-pub fn script_of(alloc: Global, row: &str) -> Result<Script, Refusal> {
-    let mut lines = String::new(alloc);
-    for line in row.split("; ") {
-        lines.push_str(line)?;
-        lines.push('\n')?;
-    }
-    parse_steps(alloc, lines.as_bytes())
 }
 
 /// A queue is taken from this index.

@@ -1,9 +1,10 @@
 //! The rows, and who answers each.
 use crate::alone::{answer_log, answer_new, answer_of_kind, answer_raised};
 use crate::audits::{answer_audit, answer_records};
-use crate::bench::{Bench, script_of};
+use crate::bench::Bench;
 use crate::models::{answer_event, answer_refusal, answer_same, answer_state};
 use crate::parts::{answer_below, answer_editions, answer_meet, answer_set, answer_table};
+use row_parts::script_of;
 use seq_model::{Memory, Refusal};
 use std::alloc::Global;
 use std::fmt::Write;

@@ -1,6 +1,8 @@
-//! What programs of rows have in common: how a reply is printed.
+//! What programs of rows have in common: how a reply is printed, and the script that a row spells.
 #![tactic(auto)]
 
 mod replies;
+mod scripts;
 
 pub use replies::print_reply;
+pub use scripts::script_of;

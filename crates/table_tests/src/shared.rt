@@ -15,6 +15,6 @@ pub use ends::{audit_receipts, close, print_receipt};
 pub use jobs::{Listed, job_of};
 pub use learning::{learn, say_last};
 pub use meeting::Meeting;
-pub use openings::{open, opening_of, script_of};
+pub use openings::{open, opening_of};
 pub use pages::{Page, end_page};
 pub use writes::{commit_after, commit_write};

@@ -5,10 +5,11 @@ ghost use Rattle.transactions.specs.Ready.{IsReady};
 
 use crate::borrowed::calls::Way;
 use crate::pairs::{Pair, run_pair};
-use crate::shared::{Page, close, end_page, open, opening_of, script_of};
+use crate::shared::{Page, close, end_page, open, opening_of};
 use crate::worker::lists::{Limits, limits_of};
 use crate::worker::retries::retry_rows;
 use crate::worker::runs::run_lists;
+use row_parts::script_of;
 use seq_model::{Refusal, State};
 use std::sync::Wait;
 use std::thread::Threads;

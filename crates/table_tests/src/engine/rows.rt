@@ -2,7 +2,8 @@
 ghost use Rattle.table_tests.specs.Fit.{IsFit};
 
 use super::requests::{ask, leave_open, try_job};
-use crate::shared::{Meeting, Page, job_of, learn, say_last, script_of};
+use crate::shared::{Meeting, Page, job_of, learn, say_last};
+use row_parts::script_of;
 use seq_model::Refusal;
 use step_script::Line;
 use text_lines::number;

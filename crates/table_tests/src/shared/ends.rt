@@ -1,8 +1,7 @@
 //! How a table ends.
 ghost use Rattle.transactions.specs.Ready.{IsReady};
 
-use super::openings::script_of;
-use row_parts::print_reply;
+use row_parts::{print_reply, script_of};
 use seq_model::{AuditFault, Memory, Record, Refusal, Request, State, Value, audit};
 use std::alloc::Global;
 use std::fmt::Write;

@@ -1,5 +1,5 @@
 //! Jobs that a row spells.
-use super::openings::script_of;
+use row_parts::script_of;
 use seq_model::{Items, Memory, Refusal, Reply, Request};
 use std::alloc::Global;
 use step_script::{Line, Script};

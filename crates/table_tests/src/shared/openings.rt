@@ -5,24 +5,9 @@ ghost use Rattle.transactions.specs.Ready.{IsReady};
 
 use seq_model::{Held, Items, Memory, Refusal, Shape, State};
 use std::alloc::Global;
-use step_script::{Script, parse_steps};
+use step_script::Script;
 use transactions::TxSeat;
 use tx_table::TxTable;
-
-/// The script of lines with `; ` between.
-pub fn script_of(alloc: Global, row: &str) -> Result<Script, Refusal> {
-    let mut lines = String::new(alloc);
-    add_lines(&mut lines, row)?;
-    parse_steps(alloc, lines.as_bytes())
-}
-
-fn add_lines(lines: &mut String, row: &str) -> Result<(), Memory> {
-    for line in row.split("; ") {
-        lines.push_str(line)?;
-        lines.push('\n')?;
-    }
-    Ok(())
-}
 
 /// The state that the header of a script says.
 pub fn opening_of(alloc: Global, script: &Script) -> Result<State<u64>, Refusal> {
