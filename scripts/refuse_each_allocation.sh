@@ -1,71 +1,116 @@
 #!/usr/bin/env bash
-# Refuses each allocation of a crate's tests in turn.
+# Refuses each allocation of a program's stored run in turn.
 #
-#     scripts/refuse_each_allocation.sh CRATE [FIRST [LAST]]
+#     scripts/refuse_each_allocation.sh CRATE [--sections | --section PLACE .. | --on INPUT ..] [FIRST [LAST]]
 #
-# Runs each test of CRATE with its first allocation refused, then with the second, and so on. A test may
-# pass, or return the error that says that memory was refused; any other end (a failed assertion, another
-# error, a fault) is printed, and the script fails. So tests hand on what a call refuses by `?`, and never
-# compare the answer of a call that allocates with `Ok`.
-#
-# A test ends after LAST, or once it is refused nothing: eight runs in a row that pass after one that was
-# refused, as a run may pass where code goes on after a refusal; or forty from the start. RT names the
+# Runs the program of CRATE on its files args and stdin with the first allocation refused, then with the
+# second, and so on. Each run must print the file stdout with status 0, or nothing but the line `Memory`
+# with status 2. With --on it reads INPUT in place of stdin, by `step -`, or by `vacation -` where INPUT
+# ends in .sessions, and must print what stands beside INPUT in the file of its name that ends in .out;
+# one build serves all inputs. With --sections it reads each section of stdin by itself, which `----` closes,
+# and must print the section of stdout in its place, which a line `# NAME` opens; with --section only those in
+# these places, from 1 on. It ends after LAST, or once forty runs in a row were refused nothing. RT names the
 # command, `rt` by default.
 set -u
 
 if [ $# -lt 1 ]; then
-    sed -n '2,14s/^# \{0,1\}//p' "$0"
+    sed -n '2,15s/^# \{0,1\}//p' "$0"
     exit 2
 fi
 crate=$1
-first=${2:-1}
-last=${3:-0}
+shift
+sections=
+if [ "${1:-}" = --sections ]; then
+    sections=all
+    shift
+fi
+while [ "${1:-}" = --section ]; do
+    sections="$sections ${2:?}"
+    shift 2
+done
+inputs=()
+while [ "${1:-}" = --on ]; do
+    inputs+=("$(realpath -e "${2:?}")") || exit 2
+    shift 2
+done
+first=${1:-1}
+last=${2:-0}
 source "$(dirname "$0")/refused_allocation.sh"
 cd "$(dirname "$0")/../crates/$crate" || exit 2
 
-if ! keep_program --test; then
-    tail -n 20 "$folder/output"
-    echo "$crate: its tests were not built"
-    exit 1
-fi
-mapfile -t tests < <(sed -n 's/^test \(.*\) \.\.\. ok$/\1/p' "$folder/output")
-if [ "${#tests[@]}" -eq 0 ] || grep -q '^test .* FAILED$' "$folder/output"; then
-    tail -n 20 "$folder/output"
-    echo "$crate: its tests did not pass with ample memory"
-    exit 1
-fi
-
-# Whether a test printed that it returned an error, and that this says that memory was refused.
-returned_memory() {
-    grep -q 'its result gives status 1' <<<"$1" && grep -qE '^(error: .*)?(AllocError|AllocFailed|OutOfMemory|Memory)' <<<"$1"
+# take_input [INPUT]: sets words, stdin and wanted, to the stored ones where there is no INPUT.
+take_input() {
+    words=()
+    stdin=/dev/null
+    local stdout=stdout
+    if [ $# -gt 0 ]; then
+        words=(step -)
+        case $1 in *.sessions) words=(vacation -) ;; esac
+        stdin=$1
+        stdout=${1%.*}.out
+    else
+        [ -f args ] && mapfile -t words < args
+        [ -f stdin ] && stdin=stdin
+    fi
+    wanted=$(cat "$stdout") || exit 2
 }
 
-declare -A refused quiet
-left=("${tests[@]}")
-total=0
-n=$first
-while [ "${#left[@]}" -gt 0 ] && { [ "$last" -eq 0 ] || [ "$n" -le "$last" ]; }; do
-    refuse "$n"
-    go_on=()
-    for test in "${left[@]}"; do
-        output=$(run_refusing "$test" 2>&1)
+# refuse_sections: refuses each allocation of the run on each section of the stored input.
+refuse_sections() {
+    local count place
+    awk -v to="$folder/in" 'BEGIN { n = 1 } { print > (to n) } /----$/ { n++ }' stdin
+    awk -v to="$folder/out" '/^# / { n++ } { print > (to n) }' stdout
+    count=$(find "$folder" -name 'in[0-9]*' | wc -l)
+    if [ "$count" -ne "$(find "$folder" -name 'out[0-9]*' | wc -l)" ]; then
+        echo "$crate: stdin and stdout have not as many sections"
+        exit 2
+    fi
+    [ "$sections" = all ] && sections=$(seq "$count")
+    for place in $sections; do
+        stdin=$folder/in$place
+        wanted=$(cat "$folder/out$place")
+        refuse_each "$crate, section $place"
+    done
+    echo "$crate: $(wc -w <<<"$sections") of $count sections, $total refusals"
+}
+
+# refuse_each NAME: refuses each allocation of the run on what was taken.
+refuse_each() {
+    local refused=0 quiet=0 n=$first output status
+    while [ "$quiet" -lt 40 ] && { [ "$last" -eq 0 ] || [ "$n" -le "$last" ]; }; do
+        refuse "$n"
+        output=$(run_refusing "${words[@]}" < "$stdin" 2>&1)
         status=$?
-        if [ "$status" -eq 0 ]; then
-            quiet[$test]=$((${quiet[$test]:-0} + 1))
-        elif [ "$status" -eq 101 ] && returned_memory "$output"; then
-            quiet[$test]=0
-            refused[$test]=$((${refused[$test]:-0} + 1))
-            total=$((total + 1))
+        if [ "$status" -eq 0 ] && [ "$output" = "$wanted" ]; then
+            quiet=$((quiet + 1))
+        elif [ "$status" -eq 2 ] && [ "$output" = Memory ]; then
+            refused=$((refused + 1))
+            quiet=0
         else
             printf '%s\n' "$output" | tail -n 20
-            echo "$crate: with allocation $n refused $test ended otherwise than by Memory (status $status)"
+            echo "$1: with allocation $n refused the run ended otherwise (status $status)"
             exit 1
         fi
-        if [ "${quiet[$test]:-0}" -lt 8 ] || { [ "${refused[$test]:-0}" -eq 0 ] && [ "${quiet[$test]}" -lt 40 ]; }; then
-            go_on+=("$test")
-        fi
+        n=$((n + 1))
     done
-    left=("${go_on[@]}")
-    n=$((n + 1))
+    total=$((total + refused))
+    echo "$1: $refused refusals, each answered by Memory with status 2; none from allocation $((n - quiet)) on"
+}
+
+take_input ${inputs[0]:+"${inputs[0]}"}
+# What the interpreter makes of the run beside is not looked at, so it ends soon.
+if ! keep_program --steps 1000 -- "${words[@]}" < "$stdin"; then
+    tail -n 20 "$folder/output"
+    echo "$crate: its program was not built"
+    exit 1
+fi
+total=0
+if [ -n "$sections" ]; then
+    refuse_sections
+elif [ "${#inputs[@]}" -eq 0 ]; then
+    refuse_each "$crate"
+fi
+for input in "${inputs[@]}"; do
+    take_input "$input"
+    refuse_each "$crate on $(basename "$input")"
 done
-echo "$crate: ${#tests[@]} tests, $total refusals, each answered by Memory; the last tried was allocation $((n - 1)), ${#left[@]} tests were not at their end"

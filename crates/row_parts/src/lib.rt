@@ -1,4 +1,4 @@
-//! What programs of rows have in common: how a reply is printed, and the script that a row spells.
+//! What programs of rows on calls have in common: how a reply is printed, and the script that a row spells.
 #![tactic(auto)]
 
 mod replies;
