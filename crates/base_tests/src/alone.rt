@@ -29,8 +29,10 @@ pub fn answer_of_kind(text: &mut String, row: &str) -> Result<(), Refusal> {
 fn answer_as(text: &mut String, kind: &str, collection: &Collection) -> Result<(), Refusal> {
     let alloc = *text.allocator();
     let held = collection.held.try_copy(alloc)?;
-    let base = open_as(alloc, kind, collection.stripes, held)?;
-    print_base(text, &base)
+    match open_as(alloc, kind, collection.stripes, held) {
+        Ok(base) => print_base(text, &base),
+        Err(refusal) => Err(refusal),
+    }
 }
 
 fn open_as(alloc: Global, kind: &str, stripes: u32, held: Held<u64>) -> Result<Base<u64>, Refusal> {
@@ -79,8 +81,10 @@ fn print_editions(text: &mut String, base: &Base<u64>, stripes: u32) -> Result<(
 pub fn answer_new(text: &mut String, row: &str) -> Result<(), Refusal> {
     let (kind, stripes) = row.split_once(' ').ok_or(Refusal::NoSuch)?;
     let stripes = stripes_in(stripes)?;
-    let base = new_of(*text.allocator(), kind, stripes)?;
-    print_editions(text, &base, stripes)
+    match new_of(*text.allocator(), kind, stripes) {
+        Ok(base) => print_editions(text, &base, stripes),
+        Err(refusal) => Err(refusal),
+    }
 }
 
 fn change_of(tokens: &[&str]) -> Option<Change<u64>> {
@@ -177,11 +181,25 @@ fn raise_new(
     changes: &str,
     written: (u32, u32),
 ) -> Result<(), Refusal> {
+    match new_of(*text.allocator(), kind, stripes) {
+        Ok(mut base) => raise_and_print(text, &mut base, stripes, changes, written),
+        Err(refusal) => Err(refusal),
+    }
+}
+
+fn raise_and_print(
+    text: &mut String,
+    base: &mut Base<u64>,
+    stripes: u32,
+    changes: &str,
+    written: (u32, u32),
+) -> Result<(), Refusal>
+    requires { stripes_of base.old ≡ stripes }
+{
     let alloc = *text.allocator();
     let changes = changes_of(alloc, changes)?;
-    let mut base = new_of(alloc, kind, stripes)?;
-    raise(alloc, &mut base, stripes, changes, written)?;
-    print_raised(text, &base, stripes)
+    raise(alloc, base, stripes, changes, written)?;
+    print_raised(text, base, stripes)
 }
 
 fn print_raised(text: &mut String, base: &Base<u64>, stripes: u32) -> Result<(), Refusal>
@@ -212,18 +230,31 @@ fn log_of_two_puts(alloc: Global) -> Result<Log<u64>, Memory>
     Ok(log)
 }
 
-fn two_puts(alloc: Global) -> Result<Base<u64>, Refusal>
-    ensures { IfOk result (λ base. stripes_of base ≡ 2) }
+fn fold(base: &mut Base<u64>, log: Log<u64>) -> Result<(), Refusal>
+    requires stripes { stripes_of base.old ≡ 2 }
+    requires locations { log.locations ≡ 1 ∷ 1 ∷ [] }
+    ensures { stripes_of base.new ≡ 2 }
 {
-    let mut base = Base::Map(MapBase::new(alloc, 2)?);
-    let log = log_of_two_puts(alloc)?;
     base.prepare(log.changes())?;
-    log.fold_into(&mut base);
-    Ok(base)
+    if !is_raisable(base, 2, 1) {
+        return Err(Refusal::NoSuch);
+    }
+    log.fold_into(base);
+    Ok(())
+}
+
+fn print_two_puts(text: &mut String, base: &mut Base<u64>) -> Result<(), Refusal>
+    requires { stripes_of base.old ≡ 2 }
+{
+    let log = log_of_two_puts(*text.allocator())?;
+    fold(base, log)?;
+    print_editions(text, base, 2)
 }
 
 /// The editions of a map in two stripes after two puts on one of them, each logged with it.
 pub fn answer_log(text: &mut String) -> Result<(), Refusal> {
-    let base = two_puts(*text.allocator())?;
-    print_editions(text, &base, 2)
+    match new_of(*text.allocator(), "map", 2) {
+        Ok(mut base) => print_two_puts(text, &mut base),
+        Err(refusal) => Err(refusal),
+    }
 }

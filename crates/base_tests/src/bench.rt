@@ -3,7 +3,7 @@ ghost use Rattle.std.specs.Prelude.{◌≡◌, [], IfOk};
 
 use crate::alone::changes_of;
 use crate::print::{print_changes, print_held, print_outcome};
-use conflict::{Changes, LocSet, conflicts};
+use conflict::{Changes, LocSet, Outcome, conflicts};
 use replay_log::{Base, Log};
 use row_parts::{print_reply, script_of};
 use seq_model::{Call, Held, Memory, Op, Refusal, Reply, Request, State};
@@ -223,6 +223,11 @@ fn shadow_call(text: &mut String, shadow: &mut Shadow<u64>, op: &Op<u64>) -> Res
     let outcome = shadow.answer(op)?;
     print_outcome(text, shadow.base(), &outcome)?;
     text.push_str("; ")?;
+    accept(shadow, outcome)?;
+    Ok(())
+}
+
+fn accept(shadow: &mut Shadow<u64>, outcome: Outcome<u64>) -> Result<(), Memory> {
     shadow.ready(&outcome)?;
     shadow.accept(outcome);
     Ok(())

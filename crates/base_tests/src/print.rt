@@ -13,8 +13,26 @@ pub fn print_outcome(
     outcome: &Outcome<u64>,
 ) -> Result<(), Memory> {
     print_reply(text, &outcome.reply)?;
-    print_locations(text, ", reads", &base.reads(outcome)?)?;
-    print_locations(text, ", writes", &base.writes(outcome)?)?;
+    print_reads(text, base, outcome)?;
+    print_writes(text, base, outcome)?;
+    print_changes_of(text, base, outcome)
+}
+
+fn print_reads(text: &mut String, base: &Base<u64>, outcome: &Outcome<u64>) -> Result<(), Memory> {
+    let reads = base.reads(outcome)?;
+    print_locations(text, ", reads", &reads)
+}
+
+fn print_writes(text: &mut String, base: &Base<u64>, outcome: &Outcome<u64>) -> Result<(), Memory> {
+    let writes = base.writes(outcome)?;
+    print_locations(text, ", writes", &writes)
+}
+
+fn print_changes_of(
+    text: &mut String,
+    base: &Base<u64>,
+    outcome: &Outcome<u64>,
+) -> Result<(), Memory> {
     let changes = base.changes(outcome)?;
     print_changes(text, changes.as_slice())
 }

@@ -1,32 +1,106 @@
 //! Benchmarks of each layer, by name: `measure NAME` prints what one took.
 //!
-//! With no name it prints nothing, so that it can be run with all other programs of the repository.
+//! With no name it prints nothing, so that it can be run with all other programs of the repository. Behind some names may stand numbers,
+//! which ask for one row alone:
+//!
+//! - `engine KIND WRITES THREADS TRANSACTIONS`: of transactions on words (KIND 0) or a map (1), of whose calls WRITES of ten change something;
+//! - `sessions RELATIONS CLIENTS SESSIONS`: of drawn sessions at seats of a shared table;
+//! - `lock RELATIONS CLIENTS SESSIONS`: of the same sessions under one lock.
 #![tactic(auto)]
 
+use sessions::options;
+use std::alloc::Global;
+use std::rt::Runtime;
+use std::sync::Wait;
+use std::thread::Threads;
 use std::{env, io};
+use work::Work;
 
 mod audit;
+mod counts;
+mod engine;
+mod lock;
+mod locked;
+mod ordered;
 mod reservations;
+mod rows;
+mod seats;
+mod served;
 mod sessions;
 mod sets;
+mod work;
 mod worlds;
 
 fn main(rt: HostRuntime) -> io::Result<()> {
     let mut words = env::args(&rt)?;
     let _program = words.next();
-    match words.next() {
-        Some(name) => measure(&rt, name.as_str()),
-        None => Ok(()),
+    let Some(name) = words.next() else {
+        return Ok(());
+    };
+    let numbers = numbers_of(rt.alloc(), words)?;
+    measure(&rt, name.as_str(), numbers.as_slice())
+}
+
+fn numbers_of(alloc: Global, words: env::Args<Global>) -> io::Result<Vec<u32>> {
+    let mut numbers = Vec::new(alloc);
+    for word in words {
+        match word.parse::<u32>() {
+            Ok(number) => numbers.push(number)?,
+            Err(_) => return Err(io::Error::other("a word is no number")),
+        }
+    }
+    Ok(numbers)
+}
+
+fn measure<R: Runtime + AllocGlobal + Threads + Wait + Sync>(
+    rt: &R,
+    name: &str,
+    numbers: &[u32],
+) -> io::Result<()> {
+    match numbers {
+        [] => measure_all(rt, name),
+        _ => measure_one(rt, name, numbers),
     }
 }
 
-fn measure(rt: &HostRuntime, name: &str) -> io::Result<()> {
+fn measure_all<R: Runtime + AllocGlobal + Threads + Wait + Sync>(
+    rt: &R,
+    name: &str,
+) -> io::Result<()> {
     match name {
         "audit" => audit::measure(rt),
+        "engine" => engine::measure(rt),
+        "ordered" => ordered::measure(rt),
         "reservations" => reservations::measure(rt),
-        "sessions" => sessions::measure(rt),
+        "sessions" => rows::measure(rt),
         "sets" => sets::measure(rt),
         "world" => worlds::measure(rt),
         _ => Err(io::Error::other("no benchmark has this name")),
+    }
+}
+
+fn measure_one<R: Runtime + AllocGlobal + Threads + Wait + Sync>(
+    rt: &R,
+    name: &str,
+    numbers: &[u32],
+) -> io::Result<()> {
+    match (name, numbers) {
+        ("engine", [kind, writes, threads, transactions]) => {
+            engine::report_seats(rt, work_of(*kind, *writes), *threads, *transactions)
+        }
+        ("sessions", [relations, clients, sessions]) => {
+            rows::report_table(rt, &options(*relations, *clients, *sessions))
+        }
+        ("lock", [relations, clients, sessions]) => {
+            rows::report_lock(rt, &options(*relations, *clients, *sessions))
+        }
+        _ => Err(io::Error::other("no benchmark has this name and these numbers")),
+    }
+}
+
+fn work_of(kind: u32, writes: u32) -> Work {
+    Work {
+        is_on_words: kind == 0,
+        writes,
     }
 }

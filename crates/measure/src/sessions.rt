@@ -1,76 +1,42 @@
-//! Files of sessions on the core, in microseconds a session.
+//! The sessions that are run.
 ghost use Rattle.generated_sessions.specs.Options.{AreWithin};
 
-use generated_sessions::{Options, generate, opening};
-use ordered_sessions::run_in_order;
+use generated_sessions::{Options, generate};
 use seq_model::Memory;
+use std::alloc::Global;
 use std::io;
-use std::rt::Runtime;
-use std::time::Instant;
 use vac_model::Action;
 
 /// All is drawn from this.
-const SEED: u64 = 1;
+pub const SEED: u64 = 1;
 
-/// The stripes of each collection.
-const STRIPES: u32 = 64;
-
-/// Prints what a session takes with few items and with many, of few sessions and of many.
-pub fn measure(rt: &(impl Runtime + AllocGlobal)) -> io::Result<()> {
-    for relations in [100, 10_000] {
-        for transactions in [1000, 10_000, 100_000] {
-            report(rt, relations, transactions)?;
-        }
-    }
-    Ok(())
-}
-
-/// With so many items of each kind, and so many sessions.
-fn report(rt: &(impl Runtime + AllocGlobal), relations: u32, transactions: u32) -> io::Result<()> {
-    let options = Options {
-        clients: 1,
+/// So many sessions of so many clients, nine of ten of which are reservations.
+pub fn options(relations: u32, clients: u32, sessions: u32) -> Options {
+    Options {
+        clients,
         queries: 10,
         percent_queried: 90,
         relations,
-        transactions,
+        transactions: sessions,
         percent_user: 90,
-    };
-    let seconds = seconds_of(rt, &options)?;
-    let micros = seconds * 1e6 / f64::from(transactions);
-    println!(rt;
-        "{relations} items a kind, {transactions} sessions: {micros:.1} microseconds a session"
-    )
-}
-
-fn seconds_of(rt: &(impl Runtime + AllocGlobal), options: &Options) -> io::Result<f64> {
-    if !options.are_within() {
-        return Err(io::Error::other("there are no such sessions"));
     }
-    drawn(rt, options)
 }
 
-fn drawn(rt: &(impl Runtime + AllocGlobal), options: &Options) -> io::Result<f64>
+/// The sessions of each client.
+pub fn lists_of(alloc: Global, options: &Options) -> Result<Vec<Vec<Action>>, Memory>
     requires { AreWithin options.now }
 {
-    let actions = generate(rt.alloc(), SEED, 1, options).map_err(memory)?;
-    timed(rt, options, actions.as_slice())
-}
-
-fn timed(
-    rt: &(impl Runtime + AllocGlobal),
-    options: &Options,
-    actions: &[Action],
-) -> io::Result<f64>
-    requires { AreWithin options.now }
-{
-    let tables = opening(rt.alloc(), SEED, options).map_err(memory)?;
-    let start = Instant::now(rt);
-    if run_in_order(rt.alloc(), tables, STRIPES, actions).is_err() {
-        return Err(io::Error::other("a session was refused"));
+    let mut lists = Vec::new(alloc);
+    for worker in 1..=options.clients {
+        lists.push(generate(alloc, SEED, worker, options)?)?;
     }
-    Ok(start?.elapsed(rt)?.as_secs_f64())
+    Ok(lists)
 }
 
-fn memory(_memory: Memory) -> io::Error {
+pub fn memory(_memory: Memory) -> io::Error {
     io::Error::from(io::ErrorKind::OutOfMemory)
+}
+
+pub fn no_such_sessions() -> io::Error {
+    io::Error::other("there are no such sessions")
 }

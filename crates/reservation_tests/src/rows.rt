@@ -43,11 +43,15 @@ fn answer_each(text: &mut String, rows: &str) -> Result<(), Memory> {
 
 fn answer_line(text: &mut String, tables: &mut Tables, row: &str) -> Result<(), Memory> {
     text.push_str(row)?;
-    if !row.is_empty() && !row.starts_with('#') {
+    if is_asked(row) {
         answer(text, tables, row)?;
     }
     text.push('\n')?;
     Ok(())
+}
+
+fn is_asked(row: &str) -> bool {
+    !matches!(row.as_bytes(), [] | [b'#', ..])
 }
 
 fn answer(text: &mut String, tables: &mut Tables, row: &str) -> Result<(), Memory> {

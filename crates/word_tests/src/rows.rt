@@ -37,10 +37,14 @@ fn answer_each(text: &mut String, rows: &str) -> Result<(), AllocError> {
 
 fn answer_line(text: &mut String, words: &mut Option<Words>, row: &str) -> Result<(), AllocError> {
     text.push_str(row)?;
-    if !row.is_empty() && !row.starts_with('#') {
+    if is_asked(row) {
         answer(text, words, row)?;
     }
     text.push('\n')
+}
+
+fn is_asked(row: &str) -> bool {
+    !matches!(row.as_bytes(), [] | [b'#', ..])
 }
 
 fn answer(text: &mut String, words: &mut Option<Words>, row: &str) -> Result<(), AllocError> {

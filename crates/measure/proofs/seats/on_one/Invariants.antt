@@ -1,5 +1,5 @@
 use Rattle.transactions.specs.Ready.{IsReady}
-use Rattle.measure_threads.proofs.seats.on_one.Given as goal
+use Rattle.measure.proofs.seats.on_one.Given as goal
 
 abbrev pub invariant-transactions : goal.invariant-transactions
 invariant-transactions l = IsReady l.table l.seat

@@ -1,0 +1,62 @@
+//! Files of sessions on the core, in microseconds a session.
+ghost use Rattle.generated_sessions.specs.Options.{AreWithin};
+
+use crate::sessions::{SEED, memory, no_such_sessions, options};
+use generated_sessions::{Options, generate, opening};
+use ordered_sessions::run_in_order;
+use std::io;
+use std::rt::Runtime;
+use std::time::Instant;
+use vac_model::Action;
+
+/// The stripes of each collection.
+const STRIPES: u32 = 64;
+
+/// Prints what a session takes with few items and with many, of few sessions and of many.
+pub fn measure(rt: &(impl Runtime + AllocGlobal)) -> io::Result<()> {
+    for relations in [100, 10_000] {
+        for sessions in [1000, 10_000, 100_000] {
+            report(rt, relations, sessions)?;
+        }
+    }
+    Ok(())
+}
+
+/// With so many items of each kind, and so many sessions.
+fn report(rt: &(impl Runtime + AllocGlobal), relations: u32, sessions: u32) -> io::Result<()> {
+    let seconds = seconds_of(rt, &options(relations, 1, sessions))?;
+    let micros = seconds * 1e6 / f64::from(sessions);
+    println!(rt;
+        "{relations} items a kind, {sessions} sessions: {micros:.1} microseconds a session"
+    )
+}
+
+fn seconds_of(rt: &(impl Runtime + AllocGlobal), options: &Options) -> io::Result<f64> {
+    if options.are_within() {
+        drawn(rt, options)
+    } else {
+        Err(no_such_sessions())
+    }
+}
+
+fn drawn(rt: &(impl Runtime + AllocGlobal), options: &Options) -> io::Result<f64>
+    requires { AreWithin options.now }
+{
+    let actions = generate(rt.alloc(), SEED, 1, options).map_err(memory)?;
+    timed(rt, options, actions.as_slice())
+}
+
+fn timed(
+    rt: &(impl Runtime + AllocGlobal),
+    options: &Options,
+    actions: &[Action],
+) -> io::Result<f64>
+    requires { AreWithin options.now }
+{
+    let tables = opening(rt.alloc(), SEED, options).map_err(memory)?;
+    let start = Instant::now(rt);
+    if run_in_order(rt.alloc(), tables, STRIPES, actions).is_err() {
+        return Err(io::Error::other("a session was refused"));
+    }
+    Ok(start?.elapsed(rt)?.as_secs_f64())
+}
