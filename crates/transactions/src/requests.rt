@@ -51,6 +51,7 @@ fn begun<V: Value>(
 }
 
 /// A transaction begins, and is answered with the number at which it has begun. `Exhausted` at the limit of the clock, and there is none.
+/// `bases` lends its room to the bases that a request takes on its way, here and below: it holds none in the end.
 pub fn begin<V: Value>(
     alloc: Global,
     table: &TxTable<V>,

@@ -2,7 +2,8 @@
 -- the gate lets its seat wait for it (`waits_for`): where it is ready by then it goes on as any call that is copied (`taken_ready`), and
 -- where memory was refused its seat is given up as one that reads (`starves_behind`). A word actor that waits for a location cancels as one
 -- that rests (`cancelled_look`), so the actor is given up where it stands.
-use Rattle.std.proofs.Common.{◌≡◌, ℕ, ◌+◌, ◌<◌, ◌==◌, ◌^◌, ◌&&◌, true, false, cond, filter, List, [], ◌∷◌, Option, Some, None, refl, sym, ap}
+use Rattle.std.proofs.Common.{◌≡◌, ℕ, ◌+◌, ◌<◌, ◌==◌, ◌^◌, ◌&&◌, true, false, cond, filter, List, [], ◌∷◌, Option, Some, None}
+use Rattle.std.proofs.Common.{refl, sym, ap}
 use Rattle.std.proofs.Common.{subst, ◌∙◌}
 use Rattle.std.specs.Prelude.{if◌then◌else◌, not, slice_get}
 use Rattle.std.proofs.lemmas.Bool.{cond-true}
@@ -97,7 +98,8 @@ module _ {V : Type 0} where
       let here = (gives_it_up a (z.seats a) p (actor_of z a) z (refl, refl)).0 in
       let actors : actor_of (gives_up t a x []).0 a ≡ actor_of (gives_up z a p []).0 a = there.1 ∙ (same ∙ sym here.1) in
       let seat : (gives_up t a x []).0.seats a ≡ (gives_up z a p []).0.seats a =
-      there.0 ∙ (ap (ending x) same ∙ (seats (if is_leaving (cancelled (actor_of z a)).place then Leaving else Cancelling) ∙ sym here.0)) in (
+      there.0
+      ∙ (ap (ending x) same ∙ (seats (if is_leaving (cancelled (actor_of z a)).place then Leaving else Cancelling) ∙ sym here.0)) in (
         subst (λ (q : Seat V). q ≡ seat_at q n) seat runs.0,
         sym actors ∙ runs.1,
         subst (KnowsHomes n.stage) (λ j. homes_by (sym words j) (sym blocks j) (actors j)) runs.2,
@@ -257,14 +259,15 @@ module _ {V : Type 0} where
         subst (IsGivenUp n) (sym steps_to)
         (subst (IsGivenUpAt n) (sym (put-same t.seats a x)) (refl, refl, runs, refl))
 
-  pub starves_behind : (v : BlocksView) (r m u n : TxActor V) (h : Told V) (base : Base V) (asked : Asked V) (i : ℕ) → CanCopy v r base asked
-      → AreTakenBy v r m base asked i → WaitsForKey v r base asked → IsAlike m u → load.GivesUp u n h OutOfMemory
+  pub starves_behind : (v : BlocksView) (r m u n : TxActor V) (h : Told V) (base : Base V) (asked : Asked V) (i : ℕ)
+      → CanCopy v r base asked → AreTakenBy v r m base asked i → WaitsForKey v r base asked → IsAlike m u → load.GivesUp u n h OutOfMemory
       → StarvesBehind v (at r (stage.Copying asked)) n base asked
   starves_behind v r m u n h base asked i can from waits alike does a w laid s may =
       given_up v w a r m u base asked i laid can s may from waits alike n h does
 
   -- ---- it is made ready
-  pub may_ready : (v : BlocksView) (r m : TxActor V) (base : Base V) (asked : Asked V) (i f : ℕ) → f ≡ first_of v.words v.blocks asked.collection
+  pub may_ready : (v : BlocksView) (r m : TxActor V) (base : Base V) (asked : Asked V) (i f : ℕ)
+      → f ≡ first_of v.words v.blocks asked.collection
       → ((c : Block) → block_of v.blocks asked.collection ≡ Some c → f + size c < 2 ^ 32) → CanCopy v r base asked
       → AreTakenBy v r m base asked i → MayPrepare m i f asked.op
   may_ready v r m base asked i f first within can from =

@@ -357,6 +357,6 @@ returns-in-Err-clause-own g c =
     let laid = laid_as t c.blocks-blocks.result.now c.blocks-blocks.ensures.words c.blocks-blocks.ensures.blocks in
     let running = subst (λ (v : BlocksView). IsRunning v r → IsRunning v q) laid c.in-Err.ensures.keeps.running c.requires.ties.running in
     let done = starved t s c.refuse-in-Err.new.seat r q Quiet c.requires.ties c.refuse-in-Err.ensures running c.in-Err.ensures.err in
-    starve_own c.events_keep_copies.ensures.starves c.copies_by_stage.ensures.others t s c.refuse-in-Err.new.seat r q Quiet c.args.bases.now.items
-    c.requires.ties c.requires.own done.1
+    starve_own c.events_keep_copies.ensures.starves c.copies_by_stage.ensures.others t s c.refuse-in-Err.new.seat r q Quiet
+    c.args.bases.now.items c.requires.ties c.requires.own done.1
     done.0 c.in-Err.ensures.leaves

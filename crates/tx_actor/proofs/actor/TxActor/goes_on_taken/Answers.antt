@@ -30,8 +30,8 @@ goes_on-requires g c =
     let first = c.first_of-first.result in
     let ready = taken_ready c.args.blocks.now was.0 c.args.self.now u was.1 asked place first c.in-Ok-Some.readied
     c.first_of-first.ensures.first was.3.0 c.readies.ensures.alike
-    (λ d there. subst (λ (o : Option (Readied g.row.V.Denot)). AreReadied c.args.self.now u place first asked.op d o) c.in-Ok-Some.field-0-is
-    (c.in-Ok-Some.ensures.ok d there)) in
+    (λ d there. subst (λ (o : Option (Readied g.row.V.Denot)). AreReadied c.args.self.now u place first asked.op d o)
+    c.in-Ok-Some.field-0-is (c.in-Ok-Some.ensures.ok d there)) in
     record {
       prepared = subst (λ (p : Prepared g.row.V.Denot). CanAccept u p.call) (sym c.prepared-prepared.ensures) ready.4.ready.prepared.accept;
     }
@@ -46,8 +46,8 @@ returns-in-Ok-Some-clause-ok g c r base can taken =
     let first = c.first_of-first.result in
     let ready = taken_ready v r c.args.self.now u base asked place first c.in-Ok-Some.readied
     c.first_of-first.ensures.first taken.0 c.readies.ensures.alike
-    (λ d there. subst (λ (o : Option (Readied g.row.V.Denot)). AreReadied c.args.self.now u place first asked.op d o) c.in-Ok-Some.field-0-is
-    (c.in-Ok-Some.ensures.ok d there)) in (
+    (λ d there. subst (λ (o : Option (Readied g.row.V.Denot)). AreReadied c.args.self.now u place first asked.op d o)
+    c.in-Ok-Some.field-0-is (c.in-Ok-Some.ensures.ok d there)) in (
       goes_on_as v r u n c.goes_on.result base asked place c.in-Ok-Some.readied can ready
           (subst (λ (p : Prepared g.row.V.Denot). load.GoesOn u n c.goes_on.result p.call p.left.items) c.prepared-prepared.ensures
           c.goes_on.ensures.does),
@@ -76,8 +76,8 @@ returns-in-Ok-Some-clause-keeps g c r base can taken noreads =
     let first = c.first_of-first.result in
     let ready = taken_ready v r c.args.self.now u base asked place first c.in-Ok-Some.readied
     c.first_of-first.ensures.first taken.0 c.readies.ensures.alike
-    (λ d there. subst (λ (o : Option (Readied g.row.V.Denot)). AreReadied c.args.self.now u place first asked.op d o) c.in-Ok-Some.field-0-is
-    (c.in-Ok-Some.ensures.ok d there)) in
+    (λ d there. subst (λ (o : Option (Readied g.row.V.Denot)). AreReadied c.args.self.now u place first asked.op d o)
+    c.in-Ok-Some.field-0-is (c.in-Ok-Some.ensures.ok d there)) in
     keeps_going v r u n base asked place c.in-Ok-Some.readied can ready noreads
     (subst (λ (p : Prepared g.row.V.Denot). CanGoOn v u p.call p.left.items → KeepsIn v (at u stage.Idle) n) c.prepared-prepared.ensures
     (c.goes_on.ensures.keeps v))

@@ -13,7 +13,7 @@ returns-in_ok-place-in-Ok-clause-ok g c =
       there = can.there;
       is = c.in-Ok.ensures;
       at = subst
-          (λ (n : ℕ). IsTakenAt n c.args.asked.now.collection c.in-Ok.found c.in_ok-place-in-Ok.place c.args.self.now.copies.items now.items)
-          (c.stripes_of-stripes.ensures can.block can.there) c.in_ok-place-in-Ok.ensures.ok;
+          (λ (n : ℕ). IsTakenAt n c.args.asked.now.collection c.in-Ok.found c.in_ok-place-in-Ok.place c.args.self.now.copies.items
+          now.items) (c.stripes_of-stripes.ensures can.block can.there) c.in_ok-place-in-Ok.ensures.ok;
       same = refl;
     }
