@@ -1,10 +1,9 @@
 //! The locations of a call on a collection that is copied, with the editions with which they were copied.
 ghost use Rattle.std.specs.Prelude.{◌≡◌, ◌+◌, ◌<◌, ◌^◌, All, IfOk};
-ghost use Rattle.actor_copies.specs.Footprints.{IsPlaceOf, base_in, known_edition, places_in, reads_in, with_known, writes_in};
+ghost use Rattle.actor_copies.specs.Footprints.{IsPlaceOf, known_edition, places_in, reads_in, with_known, writes_in};
 
 use crate::copies::{Copied, CopyOf};
 use conflict::{LocSet, Outcome};
-use replay_log::Base;
 use seq_model::{Memory, Value};
 use std::alloc::Global;
 use std::collections::VecDeque;
@@ -24,28 +23,24 @@ pub fn place_of<V>(copies: &[CopyOf<V>], collection: u32) -> Option<usize>
 }
 
 impl<V: Value> Copied<V> {
-    /// A collection of its kind and stripes.
-    fn base(&self) -> &Base<V>
-        ensures { result.now ≡ base_in self.now }
-    {
-        match self {
-            Copied::Keys(memo, _) => memo.blank(),
-            Copied::Whole(shadow) => shadow.base(),
-        }
-    }
-
     /// The locations that an outcome reads.
     pub fn reads(&self, outcome: &Outcome<V>) -> Result<LocSet, Memory>
         ensures { IfOk result (λ set. set ≡ reads_in self.now outcome.now) }
     {
-        self.base().reads(outcome)
+        match self {
+            Copied::Keys(memo, _) => memo.reads(outcome),
+            Copied::Whole(shadow) => shadow.base().reads(outcome),
+        }
     }
 
     /// The locations that an outcome writes.
     pub fn writes(&self, outcome: &Outcome<V>) -> Result<LocSet, Memory>
         ensures { IfOk result (λ set. set ≡ writes_in self.now outcome.now) }
     {
-        self.base().writes(outcome)
+        match self {
+            Copied::Keys(memo, _) => memo.writes(outcome),
+            Copied::Whole(shadow) => shadow.base().writes(outcome),
+        }
     }
 
     /// The edition with which a location was copied.

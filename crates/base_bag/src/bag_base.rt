@@ -10,6 +10,7 @@ ghost use Rattle.conflict.specs.Refusals.{IsTooLong, IsNoSuchOrTooLong, IsStripe
 ghost use Rattle.base_bag.specs.Conflicts.{rules, view_of, outcome_of, reads_of, writes_of, changes_of};
 
 use crate::elements::Elements;
+use crate::footprints::{changes_in, place_in, reads_in, writes_in};
 use conflict::{Change, Changes, Conflict, Editions, LocSet, Note, Outcome, is_stripe_count};
 use seq_model::{COPY_LIMIT, Counts, Held, Items, Memory, Op, Refusal, Reply, Value};
 use std::alloc::Global;
@@ -164,7 +165,7 @@ impl BagBase {
         ensures location { result ≡ key_place self.now.stripes element }
         ensures within { result < self.now.stripes }
     {
-        (element % self.stripes as u64) as u32
+        place_in(self.stripes, element)
     }
 
     /// The locations that the outcome reads. They are never refused.
@@ -172,13 +173,7 @@ impl BagBase {
         ensures locations { IfOk result (λ set. set ≡ reads_of self.now.stripes outcome.now) }
         ensures served { IsOk result }
     {
-        let alloc = self.editions.allocator();
-        Ok(match &outcome.op {
-            Op::Count(element) | Op::Add(element) | Op::Take(element) => {
-                LocSet::single(alloc, self.place(*element))
-            }
-            _ => LocSet::empty(alloc),
-        })
+        reads_in(self.editions.allocator(), self.stripes, outcome)
     }
 
     /// The locations that the outcome writes. They are never refused.
@@ -186,13 +181,7 @@ impl BagBase {
         ensures locations { IfOk result (λ set. set ≡ writes_of self.now.stripes outcome.now) }
         ensures served { IsOk result }
     {
-        let alloc = self.editions.allocator();
-        Ok(match (&outcome.op, &outcome.reply) {
-            (Op::Add(element), Reply::Done) | (Op::Take(element), Reply::Yes) => {
-                LocSet::single(alloc, self.place(*element))
-            }
-            _ => LocSet::empty(alloc),
-        })
+        writes_in(self.editions.allocator(), self.stripes, outcome)
     }
 
     /// What the outcome changes. Where that is nothing, it is never refused.
@@ -200,13 +189,7 @@ impl BagBase {
         ensures changes { IfOk result (λ changes. changes ≡ changes_of outcome.now) }
         ensures served { changes_of outcome.now ≡ [] → IsOk result }
     {
-        let mut changes = Items::new(self.editions.allocator());
-        match (&outcome.op, &outcome.reply) {
-            (Op::Add(element), Reply::Done) => changes.push(Change::Add(*element))?,
-            (Op::Take(element), Reply::Yes) => changes.push(Change::Take(*element))?,
-            _ => {}
-        }
-        Ok(changes)
+        changes_in(self.editions.allocator(), outcome)
     }
 
     /// Makes room for the changes. The multiset stays as it is and keeps its room, also where memory is refused. Where there is

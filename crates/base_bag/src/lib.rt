@@ -8,6 +8,8 @@
 
 mod bag_base;
 mod elements;
+mod footprints;
 pub mod laws;
 
 pub use bag_base::BagBase;
+pub use footprints::{changes_in, place_in, reads_in, writes_in};

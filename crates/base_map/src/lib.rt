@@ -6,7 +6,9 @@
 //! answers depends on the stripes that it reads alone, and what it changes lies in those that it writes.
 #![tactic(auto)]
 
+mod footprints;
 pub mod laws;
 mod map_base;
 
+pub use footprints::{changes_in, place_in, reads_in, writes_in};
 pub use map_base::MapBase;

@@ -10,6 +10,7 @@ ghost use Rattle.conflict.specs.Editions.{raised};
 ghost use Rattle.conflict.specs.Refusals.{IsTooLong, IsNoSuchOrTooLong, IsStripeCount};
 ghost use Rattle.base_map.specs.Conflicts.{rules, view_of, outcome_of, reads_of, writes_of, changes_of};
 
+use crate::footprints::{changes_in, place_in, reads_in, writes_in};
 use conflict::{
     Change, Changes, Conflict, Editions, LocSet, Note, Outcome, Table, is_stripe_count,
 };
@@ -168,7 +169,7 @@ impl<V: Value> MapBase<V> {
         ensures location { result ≡ key_place self.now.stripes key }
         ensures within { result < self.now.stripes }
     {
-        (key % self.stripes as u64) as u32
+        place_in(self.stripes, key)
     }
 
     /// The locations that the outcome reads. Up to eight are never refused.
@@ -176,14 +177,7 @@ impl<V: Value> MapBase<V> {
         ensures locations { IfOk result (λ set. set ≡ reads_of self.now.stripes outcome.now) }
         ensures served { length (reads_of self.now.stripes outcome.now) ≤ 8 → IsOk result }
     {
-        let alloc = self.editions.allocator();
-        match &outcome.op {
-            Op::Get(key) | Op::Put(key, _) | Op::Remove(key) => {
-                Ok(LocSet::single(alloc, self.place(*key)))
-            }
-            Op::Len => LocSet::all_below(alloc, self.stripes),
-            _ => Ok(LocSet::empty(alloc)),
-        }
+        reads_in(self.editions.allocator(), self.stripes, outcome)
     }
 
     /// The locations that the outcome writes. They are never refused.
@@ -191,13 +185,7 @@ impl<V: Value> MapBase<V> {
         ensures locations { IfOk result (λ set. set ≡ writes_of self.now.stripes outcome.now) }
         ensures served { IsOk result }
     {
-        let alloc = self.editions.allocator();
-        Ok(match (&outcome.op, &outcome.reply) {
-            (Op::Put(key, _), _) | (Op::Remove(key), Reply::Value(_)) => {
-                LocSet::single(alloc, self.place(*key))
-            }
-            _ => LocSet::empty(alloc),
-        })
+        writes_in(self.editions.allocator(), self.stripes, outcome)
     }
 
     /// What the outcome changes. Where that is nothing, it is never refused.
@@ -205,13 +193,7 @@ impl<V: Value> MapBase<V> {
         ensures changes { IfOk result (λ changes. changes ≡ changes_of outcome.now) }
         ensures served { changes_of outcome.now ≡ [] → IsOk result }
     {
-        let mut changes = Items::new(self.editions.allocator());
-        match (&outcome.op, &outcome.reply) {
-            (Op::Put(key, value), _) => changes.push(Change::Put(*key, value.try_copy()?))?,
-            (Op::Remove(key), Reply::Value(_)) => changes.push(Change::Remove(*key))?,
-            _ => {}
-        }
-        Ok(changes)
+        changes_in(self.editions.allocator(), outcome)
     }
 
     /// Makes room for the changes. The map stays as it is and keeps its room, also where memory is refused. Where there is

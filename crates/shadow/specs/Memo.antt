@@ -1,6 +1,6 @@
 -- What a transaction keeps of the single keys that it touched of a map or a multiset, and of the number of all keys of a map.
 use Rattle.std.specs.Prelude.{◌≡◌, ℕ, suc, ◌+◌, ◌-◌, ◌^◌, ◌<◌, ◌≤◌, ⊤, length, Bool, true, false, List, Option, Some, None, is_some, nat_lt}
-use Rattle.std.specs.Prelude.{unwrap_or, if◌then◌else◌}
+use Rattle.std.specs.Prelude.{replicate, unwrap_or, if◌then◌else◌}
 use Rattle.std.specs.Ordering.{nat_cmp}
 use Rattle.std.specs.List.{sum}
 use Rattle.std.specs.FinMap.{FinMap, empty, get, insert, len, remove}
@@ -19,6 +19,7 @@ use Rattle.conflict.specs.Rules.{applied}
 use Rattle.base_map.specs.Conflicts as map
 use Rattle.base_bag.specs.Conflicts as bag
 use Rattle.replay_log.specs.declared.base.Base.{Base}
+use Rattle.replay_log.specs.declared.base.Base.TheVariants as base
 use Rattle.replay_log.specs.Base.{Shown, OfMap, OfBag, changes_of, outcome_of, shown_of, stripes_of, writes_of}
 use Rattle.replay_log.specs.Parts.{kind_of}
 use Rattle.replay_log.specs.declared.touch.Touched.{Touched}
@@ -66,10 +67,20 @@ abbrev pub IsTold : Option ℕ → Type 0
 IsTold None = ⊤
 IsTold (Some total) = total < 2 ^ 63
 
+-- the room of the table of the kind
+abbrev pub kind_room : MemoKind → (entries copies : ℕ) → ℕ
+kind_room kind.Map entries copies = entries
+kind_room kind.Bag entries copies = copies
+
 module _ {V : Type 0} where
   abbrev pub shape : MemoKind → Shown V
   shape kind.Map = OfMap empty
   shape kind.Bag = OfBag empty
+
+  -- an empty collection of this kind in n stripes
+  abbrev pub blank_of : MemoKind → (n : ℕ) → Base V
+  blank_of kind.Map n = base.Map (record { shown = empty; stripes = n; editions = replicate n 0; room = 0 })
+  blank_of kind.Bag n = base.Bag (record { shown = empty; stripes = n; editions = replicate n 0; room = 0 })
 
   -- the key of the call is held
   abbrev pub holds_by : Shown V → FinMap nat_cmp (Option V) → FinMap nat_cmp ℕ → Op V → Bool
@@ -224,15 +235,9 @@ module _ {V : Type 0} where
   shrunk_kept (OfMap b) o shrunk = shrunk_after o.op o.reply shrunk
   shrunk_kept b o shrunk = shrunk
 
-  -- the room of the table of the kind
-  abbrev pub kind_room : Shown V → (entries copies : ℕ) → ℕ
-  kind_room (OfMap b) entries copies = entries
-  kind_room (OfBag b) entries copies = copies
-  kind_room b entries copies = 1
-
   -- there is room for what is ready, and its keys can be counted
-  abbrev pub IsKept : Shown V → (entries copies grown shrunk : ℕ) → LogView V → Option (declared.Ready V) → Type 0
-  IsKept b entries copies grown shrunk log None = ⊤
-  IsKept b entries copies grown shrunk log (Some r) =
-      (0 < kind_room b entries copies) × (length r.changes ≤ log.room) × (length log.locations + length r.written ≤ log.places)
+  abbrev pub IsKept : MemoKind → (entries copies grown shrunk : ℕ) → LogView V → Option (declared.Ready V) → Type 0
+  IsKept k entries copies grown shrunk log None = ⊤
+  IsKept k entries copies grown shrunk log (Some r) =
+      (0 < kind_room k entries copies) × (length r.changes ≤ log.room) × (length log.locations + length r.written ≤ log.places)
       × (grown < 2 ^ 63) × (shrunk < 2 ^ 63)

@@ -6,15 +6,13 @@ ghost use Rattle.seq_model.specs.Calls.{IsRefusal};
 ghost use Rattle.seq_model.specs.Counts.{copies};
 ghost use Rattle.conflict.specs.Refusals.{IsTooLong, IsStripeCount};
 ghost use Rattle.base_bag.specs.Conflicts as bag;
-ghost use Rattle.replay_log.specs.Base.{changes_of, shown_of, stripes_of, writes_of};
+ghost use Rattle.replay_log.specs.Base.{changes_of, reads_of, shown_of, stripes_of, writes_of};
 ghost use Rattle.shadow.specs.Memo.{IsReadyFor, answer_with, copies_after, copies_kept, copies_without, entries_after, entries_kept};
 ghost use Rattle.shadow.specs.Memo.{entries_without, grown_after, grown_kept, holds, kind_room, map_answer, shape, shrunk_after};
 ghost use Rattle.shadow.specs.Memo.{shrunk_kept, total_without, with_count, with_counts, with_entry, with_key, with_total, IsTold};
 
-use base_bag::BagBase;
-use base_map::MapBase;
-use conflict::{Change, Changes, LocSet, Note, Outcome, Table};
-use replay_log::{Base, Log, Touched};
+use conflict::{Change, Changes, LocSet, Note, Outcome, Table, is_stripe_count};
+use replay_log::{Log, Touched};
 use seq_model::{COPY_LIMIT, Items, Memory, Op, Refusal, Reply, Value};
 use std::alloc::Global;
 use std::marker::Model;
@@ -33,7 +31,9 @@ pub enum MemoKind {
 /// number of its keys, where the counts of its stripes were touched, and by how many the accepted calls made it grow and shrink.
 #[derive(Drop)]
 pub struct Memo<V> {
-    blank: Base<V>,
+    kind: MemoKind,
+    stripes: u32,
+    alloc: Global,
     entries: Table<Option<V>>,
     copies: Table<u64>,
     total: Option<u64>,
@@ -57,8 +57,8 @@ impl<V> Model for Memo<V> {
     ghost use Rattle.std.specs.Ordering.{nat_cmp};
     ghost use Rattle.base_pq.specs.Conflicts as pq;
     ghost use Rattle.base_queue.specs.Conflicts as queue;
-    ghost use Rattle.replay_log.specs.Base.{shown_of};
-    ghost use Rattle.shadow.specs.Memo.{MemoView, IsKept, IsTold};
+    ghost use Rattle.conflict.specs.Refusals.{IsStripeCount};
+    ghost use Rattle.shadow.specs.Memo.{MemoView, IsKept, IsTold, blank_of};
 
     ghost Value = { MemoView V };
 
@@ -72,7 +72,7 @@ impl<V> Model for Memo<V> {
     ) };
 
     ghost view = { λ a. record {
-      blank = a.blank;
+      blank = blank_of a.kind a.stripes;
       entries = a.entries.contents;
       copies = a.copies.contents;
       total = a.total;
@@ -83,7 +83,9 @@ impl<V> Model for Memo<V> {
       ready = option_map (λ r. record { changes = r.changes; locations = r.written }) a.ready;
     } };
 
-    ghost invariant = { λ a. IsKept (shown_of a.blank) a.entries.room a.copies.room a.grown a.shrunk a.log a.ready × IsTold a.total × (a.grown ≤ 2 ^ 63) };
+    ghost invariant = { λ a.
+        IsStripeCount a.stripes × IsKept a.kind a.entries.room a.copies.room a.grown a.shrunk a.log a.ready × IsTold a.total
+        × (a.grown ≤ 2 ^ 63) };
 }
 
 impl<V: Value> Memo<V> {
@@ -101,12 +103,13 @@ impl<V: Value> Memo<V> {
         ensures locations { IfOk result (λ memo. memo.locations ≡ []) }
         ensures refused { IfErr result (λ refusal. IsTooLong refusal (IsStripeCount stripes)) }
     {
-        let blank = match kind {
-            MemoKind::Map => Base::Map(MapBase::new(alloc, stripes)?),
-            MemoKind::Bag => Base::Bag(BagBase::new(alloc, stripes)?),
-        };
+        if !is_stripe_count(stripes) {
+            return Err(Refusal::TooLong);
+        }
         Ok(Memo {
-            blank,
+            kind,
+            stripes,
+            alloc,
             entries: Table::new(alloc),
             copies: Table::new(alloc),
             total: None,
@@ -121,14 +124,14 @@ impl<V: Value> Memo<V> {
     pub fn holds(&self, op: &Op<V>) -> bool
         ensures { result ≡ holds self.now op.now }
     {
-        match (&self.blank, op) {
-            (Base::Map(_), Op::Get(key) | Op::Put(key, _) | Op::Remove(key)) => {
+        match (self.kind, op) {
+            (MemoKind::Map, Op::Get(key) | Op::Put(key, _) | Op::Remove(key)) => {
                 self.entries.get(*key).is_some()
             }
-            (Base::Bag(_), Op::Count(element) | Op::Add(element) | Op::Take(element)) => {
+            (MemoKind::Bag, Op::Count(element) | Op::Add(element) | Op::Take(element)) => {
                 self.copies.get(*element).is_some()
             }
-            (Base::Map(_), Op::Len) => self.total.is_some(),
+            (MemoKind::Map, Op::Len) => self.total.is_some(),
             _ => false,
         }
     }
@@ -188,15 +191,14 @@ impl<V: Value> Memo<V> {
             (answer_with (shown_of self.now.blank) self.now.entries self.now.copies self.now.total self.now.grown self.now.shrunk op.now
             ≡ None)) }
     {
-        match (&self.blank, op) {
-            (Base::Map(_), Op::Len) => Ok(Outcome {
+        match (self.kind, op) {
+            (MemoKind::Map, Op::Len) => Ok(Outcome {
                 op: Op::Len,
                 reply: Reply::Number(self.keys()),
                 note: Note::Plain,
             }),
-            (Base::Map(_), _) => entry_outcome(&self.entries, op),
-            (Base::Bag(_), _) => count_outcome(&self.copies, op),
-            _ => Err(Refusal::NoSuch),
+            (MemoKind::Map, _) => entry_outcome(&self.entries, op),
+            (MemoKind::Bag, _) => count_outcome(&self.copies, op),
         }
     }
 
@@ -223,9 +225,9 @@ impl<V: Value> Memo<V> {
         if self.grown >= KEY_LIMIT || self.shrunk >= KEY_LIMIT {
             return Err(Memory);
         }
-        let changes = self.blank.changes(outcome)?;
-        let written = self.blank.writes(outcome)?;
-        make_room(&self.blank, &mut self.entries, &mut self.copies)?;
+        let changes = self.changes_of(outcome)?;
+        let written = self.writes(outcome)?;
+        make_room(self.kind, &mut self.entries, &mut self.copies)?;
         self.log
             .reserve(changes.len().max(written.as_slice().len()))?;
         self.ready = Some(Ready { changes, written });
@@ -248,22 +250,43 @@ impl<V: Value> Memo<V> {
     {
         if let Some(ready) = self.ready.take() {
             self.log.append(ready.changes, &ready.written);
-            match &self.blank {
-                Base::Map(_) => {
+            match self.kind {
+                MemoKind::Map => {
                     count_entry(&mut self.grown, &mut self.shrunk, &outcome);
                     keep_entry(&mut self.entries, outcome);
                 }
-                Base::Bag(_) => keep_copies(&mut self.copies, &outcome),
-                Base::Pq(_) | Base::Queue(_) => {}
+                MemoKind::Bag => keep_copies(&mut self.copies, &outcome),
             }
         }
     }
 
-    /// An empty collection of its kind and stripes, which reads and writes the same locations.
-    pub fn blank(&self) -> &Base<V>
-        ensures { result.now ≡ self.now.blank }
+    /// The locations that an outcome reads, as in an empty collection of its kind and stripes. Up to eight are never refused.
+    pub fn reads(&self, outcome: &Outcome<V>) -> Result<LocSet, Memory>
+        ensures { IfOk result (λ set. set ≡ reads_of (stripes_of self.now.blank) outcome.now (shown_of self.now.blank)) }
     {
-        &self.blank
+        match self.kind {
+            MemoKind::Map => base_map::reads_in(self.alloc, self.stripes, outcome),
+            MemoKind::Bag => base_bag::reads_in(self.alloc, self.stripes, outcome),
+        }
+    }
+
+    /// The locations that an outcome writes there. They are never refused.
+    pub fn writes(&self, outcome: &Outcome<V>) -> Result<LocSet, Memory>
+        ensures { IfOk result (λ set. set ≡ writes_of (stripes_of self.now.blank) outcome.now (shown_of self.now.blank)) }
+    {
+        match self.kind {
+            MemoKind::Map => base_map::writes_in(self.alloc, self.stripes, outcome),
+            MemoKind::Bag => base_bag::writes_in(self.alloc, self.stripes, outcome),
+        }
+    }
+
+    fn changes_of(&self, outcome: &Outcome<V>) -> Result<Changes<V>, Memory>
+        ensures { IfOk result (λ changes. changes ≡ changes_of outcome.now (shown_of self.now.blank)) }
+    {
+        match self.kind {
+            MemoKind::Map => base_map::changes_in(self.alloc, outcome),
+            MemoKind::Bag => base_bag::changes_in(self.alloc, outcome),
+        }
     }
 
     /// The accepted changes, in order: what a base has to be prepared for.
@@ -285,25 +308,19 @@ impl<V: Value> Memo<V> {
 
 // Makes room for one more key in the table of the kind.
 fn make_room<V: Value>(
-    blank: &Base<V>,
+    kind: MemoKind,
     entries: &mut Table<Option<V>>,
     copies: &mut Table<u64>,
 ) -> Result<(), Memory>
-    ensures room { OnOk result (0 < kind_room (shown_of blank.now) entries.new.room copies.new.room) }
+    ensures room { OnOk result (0 < kind_room kind entries.new.room copies.new.room) }
     ensures entries { entries.new.contents ≡ entries.old.contents }
     ensures copies { copies.new.contents ≡ copies.old.contents }
 {
-    match blank {
-        Base::Map(_) => {
-            entries.reserve(1)?;
-            Ok(())
-        }
-        Base::Bag(_) => {
-            copies.reserve(1)?;
-            Ok(())
-        }
-        Base::Pq(_) | Base::Queue(_) => Ok(()),
+    match kind {
+        MemoKind::Map => entries.reserve(1)?,
+        MemoKind::Bag => copies.reserve(1)?,
     }
+    Ok(())
 }
 
 fn hold<A: Drop>(known: &mut Table<A>, key: u64, value: A) -> Result<(), Memory>

@@ -1,0 +1,60 @@
+//! What an outcome of a map reads, writes and changes. It takes the number of stripes, and no map.
+ghost use Rattle.std.specs.Prelude.{◌≡◌, ◌<◌, ◌≤◌, [], IsOk, IfOk, length};
+ghost use Rattle.conflict.specs.Footprints.{key_place};
+ghost use Rattle.base_map.specs.Conflicts.{changes_of, reads_of, writes_of};
+
+use conflict::{Change, Changes, LocSet, Outcome};
+use seq_model::{Items, Memory, Op, Reply, Value};
+use std::alloc::Global;
+
+/// The location that the key lies on.
+pub fn place_in(stripes: u32, key: u64) -> u32
+    requires { 0 < stripes }
+    ensures location { result ≡ key_place stripes key }
+    ensures within { result < stripes }
+{
+    (key % stripes as u64) as u32
+}
+
+/// The locations that the outcome reads. Up to eight are never refused.
+pub fn reads_in<V>(alloc: Global, stripes: u32, outcome: &Outcome<V>) -> Result<LocSet, Memory>
+    requires { 0 < stripes }
+    ensures locations { IfOk result (λ set. set ≡ reads_of stripes outcome.now) }
+    ensures served { length (reads_of stripes outcome.now) ≤ 8 → IsOk result }
+{
+    match &outcome.op {
+        Op::Get(key) | Op::Put(key, _) | Op::Remove(key) => {
+            Ok(LocSet::single(alloc, place_in(stripes, *key)))
+        }
+        Op::Len => LocSet::all_below(alloc, stripes),
+        _ => Ok(LocSet::empty(alloc)),
+    }
+}
+
+/// The locations that the outcome writes. They are never refused.
+pub fn writes_in<V>(alloc: Global, stripes: u32, outcome: &Outcome<V>) -> Result<LocSet, Memory>
+    requires { 0 < stripes }
+    ensures locations { IfOk result (λ set. set ≡ writes_of stripes outcome.now) }
+    ensures served { IsOk result }
+{
+    Ok(match (&outcome.op, &outcome.reply) {
+        (Op::Put(key, _), _) | (Op::Remove(key), Reply::Value(_)) => {
+            LocSet::single(alloc, place_in(stripes, *key))
+        }
+        _ => LocSet::empty(alloc),
+    })
+}
+
+/// What the outcome changes. Where that is nothing, it is never refused.
+pub fn changes_in<V: Value>(alloc: Global, outcome: &Outcome<V>) -> Result<Changes<V>, Memory>
+    ensures changes { IfOk result (λ changes. changes ≡ changes_of outcome.now) }
+    ensures served { changes_of outcome.now ≡ [] → IsOk result }
+{
+    let mut changes = Items::new(alloc);
+    match (&outcome.op, &outcome.reply) {
+        (Op::Put(key, value), _) => changes.push(Change::Put(*key, value.try_copy()?))?,
+        (Op::Remove(key), Reply::Value(_)) => changes.push(Change::Remove(*key))?,
+        _ => {}
+    }
+    Ok(changes)
+}
