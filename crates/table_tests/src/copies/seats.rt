@@ -24,7 +24,17 @@ fn refuse(
     place: u64,
 ) -> Result<bool, Refusal> {
     let mut receipts = Vec::new(alloc);
-    let (made, last) = run(alloc, ration, opening, place, &mut receipts)?;
+    run_and_audit(alloc, ration, opening, place, &mut receipts)
+}
+
+fn run_and_audit(
+    alloc: Global,
+    ration: &Ration,
+    opening: &State<Rationed>,
+    place: u64,
+    receipts: &mut Vec<Record<Rationed>>,
+) -> Result<bool, Refusal> {
+    let (made, last) = run(alloc, ration, opening, place, receipts)?;
     audit_receipts(alloc, opening, receipts.as_slice(), &last)?;
     made
 }

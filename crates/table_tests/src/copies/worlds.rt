@@ -22,10 +22,31 @@ fn refuse(
     opening: &State<Rationed>,
     place: u64,
 ) -> Result<bool, Refusal> {
-    let mut world = open(alloc, opening)?;
-    if put_all(&mut world, ration, place)? {
-        return Ok(true);
+    match open(alloc, opening) {
+        Ok(world) => run(alloc, ration, opening, place, world),
+        Err(refusal) => Err(refusal),
     }
+}
+
+fn run(
+    alloc: Global,
+    ration: &Ration,
+    opening: &State<Rationed>,
+    place: u64,
+    mut world: World<Rationed>,
+) -> Result<bool, Refusal> {
+    match put_all(&mut world, ration, place) {
+        Ok(false) => audit_world(alloc, opening, world),
+        refused => refused,
+    }
+}
+
+// No copy was refused, and what the world holds is what its records leave.
+fn audit_world(
+    alloc: Global,
+    opening: &State<Rationed>,
+    world: World<Rationed>,
+) -> Result<bool, Refusal> {
     let trace = world.into_trace()?;
     audit_trace(alloc, opening, trace)?;
     Ok(false)

@@ -1,10 +1,12 @@
 //! The rows of two seats: all in turn, or those of each seat in a thread of its own.
+ghost use Rattle.std.specs.Prelude.{◌≡◌};
 ghost use Rattle.transactions.specs.Ready.{IsReady};
 ghost use Rattle.table_tests.specs.Fit.{IsFit};
 
 use super::rows::{answer_own, answer_rows};
 use crate::shared::{Meeting, Page};
-use seq_model::Refusal;
+use seq_model::{Memory, Refusal};
+use std::alloc::Global;
 use std::thread::{Threads, join};
 use transactions::TxSeat;
 use tx_table::TxTable;
@@ -49,11 +51,29 @@ pub fn at_once<R: Threads + Sync>(
     ensures first { IsReady table.now result.0 }
     ensures second { IsReady table.now result.1 }
 {
-    let (Ok(left), Ok(right)) = (Page::new(page.alloc()), Page::new(page.alloc())) else {
-        page.fail(Refusal::OutOfMemory);
-        return (first, second);
-    };
-    let (first, second) = in_threads(rt, table, left, first, right, second, rows);
+    match two_pages(page.alloc()) {
+        Ok((left, right)) => {
+            let (first, second) = in_threads(rt, table, left, first, right, second, rows);
+            both_of(page, first, second)
+        }
+        Err(_) => {
+            page.fail(Refusal::OutOfMemory);
+            (first, second)
+        }
+    }
+}
+
+fn two_pages(alloc: Global) -> Result<(Page, Page), Memory> {
+    let left = Page::new(alloc)?;
+    let right = Page::new(alloc)?;
+    Ok((left, right))
+}
+
+// The seats, once what was answered there stands on the page.
+fn both_of(page: &mut Page, first: Own, second: Own) -> Both
+    ensures first { result.0 ≡ first.0 }
+    ensures second { result.1 ≡ second.0 }
+{
     let (first, left) = first;
     let (second, right) = second;
     page.append(left);

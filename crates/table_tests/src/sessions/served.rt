@@ -68,9 +68,26 @@ fn serve_file<R: Threads + Wait + Sync>(
     file: &str,
     meeting: &Meeting,
 ) -> Result<Served, Refusal> {
-    let (tables, actions) = parse_sessions(alloc, file.as_bytes())?;
-    let lists = deal(alloc, actions.into_vec(), WORKERS)?;
-    serve_lists(rt, alloc, tables, options, lists, meeting)
+    match parse_sessions(alloc, file.as_bytes()) {
+        Ok((tables, actions)) => serve_actions(rt, alloc, tables, options, actions, meeting),
+        Err(refusal) => Err(refusal),
+    }
+}
+
+fn serve_actions<R: Threads + Wait + Sync>(
+    rt: &R,
+    alloc: Global,
+    tables: Tables,
+    options: Options,
+    actions: Items<Action>,
+    meeting: &Meeting,
+) -> Result<Served, Refusal>
+    requires { IsBalanced tables }
+{
+    match deal(alloc, actions.into_vec(), WORKERS) {
+        Ok(lists) => serve_lists(rt, alloc, tables, options, lists, meeting),
+        Err(_) => Err(Refusal::OutOfMemory),
+    }
 }
 
 fn serve_lists<R: Threads + Wait + Sync>(
