@@ -2,7 +2,7 @@
 ghost use Rattle.transactions.specs.Ready.{IsReady};
 
 use row_parts::{print_reply, script_of};
-use seq_model::{AuditFault, Memory, Record, Refusal, Request, State, Value, audit};
+use seq_model::{AuditFault, Call, Memory, Record, Refusal, Reply, Request, State, Value, audit};
 use std::alloc::Global;
 use std::fmt::Write;
 use step_script::Line;
@@ -76,13 +76,25 @@ fn answer_call(
 ) -> Result<(), Refusal> {
     let script = script_of(*text.allocator(), call)?;
     match script.lines.as_slice().first() {
-        Some(Line::Do(_, Request::Call(call))) => {
-            let reply = last.apply(call)?;
-            write!(text, "{row} = ")?;
-            print_reply(text, &reply)?;
-            text.push('\n')?;
-            Ok(())
-        }
+        Some(Line::Do(_, Request::Call(call))) => make_call(text, last, row, call),
         _ => Err(Refusal::NoSuch),
     }
+}
+
+fn make_call(
+    text: &mut String,
+    last: &mut State<u64>,
+    row: &str,
+    call: &Call<u64>,
+) -> Result<(), Refusal> {
+    let reply = last.apply(call)?;
+    print_answer(text, row, &reply)?;
+    Ok(())
+}
+
+fn print_answer(text: &mut String, row: &str, reply: &Reply<u64>) -> Result<(), Memory> {
+    write!(text, "{row} = ")?;
+    print_reply(text, reply)?;
+    text.push('\n')?;
+    Ok(())
 }

@@ -37,8 +37,9 @@ impl Page {
 
     /// The run of this table fails. A want of memory comes behind any other fault.
     pub fn fail(&mut self, refusal: Refusal) {
-        if self.fault.is_none() || !matches!(refusal, Refusal::OutOfMemory) {
-            self.fault = Some(refusal);
+        match (self.fault, refusal) {
+            (Some(_), Refusal::OutOfMemory) => {}
+            _ => self.fault = Some(refusal),
         }
     }
 
