@@ -9,7 +9,7 @@ ghost use Rattle.actor_copies.specs.Copies.{locations_in};
 
 use conflict::{Change, Outcome, Table};
 use replay_log::{Base, Log, Touch};
-use seq_model::{Items, Memory, Op, Refusal, Value};
+use seq_model::{Memory, Op, Refusal, Value};
 use shadow::{Memo, Shadow};
 
 /// What a transaction has of one collection, with the changes of its own accepted calls.
@@ -59,9 +59,9 @@ impl<V: Value> Copied<V> {
     {
         match self {
             Copied::Keys(memo, editions) => {
-                editions.reserve(touch.editions.len())?;
+                editions.reserve(touch.editions.as_slice().len())?;
                 memo.add(touch.held)?;
-                keep_editions(editions, touch.editions);
+                keep_editions(editions, touch.editions.as_slice());
             }
             Copied::Whole(_) => {}
         }
@@ -146,12 +146,12 @@ impl<V: Value> Copied<V> {
     }
 }
 
-fn keep_editions(known: &mut Table<u64>, editions: Items<(u32, u64)>)
-    requires { length editions ≤ known.old.room }
-    ensures { known.new.contents ≡ inserts known.old.contents editions }
+fn keep_editions(known: &mut Table<u64>, editions: &[(u32, u64)])
+    requires { length editions.now ≤ known.old.room }
+    ensures { known.new.contents ≡ inserts known.old.contents editions.now }
 {
-    for (location, edition) in editions.into_vec() {
-        known.insert_reserved(location as u64, edition);
+    for entry in editions {
+        known.insert_reserved(entry.0 as u64, entry.1);
     }
 }
 

@@ -24,4 +24,4 @@ pub use sizes::sizes_copies;
 pub use staying::copies_stay;
 pub use taking::{fits_base, take, take_back, taken_back};
 pub use weighed::{Weighed, weigh};
-pub use writes::{reserve_words, write_all};
+pub use writes::{Writes, reserve_words, write_all};

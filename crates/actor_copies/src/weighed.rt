@@ -11,7 +11,7 @@ ghost use Rattle.actor_copies.specs.Writes.{with_next};
 use crate::copies::Copied;
 use crate::footprints::with_known;
 use crate::room::has_room;
-use crate::writes::with_next;
+use crate::writes::{Writes, with_next};
 use conflict::Outcome;
 use seq_model::{Memory, Op, Value};
 use std::alloc::Global;
@@ -25,7 +25,7 @@ pub struct Weighed<V> {
     /// The locations that it reads, with the editions with which they were copied.
     pub left: VecDeque<(u32, u64)>,
     /// The locations that it writes, each with the edition after the copied one.
-    pub writes: Vec<(u32, u64)>,
+    pub writes: Writes,
     /// Whether they fit the sets of the transaction.
     pub fits: bool,
 }

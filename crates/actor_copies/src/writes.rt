@@ -11,9 +11,13 @@ ghost use Rattle.actor_copies.specs.Writes.{MayWrite, has_space, with_next, writ
 use crate::copies::Copied;
 use conflict::LocSet;
 use seq_model::{Memory, Value};
+use smallvec::SmallVec;
 use std::alloc::Global;
 use step_core::{Actor, WordCall};
 use tx_sets::LOCATION_LIMIT;
+
+/// The locations that a call writes, each with the edition after the copied one. There are two at most, which take no memory.
+pub type Writes = SmallVec<(u32, u64), 2>;
 
 /// Written locations of a collection that begins at location `first`, each with the edition after the copied one. No memory holds
 /// the changes that lead to the last edition there is.
@@ -22,12 +26,12 @@ pub(crate) fn with_next<V: Value>(
     copied: &Copied<V>,
     first: u32,
     locations: &LocSet,
-) -> Result<Vec<(u32, u64)>, Memory>
+) -> Result<Writes, Memory>
     requires within { All (λ location. location < places_in copied.now) locations.now }
     requires range { All (λ location. first + location < 2 ^ 32) locations.now }
     ensures { IfOk result (λ writes. writes.items ≡ with_next copied.now first locations.now) }
 {
-    let mut writes = Vec::new(alloc);
+    let mut writes = SmallVec::new(alloc);
     for location in locations.as_slice() {
         let next = copied.edition(*location).checked_add(1).ok_or(Memory)?;
         writes.push((first + *location, next))?;

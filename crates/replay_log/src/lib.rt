@@ -16,9 +16,11 @@
 
 mod base;
 pub mod laws;
+mod location_editions;
 mod log;
 mod touch;
 
 pub use base::Base;
+pub use location_editions::LocationEditions;
 pub use log::Log;
 pub use touch::{Touch, Touched};

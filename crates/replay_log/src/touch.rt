@@ -1,15 +1,15 @@
 //! What a transaction copies of a map or a multiset for a call: a key, or the counts of all stripes.
-ghost use Rattle.std.specs.Prelude.{◌≡◌, [], ◌∷◌, Some, None, IfOk, IfErr};
+ghost use Rattle.std.specs.Prelude.{◌≡◌, Some, None, IfOk, IfErr};
 ghost use Rattle.seq_model.specs.Calls.{IsRefusal};
 ghost use Rattle.seq_model.specs.declared.call.Op.TheVariants.{Len};
 ghost use Rattle.conflict.specs.Footprints.{all_below};
 ghost use Rattle.replay_log.specs.Base.{OfMap, OfBag};
 ghost use Rattle.replay_log.specs.Touches.{editions_at, touched_by, touched_places};
 
+use crate::location_editions::LocationEditions;
 use base_bag::BagBase;
 use base_map::MapBase;
 use seq_model::{Items, Memory, Op, Refusal, Value};
-use std::alloc::Global;
 
 /// What is copied.
 #[derive(Drop)]
@@ -25,7 +25,7 @@ pub enum Touched<V> {
 /// What is copied, with the editions of the locations that it was copied from.
 #[derive(Drop)]
 pub struct Touch<V> {
-    pub editions: Items<(u32, u64)>,
+    pub editions: LocationEditions,
     pub held: Touched<V>,
 }
 
@@ -41,7 +41,7 @@ pub(crate) fn touch_map<V: Value>(base: &MapBase<V>, op: &Op<V>) -> Result<Touch
         _ => return Err(Refusal::NoSuch),
     };
     let location = base.place(key);
-    let editions = one_edition(base.allocator(), location, base.edition(location))?;
+    let editions = LocationEditions::single(base.allocator(), location, base.edition(location));
     let held = Touched::Entry(key, base.entry(key)?);
     Ok(Touch { editions, held })
 }
@@ -56,10 +56,10 @@ fn touch_counts<V: Value>(base: &MapBase<V>) -> Result<Touch<V>, Memory>
     Ok(Touch { editions, held })
 }
 
-fn all_editions<V: Value>(base: &MapBase<V>) -> Result<Items<(u32, u64)>, Memory>
+fn all_editions<V: Value>(base: &MapBase<V>) -> Result<LocationEditions, Memory>
     ensures { IfOk result (λ editions. editions ≡ editions_at (all_below base.now.stripes) base.now.editions) }
 {
-    let mut editions = Items::new(base.allocator());
+    let mut editions = LocationEditions::new(base.allocator());
     for location in 0..base.stripes() {
         editions.push((location, base.edition(location)))?;
     }
@@ -77,15 +77,7 @@ pub(crate) fn touch_bag<V: Value>(base: &BagBase, op: &Op<V>) -> Result<Touch<V>
         _ => return Err(Refusal::NoSuch),
     };
     let location = base.place(element);
-    let editions = one_edition(base.allocator(), location, base.edition(location))?;
+    let editions = LocationEditions::single(base.allocator(), location, base.edition(location));
     let held = Touched::Copies(element, base.copies(element));
     Ok(Touch { editions, held })
-}
-
-fn one_edition(alloc: Global, location: u32, edition: u64) -> Result<Items<(u32, u64)>, Memory>
-    ensures { IfOk result (λ editions. editions ≡ (location, edition) ∷ []) }
-{
-    let mut editions = Items::new(alloc);
-    editions.push((location, edition))?;
-    Ok(editions)
 }

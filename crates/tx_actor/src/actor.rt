@@ -1,5 +1,5 @@
 //! What an actor keeps: its word actor, where its request stands, its numbers, its cause, its calls, and what it has of collections.
-use actor_copies::CopyOf;
+use actor_copies::{CopyOf, Writes};
 use conflict::Outcome;
 use seq_model::{Answer, Call, Op, Refusal, Reply};
 use std::collections::VecDeque;
@@ -20,7 +20,7 @@ pub struct Answered<V> {
     /// Where the copy of its collection stands among the copies.
     pub place: usize,
     /// The locations that it writes, each with the edition after the copied one.
-    pub writes: Vec<(u32, u64)>,
+    pub writes: Writes,
     /// Its reply, to be kept and to be told.
     pub kept: Reply<V>,
     pub told: Reply<V>,

@@ -5,7 +5,7 @@ ghost use Rattle.tx_actor.specs.Prepares.{ArePrepared, AreReadied, HasRoomFor, I
 
 use crate::actor::{Answered, Asked, TxActor};
 use crate::room::reserve_call;
-use actor_copies::{reserve_words, weigh};
+use actor_copies::{Writes, reserve_words, weigh};
 use conflict::Outcome;
 use seq_model::{Memory, Op, Reply, Value};
 use std::alloc::Global;
@@ -24,7 +24,7 @@ pub struct Prepared<V> {
 #[derive(Drop)]
 pub(crate) struct Readied<V> {
     pub outcome: Outcome<V>,
-    pub writes: Vec<(u32, u64)>,
+    pub writes: Writes,
     pub kept: Reply<V>,
     pub told: Reply<V>,
     pub left: VecDeque<(u32, u64)>,

@@ -23,7 +23,7 @@ returns-clause-does g c a w s may =
     let pieces = pieces_stay call.place call.outcome old.copies.items c.accept_at.new.copies.items c.accept_at.ensures in (
       accepted_as a w (seat_of old) _ _ (answered_of call) _ tt may.guard may.outcome
           (c.write_all.ensures.actor
-          ∙ (ap (λ (ds : Entries). written_as (actor_of old.words) ds) c.deref.ensures.value
+          ∙ (ap (λ (ds : Entries). written_as (actor_of old.words) ds) c.deref.ensures
           ∙ (ap (λ (y : machine.Actor). written_as y call.writes.items) (sym s) ∙ sym may.writes)))
           (λ i. record (seat_of old) { stage = Open; calls = calls i; copied = λ k q. pieces k q i }),
       (λ i. Answered a (answer.Replied (c.requires.prepared.told i))),
@@ -35,7 +35,7 @@ returns-clause-keeps g c v below =
     let ds = c.args.call.writes.items in
     let end = end_of v.words v.blocks in
     let made : actor_of c.write_all.new.words ≡ written_as (actor_of old.words) ds =
-    c.write_all.ensures.actor ∙ ap (λ (es : Entries). written_as (actor_of old.words) es) c.deref.ensures.value in
+    c.write_all.ensures.actor ∙ ap (λ (es : Entries). written_as (actor_of old.words) es) c.deref.ensures in
     keeps_open v old _ (fits_written end old.words c.write_all.new.words ds c.requires.prepared.writes below made c.write_all.ensures.place)
     (subst (λ (p : Place). owed p ≤ owed old.words.place) (sym c.write_all.ensures.place) (omega arith)) refl
 

@@ -52,7 +52,7 @@ returns-clause-ok g c copy at asked named same_op =
     let writes : c.in_ok-call.call.writes.items ≡ with_next copy.copied f (writes_in copy.copied o) =
     c.in_ok-call.ensures.writes ∙ ap (λ (z : CopyOf g.row.V.Denot). with_next z.copied f (writes_in z.copied o)) e in
     let room : HasRoomFor u c.args.place o c.len.result (length c.in_ok-call.call.writes.items) =
-    let same : c.len-2.result ≡ length c.in_ok-call.call.writes.items = omega (arith, c.len-2.ensures, c.in_ok-call.call.writes.ok.0) in
+    let same : c.len-2.result ≡ length c.in_ok-call.call.writes.items = c.len-2.ensures.value in
     subst (λ m. HasRoomFor u c.args.place o c.len.result m) same c.in_ok-make_room.ensures.room in
     let left = c.in_ok-call.ensures.left ∙ ap (λ (z : CopyOf g.row.V.Denot). with_known z.copied f (reads_in z.copied o)) e in
     let many : c.len.result ≡ length (reads_in copy.copied o) =
