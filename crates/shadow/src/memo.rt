@@ -1,5 +1,5 @@
 //! What a transaction keeps of the single keys that it touched, and of the number of all keys.
-ghost use Rattle.std.specs.Prelude.{◌≡◌, ◌<◌, ◌≤◌, ◌++◌, ◌^◌, ◌+◌, ◌-◌, [], Some, None, unwrap_or, IfOk, IfErr, OnOk, OnErr};
+ghost use Rattle.std.specs.Prelude.{◌≡◌, ◌<◌, ◌≤◌, ◌++◌, ◌^◌, ◌+◌, ◌-◌, [], Some, None, length, unwrap_or, IfOk, IfErr, IsOk, OnOk, OnErr};
 ghost use Rattle.std.specs.FinMap as map;
 ghost use Rattle.std.specs.List.{sum};
 ghost use Rattle.seq_model.specs.Calls.{IsRefusal};
@@ -262,7 +262,8 @@ impl<V: Value> Memo<V> {
 
     /// The locations that an outcome reads, as in an empty collection of its kind and stripes. Up to eight are never refused.
     pub fn reads(&self, outcome: &Outcome<V>) -> Result<LocSet, Memory>
-        ensures { IfOk result (λ set. set ≡ reads_of (stripes_of self.now.blank) outcome.now (shown_of self.now.blank)) }
+        ensures locations { IfOk result (λ set. set ≡ reads_of (stripes_of self.now.blank) outcome.now (shown_of self.now.blank)) }
+        ensures served { length (reads_of (stripes_of self.now.blank) outcome.now (shown_of self.now.blank)) ≤ 8 → IsOk result }
     {
         match self.kind {
             MemoKind::Map => base_map::reads_in(self.alloc, self.stripes, outcome),
@@ -272,7 +273,8 @@ impl<V: Value> Memo<V> {
 
     /// The locations that an outcome writes there. They are never refused.
     pub fn writes(&self, outcome: &Outcome<V>) -> Result<LocSet, Memory>
-        ensures { IfOk result (λ set. set ≡ writes_of (stripes_of self.now.blank) outcome.now (shown_of self.now.blank)) }
+        ensures locations { IfOk result (λ set. set ≡ writes_of (stripes_of self.now.blank) outcome.now (shown_of self.now.blank)) }
+        ensures served { IsOk result }
     {
         match self.kind {
             MemoKind::Map => base_map::writes_in(self.alloc, self.stripes, outcome),
