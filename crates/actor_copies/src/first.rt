@@ -4,10 +4,10 @@ ghost use Rattle.actor_copies.specs.declared.copies.Found.TheVariants as found;
 ghost use Rattle.actor_copies.specs.First.{IsFirst, IsFirstTouch, memo_kind};
 
 use crate::copies::{Copied, Found};
-use conflict::Table;
+use crate::spares::Spares;
 use replay_log::{Touch, Touched};
 use seq_model::{Refusal, Value};
-use shadow::{Memo, MemoKind, Shadow};
+use shadow::{MemoKind, Shadow};
 use std::alloc::Global;
 
 /// The kind of the collection that was touched.
@@ -21,18 +21,24 @@ fn memo_kind<V>(held: &Touched<V>) -> MemoKind
     }
 }
 
-fn first_touch<V: Value>(alloc: Global, stripes: u32, touch: Touch<V>) -> Result<Copied<V>, Refusal>
+fn first_touch<V: Value>(
+    spares: &mut Spares<V>,
+    alloc: Global,
+    stripes: u32,
+    touch: Touch<V>,
+) -> Result<Copied<V>, Refusal>
     ensures { IfOk result (λ copied. IsFirstTouch stripes touch copied) }
 {
-    let memo = Memo::new(alloc, stripes, memo_kind(&touch.held))?;
-    let mut copied = Copied::Keys(memo, Table::new(alloc));
+    let blank = spares.blank(alloc, stripes, memo_kind(&touch.held))?;
+    let mut copied = Copied::Keys(blank.memo, blank.editions);
     copied.learn(touch)?;
     Ok(copied)
 }
 
-/// What there is of a collection in so many stripes once this was found of it, and no call is accepted yet. A number of stripes outside 1
-/// to `STRIPE_LIMIT` is refused there as TooLong.
+/// What there is of a collection in so many stripes once this was found of it, and no call is accepted yet, in spare memory where there is
+/// some. A number of stripes outside 1 to `STRIPE_LIMIT` is refused there as TooLong.
 pub fn first_copy<V: Value>(
+    spares: &mut Spares<V>,
     alloc: Global,
     stripes: u32,
     found: Found<V>,
@@ -40,7 +46,7 @@ pub fn first_copy<V: Value>(
     ensures { IfOk result (λ copied. IsFirst stripes found copied) }
 {
     match found {
-        Found::Keys(touch) => first_touch(alloc, stripes, touch),
+        Found::Keys(touch) => first_touch(spares, alloc, stripes, touch),
         Found::Whole(base) => Ok(Copied::Whole(Shadow::of_copy(alloc, base))),
     }
 }

@@ -5,7 +5,6 @@ ghost use Rattle.actor_copies.specs.Footprints.{IsPlaceOf, known_edition, places
 use crate::copies::{Copied, CopyOf};
 use conflict::{LocSet, Outcome};
 use seq_model::{Memory, Value};
-use std::alloc::Global;
 use std::collections::VecDeque;
 
 /// Where the copy of a collection stands. A transaction touches few collections.
@@ -58,9 +57,10 @@ impl<V: Value> Copied<V> {
     }
 }
 
-/// Locations of a collection that begins at location `first`, with the editions with which they were copied.
+/// Locations of a collection that begins at location `first`, with the editions with which they were copied, in place of what the list
+/// held.
 pub(crate) fn with_known<V: Value>(
-    alloc: Global,
+    list: VecDeque<(u32, u64)>,
     copied: &Copied<V>,
     first: u32,
     locations: &LocSet,
@@ -69,7 +69,8 @@ pub(crate) fn with_known<V: Value>(
     requires range { All (λ location. first + location < 2 ^ 32) locations.now }
     ensures { IfOk result (λ left. left.items ≡ with_known copied.now first locations.now) }
 {
-    let mut left = VecDeque::new(alloc);
+    let mut left = list;
+    left.clear();
     for location in locations.as_slice() {
         left.push_back((first + *location, copied.edition(*location)))?;
     }

@@ -11,6 +11,7 @@ use crate::copies::{Copied, CopyOf, Found};
 use crate::first::first_copy;
 use crate::footprints::place_of;
 use crate::room::{has_room, surely_fits};
+use crate::spares::Spares;
 use replay_log::Base;
 use seq_model::{Memory, Op, Value};
 use std::alloc::Global;
@@ -80,6 +81,7 @@ fn add<V: Value>(copied: &mut Copied<V>, found: Found<V>) -> Result<(), Memory>
 
 fn push_first<V: Value>(
     copies: &mut Vec<CopyOf<V>>,
+    spares: &mut Spares<V>,
     alloc: Global,
     stripes: u32,
     collection: u32,
@@ -89,7 +91,8 @@ fn push_first<V: Value>(
     ensures err { OnErr result (copies.new.items ≡ copies.old.items) }
 {
     copies.reserve(1)?;
-    match first_copy(alloc, stripes, found) {
+    spares.reserve(copies.len().saturating_add(1))?;
+    match first_copy(spares, alloc, stripes, found) {
         Ok(copied) => {
             copies.push_reserved(CopyOf { collection, copied });
             Ok(())
@@ -102,6 +105,7 @@ fn push_first<V: Value>(
 /// where that stands. A want of memory leaves the pieces that there were.
 pub fn take<V: Value>(
     copies: &mut Vec<CopyOf<V>>,
+    spares: &mut Spares<V>,
     alloc: Global,
     stripes: u32,
     collection: u32,
@@ -119,7 +123,7 @@ pub fn take<V: Value>(
         }
         None => {
             let place = copies.len();
-            push_first(copies, alloc, stripes, collection, found)?;
+            push_first(copies, spares, alloc, stripes, collection, found)?;
             Ok(place)
         }
     }

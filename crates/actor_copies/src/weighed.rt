@@ -33,6 +33,7 @@ pub struct Weighed<V> {
 /// A call with this outcome: what it reads and writes.
 fn weigh_outcome<V: Value>(
     alloc: Global,
+    list: VecDeque<(u32, u64)>,
     words: &Actor,
     copied: &Copied<V>,
     first: u32,
@@ -50,7 +51,7 @@ fn weigh_outcome<V: Value>(
     let reads = copied.reads(&outcome)?;
     let writes = copied.writes(&outcome)?;
     let fits = has_room(words, first, &reads, &writes);
-    let left = with_known(alloc, copied, first, &reads)?;
+    let left = with_known(list, copied, first, &reads)?;
     let writes = with_next(alloc, copied, first, &writes)?;
     Ok(Weighed {
         outcome,
@@ -60,10 +61,12 @@ fn weigh_outcome<V: Value>(
     })
 }
 
-/// The call's outcome after the accepted ones, and what it reads and writes. The collection begins at location `first`. One that is
-/// refused memory changes nothing, and so is one of another kind of collection.
+/// The call's outcome after the accepted ones, and what it reads and writes. The collection begins at location `first`. The locations that it
+/// reads are put into the memory of `list`, whatever that holds. One that is refused memory changes nothing, and so is one of another kind
+/// of collection.
 pub fn weigh<V: Value>(
     alloc: Global,
+    list: VecDeque<(u32, u64)>,
     words: &Actor,
     copied: &Copied<V>,
     first: u32,
@@ -79,7 +82,7 @@ pub fn weigh<V: Value>(
         (shifted first (writes_in copied.now call.outcome))) }
 {
     match copied.outcome(op) {
-        Ok(outcome) => weigh_outcome(alloc, words, copied, first, outcome),
+        Ok(outcome) => weigh_outcome(alloc, list, words, copied, first, outcome),
         Err(_) => Err(Memory),
     }
 }

@@ -3,7 +3,7 @@ ghost use Rattle.std.specs.Prelude.{◌≡◌, IfOk, OnOk};
 ghost use Rattle.actor_words.specs.Blocks.{homes_in, is_first, with_home};
 
 use crate::blocks::Blocks;
-use std::alloc::{AllocError, Global};
+use std::alloc::AllocError;
 use std::collections::VecDeque;
 use tx_sets::WriteSet;
 
@@ -29,17 +29,18 @@ fn add_home(homes: &mut VecDeque<u32>, home: Option<u32>) -> Result<(), AllocErr
     Ok(())
 }
 
-/// The collections with a written location, rising. The written locations rise, so each one's collection is compared with the last
-/// one found alone.
+/// The collections with a written location, rising, in place of what the list held. The written locations rise, so each one's collection
+/// is compared with the last one found alone.
 pub fn written_homes(
-    alloc: Global,
+    list: VecDeque<u32>,
     blocks: &Blocks,
     writes: &WriteSet,
 ) -> Result<VecDeque<u32>, AllocError>
     ensures { IfOk result (λ homes. homes.items ≡ homes_in blocks.now writes.now.entries) }
 {
     let entries = writes.in_order();
-    let mut homes = VecDeque::new(alloc);
+    let mut homes = list;
+    homes.clear();
     let mut i = entries.len();
     while i > 0 {
         i -= 1;

@@ -84,6 +84,14 @@ impl<V: Drop> Table<V> {
         let _ = self.entries.insert(key, value).unwrap();
     }
 
+    /// Takes all keys out. The memory stays.
+    pub fn clear(&mut self)
+        ensures contents { self.new.contents ≡ map.empty }
+        ensures room { self.old.room ≤ self.new.room }
+    {
+        self.entries.clear();
+    }
+
     /// Takes the key out, if it is there. The room stays.
     pub fn remove(&mut self, key: u64)
         ensures contents { self.new.contents ≡ map.remove self.old.contents key }

@@ -33,6 +33,19 @@ impl<V> Model for Log<V> {
     } };
 }
 
+impl<V: Drop> Log<V> {
+    /// Drops all changes, with their locations. The memory stays.
+    pub fn clear(&mut self)
+        ensures changes { self.new.changes ≡ [] }
+        ensures locations { self.new.locations ≡ [] }
+        ensures room { self.old.room ≤ self.new.room }
+        ensures places { self.old.places ≤ self.new.places }
+    {
+        self.changes.clear();
+        self.locations.clear();
+    }
+}
+
 impl<V: Value> Log<V> {
     /// The empty log. It takes no memory.
     pub fn new(alloc: Global) -> Log<V>

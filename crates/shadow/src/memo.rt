@@ -1,5 +1,5 @@
 //! What a transaction keeps of the single keys that it touched, and of the number of all keys.
-ghost use Rattle.std.specs.Prelude.{◌≡◌, ◌<◌, ◌≤◌, ◌++◌, ◌^◌, ◌+◌, ◌-◌, [], Some, None, length, unwrap_or, IfOk, IfErr, IsOk, OnOk, OnErr};
+ghost use Rattle.std.specs.Prelude.{◌≡◌, ◌<◌, ◌≤◌, ◌++◌, ◌^◌, ◌+◌, ◌-◌, [], Some, None, unwrap_or, IfOk, IfErr, OnOk, OnErr};
 ghost use Rattle.std.specs.FinMap as map;
 ghost use Rattle.std.specs.List.{sum};
 ghost use Rattle.seq_model.specs.Calls.{IsRefusal};
@@ -16,6 +16,7 @@ use replay_log::{Log, Touched};
 use seq_model::{COPY_LIMIT, Items, Memory, Op, Refusal, Reply, Value};
 use std::alloc::Global;
 use std::marker::Model;
+use std::mem;
 
 /// More keys than a memory can hold.
 const KEY_LIMIT: u64 = 1 << 63;
@@ -88,6 +89,28 @@ impl<V> Model for Memo<V> {
         × (a.grown ≤ 2 ^ 63) };
 }
 
+impl<V: Drop> Memo<V> {
+    /// Keeps no key any more, and no accepted call. The memory stays.
+    pub fn clear(&mut self)
+        ensures blank { self.new.blank ≡ self.old.blank }
+        ensures entries { self.new.entries ≡ map.empty }
+        ensures copies { self.new.copies ≡ map.empty }
+        ensures total { self.new.total ≡ None }
+        ensures grown { self.new.grown ≡ 0 }
+        ensures shrunk { self.new.shrunk ≡ 0 }
+        ensures changes { self.new.changes ≡ [] }
+        ensures locations { self.new.locations ≡ [] }
+    {
+        self.ready = None;
+        self.entries.clear();
+        self.copies.clear();
+        self.total = None;
+        self.grown = 0;
+        self.shrunk = 0;
+        self.log.clear();
+    }
+}
+
 impl<V: Value> Memo<V> {
     /// A memo of a map or a multiset in so many stripes, with no key yet. A number of stripes outside 1 to `STRIPE_LIMIT` is refused
     /// as TooLong.
@@ -118,6 +141,29 @@ impl<V: Value> Memo<V> {
             log: Log::new(alloc),
             ready: None,
         })
+    }
+
+    /// What `new` makes, of the memory of this memo, whatever it keeps.
+    pub fn renew(self, stripes: u32, kind: MemoKind) -> Result<Memo<V>, Refusal>
+        ensures blank { IfOk result (λ memo. shown_of memo.blank ≡ shape kind) }
+        ensures stripes { IfOk result (λ memo. stripes_of memo.blank ≡ stripes) }
+        ensures entries { IfOk result (λ memo. memo.entries ≡ map.empty) }
+        ensures copies { IfOk result (λ memo. memo.copies ≡ map.empty) }
+        ensures total { IfOk result (λ memo. memo.total ≡ None) }
+        ensures grown { IfOk result (λ memo. memo.grown ≡ 0) }
+        ensures shrunk { IfOk result (λ memo. memo.shrunk ≡ 0) }
+        ensures changes { IfOk result (λ memo. memo.changes ≡ []) }
+        ensures locations { IfOk result (λ memo. memo.locations ≡ []) }
+        ensures refused { IfErr result (λ refusal. IsTooLong refusal (IsStripeCount stripes)) }
+    {
+        if !is_stripe_count(stripes) {
+            return Err(Refusal::TooLong);
+        }
+        let mut memo = self;
+        memo.clear();
+        memo.kind = kind;
+        memo.stripes = stripes;
+        Ok(memo)
     }
 
     /// Whether the key of the call is held, or for the number of all keys their counts. It takes no memory.
@@ -260,10 +306,9 @@ impl<V: Value> Memo<V> {
         }
     }
 
-    /// The locations that an outcome reads, as in an empty collection of its kind and stripes. Up to eight are never refused.
+    /// The locations that an outcome reads, as in an empty collection of its kind and stripes.
     pub fn reads(&self, outcome: &Outcome<V>) -> Result<LocSet, Memory>
-        ensures locations { IfOk result (λ set. set ≡ reads_of (stripes_of self.now.blank) outcome.now (shown_of self.now.blank)) }
-        ensures served { length (reads_of (stripes_of self.now.blank) outcome.now (shown_of self.now.blank)) ≤ 8 → IsOk result }
+        ensures { IfOk result (λ set. set ≡ reads_of (stripes_of self.now.blank) outcome.now (shown_of self.now.blank)) }
     {
         match self.kind {
             MemoKind::Map => base_map::reads_in(self.alloc, self.stripes, outcome),
@@ -271,10 +316,9 @@ impl<V: Value> Memo<V> {
         }
     }
 
-    /// The locations that an outcome writes there. They are never refused.
+    /// The locations that an outcome writes there.
     pub fn writes(&self, outcome: &Outcome<V>) -> Result<LocSet, Memory>
-        ensures locations { IfOk result (λ set. set ≡ writes_of (stripes_of self.now.blank) outcome.now (shown_of self.now.blank)) }
-        ensures served { IsOk result }
+        ensures { IfOk result (λ set. set ≡ writes_of (stripes_of self.now.blank) outcome.now (shown_of self.now.blank)) }
     {
         match self.kind {
             MemoKind::Map => base_map::writes_in(self.alloc, self.stripes, outcome),
@@ -296,6 +340,17 @@ impl<V: Value> Memo<V> {
         ensures { result.now ≡ self.now.changes }
     {
         self.log.changes()
+    }
+
+    /// Hands the log of the accepted changes out, and keeps no key any more. The other memory stays.
+    pub fn take_log(&mut self) -> Log<V>
+        ensures changes { result.changes ≡ self.old.changes }
+        ensures locations { result.locations ≡ self.old.locations }
+    {
+        self.ready = None;
+        let log = mem::replace(&mut self.log, Log::new(self.alloc));
+        self.clear();
+        log
     }
 
     /// The log of the accepted changes.

@@ -1,5 +1,5 @@
 //! What an actor keeps: its word actor, where its request stands, its numbers, its cause, its calls, and what it has of collections.
-use actor_copies::{CopyOf, Writes};
+use actor_copies::{CopyOf, Spares, Writes};
 use conflict::Outcome;
 use seq_model::{Answer, Call, Op, Refusal, Reply};
 use std::collections::VecDeque;
@@ -82,4 +82,6 @@ pub struct TxActor<V> {
     pub usual_calls: usize,
     /// What it has of the collections that its calls touched, each of which stands here once.
     pub copies: Vec<CopyOf<V>>,
+    /// Memory that earlier transactions took.
+    pub spares: Spares<V>,
 }

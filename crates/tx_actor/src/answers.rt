@@ -86,7 +86,10 @@ impl<V: Value> TxActor<V> {
     {
         let mut left = left;
         match judge(&self.words.reads, &mut left) {
-            Judged::All => self.accepts(call),
+            Judged::All => {
+                self.spares.keep_left(left);
+                self.accepts(call)
+            }
             Judged::Next(location) => {
                 self.words.place = Place::Look(location);
                 self.stage = Stage::Loading(call, left);

@@ -98,7 +98,8 @@ impl<V: Drop> TxActor<V> {
             self.stage = Stage::Closing;
             return Ok(Told::Quiet);
         }
-        let homes = written_homes(alloc, blocks, &self.words.writes)?;
+        let list = self.spares.homes(alloc);
+        let homes = written_homes(list, blocks, &self.words.writes)?;
         lock_words(&mut self.words, blocks.end() as usize)?;
         self.stage = Stage::Locking(homes);
         Ok(Told::Quiet)

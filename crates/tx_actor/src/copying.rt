@@ -38,7 +38,14 @@ impl<V: Value> TxActor<V> {
         ensures err { OnErr result (IsUnmoved self.old self.new) }
     {
         let count = self.copies.len();
-        let place = take(&mut self.copies, alloc, stripes, asked.collection, found)?;
+        let place = take(
+            &mut self.copies,
+            &mut self.spares,
+            alloc,
+            stripes,
+            asked.collection,
+            found,
+        )?;
         match self.readies(alloc, place, first, &asked.op) {
             Ok(Some(readied)) => Ok((place, readied)),
             _ => {

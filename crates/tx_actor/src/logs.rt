@@ -42,7 +42,7 @@ impl<V: Value> TxActor<V> {
         ensures keeps { is_recorded self.old.stage ≡ true → (v : BlocksView) → KeepsIn v self.old self.new }
     {
         match place_of(&self.copies, collection) {
-            Some(place) => self.copies.remove(place).copied.log(),
+            Some(place) => self.spares.log_of(self.copies.remove(place).copied),
             None => Log::new(alloc),
         }
     }

@@ -83,7 +83,15 @@ impl<V: Value> TxActor<V> {
         ensures ok { IfOk result (λ readied. (c : CopyOf V) → slice_get self.old.copies.items place ≡ Some c →
             AreReadied self.old self.new place first op.now c readied) }
     {
-        let call = weigh(alloc, &self.words, &self.copies[place].copied, first, op)?;
+        let list = self.spares.left(alloc);
+        let call = weigh(
+            alloc,
+            list,
+            &self.words,
+            &self.copies[place].copied,
+            first,
+            op,
+        )?;
         if !call.fits {
             return Ok(None);
         }

@@ -23,6 +23,7 @@ ghost use Rattle.tx_actor.specs.Running.{IsSeatOf, KnowsHomes, Reseats, Runs, as
 ghost use Rattle.tx_actor.specs.Running.{stage_in, stage_of};
 
 use crate::actor::{Asked, Stage, Told, TxActor};
+use actor_copies::Spares;
 use actor_words::{abort, cancel, release};
 use seq_model::{Answer, Call, Op, Refusal, Reply};
 use std::alloc::Global;
@@ -116,6 +117,7 @@ impl<V: Drop> TxActor<V> {
             made: Vec::new(alloc),
             usual_calls: 0,
             copies: Vec::new(alloc),
+            spares: Spares::new(alloc),
         }
     }
 
@@ -134,7 +136,7 @@ impl<V: Drop> TxActor<V> {
         self.wv = 0;
         self.cause = None;
         self.calls.clear();
-        self.copies.clear();
+        self.spares.clear(&mut self.copies);
     }
 
     /// A transaction has begun.
@@ -399,6 +401,7 @@ impl<V: Drop> TxActor<V> {
         ensures leaves { KeepsCopies (at self.old (Stage.Homing homes)) self.new }
     {
         if has_none(&homes) {
+            self.spares.keep_homes(homes);
             release(&mut self.words, 0);
             self.stage = Stage::Releasing;
             return Told::Quiet;

@@ -94,7 +94,14 @@ impl<V: Value> TxActor<V> {
         let stripes = blocks.stripes_of(asked.collection);
         match find(base, &asked.op) {
             Ok(found) => {
-                let place = take(&mut self.copies, alloc, stripes, asked.collection, found)?;
+                let place = take(
+                    &mut self.copies,
+                    &mut self.spares,
+                    alloc,
+                    stripes,
+                    asked.collection,
+                    found,
+                )?;
                 Ok(place)
             }
             Err(_) => Err(Memory),

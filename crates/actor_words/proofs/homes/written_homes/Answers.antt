@@ -8,7 +8,7 @@ pub loop-i-init : goal.loop-i-init
 loop-i-init c =
     let es = c.in_order-entries.result.now in (
       omega arith,
-      c.new-homes.ensures.items ∙ no_homes c.args.blocks.now es,
+      c.clear.ensures.items ∙ no_homes c.args.blocks.now es,
       subst IsRising (sym c.in_order-entries.ensures.entries) c.in_order-entries.ensures.orderly.rising,
     )
 

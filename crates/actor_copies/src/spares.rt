@@ -1,0 +1,143 @@
+//! Memory that served a transaction at its seat, to serve the next one there.
+ghost use Rattle.std.specs.Prelude.{◌≡◌, [], IfOk};
+ghost use Rattle.std.specs.FinMap as map;
+ghost use Rattle.actor_copies.specs.Copies.{changes_in, locations_in};
+ghost use Rattle.actor_copies.specs.First.{IsBlank};
+
+use crate::copies::{Copied, CopyOf};
+use conflict::Table;
+use replay_log::Log;
+use seq_model::{Memory, Refusal, Value};
+use shadow::{Memo, MemoKind};
+use std::alloc::Global;
+use std::collections::VecDeque;
+use std::marker::Model;
+use std::mem;
+
+/// A memo, with the table of editions beside it.
+#[derive(Drop)]
+pub(crate) struct Spare<V> {
+    pub memo: Memo<V>,
+    pub editions: Table<u64>,
+}
+
+/// What the transactions of a seat took of memory for what they had of collections, and need no more: the next one takes it from here.
+/// Contracts see nothing of it.
+#[derive(Drop)]
+pub struct Spares<V> {
+    kept: Vec<Spare<V>>,
+    left: VecDeque<(u32, u64)>,
+    homes: VecDeque<u32>,
+}
+
+impl<V> Model for Spares<V> {
+    ghost use Rattle.std.specs.Prelude.{⊤};
+
+    ghost Value = { ⊤ };
+
+    ghost view = { λ _. tt };
+}
+
+impl<V: Drop> Spares<V> {
+    /// None yet. It takes no memory.
+    pub fn new(alloc: Global) -> Spares<V> {
+        Spares {
+            kept: Vec::new(alloc),
+            left: VecDeque::new(alloc),
+            homes: VecDeque::new(alloc),
+        }
+    }
+
+    /// Makes room to keep what so many copies take, which then takes no memory.
+    pub(crate) fn reserve(&mut self, copies: usize) -> Result<(), Memory> {
+        self.kept.reserve(copies)?;
+        Ok(())
+    }
+
+    // Keeps what a memo took, empty. Where there is no room for it, it goes.
+    fn keep(&mut self, spare: Spare<V>) {
+        let Spare {
+            mut memo,
+            mut editions,
+        } = spare;
+        memo.clear();
+        editions.clear();
+        let _ = self.kept.push(Spare { memo, editions });
+    }
+
+    /// What a transaction had of collections goes, and its memory is kept. It is not refused.
+    pub fn clear(&mut self, copies: &mut Vec<CopyOf<V>>)
+        ensures { copies.new.items ≡ [] }
+    {
+        while let Some(copy) = copies.pop() {
+            match copy.copied {
+                Copied::Keys(memo, editions) => self.keep(Spare { memo, editions }),
+                Copied::Whole(_) => {}
+            }
+        }
+    }
+
+    /// A list for locations with editions, in the memory of the one that was kept last. What it holds is of no meaning.
+    pub fn left(&mut self, alloc: Global) -> VecDeque<(u32, u64)> {
+        mem::replace(&mut self.left, VecDeque::new(alloc))
+    }
+
+    /// Keeps the memory of such a list.
+    pub fn keep_left(&mut self, left: VecDeque<(u32, u64)>) {
+        self.left = left;
+    }
+
+    /// A list for collections, likewise.
+    pub fn homes(&mut self, alloc: Global) -> VecDeque<u32> {
+        mem::replace(&mut self.homes, VecDeque::new(alloc))
+    }
+
+    /// Keeps the memory of such a list.
+    pub fn keep_homes(&mut self, homes: VecDeque<u32>) {
+        self.homes = homes;
+    }
+}
+
+impl<V: Value> Spares<V> {
+    /// A memo of a map or a multiset in so many stripes with no key, and no edition, in kept memory where there is some. A number of stripes
+    /// outside 1 to `STRIPE_LIMIT` is refused as TooLong.
+    pub(crate) fn blank(
+        &mut self,
+        alloc: Global,
+        stripes: u32,
+        kind: MemoKind,
+    ) -> Result<Spare<V>, Refusal>
+        ensures memo { IfOk result (λ spare. IsBlank stripes kind spare.memo) }
+        ensures editions { IfOk result (λ spare. spare.editions.contents ≡ map.empty) }
+    {
+        match self.kept.pop() {
+            Some(spare) => {
+                let mut editions = spare.editions;
+                editions.clear();
+                let memo = spare.memo.renew(stripes, kind)?;
+                Ok(Spare { memo, editions })
+            }
+            None => {
+                let memo = Memo::new(alloc, stripes, kind)?;
+                let editions = Table::new(alloc);
+                Ok(Spare { memo, editions })
+            }
+        }
+    }
+
+    /// The log of what a transaction had of a collection; its other memory is kept. It is not refused.
+    pub fn log_of(&mut self, copied: Copied<V>) -> Log<V>
+        ensures changes { result.changes ≡ changes_in copied }
+        ensures locations { result.locations ≡ locations_in copied }
+    {
+        match copied {
+            Copied::Keys(memo, editions) => {
+                let mut memo = memo;
+                let log = memo.take_log();
+                self.keep(Spare { memo, editions });
+                log
+            }
+            Copied::Whole(shadow) => shadow.log(),
+        }
+    }
+}
