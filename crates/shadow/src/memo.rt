@@ -159,11 +159,28 @@ impl<V: Value> Memo<V> {
         if !is_stripe_count(stripes) {
             return Err(Refusal::TooLong);
         }
-        let mut memo = self;
-        memo.clear();
-        memo.kind = kind;
-        memo.stripes = stripes;
-        Ok(memo)
+        let Memo {
+            alloc,
+            mut entries,
+            mut copies,
+            mut log,
+            ..
+        } = self;
+        entries.clear();
+        copies.clear();
+        log.clear();
+        Ok(Memo {
+            kind,
+            stripes,
+            alloc,
+            entries,
+            copies,
+            total: None,
+            grown: 0,
+            shrunk: 0,
+            log,
+            ready: None,
+        })
     }
 
     /// Whether the key of the call is held, or for the number of all keys their counts. It takes no memory.
