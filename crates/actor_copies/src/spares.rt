@@ -65,15 +65,20 @@ impl<V: Drop> Spares<V> {
         let _ = self.kept.push(Spare { memo, editions });
     }
 
+    // A whole collection goes, as the next one is copied from its base.
+    fn keep_copied(&mut self, copied: Copied<V>) {
+        match copied {
+            Copied::Keys(memo, editions) => self.keep(Spare { memo, editions }),
+            Copied::Whole(_whole) => {}
+        }
+    }
+
     /// What a transaction had of collections goes, and its memory is kept. It is not refused.
     pub fn clear(&mut self, copies: &mut Vec<CopyOf<V>>)
         ensures { copies.new.items ≡ [] }
     {
         while let Some(copy) = copies.pop() {
-            match copy.copied {
-                Copied::Keys(memo, editions) => self.keep(Spare { memo, editions }),
-                Copied::Whole(_) => {}
-            }
+            self.keep_copied(copy.copied);
         }
     }
 
