@@ -15,14 +15,14 @@ returns-in-Some-clause-changes g c =
     let cs = c.args.self.now.copies.items in
     let at : IsPlaceOf cs c.args.collection c.place_of.result = search rules in
     let z = found_at cs c.in-Some.place c.args.collection c.remove.result _ c.in-Some.is at c.remove.ensures.value in
-    c.log.ensures.changes ∙ sym (ap changes_had z.2)
+    c.log_of.ensures.changes ∙ sym (ap changes_had z.2)
 
 pub returns-in-Some-clause-locations : goal.returns-in-Some-clause-locations
 returns-in-Some-clause-locations g c =
     let cs = c.args.self.now.copies.items in
     let at : IsPlaceOf cs c.args.collection c.place_of.result = search rules in
     let z = found_at cs c.in-Some.place c.args.collection c.remove.result _ c.in-Some.is at c.remove.ensures.value in
-    c.log.ensures.locations ∙ sym (ap locations_had z.2)
+    c.log_of.ensures.locations ∙ sym (ap locations_had z.2)
 
 pub returns-in-Some-clause-others : goal.returns-in-Some-clause-others
 returns-in-Some-clause-others g c j other =
