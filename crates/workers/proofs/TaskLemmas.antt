@@ -1,7 +1,7 @@
 -- A worker's list, job by job.
 -- The outcomes of the jobs so far and that of the next one are those of the jobs up to it: its receipt comes last among the receipts, or
 -- its cause last among the missed ones, with the number of the jobs before it as its place.
-use Rattle.std.proofs.Common.{◌≡◌, ℕ, suc, ◌+◌, ◌<◌, ◌≤◌, List, [], ◌∷◌, ◌++◌, length, Ok, Err, inl, inr, refl, sym, ap, ◌∙◌, subst, arith}
+use Rattle.std.proofs.Common.{◌≡◌, ℕ, suc, ◌+◌, ◌-◌, ◌<◌, ◌≤◌, List, [], ◌∷◌, ◌++◌, length, Ok, Err, inl, inr, refl, sym, ap, ◌∙◌, subst, arith}
 use Rattle.std.specs.Prelude.{get_or, map, take}
 use Rattle.std.proofs.lemmas.List.{append-nil, append_assoc, length-take-le, map-append, take_more}
 use Rattle.std.proofs.Math.Seq.{take-length}
@@ -194,6 +194,24 @@ module _ {V : Type 0} where
     shares = h.shares ∙ g.shares;
     records = h.records ∙ (ap (λ (xs : List (Record V)). xs ++ ps) g.records ∙ append_assoc (records_of s) rs ps);
   }
+
+  -- a seat that was split, and its halves joined again, each with receipts more: it has the receipts of both besides
+  pub both_gain : (n : ℕ) (s m o x y u : TxSeat V) (ps qs : List (Record V)) → n ≤ (view s.seat).shares
+      → (view m.seat).shares ≡ (view s.seat).shares - n → (view m.seat).receipts ≡ (view s.seat).receipts → (view o.seat).shares ≡ n
+      → (view o.seat).receipts ≡ [] → Gains m x ps → Gains o y qs → (view u.seat).shares ≡ (view x.seat).shares + (view y.seat).shares
+      → (view u.seat).receipts ≡ (view x.seat).receipts ++ (view y.seat).receipts → Gains s u (ps ++ qs)
+  both_gain n s m o x y u ps qs fits of_m same of_o none first second of_u both =
+      let records : List (ℕ × Record V) → List (Record V) = map (λ (e : ℕ × Record V). e.1) in
+      let of_x = first.shares in
+      let of_y = second.shares in
+      let by_first : records_of x ≡ records_of s ++ ps = first.records ∙ ap (λ (es : List (ℕ × Record V)). records es ++ ps) same in
+      let by_second : records_of y ≡ qs = second.records ∙ ap (λ (es : List (ℕ × Record V)). records es ++ qs) none in
+      record {
+        shares = omega (arith, of_m, of_o, of_u, of_x, of_y, fits);
+        records = ap records both
+            ∙ (map-append (λ (e : ℕ × Record V). e.1) (view x.seat).receipts (view y.seat).receipts
+            ∙ ((λ i. by_first i ++ by_second i) ∙ append_assoc (records_of s) ps qs));
+      }
 
   pub keeps_gains : (s m u : TxSeat V) (rs : List (Record V)) → Gains s m rs → KeepsReceipts m.seat u.seat → Gains s u rs
   keeps_gains s m u rs g k = record {

@@ -1,7 +1,7 @@
-use Rattle.std.proofs.Common.{rules, [], ◌≡◌, ◌∙◌, sym}
+use Rattle.std.proofs.Common.{rules, [], ◌≡◌, ◌++◌, ◌∙◌, ap, sym}
 use Rattle.workers.proofs.ReportLemmas.{same_works}
-use Rattle.workers.proofs.TaskLemmas.{no_gain}
-use Rattle.workers.specs.Trees.{gained}
+use Rattle.workers.proofs.TaskLemmas.{both_gain, no_gain}
+use Rattle.workers.specs.Trees.{gained, works}
 use Rattle.workers.proofs.halves.+shares.Goals as goal
 
 pub both-scope-spawn_with-returns-then-load : goal.both-scope-spawn_with-returns-then-load
@@ -49,6 +49,22 @@ share-returns-in-Leaf g t c =
       gains = c.work.ensures.gains;
       works_are = same_works c.in-Leaf.task c.work.new.self c.args.tree.value tree_is c.work.ensures.same;
       done = c.work.ensures.done;
+    }
+
+pub share-returns-in-Both : goal.share-returns-in-Both
+share-returns-in-Both g t c =
+    let tree_is = sym (c.replace.ensures.value ∙ c.deref_mut.ensures.value) ∙ c.in-Both.is in
+    let first = c.both-first.ensures.first in
+    let second = c.both-first.ensures.second in
+    record {
+      ready = c.join.ensures.ready;
+      gains = both_gain c.count-shares.result c.args.seat c.split-other.new.self c.split-other.result c.both-first.result.0.0
+          c.both-first.result.1.0 c.join.new.self _ _ (search rules) (λ i. (c.split-other.ensures.left.0 i).shares)
+          (λ i. (c.split-other.ensures.left.0 i).receipts) (λ i. (c.split-other.ensures.right.0 i).shares)
+          (λ i. (c.split-other.ensures.right.0 i).receipts) first.gains second.gains (λ i. (c.join.ensures.both i).shares)
+          (λ i. (c.join.ensures.both i).receipts);
+      works_are = (λ i. first.works_are i ++ second.works_are i) ∙ sym (ap works tree_is);
+      done = (first.done, second.done);
     }
 
 -- A closure is called where what it asks of its captures holds: it stands before the bounds on types there, and behind them here.
