@@ -22,3 +22,8 @@ list_at lists i list lt at all =
 
 pub all_looked_at : (lists : List Actions) (n : ℕ) → length lists ≤ n → AreAllowed (jobs_of (take n lists)) → AreAllowed (jobs_of lists)
 all_looked_at lists n most all = subst (λ (ls : List Actions). AreAllowed (jobs_of ls)) (take_all n lists most) all
+
+-- lists with the same jobs are as many
+pub as_many : {J : Type 0} (xs ys : List (Vec J Global)) → jobs_of xs ≡ jobs_of ys → length xs ≡ length ys
+as_many {J} xs ys same =
+    sym (length-map xs (λ (list : Vec J Global). list.items)) ∙ (ap length same ∙ length-map ys (λ (list : Vec J Global). list.items))

@@ -1,6 +1,24 @@
+use Rattle.std.proofs.Common.{◌≡◌, arith}
+use Rattle.tx_table.specs.Seated.{view}
+use Rattle.tx_table.specs.declared.view.TheConstants.{SHARES}
 use Rattle.workers.specs.Reports.{jobs_of}
+use Rattle.serving.proofs.ListLemmas.{as_many}
 use Rattle.serving.proofs.RunLemmas.{are_balanced, holds_some, served_so}
 use Rattle.serving.proofs.served.serve_allowed.Goals as goal
+
+pub run_workers-seat-requires-clause-lists : goal.run_workers-seat-requires-clause-lists
+run_workers-seat-requires-clause-lists g c κs within =
+    let many = as_many c.in_ok-sessions.sessions.items c.args.lists.now c.in_ok-sessions.ensures in
+    let some = c.requires.lists.0 in
+    let few = c.requires.lists.1 in
+    (omega (arith, many, some), omega (arith, many, few))
+
+pub run_workers-seat-requires-clause-shares : goal.run_workers-seat-requires-clause-shares
+run_workers-seat-requires-clause-shares g c κs within =
+    let many = as_many c.in_ok-sessions.sessions.items c.args.lists.now c.in_ok-sessions.ensures in
+    let all : (view c.in_ok-table.seat.seat).shares ≡ SHARES = λ i. (c.in_ok-table.ensures.seat_is i).shares in
+    let few = c.requires.lists.1 in
+    omega (arith, many, all, few)
 
 pub tables_left-requires : goal.tables_left-requires
 tables_left-requires g c =
