@@ -14,11 +14,10 @@ use std::alloc::Global;
 fn memo_kind<V>(held: &Touched<V>) -> MemoKind
     ensures { result ≡ memo_kind held.now }
 {
-    match held {
-        Touched::Copies(_, _) => MemoKind::Bag,
-        Touched::Entry(_, _) => MemoKind::Map,
-        Touched::Counts(_) => MemoKind::Map,
+    if let Touched::Copies(_, _) = held {
+        return MemoKind::Bag;
     }
+    MemoKind::Map
 }
 
 fn first_touch<V: Value>(

@@ -1,6 +1,7 @@
 //! What a call touches joins what a transaction has of collections, while the gate of its collection is held, and is taken back where
 //! the call is not made.
 ghost use Rattle.std.specs.Prelude.{◌≡◌, ◌+◌, ◌<◌, ◌≤◌, ◌^◌, IfOk, OnErr, OnOk, Some, false, length};
+ghost use Rattle.std.specs.Vec.{vec_capacity, vec_len};
 ghost use Rattle.conflict.specs.declared.outcome.Outcome.{Outcome};
 ghost use Rattle.replay_log.specs.Base.{locations_of, outcome_of, shown_of, stripes_of};
 ghost use Rattle.actor_copies.specs.Copies.{IsKept};
@@ -79,6 +80,16 @@ fn add<V: Value>(copied: &mut Copied<V>, found: Found<V>) -> Result<(), Memory>
     }
 }
 
+// Room for one copy more, and to keep its memory once it goes.
+fn make_room<V: Drop>(copies: &mut Vec<CopyOf<V>>, spares: &mut Spares<V>) -> Result<(), Memory>
+    ensures items { copies.new.items ≡ copies.old.items }
+    ensures ok { OnOk result (vec_len copies.new < vec_capacity copies.new) }
+{
+    copies.reserve(1)?;
+    spares.reserve(copies.len().saturating_add(1))?;
+    Ok(())
+}
+
 fn push_first<V: Value>(
     copies: &mut Vec<CopyOf<V>>,
     spares: &mut Spares<V>,
@@ -90,8 +101,7 @@ fn push_first<V: Value>(
     ensures ok { OnOk result (IsPushed stripes collection found copies.old.items copies.new.items) }
     ensures err { OnErr result (copies.new.items ≡ copies.old.items) }
 {
-    copies.reserve(1)?;
-    spares.reserve(copies.len().saturating_add(1))?;
+    make_room(copies, spares)?;
     match first_copy(spares, alloc, stripes, found) {
         Ok(copied) => {
             copies.push_reserved(CopyOf { collection, copied });
