@@ -2,19 +2,21 @@
 ghost use Rattle.std.specs.Prelude.{◌≡◌, ◌<◌, ◌≤◌, ◌^◌, ◌∷◌, [], IfOk, IsTrue, slice_index};
 ghost use Rattle.replay_log.specs.Base.{editions_of, locations_of, shown_of, stripes_of};
 
-use crate::bench::{HIGH, print_base, stripes_in};
 use base_bag::BagBase;
 use base_map::MapBase;
 use base_pq::PqBase;
 use base_queue::QueueBase;
 use conflict::{Change, Changes, LocSet};
 use replay_log::{Base, Log};
-use row_parts::script_of;
-use seq_model::{Held, Items, Memory, Refusal};
+use row_parts::{changes_of, print_base, script_of, stripes_in};
+use seq_model::{Held, Memory, Refusal};
 use std::alloc::Global;
 use std::fmt::Write;
 use step_script::Collection;
-use text_lines::{number, tokens_of};
+use text_lines::tokens_of;
+
+/// No edition that is raised here is so high.
+pub const HIGH: u64 = 1 << 62;
 
 /// `KIND COLLECTION`: opens what the header says as a base of this kind.
 pub fn answer_of_kind(text: &mut String, row: &str) -> Result<(), Refusal> {
@@ -85,34 +87,6 @@ pub fn answer_new(text: &mut String, row: &str) -> Result<(), Refusal> {
         Ok(base) => print_editions(text, &base, stripes),
         Err(refusal) => Err(refusal),
     }
-}
-
-fn change_of(tokens: &[&str]) -> Option<Change<u64>> {
-    match tokens {
-        ["put", key, value] => Some(Change::Put(number(key)?, number(value)?)),
-        ["remove", key] => Some(Change::Remove(number(key)?)),
-        ["add", element] => Some(Change::Add(number(element)?)),
-        ["take", element] => Some(Change::Take(number(element)?)),
-        ["least", least] => Some(Change::SetLeast(Some(number(least)?))),
-        ["enqueue", index, item] => Some(Change::Enqueue(number(index)?, number(item)?)),
-        ["dequeue", index] => Some(Change::Dequeue(number(index)?)),
-        _ => None,
-    }
-}
-
-fn change_in(alloc: Global, spelled: &str) -> Result<Change<u64>, Refusal> {
-    let tokens = tokens_of(alloc, spelled)?;
-    change_of(tokens.as_slice()).ok_or(Refusal::NoSuch)
-}
-
-/// The changes that the row spells, with `, ` between.
-pub fn changes_of(alloc: Global, row: &str) -> Result<Changes<u64>, Refusal> {
-    let mut changes = Items::new(alloc);
-    for spelled in row.split(", ") {
-        let change = change_in(alloc, spelled)?;
-        changes.push(change)?;
-    }
-    Ok(changes)
 }
 
 fn is_raisable(base: &Base<u64>, stripes: u32, location: u32) -> bool

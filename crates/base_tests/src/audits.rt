@@ -1,5 +1,5 @@
 //! Rows of records: audits on one word that is 0 at first, and records in commit order.
-use crate::bench::{number_in, stripes_in};
+use row_parts::{number_in, stripes_in};
 use seq_model::{
     AuditFault, Call, Items, Memory, Op, Record, Refusal, Reply, State, audit, insert_record,
 };

@@ -1,5 +1,5 @@
-//! Tests of the sequential model, of what all collections use, of the collections that transactions share, on their public calls,
-//! and of what stands over them: logs folded into bases, and shadows of copies.
+//! Tests of the sequential model, of what all collections use, and of each kind of shared collection by itself, on their public calls:
+//! as it opens, as changes are replayed on it, and as a log is folded into it.
 //!
 //! They are rows of text in the file `stdin`, one test a row, each of which is printed with its answer; what all must answer
 //! stands in the file `stdout`. So the crate is proved once, however many rows there are. What a row may say is told at
@@ -8,10 +8,8 @@
 
 mod alone;
 mod audits;
-mod bench;
 mod models;
 mod parts;
-mod print;
 mod rows;
 
 use rows::answer_all;

@@ -1,7 +1,5 @@
 //! Rows on states of the sequential model, on what its refusals print, and on copies of events.
-use crate::bench::{from_index, stripes_in};
-use crate::print::print_held;
-use row_parts::{print_reply, script_of};
+use row_parts::{from_index, print_held, print_reply, script_of, stripes_in};
 use seq_model::{Call, Event, Held, Memory, Op, Refusal, Request, State};
 use std::alloc::Global;
 use std::fmt::Write;

@@ -1,10 +1,9 @@
 //! Rows on what all collections use: sets of locations, editions and the hash map.
 ghost use Rattle.std.specs.Prelude.{◌≡◌, ◌<◌, ◌^◌, IfOk, IsTrue, length, slice_index};
 
-use crate::alone::locations_in;
-use crate::bench::{HIGH, number_in, stripes_in};
-use crate::print::{print_held, print_locations};
+use crate::alone::{HIGH, locations_in};
 use conflict::{Editions, LocSet, Table, conflicts};
+use row_parts::{number_in, print_held, print_locations, stripes_in};
 use seq_model::{Held, Memory, Refusal};
 use smallvec::SmallVec;
 use std::alloc::Global;

@@ -1,9 +1,8 @@
-//! Outcomes, changes and contents, as text.
-use conflict::{Change, LocSet, Outcome};
+//! Outcomes and changes, as text.
+use conflict::{Change, Outcome};
 use replay_log::Base;
-use row_parts::print_reply;
-use seq_model::{Held, Memory};
-use std::collections::btree_map::Iter;
+use row_parts::{print_locations, print_reply};
+use seq_model::Memory;
 use std::fmt::Write;
 
 /// Prints the reply, what the outcome reads and writes, and its changes.
@@ -37,15 +36,6 @@ fn print_changes_of(
     print_changes(text, changes.as_slice())
 }
 
-/// Prints a name, and the locations of a set.
-pub fn print_locations(text: &mut String, name: &str, locations: &LocSet) -> Result<(), Memory> {
-    text.push_str(name)?;
-    for location in locations.as_slice() {
-        write!(text, " {location}")?;
-    }
-    Ok(())
-}
-
 /// Prints changes, each behind a comma.
 pub fn print_changes(text: &mut String, changes: &[Change<u64>]) -> Result<(), Memory> {
     for change in changes {
@@ -64,36 +54,6 @@ fn print_change(text: &mut String, change: &Change<u64>) -> Result<(), Memory> {
         Change::SetLeast(None) => text.push_str(", SetLeast none")?,
         Change::Enqueue(index, item) => write!(text, ", Enqueue {index} {item}")?,
         Change::Dequeue(index) => write!(text, ", Dequeue {index}")?,
-    }
-    Ok(())
-}
-
-/// Prints what a collection holds: keys with values, elements with their numbers, or the items of a queue from an index.
-pub fn print_held(text: &mut String, held: &Held<u64>) -> Result<(), Memory> {
-    match held {
-        Held::Map(entries) => print_pairs(text, "map", entries.iter()),
-        Held::Bag(counts) => print_pairs(text, "bag", counts.iter()),
-        Held::Pq(counts) => print_pairs(text, "pq", counts.iter()),
-        Held::Queue { head, items } => {
-            write!(text, "queue from {head}:")?;
-            let (front, back) = items.as_slices();
-            print_items(text, front)?;
-            print_items(text, back)
-        }
-    }
-}
-
-fn print_pairs(text: &mut String, kind: &str, pairs: Iter<'_, u64, u64>) -> Result<(), Memory> {
-    text.push_str(kind)?;
-    for (key, value) in pairs {
-        write!(text, " {key}:{value}")?;
-    }
-    Ok(())
-}
-
-fn print_items(text: &mut String, items: &[u64]) -> Result<(), Memory> {
-    for item in items {
-        write!(text, " {item}")?;
     }
     Ok(())
 }

@@ -1,33 +1,22 @@
 //! A collection and the sequential model beside it, and the calls on them.
 ghost use Rattle.std.specs.Prelude.{◌≡◌, [], IfOk};
 
-use crate::alone::changes_of;
-use crate::print::{print_changes, print_held, print_outcome};
+use crate::print::{print_changes, print_outcome};
 use conflict::{Changes, LocSet, Outcome, conflicts};
 use replay_log::{Base, Log};
-use row_parts::{print_reply, script_of};
+use row_parts::{
+    changes_of, from_index, print_base, print_held, print_reply, script_of, stripes_in,
+};
 use seq_model::{Call, Held, Memory, Op, Refusal, Reply, Request, State};
 use shadow::Shadow;
 use std::alloc::Global;
 use step_script::{Line, Script};
-use text_lines::number;
-
-/// No edition that is raised here is so high.
-pub const HIGH: u64 = 1 << 62;
 
 /// A collection, and the state of the sequential model after the same calls.
 #[derive(Drop)]
 pub struct Bench {
     base: Base<u64>,
     state: State<u64>,
-}
-
-/// A queue is taken from this index.
-pub fn from_index(held: Held<u64>, index: u64) -> Held<u64> {
-    match held {
-        Held::Queue { head: _, items } => Held::Queue { head: index, items },
-        other => other,
-    }
 }
 
 fn held_in(alloc: Global, script: &Script) -> Result<Held<u64>, Refusal> {
@@ -157,13 +146,6 @@ fn reopened(alloc: Global, base: &Base<u64>, stripes: u32) -> Result<Base<u64>, 
     Base::open(alloc, stripes, held)
 }
 
-/// Prints what the collection holds.
-pub fn print_base(text: &mut String, base: &Base<u64>) -> Result<(), Refusal> {
-    let held = base.held()?;
-    print_held(text, &held)?;
-    Ok(())
-}
-
 fn replay(text: &mut String, base: &mut Base<u64>, changes: &str) -> Result<(), Refusal> {
     let alloc = *text.allocator();
     let changes = changes_of(alloc, changes)?;
@@ -172,19 +154,6 @@ fn replay(text: &mut String, base: &mut Base<u64>, changes: &str) -> Result<(), 
     base.replay(changes, &none);
     text.push_str("done")?;
     Ok(())
-}
-
-/// The number that a token spells.
-pub fn number_in(token: &str) -> Result<u64, Refusal> {
-    number(token).ok_or(Refusal::NoSuch)
-}
-
-/// The number of stripes that the token spells.
-pub fn stripes_in(token: &str) -> Result<u32, Refusal> {
-    match number(token) {
-        Some(stripes) => u32::try_from(stripes).map_err(|_| Refusal::TooLong),
-        None => Err(Refusal::NoSuch),
-    }
 }
 
 fn look(text: &mut String, base: &Base<u64>, op: &Op<u64>) -> Result<(), Refusal> {

@@ -1,0 +1,46 @@
+//! Tests of the calls on a shared collection, beside the sequential model: what they reply, read, write and change, on the collection,
+//! on a copy of it, and on the shadow of a copy.
+//!
+//! They are rows of text in the file `stdin`, one test a row, each of which is printed with its answer; what all must answer
+//! stands in the file `stdout`. So the crate is proved once, however many rows there are. What a row may say is told at
+//! [`rows::answer_all`].
+#![tactic(auto)]
+
+mod bench;
+mod print;
+mod rows;
+
+use rows::answer_all;
+use std::io;
+use std::process::ExitCode;
+
+/// The status of a run that could not read its rows or print its answers.
+const FAILED: u8 = 1;
+
+/// The status of a run that was refused memory. It has printed nothing else.
+const MEMORY: u8 = 2;
+
+fn main(rt: HostRuntime) -> ExitCode {
+    let status = match run(&rt) {
+        Ok(()) => 0,
+        Err(error) => refuse(&rt, &error),
+    };
+    ExitCode::from(status)
+}
+
+// All is answered before anything is printed.
+fn run(rt: &HostRuntime) -> io::Result<()> {
+    let rows = io::read_to_string(rt.alloc(), rt.stdin())?;
+    match answer_all(rt.alloc(), rows.as_str()) {
+        Ok(text) => rt.print(text.as_str()),
+        Err(_) => Err(io::Error::from(io::ErrorKind::OutOfMemory)),
+    }
+}
+
+fn refuse(rt: &HostRuntime, error: &io::Error) -> u8 {
+    if error.kind() == io::ErrorKind::OutOfMemory {
+        let _ = rt.print("Memory\n");
+        return MEMORY;
+    }
+    FAILED
+}
