@@ -46,6 +46,6 @@ pub fn first_copy<V: Value>(
 {
     match found {
         Found::Keys(touch) => first_touch(spares, alloc, stripes, touch),
-        Found::Whole(base) => Ok(Copied::Whole(Shadow::of_copy(alloc, base))),
+        Found::Whole(base) => Ok(Copied::Whole(Shadow::of_copy(alloc, base, spares.log(alloc)))),
     }
 }

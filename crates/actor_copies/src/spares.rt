@@ -26,6 +26,7 @@ pub(crate) struct Spare<V> {
 #[derive(Drop)]
 pub struct Spares<V> {
     kept: Vec<Spare<V>>,
+    logs: Vec<Log<V>>,
     left: VecDeque<(u32, u64)>,
     homes: VecDeque<u32>,
 }
@@ -43,6 +44,7 @@ impl<V: Drop> Spares<V> {
     pub fn new(alloc: Global) -> Spares<V> {
         Spares {
             kept: Vec::new(alloc),
+            logs: Vec::new(alloc),
             left: VecDeque::new(alloc),
             homes: VecDeque::new(alloc),
         }
@@ -51,6 +53,7 @@ impl<V: Drop> Spares<V> {
     /// Makes room to keep what so many copies take, which then takes no memory.
     pub(crate) fn reserve(&mut self, copies: usize) -> Result<(), Memory> {
         self.kept.reserve(copies)?;
+        self.logs.reserve(copies)?;
         Ok(())
     }
 
@@ -65,12 +68,43 @@ impl<V: Drop> Spares<V> {
         let _ = self.kept.push(Spare { memo, editions });
     }
 
-    // A whole collection goes, as the next one is copied from its base.
-    fn keep_copied(&mut self, copied: Copied<V>) {
+    /// The log of what a transaction had of a collection. Of a map or a multiset the other memory is kept; a whole collection goes, as
+    /// the next one is copied from its base. It is not refused.
+    pub fn log_of(&mut self, copied: Copied<V>) -> Log<V>
+        ensures changes { result.changes ≡ changes_in copied }
+        ensures locations { result.locations ≡ locations_in copied }
+    {
         match copied {
-            Copied::Keys(memo, editions) => self.keep(Spare { memo, editions }),
-            Copied::Whole(_whole) => {}
+            Copied::Keys(memo, editions) => {
+                let mut memo = memo;
+                let log = memo.take_log();
+                self.keep(Spare { memo, editions });
+                log
+            }
+            Copied::Whole(shadow) => shadow.log(),
         }
+    }
+
+    /// Keeps the memory of a log, whose changes go. Where there is no room for it, it goes as well. It takes no memory.
+    pub fn keep_log(&mut self, log: Log<V>) {
+        let mut log = log;
+        log.clear();
+        if self.logs.len() < self.logs.capacity() {
+            self.logs.push_reserved(log);
+        }
+    }
+
+    /// A log in kept memory, where there is some. What it holds is of no meaning.
+    pub(crate) fn log(&mut self, alloc: Global) -> Log<V> {
+        match self.logs.pop() {
+            Some(log) => log,
+            None => Log::new(alloc),
+        }
+    }
+
+    fn keep_copied(&mut self, copied: Copied<V>) {
+        let log = self.log_of(copied);
+        self.keep_log(log);
     }
 
     /// What a transaction had of collections goes, and its memory is kept. It is not refused.
@@ -119,7 +153,9 @@ impl<V: Value> Spares<V> {
             Some(spare) => {
                 let mut editions = spare.editions;
                 editions.clear();
-                let memo = spare.memo.renew(stripes, kind)?;
+                let mut memo = spare.memo;
+                memo.use_log(self.log(alloc));
+                let memo = memo.renew(stripes, kind)?;
                 Ok(Spare { memo, editions })
             }
             None => {
@@ -127,22 +163,6 @@ impl<V: Value> Spares<V> {
                 let editions = Table::new(alloc);
                 Ok(Spare { memo, editions })
             }
-        }
-    }
-
-    /// The log of what a transaction had of a collection; its other memory is kept. It is not refused.
-    pub fn log_of(&mut self, copied: Copied<V>) -> Log<V>
-        ensures changes { result.changes ≡ changes_in copied }
-        ensures locations { result.locations ≡ locations_in copied }
-    {
-        match copied {
-            Copied::Keys(memo, editions) => {
-                let mut memo = memo;
-                let log = memo.take_log();
-                self.keep(Spare { memo, editions });
-                log
-            }
-            Copied::Whole(shadow) => shadow.log(),
         }
     }
 }

@@ -137,7 +137,7 @@ pub fn changes_at_home<V, X, Op, Out>()
         SameBase (content v.words v.blocks) k (happens v (Step a)).0.boosted (happens w (Step a)).0.boosted }
 {}
 
-/// A base that shows what its collection has, with the log of a transaction folded into it (`replay_log::Log::fold_into`), shows what
+/// A base that shows what its collection has, with the log of a transaction folded into it (`replay_log::Log::fold`), shows what
 /// the collection has once it has gone home: the parts, and the edition of each location that the log was pushed with one higher. The
 /// log is that of the transaction's calls on the collection, one after another. So it is in a world that events have reached, and in
 /// each that is alike to the actor there, as its own is.

@@ -1,6 +1,7 @@
 //! The collection of a multiset.
 ghost use Rattle.std.specs.Prelude.{◌≡◌, ◌+◌, ◌^◌, ◌<◌, ◌≤◌, [], Some, None, All, IsOk, replicate, IfOk, IfErr, OnOk, length, slice_index};
 ghost use Rattle.std.specs.FinMap.{empty};
+ghost use Rattle.std.specs.Vec.{vec_capacity};
 ghost use Rattle.seq_model.specs.Calls.{IsRefusal, IsWithinLimits};
 ghost use Rattle.seq_model.specs.Counts.{HasFewCopies, copies};
 ghost use Rattle.conflict.specs.Rules.{applied};
@@ -10,7 +11,7 @@ ghost use Rattle.conflict.specs.Refusals.{IsTooLong, IsNoSuchOrTooLong, IsStripe
 ghost use Rattle.base_bag.specs.Conflicts.{rules, view_of, outcome_of, reads_of, writes_of, changes_of};
 
 use crate::elements::Elements;
-use crate::footprints::{changes_in, place_in, reads_in, writes_in};
+use crate::footprints::{change_in, place_in, reads_in, writes_in};
 use conflict::{Change, Changes, Conflict, Editions, LocSet, Note, Outcome, is_stripe_count};
 use seq_model::{COPY_LIMIT, Counts, Held, Items, Memory, Op, Refusal, Reply, Value};
 use std::alloc::Global;
@@ -189,7 +190,11 @@ impl BagBase {
         ensures changes { IfOk result (λ changes. changes ≡ changes_of outcome.now) }
         ensures served { changes_of outcome.now ≡ [] → IsOk result }
     {
-        changes_in(self.editions.allocator(), outcome)
+        let mut changes = Items::new(self.editions.allocator());
+        if let Some(change) = change_in(outcome)? {
+            changes.push(change)?;
+        }
+        Ok(changes)
     }
 
     /// Makes room for the changes. The multiset stays as it is and keeps its room, also where memory is refused. Where there is
@@ -215,6 +220,21 @@ impl BagBase {
         ensures stripes { self.new.stripes ≡ self.old.stripes }
         ensures editions { self.new.editions ≡ raised written.now self.old.editions }
         ensures room { self.old.room ≤ self.new.room + length changes }
+    {
+        self.replay_from(&mut changes.into_vec(), written);
+    }
+
+    /// What `replay` does, of the changes in a list that is left empty and keeps its memory.
+    pub fn replay_from<V: Drop>(&mut self, changes: &mut Vec<Change<V>>, written: &LocSet)
+        requires prepared { length changes.old.items ≤ self.old.room }
+        requires within { All (λ location. location < self.old.stripes) written.now }
+        requires below { All (λ location. slice_index self.old.editions location < 2 ^ 63) written.now }
+        ensures shown { self.new.shown ≡ applied (rules V) changes.old.items self.old.shown }
+        ensures stripes { self.new.stripes ≡ self.old.stripes }
+        ensures editions { self.new.editions ≡ raised written.now self.old.editions }
+        ensures room { self.old.room ≤ self.new.room + length changes.old.items }
+        ensures emptied { changes.new.items ≡ [] }
+        ensures capacity { vec_capacity changes.new ≡ vec_capacity changes.old }
     {
         apply_changes(&mut self.elements, changes);
         self.editions.raise(written);
@@ -242,12 +262,15 @@ impl BagBase {
     }
 }
 
-fn apply_changes<V: Drop>(elements: &mut Elements, changes: Changes<V>)
-    requires { length changes ≤ elements.old.room }
-    ensures shown { elements.new.shown ≡ applied (rules V) changes elements.old.shown }
-    ensures room { elements.old.room ≤ elements.new.room + length changes }
+fn apply_changes<V: Drop>(elements: &mut Elements, changes: &mut Vec<Change<V>>)
+    requires { length changes.old.items ≤ elements.old.room }
+    ensures shown { elements.new.shown ≡ applied (rules V) changes.old.items elements.old.shown }
+    ensures room { elements.old.room ≤ elements.new.room + length changes.old.items }
+    ensures emptied { changes.new.items ≡ [] }
+    ensures capacity { vec_capacity changes.new ≡ vec_capacity changes.old }
 {
-    for change in changes.into_vec() {
+    changes.reverse();
+    while let Some(change) = changes.pop() {
         elements.change(change);
     }
 }

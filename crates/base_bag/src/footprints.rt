@@ -1,10 +1,10 @@
 //! What an outcome of a multiset reads, writes and changes. It takes the number of stripes, and no multiset.
-ghost use Rattle.std.specs.Prelude.{◌≡◌, ◌<◌, [], IsOk, IfOk};
+ghost use Rattle.std.specs.Prelude.{◌≡◌, ◌<◌, IsOk, IfOk, option_to_list};
 ghost use Rattle.conflict.specs.Footprints.{key_place};
 ghost use Rattle.base_bag.specs.Conflicts.{changes_of, reads_of, writes_of};
 
-use conflict::{Change, Changes, LocSet, Outcome};
-use seq_model::{Items, Memory, Op, Reply};
+use conflict::{Change, LocSet, Outcome};
+use seq_model::{Memory, Op, Reply};
 use std::alloc::Global;
 
 /// The location that the element lies on.
@@ -44,16 +44,14 @@ pub fn writes_in<V>(alloc: Global, stripes: u32, outcome: &Outcome<V>) -> Result
     })
 }
 
-/// What the outcome changes. Where that is nothing, it is never refused.
-pub fn changes_in<V: Drop>(alloc: Global, outcome: &Outcome<V>) -> Result<Changes<V>, Memory>
-    ensures changes { IfOk result (λ changes. changes ≡ changes_of outcome.now) }
-    ensures served { changes_of outcome.now ≡ [] → IsOk result }
+/// What the outcome changes, which is one thing at most. It is never refused.
+pub fn change_in<V: Drop>(outcome: &Outcome<V>) -> Result<Option<Change<V>>, Memory>
+    ensures change { IfOk result (λ change. option_to_list change ≡ changes_of outcome.now) }
+    ensures served { IsOk result }
 {
-    let mut changes = Items::new(alloc);
-    match (&outcome.op, &outcome.reply) {
-        (Op::Add(element), Reply::Done) => changes.push(Change::Add(*element))?,
-        (Op::Take(element), Reply::Yes) => changes.push(Change::Take(*element))?,
-        _ => {}
-    }
-    Ok(changes)
+    Ok(match (&outcome.op, &outcome.reply) {
+        (Op::Add(element), Reply::Done) => Some(Change::Add(*element)),
+        (Op::Take(element), Reply::Yes) => Some(Change::Take(*element)),
+        _ => None,
+    })
 }

@@ -1,10 +1,10 @@
 //! What an outcome of a map reads, writes and changes. It takes the number of stripes, and no map.
-ghost use Rattle.std.specs.Prelude.{◌≡◌, ◌<◌, ◌≤◌, [], IsOk, IfOk, length};
+ghost use Rattle.std.specs.Prelude.{◌≡◌, ◌<◌, ◌≤◌, [], IsOk, IfOk, length, option_to_list};
 ghost use Rattle.conflict.specs.Footprints.{key_place};
 ghost use Rattle.base_map.specs.Conflicts.{changes_of, reads_of, writes_of};
 
-use conflict::{Change, Changes, LocSet, Outcome};
-use seq_model::{Items, Memory, Op, Reply, Value};
+use conflict::{Change, LocSet, Outcome};
+use seq_model::{Memory, Op, Reply, Value};
 use std::alloc::Global;
 
 /// The location that the key lies on.
@@ -45,16 +45,14 @@ pub fn writes_in<V>(alloc: Global, stripes: u32, outcome: &Outcome<V>) -> Result
     })
 }
 
-/// What the outcome changes. Where that is nothing, it is never refused.
-pub fn changes_in<V: Value>(alloc: Global, outcome: &Outcome<V>) -> Result<Changes<V>, Memory>
-    ensures changes { IfOk result (λ changes. changes ≡ changes_of outcome.now) }
+/// What the outcome changes, which is one thing at most. Where it is nothing, it is never refused.
+pub fn change_in<V: Value>(outcome: &Outcome<V>) -> Result<Option<Change<V>>, Memory>
+    ensures change { IfOk result (λ change. option_to_list change ≡ changes_of outcome.now) }
     ensures served { changes_of outcome.now ≡ [] → IsOk result }
 {
-    let mut changes = Items::new(alloc);
-    match (&outcome.op, &outcome.reply) {
-        (Op::Put(key, value), _) => changes.push(Change::Put(*key, value.try_copy()?))?,
-        (Op::Remove(key), Reply::Value(_)) => changes.push(Change::Remove(*key))?,
-        _ => {}
-    }
-    Ok(changes)
+    Ok(match (&outcome.op, &outcome.reply) {
+        (Op::Put(key, value), _) => Some(Change::Put(*key, value.try_copy()?)),
+        (Op::Remove(key), Reply::Value(_)) => Some(Change::Remove(*key)),
+        _ => None,
+    })
 }

@@ -1,6 +1,7 @@
 //! The collection of a map.
 ghost use Rattle.std.specs.Prelude.{◌≡◌, ◌+◌, ◌^◌, ◌<◌, ◌≤◌, [], ◌%◌, Some, None, All, IsOk, replicate, IfOk, IfErr, OnOk, length};
 ghost use Rattle.std.specs.Prelude.{slice_index};
+ghost use Rattle.std.specs.Vec.{vec_capacity};
 ghost use Rattle.std.specs.FinMap as map;
 ghost use Rattle.seq_model.specs.Calls.{IsRefusal, value_reply};
 ghost use Rattle.conflict.specs.Rules.{applied};
@@ -10,7 +11,7 @@ ghost use Rattle.conflict.specs.Editions.{raised};
 ghost use Rattle.conflict.specs.Refusals.{IsTooLong, IsNoSuchOrTooLong, IsStripeCount};
 ghost use Rattle.base_map.specs.Conflicts.{rules, view_of, outcome_of, reads_of, writes_of, changes_of};
 
-use crate::footprints::{changes_in, place_in, reads_in, writes_in};
+use crate::footprints::{change_in, place_in, reads_in, writes_in};
 use conflict::{
     Change, Changes, Conflict, Editions, LocSet, Note, Outcome, Table, is_stripe_count,
 };
@@ -193,7 +194,11 @@ impl<V: Value> MapBase<V> {
         ensures changes { IfOk result (λ changes. changes ≡ changes_of outcome.now) }
         ensures served { changes_of outcome.now ≡ [] → IsOk result }
     {
-        changes_in(self.editions.allocator(), outcome)
+        let mut changes = Items::new(self.editions.allocator());
+        if let Some(change) = change_in(outcome)? {
+            changes.push(change)?;
+        }
+        Ok(changes)
     }
 
     /// Makes room for the changes. The map stays as it is and keeps its room, also where memory is refused. Where there is
@@ -219,6 +224,21 @@ impl<V: Value> MapBase<V> {
         ensures stripes { self.new.stripes ≡ self.old.stripes }
         ensures editions { self.new.editions ≡ raised written.now self.old.editions }
         ensures room { self.old.room ≤ self.new.room + length changes }
+    {
+        self.replay_from(&mut changes.into_vec(), written);
+    }
+
+    /// What `replay` does, of the changes in a list that is left empty and keeps its memory.
+    pub fn replay_from(&mut self, changes: &mut Vec<Change<V>>, written: &LocSet)
+        requires prepared { length changes.old.items ≤ self.old.room }
+        requires within { All (λ location. location < self.old.stripes) written.now }
+        requires below { All (λ location. slice_index self.old.editions location < 2 ^ 63) written.now }
+        ensures shown { self.new.shown ≡ applied (rules V) changes.old.items self.old.shown }
+        ensures stripes { self.new.stripes ≡ self.old.stripes }
+        ensures editions { self.new.editions ≡ raised written.now self.old.editions }
+        ensures room { self.old.room ≤ self.new.room + length changes.old.items }
+        ensures emptied { changes.new.items ≡ [] }
+        ensures capacity { vec_capacity changes.new ≡ vec_capacity changes.old }
     {
         apply_changes(&mut self.table, changes);
         self.editions.raise(written);
@@ -246,12 +266,15 @@ impl<V: Value> MapBase<V> {
     }
 }
 
-fn apply_changes<V: Drop>(table: &mut Table<V>, changes: Changes<V>)
-    requires { length changes ≤ table.old.room }
-    ensures contents { table.new.contents ≡ applied (rules V) changes table.old.contents }
-    ensures room { table.old.room ≤ table.new.room + length changes }
+fn apply_changes<V: Drop>(table: &mut Table<V>, changes: &mut Vec<Change<V>>)
+    requires { length changes.old.items ≤ table.old.room }
+    ensures contents { table.new.contents ≡ applied (rules V) changes.old.items table.old.contents }
+    ensures room { table.old.room ≤ table.new.room + length changes.old.items }
+    ensures emptied { changes.new.items ≡ [] }
+    ensures capacity { vec_capacity changes.new ≡ vec_capacity changes.old }
 {
-    for change in changes.into_vec() {
+    changes.reverse();
+    while let Some(change) = changes.pop() {
         match change {
             Change::Put(key, value) => table.insert_reserved(key, value),
             Change::Remove(key) => table.remove(key),

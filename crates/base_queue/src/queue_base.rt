@@ -1,6 +1,7 @@
 //! The collection of a queue.
 ghost use Rattle.std.specs.Prelude.{◌≡◌, ◌+◌, ◌-◌, ◌^◌, [], ◌<◌, ◌≤◌, Some, None, All, IsOk, replicate, IfOk, IfErr, OnOk, length};
 ghost use Rattle.std.specs.Prelude.{slice_index};
+ghost use Rattle.std.specs.Vec.{vec_capacity};
 ghost use Rattle.seq_model.specs.Calls.{IsRefusal, IsWithinLimits};
 ghost use Rattle.conflict.specs.Rules.{applied};
 ghost use Rattle.conflict.specs.Footprints.{cell_place};
@@ -243,6 +244,21 @@ impl QueueBase {
         ensures editions { self.new.editions ≡ raised written.now self.old.editions }
         ensures room { self.old.room ≤ self.new.room + length changes }
     {
+        self.replay_from(&mut changes.into_vec(), written);
+    }
+
+    /// What `replay` does, of the changes in a list that is left empty and keeps its memory.
+    pub fn replay_from<V: Drop>(&mut self, changes: &mut Vec<Change<V>>, written: &LocSet)
+        requires prepared { length changes.old.items ≤ self.old.room }
+        requires within { All (λ location. location < self.old.stripes + 2) written.now }
+        requires below { All (λ location. slice_index self.old.editions location < 2 ^ 63) written.now }
+        ensures shown { self.new.shown ≡ applied (rules V) changes.old.items self.old.shown }
+        ensures stripes { self.new.stripes ≡ self.old.stripes }
+        ensures editions { self.new.editions ≡ raised written.now self.old.editions }
+        ensures room { self.old.room ≤ self.new.room + length changes.old.items }
+        ensures emptied { changes.new.items ≡ [] }
+        ensures capacity { vec_capacity changes.new ≡ vec_capacity changes.old }
+    {
         apply_changes(&mut self.cells, changes);
         self.editions.raise(written);
     }
@@ -269,12 +285,15 @@ impl QueueBase {
     }
 }
 
-fn apply_changes<V: Drop>(cells: &mut Cells, changes: Changes<V>)
-    requires { length changes ≤ cells.old.room }
-    ensures shown { cells.new.shown ≡ applied (rules V) changes cells.old.shown }
-    ensures room { cells.old.room ≤ cells.new.room + length changes }
+fn apply_changes<V: Drop>(cells: &mut Cells, changes: &mut Vec<Change<V>>)
+    requires { length changes.old.items ≤ cells.old.room }
+    ensures shown { cells.new.shown ≡ applied (rules V) changes.old.items cells.old.shown }
+    ensures room { cells.old.room ≤ cells.new.room + length changes.old.items }
+    ensures emptied { changes.new.items ≡ [] }
+    ensures capacity { vec_capacity changes.new ≡ vec_capacity changes.old }
 {
-    for change in changes.into_vec() {
+    changes.reverse();
+    while let Some(change) = changes.pop() {
         cells.change(change);
     }
 }

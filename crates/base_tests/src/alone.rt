@@ -204,24 +204,24 @@ fn log_of_two_puts(alloc: Global) -> Result<Log<u64>, Memory>
     Ok(log)
 }
 
-fn fold(base: &mut Base<u64>, log: Log<u64>) -> Result<(), Refusal>
+fn fold(base: &mut Base<u64>, log: &mut Log<u64>) -> Result<(), Refusal>
     requires stripes { stripes_of base.old ≡ 2 }
-    requires locations { log.locations ≡ 1 ∷ 1 ∷ [] }
+    requires locations { log.old.locations ≡ 1 ∷ 1 ∷ [] }
     ensures { stripes_of base.new ≡ 2 }
 {
     base.prepare(log.changes())?;
     if !is_raisable(base, 2, 1) {
         return Err(Refusal::NoSuch);
     }
-    log.fold_into(base);
+    log.fold(base);
     Ok(())
 }
 
 fn print_two_puts(text: &mut String, base: &mut Base<u64>) -> Result<(), Refusal>
     requires { stripes_of base.old ≡ 2 }
 {
-    let log = log_of_two_puts(*text.allocator())?;
-    fold(base, log)?;
+    let mut log = log_of_two_puts(*text.allocator())?;
+    fold(base, &mut log)?;
     print_editions(text, base, 2)
 }
 

@@ -175,9 +175,9 @@ fn log_of(alloc: Global, changes: Changes<u64>) -> Result<Log<u64>, Memory>
 // Makes the call, and folds its changes in at once by a log of their own, which raises no edition.
 fn call(alloc: Global, base: &mut Base<u64>, op: &Op<u64>) -> Result<Reply<u64>, Refusal> {
     let outcome = base.outcome(op)?;
-    let log = log_of(alloc, base.changes(&outcome)?)?;
+    let mut log = log_of(alloc, base.changes(&outcome)?)?;
     base.prepare(log.changes())?;
-    log.fold_into(base);
+    log.fold(base);
     Ok(outcome.reply)
 }
 
@@ -218,7 +218,8 @@ fn print_log(text: &mut String, shadow: Shadow<u64>) -> Result<(), Refusal> {
 
 fn shadowed(text: &mut String, base: &Base<u64>, lines: &[Line]) -> Result<(), Refusal> {
     let copy = base.try_copy()?;
-    let mut shadow = Shadow::of_copy(*text.allocator(), copy);
+    let alloc = *text.allocator();
+    let mut shadow = Shadow::of_copy(alloc, copy, Log::new(alloc));
     shadow_all(text, &mut shadow, lines)?;
     print_log(text, shadow)
 }

@@ -84,6 +84,14 @@ impl LocSet {
         self.locations.as_slice()
     }
 
+    /// The list of its locations, with its memory.
+    pub fn into_locations(self) -> SmallVec<u32, 8>
+        ensures { result.items ≡ self }
+    {
+        let LocSet { locations } = self;
+        locations
+    }
+
     pub fn contains(&self, location: u32) -> bool
         ensures { IsTrue result ↔ Contains self.now location }
     {

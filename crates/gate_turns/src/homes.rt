@@ -115,9 +115,11 @@ pub fn go_home<V: Value>(
     logs_as_worlds::<V>();
     copies_stay::<V>();
     copies_by_stage::<V>();
-    let log = actor.log_of(alloc, k);
+    let mut log = actor.log_of(alloc, k);
     let mut base = first(bases);
-    log.fold_into(&mut base);
+    log.fold(&mut base);
     table.put_gate(seat, k, base);
-    actor.went_home()
+    let told = actor.went_home();
+    actor.keep_log(log);
+    told
 }

@@ -11,7 +11,7 @@ use Rattle.vacation_core.specs.declared.entry.Entry.{Entry}
 use Rattle.vacation_core.specs.Holding.{state_of}
 use Rattle.world_table.specs.Openings.{blocks_of, world_of}
 use Rattle.running_world.specs.Parts.{IsWorld}
-use Rattle.running_world.specs.declared.parts.Parts.{Parts}
+use Rattle.world_parts.specs.declared.parts.Parts.{Parts}
 use Rattle.ordered_sessions.specs.Turns.{HasOpened}
 pub use Rattle.session_runs.proofs.OpeningLemmas.{have_indexes, stripes, suits}
 pub use Rattle.session_runs.specs.Openings.{eight}

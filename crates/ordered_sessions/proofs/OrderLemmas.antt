@@ -16,12 +16,12 @@ use Rattle.vac_model.specs.Holdings.{Holdings}
 use Rattle.vacation_core.specs.declared.entry.Entry.{Entry}
 use Rattle.vacation_core.specs.Holding.{state_of}
 use Rattle.vacation_core.specs.Runs.{AreSessions}
-use Rattle.running_world.specs.declared.parts.Parts.{Parts}
-use Rattle.running_world.specs.declared.trace.Trace.{Trace}
 use Rattle.running_world.specs.Parts.{IsWorld}
+use Rattle.world_parts.specs.declared.parts.Parts.{Parts}
 use Rattle.running_world.specs.Reached.{IsReached}
 use Rattle.running_world.specs.Serial.{IsFrom}
 use Rattle.running_world.specs.Traces.{IsSerialTrace, IsTraceOf}
+use Rattle.world_parts.specs.declared.trace.Trace.{Trace}
 use Rattle.session_worlds.specs.Alone.{AreRecordsOf, IsInOrder}
 use Rattle.session_worlds.specs.Histories.{world_in}
 use Rattle.session_worlds.proofs.AloneLemmas.{alone_is_in_order}

@@ -20,7 +20,7 @@ use Rattle.vac_model.specs.Actions.{IsAllowed}
 use Rattle.vac_model.specs.Holdings.{Holdings}
 use Rattle.vacation_core.specs.declared.entry.Entry.{Entry}
 use Rattle.vacation_core.specs.Sessions.{Plan, session}
-use Rattle.running_world.specs.declared.parts.Parts.{Parts}
+use Rattle.world_parts.specs.declared.parts.Parts.{Parts}
 use Rattle.tx_phases.specs.Phases.{Phase, Rests, Stands}
 use Rattle.session_runs.specs.Clients.{IsAnswered, IsClient, IsNext, Leads}
 use Rattle.session_costs.proofs.CostLemmas.{asks_fit}

@@ -10,7 +10,7 @@ use Rattle.vac_model.specs.declared.action.Action.{Action}
 use Rattle.vac_model.specs.Actions.{IsAllowed}
 use Rattle.vac_model.specs.Holdings.{Holdings}
 use Rattle.vacation_core.specs.declared.entry.Entry.{Entry}
-use Rattle.running_world.specs.declared.parts.Parts.{Parts}
+use Rattle.world_parts.specs.declared.parts.Parts.{Parts}
 use Rattle.tx_phases.specs.Phases.{Rests, Stands}
 use Rattle.session_runs.specs.Clients.{AreAll, IsClient, IsNext}
 use Rattle.ordered_sessions.specs.declared.session.TheConstants.{CLIENT}

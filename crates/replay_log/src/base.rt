@@ -1,5 +1,6 @@
 //! A collection of any of the four kinds.
 ghost use Rattle.std.specs.Prelude.{◌≡◌, ◌+◌, ◌^◌, ◌<◌, ◌≤◌, [], All, IsOk, Some, None, replicate, IfOk, IfErr, OnOk, length, slice_index};
+ghost use Rattle.std.specs.Vec.{vec_capacity};
 ghost use Rattle.seq_model.specs.Calls.{IsRefusal, IsWithinLimits};
 ghost use Rattle.conflict.specs.Editions.{raised};
 ghost use Rattle.conflict.specs.Refusals.{IsTooLong, IsStripeCountOf};
@@ -156,6 +157,26 @@ impl<V: Value> Base<V> {
             Base::Bag(base) => base.replay(changes, written),
             Base::Pq(base) => base.replay(changes, written),
             Base::Queue(base) => base.replay(changes, written),
+        }
+    }
+
+    /// What `replay` does, of the changes in a list that is left empty and keeps its memory.
+    pub fn replay_from(&mut self, changes: &mut Vec<Change<V>>, written: &LocSet)
+        requires prepared { IsPreparedFor changes.old.items self.old }
+        requires within { All (λ location. location < locations_of (stripes_of self.old) (shown_of self.old)) written.now }
+        requires below { All (λ location. slice_index (editions_of self.old) location < 2 ^ 63) written.now }
+        ensures shown { shown_of self.new ≡ after changes.old.items (shown_of self.old) }
+        ensures stripes { stripes_of self.new ≡ stripes_of self.old }
+        ensures editions { editions_of self.new ≡ raised written.now (editions_of self.old) }
+        ensures room { LeavesPrepared changes.old.items self.old self.new }
+        ensures emptied { changes.new.items ≡ [] }
+        ensures capacity { vec_capacity changes.new ≡ vec_capacity changes.old }
+    {
+        match self {
+            Base::Map(base) => base.replay_from(changes, written),
+            Base::Bag(base) => base.replay_from(changes, written),
+            Base::Pq(base) => base.replay_from(changes, written),
+            Base::Queue(base) => base.replay_from(changes, written),
         }
     }
 

@@ -1,14 +1,15 @@
 //! The log of a transaction's changes to a collection.
-ghost use Rattle.std.specs.Prelude.{◌≡◌, ◌+◌, ◌*◌, ◌^◌, ◌<◌, ◌≤◌, [], ◌∷◌, ◌++◌, All, IsOk, OnOk, OnErr, length, slice_index};
+ghost use Rattle.std.specs.Prelude.{◌≡◌, ◌+◌, ◌*◌, ◌^◌, ◌<◌, ◌≤◌, [], ◌∷◌, ◌++◌, All, IsOk, OnOk, OnErr, length, option_to_list, slice_index};
 ghost use Rattle.replay_log.specs.Base.{IsPreparedFor, LeavesPrepared, after, editions_of, locations_of, shown_of, stripes_of};
 ghost use Rattle.replay_log.specs.Log.{AreRaised};
 
 use crate::base::Base;
 use conflict::{Change, Changes, LocSet};
-use seq_model::{Items, Memory, Value};
+use seq_model::{Memory, Value};
 use smallvec::SmallVec;
 use std::alloc::Global;
 use std::marker::Model;
+use std::mem;
 
 /// Changes in order, with the locations that they write. Up to eight locations take no memory, the same one counted as often as
 /// it was pushed.
@@ -34,6 +35,18 @@ impl<V> Model for Log<V> {
 }
 
 impl<V: Drop> Log<V> {
+    /// The empty log. It takes no memory.
+    pub fn new(alloc: Global) -> Log<V>
+        ensures changes { result.changes ≡ [] }
+        ensures locations { result.locations ≡ [] }
+        ensures places { result.places ≡ 8 }
+    {
+        Log {
+            changes: Vec::new(alloc),
+            locations: SmallVec::new(alloc),
+        }
+    }
+
     /// Drops all changes, with their locations. The memory stays.
     pub fn clear(&mut self)
         ensures changes { self.new.changes ≡ [] }
@@ -47,18 +60,6 @@ impl<V: Drop> Log<V> {
 }
 
 impl<V: Value> Log<V> {
-    /// The empty log. It takes no memory.
-    pub fn new(alloc: Global) -> Log<V>
-        ensures changes { result.changes ≡ [] }
-        ensures locations { result.locations ≡ [] }
-        ensures places { result.places ≡ 8 }
-    {
-        Log {
-            changes: Vec::new(alloc),
-            locations: SmallVec::new(alloc),
-        }
-    }
-
     /// Appends a change, with the locations that it writes. Where there is room for both it takes no memory and is not refused. A
     /// refused push leaves the log as it was, and its room.
     pub fn push(&mut self, change: Change<V>, locations: &LocSet) -> Result<(), Memory>
@@ -107,6 +108,24 @@ impl<V: Value> Log<V> {
             .unwrap();
     }
 
+    /// Appends a change, if there is one, with the locations that are written. There has to be room for them, so it takes no memory
+    /// and is never refused.
+    pub fn append_one(&mut self, change: Option<Change<V>>, locations: &LocSet)
+        requires room { length (option_to_list change) ≤ self.old.room }
+        requires places { length self.old.locations + length locations.now ≤ self.old.places }
+        ensures changes { self.new.changes ≡ self.old.changes ++ option_to_list change }
+        ensures locations { self.new.locations ≡ self.old.locations ++ locations.now }
+        ensures room { self.old.room ≤ self.new.room + length (option_to_list change) }
+        ensures places { self.old.places ≤ self.new.places }
+    {
+        if let Some(only) = change {
+            self.changes.push_reserved(only);
+        }
+        self.locations
+            .extend_from_slice(locations.as_slice())
+            .unwrap();
+    }
+
     /// The changes, in order: what a base has to be prepared for.
     pub fn changes(&self) -> &[Change<V>]
         ensures { result.now ≡ self.now.changes }
@@ -115,17 +134,26 @@ impl<V: Value> Log<V> {
     }
 
     /// Applies the changes to the base in order, and raises by one the edition of each location that was pushed with them, however
-    /// often. There has to be room in the base for the changes, so it takes no memory and is never refused.
-    pub fn fold_into(self, base: &mut Base<V>)
-        requires prepared { IsPreparedFor self.changes base.old }
-        requires within { All (λ location. location < locations_of (stripes_of base.old) (shown_of base.old)) self.locations }
-        requires below { All (λ location. slice_index (editions_of base.old) location < 2 ^ 63) self.locations }
-        ensures shown { shown_of base.new ≡ after self.changes (shown_of base.old) }
+    /// often. There has to be room in the base for the changes, so it takes no memory and is never refused. The log is left empty, with
+    /// its memory.
+    pub fn fold(&mut self, base: &mut Base<V>)
+        requires prepared { IsPreparedFor self.old.changes base.old }
+        requires within { All (λ location. location < locations_of (stripes_of base.old) (shown_of base.old)) self.old.locations }
+        requires below { All (λ location. slice_index (editions_of base.old) location < 2 ^ 63) self.old.locations }
+        ensures shown { shown_of base.new ≡ after self.old.changes (shown_of base.old) }
         ensures stripes { stripes_of base.new ≡ stripes_of base.old }
-        ensures editions { AreRaised self.locations (editions_of base.old) (editions_of base.new) }
-        ensures room { LeavesPrepared self.changes base.old base.new }
+        ensures editions { AreRaised self.old.locations (editions_of base.old) (editions_of base.new) }
+        ensures room { LeavesPrepared self.old.changes base.old base.new }
+        ensures changes { self.new.changes ≡ [] }
+        ensures locations { self.new.locations ≡ [] }
+        ensures kept { self.old.room + length self.old.changes ≤ self.new.room }
     {
-        let written = LocSet::from_locations(self.locations);
-        base.replay(Items::from_vec(self.changes), &written);
+        let empty = SmallVec::new(*self.changes.allocator());
+        let locations = mem::replace(&mut self.locations, empty);
+        let written = LocSet::from_locations(locations);
+        base.replay_from(&mut self.changes, &written);
+        let mut emptied = written.into_locations();
+        emptied.clear();
+        self.locations = emptied;
     }
 }

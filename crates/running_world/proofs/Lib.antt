@@ -1,15 +1,2 @@
-pub mod FeedLemmas
-pub mod HomeLemmas
-pub mod OpeningLemmas
-pub mod PartsLemmas
-pub mod PrepareLemmas
-mod RoomLemmas
-mod HomingLemmas
-mod GateLemmas
+pub mod FedLemmas
 pub mod SerialLemmas
-pub mod TraceLemmas
-pub mod TurnLemmas
-pub mod LoadLemmas
-pub mod WorldLemmas
-mod OwnTurnLemmas
-mod CopyTurnLemmas

@@ -16,16 +16,16 @@ use Rattle.tx_actor.specs.Running.{seat_of, stage_of}
 use Rattle.tx_actor.specs.declared.actor.TxActor.{TxActor}
 use Rattle.world_table.specs.States.{held_in}
 use Rattle.world_table.proofs.StateLemmas as tables
-use Rattle.running_world.specs.declared.parts.Parts.{Parts}
-use Rattle.running_world.specs.declared.trace.Trace.{Trace}
-use Rattle.running_world.specs.Feeds.{Feeds, fed}
-use Rattle.running_world.specs.Parts.{IsWorld}
-use Rattle.running_world.specs.Reached.{IsReached}
+use Rattle.world_parts.specs.declared.parts.Parts.{Parts}
+use Rattle.world_parts.specs.declared.trace.Trace.{Trace}
+use Rattle.world_parts.specs.Feeds.{Feeds, fed}
+use Rattle.world_parts.specs.Parts.{IsWorld}
+use Rattle.world_parts.specs.Reached.{IsReached}
 use Rattle.running_world.specs.Serial.{IsFrom, IsSerialFrom, NoneIsHalf}
-use Rattle.running_world.specs.Traces.{IsSerialTrace, seat_at, seat_found}
-use Rattle.running_world.proofs.FeedLemmas.{reached_fed}
+use Rattle.world_parts.specs.Traces.{IsSerialTrace, seat_at, seat_found}
+use Rattle.running_world.proofs.FedLemmas.{reached_fed}
 use Rattle.actor_turns.proofs.SeatLemmas.{saw_as}
-use Rattle.running_world.proofs.TraceLemmas.{seat_like, serial_at}
+use Rattle.world_parts.proofs.TraceLemmas.{seat_like, serial_at}
 use Rattle.actor_turns.proofs.StepLemmas.{reached_linked}
 
 module _ {V : Type 0} where

@@ -1,10 +1,6 @@
-pub mod Feeds
-pub mod Homes
-pub mod Loading
-pub mod Openings
-pub mod Parts
-pub mod Reached
 pub mod Serial
-pub mod Traces
-pub mod Turns
 pub mod Worlds
+pub use Rattle.world_parts.specs.Feeds
+pub use Rattle.world_parts.specs.Parts
+pub use Rattle.world_parts.specs.Reached
+pub use Rattle.world_parts.specs.Traces

@@ -7,9 +7,9 @@ use Rattle.replay_log.specs.WorldSerial.{AllSaw, SawAt}
 use Rattle.tx_actor.specs.Running.{seat_of, stage_of}
 use Rattle.tx_actor.specs.declared.actor.TxActor.{TxActor}
 use Rattle.world_table.specs.States.{held_in}
-use Rattle.running_world.specs.declared.parts.Parts.{Parts}
-use Rattle.running_world.specs.Parts.{IsWorld, ended_of}
-use Rattle.running_world.specs.Reached.{IsReached}
+use Rattle.world_parts.specs.declared.parts.Parts.{Parts}
+use Rattle.world_parts.specs.Parts.{IsWorld, ended_of}
+use Rattle.world_parts.specs.Reached.{IsReached}
 
 module _ {V : Type 0} where
   -- The parts are those of a world that events led to from one that opened on these contents.

@@ -5,17 +5,16 @@ ghost use Rattle.seq_model.specs.Refusals.{IsNoSuchOrTooLong};
 ghost use Rattle.replay_log.specs.Seats.{World as PureWorld};
 ghost use Rattle.replay_log.specs.WorldSerial.{IsSerial};
 ghost use Rattle.world_table.specs.Openings.{IsWithin, world_of};
-ghost use Rattle.running_world.specs.Feeds.{Feeds, fed_all};
-ghost use Rattle.running_world.specs.Parts.{IsWorld};
-ghost use Rattle.running_world.specs.Reached.{IsReached};
+ghost use Rattle.world_parts.specs.Feeds.{Feeds, fed_all};
+ghost use Rattle.world_parts.specs.Parts.{IsWorld};
+ghost use Rattle.world_parts.specs.Reached.{IsReached};
 ghost use Rattle.running_world.specs.Serial.{IsFrom, IsSerialFrom};
-ghost use Rattle.running_world.specs.Traces.{IsSerialTrace, IsTraceOf};
+ghost use Rattle.world_parts.specs.Traces.{IsSerialTrace, IsTraceOf};
 
-use crate::parts::Parts;
-use crate::trace::Trace;
 use seq_model::{Event, Memory, Notice, Refusal, Shape, State, Value};
 use std::alloc::Global;
 use std::marker::Model;
+use world_parts::{Parts, Trace};
 
 /// A world of transactions over words and collections.
 ///
@@ -33,7 +32,7 @@ impl<V> Model for World<V> {
     ghost use Rattle.std.specs.Ordering.{nat_cmp};
     ghost use Rattle.base_pq.specs.Conflicts as pq;
     ghost use Rattle.base_queue.specs.Conflicts as queue;
-    ghost use Rattle.running_world.specs.Parts.{HasWorld};
+    ghost use Rattle.world_parts.specs.Parts.{HasWorld};
     ghost use Rattle.running_world.specs.Worlds.{WorldShown};
 
     ghost Value = { WorldShown V };

@@ -40,9 +40,9 @@ use Rattle.vacation_core.specs.Holding.{state_of}
 use Rattle.vacation_core.specs.Sessions.{Plan, session}
 use Rattle.session_costs.proofs.CostLemmas.{asks_fit}
 use Rattle.running_world.specs.Feeds.{Feeds}
-use Rattle.running_world.specs.Parts.{IsWorld}
 use Rattle.running_world.specs.Reached.{IsReached}
-use Rattle.running_world.specs.declared.parts.Parts.{Parts}
+use Rattle.running_world.specs.Parts.{IsWorld}
+use Rattle.world_parts.specs.declared.parts.Parts.{Parts}
 use Rattle.session_worlds.specs.Asking.{MayHappen, Turn, events_of}
 use Rattle.session_worlds.specs.Histories.{History, IsAt, IsLawful, opening_of, world_in}
 use Rattle.session_worlds.specs.Serial.{begun_all}

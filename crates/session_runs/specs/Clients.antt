@@ -19,7 +19,7 @@ use Rattle.vac_model.specs.declared.action.ActionReply.{ActionReply}
 use Rattle.vacation_core.specs.declared.entry.Entry.{Entry}
 use Rattle.vacation_core.specs.Sessions.{Plan, session}
 use Rattle.running_world.specs.Parts.{IsWorld}
-use Rattle.running_world.specs.declared.parts.Parts.{Parts}
+use Rattle.world_parts.specs.declared.parts.Parts.{Parts}
 use Rattle.session_worlds.specs.Alone.{AreOf}
 use Rattle.session_worlds.specs.Asking.{events_of}
 use Rattle.session_worlds.specs.Histories.{History, IsAt, IsLawful, world_in}

@@ -5,11 +5,11 @@ use Rattle.seq_model.specs.declared.event.Event.{Event}
 use Rattle.seq_model.specs.declared.event.Notice.{Notice}
 use Rattle.seq_model.specs.Contents.{Contents}
 use Rattle.replay_log.specs.Worlds.{World}
-use Rattle.running_world.specs.declared.parts.Parts.{Parts}
 use Rattle.running_world.specs.Feeds.{Feeds, fed, fed_all}
 use Rattle.running_world.specs.Parts.{IsWorld}
+use Rattle.world_parts.specs.declared.parts.Parts.{Parts}
 use Rattle.running_world.specs.Reached.{IsReached}
-use Rattle.running_world.proofs.FeedLemmas.{reached_fed}
+use Rattle.running_world.proofs.FedLemmas.{reached_fed}
 use Rattle.session_text.specs.Worlds.{Leads, told_by}
 
 pub reached_all : (o : Contents ℕ) (w : World ℕ) (es : List (Event ℕ)) → IsReached o w → IsReached o (fed_all w es)

@@ -10,7 +10,7 @@ use Rattle.seq_model.specs.declared.event.Notice.{Notice}
 use Rattle.seq_model.specs.declared.event.Notice.TheVariants.{Quiet, Answered, Refused}
 use Rattle.step_script.specs.declared.script.Line.{Line}
 use Rattle.step_script.specs.declared.script.TheConstants.{STEP_LIMIT}
-use Rattle.running_world.specs.declared.parts.Parts.{Parts}
+use Rattle.world_parts.specs.declared.parts.Parts.{Parts}
 use Rattle.running_world.specs.Feeds.{Feeds}
 use Rattle.session_text.specs.Plays.{ArePlays, AreSteps, AreTurns, HasPlayed, IsDone, IsOne, IsPlay, IsStepOf, Keeps, heard, telling}
 use Rattle.session_text.specs.Plays.{tells_nothing, waiting_after, waiting_then, waits}

@@ -10,9 +10,9 @@ use Rattle.seq_model.specs.Calls.{IsWithinLimits}
 use Rattle.seq_model.specs.Contents.{Contents}
 use Rattle.seq_model.specs.Refusals.{IsNoSuchOrTooLong, IsTooLong}
 use Rattle.replay_log.specs.Worlds.{World}
-use Rattle.running_world.specs.declared.parts.Parts.{Parts}
 use Rattle.running_world.specs.Feeds.{fed_all}
 use Rattle.running_world.specs.Parts.{IsWorld}
+use Rattle.world_parts.specs.declared.parts.Parts.{Parts}
 use Rattle.running_world.specs.Reached.{IsReached}
 use Rattle.running_world.specs.Serial.{IsFrom}
 use Rattle.running_world.specs.Traces.{IsSerialTrace, IsTraceOf}

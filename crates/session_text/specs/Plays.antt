@@ -10,7 +10,7 @@ use Rattle.step_script.specs.declared.script.Line.TheVariants.{Ask, Do, Steps, S
 use Rattle.step_script.specs.declared.script.Script.{Script}
 use Rattle.step_script.specs.declared.script.TheConstants.{STEP_LIMIT}
 use Rattle.session_text.specs.declared.run.ScriptRun.{ScriptRun}
-use Rattle.running_world.specs.declared.parts.Parts.{Parts}
+use Rattle.world_parts.specs.declared.parts.Parts.{Parts}
 use Rattle.running_world.specs.Feeds.{fed_all}
 use Rattle.running_world.specs.Traces.{IsTraceOf}
 use Rattle.session_text.specs.Scripts.{world_in}

@@ -13,7 +13,7 @@ use Rattle.seq_model.specs.declared.held.Held.TheVariants.{Map, Bag, Pq, Queue}
 use Rattle.seq_model.specs.declared.record.Record.{Record}
 use Rattle.seq_model.specs.Contents.{Contents}
 use Rattle.seq_model.specs.Texts.{refusal_text}
-use Rattle.running_world.specs.declared.trace.Trace.{Trace}
+use Rattle.world_parts.specs.declared.trace.Trace.{Trace}
 use Rattle.session_text.specs.declared.run.ScriptRun.{ScriptRun}
 
 abbrev pub number_text : ℕ → List ℕ

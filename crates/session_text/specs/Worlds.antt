@@ -4,9 +4,9 @@ use Rattle.seq_model.specs.declared.event.Event.{Event}
 use Rattle.seq_model.specs.declared.event.Notice.{Notice}
 use Rattle.seq_model.specs.Contents.{Contents}
 use Rattle.replay_log.specs.Worlds.{World}
-use Rattle.running_world.specs.declared.parts.Parts.{Parts}
 use Rattle.running_world.specs.Feeds.{fed, fed_all}
 use Rattle.running_world.specs.Parts.{IsWorld}
+use Rattle.world_parts.specs.declared.parts.Parts.{Parts}
 use Rattle.running_world.specs.Reached.{IsReached}
 
 -- what each of the events tells

@@ -1,6 +1,6 @@
 -- What a transaction keeps of the single keys that it touched of a map or a multiset, and of the number of all keys of a map.
 use Rattle.std.specs.Prelude.{◌≡◌, ℕ, suc, ◌+◌, ◌-◌, ◌^◌, ◌<◌, ◌≤◌, ⊤, length, Bool, true, false, List, Option, Some, None, is_some, nat_lt}
-use Rattle.std.specs.Prelude.{replicate, unwrap_or, if◌then◌else◌}
+use Rattle.std.specs.Prelude.{option_to_list, replicate, unwrap_or, if◌then◌else◌}
 use Rattle.std.specs.Ordering.{nat_cmp}
 use Rattle.std.specs.List.{sum}
 use Rattle.std.specs.FinMap.{FinMap, empty, get, insert, len, remove}
@@ -239,5 +239,5 @@ module _ {V : Type 0} where
   abbrev pub IsKept : MemoKind → (entries copies grown shrunk : ℕ) → LogView V → Option (declared.Ready V) → Type 0
   IsKept k entries copies grown shrunk log None = ⊤
   IsKept k entries copies grown shrunk log (Some r) =
-      (0 < kind_room k entries copies) × (length r.changes ≤ log.room) × (length log.locations + length r.written ≤ log.places)
+      (0 < kind_room k entries copies) × (length (option_to_list r.change) ≤ log.room) × (length log.locations + length r.written ≤ log.places)
       × (grown < 2 ^ 63) × (shrunk < 2 ^ 63)

@@ -1,5 +1,5 @@
 //! What a transaction keeps of the single keys that it touched, and of the number of all keys.
-ghost use Rattle.std.specs.Prelude.{◌≡◌, ◌<◌, ◌≤◌, ◌++◌, ◌^◌, ◌+◌, ◌-◌, [], Some, None, unwrap_or, IfOk, IfErr, OnOk, OnErr};
+ghost use Rattle.std.specs.Prelude.{◌≡◌, ◌<◌, ◌≤◌, ◌++◌, ◌^◌, ◌+◌, ◌-◌, [], Some, None, length, option_to_list, unwrap_or, IfOk, IfErr, OnOk, OnErr};
 ghost use Rattle.std.specs.FinMap as map;
 ghost use Rattle.std.specs.List.{sum};
 ghost use Rattle.seq_model.specs.Calls.{IsRefusal};
@@ -11,7 +11,7 @@ ghost use Rattle.shadow.specs.Memo.{IsReadyFor, answer_with, copies_after, copie
 ghost use Rattle.shadow.specs.Memo.{entries_without, grown_after, grown_kept, holds, kind_room, map_answer, shape, shrunk_after};
 ghost use Rattle.shadow.specs.Memo.{shrunk_kept, total_without, with_count, with_counts, with_entry, with_key, with_total, IsTold};
 
-use conflict::{Change, Changes, LocSet, Note, Outcome, Table, is_stripe_count};
+use conflict::{Change, LocSet, Note, Outcome, Table, is_stripe_count};
 use replay_log::{Log, Touched};
 use seq_model::{COPY_LIMIT, Items, Memory, Op, Refusal, Reply, Value};
 use std::alloc::Global;
@@ -47,12 +47,12 @@ pub struct Memo<V> {
 // What the next acceptance appends, and the locations that it writes.
 #[derive(Drop)]
 struct Ready<V> {
-    changes: Changes<V>,
+    change: Option<Change<V>>,
     written: LocSet,
 }
 
 impl<V> Model for Memo<V> {
-    ghost use Rattle.std.specs.Prelude.{◌≡◌, ◌≤◌, ◌^◌, [], option_map};
+    ghost use Rattle.std.specs.Prelude.{◌≡◌, ◌≤◌, ◌^◌, [], option_map, option_to_list};
     ghost use Rattle.std.specs.Coded.{codes, coded_ℕ, coded_option};
     ghost use Rattle.std.specs.FinMap as map;
     ghost use Rattle.std.specs.Ordering.{nat_cmp};
@@ -81,7 +81,7 @@ impl<V> Model for Memo<V> {
       shrunk = a.shrunk;
       changes = a.log.changes;
       locations = a.log.locations;
-      ready = option_map (λ r. record { changes = r.changes; locations = r.written }) a.ready;
+      ready = option_map (λ r. record { changes = option_to_list r.change; locations = r.written }) a.ready;
     } };
 
     ghost invariant = { λ a.
@@ -108,6 +108,27 @@ impl<V: Drop> Memo<V> {
         self.grown = 0;
         self.shrunk = 0;
         self.log.clear();
+    }
+
+    /// Has the memory of this log from now on, whatever it keeps, in place of its own. It keeps no accepted call any more, and no key.
+    pub fn use_log(&mut self, log: Log<V>)
+        ensures changes { self.new.changes ≡ [] }
+        ensures locations { self.new.locations ≡ [] }
+    {
+        self.ready = None;
+        self.log = log;
+        self.clear();
+    }
+
+    /// Hands the log of the accepted changes out, and keeps no key any more. The other memory stays.
+    pub fn take_log(&mut self) -> Log<V>
+        ensures changes { result.changes ≡ self.old.changes }
+        ensures locations { result.locations ≡ self.old.locations }
+    {
+        self.ready = None;
+        let log = mem::replace(&mut self.log, Log::new(self.alloc));
+        self.clear();
+        log
     }
 }
 
@@ -288,17 +309,17 @@ impl<V: Value> Memo<V> {
         if self.grown >= KEY_LIMIT || self.shrunk >= KEY_LIMIT {
             return Err(Memory);
         }
-        let changes = self.changes_of(outcome)?;
+        let change = self.change_of(outcome)?;
         let written = self.writes(outcome)?;
         make_room(self.kind, &mut self.entries, &mut self.copies)?;
         self.log
-            .reserve(changes.len().max(written.as_slice().len()))?;
-        self.ready = Some(Ready { changes, written });
+            .reserve(number_of(&change).max(written.as_slice().len()))?;
+        self.ready = Some(Ready { change, written });
         Ok(())
     }
 
-    /// Accepts the outcome, which has been made ready: its changes are made on what is kept of its key and appended to the log. It
-    /// takes no memory and is never refused.
+    /// Accepts the outcome, which has been made ready: its change is made on what is kept of its key and appended to the log. It takes
+    /// no memory and is never refused.
     pub fn accept(&mut self, outcome: Outcome<V>)
         requires ready { IsReadyFor outcome self.old }
         ensures entries { self.new.entries ≡ entries_kept (shown_of self.old.blank) outcome self.old.entries }
@@ -312,7 +333,7 @@ impl<V: Value> Memo<V> {
             ≡ self.old.locations ++ writes_of (stripes_of self.old.blank) outcome (shown_of self.old.blank) }
     {
         if let Some(ready) = self.ready.take() {
-            self.log.append(ready.changes, &ready.written);
+            self.log.append_one(ready.change, &ready.written);
             match self.kind {
                 MemoKind::Map => {
                     count_entry(&mut self.grown, &mut self.shrunk, &outcome);
@@ -343,12 +364,12 @@ impl<V: Value> Memo<V> {
         }
     }
 
-    fn changes_of(&self, outcome: &Outcome<V>) -> Result<Changes<V>, Memory>
-        ensures { IfOk result (λ changes. changes ≡ changes_of outcome.now (shown_of self.now.blank)) }
+    fn change_of(&self, outcome: &Outcome<V>) -> Result<Option<Change<V>>, Memory>
+        ensures { IfOk result (λ change. option_to_list change ≡ changes_of outcome.now (shown_of self.now.blank)) }
     {
         match self.kind {
-            MemoKind::Map => base_map::changes_in(self.alloc, outcome),
-            MemoKind::Bag => base_bag::changes_in(self.alloc, outcome),
+            MemoKind::Map => base_map::change_in(outcome),
+            MemoKind::Bag => base_bag::change_in(outcome),
         }
     }
 
@@ -359,17 +380,6 @@ impl<V: Value> Memo<V> {
         self.log.changes()
     }
 
-    /// Hands the log of the accepted changes out, and keeps no key any more. The other memory stays.
-    pub fn take_log(&mut self) -> Log<V>
-        ensures changes { result.changes ≡ self.old.changes }
-        ensures locations { result.locations ≡ self.old.locations }
-    {
-        self.ready = None;
-        let log = mem::replace(&mut self.log, Log::new(self.alloc));
-        self.clear();
-        log
-    }
-
     /// The log of the accepted changes.
     pub fn log(self) -> Log<V>
         ensures changes { result.changes ≡ self.changes }
@@ -377,6 +387,15 @@ impl<V: Value> Memo<V> {
     {
         let Memo { log, .. } = self;
         log
+    }
+}
+
+fn number_of<V>(change: &Option<Change<V>>) -> usize
+    ensures { result ≡ length (option_to_list change.now) }
+{
+    match change {
+        Some(_) => 1,
+        None => 0,
     }
 }
 

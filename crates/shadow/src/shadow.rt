@@ -56,16 +56,29 @@ impl<V> Model for Shadow<V> {
     ghost invariant = { λ a. (a.none ≡ []) × IsKept a.base a.log a.ready };
 }
 
+impl<V: Drop> Shadow<V> {
+    /// The log of the accepted changes.
+    pub fn log(self) -> Log<V>
+        ensures changes { result.changes ≡ self.changes }
+        ensures locations { result.locations ≡ self.locations }
+    {
+        let Shadow { log, .. } = self;
+        log
+    }
+}
+
 impl<V: Value> Shadow<V> {
-    /// The shadow of a copy, with no call yet.
-    pub fn of_copy(alloc: Global, base: Base<V>) -> Shadow<V>
+    /// The shadow of a copy, with no call yet, in the memory of a log, whatever that keeps.
+    pub fn of_copy(alloc: Global, base: Base<V>, log: Log<V>) -> Shadow<V>
         ensures base { result.base ≡ base }
         ensures changes { result.changes ≡ [] }
         ensures locations { result.locations ≡ [] }
     {
+        let mut log = log;
+        log.clear();
         Shadow {
             base,
-            log: Log::new(alloc),
+            log,
             ready: None,
             none: LocSet::empty(alloc),
         }
@@ -133,14 +146,5 @@ impl<V: Value> Shadow<V> {
         ensures { result.now ≡ self.now.changes }
     {
         self.log.changes()
-    }
-
-    /// The log of the accepted changes.
-    pub fn log(self) -> Log<V>
-        ensures changes { result.changes ≡ self.changes }
-        ensures locations { result.locations ≡ self.locations }
-    {
-        let Shadow { log, .. } = self;
-        log
     }
 }

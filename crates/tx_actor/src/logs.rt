@@ -46,4 +46,11 @@ impl<V: Value> TxActor<V> {
             None => Log::new(alloc),
         }
     }
+
+    /// Takes back a log that has gone home, whose memory serves the next transaction. The actor is what it was. It takes no memory.
+    pub fn keep_log(&mut self, log: Log<V>)
+        ensures { self.new ≡ self.old }
+    {
+        self.spares.keep_log(log);
+    }
 }

@@ -27,9 +27,9 @@ use Rattle.tx_engine.specs.declared.job.Ask.TheVariants as ask
 use Rattle.tx_engine.specs.Programs.{Asks, Answers, GivesUp, after, asked, replies_of}
 use Rattle.vacation_core.specs.declared.entry.Entry.{Entry}
 use Rattle.vacation_core.specs.Sessions.{Plan, session}
-use Rattle.running_world.specs.declared.opening.TheConstants.{ACTORS}
 use Rattle.running_world.specs.Feeds.{Feeds}
 use Rattle.running_world.specs.Parts.{IsWorld}
+use Rattle.world_parts.specs.declared.opening.TheConstants.{ACTORS}
 use Rattle.session_worlds.specs.Histories.{IsAt, action_in, done_in, world_in}
 use Rattle.session_worlds.proofs.HistoryLemmas.{abort_is_quiet, aborts_to, commit_is_quiet, commits_to, goes_on, idle, may_ask, opens}
 use Rattle.tx_phases.specs.Phases.{CallMoves, Phase, Rests, Stands, Calls, Commits, Ends, phase}

@@ -6,8 +6,8 @@ use Rattle.vac_model.specs.Balanced.{IsBalanced}
 use Rattle.vac_model.specs.Holdings.{Holdings}
 use Rattle.vacation_core.specs.Holding.{state_of}
 use Rattle.world_table.specs.Openings.{blocks_of, world_of}
-use Rattle.running_world.specs.declared.opening.TheConstants.{ACTORS}
 use Rattle.running_world.specs.Parts.{IsWorld}
+use Rattle.world_parts.specs.declared.opening.TheConstants.{ACTORS}
 use Rattle.tx_phases.specs.Phases.{Rests}
 use Rattle.vac_world.specs.Openings.{AreNew, eight, unplayed_on}
 use Rattle.vac_world.specs.Running.{IsPlay}

@@ -19,7 +19,7 @@ use Rattle.seq_model.specs.declared.record.Record.{Record}
 use Rattle.running_world.specs.Parts.{IsWorld}
 use Rattle.running_world.specs.Reached.{IsReached}
 use Rattle.running_world.specs.Traces.{IsTraceOf}
-use Rattle.running_world.specs.declared.trace.Trace.{Trace}
+use Rattle.world_parts.specs.declared.trace.Trace.{Trace}
 use Rattle.session_worlds.specs.Histories.{action_in, done_in, world_in}
 use Rattle.tx_phases.specs.Phases.{Phase, Rests, Begins, Stands, Calls, Commits, Committed, Ends}
 use Rattle.vac_world.specs.Clients.{with_open}

@@ -18,11 +18,11 @@ use Rattle.replay_log.proofs.RequestLemmas.{happens_by}
 use Rattle.vac_model.specs.declared.action.Action.{Action}
 use Rattle.vacation_core.specs.declared.entry.Entry.{Entry}
 use Rattle.vacation_core.specs.Holding.{state_of}
-use Rattle.running_world.specs.declared.opening.TheConstants.{ACTORS}
 use Rattle.running_world.specs.Feeds.{Feeds}
-use Rattle.running_world.specs.Parts.{IsWorld}
 use Rattle.running_world.specs.Worlds.{WorldShown}
-use Rattle.running_world.specs.declared.parts.Parts.{Parts}
+use Rattle.running_world.specs.Parts.{IsWorld}
+use Rattle.world_parts.specs.declared.opening.TheConstants.{ACTORS}
+use Rattle.world_parts.specs.declared.parts.Parts.{Parts}
 use Rattle.session_worlds.specs.Asking.{Actions, Turn, at_idle, begun}
 use Rattle.session_worlds.specs.Histories.{History, IsLawful, action_in, done_in, later, opening_of, world_in}
 use Rattle.session_worlds.specs.Serial.{begun_all}
@@ -38,7 +38,7 @@ use Rattle.vac_world.specs.declared.world.VacWorld.{VacWorld}
 use Rattle.vac_world.proofs.HearLemmas.{starve_hears, step_hears}
 use Rattle.vac_world.proofs.PlayLemmas.{May, at_now}
 use Rattle.std.proofs.lemmas.Bool.Decides.{nat_tests}
-pub use Rattle.running_world.proofs.WorldLemmas.{set_here, set_length, set_there}
+pub use Rattle.world_parts.proofs.WorldLemmas.{set_here, set_length, set_there}
 use Rattle.step_core.proofs.Lists.{some_at}
 use Rattle.tx_engine.proofs.ProgramLemmas.{some_same}
 pub use Rattle.session_runs.proofs.ClientLemmas.{reached}

@@ -10,8 +10,8 @@ use Rattle.seq_model.specs.declared.limits.TheConstants.{CALL_LIMIT}
 use Rattle.seq_model.specs.declared.refusal.Refusal.{Refusal}
 use Rattle.step_core.specs.Shown.{is_actor}
 use Rattle.replay_log.specs.Worlds.{Open}
-use Rattle.running_world.specs.declared.opening.TheConstants.{ACTORS}
 use Rattle.running_world.specs.Parts.{IsWorld}
+use Rattle.world_parts.specs.declared.opening.TheConstants.{ACTORS}
 use Rattle.vac_model.specs.declared.action.Action.{Action}
 use Rattle.tx_engine.specs.declared.job.Ask.{Ask as Asked}
 use Rattle.tx_engine.specs.Programs.{Asks, after, replies_of}

@@ -172,27 +172,27 @@ impl<V: Value> Table<V> {
 
     /// The store that puts a gate back with its base, into which the log of its holder's transaction is folded. There has to be room
     /// in the base for the log, so it takes no memory and is never refused.
-    pub fn go_home(&mut self, k: usize, log: Log<V>)
+    pub fn go_home(&mut self, k: usize, log: &mut Log<V>)
         requires inside { (k < length self.old.gates.items) × (k < length self.old.bases.items) }
-        requires prepared { (base : Base V) → slice_get self.old.bases.items k ≡ Some base → IsPreparedFor log.changes base }
+        requires prepared { (base : Base V) → slice_get self.old.bases.items k ≡ Some base → IsPreparedFor log.old.changes base }
         requires within { (base : Base V) → slice_get self.old.bases.items k ≡ Some base →
-            All (λ location. location < locations_of (stripes_of base) (shown_of base)) log.locations }
+            All (λ location. location < locations_of (stripes_of base) (shown_of base)) log.old.locations }
         requires below { (base : Base V) → slice_get self.old.bases.items k ≡ Some base →
-            All (λ location. slice_index (editions_of base) location < 2 ^ 63) log.locations }
+            All (λ location. slice_index (editions_of base) location < 2 ^ 63) log.old.locations }
         ensures homes { (blocks : List Block) (clock : ℕ) (values : List ℕ) (held : List (Held V)) (events : List (Event V)) (a : ℕ)
             (b : Block) (before : Base V) → HaveStripes blocks →
             let w = run (opened blocks clock values held) events in
             let outcomes = (w.boosted.shadows a).outcomes in
             HasTable self.old w → GoesHome w a k → block_of w.blocks k ≡ Some b →
             slice_get self.old.bases.items k ≡ Some before → IsBaseOf b before →
-            log.changes ≡ log_changes k b outcomes → log.locations ≡ log_locations k b outcomes →
+            log.old.changes ≡ log_changes k b outcomes → log.old.locations ≡ log_locations k b outcomes →
             HasTable self.new (happens w (Step a)).0 }
         ensures keeps { (n : ℕ) (bs : List Block) → HasShape self.old n bs → HasShape self.new n bs }
         ensures rest { (self.new.cells ≡ self.old.cells) × (length self.new.gates.items ≡ length self.old.gates.items)
             × (length self.new.bases.items ≡ length self.old.bases.items) }
         ensures others { (j : ℕ) → j ≢ k → slice_get self.new.bases.items j ≡ slice_get self.old.bases.items j }
     {
-        log.fold_into(&mut self.bases[k]);
+        log.fold(&mut self.bases[k]);
         self.gates[k] = 0;
     }
 }

@@ -1,24 +1,20 @@
-use Rattle.std.proofs.Common.{◌∙◌, List, ◌∷◌, ◌++◌, ap, sym, subst}
-use Rattle.std.specs.Vec.Iter.{into_iter_items}
-use Rattle.std.proofs.lemmas.List.{nil_from_length}
+use Rattle.std.proofs.Common.{◌≡◌, ◌∙◌, List, [], ◌∷◌, ◌++◌, ap, arith, sym, subst}
+use Rattle.std.specs.Prelude.{reverse}
+use Rattle.std.proofs.lemmas.Grind.{common_steps}
+use Rattle.std.proofs.lemmas.List.{reverse-append}
 use Rattle.conflict.specs.Rules.{applied}
 use Rattle.conflict.specs.declared.change.Change.{Change}
 use Rattle.base_pq.specs.Conflicts.{Shown, rules}
 use Rattle.base_pq.specs.Room.{HasRoom}
-use Rattle.base_pq.proofs.RoomLemmas.{room_first}
 use Rattle.base_pq.proofs.pq_base.apply_changes.Goals as goal
-
-pub apply_change-requires-clause-room : goal.apply_change-requires-clause-room
-apply_change-requires-clause-room g c =
-    room_first c.loop-change.stripes.stripes c.loop-change.stripes.room c.in-Some.change (into_iter_items c.next.new.self)
-    (subst (HasRoom c.loop-change.stripes.stripes c.loop-change.stripes.room) c.in-Some.ensures.steps.0 c.loop-change.invariant.1)
 
 pub loop-change-preserved : goal.loop-change-preserved
 loop-change-preserved g c =
     let n = c.loop-change.stripes.stripes in
     let same = c.loop-change.invariant.2 in
-    let steps = c.in-Some.ensures.steps.0 in
-    let left = into_iter_items c.next.new.self in
+    let left = reverse c.pop.new.self.items in
+    let steps : reverse c.loop-change.changes.items ≡ c.in-Some.change ∷ left =
+    ap reverse c.in-Some.ensures.items ∙ reverse-append c.pop.new.self.items (c.in-Some.change ∷ []) in
     let now = c.apply_change.new.stripes in (
       ap (λ (s : Shown). applied (rules g.row.V.Denot) left s) c.apply_change.ensures.shown
           ∙ ap (λ (cs : List (Change g.row.V.Denot)). applied (rules g.row.V.Denot) cs
@@ -33,10 +29,12 @@ loop-change-preserved g c =
           (subst (λ m. HasRoom m c.loop-change.stripes.room (c.in-Some.change ∷ (left ++ more))) (sym same)
           (subst (λ (cs : List (Change g.row.V.Denot)). HasRoom c.args.stripes.now.stripes c.loop-change.stripes.room (cs ++ more)) steps
           (c.loop-change.invariant.3 more h)))),
+      c.in-Some.ensures.capacity ∙ c.loop-change.invariant.4,
     )
 
 pub returns-clause-room : goal.returns-clause-room
-returns-clause-room g c = λ more h.
+returns-clause-room g c =
+    let none : c.loop-change.changes.items ≡ [] = grind (arith, common_steps) in
+    λ more h.
     subst (λ (cs : List (Change g.row.V.Denot)). HasRoom c.args.stripes.now.stripes c.loop-change.stripes.room (cs ++ more))
-    (nil_from_length (into_iter_items c.loop-change.change-iterator)
-    (sym c.loop-change.change-iterator.rest.ok.0 ∙ c.in-None.ensures.steps.0)) (c.loop-change.invariant.3 more h)
+    (ap reverse none) (c.loop-change.invariant.3 more h)

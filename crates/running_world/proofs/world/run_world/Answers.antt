@@ -1,8 +1,8 @@
 use Rattle.std.proofs.Common.{refl, subst}
 use Rattle.world_table.specs.Openings.{world_of}
-use Rattle.running_world.specs.Feeds.{Feeds, fed_all}
-use Rattle.running_world.proofs.FeedLemmas.{fits_as, has_all, has_one, memory_refused}
-use Rattle.running_world.proofs.TraceLemmas.{serial_at}
+use Rattle.world_parts.specs.Feeds.{Feeds, fed_all}
+use Rattle.running_world.proofs.FedLemmas.{fits_as, has_all, has_one, memory_refused}
+use Rattle.world_parts.proofs.TraceLemmas.{serial_at}
 use Rattle.running_world.proofs.world.run_world.Goals as goal
 
 pub loop-event-init : goal.loop-event-init

@@ -1,6 +1,6 @@
 use Rattle.std.proofs.Common.{take}
 use Rattle.world_table.specs.Openings.{world_of}
-use Rattle.running_world.proofs.FeedLemmas.{HasFed}
+use Rattle.running_world.proofs.FedLemmas.{HasFed}
 use Rattle.running_world.proofs.world.run_world.Given as goal
 
 abbrev pub invariant-loop-event : goal.invariant-loop-event

@@ -144,3 +144,27 @@ fn::both::scope+FnOnce::call_once-scope-requires g t c κs within =
         ),
       ),
     )
+
+-- What the scope's closure asks holds of what it captures: the lists of lifetimes are the function's own.
+pub both-scoped-requires : goal.both-scoped-requires
+both-scoped-requires g t c = record {
+  at = λ a. (
+    search rules,
+    (
+      λ κ m. m,
+      (
+        λ κ m. m,
+        (
+          λ κ m. m,
+          (
+            λ κ m. m,
+            (
+              search rules,
+              (c.requires.some, (c.requires.first, (c.requires.second, (c.requires.others, search rules)))),
+            ),
+          ),
+        ),
+      ),
+    ),
+  );
+}

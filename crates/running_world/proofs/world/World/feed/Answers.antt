@@ -1,6 +1,6 @@
 use Rattle.std.proofs.Common.{subst, sym}
 use Rattle.running_world.specs.Serial.{IsFrom}
-use Rattle.running_world.proofs.FeedLemmas.{well_fed}
+use Rattle.running_world.proofs.FedLemmas.{well_fed}
 use Rattle.running_world.proofs.SerialLemmas.{from_fed, serial_from}
 use Rattle.running_world.proofs.world.World.feed.Goals as goal
 

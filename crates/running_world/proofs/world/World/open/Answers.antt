@@ -1,6 +1,6 @@
 use Rattle.std.proofs.Common.{refl}
 use Rattle.world_table.specs.Openings.{world_of}
-use Rattle.running_world.proofs.FeedLemmas.{opened_well}
+use Rattle.running_world.proofs.FedLemmas.{opened_well}
 use Rattle.running_world.proofs.SerialLemmas.{serial_from}
 use Rattle.running_world.proofs.world.World.open.Goals as goal
 

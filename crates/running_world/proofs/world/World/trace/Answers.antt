@@ -1,10 +1,10 @@
 use Rattle.std.proofs.Common.{IfOk, subst}
-use Rattle.running_world.specs.Parts.{IsWorld}
-use Rattle.running_world.specs.Reached.{IsReached}
+use Rattle.world_parts.specs.Parts.{IsWorld}
+use Rattle.world_parts.specs.Reached.{IsReached}
 use Rattle.running_world.specs.Serial.{IsFrom}
-use Rattle.running_world.specs.Traces.{IsSerialTrace, IsTraceOf}
+use Rattle.world_parts.specs.Traces.{IsSerialTrace, IsTraceOf}
 use Rattle.running_world.specs.Worlds.{WorldShown}
-use Rattle.running_world.proofs.FeedLemmas.{words_fit}
+use Rattle.running_world.proofs.FedLemmas.{words_fit}
 use Rattle.running_world.proofs.SerialLemmas.{serial_traced}
 use Rattle.running_world.proofs.world.World.trace.Goals as goal
 

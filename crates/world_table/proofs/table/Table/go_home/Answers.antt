@@ -13,13 +13,13 @@ returns-clause-homes g c = λ blocks clock values held events a b before have h 
     let t = c.args.self.now in
     let k = c.args.k in
     let old = c.index_mut.result.now in
-    let now = c.fold_into.new.base in
+    let now = c.fold.new.base in
     let read = slice_get_read t.bases.items _ k old refl c.requires.inside.1 c.index_mut.ensures.value in
     let same : old ≡ before = same_at t.bases.items k old before read got in
     goes_home t (record { cells = t.cells; gates = with_item t.gates k 0; bases = with_item t.bases k now }) k before now blocks clock
-    values held events a c.args.log.changes c.args.log.locations b refl refl refl c.requires.inside.0 c.requires.inside.1
-    (subst (λ base. IsFolded c.args.log.changes c.args.log.locations base now) same
-    (record { shown = c.fold_into.ensures.shown; stripes = c.fold_into.ensures.stripes; editions = c.fold_into.ensures.editions }))
+    values held events a c.args.log.now.changes c.args.log.now.locations b refl refl refl c.requires.inside.0 c.requires.inside.1
+    (subst (λ base. IsFolded c.args.log.now.changes c.args.log.now.locations base now) same
+    (record { shown = c.fold.ensures.shown; stripes = c.fold.ensures.stripes; editions = c.fold.ensures.editions }))
     have h home is got fits cl ll)
 
 pub returns-clause-keeps : goal.returns-clause-keeps
@@ -27,8 +27,8 @@ returns-clause-keeps g c = λ n bs. (
     let t = c.args.self.now in
     let k = c.args.k in
     let old = c.index_mut.result.now in
-    let now = c.fold_into.new.base in
+    let now = c.fold.new.base in
     let read = slice_get_read t.bases.items _ k old refl c.requires.inside.1 c.index_mut.ensures.value in
     keeps_shape_home t (record { cells = t.cells; gates = with_item t.gates k 0; bases = with_item t.bases k now }) n bs k old now
-    c.args.log.changes c.args.log.locations refl (length-set t.gates.items k 0) refl read
-    (record { shown = c.fold_into.ensures.shown; stripes = c.fold_into.ensures.stripes; editions = c.fold_into.ensures.editions }))
+    c.args.log.now.changes c.args.log.now.locations refl (length-set t.gates.items k 0) refl read
+    (record { shown = c.fold.ensures.shown; stripes = c.fold.ensures.stripes; editions = c.fold.ensures.editions }))

@@ -1,0 +1,14 @@
+pub mod FeedLemmas
+pub mod HomeLemmas
+pub mod OpeningLemmas
+pub mod PartsLemmas
+pub mod PrepareLemmas
+mod RoomLemmas
+mod HomingLemmas
+mod GateLemmas
+pub mod TraceLemmas
+pub mod TurnLemmas
+pub mod LoadLemmas
+pub mod WorldLemmas
+mod OwnTurnLemmas
+mod CopyTurnLemmas
