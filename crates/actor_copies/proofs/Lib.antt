@@ -28,3 +28,4 @@ mod SizesLemmas
 pub mod TakingLemmas
 mod PutBackLemmas
 mod RoomLemmas
+mod WeighedLemmas

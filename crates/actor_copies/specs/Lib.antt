@@ -13,3 +13,4 @@ pub mod Sizes
 pub mod Taking
 pub mod PutBack
 pub mod Room
+pub mod Weighed

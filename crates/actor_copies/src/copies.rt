@@ -7,18 +7,19 @@ ghost use Rattle.atomic_steps.specs.Bases.{IsFolded};
 ghost use Rattle.actor_copies.specs.Copies.{IsAccepted, IsForgotten, IsFound, IsKept, IsLearnt, IsReady, answer_of, changes_in, holds_call};
 ghost use Rattle.actor_copies.specs.Copies.{locations_in};
 
+use boxes::Boxed;
 use conflict::{Change, Outcome, Table};
 use replay_log::{Base, Log, Touch};
 use seq_model::{Memory, Op, Refusal, Value};
 use shadow::{Memo, Shadow};
 
-/// What a transaction has of one collection, with the changes of its own accepted calls.
+/// What a transaction has of one collection, with the changes of its own accepted calls. It moves as pointers.
 #[derive(Drop)]
 pub enum Copied<V> {
     /// Of a map or a multiset what was touched, with the edition of each location that it was copied from.
-    Keys(Memo<V>, Table<u64>),
+    Keys(Boxed<Memo<V>>, Boxed<Table<u64>>),
     /// Of a priority queue or a queue the whole.
-    Whole(Shadow<V>),
+    Whole(Boxed<Shadow<V>>),
 }
 
 /// What a transaction has of this collection.
@@ -34,7 +35,7 @@ impl<V: Value> Copied<V> {
         ensures { result ≡ holds_call self.now op.now }
     {
         match self {
-            Copied::Keys(memo, _) => memo.holds(op),
+            Copied::Keys(memo, _) => memo.get().holds(op),
             Copied::Whole(_) => true,
         }
     }
@@ -46,8 +47,8 @@ impl<V: Value> Copied<V> {
         ensures refused { IfErr result (λ refusal. IsRefusal refusal (answer_of self.now op.now ≡ None)) }
     {
         match self {
-            Copied::Keys(memo, _) => memo.answer(op),
-            Copied::Whole(shadow) => shadow.answer(op),
+            Copied::Keys(memo, _) => memo.get().answer(op),
+            Copied::Whole(shadow) => shadow.get().answer(op),
         }
     }
 
@@ -59,8 +60,9 @@ impl<V: Value> Copied<V> {
     {
         match self {
             Copied::Keys(memo, editions) => {
+                let editions = editions.get_mut();
                 editions.reserve(touch.editions.as_slice().len())?;
-                memo.add(touch.held)?;
+                memo.get_mut().add(touch.held)?;
                 keep_editions(editions, touch.editions.as_slice());
             }
             Copied::Whole(_) => {}
@@ -74,7 +76,7 @@ impl<V: Value> Copied<V> {
         ensures { IsForgotten op.now self.old self.new }
     {
         match self {
-            Copied::Keys(memo, _) => memo.forget(op),
+            Copied::Keys(memo, _) => memo.get_mut().forget(op),
             Copied::Whole(_) => {}
         }
     }
@@ -85,8 +87,8 @@ impl<V: Value> Copied<V> {
         ensures kept { IsKept self.old self.new }
     {
         match self {
-            Copied::Keys(memo, _) => memo.ready(outcome),
-            Copied::Whole(shadow) => shadow.ready(outcome),
+            Copied::Keys(memo, _) => memo.get_mut().ready(outcome),
+            Copied::Whole(shadow) => shadow.get_mut().ready(outcome),
         }
     }
 
@@ -96,8 +98,8 @@ impl<V: Value> Copied<V> {
         ensures accepted { IsAccepted outcome self.old self.new }
     {
         match self {
-            Copied::Keys(memo, _) => memo.accept(outcome),
-            Copied::Whole(shadow) => shadow.accept(outcome),
+            Copied::Keys(memo, _) => memo.get_mut().accept(outcome),
+            Copied::Whole(shadow) => shadow.get_mut().accept(outcome),
         }
     }
 
@@ -106,8 +108,8 @@ impl<V: Value> Copied<V> {
         ensures { result.now ≡ changes_in self.now }
     {
         match self {
-            Copied::Keys(memo, _) => memo.changes(),
-            Copied::Whole(shadow) => shadow.changes(),
+            Copied::Keys(memo, _) => memo.get().changes(),
+            Copied::Whole(shadow) => shadow.get().changes(),
         }
     }
 
@@ -117,8 +119,8 @@ impl<V: Value> Copied<V> {
         ensures locations { result.locations ≡ locations_in self }
     {
         match self {
-            Copied::Keys(memo, _) => memo.log(),
-            Copied::Whole(shadow) => shadow.log(),
+            Copied::Keys(memo, _) => memo.into_inner().log(),
+            Copied::Whole(shadow) => shadow.into_inner().log(),
         }
     }
 

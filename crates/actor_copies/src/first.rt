@@ -5,6 +5,7 @@ ghost use Rattle.actor_copies.specs.First.{IsFirst, IsFirstTouch, memo_kind};
 
 use crate::copies::{Copied, Found};
 use crate::spares::Spares;
+use boxes::Boxed;
 use replay_log::{Touch, Touched};
 use seq_model::{Refusal, Value};
 use shadow::{MemoKind, Shadow};
@@ -46,6 +47,9 @@ pub fn first_copy<V: Value>(
 {
     match found {
         Found::Keys(touch) => first_touch(spares, alloc, stripes, touch),
-        Found::Whole(base) => Ok(Copied::Whole(Shadow::of_copy(alloc, base, spares.log(alloc)))),
+        Found::Whole(base) => {
+            let shadow = Shadow::of_copy(alloc, base, spares.log(alloc));
+            Ok(Copied::Whole(Boxed::new(alloc, shadow)?))
+        }
     }
 }

@@ -1,10 +1,12 @@
 //! The locations of a call on a collection that is copied, with the editions with which they were copied.
-ghost use Rattle.std.specs.Prelude.{◌≡◌, ◌+◌, ◌<◌, ◌^◌, All, IfOk};
+ghost use Rattle.std.specs.Prelude.{◌≡◌, ◌+◌, ◌<◌, ◌^◌, [], ◌∷◌, All, IfOk, IfSome, OnOk};
+ghost use Rattle.shadow.specs.KeyPlace.{written_there};
 ghost use Rattle.actor_copies.specs.Footprints.{IsPlaceOf, known_edition, places_in, reads_in, with_known, writes_in};
 
 use crate::copies::{Copied, CopyOf};
 use conflict::{LocSet, Outcome};
 use seq_model::{Memory, Value};
+use shadow::KeyPlace;
 use std::collections::VecDeque;
 
 /// Where the copy of a collection stands. A transaction touches few collections.
@@ -27,8 +29,8 @@ impl<V: Value> Copied<V> {
         ensures { IfOk result (λ set. set ≡ reads_in self.now outcome.now) }
     {
         match self {
-            Copied::Keys(memo, _) => memo.reads(outcome),
-            Copied::Whole(shadow) => shadow.base().reads(outcome),
+            Copied::Keys(memo, _) => memo.get().reads(outcome),
+            Copied::Whole(shadow) => shadow.get().base().reads(outcome),
         }
     }
 
@@ -37,8 +39,20 @@ impl<V: Value> Copied<V> {
         ensures { IfOk result (λ set. set ≡ writes_in self.now outcome.now) }
     {
         match self {
-            Copied::Keys(memo, _) => memo.writes(outcome),
-            Copied::Whole(shadow) => shadow.base().writes(outcome),
+            Copied::Keys(memo, _) => memo.get().writes(outcome),
+            Copied::Whole(shadow) => shadow.get().base().writes(outcome),
+        }
+    }
+
+    /// Where the key of an outcome lies, which is all that it reads, and whether it writes there; none for an outcome on no key of a map or
+    /// a multiset.
+    pub(crate) fn key_place(&self, outcome: &Outcome<V>) -> Option<KeyPlace>
+        ensures reads { IfSome result (λ at. reads_in self.now outcome.now ≡ at.location ∷ []) }
+        ensures writes { IfSome result (λ at. writes_in self.now outcome.now ≡ written_there at) }
+    {
+        match self {
+            Copied::Keys(memo, _) => memo.get().key_place(outcome),
+            Copied::Whole(_) => None,
         }
     }
 
@@ -48,11 +62,11 @@ impl<V: Value> Copied<V> {
         ensures { result ≡ known_edition self.now location }
     {
         match self {
-            Copied::Keys(_, editions) => match editions.get(location as u64) {
+            Copied::Keys(_, editions) => match editions.get().get(location as u64) {
                 Some(edition) => *edition,
                 None => 0,
             },
-            Copied::Whole(shadow) => shadow.base().edition(location),
+            Copied::Whole(shadow) => shadow.get().base().edition(location),
         }
     }
 }
@@ -60,19 +74,18 @@ impl<V: Value> Copied<V> {
 /// Locations of a collection that begins at location `first`, with the editions with which they were copied, in place of what the list
 /// held.
 pub(crate) fn with_known<V: Value>(
-    list: VecDeque<(u32, u64)>,
+    left: &mut VecDeque<(u32, u64)>,
     copied: &Copied<V>,
     first: u32,
     locations: &LocSet,
-) -> Result<VecDeque<(u32, u64)>, Memory>
+) -> Result<(), Memory>
     requires within { All (λ location. location < places_in copied.now) locations.now }
     requires range { All (λ location. first + location < 2 ^ 32) locations.now }
-    ensures { IfOk result (λ left. left.items ≡ with_known copied.now first locations.now) }
+    ensures { OnOk result (left.new.items ≡ with_known copied.now first locations.now) }
 {
-    let mut left = list;
     left.clear();
     for location in locations.as_slice() {
         left.push_back((first + *location, copied.edition(*location)))?;
     }
-    Ok(left)
+    Ok(())
 }

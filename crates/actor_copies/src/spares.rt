@@ -5,6 +5,7 @@ ghost use Rattle.actor_copies.specs.Copies.{changes_in, locations_in};
 ghost use Rattle.actor_copies.specs.First.{IsBlank};
 
 use crate::copies::{Copied, CopyOf};
+use boxes::Boxed;
 use conflict::Table;
 use replay_log::Log;
 use seq_model::{Memory, Refusal, Value};
@@ -14,11 +15,11 @@ use std::collections::VecDeque;
 use std::marker::Model;
 use std::mem;
 
-/// A memo, with the table of editions beside it.
+/// A memo, with the table of editions beside it, in the boxes in which both serve again.
 #[derive(Drop)]
 pub(crate) struct Spare<V> {
-    pub memo: Memo<V>,
-    pub editions: Table<u64>,
+    pub memo: Boxed<Memo<V>>,
+    pub editions: Boxed<Table<u64>>,
 }
 
 /// What the transactions of a seat took of memory for what they had of collections, and need no more: the next one takes it from here.
@@ -57,15 +58,13 @@ impl<V: Drop> Spares<V> {
         Ok(())
     }
 
-    // Keeps what a memo took, empty. Where there is no room for it, it goes.
-    fn keep(&mut self, spare: Spare<V>) {
-        let Spare {
-            mut memo,
-            mut editions,
-        } = spare;
-        memo.clear();
-        editions.clear();
-        let _ = self.kept.push(Spare { memo, editions });
+    // Keeps what an emptied memo took. Where there is no room for it, it goes.
+    fn keep(&mut self, memo: Boxed<Memo<V>>, editions: Boxed<Table<u64>>) {
+        let mut editions = editions;
+        editions.get_mut().clear();
+        if self.kept.len() < self.kept.capacity() {
+            self.kept.push_reserved(Spare { memo, editions });
+        }
     }
 
     /// The log of what a transaction had of a collection. Of a map or a multiset the other memory is kept; a whole collection goes, as
@@ -77,11 +76,11 @@ impl<V: Drop> Spares<V> {
         match copied {
             Copied::Keys(memo, editions) => {
                 let mut memo = memo;
-                let log = memo.take_log();
-                self.keep(Spare { memo, editions });
+                let log = memo.get_mut().take_log();
+                self.keep(memo, editions);
                 log
             }
-            Copied::Whole(shadow) => shadow.log(),
+            Copied::Whole(shadow) => shadow.into_inner().log(),
         }
     }
 
@@ -151,18 +150,25 @@ impl<V: Value> Spares<V> {
     {
         match self.kept.pop() {
             Some(spare) => {
-                let mut editions = spare.editions;
-                editions.clear();
-                let mut memo = spare.memo;
-                memo.use_log(self.log(alloc));
-                let memo = memo.renew(stripes, kind)?;
+                let Spare {
+                    mut memo,
+                    mut editions,
+                } = spare;
+                editions.get_mut().clear();
+                memo.get_mut().renew(stripes, kind, self.log(alloc))?;
                 Ok(Spare { memo, editions })
             }
-            None => {
-                let memo = Memo::new(alloc, stripes, kind)?;
-                let editions = Table::new(alloc);
-                Ok(Spare { memo, editions })
-            }
+            None => first_spare(alloc, stripes, kind),
         }
     }
+}
+
+#[inline(never)]
+fn first_spare<V: Value>(alloc: Global, stripes: u32, kind: MemoKind) -> Result<Spare<V>, Refusal>
+    ensures memo { IfOk result (λ spare. IsBlank stripes kind spare.memo) }
+    ensures editions { IfOk result (λ spare. spare.editions.contents ≡ map.empty) }
+{
+    let memo = Boxed::new(alloc, Memo::new(alloc, stripes, kind)?)?;
+    let editions = Boxed::new(alloc, Table::new(alloc))?;
+    Ok(Spare { memo, editions })
 }

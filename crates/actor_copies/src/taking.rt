@@ -90,6 +90,7 @@ fn make_room<V: Drop>(copies: &mut Vec<CopyOf<V>>, spares: &mut Spares<V>) -> Re
     Ok(())
 }
 
+#[inline(never)]
 fn push_first<V: Value>(
     copies: &mut Vec<CopyOf<V>>,
     spares: &mut Spares<V>,

@@ -1,5 +1,5 @@
 //! The writes that an accepted call asks of its word actor: at each written location the edition after the copied one.
-ghost use Rattle.std.specs.Prelude.{◌≡◌, ◌+◌, ◌<◌, ◌≤◌, ◌^◌, ◌∷◌, [], All, IfOk, OnOk, length, true, false};
+ghost use Rattle.std.specs.Prelude.{◌≡◌, ◌+◌, ◌<◌, ◌≤◌, ◌^◌, ◌∷◌, [], All, OnOk, length, true, false};
 ghost use Rattle.std.specs.Vec.{vec_capacity, vec_len};
 ghost use Rattle.tx_sets.specs.Entries.{IsRising, with_entry};
 ghost use Rattle.word_machine.specs.Requests.{ask, AskWrite};
@@ -12,31 +12,30 @@ use crate::copies::Copied;
 use conflict::LocSet;
 use seq_model::{Memory, Value};
 use smallvec::SmallVec;
-use std::alloc::Global;
 use step_core::{Actor, WordCall};
 use tx_sets::LOCATION_LIMIT;
 
 /// The locations that a call writes, each with the edition after the copied one. There are two at most, which take no memory.
 pub type Writes = SmallVec<(u32, u64), 2>;
 
-/// Written locations of a collection that begins at location `first`, each with the edition after the copied one. No memory holds
-/// the changes that lead to the last edition there is.
+/// Written locations of a collection that begins at location `first`, each with the edition after the copied one, in place of what the list
+/// held. No memory holds the changes that lead to the last edition there is.
 pub(crate) fn with_next<V: Value>(
-    alloc: Global,
+    writes: &mut Writes,
     copied: &Copied<V>,
     first: u32,
     locations: &LocSet,
-) -> Result<Writes, Memory>
+) -> Result<(), Memory>
     requires within { All (λ location. location < places_in copied.now) locations.now }
     requires range { All (λ location. first + location < 2 ^ 32) locations.now }
-    ensures { IfOk result (λ writes. writes.items ≡ with_next copied.now first locations.now) }
+    ensures { OnOk result (writes.new.items ≡ with_next copied.now first locations.now) }
 {
-    let mut writes = SmallVec::new(alloc);
+    writes.clear();
     for location in locations.as_slice() {
         let next = copied.edition(*location).checked_add(1).ok_or(Memory)?;
         writes.push((first + *location, next))?;
     }
-    Ok(writes)
+    Ok(())
 }
 
 /// Makes room for these writes.

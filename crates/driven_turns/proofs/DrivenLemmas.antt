@@ -1,8 +1,8 @@
 -- A request is driven: what its turns so far have led to, and one turn more.
 --
 -- The step of a turn has happened in a world that events have reached, which was to the actor as its own world. So the laws on such worlds
--- say of it what the request comes to (`courses`), that a cause is true that is noted there, and that the request is nearer to its answer.
-use Rattle.std.proofs.Common.{◌≡◌, ℕ, ◌<◌, ◌≤◌, Bool, true, false, true≢false, List, [], ◌∷◌, ◌++◌, Option, Some, None, inl, inr, refl, sym}
+-- say of it what the request comes to (`courses`), and that a cause is true that is noted there.
+use Rattle.std.proofs.Common.{◌≡◌, ℕ, ◌≤◌, Bool, true, false, true≢false, List, [], ◌∷◌, ◌++◌, Option, Some, None, inl, inr, refl, sym}
 use Rattle.std.proofs.Common.{ap, ◌∙◌, subst, arith}
 use Rattle.std.specs.Prelude.{is_some}
 use Rattle.std.proofs.lemmas.List.{append-nil, append_assoc}
@@ -15,13 +15,11 @@ use Rattle.seq_model.specs.declared.record.Record.{Record}
 use Rattle.seq_model.specs.declared.refusal.Refusal.{Refusal}
 use Rattle.replay_log.proofs.AnswerLemmas.{refused_step}
 use Rattle.replay_log.proofs.EventLemmas.{opened_linked, run_linked}
-use Rattle.replay_log.proofs.ProgressLemmas.{world_nears}
 use Rattle.replay_log.proofs.RefusalLemmas.{keeps_cause, world_causes}
 use Rattle.replay_log.proofs.SeatLemmas.{Linked, StageOk}
 use Rattle.replay_log.specs.Seats.{World, After, Stage, Seat, Beginning, Cancelling, Closing, Leaving, Ready, Returning, actor_of}
 use Rattle.replay_log.specs.Worlds.{happens, run}
 use Rattle.replay_log.specs.WorldAnswers.{IsRefusedAt, RefusedBy}
-use Rattle.replay_log.specs.WorldProgress.{AreSmall, IsQuiet, left_at, left_of}
 use Rattle.replay_log.specs.WorldRefusals.{IsCause, is_ending}
 use Rattle.replay_log.specs.WorldTraces.{committed_by}
 use Rattle.atomic_steps.specs.Own.{Alike}
@@ -33,7 +31,7 @@ use Rattle.tx_table.specs.declared.seat.Seat as table
 use Rattle.tx_table.specs.declared.table.TxTable.{TxTable}
 use Rattle.tx_table.specs.declared.view.View.{View}
 use Rattle.tx_table.specs.Opening.{blocks_at}
-use Rattle.tx_table.specs.Seated.{acts, blocks_in, list_of, opening_of, view}
+use Rattle.tx_table.specs.Seated.{acts, list_of, opening_of, view}
 use Rattle.tx_table.specs.Seated as seated
 use Rattle.tx_table.specs.Turns.{asked_all, ends_of, lone, moved}
 use Rattle.tx_table.specs.declared.view.Turn.{Turn}
@@ -393,16 +391,3 @@ module _ {V : Type 0} where
           stamped = stamped_on;
           numbered = λ knows r is. numbered_on knows e r made_u new is;
         }
-
-    -- the request is nearer to its answer
-    pub nearer : AreSmall (blocks_in t) → n ≡ told.Quiet → left_of (acts o z) (seated.actor z) < left_of (acts o u) (seated.actor u)
-    nearer small e =
-        let H = T.takes.happened in
-        let quiet = subst (λ (k : Notice V). IsQuiet k) (sym (told_is ∙ ap (notice_of a) e)) tt in
-        let less = world_nears (blocks_at t.whole.shared.key) t.whole.shared.key.shape.value.clock t.whole.shared.key.state.value.words
-        t.whole.shared.key.state.value.held H.events ties.reached.stripes small a quiet in
-        let before : left_of v a ≡ left_of (acts o u) a = (λ i. left_at (x_is i).stage (H.alike.boosted.actor i)) in
-        let actor_is : after.0.boosted.words.actors a ≡ (acts o z).boosted.words.actors (seated.actor z) =
-        H.same.0.boosted.actor ∙ (λ i. (sym T.takes.own i).boosted.words.actors (sym T.takes.seat.1 i)) in
-        let now : left_of after.0 a ≡ left_of (acts o z) (seated.actor z) = (λ i. left_at (y_is i).stage (actor_is i)) in
-        omega (arith, less, before, now)

@@ -4,5 +4,7 @@ pub mod StampLemmas
 pub mod NextLemmas
 pub mod DrivenLemmas
 pub mod SinceLemmas
+pub mod QuietLemmas
+pub mod StepsLemmas
 pub mod GivenUpLemmas
 pub mod RestLemmas

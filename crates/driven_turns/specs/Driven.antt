@@ -12,12 +12,15 @@ use Rattle.seq_model.specs.declared.refusal.Refusal.TheVariants.{Exhausted, OutO
 use Rattle.replay_log.specs.Seats as worlds
 use Rattle.replay_log.specs.Seats.{World, Stage, Closing, Loading, actor_of}
 use Rattle.replay_log.specs.Worlds.{happens, run}
+use Rattle.replay_log.specs.WorldProgress.{left_of}
 use Rattle.replay_log.specs.WorldRefusals.{IsCause}
 use Rattle.atomic_steps.specs.Own.{Alike}
 use Rattle.actor_words.specs.Dispatch.{next_of}
 use Rattle.actor_words.specs.declared.next.Next.{Next}
 use Rattle.actor_words.specs.declared.next.Next.TheVariants as next
 use Rattle.tx_actor.specs.Running.{notice_of}
+use Rattle.tx_actor.specs.declared.actor.Stage as own
+use Rattle.tx_actor.specs.declared.actor.Stage.TheVariants as stage
 use Rattle.tx_actor.specs.declared.actor.Told.{Told}
 use Rattle.tx_actor.specs.declared.actor.Told.TheVariants as told
 use Rattle.tx_table.specs.declared.seat.Seat.{Seat}
@@ -42,6 +45,22 @@ WantsMemory (next.TryGate k) = Unit {0}
 WantsMemory (next.Copy k) = Unit {0}
 WantsMemory next.FirstStore = Unit {0}
 WantsMemory n = ⊥
+
+-- the turn is on a gate
+abbrev pub IsOnGate : Next → Type 0
+IsOnGate next.Nothing = ⊥
+IsOnGate next.Word = ⊥
+IsOnGate next.FirstStore = ⊥
+IsOnGate n = Unit {0}
+
+-- nothing comes of a step on the words at this stage that told nothing
+abbrev pub is_still : {V : Type 0} → own.Stage V → Bool
+is_still (stage.Reading l) = true
+is_still (stage.Loading o left) = true
+is_still (stage.Locking homes) = true
+is_still stage.Releasing = true
+is_still stage.Cancelling = true
+is_still s = false
 
 -- Memory may be wanting at this stage: its turn takes some, or it reads for a call, which takes some once its gate is put back.
 abbrev pub MayWant : {V : Type 0} → Stage V → Type 0
@@ -140,6 +159,16 @@ module _ {V : Type 0} where
     pub began : (standing o s ≡ Begins → ⊥) → (standing o u ≡ Rests → ⊥) → (seat_in o u).rv ≡ (seat_in o s).rv
     pub stamped : KnowsNumber o s → KnowsNumber o u
     pub numbered : KnowsNumber o s → (r : Record V) → d ≡ Some r → IsNumberOf (seat_in o s).rv (view u).clock r
+
+  -- how many steps the request of a seat takes at most
+  abbrev pub left_in : World V → Seat V → ℕ
+  left_in o s = left_of (acts o s) (actor s)
+
+  -- The seat u took turns that made no record, each but the last of which told nothing, and is z; the last tells n. Those that led to u lead
+  -- on to z so. Where the last told nothing either the request is nearer to its answer.
+  pub record LeadsOn (o : World V) (u z : Seat V) (n : Told V) : Type 0 where
+    pub driven : (s : Seat V) (d : Option (Record V)) → Driven o s u told.Quiet d → Driven o s z n d
+    pub nearer : n ≡ told.Quiet → left_in o z < left_in o u
 
   -- The seat s took turns, which told nothing and made no record, up to one that takes memory, or to the store of a call's gate, behind
   -- which the call takes some, and there was none: so its request is being given up, as the seat u is.

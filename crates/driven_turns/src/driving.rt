@@ -8,10 +8,12 @@ ghost use Rattle.tx_actor.specs.Running.{stage_of};
 ghost use Rattle.tx_phases.specs.Phases.{Ends};
 ghost use Rattle.tx_turns.specs.Ties.{Ties};
 ghost use Rattle.gate_turns.specs.Own.{HasOwn};
-ghost use Rattle.driven_turns.specs.Driven.{Driven, Stops, seat_in, standing};
+ghost use Rattle.driven_turns.specs.Driven.{Driven, IsOnGate, Stops, seat_in, standing};
 
-use crate::turns::{step_on, turn};
+use crate::steps::steps_on;
+use crate::turns::{turn, turn_on_gate};
 use actor_words::Next;
+use boxes::Boxed;
 use replay_log::Base;
 use seq_model::{Memory, Record, Value};
 use std::alloc::Global;
@@ -29,12 +31,22 @@ fn newest<V: Value>(now: Option<Record<V>>, before: Option<Record<V>>) -> Option
 }
 
 /// Whether the next turn is a step on the words that makes no receipt.
-fn is_on_words<V: Value>(actor: &TxActor<V>) -> bool
-    ensures due { result ≡ true → next_of (stage_of actor.now.stage) ≡ Next.Word }
-    ensures open { result ≡ true → actor.now.stage ≢ Stage.Closing }
+fn is_on_words<V>(next: Next, stage: &Stage<V>) -> bool
+    ensures due { result ≡ true → next ≡ Next.Word }
+    ensures open { result ≡ true → stage.now ≢ Stage.Closing }
 {
-    match actor.next() {
-        Next::Word => !matches!(actor.stage, Stage::Closing),
+    match next {
+        Next::Word => !matches!(stage, Stage::Closing),
+        _ => false,
+    }
+}
+
+/// Whether the next turn is on a gate.
+fn is_on_gate(next: Next) -> bool
+    ensures { result ≡ true → IsOnGate next }
+{
+    match next {
+        Next::TryGate(_) | Next::Copy(_) | Next::GoHome(_) | Next::PutGate(_) => true,
         _ => false,
     }
 }
@@ -46,7 +58,7 @@ fn advance<V: Value>(
     table: &TxTable<V>,
     seat: &mut Seat<V>,
     actor: &mut TxActor<V>,
-    bases: &mut Vec<Base<V>>,
+    bases: &mut Vec<Boxed<Base<V>>>,
 ) -> Result<(Told<V>, Option<Record<V>>), Memory>
     requires ties { Ties table.now seat.old actor.old }
     requires own { HasOwn table.now seat.old actor.old bases.old.items }
@@ -60,10 +72,17 @@ fn advance<V: Value>(
 {
     let mut kept = None;
     'turns: loop {
-        if is_on_words(actor) {
-            match step_on(table, seat, actor, bases.as_slice()) {
+        let next = actor.next();
+        if is_on_words(next, &actor.stage) {
+            match steps_on(table, seat, actor, bases.as_slice()) {
                 Told::Quiet => {}
                 told => return Ok((told, kept)),
+            }
+        } else if is_on_gate(next) {
+            match turn_on_gate(alloc, table, seat, actor, bases, next) {
+                Ok(Told::Quiet) => {}
+                Ok(told) => return Ok((told, kept)),
+                Err(_) => return Err(Memory),
             }
         } else {
             match turn(alloc, table, seat, actor, bases) {
@@ -86,7 +105,7 @@ fn give_up<V: Value>(
     table: &TxTable<V>,
     seat: &mut Seat<V>,
     actor: &mut TxActor<V>,
-    bases: &mut Vec<Base<V>>,
+    bases: &mut Vec<Boxed<Base<V>>>,
 ) -> Told<V>
     requires ties { Ties table.now seat.old actor.old }
     requires own { HasOwn table.now seat.old actor.old bases.old.items }
@@ -109,7 +128,7 @@ fn finish<V: Value>(
     table: &TxTable<V>,
     seat: &mut Seat<V>,
     actor: &mut TxActor<V>,
-    bases: &mut Vec<Base<V>>,
+    bases: &mut Vec<Boxed<Base<V>>>,
 ) -> (Told<V>, Option<Record<V>>)
     requires ties { Ties table.now seat.old actor.old }
     requires own { HasOwn table.now seat.old actor.old bases.old.items }
@@ -134,7 +153,7 @@ pub fn drive<V: Value>(
     table: &TxTable<V>,
     seat: &mut Seat<V>,
     actor: &mut TxActor<V>,
-    bases: &mut Vec<Base<V>>,
+    bases: &mut Vec<Boxed<Base<V>>>,
 ) -> (Told<V>, Option<Record<V>>)
     requires ties { Ties table.now seat.old actor.old }
     requires own { HasOwn table.now seat.old actor.old [] }

@@ -7,6 +7,7 @@
 #![tactic(auto)]
 
 mod driving;
+mod steps;
 mod turns;
 
 pub use driving::drive;

@@ -7,9 +7,10 @@ ghost use Rattle.tx_table.specs.Seated.{actor as actor_of_seat, opening_of};
 ghost use Rattle.tx_turns.specs.Ties.{Ties, Turned, commits};
 ghost use Rattle.gate_turns.specs.Own.{HasOwn};
 ghost use Rattle.gate_turns.specs.Refused.{IsGivenUp};
-ghost use Rattle.driven_turns.specs.Driven.{WantsMemory, as_receipts};
+ghost use Rattle.driven_turns.specs.Driven.{IsOnGate, WantsMemory, as_receipts};
 
 use actor_words::Next;
+use boxes::Boxed;
 use gate_turns::laws::turns_keep_own;
 use gate_turns::{commit, copy_base, go_home, load_word, put_gate, try_gate};
 use replay_log::Base;
@@ -20,11 +21,11 @@ use tx_table::{Seat, TxTable};
 use tx_turns::{close, starve, step_word};
 
 /// A step on the words that makes no receipt.
-pub(crate) fn step_on<V: Value>(
+fn step_on<V: Value>(
     table: &TxTable<V>,
     seat: &mut Seat<V>,
     actor: &mut TxActor<V>,
-    bases: &[Base<V>],
+    bases: &[Boxed<Base<V>>],
 ) -> Told<V>
     requires ties { Ties table.now seat.old actor.old }
     requires own { HasOwn table.now seat.old actor.old bases.now }
@@ -48,7 +49,7 @@ fn step<V: Value>(
     table: &TxTable<V>,
     seat: &mut Seat<V>,
     actor: &mut TxActor<V>,
-    bases: &[Base<V>],
+    bases: &[Boxed<Base<V>>],
 ) -> (Told<V>, Option<Record<V>>)
     requires ties { Ties table.now seat.old actor.old }
     requires own { HasOwn table.now seat.old actor.old bases.now }
@@ -73,7 +74,7 @@ fn try_next<V: Value>(
     table: &TxTable<V>,
     seat: &mut Seat<V>,
     actor: &mut TxActor<V>,
-    bases: &mut Vec<Base<V>>,
+    bases: &mut Vec<Boxed<Base<V>>>,
     k: u32,
 ) -> Result<Told<V>, Memory>
     requires ties { Ties table.now seat.old actor.old }
@@ -100,7 +101,7 @@ fn store_next<V: Value>(
     table: &TxTable<V>,
     seat: &mut Seat<V>,
     actor: &mut TxActor<V>,
-    bases: &mut Vec<Base<V>>,
+    bases: &mut Vec<Boxed<Base<V>>>,
 ) -> Result<(Told<V>, Option<Record<V>>), Memory>
     requires ties { Ties table.now seat.old actor.old }
     requires own { HasOwn table.now seat.old actor.old bases.old.items }
@@ -121,23 +122,22 @@ fn store_next<V: Value>(
     }
 }
 
-/// A turn on a gate, or the first value store of a commit, as `turn` takes it. It stands apart since what these leave for a moment weighs
-/// on no turn on the words.
-fn turn_apart<V: Value>(
+/// A turn on a gate. It makes no receipt.
+#[inline(never)]
+pub(crate) fn turn_on_gate<V: Value>(
     alloc: Global,
     table: &TxTable<V>,
     seat: &mut Seat<V>,
     actor: &mut TxActor<V>,
-    bases: &mut Vec<Base<V>>,
+    bases: &mut Vec<Boxed<Base<V>>>,
     next: Next,
-) -> Result<(Told<V>, Option<Record<V>>), Memory>
+) -> Result<Told<V>, Memory>
     requires ties { Ties table.now seat.old actor.old }
     requires own { HasOwn table.now seat.old actor.old bases.old.items }
     requires due { next_of (stage_of actor.old.stage) ≡ next }
-    requires some { next ≢ Next.Nothing }
-    requires apart { next ≢ Next.Word }
-    ensures turned { IfOk result (λ done. Turned (opening_of table.now) seat.old actor.old seat.new done.0) }
-    ensures receipt { IfOk result (λ done. commits (actor_of_seat seat.old) actor.old ≡ as_receipts (actor_of_seat seat.old) done.1) }
+    requires gate { IsOnGate next }
+    ensures turned { IfOk result (Turned (opening_of table.now) seat.old actor.old seat.new) }
+    ensures receipt { commits (actor_of_seat seat.old) actor.old ≡ [] }
     ensures ties { Ties table.now seat.new actor.new }
     ensures own { HasOwn table.now seat.new actor.new bases.new.items }
     ensures starved { OnErr result ((said : Tells V) × IsGivenUp (opening_of table.now) seat.old actor.old seat.new said) }
@@ -146,23 +146,24 @@ fn turn_apart<V: Value>(
     match next {
         Next::Nothing => unreachable!(),
         Next::Word => unreachable!(),
-        Next::TryGate(k) => Ok((try_next(table, seat, actor, bases, k)?, None)),
-        Next::Copy(k) => Ok((copy_base(alloc, table, seat, actor, bases, k)?, None)),
-        Next::FirstStore => store_next(alloc, table, seat, actor, bases),
-        Next::GoHome(k) => Ok((go_home(alloc, table, seat, actor, bases, k), None)),
-        Next::PutGate(k) => Ok((put_gate(table, seat, actor, bases, k), None)),
+        Next::FirstStore => unreachable!(),
+        Next::TryGate(k) => try_next(table, seat, actor, bases, k),
+        Next::Copy(k) => copy_base(alloc, table, seat, actor, bases, k),
+        Next::GoHome(k) => Ok(go_home(alloc, table, seat, actor, bases, k)),
+        Next::PutGate(k) => Ok(put_gate(table, seat, actor, bases, k)),
     }
 }
 
 /// The next turn of a request that is under way, with the receipt that it makes. Where memory is wanting, which only a try of a gate, what
 /// a call copies and the first value store of a commit take, the request is given up: no step is taken, or the gate of a call that is to
 /// read a location was put back.
+#[inline(never)]
 pub fn turn<V: Value>(
     alloc: Global,
     table: &TxTable<V>,
     seat: &mut Seat<V>,
     actor: &mut TxActor<V>,
-    bases: &mut Vec<Base<V>>,
+    bases: &mut Vec<Boxed<Base<V>>>,
 ) -> Result<(Told<V>, Option<Record<V>>), Memory>
     requires ties { Ties table.now seat.old actor.old }
     requires own { HasOwn table.now seat.old actor.old bases.old.items }
@@ -177,6 +178,10 @@ pub fn turn<V: Value>(
     match actor.next() {
         Next::Nothing => unreachable!(),
         Next::Word => Ok(step(alloc, table, seat, actor, bases.as_slice())),
-        next => turn_apart(alloc, table, seat, actor, bases, next),
+        Next::FirstStore => store_next(alloc, table, seat, actor, bases),
+        next => match turn_on_gate(alloc, table, seat, actor, bases, next) {
+            Ok(told) => Ok((told, None)),
+            Err(_) => Err(Memory),
+        },
     }
 }

@@ -10,6 +10,7 @@ ghost use Rattle.gate_turns.specs.Own.{HasOwn};
 use actor_copies::copies_stay;
 use actor_copies::laws::calls_as_worlds;
 use actor_turns::laws::events_keep_copies;
+use boxes::Boxed;
 use replay_log::Base;
 use seq_model::{Event, Memory, Request, Value};
 use std::alloc::Global;
@@ -29,7 +30,7 @@ pub fn ask<V: Value>(
     table: &TxTable<V>,
     seat: &mut Seat<V>,
     actor: &mut TxActor<V>,
-    bases: &[Base<V>],
+    bases: &[Boxed<Base<V>>],
     request: Request<V>,
 ) -> Result<Told<V>, Memory>
     requires ties { Ties table.now seat.old actor.old }

@@ -1,5 +1,5 @@
 //! Turns on the gates.
-ghost use Rattle.std.specs.Prelude.{◌≡◌, ◌<◌, ◌∷◌, IfOk, OnErr, OnOk, length};
+ghost use Rattle.std.specs.Prelude.{◌≡◌, ◌<◌, ◌∷◌, IfOk, OnErr, OnOk, length, slice_index_or};
 ghost use Rattle.seq_model.specs.declared.event.Event.TheVariants.{Starve};
 ghost use Rattle.actor_words.specs.Dispatch.{next_of};
 ghost use Rattle.tx_actor.specs.Running.{stage_of};
@@ -14,16 +14,26 @@ use actor_copies::{copied_as_worlds, copies_go_on, copies_stay, sizes_copies};
 use actor_turns::laws::events_keep_copies;
 use actor_words::Next;
 use actor_words::laws::steps_as_worlds;
+use boxes::Boxed;
 use replay_log::Base;
 use seq_model::{Event, Memory, Value};
 use std::alloc::Global;
+use std::hint::spin_loop;
 use std::thread::yield_now;
 use tx_actor::laws::{copied_stay_own, copies_by_stage, copies_stay_own};
-use tx_actor::{Told, TxActor};
+use tx_actor::{Stage, Told, TxActor};
 use tx_table::{Seat, TxTable};
 
+/// The first base in hand.
+fn front<V: Value>(bases: &Vec<Boxed<Base<V>>>) -> &Base<V>
+    requires { 0 < length bases.now.items }
+    ensures { result.now ≡ slice_index_or bases.now.items 0 result.now }
+{
+    bases[0].get()
+}
+
 /// The first base in hand, which is taken out of it.
-pub(crate) fn first<V: Value>(bases: &mut Vec<Base<V>>) -> Base<V>
+pub(crate) fn first<V: Value>(bases: &mut Vec<Boxed<Base<V>>>) -> Boxed<Base<V>>
     requires { 0 < length bases.old.items }
     ensures { bases.old.items ≡ result ∷ bases.new.items }
 {
@@ -37,6 +47,29 @@ fn refuse<V: Value>(seat: &mut Seat<V>)
     seat.ask(&Event::Starve(0));
 }
 
+/// Whether this is one of the first 16 tries on a gate, with 48 or more left after it.
+fn is_early<V>(stage: &Stage<V>) -> bool {
+    if let Stage::Trying(_, left) = stage {
+        return *left >= 48;
+    }
+    if let Stage::Gating(_, _, left) = stage {
+        return *left >= 48;
+    }
+    false
+}
+
+/// What a try waits that found its gate taken. The one that holds it is done within a microsecond where it has a core, so an early try
+/// pauses for a moment, and then the thread yields.
+#[inline(never)]
+fn wait<V>(stage: &Stage<V>) {
+    if is_early(stage) {
+        for _ in 0..20 {
+            spin_loop();
+        }
+    }
+    yield_now();
+}
+
 /// A try on the gate of a collection. Where it was free its base comes into hand; where it was taken the thread yields, as the one that
 /// holds it may wait for a core, and at the 64th time the transaction is given up, `GateBusy`. Where memory is refused no step is taken,
 /// and the actor is as it was.
@@ -44,7 +77,7 @@ pub fn try_gate<V: Value>(
     table: &TxTable<V>,
     seat: &mut Seat<V>,
     actor: &mut TxActor<V>,
-    bases: &mut Vec<Base<V>>,
+    bases: &mut Vec<Boxed<Base<V>>>,
     k: u32,
 ) -> Result<Told<V>, Memory>
     requires ties { Ties table.now seat.old actor.old }
@@ -68,7 +101,7 @@ pub fn try_gate<V: Value>(
             Ok(actor.tried_gate(true))
         }
         None => {
-            yield_now();
+            wait(&actor.stage);
             Ok(actor.tried_gate(false))
         }
     }
@@ -79,7 +112,7 @@ pub fn put_gate<V: Value>(
     table: &TxTable<V>,
     seat: &mut Seat<V>,
     actor: &mut TxActor<V>,
-    bases: &mut Vec<Base<V>>,
+    bases: &mut Vec<Boxed<Base<V>>>,
     k: u32,
 ) -> Told<V>
     requires ties { Ties table.now seat.old actor.old }
@@ -103,7 +136,7 @@ fn copy_here<V: Value>(
     table: &TxTable<V>,
     seat: &mut Seat<V>,
     actor: &mut TxActor<V>,
-    bases: &mut Vec<Base<V>>,
+    bases: &mut Vec<Boxed<Base<V>>>,
     k: u32,
 ) -> Result<Told<V>, Memory>
     requires ties { Ties table.now seat.old actor.old }
@@ -123,7 +156,7 @@ fn copy_here<V: Value>(
     copies_stay_own::<V>();
     copied_stay_own::<V>();
     events_keep_copies::<V>();
-    match actor.copied(alloc, table.blocks(), &bases[0]) {
+    match actor.copied(alloc, table.blocks(), front(bases)) {
         Ok(told) => {
             let base = first(bases);
             table.put_gate(seat, k, base);
@@ -145,7 +178,7 @@ pub fn copy_base<V: Value>(
     table: &TxTable<V>,
     seat: &mut Seat<V>,
     actor: &mut TxActor<V>,
-    bases: &mut Vec<Base<V>>,
+    bases: &mut Vec<Boxed<Base<V>>>,
     k: u32,
 ) -> Result<Told<V>, Memory>
     requires ties { Ties table.now seat.old actor.old }
@@ -166,7 +199,7 @@ pub fn copy_base<V: Value>(
     copied_stay_own::<V>();
     events_keep_copies::<V>();
     let blocks = table.blocks();
-    match actor.takes(alloc, blocks, &bases[0]) {
+    match actor.takes(alloc, blocks, front(bases)) {
         Ok(Some(taken)) => {
             let base = first(bases);
             table.put_gate(seat, k, base);

@@ -13,6 +13,7 @@ use actor_copies::laws::logs_as_worlds;
 use actor_turns::laws::events_keep_copies;
 use actor_words::Next;
 use actor_words::laws::{goes_on_as_worlds, steps_as_worlds};
+use boxes::Boxed;
 use replay_log::Base;
 use seq_model::{Memory, Record, Value};
 use std::alloc::Global;
@@ -23,7 +24,7 @@ use tx_table::{Seat, TxTable};
 
 fn prepare_base<V: Value>(
     actor: &TxActor<V>,
-    bases: &mut Vec<Base<V>>,
+    bases: &mut Vec<Boxed<Base<V>>>,
     i: usize,
     k: u32,
 ) -> Result<(), Memory>
@@ -31,7 +32,7 @@ fn prepare_base<V: Value>(
     ensures prepared { OnOk result (OneIsPrepared actor.now.copies.items k i bases.old.items bases.new.items) }
     ensures alike { AreAlike bases.old.items bases.new.items }
 {
-    actor.prepares_base(k, &mut bases[i])
+    actor.prepares_base(k, bases[i].get_mut())
 }
 
 /// Makes room in the bases in hand, which are those of these collections, for the logs of the actor's calls there. They hold what they did,
@@ -39,7 +40,7 @@ fn prepare_base<V: Value>(
 fn prepare_bases<V: Value>(
     actor: &TxActor<V>,
     homes: &VecDeque<u32>,
-    bases: &mut Vec<Base<V>>,
+    bases: &mut Vec<Boxed<Base<V>>>,
 ) -> Result<(), Memory>
     requires { length homes.now.items ≡ length bases.old.items }
     ensures prepared { OnOk result (ArePrepared actor.now.copies.items homes.now.items bases.new.items) }
@@ -51,7 +52,7 @@ fn prepare_bases<V: Value>(
     Ok(())
 }
 
-fn prepare<V: Value>(actor: &TxActor<V>, bases: &mut Vec<Base<V>>) -> Result<(), Memory>
+fn prepare<V: Value>(actor: &TxActor<V>, bases: &mut Vec<Boxed<Base<V>>>) -> Result<(), Memory>
     requires due { next_of (stage_of actor.now.stage) ≡ Next.FirstStore }
     requires count { length (gates_at actor.now.stage) ≡ length bases.old.items }
     ensures prepared { OnOk result (ArePrepared actor.now.copies.items (gates_at actor.now.stage) bases.new.items) }
@@ -70,7 +71,7 @@ pub fn commit<V: Value>(
     table: &TxTable<V>,
     seat: &mut Seat<V>,
     actor: &mut TxActor<V>,
-    bases: &mut Vec<Base<V>>,
+    bases: &mut Vec<Boxed<Base<V>>>,
 ) -> Result<(Told<V>, Record<V>), Memory>
     requires ties { Ties table.now seat.old actor.old }
     requires own { HasOwn table.now seat.old actor.old bases.old.items }
@@ -100,7 +101,7 @@ pub fn go_home<V: Value>(
     table: &TxTable<V>,
     seat: &mut Seat<V>,
     actor: &mut TxActor<V>,
-    bases: &mut Vec<Base<V>>,
+    bases: &mut Vec<Boxed<Base<V>>>,
     k: u32,
 ) -> Told<V>
     requires ties { Ties table.now seat.old actor.old }
@@ -117,7 +118,7 @@ pub fn go_home<V: Value>(
     copies_by_stage::<V>();
     let mut log = actor.log_of(alloc, k);
     let mut base = first(bases);
-    log.fold(&mut base);
+    log.fold(base.get_mut());
     table.put_gate(seat, k, base);
     let told = actor.went_home();
     actor.keep_log(log);

@@ -8,6 +8,7 @@ ghost use Rattle.gate_turns.specs.Own.{HasOwn};
 
 use actor_copies::copies_stay;
 use actor_words::laws::steps_as_worlds;
+use boxes::Boxed;
 use replay_log::Base;
 use seq_model::Value;
 use tx_actor::laws::{
@@ -23,7 +24,7 @@ pub fn load_word<V: Value>(
     table: &TxTable<V>,
     seat: &mut Seat<V>,
     actor: &mut TxActor<V>,
-    bases: &[Base<V>],
+    bases: &[Boxed<Base<V>>],
 ) -> Told<V>
     requires ties { Ties table.now seat.old actor.old }
     requires own { HasOwn table.now seat.old actor.old bases.now }

@@ -1,2 +1,3 @@
 pub mod Shadow
 pub mod Memo
+pub mod KeyPlace

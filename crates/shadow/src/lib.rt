@@ -13,5 +13,5 @@ pub mod laws;
 mod memo;
 mod shadow;
 
-pub use memo::{Memo, MemoKind};
+pub use memo::{KeyPlace, Memo, MemoKind};
 pub use shadow::Shadow;

@@ -1,12 +1,16 @@
 //! What a transaction keeps of the single keys that it touched, and of the number of all keys.
-ghost use Rattle.std.specs.Prelude.{◌≡◌, ◌<◌, ◌≤◌, ◌++◌, ◌^◌, ◌+◌, ◌-◌, [], Some, None, length, option_to_list, unwrap_or, IfOk, IfErr, OnOk, OnErr};
+ghost use Rattle.std.specs.Prelude.{◌≡◌, ◌<◌, ◌≤◌, ◌++◌, ◌^◌, ◌+◌, ◌-◌, [], ◌∷◌, Some, None, length, option_to_list, unwrap_or};
+ghost use Rattle.std.specs.Prelude.{IfOk, IfErr, IfSome, OnOk, OnErr};
 ghost use Rattle.std.specs.FinMap as map;
 ghost use Rattle.std.specs.List.{sum};
 ghost use Rattle.seq_model.specs.Calls.{IsRefusal};
 ghost use Rattle.seq_model.specs.Counts.{copies};
+ghost use Rattle.seq_model.specs.declared.call.Op.TheVariants.{Remove};
 ghost use Rattle.conflict.specs.Refusals.{IsTooLong, IsStripeCount};
 ghost use Rattle.base_bag.specs.Conflicts as bag;
+ghost use Rattle.base_map.specs.Conflicts as of_map;
 ghost use Rattle.replay_log.specs.Base.{changes_of, reads_of, shown_of, stripes_of, writes_of};
+ghost use Rattle.shadow.specs.KeyPlace.{written_there};
 ghost use Rattle.shadow.specs.Memo.{IsReadyFor, answer_with, copies_after, copies_kept, copies_without, entries_after, entries_kept};
 ghost use Rattle.shadow.specs.Memo.{entries_without, grown_after, grown_kept, holds, kind_room, map_answer, shape, shrunk_after};
 ghost use Rattle.shadow.specs.Memo.{shrunk_kept, total_without, with_count, with_counts, with_entry, with_key, with_total, IsTold};
@@ -26,6 +30,13 @@ const KEY_LIMIT: u64 = 1 << 63;
 pub enum MemoKind {
     Map,
     Bag,
+}
+
+/// The location of a key, and whether a call on the key writes it.
+#[derive(Clone, Copy)]
+pub struct KeyPlace {
+    pub location: u32,
+    pub written: bool,
 }
 
 /// The keys that were touched, with what they have after the changes of the accepted calls, and the log of these. Of a map also the
@@ -101,7 +112,7 @@ impl<V: Drop> Memo<V> {
         ensures changes { self.new.changes ≡ [] }
         ensures locations { self.new.locations ≡ [] }
     {
-        self.ready = None;
+        unready(&mut self.ready);
         self.entries.clear();
         self.copies.clear();
         self.total = None;
@@ -110,22 +121,12 @@ impl<V: Drop> Memo<V> {
         self.log.clear();
     }
 
-    /// Has the memory of this log from now on, whatever it keeps, in place of its own. It keeps no accepted call any more, and no key.
-    pub fn use_log(&mut self, log: Log<V>)
-        ensures changes { self.new.changes ≡ [] }
-        ensures locations { self.new.locations ≡ [] }
-    {
-        self.ready = None;
-        self.log = log;
-        self.clear();
-    }
-
     /// Hands the log of the accepted changes out, and keeps no key any more. The other memory stays.
     pub fn take_log(&mut self) -> Log<V>
         ensures changes { result.changes ≡ self.old.changes }
         ensures locations { result.locations ≡ self.old.locations }
     {
-        self.ready = None;
+        unready(&mut self.ready);
         let log = mem::replace(&mut self.log, Log::new(self.alloc));
         self.clear();
         log
@@ -164,44 +165,28 @@ impl<V: Value> Memo<V> {
         })
     }
 
-    /// What `new` makes, of the memory of this memo, whatever it keeps.
-    pub fn renew(self, stripes: u32, kind: MemoKind) -> Result<Memo<V>, Refusal>
-        ensures blank { IfOk result (λ memo. shown_of memo.blank ≡ shape kind) }
-        ensures stripes { IfOk result (λ memo. stripes_of memo.blank ≡ stripes) }
-        ensures entries { IfOk result (λ memo. memo.entries ≡ map.empty) }
-        ensures copies { IfOk result (λ memo. memo.copies ≡ map.empty) }
-        ensures total { IfOk result (λ memo. memo.total ≡ None) }
-        ensures grown { IfOk result (λ memo. memo.grown ≡ 0) }
-        ensures shrunk { IfOk result (λ memo. memo.shrunk ≡ 0) }
-        ensures changes { IfOk result (λ memo. memo.changes ≡ []) }
-        ensures locations { IfOk result (λ memo. memo.locations ≡ []) }
+    /// Is from now on what `new` makes, in its own memory and in that of this log, whatever both keep.
+    pub fn renew(&mut self, stripes: u32, kind: MemoKind, log: Log<V>) -> Result<(), Refusal>
+        ensures blank { OnOk result (shown_of self.new.blank ≡ shape kind) }
+        ensures stripes { OnOk result (stripes_of self.new.blank ≡ stripes) }
+        ensures entries { OnOk result (self.new.entries ≡ map.empty) }
+        ensures copies { OnOk result (self.new.copies ≡ map.empty) }
+        ensures total { OnOk result (self.new.total ≡ None) }
+        ensures grown { OnOk result (self.new.grown ≡ 0) }
+        ensures shrunk { OnOk result (self.new.shrunk ≡ 0) }
+        ensures changes { OnOk result (self.new.changes ≡ []) }
+        ensures locations { OnOk result (self.new.locations ≡ []) }
         ensures refused { IfErr result (λ refusal. IsTooLong refusal (IsStripeCount stripes)) }
     {
         if !is_stripe_count(stripes) {
             return Err(Refusal::TooLong);
         }
-        let Memo {
-            alloc,
-            mut entries,
-            mut copies,
-            mut log,
-            ..
-        } = self;
-        entries.clear();
-        copies.clear();
-        log.clear();
-        Ok(Memo {
-            kind,
-            stripes,
-            alloc,
-            entries,
-            copies,
-            total: None,
-            grown: 0,
-            shrunk: 0,
-            log,
-            ready: None,
-        })
+        unready(&mut self.ready);
+        self.kind = kind;
+        self.stripes = stripes;
+        self.log = log;
+        self.clear();
+        Ok(())
     }
 
     /// Whether the key of the call is held, or for the number of all keys their counts. It takes no memory.
@@ -234,7 +219,7 @@ impl<V: Value> Memo<V> {
         ensures err { OnErr result
             ((self.new.entries ≡ self.old.entries) × (self.new.copies ≡ self.old.copies) × (self.new.total ≡ self.old.total)) }
     {
-        self.ready = None;
+        unready(&mut self.ready);
         match held {
             Touched::Entry(key, value) => hold(&mut self.entries, key, value),
             Touched::Copies(element, copies) => hold(&mut self.copies, element, copies),
@@ -254,7 +239,7 @@ impl<V: Value> Memo<V> {
         ensures changes { self.new.changes ≡ self.old.changes }
         ensures locations { self.new.locations ≡ self.old.locations }
     {
-        self.ready = None;
+        unready(&mut self.ready);
         match op {
             Op::Get(key) | Op::Put(key, _) | Op::Remove(key) => self.entries.remove(*key),
             Op::Count(element) | Op::Add(element) | Op::Take(element) => {
@@ -305,7 +290,7 @@ impl<V: Value> Memo<V> {
         ensures changes { self.new.changes ≡ self.old.changes }
         ensures locations { self.new.locations ≡ self.old.locations }
     {
-        self.ready = None;
+        unready(&mut self.ready);
         if self.grown >= KEY_LIMIT || self.shrunk >= KEY_LIMIT {
             return Err(Memory);
         }
@@ -364,6 +349,20 @@ impl<V: Value> Memo<V> {
         }
     }
 
+    /// Where the key of an outcome lies, which is all that it reads, and whether it writes there, which is all that it writes; none for
+    /// an outcome on no key.
+    pub fn key_place(&self, outcome: &Outcome<V>) -> Option<KeyPlace>
+        ensures reads { IfSome result (λ at.
+            reads_of (stripes_of self.now.blank) outcome.now (shown_of self.now.blank) ≡ at.location ∷ []) }
+        ensures writes { IfSome result (λ at.
+            writes_of (stripes_of self.now.blank) outcome.now (shown_of self.now.blank) ≡ written_there at) }
+    {
+        match self.kind {
+            MemoKind::Map => entry_place(self.stripes, outcome),
+            MemoKind::Bag => copies_place(self.stripes, outcome),
+        }
+    }
+
     fn change_of(&self, outcome: &Outcome<V>) -> Result<Option<Change<V>>, Memory>
         ensures { IfOk result (λ change. option_to_list change ≡ changes_of outcome.now (shown_of self.now.blank)) }
     {
@@ -387,6 +386,58 @@ impl<V: Value> Memo<V> {
     {
         let Memo { log, .. } = self;
         log
+    }
+}
+
+// Nothing is ready any more. There is seldom something, and to let it go takes a function of its own.
+fn unready<V: Drop>(ready: &mut Option<Ready<V>>)
+    ensures { ready.new ≡ None }
+{
+    if ready.is_some() {
+        let_go(ready);
+    }
+}
+
+#[inline(never)]
+fn let_go<V: Drop>(ready: &mut Option<Ready<V>>)
+    ensures { ready.new ≡ None }
+{
+    *ready = None;
+}
+
+fn entry_place<V>(stripes: u32, outcome: &Outcome<V>) -> Option<KeyPlace>
+    requires { 0 < stripes }
+    ensures reads { IfSome result (λ at. of_map.reads_of stripes outcome.now ≡ at.location ∷ []) }
+    ensures writes { IfSome result (λ at. of_map.writes_of stripes outcome.now ≡ written_there at) }
+{
+    match (&outcome.op, &outcome.reply) {
+        (Op::Put(key, _), _) | (Op::Remove(key), Reply::Value(_)) => Some(KeyPlace {
+            location: base_map::place_in(stripes, *key),
+            written: true,
+        }),
+        (Op::Get(key) | Op::Remove(key), _) => Some(KeyPlace {
+            location: base_map::place_in(stripes, *key),
+            written: false,
+        }),
+        _ => None,
+    }
+}
+
+fn copies_place<V>(stripes: u32, outcome: &Outcome<V>) -> Option<KeyPlace>
+    requires { 0 < stripes }
+    ensures reads { IfSome result (λ at. bag.reads_of stripes outcome.now ≡ at.location ∷ []) }
+    ensures writes { IfSome result (λ at. bag.writes_of stripes outcome.now ≡ written_there at) }
+{
+    match (&outcome.op, &outcome.reply) {
+        (Op::Add(element), Reply::Done) | (Op::Take(element), Reply::Yes) => Some(KeyPlace {
+            location: base_bag::place_in(stripes, *element),
+            written: true,
+        }),
+        (Op::Count(element) | Op::Add(element) | Op::Take(element), _) => Some(KeyPlace {
+            location: base_bag::place_in(stripes, *element),
+            written: false,
+        }),
+        _ => None,
     }
 }
 
@@ -516,10 +567,20 @@ fn keep_entry<V: Drop>(entries: &mut Table<Option<V>>, outcome: Outcome<V>)
     requires { 0 < entries.old.room }
     ensures { entries.new.contents ≡ entries_after outcome.op outcome.reply entries.old.contents }
 {
-    match (outcome.op, outcome.reply) {
-        (Op::Put(key, value), _) => entries.insert_reserved(key, Some(value)),
-        (Op::Remove(key), Reply::Value(_)) => entries.insert_reserved(key, None),
+    let Outcome { op, reply, .. } = outcome;
+    match op {
+        Op::Put(key, value) => entries.insert_reserved(key, Some(value)),
+        Op::Remove(key) => keep_removed(entries, key, &reply),
         _ => {}
+    }
+}
+
+fn keep_removed<V: Drop>(entries: &mut Table<Option<V>>, key: u64, reply: &Reply<V>)
+    requires { 0 < entries.old.room }
+    ensures { entries.new.contents ≡ entries_after (Remove key) reply.now entries.old.contents }
+{
+    if let Reply::Value(_) = reply {
+        entries.insert_reserved(key, None);
     }
 }
 

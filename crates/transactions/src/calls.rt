@@ -10,6 +10,7 @@ ghost use Rattle.driven_turns.specs.Driven.{standing};
 ghost use Rattle.transactions.specs.Requests.{CallsTo, IsCallTold, IsCalling, IsDriven, IsOpen, KeepsReceipts, told_of};
 
 use crate::requests::abort;
+use boxes::Boxed;
 use driven_turns::drive;
 use gate_turns::ask;
 use replay_log::Base;
@@ -36,7 +37,7 @@ fn driven_call<V: Value>(
     table: &TxTable<V>,
     seat: &mut Seat<V>,
     actor: &mut TxActor<V>,
-    bases: &mut Vec<Base<V>>,
+    bases: &mut Vec<Boxed<Base<V>>>,
 ) -> Result<Reply<V>, Refusal>
     requires ties { Ties table.now seat.old actor.old }
     requires own { HasOwn table.now seat.old actor.old [] }
@@ -56,7 +57,7 @@ pub(crate) fn ask_open<V: Value>(
     table: &TxTable<V>,
     seat: &mut Seat<V>,
     actor: &mut TxActor<V>,
-    bases: &mut Vec<Base<V>>,
+    bases: &mut Vec<Boxed<Base<V>>>,
     request: Request<V>,
 ) -> Result<Told<V>, Refusal>
     requires ties { Ties table.now seat.old actor.old }
@@ -92,7 +93,7 @@ pub fn call<V: Value>(
     table: &TxTable<V>,
     seat: &mut Seat<V>,
     actor: &mut TxActor<V>,
-    bases: &mut Vec<Base<V>>,
+    bases: &mut Vec<Boxed<Base<V>>>,
     call: Call<V>,
 ) -> Result<Reply<V>, Refusal>
     requires ties { Ties table.now seat.old actor.old }

@@ -9,6 +9,7 @@ ghost use Rattle.tx_turns.specs.Ties.{Ties};
 ghost use Rattle.gate_turns.specs.Own.{HasOwn};
 
 use crate::calls::ask_open;
+use boxes::Boxed;
 use driven_turns::drive;
 use replay_log::Base;
 use seq_model::{Record, Refusal, Request, Value};
@@ -36,7 +37,7 @@ fn committed<V: Value>(
     table: &TxTable<V>,
     seat: &mut Seat<V>,
     actor: &mut TxActor<V>,
-    bases: &mut Vec<Base<V>>,
+    bases: &mut Vec<Boxed<Base<V>>>,
 ) -> Result<Record<V>, Refusal>
     requires ties { Ties table.now seat.old actor.old }
     requires own { HasOwn table.now seat.old actor.old [] }
@@ -66,7 +67,7 @@ pub fn commit<V: Value>(
     table: &TxTable<V>,
     seat: &mut Seat<V>,
     actor: &mut TxActor<V>,
-    bases: &mut Vec<Base<V>>,
+    bases: &mut Vec<Boxed<Base<V>>>,
 ) -> Result<Record<V>, Refusal>
     requires ties { Ties table.now seat.old actor.old }
     requires own { HasOwn table.now seat.old actor.old [] }

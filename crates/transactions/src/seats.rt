@@ -8,6 +8,7 @@ ghost use Rattle.driven_turns.specs.Driven.{standing};
 ghost use Rattle.transactions.specs.Ready.{HasBegunSince, HasOpened, IsNew, IsReady};
 ghost use Rattle.transactions.specs.Requests.{CallsTo, HasCommitted, IsBegun, IsEnded, IsNotBegun, IsOpen, KeepsReceipts, has_written};
 
+use boxes::Boxed;
 use replay_log::Base;
 use seq_model::{Call, Op, Record, Refusal, Reply, Value};
 use std::alloc::Global;
@@ -20,7 +21,7 @@ pub struct TxSeat<V> {
     pub seat: Seat<V>,
     pub actor: TxActor<V>,
     /// Where the bases lie that a request takes on its way. Between requests there are none, and the room is kept.
-    pub(crate) bases: Vec<Base<V>>,
+    pub(crate) bases: Vec<Boxed<Base<V>>>,
     pub(crate) alloc: Global,
 }
 

@@ -45,8 +45,11 @@ use Rattle.tx_actor.specs.declared.actor.Asked.{Asked}
 use Rattle.tx_actor.specs.declared.actor.Stage.TheVariants as stage
 use Rattle.tx_actor.specs.declared.actor.Told.{Told}
 use Rattle.tx_actor.specs.declared.actor.TxActor.{TxActor}
-use Rattle.tx_actor.specs.declared.prepares.Readied.{Readied}
-use Rattle.tx_actor.specs.Copying.{AreReadyAt, CanCopy, IsReadyAt, MayCopy}
+use Rattle.tx_actor.specs.declared.prepares.Prepared.{Prepared}
+use Rattle.tx_actor.specs.Copying.{AreReadyIn, CanCopy, IsReadyAt, MayCopy}
+use Rattle.tx_actor.specs.declared.actor.Answered as running
+use Rattle.std.specs.declared.alloc.Global.{Global}
+use Rattle.std.specs.declared.collections.VecDeque.{VecDeque}
 use Rattle.tx_actor.specs.Keeping.{KeepsIn}
 use Rattle.tx_actor.specs.Prepares.{AreReadied, IsAlike, MayPrepare}
 use Rattle.tx_actor.specs.Running.{KnowsHomes, Runs, asked_of, at, seat_at, seat_of}
@@ -277,27 +280,31 @@ module _ {V : Type 0} where
       subst (λ (q : TxActor V). MayPrepare q i f asked.op) (sym from.same)
       (may_prepare r c.stripes f i from.found asked from.copies may from.at)
 
-  pub taken_ready : (v : BlocksView) (r m u : TxActor V) (base : Base V) (asked : Asked V) (i f : ℕ) (x : Readied V)
-      → f ≡ first_of v.words v.blocks asked.collection → AreTakenBy v r m base asked i → IsAlike m u
-      → ((c : CopyOf V) → slice_get m.copies.items i ≡ Some c → AreReadied m u i f asked.op c (Some x))
-      → AreReadyAt v r u base asked (Some (i, x))
-  taken_ready v r m u base asked i f x first from alike ready =
-      let q : TxActor V = record r { copies = from.copies } in
+  pub taken_ready : (v : BlocksView) (r m u : TxActor V) (base : Base V) (asked : Asked V) (i f : ℕ) (d : running.Answered V)
+      (left : VecDeque (ℕ × ℕ) Global) → f ≡ first_of v.words v.blocks asked.collection → AreTakenBy v r m base asked i → IsAlike m u
+      → ((c : CopyOf V) → slice_get m.copies.items i ≡ Some c → AreReadied m u i f asked c d (Some left))
+      → AreReadyIn v r u base asked d (Some left)
+  taken_ready v r m u base asked i f d left first from alike ready =
+      let x : Prepared V = record { call = d; left = left } in
       let c : CopyOf V = copy_with asked.collection from.at.copy in
       let there = taken_there from.block.stripes asked.collection i from.found r.copies.items from.copies.items from.at in
-      let here = subst (λ (p : TxActor V). (c : CopyOf V) → slice_get p.copies.items i ≡ Some c → AreReadied p u i f asked.op c (Some x))
-      from.same ready in (
-        from.block,
-        from.found,
-        from.there,
-        from.is,
-        subst (λ (g : ℕ). IsReadyAt r u from.block.stripes g from.found asked i x) first
-            (record {
-              copies = from.copies;
-              at = from.at;
-              alike = subst (λ (p : TxActor V). IsAlike p u) from.same alike;
-              ready = here c there.1 asked refl refl;
-            }),
+      let here = subst (λ (p : TxActor V). (c : CopyOf V) → slice_get p.copies.items i ≡ Some c → AreReadied p u i f asked c d (Some left))
+      from.same ready c there.1 in (
+        i,
+        here.0,
+        (
+          from.block,
+          from.found,
+          from.there,
+          from.is,
+          subst (λ (g : ℕ). IsReadyAt r u from.block.stripes g from.found asked i x) first
+              (record {
+                copies = from.copies;
+                at = from.at;
+                alike = subst (λ (p : TxActor V). IsAlike p u) from.same alike;
+                ready = here.1 refl;
+              }),
+        ),
       )
 
   -- ---- the bounds and the room

@@ -54,7 +54,6 @@ use Rattle.tx_actor.specs.declared.actor.Told.{Told}
 use Rattle.tx_actor.specs.declared.actor.Told.TheVariants as told
 use Rattle.tx_actor.specs.declared.actor.TxActor.{TxActor}
 use Rattle.tx_actor.specs.declared.prepares.Prepared.{Prepared}
-use Rattle.tx_actor.specs.declared.prepares.Readied.{Readied}
 use Rattle.tx_actor.specs.Answers.{MayAccept, MayAnswer}
 use Rattle.tx_actor.specs.Copying.{AreReadyAt, CanCopy, IsReadyAt, IsUnmoved, MayCopy, MayTake, StepsOn}
 use Rattle.tx_actor.specs.Dispatch.{Starves}
@@ -211,7 +210,7 @@ module _ {V : Type 0} where
 
   -- ---- it goes on
   module _ (v : BlocksView) (w : World V) (a : ℕ) (r u : TxActor V) (base : Base V) (asked : Asked V) (b : Block) (found : Found V) (i : ℕ)
-      (x : Readied V) (laid : IsLaid v w) (can : CanCopy v r base asked)
+      (x : Prepared V) (laid : IsLaid v w) (can : CanCopy v r base asked)
       (s : Runs a (at r (stage.Copying asked)) w) (may : MayCopy v w a (at r (stage.Copying asked)) base asked)
       (there : block_of v.blocks asked.collection ≡ Some b) (is : IsFound base asked.op found)
       (ready : IsReadyAt r u b.stripes (first_of v.words v.blocks asked.collection) found asked i x) where
@@ -381,7 +380,7 @@ module _ {V : Type 0} where
     goes_on_in n h does =
         by_result n h a _ _ steps_to (does a t own.outcome (back_words ∙ now_words) answers)
 
-  pub goes_on_as : (v : BlocksView) (r u n : TxActor V) (h : Told V) (base : Base V) (asked : Asked V) (i : ℕ) (x : Readied V)
+  pub goes_on_as : (v : BlocksView) (r u n : TxActor V) (h : Told V) (base : Base V) (asked : Asked V) (i : ℕ) (x : Prepared V)
       → CanCopy v r base asked → AreReadyAt v r u base asked (Some (i, x))
       → load.GoesOn u n h (prepared_of x asked i).call (prepared_of x asked i).left.items
       → StepsOn v (at r (stage.Copying asked)) n h base asked
@@ -422,7 +421,7 @@ module _ {V : Type 0} where
         holds = holds;
       }
 
-  pub keeps_going : (v : BlocksView) (r u n : TxActor V) (base : Base V) (asked : Asked V) (i : ℕ) (x : Readied V) → CanCopy v r base asked
+  pub keeps_going : (v : BlocksView) (r u n : TxActor V) (base : Base V) (asked : Asked V) (i : ℕ) (x : Prepared V) → CanCopy v r base asked
       → AreReadyAt v r u base asked (Some (i, x)) → HasNoReads r.words
       → (let p = prepared_of x asked i in CanGoOn v u p.call p.left.items → KeepsIn v (at u stage.Idle) n)
       → KeepsIn v (at r (stage.Copying asked)) n

@@ -45,7 +45,6 @@ use Rattle.tx_actor.specs.declared.actor.Told.{Told}
 use Rattle.tx_actor.specs.declared.actor.Told.TheVariants as told
 use Rattle.tx_actor.specs.declared.actor.TxActor.{TxActor}
 use Rattle.tx_actor.specs.declared.prepares.Prepared.{Prepared}
-use Rattle.tx_actor.specs.declared.prepares.Readied.{Readied}
 use Rattle.tx_actor.specs.Copying.{CanCopy, HasTaken, IsReadyAt, MayCopy}
 use Rattle.tx_actor.specs.Having.{HasCopies, HasCopiesAt, HasGone, OwnsAll, OwnsLoading}
 use Rattle.tx_actor.specs.Prepares.{prepared_of}
@@ -100,7 +99,7 @@ module _ {V : Type 0} where
   -- ---- what was taken
   module _ (stays : StaysLaw V) (joins : JoinsLaw V) (back : BackLaw V) (v : BlocksView) (w : World V) (a : ℕ) (r u n : TxActor V)
       (t : Told V)
-      (base : Base V) (asked : Asked V) (b : Block) (found : Found V) (i : ℕ) (x : Readied V) (laid : IsLaid v w)
+      (base : Base V) (asked : Asked V) (b : Block) (found : Found V) (i : ℕ) (x : Prepared V) (laid : IsLaid v w)
       (can : CanCopy v r base asked)
       (s : Runs a (at r (stage.Copying asked)) w) (may : MayCopy v w a (at r (stage.Copying asked)) base asked)
       (there : block_of v.blocks asked.collection ≡ Some b) (is : IsFound base asked.op found)

@@ -1,6 +1,8 @@
 -- What a call makes of an actor that holds the gate of its collection, and is given the base.
 use Rattle.std.specs.Prelude.{◌≡◌, ◌⊎◌, ℕ, ◌+◌, ◌<◌, ◌≤◌, ◌^◌, true, false, Option, Some, None, length}
 use Rattle.std.specs.Global.{Vec}
+use Rattle.std.specs.declared.alloc.Global.{Global}
+use Rattle.std.specs.declared.collections.VecDeque.{VecDeque}
 use Rattle.seq_model.specs.declared.refusal.Refusal.TheVariants as refusal
 use Rattle.conflict.specs.declared.outcome.Outcome.{Outcome}
 use Rattle.replay_log.specs.declared.base.Base.{Base}
@@ -23,13 +25,14 @@ use Rattle.actor_copies.specs.Kept.{HaveSame, copy_of}
 use Rattle.actor_copies.specs.Owns.{AreOfBlocks}
 use Rattle.actor_copies.specs.Sizes.{SizesAs}
 use Rattle.actor_copies.specs.Taking.{IsTakenAt, copy_with, fits_base}
+use Rattle.tx_actor.specs.declared.actor.Answered as running
 use Rattle.tx_actor.specs.declared.actor.Asked.{Asked}
 use Rattle.tx_actor.specs.declared.actor.Stage.{Stage}
 use Rattle.tx_actor.specs.declared.actor.Stage.TheVariants as stage
 use Rattle.tx_actor.specs.declared.actor.Told.{Told}
 use Rattle.tx_actor.specs.declared.actor.Told.TheVariants as told
 use Rattle.tx_actor.specs.declared.actor.TxActor.{TxActor}
-use Rattle.tx_actor.specs.declared.prepares.Readied.{Readied}
+use Rattle.tx_actor.specs.declared.prepares.Prepared.{Prepared}
 use Rattle.actor_words.specs.Judged.{judged}
 use Rattle.tx_actor.specs.Having.{HasGone}
 use Rattle.tx_actor.specs.Prepares.{IsAlike, IsReadyCall, prepared_of}
@@ -62,11 +65,17 @@ module _ {V : Type 0} where
     pub pieces : HaveSame r.copies.items u.copies.items
 
   -- What was found is taken, for a call that is ready now, of the copy at place i.
-  pub record IsReadyAt (r u : TxActor V) (n f : ℕ) (found : Found V) (asked : Asked V) (i : ℕ) (x : Readied V) : Type 0 where
+  pub record IsReadyAt (r u : TxActor V) (n f : ℕ) (found : Found V) (asked : Asked V) (i : ℕ) (x : Prepared V) : Type 0 where
     pub copies : Vec (CopyOf V)
     pub at : IsTakenAt n asked.collection found i r.copies.items copies.items
     pub alike : IsAlike (record r { copies = copies }) u
     pub ready : IsReadyCall (record r { copies = copies }) u i f asked.op (copy_with asked.collection at.copy) (prepared_of x asked i)
+
+  -- So it is of the call asked, which has become c, with what is left to be judged of it.
+  abbrev pub IsReadyIn : (r u : TxActor V) (n f : ℕ) → Found V → Asked V → running.Answered V → VecDeque (ℕ × ℕ) Global → Type 0
+  IsReadyIn r u n f found asked c left =
+      let x : Prepared V = record { call = c; left = left } in
+      (i : ℕ) × (x ≡ prepared_of x asked i) × IsReadyAt r u n f found asked i x
 
   -- The call is asked of a base in n stripes, of a collection that begins at location f, and this was found of it: so it may be taken.
   pub record MayTake (r : TxActor V) (n f : ℕ) (found : Found V) (asked : Asked V) : Type 0 where
@@ -81,13 +90,21 @@ module _ {V : Type 0} where
         → (holds_call d asked.op ≡ true) × (0 < stripes_of (base_in d)) × (f + places_in d ≤ 2 ^ 32)
 
   -- what the call touches of the base is taken, or the locations of the call don't fit the sets
-  abbrev pub AreReadyAt : BlocksView → (r u : TxActor V) → Base V → Asked V → Option (ℕ × Readied V) → Type 0
+  abbrev pub AreReadyAt : BlocksView → (r u : TxActor V) → Base V → Asked V → Option (ℕ × Prepared V) → Type 0
   AreReadyAt v r u base asked None =
       (u ≡ r) × ((o : Outcome V) × (outcome_of asked.op (shown_of base) ≡ Some o)
       × (fits_base r.words base (first_of v.words v.blocks asked.collection) o ≡ false))
   AreReadyAt v r u base asked (Some p) =
       (b : Block) × (x : Found V) × (block_of v.blocks asked.collection ≡ Some b) × IsFound base asked.op x
       × IsReadyAt r u b.stripes (first_of v.words v.blocks asked.collection) x asked p.0 p.1
+
+  -- The same of the call asked, which has become c.
+  abbrev pub AreReadyIn : BlocksView → (r u : TxActor V) → Base V → Asked V → running.Answered V
+      → Option (VecDeque (ℕ × ℕ) Global) → Type 0
+  AreReadyIn v r u base asked c None = AreReadyAt v r u base asked None
+  AreReadyIn v r u base asked c (Some left) =
+      let x : Prepared V = record { call = c; left = left } in
+      (i : ℕ) × (x ≡ prepared_of x asked i) × AreReadyAt v r u base asked (Some (i, x))
 
   -- A world in which the gate of the call is held, and the base is that of its collection: what is copied is the transaction's own or
   -- doomed, the call goes on by it, and its locations fit the sets where those on the base do.
@@ -117,7 +134,7 @@ module _ {V : Type 0} where
     pub block : Block
     pub found : Found V
     pub at : ℕ
-    pub call : Readied V
+    pub call : Prepared V
     pub middle : TxActor V
     pub there : block_of v.blocks asked.collection ≡ Some block
     pub is : IsFound base asked.op found

@@ -1,6 +1,8 @@
 -- What making a call ready leaves of an actor, and what it gives.
 use Rattle.std.specs.Prelude.{◌≡◌, ℕ, ◌+◌, ◌<◌, ◌≤◌, ◌^◌, Bool, true, false, List, Option, Some, None, length, slice_get}
 use Rattle.std.specs.Vec.{vec_capacity, vec_len}
+use Rattle.std.specs.declared.alloc.Global.{Global}
+use Rattle.std.specs.declared.collections.VecDeque.{VecDeque}
 use Rattle.tx_sets.specs.declared.access_set.TheConstants.{LOCATION_LIMIT}
 use Rattle.seq_model.specs.declared.call.Op.{Op}
 use Rattle.conflict.specs.declared.outcome.Outcome.{Outcome}
@@ -12,9 +14,9 @@ use Rattle.step_core.specs.declared.actor.Place.TheVariants as place
 use Rattle.actor_copies.specs.declared.copies.CopyOf.{CopyOf}
 use Rattle.tx_actor.specs.declared.actor.TxActor.{TxActor}
 use Rattle.actor_copies.specs.declared.copies.Copied.{Copied}
+use Rattle.tx_actor.specs.declared.actor.Answered as running
 use Rattle.tx_actor.specs.declared.actor.Asked.{Asked}
 use Rattle.tx_actor.specs.declared.prepares.Prepared.{Prepared}
-use Rattle.tx_actor.specs.declared.prepares.Readied.{Readied}
 use Rattle.tx_actor.specs.Answers.{IsPrepared}
 use Rattle.actor_copies.specs.Copies.{IsReady, answer_of, holds_call, holds_of}
 use Rattle.actor_copies.specs.Footprints.{base_in, places_in, reads_in, with_known, writes_in}
@@ -68,24 +70,22 @@ pub record IsReadyCall {V : Type 0} (r u : TxActor V) (i f : ℕ) (op : Op V) (c
   pub writes : p.call.writes.items ≡ with_next c.copied f (writes_in c.copied outcome)
   pub prepared : IsPrepared u p.call
 
--- the call asked, on the copy at this place, with what is ready for it
-abbrev pub prepared_of : {V : Type 0} → Readied V → Asked V → ℕ → Prepared V
-prepared_of x asked i =
-    record {
-      call = record { asked = asked; outcome = Some x.outcome; place = i; writes = x.writes; kept = x.kept; told = x.told };
-      left = x.left;
-    }
+-- what is ready, of the call asked, on the copy at this place
+abbrev pub prepared_of : {V : Type 0} → Prepared V → Asked V → ℕ → Prepared V
+prepared_of x asked i = record x { call = record x.call { asked = asked; place = i } }
 
 -- the call is ready, or its locations don't fit
 abbrev pub ArePrepared : {V : Type 0} → (r u : TxActor V) → (i f : ℕ) → Op V → CopyOf V → Option (Prepared V) → Type 0
 ArePrepared {V} r u i f op c None = (o : Outcome V) × (answer_of c.copied op ≡ Some o) × (fits r f c.copied o ≡ false)
 ArePrepared {V} r u i f op c (Some p) = IsReadyCall r u i f op c p
 
--- the same, of a call that is still to be handed over
-abbrev pub AreReadied : {V : Type 0} → (r u : TxActor V) → (i f : ℕ) → Op V → CopyOf V → Option (Readied V) → Type 0
-AreReadied {V} r u i f op c None = ArePrepared r u i f op c None
-AreReadied {V} r u i f op c (Some x) =
-    (asked : Asked V) → asked.collection ≡ c.collection → asked.op ≡ op → IsReadyCall r u i f op c (prepared_of x asked i)
+-- The same of the call asked, which has become d, with what is left to be judged of it.
+abbrev pub AreReadied : {V : Type 0} → (r u : TxActor V) → (i f : ℕ) → Asked V → CopyOf V → running.Answered V
+    → Option (VecDeque (ℕ × ℕ) Global) → Type 0
+AreReadied {V} r u i f asked c d None = ArePrepared r u i f asked.op c None
+AreReadied {V} r u i f asked c d (Some left) =
+    let x : Prepared V = record { call = d; left = left } in
+    (x ≡ prepared_of x asked i) × (asked.collection ≡ c.collection → IsReadyCall r u i f asked.op c (prepared_of x asked i))
 
 -- The copy of collection k stands at this place, the first of it, and holds the call.
 pub record IsHeldAt {V : Type 0} (cs : List (CopyOf V)) (i k : ℕ) (op : Op V) : Type 0 where

@@ -1,5 +1,7 @@
 //! What an actor keeps: its word actor, where its request stands, its numbers, its cause, its calls, and what it has of collections.
-use actor_copies::{CopyOf, Spares, Writes};
+use crate::hand::{Asking, Kept};
+use actor_copies::{CopyOf, Writes};
+use boxes::Boxed;
 use conflict::Outcome;
 use seq_model::{Answer, Call, Op, Refusal, Reply};
 use std::collections::VecDeque;
@@ -38,11 +40,11 @@ pub enum Stage<V> {
     Leaving,
     Reading(u32),
     /// The gate of the call's collection is tried; so many tries are left after this one.
-    Trying(Asked<V>, u32),
+    Trying(Asking<V>, u32),
     /// That gate is held.
-    Copying(Asked<V>),
+    Copying(Asking<V>),
     /// The first of these locations is read, to be judged by the edition that was copied.
-    Loading(Answered<V>, VecDeque<(u32, u64)>),
+    Loading(Boxed<Answered<V>>, VecDeque<(u32, u64)>),
     /// These collections have a written location.
     Locking(VecDeque<u32>),
     /// The gates of the first of these collections are held, and the next one is tried, with so many tries left after this one.
@@ -82,6 +84,6 @@ pub struct TxActor<V> {
     pub usual_calls: usize,
     /// What it has of the collections that its calls touched, each of which stands here once.
     pub copies: Vec<CopyOf<V>>,
-    /// Memory that earlier transactions took.
-    pub spares: Spares<V>,
+    /// Memory that earlier calls and transactions took.
+    pub spares: Kept<V>,
 }

@@ -21,9 +21,11 @@ ghost use Rattle.seq_model.specs.declared.event.Answer.TheVariants.{Replied};
 use crate::actor::{Answered, Stage, Told, TxActor};
 use actor_copies::{CopyOf, write_all};
 use actor_words::{Judged, judge};
+use boxes::Boxed;
 use conflict::Outcome;
-use seq_model::{Answer, Call, Refusal, Value};
+use seq_model::{Answer, Call, Op, Refusal, Reply, Value};
 use std::collections::VecDeque;
+use std::mem;
 use step_core::Place;
 
 /// The outcome, which is ready in the copy at this place, joins it.
@@ -41,7 +43,7 @@ fn accept_at<V: Value>(copies: &mut Vec<CopyOf<V>>, place: usize, outcome: Optio
 
 impl<V: Value> TxActor<V> {
     /// A call is accepted, for which all is prepared: its writes are asked, and its outcome joins what there is of its collection.
-    fn accepts(&mut self, call: Answered<V>) -> Told<V>
+    fn accepts(&mut self, call: Boxed<Answered<V>>) -> Told<V>
         requires prepared { CanAccept self.old call }
         ensures does { (a : ℕ) (w : World V) → worlds.actor_of w a ≡ actor_of self.old.words → MayAccept w a call →
             let f = comes_to w a (seat_of self.old) (answered_of call) [] judged_as.All in
@@ -51,28 +53,31 @@ impl<V: Value> TxActor<V> {
         ensures keeps { (v : BlocksView) → All (λ d. d.0 < end_of v.words v.blocks) call.writes.items → KeepsIn v (at self.old Stage.Idle) self.new }
         ensures owed { owed self.new.words.place ≤ owed self.old.words.place }
     {
-        let Answered {
-            asked,
-            outcome,
-            place,
-            writes,
-            kept,
-            told,
-        } = call;
-        write_all(&mut self.words, &writes);
-        accept_at(&mut self.copies, place, outcome);
+        let mut call = call;
+        let answered = call.get_mut();
+        write_all(&mut self.words, &answered.writes);
+        let outcome = mem::replace(&mut answered.outcome, None);
+        accept_at(&mut self.copies, answered.place, outcome);
+        let op = mem::replace(&mut answered.asked.op, Op::Read);
         let made = Call {
-            target: asked.collection,
-            op: asked.op,
+            target: answered.asked.collection,
+            op,
         };
+        let kept = mem::replace(&mut answered.kept, Reply::Done);
         self.calls.push_reserved((made, kept));
+        let told = mem::replace(&mut answered.told, Reply::Done);
+        self.spares.keep_call(call);
         self.stage = Stage::Open;
         Told::Answered(Answer::Replied(told))
     }
 
     /// A call that is prepared goes on: its locations are judged by the read set, from the first. Where the set has them all with these
     /// editions it is accepted; the first that the set does not have is read next; one that it has with another edition is stale.
-    pub(crate) fn goes_on(&mut self, call: Answered<V>, left: VecDeque<(u32, u64)>) -> Told<V>
+    pub(crate) fn goes_on(
+        &mut self,
+        call: Boxed<Answered<V>>,
+        left: VecDeque<(u32, u64)>,
+    ) -> Told<V>
         requires prepared { CanAccept self.old call }
         ensures does { (a : ℕ) (w : World V) (x : Option (Outcome V)) → worlds.actor_of w a ≡ actor_of self.old.words →
             MayAnswer w a self.old.words x call left.items →
@@ -96,6 +101,8 @@ impl<V: Value> TxActor<V> {
                 Told::Quiet
             }
             Judged::Stale(location, base_edition, word_edition) => {
+                self.spares.keep_left(left);
+                self.spares.keep_call(call);
                 self.gives_up(Refusal::Stale {
                     location,
                     base_edition,

@@ -12,7 +12,7 @@ ghost use Rattle.tx_actor.specs.Keeping.{KeepsIn};
 ghost use Rattle.tx_actor.specs.Prepares.{IsAlike, IsHeldAt, IsHeldPlace};
 ghost use Rattle.tx_actor.specs.Running.{seat_of};
 
-use crate::actor::{Asked, Stage, Told, TxActor};
+use crate::actor::{Stage, Told, TxActor};
 use crate::steps::MORE_TRIES;
 use actor_copies::{CopyOf, place_of};
 use actor_words::{Blocks, is_change, is_known};
@@ -99,7 +99,8 @@ impl<V: Value> TxActor<V> {
                 Ok(told)
             }
             None => {
-                self.stage = Stage::Trying(Asked { collection, op }, MORE_TRIES);
+                let asked = self.spares.ask(alloc, collection, op)?;
+                self.stage = Stage::Trying(asked, MORE_TRIES);
                 Ok(Told::Quiet)
             }
         }

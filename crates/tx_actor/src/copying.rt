@@ -4,7 +4,7 @@ ghost use Rattle.std.specs.Prelude.{◌≡◌, ◌<◌, ◌+◌, ◌≤◌, ◌^
 ghost use Rattle.replay_log.specs.Base.{locations_of, shown_of, stripes_of};
 ghost use Rattle.replay_log.specs.Contents.{block_of, first_of};
 ghost use Rattle.actor_copies.specs.Copies.{IsFound};
-ghost use Rattle.tx_actor.specs.Copying.{AreReadyAt, CanCopy, CanCopyAt, HasTaken, HasTakenAt, IsReadyAt, IsUnmoved, MayTake, StepsOn};
+ghost use Rattle.tx_actor.specs.Copying.{AreReadyIn, CanCopy, CanCopyAt, HasTaken, HasTakenAt, IsReadyIn, IsUnmoved, MayTake, StepsOn};
 ghost use Rattle.tx_actor.specs.Copying.{StepsOnAt};
 ghost use Rattle.actor_words.specs.Requests.{HasNoReads};
 ghost use Rattle.tx_actor.specs.Dispatch.{Starves};
@@ -13,13 +13,14 @@ ghost use Rattle.tx_actor.specs.Keeping.{KeepsIn};
 ghost use Rattle.tx_actor.specs.Running.{at};
 ghost use Rattle.tx_actor.specs.declared.actor.Told.TheVariants as told;
 
-use crate::actor::{Asked, Stage, Told, TxActor};
-use crate::prepares::Readied;
-use actor_copies::{Found, find, fits_base, take, take_back};
+use crate::actor::{Answered, Stage, Told, TxActor};
+use crate::hand::Asking;
+use actor_copies::{Found, find, fits_base, take_back};
 use actor_words::Blocks;
 use replay_log::Base;
 use seq_model::{Memory, Refusal, Value};
 use std::alloc::Global;
+use std::collections::VecDeque;
 use std::mem;
 
 impl<V: Value> TxActor<V> {
@@ -31,25 +32,24 @@ impl<V: Value> TxActor<V> {
         stripes: u32,
         first: u32,
         found: Found<V>,
-        asked: &Asked<V>,
-    ) -> Result<(usize, Readied<V>), Memory>
-        requires { MayTake self.old stripes first found asked.now }
-        ensures ok { IfOk result (λ readied. IsReadyAt self.old self.new stripes first found asked.now readied.0 readied.1) }
+        call: &mut Answered<V>,
+    ) -> Result<VecDeque<(u32, u64)>, Memory>
+        requires { MayTake self.old stripes first found call.old.asked }
+        ensures ok { IfOk result (λ left. IsReadyIn self.old self.new stripes first found call.old.asked call.new left) }
         ensures err { OnErr result (IsUnmoved self.old self.new) }
     {
         let count = self.copies.len();
-        let place = take(
+        let place = self.spares.take(
             &mut self.copies,
-            &mut self.spares,
             alloc,
             stripes,
-            asked.collection,
+            call.asked.collection,
             found,
         )?;
-        match self.readies(alloc, place, first, &asked.op) {
-            Ok(Some(readied)) => Ok((place, readied)),
+        match self.readies(alloc, place, first, call) {
+            Ok(Some(left)) => Ok(left),
             _ => {
-                take_back(&mut self.copies, count, place, &asked.op);
+                take_back(&mut self.copies, count, place, &call.asked.op);
                 Err(Memory)
             }
         }
@@ -61,21 +61,21 @@ impl<V: Value> TxActor<V> {
         alloc: Global,
         blocks: &Blocks,
         base: &Base<V>,
-        asked: &Asked<V>,
-    ) -> Result<Option<(usize, Readied<V>)>, Memory>
-        requires { CanCopy blocks.now self.old base.now asked.now }
-        ensures ok { IfOk result (λ copied. AreReadyAt blocks.now self.old self.new base.now asked.now copied) }
+        call: &mut Answered<V>,
+    ) -> Result<Option<VecDeque<(u32, u64)>>, Memory>
+        requires { CanCopy blocks.now self.old base.now call.old.asked }
+        ensures ok { IfOk result (λ copied. AreReadyIn blocks.now self.old self.new base.now call.old.asked call.new copied) }
         ensures err { OnErr result (IsUnmoved self.old self.new) }
     {
-        let first = blocks.first_of(asked.collection);
-        let stripes = blocks.stripes_of(asked.collection);
-        if !fits_base(&self.words, base, stripes, first, &asked.op)? {
+        let first = blocks.first_of(call.asked.collection);
+        let stripes = blocks.stripes_of(call.asked.collection);
+        if !fits_base(&self.words, base, stripes, first, &call.asked.op)? {
             return Ok(None);
         }
-        match find(base, &asked.op) {
+        match find(base, &call.asked.op) {
             Ok(found) => {
-                let copied = self.readies_copy(alloc, stripes, first, found, asked)?;
-                Ok(Some(copied))
+                let left = self.readies_copy(alloc, stripes, first, found, call)?;
+                Ok(Some(left))
             }
             Err(_) => Err(Memory),
         }
@@ -86,7 +86,7 @@ impl<V: Value> TxActor<V> {
         alloc: Global,
         blocks: &Blocks,
         base: &Base<V>,
-        asked: Asked<V>,
+        asked: Asking<V>,
     ) -> Result<Told<V>, Memory>
         requires { CanCopy blocks.now self.old base.now asked }
         ensures ok { IfOk result (λ told. StepsOn blocks.now (at self.old (Stage.Copying asked)) self.new told base.now asked) }
@@ -95,17 +95,17 @@ impl<V: Value> TxActor<V> {
         ensures copies { IfOk result (λ told. HasTaken blocks.now self.old self.new told base.now asked) }
         ensures leaves { OnErr result (KeepsCopies (at self.old (Stage.Copying asked)) self.new) }
     {
-        match self.copies_for(alloc, blocks, base, &asked) {
-            Ok(Some((place, readied))) => {
-                let prepared = readied.prepared(asked, place);
-                Ok(self.goes_on(prepared.call, prepared.left))
-            }
+        let collection = asked.get().collection;
+        let mut call = asked.answering();
+        match self.copies_for(alloc, blocks, base, call.get_mut()) {
+            Ok(Some(left)) => Ok(self.goes_on(call, left)),
             Ok(None) => {
+                self.spares.keep_call(call);
                 self.stage = Stage::Open;
                 Ok(Told::Refused(Refusal::TooLong))
             }
             Err(_) => {
-                let _ = self.starves_copying(asked.collection);
+                let _ = self.starves_copying(collection);
                 Err(Memory)
             }
         }

@@ -12,7 +12,8 @@ ghost use Rattle.tx_actor.specs.Having.{KeepsCopies};
 ghost use Rattle.tx_actor.specs.Keeping.{KeepsIn};
 ghost use Rattle.tx_actor.specs.Running.{Does, Reseats, at, seat_of, stage_of};
 
-use crate::actor::{Asked, Stage, Told, TxActor};
+use crate::actor::{Stage, Told, TxActor};
+use crate::hand::Asking;
 use crate::steps::has_none;
 use actor_words::{WordNotice, of_told};
 use seq_model::Refusal;
@@ -177,7 +178,7 @@ impl<V: Drop> TxActor<V> {
         }
     }
 
-    fn tried_call(&mut self, asked: Asked<V>, tries: u32, free: bool) -> Told<V>
+    fn tried_call(&mut self, asked: Asking<V>, tries: u32, free: bool) -> Told<V>
         ensures does { let r = at self.old (Stage.Trying asked tries) in
             Does r self.new result (λ a w. after_try w a (seat_of r) (stage_of r.stage) free) }
         ensures keeps { (v : BlocksView) → KeepsIn v (at self.old (Stage.Trying asked tries)) self.new }
@@ -304,7 +305,7 @@ impl<V: Drop> TxActor<V> {
             Stage::Beginning => self.begin_starves(),
             Stage::Reading(_) => self.gives_up(Refusal::OutOfMemory),
             Stage::Trying(_, _) => self.gives_up(Refusal::OutOfMemory),
-            Stage::Copying(asked) => self.starves_copying(asked.collection),
+            Stage::Copying(asked) => self.starves_copying(asked.get().collection),
             Stage::Loading(_, _) => self.gives_up(Refusal::OutOfMemory),
             Stage::Locking(_) => self.gives_up(Refusal::OutOfMemory),
             Stage::Gating(homes, got, _) => self.starves_gating(homes, got),

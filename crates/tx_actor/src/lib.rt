@@ -11,6 +11,7 @@ mod asks_at;
 mod asks_calls;
 mod copying;
 mod dispatch;
+mod hand;
 pub mod laws;
 mod loads;
 mod logs;
@@ -21,5 +22,6 @@ mod steps;
 mod taking;
 
 pub use actor::{Answered, Asked, Stage, Told, TxActor};
+pub use hand::{Asking, Kept};
 pub use prepares::Prepared;
 pub use taking::Taken;

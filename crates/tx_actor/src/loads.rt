@@ -13,6 +13,7 @@ ghost use Rattle.tx_actor.specs.Running.{at};
 use crate::actor::{Answered, Stage, Told, TxActor};
 use crate::dispatch::is_quiet;
 use actor_words::{WordNotice, of_told};
+use boxes::Boxed;
 use seq_model::{Refusal, Value};
 use std::collections::VecDeque;
 use std::mem;
@@ -29,7 +30,7 @@ impl<V: Value> TxActor<V> {
     /// The first location, which was copied with this edition, was read with that one.
     fn has_first(
         &mut self,
-        call: Answered<V>,
+        call: Boxed<Answered<V>>,
         left: VecDeque<(u32, u64)>,
         first: (u32, u64),
         edition: u64,
@@ -42,6 +43,8 @@ impl<V: Value> TxActor<V> {
     {
         let copied = first.1;
         if copied != edition {
+            self.spares.keep_left(left);
+            self.spares.keep_call(call);
             return self.gives_up(Refusal::Stale {
                 location: first.0,
                 base_edition: copied,
@@ -54,7 +57,12 @@ impl<V: Value> TxActor<V> {
     }
 
     /// The first location was read with this edition.
-    fn has_found(&mut self, call: Answered<V>, left: VecDeque<(u32, u64)>, edition: u64) -> Told<V>
+    fn has_found(
+        &mut self,
+        call: Boxed<Answered<V>>,
+        left: VecDeque<(u32, u64)>,
+        edition: u64,
+    ) -> Told<V>
         requires prepared { CanAccept self.old call }
         ensures does { IsToldLoad (at self.old (Stage.Loading call left)) self.new result (notice.Number edition) }
         ensures keeps { (v : BlocksView) → KeepsHeard v (at self.old (Stage.Loading call left)) self.new (notice.Number edition) }
@@ -69,7 +77,7 @@ impl<V: Value> TxActor<V> {
     /// The first location has moved.
     fn has_moved(
         &mut self,
-        call: Answered<V>,
+        call: Boxed<Answered<V>>,
         left: VecDeque<(u32, u64)>,
         location: u32,
         word: u64,
@@ -80,14 +88,18 @@ impl<V: Value> TxActor<V> {
     {
         match first_left(&left) {
             None => self.stays(Stage::Loading(call, left)),
-            Some(_) => self.gives_up(Refusal::Moved { location, word }),
+            Some(_) => {
+                self.spares.keep_left(left);
+                self.spares.keep_call(call);
+                self.gives_up(Refusal::Moved { location, word })
+            }
         }
     }
 
     fn has_loaded(
         &mut self,
         heard: WordNotice,
-        call: Answered<V>,
+        call: Boxed<Answered<V>>,
         left: VecDeque<(u32, u64)>,
     ) -> Told<V>
         requires prepared { IsLoadable self.old (Stage.Loading call left) (shown_notice heard) }

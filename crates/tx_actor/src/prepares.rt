@@ -3,11 +3,12 @@ ghost use Rattle.std.specs.Prelude.{◌≡◌, ◌<◌, IfOk, OnOk, Some, length
 ghost use Rattle.actor_copies.specs.declared.copies.CopyOf.{CopyOf};
 ghost use Rattle.tx_actor.specs.Prepares.{ArePrepared, AreReadied, HasRoomFor, IsAlike, MayPrepare, prepared_of};
 
-use crate::actor::{Answered, Asked, TxActor};
+use crate::actor::{Answered, TxActor};
 use crate::room::reserve_call;
-use actor_copies::{Writes, reserve_words, weigh};
+use actor_copies::{reserve_words, weigh};
+use boxes::Boxed;
 use conflict::Outcome;
-use seq_model::{Memory, Op, Reply, Value};
+use seq_model::{Memory, Op, Value};
 use std::alloc::Global;
 use std::collections::VecDeque;
 use step_core::Actor;
@@ -15,39 +16,8 @@ use step_core::Actor;
 /// A call that is ready to go on, with what is left to be judged of it: locations, with the editions that were copied.
 #[derive(Drop)]
 pub struct Prepared<V> {
-    pub call: Answered<V>,
+    pub call: Boxed<Answered<V>>,
     pub left: VecDeque<(u32, u64)>,
-}
-
-/// What a call takes that is ready to go on, but for the call itself: its outcome, the locations that it writes, each with the edition
-/// after the copied one, its reply, to be kept and to be told, and what is left to be judged of it.
-#[derive(Drop)]
-pub(crate) struct Readied<V> {
-    pub outcome: Outcome<V>,
-    pub writes: Writes,
-    pub kept: Reply<V>,
-    pub told: Reply<V>,
-    pub left: VecDeque<(u32, u64)>,
-}
-
-impl<V> Readied<V> {
-    /// With the call, and where the copy of its collection stands.
-    pub(crate) fn prepared(self, asked: Asked<V>, place: usize) -> Prepared<V>
-        ensures { result ≡ prepared_of self asked place }
-    {
-        let call = Answered {
-            asked,
-            outcome: Some(self.outcome),
-            place,
-            writes: self.writes,
-            kept: self.kept,
-            told: self.told,
-        };
-        Prepared {
-            call,
-            left: self.left,
-        }
-    }
 }
 
 impl<V: Value> TxActor<V> {
@@ -76,35 +46,40 @@ impl<V: Value> TxActor<V> {
         alloc: Global,
         place: usize,
         first: u32,
-        op: &Op<V>,
-    ) -> Result<Option<Readied<V>>, Memory>
-        requires { MayPrepare self.old place first op.now }
+        call: &mut Answered<V>,
+    ) -> Result<Option<VecDeque<(u32, u64)>>, Memory>
+        requires { MayPrepare self.old place first call.old.asked.op }
         ensures alike { IsAlike self.old self.new }
-        ensures ok { IfOk result (λ readied. (c : CopyOf V) → slice_get self.old.copies.items place ≡ Some c →
-            AreReadied self.old self.new place first op.now c readied) }
+        ensures asked { call.new.asked ≡ call.old.asked }
+        ensures ok { IfOk result (λ left. (c : CopyOf V) → slice_get self.old.copies.items place ≡ Some c →
+            AreReadied self.old self.new place first call.old.asked c call.new left) }
     {
         let list = self.spares.left(alloc);
-        let call = weigh(
+        let weighed = weigh(
             alloc,
             list,
             &self.words,
             &self.copies[place].copied,
             first,
-            op,
+            &call.asked.op,
         )?;
-        if !call.fits {
+        if !weighed.fits {
             return Ok(None);
         }
-        let kept = call.outcome.reply.try_copy()?;
-        let told = call.outcome.reply.try_copy()?;
-        self.make_room(place, &call.outcome, call.left.len(), call.writes.len())?;
-        Ok(Some(Readied {
-            outcome: call.outcome,
-            writes: call.writes,
-            kept,
-            told,
-            left: call.left,
-        }))
+        let kept = weighed.outcome.reply.try_copy()?;
+        let told = weighed.outcome.reply.try_copy()?;
+        self.make_room(
+            place,
+            &weighed.outcome,
+            weighed.left.len(),
+            weighed.writes.len(),
+        )?;
+        call.outcome = Some(weighed.outcome);
+        call.place = place;
+        call.writes = weighed.writes;
+        call.kept = kept;
+        call.told = told;
+        Ok(Some(weighed.left))
     }
 
     /// The same of a call that is handed over.
@@ -121,9 +96,15 @@ impl<V: Value> TxActor<V> {
             ArePrepared self.old self.new place first op c prepared) }
     {
         let collection = self.copies[place].collection;
-        match self.readies(alloc, place, first, &op)? {
-            Some(readied) => Ok(Some(readied.prepared(Asked { collection, op }, place))),
-            None => Ok(None),
+        let asked = self.spares.ask(alloc, collection, op)?;
+        let mut call = asked.answering();
+        let readied = self.readies(alloc, place, first, call.get_mut())?;
+        match readied {
+            Some(left) => Ok(Some(Prepared { call, left })),
+            None => {
+                self.spares.keep_call(call);
+                Ok(None)
+            }
         }
     }
 }

@@ -22,8 +22,8 @@ ghost use Rattle.tx_actor.specs.Keeping.{IsRunning, KeepsIn, NamesAmong};
 ghost use Rattle.tx_actor.specs.Running.{IsSeatOf, KnowsHomes, Reseats, Runs, asked_of, at, is_recorded, notice_of, seat_in, seat_of};
 ghost use Rattle.tx_actor.specs.Running.{stage_in, stage_of};
 
-use crate::actor::{Asked, Stage, Told, TxActor};
-use actor_copies::Spares;
+use crate::actor::{Stage, Told, TxActor};
+use crate::hand::{Asking, Kept};
 use actor_words::{abort, cancel, release};
 use seq_model::{Answer, Call, Op, Refusal, Reply};
 use std::alloc::Global;
@@ -117,7 +117,7 @@ impl<V: Drop> TxActor<V> {
             made: Vec::new(alloc),
             usual_calls: 0,
             copies: Vec::new(alloc),
-            spares: Spares::new(alloc),
+            spares: Kept::new(alloc),
         }
     }
 
@@ -269,7 +269,7 @@ impl<V: Drop> TxActor<V> {
     }
 
     /// The gate of a call was tried, and found free or not.
-    pub fn tried(&mut self, asked: Asked<V>, tries: u32, free: bool) -> Told<V>
+    pub fn tried(&mut self, asked: Asking<V>, tries: u32, free: bool) -> Told<V>
         ensures does { Reseats self.old self.new result (λ a w. has_tried w a (seat_of self.old) free asked.collection []
             (λ n. worlds.Trying (asked_of asked) n) (worlds.Copying (asked_of asked)) tries) }
         ensures keeps { (v : BlocksView) → KeepsIn v (at self.old (Stage.Trying asked tries)) self.new }
@@ -283,7 +283,8 @@ impl<V: Drop> TxActor<V> {
             self.stage = Stage::Trying(asked, tries - 1);
             return Told::Quiet;
         }
-        let collection = asked.collection;
+        let collection = asked.get().collection;
+        self.spares.keep_call(asked.answering());
         self.gives_up(Refusal::GateBusy { collection })
     }
 

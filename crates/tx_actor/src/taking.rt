@@ -15,7 +15,8 @@ ghost use Rattle.tx_actor.specs.Taking.{key_place_in};
 ghost use Rattle.tx_actor.specs.declared.actor.Told.TheVariants as told;
 
 use crate::actor::{Asked, Stage, Told, TxActor};
-use actor_copies::{find, fits_base, take};
+use crate::hand::Asking;
+use actor_copies::{find, fits_base};
 use actor_words::Blocks;
 use replay_log::Base;
 use seq_model::{Memory, Op, Refusal, Value};
@@ -26,7 +27,7 @@ use step_core::Actor;
 /// A call whose key was taken, and where the copy of its collection stands.
 #[derive(Drop)]
 pub struct Taken<V> {
-    pub asked: Asked<V>,
+    pub asked: Asking<V>,
     pub place: usize,
 }
 
@@ -94,14 +95,9 @@ impl<V: Value> TxActor<V> {
         let stripes = blocks.stripes_of(asked.collection);
         match find(base, &asked.op) {
             Ok(found) => {
-                let place = take(
-                    &mut self.copies,
-                    &mut self.spares,
-                    alloc,
-                    stripes,
-                    asked.collection,
-                    found,
-                )?;
+                let place = self
+                    .spares
+                    .take(&mut self.copies, alloc, stripes, asked.collection, found)?;
                 Ok(place)
             }
             Err(_) => Err(Memory),
@@ -132,7 +128,7 @@ impl<V: Value> TxActor<V> {
         alloc: Global,
         blocks: &Blocks,
         base: &Base<V>,
-        asked: Asked<V>,
+        asked: Asking<V>,
     ) -> Result<Option<Taken<V>>, Memory>
         requires { CanCopy blocks.now self.old base.now asked }
         ensures ok { IfOk result (λ taken. AreTakenFor blocks.now self.old self.new base.now asked taken) }
@@ -140,14 +136,14 @@ impl<V: Value> TxActor<V> {
         ensures keeps { OnErr result (KeepsIn blocks.now (at self.old (Stage.Copying asked)) self.new) }
         ensures leaves { OnErr result (KeepsCopies (at self.old (Stage.Copying asked)) self.new) }
     {
-        match self.takes_key(alloc, blocks, base, &asked) {
+        match self.takes_key(alloc, blocks, base, asked.get()) {
             Ok(Some(place)) => Ok(Some(Taken { asked, place })),
             Ok(None) => {
                 self.stage = Stage::Copying(asked);
                 Ok(None)
             }
             Err(_) => {
-                let _ = self.starves_copying(asked.collection);
+                let _ = self.starves_copying(asked.get().collection);
                 Err(Memory)
             }
         }
@@ -200,13 +196,11 @@ impl<V: Value> TxActor<V> {
             KeepsIn blocks.now (at r (Stage.Copying taken.asked)) self.new }
         ensures leaves { OnErr result (KeepsCopies (at self.old Stage.Idle) self.new) }
     {
-        let first = blocks.first_of(taken.asked.collection);
         let Taken { asked, place } = taken;
-        match self.readies(alloc, place, first, &asked.op) {
-            Ok(Some(readied)) => {
-                let prepared = readied.prepared(asked, place);
-                Ok(self.goes_on(prepared.call, prepared.left))
-            }
+        let first = blocks.first_of(asked.get().collection);
+        let mut call = asked.answering();
+        match self.readies(alloc, place, first, call.get_mut()) {
+            Ok(Some(left)) => Ok(self.goes_on(call, left)),
             _ => {
                 let _ = self.gives_up(Refusal::OutOfMemory);
                 Err(Memory)

@@ -27,6 +27,7 @@ ghost use Rattle.tx_table.specs.Seated.{
 use crate::seat::Seat;
 use crate::steps::{add_one, free_gate, load_first, load_word, store_word, swap_word, try_gate};
 use crate::table::TxTable;
+use boxes::Boxed;
 use replay_log::Base;
 use seq_model::Value;
 use std::marker::Brand;
@@ -139,7 +140,7 @@ impl<V: Value> TxTable<V> {
     }
 
     /// Tries the gate of a collection, and has its base where the gate was free.
-    pub fn take_gate(&self, seat: &mut Seat<V>, collection: u32) -> Option<Base<V>>
+    pub fn take_gate(&self, seat: &mut Seat<V>, collection: u32) -> Option<Boxed<Base<V>>>
         requires own { Owns self.now seat.old }
         requires live { 0 < (view seat.old).shares }
         requires collection { collection < length (blocks_in self.now) }
@@ -160,7 +161,7 @@ impl<V: Value> TxTable<V> {
 
     /// Puts back the gate that the seat took first of those that it has, and its base with it: as it was found, or with the log of the
     /// transaction folded in.
-    pub fn put_gate(&self, seat: &mut Seat<V>, collection: u32, base: Base<V>)
+    pub fn put_gate(&self, seat: &mut Seat<V>, collection: u32, base: Boxed<Base<V>>)
         requires own { Owns self.now seat.old }
         requires live { 0 < (view seat.old).shares }
         requires collection { collection < length (blocks_in self.now) }

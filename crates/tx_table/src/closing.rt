@@ -84,7 +84,7 @@ impl<V: Value> Closed<V> {
         ensures { get_elem? (homes_of self.now) k ≡ some (Some result.now) }
     {
         match self.row.slots.get(k) {
-            Some(base) => base,
+            Some(base) => base.get(),
             None => unreachable!(),
         }
     }

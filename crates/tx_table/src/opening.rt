@@ -11,6 +11,7 @@ use crate::seat::{Asked, Seat};
 use crate::table::TxTable;
 use crate::view::{Opening, SHARES};
 use actor_words::Blocks;
+use boxes::Boxed;
 use replay_log::Base;
 use seq_model::{Memory, Refusal, Shape, State, Value};
 use std::alloc::Global;
@@ -33,12 +34,15 @@ fn laid_out(alloc: Global, cells: &Cells, gates: usize) -> Result<Vec<u64>, Memo
     Ok(row)
 }
 
-fn at_home<V: Value>(alloc: Global, bases: Vec<Base<V>>) -> Result<Vec<Option<Base<V>>>, Memory>
+fn at_home<V: Value>(
+    alloc: Global,
+    bases: Vec<Base<V>>,
+) -> Result<Vec<Option<Boxed<Base<V>>>>, Memory>
     ensures { IfOk result (λ homes. homes.items ≡ map Some bases.items) }
 {
     let mut homes = Vec::with_capacity(alloc, bases.len())?;
     for base in bases {
-        homes.push(Some(base))?;
+        homes.push(Some(Boxed::new(alloc, base)?))?;
     }
     Ok(homes)
 }

@@ -1,6 +1,7 @@
 //! The rule of a running table.
 use crate::view::{Opening, View};
 use atomic_table::{Join, Play, Seat, Shared, Split, Table, TableRule};
+use boxes::Boxed;
 use replay_log::Base;
 use std::alloc::Global;
 use std::marker::Brand;
@@ -8,7 +9,7 @@ use std::marker::Brand;
 /// Some list of events reaches, from the opening, a world that the table shows.
 pub struct Order;
 
-impl<V> TableRule<Option<Base<V>>, View<V>, Opening<V>> for Order {
+impl<V> TableRule<Option<Boxed<Base<V>>>, View<V>, Opening<V>> for Order {
     ghost use Rattle.tx_table.specs.Shown.{first as first_view};
     ghost use Rattle.tx_table.specs.Opening.{Holds};
 
@@ -18,7 +19,7 @@ impl<V> TableRule<Option<Base<V>>, View<V>, Opening<V>> for Order {
 }
 
 // Each call picks what its step tells.
-impl<V> Play<Option<Base<V>>, View<V>> for Brand {
+impl<V> Play<Option<Boxed<Base<V>>>, View<V>> for Brand {
     ghost then = { λ _ _ _ _. Unit {0} };
 }
 
@@ -38,8 +39,8 @@ impl<V> Join<View<V>> for Brand {
     ghost spent = { first };
 }
 
-pub type Board<V> = Shared<Option<Base<V>>, View<V>, Opening<V>, Order>;
+pub type Board<V> = Shared<Option<Boxed<Base<V>>>, View<V>, Opening<V>, Order>;
 
-pub type Whole<V> = Table<Option<Base<V>>, View<V>, Opening<V>, Order, Global>;
+pub type Whole<V> = Table<Option<Boxed<Base<V>>>, View<V>, Opening<V>, Order, Global>;
 
-pub type Place<V> = Seat<Option<Base<V>>, View<V>>;
+pub type Place<V> = Seat<Option<Boxed<Base<V>>>, View<V>>;

@@ -11,6 +11,7 @@ ghost use Rattle.tx_table.specs.Seated.{Adds, Exchanges, IsHome, Loads, Stepped,
 
 use crate::rule::Board;
 use crate::seat::{Asked, Seat};
+use boxes::Boxed;
 use replay_log::Base;
 use seq_model::Value;
 use std::marker::Brand;
@@ -101,7 +102,7 @@ pub(crate) fn try_gate<V: Value>(
     seat: &mut Seat<V>,
     word: usize,
     gate: usize,
-) -> Option<Base<V>>
+) -> Option<Boxed<Base<V>>>
     ghost of: { List (Event V) × ℕ }
     requires asks { of.0 ≡ list_of seat.old.asked }
     requires gate { of.1 ≡ gate }
@@ -131,7 +132,7 @@ pub(crate) fn free_gate<V: Value>(
     seat: &mut Seat<V>,
     word: usize,
     gate: usize,
-    base: Base<V>,
+    base: Boxed<Base<V>>,
 )
     ghost of: { List (Event V) × ℕ }
     requires asks { of.0 ≡ list_of seat.old.asked }

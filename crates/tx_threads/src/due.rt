@@ -110,6 +110,7 @@ fn due_to_take(actor: &Actor, location: u32, version: u64, i: usize) -> Due
 }
 
 /// The atomic step that is due to an actor.
+#[inline(always)]
 pub fn next_due(actor: &Actor) -> Due
     requires fits { (n : ℕ) × Fits n actor.now }
     ensures deed { IsDeed result (plan (actor_of actor.now) (actor_of actor.now).place) }

@@ -24,6 +24,7 @@ fn try_lock<V: Value>(table: &TxTable<V>, seat: &mut Seat<V>, location: u32, old
 }
 
 /// The atomic step that is due to a seat, and the number that it found.
+#[inline(always)]
 pub(crate) fn touch<V: Value>(table: &TxTable<V>, seat: &mut Seat<V>, due: Due) -> u64
     requires own { Owns table.now seat.old }
     requires live { 0 < (view seat.old).shares }

@@ -1,46 +1,14 @@
-use Rattle.std.proofs.Common.{◌+◌, ◌<◌, ◌^◌, ℕ, sym}
-use Rattle.actor_copies.specs.Footprints.{places_in, reads_in, writes_in}
-use Rattle.actor_copies.proofs.FootprintLemmas.{all_alike, in_range, reads_below, writes_below}
+use Rattle.std.proofs.Common.{◌<◌, arith}
+use Rattle.actor_copies.specs.Footprints.{places_in}
+use Rattle.actor_copies.proofs.WeighedLemmas.{key_below}
 use Rattle.actor_copies.proofs.weighed.weigh_outcome.Goals as goal
 
-pub has_room-fits-requires-clause-reads : goal.has_room-fits-requires-clause-reads
-has_room-fits-requires-clause-reads g c =
-    let copied = c.args.copied.now in
-    let o = c.args.outcome in
-    all_alike (λ (l : ℕ). c.args.first + l < 2 ^ 32) (reads_in copied o) c.in_ok-reads.reads (sym c.in_ok-reads.ensures)
-    (in_range copied c.args.first (reads_in copied o) c.requires.range (reads_below copied o c.requires.stripes))
+pub weigh_key-requires-clause-place : goal.weigh_key-requires-clause-place
+weigh_key-requires-clause-place g c =
+    key_below c.args.copied.now c.args.call.now.outcome c.in-Some.at.location c.requires.stripes c.in-Some.ensures.reads
 
-pub has_room-fits-requires-clause-writes : goal.has_room-fits-requires-clause-writes
-has_room-fits-requires-clause-writes g c =
-    let copied = c.args.copied.now in
-    let o = c.args.outcome in
-    all_alike (λ (l : ℕ). c.args.first + l < 2 ^ 32) (writes_in copied o) c.in_ok-writes.writes (sym c.in_ok-writes.ensures)
-    (in_range copied c.args.first (writes_in copied o) c.requires.range (writes_below copied o c.requires.stripes))
-
-pub with_known-requires-clause-within : goal.with_known-requires-clause-within
-with_known-requires-clause-within g c =
-    let copied = c.args.copied.now in
-    let o = c.args.outcome in
-    all_alike (λ (l : ℕ). l < places_in copied) (reads_in copied o) c.in_ok-reads.reads (sym c.in_ok-reads.ensures)
-    (reads_below copied o c.requires.stripes)
-
-pub with_known-requires-clause-range : goal.with_known-requires-clause-range
-with_known-requires-clause-range g c =
-    let copied = c.args.copied.now in
-    let o = c.args.outcome in
-    all_alike (λ (l : ℕ). c.args.first + l < 2 ^ 32) (reads_in copied o) c.in_ok-reads.reads (sym c.in_ok-reads.ensures)
-    (in_range copied c.args.first (reads_in copied o) c.requires.range (reads_below copied o c.requires.stripes))
-
-pub with_next-requires-clause-within : goal.with_next-requires-clause-within
-with_next-requires-clause-within g c =
-    let copied = c.args.copied.now in
-    let o = c.args.outcome in
-    all_alike (λ (l : ℕ). l < places_in copied) (writes_in copied o) c.in_ok-writes.writes (sym c.in_ok-writes.ensures)
-    (writes_below copied o c.requires.stripes)
-
-pub with_next-requires-clause-range : goal.with_next-requires-clause-range
-with_next-requires-clause-range g c =
-    let copied = c.args.copied.now in
-    let o = c.args.outcome in
-    all_alike (λ (l : ℕ). c.args.first + l < 2 ^ 32) (writes_in copied o) c.in_ok-writes.writes (sym c.in_ok-writes.ensures)
-    (in_range copied c.args.first (writes_in copied o) c.requires.range (writes_below copied o c.requires.stripes))
+pub weigh_key-requires-clause-range : goal.weigh_key-requires-clause-range
+weigh_key-requires-clause-range g c =
+    let here : c.in-Some.at.location < places_in c.args.copied.now =
+    key_below c.args.copied.now c.args.call.now.outcome c.in-Some.at.location c.requires.stripes c.in-Some.ensures.reads in
+    omega (arith, here, c.requires.range)

@@ -31,11 +31,16 @@ takes-requires g c =
     let bs = c.args.bases.now.items in
     let v = c.blocks-blocks.result.now in
     let laid = laid_as t v c.blocks-blocks.ensures.words c.blocks-blocks.ensures.blocks in
-    let front = first_here bs c.index.result.now
-    (some_held t s r k [] bs (copy_first r.stage k c.requires.due) c.requires.own) c.index.ensures in
-    subst (λ (z : BlocksView). CanCopyAt z r c.index.result.now r.stage) (sym laid)
+    let front = first_here bs c.front.result.now
+    (some_held t s r k [] bs (copy_first r.stage k c.requires.due) c.requires.own) c.front.ensures in
+    subst (λ (z : BlocksView). CanCopyAt z r c.front.result.now r.stage) (sym laid)
     (copy_can c.copied_as_worlds.ensures c.copies_go_on.ensures c.sizes_copies.ensures.sizes c.copies_stay_own.ensures.blocks
-    c.copies_by_stage.ensures.others t s r k bs front.0 c.index.result.now c.requires.due c.requires.ties c.requires.own front.1)
+    c.copies_by_stage.ensures.others t s r k bs front.0 c.front.result.now c.requires.due c.requires.ties c.requires.own front.1)
+
+pub front-requires : goal.front-requires
+front-requires g c =
+    some_held c.args.table.now c.args.seat.now c.args.actor.now c.args.k [] c.args.bases.now.items
+    (copy_first c.args.actor.now.stage c.args.k c.requires.due) c.requires.own
 
 pub first-base-requires : goal.first-base-requires
 first-base-requires g c =
@@ -77,16 +82,16 @@ goes_on_taken-requires g c =
     let bs = c.args.bases.now.items in
     let v = c.blocks-blocks.result.now in
     let laid = laid_as t v c.blocks-blocks.ensures.words c.blocks-blocks.ensures.blocks in
-    let front = first_here bs c.index.result.now
-    (some_held t s r k [] bs (copy_first r.stage k c.requires.due) c.requires.own) c.index.ensures in
-    let can = subst (λ (z : BlocksView). CanCopyAt z r c.index.result.now r.stage) (sym laid)
+    let front = first_here bs c.front.result.now
+    (some_held t s r k [] bs (copy_first r.stage k c.requires.due) c.requires.own) c.front.ensures in
+    let can = subst (λ (z : BlocksView). CanCopyAt z r c.front.result.now r.stage) (sym laid)
     (copy_can c.copied_as_worlds.ensures c.copies_go_on.ensures c.sizes_copies.ensures.sizes c.copies_stay_own.ensures.blocks
-    c.copies_by_stage.ensures.others t s r k bs front.0 c.index.result.now c.requires.due c.requires.ties c.requires.own front.1) in
+    c.copies_by_stage.ensures.others t s r k bs front.0 c.front.result.now c.requires.due c.requires.ties c.requires.own front.1) in
     let m = c.takes.new.self in
-    let call = taken_call v r m c.index.result.now c.in-Ok-Some.taken k c.requires.due can
-    (subst (λ (o : Option (Taken g.row.V.Denot)). AreTakenAt v r m c.index.result.now o r.stage) c.in-Ok-Some.field-0-is
+    let call = taken_call v r m c.front.result.now c.in-Ok-Some.taken k c.requires.due can
+    (subst (λ (o : Option (Taken g.row.V.Denot)). AreTakenAt v r m c.front.result.now o r.stage) c.in-Ok-Some.field-0-is
     c.in-Ok-Some.ensures.ok) in
-    let base = c.index.result.now in
+    let base = c.front.result.now in
     let asked = c.in-Ok-Some.taken.asked in
     (at r stage.Idle, base, call.1, call.2)
 
@@ -99,16 +104,16 @@ returns-in-Ok-clause-turned g c =
     let bs = c.args.bases.now.items in
     let v = c.blocks-blocks.result.now in
     let laid = laid_as t v c.blocks-blocks.ensures.words c.blocks-blocks.ensures.blocks in
-    let front = first_here bs c.index.result.now
-    (some_held t s r k [] bs (copy_first r.stage k c.requires.due) c.requires.own) c.index.ensures in
-    let can = subst (λ (z : BlocksView). CanCopyAt z r c.index.result.now r.stage) (sym laid)
+    let front = first_here bs c.front.result.now
+    (some_held t s r k [] bs (copy_first r.stage k c.requires.due) c.requires.own) c.front.ensures in
+    let can = subst (λ (z : BlocksView). CanCopyAt z r c.front.result.now r.stage) (sym laid)
     (copy_can c.copied_as_worlds.ensures c.copies_go_on.ensures c.sizes_copies.ensures.sizes c.copies_stay_own.ensures.blocks
-    c.copies_by_stage.ensures.others t s r k bs front.0 c.index.result.now c.requires.due c.requires.ties c.requires.own front.1) in
+    c.copies_by_stage.ensures.others t s r k bs front.0 c.front.result.now c.requires.due c.requires.ties c.requires.own front.1) in
     let m = c.takes.new.self in
-    let call = taken_call v r m c.index.result.now c.in-Ok-Some.taken k c.requires.due can
-    (subst (λ (o : Option (Taken g.row.V.Denot)). AreTakenAt v r m c.index.result.now o r.stage) c.in-Ok-Some.field-0-is
+    let call = taken_call v r m c.front.result.now c.in-Ok-Some.taken k c.requires.due can
+    (subst (λ (o : Option (Taken g.row.V.Denot)). AreTakenAt v r m c.front.result.now o r.stage) c.in-Ok-Some.field-0-is
     c.in-Ok-Some.ensures.ok) in
-    let base = c.index.result.now in
+    let base = c.front.result.now in
     let asked = c.in-Ok-Some.taken.asked in
     let q = c.goes_on_taken.new.self in
     let b = c.first-base.result in
@@ -135,16 +140,16 @@ returns-in-Ok-clause-ties g c =
     let bs = c.args.bases.now.items in
     let v = c.blocks-blocks.result.now in
     let laid = laid_as t v c.blocks-blocks.ensures.words c.blocks-blocks.ensures.blocks in
-    let front = first_here bs c.index.result.now
-    (some_held t s r k [] bs (copy_first r.stage k c.requires.due) c.requires.own) c.index.ensures in
-    let can = subst (λ (z : BlocksView). CanCopyAt z r c.index.result.now r.stage) (sym laid)
+    let front = first_here bs c.front.result.now
+    (some_held t s r k [] bs (copy_first r.stage k c.requires.due) c.requires.own) c.front.ensures in
+    let can = subst (λ (z : BlocksView). CanCopyAt z r c.front.result.now r.stage) (sym laid)
     (copy_can c.copied_as_worlds.ensures c.copies_go_on.ensures c.sizes_copies.ensures.sizes c.copies_stay_own.ensures.blocks
-    c.copies_by_stage.ensures.others t s r k bs front.0 c.index.result.now c.requires.due c.requires.ties c.requires.own front.1) in
+    c.copies_by_stage.ensures.others t s r k bs front.0 c.front.result.now c.requires.due c.requires.ties c.requires.own front.1) in
     let m = c.takes.new.self in
-    let call = taken_call v r m c.index.result.now c.in-Ok-Some.taken k c.requires.due can
-    (subst (λ (o : Option (Taken g.row.V.Denot)). AreTakenAt v r m c.index.result.now o r.stage) c.in-Ok-Some.field-0-is
+    let call = taken_call v r m c.front.result.now c.in-Ok-Some.taken k c.requires.due can
+    (subst (λ (o : Option (Taken g.row.V.Denot)). AreTakenAt v r m c.front.result.now o r.stage) c.in-Ok-Some.field-0-is
     c.in-Ok-Some.ensures.ok) in
-    let base = c.index.result.now in
+    let base = c.front.result.now in
     let asked = c.in-Ok-Some.taken.asked in
     let q = c.goes_on_taken.new.self in
     let b = c.first-base.result in
@@ -171,16 +176,16 @@ returns-in-Ok-clause-own g c =
     let bs = c.args.bases.now.items in
     let v = c.blocks-blocks.result.now in
     let laid = laid_as t v c.blocks-blocks.ensures.words c.blocks-blocks.ensures.blocks in
-    let front = first_here bs c.index.result.now
-    (some_held t s r k [] bs (copy_first r.stage k c.requires.due) c.requires.own) c.index.ensures in
-    let can = subst (λ (z : BlocksView). CanCopyAt z r c.index.result.now r.stage) (sym laid)
+    let front = first_here bs c.front.result.now
+    (some_held t s r k [] bs (copy_first r.stage k c.requires.due) c.requires.own) c.front.ensures in
+    let can = subst (λ (z : BlocksView). CanCopyAt z r c.front.result.now r.stage) (sym laid)
     (copy_can c.copied_as_worlds.ensures c.copies_go_on.ensures c.sizes_copies.ensures.sizes c.copies_stay_own.ensures.blocks
-    c.copies_by_stage.ensures.others t s r k bs front.0 c.index.result.now c.requires.due c.requires.ties c.requires.own front.1) in
+    c.copies_by_stage.ensures.others t s r k bs front.0 c.front.result.now c.requires.due c.requires.ties c.requires.own front.1) in
     let m = c.takes.new.self in
-    let call = taken_call v r m c.index.result.now c.in-Ok-Some.taken k c.requires.due can
-    (subst (λ (o : Option (Taken g.row.V.Denot)). AreTakenAt v r m c.index.result.now o r.stage) c.in-Ok-Some.field-0-is
+    let call = taken_call v r m c.front.result.now c.in-Ok-Some.taken k c.requires.due can
+    (subst (λ (o : Option (Taken g.row.V.Denot)). AreTakenAt v r m c.front.result.now o r.stage) c.in-Ok-Some.field-0-is
     c.in-Ok-Some.ensures.ok) in
-    let base = c.index.result.now in
+    let base = c.front.result.now in
     let asked = c.in-Ok-Some.taken.asked in
     let q = c.goes_on_taken.new.self in
     let b = c.first-base.result in
@@ -207,16 +212,16 @@ returns-in-Err-goes_on_taken-clause-ties g c =
     let bs = c.args.bases.now.items in
     let v = c.blocks-blocks.result.now in
     let laid = laid_as t v c.blocks-blocks.ensures.words c.blocks-blocks.ensures.blocks in
-    let front = first_here bs c.index.result.now
-    (some_held t s r k [] bs (copy_first r.stage k c.requires.due) c.requires.own) c.index.ensures in
-    let can = subst (λ (z : BlocksView). CanCopyAt z r c.index.result.now r.stage) (sym laid)
+    let front = first_here bs c.front.result.now
+    (some_held t s r k [] bs (copy_first r.stage k c.requires.due) c.requires.own) c.front.ensures in
+    let can = subst (λ (z : BlocksView). CanCopyAt z r c.front.result.now r.stage) (sym laid)
     (copy_can c.copied_as_worlds.ensures c.copies_go_on.ensures c.sizes_copies.ensures.sizes c.copies_stay_own.ensures.blocks
-    c.copies_by_stage.ensures.others t s r k bs front.0 c.index.result.now c.requires.due c.requires.ties c.requires.own front.1) in
+    c.copies_by_stage.ensures.others t s r k bs front.0 c.front.result.now c.requires.due c.requires.ties c.requires.own front.1) in
     let m = c.takes.new.self in
-    let call = taken_call v r m c.index.result.now c.in-Ok-Some.taken k c.requires.due can
-    (subst (λ (o : Option (Taken g.row.V.Denot)). AreTakenAt v r m c.index.result.now o r.stage) c.in-Ok-Some.field-0-is
+    let call = taken_call v r m c.front.result.now c.in-Ok-Some.taken k c.requires.due can
+    (subst (λ (o : Option (Taken g.row.V.Denot)). AreTakenAt v r m c.front.result.now o r.stage) c.in-Ok-Some.field-0-is
     c.in-Ok-Some.ensures.ok) in
-    let base = c.index.result.now in
+    let base = c.front.result.now in
     let asked = c.in-Ok-Some.taken.asked in
     let q = c.goes_on_taken.new.self in
     let b = c.first-base.result in
@@ -241,16 +246,16 @@ returns-in-Err-goes_on_taken-clause-starved g c =
     let bs = c.args.bases.now.items in
     let v = c.blocks-blocks.result.now in
     let laid = laid_as t v c.blocks-blocks.ensures.words c.blocks-blocks.ensures.blocks in
-    let front = first_here bs c.index.result.now
-    (some_held t s r k [] bs (copy_first r.stage k c.requires.due) c.requires.own) c.index.ensures in
-    let can = subst (λ (z : BlocksView). CanCopyAt z r c.index.result.now r.stage) (sym laid)
+    let front = first_here bs c.front.result.now
+    (some_held t s r k [] bs (copy_first r.stage k c.requires.due) c.requires.own) c.front.ensures in
+    let can = subst (λ (z : BlocksView). CanCopyAt z r c.front.result.now r.stage) (sym laid)
     (copy_can c.copied_as_worlds.ensures c.copies_go_on.ensures c.sizes_copies.ensures.sizes c.copies_stay_own.ensures.blocks
-    c.copies_by_stage.ensures.others t s r k bs front.0 c.index.result.now c.requires.due c.requires.ties c.requires.own front.1) in
+    c.copies_by_stage.ensures.others t s r k bs front.0 c.front.result.now c.requires.due c.requires.ties c.requires.own front.1) in
     let m = c.takes.new.self in
-    let call = taken_call v r m c.index.result.now c.in-Ok-Some.taken k c.requires.due can
-    (subst (λ (o : Option (Taken g.row.V.Denot)). AreTakenAt v r m c.index.result.now o r.stage) c.in-Ok-Some.field-0-is
+    let call = taken_call v r m c.front.result.now c.in-Ok-Some.taken k c.requires.due can
+    (subst (λ (o : Option (Taken g.row.V.Denot)). AreTakenAt v r m c.front.result.now o r.stage) c.in-Ok-Some.field-0-is
     c.in-Ok-Some.ensures.ok) in
-    let base = c.index.result.now in
+    let base = c.front.result.now in
     let asked = c.in-Ok-Some.taken.asked in
     let q = c.goes_on_taken.new.self in
     let b = c.first-base.result in
@@ -275,16 +280,16 @@ returns-in-Err-goes_on_taken-clause-own g c =
     let bs = c.args.bases.now.items in
     let v = c.blocks-blocks.result.now in
     let laid = laid_as t v c.blocks-blocks.ensures.words c.blocks-blocks.ensures.blocks in
-    let front = first_here bs c.index.result.now
-    (some_held t s r k [] bs (copy_first r.stage k c.requires.due) c.requires.own) c.index.ensures in
-    let can = subst (λ (z : BlocksView). CanCopyAt z r c.index.result.now r.stage) (sym laid)
+    let front = first_here bs c.front.result.now
+    (some_held t s r k [] bs (copy_first r.stage k c.requires.due) c.requires.own) c.front.ensures in
+    let can = subst (λ (z : BlocksView). CanCopyAt z r c.front.result.now r.stage) (sym laid)
     (copy_can c.copied_as_worlds.ensures c.copies_go_on.ensures c.sizes_copies.ensures.sizes c.copies_stay_own.ensures.blocks
-    c.copies_by_stage.ensures.others t s r k bs front.0 c.index.result.now c.requires.due c.requires.ties c.requires.own front.1) in
+    c.copies_by_stage.ensures.others t s r k bs front.0 c.front.result.now c.requires.due c.requires.ties c.requires.own front.1) in
     let m = c.takes.new.self in
-    let call = taken_call v r m c.index.result.now c.in-Ok-Some.taken k c.requires.due can
-    (subst (λ (o : Option (Taken g.row.V.Denot)). AreTakenAt v r m c.index.result.now o r.stage) c.in-Ok-Some.field-0-is
+    let call = taken_call v r m c.front.result.now c.in-Ok-Some.taken k c.requires.due can
+    (subst (λ (o : Option (Taken g.row.V.Denot)). AreTakenAt v r m c.front.result.now o r.stage) c.in-Ok-Some.field-0-is
     c.in-Ok-Some.ensures.ok) in
-    let base = c.index.result.now in
+    let base = c.front.result.now in
     let asked = c.in-Ok-Some.taken.asked in
     let q = c.goes_on_taken.new.self in
     let b = c.first-base.result in
@@ -307,7 +312,7 @@ copy_here-requires-clause-own g c =
     let s = c.args.seat.now in
     let r = c.args.actor.now in
     let v = c.blocks-blocks.result.now in
-    let base = c.index.result.now in
+    let base = c.front.result.now in
     let m = c.takes.new.self in
     let same = none_same v r m base c.args.k c.requires.due
     (subst (λ (o : Option (Taken g.row.V.Denot)). AreTakenAt v r m base o r.stage) c.in-Ok-None.field-0-is c.in-Ok-None.ensures.ok) in
@@ -318,7 +323,7 @@ returns-in_ok-told-in-Ok-None-clause-turned g c =
     let s = c.args.seat.now in
     let r = c.args.actor.now in
     let v = c.blocks-blocks.result.now in
-    let base = c.index.result.now in
+    let base = c.front.result.now in
     let m = c.takes.new.self in
     let n = c.in_ok-told-in-Ok-None.told in
     let same = none_same v r m base c.args.k c.requires.due

@@ -21,11 +21,16 @@ copied-requires g c =
     let k = c.args.k in
     let bs = c.args.bases.now.items in
     let laid = laid_as t c.blocks-2.result.now c.blocks-2.ensures.words c.blocks-2.ensures.blocks in
-    let front = first_here bs c.index.result.now
-    (some_held t s r k [] bs (copy_first r.stage k c.requires.due) c.requires.own) c.index.ensures in
-    subst (λ (v : BlocksView). CanCopyAt v r c.index.result.now r.stage) (sym laid)
+    let front = first_here bs c.front.result.now
+    (some_held t s r k [] bs (copy_first r.stage k c.requires.due) c.requires.own) c.front.ensures in
+    subst (λ (v : BlocksView). CanCopyAt v r c.front.result.now r.stage) (sym laid)
     (copy_can c.copied_as_worlds.ensures c.copies_go_on.ensures c.sizes_copies.ensures.sizes c.copies_stay_own.ensures.blocks
-    c.copies_by_stage.ensures.others t s r k bs front.0 c.index.result.now c.requires.due c.requires.ties c.requires.own front.1)
+    c.copies_by_stage.ensures.others t s r k bs front.0 c.front.result.now c.requires.due c.requires.ties c.requires.own front.1)
+
+pub front-requires : goal.front-requires
+front-requires g c =
+    some_held c.args.table.now c.args.seat.now c.args.actor.now c.args.k [] c.args.bases.now.items
+    (copy_first c.args.actor.now.stage c.args.k c.requires.due) c.requires.own
 
 pub first-base-requires : goal.first-base-requires
 first-base-requires g c =
@@ -67,9 +72,9 @@ returns-in-Ok-clause-turned g c =
     let laid = laid_as t c.blocks-2.result.now c.blocks-2.ensures.words c.blocks-2.ensures.blocks in
     let q = c.copied.new.self in
     let b = c.first-base.result in
-    let front = first_here bs c.index.result.now
-    (some_held t s r k [] bs (copy_first r.stage k c.requires.due) c.requires.own) c.index.ensures in
-    let same = front_same bs c.index.result.now b front.0 c.first-base.new.bases.items front.1 c.first-base.ensures in
+    let front = first_here bs c.front.result.now
+    (some_held t s r k [] bs (copy_first r.stage k c.requires.due) c.requires.own) c.front.ensures in
+    let same = front_same bs c.front.result.now b front.0 c.first-base.new.bases.items front.1 c.first-base.ensures in
     let running = subst (λ (v : BlocksView). IsRunning v r → IsRunning v q) laid
     (c.in-Ok.ensures.keeps (copy_reads c.copies_go_on.ensures t s r k c.requires.due c.requires.ties)).running c.requires.ties.running in
     (copy_tied c.steps_as_worlds.ensures c.copied_stay_own.ensures c.copied_as_worlds.ensures c.copies_go_on.ensures
@@ -90,9 +95,9 @@ returns-in-Ok-clause-ties g c =
     let laid = laid_as t c.blocks-2.result.now c.blocks-2.ensures.words c.blocks-2.ensures.blocks in
     let q = c.copied.new.self in
     let b = c.first-base.result in
-    let front = first_here bs c.index.result.now
-    (some_held t s r k [] bs (copy_first r.stage k c.requires.due) c.requires.own) c.index.ensures in
-    let same = front_same bs c.index.result.now b front.0 c.first-base.new.bases.items front.1 c.first-base.ensures in
+    let front = first_here bs c.front.result.now
+    (some_held t s r k [] bs (copy_first r.stage k c.requires.due) c.requires.own) c.front.ensures in
+    let same = front_same bs c.front.result.now b front.0 c.first-base.new.bases.items front.1 c.first-base.ensures in
     let running = subst (λ (v : BlocksView). IsRunning v r → IsRunning v q) laid
     (c.in-Ok.ensures.keeps (copy_reads c.copies_go_on.ensures t s r k c.requires.due c.requires.ties)).running c.requires.ties.running in
     (copy_tied c.steps_as_worlds.ensures c.copied_stay_own.ensures c.copied_as_worlds.ensures c.copies_go_on.ensures
@@ -113,9 +118,9 @@ returns-in-Ok-clause-own g c =
     let laid = laid_as t c.blocks-2.result.now c.blocks-2.ensures.words c.blocks-2.ensures.blocks in
     let q = c.copied.new.self in
     let b = c.first-base.result in
-    let front = first_here bs c.index.result.now
-    (some_held t s r k [] bs (copy_first r.stage k c.requires.due) c.requires.own) c.index.ensures in
-    let same = front_same bs c.index.result.now b front.0 c.first-base.new.bases.items front.1 c.first-base.ensures in
+    let front = first_here bs c.front.result.now
+    (some_held t s r k [] bs (copy_first r.stage k c.requires.due) c.requires.own) c.front.ensures in
+    let same = front_same bs c.front.result.now b front.0 c.first-base.new.bases.items front.1 c.first-base.ensures in
     let running = subst (λ (v : BlocksView). IsRunning v r → IsRunning v q) laid
     (c.in-Ok.ensures.keeps (copy_reads c.copies_go_on.ensures t s r k c.requires.due c.requires.ties)).running c.requires.ties.running in
     (copy_tied c.steps_as_worlds.ensures c.copied_stay_own.ensures c.copied_as_worlds.ensures c.copies_go_on.ensures

@@ -1,6 +1,8 @@
-use Rattle.std.proofs.Common.{◌≡◌, List, ap, length, subst, sym, ◌∙◌}
+use Rattle.std.proofs.Common.{◌≡◌, ◌<◌, ◌^◌, ℕ, All, List, ap, length, slice_index, subst, sym, ◌∙◌}
 use Rattle.conflict.specs.declared.change.Change.{Change}
-use Rattle.replay_log.specs.Base.{IsPreparedFor}
+use Rattle.replay_log.specs.declared.base.Base.{Base}
+use Rattle.replay_log.specs.Base.{IsPreparedFor, after, editions_of, locations_of, shown_of, stripes_of}
+use Rattle.replay_log.specs.Log.{AreRaised}
 use Rattle.std.specs.declared.alloc.Global.{Global}
 use Rattle.std.specs.declared.vec.Vec.{Vec}
 use Rattle.actor_copies.specs.declared.copies.CopyOf.{CopyOf}
@@ -28,22 +30,27 @@ first-base-requires g c =
 pub fold-requires-clause-prepared : goal.fold-requires-clause-prepared
 fold-requires-clause-prepared g c =
     let b = c.first-base.result in
-    subst (λ (cs : List (Change _)). IsPreparedFor cs b) (sym c.log_of-log.ensures.changes)
+    subst (λ (d : Base g.row.V.Denot). IsPreparedFor c.log_of-log.result.changes d) (sym c.get_mut.ensures.value)
+    (subst (λ (cs : List (Change _)). IsPreparedFor cs b) (sym c.log_of-log.ensures.changes)
     (home_base c.args.table.now c.args.seat.now c.args.actor.now c.args.k c.args.bases.now.items c.first-base.new.bases.items b
     c.requires.due
-    c.requires.own c.first-base.ensures).1.0
+    c.requires.own c.first-base.ensures).1.0)
 
 pub fold-requires-clause-within : goal.fold-requires-clause-within
 fold-requires-clause-within g c =
-    home_within c.logs_as_worlds.ensures.log c.args.table.now c.args.seat.now c.args.actor.now c.args.k c.args.bases.now.items
+    subst (λ (d : Base g.row.V.Denot). All (λ location. location < locations_of (stripes_of d) (shown_of d)) c.log_of-log.result.locations)
+    (sym c.get_mut.ensures.value)
+    (home_within c.logs_as_worlds.ensures.log c.args.table.now c.args.seat.now c.args.actor.now c.args.k c.args.bases.now.items
     c.first-base.new.bases.items c.first-base.result c.requires.due c.requires.ties c.requires.own c.first-base.ensures
-    c.logs_as_worlds.ensures.within c.copies_by_stage.ensures.others c.log_of-log.result.locations c.log_of-log.ensures.locations
+    c.logs_as_worlds.ensures.within c.copies_by_stage.ensures.others c.log_of-log.result.locations c.log_of-log.ensures.locations)
 
 pub fold-requires-clause-below : goal.fold-requires-clause-below
 fold-requires-clause-below g c =
-    home_below c.logs_as_worlds.ensures.log c.args.table.now c.args.seat.now c.args.actor.now c.args.k c.args.bases.now.items
+    subst (λ (d : Base g.row.V.Denot). All (λ location. slice_index (editions_of d) location < 2 ^ 63) c.log_of-log.result.locations)
+    (sym c.get_mut.ensures.value)
+    (home_below c.logs_as_worlds.ensures.log c.args.table.now c.args.seat.now c.args.actor.now c.args.k c.args.bases.now.items
     c.first-base.new.bases.items c.first-base.result c.requires.due c.requires.ties c.requires.own c.first-base.ensures
-    c.logs_as_worlds.ensures.editions c.copies_by_stage.ensures.others c.log_of-log.result.locations c.log_of-log.ensures.locations
+    c.logs_as_worlds.ensures.editions c.copies_by_stage.ensures.others c.log_of-log.result.locations c.log_of-log.ensures.locations)
 
 pub put_gate-requires-clause-own : goal.put_gate-requires-clause-own
 put_gate-requires-clause-own g c = c.requires.ties.owns
@@ -62,10 +69,16 @@ put_gate-requires-clause-held g c =
 
 pub put_gate-requires-clause-due : goal.put_gate-requires-clause-due
 put_gate-requires-clause-due g c =
+    let e = c.fold.ensures in
+    let same = c.get_mut.ensures.value in
+    let shown = subst (λ (d : Base g.row.V.Denot). shown_of c.fold.new.base ≡ after c.log_of-log.result.changes (shown_of d)) same e.shown in
+    let stripes = subst (λ (d : Base g.row.V.Denot). stripes_of c.fold.new.base ≡ stripes_of d) same e.stripes in
+    let editions = subst (λ (d : Base g.row.V.Denot).
+    AreRaised c.log_of-log.result.locations (editions_of d) (editions_of c.fold.new.base)) same e.editions in
     home_may c.logs_as_worlds.ensures.log c.args.table.now c.args.seat.now c.args.actor.now c.args.k c.args.bases.now.items
     c.first-base.new.bases.items c.first-base.result c.requires.due c.requires.ties c.requires.own c.first-base.ensures
     c.steps_as_worlds.ensures c.log_of-log.result.changes c.log_of-log.result.locations c.fold.new.base c.log_of-log.ensures.changes
-    c.log_of-log.ensures.locations c.fold.ensures.shown c.fold.ensures.stripes c.fold.ensures.editions
+    c.log_of-log.ensures.locations shown stripes editions
 
 pub returns-clause-turned : goal.returns-clause-turned
 returns-clause-turned g c =

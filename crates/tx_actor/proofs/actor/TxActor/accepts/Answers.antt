@@ -1,41 +1,92 @@
-use Rattle.std.proofs.Common.{◌≡◌, ◌≤◌, [], ◌∷◌, ◌++◌, refl, sym, ap, subst, ◌∙◌, arith}
+use Rattle.std.specs.Prelude.{slice_get}
+use Rattle.std.proofs.Common.{◌≡◌, ◌<◌, ◌≤◌, [], ◌∷◌, ◌++◌, Option, Some, length, refl, sym, ap, subst, ◌∙◌, arith}
 use Rattle.word_machine.specs.Actor as machine
 use Rattle.tx_sets.specs.Entries.{Entries}
+use Rattle.conflict.specs.declared.outcome.Outcome.{Outcome}
 use Rattle.seq_model.specs.declared.event.Answer.TheVariants as answer
 use Rattle.seq_model.specs.declared.event.Notice.TheVariants.{Answered}
 use Rattle.step_core.specs.Shown.{actor_of}
-use Rattle.replay_log.specs.Worlds.{Open, call_of}
+use Rattle.replay_log.specs.Worlds.{Open}
+use Rattle.tx_actor.specs.Answers.{IsAcceptedAt}
 use Rattle.tx_actor.specs.Running.{answered_of, seat_of}
-use Rattle.actor_copies.specs.Writes.{written_as}
+use Rattle.actor_copies.specs.Writes.{MayWrite, written_as}
 use Rattle.replay_log.specs.Contents.{end_of}
 use Rattle.step_core.specs.Sound.{owed}
 use Rattle.step_core.specs.declared.actor.Place.{Place}
+use Rattle.tx_actor.specs.declared.actor.Answered as running
+use Rattle.tx_actor.specs.declared.actor.Told.TheVariants as told
 use Rattle.tx_actor.proofs.KeepingLemmas.{keeps_open}
 use Rattle.tx_actor.proofs.RoomLemmas.{fits_written}
 use Rattle.tx_actor.proofs.AnswerLemmas.{accepted_as, pieces_stay}
 use Rattle.tx_actor.proofs.actor.TxActor.accepts.Goals as goal
 
+pub write_all-requires : goal.write_all-requires
+write_all-requires g c =
+    let same = c.deref.ensures ∙ ap (λ (d : running.Answered g.row.V.Denot). d.writes.items) c.get_mut-answered.ensures.value in
+    subst (λ (ds : Entries). MayWrite c.args.self.now.words ds) (sym same) c.requires.prepared.writes
+
+pub accept_at-requires : goal.accept_at-requires
+accept_at-requires g c =
+    let is = c.get_mut-answered.ensures.value in
+    let at : c.get_mut-answered.result.now.place ≡ c.args.call.place = ap (λ (d : running.Answered g.row.V.Denot). d.place) is in
+    let outcome : c.replace-outcome.result ≡ c.args.call.outcome =
+    c.replace-outcome.ensures.value ∙ ap (λ (d : running.Answered g.row.V.Denot). d.outcome) is in
+    record {
+      place = subst (λ i. i < length c.args.self.now.copies.items) (sym at) c.requires.prepared.place;
+      ready = λ d x there some. c.requires.prepared.ready d x
+          (subst (λ i. slice_get c.args.self.now.copies.items i ≡ Some d) at there) (sym outcome ∙ some);
+    }
+
 pub returns-clause-does : goal.returns-clause-does
 returns-clause-does g c a w s may =
     let old = c.args.self.now in
     let call = c.args.call in
-    let calls = c.push_reserved.ensures.items ∙ (λ i. old.calls.items ++ (call_of (answered_of call), c.requires.prepared.kept i) ∷ []) in
-    let pieces = pieces_stay call.place call.outcome old.copies.items c.accept_at.new.copies.items c.accept_at.ensures in (
+    let is : c.get_mut-answered.result.now ≡ call = c.get_mut-answered.ensures.value in
+    let op : c.replace-op.result ≡ call.asked.op =
+    c.replace-op.ensures.value ∙ ap (λ (d : running.Answered g.row.V.Denot). d.asked.op) is in
+    let kept = c.replace-kept.ensures.value ∙ (ap (λ (d : running.Answered g.row.V.Denot). d.kept) is ∙ c.requires.prepared.kept) in
+    let told = c.replace-told.ensures.value ∙ (ap (λ (d : running.Answered g.row.V.Denot). d.told) is ∙ c.requires.prepared.told) in
+    let calls = c.push_reserved.ensures.items
+    ∙ (λ i. old.calls.items ++ (record { target = (is i).asked.collection; op = op i }, kept i) ∷ []) in
+    let outcome : c.replace-outcome.result ≡ call.outcome =
+    c.replace-outcome.ensures.value ∙ ap (λ (d : running.Answered g.row.V.Denot). d.outcome) is in
+    let accepted : IsAcceptedAt call.place call.outcome old.copies.items c.accept_at.new.copies.items =
+    subst (λ (d : running.Answered g.row.V.Denot). IsAcceptedAt d.place call.outcome old.copies.items c.accept_at.new.copies.items) is
+    (subst (λ (x : Option (Outcome
+    g.row.V.Denot)). IsAcceptedAt c.get_mut-answered.result.now.place x old.copies.items c.accept_at.new.copies.items) outcome
+    c.accept_at.ensures) in
+    let pieces = pieces_stay call.place call.outcome old.copies.items c.accept_at.new.copies.items accepted in
+    let writes = c.deref.ensures ∙ ap (λ (d : running.Answered g.row.V.Denot). d.writes.items) is in (
       accepted_as a w (seat_of old) _ _ (answered_of call) _ tt may.guard may.outcome
           (c.write_all.ensures.actor
-          ∙ (ap (λ (ds : Entries). written_as (actor_of old.words) ds) c.deref.ensures
+          ∙ (ap (λ (ds : Entries). written_as (actor_of old.words) ds) writes
           ∙ (ap (λ (y : machine.Actor). written_as y call.writes.items) (sym s) ∙ sym may.writes)))
           (λ i. record (seat_of old) { stage = Open; calls = calls i; copied = λ k q. pieces k q i }),
-      (λ i. Answered a (answer.Replied (c.requires.prepared.told i))),
+      (λ i. Answered a (answer.Replied (told i))),
     )
+
+pub returns-clause-copies : goal.returns-clause-copies
+returns-clause-copies g c =
+    let before = c.args.self.now.copies.items in
+    let now = c.accept_at.new.copies.items in
+    let is = c.get_mut-answered.ensures.value in
+    subst (λ (d : running.Answered g.row.V.Denot). IsAcceptedAt d.place d.outcome before now) is
+    (subst (λ (x : Option (Outcome g.row.V.Denot)). IsAcceptedAt c.get_mut-answered.result.now.place x before now) c.replace-outcome.ensures.value
+    c.accept_at.ensures)
+
+pub returns-clause-told : goal.returns-clause-told
+returns-clause-told g c =
+    let is = c.replace-told.ensures.value ∙ ap (λ (d : running.Answered g.row.V.Denot). d.told) c.get_mut-answered.ensures.value in
+    (refl, λ i. told.Answered (answer.Replied (is i)))
 
 pub returns-clause-keeps : goal.returns-clause-keeps
 returns-clause-keeps g c v below =
     let old = c.args.self.now in
     let ds = c.args.call.writes.items in
     let end = end_of v.words v.blocks in
+    let writes = c.deref.ensures ∙ ap (λ (d : running.Answered g.row.V.Denot). d.writes.items) c.get_mut-answered.ensures.value in
     let made : actor_of c.write_all.new.words ≡ written_as (actor_of old.words) ds =
-    c.write_all.ensures.actor ∙ ap (λ (es : Entries). written_as (actor_of old.words) es) c.deref.ensures in
+    c.write_all.ensures.actor ∙ ap (λ (es : Entries). written_as (actor_of old.words) es) writes in
     keeps_open v old _ (fits_written end old.words c.write_all.new.words ds c.requires.prepared.writes below made c.write_all.ensures.place)
     (subst (λ (p : Place). owed p ≤ owed old.words.place) (sym c.write_all.ensures.place) (omega arith)) refl
 

@@ -9,11 +9,11 @@ use Rattle.actor_copies.proofs.TakingLemmas.{some_copy}
 use Rattle.tx_actor.proofs.PreparesLemmas.{alike_itself, known_length, prepared_by}
 use Rattle.tx_actor.proofs.actor.TxActor.readies.Goals as goal
 
-pub returns-in_err-call-clause-alike : goal.returns-in_err-call-clause-alike
-returns-in_err-call-clause-alike g c = alike_itself c.args.self.now
+pub returns-in_err-weighed-clause-alike : goal.returns-in_err-weighed-clause-alike
+returns-in_err-weighed-clause-alike g c = alike_itself c.args.self.now
 
-pub returns-then-not-call-clause-alike : goal.returns-then-not-call-clause-alike
-returns-then-not-call-clause-alike g c = alike_itself c.args.self.now
+pub returns-then-not-weighed-clause-alike : goal.returns-then-not-weighed-clause-alike
+returns-then-not-weighed-clause-alike g c = alike_itself c.args.self.now
 
 pub returns-in_err-kept-clause-alike : goal.returns-in_err-kept-clause-alike
 returns-in_err-kept-clause-alike g c = alike_itself c.args.self.now
@@ -21,22 +21,22 @@ returns-in_err-kept-clause-alike g c = alike_itself c.args.self.now
 pub returns-in_err-told-clause-alike : goal.returns-in_err-told-clause-alike
 returns-in_err-told-clause-alike g c = alike_itself c.args.self.now
 
-pub returns-then-not-call-clause-ok : goal.returns-then-not-call-clause-ok
-returns-then-not-call-clause-ok g c copy at =
+pub returns-then-not-weighed-clause-ok : goal.returns-then-not-weighed-clause-ok
+returns-then-not-weighed-clause-ok g c copy at =
     let r = c.args.self.now in
     let cs = r.copies.items in
     let here = c.index.result.now in
     let there = slice_get_read cs (length cs) c.args.place here refl c.requires.there c.index.ensures in
     let e = some_copy here copy (sym there ∙ at) in
-    let o = c.in_ok-call.call.outcome in
-    let unfit : fits r c.args.first here.copied o ≡ false = sym c.in_ok-call.ensures.fits ∙ c.if-not-call.true in (
+    let o = c.in_ok-weighed.weighed.outcome in
+    let unfit : fits r c.args.first here.copied o ≡ false = sym c.in_ok-weighed.ensures.fits ∙ c.if-not-weighed.true in (
       o,
-      ap (λ (z : CopyOf g.row.V.Denot). answer_of z.copied c.args.op.now) (sym e) ∙ c.in_ok-call.ensures.outcome,
+      ap (λ (z : CopyOf g.row.V.Denot). answer_of z.copied c.args.call.now.asked.op) (sym e) ∙ c.in_ok-weighed.ensures.outcome,
       subst (λ (z : CopyOf g.row.V.Denot). fits r c.args.first z.copied o ≡ false) e unfit,
     )
 
 pub returns-clause-ok : goal.returns-clause-ok
-returns-clause-ok g c copy at asked named same_op =
+returns-clause-ok g c copy at =
     let r = c.args.self.now in
     let u = c.make_room.new.self in
     let cs = r.copies.items in
@@ -44,32 +44,35 @@ returns-clause-ok g c copy at asked named same_op =
     let here = c.index.result.now in
     let e = some_copy here copy
     (sym (slice_get_read cs (length cs) c.args.place here refl c.requires.there c.index.ensures) ∙ at) in
-    let o = c.in_ok-call.call.outcome in
-    let answer : answer_of copy.copied c.args.op.now ≡ Some o =
-    ap (λ (z : CopyOf g.row.V.Denot). answer_of z.copied c.args.op.now) (sym e) ∙ c.in_ok-call.ensures.outcome in
-    let fit_here : fits r f here.copied o ≡ true = sym c.in_ok-call.ensures.fits ∙ c.if-not-call.false in
+    let o = c.in_ok-weighed.weighed.outcome in
+    let answer : answer_of copy.copied c.args.call.now.asked.op ≡ Some o =
+    ap (λ (z : CopyOf g.row.V.Denot). answer_of z.copied c.args.call.now.asked.op) (sym e) ∙ c.in_ok-weighed.ensures.outcome in
+    let fit_here : fits r f here.copied o ≡ true = sym c.in_ok-weighed.ensures.fits ∙ c.if-not-weighed.false in
     let fit : fits r f copy.copied o ≡ true = subst (λ (z : CopyOf g.row.V.Denot). fits r f z.copied o ≡ true) e fit_here in
-    let writes : c.in_ok-call.call.writes.items ≡ with_next copy.copied f (writes_in copy.copied o) =
-    c.in_ok-call.ensures.writes ∙ ap (λ (z : CopyOf g.row.V.Denot). with_next z.copied f (writes_in z.copied o)) e in
-    let room : HasRoomFor u c.args.place o c.len.result (length c.in_ok-call.call.writes.items) =
-    let same : c.len-2.result ≡ length c.in_ok-call.call.writes.items = c.len-2.ensures.value in
+    let writes : c.in_ok-weighed.weighed.writes.items ≡ with_next copy.copied f (writes_in copy.copied o) =
+    c.in_ok-weighed.ensures.writes ∙ ap (λ (z : CopyOf g.row.V.Denot). with_next z.copied f (writes_in z.copied o)) e in
+    let room : HasRoomFor u c.args.place o c.len.result (length c.in_ok-weighed.weighed.writes.items) =
+    let same : c.len-2.result ≡ length c.in_ok-weighed.weighed.writes.items = c.len-2.ensures.value in
     subst (λ m. HasRoomFor u c.args.place o c.len.result m) same c.in_ok-make_room.ensures.room in
-    let left = c.in_ok-call.ensures.left ∙ ap (λ (z : CopyOf g.row.V.Denot). with_known z.copied f (reads_in z.copied o)) e in
+    let left = c.in_ok-weighed.ensures.left ∙ ap (λ (z : CopyOf g.row.V.Denot). with_known z.copied f (reads_in z.copied o)) e in
     let many : c.len.result ≡ length (reads_in copy.copied o) =
-    let count : length c.in_ok-call.call.left.items ≡ length (reads_in copy.copied o) =
+    let count : length c.in_ok-weighed.weighed.left.items ≡ length (reads_in copy.copied o) =
     ap length left ∙ known_length copy.copied f (reads_in copy.copied o) in
-    omega (arith, c.len.ensures, count) in
-    record {
-      outcome = o;
-      answer = answer;
-      fits = fit;
-      is = refl;
-      at = refl;
-      collection = named;
-      asked = same_op;
-      left = left;
-      writes = writes;
-      prepared = prepared_by r u c.args.place f c.args.op.now copy o _ c.len.result c.make_room.ensures.alike c.requires room at answer fit
-          writes
-          refl refl named same_op c.in_ok-kept.ensures c.in_ok-told.ensures many;
-    }
+    omega (arith, c.len.ensures, count) in (
+      refl,
+      λ named. record {
+        outcome = o;
+        answer = answer;
+        fits = fit;
+        is = refl;
+        at = refl;
+        collection = named;
+        asked = refl;
+        left = left;
+        writes = writes;
+        prepared = prepared_by r u c.args.place f c.args.call.now.asked.op copy o _ c.len.result c.make_room.ensures.alike c.requires room at
+            answer fit
+            writes
+            refl refl named refl c.in_ok-kept.ensures c.in_ok-told.ensures many;
+      },
+    )

@@ -1,7 +1,9 @@
-use Rattle.std.proofs.Common.{refl, sym, ◌∙◌}
+use Rattle.std.proofs.Common.{◌≡◌, [], ◌∷◌, refl, sym, subst, ◌∙◌}
 use Rattle.seq_model.specs.declared.refusal.Refusal.TheVariants as refusal
-use Rattle.tx_actor.specs.Running.{at, seat_of}
-use Rattle.replay_log.specs.Worlds.{starve_at}
+use Rattle.tx_actor.specs.Keeping.{KeepsIn}
+use Rattle.tx_actor.specs.Running.{Runs, at, notice_of, seat_of}
+use Rattle.replay_log.specs.Worlds.{because, gives_up, starve_at}
+use Rattle.tx_actor.specs.declared.actor.Asked.{Asked}
 use Rattle.tx_actor.specs.declared.actor.Stage.TheVariants as stage
 use Rattle.tx_actor.specs.declared.actor.Told.TheVariants.{Refused}
 use Rattle.tx_actor.proofs.DispatchLemmas.{does_at_stage, does_stays, starve_else}
@@ -38,7 +40,11 @@ returns-in-Trying-clause-does g c =
 pub returns-in-Copying-clause-does : goal.returns-in-Copying-clause-does
 returns-in-Copying-clause-does g c =
     does_at_stage starve_at c.args.self.now c.starves_copying.new.self c.starves_copying.result (stage.Copying c.in-Copying.asked)
-    (sym c.replace-stage.ensures.value ∙ c.in-Copying.is) (λ a w s. c.starves_copying.ensures.does a w s.1)
+    (sym c.replace-stage.ensures.value ∙ c.in-Copying.is)
+    (λ a w s. subst
+    (λ (k : Asked g.row.V.Denot). let f = gives_up w a (because (seat_of c.args.self.now) refusal.OutOfMemory) (k.collection ∷ []) in
+    Runs a c.starves_copying.new.self f.0 × (notice_of a c.starves_copying.result ≡ f.1)) c.get.ensures
+    (c.starves_copying.ensures.does a w s.1))
 
 pub returns-in-Loading-clause-does : goal.returns-in-Loading-clause-does
 returns-in-Loading-clause-does g c =
@@ -131,7 +137,9 @@ returns-in-Copying-clause-keeps g c v =
     keeps_at v c.args.self.now c.starves_copying.new.self (stage.Copying c.in-Copying.asked) (sym c.replace-stage.ensures.value ∙
     c.in-Copying.is)
     (keeps_from v c.args.self.now c.args.self.now c.starves_copying.new.self (stage.Copying c.in-Copying.asked) (stage.ReturningOne
-    c.in-Copying.asked.collection) refl (c.starves_copying.ensures.keeps v) (λ n h. h) (λ z. tt))
+    c.in-Copying.asked.collection) refl
+    (subst (λ (k : Asked g.row.V.Denot). KeepsIn v (at c.args.self.now (stage.ReturningOne k.collection)) c.starves_copying.new.self)
+    c.get.ensures (c.starves_copying.ensures.keeps v)) (λ n h. h) (λ z. tt))
 
 pub returns-in-Gating-clause-keeps : goal.returns-in-Gating-clause-keeps
 returns-in-Gating-clause-keeps g c v =

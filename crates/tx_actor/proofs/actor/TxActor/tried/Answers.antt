@@ -1,4 +1,8 @@
-use Rattle.std.proofs.Common.{◌≡◌, [], arith, refl}
+use Rattle.std.proofs.Common.{◌≡◌, [], arith, refl, subst}
+use Rattle.seq_model.specs.declared.refusal.Refusal.TheVariants.{GateBusy}
+use Rattle.replay_log.specs.Worlds.{because, gives_up}
+use Rattle.tx_actor.specs.Running.{Reseats}
+use Rattle.tx_actor.specs.declared.actor.Asked.{Asked}
 use Rattle.replay_log.specs.Worlds.{Trying, Copying}
 use Rattle.tx_actor.specs.Running.{asked_of, seat_of, at}
 use Rattle.tx_actor.proofs.DispatchLemmas.{by_result}
@@ -27,7 +31,9 @@ returns-clause-does g c a w s =
     by_result c.gives_up.new.self c.gives_up.result a _ _
     (last_try a (seat_of c.args.self.now) w c.args.free c.args.asked.collection [] (λ n. Trying (asked_of c.args.asked) n)
     (Copying (asked_of c.args.asked)) c.args.tries c.if-free.false none)
-    (c.gives_up.ensures.does a w s)
+    (subst
+    (λ (k : Asked g.row.V.Denot). Reseats c.args.self.now c.gives_up.new.self c.gives_up.result
+    (λ a w. gives_up w a (because (seat_of c.args.self.now) (GateBusy k.collection)) [])) c.get.ensures c.gives_up.ensures.does a w s)
 
 pub returns-then-free-clause-keeps : goal.returns-then-free-clause-keeps
 returns-then-free-clause-keeps g c v =

@@ -1,6 +1,7 @@
-use Rattle.std.proofs.Common.{◌∙◌, ap}
+use Rattle.std.proofs.Common.{◌∙◌, Some, ap, sym}
 use Rattle.std.specs.Slots.{slots_items}
 use mathlib.Core.Option.{some}
+use Rattle.replay_log.specs.declared.base.Base.{Base}
 use Rattle.tx_table.proofs.SeatShares.{stands}
 use Rattle.tx_table.proofs.closed.Closed.base_at.Goals as goal
 
@@ -13,4 +14,4 @@ unreachable-requires g c =
 pub returns : goal.returns
 returns g c =
     stands (slots_items c.args.self.now.row.slots) c.args.k c.get.result.now c.requires c.get.ensures
-    ∙ ap (λ x. some x) c.in-Some.is
+    ∙ (ap (λ x. some x) c.in-Some.is ∙ ap (λ (b : Base g.row.V.Denot). some (Some b)) (sym c.get-in-Some.ensures))

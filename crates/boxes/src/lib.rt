@@ -1,0 +1,74 @@
+//! Values that move as a pointer.
+//!
+//! A large value that is handed from function to function is copied and its old place cleared at each step. In a box of its own it moves
+//! as a pointer, and the box can serve again for another value. Contracts see the value alone.
+#![tactic(auto)]
+
+ghost use Rattle.std.specs.Prelude.{◌≡◌, IfOk};
+ghost use Rattle.std.specs.Borrow.{Lends, sem};
+ghost use Rattle.boxes.specs.contracts.Boxed.{the_row};
+
+use std::alloc::{AllocError, Global};
+use std::marker::Model;
+use std::mem;
+
+/// A value in a box of its own. Contracts see the value.
+#[derive(Drop)]
+pub struct Boxed<T> {
+    place: Box<T>,
+}
+
+impl<T> Model for Boxed<T> {
+    ghost use Rattle.std.specs.Prelude.{◌≡◌};
+
+    ghost Value = { T };
+
+    ghost view = { λ a. a.place.value };
+}
+
+impl<T> Boxed<T> {
+    pub fn get(&self) -> &T
+        ensures { result.now ≡ self.now }
+    {
+        &self.place
+    }
+
+    pub fn get_mut(&mut self) -> &mut T
+        ensures* writes_back { sem 𝓛 (Lends (the_row T.row) T.row self.entry result (λ w. w)) }
+        ensures value { result.now ≡ self.old }
+    {
+        &mut self.place
+    }
+}
+
+impl<T: Drop> Boxed<T> {
+    /// A box for the value. Where memory is refused the value is dropped.
+    pub fn new(alloc: Global, value: T) -> Result<Boxed<T>, AllocError>
+        ensures { IfOk result (λ boxed. boxed ≡ value) }
+    {
+        let place = Box::new(alloc, value)?;
+        Ok(Boxed { place })
+    }
+
+    /// The value is another from now on, in the same box.
+    pub fn put(&mut self, value: T)
+        ensures { self.new ≡ value }
+    {
+        *self.place = value;
+    }
+
+    /// Another value takes its place, in the same box.
+    pub fn replace(&mut self, value: T) -> T
+        ensures now { self.new ≡ value }
+        ensures before { result ≡ self.old }
+    {
+        mem::replace(&mut *self.place, value)
+    }
+
+    pub fn into_inner(self) -> T
+        ensures { result ≡ self }
+    {
+        let Boxed { place } = self;
+        Box::into_inner(place)
+    }
+}

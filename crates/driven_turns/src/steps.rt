@@ -1,0 +1,76 @@
+//! Steps on the words, one after another.
+ghost use Rattle.std.specs.Prelude.{◌≡◌, ◌≢◌, true};
+ghost use Rattle.word_machine.specs.Notices as notice;
+ghost use Rattle.actor_words.specs.Dispatch.{next_of, notice_told};
+ghost use Rattle.replay_log.specs.WorldProgress.{AreSmall};
+ghost use Rattle.tx_actor.specs.Running.{stage_of};
+ghost use Rattle.tx_table.specs.Seated.{blocks_in, opening_of};
+ghost use Rattle.tx_turns.specs.Ties.{Ties};
+ghost use Rattle.gate_turns.specs.Own.{HasOwn};
+ghost use Rattle.driven_turns.specs.Driven.{LeadsOn, is_still};
+
+use actor_words::Next;
+use actor_words::laws::steps_as_worlds;
+use boxes::Boxed;
+use gate_turns::laws::turns_keep_own;
+use replay_log::Base;
+use seq_model::Value;
+use step_core::{WordAnswer, WordRefusal};
+use tx_actor::laws::{
+    copies_by_stage, loads_as_worlds, loads_keep_running, loads_stay_own, seats_as_actors,
+};
+use tx_actor::{Stage, Told, TxActor};
+use tx_table::{Seat, TxTable};
+use tx_threads::step_words;
+
+/// Whether nothing comes of a step on the words at this stage, since it told nothing.
+#[inline(always)]
+fn is_waiting<V>(stage: &Stage<V>, told: Result<Option<WordAnswer>, WordRefusal>) -> bool
+    ensures told { result ≡ true → notice_told told ≡ notice.Quiet }
+    ensures stage { result ≡ true → is_still stage.now ≡ true }
+{
+    if !matches!(told, Ok(None)) {
+        return false;
+    }
+    match stage {
+        Stage::Reading(_) | Stage::Loading(..) => true,
+        Stage::Locking(_) | Stage::Releasing | Stage::Cancelling => true,
+        _ => false,
+    }
+}
+
+/// Steps on the words that make no receipt, up to one that tells something, or of which something comes at its stage. They are taken one
+/// after another, and each is one atomic step.
+pub(crate) fn steps_on<V: Value>(
+    table: &TxTable<V>,
+    seat: &mut Seat<V>,
+    actor: &mut TxActor<V>,
+    bases: &[Boxed<Base<V>>],
+) -> Told<V>
+    requires ties { Ties table.now seat.old actor.old }
+    requires own { HasOwn table.now seat.old actor.old bases.now }
+    requires small { AreSmall (blocks_in table.now) }
+    requires due { next_of (stage_of actor.old.stage) ≡ Next.Word }
+    requires open { actor.old.stage ≢ Stage.Closing }
+    ensures leads { LeadsOn (opening_of table.now) seat.old seat.new result }
+    ensures ties { Ties table.now seat.new actor.new }
+    ensures own { HasOwn table.now seat.new actor.new bases.now }
+{
+    steps_as_worlds::<V>();
+    seats_as_actors::<V>();
+    loads_as_worlds::<V>();
+    loads_keep_running::<V>();
+    loads_stay_own::<V>();
+    copies_by_stage::<V>();
+    turns_keep_own::<V>();
+    let _ = bases;
+    'steps: loop {
+        let told = step_words(table, seat, &mut actor.words);
+        if !is_waiting(&actor.stage, told) {
+            return match actor.stage {
+                Stage::Loading(..) => actor.loaded(told),
+                _ => actor.stepped(told),
+            };
+        }
+    }
+}
