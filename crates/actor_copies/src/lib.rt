@@ -25,5 +25,5 @@ pub use sizes::sizes_copies;
 pub use spares::Spares;
 pub use staying::copies_stay;
 pub use taking::{fits_base, take, take_back, taken_back};
-pub use weighed::{Weighed, weigh};
+pub use weighed::weigh;
 pub use writes::{Writes, reserve_words, write_all};

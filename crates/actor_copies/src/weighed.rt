@@ -17,121 +17,102 @@ use crate::writes::{Writes, with_next};
 use conflict::Outcome;
 use seq_model::{Memory, Op, Value};
 use shadow::KeyPlace;
-use smallvec::SmallVec;
-use std::alloc::Global;
 use std::collections::VecDeque;
 use step_core::Actor;
 
-/// A call with its outcome.
-#[derive(Drop)]
-pub struct Weighed<V> {
-    pub outcome: Outcome<V>,
-    /// The locations that it reads, with the editions with which they were copied.
-    pub left: VecDeque<(u32, u64)>,
-    /// The locations that it writes, each with the edition after the copied one.
-    pub writes: Writes,
-    /// Whether they fit the sets of the transaction.
-    pub fits: bool,
-}
-
 /// What a call on a key reads and writes: this location.
 fn weigh_key<V: Value>(
-    call: &mut Weighed<V>,
+    left: &mut VecDeque<(u32, u64)>,
+    writes: &mut Writes,
     copied: &Copied<V>,
     first: u32,
     at: KeyPlace,
 ) -> Result<(), Memory>
     requires place { at.location < places_in copied.now }
     requires range { first + at.location < 2 ^ 32 }
-    ensures outcome { call.new.outcome ≡ call.old.outcome }
-    ensures left { OnOk result (call.new.left.items ≡ with_known copied.now first (at.location ∷ [])) }
-    ensures writes { OnOk result (call.new.writes.items ≡ with_next copied.now first (written_there at)) }
-    ensures fits { OnOk result (call.new.fits ≡ true) }
+    ensures left { OnOk result (left.new.items ≡ with_known copied.now first (at.location ∷ [])) }
+    ensures writes { OnOk result (writes.new.items ≡ with_next copied.now first (written_there at)) }
 {
     let location = first + at.location;
     let edition = copied.edition(at.location);
-    call.fits = true;
-    call.left.clear();
-    call.left.push_back((location, edition))?;
-    call.writes.clear();
+    left.clear();
+    left.push_back((location, edition))?;
+    writes.clear();
     if !at.written {
         return Ok(());
     }
     let next = edition.checked_add(1).ok_or(Memory)?;
-    call.writes.push((location, next))?;
+    writes.push((location, next))?;
     Ok(())
 }
 
 /// What any call reads and writes.
 #[inline(never)]
 fn weigh_sets<V: Value>(
-    call: &mut Weighed<V>,
+    left: &mut VecDeque<(u32, u64)>,
+    writes: &mut Writes,
     words: &Actor,
     copied: &Copied<V>,
     first: u32,
-) -> Result<(), Memory>
+    outcome: &Outcome<V>,
+) -> Result<bool, Memory>
     requires stripes { 0 < stripes_of (base_in copied.now) }
     requires range { first + places_in copied.now ≤ 2 ^ 32 }
-    ensures outcome { call.new.outcome ≡ call.old.outcome }
-    ensures weighed { OnOk result (IsWeighed (actor_of words.now) copied.now first call.new) }
+    ensures { IfOk result (λ fits. IsWeighed (actor_of words.now) copied.now first outcome.now left.new.items writes.new.items fits) }
 {
-    let reads = copied.reads(&call.outcome)?;
-    let writes = copied.writes(&call.outcome)?;
-    call.fits = has_room(words, first, &reads, &writes);
-    with_known(&mut call.left, copied, first, &reads)?;
-    with_next(&mut call.writes, copied, first, &writes)
+    let read = copied.reads(outcome)?;
+    let written = copied.writes(outcome)?;
+    with_known(left, copied, first, &read)?;
+    with_next(writes, copied, first, &written)?;
+    Ok(has_room(words, first, &read, &written))
 }
 
 /// What a call with its outcome reads and writes.
 fn weigh_outcome<V: Value>(
-    call: &mut Weighed<V>,
+    left: &mut VecDeque<(u32, u64)>,
+    writes: &mut Writes,
     words: &Actor,
     copied: &Copied<V>,
     first: u32,
-) -> Result<(), Memory>
+    outcome: &Outcome<V>,
+) -> Result<bool, Memory>
     requires stripes { 0 < stripes_of (base_in copied.now) }
     requires range { first + places_in copied.now ≤ 2 ^ 32 }
-    ensures outcome { call.new.outcome ≡ call.old.outcome }
-    ensures weighed { OnOk result (IsWeighed (actor_of words.now) copied.now first call.new) }
+    ensures { IfOk result (λ fits. IsWeighed (actor_of words.now) copied.now first outcome.now left.new.items writes.new.items fits) }
 {
     if surely_fits(words, 1, 1) {
-        if let Some(at) = copied.key_place(&call.outcome) {
-            return weigh_key(call, copied, first, at);
+        if let Some(at) = copied.key_place(outcome) {
+            weigh_key(left, writes, copied, first, at)?;
+            return Ok(true);
         }
     }
-    weigh_sets(call, words, copied, first)
+    weigh_sets(left, writes, words, copied, first, outcome)
 }
 
-/// The call's outcome after the accepted ones, and what it reads and writes. The collection begins at location `first`. The locations that it
-/// reads are put into the memory of `list`, whatever that holds. One that is refused memory changes nothing, and so is one of another kind
-/// of collection.
+/// The call's outcome after the accepted ones, and what it reads and writes, are put into these places, whatever they hold: the locations
+/// that it reads, with the editions with which they were copied, and those that it writes, each with the edition after the copied one. The
+/// collection begins at location `first`. Answers whether they fit the sets of the transaction. A call of another kind of collection is
+/// refused.
 pub fn weigh<V: Value>(
-    alloc: Global,
-    list: VecDeque<(u32, u64)>,
+    outcome: &mut Option<Outcome<V>>,
+    left: &mut VecDeque<(u32, u64)>,
+    writes: &mut Writes,
     words: &Actor,
     copied: &Copied<V>,
     first: u32,
     op: &Op<V>,
-) -> Result<Weighed<V>, Memory>
+) -> Result<bool, Memory>
     requires stripes { 0 < stripes_of (base_in copied.now) }
     requires range { first + places_in copied.now ≤ 2 ^ 32 }
-    ensures outcome { IfOk result (λ call. answer_of copied.now op.now ≡ Some call.outcome) }
-    ensures left { IfOk result (λ call. call.left.items ≡ with_known copied.now first (reads_in copied.now call.outcome)) }
-    ensures writes { IfOk result (λ call. call.writes.items ≡ with_next copied.now first (writes_in copied.now call.outcome)) }
-    ensures fits { IfOk result (λ call. call.fits
-        ≡ worlds.has_room (actor_of words.now) (shifted first (reads_in copied.now call.outcome))
-        (shifted first (writes_in copied.now call.outcome))) }
+    ensures outcome { IfOk result (λ fits. answer_of copied.now op.now ≡ outcome.new) }
+    ensures weighed { IfOk result (λ fits. (o : Outcome V) × (outcome.new ≡ Some o)
+        × IsWeighed (actor_of words.now) copied.now first o left.new.items writes.new.items fits) }
 {
     match copied.outcome(op) {
-        Ok(outcome) => {
-            let mut call = Weighed {
-                outcome,
-                left: list,
-                writes: SmallVec::new(alloc),
-                fits: false,
-            };
-            weigh_outcome(&mut call, words, copied, first)?;
-            Ok(call)
+        Ok(found) => {
+            let fits = weigh_outcome(left, writes, words, copied, first, &found)?;
+            *outcome = Some(found);
+            Ok(fits)
         }
         Err(_) => Err(Memory),
     }

@@ -136,4 +136,14 @@ impl Cells {
             tail: self.tail,
         })
     }
+
+    /// Becomes a copy of the others, in the memory that they have as far as that suffices.
+    pub fn copy_from(&mut self, others: &Cells) -> Result<(), Memory>
+        ensures { OnOk result (self.new.shown ≡ others.now.shown) }
+    {
+        self.table.copy_from(&others.table)?;
+        self.head = others.head;
+        self.tail = others.tail;
+        Ok(())
+    }
 }

@@ -12,4 +12,4 @@ mod cells;
 pub mod laws;
 mod queue_base;
 
-pub use queue_base::QueueBase;
+pub use queue_base::{QueueBase, change_in};

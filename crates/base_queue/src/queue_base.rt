@@ -1,6 +1,6 @@
 //! The collection of a queue.
 ghost use Rattle.std.specs.Prelude.{◌≡◌, ◌+◌, ◌-◌, ◌^◌, [], ◌<◌, ◌≤◌, Some, None, All, IsOk, replicate, IfOk, IfErr, OnOk, length};
-ghost use Rattle.std.specs.Prelude.{slice_index};
+ghost use Rattle.std.specs.Prelude.{option_to_list, slice_index};
 ghost use Rattle.std.specs.Vec.{vec_capacity};
 ghost use Rattle.seq_model.specs.Calls.{IsRefusal, IsWithinLimits};
 ghost use Rattle.conflict.specs.Rules.{applied};
@@ -208,14 +208,8 @@ impl QueueBase {
         ensures served { changes_of outcome.now ≡ [] → IsOk result }
     {
         let mut changes = Items::new(self.editions.allocator());
-        match (&outcome.op, &outcome.reply, outcome.note) {
-            (Op::Enqueue(item), Reply::Done, Note::Index(tail)) => {
-                changes.push(Change::Enqueue(tail, *item))?
-            }
-            (Op::Dequeue, Reply::Found(_), Note::Index(head)) => {
-                changes.push(Change::Dequeue(head))?
-            }
-            _ => {}
+        if let Some(change) = change_in(outcome) {
+            changes.push(change)?;
         }
         Ok(changes)
     }
@@ -263,6 +257,12 @@ impl QueueBase {
         self.editions.raise(written);
     }
 
+    pub fn stripes(&self) -> u32
+        ensures { result ≡ self.now.stripes }
+    {
+        self.stripes
+    }
+
     /// The edition of the location: how many replays have written it.
     pub fn edition(&self, location: u32) -> u64
         requires { location < self.now.stripes + 2 }
@@ -282,6 +282,33 @@ impl QueueBase {
             stripes: self.stripes,
             editions: self.editions.try_copy()?,
         })
+    }
+
+    /// Becomes a queue that holds the same as the other, with its editions, in the memory that it has as far as that suffices. Where
+    /// memory is refused, what it holds is left open.
+    pub fn copy_from(&mut self, other: &QueueBase) -> Result<(), Memory>
+        ensures shown { OnOk result (self.new.shown ≡ other.now.shown) }
+        ensures stripes { OnOk result (self.new.stripes ≡ other.now.stripes) }
+        ensures editions { OnOk result (self.new.editions ≡ other.now.editions) }
+    {
+        if self.stripes != other.stripes {
+            *self = other.try_copy()?;
+            return Ok(());
+        }
+        self.cells.copy_from(&other.cells)?;
+        self.editions.copy_from(&other.editions);
+        Ok(())
+    }
+}
+
+/// What the outcome changes in a queue, which is one thing at most. It takes no memory.
+pub fn change_in<V>(outcome: &Outcome<V>) -> Option<Change<V>>
+    ensures { option_to_list result ≡ changes_of outcome.now }
+{
+    match (&outcome.op, &outcome.reply, outcome.note) {
+        (Op::Enqueue(item), Reply::Done, Note::Index(tail)) => Some(Change::Enqueue(tail, *item)),
+        (Op::Dequeue, Reply::Found(_), Note::Index(head)) => Some(Change::Dequeue(head)),
+        _ => None,
     }
 }
 

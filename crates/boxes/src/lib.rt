@@ -1,7 +1,7 @@
 //! Values that move as a pointer.
 //!
 //! A large value that is handed from function to function is copied and its old place cleared at each step. In a box of its own it moves
-//! as a pointer, and the box can serve again for another value. Contracts see the value alone.
+//! as a pointer, and the box can serve again, for what is written over it. Contracts see the value alone.
 #![tactic(auto)]
 
 ghost use Rattle.std.specs.Prelude.{◌≡◌, IfOk};
@@ -10,7 +10,6 @@ ghost use Rattle.boxes.specs.contracts.Boxed.{the_row};
 
 use std::alloc::{AllocError, Global};
 use std::marker::Model;
-use std::mem;
 
 /// A value in a box of its own. Contracts see the value.
 #[derive(Drop)]
@@ -48,21 +47,6 @@ impl<T: Drop> Boxed<T> {
     {
         let place = Box::new(alloc, value)?;
         Ok(Boxed { place })
-    }
-
-    /// The value is another from now on, in the same box.
-    pub fn put(&mut self, value: T)
-        ensures { self.new ≡ value }
-    {
-        *self.place = value;
-    }
-
-    /// Another value takes its place, in the same box.
-    pub fn replace(&mut self, value: T) -> T
-        ensures now { self.new ≡ value }
-        ensures before { result ≡ self.old }
-    {
-        mem::replace(&mut *self.place, value)
     }
 
     pub fn into_inner(self) -> T

@@ -55,6 +55,14 @@ impl Editions {
         Ok(Editions { numbers })
     }
 
+    /// Becomes a copy of the others, of which there are as many. It takes no memory.
+    pub fn copy_from(&mut self, others: &Editions)
+        requires { length self.old ≡ length others.now }
+        ensures { self.new ≡ others.now }
+    {
+        self.numbers.copy_from_slice(others.numbers.as_slice());
+    }
+
     pub fn allocator(&self) -> Global {
         *self.numbers.allocator()
     }

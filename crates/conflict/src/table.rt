@@ -119,11 +119,20 @@ impl<V: Value> Table<V> {
         ensures { IfOk result (λ copy. copy.contents ≡ self.now.contents) }
     {
         let mut copy = Table::new(self.alloc);
-        copy.reserve(self.entries.len())?;
-        for (key, value) in self.entries.iter() {
-            copy.insert_reserved(*key, value.try_copy()?);
-        }
+        copy.copy_from(self)?;
         Ok(copy)
+    }
+
+    /// Becomes a copy of the other, in the memory that it has as far as that suffices. Where memory is refused, what it holds is left open.
+    pub fn copy_from(&mut self, other: &Table<V>) -> Result<(), Memory>
+        ensures { OnOk result (self.new.contents ≡ other.now.contents) }
+    {
+        self.clear();
+        self.reserve(other.entries.len())?;
+        for (key, value) in other.entries.iter() {
+            self.insert_reserved(*key, value.try_copy()?);
+        }
+        Ok(())
     }
 
     /// Copies of the entries, in the order of their keys.

@@ -28,7 +28,9 @@ use Rattle.tx_table.specs.Seated.{IsSameSeat, actor, acts, view}
 use Rattle.tx_table.specs.Turns.{asked_all, lone}
 use Rattle.tx_table.specs.declared.view.Turn.{Turn}
 use Rattle.tx_turns.specs.Asked.{Starved}
-use Rattle.tx_phases.specs.Courses.{ComesTo}
+use Rattle.tx_turns.specs.Ties.{commits}
+use Rattle.tx_actor.specs.declared.actor.TxActor.{TxActor}
+use Rattle.tx_phases.specs.Courses.{ComesTo, latest}
 use Rattle.tx_phases.specs.Phases.{Phase, Rests, Begins, Stands, Calls, Commits, Ends, IsMistaken, phase}
 
 -- a commit that has its number checks what it has read, or has done so: the number is no higher than this clock
@@ -61,6 +63,11 @@ is_still (stage.Locking homes) = true
 is_still stage.Releasing = true
 is_still stage.Cancelling = true
 is_still s = false
+
+-- what was told: nothing where it was quiet, else what was said
+abbrev pub told_in : {V : Type 0} → Bool → Told V → Told V
+told_in true n = told.Quiet
+told_in false n = n
 
 -- Memory may be wanting at this stage: its turn takes some, or it reads for a call, which takes some once its gate is put back.
 abbrev pub MayWant : {V : Type 0} → Stage V → Type 0
@@ -113,6 +120,10 @@ module _ {V : Type 0} where
   abbrev pub IsExhausted : World V → Seat V → Seat V → Refusal → Type 0
   IsExhausted o s u cause =
       (v : World V) × IsTurnFrom o s u v × (cause ≡ Exhausted v.boosted.words.clock) × (clock_limit ≤ v.boosted.words.clock)
+
+  -- A turn of actor a makes the receipt, if any, that is kept from then on in place of the one before.
+  abbrev pub MakesReceipt : ℕ → TxActor V → Option (Record V) → Option (Record V) → Type 0
+  MakesReceipt a r before now = (d : Option (Record V)) × (commits a r ≡ as_receipts a d) × (now ≡ latest d before)
 
   -- What is told of a request that stood so is true: a begin tells the clock that its seat knows by then, and a cause was found by one of
   -- its own turns, or is want of memory. While nothing is told, a transaction that is being given up has noted such a cause. One that was

@@ -1,9 +1,9 @@
 //! A request, up to its answer.
-ghost use Rattle.std.specs.Prelude.{◌≡◌, ◌≢◌, [], None, IfOk, OnErr, true};
+ghost use Rattle.std.specs.Prelude.{◌≡◌, ◌≢◌, [], None, OnErr, OnOk, true};
 ghost use Rattle.actor_words.specs.Dispatch.{next_of};
 ghost use Rattle.replay_log.specs.WorldProgress.{AreSmall};
 ghost use Rattle.tx_table.specs.Seated.{blocks_in, opening_of};
-ghost use Rattle.tx_phases.specs.Courses.{IsUnderWay, latest};
+ghost use Rattle.tx_phases.specs.Courses.{IsUnderWay};
 ghost use Rattle.tx_actor.specs.Running.{stage_of};
 ghost use Rattle.tx_phases.specs.Phases.{Ends};
 ghost use Rattle.tx_turns.specs.Ties.{Ties};
@@ -11,7 +11,7 @@ ghost use Rattle.gate_turns.specs.Own.{HasOwn};
 ghost use Rattle.driven_turns.specs.Driven.{Driven, IsOnGate, Stops, seat_in, standing};
 
 use crate::steps::steps_on;
-use crate::turns::{turn, turn_on_gate};
+use crate::turns::{turn_apart, turn_on_gate};
 use actor_words::Next;
 use boxes::Boxed;
 use replay_log::Base;
@@ -19,16 +19,6 @@ use seq_model::{Memory, Record, Value};
 use std::alloc::Global;
 use tx_actor::{Stage, Told, TxActor};
 use tx_table::{Seat, TxTable};
-
-/// The receipt that was made last.
-fn newest<V: Value>(now: Option<Record<V>>, before: Option<Record<V>>) -> Option<Record<V>>
-    ensures { result ≡ latest now before }
-{
-    match now {
-        Some(receipt) => Some(receipt),
-        None => before,
-    }
-}
 
 /// Whether the next turn is a step on the words that makes no receipt.
 fn is_on_words<V>(next: Next, stage: &Stage<V>) -> bool
@@ -51,46 +41,49 @@ fn is_on_gate(next: Next) -> bool
     }
 }
 
-/// The turns of a request that is under way, up to the one that tells something, with the receipt that they make. They end, whatever the
-/// other seats do. Where memory is wanting they stop, and the request is being given up.
+/// The turns of a request that is under way, up to the one that tells something, which lies in `said` then, and the receipt that they make
+/// in `kept`. They end, whatever the other seats do. Where memory is wanting they stop, and the request is being given up.
+#[inline(never)]
 fn advance<V: Value>(
     alloc: Global,
     table: &TxTable<V>,
     seat: &mut Seat<V>,
     actor: &mut TxActor<V>,
     bases: &mut Vec<Boxed<Base<V>>>,
-) -> Result<(Told<V>, Option<Record<V>>), Memory>
+    said: &mut Told<V>,
+    kept: &mut Option<Record<V>>,
+) -> Result<(), Memory>
     requires ties { Ties table.now seat.old actor.old }
     requires own { HasOwn table.now seat.old actor.old bases.old.items }
     requires small { AreSmall (blocks_in table.now) }
     requires under { IsUnderWay (seat_in (opening_of table.now) seat.old) (seat_in (opening_of table.now) seat.old) None }
-    ensures driven { IfOk result (λ done. Driven (opening_of table.now) seat.old seat.new done.0 done.1) }
-    ensures answered { IfOk result (λ done. done.0 ≢ Told.Quiet) }
+    requires none { kept.old ≡ None }
+    ensures driven { OnOk result (Driven (opening_of table.now) seat.old seat.new said.new kept.new) }
+    ensures answered { OnOk result (said.new ≢ Told.Quiet) }
     ensures ties { Ties table.now seat.new actor.new }
     ensures own { HasOwn table.now seat.new actor.new bases.new.items }
     ensures stops { OnErr result (Stops (opening_of table.now) seat.old seat.new) }
 {
-    let mut kept = None;
     'turns: loop {
         let next = actor.next();
         if is_on_words(next, &actor.stage) {
-            match steps_on(table, seat, actor, bases.as_slice()) {
-                Told::Quiet => {}
-                told => return Ok((told, kept)),
+            if !steps_on(table, seat, actor, bases.as_slice(), said) {
+                return Ok(());
             }
         } else if is_on_gate(next) {
-            match turn_on_gate(alloc, table, seat, actor, bases, next) {
-                Ok(Told::Quiet) => {}
-                Ok(told) => return Ok((told, kept)),
+            match turn_on_gate(alloc, table, seat, actor, bases, said, next) {
+                Ok(quiet) => {
+                    if !quiet {
+                        return Ok(());
+                    }
+                }
                 Err(_) => return Err(Memory),
             }
         } else {
-            match turn(alloc, table, seat, actor, bases) {
-                Ok((told, receipt)) => {
-                    kept = newest(receipt, kept);
-                    match told {
-                        Told::Quiet => {}
-                        told => return Ok((told, kept)),
+            match turn_apart(alloc, table, seat, actor, bases, said, kept) {
+                Ok(silent) => {
+                    if !silent {
+                        return Ok(());
                     }
                 }
                 Err(_) => return Err(Memory),
@@ -100,6 +93,7 @@ fn advance<V: Value>(
 }
 
 /// The turns of a transaction that is being given up: its gates and its locks go back, and it is told why. They take no memory.
+#[inline(never)]
 fn give_up<V: Value>(
     alloc: Global,
     table: &TxTable<V>,
@@ -116,13 +110,16 @@ fn give_up<V: Value>(
     ensures ties { Ties table.now seat.new actor.new }
     ensures own { HasOwn table.now seat.new actor.new bases.new.items }
 {
-    match advance(alloc, table, seat, actor, bases) {
-        Ok((told, _)) => told,
+    let mut said = Told::Quiet;
+    let mut kept = None;
+    match advance(alloc, table, seat, actor, bases, &mut said, &mut kept) {
+        Ok(()) => said,
         Err(_) => unreachable!(),
     }
 }
 
 /// The turns of the request that is under way, up to its answer. Where memory is wanting it is given up.
+#[inline(always)]
 fn finish<V: Value>(
     alloc: Global,
     table: &TxTable<V>,
@@ -139,8 +136,10 @@ fn finish<V: Value>(
     ensures ties { Ties table.now seat.new actor.new }
     ensures own { HasOwn table.now seat.new actor.new [] }
 {
-    match advance(alloc, table, seat, actor, bases) {
-        Ok(done) => done,
+    let mut said = Told::Quiet;
+    let mut kept = None;
+    match advance(alloc, table, seat, actor, bases, &mut said, &mut kept) {
+        Ok(()) => (said, kept),
         Err(_) => (give_up(alloc, table, seat, actor, bases), None),
     }
 }
@@ -148,6 +147,7 @@ fn finish<V: Value>(
 /// The turns of the request that is under way, up to its answer, with the receipt that they make. They end, whatever the other seats do.
 /// Where memory is wanting, the request is given up, and told so. When it is answered, no gate is held and no base is in hand. The bases that
 /// it takes on the way lie in `bases`, which keeps the room for the next request: what lies there at first is dropped.
+#[inline(always)]
 pub fn drive<V: Value>(
     alloc: Global,
     table: &TxTable<V>,

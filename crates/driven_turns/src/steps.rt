@@ -1,5 +1,5 @@
 //! Steps on the words, one after another.
-ghost use Rattle.std.specs.Prelude.{◌≡◌, ◌≢◌, true};
+ghost use Rattle.std.specs.Prelude.{◌≡◌, ◌≢◌, false, true};
 ghost use Rattle.word_machine.specs.Notices as notice;
 ghost use Rattle.actor_words.specs.Dispatch.{next_of, notice_told};
 ghost use Rattle.replay_log.specs.WorldProgress.{AreSmall};
@@ -7,8 +7,9 @@ ghost use Rattle.tx_actor.specs.Running.{stage_of};
 ghost use Rattle.tx_table.specs.Seated.{blocks_in, opening_of};
 ghost use Rattle.tx_turns.specs.Ties.{Ties};
 ghost use Rattle.gate_turns.specs.Own.{HasOwn};
-ghost use Rattle.driven_turns.specs.Driven.{LeadsOn, is_still};
+ghost use Rattle.driven_turns.specs.Driven.{LeadsOn, is_still, told_in};
 
+use crate::turns::says;
 use actor_words::Next;
 use actor_words::laws::steps_as_worlds;
 use boxes::Boxed;
@@ -39,20 +40,23 @@ fn is_waiting<V>(stage: &Stage<V>, told: Result<Option<WordAnswer>, WordRefusal>
     }
 }
 
-/// Steps on the words that make no receipt, up to one that tells something, or of which something comes at its stage. They are taken one
-/// after another, and each is one atomic step.
+/// Steps on the words that make no receipt, up to one that tells something, or of which something comes at its stage: whether that one was
+/// quiet. What it told else lies in `said`. They are taken one after another, and each is one atomic step.
+#[inline(always)]
 pub(crate) fn steps_on<V: Value>(
     table: &TxTable<V>,
     seat: &mut Seat<V>,
     actor: &mut TxActor<V>,
     bases: &[Boxed<Base<V>>],
-) -> Told<V>
+    said: &mut Told<V>,
+) -> bool
     requires ties { Ties table.now seat.old actor.old }
     requires own { HasOwn table.now seat.old actor.old bases.now }
     requires small { AreSmall (blocks_in table.now) }
     requires due { next_of (stage_of actor.old.stage) ≡ Next.Word }
     requires open { actor.old.stage ≢ Stage.Closing }
-    ensures leads { LeadsOn (opening_of table.now) seat.old seat.new result }
+    ensures leads { LeadsOn (opening_of table.now) seat.old seat.new (told_in result said.new) }
+    ensures answered { result ≡ false → said.new ≢ Told.Quiet }
     ensures ties { Ties table.now seat.new actor.new }
     ensures own { HasOwn table.now seat.new actor.new bases.now }
 {
@@ -68,8 +72,8 @@ pub(crate) fn steps_on<V: Value>(
         let told = step_words(table, seat, &mut actor.words);
         if !is_waiting(&actor.stage, told) {
             return match actor.stage {
-                Stage::Loading(..) => actor.loaded(told),
-                _ => actor.stepped(told),
+                Stage::Loading(..) => says(actor.loaded(told), said),
+                _ => says(actor.stepped(told), said),
             };
         }
     }

@@ -73,6 +73,7 @@ fn wait<V>(stage: &Stage<V>) {
 /// A try on the gate of a collection. Where it was free its base comes into hand; where it was taken the thread yields, as the one that
 /// holds it may wait for a core, and at the 64th time the transaction is given up, `GateBusy`. Where memory is refused no step is taken,
 /// and the actor is as it was.
+#[inline(always)]
 pub fn try_gate<V: Value>(
     table: &TxTable<V>,
     seat: &mut Seat<V>,
@@ -108,6 +109,7 @@ pub fn try_gate<V: Value>(
 }
 
 /// The store that puts a gate back which the actor holds, its base as it was.
+#[inline(always)]
 pub fn put_gate<V: Value>(
     table: &TxTable<V>,
     seat: &mut Seat<V>,
@@ -131,6 +133,7 @@ pub fn put_gate<V: Value>(
 }
 
 /// As [`copy_base`], of a call for which all is made ready before the gate is put back: where there is no memory for it no step is taken.
+#[inline(never)]
 fn copy_here<V: Value>(
     alloc: Global,
     table: &TxTable<V>,
@@ -173,6 +176,7 @@ fn copy_here<V: Value>(
 /// its locations don't fit the sets, else it is accepted, or a location is read first, or the transaction is given up, as the copy is
 /// stale. Where a location is to be read first, the gate is put back before the call is made ready. Where there is no memory for it the
 /// transaction is given up as one that starves: it holds its gate and no step is taken, or the gate was put back and it waits for a location.
+#[inline(always)]
 pub fn copy_base<V: Value>(
     alloc: Global,
     table: &TxTable<V>,

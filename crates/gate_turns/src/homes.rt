@@ -96,6 +96,7 @@ pub fn commit<V: Value>(
 
 /// The base of a collection that a commit has written goes home with the log of its calls there, and its gate is put back. It takes no
 /// memory and is never refused.
+#[inline(always)]
 pub fn go_home<V: Value>(
     alloc: Global,
     table: &TxTable<V>,

@@ -8,7 +8,7 @@ use std::sync::Wait;
 use std::thread::Threads;
 
 /// How many sessions are run.
-const SESSIONS: u32 = 20_000;
+const SESSIONS: u32 = 100_000;
 
 /// Prints how many sessions a second are served, with few conflicts and with many, of one client, two and four.
 pub fn measure<R: Runtime + AllocGlobal + Threads + Wait + Sync>(rt: &R) -> io::Result<()> {

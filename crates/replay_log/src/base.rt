@@ -1,5 +1,6 @@
 //! A collection of any of the four kinds.
 ghost use Rattle.std.specs.Prelude.{◌≡◌, ◌+◌, ◌^◌, ◌<◌, ◌≤◌, [], All, IsOk, Some, None, replicate, IfOk, IfErr, OnOk, length, slice_index};
+ghost use Rattle.std.specs.Prelude.{IsTrue, option_to_list};
 ghost use Rattle.std.specs.Vec.{vec_capacity};
 ghost use Rattle.seq_model.specs.Calls.{IsRefusal, IsWithinLimits};
 ghost use Rattle.conflict.specs.Editions.{raised};
@@ -123,6 +124,22 @@ impl<V: Value> Base<V> {
         }
     }
 
+    /// Puts what the outcome changes, in order, into the list, in place of what that held.
+    pub fn changes_into(
+        &self,
+        outcome: &Outcome<V>,
+        list: &mut Vec<Change<V>>,
+    ) -> Result<(), Memory>
+        ensures { OnOk result (list.new.items ≡ changes_of outcome.now (shown_of self.now)) }
+    {
+        match self {
+            Base::Map(_) => put_one(list, base_map::change_in(outcome)?),
+            Base::Bag(_) => put_one(list, base_bag::change_in(outcome)?),
+            Base::Pq(_) => base_pq::changes_into(outcome, list),
+            Base::Queue(_) => put_one(list, base_queue::change_in(outcome)),
+        }
+    }
+
     /// Makes room for the changes. The collection stays as it is and keeps its room, also where memory is refused. Where there is
     /// room already, nothing is refused. Of a priority queue only the stripes that the changes fall on are looked at.
     pub fn prepare(&mut self, changes: &[Change<V>]) -> Result<(), Memory>
@@ -209,6 +226,23 @@ impl<V: Value> Base<V> {
         }
     }
 
+    /// Whether it is a priority queue or a queue in as many stripes as the other, which is of its kind.
+    pub fn is_like(&self, other: &Base<V>) -> bool
+        ensures { IsTrue result → stripes_of self.now ≡ stripes_of other.now }
+    {
+        match self {
+            Base::Pq(base) => match other {
+                Base::Pq(other) => base.stripes() == other.stripes(),
+                _ => false,
+            },
+            Base::Queue(base) => match other {
+                Base::Queue(other) => base.stripes() == other.stripes(),
+                _ => false,
+            },
+            _ => false,
+        }
+    }
+
     /// A collection that holds the same, with the same editions.
     pub fn try_copy(&self) -> Result<Base<V>, Memory>
         ensures shown { IfOk result (λ copy. shown_of copy ≡ shown_of self.now) }
@@ -222,4 +256,35 @@ impl<V: Value> Base<V> {
             Base::Queue(base) => Base::Queue(base.try_copy()?),
         })
     }
+
+    /// Becomes a collection that holds the same as the other, with its editions. A priority queue and a queue become it in the memory that
+    /// they have, as far as that suffices. Where memory is refused, what it holds is left open.
+    pub fn copy_from(&mut self, other: &Base<V>) -> Result<(), Memory>
+        ensures shown { OnOk result (shown_of self.new ≡ shown_of other.now) }
+        ensures stripes { OnOk result (stripes_of self.new ≡ stripes_of other.now) }
+        ensures editions { OnOk result (editions_of self.new ≡ editions_of other.now) }
+    {
+        if let Base::Pq(from) = other {
+            if let Base::Pq(copy) = self {
+                return copy.copy_from(from);
+            }
+        }
+        if let Base::Queue(from) = other {
+            if let Base::Queue(copy) = self {
+                return copy.copy_from(from);
+            }
+        }
+        *self = other.try_copy()?;
+        Ok(())
+    }
+}
+
+fn put_one<V: Drop>(list: &mut Vec<Change<V>>, change: Option<Change<V>>) -> Result<(), Memory>
+    ensures { OnOk result (list.new.items ≡ option_to_list change) }
+{
+    list.clear();
+    if let Some(only) = change {
+        list.push(only)?;
+    }
+    Ok(())
 }

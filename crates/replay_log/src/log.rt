@@ -1,5 +1,6 @@
 //! The log of a transaction's changes to a collection.
 ghost use Rattle.std.specs.Prelude.{◌≡◌, ◌+◌, ◌*◌, ◌^◌, ◌<◌, ◌≤◌, [], ◌∷◌, ◌++◌, All, IsOk, OnOk, OnErr, length, option_to_list, slice_index};
+ghost use Rattle.std.specs.Vec.{vec_capacity};
 ghost use Rattle.replay_log.specs.Base.{IsPreparedFor, LeavesPrepared, after, editions_of, locations_of, shown_of, stripes_of};
 ghost use Rattle.replay_log.specs.Log.{AreRaised};
 
@@ -102,7 +103,21 @@ impl<V: Value> Log<V> {
         ensures room { self.old.room ≤ self.new.room + length changes }
         ensures places { self.old.places ≤ self.new.places }
     {
-        self.changes.append(&mut changes.into_vec()).unwrap();
+        self.append_from(&mut changes.into_vec(), locations);
+    }
+
+    /// What `append` does, of the changes in a list that is left empty and keeps its memory.
+    pub fn append_from(&mut self, changes: &mut Vec<Change<V>>, locations: &LocSet)
+        requires room { length changes.old.items ≤ self.old.room }
+        requires places { length self.old.locations + length locations.now ≤ self.old.places }
+        ensures changes { self.new.changes ≡ self.old.changes ++ changes.old.items }
+        ensures locations { self.new.locations ≡ self.old.locations ++ locations.now }
+        ensures room { self.old.room ≤ self.new.room + length changes.old.items }
+        ensures places { self.old.places ≤ self.new.places }
+        ensures emptied { changes.new.items ≡ [] }
+        ensures capacity { vec_capacity changes.new ≡ vec_capacity changes.old }
+    {
+        self.changes.append(changes).unwrap();
         self.locations
             .extend_from_slice(locations.as_slice())
             .unwrap();

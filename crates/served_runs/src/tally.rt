@@ -17,6 +17,8 @@ struct Commits {
     since: AtomicU64,
     /// The most for one receipt.
     most: AtomicU64,
+    /// So that no two workers write to one line of the cache.
+    apart: [u64; 13],
 }
 
 /// The commits that each worker tried, and the receipts of all. Workers are held nowhere.
@@ -34,6 +36,7 @@ impl<'a, P: Progress> Tally<'a, P> {
                 all: AtomicU64::new(0),
                 since: AtomicU64::new(0),
                 most: AtomicU64::new(0),
+                apart: [0; 13],
             })?;
         }
         Ok(Tally {

@@ -5,7 +5,6 @@ use Rattle.conflict.specs.declared.outcome.Outcome.{Outcome}
 use Rattle.replay_log.specs.declared.base.Base.{Base}
 use Rattle.replay_log.specs.Base.{IsPreparedFor, Shown, after, changes_of, shown_of, stripes_of, writes_of}
 use Rattle.replay_log.specs.Log.{LogView}
-use Rattle.shadow.specs.declared.shadow.Ready as declared
 
 -- what is ready to be appended by the next acceptance
 pub record Ready (V : Type 0) : Type 0 where
@@ -32,8 +31,7 @@ module _ {V : Type 0} where
   IsFolded copied changes shown = shown ≡ after changes copied
 
   -- what is ready is so twice, and there is room for it
-  abbrev pub IsKept : Base V → LogView V → Option (declared.Ready V) → Type 0
-  IsKept b log None = ⊤
-  IsKept b log (Some r) =
-      (r.own ≡ r.logged) × IsPreparedFor r.own b × (length r.logged ≤ log.room)
-      × (length log.locations + length r.written ≤ log.places)
+  abbrev pub IsKept : Base V → LogView V → (own logged : List (Change V)) → Option (List ℕ) → Type 0
+  IsKept b log own logged None = ⊤
+  IsKept b log own logged (Some written) =
+      (own ≡ logged) × IsPreparedFor own b × (length logged ≤ log.room) × (length log.locations + length written ≤ log.places)

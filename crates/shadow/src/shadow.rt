@@ -4,27 +4,25 @@ ghost use Rattle.seq_model.specs.Calls.{IsRefusal};
 ghost use Rattle.replay_log.specs.Base.{after, changes_of, editions_of, outcome_of, shown_of, stripes_of, writes_of};
 ghost use Rattle.shadow.specs.Shadow.{IsReadyFor};
 
-use conflict::{Change, Changes, LocSet, Outcome};
+use conflict::{Change, LocSet, Outcome};
 use replay_log::{Base, Log};
 use seq_model::{Memory, Op, Refusal, Value};
 use std::alloc::Global;
 use std::marker::Model;
+use std::mem;
 
 /// A copy of a base with the changes of the accepted calls, and their log.
 #[derive(Drop)]
 pub struct Shadow<V> {
+    alloc: Global,
     base: Base<V>,
     log: Log<V>,
-    ready: Option<Ready<V>>,
+    /// What the next acceptance makes on the copy, in a list that serves each call, and what it appends to the log, in another.
+    own: Vec<Change<V>>,
+    logged: Vec<Change<V>>,
+    /// The locations that these changes write, once they are ready.
+    ready: Option<LocSet>,
     none: LocSet,
-}
-
-// What the next acceptance appends: the changes once for the copy and once for the log, and the locations that they write.
-#[derive(Drop)]
-struct Ready<V> {
-    own: Changes<V>,
-    logged: Changes<V>,
-    written: LocSet,
 }
 
 impl<V> Model for Shadow<V> {
@@ -50,10 +48,10 @@ impl<V> Model for Shadow<V> {
       base = a.base;
       changes = a.log.changes;
       locations = a.log.locations;
-      ready = option_map (λ r. record { changes = r.logged; locations = r.written }) a.ready;
+      ready = option_map (λ w. record { changes = a.logged.items; locations = w }) a.ready;
     } };
 
-    ghost invariant = { λ a. (a.none ≡ []) × IsKept a.base a.log a.ready };
+    ghost invariant = { λ a. (a.none ≡ []) × IsKept a.base a.log a.own.items a.logged.items a.ready };
 }
 
 impl<V: Drop> Shadow<V> {
@@ -64,6 +62,15 @@ impl<V: Drop> Shadow<V> {
     {
         let Shadow { log, .. } = self;
         log
+    }
+
+    /// Hands the log of the accepted changes out. The other memory stays.
+    pub fn take_log(&mut self) -> Log<V>
+        ensures changes { result.changes ≡ self.old.changes }
+        ensures locations { result.locations ≡ self.old.locations }
+    {
+        self.ready = None;
+        mem::replace(&mut self.log, Log::new(self.alloc))
     }
 }
 
@@ -77,11 +84,36 @@ impl<V: Value> Shadow<V> {
         let mut log = log;
         log.clear();
         Shadow {
+            alloc,
             base,
             log,
+            own: Vec::new(alloc),
+            logged: Vec::new(alloc),
             ready: None,
             none: LocSet::empty(alloc),
         }
+    }
+
+    /// The shadow of the copy as it is, with no call yet, in the memory of a log, whatever that keeps.
+    pub fn renew(&mut self, log: Log<V>)
+        ensures base { self.new.base ≡ self.old.base }
+        ensures changes { self.new.changes ≡ [] }
+        ensures locations { self.new.locations ≡ [] }
+    {
+        self.ready = None;
+        self.log = log;
+        self.log.clear();
+    }
+
+    /// The copy becomes one of this base, in the memory that it has as far as that suffices. Where memory is refused, what it shows is left
+    /// open. The log of other calls stays, so this is for one that is renewed then.
+    pub fn copy_from(&mut self, base: &Base<V>) -> Result<(), Memory>
+        ensures shown { OnOk result (shown_of self.new.base ≡ shown_of base.now) }
+        ensures stripes { OnOk result (stripes_of self.new.base ≡ stripes_of base.now) }
+        ensures editions { OnOk result (editions_of self.new.base ≡ editions_of base.now) }
+    {
+        self.ready = None;
+        self.base.copy_from(base)
     }
 
     /// The copy with the accepted changes, whose editions are those of the copy.
@@ -110,17 +142,13 @@ impl<V: Value> Shadow<V> {
         ensures locations { self.new.locations ≡ self.old.locations }
     {
         self.ready = None;
-        let own = self.base.changes(outcome)?;
-        let logged = self.base.changes(outcome)?;
+        self.base.changes_into(outcome, &mut self.own)?;
+        self.base.changes_into(outcome, &mut self.logged)?;
         let written = self.base.writes(outcome)?;
-        self.base.prepare(own.as_slice())?;
+        self.base.prepare(self.own.as_slice())?;
         self.log
-            .reserve(logged.len().max(written.as_slice().len()))?;
-        self.ready = Some(Ready {
-            own,
-            logged,
-            written,
-        });
+            .reserve(self.logged.len().max(written.as_slice().len()))?;
+        self.ready = Some(written);
         Ok(())
     }
 
@@ -135,9 +163,9 @@ impl<V: Value> Shadow<V> {
         ensures locations { self.new.locations
             ≡ self.old.locations ++ writes_of (stripes_of self.old.base) outcome (shown_of self.old.base) }
     {
-        if let Some(ready) = self.ready.take() {
-            self.base.replay(ready.own, &self.none);
-            self.log.append(ready.logged, &ready.written);
+        if let Some(written) = self.ready.take() {
+            self.base.replay_from(&mut self.own, &self.none);
+            self.log.append_from(&mut self.logged, &written);
         }
     }
 

@@ -98,6 +98,7 @@ pub fn begin_read<V: Value>(
 }
 
 /// An open transaction ends without a commit. Nothing refuses it, and it takes no memory.
+#[inline(never)]
 pub fn abort<V: Value>(
     alloc: Global,
     table: &TxTable<V>,

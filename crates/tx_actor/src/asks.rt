@@ -24,6 +24,7 @@ use std::alloc::Global;
 impl<V: Drop> TxActor<V> {
     /// A word is to be read. What a set has of it is answered at once. `NoSuch` where there is no such word, then `TooLong` past the
     /// limit of calls, or where it finds no room in the read set; neither changes anything.
+    #[inline(never)]
     pub fn asks_to_read(&mut self, blocks: &Blocks, word: u32) -> Result<Told<V>, Memory>
         ensures ok { IfOk result (λ told. Asks blocks.now self.old self.new told (λ a w. ask_op w a (seat_of self.old) word op.Read)) }
         ensures err { OnErr result (Stands self.old self.new) }
@@ -51,6 +52,7 @@ impl<V: Drop> TxActor<V> {
 
     /// A word is to be written, which is answered at once. `NoSuch` where there is no such word, and for a declared reader, then
     /// `TooLong` past the limit of calls, or where it finds no room in the write set; neither changes anything.
+    #[inline(never)]
     pub fn asks_to_write(
         &mut self,
         blocks: &Blocks,
@@ -86,6 +88,7 @@ impl<V: Drop> TxActor<V> {
     }
 
     /// Its transaction is to commit. Where it has written, the collections with a written location are found now.
+    #[inline(never)]
     pub fn asks_to_commit(&mut self, alloc: Global, blocks: &Blocks) -> Result<Told<V>, Memory>
         ensures ok { IfOk result (λ told. Asks blocks.now self.old self.new told
             (λ a w. commits w a (seat_of self.old) (worlds.actor_of w a).writes)) }

@@ -15,6 +15,7 @@ use std::alloc::Global;
 
 impl<V: Value> TxActor<V> {
     /// It has no transaction.
+    #[inline(never)]
     fn asks_idle(&mut self, request: Request<V>) -> Told<V>
         ensures does { Does self.old self.new result (λ a w. ask_idle w a (seat_of self.old) request) }
         ensures keeps { (v : BlocksView) → KeepsIn v self.old self.new }

@@ -43,6 +43,7 @@ fn is_waiting<V>(stage: &Stage<V>, heard: WordNotice) -> bool
 
 impl<V: Drop> TxActor<V> {
     /// Nothing has come of the step.
+    #[inline(always)]
     pub(crate) fn stays(&mut self, stage: Stage<V>) -> Told<V>
         ensures stage { self.new ≡ at self.old stage }
         ensures told { result ≡ Told.Quiet }
@@ -51,6 +52,7 @@ impl<V: Drop> TxActor<V> {
         Told::Quiet
     }
 
+    #[inline(never)]
     fn has_begun(&mut self, heard: WordNotice) -> Told<V>
         ensures does { IsToldWord (at self.old Stage.Beginning) self.new result (shown_notice heard) }
         ensures keeps { (v : BlocksView) → KeepsIn v (at self.old Stage.Beginning) self.new }
@@ -63,6 +65,7 @@ impl<V: Drop> TxActor<V> {
         }
     }
 
+    #[inline(never)]
     fn has_read(&mut self, heard: WordNotice, location: u32) -> Told<V>
         requires { vec_len self.old.calls < vec_capacity self.old.calls }
         ensures does { IsToldWord (at self.old (Stage.Reading location)) self.new result (shown_notice heard) }
@@ -127,6 +130,7 @@ impl<V: Drop> TxActor<V> {
         }
     }
 
+    #[inline(never)]
     fn has_cancelled(&mut self, heard: WordNotice) -> Told<V>
         ensures does { IsToldWord (at self.old Stage.Cancelling) self.new result (shown_notice heard) }
         ensures keeps { (v : BlocksView) → KeepsIn v (at self.old Stage.Cancelling) self.new }
@@ -139,6 +143,7 @@ impl<V: Drop> TxActor<V> {
     }
 
     /// Its word actor has taken a step, which told this.
+    #[inline(always)]
     pub fn stepped(&mut self, told: Result<Option<WordAnswer>, WordRefusal>) -> Told<V>
         requires { HasRoom self.old self.old.stage }
         ensures does { IsToldWord self.old self.new result (notice_told told) }
@@ -165,6 +170,7 @@ impl<V: Drop> TxActor<V> {
         }
     }
 
+    #[inline(always)]
     fn tried_next(&mut self, homes: VecDeque<u32>, got: usize, tries: u32, free: bool) -> Told<V>
         ensures does { let r = at self.old (Stage.Gating homes got tries) in
             Does r self.new result (λ a w. after_try w a (seat_of r) (stage_of r.stage) free) }
@@ -178,6 +184,7 @@ impl<V: Drop> TxActor<V> {
         }
     }
 
+    #[inline(always)]
     fn tried_call(&mut self, asked: Asking<V>, tries: u32, free: bool) -> Told<V>
         ensures does { let r = at self.old (Stage.Trying asked tries) in
             Does r self.new result (λ a w. after_try w a (seat_of r) (stage_of r.stage) free) }
@@ -188,6 +195,7 @@ impl<V: Drop> TxActor<V> {
     }
 
     /// The gate that was to be tried was found free or not; where it was free it is held now.
+    #[inline(always)]
     pub fn tried_gate(&mut self, free: bool) -> Told<V>
         ensures does { Does self.old self.new result (λ a w. after_try w a (seat_of self.old) (stage_of self.old.stage) free) }
         ensures keeps { (v : BlocksView) → KeepsIn v self.old self.new }
@@ -229,6 +237,7 @@ impl<V: Drop> TxActor<V> {
         }
     }
 
+    #[inline(always)]
     fn first_home(&mut self, homes: VecDeque<u32>) -> Told<V>
         ensures does { IsGoneHome (at self.old (Stage.Homing homes)) self.new result }
         ensures keeps { (v : BlocksView) → KeepsIn v (at self.old (Stage.Homing homes)) self.new }
@@ -244,6 +253,7 @@ impl<V: Drop> TxActor<V> {
     }
 
     /// The base that was to go home has gone, with its changes, and its gate is free.
+    #[inline(always)]
     pub fn went_home(&mut self) -> Told<V>
         ensures does { IsGoneHome self.old self.new result }
         ensures keeps { (v : BlocksView) → KeepsIn v self.old self.new }

@@ -84,6 +84,7 @@ impl<V: Drop> Kept<V> {
     }
 
     /// The call, in the kept box where there is one.
+    #[inline(always)]
     pub(crate) fn ask(
         &mut self,
         alloc: Global,

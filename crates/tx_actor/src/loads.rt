@@ -28,6 +28,7 @@ fn first_left(left: &VecDeque<(u32, u64)>) -> Option<(u32, u64)>
 
 impl<V: Value> TxActor<V> {
     /// The first location, which was copied with this edition, was read with that one.
+    #[inline(always)]
     fn has_first(
         &mut self,
         call: Boxed<Answered<V>>,
@@ -57,6 +58,7 @@ impl<V: Value> TxActor<V> {
     }
 
     /// The first location was read with this edition.
+    #[inline(always)]
     fn has_found(
         &mut self,
         call: Boxed<Answered<V>>,
@@ -75,6 +77,7 @@ impl<V: Value> TxActor<V> {
     }
 
     /// The first location has moved.
+    #[inline(never)]
     fn has_moved(
         &mut self,
         call: Boxed<Answered<V>>,
@@ -96,6 +99,7 @@ impl<V: Value> TxActor<V> {
         }
     }
 
+    #[inline(always)]
     fn has_loaded(
         &mut self,
         heard: WordNotice,
@@ -116,6 +120,7 @@ impl<V: Value> TxActor<V> {
 
     /// Its word actor has taken a step of the load of a call's location, which told this. Where an edition was read, all that the call's
     /// acceptance takes is there.
+    #[inline(always)]
     pub fn loaded(&mut self, told: Result<Option<WordAnswer>, WordRefusal>) -> Told<V>
         requires prepared { IsLoadable self.old self.old.stage (notice_told told) }
         ensures does { IsToldLoad self.old self.new result (notice_told told) }

@@ -8,6 +8,7 @@ use actor_words::{Next, at_place, next_home, next_load, next_put, next_try};
 
 impl<V> TxActor<V> {
     /// What the next step does. It is the atomic action that the definitions have at this stage.
+    #[inline(always)]
     pub fn next(&self) -> Next
         ensures { result ≡ next_of (stage_of self.now.stage) }
     {

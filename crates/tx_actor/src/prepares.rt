@@ -1,5 +1,6 @@
 //! What a call on a copied collection takes is made ready before its first location is read: nothing of it can be refused memory then.
 ghost use Rattle.std.specs.Prelude.{◌≡◌, ◌<◌, IfOk, OnOk, Some, length, slice_get};
+ghost use Rattle.conflict.specs.declared.outcome.Outcome.{Outcome};
 ghost use Rattle.actor_copies.specs.declared.copies.CopyOf.{CopyOf};
 ghost use Rattle.tx_actor.specs.Prepares.{ArePrepared, AreReadied, HasRoomFor, IsAlike, MayPrepare, prepared_of};
 
@@ -8,7 +9,7 @@ use crate::room::reserve_call;
 use actor_copies::{reserve_words, weigh};
 use boxes::Boxed;
 use conflict::Outcome;
-use seq_model::{Memory, Op, Value};
+use seq_model::{Memory, Op, Reply, Value};
 use std::alloc::Global;
 use std::collections::VecDeque;
 use step_core::Actor;
@@ -38,6 +39,32 @@ impl<V: Value> TxActor<V> {
         Ok(())
     }
 
+    /// The reply of the outcome is copied, to be kept and to be told, and room is made for all that its call takes.
+    fn readies_reply(
+        &mut self,
+        place: usize,
+        outcome: &Option<Outcome<V>>,
+        reads: usize,
+        writes: usize,
+        kept: &mut Reply<V>,
+        told: &mut Reply<V>,
+    ) -> Result<(), Memory>
+        requires { place < length self.old.copies.items }
+        ensures alike { IsAlike self.old self.new }
+        ensures ok { OnOk result ((o : Outcome V) → outcome.now ≡ Some o →
+            HasRoomFor self.new place o reads writes × (kept.new ≡ o.reply) × (told.new ≡ o.reply)) }
+    {
+        match outcome {
+            Some(found) => {
+                *kept = found.reply.try_copy()?;
+                *told = found.reply.try_copy()?;
+                self.make_room(place, found, reads, writes)?;
+                Ok(())
+            }
+            None => Ok(()),
+        }
+    }
+
     /// Makes ready what a call takes which the copy at this place holds: its outcome, its writes, and room for all that it will read.
     /// The collection begins at location `first`. None where its locations don't fit the sets. What the actor shows stands, also where
     /// memory is refused.
@@ -54,32 +81,29 @@ impl<V: Value> TxActor<V> {
         ensures ok { IfOk result (λ left. (c : CopyOf V) → slice_get self.old.copies.items place ≡ Some c →
             AreReadied self.old self.new place first call.old.asked c call.new left) }
     {
-        let list = self.spares.left(alloc);
-        let weighed = weigh(
-            alloc,
-            list,
+        let mut left = self.spares.left(alloc);
+        let fits = weigh(
+            &mut call.outcome,
+            &mut left,
+            &mut call.writes,
             &self.words,
             &self.copies[place].copied,
             first,
             &call.asked.op,
         )?;
-        if !weighed.fits {
+        if !fits {
             return Ok(None);
         }
-        let kept = weighed.outcome.reply.try_copy()?;
-        let told = weighed.outcome.reply.try_copy()?;
-        self.make_room(
+        self.readies_reply(
             place,
-            &weighed.outcome,
-            weighed.left.len(),
-            weighed.writes.len(),
+            &call.outcome,
+            left.len(),
+            call.writes.len(),
+            &mut call.kept,
+            &mut call.told,
         )?;
-        call.outcome = Some(weighed.outcome);
         call.place = place;
-        call.writes = weighed.writes;
-        call.kept = kept;
-        call.told = told;
-        Ok(Some(weighed.left))
+        Ok(Some(left))
     }
 
     /// The same of a call that is handed over.

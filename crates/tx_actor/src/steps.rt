@@ -69,6 +69,7 @@ fn gating_or_ready<V: Drop>(homes: VecDeque<u32>) -> Stage<V>
 }
 
 /// The stage of a transaction that holds the gates of so many of these collections.
+#[inline(always)]
 fn next_gate<V: Drop>(homes: VecDeque<u32>, got: usize) -> Stage<V>
     requires inside { got ≤ length homes.items }
     ensures stage { (s : worlds.Stage V) → stage_in s result ≡ takes_gates (take got homes.items) (drop got homes.items) }
@@ -171,6 +172,7 @@ impl<V: Drop> TxActor<V> {
     }
 
     /// The clock was loaded that commits a transaction without writes.
+    #[inline(never)]
     pub fn closed(&mut self) -> Told<V>
         ensures does { Reseats self.old self.new result (λ a w. (
           seated (recorded w a (seat_of self.old) false self.old.rv) a no_one,
@@ -189,6 +191,7 @@ impl<V: Drop> TxActor<V> {
     }
 
     /// The clock was loaded that ends an aborted transaction.
+    #[inline(never)]
     pub fn ended(&mut self) -> Told<V>
         ensures does { Reseats self.old self.new result (λ a w. ended w a (seat_of self.old)) }
         ensures keeps { (v : BlocksView) → KeepsIn v (at self.old Stage.Idle) self.new }
@@ -223,6 +226,7 @@ impl<V: Drop> TxActor<V> {
     }
 
     /// It is to end, and holds no gate.
+    #[inline(always)]
     pub(crate) fn cancels(&mut self) -> Told<V>
         ensures does { Reseats self.old self.new result (λ a w. (worlds.cancels w a (seat_of self.old), Quiet)) }
         ensures keeps { (v : BlocksView) → KeepsIn v (at self.old Stage.Idle) self.new }
@@ -235,6 +239,7 @@ impl<V: Drop> TxActor<V> {
     }
 
     /// It is to end, once the gates of these collections are put back.
+    #[inline(always)]
     pub fn puts_back(&mut self, homes: VecDeque<u32>) -> Told<V>
         ensures does { Reseats self.old self.new result (λ a w. worlds.gives_up w a (seat_of self.old) homes.items) }
         ensures keeps { (v : BlocksView) → KeepsIn v (at self.old (Stage.Returning homes)) self.new }
@@ -248,6 +253,7 @@ impl<V: Drop> TxActor<V> {
     }
 
     /// It is given up for this cause, and holds no gate.
+    #[inline(always)]
     pub fn gives_up(&mut self, cause: Refusal) -> Told<V>
         ensures does { Reseats self.old self.new result (λ a w. worlds.gives_up w a (because (seat_of self.old) cause) []) }
         ensures keeps { (v : BlocksView) → KeepsIn v (at self.old Stage.Idle) self.new }
@@ -259,6 +265,7 @@ impl<V: Drop> TxActor<V> {
     }
 
     /// It is given up for this cause, and holds the gates of these collections.
+    #[inline(always)]
     pub fn gives_up_with(&mut self, cause: Refusal, homes: VecDeque<u32>) -> Told<V>
         ensures does { Reseats self.old self.new result (λ a w. worlds.gives_up w a (because (seat_of self.old) cause) homes.items) }
         ensures keeps { (v : BlocksView) → KeepsIn v (at self.old (Stage.Returning homes)) self.new }
@@ -269,6 +276,7 @@ impl<V: Drop> TxActor<V> {
     }
 
     /// The gate of a call was tried, and found free or not.
+    #[inline(always)]
     pub fn tried(&mut self, asked: Asking<V>, tries: u32, free: bool) -> Told<V>
         ensures does { Reseats self.old self.new result (λ a w. has_tried w a (seat_of self.old) free asked.collection []
             (λ n. worlds.Trying (asked_of asked) n) (worlds.Copying (asked_of asked)) tries) }
@@ -289,6 +297,7 @@ impl<V: Drop> TxActor<V> {
     }
 
     /// The gate of the next collection that a commit writes was tried, and found free or not; it holds the gates before it.
+    #[inline(always)]
     pub fn tried_home(
         &mut self,
         homes: VecDeque<u32>,
@@ -391,6 +400,7 @@ impl<V: Drop> TxActor<V> {
     }
 
     /// All values are stored, or a base has gone home, and these are still to go.
+    #[inline(always)]
     pub fn goes_home(&mut self, homes: VecDeque<u32>) -> Told<V>
         ensures does { (a : ℕ) (w : World V) (x : Seat V) → IsSeatOf x self.old → MayRelease a w homes.items →
             worlds.actor_of w a ≡ actor_of self.old.words →

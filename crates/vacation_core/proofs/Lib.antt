@@ -4,3 +4,4 @@ pub mod SessionLemmas
 pub mod RunLemmas
 pub mod WalkLemmas
 pub mod DraftLemmas
+pub mod GetLemmas

@@ -7,6 +7,7 @@ use Rattle.vac_model.specs.declared.item.Kind.TheVariants.{Car, Flight, Room}
 use Rattle.vac_model.specs.declared.item.Customer.{Customer}
 use Rattle.vac_model.specs.declared.action.Part.{Part}
 use Rattle.vac_model.specs.declared.action.Part.TheVariants.{Booked, Waits}
+use Rattle.vac_model.specs.declared.each.Each.{Each}
 use Rattle.vac_model.specs.Holdings.{newcomer}
 use Rattle.vac_model.specs.Balanced.{IsItemSound}
 use Rattle.vacation_core.specs.declared.reserve.Draft.{Draft}
@@ -17,6 +18,9 @@ use Rattle.vacation_core.specs.Walks.{with_part}
 abbrev pub IsSound : Option (ℕ × Item) → Type 0
 IsSound None = ⊤
 IsSound (Some x) = IsItemSound x.1
+
+abbrev pub AreSound : Each (Option (ℕ × Item)) → Type 0
+AreSound best = IsSound best.car × IsSound best.flight × IsSound best.room
 
 -- whether a part adds a booking of the item or a wait for it
 abbrev pub adds : ℕ → Part → Bool

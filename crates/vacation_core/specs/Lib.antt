@@ -5,6 +5,7 @@ pub mod Runs
 pub mod Laws
 pub mod Walks
 pub mod Left
+pub mod Gets
 pub mod Drafts
 pub mod Serving
 pub mod Refusals

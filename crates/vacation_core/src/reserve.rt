@@ -1,24 +1,28 @@
 //! The plan of a reservation, walked.
-ghost use Rattle.std.specs.Prelude.{◌≡◌, ℕ, Option, Some, None, IfOk, OnOk, ◌||◌, unwrap_or, is_none, ◌&&◌};
+ghost use Rattle.std.specs.Prelude.{◌≡◌, ℕ, Option, Some, None, IfOk, IfSome, OnOk, ◌||◌, option_map, unwrap_or, is_none, ◌&&◌};
 ghost use Rattle.std.specs.Option.{option_copied};
-ghost use Rattle.tx_engine.specs.Programs.{after, Answers};
+ghost use Rattle.tx_engine.specs.Programs.{after, asked, Answers};
+ghost use Rattle.tx_engine.specs.declared.job.Ask.TheVariants.{Call as NextCall};
 ghost use Rattle.vac_model.specs.Actions as actions;
 ghost use Rattle.vac_model.specs.declared.item.Item.{Item as AnItem};
 ghost use Rattle.vac_model.specs.declared.item.Customer.{Customer as ACustomer};
+ghost use Rattle.vac_model.specs.declared.item.Kind.TheVariants.{Car, Flight, Room};
 ghost use Rattle.vac_model.specs.declared.action.Part.{Part as APart};
 ghost use Rattle.vac_model.specs.Holdings.{newcomer};
 ghost use Rattle.vacation_core.specs.Sessions as plans;
 ghost use Rattle.vacation_core.specs.Sessions.{Plan};
 ghost use Rattle.vacation_core.specs.Walks.{Comes, with_part};
-ghost use Rattle.vacation_core.specs.Drafts.{drafted, adds, is_changed, part_for, IsSound};
+ghost use Rattle.vacation_core.specs.Drafts.{drafted, adds, is_changed, part_for, AreSound, IsSound};
 ghost use Rattle.vac_model.specs.Balanced.{IsItemSound};
+ghost use Rattle.vacation_core.specs.Gets.{get_due};
 
-use crate::walk::{Stop, Walk, put_customer};
-use seq_model::{Memory, Value};
+use crate::entry::Entry;
+use crate::walk::{Stop, Walk, put_customer, tell_items};
+use seq_model::{Memory, Reply, Value};
 use std::alloc::Global;
 use vac_model::{
     ActionReply, Ask, Booking, Customer, Each, Item, Kind, PLACE_LIMIT, Part, TICKET_LIMIT, Ticket,
-    Wait, dearer, same_kind,
+    Wait,
 };
 
 /// A customer with what was decided so far, which is not put yet.
@@ -143,24 +147,38 @@ impl Draft<'_> {
     }
 }
 
-/// The best candidate of a kind, with what an ask found.
-fn better(
-    kind: Kind,
-    ask: Ask,
-    item: Option<Item>,
-    best: Option<(u64, Item)>,
-) -> Option<(u64, Item)>
+/// The best candidate of a kind, with what an ask of that kind found.
+fn improve(best: &mut Option<(u64, Item)>, id: u64, item: Option<Item>)
     requires item_sound { (i : AnItem) → item ≡ Some i → IsItemSound i }
-    requires best_sound { IsSound best }
-    ensures better { result ≡ plans.better kind ask item best }
-    ensures sound { IsSound result }
+    requires best_sound { IsSound best.old }
+    ensures better { best.new ≡ actions.dearer best.old (option_map (λ i. (id, i)) item) }
+    ensures sound { IsSound best.new }
 {
-    if !same_kind(ask.kind, kind) {
-        return best;
+    let Some(item) = item else {
+        return;
+    };
+    let dearer = match best {
+        Some((_, had)) => had.price < item.price,
+        None => true,
+    };
+    if dearer {
+        *best = Some((id, item));
     }
-    match item {
-        Some(item) => dearer(best, Some((ask.id, item))),
-        None => dearer(best, None),
+}
+
+/// The best candidates of the three kinds, with what an ask found.
+fn improve_each(best: &mut Each<Option<(u64, Item)>>, ask: Ask, item: Option<Item>)
+    requires item_sound { (i : AnItem) → item ≡ Some i → IsItemSound i }
+    requires best_sound { AreSound best.old }
+    ensures car { best.new.car ≡ plans.better Car ask item best.old.car }
+    ensures flight { best.new.flight ≡ plans.better Flight ask item best.old.flight }
+    ensures room { best.new.room ≡ plans.better Room ask item best.old.room }
+    ensures sound { AreSound best.new }
+{
+    match ask.kind {
+        Kind::Car => improve(&mut best.car, ask.id, item),
+        Kind::Flight => improve(&mut best.flight, ask.id, item),
+        Kind::Room => improve(&mut best.room, ask.id, item),
     }
 }
 
@@ -171,27 +189,37 @@ fn no_candidate(best: &Each<Option<(u64, Item)>>) -> bool
     best.car.is_none() && best.flight.is_none() && best.room.is_none()
 }
 
+/// The ask whose get comes next, where there are fewer replies than asks, each of which tells an item or that there is none.
+pub(crate) fn due_of(asks: &[Ask], replies: &[Reply<Entry>]) -> Option<Ask>
+    ensures { (customer units : ℕ) → IfSome result (λ due.
+        asked (after (plans.reserve customer units asks.now) replies.now) ≡ NextCall (get_due due)) }
+{
+    let count = replies.len();
+    if count < asks.len() && tell_items(replies) {
+        Some(asks[count])
+    } else {
+        None
+    }
+}
+
 impl<'a> Walk<'a> {
     /// The candidates of the three kinds.
     fn gather(&mut self, asks: &[Ask]) -> Result<Each<Option<(u64, Item)>>, Stop>
         ensures comes { (next : Option (ℕ × AnItem) → Option (ℕ × AnItem) → Option (ℕ × AnItem) → Plan)
             → Comes (after (plans.gather asks.now None None None next) self.old) result
             (λ best. after (next best.car best.flight best.room) self.new) }
-        ensures sound { IfOk result (λ best. IsSound best.car × IsSound best.flight × IsSound best.room) }
+        ensures sound { IfOk result AreSound }
     {
-        let mut car = None;
-        let mut flight = None;
-        let mut room = None;
+        let mut best = Each {
+            car: None,
+            flight: None,
+            room: None,
+        };
         for ask in asks {
             let item = self.get_item(ask.kind, ask.id)?;
-            let of_cars = better(Kind::Car, *ask, item, car);
-            let of_flights = better(Kind::Flight, *ask, item, flight);
-            let of_rooms = better(Kind::Room, *ask, item, room);
-            car = of_cars;
-            flight = of_flights;
-            room = of_rooms;
+            improve_each(&mut best, *ask, item);
         }
-        Ok(Each { car, flight, room })
+        Ok(best)
     }
 
     /// A wait for the item, where there is a ticket for it.
@@ -277,7 +305,7 @@ impl<'a> Walk<'a> {
         best: &Each<Option<(u64, Item)>>,
         found: Option<&Customer>,
     ) -> Result<ActionReply, Stop>
-        requires { IsSound best.now.car × IsSound best.now.flight × IsSound best.now.room }
+        requires { AreSound best.now }
         ensures { Comes (after (plans.decide_all number units best.now.car best.now.flight best.now.room
             (option_copied found.entry)) self.old) result (λ reply. Answers reply) }
     {

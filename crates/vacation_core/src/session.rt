@@ -1,20 +1,22 @@
 //! The session of one action.
-ghost use Rattle.std.specs.Prelude.{◌≡◌, IfOk, IfErr};
+ghost use Rattle.std.specs.Prelude.{◌≡◌, IfOk, IfErr, IfSome};
 ghost use Rattle.tx_engine.specs.Programs.{after, asked, replies_of, Answers};
 ghost use Rattle.vac_model.specs.Actions.{IsAllowed};
 ghost use Rattle.vacation_core.specs.Sessions as plans;
 ghost use Rattle.vacation_core.specs.Walks.{Comes};
 ghost use Rattle.vacation_core.specs.Left.{replies_in};
+ghost use Rattle.vacation_core.specs.Gets.{get_due};
 ghost use Rattle.vacation_core.specs.Refusals.{IsSessionRefusal};
 ghost use Rattle.tx_engine.specs.declared.job.Ask.TheVariants as ask;
 
 use crate::entry::Entry;
-use crate::walk::{Left, Stop, Walk};
+use crate::reserve::due_of;
+use crate::walk::{Left, Stop, Walk, get_of};
 use seq_model::{Items, Memory, Record, Refusal, Reply};
 use std::alloc::Global;
 use std::marker::Model;
 use tx_engine::{Ask, Job};
-use vac_model::{Action, ActionReply, Kind, bill};
+use vac_model::{Action, ActionReply, Ask as ItemAsk, Kind, bill};
 
 /// The transaction of one action, which is within its limits. It keeps nothing between its calls.
 #[derive(Drop)]
@@ -121,6 +123,29 @@ impl Session {
         }
     }
 
+    /// What the replies so far lead to, walked from the first.
+    #[inline(never)]
+    fn walked(&self, replies: &[Reply<Entry>]) -> Result<Ask<Entry>, Memory>
+        ensures { IfOk result (λ ask. ask ≡ asked (after (plans.session self.now) replies.now)) }
+    {
+        match self.play(Left::Replies(replies)) {
+            Ok(_) => Ok(Ask::Done),
+            Err(Stop::Asks(call)) => Ok(Ask::Call(call)),
+            Err(Stop::GivesUp) => Ok(Ask::GiveUp),
+            Err(Stop::OutOfMemory) => Err(Memory),
+        }
+    }
+
+    /// The item that a reservation gets next, while not all that it asks for are got: no candidate is weighed for that.
+    fn due(&self, replies: &[Reply<Entry>]) -> Option<ItemAsk>
+        ensures { IfSome result (λ due. asked (after (plans.session self.now) replies.now) ≡ ask.Call (get_due due)) }
+    {
+        match &self.action {
+            Action::Reserve { asks, .. } => due_of(asks.as_slice(), replies),
+            _ => None,
+        }
+    }
+
     /// What the session answered in this receipt, which is one of its own.
     pub fn reply(&self, receipt: &Record<Entry>) -> Result<ActionReply, Memory>
         requires { asked (after (plans.session self.now) (replies_of receipt.now.calls)) ≡ ask.Done }
@@ -141,11 +166,9 @@ impl Job<Entry> for Session {
 
     /// What the session asks after these replies: it gives up where no balanced tables answer so.
     fn ask(&self, replies: &[Reply<Entry>]) -> Result<Ask<Entry>, Memory> {
-        match self.play(Left::Replies(replies)) {
-            Ok(_) => Ok(Ask::Done),
-            Err(Stop::Asks(call)) => Ok(Ask::Call(call)),
-            Err(Stop::GivesUp) => Ok(Ask::GiveUp),
-            Err(Stop::OutOfMemory) => Err(Memory),
+        if let Some(due) = self.due(replies) {
+            return Ok(Ask::Call(get_of(due)));
         }
+        self.walked(replies)
     }
 }

@@ -2,6 +2,7 @@
 ghost use Rattle.std.specs.Prelude.{◌≡◌, ◌≤◌, ◌∷◌, ℕ, List, [], Option, true, false, IsTrue, IfOk, MatchOption};
 ghost use Rattle.std.specs.List.{list_all};
 ghost use Rattle.std.specs.Option.{option_copied};
+ghost use Rattle.seq_model.specs.declared.call.Op.TheVariants.{Get as Got};
 ghost use Rattle.seq_model.specs.declared.call.Reply.{Reply as AReply};
 ghost use Rattle.tx_engine.specs.Programs.{after};
 ghost use Rattle.tx_engine.specs.Programs.{Asks as Due};
@@ -13,6 +14,7 @@ ghost use Rattle.vacation_core.specs.declared.entry.Entry.{Entry as AnEntry};
 ghost use Rattle.vacation_core.specs.declared.walk.Stop.TheVariants.{OutOfMemory};
 ghost use Rattle.vacation_core.specs.Sessions as plans;
 ghost use Rattle.vacation_core.specs.Sessions.{Plan};
+ghost use Rattle.vacation_core.specs.Gets.{get_due, tells_item};
 ghost use Rattle.vacation_core.specs.Left.{replies_in};
 ghost use Rattle.vacation_core.specs.Walks.{Comes, IsStop};
 
@@ -21,7 +23,8 @@ use seq_model::{Call, Memory, Op, Reply};
 use std::alloc::{AllocError, Global};
 use std::marker::Model;
 use vac_model::{
-    AMOUNT_LIMIT, Booking, Customer, Item, Kind, TICKET_LIMIT, Ticket, are_units, is_item_sound,
+    AMOUNT_LIMIT, Ask, Booking, Customer, Item, Kind, TICKET_LIMIT, Ticket, are_units,
+    is_item_sound,
 };
 
 /// Why a walk does not come to the end of its plan.
@@ -125,6 +128,28 @@ fn item_in(reply: &Reply<Entry>) -> Result<Option<Item>, Stop>
     }
 }
 
+/// Whether the reply tells an item, or that there is none.
+fn tells_item(reply: &Reply<Entry>) -> bool
+    ensures { result ≡ tells_item reply.now }
+{
+    match reply {
+        Reply::Nothing => true,
+        Reply::Value(Entry::Item(item)) => is_item_sound(item),
+        _ => false,
+    }
+}
+
+pub(crate) fn tell_items(replies: &[Reply<Entry>]) -> bool
+    ensures { result ≡ list_all tells_item replies.now }
+{
+    for reply in replies {
+        if !tells_item(reply) {
+            return false;
+        }
+    }
+    true
+}
+
 fn is_booking_within(booking: &Booking) -> bool
     ensures { result ≡ plans.is_booking_within booking.now }
 {
@@ -205,6 +230,28 @@ fn next_in(reply: &Reply<Entry>) -> Result<u64, Stop>
     }
 }
 
+/// The call that gets an item.
+pub(crate) fn get_of(ask: Ask) -> Call<Entry>
+    ensures { result ≡ get_due ask }
+{
+    Call {
+        target: map_of(ask.kind),
+        op: Op::Get(ask.id),
+    }
+}
+
+/// What a map holds at a key is asked next. It stands apart, so that what is asked weighs on no reply that is passed.
+#[cold]
+#[inline(never)]
+fn asks_get(target: u32, key: u64) -> Stop
+    ensures { (next : AReply AnEntry → Plan) → IsStop result (Due (plans.on target (Got key)) next) }
+{
+    Stop::Asks(Call {
+        target,
+        op: Op::Get(key),
+    })
+}
+
 /// A customer is to be put.
 pub(crate) fn put_customer(customer: u64, who: Customer) -> Stop
     ensures { (next : Plan) → IsStop result (plans.put_customer customer who next) }
@@ -263,8 +310,10 @@ impl<'a> Walk<'a> {
             → Comes (after (plans.get_item kind id next) self.old) result (λ item. after (next item) self.new) }
         ensures sound { IfOk result (λ item. (i : AnItem) → item ≡ Some i → IsItemSound i) }
     {
-        let reply = self.reply(map_of(kind), Op::Get(id))?;
-        item_in(reply)
+        match self.next() {
+            Some(reply) => item_in(reply),
+            None => Err(asks_get(map_of(kind), id)),
+        }
     }
 
     pub(crate) fn put_item(&mut self, kind: Kind, id: u64, item: Item) -> Result<(), Stop>
@@ -288,8 +337,10 @@ impl<'a> Walk<'a> {
             → Comes (after (plans.get_customer customer next) self.old) result (λ who. after (next (option_copied who)) self.new) }
         ensures within { IfOk result (λ who. (w : ACustomer) → option_copied who ≡ Some w → plans.is_customer_within w ≡ true) }
     {
-        let reply = self.reply(CUSTOMERS, Op::Get(customer))?;
-        customer_in(reply)
+        match self.next() {
+            Some(reply) => customer_in(reply),
+            None => Err(asks_get(CUSTOMERS, customer)),
+        }
     }
 
     /// Whether the call that is due has its reply: then it is passed over. So what the call would put is made only to be asked.

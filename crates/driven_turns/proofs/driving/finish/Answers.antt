@@ -11,7 +11,7 @@ give_up-requires-clause-ends g c =
 pub returns-in-Ok-clause-own : goal.returns-in-Ok-clause-own
 returns-in-Ok-clause-own g c =
     answered_own c.args.table.now c.args.seat.now c.advance.new.seat c.advance.new.actor c.advance.new.bases.items
-    c.in-Ok.done.0 c.in-Ok.done.1 c.in-Ok.ensures.answered c.in-Ok.ensures.driven c.advance.ensures.ties c.advance.ensures.own
+    c.advance.new.said c.advance.new.kept c.in-Ok.ensures.answered c.in-Ok.ensures.driven c.advance.ensures.ties c.advance.ensures.own
 
 pub returns-in-Err-clause-driven : goal.returns-in-Err-clause-driven
 returns-in-Err-clause-driven g c =

@@ -15,6 +15,6 @@ unreachable-requires g c =
 pub returns-clause-driven : goal.returns-clause-driven
 returns-clause-driven g c =
     let o = opening_of c.args.table.now in
-    subst (λ (d : Option (Record _)). Driven o c.args.seat.now c.advance.new.seat c.in-Ok.told d)
-    (none_ends o c.args.seat.now c.advance.new.seat c.in-Ok.told _ c.requires.ends c.in-Ok.ensures.driven c.in-Ok.ensures.answered).0
+    subst (λ (d : Option (Record _)). Driven o c.args.seat.now c.advance.new.seat c.advance.new.said d)
+    (none_ends o c.args.seat.now c.advance.new.seat c.advance.new.said _ c.requires.ends c.in-Ok.ensures.driven c.in-Ok.ensures.answered).0
     c.in-Ok.ensures.driven

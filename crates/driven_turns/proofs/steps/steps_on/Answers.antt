@@ -4,6 +4,7 @@ use Rattle.actor_turns.proofs.StepLemmas.{running_moved}
 use Rattle.tx_actor.specs.Running.{stage_of}
 use Rattle.tx_actor.specs.declared.actor.Stage.{Stage}
 use Rattle.tx_actor.specs.declared.actor.Stage.TheVariants as stage
+use Rattle.tx_actor.specs.declared.actor.Told.{Told}
 use Rattle.tx_actor.specs.declared.actor.Told.TheVariants as told
 use Rattle.tx_table.specs.Seated.{opening_of}
 use Rattle.tx_turns.proofs.TurnLemmas.{word_is_due, word_is_next, word_turned}
@@ -11,6 +12,7 @@ use Rattle.tx_turns.specs.Ties.{laid_in}
 use Rattle.gate_turns.proofs.WordLemmas.{load_hears, load_tied}
 use Rattle.driven_turns.proofs.NextLemmas.{not_loading}
 use Rattle.driven_turns.proofs.StepsLemmas.{comes_on, leads_on, nearer, onward, starts}
+use Rattle.driven_turns.specs.Driven.{LeadsOn}
 use Rattle.driven_turns.proofs.steps.steps_on.Goals as goal
 
 pub steps-init : goal.steps-init
@@ -96,9 +98,10 @@ returns-in-Loading-clause-leads g c =
     let h = load_tied c.steps_as_worlds.ensures c.loads_as_worlds.ensures.heard c.seats_as_actors.ensures c.loads_stay_own.ensures
     c.copies_by_stage.ensures.others t s u r c.loaded.new.self y m c.loaded.result c.args.bases.now loading ties c.steps.invariant.1
     e.steps c.loaded.ensures.does ((c.loaded.ensures.keeps (laid_in t)).running heard.1) c.loaded.ensures.goes in
-    leads_on t c.args.seat.now s u r c.loaded.result c.steps.invariant.3 ties h.1
+    subst (λ (n : Told _). LeadsOn (opening_of t) c.args.seat.now u n) c.says.ensures.told
+    (leads_on t c.args.seat.now s u r c.loaded.result c.steps.invariant.3 ties h.1
     (ap (λ (z : Stage _). next_of (stage_of z)) c.steps.invariant.2 ∙ c.requires.due)
-    (subst (λ (z : Stage _). z ≡ stage.Closing → ⊥) (sym c.steps.invariant.2) c.requires.open) c.requires.small
+    (subst (λ (z : Stage _). z ≡ stage.Closing → ⊥) (sym c.steps.invariant.2) c.requires.open) c.requires.small)
 
 pub returns-in-Loading-clause-ties : goal.returns-in-Loading-clause-ties
 returns-in-Loading-clause-ties g c =
@@ -153,9 +156,10 @@ returns-in_default-clause-leads g c =
     let quiet = not_loading r.stage c.in_default.not-Loading in
     let h = word_turned c.steps_as_worlds.ensures t s u r c.stepped.new.self y c.step_words-told.result c.stepped.result due quiet ties
     e.steps c.stepped.ensures.does ((c.stepped.ensures.keeps (laid_in t)).running (running_moved (laid_in t) r y e.fits quiet ties.running)) in
-    leads_on t c.args.seat.now s u r c.stepped.result c.steps.invariant.3 ties h.1
+    subst (λ (n : Told _). LeadsOn (opening_of t) c.args.seat.now u n) c.says-in_default.ensures.told
+    (leads_on t c.args.seat.now s u r c.stepped.result c.steps.invariant.3 ties h.1
     (ap (λ (z : Stage _). next_of (stage_of z)) c.steps.invariant.2 ∙ c.requires.due)
-    (subst (λ (z : Stage _). z ≡ stage.Closing → ⊥) (sym c.steps.invariant.2) c.requires.open) c.requires.small
+    (subst (λ (z : Stage _). z ≡ stage.Closing → ⊥) (sym c.steps.invariant.2) c.requires.open) c.requires.small)
 
 pub returns-in_default-clause-ties : goal.returns-in_default-clause-ties
 returns-in_default-clause-ties g c =

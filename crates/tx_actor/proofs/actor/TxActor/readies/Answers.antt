@@ -9,54 +9,51 @@ use Rattle.actor_copies.proofs.TakingLemmas.{some_copy}
 use Rattle.tx_actor.proofs.PreparesLemmas.{alike_itself, known_length, prepared_by}
 use Rattle.tx_actor.proofs.actor.TxActor.readies.Goals as goal
 
-pub returns-in_err-weighed-clause-alike : goal.returns-in_err-weighed-clause-alike
-returns-in_err-weighed-clause-alike g c = alike_itself c.args.self.now
+pub returns-in_err-fits-clause-alike : goal.returns-in_err-fits-clause-alike
+returns-in_err-fits-clause-alike g c = alike_itself c.args.self.now
 
-pub returns-then-not-weighed-clause-alike : goal.returns-then-not-weighed-clause-alike
-returns-then-not-weighed-clause-alike g c = alike_itself c.args.self.now
+pub returns-then-not-fits-clause-alike : goal.returns-then-not-fits-clause-alike
+returns-then-not-fits-clause-alike g c = alike_itself c.args.self.now
 
-pub returns-in_err-kept-clause-alike : goal.returns-in_err-kept-clause-alike
-returns-in_err-kept-clause-alike g c = alike_itself c.args.self.now
-
-pub returns-in_err-told-clause-alike : goal.returns-in_err-told-clause-alike
-returns-in_err-told-clause-alike g c = alike_itself c.args.self.now
-
-pub returns-then-not-weighed-clause-ok : goal.returns-then-not-weighed-clause-ok
-returns-then-not-weighed-clause-ok g c copy at =
+pub returns-then-not-fits-clause-ok : goal.returns-then-not-fits-clause-ok
+returns-then-not-fits-clause-ok g c copy at =
     let r = c.args.self.now in
     let cs = r.copies.items in
     let here = c.index.result.now in
     let there = slice_get_read cs (length cs) c.args.place here refl c.requires.there c.index.ensures in
     let e = some_copy here copy (sym there ∙ at) in
-    let o = c.in_ok-weighed.weighed.outcome in
-    let unfit : fits r c.args.first here.copied o ≡ false = sym c.in_ok-weighed.ensures.fits ∙ c.if-not-weighed.true in (
+    let weighed = c.in_ok-fits.ensures.weighed in
+    let o = weighed.0 in
+    let unfit : fits r c.args.first here.copied o ≡ false = sym weighed.2.fits ∙ c.if-not-fits.true in (
       o,
-      ap (λ (z : CopyOf g.row.V.Denot). answer_of z.copied c.args.call.now.asked.op) (sym e) ∙ c.in_ok-weighed.ensures.outcome,
+      ap (λ (z : CopyOf g.row.V.Denot). answer_of z.copied c.args.call.now.asked.op) (sym e) ∙ (c.in_ok-fits.ensures.outcome ∙ weighed.1),
       subst (λ (z : CopyOf g.row.V.Denot). fits r c.args.first z.copied o ≡ false) e unfit,
     )
 
 pub returns-clause-ok : goal.returns-clause-ok
 returns-clause-ok g c copy at =
     let r = c.args.self.now in
-    let u = c.make_room.new.self in
+    let u = c.readies_reply.new.self in
     let cs = r.copies.items in
     let f = c.args.first in
     let here = c.index.result.now in
     let e = some_copy here copy
     (sym (slice_get_read cs (length cs) c.args.place here refl c.requires.there c.index.ensures) ∙ at) in
-    let o = c.in_ok-weighed.weighed.outcome in
+    let weighed = c.in_ok-fits.ensures.weighed in
+    let o = weighed.0 in
     let answer : answer_of copy.copied c.args.call.now.asked.op ≡ Some o =
-    ap (λ (z : CopyOf g.row.V.Denot). answer_of z.copied c.args.call.now.asked.op) (sym e) ∙ c.in_ok-weighed.ensures.outcome in
-    let fit_here : fits r f here.copied o ≡ true = sym c.in_ok-weighed.ensures.fits ∙ c.if-not-weighed.false in
+    ap (λ (z : CopyOf g.row.V.Denot). answer_of z.copied c.args.call.now.asked.op) (sym e) ∙ (c.in_ok-fits.ensures.outcome ∙ weighed.1) in
+    let fit_here : fits r f here.copied o ≡ true = sym weighed.2.fits ∙ c.if-not-fits.false in
     let fit : fits r f copy.copied o ≡ true = subst (λ (z : CopyOf g.row.V.Denot). fits r f z.copied o ≡ true) e fit_here in
-    let writes : c.in_ok-weighed.weighed.writes.items ≡ with_next copy.copied f (writes_in copy.copied o) =
-    c.in_ok-weighed.ensures.writes ∙ ap (λ (z : CopyOf g.row.V.Denot). with_next z.copied f (writes_in z.copied o)) e in
-    let room : HasRoomFor u c.args.place o c.len.result (length c.in_ok-weighed.weighed.writes.items) =
-    let same : c.len-2.result ≡ length c.in_ok-weighed.weighed.writes.items = c.len-2.ensures.value in
-    subst (λ m. HasRoomFor u c.args.place o c.len.result m) same c.in_ok-make_room.ensures.room in
-    let left = c.in_ok-weighed.ensures.left ∙ ap (λ (z : CopyOf g.row.V.Denot). with_known z.copied f (reads_in z.copied o)) e in
+    let writes : c.weigh.new.writes.items ≡ with_next copy.copied f (writes_in copy.copied o) =
+    weighed.2.writes ∙ ap (λ (z : CopyOf g.row.V.Denot). with_next z.copied f (writes_in z.copied o)) e in
+    let ready = c.in_ok-readies_reply.ensures.ok o weighed.1 in
+    let room : HasRoomFor u c.args.place o c.len.result (length c.weigh.new.writes.items) =
+    let same : c.len-2.result ≡ length c.weigh.new.writes.items = c.len-2.ensures.value in
+    subst (λ m. HasRoomFor u c.args.place o c.len.result m) same ready.0 in
+    let left = weighed.2.left ∙ ap (λ (z : CopyOf g.row.V.Denot). with_known z.copied f (reads_in z.copied o)) e in
     let many : c.len.result ≡ length (reads_in copy.copied o) =
-    let count : length c.in_ok-weighed.weighed.left.items ≡ length (reads_in copy.copied o) =
+    let count : length c.weigh.new.left.items ≡ length (reads_in copy.copied o) =
     ap length left ∙ known_length copy.copied f (reads_in copy.copied o) in
     omega (arith, c.len.ensures, count) in (
       refl,
@@ -64,15 +61,13 @@ returns-clause-ok g c copy at =
         outcome = o;
         answer = answer;
         fits = fit;
-        is = refl;
+        is = weighed.1;
         at = refl;
         collection = named;
         asked = refl;
         left = left;
         writes = writes;
-        prepared = prepared_by r u c.args.place f c.args.call.now.asked.op copy o _ c.len.result c.make_room.ensures.alike c.requires room at
-            answer fit
-            writes
-            refl refl named refl c.in_ok-kept.ensures c.in_ok-told.ensures many;
+        prepared = prepared_by r u c.args.place f c.args.call.now.asked.op copy o _ c.len.result c.readies_reply.ensures.alike c.requires room
+            at answer fit writes weighed.1 refl named refl ready.1 ready.2 many;
       },
     )

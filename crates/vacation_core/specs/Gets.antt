@@ -1,0 +1,20 @@
+-- What a reservation asks first: an item for each of its asks, in their order.
+use Rattle.std.specs.Prelude.{Bool, true, false}
+use Rattle.seq_model.specs.declared.call.Call.{Call}
+use Rattle.seq_model.specs.declared.call.Op.TheVariants.{Get}
+use Rattle.seq_model.specs.declared.call.Reply.{Reply}
+use Rattle.seq_model.specs.declared.call.Reply.TheVariants.{Nothing, Value}
+use Rattle.vac_model.specs.declared.action.Ask.{Ask}
+use Rattle.vac_model.specs.Tests.{is_item_sound}
+use Rattle.vacation_core.specs.declared.entry.Entry.{Entry}
+use Rattle.vacation_core.specs.declared.entry.Entry.TheVariants.{Item as Stock}
+use Rattle.vacation_core.specs.Sessions.{map_of, on}
+
+abbrev pub get_due : Ask → Call Entry
+get_due due = on (map_of due.kind) (Get due.id)
+
+-- a plan goes on with the item, or with none
+abbrev pub tells_item : Reply Entry → Bool
+tells_item Nothing = true
+tells_item (Value (Stock i)) = is_item_sound i
+tells_item _ = false
