@@ -135,7 +135,7 @@ module _ {V : Type 0} (w : World V) (a : ℕ) (b : Block) (asked : Asked V) (bas
     whole_none : IsOwn w a asked.collection None → IsReadOf w a asked.collection None → SizesAs w a asked base o
     whole_none own was_read =
         let t : ShadowView V = record { base = base; changes = []; locations = []; ready = None } in
-        (copies_for w a b asked base k st block of shows guard (found.Whole base) None (Whole t) own was_read refl
+        (copies_for w a b asked base k st block of shows guard (found.Whole t) None (Whole t) own was_read refl
         (refl, refl, refl, kind) (refl, refl, refl)).room o is_o
 
     whole_keys : (m : MemoView V) (es : Room ℕ) → IsOwn w a asked.collection (Some (Keys m es)) → SizesAs w a asked base o

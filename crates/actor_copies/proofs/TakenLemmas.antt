@@ -664,7 +664,7 @@ module _ {V : Type 0} (w : World V) (a : ℕ) (b : Block) (asked : Asked V) (bas
       }
 
   -- ---- the whole
-  module _ (copy : Base V) (here : IsFound base asked.op (found.Whole copy)) (unread : (i : ℕ) → i < size b → read (f + i) ≡ None)
+  module _ (copy : ShadowView V) (here : IsFound base asked.op (found.Whole copy)) (unread : (i : ℕ) → i < size b → read (f + i) ≡ None)
       (none : IsUncalled b f home x) (t : ShadowView V) (first : IsFirst b.stripes (found.Whole copy) (Whole t)) where
     whole_kind : is_copied_whole b.kind ≡ true
     whole_kind = ap is_copied_whole (sym of.kind) ∙ here.3

@@ -51,7 +51,7 @@ module _ {V : Type 0} where
   abbrev pub IsTaken : ℕ → Found V → Option (Copied V) → Copied V → Type 0
   IsTaken n x None d = IsFirst n x d
   IsTaken n (found.Keys t) (Some c) d = IsLearnt t c d
-  IsTaken n (found.Whole base) (Some c) d = d ≡ c
+  IsTaken n (found.Whole copy) (Some c) d = d ≡ c
 
   -- what an actor has copied, once these locations are copied as they are now
   abbrev pub taken_from : (taken : ℕ → Bool) → (now : ℕ → Shown V) → (editions : ℕ → ℕ) → Part (Shown V) (Answered V)

@@ -121,7 +121,7 @@ module _ {V : Type 0} where
       (touched_by (stripes_of base) op (shown_of base) ≡ Some t.held)
       × (t.editions ≡ editions_at (touched_places (stripes_of base) t.held) (editions_of base))
   IsFound base op (found.Whole c) =
-      (shown_of c ≡ shown_of base) × (stripes_of c ≡ stripes_of base) × (editions_of c ≡ editions_of base)
+      (shown_of c.base ≡ shown_of base) × (stripes_of c.base ≡ stripes_of base) × (editions_of c.base ≡ editions_of base)
       × (is_copied_whole (kind_of (shown_of base)) ≡ true)
 
   -- ---- of a collection s in the block b, with the log of its own accepted calls

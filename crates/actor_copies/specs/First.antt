@@ -47,8 +47,8 @@ pub record IsFirstTouch {V : Type 0} (n : ℕ) (t : Touch V) (c : Copied V) : Ty
 module _ {V : Type 0} where
   abbrev pub IsFirst : ℕ → Found V → Copied V → Type 0
   IsFirst n (found.Keys t) c = IsFirstTouch n t c
-  IsFirst n (found.Whole base) (Whole s) = (s.base ≡ base) × (s.changes ≡ []) × (s.locations ≡ [])
-  IsFirst n (found.Whole base) c = ⊥
+  IsFirst n (found.Whole copy) (Whole s) = (s.base ≡ copy.base) × (s.changes ≡ []) × (s.locations ≡ [])
+  IsFirst n (found.Whole copy) c = ⊥
 
 -- The first copy of what was found of a base is of what the base shows, with no accepted call.
 abbrev pub FirstCopies : Type 0 → Type 0

@@ -1,5 +1,5 @@
 //! What a transaction has of collections: what it touched of each map and multiset, and a copy of each priority queue and queue.
-ghost use Rattle.std.specs.Prelude.{◌≡◌, ◌<◌, ◌≤◌, ◌^◌, All, IfOk, IfErr, OnOk, OnErr, Some, None, length, slice_index};
+ghost use Rattle.std.specs.Prelude.{◌≡◌, ◌<◌, ◌≤◌, ◌^◌, All, IfOk, IfErr, IsSome, OnOk, OnErr, None, length, slice_index};
 ghost use Rattle.seq_model.specs.Calls.{IsRefusal};
 ghost use Rattle.seq_model.specs.Entries.{inserts};
 ghost use Rattle.replay_log.specs.Base.{IsPreparedFor, StaysPrepared, editions_of, locations_of, shown_of, stripes_of};
@@ -7,11 +7,13 @@ ghost use Rattle.atomic_steps.specs.Bases.{IsFolded};
 ghost use Rattle.actor_copies.specs.Copies.{IsAccepted, IsForgotten, IsFound, IsKept, IsLearnt, IsReady, answer_of, changes_in, holds_call};
 ghost use Rattle.actor_copies.specs.Copies.{locations_in};
 
+use crate::spares::Spares;
 use boxes::Boxed;
 use conflict::{Change, Outcome, Table};
 use replay_log::{Base, Log, Touch};
 use seq_model::{Memory, Op, Refusal, Value};
 use shadow::{Memo, Shadow};
+use std::alloc::Global;
 
 /// What a transaction has of one collection, with the changes of its own accepted calls. It moves as pointers.
 #[derive(Drop)]
@@ -40,15 +42,19 @@ impl<V: Value> Copied<V> {
         }
     }
 
-    /// The outcome that the call has after the accepted ones, where it has what the call touches. A call of another kind of collection
-    /// is refused as NoSuch.
-    pub fn outcome(&self, op: &Op<V>) -> Result<Outcome<V>, Refusal>
-        ensures ok { IfOk result (λ outcome. answer_of self.now op.now ≡ Some outcome) }
+    /// The outcome that the call has after the accepted ones, where it has what the call touches, is put into this place, whatever it
+    /// holds. A call of another kind of collection is refused as NoSuch.
+    pub fn outcome(&self, op: &Op<V>, outcome: &mut Option<Outcome<V>>) -> Result<(), Refusal>
+        ensures ok { OnOk result (answer_of self.now op.now ≡ outcome.new) }
+        ensures some { OnOk result (IsSome outcome.new) }
         ensures refused { IfErr result (λ refusal. IsRefusal refusal (answer_of self.now op.now ≡ None)) }
     {
         match self {
-            Copied::Keys(memo, _) => memo.get().answer(op),
-            Copied::Whole(shadow) => shadow.get().answer(op),
+            Copied::Keys(memo, _) => memo.get().answer(op, outcome),
+            Copied::Whole(shadow) => {
+                *outcome = Some(shadow.get().answer(op)?);
+                Ok(())
+            }
         }
     }
 
@@ -92,10 +98,12 @@ impl<V: Value> Copied<V> {
         }
     }
 
-    /// Accepts the outcome, which has been made ready. It takes no memory and is never refused.
-    pub fn accept(&mut self, outcome: Outcome<V>)
-        requires ready { IsReady outcome self.old }
-        ensures accepted { IsAccepted outcome self.old self.new }
+    /// Accepts the outcome, which has been made ready. It takes no memory and is never refused. The reply of the outcome stays in its
+    /// place.
+    pub fn accept(&mut self, outcome: &mut Outcome<V>)
+        requires ready { IsReady outcome.old self.old }
+        ensures accepted { IsAccepted outcome.old self.old self.new }
+        ensures reply { outcome.new.reply ≡ outcome.old.reply }
     {
         match self {
             Copied::Keys(memo, _) => memo.get_mut().accept(outcome),
@@ -162,16 +170,22 @@ fn keep_editions(known: &mut Table<u64>, editions: &[(u32, u64)])
 #[derive(Drop)]
 pub enum Found<V> {
     Keys(Touch<V>),
-    Whole(Base<V>),
+    /// The copy in this shadow. The calls that it has are of no meaning.
+    Whole(Boxed<Shadow<V>>),
 }
 
-/// What the call touches of the base: of a map or a multiset its key, or the counts of all, and of the others the whole. A call of
-/// another kind than a map or a multiset is refused there as NoSuch.
-pub fn find<V: Value>(base: &Base<V>, op: &Op<V>) -> Result<Found<V>, Refusal>
+/// What the call touches of the base: of a map or a multiset its key, or the counts of all, and of the others the whole, in spare memory
+/// where there is some. A call of another kind than a map or a multiset is refused there as NoSuch.
+pub fn find<V: Value>(
+    spares: &mut Spares<V>,
+    alloc: Global,
+    base: &Base<V>,
+    op: &Op<V>,
+) -> Result<Found<V>, Refusal>
     ensures { IfOk result (λ found. IsFound base.now op.now found) }
 {
     Ok(match base {
         Base::Map(_) | Base::Bag(_) => Found::Keys(base.touch(op)?),
-        Base::Pq(_) | Base::Queue(_) => Found::Whole(base.try_copy()?),
+        Base::Pq(_) | Base::Queue(_) => Found::Whole(spares.whole(alloc, base)?),
     })
 }

@@ -5,10 +5,9 @@ ghost use Rattle.actor_copies.specs.First.{IsFirst, IsFirstTouch, memo_kind};
 
 use crate::copies::{Copied, Found};
 use crate::spares::Spares;
-use boxes::Boxed;
 use replay_log::{Touch, Touched};
 use seq_model::{Refusal, Value};
-use shadow::{MemoKind, Shadow};
+use shadow::MemoKind;
 use std::alloc::Global;
 
 /// The kind of the collection that was touched.
@@ -47,9 +46,10 @@ pub fn first_copy<V: Value>(
 {
     match found {
         Found::Keys(touch) => first_touch(spares, alloc, stripes, touch),
-        Found::Whole(base) => {
-            let shadow = Shadow::of_copy(alloc, base, spares.log(alloc));
-            Ok(Copied::Whole(Boxed::new(alloc, shadow)?))
+        Found::Whole(shadow) => {
+            let mut shadow = shadow;
+            shadow.get_mut().renew(spares.log(alloc));
+            Ok(Copied::Whole(shadow))
         }
     }
 }

@@ -1,15 +1,16 @@
 //! Memory that served a transaction at its seat, to serve the next one there.
-ghost use Rattle.std.specs.Prelude.{◌≡◌, [], IfOk};
+ghost use Rattle.std.specs.Prelude.{◌≡◌, ◌<◌, [], IfOk, IfSome, length};
 ghost use Rattle.std.specs.FinMap as map;
+ghost use Rattle.replay_log.specs.Base.{editions_of, shown_of, stripes_of};
 ghost use Rattle.actor_copies.specs.Copies.{changes_in, locations_in};
 ghost use Rattle.actor_copies.specs.First.{IsBlank};
 
 use crate::copies::{Copied, CopyOf};
 use boxes::Boxed;
 use conflict::Table;
-use replay_log::Log;
+use replay_log::{Base, Log};
 use seq_model::{Memory, Refusal, Value};
-use shadow::{Memo, MemoKind};
+use shadow::{Memo, MemoKind, Shadow};
 use std::alloc::Global;
 use std::collections::VecDeque;
 use std::marker::Model;
@@ -27,6 +28,7 @@ pub(crate) struct Spare<V> {
 #[derive(Drop)]
 pub struct Spares<V> {
     kept: Vec<Spare<V>>,
+    wholes: Vec<Boxed<Shadow<V>>>,
     logs: Vec<Log<V>>,
     left: VecDeque<(u32, u64)>,
     homes: VecDeque<u32>,
@@ -45,6 +47,7 @@ impl<V: Drop> Spares<V> {
     pub fn new(alloc: Global) -> Spares<V> {
         Spares {
             kept: Vec::new(alloc),
+            wholes: Vec::new(alloc),
             logs: Vec::new(alloc),
             left: VecDeque::new(alloc),
             homes: VecDeque::new(alloc),
@@ -54,6 +57,7 @@ impl<V: Drop> Spares<V> {
     /// Makes room to keep what so many copies take, which then takes no memory.
     pub(crate) fn reserve(&mut self, copies: usize) -> Result<(), Memory> {
         self.kept.reserve(copies)?;
+        self.wholes.reserve(copies)?;
         self.logs.reserve(copies)?;
         Ok(())
     }
@@ -67,8 +71,14 @@ impl<V: Drop> Spares<V> {
         }
     }
 
-    /// The log of what a transaction had of a collection. Of a map or a multiset the other memory is kept; a whole collection goes, as
-    /// the next one is copied from its base. It is not refused.
+    // Keeps a copy whose log was handed out, likewise.
+    fn keep_whole(&mut self, shadow: Boxed<Shadow<V>>) {
+        if self.wholes.len() < self.wholes.capacity() {
+            self.wholes.push_reserved(shadow);
+        }
+    }
+
+    /// The log of what a transaction had of a collection. The other memory is kept. It is not refused.
     pub fn log_of(&mut self, copied: Copied<V>) -> Log<V>
         ensures changes { result.changes ≡ changes_in copied }
         ensures locations { result.locations ≡ locations_in copied }
@@ -80,7 +90,12 @@ impl<V: Drop> Spares<V> {
                 self.keep(memo, editions);
                 log
             }
-            Copied::Whole(shadow) => shadow.into_inner().log(),
+            Copied::Whole(shadow) => {
+                let mut shadow = shadow;
+                let log = shadow.get_mut().take_log();
+                self.keep_whole(shadow);
+                log
+            }
         }
     }
 
@@ -161,6 +176,60 @@ impl<V: Value> Spares<V> {
             None => first_spare(alloc, stripes, kind),
         }
     }
+
+    /// A copy of the base, in kept memory where there is some. The calls that its shadow has are of no meaning.
+    #[inline(never)]
+    pub(crate) fn whole(
+        &mut self,
+        alloc: Global,
+        base: &Base<V>,
+    ) -> Result<Boxed<Shadow<V>>, Memory>
+        ensures shown { IfOk result (λ shadow. shown_of shadow.base ≡ shown_of base.now) }
+        ensures stripes { IfOk result (λ shadow. stripes_of shadow.base ≡ stripes_of base.now) }
+        ensures editions { IfOk result (λ shadow. editions_of shadow.base ≡ editions_of base.now) }
+    {
+        match take_like(&mut self.wholes, base) {
+            Some(shadow) => {
+                let mut shadow = shadow;
+                shadow.get_mut().copy_from(base)?;
+                Ok(shadow)
+            }
+            None => first_whole(alloc, base),
+        }
+    }
+}
+
+// Where a copy stands of a collection of the same kind and in as many stripes.
+fn place_like<V: Value>(wholes: &[Boxed<Shadow<V>>], base: &Base<V>) -> Option<usize>
+    ensures { IfSome result (λ place. place < length wholes.now) }
+{
+    for place in 0..wholes.len() {
+        if wholes[place].get().base().is_like(base) {
+            return Some(place);
+        }
+    }
+    None
+}
+
+// Such a copy, where there is one, and else the last.
+fn take_like<V: Value>(
+    wholes: &mut Vec<Boxed<Shadow<V>>>,
+    base: &Base<V>,
+) -> Option<Boxed<Shadow<V>>> {
+    match place_like(wholes, base) {
+        Some(place) => Some(wholes.swap_remove(place)),
+        None => wholes.pop(),
+    }
+}
+
+fn first_whole<V: Value>(alloc: Global, base: &Base<V>) -> Result<Boxed<Shadow<V>>, Memory>
+    ensures shown { IfOk result (λ shadow. shown_of shadow.base ≡ shown_of base.now) }
+    ensures stripes { IfOk result (λ shadow. stripes_of shadow.base ≡ stripes_of base.now) }
+    ensures editions { IfOk result (λ shadow. editions_of shadow.base ≡ editions_of base.now) }
+{
+    let shadow = Shadow::of_copy(alloc, base.try_copy()?, Log::new(alloc));
+    let boxed = Boxed::new(alloc, shadow)?;
+    Ok(boxed)
 }
 
 #[inline(never)]

@@ -108,12 +108,11 @@ pub fn weigh<V: Value>(
     ensures weighed { IfOk result (λ fits. (o : Outcome V) × (outcome.new ≡ Some o)
         × IsWeighed (actor_of words.now) copied.now first o left.new.items writes.new.items fits) }
 {
-    match copied.outcome(op) {
-        Ok(found) => {
-            let fits = weigh_outcome(left, writes, words, copied, first, &found)?;
-            *outcome = Some(found);
-            Ok(fits)
-        }
-        Err(_) => Err(Memory),
+    if let Err(_) = copied.outcome(op, outcome) {
+        return Err(Memory);
+    }
+    match outcome {
+        Some(found) => weigh_outcome(left, writes, words, copied, first, found),
+        None => Err(Memory),
     }
 }

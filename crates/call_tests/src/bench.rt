@@ -198,7 +198,7 @@ fn shadow_call(text: &mut String, shadow: &mut Shadow<u64>, op: &Op<u64>) -> Res
 
 fn accept(shadow: &mut Shadow<u64>, outcome: Outcome<u64>) -> Result<(), Memory> {
     shadow.ready(&outcome)?;
-    shadow.accept(outcome);
+    shadow.accept(&outcome);
     Ok(())
 }
 

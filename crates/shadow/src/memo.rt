@@ -1,6 +1,6 @@
 //! What a transaction keeps of the single keys that it touched, and of the number of all keys.
 ghost use Rattle.std.specs.Prelude.{◌≡◌, ◌<◌, ◌≤◌, ◌++◌, ◌^◌, ◌+◌, ◌-◌, [], ◌∷◌, Some, None, length, option_to_list, unwrap_or};
-ghost use Rattle.std.specs.Prelude.{IfOk, IfErr, IfSome, OnOk, OnErr};
+ghost use Rattle.std.specs.Prelude.{IfOk, IfErr, IfSome, IsSome, OnOk, OnErr};
 ghost use Rattle.std.specs.FinMap as map;
 ghost use Rattle.std.specs.List.{sum};
 ghost use Rattle.seq_model.specs.Calls.{IsRefusal};
@@ -250,24 +250,28 @@ impl<V: Value> Memo<V> {
         }
     }
 
-    /// What the call answers by what is kept of its key, or of the number of all. A call of another kind than the memo's is refused
-    /// as NoSuch.
-    pub fn answer(&self, op: &Op<V>) -> Result<Outcome<V>, Refusal>
-        ensures ok { IfOk result (λ outcome.
-            answer_with (shown_of self.now.blank) self.now.entries self.now.copies self.now.total self.now.grown self.now.shrunk op.now
-            ≡ Some outcome) }
+    /// What the call answers by what is kept of its key, or of the number of all, is put into this place, whatever it holds. A call of
+    /// another kind than the memo's is refused as NoSuch.
+    pub fn answer(&self, op: &Op<V>, outcome: &mut Option<Outcome<V>>) -> Result<(), Refusal>
+        ensures ok { OnOk result
+            (answer_with (shown_of self.now.blank) self.now.entries self.now.copies self.now.total self.now.grown self.now.shrunk op.now
+            ≡ outcome.new) }
+        ensures some { OnOk result (IsSome outcome.new) }
         ensures refused { IfErr result (λ refusal. IsRefusal refusal
             (answer_with (shown_of self.now.blank) self.now.entries self.now.copies self.now.total self.now.grown self.now.shrunk op.now
             ≡ None)) }
     {
         match (self.kind, op) {
-            (MemoKind::Map, Op::Len) => Ok(Outcome {
-                op: Op::Len,
-                reply: Reply::Number(self.keys()),
-                note: Note::Plain,
-            }),
-            (MemoKind::Map, _) => entry_outcome(&self.entries, op),
-            (MemoKind::Bag, _) => count_outcome(&self.copies, op),
+            (MemoKind::Map, Op::Len) => {
+                *outcome = Some(Outcome {
+                    op: Op::Len,
+                    reply: Reply::Number(self.keys()),
+                    note: Note::Plain,
+                });
+                Ok(())
+            }
+            (MemoKind::Map, _) => entry_outcome(&self.entries, op, outcome),
+            (MemoKind::Bag, _) => count_outcome(&self.copies, op, outcome),
         }
     }
 
@@ -304,27 +308,28 @@ impl<V: Value> Memo<V> {
     }
 
     /// Accepts the outcome, which has been made ready: its change is made on what is kept of its key and appended to the log. It takes
-    /// no memory and is never refused.
-    pub fn accept(&mut self, outcome: Outcome<V>)
-        requires ready { IsReadyFor outcome self.old }
-        ensures entries { self.new.entries ≡ entries_kept (shown_of self.old.blank) outcome self.old.entries }
-        ensures copies { self.new.copies ≡ copies_kept (shown_of self.old.blank) outcome self.old.copies }
+    /// no memory and is never refused. The reply of the outcome stays in its place.
+    pub fn accept(&mut self, outcome: &mut Outcome<V>)
+        requires ready { IsReadyFor outcome.old self.old }
+        ensures entries { self.new.entries ≡ entries_kept (shown_of self.old.blank) outcome.old self.old.entries }
+        ensures copies { self.new.copies ≡ copies_kept (shown_of self.old.blank) outcome.old self.old.copies }
         ensures total { self.new.total ≡ self.old.total }
-        ensures grown { self.new.grown ≡ grown_kept (shown_of self.old.blank) outcome self.old.grown }
-        ensures shrunk { self.new.shrunk ≡ shrunk_kept (shown_of self.old.blank) outcome self.old.shrunk }
+        ensures grown { self.new.grown ≡ grown_kept (shown_of self.old.blank) outcome.old self.old.grown }
+        ensures shrunk { self.new.shrunk ≡ shrunk_kept (shown_of self.old.blank) outcome.old self.old.shrunk }
         ensures blank { self.new.blank ≡ self.old.blank }
-        ensures changes { self.new.changes ≡ self.old.changes ++ changes_of outcome (shown_of self.old.blank) }
+        ensures changes { self.new.changes ≡ self.old.changes ++ changes_of outcome.old (shown_of self.old.blank) }
         ensures locations { self.new.locations
-            ≡ self.old.locations ++ writes_of (stripes_of self.old.blank) outcome (shown_of self.old.blank) }
+            ≡ self.old.locations ++ writes_of (stripes_of self.old.blank) outcome.old (shown_of self.old.blank) }
+        ensures reply { outcome.new.reply ≡ outcome.old.reply }
     {
         if let Some(ready) = self.ready.take() {
             self.log.append_one(ready.change, &ready.written);
             match self.kind {
                 MemoKind::Map => {
-                    count_entry(&mut self.grown, &mut self.shrunk, &outcome);
+                    count_entry(&mut self.grown, &mut self.shrunk, outcome);
                     keep_entry(&mut self.entries, outcome);
                 }
-                MemoKind::Bag => keep_copies(&mut self.copies, &outcome),
+                MemoKind::Bag => keep_copies(&mut self.copies, outcome),
             }
         }
     }
@@ -504,8 +509,13 @@ fn sum_of(counts: &Items<u64>) -> Result<u64, Memory>
     Ok(total)
 }
 
-fn entry_outcome<V: Value>(entries: &Table<Option<V>>, op: &Op<V>) -> Result<Outcome<V>, Refusal>
-    ensures ok { IfOk result (λ outcome. map_answer op.now entries.now.contents ≡ Some outcome) }
+fn entry_outcome<V: Value>(
+    entries: &Table<Option<V>>,
+    op: &Op<V>,
+    outcome: &mut Option<Outcome<V>>,
+) -> Result<(), Refusal>
+    ensures ok { OnOk result (map_answer op.now entries.now.contents ≡ outcome.new) }
+    ensures some { OnOk result (IsSome outcome.new) }
     ensures refused { IfErr result (λ refusal. IsRefusal refusal (map_answer op.now entries.now.contents ≡ None)) }
 {
     let reply = match op {
@@ -516,15 +526,21 @@ fn entry_outcome<V: Value>(entries: &Table<Option<V>>, op: &Op<V>) -> Result<Out
         _ => return Err(Refusal::NoSuch),
     };
     let op = op.try_copy()?;
-    Ok(Outcome {
+    *outcome = Some(Outcome {
         op,
         reply,
         note: Note::Plain,
-    })
+    });
+    Ok(())
 }
 
-fn count_outcome<V: Value>(copies: &Table<u64>, op: &Op<V>) -> Result<Outcome<V>, Refusal>
-    ensures ok { IfOk result (λ outcome. bag.outcome_of op.now copies.now.contents ≡ Some outcome) }
+fn count_outcome<V: Value>(
+    copies: &Table<u64>,
+    op: &Op<V>,
+    outcome: &mut Option<Outcome<V>>,
+) -> Result<(), Refusal>
+    ensures ok { OnOk result (bag.outcome_of op.now copies.now.contents ≡ outcome.new) }
+    ensures some { OnOk result (IsSome outcome.new) }
     ensures refused { IfErr result (λ refusal. IsRefusal refusal (bag.outcome_of op.now copies.now.contents ≡ None)) }
 {
     let reply = match op {
@@ -536,11 +552,12 @@ fn count_outcome<V: Value>(copies: &Table<u64>, op: &Op<V>) -> Result<Outcome<V>
         _ => return Err(Refusal::NoSuch),
     };
     let op = op.try_copy()?;
-    Ok(Outcome {
+    *outcome = Some(Outcome {
         op,
         reply,
         note: Note::Plain,
-    })
+    });
+    Ok(())
 }
 
 fn count_of(table: &Table<u64>, element: u64) -> u64
@@ -563,14 +580,18 @@ fn count_entry<V: Drop>(grown: &mut u64, shrunk: &mut u64, outcome: &Outcome<V>)
     }
 }
 
-fn keep_entry<V: Drop>(entries: &mut Table<Option<V>>, outcome: Outcome<V>)
+fn keep_entry<V: Drop>(entries: &mut Table<Option<V>>, outcome: &mut Outcome<V>)
     requires { 0 < entries.old.room }
-    ensures { entries.new.contents ≡ entries_after outcome.op outcome.reply entries.old.contents }
+    ensures entries { entries.new.contents ≡ entries_after outcome.old.op outcome.old.reply entries.old.contents }
+    ensures reply { outcome.new.reply ≡ outcome.old.reply }
 {
-    let Outcome { op, reply, .. } = outcome;
+    if let Op::Get(_) = &outcome.op {
+        return;
+    }
+    let op = mem::replace(&mut outcome.op, Op::Read);
     match op {
         Op::Put(key, value) => entries.insert_reserved(key, Some(value)),
-        Op::Remove(key) => keep_removed(entries, key, &reply),
+        Op::Remove(key) => keep_removed(entries, key, &outcome.reply),
         _ => {}
     }
 }

@@ -154,14 +154,14 @@ impl<V: Value> Shadow<V> {
 
     /// Accepts the outcome, which has been made ready: its changes are made on the copy and appended to the log. It takes no
     /// memory and is never refused. The editions stay those of the copy.
-    pub fn accept(&mut self, outcome: Outcome<V>)
-        requires ready { IsReadyFor outcome self.old }
-        ensures shown { shown_of self.new.base ≡ after (changes_of outcome (shown_of self.old.base)) (shown_of self.old.base) }
+    pub fn accept(&mut self, outcome: &Outcome<V>)
+        requires ready { IsReadyFor outcome.now self.old }
+        ensures shown { shown_of self.new.base ≡ after (changes_of outcome.now (shown_of self.old.base)) (shown_of self.old.base) }
         ensures stripes { stripes_of self.new.base ≡ stripes_of self.old.base }
         ensures editions { editions_of self.new.base ≡ editions_of self.old.base }
-        ensures changes { self.new.changes ≡ self.old.changes ++ changes_of outcome (shown_of self.old.base) }
+        ensures changes { self.new.changes ≡ self.old.changes ++ changes_of outcome.now (shown_of self.old.base) }
         ensures locations { self.new.locations
-            ≡ self.old.locations ++ writes_of (stripes_of self.old.base) outcome (shown_of self.old.base) }
+            ≡ self.old.locations ++ writes_of (stripes_of self.old.base) outcome.now (shown_of self.old.base) }
     {
         if let Some(written) = self.ready.take() {
             self.base.replay_from(&mut self.own, &self.none);

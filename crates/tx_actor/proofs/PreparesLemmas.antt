@@ -150,8 +150,8 @@ module _ {V : Type 0} where
       → MayPrepare r i f op → HasRoomFor u i o n (length call.writes.items) → slice_get r.copies.items i ≡ Some c
       → answer_of c.copied op ≡ Some o → fits r f c.copied o ≡ true → call.writes.items ≡ with_next c.copied f (writes_in c.copied o)
       → call.outcome ≡ Some o → call.place ≡ i → call.asked.collection ≡ c.collection → call.asked.op ≡ op
-      → call.kept ≡ o.reply → call.told ≡ o.reply → CanAccept u call
-  accept_by r u i f op c o call n alike may room at answer fit writes is place collection same kept told =
+      → call.told ≡ o.reply → CanAccept u call
+  accept_by r u i f op c o call n alike may room at answer fit writes is place collection same told =
       let reply : o.reply ≡ reply_of (answered_of call) =
       sym (ap (λ q. reply_of (let p : Outcomes V = record { asked = asked_of call.asked; outcome = q } in p)) is) in
       let here : (d : CopyOf V) → slice_get u.copies.items call.place ≡ Some d
@@ -172,7 +172,7 @@ module _ {V : Type 0} where
               kept_holds c.copied d.copied x.op kept_d.1
                   ∙ (ap (holds_call c.copied) (ap (λ (q : Outcome V). q.op) (sym e) ∙ answered_op c.copied op o answer) ∙ held),
             ));
-        kept = kept ∙ reply;
+        kept = λ x out. ap (λ (q : Outcome V). q.reply) (same_outcome x o (sym out ∙ is)) ∙ reply;
         told = told ∙ reply;
         own = λ d there. (
             let kept_d = here d there in (
@@ -187,8 +187,8 @@ module _ {V : Type 0} where
       → MayPrepare r i f op → HasRoomFor u i o n (length call.writes.items) → slice_get r.copies.items i ≡ Some c
       → answer_of c.copied op ≡ Some o → fits r f c.copied o ≡ true → call.writes.items ≡ with_next c.copied f (writes_in c.copied o)
       → call.outcome ≡ Some o → call.place ≡ i → call.asked.collection ≡ c.collection → call.asked.op ≡ op
-      → call.kept ≡ o.reply → call.told ≡ o.reply → n ≡ length (reads_in c.copied o) → IsPrepared u call
-  prepared_by r u i f op c o call n alike may room at answer fit writes is place collection same kept told count =
+      → call.told ≡ o.reply → n ≡ length (reads_in c.copied o) → IsPrepared u call
+  prepared_by r u i f op c o call n alike may room at answer fit writes is place collection same told count =
       let many : (d : CopyOf V) (x : Outcome V) → slice_get u.copies.items call.place ≡ Some d → call.outcome ≡ Some x
       → length (reads_in d.copied x) ≡ n = λ d x there out. (
       let before = kept_at r.copies.items u.copies.items i d alike.copies (ap (slice_get u.copies.items) (sym place) ∙ there) in
@@ -199,7 +199,7 @@ module _ {V : Type 0} where
       ∙ (ap (λ (z : CopyOf V). length (reads_in z.copied o)) e ∙ sym count))) in
       let calls = room.word_calls in
       record {
-        accept = accept_by r u i f op c o call n alike may room at answer fit writes is place collection same kept told;
+        accept = accept_by r u i f op c o call n alike may room at answer fit writes is place collection same told;
         calls = λ d x there out. (let e = many d x there out in omega (arith, calls, e));
         reads = λ d x there out declared. (
             let e = many d x there out in

@@ -46,7 +46,7 @@ pub record CanAccept {V : Type 0} (r : TxActor V) (o : running.Answered V) : Typ
   pub place : o.place < length r.copies.items
   pub ready : (c : CopyOf V) (x : Outcome V) → slice_get r.copies.items o.place ≡ Some c → o.outcome ≡ Some x
       → IsReady x c.copied × (holds_call c.copied x.op ≡ true)
-  pub kept : o.kept ≡ reply_of (answered_of o)
+  pub kept : (x : Outcome V) → o.outcome ≡ Some x → x.reply ≡ reply_of (answered_of o)
   pub told : o.told ≡ reply_of (answered_of o)
   pub own : (c : CopyOf V) → slice_get r.copies.items o.place ≡ Some c
       → (x : Outcome V) × (o.outcome ≡ Some x) × (c.collection ≡ o.asked.collection) × (answer_of c.copied o.asked.op ≡ Some x)

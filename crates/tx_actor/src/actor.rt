@@ -23,8 +23,7 @@ pub struct Answered<V> {
     pub place: usize,
     /// The locations that it writes, each with the edition after the copied one.
     pub writes: Writes,
-    /// Its reply, to be kept and to be told.
-    pub kept: Reply<V>,
+    /// Its reply, to be told.
     pub told: Reply<V>,
 }
 

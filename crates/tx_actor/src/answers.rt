@@ -28,16 +28,24 @@ use std::collections::VecDeque;
 use std::mem;
 use step_core::Place;
 
-/// The outcome, which is ready in the copy at this place, joins it.
-fn accept_at<V: Value>(copies: &mut Vec<CopyOf<V>>, place: usize, outcome: Option<Outcome<V>>)
+/// The outcome, which is ready in the copy at this place, joins it. Hands its reply out.
+fn accept_at<V: Value>(
+    copies: &mut Vec<CopyOf<V>>,
+    place: usize,
+    outcome: &mut Option<Outcome<V>>,
+) -> Reply<V>
     requires place { place < length copies.old.items }
-    requires ready { (c : CopyOf V) (x : Outcome V) → slice_get copies.old.items place ≡ Some c → outcome ≡ Some x →
+    requires ready { (c : CopyOf V) (x : Outcome V) → slice_get copies.old.items place ≡ Some c → outcome.old ≡ Some x →
         IsReady x c.copied × (holds_call c.copied x.op ≡ true) }
-    ensures { IsAcceptedAt place outcome copies.old.items copies.new.items }
+    ensures accepted { IsAcceptedAt place outcome.old copies.old.items copies.new.items }
+    ensures reply { (x : Outcome V) → outcome.old ≡ Some x → result ≡ x.reply }
 {
     match outcome {
-        Some(outcome) => copies[place].copied.accept(outcome),
-        None => {}
+        Some(found) => {
+            copies[place].copied.accept(found);
+            mem::replace(&mut found.reply, Reply::Done)
+        }
+        None => Reply::Done,
     }
 }
 
@@ -56,14 +64,12 @@ impl<V: Value> TxActor<V> {
         let mut call = call;
         let answered = call.get_mut();
         write_all(&mut self.words, &answered.writes);
-        let outcome = mem::replace(&mut answered.outcome, None);
-        accept_at(&mut self.copies, answered.place, outcome);
+        let kept = accept_at(&mut self.copies, answered.place, &mut answered.outcome);
         let op = mem::replace(&mut answered.asked.op, Op::Read);
         let made = Call {
             target: answered.asked.collection,
             op,
         };
-        let kept = mem::replace(&mut answered.kept, Reply::Done);
         self.calls.push_reserved((made, kept));
         let told = mem::replace(&mut answered.told, Reply::Done);
         self.spares.keep_call(call);

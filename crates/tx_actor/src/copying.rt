@@ -15,7 +15,7 @@ ghost use Rattle.tx_actor.specs.declared.actor.Told.TheVariants as told;
 
 use crate::actor::{Answered, Stage, Told, TxActor};
 use crate::hand::Asking;
-use actor_copies::{Found, find, fits_base, take_back};
+use actor_copies::{Found, fits_base, take_back};
 use actor_words::Blocks;
 use replay_log::Base;
 use seq_model::{Memory, Refusal, Value};
@@ -72,7 +72,7 @@ impl<V: Value> TxActor<V> {
         if !fits_base(&self.words, base, stripes, first, &call.asked.op)? {
             return Ok(None);
         }
-        match find(base, &call.asked.op) {
+        match self.spares.find(alloc, base, &call.asked.op) {
             Ok(found) => {
                 let left = self.readies_copy(alloc, stripes, first, found, call)?;
                 Ok(Some(left))

@@ -1,14 +1,14 @@
 //! The call in hand of an actor, which moves as a pointer from its first try to its reply, and the memory that the next one has from it.
 ghost use Rattle.std.specs.Prelude.{◌≡◌, IfOk, OnErr, []};
-ghost use Rattle.actor_copies.specs.Copies.{changes_in, locations_in};
+ghost use Rattle.actor_copies.specs.Copies.{IsFound, changes_in, locations_in};
 ghost use Rattle.actor_copies.specs.Kept.{HaveSame};
 ghost use Rattle.actor_copies.specs.Taking.{IsTakenAt};
 
 use crate::actor::{Answered, Asked};
-use actor_copies::{Copied, CopyOf, Found, Spares, take};
+use actor_copies::{Copied, CopyOf, Found, Spares, find, take};
 use boxes::Boxed;
-use replay_log::Log;
-use seq_model::{Memory, Op, Reply, Value};
+use replay_log::{Base, Log};
+use seq_model::{Memory, Op, Refusal, Reply, Value};
 use smallvec::SmallVec;
 use std::alloc::Global;
 use std::collections::VecDeque;
@@ -69,7 +69,6 @@ fn blank<V: Drop>(alloc: Global, asked: Asked<V>) -> Answered<V>
         outcome: None,
         place: 0,
         writes: SmallVec::new(alloc),
-        kept: Reply::Done,
         told: Reply::Done,
     }
 }
@@ -148,6 +147,18 @@ impl<V: Drop> Kept<V> {
 }
 
 impl<V: Value> Kept<V> {
+    /// As `find` of actor_copies has it.
+    pub(crate) fn find(
+        &mut self,
+        alloc: Global,
+        base: &Base<V>,
+        op: &Op<V>,
+    ) -> Result<Found<V>, Refusal>
+        ensures { IfOk result (λ found. IsFound base.now op.now found) }
+    {
+        find(&mut self.copies, alloc, base, op)
+    }
+
     /// As `take` of actor_copies has it.
     pub(crate) fn take(
         &mut self,

@@ -39,24 +39,22 @@ impl<V: Value> TxActor<V> {
         Ok(())
     }
 
-    /// The reply of the outcome is copied, to be kept and to be told, and room is made for all that its call takes.
+    /// The reply of the outcome is copied, to be told, and room is made for all that its call takes.
     fn readies_reply(
         &mut self,
         place: usize,
         outcome: &Option<Outcome<V>>,
         reads: usize,
         writes: usize,
-        kept: &mut Reply<V>,
         told: &mut Reply<V>,
     ) -> Result<(), Memory>
         requires { place < length self.old.copies.items }
         ensures alike { IsAlike self.old self.new }
         ensures ok { OnOk result ((o : Outcome V) → outcome.now ≡ Some o →
-            HasRoomFor self.new place o reads writes × (kept.new ≡ o.reply) × (told.new ≡ o.reply)) }
+            HasRoomFor self.new place o reads writes × (told.new ≡ o.reply)) }
     {
         match outcome {
             Some(found) => {
-                *kept = found.reply.try_copy()?;
                 *told = found.reply.try_copy()?;
                 self.make_room(place, found, reads, writes)?;
                 Ok(())
@@ -99,7 +97,6 @@ impl<V: Value> TxActor<V> {
             &call.outcome,
             left.len(),
             call.writes.len(),
-            &mut call.kept,
             &mut call.told,
         )?;
         call.place = place;

@@ -16,7 +16,7 @@ ghost use Rattle.tx_actor.specs.declared.actor.Told.TheVariants as told;
 
 use crate::actor::{Asked, Stage, Told, TxActor};
 use crate::hand::Asking;
-use actor_copies::{find, fits_base};
+use actor_copies::fits_base;
 use actor_words::Blocks;
 use replay_log::Base;
 use seq_model::{Memory, Op, Refusal, Value};
@@ -93,7 +93,7 @@ impl<V: Value> TxActor<V> {
         ensures err { OnErr result (IsUnmoved self.old self.new) }
     {
         let stripes = blocks.stripes_of(asked.collection);
-        match find(base, &asked.op) {
+        match self.spares.find(alloc, base, &asked.op) {
             Ok(found) => {
                 let place = self
                     .spares

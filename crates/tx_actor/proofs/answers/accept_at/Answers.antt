@@ -1,6 +1,8 @@
-use Rattle.std.proofs.Common.{length, refl}
+use Rattle.std.proofs.Common.{length, refl, sym, ap, ◌∙◌}
 use Rattle.std.proofs.lemmas.Option.{slice_get_read}
+use Rattle.conflict.specs.declared.outcome.Outcome.{Outcome}
 use Rattle.tx_actor.proofs.AnswerLemmas.{accepted_at, nothing_at}
+use Rattle.tx_actor.proofs.PreparesLemmas.{same_outcome}
 use Rattle.tx_actor.proofs.answers.accept_at.Goals as goal
 
 pub accept-requires : goal.accept-requires
@@ -8,15 +10,20 @@ accept-requires g c =
     let cs = c.args.copies.now.items in
     let here = c.index_mut.result.now in
     let at = slice_get_read cs (length cs) c.args.place here refl c.requires.place c.index_mut.ensures.value in
-    record { ready = (c.requires.ready here c.in-Some.outcome at c.in-Some.is).0 }
+    record { ready = (c.requires.ready here c.in-Some.found at c.in-Some.is).0 }
 
-pub returns-in-Some : goal.returns-in-Some
-returns-in-Some g c =
+pub returns-in-Some-clause-accepted : goal.returns-in-Some-clause-accepted
+returns-in-Some-clause-accepted g c =
     let cs = c.args.copies.now.items in
     let here = c.index_mut.result.now in
     let at = slice_get_read cs (length cs) c.args.place here refl c.requires.place c.index_mut.ensures.value in
-    accepted_at c.args.place c.args.outcome c.in-Some.outcome cs here c.accept.new.self c.in-Some.is c.requires.place
-    c.index_mut.ensures.value c.accept.ensures.accepted (c.requires.ready here c.in-Some.outcome at c.in-Some.is).1
+    accepted_at c.args.place c.args.outcome.now c.in-Some.found cs here c.accept.new.self c.in-Some.is c.requires.place
+    c.index_mut.ensures.value c.accept.ensures.accepted (c.requires.ready here c.in-Some.found at c.in-Some.is).1
 
-pub returns-in-None : goal.returns-in-None
-returns-in-None g c = nothing_at c.args.place c.args.outcome c.args.copies.now.items c.in-None.is
+pub returns-in-Some-clause-reply : goal.returns-in-Some-clause-reply
+returns-in-Some-clause-reply g c x is =
+    c.replace.ensures.value
+    ∙ (c.accept.ensures.reply ∙ ap (λ (q : Outcome g.row.V.Denot). q.reply) (same_outcome c.in-Some.found x (sym c.in-Some.is ∙ is)))
+
+pub returns-in-None-clause-accepted : goal.returns-in-None-clause-accepted
+returns-in-None-clause-accepted g c = nothing_at c.args.place c.args.outcome.now c.args.copies.now.items c.in-None.is

@@ -15,6 +15,7 @@ use Rattle.step_core.specs.Sound.{owed}
 use Rattle.step_core.specs.declared.actor.Place.{Place}
 use Rattle.tx_actor.specs.declared.actor.Answered as running
 use Rattle.tx_actor.specs.declared.actor.Told.TheVariants as told
+use Rattle.actor_copies.proofs.TakingLemmas.{at_place}
 use Rattle.tx_actor.proofs.KeepingLemmas.{keeps_open}
 use Rattle.tx_actor.proofs.RoomLemmas.{fits_written}
 use Rattle.tx_actor.proofs.AnswerLemmas.{accepted_as, pieces_stay}
@@ -25,12 +26,11 @@ write_all-requires g c =
     let same = c.deref.ensures ∙ ap (λ (d : running.Answered g.row.V.Denot). d.writes.items) c.get_mut-answered.ensures.value in
     subst (λ (ds : Entries). MayWrite c.args.self.now.words ds) (sym same) c.requires.prepared.writes
 
-pub accept_at-requires : goal.accept_at-requires
-accept_at-requires g c =
+pub accept_at-kept-requires : goal.accept_at-kept-requires
+accept_at-kept-requires g c =
     let is = c.get_mut-answered.ensures.value in
     let at : c.get_mut-answered.result.now.place ≡ c.args.call.place = ap (λ (d : running.Answered g.row.V.Denot). d.place) is in
-    let outcome : c.replace-outcome.result ≡ c.args.call.outcome =
-    c.replace-outcome.ensures.value ∙ ap (λ (d : running.Answered g.row.V.Denot). d.outcome) is in
+    let outcome : c.get_mut-answered.result.now.outcome ≡ c.args.call.outcome = ap (λ (d : running.Answered g.row.V.Denot). d.outcome) is in
     record {
       place = subst (λ i. i < length c.args.self.now.copies.items) (sym at) c.requires.prepared.place;
       ready = λ d x there some. c.requires.prepared.ready d x
@@ -44,18 +44,17 @@ returns-clause-does g c a w s may =
     let is : c.get_mut-answered.result.now ≡ call = c.get_mut-answered.ensures.value in
     let op : c.replace-op.result ≡ call.asked.op =
     c.replace-op.ensures.value ∙ ap (λ (d : running.Answered g.row.V.Denot). d.asked.op) is in
-    let kept = c.replace-kept.ensures.value ∙ (ap (λ (d : running.Answered g.row.V.Denot). d.kept) is ∙ c.requires.prepared.kept) in
+    let here = at_place old.copies.items call.place c.requires.prepared.place in
+    let own = c.requires.prepared.own here.0 here.1 in
+    let kept = c.accept_at-kept.ensures.reply own.0 (ap (λ (d : running.Answered g.row.V.Denot). d.outcome) is ∙ own.1)
+    ∙ c.requires.prepared.kept own.0 own.1 in
     let told = c.replace-told.ensures.value ∙ (ap (λ (d : running.Answered g.row.V.Denot). d.told) is ∙ c.requires.prepared.told) in
     let calls = c.push_reserved.ensures.items
     ∙ (λ i. old.calls.items ++ (record { target = (is i).asked.collection; op = op i }, kept i) ∷ []) in
-    let outcome : c.replace-outcome.result ≡ call.outcome =
-    c.replace-outcome.ensures.value ∙ ap (λ (d : running.Answered g.row.V.Denot). d.outcome) is in
-    let accepted : IsAcceptedAt call.place call.outcome old.copies.items c.accept_at.new.copies.items =
-    subst (λ (d : running.Answered g.row.V.Denot). IsAcceptedAt d.place call.outcome old.copies.items c.accept_at.new.copies.items) is
-    (subst (λ (x : Option (Outcome
-    g.row.V.Denot)). IsAcceptedAt c.get_mut-answered.result.now.place x old.copies.items c.accept_at.new.copies.items) outcome
-    c.accept_at.ensures) in
-    let pieces = pieces_stay call.place call.outcome old.copies.items c.accept_at.new.copies.items accepted in
+    let accepted : IsAcceptedAt call.place call.outcome old.copies.items c.accept_at-kept.new.copies.items =
+    subst (λ (d : running.Answered g.row.V.Denot). IsAcceptedAt d.place d.outcome old.copies.items c.accept_at-kept.new.copies.items) is
+    c.accept_at-kept.ensures.accepted in
+    let pieces = pieces_stay call.place call.outcome old.copies.items c.accept_at-kept.new.copies.items accepted in
     let writes = c.deref.ensures ∙ ap (λ (d : running.Answered g.row.V.Denot). d.writes.items) is in (
       accepted_as a w (seat_of old) _ _ (answered_of call) _ tt may.guard may.outcome
           (c.write_all.ensures.actor
@@ -67,12 +66,9 @@ returns-clause-does g c a w s may =
 
 pub returns-clause-copies : goal.returns-clause-copies
 returns-clause-copies g c =
-    let before = c.args.self.now.copies.items in
-    let now = c.accept_at.new.copies.items in
-    let is = c.get_mut-answered.ensures.value in
-    subst (λ (d : running.Answered g.row.V.Denot). IsAcceptedAt d.place d.outcome before now) is
-    (subst (λ (x : Option (Outcome g.row.V.Denot)). IsAcceptedAt c.get_mut-answered.result.now.place x before now) c.replace-outcome.ensures.value
-    c.accept_at.ensures)
+    subst (λ (d : running.Answered g.row.V.Denot).
+    IsAcceptedAt d.place d.outcome c.args.self.now.copies.items c.accept_at-kept.new.copies.items) c.get_mut-answered.ensures.value
+    c.accept_at-kept.ensures.accepted
 
 pub returns-clause-told : goal.returns-clause-told
 returns-clause-told g c =
