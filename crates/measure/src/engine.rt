@@ -1,6 +1,6 @@
 //! Transactions at seats of a shared table, each seat in a thread of its own, beside the same calls under one lock.
 use crate::counts::Counts;
-use crate::work::Work;
+use crate::work::{On, Work};
 use crate::{locked, seats};
 use std::io;
 use std::rt::Runtime;
@@ -12,12 +12,9 @@ const TRANSACTIONS: u32 = 200_000;
 
 /// Prints how many transactions a second are committed by one thread, two and four.
 pub fn measure<R: Runtime + AllocGlobal + Threads + Wait + Sync>(rt: &R) -> io::Result<()> {
-    for is_on_words in [true, false] {
+    for on in [On::Words, On::Map] {
         for writes in [0, 1] {
-            let work = Work {
-                is_on_words,
-                writes,
-            };
+            let work = Work { on, writes };
             for threads in [1, 2, 4] {
                 report_seats(rt, work, threads, TRANSACTIONS)?;
                 report_lock(rt, work, threads)?;
@@ -58,7 +55,13 @@ fn report_lock<R: Runtime + AllocGlobal + Threads + Wait + Sync>(
 }
 
 fn name_of(work: Work) -> &'static str {
-    if work.is_on_words { "words" } else { "a map" }
+    match work.on {
+        On::Words => "words",
+        On::Map => "a map",
+        On::Keys => "a map's number of keys",
+        On::PriorityQueue => "a priority queue",
+        On::Queue => "a queue",
+    }
 }
 
 fn speed(counts: Counts, seconds: f64) -> f64 {

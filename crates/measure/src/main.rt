@@ -3,7 +3,8 @@
 //! With no name it prints nothing, so that it can be run with all other programs of the repository. Behind some names may stand numbers,
 //! which ask for one row alone:
 //!
-//! - `engine KIND WRITES THREADS TRANSACTIONS`: of transactions on words (KIND 0) or a map (1), of whose calls WRITES of ten change something;
+//! - `engine KIND WRITES THREADS TRANSACTIONS`: of transactions on words (KIND 0), a map (1), a map whose number of keys is read (2), a
+//!   priority queue (3) or a queue (4), of whose calls WRITES of ten change something;
 //! - `sessions RELATIONS CLIENTS SESSIONS`: of drawn sessions at seats of a shared table;
 //! - `lock RELATIONS CLIENTS SESSIONS`: of the same sessions under one lock.
 #![tactic(auto)]
@@ -14,7 +15,7 @@ use std::rt::Runtime;
 use std::sync::Wait;
 use std::thread::Threads;
 use std::{env, io};
-use work::Work;
+use work::{On, Work};
 
 mod audit;
 mod counts;
@@ -99,8 +100,12 @@ fn measure_one<R: Runtime + AllocGlobal + Threads + Wait + Sync>(
 }
 
 fn work_of(kind: u32, writes: u32) -> Work {
-    Work {
-        is_on_words: kind == 0,
-        writes,
-    }
+    let on = match kind {
+        0 => On::Words,
+        1 => On::Map,
+        2 => On::Keys,
+        3 => On::PriorityQueue,
+        _ => On::Queue,
+    };
+    Work { on, writes }
 }

@@ -32,7 +32,7 @@ module _ {A : Type 0} where
 
 -- the words that are laid out: n lock words, and m gates
 abbrev pub row_for : ℕ → ℕ → List ℕ → ℕ → List ℕ
-row_for clock n values m = ((clock ∷ replicate n 0) ++ values) ++ replicate m 0
+row_for clock n values m = ((clock ∷ replicate n 0) ++ values) ++ replicate (7 + 8 * m) 0
 
 module _ (clock : ℕ) (values : List ℕ) (m n : ℕ) (same : length values ≡ n) where
   front : List ℕ
@@ -48,30 +48,30 @@ module _ (clock : ℕ) (values : List ℕ) (m n : ℕ) (same : length values ≡
   wide : length (row_for clock n values m) ≡ width n m
   unfolding front
   wide =
-      let a = length-append (front ++ values) (replicate m 0) in
+      let a = length-append (front ++ values) (replicate (7 + 8 * m) 0) in
       let b = longer in
-      let c : length {A = ℕ} (replicate m 0) ≡ m = length-replicate m 0 in omega (arith, a, b, c)
+      let c : length {A = ℕ} (replicate (7 + 8 * m) 0) ≡ 7 + 8 * m = length-replicate (7 + 8 * m) 0 in omega (arith, a, b, c)
 
   lock_at : (l : ℕ) → l < n → get_or (row_for clock n values m) (1 + l) 0 ≡ 0
   unfolding front
   lock_at l low =
-      get_or_append_left (front ++ values) (replicate m 0) 0 (1 + l) (let b = longer in omega (arith, b, low))
+      get_or_append_left (front ++ values) (replicate (7 + 8 * m) 0) 0 (1 + l) (let b = longer in omega (arith, b, low))
       ∙ get_or_append_left front values 0 (1 + l) (let a = long in omega (arith, a, low))
       ∙ (ap (λ (k : ℕ). get_or front k 0) (let e : 1 + l ≡ suc l = omega arith in e) ∙ get_or-replicate n l 0 0 low)
 
   value_at : (l : ℕ) → l < n → get_or (row_for clock n values m) (1 + n + l) 0 ≡ get_or values l 0
   unfolding front
   value_at l low =
-      get_or_append_left (front ++ values) (replicate m 0) 0 (1 + n + l) (let b = longer in omega (arith, b, low))
+      get_or_append_left (front ++ values) (replicate (7 + 8 * m) 0) 0 (1 + n + l) (let b = longer in omega (arith, b, low))
       ∙ get_or-append_right front values (1 + n) (1 + n + l) 0 long (omega arith)
       ∙ ap (λ (k : ℕ). get_or values k 0) (let e : 1 + n + l - (1 + n) ≡ l = omega arith in e)
 
   gate_at : (k : ℕ) → k < m → get_or (row_for clock n values m) (gate_address n k) 0 ≡ 0
   unfolding front
   gate_at k low =
-      get_or-append_right (front ++ values) (replicate m 0) (1 + 2 * n) (1 + 2 * n + k) 0 longer (omega arith)
-      ∙ ap (λ (j : ℕ). get_or (replicate m 0) j 0) (let e : 1 + 2 * n + k - (1 + 2 * n) ≡ k = omega arith in e)
-      ∙ get_or-replicate m k 0 0 low
+      get_or-append_right (front ++ values) (replicate (7 + 8 * m) 0) (1 + 2 * n) (gate_address n k) 0 longer (omega arith)
+      ∙ ap (λ (j : ℕ). get_or (replicate (7 + 8 * m) 0) j 0) (let e : gate_address n k - (1 + 2 * n) ≡ 7 + 8 * k = omega arith in e)
+      ∙ get_or-replicate (7 + 8 * m) (7 + 8 * k) 0 0 (omega arith)
 
 module _ {V : Type 0} where
   pub lays : (key : Opening V) (t : Laid V) → HasTable t (world_at key) → HasShape t (words_at key) (blocks_at key)

@@ -16,12 +16,12 @@ use Rattle.replay_log.specs.Worlds.{opened}
 use Rattle.tx_table.specs.Layout.{address, gate_address, width}
 use Rattle.tx_table.specs.Turns.{Turn, ends, lone}
 
--- three locations and two gates lie side by side
-nine_words :
+-- three locations lie side by side, and two gates eight words apart
+thirty_words :
     (address 3 ClockCell ≡ 0) × (address 3 (LockCell 0) ≡ 1) × (address 3 (LockCell 2) ≡ 3) × (address 3 (ValueCell 0) ≡ 4)
     × (address 3 (ValueCell 2) ≡ 6)
-    × (gate_address 3 0 ≡ 7) × (gate_address 3 1 ≡ 8) × (width 3 2 ≡ 9)
-nine_words = (refl, refl, refl, refl, refl, refl, refl, refl)
+    × (gate_address 3 0 ≡ 14) × (gate_address 3 1 ≡ 22) × (width 3 2 ≡ 30)
+thirty_words = (refl, refl, refl, refl, refl, refl, refl, refl)
 
 turn : List (Event ℕ) → ℕ → Turn ℕ
 turn asks found = record { asks = asks; found = found; base = None }

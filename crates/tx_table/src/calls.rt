@@ -154,7 +154,7 @@ impl<V: Value> TxTable<V> {
         try_gate(
             &self.whole.shared,
             seat,
-            1 + 2 * self.locations + collection as usize,
+            8 + 2 * self.locations + 8 * collection as usize,
             collection as usize,
         )
     }
@@ -173,7 +173,7 @@ impl<V: Value> TxTable<V> {
         free_gate(
             &self.whole.shared,
             seat,
-            1 + 2 * self.locations + collection as usize,
+            8 + 2 * self.locations + 8 * collection as usize,
             collection as usize,
             base,
         );

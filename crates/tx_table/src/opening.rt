@@ -1,5 +1,6 @@
 //! Opening a table.
-ghost use Rattle.std.specs.Prelude.{◌≡◌, ◌≢◌, ◌++◌, ◌∷◌, [], IfErr, IfOk, IfSome, IsOk, Some, length, map, replicate};
+ghost use Rattle.actor_words.specs.declared.blocks.TheConstants.{COLLECTION_LIMIT};
+ghost use Rattle.std.specs.Prelude.{◌≡◌, ◌≤◌, ◌≢◌, ◌+◌, ◌*◌, ◌++◌, ◌∷◌, [], IfErr, IfOk, IfSome, IsOk, Some, length, map, replicate};
 ghost use Rattle.replay_log.specs.Contents.{HaveStripes};
 ghost use Rattle.seq_model.specs.Refusals.{IsNoSuchOrTooLong};
 ghost use Rattle.world_table.specs.Openings.{IsWithin, blocks_of, world_of};
@@ -19,13 +20,14 @@ use std::snapshot::Snapshot;
 use step_core::Cells;
 use world_table::lay;
 
-// The words of the table: the clock, the lock words, the values, the gates.
+// The words of the table: the clock, the lock words, the values, the gates with what lies between them.
 fn laid_out(alloc: Global, cells: &Cells, gates: usize) -> Result<Vec<u64>, Memory>
+    requires { gates ≤ COLLECTION_LIMIT }
     ensures { IfOk result (λ row. row.items ≡
-        ((cells.now.clock ∷ replicate (length cells.now.locks.items) 0) ++ cells.now.values.items) ++ replicate gates 0) }
+        ((cells.now.clock ∷ replicate (length cells.now.locks.items) 0) ++ cells.now.values.items) ++ replicate (7 + 8 * gates) 0) }
 {
     let locks = vec![in alloc; 0; cells.locks.len()]?;
-    let free = vec![in alloc; 0; gates]?;
+    let free = vec![in alloc; 0; 7 + 8 * gates]?;
     let mut row = Vec::new(alloc);
     row.push(cells.clock)?;
     row.extend_from_slice(&locks)?;
