@@ -47,31 +47,35 @@ fn refuse<V: Value>(seat: &mut Seat<V>)
     seat.ask(&Event::Starve(0));
 }
 
-/// Whether this is one of the first 16 tries on a gate, with 48 or more left after it.
-fn is_early<V>(stage: &Stage<V>) -> bool {
+/// How many tries on the gate are left after this one.
+fn tries_left<V>(stage: &Stage<V>) -> u32 {
     if let Stage::Trying(_, left) = stage {
-        return *left >= 48;
+        return *left;
     }
     if let Stage::Gating(_, _, left) = stage {
-        return *left >= 48;
+        return *left;
     }
-    false
+    0
 }
 
-/// What a try waits that found its gate taken. The one that holds it is done within a microsecond where it has a core, so an early try
-/// pauses for a moment, and then the thread yields.
+/// What a try waits that found its gate taken. The one that holds it is done within microseconds where it has a core, so each of the first
+/// 16 tries pauses, for longer each time; after a later one the thread yields.
 #[inline(never)]
 fn wait<V>(stage: &Stage<V>) {
-    if is_early(stage) {
-        for _ in 0..20 {
+    let left = tries_left(stage);
+    if left < 48 {
+        yield_now();
+        return;
+    }
+    for _ in left..65 {
+        for _ in 0..8 {
             spin_loop();
         }
     }
-    yield_now();
 }
 
-/// A try on the gate of a collection. Where it was free its base comes into hand; where it was taken the thread yields, as the one that
-/// holds it may wait for a core, and at the 64th time the transaction is given up, `GateBusy`. Where memory is refused no step is taken,
+/// A try on the gate of a collection. Where it was free its base comes into hand; where it was taken it waits, and yields in the end, as the
+/// one that holds it may wait for a core, and at the 64th time the transaction is given up, `GateBusy`. Where memory is refused no step is taken,
 /// and the actor is as it was.
 #[inline(always)]
 pub fn try_gate<V: Value>(
