@@ -100,6 +100,7 @@ impl<V: Value> Copied<V> {
 
     /// Accepts the outcome, which has been made ready. It takes no memory and is never refused. The reply of the outcome stays in its
     /// place.
+    #[inline(always)]
     pub fn accept(&mut self, outcome: &mut Outcome<V>)
         requires ready { IsReady outcome.old self.old }
         ensures accepted { IsAccepted outcome.old self.old self.new }

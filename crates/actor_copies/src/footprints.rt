@@ -57,6 +57,7 @@ impl<V: Value> Copied<V> {
     }
 
     /// The edition with which a location was copied.
+    #[inline(always)]
     pub fn edition(&self, location: u32) -> u64
         requires { location < places_in self.now }
         ensures { result ≡ known_edition self.now location }

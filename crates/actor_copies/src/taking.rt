@@ -27,6 +27,7 @@ const MOST_WRITES: usize = 2;
 /// Whether the locations of the call on the base as it is, which has so many stripes, fit the sets of the transaction. The collection
 /// begins at location `first`. It is asked before anything is learnt for the call: an edition that is learnt is not forgotten. Where the
 /// sets have room for the locations of any call on the base, the outcome of this one is not sought.
+#[inline(always)]
 pub fn fits_base<V: Value>(
     words: &Actor,
     base: &Base<V>,
@@ -48,6 +49,7 @@ pub fn fits_base<V: Value>(
     }
 }
 
+#[inline(never)]
 fn fits_outcome<V: Value>(
     words: &Actor,
     base: &Base<V>,

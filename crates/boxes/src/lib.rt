@@ -42,6 +42,8 @@ impl<T> Boxed<T> {
 
 impl<T: Drop> Boxed<T> {
     /// A box for the value. Where memory is refused the value is dropped.
+    #[cold]
+    #[inline(never)]
     pub fn new(alloc: Global, value: T) -> Result<Boxed<T>, AllocError>
         ensures { IfOk result (λ boxed. boxed ≡ value) }
     {

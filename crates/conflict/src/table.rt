@@ -76,6 +76,7 @@ impl<V: Drop> Table<V> {
     }
 
     /// Gives the key the value. It takes no memory, and at most one place of the room.
+    #[inline(always)]
     pub fn insert_reserved(&mut self, key: u64, value: V)
         requires { 0 < self.old.room }
         ensures contents { self.new.contents ≡ map.insert self.old.contents key value }

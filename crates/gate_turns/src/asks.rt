@@ -25,6 +25,7 @@ use tx_table::{Seat, TxTable};
 /// `TooLong` past the limit of calls; what the transaction has of the collection answers it, or a location is read first, or the
 /// transaction is given up, as its copy is stale; and where it has not what the call touches, the collection's gate is tried next. Where
 /// memory is refused nothing is asked, and the actor shows what it did.
+#[inline(always)]
 pub fn ask<V: Value>(
     alloc: Global,
     table: &TxTable<V>,

@@ -142,6 +142,7 @@ impl<V: Value> Base<V> {
 
     /// Makes room for the changes. The collection stays as it is and keeps its room, also where memory is refused. Where there is
     /// room already, nothing is refused. Of a priority queue only the stripes that the changes fall on are looked at.
+    #[inline(always)]
     pub fn prepare(&mut self, changes: &[Change<V>]) -> Result<(), Memory>
         ensures shown { shown_of self.new ≡ shown_of self.old }
         ensures stripes { stripes_of self.new ≡ stripes_of self.old }

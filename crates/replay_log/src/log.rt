@@ -79,6 +79,7 @@ impl<V: Value> Log<V> {
 
     /// Makes room for so many more changes, each with two locations. The log stays as it is and keeps its room, also where memory
     /// is refused. Where there is room already, nothing is refused.
+    #[inline(always)]
     pub fn reserve(&mut self, more: usize) -> Result<(), Memory>
         ensures changes { self.new.changes ≡ self.old.changes }
         ensures locations { self.new.locations ≡ self.old.locations }

@@ -185,6 +185,7 @@ impl Actor {
     }
 
     /// The second load of a lock word.
+    #[inline(always)]
     pub fn again(
         &mut self,
         location: u32,

@@ -52,6 +52,7 @@ fn driven_call<V: Value>(
 }
 
 /// A request of an open transaction. Where memory is refused the transaction is aborted in place of that.
+#[inline(always)]
 pub(crate) fn ask_open<V: Value>(
     alloc: Global,
     table: &TxTable<V>,

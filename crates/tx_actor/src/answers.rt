@@ -29,6 +29,7 @@ use std::mem;
 use step_core::Place;
 
 /// The outcome, which is ready in the copy at this place, joins it. Hands its reply out.
+#[inline(always)]
 fn accept_at<V: Value>(
     copies: &mut Vec<CopyOf<V>>,
     place: usize,
@@ -51,6 +52,7 @@ fn accept_at<V: Value>(
 
 impl<V: Value> TxActor<V> {
     /// A call is accepted, for which all is prepared: its writes are asked, and its outcome joins what there is of its collection.
+    #[inline(always)]
     fn accepts(&mut self, call: Boxed<Answered<V>>) -> Told<V>
         requires prepared { CanAccept self.old call }
         ensures does { (a : ℕ) (w : World V) → worlds.actor_of w a ≡ actor_of self.old.words → MayAccept w a call →
@@ -79,6 +81,7 @@ impl<V: Value> TxActor<V> {
 
     /// A call that is prepared goes on: its locations are judged by the read set, from the first. Where the set has them all with these
     /// editions it is accepted; the first that the set does not have is read next; one that it has with another edition is stale.
+    #[inline(always)]
     pub(crate) fn goes_on(
         &mut self,
         call: Boxed<Answered<V>>,

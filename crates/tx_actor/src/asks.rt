@@ -88,7 +88,7 @@ impl<V: Drop> TxActor<V> {
     }
 
     /// Its transaction is to commit. Where it has written, the collections with a written location are found now.
-    #[inline(never)]
+    #[inline(always)]
     pub fn asks_to_commit(&mut self, alloc: Global, blocks: &Blocks) -> Result<Told<V>, Memory>
         ensures ok { IfOk result (λ told. Asks blocks.now self.old self.new told
             (λ a w. commits w a (seat_of self.old) (worlds.actor_of w a).writes)) }

@@ -44,6 +44,7 @@ impl<V: Value> TxActor<V> {
     }
 
     /// It is at rest in its transaction.
+    #[inline(always)]
     fn asks_open(
         &mut self,
         alloc: Global,
@@ -68,6 +69,7 @@ impl<V: Value> TxActor<V> {
     /// A request. `NotIdle` where another is under way, or a begin within a transaction, and `NoTransaction` for a call or an end without
     /// one; else as the request's own method says. A want of memory leaves the actor as it was. Where it is not at rest in its transaction
     /// it begins one, or stays as it is.
+    #[inline(always)]
     pub fn asks(
         &mut self,
         alloc: Global,

@@ -32,7 +32,7 @@ fn is_allowed<V>(blocks: &Blocks, words: &Actor, collection: u32, op: &Op<V>) ->
 }
 
 /// Where the copy of the collection stands, if it has what the call touches.
-#[inline(never)]
+#[inline(always)]
 fn held_place<V: Value>(copies: &[CopyOf<V>], collection: u32, op: &Op<V>) -> Option<usize>
     ensures { IsHeldPlace copies.now collection op.now result }
 {
@@ -49,7 +49,7 @@ fn held_place<V: Value>(copies: &[CopyOf<V>], collection: u32, op: &Op<V>) -> Op
 
 impl<V: Value> TxActor<V> {
     /// The copy at this place has what the call touches.
-    #[inline(never)]
+    #[inline(always)]
     fn calls_held(
         &mut self,
         alloc: Global,

@@ -61,6 +61,8 @@ impl<V> Model for Kept<V> {
     ghost view = { λ _. tt };
 }
 
+#[cold]
+#[inline(never)]
 fn blank<V: Drop>(alloc: Global, asked: Asked<V>) -> Answered<V>
     ensures { result.asked ≡ asked }
 {
@@ -148,6 +150,7 @@ impl<V: Drop> Kept<V> {
 
 impl<V: Value> Kept<V> {
     /// As `find` of actor_copies has it.
+    #[inline(always)]
     pub(crate) fn find(
         &mut self,
         alloc: Global,

@@ -328,6 +328,7 @@ impl<V: Drop> TxActor<V> {
     }
 
     /// A transaction is to begin.
+    #[inline(always)]
     pub fn begins(&mut self) -> Told<V>
         ensures does { Reseats self.old self.new result (λ a w. ask_idle w a (seat_of self.old) request.Begin) }
         ensures keeps { (v : BlocksView) → KeepsIn v self.old self.new }

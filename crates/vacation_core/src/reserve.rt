@@ -245,6 +245,7 @@ impl<'a> Walk<'a> {
     }
 
     /// What becomes of the candidate of a kind.
+    #[inline(always)]
     fn decide(
         &mut self,
         draft: &Draft<'_>,

@@ -124,7 +124,7 @@ impl Session {
     }
 
     /// What the replies so far lead to, walked from the first.
-    #[inline(never)]
+    #[inline(always)]
     fn walked(&self, replies: &[Reply<Entry>]) -> Result<Ask<Entry>, Memory>
         ensures { IfOk result (λ ask. ask ≡ asked (after (plans.session self.now) replies.now)) }
     {
