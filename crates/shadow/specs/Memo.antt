@@ -27,7 +27,6 @@ use Rattle.replay_log.specs.declared.touch.Touched.TheVariants.{Entry, Copies, C
 use Rattle.shadow.specs.declared.memo.MemoKind.{MemoKind}
 use Rattle.shadow.specs.declared.memo.MemoKind.TheVariants as kind
 use Rattle.replay_log.specs.Log.{LogView}
-use Rattle.shadow.specs.declared.memo.Ready as declared
 use Rattle.shadow.specs.Shadow.{Ready}
 
 pub record MemoView (V : Type 0) : Type 0 where
@@ -235,9 +234,13 @@ module _ {V : Type 0} where
   shrunk_kept (OfMap b) o shrunk = shrunk_after o.op o.reply shrunk
   shrunk_kept b o shrunk = shrunk
 
+  -- the log has room for what is ready; without a location it is nothing
+  abbrev pub HasPlace : LogView V → Option (Change V) → Option ℕ → Type 0
+  HasPlace log change None = change ≡ None
+  HasPlace log change (Some location) = (0 < log.room) × (length log.locations < log.places)
+
   -- there is room for what is ready, and its keys can be counted
-  abbrev pub IsKept : MemoKind → (entries copies grown shrunk : ℕ) → LogView V → Option (declared.Ready V) → Type 0
-  IsKept k entries copies grown shrunk log None = ⊤
-  IsKept k entries copies grown shrunk log (Some r) =
-      (0 < kind_room k entries copies) × (length (option_to_list r.change) ≤ log.room) × (length log.locations + length r.written ≤ log.places)
-      × (grown < 2 ^ 63) × (shrunk < 2 ^ 63)
+  abbrev pub IsKept : MemoKind → (entries copies grown shrunk : ℕ) → LogView V → Bool → Option (Change V) → Option ℕ → Type 0
+  IsKept k entries copies grown shrunk log false change written = ⊤
+  IsKept k entries copies grown shrunk log true change written =
+      (0 < kind_room k entries copies) × HasPlace log change written × (grown < 2 ^ 63) × (shrunk < 2 ^ 63)

@@ -11,7 +11,7 @@ ghost use Rattle.base_bag.specs.Conflicts as bag;
 ghost use Rattle.base_map.specs.Conflicts as of_map;
 ghost use Rattle.replay_log.specs.Base.{changes_of, reads_of, shown_of, stripes_of, writes_of};
 ghost use Rattle.shadow.specs.KeyPlace.{written_there};
-ghost use Rattle.shadow.specs.Memo.{IsReadyFor, answer_with, copies_after, copies_kept, copies_without, entries_after, entries_kept};
+ghost use Rattle.shadow.specs.Memo.{HasPlace, IsReadyFor, answer_with, blank_of, copies_after, copies_kept, copies_without, entries_after, entries_kept};
 ghost use Rattle.shadow.specs.Memo.{entries_without, grown_after, grown_kept, holds, kind_room, map_answer, shape, shrunk_after};
 ghost use Rattle.shadow.specs.Memo.{shrunk_kept, total_without, with_count, with_counts, with_entry, with_key, with_total, IsTold};
 
@@ -52,18 +52,14 @@ pub struct Memo<V> {
     grown: u64,
     shrunk: u64,
     log: Log<V>,
-    ready: Option<Ready<V>>,
-}
-
-// What the next acceptance appends, and the locations that it writes.
-#[derive(Drop)]
-struct Ready<V> {
+    // Whether the next acceptance is ready: the change that it appends, and the location that it writes. Else both are of no meaning.
+    is_ready: bool,
     change: Option<Change<V>>,
-    written: LocSet,
+    written: Option<u32>,
 }
 
 impl<V> Model for Memo<V> {
-    ghost use Rattle.std.specs.Prelude.{◌≡◌, ◌≤◌, ◌^◌, [], option_map, option_to_list};
+    ghost use Rattle.std.specs.Prelude.{◌≡◌, ◌≤◌, ◌^◌, [], Some, None, if◌then◌else◌, option_to_list};
     ghost use Rattle.std.specs.Coded.{codes, coded_ℕ, coded_option};
     ghost use Rattle.std.specs.FinMap as map;
     ghost use Rattle.std.specs.Ordering.{nat_cmp};
@@ -92,12 +88,12 @@ impl<V> Model for Memo<V> {
       shrunk = a.shrunk;
       changes = a.log.changes;
       locations = a.log.locations;
-      ready = option_map (λ r. record { changes = option_to_list r.change; locations = r.written }) a.ready;
+      ready = if a.is_ready then Some (record { changes = option_to_list a.change; locations = option_to_list a.written }) else None;
     } };
 
     ghost invariant = { λ a.
-        IsStripeCount a.stripes × IsKept a.kind a.entries.room a.copies.room a.grown a.shrunk a.log a.ready × IsTold a.total
-        × (a.grown ≤ 2 ^ 63) };
+        IsStripeCount a.stripes × IsKept a.kind a.entries.room a.copies.room a.grown a.shrunk a.log a.is_ready a.change a.written
+        × IsTold a.total × (a.grown ≤ 2 ^ 63) };
 }
 
 impl<V: Drop> Memo<V> {
@@ -112,7 +108,7 @@ impl<V: Drop> Memo<V> {
         ensures changes { self.new.changes ≡ [] }
         ensures locations { self.new.locations ≡ [] }
     {
-        unready(&mut self.ready);
+        self.is_ready = false;
         self.entries.clear();
         self.copies.clear();
         self.total = None;
@@ -126,7 +122,7 @@ impl<V: Drop> Memo<V> {
         ensures changes { result.changes ≡ self.old.changes }
         ensures locations { result.locations ≡ self.old.locations }
     {
-        unready(&mut self.ready);
+        self.is_ready = false;
         let log = mem::replace(&mut self.log, Log::new(self.alloc));
         self.clear();
         log
@@ -161,7 +157,9 @@ impl<V: Value> Memo<V> {
             grown: 0,
             shrunk: 0,
             log: Log::new(alloc),
-            ready: None,
+            is_ready: false,
+            change: None,
+            written: None,
         })
     }
 
@@ -181,7 +179,7 @@ impl<V: Value> Memo<V> {
         if !is_stripe_count(stripes) {
             return Err(Refusal::TooLong);
         }
-        unready(&mut self.ready);
+        self.is_ready = false;
         self.kind = kind;
         self.stripes = stripes;
         self.log = log;
@@ -219,7 +217,7 @@ impl<V: Value> Memo<V> {
         ensures err { OnErr result
             ((self.new.entries ≡ self.old.entries) × (self.new.copies ≡ self.old.copies) × (self.new.total ≡ self.old.total)) }
     {
-        unready(&mut self.ready);
+        self.is_ready = false;
         match held {
             Touched::Entry(key, value) => hold(&mut self.entries, key, value),
             Touched::Copies(element, copies) => hold(&mut self.copies, element, copies),
@@ -239,7 +237,7 @@ impl<V: Value> Memo<V> {
         ensures changes { self.new.changes ≡ self.old.changes }
         ensures locations { self.new.locations ≡ self.old.locations }
     {
-        unready(&mut self.ready);
+        self.is_ready = false;
         match op {
             Op::Get(key) | Op::Put(key, _) | Op::Remove(key) => self.entries.remove(*key),
             Op::Count(element) | Op::Add(element) | Op::Take(element) => {
@@ -294,16 +292,16 @@ impl<V: Value> Memo<V> {
         ensures changes { self.new.changes ≡ self.old.changes }
         ensures locations { self.new.locations ≡ self.old.locations }
     {
-        unready(&mut self.ready);
+        self.is_ready = false;
         if self.grown >= KEY_LIMIT || self.shrunk >= KEY_LIMIT {
             return Err(Memory);
         }
-        let change = self.change_of(outcome)?;
-        let written = self.writes(outcome)?;
+        self.written = put_change(&mut self.change, self.kind, self.stripes, outcome)?;
         make_room(self.kind, &mut self.entries, &mut self.copies)?;
-        self.log
-            .reserve(number_of(&change).max(written.as_slice().len()))?;
-        self.ready = Some(Ready { change, written });
+        if self.written.is_some() {
+            self.log.reserve(1)?;
+        }
+        self.is_ready = true;
         Ok(())
     }
 
@@ -322,8 +320,9 @@ impl<V: Value> Memo<V> {
             ≡ self.old.locations ++ writes_of (stripes_of self.old.blank) outcome.old (shown_of self.old.blank) }
         ensures reply { outcome.new.reply ≡ outcome.old.reply }
     {
-        if let Some(ready) = self.ready.take() {
-            self.log.append_one(ready.change, &ready.written);
+        if self.is_ready {
+            self.is_ready = false;
+            append(&mut self.log, self.alloc, &mut self.change, self.written);
             match self.kind {
                 MemoKind::Map => {
                     count_entry(&mut self.grown, &mut self.shrunk, outcome);
@@ -368,15 +367,6 @@ impl<V: Value> Memo<V> {
         }
     }
 
-    fn change_of(&self, outcome: &Outcome<V>) -> Result<Option<Change<V>>, Memory>
-        ensures { IfOk result (λ change. option_to_list change ≡ changes_of outcome.now (shown_of self.now.blank)) }
-    {
-        match self.kind {
-            MemoKind::Map => base_map::change_in(outcome),
-            MemoKind::Bag => base_bag::change_in(outcome),
-        }
-    }
-
     /// The accepted changes, in order: what a base has to be prepared for.
     pub fn changes(&self) -> &[Change<V>]
         ensures { result.now ≡ self.now.changes }
@@ -394,20 +384,98 @@ impl<V: Value> Memo<V> {
     }
 }
 
-// Nothing is ready any more. There is seldom something, and to let it go takes a function of its own.
-fn unready<V: Drop>(ready: &mut Option<Ready<V>>)
-    ensures { ready.new ≡ None }
+// What an outcome changes is put into this place. Answers the location that it writes; without one it changes nothing.
+fn put_change<V: Value>(
+    change: &mut Option<Change<V>>,
+    kind: MemoKind,
+    stripes: u32,
+    outcome: &Outcome<V>,
+) -> Result<Option<u32>, Memory>
+    requires { 0 < stripes }
+    ensures change { OnOk result (option_to_list change.new ≡ changes_of outcome.now (shown_of (blank_of kind stripes))) }
+    ensures written { IfOk result (λ written. option_to_list written ≡ writes_of stripes outcome.now (shown_of (blank_of kind stripes))) }
+    ensures none { IfOk result (λ written. written ≡ None → change.new ≡ None) }
 {
-    if ready.is_some() {
-        let_go(ready);
+    match kind {
+        MemoKind::Map => put_entry_change(change, stripes, outcome),
+        MemoKind::Bag => put_copies_change(change, stripes, outcome),
+    }
+}
+
+fn put_entry_change<V: Value>(
+    change: &mut Option<Change<V>>,
+    stripes: u32,
+    outcome: &Outcome<V>,
+) -> Result<Option<u32>, Memory>
+    requires { 0 < stripes }
+    ensures change { OnOk result (option_to_list change.new ≡ of_map.changes_of outcome.now) }
+    ensures written { IfOk result (λ written. option_to_list written ≡ of_map.writes_of stripes outcome.now) }
+    ensures none { IfOk result (λ written. written ≡ None → change.new ≡ None) }
+{
+    match (&outcome.op, &outcome.reply) {
+        (Op::Put(key, _), _) | (Op::Remove(key), Reply::Value(_)) => {
+            *change = base_map::change_in(outcome)?;
+            Ok(Some(base_map::place_in(stripes, *key)))
+        }
+        _ => {
+            no_change(change);
+            Ok(None)
+        }
+    }
+}
+
+fn put_copies_change<V: Value>(
+    change: &mut Option<Change<V>>,
+    stripes: u32,
+    outcome: &Outcome<V>,
+) -> Result<Option<u32>, Memory>
+    requires { 0 < stripes }
+    ensures change { OnOk result (option_to_list change.new ≡ bag.changes_of outcome.now) }
+    ensures written { IfOk result (λ written. option_to_list written ≡ bag.writes_of stripes outcome.now) }
+    ensures none { IfOk result (λ written. written ≡ None → change.new ≡ None) }
+{
+    match (&outcome.op, &outcome.reply) {
+        (Op::Add(element), Reply::Done) | (Op::Take(element), Reply::Yes) => {
+            *change = base_bag::change_in(outcome)?;
+            Ok(Some(base_bag::place_in(stripes, *element)))
+        }
+        _ => {
+            no_change(change);
+            Ok(None)
+        }
+    }
+}
+
+// There is seldom a change left from a call that was not made, and to let it go takes a function of its own.
+fn no_change<V: Drop>(change: &mut Option<Change<V>>)
+    ensures { change.new ≡ None }
+{
+    if change.is_some() {
+        let_go(change);
     }
 }
 
 #[inline(never)]
-fn let_go<V: Drop>(ready: &mut Option<Ready<V>>)
-    ensures { ready.new ≡ None }
+fn let_go<V: Drop>(change: &mut Option<Change<V>>)
+    ensures { change.new ≡ None }
 {
-    *ready = None;
+    *change = None;
+}
+
+// What is ready joins the log.
+fn append<V: Value>(
+    log: &mut Log<V>,
+    alloc: Global,
+    change: &mut Option<Change<V>>,
+    written: Option<u32>,
+)
+    requires { HasPlace log.old change.old written }
+    ensures changes { log.new.changes ≡ log.old.changes ++ option_to_list change.old }
+    ensures locations { log.new.locations ≡ log.old.locations ++ option_to_list written }
+{
+    if let Some(location) = written {
+        log.append_one(change.take(), &LocSet::single(alloc, location));
+    }
 }
 
 fn entry_place<V>(stripes: u32, outcome: &Outcome<V>) -> Option<KeyPlace>
@@ -443,15 +511,6 @@ fn copies_place<V>(stripes: u32, outcome: &Outcome<V>) -> Option<KeyPlace>
             written: false,
         }),
         _ => None,
-    }
-}
-
-fn number_of<V>(change: &Option<Change<V>>) -> usize
-    ensures { result ≡ length (option_to_list change.now) }
-{
-    match change {
-        Some(_) => 1,
-        None => 0,
     }
 }
 
