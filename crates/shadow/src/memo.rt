@@ -584,7 +584,10 @@ fn entry_outcome<V: Value>(
         },
         _ => return Err(Refusal::NoSuch),
     };
-    let op = op.try_copy()?;
+    let op = match op {
+        Op::Get(key) => Op::Get(*key),
+        _ => op.try_copy()?,
+    };
     *outcome = Some(Outcome {
         op,
         reply,
