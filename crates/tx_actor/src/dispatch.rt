@@ -11,6 +11,7 @@ ghost use Rattle.actor_words.specs.Blocks.{BlocksView};
 ghost use Rattle.tx_actor.specs.Having.{KeepsCopies};
 ghost use Rattle.tx_actor.specs.Keeping.{KeepsIn};
 ghost use Rattle.tx_actor.specs.Running.{Does, Reseats, at, seat_of, stage_of};
+ghost use Rattle.tx_actor.specs.declared.actor.Asked.{Asked};
 
 use crate::actor::{Stage, Told, TxActor};
 use crate::hand::Asking;
@@ -194,9 +195,26 @@ impl<V: Drop> TxActor<V> {
         self.tried(asked, tries, free)
     }
 
-    /// The gate that was to be tried was found free or not; where it was free it is held now.
+    /// The gate of a call was found free, and is held now.
     #[inline(always)]
-    pub fn tried_gate(&mut self, free: bool) -> Told<V>
+    fn holds_gate(&mut self) -> Told<V>
+        requires { (asked : Asked V) × (tries : ℕ) × (self.old.stage ≡ Stage.Trying asked tries) }
+        ensures does { Does self.old self.new result (λ a w. after_try w a (seat_of self.old) (stage_of self.old.stage) true) }
+        ensures keeps { (v : BlocksView) → KeepsIn v self.old self.new }
+        ensures leaves { KeepsCopies self.old self.new }
+    {
+        let stage = mem::replace(&mut self.stage, Stage::Idle);
+        match stage {
+            Stage::Trying(asked, _tries) => {
+                self.stage = Stage::Copying(asked);
+                Told::Quiet
+            }
+            other => self.stays(other),
+        }
+    }
+
+    #[inline(never)]
+    fn tried_else(&mut self, free: bool) -> Told<V>
         ensures does { Does self.old self.new result (λ a w. after_try w a (seat_of self.old) (stage_of self.old.stage) free) }
         ensures keeps { (v : BlocksView) → KeepsIn v self.old self.new }
         ensures leaves { is_loading (stage_of self.old.stage) ≡ false → KeepsCopies self.old self.new }
@@ -207,6 +225,21 @@ impl<V: Drop> TxActor<V> {
             Stage::Gating(homes, got, tries) => self.tried_next(homes, got, tries, free),
             other => self.stays(other),
         }
+    }
+
+    /// The gate that was to be tried was found free or not; where it was free it is held now.
+    #[inline(always)]
+    pub fn tried_gate(&mut self, free: bool) -> Told<V>
+        ensures does { Does self.old self.new result (λ a w. after_try w a (seat_of self.old) (stage_of self.old.stage) free) }
+        ensures keeps { (v : BlocksView) → KeepsIn v self.old self.new }
+        ensures leaves { is_loading (stage_of self.old.stage) ≡ false → KeepsCopies self.old self.new }
+    {
+        if free {
+            if let Stage::Trying(_asked, _tries) = &self.stage {
+                return self.holds_gate();
+            }
+        }
+        self.tried_else(free)
     }
 
     fn put_first(&mut self, homes: VecDeque<u32>) -> Told<V>
