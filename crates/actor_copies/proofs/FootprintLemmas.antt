@@ -1,8 +1,10 @@
 -- What a call reads and writes lies in its collection: by the frame laws of its kind (`read_at`, `written_at`), at each state of it.
-use Rattle.std.proofs.Common.{◌≡◌, ℕ, ◌+◌, ◌<◌, ◌≤◌, ◌^◌, List, Some, refl, sym, subst, arith}
+use Rattle.std.proofs.Common.{◌≡◌, ℕ, zero, suc, ◌+◌, ◌<◌, ◌≤◌, ◌^◌, List, Some, refl, sym, subst, arith}
 use Rattle.std.specs.Prelude.{All, Contains, slice_index_or}
+use Rattle.std.proofs.lemmas.List.FromFn.{get_or-range_with_len, length-range_with_len}
 use Rattle.std.proofs.lemmas.List.Elements.{All-contains_itself}
 use Rattle.std.specs.FinMap.{empty}
+use Rattle.conflict.specs.Footprints.{all_below}
 use Rattle.conflict.specs.declared.outcome.Outcome.{Outcome}
 use Rattle.replay_log.specs.declared.base.Base.{Base}
 use Rattle.replay_log.specs.Base.{Shown, OfMap, OfBag, OfPq, OfQueue, locations_of, reads_of, shown_of, stripes_of, writes_of}
@@ -20,6 +22,15 @@ all_of P ls each k d lt = each (slice_index_or ls k d) (All-contains_itself ls k
 
 pub all_alike : (P : ℕ → Type 0) (ls ms : List ℕ) → ls ≡ ms → All P ls → All P ms
 all_alike P ls ms e all = subst (All P) e all
+
+-- where all below n are below p, n is not above it
+pub all_within : (n p : ℕ) → All (λ l. l < p) (all_below n) → n ≤ p
+all_within zero p all = omega arith
+all_within (suc n) p all =
+    let long = length-range_with_len 0 (suc n) in
+    let here : slice_index_or (all_below (suc n)) n 0 < p = all n 0 (omega (arith, long)) in
+    let is : slice_index_or (all_below (suc n)) n 0 ≡ 0 + n = get_or-range_with_len 0 (suc n) n 0 (omega arith) in
+    omega (arith, here, is)
 
 module _ {V : Type 0} where
   pub reads_by : (k : Kind) (n : ℕ) (o : Outcome V) (s : Shown V) → kind_of s ≡ k → reads_of n o (whole n k (λ i. OfMap empty))

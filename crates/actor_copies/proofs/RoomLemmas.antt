@@ -52,7 +52,7 @@ surely_shifted x f n m rs ws sure few_reads few_writes =
     surely_room x n m (shifted f rs) (shifted f ws) sure (omega (arith, reads, few_reads)) (omega (arith, writes, few_writes))
 
 -- ---- how many locations a call has
-all_few : (n : ℕ) → length (all_below n) ≤ n
+pub all_few : (n : ℕ) → length (all_below n) ≤ n
 all_few n = let e = length-range_with_len 0 n in omega (arith, e)
 
 module _ (V : Type 0) where

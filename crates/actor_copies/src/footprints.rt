@@ -1,11 +1,14 @@
 //! The locations of a call on a collection that is copied, with the editions with which they were copied.
-ghost use Rattle.std.specs.Prelude.{◌≡◌, ◌+◌, ◌<◌, ◌^◌, [], ◌∷◌, All, IfOk, IfSome, OnOk};
+ghost use Rattle.std.specs.Prelude.{◌≡◌, ◌+◌, ◌<◌, ◌≤◌, ◌^◌, [], ◌∷◌, All, IfOk, IfSome, OnOk};
+ghost use Rattle.conflict.specs.Footprints.{all_below};
+ghost use Rattle.replay_log.specs.Base.{reads_of, shown_of, stripes_of};
 ghost use Rattle.shadow.specs.KeyPlace.{written_there};
 ghost use Rattle.actor_copies.specs.Footprints.{IsPlaceOf, known_edition, places_in, reads_in, with_known, writes_in};
 
 use crate::copies::{Copied, CopyOf};
 use conflict::{LocSet, Outcome};
-use seq_model::{Memory, Value};
+use replay_log::Base;
+use seq_model::{Memory, Op, Reply, Value};
 use shadow::KeyPlace;
 use std::collections::VecDeque;
 
@@ -23,6 +26,25 @@ pub fn place_of<V>(copies: &[CopyOf<V>], collection: u32) -> Option<usize>
     None
 }
 
+/// How many locations a base has, where an outcome reads them all.
+pub(crate) fn all_read<V: Value>(base: &Base<V>, outcome: &Outcome<V>) -> Option<u32>
+    ensures { IfSome result (λ count.
+        reads_of (stripes_of base.now) outcome.now (shown_of base.now) ≡ all_below count) }
+{
+    match (base, &outcome.op, &outcome.reply) {
+        (Base::Map(base), Op::Len, _) => Some(base.stripes()),
+        (Base::Pq(base), Op::TakeLeast, Reply::Found(_)) => {
+            let stripes = base.stripes();
+            if stripes < u32::MAX {
+                Some(stripes + 1)
+            } else {
+                None
+            }
+        }
+        _ => None,
+    }
+}
+
 impl<V: Value> Copied<V> {
     /// The locations that an outcome reads.
     pub fn reads(&self, outcome: &Outcome<V>) -> Result<LocSet, Memory>
@@ -31,6 +53,16 @@ impl<V: Value> Copied<V> {
         match self {
             Copied::Keys(memo, _) => memo.get().reads(outcome),
             Copied::Whole(shadow) => shadow.get().base().reads(outcome),
+        }
+    }
+
+    /// How many locations there are, where an outcome reads them all: they take no list.
+    pub(crate) fn all_read(&self, outcome: &Outcome<V>) -> Option<u32>
+        ensures { IfSome result (λ count. reads_in self.now outcome.now ≡ all_below count) }
+    {
+        match self {
+            Copied::Keys(memo, _) => memo.get().all_read(outcome),
+            Copied::Whole(shadow) => all_read(shadow.get().base(), outcome),
         }
     }
 
@@ -87,6 +119,24 @@ pub(crate) fn with_known<V: Value>(
     left.clear();
     for location in locations.as_slice() {
         left.push_back((first + *location, copied.edition(*location)))?;
+    }
+    Ok(())
+}
+
+/// The first `count` locations likewise.
+pub(crate) fn with_known_below<V: Value>(
+    left: &mut VecDeque<(u32, u64)>,
+    copied: &Copied<V>,
+    first: u32,
+    count: u32,
+) -> Result<(), Memory>
+    requires within { count ≤ places_in copied.now }
+    requires range { first + count ≤ 2 ^ 32 }
+    ensures { OnOk result (left.new.items ≡ with_known copied.now first (all_below count)) }
+{
+    left.clear();
+    for location in 0..count {
+        left.push_back((first + location, copied.edition(location)))?;
     }
     Ok(())
 }

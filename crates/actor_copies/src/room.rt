@@ -1,5 +1,6 @@
 //! Whether the locations of a call fit the sets of its transaction by their number alone.
-ghost use Rattle.std.specs.Prelude.{◌≡◌, ◌+◌, ◌<◌, ◌^◌, All};
+ghost use Rattle.std.specs.Prelude.{◌≡◌, ◌+◌, ◌<◌, ◌≤◌, ◌^◌, All};
+ghost use Rattle.conflict.specs.Footprints.{all_below};
 ghost use Rattle.replay_log.specs.Contents.{shifted};
 ghost use Rattle.replay_log.specs.Worlds as worlds;
 ghost use Rattle.step_core.specs.Shown.{actor_of};
@@ -33,5 +34,19 @@ pub(crate) fn has_room(words: &Actor, first: u32, reads: &LocSet, writes: &LocSe
         true
     } else {
         actor_words::has_room(words, first, reads, writes)
+    }
+}
+
+/// As `has_room`, of a call that reads the first `count` locations of the collection.
+pub(crate) fn has_room_below(words: &Actor, first: u32, count: u32, writes: &LocSet) -> bool
+    requires reads { first + count ≤ 2 ^ 32 }
+    requires writes { All (λ location. first + location < 2 ^ 32) writes.now }
+    ensures { result
+        ≡ worlds.has_room (actor_of words.now) (shifted first (all_below count)) (shifted first writes.now) }
+{
+    if surely_fits(words, count as usize, writes.as_slice().len()) {
+        true
+    } else {
+        actor_words::has_room_below(words, first, count, writes)
     }
 }

@@ -10,8 +10,8 @@ ghost use Rattle.actor_copies.specs.Taking.{IsAdded, IsPushed, IsTakenAt, TakenB
 
 use crate::copies::{Copied, CopyOf, Found};
 use crate::first::first_copy;
-use crate::footprints::place_of;
-use crate::room::{has_room, surely_fits};
+use crate::footprints::{all_read, place_of};
+use crate::room::{has_room, has_room_below, surely_fits};
 use crate::spares::Spares;
 use replay_log::Base;
 use seq_model::{Memory, Op, Value};
@@ -63,9 +63,14 @@ fn fits_outcome<V: Value>(
 {
     match base.outcome(op) {
         Ok(outcome) => {
-            let reads = base.reads(&outcome)?;
             let writes = base.writes(&outcome)?;
-            Ok(has_room(words, first, &reads, &writes))
+            match all_read(base, &outcome) {
+                Some(count) => Ok(has_room_below(words, first, count, &writes)),
+                None => {
+                    let reads = base.reads(&outcome)?;
+                    Ok(has_room(words, first, &reads, &writes))
+                }
+            }
         }
         Err(_) => Err(Memory),
     }

@@ -1,5 +1,6 @@
 //! What a call on a copied collection is going to do: its outcome, the locations that have to be read for it, and what it writes.
 ghost use Rattle.std.specs.Prelude.{◌≡◌, ◌+◌, ◌<◌, ◌≤◌, ◌^◌, [], ◌∷◌, IfOk, OnOk, Some, true};
+ghost use Rattle.conflict.specs.Footprints.{all_below};
 ghost use Rattle.replay_log.specs.Base.{stripes_of};
 ghost use Rattle.replay_log.specs.Contents.{shifted};
 ghost use Rattle.replay_log.specs.Worlds as worlds;
@@ -11,8 +12,8 @@ ghost use Rattle.actor_copies.specs.Footprints.{base_in, places_in, reads_in, wi
 ghost use Rattle.actor_copies.specs.Writes.{with_next};
 
 use crate::copies::Copied;
-use crate::footprints::with_known;
-use crate::room::{has_room, surely_fits};
+use crate::footprints::{with_known, with_known_below};
+use crate::room::{has_room, has_room_below, surely_fits};
 use crate::writes::{Writes, with_next};
 use conflict::Outcome;
 use seq_model::{Memory, Op, Value};
@@ -67,6 +68,28 @@ fn weigh_sets<V: Value>(
     Ok(has_room(words, first, &read, &written))
 }
 
+/// What a call that reads the first `count` locations reads and writes.
+#[inline(never)]
+fn weigh_below<V: Value>(
+    left: &mut VecDeque<(u32, u64)>,
+    writes: &mut Writes,
+    words: &Actor,
+    copied: &Copied<V>,
+    first: u32,
+    outcome: &Outcome<V>,
+    count: u32,
+) -> Result<bool, Memory>
+    requires stripes { 0 < stripes_of (base_in copied.now) }
+    requires range { first + places_in copied.now ≤ 2 ^ 32 }
+    requires reads { reads_in copied.now outcome.now ≡ all_below count }
+    ensures { IfOk result (λ fits. IsWeighed (actor_of words.now) copied.now first outcome.now left.new.items writes.new.items fits) }
+{
+    let written = copied.writes(outcome)?;
+    with_known_below(left, copied, first, count)?;
+    with_next(writes, copied, first, &written)?;
+    Ok(has_room_below(words, first, count, &written))
+}
+
 /// What a call with its outcome reads and writes.
 fn weigh_outcome<V: Value>(
     left: &mut VecDeque<(u32, u64)>,
@@ -85,6 +108,9 @@ fn weigh_outcome<V: Value>(
             weigh_key(left, writes, copied, first, at)?;
             return Ok(true);
         }
+    }
+    if let Some(count) = copied.all_read(outcome) {
+        return weigh_below(left, writes, words, copied, first, outcome, count);
     }
     weigh_sets(left, writes, words, copied, first, outcome)
 }

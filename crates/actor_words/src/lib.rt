@@ -16,7 +16,7 @@ mod notice;
 mod requests;
 
 pub use blocks::{Blocks, COLLECTION_LIMIT, Kind, TABLE_LIMIT};
-pub use calls::has_room;
+pub use calls::{has_room, has_room_below};
 pub use ending::{abort, cancel, release};
 pub use homes::written_homes;
 pub use judged::{Judged, go_on, judge};

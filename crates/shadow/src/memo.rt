@@ -6,6 +6,7 @@ ghost use Rattle.std.specs.List.{sum};
 ghost use Rattle.seq_model.specs.Calls.{IsRefusal};
 ghost use Rattle.seq_model.specs.Counts.{copies};
 ghost use Rattle.seq_model.specs.declared.call.Op.TheVariants.{Remove};
+ghost use Rattle.conflict.specs.Footprints.{all_below};
 ghost use Rattle.conflict.specs.Refusals.{IsTooLong, IsStripeCount};
 ghost use Rattle.base_bag.specs.Conflicts as bag;
 ghost use Rattle.base_map.specs.Conflicts as of_map;
@@ -340,6 +341,17 @@ impl<V: Value> Memo<V> {
         match self.kind {
             MemoKind::Map => base_map::reads_in(self.alloc, self.stripes, outcome),
             MemoKind::Bag => base_bag::reads_in(self.alloc, self.stripes, outcome),
+        }
+    }
+
+    /// The number of stripes, where an outcome reads them all: they take no list.
+    pub fn all_read(&self, outcome: &Outcome<V>) -> Option<u32>
+        ensures { IfSome result (λ count.
+            reads_of (stripes_of self.now.blank) outcome.now (shown_of self.now.blank) ≡ all_below count) }
+    {
+        match (self.kind, &outcome.op) {
+            (MemoKind::Map, Op::Len) => Some(self.stripes),
+            _ => None,
         }
     }
 
