@@ -20,7 +20,7 @@ use Rattle.collection_machine.specs.Content.{IsIn}
 use Rattle.replay_log.specs.declared.base.Base.{Base}
 use Rattle.replay_log.specs.declared.touch.Touch.{Touch}
 use Rattle.replay_log.specs.declared.touch.Touched.{Touched}
-use Rattle.replay_log.specs.declared.touch.Touched.TheVariants.{Copies, Counts, Entry}
+use Rattle.replay_log.specs.declared.touch.Touched.TheVariants.{Copies, Entry, Total}
 use Rattle.replay_log.specs.Worlds.{is_known, is_missing}
 use Rattle.replay_log.proofs.PartLemmas.{knows_its_calls}
 use Rattle.replay_log.specs.Pieces as pieces
@@ -178,10 +178,10 @@ module _ {V : Type 0} where
   map_held n (Entry k v) m es cs total (Get q) held = same_place n k q (has_more es k q v held)
   map_held n (Entry k v) m es cs total (Put q y) held = same_place n k q (has_more es k q v held)
   map_held n (Entry k v) m es cs total (Remove q) held = same_place n k q (has_more es k q v held)
-  map_held n (Counts counts) m es cs total Len held = inr (λ i c. c)
-  map_held n (Counts counts) m es cs total (Get q) held = inl held
-  map_held n (Counts counts) m es cs total (Put q y) held = inl held
-  map_held n (Counts counts) m es cs total (Remove q) held = inl held
+  map_held n (Total t) m es cs total Len held = inr (λ i c. c)
+  map_held n (Total t) m es cs total (Get q) held = inl held
+  map_held n (Total t) m es cs total (Put q y) held = inl held
+  map_held n (Total t) m es cs total (Remove q) held = inl held
   map_held n (Copies y c) m es cs total (Get q) held = inl held
   map_held n (Copies y c) m es cs total (Put q r) held = inl held
   map_held n (Copies y c) m es cs total (Remove q) held = inl held
@@ -198,9 +198,9 @@ module _ {V : Type 0} where
   bag_held n (Entry k v) m es cs total (Count q) held = inl held
   bag_held n (Entry k v) m es cs total (Add q) held = inl held
   bag_held n (Entry k v) m es cs total (Take q) held = inl held
-  bag_held n (Counts counts) m es cs total (Count q) held = inl held
-  bag_held n (Counts counts) m es cs total (Add q) held = inl held
-  bag_held n (Counts counts) m es cs total (Take q) held = inl held
+  bag_held n (Total t) m es cs total (Count q) held = inl held
+  bag_held n (Total t) m es cs total (Add q) held = inl held
+  bag_held n (Total t) m es cs total (Take q) held = inl held
   bag_held n h m es cs total op held = absurd (true≢false (sym held))
 
   held_now : (n : ℕ) (h : Touched V) (s : Shown V) (es : FinMap nat_cmp (Option V)) (cs : FinMap nat_cmp ℕ) (total : Option ℕ)

@@ -5,11 +5,10 @@ use Rattle.std.specs.Prelude.{is_some}
 use Rattle.std.proofs.lemmas.Bool.{cond-false, cond-true}
 use Rattle.std.specs.Cmp.{nat_cmp_total}
 use Rattle.std.specs.Ordering.{nat_cmp, eq_by_cmp}
-use Rattle.std.specs.FinMap.{FinMap, empty, get, get-empty, get-insert, insert}
+use Rattle.std.specs.FinMap.{FinMap, empty, get, get-empty, get-insert, insert, len}
 use Rattle.seq_model.specs.declared.call.Op.{Op}
 use Rattle.seq_model.specs.declared.call.Op.TheVariants.{Get, Put, Remove, Len, Count, Add, Take}
 use Rattle.seq_model.specs.Counts.{Multiset}
-use Rattle.conflict.specs.Counts.{stripe_counts}
 use Rattle.conflict.specs.Places.{key_itself, none_some, same_key, some_same}
 use Rattle.replay_log.specs.declared.base.Base.{Base}
 use Rattle.replay_log.specs.declared.touch.Touch.{Touch}
@@ -19,7 +18,7 @@ use Rattle.replay_log.specs.Parts.{Kind, MapKind, BagKind, PqKind, QueueKind, ki
 use Rattle.replay_log.specs.Pieces as pieces
 use Rattle.replay_log.specs.Pieces.{Piece, is_piece, piece_of}
 use Rattle.replay_log.specs.Touches.{touched_by}
-use Rattle.shadow.specs.Memo.{MemoView, has_key, with_count, with_counts, with_entry, with_key, with_total}
+use Rattle.shadow.specs.Memo.{MemoView, has_key, with_count, with_entry, with_key, with_number, with_total}
 use Rattle.actor_copies.specs.declared.copies.Copied.{Copied}
 use Rattle.actor_copies.specs.declared.copies.Copied.TheVariants.{Keys, Whole}
 use Rattle.actor_copies.specs.declared.copies.Found.{Found}
@@ -85,22 +84,22 @@ module _ {V : Type 0} where
     count_takes x c pieces.Counts m = refl
     count_takes x c pieces.Whole m = refl
 
-    some_total : (ns : List ℕ) (o : Option ℕ) → is_some (with_counts ns o) ≡ true
-    some_total ns None = refl
-    some_total ns (Some t) = refl
+    some_total : (k : ℕ) (o : Option ℕ) → is_some (with_number k o) ≡ true
+    some_total k None = refl
+    some_total k (Some t) = refl
 
-    len_takes : (ns : List ℕ) (q : Piece) (m : FinMap nat_cmp V)
-        → piece_by (OfMap m) es cs (with_counts ns total) q ≡ cond (is_piece pieces.Counts q) true (piece_by (OfMap m) es cs total q)
-    len_takes ns (pieces.Entry j) m = refl
-    len_takes ns pieces.Counts m = some_total ns total
-    len_takes ns pieces.Whole m = refl
+    len_takes : (k : ℕ) (q : Piece) (m : FinMap nat_cmp V)
+        → piece_by (OfMap m) es cs (with_number k total) q ≡ cond (is_piece pieces.Counts q) true (piece_by (OfMap m) es cs total q)
+    len_takes k (pieces.Entry j) m = refl
+    len_takes k pieces.Counts m = some_total k total
+    len_takes k pieces.Whole m = refl
 
     takes : (op : Op V) (s : Shown V) (h : Touched V) (q : Piece) → touched_by n op s ≡ Some h → (z : Shown V) → kind_of z ≡ kind_of s
         → Takes op q h z
     takes (Get k) (OfMap m) h q e z kind = map_takes (Get k) q _ h e (λ l. entry_takes k _ q l) z kind
     takes (Put k v) (OfMap m) h q e z kind = map_takes (Put k v) q _ h e (λ l. entry_takes k _ q l) z kind
     takes (Remove k) (OfMap m) h q e z kind = map_takes (Remove k) q _ h e (λ l. entry_takes k _ q l) z kind
-    takes Len (OfMap m) h q e z kind = map_takes Len q _ h e (λ l. len_takes (stripe_counts n m) q l) z kind
+    takes Len (OfMap m) h q e z kind = map_takes Len q _ h e (λ l. len_takes (len m) q l) z kind
     takes (Count i) (OfBag m) h q e z kind = bag_takes (Count i) q _ h e (λ l. count_takes i _ q l) z kind
     takes (Add i) (OfBag m) h q e z kind = bag_takes (Add i) q _ h e (λ l. count_takes i _ q l) z kind
     takes (Take i) (OfBag m) h q e z kind = bag_takes (Take i) q _ h e (λ l. count_takes i _ q l) z kind

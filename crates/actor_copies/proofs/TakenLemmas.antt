@@ -12,7 +12,6 @@ use Rattle.seq_model.specs.declared.call.Reply.TheVariants.{Done, Full, No, Yes}
 use Rattle.seq_model.specs.declared.limits.TheConstants.{COPY_LIMIT}
 use Rattle.conflict.specs.declared.outcome.Note.TheVariants.{Plain}
 use Rattle.seq_model.specs.Counts.{Multiset, copies}
-use Rattle.conflict.specs.Counts.{stripe_counts}
 use Rattle.replay_log.proofs.EndingLemmas.{put_keeps}
 use Rattle.replay_log.proofs.PartLemmas.{whole_local}
 use Rattle.replay_log.proofs.ReadLemmas.{in_set}
@@ -41,7 +40,7 @@ use Rattle.replay_log.proofs.SetLemmas.{put_words}
 use Rattle.atomic_steps.specs.Bases.{IsBaseOf, ShowsBase}
 use Rattle.actor_words.specs.Shows.{put_back}
 use Rattle.actor_copies.specs.declared.copies.Copied.{Copied}
-use Rattle.std.specs.FinMap.{FinMap, get, get-insert, insert}
+use Rattle.std.specs.FinMap.{FinMap, get, get-insert, insert, len}
 use Rattle.std.specs.Ordering.{nat_cmp}
 use Rattle.seq_model.specs.declared.call.Op.{Op}
 use Rattle.conflict.specs.declared.change.Change.{Change}
@@ -53,8 +52,8 @@ use Rattle.replay_log.specs.declared.touch.Touched.{Touched}
 use Rattle.replay_log.specs.Touches.{editions_at, touched_by, touched_places}
 use Rattle.replay_log.specs.Pieces as pieces
 use Rattle.atomic_steps.specs.Bases.{log_changes, log_locations}
-use Rattle.shadow.specs.Memo.{IsCopyBy, MemoView, answer_with, entry_outcome, has_key, holds_with, with_count, with_counts, with_entry}
-use Rattle.shadow.specs.Memo.{with_key, with_total}
+use Rattle.shadow.specs.Memo.{IsCopyBy, MemoView, answer_with, entry_outcome, has_key, holds_with, with_count, with_entry}
+use Rattle.shadow.specs.Memo.{with_key, with_number, with_total}
 use Rattle.shadow.specs.Shadow.{ShadowView}
 use Rattle.actor_copies.specs.declared.copies.Found.{Found}
 use Rattle.actor_copies.specs.First.{IsFirst, memo_kind}
@@ -188,9 +187,9 @@ module _ {V : Type 0} where
     abbrev Holds : Op V → Touched V → Shown V → Type 0
     Holds op h z = holds_with z (with_entry h es) (with_count h cs) (with_total h total) op ≡ true
 
-    some_total : (ns : List ℕ) (o : Option ℕ) → is_some (with_counts ns o) ≡ true
-    some_total ns None = refl
-    some_total ns (Some t) = refl
+    some_total : (k : ℕ) (o : Option ℕ) → is_some (with_number k o) ≡ true
+    some_total k None = refl
+    some_total k (Some t) = refl
 
     learnt_map : (op : Op V) (g h : Touched V) → Some g ≡ Some h → ((m : FinMap nat_cmp V) → Holds op g (OfMap m)) → (z : Shown V)
         → kind_of z ≡ MapKind → Holds op h z
@@ -205,7 +204,7 @@ module _ {V : Type 0} where
     learnt_holds (Get k) (OfMap m) h e z kind = learnt_map (Get k) _ h e (λ q. has_itself es k (get m k)) z kind
     learnt_holds (Put k v) (OfMap m) h e z kind = learnt_map (Put k v) _ h e (λ q. has_itself es k (get m k)) z kind
     learnt_holds (Remove k) (OfMap m) h e z kind = learnt_map (Remove k) _ h e (λ q. has_itself es k (get m k)) z kind
-    learnt_holds Len (OfMap m) h e z kind = learnt_map Len _ h e (λ q. some_total (stripe_counts n m) total) z kind
+    learnt_holds Len (OfMap m) h e z kind = learnt_map Len _ h e (λ q. some_total (len m) total) z kind
     learnt_holds (Count i) (OfBag m) h e z kind = learnt_bag (Count i) _ h e (λ q. has_itself cs i (copies m i)) z kind
     learnt_holds (Add i) (OfBag m) h e z kind = learnt_bag (Add i) _ h e (λ q. has_itself cs i (copies m i)) z kind
     learnt_holds (Take i) (OfBag m) h e z kind = learnt_bag (Take i) _ h e (λ q. has_itself cs i (copies m i)) z kind

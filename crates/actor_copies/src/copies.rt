@@ -10,7 +10,7 @@ ghost use Rattle.actor_copies.specs.Copies.{locations_in};
 use crate::spares::Spares;
 use boxes::Boxed;
 use conflict::{Change, Outcome, Table};
-use replay_log::{Base, Log, Touch};
+use replay_log::{Base, LocationEditions, Log, Touch};
 use seq_model::{Memory, Op, Refusal, Value};
 use shadow::{Memo, Shadow};
 use std::alloc::Global;
@@ -59,21 +59,22 @@ impl<V: Value> Copied<V> {
     }
 
     /// Has from now on what was touched of its map or multiset as well, with the editions that it was touched with; what it has already
-    /// stays. One that is refused memory has what it had.
-    pub fn learn(&mut self, touch: Touch<V>) -> Result<(), Memory>
+    /// stays. One that is refused memory has what it had. Hands the list of these editions back, whose memory serves again.
+    pub fn learn(&mut self, touch: Touch<V>) -> Result<LocationEditions, Memory>
         ensures learnt { OnOk result (IsLearnt touch self.old self.new) }
         ensures err { OnErr result (IsKept self.old self.new) }
     {
+        let Touch { editions, held } = touch;
         match self {
-            Copied::Keys(memo, editions) => {
-                let editions = editions.get_mut();
-                editions.reserve(touch.editions.as_slice().len())?;
-                memo.get_mut().add(touch.held)?;
-                keep_editions(editions, touch.editions.as_slice());
+            Copied::Keys(memo, known) => {
+                let known = known.get_mut();
+                known.reserve(editions.as_slice().len())?;
+                memo.get_mut().add(held)?;
+                keep_editions(known, editions.as_slice());
             }
             Copied::Whole(_) => {}
         }
-        Ok(())
+        Ok(editions)
     }
 
     /// Has no more what the call touches, and takes so back what was learnt for a call that is not made. The editions that are known
@@ -175,7 +176,7 @@ pub enum Found<V> {
     Whole(Boxed<Shadow<V>>),
 }
 
-/// What the call touches of the base: of a map or a multiset its key, or the counts of all, and of the others the whole, in spare memory
+/// What the call touches of the base: of a map or a multiset its key, or the number of all, and of the others the whole, in spare memory
 /// where there is some. A call of another kind than a map or a multiset is refused there as NoSuch.
 pub fn find<V: Value>(
     spares: &mut Spares<V>,
@@ -186,7 +187,7 @@ pub fn find<V: Value>(
     ensures { IfOk result (λ found. IsFound base.now op.now found) }
 {
     Ok(match base {
-        Base::Map(_) | Base::Bag(_) => Found::Keys(base.touch(op)?),
+        Base::Map(_) | Base::Bag(_) => Found::Keys(spares.touch(base, op)?),
         Base::Pq(_) | Base::Queue(_) => Found::Whole(spares.whole(alloc, base)?),
     })
 }

@@ -30,7 +30,8 @@ fn first_touch<V: Value>(
 {
     let blank = spares.blank(alloc, stripes, memo_kind(&touch.held))?;
     let mut copied = Copied::Keys(blank.memo, blank.editions);
-    copied.learn(touch)?;
+    let editions = copied.learn(touch)?;
+    spares.keep_editions(editions);
     Ok(copied)
 }
 

@@ -1,15 +1,16 @@
 //! Memory that served a transaction at its seat, to serve the next one there.
-ghost use Rattle.std.specs.Prelude.{◌≡◌, ◌<◌, [], IfOk, IfSome, length};
+ghost use Rattle.std.specs.Prelude.{◌≡◌, ◌<◌, [], IfOk, IfSome, Some, length};
 ghost use Rattle.std.specs.FinMap as map;
 ghost use Rattle.replay_log.specs.Base.{editions_of, shown_of, stripes_of};
+ghost use Rattle.replay_log.specs.Touches.{editions_at, touched_by, touched_places};
 ghost use Rattle.actor_copies.specs.Copies.{changes_in, locations_in};
 ghost use Rattle.actor_copies.specs.First.{IsBlank};
 
 use crate::copies::{Copied, CopyOf};
 use boxes::Boxed;
 use conflict::Table;
-use replay_log::{Base, Log};
-use seq_model::{Memory, Refusal, Value};
+use replay_log::{Base, LocationEditions, Log, Touch};
+use seq_model::{Memory, Op, Refusal, Value};
 use shadow::{Memo, MemoKind, Shadow};
 use std::alloc::Global;
 use std::collections::VecDeque;
@@ -32,6 +33,7 @@ pub struct Spares<V> {
     logs: Vec<Log<V>>,
     left: VecDeque<(u32, u64)>,
     homes: VecDeque<u32>,
+    editions: LocationEditions,
 }
 
 impl<V> Model for Spares<V> {
@@ -51,6 +53,7 @@ impl<V: Drop> Spares<V> {
             logs: Vec::new(alloc),
             left: VecDeque::new(alloc),
             homes: VecDeque::new(alloc),
+            editions: LocationEditions::new(alloc),
         }
     }
 
@@ -149,6 +152,13 @@ impl<V: Drop> Spares<V> {
     pub fn keep_homes(&mut self, homes: VecDeque<u32>) {
         self.homes = homes;
     }
+
+    /// Keeps the memory of editions that were learnt, where they took some.
+    pub(crate) fn keep_editions(&mut self, editions: LocationEditions) {
+        if editions.as_slice().len() > 1 {
+            self.editions = editions;
+        }
+    }
 }
 
 impl<V: Value> Spares<V> {
@@ -175,6 +185,15 @@ impl<V: Value> Spares<V> {
             }
             None => first_spare(alloc, stripes, kind),
         }
+    }
+
+    /// What the call touches of a map or a multiset, in kept memory where there is some. Another call is refused as NoSuch.
+    pub(crate) fn touch(&mut self, base: &Base<V>, op: &Op<V>) -> Result<Touch<V>, Refusal>
+        ensures editions { IfOk result (λ touch. touch.editions
+            ≡ editions_at (touched_places (stripes_of base.now) touch.held) (editions_of base.now)) }
+        ensures held { IfOk result (λ touch. touched_by (stripes_of base.now) op.now (shown_of base.now) ≡ Some touch.held) }
+    {
+        base.touch(op, &mut self.editions)
     }
 
     /// A copy of the base, in kept memory where there is some. The calls that its shadow has are of no meaning.

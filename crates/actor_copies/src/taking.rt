@@ -77,14 +77,22 @@ fn fits_outcome<V: Value>(
 }
 
 /// The copy has what was found besides. A whole collection that is copied already has all.
-fn add<V: Value>(copied: &mut Copied<V>, found: Found<V>) -> Result<(), Memory>
+fn add<V: Value>(
+    copied: &mut Copied<V>,
+    spares: &mut Spares<V>,
+    found: Found<V>,
+) -> Result<(), Memory>
     ensures ok { OnOk result (IsAdded found copied.old copied.new) }
     ensures err { OnErr result (IsKept copied.old copied.new) }
 {
     match found {
-        Found::Keys(touch) => copied.learn(touch),
-        Found::Whole(_) => Ok(()),
+        Found::Keys(touch) => {
+            let editions = copied.learn(touch)?;
+            spares.keep_editions(editions);
+        }
+        Found::Whole(_) => {}
     }
+    Ok(())
 }
 
 // Room for one copy more, and to keep its memory once it goes.
@@ -134,7 +142,7 @@ pub fn take<V: Value>(
 {
     match place_of(copies, collection) {
         Some(place) => {
-            match add(&mut copies[place].copied, found) {
+            match add(&mut copies[place].copied, spares, found) {
                 Ok(()) => Ok(place),
                 Err(_) => Err(Memory),
             }

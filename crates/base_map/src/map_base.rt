@@ -5,7 +5,6 @@ ghost use Rattle.std.specs.Vec.{vec_capacity};
 ghost use Rattle.std.specs.FinMap as map;
 ghost use Rattle.seq_model.specs.Calls.{IsRefusal, value_reply};
 ghost use Rattle.conflict.specs.Rules.{applied};
-ghost use Rattle.conflict.specs.Counts.{stripe_counts};
 ghost use Rattle.conflict.specs.Footprints.{key_place};
 ghost use Rattle.conflict.specs.Editions.{raised};
 ghost use Rattle.conflict.specs.Refusals.{IsTooLong, IsNoSuchOrTooLong, IsStripeCount};
@@ -118,7 +117,7 @@ impl<V: Value> MapBase<V> {
     {
         let reply = match op {
             Op::Get(key) | Op::Put(key, _) | Op::Remove(key) => self.value_at(*key)?,
-            Op::Len => Reply::Number(self.table.len() as u64),
+            Op::Len => Reply::Number(self.len() as u64),
             _ => return Err(Refusal::NoSuch),
         };
         let op = op.try_copy()?;
@@ -152,11 +151,11 @@ impl<V: Value> MapBase<V> {
         self.editions.allocator()
     }
 
-    /// How many keys lie on each stripe.
-    pub fn counts(&self) -> Result<Items<u64>, Memory>
-        ensures { IfOk result (λ counts. counts ≡ stripe_counts self.now.stripes self.now.shown) }
+    /// The number of keys.
+    pub fn len(&self) -> usize
+        ensures { result ≡ map.len self.now.shown }
     {
-        self.table.counts(self.stripes)
+        self.table.len()
     }
 
     pub fn stripes(&self) -> u32

@@ -1,5 +1,5 @@
 -- What a transaction copies of a collection for a call. Of a map and a multiset it copies single keys, and for the number of all keys the
--- counts of all stripes; of a priority queue and a queue the whole.
+-- number itself; of a priority queue and a queue the whole.
 use Rattle.std.specs.Prelude.{ℕ, ◌+◌, ◌==◌, Bool, true, false, List, Option, Some, None}
 use Rattle.seq_model.specs.declared.call.Op.{Op}
 use Rattle.seq_model.specs.declared.call.Op.TheVariants.{Get, Put, Remove, Count, Add, Take}

@@ -38,6 +38,13 @@ impl LocationEditions {
         LocationEditions { entries }
     }
 
+    /// No location any more. The memory stays.
+    pub fn clear(&mut self)
+        ensures { self.new ≡ [] }
+    {
+        self.entries.clear();
+    }
+
     pub fn push(&mut self, entry: (u32, u64)) -> Result<(), Memory>
         ensures ok { OnOk result (self.new ≡ self.old ++ entry ∷ []) }
         ensures err { OnErr result (self.new ≡ self.old) }

@@ -1,4 +1,4 @@
-//! What a transaction copies of a map or a multiset for a call: a key, or the counts of all stripes.
+//! What a transaction copies of a map or a multiset for a call: a key, or the number of all.
 ghost use Rattle.std.specs.Prelude.{◌≡◌, Some, None, IfOk, IfErr};
 ghost use Rattle.seq_model.specs.Calls.{IsRefusal};
 ghost use Rattle.seq_model.specs.declared.call.Op.TheVariants.{Len};
@@ -9,7 +9,8 @@ ghost use Rattle.replay_log.specs.Touches.{editions_at, touched_by, touched_plac
 use crate::location_editions::LocationEditions;
 use base_bag::BagBase;
 use base_map::MapBase;
-use seq_model::{Items, Memory, Op, Refusal, Value};
+use seq_model::{Memory, Op, Refusal, Value};
+use std::mem;
 
 /// What is copied.
 #[derive(Drop)]
@@ -18,8 +19,8 @@ pub enum Touched<V> {
     Entry(u64, Option<V>),
     /// In a multiset, the element with the number of its copies.
     Copies(u64, u64),
-    /// Of a map, the number of keys on each stripe.
-    Counts(Items<u64>),
+    /// Of a map, the number of its keys.
+    Total(u64),
 }
 
 /// What is copied, with the editions of the locations that it was copied from.
@@ -29,7 +30,11 @@ pub struct Touch<V> {
     pub held: Touched<V>,
 }
 
-pub(crate) fn touch_map<V: Value>(base: &MapBase<V>, op: &Op<V>) -> Result<Touch<V>, Refusal>
+pub(crate) fn touch_map<V: Value>(
+    base: &MapBase<V>,
+    op: &Op<V>,
+    lent: &mut LocationEditions,
+) -> Result<Touch<V>, Refusal>
     ensures editions { IfOk result
         (λ touch. touch.editions ≡ editions_at (touched_places base.now.stripes touch.held) base.now.editions) }
     ensures held { IfOk result (λ touch. touched_by base.now.stripes op.now (OfMap base.now.shown) ≡ Some touch.held) }
@@ -37,7 +42,7 @@ pub(crate) fn touch_map<V: Value>(base: &MapBase<V>, op: &Op<V>) -> Result<Touch
 {
     let key = match op {
         Op::Get(key) | Op::Put(key, _) | Op::Remove(key) => *key,
-        Op::Len => return Ok(touch_counts(base)?),
+        Op::Len => return Ok(touch_total(base, lent)?),
         _ => return Err(Refusal::NoSuch),
     };
     let location = base.place(key);
@@ -46,20 +51,24 @@ pub(crate) fn touch_map<V: Value>(base: &MapBase<V>, op: &Op<V>) -> Result<Touch
     Ok(Touch { editions, held })
 }
 
-fn touch_counts<V: Value>(base: &MapBase<V>) -> Result<Touch<V>, Memory>
+fn touch_total<V: Value>(base: &MapBase<V>, lent: &mut LocationEditions) -> Result<Touch<V>, Memory>
     ensures editions { IfOk result
         (λ touch. touch.editions ≡ editions_at (touched_places base.now.stripes touch.held) base.now.editions) }
     ensures held { IfOk result (λ touch. touched_by base.now.stripes Len (OfMap base.now.shown) ≡ Some touch.held) }
 {
-    let editions = all_editions(base)?;
-    let held = Touched::Counts(base.counts()?);
+    let editions = all_editions(base, lent)?;
+    let held = Touched::Total(base.len() as u64);
     Ok(Touch { editions, held })
 }
 
-fn all_editions<V: Value>(base: &MapBase<V>) -> Result<LocationEditions, Memory>
+fn all_editions<V: Value>(
+    base: &MapBase<V>,
+    lent: &mut LocationEditions,
+) -> Result<LocationEditions, Memory>
     ensures { IfOk result (λ editions. editions ≡ editions_at (all_below base.now.stripes) base.now.editions) }
 {
-    let mut editions = LocationEditions::new(base.allocator());
+    let mut editions = mem::replace(lent, LocationEditions::new(base.allocator()));
+    editions.clear();
     for location in 0..base.stripes() {
         editions.push((location, base.edition(location)))?;
     }

@@ -13,8 +13,6 @@ use Rattle.seq_model.specs.Calls.{value_reply}
 use Rattle.seq_model.specs.Counts.{Multiset, copies}
 use Rattle.conflict.specs.declared.change.Change.{Change}
 use Rattle.conflict.specs.declared.outcome.Outcome.{Outcome}
-use Rattle.conflict.specs.Counts.{stripe_counts}
-use Rattle.conflict.proofs.CountLemmas.{counts_all}
 use Rattle.conflict.specs.Places.{key_itself, some_same, none_some}
 use Rattle.conflict.specs.Rules.{applied}
 use Rattle.base_map.specs.Conflicts as map
@@ -24,9 +22,9 @@ use Rattle.replay_log.specs.Parts.{MapKind, BagKind, PqKind, QueueKind}
 use Rattle.replay_log.specs.declared.touch.Touched.{Touched}
 use Rattle.replay_log.specs.Touches.{touched_by}
 use Rattle.shadow.specs.Memo.{IsAlike, IsCopyBy, IsCountedBy, IsOfBy, answer_with, copies_kept, entries_after, entries_kept, grown_kept}
-use Rattle.shadow.specs.Memo.{has_key, holds_with, shrunk_kept, with_count, with_counts, with_entry, with_key, with_total}
+use Rattle.shadow.specs.Memo.{has_key, holds_with, shrunk_kept, with_count, with_entry, with_key, with_number, with_total}
 use Rattle.shadow.proofs.MemoLemmas.{accepted, accepted_holds, answered, entries_same, entry_accepted, learnt, new_map, nothing_known}
-use Rattle.shadow.proofs.LengthLemmas.{counted_accepted, len_answered, summed}
+use Rattle.shadow.proofs.LengthLemmas.{counted_accepted, len_answered, totalled}
 
 -- ---- keys held
 module _ {A : Type 0} (known : FinMap nat_cmp A) (k : ℕ) (a : A) where
@@ -49,9 +47,9 @@ module _ {A : Type 0} (known : FinMap nat_cmp A) (k : ℕ) (a : A) where
       at true e = e
       at false e = ap is_some (get-insert nat_cmp_total known k a k ∙ ap (λ t. cond t (Some a) (get known k)) (key_itself k))
 
-some_counts : (ns : List ℕ) (total : Option ℕ) → is_some (with_counts ns total) ≡ true
-some_counts ns None = refl
-some_counts ns (Some t) = refl
+some_number : (n : ℕ) (total : Option ℕ) → is_some (with_number n total) ≡ true
+some_number n None = refl
+some_number n (Some t) = refl
 
 module _ {V : Type 0} where
   pub value_same : (o p : Option V) → value_reply o ≡ value_reply p → o ≡ p
@@ -103,13 +101,13 @@ module _ {V : Type 0} where
     more_count b x n (Take q) held = holds_others cs x n q held
     more_count b x n _ held = held
 
-    more_total : (b : FinMap nat_cmp V) (ns : List ℕ) (op : Op V) → holds_with (OfMap b) es cs total op ≡ true
-        → holds_with (OfMap b) es cs (with_counts ns total) op ≡ true
-    more_total b ns (Get q) held = held
-    more_total b ns (Put q v) held = held
-    more_total b ns (Remove q) held = held
-    more_total b ns Len held = some_counts ns total
-    more_total b ns _ held = held
+    more_total : (b : FinMap nat_cmp V) (n : ℕ) (op : Op V) → holds_with (OfMap b) es cs total op ≡ true
+        → holds_with (OfMap b) es cs (with_number n total) op ≡ true
+    more_total b n (Get q) held = held
+    more_total b n (Put q v) held = held
+    more_total b n (Remove q) held = held
+    more_total b n Len held = some_number n total
+    more_total b n _ held = held
 
   module _ (g h : ℕ) (changes : List (Change V)) where
     entry_copied : (b m : FinMap nat_cmp V) (es : FinMap nat_cmp (Option V)) (cs : FinMap nat_cmp ℕ) (total : Option ℕ) (k : ℕ)
@@ -136,17 +134,17 @@ module _ {V : Type 0} where
     count_copied b m es cs total x is (OfPq t) alike = absurd (let z : PqKind ≡ BagKind = alike.0 in let y : ⊥ = cc in y)
     count_copied b m es cs total x is (OfQueue t) alike = absurd (let z : QueueKind ≡ BagKind = alike.0 in let y : ⊥ = cc in y)
 
-    counts_copied : (b m : FinMap nat_cmp V) (es : FinMap nat_cmp (Option V)) (cs : FinMap nat_cmp ℕ) (total : Option ℕ) (n : ℕ) → 0 < n
+    total_copied : (b m : FinMap nat_cmp V) (es : FinMap nat_cmp (Option V)) (cs : FinMap nat_cmp ℕ) (total : Option ℕ)
         → IsCopyBy (OfMap b) es cs total g h changes (OfMap m)
-        → IsCopyBy (OfMap b) es cs (with_counts (stripe_counts n m) total) g h changes (OfMap m)
-    counts_copied b m es cs total n pos is (OfMap t) alike =
-        let both = is (OfMap t) (alike.0, λ op held. alike.1 op (more_total es cs total b (stripe_counts n m) op held)) in
-        let here = alike.1 Len (some_counts (stripe_counts n m) total) in
+        → IsCopyBy (OfMap b) es cs (with_number (len m) total) g h changes (OfMap m)
+    total_copied b m es cs total is (OfMap t) alike =
+        let both = is (OfMap t) (alike.0, λ op held. alike.1 op (more_total es cs total b (len m) op held)) in
+        let here = alike.1 Len (some_number (len m) total) in
         let same : len t ≡ len m = number_same _ _ (ap (λ (o : Outcome V). o.reply) (some_same _ _ here)) in
-        (both.0, summed (stripe_counts n m) total g h t (applied (map.rules V) changes t) (same ∙ sym (counts_all n pos m)) both.1)
-    counts_copied b m es cs total n pos is (OfBag t) alike = absurd (let z : BagKind ≡ MapKind = alike.0 in let y : ⊥ = cc in y)
-    counts_copied b m es cs total n pos is (OfPq t) alike = absurd (let z : PqKind ≡ MapKind = alike.0 in let y : ⊥ = cc in y)
-    counts_copied b m es cs total n pos is (OfQueue t) alike = absurd (let z : QueueKind ≡ MapKind = alike.0 in let y : ⊥ = cc in y)
+        (both.0, totalled (len m) total g h t (applied (map.rules V) changes t) same both.1)
+    total_copied b m es cs total is (OfBag t) alike = absurd (let z : BagKind ≡ MapKind = alike.0 in let y : ⊥ = cc in y)
+    total_copied b m es cs total is (OfPq t) alike = absurd (let z : PqKind ≡ MapKind = alike.0 in let y : ⊥ = cc in y)
+    total_copied b m es cs total is (OfQueue t) alike = absurd (let z : QueueKind ≡ MapKind = alike.0 in let y : ⊥ = cc in y)
 
     abbrev With : Shown V → FinMap nat_cmp (Option V) → FinMap nat_cmp ℕ → Option ℕ → Shown V → Touched V → Type 0
     With b es cs total s t = IsCopyBy b (with_entry t es) (with_count t cs) (with_total t total) g h changes s
@@ -162,7 +160,7 @@ module _ {V : Type 0} where
     touched_map n (Remove k) t b m es cs total pos e is = subst (With (OfMap b) es cs total (OfMap m)) (some_same _ t e)
         (entry_copied b m es cs total k is)
     touched_map n Len t b m es cs total pos e is = subst (With (OfMap b) es cs total (OfMap m)) (some_same _ t e)
-        (counts_copied b m es cs total n pos is)
+        (total_copied b m es cs total is)
     touched_map n _ t b m es cs total pos e is = absurd (none_some t e)
 
     touched_bag : (n : ℕ) (op : Op V) (t : Touched V) (b m : Multiset) (es : FinMap nat_cmp (Option V)) (cs : FinMap nat_cmp ℕ)

@@ -1,10 +1,9 @@
 -- The number of keys of a map after the accepted changes: each change makes one key new to it, takes one out, or neither, and the reply
--- of its call says which. With the counts of its stripes, which add up to the number of its keys, that is its length.
+-- of its call says which. With the number that there was before, that is its length.
 use Rattle.std.proofs.Common.{◌≡◌, ℕ, zero, suc, ◌+◌, ◌-◌, ◌++◌, ◌<◌, true, cond, List, Option, Some, None, is_some, unwrap_or, refl, sym}
 use Rattle.std.proofs.Common.{ap, subst, ◌∙◌, arith, true≢false}
 use Rattle.std.specs.Cmp.{nat_cmp_total}
 use Rattle.std.specs.Ordering.{nat_cmp}
-use Rattle.std.specs.List.{sum}
 use Rattle.std.specs.FinMap.{FinMap, empty_of_len, get, get-empty, insert, len, len-insert, len-remove, remove}
 use Rattle.seq_model.specs.declared.call.Op.{Op}
 use Rattle.seq_model.specs.declared.call.Op.TheVariants.{Put, Remove, Len}
@@ -14,16 +13,14 @@ use Rattle.seq_model.specs.Calls.{value_reply}
 use Rattle.conflict.specs.declared.change.Change.{Change}
 use Rattle.conflict.specs.declared.outcome.Outcome.{Outcome}
 use Rattle.conflict.specs.declared.outcome.Note.TheVariants.{Plain}
-use Rattle.conflict.specs.Counts.{stripe_counts}
-use Rattle.conflict.proofs.CountLemmas.{counts_all}
 use Rattle.conflict.specs.Places.{some_same, none_some}
 use Rattle.conflict.specs.Rules.{applied}
 use Rattle.base_map.specs.Conflicts as map
 use Rattle.replay_log.specs.Base.{Shown, OfMap, OfBag, OfPq, OfQueue, after, changes_of, outcome_of}
 use Rattle.replay_log.specs.declared.touch.Touched.{Touched}
-use Rattle.replay_log.specs.declared.touch.Touched.TheVariants.{Entry, Copies, Counts}
+use Rattle.replay_log.specs.declared.touch.Touched.TheVariants.{Entry, Copies, Total}
 use Rattle.shadow.specs.Memo.{IsCounted, IsCountedBy, IsShown, answer_with, grown_after, grown_kept, holds_with, len_outcome, shrunk_after}
-use Rattle.shadow.specs.Memo.{shrunk_kept, with_counts, with_total}
+use Rattle.shadow.specs.Memo.{shrunk_kept, with_number, with_total}
 use Rattle.shadow.proofs.MemoLemmas.{held_some, map_next}
 
 one_more : (a n h before g : ℕ) → a ≡ n + 1 → n + h ≡ before + g → a + h ≡ before + suc g
@@ -103,20 +100,16 @@ module _ {V : Type 0} where
   counted_accepted o (OfPq b) s total g h changes e is = tt
   counted_accepted o (OfQueue b) s total g h changes e is = tt
 
-  -- ---- the counts of all stripes
-  pub summed : (cs : List ℕ) (total : Option ℕ) (g h : ℕ) (m now : FinMap nat_cmp V) → len m ≡ sum cs → IsCounted total g h m now
-      → IsCounted (with_counts cs total) g h m now
-  summed cs None g h m now e is = (is.0, λ t given. e ∙ some_same _ t given)
-  summed cs (Some t) g h m now e is = is
-
-  totalled : (n : ℕ) (cs : List ℕ) (total : Option ℕ) (g h : ℕ) (m now : FinMap nat_cmp V) → 0 < n → cs ≡ stripe_counts n m
-      → IsCounted total g h m now → IsCounted (with_counts cs total) g h m now
-  totalled n cs total g h m now pos e is = summed cs total g h m now (sym (counts_all n pos m) ∙ ap sum (sym e)) is
+  -- ---- the number of all keys
+  pub totalled : (n : ℕ) (total : Option ℕ) (g h : ℕ) (m now : FinMap nat_cmp V) → len m ≡ n → IsCounted total g h m now
+      → IsCounted (with_number n total) g h m now
+  totalled n None g h m now e is = (is.0, λ t given. e ∙ some_same _ t given)
+  totalled n (Some t) g h m now e is = is
 
   pub counted_added : (n : ℕ) (t : Touched V) (b s : Shown V) (total : Option ℕ) (g h : ℕ) (changes : List (Change V))
       → 0 < n → IsCountedBy b total g h changes s → IsShown n t s → IsCountedBy b (with_total t total) g h changes s
-  counted_added n (Counts cs) (OfMap b) (OfMap m) total g h changes pos is shown =
-      totalled n cs total g h m (applied (map.rules V) changes m) pos shown is
+  counted_added n (Total t) (OfMap b) (OfMap m) total g h changes pos is shown =
+      totalled t total g h m (applied (map.rules V) changes m) shown is
   counted_added n (Entry k o) (OfMap b) (OfMap m) total g h changes pos is shown = is
   counted_added n (Copies x c) (OfMap b) (OfMap m) total g h changes pos is shown = is
   counted_added n t (OfMap b) (OfBag m) total g h changes pos is shown = absurd is

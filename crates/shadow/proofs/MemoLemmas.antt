@@ -27,7 +27,7 @@ use Rattle.base_pq.specs.Conflicts as pq
 use Rattle.base_queue.specs.Conflicts as queue
 use Rattle.replay_log.specs.Base.{Shown, OfMap, OfBag, OfPq, OfQueue, after, changes_of, outcome_of}
 use Rattle.replay_log.specs.declared.touch.Touched.{Touched}
-use Rattle.replay_log.specs.declared.touch.Touched.TheVariants.{Entry, Copies, Counts}
+use Rattle.replay_log.specs.declared.touch.Touched.TheVariants.{Entry, Copies, Total}
 use Rattle.replay_log.specs.Touches.{touched_by}
 use Rattle.shadow.specs.Memo.{IsKnown, IsOfBy, IsShown, has_key, with_key, with_entry, with_count, holds_by, entry_outcome, known_entry}
 use Rattle.shadow.specs.Memo.{map_answer, counted_up, copies_after, entries_after, answer_by, entries_kept, copies_kept}
@@ -325,7 +325,7 @@ module _ {V : Type 0} where
   added n (Copies x c) (OfMap b) s es cs changes is shown = is
   added n (Copies x c) (OfPq b) s es cs changes is shown = absurd is
   added n (Copies x c) (OfQueue b) s es cs changes is shown = absurd is
-  added n (Counts ns) b s es cs changes is shown = is
+  added n (Total t) b s es cs changes is shown = is
 
   -- ---- what a base gives to be held
   shown_map : (n : ℕ) (op : Op V) (m : FinMap nat_cmp V) (t : Touched V) → touched_by n op (OfMap m) ≡ Some t → IsShown n t (OfMap m)

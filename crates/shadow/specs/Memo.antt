@@ -2,7 +2,6 @@
 use Rattle.std.specs.Prelude.{◌≡◌, ℕ, suc, ◌+◌, ◌-◌, ◌^◌, ◌<◌, ◌≤◌, ⊤, length, Bool, true, false, List, Option, Some, None, is_some, nat_lt}
 use Rattle.std.specs.Prelude.{option_to_list, replicate, unwrap_or, if◌then◌else◌}
 use Rattle.std.specs.Ordering.{nat_cmp}
-use Rattle.std.specs.List.{sum}
 use Rattle.std.specs.FinMap.{FinMap, empty, get, insert, len, remove}
 use Rattle.seq_model.specs.declared.call.Op.{Op}
 use Rattle.seq_model.specs.declared.call.Op.TheVariants.{Get, Put, Remove, Len, Count, Add, Take}
@@ -14,7 +13,6 @@ use Rattle.seq_model.specs.Counts.{copies}
 use Rattle.conflict.specs.declared.change.Change.{Change}
 use Rattle.conflict.specs.declared.outcome.Outcome.{Outcome}
 use Rattle.conflict.specs.declared.outcome.Note.TheVariants.{Plain}
-use Rattle.conflict.specs.Counts.{stripe_counts}
 use Rattle.conflict.specs.Rules.{applied}
 use Rattle.base_map.specs.Conflicts as map
 use Rattle.base_bag.specs.Conflicts as bag
@@ -23,7 +21,7 @@ use Rattle.replay_log.specs.declared.base.Base.TheVariants as base
 use Rattle.replay_log.specs.Base.{Shown, OfMap, OfBag, changes_of, outcome_of, shown_of, stripes_of, writes_of}
 use Rattle.replay_log.specs.Parts.{kind_of}
 use Rattle.replay_log.specs.declared.touch.Touched.{Touched}
-use Rattle.replay_log.specs.declared.touch.Touched.TheVariants.{Entry, Copies, Counts}
+use Rattle.replay_log.specs.declared.touch.Touched.TheVariants.{Entry, Copies, Total}
 use Rattle.shadow.specs.declared.memo.MemoKind.{MemoKind}
 use Rattle.shadow.specs.declared.memo.MemoKind.TheVariants as kind
 use Rattle.replay_log.specs.Log.{LogView}
@@ -56,10 +54,10 @@ counted_up n = if nat_lt n COPY_LIMIT then suc n else n
 abbrev pub with_key : {A : Type 0} → FinMap nat_cmp A → ℕ → A → FinMap nat_cmp A
 with_key known k a = if has_key known k then known else insert known k a
 
--- with the counts of all stripes; a total that is held stays
-abbrev pub with_counts : List ℕ → Option ℕ → Option ℕ
-with_counts cs None = Some (sum cs)
-with_counts cs (Some total) = Some total
+-- with the number of all keys; a total that is held stays
+abbrev pub with_number : ℕ → Option ℕ → Option ℕ
+with_number n None = Some n
+with_number n (Some total) = Some total
 
 -- a total is one that a memory could hold
 abbrev pub IsTold : Option ℕ → Type 0
@@ -109,7 +107,7 @@ module _ {V : Type 0} where
   with_count t cs = cs
 
   abbrev pub with_total : Touched V → Option ℕ → Option ℕ
-  with_total (Counts cs) total = with_counts cs total
+  with_total (Total n) total = with_number n total
   with_total t total = total
 
   -- without what a call touches
@@ -132,7 +130,7 @@ module _ {V : Type 0} where
   -- what was touched is what the collection shows there, in n stripes
   abbrev pub IsShown : ℕ → Touched V → Shown V → Type 0
   IsShown n (Entry k o) (OfMap m) = get m k ≡ o
-  IsShown n (Counts cs) (OfMap m) = cs ≡ stripe_counts n m
+  IsShown n (Total t) (OfMap m) = len m ≡ t
   IsShown n (Copies x c) (OfBag m) = copies m x ≡ c
   IsShown n t s = ⊥
 

@@ -44,7 +44,7 @@ pub fn memos<V: Value>()
         holds_by b es cs o.op ≡ true → holds_by b (entries_kept b o es) (copies_kept b o cs) op ≡ holds_by b es cs op }
 {}
 
-/// A memo of a map knows by how many keys the accepted calls made it grow and shrink, and with the counts of its stripes, which may be
+/// A memo of a map knows by how many keys the accepted calls made it grow and shrink, and with the number of keys, which may be
 /// touched before or after them, how many there were before. It is so with no key, and stays so as it holds what was touched of that
 /// map, and with each acceptance of a call that has the outcome that it has there. Its answer on the number of all keys, where
 /// that is held, is then that map's after the accepted changes.

@@ -2,7 +2,6 @@
 ghost use Rattle.std.specs.Prelude.{◌≡◌, ◌<◌, ◌≤◌, ◌++◌, ◌^◌, ◌+◌, ◌-◌, [], ◌∷◌, Some, None, length, option_to_list, unwrap_or};
 ghost use Rattle.std.specs.Prelude.{IfOk, IfErr, IfSome, IsSome, OnOk, OnErr};
 ghost use Rattle.std.specs.FinMap as map;
-ghost use Rattle.std.specs.List.{sum};
 ghost use Rattle.seq_model.specs.Calls.{IsRefusal};
 ghost use Rattle.seq_model.specs.Counts.{copies};
 ghost use Rattle.seq_model.specs.declared.call.Op.TheVariants.{Remove};
@@ -14,7 +13,7 @@ ghost use Rattle.replay_log.specs.Base.{changes_of, reads_of, shown_of, stripes_
 ghost use Rattle.shadow.specs.KeyPlace.{written_there};
 ghost use Rattle.shadow.specs.Memo.{HasPlace, IsReadyFor, answer_with, blank_of, copies_after, copies_kept, copies_without, entries_after, entries_kept};
 ghost use Rattle.shadow.specs.Memo.{entries_without, grown_after, grown_kept, holds, kind_room, map_answer, shape, shrunk_after};
-ghost use Rattle.shadow.specs.Memo.{shrunk_kept, total_without, with_count, with_counts, with_entry, with_key, with_total, IsTold};
+ghost use Rattle.shadow.specs.Memo.{shrunk_kept, total_without, with_count, with_entry, with_key, with_number, with_total, IsTold};
 
 use conflict::{Change, LocSet, Note, Outcome, Table, is_stripe_count};
 use replay_log::{Log, Touched};
@@ -41,7 +40,7 @@ pub struct KeyPlace {
 }
 
 /// The keys that were touched, with what they have after the changes of the accepted calls, and the log of these. Of a map also the
-/// number of its keys, where the counts of its stripes were touched, and by how many the accepted calls made it grow and shrink.
+/// number of its keys, where that was touched, and by how many the accepted calls made it grow and shrink.
 #[derive(Drop)]
 pub struct Memo<V> {
     kind: MemoKind,
@@ -188,7 +187,7 @@ impl<V: Value> Memo<V> {
         Ok(())
     }
 
-    /// Whether the key of the call is held, or for the number of all keys their counts. It takes no memory.
+    /// Whether the key of the call is held, or the number of all. It takes no memory.
     pub fn holds(&self, op: &Op<V>) -> bool
         ensures { result ≡ holds self.now op.now }
     {
@@ -204,7 +203,7 @@ impl<V: Value> Memo<V> {
         }
     }
 
-    /// Holds from now on a key that was touched, or the counts of all; what is held stays as it is. A memo that is refused memory stays
+    /// Holds from now on a key that was touched, or the number of all; what is held stays as it is. A memo that is refused memory stays
     /// as it was.
     pub fn add(&mut self, held: Touched<V>) -> Result<(), Memory>
         ensures blank { self.new.blank ≡ self.old.blank }
@@ -222,11 +221,11 @@ impl<V: Value> Memo<V> {
         match held {
             Touched::Entry(key, value) => hold(&mut self.entries, key, value),
             Touched::Copies(element, copies) => hold(&mut self.copies, element, copies),
-            Touched::Counts(counts) => hold_total(&mut self.total, &counts),
+            Touched::Total(number) => hold_total(&mut self.total, number),
         }
     }
 
-    /// Holds no more the key of the call, or for the number of all keys their counts: takes back what was added for a call that is not made.
+    /// Holds no more the key of the call, or the number of all: takes back what was added for a call that is not made.
     /// It takes no memory.
     pub fn forget(&mut self, op: &Op<V>)
         ensures blank { self.new.blank ≡ self.old.blank }
@@ -554,30 +553,19 @@ fn hold<A: Drop>(known: &mut Table<A>, key: u64, value: A) -> Result<(), Memory>
     Ok(())
 }
 
-fn hold_total(total: &mut Option<u64>, counts: &Items<u64>) -> Result<(), Memory>
-    ensures ok { OnOk result (total.new ≡ with_counts counts.now total.old) }
+// More keys than a memory can hold are refused.
+fn hold_total(total: &mut Option<u64>, number: u64) -> Result<(), Memory>
+    ensures ok { OnOk result (total.new ≡ with_number number total.old) }
     ensures err { OnErr result (total.new ≡ total.old) }
     ensures small { IsTold total.old → IsTold total.new }
 {
     if total.is_none() {
-        *total = Some(sum_of(counts)?);
+        if number >= KEY_LIMIT {
+            return Err(Memory);
+        }
+        *total = Some(number);
     }
     Ok(())
-}
-
-// How many keys there are by these counts. More than a memory can hold are refused.
-fn sum_of(counts: &Items<u64>) -> Result<u64, Memory>
-    ensures sum { IfOk result (λ total. total ≡ sum counts.now) }
-    ensures small { IfOk result (λ total. total < 2 ^ 63) }
-{
-    let mut total: u64 = 0;
-    for count in counts.as_slice() {
-        total = total.checked_add(*count).ok_or(Memory)?;
-    }
-    if total >= KEY_LIMIT {
-        return Err(Memory);
-    }
-    Ok(total)
 }
 
 fn entry_outcome<V: Value>(

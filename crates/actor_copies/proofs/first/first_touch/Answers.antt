@@ -10,5 +10,5 @@ returns g c =
       editions = blank.editions;
       blank = subst (λ k. IsBlank c.args.stripes k blank.memo) c.memo_kind.ensures c.in_ok-blank.ensures.memo;
       none = c.in_ok-blank.ensures.editions;
-      learnt = c.in_ok-learn.ensures.learnt;
+      learnt = c.in_ok-editions.ensures.learnt;
     }
