@@ -9,4 +9,3 @@ pub mod Commute
 pub mod Places
 pub mod Multisets
 pub mod Editions
-pub mod Counts
