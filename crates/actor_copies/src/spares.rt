@@ -153,9 +153,9 @@ impl<V: Drop> Spares<V> {
         self.homes = homes;
     }
 
-    /// Keeps the memory of editions that were learnt, where they took some.
+    /// Keeps the memory of editions that were learnt, where it is more than what is kept.
     pub(crate) fn keep_editions(&mut self, editions: LocationEditions) {
-        if editions.as_slice().len() > 1 {
+        if editions.capacity() > self.editions.capacity() {
             self.editions = editions;
         }
     }

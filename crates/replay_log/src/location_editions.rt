@@ -1,5 +1,5 @@
 //! Locations, each with an edition.
-ghost use Rattle.std.specs.Prelude.{◌≡◌, ◌++◌, ◌∷◌, [], OnErr, OnOk, length};
+ghost use Rattle.std.specs.Prelude.{◌≡◌, ◌≤◌, ◌++◌, ◌∷◌, [], OnErr, OnOk, length};
 
 use seq_model::Memory;
 use smallvec::SmallVec;
@@ -36,6 +36,13 @@ impl LocationEditions {
         let mut entries = SmallVec::new(alloc);
         entries.push_reserved((location, edition));
         LocationEditions { entries }
+    }
+
+    /// For how many locations there is memory: for one at least.
+    pub fn capacity(&self) -> usize
+        ensures { 1 ≤ result }
+    {
+        self.entries.capacity()
     }
 
     /// No location any more. The memory stays.
