@@ -1,8 +1,9 @@
 //! The plan of a reservation, walked.
-ghost use Rattle.std.specs.Prelude.{◌≡◌, ℕ, Option, Some, None, IfOk, IfSome, OnOk, ◌||◌, option_map, unwrap_or, is_none, ◌&&◌};
+ghost use Rattle.std.specs.Prelude.{◌≡◌, ◌≤◌, ℕ, Option, Some, None, IfOk, IfSome, OnOk, ◌||◌, unwrap_or, is_none, ◌&&◌};
+ghost use Rattle.std.specs.Prelude.{length, drop, true, false};
 ghost use Rattle.std.specs.Option.{option_copied};
 ghost use Rattle.tx_engine.specs.Programs.{after, asked, Answers};
-ghost use Rattle.tx_engine.specs.declared.job.Ask.TheVariants.{Call as NextCall};
+ghost use Rattle.tx_engine.specs.declared.job.Ask.TheVariants.{Call as NextCall, GiveUp};
 ghost use Rattle.vac_model.specs.Actions as actions;
 ghost use Rattle.vac_model.specs.declared.item.Item.{Item as AnItem};
 ghost use Rattle.vac_model.specs.declared.item.Customer.{Customer as ACustomer};
@@ -11,18 +12,19 @@ ghost use Rattle.vac_model.specs.declared.action.Part.{Part as APart};
 ghost use Rattle.vac_model.specs.Holdings.{newcomer};
 ghost use Rattle.vacation_core.specs.Sessions as plans;
 ghost use Rattle.vacation_core.specs.Sessions.{Plan};
-ghost use Rattle.vacation_core.specs.Walks.{Comes, with_part};
+ghost use Rattle.vacation_core.specs.Walks.{Comes, IsStop, with_part};
 ghost use Rattle.vacation_core.specs.Drafts.{drafted, adds, is_changed, part_for, AreSound, IsSound};
 ghost use Rattle.vac_model.specs.Balanced.{IsItemSound};
-ghost use Rattle.vacation_core.specs.Gets.{get_due};
+ghost use Rattle.vacation_core.specs.Gets.{get_due, tells_item, item_told};
+ghost use Rattle.vac_model.specs.Actions.{take_units};
 
 use crate::entry::Entry;
-use crate::walk::{Stop, Walk, put_customer, tell_items};
+use crate::walk::{Stop, Walk, asks_get, asks_put, map_of, put_customer, tell_items};
 use seq_model::{Memory, Reply, Value};
 use std::alloc::Global;
 use vac_model::{
     ActionReply, Ask, Booking, Customer, Each, Item, Kind, PLACE_LIMIT, Part, TICKET_LIMIT, Ticket,
-    Wait,
+    Wait, is_item_sound,
 };
 
 /// A customer with what was decided so far, which is not put yet.
@@ -148,31 +150,28 @@ impl Draft<'_> {
 }
 
 /// The best candidate of a kind, with what an ask of that kind found.
-fn improve(best: &mut Option<(u64, Item)>, id: u64, item: Option<Item>)
-    requires item_sound { (i : AnItem) → item ≡ Some i → IsItemSound i }
+fn improve(best: &mut Option<(u64, Item)>, id: u64, item: &Item)
+    requires item_sound { IsItemSound item.now }
     requires best_sound { IsSound best.old }
-    ensures better { best.new ≡ actions.dearer best.old (option_map (λ i. (id, i)) item) }
+    ensures better { best.new ≡ actions.dearer best.old (Some (id, item.now)) }
     ensures sound { IsSound best.new }
 {
-    let Some(item) = item else {
-        return;
-    };
     let dearer = match best {
         Some((_, had)) => had.price < item.price,
         None => true,
     };
     if dearer {
-        *best = Some((id, item));
+        *best = Some((id, *item));
     }
 }
 
 /// The best candidates of the three kinds, with what an ask found.
-fn improve_each(best: &mut Each<Option<(u64, Item)>>, ask: Ask, item: Option<Item>)
-    requires item_sound { (i : AnItem) → item ≡ Some i → IsItemSound i }
+fn improve_kind(best: &mut Each<Option<(u64, Item)>>, ask: &Ask, item: &Item)
+    requires item_sound { IsItemSound item.now }
     requires best_sound { AreSound best.old }
-    ensures car { best.new.car ≡ plans.better Car ask item best.old.car }
-    ensures flight { best.new.flight ≡ plans.better Flight ask item best.old.flight }
-    ensures room { best.new.room ≡ plans.better Room ask item best.old.room }
+    ensures car { best.new.car ≡ plans.better Car ask.now (Some item.now) best.old.car }
+    ensures flight { best.new.flight ≡ plans.better Flight ask.now (Some item.now) best.old.flight }
+    ensures room { best.new.room ≡ plans.better Room ask.now (Some item.now) best.old.room }
     ensures sound { AreSound best.new }
 {
     match ask.kind {
@@ -180,6 +179,50 @@ fn improve_each(best: &mut Each<Option<(u64, Item)>>, ask: Ask, item: Option<Ite
         Kind::Flight => improve(&mut best.flight, ask.id, item),
         Kind::Room => improve(&mut best.room, ask.id, item),
     }
+}
+
+/// The best candidates of the three kinds, with what the reply to an ask tells: whether it tells an item, or that there is none.
+#[inline(always)]
+fn improve_told(best: &mut Each<Option<(u64, Item)>>, ask: &Ask, reply: &Reply<Entry>) -> bool
+    requires { AreSound best.old }
+    ensures tells { result ≡ tells_item reply.now }
+    ensures car { result ≡ true → best.new.car ≡ plans.better Car ask.now (item_told reply.now) best.old.car }
+    ensures flight { result ≡ true → best.new.flight ≡ plans.better Flight ask.now (item_told reply.now) best.old.flight }
+    ensures room { result ≡ true → best.new.room ≡ plans.better Room ask.now (item_told reply.now) best.old.room }
+    ensures sound { AreSound best.new }
+{
+    match reply {
+        Reply::Nothing => true,
+        Reply::Value(Entry::Item(item)) => {
+            let sound = is_item_sound(item);
+            if sound {
+                improve_kind(best, ask, item);
+            }
+            sound
+        }
+        _ => false,
+    }
+}
+
+/// The best candidates of the three kinds, with the replies to all asks: whether each tells an item, or that there is none. It stands
+/// apart, so that the candidates lie in memory, and are not moved about at each ask.
+#[inline(never)]
+fn improve_all(best: &mut Each<Option<(u64, Item)>>, asks: &[Ask], replies: &[Reply<Entry>]) -> bool
+    requires sound { AreSound best.old }
+    requires told { length asks.now ≤ length replies.now }
+    ensures gathers { result ≡ true → (next : Option (ℕ × AnItem) → Option (ℕ × AnItem) → Option (ℕ × AnItem) → Plan)
+        → after (plans.gather asks.now best.old.car best.old.flight best.old.room next) replies.now
+        ≡ after (next best.new.car best.new.flight best.new.room) (drop (length asks.now) replies.now) }
+    ensures gives_up { result ≡ false → (next : Option (ℕ × AnItem) → Option (ℕ × AnItem) → Option (ℕ × AnItem) → Plan)
+        → asked (after (plans.gather asks.now best.old.car best.old.flight best.old.room next) replies.now) ≡ GiveUp }
+    ensures sound { AreSound best.new }
+{
+    for i in 0..asks.len() {
+        if !improve_told(best, &asks[i], &replies[i]) {
+            return false;
+        }
+    }
+    true
 }
 
 /// Whether none of the items asked for exists.
@@ -202,27 +245,73 @@ pub(crate) fn due_of(asks: &[Ask], replies: &[Reply<Entry>]) -> Option<Ask>
     }
 }
 
+/// The item is to be put with so many of its free units used. It stands apart, so that what is asked weighs on no reply that is passed.
+#[cold]
+#[inline(never)]
+fn asks_units(kind: Kind, id: u64, units: u64, item: &Item) -> Stop
+    requires sound { IsItemSound item.now }
+    requires free { units ≤ item.now.free }
+    ensures { (next : Plan) → IsStop result (plans.put_item kind id (take_units units item.now) next) }
+{
+    let booked = Item {
+        used: item.used + units,
+        free: item.free - units,
+        ..*item
+    };
+    asks_put(kind, id, booked)
+}
+
 impl<'a> Walk<'a> {
-    /// The candidates of the three kinds.
-    fn gather(&mut self, asks: &[Ask]) -> Result<Each<Option<(u64, Item)>>, Stop>
+    /// The candidates of the three kinds, where not each ask has its reply, or each reply stands behind its call.
+    #[cold]
+    #[inline(never)]
+    fn gather_each(
+        &mut self,
+        asks: &[Ask],
+        best: &mut Each<Option<(u64, Item)>>,
+    ) -> Result<(), Stop>
+        requires { AreSound best.old }
         ensures comes { (next : Option (ℕ × AnItem) → Option (ℕ × AnItem) → Option (ℕ × AnItem) → Plan)
-            → Comes (after (plans.gather asks.now None None None next) self.old) result
-            (λ best. after (next best.car best.flight best.room) self.new) }
-        ensures sound { IfOk result AreSound }
+            → Comes (after (plans.gather asks.now best.old.car best.old.flight best.old.room next) self.old) result
+            (λ _. after (next best.new.car best.new.flight best.new.room) self.new) }
+        ensures sound { AreSound best.new }
     {
-        let mut best = Each {
-            car: None,
-            flight: None,
-            room: None,
-        };
         for ask in asks {
-            let item = self.get_item(ask.kind, ask.id)?;
-            improve_each(&mut best, *ask, item);
+            match self.next() {
+                Some(reply) => {
+                    if !improve_told(best, ask, reply) {
+                        return Err(Stop::GivesUp);
+                    }
+                }
+                None => return Err(asks_get(map_of(ask.kind), ask.id)),
+            }
         }
-        Ok(best)
+        Ok(())
+    }
+
+    /// The candidates of the three kinds.
+    fn gather(&mut self, asks: &[Ask], best: &mut Each<Option<(u64, Item)>>) -> Result<(), Stop>
+        requires { AreSound best.old }
+        ensures comes { (next : Option (ℕ × AnItem) → Option (ℕ × AnItem) → Option (ℕ × AnItem) → Plan)
+            → Comes (after (plans.gather asks.now best.old.car best.old.flight best.old.room next) self.old) result
+            (λ _. after (next best.new.car best.new.flight best.new.room) self.new) }
+        ensures sound { AreSound best.new }
+    {
+        match self.take(asks.len()) {
+            Some(replies) => {
+                if improve_all(best, asks, replies) {
+                    Ok(())
+                } else {
+                    Err(Stop::GivesUp)
+                }
+            }
+            None => self.gather_each(asks, best),
+        }
     }
 
     /// A wait for the item, where there is a ticket for it.
+    #[cold]
+    #[inline(never)]
     fn line_up(&mut self, draft: &Draft<'_>, kind: Kind, id: u64) -> Result<Part, Stop>
         ensures { (next : APart → ACustomer → Plan)
             → Comes (after (plans.read_next (plans.line_up draft.now.number draft.now.units kind id (drafted draft.now) next)) self.old)
@@ -250,16 +339,17 @@ impl<'a> Walk<'a> {
         &mut self,
         draft: &Draft<'_>,
         kind: Kind,
-        candidate: Option<(u64, Item)>,
+        candidate: &Option<(u64, Item)>,
     ) -> Result<Part, Stop>
-        requires { IsSound candidate }
+        requires { IsSound candidate.now }
         ensures { (next : APart → ACustomer → Plan)
-            → Comes (after (plans.decide draft.now.number draft.now.units kind candidate (drafted draft.now) next) self.old)
+            → Comes (after (plans.decide draft.now.number draft.now.units kind candidate.now (drafted draft.now) next) self.old)
             result (λ part. after (next part (with_part draft.now.units kind part (drafted draft.now))) self.new) }
     {
         let Some((id, item)) = candidate else {
             return Ok(Part::Nothing);
         };
+        let id = *id;
         if draft.has(kind, id) {
             return Ok(Part::Already { id });
         }
@@ -270,17 +360,14 @@ impl<'a> Walk<'a> {
         if units > item.free {
             return self.line_up(draft, kind, id);
         }
-        let booked = Item {
-            used: item.used + units,
-            free: item.free - units,
-            ..item
-        };
-        self.put_item(kind, id, booked)?;
-        Ok(Part::Booked {
-            id,
-            units,
-            price: item.price,
-        })
+        if self.passes() {
+            return Ok(Part::Booked {
+                id,
+                units,
+                price: item.price,
+            });
+        }
+        Err(asks_units(kind, id, units, item))
     }
 
     /// Puts the customer where it is new or changed.
@@ -318,9 +405,9 @@ impl<'a> Walk<'a> {
             flight: Part::Nothing,
             room: Part::Nothing,
         };
-        draft.car = self.decide(&draft, Kind::Car, best.car)?;
-        draft.flight = self.decide(&draft, Kind::Flight, best.flight)?;
-        draft.room = self.decide(&draft, Kind::Room, best.room)?;
+        draft.car = self.decide(&draft, Kind::Car, &best.car)?;
+        draft.flight = self.decide(&draft, Kind::Flight, &best.flight)?;
+        draft.room = self.decide(&draft, Kind::Room, &best.room)?;
         self.put_changed(&draft)?;
         Ok(ActionReply::Reserved {
             parts: Each {
@@ -339,7 +426,12 @@ impl<'a> Walk<'a> {
     ) -> Result<ActionReply, Stop>
         ensures { Comes (after (plans.reserve customer units asks.now) self.old) result (λ reply. Answers reply) }
     {
-        let best = self.gather(asks)?;
+        let mut best = Each {
+            car: None,
+            flight: None,
+            room: None,
+        };
+        self.gather(asks, &mut best)?;
         if no_candidate(&best) {
             return Ok(ActionReply::Reserved {
                 parts: Each {

@@ -1,5 +1,5 @@
 //! The walk along a session's plan by the replies so far: each call of the plan takes its reply off, or is what is asked next.
-ghost use Rattle.std.specs.Prelude.{◌≡◌, ◌≤◌, ◌∷◌, ℕ, List, [], Option, true, false, IsTrue, IfOk, MatchOption};
+ghost use Rattle.std.specs.Prelude.{◌≡◌, ◌≤◌, ◌∷◌, ℕ, List, [], Option, true, false, IsTrue, IfOk, IfNone, IfSome, MatchOption, length, drop};
 ghost use Rattle.std.specs.List.{list_all};
 ghost use Rattle.std.specs.Option.{option_copied};
 ghost use Rattle.seq_model.specs.declared.call.Op.TheVariants.{Get as Got};
@@ -87,7 +87,7 @@ const TICKETS: u32 = 4;
 const NEXT_TICKET: u32 = 0;
 
 /// The number of the map of a kind's items.
-fn map_of(kind: Kind) -> u32
+pub(crate) fn map_of(kind: Kind) -> u32
     ensures { result ≡ plans.map_of kind }
 {
     match kind {
@@ -243,12 +243,22 @@ pub(crate) fn get_of(ask: Ask) -> Call<Entry>
 /// What a map holds at a key is asked next. It stands apart, so that what is asked weighs on no reply that is passed.
 #[cold]
 #[inline(never)]
-fn asks_get(target: u32, key: u64) -> Stop
+pub(crate) fn asks_get(target: u32, key: u64) -> Stop
     ensures { (next : AReply AnEntry → Plan) → IsStop result (Due (plans.on target (Got key)) next) }
 {
     Stop::Asks(Call {
         target,
         op: Op::Get(key),
+    })
+}
+
+/// An item is to be put.
+pub(crate) fn asks_put(kind: Kind, id: u64, item: Item) -> Stop
+    ensures { (next : Plan) → IsStop result (plans.put_item kind id item next) }
+{
+    Stop::Asks(Call {
+        target: map_of(kind),
+        op: Op::Put(id, Entry::Item(item)),
     })
 }
 
@@ -274,8 +284,25 @@ impl<'a> Walk<'a> {
         self.alloc
     }
 
+    /// The replies, of which so many are taken off, where there are as many, and they stand alone.
+    pub(crate) fn take(&mut self, count: usize) -> Option<&'a [Reply<Entry>]>
+        ensures none { IfNone result (self.new ≡ self.old) }
+        ensures told { IfSome result (λ told. told.now ≡ self.old) }
+        ensures count { IfSome result (λ told. count ≤ length told.now) }
+        ensures taken { IfSome result (λ told. self.new ≡ drop count told.now) }
+    {
+        if let Left::Replies(replies) = self.left {
+            if count <= replies.len() {
+                let (_, left) = replies.split_at(count);
+                self.left = Left::Replies(left);
+                return Some(replies);
+            }
+        }
+        None
+    }
+
     /// Takes the next reply off, where there is one.
-    fn next(&mut self) -> Option<&'a Reply<Entry>>
+    pub(crate) fn next(&mut self) -> Option<&'a Reply<Entry>>
         ensures { MatchOption result ((self.old ≡ []) × (self.new ≡ [])) (λ reply. self.old ≡ reply.now ∷ self.new) }
     {
         let left = self.left;
@@ -319,8 +346,10 @@ impl<'a> Walk<'a> {
     pub(crate) fn put_item(&mut self, kind: Kind, id: u64, item: Item) -> Result<(), Stop>
         ensures { (next : Plan) → Comes (after (plans.put_item kind id item next) self.old) result (λ _. after next self.new) }
     {
-        self.reply(map_of(kind), Op::Put(id, Entry::Item(item)))?;
-        Ok(())
+        if self.passes() {
+            return Ok(());
+        }
+        Err(asks_put(kind, id, item))
     }
 
     pub(crate) fn remove_item(&mut self, kind: Kind, id: u64) -> Result<(), Stop>

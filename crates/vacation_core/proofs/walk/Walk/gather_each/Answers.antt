@@ -1,0 +1,22 @@
+use Rattle.std.proofs.Common.{◌≡◌, ◌∷◌, true, ◌∙◌, sym, ◌+◌, drop}
+use Rattle.tx_engine.specs.Programs.{after}
+use Rattle.vacation_core.specs.Gets.{tells_item}
+use Rattle.vacation_core.specs.Sessions as plans
+use Rattle.vacation_core.proofs.GetLemmas.{gather_told}
+use Rattle.vacation_core.proofs.walk.Walk.gather_each.Goals as goal
+
+pub loop-ask-preserved : goal.loop-ask-preserved
+loop-ask-preserved c =
+    let l = c.loop-ask in
+    let e = c.improve_told.ensures in
+    let on : c.improve_told.result ≡ true = c.if-not-improve_told.false in
+    let is : c.loop-ask.self ≡ c.in-Some.reply.now ∷ c.next.new.self = c.in-Some.ensures in
+    let tells : tells_item c.in-Some.reply.now ≡ true = sym e.tells ∙ on in
+    record {
+      gathered = λ next. l.invariant.gathered next
+          ∙ gather_told c.args.asks.now l.ask-index _ l.best.car l.best.flight l.best.room next l.self c.next.new.self
+          c.in-Some.reply.now c.loop-ask-test.true is tells
+          ∙ (λ j. after (plans.gather (drop (l.ask-index + 1) c.args.asks.now) (sym (e.car on) j) (sym (e.flight on) j)
+          (sym (e.room on) j) next) c.next.new.self);
+      sound = e.sound;
+    }
