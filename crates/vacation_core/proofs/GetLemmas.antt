@@ -1,5 +1,5 @@
 -- A reservation whose replies all tell items asks for the item of the ask whose number is their count.
-use Rattle.std.proofs.Common.{◌≡◌, ℕ, ◌<◌, Bool, true, false, cond, List, [], ◌∷◌, length, get_or, drop, ◌+◌, Option, Some, None, refl, ◌∙◌, ap}
+use Rattle.std.proofs.Common.{◌≡◌, ℕ, ◌<◌, Bool, true, false, cond, List, [], ◌∷◌, length, get_or, drop, Option, Some, None, refl, ◌∙◌, ap}
 use Rattle.std.proofs.Common.{arith}
 use Rattle.std.specs.Prelude.{◌&&◌}
 use Rattle.std.specs.List.{list_all}
@@ -16,8 +16,7 @@ use Rattle.vacation_core.specs.declared.entry.Entry.TheVariants.{Item as Stock}
 use Rattle.vacation_core.specs.Gets.{get_due, tells_item, item_told}
 use Rattle.vac_model.specs.Holdings.{same_kind}
 use Rattle.vac_model.specs.Actions.{dearer}
-use Rattle.vacation_core.specs.Sessions.{Plan, better, gather, item_in, map_of, on}
-use Rattle.seq_model.specs.declared.call.Op.TheVariants.{Get}
+use Rattle.vacation_core.specs.Sessions.{Plan, better, gather, item_in}
 use Rattle.vacation_core.proofs.WalkLemmas.{gather_on, gather_next, replied, drop_next}
 
 both_true : (a b : Bool) → (a && b) ≡ true → (a ≡ true) × (b ≡ true)

@@ -1,6 +1,5 @@
 use Rattle.std.proofs.Common.{rules, ◌≡◌, ◌∙◌, ap, sym, Some}
 use Rattle.tx_engine.specs.Programs.{after}
-use Rattle.seq_model.specs.declared.call.Op.TheVariants.{Put}
 use Rattle.vac_model.specs.Actions.{take_units}
 use Rattle.vac_model.specs.declared.action.Part.TheVariants as part
 use Rattle.vacation_core.specs.Sessions as plans
