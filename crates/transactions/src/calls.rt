@@ -105,9 +105,20 @@ pub fn call<V: Value>(
     ensures own { HasOwn table.now seat.new actor.new [] }
     ensures calls { CallsTo (opening_of table.now) seat.old call seat.new result }
 {
-    let told = ask_open(alloc, table, seat, actor, bases, Request::Call(call))?;
-    match told {
-        Told::Quiet => driven_call(alloc, table, seat, actor, bases),
-        told => reply_told(told),
+    let none = Vec::new(alloc);
+    match ask(
+        alloc,
+        table,
+        seat,
+        actor,
+        none.as_slice(),
+        Request::Call(call),
+    ) {
+        Ok(Told::Quiet) => driven_call(alloc, table, seat, actor, bases),
+        Ok(told) => reply_told(told),
+        Err(_) => {
+            abort(alloc, table, seat, actor, bases);
+            Err(Refusal::OutOfMemory)
+        }
     }
 }

@@ -1,6 +1,9 @@
-use Rattle.std.proofs.Common.{◌∙◌, subst, sym}
+use Rattle.std.proofs.Common.{[], ◌∙◌, ◌≢◌, arith, subst, sym, rules}
+use Rattle.std.proofs.lemmas.Grind.{common_steps}
+use Rattle.gate_turns.specs.Own.{HasOwn}
 use Rattle.seq_model.specs.declared.event.Request.TheVariants as request
 use Rattle.tx_actor.specs.declared.actor.Told.{Told}
+use Rattle.tx_actor.specs.declared.actor.Told.TheVariants as told
 use Rattle.tx_table.specs.Seated.{opening_of}
 use Rattle.transactions.proofs.CallLemmas.{at_once, call_told, calls_on, driven_calls}
 use Rattle.driven_turns.proofs.RestLemmas.{bare_out}
@@ -12,29 +15,31 @@ driven_call-requires-clause-calls g c = (
   c.requires.open.0,
   (
     c.args.call,
-    calls_on c.args.table.now c.args.seat.now c.ask_open.new.seat c.args.call c.requires.open
-        c.in_ok-told.ensures.asked c.args.actor.now c.requires.ties c.requires.open.0 c.requires.open.1
+    calls_on c.args.table.now c.args.seat.now c.ask.new.seat c.args.call c.requires.open
+        c.in-Ok-Quiet.ensures.asked c.args.actor.now c.requires.ties c.requires.open.0 c.requires.open.1
         (subst (λ (n : Told _). Answers (opening_of c.args.table.now) c.args.seat.now
-        (request.Call c.args.call) n) c.in-Quiet.is c.in_ok-told.ensures.answers),
+        (request.Call c.args.call) n) c.in-Ok-Quiet.field-0-is c.in-Ok-Quiet.ensures.answers),
   ),
 )
 
 pub reply_told-requires : goal.reply_told-requires
 reply_told-requires g c =
-    call_told c.args.table.now c.args.seat.now c.ask_open.new.seat c.args.call c.requires.open
-    c.in_ok-told.ensures.asked c.requires.open.0 c.requires.open.1 c.in_ok-told.told c.in_default.not-Quiet c.in_ok-told.ensures.answers
+    let ne : c.in-Ok.told ≢ told.Quiet = search rules in
+    call_told c.args.table.now c.args.seat.now c.ask.new.seat c.args.call c.requires.open
+    c.in-Ok.ensures.asked c.requires.open.0 c.requires.open.1 c.in-Ok.told ne c.in-Ok.ensures.answers
 
-pub returns-in-Quiet-clause-calls : goal.returns-in-Quiet-clause-calls
-returns-in-Quiet-clause-calls g c =
-    driven_calls c.args.table.now c.args.seat.now c.ask_open.new.seat c.args.call c.requires.open
-    c.in_ok-told.ensures.asked c.args.actor.now c.driven_call.new.seat c.driven_call.result c.requires.ties
+pub returns-in-Ok-Quiet-clause-calls : goal.returns-in-Ok-Quiet-clause-calls
+returns-in-Ok-Quiet-clause-calls g c =
+    let own : HasOwn c.args.table.now c.ask.new.seat c.ask.new.actor [] = first_of (search rules, grind (arith, common_steps)) in
+    driven_calls c.args.table.now c.args.seat.now c.ask.new.seat c.args.call c.requires.open
+    c.in-Ok-Quiet.ensures.asked c.args.actor.now c.driven_call.new.seat c.driven_call.result c.requires.ties
     (subst (λ (n : Told _). Answers (opening_of c.args.table.now) c.args.seat.now
-    (request.Call c.args.call) n) c.in-Quiet.is c.in_ok-told.ensures.answers)
+    (request.Call c.args.call) n) c.in-Ok-Quiet.field-0-is c.in-Ok-Quiet.ensures.answers)
     (bare_out c.args.table.now c.driven_call.new.seat c.driven_call.new.actor c.driven_call.ensures.own
-    ∙ sym (bare_out c.args.table.now c.ask_open.new.seat c.ask_open.new.actor c.ask_open.ensures.own))
+    ∙ sym (bare_out c.args.table.now c.ask.new.seat c.ask.new.actor own))
     c.driven_call.ensures.driven
 
-pub returns-in_default-clause-calls : goal.returns-in_default-clause-calls
-returns-in_default-clause-calls g c =
-    at_once c.args.table.now c.args.seat.now c.ask_open.new.seat c.args.call c.requires.open
-    c.in_ok-told.ensures.asked c.in_ok-told.told c.reply_told.result c.reply_told.ensures c.in_ok-told.ensures.answers
+pub returns-in-Ok-clause-calls : goal.returns-in-Ok-clause-calls
+returns-in-Ok-clause-calls g c =
+    at_once c.args.table.now c.args.seat.now c.ask.new.seat c.args.call c.requires.open
+    c.in-Ok.ensures.asked c.in-Ok.told c.reply_told.result c.reply_told.ensures c.in-Ok.ensures.answers
