@@ -159,6 +159,7 @@ impl<V: Value> Copied<V> {
     }
 }
 
+#[inline(always)]
 fn keep_editions(known: &mut Table<u64>, editions: &[(u32, u64)])
     requires { length editions.now ≤ known.old.room }
     ensures { known.new.contents ≡ inserts known.old.contents editions.now }

@@ -213,7 +213,7 @@ impl<V: Drop> TxActor<V> {
         }
     }
 
-    #[inline(never)]
+    #[inline(always)]
     fn tried_else(&mut self, free: bool) -> Told<V>
         ensures does { Does self.old self.new result (λ a w. after_try w a (seat_of self.old) (stage_of self.old.stage) free) }
         ensures keeps { (v : BlocksView) → KeepsIn v self.old self.new }

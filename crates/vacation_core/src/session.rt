@@ -165,6 +165,7 @@ impl Job<Entry> for Session {
     ghost asks = { λ action replies ask. ask ≡ asked (after (plans.session action) replies) };
 
     /// What the session asks after these replies: it gives up where no balanced tables answer so.
+    #[inline(always)]
     fn ask(&self, replies: &[Reply<Entry>]) -> Result<Ask<Entry>, Memory> {
         if let Some(due) = self.due(replies) {
             return Ok(Ask::Call(get_of(due)));
