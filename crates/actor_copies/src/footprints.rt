@@ -56,7 +56,7 @@ impl<V: Value> Copied<V> {
         }
     }
 
-    /// How many locations there are, where an outcome reads them all: they take no list.
+    /// How many locations there are, where an outcome reads them all: they take no set.
     pub(crate) fn all_read(&self, outcome: &Outcome<V>) -> Option<u32>
         ensures { IfSome result (λ count. reads_in self.now outcome.now ≡ all_below count) }
     {

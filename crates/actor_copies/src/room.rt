@@ -1,4 +1,4 @@
-//! Whether the locations of a call fit the sets of its transaction by their number alone.
+//! Whether the locations of a call fit the sets of its transaction: by their number alone, where there is much room.
 ghost use Rattle.std.specs.Prelude.{◌≡◌, ◌+◌, ◌<◌, ◌≤◌, ◌^◌, All};
 ghost use Rattle.conflict.specs.Footprints.{all_below};
 ghost use Rattle.replay_log.specs.Contents.{shifted};
@@ -24,7 +24,7 @@ fn takes_more<Role>(set: &AccessSet<Role>, more: usize) -> bool
     set.len().saturating_add(more) <= LOCATION_LIMIT
 }
 
-/// As `has_room`: few locations are not looked up.
+/// As `has_room` of `actor_words`: few locations are not looked up.
 pub(crate) fn has_room(words: &Actor, first: u32, reads: &LocSet, writes: &LocSet) -> bool
     requires reads { All (λ location. first + location < 2 ^ 32) reads.now }
     requires writes { All (λ location. first + location < 2 ^ 32) writes.now }

@@ -74,8 +74,8 @@ fn wait<V>(stage: &Stage<V>) {
     }
 }
 
-/// A try on the gate of a collection. Where it was free its base comes into hand; where it was taken it waits, and yields in the end, as the
-/// one that holds it may wait for a core, and at the 64th time the transaction is given up, `GateBusy`. Where memory is refused no step is taken,
+/// A try on the gate of a collection. Where it was free its base comes into hand; where it was taken the try waits, and from the 17th on the
+/// thread yields, as the one that holds it may wait for a core, and at the 64th time the transaction is given up, `GateBusy`. Where memory is refused no step is taken,
 /// and the actor is as it was.
 #[inline(always)]
 pub fn try_gate<V: Value>(

@@ -40,7 +40,7 @@ pub struct Work {
     pub writes: u32,
 }
 
-/// A word, a key, or one end of a collection, and what is made of it.
+/// A word, a key, the number of keys, or one end of a collection, and what is made of it.
 pub fn drawn(work: Work, random: &mut Xoshiro256PlusPlus) -> Call<u64> {
     let key = random.next_u64() % u64::from(KEYS);
     let is_write = random.next_u64() % 10 < u64::from(work.writes);

@@ -31,7 +31,7 @@ pub record MemoView (V : Type 0) : Type 0 where
   pub blank : Base V  -- an empty collection of the kind and stripes
   pub entries : FinMap nat_cmp (Option V)  -- of a map, the keys held, each with its value after the accepted changes, if it has one
   pub copies : FinMap nat_cmp ℕ  -- of a multiset, the elements held, each with its copies after the accepted changes
-  pub total : Option ℕ  -- of a map, the number of its keys before the accepted changes, if its counts were touched
+  pub total : Option ℕ  -- of a map, the number of its keys before the accepted changes, if it was touched
   pub grown : ℕ  -- so many keys were new to it
   pub shrunk : ℕ  -- and so many were taken out of it
   pub changes : List (Change V)  -- the accepted changes, in order

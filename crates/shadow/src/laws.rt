@@ -1,4 +1,4 @@
-//! The law of the definitions that the contracts cite. The function computes nothing: its contract is the law.
+//! The laws of the definitions that the contracts cite. The functions compute nothing: their contracts are the laws.
 ghost use Rattle.std.specs.Prelude.{◌≡◌, ◌<◌, ◌++◌, ℕ, [], List, Option, Some, None, true};
 ghost use Rattle.std.specs.Ordering.{nat_cmp};
 ghost use Rattle.std.specs.FinMap.{FinMap, empty};

@@ -280,7 +280,7 @@ impl<V: Value> Memo<V> {
         (self.total.unwrap_or(0) + self.grown).saturating_sub(self.shrunk)
     }
 
-    /// Makes ready what accepting the outcome will take. The memo stays as it is, also where memory is refused.
+    /// Makes ready what accepting the outcome will take. But for that the memo stays as it is, also where memory is refused.
     pub fn ready(&mut self, outcome: &Outcome<V>) -> Result<(), Memory>
         ensures ok { OnOk result (IsReadyFor outcome.now self.new) }
         ensures blank { self.new.blank ≡ self.old.blank }
@@ -343,7 +343,7 @@ impl<V: Value> Memo<V> {
         }
     }
 
-    /// The number of stripes, where an outcome reads them all: they take no list.
+    /// The number of stripes, where an outcome reads them all: they take no set.
     pub fn all_read(&self, outcome: &Outcome<V>) -> Option<u32>
         ensures { IfSome result (λ count.
             reads_of (stripes_of self.now.blank) outcome.now (shown_of self.now.blank) ≡ all_below count) }
