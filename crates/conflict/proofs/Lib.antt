@@ -3,3 +3,4 @@ pub mod EditionLemmas
 pub mod LocationLemmas
 pub mod MultisetLemmas
 pub mod SortLemmas
+pub mod CountLemmas

@@ -9,3 +9,4 @@ pub mod Commute
 pub mod Places
 pub mod Multisets
 pub mod Editions
+pub mod Counts

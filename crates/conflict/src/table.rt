@@ -1,11 +1,12 @@
 //! A hash map with numbers as keys, which contracts see as a finite map and the room for more entries. The room is what lets
 //! a replay be proved to take no memory: `reserve` promises it, and `insert_reserved` needs it.
-ghost use Rattle.std.specs.Prelude.{◌≡◌, ◌+◌, ◌<◌, ◌≤◌, IsOk, IfOk, OnOk};
+ghost use Rattle.std.specs.Prelude.{◌≡◌, ◌+◌, ◌^◌, ◌<◌, ◌≤◌, IsOk, IfOk, OnOk, length, replicate, slice_index, slice_set};
 ghost use Rattle.std.specs.Option.{option_copied};
 ghost use Rattle.std.specs.FinMap as map;
+ghost use Rattle.conflict.specs.Counts.{stripe_counts};
 
 use indexmap::IndexMap;
-use seq_model::{Entries, Memory, Value};
+use seq_model::{Entries, Items, Memory, Value};
 use std::alloc::Global;
 use std::marker::Model;
 
@@ -49,6 +50,18 @@ impl<V: Drop> Table<V> {
         ensures { option_copied result ≡ map.get self.now.contents key }
     {
         self.entries.get(&key)
+    }
+
+    /// How many keys lie on each stripe, in so many stripes.
+    pub fn counts(&self, stripes: u32) -> Result<Items<u64>, Memory>
+        requires { 0 < stripes }
+        ensures { IfOk result (λ counts. counts ≡ stripe_counts stripes self.now.contents) }
+    {
+        let mut counts = no_counts(self.alloc, stripes)?;
+        for (key, _) in self.entries.iter() {
+            count_one(&mut counts, (*key % stripes as u64) as usize);
+        }
+        Ok(Items::from_vec(counts))
     }
 
     /// Makes room for this many more entries. Where there is room for them, it takes no memory.
@@ -133,4 +146,18 @@ impl<V: Value> Table<V> {
         }
         Ok(entries)
     }
+}
+
+fn no_counts(alloc: Global, stripes: u32) -> Result<Vec<u64>, Memory>
+    ensures { IfOk result (λ counts. counts.items ≡ replicate stripes 0) }
+{
+    Ok(vec![in alloc; 0; stripes as usize]?)
+}
+
+fn count_one(counts: &mut Vec<u64>, stripe: usize)
+    requires within { stripe < length counts.old.items }
+    requires below { slice_index counts.old.items stripe < 2 ^ 63 }
+    ensures { counts.new.items ≡ slice_set counts.old.items stripe (slice_index counts.old.items stripe + 1) }
+{
+    counts[stripe] += 1;
 }
