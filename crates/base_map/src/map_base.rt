@@ -5,6 +5,7 @@ ghost use Rattle.std.specs.Vec.{vec_capacity};
 ghost use Rattle.std.specs.FinMap as map;
 ghost use Rattle.seq_model.specs.Calls.{IsRefusal, value_reply};
 ghost use Rattle.conflict.specs.Rules.{applied};
+ghost use Rattle.conflict.specs.Counts.{stripe_counts};
 ghost use Rattle.conflict.specs.Footprints.{key_place};
 ghost use Rattle.conflict.specs.Editions.{raised};
 ghost use Rattle.conflict.specs.Refusals.{IsTooLong, IsNoSuchOrTooLong, IsStripeCount};
@@ -149,6 +150,13 @@ impl<V: Value> MapBase<V> {
 
     pub fn allocator(&self) -> Global {
         self.editions.allocator()
+    }
+
+    /// How many keys lie on each stripe.
+    pub fn counts(&self) -> Result<Items<u64>, Memory>
+        ensures { IfOk result (λ counts. counts ≡ stripe_counts self.now.stripes self.now.shown) }
+    {
+        self.table.counts(self.stripes)
     }
 
     /// The number of keys.
