@@ -20,7 +20,7 @@ use Rattle.collection_machine.specs.Content.{IsIn}
 use Rattle.replay_log.specs.declared.base.Base.{Base}
 use Rattle.replay_log.specs.declared.touch.Touch.{Touch}
 use Rattle.replay_log.specs.declared.touch.Touched.{Touched}
-use Rattle.replay_log.specs.declared.touch.Touched.TheVariants.{Copies, Entry, Total}
+use Rattle.replay_log.specs.declared.touch.Touched.TheVariants.{Copies, Counts, Entry, Total}
 use Rattle.replay_log.specs.Worlds.{is_known, is_missing}
 use Rattle.replay_log.proofs.PartLemmas.{knows_its_calls}
 use Rattle.replay_log.specs.Pieces as pieces
@@ -29,7 +29,7 @@ use Rattle.seq_model.specs.Counts.{Multiset}
 use Rattle.replay_log.specs.Base.{Shown, OfMap, OfBag, OfPq, OfQueue, editions_of, outcome_of, reads_of, shown_of, stripes_of}
 use Rattle.replay_log.specs.Contents.{Answered, Block, blank, size, size_by}
 use Rattle.replay_log.specs.Parts.{MapKind, BagKind, kind_of, part, whole}
-use Rattle.replay_log.specs.Touches.{editions_at, touched_by, touched_places}
+use Rattle.replay_log.specs.Touches.{editions_at, summed_by, touched_places}
 use Rattle.atomic_steps.specs.Bases.{IsBaseOf}
 use Rattle.shadow.specs.Shadow.{ShadowView}
 use Rattle.shadow.specs.declared.memo.MemoKind.{MemoKind}
@@ -154,7 +154,7 @@ module _ {V : Type 0} where
       → Facts n f op s (touched_places n h)
   given n f op s g h e facts = subst (λ (t : Touched V). Facts n f op s (touched_places n t)) (some_same g h e) facts
 
-  pub touched_facts : (n f : ℕ) (op : Op V) (s : Shown V) (h : Touched V) → touched_by n op s ≡ Some h
+  pub touched_facts : (n f : ℕ) (op : Op V) (s : Shown V) (h : Touched V) → summed_by n op s ≡ Some h
       → Facts n f op s (touched_places n h)
   touched_facts n f (Get k) (OfMap m) h e = given n f (Get k) (OfMap m) _ h e (map_facts n f k (Get k) m refl refl)
   touched_facts n f (Put k v) (OfMap m) h e = given n f (Put k v) (OfMap m) _ h e (map_facts n f k (Put k v) m refl refl)
@@ -178,6 +178,10 @@ module _ {V : Type 0} where
   map_held n (Entry k v) m es cs total (Get q) held = same_place n k q (has_more es k q v held)
   map_held n (Entry k v) m es cs total (Put q y) held = same_place n k q (has_more es k q v held)
   map_held n (Entry k v) m es cs total (Remove q) held = same_place n k q (has_more es k q v held)
+  map_held n (Counts ns) m es cs total Len held = inr (λ i c. c)
+  map_held n (Counts ns) m es cs total (Get q) held = inl held
+  map_held n (Counts ns) m es cs total (Put q y) held = inl held
+  map_held n (Counts ns) m es cs total (Remove q) held = inl held
   map_held n (Total t) m es cs total Len held = inr (λ i c. c)
   map_held n (Total t) m es cs total (Get q) held = inl held
   map_held n (Total t) m es cs total (Put q y) held = inl held
@@ -198,6 +202,9 @@ module _ {V : Type 0} where
   bag_held n (Entry k v) m es cs total (Count q) held = inl held
   bag_held n (Entry k v) m es cs total (Add q) held = inl held
   bag_held n (Entry k v) m es cs total (Take q) held = inl held
+  bag_held n (Counts ns) m es cs total (Count q) held = inl held
+  bag_held n (Counts ns) m es cs total (Add q) held = inl held
+  bag_held n (Counts ns) m es cs total (Take q) held = inl held
   bag_held n (Total t) m es cs total (Count q) held = inl held
   bag_held n (Total t) m es cs total (Add q) held = inl held
   bag_held n (Total t) m es cs total (Take q) held = inl held
@@ -289,7 +296,7 @@ module _ {V : Type 0} where
         moved = follows_moved b s u cs ls m es is alike
 
         module _ (has : HasEditions b f x (Keys m es)) (t : Touch V) (op : Op V) (c : Copied V) (learnt : IsLearnt t (Keys m es) c)
-            (touched : touched_by b.stripes op (shown_of base) ≡ Some t.held)
+            (touched : summed_by b.stripes op (shown_of base) ≡ Some t.held)
             (dates : t.editions ≡ editions_at (touched_places b.stripes t.held) (editions_of base))
             (cover : (i : ℕ) → Contains (touched_places b.stripes t.held) i → (i < size b) × (which (f + i) ≡ true))
             (back : (i : ℕ) → i < size b → which (f + i) ≡ true → IsIn i (touched_places b.stripes t.held)) where
@@ -382,7 +389,7 @@ module _ {V : Type 0} where
 
           -- where nothing that is touched was read with another edition
           module _ (fresh : (i e : ℕ) → Contains places i → read (f + i) ≡ Some e → e ≡ editions (f + i)) where
-            pub touches : touched_by b.stripes op u ≡ Some t.held
+            pub touches : summed_by b.stripes op u ≡ Some t.held
             touches =
                 touched_alike b.stripes pos op u (shown_of base) (mixed.1.0 ∙ sym is_base.kind)
                 (λ h e i q. (

@@ -23,7 +23,7 @@ use Rattle.atomic_steps.specs.Bases.{changes_on, log_changes, log_locations, wri
 use Rattle.atomic_steps.proofs.Bases.{after_both, changes_by, kind_stays, more_changes, more_locations, shows_log, writes_by}
 use Rattle.conflict.specs.Table.{Room}
 use Rattle.replay_log.specs.declared.touch.Touch.{Touch}
-use Rattle.replay_log.specs.Touches.{touched_by}
+use Rattle.replay_log.specs.Touches.{summed_by}
 use Rattle.shadow.specs.Memo.{IsAlike, IsCopyBy, MemoView, copies_kept, entries_kept, grown_kept, holds_with, shrunk_kept, with_count}
 use Rattle.shadow.specs.Memo.{with_entry, with_total}
 use Rattle.shadow.proofs.CopyLemmas.{copy_accepted, copy_answered, moved_copy, touched_copy}
@@ -160,7 +160,7 @@ module _ {V : Type 0} where
 
   -- ---- what is learnt
   pub follows_learnt : (b : Block) (s : Shown V) (cs : List (Change V)) (ls : List ℕ) (c d : Copied V) (op : Op V) (t : Touch V)
-      → 0 < b.stripes → IsOf b s cs ls c → touched_by b.stripes op s ≡ Some t.held → IsLearnt t c d → IsOf b s cs ls d
+      → 0 < b.stripes → IsOf b s cs ls c → summed_by b.stripes op s ≡ Some t.held → IsLearnt t c d → IsOf b s cs ls d
   follows_learnt b s cs ls (Keys m es) (Keys n fs) op t pos is e now =
       let shape = shown_of m.blank in (
         ap (λ z. kind_of (shown_of z)) now.0 ∙ is.0,

@@ -23,7 +23,7 @@ use Rattle.replay_log.specs.Base.{Shown, OfMap, OfBag, OfPq, OfQueue, after, out
 use Rattle.replay_log.specs.Contents.{Block, content, size}
 use Rattle.replay_log.specs.Parts.{Kind, MapKind, BagKind, PqKind, QueueKind, kind_of, part, whole}
 use Rattle.replay_log.specs.Pieces.{covers_at}
-use Rattle.replay_log.specs.Touches.{touched_by, touched_places}
+use Rattle.replay_log.specs.Touches.{summed_by, touched_places}
 use Rattle.replay_log.specs.Worlds.{actor_of}
 use Rattle.replay_log.proofs.PartLemmas.{answers_by_parts, is_whole, knows_its_calls, parts_by_part, whole_local}
 use Rattle.shadow.specs.Memo.{IsAlike, MemoView, holds}
@@ -125,33 +125,33 @@ module _ {V : Type 0} where
         number_same {V = V} _ _ (ap (λ (o : Outcome V). o.reply) (some_same _ _ e))
 
     abbrev Same : Op V → Shown V → Shown V → Type 0
-    Same op s t = (h : Touched V) → touched_by n op t ≡ Some h → (i : ℕ) → Contains (touched_places n h) i → part n i t ≡ part n i s
+    Same op s t = (h : Touched V) → summed_by n op t ≡ Some h → (i : ℕ) → Contains (touched_places n h) i → part n i t ≡ part n i s
 
-    map_touched : (op : Op V) (m l : FinMap nat_cmp V) → Same op (OfMap m) (OfMap l) → touched_by n op (OfMap m) ≡ touched_by n op (OfMap l)
+    map_touched : (op : Op V) (m l : FinMap nat_cmp V) → Same op (OfMap m) (OfMap l) → summed_by n op (OfMap m) ≡ summed_by n op (OfMap l)
     map_touched (Get k) m l same = ap (λ o. Some (Entry k o)) (get_same m l k (same _ refl))
     map_touched (Put k v) m l same = ap (λ o. Some (Entry k o)) (get_same m l k (same _ refl))
     map_touched (Remove k) m l same = ap (λ o. Some (Entry k o)) (get_same m l k (same _ refl))
     map_touched Len m l same =
         let all : whole n MapKind (λ i. part n i (OfMap l)) ≡ whole n MapKind (λ i. part n i (OfMap m)) =
         whole_local n MapKind (λ i. part n i (OfMap l)) (λ i. part n i (OfMap m)) pos (λ i lt. same _ refl i (in_range n i lt)) in
-        ap (touched_by n Len) (sym (sym (is_whole n (OfMap l) pos) ∙ all ∙ is_whole n (OfMap m) pos))
+        ap (summed_by n Len) (sym (sym (is_whole n (OfMap l) pos) ∙ all ∙ is_whole n (OfMap m) pos))
     map_touched _ m l same = refl
 
-    bag_touched : (op : Op V) (m l : Multiset) → Same op (OfBag m) (OfBag l) → touched_by n op (OfBag m) ≡ touched_by n op (OfBag l)
+    bag_touched : (op : Op V) (m l : Multiset) → Same op (OfBag m) (OfBag l) → summed_by n op (OfBag m) ≡ summed_by n op (OfBag l)
     bag_touched (Count x) m l same = ap (λ c. Some (Copies x c)) (copies_same m l x (same _ refl))
     bag_touched (Add x) m l same = ap (λ c. Some (Copies x c)) (copies_same m l x (same _ refl))
     bag_touched (Take x) m l same = ap (λ c. Some (Copies x c)) (copies_same m l x (same _ refl))
     bag_touched _ m l same = refl
 
-    pub nothing_pq : (op : Op V) (m : pq.Shown) → touched_by {V = V} n op (OfPq m) ≡ None
+    pub nothing_pq : (op : Op V) (m : pq.Shown) → summed_by {V = V} n op (OfPq m) ≡ None
     nothing_pq (Get k) m = refl
     nothing_pq _ m = refl
 
-    pub nothing_queue : (op : Op V) (m : queue.Shown) → touched_by {V = V} n op (OfQueue m) ≡ None
+    pub nothing_queue : (op : Op V) (m : queue.Shown) → summed_by {V = V} n op (OfQueue m) ≡ None
     nothing_queue (Get k) m = refl
     nothing_queue _ m = refl
 
-    pub touched_alike : (op : Op V) (s t : Shown V) → kind_of s ≡ kind_of t → Same op s t → touched_by n op s ≡ touched_by n op t
+    pub touched_alike : (op : Op V) (s t : Shown V) → kind_of s ≡ kind_of t → Same op s t → summed_by n op s ≡ summed_by n op t
     touched_alike op (OfMap m) (OfMap l) kind same = map_touched op m l same
     touched_alike op (OfBag m) (OfBag l) kind same = bag_touched op m l same
     touched_alike op (OfPq m) (OfPq l) kind same = nothing_pq op m ∙ sym (nothing_pq op l)

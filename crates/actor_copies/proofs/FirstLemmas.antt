@@ -11,7 +11,7 @@ use Rattle.replay_log.specs.declared.touch.Touched.{Touched}
 use Rattle.replay_log.specs.Base.{Shown, OfMap, OfBag, OfPq, OfQueue, after, shown_of, stripes_of}
 use Rattle.replay_log.specs.Contents.{Block}
 use Rattle.replay_log.specs.Parts.{MapKind, BagKind, PqKind, QueueKind, kind_of}
-use Rattle.replay_log.specs.Touches.{touched_by}
+use Rattle.replay_log.specs.Touches.{summed_by}
 use Rattle.shadow.specs.Memo.{IsCopyBy, MemoView, shape}
 use Rattle.shadow.specs.declared.memo.MemoKind.{MemoKind}
 use Rattle.shadow.specs.declared.memo.MemoKind.TheVariants as kind
@@ -38,7 +38,7 @@ module _ {V : Type 0} where
   same_kind h i e = ap (λ (z : Touched V). kind_of {V = V} (shape (memo_kind z))) (sym e)
 
   -- what is touched is of the collection's kind
-  pub kind_touched : (n : ℕ) (op : Op V) (s : Shown V) (h : Touched V) → touched_by n op s ≡ Some h
+  pub kind_touched : (n : ℕ) (op : Op V) (s : Shown V) (h : Touched V) → summed_by n op s ≡ Some h
       → kind_of {V = V} (shape (memo_kind h)) ≡ kind_of s
   kind_touched n (Get k) (OfMap m) h e = same_kind _ h (some_same _ h e)
   kind_touched n (Put k v) (OfMap m) h e = same_kind _ h (some_same _ h e)
@@ -63,7 +63,7 @@ module _ {V : Type 0} where
   pub first_copies : FirstCopies V
   first_copies b base op (found.Keys t) c pos is here first =
       let s = shown_of base in
-      let held : touched_by b.stripes op s ≡ Some t.held = ap (λ n. touched_by n op s) (sym is.stripes) ∙ here.0 in
+      let held : summed_by b.stripes op s ≡ Some t.held = ap (λ n. summed_by n op s) (sym is.stripes) ∙ here.0 in
       follows_learnt b s [] [] (Keys first.memo first.editions) c op t pos
       (blank_of b s (memo_kind t.held) first.memo first.editions first.blank
       (kind_touched b.stripes op s t.held held) is.kind) held first.learnt

@@ -15,7 +15,7 @@ use Rattle.replay_log.specs.Base.{Shown, OfMap, OfBag, OfPq, OfQueue, shown_of}
 use Rattle.replay_log.specs.Parts.{MapKind, BagKind, kind_of}
 use Rattle.replay_log.specs.Pieces as pieces
 use Rattle.replay_log.specs.Pieces.{Piece}
-use Rattle.replay_log.specs.Touches.{touched_by}
+use Rattle.replay_log.specs.Touches.{summed_by}
 use Rattle.shadow.specs.Memo.{MemoView, copies_without, entries_without, has_key, holds_with, total_without, with_count, with_entry}
 use Rattle.shadow.specs.Memo.{with_key, with_total}
 use Rattle.actor_copies.specs.declared.copies.Copied.TheVariants.{Keys, Whole}
@@ -80,7 +80,7 @@ module _ {V : Type 0} where
     len_forgets pieces.Counts m none = sym none
     len_forgets pieces.Whole m none = refl
 
-    forgets : (op : Op V) (s : Shown V) (h : Touched V) (q : Piece) → touched_by n op s ≡ Some h → (z : Shown V) → kind_of z ≡ kind_of s
+    forgets : (op : Op V) (s : Shown V) (h : Touched V) (q : Piece) → summed_by n op s ≡ Some h → (z : Shown V) → kind_of z ≡ kind_of s
         → Forgets op q h z
     forgets (Get k) (OfMap m) h q e z kind = map_forgets (Get k) q _ h e (λ l none. entry_forgets k _ q l none) z kind
     forgets (Put k v) (OfMap m) h q e z kind = map_forgets (Put k v) q _ h e (λ l none. entry_forgets k _ q l none) z kind

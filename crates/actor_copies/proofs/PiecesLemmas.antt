@@ -17,7 +17,7 @@ use Rattle.replay_log.specs.Base.{Shown, OfMap, OfBag, OfPq, OfQueue, shown_of, 
 use Rattle.replay_log.specs.Parts.{Kind, MapKind, BagKind, PqKind, QueueKind, kind_of}
 use Rattle.replay_log.specs.Pieces as pieces
 use Rattle.replay_log.specs.Pieces.{Piece, is_piece, piece_of}
-use Rattle.replay_log.specs.Touches.{touched_by}
+use Rattle.replay_log.specs.Touches.{summed_by}
 use Rattle.shadow.specs.Memo.{MemoView, has_key, with_count, with_entry, with_key, with_number, with_total}
 use Rattle.actor_copies.specs.declared.copies.Copied.{Copied}
 use Rattle.actor_copies.specs.declared.copies.Copied.TheVariants.{Keys, Whole}
@@ -94,7 +94,7 @@ module _ {V : Type 0} where
     len_takes k pieces.Counts m = some_total k total
     len_takes k pieces.Whole m = refl
 
-    takes : (op : Op V) (s : Shown V) (h : Touched V) (q : Piece) → touched_by n op s ≡ Some h → (z : Shown V) → kind_of z ≡ kind_of s
+    takes : (op : Op V) (s : Shown V) (h : Touched V) (q : Piece) → summed_by n op s ≡ Some h → (z : Shown V) → kind_of z ≡ kind_of s
         → Takes op q h z
     takes (Get k) (OfMap m) h q e z kind = map_takes (Get k) q _ h e (λ l. entry_takes k _ q l) z kind
     takes (Put k v) (OfMap m) h q e z kind = map_takes (Put k v) q _ h e (λ l. entry_takes k _ q l) z kind
@@ -107,7 +107,7 @@ module _ {V : Type 0} where
 
   -- a memo that has learnt what the call touches
   pub learnt_pieces : (n : ℕ) (op : Op V) (s : Shown V) (t : Touch V) (m : MemoView V) (es : _) (d : Copied V) (q : Piece)
-      → touched_by n op s ≡ Some t.held → kind_of (shown_of m.blank) ≡ kind_of s → IsLearnt t (Keys m es) d
+      → summed_by n op s ≡ Some t.held → kind_of (shown_of m.blank) ≡ kind_of s → IsLearnt t (Keys m es) d
       → has_piece d q ≡ cond (is_piece (piece_of (kind_of s) op) q) true (has_piece (Keys m es) q)
   learnt_pieces n op s t m es (Keys l fs) q touched kind now =
       as_piece (shown_of l.blank) l q

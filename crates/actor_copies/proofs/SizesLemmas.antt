@@ -22,7 +22,7 @@ use Rattle.replay_log.specs.Contents.{Asked, Block, block_of, content}
 use Rattle.replay_log.specs.Guards.{Allows, IsAllowed, step_action}
 use Rattle.replay_log.specs.Parts.{MapKind, BagKind, PqKind, QueueKind, kind_of}
 use Rattle.replay_log.specs.Pieces.{covers_at}
-use Rattle.replay_log.specs.Touches.{editions_at, touched_by, touched_places}
+use Rattle.replay_log.specs.Touches.{editions_at, summed_by, touched_places}
 use Rattle.replay_log.specs.Worlds.{Copying, Stage, World, opened, run}
 use Rattle.replay_log.proofs.ContentLemmas.{same_block}
 use Rattle.replay_log.proofs.EventLemmas.{opened_linked, run_linked}
@@ -84,7 +84,7 @@ module _ {V : Type 0} where
 
   -- ---- what a call touches
   map_touches : (n : ℕ) (op : Op V) (m : FinMap nat_cmp V) (o : Outcome V) → outcome_of op (OfMap m) ≡ Some o
-      → (h : Touched V) × (touched_by n op (OfMap m) ≡ Some h)
+      → (h : Touched V) × (summed_by n op (OfMap m) ≡ Some h)
   map_touches n (Get k) m o e = (_, refl)
   map_touches n (Put k v) m o e = (_, refl)
   map_touches n (Remove k) m o e = (_, refl)
@@ -92,14 +92,14 @@ module _ {V : Type 0} where
   map_touches n _ m o e = absurd (none_some o e)
 
   bag_touches : (n : ℕ) (op : Op V) (m : Multiset) (o : Outcome V) → outcome_of op (OfBag m) ≡ Some o
-      → (h : Touched V) × (touched_by n op (OfBag m) ≡ Some h)
+      → (h : Touched V) × (summed_by n op (OfBag m) ≡ Some h)
   bag_touches n (Count i) m o e = (_, refl)
   bag_touches n (Add i) m o e = (_, refl)
   bag_touches n (Take i) m o e = (_, refl)
   bag_touches n _ m o e = absurd (none_some o e)
 
   touches : (n : ℕ) (op : Op V) (s : Shown V) (o : Outcome V) → is_copied_whole (kind_of s) ≡ false → outcome_of op s ≡ Some o
-      → (h : Touched V) × (touched_by n op s ≡ Some h)
+      → (h : Touched V) × (summed_by n op s ≡ Some h)
   touches n op (OfMap m) o keys e = map_touches n op m o e
   touches n op (OfBag m) o keys e = bag_touches n op m o e
   touches n op (OfPq m) o keys e = absurd (true≢false keys)
@@ -147,7 +147,7 @@ module _ {V : Type 0} (w : World V) (a : ℕ) (b : Block) (asked : Asked V) (bas
 
   -- ---- single keys
   module _ (kind : is_copied_whole (kind_of (shown_of base)) ≡ false) where
-    abbrev there : (h : Touched V) × (touched_by (stripes_of base) asked.op (shown_of base) ≡ Some h)
+    abbrev there : (h : Touched V) × (summed_by (stripes_of base) asked.op (shown_of base) ≡ Some h)
     there = touches (stripes_of base) asked.op (shown_of base) o kind is_o
 
     abbrev t : Touch V

@@ -49,7 +49,7 @@ use Rattle.conflict.specs.Places.{none_some, some_same, in_single, key_itself}
 use Rattle.conflict.specs.Table.{Room}
 use Rattle.replay_log.specs.declared.touch.Touch.{Touch}
 use Rattle.replay_log.specs.declared.touch.Touched.{Touched}
-use Rattle.replay_log.specs.Touches.{editions_at, touched_by, touched_places}
+use Rattle.replay_log.specs.Touches.{editions_at, summed_by, touched_places}
 use Rattle.replay_log.specs.Pieces as pieces
 use Rattle.atomic_steps.specs.Bases.{log_changes, log_locations}
 use Rattle.shadow.specs.Memo.{IsCopyBy, MemoView, answer_with, entry_outcome, has_key, holds_with, with_count, with_entry}
@@ -199,7 +199,7 @@ module _ {V : Type 0} where
         → kind_of z ≡ BagKind → Holds op h z
     learnt_bag op g h e each z kind = at_bag (Holds op h) (λ m. subst (λ q. Holds op q (OfBag m)) (some_same g h e) (each m)) z kind
 
-    learnt_holds : (op : Op V) (s : Shown V) (h : Touched V) → touched_by n op s ≡ Some h → (z : Shown V) → kind_of z ≡ kind_of s
+    learnt_holds : (op : Op V) (s : Shown V) (h : Touched V) → summed_by n op s ≡ Some h → (z : Shown V) → kind_of z ≡ kind_of s
         → Holds op h z
     learnt_holds (Get k) (OfMap m) h e z kind = learnt_map (Get k) _ h e (λ q. has_itself es k (get m k)) z kind
     learnt_holds (Put k v) (OfMap m) h e z kind = learnt_map (Put k v) _ h e (λ q. has_itself es k (get m k)) z kind
@@ -234,7 +234,7 @@ module _ {V : Type 0} where
     abbrev some_outcome : Outcome V → Option (Outcome V)
     some_outcome o = Some o
 
-    touched_answers : (op : Op V) (s : Shown V) (h : Touched V) (g r : ℕ) → touched_by n op s ≡ Some h → is_change op ≡ true
+    touched_answers : (op : Op V) (s : Shown V) (h : Touched V) (g r : ℕ) → summed_by n op s ≡ Some h → is_change op ≡ true
         → (z : Shown V) → kind_of z ≡ kind_of s → Answers op (outcome_of op s) g r h z
     touched_answers (Put k v) (OfMap m) h g r e change z kind =
         answers_map (Put k v) _ g r _ h e
@@ -254,7 +254,7 @@ module _ {V : Type 0} where
     touched_answers op s h g r e change z kind = absurd (none_some h e)
 
   -- a change touches one location
-  one_place : (n : ℕ) (op : Op V) (s : Shown V) (h : Touched V) → touched_by n op s ≡ Some h → is_change op ≡ true
+  one_place : (n : ℕ) (op : Op V) (s : Shown V) (h : Touched V) → summed_by n op s ≡ Some h → is_change op ≡ true
       → (i : ℕ) × (touched_places n h ≡ i ∷ [])
   one_place n (Put k v) (OfMap m) h e change = (key_place n k, ap (λ (g : Touched V). touched_places n g) (sym (some_same _ h e)))
   one_place n (Remove k) (OfMap m) h e change = (key_place n k, ap (λ (g : Touched V). touched_places n g) (sym (some_same _ h e)))
@@ -265,7 +265,7 @@ module _ {V : Type 0} where
   one_place n (Count i) (OfBag m) h e change = absurd (true≢false (sym change))
   one_place n op s h e change = absurd (none_some h e)
 
-  same_op_reads : (n : ℕ) (op : Op V) (s : Shown V) (h : Touched V) → 0 < n → touched_by n op s ≡ Some h → (o q : Outcome V) → o.op ≡ q.op
+  same_op_reads : (n : ℕ) (op : Op V) (s : Shown V) (h : Touched V) → 0 < n → summed_by n op s ≡ Some h → (o q : Outcome V) → o.op ≡ q.op
       → reads_of n o s ≡ reads_of n q s
   same_op_reads n op (OfMap m) h pos e o q same = ap (map_reads n) same
   same_op_reads n op (OfBag m) h pos e o q same = ap (multiset_reads n) same
@@ -386,8 +386,8 @@ module _ {V : Type 0} (w : World V) (a : ℕ) (b : Block) (asked : Asked V) (bas
 
   -- ---- a memo
   module _ (t : Touch V) (here : IsFound base asked.op (found.Keys t)) where
-    touched : touched_by b.stripes asked.op (shown_of base) ≡ Some t.held
-    touched = ap (λ n. touched_by n asked.op (shown_of base)) (sym of.stripes) ∙ here.0
+    touched : summed_by b.stripes asked.op (shown_of base) ≡ Some t.held
+    touched = ap (λ n. summed_by n asked.op (shown_of base)) (sym of.stripes) ∙ here.0
 
     abbrev places : List ℕ
     places = touched_places b.stripes t.held

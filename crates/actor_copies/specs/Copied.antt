@@ -12,7 +12,7 @@ use Rattle.replay_log.specs.Contents.{Answered, Asked, Block, HaveStripes, block
 use Rattle.replay_log.specs.Guards.{Allows}
 use Rattle.replay_log.specs.Parts.{kind_of, part}
 use Rattle.replay_log.specs.Pieces.{Piece}
-use Rattle.replay_log.specs.Touches.{touched_by}
+use Rattle.replay_log.specs.Touches.{summed_by}
 use Rattle.replay_log.specs.declared.touch.Touch.{Touch}
 use Rattle.std.specs.Prelude.{Bool, slice_index, if◌then◌else◌}
 use Rattle.actor_copies.specs.declared.copies.Copied.{Copied}
@@ -159,7 +159,7 @@ CopiesReached V =
 -- ready.
 abbrev pub ForgetsPieces : Type 0 → Type 0
 ForgetsPieces V =
-    (n : ℕ) (op : Op V) (s : Shown V) (t : Touch V) (c d e g : Copied V) (q : Piece) → touched_by n op s ≡ Some t.held
+    (n : ℕ) (op : Op V) (s : Shown V) (t : Touch V) (c d e g : Copied V) (q : Piece) → summed_by n op s ≡ Some t.held
     → kind_of (shown_of (base_in c)) ≡ kind_of s → holds_call c op ≡ false → IsLearnt t c d → IsKept d e → IsForgotten op e g
     → has_piece g q ≡ has_piece c q
 

@@ -11,7 +11,7 @@ use Rattle.replay_log.specs.Base.{Shown, OfMap, OfBag, after, changes_of, editio
 use Rattle.replay_log.specs.Parts.{Kind, PqKind, QueueKind, kind_of, part}
 use Rattle.replay_log.specs.Pieces as pieces
 use Rattle.replay_log.specs.Pieces.{Piece, is_piece}
-use Rattle.replay_log.specs.Touches.{editions_at, touched_by, touched_places}
+use Rattle.replay_log.specs.Touches.{editions_at, summed_by, touched_places}
 use Rattle.replay_log.specs.Contents.{Answered, Block, size}
 use Rattle.collection_machine.specs.Boosted.{Shadow as Part}
 use Rattle.atomic_steps.specs.Bases.{log_changes, log_locations}
@@ -118,7 +118,7 @@ module _ {V : Type 0} where
   -- what a call touches of a base
   abbrev pub IsFound : Base V → Op V → Found V → Type 0
   IsFound base op (found.Keys t) =
-      (touched_by (stripes_of base) op (shown_of base) ≡ Some t.held)
+      (summed_by (stripes_of base) op (shown_of base) ≡ Some t.held)
       × (t.editions ≡ editions_at (touched_places (stripes_of base) t.held) (editions_of base))
   IsFound base op (found.Whole c) =
       (shown_of c.base ≡ shown_of base) × (stripes_of c.base ≡ stripes_of base) × (editions_of c.base ≡ editions_of base)

@@ -7,7 +7,7 @@ ghost use Rattle.replay_log.specs.declared.touch.Touch.{Touch};
 ghost use Rattle.replay_log.specs.Base.{Shown, shown_of, stripes_of};
 ghost use Rattle.replay_log.specs.Parts.{kind_of};
 ghost use Rattle.replay_log.specs.Pieces.{Piece, is_piece, piece_of};
-ghost use Rattle.replay_log.specs.Touches.{touched_by};
+ghost use Rattle.replay_log.specs.Touches.{summed_by};
 ghost use Rattle.shadow.specs.Memo.{MemoView};
 ghost use Rattle.actor_copies.specs.declared.copies.Copied.{Copied};
 ghost use Rattle.actor_copies.specs.declared.copies.Copied.TheVariants.{Keys};
@@ -48,7 +48,7 @@ pub fn copied_forgets<V: Value>()
 /// What is copied for a call: there are then the pieces that there were, and the one that the call touches; at first that one alone.
 pub fn copied_takes<V: Value>()
     ensures learnt { (n : ℕ) (op : Op V) (s : Shown V) (t : Touch V) (m : MemoView V) (es : Room ℕ) (d : Copied V) (q : Piece) →
-        touched_by n op s ≡ Some t.held → kind_of (shown_of m.blank) ≡ kind_of s → IsLearnt t (Keys m es) d →
+        summed_by n op s ≡ Some t.held → kind_of (shown_of m.blank) ≡ kind_of s → IsLearnt t (Keys m es) d →
         has_piece d q ≡ (if is_piece (piece_of (kind_of s) op) q then true else has_piece (Keys m es) q) }
     ensures first { (base : Base V) (op : Op V) (x : Found V) (d : Copied V) (q : Piece) → IsFound base op x →
         IsFirst (stripes_of base) x d →

@@ -50,7 +50,7 @@ impl<V: Value> Copied<V> {
         ensures refused { IfErr result (λ refusal. IsRefusal refusal (answer_of self.now op.now ≡ None)) }
     {
         match self {
-            Copied::Keys(memo, _) => memo.get().answer(op, outcome),
+            Copied::Keys(memo, _) => memo.get().answer_into(op, outcome),
             Copied::Whole(shadow) => {
                 *outcome = Some(shadow.get().answer(op)?);
                 Ok(())
@@ -69,7 +69,7 @@ impl<V: Value> Copied<V> {
             Copied::Keys(memo, known) => {
                 let known = known.get_mut();
                 known.reserve(editions.as_slice().len())?;
-                memo.get_mut().add(held)?;
+                memo.get_mut().add_held(held)?;
                 keep_editions(known, editions.as_slice());
             }
             Copied::Whole(_) => {}
@@ -108,8 +108,8 @@ impl<V: Value> Copied<V> {
         ensures reply { outcome.new.reply ≡ outcome.old.reply }
     {
         match self {
-            Copied::Keys(memo, _) => memo.get_mut().accept(outcome),
-            Copied::Whole(shadow) => shadow.get_mut().accept(outcome),
+            Copied::Keys(memo, _) => memo.get_mut().accept_in_place(outcome),
+            Copied::Whole(shadow) => shadow.get_mut().accept_in_place(outcome),
         }
     }
 
@@ -154,8 +154,7 @@ impl<V: Value> Copied<V> {
         requires below { All (λ location. slice_index (editions_of base.old) location < 2 ^ 63) (locations_in self) }
         ensures { IsFolded (changes_in self) (locations_in self) base.old base.new }
     {
-        let mut log = self.log();
-        log.fold(base);
+        self.log().fold_into(base);
     }
 }
 

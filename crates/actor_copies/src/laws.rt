@@ -14,7 +14,7 @@ ghost use Rattle.replay_log.specs.Parts.{kind_of, part};
 ghost use Rattle.replay_log.specs.Pieces.{piece_of};
 ghost use Rattle.replay_log.specs.declared.touch.Touch.{Touch};
 ghost use Rattle.replay_log.specs.declared.touch.Touched.{Touched};
-ghost use Rattle.replay_log.specs.Touches.{touched_by, touched_places};
+ghost use Rattle.replay_log.specs.Touches.{summed_by, touched_places};
 ghost use Rattle.shadow.specs.Memo.{IsAlike, MemoView, holds};
 ghost use Rattle.replay_log.specs.Contents.{Answered, Block, HaveStripes, block_of, content, first_of};
 ghost use Rattle.actor_copies.specs.declared.copies.Copied.{Copied};
@@ -62,7 +62,7 @@ pub fn copies_follow<V: Value>()
         IsCopied b f k x c → holds_call c o.op ≡ true → answer_of c o.op ≡ Some o → IsAccepted o c d →
         IsCopied b f k (longer x (answered_on k o.op o)) d }
     ensures learnt { (b : Block) (s : Shown V) (changes : List (Change V)) (locations : List ℕ) (c d : Copied V) (op : Op V) (t : Touch V) →
-        0 < b.stripes → IsOf b s changes locations c → touched_by b.stripes op s ≡ Some t.held → IsLearnt t c d →
+        0 < b.stripes → IsOf b s changes locations c → summed_by b.stripes op s ≡ Some t.held → IsLearnt t c d →
         IsOf b s changes locations d }
     ensures pieces { (m : MemoView V) (es : Room ℕ) (op : Op V) (o : Outcome V) → outcome_of op (shown_of m.blank) ≡ Some o →
         holds_call (Keys m es) op ≡ has_piece (Keys m es) (piece_of (kind_of (shown_of m.blank)) op) }
@@ -98,8 +98,8 @@ pub fn copies_found<V: Value>()
     ensures mixed { (b : Block) (f : ℕ) (parts now : ℕ → Shown V) (s t : Shown V) (taken : ℕ → Bool) → 0 < b.stripes →
         ShowParts b f parts s → ShowParts b f now t → (u : Shown V) × ShowParts b f (λ l. if taken l then now l else parts l) u }
     ensures touched { (n : ℕ) (op : Op V) (s t : Shown V) → 0 < n → kind_of s ≡ kind_of t →
-        ((h : Touched V) → touched_by n op t ≡ Some h → (i : ℕ) → Contains (touched_places n h) i → part n i t ≡ part n i s) →
-        touched_by n op s ≡ touched_by n op t }
+        ((h : Touched V) → summed_by n op t ≡ Some h → (i : ℕ) → Contains (touched_places n h) i → part n i t ≡ part n i s) →
+        summed_by n op s ≡ summed_by n op t }
 {}
 
 /// In every world that events have reached, an actor at rest in its transaction may call: a call whose locations have all been read with

@@ -2,7 +2,7 @@
 ghost use Rattle.std.specs.Prelude.{◌≡◌, ◌<◌, [], IfOk, IfSome, Some, length};
 ghost use Rattle.std.specs.FinMap as map;
 ghost use Rattle.replay_log.specs.Base.{editions_of, shown_of, stripes_of};
-ghost use Rattle.replay_log.specs.Touches.{editions_at, touched_by, touched_places};
+ghost use Rattle.replay_log.specs.Touches.{editions_at, summed_by, touched_places};
 ghost use Rattle.actor_copies.specs.Copies.{changes_in, locations_in};
 ghost use Rattle.actor_copies.specs.First.{IsBlank};
 
@@ -191,9 +191,9 @@ impl<V: Value> Spares<V> {
     pub(crate) fn touch(&mut self, base: &Base<V>, op: &Op<V>) -> Result<Touch<V>, Refusal>
         ensures editions { IfOk result (λ touch. touch.editions
             ≡ editions_at (touched_places (stripes_of base.now) touch.held) (editions_of base.now)) }
-        ensures held { IfOk result (λ touch. touched_by (stripes_of base.now) op.now (shown_of base.now) ≡ Some touch.held) }
+        ensures held { IfOk result (λ touch. summed_by (stripes_of base.now) op.now (shown_of base.now) ≡ Some touch.held) }
     {
-        base.touch(op, &mut self.editions)
+        base.touch_summed(op, &mut self.editions)
     }
 
     /// A copy of the base, in kept memory where there is some. The calls that its shadow has are of no meaning.
@@ -246,7 +246,7 @@ fn first_whole<V: Value>(alloc: Global, base: &Base<V>) -> Result<Boxed<Shadow<V
     ensures stripes { IfOk result (λ shadow. stripes_of shadow.base ≡ stripes_of base.now) }
     ensures editions { IfOk result (λ shadow. editions_of shadow.base ≡ editions_of base.now) }
 {
-    let shadow = Shadow::of_copy(alloc, base.try_copy()?, Log::new(alloc));
+    let shadow = Shadow::of_copy(alloc, base.try_copy()?);
     let boxed = Boxed::new(alloc, shadow)?;
     Ok(boxed)
 }

@@ -175,9 +175,9 @@ fn log_of(alloc: Global, changes: Changes<u64>) -> Result<Log<u64>, Memory>
 // Makes the call, and folds its changes in at once by a log of their own, which raises no edition.
 fn call(alloc: Global, base: &mut Base<u64>, op: &Op<u64>) -> Result<Reply<u64>, Refusal> {
     let outcome = base.outcome(op)?;
-    let mut log = log_of(alloc, base.changes(&outcome)?)?;
+    let log = log_of(alloc, base.changes(&outcome)?)?;
     base.prepare(log.changes())?;
-    log.fold(base);
+    log.fold_into(base);
     Ok(outcome.reply)
 }
 
@@ -198,7 +198,7 @@ fn shadow_call(text: &mut String, shadow: &mut Shadow<u64>, op: &Op<u64>) -> Res
 
 fn accept(shadow: &mut Shadow<u64>, outcome: Outcome<u64>) -> Result<(), Memory> {
     shadow.ready(&outcome)?;
-    shadow.accept(&outcome);
+    shadow.accept(outcome);
     Ok(())
 }
 
@@ -219,7 +219,7 @@ fn print_log(text: &mut String, shadow: Shadow<u64>) -> Result<(), Refusal> {
 fn shadowed(text: &mut String, base: &Base<u64>, lines: &[Line]) -> Result<(), Refusal> {
     let copy = base.try_copy()?;
     let alloc = *text.allocator();
-    let mut shadow = Shadow::of_copy(alloc, copy, Log::new(alloc));
+    let mut shadow = Shadow::of_copy(alloc, copy);
     shadow_all(text, &mut shadow, lines)?;
     print_log(text, shadow)
 }

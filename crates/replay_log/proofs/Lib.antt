@@ -37,4 +37,4 @@ pub mod NumberLemmas
 pub mod RoomLemmas
 pub mod CountLemmas
 pub mod ReplyLemmas
-mod TouchLemmas
+pub mod TouchLemmas

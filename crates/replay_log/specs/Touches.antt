@@ -1,13 +1,16 @@
--- What a transaction copies of a map or a multiset for a call: a key, or the number of all.
+-- What a transaction copies of a map or a multiset for a call: a key, or how many keys each stripe has.
 use Rattle.std.specs.Prelude.{ℕ, List, [], ◌∷◌, Option, Some, None, slice_index}
-use Rattle.std.specs.FinMap.{get, len}
+use Rattle.std.specs.List.{sum}
+use Rattle.std.specs.Ordering.{nat_cmp}
+use Rattle.std.specs.FinMap.{FinMap, get, len}
 use Rattle.seq_model.specs.declared.call.Op.{Op}
 use Rattle.seq_model.specs.declared.call.Op.TheVariants.{Get, Put, Remove, Len, Count, Add, Take}
 use Rattle.seq_model.specs.Counts.{copies}
+use Rattle.conflict.specs.Counts.{stripe_counts}
 use Rattle.conflict.specs.Footprints.{all_below, key_place}
 use Rattle.replay_log.specs.Base.{Shown, OfMap, OfBag}
 use Rattle.replay_log.specs.declared.touch.Touched.{Touched}
-use Rattle.replay_log.specs.declared.touch.Touched.TheVariants.{Entry, Copies, Total}
+use Rattle.replay_log.specs.declared.touch.Touched.TheVariants.{Entry, Copies, Counts, Total}
 
 -- the editions of these locations
 abbrev pub editions_at : List ℕ → List ℕ → List (ℕ × ℕ)
@@ -18,6 +21,7 @@ editions_at (l ∷ ls) editions = (l, slice_index editions l) ∷ editions_at ls
 abbrev pub touched_places : {V : Type 0} → ℕ → Touched V → List ℕ
 touched_places n (Entry k o) = key_place n k ∷ []
 touched_places n (Copies x c) = key_place n x ∷ []
+touched_places n (Counts cs) = all_below n
 touched_places n (Total t) = all_below n
 
 -- what a call touches, in n stripes; nothing, if it is of another kind than a map or a multiset
@@ -25,8 +29,21 @@ abbrev pub touched_by : {V : Type 0} → ℕ → Op V → Shown V → Option (To
 touched_by n (Get k) (OfMap m) = Some (Entry k (get m k))
 touched_by n (Put k v) (OfMap m) = Some (Entry k (get m k))
 touched_by n (Remove k) (OfMap m) = Some (Entry k (get m k))
-touched_by n Len (OfMap m) = Some (Total (len m))
+touched_by n Len (OfMap m) = Some (Counts (stripe_counts n m))
 touched_by n (Count x) (OfBag m) = Some (Copies x (copies m x))
 touched_by n (Add x) (OfBag m) = Some (Copies x (copies m x))
 touched_by n (Take x) (OfBag m) = Some (Copies x (copies m x))
 touched_by n op s = None
+
+-- the same with the counts summed: the number of all keys, which a map has at hand
+abbrev pub summed : {V : Type 0} → Touched V → Touched V
+summed (Counts cs) = Total (sum cs)
+summed t = t
+
+abbrev pub map_summed_by : {V : Type 0} → ℕ → Op V → FinMap nat_cmp V → Option (Touched V)
+map_summed_by n Len m = Some (Total (len m))
+map_summed_by n op m = touched_by n op (OfMap m)
+
+abbrev pub summed_by : {V : Type 0} → ℕ → Op V → Shown V → Option (Touched V)
+summed_by n op (OfMap m) = map_summed_by n op m
+summed_by n op s = touched_by n op s

@@ -21,10 +21,10 @@ ghost use Rattle.replay_log.specs.Base.{
   view_of,
   writes_of,
 };
-ghost use Rattle.replay_log.specs.Touches.{editions_at, touched_by, touched_places};
+ghost use Rattle.replay_log.specs.Touches.{editions_at, summed_by, touched_by, touched_places};
 
 use crate::location_editions::LocationEditions;
-use crate::touch::{Touch, touch_bag, touch_map};
+use crate::touch::{Touch, touch_bag, touch_map, touch_map_summed};
 use base_bag::BagBase;
 use base_map::MapBase;
 use base_pq::PqBase;
@@ -213,16 +213,31 @@ impl<V: Value> Base<V> {
     }
 
     /// What a transaction that keeps single keys copies for the call: the key that it is on, with the edition of its location; for
-    /// the number of all keys of a map, that number, with the editions of all stripes, in the memory of the list that is lent. A call that
-    /// is of another kind than this map or multiset is refused as NoSuch.
-    pub fn touch(&self, op: &Op<V>, lent: &mut LocationEditions) -> Result<Touch<V>, Refusal>
+    /// the number of all keys of a map, how many each stripe has, with the editions of all. A call that is of another kind than this
+    /// map or multiset is refused as NoSuch.
+    pub fn touch(&self, op: &Op<V>) -> Result<Touch<V>, Refusal>
         ensures editions { IfOk result (λ touch. touch.editions
             ≡ editions_at (touched_places (stripes_of self.now) touch.held) (editions_of self.now)) }
         ensures held { IfOk result (λ touch. touched_by (stripes_of self.now) op.now (shown_of self.now) ≡ Some touch.held) }
         ensures refused { IfErr result (λ refusal. IsRefusal refusal (touched_by (stripes_of self.now) op.now (shown_of self.now) ≡ None)) }
     {
         match self {
-            Base::Map(base) => touch_map(base, op, lent),
+            Base::Map(base) => touch_map(base, op),
+            Base::Bag(base) => touch_bag(base, op),
+            _ => Err(Refusal::NoSuch),
+        }
+    }
+
+    /// What `touch` copies, with the number of all keys in place of those of each stripe, which takes no pass over them, and with the
+    /// editions of all stripes in the memory of the list that is lent.
+    pub fn touch_summed(&self, op: &Op<V>, lent: &mut LocationEditions) -> Result<Touch<V>, Refusal>
+        ensures editions { IfOk result (λ touch. touch.editions
+            ≡ editions_at (touched_places (stripes_of self.now) touch.held) (editions_of self.now)) }
+        ensures held { IfOk result (λ touch. summed_by (stripes_of self.now) op.now (shown_of self.now) ≡ Some touch.held) }
+        ensures refused { IfErr result (λ refusal. IsRefusal refusal (summed_by (stripes_of self.now) op.now (shown_of self.now) ≡ None)) }
+    {
+        match self {
+            Base::Map(base) => touch_map_summed(base, op, lent),
             Base::Bag(base) => touch_bag(base, op),
             _ => Err(Refusal::NoSuch),
         }

@@ -1,5 +1,5 @@
 //! The laws of the definitions that the contracts cite. Each function computes nothing: its contract is the law.
-ghost use Rattle.std.specs.Prelude.{◌≡◌, ◌≢◌, ◌≤◌, ◌+◌, ◌++◌, ℕ, List, [], ◌∷◌, Some, None, true, false, length, get_or};
+ghost use Rattle.std.specs.Prelude.{◌≡◌, ◌≢◌, ◌<◌, ◌≤◌, ◌+◌, ◌++◌, ℕ, List, [], ◌∷◌, Some, None, true, false, length, get_or, option_map};
 ghost use Rattle.seq_model.specs.declared.event.Event.{Event};
 ghost use Rattle.seq_model.specs.declared.event.Event.TheVariants.{Ask, Step, Starve};
 ghost use Rattle.seq_model.specs.declared.event.Request.{Request};
@@ -44,6 +44,7 @@ ghost use Rattle.replay_log.specs.WorldProgress.{AreSmall, IsQuiet, Nears, left_
 ghost use Rattle.replay_log.specs.WorldTries.{InVain, tried_at};
 ghost use Rattle.replay_log.specs.WorldSerial.{AreHalfDone, AreUpTo, HasWritten, IsSerial, SawAt, commits_at};
 ghost use Rattle.seq_model.specs.Runs.{IsLegal, state_at};
+ghost use Rattle.replay_log.specs.Touches.{summed, summed_by, touched_by};
 ghost use Rattle.replay_log.specs.Guards.{IsAllowed, IsAtRest, step_action};
 
 use seq_model::Value;
@@ -64,6 +65,12 @@ pub fn fold_laws<V: Value>()
     ensures parts { (first second : List (Change V)) (s : Shown V) → after (first ++ second) s ≡ after second (after first s) }
     ensures each { RaisesEach }
     ensures others { KeepsOthers }
+{}
+
+/// What is touched of a map without the counts of its stripes is what is touched with them, summed: the counts add up to the number of
+/// its keys.
+pub fn touches<V: Value>()
+    ensures summed { (n : ℕ) (op : Op V) (s : Shown V) → 0 < n → summed_by n op s ≡ option_map summed (touched_by n op s) }
 {}
 
 /// A base is the whole of its parts, one for each location. An outcome depends on the parts of the locations that it reads, and

@@ -150,8 +150,21 @@ impl<V: Value> Log<V> {
     }
 
     /// Applies the changes to the base in order, and raises by one the edition of each location that was pushed with them, however
-    /// often. There has to be room in the base for the changes, so it takes no memory and is never refused. The log is left empty, with
-    /// its memory.
+    /// often. There has to be room in the base for the changes, so it takes no memory and is never refused.
+    pub fn fold_into(self, base: &mut Base<V>)
+        requires prepared { IsPreparedFor self.changes base.old }
+        requires within { All (λ location. location < locations_of (stripes_of base.old) (shown_of base.old)) self.locations }
+        requires below { All (λ location. slice_index (editions_of base.old) location < 2 ^ 63) self.locations }
+        ensures shown { shown_of base.new ≡ after self.changes (shown_of base.old) }
+        ensures stripes { stripes_of base.new ≡ stripes_of base.old }
+        ensures editions { AreRaised self.locations (editions_of base.old) (editions_of base.new) }
+        ensures room { LeavesPrepared self.changes base.old base.new }
+    {
+        let mut log = self;
+        log.fold(base);
+    }
+
+    /// What `fold_into` does, of a log that is left empty and keeps its memory.
     pub fn fold(&mut self, base: &mut Base<V>)
         requires prepared { IsPreparedFor self.old.changes base.old }
         requires within { All (λ location. location < locations_of (stripes_of base.old) (shown_of base.old)) self.old.locations }

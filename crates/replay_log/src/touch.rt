@@ -1,15 +1,17 @@
-//! What a transaction copies of a map or a multiset for a call: a key, or the number of all.
-ghost use Rattle.std.specs.Prelude.{◌≡◌, Some, None, IfOk, IfErr};
+//! What a transaction copies of a map or a multiset for a call: a key, or how many keys each stripe has.
+ghost use Rattle.std.specs.Prelude.{◌≡◌, ◌∷◌, [], Some, None, IfOk, IfErr, slice_index};
+ghost use Rattle.std.specs.FinMap.{get};
 ghost use Rattle.seq_model.specs.Calls.{IsRefusal};
 ghost use Rattle.seq_model.specs.declared.call.Op.TheVariants.{Len};
-ghost use Rattle.conflict.specs.Footprints.{all_below};
+ghost use Rattle.conflict.specs.Footprints.{all_below, key_place};
 ghost use Rattle.replay_log.specs.Base.{OfMap, OfBag};
-ghost use Rattle.replay_log.specs.Touches.{editions_at, touched_by, touched_places};
+ghost use Rattle.replay_log.specs.Touches.{editions_at, summed_by, touched_by, touched_places};
+ghost use Rattle.replay_log.specs.declared.touch.Touched.TheVariants as touched;
 
 use crate::location_editions::LocationEditions;
 use base_bag::BagBase;
 use base_map::MapBase;
-use seq_model::{Memory, Op, Refusal, Value};
+use seq_model::{Items, Memory, Op, Refusal, Value};
 use std::mem;
 
 /// What is copied.
@@ -19,7 +21,9 @@ pub enum Touched<V> {
     Entry(u64, Option<V>),
     /// In a multiset, the element with the number of its copies.
     Copies(u64, u64),
-    /// Of a map, the number of its keys.
+    /// Of a map, the number of keys on each stripe.
+    Counts(Items<u64>),
+    /// Of a map, the number of all its keys.
     Total(u64),
 }
 
@@ -30,11 +34,7 @@ pub struct Touch<V> {
     pub held: Touched<V>,
 }
 
-pub(crate) fn touch_map<V: Value>(
-    base: &MapBase<V>,
-    op: &Op<V>,
-    lent: &mut LocationEditions,
-) -> Result<Touch<V>, Refusal>
+pub(crate) fn touch_map<V: Value>(base: &MapBase<V>, op: &Op<V>) -> Result<Touch<V>, Refusal>
     ensures editions { IfOk result
         (λ touch. touch.editions ≡ editions_at (touched_places base.now.stripes touch.held) base.now.editions) }
     ensures held { IfOk result (λ touch. touched_by base.now.stripes op.now (OfMap base.now.shown) ≡ Some touch.held) }
@@ -42,19 +42,57 @@ pub(crate) fn touch_map<V: Value>(
 {
     let key = match op {
         Op::Get(key) | Op::Put(key, _) | Op::Remove(key) => *key,
+        Op::Len => return Ok(touch_counts(base)?),
+        _ => return Err(Refusal::NoSuch),
+    };
+    Ok(touch_key(base, key)?)
+}
+
+/// The same with the counts summed, in the memory of the list that is lent.
+pub(crate) fn touch_map_summed<V: Value>(
+    base: &MapBase<V>,
+    op: &Op<V>,
+    lent: &mut LocationEditions,
+) -> Result<Touch<V>, Refusal>
+    ensures editions { IfOk result
+        (λ touch. touch.editions ≡ editions_at (touched_places base.now.stripes touch.held) base.now.editions) }
+    ensures held { IfOk result (λ touch. summed_by base.now.stripes op.now (OfMap base.now.shown) ≡ Some touch.held) }
+    ensures refused { IfErr result (λ refusal. IsRefusal refusal (summed_by base.now.stripes op.now (OfMap base.now.shown) ≡ None)) }
+{
+    let key = match op {
+        Op::Get(key) | Op::Put(key, _) | Op::Remove(key) => *key,
         Op::Len => return Ok(touch_total(base, lent)?),
         _ => return Err(Refusal::NoSuch),
     };
+    Ok(touch_key(base, key)?)
+}
+
+fn touch_key<V: Value>(base: &MapBase<V>, key: u64) -> Result<Touch<V>, Memory>
+    ensures editions { IfOk result
+        (λ touch. touch.editions ≡ editions_at (key_place base.now.stripes key ∷ []) base.now.editions) }
+    ensures held { IfOk result (λ touch. touch.held ≡ touched.Entry key (get base.now.shown key)) }
+{
     let location = base.place(key);
     let editions = LocationEditions::single(base.allocator(), location, base.edition(location));
     let held = Touched::Entry(key, base.entry(key)?);
     Ok(Touch { editions, held })
 }
 
-fn touch_total<V: Value>(base: &MapBase<V>, lent: &mut LocationEditions) -> Result<Touch<V>, Memory>
+fn touch_counts<V: Value>(base: &MapBase<V>) -> Result<Touch<V>, Memory>
     ensures editions { IfOk result
         (λ touch. touch.editions ≡ editions_at (touched_places base.now.stripes touch.held) base.now.editions) }
     ensures held { IfOk result (λ touch. touched_by base.now.stripes Len (OfMap base.now.shown) ≡ Some touch.held) }
+{
+    let mut fresh = LocationEditions::new(base.allocator());
+    let editions = all_editions(base, &mut fresh)?;
+    let held = Touched::Counts(base.counts()?);
+    Ok(Touch { editions, held })
+}
+
+fn touch_total<V: Value>(base: &MapBase<V>, lent: &mut LocationEditions) -> Result<Touch<V>, Memory>
+    ensures editions { IfOk result
+        (λ touch. touch.editions ≡ editions_at (touched_places base.now.stripes touch.held) base.now.editions) }
+    ensures held { IfOk result (λ touch. summed_by base.now.stripes Len (OfMap base.now.shown) ≡ Some touch.held) }
 {
     let editions = all_editions(base, lent)?;
     let held = Touched::Total(base.len() as u64);

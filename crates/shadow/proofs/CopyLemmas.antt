@@ -13,6 +13,7 @@ use Rattle.seq_model.specs.Calls.{value_reply}
 use Rattle.seq_model.specs.Counts.{Multiset, copies}
 use Rattle.conflict.specs.declared.change.Change.{Change}
 use Rattle.conflict.specs.declared.outcome.Outcome.{Outcome}
+use Rattle.conflict.proofs.CountLemmas.{counts_all}
 use Rattle.conflict.specs.Places.{key_itself, some_same, none_some}
 use Rattle.conflict.specs.Rules.{applied}
 use Rattle.base_map.specs.Conflicts as map
@@ -20,10 +21,12 @@ use Rattle.base_bag.specs.Conflicts as bag
 use Rattle.replay_log.specs.Base.{Shown, OfMap, OfBag, OfPq, OfQueue, after, changes_of, outcome_of}
 use Rattle.replay_log.specs.Parts.{MapKind, BagKind, PqKind, QueueKind}
 use Rattle.replay_log.specs.declared.touch.Touched.{Touched}
-use Rattle.replay_log.specs.Touches.{touched_by}
-use Rattle.shadow.specs.Memo.{IsAlike, IsCopyBy, IsCountedBy, IsOfBy, answer_with, copies_kept, entries_after, entries_kept, grown_kept}
+use Rattle.replay_log.specs.declared.touch.Touched.TheVariants.{Entry, Copies, Counts, Total}
+use Rattle.replay_log.specs.Touches.{summed_by, touched_by}
+use Rattle.shadow.specs.Memo.{IsAlike, IsCopyBy, IsCountedBy, IsOfBy, IsShown, answer_with, copies_kept, entries_after, entries_kept, grown_kept}
 use Rattle.shadow.specs.Memo.{has_key, holds_with, shrunk_kept, with_count, with_entry, with_key, with_number, with_total}
-use Rattle.shadow.proofs.MemoLemmas.{accepted, accepted_holds, answered, entries_same, entry_accepted, learnt, new_map, nothing_known}
+use Rattle.shadow.proofs.MemoLemmas.{accepted, accepted_holds, answered, entries_same, entry_accepted, is_shown}
+use Rattle.shadow.proofs.MemoLemmas.{is_shown_summed, learnt, new_map, nothing_known}
 use Rattle.shadow.proofs.LengthLemmas.{counted_accepted, len_answered, totalled}
 
 -- ---- keys held
@@ -149,44 +152,49 @@ module _ {V : Type 0} where
     abbrev With : Shown V → FinMap nat_cmp (Option V) → FinMap nat_cmp ℕ → Option ℕ → Shown V → Touched V → Type 0
     With b es cs total s t = IsCopyBy b (with_entry t es) (with_count t cs) (with_total t total) g h changes s
 
-    touched_map : (n : ℕ) (op : Op V) (t : Touched V) (b m : FinMap nat_cmp V) (es : FinMap nat_cmp (Option V))
-        (cs : FinMap nat_cmp ℕ) (total : Option ℕ)
-        → 0 < n → touched_by n op (OfMap m) ≡ Some t → IsCopyBy (OfMap b) es cs total g h changes (OfMap m)
-        → With (OfMap b) es cs total (OfMap m) t
-    touched_map n (Get k) t b m es cs total pos e is = subst (With (OfMap b) es cs total (OfMap m)) (some_same _ t e)
-        (entry_copied b m es cs total k is)
-    touched_map n (Put k v) t b m es cs total pos e is = subst (With (OfMap b) es cs total (OfMap m)) (some_same _ t e)
-        (entry_copied b m es cs total k is)
-    touched_map n (Remove k) t b m es cs total pos e is = subst (With (OfMap b) es cs total (OfMap m)) (some_same _ t e)
-        (entry_copied b m es cs total k is)
-    touched_map n Len t b m es cs total pos e is = subst (With (OfMap b) es cs total (OfMap m)) (some_same _ t e)
-        (total_copied b m es cs total is)
-    touched_map n _ t b m es cs total pos e is = absurd (none_some t e)
-
-    touched_bag : (n : ℕ) (op : Op V) (t : Touched V) (b m : Multiset) (es : FinMap nat_cmp (Option V)) (cs : FinMap nat_cmp ℕ)
+    map_copied : (n : ℕ) (t : Touched V) (b m : FinMap nat_cmp V) (es : FinMap nat_cmp (Option V)) (cs : FinMap nat_cmp ℕ)
         (total : Option ℕ)
-        → touched_by n op (OfBag m) ≡ Some t → IsCopyBy (OfBag b) es cs total g h changes (OfBag m) → With (OfBag b) es cs total (OfBag m) t
-    touched_bag n (Count x) t b m es cs total e is = subst (With (OfBag b) es cs total (OfBag m)) (some_same _ t e)
-        (count_copied b m es cs total x is)
-    touched_bag n (Add x) t b m es cs total e is = subst (With (OfBag b) es cs total (OfBag m)) (some_same _ t e)
-        (count_copied b m es cs total x is)
-    touched_bag n (Take x) t b m es cs total e is = subst (With (OfBag b) es cs total (OfBag m)) (some_same _ t e)
-        (count_copied b m es cs total x is)
-    touched_bag n _ t b m es cs total e is = absurd (none_some t e)
+        → 0 < n → IsShown n t (OfMap m) → IsCopyBy (OfMap b) es cs total g h changes (OfMap m) → With (OfMap b) es cs total (OfMap m) t
+    map_copied n (Entry k o) b m es cs total pos shown is =
+        subst (λ x. With (OfMap b) es cs total (OfMap m) (Entry k x)) shown (entry_copied b m es cs total k is)
+    map_copied n (Counts ns) b m es cs total pos shown is =
+        subst (λ x. With (OfMap b) es cs total (OfMap m) (Total x)) (sym (ap sum shown ∙ counts_all n pos m))
+        (total_copied b m es cs total is)
+    map_copied n (Total t) b m es cs total pos shown is =
+        subst (λ x. With (OfMap b) es cs total (OfMap m) (Total x)) shown (total_copied b m es cs total is)
+    map_copied n (Copies x c) b m es cs total pos shown is = absurd shown
+
+    bag_copied : (n : ℕ) (t : Touched V) (b m : Multiset) (es : FinMap nat_cmp (Option V)) (cs : FinMap nat_cmp ℕ) (total : Option ℕ)
+        → IsShown n t (OfBag m) → IsCopyBy (OfBag b) es cs total g h changes (OfBag m) → With (OfBag b) es cs total (OfBag m) t
+    bag_copied n (Copies x c) b m es cs total shown is =
+        subst (λ y. With (OfBag b) es cs total (OfBag m) (Copies x y)) shown (count_copied b m es cs total x is)
+    bag_copied n (Entry k o) b m es cs total shown is = absurd shown
+    bag_copied n (Counts ns) b m es cs total shown is = absurd shown
+    bag_copied n (Total t) b m es cs total shown is = absurd shown
+
+    shown_copy : (n : ℕ) (t : Touched V) (b s : Shown V) (es : FinMap nat_cmp (Option V)) (cs : FinMap nat_cmp ℕ)
+        (total : Option ℕ)
+        → 0 < n → IsShown n t s → IsCopyBy b es cs total g h changes s → With b es cs total s t
+    shown_copy n t (OfMap b) (OfMap m) es cs total pos shown is = map_copied n t b m es cs total pos shown is
+    shown_copy n t (OfBag b) (OfBag m) es cs total pos shown is = bag_copied n t b m es cs total shown is
+    shown_copy n t (OfMap b) (OfBag m) es cs total pos shown is = absurd (is (OfBag m) (itself (OfMap b) (OfBag m) es cs total)).0
+    shown_copy n t (OfMap b) (OfPq m) es cs total pos shown is = absurd (is (OfPq m) (itself (OfMap b) (OfPq m) es cs total)).0
+    shown_copy n t (OfMap b) (OfQueue m) es cs total pos shown is = absurd (is (OfQueue m) (itself (OfMap b) (OfQueue m) es cs total)).0
+    shown_copy n t (OfBag b) (OfMap m) es cs total pos shown is = absurd (is (OfMap m) (itself (OfBag b) (OfMap m) es cs total)).0
+    shown_copy n t (OfBag b) (OfPq m) es cs total pos shown is = absurd (is (OfPq m) (itself (OfBag b) (OfPq m) es cs total)).0
+    shown_copy n t (OfBag b) (OfQueue m) es cs total pos shown is = absurd (is (OfQueue m) (itself (OfBag b) (OfQueue m) es cs total)).0
+    shown_copy n t (OfPq b) s es cs total pos shown is = absurd (is s (itself (OfPq b) s es cs total)).0
+    shown_copy n t (OfQueue b) s es cs total pos shown is = absurd (is s (itself (OfQueue b) s es cs total)).0
 
     pub touched_copy : (n : ℕ) (op : Op V) (t : Touched V) (b s : Shown V) (es : FinMap nat_cmp (Option V)) (cs : FinMap nat_cmp ℕ)
         (total : Option ℕ)
         → 0 < n → touched_by n op s ≡ Some t → IsCopyBy b es cs total g h changes s → With b es cs total s t
-    touched_copy n op t (OfMap b) (OfMap m) es cs total pos e is = touched_map n op t b m es cs total pos e is
-    touched_copy n op t (OfBag b) (OfBag m) es cs total pos e is = touched_bag n op t b m es cs total e is
-    touched_copy n op t (OfMap b) (OfBag m) es cs total pos e is = absurd (is (OfBag m) (itself (OfMap b) (OfBag m) es cs total)).0
-    touched_copy n op t (OfMap b) (OfPq m) es cs total pos e is = absurd (is (OfPq m) (itself (OfMap b) (OfPq m) es cs total)).0
-    touched_copy n op t (OfMap b) (OfQueue m) es cs total pos e is = absurd (is (OfQueue m) (itself (OfMap b) (OfQueue m) es cs total)).0
-    touched_copy n op t (OfBag b) (OfMap m) es cs total pos e is = absurd (is (OfMap m) (itself (OfBag b) (OfMap m) es cs total)).0
-    touched_copy n op t (OfBag b) (OfPq m) es cs total pos e is = absurd (is (OfPq m) (itself (OfBag b) (OfPq m) es cs total)).0
-    touched_copy n op t (OfBag b) (OfQueue m) es cs total pos e is = absurd (is (OfQueue m) (itself (OfBag b) (OfQueue m) es cs total)).0
-    touched_copy n op t (OfPq b) s es cs total pos e is = absurd (is s (itself (OfPq b) s es cs total)).0
-    touched_copy n op t (OfQueue b) s es cs total pos e is = absurd (is s (itself (OfQueue b) s es cs total)).0
+    touched_copy n op t b s es cs total pos e is = shown_copy n t b s es cs total pos (is_shown n op s t e) is
+
+    pub summed_copy : (n : ℕ) (op : Op V) (t : Touched V) (b s : Shown V) (es : FinMap nat_cmp (Option V)) (cs : FinMap nat_cmp ℕ)
+        (total : Option ℕ)
+        → 0 < n → summed_by n op s ≡ Some t → IsCopyBy b es cs total g h changes s → With b es cs total s t
+    summed_copy n op t b s es cs total pos e is = shown_copy n t b s es cs total pos (is_shown_summed n op s t e) is
 
   -- ---- answers, and what is accepted
   abbrev Both : Shown V → FinMap nat_cmp (Option V) → FinMap nat_cmp ℕ → Option ℕ → (g h : ℕ) → List (Change V) → Shown V → Type 0

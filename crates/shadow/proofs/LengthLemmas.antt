@@ -1,9 +1,11 @@
 -- The number of keys of a map after the accepted changes: each change makes one key new to it, takes one out, or neither, and the reply
--- of its call says which. With the number that there was before, that is its length.
+-- of its call says which. With the number that there was before, which the counts of its stripes add
+-- up to, that is its length.
 use Rattle.std.proofs.Common.{◌≡◌, ℕ, zero, suc, ◌+◌, ◌-◌, ◌++◌, ◌<◌, true, cond, List, Option, Some, None, is_some, unwrap_or, refl, sym}
 use Rattle.std.proofs.Common.{ap, subst, ◌∙◌, arith, true≢false}
 use Rattle.std.specs.Cmp.{nat_cmp_total}
 use Rattle.std.specs.Ordering.{nat_cmp}
+use Rattle.std.specs.List.{sum}
 use Rattle.std.specs.FinMap.{FinMap, empty_of_len, get, get-empty, insert, len, len-insert, len-remove, remove}
 use Rattle.seq_model.specs.declared.call.Op.{Op}
 use Rattle.seq_model.specs.declared.call.Op.TheVariants.{Put, Remove, Len}
@@ -13,12 +15,13 @@ use Rattle.seq_model.specs.Calls.{value_reply}
 use Rattle.conflict.specs.declared.change.Change.{Change}
 use Rattle.conflict.specs.declared.outcome.Outcome.{Outcome}
 use Rattle.conflict.specs.declared.outcome.Note.TheVariants.{Plain}
+use Rattle.conflict.proofs.CountLemmas.{counts_all}
 use Rattle.conflict.specs.Places.{some_same, none_some}
 use Rattle.conflict.specs.Rules.{applied}
 use Rattle.base_map.specs.Conflicts as map
 use Rattle.replay_log.specs.Base.{Shown, OfMap, OfBag, OfPq, OfQueue, after, changes_of, outcome_of}
 use Rattle.replay_log.specs.declared.touch.Touched.{Touched}
-use Rattle.replay_log.specs.declared.touch.Touched.TheVariants.{Entry, Copies, Total}
+use Rattle.replay_log.specs.declared.touch.Touched.TheVariants.{Entry, Copies, Counts, Total}
 use Rattle.shadow.specs.Memo.{IsCounted, IsCountedBy, IsShown, answer_with, grown_after, grown_kept, holds_with, len_outcome, shrunk_after}
 use Rattle.shadow.specs.Memo.{shrunk_kept, with_number, with_total}
 use Rattle.shadow.proofs.MemoLemmas.{held_some, map_next}
@@ -108,6 +111,8 @@ module _ {V : Type 0} where
 
   pub counted_added : (n : ℕ) (t : Touched V) (b s : Shown V) (total : Option ℕ) (g h : ℕ) (changes : List (Change V))
       → 0 < n → IsCountedBy b total g h changes s → IsShown n t s → IsCountedBy b (with_total t total) g h changes s
+  counted_added n (Counts cs) (OfMap b) (OfMap m) total g h changes pos is shown =
+      totalled (sum cs) total g h m (applied (map.rules V) changes m) (sym (ap sum shown ∙ counts_all n pos m)) is
   counted_added n (Total t) (OfMap b) (OfMap m) total g h changes pos is shown =
       totalled t total g h m (applied (map.rules V) changes m) shown is
   counted_added n (Entry k o) (OfMap b) (OfMap m) total g h changes pos is shown = is

@@ -27,8 +27,8 @@ use Rattle.base_pq.specs.Conflicts as pq
 use Rattle.base_queue.specs.Conflicts as queue
 use Rattle.replay_log.specs.Base.{Shown, OfMap, OfBag, OfPq, OfQueue, after, changes_of, outcome_of}
 use Rattle.replay_log.specs.declared.touch.Touched.{Touched}
-use Rattle.replay_log.specs.declared.touch.Touched.TheVariants.{Entry, Copies, Total}
-use Rattle.replay_log.specs.Touches.{touched_by}
+use Rattle.replay_log.specs.declared.touch.Touched.TheVariants.{Entry, Copies, Counts, Total}
+use Rattle.replay_log.specs.Touches.{summed_by, touched_by}
 use Rattle.shadow.specs.Memo.{IsKnown, IsOfBy, IsShown, has_key, with_key, with_entry, with_count, holds_by, entry_outcome, known_entry}
 use Rattle.shadow.specs.Memo.{map_answer, counted_up, copies_after, entries_after, answer_by, entries_kept, copies_kept}
 
@@ -325,6 +325,7 @@ module _ {V : Type 0} where
   added n (Copies x c) (OfMap b) s es cs changes is shown = is
   added n (Copies x c) (OfPq b) s es cs changes is shown = absurd is
   added n (Copies x c) (OfQueue b) s es cs changes is shown = absurd is
+  added n (Counts ns) b s es cs changes is shown = is
   added n (Total t) b s es cs changes is shown = is
 
   -- ---- what a base gives to be held
@@ -354,6 +355,19 @@ module _ {V : Type 0} where
   is_shown n op (OfBag m) t e = shown_bag n op m t e
   is_shown n op (OfPq m) t e = absurd (none_some t (sym (no_pq n op m) ∙ e))
   is_shown n op (OfQueue m) t e = absurd (none_some t (sym (no_queue n op m) ∙ e))
+
+  summed_map : (n : ℕ) (op : Op V) (m : FinMap nat_cmp V) (t : Touched V) → summed_by n op (OfMap m) ≡ Some t → IsShown n t (OfMap m)
+  summed_map n (Get k) m t e = shown_map n (Get k) m t e
+  summed_map n (Put k v) m t e = shown_map n (Put k v) m t e
+  summed_map n (Remove k) m t e = shown_map n (Remove k) m t e
+  summed_map n Len m t e = subst (λ x. IsShown n x (OfMap m)) (some_same _ _ e) refl
+  summed_map n _ m t e = absurd (none_some t e)
+
+  pub is_shown_summed : (n : ℕ) (op : Op V) (s : Shown V) (t : Touched V) → summed_by n op s ≡ Some t → IsShown n t s
+  is_shown_summed n op (OfMap m) t e = summed_map n op m t e
+  is_shown_summed n op (OfBag m) t e = is_shown n op (OfBag m) t e
+  is_shown_summed n op (OfPq m) t e = is_shown n op (OfPq m) t e
+  is_shown_summed n op (OfQueue m) t e = is_shown n op (OfQueue m) t e
 
   pub new_map : (s : FinMap nat_cmp V) → IsOfBy (OfMap empty) empty empty [] (OfMap s)
   new_map s = nothing_known get s

@@ -2,6 +2,7 @@
 use Rattle.std.specs.Prelude.{◌≡◌, ℕ, suc, ◌+◌, ◌-◌, ◌^◌, ◌<◌, ◌≤◌, ⊤, length, Bool, true, false, List, Option, Some, None, is_some, nat_lt}
 use Rattle.std.specs.Prelude.{option_to_list, replicate, unwrap_or, if◌then◌else◌}
 use Rattle.std.specs.Ordering.{nat_cmp}
+use Rattle.std.specs.List.{sum}
 use Rattle.std.specs.FinMap.{FinMap, empty, get, insert, len, remove}
 use Rattle.seq_model.specs.declared.call.Op.{Op}
 use Rattle.seq_model.specs.declared.call.Op.TheVariants.{Get, Put, Remove, Len, Count, Add, Take}
@@ -13,6 +14,7 @@ use Rattle.seq_model.specs.Counts.{copies}
 use Rattle.conflict.specs.declared.change.Change.{Change}
 use Rattle.conflict.specs.declared.outcome.Outcome.{Outcome}
 use Rattle.conflict.specs.declared.outcome.Note.TheVariants.{Plain}
+use Rattle.conflict.specs.Counts.{stripe_counts}
 use Rattle.conflict.specs.Rules.{applied}
 use Rattle.base_map.specs.Conflicts as map
 use Rattle.base_bag.specs.Conflicts as bag
@@ -21,7 +23,7 @@ use Rattle.replay_log.specs.declared.base.Base.TheVariants as base
 use Rattle.replay_log.specs.Base.{Shown, OfMap, OfBag, changes_of, outcome_of, shown_of, stripes_of, writes_of}
 use Rattle.replay_log.specs.Parts.{kind_of}
 use Rattle.replay_log.specs.declared.touch.Touched.{Touched}
-use Rattle.replay_log.specs.declared.touch.Touched.TheVariants.{Entry, Copies, Total}
+use Rattle.replay_log.specs.declared.touch.Touched.TheVariants.{Entry, Copies, Counts, Total}
 use Rattle.shadow.specs.declared.memo.MemoKind.{MemoKind}
 use Rattle.shadow.specs.declared.memo.MemoKind.TheVariants as kind
 use Rattle.replay_log.specs.Log.{LogView}
@@ -107,6 +109,7 @@ module _ {V : Type 0} where
   with_count t cs = cs
 
   abbrev pub with_total : Touched V → Option ℕ → Option ℕ
+  with_total (Counts cs) total = with_number (sum cs) total
   with_total (Total n) total = with_number n total
   with_total t total = total
 
@@ -130,6 +133,7 @@ module _ {V : Type 0} where
   -- what was touched is what the collection shows there, in n stripes
   abbrev pub IsShown : ℕ → Touched V → Shown V → Type 0
   IsShown n (Entry k o) (OfMap m) = get m k ≡ o
+  IsShown n (Counts cs) (OfMap m) = cs ≡ stripe_counts n m
   IsShown n (Total t) (OfMap m) = len m ≡ t
   IsShown n (Copies x c) (OfBag m) = copies m x ≡ c
   IsShown n t s = ⊥

@@ -9,7 +9,7 @@ ghost use Rattle.conflict.specs.declared.change.Change.{Change};
 ghost use Rattle.conflict.specs.declared.outcome.Outcome.{Outcome};
 ghost use Rattle.replay_log.specs.Base.{Shown, OfMap, OfBag, after, changes_of, outcome_of};
 ghost use Rattle.replay_log.specs.declared.touch.Touched.{Touched};
-ghost use Rattle.replay_log.specs.Touches.{touched_by};
+ghost use Rattle.replay_log.specs.Touches.{summed_by, touched_by};
 ghost use Rattle.shadow.specs.Memo.{IsAlike, IsCopyBy, IsCountedBy, IsOfBy, IsShown, answer_by, answer_with, copies_kept, entries_kept};
 ghost use Rattle.shadow.specs.Memo.{grown_kept, holds_by, holds_with, shrunk_kept, with_count, with_entry, with_total};
 ghost use Rattle.shadow.specs.Shadow.{IsFolded};
@@ -31,6 +31,7 @@ pub fn memos<V: Value>()
     ensures map { (m : FinMap nat_cmp V) → IsOfBy (OfMap empty) empty empty [] (OfMap m) }
     ensures bag { (m : Multiset) → (let none : Shown V = OfBag empty in IsOfBy none empty empty [] (OfBag m)) }
     ensures touched { (n : ℕ) (op : Op V) (s : Shown V) (t : Touched V) → touched_by n op s ≡ Some t → IsShown n t s }
+    ensures summed { (n : ℕ) (op : Op V) (s : Shown V) (t : Touched V) → summed_by n op s ≡ Some t → IsShown n t s }
     ensures added { (n : ℕ) (t : Touched V) (b s : Shown V) (es : FinMap nat_cmp (Option V)) (cs : FinMap nat_cmp ℕ)
         (changes : List (Change V)) → IsOfBy b es cs changes s → IsShown n t s → IsOfBy b (with_entry t es) (with_count t cs) changes s }
     ensures answered { (op : Op V) (b s : Shown V) (es : FinMap nat_cmp (Option V)) (cs : FinMap nat_cmp ℕ) (changes : List (Change V))
@@ -44,10 +45,10 @@ pub fn memos<V: Value>()
         holds_by b es cs o.op ≡ true → holds_by b (entries_kept b o es) (copies_kept b o cs) op ≡ holds_by b es cs op }
 {}
 
-/// A memo of a map knows by how many keys the accepted calls made it grow and shrink, and with the number of keys, which may be
-/// touched before or after them, how many there were before. It is so with no key, and stays so as it holds what was touched of that
-/// map, and with each acceptance of a call that has the outcome that it has there. Its answer on the number of all keys, where
-/// that is held, is then that map's after the accepted changes.
+/// A memo of a map knows by how many keys the accepted calls made it grow and shrink, and with the number of keys, or the counts of
+/// all stripes, which may be touched before or after them, how many there were before. It is so with no key, and stays so as it holds
+/// what was touched of that map, and with each acceptance of a call that has the outcome that it has there. Its answer on the number
+/// of all keys, where that is held, is then that map's after the accepted changes.
 pub fn lengths<V: Value>()
     ensures map { (m : FinMap nat_cmp V) → IsCountedBy (OfMap empty) None 0 0 [] (OfMap m) }
     ensures added { (n : ℕ) (t : Touched V) (b s : Shown V) (total : Option ℕ) (grown shrunk : ℕ) (changes : List (Change V)) → 0 < n →
@@ -74,6 +75,10 @@ pub fn copies<V: Value>()
         IsCopyBy b es cs total grown shrunk changes s → IsAlike b es cs total s u → IsCopyBy b es cs total grown shrunk changes u }
     ensures touched { (n : ℕ) (op : Op V) (t : Touched V) (b s : Shown V) (es : FinMap nat_cmp (Option V)) (cs : FinMap nat_cmp ℕ)
         (total : Option ℕ) (grown shrunk : ℕ) (changes : List (Change V)) → 0 < n → touched_by n op s ≡ Some t →
+        IsCopyBy b es cs total grown shrunk changes s →
+        IsCopyBy b (with_entry t es) (with_count t cs) (with_total t total) grown shrunk changes s }
+    ensures summed { (n : ℕ) (op : Op V) (t : Touched V) (b s : Shown V) (es : FinMap nat_cmp (Option V)) (cs : FinMap nat_cmp ℕ)
+        (total : Option ℕ) (grown shrunk : ℕ) (changes : List (Change V)) → 0 < n → summed_by n op s ≡ Some t →
         IsCopyBy b es cs total grown shrunk changes s →
         IsCopyBy b (with_entry t es) (with_count t cs) (with_total t total) grown shrunk changes s }
     ensures answered { (op : Op V) (b s : Shown V) (es : FinMap nat_cmp (Option V)) (cs : FinMap nat_cmp ℕ) (total : Option ℕ)

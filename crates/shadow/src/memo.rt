@@ -2,6 +2,7 @@
 ghost use Rattle.std.specs.Prelude.{◌≡◌, ◌<◌, ◌≤◌, ◌++◌, ◌^◌, ◌+◌, ◌-◌, [], ◌∷◌, Some, None, length, option_to_list, unwrap_or};
 ghost use Rattle.std.specs.Prelude.{IfOk, IfErr, IfSome, IsSome, OnOk, OnErr};
 ghost use Rattle.std.specs.FinMap as map;
+ghost use Rattle.std.specs.List.{sum};
 ghost use Rattle.seq_model.specs.Calls.{IsRefusal};
 ghost use Rattle.seq_model.specs.Counts.{copies};
 ghost use Rattle.seq_model.specs.declared.call.Op.TheVariants.{Remove};
@@ -16,7 +17,7 @@ ghost use Rattle.shadow.specs.Memo.{entries_without, grown_after, grown_kept, ho
 ghost use Rattle.shadow.specs.Memo.{shrunk_kept, total_without, with_count, with_entry, with_key, with_number, with_total, IsTold};
 
 use conflict::{Change, LocSet, Note, Outcome, Table, is_stripe_count};
-use replay_log::{Log, Touched};
+use replay_log::{Log, Touch, Touched};
 use seq_model::{COPY_LIMIT, Items, Memory, Op, Refusal, Reply, Value};
 use std::alloc::Global;
 use std::marker::Model;
@@ -203,9 +204,25 @@ impl<V: Value> Memo<V> {
         }
     }
 
-    /// Holds from now on a key that was touched, or the number of all; what is held stays as it is. A memo that is refused memory stays
-    /// as it was.
-    pub fn add(&mut self, held: Touched<V>) -> Result<(), Memory>
+    /// Holds from now on the key that was touched, or the number of all; what is held stays as it is. A memo that is refused memory
+    /// stays as it was.
+    pub fn add(&mut self, touch: Touch<V>) -> Result<(), Memory>
+        ensures blank { self.new.blank ≡ self.old.blank }
+        ensures entries { OnOk result (self.new.entries ≡ with_entry touch.held self.old.entries) }
+        ensures copies { OnOk result (self.new.copies ≡ with_count touch.held self.old.copies) }
+        ensures changes { self.new.changes ≡ self.old.changes }
+        ensures locations { self.new.locations ≡ self.old.locations }
+        ensures total { OnOk result (self.new.total ≡ with_total touch.held self.old.total) }
+        ensures grown { self.new.grown ≡ self.old.grown }
+        ensures shrunk { self.new.shrunk ≡ self.old.shrunk }
+        ensures err { OnErr result
+            ((self.new.entries ≡ self.old.entries) × (self.new.copies ≡ self.old.copies) × (self.new.total ≡ self.old.total)) }
+    {
+        self.add_held(touch.held)
+    }
+
+    /// What `add` does, of what was touched without its editions.
+    pub fn add_held(&mut self, held: Touched<V>) -> Result<(), Memory>
         ensures blank { self.new.blank ≡ self.old.blank }
         ensures entries { OnOk result (self.new.entries ≡ with_entry held self.old.entries) }
         ensures copies { OnOk result (self.new.copies ≡ with_count held self.old.copies) }
@@ -221,6 +238,7 @@ impl<V: Value> Memo<V> {
         match held {
             Touched::Entry(key, value) => hold(&mut self.entries, key, value),
             Touched::Copies(element, copies) => hold(&mut self.copies, element, copies),
+            Touched::Counts(counts) => hold_sum(&mut self.total, &counts),
             Touched::Total(number) => hold_total(&mut self.total, number),
         }
     }
@@ -248,9 +266,23 @@ impl<V: Value> Memo<V> {
         }
     }
 
-    /// What the call answers by what is kept of its key, or of the number of all, is put into this place, whatever it holds. A call of
-    /// another kind than the memo's is refused as NoSuch.
-    pub fn answer(&self, op: &Op<V>, outcome: &mut Option<Outcome<V>>) -> Result<(), Refusal>
+    /// What the call answers by what is kept of its key, or of the number of all. A call of another kind than the memo's is refused as
+    /// NoSuch.
+    pub fn answer(&self, op: &Op<V>) -> Result<Outcome<V>, Refusal>
+        ensures ok { IfOk result (λ outcome.
+            answer_with (shown_of self.now.blank) self.now.entries self.now.copies self.now.total self.now.grown self.now.shrunk op.now
+            ≡ Some outcome) }
+        ensures refused { IfErr result (λ refusal. IsRefusal refusal
+            (answer_with (shown_of self.now.blank) self.now.entries self.now.copies self.now.total self.now.grown self.now.shrunk op.now
+            ≡ None)) }
+    {
+        let mut outcome = None;
+        self.answer_into(op, &mut outcome)?;
+        Ok(outcome.unwrap())
+    }
+
+    /// What `answer` does, into this place, whatever it holds.
+    pub fn answer_into(&self, op: &Op<V>, outcome: &mut Option<Outcome<V>>) -> Result<(), Refusal>
         ensures ok { OnOk result
             (answer_with (shown_of self.now.blank) self.now.entries self.now.copies self.now.total self.now.grown self.now.shrunk op.now
             ≡ outcome.new) }
@@ -306,8 +338,25 @@ impl<V: Value> Memo<V> {
     }
 
     /// Accepts the outcome, which has been made ready: its change is made on what is kept of its key and appended to the log. It takes
-    /// no memory and is never refused. The reply of the outcome stays in its place.
-    pub fn accept(&mut self, outcome: &mut Outcome<V>)
+    /// no memory and is never refused.
+    pub fn accept(&mut self, outcome: Outcome<V>)
+        requires ready { IsReadyFor outcome self.old }
+        ensures entries { self.new.entries ≡ entries_kept (shown_of self.old.blank) outcome self.old.entries }
+        ensures copies { self.new.copies ≡ copies_kept (shown_of self.old.blank) outcome self.old.copies }
+        ensures total { self.new.total ≡ self.old.total }
+        ensures grown { self.new.grown ≡ grown_kept (shown_of self.old.blank) outcome self.old.grown }
+        ensures shrunk { self.new.shrunk ≡ shrunk_kept (shown_of self.old.blank) outcome self.old.shrunk }
+        ensures blank { self.new.blank ≡ self.old.blank }
+        ensures changes { self.new.changes ≡ self.old.changes ++ changes_of outcome (shown_of self.old.blank) }
+        ensures locations { self.new.locations
+            ≡ self.old.locations ++ writes_of (stripes_of self.old.blank) outcome (shown_of self.old.blank) }
+    {
+        let mut outcome = outcome;
+        self.accept_in_place(&mut outcome);
+    }
+
+    /// What `accept` does, of an outcome that stays where it lies, with its reply.
+    pub fn accept_in_place(&mut self, outcome: &mut Outcome<V>)
         requires ready { IsReadyFor outcome.old self.old }
         ensures entries { self.new.entries ≡ entries_kept (shown_of self.old.blank) outcome.old self.old.entries }
         ensures copies { self.new.copies ≡ copies_kept (shown_of self.old.blank) outcome.old self.old.copies }
@@ -566,6 +615,26 @@ fn hold_total(total: &mut Option<u64>, number: u64) -> Result<(), Memory>
         *total = Some(number);
     }
     Ok(())
+}
+
+fn hold_sum(total: &mut Option<u64>, counts: &Items<u64>) -> Result<(), Memory>
+    ensures ok { OnOk result (total.new ≡ with_number (sum counts.now) total.old) }
+    ensures err { OnErr result (total.new ≡ total.old) }
+    ensures small { IsTold total.old → IsTold total.new }
+{
+    let number = sum_of(counts)?;
+    hold_total(total, number)
+}
+
+// How many keys there are by these counts.
+fn sum_of(counts: &Items<u64>) -> Result<u64, Memory>
+    ensures { IfOk result (λ total. total ≡ sum counts.now) }
+{
+    let mut total: u64 = 0;
+    for count in counts.as_slice() {
+        total = total.checked_add(*count).ok_or(Memory)?;
+    }
+    Ok(total)
 }
 
 fn entry_outcome<V: Value>(

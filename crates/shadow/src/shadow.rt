@@ -75,18 +75,16 @@ impl<V: Drop> Shadow<V> {
 }
 
 impl<V: Value> Shadow<V> {
-    /// The shadow of a copy, with no call yet, in the memory of a log, whatever that keeps.
-    pub fn of_copy(alloc: Global, base: Base<V>, log: Log<V>) -> Shadow<V>
+    /// The shadow of a copy, with no call yet.
+    pub fn of_copy(alloc: Global, base: Base<V>) -> Shadow<V>
         ensures base { result.base ≡ base }
         ensures changes { result.changes ≡ [] }
         ensures locations { result.locations ≡ [] }
     {
-        let mut log = log;
-        log.clear();
         Shadow {
             alloc,
             base,
-            log,
+            log: Log::new(alloc),
             own: Vec::new(alloc),
             logged: Vec::new(alloc),
             ready: None,
@@ -154,7 +152,20 @@ impl<V: Value> Shadow<V> {
 
     /// Accepts the outcome, which has been made ready: its changes are made on the copy and appended to the log. It takes no
     /// memory and is never refused. The editions stay those of the copy.
-    pub fn accept(&mut self, outcome: &Outcome<V>)
+    pub fn accept(&mut self, outcome: Outcome<V>)
+        requires ready { IsReadyFor outcome self.old }
+        ensures shown { shown_of self.new.base ≡ after (changes_of outcome (shown_of self.old.base)) (shown_of self.old.base) }
+        ensures stripes { stripes_of self.new.base ≡ stripes_of self.old.base }
+        ensures editions { editions_of self.new.base ≡ editions_of self.old.base }
+        ensures changes { self.new.changes ≡ self.old.changes ++ changes_of outcome (shown_of self.old.base) }
+        ensures locations { self.new.locations
+            ≡ self.old.locations ++ writes_of (stripes_of self.old.base) outcome (shown_of self.old.base) }
+    {
+        self.accept_in_place(&outcome);
+    }
+
+    /// What `accept` does, of an outcome that stays where it lies.
+    pub fn accept_in_place(&mut self, outcome: &Outcome<V>)
         requires ready { IsReadyFor outcome.now self.old }
         ensures shown { shown_of self.new.base ≡ after (changes_of outcome.now (shown_of self.old.base)) (shown_of self.old.base) }
         ensures stripes { stripes_of self.new.base ≡ stripes_of self.old.base }

@@ -1,4 +1,4 @@
-use Rattle.shadow.proofs.CopyLemmas.{new_copy_map, new_copy_bag, moved_copy, touched_copy, copy_answered, copy_accepted, copy_holds}
+use Rattle.shadow.proofs.CopyLemmas.{new_copy_map, new_copy_bag, moved_copy, touched_copy, summed_copy, copy_answered, copy_accepted, copy_holds}
 use Rattle.shadow.proofs.laws.copies.Goals as goal
 
 pub returns-clause-map : goal.returns-clause-map
@@ -12,6 +12,9 @@ returns-clause-moved g c = moved_copy
 
 pub returns-clause-touched : goal.returns-clause-touched
 returns-clause-touched g c n op t b s es cs total grown shrunk changes = touched_copy grown shrunk changes n op t b s es cs total
+
+pub returns-clause-summed : goal.returns-clause-summed
+returns-clause-summed g c n op t b s es cs total grown shrunk changes = summed_copy grown shrunk changes n op t b s es cs total
 
 pub returns-clause-answered : goal.returns-clause-answered
 returns-clause-answered g c = copy_answered

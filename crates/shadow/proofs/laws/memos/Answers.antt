@@ -1,5 +1,5 @@
 use Rattle.seq_model.specs.Counts.{copies}
-use Rattle.shadow.proofs.MemoLemmas.{nothing_known, new_map, is_shown, added, answered, accepted, accepted_holds}
+use Rattle.shadow.proofs.MemoLemmas.{nothing_known, new_map, is_shown, is_shown_summed, added, answered, accepted, accepted_holds}
 use Rattle.shadow.proofs.laws.memos.Goals as goal
 
 pub returns-clause-map : goal.returns-clause-map
@@ -10,6 +10,9 @@ returns-clause-bag g c = λ m. nothing_known copies m
 
 pub returns-clause-touched : goal.returns-clause-touched
 returns-clause-touched g c = is_shown
+
+pub returns-clause-summed : goal.returns-clause-summed
+returns-clause-summed g c = is_shown_summed
 
 pub returns-clause-added : goal.returns-clause-added
 returns-clause-added g c = added
