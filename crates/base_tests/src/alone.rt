@@ -7,9 +7,9 @@ use base_map::MapBase;
 use base_pq::PqBase;
 use base_queue::QueueBase;
 use conflict::{Change, Changes, LocSet};
-use replay_log::{Base, Log};
+use replay_log::{Base, LocationEditions, Log, Touch, Touched};
 use row_parts::{changes_of, print_base, script_of, stripes_in};
-use seq_model::{Held, Memory, Refusal};
+use seq_model::{Held, Memory, Op, Refusal};
 use std::alloc::Global;
 use std::fmt::Write;
 use step_script::Collection;
@@ -217,18 +217,63 @@ fn fold(base: &mut Base<u64>, log: &mut Log<u64>) -> Result<(), Refusal>
     Ok(())
 }
 
-fn print_two_puts(text: &mut String, base: &mut Base<u64>) -> Result<(), Refusal>
-    requires { stripes_of base.old ≡ 2 }
+// The map in two stripes after these puts.
+fn map_of_two_puts(alloc: Global) -> Result<Base<u64>, Refusal>
+    ensures { IfOk result (λ base. stripes_of base ≡ 2) }
 {
-    let mut log = log_of_two_puts(*text.allocator())?;
-    fold(base, &mut log)?;
-    print_editions(text, base, 2)
+    let mut base = new_of(alloc, "map", 2)?;
+    let mut log = log_of_two_puts(alloc)?;
+    fold(&mut base, &mut log)?;
+    Ok(base)
 }
 
 /// The editions of a map in two stripes after two puts on one of them, each logged with it.
 pub fn answer_log(text: &mut String) -> Result<(), Refusal> {
-    match new_of(*text.allocator(), "map", 2) {
-        Ok(mut base) => print_two_puts(text, &mut base),
-        Err(refusal) => Err(refusal),
+    let base = map_of_two_puts(*text.allocator())?;
+    print_editions(text, &base, 2)
+}
+
+/// What is copied of that map for a key that it has, for one that it lacks, and for the number of all keys, by stripes and summed.
+pub fn answer_touched(text: &mut String) -> Result<(), Refusal> {
+    let base = map_of_two_puts(*text.allocator())?;
+    print_touch(text, &base.touch(&Op::Get(3))?)?;
+    print_touch(text, &base.touch(&Op::Remove(4))?)?;
+    print_touch(text, &base.touch(&Op::Len)?)?;
+    print_summed(text, &base)
+}
+
+fn print_summed(text: &mut String, base: &Base<u64>) -> Result<(), Refusal> {
+    let mut lent = LocationEditions::new(*text.allocator());
+    print_touch(text, &base.touch_summed(&Op::Len, &mut lent)?)?;
+    Ok(())
+}
+
+// What was touched, and each location with its edition.
+fn print_touch(text: &mut String, touch: &Touch<u64>) -> Result<(), Memory> {
+    print_touched(text, &touch.held)?;
+    text.push_str(" at")?;
+    for entry in touch.editions.as_slice() {
+        write!(text, " {}:{}", entry.0, entry.1)?;
     }
+    text.push_str("; ")?;
+    Ok(())
+}
+
+fn print_touched(text: &mut String, held: &Touched<u64>) -> Result<(), Memory> {
+    match held {
+        Touched::Entry(key, Some(value)) => write!(text, "Entry {key} {value}")?,
+        Touched::Entry(key, None) => write!(text, "Entry {key} none")?,
+        Touched::Copies(element, copies) => write!(text, "Copies {element} {copies}")?,
+        Touched::Counts(counts) => print_counts(text, counts.as_slice())?,
+        Touched::Total(total) => write!(text, "Total {total}")?,
+    }
+    Ok(())
+}
+
+fn print_counts(text: &mut String, counts: &[u64]) -> Result<(), Memory> {
+    text.push_str("Counts")?;
+    for count in counts {
+        write!(text, " {count}")?;
+    }
+    Ok(())
 }

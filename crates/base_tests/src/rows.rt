@@ -1,5 +1,5 @@
 //! The rows, and who answers each.
-use crate::alone::{answer_log, answer_new, answer_of_kind, answer_raised};
+use crate::alone::{answer_log, answer_new, answer_of_kind, answer_raised, answer_touched};
 use crate::audits::{answer_audit, answer_records};
 use crate::models::{answer_event, answer_refusal, answer_same, answer_state};
 use crate::parts::{answer_below, answer_editions, answer_meet, answer_set, answer_table};
@@ -14,7 +14,8 @@ use std::fmt::Write;
 /// - `as KIND COLLECTION` opens as a base of one kind what a script's header says.
 /// - `new KIND STRIPES` opens an empty base: the editions of its locations. `raised KIND STRIPES at LOCATIONS: CHANGES` replays
 ///   changes that write these locations: the editions, those of a copy, and what the copy holds.
-/// - `two puts logged`: the editions after two puts, each logged with the same location.
+/// - `two puts logged`: the editions after two puts, each logged with the same location; `two puts touched`: what is copied then for
+///   two keys and for the number of all.
 /// - `state SCRIPT`: what calls are answered on a state of the sequential model, and what they leave. `same SCRIPT | SCRIPT`:
 ///   whether a copy of what the first leaves is the same as what the second does. `event LINE`: a copy of what the line asks.
 /// - `audit LAST: RECORDS`: the fault of records on one word that is 0 at first. A record is `2 writer, 0 wrote 6, 0 found 6`.
@@ -67,6 +68,7 @@ fn answer_row(text: &mut String, row: &str) -> Result<(), Refusal> {
         Some(("new", opening)) => answer_new(text, opening),
         Some(("raised", changed)) => answer_raised(text, changed),
         Some(("two", "puts logged")) => answer_log(text),
+        Some(("two", "puts touched")) => answer_touched(text),
         Some((name, others)) if is_of_parts(name) => answer_parts(text, name, others, row),
         Some((name, others)) if is_of_model(name) => answer_model(text, name, others),
         _ => Err(Refusal::NoSuch),

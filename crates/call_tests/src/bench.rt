@@ -1,6 +1,7 @@
 //! A collection and the sequential model beside it, and the calls on them.
 ghost use Rattle.std.specs.Prelude.{◌≡◌, [], IfOk};
 
+use crate::memos::answer_remembered;
 use crate::print::{print_changes, print_outcome};
 use conflict::{Changes, LocSet, Outcome, conflicts};
 use replay_log::{Base, Log};
@@ -65,6 +66,7 @@ impl Bench {
         match row.split_once(' ') {
             Some(("copied", calls)) => self.answer_copied(text, calls),
             Some(("shadowed", calls)) => answer_shadowed(text, &self.base, calls),
+            Some(("remembered", calls)) => answer_remembered(text, &self.base, calls),
             Some(("conflict", calls)) => answer_conflict(text, &self.base, calls),
             Some(("replay", changes)) => replay(text, &mut self.base, changes),
             Some(("reopened", stripes)) => self.reopen(text, stripes),

@@ -7,6 +7,7 @@
 #![tactic(auto)]
 
 mod bench;
+mod memos;
 mod print;
 mod rows;
 

@@ -1,0 +1,91 @@
+//! Calls on a memo of the keys that they touch.
+use crate::print::print_changes;
+use conflict::Outcome;
+use replay_log::Base;
+use row_parts::{print_reply, script_of};
+use seq_model::{Memory, Op, Refusal, Request};
+use shadow::{Memo, MemoKind};
+use std::alloc::Global;
+use step_script::Line;
+
+const STRIPES: u32 = 2;
+
+/// Makes the calls on a memo, which is given what it doesn't hold, and shows its log then.
+pub fn answer_remembered(
+    text: &mut String,
+    base: &Base<u64>,
+    calls: &str,
+) -> Result<(), Refusal> {
+    let alloc = *text.allocator();
+    let script = script_of(alloc, calls)?;
+    let mut memo = memo_of(alloc, base)?;
+    remember_all(text, base, &mut memo, script.lines.as_slice())?;
+    print_log(text, memo)
+}
+
+fn memo_of(alloc: Global, base: &Base<u64>) -> Result<Memo<u64>, Refusal> {
+    match base {
+        Base::Map(_) => Memo::new(alloc, STRIPES, MemoKind::Map),
+        Base::Bag(_) => Memo::new(alloc, STRIPES, MemoKind::Bag),
+        _ => Err(Refusal::NoSuch),
+    }
+}
+
+fn remember_all(
+    text: &mut String,
+    base: &Base<u64>,
+    memo: &mut Memo<u64>,
+    lines: &[Line],
+) -> Result<(), Refusal> {
+    for line in lines {
+        remember_line(text, base, memo, line)?;
+    }
+    text.push_str("log")?;
+    Ok(())
+}
+
+fn remember_line(
+    text: &mut String,
+    base: &Base<u64>,
+    memo: &mut Memo<u64>,
+    line: &Line,
+) -> Result<(), Refusal> {
+    match line {
+        Line::Do(_, Request::Call(asked)) => remember(text, base, memo, &asked.op),
+        _ => Err(Refusal::NoSuch),
+    }
+}
+
+fn remember(
+    text: &mut String,
+    base: &Base<u64>,
+    memo: &mut Memo<u64>,
+    op: &Op<u64>,
+) -> Result<(), Refusal> {
+    if memo.holds(op) {
+        text.push_str("held ")?;
+    } else {
+        memo.add(base.touch(op)?)?;
+    }
+    answer(text, memo, op)
+}
+
+fn answer(text: &mut String, memo: &mut Memo<u64>, op: &Op<u64>) -> Result<(), Refusal> {
+    let outcome = memo.answer(op)?;
+    print_reply(text, &outcome.reply)?;
+    text.push_str("; ")?;
+    accept(memo, outcome)?;
+    Ok(())
+}
+
+fn accept(memo: &mut Memo<u64>, outcome: Outcome<u64>) -> Result<(), Memory> {
+    memo.ready(&outcome)?;
+    memo.accept(outcome);
+    Ok(())
+}
+
+fn print_log(text: &mut String, memo: Memo<u64>) -> Result<(), Refusal> {
+    let log = memo.log();
+    print_changes(text, log.changes())?;
+    Ok(())
+}
