@@ -154,7 +154,8 @@ impl<V: Value> Copied<V> {
         requires below { All (λ location. slice_index (editions_of base.old) location < 2 ^ 63) (locations_in self) }
         ensures { IsFolded (changes_in self) (locations_in self) base.old base.new }
     {
-        self.log().fold_into(base);
+        let log = self.log();
+        log.fold_into(base);
     }
 }
 

@@ -11,11 +11,7 @@ use step_script::Line;
 const STRIPES: u32 = 2;
 
 /// Makes the calls on a memo, which is given what it doesn't hold, and shows its log then.
-pub fn answer_remembered(
-    text: &mut String,
-    base: &Base<u64>,
-    calls: &str,
-) -> Result<(), Refusal> {
+pub fn answer_remembered(text: &mut String, base: &Base<u64>, calls: &str) -> Result<(), Refusal> {
     let alloc = *text.allocator();
     let script = script_of(alloc, calls)?;
     let mut memo = memo_of(alloc, base)?;

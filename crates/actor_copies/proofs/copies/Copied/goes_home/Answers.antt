@@ -5,8 +5,8 @@ use Rattle.actor_copies.proofs.copies.Copied.goes_home.Goals as goal
 
 pub returns : goal.returns
 returns g c = record {
-  shown = c.fold.ensures.shown ∙ ap (λ changes. after changes (shown_of c.args.base.now)) c.log-log.ensures.changes;
-  stripes = c.fold.ensures.stripes;
-  editions = subst (λ (ls : List ℕ). AreRaised ls (editions_of c.args.base.now) (editions_of c.fold.new.base))
-      c.log-log.ensures.locations c.fold.ensures.editions;
+  shown = c.fold_into.ensures.shown ∙ ap (λ changes. after changes (shown_of c.args.base.now)) c.log-log.ensures.changes;
+  stripes = c.fold_into.ensures.stripes;
+  editions = subst (λ (ls : List ℕ). AreRaised ls (editions_of c.args.base.now) (editions_of c.fold_into.new.base))
+      c.log-log.ensures.locations c.fold_into.ensures.editions;
 }
