@@ -44,9 +44,11 @@ module _ {V : Type 0} (n : ℕ) where
   bag_summed _ m = refl
 
   pq_summed : (op : Op V) (m : pq.Shown) → touched_by n op (OfPq m) ≡ option_map summed (touched_by n op (OfPq m))
+  pq_summed (Get k) m = refl
   pq_summed _ m = refl
 
   queue_summed : (op : Op V) (m : queue.Shown) → touched_by n op (OfQueue m) ≡ option_map summed (touched_by n op (OfQueue m))
+  queue_summed (Get k) m = refl
   queue_summed _ m = refl
 
   pub summed_touch : (op : Op V) (s : Shown V) → 0 < n → summed_by n op s ≡ option_map summed (touched_by n op s)
