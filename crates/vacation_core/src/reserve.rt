@@ -20,7 +20,7 @@ ghost use Rattle.vac_model.specs.Actions.{take_units};
 
 use crate::entry::Entry;
 use crate::walk::{Stop, Walk, asks_get, asks_put, map_of, put_customer, tell_items};
-use seq_model::{Memory, Reply, Value};
+use seq_model::{Items, Memory, Reply, Value};
 use std::alloc::Global;
 use vac_model::{
     ActionReply, Ask, Booking, Customer, Each, Item, Kind, PLACE_LIMIT, Part, TICKET_LIMIT, Ticket,
@@ -86,6 +86,19 @@ fn add_part(who: &mut Customer, units: u64, kind: Kind, part: Part) -> Result<()
     }
 }
 
+/// A copy with room for further bookings, so that these don't move its list.
+fn copy_with_room(alloc: Global, who: &Customer, more: usize) -> Result<Customer, Memory>
+    ensures { IfOk result (λ copy. copy ≡ who.now) }
+{
+    let had = who.bookings.as_slice();
+    let mut bookings = Vec::with_capacity(alloc, had.len().saturating_add(more))?;
+    bookings.extend_from_slice(had)?;
+    Ok(Customer {
+        bookings: Items::from_vec(bookings),
+        waits: who.waits.try_copy()?,
+    })
+}
+
 impl Draft<'_> {
     /// What was decided for a kind.
     fn part(&self, kind: Kind) -> Part
@@ -134,12 +147,19 @@ impl Draft<'_> {
         is_change(self.car) || is_change(self.flight) || is_change(self.room)
     }
 
+    /// How many bookings and waits were decided.
+    fn added(&self) -> usize {
+        is_change(self.car) as usize
+            + is_change(self.flight) as usize
+            + is_change(self.room) as usize
+    }
+
     /// The customer, to be put.
     fn customer(&self, alloc: Global) -> Result<Customer, Memory>
         ensures { IfOk result (λ who. who ≡ drafted self.now) }
     {
         let mut who = match self.found {
-            Some(who) => who.try_copy()?,
+            Some(who) => copy_with_room(alloc, who, self.added())?,
             None => Customer::new(alloc),
         };
         add_part(&mut who, self.units, Kind::Car, self.car)?;
