@@ -214,8 +214,8 @@ impl<V: Value> TxSeat<V> {
         Ok(())
     }
 
-    /// How many calls the transaction had that committed or ended last at this seat; 0 at first. It is there to make room by: no contract
-    /// says that it is that number.
+    /// How many calls are usual at this seat: as many as the transaction had that committed or ended last, or few more; 0 at first. It is
+    /// there to make room by: no contract says that it is that number.
     pub fn usual_calls(&self) -> usize
         ensures { result ≡ self.now.actor.usual_calls }
     {

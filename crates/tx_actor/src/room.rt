@@ -5,8 +5,14 @@ ghost use Rattle.std.specs.Vec.{vec_capacity, vec_len};
 use seq_model::{Call, Reply};
 use std::alloc::AllocError;
 
-/// Makes room for a call. A list that is full gets room at once for as many as the transaction before this one had: a receipt keeps its
-/// list, so each transaction begins with an empty one, and one that grows bit by bit is moved as often.
+/// How many calls the next transaction makes room for at once: as many as this one had, or one fewer than this one made room for, where
+/// that is more. So one that is aborted early, or is short, among longer ones leaves the next with enough.
+pub(crate) fn usual_after(usual: usize, calls: usize) -> usize {
+    calls.max(usual.saturating_sub(1))
+}
+
+/// Makes room for a call. A list that is full gets room at once for as many as are usual: a receipt keeps its list, so each transaction
+/// begins with an empty one, and one that grows bit by bit is moved as often.
 pub(crate) fn reserve_call<V>(
     calls: &mut Vec<(Call<V>, Reply<V>)>,
     usual: usize,

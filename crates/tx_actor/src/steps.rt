@@ -24,6 +24,7 @@ ghost use Rattle.tx_actor.specs.Running.{stage_in, stage_of};
 
 use crate::actor::{Stage, Told, TxActor};
 use crate::hand::{Asking, Kept};
+use crate::room::usual_after;
 use actor_words::{abort, cancel, release};
 use seq_model::{Answer, Call, Op, Refusal, Reply};
 use std::alloc::Global;
@@ -185,7 +186,7 @@ impl<V: Drop> TxActor<V> {
     {
         let number = self.rv;
         mem::swap(&mut self.made, &mut self.calls);
-        self.usual_calls = self.made.len();
+        self.usual_calls = usual_after(self.usual_calls, self.made.len());
         self.clear(Stage::Idle, 0);
         Told::Answered(Answer::Committed(number))
     }
@@ -200,7 +201,7 @@ impl<V: Drop> TxActor<V> {
     {
         let cause = self.cause;
         mem::swap(&mut self.made, &mut self.calls);
-        self.usual_calls = self.made.len();
+        self.usual_calls = usual_after(self.usual_calls, self.made.len());
         self.clear(Stage::Idle, 0);
         match cause {
             None => Told::Answered(Answer::Aborted),
