@@ -89,13 +89,13 @@ impl<V: Drop> FewKeys<V> {
         ensures room { self.old.room ≤ self.new.room + 1 }
     {
         if self.is_many {
-            self.many.insert_reserved(key, value);
+            put_many(&mut self.many, key, value);
         } else {
-            put(&mut self.few, key, value);
+            put_few(&mut self.few, key, value);
         }
     }
 
-    /// Takes all keys out. The memory stays, and the list serves again.
+    /// Takes all keys out. The memory of both stays, and the room is that of the list.
     pub fn clear(&mut self)
         ensures { self.new.contents ≡ map.empty }
     {
@@ -141,7 +141,7 @@ fn place_of<V>(few: &[(u64, V)], key: u64) -> usize
 }
 
 // Gives the key in the list the value.
-fn put<V: Drop>(few: &mut Vec<(u64, V)>, key: u64, value: V)
+fn put_few<V: Drop>(few: &mut Vec<(u64, V)>, key: u64, value: V)
     requires { length few.old.items < min few.old.cap 16 }
     ensures contents { map.from_entries {R = nat_cmp} few.new.items ≡ map.insert (map.from_entries few.old.items) key value }
     ensures len { length few.new.items ≤ length few.old.items + 1 }
@@ -153,6 +153,17 @@ fn put<V: Drop>(few: &mut Vec<(u64, V)>, key: u64, value: V)
     } else {
         few.push_reserved((key, value));
     }
+}
+
+// What the table takes of the stack is not taken where keys are few.
+#[cold]
+#[inline(never)]
+fn put_many<V: Drop>(many: &mut Table<V>, key: u64, value: V)
+    requires { 0 < many.old.room }
+    ensures contents { many.new.contents ≡ map.insert many.old.contents key value }
+    ensures room { many.old.room ≤ many.new.room + 1 }
+{
+    many.insert_reserved(key, value);
 }
 
 // Makes room for more keys than the list has memory for: in the list, or in the table, to which all keys go then. Answers whether they

@@ -2,7 +2,7 @@ use Rattle.std.proofs.Common.{◌≡◌, ◌<◌, ◌≤◌, length, ap, ◌∙�
 use Rattle.std.specs.Ordering.{nat_cmp}
 use Rattle.std.specs.FinMap as map
 use Rattle.few_keys.proofs.FewLemmas.{place, insert_last, put_at}
-use Rattle.few_keys.proofs.few.put.Goals as goal
+use Rattle.few_keys.proofs.few.put_few.Goals as goal
 
 pub returns-then-place-len-clause-contents : goal.returns-then-place-len-clause-contents
 returns-then-place-len-clause-contents g c =
