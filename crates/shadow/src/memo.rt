@@ -16,7 +16,8 @@ ghost use Rattle.shadow.specs.Memo.{HasPlace, IsReadyFor, answer_with, blank_of,
 ghost use Rattle.shadow.specs.Memo.{entries_without, grown_after, grown_kept, holds, kind_room, map_answer, shape, shrunk_after};
 ghost use Rattle.shadow.specs.Memo.{shrunk_kept, total_without, with_count, with_entry, with_key, with_number, with_total, IsTold};
 
-use conflict::{Change, LocSet, Note, Outcome, Table, is_stripe_count};
+use conflict::{Change, LocSet, Note, Outcome, is_stripe_count};
+use few_keys::FewKeys;
 use replay_log::{Log, Touch, Touched};
 use seq_model::{COPY_LIMIT, Items, Memory, Op, Refusal, Reply, Value};
 use std::alloc::Global;
@@ -47,8 +48,8 @@ pub struct Memo<V> {
     kind: MemoKind,
     stripes: u32,
     alloc: Global,
-    entries: Table<Option<V>>,
-    copies: Table<u64>,
+    entries: FewKeys<Option<V>>,
+    copies: FewKeys<u64>,
     total: Option<u64>,
     grown: u64,
     shrunk: u64,
@@ -152,8 +153,8 @@ impl<V: Value> Memo<V> {
             kind,
             stripes,
             alloc,
-            entries: Table::new(alloc),
-            copies: Table::new(alloc),
+            entries: FewKeys::new(alloc),
+            copies: FewKeys::new(alloc),
             total: None,
             grown: 0,
             shrunk: 0,
@@ -577,8 +578,8 @@ fn copies_place<V>(stripes: u32, outcome: &Outcome<V>) -> Option<KeyPlace>
 // Makes room for one more key in the table of the kind.
 fn make_room<V: Value>(
     kind: MemoKind,
-    entries: &mut Table<Option<V>>,
-    copies: &mut Table<u64>,
+    entries: &mut FewKeys<Option<V>>,
+    copies: &mut FewKeys<u64>,
 ) -> Result<(), Memory>
     ensures room { OnOk result (0 < kind_room kind entries.new.room copies.new.room) }
     ensures entries { entries.new.contents ≡ entries.old.contents }
@@ -591,7 +592,7 @@ fn make_room<V: Value>(
     Ok(())
 }
 
-fn hold<A: Drop>(known: &mut Table<A>, key: u64, value: A) -> Result<(), Memory>
+fn hold<A: Drop>(known: &mut FewKeys<A>, key: u64, value: A) -> Result<(), Memory>
     ensures ok { OnOk result (known.new.contents ≡ with_key known.old.contents key value) }
     ensures err { OnErr result (known.new.contents ≡ known.old.contents) }
 {
@@ -638,7 +639,7 @@ fn sum_of(counts: &Items<u64>) -> Result<u64, Memory>
 }
 
 fn entry_outcome<V: Value>(
-    entries: &Table<Option<V>>,
+    entries: &FewKeys<Option<V>>,
     op: &Op<V>,
     outcome: &mut Option<Outcome<V>>,
 ) -> Result<(), Refusal>
@@ -666,7 +667,7 @@ fn entry_outcome<V: Value>(
 }
 
 fn count_outcome<V: Value>(
-    copies: &Table<u64>,
+    copies: &FewKeys<u64>,
     op: &Op<V>,
     outcome: &mut Option<Outcome<V>>,
 ) -> Result<(), Refusal>
@@ -691,7 +692,7 @@ fn count_outcome<V: Value>(
     Ok(())
 }
 
-fn count_of(table: &Table<u64>, element: u64) -> u64
+fn count_of(table: &FewKeys<u64>, element: u64) -> u64
     ensures { result ≡ copies table.now.contents element }
 {
     table.get(element).copied().unwrap_or(0)
@@ -711,7 +712,7 @@ fn count_entry<V: Drop>(grown: &mut u64, shrunk: &mut u64, outcome: &Outcome<V>)
     }
 }
 
-fn keep_entry<V: Drop>(entries: &mut Table<Option<V>>, outcome: &mut Outcome<V>)
+fn keep_entry<V: Drop>(entries: &mut FewKeys<Option<V>>, outcome: &mut Outcome<V>)
     requires { 0 < entries.old.room }
     ensures entries { entries.new.contents ≡ entries_after outcome.old.op outcome.old.reply entries.old.contents }
     ensures reply { outcome.new.reply ≡ outcome.old.reply }
@@ -727,7 +728,7 @@ fn keep_entry<V: Drop>(entries: &mut Table<Option<V>>, outcome: &mut Outcome<V>)
     }
 }
 
-fn keep_removed<V: Drop>(entries: &mut Table<Option<V>>, key: u64, reply: &Reply<V>)
+fn keep_removed<V: Drop>(entries: &mut FewKeys<Option<V>>, key: u64, reply: &Reply<V>)
     requires { 0 < entries.old.room }
     ensures { entries.new.contents ≡ entries_after (Remove key) reply.now entries.old.contents }
 {
@@ -736,7 +737,7 @@ fn keep_removed<V: Drop>(entries: &mut Table<Option<V>>, key: u64, reply: &Reply
     }
 }
 
-fn keep_copies<V: Drop>(counts: &mut Table<u64>, outcome: &Outcome<V>)
+fn keep_copies<V: Drop>(counts: &mut FewKeys<u64>, outcome: &Outcome<V>)
     requires { 0 < counts.old.room }
     ensures { counts.new.contents ≡ copies_after outcome.now.op outcome.now.reply counts.old.contents }
 {
