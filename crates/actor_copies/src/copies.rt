@@ -9,7 +9,8 @@ ghost use Rattle.actor_copies.specs.Copies.{locations_in};
 
 use crate::spares::Spares;
 use boxes::Boxed;
-use conflict::{Change, Outcome, Table};
+use conflict::{Change, Outcome};
+use few_keys::FewKeys;
 use replay_log::{Base, LocationEditions, Log, Touch};
 use seq_model::{Memory, Op, Refusal, Value};
 use shadow::{Memo, Shadow};
@@ -19,7 +20,7 @@ use std::alloc::Global;
 #[derive(Drop)]
 pub enum Copied<V> {
     /// Of a map or a multiset what was touched, with the edition of each location that it was copied from.
-    Keys(Boxed<Memo<V>>, Boxed<Table<u64>>),
+    Keys(Boxed<Memo<V>>, Boxed<FewKeys<u64>>),
     /// Of a priority queue or a queue the whole.
     Whole(Boxed<Shadow<V>>),
 }
@@ -160,7 +161,7 @@ impl<V: Value> Copied<V> {
 }
 
 #[inline(always)]
-fn keep_editions(known: &mut Table<u64>, editions: &[(u32, u64)])
+fn keep_editions(known: &mut FewKeys<u64>, editions: &[(u32, u64)])
     requires { length editions.now ≤ known.old.room }
     ensures { known.new.contents ≡ inserts known.old.contents editions.now }
 {

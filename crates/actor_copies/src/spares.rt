@@ -8,7 +8,7 @@ ghost use Rattle.actor_copies.specs.First.{IsBlank};
 
 use crate::copies::{Copied, CopyOf};
 use boxes::Boxed;
-use conflict::Table;
+use few_keys::FewKeys;
 use replay_log::{Base, LocationEditions, Log, Touch};
 use seq_model::{Memory, Op, Refusal, Value};
 use shadow::{Memo, MemoKind, Shadow};
@@ -21,7 +21,7 @@ use std::mem;
 #[derive(Drop)]
 pub(crate) struct Spare<V> {
     pub memo: Boxed<Memo<V>>,
-    pub editions: Boxed<Table<u64>>,
+    pub editions: Boxed<FewKeys<u64>>,
 }
 
 /// What the transactions of a seat took of memory for what they had of collections, and need no more: the next one takes it from here.
@@ -66,7 +66,7 @@ impl<V: Drop> Spares<V> {
     }
 
     // Keeps what an emptied memo took. Where there is no room for it, it goes.
-    fn keep(&mut self, memo: Boxed<Memo<V>>, editions: Boxed<Table<u64>>) {
+    fn keep(&mut self, memo: Boxed<Memo<V>>, editions: Boxed<FewKeys<u64>>) {
         let mut editions = editions;
         editions.get_mut().clear();
         if self.kept.len() < self.kept.capacity() {
@@ -257,6 +257,6 @@ fn first_spare<V: Value>(alloc: Global, stripes: u32, kind: MemoKind) -> Result<
     ensures editions { IfOk result (λ spare. spare.editions.contents ≡ map.empty) }
 {
     let memo = Boxed::new(alloc, Memo::new(alloc, stripes, kind)?)?;
-    let editions = Boxed::new(alloc, Table::new(alloc))?;
+    let editions = Boxed::new(alloc, FewKeys::new(alloc))?;
     Ok(Spare { memo, editions })
 }
