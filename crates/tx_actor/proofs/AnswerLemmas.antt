@@ -48,9 +48,6 @@ module _ {V : Type 0} where
         refl,
       )
 
-  pub nothing_at : (i : ℕ) (p : Option (Outcome V)) (before : List (CopyOf V)) → p ≡ None → IsAcceptedAt i p before before
-  nothing_at i p before is = subst (λ (q : Option (Outcome V)). IsAcceptedAt i q before before) (sym is) refl
-
   pub pieces_stay : (i : ℕ) (p : Option (Outcome V)) (before now : List (CopyOf V)) → IsAcceptedAt i p before now → (k : ℕ) (q : Piece)
       → has_piece (copy_of now k) q ≡ has_piece (copy_of before k) q
   pieces_stay i None before now is k q = ap (λ (cs : List (CopyOf V)). has_piece (copy_of cs k) q) is

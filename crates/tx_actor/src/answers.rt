@@ -1,5 +1,5 @@
 //! How a call on a copied collection is answered: it is accepted, or a location is read first, or its copy is found stale.
-ghost use Rattle.std.specs.Prelude.{◌≡◌, ◌<◌, ◌≤◌, ℕ, [], All, Option, Some, length, slice_get, true};
+ghost use Rattle.std.specs.Prelude.{◌≡◌, ◌<◌, ◌≤◌, ℕ, [], All, IsSome, Option, Some, length, slice_get, true};
 ghost use Rattle.replay_log.specs.Contents.{end_of};
 ghost use Rattle.step_core.specs.Sound.{owed};
 ghost use Rattle.replay_log.specs.Worlds as worlds;
@@ -38,6 +38,7 @@ fn accept_at<V: Value>(
     requires place { place < length copies.old.items }
     requires ready { (c : CopyOf V) (x : Outcome V) → slice_get copies.old.items place ≡ Some c → outcome.old ≡ Some x →
         IsReady x c.copied × (holds_call c.copied x.op ≡ true) }
+    requires some { IsSome outcome.old }
     ensures accepted { IsAcceptedAt place outcome.old copies.old.items copies.new.items }
     ensures reply { (x : Outcome V) → outcome.old ≡ Some x → result ≡ x.reply }
 {
@@ -46,7 +47,7 @@ fn accept_at<V: Value>(
             copies[place].copied.accept(found);
             mem::replace(&mut found.reply, Reply::Done)
         }
-        None => Reply::Done,
+        None => unreachable!(),
     }
 }
 

@@ -1,7 +1,7 @@
 use Rattle.std.proofs.Common.{length, refl, sym, ap, ◌∙◌}
 use Rattle.std.proofs.lemmas.Option.{slice_get_read}
 use Rattle.conflict.specs.declared.outcome.Outcome.{Outcome}
-use Rattle.tx_actor.proofs.AnswerLemmas.{accepted_at, nothing_at}
+use Rattle.tx_actor.proofs.AnswerLemmas.{accepted_at}
 use Rattle.tx_actor.proofs.PreparesLemmas.{same_outcome}
 use Rattle.tx_actor.proofs.answers.accept_at.Goals as goal
 
@@ -24,6 +24,3 @@ pub returns-in-Some-clause-reply : goal.returns-in-Some-clause-reply
 returns-in-Some-clause-reply g c x is =
     c.replace.ensures.value
     ∙ (c.accept.ensures.reply ∙ ap (λ (q : Outcome g.row.V.Denot). q.reply) (same_outcome c.in-Some.found x (sym c.in-Some.is ∙ is)))
-
-pub returns-in-None-clause-accepted : goal.returns-in-None-clause-accepted
-returns-in-None-clause-accepted g c = nothing_at c.args.place c.args.outcome.now c.args.copies.now.items c.in-None.is

@@ -1,4 +1,4 @@
-use Rattle.std.specs.Prelude.{slice_get}
+use Rattle.std.specs.Prelude.{is_some, slice_get}
 use Rattle.std.proofs.Common.{◌≡◌, ◌<◌, ◌≤◌, [], ◌∷◌, ◌++◌, Option, Some, length, refl, sym, ap, subst, ◌∙◌, arith}
 use Rattle.word_machine.specs.Actor as machine
 use Rattle.tx_sets.specs.Entries.{Entries}
@@ -31,10 +31,13 @@ accept_at-kept-requires g c =
     let is = c.get_mut-answered.ensures.value in
     let at : c.get_mut-answered.result.now.place ≡ c.args.call.place = ap (λ (d : running.Answered g.row.V.Denot). d.place) is in
     let outcome : c.get_mut-answered.result.now.outcome ≡ c.args.call.outcome = ap (λ (d : running.Answered g.row.V.Denot). d.outcome) is in
+    let here = at_place c.args.self.now.copies.items c.args.call.place c.requires.prepared.place in
+    let own = c.requires.prepared.own here.0 here.1 in
     record {
       place = subst (λ i. i < length c.args.self.now.copies.items) (sym at) c.requires.prepared.place;
       ready = λ d x there some. c.requires.prepared.ready d x
           (subst (λ i. slice_get c.args.self.now.copies.items i ≡ Some d) at there) (sym outcome ∙ some);
+      some = ap is_some (outcome ∙ own.1);
     }
 
 pub returns-clause-does : goal.returns-clause-does
