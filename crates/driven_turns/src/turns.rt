@@ -93,7 +93,7 @@ fn step<V: Value>(
 }
 
 /// A try on a gate: whether it was quiet. Where memory is refused no step is taken, and the request is given up.
-#[inline(never)]
+#[inline(always)]
 fn try_next<V: Value>(
     table: &TxTable<V>,
     seat: &mut Seat<V>,
@@ -122,7 +122,7 @@ fn try_next<V: Value>(
 }
 
 /// What a call touches is copied, and its gate put back: whether that was quiet. Where memory is wanting the request is given up.
-#[inline(never)]
+#[inline(always)]
 fn copy_next<V: Value>(
     alloc: Global,
     table: &TxTable<V>,
@@ -148,7 +148,7 @@ fn copy_next<V: Value>(
 }
 
 /// A base goes home with its log: whether that was quiet.
-#[inline(never)]
+#[inline(always)]
 fn home_next<V: Value>(
     alloc: Global,
     table: &TxTable<V>,

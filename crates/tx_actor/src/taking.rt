@@ -59,6 +59,7 @@ fn is_unread(words: &Actor, location: u32) -> bool
 
 impl<V: Value> TxActor<V> {
     /// Whether the call is on a key whose location is to be read first, and its locations fit the sets.
+    #[inline(always)]
     fn waits_for_key(
         &self,
         blocks: &Blocks,
@@ -81,6 +82,7 @@ impl<V: Value> TxActor<V> {
     }
 
     /// What the call touches of the base is taken. Answers where the copy of its collection stands.
+    #[inline(always)]
     fn takes_from(
         &mut self,
         alloc: Global,
@@ -105,6 +107,7 @@ impl<V: Value> TxActor<V> {
     }
 
     /// Where it waits for its key, what it touches is taken; else nothing is.
+    #[inline(always)]
     fn takes_key(
         &mut self,
         alloc: Global,
@@ -123,6 +126,7 @@ impl<V: Value> TxActor<V> {
         Ok(Some(place))
     }
 
+    #[inline(always)]
     fn takes_call(
         &mut self,
         alloc: Global,
@@ -153,6 +157,7 @@ impl<V: Value> TxActor<V> {
     /// first, what it touches is taken, and the gate may be put back, after which the call goes on ([`TxActor::goes_on_taken`]). Any other
     /// call is left as it is, to be [`TxActor::copied`]. With a want of memory the transaction is given up as one that starves, and holds
     /// the gate.
+    #[inline(always)]
     pub fn takes(
         &mut self,
         alloc: Global,
@@ -177,6 +182,7 @@ impl<V: Value> TxActor<V> {
 
     /// The gate is put back of a call whose key was taken: the call is made ready, and waits for the location. With a want of memory it is
     /// given up there: what the step of its seat and a want of memory behind it make of the seat.
+    #[inline(always)]
     pub fn goes_on_taken(
         &mut self,
         alloc: Global,
