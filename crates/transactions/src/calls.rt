@@ -83,13 +83,8 @@ pub(crate) fn ask_open<V: Value>(
     }
 }
 
-/// A call on a word or on a collection, with its reply. What it changes is seen by others once the transaction commits.
-///
-/// `NoSuch` where there is no such word or collection, or it is of another kind, and for a change in a declared reader; then `TooLong` past
-/// the limit of calls, or where what it reads or writes doesn't fit the sets: the transaction is as it was. `Moved` where a word or a
-/// location of a collection changed since the transaction began, `Stale` where what it has of a collection is not what it had read,
-/// `GateBusy` where another seat held the collection's gate at each of 64 tries, and `OutOfMemory`: the transaction is ended.
-pub fn call<V: Value>(
+/// A call on a word or on a collection, with its reply, as [`crate::TxSeat::call`] has it of an open transaction.
+pub(crate) fn call<V: Value>(
     alloc: Global,
     table: &TxTable<V>,
     seat: &mut Seat<V>,

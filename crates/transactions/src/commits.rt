@@ -58,11 +58,8 @@ fn committed<V: Value>(
     commit_told(told, receipt)
 }
 
-/// A transaction commits: all its words are written, its changes to collections are made, and what it read is as it read it, at one moment.
-/// Its receipt has its calls with their replies. `Busy` where a location to be written is locked, or was changed, `Invalid` where one that
-/// was read was, `GateBusy` where another seat held the gate of a collection to be written at each of 64 tries, and `OutOfMemory`: the
-/// transaction is ended, and has written nothing.
-pub fn commit<V: Value>(
+/// A transaction commits, as [`crate::TxSeat::commit`] has it of an open one.
+pub(crate) fn commit<V: Value>(
     alloc: Global,
     table: &TxTable<V>,
     seat: &mut Seat<V>,

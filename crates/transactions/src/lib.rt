@@ -12,8 +12,5 @@ mod seats;
 mod shares;
 mod tx;
 
-pub use calls::call;
-pub use commits::commit;
-pub use requests::{abort, begin, begin_read};
 pub use seats::TxSeat;
-pub use tx::Tx;
+pub use tx::{Tx, begin, begin_read};

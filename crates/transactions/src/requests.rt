@@ -53,7 +53,7 @@ fn begun<V: Value>(
 
 /// A transaction begins, and is answered with the number at which it has begun. `Exhausted` at the limit of the clock, and there is none.
 /// `bases` lends its room to the bases that a request takes on its way, here and below: it holds none in the end.
-pub fn begin<V: Value>(
+pub(crate) fn begin<V: Value>(
     alloc: Global,
     table: &TxTable<V>,
     seat: &mut Seat<V>,
@@ -76,7 +76,7 @@ pub fn begin<V: Value>(
 
 /// A transaction begins that writes nothing. It keeps no read set, so that its reads are as many as its calls may be. `Exhausted` at the
 /// limit of the clock, and there is none.
-pub fn begin_read<V: Value>(
+pub(crate) fn begin_read<V: Value>(
     alloc: Global,
     table: &TxTable<V>,
     seat: &mut Seat<V>,
@@ -99,7 +99,7 @@ pub fn begin_read<V: Value>(
 
 /// An open transaction ends without a commit. Nothing refuses it, and it takes no memory.
 #[inline(never)]
-pub fn abort<V: Value>(
+pub(crate) fn abort<V: Value>(
     alloc: Global,
     table: &TxTable<V>,
     seat: &mut Seat<V>,

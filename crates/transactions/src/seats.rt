@@ -108,7 +108,13 @@ impl<V: Value> TxSeat<V> {
         )
     }
 
-    /// A call on a word or a collection. `NoTransaction` where none is open, then as [`crate::call`] has it.
+    /// A call on a word or on a collection, with its reply. What it changes is seen by others once the transaction commits.
+    ///
+    /// `NoTransaction` where none is open; then `NoSuch` where there is no such word or collection, or it is of another kind, and for a
+    /// change in a declared reader; then `TooLong` past the limit of calls, or where what it reads or writes doesn't fit the sets: the
+    /// transaction is as it was. `Moved` where a word or a location of a collection changed since the transaction began, `Stale` where what
+    /// it has of a collection is not what it had read, `GateBusy` where another seat held the collection's gate at each of 64 tries, and
+    /// `OutOfMemory`: the transaction is ended.
     pub fn call(&mut self, table: &TxTable<V>, call: Call<V>) -> Result<Reply<V>, Refusal>
         requires ready { IsReady table.now self.old }
         requires since { HasBegunSince table.now self.old }
@@ -165,8 +171,12 @@ impl<V: Value> TxSeat<V> {
         self.call(table, call)
     }
 
-    /// The open transaction commits, with its receipt, whose number is the last number of the seat from then on. `NoTransaction` where none
-    /// is open, then as `commit` has it.
+    /// The open transaction commits: all its words are written, its changes to collections are made, and what it read is as it read it, at
+    /// one moment. Its receipt has its calls with their replies, and its number is the last number of the seat from then on.
+    ///
+    /// `NoTransaction` where none is open. `Busy` where a location to be written is locked, or was changed, `Invalid` where one that was
+    /// read was, `GateBusy` where another seat held the gate of a collection to be written at each of 64 tries, and `OutOfMemory`: the
+    /// transaction is ended, and has written nothing.
     pub fn commit(&mut self, table: &TxTable<V>) -> Result<Record<V>, Refusal>
         requires ready { IsReady table.now self.old }
         requires since { HasBegunSince table.now self.old }

@@ -23,6 +23,44 @@ pub struct Tx<'a, V> {
     pub(crate) seat: &'a mut TxSeat<V>,
 }
 
+/// A transaction begins; one that was left open at the seat is aborted first. `Exhausted` at the limit of the clock, and there is none.
+pub fn begin<'a, V: Value>(
+    table: &'a TxTable<V>,
+    seat: &'a mut TxSeat<V>,
+) -> Result<Tx<'a, V>, Refusal>
+    requires ready { IsReady table.now seat.old }
+    ensures* refused { sem 𝓛 (RestsIfErr (the_row V.row) seat.entry (λ tx. tx.seat.ghost_name) result
+        (IsRefusedBegin table.now seat.old result)) }
+    ensures same_reference { IfOk result (λ tx. tx.seat.ghost_name ≡ seat.entry.ghost_name) }
+    ensures same_table { IfOk result (λ tx. tx.table.now ≡ table.now) }
+    ensures ready { IfOk result (λ tx. IsReady table.now tx.seat.now) }
+    ensures since { IfOk result (λ tx. HasBegunSince table.now tx.seat.now) }
+    ensures keeps { IfOk result (λ tx. KeepsReceipts seat.old.seat tx.seat.now.seat) }
+    ensures begun { IfOk result (λ tx. IsBegunSince (opening_of table.now) seat.old tx.seat.now) }
+{
+    seat.begin(table)?;
+    Ok(Tx::over(seat, table))
+}
+
+/// A transaction begins that writes nothing, as `begin` does.
+pub fn begin_read<'a, V: Value>(
+    table: &'a TxTable<V>,
+    seat: &'a mut TxSeat<V>,
+) -> Result<Tx<'a, V>, Refusal>
+    requires ready { IsReady table.now seat.old }
+    ensures* refused { sem 𝓛 (RestsIfErr (the_row V.row) seat.entry (λ tx. tx.seat.ghost_name) result
+        (IsRefusedBegin table.now seat.old result)) }
+    ensures same_reference { IfOk result (λ tx. tx.seat.ghost_name ≡ seat.entry.ghost_name) }
+    ensures same_table { IfOk result (λ tx. tx.table.now ≡ table.now) }
+    ensures ready { IfOk result (λ tx. IsReady table.now tx.seat.now) }
+    ensures since { IfOk result (λ tx. HasBegunSince table.now tx.seat.now) }
+    ensures keeps { IfOk result (λ tx. KeepsReceipts seat.old.seat tx.seat.now.seat) }
+    ensures begun { IfOk result (λ tx. IsBegunSince (opening_of table.now) seat.old tx.seat.now) }
+{
+    seat.begin_read(table)?;
+    Ok(Tx::over(seat, table))
+}
+
 impl<'a, V: Value> Tx<'a, V> {
     fn over(seat: &'a mut TxSeat<V>, table: &'a TxTable<V>) -> Tx<'a, V>
         ensures same_reference { result.seat.ghost_name ≡ seat.entry.ghost_name }
@@ -30,38 +68,6 @@ impl<'a, V: Value> Tx<'a, V> {
         ensures same_seat { result.seat.now ≡ seat.old }
     {
         Tx { table, seat }
-    }
-
-    /// A transaction begins; one that was left open at the seat is aborted first. `Exhausted` at the limit of the clock, and there is none.
-    pub fn begin(seat: &'a mut TxSeat<V>, table: &'a TxTable<V>) -> Result<Tx<'a, V>, Refusal>
-        requires ready { IsReady table.now seat.old }
-        ensures* refused { sem 𝓛 (RestsIfErr (the_row V.row) seat.entry (λ tx. tx.seat.ghost_name) result
-            (IsRefusedBegin table.now seat.old result)) }
-        ensures same_reference { IfOk result (λ tx. tx.seat.ghost_name ≡ seat.entry.ghost_name) }
-        ensures same_table { IfOk result (λ tx. tx.table.now ≡ table.now) }
-        ensures ready { IfOk result (λ tx. IsReady table.now tx.seat.now) }
-        ensures since { IfOk result (λ tx. HasBegunSince table.now tx.seat.now) }
-        ensures keeps { IfOk result (λ tx. KeepsReceipts seat.old.seat tx.seat.now.seat) }
-        ensures begun { IfOk result (λ tx. IsBegunSince (opening_of table.now) seat.old tx.seat.now) }
-    {
-        seat.begin(table)?;
-        Ok(Tx::over(seat, table))
-    }
-
-    /// A transaction begins that writes nothing, as `begin` does.
-    pub fn begin_read(seat: &'a mut TxSeat<V>, table: &'a TxTable<V>) -> Result<Tx<'a, V>, Refusal>
-        requires ready { IsReady table.now seat.old }
-        ensures* refused { sem 𝓛 (RestsIfErr (the_row V.row) seat.entry (λ tx. tx.seat.ghost_name) result
-            (IsRefusedBegin table.now seat.old result)) }
-        ensures same_reference { IfOk result (λ tx. tx.seat.ghost_name ≡ seat.entry.ghost_name) }
-        ensures same_table { IfOk result (λ tx. tx.table.now ≡ table.now) }
-        ensures ready { IfOk result (λ tx. IsReady table.now tx.seat.now) }
-        ensures since { IfOk result (λ tx. HasBegunSince table.now tx.seat.now) }
-        ensures keeps { IfOk result (λ tx. KeepsReceipts seat.old.seat tx.seat.now.seat) }
-        ensures begun { IfOk result (λ tx. IsBegunSince (opening_of table.now) seat.old tx.seat.now) }
-    {
-        seat.begin_read(table)?;
-        Ok(Tx::over(seat, table))
     }
 
     /// A call on a word or a collection, as `TxSeat::call` has it.
