@@ -12,7 +12,7 @@ ghost use Rattle.transactions.specs.Ready.{HasBegunSince, IsReady};
 ghost use Rattle.transactions.specs.Requests.{CallsTo, IsOpen, KeepsReceipts};
 
 use crate::seats::TxSeat;
-use seq_model::{Call, Record, Refusal, Reply, Value};
+use seq_model::{Call, Op, Record, Refusal, Reply, Value};
 use tx_table::TxTable;
 
 /// A transaction at a seat of a table. One that is dropped while it is open holds no lock and no gate; it stays open until its seat begins
@@ -71,7 +71,7 @@ impl<'a, V: Value> Tx<'a, V> {
     }
 
     /// A call on a word or a collection, as `TxSeat::call` has it.
-    pub fn call(&mut self, call: Call<V>) -> Result<Reply<V>, Refusal>
+    pub fn call(&mut self, op: Op<V>, target: u32) -> Result<Reply<V>, Refusal>
         requires ready { IsReady self.old.table.now self.old.seat.now }
         requires since { HasBegunSince self.old.table.now self.old.seat.now }
         ensures same_reference { self.new.seat.ghost_name ≡ self.old.seat.ghost_name }
@@ -79,11 +79,12 @@ impl<'a, V: Value> Tx<'a, V> {
         ensures ready { IsReady self.new.table.now self.new.seat.now }
         ensures since { HasBegunSince self.new.table.now self.new.seat.now }
         ensures calls { IsOpen (opening_of self.old.table.now) self.old.seat.now.seat →
-            CallsTo (opening_of self.old.table.now) self.old.seat.now.seat call self.new.seat.now.seat result }
+            CallsTo (opening_of self.old.table.now) self.old.seat.now.seat (record { target = target; op = op })
+            self.new.seat.now.seat result }
         ensures none { standing (opening_of self.old.table.now) self.old.seat.now.seat ≡ Rests →
             (result ≡ Err NoTransaction) × (self.new.seat.now ≡ self.old.seat.now) }
     {
-        self.seat.call(self.table, call)
+        self.seat.call(self.table, Call { target, op })
     }
 
     /// A word is read, as `TxSeat::read` has it.

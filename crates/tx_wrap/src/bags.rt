@@ -4,7 +4,7 @@ ghost use Rattle.seq_model.specs.declared.call.Op.TheVariants as op;
 ghost use Rattle.transactions.specs.Ready.{HasBegunSince, IsReady};
 ghost use Rattle.tx_wrap.specs.Called.{HasCalled};
 
-use seq_model::{Call, Op, Refusal, Reply, Value};
+use seq_model::{Op, Refusal, Reply, Value};
 use transactions::Tx;
 
 /// The multiset of this number.
@@ -29,10 +29,7 @@ impl TBag {
         ensures called { HasCalled tx.old.table.now tx.old.seat.now tx.new.seat.now
             (record { target = self.now.number; op = op.Count element }) result }
     {
-        tx.call(Call {
-            target: self.number,
-            op: Op::Count(element),
-        })
+        tx.call(Op::Count(element), self.number)
     }
 
     /// One more copy of the element: `Done`, or `Full` at the limit of copies, and nothing is changed.
@@ -44,10 +41,7 @@ impl TBag {
         ensures called { HasCalled tx.old.table.now tx.old.seat.now tx.new.seat.now
             (record { target = self.now.number; op = op.Add element }) result }
     {
-        tx.call(Call {
-            target: self.number,
-            op: Op::Add(element),
-        })
+        tx.call(Op::Add(element), self.number)
     }
 
     /// One copy less of the element: `Yes`, or `No` where it has none.
@@ -59,9 +53,6 @@ impl TBag {
         ensures called { HasCalled tx.old.table.now tx.old.seat.now tx.new.seat.now
             (record { target = self.now.number; op = op.Take element }) result }
     {
-        tx.call(Call {
-            target: self.number,
-            op: Op::Take(element),
-        })
+        tx.call(Op::Take(element), self.number)
     }
 }

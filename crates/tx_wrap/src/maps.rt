@@ -4,7 +4,7 @@ ghost use Rattle.seq_model.specs.declared.call.Op.TheVariants as op;
 ghost use Rattle.transactions.specs.Ready.{HasBegunSince, IsReady};
 ghost use Rattle.tx_wrap.specs.Called.{HasCalled};
 
-use seq_model::{Call, Op, Refusal, Reply, Value};
+use seq_model::{Op, Refusal, Reply, Value};
 use std::marker::PhantomData;
 use transactions::Tx;
 
@@ -34,10 +34,7 @@ impl<V: Value> TMap<V> {
         ensures called { HasCalled tx.old.table.now tx.old.seat.now tx.new.seat.now
             (record { target = self.now.number; op = op.Get key }) result }
     {
-        tx.call(Call {
-            target: self.number,
-            op: Op::Get(key),
-        })
+        tx.call(Op::Get(key), self.number)
     }
 
     /// The map holds the value at the key from then on; it is answered what it held there: `Value`, or `Nothing`.
@@ -49,10 +46,7 @@ impl<V: Value> TMap<V> {
         ensures called { HasCalled tx.old.table.now tx.old.seat.now tx.new.seat.now
             (record { target = self.now.number; op = op.Put key value }) result }
     {
-        tx.call(Call {
-            target: self.number,
-            op: Op::Put(key, value),
-        })
+        tx.call(Op::Put(key, value), self.number)
     }
 
     /// The map holds nothing at the key from then on; it is answered what it held there: `Value`, or `Nothing`.
@@ -64,10 +58,7 @@ impl<V: Value> TMap<V> {
         ensures called { HasCalled tx.old.table.now tx.old.seat.now tx.new.seat.now
             (record { target = self.now.number; op = op.Remove key }) result }
     {
-        tx.call(Call {
-            target: self.number,
-            op: Op::Remove(key),
-        })
+        tx.call(Op::Remove(key), self.number)
     }
 
     /// How many keys the map has: `Number`.
@@ -79,9 +70,6 @@ impl<V: Value> TMap<V> {
         ensures called { HasCalled tx.old.table.now tx.old.seat.now tx.new.seat.now
             (record { target = self.now.number; op = op.Len }) result }
     {
-        tx.call(Call {
-            target: self.number,
-            op: Op::Len,
-        })
+        tx.call(Op::Len, self.number)
     }
 }

@@ -4,7 +4,7 @@ ghost use Rattle.seq_model.specs.declared.call.Op.TheVariants as op;
 ghost use Rattle.transactions.specs.Ready.{HasBegunSince, IsReady};
 ghost use Rattle.tx_wrap.specs.Called.{HasCalled};
 
-use seq_model::{Call, Op, Refusal, Reply, Value};
+use seq_model::{Op, Refusal, Reply, Value};
 use transactions::Tx;
 
 /// The priority queue of this number.
@@ -29,10 +29,7 @@ impl TPq {
         ensures called { HasCalled tx.old.table.now tx.old.seat.now tx.new.seat.now
             (record { target = self.now.number; op = op.Least }) result }
     {
-        tx.call(Call {
-            target: self.number,
-            op: Op::Least,
-        })
+        tx.call(Op::Least, self.number)
     }
 
     /// One more copy of the element: `Done`, or `Full` at the limit of copies, and nothing is changed.
@@ -44,10 +41,7 @@ impl TPq {
         ensures called { HasCalled tx.old.table.now tx.old.seat.now tx.new.seat.now
             (record { target = self.now.number; op = op.Insert element }) result }
     {
-        tx.call(Call {
-            target: self.number,
-            op: Op::Insert(element),
-        })
+        tx.call(Op::Insert(element), self.number)
     }
 
     /// One copy of the least element is taken: `Found`, or `Nothing` where there is none.
@@ -59,9 +53,6 @@ impl TPq {
         ensures called { HasCalled tx.old.table.now tx.old.seat.now tx.new.seat.now
             (record { target = self.now.number; op = op.TakeLeast }) result }
     {
-        tx.call(Call {
-            target: self.number,
-            op: Op::TakeLeast,
-        })
+        tx.call(Op::TakeLeast, self.number)
     }
 }

@@ -4,7 +4,7 @@ ghost use Rattle.seq_model.specs.declared.call.Op.TheVariants as op;
 ghost use Rattle.transactions.specs.Ready.{HasBegunSince, IsReady};
 ghost use Rattle.tx_wrap.specs.Called.{HasCalled};
 
-use seq_model::{Call, Op, Refusal, Reply, Value};
+use seq_model::{Op, Refusal, Reply, Value};
 use transactions::Tx;
 
 /// The queue of this number.
@@ -29,10 +29,7 @@ impl TQueue {
         ensures called { HasCalled tx.old.table.now tx.old.seat.now tx.new.seat.now
             (record { target = self.now.number; op = op.Enqueue item }) result }
     {
-        tx.call(Call {
-            target: self.number,
-            op: Op::Enqueue(item),
-        })
+        tx.call(Op::Enqueue(item), self.number)
     }
 
     /// The first item is taken off: `Found`, or `Nothing` where there is none.
@@ -44,10 +41,7 @@ impl TQueue {
         ensures called { HasCalled tx.old.table.now tx.old.seat.now tx.new.seat.now
             (record { target = self.now.number; op = op.Dequeue }) result }
     {
-        tx.call(Call {
-            target: self.number,
-            op: Op::Dequeue,
-        })
+        tx.call(Op::Dequeue, self.number)
     }
 
     /// The first item: `Found`, or `Nothing` where there is none.
@@ -59,10 +53,7 @@ impl TQueue {
         ensures called { HasCalled tx.old.table.now tx.old.seat.now tx.new.seat.now
             (record { target = self.now.number; op = op.Peek }) result }
     {
-        tx.call(Call {
-            target: self.number,
-            op: Op::Peek,
-        })
+        tx.call(Op::Peek, self.number)
     }
 
     /// How many items the queue has: `Number`.
@@ -74,9 +65,6 @@ impl TQueue {
         ensures called { HasCalled tx.old.table.now tx.old.seat.now tx.new.seat.now
             (record { target = self.now.number; op = op.Len }) result }
     {
-        tx.call(Call {
-            target: self.number,
-            op: Op::Len,
-        })
+        tx.call(Op::Len, self.number)
     }
 }

@@ -4,7 +4,7 @@ ghost use Rattle.seq_model.specs.declared.call.Op.TheVariants as op;
 ghost use Rattle.transactions.specs.Ready.{HasBegunSince, IsReady};
 ghost use Rattle.tx_wrap.specs.Called.{HasCalled};
 
-use seq_model::{Call, Op, Refusal, Reply, Value};
+use seq_model::{Op, Refusal, Reply, Value};
 use transactions::Tx;
 
 /// The word of this number.
@@ -29,10 +29,7 @@ impl TWord {
         ensures called { HasCalled tx.old.table.now tx.old.seat.now tx.new.seat.now
             (record { target = self.now.number; op = op.Read }) result }
     {
-        tx.call(Call {
-            target: self.number,
-            op: Op::Read,
-        })
+        tx.call(Op::Read, self.number)
     }
 
     /// The word holds this number, once the transaction commits: `Done`.
@@ -44,9 +41,6 @@ impl TWord {
         ensures called { HasCalled tx.old.table.now tx.old.seat.now tx.new.seat.now
             (record { target = self.now.number; op = op.Write word }) result }
     {
-        tx.call(Call {
-            target: self.number,
-            op: Op::Write(word),
-        })
+        tx.call(Op::Write(word), self.number)
     }
 }

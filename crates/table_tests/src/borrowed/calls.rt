@@ -55,7 +55,7 @@ fn plain<V: Value>(tx: &mut Tx<'_, V>, call: &Call<V>) -> Result<Reply<V>, Refus
     match &call.op {
         Op::Read => tx.read(call.target),
         Op::Write(value) => tx.write(call.target, *value),
-        _ => tx.call(call.try_copy()?),
+        _ => tx.call(call.op.try_copy()?, call.target),
     }
 }
 
