@@ -1,9 +1,9 @@
 //! A transaction that borrows the seat at which it runs.
-ghost use Rattle.std.specs.Prelude.{◌≡◌, Err, IfOk};
+ghost use Rattle.std.specs.Prelude.{◌≡◌, ◌<◌, Err, IfErr, IfOk, OnErr, OnOk, max};
 ghost use Rattle.std.specs.Borrow.{RestsIfErr, sem};
 ghost use Rattle.seq_model.specs.declared.call.Op.TheVariants as op;
-ghost use Rattle.seq_model.specs.declared.refusal.Refusal.TheVariants.{NoTransaction};
-ghost use Rattle.tx_table.specs.Seated.{opening_of};
+ghost use Rattle.seq_model.specs.declared.refusal.Refusal.TheVariants.{Ahead, NoTransaction};
+ghost use Rattle.tx_table.specs.Seated.{opening_of, view};
 ghost use Rattle.tx_phases.specs.Phases.{Rests};
 ghost use Rattle.transactions.specs.contracts.seats.TxSeat.{the_row};
 ghost use Rattle.transactions.specs.Borrowed.{CommitsTo, IsBegunSince, IsRefusedBegin};
@@ -59,6 +59,18 @@ pub fn begin_read<'a, V: Value>(
 {
     seat.begin_read(table)?;
     Ok(Tx::over(seat, table))
+}
+
+/// The seat learns of a commit with this number, as `TxSeat::learn` has it.
+pub fn learn<V: Value>(table: &TxTable<V>, seat: &mut TxSeat<V>, number: u64) -> Result<(), Refusal>
+    requires ready { IsReady table.now seat.old }
+    ensures ready { IsReady table.now seat.new }
+    ensures keeps { (view seat.new.seat).receipts ≡ (view seat.old.seat).receipts }
+    ensures learns { OnOk result (seat.new.seat.last ≡ max seat.old.seat.last number) }
+    ensures ahead { IfErr result (λ cause. (cause ≡ Ahead (view seat.new.seat).clock) × ((view seat.new.seat).clock < number)) }
+    ensures last { OnErr result (seat.new.seat.last ≡ seat.old.seat.last) }
+{
+    seat.learn(table, number)
 }
 
 impl<'a, V: Value> Tx<'a, V> {

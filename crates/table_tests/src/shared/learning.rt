@@ -22,7 +22,7 @@ fn learn_number(page: &mut Page, table: &TxTable<u64>, seat: &mut TxSeat<u64>, l
     requires ready { IsReady table.now seat.old }
     ensures ready { IsReady table.now seat.new }
 {
-    match seat.learn(table, learnt) {
+    match transactions::learn(table, seat, learnt) {
         Ok(()) => page.say("learnt"),
         Err(refusal) => page.refuse(refusal),
     }
