@@ -7,7 +7,7 @@ ghost use Rattle.transactions.specs.Ready.{HasBegunSince, IsReady, standing};
 ghost use Rattle.transactions.specs.Requests.{KeepsReceipts};
 ghost use Rattle.attempts.specs.Attempts.{AttemptsTo, IsSoFar, IsUnmade, Reaches};
 
-use crate::pause::{NoPause, Pause};
+use crate::pause::Pause;
 use seq_model::{Record, Refusal, Reply, Value};
 use std::alloc::Global;
 use transactions::TxSeat;
@@ -121,19 +121,4 @@ pub fn attempt_with<V: Value, J: Job<V>, P: Pause>(
             Err(cause)
         }
     }
-}
-
-/// One attempt of a job, as `attempt_with` makes it, by a worker that is held nowhere.
-pub fn attempt_job<V: Value, J: Job<V>>(
-    alloc: Global,
-    table: &TxTable<V>,
-    seat: &mut TxSeat<V>,
-    job: &J,
-) -> Result<Attempt<V>, Refusal>
-    requires ready { IsReady table.now seat.old }
-    ensures ready { IsReady table.now seat.new }
-    ensures rests { standing (opening_of table.now) seat.new.seat ≡ Rests }
-    ensures attempts { AttemptsTo (J.asks job.now) (opening_of table.now) seat.old.seat seat.new.seat result }
-{
-    attempt_with(alloc, table, seat, job, 0, &NoPause)
 }

@@ -7,6 +7,8 @@
 
 mod jobs;
 mod pause;
+mod unheld;
 
-pub use jobs::{Attempt, attempt_job, attempt_with};
+pub use jobs::{Attempt, attempt_with};
 pub use pause::{NoPause, Pause};
+pub use unheld::attempt;

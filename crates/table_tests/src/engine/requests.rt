@@ -2,7 +2,7 @@
 ghost use Rattle.table_tests.specs.Fit.{IsFit};
 
 use crate::shared::{Listed, Meeting, Page};
-use attempts::{Attempt, Pause, attempt_job, attempt_with};
+use attempts::{Attempt, Pause, attempt_with};
 use seq_model::{Call, Refusal, Request};
 use std::alloc::Global;
 use step_script::Line;
@@ -127,7 +127,7 @@ fn attempt(
     if is_held {
         attempt_with(alloc, table, seat, job, worker, meeting)
     } else {
-        attempt_job(alloc, table, seat, job)
+        attempts::attempt(alloc, table, seat, job)
     }
 }
 
