@@ -13,4 +13,4 @@ mod shares;
 mod tx;
 
 pub use seats::TxSeat;
-pub use tx::{Tx, begin, begin_read, learn};
+pub use tx::{Receipt, Tx, begin, begin_read, learn};

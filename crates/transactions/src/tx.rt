@@ -15,6 +15,9 @@ use crate::seats::TxSeat;
 use seq_model::{Call, Op, Record, Refusal, Reply, Value};
 use tx_table::TxTable;
 
+/// What a commit gives: the record of its transaction.
+pub type Receipt<V> = Record<V>;
+
 /// A transaction at a seat of a table. One that is dropped while it is open holds no lock and no gate; it stays open until its seat begins
 /// the next one, which aborts it first.
 #[derive(Drop)]
@@ -134,7 +137,7 @@ impl<'a, V: Value> Tx<'a, V> {
     }
 
     /// The transaction commits, with its receipt, as `TxSeat::commit` has it.
-    pub fn commit(self) -> Result<Record<V>, Refusal>
+    pub fn commit(self) -> Result<Receipt<V>, Refusal>
         requires ready { IsReady self.table.now self.seat.now }
         requires since { HasBegunSince self.table.now self.seat.now }
         ensures commits { CommitsTo self.entry.table.now self.entry.seat.now self.exit.1.0.now result }
