@@ -4,7 +4,7 @@ ghost use Rattle.seq_model.specs.declared.call.Op.TheVariants as op;
 ghost use Rattle.seq_model.specs.declared.refusal.Refusal.TheVariants.{Ahead, NoTransaction};
 ghost use Rattle.tx_table.specs.Seated.{opening_of, view};
 ghost use Rattle.tx_phases.specs.Phases.{Rests, Stands};
-ghost use Rattle.driven_turns.specs.Driven.{standing};
+ghost use Rattle.driven_turns.specs.Driven.{IsNumberOf, seat_in, standing};
 ghost use Rattle.transactions.specs.Ready.{HasBegunSince, HasOpened, IsNew, IsReady};
 ghost use Rattle.transactions.specs.Requests.{CallsTo, HasCommitted, IsBegun, IsEnded, IsNotBegun, IsOpen, KeepsReceipts, has_written};
 
@@ -185,6 +185,7 @@ impl<V: Value> TxSeat<V> {
         ensures committed { IfOk result (HasCommitted (opening_of table.now) self.old.seat self.new.seat) }
         ensures calls { IfOk result (λ receipt. standing (opening_of table.now) self.old.seat ≡ Stands receipt.calls) }
         ensures writes { IfOk result (λ receipt. receipt.writes ≡ has_written (opening_of table.now) self.old.seat) }
+        ensures number { IfOk result (IsNumberOf (seat_in (opening_of table.now) self.old.seat).rv (view self.new.seat).clock) }
         ensures above { IfOk result (λ receipt. receipt.writes ≡ true → self.old.seat.last < receipt.number) }
         ensures last { IfOk result (λ receipt. (self.old.seat.last ≤ receipt.number) × (self.new.seat.last ≡ receipt.number)) }
         ensures keeps { OnErr result (KeepsReceipts self.old.seat self.new.seat) }

@@ -1,13 +1,18 @@
-use Rattle.std.proofs.Common.{◌≤◌, arith}
+use Rattle.std.proofs.Common.{ℕ, ◌≤◌, ap, arith, subst, sym}
 use Rattle.tx_table.specs.Seated.{opening_of, view}
 use Rattle.transactions.proofs.ReadyLemmas.{commit_numbers, noted_committed}
-use Rattle.driven_turns.specs.Driven.{seat_in}
+use Rattle.driven_turns.specs.Driven.{IsNumberOf, seat_in}
 use Rattle.transactions.proofs.seats.TxSeat.commit.Goals as goal
 
 pub returns-clause-committed : goal.returns-clause-committed
 returns-clause-committed g c =
     noted_committed (opening_of c.args.table.now) c.commit.new.seat c.note.new.self c.note.ensures.same c.note.ensures.asked
     c.args.self.now.seat c.in_ok-receipt.receipt c.in_ok-receipt.ensures.committed
+
+pub returns-clause-number : goal.returns-clause-number
+returns-clause-number g c =
+    subst (λ (k : ℕ). IsNumberOf (seat_in (opening_of c.args.table.now) c.args.self.now.seat).rv k c.in_ok-receipt.receipt)
+    (sym (ap (λ p. p.me.0.clock) c.note.ensures.same)) c.in_ok-receipt.ensures.number
 
 pub returns-clause-last : goal.returns-clause-last
 returns-clause-last g c =
