@@ -82,13 +82,13 @@ fn open(
 }
 
 /// What the table holds once its last seat closes it.
-fn close(alloc: Global, table: TxTable<Entry>, seat: TxSeat<Entry>) -> Result<State<Entry>, Memory>
+fn close(table: TxTable<Entry>, seat: TxSeat<Entry>) -> Result<State<Entry>, Memory>
     requires ready { IsReady table seat }
     requires all { (view seat.seat).shares ≡ SHARES }
     ensures { IfOk result (IsLeft (contents_in table) (view seat.seat).receipts) }
 {
     let closed = seat.close(table);
-    let state = closed.state(alloc)?;
+    let state = closed.state()?;
     Ok(state)
 }
 
@@ -113,7 +113,7 @@ fn serve_allowed<R: Threads + Wait + Sync, P: Pause + Sync>(
     let (table, seat) = open(alloc, tables, stripes)?;
     let (seat, report) = run_workers(rt, alloc, &table, seat, sessions, tries, pause);
     let report = report?;
-    let state = close(alloc, table, seat)?;
+    let state = close(table, seat)?;
     let tables = tables_left(alloc, &state)?;
     Ok(Served {
         report,

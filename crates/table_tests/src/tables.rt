@@ -129,7 +129,7 @@ fn run_table<R: Threads + Wait + Sync>(
     requires shares { (view seat.seat).shares ≡ 64 }
 {
     let seat = run_seat(rt, page, kind, &table, seat, rows);
-    close(page.alloc(), table, seat)
+    close(table, seat)
 }
 
 fn run_seat<R: Threads + Wait + Sync>(

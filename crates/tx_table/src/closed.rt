@@ -15,6 +15,7 @@ pub struct Closed<V> {
     pub(crate) row: atomic_table::Closed<Option<Boxed<Base<V>>>, Global>,
     pub(crate) words: u32,
     pub(crate) locations: usize,
+    pub(crate) alloc: Global,
     ghost full: { IsFull row.words × IsFull row.slots },
     ghost wide: { slots_len row.words ≡ width locations (length (slots_items row.slots)) },
     ghost inside: { (words ≤ locations) × (locations ≤ TABLE_LIMIT) },
@@ -27,6 +28,7 @@ impl<V: Drop> Drop for Closed<V> {
             mut row,
             words: _,
             locations: _,
+            alloc: _,
         } = self;
         let mut i = 0;
         while i < row.slot_count() {

@@ -13,7 +13,6 @@ use crate::table::TxTable;
 use crate::view::SHARES;
 use replay_log::Base;
 use seq_model::{Held, Memory, State, Value};
-use std::alloc::Global;
 
 impl<V: Value> TxTable<V> {
     /// What the table holds, once every seat was joined into this one. No commit of it is half done, and it holds no gate. It takes no
@@ -33,6 +32,7 @@ impl<V: Value> TxTable<V> {
             words,
             locations,
             blocks: _,
+            alloc,
         } = self;
         let Seat {
             place,
@@ -44,6 +44,7 @@ impl<V: Value> TxTable<V> {
             row: whole.close_with(place),
             words,
             locations,
+            alloc,
         }
     }
 }
@@ -91,33 +92,33 @@ impl<V: Value> Closed<V> {
 
     /// What the words and the collections hold, as the state that the receipts' run leaves. Each collection has to be within the limits of
     /// a state, as `close` tells that it is. `Memory` where there is none for the copies; what was closed is gone either way.
-    pub fn state(self, alloc: Global) -> Result<State<V>, Memory>
+    pub fn state(self) -> Result<State<V>, Memory>
         requires { All IsWithinLimits (held_in self) }
         ensures words { IfOk result (λ state. state.words ≡ take self.words (drop (1 + self.locations) (row_of self))) }
         ensures held { IfOk result (λ state. state.held ≡ held_in self) }
     {
-        let words = self.values(alloc)?;
-        let held = self.held(alloc)?;
+        let words = self.values()?;
+        let held = self.held()?;
         match State::new(words, held) {
             Ok(state) => Ok(state),
             Err(_) => unreachable!(),
         }
     }
 
-    fn values(&self, alloc: Global) -> Result<Vec<u64>, Memory>
+    fn values(&self) -> Result<Vec<u64>, Memory>
         ensures { IfOk result (λ words. words.items ≡ take self.now.words (drop (1 + self.now.locations) (row_of self.now))) }
     {
-        let mut words = Vec::with_capacity(alloc, self.words as usize)?;
+        let mut words = Vec::with_capacity(self.alloc, self.words as usize)?;
         for word in 0..self.words {
             words.push(self.word(word))?;
         }
         Ok(words)
     }
 
-    fn held(&self, alloc: Global) -> Result<Vec<Held<V>>, Memory>
+    fn held(&self) -> Result<Vec<Held<V>>, Memory>
         ensures { IfOk result (λ held. held.items ≡ held_in self.now) }
     {
-        let mut held = Vec::with_capacity(alloc, self.collections())?;
+        let mut held = Vec::with_capacity(self.alloc, self.collections())?;
         for k in 0..self.collections() {
             held.push(self.base_at(k).held()?)?;
         }

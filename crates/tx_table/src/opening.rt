@@ -109,6 +109,7 @@ impl<V: Value> TxTable<V> {
             words: words as u32,
             locations,
             blocks,
+            alloc,
         };
         let seat = Seat {
             place,

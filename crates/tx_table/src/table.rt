@@ -6,6 +6,7 @@ ghost use Rattle.tx_table.specs.Opening.{blocks_at, locations_at, words_at};
 
 use crate::rule::Whole;
 use actor_words::Blocks;
+use std::alloc::Global;
 
 /// A table of words and collections that threads share.
 #[derive(Drop)]
@@ -14,6 +15,7 @@ pub struct TxTable<V> {
     pub(crate) words: u32,
     pub(crate) locations: usize,
     pub(crate) blocks: Blocks,
+    pub(crate) alloc: Global,
     ghost words_are: { words ≡ words_at whole.shared.key },
     ghost locations_are: { locations ≡ locations_at whole.shared.key },
     ghost laid: { (blocks.words ≡ words_at whole.shared.key) × (blocks.blocks ≡ blocks_at whole.shared.key) },

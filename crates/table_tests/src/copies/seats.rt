@@ -50,7 +50,7 @@ fn run(
     receipts: &mut Vec<Record<Rationed>>,
 ) -> Result<(Made, State<Rationed>), Refusal> {
     let (table, seat) = open(alloc, opening)?;
-    run_table(alloc, table, seat, ration, place, receipts)
+    run_table(table, seat, ration, place, receipts)
 }
 
 fn open(
@@ -68,7 +68,6 @@ fn open(
 }
 
 fn run_table(
-    alloc: Global,
     table: TxTable<Rationed>,
     mut seat: TxSeat<Rationed>,
     ration: &Ration,
@@ -78,7 +77,7 @@ fn run_table(
     requires ready { IsReady table seat }
 {
     let made = make_both(&table, &mut seat, ration, place, receipts);
-    let (_, last) = close(alloc, table, seat)?;
+    let (_, last) = close(table, seat)?;
     Ok((made, last))
 }
 

@@ -13,11 +13,7 @@ use tx_table::TxTable;
 const ALL_SHARES: u64 = 64;
 
 /// The seat closes the table: the clock, and what the table holds. `NoSuch` where the seat has not all shares.
-pub fn close<V: Value>(
-    alloc: Global,
-    table: TxTable<V>,
-    seat: TxSeat<V>,
-) -> Result<(u64, State<V>), Refusal>
+pub fn close<V: Value>(table: TxTable<V>, seat: TxSeat<V>) -> Result<(u64, State<V>), Refusal>
     requires ready { IsReady table seat }
 {
     if seat.shares() != ALL_SHARES {
@@ -25,7 +21,7 @@ pub fn close<V: Value>(
     }
     let closed = seat.close(table);
     let clock = closed.clock();
-    let last = closed.state(alloc)?;
+    let last = closed.state()?;
     Ok((clock, last))
 }
 
