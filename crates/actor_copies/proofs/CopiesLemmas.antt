@@ -26,7 +26,7 @@ use Rattle.replay_log.specs.declared.touch.Touch.{Touch}
 use Rattle.replay_log.specs.Touches.{summed_by}
 use Rattle.shadow.specs.Memo.{IsAlike, IsCopyBy, MemoView, copies_kept, entries_kept, grown_kept, holds_with, shrunk_kept, with_count}
 use Rattle.shadow.specs.Memo.{with_entry, with_total}
-use Rattle.shadow.proofs.CopyLemmas.{copy_accepted, copy_answered, moved_copy, touched_copy}
+use Rattle.shadow.proofs.CopyLemmas.{copy_accepted, copy_answered, moved_copy, summed_copy}
 use Rattle.actor_copies.specs.declared.copies.Copied.{Copied}
 use Rattle.actor_copies.specs.declared.copies.Copied.TheVariants.{Keys, Whole}
 use Rattle.actor_copies.specs.Copies.{IsAccepted, IsCopied, IsLearnt, IsOf, answer_of, answered_on, edition_at, has_piece, holds_call}
@@ -170,7 +170,7 @@ module _ {V : Type 0} where
         same_copy shape (shown_of n.blank) (with_entry t.held m.entries) n.entries (with_count t.held m.copies) n.copies
             (with_total t.held m.total) n.total m.grown n.grown m.shrunk n.shrunk m.changes n.changes s
             (ap shown_of now.0) now.1 now.2 now.3 now.4 now.5 now.6
-            (touched_copy m.grown m.shrunk m.changes b.stripes op t.held shape s m.entries m.copies m.total pos e is.4),
+            (summed_copy m.grown m.shrunk m.changes b.stripes op t.held shape s m.entries m.copies m.total pos e is.4),
       )
   follows_learnt b s cs ls (Whole x) d op t pos is e now = subst (IsOf b s cs ls) (sym now) is
   follows_learnt b s cs ls (Keys m es) (Whole x) op t pos is e now = absurd now

@@ -47,7 +47,10 @@ module _ {V : Type 0} where
   kind_touched n (Count x) (OfBag m) h e = same_kind _ h (some_same _ h e)
   kind_touched n (Add x) (OfBag m) h e = same_kind _ h (some_same _ h e)
   kind_touched n (Take x) (OfBag m) h e = same_kind _ h (some_same _ h e)
-  kind_touched n op s h e = absurd (none_some h e)
+  kind_touched n op (OfMap y) h e = absurd (none_some h e)
+  kind_touched n op (OfBag y) h e = absurd (none_some h e)
+  kind_touched n op (OfPq y) h e = absurd (none_some h e)
+  kind_touched n op (OfQueue y) h e = absurd (none_some h e)
 
   pub blank_of : (b : Block) (s : Shown V) (k : MemoKind) (m : MemoView V) (es : Room ℕ) → IsBlank b.stripes k m
       → kind_of {V = V} (shape k) ≡ kind_of s → kind_of s ≡ b.kind → IsOf b s [] [] (Keys m es)

@@ -89,7 +89,10 @@ module _ {V : Type 0} where
     forgets (Count i) (OfBag m) h q e z kind = bag_forgets (Count i) q _ h e (λ l none. count_forgets i _ q l none) z kind
     forgets (Add i) (OfBag m) h q e z kind = bag_forgets (Add i) q _ h e (λ l none. count_forgets i _ q l none) z kind
     forgets (Take i) (OfBag m) h q e z kind = bag_forgets (Take i) q _ h e (λ l none. count_forgets i _ q l none) z kind
-    forgets op s h q e z kind = absurd (none_some h e)
+    forgets op (OfMap y) h q e z kind = absurd (none_some h e)
+    forgets op (OfBag y) h q e z kind = absurd (none_some h e)
+    forgets op (OfPq y) h q e z kind = absurd (none_some h e)
+    forgets op (OfQueue y) h q e z kind = absurd (none_some h e)
 
   -- the pieces of a memo are those that it has by its keys
   pub as_piece : (z : Shown V) (m : MemoView V) (q : Piece) → memo_piece z m q ≡ piece_by z m.entries m.copies m.total q

@@ -103,7 +103,10 @@ module _ {V : Type 0} where
     takes (Count i) (OfBag m) h q e z kind = bag_takes (Count i) q _ h e (λ l. count_takes i _ q l) z kind
     takes (Add i) (OfBag m) h q e z kind = bag_takes (Add i) q _ h e (λ l. count_takes i _ q l) z kind
     takes (Take i) (OfBag m) h q e z kind = bag_takes (Take i) q _ h e (λ l. count_takes i _ q l) z kind
-    takes op s h q e z kind = absurd (none_some h e)
+    takes op (OfMap y) h q e z kind = absurd (none_some h e)
+    takes op (OfBag y) h q e z kind = absurd (none_some h e)
+    takes op (OfPq y) h q e z kind = absurd (none_some h e)
+    takes op (OfQueue y) h q e z kind = absurd (none_some h e)
 
   -- a memo that has learnt what the call touches
   pub learnt_pieces : (n : ℕ) (op : Op V) (s : Shown V) (t : Touch V) (m : MemoView V) (es : _) (d : Copied V) (q : Piece)
