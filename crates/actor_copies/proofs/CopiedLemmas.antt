@@ -165,7 +165,9 @@ module _ {V : Type 0} where
   touched_facts n f (Take x) (OfBag m) h e = given n f (Take x) (OfBag m) _ h e (bag_facts n f x (Take x) m refl refl)
   touched_facts n f op (OfMap y) h e = absurd (none_some h e)
   touched_facts n f op (OfBag y) h e = absurd (none_some h e)
+  touched_facts n f (Get q) (OfPq y) h e = absurd (none_some h e)
   touched_facts n f op (OfPq y) h e = absurd (none_some h e)
+  touched_facts n f (Get q) (OfQueue y) h e = absurd (none_some h e)
   touched_facts n f op (OfQueue y) h e = absurd (none_some h e)
 
   -- ---- which calls are held then

@@ -49,7 +49,9 @@ module _ {V : Type 0} where
   kind_touched n (Take x) (OfBag m) h e = same_kind _ h (some_same _ h e)
   kind_touched n op (OfMap y) h e = absurd (none_some h e)
   kind_touched n op (OfBag y) h e = absurd (none_some h e)
+  kind_touched n (Get q) (OfPq y) h e = absurd (none_some h e)
   kind_touched n op (OfPq y) h e = absurd (none_some h e)
+  kind_touched n (Get q) (OfQueue y) h e = absurd (none_some h e)
   kind_touched n op (OfQueue y) h e = absurd (none_some h e)
 
   pub blank_of : (b : Block) (s : Shown V) (k : MemoKind) (m : MemoView V) (es : Room ℕ) → IsBlank b.stripes k m

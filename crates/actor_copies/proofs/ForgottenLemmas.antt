@@ -91,7 +91,9 @@ module _ {V : Type 0} where
     forgets (Take i) (OfBag m) h q e z kind = bag_forgets (Take i) q _ h e (λ l none. count_forgets i _ q l none) z kind
     forgets op (OfMap y) h q e z kind = absurd (none_some h e)
     forgets op (OfBag y) h q e z kind = absurd (none_some h e)
+    forgets (Get i) (OfPq y) h q e z kind = absurd (none_some h e)
     forgets op (OfPq y) h q e z kind = absurd (none_some h e)
+    forgets (Get i) (OfQueue y) h q e z kind = absurd (none_some h e)
     forgets op (OfQueue y) h q e z kind = absurd (none_some h e)
 
   -- the pieces of a memo are those that it has by its keys

@@ -105,7 +105,9 @@ module _ {V : Type 0} where
     takes (Take i) (OfBag m) h q e z kind = bag_takes (Take i) q _ h e (λ l. count_takes i _ q l) z kind
     takes op (OfMap y) h q e z kind = absurd (none_some h e)
     takes op (OfBag y) h q e z kind = absurd (none_some h e)
+    takes (Get i) (OfPq y) h q e z kind = absurd (none_some h e)
     takes op (OfPq y) h q e z kind = absurd (none_some h e)
+    takes (Get i) (OfQueue y) h q e z kind = absurd (none_some h e)
     takes op (OfQueue y) h q e z kind = absurd (none_some h e)
 
   -- a memo that has learnt what the call touches

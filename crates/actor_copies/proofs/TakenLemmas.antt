@@ -210,7 +210,9 @@ module _ {V : Type 0} where
     learnt_holds (Take i) (OfBag m) h e z kind = learnt_bag (Take i) _ h e (λ q. has_itself cs i (copies m i)) z kind
     learnt_holds op (OfMap y) h e z kind = absurd (none_some h e)
     learnt_holds op (OfBag y) h e z kind = absurd (none_some h e)
+    learnt_holds (Get q) (OfPq y) h e z kind = absurd (none_some h e)
     learnt_holds op (OfPq y) h e z kind = absurd (none_some h e)
+    learnt_holds (Get q) (OfQueue y) h e z kind = absurd (none_some h e)
     learnt_holds op (OfQueue y) h e z kind = absurd (none_some h e)
 
     -- and what it answers to a call that changes something is what the collection answers, where the key was not held before
@@ -256,7 +258,9 @@ module _ {V : Type 0} where
     touched_answers (Count i) (OfBag m) h g r e change z kind = absurd (true≢false (sym change))
     touched_answers op (OfMap y) h g r e change z kind = absurd (none_some h e)
     touched_answers op (OfBag y) h g r e change z kind = absurd (none_some h e)
+    touched_answers (Get q) (OfPq y) h g r e change z kind = absurd (none_some h e)
     touched_answers op (OfPq y) h g r e change z kind = absurd (none_some h e)
+    touched_answers (Get q) (OfQueue y) h g r e change z kind = absurd (none_some h e)
     touched_answers op (OfQueue y) h g r e change z kind = absurd (none_some h e)
 
   -- a change touches one location
@@ -271,7 +275,9 @@ module _ {V : Type 0} where
   one_place n (Count i) (OfBag m) h e change = absurd (true≢false (sym change))
   one_place n op (OfMap y) h e change = absurd (none_some h e)
   one_place n op (OfBag y) h e change = absurd (none_some h e)
+  one_place n (Get q) (OfPq y) h e change = absurd (none_some h e)
   one_place n op (OfPq y) h e change = absurd (none_some h e)
+  one_place n (Get q) (OfQueue y) h e change = absurd (none_some h e)
   one_place n op (OfQueue y) h e change = absurd (none_some h e)
 
   same_op_reads : (n : ℕ) (op : Op V) (s : Shown V) (h : Touched V) → 0 < n → summed_by n op s ≡ Some h → (o q : Outcome V) → o.op ≡ q.op
