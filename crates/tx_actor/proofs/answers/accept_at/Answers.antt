@@ -12,15 +12,15 @@ accept-requires g c =
     let at = slice_get_read cs (length cs) c.args.place here refl c.requires.place c.index_mut.ensures.value in
     record { ready = (c.requires.ready here c.in-Some.found at c.in-Some.is).0 }
 
-pub returns-in-Some-clause-accepted : goal.returns-in-Some-clause-accepted
-returns-in-Some-clause-accepted g c =
+pub returns-clause-accepted : goal.returns-clause-accepted
+returns-clause-accepted g c =
     let cs = c.args.copies.now.items in
     let here = c.index_mut.result.now in
     let at = slice_get_read cs (length cs) c.args.place here refl c.requires.place c.index_mut.ensures.value in
     accepted_at c.args.place c.args.outcome.now c.in-Some.found cs here c.accept.new.self c.in-Some.is c.requires.place
     c.index_mut.ensures.value c.accept.ensures.accepted (c.requires.ready here c.in-Some.found at c.in-Some.is).1
 
-pub returns-in-Some-clause-reply : goal.returns-in-Some-clause-reply
-returns-in-Some-clause-reply g c x is =
+pub returns-clause-reply : goal.returns-clause-reply
+returns-clause-reply g c x is =
     c.replace.ensures.value
     ∙ (c.accept.ensures.reply ∙ ap (λ (q : Outcome g.row.V.Denot). q.reply) (same_outcome c.in-Some.found x (sym c.in-Some.is ∙ is)))
