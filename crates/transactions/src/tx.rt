@@ -28,8 +28,8 @@ pub struct Tx<'a, V> {
 
 /// A transaction begins; one that was left open at the seat is aborted first. `Exhausted` at the limit of the clock, and there is none.
 pub fn begin<'a, V: Value>(
-    table: &'a TxTable<V>,
     seat: &'a mut TxSeat<V>,
+    table: &'a TxTable<V>,
 ) -> Result<Tx<'a, V>, Refusal>
     requires ready { IsReady table.now seat.old }
     ensures* refused { sem 𝓛 (RestsIfErr (the_row V.row) seat.entry (λ tx. tx.seat.ghost_name) result
@@ -47,8 +47,8 @@ pub fn begin<'a, V: Value>(
 
 /// A transaction begins that writes nothing, as `begin` does.
 pub fn begin_read<'a, V: Value>(
-    table: &'a TxTable<V>,
     seat: &'a mut TxSeat<V>,
+    table: &'a TxTable<V>,
 ) -> Result<Tx<'a, V>, Refusal>
     requires ready { IsReady table.now seat.old }
     ensures* refused { sem 𝓛 (RestsIfErr (the_row V.row) seat.entry (λ tx. tx.seat.ghost_name) result

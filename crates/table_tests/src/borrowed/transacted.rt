@@ -24,7 +24,7 @@ pub fn transact<V: Value, H: Hearer<V>>(
     ensures seat { IsReady table.now seat.new }
     ensures other { IsReady table.now other.new }
 {
-    match begin(table, seat) {
+    match begin(seat, table) {
         Ok(mut tx) => {
             make_all(hearer, &mut tx, table, other, caller, calls);
             hearer.hear_end(end_as(tx, end));
@@ -47,7 +47,7 @@ pub fn read_all<V: Value, H: Hearer<V>>(
     ensures seat { IsReady table.now seat.new }
     ensures other { IsReady table.now other.new }
 {
-    match begin_read(table, seat) {
+    match begin_read(seat, table) {
         Ok(mut tx) => {
             make_all(hearer, &mut tx, table, other, caller, calls);
             hearer.hear_end(end_as(tx, End::Commits));
@@ -125,7 +125,7 @@ fn commit_one<V: Value, H: Hearer<V>>(
     requires ready { IsReady table.now seat.old }
     ensures ready { IsReady table.now seat.new }
 {
-    match begin(table, seat) {
+    match begin(seat, table) {
         Ok(mut tx) => {
             make(hearer, &mut tx, way, call);
             hearer.hear_end(end_as(tx, End::Commits));
