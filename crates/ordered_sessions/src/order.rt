@@ -24,7 +24,7 @@ use vacation_core::Entry;
 #[derive(Drop)]
 pub struct Ordered {
     /// One for each action, in order.
-    pub receipts: Vec<Record<Entry>>,
+    pub receipts: Items<Record<Entry>>,
     /// The state that they leave.
     pub state: State<Entry>,
 }
@@ -61,12 +61,12 @@ fn run_all(alloc: Global, world: &mut World<Entry>, actions: &[Action]) -> Resul
 /// The receipts of all sessions, and the state that they leave.
 fn finish(alloc: Global, world: World<Entry>) -> Result<Ordered, Memory>
     ensures { IfOk result (λ ordered. (tables : Holdings) (n : ℕ) (last : AnAction) (done : List AnAction)
-        → IsAtRest tables n last done world.parts → AreReceipts tables done ordered.receipts.items ordered.state) }
+        → IsAtRest tables n last done world.parts → AreReceipts tables done ordered.receipts ordered.state) }
 {
     let trace = world.into_trace()?;
     let receipts = receipts_of(alloc, trace.records)?;
     Ok(Ordered {
-        receipts,
+        receipts: Items::from_vec(receipts),
         state: trace.state,
     })
 }
@@ -82,7 +82,7 @@ pub fn run_in_order(
     actions: &[Action],
 ) -> Result<Ordered, Refusal>
     requires { IsBalanced tables }
-    ensures ordered { IfOk result (λ ordered. AreReceipts tables actions.now ordered.receipts.items ordered.state) }
+    ensures ordered { IfOk result (λ ordered. AreReceipts tables actions.now ordered.receipts ordered.state) }
     ensures refused { IfErr result (λ refusal. IsTooLong refusal (IsStripeCount stripes × All IsAllowed actions.now)) }
 {
     if !is_stripe_count(stripes) {

@@ -14,21 +14,21 @@ returns-in_err-inspect-clause-refused c =
     let memory = finds_nothing c.args.tables c.in_ok-left.left c.args.actions.now _ _ _ _ c.in_err-inspect.field-0.0 c.requires.balanced
     c.runs_are_actions.ensures.runs are
     (c.in_ok-left.ensures.inverse (after_deals are.deals c.args.tables) are.left) c.in_ok-opening.ensures
-    c.as_slice-receipts.ensures.value c.in_err-inspect.ensures.finding in
+    c.as_slice-receipts.ensures c.in_err-inspect.ensures.finding in
     search (rules, memory)
 
 pub lines_of-requires : goal.lines_of-requires
 lines_of-requires c =
     let are = c.in_ok-ordered.ensures.ordered in
-    tell_lines are.deals c.args.actions.now _ _ are.actions c.as_slice-receipts.ensures.value are.sessions
+    tell_lines are.deals c.args.actions.now _ _ are.actions c.as_slice-receipts.ensures are.sessions
 
 pub returns-clause-run : goal.returns-clause-run
 returns-clause-run c =
     let are = c.in_ok-ordered.ensures.ordered in
-    let same = c.as_slice-receipts.ensures.value in
+    let same = c.as_slice-receipts.ensures in
     record {
       deals = are.deals;
-      receipts = c.in_ok-ordered.ordered.receipts.items;
+      receipts = c.in_ok-ordered.ordered.receipts;
       asked = are.actions;
       replies = are.replies;
       sessions = are.sessions;
