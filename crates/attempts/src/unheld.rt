@@ -1,4 +1,4 @@
-//! One attempt of a job, by a worker that is held nowhere.
+//! Attempts without a pause.
 ghost use Rattle.std.specs.Prelude.{◌≡◌};
 ghost use Rattle.tx_table.specs.Seated.{opening_of};
 ghost use Rattle.tx_phases.specs.Phases.{Rests};

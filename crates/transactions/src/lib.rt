@@ -1,4 +1,5 @@
-//! Transactions that threads run on the shared table.
+//! Transactions that threads run on the shared table: [`begin`] gives a [`Tx`], which borrows its [`TxSeat`]; the seat has the same
+//! calls by itself.
 //!
 //! A seat of the table has a running actor beside it, to which it is tied (`tx_turns`). A request is asked, and driven (`driven_turns`):
 //! its turns are taken, one atomic step on the table each, until it is answered or refused. What it comes to is what the definitions say of

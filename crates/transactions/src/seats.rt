@@ -88,7 +88,8 @@ impl<V: Value> TxSeat<V> {
         )
     }
 
-    /// A transaction begins that writes nothing, as `begin` does.
+    /// A transaction begins that writes nothing, as `begin` has it: a change is `NoSuch` in it. It keeps no read set, so that its reads are
+    /// as many as its calls may be.
     pub fn begin_read(&mut self, table: &TxTable<V>) -> Result<u64, Refusal>
         requires ready { IsReady table.now self.old }
         ensures ready { IsReady table.now self.new }
@@ -225,8 +226,8 @@ impl<V: Value> TxSeat<V> {
         Ok(())
     }
 
-    /// How many calls are usual at this seat: as many as the transaction had that committed or ended last, or few more; 0 at first. It is
-    /// there to make room by: no contract says that it is that number.
+    /// How many calls are usual at this seat: as many as the transaction had that committed or ended last, or one fewer than were usual
+    /// before it, where that is more; 0 at first. It is there to make room by: no contract says that it is that number.
     pub fn usual_calls(&self) -> usize
         ensures { result ≡ self.now.actor.usual_calls }
     {

@@ -15,7 +15,7 @@ use crate::seats::TxSeat;
 use seq_model::{Call, Op, Record, Refusal, Reply, Value};
 use tx_table::TxTable;
 
-/// What a commit gives: the record of its transaction.
+/// What a commit gives: the record of its transaction, which is called so where it stands among others.
 pub type Receipt<V> = Record<V>;
 
 /// A transaction at a seat of a table. One that is dropped while it is open holds no lock and no gate; it stays open until its seat begins
@@ -45,7 +45,8 @@ pub fn begin<'a, V: Value>(
     Ok(Tx::over(seat, table))
 }
 
-/// A transaction begins that writes nothing, as `begin` does.
+/// A transaction begins that writes nothing, as `begin` has it: a change is `NoSuch` in it. It keeps no read set, so that its reads are as
+/// many as its calls may be.
 pub fn begin_read<'a, V: Value>(
     seat: &'a mut TxSeat<V>,
     table: &'a TxTable<V>,
@@ -85,7 +86,8 @@ impl<'a, V: Value> Tx<'a, V> {
         Tx { table, seat }
     }
 
-    /// A call on a word or a collection, as `TxSeat::call` has it.
+    /// A call on a word or a collection, as `TxSeat::call` has it: `target` is the number of a word for `Read` and `Write`, and else of a
+    /// collection.
     pub fn call(&mut self, op: Op<V>, target: u32) -> Result<Reply<V>, Refusal>
         requires ready { IsReady self.old.table.now self.old.seat.now }
         requires since { HasBegunSince self.old.table.now self.old.seat.now }
