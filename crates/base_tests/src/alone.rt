@@ -236,15 +236,26 @@ pub fn answer_log(text: &mut String) -> Result<(), Refusal> {
 /// What is copied of that map for a key that it has, for one that it lacks, and for the number of all keys, by stripes and summed.
 pub fn answer_touched(text: &mut String) -> Result<(), Refusal> {
     let base = map_of_two_puts(*text.allocator())?;
-    print_touch(text, &base.touch(&Op::Get(3))?)?;
-    print_touch(text, &base.touch(&Op::Remove(4))?)?;
-    print_touch(text, &base.touch(&Op::Len)?)?;
-    print_summed(text, &base)
+    print_all_touches(text, &base)
+}
+
+fn print_all_touches(text: &mut String, base: &Base<u64>) -> Result<(), Refusal> {
+    touch(text, base, &Op::Get(3))?;
+    touch(text, base, &Op::Remove(4))?;
+    touch(text, base, &Op::Len)?;
+    print_summed(text, base)
+}
+
+fn touch(text: &mut String, base: &Base<u64>, op: &Op<u64>) -> Result<(), Refusal> {
+    let touch = base.touch(op)?;
+    print_touch(text, &touch)?;
+    Ok(())
 }
 
 fn print_summed(text: &mut String, base: &Base<u64>) -> Result<(), Refusal> {
     let mut lent = LocationEditions::new(*text.allocator());
-    print_touch(text, &base.touch_summed(&Op::Len, &mut lent)?)?;
+    let touch = base.touch_summed(&Op::Len, &mut lent)?;
+    print_touch(text, &touch)?;
     Ok(())
 }
 
