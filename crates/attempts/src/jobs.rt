@@ -14,10 +14,6 @@ use transactions::TxSeat;
 use tx_engine::{Ask, Job};
 use tx_table::TxTable;
 
-/// A list of replies begins with room for no more: one of that length is made in the memory of the one before, which the allocator keeps
-/// for its thread, and a longer one is not.
-const FEW_REPLIES: usize = 16;
-
 /// What became of an attempt.
 #[derive(Drop)]
 pub enum Attempt<V> {
@@ -82,7 +78,7 @@ fn ask_all<V: Value, J: Job<V>>(
     ensures reaches { IfOk result (Reaches (J.asks job.now) (opening_of table.now) seat.old.seat seat.new.seat) }
     ensures refused { IfErr result (IsUnmade (J.asks job.now) (opening_of table.now) seat.old.seat seat.new.seat) }
 {
-    let mut replies = Vec::with_capacity(alloc, seat.usual_calls().min(FEW_REPLIES))?;
+    let mut replies = Vec::with_capacity(alloc, seat.usual_calls())?;
     'calls: loop {
         match ask_next(table, seat, job, &mut replies)? {
             Some(end) => return Ok(end),

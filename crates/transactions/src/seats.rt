@@ -227,7 +227,7 @@ impl<V: Value> TxSeat<V> {
     }
 
     /// How many calls are usual at this seat: as many as the transaction had that committed or ended last, or one fewer than were usual
-    /// before it, where that is more; 0 at first. It is there to make room by: no contract says that it is that number.
+    /// before it, where that is more, and sixteen at most; 0 at first. It is there to make room by: no contract says that it is that number.
     pub fn usual_calls(&self) -> usize
         ensures { result ≡ self.now.actor.usual_calls }
     {
