@@ -214,6 +214,7 @@ impl<V: Value> TxSeat<V> {
         requires ready { IsReady table.now self.old }
         ensures ready { IsReady table.now self.new }
         ensures keeps { (view self.new.seat).receipts ≡ (view self.old.seat).receipts }
+        ensures stays { standing (opening_of table.now) self.new.seat ≡ standing (opening_of table.now) self.old.seat }
         ensures learns { OnOk result (self.new.seat.last ≡ max self.old.seat.last number) }
         ensures ahead { IfErr result (λ cause. (cause ≡ Ahead (view self.new.seat).clock) × ((view self.new.seat).clock < number)) }
         ensures last { OnErr result (self.new.seat.last ≡ self.old.seat.last) }

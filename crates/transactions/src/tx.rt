@@ -70,6 +70,7 @@ pub fn learn<V: Value>(table: &TxTable<V>, seat: &mut TxSeat<V>, number: u64) ->
     requires ready { IsReady table.now seat.old }
     ensures ready { IsReady table.now seat.new }
     ensures keeps { (view seat.new.seat).receipts ≡ (view seat.old.seat).receipts }
+    ensures stays { standing (opening_of table.now) seat.new.seat ≡ standing (opening_of table.now) seat.old.seat }
     ensures learns { OnOk result (seat.new.seat.last ≡ max seat.old.seat.last number) }
     ensures ahead { IfErr result (λ cause. (cause ≡ Ahead (view seat.new.seat).clock) × ((view seat.new.seat).clock < number)) }
     ensures last { OnErr result (seat.new.seat.last ≡ seat.old.seat.last) }
