@@ -51,6 +51,7 @@ fn reserve_writes(words: &mut Actor, count: usize) -> Result<(), Memory>
 }
 
 /// Makes room for so many reads and so many writes. A declared reader keeps no reads.
+#[inline(always)]
 pub fn reserve_words(words: &mut Actor, reads: usize, writes: usize) -> Result<(), Memory>
     ensures actor { actor_of words.new ≡ actor_of words.old }
     ensures place { words.new.place ≡ words.old.place }
