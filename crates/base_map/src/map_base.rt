@@ -152,7 +152,7 @@ impl<V: Value> MapBase<V> {
         self.editions.allocator()
     }
 
-    /// How many keys lie on each stripe.
+    /// How many keys lie on each stripe, in order.
     pub fn counts(&self) -> Result<Items<u64>, Memory>
         ensures { IfOk result (λ counts. counts ≡ stripe_counts self.now.stripes self.now.shown) }
     {

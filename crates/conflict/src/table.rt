@@ -52,7 +52,7 @@ impl<V: Drop> Table<V> {
         self.entries.get(&key)
     }
 
-    /// How many keys lie on each stripe, in so many stripes.
+    /// How many keys lie on each of so many stripes, in order: a key lies on that of its remainder.
     pub fn counts(&self, stripes: u32) -> Result<Items<u64>, Memory>
         requires { 0 < stripes }
         ensures { IfOk result (λ counts. counts ≡ stripe_counts stripes self.now.contents) }

@@ -1,6 +1,6 @@
 -- A request for which memory was wanting.
 --
--- It is being given up in the own world of its seat by then, and what it is told at its end is that want (`cause_is`). So its turns up to
+-- It is being given up in the own world of its seat by then, and what it is told at its end is that want (`is_memory`). So its turns up to
 -- there, and those by which its gates and its locks went back, are together the turns of the request: it has no transaction any more, and
 -- made no record.
 use Rattle.std.proofs.Common.{◌≡◌, ◌≢◌, ℕ, true, true≢false, List, [], ◌∷◌, ◌++◌, Option, Some, None, inl, inr, refl, sym, ap, ◌∙◌, subst}

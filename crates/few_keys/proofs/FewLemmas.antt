@@ -1,4 +1,5 @@
--- A list of keys with their values, as a finite map.
+-- A list of keys with their values, as a finite map: a look-up finds the first entry with the key; to set the value there, or to append
+-- where there is none, is an insert; to leave out all with the key is a remove; inserted from the last on, they are the map of the list.
 use Rattle.std.proofs.Common.{◌≡◌, ℕ, suc, ◌+◌, ◌<◌, ◌≤◌, true, false, cond, not, List, [], ◌∷◌, ◌++◌, length, get_or, set, drop}
 use Rattle.std.proofs.Common.{Option, Some, None, nat_eq, refl, sym, ap, ◌∙◌, ⊎_elim, arith}
 use Rattle.std.specs.Cmp.{nat_cmp_total}

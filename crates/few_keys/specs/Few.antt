@@ -1,4 +1,4 @@
--- What contracts see of a few keys: what they see of a table.
+-- What contracts see of few keys: what they see of a table.
 use Rattle.std.specs.Prelude.{ℕ, ◌-◌, Bool, true, false, List, length, min}
 use Rattle.std.specs.FinMap as map
 use Rattle.conflict.specs.Table.{Room}

@@ -39,6 +39,7 @@ impl<V> Model for FewKeys<V> {
 }
 
 impl<V: Drop> FewKeys<V> {
+    /// No key yet. It takes no memory.
     pub fn new(alloc: Global) -> FewKeys<V>
         ensures { result.contents ≡ map.empty }
     {
@@ -49,6 +50,7 @@ impl<V: Drop> FewKeys<V> {
         }
     }
 
+    /// The value of the key, if it has one.
     #[inline(always)]
     pub fn get(&self, key: u64) -> Option<&V>
         ensures { option_copied result ≡ map.get self.now.contents key }
@@ -65,7 +67,8 @@ impl<V: Drop> FewKeys<V> {
         }
     }
 
-    /// Makes room for this many more entries. Where there is room for them, it takes no memory.
+    /// Makes room for this many more entries. Where there is room for them, it takes no memory. Keys and room stay, also where memory is
+    /// refused.
     pub fn reserve(&mut self, more: usize) -> Result<(), Memory>
         ensures contents { self.new.contents ≡ self.old.contents }
         ensures ok { OnOk result (more ≤ self.new.room) }
@@ -95,7 +98,7 @@ impl<V: Drop> FewKeys<V> {
         }
     }
 
-    /// Takes all keys out. The memory of both stays, and the room is that of the list.
+    /// Takes all keys out. The memory of list and table stays, and the room is that of the list.
     pub fn clear(&mut self)
         ensures { self.new.contents ≡ map.empty }
     {

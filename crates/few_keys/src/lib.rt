@@ -1,5 +1,5 @@
-//! A finite map of few keys: what a transaction touches of a collection is seldom more than sixteen keys, and those are found
-//! sooner in one short list than in a hash table. To its callers it is the table of `conflict`.
+//! A finite map that keeps up to sixteen keys in a list, and more in a hash table: what a transaction touches of a collection is seldom
+//! more. But for the room after `clear`, to its callers it is the table of `conflict`.
 #![tactic(auto)]
 
 mod few;

@@ -1,4 +1,4 @@
--- What a transaction copies of a map or a multiset for a call: a key, or how many keys each stripe has.
+-- What is copied of a map or a multiset for a call: a key, or how many keys each stripe has, or their sum.
 use Rattle.std.specs.Prelude.{ℕ, List, [], ◌∷◌, Option, Some, None, slice_index}
 use Rattle.std.specs.List.{sum}
 use Rattle.std.specs.Ordering.{nat_cmp}

@@ -212,9 +212,9 @@ impl<V: Value> Base<V> {
         }
     }
 
-    /// What a transaction that keeps single keys copies for the call: the key that it is on, with the edition of its location; for
-    /// the number of all keys of a map, how many each stripe has, with the editions of all. A call that is of another kind than this
-    /// map or multiset is refused as NoSuch.
+    /// What is copied for the call where single keys are kept: the key that it is on, with the edition of its location; for the number
+    /// of all keys of a map, how many each stripe has, with the editions of all. Any other call, and each on a priority queue or a
+    /// queue, is refused as NoSuch.
     pub fn touch(&self, op: &Op<V>) -> Result<Touch<V>, Refusal>
         ensures editions { IfOk result (λ touch. touch.editions
             ≡ editions_at (touched_places (stripes_of self.now) touch.held) (editions_of self.now)) }
@@ -229,7 +229,8 @@ impl<V: Value> Base<V> {
     }
 
     /// What `touch` copies, with the number of all keys in place of those of each stripe, which takes no pass over them, and with the
-    /// editions of all stripes in the memory of the list that is lent.
+    /// editions of all stripes in the memory of the list that is lent: it goes out with the touch, and the list is left empty. For one
+    /// key it stays as it is.
     pub fn touch_summed(&self, op: &Op<V>, lent: &mut LocationEditions) -> Result<Touch<V>, Refusal>
         ensures editions { IfOk result (λ touch. touch.editions
             ≡ editions_at (touched_places (stripes_of self.now) touch.held) (editions_of self.now)) }

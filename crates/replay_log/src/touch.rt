@@ -1,4 +1,4 @@
-//! What a transaction copies of a map or a multiset for a call: a key, or how many keys each stripe has.
+//! What is copied of a map or a multiset for a call: a key, or how many keys each stripe has, or their sum.
 ghost use Rattle.std.specs.Prelude.{◌≡◌, ◌∷◌, [], Some, None, IfOk, IfErr, slice_index};
 ghost use Rattle.std.specs.FinMap.{get};
 ghost use Rattle.seq_model.specs.Calls.{IsRefusal};
@@ -21,7 +21,7 @@ pub enum Touched<V> {
     Entry(u64, Option<V>),
     /// In a multiset, the element with the number of its copies.
     Copies(u64, u64),
-    /// Of a map, the number of keys on each stripe.
+    /// Of a map, the number of keys on each stripe, in order: a key lies on that of its remainder.
     Counts(Items<u64>),
     /// Of a map, the number of all its keys.
     Total(u64),

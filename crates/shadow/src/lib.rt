@@ -6,7 +6,7 @@
 //!
 //! A call is made in three moves, as its locations have to be read between its outcome and its acceptance:
 //! [`Shadow::answer`] gives the outcome and changes nothing; [`Shadow::ready`] asks for the memory; [`Shadow::accept`] takes
-//! the outcome in, without memory and without refusal.
+//! the outcome in, without memory and without refusal. Of a memo likewise, once it holds what the call touches ([`Memo::add`]).
 #![tactic(auto)]
 
 pub mod laws;

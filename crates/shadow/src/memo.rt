@@ -205,8 +205,8 @@ impl<V: Value> Memo<V> {
         }
     }
 
-    /// Holds from now on the key that was touched, or the number of all; what is held stays as it is. A memo that is refused memory
-    /// stays as it was.
+    /// Holds from now on the key that was touched, or the number of all; what is held stays as it is, and what was made ready is so no
+    /// more. A memo that is refused memory stays as it was; 2^63 keys or more are refused so.
     pub fn add(&mut self, touch: Touch<V>) -> Result<(), Memory>
         ensures blank { self.new.blank ≡ self.old.blank }
         ensures entries { OnOk result (self.new.entries ≡ with_entry touch.held self.old.entries) }
@@ -267,8 +267,8 @@ impl<V: Value> Memo<V> {
         }
     }
 
-    /// What the call answers by what is kept of its key, or of the number of all. A call of another kind than the memo's is refused as
-    /// NoSuch.
+    /// What the call answers by what is kept of its key, or of the number of all. What isn't held is answered as if it were absent: ask
+    /// `holds` first. A call of another kind than the memo's is refused as NoSuch.
     pub fn answer(&self, op: &Op<V>) -> Result<Outcome<V>, Refusal>
         ensures ok { IfOk result (λ outcome.
             answer_with (shown_of self.now.blank) self.now.entries self.now.copies self.now.total self.now.grown self.now.shrunk op.now
@@ -356,7 +356,7 @@ impl<V: Value> Memo<V> {
         self.accept_in_place(&mut outcome);
     }
 
-    /// What `accept` does, of an outcome that stays where it lies, with its reply.
+    /// What `accept` does, of an outcome that is lent: its reply stays, its operation is left open.
     pub fn accept_in_place(&mut self, outcome: &mut Outcome<V>)
         requires ready { IsReadyFor outcome.old self.old }
         ensures entries { self.new.entries ≡ entries_kept (shown_of self.old.blank) outcome.old self.old.entries }

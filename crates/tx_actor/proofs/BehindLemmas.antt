@@ -1,5 +1,5 @@
 -- A call on a key that is taken under its gate, and made ready once the gate is put back. Its location has not been read, so the store of
--- the gate lets its seat wait for it (`waits_for`): where it is ready by then it goes on as any call that is copied (`taken_ready`), and
+-- the gate lets its seat wait for it: where it is ready by then it goes on as any call that is copied (`taken_ready`), and
 -- where memory was refused its seat is given up as one that reads (`starves_behind`). A word actor that waits for a location cancels as one
 -- that rests (`cancelled_look`), so the actor is given up where it stands.
 use Rattle.std.proofs.Common.{◌≡◌, ℕ, ◌+◌, ◌<◌, ◌==◌, ◌^◌, ◌&&◌, true, false, cond, filter, List, [], ◌∷◌, Option, Some, None}

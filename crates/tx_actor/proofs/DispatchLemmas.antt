@@ -1,5 +1,5 @@
 -- What an actor makes of its atomic action is what its world makes of it. At each stage one method does what the definitions' function
--- does there (`at_this_stage`); where nothing comes of the step, the actor stays as it is, and so does the world (`stays_as`). What was
+-- does there; where nothing comes of the step, the actor stays as it is, and so does the world (`stays_as`). What was
 -- told is one of few notices at each stage, and any other leaves the world (`.._else`).
 use Rattle.std.proofs.Common.{◌≡◌, ℕ, zero, suc, eqb, length, Bool, true, false, true≢false, List, [], ◌∷◌, ◌++◌, drop, refl, sym, ap}
 use Rattle.std.proofs.Common.{subst, ◌∙◌}

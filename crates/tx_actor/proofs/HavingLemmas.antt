@@ -1,4 +1,4 @@
--- What a step leaves of an actor's copies. A stage asks no more of them than the one before (`copies_from`), one that starts from a stage
+-- What a step leaves of an actor's copies. A stage asks no more of them than the one before (`copies_to`), one that starts from a stage
 -- that asks nothing leaves nothing to be asked (`copies_idle`), and an actor that stays asks what it asked (`copies_same`). What is ready
 -- in a copy, and an outcome that it accepts, leave which calls on it have been read.
 use Rattle.std.proofs.Common.{◌≡◌, ℕ, zero, suc, Bool, true, false, true≢false, cond, List, [], ◌∷◌, Option, Some, None, Contains, drop}

@@ -1,6 +1,6 @@
 -- What a call that is copied leaves its actor of collections. Once its gate is put back, what there was of the other collections is as it
 -- was, and what was taken is the actor's own, or one of its locations was read with another edition (`taken_loading`): so the call stands
--- as one whose locations are read, and comes to what it comes to behind a load. One that is TooLong leaves all (`too_long_own`).
+-- as one whose locations are read, and comes to what it comes to behind a load. One that is TooLong leaves all (`too_long`).
 use Rattle.std.proofs.Common.{◌≡◌, ◌≢◌, ◌==◌, ℕ, ◌++◌, Bool, true, false, true≢false, cond, eqb-true, eq-eqb, List, [], ◌∷◌, Option, Some}
 use Rattle.std.proofs.Common.{None, inl, inr, refl, sym, ap, subst, ◌∙◌}
 use Rattle.std.proofs.lemmas.Bool.{cond-true, cond-false}

@@ -1,5 +1,5 @@
 -- What a load leaves a call's actor of collections. The step of the words leaves the shadow, has read one location more, and nothing of
--- another collection (`loaded_first`). Then the call is judged (`goes_own`): where it is accepted, each of its locations has been read
+-- another collection. Then the call is judged (`goes_own`): where it is accepted, each of its locations has been read
 -- with the copied edition, so its copy is the actor's own, and follows with the outcome; where one is read next, those that are passed
 -- have been read, and one with another edition is left.
 use Rattle.std.proofs.Common.{◌≡◌, ◌≢◌, ◌==◌, ℕ, Bool, true, false, true≢false, eqb-true, eq-eqb, List, [], ◌∷◌, Option, Some, inl, inr}

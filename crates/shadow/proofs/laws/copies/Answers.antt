@@ -1,4 +1,5 @@
-use Rattle.shadow.proofs.CopyLemmas.{new_copy_map, new_copy_bag, moved_copy, touched_copy, summed_copy, copy_answered, copy_accepted, copy_holds}
+use Rattle.shadow.proofs.CopyLemmas.{new_copy_map, new_copy_bag, moved_copy, touched_copy, summed_copy}
+use Rattle.shadow.proofs.CopyLemmas.{copy_answered, copy_accepted, copy_holds}
 use Rattle.shadow.proofs.laws.copies.Goals as goal
 
 pub returns-clause-map : goal.returns-clause-map
