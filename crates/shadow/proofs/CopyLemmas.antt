@@ -24,8 +24,8 @@ use Rattle.replay_log.specs.Parts.{MapKind, BagKind, PqKind, QueueKind}
 use Rattle.replay_log.specs.declared.touch.Touched.{Touched}
 use Rattle.replay_log.specs.declared.touch.Touched.TheVariants.{Entry, Copies, Counts, Total}
 use Rattle.replay_log.specs.Touches.{summed_by, touched_by}
-use Rattle.shadow.specs.Memo.{IsAlike, IsCopyBy, IsCountedBy, IsOfBy, IsShown, answer_with, copies_kept, entries_after, entries_kept, grown_kept}
-use Rattle.shadow.specs.Memo.{has_key, holds_with, shrunk_kept, with_count, with_entry, with_key, with_number, with_total}
+use Rattle.shadow.specs.Memo.{IsAlike, IsCopyBy, IsCountedBy, IsOfBy, IsShown, answer_with, copies_kept, entries_after, entries_kept}
+use Rattle.shadow.specs.Memo.{grown_kept, has_key, holds_with, shrunk_kept, with_count, with_entry, with_key, with_number, with_total}
 use Rattle.shadow.proofs.MemoLemmas.{accepted, accepted_holds, answered, entries_same, entry_accepted}
 use Rattle.shadow.proofs.MemoLemmas.{is_shown, is_shown_summed, learnt, new_map, nothing_known}
 use Rattle.shadow.proofs.LengthLemmas.{counted_accepted, len_answered, totalled}
