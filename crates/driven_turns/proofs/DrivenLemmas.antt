@@ -39,11 +39,12 @@ use Rattle.tx_phases.proofs.CourseLemmas.{on_call, on_commit, on_done, steps_com
 use Rattle.tx_phases.proofs.PhaseLemmas.{steps_move}
 use Rattle.tx_phases.specs.Courses.{ComesTo, IsUnderWay, IsUnderWayFrom, latest}
 use Rattle.tx_phases.specs.Phases.{Phase, Rests, Begins, Stands, Calls, Commits, Committed, Ends, IsMistaken, StepMoves, phase, phase_at}
+use Rattle.driven_turns.proofs.DeclaredLemmas.{begin_declared}
 use Rattle.driven_turns.proofs.KeptLemmas.{Keeps, steps_keep}
 use Rattle.driven_turns.proofs.StampLemmas.{begun_clock, numbered, stamped_step}
 use Rattle.driven_turns.proofs.WritingLemmas.{commits_first, is_commit, is_one, written_on}
 use Rattle.driven_turns.specs.Driven.{Driven, HasFound, IsNumberOf, IsReason, IsStamped, IsTrue, IsTurnFrom, IsWritten, KnowsNumber}
-use Rattle.driven_turns.specs.Driven.{as_receipts, seat_in, standing}
+use Rattle.driven_turns.specs.Driven.{as_receipts, is_declared, seat_in, standing}
 use Rattle.tx_threads.proofs.OwnLemmas.{own_ok}
 use Rattle.tx_turns.proofs.TurnLemmas.{ends_as as commits_as}
 use Rattle.tx_turns.specs.Ties.{Ties, Turned, commits}
@@ -149,6 +150,7 @@ module _ {V : Type 0} where
     tells = λ ne. absurd (ne refl);
     written = λ calls e. refl;
     began = λ _ _. refl;
+    declared = λ _ _. refl;
     stamped = λ knows. knows;
     numbered = λ knows r none. absurd (let z : ⊥ = cc in z);
   }
@@ -315,6 +317,19 @@ module _ {V : Type 0} where
         kept_by (inl e) = ap (λ (k : Seat V). k.rv) (sym y_is) ∙ e
         kept_by (inr e) = absurd (rest (ap phase (sym y_is) ∙ e))
 
+    -- and so does what its begin has asked
+    declared_stays : standing o s ≡ Begins → (standing o z ≡ Rests → ⊥) → is_declared o z ≡ is_declared o s
+    declared_stays on going =
+        let w = acts o u in
+        let begins : phase (seat_in o u) ≡ Begins =
+        (subst (λ (p : Phase V). IsUnderWayFrom (seat_in o s) p (seat_in o u) d) on D.comes).0 in
+        let at : (w.seats a).stage ≡ Beginning = begins_at (w.seats a).calls (w.seats a).stage begins in
+        let place : (actor_of w a).place ≡ machine.Begin =
+        subst (λ (st : Stage V). StageOk w.words w.blocks (w.seats a) (actor_of w a) (w.boosted.shadows a) st
+        (actor_of w a).place) at own in
+        (λ i. (actor_of (T.takes.own i) (T.takes.seat.1 i)).declared)
+        ∙ (begin_declared w a T.found T.base at place ∙ D.declared on (λ e. absurd (let q = sym begins ∙ e in let f : ⊥ = cc in f)))
+
     known : KnowsNumber o s → is_commit (phase (seat_in o u)) ≡ true → IsStamped (view u).clock (actor_of (acts o u) a)
     known knows c = D.stamped knows (seat_in o u).calls (is_one (seat_in o u).calls (seat_in o u).stage c)
 
@@ -388,6 +403,7 @@ module _ {V : Type 0} where
               (written_on v a x (seat_in o s).stage x.stage (committed_by x x.stage) d refl refl (steps_move v a) refl
               (λ q is. new q (sym made ∙ is)) (subst (λ (k : Seat V). IsWritten (seat_in o s).stage k d) (sym x_is) D.written));
           began = begun_stays;
+          declared = declared_stays;
           stamped = stamped_on;
           numbered = λ knows r is. numbered_on knows e r made_u new is;
         }

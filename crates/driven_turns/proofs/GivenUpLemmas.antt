@@ -192,6 +192,7 @@ module _ {V : Type 0} where
           tells = λ told. told_back o s u same S.driven.more turns_to z n (D.tells told);
           written = λ calls e. absurd (no_commit (phase (seat_in o z)) calls rests e);
           began = λ _ going. absurd (going rests);
+          declared = λ _ going. absurd (going rests);
           stamped = λ _ calls e. absurd (no_commit (phase (seat_in o z)) calls rests e);
           numbered = λ _ r none. absurd (let f : ⊥ = cc in f);
         }

@@ -1,6 +1,7 @@
 pub mod WritingLemmas
 pub mod KeptLemmas
 pub mod StampLemmas
+pub mod DeclaredLemmas
 pub mod NextLemmas
 pub mod DrivenLemmas
 pub mod SinceLemmas

@@ -137,12 +137,12 @@ module _ {V : Type 0} where
       ap (λ (t : world.World). t.actors a)
       (cond_words (is_none (s.gates k) && not (is_committing (s.words.actors a).place)) s (gated s (put s.gates k (Some a)) s.shadows) refl)
 
-  planted_seats : (w : World V) (a n : ℕ) (b : Option (Base V)) (s : Spot) → (found_at a w s n b).seats a ≡ w.seats a
+  pub planted_seats : (w : World V) (a n : ℕ) (b : Option (Base V)) (s : Spot) → (found_at a w s n b).seats a ≡ w.seats a
   planted_seats w a n b Nowhere = refl
   planted_seats w a n b (Word c) = refl
   planted_seats w a n b (Gate k) = refl
 
-  planted_actor : (w : World V) (a n : ℕ) (b : Option (Base V)) (s : Spot) → actor_of (found_at a w s n b) a ≡ actor_of w a
+  pub planted_actor : (w : World V) (a n : ℕ) (b : Option (Base V)) (s : Spot) → actor_of (found_at a w s n b) a ≡ actor_of w a
   planted_actor w a n b Nowhere = refl
   planted_actor w a n b (Word c) = same_actors w.boosted.words c n a
   planted_actor w a n b (Gate k) = refl

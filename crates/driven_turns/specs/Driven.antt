@@ -88,6 +88,10 @@ module _ {V : Type 0} where
   abbrev pub standing : World V → Seat V → Phase V
   standing o s = phase (seat_in o s)
 
+  -- whether its transaction is a declared reader's
+  abbrev pub is_declared : World V → Seat V → Bool
+  is_declared o s = (actor_of (acts o s) (actor s)).declared
+
   abbrev pub as_receipts : ℕ → Option (Record V) → List (ℕ × Record V)
   as_receipts a None = []
   as_receipts a (Some r) = (a, r) ∷ []
@@ -168,6 +172,7 @@ module _ {V : Type 0} where
     pub tells : n ≢ told.Quiet → HasTold o s u n
     pub written : IsWritten (seat_in o s).stage (seat_in o u) d
     pub began : (standing o s ≡ Begins → ⊥) → (standing o u ≡ Rests → ⊥) → (seat_in o u).rv ≡ (seat_in o s).rv
+    pub declared : standing o s ≡ Begins → (standing o u ≡ Rests → ⊥) → is_declared o u ≡ is_declared o s
     pub stamped : KnowsNumber o s → KnowsNumber o u
     pub numbered : KnowsNumber o s → (r : Record V) → d ≡ Some r → IsNumberOf (seat_in o s).rv (view u).clock r
 

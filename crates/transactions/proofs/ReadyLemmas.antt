@@ -129,27 +129,28 @@ module _ {V : Type 0} where
   rests_ready t s u ready ties own rests = record { table = ready.table; ties = ties; own = own; between = inl rests }
 
   -- one that has just begun, from m on
-  pub begun_ready : (t : TxTable V) (s m u : TxSeat V) (r : Result ℕ Refusal) → IsReady t s → Ties t u.seat u.actor
-      → HasOwn t u.seat u.actor [] → IfOk r (IsBegun (opening_of t) m.seat u.seat) → IfErr r (IsNotBegun (opening_of t) m.seat u.seat)
-      → IsReady t u
-  begun_ready t s m u (Ok rv) ready ties own begun isnt =
+  pub begun_ready : (declared : Bool) (t : TxTable V) (s m u : TxSeat V) (r : Result ℕ Refusal) → IsReady t s → Ties t u.seat u.actor
+      → HasOwn t u.seat u.actor [] → IfOk r (IsBegun declared (opening_of t) m.seat u.seat)
+      → IfErr r (IsNotBegun (opening_of t) m.seat u.seat) → IsReady t u
+  begun_ready declared t s m u (Ok rv) ready ties own begun isnt =
       record { table = ready.table; ties = ties; own = own; between = inr ([], begun.stands) }
-  begun_ready t s m u (Err cause) ready ties own begun isnt =
+  begun_ready declared t s m u (Err cause) ready ties own begun isnt =
       record { table = ready.table; ties = ties; own = own; between = inl isnt.0 }
 
-  pub begun_since : (t : TxTable V) (m u : TxSeat V) (r : Result ℕ Refusal) → m.seat.last ≤ (view m.seat).clock → u.seat.last ≡ m.seat.last
-      → IfOk r (IsBegun (opening_of t) m.seat u.seat) → IfErr r (IsNotBegun (opening_of t) m.seat u.seat) → HasBegunSince t u
-  begun_since t m u (Ok rv) known last begun isnt still =
+  pub begun_since : (declared : Bool) (t : TxTable V) (m u : TxSeat V) (r : Result ℕ Refusal) → m.seat.last ≤ (view m.seat).clock
+      → u.seat.last ≡ m.seat.last → IfOk r (IsBegun declared (opening_of t) m.seat u.seat)
+      → IfErr r (IsNotBegun (opening_of t) m.seat u.seat) → HasBegunSince t u
+  begun_since declared t m u (Ok rv) known last begun isnt still =
       let e : (seat_in (opening_of t) u.seat).rv ≡ rv = begun.began in
       let low = begun.rises in
       let high : rv ≡ (view u.seat).clock = begun.clock in
       (omega (arith, known, last, e, low), omega (arith, e, high))
-  begun_since t m u (Err cause) known last begun isnt still = absurd (let e = sym isnt.0 ∙ still.1 in let z : ⊥ = cc in z)
+  begun_since declared t m u (Err cause) known last begun isnt still = absurd (let e = sym isnt.0 ∙ still.1 in let z : ⊥ = cc in z)
 
-  pub begun_last : (o : World V) (m u : table.Seat V) (r : Result ℕ Refusal) → m.last ≤ (view m).clock → IfOk r (IsBegun o m u)
-      → IfOk r (λ rv. m.last ≤ rv)
-  begun_last o m u (Ok rv) known begun = (let low = begun.rises in omega (arith, known, low))
-  begun_last o m u (Err cause) known begun = tt
+  pub begun_last : (declared : Bool) (o : World V) (m u : table.Seat V) (r : Result ℕ Refusal) → m.last ≤ (view m).clock
+      → IfOk r (IsBegun declared o m u) → IfOk r (λ rv. m.last ≤ rv)
+  begun_last declared o m u (Ok rv) known begun = (let low = begun.rises in omega (arith, known, low))
+  begun_last declared o m u (Err cause) known begun = tt
 
   -- ---- a last number
   -- nothing but the last number has changed

@@ -2,17 +2,24 @@
 use Rattle.std.proofs.Common.{◌≡◌, ◌≢◌, ℕ, Bool, true, false, true≢false, List, [], ◌++◌, Option, None, Result, Ok, Err, IfOk, IfErr, refl}
 use Rattle.std.proofs.Common.{sym, ap, ◌∙◌, subst, arith}
 use Rattle.std.proofs.lemmas.List.{append-nil, append_assoc}
+use Rattle.word_machine.specs.Actor as machine
+use Rattle.word_machine.specs.Actor.{Actor}
+use Rattle.word_machine.specs.Requests as word
+use Rattle.word_machine.specs.Requests.{ask}
+use Rattle.word_machine.specs.World.{put}
+use Rattle.word_machine.proofs.Sets.{put-same}
 use Rattle.seq_model.specs.declared.call.Call.{Call}
 use Rattle.seq_model.specs.declared.call.Reply.{Reply}
 use Rattle.seq_model.specs.declared.event.Answer.TheVariants as answer
 use Rattle.seq_model.specs.declared.event.Event.TheVariants.{Ask}
 use Rattle.seq_model.specs.declared.event.Notice.{Notice}
 use Rattle.seq_model.specs.declared.event.Notice.TheVariants.{Quiet, Answered, Refused}
-use Rattle.seq_model.specs.declared.event.Request.TheVariants.{Abort}
+use Rattle.seq_model.specs.declared.event.Request.TheVariants.{Abort, Begin, BeginRead}
 use Rattle.seq_model.specs.declared.record.Record.{Record}
 use Rattle.seq_model.specs.declared.refusal.Refusal.{Refusal}
+use Rattle.replay_log.proofs.SeatLemmas.{StageOk}
 use Rattle.replay_log.specs.Seats as worlds
-use Rattle.replay_log.specs.Seats.{World, Seat, Stage}
+use Rattle.replay_log.specs.Seats.{World, Seat, Stage, actor_of}
 use Rattle.replay_log.specs.Worlds.{ask_at, happens}
 use Rattle.actor_words.specs.Dispatch.{is_loading}
 use Rattle.actor_turns.proofs.SeatLemmas.{loading_as}
@@ -35,8 +42,9 @@ use Rattle.gate_turns.specs.Own.{HasOwn}
 use Rattle.driven_turns.proofs.GivenUpLemmas.{none_ends}
 use Rattle.driven_turns.proofs.RestLemmas.{IsFree, bare_out, free_own, taken_bare}
 use Rattle.driven_turns.proofs.SinceLemmas as since
-use Rattle.driven_turns.specs.Driven.{Driven, HasFound, HasTold, IsTrue, as_receipts, seat_in, standing}
+use Rattle.driven_turns.specs.Driven.{Driven, HasFound, HasTold, IsTrue, as_receipts, is_declared, seat_in, standing}
 use Rattle.transactions.specs.Requests.{BeginsTo, IsBeginTold, IsBegun, IsNotBegun, KeepsReceipts, begin_of}
+use Rattle.tx_threads.proofs.OwnLemmas.{own_ok}
 use Rattle.tx_turns.proofs.AskedLemmas.{acts_taken}
 use Rattle.tx_turns.proofs.TurnLemmas.{own_stage}
 use Rattle.tx_turns.specs.Asked.{HasAsked}
@@ -101,8 +109,53 @@ module _ {V : Type 0} where
   under_begins x on = subst (λ (p : Phase V). IsUnderWayFrom x p x None) (sym on) (on, refl)
 
   -- ---- a begin
+  -- it asks whether it is to be a declared reader
+  module _ (w : World V) (a : ℕ) (at : (w.seats a).stage ≡ worlds.Idle) (idle : (actor_of w a).place ≡ machine.Idle) where
+    abbrev y : Actor
+    y = actor_of w a
+
+    asked_word : (q : word.Request) → (put w.boosted.words.actors a (ask y y.place q) a).declared ≡ (ask y machine.Idle q).declared
+    asked_word q =
+        ap (λ (z : Actor). z.declared)
+        (put-same w.boosted.words.actors a (ask y y.place q) ∙ ap (λ (p : machine.Place). ask y p q) idle)
+
+    is_none : (actor_of (happens w (Ask a Begin)).0 a).declared ≡ false
+    is_none =
+        ap (λ (st : Stage V). (actor_of (ask_at w a (w.seats a) st Begin).0 a).declared) at ∙ asked_word word.AskBegin
+
+    is_one : (actor_of (happens w (Ask a BeginRead)).0 a).declared ≡ true
+    is_one =
+        ap (λ (st : Stage V). (actor_of (ask_at w a (w.seats a) st BeginRead).0 a).declared) at ∙ asked_word word.AskBeginRead
+
+  module _ (t : TxTable V) (s m : table.Seat V) (r : TxActor V) (ties : Ties t s r) (rests : standing (opening_of t) s ≡ Rests) where
+    abbrev w : World V
+    w = acts (opening_of t) s
+
+    abbrev a : ℕ
+    a = seated.actor s
+
+    at_rest : (w.seats a).stage ≡ worlds.Idle
+    at_rest = idle_at (w.seats a).calls (w.seats a).stage rests
+      where
+        idle_at : (calls : List (Call V × Reply V)) (st : Stage V) → phase_at calls st ≡ Rests → st ≡ worlds.Idle
+        idle_at calls worlds.Idle h = refl
+        idle_at calls st h = absurd (let z : ⊥ = cc in z)
+
+    idles : (actor_of w a).place ≡ machine.Idle
+    idles =
+        subst (λ (st : Stage V). StageOk w.words w.blocks (w.seats a) (actor_of w a) (w.boosted.shadows a) st (actor_of w a).place) at_rest
+        (own_ok t.whole.shared.key a w ties.reached)
+
+    pub asked_begin : HasAsked s Begin m → is_declared (opening_of t) m ≡ false
+    asked_begin has =
+        (λ i. (actor_of (acts_taken (opening_of t) s m (Ask 0 Begin) has i) (has.0.1 i)).declared) ∙ is_none w a at_rest idles
+
+    pub asked_begin_read : HasAsked s BeginRead m → is_declared (opening_of t) m ≡ true
+    asked_begin_read has =
+        (λ i. (actor_of (acts_taken (opening_of t) s m (Ask 0 BeginRead) has i) (has.0.1 i)).declared) ∙ is_one w a at_rest idles
+
   none_begins : (o : World V) (s u : table.Seat V) (n : Told V) (d : Option (Record V)) → standing o s ≡ Begins → Driven o s u n d
-      → n ≢ told.Quiet → (d ≡ None) × BeginsTo o s u n
+      → n ≢ told.Quiet → (d ≡ None) × BeginsTo (is_declared o s) o s u n
   none_begins o s u told.Quiet d on D ne = absurd (ne refl)
   none_begins o s u (told.Answered (answer.Begun rv)) d on D ne =
       let a = seated.actor s in
@@ -110,6 +163,7 @@ module _ {V : Type 0} where
         h.2,
         record {
           stands = h.0;
+          declares = D.declared on (λ e. absurd (let q = sym h.0 ∙ e in let z : ⊥ = cc in z));
           began = h.1;
           clock = clock_told;
           rises = (let p = D.rises in omega (arith, p, clock_told));
@@ -174,33 +228,40 @@ module _ {V : Type 0} where
       → IsNotBegun o s u cause
   not_begun_back o s m u cause kept h = (h.0, since.exhausted_back o s m kept.seat.1 kept.more kept.turns u cause h.1)
 
-  pub begun_back : (o : World V) (s m u : table.Seat V) (rv : ℕ) → KeepsReceipts s m → IsBegun o m u rv → IsBegun o s u rv
-  begun_back o s m u rv kept h = record {
+  pub begun_back : (declared : Bool) (o : World V) (s m u : table.Seat V) (rv : ℕ) → KeepsReceipts s m → IsBegun declared o m u rv
+      → IsBegun declared o s u rv
+  begun_back declared o s m u rv kept h = record {
     stands = h.stands;
+    declares = h.declares;
     began = h.began;
     clock = h.clock;
     rises = (let p = h.rises in let q = kept.rises in omega (arith, p, q));
   }
 
   -- what its turn tells is the one or the other
-  pub begin_told : (o : World V) (s u : table.Seat V) (n : Told V) → BeginsTo o s u n → IsBeginTold n
-  begin_told o s u told.Quiet h = absurd h
-  begin_told o s u (told.Answered (answer.Begun rv)) h = tt
-  begin_told o s u (told.Answered q) h = absurd h
-  begin_told o s u (told.Refused cause) h = tt
+  pub begin_told : (declared : Bool) (o : World V) (s u : table.Seat V) (n : Told V) → BeginsTo declared o s u n → IsBeginTold n
+  begin_told declared o s u told.Quiet h = absurd h
+  begin_told declared o s u (told.Answered (answer.Begun rv)) h = tt
+  begin_told declared o s u (told.Answered q) h = absurd h
+  begin_told declared o s u (told.Refused cause) h = tt
 
-  pub begun_by : (o : World V) (s u : table.Seat V) (n : Told V) (r : Result ℕ Refusal) → n ≡ begin_of r → BeginsTo o s u n
-      → IfOk r (IsBegun o s u) × IfErr r (IsNotBegun o s u)
-  begun_by o s u n (Ok rv) e h = (subst (BeginsTo o s u) e h, tt)
-  begun_by o s u n (Err cause) e h = (tt, subst (BeginsTo o s u) e h)
+  pub begun_by : (declared : Bool) (o : World V) (s u : table.Seat V) (n : Told V) (r : Result ℕ Refusal) → n ≡ begin_of r
+      → BeginsTo declared o s u n → IfOk r (IsBegun declared o s u) × IfErr r (IsNotBegun o s u)
+  begun_by declared o s u n (Ok rv) e h = (subst (BeginsTo declared o s u) e h, tt)
+  begun_by declared o s u n (Err cause) e h = (tt, subst (BeginsTo declared o s u) e h)
 
-  pub begun_since : (o : World V) (s m u : table.Seat V) (r : Result ℕ Refusal) → KeepsReceipts s m → IfOk r (IsBegun o m u)
-      → IfErr r (IsNotBegun o m u) → IfOk r (IsBegun o s u) × IfErr r (IsNotBegun o s u)
-  begun_since o s m u (Ok rv) kept h g = (begun_back o s m u rv kept h, tt)
-  begun_since o s m u (Err cause) kept h g = (tt, not_begun_back o s m u cause kept g)
+  pub begun_since : (declared : Bool) (o : World V) (s m u : table.Seat V) (r : Result ℕ Refusal) → KeepsReceipts s m
+      → IfOk r (IsBegun declared o m u) → IfErr r (IsNotBegun o m u) → IfOk r (IsBegun declared o s u) × IfErr r (IsNotBegun o s u)
+  begun_since declared o s m u (Ok rv) kept h g = (begun_back declared o s m u rv kept h, tt)
+  begun_since declared o s m u (Err cause) kept h g = (tt, not_begun_back o s m u cause kept g)
 
-  pub begins_to : (o : World V) (s u : table.Seat V) (n : Told V) (d : Option (Record V))
-      → standing o s ≡ Begins → out u ≡ out s → Driven o s u n d → n ≢ told.Quiet → KeepsReceipts s u × BeginsTo o s u n
+  -- what was asked of it is what it is, once it has begun
+  pub begun_as : (asked is : Bool) (o : World V) (s u : table.Seat V) (r : Result ℕ Refusal) → is ≡ asked → IfOk r (IsBegun is o s u)
+      → IfOk r (IsBegun asked o s u)
+  begun_as asked is o s u r e h = subst (λ (b : Bool). IfOk r (IsBegun b o s u)) e h
+
+  pub begins_to : (o : World V) (s u : table.Seat V) (n : Told V) (d : Option (Record V)) → standing o s ≡ Begins → out u ≡ out s
+      → Driven o s u n d → n ≢ told.Quiet → KeepsReceipts s u × BeginsTo (is_declared o s) o s u n
   begins_to o s u n d on outs D ne =
       let h = none_begins o s u n d on D ne in (turns_keep o s u n d h.0 outs D, h.1)
 

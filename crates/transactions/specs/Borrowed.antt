@@ -1,22 +1,23 @@
 -- A transaction that borrows its seat: how it begins there, and what its commit comes to.
-use Rattle.std.specs.Prelude.{◌≡◌, ℕ, ◌<◌, ◌≤◌, true, Err, IfErr, IfOk, OnErr, Result}
+use Rattle.std.specs.Prelude.{◌≡◌, ℕ, ◌<◌, ◌≤◌, Bool, true, Err, IfErr, IfOk, OnErr, Result}
 use Rattle.seq_model.specs.declared.record.Record.{Record}
 use Rattle.seq_model.specs.declared.refusal.Refusal.{Refusal}
 use Rattle.seq_model.specs.declared.refusal.Refusal.TheVariants.{NoTransaction}
 use Rattle.replay_log.specs.Seats.{World}
 use Rattle.tx_table.specs.declared.table.TxTable.{TxTable}
-use Rattle.tx_table.specs.Seated.{opening_of}
+use Rattle.tx_table.specs.Seated.{opening_of, view}
 use Rattle.tx_phases.specs.Phases.{Rests, Stands}
-use Rattle.driven_turns.specs.Driven.{standing}
+use Rattle.driven_turns.specs.Driven.{IsNumberOf, seat_in, standing}
 use Rattle.transactions.specs.declared.seats.TxSeat.{TxSeat}
 use Rattle.transactions.specs.Ready.{IsReady}
 use Rattle.transactions.specs.Requests.{HasCommitted, IsBegun, IsEnded, IsNotBegun, IsOpen, KeepsReceipts, has_written}
 
 module _ {V : Type 0} where
-  -- It is open, and has no calls; it has begun at the clock that its seat knows by then, which is no lower than the seat's last number.
-  pub record IsBegunSince (o : World V) (s u : TxSeat V) : Type 0 where
+  -- It is open, has no calls, and is a declared reader's or not; it has begun at the clock that its seat knows by then, which is no lower
+  -- than the seat's last number.
+  pub record IsBegunSince (declared : Bool) (o : World V) (s u : TxSeat V) : Type 0 where
     pub rv : ℕ
-    pub begun : IsBegun o s.seat u.seat rv
+    pub begun : IsBegun declared o s.seat u.seat rv
     pub last : s.seat.last ≤ rv
 
   -- There is none, and the seat that was lent is ready again, with its receipts.
@@ -34,6 +35,7 @@ module _ {V : Type 0} where
     pub committed : IfOk r (HasCommitted (opening_of t) s.seat u.seat)
     pub calls : IfOk r (λ receipt. standing (opening_of t) s.seat ≡ Stands receipt.calls)
     pub writes : IfOk r (λ receipt. receipt.writes ≡ has_written (opening_of t) s.seat)
+    pub number : IfOk r (IsNumberOf (seat_in (opening_of t) s.seat).rv (view u.seat).clock)
     pub above : IfOk r (λ receipt. receipt.writes ≡ true → s.seat.last < receipt.number)
     pub last : IfOk r (λ receipt. (s.seat.last ≤ receipt.number) × (u.seat.last ≡ receipt.number))
     pub keeps : OnErr r (KeepsReceipts s.seat u.seat)

@@ -17,7 +17,7 @@ use Rattle.tx_table.specs.Seated.{IsSameSeat, actor, acts, out, view}
 use Rattle.tx_table.specs.declared.view.Turn.{Turn}
 use Rattle.tx_turns.specs.Asked.{Answers}
 use Rattle.tx_phases.specs.Phases.{Rests, Stands, Calls, Commits, IsMistaken}
-use Rattle.driven_turns.specs.Driven.{Driven, HasFound, HasTold, IsExhausted, seat_in, standing}
+use Rattle.driven_turns.specs.Driven.{Driven, HasFound, HasTold, IsExhausted, is_declared, seat_in, standing}
 
 -- there is some entry
 abbrev pub has_some : Entries → Bool
@@ -41,10 +41,11 @@ module _ {V : Type 0} where
     pub turns : (view u).turns ≡ (view s).turns ++ more
 
   -- ---- a begin
-  -- It tells the number at which the transaction has begun, which is open and has no calls. It is the clock that the seat knows by then,
-  -- which is no lower than the one that it knew.
-  pub record IsBegun (o : World V) (s u : Seat V) (rv : ℕ) : Type 0 where
+  -- It tells the number at which the transaction has begun, which is open and has no calls, and is a declared reader's or not. It is the
+  -- clock that the seat knows by then, which is no lower than the one that it knew.
+  pub record IsBegun (declared : Bool) (o : World V) (s u : Seat V) (rv : ℕ) : Type 0 where
     pub stands : standing o u ≡ Stands []
+    pub declares : is_declared o u ≡ declared
     pub began : (seat_in o u).rv ≡ rv
     pub clock : rv ≡ (view u).clock
     pub rises : (view s).clock ≤ rv
@@ -63,10 +64,10 @@ module _ {V : Type 0} where
   IsBeginTold (told.Refused cause) = Unit {0}
   IsBeginTold n = ⊥
 
-  abbrev pub BeginsTo : World V → Seat V → Seat V → Told V → Type 0
-  BeginsTo o s u (told.Answered (answer.Begun rv)) = IsBegun o s u rv
-  BeginsTo o s u (told.Refused cause) = IsNotBegun o s u cause
-  BeginsTo o s u n = ⊥
+  abbrev pub BeginsTo : Bool → World V → Seat V → Seat V → Told V → Type 0
+  BeginsTo declared o s u (told.Answered (answer.Begun rv)) = IsBegun declared o s u rv
+  BeginsTo declared o s u (told.Refused cause) = IsNotBegun o s u cause
+  BeginsTo declared o s u n = ⊥
 
   -- ---- a call, or a commit, that ends its transaction
   -- there is no transaction any more, for a cause that one of its own turns found, or for want of memory

@@ -1,9 +1,9 @@
 //! Requests of a transaction: one that begins, and one that ends without a commit.
-ghost use Rattle.std.specs.Prelude.{◌≡◌, [], IfErr, IfOk};
+ghost use Rattle.std.specs.Prelude.{◌≡◌, [], IfErr, IfOk, false, true};
 ghost use Rattle.replay_log.specs.WorldProgress.{AreSmall};
 ghost use Rattle.tx_table.specs.Seated.{blocks_in, opening_of};
 ghost use Rattle.tx_phases.specs.Phases.{Rests};
-ghost use Rattle.driven_turns.specs.Driven.{standing};
+ghost use Rattle.driven_turns.specs.Driven.{is_declared, standing};
 ghost use Rattle.transactions.specs.Requests.{IsBeginTold, IsBegun, IsNotBegun, IsOpen, KeepsReceipts, begin_of};
 ghost use Rattle.tx_turns.specs.Ties.{Ties};
 ghost use Rattle.gate_turns.specs.Own.{HasOwn};
@@ -44,7 +44,7 @@ fn begun<V: Value>(
     ensures ties { Ties table.now seat.new actor.new }
     ensures own { HasOwn table.now seat.new actor.new [] }
     ensures keeps { KeepsReceipts seat.old seat.new }
-    ensures begun { IfOk result (IsBegun (opening_of table.now) seat.old seat.new) }
+    ensures begun { IfOk result (IsBegun (is_declared (opening_of table.now) seat.old) (opening_of table.now) seat.old seat.new) }
     ensures refused { IfErr result (IsNotBegun (opening_of table.now) seat.old seat.new) }
 {
     let (told, _) = drive(alloc, table, seat, actor, bases);
@@ -67,7 +67,7 @@ pub(crate) fn begin<V: Value>(
     ensures ties { Ties table.now seat.new actor.new }
     ensures own { HasOwn table.now seat.new actor.new [] }
     ensures keeps { KeepsReceipts seat.old seat.new }
-    ensures begun { IfOk result (IsBegun (opening_of table.now) seat.old seat.new) }
+    ensures begun { IfOk result (IsBegun false (opening_of table.now) seat.old seat.new) }
     ensures refused { IfErr result (IsNotBegun (opening_of table.now) seat.old seat.new) }
 {
     ask_begin(table, seat, actor);
@@ -90,7 +90,7 @@ pub(crate) fn begin_read<V: Value>(
     ensures ties { Ties table.now seat.new actor.new }
     ensures own { HasOwn table.now seat.new actor.new [] }
     ensures keeps { KeepsReceipts seat.old seat.new }
-    ensures begun { IfOk result (IsBegun (opening_of table.now) seat.old seat.new) }
+    ensures begun { IfOk result (IsBegun true (opening_of table.now) seat.old seat.new) }
     ensures refused { IfErr result (IsNotBegun (opening_of table.now) seat.old seat.new) }
 {
     ask_begin_read(table, seat, actor);

@@ -1,5 +1,5 @@
 //! A seat of a table, with the actor that runs there.
-ghost use Rattle.std.specs.Prelude.{◌≡◌, ◌≢◌, ◌<◌, ◌≤◌, Err, IfErr, IfOk, MatchBool, OnErr, OnOk, [], max, true};
+ghost use Rattle.std.specs.Prelude.{◌≡◌, ◌≢◌, ◌<◌, ◌≤◌, Err, IfErr, IfOk, MatchBool, OnErr, OnOk, [], false, max, true};
 ghost use Rattle.seq_model.specs.declared.call.Op.TheVariants as op;
 ghost use Rattle.seq_model.specs.declared.refusal.Refusal.TheVariants.{Ahead, NoTransaction};
 ghost use Rattle.tx_table.specs.Seated.{opening_of, view};
@@ -74,7 +74,7 @@ impl<V: Value> TxSeat<V> {
         ensures ready { IsReady table.now self.new }
         ensures since { HasBegunSince table.now self.new }
         ensures keeps { KeepsReceipts self.old.seat self.new.seat }
-        ensures begun { IfOk result (IsBegun (opening_of table.now) self.old.seat self.new.seat) }
+        ensures begun { IfOk result (IsBegun false (opening_of table.now) self.old.seat self.new.seat) }
         ensures last { IfOk result (λ rv. self.old.seat.last ≤ rv) }
         ensures refused { IfErr result (IsNotBegun (opening_of table.now) self.old.seat self.new.seat) }
     {
@@ -95,7 +95,7 @@ impl<V: Value> TxSeat<V> {
         ensures ready { IsReady table.now self.new }
         ensures since { HasBegunSince table.now self.new }
         ensures keeps { KeepsReceipts self.old.seat self.new.seat }
-        ensures begun { IfOk result (IsBegun (opening_of table.now) self.old.seat self.new.seat) }
+        ensures begun { IfOk result (IsBegun true (opening_of table.now) self.old.seat self.new.seat) }
         ensures last { IfOk result (λ rv. self.old.seat.last ≤ rv) }
         ensures refused { IfErr result (IsNotBegun (opening_of table.now) self.old.seat self.new.seat) }
     {

@@ -1,5 +1,5 @@
 //! A transaction that borrows the seat at which it runs.
-ghost use Rattle.std.specs.Prelude.{◌≡◌, ◌<◌, Err, IfErr, IfOk, OnErr, OnOk, max};
+ghost use Rattle.std.specs.Prelude.{◌≡◌, ◌<◌, Err, IfErr, IfOk, OnErr, OnOk, false, max, true};
 ghost use Rattle.std.specs.Borrow.{RestsIfErr, sem};
 ghost use Rattle.seq_model.specs.declared.call.Op.TheVariants as op;
 ghost use Rattle.seq_model.specs.declared.refusal.Refusal.TheVariants.{Ahead, NoTransaction};
@@ -39,7 +39,7 @@ pub fn begin<'a, V: Value>(
     ensures ready { IfOk result (λ tx. IsReady table.now tx.seat.now) }
     ensures since { IfOk result (λ tx. HasBegunSince table.now tx.seat.now) }
     ensures keeps { IfOk result (λ tx. KeepsReceipts seat.old.seat tx.seat.now.seat) }
-    ensures begun { IfOk result (λ tx. IsBegunSince (opening_of table.now) seat.old tx.seat.now) }
+    ensures begun { IfOk result (λ tx. IsBegunSince false (opening_of table.now) seat.old tx.seat.now) }
 {
     seat.begin(table)?;
     Ok(Tx::over(seat, table))
@@ -59,7 +59,7 @@ pub fn begin_read<'a, V: Value>(
     ensures ready { IfOk result (λ tx. IsReady table.now tx.seat.now) }
     ensures since { IfOk result (λ tx. HasBegunSince table.now tx.seat.now) }
     ensures keeps { IfOk result (λ tx. KeepsReceipts seat.old.seat tx.seat.now.seat) }
-    ensures begun { IfOk result (λ tx. IsBegunSince (opening_of table.now) seat.old tx.seat.now) }
+    ensures begun { IfOk result (λ tx. IsBegunSince true (opening_of table.now) seat.old tx.seat.now) }
 {
     seat.begin_read(table)?;
     Ok(Tx::over(seat, table))

@@ -2,8 +2,9 @@ use Rattle.std.proofs.Common.{◌∙◌, ap, subst, sym}
 use Rattle.tx_actor.specs.declared.actor.Stage as own
 use Rattle.tx_table.specs.Seated.{opening_of}
 use Rattle.gate_turns.specs.Bases.{gates_at}
+use Rattle.driven_turns.specs.Driven.{is_declared}
 use Rattle.driven_turns.proofs.RestLemmas.{IsFree, bare_out, free_own}
-use Rattle.transactions.proofs.RequestLemmas.{asked_keeps, begun_since, is_idle, then_keeps}
+use Rattle.transactions.proofs.RequestLemmas.{asked_begin, asked_keeps, begun_as, begun_since, is_idle, then_keeps}
 use Rattle.transactions.proofs.requests.begin.Goals as goal
 
 pub ask_begin-requires-clause-idle : goal.ask_begin-requires-clause-idle
@@ -23,12 +24,17 @@ returns-clause-keeps g c =
 
 pub returns-clause-begun : goal.returns-clause-begun
 returns-clause-begun g c =
-    (begun_since (opening_of c.args.table.now) c.args.seat.now c.ask_begin.new.seat c.begun.new.seat c.begun.result
-    (asked_keeps c.args.seat.now c.ask_begin.new.seat (c.ask_begin.ensures.asked.0, c.ask_begin.ensures.asked.1)) c.begun.ensures.begun
-    c.begun.ensures.refused).0
+    let o = opening_of c.args.table.now in
+    let m = c.ask_begin.new.seat in
+    let has = c.ask_begin.ensures.asked in
+    let declared = asked_begin c.args.table.now c.args.seat.now m c.args.actor.now c.requires.ties c.requires.rests has in
+    (begun_since false o c.args.seat.now m c.begun.new.seat c.begun.result (asked_keeps c.args.seat.now m (has.0, has.1))
+    (begun_as false (is_declared o m) o m c.begun.new.seat c.begun.result declared c.begun.ensures.begun) c.begun.ensures.refused).0
 
 pub returns-clause-refused : goal.returns-clause-refused
 returns-clause-refused g c =
-    (begun_since (opening_of c.args.table.now) c.args.seat.now c.ask_begin.new.seat c.begun.new.seat c.begun.result
-    (asked_keeps c.args.seat.now c.ask_begin.new.seat (c.ask_begin.ensures.asked.0, c.ask_begin.ensures.asked.1)) c.begun.ensures.begun
-    c.begun.ensures.refused).1
+    let o = opening_of c.args.table.now in
+    let m = c.ask_begin.new.seat in
+    let has = c.ask_begin.ensures.asked in
+    (begun_since (is_declared o m) o c.args.seat.now m c.begun.new.seat c.begun.result (asked_keeps c.args.seat.now m (has.0, has.1))
+    c.begun.ensures.begun c.begun.ensures.refused).1

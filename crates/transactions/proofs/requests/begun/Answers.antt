@@ -1,7 +1,7 @@
 use Rattle.std.proofs.Common.{◌∙◌, sym}
 use Rattle.tx_table.specs.Seated.{opening_of}
 use Rattle.driven_turns.proofs.RestLemmas.{bare_out}
-use Rattle.driven_turns.specs.Driven.{seat_in}
+use Rattle.driven_turns.specs.Driven.{is_declared, seat_in}
 use Rattle.transactions.proofs.RequestLemmas.{begin_told, begins, begins_to, begun_by, under_begins}
 use Rattle.transactions.proofs.requests.begun.Goals as goal
 
@@ -12,8 +12,9 @@ drive-told-requires-clause-under g c =
 
 pub begin_told-requires : goal.begin_told-requires
 begin_told-requires g c =
-    begin_told (opening_of c.args.table.now) c.args.seat.now c.drive-told.new.seat c.drive-told.result.0
-    (begins_to (opening_of c.args.table.now) c.args.seat.now c.drive-told.new.seat c.drive-told.result.0 c.drive-told.result.1
+    let o = opening_of c.args.table.now in
+    begin_told (is_declared o c.args.seat.now) o c.args.seat.now c.drive-told.new.seat c.drive-told.result.0
+    (begins_to o c.args.seat.now c.drive-told.new.seat c.drive-told.result.0 c.drive-told.result.1
     (begins c.args.table.now c.args.seat.now c.args.actor.now c.requires.ties c.requires.stage)
     (bare_out c.args.table.now c.drive-told.new.seat c.drive-told.new.actor c.drive-told.ensures.own
     ∙ sym (bare_out c.args.table.now c.args.seat.now c.args.actor.now c.requires.own))
@@ -29,9 +30,10 @@ returns-clause-keeps g c =
 
 pub returns-clause-begun : goal.returns-clause-begun
 returns-clause-begun g c =
-    (begun_by (opening_of c.args.table.now) c.args.seat.now c.drive-told.new.seat c.drive-told.result.0 c.begin_told.result
+    let o = opening_of c.args.table.now in
+    (begun_by (is_declared o c.args.seat.now) o c.args.seat.now c.drive-told.new.seat c.drive-told.result.0 c.begin_told.result
     c.begin_told.ensures
-    (begins_to (opening_of c.args.table.now) c.args.seat.now c.drive-told.new.seat c.drive-told.result.0 c.drive-told.result.1
+    (begins_to o c.args.seat.now c.drive-told.new.seat c.drive-told.result.0 c.drive-told.result.1
     (begins c.args.table.now c.args.seat.now c.args.actor.now c.requires.ties c.requires.stage)
     (bare_out c.args.table.now c.drive-told.new.seat c.drive-told.new.actor c.drive-told.ensures.own
     ∙ sym (bare_out c.args.table.now c.args.seat.now c.args.actor.now c.requires.own))
@@ -39,9 +41,10 @@ returns-clause-begun g c =
 
 pub returns-clause-refused : goal.returns-clause-refused
 returns-clause-refused g c =
-    (begun_by (opening_of c.args.table.now) c.args.seat.now c.drive-told.new.seat c.drive-told.result.0 c.begin_told.result
+    let o = opening_of c.args.table.now in
+    (begun_by (is_declared o c.args.seat.now) o c.args.seat.now c.drive-told.new.seat c.drive-told.result.0 c.begin_told.result
     c.begin_told.ensures
-    (begins_to (opening_of c.args.table.now) c.args.seat.now c.drive-told.new.seat c.drive-told.result.0 c.drive-told.result.1
+    (begins_to o c.args.seat.now c.drive-told.new.seat c.drive-told.result.0 c.drive-told.result.1
     (begins c.args.table.now c.args.seat.now c.args.actor.now c.requires.ties c.requires.stage)
     (bare_out c.args.table.now c.drive-told.new.seat c.drive-told.new.actor c.drive-told.ensures.own
     ∙ sym (bare_out c.args.table.now c.args.seat.now c.args.actor.now c.requires.own))

@@ -4,5 +4,5 @@ use Rattle.transactions.proofs.seats.TxSeat.begin.Goals as goal
 
 pub returns-clause-refused : goal.returns-clause-refused
 returns-clause-refused g c =
-    (begun_since (opening_of c.args.table.now) c.args.self.now.seat c.abort.new.self.seat c.begin.new.seat c.begin.result
+    (begun_since false (opening_of c.args.table.now) c.args.self.now.seat c.abort.new.self.seat c.begin.new.seat c.begin.result
     c.abort.ensures.keeps c.begin.ensures.begun c.begin.ensures.refused).1
