@@ -20,15 +20,15 @@ use Rattle.tx_actor.specs.declared.actor.Told.TheVariants as told
 use Rattle.tx_actor.specs.declared.actor.TxActor.{TxActor}
 use Rattle.tx_table.specs.declared.seat.Seat as table
 use Rattle.tx_table.specs.declared.table.TxTable.{TxTable}
-use Rattle.tx_table.specs.Seated.{Owns, acts, list_of, opening_of, out, view}
+use Rattle.tx_table.specs.Seated.{IsSameSeat, Owns, acts, list_of, opening_of, out, view}
 use Rattle.tx_table.specs.Seated as seated
-use Rattle.tx_table.specs.Shown.{IsReached}
+use Rattle.tx_table.specs.Shown.{IsReached, looking}
 use Rattle.tx_table.specs.Turns.{asked_all, lone}
 use Rattle.tx_phases.specs.Phases.{Rests, phase}
 use Rattle.transactions.proofs.RequestLemmas.{is_idle, is_open}
 use Rattle.driven_turns.specs.Driven.{HasTold, IsNumberOf, seat_in, standing}
 use Rattle.transactions.specs.Ready.{HasBegunSince, HasOpened, IsNew, IsReady}
-use Rattle.transactions.specs.Requests.{CallLeaves, CallsTo, HasCommitted, IsBegun, IsNotBegun, IsOpen}
+use Rattle.transactions.specs.Requests.{CallLeaves, CallsTo, HasCommitted, IsBegun, IsNotBegun, IsOpen, OnlyKnows}
 use Rattle.transactions.specs.declared.seats.TxSeat.{TxSeat}
 use Rattle.tx_turns.specs.Ties.{Ties, laid_in}
 use Rattle.gate_turns.specs.Bases.{AreBases, gates_at}
@@ -218,6 +218,21 @@ module _ {V : Type 0} where
   pub stays_standing : (o : World V) (s u : table.Seat V) → seated.actor u ≡ seated.actor s → acts o u ≡ acts o s
       → standing o u ≡ standing o s
   stays_standing o s u same own i = phase ((own i).seats (same i))
+
+  -- a seat m that has looked at the clock, and u that is m but for its last number, know no more
+  pub only_knows : (o : World V) (s m u : table.Seat V) (k : ℕ) → m.place.me ≡ (looking (view s) k, out s) → IsSameSeat s m
+      → acts o m ≡ acts o s → (view s).clock ≤ k → u.place ≡ m.place → u.asked ≡ m.asked → OnlyKnows o s u
+  only_knows o s m u k me same own known place asked =
+      let are : u.place.me ≡ (looking (view s) k, out s) = ap (λ p. p.me) place ∙ me in
+      let clock : (view u).clock ≡ k = ap (λ v. v.0.clock) are in record {
+        seat = (ap (λ p. p.table_id) place ∙ same.0, ap (λ p. p.id) place ∙ same.1);
+        shares = ap (λ v. v.0.shares) are;
+        receipts = ap (λ v. v.0.receipts) are;
+        turns = ap (λ v. v.0.turns) are;
+        outs = ap (λ v. v.1) are;
+        rises = omega (arith, known, clock);
+        own = noted_acts o m u place asked ∙ own;
+      }
 
   pub stays_between : (o : World V) (s u : table.Seat V) → standing o u ≡ standing o s → (standing o s ≡ Rests) ⊎ IsOpen o s
       → (standing o u ≡ Rests) ⊎ IsOpen o u

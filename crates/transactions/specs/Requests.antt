@@ -40,6 +40,16 @@ module _ {V : Type 0} where
     pub more : List (Turn V)
     pub turns : (view u).turns ≡ (view s).turns ++ more
 
+  -- The seat knows a clock that is no lower, and nothing else of it or of its actor's own world has changed, but perhaps its last number.
+  pub record OnlyKnows (o : World V) (s u : Seat V) : Type 0 where
+    pub seat : (u.place.table_id ≡ s.place.table_id) × (actor u ≡ actor s)
+    pub shares : (view u).shares ≡ (view s).shares
+    pub receipts : (view u).receipts ≡ (view s).receipts
+    pub turns : (view u).turns ≡ (view s).turns
+    pub outs : out u ≡ out s
+    pub rises : (view s).clock ≤ (view u).clock
+    pub own : acts o u ≡ acts o s
+
   -- ---- a begin
   -- It tells the number at which the transaction has begun, which is open and has no calls, and is a declared reader's or not. It is the
   -- clock that the seat knows by then, which is no lower than the one that it knew.

@@ -51,7 +51,7 @@ fn driven_call<V: Value>(
     reply_told(told)
 }
 
-/// A request of an open transaction. Where memory is refused the transaction is aborted in place of that.
+/// A request of an open transaction. Where it is refused memory, the transaction is aborted, and that is answered.
 #[inline(always)]
 pub(crate) fn ask_open<V: Value>(
     alloc: Global,

@@ -6,7 +6,7 @@ ghost use Rattle.tx_table.specs.Seated.{opening_of, view};
 ghost use Rattle.tx_phases.specs.Phases.{Rests, Stands};
 ghost use Rattle.driven_turns.specs.Driven.{IsNumberOf, seat_in, standing};
 ghost use Rattle.transactions.specs.Ready.{HasBegunSince, HasOpened, IsNew, IsReady};
-ghost use Rattle.transactions.specs.Requests.{CallsTo, HasCommitted, IsBegun, IsEnded, IsNotBegun, IsOpen, KeepsReceipts, has_written};
+ghost use Rattle.transactions.specs.Requests.{CallsTo, HasCommitted, IsBegun, IsEnded, IsNotBegun, IsOpen, KeepsReceipts, OnlyKnows, has_written};
 
 use boxes::Boxed;
 use replay_log::Base;
@@ -213,7 +213,7 @@ impl<V: Value> TxSeat<V> {
     pub fn learn(&mut self, table: &TxTable<V>, number: u64) -> Result<(), Refusal>
         requires ready { IsReady table.now self.old }
         ensures ready { IsReady table.now self.new }
-        ensures keeps { (view self.new.seat).receipts ≡ (view self.old.seat).receipts }
+        ensures knows { OnlyKnows (opening_of table.now) self.old.seat self.new.seat }
         ensures stays { standing (opening_of table.now) self.new.seat ≡ standing (opening_of table.now) self.old.seat }
         ensures learns { OnOk result (self.new.seat.last ≡ max self.old.seat.last number) }
         ensures ahead { IfErr result (λ cause. (cause ≡ Ahead (view self.new.seat).clock) × ((view self.new.seat).clock < number)) }
@@ -228,7 +228,7 @@ impl<V: Value> TxSeat<V> {
     }
 
     /// How many calls are usual at this seat: as many as the transaction had that committed or ended last, or one fewer than were usual
-    /// before it, where that is more, and sixteen at most; 0 at first. It is there to make room by: no contract says that it is that number.
+    /// before it, where that is more, and sixteen at most; 0 at first. It is there to make room by: no contract says that it is so many.
     pub fn usual_calls(&self) -> usize
         ensures { result ≡ self.now.actor.usual_calls }
     {

@@ -30,7 +30,7 @@ impl<V: Value> TxSeat<V> {
             (IsWithin shape.now.stripes shape.now.clock state)) }
         ensures fits { IsOk result → (length shape.now.stripes ≡ length state.held) × IsWithin shape.now.stripes shape.now.clock state }
     {
-        // What it promises of the collections is that they are within the limits of a state.
+        // Called for its contract alone: the collections are within the limits of a state.
         let _ = state.held();
         let (table, seat) = TxTable::open(alloc, shape, state)?;
         let seat = TxSeat::new(alloc, &table, seat);

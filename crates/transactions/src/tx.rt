@@ -9,7 +9,7 @@ ghost use Rattle.transactions.specs.contracts.seats.TxSeat.{the_row};
 ghost use Rattle.transactions.specs.Borrowed.{CommitsTo, IsBegunSince, IsRefusedBegin};
 ghost use Rattle.driven_turns.specs.Driven.{standing};
 ghost use Rattle.transactions.specs.Ready.{HasBegunSince, IsReady};
-ghost use Rattle.transactions.specs.Requests.{CallsTo, IsOpen, KeepsReceipts};
+ghost use Rattle.transactions.specs.Requests.{CallsTo, IsOpen, KeepsReceipts, OnlyKnows};
 
 use crate::seats::TxSeat;
 use seq_model::{Call, Op, Record, Refusal, Reply, Value};
@@ -69,7 +69,7 @@ pub fn begin_read<'a, V: Value>(
 pub fn learn<V: Value>(table: &TxTable<V>, seat: &mut TxSeat<V>, number: u64) -> Result<(), Refusal>
     requires ready { IsReady table.now seat.old }
     ensures ready { IsReady table.now seat.new }
-    ensures keeps { (view seat.new.seat).receipts ≡ (view seat.old.seat).receipts }
+    ensures knows { OnlyKnows (opening_of table.now) seat.old.seat seat.new.seat }
     ensures stays { standing (opening_of table.now) seat.new.seat ≡ standing (opening_of table.now) seat.old.seat }
     ensures learns { OnOk result (seat.new.seat.last ≡ max seat.old.seat.last number) }
     ensures ahead { IfErr result (λ cause. (cause ≡ Ahead (view seat.new.seat).clock) × ((view seat.new.seat).clock < number)) }

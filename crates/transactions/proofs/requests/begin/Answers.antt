@@ -1,4 +1,4 @@
-use Rattle.std.proofs.Common.{◌∙◌, ap, subst, sym}
+use Rattle.std.proofs.Common.{◌∙◌, ap, false, subst, sym}
 use Rattle.tx_actor.specs.declared.actor.Stage as own
 use Rattle.tx_table.specs.Seated.{opening_of}
 use Rattle.gate_turns.specs.Bases.{gates_at}

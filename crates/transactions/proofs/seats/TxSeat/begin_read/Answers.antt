@@ -1,3 +1,4 @@
+use Rattle.std.proofs.Common.{true}
 use Rattle.tx_table.specs.Seated.{opening_of}
 use Rattle.transactions.proofs.RequestLemmas.{begun_since}
 use Rattle.transactions.proofs.seats.TxSeat.begin_read.Goals as goal
