@@ -74,9 +74,9 @@ fn wait<V>(stage: &Stage<V>) {
     }
 }
 
-/// A try on the gate of a collection. Where it was free its base comes into hand; where it was taken the try waits, and from the 17th on the
-/// thread yields, as the one that holds it may wait for a core, and at the 64th time the transaction is given up, `GateBusy`. Where memory is refused no step is taken,
-/// and the actor is as it was.
+/// A try on the gate of a collection. Where it was free its base comes into hand; where it was taken the try waits, and from the 17th on
+/// the thread yields, as the one that holds it may wait for a core, and at the 64th time the transaction is given up, `GateBusy`. Where
+/// memory is refused no step is taken, and the actor is as it was.
 #[inline(always)]
 pub fn try_gate<V: Value>(
     table: &TxTable<V>,
@@ -178,8 +178,9 @@ fn copy_here<V: Value>(
 
 /// What the call of an actor touches of its collection's base is copied, and the gate is put back with the base as it was. `TooLong` where
 /// its locations don't fit the sets, else it is accepted, or a location is read first, or the transaction is given up, as the copy is
-/// stale. Where a location is to be read first, the gate is put back before the call is made ready. Where there is no memory for it the
-/// transaction is given up as one that starves: it holds its gate and no step is taken, or the gate was put back and it waits for a location.
+/// stale. Of a call on a key whose location is to be read first, the gate is put back before the call is made ready. Where there is no
+/// memory for it the transaction is given up as one that starves: it holds its gate and no step is taken, or the gate was put back and it
+/// waits for a location.
 #[inline(always)]
 pub fn copy_base<V: Value>(
     alloc: Global,

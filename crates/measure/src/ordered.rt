@@ -1,4 +1,4 @@
-//! Files of sessions on the core, in microseconds a session.
+//! Drawn sessions of one client, one after another on a running world, in microseconds a session.
 ghost use Rattle.generated_sessions.specs.Options.{AreWithin};
 
 use crate::sessions::{SEED, memory, no_such_sessions, options};

@@ -1,6 +1,6 @@
 //! The program: runs step scripts, session files and drawn sessions.
 //!
-//! `run_tool` does the work over any reader and writers; `main` hands it the file, or standard input, and the
+//! The work is done over any reader and writers: `main` hands the opened file to `run_file`, or standard input to `run_tool`, with the
 //! standard streams. Where standard error is a terminal it also says how far workers have come.
 #![tactic(auto)]
 

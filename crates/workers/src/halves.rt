@@ -81,6 +81,7 @@ pub fn share<
             (seat, tree)
         }
         Tree::Both(left, right) => {
+            // Called for its contract alone: there is a list in the first half, too.
             let _left = left.count();
             let shares = right.count();
             let other = seat.split(table, shares);

@@ -15,7 +15,7 @@ use transactions::TxSeat;
 use tx_engine::Job;
 use tx_table::TxTable;
 
-/// After so many attempts a worker yields where it span before.
+/// After so many attempts a worker yields where it spun before.
 const SPINS: u64 = 10;
 
 /// Between two attempts a worker yields at most so often.
