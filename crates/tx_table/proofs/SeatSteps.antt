@@ -28,7 +28,7 @@ use Rattle.tx_table.proofs.Keeps.{word_allowed, clock_allowed}
 use Rattle.tx_table.proofs.Opened as gates
 
 -- the slot in front
-abbrev slot_of : {S : Type 0} → List (ℕ × Maybe S) → Maybe S
+abbrev pub slot_of : {S : Type 0} → List (ℕ × Maybe S) → Maybe S
 slot_of [] = None
 slot_of (x ∷ xs) = x.1
 

@@ -6,13 +6,14 @@ ghost use mathlib.Core.Option.{some};
 ghost use lib.ListN.{get_elem?};
 ghost use Rattle.tx_table.specs.Layout.{width};
 
+use crate::home::Home;
 use boxes::Boxed;
 use replay_log::Base;
 use std::alloc::Global;
 
 /// A table that no thread shares any more: the clock, the words and the collections as they were left.
 pub struct Closed<V> {
-    pub(crate) row: atomic_table::Closed<Option<Boxed<Base<V>>>, Global>,
+    pub(crate) row: atomic_table::Closed<Boxed<Home<Base<V>>>, Global>,
     pub(crate) words: u32,
     pub(crate) locations: usize,
     pub(crate) alloc: Global,

@@ -84,7 +84,8 @@ impl<V: Value> Closed<V> {
         requires { k < length (homes_of self.now) }
         ensures { get_elem? (homes_of self.now) k ≡ some (Some result.now) }
     {
-        match self.row.slots.get(k) {
+        let home = self.row.slots.get(k);
+        match home.get().base() {
             Some(base) => base.get(),
             None => unreachable!(),
         }

@@ -7,6 +7,7 @@ ghost use Rattle.world_table.specs.Openings.{IsWithin, blocks_of, world_of};
 ghost use Rattle.tx_table.specs.Shown.{first as first_view};
 ghost use Rattle.tx_table.specs.Seated.{Owns, blocks_in, contents_in, list_of, opening_of};
 
+use crate::home::Home;
 use crate::rule::Whole;
 use crate::seat::{Asked, Seat};
 use crate::table::TxTable;
@@ -39,12 +40,13 @@ fn laid_out(alloc: Global, cells: &Cells, gates: usize) -> Result<Vec<u64>, Memo
 fn at_home<V: Value>(
     alloc: Global,
     bases: Vec<Base<V>>,
-) -> Result<Vec<Option<Boxed<Base<V>>>>, Memory>
+) -> Result<Vec<Boxed<Home<Base<V>>>>, Memory>
     ensures { IfOk result (λ homes. homes.items ≡ map Some bases.items) }
 {
     let mut homes = Vec::with_capacity(alloc, bases.len())?;
     for base in bases {
-        homes.push(Some(Boxed::new(alloc, base)?))?;
+        let base = Boxed::new(alloc, base)?;
+        homes.push(Boxed::new(alloc, Home::of(base))?)?;
     }
     Ok(homes)
 }

@@ -1,4 +1,5 @@
 //! The rule of a running table.
+use crate::home::Home;
 use crate::view::{Opening, View};
 use atomic_table::{Join, Play, Seat, Shared, Split, Table, TableRule};
 use boxes::Boxed;
@@ -9,7 +10,7 @@ use std::marker::Brand;
 /// Some list of events reaches, from the opening, a world that the table shows.
 pub struct Order;
 
-impl<V> TableRule<Option<Boxed<Base<V>>>, View<V>, Opening<V>> for Order {
+impl<V> TableRule<Boxed<Home<Base<V>>>, View<V>, Opening<V>> for Order {
     ghost use Rattle.tx_table.specs.Shown.{first as first_view};
     ghost use Rattle.tx_table.specs.Opening.{Holds};
 
@@ -19,7 +20,7 @@ impl<V> TableRule<Option<Boxed<Base<V>>>, View<V>, Opening<V>> for Order {
 }
 
 // Each call picks what its step tells.
-impl<V> Play<Option<Boxed<Base<V>>>, View<V>> for Brand {
+impl<V> Play<Boxed<Home<Base<V>>>, View<V>> for Brand {
     ghost then = { λ _ _ _ _. Unit {0} };
 }
 
@@ -39,8 +40,8 @@ impl<V> Join<View<V>> for Brand {
     ghost spent = { first };
 }
 
-pub type Board<V> = Shared<Option<Boxed<Base<V>>>, View<V>, Opening<V>, Order>;
+pub type Board<V> = Shared<Boxed<Home<Base<V>>>, View<V>, Opening<V>, Order>;
 
-pub type Whole<V> = Table<Option<Boxed<Base<V>>>, View<V>, Opening<V>, Order, Global>;
+pub type Whole<V> = Table<Boxed<Home<Base<V>>>, View<V>, Opening<V>, Order, Global>;
 
-pub type Place<V> = Seat<Option<Boxed<Base<V>>>, View<V>>;
+pub type Place<V> = Seat<Boxed<Home<Base<V>>>, View<V>>;

@@ -9,6 +9,7 @@ ghost use Rattle.tx_table.specs.Opening.{blocks_at, locations_at, world_at};
 ghost use Rattle.tx_table.specs.Shown.{highest_clock, IsBaseAt};
 ghost use Rattle.tx_table.specs.Seated.{Adds, Exchanges, IsHome, Loads, Stepped, StepsBlind, Stores, Takes, acts, list_of, out, view};
 
+use crate::home::{lift, put};
 use crate::rule::Board;
 use crate::seat::{Asked, Seat};
 use boxes::Boxed;
@@ -121,7 +122,7 @@ pub(crate) fn try_gate<V: Value>(
     if found != 0 {
         return None;
     }
-    let base = board.exchange(&mut seat.place, gate, None);
+    let base = lift(seat.place.slot_mut(board, gate));
     seat.place.turn();
     base
 }
@@ -146,7 +147,7 @@ pub(crate) fn free_gate<V: Value>(
     requires due { IsHome (world_at board.now.key) seat.old.place.id (acts (world_at board.now.key) seat.old) of.1 base }
     ensures { Takes (world_at board.now.key) seat.old (view seat.old).clock 1 None (rest (out seat.old)) seat.new }
 {
-    board.exchange(&mut seat.place, gate, Some(base));
+    put(seat.place.slot_mut(board, gate), base);
     board.store::<Brand>(&mut seat.place, word, 0);
     seat.asked = Asked::Nothing;
 }

@@ -1,4 +1,4 @@
-use Rattle.std.proofs.Common.{◌∙◌, ◌∷◌, None, refl, sym}
+use Rattle.std.proofs.Common.{◌∙◌, ◌∷◌, refl, sym}
 use Rattle.atomic_table.specs.Table.{rest}
 use Rattle.tx_table.specs.Opening.{world_at}
 use Rattle.tx_table.specs.Seated.{list_of}
@@ -21,8 +21,8 @@ returns-then-found-ne0 g c =
     lost (world_at c.args.board.now.key) c.args.seat.now _ g.of.0 g.of.1 c.compare_exchange-found.result c.requires.1.0 c.if-found-ne0.true
     e.2.0 (e.0, e.1, refl) refl e.2.1
 
-pub exchange-base-requires : goal.exchange-base-requires
-exchange-base-requires g c =
+pub slot_mut-requires : goal.slot_mut-requires
+slot_mut-requires g c =
     let e = c.compare_exchange-found.ensures in
     let r = c.requires.1.1 in (
       e.0 ∙ r.1.0,
@@ -35,9 +35,10 @@ returns g c =
     let s = c.args.seat.now in
     let m = c.compare_exchange-found.new.seat.me in
     let e = c.compare_exchange-found.ensures in
-    let x = c.exchange-base.ensures in
+    let lift = c.lift-base.ensures in
     let t = c.turn.ensures in
     let gate = c.requires.1.1.0 in
-    won (world_at c.args.board.now.key) s _ g.of.0 g.of.1 c.compare_exchange-found.result m c.exchange-base.new.seat.me
-    c.exchange-base.result c.requires.1.0 c.if-found-ne0.false e.2.0 (x.2 ∙ (λ i. (sym gate i, c.exchange-base.result) ∷ rest m.1))
-    (x.3 ∙ (λ i. (m.0, (sym gate i, None) ∷ rest m.1))) t.2 (t.0 ∙ (x.0 ∙ e.0), t.1 ∙ (x.1 ∙ e.1), refl) refl e.2.1
+    won (world_at c.args.board.now.key) s _ g.of.0 g.of.1 c.compare_exchange-found.result m
+    (m.0, (c.args.gate, c.lift-base.new.home) ∷ rest m.1) c.lift-base.result c.requires.1.0 c.if-found-ne0.false e.2.0
+    (c.slot_mut.ensures.value ∙ (λ i. (sym gate i, sym lift.lifted i) ∷ rest m.1))
+    (λ i. (m.0, (sym gate i, lift.bare i) ∷ rest m.1)) t.2 (t.0 ∙ e.0, t.1 ∙ e.1, refl) refl e.2.1
