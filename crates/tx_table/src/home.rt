@@ -1,7 +1,7 @@
 //! Where a base lies while its gate is free.
 //!
-//! Each home is a piece of memory of its own. A slot of the table holds the pointer to it, which no step writes, and bases of different
-//! collections that are lifted and put back at once are in lines of the cache of their own.
+//! Each home is a piece of memory of its own. A slot of the table holds the pointer to it, which no step writes, so that the bases of two
+//! collections are lifted and put back at once without a line of the cache that both write.
 ghost use Rattle.std.specs.Prelude.{◌≡◌, None, Some};
 
 use boxes::Boxed;

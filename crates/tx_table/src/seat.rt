@@ -5,7 +5,7 @@ use crate::rule::Place;
 use seq_model::Event;
 use std::snapshot::Snapshot;
 
-/// What an actor has asked since its last step. It holds no request, and only clauses read it.
+/// What an actor has asked since its last step. A snapshot has nothing in it as the program runs: only clauses read it.
 #[derive(Drop)]
 pub enum Asked<V> {
     Nothing,

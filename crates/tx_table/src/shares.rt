@@ -32,7 +32,7 @@ fn cut<V: Value>(board: &Board<V>, seat: &mut Seat<V>, shares: u64) -> Seat<V>
     }
 }
 
-// The load says that there are no more than `SHARES` shares.
+// By what the load says there are no more than `SHARES` shares, so their sum is no greater either.
 fn merge<V: Value>(board: &Board<V>, seat: &mut Seat<V>, other: Seat<V>)
     requires fits { seat.old.place.table_id ≡ board.now.table_id }
     requires other { other.place.table_id ≡ board.now.table_id }
