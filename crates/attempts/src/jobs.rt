@@ -62,12 +62,12 @@ fn ask_next<V: Value, J: Job<V>>(
     }
 }
 
-/// The calls of a job on the transaction that has just begun, up to where it is done, or gives up.
+/// The calls of a job on the transaction that has just begun, up to where it is done, or gives up. What is in the list of replies goes.
 fn ask_all<V: Value, J: Job<V>>(
-    alloc: Global,
     table: &TxTable<V>,
     seat: &mut TxSeat<V>,
     job: &J,
+    replies: &mut Vec<Reply<V>>,
 ) -> Result<End, Refusal>
     requires ready { IsReady table.now seat.old }
     requires since { HasBegunSince table.now seat.old }
@@ -78,9 +78,10 @@ fn ask_all<V: Value, J: Job<V>>(
     ensures reaches { IfOk result (Reaches (J.asks job.now) (opening_of table.now) seat.old.seat seat.new.seat) }
     ensures refused { IfErr result (IsUnmade (J.asks job.now) (opening_of table.now) seat.old.seat seat.new.seat) }
 {
-    let mut replies = Vec::with_capacity(alloc, seat.usual_calls())?;
+    replies.clear();
+    replies.reserve(seat.usual_calls())?;
     'calls: loop {
-        match ask_next(table, seat, job, &mut replies)? {
+        match ask_next(table, seat, job, replies)? {
             Some(end) => return Ok(end),
             None => {}
         }
@@ -91,14 +92,15 @@ fn ask_all<V: Value, J: Job<V>>(
 /// the job is done, `pause` being told before the first step of that, and ends without a commit where the job gives up. The receipt that
 /// is answered is the one that the seat gains. A refusal is that of the request that was refused: `Exhausted` of the begin; of a call, or
 /// of the commit, as these have it; `OutOfMemory` also where the job is refused memory, or there is none for its replies. It leaves no
-/// transaction, and the seat gains no receipt.
-pub fn attempt_with<V: Value, J: Job<V>, P: Pause>(
-    alloc: Global,
+/// transaction, and the seat gains no receipt. `replies` lends its room to the job's replies: what is in it goes, and what they are in the
+/// end is of no meaning.
+pub fn attempt_in<V: Value, J: Job<V>, P: Pause>(
     table: &TxTable<V>,
     seat: &mut TxSeat<V>,
     job: &J,
     worker: u64,
     pause: &P,
+    replies: &mut Vec<Reply<V>>,
 ) -> Result<Attempt<V>, Refusal>
     requires ready { IsReady table.now seat.old }
     ensures ready { IsReady table.now seat.new }
@@ -106,7 +108,7 @@ pub fn attempt_with<V: Value, J: Job<V>, P: Pause>(
     ensures attempts { AttemptsTo (J.asks job.now) (opening_of table.now) seat.old.seat seat.new.seat result }
 {
     seat.begin(table)?;
-    match ask_all(alloc, table, seat, job) {
+    match ask_all(table, seat, job, replies) {
         Ok(End::Done) => {
             pause.before_commit(worker);
             let receipt = seat.commit(table)?;
@@ -121,4 +123,22 @@ pub fn attempt_with<V: Value, J: Job<V>, P: Pause>(
             Err(cause)
         }
     }
+}
+
+/// One attempt of a job by this worker, as `attempt_in` makes it, with a list of replies of its own.
+pub fn attempt_with<V: Value, J: Job<V>, P: Pause>(
+    alloc: Global,
+    table: &TxTable<V>,
+    seat: &mut TxSeat<V>,
+    job: &J,
+    worker: u64,
+    pause: &P,
+) -> Result<Attempt<V>, Refusal>
+    requires ready { IsReady table.now seat.old }
+    ensures ready { IsReady table.now seat.new }
+    ensures rests { standing (opening_of table.now) seat.new.seat ≡ Rests }
+    ensures attempts { AttemptsTo (J.asks job.now) (opening_of table.now) seat.old.seat seat.new.seat result }
+{
+    let mut replies = Vec::new(alloc);
+    attempt_in(table, seat, job, worker, pause, &mut replies)
 }

@@ -4,7 +4,7 @@ ghost use Rattle.transactions.specs.Ready.{IsReady};
 ghost use Rattle.workers.specs.Tasks.{Gains, HasRoom, IsDone, IsFreshTask, IsLeft, IsSameTask, missed_in, receipt_in};
 
 use crate::causes::LastAbort;
-use crate::tries::retry;
+use crate::tries::retry_in;
 use attempts::Pause;
 use seq_model::{Record, Value};
 use std::alloc::Global;
@@ -57,8 +57,18 @@ impl<V: Value, J: Job<V>> Task<V, J> {
         ensures done { IsDone J.asks table.now tries self.new }
         ensures gains { Gains seat.old seat.new self.new.receipts.items }
     {
+        // One list for all jobs: where one grows that another thread's memory came into, that thread may wait for the allocator.
+        let mut replies = Vec::new(alloc);
         'jobs: for i in 0..self.jobs.len() {
-            let outcome = retry(alloc, table, seat, &self.jobs[i], tries, self.worker, pause);
+            let outcome = retry_in(
+                table,
+                seat,
+                &self.jobs[i],
+                tries,
+                self.worker,
+                pause,
+                &mut replies,
+            );
             self.note(i, outcome);
         }
     }

@@ -6,8 +6,8 @@ ghost use Rattle.transactions.specs.Ready.{IsReady, standing};
 ghost use Rattle.workers.specs.Tries.{HasReceipt, HasNoReceipt, IsTransient};
 
 use crate::causes::LastAbort;
-use attempts::{Attempt, Pause, attempt_with};
-use seq_model::{Record, Refusal, Value};
+use attempts::{Attempt, Pause, attempt_in};
+use seq_model::{Record, Refusal, Reply, Value};
 use std::alloc::Global;
 use std::hint::spin_loop;
 use std::thread::yield_now;
@@ -48,6 +48,43 @@ fn wait(attempts: u64) {
     }
 }
 
+/// The attempts of a job, as `retry` has them. `replies` lends its room, as `attempt_in` has it, so that no attempt takes any.
+pub(crate) fn retry_in<V: Value, J: Job<V>, P: Pause>(
+    table: &TxTable<V>,
+    seat: &mut TxSeat<V>,
+    job: &J,
+    tries: u64,
+    worker: u64,
+    pause: &P,
+    replies: &mut Vec<Reply<V>>,
+) -> Result<Record<V>, LastAbort>
+    requires some { 1 ≤ tries }
+    requires ready { IsReady table.now seat.old }
+    ensures ready { IsReady table.now seat.new }
+    ensures rests { standing (opening_of table.now) seat.new.seat ≡ Rests }
+    ensures receipt { IfOk result (HasReceipt (J.asks job.now) table.now tries seat.old.seat seat.new.seat) }
+    ensures none { IfErr result (HasNoReceipt (J.asks job.now) table.now tries seat.old.seat seat.new.seat) }
+{
+    let mut last = LastAbort::GivenUp;
+    'tries: for i in 0..tries {
+        wait(i);
+        match attempt_in(table, seat, job, worker, pause, replies) {
+            Ok(Attempt::Committed(receipt)) => {
+                pause.after_receipt(worker, receipt.number);
+                return Ok(receipt);
+            }
+            Ok(Attempt::GivenUp) => return Err(LastAbort::GivenUp),
+            Err(refusal) => {
+                last = LastAbort::Refused(refusal);
+                if !is_transient(refusal) {
+                    return Err(last);
+                }
+            }
+        }
+    }
+    Err(last)
+}
+
 /// At most so many attempts of a job, until one has a receipt. The seat gains that one, and no other.
 ///
 /// `Refused` as the last attempt was: after an attempt that others stood in the way of comes the next, any other refusal is the last.
@@ -68,22 +105,6 @@ pub fn retry<V: Value, J: Job<V>, P: Pause>(
     ensures receipt { IfOk result (HasReceipt (J.asks job.now) table.now tries seat.old.seat seat.new.seat) }
     ensures none { IfErr result (HasNoReceipt (J.asks job.now) table.now tries seat.old.seat seat.new.seat) }
 {
-    let mut last = LastAbort::GivenUp;
-    'tries: for i in 0..tries {
-        wait(i);
-        match attempt_with(alloc, table, seat, job, worker, pause) {
-            Ok(Attempt::Committed(receipt)) => {
-                pause.after_receipt(worker, receipt.number);
-                return Ok(receipt);
-            }
-            Ok(Attempt::GivenUp) => return Err(LastAbort::GivenUp),
-            Err(refusal) => {
-                last = LastAbort::Refused(refusal);
-                if !is_transient(refusal) {
-                    return Err(last);
-                }
-            }
-        }
-    }
-    Err(last)
+    let mut replies = Vec::new(alloc);
+    retry_in(table, seat, job, tries, worker, pause, &mut replies)
 }

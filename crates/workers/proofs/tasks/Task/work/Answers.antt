@@ -10,14 +10,14 @@ jobs-preserved g c =
     let tries = c.args.tries in
     let before = c.jobs.self in
     let job = c.index.result.now in
-    let o = c.retry-outcome.result in
+    let o = c.retry_in-outcome.result in
     let s = c.args.seat.now in
     let m = c.jobs.seat in
-    let u = c.retry-outcome.new.seat in
+    let u = c.retry_in-outcome.new.seat in
     let tried : IsTried (asks job) t tries m u o = record {
-      ready = c.retry-outcome.ensures.ready;
-      receipt = c.retry-outcome.ensures.receipt;
-      none = c.retry-outcome.ensures.none;
+      ready = c.retry_in-outcome.ensures.ready;
+      receipt = c.retry_in-outcome.ensures.receipt;
+      none = c.retry_in-outcome.ensures.none;
     } in
     let more = next_tried asks t tries before.worker before.jobs.items c.jobs.i before.receipts.items before.missed.items s m u job o
     (search rules) c.index.ensures c.jobs.invariant.tried tried in

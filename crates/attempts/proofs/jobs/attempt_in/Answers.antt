@@ -2,7 +2,7 @@ use Rattle.std.proofs.Common.{inl}
 use Rattle.std.proofs.lemmas.Result.{err_from_is_err_and}
 use Rattle.tx_table.specs.Seated.{opening_of}
 use Rattle.attempts.proofs.AttemptLemmas.{at_end, call_ended, commit_refused, given_up, has_made}
-use Rattle.attempts.proofs.jobs.attempt_with.Goals as goal
+use Rattle.attempts.proofs.jobs.attempt_in.Goals as goal
 
 pub returns-in_err-begin-clause-attempts : goal.returns-in_err-begin-clause-attempts
 returns-in_err-begin-clause-attempts g c =

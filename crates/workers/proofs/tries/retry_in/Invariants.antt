@@ -4,7 +4,7 @@ use Rattle.tx_phases.specs.Phases.{Rests}
 use Rattle.transactions.specs.Ready.{IsReady, standing}
 use Rattle.workers.specs.Tries.{HasNoReceipt}
 use Rattle.workers.proofs.TryLemmas.{InVain}
-use Rattle.workers.proofs.tries.retry.Given as goal
+use Rattle.workers.proofs.tries.retry_in.Given as goal
 
 -- all attempts so far were in vain, and the last of them ended so
 abbrev pub invariant-tries : goal.invariant-tries
