@@ -6,6 +6,7 @@ ghost use Rattle.transactions.specs.Ready.{IsReady};
 ghost use Rattle.workers.specs.Trees.{AreOthers, CanRun, IsFresh, Ran, leaves};
 
 use crate::tree::Tree;
+use crate::way::Way;
 use attempts::Pause;
 use seq_model::{ACTOR_LIMIT, Value};
 use std::alloc::Global;
@@ -62,6 +63,7 @@ pub fn share<
     alloc: Global,
     tries: u64,
     pause: &P,
+    way: &Way,
     table: &TxTable<V>,
     mut seat: TxSeat<V>,
     mut tree: Box<Tree<V, J>>,
@@ -76,7 +78,7 @@ pub fn share<
     match mem::replace(&mut *tree, Tree::Taken) {
         Tree::Taken => (seat, tree),
         Tree::Leaf(mut task) => {
-            task.work(alloc, table, &mut seat, tries, pause);
+            task.work(alloc, table, &mut seat, tries, pause, way);
             *tree = Tree::Leaf(task);
             (seat, tree)
         }
@@ -85,7 +87,9 @@ pub fn share<
             let _left = left.count();
             let shares = right.count();
             let other = seat.split(table, shares);
-            let (first, second) = both(rt, alloc, tries, pause, table, seat, left, other, right);
+            let (first, second) = both(
+                rt, alloc, tries, pause, way, table, seat, left, other, right,
+            );
             let (mut seat, left) = first;
             let (other, right) = second;
             seat.join(table, other);
@@ -107,6 +111,7 @@ fn both<
     alloc: Global,
     tries: u64,
     pause: &P,
+    way: &Way,
     table: &TxTable<V>,
     seat: TxSeat<V>,
     left: Box<Tree<V, J>>,
@@ -152,19 +157,22 @@ fn both<
                     if refused.load(Ordering::SeqCst) {
                         give_back(table, other, right)
                     } else {
-                        share(rt, alloc, tries, pause, table, other, right)
+                        share(rt, alloc, tries, pause, way, table, other, right)
                     }
                 },
             );
             match child {
                 Ok(child) => {
-                    let first = share(rt, alloc, tries, pause, table, seat, left);
+                    let first = share(rt, alloc, tries, pause, way, table, seat, left);
                     (first, child.join(rt))
                 }
                 Err(not_started) => {
                     refused.store(true, Ordering::SeqCst);
                     let second = (not_started.value)();
-                    (share(rt, alloc, tries, pause, table, seat, left), second)
+                    (
+                        share(rt, alloc, tries, pause, way, table, seat, left),
+                        second,
+                    )
                 }
             }
         },

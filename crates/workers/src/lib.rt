@@ -12,6 +12,7 @@ mod run;
 mod tasks;
 mod tree;
 mod tries;
+mod way;
 
 pub use attempts::{NoPause, Pause};
 pub use causes::LastAbort;

@@ -10,6 +10,7 @@ use crate::halves::share;
 use crate::lists::tree_of;
 use crate::report::{Draft, Report};
 use crate::tree::Tree;
+use crate::way::Way;
 use attempts::Pause;
 use seq_model::{ACTOR_LIMIT, Memory, Value};
 use std::alloc::Global;
@@ -66,7 +67,8 @@ pub fn run_workers<
 {
     match prepare(alloc, lists) {
         Ok((draft, tree)) => {
-            let (mut seat, tree) = share(rt, alloc, tries, pause, table, seat, tree);
+            let way = Way::new();
+            let (mut seat, tree) = share(rt, alloc, tries, pause, &way, table, seat, tree);
             seat.abort(table);
             (seat, Ok(draft.filled(tree)))
         }

@@ -5,6 +5,7 @@ ghost use Rattle.workers.specs.Tasks.{Gains, HasRoom, IsDone, IsFreshTask, IsLef
 
 use crate::causes::LastAbort;
 use crate::tries::retry_in;
+use crate::way::Way;
 use attempts::Pause;
 use seq_model::{Record, Value};
 use std::alloc::Global;
@@ -48,6 +49,7 @@ impl<V: Value, J: Job<V>> Task<V, J> {
         seat: &mut TxSeat<V>,
         tries: u64,
         pause: &P,
+        way: &Way,
     )
         requires some { 1 ≤ tries }
         requires ready { IsReady table.now seat.old }
@@ -67,8 +69,10 @@ impl<V: Value, J: Job<V>> Task<V, J> {
                 tries,
                 self.worker,
                 pause,
+                way,
                 &mut replies,
             );
+            way.leave(self.worker);
             self.note(i, outcome);
         }
     }

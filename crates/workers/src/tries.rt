@@ -6,6 +6,7 @@ ghost use Rattle.transactions.specs.Ready.{IsReady, standing};
 ghost use Rattle.workers.specs.Tries.{HasReceipt, HasNoReceipt, IsTransient};
 
 use crate::causes::LastAbort;
+use crate::way::Way;
 use attempts::{Attempt, Pause, attempt_in};
 use seq_model::{Record, Refusal, Reply, Value};
 use std::alloc::Global;
@@ -48,7 +49,8 @@ fn wait(attempts: u64) {
     }
 }
 
-/// The attempts of a job, as `retry` has them. `replies` lends its room, as `attempt_in` has it, so that no attempt takes any.
+/// The attempts of a job, as `retry` has them. Other workers give way to it, and it to them. `replies` lends its room, as `attempt_in` has
+/// it, so that no attempt takes any.
 pub(crate) fn retry_in<V: Value, J: Job<V>, P: Pause>(
     table: &TxTable<V>,
     seat: &mut TxSeat<V>,
@@ -56,6 +58,7 @@ pub(crate) fn retry_in<V: Value, J: Job<V>, P: Pause>(
     tries: u64,
     worker: u64,
     pause: &P,
+    way: &Way,
     replies: &mut Vec<Reply<V>>,
 ) -> Result<Record<V>, LastAbort>
     requires some { 1 ≤ tries }
@@ -68,6 +71,7 @@ pub(crate) fn retry_in<V: Value, J: Job<V>, P: Pause>(
     let mut last = LastAbort::GivenUp;
     'tries: for i in 0..tries {
         wait(i);
+        way.give(worker, i);
         match attempt_in(table, seat, job, worker, pause, replies) {
             Ok(Attempt::Committed(receipt)) => {
                 pause.after_receipt(worker, receipt.number);
@@ -106,5 +110,6 @@ pub fn retry<V: Value, J: Job<V>, P: Pause>(
     ensures none { IfErr result (HasNoReceipt (J.asks job.now) table.now tries seat.old.seat seat.new.seat) }
 {
     let mut replies = Vec::new(alloc);
-    retry_in(table, seat, job, tries, worker, pause, &mut replies)
+    let way = Way::new();
+    retry_in(table, seat, job, tries, worker, pause, &way, &mut replies)
 }
