@@ -5,7 +5,7 @@ ghost use Rattle.workers.specs.Tasks.{Gains, HasRoom, IsDone, IsFreshTask, IsLef
 
 use crate::causes::LastAbort;
 use crate::tries::retry_in;
-use crate::way::Way;
+use crate::way::{Courtesy, Way};
 use attempts::Pause;
 use seq_model::{Record, Value};
 use std::alloc::Global;
@@ -61,6 +61,7 @@ impl<V: Value, J: Job<V>> Task<V, J> {
     {
         // One list for all jobs: where one grows that another thread's memory came into, that thread may wait for the allocator.
         let mut replies = Vec::new(alloc);
+        let mut courtesy = Courtesy::of(self.worker);
         'jobs: for i in 0..self.jobs.len() {
             let outcome = retry_in(
                 table,
@@ -70,9 +71,10 @@ impl<V: Value, J: Job<V>> Task<V, J> {
                 self.worker,
                 pause,
                 way,
+                &mut courtesy,
                 &mut replies,
             );
-            way.leave(self.worker);
+            way.leave(&mut courtesy);
             self.note(i, outcome);
         }
     }

@@ -6,7 +6,7 @@ ghost use Rattle.transactions.specs.Ready.{IsReady, standing};
 ghost use Rattle.workers.specs.Tries.{HasReceipt, HasNoReceipt, IsTransient};
 
 use crate::causes::LastAbort;
-use crate::way::Way;
+use crate::way::{Courtesy, Way};
 use attempts::{Attempt, Pause, attempt_in};
 use seq_model::{Record, Refusal, Reply, Value};
 use std::alloc::Global;
@@ -59,6 +59,7 @@ pub(crate) fn retry_in<V: Value, J: Job<V>, P: Pause>(
     worker: u64,
     pause: &P,
     way: &Way,
+    courtesy: &mut Courtesy,
     replies: &mut Vec<Reply<V>>,
 ) -> Result<Record<V>, LastAbort>
     requires some { 1 ≤ tries }
@@ -71,7 +72,7 @@ pub(crate) fn retry_in<V: Value, J: Job<V>, P: Pause>(
     let mut last = LastAbort::GivenUp;
     'tries: for i in 0..tries {
         wait(i);
-        way.give(worker, i);
+        way.give(courtesy, i);
         match attempt_in(table, seat, job, worker, pause, replies) {
             Ok(Attempt::Committed(receipt)) => {
                 pause.after_receipt(worker, receipt.number);
@@ -111,5 +112,16 @@ pub fn retry<V: Value, J: Job<V>, P: Pause>(
 {
     let mut replies = Vec::new(alloc);
     let way = Way::new();
-    retry_in(table, seat, job, tries, worker, pause, &way, &mut replies)
+    let mut courtesy = Courtesy::of(worker);
+    retry_in(
+        table,
+        seat,
+        job,
+        tries,
+        worker,
+        pause,
+        &way,
+        &mut courtesy,
+        &mut replies,
+    )
 }
