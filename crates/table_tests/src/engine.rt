@@ -1,13 +1,15 @@
 //! Seats, transactions and attempts: rows at two seats of 32 shares each.
 //!
-//! They are answered in turn; behind the row `at once` those of each seat in a thread of its own, and then those of the first seat stand
-//! before those of the second. What is refused is answered by the refusal.
+//! They are answered in turn; behind the row `at once` those of each seat in a thread of its own, and behind `row by row` likewise, but each
+//! row once all above it are answered. Behind `four at once` and `four row by row` each of the two seats is split into two, so that there
+//! are four, in as many threads. Where threads answer, the rows of the first seat stand before those of the second, and so on. What is
+//! refused is answered by the refusal.
 //!
 //! - `1 do begin`, `2 do call 0 get 5`: a request at a seat, as a script has it, and what it is answered.
 //! - `1 attempts 1 do read 0; 1 do write 0 1`: an attempt of the job that asks these calls, and then is done. `1 gives up`: of one
 //!   that gives up at once.
-//! - `1 meets 1 do read 0`: such an attempt, which is held before its commit until the other seat's is, too; the first seat's also until the
-//!   other one has its receipt. `1 waits for a receipt`: until the other seat has one of an attempt.
+//! - `1 meets 1 do read 0`: such an attempt, which is held before its commit until those of all other seats are, too, and until each seat
+//!   behind it has its receipt. `1 waits for a receipt`: until each other seat has one of an attempt.
 //! - `1 leaves 1 do write 0 5`: a transaction begins, makes these calls, and is left open.
 //! - `1 learn 4`, `1 last number`: what the seat learns, and its last number.
 pub mod requests;

@@ -5,17 +5,14 @@ ghost use Rattle.transactions.specs.Ready.{IsReady};
 
 use crate::borrowed::calls::Way;
 use crate::borrowed::rows::answer_borrowed;
-use crate::engine::turns::{Both, at_once, in_turn};
-use crate::shared::{Page, commit_after};
+use crate::engine::turns::{Both, at_once, four_at_once, in_turn};
+use crate::shared::{Order, Page, commit_after};
 use std::thread::Threads;
 use transactions::TxSeat;
 use tx_table::TxTable;
 
 /// How many of the table's shares the second seat has.
 const SECOND_SHARES: u64 = 32;
-
-/// What stands before requests that are answered in two threads.
-const AT_ONCE: &str = "at once\n";
 
 /// What the rows at two seats are.
 #[derive(Clone, Copy)]
@@ -81,9 +78,38 @@ fn answer_both<R: Threads + Sync>(
 {
     match pair {
         Pair::Borrowed(way) => answer_borrowed(page, table, first, second, way, rows),
-        Pair::Requests => match rows.strip_prefix(AT_ONCE) {
-            Some(rows) => at_once(rt, page, table, first, second, rows),
-            None => in_turn(page, table, first, second, rows),
-        },
+        Pair::Requests => answer_requests(rt, page, table, first, second, rows),
+    }
+}
+
+fn answer_requests<R: Threads + Sync>(
+    rt: &R,
+    page: &mut Page,
+    table: &TxTable<u64>,
+    first: TxSeat<u64>,
+    second: TxSeat<u64>,
+    rows: &str,
+) -> Both
+    requires first { IsReady table.now first }
+    requires second { IsReady table.now second }
+    ensures first { IsReady table.now result.0 }
+    ensures second { IsReady table.now result.1 }
+{
+    let (threads, order, rows) = threads_of(rows);
+    match threads {
+        1 => in_turn(page, table, first, second, rows),
+        2 => at_once(rt, page, table, first, second, order, rows),
+        _ => four_at_once(rt, page, table, first, second, order, rows),
+    }
+}
+
+// In how many threads the rows are answered, in which order, and the rows behind what says so.
+fn threads_of(rows: &str) -> (u64, Order, &str) {
+    match rows.split_once('\n') {
+        Some(("at once", rows)) => (2, Order::LastIsFirst, rows),
+        Some(("row by row", rows)) => (2, Order::RowByRow, rows),
+        Some(("four at once", rows)) => (4, Order::LastIsFirst, rows),
+        Some(("four row by row", rows)) => (4, Order::RowByRow, rows),
+        _ => (1, Order::RowByRow, rows),
     }
 }

@@ -1,8 +1,8 @@
 //! Sessions that workers serve on a shared table.
 //!
-//! Behind a row `sessions 64 1000 2` stands a session file, whose sessions are dealt in turn to two workers, on a table with 64 stripes for
-//! each collection. Each is attempted at most 1000 times, and two workers meet: the first is held before its commit until all others have
-//! their receipts, each other one until all stand there. `0`: none is held. What comes of them is the receipts of each worker, what the
+//! Behind a row `sessions 2 64 1000 2` stands a session file, whose sessions are dealt in turn to two workers, on a table with 64 stripes
+//! for each collection. Each is attempted at most 1000 times, and two workers meet: each is held before its commit until all stand there,
+//! and all behind it have their receipts. `0`: none is held. What comes of them is the receipts of each worker, what the
 //! tables hold, as it is printed behind a session file, and what the audit of all receipts says. Where a session is refused memory the audit
 //! is to be Ok, too; then that is answered as a want of memory.
 mod printed;
@@ -28,13 +28,23 @@ pub fn answer_sessions<R: Threads + Wait + Sync>(
 }
 
 fn options_of(words: &str) -> Option<Options> {
+    let (workers, words) = words.split_once(' ')?;
     let (stripes, limits) = words.split_once(' ')?;
     let (tries, meet) = limits.split_once(' ')?;
     Some(Options {
+        workers: workers_of(number(workers)?)?,
         stripes: stripes_of(number(stripes)?)?,
         tries: number(tries)?,
         meet: number(meet)?,
     })
+}
+
+fn workers_of(workers: u64) -> Option<usize> {
+    if workers <= 64 {
+        Some(workers as usize)
+    } else {
+        None
+    }
 }
 
 fn stripes_of(stripes: u64) -> Option<u32> {

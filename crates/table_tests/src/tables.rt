@@ -5,7 +5,7 @@ ghost use Rattle.transactions.specs.Ready.{IsReady};
 
 use crate::borrowed::calls::Way;
 use crate::pairs::{Pair, run_pair};
-use crate::shared::{Page, close, end_page, open, opening_of};
+use crate::shared::{Page, close_told, end_page, open, opening_of, say_places};
 use crate::worker::lists::{Limits, limits_of};
 use crate::worker::retries::retry_rows;
 use crate::worker::runs::run_lists;
@@ -26,6 +26,16 @@ enum Kind {
     Workers(Limits),
     /// Jobs of one seat, each in up to so many attempts.
     Retries(u64),
+}
+
+impl Kind {
+    /// The clock, unless it depends on how the workers stood in each other's way.
+    fn told(self, clock: u64) -> Option<u64> {
+        match self {
+            Kind::Workers(limits) if limits.is_crowd => None,
+            _ => Some(clock),
+        }
+    }
 }
 
 /// The table that the words behind the kind open, and what comes of the rows on it.
@@ -102,7 +112,7 @@ fn answer_page<R: Threads + Wait + Sync>(
     rows: &str,
 ) -> Result<(), Refusal> {
     let (clock, last) = run_script(rt, page, kind, script, opening, rows)?;
-    end_page(text, page, opening, clock, last, rows)
+    end_page(text, page, opening, kind.told(clock), last, rows)
 }
 
 fn run_script<R: Threads + Wait + Sync>(
@@ -129,7 +139,8 @@ fn run_table<R: Threads + Wait + Sync>(
     requires shares { (view seat.seat).shares ≡ 64 }
 {
     let seat = run_seat(rt, page, kind, &table, seat, rows);
-    close(table, seat)
+    say_places(page, &table, rows);
+    close_told(page, table, seat, rows)
 }
 
 fn run_seat<R: Threads + Wait + Sync>(

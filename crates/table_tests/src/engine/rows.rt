@@ -2,7 +2,7 @@
 ghost use Rattle.table_tests.specs.Fit.{IsFit};
 
 use super::requests::{ask, leave_open, try_job};
-use crate::shared::{Meeting, Page, job_of, learn, say_last};
+use crate::shared::{Meeting, Order, Page, job_of, learn, say_last};
 use row_parts::script_of;
 use seq_model::Refusal;
 use step_script::Line;
@@ -23,10 +23,10 @@ pub fn answer_rows(
     ensures first { IsFit table.now first.new }
     ensures second { IsFit table.now second.new }
 {
-    let meeting = Meeting::new(2);
+    let meeting = Meeting::new(2, Order::LastIsFirst);
     'rows: for row in rows.lines() {
-        answer_at(page, table, first, 1, &meeting, row);
-        answer_at(page, table, second, 2, &meeting, row);
+        answer_at(page, table, first, 1, &meeting, 0, row);
+        answer_at(page, table, second, 2, &meeting, 0, row);
     }
 }
 
@@ -42,18 +42,22 @@ pub fn answer_own(
     requires fit { IsFit table.now seat.old }
     ensures fit { IsFit table.now seat.new }
 {
+    let mut above = 0u64;
     'rows: for row in rows.lines() {
-        answer_at(page, table, seat, worker, meeting, row);
+        answer_at(page, table, seat, worker, meeting, above, row);
+        above = above.saturating_add(1);
     }
 }
 
-/// Answers the row if it is one of this seat, unless memory was wanted before: then the other seat isn't to wait for this one.
+/// Answers the row, above which so many others stand, if it is one of this seat; unless memory was wanted before: then no other seat is
+/// to wait for this one.
 fn answer_at(
     page: &mut Page,
     table: &TxTable<u64>,
     seat: &mut TxSeat<u64>,
     worker: u64,
     meeting: &Meeting,
+    above: u64,
     row: &str,
 )
     requires fit { IsFit table.now seat.old }
@@ -61,9 +65,11 @@ fn answer_at(
 {
     match row.split_once(' ') {
         Some((who, words)) if number(who) == Some(worker) && !page.wants_memory() => {
+            meeting.wait_for_row(above);
             page.begin_row(row);
             answer(page, table, seat, worker, meeting, row, words);
             page.end_row();
+            meeting.end_row();
         }
         _ => {}
     }
@@ -124,7 +130,7 @@ fn answer_learn(page: &mut Page, table: &TxTable<u64>, seat: &mut TxSeat<u64>, d
     seat.abort(table);
 }
 
-// Held until the other worker has a receipt.
+// Held until each other worker has a receipt.
 fn answer_wait(page: &mut Page, meeting: &Meeting) {
     if meeting.waits_for_receipts() {
         page.say("waited");

@@ -1,15 +1,19 @@
-//! The rows of two seats: all in turn, or those of each seat in a thread of its own.
+//! The rows of two seats, all in turn; or those of each in a thread of its own, also where each of them was split into two.
 ghost use Rattle.std.specs.Prelude.{◌≡◌};
+ghost use Rattle.std.specs.Thread.{IsSync};
 ghost use Rattle.transactions.specs.Ready.{IsReady};
 ghost use Rattle.table_tests.specs.Fit.{IsFit};
 
 use super::rows::{answer_own, answer_rows};
-use crate::shared::{Meeting, Page};
+use crate::shared::{Meeting, Order, Page};
 use seq_model::{Memory, Refusal};
 use std::alloc::Global;
 use std::thread::{Threads, join};
 use transactions::TxSeat;
 use tx_table::TxTable;
+
+/// How many shares a seat keeps that is one of four.
+const QUARTER: u64 = 16;
 
 /// Two seats.
 pub type Both = (TxSeat<u64>, TxSeat<u64>);
@@ -44,6 +48,57 @@ pub fn at_once<R: Threads + Sync>(
     table: &TxTable<u64>,
     first: TxSeat<u64>,
     second: TxSeat<u64>,
+    order: Order,
+    rows: &str,
+) -> Both
+    requires first { IsReady table.now first }
+    requires second { IsReady table.now second }
+    ensures first { IsReady table.now result.0 }
+    ensures second { IsReady table.now result.1 }
+{
+    let meeting = Meeting::new(2, order);
+    let (first, second) = pair_at_once(rt, page, table, first, second, 1, &meeting, rows);
+    hear_meeting(page, &meeting);
+    (first, second)
+}
+
+/// Likewise of four seats, two of which are split off.
+pub fn four_at_once<R: Threads + Sync>(
+    rt: &R,
+    page: &mut Page,
+    table: &TxTable<u64>,
+    first: TxSeat<u64>,
+    second: TxSeat<u64>,
+    order: Order,
+    rows: &str,
+) -> Both
+    requires first { IsReady table.now first }
+    requires second { IsReady table.now second }
+    ensures first { IsReady table.now result.0 }
+    ensures second { IsReady table.now result.1 }
+{
+    let meeting = Meeting::new(4, order);
+    let (first, second) = halves_at_once(rt, page, table, first, second, &meeting, rows);
+    hear_meeting(page, &meeting);
+    (first, second)
+}
+
+// Where memory was wanted, seats are held in vain.
+fn hear_meeting(page: &mut Page, meeting: &Meeting) {
+    if meeting.is_missed() && !page.wants_memory() {
+        page.fail(Refusal::NotIdle);
+    }
+}
+
+// The worker is the first of two.
+fn pair_at_once<R: Threads + Sync>(
+    rt: &R,
+    page: &mut Page,
+    table: &TxTable<u64>,
+    first: TxSeat<u64>,
+    second: TxSeat<u64>,
+    worker: u64,
+    meeting: &Meeting,
     rows: &str,
 ) -> Both
     requires first { IsReady table.now first }
@@ -53,14 +108,49 @@ pub fn at_once<R: Threads + Sync>(
 {
     match two_pages(page.alloc()) {
         Ok((left, right)) => {
-            let (first, second) = in_threads(rt, table, left, first, right, second, rows);
+            let (first, second) = in_threads(
+                rt, table, left, first, right, second, worker, meeting, rows,
+            );
             both_of(page, first, second)
         }
         Err(_) => {
-            page.fail(Refusal::OutOfMemory);
+            leave_wanting(page, meeting);
             (first, second)
         }
     }
+}
+
+fn halves_at_once<R: Threads + Sync>(
+    rt: &R,
+    page: &mut Page,
+    table: &TxTable<u64>,
+    first: TxSeat<u64>,
+    second: TxSeat<u64>,
+    meeting: &Meeting,
+    rows: &str,
+) -> Both
+    requires first { IsReady table.now first }
+    requires second { IsReady table.now second }
+    ensures first { IsReady table.now result.0 }
+    ensures second { IsReady table.now result.1 }
+{
+    match two_pages(page.alloc()) {
+        Ok((left, right)) => {
+            let (first, second) = halves_in_threads(
+                rt, table, left, first, right, second, meeting, rows,
+            );
+            both_of(page, first, second)
+        }
+        Err(_) => {
+            leave_wanting(page, meeting);
+            (first, second)
+        }
+    }
+}
+
+fn leave_wanting(page: &mut Page, meeting: &Meeting) {
+    page.fail(Refusal::OutOfMemory);
+    meeting.leave();
 }
 
 fn two_pages(alloc: Global) -> Result<(Page, Page), Memory> {
@@ -95,8 +185,15 @@ fn answer_seat(
 {
     seat.abort(table);
     answer_own(&mut page, table, &mut seat, worker, meeting, rows);
-    meeting.leave();
+    leave_if_wanting(&page, meeting);
     (seat, page)
+}
+
+// No other seat is to wait for one that answers no more rows.
+fn leave_if_wanting(page: &Page, meeting: &Meeting) {
+    if page.wants_memory() {
+        meeting.leave();
+    }
 }
 
 fn in_threads<R: Threads + Sync>(
@@ -106,6 +203,8 @@ fn in_threads<R: Threads + Sync>(
     first: TxSeat<u64>,
     right: Page,
     second: TxSeat<u64>,
+    worker: u64,
+    meeting: &Meeting,
     rows: &str,
 ) -> (Own, Own)
     requires first { IsReady table.now first }
@@ -113,17 +212,69 @@ fn in_threads<R: Threads + Sync>(
     ensures first { IsReady table.now result.0.0 }
     ensures second { IsReady table.now result.1.0 }
 {
-    let meeting = Meeting::new(2);
-    let meeting = &meeting;
+    let next = worker.saturating_add(1);
     join(
         rt,
         || -> Own
             requires ready { IsReady table.now first }
             ensures ready { IsReady table.entry.now result.0 }
-        { answer_seat(left, table, first, 1, meeting, rows) },
+        { answer_seat(left, table, first, worker, meeting, rows) },
         || -> Own
             requires ready { IsReady table.now second }
             ensures ready { IsReady table.entry.now result.0 }
-        { answer_seat(right, table, second, 2, meeting, rows) },
+        { answer_seat(right, table, second, next, meeting, rows) },
     )
+}
+
+fn halves_in_threads<R: Threads + Sync>(
+    rt: &R,
+    table: &TxTable<u64>,
+    left: Page,
+    first: TxSeat<u64>,
+    right: Page,
+    second: TxSeat<u64>,
+    meeting: &Meeting,
+    rows: &str,
+) -> (Own, Own)
+    requires first { IsReady table.now first }
+    requires second { IsReady table.now second }
+    ensures first { IsReady table.now result.0.0 }
+    ensures second { IsReady table.now result.1.0 }
+{
+    join(
+        rt,
+        || -> Own
+            requires sync { IsSync R.row }
+            requires ready { IsReady table.now first }
+            ensures ready { IsReady table.entry.now result.0 }
+        { answer_half(rt, left, table, first, 1, meeting, rows) },
+        || -> Own
+            requires sync { IsSync R.row }
+            requires ready { IsReady table.now second }
+            ensures ready { IsReady table.entry.now result.0 }
+        { answer_half(rt, right, table, second, 3, meeting, rows) },
+    )
+}
+
+// Two of four seats, of which the worker is the first.
+fn answer_half<R: Threads + Sync>(
+    rt: &R,
+    mut page: Page,
+    table: &TxTable<u64>,
+    mut seat: TxSeat<u64>,
+    worker: u64,
+    meeting: &Meeting,
+    rows: &str,
+) -> Own
+    requires ready { IsReady table.now seat }
+    ensures ready { IsReady table.now result.0 }
+{
+    if seat.shares() <= QUARTER {
+        page.fail(Refusal::NoSuch);
+        return (seat, page);
+    }
+    let other = seat.split(table, QUARTER);
+    let (mut seat, other) = pair_at_once(rt, &mut page, table, seat, other, worker, meeting, rows);
+    seat.join(table, other);
+    (seat, page)
 }

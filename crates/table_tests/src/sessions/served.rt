@@ -3,7 +3,7 @@ ghost use Rattle.std.specs.Prelude.{◌≤◌, length};
 ghost use Rattle.vac_model.specs.Balanced.{IsBalanced};
 
 use super::printed::{is_refused, print_served};
-use crate::shared::{Meeting, audit_receipts};
+use crate::shared::{Meeting, Order, audit_receipts};
 use dealing::deal;
 use seq_model::{Items, Memory, Record, Refusal, State};
 use serving::{Served, serve};
@@ -15,12 +15,10 @@ use vac_model::{Action, Tables};
 use vacation_core::{Entry, state_of};
 use workers::Report;
 
-/// How many workers there are.
-const WORKERS: usize = 2;
-
-/// How sessions are served: stripes for each collection, attempts of a session at most, and how many workers meet.
+/// How sessions are served: by how many workers, stripes for each collection, attempts of a session at most, and how many workers meet.
 #[derive(Clone, Copy)]
 pub struct Options {
+    pub workers: usize,
     pub stripes: u32,
     pub tries: u64,
     pub meet: u64,
@@ -50,7 +48,7 @@ fn answer_file<R: Threads + Wait + Sync>(
     opening: &State<Entry>,
     file: &str,
 ) -> Result<(), Refusal> {
-    let meeting = Meeting::new(options.meet);
+    let meeting = Meeting::new(options.meet, Order::LastIsFirst);
     match serve_file(rt, *text.allocator(), options, file, &meeting) {
         Ok(served) => answer_served(text, opening, served, meeting.is_missed()),
         Err(Refusal::TooLong) => {
@@ -84,7 +82,10 @@ fn serve_actions<R: Threads + Wait + Sync>(
 ) -> Result<Served, Refusal>
     requires { IsBalanced tables }
 {
-    match deal(alloc, actions.into_vec(), WORKERS) {
+    if options.workers == 0 {
+        return Err(Refusal::NoSuch);
+    }
+    match deal(alloc, actions.into_vec(), options.workers) {
         Ok(lists) => serve_lists(rt, alloc, tables, options, lists, meeting),
         Err(_) => Err(Refusal::OutOfMemory),
     }

@@ -1,6 +1,8 @@
 //! How a table ends.
 ghost use Rattle.transactions.specs.Ready.{IsReady};
 
+use super::pages::Page;
+use super::places::say_left;
 use row_parts::{print_reply, script_of};
 use seq_model::{AuditFault, Call, Memory, Record, Refusal, Reply, Request, State, Value, audit};
 use std::alloc::Global;
@@ -20,6 +22,25 @@ pub fn close<V: Value>(table: TxTable<V>, seat: TxSeat<V>) -> Result<(u64, State
         return Err(Refusal::NoSuch);
     }
     let closed = seat.close(table);
+    let clock = closed.clock();
+    let last = closed.state()?;
+    Ok((clock, last))
+}
+
+/// Likewise; each row `left 0` is answered by what the closed table has there.
+pub fn close_told(
+    page: &mut Page,
+    table: TxTable<u64>,
+    seat: TxSeat<u64>,
+    rows: &str,
+) -> Result<(u64, State<u64>), Refusal>
+    requires ready { IsReady table seat }
+{
+    if seat.shares() != ALL_SHARES {
+        return Err(Refusal::NoSuch);
+    }
+    let closed = seat.close(table);
+    say_left(page, &closed, rows);
     let clock = closed.clock();
     let last = closed.state()?;
     Ok((clock, last))
@@ -48,14 +69,18 @@ pub fn print_receipt<V>(text: &mut String, receipt: &Record<V>) -> Result<(), Me
     Ok(())
 }
 
-/// The clock of a table that was closed, and each row `closed 1 do CALL` with its answer on the state that the table held.
+/// The clock of a table that was closed, where it is to be told, and each row `closed 1 do CALL` with its answer on the state that the table
+/// held.
 pub fn print_closed(
     text: &mut String,
-    clock: u64,
+    clock: Option<u64>,
     mut last: State<u64>,
     rows: &str,
 ) -> Result<(), Refusal> {
-    writeln!(text, "closed: clock {clock}, audit ok")?;
+    match clock {
+        Some(clock) => writeln!(text, "closed: clock {clock}, audit ok")?,
+        None => text.push_str("closed: audit ok\n")?,
+    }
     for row in rows.lines() {
         if let Some(call) = row.strip_prefix("closed ") {
             answer_call(text, &mut last, row, call)?;

@@ -1,4 +1,4 @@
-//! Workers that meet before their commits.
+//! Workers that wait for one another.
 use attempts::Pause;
 use std::sync::atomic::{AtomicBool, AtomicU64, Ordering};
 use std::thread::yield_now;
@@ -6,29 +6,44 @@ use std::thread::yield_now;
 /// A worker is held for at most so many turns.
 const TURNS: u64 = 10_000_000;
 
-/// So many workers that are held before their commits: the first until all others have a receipt, each other one until all stand there.
-/// None is held once one of them has left.
+/// In which order workers go on.
+#[derive(Clone, Copy)]
+pub enum Order {
+    /// Before a commit the first is held until all others have a receipt.
+    FirstIsLast,
+    /// Before a commit each is held until all behind it have a receipt.
+    LastIsFirst,
+    /// Each row of a worker is held until all rows above it are answered.
+    RowByRow,
+}
+
+/// So many workers that are held before their commits until all stand there, and then as their order has it. None is held once one of
+/// them has left.
 #[derive(Drop)]
 pub struct Meeting {
     all: u64,
+    order: Order,
     standing: AtomicU64,
     received: AtomicU64,
+    answered: AtomicU64,
     has_left: AtomicBool,
     is_missed: AtomicBool,
 }
 
 impl Meeting {
-    pub fn new(all: u64) -> Meeting {
+    pub fn new(all: u64, order: Order) -> Meeting {
         Meeting {
             all,
+            order,
             standing: AtomicU64::new(0),
             received: AtomicU64::new(0),
+            answered: AtomicU64::new(0),
             has_left: AtomicBool::new(false),
             is_missed: AtomicBool::new(false),
         }
     }
 
-    /// A worker has ended.
+    /// A worker has left before its end.
     pub fn leave(&self) {
         self.has_left.store(true, Ordering::SeqCst);
     }
@@ -41,6 +56,26 @@ impl Meeting {
     /// Holds a worker until all others have a receipt; whether they have.
     pub fn waits_for_receipts(&self) -> bool {
         self.is_reached(&self.received, self.all.saturating_sub(1))
+    }
+
+    /// Holds a worker before the row that stands below so many others, where rows go one by one.
+    pub fn wait_for_row(&self, above: u64) {
+        if matches!(self.order, Order::RowByRow) && !self.is_reached(&self.answered, above) {
+            self.is_missed.store(true, Ordering::SeqCst);
+        }
+    }
+
+    /// A row is answered.
+    pub fn end_row(&self) {
+        self.answered.fetch_add(1, Ordering::SeqCst);
+    }
+
+    // How many receipts this worker is to wait for.
+    fn behind(&self, worker: u64) -> u64 {
+        match self.order {
+            Order::FirstIsLast if worker > 1 => 0,
+            _ => self.all.saturating_sub(worker),
+        }
     }
 
     // What a worker did before it left is seen by the look after that.
@@ -62,11 +97,8 @@ impl Meeting {
 impl Pause for Meeting {
     fn before_commit(&self, worker: u64) {
         self.standing.fetch_add(1, Ordering::SeqCst);
-        let is_met = if worker == 1 {
-            self.waits_for_receipts()
-        } else {
-            self.is_reached(&self.standing, self.all)
-        };
+        let is_met = self.is_reached(&self.standing, self.all)
+            && self.is_reached(&self.received, self.behind(worker));
         if !is_met {
             self.is_missed.store(true, Ordering::SeqCst);
         }

@@ -4,6 +4,7 @@ use row_parts::print_reply;
 use seq_model::{Memory, Record, Refusal, Reply, State};
 use std::alloc::Global;
 use std::fmt::Write;
+use tx_table::Block;
 
 /// There is room for so many receipts of one table before it opens.
 const ROOM: usize = 96;
@@ -83,6 +84,12 @@ impl Page {
         self.note(printed);
     }
 
+    /// The place of a collection is told.
+    pub fn say_block(&mut self, block: Block) {
+        let printed = self.print_block(block);
+        self.note(printed);
+    }
+
     pub fn hear_begin(&mut self, answered: Result<u64, Refusal>) {
         match answered {
             Ok(number) => self.say_number("begun ", number),
@@ -144,6 +151,16 @@ impl Page {
         Ok(())
     }
 
+    fn print_block(&mut self, block: Block) -> Result<(), Memory> {
+        let Block {
+            kind,
+            stripes,
+            first,
+        } = block;
+        write!(self.text, "{kind:?}, {stripes} stripes, from {first}")?;
+        Ok(())
+    }
+
     fn print_refusal(&mut self, refusal: Refusal) -> Result<(), Memory> {
         let part = self.part();
         write!(self.text, "{part}{refusal}")?;
@@ -185,7 +202,7 @@ pub fn end_page(
     text: &mut String,
     page: &mut Page,
     opening: &State<u64>,
-    clock: u64,
+    clock: Option<u64>,
     last: State<u64>,
     rows: &str,
 ) -> Result<(), Refusal> {

@@ -1,22 +1,32 @@
 //! The lists of jobs that rows spell.
-use crate::shared::{Listed, job_of};
+use crate::shared::{Listed, Order, job_of};
 use seq_model::{Memory, Refusal};
 use std::alloc::Global;
 use text_lines::number;
 
-/// How often a job is attempted at most, and how many workers meet.
+/// How often a job is attempted at most, how many workers meet, and in which order they go on. Of a crowd none meets, and no numbers are
+/// told: they depend on how its workers stand in each other's way.
 #[derive(Clone, Copy)]
 pub struct Limits {
     pub tries: u64,
     pub meet: u64,
+    pub order: Order,
+    pub is_crowd: bool,
 }
 
-/// `1000000 2`.
+/// `1000000 2`, `1000000 2 in order`, or `1000000 crowd`.
 pub fn limits_of(words: &str) -> Option<Limits> {
     let (tries, meet) = words.split_once(' ')?;
+    let (meet, order) = match meet.strip_suffix(" in order") {
+        Some(meet) => (meet, Order::LastIsFirst),
+        None => (meet, Order::FirstIsLast),
+    };
+    let is_crowd = meet == "crowd";
     Some(Limits {
         tries: number(tries)?,
-        meet: number(meet)?,
+        meet: if is_crowd { 0 } else { number(meet)? },
+        order,
+        is_crowd,
     })
 }
 

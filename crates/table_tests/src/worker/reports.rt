@@ -1,4 +1,5 @@
 //! What is printed of what comes of workers.
+use super::lists::Limits;
 use crate::shared::{Page, print_receipt};
 use seq_model::{Items, Memory, Record, Refusal};
 use std::fmt::Write;
@@ -15,13 +16,14 @@ pub fn memory_missed(report: &Report<u64>) -> u64 {
     count
 }
 
-/// The receipts of the first worker where so many workers meet, or it is alone; the numbers of all, rising; and the jobs that were missed.
-pub fn print_report(text: &mut String, report: &Report<u64>, meet: u64) -> Result<(), Memory> {
+/// The receipts of the first worker where workers meet, or it is alone; the numbers of all, rising, or of a crowd how many there are; and
+/// the jobs that were missed.
+pub fn print_report(text: &mut String, report: &Report<u64>, limits: Limits) -> Result<(), Memory> {
     let lists = report.receipts.as_slice();
-    if meet > 0 || lists.len() == 1 {
+    if limits.meet > 0 || lists.len() == 1 {
         print_first(text, lists)?;
     }
-    print_numbers(text, lists)?;
+    print_numbers(text, lists, limits.is_crowd)?;
     for (worker, place, cause) in report.missed.as_slice() {
         print_missed(text, *worker, *place, *cause)?;
     }
@@ -44,11 +46,23 @@ fn print_own(text: &mut String, receipts: &[Record<u64>]) -> Result<(), Memory> 
     Ok(())
 }
 
-fn print_numbers(text: &mut String, lists: &[Items<Record<u64>>]) -> Result<(), Memory> {
+fn print_numbers(
+    text: &mut String,
+    lists: &[Items<Record<u64>>],
+    is_crowd: bool,
+) -> Result<(), Memory> {
     let mut numbers = Vec::new(*text.allocator());
     add_numbers(&mut numbers, lists)?;
+    if is_crowd {
+        return print_count(text, numbers.len());
+    }
     numbers.sort_unstable();
     print_sorted(text, numbers.as_slice())
+}
+
+fn print_count(text: &mut String, count: usize) -> Result<(), Memory> {
+    writeln!(text, "receipts {count}")?;
+    Ok(())
 }
 
 fn add_numbers(numbers: &mut Vec<u64>, lists: &[Items<Record<u64>>]) -> Result<(), Memory> {

@@ -71,10 +71,10 @@ fn run_seat<R: Threads + Wait + Sync>(
     requires shares { (view seat.seat).shares ≡ 64 }
     ensures ready { IsReady table.now result }
 {
-    let meeting = Meeting::new(limits.meet);
+    let meeting = Meeting::new(limits.meet, limits.order);
     let alloc = page.alloc();
     let (seat, report) = run_workers(rt, alloc, table, seat, lists, limits.tries, &meeting);
-    let is_refused = hear(page, report, limits.meet, wants_of(rows));
+    let is_refused = hear(page, report, limits, wants_of(rows));
     if meeting.is_missed() && !page.wants_memory() {
         page.fail(Refusal::NotIdle);
     }
@@ -82,9 +82,9 @@ fn run_seat<R: Threads + Wait + Sync>(
 }
 
 // Whether any job was refused memory. That is a want of memory unless the jobs wanted it.
-fn hear(page: &mut Page, report: Result<Report<u64>, Memory>, meet: u64, wants: u64) -> bool {
+fn hear(page: &mut Page, report: Result<Report<u64>, Memory>, limits: Limits, wants: u64) -> bool {
     match report {
-        Ok(report) => hear_report(page, report, meet, wants),
+        Ok(report) => hear_report(page, report, limits, wants),
         Err(_) => {
             page.fail(Refusal::OutOfMemory);
             true
@@ -92,8 +92,8 @@ fn hear(page: &mut Page, report: Result<Report<u64>, Memory>, meet: u64, wants: 
     }
 }
 
-fn hear_report(page: &mut Page, report: Report<u64>, meet: u64, wants: u64) -> bool {
-    let printed = print_report(&mut page.text, &report, meet);
+fn hear_report(page: &mut Page, report: Report<u64>, limits: Limits, wants: u64) -> bool {
+    let printed = print_report(&mut page.text, &report, limits);
     page.note(printed);
     let refused = memory_missed(&report);
     if refused != wants {
