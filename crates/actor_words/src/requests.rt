@@ -1,6 +1,6 @@
 //! Requests of a word actor: a read, a write, and the two ends of a transaction. They take no step, and make the room that their steps
 //! need first: where it is refused, the word actor is as it was.
-ghost use Rattle.std.specs.Prelude.{◌≡◌, ℕ, [], ◌∷◌, IfOk, OnErr, OnOk, true, false, ◌<◌, ◌≤◌};
+ghost use Rattle.std.specs.Prelude.{◌≡◌, ℕ, [], ◌∷◌, IfOk, IfSome, IsSome, OnErr, OnOk, ◌↔◌, true, false, ◌<◌, ◌≤◌};
 ghost use Rattle.std.specs.Vec.{vec_capacity, vec_len};
 ghost use Rattle.word_machine.specs.Notices.{read_reply, reply};
 ghost use Rattle.tx_sets.specs.Entries.{lookup};
@@ -14,37 +14,33 @@ use std::alloc::AllocError;
 use step_core::{Actor, Place, WordCall, WordRequest};
 use tx_sets::{AccessSet, LOCATION_LIMIT};
 
-/// Whether a location fits beside those that a set has.
-pub fn fits_one<Role>(set: &AccessSet<Role>, location: u32) -> bool
-    ensures { result ≡ fits set.now.entries (location ∷ []) }
+/// Whether a location fits beside those that a set has. A `put` of it that comes next searches no more.
+pub fn fits_one<Role>(set: &mut AccessSet<Role>, location: u32) -> bool
+    ensures fits { result ≡ fits set.old.entries (location ∷ []) }
+    ensures same { set.new ≡ set.old }
 {
+    let found = set.seek(location);
     let entries = set.in_order();
-    match set.find(location) {
-        Some(_) => true,
-        None => entries.len() < LOCATION_LIMIT,
-    }
+    found.is_some() || entries.len() < LOCATION_LIMIT
 }
 
-/// Whether there is room for the read of a location.
-pub fn may_read(words: &Actor, location: u32) -> bool
-    ensures { result ≡ may_read (actor_of words.now) location }
+/// What the sets have of a location that is to be read, or nothing where the read set has no room for it. Each is searched once, and not
+/// again when what is read is kept.
+pub fn seek_word(words: &mut Actor, location: u32) -> Option<Option<u64>>
+    ensures room { IsSome result ↔ (may_read (actor_of words.old) location ≡ true) }
+    ensures found { IfSome result (λ found. number_told found
+        ≡ read_reply (lookup (actor_of words.old).writes location) (lookup (actor_of words.old).reads location)) }
+    ensures same { words.new ≡ words.old }
 {
-    if words.declared {
-        return true;
+    if let Some(value) = words.writes.find(location) {
+        return Some(Some(value));
     }
-    if words.writes.find(location).is_some() {
-        return true;
-    }
-    fits_one(&words.reads, location)
-}
-
-/// What the sets have of a location.
-fn found_in_sets(words: &Actor, location: u32) -> Option<u64>
-    ensures { number_told result ≡ read_reply (lookup (actor_of words.now).writes location) (lookup (actor_of words.now).reads location) }
-{
-    match words.writes.find(location) {
-        Some(value) => Some(value),
-        None => words.reads.find(location),
+    let found = words.reads.seek(location);
+    let entries = words.reads.in_order();
+    if words.declared || found.is_some() || entries.len() < LOCATION_LIMIT {
+        Some(found)
+    } else {
+        None
     }
 }
 
@@ -63,11 +59,16 @@ fn reserve_read(words: &mut Actor) -> Result<(), AllocError>
     Ok(())
 }
 
-/// A location is to be read: what a set has of it, or none, and its loads are next.
-pub fn read_word(words: &mut Actor, location: u32) -> Result<Option<u64>, AllocError>
+/// A location is to be read of which the sets have this: that is answered, or else its loads are next.
+pub fn read_word(
+    words: &mut Actor,
+    location: u32,
+    found: Option<u64>,
+) -> Result<Option<u64>, AllocError>
     requires room { may_read (actor_of words.old) location ≡ true }
+    requires found { number_told found ≡ read_reply (lookup (actor_of words.old).writes location) (lookup (actor_of words.old).reads location) }
     ensures actor { OnOk result (actor_of words.new ≡ ask (actor_of words.old) (actor_of words.old).place (AskRead location)) }
-    ensures found { IfOk result (λ found. number_told found ≡ reply (actor_of words.old) (actor_of words.old).place (AskRead location)) }
+    ensures told { IfOk result (λ told. number_told told ≡ reply (actor_of words.old) (actor_of words.old).place (AskRead location)) }
     ensures err { OnErr result (actor_of words.new ≡ actor_of words.old) }
     ensures keeps { (n : ℕ) → location < n → HasNoReads words.old → KeepsAt n words.old words.new }
 {
@@ -76,7 +77,6 @@ pub fn read_word(words: &mut Actor, location: u32) -> Result<Option<u64>, AllocE
         _ => return Ok(None),
     }
     reserve_read(words)?;
-    let found = found_in_sets(words, location);
     match found {
         Some(value) => words.calls.push_reserved(WordCall::Read(location, value)),
         None => words.place = Place::Look(location),

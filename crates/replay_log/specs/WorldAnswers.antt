@@ -1,9 +1,12 @@
 -- What a refusal says as it is answered, and what it leaves.
-use Rattle.std.specs.Prelude.{◌≡◌, ◌≢◌, ◌⊎◌, ℕ, ◌≤◌, Bool, true, false, ◌&&◌, not, nat_lt, List, [], ◌∷◌, Some}
+use Rattle.std.specs.Prelude.{◌≡◌, ◌≢◌, ◌⊎◌, ℕ, ◌<◌, ◌≤◌, length, Bool, true, false, ◌&&◌, not, nat_lt, List, [], ◌∷◌, Some}
 use Rattle.tx_sets.specs.Entries.{Entries, lookup}
 use Rattle.word_machine.specs.Actor.{clock_limit}
 use Rattle.seq_model.specs.declared.call.Op.{Op}
 use Rattle.seq_model.specs.declared.call.Op.TheVariants.{Read, Write}
+use Rattle.seq_model.specs.declared.event.Request.{Request}
+use Rattle.seq_model.specs.declared.event.Request.TheVariants.{Call}
+use Rattle.seq_model.specs.declared.limits.TheConstants.{CALL_LIMIT}
 use Rattle.seq_model.specs.declared.refusal.Refusal.{Refusal}
 use Rattle.seq_model.specs.declared.refusal.Refusal.TheVariants.{Exhausted, TooLong, NoTransaction, OutOfMemory}
 use Rattle.seq_model.specs.declared.event.Notice.{Notice}
@@ -27,6 +30,16 @@ module _ {V : Type 0} where
   is_there w a t Read = nat_lt t w.words
   is_there w a t (Write v) = nat_lt t w.words && not (actor_of w a).declared
   is_there w a t op = is_known (block_of w.blocks t) op && may_ask (actor_of w a) op
+
+  -- a call finds what it asks of, and the limit of calls is not reached
+  abbrev pub IsWithin : World V → ℕ → Request V → Type 0
+  IsWithin w a (Call call) = (is_there w a call.target call.op ≡ true) × (length (w.seats a).calls < CALL_LIMIT)
+  IsWithin w a q = Unit {0}
+
+  -- The request is refused neither as NotIdle, NoTransaction or NoSuch nor for the limit of calls.
+  pub record IsAdmitted (w : World V) (a : ℕ) (q : Request V) : Type 0 where
+    pub open : (w.seats a).stage ≡ Open
+    pub within : IsWithin w a q
 
   abbrev pub IsRefusal : Notice V → Type 0
   IsRefusal (Refused a cause) = Unit {0}

@@ -15,7 +15,7 @@ ghost use Rattle.tx_actor.specs.Running.{Does, seat_of, stage_of};
 use crate::actor::{Stage, Told, TxActor};
 use crate::room::reserve_call;
 use actor_words::{
-    Blocks, close_words, fits_one, lock_words, may_read, read_word, store_words, write_word,
+    Blocks, close_words, fits_one, lock_words, read_word, seek_word, store_words, write_word,
     written_homes,
 };
 use seq_model::{Answer, CALL_LIMIT, Call, Memory, Op, Refusal, Reply};
@@ -37,11 +37,11 @@ impl<V: Drop> TxActor<V> {
         if self.calls.len() >= CALL_LIMIT {
             return Ok(Told::Refused(Refusal::TooLong));
         }
-        if !may_read(&self.words, word) {
+        let Some(found) = seek_word(&mut self.words, word) else {
             return Ok(Told::Refused(Refusal::TooLong));
-        }
+        };
         reserve_call(&mut self.calls, self.usual_calls)?;
-        match read_word(&mut self.words, word)? {
+        match read_word(&mut self.words, word, found)? {
             Some(value) => Ok(self.read(word, value)),
             None => {
                 self.stage = Stage::Reading(word);
@@ -73,7 +73,7 @@ impl<V: Drop> TxActor<V> {
         if self.calls.len() >= CALL_LIMIT {
             return Ok(Told::Refused(Refusal::TooLong));
         }
-        if !fits_one(&self.words.writes, word) {
+        if !fits_one(&mut self.words.writes, word) {
             return Ok(Told::Refused(Refusal::TooLong));
         }
         reserve_call(&mut self.calls, self.usual_calls)?;

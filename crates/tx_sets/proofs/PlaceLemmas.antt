@@ -112,6 +112,27 @@ last_place l es n d rising all last = above_all l es n all below
           )
         ]
 
+-- A location goes behind an entry that is below it, or to the front, and before one that is above it, or to the end.
+pub between : (l : ℕ) (es : Entries) (n : ℕ) → IsRising es → n ≤ length es
+    → (0 < n → (d : ℕ × ℕ) → (get_or es (n - 1) d).0 < l) → (n < length es → (d : ℕ × ℕ) → l < (get_or es n d).0)
+    → IsPlaceOf l es (Err n)
+between l es n rising within below above = (within, (low, high))
+  where
+    low : (k : ℕ) (c : ℕ × ℕ) → 0 ≤ k → k < n → (get_or es k c).0 < l
+    low k c ge lt =
+        elim (cases_eq k (n - 1)) [
+          | inl q ↦ omega (arith, below (omega (arith, lt)) c, ap (λ (i : ℕ). (get_or es i c).0) q)
+          | inr ne ↦
+              omega (arith, below (omega (arith, lt)) c, rising_at es rising k (n - 1) c (omega (arith, lt, ne)) (omega (arith, lt, within)))
+        ]
+
+    high : (k : ℕ) (c : ℕ × ℕ) → n ≤ k → k < length es → l < (get_or es k c).0
+    high k c ge lt =
+        elim (cases_eq k n) [
+          | inl q ↦ omega (arith, above (omega (arith, lt, q)) c, ap (λ (i : ℕ). (get_or es i c).0) q)
+          | inr ne ↦ omega (arith, above (omega (arith, ge, lt)) c, rising_at es rising n k c (omega (arith, ge, ne)) lt)
+        ]
+
 -- a new entry put where it goes
 pub put_new : (es fs gs : Entries) (l v i : ℕ) → IsPlaceOf l es (Err i) → fs ≡ es → gs ≡ insert fs i (l, v) → gs ≡ with_entry es l v
 put_new es fs gs l v i place same is = is ∙ ap (λ (z : Entries). insert z i (l, v)) same ∙ insert_gap es l v i place.0 place.1.0 place.1.1

@@ -1,5 +1,5 @@
 //! The values that a transaction read or is to write, by location.
-ghost use Rattle.std.specs.Prelude.{◌≡◌, ◌↔◌, ◌+◌, ◌<◌, ◌≤◌, [], Err, IsOk, IsSome, OnErr, OnOk, count_by, insert, length, nat_lt};
+ghost use Rattle.std.specs.Prelude.{◌≡◌, ◌↔◌, ◌+◌, ◌<◌, ◌≤◌, [], Err, IsOk, Ok, IsSome, OnErr, OnOk, count_by, insert, length, nat_lt, true};
 ghost use Rattle.std.specs.Vec.{vec_capacity, vec_len};
 ghost use Rattle.tx_sets.specs.Entries.{IsRising, lookup, with_entry};
 ghost use Rattle.tx_sets.specs.AccessSet.{AreOrderly, IsBeyondLimit, IsPlaceOf, LacksRoom};
@@ -33,6 +33,8 @@ pub type WriteSet = AccessSet<Writes>;
 #[derive(Drop)]
 pub struct AccessSet<Role> {
     entries: Vec<(u32, u64)>,
+    // Where the location is that was sought last, or where it would go.
+    sought: usize,
     role: PhantomData<Role>,
 }
 
@@ -56,6 +58,7 @@ impl<Role> AccessSet<Role> {
     {
         AccessSet {
             entries: Vec::new(alloc),
+            sought: 0,
             role: PhantomData,
         }
     }
@@ -79,10 +82,20 @@ impl<Role> AccessSet<Role> {
     pub fn find(&self, location: u32) -> Option<u64>
         ensures { result ≡ lookup self.now.entries location }
     {
-        match self.place_of(location) {
-            Ok(at) => Some(self.entries[at].1),
-            Err(_) => None,
-        }
+        value_in(&self.entries, location, self.place_of(location))
+    }
+
+    /// The value of a location, as `find` has it. A `put` of it that comes next searches no more.
+    pub fn seek(&mut self, location: u32) -> Option<u64>
+        ensures found { result ≡ lookup self.old.entries location }
+        ensures same { self.new ≡ self.old }
+    {
+        let place = self.place_of(location);
+        self.sought = match place {
+            Ok(at) => at,
+            Err(at) => at,
+        };
+        value_in(&self.entries, location, place)
     }
 
     /// Sets the value of a location. Only a new location can be refused: `TooLong` beyond
@@ -100,7 +113,7 @@ impl<Role> AccessSet<Role> {
         ensures room { self.old.room ≤ self.new.room + 1 }
         ensures room_there { IsSome (lookup self.old.entries location) → self.new.room ≡ self.old.room }
     {
-        match self.place_of(location) {
+        match self.place_to_put(location) {
             Ok(at) => self.entries[at].1 = value,
             Err(at) => {
                 if self.entries.len() >= LOCATION_LIMIT {
@@ -132,6 +145,19 @@ impl<Role> AccessSet<Role> {
         self.entries.clear();
     }
 
+    // The same, without a search where the location was sought just before.
+    fn place_to_put(&self, location: u32) -> Result<usize, usize>
+        ensures { IsPlaceOf location self.now.entries result }
+    {
+        if is_at(&self.entries, location, self.sought) {
+            return Ok(self.sought);
+        }
+        if goes_to(&self.entries, location, self.sought) {
+            return Err(self.sought);
+        }
+        self.place_of(location)
+    }
+
     // Where the location is, or where it would go. Locations often come in rising order, so the
     // end is tried first.
     fn place_of(&self, location: u32) -> Result<usize, usize>
@@ -147,6 +173,42 @@ impl<Role> AccessSet<Role> {
         self.entries
             .binary_search_by_key(&location, |entry| entry.0)
     }
+}
+
+// The value of a location that was sought.
+fn value_in(entries: &[(u32, u64)], location: u32, place: Result<usize, usize>) -> Option<u64>
+    requires rising { IsRising entries.now }
+    requires place { IsPlaceOf location entries.now place }
+    ensures { result ≡ lookup entries.now location }
+{
+    match place {
+        Ok(at) => Some(entries[at].1),
+        Err(_) => None,
+    }
+}
+
+// Whether a location is there.
+fn is_at(entries: &[(u32, u64)], location: u32, at: usize) -> bool
+    ensures { result ≡ true → IsPlaceOf location entries.now (Ok at) }
+{
+    at < entries.len() && entries[at].0 == location
+}
+
+// Whether a location goes there: it is above the entry before that place, and below the one behind it.
+fn goes_to(entries: &[(u32, u64)], location: u32, at: usize) -> bool
+    requires { IsRising entries.now }
+    ensures { result ≡ true → IsPlaceOf location entries.now (Err at) }
+{
+    if at > entries.len() {
+        return false;
+    }
+    if at > 0 && entries[at - 1].0 >= location {
+        return false;
+    }
+    if at < entries.len() && location >= entries[at].0 {
+        return false;
+    }
+    true
 }
 
 // The place of a location by the number of entries below it. All entries are compared, but no
