@@ -72,7 +72,7 @@ module _ {V : Type 0} where
         by : IsAnswered o s (request.Call call) u (told_of (Ok reply)) → ⊥
         by (inl is) = (let e : Answered a (answer.Replied reply) ≡ Refused a no.0 = is ∙ no.1 in cc)
         by (inr (inl is)) = (let e : Quiet ≡ Refused a no.0 = is.0 ∙ no.1 in cc)
-        by (inr (inr is)) = cc
+        by (inr (inr is)) = (let e = is.0 in cc)
 
     pub within_limit : CallsTo o s call u (Ok reply) → length calls < CALL_LIMIT
     within_limit C = by (ltb (length calls) CALL_LIMIT) refl

@@ -3,22 +3,30 @@
 -- It is what the actor made of itself in a world that events have reached and that is to it as its own world, and so in its own. No gate is
 -- taken or put back by it: where the actor is at rest in its transaction it holds none, before and after, and elsewhere it begins one, or
 -- stays as it was.
-use Rattle.std.proofs.Common.{◌≡◌, ℕ, List, [], inl, inr, refl, sym, ap, ◌∙◌, subst}
+use Rattle.std.proofs.Common.{◌≡◌, ℕ, ◌<◌, length, List, [], inl, inr, refl, sym, ap, ◌∙◌, subst}
 use Rattle.seq_model.specs.declared.event.Event.{Event}
 use Rattle.seq_model.specs.declared.event.Event.TheVariants.{Ask}
+use Rattle.seq_model.specs.declared.call.Call.{Call}
+use Rattle.seq_model.specs.declared.call.Reply.{Reply}
 use Rattle.seq_model.specs.declared.event.Request.{Request}
+use Rattle.seq_model.specs.declared.event.Request.TheVariants as request
+use Rattle.seq_model.specs.declared.limits.TheConstants.{CALL_LIMIT}
 use Rattle.collection_machine.specs.Boosted.{is_actor}
 use Rattle.collection_machine.specs.Content.{has}
 use Rattle.replay_log.specs.declared.base.Base.{Base}
-use Rattle.replay_log.specs.Seats.{World}
+use Rattle.replay_log.specs.Seats as worlds
+use Rattle.replay_log.specs.Seats.{Seat, World}
+use Rattle.replay_log.specs.WorldAnswers.{IsAdmitted, IsWithin}
 use Rattle.replay_log.specs.Worlds.{ask_at, happens, run}
 use Rattle.atomic_steps.proofs.OneStep.{one_step}
 use Rattle.atomic_steps.proofs.OwnEvents.{own_event}
 use Rattle.actor_words.specs.Requests.{HasNoReads}
+use Rattle.tx_actor.specs.Asks.{Admits}
 use Rattle.tx_actor.specs.Calls.{AsksAt, CanCall, StandsOwn}
 use Rattle.tx_actor.specs.Having.{ReadsStill}
 use Rattle.tx_actor.specs.Keeping.{IsRunning, KeepsIn}
-use Rattle.tx_actor.specs.Running.{seat_of, stage_of}
+use Rattle.tx_actor.specs.Running.{Runs, seat_at, seat_of, stage_of}
+use Rattle.tx_actor.specs.declared.actor.Stage.{Stage}
 use Rattle.tx_actor.specs.declared.actor.Stage.TheVariants as stage
 use Rattle.tx_actor.specs.declared.actor.Told.{Told}
 use Rattle.tx_actor.specs.declared.actor.TxActor.{TxActor}
@@ -59,6 +67,15 @@ module _ {V : Type 0} where
   pub ask_running : (t : TxTable V) (s : table.Seat V) (r q : TxActor V) → Ties t s r
       → ((r.stage ≡ stage.Open → HasNoReads r.words) → KeepsIn (laid_in t) r q) → IsRunning (laid_in t) q
   ask_running t s r q ties keeps = (keeps (λ at. no_reads t s r ties at)).running ties.running
+
+  -- at rest in its transaction its seat is what it shows
+  open_seat : (w : World V) (a : ℕ) (r : TxActor V) → Runs a r w → r.stage ≡ stage.Open → w.seats a ≡ record (seat_of r) { stage = worlds.Open }
+  open_seat w a r runs rest = runs.0 ∙ at_rest (w.seats a) r r.stage rest
+    where
+      at_rest : (x : Seat V) (q : TxActor V) (st : Stage V) → st ≡ stage.Open
+          → seat_at x (record q { stage = st }) ≡ record (seat_of q) { stage = worlds.Open }
+      at_rest x q stage.Open e = refl
+      at_rest x q st e = absurd (let z : ⊥ = cc in z)
 
   -- ---- the gates that it holds, by its own world
   own_has : (t : TxTable V) (s : table.Seat V) (r : TxActor V) → Ties t s r → (k : ℕ)
@@ -142,6 +159,24 @@ module _ {V : Type 0} where
       (ask_prepared o w r q bs apart gates own.bases own.prepared)
 
   -- where memory was refused
+  refused_within : (t : TxTable V) (s : table.Seat V) (r : TxActor V) (x : Request V) → Ties t s r → r.stage ≡ stage.Open
+      → Admits (laid_in t) r x → IsWithin (acts (opening_of t) s) (seated.actor s) x
+  refused_within t s r (request.Call call) ties rest admits =
+      let a = seated.actor s in
+      let w = acts (opening_of t) s in
+      let calls : (w.seats a).calls ≡ r.calls.items = ap (λ (z : Seat V). z.calls) (open_seat w a r ties.runs rest) in (
+        admits.there a w ties.reached.shape ties.runs,
+        subst (λ (cs : List (Call V × Reply V)). length cs < CALL_LIMIT) (sym calls) admits.few,
+      )
+  refused_within t s r x ties rest admits = tt
+
+  pub refused_admits : (t : TxTable V) (s : table.Seat V) (r : TxActor V) (x : Request V) → Ties t s r → r.stage ≡ stage.Open
+      → Admits (laid_in t) r x → IsAdmitted (acts (opening_of t) s) (seated.actor s) x
+  refused_admits t s r x ties rest admits = record {
+    stands = ap (λ (z : Seat V). z.stage) (open_seat (acts (opening_of t) s) (seated.actor s) r ties.runs rest);
+    within = refused_within t s r x ties rest admits;
+  }
+
   pub refused_tied : (t : TxTable V) (s : table.Seat V) (r q : TxActor V) → Ties t s r → StandsOwn r q → IsRunning (laid_in t) q
       → Ties t s q
   refused_tied t s r q ties stands running = stays_tied t s r q ties stands.0 running

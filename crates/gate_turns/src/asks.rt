@@ -2,7 +2,8 @@
 ghost use Rattle.std.specs.Prelude.{◌≡◌, IfOk, OnErr, OnOk};
 ghost use Rattle.seq_model.specs.declared.event.Event.TheVariants.{Ask};
 ghost use Rattle.seq_model.specs.declared.event.Request.{Request as Asked};
-ghost use Rattle.tx_table.specs.Seated.{opening_of};
+ghost use Rattle.replay_log.specs.WorldAnswers.{IsAdmitted};
+ghost use Rattle.tx_table.specs.Seated.{actor as actor_of, acts, opening_of};
 ghost use Rattle.tx_turns.specs.Asked.{Answers, HasAsked};
 ghost use Rattle.tx_turns.specs.Ties.{Ties};
 ghost use Rattle.gate_turns.specs.Own.{HasOwn};
@@ -24,7 +25,8 @@ use tx_table::{Seat, TxTable};
 /// on a collection is `NoSuch` where there is no such collection, or it is of another kind, and for a change in a declared reader, then
 /// `TooLong` past the limit of calls; what the transaction has of the collection answers it, or a location is read first, or the
 /// transaction is given up, as its copy is stale; and where it has not what the call touches, the collection's gate is tried next. Where
-/// memory is refused nothing is asked, and the actor shows what it did.
+/// memory is refused nothing is asked, and the actor shows what it did; that comes only where neither the state of the transaction, nor
+/// `NoSuch`, nor the limit of calls refuses the request.
 #[inline(always)]
 pub fn ask<V: Value>(
     alloc: Global,
@@ -38,6 +40,7 @@ pub fn ask<V: Value>(
     requires own { HasOwn table.now seat.old actor.old bases.now }
     ensures asked { OnOk result (HasAsked seat.old request seat.new) }
     ensures answers { IfOk result (Answers (opening_of table.now) seat.old request) }
+    ensures admits { OnErr result (IsAdmitted (acts (opening_of table.now) seat.old) (actor_of seat.old) request) }
     ensures seat { OnErr result (seat.new ≡ seat.old) }
     ensures ties { Ties table.now seat.new actor.new }
     ensures own { HasOwn table.now seat.new actor.new bases.now }

@@ -38,7 +38,7 @@ module _ {V : Type 0} where
 
   -- The request is refused neither as NotIdle, NoTransaction or NoSuch nor for the limit of calls.
   pub record IsAdmitted (w : World V) (a : ℕ) (q : Request V) : Type 0 where
-    pub open : (w.seats a).stage ≡ Open
+    pub stands : (w.seats a).stage ≡ Open
     pub within : IsWithin w a q
 
   abbrev pub IsRefusal : Notice V → Type 0

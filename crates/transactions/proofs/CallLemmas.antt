@@ -19,6 +19,7 @@ use Rattle.replay_log.proofs.EventLemmas.{opened_linked, run_linked}
 use Rattle.replay_log.specs.Seats as worlds
 use Rattle.replay_log.specs.Seats.{World, Seat, Stage}
 use Rattle.replay_log.specs.Worlds.{happens, run}
+use Rattle.replay_log.specs.WorldAnswers.{IsAdmitted}
 use Rattle.replay_log.specs.WorldRefusals.{is_ending}
 use Rattle.atomic_steps.proofs.OwnEvents.{own_event}
 use Rattle.tx_actor.specs.Running.{notice_of}
@@ -195,10 +196,10 @@ module _ {V : Type 0} where
 
   -- ---- where memory was refused
   pub call_starved : (o : World V) (s u : table.Seat V) (call : Call V) → KeepsReceipts s u → standing o u ≡ Rests
-      → CallsTo o s call u (Err OutOfMemory)
-  call_starved o s u call kept rests = record {
+      → IsAdmitted (acts o s) (seated.actor s) (request.Call call) → CallsTo o s call u (Err OutOfMemory)
+  call_starved o s u call kept rests admitted = record {
     keeps = kept;
     leaves = λ calls on. inr (rests, inr refl);
-    answered = inr (inr refl);
+    answered = inr (inr (refl, admitted));
     began = λ still. absurd (stands_busy (standing o u) still.0 still.1 rests);
   }

@@ -10,6 +10,7 @@ use Rattle.seq_model.specs.declared.record.Record.{Record}
 use Rattle.seq_model.specs.declared.refusal.Refusal.{Refusal}
 use Rattle.seq_model.specs.declared.refusal.Refusal.TheVariants.{OutOfMemory}
 use Rattle.replay_log.specs.Seats.{World, actor_of}
+use Rattle.replay_log.specs.WorldAnswers.{IsAdmitted}
 use Rattle.tx_actor.specs.declared.actor.Told.{Told}
 use Rattle.tx_actor.specs.declared.actor.Told.TheVariants as told
 use Rattle.tx_table.specs.declared.seat.Seat.{Seat}
@@ -100,9 +101,13 @@ module _ {V : Type 0} where
   CallLeaves o s calls call u (Ok reply) = standing o u ≡ Stands (calls ++ (call, reply) ∷ [])
   CallLeaves o s calls call u (Err cause) = ((standing o u ≡ Stands calls) × IsMistaken cause) ⊎ IsEnded o s u cause
 
+  -- memory is wanting, and there the request is admitted, in the own world of the seat
+  abbrev pub IsUnserved : World V → Seat V → Request V → Told V → Type 0
+  IsUnserved o s q n = (n ≡ told.Refused OutOfMemory) × IsAdmitted (acts o s) (actor s) q
+
   -- the definitions answer it so at once, in the own world of the seat, or one of its turns does; or memory is wanting
   abbrev pub IsAnswered : World V → Seat V → Request V → Seat V → Told V → Type 0
-  IsAnswered o s q u n = Answers o s q n ⊎ ((Answers o s q told.Quiet × HasTold o s u n) ⊎ (n ≡ told.Refused OutOfMemory))
+  IsAnswered o s q u n = Answers o s q n ⊎ ((Answers o s q told.Quiet × HasTold o s u n) ⊎ IsUnserved o s q n)
 
   -- a call is under way
   abbrev pub IsCalling : World V → Seat V → Type 0

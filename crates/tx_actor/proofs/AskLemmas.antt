@@ -1,6 +1,6 @@
 -- What a request makes of an actor. The definitions test what is there, the limit of calls and the room, as the code does, one after the
 -- other; what is left is one request of the word actor, and a call more or another stage.
-use Rattle.std.proofs.Common.{◌≡◌, ◌≢◌, ℕ, cond, ltb, Bool, true, false, not, ◌&&◌, ◌||◌, Option, Some, None, List, [], ◌∷◌, ◌++◌, length}
+use Rattle.std.proofs.Common.{◌≡◌, ◌≢◌, ℕ, ◌<◌, cond, ltb, Bool, true, false, not, ◌&&◌, ◌||◌, Option, Some, None, List, [], ◌∷◌, ◌++◌, length}
 use Rattle.std.proofs.Common.{refl, sym, ap, subst, ◌∙◌, arith}
 use Rattle.tx_sets.specs.Entries.{Entries, locations}
 use Rattle.word_machine.specs.Actor as machine
@@ -28,7 +28,7 @@ use Rattle.tx_actor.specs.declared.actor.Stage.TheVariants as stage
 use Rattle.tx_actor.specs.declared.actor.Told.{Told}
 use Rattle.tx_actor.specs.declared.actor.Told.TheVariants as told
 use Rattle.tx_actor.specs.declared.actor.TxActor.{TxActor}
-use Rattle.tx_actor.specs.Asks.{Asks, MayStore, when_found}
+use Rattle.tx_actor.specs.Asks.{AdmitsCall, Asks, MayStore, when_found}
 use Rattle.actor_words.specs.Requests.{may_read, number_told}
 use Rattle.actor_words.specs.Blocks.{BlocksView, homes_in}
 use Rattle.tx_actor.specs.Running.{KnowsHomes, Runs, is_recorded, notice_of, seat_at, seat_in, seat_of}
@@ -134,6 +134,19 @@ module _ {V : Type 0} where
       let all = allowed w a x (ltb l w.words && not (actor_of w a).declared) (fits (actor_of w a).writes (l ∷ []))
       (replied now a x (record { target = l; op = Write val }) reply.Done) may few fit in
       subst (λ (z : After V). Runs a u z.0 × (notice_of a t ≡ z.1)) (sym all) (h a now is)
+
+  -- ---- a call that finds what it asks of
+  pub admits_read : (v : BlocksView) (r : TxActor V) (l : ℕ) → ltb l v.words ≡ true → length r.calls.items < CALL_LIMIT
+      → AdmitsCall v r (record { target = l; op = Read })
+  admits_read v r l known few = record { there = λ a w laid s. ap (ltb l) laid.0 ∙ known; few = few }
+
+  pub admits_write : (v : BlocksView) (r : TxActor V) (l val : ℕ) → ltb l v.words ≡ true → r.words.declared ≡ false
+      → length r.calls.items < CALL_LIMIT → AdmitsCall v r (record { target = l; op = Write val })
+  admits_write v r l val known own few = record {
+    there = λ a w laid s. may_write w a l v.words false true laid.0 (ap (λ (q : machine.Actor). q.declared) s.1 ∙ own)
+        (ap (λ (b : Bool). b && not false) known);
+    few = few;
+  }
 
   -- ---- a commit
   commits_none : (w : World V) (a : ℕ) (x : Seat V) (es : Entries) → es ≡ []

@@ -1,23 +1,27 @@
 -- A request, by where its actor's request stands. A request on words, a commit or an abort leaves the actor's shadow and its copies;
 -- what is refused leaves the world; a call on a collection is as its own method says.
-use Rattle.std.proofs.Common.{◌≡◌, ℕ, cond, refl, sym, ap, subst, ◌∙◌}
+use Rattle.std.proofs.Common.{◌≡◌, ℕ, ◌<◌, ◌&&◌, true, length, cond, refl, sym, ap, subst, ◌∙◌}
 use Rattle.std.specs.Prelude.{OnErr, Result, Ok, Err}
+use Rattle.seq_model.specs.declared.call.Call.{Call}
 use Rattle.seq_model.specs.declared.call.Op.{Op}
 use Rattle.seq_model.specs.declared.call.Op.TheVariants.{Read, Write}
 use Rattle.seq_model.specs.declared.event.Request.{Request}
 use Rattle.seq_model.specs.declared.event.Request.TheVariants as request
 use Rattle.seq_model.specs.declared.event.Notice.TheVariants.{Refused}
+use Rattle.seq_model.specs.declared.limits.TheConstants.{CALL_LIMIT}
 use Rattle.seq_model.specs.declared.refusal.Refusal.TheVariants as refusal
+use Rattle.replay_log.specs.Contents.{block_of}
+use Rattle.replay_log.specs.WorldAnswers.{is_there}
 use Rattle.replay_log.specs.Worlds as worlds
-use Rattle.replay_log.specs.Worlds.{World, Seat, After, ask_at, ask_idle, ask_op, ask_open}
+use Rattle.replay_log.specs.Worlds.{World, Seat, After, ask_at, ask_idle, ask_op, ask_open, is_known, may_ask}
 use Rattle.tx_actor.specs.declared.actor.Stage.{Stage}
 use Rattle.tx_actor.specs.declared.actor.Stage.TheVariants as stage
 use Rattle.tx_actor.specs.declared.actor.Told.{Told}
 use Rattle.tx_actor.specs.declared.actor.Told.TheVariants as told
 use Rattle.tx_actor.specs.declared.actor.TxActor.{TxActor}
-use Rattle.tx_actor.specs.Asks.{Asks, Stands}
+use Rattle.tx_actor.specs.Asks.{AdmitsCall, Asks, Stands}
 use Rattle.actor_words.specs.Blocks.{BlocksView}
-use Rattle.tx_actor.specs.Calls.{AsksAt, AsksOwn, StandsOwn, ask_call}
+use Rattle.tx_actor.specs.Calls.{AsksAt, AsksOwn, StandsOwn, ask_call, is_allowed}
 use Rattle.tx_actor.specs.Owns.{OwnsCopies}
 use Rattle.tx_actor.specs.Prepares.{IsAlike}
 use Rattle.tx_actor.specs.Running.{Does, KnowsHomes, Runs, is_recorded, notice_of, seat_of, stage_in, stage_of}
@@ -71,6 +75,20 @@ module _ {V : Type 0} where
   call_as v r u t k op p q asks a w laid s own call =
       subst (λ (z : After V). Runs a u z.0 × (notice_of a t ≡ z.1) × OwnsCopies u z.0 a) (sym (op_else w a (seat_of r) k op p q))
       (asks a w laid s own call)
+
+  there_else : (w : World V) (a k : ℕ) (op : Op V) → (op ≡ Read → ⊥) → ((v : ℕ) → op ≡ Write v → ⊥)
+      → is_there w a k op ≡ (is_known (block_of w.blocks k) op && may_ask (worlds.actor_of w a) op)
+  there_else w a k Read p q = absurd (p refl)
+  there_else w a k (Write v) p q = absurd (q v refl)
+  there_else w a k op p q = refl
+
+  pub admits_call : (v : BlocksView) (r : TxActor V) (call : Call V) → (call.op ≡ Read → ⊥) → ((n : ℕ) → call.op ≡ Write n → ⊥)
+      → is_allowed v r.words call.target call.op ≡ true → length r.calls.items < CALL_LIMIT → AdmitsCall v r call
+  admits_call v r call p q allowed few = record {
+    there = λ a w laid s. there_else w a call.target call.op p q
+        ∙ ((λ i. is_known (block_of (laid.1 i) call.target) call.op && may_ask (s.1 i) call.op) ∙ allowed);
+    few = few;
+  }
 
   pub idle_else : (w : World V) (a : ℕ) (x : Seat V) (q : Request V) → (q ≡ request.Begin → ⊥) → (q ≡ request.BeginRead → ⊥)
       → ask_idle w a x q ≡ (w, Refused a refusal.NoTransaction)

@@ -1,12 +1,17 @@
 -- What a request makes of an actor, where the locations of its world lie as v says.
-use Rattle.std.specs.Prelude.{◌≡◌, ℕ, true, [], ◌∷◌, Option, Some, None}
+use Rattle.std.specs.Prelude.{◌≡◌, ℕ, ◌<◌, true, [], ◌∷◌, length, Option, Some, None}
 use Rattle.tx_sets.specs.Entries.{locations}
 use Rattle.word_machine.specs.Requests.{AskStore}
+use Rattle.seq_model.specs.declared.call.Call.{Call}
 use Rattle.seq_model.specs.declared.call.Op.TheVariants.{Read}
 use Rattle.seq_model.specs.declared.call.Reply.TheVariants as reply
 use Rattle.seq_model.specs.declared.event.Notice.TheVariants.{Quiet}
+use Rattle.seq_model.specs.declared.event.Request.{Request}
+use Rattle.seq_model.specs.declared.event.Request.TheVariants as request
+use Rattle.seq_model.specs.declared.limits.TheConstants.{CALL_LIMIT}
 use Rattle.collection_machine.specs.Boosted.{every, is_held}
 use Rattle.replay_log.specs.Contents.{content}
+use Rattle.replay_log.specs.WorldAnswers.{is_there}
 use Rattle.replay_log.specs.Worlds as worlds
 use Rattle.replay_log.specs.Worlds.{World, Seat, After, acted, actor_of, asks, at_stage, replied, seated}
 use Rattle.actor_words.specs.Blocks.{IsLaid, BlocksView}
@@ -18,6 +23,16 @@ module _ {V : Type 0} where
   -- In every world that lies so and in which r is an actor, it is u after f, which tells t.
   abbrev pub Asks : BlocksView → TxActor V → TxActor V → Told V → (ℕ → World V → After V) → Type 0
   Asks v r u t f = (a : ℕ) (w : World V) → IsLaid v w → Runs a r w → Runs a u (f a w).0 × (notice_of a t ≡ (f a w).1)
+
+  -- In every world that lies so and in which r is an actor, a call finds what it asks of; and r is below the limit of calls.
+  pub record AdmitsCall (v : BlocksView) (r : TxActor V) (call : Call V) : Type 0 where
+    pub there : (a : ℕ) (w : World V) → IsLaid v w → Runs a r w → is_there w a call.target call.op ≡ true
+    pub few : length r.calls.items < CALL_LIMIT
+
+  -- no refusal is due that the request would have before any memory is taken
+  abbrev pub Admits : BlocksView → TxActor V → Request V → Type 0
+  Admits v r (request.Call call) = AdmitsCall v r call
+  Admits v r q = Unit {0}
 
   -- u is an actor wherever r is
   abbrev pub Stands : TxActor V → TxActor V → Type 0

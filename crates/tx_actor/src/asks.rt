@@ -5,7 +5,7 @@ ghost use Rattle.seq_model.specs.declared.event.Notice.TheVariants.{Quiet};
 ghost use Rattle.seq_model.specs.declared.call.Op.TheVariants as op;
 ghost use Rattle.replay_log.specs.Worlds as worlds;
 ghost use Rattle.replay_log.specs.Worlds.{ask_op, commits};
-ghost use Rattle.tx_actor.specs.Asks.{Asks, MayStore, Stands};
+ghost use Rattle.tx_actor.specs.Asks.{AdmitsCall, Asks, MayStore, Stands};
 ghost use Rattle.actor_words.specs.Blocks.{BlocksView};
 ghost use Rattle.actor_words.specs.Requests.{HasNoReads};
 ghost use Rattle.tx_actor.specs.Keeping.{KeepsIn};
@@ -28,6 +28,7 @@ impl<V: Drop> TxActor<V> {
     pub fn asks_to_read(&mut self, blocks: &Blocks, word: u32) -> Result<Told<V>, Memory>
         ensures ok { IfOk result (λ told. Asks blocks.now self.old self.new told (λ a w. ask_op w a (seat_of self.old) word op.Read)) }
         ensures err { OnErr result (Stands self.old self.new) }
+        ensures admits { OnErr result (AdmitsCall blocks.now self.old (record { target = word; op = op.Read })) }
         ensures keeps { HasNoReads self.old.words → is_loading (stage_of self.old.stage) ≡ false → KeepsIn blocks.now self.old self.new }
         ensures copies { self.new.copies ≡ self.old.copies }
     {
@@ -61,6 +62,7 @@ impl<V: Drop> TxActor<V> {
     ) -> Result<Told<V>, Memory>
         ensures ok { IfOk result (λ told. Asks blocks.now self.old self.new told (λ a w. ask_op w a (seat_of self.old) word (op.Write value))) }
         ensures err { OnErr result (Stands self.old self.new) }
+        ensures admits { OnErr result (AdmitsCall blocks.now self.old (record { target = word; op = op.Write value })) }
         ensures keeps { is_loading (stage_of self.old.stage) ≡ false → KeepsIn blocks.now self.old self.new }
         ensures copies { self.new.copies ≡ self.old.copies }
     {

@@ -1,6 +1,7 @@
 //! What an actor is asked, whatever it is: where its request stands decides what may be asked.
 ghost use Rattle.std.specs.Prelude.{◌≡◌, ◌≢◌, ◌⊎◌, IfOk, OnErr};
 ghost use Rattle.replay_log.specs.Worlds.{ask_at, ask_idle, ask_op, ask_open};
+ghost use Rattle.tx_actor.specs.Asks.{Admits, AdmitsCall};
 ghost use Rattle.tx_actor.specs.Calls.{AsksAt, AsksOwn, CanCall, StandsOwn};
 ghost use Rattle.actor_words.specs.Blocks.{BlocksView};
 ghost use Rattle.actor_words.specs.Requests.{HasNoReads};
@@ -33,6 +34,7 @@ impl<V: Value> TxActor<V> {
         requires { CanCall blocks.now self.old }
         ensures ok { IfOk result (λ told. AsksOwn blocks.now self.old self.new told (λ a w. ask_op w a (seat_of self.old) call.target call.op)) }
         ensures err { OnErr result (StandsOwn self.old self.new) }
+        ensures admits { OnErr result (AdmitsCall blocks.now self.old call) }
         ensures keeps { HasNoReads self.old.words → KeepsIn blocks.now self.old self.new }
         ensures still { ReadsStill self.old.copies.items self.new.copies.items }
     {
@@ -54,6 +56,7 @@ impl<V: Value> TxActor<V> {
         requires { CanCall blocks.now self.old }
         ensures ok { IfOk result (λ told. AsksOwn blocks.now self.old self.new told (λ a w. ask_open w a (seat_of self.old) request)) }
         ensures err { OnErr result (StandsOwn self.old self.new) }
+        ensures admits { OnErr result (Admits blocks.now self.old request) }
         ensures keeps { HasNoReads self.old.words → KeepsIn blocks.now self.old self.new }
         ensures still { ReadsStill self.old.copies.items self.new.copies.items }
     {
@@ -67,7 +70,8 @@ impl<V: Value> TxActor<V> {
     }
 
     /// A request. `NotIdle` where another is under way, or a begin within a transaction, and `NoTransaction` for a call or an end without
-    /// one; else as the request's own method says. A want of memory leaves the actor as it was. Where it is not at rest in its transaction
+    /// one; else as the request's own method says. A want of memory leaves the actor as it was, and comes only where none of these, nor
+    /// `NoSuch`, nor the limit of calls refuses the request. Where it is not at rest in its transaction
     /// it begins one, or stays as it is.
     #[inline(always)]
     pub fn asks(
@@ -80,6 +84,8 @@ impl<V: Value> TxActor<V> {
         ensures ok { IfOk result (λ told. AsksAt blocks.now self.old self.new told
             (λ a w. ask_at w a (seat_of self.old) (stage_of self.old.stage) request)) }
         ensures err { OnErr result (StandsOwn self.old self.new) }
+        ensures admits { OnErr result (Admits blocks.now self.old request) }
+        ensures open { OnErr result (self.old.stage ≡ Stage.Open) }
         ensures keeps { (self.old.stage ≡ Stage.Open → HasNoReads self.old.words) → KeepsIn blocks.now self.old self.new }
         ensures still { ReadsStill self.old.copies.items self.new.copies.items }
         ensures apart { self.old.stage ≢ Stage.Open → (self.new.stage ≡ Stage.Beginning) ⊎ (self.new ≡ self.old) }

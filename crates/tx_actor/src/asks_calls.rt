@@ -123,6 +123,8 @@ impl<V: Value> TxActor<V> {
         requires { CanCall blocks.now self.old }
         ensures ok { IfOk result (λ told. AsksOwn blocks.now self.old self.new told (λ a w. ask_call w a (seat_of self.old) collection op)) }
         ensures err { OnErr result (IsAlike self.old self.new) }
+        ensures allowed { OnErr result (is_allowed blocks.now self.old.words collection op ≡ true) }
+        ensures few { OnErr result (length self.old.calls.items < CALL_LIMIT) }
         ensures keeps { HasNoReads self.old.words → KeepsIn blocks.now self.old self.new }
         ensures still { ReadsStill self.old.copies.items self.new.copies.items }
     {

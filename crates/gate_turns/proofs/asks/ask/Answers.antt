@@ -3,13 +3,15 @@ use Rattle.seq_model.specs.declared.event.Request.{Request}
 use Rattle.replay_log.specs.Worlds.{ask_at}
 use Rattle.actor_words.specs.Blocks.{BlocksView}
 use Rattle.actor_words.specs.Requests.{HasNoReads}
+use Rattle.tx_actor.specs.Asks.{Admits}
 use Rattle.tx_actor.specs.Calls.{AsksAt, CanCall}
 use Rattle.tx_actor.specs.Keeping.{KeepsIn}
 use Rattle.tx_actor.specs.Running.{seat_of, stage_of}
 use Rattle.tx_actor.specs.declared.actor.Stage.TheVariants as stage
 use Rattle.tx_turns.specs.Asked.{HasTaken}
 use Rattle.tx_turns.proofs.TurnLemmas.{laid_as}
-use Rattle.gate_turns.proofs.AskLemmas.{ask_can, ask_own, ask_running, ask_tied, refused_own, refused_tied, same_request}
+use Rattle.gate_turns.proofs.AskLemmas.{ask_can, ask_own, ask_running, ask_tied, refused_admits, refused_own, refused_tied}
+use Rattle.gate_turns.proofs.AskLemmas.{same_request}
 use Rattle.gate_turns.proofs.asks.ask.Goals as goal
 
 pub request_of-requires : goal.request_of-requires
@@ -103,3 +105,12 @@ returns-in_err-told-clause-own g c =
     (subst (λ (v : BlocksView). (r.stage ≡ stage.Open → HasNoReads r.words) → KeepsIn v r q) laid c.asks.ensures.keeps) in
     refused_own c.copies_by_stage.ensures.all t s r q bs c.requires.ties c.requires.own c.in_err-told.ensures.err c.asks.ensures.still
     c.asks.ensures.apart running
+
+pub returns-in_err-told-clause-admits : goal.returns-in_err-told-clause-admits
+returns-in_err-told-clause-admits g c =
+    let t = c.args.table.now in
+    let r = c.args.actor.now in
+    let laid = laid_as t c.blocks-2.result.now c.blocks-2.ensures.words c.blocks-2.ensures.blocks in
+    refused_admits t c.args.seat.now r c.args.request c.requires.ties c.in_err-told.ensures.open
+    (subst (λ (z : BlocksView × Request g.row.V.Denot). Admits z.0 r z.1)
+    (λ i. (laid i, same_request c.args.request c.request_of.result c.request_of.ensures i)) c.in_err-told.ensures.admits)

@@ -1,10 +1,12 @@
 use Rattle.std.proofs.Common.{sym, subst, ap}
+use Rattle.seq_model.specs.declared.call.Call.{Call}
 use Rattle.seq_model.specs.declared.call.Op.{Op}
 use Rattle.seq_model.specs.declared.call.Op.TheVariants.{Read, Write}
 use Rattle.replay_log.specs.Worlds.{ask_op}
+use Rattle.tx_actor.specs.Asks.{AdmitsCall}
 use Rattle.tx_actor.specs.Calls.{AsksOwn}
 use Rattle.tx_actor.specs.Running.{seat_of}
-use Rattle.tx_actor.proofs.AskedLemmas.{alike_stands, call_as, on_err, own_still}
+use Rattle.tx_actor.proofs.AskedLemmas.{admits_call, alike_stands, call_as, on_err, own_still}
 use Rattle.tx_actor.proofs.OwnAsksLemmas.{read_same, write_same}
 use Rattle.actor_words.specs.Dispatch.{is_loading}
 use Rattle.tx_actor.specs.Running.{stage_of}
@@ -91,3 +93,22 @@ returns-in_err-asks_to_call-in_default-clause-keeps g c noreads = c.asks_to_call
 
 pub returns-in_err-asks_to_call-in_default-clause-still : goal.returns-in_err-asks_to_call-in_default-clause-still
 returns-in_err-asks_to_call-in_default-clause-still g c = c.asks_to_call.ensures.still
+
+-- what is admitted
+pub returns-in_err-asks_to_read-in-Read-clause-admits : goal.returns-in_err-asks_to_read-in-Read-clause-admits
+returns-in_err-asks_to_read-in-Read-clause-admits g c =
+    on_err c.from_residual-in_err-asks_to_read-in-Read.result
+    (subst (λ (op : Op g.row.V.Denot). let call : Call g.row.V.Denot = record { target = c.args.call.target; op = op } in
+    AdmitsCall c.args.blocks.now c.args.self.now call) (sym c.in-Read.is) c.in_err-asks_to_read-in-Read.ensures.admits)
+
+pub returns-in_err-asks_to_write-in-Write-clause-admits : goal.returns-in_err-asks_to_write-in-Write-clause-admits
+returns-in_err-asks_to_write-in-Write-clause-admits g c =
+    on_err c.from_residual-in_err-asks_to_write-in-Write.result
+    (subst (λ (op : Op g.row.V.Denot). let call : Call g.row.V.Denot = record { target = c.args.call.target; op = op } in
+    AdmitsCall c.args.blocks.now c.args.self.now call) (sym c.in-Write.is) c.in_err-asks_to_write-in-Write.ensures.admits)
+
+pub returns-in_err-asks_to_call-in_default-clause-admits : goal.returns-in_err-asks_to_call-in_default-clause-admits
+returns-in_err-asks_to_call-in_default-clause-admits g c =
+    on_err c.from_residual-in_err-asks_to_call-in_default.result
+    (admits_call c.args.blocks.now c.args.self.now c.args.call c.in_default.not-Read c.in_default.not-Write
+    c.in_err-asks_to_call-in_default.ensures.allowed c.in_err-asks_to_call-in_default.ensures.few)

@@ -12,7 +12,7 @@ use Rattle.actor_words.proofs.BlocksLemmas.{end_behind, is_below}
 use Rattle.tx_actor.proofs.KeepingLemmas.{keeps_asked, keeps_through, room_as}
 use Rattle.std.specs.Vec.{vec_capacity, vec_len}
 use Rattle.replay_log.specs.Contents.{end_of}
-use Rattle.tx_actor.proofs.AskLemmas.{reads_as}
+use Rattle.tx_actor.proofs.AskLemmas.{admits_read, reads_as}
 use Rattle.tx_actor.proofs.actor.TxActor.asks_to_read.Goals as goal
 
 pub returns-in-Some-clause-ok : goal.returns-in-Some-clause-ok
@@ -79,3 +79,18 @@ returns-in_err-value-clause-keeps g c none quiet =
     let room : vec_len c.reserve_call.new.calls < vec_capacity c.reserve_call.new.calls = omega (arith, free) in
     keeps_asked v r u (c.read_word.ensures.keeps (end_of v.words v.blocks) below none) (room_as r u r.stage quiet refl (λ h. room)) (λ h. h)
     quiet
+
+-- what is admitted
+pub returns-in_err-reserve_call-clause-admits : goal.returns-in_err-reserve_call-clause-admits
+returns-in_err-reserve_call-clause-admits g c =
+    let v = c.args.blocks.now in
+    admits_read v c.args.self.now c.args.word
+    (is_below c.args.word v.words (omega (arith, c.words.ensures, c.if-word-words.false)))
+    (omega (arith, c.len.ensures, c.if-len-ge-CALL_LIMIT.false))
+
+pub returns-in_err-value-clause-admits : goal.returns-in_err-value-clause-admits
+returns-in_err-value-clause-admits g c =
+    let v = c.args.blocks.now in
+    admits_read v c.args.self.now c.args.word
+    (is_below c.args.word v.words (omega (arith, c.words.ensures, c.if-word-words.false)))
+    (omega (arith, c.len.ensures, c.if-len-ge-CALL_LIMIT.false))

@@ -14,7 +14,7 @@ use Rattle.actor_words.proofs.BlocksLemmas.{end_behind, is_below}
 use Rattle.tx_actor.proofs.KeepingLemmas.{keeps_asked, room_as}
 use Rattle.std.specs.Vec.{vec_capacity, vec_len}
 use Rattle.replay_log.specs.Contents.{end_of}
-use Rattle.tx_actor.proofs.AskLemmas.{more_calls, writes_as}
+use Rattle.tx_actor.proofs.AskLemmas.{admits_write, more_calls, writes_as}
 use Rattle.tx_actor.proofs.actor.TxActor.asks_to_write.Goals as goal
 
 pub returns-clause-ok : goal.returns-clause-ok
@@ -53,3 +53,18 @@ returns-in_err-write_word-clause-keeps g c quiet =
     let room : vec_len c.reserve_call.new.calls < vec_capacity c.reserve_call.new.calls = omega (arith, free) in
     keeps_asked v r u (c.write_word.ensures.keeps (end_of v.words v.blocks) below) (room_as r u r.stage quiet refl (λ h. room))
     (λ h. h) quiet
+
+-- what is admitted
+pub returns-in_err-reserve_call-clause-admits : goal.returns-in_err-reserve_call-clause-admits
+returns-in_err-reserve_call-clause-admits g c =
+    let v = c.args.blocks.now in
+    admits_write v c.args.self.now c.args.word c.args.value
+    (is_below c.args.word v.words (omega (arith, c.words.ensures, c.if-word-words.false))) c.if-self.false
+    (omega (arith, c.len.ensures, c.if-len-ge-CALL_LIMIT.false))
+
+pub returns-in_err-write_word-clause-admits : goal.returns-in_err-write_word-clause-admits
+returns-in_err-write_word-clause-admits g c =
+    let v = c.args.blocks.now in
+    admits_write v c.args.self.now c.args.word c.args.value
+    (is_below c.args.word v.words (omega (arith, c.words.ensures, c.if-word-words.false))) c.if-self.false
+    (omega (arith, c.len.ensures, c.if-len-ge-CALL_LIMIT.false))
