@@ -2,7 +2,7 @@
 ghost use Rattle.generated_sessions.specs.Options.{AreWithin};
 ghost use Rattle.vac_model.specs.Balanced.{IsBalanced};
 
-use crate::sessions::{SEED, lists_of, memory, no_such_sessions};
+use crate::sessions::{lists_of, memory, no_such_sessions};
 use generated_sessions::{Options, opening};
 use std::io;
 use std::rt::Runtime;
@@ -28,9 +28,10 @@ impl Balanced {
 pub fn time<R: Runtime + AllocGlobal + Threads + Wait + Sync>(
     rt: &R,
     options: &Options,
+    seed: u64,
 ) -> io::Result<f64> {
     if options.are_within() {
-        drawn(rt, options)
+        drawn(rt, options, seed)
     } else {
         Err(no_such_sessions())
     }
@@ -39,21 +40,23 @@ pub fn time<R: Runtime + AllocGlobal + Threads + Wait + Sync>(
 fn drawn<R: Runtime + AllocGlobal + Threads + Wait + Sync>(
     rt: &R,
     options: &Options,
+    seed: u64,
 ) -> io::Result<f64>
     requires { AreWithin options.now }
 {
-    let lists = lists_of(rt.alloc(), options).map_err(memory)?;
-    opened(rt, options, lists.as_slice())
+    let lists = lists_of(rt.alloc(), seed, options).map_err(memory)?;
+    opened(rt, options, seed, lists.as_slice())
 }
 
 fn opened<R: Runtime + AllocGlobal + Threads + Wait + Sync>(
     rt: &R,
     options: &Options,
+    seed: u64,
     lists: &[Vec<Action>],
 ) -> io::Result<f64>
     requires { AreWithin options.now }
 {
-    let tables = opening(rt.alloc(), SEED, options).map_err(memory)?;
+    let tables = opening(rt.alloc(), seed, options).map_err(memory)?;
     act_all(rt, &Mutex::new(Balanced { tables }), lists)
 }
 

@@ -5,11 +5,12 @@
 //!
 //! - `engine KIND WRITES THREADS TRANSACTIONS`: of transactions on words (KIND 0), a map (1), a map whose number of keys is read (2), a
 //!   priority queue (3) or a queue (4), of whose calls WRITES of ten change something;
-//! - `sessions RELATIONS CLIENTS SESSIONS`: of drawn sessions at seats of a shared table;
-//! - `lock RELATIONS CLIENTS SESSIONS`: of the same sessions under one lock.
+//! - `sessions MIX RELATIONS CLIENTS SESSIONS`: of drawn sessions at seats of a shared table, with low contention (MIX 0), with high
+//!   contention (1), or long ones (2);
+//! - `lock MIX RELATIONS CLIENTS SESSIONS`: of the same sessions under one lock.
 #![tactic(auto)]
 
-use sessions::options;
+use sessions::{Mix, options};
 use std::alloc::Global;
 use std::rt::Runtime;
 use std::sync::Wait;
@@ -29,6 +30,7 @@ mod seats;
 mod served;
 mod sessions;
 mod sets;
+mod tries;
 mod work;
 mod worlds;
 
@@ -89,13 +91,23 @@ fn measure_one<R: Runtime + AllocGlobal + Threads + Wait + Sync>(
         ("engine", [kind, writes, threads, transactions]) => {
             engine::report_seats(rt, work_of(*kind, *writes), *threads, *transactions)
         }
-        ("sessions", [relations, clients, sessions]) => {
-            rows::report_table(rt, &options(*relations, *clients, *sessions))
+        ("sessions", [mix, relations, clients, sessions]) => {
+            let mix = mix_of(*mix);
+            rows::report_table(rt, mix, &options(mix, *relations, *clients, *sessions), 1)
         }
-        ("lock", [relations, clients, sessions]) => {
-            rows::report_lock(rt, &options(*relations, *clients, *sessions))
+        ("lock", [mix, relations, clients, sessions]) => {
+            let mix = mix_of(*mix);
+            rows::report_lock(rt, mix, &options(mix, *relations, *clients, *sessions), 1)
         }
         _ => Err(io::Error::other("no benchmark has this name and these numbers")),
+    }
+}
+
+fn mix_of(mix: u32) -> Mix {
+    match mix {
+        0 => Mix::Low,
+        1 => Mix::High,
+        _ => Mix::Long,
     }
 }
 

@@ -1,16 +1,13 @@
 //! Drawn sessions of one client, one after another on a running world, in microseconds a session.
 ghost use Rattle.generated_sessions.specs.Options.{AreWithin};
 
-use crate::sessions::{SEED, memory, no_such_sessions, options};
+use crate::sessions::{Mix, SEED, STRIPES, memory, no_such_sessions, options};
 use generated_sessions::{Options, generate, opening};
 use ordered_sessions::run_in_order;
 use std::io;
 use std::rt::Runtime;
 use std::time::Instant;
 use vac_model::Action;
-
-/// The stripes of each collection.
-const STRIPES: u32 = 64;
 
 /// Prints what a session takes with few items and with many, of few sessions and of many.
 pub fn measure(rt: &(impl Runtime + AllocGlobal)) -> io::Result<()> {
@@ -24,7 +21,7 @@ pub fn measure(rt: &(impl Runtime + AllocGlobal)) -> io::Result<()> {
 
 /// With so many items of each kind, and so many sessions.
 fn report(rt: &(impl Runtime + AllocGlobal), relations: u32, sessions: u32) -> io::Result<()> {
-    let seconds = seconds_of(rt, &options(relations, 1, sessions))?;
+    let seconds = seconds_of(rt, &options(Mix::Long, relations, 1, sessions))?;
     let micros = seconds * 1e6 / f64::from(sessions);
     println!(rt;
         "{relations} items a kind, {sessions} sessions: {micros:.1} microseconds a session"

@@ -1,5 +1,5 @@
 //! Generated sessions by workers on a shared table, beside the same sessions under one lock.
-use crate::sessions::options;
+use crate::sessions::{Mix, SEED, options};
 use crate::{lock, served};
 use generated_sessions::Options;
 use std::io;
@@ -7,55 +7,74 @@ use std::rt::Runtime;
 use std::sync::Wait;
 use std::thread::Threads;
 
-/// How many sessions are run.
-const SESSIONS: u32 = 100_000;
+/// How many sessions a round has for each item of a kind, as STAMP has it: so customers have few bookings, however few items there are.
+const SESSIONS_AN_ITEM: u32 = 4;
 
-/// Prints how many sessions a second are served, with few conflicts and with many, of one client, two and four.
+/// Prints how many sessions a second are served, with few conflicts and with more, of one client, two and four.
 pub fn measure<R: Runtime + AllocGlobal + Threads + Wait + Sync>(rt: &R) -> io::Result<()> {
-    for relations in [10_000, 1000, 100, 10] {
-        for clients in [1, 2, 4] {
-            let options = options(relations, clients, SESSIONS);
-            report_table(rt, &options)?;
-            report_lock(rt, &options)?;
+    for mix in [Mix::Low, Mix::High, Mix::Long] {
+        for (relations, rounds) in [(10_000, 3), (1000, 30), (100, 300)] {
+            for clients in [1, 2, 4] {
+                let options = options(mix, relations, clients, relations * SESSIONS_AN_ITEM);
+                report_table(rt, mix, &options, rounds)?;
+                report_lock(rt, mix, &options, rounds)?;
+            }
         }
     }
     Ok(())
 }
 
+/// At seats of a shared table, in so many rounds.
 pub fn report_table<R: Runtime + AllocGlobal + Threads + Wait + Sync>(
     rt: &R,
+    mix: Mix,
     options: &Options,
+    rounds: u32,
 ) -> io::Result<()> {
-    let (seconds, commits) = served::time(rt, options)?;
+    let mut seconds = 0.0;
+    let mut commits: u64 = 0;
+    for round in 0..rounds {
+        let (more, tried) = served::time(rt, options, SEED + u64::from(round))?;
+        seconds += more;
+        commits = commits.saturating_add(tried);
+    }
+    let what = mix.name();
     let Options {
         relations,
         clients,
         ..
     } = *options;
-    let speed = speed(options, seconds);
+    let speed = speed(options, rounds, seconds);
     let commits = u32::try_from(commits).unwrap_or(u32::MAX);
-    let tried = f64::from(commits) / f64::from(options.transactions);
+    let tried = f64::from(commits) / (f64::from(options.transactions) * f64::from(rounds));
     println!(rt;
-        "{relations} relations, {clients} clients, at seats: {speed:.1} thousand sessions a second, {tried:.2} commits tried for each"
+        "{what}, {relations} items a kind, {clients} clients, at seats: {speed:.1} thousand sessions a second, {tried:.2} commits tried for each"
     )
 }
 
+/// Under one lock, in so many rounds.
 pub fn report_lock<R: Runtime + AllocGlobal + Threads + Wait + Sync>(
     rt: &R,
+    mix: Mix,
     options: &Options,
+    rounds: u32,
 ) -> io::Result<()> {
-    let seconds = lock::time(rt, options)?;
+    let mut seconds = 0.0;
+    for round in 0..rounds {
+        seconds += lock::time(rt, options, SEED + u64::from(round))?;
+    }
+    let what = mix.name();
     let Options {
         relations,
         clients,
         ..
     } = *options;
-    let speed = speed(options, seconds);
+    let speed = speed(options, rounds, seconds);
     println!(rt;
-        "{relations} relations, {clients} clients, one lock: {speed:.1} thousand sessions a second"
+        "{what}, {relations} items a kind, {clients} clients, one lock: {speed:.1} thousand sessions a second"
     )
 }
 
-fn speed(options: &Options, seconds: f64) -> f64 {
-    f64::from(options.transactions) / seconds / 1e3
+fn speed(options: &Options, rounds: u32, seconds: f64) -> f64 {
+    f64::from(options.transactions) * f64::from(rounds) / seconds / 1e3
 }

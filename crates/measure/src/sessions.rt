@@ -7,28 +7,57 @@ use std::alloc::Global;
 use std::io;
 use vac_model::Action;
 
-/// All is drawn from this.
+/// What a first round is drawn from.
 pub const SEED: u64 = 1;
 
-/// So many sessions of so many clients, nine of ten of which are reservations.
-pub fn options(relations: u32, clients: u32, sessions: u32) -> Options {
+/// The stripes of each collection, as many as the program has.
+pub const STRIPES: u32 = 64;
+
+/// How many queries a session has, how many percent of the ids are named, and how many percent of the sessions are reservations.
+#[derive(Clone, Copy)]
+pub enum Mix {
+    /// Few conflicts, as STAMP's `vacation-low` has it: 2, 90 and 98.
+    Low,
+    /// More of them, as its `vacation-high` has it: 4, 60 and 90.
+    High,
+    /// Long sessions: 10, 90 and 90.
+    Long,
+}
+
+impl Mix {
+    pub fn name(self) -> &'static str {
+        match self {
+            Mix::Low => "low contention",
+            Mix::High => "high contention",
+            Mix::Long => "long sessions",
+        }
+    }
+}
+
+/// So many sessions of so many clients.
+pub fn options(mix: Mix, relations: u32, clients: u32, sessions: u32) -> Options {
+    let (queries, percent_queried, percent_user) = match mix {
+        Mix::Low => (2, 90, 98),
+        Mix::High => (4, 60, 90),
+        Mix::Long => (10, 90, 90),
+    };
     Options {
         clients,
-        queries: 10,
-        percent_queried: 90,
+        queries,
+        percent_queried,
         relations,
         transactions: sessions,
-        percent_user: 90,
+        percent_user,
     }
 }
 
 /// The sessions of each client.
-pub fn lists_of(alloc: Global, options: &Options) -> Result<Vec<Vec<Action>>, Memory>
+pub fn lists_of(alloc: Global, seed: u64, options: &Options) -> Result<Vec<Vec<Action>>, Memory>
     requires { AreWithin options.now }
 {
     let mut lists = Vec::new(alloc);
     for worker in 1..=options.clients {
-        lists.push(generate(alloc, SEED, worker, options)?)?;
+        lists.push(generate(alloc, seed, worker, options)?)?;
     }
     Ok(lists)
 }
