@@ -19,7 +19,7 @@ use Rattle.vac_model.specs.declared.action.ActionReply.{ActionReply}
 use Rattle.vac_model.specs.Actions.{IsAllowed}
 use Rattle.vac_model.specs.Holdings.{Holdings}
 use Rattle.vacation_core.specs.declared.entry.Entry.{Entry}
-use Rattle.vacation_core.specs.Sessions.{Plan, session}
+use Rattle.vacation_core.specs.Sessions.{SessionProgram, session}
 use Rattle.world_parts.specs.declared.parts.Parts.{Parts}
 use Rattle.tx_phases.specs.Phases.{Phase, Rests, Stands}
 use Rattle.session_runs.specs.Clients.{IsAnswered, IsClient, IsNext, Leads}
@@ -96,25 +96,26 @@ gone_call c e = cc
 gone_done : ◌≡◌ {A = Ask Entry} ask.GiveUp ask.Done → ⊥
 gone_done e = cc
 
-asks_is : (p : Plan) (call : Call Entry) → asked p ≡ ask.Call call → (next : Reply Entry → Plan) × (p ≡ Asks call next)
+asks_is : (p : SessionProgram) (call : Call Entry) → asked p ≡ ask.Call call → (next : Reply Entry → SessionProgram) × (p ≡ Asks call next)
 asks_is (Asks c next) call e = (next, ap (λ (d : Call Entry). Asks d next) (same_call c call e))
 asks_is (Answers a) call e = absurd (no_call call e)
 asks_is GivesUp call e = absurd (gone_call call e)
 
-answers_is : (p : Plan) → asked p ≡ ask.Done → (a : ActionReply) × (p ≡ Answers a)
+answers_is : (p : SessionProgram) → asked p ≡ ask.Done → (a : ActionReply) × (p ≡ Answers a)
 answers_is (Asks c next) e = absurd (no_done c e)
 answers_is (Answers a) e = (a, refl)
 answers_is GivesUp e = absurd (gone_done e)
 
-after_none : (p : Plan) → p ≡ after p []
+after_none : (p : SessionProgram) → p ≡ after p []
 after_none (Asks c next) = refl
 after_none (Answers a) = refl
 after_none GivesUp = refl
 
 -- a reply to the call that is asked takes it on
-joined : (p : Plan) (made : List (Call Entry × Reply Entry)) (call : Call Entry) (next : Reply Entry → Plan) (r : Reply Entry)
+joined : (p : SessionProgram) (made : List (Call Entry × Reply Entry)) (call : Call Entry)
+    (next : Reply Entry → SessionProgram) (r : Reply Entry)
     → Follows p made (Asks call next) → Follows p (made ++ (call, r) ∷ []) (next r)
-joined p [] call next r f = subst (λ (q : Plan). Follows q ((call, r) ∷ []) (next r)) (sym f) (refl, refl)
+joined p [] call next r f = subst (λ (q : SessionProgram). Follows q ((call, r) ∷ []) (next r)) (sym f) (refl, refl)
 joined (Asks c on) (d ∷ ds) call next r f = (f.0, joined (on d.1) ds call next r f.1)
 joined (Answers a) (d ∷ ds) call next r f = absurd f
 joined GivesUp (d ∷ ds) call next r f = absurd f
@@ -153,7 +154,7 @@ module _ (action : Action) (c d : Parts Entry) (replies : List (Reply Entry)) (k
     next_of tables n done m =
         let rest = after (session action) (replies_of m.calls) in
         let asks = asks_is rest call (sym (is ∙ ap (λ (rs : List (Reply Entry)). asked (after (session action) rs)) m.are)) in
-        (asks.0, subst (λ (q : Plan). Follows (session action) m.calls q) asks.1 m.follows)
+        (asks.0, subst (λ (q : SessionProgram). Follows (session action) m.calls q) asks.1 m.follows)
 
     pub makes_one : (e : Parts Entry) (reply : Reply Entry) → Calls call d reply e → Makes action c e (replies ++ reply ∷ []) (k + 1)
     makes_one e reply on tables n done allowed x =
@@ -167,7 +168,8 @@ module _ (action : Action) (c d : Parts Entry) (replies : List (Reply Entry)) (k
           calls = more;
           are = ap (λ (rs : List (Reply Entry)). rs ++ reply ∷ []) m.are ∙ sym (replies_push m.calls call reply);
           count = long ∙ ap (λ j. j + 1) count;
-          follows = subst (λ (q : Plan). Follows (session action) more q) (sym (follows_after more (session action) (next.0 reply) f)) f;
+          follows = subst (λ (q : SessionProgram). Follows (session action) more q)
+              (sym (follows_after more (session action) (next.0 reply) f)) f;
           client = on tables n m.calls action done m.client allowed next;
         }
 
@@ -211,7 +213,7 @@ module _ (action : Action) (c d : Parts Entry) (replies : List (Reply Entry)) (k
       let m = so_far tables n done allowed x in
       let rest = after (session action) (replies_of m.calls) in
       let all = answers_is rest (sym (is ∙ ap (λ (rs : List (Reply Entry)). asked (after (session action) rs)) m.are)) in
-      (m.calls, (all.0, subst (λ (q : Plan). Follows (session action) m.calls q) all.1 m.follows), m.client)
+      (m.calls, (all.0, subst (λ (q : SessionProgram). Follows (session action) m.calls q) all.1 m.follows), m.client)
 
 -- ---- a whole session
 pub runs : (action : Action) (c d e f : Parts Entry) → Begins c d → MakesCalls action d e → Commits e f → Runs action c f

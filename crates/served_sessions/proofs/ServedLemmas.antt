@@ -19,7 +19,7 @@ use Rattle.vac_model.specs.declared.action.Action.{Action}
 use Rattle.vac_model.specs.declared.action.ActionReply.{ActionReply}
 use Rattle.vacation_core.specs.declared.entry.Entry.{Entry}
 use Rattle.vacation_core.specs.Runs.{AreActions, AreSessions, Deal, IsSession}
-use Rattle.vacation_core.specs.Sessions.{Plan, session}
+use Rattle.vacation_core.specs.Sessions.{SessionProgram, session}
 use Rattle.vacation_core.proofs.RunLemmas.{runs_are_actions}
 use Rattle.served_sessions.specs.Served.{AreWhole, IsWhole, JobsAreActions, Receipt, ReceiptsAreActions}
 use Rattle.served_sessions.specs.Served.{RepliesAreTold, actions_in, records_in}
@@ -34,7 +34,7 @@ gone_done : ◌≡◌ {A = Ask Entry} ask.GiveUp ask.Done → ⊥
 gone_done e = cc
 
 -- a program that is done answers
-pub answers_is : (p : Plan) → asked p ≡ ask.Done → (a : ActionReply) × (p ≡ Answers a)
+pub answers_is : (p : SessionProgram) → asked p ≡ ask.Done → (a : ActionReply) × (p ≡ Answers a)
 answers_is (Asks c next) e = absurd (call_done c e)
 answers_is (Answers a) e = (a, refl)
 answers_is GivesUp e = absurd (gone_done e)
@@ -46,11 +46,11 @@ whole_session action calls whole =
       answer.0,
       record {
         allowed = whole.allowed;
-        whole = subst (λ (q : Plan). Follows (session action) calls q) answer.1 (asked_follow calls (session action) whole.each);
+        whole = subst (λ (q : SessionProgram). Follows (session action) calls q) answer.1 (asked_follow calls (session action) whole.each);
       },
     )
 
-answers_same : (x y : ActionReply) → ◌≡◌ {A = Plan} (Answers x) (Answers y) → x ≡ y
+answers_same : (x y : ActionReply) → ◌≡◌ {A = SessionProgram} (Answers x) (Answers y) → x ≡ y
 answers_same x y e = cc
 
 pub replies_are_told : RepliesAreTold

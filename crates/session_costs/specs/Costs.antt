@@ -11,7 +11,7 @@ use Rattle.tx_engine.specs.Programs.{Asks, Answers, Follows, GivesUp}
 use Rattle.vac_model.specs.declared.action.Action.{Action}
 use Rattle.vac_model.specs.Actions.{IsAllowed}
 use Rattle.vacation_core.specs.declared.entry.Entry.{Entry}
-use Rattle.vacation_core.specs.Sessions.{Plan, session}
+use Rattle.vacation_core.specs.Sessions.{SessionProgram, session}
 
 -- it is on word 0, on one of the five maps, or on one of the three queues behind them
 abbrev pub IsOn : Op Entry → ℕ → Type 0
@@ -26,7 +26,7 @@ IsOn Peek t = (5 ≤ t) × (t < 8)
 IsOn op t = ⊥
 
 -- whatever is replied, all its calls are such, and their weights are at most n
-abbrev pub Takes : Plan → ℕ → Type 0
+abbrev pub Takes : SessionProgram → ℕ → Type 0
 Takes (Asks call next) n = (m : ℕ) × (m + weight call.op ≤ n) × IsOn call.op call.target × ((r : Reply Entry) → Takes (next r) m)
 Takes (Answers a) n = Unit {0}
 Takes GivesUp n = Unit {0}
@@ -41,5 +41,5 @@ pub record Fits (calls : List (Call Entry × Reply Entry)) (call : Call Entry) :
 -- so is each call that the session of an allowed action asks
 abbrev pub SessionsFit : Type 0
 SessionsFit =
-    (action : Action) (calls : List (Call Entry × Reply Entry)) (call : Call Entry) (next : Reply Entry → Plan)
+    (action : Action) (calls : List (Call Entry × Reply Entry)) (call : Call Entry) (next : Reply Entry → SessionProgram)
     → IsAllowed action → Follows (session action) calls (Asks call next) → Fits calls call

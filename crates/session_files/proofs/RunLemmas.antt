@@ -21,7 +21,7 @@ use Rattle.vacation_core.specs.declared.entry.Entry.{Entry}
 use Rattle.vacation_core.specs.Holding.{HoldsTables, state_of}
 use Rattle.vacation_core.specs.Runs.{AreSessions, Deal, RunsAreActions, after_deals}
 use Rattle.vacation_core.specs.Refusals.{IsNoneSuch}
-use Rattle.vacation_core.specs.Sessions.{Plan, session}
+use Rattle.vacation_core.specs.Sessions.{SessionProgram, session}
 use Rattle.world_table.specs.Audits.{without_actors}
 use Rattle.world_table.proofs.AuditLemmas.{audited}
 use Rattle.session_script.specs.declared.print.Line.{Line}
@@ -48,7 +48,7 @@ tell_lines deals actions rs seen asked same are =
     subst (λ (xs : List Action). AreReceipts xs seen) asked
     (subst (λ (xs : List (Record Entry)). AreReceipts (map (λ d. d.0) deals) xs) (sym same) (receipts_of deals rs are))
 
-abbrev answers : ActionReply → Plan
+abbrev answers : ActionReply → SessionProgram
 answers reply = Answers reply
 
 one_answer : (x y : ActionReply) → answers x ≡ answers y → x ≡ y

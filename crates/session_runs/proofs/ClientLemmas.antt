@@ -37,7 +37,7 @@ use Rattle.tx_engine.specs.Programs.{Answers, Asks, after, asked, replies_of}
 use Rattle.tx_engine.proofs.ProgramLemmas.{follows_after}
 use Rattle.vacation_core.specs.declared.entry.Entry.{Entry}
 use Rattle.vacation_core.specs.Holding.{state_of}
-use Rattle.vacation_core.specs.Sessions.{Plan, session}
+use Rattle.vacation_core.specs.Sessions.{SessionProgram, session}
 use Rattle.session_costs.proofs.CostLemmas.{asks_fit}
 use Rattle.running_world.specs.Feeds.{Feeds}
 use Rattle.running_world.specs.Reached.{IsReached}
@@ -291,7 +291,7 @@ module _ (a : ℕ) (tables : Holdings) (calls : List (Call Entry × Reply Entry)
       let fits = asks_fit action calls call due.3.0 due.0 follows in
       let t : Turn = (Ask a q, action) in
       let asks : asked (after (session action) (replies_of calls)) ≡ ask.Call call =
-      ap (λ (r : Plan). asked r) (follows_after calls (session action) (Asks call due.3.0) follows) in
+      ap (λ (r : SessionProgram). asked r) (follows_after calls (session action) (Asks call due.3.0) follows) in
       let may : May x.history t = may_ask x.history a calls action done (ask.Call call) at asks in
       let told = told_of x.history (Ask a q) c d m x.actor x.lawful x.parts f in
       let moved = calls_to x.history a (Stands calls) call action done m at told in
@@ -338,7 +338,7 @@ module _ (a : ℕ) (tables : Holdings) (calls : List (Call Entry × Reply Entry)
       let at = stands n p old c x due.0 due.1 in
       let t : Turn = (Ask a q, action) in
       let asks : asked (after (session action) (replies_of calls)) ≡ ask.Done =
-      ap (λ (r : Plan). asked r) (follows_after calls (session action) (Answers due.2.0) due.2.1) in
+      ap (λ (r : SessionProgram). asked r) (follows_after calls (session action) (Answers due.2.0) due.2.1) in
       let may : May x.history t = may_ask x.history a calls action done ask.Done at asks in
       let told = told_of x.history (Ask a q) c d m x.actor x.lawful x.parts f in
       let quiet : m ≡ Quiet = told ∙ commit_is_quiet x.history a calls action done at in

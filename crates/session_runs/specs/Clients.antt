@@ -17,7 +17,7 @@ use Rattle.vac_model.specs.Holdings.{Holdings}
 use Rattle.tx_engine.specs.Programs.{Answers, Asks, Follows}
 use Rattle.vac_model.specs.declared.action.ActionReply.{ActionReply}
 use Rattle.vacation_core.specs.declared.entry.Entry.{Entry}
-use Rattle.vacation_core.specs.Sessions.{Plan, session}
+use Rattle.vacation_core.specs.Sessions.{SessionProgram, session}
 use Rattle.running_world.specs.Parts.{IsWorld}
 use Rattle.world_parts.specs.declared.parts.Parts.{Parts}
 use Rattle.session_worlds.specs.Alone.{AreOf}
@@ -51,7 +51,7 @@ pub record IsClient (a : ℕ) (tables : Holdings) (n : ℕ) (p : Phase Entry) (a
 
 -- the calls are those that the session asks, and this is the next one
 abbrev pub IsNext : Action → List (Call Entry × Reply Entry) → Call Entry → Type 0
-IsNext action calls call = (next : Reply Entry → Plan) × Follows (session action) calls (Asks call next)
+IsNext action calls call = (next : Reply Entry → SessionProgram) × Follows (session action) calls (Asks call next)
 
 -- they are all
 abbrev pub AreAll : Action → List (Call Entry × Reply Entry) → Type 0

@@ -26,7 +26,7 @@ use Rattle.tx_engine.specs.declared.job.Ask.{Ask as Asked}
 use Rattle.tx_engine.specs.declared.job.Ask.TheVariants as ask
 use Rattle.tx_engine.specs.Programs.{Asks, Answers, GivesUp, after, asked, replies_of}
 use Rattle.vacation_core.specs.declared.entry.Entry.{Entry}
-use Rattle.vacation_core.specs.Sessions.{Plan, session}
+use Rattle.vacation_core.specs.Sessions.{SessionProgram, session}
 use Rattle.running_world.specs.Feeds.{Feeds}
 use Rattle.running_world.specs.Parts.{IsWorld}
 use Rattle.world_parts.specs.declared.opening.TheConstants.{ACTORS}
@@ -62,13 +62,15 @@ gone_done : ◌≡◌ {A = Asked Entry} ask.GiveUp ask.Done → ⊥
 gone_done e = cc
 
 -- a program that asks this call
-asks_call : (plan : Plan) (call : Call Entry) → asked plan ≡ ask.Call call → (next : Reply Entry → Plan) × (plan ≡ Asks call next)
+asks_call : (program : SessionProgram) (call : Call Entry) → asked program ≡ ask.Call call
+    → (next : Reply Entry → SessionProgram) × (program ≡ Asks call next)
 asks_call (Asks c next) call e = (next, ap (λ (d : Call Entry). Asks d next) (same_call c call e))
 asks_call (Answers x) call e = absurd (done_call call e)
 asks_call GivesUp call e = absurd (gone_call call e)
 
 -- one that is done
-asks_commit : (a : ℕ) (plan : Plan) (p : Play) → asked plan ≡ ask.Done → asks_on a plan p ≡ moved a (event.Ask a request.Commit) p
+asks_commit : (a : ℕ) (program : SessionProgram) (p : Play) → asked program ≡ ask.Done
+    → asks_on a program p ≡ moved a (event.Ask a request.Commit) p
 asks_commit a (Asks c next) p e = absurd (call_done c e)
 asks_commit a (Answers x) p e = refl
 asks_commit a GivesUp p e = absurd (gone_done e)
@@ -140,9 +142,9 @@ calls_now i k call v u n to place next f clients aborted k' =
     let q = moved a e p in
     let c = client_at i v place in
     let own = k'.own c.0 c.1 in
-    let plan : Plan = after (session (action_in a h)) (replies_of k'.calls) in
-    let is : asked plan ≡ ask.Call call = sym (asking_next k'.calls c.0 a p own) ∙ next c.0 c.1 in
-    let on = asks_call plan call is in
+    let program : SessionProgram = after (session (action_in a h)) (replies_of k'.calls) in
+    let is : asked program ≡ ask.Call call = sym (asking_next k'.calls c.0 a p own) ∙ next c.0 c.1 in
+    let on = asks_call program call is in
     let may = may_ask h a k'.calls (action_in a h) (done_in a h) (ask.Call call) (at_now a p (Stands k'.calls) own.stands) is in
     let x = called_at a p k'.calls call own.stands in
     let same : n ≡ told e p = own_told i v u p e n place.inside refl f k'.on in
@@ -166,7 +168,7 @@ calls_now i k call v u n to place next f clients aborted k' =
       left = ap (λ (act : Action). after (session act) (replies_of k'.calls)) x.3 ∙ on.1;
       comes =
           (λ j. if_replied a (same j) (λ r. asks_on a (on.0 r) q) q)
-          ∙ ap (λ (plan' : Plan). asks_on a plan' p) (sym (left_is a p k'.calls own.stands ∙ on.1))
+          ∙ ap (λ (program' : SessionProgram). asks_on a program' p) (sym (left_is a p k'.calls own.stands ∙ on.1))
           ∙ k'.comes;
       made = k'.made;
       room = subst (λ (m : Notice Entry). RepliesWithin m (length k'.calls)) (sym same) (roomy a p k'.calls call own.stands);
@@ -200,7 +202,7 @@ replied_on i k b call r v u c to got world aborted clients x =
             (replies_on x.calls call r) (open_joined r c.current (action_in a p.history) (p.faults a) (replies_of x.calls) own.current);
         done = own.done;
       });
-      comes = ap (λ (plan : Plan). asks_on a plan p) left ∙ x.comes;
+      comes = ap (λ (program : SessionProgram). asks_on a program p) left ∙ x.comes;
       made = omega (arith, made, long);
       room = inr (omega (arith, room, long));
     }

@@ -25,7 +25,7 @@ use Rattle.tx_engine.specs.declared.job.Ask.TheVariants as ask
 use Rattle.tx_engine.specs.Programs.{Program, Asks, Answers, GivesUp, after, asked, replies_of}
 use Rattle.vacation_core.specs.declared.entry.Entry.{Entry}
 use Rattle.vacation_core.specs.Holding.{state_of}
-use Rattle.vacation_core.specs.Sessions.{Plan, session}
+use Rattle.vacation_core.specs.Sessions.{SessionProgram, session}
 use Rattle.session_worlds.specs.Asking.{MayHappen, at_idle}
 use Rattle.session_worlds.specs.Histories.{IsAt, IsLawful, action_in, done_in, opening_of, world_in}
 use Rattle.session_worlds.specs.Serial.{begun_all}
@@ -158,8 +158,9 @@ called_at a p calls call stands =
     (at_now a p (Stands calls) stands) refl in
     (x.to, x.at.stands, x.moves, x.at.does, x.at.has)
 
-pub sound_asks : (a : ℕ) (plan : Plan) (p : Play) (calls : List (Call Entry × Reply Entry)) → IsSound p → phase (seat_in a p) ≡ Stands calls
-    → after (session (action_in a p.history)) (replies_of calls) ≡ plan → IsSound (asks_on a plan p)
+pub sound_asks : (a : ℕ) (program : SessionProgram) (p : Play) (calls : List (Call Entry × Reply Entry)) → IsSound p
+    → phase (seat_in a p) ≡ Stands calls → after (session (action_in a p.history)) (replies_of calls) ≡ program
+    → IsSound (asks_on a program p)
 sound_asks a (Asks call next) p calls s stands left =
     let h = p.history in
     let e = event.Ask a (request.Call call) in

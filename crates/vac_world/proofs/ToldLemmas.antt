@@ -14,7 +14,7 @@ use Rattle.vac_model.specs.declared.action.Action.{Action}
 use Rattle.vac_model.specs.declared.action.ActionReply.{ActionReply}
 use Rattle.vacation_core.specs.declared.entry.Entry.{Entry}
 use Rattle.vacation_core.specs.Runs.{Deal}
-use Rattle.vacation_core.specs.Sessions.{Plan, session}
+use Rattle.vacation_core.specs.Sessions.{SessionProgram, session}
 use Rattle.session_worlds.specs.Serial.{actions_of}
 use Rattle.vac_world.specs.Told.{AreFirst, AreOwn, HaveFirst, IsToldOne, Told, sessions_found, sessions_in, sessions_of, told_all}
 use Rattle.vac_world.specs.Told.{told_by, told_of}
@@ -129,7 +129,7 @@ session_in cs ns r i c place h at got is none =
     ∙ own_next cs ns h.deal r h.deals h.records h.are in
     none_some h.deal.0 (sym none ∙ (drop_first (sessions_of c) place h.deal.0 _ there).0)
 
-answers_same : (x y : ActionReply) → ◌≡◌ {A = Plan} (Answers x) (Answers y) → x ≡ y
+answers_same : (x y : ActionReply) → ◌≡◌ {A = SessionProgram} (Answers x) (Answers y) → x ≡ y
 answers_same x y e = cc
 
 -- its session is done by its receipt

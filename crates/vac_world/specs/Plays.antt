@@ -19,7 +19,7 @@ use Rattle.vac_model.specs.Actions.{IsAllowed}
 use Rattle.vac_model.specs.Holdings.{Holdings}
 use Rattle.tx_engine.specs.Programs.{Asks, Answers, GivesUp, after, replies_of}
 use Rattle.vacation_core.specs.declared.entry.Entry.{Entry}
-use Rattle.vacation_core.specs.Sessions.{Plan, session}
+use Rattle.vacation_core.specs.Sessions.{SessionProgram, session}
 use Rattle.session_worlds.specs.Asking.{at_idle}
 use Rattle.session_worlds.specs.Histories.{History, action_in, later, world_in}
 use Rattle.vac_world.specs.declared.events.VacEvent.{VacEvent}
@@ -69,7 +69,7 @@ if_replied a (Refused b cause) next p = aborts a cause p
 if_replied a n next p = p
 
 -- the session of actor a, of which this is left, asks its next request, and, as long as each is answered at once, the one after it
-abbrev pub asks_on : ℕ → Plan → Play → Play
+abbrev pub asks_on : ℕ → SessionProgram → Play → Play
 asks_on a (Asks call next) p =
     let e = event.Ask a (request.Call call) in
     if_replied a (told e p) (λ r. asks_on a (next r) (moved a e p)) (moved a e p)
@@ -77,7 +77,7 @@ asks_on a (Answers x) p = moved a (event.Ask a request.Commit) p
 asks_on a GivesUp p = record p { given_up = p.given_up ++ a ∷ [] }
 
 -- what is left of it
-abbrev pub left_of : ℕ → Play → Plan
+abbrev pub left_of : ℕ → Play → SessionProgram
 left_of a p = after (session (action_in a p.history)) (replies_of (seat_in a p).calls)
 
 abbrev pub at_open : {X : Type 0} → Stage Entry → X → X → X

@@ -16,7 +16,7 @@ use Rattle.vac_model.specs.declared.action.Action.{Action}
 use Rattle.tx_engine.specs.declared.job.Ask.{Ask as Asked}
 use Rattle.tx_engine.specs.Programs.{Asks, after, replies_of}
 use Rattle.vacation_core.specs.declared.entry.Entry.{Entry}
-use Rattle.vacation_core.specs.Sessions.{Plan, session}
+use Rattle.vacation_core.specs.Sessions.{SessionProgram, session}
 use Rattle.session_worlds.specs.Histories.{IsLawful, action_in, done_in, world_in}
 use Rattle.tx_phases.specs.Phases.{Phase, Rests, Begins, Stands, Calls, Commits, Committed, Ends, CallMoves, IsMistaken, phase}
 use Rattle.vac_world.specs.Clients.{asks_next}
@@ -149,7 +149,7 @@ pub record AsksOn (i k : ℕ) (v : VacWorld) (to : Play) : Type 0 where
 pub record Called (i k : ℕ) (call : Call Entry) (n : Notice Entry) (v : VacWorld) (to : Play) : Type 0 where
   pub play : Play
   pub calls : List (Call Entry × Reply Entry)
-  pub next : Reply Entry → Plan
+  pub next : Reply Entry → SessionProgram
   pub at : Phase Entry
   pub on : IsOn v play
   pub others : Others i v play

@@ -16,22 +16,22 @@ use Rattle.vacation_core.specs.declared.entry.Entry.TheVariants.{Item as Stock}
 use Rattle.vacation_core.specs.Gets.{get_due, tells_item, item_told}
 use Rattle.vac_model.specs.Holdings.{same_kind}
 use Rattle.vac_model.specs.Actions.{dearer}
-use Rattle.vacation_core.specs.Sessions.{Plan, better, gather, item_in}
+use Rattle.vacation_core.specs.Sessions.{SessionProgram, better, gather, item_in}
 use Rattle.vacation_core.proofs.WalkLemmas.{gather_on, gather_next, replied, drop_next}
 
 both_true : (a b : Bool) → (a && b) ≡ true → (a ≡ true) × (b ≡ true)
 both_true true b e = (refl, e)
 both_true false b e = absurd (cc)
 
--- with a reply that tells an item the plan goes on
+-- with a reply that tells an item the program goes on
 goes_on : (reply : Reply Entry) → tells_item reply ≡ true
-    → (item : Option Item) × ((next : Option Item → Plan) → item_in reply next ≡ next item)
+    → (item : Option Item) × ((next : Option Item → SessionProgram) → item_in reply next ≡ next item)
 goes_on Nothing e = (None, λ next. refl)
 goes_on (Value (Stock i)) e = (Some i, λ next. ap (λ b. cond b (next (Some i)) GivesUp) e)
 goes_on _ e = absurd (cc)
 
 pub gets_next : (asks : List Ask) (d : Ask) (replies : List (Reply Entry)) (car flight room : Option (ℕ × Item))
-    (next : Option (ℕ × Item) → Option (ℕ × Item) → Option (ℕ × Item) → Plan) → list_all tells_item replies ≡ true
+    (next : Option (ℕ × Item) → Option (ℕ × Item) → Option (ℕ × Item) → SessionProgram) → list_all tells_item replies ≡ true
     → length replies < length asks
     → asked (after (gather asks car flight room next) replies) ≡ Call (get_due (get_or asks (length replies) d))
 gets_next [] d replies car flight room next all lt = absurd (omega arith)
@@ -40,16 +40,17 @@ gets_next (a ∷ asks) d (reply ∷ replies) car flight room next all lt =
     let e = both_true (tells_item reply) (list_all tells_item replies) all in
     let g = goes_on reply e.0 in
     let one : length replies < length asks = omega arith in
-    ap (λ (p : Plan). asked (after p replies))
+    ap (λ (p : SessionProgram). asked (after p replies))
     (g.1 (λ o. gather asks (better Car a o car) (better Flight a o flight) (better Room a o room) next))
     ∙ gets_next asks d replies (better Car a g.0 car) (better Flight a g.0 flight) (better Room a g.0 room) next e.1 one
 
-pub told_on : (reply : Reply Entry) → tells_item reply ≡ true → (next : Option Item → Plan) → item_in reply next ≡ next (item_told reply)
+pub told_on : (reply : Reply Entry) → tells_item reply ≡ true → (next : Option Item → SessionProgram)
+    → item_in reply next ≡ next (item_told reply)
 told_on Nothing e next = refl
 told_on (Value (Stock i)) e next = ap (λ b. cond b (next (Some i)) GivesUp) e
 told_on _ e next = absurd (cc)
 
-pub told_wrong : (reply : Reply Entry) → tells_item reply ≡ false → (next : Option Item → Plan) → item_in reply next ≡ GivesUp
+pub told_wrong : (reply : Reply Entry) → tells_item reply ≡ false → (next : Option Item → SessionProgram) → item_in reply next ≡ GivesUp
 told_wrong Nothing e next = absurd (cc)
 told_wrong (Value (Stock i)) e next = ap (λ b. cond b (next (Some i)) GivesUp) e
 told_wrong _ e next = refl
@@ -60,15 +61,18 @@ dearer_none (Some x) = refl
 
 -- no candidate is better than none
 pub better_none : (k : Kind) (ask : Ask) (best : Option (ℕ × Item)) → better k ask None best ≡ best
-better_none k ask best = elim (same_kind ask.kind k) as (λ b. cond b (dearer best None) best ≡ best) [ true ↦ dearer_none best | false ↦ refl ]
+better_none k ask best =
+    elim (same_kind ask.kind k) as (λ b. cond b (dearer best None) best ≡ best) [ true ↦ dearer_none best | false ↦ refl ]
 
 -- the reply to the ask whose number this is
 module _ (asks : List Ask) (i : ℕ) (d : Ask) (car flight room : Option (ℕ × Item))
-    (next : Option (ℕ × Item) → Option (ℕ × Item) → Option (ℕ × Item) → Plan) (old new : List (Reply Entry)) (reply : Reply Entry) where
-  abbrev asks_on : Option Item → Plan
+    (next : Option (ℕ × Item) → Option (ℕ × Item) → Option (ℕ × Item) → SessionProgram)
+    (old new : List (Reply Entry)) (reply : Reply Entry) where
+  abbrev asks_on : Option Item → SessionProgram
   asks_on o = gather_on asks i d car flight room next o
 
-  passed_on : i < length asks → old ≡ reply ∷ new → after (gather (drop i asks) car flight room next) old ≡ after (item_in reply asks_on) new
+  passed_on : i < length asks → old ≡ reply ∷ new
+      → after (gather (drop i asks) car flight room next) old ≡ after (item_in reply asks_on) new
   passed_on lt is = gather_next asks i d car flight room next old lt
       ∙ replied (get_due (get_or asks i d)) (λ r. item_in r asks_on) old new reply is
 

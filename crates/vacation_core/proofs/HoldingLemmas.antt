@@ -91,7 +91,7 @@ module _ {X : Type 0} (f : X → Entry) where
 
 -- ---- each call, run on the state that holds tables
 
-pub run_get_item : (k : Kind) (id : ℕ) (next : Option Item → ask.Plan) (s : Holdings)
+pub run_get_item : (k : Kind) (id : ℕ) (next : Option Item → ask.SessionProgram) (s : Holdings)
     → run (ask.get_item k id next) (state_of s) ≡ run (ask.item_in (value_reply (option_map Stock (item k id s))) next) (state_of s)
 run_get_item Car id next s = ap (λ o. run (ask.item_in (value_reply o) next) (state_of s)) (get_as Stock s.items.car id)
 run_get_item Flight id next s = ap (λ o. run (ask.item_in (value_reply o) next) (state_of s)) (get_as Stock s.items.flight id)
@@ -113,50 +113,51 @@ with_customers s m = holding s.next (stock_of s) m (as_entries Slip s.tickets) s
 abbrev with_tickets : Holdings → Entries → Contents Entry
 with_tickets s m = holding s.next (stock_of s) (as_entries Client s.customers) m s.waiting
 
-pub run_put_item : (k : Kind) (id : ℕ) (i : Item) (next : ask.Plan) (s : Holdings)
+pub run_put_item : (k : Kind) (id : ℕ) (i : Item) (next : ask.SessionProgram) (s : Holdings)
     → run (ask.put_item k id i next) (state_of s) ≡ run next (state_of (put_item k id i s))
 run_put_item Car id i next s = ap (λ m. run next (with_car s m)) (insert_as Stock s.items.car id i)
 run_put_item Flight id i next s = ap (λ m. run next (with_flight s m)) (insert_as Stock s.items.flight id i)
 run_put_item Room id i next s = ap (λ m. run next (with_room s m)) (insert_as Stock s.items.room id i)
 
-pub run_remove_item : (k : Kind) (id : ℕ) (next : ask.Plan) (s : Holdings)
+pub run_remove_item : (k : Kind) (id : ℕ) (next : ask.SessionProgram) (s : Holdings)
     → run (ask.remove_item k id next) (state_of s) ≡ run next (state_of (remove_item k id s))
 run_remove_item Car id next s = ap (λ m. run next (with_car s m)) (remove_as Stock s.items.car id)
 run_remove_item Flight id next s = ap (λ m. run next (with_flight s m)) (remove_as Stock s.items.flight id)
 run_remove_item Room id next s = ap (λ m. run next (with_room s m)) (remove_as Stock s.items.room id)
 
-pub run_get_customer : (c : ℕ) (next : Option Customer → ask.Plan) (s : Holdings)
+pub run_get_customer : (c : ℕ) (next : Option Customer → ask.SessionProgram) (s : Holdings)
     → run (ask.get_customer c next) (state_of s) ≡ run (ask.customer_in (value_reply (option_map Client (customer c s))) next) (state_of s)
 run_get_customer c next s = ap (λ o. run (ask.customer_in (value_reply o) next) (state_of s)) (get_as Client s.customers c)
 
-pub run_put_customer : (c : ℕ) (who : Customer) (next : ask.Plan) (s : Holdings)
+pub run_put_customer : (c : ℕ) (who : Customer) (next : ask.SessionProgram) (s : Holdings)
     → run (ask.put_customer c who next) (state_of s) ≡ run next (state_of (put_customer c who s))
 run_put_customer c who next s = ap (λ m. run next (with_customers s m)) (insert_as Client s.customers c who)
 
-pub run_remove_customer : (c : ℕ) (next : ask.Plan) (s : Holdings)
+pub run_remove_customer : (c : ℕ) (next : ask.SessionProgram) (s : Holdings)
     → run (ask.remove_customer c next) (state_of s) ≡ run next (state_of (remove_customer c s))
 run_remove_customer c next s = ap (λ m. run next (with_customers s m)) (remove_as Client s.customers c)
 
-ticket_found : (o : Option Ticket) (next : Option Ticket → ask.Plan) → ask.ticket_in (value_reply (option_map Slip o)) next ≡ next o
+ticket_found : (o : Option Ticket) (next : Option Ticket → ask.SessionProgram)
+    → ask.ticket_in (value_reply (option_map Slip o)) next ≡ next o
 ticket_found None next = refl
 ticket_found (Some x) next = refl
 
-pub got_ticket : (t : ℕ) (next : Option Ticket → ask.Plan) (s : Holdings)
+pub got_ticket : (t : ℕ) (next : Option Ticket → ask.SessionProgram) (s : Holdings)
     → run (ask.get_ticket t next) (state_of s) ≡ run (next (ticket t s)) (state_of s)
 got_ticket t next s = ap (λ o. run (ask.ticket_in (value_reply o) next) (state_of s)) (get_as Slip s.tickets t)
     ∙ ap (λ p. run p (state_of s)) (ticket_found (ticket t s) next)
 
-pub run_remove_ticket : (t : ℕ) (next : ask.Plan) (s : Holdings)
+pub run_remove_ticket : (t : ℕ) (next : ask.SessionProgram) (s : Holdings)
     → run (ask.remove_ticket t next) (state_of s) ≡ run next (state_of (remove_ticket t s))
 run_remove_ticket t next s = ap (λ m. run next (with_tickets s m)) (remove_as Slip s.tickets t)
 
 -- ---- the queues
 
-first_found : (ts : List ℕ) (next : Option ℕ → ask.Plan) → ask.first_in (peek_reply ts) next ≡ next (first_of ts)
+first_found : (ts : List ℕ) (next : Option ℕ → ask.SessionProgram) → ask.first_in (peek_reply ts) next ≡ next (first_of ts)
 first_found [] next = refl
 first_found (t ∷ ts) next = refl
 
-pub got_first : (k : Kind) (next : Option ℕ → ask.Plan) (s : Holdings)
+pub got_first : (k : Kind) (next : Option ℕ → ask.SessionProgram) (s : Holdings)
     → run (ask.peek k next) (state_of s) ≡ run (next (first_of (queue k s).tickets)) (state_of s)
 got_first Car next s = ap (λ p. run p (state_of s)) (first_found s.waiting.car.tickets next)
 got_first Flight next s = ap (λ p. run p (state_of s)) (first_found s.waiting.flight.tickets next)
@@ -172,7 +173,7 @@ dequeued head (x ∷ ts) t e = let same : x ≡ t = ap (λ o. unwrap_or o x) e i
 abbrev with_queue : ℕ → Holdings → Queued → Contents Entry
 with_queue place s r = record (state_of s) { held = slice_set (state_of s).held place (Queue r.1 r.2) }
 
-pub run_dequeue : (k : Kind) (t : ℕ) (next : ask.Plan) (s : Holdings) → first_of (queue k s).tickets ≡ Some t
+pub run_dequeue : (k : Kind) (t : ℕ) (next : ask.SessionProgram) (s : Holdings) → first_of (queue k s).tickets ≡ Some t
     → run (ask.dequeue k next) (state_of s) ≡ run next (state_of (take_off k s))
 run_dequeue Car t next s e = ap (λ r. run next (with_queue 5 s r)) (dequeued s.waiting.car.head s.waiting.car.tickets t e)
 run_dequeue Flight t next s e = ap (λ r. run next (with_queue 6 s r)) (dequeued s.waiting.flight.head s.waiting.flight.tickets t e)
@@ -188,14 +189,14 @@ enqueued head ts t lt =
 abbrev put_line : Kind → ℕ → Holdings → Holdings
 put_line k t s = put_queue k (record (queue k s) { tickets = (queue k s).tickets ++ t ∷ [] }) s
 
-run_enqueue : (k : Kind) (t : ℕ) (next : ask.Plan) (s : Holdings) → (queue k s).head + length (queue k s).tickets < INDEX_LIMIT
+run_enqueue : (k : Kind) (t : ℕ) (next : ask.SessionProgram) (s : Holdings) → (queue k s).head + length (queue k s).tickets < INDEX_LIMIT
     → run (ask.enqueue k t next) (state_of s) ≡ run next (state_of (put_line k t s))
 run_enqueue Car t next s lt = ap (λ r. run next (with_queue 5 s r)) (enqueued s.waiting.car.head s.waiting.car.tickets t lt)
 run_enqueue Flight t next s lt = ap (λ r. run next (with_queue 6 s r)) (enqueued s.waiting.flight.head s.waiting.flight.tickets t lt)
 run_enqueue Room t next s lt = ap (λ r. run next (with_queue 7 s r)) (enqueued s.waiting.room.head s.waiting.room.tickets t lt)
 
 -- the next ticket is given out
-pub run_give_ticket : (c units : ℕ) (k : Kind) (id : ℕ) (next : ask.Plan) (s : Holdings)
+pub run_give_ticket : (c units : ℕ) (k : Kind) (id : ℕ) (next : ask.SessionProgram) (s : Holdings)
     → (queue k s).head + length (queue k s).tickets < INDEX_LIMIT
     → run (ask.write_next (s.next + 1)
     (ask.put_ticket s.next (record { customer = c; kind = k; id = id; units = units }) (ask.enqueue k s.next next))) (state_of s)

@@ -84,21 +84,22 @@ customer_passes who sound =
     let rest : list_all is_booking_within who.bookings ≡ true = bookings_pass who.bookings sound.bookings_within in
     (λ j. one j && rest j)
 
-item_in_sound : (o : Option Item) (next : Option Item → ask.Plan) → IsSoundIfThere o
+item_in_sound : (o : Option Item) (next : Option Item → ask.SessionProgram) → IsSoundIfThere o
     → ask.item_in (value_reply (option_map Stock o)) next ≡ next o
 item_in_sound None next sound = refl
 item_in_sound (Some i) next sound = ap (λ b. cond b (next (Some i)) GivesUp) (item_passes i (sound i refl))
 
-customer_in_sound : (o : Option Customer) (next : Option Customer → ask.Plan) → ((who : Customer) → o ≡ Some who → IsCustomerSound who)
+customer_in_sound : (o : Option Customer) (next : Option Customer → ask.SessionProgram)
+    → ((who : Customer) → o ≡ Some who → IsCustomerSound who)
     → ask.customer_in (value_reply (option_map Client o)) next ≡ next o
 customer_in_sound None next sound = refl
 customer_in_sound (Some who) next sound = ap (λ b. cond b (next (Some who)) GivesUp) (customer_passes who (sound who refl))
 
-got_item : (k : Kind) (id : ℕ) (next : Option Item → ask.Plan) (s : Holdings) → AreItemsSound s
+got_item : (k : Kind) (id : ℕ) (next : Option Item → ask.SessionProgram) (s : Holdings) → AreItemsSound s
     → run (ask.get_item k id next) (state_of s) ≡ run (next (item k id s)) (state_of s)
 got_item k id next s sound = run_get_item k id next s ∙ ap (λ p. run p (state_of s)) (item_in_sound (item k id s) next (sound k id))
 
-got_customer : (c : ℕ) (next : Option Customer → ask.Plan) (s : Holdings) → AreCustomersSound s
+got_customer : (c : ℕ) (next : Option Customer → ask.SessionProgram) (s : Holdings) → AreCustomersSound s
     → run (ask.get_customer c next) (state_of s) ≡ run (next (customer c s)) (state_of s)
 got_customer c next s sound = run_get_customer c next s ∙ ap (λ p. run p (state_of s)) (customer_in_sound (customer c s) next (sound c))
 
@@ -144,15 +145,15 @@ awaited_is c units k id who t =
 
 -- ---- delete
 
-given_back : (b : Booking) (o : Option Item) (next : ask.Plan) (s : Holdings) → 1 ≤ b.units → b.units ≤ used_of o
+given_back : (b : Booking) (o : Option Item) (next : ask.SessionProgram) (s : Holdings) → 1 ≤ b.units → b.units ≤ used_of o
     → run (ask.give_back b o next) (state_of s) ≡ run next (state_of (put_back b o s))
 given_back b None next s some enough = absurd (omega (arith, some, enough))
 given_back b (Some i) next s some enough =
-    let P : ask.Plan → Type 0 = λ p. run p (state_of s) ≡ run next (state_of (put_item b.kind b.id (give_units b.units i) s)) in
+    let P : ask.SessionProgram → Type 0 = λ p. run p (state_of s) ≡ run next (state_of (put_item b.kind b.id (give_units b.units i) s)) in
     cond_both (nat_lt i.used b.units) _ _ P (λ e. absurd (grind (arith, nat_tests)))
     (λ _. run_put_item b.kind b.id (give_units b.units i) next s)
 
-given_all_back : (bs : List Booking) (next : ask.Plan) (s : Holdings) → AreItemsSound s → All IsBookingWithin bs → HasUnits bs s
+given_all_back : (bs : List Booking) (next : ask.SessionProgram) (s : Holdings) → AreItemsSound s → All IsBookingWithin bs → HasUnits bs s
     → run (ask.give_all_back bs next) (state_of s) ≡ run next (state_of (fold release s bs))
 given_all_back [] next s sound within has = refl
 given_all_back (b ∷ bs) next s sound within has =
@@ -163,7 +164,7 @@ given_all_back (b ∷ bs) next s sound within has =
     ∙ given_back b (item b.kind b.id s) (ask.give_all_back bs next) s first.0.0 own
     ∙ given_all_back bs next (release s b) r.0 (λ i d lt. within (suc i) d (omega (arith, lt))) (rest_units b bs s r has)
 
-forgot_all : (ws : List Wait) (next : ask.Plan) (s : Holdings)
+forgot_all : (ws : List Wait) (next : ask.SessionProgram) (s : Holdings)
     → run (ask.forget_all ws next) (state_of s) ≡ run next (state_of (fold forget s ws))
 forgot_all [] next s = refl
 forgot_all (w ∷ ws) next s = run_remove_ticket w.ticket (ask.forget_all ws next) s ∙ forgot_all ws next (forget s w)
@@ -187,22 +188,22 @@ gave_up : (c : ℕ) (who : Customer) (s : Holdings)
 gave_up c who s = forget_without c who.waits (fold release s who.bookings)
     ∙ ap (λ t. fold forget t who.waits) (release_without c who.bookings s)
 
-changed_waiter : (c t : ℕ) (change : Customer → Customer) (next : ask.Plan) (s : Holdings) → AreCustomersSound s
+changed_waiter : (c t : ℕ) (change : Customer → Customer) (next : ask.SessionProgram) (s : Holdings) → AreCustomersSound s
     → run (ask.change_waiter c t change next) (state_of s)
     ≡ run next (state_of (put_customer c (change (without_wait t (customer_or_new c s))) s))
 changed_waiter c t change next s sound =
     got_customer c (λ o. ask.put_customer c (change (without_wait t (unwrap_or o newcomer))) next) s sound
     ∙ run_put_customer c (change (without_wait t (customer_or_new c s))) next s
 
-ended : (k : Kind) (t : ℕ) (next : ask.Plan) (s : Holdings) → first_of (queue k s).tickets ≡ Some t
+ended : (k : Kind) (t : ℕ) (next : ask.SessionProgram) (s : Holdings) → first_of (queue k s).tickets ≡ Some t
     → run (ask.end_wait k t next) (state_of s) ≡ run next (state_of (remove_ticket t (take_off k s)))
 ended k t next s first = run_dequeue k t (ask.remove_ticket t next) s first ∙ run_remove_ticket t next (take_off k s)
 
 -- what serving does, from a step on
-module _ (n : ℕ) (later : ℕ → ask.Plan) (next : ℕ → ask.Plan) (k : Kind) (s : Holdings) (b : IsBalanced s)
+module _ (n : ℕ) (later : ℕ → ask.SessionProgram) (next : ℕ → ask.SessionProgram) (k : Kind) (s : Holdings) (b : IsBalanced s)
     (goes_on : (one : ℕ) (u : Holdings) → IsBalanced u
     → run (later one) (state_of u) ≡ run (next (one + (serve n k u).0)) (state_of (serve n k u).1)) where
-  abbrev Serves : ask.Plan → Option (ℕ × Holdings) → Type 0
+  abbrev Serves : ask.SessionProgram → Option (ℕ × Holdings) → Type 0
   Serves p o = run p (state_of s) ≡ run (next (go_on (serve n k) o s).0) (state_of (go_on (serve n k) o s).1)
 
   served_item : (t : ℕ) (x : Ticket) (o : Option Item) → first_of (queue k s).tickets ≡ Some t → ticket t s ≡ Some x
@@ -241,15 +242,15 @@ module _ (n : ℕ) (later : ℕ → ask.Plan) (next : ℕ → ask.Plan) (k : Kin
   served_first None first = refl
   served_first (Some t) first = got_ticket t (λ o. ask.serve_ticket k t o later (next 0)) s ∙ served_ticket t (ticket t s) first refl
 
-served : (n : ℕ) (k : Kind) (next : ℕ → ask.Plan) (s : Holdings) → IsBalanced s
+served : (n : ℕ) (k : Kind) (next : ℕ → ask.SessionProgram) (s : Holdings) → IsBalanced s
     → run (ask.serve n k next) (state_of s) ≡ run (next (serve n k s).0) (state_of (serve n k s).1)
 served zero k next s b = refl
 served (suc n) k next s b =
-    let later : ℕ → ask.Plan = λ one. ask.serve n k (λ more. next (one + more)) in
+    let later : ℕ → ask.SessionProgram = λ one. ask.serve n k (λ more. next (one + more)) in
     got_first k (λ o. ask.serve_first k o later (next 0)) s
     ∙ served_first n later next k s b (λ one u bu. served n k (λ more. next (one + more)) u bu) (first_of (queue k s).tickets) refl
 
-served_freed : (bookings : List Booking) (k : Kind) (next : ℕ → ask.Plan) (s : Holdings) → IsBalanced s
+served_freed : (bookings : List Booking) (k : Kind) (next : ℕ → ask.SessionProgram) (s : Holdings) → IsBalanced s
     → run (ask.serve_freed bookings k next) (state_of s) ≡ run (next (serve_freed bookings k s).0) (state_of (serve_freed bookings k s).1)
 served_freed bookings k next s b =
     elim (list_any (λ x. same_kind x.kind k) bookings) as
@@ -260,7 +261,7 @@ served_freed bookings k next s b =
       | false ↦ refl
     ]
 
-served_all : (bookings : List Booking) (next : ℕ → ask.Plan) (s : Holdings) → IsBalanced s
+served_all : (bookings : List Booking) (next : ℕ → ask.SessionProgram) (s : Holdings) → IsBalanced s
     → run (ask.serve_all bookings next) (state_of s) ≡ run (next (serve_all bookings s).0) (state_of (serve_all bookings s).1)
 served_all bookings next s b =
     let s1 : Holdings = (serve_freed bookings Car s).1 in
@@ -278,7 +279,7 @@ delete_found_is : (c : ℕ) (o : Option Customer) (s : Holdings) → IsBalanced 
     → run (ask.delete_found c o) (state_of s) ≡ Some ((delete_this c o s).0, state_of (delete_this c o s).1)
 delete_found_is c None s b is = refl
 delete_found_is c (Some who) s b is =
-    let end : ask.Plan = ask.serve_all who.bookings (λ n. Answers (Deleted (bill who.bookings) n)) in
+    let end : ask.SessionProgram = ask.serve_all who.bookings (λ n. Answers (Deleted (bill who.bookings) n)) in
     let sound : IsCustomerSound who = b.customers_sound c who is in
     let t : Holdings = fold release s who.bookings in
     let u : Holdings = fold forget t who.waits in
@@ -312,23 +313,23 @@ remove_none Flight id s is = ap (λ m. let u : Holdings = record s { items = wit
 remove_none Room id s is = ap (λ m. let u : Holdings = record s { items = with_kind Room m s.items } in
     u) (removed_absent s.items.room id is)
 
-made_item : (k : Kind) (id : ℕ) (o r : Option Item) (next : ask.Plan) (s : Holdings) → item k id s ≡ o
+made_item : (k : Kind) (id : ℕ) (o r : Option Item) (next : ask.SessionProgram) (s : Holdings) → item k id s ≡ o
     → run (ask.set_item k id o r next) (state_of s) ≡ run next (state_of (set_item k id r s))
 made_item k id None None next s is = ap (λ t. run next (state_of t)) (sym (remove_none k id s is))
 made_item k id (Some i) None next s is = run_remove_item k id next s
 made_item k id None (Some j) next s is = run_put_item k id j next s
 made_item k id (Some i) (Some j) next s is =
-    let P : ask.Plan → Type 0 = λ p. run p (state_of s) ≡ run next (state_of (put_item k id j s)) in
+    let P : ask.SessionProgram → Type 0 = λ p. run p (state_of s) ≡ run next (state_of (put_item k id j s)) in
     cond_both (ask.is_same_item i j) _ _ P
     (λ same. ap (λ t. run next (state_of t)) (sym (put_same k id j s (is ∙ ap (λ x. Some x) (same_item i j same)))))
     (λ _. run_put_item k id j next s)
 
-changed_each : (cs : List Change) (next : List Changed → ask.Plan) (s : Holdings) → IsBalanced s → All IsAmountWithin cs
+changed_each : (cs : List Change) (next : List Changed → ask.SessionProgram) (s : Holdings) → IsBalanced s → All IsAmountWithin cs
     → run (ask.change_each cs next) (state_of s) ≡ run (next (update cs s).0) (state_of (update cs s).1)
 changed_each [] next s b within = refl
 changed_each (c ∷ cs) next s b within =
     let o : Option Item = item (kind_of c) (id_of c) s in
-    let rest : List Changed → ask.Plan = λ made. next ((changed c o).0 ∷ made) in
+    let rest : List Changed → ask.SessionProgram = λ made. next ((changed c o).0 ∷ made) in
     got_item (kind_of c) (id_of c)
     (λ o. ask.set_item (kind_of c) (id_of c) o (changed c o).1
     (ask.change_each cs (λ made. next ((changed c o).0 ∷ made)))) s b.items_sound
@@ -348,7 +349,7 @@ better_is k a asks s best =
     (λ _. refl)
 
 gathered : (asks : List Ask) (car flight room : Option (ℕ × Item)) (next : Option (ℕ × Item) → Option (ℕ × Item) → Option (ℕ × Item)
-    → ask.Plan) (s : Holdings) → AreItemsSound s
+    → ask.SessionProgram) (s : Holdings) → AreItemsSound s
     → run (ask.gather asks car flight room next) (state_of s)
     ≡ run (next (dearer car (candidate Car asks s)) (dearer flight (candidate Flight asks s))
     (dearer room (candidate Room asks s))) (state_of s)
@@ -409,14 +410,14 @@ both_ways : {A B : Type 0} (c : Bool) {a1 a2 : A} {b1 b2 : B} (E : A → B → T
 both_ways c {a1} {a2} {b1} {b2} E then other = elim c as (λ t. c ≡ t → E (cond t a1 a2) (cond t b1 b2)) [ true ↦ then | false ↦ other ] refl
 
 -- the program does the same
-decided_run : (c units : ℕ) (k : Kind) (o : Option (ℕ × Item)) (who : Customer) (next : Part → Customer → ask.Plan) (t : Holdings)
+decided_run : (c units : ℕ) (k : Kind) (o : Option (ℕ × Item)) (who : Customer) (next : Part → Customer → ask.SessionProgram) (t : Holdings)
     → (queue k t).head + length (queue k t).tickets ≤ t.next → t.next ≤ TICKET_LIMIT
     → run (ask.decide c units k o who next) (state_of t)
     ≡ run (next (part_of who units t.next k o) (after_of units k o (part_of who units t.next k o) who))
     (state_of (left_of c units k o (part_of who units t.next k o) t))
 decided_run c units k None who next t room within = refl
 decided_run c units k (Some x) who next t room within =
-    let E : Part → ask.Plan → Type 0 = λ p q. run q (state_of t)
+    let E : Part → ask.SessionProgram → Type 0 = λ p q. run q (state_of t)
     ≡ run (next p (after_of units k (Some x) p who)) (state_of (left_of c units k (Some x) p t)) in
     both_ways (has who k x.0) E
     (λ _. refl)
@@ -426,7 +427,7 @@ decided_run c units k (Some x) who next t room within =
     (λ _. run_put_item k x.0 (take_units units x.1) (next (Booked x.0 units x.1.price) (ask.with_booking units k x.0 x.1.price who)) t)
     (λ _.
     let few : nat_le t.next TICKET_LIMIT ≡ true = grind (arith, nat_tests) in
-    let line : ask.Plan = ask.line_up c units k x.0 who next t.next in
+    let line : ask.SessionProgram = ask.line_up c units k x.0 who next t.next in
     let read : run (ask.read_next (ask.line_up c units k x.0 who next)) (state_of t)
     ≡ run line (state_of t) = ap (λ b. run (cond b line GivesUp) (state_of t)) few in
     read ∙ both_ways (t.next == TICKET_LIMIT) E
@@ -455,7 +456,7 @@ none_changed true b c h = absurd (let e : true ≡ false = h in cc)
 none_changed false true c h = absurd (let e : true ≡ false = h in cc)
 none_changed false false c h = (refl, refl, h)
 
-customer_put : (c : ℕ) (o : Option Customer) (is_new : Bool) (who : Customer) (next : ask.Plan) (t : Holdings) → customer c t ≡ o
+customer_put : (c : ℕ) (o : Option Customer) (is_new : Bool) (who : Customer) (next : ask.SessionProgram) (t : Holdings) → customer c t ≡ o
     → (is_new ≡ false → who ≡ unwrap_or o newcomer)
     → run (ask.put_changed c o is_new who next) (state_of t) ≡ run next (state_of (put_customer c who t))
 customer_put c None is_new who next t is same = run_put_customer c who next t
@@ -484,7 +485,7 @@ placed c units car flight room s b within is_car is_flight is_room =
     let three : Customer = after_of units Room room third two in
     let s3 : Holdings = left_of c units Room room third s2 in
     let is_new : Bool = ask.is_change first || (ask.is_change second || ask.is_change third) in
-    let end : ask.Plan = Answers (Reserved (record { car = first; flight = second; room = third })) in
+    let end : ask.SessionProgram = Answers (Reserved (record { car = first; flight = second; room = third })) in
     let d1 : decide c units Car car (put_customer c none s) ≡ (first, put_customer c one s1) = decide_is c units Car car none s in
     let d2 : decide c units Flight flight (put_customer c one s1)
     ≡ (second, put_customer c two s2) = decide_is c units Flight flight one s1 in
@@ -508,10 +509,10 @@ placed c units car flight room s b within is_car is_flight is_room =
     ≡ (Reserved (record { car = first; flight = second; room = third }), put_customer c three s3) =
     reserved c units car flight room (put_customer c none s) (put_customer c one s1) (put_customer c two s2)
     (put_customer c three s3) first second third d1 d2 d3 in
-    let last : Part → Customer → ask.Plan = λ third three. ask.put_changed c (customer c s)
+    let last : Part → Customer → ask.SessionProgram = λ third three. ask.put_changed c (customer c s)
     (ask.is_change first || (ask.is_change second || ask.is_change third)) three
     (Answers (Reserved (record { car = first; flight = second; room = third }))) in
-    let middle : Part → Customer → ask.Plan = λ second two.
+    let middle : Part → Customer → ask.SessionProgram = λ second two.
     ask.decide c units Room room two
     (λ third three. ask.put_changed c (customer c s) (ask.is_change first || (ask.is_change second || ask.is_change third)) three
     (Answers (Reserved (record { car = first; flight = second; room = third })))) in
@@ -531,7 +532,7 @@ place_is : (c units : ℕ) (car flight room : Option (ℕ × Item)) (s : Holding
     ≡ Some ((reserve_among c units car flight room s).0, state_of (reserve_among c units car flight room s).1)
 place_is c units car flight room s b within is_car is_flight is_room =
     both_ways (is_none car && (is_none flight && is_none room))
-    (λ (r : ActionReply × Holdings) (p : ask.Plan). run p (state_of s) ≡ Some (r.0, state_of r.1))
+    (λ (r : ActionReply × Holdings) (p : ask.SessionProgram). run p (state_of s) ≡ Some (r.0, state_of r.1))
     (λ _. refl)
     (λ _. got_customer c (ask.decide_all c units car flight room) s b.customers_sound
     ∙ placed c units car flight room s b within is_car is_flight is_room)

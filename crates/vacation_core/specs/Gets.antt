@@ -14,7 +14,7 @@ use Rattle.vacation_core.specs.Sessions.{map_of, on}
 abbrev pub get_due : Ask → Call Entry
 get_due due = on (map_of due.kind) (Get due.id)
 
--- a plan goes on with the item, or with none
+-- a program goes on with the item, or with none
 abbrev pub tells_item : Reply Entry → Bool
 tells_item Nothing = true
 tells_item (Value (Stock i)) = is_item_sound i

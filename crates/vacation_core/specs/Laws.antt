@@ -12,10 +12,10 @@ use Rattle.vac_model.specs.Balanced.{IsBalanced}
 use Rattle.vacation_core.specs.declared.entry.Entry.{Entry}
 use Rattle.vacation_core.specs.Holding.{state_of}
 use Rattle.tx_engine.specs.Programs.{Asks, Answers, GivesUp, Follows}
-use Rattle.vacation_core.specs.Sessions.{Plan, session}
+use Rattle.vacation_core.specs.Sessions.{SessionProgram, session}
 
 -- these calls are those that the session asked, with legal replies, and this is left of the session
-abbrev pub Reaches : Action → Holdings → List (Call Entry × Reply Entry) → Plan → Type 0
+abbrev pub Reaches : Action → Holdings → List (Call Entry × Reply Entry) → SessionProgram → Type 0
 Reaches action tables calls rest = Follows (session action) calls rest × IsLegal calls (state_of tables)
 
 -- a session that has ended answered what its action answers, and left what its action leaves
@@ -34,8 +34,8 @@ NeverGivesUp =
 -- and each call that it asks has an answer
 abbrev pub AsksLegalCalls : Type 0
 AsksLegalCalls =
-    (action : Action) (tables : Holdings) (calls : List (Call Entry × Reply Entry)) (call : Call Entry) (next : Reply Entry → Plan)
-    → IsAllowed action → IsBalanced tables → Reaches action tables calls (Asks call next)
+    (action : Action) (tables : Holdings) (calls : List (Call Entry × Reply Entry)) (call : Call Entry)
+    (next : Reply Entry → SessionProgram) → IsAllowed action → IsBalanced tables → Reaches action tables calls (Asks call next)
     → call_of call (after_calls calls (state_of tables)) ≢ None
 
 -- no two tables have one state

@@ -13,7 +13,7 @@ use Rattle.vac_model.specs.Holdings.{Holdings}
 use Rattle.tx_engine.specs.Programs.{Answers, Follows, GivesUp}
 use Rattle.vacation_core.specs.declared.entry.Entry.{Entry}
 use Rattle.vacation_core.specs.Holding.{state_of}
-use Rattle.vacation_core.specs.Sessions.{Plan, session}
+use Rattle.vacation_core.specs.Sessions.{SessionProgram, session}
 
 -- ---- actions, each with a reply
 
@@ -72,7 +72,7 @@ EachNumberHoldsTables =
     → HoldsBalanced (state_at n records (state_of tables))
 
 -- calls that a session has made so far, with replies of what the records up to a number leave
-pub record IsUnderWay (action : Action) (calls : List (Call Entry × Reply Entry)) (rest : Plan) (n : ℕ)
+pub record IsUnderWay (action : Action) (calls : List (Call Entry × Reply Entry)) (rest : SessionProgram) (n : ℕ)
     (records : List (ℕ × Record Entry)) (tables : Holdings) : Type 0 where
   pub allowed : IsAllowed action
   pub follows : Follows (session action) calls rest

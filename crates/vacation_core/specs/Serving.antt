@@ -7,10 +7,10 @@ use Rattle.vac_model.specs.Actions.{without_wait, bill}
 use Rattle.vac_model.specs.declared.item.Wait.{Wait}
 use Rattle.vac_model.specs.declared.action.ActionReply.TheVariants.{Deleted}
 use Rattle.tx_engine.specs.Programs.{Answers}
-use Rattle.vacation_core.specs.Sessions.{Plan, give_all_back, forget_all, remove_customer, serve_all}
+use Rattle.vacation_core.specs.Sessions.{SessionProgram, give_all_back, forget_all, remove_customer, serve_all}
 
 -- a step that booked so many tickets goes on with the later ones; none: serving ends
-abbrev pub serves_on : Option ℕ → (ℕ → Plan) → Plan → Plan
+abbrev pub serves_on : Option ℕ → (ℕ → SessionProgram) → SessionProgram → SessionProgram
 serves_on None later end = end
 serves_on (Some n) later end = later n
 
@@ -28,6 +28,6 @@ abbrev pub waiter : ℕ → Option Booking → Option Customer → Customer
 waiter t b o = with_own b (without_wait t (unwrap_or o newcomer))
 
 -- a customer with these bookings and waits is deleted
-abbrev pub deletes : ℕ → List Booking → List Wait → Plan
+abbrev pub deletes : ℕ → List Booking → List Wait → SessionProgram
 deletes c bookings waits =
     give_all_back bookings (forget_all waits (remove_customer c (serve_all bookings (λ served. Answers (Deleted (bill bookings) served)))))

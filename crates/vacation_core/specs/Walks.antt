@@ -1,4 +1,4 @@
--- Where the code that walks along a plan, by the replies so far, comes to.
+-- Where the code that walks along a program, by the replies so far, comes to.
 use Rattle.std.specs.Prelude.{◌≡◌, ℕ, Result, Ok, Err, ⊤}
 use Rattle.tx_engine.specs.declared.job.Ask.TheVariants as ask
 use Rattle.tx_engine.specs.Programs.{asked}
@@ -8,16 +8,16 @@ use Rattle.vac_model.specs.declared.action.Part.{Part}
 use Rattle.vac_model.specs.declared.action.Part.TheVariants.{Booked, Waits}
 use Rattle.vacation_core.specs.declared.walk.Stop.{Stop}
 use Rattle.vacation_core.specs.declared.walk.Stop.TheVariants.{Asks, GivesUp, OutOfMemory}
-use Rattle.vacation_core.specs.Sessions.{Plan, with_booking, with_wait}
+use Rattle.vacation_core.specs.Sessions.{SessionProgram, with_booking, with_wait}
 
--- a walk stops at what is left of a plan: this call is asked next, the plan gives up, or a growth was refused
-abbrev pub IsStop : Stop → Plan → Type 0
+-- a walk stops at what is left of a program: this call is asked next, the program gives up, or a growth was refused
+abbrev pub IsStop : Stop → SessionProgram → Type 0
 IsStop (Asks call) p = asked p ≡ ask.Call call
 IsStop GivesUp p = asked p ≡ ask.GiveUp
 IsStop OutOfMemory p = ⊤
 
--- a walk that begins at p comes to the plan that goes on with what it found, or it stops
-abbrev pub Comes : {T : Type 0} → Plan → Result T Stop → (T → Plan) → Type 0
+-- a walk that begins at p comes to the program that goes on with what it found, or it stops
+abbrev pub Comes : {T : Type 0} → SessionProgram → Result T Stop → (T → SessionProgram) → Type 0
 Comes p (Ok x) on = p ≡ on x
 Comes p (Err stop) on = IsStop stop p
 

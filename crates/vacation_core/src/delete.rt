@@ -1,10 +1,10 @@
-//! The plan of a deletion, walked.
+//! The program of a deletion, walked.
 ghost use Rattle.std.specs.Prelude.{◌≡◌, ◌≤◌, ℕ, Option, Some, IfOk, true};
 ghost use Rattle.std.specs.Option.{option_copied};
 ghost use Rattle.tx_engine.specs.Programs.{after, Answers};
 ghost use Rattle.vac_model.specs.Balanced.{IsItemSound};
-ghost use Rattle.vacation_core.specs.Sessions as plans;
-ghost use Rattle.vacation_core.specs.Sessions.{Plan};
+ghost use Rattle.vacation_core.specs.Sessions as programs;
+ghost use Rattle.vacation_core.specs.Sessions.{SessionProgram};
 ghost use Rattle.vacation_core.specs.Walks.{Comes};
 ghost use Rattle.vacation_core.specs.Serving.{deletes, serves_on, waiter, IsServed};
 
@@ -39,8 +39,8 @@ fn served(
 impl<'a> Walk<'a> {
     /// Makes the units of a booking free again.
     fn give_back(&mut self, booking: Booking) -> Result<(), Stop>
-        ensures { (next : Plan)
-            → Comes (after (plans.get_item booking.kind booking.id (λ o. plans.give_back booking o next)) self.old) result
+        ensures { (next : SessionProgram)
+            → Comes (after (programs.get_item booking.kind booking.id (λ o. programs.give_back booking o next)) self.old) result
             (λ _. after next self.new) }
     {
         let item = match self.get_item(booking.kind, booking.id)? {
@@ -59,7 +59,8 @@ impl<'a> Walk<'a> {
     }
 
     fn give_all_back(&mut self, bookings: &[Booking]) -> Result<(), Stop>
-        ensures { (next : Plan) → Comes (after (plans.give_all_back bookings.now next) self.old) result (λ _. after next self.new) }
+        ensures { (next : SessionProgram)
+            → Comes (after (programs.give_all_back bookings.now next) self.old) result (λ _. after next self.new) }
     {
         for booking in bookings {
             self.give_back(*booking)?;
@@ -68,7 +69,7 @@ impl<'a> Walk<'a> {
     }
 
     fn forget_all(&mut self, waits: &[Wait]) -> Result<(), Stop>
-        ensures { (next : Plan) → Comes (after (plans.forget_all waits.now next) self.old) result (λ _. after next self.new) }
+        ensures { (next : SessionProgram) → Comes (after (programs.forget_all waits.now next) self.old) result (λ _. after next self.new) }
     {
         for wait in waits {
             self.remove_ticket(wait.ticket)?;
@@ -78,7 +79,7 @@ impl<'a> Walk<'a> {
 
     /// Takes the first ticket, which is this one, off its queue and out of the map.
     fn end_wait(&mut self, kind: Kind, ticket: u64) -> Result<(), Stop>
-        ensures { (next : Plan) → Comes (after (plans.end_wait kind ticket next) self.old) result (λ _. after next self.new) }
+        ensures { (next : SessionProgram) → Comes (after (programs.end_wait kind ticket next) self.old) result (λ _. after next self.new) }
     {
         self.dequeue(kind)?;
         self.remove_ticket(ticket)
@@ -91,8 +92,9 @@ impl<'a> Walk<'a> {
         ticket: u64,
         booking: Option<Booking>,
     ) -> Result<(), Stop>
-        ensures { (next : Plan)
-            → Comes (after (plans.get_customer customer (λ o. plans.put_customer customer (waiter ticket booking o) next)) self.old) result
+        ensures { (next : SessionProgram)
+            → Comes (after (programs.get_customer customer
+            (λ o. programs.put_customer customer (waiter ticket booking o) next)) self.old) result
             (λ _. after next self.new) }
     {
         let found = self.get_customer(customer)?;
@@ -105,8 +107,8 @@ impl<'a> Walk<'a> {
 
     /// Serves a ticket that is in the map: how many it books, `None` where serving ends.
     fn serve_item(&mut self, kind: Kind, ticket: u64, waiting: Ticket) -> Result<Option<u64>, Stop>
-        ensures comes { (later : ℕ → Plan) (end : Plan)
-            → Comes (after (plans.serve_ticket kind ticket (Some waiting) later end) self.old) result
+        ensures comes { (later : ℕ → SessionProgram) (end : SessionProgram)
+            → Comes (after (programs.serve_ticket kind ticket (Some waiting) later end) self.old) result
             (λ served. after (serves_on served later end) self.new) }
         ensures one { IfOk result (λ served. IsServed served) }
     {
@@ -129,8 +131,8 @@ impl<'a> Walk<'a> {
         item: Item,
     ) -> Result<Option<u64>, Stop>
         requires { IsItemSound item }
-        ensures comes { (later : ℕ → Plan) (end : Plan)
-            → Comes (after (plans.serve_item kind ticket waiting (Some item) later end) self.old) result
+        ensures comes { (later : ℕ → SessionProgram) (end : SessionProgram)
+            → Comes (after (programs.serve_item kind ticket waiting (Some item) later end) self.old) result
             (λ served. after (serves_on served later end) self.new) }
         ensures one { IfOk result (λ served. IsServed served) }
     {
@@ -156,8 +158,8 @@ impl<'a> Walk<'a> {
 
     /// One step of serving: how many tickets it books, `None` where serving ends.
     fn serve_one(&mut self, kind: Kind) -> Result<Option<u64>, Stop>
-        ensures comes { (later : ℕ → Plan) (end : Plan)
-            → Comes (after (plans.peek kind (λ o. plans.serve_first kind o later end)) self.old) result
+        ensures comes { (later : ℕ → SessionProgram) (end : SessionProgram)
+            → Comes (after (programs.peek kind (λ o. programs.serve_first kind o later end)) self.old) result
             (λ served. after (serves_on served later end) self.new) }
         ensures one { IfOk result (λ served. IsServed served) }
     {
@@ -169,8 +171,8 @@ impl<'a> Walk<'a> {
 
     /// Serves the first ticket of a queue.
     fn serve_ticket(&mut self, kind: Kind, ticket: u64) -> Result<Option<u64>, Stop>
-        ensures comes { (later : ℕ → Plan) (end : Plan)
-            → Comes (after (plans.serve_first kind (Some ticket) later end) self.old) result
+        ensures comes { (later : ℕ → SessionProgram) (end : SessionProgram)
+            → Comes (after (programs.serve_first kind (Some ticket) later end) self.old) result
             (λ served. after (serves_on served later end) self.new) }
         ensures one { IfOk result (λ served. IsServed served) }
     {
@@ -185,8 +187,8 @@ impl<'a> Walk<'a> {
 
     /// Serves a queue until serving ends, or so many tickets were taken off: how many were booked.
     fn serve(&mut self, kind: Kind, most: u64) -> Result<u64, Stop>
-        ensures comes { (next : ℕ → Plan)
-            → Comes (after (plans.serve most kind next) self.old) result (λ served. after (next served) self.new) }
+        ensures comes { (next : ℕ → SessionProgram)
+            → Comes (after (programs.serve most kind next) self.old) result (λ served. after (next served) self.new) }
         ensures few { IfOk result (λ served. served ≤ most) }
     {
         if most == 0 {
@@ -202,8 +204,8 @@ impl<'a> Walk<'a> {
     }
 
     fn serve_freed(&mut self, bookings: &[Booking], kind: Kind) -> Result<u64, Stop>
-        ensures comes { (next : ℕ → Plan)
-            → Comes (after (plans.serve_freed bookings.now kind next) self.old) result (λ served. after (next served) self.new) }
+        ensures comes { (next : ℕ → SessionProgram)
+            → Comes (after (programs.serve_freed bookings.now kind next) self.old) result (λ served. after (next served) self.new) }
         ensures few { IfOk result (λ served. served ≤ SERVE_LIMIT) }
     {
         if has_kind(bookings, kind) {
@@ -214,8 +216,8 @@ impl<'a> Walk<'a> {
     }
 
     fn serve_all(&mut self, bookings: &[Booking]) -> Result<u64, Stop>
-        ensures { (next : ℕ → Plan)
-            → Comes (after (plans.serve_all bookings.now next) self.old) result (λ served. after (next served) self.new) }
+        ensures { (next : ℕ → SessionProgram)
+            → Comes (after (programs.serve_all bookings.now next) self.old) result (λ served. after (next served) self.new) }
     {
         let car = self.serve_freed(bookings, Kind::Car)?;
         let flight = self.serve_freed(bookings, Kind::Flight)?;
@@ -224,7 +226,7 @@ impl<'a> Walk<'a> {
     }
 
     pub(crate) fn delete(&mut self, customer: u64) -> Result<ActionReply, Stop>
-        ensures { Comes (after (plans.delete customer) self.old) result (λ reply. Answers reply) }
+        ensures { Comes (after (programs.delete customer) self.old) result (λ reply. Answers reply) }
     {
         match self.get_customer(customer)? {
             Some(who) => {
@@ -240,7 +242,7 @@ impl<'a> Walk<'a> {
         bookings: &[Booking],
         waits: &[Wait],
     ) -> Result<ActionReply, Stop>
-        requires { plans.is_customer_within (record { bookings = bookings.now; waits = waits.now }) ≡ true }
+        requires { programs.is_customer_within (record { bookings = bookings.now; waits = waits.now }) ≡ true }
         ensures { Comes (after (deletes customer bookings.now waits.now) self.old) result (λ reply. Answers reply) }
     {
         self.give_all_back(bookings)?;

@@ -1,4 +1,4 @@
-//! The plan of a reservation, walked.
+//! The program of a reservation, walked.
 ghost use Rattle.std.specs.Prelude.{◌≡◌, ◌≤◌, ℕ, Option, Some, None, IfOk, IfSome, OnOk, ◌||◌, unwrap_or, is_none, ◌&&◌};
 ghost use Rattle.std.specs.Prelude.{length, drop, true, false};
 ghost use Rattle.std.specs.Option.{option_copied};
@@ -10,8 +10,8 @@ ghost use Rattle.vac_model.specs.declared.item.Customer.{Customer as ACustomer};
 ghost use Rattle.vac_model.specs.declared.item.Kind.TheVariants.{Car, Flight, Room};
 ghost use Rattle.vac_model.specs.declared.action.Part.{Part as APart};
 ghost use Rattle.vac_model.specs.Holdings.{newcomer};
-ghost use Rattle.vacation_core.specs.Sessions as plans;
-ghost use Rattle.vacation_core.specs.Sessions.{Plan};
+ghost use Rattle.vacation_core.specs.Sessions as programs;
+ghost use Rattle.vacation_core.specs.Sessions.{SessionProgram};
 ghost use Rattle.vacation_core.specs.Walks.{Comes, IsStop, with_part};
 ghost use Rattle.vacation_core.specs.Drafts.{drafted, adds, is_changed, part_for, AreSound, IsSound};
 ghost use Rattle.vac_model.specs.Balanced.{IsItemSound};
@@ -40,7 +40,7 @@ struct Draft<'a> {
 
 /// Whether the part adds a booking or a wait.
 fn is_change(part: Part) -> bool
-    ensures { result ≡ plans.is_change part }
+    ensures { result ≡ programs.is_change part }
 {
     matches!(part, Part::Booked { .. } | Part::Waits { .. })
 }
@@ -189,9 +189,9 @@ fn improve(best: &mut Option<(u64, Item)>, id: u64, item: &Item)
 fn improve_kind(best: &mut Each<Option<(u64, Item)>>, ask: &Ask, item: &Item)
     requires item_sound { IsItemSound item.now }
     requires best_sound { AreSound best.old }
-    ensures car { best.new.car ≡ plans.better Car ask.now (Some item.now) best.old.car }
-    ensures flight { best.new.flight ≡ plans.better Flight ask.now (Some item.now) best.old.flight }
-    ensures room { best.new.room ≡ plans.better Room ask.now (Some item.now) best.old.room }
+    ensures car { best.new.car ≡ programs.better Car ask.now (Some item.now) best.old.car }
+    ensures flight { best.new.flight ≡ programs.better Flight ask.now (Some item.now) best.old.flight }
+    ensures room { best.new.room ≡ programs.better Room ask.now (Some item.now) best.old.room }
     ensures sound { AreSound best.new }
 {
     match ask.kind {
@@ -206,9 +206,9 @@ fn improve_kind(best: &mut Each<Option<(u64, Item)>>, ask: &Ask, item: &Item)
 fn improve_told(best: &mut Each<Option<(u64, Item)>>, ask: &Ask, reply: &Reply<Entry>) -> bool
     requires { AreSound best.old }
     ensures tells { result ≡ tells_item reply.now }
-    ensures car { result ≡ true → best.new.car ≡ plans.better Car ask.now (item_told reply.now) best.old.car }
-    ensures flight { result ≡ true → best.new.flight ≡ plans.better Flight ask.now (item_told reply.now) best.old.flight }
-    ensures room { result ≡ true → best.new.room ≡ plans.better Room ask.now (item_told reply.now) best.old.room }
+    ensures car { result ≡ true → best.new.car ≡ programs.better Car ask.now (item_told reply.now) best.old.car }
+    ensures flight { result ≡ true → best.new.flight ≡ programs.better Flight ask.now (item_told reply.now) best.old.flight }
+    ensures room { result ≡ true → best.new.room ≡ programs.better Room ask.now (item_told reply.now) best.old.room }
     ensures sound { AreSound best.new }
 {
     match reply {
@@ -230,11 +230,11 @@ fn improve_told(best: &mut Each<Option<(u64, Item)>>, ask: &Ask, reply: &Reply<E
 fn improve_all(best: &mut Each<Option<(u64, Item)>>, asks: &[Ask], replies: &[Reply<Entry>]) -> bool
     requires sound { AreSound best.old }
     requires told { length asks.now ≤ length replies.now }
-    ensures gathers { result ≡ true → (next : Option (ℕ × AnItem) → Option (ℕ × AnItem) → Option (ℕ × AnItem) → Plan)
-        → after (plans.gather asks.now best.old.car best.old.flight best.old.room next) replies.now
+    ensures gathers { result ≡ true → (next : Option (ℕ × AnItem) → Option (ℕ × AnItem) → Option (ℕ × AnItem) → SessionProgram)
+        → after (programs.gather asks.now best.old.car best.old.flight best.old.room next) replies.now
         ≡ after (next best.new.car best.new.flight best.new.room) (drop (length asks.now) replies.now) }
-    ensures gives_up { result ≡ false → (next : Option (ℕ × AnItem) → Option (ℕ × AnItem) → Option (ℕ × AnItem) → Plan)
-        → asked (after (plans.gather asks.now best.old.car best.old.flight best.old.room next) replies.now) ≡ GiveUp }
+    ensures gives_up { result ≡ false → (next : Option (ℕ × AnItem) → Option (ℕ × AnItem) → Option (ℕ × AnItem) → SessionProgram)
+        → asked (after (programs.gather asks.now best.old.car best.old.flight best.old.room next) replies.now) ≡ GiveUp }
     ensures sound { AreSound best.new }
 {
     for i in 0..asks.len() {
@@ -255,7 +255,7 @@ fn no_candidate(best: &Each<Option<(u64, Item)>>) -> bool
 /// The ask whose get comes next, where there are fewer replies than asks, each of which tells an item or that there is none.
 pub(crate) fn due_of(asks: &[Ask], replies: &[Reply<Entry>]) -> Option<Ask>
     ensures { (customer units : ℕ) → IfSome result (λ due.
-        asked (after (plans.reserve customer units asks.now) replies.now) ≡ NextCall (get_due due)) }
+        asked (after (programs.reserve customer units asks.now) replies.now) ≡ NextCall (get_due due)) }
 {
     let count = replies.len();
     if count < asks.len() && tell_items(replies) {
@@ -271,7 +271,7 @@ pub(crate) fn due_of(asks: &[Ask], replies: &[Reply<Entry>]) -> Option<Ask>
 fn asks_units(kind: Kind, id: u64, units: u64, item: &Item) -> Stop
     requires sound { IsItemSound item.now }
     requires free { units ≤ item.now.free }
-    ensures { (next : Plan) → IsStop result (plans.put_item kind id (take_units units item.now) next) }
+    ensures { (next : SessionProgram) → IsStop result (programs.put_item kind id (take_units units item.now) next) }
 {
     let booked = Item {
         used: item.used + units,
@@ -291,8 +291,8 @@ impl<'a> Walk<'a> {
         best: &mut Each<Option<(u64, Item)>>,
     ) -> Result<(), Stop>
         requires { AreSound best.old }
-        ensures comes { (next : Option (ℕ × AnItem) → Option (ℕ × AnItem) → Option (ℕ × AnItem) → Plan)
-            → Comes (after (plans.gather asks.now best.old.car best.old.flight best.old.room next) self.old) result
+        ensures comes { (next : Option (ℕ × AnItem) → Option (ℕ × AnItem) → Option (ℕ × AnItem) → SessionProgram)
+            → Comes (after (programs.gather asks.now best.old.car best.old.flight best.old.room next) self.old) result
             (λ _. after (next best.new.car best.new.flight best.new.room) self.new) }
         ensures sound { AreSound best.new }
     {
@@ -312,8 +312,8 @@ impl<'a> Walk<'a> {
     /// The candidates of the three kinds.
     fn gather(&mut self, asks: &[Ask], best: &mut Each<Option<(u64, Item)>>) -> Result<(), Stop>
         requires { AreSound best.old }
-        ensures comes { (next : Option (ℕ × AnItem) → Option (ℕ × AnItem) → Option (ℕ × AnItem) → Plan)
-            → Comes (after (plans.gather asks.now best.old.car best.old.flight best.old.room next) self.old) result
+        ensures comes { (next : Option (ℕ × AnItem) → Option (ℕ × AnItem) → Option (ℕ × AnItem) → SessionProgram)
+            → Comes (after (programs.gather asks.now best.old.car best.old.flight best.old.room next) self.old) result
             (λ _. after (next best.new.car best.new.flight best.new.room) self.new) }
         ensures sound { AreSound best.new }
     {
@@ -333,8 +333,9 @@ impl<'a> Walk<'a> {
     #[cold]
     #[inline(never)]
     fn line_up(&mut self, draft: &Draft<'_>, kind: Kind, id: u64) -> Result<Part, Stop>
-        ensures { (next : APart → ACustomer → Plan)
-            → Comes (after (plans.read_next (plans.line_up draft.now.number draft.now.units kind id (drafted draft.now) next)) self.old)
+        ensures { (next : APart → ACustomer → SessionProgram)
+            → Comes (after (programs.read_next
+            (programs.line_up draft.now.number draft.now.units kind id (drafted draft.now) next)) self.old)
             result (λ part. after (next part (with_part draft.now.units kind part (drafted draft.now))) self.new) }
     {
         let ticket = self.read_next()?;
@@ -362,8 +363,8 @@ impl<'a> Walk<'a> {
         candidate: &Option<(u64, Item)>,
     ) -> Result<Part, Stop>
         requires { IsSound candidate.now }
-        ensures { (next : APart → ACustomer → Plan)
-            → Comes (after (plans.decide draft.now.number draft.now.units kind candidate.now (drafted draft.now) next) self.old)
+        ensures { (next : APart → ACustomer → SessionProgram)
+            → Comes (after (programs.decide draft.now.number draft.now.units kind candidate.now (drafted draft.now) next) self.old)
             result (λ part. after (next part (with_part draft.now.units kind part (drafted draft.now))) self.new) }
     {
         let Some((id, item)) = candidate else {
@@ -392,8 +393,8 @@ impl<'a> Walk<'a> {
 
     /// Puts the customer where it is new or changed.
     fn put_changed(&mut self, draft: &Draft<'_>) -> Result<(), Stop>
-        ensures { (next : Plan)
-            → Comes (after (plans.put_changed draft.now.number (option_copied draft.now.found) (is_changed draft.now)
+        ensures { (next : SessionProgram)
+            → Comes (after (programs.put_changed draft.now.number (option_copied draft.now.found) (is_changed draft.now)
             (drafted draft.now) next) self.old) result (λ _. after next self.new) }
     {
         if draft.found.is_some() && !draft.is_changed() {
@@ -414,7 +415,7 @@ impl<'a> Walk<'a> {
         found: Option<&Customer>,
     ) -> Result<ActionReply, Stop>
         requires { AreSound best.now }
-        ensures { Comes (after (plans.decide_all number units best.now.car best.now.flight best.now.room
+        ensures { Comes (after (programs.decide_all number units best.now.car best.now.flight best.now.room
             (option_copied found.entry)) self.old) result (λ reply. Answers reply) }
     {
         let mut draft = Draft {
@@ -444,7 +445,7 @@ impl<'a> Walk<'a> {
         units: u64,
         asks: &[Ask],
     ) -> Result<ActionReply, Stop>
-        ensures { Comes (after (plans.reserve customer units asks.now) self.old) result (λ reply. Answers reply) }
+        ensures { Comes (after (programs.reserve customer units asks.now) self.old) result (λ reply. Answers reply) }
     {
         let mut best = Each {
             car: None,

@@ -2,7 +2,7 @@
 ghost use Rattle.std.specs.Prelude.{◌≡◌, IfOk, IfErr, IfSome};
 ghost use Rattle.tx_engine.specs.Programs.{after, asked, replies_of, Answers};
 ghost use Rattle.vac_model.specs.Actions.{IsAllowed};
-ghost use Rattle.vacation_core.specs.Sessions as plans;
+ghost use Rattle.vacation_core.specs.Sessions as programs;
 ghost use Rattle.vacation_core.specs.Walks.{Comes};
 ghost use Rattle.vacation_core.specs.Left.{replies_in};
 ghost use Rattle.vacation_core.specs.Gets.{get_due};
@@ -67,7 +67,7 @@ fn copy_of(alloc: Global, action: &Action) -> Result<Action, Memory>
 
 impl<'a> Walk<'a> {
     fn query_item(&mut self, kind: Kind, id: u64) -> Result<ActionReply, Stop>
-        ensures { Comes (after (plans.query_item kind id) self.old) result (λ reply. Answers reply) }
+        ensures { Comes (after (programs.query_item kind id) self.old) result (λ reply. Answers reply) }
     {
         match self.get_item(kind, id)? {
             Some(item) => Ok(ActionReply::Found { item }),
@@ -76,7 +76,7 @@ impl<'a> Walk<'a> {
     }
 
     fn query_bill(&mut self, customer: u64) -> Result<ActionReply, Stop>
-        ensures { Comes (after (plans.query_bill customer) self.old) result (λ reply. Answers reply) }
+        ensures { Comes (after (programs.query_bill customer) self.old) result (λ reply. Answers reply) }
     {
         match self.get_customer(customer)? {
             Some(who) => Ok(ActionReply::Bill {
@@ -104,7 +104,7 @@ impl Session {
 
     /// Where the replies so far lead.
     fn play(&self, left: Left<'_>) -> Result<ActionReply, Stop>
-        ensures { Comes (after (plans.session self.now) (replies_in left.entry)) result (λ reply. Answers reply) }
+        ensures { Comes (after (programs.session self.now) (replies_in left.entry)) result (λ reply. Answers reply) }
     {
         let mut walk = Walk::new(self.alloc, left);
         match &self.action {
@@ -126,7 +126,7 @@ impl Session {
     /// What the replies so far lead to, walked from the first.
     #[inline(always)]
     fn walked(&self, replies: &[Reply<Entry>]) -> Result<Ask<Entry>, Memory>
-        ensures { IfOk result (λ ask. ask ≡ asked (after (plans.session self.now) replies.now)) }
+        ensures { IfOk result (λ ask. ask ≡ asked (after (programs.session self.now) replies.now)) }
     {
         match self.play(Left::Replies(replies)) {
             Ok(_) => Ok(Ask::Done),
@@ -138,7 +138,7 @@ impl Session {
 
     /// The item that a reservation gets next, while not all that it asks for are got: no candidate is weighed for that.
     fn due(&self, replies: &[Reply<Entry>]) -> Option<ItemAsk>
-        ensures { IfSome result (λ due. asked (after (plans.session self.now) replies.now) ≡ ask.Call (get_due due)) }
+        ensures { IfSome result (λ due. asked (after (programs.session self.now) replies.now) ≡ ask.Call (get_due due)) }
     {
         match &self.action {
             Action::Reserve { asks, .. } => due_of(asks.as_slice(), replies),
@@ -148,8 +148,8 @@ impl Session {
 
     /// What the session answered in this receipt, which is one of its own.
     pub fn reply(&self, receipt: &Record<Entry>) -> Result<ActionReply, Memory>
-        requires { asked (after (plans.session self.now) (replies_of receipt.now.calls)) ≡ ask.Done }
-        ensures { IfOk result (λ reply. after (plans.session self.now) (replies_of receipt.now.calls) ≡ Answers reply) }
+        requires { asked (after (programs.session self.now) (replies_of receipt.now.calls)) ≡ ask.Done }
+        ensures { IfOk result (λ reply. after (programs.session self.now) (replies_of receipt.now.calls) ≡ Answers reply) }
     {
         match self.play(Left::Calls(receipt.calls.as_slice())) {
             Ok(reply) => Ok(reply),
@@ -160,9 +160,9 @@ impl Session {
 
 impl Job<Entry> for Session {
     ghost use Rattle.tx_engine.specs.Programs.{after, asked};
-    ghost use Rattle.vacation_core.specs.Sessions as plans;
+    ghost use Rattle.vacation_core.specs.Sessions as programs;
 
-    ghost asks = { λ action replies ask. ask ≡ asked (after (plans.session action) replies) };
+    ghost asks = { λ action replies ask. ask ≡ asked (after (programs.session action) replies) };
 
     /// What the session asks after these replies: it gives up where no balanced tables answer so.
     #[inline(always)]

@@ -1,10 +1,10 @@
-//! The plan of an update, walked.
+//! The program of an update, walked.
 ghost use Rattle.std.specs.Prelude.{◌≡◌, List, All};
 ghost use Rattle.tx_engine.specs.Programs.{after};
 ghost use Rattle.vac_model.specs.Actions as actions;
 ghost use Rattle.vac_model.specs.declared.action.Changed.{Changed as AChanged};
-ghost use Rattle.vacation_core.specs.Sessions as plans;
-ghost use Rattle.vacation_core.specs.Sessions.{Plan};
+ghost use Rattle.vacation_core.specs.Sessions as programs;
+ghost use Rattle.vacation_core.specs.Sessions.{SessionProgram};
 ghost use Rattle.vacation_core.specs.Walks.{Comes};
 
 use crate::walk::{Stop, Walk};
@@ -20,7 +20,8 @@ impl<'a> Walk<'a> {
         old: Option<Item>,
         new: Option<Item>,
     ) -> Result<(), Stop>
-        ensures { (next : Plan) → Comes (after (plans.set_item kind id old new next) self.old) result (λ _. after next self.new) }
+        ensures { (next : SessionProgram)
+            → Comes (after (programs.set_item kind id old new next) self.old) result (λ _. after next self.new) }
     {
         match (old, new) {
             (None, None) => Ok(()),
@@ -37,8 +38,8 @@ impl<'a> Walk<'a> {
 
     fn change_one(&mut self, change: Change) -> Result<Changed, Stop>
         requires { actions.IsAmountWithin change }
-        ensures { (next : AChanged → Plan)
-            → Comes (after (plans.change_one change next) self.old) result (λ made. after (next made) self.new) }
+        ensures { (next : AChanged → SessionProgram)
+            → Comes (after (programs.change_one change next) self.old) result (λ made. after (next made) self.new) }
     {
         let (kind, id) = place_of(change);
         let item = self.get_item(kind, id)?;
@@ -49,8 +50,8 @@ impl<'a> Walk<'a> {
 
     pub(crate) fn update(&mut self, changes: &[Change]) -> Result<Items<Changed>, Stop>
         requires { All actions.IsAmountWithin changes.now }
-        ensures { (next : List AChanged → Plan)
-            → Comes (after (plans.change_each changes.now next) self.old) result (λ made. after (next made) self.new) }
+        ensures { (next : List AChanged → SessionProgram)
+            → Comes (after (programs.change_each changes.now next) self.old) result (λ made. after (next made) self.new) }
     {
         let mut made = Items::from_vec(Vec::with_capacity(self.allocator(), changes.len())?);
         for change in changes {
@@ -62,7 +63,7 @@ impl<'a> Walk<'a> {
 }
 
 fn is_same_item(item: &Item, other: &Item) -> bool
-    ensures { result ≡ plans.is_same_item item.now other.now }
+    ensures { result ≡ programs.is_same_item item.now other.now }
 {
     item.total == other.total
         && item.used == other.used

@@ -1,5 +1,6 @@
-//! The walk along a session's plan by the replies so far: each call of the plan takes its reply off, or is what is asked next.
-ghost use Rattle.std.specs.Prelude.{◌≡◌, ◌≤◌, ◌∷◌, ℕ, List, [], Option, true, false, IsTrue, IfOk, IfNone, IfSome, MatchOption, length, drop};
+//! The walk along a session's program by the replies so far: each call of the program takes its reply off, or is what is asked next.
+ghost use Rattle.std.specs.Prelude.{◌≡◌, ◌≤◌, ◌∷◌, ℕ, List, [], Option, true, false, length, drop};
+ghost use Rattle.std.specs.Prelude.{IsTrue, IfOk, IfNone, IfSome, MatchOption};
 ghost use Rattle.std.specs.List.{list_all};
 ghost use Rattle.std.specs.Option.{option_copied};
 ghost use Rattle.seq_model.specs.declared.call.Op.TheVariants.{Get as Got};
@@ -12,8 +13,8 @@ ghost use Rattle.vac_model.specs.declared.item.Customer.{Customer as ACustomer};
 ghost use Rattle.vac_model.specs.declared.item.Ticket.{Ticket as ATicket};
 ghost use Rattle.vacation_core.specs.declared.entry.Entry.{Entry as AnEntry};
 ghost use Rattle.vacation_core.specs.declared.walk.Stop.TheVariants.{OutOfMemory};
-ghost use Rattle.vacation_core.specs.Sessions as plans;
-ghost use Rattle.vacation_core.specs.Sessions.{Plan};
+ghost use Rattle.vacation_core.specs.Sessions as programs;
+ghost use Rattle.vacation_core.specs.Sessions.{SessionProgram};
 ghost use Rattle.vacation_core.specs.Gets.{get_due, tells_item};
 ghost use Rattle.vacation_core.specs.Left.{replies_in};
 ghost use Rattle.vacation_core.specs.Walks.{Comes, IsStop};
@@ -27,7 +28,7 @@ use vac_model::{
     is_item_sound,
 };
 
-/// Why a walk does not come to the end of its plan.
+/// Why a walk does not come to the end of its program.
 #[derive(Drop)]
 pub(crate) enum Stop {
     /// This call is asked next.
@@ -61,7 +62,7 @@ pub(crate) enum Left<'a> {
     Calls(&'a [(Call<Entry>, Reply<Entry>)]),
 }
 
-/// A walk along a plan by the replies to its calls.
+/// A walk along a program by the replies to its calls.
 #[derive(Drop)]
 pub(crate) struct Walk<'a> {
     alloc: Global,
@@ -88,7 +89,7 @@ const NEXT_TICKET: u32 = 0;
 
 /// The number of the map of a kind's items.
 pub(crate) fn map_of(kind: Kind) -> u32
-    ensures { result ≡ plans.map_of kind }
+    ensures { result ≡ programs.map_of kind }
 {
     match kind {
         Kind::Car => 0,
@@ -99,7 +100,7 @@ pub(crate) fn map_of(kind: Kind) -> u32
 
 /// The number of the queue of a kind.
 fn queue_of(kind: Kind) -> u32
-    ensures { result ≡ plans.queue_of kind }
+    ensures { result ≡ programs.queue_of kind }
 {
     match kind {
         Kind::Car => 5,
@@ -108,11 +109,11 @@ fn queue_of(kind: Kind) -> u32
     }
 }
 
-// ---- what a reply says: the plan gives up where no balanced tables answer it
+// ---- what a reply says: the program gives up where no balanced tables answer it
 
 fn item_in(reply: &Reply<Entry>) -> Result<Option<Item>, Stop>
-    ensures comes { (next : Option AnItem → Plan) (left : List (AReply AnEntry))
-        → Comes (after (plans.item_in reply.now next) left) result (λ item. after (next item) left) }
+    ensures comes { (next : Option AnItem → SessionProgram) (left : List (AReply AnEntry))
+        → Comes (after (programs.item_in reply.now next) left) result (λ item. after (next item) left) }
     ensures sound { IfOk result (λ item. (i : AnItem) → item ≡ Some i → IsItemSound i) }
 {
     match reply {
@@ -151,13 +152,13 @@ pub(crate) fn tell_items(replies: &[Reply<Entry>]) -> bool
 }
 
 fn is_booking_within(booking: &Booking) -> bool
-    ensures { result ≡ plans.is_booking_within booking.now }
+    ensures { result ≡ programs.is_booking_within booking.now }
 {
     are_units(booking.units) && booking.price <= AMOUNT_LIMIT
 }
 
 fn are_bookings_within(bookings: &[Booking]) -> bool
-    ensures { result ≡ list_all plans.is_booking_within bookings.now }
+    ensures { result ≡ list_all programs.is_booking_within bookings.now }
 {
     for booking in bookings {
         if !is_booking_within(booking) {
@@ -168,15 +169,15 @@ fn are_bookings_within(bookings: &[Booking]) -> bool
 }
 
 fn is_customer_within(who: &Customer) -> bool
-    ensures { result ≡ plans.is_customer_within who.now }
+    ensures { result ≡ programs.is_customer_within who.now }
 {
     who.has_few_places() && are_bookings_within(who.bookings.as_slice())
 }
 
 fn customer_in(reply: &Reply<Entry>) -> Result<Option<&Customer>, Stop>
-    ensures comes { (next : Option ACustomer → Plan) (left : List (AReply AnEntry))
-        → Comes (after (plans.customer_in reply.now next) left) result (λ who. after (next (option_copied who)) left) }
-    ensures within { IfOk result (λ who. (w : ACustomer) → option_copied who ≡ Some w → plans.is_customer_within w ≡ true) }
+    ensures comes { (next : Option ACustomer → SessionProgram) (left : List (AReply AnEntry))
+        → Comes (after (programs.customer_in reply.now next) left) result (λ who. after (next (option_copied who)) left) }
+    ensures within { IfOk result (λ who. (w : ACustomer) → option_copied who ≡ Some w → programs.is_customer_within w ≡ true) }
 {
     match reply {
         Reply::Nothing => Ok(None),
@@ -192,8 +193,8 @@ fn customer_in(reply: &Reply<Entry>) -> Result<Option<&Customer>, Stop>
 }
 
 fn ticket_in(reply: &Reply<Entry>) -> Result<Option<Ticket>, Stop>
-    ensures { (next : Option ATicket → Plan) (left : List (AReply AnEntry))
-        → Comes (after (plans.ticket_in reply.now next) left) result (λ ticket. after (next ticket) left) }
+    ensures { (next : Option ATicket → SessionProgram) (left : List (AReply AnEntry))
+        → Comes (after (programs.ticket_in reply.now next) left) result (λ ticket. after (next ticket) left) }
 {
     match reply {
         Reply::Nothing => Ok(None),
@@ -203,8 +204,8 @@ fn ticket_in(reply: &Reply<Entry>) -> Result<Option<Ticket>, Stop>
 }
 
 fn first_in(reply: &Reply<Entry>) -> Result<Option<u64>, Stop>
-    ensures { (next : Option ℕ → Plan) (left : List (AReply AnEntry))
-        → Comes (after (plans.first_in reply.now next) left) result (λ first. after (next first) left) }
+    ensures { (next : Option ℕ → SessionProgram) (left : List (AReply AnEntry))
+        → Comes (after (programs.first_in reply.now next) left) result (λ first. after (next first) left) }
 {
     match reply {
         Reply::Nothing => Ok(None),
@@ -214,8 +215,8 @@ fn first_in(reply: &Reply<Entry>) -> Result<Option<u64>, Stop>
 }
 
 fn next_in(reply: &Reply<Entry>) -> Result<u64, Stop>
-    ensures comes { (next : ℕ → Plan) (left : List (AReply AnEntry))
-        → Comes (after (plans.next_in reply.now next) left) result (λ number. after (next number) left) }
+    ensures comes { (next : ℕ → SessionProgram) (left : List (AReply AnEntry))
+        → Comes (after (programs.next_in reply.now next) left) result (λ number. after (next number) left) }
     ensures within { IfOk result (λ number. number ≤ TICKET_LIMIT) }
 {
     match reply {
@@ -244,7 +245,7 @@ pub(crate) fn get_of(ask: Ask) -> Call<Entry>
 #[cold]
 #[inline(never)]
 pub(crate) fn asks_get(target: u32, key: u64) -> Stop
-    ensures { (next : AReply AnEntry → Plan) → IsStop result (Due (plans.on target (Got key)) next) }
+    ensures { (next : AReply AnEntry → SessionProgram) → IsStop result (Due (programs.on target (Got key)) next) }
 {
     Stop::Asks(Call {
         target,
@@ -254,7 +255,7 @@ pub(crate) fn asks_get(target: u32, key: u64) -> Stop
 
 /// An item is to be put.
 pub(crate) fn asks_put(kind: Kind, id: u64, item: Item) -> Stop
-    ensures { (next : Plan) → IsStop result (plans.put_item kind id item next) }
+    ensures { (next : SessionProgram) → IsStop result (programs.put_item kind id item next) }
 {
     Stop::Asks(Call {
         target: map_of(kind),
@@ -264,7 +265,7 @@ pub(crate) fn asks_put(kind: Kind, id: u64, item: Item) -> Stop
 
 /// A customer is to be put.
 pub(crate) fn put_customer(customer: u64, who: Customer) -> Stop
-    ensures { (next : Plan) → IsStop result (plans.put_customer customer who next) }
+    ensures { (next : SessionProgram) → IsStop result (programs.put_customer customer who next) }
 {
     let op = Op::Put(customer, Entry::Customer(who));
     Stop::Asks(Call {
@@ -321,8 +322,8 @@ impl<'a> Walk<'a> {
 
     /// The reply to a call; without one, this is what is asked.
     fn reply(&mut self, target: u32, op: Op<Entry>) -> Result<&'a Reply<Entry>, Stop>
-        ensures { (next : AReply AnEntry → Plan)
-            → Comes (after (Due (plans.on target op) next) self.old) result (λ reply. after (next reply.now) self.new) }
+        ensures { (next : AReply AnEntry → SessionProgram)
+            → Comes (after (Due (programs.on target op) next) self.old) result (λ reply. after (next reply.now) self.new) }
     {
         match self.next() {
             Some(reply) => Ok(reply),
@@ -333,8 +334,8 @@ impl<'a> Walk<'a> {
     // ---- items
 
     pub(crate) fn get_item(&mut self, kind: Kind, id: u64) -> Result<Option<Item>, Stop>
-        ensures comes { (next : Option AnItem → Plan)
-            → Comes (after (plans.get_item kind id next) self.old) result (λ item. after (next item) self.new) }
+        ensures comes { (next : Option AnItem → SessionProgram)
+            → Comes (after (programs.get_item kind id next) self.old) result (λ item. after (next item) self.new) }
         ensures sound { IfOk result (λ item. (i : AnItem) → item ≡ Some i → IsItemSound i) }
     {
         match self.next() {
@@ -344,7 +345,7 @@ impl<'a> Walk<'a> {
     }
 
     pub(crate) fn put_item(&mut self, kind: Kind, id: u64, item: Item) -> Result<(), Stop>
-        ensures { (next : Plan) → Comes (after (plans.put_item kind id item next) self.old) result (λ _. after next self.new) }
+        ensures { (next : SessionProgram) → Comes (after (programs.put_item kind id item next) self.old) result (λ _. after next self.new) }
     {
         if self.passes() {
             return Ok(());
@@ -353,7 +354,7 @@ impl<'a> Walk<'a> {
     }
 
     pub(crate) fn remove_item(&mut self, kind: Kind, id: u64) -> Result<(), Stop>
-        ensures { (next : Plan) → Comes (after (plans.remove_item kind id next) self.old) result (λ _. after next self.new) }
+        ensures { (next : SessionProgram) → Comes (after (programs.remove_item kind id next) self.old) result (λ _. after next self.new) }
     {
         self.reply(map_of(kind), Op::Remove(id))?;
         Ok(())
@@ -362,9 +363,9 @@ impl<'a> Walk<'a> {
     // ---- customers
 
     pub(crate) fn get_customer(&mut self, customer: u64) -> Result<Option<&'a Customer>, Stop>
-        ensures comes { (next : Option ACustomer → Plan)
-            → Comes (after (plans.get_customer customer next) self.old) result (λ who. after (next (option_copied who)) self.new) }
-        ensures within { IfOk result (λ who. (w : ACustomer) → option_copied who ≡ Some w → plans.is_customer_within w ≡ true) }
+        ensures comes { (next : Option ACustomer → SessionProgram)
+            → Comes (after (programs.get_customer customer next) self.old) result (λ who. after (next (option_copied who)) self.new) }
+        ensures within { IfOk result (λ who. (w : ACustomer) → option_copied who ≡ Some w → programs.is_customer_within w ≡ true) }
     {
         match self.next() {
             Some(reply) => customer_in(reply),
@@ -381,7 +382,8 @@ impl<'a> Walk<'a> {
     }
 
     pub(crate) fn remove_customer(&mut self, customer: u64) -> Result<(), Stop>
-        ensures { (next : Plan) → Comes (after (plans.remove_customer customer next) self.old) result (λ _. after next self.new) }
+        ensures { (next : SessionProgram)
+            → Comes (after (programs.remove_customer customer next) self.old) result (λ _. after next self.new) }
     {
         self.reply(CUSTOMERS, Op::Remove(customer))?;
         Ok(())
@@ -390,29 +392,31 @@ impl<'a> Walk<'a> {
     // ---- tickets and queues
 
     pub(crate) fn get_ticket(&mut self, number: u64) -> Result<Option<Ticket>, Stop>
-        ensures { (next : Option ATicket → Plan)
-            → Comes (after (plans.get_ticket number next) self.old) result (λ ticket. after (next ticket) self.new) }
+        ensures { (next : Option ATicket → SessionProgram)
+            → Comes (after (programs.get_ticket number next) self.old) result (λ ticket. after (next ticket) self.new) }
     {
         let reply = self.reply(TICKETS, Op::Get(number))?;
         ticket_in(reply)
     }
 
     pub(crate) fn put_ticket(&mut self, number: u64, ticket: Ticket) -> Result<(), Stop>
-        ensures { (next : Plan) → Comes (after (plans.put_ticket number ticket next) self.old) result (λ _. after next self.new) }
+        ensures { (next : SessionProgram)
+            → Comes (after (programs.put_ticket number ticket next) self.old) result (λ _. after next self.new) }
     {
         self.reply(TICKETS, Op::Put(number, Entry::Ticket(ticket)))?;
         Ok(())
     }
 
     pub(crate) fn remove_ticket(&mut self, number: u64) -> Result<(), Stop>
-        ensures { (next : Plan) → Comes (after (plans.remove_ticket number next) self.old) result (λ _. after next self.new) }
+        ensures { (next : SessionProgram) → Comes (after (programs.remove_ticket number next) self.old) result (λ _. after next self.new) }
     {
         self.reply(TICKETS, Op::Remove(number))?;
         Ok(())
     }
 
     pub(crate) fn read_next(&mut self) -> Result<u64, Stop>
-        ensures comes { (next : ℕ → Plan) → Comes (after (plans.read_next next) self.old) result (λ number. after (next number) self.new) }
+        ensures comes { (next : ℕ → SessionProgram)
+            → Comes (after (programs.read_next next) self.old) result (λ number. after (next number) self.new) }
         ensures within { IfOk result (λ number. number ≤ TICKET_LIMIT) }
     {
         let reply = self.reply(NEXT_TICKET, Op::Read)?;
@@ -420,28 +424,29 @@ impl<'a> Walk<'a> {
     }
 
     pub(crate) fn write_next(&mut self, number: u64) -> Result<(), Stop>
-        ensures { (next : Plan) → Comes (after (plans.write_next number next) self.old) result (λ _. after next self.new) }
+        ensures { (next : SessionProgram) → Comes (after (programs.write_next number next) self.old) result (λ _. after next self.new) }
     {
         self.reply(NEXT_TICKET, Op::Write(number))?;
         Ok(())
     }
 
     pub(crate) fn enqueue(&mut self, kind: Kind, number: u64) -> Result<(), Stop>
-        ensures { (next : Plan) → Comes (after (plans.enqueue kind number next) self.old) result (λ _. after next self.new) }
+        ensures { (next : SessionProgram) → Comes (after (programs.enqueue kind number next) self.old) result (λ _. after next self.new) }
     {
         self.reply(queue_of(kind), Op::Enqueue(number))?;
         Ok(())
     }
 
     pub(crate) fn dequeue(&mut self, kind: Kind) -> Result<(), Stop>
-        ensures { (next : Plan) → Comes (after (plans.dequeue kind next) self.old) result (λ _. after next self.new) }
+        ensures { (next : SessionProgram) → Comes (after (programs.dequeue kind next) self.old) result (λ _. after next self.new) }
     {
         self.reply(queue_of(kind), Op::Dequeue)?;
         Ok(())
     }
 
     pub(crate) fn peek(&mut self, kind: Kind) -> Result<Option<u64>, Stop>
-        ensures { (next : Option ℕ → Plan) → Comes (after (plans.peek kind next) self.old) result (λ first. after (next first) self.new) }
+        ensures { (next : Option ℕ → SessionProgram)
+            → Comes (after (programs.peek kind next) self.old) result (λ first. after (next first) self.new) }
     {
         let reply = self.reply(queue_of(kind), Op::Peek)?;
         first_in(reply)

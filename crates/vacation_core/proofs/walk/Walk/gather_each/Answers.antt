@@ -1,7 +1,7 @@
 use Rattle.std.proofs.Common.{◌≡◌, ◌∷◌, true, ◌∙◌, sym, ◌+◌, drop}
 use Rattle.tx_engine.specs.Programs.{after}
 use Rattle.vacation_core.specs.Gets.{tells_item}
-use Rattle.vacation_core.specs.Sessions as plans
+use Rattle.vacation_core.specs.Sessions as programs
 use Rattle.vacation_core.proofs.GetLemmas.{gather_told}
 use Rattle.vacation_core.proofs.walk.Walk.gather_each.Goals as goal
 
@@ -16,7 +16,7 @@ loop-ask-preserved c =
       gathered = λ next. l.invariant.gathered next
           ∙ gather_told c.args.asks.now l.ask-index _ l.best.car l.best.flight l.best.room next l.self c.next.new.self
           c.in-Some.reply.now c.loop-ask-test.true is tells
-          ∙ (λ j. after (plans.gather (drop (l.ask-index + 1) c.args.asks.now) (sym (e.car on) j) (sym (e.flight on) j)
+          ∙ (λ j. after (programs.gather (drop (l.ask-index + 1) c.args.asks.now) (sym (e.car on) j) (sym (e.flight on) j)
           (sym (e.room on) j) next) c.next.new.self);
       sound = e.sound;
     }

@@ -1,16 +1,16 @@
 use Rattle.std.proofs.Common.{ap}
 use Rattle.seq_model.specs.declared.call.Op.TheVariants.{Get}
 use Rattle.tx_engine.specs.Programs.{after}
-use Rattle.vacation_core.specs.Sessions as plans
+use Rattle.vacation_core.specs.Sessions as programs
 use Rattle.vacation_core.proofs.WalkLemmas.{along, replied, stops_along}
 use Rattle.vacation_core.proofs.walk.Walk.get_customer.Goals as goal
 
 pub returns-in-Some-clause-comes : goal.returns-in-Some-clause-comes
 returns-in-Some-clause-comes c = λ next. along _ _ _ _
-    (replied (plans.on 3 (Get c.args.customer)) (λ r. plans.customer_in r next) _ _ _ c.in-Some.ensures)
+    (replied (programs.on 3 (Get c.args.customer)) (λ r. programs.customer_in r next) _ _ _ c.in-Some.ensures)
     (c.customer_in.ensures.comes next _)
 
 pub returns-in-None-clause-comes : goal.returns-in-None-clause-comes
 returns-in-None-clause-comes c = λ next. stops_along _ _ _
-    (ap (after (plans.get_customer c.args.customer next)) c.in-None.ensures.0)
-    (c.asks_get.ensures (λ r. plans.customer_in r next))
+    (ap (after (programs.get_customer c.args.customer next)) c.in-None.ensures.0)
+    (c.asks_get.ensures (λ r. programs.customer_in r next))

@@ -1,7 +1,7 @@
 use Rattle.std.proofs.Common.{◌∙◌, ap}
 use Rattle.std.proofs.lemmas.Result.{err_from_is_err_and}
 use Rattle.tx_engine.specs.Programs.{after}
-use Rattle.vacation_core.specs.Sessions as plans
+use Rattle.vacation_core.specs.Sessions as programs
 use Rattle.vacation_core.specs.Drafts.{drafted}
 use Rattle.vacation_core.proofs.WalkLemmas.{stops_along, no_ticket, a_ticket, puts, enqueues, waits_on}
 use Rattle.vacation_core.proofs.walk.Walk.line_up.Goals as goal
@@ -9,12 +9,12 @@ use Rattle.vacation_core.proofs.walk.Walk.line_up.Goals as goal
 pub returns-in_err-ticket : goal.returns-in_err-ticket
 returns-in_err-ticket c = λ next. let p = err_from_is_err_and c.from_residual.result c.from_residual.ensures.1 in
     rw (p.1, p.2) (c.in_err-ticket.ensures.comes
-    (plans.line_up c.args.draft.now.number c.args.draft.now.units c.args.kind c.args.id (drafted c.args.draft.now) next))
+    (programs.line_up c.args.draft.now.number c.args.draft.now.units c.args.kind c.args.id (drafted c.args.draft.now) next))
 
 pub returns-then-ticket-eq-TICKET_LIMIT : goal.returns-then-ticket-eq-TICKET_LIMIT
 returns-then-ticket-eq-TICKET_LIMIT c =
     λ next. c.in_ok-ticket.ensures.comes
-    (plans.line_up c.args.draft.now.number c.args.draft.now.units c.args.kind c.args.id (drafted c.args.draft.now) next)
+    (programs.line_up c.args.draft.now.number c.args.draft.now.units c.args.kind c.args.id (drafted c.args.draft.now) next)
     ∙ ap (λ p. after p c.read_next.new.self)
     (no_ticket c.args.draft.now.number c.args.draft.now.units c.args.kind c.args.id
     (drafted c.args.draft.now) next c.in_ok-ticket.ticket c.if-ticket-eq-TICKET_LIMIT.true)
@@ -23,7 +23,7 @@ pub returns-in_err-write_next : goal.returns-in_err-write_next
 returns-in_err-write_next c =
     λ next. let p = err_from_is_err_and c.from_residual-in_err-write_next.result c.from_residual-in_err-write_next.ensures.1 in
     rw (p.1, p.2) (stops_along _ _ _
-    (c.in_ok-ticket.ensures.comes (plans.line_up c.args.draft.now.number c.args.draft.now.units c.args.kind c.args.id
+    (c.in_ok-ticket.ensures.comes (programs.line_up c.args.draft.now.number c.args.draft.now.units c.args.kind c.args.id
     (drafted c.args.draft.now) next)
     ∙ ap (λ p. after p c.read_next.new.self)
     (a_ticket c.args.draft.now.number c.args.draft.now.units c.args.kind c.args.id
@@ -35,7 +35,7 @@ pub returns-in_err-put_ticket : goal.returns-in_err-put_ticket
 returns-in_err-put_ticket c =
     λ next. let p = err_from_is_err_and c.from_residual-in_err-put_ticket.result c.from_residual-in_err-put_ticket.ensures.1 in
     rw (p.1, p.2) (stops_along _ _ _
-    (c.in_ok-ticket.ensures.comes (plans.line_up c.args.draft.now.number c.args.draft.now.units c.args.kind c.args.id
+    (c.in_ok-ticket.ensures.comes (programs.line_up c.args.draft.now.number c.args.draft.now.units c.args.kind c.args.id
     (drafted c.args.draft.now) next)
     ∙ ap (λ p. after p c.read_next.new.self)
     (a_ticket c.args.draft.now.number c.args.draft.now.units c.args.kind c.args.id
@@ -49,7 +49,7 @@ pub returns-in_err-enqueue : goal.returns-in_err-enqueue
 returns-in_err-enqueue c =
     λ next. let p = err_from_is_err_and c.from_residual-in_err-enqueue.result c.from_residual-in_err-enqueue.ensures.1 in
     rw (p.1, p.2) (stops_along _ _ _
-    (c.in_ok-ticket.ensures.comes (plans.line_up c.args.draft.now.number c.args.draft.now.units c.args.kind c.args.id
+    (c.in_ok-ticket.ensures.comes (programs.line_up c.args.draft.now.number c.args.draft.now.units c.args.kind c.args.id
     (drafted c.args.draft.now) next)
     ∙ ap (λ p. after p c.read_next.new.self)
     (a_ticket c.args.draft.now.number c.args.draft.now.units c.args.kind c.args.id
@@ -64,7 +64,7 @@ returns-in_err-enqueue c =
 pub returns : goal.returns
 returns c =
     λ next. c.in_ok-ticket.ensures.comes
-    (plans.line_up c.args.draft.now.number c.args.draft.now.units c.args.kind c.args.id (drafted c.args.draft.now) next)
+    (programs.line_up c.args.draft.now.number c.args.draft.now.units c.args.kind c.args.id (drafted c.args.draft.now) next)
     ∙ ap (λ p. after p c.read_next.new.self)
     (a_ticket c.args.draft.now.number c.args.draft.now.units c.args.kind c.args.id
     (drafted c.args.draft.now) next c.in_ok-ticket.ticket c.if-ticket-eq-TICKET_LIMIT.false)

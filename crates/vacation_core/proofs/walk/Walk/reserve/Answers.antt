@@ -1,7 +1,7 @@
 use Rattle.std.proofs.Common.{◌∙◌, ap, sym}
 use Rattle.std.proofs.lemmas.Result.{err_from_is_err_and}
 use Rattle.tx_engine.specs.Programs.{after}
-use Rattle.vacation_core.specs.Sessions as plans
+use Rattle.vacation_core.specs.Sessions as programs
 use Rattle.vacation_core.proofs.WalkLemmas.{someone, along, stops_along}
 use Rattle.vacation_core.proofs.walk.Walk.reserve.Goals as goal
 
@@ -9,15 +9,15 @@ pub returns-in_err-found : goal.returns-in_err-found
 returns-in_err-found c =
     let b = c.gather.new.best in
     let p = err_from_is_err_and c.from_residual-in_err-found.result c.from_residual-in_err-found.ensures.1 in
-    rw (p.1, p.2) (stops_along _ _ _ (c.in_ok-gather.ensures.comes (plans.reserve_among c.args.customer c.args.units)
+    rw (p.1, p.2) (stops_along _ _ _ (c.in_ok-gather.ensures.comes (programs.reserve_among c.args.customer c.args.units)
     ∙ ap (λ q. after q c.gather.new.self)
     (someone c.args.customer c.args.units b.car b.flight b.room (sym c.no_candidate.ensures ∙ c.if-no_candidate.false)))
-    (c.in_err-found.ensures.comes (plans.decide_all c.args.customer c.args.units b.car b.flight b.room)))
+    (c.in_err-found.ensures.comes (programs.decide_all c.args.customer c.args.units b.car b.flight b.room)))
 
 pub returns : goal.returns
 returns c =
     let b = c.gather.new.best in
-    along _ _ _ _ (c.in_ok-gather.ensures.comes (plans.reserve_among c.args.customer c.args.units)
+    along _ _ _ _ (c.in_ok-gather.ensures.comes (programs.reserve_among c.args.customer c.args.units)
     ∙ ap (λ q. after q c.gather.new.self)
     (someone c.args.customer c.args.units b.car b.flight b.room (sym c.no_candidate.ensures ∙ c.if-no_candidate.false))
-    ∙ c.in_ok-found.ensures.comes (plans.decide_all c.args.customer c.args.units b.car b.flight b.room)) c.decide_all.ensures
+    ∙ c.in_ok-found.ensures.comes (programs.decide_all c.args.customer c.args.units b.car b.flight b.room)) c.decide_all.ensures

@@ -2,8 +2,8 @@ use Rattle.std.proofs.Common.{◌∙◌, ap, List, ◌∷◌, ◌++◌, ◌+◌,
 use Rattle.std.proofs.lemmas.Result.{err_from_is_err_and}
 use Rattle.tx_engine.specs.Programs.{after}
 use Rattle.vac_model.specs.declared.action.Changed.{Changed}
-use Rattle.vacation_core.specs.Sessions as plans
-use Rattle.vacation_core.specs.Sessions.{Plan}
+use Rattle.vacation_core.specs.Sessions as programs
+use Rattle.vacation_core.specs.Sessions.{SessionProgram}
 use Rattle.vacation_core.proofs.WalkLemmas.{stops_along, each_next, made_on}
 use Rattle.vacation_core.proofs.walk.Walk.update.Goals as goal
 
@@ -13,14 +13,15 @@ returns-in_err-one c =
     λ next. let p = err_from_is_err_and c.from_residual-in_err-one.result c.from_residual-in_err-one.ensures.1 in
     rw (p.1, p.2) (stops_along _ _ _
     (l.invariant next ∙ each_next c.args.changes.now l.change-index _ (λ more. next (l.made ++ more)) l.self c.loop-change-test.true)
-    (c.in_err-one.ensures (λ made. plans.change_each (drop (l.change-index + 1) c.args.changes.now)
+    (c.in_err-one.ensures (λ made. programs.change_each (drop (l.change-index + 1) c.args.changes.now)
     (λ more. next (l.made ++ (made ∷ more))))))
 
 pub loop-change-preserved : goal.loop-change-preserved
 loop-change-preserved c =
     let l = c.loop-change in
     λ next. l.invariant next ∙ each_next c.args.changes.now l.change-index _ (λ more. next (l.made ++ more)) l.self c.loop-change-test.true
-    ∙ c.in_ok-one.ensures (λ made. plans.change_each (drop (l.change-index + 1) c.args.changes.now)
+    ∙ c.in_ok-one.ensures (λ made. programs.change_each (drop (l.change-index + 1) c.args.changes.now)
     (λ more. next (l.made ++ (made ∷ more))))
-    ∙ ap (λ (k : List Changed → Plan). after (plans.change_each (drop (l.change-index + 1) c.args.changes.now) k) c.change_one.new.self)
+    ∙ ap (λ (k : List Changed → SessionProgram).
+    after (programs.change_each (drop (l.change-index + 1) c.args.changes.now) k) c.change_one.new.self)
     (made_on l.made c.push.new.self c.in_ok-one.one c.in_ok-push.ensures.ok next)
