@@ -92,6 +92,7 @@ module _ {V : Type 0} (asks : List (Reply V) → Ask V → Type 0) (o : World V)
     pub before : Seat V
     pub at : IsAt s before calls ask.GiveUp
 
+  -- an attempt came to this, and led the seat from s to u: a receipt, a job that gave up, or a refusal
   abbrev pub AttemptsTo : Seat V → Seat V → Result (Attempt V) Refusal → Type 0
   AttemptsTo s u (Ok (Committed r)) = HasMade s u r
   AttemptsTo s u (Ok GivenUp) = HasGivenUp s u

@@ -29,10 +29,12 @@ pub record IsBlockAt (n : ℕ) (bs : List Block) (k : ℕ) (b : placed.Block) : 
   pub first : b.first ≡ first_of n bs k
 
 module _ {V : Type 0} where
+  -- what the seat has asked, the first event first
   abbrev pub list_of : Asked V → List (Event V)
   list_of Nothing = []
   list_of (More' _ before event) = list_of before ++ event.value ∷ []
 
+  -- what the seat knows: its shares, clock, turns and receipts
   abbrev pub view : Seat V → View V
   view s = s.place.me.0
 

@@ -108,6 +108,7 @@ module _ {V : Type 0} where
     pub done : is_half_done (stage_of (lone j o v.turns) j) ≡ false
     pub bare : (k : ℕ) → is_actor j ((lone j o v.turns).boosted.gates k) ≡ false
 
+  -- the table, opened with o, shows w in s: its words, gates and bases, each actor as its seat's own world has it, and all records
   pub record Shows (o w : World V) (s : State (Slot V) (View V)) : Type 0 where
     pub shape : (w.words ≡ o.words) × (w.blocks ≡ o.blocks)
     pub table : Table o.words o.blocks w s.words s.homes

@@ -108,5 +108,6 @@ module _ {V J : Type 0} where
     pub receipts_fit : length task.jobs.items ≤ vec_capacity task.receipts
     pub missed_fit : length task.jobs.items ≤ vec_capacity task.missed
 
+  -- u has the worker and the jobs of t
   abbrev pub IsSameTask : Task V J → Task V J → Type 0
   IsSameTask t u = (u.worker ≡ t.worker) × (u.jobs.items ≡ t.jobs.items)

@@ -65,6 +65,7 @@ module _ {V : Type 0} (asks : List (Reply V) → Ask V → Type 0) (t : TxTable 
     pub at : Seat V
     pub last : ComesAfter before s at u (Ok GivenUp)
 
+  -- the last of at most so many attempts ended so: it was refused, or its job gave up; one was made
   abbrev pub EndsInVain : ℕ → Seat V → Seat V → LastAbort → Type 0
   EndsInVain tries s u (last.Refused cause) = IsRefusedLast tries s u cause
   EndsInVain tries s u last.GivenUp = GivesUpLast tries s u
