@@ -1,7 +1,7 @@
 -- Steps on the words, one after another.
 --
--- A step that told nothing leaves of its actor all but the word actor, where its stage waits for what is told: so it is a turn, and the next
--- step is due as it was. Each turn leads on from those before it, and one that told nothing brings the request nearer to its answer.
+-- A step that told nothing leaves of its actor all but the word actor, where its stage waits for what is told: so it is a turn, and the
+-- next step is due as it was. Each turn leads on from those before it, and one that told nothing brings the request nearer to its answer.
 use Rattle.std.proofs.Common.{◌≡◌, ℕ, ◌<◌, ◌≤◌, Bool, true, false, true≢false, List, Option, None, Result, refl, sym, ap}
 use Rattle.std.proofs.Common.{◌∙◌, subst, arith}
 use Rattle.word_machine.specs.Notices as notice

@@ -145,8 +145,8 @@ fn finish<V: Value>(
 }
 
 /// The turns of the request that is under way, up to its answer, with the receipt that they make. They end, whatever the other seats do.
-/// Where memory is wanting, the request is given up, and told so. When it is answered, no gate is held and no base is in hand. The bases that
-/// it takes on the way lie in `bases`, which keeps the room for the next request: what lies there at first is dropped.
+/// Where memory is wanting, the request is given up, and told so. When it is answered, no gate is held and no base is in hand. The bases
+/// that it takes on the way lie in `bases`, which keeps the room for the next request: what lies there at first is dropped.
 #[inline(always)]
 pub fn drive<V: Value>(
     alloc: Global,

@@ -69,7 +69,8 @@ module _ {V : Type 0} where
   ask_running t s r q ties keeps = (keeps (λ at. no_reads t s r ties at)).running ties.running
 
   -- at rest in its transaction its seat is what it shows
-  open_seat : (w : World V) (a : ℕ) (r : TxActor V) → Runs a r w → r.stage ≡ stage.Open → w.seats a ≡ record (seat_of r) { stage = worlds.Open }
+  open_seat : (w : World V) (a : ℕ) (r : TxActor V) → Runs a r w → r.stage ≡ stage.Open
+      → w.seats a ≡ record (seat_of r) { stage = worlds.Open }
   open_seat w a r runs rest = runs.0 ∙ at_rest (w.seats a) r r.stage rest
     where
       at_rest : (x : Seat V) (q : TxActor V) (st : Stage V) → st ≡ stage.Open

@@ -1,7 +1,7 @@
 //! What came of sessions is inspected and printed, whoever ran them.
 //!
-//! [`inspect`] audits receipts and looks whether the tables are balanced; [`text_of`] prints what became of each session and what the tables
-//! hold. A [`RunFault`] says why there is nothing to print.
+//! [`inspect`] audits receipts and looks whether the tables are balanced; [`text_of`] prints what became of each session and what the
+//! tables hold. A [`RunFault`] says why there is nothing to print.
 #![tactic(auto)]
 
 mod fault;

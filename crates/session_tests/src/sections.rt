@@ -7,11 +7,11 @@ use std::alloc::Global;
 use std::fmt::Write;
 use vac_world::VacWorld;
 
-/// What the sections come to, each behind its name. A section has a name, then a row `64 stripes`, then the items that there are, as a session
-/// file has them, and then what happens, row by row. What is refused is answered by the refusal.
+/// What the sections come to, each behind its name. A section has a name, then a row `64 stripes`, then the items that there are, as a
+/// session file has them, and then what happens, row by row. What is refused is answered by the refusal.
 ///
-/// - `1 starts reserve 7 car 1`: a client begins the session of an action, which a session file has as a line. `nothing` is an update without
-///   a change, which is not allowed.
+/// - `1 starts reserve 7 car 1`: a client begins the session of an action, which a session file has as a line. `nothing` is an update
+///   without a change, which is not allowed.
 /// - `1 steps 5`: a client takes so many steps. `1 and 2 step 5`: two of them take so many each, in turn.
 /// - `1 starves`: a client is refused memory.
 ///

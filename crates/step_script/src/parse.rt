@@ -25,7 +25,8 @@ pub enum Part {
 pub fn parse_steps(alloc: Global, text: &[u8]) -> Result<Script, Refusal>
     ensures script { IfOk result (IsScriptText text.now) }
     ensures refused { IfErr result (IsUnreadable text.now) }
-    ensures only { (script : Script) → IsScriptText text.now script → MatchResult result (λ read. read ≡ script) (λ refusal. refusal ≡ OutOfMemory) }
+    ensures only { (script : Script) → IsScriptText text.now script
+        → MatchResult result (λ read. read ≡ script) (λ refusal. refusal ≡ OutOfMemory) }
 {
     let mut script = Script::new(alloc);
     let mut part = Part::Words;
@@ -49,7 +50,8 @@ pub fn parse_steps(alloc: Global, text: &[u8]) -> Result<Script, Refusal>
 // The line that these bytes are, where it may stand here, and the part behind it.
 fn read_next(alloc: Global, at: Part, bytes: &[u8]) -> Result<Option<(ScriptLine, Part)>, Memory>
     ensures found { IfOk result (λ read. IfSome read (λ r. IsNext at bytes.now r.0 r.1)) }
-    ensures only { IfOk result (λ read. (line : ScriptLine) (behind : Part) → IsNext at bytes.now line behind → read ≡ Some (line, behind)) }
+    ensures only { IfOk result (λ read. (line : ScriptLine) (behind : Part) → IsNext at bytes.now line behind
+        → read ≡ Some (line, behind)) }
 {
     let Ok(line) = std::str::from_utf8(bytes) else {
         return Ok(None);

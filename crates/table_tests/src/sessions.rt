@@ -3,8 +3,8 @@
 //! Behind a row `sessions 2 64 1000 2` stands a session file, whose sessions are dealt in turn to two workers, on a table with 64 stripes
 //! for each collection. Each is attempted at most 1000 times, and two workers meet: each is held before its commit until all stand there,
 //! and all behind it have their receipts. `0`: none is held. What comes of them is the receipts of each worker, what the
-//! tables hold, as it is printed behind a session file, and what the audit of all receipts says. Where a session is refused memory the audit
-//! is to be Ok, too; then that is answered as a want of memory.
+//! tables hold, as it is printed behind a session file, and what the audit of all receipts says. Where a session is refused memory the
+//! audit is to be Ok, too; then that is answered as a want of memory.
 mod printed;
 mod served;
 

@@ -6,7 +6,8 @@ ghost use Rattle.tx_table.specs.Seated.{opening_of, view};
 ghost use Rattle.tx_phases.specs.Phases.{Rests, Stands};
 ghost use Rattle.driven_turns.specs.Driven.{IsNumberOf, seat_in, standing};
 ghost use Rattle.transactions.specs.Ready.{HasBegunSince, HasOpened, IsNew, IsReady};
-ghost use Rattle.transactions.specs.Requests.{CallsTo, HasCommitted, IsBegun, IsEnded, IsNotBegun, IsOpen, KeepsReceipts, OnlyKnows, has_written};
+ghost use Rattle.transactions.specs.Requests.{CallsTo, HasCommitted, IsBegun, IsEnded, IsNotBegun, IsOpen, KeepsReceipts};
+ghost use Rattle.transactions.specs.Requests.{OnlyKnows, has_written};
 
 use boxes::Boxed;
 use replay_log::Base;

@@ -2,8 +2,8 @@
 //!
 //! A job that reads much may be attempted in vain again and again while the others, which read little, commit beside it. So one that was
 //! attempted so often in vain that its worker has lost patience is given way: the others hold their next attempts back. That is a courtesy:
-//! no promise speaks of it, one worker at a time is given way, and whoever has waited long enough for one such job goes on all the same, and
-//! waits for it no more.
+//! no promise speaks of it, one worker at a time is given way, and whoever has waited long enough for one such job goes on all the same,
+//! and waits for it no more.
 use seq_model::ACTOR_LIMIT;
 use std::hint::spin_loop;
 use std::sync::atomic::{AtomicU64, Ordering};

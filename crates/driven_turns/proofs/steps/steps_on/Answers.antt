@@ -155,7 +155,8 @@ returns-in_default-clause-leads g c =
     let due = ap (λ (z : Stage _). next_of (stage_of z)) c.steps.invariant.2 ∙ c.requires.due in
     let quiet = not_loading r.stage c.in_default.not-Loading in
     let h = word_turned c.steps_as_worlds.ensures t s u r c.stepped.new.self y c.step_words-told.result c.stepped.result due quiet ties
-    e.steps c.stepped.ensures.does ((c.stepped.ensures.keeps (laid_in t)).running (running_moved (laid_in t) r y e.fits quiet ties.running)) in
+    e.steps c.stepped.ensures.does
+    ((c.stepped.ensures.keeps (laid_in t)).running (running_moved (laid_in t) r y e.fits quiet ties.running)) in
     subst (λ (n : Told _). LeadsOn (opening_of t) c.args.seat.now u n) c.says-in_default.ensures.told
     (leads_on t c.args.seat.now s u r c.stepped.result c.steps.invariant.3 ties h.1
     (ap (λ (z : Stage _). next_of (stage_of z)) c.steps.invariant.2 ∙ c.requires.due)
@@ -173,7 +174,8 @@ returns-in_default-clause-ties g c =
     let due = ap (λ (z : Stage _). next_of (stage_of z)) c.steps.invariant.2 ∙ c.requires.due in
     let quiet = not_loading r.stage c.in_default.not-Loading in
     let h = word_turned c.steps_as_worlds.ensures t s u r c.stepped.new.self y c.step_words-told.result c.stepped.result due quiet ties
-    e.steps c.stepped.ensures.does ((c.stepped.ensures.keeps (laid_in t)).running (running_moved (laid_in t) r y e.fits quiet ties.running)) in
+    e.steps c.stepped.ensures.does
+    ((c.stepped.ensures.keeps (laid_in t)).running (running_moved (laid_in t) r y e.fits quiet ties.running)) in
     h.0
 
 pub returns-in_default-clause-own : goal.returns-in_default-clause-own
@@ -188,6 +190,7 @@ returns-in_default-clause-own g c =
     let due = ap (λ (z : Stage _). next_of (stage_of z)) c.steps.invariant.2 ∙ c.requires.due in
     let quiet = not_loading r.stage c.in_default.not-Loading in
     let h = word_turned c.steps_as_worlds.ensures t s u r c.stepped.new.self y c.step_words-told.result c.stepped.result due quiet ties
-    e.steps c.stepped.ensures.does ((c.stepped.ensures.keeps (laid_in t)).running (running_moved (laid_in t) r y e.fits quiet ties.running)) in
+    e.steps c.stepped.ensures.does
+    ((c.stepped.ensures.keeps (laid_in t)).running (running_moved (laid_in t) r y e.fits quiet ties.running)) in
     c.turns_keep_own.ensures.words t s u r c.stepped.new.self c.stepped.result c.args.bases.now ties c.steps.invariant.1 h.1 h.0
     (c.stepped.ensures.leaves quiet) due quiet

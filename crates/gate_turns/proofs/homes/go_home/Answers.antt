@@ -71,7 +71,8 @@ pub put_gate-requires-clause-due : goal.put_gate-requires-clause-due
 put_gate-requires-clause-due g c =
     let e = c.fold.ensures in
     let same = c.get_mut.ensures.value in
-    let shown = subst (λ (d : Base g.row.V.Denot). shown_of c.fold.new.base ≡ after c.log_of-log.result.changes (shown_of d)) same e.shown in
+    let shown = subst (λ (d : Base g.row.V.Denot).
+    shown_of c.fold.new.base ≡ after c.log_of-log.result.changes (shown_of d)) same e.shown in
     let stripes = subst (λ (d : Base g.row.V.Denot). stripes_of c.fold.new.base ≡ stripes_of d) same e.stripes in
     let editions = subst (λ (d : Base g.row.V.Denot).
     AreRaised c.log_of-log.result.locations (editions_of d) (editions_of c.fold.new.base)) same e.editions in
@@ -98,7 +99,8 @@ returns-clause-turned g c =
     c.first-base.new.bases.items c.first-base.result c.requires.due c.requires.ties c.requires.own c.first-base.ensures c.put_gate.ensures
     (c.log_of-log.ensures.stands recorded) at c.went_home-told.ensures.does
     (λ j other. ap (λ z. copy_of z.items j) c.went_home-told.ensures.copies ∙ c.log_of-log.ensures.others j other) keep
-    ((c.went_home-told.ensures.keeps (laid_in t)).running ((c.log_of-log.ensures.keeps recorded (laid_in t)).running c.requires.ties.running))).1
+    ((c.went_home-told.ensures.keeps (laid_in t)).running
+    ((c.log_of-log.ensures.keeps recorded (laid_in t)).running c.requires.ties.running))).1
 
 pub returns-clause-ties : goal.returns-clause-ties
 returns-clause-ties g c =
@@ -119,7 +121,8 @@ returns-clause-ties g c =
     c.first-base.new.bases.items c.first-base.result c.requires.due c.requires.ties c.requires.own c.first-base.ensures c.put_gate.ensures
     (c.log_of-log.ensures.stands recorded) at c.went_home-told.ensures.does
     (λ j other. ap (λ z. copy_of z.items j) c.went_home-told.ensures.copies ∙ c.log_of-log.ensures.others j other) keep
-    ((c.went_home-told.ensures.keeps (laid_in t)).running ((c.log_of-log.ensures.keeps recorded (laid_in t)).running c.requires.ties.running))).0)
+    ((c.went_home-told.ensures.keeps (laid_in t)).running
+    ((c.log_of-log.ensures.keeps recorded (laid_in t)).running c.requires.ties.running))).0)
 
 pub returns-clause-own : goal.returns-clause-own
 returns-clause-own g c =
@@ -140,4 +143,5 @@ returns-clause-own g c =
     c.first-base.new.bases.items c.first-base.result c.requires.due c.requires.ties c.requires.own c.first-base.ensures c.put_gate.ensures
     (c.log_of-log.ensures.stands recorded) at c.went_home-told.ensures.does
     (λ j other. ap (λ z. copy_of z.items j) c.went_home-told.ensures.copies ∙ c.log_of-log.ensures.others j other) keep
-    ((c.went_home-told.ensures.keeps (laid_in t)).running ((c.log_of-log.ensures.keeps recorded (laid_in t)).running c.requires.ties.running))).2)
+    ((c.went_home-told.ensures.keeps (laid_in t)).running
+    ((c.log_of-log.ensures.keeps recorded (laid_in t)).running c.requires.ties.running))).2)
