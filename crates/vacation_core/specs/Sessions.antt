@@ -33,6 +33,7 @@ use Rattle.vacation_core.specs.declared.entry.Entry.{Entry}
 use Rattle.vacation_core.specs.declared.entry.Entry.TheVariants.{Item as Stock, Customer as Client, Ticket as Slip}
 use Rattle.tx_engine.specs.Programs.{Program, Asks, Answers, GivesUp}
 
+-- a program of calls on the tables that answers as an action does, or what is left of one
 abbrev pub SessionProgram : Type 0
 SessionProgram = Program Entry ActionReply
 
