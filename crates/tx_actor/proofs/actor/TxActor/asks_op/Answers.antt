@@ -97,7 +97,7 @@ returns-in_err-asks_to_call-in_default-clause-still g c = c.asks_to_call.ensures
 -- what is admitted
 pub returns-in_err-asks_to_read-in-Read-clause-admits : goal.returns-in_err-asks_to_read-in-Read-clause-admits
 returns-in_err-asks_to_read-in-Read-clause-admits g c =
-    on_err c.from_residual-in_err-asks_to_read-in-Read.result
+    on_err c.from_residual.result
     (subst (λ (op : Op g.row.V.Denot). let call : Call g.row.V.Denot = record { target = c.args.call.target; op = op } in
     AdmitsCall c.args.blocks.now c.args.self.now call) (sym c.in-Read.is) c.in_err-asks_to_read-in-Read.ensures.admits)
 
