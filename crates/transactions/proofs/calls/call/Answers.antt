@@ -5,7 +5,9 @@ use Rattle.seq_model.specs.declared.event.Request.TheVariants as request
 use Rattle.tx_actor.specs.declared.actor.Told.{Told}
 use Rattle.tx_actor.specs.declared.actor.Told.TheVariants as told
 use Rattle.tx_table.specs.Seated.{opening_of}
-use Rattle.transactions.proofs.CallLemmas.{at_once, call_told, calls_on, driven_calls}
+use Rattle.transactions.proofs.CallLemmas.{at_once, call_starved, call_told, calls_on, driven_calls}
+use Rattle.transactions.specs.Requests.{KeepsReceipts}
+use Rattle.tx_table.specs.declared.seat.Seat.{Seat}
 use Rattle.driven_turns.proofs.RestLemmas.{bare_out}
 use Rattle.tx_turns.specs.Asked.{Answers}
 use Rattle.transactions.proofs.calls.call.Goals as goal
@@ -43,3 +45,9 @@ pub returns-in-Ok-clause-calls : goal.returns-in-Ok-clause-calls
 returns-in-Ok-clause-calls g c =
     at_once c.args.table.now c.args.seat.now c.ask.new.seat c.args.call c.requires.open
     c.in-Ok.ensures.asked c.in-Ok.told c.reply_told.result c.reply_told.ensures c.in-Ok.ensures.answers
+
+pub returns-in-Err-clause-calls : goal.returns-in-Err-clause-calls
+returns-in-Err-clause-calls g c =
+    call_starved (opening_of c.args.table.now) c.args.seat.now c.abort.new.seat c.args.call
+    (subst (λ (s : Seat _). KeepsReceipts s c.abort.new.seat) c.in-Err.ensures.seat c.abort.ensures.keeps) c.abort.ensures.rests
+    c.in-Err.ensures.admits
