@@ -3,6 +3,7 @@ use Rattle.seq_model.specs.declared.event.Request.{Request}
 use Rattle.replay_log.specs.Worlds.{ask_at}
 use Rattle.actor_words.specs.Blocks.{BlocksView}
 use Rattle.actor_words.specs.Requests.{HasNoReads}
+use Rattle.tx_actor.proofs.AskedLemmas.{on_err}
 use Rattle.tx_actor.specs.Asks.{Admits}
 use Rattle.tx_actor.specs.Calls.{AsksAt, CanCall}
 use Rattle.tx_actor.specs.Keeping.{KeepsIn}
@@ -111,6 +112,7 @@ returns-in_err-told-clause-admits g c =
     let t = c.args.table.now in
     let r = c.args.actor.now in
     let laid = laid_as t c.blocks-2.result.now c.blocks-2.ensures.words c.blocks-2.ensures.blocks in
-    refused_admits t c.args.seat.now r c.args.request c.requires.ties c.in_err-told.ensures.open
+    on_err c.from_residual.result
+    (refused_admits t c.args.seat.now r c.args.request c.requires.ties c.in_err-told.ensures.open
     (subst (λ (z : BlocksView × Request g.row.V.Denot). Admits z.0 r z.1)
-    (λ i. (laid i, same_request c.args.request c.request_of.result c.request_of.ensures i)) c.in_err-told.ensures.admits)
+    (λ i. (laid i, same_request c.args.request c.request_of.result c.request_of.ensures i)) c.in_err-told.ensures.admits))
