@@ -1,4 +1,5 @@
 //! Where a worker may be held.
+use seq_model::Refusal;
 
 /// What a worker calls on its way. Those who try transactions that overlap hold a worker there until another has gone on. Nothing that is
 /// promised of an attempt depends on it.
@@ -8,6 +9,9 @@ pub trait Pause {
 
     /// This worker has the receipt of a commit with this number.
     fn after_receipt(&self, worker: u64, number: u64);
+
+    /// An attempt of this worker's job was refused so. Who doesn't count attempts does nothing.
+    fn after_refusal(&self, _worker: u64, _cause: Refusal) {}
 }
 
 /// No worker is held.

@@ -6,6 +6,7 @@
 use Rattle.std.proofs.Common.{◌≡◌, ℕ, ◌<◌, length, List, [], inl, inr, refl, sym, ap, ◌∙◌, subst}
 use Rattle.seq_model.specs.declared.event.Event.{Event}
 use Rattle.seq_model.specs.declared.event.Event.TheVariants.{Ask}
+use Rattle.std.specs.Prelude.{OnErr, Result, Ok, Err}
 use Rattle.seq_model.specs.declared.call.Call.{Call}
 use Rattle.seq_model.specs.declared.call.Reply.{Reply}
 use Rattle.seq_model.specs.declared.event.Request.{Request}
@@ -49,6 +50,10 @@ use Rattle.gate_turns.proofs.BasesLemmas.{are_none, gates_is, prepared_none}
 use Rattle.gate_turns.proofs.EventLemmas.{event_own}
 use Rattle.gate_turns.proofs.ThereLemmas.{start}
 use Rattle.gate_turns.proofs.ThereLemmas.{there_copies, there_laid, there_reached, there_runs}
+
+pub on_err : {T E P : Type 0} (r : Result T E) → P → OnErr r P
+on_err (Ok x) p = tt
+on_err (Err e) p = p
 
 module _ {V : Type 0} where
   -- an event asks one request

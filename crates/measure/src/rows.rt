@@ -10,7 +10,7 @@ use std::thread::Threads;
 /// How many sessions a round has for each item of a kind, as STAMP has it: so customers have few bookings, however few items there are.
 const SESSIONS_AN_ITEM: u32 = 4;
 
-/// Prints how many sessions a second are served, with few conflicts and with more, of one client, two and four.
+/// Prints how many sessions a second are served of each mix, with many items and with few, of one client, two and four.
 pub fn measure<R: Runtime + AllocGlobal + Threads + Wait + Sync>(rt: &R) -> io::Result<()> {
     for mix in [Mix::Low, Mix::High, Mix::Long] {
         for (relations, rounds) in [(10_000, 3), (1000, 30), (100, 300)] {
@@ -32,11 +32,11 @@ pub fn report_table<R: Runtime + AllocGlobal + Threads + Wait + Sync>(
     rounds: u32,
 ) -> io::Result<()> {
     let mut seconds = 0.0;
-    let mut commits: u64 = 0;
+    let mut tries: u64 = 0;
     for round in 0..rounds {
-        let (more, tried) = served::time(rt, options, SEED + u64::from(round))?;
+        let (more, made) = served::time(rt, options, SEED + u64::from(round))?;
         seconds += more;
-        commits = commits.saturating_add(tried);
+        tries = tries.saturating_add(made);
     }
     let what = mix.name();
     let Options {
@@ -45,10 +45,10 @@ pub fn report_table<R: Runtime + AllocGlobal + Threads + Wait + Sync>(
         ..
     } = *options;
     let speed = speed(options, rounds, seconds);
-    let commits = u32::try_from(commits).unwrap_or(u32::MAX);
-    let tried = f64::from(commits) / (f64::from(options.transactions) * f64::from(rounds));
+    let tries = u32::try_from(tries).unwrap_or(u32::MAX);
+    let tries = f64::from(tries) / (f64::from(options.transactions) * f64::from(rounds));
     println!(rt;
-        "{what}, {relations} items a kind, {clients} clients, at seats: {speed:.1} thousand sessions a second, {tried:.2} commits tried for each"
+        "{what}, {relations} items a kind, {clients} clients, at seats: {speed:.1} thousand sessions a second, {tries:.2} tries each"
     )
 }
 

@@ -24,7 +24,7 @@ use workers::run_workers;
 /// The most attempts of a session.
 const TRIES: u64 = 1_000_000;
 
-/// The seconds that the workers take for the sessions, and how often one of them came to its commit.
+/// The seconds that the workers take for the sessions, and how many attempts they make.
 pub fn time<R: Runtime + AllocGlobal + Threads + Wait + Sync>(
     rt: &R,
     options: &Options,

@@ -1,6 +1,6 @@
-//! How often workers come to a commit.
+//! How often workers attempt their sessions.
 use attempts::Pause;
-use seq_model::Memory;
+use seq_model::{Memory, Refusal};
 use std::alloc::Global;
 use std::sync::atomic::{AtomicU64, Ordering};
 
@@ -12,7 +12,7 @@ struct Count {
     apart: [u64; 15],
 }
 
-/// The commits that each worker has come to. None is held.
+/// The attempts of each worker. None is held.
 #[derive(Drop)]
 pub struct Tries {
     workers: Vec<Count>,
@@ -39,14 +39,24 @@ impl Tries {
     }
 }
 
-impl Pause for Tries {
-    fn before_commit(&self, worker: u64) {
+impl Tries {
+    fn note(&self, worker: u64) {
         if let Some(before) = worker.checked_sub(1) {
             if let Some(count) = self.workers.get(before as usize) {
                 count.tries.fetch_add(1, Ordering::SeqCst);
             }
         }
     }
+}
 
-    fn after_receipt(&self, _worker: u64, _number: u64) {}
+impl Pause for Tries {
+    fn before_commit(&self, _worker: u64) {}
+
+    fn after_receipt(&self, worker: u64, _number: u64) {
+        self.note(worker);
+    }
+
+    fn after_refusal(&self, worker: u64, _cause: Refusal) {
+        self.note(worker);
+    }
 }

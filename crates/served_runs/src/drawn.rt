@@ -101,20 +101,22 @@ fn run_lists<R: Threads + Wait + Clock + Sync, P: Progress + Sync>(
     ensures run { IfOk result (λ run. IsDrawnRun drawn.now run.missed) }
     ensures refused { IfErr result (IsDrawnFault drawn.now) }
 {
-    let tally = Tally::new(alloc, lists.len(), progress)?;
+    let tally = Tally::new(alloc, lists.len(), drawn.tries, progress)?;
     let begun = time_of(rt);
     let served = serve_lists(rt, alloc, tables, lists, drawn.tries, &tally)?;
     let run = time_of(rt).saturating_sub(begun);
     let missed = served.report.missed.len() as u64;
     let (causes, audit) = audited(rt, alloc, first, served)?;
-    let (commits, most) = tally.counts();
+    let (tries, most) = tally.counts();
+    let refused = tally.refused(alloc)?;
     let receipts = u64::from(drawn.options.transactions).saturating_sub(missed);
     let times = Times {
         run,
         audit,
         receipts,
-        commits,
+        tries,
         most,
+        refused,
         causes,
     };
     Ok(DrawnRun { missed, times })

@@ -9,47 +9,107 @@ use std::sync::atomic::{AtomicU64, Ordering};
 use std::time::Duration;
 use workers::LastAbort;
 
-/// The commits that a worker tried.
-#[derive(Drop)]
-struct Commits {
-    all: AtomicU64,
-    /// Those since its last receipt.
-    since: AtomicU64,
-    /// The most for one receipt.
-    most: AtomicU64,
-    /// So that no two workers write to one line of the cache.
-    apart: [u64; 13],
+/// The names of what refuses an attempt.
+const NAMES: [&str; 7] = [
+    "Moved",
+    "Busy",
+    "Stale",
+    "GateBusy",
+    "Invalid",
+    "Memory",
+    "other refusals",
+];
+
+/// The place of a refusal's name among these.
+fn place_of(refusal: Refusal) -> usize {
+    match refusal {
+        Refusal::Moved { .. } => 0,
+        Refusal::Busy { .. } => 1,
+        Refusal::Stale { .. } => 2,
+        Refusal::GateBusy { .. } => 3,
+        Refusal::Invalid { .. } => 4,
+        Refusal::OutOfMemory => 5,
+        _ => 6,
+    }
 }
 
-/// The commits that each worker tried, and the receipts of all. Workers are held nowhere.
+/// The attempts of a worker.
+#[derive(Drop)]
+struct Attempts {
+    all: AtomicU64,
+    /// Those of the job that it has in hand.
+    since: AtomicU64,
+    /// The most for one job.
+    most: AtomicU64,
+    /// Those that were refused, by name.
+    refused: [AtomicU64; 7],
+    /// So that no two workers write to one line of the cache.
+    apart: [u64; 14],
+}
+
+impl Attempts {
+    fn none() -> Attempts {
+        Attempts {
+            all: AtomicU64::new(0),
+            since: AtomicU64::new(0),
+            most: AtomicU64::new(0),
+            refused: [
+                AtomicU64::new(0),
+                AtomicU64::new(0),
+                AtomicU64::new(0),
+                AtomicU64::new(0),
+                AtomicU64::new(0),
+                AtomicU64::new(0),
+                AtomicU64::new(0),
+            ],
+            apart: [0; 14],
+        }
+    }
+
+    /// One more. Of its job it is the last one, or not.
+    fn note(&self, is_last: bool) {
+        self.all.fetch_add(1, Ordering::SeqCst);
+        let since = self.since.fetch_add(1, Ordering::SeqCst).saturating_add(1);
+        if is_last {
+            let most = self.most.load(Ordering::SeqCst).max(since);
+            self.most.store(most, Ordering::SeqCst);
+            self.since.store(0, Ordering::SeqCst);
+        }
+    }
+}
+
+/// The attempts of each worker, and the receipts of all. Workers are held nowhere.
 #[derive(Drop)]
 pub(crate) struct Tally<'a, P> {
-    workers: Vec<Commits>,
+    workers: Vec<Attempts>,
+    /// How many a job has at most.
+    tries: u64,
     receipts: Receipts<'a, P>,
 }
 
 impl<'a, P: Progress> Tally<'a, P> {
-    pub(crate) fn new(alloc: Global, count: usize, told: &'a P) -> Result<Tally<'a, P>, Memory> {
+    pub(crate) fn new(
+        alloc: Global,
+        count: usize,
+        tries: u64,
+        told: &'a P,
+    ) -> Result<Tally<'a, P>, Memory> {
         let mut workers = Vec::with_capacity(alloc, count)?;
         for _ in 0..count {
-            workers.push(Commits {
-                all: AtomicU64::new(0),
-                since: AtomicU64::new(0),
-                most: AtomicU64::new(0),
-                apart: [0; 13],
-            })?;
+            workers.push(Attempts::none())?;
         }
         Ok(Tally {
             workers,
+            tries,
             receipts: Receipts::new(told),
         })
     }
 
-    fn commits_of(&self, worker: u64) -> Option<&Commits> {
+    fn attempts_of(&self, worker: u64) -> Option<&Attempts> {
         self.workers.get(worker.checked_sub(1)? as usize)
     }
 
-    /// How many commits were tried in all, and the most for one receipt.
+    /// How many attempts there were in all, and the most for one job.
     pub(crate) fn counts(&self) -> (u64, u64) {
         let (mut all, mut most) = (0u64, 0);
         for worker in self.workers.as_slice() {
@@ -58,48 +118,65 @@ impl<'a, P: Progress> Tally<'a, P> {
         }
         (all, most)
     }
+
+    /// How many attempts were refused, by name.
+    pub(crate) fn refused(&self, alloc: Global) -> Result<Vec<(&'static str, u64)>, Memory> {
+        let mut refused = Vec::new(alloc);
+        for (place, name) in NAMES.iter().enumerate() {
+            let mut count = 0u64;
+            for worker in self.workers.as_slice() {
+                if let Some(more) = worker.refused.get(place) {
+                    count = count.saturating_add(more.load(Ordering::SeqCst));
+                }
+            }
+            if count > 0 {
+                refused.push((*name, count))?;
+            }
+        }
+        Ok(refused)
+    }
 }
 
 impl<P: Progress> Pause for Tally<'_, P> {
-    fn before_commit(&self, worker: u64) {
-        if let Some(commits) = self.commits_of(worker) {
-            commits.all.fetch_add(1, Ordering::SeqCst);
-            commits.since.fetch_add(1, Ordering::SeqCst);
-        }
-    }
+    fn before_commit(&self, _worker: u64) {}
 
     fn after_receipt(&self, worker: u64, _number: u64) {
-        if let Some(commits) = self.commits_of(worker) {
-            let since = commits.since.swap(0, Ordering::SeqCst);
-            let most = commits.most.load(Ordering::SeqCst).max(since);
-            commits.most.store(most, Ordering::SeqCst);
+        if let Some(attempts) = self.attempts_of(worker) {
+            attempts.note(true);
         }
         self.receipts.note();
     }
+
+    fn after_refusal(&self, worker: u64, cause: Refusal) {
+        if let Some(attempts) = self.attempts_of(worker) {
+            let place = place_of(cause);
+            if let Some(refused) = attempts.refused.get(place) {
+                refused.fetch_add(1, Ordering::SeqCst);
+            }
+            let before = attempts.since.load(Ordering::SeqCst);
+            attempts.note(place > 4 || self.tries.saturating_sub(before) <= 1);
+        }
+    }
 }
 
-/// How long a run and its audit took, how often its workers tried to commit, and what refused the sessions without a receipt.
+/// How long a run and its audit took, how many attempts its workers made, and what refused them, and the sessions without a receipt.
 #[derive(Drop)]
 pub struct Times {
     pub run: Duration,
     pub audit: Duration,
     pub receipts: u64,
-    /// Commits that were tried, and the most for one receipt.
-    pub commits: u64,
+    /// The attempts, and the most for one session.
+    pub tries: u64,
     pub most: u64,
+    /// How many attempts were refused, by name.
+    pub refused: Vec<(&'static str, u64)>,
     /// How many sessions were missed for each cause, by its name.
     pub causes: Vec<(&'static str, u64)>,
 }
 
 fn name_of(cause: LastAbort) -> &'static str {
     match cause {
-        LastAbort::Refused(Refusal::Moved { .. }) => "Moved",
-        LastAbort::Refused(Refusal::Busy { .. }) => "Busy",
-        LastAbort::Refused(Refusal::Stale { .. }) => "Stale",
-        LastAbort::Refused(Refusal::GateBusy { .. }) => "GateBusy",
-        LastAbort::Refused(Refusal::Invalid { .. }) => "Invalid",
-        LastAbort::Refused(Refusal::OutOfMemory) => "Memory",
-        LastAbort::Refused(_) => "other refusals",
+        LastAbort::Refused(refusal) => NAMES[place_of(refusal)],
         LastAbort::GivenUp => "given up",
         LastAbort::NotStarted => "not started",
     }
@@ -140,12 +217,12 @@ pub fn print_times(alloc: Global, times: &Times) -> Result<String, Memory> {
     print_seconds(&mut text, "audit", times.audit)?;
     let speed = times.receipts.saturating_mul(1_000) / milliseconds(times.run).max(1);
     writeln!(text, "sessions a second: {speed}")?;
-    let hundredths = times.commits.saturating_mul(100) / times.receipts.max(1);
+    let hundredths = times.tries.saturating_mul(100) / times.receipts.max(1);
     let (mean, part, most) = (hundredths / 100, hundredths % 100, times.most);
-    writeln!(
-        text,
-        "commits tried a session: mean {mean}.{part:02}, most {most}"
-    )?;
+    writeln!(text, "tries a session: mean {mean}.{part:02}, most {most}")?;
+    for (name, count) in times.refused.as_slice() {
+        writeln!(text, "refused, {name}: {count}")?;
+    }
     for (name, count) in times.causes.as_slice() {
         writeln!(text, "missed, {name}: {count}")?;
     }

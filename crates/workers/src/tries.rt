@@ -80,6 +80,7 @@ pub(crate) fn retry_in<V: Value, J: Job<V>, P: Pause>(
             }
             Ok(Attempt::GivenUp) => return Err(LastAbort::GivenUp),
             Err(refusal) => {
+                pause.after_refusal(worker, refusal);
                 last = LastAbort::Refused(refusal);
                 if !is_transient(refusal) {
                     return Err(last);

@@ -3,7 +3,6 @@ use Rattle.seq_model.specs.declared.event.Request.{Request}
 use Rattle.replay_log.specs.Worlds.{ask_at}
 use Rattle.actor_words.specs.Blocks.{BlocksView}
 use Rattle.actor_words.specs.Requests.{HasNoReads}
-use Rattle.tx_actor.proofs.AskedLemmas.{on_err}
 use Rattle.tx_actor.specs.Asks.{Admits}
 use Rattle.tx_actor.specs.Calls.{AsksAt, CanCall}
 use Rattle.tx_actor.specs.Keeping.{KeepsIn}
@@ -12,7 +11,7 @@ use Rattle.tx_actor.specs.declared.actor.Stage.TheVariants as stage
 use Rattle.tx_turns.specs.Asked.{HasTaken}
 use Rattle.tx_turns.proofs.TurnLemmas.{laid_as}
 use Rattle.gate_turns.proofs.AskLemmas.{ask_can, ask_own, ask_running, ask_tied, refused_admits, refused_own, refused_tied}
-use Rattle.gate_turns.proofs.AskLemmas.{same_request}
+use Rattle.gate_turns.proofs.AskLemmas.{on_err, same_request}
 use Rattle.gate_turns.proofs.asks.ask.Goals as goal
 
 pub request_of-requires : goal.request_of-requires
