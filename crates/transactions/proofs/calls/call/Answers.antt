@@ -46,8 +46,8 @@ returns-in-Ok-clause-calls g c =
     at_once c.args.table.now c.args.seat.now c.ask.new.seat c.args.call c.requires.open
     c.in-Ok.ensures.asked c.in-Ok.told c.reply_told.result c.reply_told.ensures c.in-Ok.ensures.answers
 
-pub returns-in-Err-clause-calls : goal.returns-in-Err-clause-calls
-returns-in-Err-clause-calls g c =
+pub returns-clause-calls : goal.returns-clause-calls
+returns-clause-calls g c =
     call_starved (opening_of c.args.table.now) c.args.seat.now c.abort.new.seat c.args.call
     (subst (λ (s : Seat _). KeepsReceipts s c.abort.new.seat) c.in-Err.ensures.seat c.abort.ensures.keeps) c.abort.ensures.rests
     c.in-Err.ensures.admits
