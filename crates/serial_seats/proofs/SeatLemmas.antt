@@ -21,6 +21,10 @@ use Rattle.tx_table.specs.Shown.{IsReached, Opens}
 use Rattle.tx_table.specs.declared.seat.Seat as table
 use Rattle.serial_seats.specs.Seats.{SeesOneState}
 
+-- whatever events lead to is in serial order
+abbrev pub SerialLaw : Type 0 → Type 0
+SerialLaw V = (o : World V) (opens : Opens o) (events : List (Event V)) → HaveStripes o.blocks → IsSerial opens.contents (run o events)
+
 module _ {V : Type 0} where
   saw_open : (c : Contents V) (rs : List (ℕ × Record V)) (x : Seat V) (st : Stage V) (calls : List (Call V × Reply V))
       → phase_at x.calls st ≡ Stands calls → SawAt c rs x st → IsLegal calls (state_at x.rv rs c)
@@ -29,10 +33,7 @@ module _ {V : Type 0} where
       subst (λ (cs : List (Call V × Reply V)). IsLegal cs (state_at x.rv rs c)) same saw
   saw_open c rs x st calls e saw = absurd (let z : ⊥ = cc in z)
 
-  abbrev pub SerialLaw : Type 0
-  SerialLaw = (o : World V) (opens : Opens o) (events : List (Event V)) → HaveStripes o.blocks → IsSerial opens.contents (run o events)
-
-  pub sees : SerialLaw → (o : World V) (s : table.Seat V) → IsReached o (seated.actor s) (acts o s) → SeesOneState o s
+  pub sees : SerialLaw V → (o : World V) (s : table.Seat V) → IsReached o (seated.actor s) (acts o s) → SeesOneState o s
   sees law o s h =
       let a = seated.actor s in
       let w = run o h.events in
