@@ -1,4 +1,6 @@
 //! How often workers tried, and how long it took.
+ghost use Rattle.std.specs.Prelude.{◌<◌};
+
 use crate::lines::Missed;
 use crate::progress::{Progress, Receipts};
 use attempts::Pause;
@@ -21,7 +23,9 @@ const NAMES: [&str; 7] = [
 ];
 
 /// The place of a refusal's name among these.
-fn place_of(refusal: Refusal) -> usize {
+fn place_of(refusal: Refusal) -> usize
+    ensures { result < 7 }
+{
     match refusal {
         Refusal::Moved { .. } => 0,
         Refusal::Busy { .. } => 1,
