@@ -19,6 +19,7 @@ mod HomedLemmas
 pub mod OwnLemmas
 mod EventsLemmas
 pub mod CopiedLemmas
+mod JudgedLemmas
 pub mod TakenLemmas
 mod BegunLemmas
 pub mod ReadLemmas

@@ -2,11 +2,10 @@
 -- with that edition (`Live`), and where its base has the edition still, the part is the base's (`same_part`); so the lemmas on what is
 -- copied for a call speak of the actor's shadow, which has copied what the call touches but for what was read.
 use Rattle.std.proofs.Common.{◌≡◌, ◌⊎◌, ℕ, ◌+◌, ◌-◌, ◌<◌, ◌==◌, ◌&&◌, Bool, true, false, true≢false, eq-eqb, not, List, [], ◌∷◌, Option}
-use Rattle.std.proofs.Common.{Some, None, inl, inr, Contains, refl, sym, ap, subst, ◌∙◌, arith, cond, eqb, ne_eqb, ◌||◌}
+use Rattle.std.proofs.Common.{Some, None, inl, inr, Contains, refl, sym, ap, subst, ◌∙◌, arith, cond, eqb, ◌||◌}
 use Rattle.std.specs.Prelude.{slice_index, is_some, unwrap_or, nat_lt}
-use Rattle.std.proofs.lemmas.Bool.{cases_eq, cond-true, cond-false}
+use Rattle.std.proofs.lemmas.Bool.{cond-false}
 use Rattle.std.specs.Cmp.{nat_cmp_total}
-use Rattle.tx_sets.specs.Entries.{Entries, lookup}
 use Rattle.seq_model.specs.declared.call.Op.TheVariants.{Get, Put, Remove, Len, Count, Add, Take}
 use Rattle.seq_model.specs.declared.call.Reply.TheVariants.{Done, Full, No, Yes}
 use Rattle.seq_model.specs.declared.limits.TheConstants.{COPY_LIMIT}
@@ -29,7 +28,7 @@ use Rattle.replay_log.specs.Contents.{reads_in as reads_at, seen, shifted, size,
 use Rattle.replay_log.specs.Guards.{Allows, IsAllowed, step_action}
 use Rattle.replay_log.specs.Parts.{Kind, MapKind, BagKind, PqKind, QueueKind, kind_of, part}
 use Rattle.replay_log.specs.Pieces.{covers, covers_at, covers_in, piece_in, piece_of}
-use Rattle.replay_log.specs.Worlds.{Copying, Stage, World, actor_of, is_known, opened, run, with_editions, differs, fits, has_room}
+use Rattle.replay_log.specs.Worlds.{Copying, Stage, World, actor_of, is_known, opened, run, with_editions, fits, has_room}
 use Rattle.replay_log.specs.Worlds.{is_change, is_stale, outcome_at, outcome_now, sized_by}
 use Rattle.replay_log.proofs.ContentLemmas.{home_is, not_plain, positive_at, same_block}
 use Rattle.replay_log.proofs.EventLemmas.{opened_linked, run_linked}
@@ -79,6 +78,7 @@ use Rattle.actor_copies.specs.Sizes.{SizesAs, base_reads}
 use Rattle.atomic_steps.proofs.Bases.{writes_by}
 use Rattle.actor_copies.proofs.CopyingLemmas.{kind_whole, nothing_pq, nothing_queue, puts_back, of_parts}
 use Rattle.replay_log.proofs.CallLemmas.{in_set_some}
+use Rattle.actor_copies.proofs.JudgedLemmas.{judged_by, not_stale, one_stale}
 
 -- ---- what is copied
 all_four : (p q r s : Bool) → p ≡ true → q ≡ false → r ≡ true → s ≡ true → (p && (not q && (r && s))) ≡ true
@@ -89,62 +89,6 @@ no_fourth true false true s e = e
 no_fourth true false false s e = refl
 no_fourth true true r s e = refl
 no_fourth false q r s e = refl
-
--- each of these locations was read with this edition where it was read, or one was read with another
-judged_by : (read : ℕ → Option ℕ) (cs : List Call) (editions : ℕ → ℕ) (f : ℕ) (ls : List ℕ) → ((l : ℕ) → read l ≡ first_read cs l)
-    → ((i e : ℕ) → IsIn i ls → read (f + i) ≡ Some e → e ≡ editions (f + i)) ⊎ IsDoomed cs (with_editions editions (shifted f ls))
-judged_by read cs editions f [] is = inl (λ i e m r. absurd m)
-judged_by read cs editions f (l ∷ ls) is = by (read (f + l)) refl (judged_by read cs editions f ls is)
-  where
-    Each : List ℕ → Type 0
-    Each ms = (i e : ℕ) → IsIn i ms → read (f + i) ≡ Some e → e ≡ editions (f + i)
-
-    here : (i e : ℕ) → i ≡ l → read (f + i) ≡ Some e → ((v : ℕ) → read (f + l) ≡ Some v → v ≡ editions (f + l)) → e ≡ editions (f + i)
-    here i e same r one = subst (λ j. read (f + j) ≡ Some e → e ≡ editions (f + j)) (sym same) (one e) r
-
-    more : ((v : ℕ) → read (f + l) ≡ Some v → v ≡ editions (f + l)) → ((i e : ℕ) → IsIn i ls → read (f + i) ≡ Some e → e ≡ editions (f + i))
-        → (i e : ℕ) → IsIn i (l ∷ ls) → read (f + i) ≡ Some e → e ≡ editions (f + i)
-    more one rest i e m r = elim m [ inl same ↦ here i e same r one | inr there ↦ rest i e there r ]
-
-    no_some : (v : ℕ) → None ≡ Some v → ⊥
-    no_some v e = cc
-
-    some_same : (u v : ℕ) → Some u ≡ Some v → u ≡ v
-    some_same u v e = cc
-
-    by : (o : Option ℕ) → read (f + l) ≡ o
-        → ((i e : ℕ) → IsIn i ls → read (f + i) ≡ Some e → e ≡ editions (f + i)) ⊎ IsDoomed cs (with_editions editions (shifted f ls))
-        → ((i e : ℕ) → IsIn i (l ∷ ls) → read (f + i) ≡ Some e → e ≡ editions (f + i))
-        ⊎ IsDoomed cs (with_editions editions (shifted f (l ∷ ls)))
-    by o e (inr doomed) = inr (inr doomed)
-    by None e (inl rest) = inl (more (λ v r. absurd (no_some v (sym e ∙ r))) rest)
-    by (Some v) e (inl rest) =
-        elim (cases_eq v (editions (f + l))) [
-          | inl same ↦ inl (more (λ u r. some_same u v (sym r ∙ e) ∙ same) rest)
-          | inr ne ↦ inr (inl (v, sym (is (f + l)) ∙ e, ne))
-        ]
-
--- ---- whether a copy is found stale without a step
-not_stale : (reads : Entries) (editions : ℕ → ℕ) (f : ℕ) (ls : List ℕ)
-    → ((i v : ℕ) → IsIn i ls → lookup reads (f + i) ≡ Some v → v ≡ editions (f + i))
-    → is_stale reads (with_editions editions (shifted f ls)) ≡ false
-not_stale reads editions f [] each = refl
-not_stale reads editions f (l ∷ ls) each =
-    by (lookup reads (f + l)) refl (not_stale reads editions f ls (λ i u m r. each i u (inr m) r))
-  where
-    rest : Bool
-    rest = is_stale reads (with_editions editions (shifted f ls))
-
-    by : (o : Option ℕ) → lookup reads (f + l) ≡ o → rest ≡ false → differs (f + l, editions (f + l)) rest o ≡ false
-    by None e others = refl
-    by (Some v) e others =
-        cond-true (eqb (editions (f + l)) v) rest true (eq-eqb (editions (f + l)) v (sym (each l v (inl refl) e))) ∙ others
-
-one_stale : (reads : Entries) (editions : ℕ → ℕ) (f l e : ℕ) → lookup reads (f + l) ≡ Some e → (e ≡ editions (f + l) → ⊥)
-    → is_stale reads (with_editions editions (shifted f (l ∷ []))) ≡ true
-one_stale reads editions f l e is ne =
-    ap (differs (f + l, editions (f + l)) false) is
-    ∙ cond-false (eqb (editions (f + l)) e) false true (ne_eqb (editions (f + l)) e (λ same. ne (sym same)))
 
 -- a declared reader finds room for all
 room_for_all : (y : Actor) (rs ws ts us : List ℕ) → y.declared ≡ true → has_room y rs ws ≡ has_room y ts us

@@ -10,7 +10,7 @@
 //! transaction's number; so the outcome, taken from the copies and the changes of the transaction's own calls, is the
 //! sequential one. A commit is that of the words, where the new editions are what is stored, and the bases go home with the
 //! changes between the value stores and the releases. This is the replay log and the shadow of Proust (2017) over TL2 (DISC
-//! 2006), with the rules of this project.
+//! 2006), with this library's own rules.
 //!
 //! The machine is one of small actions, each at most one atomic step, and each behind a guard: an action whose guard fails
 //! changes nothing. What holds of every list of them, for any collections that keep the frame laws, is in [`laws`].

@@ -4,7 +4,7 @@
 //! words, so each collection is given *locations*, counted from 0: the stripes of its keys, and where it has them its least
 //! element, its head and its tail. The *outcome* of a call is the call with its reply. From it the collection says which
 //! locations the call reads, which it writes, and which *changes* it makes; this is the conflict abstraction of Proust (2017),
-//! with rules of this project. Two outcomes *conflict* if a location that one writes is read by the other.
+//! with this library's own rules. Two outcomes *conflict* if a location that one writes is read by the other.
 //!
 //! The trait [`Conflict`] is kept by each kind of collection. Its law is the frame laws: what an outcome answers depends on
 //! the parts that it reads alone, and its changes lie within the parts that it writes. From them [`laws`] proves once, for

@@ -13,6 +13,7 @@ use Rattle.seq_model.specs.declared.event.Notice.{Notice}
 use Rattle.seq_model.specs.declared.event.Notice.TheVariants.{Refused}
 use Rattle.seq_model.specs.declared.record.Record.{Record}
 use Rattle.seq_model.specs.declared.refusal.Refusal.{Refusal}
+use Rattle.seq_model.specs.declared.refusal.Refusal.TheVariants as refusal
 use Rattle.replay_log.proofs.AnswerLemmas.{refused_step}
 use Rattle.replay_log.proofs.EventLemmas.{opened_linked, run_linked}
 use Rattle.replay_log.proofs.RefusalLemmas.{keeps_cause, world_causes}
@@ -41,7 +42,7 @@ use Rattle.tx_phases.specs.Courses.{ComesTo, IsUnderWay, IsUnderWayFrom, latest}
 use Rattle.tx_phases.specs.Phases.{Phase, Rests, Begins, Stands, Calls, Commits, Committed, Ends, IsMistaken, StepMoves, phase, phase_at}
 use Rattle.driven_turns.proofs.DeclaredLemmas.{begin_declared}
 use Rattle.driven_turns.proofs.KeptLemmas.{Keeps, steps_keep}
-use Rattle.driven_turns.proofs.StampLemmas.{begun_clock, numbered, stamped_step}
+use Rattle.driven_turns.proofs.StampLemmas.{begun_clock, exhausted_clock, numbered, stamped_step}
 use Rattle.driven_turns.proofs.WritingLemmas.{commits_first, is_commit, is_one, written_on}
 use Rattle.driven_turns.specs.Driven.{Driven, HasFound, IsNumberOf, IsReason, IsStamped, IsTrue, IsTurnFrom, IsWritten, KnowsNumber}
 use Rattle.driven_turns.specs.Driven.{as_receipts, is_declared, seat_in, standing}
@@ -265,21 +266,27 @@ module _ {V : Type 0} where
         (actor_of w a).place
     own = own_ok t.whole.shared.key a (acts o u) ties.reached
 
+    begin_place : (seat_in o u).stage ≡ Beginning → (actor_of (acts o u) a).place ≡ machine.Begin
+    begin_place at =
+        let w = acts o u in
+        subst (λ (st : Stage V). StageOk w.words w.blocks (w.seats a) (actor_of w a) (w.boosted.shadows a) st
+        (actor_of w a).place) at own
+
     truth : (p : Phase V) (m : Told V) → n ≡ m → IsUnderWayFrom (seat_in o s) p (seat_in o u) d → IsTrue o s u p told.Quiet
         → IsTrue o s z p m
     truth Begins told.Quiet e under was = tt
     truth Begins (told.Answered (answer.Begun rv)) e under was =
-        let w = acts o u in
-        let at : (w.seats a).stage ≡ Beginning = begins_at (w.seats a).calls (w.seats a).stage under.0 in
-        let place : (actor_of w a).place ≡ machine.Begin =
-        subst (λ (st : Stage V). StageOk w.words w.blocks (w.seats a) (actor_of w a) (w.boosted.shadows a) st
-        (actor_of w a).place) at own in
-        begun_clock w a T.found T.base T.clock rv at place T.clocks (sym T.tells ∙ ap (notice_of a) e)
+        let at = begins_at (seat_in o u).calls (seat_in o u).stage under.0 in
+        begun_clock (acts o u) a T.found T.base T.clock rv at (begin_place at) T.clocks (sym T.tells ∙ ap (notice_of a) e)
         ∙ sym (ap (λ (k : View V). k.clock) T.takes.turn)
     truth Begins (told.Answered q) e under was = tt
     truth Begins (told.Refused cause) e under was =
         let at : x.stage ≡ Beginning = begins_at x.calls x.stage (ap phase x_is ∙ under.0) in
-        let h = subst (λ (st : Stage V). IsRefusedAt v a st after.0 cause) at (refused cause e) in (v, this, h.0, h.1)
+        let h = subst (λ (st : Stage V). IsRefusedAt v a st after.0 cause) at (refused cause e) in
+        let on = begins_at (seat_in o u).calls (seat_in o u).stage under.0 in
+        let shown : cause ≡ refusal.Exhausted T.clock =
+        exhausted_clock (acts o u) a T.found T.base T.clock cause on (begin_place on) T.clocks (sym T.tells ∙ ap (notice_of a) e) in
+        (v, this, h.0, h.1, shown ∙ sym (ap (λ (k : View V). refusal.Exhausted k.clock) T.takes.turn))
     truth (Calls calls call) told.Quiet e (inl at, none) was =
         λ cause ends is. inl (found cause (on_call x calls call (ap phase x_is ∙ at)) ends is)
     truth (Calls calls call) told.Quiet e (inr up, none) was =

@@ -50,4 +50,4 @@ module _ {V : Type 0} (o : World V) (s m : table.Seat V) (same : seated.actor m 
   )
 
   pub exhausted_back : (u : table.Seat V) (cause : Refusal) → IsExhausted o m u cause → IsExhausted o s u cause
-  exhausted_back u cause h = (h.0, turn_back u h.0 h.1, h.2, h.3)
+  exhausted_back u cause h = (h.0, turn_back u h.0 h.1, h.2, h.3, h.4)

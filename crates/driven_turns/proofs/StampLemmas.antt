@@ -24,8 +24,9 @@ use Rattle.seq_model.specs.declared.call.Reply.{Reply}
 use Rattle.seq_model.specs.declared.event.Answer.TheVariants as answer
 use Rattle.seq_model.specs.declared.event.Event.TheVariants.{Step}
 use Rattle.seq_model.specs.declared.event.Notice.{Notice}
-use Rattle.seq_model.specs.declared.event.Notice.TheVariants.{Quiet, Answered}
+use Rattle.seq_model.specs.declared.event.Notice.TheVariants.{Quiet, Answered, Refused}
 use Rattle.seq_model.specs.declared.record.Record.{Record}
+use Rattle.seq_model.specs.declared.refusal.Refusal.{Refusal}
 use Rattle.seq_model.specs.declared.refusal.Refusal.TheVariants as refusal
 use Rattle.collection_machine.specs.Boosted.{Boosted, TakeGate, gated, is_committing, is_none}
 use Rattle.replay_log.proofs.EventLemmas.{opened_linked, run_linked}
@@ -278,10 +279,20 @@ module _ {V : Type 0} where
       by true e = cc
       by false e = absurd (let z : ⊥ = cc in z)
 
-  pub begun_clock : (w : World V) (a n : ℕ) (b : Option (Base V)) (j rv : ℕ) → (w.seats a).stage ≡ Beginning
-      → (actor_of w a).place ≡ machine.Begin → (spot a w ≡ Word ClockCell → j ≡ turned a w n)
-      → (moved a w n b).1 ≡ Answered a (answer.Begun rv) → rv ≡ j
-  begun_clock w a n b j rv at begins clock told =
+  exhausted_is : (u : World V) (a : ℕ) (x : Seat V) (n : ℕ) (cause : Refusal)
+      → (has_begun u a x (notice.begin_notice n)).1 ≡ Refused a cause → cause ≡ refusal.Exhausted n
+  exhausted_is u a x n cause = by (nat_lt n clock_limit)
+    where
+      by : (b : Bool) → (has_begun u a x (cond b (notice.Begun n) (notice.Exhausted n))).1 ≡ Refused a cause
+          → cause ≡ refusal.Exhausted n
+      by true e = absurd (let z : ⊥ = cc in z)
+      by false e = cc
+
+  -- what it tells is as the clock was, which its seat knows from then on
+  begin_turn : (w : World V) (a n : ℕ) (b : Option (Base V)) (j : ℕ) (m : Notice V) → (w.seats a).stage ≡ Beginning
+      → (actor_of w a).place ≡ machine.Begin → (spot a w ≡ Word ClockCell → j ≡ turned a w n) → (moved a w n b).1 ≡ m
+      → ((has_begun (acted (found_at a w (Word ClockCell) n b) (moves a ∷ [])) a (w.seats a) (notice.begin_notice n)).1 ≡ m) × (j ≡ n)
+  begin_turn w a n b j m at begins clock told =
       let x = w.seats a in
       let y = actor_of w a in
       let spot_is : spot a w ≡ Word ClockCell =
@@ -291,9 +302,24 @@ module _ {V : Type 0} where
       let p = found_at a w (Word ClockCell) n b in
       let tells_it : word_notice p a ≡ notice.begin_notice n =
       step_tells_cell p a y ClockCell refl (ap (λ (q : Place). word_of (plan y q)) begins) ∙ ap (λ (q : Place). tells y q n) begins in
-      let said : (step_at p a x Beginning).1 ≡ Answered a (answer.Begun rv) =
+      let said : (step_at p a x Beginning).1 ≡ m =
       ap (λ (st : Stage V). (step_at p a x st).1) (sym at)
-      ∙ (ap (λ (s : Spot). (happens (found_at a w s n b) (Step a)).1) (sym spot_is) ∙ told) in
-      begun_is (acted p (moves a ∷ [])) a x n rv (ap (λ (m : notice.Notice). (has_begun (acted p (moves a ∷ [])) a x m).1) (sym tells_it)
-      ∙ said)
-      ∙ sym (clock spot_is ∙ left)
+      ∙ (ap (λ (s : Spot). (happens (found_at a w s n b) (Step a)).1) (sym spot_is) ∙ told) in (
+        ap (λ (k : notice.Notice). (has_begun (acted p (moves a ∷ [])) a x k).1) (sym tells_it) ∙ said,
+        clock spot_is ∙ left,
+      )
+
+  pub begun_clock : (w : World V) (a n : ℕ) (b : Option (Base V)) (j rv : ℕ) → (w.seats a).stage ≡ Beginning
+      → (actor_of w a).place ≡ machine.Begin → (spot a w ≡ Word ClockCell → j ≡ turned a w n)
+      → (moved a w n b).1 ≡ Answered a (answer.Begun rv) → rv ≡ j
+  begun_clock w a n b j rv at begins clock told =
+      let h = begin_turn w a n b j (Answered a (answer.Begun rv)) at begins clock told in
+      begun_is (acted (found_at a w (Word ClockCell) n b) (moves a ∷ [])) a (w.seats a) n rv h.0 ∙ sym h.1
+
+  pub exhausted_clock : (w : World V) (a n : ℕ) (b : Option (Base V)) (j : ℕ) (cause : Refusal) → (w.seats a).stage ≡ Beginning
+      → (actor_of w a).place ≡ machine.Begin → (spot a w ≡ Word ClockCell → j ≡ turned a w n)
+      → (moved a w n b).1 ≡ Refused a cause → cause ≡ refusal.Exhausted j
+  exhausted_clock w a n b j cause at begins clock told =
+      let h = begin_turn w a n b j (Refused a cause) at begins clock told in
+      exhausted_is (acted (found_at a w (Word ClockCell) n b) (moves a ∷ [])) a (w.seats a) n cause h.0
+      ∙ ap refusal.Exhausted (sym h.1)

@@ -120,10 +120,11 @@ module _ {V : Type 0} where
   abbrev pub IsReason : World V → Seat V → Seat V → Refusal → Type 0
   IsReason o s u cause = HasFound o s u cause ⊎ (cause ≡ OutOfMemory)
 
-  -- one of these turns loaded the clock at its limit, or above
+  -- one of these turns loaded the clock at its limit, or above, and it is what its seat knows by then
   abbrev pub IsExhausted : World V → Seat V → Seat V → Refusal → Type 0
   IsExhausted o s u cause =
       (v : World V) × IsTurnFrom o s u v × (cause ≡ Exhausted v.boosted.words.clock) × (clock_limit ≤ v.boosted.words.clock)
+      × (cause ≡ Exhausted (view u).clock)
 
   -- A turn of actor a makes the receipt, if any, that is kept from then on in place of the one before.
   abbrev pub MakesReceipt : ℕ → TxActor V → Option (Record V) → Option (Record V) → Type 0

@@ -17,7 +17,7 @@ use Rattle.collection_machine.specs.Content.{has}
 use Rattle.replay_log.specs.declared.base.Base.{Base}
 use Rattle.replay_log.specs.Seats as worlds
 use Rattle.replay_log.specs.Seats.{Seat, World}
-use Rattle.replay_log.specs.WorldAnswers.{IsAdmitted, IsWithin}
+use Rattle.replay_log.specs.WorldAnswers.{IsAdmitted, IsCallAdmitted}
 use Rattle.replay_log.specs.Worlds.{ask_at, happens, run}
 use Rattle.atomic_steps.proofs.OneStep.{one_step}
 use Rattle.atomic_steps.proofs.OwnEvents.{own_event}
@@ -165,22 +165,23 @@ module _ {V : Type 0} where
       (ask_prepared o w r q bs apart gates own.bases own.prepared)
 
   -- where memory was refused
-  refused_within : (t : TxTable V) (s : table.Seat V) (r : TxActor V) (x : Request V) → Ties t s r → r.stage ≡ stage.Open
-      → Admits (laid_in t) r x → IsWithin (acts (opening_of t) s) (seated.actor s) x
-  refused_within t s r (request.Call call) ties rest admits =
+  refused_call : (t : TxTable V) (s : table.Seat V) (r : TxActor V) (x : Request V) → Ties t s r → r.stage ≡ stage.Open
+      → Admits (laid_in t) r x → IsCallAdmitted (acts (opening_of t) s) (seated.actor s) x
+  refused_call t s r (request.Call call) ties rest admits =
       let a = seated.actor s in
       let w = acts (opening_of t) s in
       let calls : (w.seats a).calls ≡ r.calls.items = ap (λ (z : Seat V). z.calls) (open_seat w a r ties.runs rest) in (
         admits.there a w ties.reached.shape ties.runs,
         subst (λ (cs : List (Call V × Reply V)). length cs < CALL_LIMIT) (sym calls) admits.few,
+        admits.room a w ties.reached.shape ties.runs,
       )
-  refused_within t s r x ties rest admits = tt
+  refused_call t s r x ties rest admits = tt
 
   pub refused_admits : (t : TxTable V) (s : table.Seat V) (r : TxActor V) (x : Request V) → Ties t s r → r.stage ≡ stage.Open
       → Admits (laid_in t) r x → IsAdmitted (acts (opening_of t) s) (seated.actor s) x
   refused_admits t s r x ties rest admits = record {
     stands = ap (λ (z : Seat V). z.stage) (open_seat (acts (opening_of t) s) (seated.actor s) r ties.runs rest);
-    within = refused_within t s r x ties rest admits;
+    call = refused_call t s r x ties rest admits;
   }
 
   pub refused_tied : (t : TxTable V) (s : table.Seat V) (r q : TxActor V) → Ties t s r → StandsOwn r q → IsRunning (laid_in t) q

@@ -1,6 +1,7 @@
 -- What a refusal says as it is answered, and what it leaves.
-use Rattle.std.specs.Prelude.{◌≡◌, ◌≢◌, ◌⊎◌, ℕ, ◌<◌, ◌≤◌, length, Bool, true, false, ◌&&◌, not, nat_lt, List, [], ◌∷◌, Some}
+use Rattle.std.specs.Prelude.{◌≡◌, ◌≢◌, ◌⊎◌, ℕ, ◌<◌, ◌≤◌, length, Bool, true, false, ◌&&◌, ◌||◌, not, nat_lt, List, [], ◌∷◌, Some}
 use Rattle.tx_sets.specs.Entries.{Entries, lookup}
+use Rattle.word_machine.specs.Actor as machine
 use Rattle.word_machine.specs.Actor.{clock_limit}
 use Rattle.seq_model.specs.declared.call.Op.{Op}
 use Rattle.seq_model.specs.declared.call.Op.TheVariants.{Read, Write}
@@ -11,13 +12,13 @@ use Rattle.seq_model.specs.declared.refusal.Refusal.{Refusal}
 use Rattle.seq_model.specs.declared.refusal.Refusal.TheVariants.{Exhausted, TooLong, NoTransaction, OutOfMemory}
 use Rattle.seq_model.specs.declared.event.Notice.{Notice}
 use Rattle.seq_model.specs.declared.event.Notice.TheVariants.{Quiet, Refused}
-use Rattle.collection_machine.specs.Boosted.{PutGate}
+use Rattle.collection_machine.specs.Boosted.{PutGate, is_none}
 use Rattle.replay_log.specs.Contents.{Asked, Answered, block_of}
 use Rattle.replay_log.specs.Pieces.{covers_at}
 use Rattle.replay_log.specs.WorldRefusals.{is_ending}
 use Rattle.replay_log.specs.WorldStill.{Same}
 use Rattle.replay_log.specs.Worlds.{World, Stage, Idle, Beginning, Open, Copying, Leaving, Ready, Storing, Homing, Releasing, Cancelling}
-use Rattle.replay_log.specs.Worlds.{Returning, After, at_stage, acted, actor_of, outcome_at, is_known, may_ask}
+use Rattle.replay_log.specs.Worlds.{Returning, After, at_stage, acted, actor_of, fits, outcome_at, is_known, may_ask}
 
 -- Of these locations one was read with another edition than its base has now, and so were all before it with some edition.
 abbrev pub IsStale : (reads : Entries) → (editions : ℕ → ℕ) → List ℕ → Type 0
@@ -31,15 +32,24 @@ module _ {V : Type 0} where
   is_there w a t (Write v) = nat_lt t w.words && not (actor_of w a).declared
   is_there w a t op = is_known (block_of w.blocks t) op && may_ask (actor_of w a) op
 
-  -- a call finds what it asks of, and the limit of calls is not reached
-  abbrev pub IsWithin : World V → ℕ → Request V → Type 0
-  IsWithin w a (Call call) = (is_there w a call.target call.op ≡ true) × (length (w.seats a).calls < CALL_LIMIT)
-  IsWithin w a q = Unit {0}
+  -- Whether a word that is read or written finds room in the sets. What a call of a collection needs is known only once it is copied.
+  abbrev pub has_word_room : machine.Actor → ℕ → Op V → Bool
+  has_word_room x l Read = x.declared || (not (is_none (lookup x.writes l)) || fits x.reads (l ∷ []))
+  has_word_room x l (Write v) = fits x.writes (l ∷ [])
+  has_word_room x l op = true
 
-  -- The request is refused neither as NotIdle, NoTransaction or NoSuch nor for the limit of calls.
+  -- a call finds what it asks of, the limit of calls is not reached, and its word finds room
+  abbrev pub IsCallAdmitted : World V → ℕ → Request V → Type 0
+  IsCallAdmitted w a (Call call) =
+      (is_there w a call.target call.op ≡ true) × (length (w.seats a).calls < CALL_LIMIT)
+      × (has_word_room (actor_of w a) call.target call.op ≡ true)
+  IsCallAdmitted w a q = Unit {0}
+
+  -- The request is refused neither as NotIdle, NoTransaction or NoSuch, nor as TooLong for the limit of calls or for want of room for its
+  -- word.
   pub record IsAdmitted (w : World V) (a : ℕ) (q : Request V) : Type 0 where
     pub stands : (w.seats a).stage ≡ Open
-    pub within : IsWithin w a q
+    pub call : IsCallAdmitted w a q
 
   abbrev pub IsRefusal : Notice V → Type 0
   IsRefusal (Refused a cause) = Unit {0}

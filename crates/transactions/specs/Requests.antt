@@ -101,7 +101,7 @@ module _ {V : Type 0} where
   CallLeaves o s calls call u (Ok reply) = standing o u ≡ Stands (calls ++ (call, reply) ∷ [])
   CallLeaves o s calls call u (Err cause) = ((standing o u ≡ Stands calls) × IsMistaken cause) ⊎ IsEnded o s u cause
 
-  -- memory is wanting, and there the request is admitted, in the own world of the seat
+  -- memory is wanting, and the request is admitted there, in the own world of the seat
   abbrev pub IsUnserved : World V → Seat V → Request V → Told V → Type 0
   IsUnserved o s q n = (n ≡ told.Refused OutOfMemory) × IsAdmitted (acts o s) (actor s) q
 

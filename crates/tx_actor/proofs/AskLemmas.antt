@@ -137,15 +137,21 @@ module _ {V : Type 0} where
 
   -- ---- a call that finds what it asks of
   pub admits_read : (v : BlocksView) (r : TxActor V) (l : ℕ) → ltb l v.words ≡ true → length r.calls.items < CALL_LIMIT
-      → AdmitsCall v r (record { target = l; op = Read })
-  admits_read v r l known few = record { there = λ a w laid s. ap (ltb l) laid.0 ∙ known; few = few }
+      → may_read (words.actor_of r.words) l ≡ true → AdmitsCall v r (record { target = l; op = Read })
+  admits_read v r l known few room = record {
+    there = λ a w laid s. ap (ltb l) laid.0 ∙ known;
+    few = few;
+    room = λ a w laid s. ap (λ (q : machine.Actor). may_read q l) s.1 ∙ room;
+  }
 
   pub admits_write : (v : BlocksView) (r : TxActor V) (l val : ℕ) → ltb l v.words ≡ true → r.words.declared ≡ false
-      → length r.calls.items < CALL_LIMIT → AdmitsCall v r (record { target = l; op = Write val })
-  admits_write v r l val known own few = record {
+      → length r.calls.items < CALL_LIMIT → fits r.words.writes.entries (l ∷ []) ≡ true
+      → AdmitsCall v r (record { target = l; op = Write val })
+  admits_write v r l val known own few room = record {
     there = λ a w laid s. may_write w a l v.words false true laid.0 (ap (λ (q : machine.Actor). q.declared) s.1 ∙ own)
         (ap (λ (b : Bool). b && not false) known);
     few = few;
+    room = λ a w laid s. ap (λ (q : machine.Actor). fits q.writes (l ∷ [])) s.1 ∙ room;
   }
 
   -- ---- a commit

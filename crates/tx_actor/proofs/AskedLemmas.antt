@@ -2,6 +2,7 @@
 -- what is refused leaves the world; a call on a collection is as its own method says.
 use Rattle.std.proofs.Common.{◌≡◌, ℕ, ◌<◌, ◌&&◌, true, length, cond, refl, sym, ap, subst, ◌∙◌}
 use Rattle.std.specs.Prelude.{OnErr, Result, Ok, Err}
+use Rattle.word_machine.specs.Actor as machine
 use Rattle.seq_model.specs.declared.call.Call.{Call}
 use Rattle.seq_model.specs.declared.call.Op.{Op}
 use Rattle.seq_model.specs.declared.call.Op.TheVariants.{Read, Write}
@@ -11,7 +12,7 @@ use Rattle.seq_model.specs.declared.event.Notice.TheVariants.{Refused}
 use Rattle.seq_model.specs.declared.limits.TheConstants.{CALL_LIMIT}
 use Rattle.seq_model.specs.declared.refusal.Refusal.TheVariants as refusal
 use Rattle.replay_log.specs.Contents.{block_of}
-use Rattle.replay_log.specs.WorldAnswers.{is_there}
+use Rattle.replay_log.specs.WorldAnswers.{has_word_room, is_there}
 use Rattle.replay_log.specs.Worlds as worlds
 use Rattle.replay_log.specs.Worlds.{World, Seat, After, ask_at, ask_idle, ask_op, ask_open, is_known, may_ask}
 use Rattle.tx_actor.specs.declared.actor.Stage.{Stage}
@@ -82,12 +83,18 @@ module _ {V : Type 0} where
   there_else w a k (Write v) p q = absurd (q v refl)
   there_else w a k op p q = refl
 
+  room_else : (x : machine.Actor) (k : ℕ) (op : Op V) → (op ≡ Read → ⊥) → ((v : ℕ) → op ≡ Write v → ⊥) → has_word_room x k op ≡ true
+  room_else x k Read p q = absurd (p refl)
+  room_else x k (Write v) p q = absurd (q v refl)
+  room_else x k op p q = refl
+
   pub admits_call : (v : BlocksView) (r : TxActor V) (call : Call V) → (call.op ≡ Read → ⊥) → ((n : ℕ) → call.op ≡ Write n → ⊥)
       → is_allowed v r.words call.target call.op ≡ true → length r.calls.items < CALL_LIMIT → AdmitsCall v r call
   admits_call v r call p q allowed few = record {
     there = λ a w laid s. there_else w a call.target call.op p q
         ∙ ((λ i. is_known (block_of (laid.1 i) call.target) call.op && may_ask (s.1 i) call.op) ∙ allowed);
     few = few;
+    room = λ a w laid s. room_else (worlds.actor_of w a) call.target call.op p q;
   }
 
   pub idle_else : (w : World V) (a : ℕ) (x : Seat V) (q : Request V) → (q ≡ request.Begin → ⊥) → (q ≡ request.BeginRead → ⊥)

@@ -11,7 +11,7 @@ use Rattle.seq_model.specs.declared.event.Request.TheVariants as request
 use Rattle.seq_model.specs.declared.limits.TheConstants.{CALL_LIMIT}
 use Rattle.collection_machine.specs.Boosted.{every, is_held}
 use Rattle.replay_log.specs.Contents.{content}
-use Rattle.replay_log.specs.WorldAnswers.{is_there}
+use Rattle.replay_log.specs.WorldAnswers.{has_word_room, is_there}
 use Rattle.replay_log.specs.Worlds as worlds
 use Rattle.replay_log.specs.Worlds.{World, Seat, After, acted, actor_of, asks, at_stage, replied, seated}
 use Rattle.actor_words.specs.Blocks.{IsLaid, BlocksView}
@@ -24,10 +24,12 @@ module _ {V : Type 0} where
   abbrev pub Asks : BlocksView → TxActor V → TxActor V → Told V → (ℕ → World V → After V) → Type 0
   Asks v r u t f = (a : ℕ) (w : World V) → IsLaid v w → Runs a r w → Runs a u (f a w).0 × (notice_of a t ≡ (f a w).1)
 
-  -- In every world that lies so and in which r is an actor, a call finds what it asks of; and r is below the limit of calls.
+  -- In every world that lies so and in which r is an actor, a call finds what it asks of, and its word finds room; and r is below the
+  -- limit of calls.
   pub record AdmitsCall (v : BlocksView) (r : TxActor V) (call : Call V) : Type 0 where
     pub there : (a : ℕ) (w : World V) → IsLaid v w → Runs a r w → is_there w a call.target call.op ≡ true
     pub few : length r.calls.items < CALL_LIMIT
+    pub room : (a : ℕ) (w : World V) → IsLaid v w → Runs a r w → has_word_room (actor_of w a) call.target call.op ≡ true
 
   -- no refusal is due that the request would have before any memory is taken
   abbrev pub Admits : BlocksView → TxActor V → Request V → Type 0

@@ -145,19 +145,6 @@ impl<Role> AccessSet<Role> {
         self.entries.clear();
     }
 
-    // The same, without a search where the location was sought just before.
-    fn place_to_put(&self, location: u32) -> Result<usize, usize>
-        ensures { IsPlaceOf location self.now.entries result }
-    {
-        if is_at(&self.entries, location, self.sought) {
-            return Ok(self.sought);
-        }
-        if goes_to(&self.entries, location, self.sought) {
-            return Err(self.sought);
-        }
-        self.place_of(location)
-    }
-
     // Where the location is, or where it would go. Locations often come in rising order, so the
     // end is tried first.
     fn place_of(&self, location: u32) -> Result<usize, usize>
@@ -172,6 +159,19 @@ impl<Role> AccessSet<Role> {
         }
         self.entries
             .binary_search_by_key(&location, |entry| entry.0)
+    }
+
+    // The same, without a search where the location was sought just before.
+    fn place_to_put(&self, location: u32) -> Result<usize, usize>
+        ensures { IsPlaceOf location self.now.entries result }
+    {
+        if is_at(&self.entries, location, self.sought) {
+            return Ok(self.sought);
+        }
+        if goes_to(&self.entries, location, self.sought) {
+            return Err(self.sought);
+        }
+        self.place_of(location)
     }
 }
 

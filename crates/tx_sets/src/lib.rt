@@ -9,7 +9,8 @@
 //! the locations. Locations often come in rising order: a new one then goes to the end of the list,
 //! and no search is made. Else, among a few entries, as most transactions have, the place of a
 //! location is the number of entries below it, counted without a branch; among more it is found by
-//! halves. A set that is cleared keeps its memory for the next transaction, so a worker soon
+//! halves. A set keeps the place that was sought last, so a location that is put right after it was
+//! sought is not searched again. A set that is cleared keeps its memory for the next transaction, so a worker soon
 //! allocates no more; what a commit must not be refused is reserved beforehand.
 //!
 //! Source: TL2, Dice, Shalev and Shavit, DISC 2006.

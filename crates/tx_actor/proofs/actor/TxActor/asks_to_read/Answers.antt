@@ -113,7 +113,8 @@ returns-in_err-reserve_call-clause-admits g c =
     on_err c.from_residual.result
     (admits_read v c.args.self.now c.args.word
     (is_below c.args.word v.words (omega (arith, c.words.ensures, c.if-word-words.false)))
-    (omega (arith, c.len.ensures, c.if-len-ge-CALL_LIMIT.false)))
+    (omega (arith, c.len.ensures, c.if-len-ge-CALL_LIMIT.false))
+    (c.seek_word.ensures.room.0 (subst IsSome (sym c.in-Some.is) refl)))
 
 pub returns-in_err-value-clause-admits : goal.returns-in_err-value-clause-admits
 returns-in_err-value-clause-admits g c =
@@ -121,4 +122,5 @@ returns-in_err-value-clause-admits g c =
     on_err c.from_residual-in_err-value.result
     (admits_read v c.args.self.now c.args.word
     (is_below c.args.word v.words (omega (arith, c.words.ensures, c.if-word-words.false)))
-    (omega (arith, c.len.ensures, c.if-len-ge-CALL_LIMIT.false)))
+    (omega (arith, c.len.ensures, c.if-len-ge-CALL_LIMIT.false))
+    (c.seek_word.ensures.room.0 (subst IsSome (sym c.in-Some.is) refl)))

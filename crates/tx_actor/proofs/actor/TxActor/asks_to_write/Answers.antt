@@ -74,7 +74,7 @@ returns-in_err-reserve_call-clause-admits g c =
     on_err c.from_residual.result
     (admits_write v c.args.self.now c.args.word c.args.value
     (is_below c.args.word v.words (omega (arith, c.words.ensures, c.if-word-words.false))) c.if-self.false
-    (omega (arith, c.len.ensures, c.if-len-ge-CALL_LIMIT.false)))
+    (omega (arith, c.len.ensures, c.if-len-ge-CALL_LIMIT.false)) (sym c.fits_one.ensures.fits ∙ c.if-not-fits_one.false))
 
 pub returns-in_err-write_word-clause-admits : goal.returns-in_err-write_word-clause-admits
 returns-in_err-write_word-clause-admits g c =
@@ -82,4 +82,4 @@ returns-in_err-write_word-clause-admits g c =
     on_err c.from_residual-in_err-write_word.result
     (admits_write v c.args.self.now c.args.word c.args.value
     (is_below c.args.word v.words (omega (arith, c.words.ensures, c.if-word-words.false))) c.if-self.false
-    (omega (arith, c.len.ensures, c.if-len-ge-CALL_LIMIT.false)))
+    (omega (arith, c.len.ensures, c.if-len-ge-CALL_LIMIT.false)) (sym c.fits_one.ensures.fits ∙ c.if-not-fits_one.false))
