@@ -26,7 +26,7 @@ use tx_table::{Seat, TxTable};
 /// `TooLong` past the limit of calls; what the transaction has of the collection answers it, or a location is read first, or the
 /// transaction is given up, as its copy is stale; and where it has not what the call touches, the collection's gate is tried next. Where
 /// memory is refused nothing is asked, and the actor shows what it did; that comes only where neither the state of the transaction, nor
-/// `NoSuch`, nor the limit of calls refuses the request.
+/// `NoSuch`, nor the limit of calls refuses the request, nor want of room for a word in its set.
 #[inline(always)]
 pub fn ask<V: Value>(
     alloc: Global,

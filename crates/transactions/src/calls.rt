@@ -1,7 +1,8 @@
 //! The calls of a transaction, on words and on collections.
 ghost use Rattle.std.specs.Prelude.{◌≡◌, [], IfErr, IfOk, OnErr, OnOk};
+ghost use Rattle.replay_log.specs.WorldAnswers.{IsAdmitted};
 ghost use Rattle.replay_log.specs.WorldProgress.{AreSmall};
-ghost use Rattle.tx_table.specs.Seated.{blocks_in, opening_of};
+ghost use Rattle.tx_table.specs.Seated.{actor as actor_of, acts, blocks_in, opening_of};
 ghost use Rattle.tx_phases.specs.Phases.{Rests};
 ghost use Rattle.tx_turns.specs.Asked.{Answers, HasAsked};
 ghost use Rattle.tx_turns.specs.Ties.{Ties};
@@ -70,6 +71,7 @@ pub(crate) fn ask_open<V: Value>(
     ensures asked { OnOk result (HasAsked seat.old request seat.new) }
     ensures answers { IfOk result (Answers (opening_of table.now) seat.old request) }
     ensures memory { IfErr result (λ cause. cause ≡ Refusal.OutOfMemory) }
+    ensures admits { OnErr result (IsAdmitted (acts (opening_of table.now) seat.old) (actor_of seat.old) request) }
     ensures keeps { OnErr result (KeepsReceipts seat.old seat.new) }
     ensures rests { OnErr result (standing (opening_of table.now) seat.new ≡ Rests) }
 {
@@ -100,20 +102,9 @@ pub(crate) fn call<V: Value>(
     ensures own { HasOwn table.now seat.new actor.new [] }
     ensures calls { CallsTo (opening_of table.now) seat.old call seat.new result }
 {
-    let none = Vec::new(alloc);
-    match ask(
-        alloc,
-        table,
-        seat,
-        actor,
-        none.as_slice(),
-        Request::Call(call),
-    ) {
+    match ask_open(alloc, table, seat, actor, bases, Request::Call(call)) {
         Ok(Told::Quiet) => driven_call(alloc, table, seat, actor, bases),
         Ok(told) => reply_told(told),
-        Err(_) => {
-            abort(alloc, table, seat, actor, bases);
-            Err(Refusal::OutOfMemory)
-        }
+        Err(cause) => Err(cause),
     }
 }

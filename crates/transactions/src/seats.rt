@@ -69,7 +69,7 @@ impl<V: Value> TxSeat<V> {
     }
 
     /// A transaction begins; one that was left open is aborted first. It is answered with the number at which it has begun, which is no
-    /// lower than the last number of the seat. `Exhausted` at the limit of the clock, and there is none.
+    /// lower than the last number of the seat. `Exhausted` at the limit of the clock, which the seat shows from then on, and there is none.
     pub fn begin(&mut self, table: &TxTable<V>) -> Result<u64, Refusal>
         requires ready { IsReady table.now self.old }
         ensures ready { IsReady table.now self.new }

@@ -1,13 +1,14 @@
 use Rattle.std.proofs.Common.{[], ◌∙◌, ◌≢◌, arith, subst, sym, rules}
 use Rattle.std.proofs.lemmas.Grind.{common_steps}
 use Rattle.gate_turns.specs.Own.{HasOwn}
+use Rattle.std.specs.Prelude.{Err}
 use Rattle.seq_model.specs.declared.event.Request.TheVariants as request
+use Rattle.seq_model.specs.declared.refusal.Refusal.{Refusal}
 use Rattle.tx_actor.specs.declared.actor.Told.{Told}
 use Rattle.tx_actor.specs.declared.actor.Told.TheVariants as told
 use Rattle.tx_table.specs.Seated.{opening_of}
 use Rattle.transactions.proofs.CallLemmas.{at_once, call_starved, call_told, calls_on, driven_calls}
-use Rattle.transactions.specs.Requests.{KeepsReceipts}
-use Rattle.tx_table.specs.declared.seat.Seat.{Seat}
+use Rattle.transactions.specs.Requests.{CallsTo}
 use Rattle.driven_turns.proofs.RestLemmas.{bare_out}
 use Rattle.tx_turns.specs.Asked.{Answers}
 use Rattle.transactions.proofs.calls.call.Goals as goal
@@ -17,7 +18,7 @@ driven_call-requires-clause-calls g c = (
   c.requires.open.0,
   (
     c.args.call,
-    calls_on c.args.table.now c.args.seat.now c.ask.new.seat c.args.call c.requires.open
+    calls_on c.args.table.now c.args.seat.now c.ask_open.new.seat c.args.call c.requires.open
         c.in-Ok-Quiet.ensures.asked c.args.actor.now c.requires.ties c.requires.open.0 c.requires.open.1
         (subst (λ (n : Told _). Answers (opening_of c.args.table.now) c.args.seat.now
         (request.Call c.args.call) n) c.in-Ok-Quiet.field-0-is c.in-Ok-Quiet.ensures.answers),
@@ -27,27 +28,28 @@ driven_call-requires-clause-calls g c = (
 pub reply_told-requires : goal.reply_told-requires
 reply_told-requires g c =
     let ne : c.in-Ok.told ≢ told.Quiet = search rules in
-    call_told c.args.table.now c.args.seat.now c.ask.new.seat c.args.call c.requires.open
+    call_told c.args.table.now c.args.seat.now c.ask_open.new.seat c.args.call c.requires.open
     c.in-Ok.ensures.asked c.requires.open.0 c.requires.open.1 c.in-Ok.told ne c.in-Ok.ensures.answers
 
 pub returns-in-Ok-Quiet-clause-calls : goal.returns-in-Ok-Quiet-clause-calls
 returns-in-Ok-Quiet-clause-calls g c =
-    let own : HasOwn c.args.table.now c.ask.new.seat c.ask.new.actor [] = first_of (search rules, grind (arith, common_steps)) in
-    driven_calls c.args.table.now c.args.seat.now c.ask.new.seat c.args.call c.requires.open
+    let own : HasOwn c.args.table.now c.ask_open.new.seat c.ask_open.new.actor [] = first_of (search rules, grind (arith, common_steps)) in
+    driven_calls c.args.table.now c.args.seat.now c.ask_open.new.seat c.args.call c.requires.open
     c.in-Ok-Quiet.ensures.asked c.args.actor.now c.driven_call.new.seat c.driven_call.result c.requires.ties
     (subst (λ (n : Told _). Answers (opening_of c.args.table.now) c.args.seat.now
     (request.Call c.args.call) n) c.in-Ok-Quiet.field-0-is c.in-Ok-Quiet.ensures.answers)
     (bare_out c.args.table.now c.driven_call.new.seat c.driven_call.new.actor c.driven_call.ensures.own
-    ∙ sym (bare_out c.args.table.now c.ask.new.seat c.ask.new.actor own))
+    ∙ sym (bare_out c.args.table.now c.ask_open.new.seat c.ask_open.new.actor own))
     c.driven_call.ensures.driven
 
 pub returns-in-Ok-clause-calls : goal.returns-in-Ok-clause-calls
 returns-in-Ok-clause-calls g c =
-    at_once c.args.table.now c.args.seat.now c.ask.new.seat c.args.call c.requires.open
+    at_once c.args.table.now c.args.seat.now c.ask_open.new.seat c.args.call c.requires.open
     c.in-Ok.ensures.asked c.in-Ok.told c.reply_told.result c.reply_told.ensures c.in-Ok.ensures.answers
 
 pub returns-clause-calls : goal.returns-clause-calls
 returns-clause-calls g c =
-    call_starved (opening_of c.args.table.now) c.args.seat.now c.abort.new.seat c.args.call
-    (subst (λ (s : Seat _). KeepsReceipts s c.abort.new.seat) c.in-Err.ensures.seat c.abort.ensures.keeps) c.abort.ensures.rests
-    c.in-Err.ensures.admits
+    subst (λ (e : Refusal). CallsTo (opening_of c.args.table.now) c.args.seat.now c.args.call c.ask_open.new.seat (Err e))
+    (sym c.in-Err.ensures.memory)
+    (call_starved (opening_of c.args.table.now) c.args.seat.now c.ask_open.new.seat c.args.call c.in-Err.ensures.keeps
+    c.in-Err.ensures.rests c.in-Err.ensures.admits)
