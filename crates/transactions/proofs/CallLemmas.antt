@@ -36,7 +36,7 @@ use Rattle.tx_phases.proofs.PhaseLemmas.{asks_move}
 use Rattle.tx_phases.specs.Courses.{ComesTo, EndsFrom, IsUnderWay, IsUnderWayFrom}
 use Rattle.tx_phases.specs.Phases.{AskMoves, CallMoves, Phase, Rests, Begins, Stands, Calls, Ends, IsMistaken, phase, phase_at}
 use Rattle.driven_turns.proofs.KeptLemmas.{Keeps, asks_keep}
-use Rattle.transactions.proofs.RequestLemmas.{asked_keeps, found_back, then_keeps, told_back, turns_keep}
+use Rattle.transactions.proofs.RequestLemmas.{asked_keeps, ended_back, found_told, then_keeps, told_back, turns_keep}
 use Rattle.driven_turns.specs.Driven.{Driven, IsReason, IsTrue, seat_in, standing}
 use Rattle.transactions.specs.Requests.{CallLeaves, CallsTo, IsCallTold, IsDriven, IsOpen, KeepsReceipts, told_of}
 use Rattle.tx_turns.proofs.AskedLemmas.{acts_taken}
@@ -96,15 +96,14 @@ module _ {V : Type 0} where
         by_truth : ((standing o u ≡ Stands calls) × IsMistaken cause) ⊎ (standing o u ≡ Rests)
             → IsReason o m u cause ⊎ ((standing o u ≡ Stands calls) × IsMistaken cause) → CallLeaves o m calls call u (Err cause)
         by_truth (inl stays) truth = inl stays
-        by_truth (inr rests) (inl reason) = inr (rests, reason)
+        by_truth (inr rests) (inl reason) = inr (rests, found_told o m u cause reason (D.tells (told_some (Err cause))))
         by_truth (inr rests) (inr stays) = inl stays
 
   leaves_back : (o : World V) (s m u : table.Seat V) (calls : List (Call V × Reply V)) (call : Call V) (r : Result (Reply V) Refusal)
       → KeepsReceipts s m → CallLeaves o m calls call u r → CallLeaves o s calls call u r
   leaves_back o s m u calls call (Ok r) kept h = h
   leaves_back o s m u calls call (Err cause) kept (inl stays) = inl stays
-  leaves_back o s m u calls call (Err cause) kept (inr (rests, inl found)) = inr (rests, inl (found_back o s m u cause kept found))
-  leaves_back o s m u calls call (Err cause) kept (inr (rests, inr memory)) = inr (rests, inr memory)
+  leaves_back o s m u calls call (Err cause) kept (inr ended) = inr (ended_back o s m u cause kept ended)
 
   -- ---- what a call is told as it is asked
   module _ (t : TxTable V) (s m : table.Seat V) (call : Call V) (opened : IsOpen (opening_of t) s)

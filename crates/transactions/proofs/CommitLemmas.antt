@@ -35,7 +35,7 @@ use Rattle.tx_phases.specs.Courses.{ComesTo, EndsFrom, IsUnderWay, IsUnderWayFro
 use Rattle.tx_phases.specs.Phases.{Phase, Rests, Stands, Commits, phase, phase_at}
 use Rattle.transactions.proofs.CallLemmas.{stands_at}
 use Rattle.driven_turns.proofs.KeptLemmas.{Keeps, asks_keep}
-use Rattle.transactions.proofs.RequestLemmas.{asked_keeps, found_back, then_keeps, told_back, turns_keep}
+use Rattle.transactions.proofs.RequestLemmas.{asked_keeps, ended_back, found_told, then_keeps, told_back, turns_keep}
 use Rattle.driven_turns.specs.Driven.{Driven, HasTold, IsNumberOf, IsStamped, IsStampedAt, IsTrue, KnowsNumber}
 use Rattle.driven_turns.specs.Driven.{is_closing, seat_in, standing}
 use Rattle.transactions.specs.Requests.{HasCommitted, IsCommitTold, IsEnded, KeepsReceipts, has_some, has_written}
@@ -178,7 +178,8 @@ module _ {V : Type 0} where
     refused cause D =
         let h = subst (λ (p : Phase V). EndsFrom a (seat_in o s) p (Refused a cause) (seat_in o u) None) on D.comes in
         let truth = subst (λ (p : Phase V). IsTrue o s u p (told.Refused cause)) on D.is_true in
-        (turns_keep o s u (told.Refused cause) None refl outs D, (h.0, truth))
+        let tells = D.tells (λ e. cc) in
+        (turns_keep o s u (told.Refused cause) None refl outs D, (h.0, found_told o s u cause truth tells))
 
     -- without a record it was refused
     none_told : (n : Told V) → n ≢ told.Quiet → EndsFrom a (seat_in o s) (Commits calls) (notice_of a n) (seat_in o u) None
@@ -236,10 +237,6 @@ module _ {V : Type 0} where
     rests = h.rests;
     told = told_back o s m u (told.Answered (answer.Committed r.number)) kept h.told;
   }
-
-  pub ended_back : (o : World V) (s m u : table.Seat V) (cause : Refusal) → KeepsReceipts s m → IsEnded o m u cause → IsEnded o s u cause
-  ended_back o s m u cause kept (rests, inl found) = (rests, inl (found_back o s m u cause kept found))
-  ended_back o s m u cause kept (rests, inr memory) = (rests, inr memory)
 
   pub finishes_since : (t : TxTable V) (s m u : table.Seat V) (q : TxActor V) (calls : List (Call V × Reply V))
       (r : Result (Record V) Refusal)

@@ -1,6 +1,6 @@
 -- Requests from a transaction at rest: where its actor stands, what the request has under way, and what it comes to.
 use Rattle.std.proofs.Common.{◌≡◌, ◌≢◌, ℕ, Bool, true, false, true≢false, List, [], ◌++◌, Option, None, Result, Ok, Err, IfOk, IfErr, refl}
-use Rattle.std.proofs.Common.{sym, ap, ◌∙◌, subst, arith}
+use Rattle.std.proofs.Common.{inl, inr, sym, ap, ◌∙◌, subst, arith}
 use Rattle.std.proofs.lemmas.List.{append-nil, append_assoc}
 use Rattle.word_machine.specs.Actor as machine
 use Rattle.word_machine.specs.Actor.{Actor}
@@ -42,8 +42,8 @@ use Rattle.gate_turns.specs.Own.{HasOwn}
 use Rattle.driven_turns.proofs.GivenUpLemmas.{none_ends}
 use Rattle.driven_turns.proofs.RestLemmas.{IsFree, bare_out, free_own, taken_bare}
 use Rattle.driven_turns.proofs.SinceLemmas as since
-use Rattle.driven_turns.specs.Driven.{Driven, HasFound, HasTold, IsTrue, as_receipts, is_declared, seat_in, standing}
-use Rattle.transactions.specs.Requests.{BeginsTo, IsBeginTold, IsBegun, IsNotBegun, KeepsReceipts, begin_of}
+use Rattle.driven_turns.specs.Driven.{Driven, HasFound, HasTold, IsReason, IsTrue, as_receipts, is_declared, seat_in, standing}
+use Rattle.transactions.specs.Requests.{BeginsTo, IsBeginTold, IsBegun, IsEnded, IsFoundAndTold, IsNotBegun, KeepsReceipts, begin_of}
 use Rattle.tx_threads.proofs.OwnLemmas.{own_ok}
 use Rattle.tx_turns.proofs.AskedLemmas.{acts_taken}
 use Rattle.tx_turns.proofs.TurnLemmas.{own_stage}
@@ -223,6 +223,16 @@ module _ {V : Type 0} where
 
   pub told_back : (o : World V) (s m u : table.Seat V) (n : Told V) → KeepsReceipts s m → HasTold o m u n → HasTold o s u n
   told_back o s m u n kept = since.told_back o s m kept.seat.1 kept.more kept.turns u n
+
+  pub found_told : (o : World V) (s u : table.Seat V) (cause : Refusal) → IsReason o s u cause → HasTold o s u (told.Refused cause)
+      → IsFoundAndTold o s u cause
+  found_told o s u cause (inl found) tells = inl (found, tells)
+  found_told o s u cause (inr memory) tells = inr memory
+
+  pub ended_back : (o : World V) (s m u : table.Seat V) (cause : Refusal) → KeepsReceipts s m → IsEnded o m u cause → IsEnded o s u cause
+  ended_back o s m u cause kept (rests, inl both) =
+      (rests, inl (found_back o s m u cause kept both.0, told_back o s m u (told.Refused cause) kept both.1))
+  ended_back o s m u cause kept (rests, inr memory) = (rests, inr memory)
 
   pub not_begun_back : (o : World V) (s m u : table.Seat V) (cause : Refusal) → KeepsReceipts s m → IsNotBegun o m u cause
       → IsNotBegun o s u cause

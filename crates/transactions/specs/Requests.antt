@@ -81,9 +81,13 @@ module _ {V : Type 0} where
   BeginsTo declared o s u n = ⊥
 
   -- ---- a call, or a commit, that ends its transaction
-  -- there is no transaction any more, for a cause that one of its own turns found, or for want of memory
+  -- one of its own turns found this cause, and one of them told it; or memory was wanting
+  abbrev pub IsFoundAndTold : World V → Seat V → Seat V → Refusal → Type 0
+  IsFoundAndTold o s u cause = (HasFound o s u cause × HasTold o s u (told.Refused cause)) ⊎ (cause ≡ OutOfMemory)
+
+  -- and there is no transaction any more
   abbrev pub IsEnded : World V → Seat V → Seat V → Refusal → Type 0
-  IsEnded o s u cause = (standing o u ≡ Rests) × (HasFound o s u cause ⊎ (cause ≡ OutOfMemory))
+  IsEnded o s u cause = (standing o u ≡ Rests) × IsFoundAndTold o s u cause
 
   -- ---- a call
   -- what is told of one that comes to this
