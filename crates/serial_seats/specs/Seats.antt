@@ -1,12 +1,12 @@
 -- What a seat of the shared table has seen by now.
-use Rattle.std.specs.Prelude.{◌≡◌, List}
+use Rattle.std.specs.Prelude.{◌≡◌, ◌≢◌, ℕ, List, [], Some}
 use Rattle.seq_model.specs.Contents.{Contents}
 use Rattle.seq_model.specs.Runs.{IsLegal, state_at}
 use Rattle.seq_model.specs.declared.call.Call.{Call}
 use Rattle.seq_model.specs.declared.call.Reply.{Reply}
 use Rattle.seq_model.specs.declared.event.Event.{Event}
 use Rattle.atomic_steps.specs.Own.{Alike}
-use Rattle.replay_log.specs.Seats.{World}
+use Rattle.replay_log.specs.Seats.{World, actor_of}
 use Rattle.replay_log.specs.WorldSerial.{IsSerial}
 use Rattle.replay_log.specs.Worlds.{opened, run}
 use Rattle.tx_phases.specs.Phases.{Stands}
@@ -25,3 +25,10 @@ pub record SeesOneState {V : Type 0} (o : World V) (s : Seat V) : Type 0 where
   pub alike : Alike (actor s) (run o events) (acts o s)
   pub saw : (calls : List (Call V × Reply V)) → standing o s ≡ Stands calls
       → IsLegal calls (state_at (seat_in o s).rv (run o events).records opens.contents)
+
+-- Events lead from the opening to a world which is to the actor of the seat as its own, and there the actor holds no lock and no gate.
+pub record HoldsNothing {V : Type 0} (o : World V) (s : Seat V) : Type 0 where
+  pub events : List (Event V)
+  pub alike : Alike (actor s) (run o events) (acts o s)
+  pub locks : (actor_of (run o events) (actor s)).held ≡ []
+  pub gates : (k : ℕ) → (run o events).boosted.gates k ≢ Some (actor s)
