@@ -1,17 +1,15 @@
 //! What a transaction has of collections: what it touched of each map and multiset, and a copy of each priority queue and queue.
-ghost use Rattle.std.specs.Prelude.{◌≡◌, ◌<◌, ◌≤◌, ◌^◌, All, IfOk, IfErr, IsSome, OnOk, OnErr, None, length, slice_index};
+ghost use Rattle.std.specs.Prelude.{◌≡◌, ◌≤◌, IfOk, IfErr, IsSome, OnOk, OnErr, None, length};
 ghost use Rattle.seq_model.specs.Calls.{IsRefusal};
 ghost use Rattle.seq_model.specs.Entries.{inserts};
-ghost use Rattle.replay_log.specs.Base.{IsPreparedFor, StaysPrepared, editions_of, locations_of, shown_of, stripes_of};
-ghost use Rattle.atomic_steps.specs.Bases.{IsFolded};
+ghost use Rattle.replay_log.specs.Base.{IsPreparedFor, StaysPrepared, editions_of, shown_of, stripes_of};
 ghost use Rattle.actor_copies.specs.Copies.{IsAccepted, IsForgotten, IsFound, IsKept, IsLearnt, IsReady, answer_of, changes_in, holds_call};
-ghost use Rattle.actor_copies.specs.Copies.{locations_in};
 
 use crate::spares::Spares;
 use boxes::Boxed;
 use conflict::{Change, Outcome};
 use few_keys::FewKeys;
-use replay_log::{Base, LocationEditions, Log, Touch};
+use replay_log::{Base, LocationEditions, Touch};
 use seq_model::{Memory, Op, Refusal, Value};
 use shadow::{Memo, Shadow};
 use std::alloc::Global;
@@ -124,17 +122,6 @@ impl<V: Value> Copied<V> {
         }
     }
 
-    /// The log of the accepted calls.
-    pub fn log(self) -> Log<V>
-        ensures changes { result.changes ≡ changes_in self }
-        ensures locations { result.locations ≡ locations_in self }
-    {
-        match self {
-            Copied::Keys(memo, _) => memo.into_inner().log(),
-            Copied::Whole(shadow) => shadow.into_inner().log(),
-        }
-    }
-
     /// Makes room in the base for the changes of the accepted calls, so that they go home without memory. The base shows what it did,
     /// also where memory is refused.
     pub fn prepare(&self, base: &mut Base<V>) -> Result<(), Memory>
@@ -145,18 +132,6 @@ impl<V: Value> Copied<V> {
         ensures room { StaysPrepared base.old base.new }
     {
         base.prepare(self.changes())
-    }
-
-    /// Makes the changes of the accepted calls on the base, which is prepared for them, and raises the edition of each location that
-    /// they write by one. It takes no memory and is never refused.
-    pub fn goes_home(self, base: &mut Base<V>)
-        requires prepared { IsPreparedFor (changes_in self) base.old }
-        requires within { All (λ location. location < locations_of (stripes_of base.old) (shown_of base.old)) (locations_in self) }
-        requires below { All (λ location. slice_index (editions_of base.old) location < 2 ^ 63) (locations_in self) }
-        ensures { IsFolded (changes_in self) (locations_in self) base.old base.new }
-    {
-        let log = self.log();
-        log.fold_into(base);
     }
 }
 
