@@ -238,8 +238,8 @@ impl<V: Value> TxSeat<V> {
         Ok(())
     }
 
-    /// How many calls are usual at this seat: as many as the transaction had that committed or ended last, or one fewer than were usual
-    /// before it, where that is more, and sixteen at most; 0 at first. It is there to make room by: no contract says that it is so many.
+    /// How many calls are usual at this seat: as many as the transaction had that committed or ended last, or, up to sixteen, one fewer
+    /// than were usual before it, where that is more; 0 at first. It is there to make room by: no contract says that it is so many.
     pub fn usual_calls(&self) -> usize
         ensures { result ≡ self.now.actor.usual_calls }
     {
