@@ -1,5 +1,5 @@
 //! Transactions at seats of a shared table, each seat in a thread of its own, beside the same calls under one lock.
-use crate::counts::Counts;
+use crate::outcomes::Outcomes;
 use crate::work::{On, Work};
 use crate::{locked, seats};
 use std::io;
@@ -30,11 +30,11 @@ pub fn report_seats<R: Runtime + AllocGlobal + Threads + Sync>(
     threads: u32,
     transactions: u32,
 ) -> io::Result<()> {
-    let (counts, seconds) = seats::time(rt, work, threads, transactions)?;
+    let (outcomes, seconds) = seats::time(rt, work, threads, transactions)?;
     let name = name_of(work);
     let writes = work.writes;
-    let speed = speed(counts, seconds);
-    let (moved, gates, others) = (counts.moved, counts.gates, counts.others);
+    let speed = speed(outcomes, seconds);
+    let (moved, gates, others) = (outcomes.moved, outcomes.gates, outcomes.others);
     println!(rt;
         "{name}, {writes} writes of ten calls, {threads} threads: {speed:.0} thousand transactions a second; refused: {moved} moved, {gates} gates, {others} others"
     )
@@ -45,10 +45,10 @@ fn report_lock<R: Runtime + AllocGlobal + Threads + Wait + Sync>(
     work: Work,
     threads: u32,
 ) -> io::Result<()> {
-    let (counts, seconds) = locked::time(rt, work, threads, TRANSACTIONS)?;
+    let (outcomes, seconds) = locked::time(rt, work, threads, TRANSACTIONS)?;
     let name = name_of(work);
     let writes = work.writes;
-    let speed = speed(counts, seconds);
+    let speed = speed(outcomes, seconds);
     println!(rt;
         "{name}, {writes} writes of ten calls, {threads} threads, one lock: {speed:.0} thousand transactions a second"
     )
@@ -64,6 +64,6 @@ fn name_of(work: Work) -> &'static str {
     }
 }
 
-fn speed(counts: Counts, seconds: f64) -> f64 {
-    f64::from(counts.committed) / seconds / 1e3
+fn speed(outcomes: Outcomes, seconds: f64) -> f64 {
+    f64::from(outcomes.committed) / seconds / 1e3
 }

@@ -1,6 +1,6 @@
 //! The same calls on a state under one lock.
-use crate::counts::Counts;
-use crate::work::{CALLS, Work, drawn, opening, refused};
+use crate::outcomes::Outcomes;
+use crate::work::{Work, drawn, opening, refused};
 use rand_core::SeedableRng;
 use rand_xoshiro::Xoshiro256PlusPlus;
 use seq_model::{Refusal, State};
@@ -16,7 +16,7 @@ pub fn time<R: Runtime + AllocGlobal + Threads + Wait + Sync>(
     work: Work,
     threads: u32,
     transactions: u32,
-) -> io::Result<(Counts, f64)> {
+) -> io::Result<(Outcomes, f64)> {
     let state = opening(rt.alloc(), work).map_err(refused)?;
     run(rt, &Mutex::new(state), work, threads, transactions)
 }
@@ -27,20 +27,25 @@ fn run<R: Runtime + AllocGlobal + Threads + Wait + Sync>(
     work: Work,
     threads: u32,
     transactions: u32,
-) -> io::Result<(Counts, f64)> {
+) -> io::Result<(Outcomes, f64)> {
     let start = Instant::now(rt)?;
     let each = map_indices(
         rt,
         rt.alloc(),
         threads as usize,
-        &|thread| { transact_all(rt, state, work, transactions, thread as u64) },
+        &|thread| { transact_all(rt, state, work, transactions, seed_of(thread)) },
     )?;
     let seconds = start.elapsed(rt)?.as_secs_f64();
-    let mut counts = Counts::NONE;
+    let mut outcomes = Outcomes::NONE;
     for one in each.as_slice() {
-        counts = counts.and(*one);
+        outcomes = outcomes.and(*one);
     }
-    Ok((counts, seconds))
+    Ok((outcomes, seconds))
+}
+
+// As the seat of this thread has it.
+fn seed_of(thread: usize) -> u64 {
+    (thread as u64).saturating_add(1)
 }
 
 fn transact_all<R: Wait>(
@@ -49,13 +54,13 @@ fn transact_all<R: Wait>(
     work: Work,
     transactions: u32,
     seed: u64,
-) -> Counts {
+) -> Outcomes {
     let mut random = Xoshiro256PlusPlus::seed_from_u64(seed);
-    let mut counts = Counts::NONE;
+    let mut outcomes = Outcomes::NONE;
     for _ in 0..transactions {
-        counts.note(transact(rt, state, work, &mut random));
+        outcomes.note(transact(rt, state, work, &mut random));
     }
-    counts
+    outcomes
 }
 
 fn transact<R: Wait>(
@@ -64,10 +69,12 @@ fn transact<R: Wait>(
     work: Work,
     random: &mut Xoshiro256PlusPlus,
 ) -> Result<(), Refusal> {
+    // What is drawn under the lock would burden the lock alone.
+    let calls = drawn(work, random);
     let mut guard = state.lock(rt);
     let state = &mut *guard;
-    for _ in 0..CALLS {
-        let _ = state.apply(&drawn(work, random))?;
+    for call in &calls {
+        let _ = state.apply(call)?;
     }
     Ok(())
 }

@@ -4,9 +4,9 @@
 //! which ask for one row alone:
 //!
 //! - `engine KIND WRITES THREADS TRANSACTIONS`: of transactions on words (KIND 0), a map (1), a map whose number of keys is read (2), a
-//!   priority queue (3) or a queue (4), of whose calls WRITES of ten change something;
+//!   priority queue (3) or a queue (4), of whose calls WRITES of ten change something, in 1, 2 or 4 threads;
 //! - `sessions MIX RELATIONS CLIENTS SESSIONS`: of drawn sessions at seats of a shared table, with low contention (MIX 0), with high
-//!   contention (1), or long ones (2);
+//!   contention (1), or long ones (2), of 1 to 64 clients;
 //! - `lock MIX RELATIONS CLIENTS SESSIONS`: of the same sessions under one lock.
 #![tactic(auto)]
 
@@ -19,11 +19,11 @@ use std::{env, io};
 use work::{On, Work};
 
 mod audit;
-mod counts;
 mod engine;
 mod lock;
 mod locked;
 mod ordered;
+mod outcomes;
 mod reservations;
 mod rows;
 mod seats;
@@ -89,35 +89,37 @@ fn measure_one<R: Runtime + AllocGlobal + Threads + Wait + Sync>(
 ) -> io::Result<()> {
     match (name, numbers) {
         ("engine", [kind, writes, threads, transactions]) => {
-            engine::report_seats(rt, work_of(*kind, *writes), *threads, *transactions)
+            engine::report_seats(rt, work_of(*kind, *writes)?, *threads, *transactions)
         }
         ("sessions", [mix, relations, clients, sessions]) => {
-            let mix = mix_of(*mix);
+            let mix = mix_of(*mix)?;
             rows::report_table(rt, mix, &options(mix, *relations, *clients, *sessions), 1)
         }
         ("lock", [mix, relations, clients, sessions]) => {
-            let mix = mix_of(*mix);
+            let mix = mix_of(*mix)?;
             rows::report_lock(rt, mix, &options(mix, *relations, *clients, *sessions), 1)
         }
         _ => Err(io::Error::other("no benchmark has this name and these numbers")),
     }
 }
 
-fn mix_of(mix: u32) -> Mix {
+fn mix_of(mix: u32) -> io::Result<Mix> {
     match mix {
-        0 => Mix::Low,
-        1 => Mix::High,
-        _ => Mix::Long,
+        0 => Ok(Mix::Low),
+        1 => Ok(Mix::High),
+        2 => Ok(Mix::Long),
+        _ => Err(io::Error::other("no mix has this number")),
     }
 }
 
-fn work_of(kind: u32, writes: u32) -> Work {
+fn work_of(kind: u32, writes: u32) -> io::Result<Work> {
     let on = match kind {
         0 => On::Words,
         1 => On::Map,
         2 => On::Keys,
         3 => On::PriorityQueue,
-        _ => On::Queue,
+        4 => On::Queue,
+        _ => return Err(io::Error::other("no kind has this number")),
     };
-    Work { on, writes }
+    Ok(Work { on, writes })
 }

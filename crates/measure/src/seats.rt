@@ -4,11 +4,11 @@ ghost use Rattle.std.specs.Thread.{IsSync};
 ghost use Rattle.tx_table.specs.Seated.{view};
 ghost use Rattle.transactions.specs.Ready.{HasBegunSince, IsReady};
 
-use crate::counts::Counts;
-use crate::work::{CALLS, Work, drawn, opening, refused, shape};
+use crate::outcomes::Outcomes;
+use crate::work::{Calls, Work, drawn, opening, refused, shape};
 use rand_core::SeedableRng;
 use rand_xoshiro::Xoshiro256PlusPlus;
-use seq_model::Refusal;
+use seq_model::{Call, Refusal};
 use std::alloc::Global;
 use std::io;
 use std::rt::Runtime;
@@ -23,12 +23,12 @@ pub fn time<R: Runtime + AllocGlobal + Threads + Sync>(
     work: Work,
     threads: u32,
     transactions: u32,
-) -> io::Result<(Counts, f64)> {
+) -> io::Result<(Outcomes, f64)> {
     let (table, seat) = open(rt.alloc(), work).map_err(refused)?;
     let start = Instant::now(rt);
-    let counts = run(rt, &table, seat, work, threads, transactions);
+    let outcomes = run(rt, &table, seat, work, threads, transactions)?;
     let seconds = start?.elapsed(rt)?.as_secs_f64();
-    Ok((counts, seconds))
+    Ok((outcomes, seconds))
 }
 
 fn open(alloc: Global, work: Work) -> Result<(TxTable<u64>, TxSeat<u64>), Refusal>
@@ -47,14 +47,15 @@ fn run<R: Threads + Sync>(
     work: Work,
     threads: u32,
     transactions: u32,
-) -> Counts
+) -> io::Result<Outcomes>
     requires ready { IsReady table.now seat }
     requires shares { (view seat.seat).shares ≡ 64 }
 {
     match threads {
-        1 => on_one(table, seat, work, transactions, 1),
-        2 => on_two(rt, table, seat, work, transactions, 1),
-        _ => on_four(rt, table, seat, work, transactions),
+        1 => Ok(on_one(table, seat, work, transactions, 1)),
+        2 => Ok(on_two(rt, table, seat, work, transactions, 1)),
+        4 => Ok(on_four(rt, table, seat, work, transactions)),
+        _ => Err(io::Error::other("there are one, two or four threads")),
     }
 }
 
@@ -64,19 +65,19 @@ fn on_four<R: Threads + Sync>(
     mut seat: TxSeat<u64>,
     work: Work,
     transactions: u32,
-) -> Counts
+) -> Outcomes
     requires ready { IsReady table.now seat }
     requires shares { 33 < (view seat.seat).shares }
 {
     let other = seat.split(table, 32);
     let (first, second) = join(
         rt,
-        || -> Counts
+        || -> Outcomes
             requires sync { IsSync R.row }
             requires ready { IsReady table.now seat }
             requires shares { 1 < (view seat.seat).shares }
         { on_two(rt, table, seat, work, transactions, 1) },
-        || -> Counts
+        || -> Outcomes
             requires sync { IsSync R.row }
             requires ready { IsReady table.now other }
             requires shares { 1 < (view other.seat).shares }
@@ -92,7 +93,7 @@ fn on_two<R: Threads + Sync>(
     work: Work,
     transactions: u32,
     seed: u64,
-) -> Counts
+) -> Outcomes
     requires ready { IsReady table.now seat }
     requires shares { 1 < (view seat.seat).shares }
     requires seed { seed < 64 }
@@ -100,10 +101,10 @@ fn on_two<R: Threads + Sync>(
     let other = seat.split(table, 1);
     let (first, second) = join(
         rt,
-        || -> Counts
+        || -> Outcomes
             requires ready { IsReady table.now seat }
         { on_one(table, seat, work, transactions, seed) },
-        || -> Counts
+        || -> Outcomes
             requires ready { IsReady table.now other }
             requires seed { seed < 64 }
         { on_one(table, other, work, transactions, seed + 1) },
@@ -117,15 +118,15 @@ fn on_one(
     work: Work,
     transactions: u32,
     seed: u64,
-) -> Counts
+) -> Outcomes
     requires ready { IsReady table.now seat }
 {
     let mut random = Xoshiro256PlusPlus::seed_from_u64(seed);
-    let mut counts = Counts::NONE;
+    let mut outcomes = Outcomes::NONE;
     'transactions: for _ in 0..transactions {
-        counts.note(transact(table, &mut seat, work, &mut random));
+        outcomes.note(transact(table, &mut seat, work, &mut random));
     }
-    counts
+    outcomes
 }
 
 fn transact(
@@ -137,41 +138,31 @@ fn transact(
     requires ready { IsReady table.now seat.old }
     ensures ready { IsReady table.now seat.new }
 {
+    let calls = drawn(work, random);
     seat.begin(table)?;
-    make_calls(table, seat, work, random)?;
+    make_calls(table, seat, calls)?;
     let _ = seat.commit(table)?;
     Ok(())
 }
 
-fn make_calls(
-    table: &TxTable<u64>,
-    seat: &mut TxSeat<u64>,
-    work: Work,
-    random: &mut Xoshiro256PlusPlus,
-) -> Result<(), Refusal>
+fn make_calls(table: &TxTable<u64>, seat: &mut TxSeat<u64>, calls: Calls) -> Result<(), Refusal>
     requires ready { IsReady table.now seat.old }
     requires since { HasBegunSince table.now seat.old }
     ensures ready { IsReady table.now seat.new }
     ensures since { HasBegunSince table.now seat.new }
 {
-    'calls: for _ in 0..CALLS {
-        make_call(table, seat, work, random)?;
+    'calls: for call in calls {
+        make_call(table, seat, call)?;
     }
     Ok(())
 }
 
-fn make_call(
-    table: &TxTable<u64>,
-    seat: &mut TxSeat<u64>,
-    work: Work,
-    random: &mut Xoshiro256PlusPlus,
-) -> Result<(), Refusal>
+fn make_call(table: &TxTable<u64>, seat: &mut TxSeat<u64>, call: Call<u64>) -> Result<(), Refusal>
     requires ready { IsReady table.now seat.old }
     requires since { HasBegunSince table.now seat.old }
     ensures ready { IsReady table.now seat.new }
     ensures since { HasBegunSince table.now seat.new }
 {
-    let call = drawn(work, random);
     let _ = seat.call(table, call)?;
     Ok(())
 }

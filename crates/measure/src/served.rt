@@ -6,7 +6,6 @@ ghost use Rattle.transactions.specs.Ready.{IsReady};
 
 use crate::sessions::{STRIPES, lists_of, memory, no_such_sessions};
 use crate::tries::Tries;
-use crate::work::refused;
 use generated_sessions::{Options, opening};
 use seq_model::{ACTOR_LIMIT, Items, Refusal, Shape, State};
 use std::alloc::Global;
@@ -64,6 +63,10 @@ fn all_sessions(alloc: Global, lists: &[Vec<Action>]) -> Result<Vec<Vec<Session>
         all.push(sessions)?;
     }
     Ok(all)
+}
+
+fn refused(_refusal: Refusal) -> io::Error {
+    io::Error::other("the table can't be opened")
 }
 
 fn open(alloc: Global, state: State<Entry>) -> Result<(TxTable<Entry>, TxSeat<Entry>), Refusal>

@@ -37,9 +37,7 @@ impl Tries {
         }
         all
     }
-}
 
-impl Tries {
     fn note(&self, worker: u64) {
         if let Some(before) = worker.checked_sub(1) {
             if let Some(count) = self.workers.get(before as usize) {

@@ -12,9 +12,6 @@ use std::io;
 /// How many words there are, or keys of the map.
 pub const KEYS: u32 = 65_536;
 
-/// How many calls a transaction makes.
-pub const CALLS: u32 = 4;
-
 /// The stripes of a collection.
 const STRIPES: u32 = 1024;
 
@@ -40,8 +37,20 @@ pub struct Work {
     pub writes: u32,
 }
 
+/// The calls of a transaction.
+pub type Calls = [Call<u64>; 4];
+
+pub fn drawn(work: Work, random: &mut Xoshiro256PlusPlus) -> Calls {
+    [
+        drawn_call(work, random),
+        drawn_call(work, random),
+        drawn_call(work, random),
+        drawn_call(work, random),
+    ]
+}
+
 /// A word, a key, the number of keys, or one end of a collection, and what is made of it.
-pub fn drawn(work: Work, random: &mut Xoshiro256PlusPlus) -> Call<u64> {
+fn drawn_call(work: Work, random: &mut Xoshiro256PlusPlus) -> Call<u64> {
     let key = random.next_u64() % u64::from(KEYS);
     let is_write = random.next_u64() % 10 < u64::from(work.writes);
     let target = match work.on {
@@ -125,5 +134,5 @@ pub fn shape(alloc: Global, work: Work) -> Result<Shape, Memory> {
 
 /// What ends a benchmark that can't open what it is on.
 pub fn refused(_refusal: Refusal) -> io::Error {
-    io::Error::other("there is no memory for what the calls are made on")
+    io::Error::other("what the calls are made on can't be opened")
 }

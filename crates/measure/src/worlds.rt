@@ -1,6 +1,7 @@
 //! Events on a world of 64 actors, in events a second.
 ghost use Rattle.std.specs.Prelude.{◌<◌};
 
+use crate::sessions::memory;
 use rand_core::{Rng, SeedableRng};
 use rand_xoshiro::Xoshiro256PlusPlus;
 use running_world::World;
@@ -98,10 +99,6 @@ fn timed(
 
 fn refused(_refusal: Refusal) -> io::Error {
     io::Error::other("the world can't be opened")
-}
-
-fn memory(_memory: Memory) -> io::Error {
-    io::Error::from(io::ErrorKind::OutOfMemory)
 }
 
 // The world ends in its trace, so that no drop of it is proved here.

@@ -34,6 +34,23 @@ pub fn print_lines(text: &mut String, lines: &[Line], tables: &Tables) -> Result
     Ok(())
 }
 
+/// Prints sessions without a receipt, for each kind of cause.
+pub fn print_missed(text: &mut String) -> Result<(), Refusal> {
+    let stale = Refusal::Stale {
+        location: 3,
+        base_edition: 5,
+        word_edition: 4,
+    };
+    let lines = [
+        Line::Refused(stale),
+        Line::Refused(Refusal::Exhausted { clock: 9 }),
+        Line::GivenUp,
+        Line::NotStarted,
+    ];
+    let tables = Tables::new(*text.allocator());
+    print_lines(text, &lines, &tables)
+}
+
 /// Prints the reply as a session's, without the numbers before it.
 pub fn print_reply(text: &mut String, tables: &Tables, reply: ActionReply) -> Result<(), Refusal> {
     let lines = [Line::Done(0, reply)];

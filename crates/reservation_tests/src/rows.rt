@@ -3,7 +3,7 @@ use crate::draws::{answer_drawn, opened_by_draws};
 use crate::files::{act, action_of, answer_file, answer_printed, numbers_of};
 use crate::limits::{answer_built, answer_copy, answer_places};
 use crate::parts::{of_parts, print_rebuilt};
-use crate::prints::{print_left, print_reply, say};
+use crate::prints::{print_left, print_missed, print_reply, say};
 use seq_model::{Memory, Refusal};
 use std::alloc::Global;
 use std::fmt::Write;
@@ -22,7 +22,7 @@ use vac_model::{ActionRefusal, Tables};
 ///   each kind, the next ticket, and what both tests of balance say. `rebuilt`: the same of tables of these tables' parts.
 /// - `places 9 8`: what a customer with nine bookings and eight waits is answered for a unit that is free, and for one that is not.
 /// - `copy 1 0`: whether a customer with one booking is the same as a copy with none more.
-/// - `refusals`: what the refusals of an action print.
+/// - `refusals`: what the refusals of an action print. `missed`: what is printed of sessions without a receipt.
 /// - `file: TEXT` reads a session file, in which `|` stands for a line feed and `?` for a byte that is no text.
 ///   `printed NUMBERS: TEXT` makes its sessions, which commit with these numbers: what is printed.
 /// - `drawn SEED WORKER OPTIONS`: the sessions of a worker. The options are clients, queries, the share of the ids, relations,
@@ -74,6 +74,7 @@ fn answer_row(text: &mut String, tables: &mut Tables, row: &str) -> Result<(), R
         "left" => print_left(text, tables),
         "rebuilt" => print_rebuilt(text, tables),
         "refusals" => print_refusals(text),
+        "missed" => print_missed(text),
         "file" => answer_file(text, file),
         "reserve" | "delete" | "update" | "item" | "bill" => answer_action(text, tables, row),
         _ => {

@@ -14,6 +14,7 @@ pub struct TBag {
 }
 
 impl TBag {
+    /// A handle on the multiset of this number. That there is one is found by its calls, which are `NoSuch` otherwise.
     pub fn new(number: u32) -> TBag
         ensures { result.number ≡ number }
     {

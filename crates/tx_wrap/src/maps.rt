@@ -16,6 +16,7 @@ pub struct TMap<V> {
 }
 
 impl<V: Value> TMap<V> {
+    /// A handle on the map of this number. That there is one is found by its calls, which are `NoSuch` otherwise.
     pub fn new(number: u32) -> TMap<V>
         ensures { result.number ≡ number }
     {

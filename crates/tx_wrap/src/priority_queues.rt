@@ -14,6 +14,7 @@ pub struct TPq {
 }
 
 impl TPq {
+    /// A handle on the priority queue of this number. That there is one is found by its calls, which are `NoSuch` otherwise.
     pub fn new(number: u32) -> TPq
         ensures { result.number ≡ number }
     {

@@ -14,6 +14,7 @@ pub struct TQueue {
 }
 
 impl TQueue {
+    /// A handle on the queue of this number. That there is one is found by its calls, which are `NoSuch` otherwise.
     pub fn new(number: u32) -> TQueue
         ensures { result.number ≡ number }
     {

@@ -14,6 +14,7 @@ pub struct TWord {
 }
 
 impl TWord {
+    /// A handle on the word of this number. That there is one is found by its calls, which are `NoSuch` otherwise.
     pub fn new(number: u32) -> TWord
         ensures { result.number ≡ number }
     {

@@ -147,8 +147,47 @@ fn make_lines(table: &TxTable<u64>, seat: &mut TxSeat<u64>, lines: &[Line]) -> R
     ensures fit { IsFit table.now seat.new }
 {
     let _ = seat.begin(table)?;
+    make_each(table, seat, lines)
+}
+
+fn make_each(table: &TxTable<u64>, seat: &mut TxSeat<u64>, lines: &[Line]) -> Result<(), Refusal>
+    requires fit { IsFit table.now seat.old }
+    ensures fit { IsFit table.now seat.new }
+{
     'calls: for line in lines {
         make_line(table, seat, line)?;
+    }
+    Ok(())
+}
+
+/// The calls of these lines are made so often, up to the first that is refused.
+pub fn repeat(
+    page: &mut Page,
+    table: &TxTable<u64>,
+    seat: &mut TxSeat<u64>,
+    lines: &[Line],
+    times: u64,
+)
+    requires fit { IsFit table.now seat.old }
+    ensures fit { IsFit table.now seat.new }
+{
+    match make_often(table, seat, lines, times) {
+        Ok(()) => page.say("made"),
+        Err(refusal) => page.refuse(refusal),
+    }
+}
+
+fn make_often(
+    table: &TxTable<u64>,
+    seat: &mut TxSeat<u64>,
+    lines: &[Line],
+    times: u64,
+) -> Result<(), Refusal>
+    requires fit { IsFit table.now seat.old }
+    ensures fit { IsFit table.now seat.new }
+{
+    'times: for _ in 0..times {
+        make_each(table, seat, lines)?;
     }
     Ok(())
 }

@@ -1,11 +1,12 @@
 //! Rows at two seats.
 ghost use Rattle.table_tests.specs.Fit.{IsFit};
 
-use super::requests::{ask, leave_open, try_job};
+use super::requests::{ask, leave_open, repeat, try_job};
 use crate::shared::{Meeting, Order, Page, job_of, learn, say_last};
 use row_parts::script_of;
 use seq_model::Refusal;
-use step_script::Line;
+use std::alloc::Global;
+use step_script::{Line, Script};
 use text_lines::number;
 use transactions::TxSeat;
 use tx_table::TxTable;
@@ -94,6 +95,7 @@ fn answer(
         Some(("attempts", _)) => answer_attempt(page, table, seat, worker, meeting, words, false),
         Some(("gives", _)) => answer_attempt(page, table, seat, worker, meeting, words, false),
         Some(("leaves", calls)) => answer_left(page, table, seat, calls),
+        Some(("repeats", words)) => answer_repeated(page, table, seat, words),
         Some(("last", _)) => say_last(page, seat),
         Some(("waits", _)) => answer_wait(page, meeting),
         _ => page.refuse(Refusal::NoSuch),
@@ -165,4 +167,21 @@ fn answer_left(page: &mut Page, table: &TxTable<u64>, seat: &mut TxSeat<u64>, ca
         Ok(script) => leave_open(page, table, seat, script.lines.as_slice()),
         Err(refusal) => page.refuse(refusal),
     }
+}
+
+fn answer_repeated(page: &mut Page, table: &TxTable<u64>, seat: &mut TxSeat<u64>, words: &str)
+    requires fit { IsFit table.now seat.old }
+    ensures fit { IsFit table.now seat.new }
+{
+    match repeated_of(page.alloc(), words) {
+        Ok((times, script)) => repeat(page, table, seat, script.lines.as_slice(), times),
+        Err(refusal) => page.refuse(refusal),
+    }
+}
+
+// `4095 1 do read 0`: how often, and the calls.
+fn repeated_of(alloc: Global, words: &str) -> Result<(u64, Script), Refusal> {
+    let (times, calls) = words.split_once(' ').ok_or(Refusal::NoSuch)?;
+    let times = number(times).ok_or(Refusal::NoSuch)?;
+    Ok((times, script_of(alloc, calls)?))
 }

@@ -3,7 +3,7 @@ use seq_model::Refusal;
 
 /// How many transactions were committed, and how many were refused, by cause.
 #[derive(Clone, Copy)]
-pub struct Counts {
+pub struct Outcomes {
     pub committed: u32,
     /// A word or a location was changed, or locked, since the transaction began.
     pub moved: u32,
@@ -12,8 +12,8 @@ pub struct Counts {
     pub others: u32,
 }
 
-impl Counts {
-    pub const NONE: Counts = Counts {
+impl Outcomes {
+    pub const NONE: Outcomes = Outcomes {
         committed: 0,
         moved: 0,
         gates: 0,
@@ -36,8 +36,8 @@ impl Counts {
     }
 
     /// These and those of another thread.
-    pub fn and(self, other: Counts) -> Counts {
-        Counts {
+    pub fn and(self, other: Outcomes) -> Outcomes {
+        Outcomes {
             committed: self.committed.saturating_add(other.committed),
             moved: self.moved.saturating_add(other.moved),
             gates: self.gates.saturating_add(other.gates),
