@@ -33,7 +33,7 @@ use Rattle.transactions.proofs.RequestLemmas.{asked_keeps, then_keeps}
 use Rattle.transactions.specs.Ready.{standing}
 use Rattle.transactions.specs.Requests.{CallsTo, HasCommitted, IsAnswered, IsEnded, KeepsReceipts, has_written, told_of}
 use Rattle.attempts.proofs.JobLemmas.{asked_more, none_asked, replies_more}
-use Rattle.attempts.specs.Attempts.{AttemptsTo, HasGivenUp, HasMade, IsAt, IsCallRefused, IsSoFar, IsUnmade, Reaches, ask_of}
+use Rattle.attempts.specs.Attempts.{EndsAs, HasGivenUp, HasMade, IsAt, IsCallRefused, IsSoFar, IsUnmade, Reaches, ask_of}
 use Rattle.attempts.specs.Jobs.{AreAskedBy}
 use Rattle.attempts.specs.declared.jobs.End.{End}
 use Rattle.attempts.specs.declared.jobs.End.TheVariants as ends
@@ -200,7 +200,7 @@ module _ {V : Type 0} where
         }
 
     pub commit_refused : (s b m u : Seat V) (cause : Refusal) → KeepsReceipts s b → Reaches asks o b m ends.Done → KeepsReceipts m u
-        → IsEnded o m u cause → AttemptsTo asks o s u (Err cause)
+        → IsEnded o m u cause → EndsAs asks o s u (Err cause)
     commit_refused s b m u cause kept done ends ended =
         let k : IsAt asks o s m done.0 ask.Done = at_before s b m done.0 ask.Done kept done.1 in (
           then_keeps s m u k.keeps ends,
@@ -213,7 +213,7 @@ module _ {V : Type 0} where
         record { keeps = then_keeps s m u k.keeps ended; calls = done.0; before = m; at = k }
 
     pub call_ended : (s b m u : Seat V) (cause : Refusal) → KeepsReceipts s b → KeepsReceipts b m → IsUnmade asks o b m cause
-        → KeepsReceipts m u → AttemptsTo asks o s u (Err cause)
+        → KeepsReceipts m u → EndsAs asks o s u (Err cause)
     call_ended s b m u cause kept keeps unmade ended = (
       then_keeps s b u kept (then_keeps b m u keeps ended),
       inr (inr (unmade_after s m u cause ended (unmade_before s b m cause kept unmade))),

@@ -1,5 +1,5 @@
 -- What an attempt of a job comes to.
-use Rattle.std.specs.Prelude.{◌≡◌, ◌⊎◌, ◌<◌, ◌≤◌, true, List, [], ◌∷◌, ◌++◌, Result, Ok, Err}
+use Rattle.std.specs.Prelude.{◌≡◌, ◌⊎◌, ◌+◌, ◌<◌, ◌≤◌, true, List, [], ◌∷◌, ◌++◌, Result, Ok, Err}
 use Rattle.seq_model.specs.declared.call.Call.{Call}
 use Rattle.seq_model.specs.declared.call.Reply.{Reply}
 use Rattle.seq_model.specs.declared.record.Record.{Record}
@@ -12,6 +12,7 @@ use Rattle.tx_engine.specs.Programs.{replies_of}
 use Rattle.tx_table.specs.declared.seat.Seat.{Seat}
 use Rattle.tx_table.specs.Seated.{actor, view}
 use Rattle.tx_phases.specs.Phases.{Stands}
+use Rattle.driven_turns.specs.Begins.{begins_of}
 use Rattle.transactions.specs.Ready.{standing}
 use Rattle.transactions.specs.Requests.{CallsTo, HasCommitted, IsEnded, IsNotBegun, KeepsReceipts, has_written}
 use Rattle.attempts.specs.Jobs.{AreAskedBy, IsWholeJob}
@@ -92,8 +93,12 @@ module _ {V : Type 0} (asks : List (Reply V) → Ask V → Type 0) (o : World V)
     pub before : Seat V
     pub at : IsAt s before calls ask.GiveUp
 
-  -- an attempt came to this, and led the seat from s to u: a receipt, a job that gave up, or a refusal
+  -- a receipt, a job that gave up, or a refusal
+  abbrev pub EndsAs : Seat V → Seat V → Result (Attempt V) Refusal → Type 0
+  EndsAs s u (Ok (Committed r)) = HasMade s u r
+  EndsAs s u (Ok GivenUp) = HasGivenUp s u
+  EndsAs s u (Err cause) = KeepsReceipts s u × IsRefusedOf s u cause
+
+  -- an attempt came to this, and led the seat from s to u, which asked one transaction to begin, and no more
   abbrev pub AttemptsTo : Seat V → Seat V → Result (Attempt V) Refusal → Type 0
-  AttemptsTo s u (Ok (Committed r)) = HasMade s u r
-  AttemptsTo s u (Ok GivenUp) = HasGivenUp s u
-  AttemptsTo s u (Err cause) = KeepsReceipts s u × IsRefusedOf s u cause
+  AttemptsTo s u r = EndsAs s u r × (begins_of u ≡ begins_of s + 1)

@@ -3,6 +3,7 @@ ghost use Rattle.std.specs.Prelude.{◌≡◌, ◌+◌, ◌<◌, IfErr, IfNone, 
 ghost use Rattle.seq_model.specs.declared.limits.TheConstants.{CALL_LIMIT as AsCallLimit};
 ghost use Rattle.tx_table.specs.Seated.{opening_of};
 ghost use Rattle.tx_phases.specs.Phases.{Rests, Stands};
+ghost use Rattle.driven_turns.specs.Begins.{begins_of};
 ghost use Rattle.transactions.specs.Ready.{HasBegunSince, IsReady, standing};
 ghost use Rattle.transactions.specs.Requests.{KeepsReceipts};
 ghost use Rattle.attempts.specs.Attempts.{AttemptsTo, IsSoFar, IsUnmade, Reaches};
@@ -43,6 +44,7 @@ fn ask_next<V: Value, J: Job<V>>(
     ensures ready { IsReady table.now seat.new }
     ensures since { HasBegunSince table.now seat.new }
     ensures keeps { KeepsReceipts seat.old.seat seat.new.seat }
+    ensures begins { begins_of seat.new.seat ≡ begins_of seat.old.seat }
     ensures so_far { IfOk result (λ next. IfNone next
         (IsSoFar (J.asks job.now) (opening_of table.now) seat.new.seat replies.new.items)) }
     ensures room { IfOk result (λ next. IfNone next
@@ -75,6 +77,7 @@ fn ask_all<V: Value, J: Job<V>>(
     ensures ready { IsReady table.now seat.new }
     ensures since { HasBegunSince table.now seat.new }
     ensures keeps { KeepsReceipts seat.old.seat seat.new.seat }
+    ensures begins { begins_of seat.new.seat ≡ begins_of seat.old.seat }
     ensures reaches { IfOk result (Reaches (J.asks job.now) (opening_of table.now) seat.old.seat seat.new.seat) }
     ensures refused { IfErr result (IsUnmade (J.asks job.now) (opening_of table.now) seat.old.seat seat.new.seat) }
 {

@@ -42,6 +42,7 @@ use Rattle.tx_phases.specs.Courses.{ComesTo, IsUnderWay, IsUnderWayFrom, latest}
 use Rattle.tx_phases.specs.Phases.{Phase, Rests, Begins, Stands, Calls, Commits, Committed, Ends, IsMistaken, StepMoves, phase, phase_at}
 use Rattle.driven_turns.proofs.DeclaredLemmas.{begin_declared}
 use Rattle.driven_turns.proofs.KeptLemmas.{Keeps, steps_keep}
+use Rattle.driven_turns.proofs.BeginLemmas.{turn_begins}
 use Rattle.driven_turns.proofs.StampLemmas.{begun_clock, exhausted_clock, numbered, stamped_step}
 use Rattle.driven_turns.proofs.WritingLemmas.{commits_first, is_commit, is_one, written_on}
 use Rattle.driven_turns.specs.Driven.{Driven, HasFound, IsNumberOf, IsReason, IsStamped, IsTrue, IsTurnFrom, IsWritten, KnowsNumber}
@@ -154,6 +155,7 @@ module _ {V : Type 0} where
     declared = λ _ _. refl;
     stamped = λ knows. knows;
     numbered = λ knows r none. absurd (let z : ⊥ = cc in z);
+    begins = refl;
   }
 
   -- ---- one turn more
@@ -413,4 +415,7 @@ module _ {V : Type 0} where
           declared = declared_stays;
           stamped = stamped_on;
           numbered = λ knows r is. numbered_on knows e r made_u new is;
+          begins = turn_begins u z (record { asks = list_of u.asked; found = T.found; base = T.base })
+              (ap (λ (k : View V). k.turns) T.takes.turn) refl T.takes.none
+              ∙ D.begins;
         }

@@ -1,3 +1,4 @@
+pub mod BeginLemmas
 pub mod WritingLemmas
 pub mod KeptLemmas
 pub mod StampLemmas

@@ -32,6 +32,7 @@ use Rattle.tx_turns.specs.Ties.{commits}
 use Rattle.tx_actor.specs.declared.actor.TxActor.{TxActor}
 use Rattle.tx_phases.specs.Courses.{ComesTo, latest}
 use Rattle.tx_phases.specs.Phases.{Phase, Rests, Begins, Stands, Calls, Commits, Ends, IsMistaken, phase}
+use Rattle.driven_turns.specs.Begins.{begins_of}
 
 -- a commit that has its number checks what it has read, or has done so: the number is no higher than this clock
 abbrev pub IsStampedAt : ℕ → Actor → Place → Type 0
@@ -176,6 +177,7 @@ module _ {V : Type 0} where
     pub declared : standing o s ≡ Begins → (standing o u ≡ Rests → ⊥) → is_declared o u ≡ is_declared o s
     pub stamped : KnowsNumber o s → KnowsNumber o u
     pub numbered : KnowsNumber o s → (r : Record V) → d ≡ Some r → IsNumberOf (seat_in o s).rv (view u).clock r
+    pub begins : begins_of u ≡ begins_of s
 
   -- how many steps the request of a seat takes at most
   abbrev pub left_in : World V → Seat V → ℕ

@@ -1,5 +1,5 @@
 -- A seat between its requests: how it begins, and that it is there again after each of them.
-use Rattle.std.proofs.Common.{◌≡◌, ◌⊎◌, ℕ, ◌<◌, ◌≤◌, Bool, true, false, true≢false, [], ◌∷◌, ◌++◌, Result, Ok, Err, IfOk, IfErr}
+use Rattle.std.proofs.Common.{◌≡◌, ◌⊎◌, ℕ, ◌+◌, ◌<◌, ◌≤◌, Bool, true, false, true≢false, [], ◌∷◌, ◌++◌, Result, Ok, Err, IfOk, IfErr}
 use Rattle.std.proofs.Common.{inl, inr, refl, sym, ap, ◌∙◌, subst, arith}
 use Rattle.seq_model.specs.declared.call.Call.{Call}
 use Rattle.seq_model.specs.declared.call.Reply.{Reply}
@@ -26,6 +26,7 @@ use Rattle.tx_table.specs.Shown.{IsReached, looking}
 use Rattle.tx_table.specs.Turns.{asked_all, lone}
 use Rattle.tx_phases.specs.Phases.{Rests, phase}
 use Rattle.transactions.proofs.RequestLemmas.{is_idle, is_open}
+use Rattle.driven_turns.specs.Begins.{begins_asked, begins_of, begins_taken}
 use Rattle.driven_turns.specs.Driven.{HasTold, IsNumberOf, seat_in, standing}
 use Rattle.transactions.specs.Ready.{HasBegunSince, HasOpened, IsNew, IsReady}
 use Rattle.transactions.specs.Requests.{CallLeaves, CallsTo, HasCommitted, IsBegun, IsNotBegun, IsOpen, OnlyKnows}
@@ -186,6 +187,9 @@ module _ {V : Type 0} where
       rests = noted_stands ∙ h.rests;
       told = noted_told before (told.Answered (answer.Committed r.number)) h.told;
     }
+
+  pub noted_begins : (s u : table.Seat V) → u.place ≡ s.place → u.asked ≡ s.asked → begins_of u ≡ begins_of s
+  noted_begins s u place asked i = begins_taken (place i).me.0.turns + begins_asked (list_of (asked i))
 
   -- a seat whose own world is the same stays tied
   pub stays_tied : (t : TxTable V) (s u : table.Seat V) (r : TxActor V) → Owns t u → seated.actor u ≡ seated.actor s

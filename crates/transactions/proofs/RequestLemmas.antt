@@ -1,5 +1,5 @@
 -- Requests from a transaction at rest: where its actor stands, what the request has under way, and what it comes to.
-use Rattle.std.proofs.Common.{◌≡◌, ◌≢◌, ℕ, Bool, true, false, true≢false, List, [], ◌++◌, Option, None, Result, Ok, Err, IfOk, IfErr, refl}
+use Rattle.std.proofs.Common.{◌≡◌, ◌≢◌, ℕ, ◌+◌, Bool, true, false, true≢false, List, [], ◌∷◌, ◌++◌, Option, None, Result, Ok, Err, IfOk, IfErr, refl}
 use Rattle.std.proofs.Common.{inl, inr, sym, ap, ◌∙◌, subst, arith}
 use Rattle.std.proofs.lemmas.List.{append-nil, append_assoc}
 use Rattle.word_machine.specs.Actor as machine
@@ -14,6 +14,7 @@ use Rattle.seq_model.specs.declared.event.Answer.TheVariants as answer
 use Rattle.seq_model.specs.declared.event.Event.TheVariants.{Ask}
 use Rattle.seq_model.specs.declared.event.Notice.{Notice}
 use Rattle.seq_model.specs.declared.event.Notice.TheVariants.{Quiet, Answered, Refused}
+use Rattle.seq_model.specs.declared.event.Request.{Request}
 use Rattle.seq_model.specs.declared.event.Request.TheVariants.{Abort, Begin, BeginRead}
 use Rattle.seq_model.specs.declared.record.Record.{Record}
 use Rattle.seq_model.specs.declared.refusal.Refusal.{Refusal}
@@ -39,9 +40,11 @@ use Rattle.tx_phases.specs.Courses.{EndsFrom, IsUnderWay, IsUnderWayFrom}
 use Rattle.tx_phases.specs.Phases.{AskMoves, Phase, Rests, Begins, Stands, Calls, Ends, phase, phase_at}
 use Rattle.gate_turns.specs.Bases.{gates_at}
 use Rattle.gate_turns.specs.Own.{HasOwn}
+use Rattle.driven_turns.proofs.BeginLemmas.{taken_begins}
 use Rattle.driven_turns.proofs.GivenUpLemmas.{none_ends}
 use Rattle.driven_turns.proofs.RestLemmas.{IsFree, bare_out, free_own, taken_bare}
 use Rattle.driven_turns.proofs.SinceLemmas as since
+use Rattle.driven_turns.specs.Begins.{begins_asked, begins_of}
 use Rattle.driven_turns.specs.Driven.{Driven, HasFound, HasTold, IsReason, IsTrue, as_receipts, is_declared, seat_in, standing}
 use Rattle.transactions.specs.Requests.{BeginsTo, IsBeginTold, IsBegun, IsEnded, IsFoundAndTold, IsNotBegun, KeepsReceipts, begin_of}
 use Rattle.tx_threads.proofs.OwnLemmas.{own_ok}
@@ -167,6 +170,7 @@ module _ {V : Type 0} where
           began = h.1;
           clock = clock_told;
           rises = (let p = D.rises in omega (arith, p, clock_told));
+          told = D.tells ne;
         },
       )
     where
@@ -179,6 +183,16 @@ module _ {V : Type 0} where
       let a = seated.actor s in
       let h = subst (λ (p : Phase V). EndsFrom a (seat_in o s) p (Refused a cause) (seat_in o u) d) on D.comes in
       (h.1, (h.0, subst (λ (p : Phase V). IsTrue o s u p (told.Refused cause)) on D.is_true))
+
+  -- how many it has begun then
+  pub asks_begin : (s m : table.Seat V) → HasAsked s Begin m → begins_of m ≡ begins_of s + 1
+  asks_begin s m has = taken_begins s m (Ask 0 Begin) has
+
+  pub asks_begin_read : (s m : table.Seat V) → HasAsked s BeginRead m → begins_of m ≡ begins_of s + 1
+  asks_begin_read s m has = taken_begins s m (Ask 0 BeginRead) has
+
+  pub asks_none : (s m : table.Seat V) (q : Request V) → begins_asked (Ask 0 q ∷ []) ≡ 0 → HasAsked s q m → begins_of m ≡ begins_of s
+  asks_none s m q none has = (let p = taken_begins s m (Ask 0 q) has in omega (arith, p, none))
 
   -- what keeps the receipts, one after the other
   pub then_keeps : (s m u : table.Seat V) → KeepsReceipts s m → KeepsReceipts m u → KeepsReceipts s u
@@ -246,6 +260,7 @@ module _ {V : Type 0} where
     began = h.began;
     clock = h.clock;
     rises = (let p = h.rises in let q = kept.rises in omega (arith, p, q));
+    told = told_back o s m u (told.Answered (answer.Begun rv)) kept h.told;
   }
 
   -- what its turn tells is the one or the other

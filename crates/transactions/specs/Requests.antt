@@ -53,13 +53,14 @@ module _ {V : Type 0} where
 
   -- ---- a begin
   -- It tells the number at which the transaction has begun, which is open and has no calls, and is a declared reader's or not. It is the
-  -- clock that the seat knows by then, which is no lower than the one that it knew.
+  -- clock that the seat knows by then, which is no lower than the one that it knew. One of its turns has told it.
   pub record IsBegun (declared : Bool) (o : World V) (s u : Seat V) (rv : ℕ) : Type 0 where
     pub stands : standing o u ≡ Stands []
     pub declares : is_declared o u ≡ declared
     pub began : (seat_in o u).rv ≡ rv
     pub clock : rv ≡ (view u).clock
     pub rises : (view s).clock ≤ rv
+    pub told : HasTold o s u (told.Answered (answer.Begun rv))
 
   -- or a step of its own found the clock at its limit, and there is no transaction
   abbrev pub IsNotBegun : World V → Seat V → Seat V → Refusal → Type 0

@@ -7,6 +7,7 @@ ghost use Rattle.tx_phases.specs.Phases.{Rests};
 ghost use Rattle.tx_turns.specs.Asked.{Answers, HasAsked};
 ghost use Rattle.tx_turns.specs.Ties.{Ties};
 ghost use Rattle.gate_turns.specs.Own.{HasOwn};
+ghost use Rattle.driven_turns.specs.Begins.{begins_of};
 ghost use Rattle.driven_turns.specs.Driven.{standing};
 ghost use Rattle.transactions.specs.Requests.{CallsTo, IsCallTold, IsCalling, IsDriven, IsOpen, KeepsReceipts, told_of};
 
@@ -74,6 +75,7 @@ pub(crate) fn ask_open<V: Value>(
     ensures admits { OnErr result (IsAdmitted (acts (opening_of table.now) seat.old) (actor_of seat.old) request) }
     ensures keeps { OnErr result (KeepsReceipts seat.old seat.new) }
     ensures rests { OnErr result (standing (opening_of table.now) seat.new ≡ Rests) }
+    ensures begins { OnErr result (begins_of seat.new ≡ begins_of seat.old) }
 {
     let none = Vec::new(alloc);
     match ask(alloc, table, seat, actor, none.as_slice(), request) {
@@ -101,6 +103,7 @@ pub(crate) fn call<V: Value>(
     ensures ties { Ties table.now seat.new actor.new }
     ensures own { HasOwn table.now seat.new actor.new [] }
     ensures calls { CallsTo (opening_of table.now) seat.old call seat.new result }
+    ensures begins { begins_of seat.new ≡ begins_of seat.old }
 {
     match ask_open(alloc, table, seat, actor, bases, Request::Call(call)) {
         Ok(Told::Quiet) => driven_call(alloc, table, seat, actor, bases),

@@ -2,7 +2,8 @@
 ghost use Rattle.std.specs.Prelude.{◌≡◌, [], IfErr, IfOk, MatchResult, None, OnErr, Some, not};
 ghost use Rattle.replay_log.specs.WorldProgress.{AreSmall};
 ghost use Rattle.tx_table.specs.Seated.{blocks_in, opening_of, view};
-ghost use Rattle.tx_phases.specs.Phases.{Commits, Rests, Stands};
+ghost use Rattle.tx_phases.specs.Phases.{Commits, Stands};
+ghost use Rattle.driven_turns.specs.Begins.{begins_of};
 ghost use Rattle.driven_turns.specs.Driven.{IsNumberOf, KnowsNumber, is_closing, seat_in, standing};
 ghost use Rattle.transactions.specs.Requests.{HasCommitted, IsCommitTold, IsCommitting, IsEnded, IsOpen, KeepsReceipts, has_written};
 ghost use Rattle.tx_turns.specs.Ties.{Ties};
@@ -53,6 +54,7 @@ fn committed<V: Value>(
         → IsNumberOf (seat_in (opening_of table.now) seat.old).rv (view seat.new).clock receipt) }
     ensures keeps { OnErr result (KeepsReceipts seat.old seat.new) }
     ensures ended { IfErr result (IsEnded (opening_of table.now) seat.old seat.new) }
+    ensures begins { begins_of seat.new ≡ begins_of seat.old }
 {
     let (told, receipt) = drive(alloc, table, seat, actor, bases);
     commit_told(told, receipt)
@@ -79,6 +81,7 @@ pub(crate) fn commit<V: Value>(
     ensures number { IfOk result (IsNumberOf (seat_in (opening_of table.now) seat.old).rv (view seat.new).clock) }
     ensures keeps { OnErr result (KeepsReceipts seat.old seat.new) }
     ensures ended { IfErr result (IsEnded (opening_of table.now) seat.old seat.new) }
+    ensures begins { begins_of seat.new ≡ begins_of seat.old }
 {
     let _ = ask_open(alloc, table, seat, actor, bases, Request::Commit)?;
     committed(alloc, table, seat, actor, bases)

@@ -1,8 +1,9 @@
 //! Requests of a transaction: one that begins, and one that ends without a commit.
-ghost use Rattle.std.specs.Prelude.{◌≡◌, [], IfErr, IfOk, false, true};
+ghost use Rattle.std.specs.Prelude.{◌≡◌, ◌+◌, [], IfErr, IfOk, false, true};
 ghost use Rattle.replay_log.specs.WorldProgress.{AreSmall};
 ghost use Rattle.tx_table.specs.Seated.{blocks_in, opening_of};
 ghost use Rattle.tx_phases.specs.Phases.{Rests};
+ghost use Rattle.driven_turns.specs.Begins.{begins_of};
 ghost use Rattle.driven_turns.specs.Driven.{is_declared, standing};
 ghost use Rattle.transactions.specs.Requests.{IsBeginTold, IsBegun, IsNotBegun, IsOpen, KeepsReceipts, begin_of};
 ghost use Rattle.tx_turns.specs.Ties.{Ties};
@@ -46,13 +47,14 @@ fn begun<V: Value>(
     ensures keeps { KeepsReceipts seat.old seat.new }
     ensures begun { IfOk result (IsBegun (is_declared (opening_of table.now) seat.old) (opening_of table.now) seat.old seat.new) }
     ensures refused { IfErr result (IsNotBegun (opening_of table.now) seat.old seat.new) }
+    ensures begins { begins_of seat.new ≡ begins_of seat.old }
 {
     let (told, _) = drive(alloc, table, seat, actor, bases);
     begin_told(told)
 }
 
-/// A transaction begins, and is answered with the number at which it has begun. `Exhausted` at the limit of the clock, and there is none.
-/// `bases` lends its room to the bases that a request takes on its way, here and below: it holds none in the end.
+/// A transaction begins, and is answered with the number at which it has begun. `Exhausted` at the limit of the clock, and none is open
+/// then. `bases` lends its room to the bases that a request takes on its way, here and below: it holds none in the end.
 pub(crate) fn begin<V: Value>(
     alloc: Global,
     table: &TxTable<V>,
@@ -69,13 +71,14 @@ pub(crate) fn begin<V: Value>(
     ensures keeps { KeepsReceipts seat.old seat.new }
     ensures begun { IfOk result (IsBegun false (opening_of table.now) seat.old seat.new) }
     ensures refused { IfErr result (IsNotBegun (opening_of table.now) seat.old seat.new) }
+    ensures begins { begins_of seat.new ≡ begins_of seat.old + 1 }
 {
     ask_begin(table, seat, actor);
     begun(alloc, table, seat, actor, bases)
 }
 
 /// A transaction begins that writes nothing. It keeps no read set, so that its reads are as many as its calls may be. `Exhausted` at the
-/// limit of the clock, and there is none.
+/// limit of the clock, and none is open then.
 pub(crate) fn begin_read<V: Value>(
     alloc: Global,
     table: &TxTable<V>,
@@ -92,6 +95,7 @@ pub(crate) fn begin_read<V: Value>(
     ensures keeps { KeepsReceipts seat.old seat.new }
     ensures begun { IfOk result (IsBegun true (opening_of table.now) seat.old seat.new) }
     ensures refused { IfErr result (IsNotBegun (opening_of table.now) seat.old seat.new) }
+    ensures begins { begins_of seat.new ≡ begins_of seat.old + 1 }
 {
     ask_begin_read(table, seat, actor);
     begun(alloc, table, seat, actor, bases)
@@ -114,6 +118,7 @@ pub(crate) fn abort<V: Value>(
     ensures own { HasOwn table.now seat.new actor.new [] }
     ensures keeps { KeepsReceipts seat.old seat.new }
     ensures rests { standing (opening_of table.now) seat.new ≡ Rests }
+    ensures begins { begins_of seat.new ≡ begins_of seat.old }
 {
     ask_abort(table, seat, actor);
     let _ = drive(alloc, table, seat, actor, bases);

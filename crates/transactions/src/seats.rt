@@ -1,9 +1,10 @@
 //! A seat of a table, with the actor that runs there.
-ghost use Rattle.std.specs.Prelude.{◌≡◌, ◌≢◌, ◌<◌, ◌≤◌, Err, IfErr, IfOk, MatchBool, OnErr, OnOk, [], false, max, true};
+ghost use Rattle.std.specs.Prelude.{◌≡◌, ◌≢◌, ◌+◌, ◌<◌, ◌≤◌, Err, IfErr, IfOk, MatchBool, OnErr, OnOk, false, max, true};
 ghost use Rattle.seq_model.specs.declared.call.Op.TheVariants as op;
 ghost use Rattle.seq_model.specs.declared.refusal.Refusal.TheVariants.{Ahead, NoTransaction};
 ghost use Rattle.tx_table.specs.Seated.{opening_of, view};
 ghost use Rattle.tx_phases.specs.Phases.{Rests, Stands};
+ghost use Rattle.driven_turns.specs.Begins.{begins_of};
 ghost use Rattle.driven_turns.specs.Driven.{IsNumberOf, seat_in, standing};
 ghost use Rattle.transactions.specs.Ready.{HasBegunSince, HasOpened, IsNew, IsReady};
 ghost use Rattle.transactions.specs.Requests.{CallsTo, HasCommitted, IsBegun, IsEnded, IsNotBegun, IsOpen, KeepsReceipts};
@@ -50,12 +51,14 @@ impl<V: Value> TxSeat<V> {
         matches!(&self.actor.stage, Stage::Open)
     }
 
-    /// A transaction that is open ends without a commit.
+    /// A transaction that is open ends without a commit. Where none is open, nothing is done.
     pub fn abort(&mut self, table: &TxTable<V>)
         requires ready { IsReady table.now self.old }
         ensures ready { IsReady table.now self.new }
         ensures rests { standing (opening_of table.now) self.new.seat ≡ Rests }
         ensures keeps { KeepsReceipts self.old.seat self.new.seat }
+        ensures none { standing (opening_of table.now) self.old.seat ≡ Rests → self.new ≡ self.old }
+        ensures begins { begins_of self.new.seat ≡ begins_of self.old.seat }
     {
         if self.is_open() {
             crate::requests::abort(
@@ -69,7 +72,8 @@ impl<V: Value> TxSeat<V> {
     }
 
     /// A transaction begins; one that was left open is aborted first. It is answered with the number at which it has begun, which is no
-    /// lower than the last number of the seat. `Exhausted` at the limit of the clock, which the seat shows from then on, and there is none.
+    /// lower than the last number of the seat. `Exhausted` at the limit of the clock, which the seat shows from then on, and no
+    /// transaction is open then.
     pub fn begin(&mut self, table: &TxTable<V>) -> Result<u64, Refusal>
         requires ready { IsReady table.now self.old }
         ensures ready { IsReady table.now self.new }
@@ -78,6 +82,7 @@ impl<V: Value> TxSeat<V> {
         ensures begun { IfOk result (IsBegun false (opening_of table.now) self.old.seat self.new.seat) }
         ensures last { IfOk result (λ rv. self.old.seat.last ≤ rv) }
         ensures refused { IfErr result (IsNotBegun (opening_of table.now) self.old.seat self.new.seat) }
+        ensures begins { begins_of self.new.seat ≡ begins_of self.old.seat + 1 }
     {
         self.abort(table);
         crate::requests::begin(
@@ -99,6 +104,7 @@ impl<V: Value> TxSeat<V> {
         ensures begun { IfOk result (IsBegun true (opening_of table.now) self.old.seat self.new.seat) }
         ensures last { IfOk result (λ rv. self.old.seat.last ≤ rv) }
         ensures refused { IfErr result (IsNotBegun (opening_of table.now) self.old.seat self.new.seat) }
+        ensures begins { begins_of self.new.seat ≡ begins_of self.old.seat + 1 }
     {
         self.abort(table);
         crate::requests::begin_read(
@@ -114,9 +120,9 @@ impl<V: Value> TxSeat<V> {
     ///
     /// `NoTransaction` where none is open; then `NoSuch` where there is no such word or collection, or it is of another kind, and for a
     /// change in a declared reader; then `TooLong` past the limit of calls, or where what it reads or writes doesn't fit the sets: the
-    /// transaction is as it was. `Moved` where a word or a location of a collection changed since the transaction began, `Stale` where what
-    /// it has of a collection is not what it had read, `GateBusy` where another seat held the collection's gate at each of 64 tries, and
-    /// `OutOfMemory`: the transaction is ended.
+    /// transaction is as it was. `Moved` where a word or a location of a collection is locked, was changed since the transaction began, or
+    /// changed between the two loads of a read (TL2, DISC 2006), `Stale` where what it copied of a collection has not the edition with which
+    /// it is read, `GateBusy` where another seat held the collection's gate at each of 64 tries, and `OutOfMemory`: the transaction is ended.
     pub fn call(&mut self, table: &TxTable<V>, call: Call<V>) -> Result<Reply<V>, Refusal>
         requires ready { IsReady table.now self.old }
         requires since { HasBegunSince table.now self.old }
@@ -125,6 +131,7 @@ impl<V: Value> TxSeat<V> {
         ensures calls { IsOpen (opening_of table.now) self.old.seat →
             CallsTo (opening_of table.now) self.old.seat call self.new.seat result }
         ensures none { standing (opening_of table.now) self.old.seat ≡ Rests → (result ≡ Err NoTransaction) × (self.new ≡ self.old) }
+        ensures begins { begins_of self.new.seat ≡ begins_of self.old.seat }
     {
         if !self.is_open() {
             return Err(Refusal::NoTransaction);
@@ -148,6 +155,7 @@ impl<V: Value> TxSeat<V> {
         ensures calls { IsOpen (opening_of table.now) self.old.seat →
             CallsTo (opening_of table.now) self.old.seat (record { target = word; op = op.Read }) self.new.seat result }
         ensures none { standing (opening_of table.now) self.old.seat ≡ Rests → (result ≡ Err NoTransaction) × (self.new ≡ self.old) }
+        ensures begins { begins_of self.new.seat ≡ begins_of self.old.seat }
     {
         let call = Call {
             target: word,
@@ -165,6 +173,7 @@ impl<V: Value> TxSeat<V> {
         ensures calls { IsOpen (opening_of table.now) self.old.seat →
             CallsTo (opening_of table.now) self.old.seat (record { target = word; op = op.Write value }) self.new.seat result }
         ensures none { standing (opening_of table.now) self.old.seat ≡ Rests → (result ≡ Err NoTransaction) × (self.new ≡ self.old) }
+        ensures begins { begins_of self.new.seat ≡ begins_of self.old.seat }
     {
         let call = Call {
             target: word,
@@ -176,9 +185,9 @@ impl<V: Value> TxSeat<V> {
     /// The open transaction commits: all its words are written, its changes to collections are made, and what it read is as it read it, at
     /// one moment. Its receipt has its calls with their replies, and its number is the last number of the seat from then on.
     ///
-    /// `NoTransaction` where none is open. `Busy` where a location to be written is locked, or was changed, `Invalid` where one that was
-    /// read was, `GateBusy` where another seat held the gate of a collection to be written at each of 64 tries, and `OutOfMemory`: the
-    /// transaction is ended, and has written nothing.
+    /// `NoTransaction` where none is open. `Busy` where a location to be written is locked or was changed, `Invalid` where one that was read
+    /// is locked by another or was changed (TL2, DISC 2006), `GateBusy` where another seat held the gate of a collection to be written at
+    /// each of 64 tries, and `OutOfMemory`: the transaction is ended, and has written nothing.
     pub fn commit(&mut self, table: &TxTable<V>) -> Result<Record<V>, Refusal>
         requires ready { IsReady table.now self.old }
         requires since { HasBegunSince table.now self.old }
@@ -194,6 +203,7 @@ impl<V: Value> TxSeat<V> {
         ensures ended { IfErr result (λ cause. IsOpen (opening_of table.now) self.old.seat →
             IsEnded (opening_of table.now) self.old.seat self.new.seat cause) }
         ensures none { standing (opening_of table.now) self.old.seat ≡ Rests → (result ≡ Err NoTransaction) × (self.new ≡ self.old) }
+        ensures begins { begins_of self.new.seat ≡ begins_of self.old.seat }
     {
         if !self.is_open() {
             return Err(Refusal::NoTransaction);
@@ -228,8 +238,8 @@ impl<V: Value> TxSeat<V> {
         Ok(())
     }
 
-    /// How many calls are usual at this seat: as many as the transaction had that committed or ended last, or one fewer than were usual
-    /// before it, where that is more, and sixteen at most; 0 at first. It is there to make room by: no contract says that it is so many.
+    /// How many calls are usual at this seat: as many as the transaction had that committed or ended last, or, up to sixteen, one fewer
+    /// than were usual before it, where that is more; 0 at first. It is there to make room by: no contract says that it is so many.
     pub fn usual_calls(&self) -> usize
         ensures { result ≡ self.now.actor.usual_calls }
     {

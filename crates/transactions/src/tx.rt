@@ -26,7 +26,7 @@ pub struct Tx<'a, V> {
     pub(crate) seat: &'a mut TxSeat<V>,
 }
 
-/// A transaction begins; one that was left open at the seat is aborted first. `Exhausted` at the limit of the clock, and there is none.
+/// A transaction begins; one that was left open at the seat is aborted first. `Exhausted` at the limit of the clock, and none is open then.
 pub fn begin<'a, V: Value>(
     seat: &'a mut TxSeat<V>,
     table: &'a TxTable<V>,
@@ -155,6 +155,7 @@ impl<'a, V: Value> Tx<'a, V> {
         ensures ready { IsReady self.entry.table.now self.exit.1.0.now }
         ensures rests { standing (opening_of self.entry.table.now) self.exit.1.0.now.seat ≡ Rests }
         ensures keeps { KeepsReceipts self.entry.seat.now.seat self.exit.1.0.now.seat }
+        ensures none { standing (opening_of self.entry.table.now) self.entry.seat.now.seat ≡ Rests → self.exit.1.0.now ≡ self.entry.seat.now }
     {
         let Tx { table, seat } = self;
         seat.abort(table);

@@ -5,13 +5,13 @@ ghost use Rattle.std.specs.Vec.{vec_capacity, vec_len};
 use seq_model::{Call, Reply};
 use std::alloc::AllocError;
 
-/// A list of calls begins with room for no more: a longer one is rare, and what it has too much of would stay with a receipt.
+/// What is usual falls to so many at once: a longer list is rare, and what it has too much of would stay with a receipt.
 const FEW_CALLS: usize = 16;
 
-/// How many calls the next transaction makes room for at once: as many as this one had, or one fewer than were usual for it, where that is
-/// more, and sixteen at most. So one that is aborted early, or is short, among longer ones leaves the next with enough.
+/// How many calls the next transaction makes room for at once: as many as this one had, or, up to sixteen, one fewer than were usual for
+/// it, where that is more. So one that is aborted early, or is short, among longer ones leaves the next with enough.
 pub(crate) fn usual_after(usual: usize, calls: usize) -> usize {
-    calls.max(usual.saturating_sub(1)).min(FEW_CALLS)
+    calls.max(usual.saturating_sub(1).min(FEW_CALLS))
 }
 
 /// Makes room for a call. A list that is full gets room at once for as many as are usual: a receipt keeps its list, so each transaction

@@ -36,7 +36,7 @@ module _ {V : Type 0} (asks : List (Reply V) → Ask V → Type 0) (t : TxTable 
     causes = cause ∷ h.causes;
     many = (let k = h.many in omega arith);
     vain = (m, h.vain, comes, transient);
-    keeps = then_keeps s m u h.keeps comes.0;
+    keeps = then_keeps s m u h.keeps comes.0.0;
   }
 
   -- a refusal that is the last
@@ -44,7 +44,7 @@ module _ {V : Type 0} (asks : List (Reply V) → Ask V → Type 0) (t : TxTable 
       → (IsTransient cause → n + 1 ≡ tries) → AttemptsTo asks (opening_of t) m u (Err cause)
       → HasNoReceipt asks t tries s u (last.Refused cause)
   refused_last n tries s m u cause few h all comes = record {
-    keeps = then_keeps s m u h.keeps comes.0;
+    keeps = then_keeps s m u h.keeps comes.0.0;
     ends = record {
       before = n;
       few = few;
@@ -63,17 +63,17 @@ module _ {V : Type 0} (asks : List (Reply V) → Ask V → Type 0) (t : TxTable 
   pub gives_up : (n tries : ℕ) (s m u : Seat V) → n < tries → InVain n s m → AttemptsTo asks (opening_of t) m u (Ok GivenUp)
       → HasNoReceipt asks t tries s u last.GivenUp
   gives_up n tries s m u few h comes = record {
-    keeps = then_keeps s m u h.keeps comes.keeps;
+    keeps = then_keeps s m u h.keeps comes.0.keeps;
     ends = record { before = n; few = few; at = m; last = record { causes = h.causes; many = h.many; vain = h.vain; comes = comes } };
   }
 
   pub has_receipt : (n tries : ℕ) (s m u : Seat V) (r : Record V) → n < tries → InVain n s m
       → AttemptsTo asks (opening_of t) m u (Ok (Committed r)) → HasReceipt asks t tries s u r
   has_receipt n tries s m u r few h comes = record {
-    job = comes.job;
-    gains = comes.gains ∙ (ap (λ (e : List (ℕ × Record V)). e ++ (actor m, r) ∷ []) h.keeps.receipts
+    job = comes.0.job;
+    gains = comes.0.gains ∙ (ap (λ (e : List (ℕ × Record V)). e ++ (actor m, r) ∷ []) h.keeps.receipts
         ∙ ap (λ (a : ℕ). (view s).receipts ++ (a, r) ∷ []) h.keeps.seat.1);
-    shares = comes.shares ∙ h.keeps.shares;
+    shares = comes.0.shares ∙ h.keeps.shares;
     before = n;
     few = few;
     at = m;

@@ -1,3 +1,4 @@
+use Rattle.std.proofs.Common.{◌∙◌}
 use Rattle.std.proofs.lemmas.Result.{err_from_is_err_and}
 use Rattle.tx_table.specs.Seated.{opening_of}
 use Rattle.attempts.proofs.AttemptLemmas.{reaches_before, unmade_before}
@@ -29,5 +30,12 @@ calls-preserved g c = record {
   ready = c.ask_next.ensures.ready;
   since = c.ask_next.ensures.since;
   keeps = then_keeps c.args.seat.now.seat c.calls.seat.seat c.ask_next.new.seat.seat c.calls.invariant.keeps c.ask_next.ensures.keeps;
+  begins = c.ask_next.ensures.begins ∙ c.calls.invariant.begins;
   so_far = (rw c.in-None.is at c.in_ok-end.ensures.so_far);
 }
+
+pub returns-in_err-end-clause-begins : goal.returns-in_err-end-clause-begins
+returns-in_err-end-clause-begins g c = c.ask_next.ensures.begins ∙ c.calls.invariant.begins
+
+pub returns-in-Some-clause-begins : goal.returns-in-Some-clause-begins
+returns-in-Some-clause-begins g c = c.ask_next.ensures.begins ∙ c.calls.invariant.begins

@@ -1,6 +1,7 @@
-use Rattle.std.proofs.Common.{◌-◌, length}
+use Rattle.std.proofs.Common.{◌≡◌, ◌-◌, length}
 use Rattle.seq_model.specs.declared.limits.TheConstants.{CALL_LIMIT}
 use Rattle.tx_table.specs.Seated.{opening_of}
+use Rattle.driven_turns.specs.Begins.{begins_of}
 use Rattle.transactions.specs.Ready.{HasBegunSince, IsReady}
 use Rattle.transactions.specs.Requests.{KeepsReceipts}
 use Rattle.attempts.specs.Attempts.{IsSoFar}
@@ -11,6 +12,7 @@ invariant-calls g l = record {
   ready : IsReady l.table l.seat;
   since : HasBegunSince l.table l.seat;
   keeps : KeepsReceipts l.fn.seat.seat l.seat.seat;
+  begins : begins_of l.seat.seat ≡ begins_of l.fn.seat.seat;
   so_far : IsSoFar (g.J.Job.asks l.job) (opening_of l.table) l.seat.seat l.replies.items;
 }
 

@@ -1,4 +1,4 @@
-use Rattle.std.proofs.Common.{inl}
+use Rattle.std.proofs.Common.{inl, ◌∙◌}
 use Rattle.std.proofs.lemmas.Result.{err_from_is_err_and}
 use Rattle.tx_table.specs.Seated.{opening_of}
 use Rattle.attempts.proofs.AttemptLemmas.{at_end, call_ended, commit_refused, given_up, has_made}
@@ -7,7 +7,7 @@ use Rattle.attempts.proofs.jobs.attempt_in.Goals as goal
 pub returns-in_err-begin-clause-attempts : goal.returns-in_err-begin-clause-attempts
 returns-in_err-begin-clause-attempts g c =
     let p = err_from_is_err_and c.from_residual.result c.from_residual.ensures.1 in
-    rw (p.1, p.2) (c.begin.ensures.keeps, inl c.in_err-begin.ensures.refused)
+    rw (p.1, p.2) ((c.begin.ensures.keeps, inl c.in_err-begin.ensures.refused), c.begin.ensures.begins)
 
 pub returns-in_err-receipt-in-Ok-Done-clause-attempts : goal.returns-in_err-receipt-in-Ok-Done-clause-attempts
 returns-in_err-receipt-in-Ok-Done-clause-attempts g c =
@@ -16,30 +16,39 @@ returns-in_err-receipt-in-Ok-Done-clause-attempts g c =
     let done = at_end asks o c.begin.new.self.seat c.ask_all.new.seat.seat _ _ c.in-Ok-Done.field-0-is c.in-Ok-Done.ensures.reaches in
     let left = c.from_residual-in_err-receipt-in-Ok-Done in
     let p = err_from_is_err_and left.result left.ensures.1 in
-    rw (p.1, p.2) (commit_refused asks o c.args.seat.now.seat c.begin.new.self.seat c.ask_all.new.seat.seat c.commit.new.self.seat _
-    c.begin.ensures.keeps done c.in_err-receipt-in-Ok-Done.ensures.keeps
-    (c.in_err-receipt-in-Ok-Done.ensures.ended (done.0, done.1.stands)))
+    rw (p.1, p.2) (
+      (commit_refused asks o c.args.seat.now.seat c.begin.new.self.seat c.ask_all.new.seat.seat c.commit.new.self.seat _
+          c.begin.ensures.keeps done c.in_err-receipt-in-Ok-Done.ensures.keeps
+          (c.in_err-receipt-in-Ok-Done.ensures.ended (done.0, done.1.stands))),
+      c.commit.ensures.begins ∙ (c.ask_all.ensures.begins ∙ c.begin.ensures.begins),
+    )
 
 pub returns-in_ok-receipt-in-Ok-Done-clause-attempts : goal.returns-in_ok-receipt-in-Ok-Done-clause-attempts
 returns-in_ok-receipt-in-Ok-Done-clause-attempts g c =
     let asks = g.J.Job.asks c.args.job.now in
     let o = opening_of c.args.table.now in
-    let e = c.in_ok-receipt-in-Ok-Done.ensures in
-    has_made asks o c.args.seat.now.seat c.begin.new.self.seat c.ask_all.new.seat.seat c.commit.new.self.seat
-    c.in_ok-receipt-in-Ok-Done.receipt c.begin.ensures.keeps
-    (at_end asks o c.begin.new.self.seat c.ask_all.new.seat.seat _ _ c.in-Ok-Done.field-0-is c.in-Ok-Done.ensures.reaches)
-    e.calls e.writes e.committed e.above e.last
+    let e = c.in_ok-receipt-in-Ok-Done.ensures in (
+      has_made asks o c.args.seat.now.seat c.begin.new.self.seat c.ask_all.new.seat.seat c.commit.new.self.seat
+          c.in_ok-receipt-in-Ok-Done.receipt c.begin.ensures.keeps
+          (at_end asks o c.begin.new.self.seat c.ask_all.new.seat.seat _ _ c.in-Ok-Done.field-0-is c.in-Ok-Done.ensures.reaches)
+          e.calls e.writes e.committed e.above e.last,
+      c.commit.ensures.begins ∙ (c.ask_all.ensures.begins ∙ c.begin.ensures.begins),
+    )
 
 pub returns-in-Ok-GivenUp-clause-attempts : goal.returns-in-Ok-GivenUp-clause-attempts
 returns-in-Ok-GivenUp-clause-attempts g c =
     let asks = g.J.Job.asks c.args.job.now in
-    let o = opening_of c.args.table.now in
-    given_up asks o c.args.seat.now.seat c.begin.new.self.seat c.ask_all.new.seat.seat c.abort.new.self.seat c.begin.ensures.keeps
-    (at_end asks o c.begin.new.self.seat c.ask_all.new.seat.seat _ _ c.in-Ok-GivenUp.field-0-is c.in-Ok-GivenUp.ensures.reaches)
-    c.abort.ensures.keeps
+    let o = opening_of c.args.table.now in (
+      given_up asks o c.args.seat.now.seat c.begin.new.self.seat c.ask_all.new.seat.seat c.abort.new.self.seat c.begin.ensures.keeps
+          (at_end asks o c.begin.new.self.seat c.ask_all.new.seat.seat _ _ c.in-Ok-GivenUp.field-0-is c.in-Ok-GivenUp.ensures.reaches)
+          c.abort.ensures.keeps,
+      c.abort.ensures.begins ∙ (c.ask_all.ensures.begins ∙ c.begin.ensures.begins),
+    )
 
 pub returns-in-Err-clause-attempts : goal.returns-in-Err-clause-attempts
-returns-in-Err-clause-attempts g c =
-    call_ended (g.J.Job.asks c.args.job.now) (opening_of c.args.table.now) c.args.seat.now.seat c.begin.new.self.seat
-    c.ask_all.new.seat.seat c.abort-in-Err.new.self.seat c.in-Err.cause c.begin.ensures.keeps c.ask_all.ensures.keeps
-    c.in-Err.ensures.refused c.abort-in-Err.ensures.keeps
+returns-in-Err-clause-attempts g c = (
+  call_ended (g.J.Job.asks c.args.job.now) (opening_of c.args.table.now) c.args.seat.now.seat c.begin.new.self.seat
+      c.ask_all.new.seat.seat c.abort-in-Err.new.self.seat c.in-Err.cause c.begin.ensures.keeps c.ask_all.ensures.keeps
+      c.in-Err.ensures.refused c.abort-in-Err.ensures.keeps,
+  c.abort-in-Err.ensures.begins ∙ (c.ask_all.ensures.begins ∙ c.begin.ensures.begins),
+)

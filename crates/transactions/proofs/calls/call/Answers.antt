@@ -1,4 +1,4 @@
-use Rattle.std.proofs.Common.{[], ◌∙◌, ◌≢◌, arith, subst, sym, rules}
+use Rattle.std.proofs.Common.{[], ◌∙◌, ◌≢◌, arith, refl, subst, sym, rules}
 use Rattle.std.proofs.lemmas.Grind.{common_steps}
 use Rattle.gate_turns.specs.Own.{HasOwn}
 use Rattle.std.specs.Prelude.{Err}
@@ -7,6 +7,7 @@ use Rattle.seq_model.specs.declared.refusal.Refusal.{Refusal}
 use Rattle.tx_actor.specs.declared.actor.Told.{Told}
 use Rattle.tx_actor.specs.declared.actor.Told.TheVariants as told
 use Rattle.tx_table.specs.Seated.{opening_of}
+use Rattle.transactions.proofs.RequestLemmas.{asks_none}
 use Rattle.transactions.proofs.CallLemmas.{at_once, call_starved, call_told, calls_on, driven_calls}
 use Rattle.transactions.specs.Requests.{CallsTo}
 use Rattle.driven_turns.proofs.RestLemmas.{bare_out}
@@ -53,3 +54,15 @@ returns-clause-calls g c =
     (sym c.in-Err.ensures.memory)
     (call_starved (opening_of c.args.table.now) c.args.seat.now c.ask_open.new.seat c.args.call c.in-Err.ensures.keeps
     c.in-Err.ensures.rests c.in-Err.ensures.admits)
+
+pub returns-in-Ok-Quiet-clause-begins : goal.returns-in-Ok-Quiet-clause-begins
+returns-in-Ok-Quiet-clause-begins g c =
+    c.driven_call.ensures.driven.1.begins
+    ∙ asks_none c.args.seat.now c.ask_open.new.seat (request.Call c.args.call) refl c.in-Ok-Quiet.ensures.asked
+
+pub returns-in-Ok-clause-begins : goal.returns-in-Ok-clause-begins
+returns-in-Ok-clause-begins g c =
+    asks_none c.args.seat.now c.ask_open.new.seat (request.Call c.args.call) refl c.in-Ok.ensures.asked
+
+pub returns-clause-begins : goal.returns-clause-begins
+returns-clause-begins g c = c.in-Err.ensures.begins

@@ -1,4 +1,7 @@
+use Rattle.std.proofs.Common.{◌∙◌, refl}
+use Rattle.seq_model.specs.declared.event.Request.TheVariants.{Commit}
 use Rattle.tx_table.specs.Seated.{opening_of}
+use Rattle.transactions.proofs.RequestLemmas.{asks_none}
 use Rattle.transactions.proofs.CommitLemmas.{commit_asked, finishes_since}
 use Rattle.transactions.proofs.commits.commit.Goals as goal
 
@@ -80,3 +83,7 @@ returns-clause-ended g c =
       keeps = c.committed.ensures.keeps;
       ended = c.committed.ensures.ended;
     })).ended
+
+pub returns-clause-begins : goal.returns-clause-begins
+returns-clause-begins g c =
+    c.committed.ensures.begins ∙ asks_none c.args.seat.now c.ask_open.new.seat Commit refl c.in_ok-ask_open.ensures.asked

@@ -63,3 +63,6 @@ returns-clause-ended g c =
     ∙ sym (bare_out c.args.table.now c.args.seat.now c.args.actor.now c.requires.own))
     c.drive-told.result.0 c.drive-told.result.1 c.commit_told.result c.drive-told.ensures.answered c.drive-told.ensures.driven
     c.commit_told.ensures).ended
+
+pub returns-clause-begins : goal.returns-clause-begins
+returns-clause-begins g c = c.drive-told.ensures.driven.begins

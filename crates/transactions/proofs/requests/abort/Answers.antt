@@ -1,9 +1,10 @@
-use Rattle.std.proofs.Common.{◌∙◌, sym}
+use Rattle.std.proofs.Common.{◌∙◌, refl, sym}
+use Rattle.seq_model.specs.declared.event.Request.TheVariants.{Abort}
 use Rattle.tx_table.specs.Seated.{opening_of}
 use Rattle.driven_turns.proofs.GivenUpLemmas.{under_ends}
 use Rattle.driven_turns.proofs.RestLemmas.{bare_out}
 use Rattle.driven_turns.specs.Driven.{seat_in}
-use Rattle.transactions.proofs.RequestLemmas.{abort_ends, abort_own, asked_keeps, ends_to, is_open, then_keeps}
+use Rattle.transactions.proofs.RequestLemmas.{abort_ends, abort_own, asked_keeps, asks_none, ends_to, is_open, then_keeps}
 use Rattle.transactions.proofs.requests.abort.Goals as goal
 
 pub ask_abort-requires-clause-open : goal.ask_abort-requires-clause-open
@@ -44,3 +45,7 @@ returns-clause-rests g c =
     (abort_own c.args.table.now c.args.seat.now c.ask_abort.new.seat c.args.actor.now c.ask_abort.new.actor c.requires.open.0
     c.requires.open.1 c.requires.ties c.requires.own c.ask_abort.ensures.asked c.ask_abort.ensures.ties)))
     c.drive.ensures.driven c.drive.ensures.answered).1
+
+pub returns-clause-begins : goal.returns-clause-begins
+returns-clause-begins g c =
+    c.drive.ensures.driven.begins ∙ asks_none c.args.seat.now c.ask_abort.new.seat Abort refl c.ask_abort.ensures.asked

@@ -4,7 +4,7 @@ use Rattle.tx_table.specs.Seated.{opening_of}
 use Rattle.gate_turns.specs.Bases.{gates_at}
 use Rattle.driven_turns.specs.Driven.{is_declared}
 use Rattle.driven_turns.proofs.RestLemmas.{IsFree, bare_out, free_own}
-use Rattle.transactions.proofs.RequestLemmas.{asked_begin_read, asked_keeps, begun_as, begun_since, is_idle, then_keeps}
+use Rattle.transactions.proofs.RequestLemmas.{asked_begin_read, asked_keeps, asks_begin_read, begun_as, begun_since, is_idle, then_keeps}
 use Rattle.transactions.proofs.requests.begin_read.Goals as goal
 
 pub ask_begin_read-requires-clause-idle : goal.ask_begin_read-requires-clause-idle
@@ -39,3 +39,7 @@ returns-clause-refused g c =
     let has = c.ask_begin_read.ensures.asked in
     (begun_since (is_declared o m) o c.args.seat.now m c.begun.new.seat c.begun.result (asked_keeps c.args.seat.now m (has.0, has.1))
     c.begun.ensures.begun c.begun.ensures.refused).1
+
+pub returns-clause-begins : goal.returns-clause-begins
+returns-clause-begins g c =
+    let asked = asks_begin_read c.args.seat.now c.ask_begin_read.new.seat c.ask_begin_read.ensures.asked in c.begun.ensures.begins ∙ asked

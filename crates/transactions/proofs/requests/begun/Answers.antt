@@ -49,3 +49,6 @@ returns-clause-refused g c =
     (bare_out c.args.table.now c.drive-told.new.seat c.drive-told.new.actor c.drive-told.ensures.own
     ∙ sym (bare_out c.args.table.now c.args.seat.now c.args.actor.now c.requires.own))
     c.drive-told.ensures.driven c.drive-told.ensures.answered).1).1
+
+pub returns-clause-begins : goal.returns-clause-begins
+returns-clause-begins g c = c.drive-told.ensures.driven.begins

@@ -1,6 +1,6 @@
-use Rattle.std.proofs.Common.{ℕ, ◌≤◌, ap, arith, subst, sym}
+use Rattle.std.proofs.Common.{ℕ, ◌≤◌, ◌∙◌, ap, arith, subst, sym}
 use Rattle.tx_table.specs.Seated.{opening_of, view}
-use Rattle.transactions.proofs.ReadyLemmas.{commit_numbers, noted_committed}
+use Rattle.transactions.proofs.ReadyLemmas.{commit_numbers, noted_begins, noted_committed}
 use Rattle.driven_turns.specs.Driven.{IsNumberOf, seat_in}
 use Rattle.transactions.proofs.seats.TxSeat.commit.Goals as goal
 
@@ -27,3 +27,7 @@ returns-clause-last g c =
     let last = c.note.ensures.last in
     let same = c.commit.ensures.last in
     (low, omega (arith, last, same, low))
+
+pub returns-clause-begins : goal.returns-clause-begins
+returns-clause-begins g c =
+    noted_begins c.commit.new.seat c.note.new.self c.note.ensures.same c.note.ensures.asked ∙ c.commit.ensures.begins
