@@ -30,7 +30,7 @@ pub(crate) fn serve_lists<R: Threads + Wait + Sync, P: Pause + Sync>(
     requires lists { (1 ≤ length lists.items) × (length lists.items ≤ ACTOR_LIMIT) }
     requires allowed { AreAllowed (in_lists lists.items) }
     requires some { 1 ≤ tries }
-    ensures { IfOk result (IsServed tables (in_lists lists.items) tries) }
+    ensures { IfOk result (IsServed tables STRIPES (in_lists lists.items) tries) }
 {
     match serve(rt, alloc, tables, STRIPES, lists, tries, pause) {
         Ok(served) => Ok(served),

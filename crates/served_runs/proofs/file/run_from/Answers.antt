@@ -1,7 +1,7 @@
 use Rattle.std.proofs.Common.{refl, rules}
 use Rattle.std.proofs.lemmas.Result.{err_from_is_err_and}
 use Rattle.dealing.specs.Deals.{in_lists}
-use Rattle.served_runs.proofs.RunLemmas.{all_unread, lists_fault, told_run}
+use Rattle.served_runs.proofs.RunLemmas.{all_unread, only_memory, told_run}
 use Rattle.served_runs.proofs.file.run_from.Goals as goal
 
 pub lines_of_report-requires-clause-there : goal.lines_of_report-requires-clause-there
@@ -17,7 +17,7 @@ returns-in_err-lines-clause-refused g c =
 
 pub returns-in_err-tables-clause-refused : goal.returns-in_err-tables-clause-refused
 returns-in_err-tables-clause-refused g c =
-    let fault = lists_fault c.args.tables (in_lists c.args.lists.items) _ c.in_ok-served.served c.args.opening.now
+    let fault = only_memory c.args.tables (in_lists c.args.lists.items) _ c.in_ok-served.served c.args.opening.now
     c.in_err-tables.field-0.0 c.in_ok-served.ensures c.requires.opening c.in_err-tables.ensures.finding in
     search (rules, fault)
 
