@@ -35,7 +35,7 @@ use Rattle.base_queue.specs.FrameLemmas as queue_laws
 use Rattle.collection_machine.specs.Content.{IsIn}
 use Rattle.collection_machine.specs.Serial.{AreLegal}
 use Rattle.collection_machine.proofs.Parts.{Untouched}
-use Rattle.replay_log.specs.Base.{Shown, OfMap, outcome_of, writes_of}
+use Rattle.replay_log.specs.Base.{Shown, outcome_of, writes_of}
 use Rattle.replay_log.specs.Parts.{Kind, MapKind, BagKind, PqKind, QueueKind, whole}
 use Rattle.replay_log.specs.Contents.{Block, Answered, answer, content, shifted, writes_in}
 use Rattle.replay_log.specs.Seats.{World, Open, actor_of}
@@ -81,6 +81,10 @@ none_at_all p q (x ∷ xs) h g =
 none_shifted : (f : ℕ) (ls : List ℕ) → ((l : ℕ) → IsIn l (shifted f ls) → ⊥) → ls ≡ []
 none_shifted f [] none = refl
 none_shifted f (x ∷ ls) none = absurd (none (f + x) (inl refl))
+
+none_written : (es : Entries) → entries.has_some es ≡ false → es ≡ []
+none_written [] e = refl
+none_written (d ∷ es) e = absurd (true≢false e)
 
 -- the calls on words of a machine's actor that writes none
 abbrev is_change : {V : Type 0} → Call V × Reply V → Bool
@@ -186,10 +190,6 @@ module _ {V : Type 0} where
   -- ---- at a seat
   same_calls : (calls cs : List (Call V × Reply V)) → Stands calls ≡ Stands cs → calls ≡ cs
   same_calls calls cs e = cc
-
-  none_written : (es : Entries) → entries.has_some es ≡ false → es ≡ []
-  none_written [] e = refl
-  none_written (d ∷ es) e = absurd (true≢false e)
 
   pub changes_nothing : (o : World V) (s : Seat V) (calls : List (Call V × Reply V)) → IsReached o (actor s) (acts o s)
       → standing o s ≡ Stands calls → has_written o s ≡ false → is_writer calls ≡ false
