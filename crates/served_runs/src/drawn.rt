@@ -11,13 +11,13 @@ ghost use Rattle.session_output.specs.Findings.{IsFinding, IsSound};
 ghost use Rattle.served_runs.specs.Runs.{IsWantOfMemory, receipts_of};
 ghost use Rattle.served_runs.specs.Drawn.{AreDrawn, IsDrawable, IsDrawnRun, drawn_text};
 
-use crate::inspection::{inspected, serve_lists};
+use crate::inspection::inspected;
 use crate::progress::Progress;
 use crate::tally::{Tally, Times, causes_of};
 use generated_sessions::{Options, generate, opening};
 use seq_model::{Memory, State};
-use serving::Served;
-use session_output::{RunFault, with_ending};
+use serving::{Served, serve_allowed};
+use session_output::{RunFault, STRIPES, with_ending};
 use std::alloc::Global;
 use std::fmt::Write;
 use std::sync::Wait;
@@ -103,7 +103,15 @@ fn run_lists<R: Threads + Wait + Clock + Sync, P: Progress + Sync>(
 {
     let tally = Tally::new(alloc, lists.len(), drawn.tries, progress)?;
     let begun = time_of(rt);
-    let served = serve_lists(rt, alloc, tables, lists, drawn.tries, &tally)?;
+    let served = serve_allowed(
+        rt,
+        alloc,
+        &tables,
+        STRIPES,
+        lists.as_slice(),
+        drawn.tries,
+        &tally,
+    )?;
     let run = time_of(rt).saturating_sub(begun);
     let missed = served.report.missed.len() as u64;
     let (causes, audit) = audited(rt, alloc, first, served)?;

@@ -9,13 +9,14 @@ ghost use Rattle.session_output.specs.Faults.{IsFault};
 ghost use Rattle.served_runs.specs.Runs.{IsServedOutput, IsServedRun, IsWantOfMemory};
 ghost use Rattle.served_runs.specs.Unread.{IsToldRun};
 
-use crate::inspection::{inspected, serve_lists};
+use crate::inspection::inspected;
 use crate::lines::lines_of_report;
 use crate::progress::{Progress, Receipts};
 use dealing::deal;
 use seq_model::{ACTOR_LIMIT, Memory, State};
 use served_sessions::sessions_of;
-use session_output::{RunFault, SessionRun, text_of};
+use serving::serve_allowed;
+use session_output::{RunFault, STRIPES, SessionRun, text_of};
 use session_script::parse_sessions;
 use std::alloc::Global;
 use std::sync::Wait;
@@ -135,7 +136,15 @@ fn run_from<R: Threads + Wait + Sync, P: Progress + Sync>(
     ensures refused { IfErr result IsWantOfMemory }
 {
     let receipts = Receipts::new(progress);
-    let served = serve_lists(rt, alloc, tables, lists, TRIES, &receipts)?;
+    let served = serve_allowed(
+        rt,
+        alloc,
+        &tables,
+        STRIPES,
+        lists.as_slice(),
+        TRIES,
+        &receipts,
+    )?;
     let lines = lines_of_report(alloc, sessions, total, &served.report)?;
     let tables = inspected(alloc, opening, served)?;
     Ok(SessionRun { lines, tables })

@@ -92,8 +92,9 @@ fn close(table: TxTable<Entry>, seat: TxSeat<Entry>) -> Result<State<Entry>, Mem
     Ok(state)
 }
 
-/// Runs the sessions of actions that are allowed.
-fn serve_allowed<R: Threads + Wait + Sync, P: Pause + Sync>(
+/// Runs the sessions of these lists of actions as `serve` does, where each action is allowed and a collection can have so many stripes: so
+/// it is refused memory alone.
+pub fn serve_allowed<R: Threads + Wait + Sync, P: Pause + Sync>(
     rt: &R,
     alloc: Global,
     tables: &Tables,
