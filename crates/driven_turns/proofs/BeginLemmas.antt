@@ -16,10 +16,10 @@ module _ {V : Type 0} where
   first_asked : (e : Event V) (es : List (Event V)) → begins_asked (e ∷ es) ≡ begins_asked (e ∷ []) + begins_asked es
   first_asked (Ask a Begin) es = refl
   first_asked (Ask a BeginRead) es = refl
-  first_asked e es = refl
+  first_asked e es = omega arith
 
   last_asked : (es : List (Event V)) (e : Event V) → begins_asked (es ++ e ∷ []) ≡ begins_asked es + begins_asked (e ∷ [])
-  last_asked [] e = refl
+  last_asked [] e = omega arith
   last_asked (d ∷ es) e =
       let all : begins_asked (d ∷ (es ++ e ∷ [])) ≡ begins_asked (d ∷ []) + begins_asked (es ++ e ∷ []) = first_asked d (es ++ e ∷ []) in
       let some : begins_asked (d ∷ es) ≡ begins_asked (d ∷ []) + begins_asked es = first_asked d es in
