@@ -48,8 +48,8 @@ returns-in-Ok-clause-calls g c =
     at_once c.args.table.now c.args.seat.now c.ask_open.new.seat c.args.call c.requires.open
     c.in-Ok.ensures.asked c.in-Ok.told c.reply_told.result c.reply_told.ensures c.in-Ok.ensures.answers
 
-pub returns-clause-calls : goal.returns-clause-calls
-returns-clause-calls g c =
+pub returns-in-Err-clause-calls : goal.returns-in-Err-clause-calls
+returns-in-Err-clause-calls g c =
     subst (λ (e : Refusal). CallsTo (opening_of c.args.table.now) c.args.seat.now c.args.call c.ask_open.new.seat (Err e))
     (sym c.in-Err.ensures.memory)
     (call_starved (opening_of c.args.table.now) c.args.seat.now c.ask_open.new.seat c.args.call c.in-Err.ensures.keeps
@@ -64,5 +64,5 @@ pub returns-in-Ok-clause-begins : goal.returns-in-Ok-clause-begins
 returns-in-Ok-clause-begins g c =
     asks_none c.args.seat.now c.ask_open.new.seat (request.Call c.args.call) refl c.in-Ok.ensures.asked
 
-pub returns-clause-begins : goal.returns-clause-begins
-returns-clause-begins g c = c.in-Err.ensures.begins
+pub returns-in-Err-clause-begins : goal.returns-in-Err-clause-begins
+returns-in-Err-clause-begins g c = c.in-Err.ensures.begins
