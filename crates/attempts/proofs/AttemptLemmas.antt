@@ -17,6 +17,7 @@ use Rattle.seq_model.specs.declared.event.Request.TheVariants as request
 use Rattle.seq_model.specs.declared.limits.TheConstants.{CALL_LIMIT}
 use Rattle.seq_model.specs.declared.record.Record.{Record}
 use Rattle.seq_model.specs.declared.refusal.Refusal.{Refusal}
+use Rattle.seq_model.specs.Runs.{is_writer}
 use Rattle.replay_log.proofs.AskLemmas.{no_such, too_long}
 use Rattle.replay_log.specs.Seats as worlds
 use Rattle.replay_log.specs.Seats.{World}
@@ -177,9 +178,10 @@ module _ {V : Type 0} where
     at_end b m e end is k = subst (λ (f : End). Reaches asks o b m f) is k
 
     pub has_made : (s b m u : Seat V) (r : Record V) → KeepsReceipts s b → Reaches asks o b m ends.Done → standing o m ≡ Stands r.calls
-        → r.writes ≡ has_written o m → HasCommitted o m u r → (r.writes ≡ true → m.last < r.number)
+        → r.writes ≡ has_written o m → (r.writes ≡ false → is_writer r.calls ≡ false) → HasCommitted o m u r
+        → (r.writes ≡ true → m.last < r.number)
         → (m.last ≤ r.number) × (u.last ≡ r.number) → HasMade asks o s u r
-    has_made s b m u r kept done stands writes C above last =
+    has_made s b m u r kept done stands writes reads C above last =
         let k : IsAt asks o s m done.0 ask.Done = at_before s b m done.0 ask.Done kept done.1 in
         let e : done.0 ≡ r.calls = same_calls done.0 r.calls (sym k.stands ∙ stands) in
         let same : m.last ≡ s.last = k.keeps.seat.2 in
@@ -196,6 +198,7 @@ module _ {V : Type 0} where
           before = m;
           at = subst (λ (cs : List (Call V × Reply V)). IsAt asks o s m cs ask.Done) e k;
           writes = writes;
+          reads = reads;
           committed = C;
         }
 

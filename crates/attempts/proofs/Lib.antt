@@ -1,2 +1,3 @@
+mod ReaderLemmas
 pub mod JobLemmas
 pub mod AttemptLemmas

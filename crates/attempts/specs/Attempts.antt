@@ -1,10 +1,11 @@
 -- What an attempt of a job comes to.
-use Rattle.std.specs.Prelude.{◌≡◌, ◌⊎◌, ◌+◌, ◌<◌, ◌≤◌, true, List, [], ◌∷◌, ◌++◌, Result, Ok, Err}
+use Rattle.std.specs.Prelude.{◌≡◌, ◌⊎◌, ◌+◌, ◌<◌, ◌≤◌, true, false, List, [], ◌∷◌, ◌++◌, Result, Ok, Err}
 use Rattle.seq_model.specs.declared.call.Call.{Call}
 use Rattle.seq_model.specs.declared.call.Reply.{Reply}
 use Rattle.seq_model.specs.declared.record.Record.{Record}
 use Rattle.seq_model.specs.declared.refusal.Refusal.{Refusal}
 use Rattle.seq_model.specs.declared.refusal.Refusal.TheVariants.{OutOfMemory}
+use Rattle.seq_model.specs.Runs.{is_writer}
 use Rattle.replay_log.specs.Seats.{World}
 use Rattle.tx_engine.specs.declared.job.Ask.{Ask}
 use Rattle.tx_engine.specs.declared.job.Ask.TheVariants as ask
@@ -74,7 +75,7 @@ module _ {V : Type 0} (asks : List (Reply V) → Ask V → Type 0) (o : World V)
 
   -- ---- what an attempt comes to
   -- The receipt has all calls of the job, with their replies, and the seat gains it, and no other. Its number is the last one of the seat
-  -- then: above the one before where the job has written, and not below it where it hasn't.
+  -- then: above the one before where the job has written, and not below it where it hasn't; then none of its calls has changed anything.
   pub record HasMade (s u : Seat V) (r : Record V) : Type 0 where
     pub job : IsWholeJob asks r.calls
     pub gains : (view u).receipts ≡ (view s).receipts ++ (actor s, r) ∷ []
@@ -84,6 +85,7 @@ module _ {V : Type 0} (asks : List (Reply V) → Ask V → Type 0) (o : World V)
     pub before : Seat V
     pub at : IsAt s before r.calls ask.Done
     pub writes : r.writes ≡ has_written o before
+    pub reads : r.writes ≡ false → is_writer r.calls ≡ false
     pub committed : HasCommitted o before u r
 
   -- the job has given up after the replies to its calls, and the seat gains no receipt

@@ -18,9 +18,8 @@ use Rattle.session_output.specs.declared.fault.RunFault.{RunFault}
 use Rattle.session_output.specs.declared.fault.RunFault.TheVariants.{Audit, NotBalanced, Refused}
 use Rattle.session_output.specs.Faults as faults
 use Rattle.session_files.specs.Outputs as outputs
-use Rattle.served_runs.specs.declared.drawn.Drawn.{Drawn}
-use Rattle.served_runs.specs.Drawn.{IsDrawable, IsDrawnFault, IsDrawnOutput}
-use Rattle.served_runs.specs.Runs.{IsFileFault, IsServedOutput}
+use Rattle.served_runs.specs.Drawn.{IsDrawable, IsDrawnOutput}
+use Rattle.served_runs.specs.Runs.{IsServedOutput, IsWantOfMemory}
 use Rattle.command_line.specs.declared.tool.TheConstants.{AUDIT_FAULT, MEMORY, REFUSED}
 use Rattle.command_line.specs.declared.work.TheConstants.{FILE_LIMIT}
 use Rattle.command_line.specs.declared.work.Cause.{Cause}
@@ -69,7 +68,7 @@ IsOutputOf (Served workers) text bytes = IsServedOutput workers text bytes
 abbrev pub IsFaultOf : Work → List ℕ → RunFault → Type 0
 IsFaultOf Step text fault = IsFault text fault
 IsFaultOf Vacation text fault = faults.IsFault text fault
-IsFaultOf (Served workers) text fault = IsFileFault workers text fault
+IsFaultOf (Served workers) text fault = faults.IsFault text fault
 
 -- ---- what is printed of a file, or of drawn sessions
 
@@ -90,13 +89,6 @@ abbrev pub AsksForTimes : Task → Type 0
 AsksForTimes (OnFile work) = ⊥
 AsksForTimes (OnDrawn drawn times) = IsTrue times
 
--- workers run it, each in a thread: a script and the sessions of a file that no worker runs have no audit fault
-abbrev pub IsOnThreads : Task → Type 0
-IsOnThreads (OnFile Step) = ⊥
-IsOnThreads (OnFile Vacation) = ⊥
-IsOnThreads (OnFile (Served workers)) = ⊤
-IsOnThreads (OnDrawn drawn times) = ⊤
-
 -- these bytes came from a reader of whose text this is known
 abbrev pub IsTextOf : Option (List ℕ) → List ℕ → Type 0
 IsTextOf known text = IfSome known (λ bytes. text ≡ bytes)
@@ -113,14 +105,14 @@ IsFileCause work known TooLong = IfSome known (λ bytes. FILE_LIMIT < length byt
 IsFileCause work known (Ended fault) = (text : List ℕ) × (IsTextOf known text × IsFaultOf work text fault)
 
 -- why nothing is printed of drawn sessions
-abbrev pub IsDrawnCause : Drawn → Cause → Type 0
-IsDrawnCause drawn Unreadable = ⊥
-IsDrawnCause drawn TooLong = ⊥
-IsDrawnCause drawn (Ended fault) = IsDrawnFault drawn fault
+abbrev pub IsDrawnCause : Cause → Type 0
+IsDrawnCause Unreadable = ⊥
+IsDrawnCause TooLong = ⊥
+IsDrawnCause (Ended fault) = IsWantOfMemory fault
 
 abbrev pub IsCause : Task → Option (List ℕ) → Cause → Type 0
 IsCause (OnFile work) known cause = IsFileCause work known cause
-IsCause (OnDrawn drawn times) known cause = IsDrawnCause drawn cause
+IsCause (OnDrawn drawn times) known cause = IsDrawnCause cause
 
 -- what is known of the file to be read, if one is, is no longer than a file may be
 abbrev pub IsWithin : Task → Option (List ℕ) → Type 0

@@ -4,7 +4,7 @@ ghost use Rattle.std.specs.String.{string_bytes};
 ghost use Rattle.std.specs.Io.KnownBytes.{Appends};
 ghost use Rattle.clap.specs.Words.{kind_of};
 ghost use Rattle.command_line.specs.Words.{AreTaken, AskForInformation, IsInformation, task_named};
-ghost use Rattle.command_line.specs.Ends.{AsksForTimes, HasBegun, HasOutput, HasToldFault, HasWorked, IsOnDrawn, IsOnThreads, IsRead};
+ghost use Rattle.command_line.specs.Ends.{AsksForTimes, HasBegun, HasOutput, HasToldFault, HasWorked, IsOnDrawn, IsRead};
 ghost use Rattle.command_line.specs.Ends.{cause_text, line_of, status_of, unreadable_text};
 ghost use Rattle.seq_model.specs.Texts.{memory_text, refusal_text};
 
@@ -31,11 +31,11 @@ pub const REFUSED: u8 = 1;
 /// The status of a run that was refused memory.
 pub const MEMORY: u8 = 2;
 
-/// The status of a run whose committed transactions are no run of the sequential model, or which leaves reservation tables that are not
-/// balanced. No script has it, and no session file that no worker runs: see `run_tool`.
+/// The status of a run whose committed transactions an audit finds to be no run of the sequential model, or which leaves reservation
+/// tables that are found not to be balanced. All is looked at, and neither is ever found: see `run_tool`.
 pub const AUDIT_FAULT: u8 = 3;
 
-// Whether all the bytes were written.
+/// Whether all the bytes were written.
 fn tell<E: Write>(err: &mut E, bytes: &[u8]) -> bool
     ensures whole { IsTrue result → Appends (E.contents err.old) (E.contents err.new) bytes.now }
     ensures begun { HasBegun (E.contents err.old) (E.contents err.new) bytes.now }
@@ -87,12 +87,11 @@ pub fn run_file<
     progress: &P,
 ) -> u8
     ensures status { result ≤ AUDIT_FAULT }
-    ensures sound { result ≡ AUDIT_FAULT → IsOnThreads (task_named (map string_bytes words.now)) }
+    ensures sound { result ≢ AUDIT_FAULT }
     ensures done { result ≡ DONE
         → IfOk opened (λ reader. HasWorked (map string_bytes words.now) (R.remaining reader) (W.contents out.old) (W.contents out.new)) }
     ensures quiet { result ≡ DONE → AsksForTimes (task_named (map string_bytes words.now)) ⊎ (err.new ≡ err.old) }
     ensures memory { result ≡ MEMORY → out.new ≡ out.old }
-    ensures faulted { result ≡ AUDIT_FAULT → out.new ≡ out.old }
     ensures unopened { IsErr opened → (result ≡ REFUSED) × (out.new ≡ out.old) }
     ensures told { IsErr opened → HasBegun (E.contents err.old) (E.contents err.new) (line_of unreadable_text) }
 {
@@ -108,13 +107,12 @@ pub fn run_file<
 /// Runs the words, without the program's own name, over what the reader gives, and answers the exit status. How far workers have come is
 /// told meanwhile.
 ///
-/// What it prints goes to `out`, and a fault, one line, to `err`: then nothing goes to `out`, but where a write to it
-/// failed. Faults are found in the order words, file, size, text, opening, audit, balance. `sound`: only what workers run may have an audit
-/// fault, or leave tables that are not balanced. `done`: with status 0 the words ask for help or the version, or they and
-/// the text are taken and `out` has grown by what the task that they name prints, once that was audited; what a run took goes to `err`
-/// where that is asked for. `unread`, `drawn`: nothing is read for refused words, nor where sessions are drawn. `told`, `starved`,
-/// `faulted`: what `err` grows by, but where a write to it fails, is the line of the fault; it stays as it was only where the output could
-/// not be written.
+/// What it prints goes to `out`, and a fault, one line, to `err`: then nothing goes to `out`, but where a write to it failed. Faults are
+/// found in the order words, file, size, text, opening. `sound`: no audit of what was run finds a fault, and all tables that are left are
+/// balanced. `done`: with status 0 the words ask for help or the version, or they and the text are taken and `out` has grown by what the
+/// task that they name prints, once that was audited; what a run took goes to `err` where that is asked for. `unread`, `drawn`: nothing is
+/// read for refused words, nor where sessions are drawn. `told`, `starved`: what `err` grows by, but where a write to it fails, is the line
+/// of the fault; it stays as it was only where the output could not be written.
 pub fn run_tool<H: Threads + Wait + Clock + Sync, R: Read, W: Write, E: Write, P: Progress + Sync>(
     rt: &H,
     alloc: Global,
@@ -125,7 +123,7 @@ pub fn run_tool<H: Threads + Wait + Clock + Sync, R: Read, W: Write, E: Write, P
     progress: &P,
 ) -> u8
     ensures status { result ≤ AUDIT_FAULT }
-    ensures sound { result ≡ AUDIT_FAULT → IsOnThreads (task_named (map string_bytes words.now)) }
+    ensures sound { result ≢ AUDIT_FAULT }
     ensures done { result ≡ DONE
         → HasWorked (map string_bytes words.now) (R.remaining reader.old) (W.contents out.old) (W.contents out.new) }
     ensures quiet { result ≡ DONE → AsksForTimes (task_named (map string_bytes words.now)) ⊎ (err.new ≡ err.old) }
@@ -139,9 +137,6 @@ pub fn run_tool<H: Threads + Wait + Clock + Sync, R: Read, W: Write, E: Write, P
         → HasToldFault (task_named (map string_bytes words.now)) REFUSED (R.remaining reader.old) (E.contents err.old) (E.contents err.new)
         ⊎ ((err.new ≡ err.old) × HasOutput (task_named (map string_bytes words.now)) (R.remaining reader.old)) }
     ensures starved { result ≡ MEMORY → HasBegun (E.contents err.old) (E.contents err.new) (line_of memory_text) }
-    ensures faulted { result ≡ AUDIT_FAULT → (out.new ≡ out.old)
-        × HasToldFault (task_named (map string_bytes words.now)) AUDIT_FAULT (R.remaining reader.old) (E.contents err.old)
-        (E.contents err.new) }
 {
     let task = match matches_of(alloc, words) {
         Ok(matches) => task_in(&matches),
@@ -153,7 +148,7 @@ pub fn run_tool<H: Threads + Wait + Clock + Sync, R: Read, W: Write, E: Write, P
     }
 }
 
-// Writes what is to be printed, and then what the run took, if that is to be told.
+/// Writes what is to be printed, and then what the run took, if that is to be told.
 fn print<W: Write, E: Write>(out: &mut W, err: &mut E, output: &Output) -> u8
     ensures status { (result ≡ DONE) ⊎ (result ≡ REFUSED) }
     ensures done { result ≡ DONE → Appends (W.contents out.old) (W.contents out.new) output.now.bytes.items }
@@ -167,7 +162,7 @@ fn print<W: Write, E: Write>(out: &mut W, err: &mut E, output: &Output) -> u8
     status_of_write(written)
 }
 
-// A wish for help or the version is no fault: its text goes to `out`.
+/// A wish for help or the version is no fault: its text goes to `out`.
 fn refuse_words<W: Write, E: Write>(out: &mut W, err: &mut E, error: Error) -> u8
     ensures status { result ≤ MEMORY }
     ensures done { result ≡ DONE → IsInformation error × (err.new ≡ err.old) }
@@ -198,7 +193,7 @@ fn status_of_write(written: io::Result<()>) -> u8
     }
 }
 
-// Says why nothing is printed.
+/// Says why nothing is printed.
 fn refuse<E: Write>(alloc: Global, err: &mut E, cause: Cause) -> u8
     ensures status { (result ≡ MEMORY) ⊎ (result ≡ status_of cause) }
     ensures told { result ≡ MEMORY → HasBegun (E.contents err.old) (E.contents err.new) (line_of memory_text) }
@@ -213,7 +208,7 @@ fn refuse<E: Write>(alloc: Global, err: &mut E, cause: Cause) -> u8
     }
 }
 
-// Where there is no memory for the refusal's text, that is the fault.
+/// Where there is no memory for the refusal's text, that is the fault.
 fn refuse_text<E: Write>(alloc: Global, err: &mut E, refusal: Refusal) -> u8
     ensures status { (result ≡ MEMORY) ⊎ (result ≡ REFUSED) }
     ensures memory { refusal ≡ Refusal.OutOfMemory → result ≡ MEMORY }

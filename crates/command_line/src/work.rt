@@ -2,7 +2,8 @@
 ghost use Rattle.std.specs.Prelude.{◌≡◌, ◌≤◌, ◌⊎◌, [], IsOk, IfOk, IfErr, IfSome, IsTrue};
 ghost use Rattle.std.specs.String.{string_bytes};
 ghost use Rattle.std.specs.Vec.{vec_len};
-ghost use Rattle.served_runs.specs.Drawn.{IsDrawable, IsDrawnFault, IsDrawnOutput};
+ghost use Rattle.served_runs.specs.Drawn.{IsDrawable, IsDrawnOutput};
+ghost use Rattle.served_runs.specs.Runs.{IsWantOfMemory};
 ghost use Rattle.command_line.specs.declared.work.Cause.TheVariants.{Ended};
 ghost use Rattle.command_line.specs.declared.work.Task.TheVariants.{OnFile};
 ghost use Rattle.command_line.specs.Ends.{AsksForTimes, IsCause, IsDoable, IsFault, IsFaultOf, IsKnownOutput, IsOnDrawn, IsOutput};
@@ -136,7 +137,7 @@ fn drawn_output<H: Threads + Wait + Clock + Sync, P: Progress + Sync>(
     requires { IsDrawable drawn.now }
     ensures output { IfOk result (λ output. IsDrawnOutput drawn.now output.bytes.items) }
     ensures quiet { IfOk result (λ output. IsTrue times ⊎ (string_bytes output.times ≡ [])) }
-    ensures refused { IfErr result (IsDrawnFault drawn.now) }
+    ensures refused { IfErr result IsWantOfMemory }
 {
     let run = run_drawn(rt, alloc, drawn, progress)?;
     let bytes = print_drawn(alloc, drawn, run.missed)?;
@@ -148,7 +149,7 @@ fn drawn_output<H: Threads + Wait + Clock + Sync, P: Progress + Sync>(
     Ok(Output { bytes, times })
 }
 
-// At most one byte past the limit is read. A file can't be read, or is too long, whatever is to be made of it.
+/// At most one byte past the limit is read. A file can't be read, or is too long, whatever is to be made of it.
 fn read_file<R: Read>(alloc: Global, reader: &mut R) -> Result<Vec<u8>, Cause>
     ensures whole { IfOk result (λ text. IfSome (R.remaining reader.old) (λ bytes. text.items ≡ bytes)) }
     ensures within { IfOk result (λ text. vec_len text ≤ FILE_LIMIT) }
@@ -176,7 +177,7 @@ fn read_file<R: Read>(alloc: Global, reader: &mut R) -> Result<Vec<u8>, Cause>
     Err(Cause::TooLong)
 }
 
-// Runs the script that the text spells, and audits the run.
+/// Runs the script that the text spells, and audits the run.
 fn step(alloc: Global, text: &[u8]) -> Result<Vec<u8>, RunFault>
     ensures output { IfOk result (λ bytes. IsOutput text.now bytes.items) }
     ensures refused { IfErr result (IsFault text.now) }

@@ -11,6 +11,7 @@ mod laid_out;
 mod notices;
 mod reading;
 mod sections;
+mod times;
 
 use command_line::{DONE, MEMORY};
 use sections::run_all;

@@ -2,6 +2,7 @@
 use crate::files::{Input, Output, bytes_of, ending_of};
 use crate::laid_out::print_laid_out;
 use crate::reading::print_script;
+use crate::times::print_missed;
 use command_line::{DONE, MEMORY, NoProgress, file_of, run_tool};
 use seq_model::{Memory, Refusal};
 use std::alloc::{AllocError, Global};
@@ -25,6 +26,7 @@ const TIMES: u64 = 99;
 /// - ` = script`: the text is a script, of which each line is told as it was read.
 /// - ` = trace`: the text lays out a trace, line by line, as `laid_out` reads it. What is printed of it is told.
 /// - ` = files`: each line has words; the file that they name is told.
+/// - ` = times`: what is told of the times of a run that missed sessions.
 pub fn run_all<H: Threads + Wait + Clock + Sync>(
     rt: &H,
     alloc: Global,
@@ -65,6 +67,7 @@ fn run_section<H: Threads + Wait + Clock + Sync>(
             told(text, outcome)
         }
         Some((_, "files")) => print_files(text, file),
+        Some((_, "times")) => print_missed(text),
         _ => run_words(rt, text, name, file),
     }
 }

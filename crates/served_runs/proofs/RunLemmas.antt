@@ -1,13 +1,17 @@
 -- What comes of a run of workers.
 -- Actions that are allowed are so in whatever lists they are dealt out to. What was told of dealt actions, list by list, is told of them in
--- their order, as lines were gathered from the lists in turn. A fault is want of memory or of the audit: the tables are balanced.
+-- their order, as lines were gathered from the lists in turn. The one fault is want of memory: the receipts that are audited are a run
+-- (`IsServed`), and the tables are balanced.
 use Rattle.std.proofs.Common.{◌≡◌, ◌∙◌, refl, sym, ap, subst, ℕ, zero, suc, ◌+◌, ◌-◌, ◌<◌, List, [], ◌∷◌, ◌++◌, length, get_or, arith, inl}
 use Rattle.std.proofs.Common.{inr, ◌⊎◌}
 use Rattle.std.specs.Prelude.{All, Ok, Err}
 use Rattle.std.proofs.lemmas.List.{length-append, get_or_append_left}
 use Rattle.std.proofs.Math.Seq.{get_or-append_seam}
 use Rattle.std.proofs.lemmas.List.Elements.{All-cons, All-head, All-nil, All-tail}
-use Rattle.dealing.specs.Deals.{AreDealt, every}
+use Rattle.std.specs.declared.alloc.Global.{Global}
+use Rattle.std.specs.declared.vec.Vec.{Vec}
+use Rattle.dealing.specs.Deals.{AreDealt, every, in_lists}
+use Rattle.seq_model.proofs.LawLemmas.{runs_have_no_fault}
 use Rattle.seq_model.specs.Audit.{IsAuditFault}
 use Rattle.seq_model.specs.Contents.{Contents}
 use Rattle.generated_sessions.specs.Openings.{opening_of}
@@ -19,18 +23,20 @@ use Rattle.vacation_core.specs.declared.entry.Entry.{Entry}
 use Rattle.vacation_core.specs.Holding.{state_of}
 use Rattle.workers.specs.Tasks.{Outcome}
 use Rattle.serving.specs.declared.served.Served.{Served}
-use Rattle.serving.specs.Serving.{AreAllOutcomes, AreAllowed, AreOutcomes, IsServed}
+use Rattle.serving.specs.Serving.{AreAllOutcomes, AreAllowed, AreOwnOutcomes, IsServed}
 use Rattle.session_script.specs.declared.print.Line.{Line}
-use Rattle.session_script.specs.Sessions.{IsSessionText, IsUnreadable}
+use Rattle.session_script.specs.Sessions.{IsUnreadable}
 use Rattle.session_output.specs.declared.fault.RunFault.{RunFault}
 use Rattle.session_output.specs.declared.fault.RunFault.TheVariants.{Audit, NotBalanced, Refused}
+use Rattle.session_output.specs.Faults.{IsFault}
 use Rattle.session_output.specs.Findings.{IsFinding, IsSound}
 use Rattle.served_runs.specs.declared.drawn.Drawn.{Drawn}
 use Rattle.served_runs.specs.declared.file.TheConstants.{TRIES}
-use Rattle.served_runs.specs.Drawn.{AreDrawn, IsDrawnFault, IsDrawnRun}
+use Rattle.served_runs.specs.Drawn.{AreDrawn, IsDrawnRun}
 use Rattle.served_runs.specs.Lines.{AreLinesOf, AreToldOf}
 use Rattle.session_output.specs.declared.output.SessionRun.{SessionRun}
-use Rattle.served_runs.specs.Runs.{HasAuditFault, IsDealtFault, IsFileFault, IsInspected, IsListsFault, IsServedRun, receipts_of}
+use Rattle.session_output.specs.declared.TheConstants.{STRIPES}
+use Rattle.served_runs.specs.Runs.{IsInspected, IsServedRun, IsWantOfMemory, receipts_of}
 use Rattle.served_runs.specs.Unread.{AreAllOwn, AreAllUnread, AreOwn, IsTold, IsToldRun}
 use Rattle.served_runs.proofs.LineLemmas.{lines_at}
 
@@ -74,51 +80,31 @@ dealt_same {A} n items others own seen lists shown same one two =
     shown ∙ same_lists own lists (first.many ∙ sym two.many)
     (λ k lt. let within : k < n = subst (λ m. k < m) first.many lt in first.each k within ∙ sym (two.each k within))
 
+-- lists that are served as a slice
+pub of_slice : (tables : Holdings) (tries : ℕ) (served : Served) (slice lists : List (Vec Action Global)) → slice ≡ lists
+    → IsServed tables STRIPES (in_lists slice) tries served → IsServed tables STRIPES (in_lists lists) tries served
+of_slice tables tries served slice lists same made =
+    subst (λ (ls : List (Vec Action Global)). IsServed tables STRIPES (in_lists ls) tries served) same made
+
 -- ---- why it was refused
--- what an inspection finds in them, where the tables are balanced: an audit fault, or want of memory
-audited : (tables : Holdings) (lists : List (List Action)) (tries : ℕ) (served : Served) (opening : Contents Entry)
-    → IsServed tables lists tries served → opening ≡ state_of tables
-    → IsFinding opening (receipts_of served) served.state served.tables Audit → HasAuditFault tables lists tries
-audited tables lists tries served opening made opens found = record {
-  served = served;
-  made = made;
-  cause = found.0;
-  other = found.1.0;
-  found = subst (λ (o : Contents Entry). IsAuditFault o (receipts_of served) served.state found.0) opens found.1.1;
-}
+-- what an inspection finds in sessions that were served: their receipts are a run, and the tables are balanced
+pub only_memory : (tables : Holdings) (lists : List (List Action)) (tries : ℕ) (served : Served) (opening : Contents Entry)
+    (fault : RunFault) → IsServed tables STRIPES lists tries served → opening ≡ state_of tables
+    → IsFinding opening (receipts_of served) served.state served.tables fault → IsWantOfMemory fault
+only_memory tables lists tries served opening (Refused refusal) made opens found = found
+only_memory tables lists tries served opening Audit made opens found =
+    absurd (found.1.0 (runs_have_no_fault (state_of tables) served.state (receipts_of served) found.0 made.audited
+    (subst (λ (o : Contents Entry). IsAuditFault o (receipts_of served) served.state found.0) opens found.1.1)))
+only_memory tables lists tries served opening NotBalanced made opens found = absurd (found made.balanced)
 
-pub lists_fault : (tables : Holdings) (lists : List (List Action)) (tries : ℕ) (served : Served) (opening : Contents Entry)
-    (fault : RunFault) → IsServed tables lists tries served → opening ≡ state_of tables
-    → IsFinding opening (receipts_of served) served.state served.tables fault → IsListsFault tables lists tries fault
-lists_fault tables lists tries served opening (Refused refusal) made opens found = found
-lists_fault tables lists tries served opening Audit made opens found = audited tables lists tries served opening made opens found
-lists_fault tables lists tries served opening NotBalanced made opens found = absurd (found made.balanced)
-
-pub dealt_fault : (n : ℕ) (tables : Holdings) (actions : List Action) (lists : List (List Action)) (fault : RunFault)
-    → AreDealt n actions lists → IsListsFault tables lists TRIES fault → IsDealtFault n tables actions fault
-dealt_fault n tables actions lists (Refused refusal) dealt found = found
-dealt_fault n tables actions lists Audit dealt found = record { lists = lists; dealt = dealt; fault = found }
-dealt_fault n tables actions lists NotBalanced dealt found = absurd found
-
-pub drawn_fault : (d : Drawn) (tables : Holdings) (lists : List (List Action)) (fault : RunFault) → tables ≡ opening_of d.seed d.options
-    → AreDrawn d lists → IsListsFault tables lists d.tries fault → IsDrawnFault d fault
-drawn_fault d tables lists (Refused refusal) same drawn found = found
-drawn_fault d tables lists Audit same drawn found = record {
-  lists = lists;
-  drawn = drawn;
-  fault = subst (λ (t : Holdings). HasAuditFault t lists d.tries) same found;
-}
-drawn_fault d tables lists NotBalanced same drawn found = absurd found
-
-pub file_fault : (n : ℕ) (text : List ℕ) (tables : Holdings) (actions : List Action) (fault : RunFault)
-    → IsSessionText text tables actions → IsDealtFault n tables actions fault → IsFileFault n text fault
-file_fault n text tables actions (Refused refusal) spelled found = subst (IsUnreadable text) (sym found) tt
-file_fault n text tables actions Audit spelled found = record { tables = tables; actions = actions; spelled = spelled; fault = found }
-file_fault n text tables actions NotBalanced spelled found = absurd found
+pub file_fault : (text : List ℕ) (fault : RunFault) → IsWantOfMemory fault → IsFault text fault
+file_fault text (Refused refusal) found = subst (IsUnreadable text) (sym found) tt
+file_fault text Audit found = absurd found
+file_fault text NotBalanced found = absurd found
 
 -- ---- what was inspected
 abbrev inspects : (tables : Holdings) (lists : List (List Action)) (tries : ℕ) (served : Served) (opening : Contents Entry)
-    → IsServed tables lists tries served → opening ≡ state_of tables → IsSound opening (receipts_of served) served.state served.tables
+    → IsServed tables STRIPES lists tries served → opening ≡ state_of tables → IsSound opening (receipts_of served) served.state served.tables
     → IsInspected tables lists tries served
 inspects tables lists tries served opening made opens sound = record {
   made = made;
@@ -126,7 +112,7 @@ inspects tables lists tries served opening made opens sound = record {
 }
 
 pub drawn_run : (d : Drawn) (tables : Holdings) (lists : List (List Action)) (served : Served) (opening : Contents Entry) (missed : ℕ)
-    → tables ≡ opening_of d.seed d.options → AreDrawn d lists → IsServed tables lists d.tries served → opening ≡ state_of tables
+    → tables ≡ opening_of d.seed d.options → AreDrawn d lists → IsServed tables STRIPES lists d.tries served → opening ≡ state_of tables
     → IsSound opening (receipts_of served) served.state served.tables → missed ≡ length served.report.missed → IsDrawnRun d missed
 drawn_run d tables lists served opening missed same drawn made opens sound counted = record {
   lists = lists;
@@ -138,7 +124,7 @@ drawn_run d tables lists served opening missed same drawn made opens sound count
 }
 
 -- ---- the outcomes that are told
-own_list : (actions : List Action) (os : List (Outcome Entry)) → AreOutcomes actions os → AreOwn actions os
+own_list : (actions : List Action) (os : List (Outcome Entry)) → AreOwnOutcomes actions os → AreOwn actions os
 own_list [] [] are = tt
 own_list [] (o ∷ os) are = absurd are
 own_list (a ∷ actions) [] are = absurd are
@@ -152,7 +138,7 @@ own_lists (actions ∷ lists) [] are = absurd are
 own_lists (actions ∷ lists) (os ∷ more) are = (own_list actions os are.0, own_lists lists more are.1)
 
 pub all_unread : (tables : Holdings) (lists seen : List (List Action)) (served : Served) → seen ≡ lists
-    → (made : IsServed tables lists TRIES served) → AreAllUnread 1 seen made.outcomes served.report.receipts served.report.missed
+    → (made : IsServed tables STRIPES lists TRIES served) → AreAllUnread 1 seen made.outcomes served.report.receipts served.report.missed
 all_unread tables lists seen served same made =
     subst (λ ls. AreAllUnread 1 ls made.outcomes served.report.receipts served.report.missed) (sym same) (record {
       own = own_lists lists made.outcomes made.reported.each;
@@ -173,7 +159,7 @@ told_of n actions lists outcomes lines dealt told =
     }
 
 pub told_run : (tables : Holdings) (lists seen : List (List Action)) (served : Served) (opening : Contents Entry) (total : ℕ)
-    (run : SessionRun) → seen ≡ lists → (made : IsServed tables lists TRIES served) → opening ≡ state_of tables
+    (run : SessionRun) → seen ≡ lists → (made : IsServed tables STRIPES lists TRIES served) → opening ≡ state_of tables
     → IsSound opening (receipts_of served) served.state served.tables → IsTold seen made.outcomes total run.lines.items
     → run.tables ≡ served.tables → IsToldRun tables lists total run
 told_run tables lists seen served opening total run same made opens sound told left = record {

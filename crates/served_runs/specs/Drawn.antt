@@ -5,13 +5,10 @@ use Rattle.generated_sessions.specs.Openings.{opening_of}
 use Rattle.generated_sessions.specs.Options.{AreWithin}
 use Rattle.generated_sessions.specs.Sessions.{sessions_of}
 use Rattle.vac_model.specs.declared.action.Action.{Action}
-use Rattle.session_output.specs.declared.fault.RunFault.{RunFault}
 use Rattle.session_output.specs.Prints.{ending}
 use Rattle.serving.specs.declared.served.Served.{Served}
 use Rattle.served_runs.specs.declared.drawn.Drawn.{Drawn}
-use Rattle.seq_model.specs.declared.refusal.Refusal.TheVariants.{OutOfMemory}
-use Rattle.session_output.specs.declared.fault.RunFault.TheVariants.{Audit, Refused}
-use Rattle.served_runs.specs.Runs.{HasAuditFault, IsInspected}
+use Rattle.served_runs.specs.Runs.{IsInspected}
 
 -- the options are within their ranges, and each session has an attempt
 pub record IsDrawable (d : Drawn) : Type 0 where
@@ -44,15 +41,3 @@ pub record IsDrawnOutput (d : Drawn) (bytes : List ℕ) : Type 0 where
   pub missed : ℕ
   pub run : IsDrawnRun d missed
   pub written : bytes ≡ drawn_text d missed
-
--- the receipts of workers that have served the drawn sessions are no run
-pub record HasDrawnFault (d : Drawn) : Type 0 where
-  pub lists : List (List Action)
-  pub drawn : AreDrawn d lists
-  pub fault : HasAuditFault (opening_of d.seed d.options) lists d.tries
-
--- why there is none
-abbrev pub IsDrawnFault : Drawn → RunFault → Type 0
-IsDrawnFault d (Refused refusal) = refusal ≡ OutOfMemory
-IsDrawnFault d Audit = HasDrawnFault d
-IsDrawnFault d fault = ⊥

@@ -1,19 +1,17 @@
 -- What comes of the sessions of a file where workers run them.
-use Rattle.std.specs.Prelude.{◌≡◌, ◌≢◌, ℕ, List, flat_map}
+use Rattle.std.specs.Prelude.{◌≡◌, ℕ, List, flat_map}
 use Rattle.dealing.specs.Deals.{AreDealt}
-use Rattle.seq_model.specs.declared.auditing.AuditFault.{AuditFault}
-use Rattle.seq_model.specs.declared.auditing.AuditFault.TheVariants as audit
 use Rattle.seq_model.specs.declared.record.Record.{Record}
 use Rattle.seq_model.specs.declared.refusal.Refusal.TheVariants.{OutOfMemory}
-use Rattle.seq_model.specs.Audit.{IsAuditFault}
 use Rattle.vac_model.specs.declared.action.Action.{Action}
 use Rattle.vac_model.specs.Holdings.{Holdings}
 use Rattle.vacation_core.specs.declared.entry.Entry.{Entry}
 use Rattle.vacation_core.specs.Holding.{state_of}
-use Rattle.session_script.specs.Sessions.{IsSessionText, IsUnreadable}
+use Rattle.session_script.specs.Sessions.{IsSessionText}
 use Rattle.session_output.specs.declared.fault.RunFault.{RunFault}
-use Rattle.session_output.specs.declared.fault.RunFault.TheVariants.{Audit, Refused}
+use Rattle.session_output.specs.declared.fault.RunFault.TheVariants.{Refused}
 use Rattle.session_output.specs.declared.output.SessionRun.{SessionRun}
+use Rattle.session_output.specs.declared.TheConstants.{STRIPES}
 use Rattle.session_output.specs.Findings.{IsSound}
 use Rattle.session_output.specs.Prints.{run_text}
 use Rattle.serving.specs.declared.served.Served.{Served}
@@ -25,10 +23,10 @@ use Rattle.served_runs.specs.Lines.{AreToldOf}
 abbrev pub receipts_of : Served → List (Record Entry)
 receipts_of served = flat_map (λ receipts. receipts) served.report.receipts
 
--- Workers have served these lists from the tables, each session with at most so many attempts; what they reported was audited, and the
--- tables are balanced.
+-- Workers have served these lists from the tables, on a table with 64 stripes for each collection, each session with at most so many
+-- attempts; what they reported was audited, and the tables are balanced.
 pub record IsInspected (tables : Holdings) (lists : List (List Action)) (tries : ℕ) (served : Served) : Type 0 where
-  pub made : IsServed tables lists tries served
+  pub made : IsServed tables STRIPES lists tries served
   pub sound : IsSound (state_of tables) (receipts_of served) served.state served.tables
 
 -- The actions were dealt out to so many workers, which have served them; the lines tell what became of each, and the tables are what they
@@ -50,39 +48,7 @@ pub record IsServedOutput (workers : ℕ) (text bytes : List ℕ) : Type 0 where
   pub made : IsServedRun workers tables actions run
   pub written : bytes ≡ run_text run
 
--- the receipts of workers that have served these lists are no run
-pub record HasAuditFault (tables : Holdings) (lists : List (List Action)) (tries : ℕ) : Type 0 where
-  pub served : Served
-  pub made : IsServed tables lists tries served
-  pub cause : AuditFault
-  pub other : cause ≢ audit.OutOfMemory
-  pub found : IsAuditFault (state_of tables) (receipts_of served) served.state cause
-
--- why nothing comes of lists that are served: memory was refused, or an audit found a fault, and nothing else
-abbrev pub IsListsFault : Holdings → List (List Action) → ℕ → RunFault → Type 0
-IsListsFault tables lists tries (Refused refusal) = refusal ≡ OutOfMemory
-IsListsFault tables lists tries Audit = HasAuditFault tables lists tries
-IsListsFault tables lists tries fault = ⊥
-
-pub record HasDealtFault (workers : ℕ) (tables : Holdings) (actions : List Action) : Type 0 where
-  pub lists : List (List Action)
-  pub dealt : AreDealt workers actions lists
-  pub fault : HasAuditFault tables lists TRIES
-
--- why nothing comes of actions that are dealt out: memory was refused, or an audit found a fault, and nothing else
-abbrev pub IsDealtFault : ℕ → Holdings → List Action → RunFault → Type 0
-IsDealtFault workers tables actions (Refused refusal) = refusal ≡ OutOfMemory
-IsDealtFault workers tables actions Audit = HasDealtFault workers tables actions
-IsDealtFault workers tables actions fault = ⊥
-
-pub record HasFileFault (workers : ℕ) (text : List ℕ) : Type 0 where
-  pub tables : Holdings
-  pub actions : List Action
-  pub spelled : IsSessionText text tables actions
-  pub fault : HasDealtFault workers tables actions
-
--- why a file has no output
-abbrev pub IsFileFault : ℕ → List ℕ → RunFault → Type 0
-IsFileFault workers text (Refused refusal) = IsUnreadable text refusal
-IsFileFault workers text Audit = HasFileFault workers text
-IsFileFault workers text fault = ⊥
+-- why nothing comes of sessions that are served: memory was refused, and nothing else
+abbrev pub IsWantOfMemory : RunFault → Type 0
+IsWantOfMemory (Refused refusal) = refusal ≡ OutOfMemory
+IsWantOfMemory fault = ⊥

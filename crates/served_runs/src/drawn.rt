@@ -8,16 +8,16 @@ ghost use Rattle.generated_sessions.specs.Openings.{opening_of};
 ghost use Rattle.generated_sessions.specs.Options.{AreWithin};
 ghost use Rattle.serving.specs.Serving.{AreAllowed};
 ghost use Rattle.session_output.specs.Findings.{IsFinding, IsSound};
-ghost use Rattle.served_runs.specs.Runs.{receipts_of};
-ghost use Rattle.served_runs.specs.Drawn.{AreDrawn, IsDrawable, IsDrawnFault, IsDrawnRun, drawn_text};
+ghost use Rattle.served_runs.specs.Runs.{IsWantOfMemory, receipts_of};
+ghost use Rattle.served_runs.specs.Drawn.{AreDrawn, IsDrawable, IsDrawnRun, drawn_text};
 
-use crate::inspection::{inspected, serve_lists};
+use crate::inspection::inspected;
 use crate::progress::Progress;
 use crate::tally::{Tally, Times, causes_of};
 use generated_sessions::{Options, generate, opening};
 use seq_model::{Memory, State};
-use serving::Served;
-use session_output::{RunFault, with_ending};
+use serving::{Served, serve_allowed};
+use session_output::{RunFault, STRIPES, with_ending};
 use std::alloc::Global;
 use std::fmt::Write;
 use std::sync::Wait;
@@ -62,10 +62,10 @@ fn drawn_lists(alloc: Global, drawn: &Drawn) -> Result<Vec<Vec<Action>>, Memory>
     Ok(lists)
 }
 
-/// Draws tables and the sessions of each worker, has the workers run them, and inspects what came of it. How far they have come is told
-/// meanwhile.
+/// Draws tables and the sessions of each worker, much as Vacation of STAMP draws them (IISWC 2008), has the workers run them, and inspects
+/// what came of it. How far they have come is told meanwhile.
 ///
-/// `OutOfMemory` where a growth was refused, and `Audit` where the receipts are no run.
+/// `OutOfMemory` where a growth was refused; nothing else is found.
 pub fn run_drawn<R: Threads + Wait + Clock + Sync, P: Progress + Sync>(
     rt: &R,
     alloc: Global,
@@ -74,7 +74,7 @@ pub fn run_drawn<R: Threads + Wait + Clock + Sync, P: Progress + Sync>(
 ) -> Result<DrawnRun, RunFault>
     requires { IsDrawable drawn.now }
     ensures run { IfOk result (λ run. IsDrawnRun drawn.now run.missed) }
-    ensures refused { IfErr result (IsDrawnFault drawn.now) }
+    ensures refused { IfErr result IsWantOfMemory }
 {
     let tables = opening(alloc, drawn.seed, &drawn.options)?;
     let lists = drawn_lists(alloc, drawn)?;
@@ -99,11 +99,19 @@ fn run_lists<R: Threads + Wait + Clock + Sync, P: Progress + Sync>(
     requires lists { AreDrawn drawn.now (in_lists lists.items) }
     requires allowed { AreAllowed (in_lists lists.items) }
     ensures run { IfOk result (λ run. IsDrawnRun drawn.now run.missed) }
-    ensures refused { IfErr result (IsDrawnFault drawn.now) }
+    ensures refused { IfErr result IsWantOfMemory }
 {
     let tally = Tally::new(alloc, lists.len(), drawn.tries, progress)?;
     let begun = time_of(rt);
-    let served = serve_lists(rt, alloc, tables, lists, drawn.tries, &tally)?;
+    let served = serve_allowed(
+        rt,
+        alloc,
+        &tables,
+        STRIPES,
+        lists.as_slice(),
+        drawn.tries,
+        &tally,
+    )?;
     let run = time_of(rt).saturating_sub(begun);
     let missed = served.report.missed.len() as u64;
     let (causes, audit) = audited(rt, alloc, first, served)?;

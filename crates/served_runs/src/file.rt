@@ -5,16 +5,18 @@ ghost use Rattle.vac_model.specs.Actions.{IsAllowed};
 ghost use Rattle.vac_model.specs.Balanced.{IsBalanced};
 ghost use Rattle.vacation_core.specs.Holding.{state_of as state_that_holds};
 ghost use Rattle.serving.specs.Serving.{AreAllowed};
-ghost use Rattle.served_runs.specs.Runs.{IsDealtFault, IsFileFault, IsListsFault, IsServedOutput, IsServedRun};
+ghost use Rattle.session_output.specs.Faults.{IsFault};
+ghost use Rattle.served_runs.specs.Runs.{IsServedOutput, IsServedRun, IsWantOfMemory};
 ghost use Rattle.served_runs.specs.Unread.{IsToldRun};
 
-use crate::inspection::{inspected, serve_lists};
+use crate::inspection::inspected;
 use crate::lines::lines_of_report;
 use crate::progress::{Progress, Receipts};
 use dealing::deal;
 use seq_model::{ACTOR_LIMIT, Memory, State};
 use served_sessions::sessions_of;
-use session_output::{RunFault, SessionRun, text_of};
+use serving::serve_allowed;
+use session_output::{RunFault, STRIPES, SessionRun, text_of};
 use session_script::parse_sessions;
 use std::alloc::Global;
 use std::sync::Wait;
@@ -22,15 +24,14 @@ use std::thread::Threads;
 use vac_model::{Action, Tables};
 use vacation_core::{Entry, Session, state_of};
 
-/// The attempts of each session.
+/// The most attempts of each session.
 pub const TRIES: u64 = 1_000;
 
-/// What the sessions of a file print where so many workers run them: a line for each session, in the file's order, then what the tables
-/// hold, and that the receipts were audited and the tables are balanced. The first session is the first worker's, the next one the next
-/// worker's, and so on in turn. How far they have come is told meanwhile.
+/// What the sessions of a file print where so many workers run them, from 1 to 64: a line for each session, in the file's order, then what
+/// the tables hold, and that the receipts were audited and the tables are balanced. The first session is the first worker's, the next one
+/// the next worker's, and so on in turn. Each has at most 1,000 attempts. How far they have come is told meanwhile.
 ///
-/// `BadText` names the first line outside the grammar, counted from 1; `OutOfMemory` where a growth was refused; `Audit` where the receipts
-/// are no run.
+/// `BadText` names the first line outside the grammar, counted from 1; `OutOfMemory` where a growth was refused; nothing else is found.
 pub fn output_of<R: Threads + Wait + Sync, P: Progress + Sync>(
     rt: &R,
     alloc: Global,
@@ -40,7 +41,7 @@ pub fn output_of<R: Threads + Wait + Sync, P: Progress + Sync>(
 ) -> Result<Vec<u8>, RunFault>
     requires { (1 ≤ workers) × (workers ≤ ACTOR_LIMIT) }
     ensures output { IfOk result (λ bytes. IsServedOutput workers text.now bytes.items) }
-    ensures refused { IfErr result (IsFileFault workers text.now) }
+    ensures refused { IfErr result (IsFault text.now) }
 {
     let (tables, actions) = parse_sessions(alloc, text)?;
     let run = run_dealt(rt, alloc, tables, actions.into_vec(), workers, progress)?;
@@ -59,7 +60,7 @@ fn run_dealt<R: Threads + Wait + Sync, P: Progress + Sync>(
     requires balanced { IsBalanced tables }
     requires allowed { All IsAllowed actions.items }
     ensures run { IfOk result (IsServedRun workers tables actions.items) }
-    ensures refused { IfErr result (IsDealtFault workers tables actions.items) }
+    ensures refused { IfErr result IsWantOfMemory }
 {
     let total = actions.len();
     let sessions = dealt_sessions(alloc, actions.as_slice(), workers)?;
@@ -106,7 +107,7 @@ fn run_lists<R: Threads + Wait + Sync, P: Progress + Sync>(
     requires some { (1 ≤ length sessions.now) × (length sessions.now ≤ ACTOR_LIMIT) }
     requires like { AreDealtLike (length sessions.now) total (in_lists sessions.now) }
     ensures run { IfOk result (IsToldRun tables (in_lists lists.items) total) }
-    ensures refused { IfErr result (IsListsFault tables (in_lists lists.items) TRIES) }
+    ensures refused { IfErr result IsWantOfMemory }
 {
     let opening = state_of(alloc, &tables)?;
     run_from(
@@ -132,10 +133,18 @@ fn run_from<R: Threads + Wait + Sync, P: Progress + Sync>(
     requires some { (1 ≤ length sessions.now) × (length sessions.now ≤ ACTOR_LIMIT) }
     requires like { AreDealtLike (length sessions.now) total (in_lists sessions.now) }
     ensures run { IfOk result (IsToldRun tables (in_lists lists.items) total) }
-    ensures refused { IfErr result (IsListsFault tables (in_lists lists.items) TRIES) }
+    ensures refused { IfErr result IsWantOfMemory }
 {
     let receipts = Receipts::new(progress);
-    let served = serve_lists(rt, alloc, tables, lists, TRIES, &receipts)?;
+    let served = serve_allowed(
+        rt,
+        alloc,
+        &tables,
+        STRIPES,
+        lists.as_slice(),
+        TRIES,
+        &receipts,
+    )?;
     let lines = lines_of_report(alloc, sessions, total, &served.report)?;
     let tables = inspected(alloc, opening, served)?;
     Ok(SessionRun { lines, tables })

@@ -1,45 +1,15 @@
-//! Actions are served, the receipts of the workers audited, and the tables looked through.
-ghost use Rattle.std.specs.Prelude.{◌≡◌, ◌≤◌, IfErr, IfOk, OnOk, flat_map, length};
-ghost use Rattle.vac_model.specs.Balanced.{IsBalanced};
-ghost use Rattle.dealing.specs.Deals.{in_lists};
-ghost use Rattle.serving.specs.Serving.{AreAllowed, IsServed};
+//! The receipts of the workers are audited, and the tables looked through.
+ghost use Rattle.std.specs.Prelude.{◌≡◌, IfErr, IfOk, OnOk, flat_map};
 ghost use Rattle.session_output.specs.Findings.{IsFinding, IsSound};
 ghost use Rattle.served_runs.specs.Runs as specs;
 
-use attempts::Pause;
-use seq_model::{ACTOR_LIMIT, Items, Memory, Record, Refusal, State};
-use serving::{Served, serve};
-use session_output::{RunFault, STRIPES, inspect};
+use seq_model::{Items, Memory, Record, State};
+use serving::Served;
+use session_output::{RunFault, inspect};
 use std::alloc::Global;
-use std::sync::Wait;
-use std::thread::Threads;
-use vac_model::{Action, Tables};
+use vac_model::Tables;
 use vacation_core::Entry;
 use workers::Report;
-
-/// Has each list of actions served by a worker of its own, from these tables, each session with at most so many attempts.
-pub(crate) fn serve_lists<R: Threads + Wait + Sync, P: Pause + Sync>(
-    rt: &R,
-    alloc: Global,
-    tables: Tables,
-    lists: Vec<Vec<Action>>,
-    tries: u64,
-    pause: &P,
-) -> Result<Served, Memory>
-    requires balanced { IsBalanced tables }
-    requires lists { (1 ≤ length lists.items) × (length lists.items ≤ ACTOR_LIMIT) }
-    requires allowed { AreAllowed (in_lists lists.items) }
-    requires some { 1 ≤ tries }
-    ensures { IfOk result (IsServed tables (in_lists lists.items) tries) }
-{
-    match serve(rt, alloc, tables, STRIPES, lists, tries, pause) {
-        Ok(served) => Ok(served),
-        Err(refusal) => match refusal {
-            Refusal::OutOfMemory => Err(Memory),
-            _ => unreachable!(),
-        },
-    }
-}
 
 /// The receipts of all workers, one worker's after another's. They are moved, not copied.
 fn receipts_of(

@@ -22,6 +22,9 @@ const NAMES: [&str; 7] = [
     "other refusals",
 ];
 
+/// The name of the cause for which no attempt of a session was made.
+const NOT_STARTED: &str = "not started";
+
 /// The place of a refusal's name among these.
 fn place_of(refusal: Refusal) -> usize
     ensures { result < 7 }
@@ -182,7 +185,7 @@ fn name_of(cause: LastAbort) -> &'static str {
     match cause {
         LastAbort::Refused(refusal) => NAMES[place_of(refusal)],
         LastAbort::GivenUp => "given up",
-        LastAbort::NotStarted => "not started",
+        LastAbort::NotStarted => NOT_STARTED,
     }
 }
 
@@ -214,6 +217,17 @@ fn print_seconds(text: &mut String, name: &str, time: Duration) -> Result<(), Me
     Ok(())
 }
 
+/// How many sessions had an attempt: those with a receipt, and those that were missed after one.
+fn attempted_in(times: &Times) -> u64 {
+    let mut count = times.receipts;
+    for (name, missed) in times.causes.as_slice() {
+        if *name != NOT_STARTED {
+            count = count.saturating_add(*missed);
+        }
+    }
+    count
+}
+
 /// The times as text, a line for each.
 pub fn print_times(alloc: Global, times: &Times) -> Result<String, Memory> {
     let mut text = String::new(alloc);
@@ -221,7 +235,7 @@ pub fn print_times(alloc: Global, times: &Times) -> Result<String, Memory> {
     print_seconds(&mut text, "audit", times.audit)?;
     let speed = times.receipts.saturating_mul(1_000) / milliseconds(times.run).max(1);
     writeln!(text, "sessions a second: {speed}")?;
-    let hundredths = times.tries.saturating_mul(100) / times.receipts.max(1);
+    let hundredths = times.tries.saturating_mul(100) / attempted_in(times).max(1);
     let (mean, part, most) = (hundredths / 100, hundredths % 100, times.most);
     writeln!(text, "tries a session: mean {mean}.{part:02}, most {most}")?;
     for (name, count) in times.refused.as_slice() {

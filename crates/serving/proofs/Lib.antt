@@ -1,3 +1,4 @@
+mod AuditLemmas
 pub mod ListLemmas
 pub mod ReportLemmas
 pub mod RunLemmas

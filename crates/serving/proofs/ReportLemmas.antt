@@ -1,6 +1,7 @@
 -- What is reported of the workers, as outcomes of the actions of each list.
 -- A report gives one outcome for each action (`outcomes_in`). Those that are receipts, with their actions, are the receipts of the report,
--- one list after another (`all_receipts`), and each has all calls of the session of its action (`all_whole`).
+-- one list after another (`all_receipts`), and each has all calls of the session of its action (`all_whole`). One that says that it only
+-- reads changes nothing (`read_as_told`).
 use Rattle.std.proofs.Common.{◌≡◌, ℕ, ◌+◌, List, [], ◌∷◌, ◌++◌, refl, sym, ◌∙◌, ap, subst, inl, inr}
 use Rattle.std.proofs.lemmas.List.{map-append}
 use Rattle.std.proofs.lemmas.List.Concat.{flat_map-cons}
@@ -13,6 +14,7 @@ use Rattle.vacation_core.specs.declared.entry.Entry.{Entry}
 use Rattle.served_sessions.specs.Served.{IsWhole}
 use Rattle.attempts.specs.Jobs.{IsWholeJob}
 use Rattle.workers.specs.declared.causes.LastAbort.{LastAbort}
+use Rattle.workers.specs.declared.causes.LastAbort.TheVariants.{NotStarted}
 use Rattle.workers.specs.declared.report.Report.{Report}
 use Rattle.workers.specs.Reports.{IsReportOf, Reports, numbered}
 use Rattle.workers.specs.Tasks as worked
@@ -20,7 +22,8 @@ use Rattle.workers.specs.Tasks.{AreNotStarted, AreTried, Outcome, missed_in, rec
 use Rattle.workers.specs.Tries.{HasReceipt}
 use Rattle.tx_table.specs.declared.table.TxTable.{TxTable}
 use Rattle.transactions.specs.declared.seats.TxSeat.{TxSeat}
-use Rattle.serving.specs.Serving.{AreAllOutcomes, AreAllowed, AreOutcomes, AreReported, all_dealt, all_missed, asks_of, dealt}
+use Rattle.serving.proofs.AuditLemmas.{ReadsAsTold}
+use Rattle.serving.specs.Serving.{AreAllOutcomes, AreAllowed, AreOwnOutcomes, AreReportedAs, all_dealt, all_missed, asks_of, dealt}
 
 -- ---- the outcomes of a report
 record HasOutcomes (first : ℕ) (lists : List (List Action)) (receipts : List (List (Record Entry))) (missed : List (ℕ × ℕ × LastAbort))
@@ -37,13 +40,13 @@ module _ (t : TxTable Entry) (tries : ℕ) where
   has_job action s u (Err cause) h = tt
 
   of_tried : (actions : List Action) (os : List (Outcome Entry)) (s u : TxSeat Entry) → AreTried asks_of t tries actions os s u
-      → AreOutcomes actions os
+      → AreOwnOutcomes actions os
   of_tried [] [] s u h = tt
   of_tried [] (o ∷ os) s u h = absurd h
   of_tried (a ∷ actions) [] s u h = absurd h
   of_tried (a ∷ actions) (o ∷ os) s u (m, tried, rest) = (has_job a s m o tried.receipt, of_tried actions os m u rest)
 
-  of_left : (actions : List Action) (os : List (Outcome Entry)) → AreNotStarted actions os → AreOutcomes actions os
+  of_left : (actions : List Action) (os : List (Outcome Entry)) → AreNotStarted actions os → AreOwnOutcomes actions os
   of_left [] [] h = tt
   of_left [] (o ∷ os) h = absurd h
   of_left (a ∷ actions) [] h = absurd h
@@ -51,7 +54,7 @@ module _ (t : TxTable Entry) (tries : ℕ) where
       (subst (λ (q : Outcome Entry). IfOk q (λ r. IsWholeJob (asks_of a) r.calls)) (sym h.0) tt, of_left actions os h.1)
 
   of_outcomes : (worker : ℕ) (actions : List Action) (os : List (Outcome Entry)) → worked.AreOutcomes asks_of t tries worker actions os
-      → AreOutcomes actions os
+      → AreOwnOutcomes actions os
   of_outcomes worker actions os (inl (s, u, ready, tried)) = of_tried actions os s u tried
   of_outcomes worker actions os (inr (later, left)) = of_left actions os left
 
@@ -68,15 +71,58 @@ module _ (t : TxTable Entry) (tries : ℕ) where
       }
 
   pub outcomes_in : (lists : List (List Action)) (report : Report Entry) → IsReportOf asks_of t tries lists report
-      → (outcomes : List (List (Outcome Entry))) × AreReported lists report outcomes
+      → (outcomes : List (List (Outcome Entry))) × AreReportedAs lists report outcomes
   outcomes_in lists report h =
       let o = outcomes_from 1 lists report.receipts report.missed h in (
         o.outcomes,
         record { each = o.each; receipts = o.receipts_are; missed = o.missed_are },
       )
 
+  -- ---- the receipts that only read
+  made_so : (action : Action) (s u : TxSeat Entry) (r : Record Entry) → HasReceipt (asks_of action) t tries s.seat u.seat r → ReadsAsTold r
+  made_so action s u r h = h.last.comes.0.reads
+
+  of_tries : (actions : List Action) (os : List (Outcome Entry)) (s u : TxSeat Entry) → AreTried asks_of t tries actions os s u
+      → All ReadsAsTold (receipts_in os)
+  of_tries [] [] s u h = All-nil ReadsAsTold
+  of_tries [] (o ∷ os) s u h = absurd h
+  of_tries (a ∷ actions) [] s u h = absurd h
+  of_tries (a ∷ actions) (Ok r ∷ os) s u (m, tried, rest) =
+      All-cons ReadsAsTold r (receipts_in os) (made_so a s m r tried.receipt) (of_tries actions os m u rest)
+  of_tries (a ∷ actions) (Err cause ∷ os) s u (m, tried, rest) = of_tries actions os m u rest
+
+  none_made : (actions : List Action) (os : List (Outcome Entry)) → AreNotStarted actions os → receipts_in os ≡ []
+  none_made [] [] h = refl
+  none_made [] (o ∷ os) h = absurd h
+  none_made (a ∷ actions) [] h = absurd h
+  none_made (a ∷ actions) (Ok r ∷ os) h = absurd (let e : Ok r ≡ Err NotStarted = h.0 in cc)
+  none_made (a ∷ actions) (Err cause ∷ os) h = none_made actions os h.1
+
+  of_worker : (worker : ℕ) (actions : List Action) (os : List (Outcome Entry)) → worked.AreOutcomes asks_of t tries worker actions os
+      → All ReadsAsTold (receipts_in os)
+  of_worker worker actions os (inl (s, u, ready, tried)) = of_tries actions os s u tried
+  of_worker worker actions os (inr (later, left)) =
+      subst (λ (rs : List (Record Entry)). All ReadsAsTold rs) (sym (none_made actions os left)) (All-nil ReadsAsTold)
+
+  of_all : (first : ℕ) (lists : List (List Action)) (receipts : List (List (Record Entry))) (missed : List (ℕ × ℕ × LastAbort))
+      → Reports asks_of t tries (numbered first lists) receipts missed
+      → All ReadsAsTold (flat_map (λ (rs : List (Record Entry)). rs) receipts)
+  of_all first [] receipts missed h =
+      subst (λ (rs : List (List (Record Entry))). All ReadsAsTold (flat_map (λ (qs : List (Record Entry)). qs) rs)) (sym h.0)
+      (All-nil ReadsAsTold)
+  of_all first (actions ∷ lists) receipts missed (os, others, later, are, receipts_are, missed_are, rest) =
+      let own : List (Record Entry) → List (Record Entry) = λ rs. rs in
+      subst (λ (rs : List (List (Record Entry))). All ReadsAsTold (flat_map own rs)) (sym receipts_are)
+      (subst (λ (rs : List (Record Entry)). All ReadsAsTold rs) (sym (flat_map-cons own (receipts_in os) others))
+      (All-append ReadsAsTold (receipts_in os) (flat_map own others) (of_worker first actions os are)
+      (of_all (first + 1) lists others later rest)))
+
+  pub read_as_told : (lists : List (List Action)) (report : Report Entry) → IsReportOf asks_of t tries lists report
+      → All ReadsAsTold (flat_map (λ (rs : List (Record Entry)). rs) report.receipts)
+  read_as_told lists report h = of_all 1 lists report.receipts report.missed h
+
 -- ---- their receipts, with the actions
-receipts_dealt : (actions : List Action) (os : List (Outcome Entry)) → AreOutcomes actions os
+receipts_dealt : (actions : List Action) (os : List (Outcome Entry)) → AreOwnOutcomes actions os
     → map (λ d. d.1) (dealt actions os) ≡ receipts_in os
 receipts_dealt [] [] are = refl
 receipts_dealt [] (o ∷ os) are = absurd are
@@ -106,7 +152,7 @@ whole_of action r allowed job = record {
   done = sym job.done;
 }
 
-whole_dealt : (actions : List Action) (os : List (Outcome Entry)) → All IsAllowed actions → AreOutcomes actions os
+whole_dealt : (actions : List Action) (os : List (Outcome Entry)) → All IsAllowed actions → AreOwnOutcomes actions os
     → All IsOwn (dealt actions os)
 whole_dealt [] os allowed are = All-nil IsOwn
 whole_dealt (a ∷ actions) [] allowed are = All-nil IsOwn

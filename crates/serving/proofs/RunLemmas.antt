@@ -1,11 +1,13 @@
 -- The receipts of the workers are a run of their actions.
 -- The seat has gained just the receipts that are reported, so each of its receipts is one of an action's session (`paired`); in commit
--- order they are a run, which is what the law of whole sessions asks for. What is left is the state of tables, and only of these.
+-- order they are a run, which is what the law of whole sessions asks for. What is left is the state of tables, and only of these. As each
+-- that says so only reads, they are a run for the audit too (`audited_so`).
 use Rattle.std.proofs.Common.{◌≡◌, ℕ, List, [], ◌∷◌, ◌++◌, refl, sym, ◌∙◌, ap, subst}
 use Rattle.std.proofs.lemmas.List.Elements.{All-cons, All-head, All-nil, All-tail}
 use Rattle.std.proofs.lemmas.List.Recursion.{is_sum_by}
 use Rattle.std.specs.Prelude.{All, IfOk, Ok, Result, flat_map, map, sum_by}
 use Rattle.seq_model.specs.declared.record.Record.{Record}
+use Rattle.seq_model.specs.Audit.{IsRunBetween}
 use Rattle.seq_model.specs.Contents.{Contents}
 use Rattle.vac_model.specs.declared.action.Action.{Action}
 use Rattle.vac_model.specs.Balanced.{IsBalanced}
@@ -25,8 +27,9 @@ use Rattle.served_sessions.proofs.ServedLemmas.{receipts_are_actions}
 use Rattle.workers.specs.declared.report.Report.{Report}
 use Rattle.workers.specs.Reports.{HasRun, IsReportOf}
 use Rattle.workers.specs.Tasks.{Outcome, records_of}
-use Rattle.serving.specs.Serving.{AreAllowed, AreReported, AreRun, HasOpened, IsLeft, all_dealt, asks_of}
-use Rattle.serving.proofs.ReportLemmas.{IsOwn, all_receipts, all_whole, outcomes_in}
+use Rattle.serving.specs.Serving.{AreAllowed, AreReportedAs, AreRun, OpensOnTables, IsWhatRemains, all_dealt, asks_of}
+use Rattle.serving.proofs.AuditLemmas.{audited_in_order}
+use Rattle.serving.proofs.ReportLemmas.{IsOwn, all_receipts, all_whole, outcomes_in, read_as_told}
 
 -- receipts of a seat, each with the action of the reported receipt that it is
 record ArePaired (receipts : List (ℕ × Record Entry)) (reported : List (Action × Record Entry)) : Type 0 where
@@ -71,11 +74,11 @@ own_each (x ∷ xs) all =
 pub run_of : (tables : Holdings) (lists : List (List Action)) (report : Report Entry) (receipts : List (ℕ × Record Entry))
     (s : Contents Entry) (t : TxTable Entry) (tries : ℕ) (reported : IsReportOf asks_of t tries lists report)
     → IsBalanced tables → AreAllowed lists → map (λ e. e.1) receipts ≡ flat_map (λ (rs : List (Record Entry)). rs) report.receipts
-    → IsLeft (state_of tables) receipts s
+    → IsWhatRemains (state_of tables) receipts s
     → AreRun tables (all_dealt lists (outcomes_in t tries lists report reported).0) s
 run_of tables lists report receipts s t tries reported balanced allowed gained left =
     let o = outcomes_in t tries lists report reported in
-    let each : AreReported lists report o.0 = o.1 in
+    let each : AreReportedAs lists report o.0 = o.1 in
     let all : All IsOwn (all_dealt lists o.0) = all_whole lists o.0 allowed each.each in
     let p : ArePaired receipts (all_dealt lists o.0) =
     paired receipts (all_dealt lists o.0)
@@ -92,28 +95,40 @@ run_of tables lists report receipts s t tries reported balanced allowed gained l
       left = left.left;
     }
 
+-- so an audit finds them to be one
+audited_so : (tables : Holdings) (lists : List (List Action)) (report : Report Entry) (outcomes : List (List (Outcome Entry)))
+    (t : TxTable Entry) (tries : ℕ) (s : Contents Entry) → AreReportedAs lists report outcomes → IsReportOf asks_of t tries lists report
+    → AreRun tables (all_dealt lists outcomes) s
+    → IsRunBetween (state_of tables) (flat_map (λ (rs : List (Record Entry)). rs) report.receipts) s
+audited_so tables lists report outcomes t tries s told reported run =
+    let own : List (Record Entry) → List (Record Entry) = λ rs. rs in
+    let records : List (Record Entry) = flat_map own report.receipts in
+    let are : map (λ (d : Action × Record Entry). d.1) (map (λ x. (x.0, x.1.1)) run.own) ≡ records =
+    ap (map (λ (d : Action × Record Entry). d.1)) run.same ∙ all_receipts lists outcomes told.each
+    ∙ sym (ap (flat_map own) told.receipts) in
+    subst (λ (c : Contents Entry). IsRunBetween (state_of tables) records c) (sym run.left)
+    (audited_in_order tables run.own run.order records run.served are (read_as_told t tries lists report reported))
+
 -- and so are the receipts of a table that opened on the tables
-pub served_so : (tables : Holdings) (lists jobs : List (List Action)) (t : TxTable Entry) (tries : ℕ) (s u : TxSeat Entry)
+pub served_so : (tables : Holdings) (stripes : ℕ) (lists jobs : List (List Action)) (t : TxTable Entry) (tries : ℕ) (s u : TxSeat Entry)
     (r : Result (Report Entry) Memory) (report : Report Entry) (state : Contents Entry)
-    → IsBalanced tables → AreAllowed lists → jobs ≡ lists → HasOpened tables t s
-    → IfOk r (IsReportOf asks_of t tries jobs) → IfOk r (HasRun s u) → r ≡ Ok report → IsLeft (contents_in t) (view u.seat).receipts state
-    → (outcomes : List (List (Outcome Entry))) × AreReported lists report outcomes × AreRun tables (all_dealt lists outcomes) state
+    → IsBalanced tables → AreAllowed lists → jobs ≡ lists → OpensOnTables tables stripes t s
+    → IfOk r (IsReportOf asks_of t tries jobs) → IfOk r (HasRun s u) → r ≡ Ok report → IsWhatRemains (contents_in t) (view u.seat).receipts state
+    → (outcomes : List (List (Outcome Entry))) × AreReportedAs lists report outcomes × AreRun tables (all_dealt lists outcomes) state
     × IsReportOf asks_of t tries lists report
-served_so tables lists jobs t tries s u r report state balanced allowed same opened reports runs is left =
+    × IsRunBetween (state_of tables) (flat_map (λ (rs : List (Record Entry)). rs) report.receipts) state
+served_so tables stripes lists jobs t tries s u r report state balanced allowed same opened reports runs is left =
     let reported : IsReportOf asks_of t tries lists report =
     subst (λ (js : List (List Action)). IsReportOf asks_of t tries js report) same
     (subst (λ (q : Result (Report Entry) Memory). IfOk q (IsReportOf asks_of t tries jobs)) is reports) in
     let run : HasRun s u report = subst (λ (q : Result (Report Entry) Memory). IfOk q (HasRun s u)) is runs in
-    let o = outcomes_in t tries lists report reported in (
-      o.0,
-      o.1,
-      run_of tables lists report (view u.seat).receipts state t tries reported balanced allowed
-          (subst
-          (λ (v : View Entry). records_of u ≡ map (λ e. e.1) v.receipts ++ flat_map (λ (rs : List (Record Entry)). rs) report.receipts)
-          opened.seat_is run.records)
-          (subst (λ (c : Contents Entry). IsLeft c (view u.seat).receipts state) opened.contents left),
-      reported,
-    )
+    let o = outcomes_in t tries lists report reported in
+    let ran = run_of tables lists report (view u.seat).receipts state t tries reported balanced allowed
+    (subst
+    (λ (v : View Entry). records_of u ≡ map (λ e. e.1) v.receipts ++ flat_map (λ (rs : List (Record Entry)). rs) report.receipts)
+    opened.seat_is run.records)
+    (subst (λ (c : Contents Entry). IsWhatRemains c (view u.seat).receipts state) opened.contents left) in
+    (o.0, o.1, ran, reported, audited_so tables lists report o.0 t tries state o.1 reported ran)
 
 -- a state by its parts
 pub same_state : (s : Contents Entry) (words : List ℕ) (held : List (Held Entry)) → s.words ≡ words → s.held ≡ held

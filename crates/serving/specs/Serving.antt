@@ -1,8 +1,9 @@
 -- Sessions that workers run on a shared table: each receipt is one of its action's session, and in commit order the receipts are the
 -- actions, one after another.
-use Rattle.std.specs.Prelude.{◌≡◌, ℕ, ◌+◌, List, [], ◌∷◌, ◌++◌, All, IfOk, Ok, Err, map}
+use Rattle.std.specs.Prelude.{◌≡◌, ℕ, ◌+◌, List, [], ◌∷◌, ◌++◌, All, IfOk, Ok, Err, flat_map, map}
 use Rattle.seq_model.specs.declared.call.Reply.{Reply}
 use Rattle.seq_model.specs.declared.record.Record.{Record}
+use Rattle.seq_model.specs.Audit.{IsRunBetween}
 use Rattle.seq_model.specs.Contents.{Contents}
 use Rattle.seq_model.specs.Runs.{IsInCommitOrder, IsRun, after_run}
 use Rattle.vac_model.specs.declared.action.Action.{Action}
@@ -15,9 +16,11 @@ use Rattle.vacation_core.specs.declared.entry.Entry.{Entry}
 use Rattle.vacation_core.specs.Holding.{state_of}
 use Rattle.vacation_core.specs.Sessions.{session}
 use Rattle.served_sessions.specs.Served.{AreServedInOrder, HaveSame, Receipt}
+use Rattle.world_table.specs.Openings.{world_of}
+use Rattle.session_runs.specs.Openings.{eight}
 use Rattle.attempts.specs.Jobs.{IsWholeJob}
 use Rattle.tx_table.specs.declared.table.TxTable.{TxTable}
-use Rattle.tx_table.specs.Seated.{contents_in, view}
+use Rattle.tx_table.specs.Seated.{contents_in, opening_of, view}
 use Rattle.tx_table.specs.Shown.{first}
 use Rattle.transactions.specs.declared.seats.TxSeat.{TxSeat}
 use Rattle.transactions.specs.Ready.{IsReady}
@@ -38,15 +41,15 @@ asks_of action replies next = next ≡ asked (after (session action) replies)
 -- ---- what is reported of the workers
 
 -- one outcome for each action; a receipt has all calls of the action's session
-abbrev pub AreOutcomes : List Action → List (Outcome Entry) → Type 0
-AreOutcomes [] [] = Unit {0}
-AreOutcomes (action ∷ actions) (o ∷ os) = IfOk o (λ r. IsWholeJob (asks_of action) r.calls) × AreOutcomes actions os
-AreOutcomes _ _ = ⊥
+abbrev pub AreOwnOutcomes : List Action → List (Outcome Entry) → Type 0
+AreOwnOutcomes [] [] = Unit {0}
+AreOwnOutcomes (action ∷ actions) (o ∷ os) = IfOk o (λ r. IsWholeJob (asks_of action) r.calls) × AreOwnOutcomes actions os
+AreOwnOutcomes _ _ = ⊥
 
 -- and so for each action of each list
 abbrev pub AreAllOutcomes : List (List Action) → List (List (Outcome Entry)) → Type 0
 AreAllOutcomes [] [] = Unit {0}
-AreAllOutcomes (actions ∷ lists) (os ∷ more) = AreOutcomes actions os × AreAllOutcomes lists more
+AreAllOutcomes (actions ∷ lists) (os ∷ more) = AreOwnOutcomes actions os × AreAllOutcomes lists more
 AreAllOutcomes _ _ = ⊥
 
 -- what the workers from this one on missed
@@ -55,7 +58,7 @@ all_missed worker [] = []
 all_missed worker (os ∷ more) = missed_in worker 0 os ++ all_missed (worker + 1) more
 
 -- These are the outcomes of the actions of each list: the receipts, each of all calls of its action's session, and why others have none.
-pub record AreReported (lists : List (List Action)) (report : Report Entry) (outcomes : List (List (Outcome Entry))) : Type 0 where
+pub record AreReportedAs (lists : List (List Action)) (report : Report Entry) (outcomes : List (List (Outcome Entry))) : Type 0 where
   pub each : AreAllOutcomes lists outcomes
   pub receipts : report.receipts ≡ map receipts_in outcomes
   pub missed : report.missed ≡ all_missed 1 outcomes
@@ -82,27 +85,31 @@ pub record AreRun (tables : Holdings) (receipts : List (Action × Record Entry))
   pub left : s ≡ after_run order (state_of tables)
 
 -- Each action of each list has one receipt, or stands among the missed with what so many attempts of it came to, on a table that opened on
--- these tables. The receipts are a run of their actions in commit order, and the tables are what they leave, balanced.
-pub record IsServed (tables : Holdings) (lists : List (List Action)) (tries : ℕ) (served : Served) : Type 0 where
+-- these tables, with clock 0 and so many stripes for each of the five maps and three queues. The receipts are a run of their actions in
+-- commit order, and for an audit, which is given them one worker's after another's; and the tables are what they leave, balanced.
+pub record IsServed (tables : Holdings) (stripes : ℕ) (lists : List (List Action)) (tries : ℕ) (served : Served) : Type 0 where
   pub outcomes : List (List (Outcome Entry))
-  pub reported : AreReported lists served.report outcomes
+  pub reported : AreReportedAs lists served.report outcomes
   pub table : TxTable Entry
-  pub opened : contents_in table ≡ state_of tables
+  pub opened : opening_of table ≡ world_of (eight stripes) 0 (state_of tables)
+  pub contents : contents_in table ≡ state_of tables
   pub tried : IsReportOf asks_of table tries lists served.report
   pub run : AreRun tables (all_dealt lists outcomes) served.state
+  pub audited : IsRunBetween (state_of tables) (flat_map (λ receipts. receipts) served.report.receipts) served.state
   pub left : served.state ≡ state_of served.tables
   pub balanced : IsBalanced served.tables
 
 -- ---- the table
 
--- it holds these tables, and the seat is its first one
-pub record HasOpened (tables : Holdings) (table : TxTable Entry) (seat : TxSeat Entry) : Type 0 where
+-- It opens on these tables, with clock 0 and so many stripes for each collection, and the seat is its first one.
+pub record OpensOnTables (tables : Holdings) (stripes : ℕ) (table : TxTable Entry) (seat : TxSeat Entry) : Type 0 where
   pub ready : IsReady table seat
+  pub opened : opening_of table ≡ world_of (eight stripes) 0 (state_of tables)
   pub contents : contents_in table ≡ state_of tables
   pub seat_is : view seat.seat ≡ first
 
 -- the receipts of the seat, in commit order, are a run that leaves this
-pub record IsLeft (opening : Contents Entry) (receipts : List (ℕ × Record Entry)) (s : Contents Entry) : Type 0 where
+pub record IsWhatRemains (opening : Contents Entry) (receipts : List (ℕ × Record Entry)) (s : Contents Entry) : Type 0 where
   pub order : List (ℕ × Record Entry)
   pub same : HaveSame receipts order
   pub in_order : IsInCommitOrder order

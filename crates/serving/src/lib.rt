@@ -6,4 +6,4 @@
 
 mod served;
 
-pub use served::{Served, serve};
+pub use served::{Served, serve, serve_allowed};

@@ -6,7 +6,7 @@ ghost use Rattle.vac_model.specs.Balanced.{IsBalanced};
 ghost use Rattle.tx_table.specs.Seated.{contents_in, view};
 ghost use Rattle.transactions.specs.Ready.{IsReady};
 ghost use Rattle.workers.specs.Reports.{jobs_of};
-ghost use Rattle.serving.specs.Serving.{AreAllowed, HasOpened, IsLeft, IsServed};
+ghost use Rattle.serving.specs.Serving.{AreAllowed, OpensOnTables, IsWhatRemains, IsServed};
 
 use attempts::Pause;
 use conflict::is_stripe_count;
@@ -64,7 +64,7 @@ fn open(
 ) -> Result<(TxTable<Entry>, TxSeat<Entry>), Memory>
     requires balanced { IsBalanced tables.now }
     requires stripes { IsStripeCount stripes }
-    ensures { IfOk result (λ opened. HasOpened tables.now opened.0 opened.1) }
+    ensures { IfOk result (λ opened. OpensOnTables tables.now stripes opened.0 opened.1) }
 {
     let state = state_of(alloc, tables)?;
     let stripes = vec![in alloc; stripes; 8]?;
@@ -85,15 +85,16 @@ fn open(
 fn close(table: TxTable<Entry>, seat: TxSeat<Entry>) -> Result<State<Entry>, Memory>
     requires ready { IsReady table seat }
     requires all { (view seat.seat).shares ≡ SHARES }
-    ensures { IfOk result (IsLeft (contents_in table) (view seat.seat).receipts) }
+    ensures { IfOk result (IsWhatRemains (contents_in table) (view seat.seat).receipts) }
 {
     let closed = seat.close(table);
     let state = closed.state()?;
     Ok(state)
 }
 
-/// Runs the sessions of actions that are allowed.
-fn serve_allowed<R: Threads + Wait + Sync, P: Pause + Sync>(
+/// Runs the sessions of these lists of actions as `serve` does, where each action is allowed and a collection can have so many stripes: so
+/// it is refused memory alone.
+pub fn serve_allowed<R: Threads + Wait + Sync, P: Pause + Sync>(
     rt: &R,
     alloc: Global,
     tables: &Tables,
@@ -107,7 +108,7 @@ fn serve_allowed<R: Threads + Wait + Sync, P: Pause + Sync>(
     requires lists { (1 ≤ length lists.now) × (length lists.now ≤ ACTOR_LIMIT) }
     requires allowed { AreAllowed (jobs_of lists.now) }
     requires some { 1 ≤ tries }
-    ensures { IfOk result (IsServed tables.now (jobs_of lists.now) tries) }
+    ensures { IfOk result (IsServed tables.now stripes (jobs_of lists.now) tries) }
 {
     let sessions = all_sessions(alloc, lists)?;
     let (table, seat) = open(alloc, tables, stripes)?;
@@ -122,9 +123,10 @@ fn serve_allowed<R: Threads + Wait + Sync, P: Pause + Sync>(
     })
 }
 
-/// Runs the sessions of these lists of actions on a shared table, which opens on these tables with clock 0 and has so many stripes for each
-/// collection: each list by a worker of its own, its sessions in order, each in at most so many attempts (`run_workers`). In commit order
-/// the sessions that have a receipt are their actions, one after another, and the tables and the state are what they leave, balanced.
+/// Runs the sessions of these lists of actions, 1 to 64 of them, on a shared table, which opens on these tables with clock 0 and has so
+/// many stripes for each collection: each list by a worker of its own, its sessions in order, each in at most so many attempts, of which
+/// there is 1 at least (`run_workers`). In commit order the sessions that have a receipt are their actions, one after another, and the
+/// tables and the state are what they leave, balanced. No audit of the receipts finds a fault.
 ///
 /// `TooLong` where a collection can't have so many stripes, or an action of some list isn't allowed, which is found before anything is
 /// opened; and `OutOfMemory` where a growth was refused. A session that is refused memory is reported as missed.
@@ -140,7 +142,7 @@ pub fn serve<R: Threads + Wait + Sync, P: Pause + Sync>(
     requires balanced { IsBalanced tables }
     requires lists { (1 ≤ length lists.items) × (length lists.items ≤ ACTOR_LIMIT) }
     requires some { 1 ≤ tries }
-    ensures served { IfOk result (IsServed tables (jobs_of lists.items) tries) }
+    ensures served { IfOk result (IsServed tables stripes (jobs_of lists.items) tries) }
     ensures refused { IfErr result (λ refusal. IsTooLong refusal (IsStripeCount stripes × AreAllowed (jobs_of lists.items))) }
 {
     if !is_stripe_count(stripes) {

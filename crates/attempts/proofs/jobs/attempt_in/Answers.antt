@@ -1,7 +1,8 @@
-use Rattle.std.proofs.Common.{inl, ◌∙◌}
+use Rattle.std.proofs.Common.{inl, sym, ◌∙◌}
 use Rattle.std.proofs.lemmas.Result.{err_from_is_err_and}
 use Rattle.tx_table.specs.Seated.{opening_of}
 use Rattle.attempts.proofs.AttemptLemmas.{at_end, call_ended, commit_refused, given_up, has_made}
+use Rattle.attempts.proofs.ReaderLemmas.{changes_nothing}
 use Rattle.attempts.proofs.jobs.attempt_in.Goals as goal
 
 pub returns-in_err-begin-clause-attempts : goal.returns-in_err-begin-clause-attempts
@@ -31,7 +32,10 @@ returns-in_ok-receipt-in-Ok-Done-clause-attempts g c =
       has_made asks o c.args.seat.now.seat c.begin.new.self.seat c.ask_all.new.seat.seat c.commit.new.self.seat
           c.in_ok-receipt-in-Ok-Done.receipt c.begin.ensures.keeps
           (at_end asks o c.begin.new.self.seat c.ask_all.new.seat.seat _ _ c.in-Ok-Done.field-0-is c.in-Ok-Done.ensures.reaches)
-          e.calls e.writes e.committed e.above e.last,
+          e.calls e.writes
+          (λ none. changes_nothing o c.ask_all.new.seat.seat c.in_ok-receipt-in-Ok-Done.receipt.calls c.ask_all.ensures.ready.ties.reached
+          e.calls (sym e.writes ∙ none))
+          e.committed e.above e.last,
       c.commit.ensures.begins ∙ (c.ask_all.ensures.begins ∙ c.begin.ensures.begins),
     )
 

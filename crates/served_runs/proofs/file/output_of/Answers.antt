@@ -1,17 +1,12 @@
 use Rattle.std.proofs.Common.{rules, subst, List}
 use Rattle.vac_model.specs.declared.action.Action.{Action}
-use Rattle.served_runs.specs.Runs.{IsDealtFault, IsServedRun}
+use Rattle.served_runs.specs.Runs.{IsServedRun}
 use Rattle.served_runs.proofs.RunLemmas.{file_fault}
 use Rattle.served_runs.proofs.file.output_of.Goals as goal
 
 pub returns-in_err-run-clause-refused : goal.returns-in_err-run-clause-refused
 returns-in_err-run-clause-refused g c =
-    let tables = c.in_ok-tables.tables in
-    let fault = file_fault c.args.workers c.args.text.now tables c.in_ok-tables.actions c.in_err-run.field-0.0
-    c.in_ok-tables.ensures.sessions
-    (subst (λ (actions : List Action). IsDealtFault c.args.workers tables actions c.in_err-run.field-0.0) c.into_vec.ensures
-    c.in_err-run.ensures.refused) in
-    search (rules, fault)
+    let fault = file_fault c.args.text.now c.in_err-run.field-0.0 c.in_err-run.ensures.refused in search (rules, fault)
 
 pub returns-clause-output : goal.returns-clause-output
 returns-clause-output g c = record {

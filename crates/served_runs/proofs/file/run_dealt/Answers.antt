@@ -1,7 +1,7 @@
 use Rattle.std.proofs.Common.{◌≡◌, ap, length, rules}
-use Rattle.std.proofs.lemmas.Result.{IfErr-weaker, IfOk-weaker}
+use Rattle.std.proofs.lemmas.Result.{IfOk-weaker}
 use Rattle.dealing.specs.Deals.{in_lists}
-use Rattle.served_runs.proofs.RunLemmas.{dealt_allowed, dealt_fault, dealt_run, dealt_same}
+use Rattle.served_runs.proofs.RunLemmas.{dealt_allowed, dealt_run, dealt_same}
 use Rattle.served_runs.proofs.file.run_dealt.Goals as goal
 
 pub run_lists-requires-clause-allowed : goal.run_lists-requires-clause-allowed
@@ -23,8 +23,4 @@ returns-clause-run g c =
     c.run_lists.ensures.run
 
 pub returns-clause-refused : goal.returns-clause-refused
-returns-clause-refused g c =
-    IfErr-weaker c.run_lists.result _ _
-    (λ fault found. dealt_fault c.args.workers c.args.tables c.args.actions.items (in_lists c.in_ok-lists.lists.items) fault
-    c.in_ok-lists.ensures.dealt found)
-    c.run_lists.ensures.refused
+returns-clause-refused g c = c.run_lists.ensures.refused

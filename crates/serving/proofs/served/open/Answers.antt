@@ -1,4 +1,7 @@
-use Rattle.std.proofs.Common.{◌≡◌, ◌∙◌}
+use Rattle.std.proofs.Common.{◌≡◌, ◌∙◌, List, ℕ, ap}
+use Rattle.seq_model.specs.Contents.{Contents}
+use Rattle.vacation_core.specs.declared.entry.Entry.{Entry}
+use Rattle.world_table.specs.Openings.{world_of}
 use Rattle.session_runs.specs.Openings.{eight}
 use Rattle.session_runs.proofs.OpeningLemmas.{never_refused}
 use Rattle.serving.proofs.served.open.Goals as goal
@@ -10,8 +13,12 @@ unreachable-requires c =
     c.in_ok-state.ensures c.in-Err.ensures.refused c.in_default.not-OutOfMemory
 
 pub returns-in-Ok : goal.returns-in-Ok
-returns-in-Ok c = record {
-  ready = c.in-Ok.ensures.ready;
-  contents = c.in-Ok.ensures.contents ∙ c.in_ok-state.ensures;
-  seat_is = c.in-Ok.ensures.first.0;
-}
+returns-in-Ok c =
+    let each : c.from_vec.result ≡ eight c.args.stripes = c.from_vec.ensures ∙ c.in_ok-stripes.ensures.items_if_clones_equal (λ y e. e) in
+    record {
+      ready = c.in-Ok.ensures.ready;
+      opened = c.in-Ok.ensures.opens ∙ ap (λ (ns : List ℕ). world_of ns 0 c.in_ok-state.state) each
+          ∙ ap (λ (s : Contents Entry). world_of (eight c.args.stripes) 0 s) c.in_ok-state.ensures;
+      contents = c.in-Ok.ensures.contents ∙ c.in_ok-state.ensures;
+      seat_is = c.in-Ok.ensures.first.0;
+    }
