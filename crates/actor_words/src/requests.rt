@@ -66,7 +66,8 @@ pub fn read_word(
     found: Option<u64>,
 ) -> Result<Option<u64>, AllocError>
     requires room { may_read (actor_of words.old) location ≡ true }
-    requires found { number_told found ≡ read_reply (lookup (actor_of words.old).writes location) (lookup (actor_of words.old).reads location) }
+    requires found { number_told found
+        ≡ read_reply (lookup (actor_of words.old).writes location) (lookup (actor_of words.old).reads location) }
     ensures actor { OnOk result (actor_of words.new ≡ ask (actor_of words.old) (actor_of words.old).place (AskRead location)) }
     ensures told { IfOk result (λ told. number_told told ≡ reply (actor_of words.old) (actor_of words.old).place (AskRead location)) }
     ensures err { OnErr result (actor_of words.new ≡ actor_of words.old) }

@@ -193,6 +193,7 @@ module _ {V : Type 0} where
           gains = C.receipts
               ∙ (λ i. k.keeps.receipts i ++ (k.keeps.seat.1 i, r) ∷ []);
           shares = C.shares ∙ k.keeps.shares;
+          joined = C.joined ∙ k.keeps.joined;
           above = λ yes. (let lt = above yes in omega (arith, lt, same));
           last = (omega (arith, low, same), last.1);
           before = m;

@@ -80,6 +80,7 @@ module _ {V : Type 0} (asks : List (Reply V) → Ask V → Type 0) (o : World V)
     pub job : IsWholeJob asks r.calls
     pub gains : (view u).receipts ≡ (view s).receipts ++ (actor s, r) ∷ []
     pub shares : (view u).shares ≡ (view s).shares
+    pub joined : (view u).joined ≡ (view s).joined
     pub above : r.writes ≡ true → s.last < r.number
     pub last : (s.last ≤ r.number) × (u.last ≡ r.number)
     pub before : Seat V

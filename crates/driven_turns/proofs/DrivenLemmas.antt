@@ -145,6 +145,7 @@ module _ {V : Type 0} where
     more = [];
     turns = sym (append-nil (view s).turns);
     shares = refl;
+    joined = refl;
     gains = sym (append-nil (view s).receipts);
     rises = omega arith;
     comes = under;
@@ -401,6 +402,7 @@ module _ {V : Type 0} where
               ∙ (ap (λ (is : List (Turn V)). is ++ record { asks = list_of u.asked; found = T.found; base = T.base } ∷ []) D.turns
               ∙ append_assoc (view s).turns D.more (record { asks = list_of u.asked; found = T.found; base = T.base } ∷ []));
           shares = ap (λ (k : View V). k.shares) T.takes.turn ∙ D.shares;
+          joined = ap (λ (k : View V). k.joined) T.takes.turn ∙ D.joined;
           gains = T.gains ∙ ((λ i. D.gains i ++ (makes ∙ ap (λ (b : ℕ). as_receipts b e) same) i)
               ∙ gained (seated.actor s) e d (view s).receipts new);
           rises = (let p = D.rises in let q = rises_to in omega (arith, p, q));

@@ -3,7 +3,8 @@
 -- It is being given up in the own world of its seat by then, and what it is told at its end is that want (`is_memory`). So its turns up to
 -- there, and those by which its gates and its locks went back, are together the turns of the request: it has no transaction any more, and
 -- made no record.
-use Rattle.std.proofs.Common.{◌≡◌, ◌≢◌, ℕ, ◌+◌, true, true≢false, List, [], ◌∷◌, ◌++◌, Option, Some, None, inl, inr, refl, sym, ap, ◌∙◌, subst}
+use Rattle.std.proofs.Common.{◌≡◌, ◌≢◌, ℕ, ◌+◌, true, true≢false, List, [], ◌∷◌, ◌++◌, Option, Some, None, inl, inr, refl, sym, ap, ◌∙◌}
+use Rattle.std.proofs.Common.{subst}
 use Rattle.std.proofs.Common.{arith}
 use Rattle.std.proofs.lemmas.List.{append-nil, append_assoc}
 use Rattle.seq_model.specs.declared.call.Call.{Call}
@@ -185,6 +186,7 @@ module _ {V : Type 0} where
           more = S.driven.more ++ D.more;
           turns = D.turns ∙ (ap (λ (is : List (Turn V)). is ++ D.more) turns_to ∙ append_assoc (view s).turns S.driven.more D.more);
           shares = D.shares ∙ (ap (λ k. k.0.shares) S.starved.taken.1 ∙ S.driven.shares);
+          joined = D.joined ∙ (ap (λ k. k.0.joined) S.starved.taken.1 ∙ S.driven.joined);
           gains = D.gains ∙ (append-nil (view u).receipts ∙ (ap (λ k. k.0.receipts) S.starved.taken.1 ∙ S.driven.gains));
           rises = (let p = S.driven.rises in let q = D.rises in
               let e : (view u).clock ≡ (view m).clock = ap (λ k. k.0.clock) S.starved.taken.1 in omega (arith, p, q, e));

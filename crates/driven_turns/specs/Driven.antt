@@ -167,6 +167,7 @@ module _ {V : Type 0} where
     pub more : List (Turn V)
     pub turns : (view u).turns ≡ (view s).turns ++ more
     pub shares : (view u).shares ≡ (view s).shares
+    pub joined : (view u).joined ≡ (view s).joined
     pub gains : (view u).receipts ≡ (view s).receipts ++ as_receipts (actor s) d
     pub rises : (view s).clock ≤ (view u).clock
     pub comes : ComesTo (actor s) (seat_in o s) (notice_of (actor s) n) (seat_in o u) d

@@ -1,5 +1,6 @@
 //! The log of a transaction's changes to a collection.
-ghost use Rattle.std.specs.Prelude.{◌≡◌, ◌+◌, ◌*◌, ◌^◌, ◌<◌, ◌≤◌, [], ◌∷◌, ◌++◌, All, IsOk, OnOk, OnErr, length, option_to_list, slice_index};
+ghost use Rattle.std.specs.Prelude.{◌≡◌, ◌+◌, ◌*◌, ◌^◌, ◌<◌, ◌≤◌, [], ◌∷◌, ◌++◌, All, IsOk, OnOk, OnErr, length, option_to_list};
+ghost use Rattle.std.specs.Prelude.{slice_index};
 ghost use Rattle.std.specs.Vec.{vec_capacity};
 ghost use Rattle.replay_log.specs.Base.{IsPreparedFor, LeavesPrepared, after, editions_of, locations_of, shown_of, stripes_of};
 ghost use Rattle.replay_log.specs.Log.{AreRaised};

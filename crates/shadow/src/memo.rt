@@ -12,7 +12,8 @@ ghost use Rattle.base_bag.specs.Conflicts as bag;
 ghost use Rattle.base_map.specs.Conflicts as of_map;
 ghost use Rattle.replay_log.specs.Base.{changes_of, reads_of, shown_of, stripes_of, writes_of};
 ghost use Rattle.shadow.specs.KeyPlace.{written_there};
-ghost use Rattle.shadow.specs.Memo.{HasPlace, IsReadyFor, answer_with, blank_of, copies_after, copies_kept, copies_without, entries_after, entries_kept};
+ghost use Rattle.shadow.specs.Memo.{HasPlace, IsReadyFor, answer_with, blank_of, copies_after, copies_kept, copies_without};
+ghost use Rattle.shadow.specs.Memo.{entries_after, entries_kept};
 ghost use Rattle.shadow.specs.Memo.{entries_without, grown_after, grown_kept, holds, kind_room, map_answer, shape, shrunk_after};
 ghost use Rattle.shadow.specs.Memo.{shrunk_kept, total_without, with_count, with_entry, with_key, with_number, with_total, IsTold};
 

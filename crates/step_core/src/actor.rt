@@ -227,7 +227,8 @@ impl Actor {
         requires inside { i < length self.old.writes.entries }
         requires location { (n : ℕ) → Fits n self.old → location < n }
         requires next { i + 1 < 2 ^ 64 }
-        ensures actor { actor_of self.new ≡ seen_to_lock (actor_of self.old) location (drop (i + 1) (locations self.old.writes.entries)) (unbits word) }
+        ensures actor { actor_of self.new ≡ seen_to_lock (actor_of self.old) location
+            (drop (i + 1) (locations self.old.writes.entries)) (unbits word) }
         ensures answer { result ≡ result_of (lock_notice location (unbits word)) }
         ensures keeps { Keeps self.old self.new }
     {
@@ -294,7 +295,8 @@ impl Actor {
         requires inside { i < length self.old.reads.entries }
         requires next { i + 1 < 2 ^ 64 }
         ensures actor { actor_of self.new ≡ goes (actor_of self.old) (machine.Check (drop (i + 1) (locations self.old.reads.entries))) }
-        ensures answer { Ok result ≡ result_of (when_none_left (drop (i + 1) (locations self.old.reads.entries)) (notice.LockedAt self.old.wv)) }
+        ensures answer { Ok result ≡ result_of (when_none_left (drop (i + 1) (locations self.old.reads.entries))
+            (notice.LockedAt self.old.wv)) }
         ensures keeps { Keeps self.old self.new }
     {
         self.place = Place::Check(i + 1);
@@ -326,7 +328,8 @@ impl Actor {
         requires place { self.old.place ≡ Check i }
         requires inside { i < length self.old.reads.entries }
         requires next { i + 1 < 2 ^ 64 }
-        ensures actor { actor_of self.new ≡ seen_in_check (actor_of self.old) (drop (i + 1) (locations self.old.reads.entries)) (unbits word)
+        ensures actor { actor_of self.new ≡ seen_in_check (actor_of self.old)
+            (drop (i + 1) (locations self.old.reads.entries)) (unbits word)
             (lookup self.old.writes.entries location) }
         ensures answer { result ≡ result_of (check_notice self.old.rv self.old.wv location (drop (i + 1) (locations self.old.reads.entries))
             (unbits word) (lookup self.old.writes.entries location)) }
@@ -393,7 +396,8 @@ impl Actor {
     pub fn release(&mut self) -> Option<WordAnswer>
         requires place { self.old.place ≡ Release }
         requires held { 0 < deque_len self.old.held }
-        ensures actor { actor_of self.new ≡ freed (actor_of self.old) (drop 1 self.old.held.items) (after_release (drop 1 self.old.held.items)) }
+        ensures actor { actor_of self.new ≡ freed (actor_of self.old) (drop 1 self.old.held.items)
+            (after_release (drop 1 self.old.held.items)) }
         ensures answer { Ok result ≡ result_of (when_none_left (drop 1 self.old.held.items) notice.Released) }
         ensures keeps { Keeps self.old self.new }
     {

@@ -164,6 +164,7 @@ module _ {V : Type 0} where
             seat = (D.seat.0, D.seat.1);
             shares = D.shares;
             receipts = D.gains;
+            joined = D.joined;
             outs = outs;
             rises = D.rises;
             rests = h.0;
@@ -232,6 +233,7 @@ module _ {V : Type 0} where
     seat = (h.seat.0 ∙ kept.seat.0, h.seat.1 ∙ kept.seat.1);
     shares = h.shares ∙ kept.shares;
     receipts = h.receipts ∙ (λ i. kept.receipts i ++ (kept.seat.1 i, r) ∷ []);
+    joined = h.joined ∙ kept.joined;
     outs = h.outs ∙ kept.outs;
     rises = (let p = h.rises in let q = kept.rises in omega (arith, p, q));
     rests = h.rests;

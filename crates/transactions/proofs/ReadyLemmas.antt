@@ -182,6 +182,7 @@ module _ {V : Type 0} where
       seat = (ap (λ p. p.table_id) place ∙ h.seat.0, ap (λ p. p.id) place ∙ h.seat.1);
       shares = ap (λ p. p.me.0.shares) place ∙ h.shares;
       receipts = ap (λ p. p.me.0.receipts) place ∙ h.receipts;
+      joined = ap (λ p. p.me.0.joined) place ∙ h.joined;
       outs = ap (λ p. p.me.1) place ∙ h.outs;
       rises = (let e : (view u).clock ≡ (view s).clock = ap (λ p. p.me.0.clock) place in let q = h.rises in omega (arith, e, q));
       rests = noted_stands ∙ h.rests;
@@ -232,6 +233,7 @@ module _ {V : Type 0} where
         seat = (ap (λ p. p.table_id) place ∙ same.0, ap (λ p. p.id) place ∙ same.1);
         shares = ap (λ v. v.0.shares) are;
         receipts = ap (λ v. v.0.receipts) are;
+        joined = ap (λ v. v.0.joined) are;
         turns = ap (λ v. v.0.turns) are;
         outs = ap (λ v. v.1) are;
         rises = omega (arith, known, clock);

@@ -200,6 +200,7 @@ module _ {V : Type 0} where
     seat = (h.seat.0 ∙ g.seat.0, h.seat.1 ∙ g.seat.1, h.seat.2 ∙ g.seat.2);
     shares = h.shares ∙ g.shares;
     receipts = h.receipts ∙ g.receipts;
+    joined = h.joined ∙ g.joined;
     outs = h.outs ∙ g.outs;
     rises = (let p = g.rises in let q = h.rises in omega (arith, p, q));
     more = g.more ++ h.more;
@@ -212,6 +213,7 @@ module _ {V : Type 0} where
     seat = had.0;
     shares = ap (λ k. k.0.shares) had.1;
     receipts = ap (λ k. k.0.receipts) had.1;
+    joined = ap (λ k. k.0.joined) had.1;
     outs = ap (λ k. k.1) had.1;
     rises = (let e : (view m).clock ≡ (view s).clock = ap (λ k. k.0.clock) had.1 in omega (arith, e));
     more = [];
@@ -225,6 +227,7 @@ module _ {V : Type 0} where
     seat = D.seat;
     shares = D.shares;
     receipts = D.gains ∙ ((λ i. (view s).receipts ++ as_receipts (seated.actor s) (none i)) ∙ append-nil (view s).receipts);
+    joined = D.joined;
     outs = outs;
     rises = D.rises;
     more = D.more;

@@ -30,12 +30,13 @@ module _ {V : Type 0} where
   abbrev pub IsOpen : World V → Seat V → Type 0
   IsOpen o s = (calls : List (Call V × Reply V)) × (standing o s ≡ Stands calls)
 
-  -- The seat is the same one, with the same shares, and neither receipts nor bases were gained. It has taken these turns, and knows no
-  -- lower clock.
+  -- The seat is the same one, with the same shares, and neither receipts nor bases were gained, nor was a seat joined into it. It has taken
+  -- these turns, and knows no lower clock.
   pub record KeepsReceipts (s u : Seat V) : Type 0 where
     pub seat : IsSameSeat s u
     pub shares : (view u).shares ≡ (view s).shares
     pub receipts : (view u).receipts ≡ (view s).receipts
+    pub joined : (view u).joined ≡ (view s).joined
     pub outs : out u ≡ out s
     pub rises : (view s).clock ≤ (view u).clock
     pub more : List (Turn V)
@@ -46,6 +47,7 @@ module _ {V : Type 0} where
     pub seat : (u.place.table_id ≡ s.place.table_id) × (actor u ≡ actor s)
     pub shares : (view u).shares ≡ (view s).shares
     pub receipts : (view u).receipts ≡ (view s).receipts
+    pub joined : (view u).joined ≡ (view s).joined
     pub turns : (view u).turns ≡ (view s).turns
     pub outs : out u ≡ out s
     pub rises : (view s).clock ≤ (view u).clock
@@ -148,6 +150,7 @@ module _ {V : Type 0} where
     pub seat : (u.place.table_id ≡ s.place.table_id) × (actor u ≡ actor s)
     pub shares : (view u).shares ≡ (view s).shares
     pub receipts : (view u).receipts ≡ (view s).receipts ++ (actor s, r) ∷ []
+    pub joined : (view u).joined ≡ (view s).joined
     pub outs : out u ≡ out s
     pub rises : (view s).clock ≤ (view u).clock
     pub rests : standing o u ≡ Rests

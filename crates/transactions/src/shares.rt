@@ -3,7 +3,7 @@ ghost use Rattle.std.specs.Prelude.{◌≡◌, ◌≢◌, ◌<◌, ◌≤◌, If
 ghost use Rattle.seq_model.specs.Refusals.{IsNoSuchOrTooLong};
 ghost use Rattle.world_table.specs.Openings.{IsWithin, blocks_of, world_of};
 ghost use Rattle.tx_table.specs.Ends.{homes_of};
-ghost use Rattle.tx_table.specs.Seated.{blocks_in, contents_in, locations_in, opening_of, view, words_in};
+ghost use Rattle.tx_table.specs.Seated.{actor, blocks_in, contents_in, locations_in, opening_of, view, words_in};
 ghost use Rattle.tx_table.specs.Shown.{both_of, first as first_view, left_of, right_of};
 ghost use Rattle.transactions.specs.Closing.{IsLeftBy};
 ghost use Rattle.transactions.specs.Ready.{IsReady};
@@ -50,6 +50,7 @@ impl<V: Value> TxSeat<V> {
         requires some { 1 ≤ shares }
         requires fewer { shares < (view self.old.seat).shares }
         ensures ready { IsReady table.now self.new × IsReady table.now result }
+        ensures same { actor self.new.seat ≡ actor self.old.seat }
         ensures left { (view self.new.seat ≡ left_of shares (view self.old.seat)) × (self.new.seat.last ≡ self.old.seat.last) }
         ensures right { (view result.seat ≡ right_of shares (view self.old.seat)) × (result.seat.last ≡ 0) }
     {
@@ -63,7 +64,8 @@ impl<V: Value> TxSeat<V> {
         requires ready { IsReady table.now self.old }
         requires other { IsReady table.now other }
         ensures ready { IsReady table.now self.new }
-        ensures both { view self.new.seat ≡ both_of (view self.old.seat) (view other.seat) }
+        ensures same { actor self.new.seat ≡ actor self.old.seat }
+        ensures both { view self.new.seat ≡ both_of (view self.old.seat) (actor other.seat) (view other.seat) }
         ensures last { self.new.seat.last ≡ max self.old.seat.last other.seat.last }
     {
         table.join(&mut self.seat, other.into_seat());

@@ -61,7 +61,8 @@ impl<V: Value> TxActor<V> {
             Runs a self.new f.0 × (notice_of a result ≡ f.1) }
         ensures copies { IsAcceptedAt call.place call.outcome self.old.copies.items self.new.copies.items }
         ensures told { (self.new.stage ≡ Stage.Open) × (result ≡ told.Answered (Replied call.told)) }
-        ensures keeps { (v : BlocksView) → All (λ d. d.0 < end_of v.words v.blocks) call.writes.items → KeepsIn v (at self.old Stage.Idle) self.new }
+        ensures keeps { (v : BlocksView) → All (λ d. d.0 < end_of v.words v.blocks) call.writes.items →
+            KeepsIn v (at self.old Stage.Idle) self.new }
         ensures owed { owed self.new.words.place ≤ owed self.old.words.place }
     {
         let mut call = call;

@@ -60,7 +60,8 @@ impl<V: Drop> TxActor<V> {
         word: u32,
         value: u64,
     ) -> Result<Told<V>, Memory>
-        ensures ok { IfOk result (λ told. Asks blocks.now self.old self.new told (λ a w. ask_op w a (seat_of self.old) word (op.Write value))) }
+        ensures ok { IfOk result (λ told. Asks blocks.now self.old self.new told
+            (λ a w. ask_op w a (seat_of self.old) word (op.Write value))) }
         ensures err { OnErr result (Stands self.old self.new) }
         ensures admits { OnErr result (AdmitsCall blocks.now self.old (record { target = word; op = op.Write value })) }
         ensures keeps { is_loading (stage_of self.old.stage) ≡ false → KeepsIn blocks.now self.old self.new }

@@ -32,7 +32,8 @@ impl<V: Value> TxActor<V> {
 
     fn asks_op(&mut self, alloc: Global, blocks: &Blocks, call: Call<V>) -> Result<Told<V>, Memory>
         requires { CanCall blocks.now self.old }
-        ensures ok { IfOk result (λ told. AsksOwn blocks.now self.old self.new told (λ a w. ask_op w a (seat_of self.old) call.target call.op)) }
+        ensures ok { IfOk result (λ told. AsksOwn blocks.now self.old self.new told
+            (λ a w. ask_op w a (seat_of self.old) call.target call.op)) }
         ensures err { OnErr result (StandsOwn self.old self.new) }
         ensures admits { OnErr result (AdmitsCall blocks.now self.old call) }
         ensures keeps { HasNoReads self.old.words → KeepsIn blocks.now self.old self.new }

@@ -63,7 +63,8 @@ impl<V: Value> TxActor<V> {
         requires known { is_known (block_of blocks.now.blocks collection) op ≡ true }
         requires may { worlds.may_ask (actor_of self.old.words) op ≡ true }
         requires held { IsHeldAt self.old.copies.items place collection op }
-        ensures ok { IfOk result (λ told. AsksOwn blocks.now self.old self.new told (λ a w. calls_on w a (seat_of self.old) (call_on collection op))) }
+        ensures ok { IfOk result (λ told. AsksOwn blocks.now self.old self.new told
+            (λ a w. calls_on w a (seat_of self.old) (call_on collection op))) }
         ensures err { OnErr result (IsAlike self.old self.new) }
         ensures keeps { HasNoReads self.old.words → KeepsIn blocks.now self.old self.new }
         ensures still { ReadsStill self.old.copies.items self.new.copies.items }
@@ -90,7 +91,8 @@ impl<V: Value> TxActor<V> {
         requires there { collection < length blocks.now.blocks }
         requires known { is_known (block_of blocks.now.blocks collection) op ≡ true }
         requires may { worlds.may_ask (actor_of self.old.words) op ≡ true }
-        ensures ok { IfOk result (λ told. AsksOwn blocks.now self.old self.new told (λ a w. calls_on w a (seat_of self.old) (call_on collection op))) }
+        ensures ok { IfOk result (λ told. AsksOwn blocks.now self.old self.new told
+            (λ a w. calls_on w a (seat_of self.old) (call_on collection op))) }
         ensures err { OnErr result (IsAlike self.old self.new) }
         ensures keeps { HasNoReads self.old.words → KeepsIn blocks.now self.old self.new }
         ensures still { ReadsStill self.old.copies.items self.new.copies.items }
@@ -121,7 +123,8 @@ impl<V: Value> TxActor<V> {
         op: Op<V>,
     ) -> Result<Told<V>, Memory>
         requires { CanCall blocks.now self.old }
-        ensures ok { IfOk result (λ told. AsksOwn blocks.now self.old self.new told (λ a w. ask_call w a (seat_of self.old) collection op)) }
+        ensures ok { IfOk result (λ told. AsksOwn blocks.now self.old self.new told
+            (λ a w. ask_call w a (seat_of self.old) collection op)) }
         ensures err { OnErr result (IsAlike self.old self.new) }
         ensures allowed { OnErr result (is_allowed blocks.now self.old.words collection op ≡ true) }
         ensures few { OnErr result (length self.old.calls.items < CALL_LIMIT) }

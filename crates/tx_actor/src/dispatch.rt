@@ -303,7 +303,8 @@ impl<V: Drop> TxActor<V> {
 
     /// A call is given up while the gate of its collection is held.
     pub(crate) fn starves_copying(&mut self, collection: u32) -> Told<V>
-        ensures does { Reseats self.old self.new result (λ a w. gives_up w a (because (seat_of self.old) refusal.OutOfMemory) (collection ∷ [])) }
+        ensures does { Reseats self.old self.new result
+            (λ a w. gives_up w a (because (seat_of self.old) refusal.OutOfMemory) (collection ∷ [])) }
         ensures keeps { (v : BlocksView) → KeepsIn v (at self.old (Stage.ReturningOne collection)) self.new }
         ensures leaves { KeepsCopies (at self.old Stage.Idle) self.new }
     {

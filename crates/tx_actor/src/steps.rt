@@ -88,7 +88,8 @@ fn next_gate<V: Drop>(homes: VecDeque<u32>, got: usize) -> Stage<V>
 
 /// The stage of a transaction that is to end: its locks go back, where there are some, and then the clock is loaded.
 pub(crate) fn leaving_or_cancelling<V>(words: &Actor) -> Stage<V>
-    ensures stage { (s : worlds.Stage V) → stage_in s result ≡ (if is_leaving (actor_of words.now).place then worlds.Leaving else worlds.Cancelling) }
+    ensures stage { (s : worlds.Stage V) → stage_in s result ≡
+        (if is_leaving (actor_of words.now).place then worlds.Leaving else worlds.Cancelling) }
     ensures knows { (ks : List ℕ) → KnowsHomes result ks }
     ensures names { (n : ℕ) → NamesAmong n result }
     ensures room { (r : TxActor V) → HasRoom r result }

@@ -123,7 +123,12 @@ between l es n rising within below above = (within, (low, high))
         elim (cases_eq k (n - 1)) [
           | inl q ↦ omega (arith, below (omega (arith, lt)) c, ap (λ (i : ℕ). (get_or es i c).0) q)
           | inr ne ↦
-              omega (arith, below (omega (arith, lt)) c, rising_at es rising k (n - 1) c (omega (arith, lt, ne)) (omega (arith, lt, within)))
+              omega (
+                arith,
+                below (omega (arith, lt)) c,
+                rising_at es rising k (n - 1) c
+                    (omega (arith, lt, ne)) (omega (arith, lt, within)),
+              )
         ]
 
     high : (k : ℕ) (c : ℕ × ℕ) → n ≤ k → k < length es → l < (get_or es k c).0

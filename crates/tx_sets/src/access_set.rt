@@ -1,5 +1,6 @@
 //! The values that a transaction read or is to write, by location.
-ghost use Rattle.std.specs.Prelude.{◌≡◌, ◌↔◌, ◌+◌, ◌<◌, ◌≤◌, [], Err, IsOk, Ok, IsSome, OnErr, OnOk, count_by, insert, length, nat_lt, true};
+ghost use Rattle.std.specs.Prelude.{◌≡◌, ◌↔◌, ◌+◌, ◌<◌, ◌≤◌, [], Err, IsOk, Ok, IsSome, OnErr, OnOk, count_by, insert, length, nat_lt};
+ghost use Rattle.std.specs.Prelude.{true};
 ghost use Rattle.std.specs.Vec.{vec_capacity, vec_len};
 ghost use Rattle.tx_sets.specs.Entries.{IsRising, lookup, with_entry};
 ghost use Rattle.tx_sets.specs.AccessSet.{AreOrderly, IsBeyondLimit, IsPlaceOf, LacksRoom};

@@ -91,12 +91,12 @@ module _ {V : Type 0} where
   pub joins : (o : World V) (id other : ℕ) (v u : View V) → 0 < v.shares → 0 < u.shares
       → is_half_done (stage_of (lone other o u.turns) other) ≡ false
       → ((k : ℕ) → is_actor other ((lone other o u.turns).boosted.gates k) ≡ false)
-      → Joins (Rule o) id v other u (both_of v u) (spent_of u)
+      → Joins (Rule o) id v other u (both_of v other u) (spent_of u)
   joins o id other v u some_shares more done bare s rule here apart there₁ =
       let S = rule.shows in
       let w : World V = run o rule.events in
       let vs : List (View V) = s.views in
-      let x : View V = both_of v u in
+      let x : View V = both_of v other u in
       let y : View V = spent_of u in
       let mid : List (View V) = set vs id x in
       let new : List (View V) = set mid other y in

@@ -47,7 +47,7 @@ module _ {V : Type 0} where
 
   pub merges : (key : Opening V) (id other : ℕ) (v u : View V) → 0 < v.shares → 0 < u.shares
       → Rests other (lone other (world_at key) u.turns)
-      → Joins (Holds key) id v other u (both_of v u) (spent_of u)
+      → Joins (Holds key) id v other u (both_of v other u) (spent_of u)
   merges key id other v u live alive rests s h here apart there = record {
     stripes = h.stripes;
     suits = h.suits;

@@ -53,7 +53,7 @@ tally f i [] = 0
 tally f i (x ∷ xs) = f i x + tally f (suc i) xs
 
 abbrev pub first : {V : Type 0} → View V
-first = record { shares = SHARES; clock = 0; turns = []; receipts = [] }
+first = record { shares = SHARES; clock = 0; turns = []; receipts = []; joined = [] }
 
 abbrev pub owed_of : ℕ → Place → ℕ
 owed_of zero p = 0
@@ -62,11 +62,12 @@ owed_of (suc k) p = stamps_left p
 module _ {V : Type 0} where
   -- the seat, once its actor has taken this turn, has committed these, and knows this clock
   abbrev pub acting : View V → Turn V → List (ℕ × Record V) → ℕ → View V
-  acting v i rs k = record { shares = v.shares; clock = k; turns = v.turns ++ i ∷ []; receipts = v.receipts ++ rs }
+  acting v i rs k =
+      record { shares = v.shares; clock = k; turns = v.turns ++ i ∷ []; receipts = v.receipts ++ rs; joined = v.joined }
 
   -- the seat, once it knows this clock
   abbrev pub looking : View V → ℕ → View V
-  looking v k = record { shares = v.shares; clock = k; turns = v.turns; receipts = v.receipts }
+  looking v k = record { shares = v.shares; clock = k; turns = v.turns; receipts = v.receipts; joined = v.joined }
 
   -- what the seat of actor j may still add to the clock; one without shares steps no more
   abbrev pub owed : World V → ℕ → View V → ℕ
@@ -169,16 +170,23 @@ module _ {V : Type 0} where
       ⊎ ((found ≡ 1) × Told o id qs m.0.clock m found None t.0 × (t.1 ≡ m.1))
 
   abbrev pub left_of : ℕ → View V → View V
-  left_of k v = record { shares = v.shares - k; clock = v.clock; turns = v.turns; receipts = v.receipts }
+  left_of k v = record { shares = v.shares - k; clock = v.clock; turns = v.turns; receipts = v.receipts; joined = v.joined }
 
   abbrev pub right_of : ℕ → View V → View V
-  right_of k v = record { shares = k; clock = 0; turns = []; receipts = [] }
+  right_of k v = record { shares = k; clock = 0; turns = []; receipts = []; joined = [] }
 
-  abbrev pub both_of : View V → View V → View V
-  both_of v u = record { shares = v.shares + u.shares; clock = max v.clock u.clock; turns = v.turns; receipts = v.receipts ++ u.receipts }
+  -- v, with the seat of this actor joined into it, which had u
+  abbrev pub both_of : View V → ℕ → View V → View V
+  both_of v other u = record {
+    shares = v.shares + u.shares;
+    clock = max v.clock u.clock;
+    turns = v.turns;
+    receipts = v.receipts ++ u.receipts;
+    joined = v.joined ++ (other, u.turns) ∷ u.joined;
+  }
 
   abbrev pub spent_of : View V → View V
-  spent_of u = record { shares = 0; clock = 0; turns = u.turns; receipts = [] }
+  spent_of u = record { shares = 0; clock = 0; turns = u.turns; receipts = []; joined = [] }
 
   -- nothing is under way
   pub record IsOpening (o : World V) : Type 0 where

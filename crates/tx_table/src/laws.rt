@@ -112,7 +112,7 @@ pub fn shares<V>()
     ensures join { (o : World V) (id other : ℕ) (v u : View V) → 0 < v.shares → 0 < u.shares →
         is_half_done (stage_of (lone other o u.turns) other) ≡ false →
         ((k : ℕ) → is_actor other ((lone other o u.turns).boosted.gates k) ≡ false) →
-        Joins (Rule o) id v other u (both_of v u) (spent_of u) }
+        Joins (Rule o) id v other u (both_of v other u) (spent_of u) }
 {}
 
 /// What a table leaves whose seat has all shares: its receipts, in commit order, are a run of the sequential model from the opening,

@@ -43,7 +43,7 @@ fn merge<V: Value>(board: &Board<V>, seat: &mut Seat<V>, other: Seat<V>)
     requires bare { out other ≡ [] }
     ensures same { (seat.new.place.table_id ≡ seat.old.place.table_id) × (seat.new.place.id ≡ seat.old.place.id) }
     ensures asks { list_of seat.new.asked ≡ list_of seat.old.asked }
-    ensures both { seat.new.place.me ≡ (both_of (view seat.old) (view other), out seat.old) }
+    ensures both { seat.new.place.me ≡ (both_of (view seat.old) (actor other) (view other), out seat.old) }
     ensures last { seat.new.last ≡ max seat.old.last other.last }
 {
     let Seat {
@@ -82,7 +82,7 @@ impl<V: Value> TxTable<V> {
         requires bare { out other ≡ [] }
         ensures same { Owns self.now seat.new × (actor seat.new ≡ actor seat.old) }
         ensures acts { acts (opening_of self.now) seat.new ≡ acts (opening_of self.now) seat.old }
-        ensures both { seat.new.place.me ≡ (both_of (view seat.old) (view other), out seat.old) }
+        ensures both { seat.new.place.me ≡ (both_of (view seat.old) (actor other) (view other), out seat.old) }
         ensures last { seat.new.last ≡ max seat.old.last other.last }
     {
         merge(&self.whole.shared, seat, other);

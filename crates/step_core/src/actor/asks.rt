@@ -114,7 +114,8 @@ impl Actor {
 
     /// Why a read of a location is refused, if it is in neither set and the read set is full.
     fn read_refusal(&self, location: u32) -> Option<WordRefusal>
-        ensures { result ≡ if_new (lookup self.now.writes.entries location) (lookup self.now.reads.entries location) self.now.reads.entries }
+        ensures { result ≡ if_new (lookup self.now.writes.entries location) (lookup self.now.reads.entries location)
+            self.now.reads.entries }
     {
         match self.writes.find(location) {
             Some(_) => None,
@@ -180,7 +181,8 @@ impl Actor {
     /// A read: a set answers, or else the steps begin, with their room.
     fn ask_read(&mut self, location: u32) -> Result<Option<WordAnswer>, WordRefusal>
         requires allowed { IsAllowed self.old (AskRead location) }
-        requires limit { if_new (lookup self.old.writes.entries location) (lookup self.old.reads.entries location) self.old.reads.entries ≡ None }
+        requires limit { if_new (lookup self.old.writes.entries location) (lookup self.old.reads.entries location)
+            self.old.reads.entries ≡ None }
         ensures ok { OnOk result (actor_of self.new ≡ asked self.old (AskRead location)) }
         ensures answer { IfOk result (Replies self.old (AskRead location)) }
         ensures refused { IfErr result (λ refusal. refusal ≡ OutOfMemory) }

@@ -4,7 +4,7 @@ use Rattle.tx_table.specs.Shown.{both_of, spent_of}
 use Rattle.tx_table.proofs.shares.merge.Given as goal
 
 abbrev pub ghosts-join_seat : goal.ghosts-join_seat
-ghosts-join_seat g a = record { both = both_of; spent = spent_of a.other.me.0 }
+ghosts-join_seat g a = record { both = λ v u. both_of v a.other.id u; spent = spent_of a.other.me.0 }
 
 abbrev pub ghosts-load : goal.ghosts-load
 ghosts-load g a = record { then = λ st m found t. (t ≡ m) × (m.0.shares ≤ SHARES) }

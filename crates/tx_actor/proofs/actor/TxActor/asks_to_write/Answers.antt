@@ -38,7 +38,8 @@ returns-clause-ok g c =
     let call : Call g.row.V.Denot = record { target = l; op = Write val } in
     let seat = more_calls (seat_of r) r.calls.items c.reserve_call.new.calls.items c.push_reserved.new.self.items call Done
     c.in_ok-reserve_call.ensures.items c.push_reserved.ensures.items in
-    subst (λ (y : TxActor g.row.V.Denot). Asks v y u (told.Answered (answer.Replied Done)) (λ a w. ask_op w a (seat_of y) l (Write val))) as_was
+    subst (λ (y : TxActor g.row.V.Denot). Asks v y u (told.Answered (answer.Replied Done)) (λ a w. ask_op w a (seat_of y) l (Write val)))
+    as_was
     (writes_as v r u (told.Answered (answer.Replied Done)) l val known c.if-self.false few room
     (λ a w is. ((put-same w.seats a _ ∙ sym seat, is ∙ sym c.in_ok-write_word.ensures.actor, tt), refl)))
 

@@ -26,7 +26,8 @@ readies-requires g c =
     let first = c.first_of-first.result in
     let at_first : first ≡ first_of v.words v.blocks asked.collection =
     subst (λ (k : Asked g.row.V.Denot). first ≡ first_of v.words v.blocks k.collection) c.get.ensures c.first_of-first.ensures.first in
-    let e : c.get_mut.result.now.asked ≡ asked = ap (λ (z : running.Answered g.row.V.Denot). z.asked) c.get_mut.ensures.value ∙ c.answering-call.ensures in
+    let e : c.get_mut.result.now.asked ≡ asked =
+    ap (λ (z : running.Answered g.row.V.Denot). z.asked) c.get_mut.ensures.value ∙ c.answering-call.ensures in
     subst (λ (k : Asked g.row.V.Denot). MayPrepare c.args.self.now c.args.taken.place first k.op) (sym e)
     (may_ready v was.0 c.args.self.now was.1 asked c.args.taken.place first at_first
     (λ b there. c.first_of-first.ensures.within b
@@ -44,7 +45,8 @@ goes_on-requires g c =
     let at_first : first ≡ first_of v.words v.blocks asked.collection =
     subst (λ (k : Asked g.row.V.Denot). first ≡ first_of v.words v.blocks k.collection) c.get.ensures c.first_of-first.ensures.first in
     let x : Prepared g.row.V.Denot = record { call = c.readies.new.call; left = c.in-Ok-Some.left } in
-    let e : c.get_mut.result.now.asked ≡ asked = ap (λ (z : running.Answered g.row.V.Denot). z.asked) c.get_mut.ensures.value ∙ c.answering-call.ensures in
+    let e : c.get_mut.result.now.asked ≡ asked =
+    ap (λ (z : running.Answered g.row.V.Denot). z.asked) c.get_mut.ensures.value ∙ c.answering-call.ensures in
     let ready = taken_ready v was.0 m u was.1 asked place first x.call x.left at_first was.3.0 c.readies.ensures.alike
     (λ d there. subst (λ (k : Asked g.row.V.Denot). AreReadied m u place first k d x.call (Some x.left)) e
     (subst (λ (o : Option (VecDeque (ℕ × ℕ) Global)). AreReadied m u place first c.get_mut.result.now.asked d x.call o)
@@ -62,7 +64,8 @@ returns-in-Ok-Some-clause-ok g c r base can taken =
     let at_first : first ≡ first_of v.words v.blocks asked.collection =
     subst (λ (k : Asked g.row.V.Denot). first ≡ first_of v.words v.blocks k.collection) c.get.ensures c.first_of-first.ensures.first in
     let x : Prepared g.row.V.Denot = record { call = c.readies.new.call; left = c.in-Ok-Some.left } in
-    let e : c.get_mut.result.now.asked ≡ asked = ap (λ (z : running.Answered g.row.V.Denot). z.asked) c.get_mut.ensures.value ∙ c.answering-call.ensures in
+    let e : c.get_mut.result.now.asked ≡ asked =
+    ap (λ (z : running.Answered g.row.V.Denot). z.asked) c.get_mut.ensures.value ∙ c.answering-call.ensures in
     let ready = taken_ready v r m u base asked place first x.call x.left at_first taken.0 c.readies.ensures.alike
     (λ d there. subst (λ (k : Asked g.row.V.Denot). AreReadied m u place first k d x.call (Some x.left)) e
     (subst (λ (o : Option (VecDeque (ℕ × ℕ) Global)). AreReadied m u place first c.get_mut.result.now.asked d x.call o)
@@ -96,7 +99,8 @@ returns-in-Ok-Some-clause-keeps g c r base can taken noreads =
     let at_first : first ≡ first_of v.words v.blocks asked.collection =
     subst (λ (k : Asked g.row.V.Denot). first ≡ first_of v.words v.blocks k.collection) c.get.ensures c.first_of-first.ensures.first in
     let x : Prepared g.row.V.Denot = record { call = c.readies.new.call; left = c.in-Ok-Some.left } in
-    let e : c.get_mut.result.now.asked ≡ asked = ap (λ (z : running.Answered g.row.V.Denot). z.asked) c.get_mut.ensures.value ∙ c.answering-call.ensures in
+    let e : c.get_mut.result.now.asked ≡ asked =
+    ap (λ (z : running.Answered g.row.V.Denot). z.asked) c.get_mut.ensures.value ∙ c.answering-call.ensures in
     let ready = taken_ready v r m u base asked place first x.call x.left at_first taken.0 c.readies.ensures.alike
     (λ d there. subst (λ (k : Asked g.row.V.Denot). AreReadied m u place first k d x.call (Some x.left)) e
     (subst (λ (o : Option (VecDeque (ℕ × ℕ) Global)). AreReadied m u place first c.get_mut.result.now.asked d x.call o)

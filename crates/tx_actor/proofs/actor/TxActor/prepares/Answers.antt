@@ -13,7 +13,8 @@ use Rattle.tx_actor.proofs.actor.TxActor.prepares.Goals as goal
 
 pub readies-requires : goal.readies-requires
 readies-requires g c =
-    let e = ap (λ (d : running.Answered g.row.V.Denot). d.asked) c.get_mut.ensures.value ∙ (c.answering-call.ensures ∙ c.in_ok-asked.ensures) in
+    let e = ap (λ (d : running.Answered g.row.V.Denot). d.asked) c.get_mut.ensures.value
+    ∙ (c.answering-call.ensures ∙ c.in_ok-asked.ensures) in
     subst (λ (k : Asked g.row.V.Denot). MayPrepare c.args.self.now c.args.place c.args.first k.op) (sym e) c.requires
 
 pub returns-in_err-asked-clause-alike : goal.returns-in_err-asked-clause-alike
@@ -44,7 +45,8 @@ returns-in-None-clause-ok g c copy at =
     let r = c.args.self.now in
     let u = c.readies.new.self in
     let d = c.readies.new.call in
-    let e = ap (λ (z : running.Answered g.row.V.Denot). z.asked) c.get_mut.ensures.value ∙ (c.answering-call.ensures ∙ c.in_ok-asked.ensures) in
+    let e = ap (λ (z : running.Answered g.row.V.Denot). z.asked) c.get_mut.ensures.value
+    ∙ (c.answering-call.ensures ∙ c.in_ok-asked.ensures) in
     let none = subst
     (λ (o : Option (VecDeque (ℕ × ℕ) Global)). AreReadied r u c.args.place c.args.first c.get_mut.result.now.asked copy d o)
     c.in-None.is (c.in_ok-readied.ensures.ok copy at) in

@@ -67,7 +67,8 @@ returns-clause-ok g c copy at =
         asked = refl;
         left = left;
         writes = writes;
-        prepared = prepared_by r u c.args.place f c.args.call.now.asked.op copy o _ c.len.result c.readies_reply.ensures.alike c.requires room
+        prepared = prepared_by r u c.args.place f c.args.call.now.asked.op copy o _ c.len.result c.readies_reply.ensures.alike
+            c.requires room
             at answer fit writes weighed.1 refl named refl ready.1 many;
       },
     )

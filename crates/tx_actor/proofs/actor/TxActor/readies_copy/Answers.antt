@@ -11,7 +11,8 @@ use Rattle.tx_actor.proofs.actor.TxActor.readies_copy.Goals as goal
 
 pub readies-requires : goal.readies-requires
 readies-requires g c =
-    may_prepare c.args.self.now c.args.stripes c.args.first c.in_ok-place.place c.args.found c.args.call.now.asked c.take.new.copies c.requires
+    may_prepare c.args.self.now c.args.stripes c.args.first c.in_ok-place.place c.args.found c.args.call.now.asked c.take.new.copies
+    c.requires
     c.in_ok-place.ensures.ok
 
 pub take_back-requires : goal.take_back-requires
@@ -50,7 +51,8 @@ returns-in_default-clause-err g c =
     moved_back c.args.self.now c.readies.new.self c.args.stripes c.args.first c.in_ok-place.place c.args.found c.args.call.now.asked
     c.take.new.copies c.take_back.new.copies c.requires c.in_ok-place.ensures.ok c.readies.ensures.alike
     (subst
-    (λ (k : Asked g.row.V.Denot). TakesBack (length before) c.in_ok-place.place k.op c.readies.new.self.copies.items c.take_back.new.copies.items)
+    (λ (k : Asked g.row.V.Denot). TakesBack (length before) c.in_ok-place.place k.op c.readies.new.self.copies.items
+    c.take_back.new.copies.items)
     c.readies.ensures.asked
     (subst
     (λ n. TakesBack n c.in_ok-place.place c.readies.new.call.asked.op c.readies.new.self.copies.items c.take_back.new.copies.items) count
