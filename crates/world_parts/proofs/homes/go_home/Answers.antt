@@ -38,7 +38,7 @@ returns-clause-turns g c =
     (sym c.keep_log.ensures)
     (home_turns c.steps_as_worlds.ensures c.goes_on_as_worlds.ensures c.logs_as_worlds.ensures.log c.args.k c.args.table.now
     c.go_home.new.self r p c.went_home-told.new.self c.log_of-log.result.changes c.log_of-log.result.locations c.went_home-told.result
-        c.requires.due
+    c.requires.due
     c.requires.inside.1 (c.log_of-log.ensures.stands (recorded_home r.stage c.args.k c.requires.due))
     (ap (λ (z : TxActor _). z.stage) c.log_of-log.ensures.rest)
     c.log_of-log.ensures.changes c.log_of-log.ensures.locations c.go_home.ensures.homes c.went_home-told.ensures.does)

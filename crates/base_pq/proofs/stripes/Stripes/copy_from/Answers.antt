@@ -7,7 +7,7 @@ use Rattle.base_pq.proofs.stripes.Stripes.copy_from.Goals as goal
 pub copy_each-requires : goal.copy_each-requires
 copy_each-requires c =
     ap (λ r. r.stripes) c.self.view_is ∙ (c.requires ∙ (sym (ap (λ r. r.stripes) c.others.view_is)
-        ∙ ap length (sym c.as_slice.ensures.value)))
+    ∙ ap length (sym c.as_slice.ensures.value)))
 
 pub invariant_of-self : goal.invariant_of-self
 invariant_of-self c =
