@@ -18,9 +18,11 @@ use Rattle.workers.specs.declared.causes.LastAbort.TheVariants.{NotStarted}
 use Rattle.workers.specs.declared.report.Report.{Report}
 use Rattle.workers.specs.Reports.{IsReportOf, Reports, numbered}
 use Rattle.workers.specs.Tasks as worked
-use Rattle.workers.specs.Tasks.{AreNotStarted, AreTried, Outcome, missed_in, receipts_in}
+use Rattle.workers.specs.Tasks.{AreNotStarted, AreTried, Outcome, Took, missed_in, receipts_in}
 use Rattle.workers.specs.Tries.{HasReceipt}
+use Rattle.tx_table.specs.Seated.{actor, view}
 use Rattle.tx_table.specs.declared.table.TxTable.{TxTable}
+use Rattle.tx_table.specs.declared.view.Turn.{Turn}
 use Rattle.transactions.specs.declared.seats.TxSeat.{TxSeat}
 use Rattle.serving.proofs.AuditLemmas.{ReadsAsTold}
 use Rattle.serving.specs.Serving.{AreAllOutcomes, AreAllowed, AreOwnOutcomes, AreReportedAs, all_dealt, all_missed, asks_of, dealt}
@@ -53,27 +55,30 @@ module _ (t : TxTable Entry) (tries : ℕ) where
   of_left (a ∷ actions) (o ∷ os) h =
       (subst (λ (q : Outcome Entry). IfOk q (λ r. IsWholeJob (asks_of a) r.calls)) (sym h.0) tt, of_left actions os h.1)
 
-  of_outcomes : (worker : ℕ) (actions : List Action) (os : List (Outcome Entry)) → worked.AreOutcomes asks_of t tries worker actions os
-      → AreOwnOutcomes actions os
-  of_outcomes worker actions os (inl (s, u, ready, tried)) = of_tried actions os s u tried
-  of_outcomes worker actions os (inr (later, left)) = of_left actions os left
+  of_outcomes : (worker : ℕ) (actions : List Action) (before : List (Turn Entry)) (os : List (Outcome Entry)) (took : Took)
+      → worked.AreOutcomes asks_of t tries worker actions before os took → AreOwnOutcomes actions os
+  of_outcomes worker actions before os took (inl (a, after, by, own)) = of_tried actions os by.first by.last by.tried
+  of_outcomes worker actions before os took (inr (later, left, unused)) = of_left actions os left
 
-  outcomes_from : (first : ℕ) (lists : List (List Action)) (receipts : List (List (Record Entry))) (missed : List (ℕ × ℕ × LastAbort))
-      → Reports asks_of t tries (numbered first lists) receipts missed → HasOutcomes first lists receipts missed
-  outcomes_from first [] receipts missed h = record { outcomes = []; each = tt; receipts_are = h.0; missed_are = h.1 }
-  outcomes_from first (actions ∷ lists) receipts missed (os, others, later, are, receipts_are, missed_are, rest) =
-      let h = outcomes_from (first + 1) lists others later rest in
+  outcomes_from : (first : ℕ) (before : List (Turn Entry)) (lists : List (List Action)) (receipts : List (List (Record Entry)))
+      (missed : List (ℕ × ℕ × LastAbort)) (took : Took)
+      → Reports asks_of t tries before (numbered first lists) receipts missed took → HasOutcomes first lists receipts missed
+  outcomes_from first before [] receipts missed took h = record { outcomes = []; each = tt; receipts_are = h.0; missed_are = h.1 }
+  outcomes_from first before (actions ∷ lists) receipts missed took
+      (os, others, later, own, behind, are, receipts_are, missed_are, took_are, rest) =
+      let h = outcomes_from (first + 1) [] lists others later behind rest in
       record {
         outcomes = os ∷ h.outcomes;
-        each = (of_outcomes first actions os are, h.each);
+        each = (of_outcomes first actions before os own are, h.each);
         receipts_are = receipts_are ∙ ap (λ (rs : List (List (Record Entry))). receipts_in os ∷ rs) h.receipts_are;
         missed_are = missed_are ∙ ap (λ (ms : List (ℕ × ℕ × LastAbort)). missed_in first 0 os ++ ms) h.missed_are;
       }
 
-  pub outcomes_in : (lists : List (List Action)) (report : Report Entry) → IsReportOf asks_of t tries lists report
-      → (outcomes : List (List (Outcome Entry))) × AreReportedAs lists report outcomes
-  outcomes_in lists report h =
-      let o = outcomes_from 1 lists report.receipts report.missed h in (
+  pub outcomes_in : (s u : TxSeat Entry) (lists : List (List Action)) (report : Report Entry)
+      → IsReportOf asks_of t tries s u lists report → (outcomes : List (List (Outcome Entry))) × AreReportedAs lists report outcomes
+  outcomes_in s u lists report h =
+      let o = outcomes_from 1 (view s.seat).turns lists report.receipts report.missed
+      ((actor u.seat, (view u.seat).turns) ∷ h.others) h.each in (
         o.outcomes,
         record { each = o.each; receipts = o.receipts_are; missed = o.missed_are },
       )
@@ -98,28 +103,31 @@ module _ (t : TxTable Entry) (tries : ℕ) where
   none_made (a ∷ actions) (Ok r ∷ os) h = absurd (let e : Ok r ≡ Err NotStarted = h.0 in cc)
   none_made (a ∷ actions) (Err cause ∷ os) h = none_made actions os h.1
 
-  of_worker : (worker : ℕ) (actions : List Action) (os : List (Outcome Entry)) → worked.AreOutcomes asks_of t tries worker actions os
-      → All ReadsAsTold (receipts_in os)
-  of_worker worker actions os (inl (s, u, ready, tried)) = of_tries actions os s u tried
-  of_worker worker actions os (inr (later, left)) =
+  of_worker : (worker : ℕ) (actions : List Action) (before : List (Turn Entry)) (os : List (Outcome Entry)) (took : Took)
+      → worked.AreOutcomes asks_of t tries worker actions before os took → All ReadsAsTold (receipts_in os)
+  of_worker worker actions before os took (inl (a, after, by, own)) = of_tries actions os by.first by.last by.tried
+  of_worker worker actions before os took (inr (later, left, unused)) =
       subst (λ (rs : List (Record Entry)). All ReadsAsTold rs) (sym (none_made actions os left)) (All-nil ReadsAsTold)
 
-  of_all : (first : ℕ) (lists : List (List Action)) (receipts : List (List (Record Entry))) (missed : List (ℕ × ℕ × LastAbort))
-      → Reports asks_of t tries (numbered first lists) receipts missed
+  of_all : (first : ℕ) (before : List (Turn Entry)) (lists : List (List Action)) (receipts : List (List (Record Entry)))
+      (missed : List (ℕ × ℕ × LastAbort)) (took : Took)
+      → Reports asks_of t tries before (numbered first lists) receipts missed took
       → All ReadsAsTold (flat_map (λ (rs : List (Record Entry)). rs) receipts)
-  of_all first [] receipts missed h =
+  of_all first before [] receipts missed took h =
       subst (λ (rs : List (List (Record Entry))). All ReadsAsTold (flat_map (λ (qs : List (Record Entry)). qs) rs)) (sym h.0)
       (All-nil ReadsAsTold)
-  of_all first (actions ∷ lists) receipts missed (os, others, later, are, receipts_are, missed_are, rest) =
+  of_all first before (actions ∷ lists) receipts missed took
+      (os, others, later, mine, behind, are, receipts_are, missed_are, took_are, rest) =
       let own : List (Record Entry) → List (Record Entry) = λ rs. rs in
       subst (λ (rs : List (List (Record Entry))). All ReadsAsTold (flat_map own rs)) (sym receipts_are)
       (subst (λ (rs : List (Record Entry)). All ReadsAsTold rs) (sym (flat_map-cons own (receipts_in os) others))
-      (All-append ReadsAsTold (receipts_in os) (flat_map own others) (of_worker first actions os are)
-      (of_all (first + 1) lists others later rest)))
+      (All-append ReadsAsTold (receipts_in os) (flat_map own others) (of_worker first actions before os mine are)
+      (of_all (first + 1) [] lists others later behind rest)))
 
-  pub read_as_told : (lists : List (List Action)) (report : Report Entry) → IsReportOf asks_of t tries lists report
-      → All ReadsAsTold (flat_map (λ (rs : List (Record Entry)). rs) report.receipts)
-  read_as_told lists report h = of_all 1 lists report.receipts report.missed h
+  pub read_as_told : (s u : TxSeat Entry) (lists : List (List Action)) (report : Report Entry)
+      → IsReportOf asks_of t tries s u lists report → All ReadsAsTold (flat_map (λ (rs : List (Record Entry)). rs) report.receipts)
+  read_as_told s u lists report h =
+      of_all 1 (view s.seat).turns lists report.receipts report.missed ((actor u.seat, (view u.seat).turns) ∷ h.others) h.each
 
 -- ---- their receipts, with the actions
 receipts_dealt : (actions : List Action) (os : List (Outcome Entry)) → AreOwnOutcomes actions os

@@ -72,12 +72,12 @@ own_each (x ∷ xs) all =
 
 -- what the seat leaves is a run of the actions that are reported with a receipt
 pub run_of : (tables : Holdings) (lists : List (List Action)) (report : Report Entry) (receipts : List (ℕ × Record Entry))
-    (s : Contents Entry) (t : TxTable Entry) (tries : ℕ) (reported : IsReportOf asks_of t tries lists report)
+    (s : Contents Entry) (t : TxTable Entry) (tries : ℕ) (m u : TxSeat Entry) (reported : IsReportOf asks_of t tries m u lists report)
     → IsBalanced tables → AreAllowed lists → map (λ e. e.1) receipts ≡ flat_map (λ (rs : List (Record Entry)). rs) report.receipts
     → IsWhatRemains (state_of tables) receipts s
-    → AreRun tables (all_dealt lists (outcomes_in t tries lists report reported).0) s
-run_of tables lists report receipts s t tries reported balanced allowed gained left =
-    let o = outcomes_in t tries lists report reported in
+    → AreRun tables (all_dealt lists (outcomes_in t tries m u lists report reported).0) s
+run_of tables lists report receipts s t tries m u reported balanced allowed gained left =
+    let o = outcomes_in t tries m u lists report reported in
     let each : AreReportedAs lists report o.0 = o.1 in
     let all : All IsOwn (all_dealt lists o.0) = all_whole lists o.0 allowed each.each in
     let p : ArePaired receipts (all_dealt lists o.0) =
@@ -97,38 +97,38 @@ run_of tables lists report receipts s t tries reported balanced allowed gained l
 
 -- so an audit finds them to be one
 audited_so : (tables : Holdings) (lists : List (List Action)) (report : Report Entry) (outcomes : List (List (Outcome Entry)))
-    (t : TxTable Entry) (tries : ℕ) (s : Contents Entry) → AreReportedAs lists report outcomes → IsReportOf asks_of t tries lists report
-    → AreRun tables (all_dealt lists outcomes) s
+    (t : TxTable Entry) (tries : ℕ) (m u : TxSeat Entry) (s : Contents Entry) → AreReportedAs lists report outcomes
+    → IsReportOf asks_of t tries m u lists report → AreRun tables (all_dealt lists outcomes) s
     → IsRunBetween (state_of tables) (flat_map (λ (rs : List (Record Entry)). rs) report.receipts) s
-audited_so tables lists report outcomes t tries s told reported run =
+audited_so tables lists report outcomes t tries m u s told reported run =
     let own : List (Record Entry) → List (Record Entry) = λ rs. rs in
     let records : List (Record Entry) = flat_map own report.receipts in
     let are : map (λ (d : Action × Record Entry). d.1) (map (λ x. (x.0, x.1.1)) run.own) ≡ records =
     ap (map (λ (d : Action × Record Entry). d.1)) run.same ∙ all_receipts lists outcomes told.each
     ∙ sym (ap (flat_map own) told.receipts) in
     subst (λ (c : Contents Entry). IsRunBetween (state_of tables) records c) (sym run.left)
-    (audited_in_order tables run.own run.order records run.served are (read_as_told t tries lists report reported))
+    (audited_in_order tables run.own run.order records run.served are (read_as_told t tries m u lists report reported))
 
 -- and so are the receipts of a table that opened on the tables
 pub served_so : (tables : Holdings) (stripes : ℕ) (lists jobs : List (List Action)) (t : TxTable Entry) (tries : ℕ) (s u : TxSeat Entry)
     (r : Result (Report Entry) Memory) (report : Report Entry) (state : Contents Entry)
     → IsBalanced tables → AreAllowed lists → jobs ≡ lists → OpensOnTables tables stripes t s
-    → IfOk r (IsReportOf asks_of t tries jobs) → IfOk r (HasRun s u) → r ≡ Ok report → IsWhatRemains (contents_in t) (view u.seat).receipts state
+    → IfOk r (IsReportOf asks_of t tries s u jobs) → IfOk r (HasRun s u) → r ≡ Ok report → IsWhatRemains (contents_in t) (view u.seat).receipts state
     → (outcomes : List (List (Outcome Entry))) × AreReportedAs lists report outcomes × AreRun tables (all_dealt lists outcomes) state
-    × IsReportOf asks_of t tries lists report
+    × IsReportOf asks_of t tries s u lists report
     × IsRunBetween (state_of tables) (flat_map (λ (rs : List (Record Entry)). rs) report.receipts) state
 served_so tables stripes lists jobs t tries s u r report state balanced allowed same opened reports runs is left =
-    let reported : IsReportOf asks_of t tries lists report =
-    subst (λ (js : List (List Action)). IsReportOf asks_of t tries js report) same
-    (subst (λ (q : Result (Report Entry) Memory). IfOk q (IsReportOf asks_of t tries jobs)) is reports) in
+    let reported : IsReportOf asks_of t tries s u lists report =
+    subst (λ (js : List (List Action)). IsReportOf asks_of t tries s u js report) same
+    (subst (λ (q : Result (Report Entry) Memory). IfOk q (IsReportOf asks_of t tries s u jobs)) is reports) in
     let run : HasRun s u report = subst (λ (q : Result (Report Entry) Memory). IfOk q (HasRun s u)) is runs in
-    let o = outcomes_in t tries lists report reported in
-    let ran = run_of tables lists report (view u.seat).receipts state t tries reported balanced allowed
+    let o = outcomes_in t tries s u lists report reported in
+    let ran = run_of tables lists report (view u.seat).receipts state t tries s u reported balanced allowed
     (subst
     (λ (v : View Entry). records_of u ≡ map (λ e. e.1) v.receipts ++ flat_map (λ (rs : List (Record Entry)). rs) report.receipts)
     opened.seat_is run.records)
     (subst (λ (c : Contents Entry). IsWhatRemains c (view u.seat).receipts state) opened.contents left) in
-    (o.0, o.1, ran, reported, audited_so tables lists report o.0 t tries state o.1 reported ran)
+    (o.0, o.1, ran, reported, audited_so tables lists report o.0 t tries s u state o.1 reported ran)
 
 -- a state by its parts
 pub same_state : (s : Contents Entry) (words : List ℕ) (held : List (Held Entry)) → s.words ≡ words → s.held ≡ held

@@ -85,7 +85,8 @@ pub record AreRun (tables : Holdings) (receipts : List (Action × Record Entry))
   pub left : s ≡ after_run order (state_of tables)
 
 -- Each action of each list has one receipt, or stands among the missed with what so many attempts of it came to, on a table that opened on
--- these tables, with clock 0 and so many stripes for each of the five maps and three queues. The receipts are a run of their actions in
+-- these tables, with clock 0 and so many stripes for each of the five maps and three queues; they are what its actors took from the first
+-- turn on. The receipts are a run of their actions in
 -- commit order, and for an audit, which is given them one worker's after another's; and the tables are what they leave, balanced.
 pub record IsServed (tables : Holdings) (stripes : ℕ) (lists : List (List Action)) (tries : ℕ) (served : Served) : Type 0 where
   pub outcomes : List (List (Outcome Entry))
@@ -93,7 +94,10 @@ pub record IsServed (tables : Holdings) (stripes : ℕ) (lists : List (List Acti
   pub table : TxTable Entry
   pub opened : opening_of table ≡ world_of (eight stripes) 0 (state_of tables)
   pub contents : contents_in table ≡ state_of tables
-  pub tried : IsReportOf asks_of table tries lists served.report
+  pub seat : TxSeat Entry
+  pub seat_is : view seat.seat ≡ first
+  pub last : TxSeat Entry
+  pub tried : IsReportOf asks_of table tries seat last lists served.report
   pub run : AreRun tables (all_dealt lists outcomes) served.state
   pub audited : IsRunBetween (state_of tables) (flat_map (λ receipts. receipts) served.report.receipts) served.state
   pub left : served.state ≡ state_of served.tables

@@ -3,26 +3,32 @@
 -- the left half and for those of the right one, one after the other, are a report for all of them. So what is gathered from a tree from
 -- left to right is the report of its lists, and for that there is room: there is one list of receipts for each list, and no more missed
 -- jobs than jobs.
-use Rattle.std.proofs.Common.{◌≡◌, ℕ, suc, ◌+◌, ◌<◌, ◌≤◌, List, [], ◌∷◌, ◌++◌, length, refl, sym, ap, ap₂, ◌∙◌, arith}
-use Rattle.std.specs.Prelude.{flat_map, get_or, sum_by, take}
+use Rattle.std.proofs.Common.{◌≡◌, ℕ, suc, ◌+◌, ◌<◌, ◌≤◌, List, [], ◌∷◌, ◌++◌, length, inl, inr, refl, sym, ap, ap₂, ◌∙◌, arith, subst}
+use Rattle.std.proofs.Common.{⊎_elim}
+use Rattle.std.specs.Prelude.{All, flat_map, get_or, sum_by, take}
 use Rattle.std.specs.declared.alloc.Global.{Global}
 use Rattle.std.specs.declared.vec.Vec.{Vec}
 use Rattle.std.proofs.lemmas.Grind.{flat_map-append}
 use Rattle.std.proofs.lemmas.List.{append-nil, append_assoc, length-append, length-map, map-append}
+use Rattle.std.proofs.lemmas.List.Elements.{All-cons, All-nil}
 use Rattle.std.proofs.lemmas.List.Sums.{sum_by-append, sum_by_more}
 use Rattle.std.proofs.Math.Seq.{take-length}
 use Rattle.seq_model.specs.declared.call.Reply.{Reply}
 use Rattle.seq_model.specs.declared.record.Record.{Record}
 use Rattle.tx_engine.specs.declared.job.Ask.{Ask}
+use Rattle.tx_table.specs.Seated.{actor, view}
 use Rattle.tx_table.specs.declared.table.TxTable.{TxTable}
+use Rattle.tx_table.specs.declared.view.Turn.{Turn}
+use Rattle.transactions.specs.Requests.{KeepsReceipts}
+use Rattle.transactions.specs.declared.seats.TxSeat.{TxSeat}
 use Rattle.workers.specs.declared.causes.LastAbort.{LastAbort}
 use Rattle.workers.specs.declared.report.Report.{Report}
 use Rattle.workers.specs.declared.tree.Tree.{Tree, Taken, Leaf, Both'}
 use Rattle.workers.specs.Reports.{AreTaken, IsReportOf, IsTreeOf, Reports, jobs_in, jobs_of, numbered}
 use Rattle.workers.specs.declared.tasks.Task.{Task}
-use Rattle.workers.specs.Tasks.{AreOutcomes, IsSameTask}
-use Rattle.workers.specs.Trees.{AreDone, AreLeft, gained, lists_of, missed_of, works}
-use Rattle.workers.proofs.TaskLemmas.{few_reported, left_done, many_outcomes}
+use Rattle.workers.specs.Tasks.{AreNotStarted, AreTriedBy, GetsJoined, IsSameTask, Took}
+use Rattle.workers.specs.Trees.{AreDone, AreLeft, Ran, gained, lists_of, missed_of, works}
+use Rattle.workers.proofs.TaskLemmas.{few_reported, keeps_joined, longer, many_by, many_left, then_joined}
 
 module _ {J : Type 0} where
   -- ---- the jobs are counted
@@ -108,68 +114,131 @@ module _ {V J : Type 0} where
   flat_gained (Both' p l q r) =
       flat_map-append (λ (rs : List (Record V)). rs) (lists_of l) (lists_of r) ∙ ap₂ ◌++◌ (flat_gained l) (flat_gained r)
 
-module _ {V J : Type 0} (asks : J → List (Reply V) → Ask V → Type 0) (t : TxTable V) (tries : ℕ) where
-  -- ---- a tree and its report
-  pub left_is_done : (tree : Tree V J) → AreLeft tree → AreDone asks t tries tree
-  left_is_done Taken h = tt
-  left_is_done (Leaf task) h = left_done asks t tries task h.0 h.1
-  left_is_done (Both' p l q r) h = (left_is_done l h.0, left_is_done r h.1)
-
-  reports_after : (ws vs : List (ℕ × List J)) (rs ps : List (List (Record V))) (ms ns : List (ℕ × ℕ × LastAbort))
-      → Reports asks t tries ws rs ms → Reports asks t tries vs ps ns → Reports asks t tries (ws ++ vs) (rs ++ ps) (ms ++ ns)
-  reports_after [] vs rs ps ms ns g h = rw (g.0, g.1) h
-  reports_after (w ∷ ws) vs rs ps ms ns (outcomes, others, later, each, receipts, missed, rest) h = (
-    outcomes,
-    others ++ ps,
-    later ++ ns,
-    each,
-    ap (λ (xs : List (List (Record V))). xs ++ ps) receipts,
-    ap (λ (xs : List (ℕ × ℕ × LastAbort)). xs ++ ns) missed ∙ append_assoc _ later ns,
-    reports_after ws vs others ps later ns rest h,
-  )
-
-  reports_of : (tree : Tree V J) → AreDone asks t tries tree → Reports asks t tries (works tree) (lists_of tree) (missed_of tree)
-  reports_of Taken h = (refl, refl)
-  reports_of (Leaf task) h = (
-    h.outcomes,
-    [],
-    [],
-    h.each,
-    ap (λ (rs : List (Record V)). rs ∷ []) h.receipts_are,
-    h.missed_are ∙ sym (append-nil _),
-    (refl, refl),
-  )
-  reports_of (Both' p l q r) h =
-      reports_after (works l) (works r) (lists_of l) (lists_of r) (missed_of l) (missed_of r) (reports_of l h.0) (reports_of r h.1)
-
-  few_missed_of : (tree : Tree V J) → AreDone asks t tries tree → length (missed_of tree) ≤ sum_by (λ w. length w.1) (works tree)
-  few_missed_of Taken h = omega arith
-  few_missed_of (Leaf task) h =
-      let few = few_reported (AreOutcomes asks t tries task.worker task.jobs.items) task.worker (length task.jobs.items) task.receipts.items
-      task.missed.items (many_outcomes asks t tries task.worker task.jobs.items) h in
+module _ {V J : Type 0} where
+  -- ---- lists for which no thread was started
+  few_left : (tree : Tree V J) → AreLeft tree → length (missed_of tree) ≤ sum_by (λ w. length w.1) (works tree)
+  few_left Taken h = absurd h
+  few_left (Leaf task) h =
+      let few = few_reported (AreNotStarted task.jobs.items) task.worker (length task.jobs.items) task.receipts.items task.missed.items
+      (many_left task.jobs.items) h.1 in
       let m = few.1 in
       omega arith
-  few_missed_of (Both' p l q r) h =
-      let a = few_missed_of l h.0 in
-      let b = few_missed_of r h.1 in
+  few_left (Both' p l q r) h =
+      let a = few_left l h.0 in
+      let b = few_left r h.1 in
       omega (arith, length-append (missed_of l) (missed_of r), sum_by-append (λ (w : ℕ × List J). length w.1) (works l) (works r))
 
-  module _ (lists : List (Vec J Global)) (before u : Tree V J) (of : IsTreeOf lists before) (same : works u ≡ works before)
-      (done : AreDone asks t tries u) where
-    pub lists_fit : length (lists_of u) ≡ length lists
+module _ {V J : Type 0} (asks : J → List (Reply V) → Ask V → Type 0) (t : TxTable V) (tries : ℕ) where
+  -- ---- a tree and its report, with that of the lists behind it
+  reports_left : (tree : Tree V J) (took : Took) (ws : List (ℕ × List J)) (rs : List (List (Record V))) (ms : List (ℕ × ℕ × LastAbort))
+      (rest : Took) → AreLeft tree → All (λ e. e.1 ≡ []) took → Reports asks t tries [] ws rs ms rest
+      → Reports asks t tries [] (works tree ++ ws) (lists_of tree ++ rs) (missed_of tree ++ ms) (took ++ rest)
+  reports_left Taken took ws rs ms rest h unused g = absurd h
+  reports_left (Leaf task) took ws rs ms rest h unused g = (
+    h.1.outcomes,
+    rs,
+    ms,
+    took,
+    rest,
+    inr (h.0, h.1.each, unused),
+    ap (λ (xs : List (Record V)). xs ∷ rs) h.1.receipts_are,
+    ap (λ (xs : List (ℕ × ℕ × LastAbort)). xs ++ ms) h.1.missed_are,
+    refl,
+    g,
+  )
+  reports_left (Both' p l q r) took ws rs ms rest h unused g =
+      let second = reports_left r [] ws rs ms rest h.1 (All-nil (λ (e : ℕ × List (Turn V)). e.1 ≡ [])) g in
+      let both = reports_left l took (works r ++ ws) (lists_of r ++ rs) (missed_of r ++ ms) rest h.0 unused second in
+      rw (append_assoc (works l) (works r) ws, append_assoc (lists_of l) (lists_of r) rs, append_assoc (missed_of l) (missed_of r) ms) both
+
+  reports_done : (tree : Tree V J) (a : ℕ) (before after : List (Turn V)) (others : Took) (ws : List (ℕ × List J))
+      (rs : List (List (Record V))) (ms : List (ℕ × ℕ × LastAbort)) (rest : Took) → AreDone asks t tries tree a before after others
+      → Reports asks t tries [] ws rs ms rest
+      → Reports asks t tries before (works tree ++ ws) (lists_of tree ++ rs) (missed_of tree ++ ms) ((a, after) ∷ (others ++ rest))
+  reports_done Taken a before after others ws rs ms rest h g = absurd h
+  reports_done (Leaf task) a before after others ws rs ms rest (h, none) g = (
+    h.outcomes,
+    rs,
+    ms,
+    (a, after) ∷ [],
+    rest,
+    inl (a, after, h.each, refl),
+    ap (λ (xs : List (Record V)). xs ∷ rs) h.receipts_are,
+    ap (λ (xs : List (ℕ × ℕ × LastAbort)). xs ++ ms) h.missed_are,
+    ap (λ (xs : Took). (a, after) ∷ (xs ++ rest)) none,
+    g,
+  )
+  reports_done (Both' p l q r) a before after others ws rs ms rest (of_first, of_second, b, turns, first, inl second, all) g =
+      let behind = reports_done r b [] turns of_second ws rs ms rest second g in
+      let both = reports_done l a before after of_first (works r ++ ws) (lists_of r ++ rs) (missed_of r ++ ms)
+      ((b, turns) ∷ (of_second ++ rest)) first behind in
+      rw (all, append_assoc (works l) (works r) ws, append_assoc (lists_of l) (lists_of r) rs, append_assoc (missed_of l) (missed_of r) ms,
+      append_assoc of_first ((b, turns) ∷ of_second) rest) both
+  reports_done (Both' p l q r) a before after others ws rs ms rest (of_first, of_second, b, turns, first, inr (left, none, no), all) g =
+      let unused : All (λ e. e.1 ≡ []) ((b, turns) ∷ of_second) = subst (λ (xs : Took). All (λ e. e.1 ≡ []) ((b, turns) ∷ xs)) (sym no)
+      (All-cons (λ (e : ℕ × List (Turn V)). e.1 ≡ []) (b, turns) [] none (All-nil (λ (e : ℕ × List (Turn V)). e.1 ≡ []))) in
+      let behind = reports_left r ((b, turns) ∷ of_second) ws rs ms rest left unused g in
+      let both = reports_done l a before after of_first (works r ++ ws) (lists_of r ++ rs) (missed_of r ++ ms)
+      ((b, turns) ∷ (of_second ++ rest)) first behind in
+      rw (all, append_assoc (works l) (works r) ws, append_assoc (lists_of l) (lists_of r) rs, append_assoc (missed_of l) (missed_of r) ms,
+      append_assoc of_first ((b, turns) ∷ of_second) rest) both
+
+  reports_of : (tree : Tree V J) (a : ℕ) (before after : List (Turn V)) (others : Took) → AreDone asks t tries tree a before after others
+      → Reports asks t tries before (works tree) (lists_of tree) (missed_of tree) ((a, after) ∷ others)
+  reports_of tree a before after others h =
+      subst (λ (k : List (ℕ × List J) × List (List (Record V)) × List (ℕ × ℕ × LastAbort) × Took).
+      Reports asks t tries before k.0 k.1 k.2 ((a, after) ∷ k.3))
+      (λ i. (append-nil (works tree) i, append-nil (lists_of tree) i, append-nil (missed_of tree) i, append-nil others i))
+      (reports_done tree a before after others [] [] [] [] h (refl, refl, refl))
+
+  few_missed_of : (tree : Tree V J) (a : ℕ) (before after : List (Turn V)) (others : Took) → AreDone asks t tries tree a before after others
+      → length (missed_of tree) ≤ sum_by (λ w. length w.1) (works tree)
+  few_missed_of Taken a before after others h = absurd h
+  few_missed_of (Leaf task) a before after others h =
+      let few = few_reported (AreTriedBy asks t tries a before after task.jobs.items) task.worker (length task.jobs.items)
+      task.receipts.items task.missed.items (many_by asks t tries a before after task.jobs.items) h.0 in
+      let m = few.1 in
+      omega arith
+  few_missed_of (Both' p l q r) a before after others (of_first, of_second, b, turns, first, second, all) =
+      let m = few_missed_of l a before after of_first first in
+      let n : length (missed_of r) ≤ sum_by (λ w. length w.1) (works r) =
+      ⊎_elim (few_missed_of r b [] turns of_second) (λ (k : AreLeft r × (turns ≡ []) × (of_second ≡ [])). few_left r k.0) second in
+      omega (arith, length-append (missed_of l) (missed_of r), sum_by-append (λ (w : ℕ × List J). length w.1) (works l) (works r))
+
+  -- the actor of the first list went on
+  goes_on : (tree : Tree V J) (a : ℕ) (before after more : List (Turn V)) (others : Took) → AreDone asks t tries tree a before after others
+      → AreDone asks t tries tree a before (after ++ more) others
+  goes_on Taken a before after more others h = absurd h
+  goes_on (Leaf task) a before after more others (h, none) = (longer asks t tries a before after more task h, none)
+  goes_on (Both' p l q r) a before after more others (of_first, of_second, b, turns, first, second, all) =
+      (of_first, of_second, b, turns, goes_on l a before after more of_first first, second, all)
+
+  module _ (lists : List (Vec J Global)) (start tree : Tree V J) (of : IsTreeOf lists start) (s m : TxSeat V)
+      (ran : Ran asks t tries s m start tree) where
+    pub lists_fit : length (lists_of tree) ≡ length lists
     lists_fit =
-        let k = as_many_lists u in
-        let e = ap length (same ∙ of.workers_are) in
-        let m = as_many_numbered 1 (jobs_of lists) in
+        let k = as_many_lists tree in
+        let e = ap length (ran.works_are ∙ of.workers_are) in
+        let n = as_many_numbered 1 (jobs_of lists) in
         omega (arith, length-map lists (λ (list : Vec J Global). list.items))
 
-    pub missed_fit : length (missed_of u) ≤ jobs_in lists
+    pub missed_fit : length (missed_of tree) ≤ jobs_in lists
     missed_fit =
-        let few = few_missed_of u done in
-        let e = ap (sum_by (λ (w : ℕ × List J). length w.1)) (same ∙ of.workers_are) in
-        let m = jobs_numbered 1 lists in
+        let few = few_missed_of tree (actor s.seat) (view s.seat).turns (view m.seat).turns ran.others ran.done in
+        let e = ap (sum_by (λ (w : ℕ × List J). length w.1)) (ran.works_are ∙ of.workers_are) in
+        let n = jobs_numbered 1 lists in
         omega arith
 
-    pub is_report : (report : Report V) → report.receipts ≡ lists_of u → report.missed ≡ missed_of u
-        → IsReportOf asks t tries (jobs_of lists) report
-    is_report report r m = rw (r, m, ← (same ∙ of.workers_are)) (reports_of u done)
+    -- once the transaction that was left open is ended, too
+    pub is_report : (u : TxSeat V) (report : Report V) → KeepsReceipts m.seat u.seat → report.receipts ≡ lists_of tree
+        → report.missed ≡ missed_of tree → IsReportOf asks t tries s u (jobs_of lists) report
+    is_report u report keeps r n =
+        let joined : GetsJoined s u ran.others =
+        subst (GetsJoined s u) (append-nil ran.others) (then_joined s m u ran.others [] ran.joined (keeps_joined m u keeps)) in
+        let done = goes_on tree (actor s.seat) (view s.seat).turns (view m.seat).turns keeps.more ran.others ran.done in
+        record {
+          others = ran.others;
+          joined = joined;
+          each = rw (r, n, ← (ran.works_are ∙ of.workers_are), joined.same, keeps.turns)
+              (reports_of tree (actor s.seat) (view s.seat).turns ((view m.seat).turns ++ keeps.more) ran.others done);
+        }

@@ -13,12 +13,13 @@ use Rattle.workers.specs.declared.causes.LastAbort.{LastAbort}
 use Rattle.workers.specs.declared.causes.LastAbort.TheVariants.{NotStarted}
 use Rattle.tx_table.specs.declared.table.TxTable.{TxTable}
 use Rattle.tx_table.specs.Seated.{actor, view}
+use Rattle.tx_table.specs.declared.view.Turn.{Turn}
 use Rattle.transactions.specs.declared.seats.TxSeat.{TxSeat}
 use Rattle.transactions.specs.Ready.{IsReady}
 use Rattle.transactions.specs.Requests.{KeepsReceipts}
 use Rattle.workers.specs.declared.tasks.Task.{Task}
-use Rattle.workers.specs.Tasks.{AreNotStarted, AreOutcomes, AreReported, AreTried, Gains, IsDone, IsLeft, IsReported, IsSameTask, IsTried}
-use Rattle.workers.specs.Tasks.{Outcome, missed_in, receipt_in, receipts_in, records_of}
+use Rattle.workers.specs.Tasks.{AreNotStarted, AreReported, AreTried, AreTriedBy, Gains, GetsJoined, IsDone, IsReported, IsSameTask}
+use Rattle.workers.specs.Tasks.{IsTried, Outcome, Took, missed_in, receipt_in, receipts_in, records_of}
 
 module _ {V : Type 0} where
   receipts_after : (os : List (Outcome V)) (o : Outcome V) → receipts_in (os ++ o ∷ []) ≡ receipts_in os ++ receipt_in o
@@ -116,7 +117,7 @@ module _ {V J : Type 0} where
   left_after (j ∷ jobs) [] job h = absurd h
   left_after (j ∷ jobs) (p ∷ os) job h = (h.0, left_after jobs os job h.1)
 
-  many_left : (jobs : List J) (os : List (Outcome V)) → AreNotStarted jobs os → length os ≡ length jobs
+  pub many_left : (jobs : List J) (os : List (Outcome V)) → AreNotStarted jobs os → length os ≡ length jobs
   many_left [] [] h = refl
   many_left [] (p ∷ os) h = absurd h
   many_left (j ∷ jobs) [] h = absurd h
@@ -168,25 +169,58 @@ module _ {V J : Type 0} (asks : J → List (Reply V) → Ask V → Type 0) (t : 
   none_tried task s r m = rw (r, m) (none_reported (λ os. AreTried asks t tries [] os s s) task.worker refl)
 
   pub all_tried : (task : Task V J) (n : ℕ) (s u : TxSeat V) → n ≡ length task.jobs.items → IsReady t s → TriedTo n task s u
-      → IsDone asks t tries task
+      → IsDone asks t tries (actor s.seat) (view s.seat).turns (view u.seat).turns task
   all_tried task n s u e ready h =
       let all : take n task.jobs.items ≡ task.jobs.items = rw e (take-length task.jobs.items) in
-      weaker (λ os. AreTried asks t tries (take n task.jobs.items) os s u) (AreOutcomes asks t tries task.worker task.jobs.items)
+      weaker (λ os. AreTried asks t tries (take n task.jobs.items) os s u)
+      (AreTriedBy asks t tries (actor s.seat) (view s.seat).turns (view u.seat).turns task.jobs.items)
       task.worker task.receipts.items task.missed.items
-      (λ os k. inl (s, u, ready, subst (λ (js : List J). AreTried asks t tries js os s u) all k)) h
+      (λ os k. record {
+        first = s;
+        last = u;
+        ready = ready;
+        same = refl;
+        from = refl;
+        tried = subst (λ (js : List J). AreTried asks t tries js os s u) all k;
+        more = [];
+        to = sym (append-nil (view u.seat).turns);
+      }) h
 
-  pub left_done : (task : Task V J) → 1 < task.worker → IsLeft task → IsDone asks t tries task
-  left_done task lt h =
-      weaker (AreNotStarted task.jobs.items) (AreOutcomes asks t tries task.worker task.jobs.items) task.worker task.receipts.items
-      task.missed.items (λ os k. inr (lt, k)) h
+  pub many_by : (a : ℕ) (before after : List (Turn V)) (jobs : List J) (os : List (Outcome V))
+      → AreTriedBy asks t tries a before after jobs os → length os ≡ length jobs
+  many_by a before after jobs os h = many_tried jobs os h.first h.last h.tried
 
-  pub many_outcomes : (worker : ℕ) (jobs : List J) (os : List (Outcome V)) → AreOutcomes asks t tries worker jobs os
-      → length os ≡ length jobs
-  many_outcomes worker jobs os (inl (s, u, ready, h)) = many_tried jobs os s u h
-  many_outcomes worker jobs os (inr h) = many_left jobs os h.1
+  -- the actor went on
+  pub longer : (a : ℕ) (before after more : List (Turn V)) (task : Task V J) → IsDone asks t tries a before after task
+      → IsDone asks t tries a before (after ++ more) task
+  longer a before after more task h =
+      weaker (AreTriedBy asks t tries a before after task.jobs.items) (AreTriedBy asks t tries a before (after ++ more) task.jobs.items)
+      task.worker task.receipts.items task.missed.items
+      (λ os k. record {
+        first = k.first;
+        last = k.last;
+        ready = k.ready;
+        same = k.same;
+        from = k.from;
+        tried = k.tried;
+        more = k.more ++ more;
+        to = ap (λ (is : List (Turn V)). is ++ more) k.to ∙ append_assoc (view k.last.seat).turns k.more more;
+      }) h
 
 -- ---- what a seat gains
 module _ {V : Type 0} where
+  pub none_joined : (s : TxSeat V) → GetsJoined s s []
+  none_joined s = record { same = refl; joined = sym (append-nil (view s.seat).joined) }
+
+  pub then_joined : (s m u : TxSeat V) (ps qs : Took) → GetsJoined s m ps → GetsJoined m u qs → GetsJoined s u (ps ++ qs)
+  then_joined s m u ps qs g h = record {
+    same = h.same ∙ g.same;
+    joined = h.joined ∙ (ap (λ (xs : Took). xs ++ qs) g.joined ∙ append_assoc (view s.seat).joined ps qs);
+  }
+
+  pub keeps_joined : (s u : TxSeat V) → KeepsReceipts s.seat u.seat → GetsJoined s u []
+  keeps_joined s u k = record { same = k.seat.1; joined = k.joined ∙ sym (append-nil (view s.seat).joined) }
+
   pub no_gain : (s : TxSeat V) → Gains s s []
   no_gain s = record { shares = refl; records = sym (append-nil (records_of s)) }
 
@@ -231,3 +265,10 @@ module _ {V : Type 0} where
       shares = h.none.keeps.shares;
       records = ap (λ (es : List (ℕ × Record V)). map (λ e. e.1) es) h.none.keeps.receipts ∙ sym (append-nil (records_of s));
     }
+
+    pub tried_joined : (tries : ℕ) (s u : TxSeat V) (o : Outcome V) → IsTried asks t tries s u o → GetsJoined s u []
+    tried_joined tries s u (Ok r) h = record {
+      same = h.receipt.same;
+      joined = h.receipt.joined ∙ sym (append-nil (view s.seat).joined);
+    }
+    tried_joined tries s u (Err cause) h = keeps_joined s u h.none.keeps

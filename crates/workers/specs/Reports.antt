@@ -6,14 +6,16 @@ use Rattle.std.specs.declared.alloc.Global.{Global}
 use Rattle.seq_model.specs.declared.call.Reply.{Reply}
 use Rattle.seq_model.specs.declared.record.Record.{Record}
 use Rattle.tx_engine.specs.declared.job.Ask.{Ask}
+use Rattle.tx_table.specs.Seated.{actor, view}
 use Rattle.tx_table.specs.declared.table.TxTable.{TxTable}
+use Rattle.tx_table.specs.declared.view.Turn.{Turn}
 use Rattle.workers.specs.declared.causes.LastAbort.{LastAbort}
 use Rattle.workers.specs.declared.report.Draft.{Draft}
 use Rattle.workers.specs.declared.report.Report.{Report}
 use Rattle.workers.specs.declared.tree.Tree.{Tree}
 use Rattle.transactions.specs.declared.seats.TxSeat.{TxSeat}
 use Rattle.workers.specs.Trees.{IsFresh, leaves, works}
-use Rattle.workers.specs.Tasks.{AreOutcomes, Gains, Outcome, missed_in, receipts_in}
+use Rattle.workers.specs.Tasks.{AreOutcomes, Gains, GetsJoined, Outcome, Took, missed_in, receipts_in}
 
 module _ {J : Type 0} where
   -- the jobs of each list
@@ -49,20 +51,25 @@ module _ {V J : Type 0} where
     pub many : leaves t ≡ length lists
     pub fresh : IsFresh t
 
--- The seat has its shares again, and has gained the receipts that are reported, and no others.
+-- the seat has its shares again, and has gained the receipts that are reported, and no others
 abbrev pub HasRun : {V : Type 0} → TxSeat V → TxSeat V → Report V → Type 0
 HasRun s u report = Gains s u (flat_map (λ receipts. receipts) report.receipts)
 
 module _ {V J : Type 0} (asks : J → List (Reply V) → Ask V → Type 0) (t : TxTable V) (tries : ℕ) where
-  -- The receipts of the workers, list by list, and what they missed: each of the first one's jobs has an outcome, and so on.
-  abbrev pub Reports : List (ℕ × List J) → List (List (Record V)) → List (ℕ × ℕ × LastAbort) → Type 0
-  Reports [] receipts missed = (receipts ≡ []) × (missed ≡ [])
-  Reports (w ∷ ws) receipts missed =
-      (outcomes : List (Outcome V)) × (others : List (List (Record V))) × (later : List (ℕ × ℕ × LastAbort))
-      × AreOutcomes asks t tries w.0 w.1 outcomes
-      × (receipts ≡ receipts_in outcomes ∷ others) × (missed ≡ missed_in w.0 0 outcomes ++ later) × Reports ws others later
+  -- The receipts of the workers, list by list, what they missed, and what actors took for them: each of the first one's jobs has an
+  -- outcome, by an actor that had taken these turns before, and so on; the actors of the others had taken none.
+  abbrev pub Reports : List (Turn V) → List (ℕ × List J) → List (List (Record V)) → List (ℕ × ℕ × LastAbort) → Took → Type 0
+  Reports before [] receipts missed took = (receipts ≡ []) × (missed ≡ []) × (took ≡ [])
+  Reports before (w ∷ ws) receipts missed took =
+      (outcomes : List (Outcome V)) × (others : List (List (Record V))) × (later : List (ℕ × ℕ × LastAbort)) × (own : Took) × (rest : Took)
+      × AreOutcomes asks t tries w.0 w.1 before outcomes own
+      × (receipts ≡ receipts_in outcomes ∷ others) × (missed ≡ missed_in w.0 0 outcomes ++ later) × (took ≡ own ++ rest)
+      × Reports [] ws others later rest
 
   -- Each job of each list has one receipt, of an attempt of that job, in the order of its list, or stands once among those that were
-  -- missed, with what so many attempts of it came to.
-  abbrev pub IsReportOf : List (List J) → Report V → Type 0
-  IsReportOf lists report = Reports (numbered 1 lists) report.receipts report.missed
+  -- missed, with what so many attempts of it came to. The attempts of the first list are turns of the seat's own actor, which led it from s
+  -- to u; those of each other list are turns of an actor whose seat was joined into it.
+  pub record IsReportOf (s u : TxSeat V) (lists : List (List J)) (report : Report V) : Type 0 where
+    pub others : Took
+    pub joined : GetsJoined s u others
+    pub each : Reports (view s.seat).turns (numbered 1 lists) report.receipts report.missed ((actor u.seat, (view u.seat).turns) ∷ others)

@@ -1,11 +1,12 @@
 -- What comes of a worker's list of jobs.
-use Rattle.std.specs.Prelude.{◌≡◌, ◌⊎◌, ℕ, ◌+◌, ◌<◌, ◌≤◌, List, [], ◌∷◌, ◌++◌, length, map, Result, Ok, Err, IfOk, IfErr}
+use Rattle.std.specs.Prelude.{◌≡◌, ◌⊎◌, ℕ, ◌+◌, ◌<◌, ◌≤◌, All, List, [], ◌∷◌, ◌++◌, length, map, Result, Ok, Err, IfOk, IfErr}
 use Rattle.std.specs.Vec.{vec_capacity}
 use Rattle.seq_model.specs.declared.call.Reply.{Reply}
 use Rattle.seq_model.specs.declared.record.Record.{Record}
 use Rattle.tx_engine.specs.declared.job.Ask.{Ask}
 use Rattle.tx_table.specs.declared.table.TxTable.{TxTable}
-use Rattle.tx_table.specs.Seated.{view}
+use Rattle.tx_table.specs.Seated.{actor, view}
+use Rattle.tx_table.specs.declared.view.Turn.{Turn}
 use Rattle.transactions.specs.declared.seats.TxSeat.{TxSeat}
 use Rattle.transactions.specs.Ready.{IsReady}
 use Rattle.workers.specs.declared.causes.LastAbort.{LastAbort}
@@ -43,6 +44,15 @@ module _ {V : Type 0} where
     pub shares : (view u.seat).shares ≡ (view s.seat).shares
     pub records : records_of u ≡ records_of s ++ receipts
 
+  -- actors, each with the turns that it took
+  abbrev pub Took : Type 0
+  Took = List (ℕ × List (Turn V))
+
+  -- the seat is that of the same actor, and these were joined into it
+  pub record GetsJoined (s u : TxSeat V) (others : Took) : Type 0 where
+    pub same : actor u.seat ≡ actor s.seat
+    pub joined : (view u.seat).joined ≡ (view s.seat).joined ++ others
+
   -- What at most so many attempts of a job came to. They led the seat from s to u, which is ready for others.
   pub record IsTried (asks : List (Reply V) → Ask V → Type 0) (t : TxTable V) (tries : ℕ) (s u : TxSeat V) (o : Outcome V) : Type 0 where
     pub ready : IsReady t u
@@ -65,12 +75,24 @@ module _ {V J : Type 0} (asks : J → List (Reply V) → Ask V → Type 0) (t : 
   AreTried [] (o ∷ os) s u = ⊥
   AreTried (job ∷ jobs) [] s u = ⊥
 
-  -- One outcome for each of a worker's jobs, in their order: by a seat of the table that was ready, or no thread was started for it, which
-  -- the first worker doesn't need.
-  abbrev pub AreOutcomes : ℕ → List J → List (Outcome V) → Type 0
-  AreOutcomes worker jobs outcomes =
-      ((s : TxSeat V) × (u : TxSeat V) × IsReady t s × AreTried jobs outcomes s u)
-      ⊎ ((1 < worker) × AreNotStarted jobs outcomes)
+  -- The same by this actor, whose seat was ready: it had taken these turns before the first attempt, and in the end those, with all that
+  -- the attempts took.
+  pub record AreTriedBy (a : ℕ) (before after : List (Turn V)) (jobs : List J) (outcomes : List (Outcome V)) : Type 0 where
+    pub first : TxSeat V
+    pub last : TxSeat V
+    pub ready : IsReady t first
+    pub same : actor first.seat ≡ a
+    pub from : (view first.seat).turns ≡ before
+    pub tried : AreTried jobs outcomes first last
+    pub more : List (Turn V)
+    pub to : after ≡ (view last.seat).turns ++ more
+
+  -- One outcome for each of a worker's jobs, in their order: by an actor that took these turns, from those before on; or no thread was
+  -- started for it, which the first worker doesn't need.
+  abbrev pub AreOutcomes : ℕ → List J → List (Turn V) → List (Outcome V) → Took → Type 0
+  AreOutcomes worker jobs before outcomes took =
+      ((a : ℕ) × (after : List (Turn V)) × AreTriedBy a before after jobs outcomes × (took ≡ (a, after) ∷ []))
+      ⊎ ((1 < worker) × AreNotStarted jobs outcomes × All (λ e. e.1 ≡ []) took)
 
 module _ {V : Type 0} where
   -- outcomes of a worker's jobs of which this holds, with their receipts and with what was missed
@@ -90,9 +112,9 @@ module _ {V J : Type 0} where
   abbrev pub IsLeft : Task V J → Type 0
   IsLeft task = IsReported (AreNotStarted task.jobs.items) task
 
-  -- each of its jobs has one outcome
-  abbrev pub IsDone : (J → List (Reply V) → Ask V → Type 0) → TxTable V → ℕ → Task V J → Type 0
-  IsDone asks t tries task = IsReported (AreOutcomes asks t tries task.worker task.jobs.items) task
+  -- each of its jobs has one outcome, by this actor, which had taken these turns before and has those then
+  abbrev pub IsDone : (J → List (Reply V) → Ask V → Type 0) → TxTable V → ℕ → ℕ → (before after : List (Turn V)) → Task V J → Type 0
+  IsDone asks t tries a before after task = IsReported (AreTriedBy asks t tries a before after task.jobs.items) task
 
   -- so many jobs at most have an outcome so far, and there is room for those of all
   pub record HasRoom (n : ℕ) (task : Task V J) : Type 0 where

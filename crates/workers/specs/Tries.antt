@@ -43,8 +43,10 @@ module _ {V : Type 0} (asks : List (Reply V) → Ask V → Type 0) (t : TxTable 
   -- One of so many attempts had this receipt, which the seat gains, and no other.
   pub record HasReceipt (tries : ℕ) (s u : Seat V) (r : Record V) : Type 0 where
     pub job : IsWholeJob asks r.calls
+    pub same : actor u ≡ actor s
     pub gains : (view u).receipts ≡ (view s).receipts ++ (actor s, r) ∷ []
     pub shares : (view u).shares ≡ (view s).shares
+    pub joined : (view u).joined ≡ (view s).joined
     pub before : ℕ
     pub few : before < tries
     pub at : Seat V

@@ -1,9 +1,9 @@
 //! The halves of the lists, each by a seat of its own, and the second by a thread.
-ghost use Rattle.std.specs.Prelude.{◌≡◌, ℕ, ◌≤◌};
+ghost use Rattle.std.specs.Prelude.{◌≤◌};
 ghost use Rattle.std.specs.Thread.{IsSend, IsSync};
 ghost use Rattle.tx_table.specs.Seated.{view};
 ghost use Rattle.transactions.specs.Ready.{IsReady};
-ghost use Rattle.workers.specs.Trees.{AreOthers, CanRun, IsFresh, Ran, leaves};
+ghost use Rattle.workers.specs.Trees.{AreOthers, CanRun, ComesBack, IsFresh, Ran, WasLeft, leaves};
 
 use crate::tree::Tree;
 use crate::way::Way;
@@ -32,7 +32,7 @@ struct Half<V, J> {
 }
 
 impl<V: Value, J: Job<V>> Promise<Done<V, J>> for Half<V, J> {
-    ghost kept_by = { λ p r. Ran J.asks p.table.value p.tries p.seat.value r.0 p.tree.value.value r.1.value };
+    ghost kept_by = { λ p r. ComesBack J.asks p.table.value p.tries p.seat.value r.0 p.tree.value.value r.1.value };
 }
 
 /// The lists as they came, none of their jobs started.
@@ -44,7 +44,7 @@ fn give_back<V: Value, J: Job<V>>(
     requires ready { IsReady table.now seat }
     requires fresh { IsFresh tree.value }
     requires others { AreOthers tree.value }
-    ensures { (tries : ℕ) → Ran J.asks table.now tries seat result.0 tree.value result.1.value }
+    ensures { WasLeft table.now seat result.0 tree.value result.1.value }
 {
     let _ = table;
     tree.leave();
@@ -123,7 +123,7 @@ fn both<
     requires second { CanRun table.now other right.value }
     requires others { AreOthers right.value }
     ensures first { Ran J.asks table.now tries seat result.0.0 left.value result.0.1.value }
-    ensures second { Ran J.asks table.now tries other result.1.0 right.value result.1.1.value }
+    ensures second { ComesBack J.asks table.now tries other result.1.0 right.value result.1.1.value }
 {
     let refused = AtomicBool::new(false);
     let refused = &refused;
@@ -137,7 +137,7 @@ fn both<
             requires second { CanRun table.now other right.value }
             requires others { AreOthers right.value }
             ensures first { Ran J.asks table.entry.now tries seat result.0.0 left.value result.0.1.value }
-            ensures second { Ran J.asks table.entry.now tries other result.1.0 right.value result.1.1.value }
+            ensures second { ComesBack J.asks table.entry.now tries other result.1.0 right.value result.1.1.value }
         {
             let promise = Half {
                 table: Snapshot::of(table),
@@ -152,7 +152,7 @@ fn both<
                     requires some { 1 ≤ tries }
                     requires second { CanRun table.now other right.value }
                     requires others { AreOthers right.value }
-                    ensures { Ran J.asks table.entry.now tries other result.0 right.value result.1.value }
+                    ensures { ComesBack J.asks table.entry.now tries other result.0 right.value result.1.value }
                 {
                     if refused.load(Ordering::SeqCst) {
                         give_back(table, other, right)

@@ -61,7 +61,7 @@ pub fn run_workers<
     requires shares { length lists.items ≤ (view seat.seat).shares }
     ensures ready { IsReady table.now result.0 }
     ensures rests { standing (opening_of table.now) result.0.seat ≡ Rests }
-    ensures report { IfOk result.1 (IsReportOf J.asks table.now tries (jobs_of lists.items)) }
+    ensures report { IfOk result.1 (IsReportOf J.asks table.now tries seat result.0 (jobs_of lists.items)) }
     ensures gains { IfOk result.1 (HasRun seat result.0) }
     ensures memory { OnErr result.1 (KeepsReceipts seat.seat result.0.seat) }
 {

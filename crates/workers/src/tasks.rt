@@ -1,7 +1,8 @@
 //! A worker's list of jobs.
 ghost use Rattle.std.specs.Prelude.{◌≡◌, ◌<◌, ◌≤◌, ◌+◌, ◌++◌, ◌∷◌, [], length};
+ghost use Rattle.tx_table.specs.Seated.{actor, view};
 ghost use Rattle.transactions.specs.Ready.{IsReady};
-ghost use Rattle.workers.specs.Tasks.{Gains, HasRoom, IsDone, IsFreshTask, IsLeft, IsSameTask, missed_in, receipt_in};
+ghost use Rattle.workers.specs.Tasks.{Gains, GetsJoined, HasRoom, IsDone, IsFreshTask, IsLeft, IsSameTask, missed_in, receipt_in};
 
 use crate::causes::LastAbort;
 use crate::tries::retry_in;
@@ -56,7 +57,8 @@ impl<V: Value, J: Job<V>> Task<V, J> {
         requires fresh { IsFreshTask self.old }
         ensures ready { IsReady table.now seat.new }
         ensures same { IsSameTask self.old self.new }
-        ensures done { IsDone J.asks table.now tries self.new }
+        ensures done { IsDone J.asks table.now tries (actor seat.old.seat) (view seat.old.seat).turns (view seat.new.seat).turns self.new }
+        ensures joined { GetsJoined seat.old seat.new [] }
         ensures gains { Gains seat.old seat.new self.new.receipts.items }
     {
         // One list for all jobs: where one grows that another thread's memory came into, that thread may wait for the allocator.

@@ -1,11 +1,16 @@
-use Rattle.std.proofs.Common.{rules, [], ◌≡◌, ◌++◌, ◌∙◌, ap, sym}
+use Rattle.std.proofs.Common.{rules, [], ◌∷◌, ◌++◌, ◌∙◌, ap, inl, inr, refl, subst, sym}
+use Rattle.tx_table.specs.Seated.{actor, view}
+use Rattle.workers.proofs.HalfLemmas.{back_gains, back_works, both_joined, first_done, second_done}
 use Rattle.workers.proofs.ReportLemmas.{same_works}
-use Rattle.workers.proofs.TaskLemmas.{both_gain, no_gain}
-use Rattle.workers.specs.Trees.{gained, works}
+use Rattle.workers.proofs.TaskLemmas.{both_gain}
+use Rattle.workers.specs.Trees.{IsFresh, works}
 use Rattle.workers.proofs.halves.+shares.Goals as goal
 
 pub both-scope-spawn_with-returns-then-load : goal.both-scope-spawn_with-returns-then-load
-both-scope-spawn_with-returns-then-load g t c = c.give_back.ensures c.captures.tries
+both-scope-spawn_with-returns-then-load g t c = inr c.give_back.ensures
+
+pub both-scope-spawn_with-returns : goal.both-scope-spawn_with-returns
+both-scope-spawn_with-returns g t c = inl c.share.ensures
 
 pub share-work-requires-clause-ready : goal.share-work-requires-clause-ready
 share-work-requires-clause-ready g t c = c.requires.ready
@@ -33,13 +38,8 @@ share-both-first-requires-clause-second g t c κs within = record {
 
 pub share-returns-in-Taken : goal.share-returns-in-Taken
 share-returns-in-Taken g t c =
-    let none : gained c.replace.new.dest ≡ [] = search rules in
-    record {
-      ready = c.requires.ready;
-      gains = rw none (no_gain c.args.seat);
-      works_are = search rules;
-      done = search rules;
-    }
+    let tree_is = sym (c.replace.ensures.value ∙ c.deref_mut.ensures.value) ∙ c.in-Taken.is in
+    absurd (subst IsFresh tree_is c.requires.fresh)
 
 pub share-returns-in-Leaf : goal.share-returns-in-Leaf
 share-returns-in-Leaf g t c =
@@ -48,23 +48,51 @@ share-returns-in-Leaf g t c =
       ready = c.work.ensures.ready;
       gains = c.work.ensures.gains;
       works_are = same_works c.in-Leaf.task c.work.new.self c.args.tree.value tree_is c.work.ensures.same;
-      done = c.work.ensures.done;
+      others = [];
+      joined = c.work.ensures.joined;
+      done = (c.work.ensures.done, refl);
     }
 
 pub share-returns-in-Both : goal.share-returns-in-Both
 share-returns-in-Both g t c =
+    let asks = g.J.Job.asks in
+    let table = c.args.table.now in
+    let tries = c.args.tries in
     let tree_is = sym (c.replace.ensures.value ∙ c.deref_mut.ensures.value) ∙ c.in-Both.is in
+    let s = c.args.seat in
+    let m = c.split-other.new.self in
+    let o = c.split-other.result in
+    let x = c.both-first.result.0.0 in
+    let y = c.both-first.result.1.0 in
+    let u = c.join.new.self in
+    let n = c.count-shares.result in
+    let of_first = c.both-first.result.0.1.value in
+    let of_second = c.both-first.result.1.1.value in
     let first = c.both-first.ensures.first in
     let second = c.both-first.ensures.second in
+    let same = c.split-other.ensures.same in
+    let left = c.split-other.ensures.left.0 in
+    let right = c.split-other.ensures.right.0 in
+    let joins = c.join.ensures.same in
+    let both = c.join.ensures.both in
     record {
       ready = c.join.ensures.ready;
-      gains = both_gain c.count-shares.result c.args.seat c.split-other.new.self c.split-other.result c.both-first.result.0.0
-          c.both-first.result.1.0 c.join.new.self _ _ (search rules) (λ i. (c.split-other.ensures.left.0 i).shares)
-          (λ i. (c.split-other.ensures.left.0 i).receipts) (λ i. (c.split-other.ensures.right.0 i).shares)
-          (λ i. (c.split-other.ensures.right.0 i).receipts) first.gains second.gains (λ i. (c.join.ensures.both i).shares)
-          (λ i. (c.join.ensures.both i).receipts);
-      works_are = (λ i. first.works_are i ++ second.works_are i) ∙ sym (ap works tree_is);
-      done = (first.done, second.done);
+      gains = both_gain n s m o x y u _ _ (search rules) (λ i. (left i).shares) (λ i. (left i).receipts) (λ i. (right i).shares)
+          (λ i. (right i).receipts) first.gains (back_gains asks table tries o y c.in-Both.right.value of_second second)
+          (λ i. (both i).shares) (λ i. (both i).receipts);
+      works_are = (λ i. first.works_are i ++ back_works asks table tries o y c.in-Both.right.value of_second second i)
+          ∙ sym (ap works tree_is);
+      others = first.others ++ (actor y.seat, (view y.seat).turns) ∷ (view y.seat).joined;
+      joined = both_joined s m o x y u n same left right joins both first.others first.joined;
+      done = (
+        first.others,
+        (view y.seat).joined,
+        actor y.seat,
+        (view y.seat).turns,
+        first_done s m o x y u n same left right joins both asks table tries of_first first.others first.done,
+        second_done s m o x y u n same left right joins both asks table tries c.in-Both.right.value of_second second,
+        refl,
+      );
     }
 
 -- A closure is called where what it asks of its captures holds: it stands before the bounds on types there, and behind them here.

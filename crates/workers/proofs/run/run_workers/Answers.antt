@@ -6,25 +6,23 @@ use Rattle.workers.proofs.run.run_workers.Goals as goal
 
 pub filled-requires-clause-receipts : goal.filled-requires-clause-receipts
 filled-requires-clause-receipts g c =
-    let ran = c.share-seat.ensures in
     let fit = lists_fit g.J.Job.asks c.args.table.now c.args.tries c.args.lists.items c.in-Ok.tree.value c.share-seat.result.1.value
-    c.in-Ok.ensures.tree ran.works_are ran.done in
+    c.in-Ok.ensures.tree c.args.seat c.share-seat.result.0 c.share-seat.ensures in
     let room = c.in-Ok.ensures.draft.receipts in
     omega arith
 
 pub filled-requires-clause-missed : goal.filled-requires-clause-missed
 filled-requires-clause-missed g c =
-    let ran = c.share-seat.ensures in
     let fit = missed_fit g.J.Job.asks c.args.table.now c.args.tries c.args.lists.items c.in-Ok.tree.value c.share-seat.result.1.value
-    c.in-Ok.ensures.tree ran.works_are ran.done in
+    c.in-Ok.ensures.tree c.args.seat c.share-seat.result.0 c.share-seat.ensures in
     let room = c.in-Ok.ensures.draft.missed in
     omega arith
 
 pub returns-in-Ok-clause-report : goal.returns-in-Ok-clause-report
 returns-in-Ok-clause-report g c =
-    let ran = c.share-seat.ensures in
     is_report g.J.Job.asks c.args.table.now c.args.tries c.args.lists.items c.in-Ok.tree.value c.share-seat.result.1.value
-    c.in-Ok.ensures.tree ran.works_are ran.done c.filled.result c.filled.ensures.receipts c.filled.ensures.missed
+    c.in-Ok.ensures.tree c.args.seat c.share-seat.result.0 c.share-seat.ensures c.abort.new.self c.filled.result c.abort.ensures.keeps
+    c.filled.ensures.receipts c.filled.ensures.missed
 
 pub returns-in-Ok-clause-gains : goal.returns-in-Ok-clause-gains
 returns-in-Ok-clause-gains g c =

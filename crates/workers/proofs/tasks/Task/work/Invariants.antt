@@ -1,5 +1,6 @@
+use Rattle.std.proofs.Common.{[]}
 use Rattle.transactions.specs.Ready.{IsReady}
-use Rattle.workers.specs.Tasks.{Gains, HasRoom, IsSameTask}
+use Rattle.workers.specs.Tasks.{Gains, GetsJoined, HasRoom, IsSameTask}
 use Rattle.workers.proofs.TaskLemmas.{TriedTo}
 use Rattle.workers.proofs.tasks.Task.work.Given as goal
 
@@ -11,4 +12,5 @@ invariant-jobs g l = record {
   room : HasRoom l.i l.self;
   tried : TriedTo g.J.Job.asks l.table l.tries l.i l.self l.initial.seat l.seat;
   gains : Gains l.initial.seat l.seat l.self.receipts.items;
+  joined : GetsJoined l.initial.seat l.seat [];
 }
