@@ -10,7 +10,6 @@ ghost use Rattle.attempts.specs.Attempts.{AttemptsTo, IsSoFar, IsUnmade, Reaches
 
 use crate::pause::Pause;
 use seq_model::{Record, Refusal, Reply, Value};
-use std::alloc::Global;
 use transactions::TxSeat;
 use tx_engine::{Ask, Job};
 use tx_table::TxTable;
@@ -91,13 +90,8 @@ fn ask_all<V: Value, J: Job<V>>(
     }
 }
 
-/// One attempt of a job by this worker: a transaction begins, an open one being aborted first; the job's calls are made; it commits once
-/// the job is done, `pause` being told before the first step of that, and ends without a commit where the job gives up. The receipt that
-/// is answered is the one that the seat gains. A refusal is that of the request that was refused: `Exhausted` of the begin; of a call, or
-/// of the commit, as these have it; `OutOfMemory` also where the job is refused memory, or there is none for its replies. It leaves no
-/// transaction, and the seat gains no receipt. `replies` lends its room to the job's replies: what is in it goes, and what they are in the
-/// end is of no meaning.
-pub fn attempt_in<V: Value, J: Job<V>, P: Pause>(
+/// The attempt, with a list for the job's replies: what is in it goes.
+fn attempt_in<V: Value, J: Job<V>, P: Pause>(
     table: &TxTable<V>,
     seat: &mut TxSeat<V>,
     job: &J,
@@ -128,9 +122,12 @@ pub fn attempt_in<V: Value, J: Job<V>, P: Pause>(
     }
 }
 
-/// One attempt of a job by this worker, as `attempt_in` makes it, with a list of replies of its own.
+/// One attempt of a job by this worker: a transaction begins, an open one being aborted first; the job's calls are made; it commits once
+/// the job is done, `pause` being told before the first step of that, and ends without a commit where the job gives up. The receipt that
+/// is answered is the one that the seat gains. A refusal is that of the request that was refused: `Exhausted` of the begin; of a call, or
+/// of the commit, as these have it; `OutOfMemory` also where the job is refused memory, or there is none for its replies. It leaves no
+/// transaction, and the seat gains no receipt.
 pub fn attempt_with<V: Value, J: Job<V>, P: Pause>(
-    alloc: Global,
     table: &TxTable<V>,
     seat: &mut TxSeat<V>,
     job: &J,
@@ -142,6 +139,9 @@ pub fn attempt_with<V: Value, J: Job<V>, P: Pause>(
     ensures rests { standing (opening_of table.now) seat.new.seat ≡ Rests }
     ensures attempts { AttemptsTo (J.asks job.now) (opening_of table.now) seat.old.seat seat.new.seat result }
 {
-    let mut replies = Vec::new(alloc);
-    attempt_in(table, seat, job, worker, pause, &mut replies)
+    let mut replies = seat.take_replies(table);
+    let attempted = attempt_in(table, seat, job, worker, pause, &mut replies);
+    replies.clear();
+    seat.keep_replies(table, replies);
+    attempted
 }

@@ -9,6 +9,6 @@ mod jobs;
 mod pause;
 mod unheld;
 
-pub use jobs::{Attempt, attempt_in, attempt_with};
+pub use jobs::{Attempt, attempt_with};
 pub use pause::{NoPause, Pause};
 pub use unheld::attempt;

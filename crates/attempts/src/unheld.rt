@@ -8,14 +8,12 @@ ghost use Rattle.attempts.specs.Attempts.{AttemptsTo};
 use crate::jobs::{Attempt, attempt_with};
 use crate::pause::NoPause;
 use seq_model::{Refusal, Value};
-use std::alloc::Global;
 use transactions::TxSeat;
 use tx_engine::Job;
 use tx_table::TxTable;
 
 /// One attempt of a job, as `attempt_with` makes it, by a worker that is held nowhere.
 pub fn attempt<V: Value, J: Job<V>>(
-    alloc: Global,
     table: &TxTable<V>,
     seat: &mut TxSeat<V>,
     job: &J,
@@ -25,5 +23,5 @@ pub fn attempt<V: Value, J: Job<V>>(
     ensures rests { standing (opening_of table.now) seat.new.seat ≡ Rests }
     ensures attempts { AttemptsTo (J.asks job.now) (opening_of table.now) seat.old.seat seat.new.seat result }
 {
-    attempt_with(alloc, table, seat, job, 0, &NoPause)
+    attempt_with(table, seat, job, 0, &NoPause)
 }

@@ -14,6 +14,7 @@ use boxes::Boxed;
 use replay_log::Base;
 use seq_model::{Call, Op, Record, Refusal, Reply, Value};
 use std::alloc::Global;
+use std::mem;
 use tx_actor::{Stage, TxActor};
 use tx_table::{Seat, TxTable};
 
@@ -24,6 +25,8 @@ pub struct TxSeat<V> {
     pub actor: TxActor<V>,
     /// Where the bases lie that a request takes on its way. Between requests there are none, and the room is kept.
     pub(crate) bases: Vec<Boxed<Base<V>>>,
+    // Where the replies to a job lie while it is attempted.
+    pub(crate) replies: Vec<Reply<V>>,
     pub(crate) alloc: Global,
 }
 
@@ -40,8 +43,30 @@ impl<V: Value> TxSeat<V> {
             seat,
             actor: TxActor::new(alloc),
             bases: Vec::new(alloc),
+            replies: Vec::new(alloc),
             alloc,
         }
+    }
+
+    /// A list for the replies to a job, with what is in it, and with the room that the one before had, once that was handed back
+    /// (`keep_replies`).
+    pub fn take_replies(&mut self, table: &TxTable<V>) -> Vec<Reply<V>>
+        requires ready { IsReady table.now self.old }
+        ensures ready { IsReady table.now self.new }
+        ensures seat { self.new.seat ≡ self.old.seat }
+    {
+        let _ = table;
+        mem::replace(&mut self.replies, Vec::new(self.alloc))
+    }
+
+    /// Keeps a list for the next job.
+    pub fn keep_replies(&mut self, table: &TxTable<V>, replies: Vec<Reply<V>>)
+        requires ready { IsReady table.now self.old }
+        ensures ready { IsReady table.now self.new }
+        ensures seat { self.new.seat ≡ self.old.seat }
+    {
+        let _ = table;
+        self.replies = replies;
     }
 
     /// Whether a transaction is open.

@@ -91,8 +91,10 @@ impl<V: Value> TxSeat<V> {
             seat,
             actor,
             bases,
+            replies,
             alloc: _,
         } = self;
+        drop(replies);
         drop(bases);
         drop(actor);
         seat

@@ -172,16 +172,26 @@ module _ {V J : Type 0} (asks : J → List (Reply V) → Ask V → Type 0) (t : 
       let behind = reports_done r b [] turns of_second ws rs ms rest second g in
       let both = reports_done l a before after of_first (works r ++ ws) (lists_of r ++ rs) (missed_of r ++ ms)
       ((b, turns) ∷ (of_second ++ rest)) first behind in
-      rw (all, append_assoc (works l) (works r) ws, append_assoc (lists_of l) (lists_of r) rs, append_assoc (missed_of l) (missed_of r) ms,
-      append_assoc of_first ((b, turns) ∷ of_second) rest) both
+      rw (
+        all,
+        append_assoc (works l) (works r) ws,
+        append_assoc (lists_of l) (lists_of r) rs,
+        append_assoc (missed_of l) (missed_of r) ms,
+        append_assoc of_first ((b, turns) ∷ of_second) rest,
+      ) both
   reports_done (Both' p l q r) a before after others ws rs ms rest (of_first, of_second, b, turns, first, inr (left, none, no), all) g =
       let unused : All (λ e. e.1 ≡ []) ((b, turns) ∷ of_second) = subst (λ (xs : Took). All (λ e. e.1 ≡ []) ((b, turns) ∷ xs)) (sym no)
       (All-cons (λ (e : ℕ × List (Turn V)). e.1 ≡ []) (b, turns) [] none (All-nil (λ (e : ℕ × List (Turn V)). e.1 ≡ []))) in
       let behind = reports_left r ((b, turns) ∷ of_second) ws rs ms rest left unused g in
       let both = reports_done l a before after of_first (works r ++ ws) (lists_of r ++ rs) (missed_of r ++ ms)
       ((b, turns) ∷ (of_second ++ rest)) first behind in
-      rw (all, append_assoc (works l) (works r) ws, append_assoc (lists_of l) (lists_of r) rs, append_assoc (missed_of l) (missed_of r) ms,
-      append_assoc of_first ((b, turns) ∷ of_second) rest) both
+      rw (
+        all,
+        append_assoc (works l) (works r) ws,
+        append_assoc (lists_of l) (lists_of r) rs,
+        append_assoc (missed_of l) (missed_of r) ms,
+        append_assoc of_first ((b, turns) ∷ of_second) rest,
+      ) both
 
   reports_of : (tree : Tree V J) (a : ℕ) (before after : List (Turn V)) (others : Took) → AreDone asks t tries tree a before after others
       → Reports asks t tries before (works tree) (lists_of tree) (missed_of tree) ((a, after) ∷ others)

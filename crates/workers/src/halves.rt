@@ -9,7 +9,6 @@ use crate::tree::Tree;
 use crate::way::Way;
 use attempts::Pause;
 use seq_model::{ACTOR_LIMIT, Value};
-use std::alloc::Global;
 use std::snapshot::Snapshot;
 use std::sync::Wait;
 use std::sync::atomic::{AtomicBool, Ordering};
@@ -60,7 +59,6 @@ pub fn share<
     P: Pause + Sync,
 >(
     rt: &R,
-    alloc: Global,
     tries: u64,
     pause: &P,
     way: &Way,
@@ -78,7 +76,7 @@ pub fn share<
     match mem::replace(&mut *tree, Tree::Taken) {
         Tree::Taken => (seat, tree),
         Tree::Leaf(mut task) => {
-            task.work(alloc, table, &mut seat, tries, pause, way);
+            task.work(table, &mut seat, tries, pause, way);
             *tree = Tree::Leaf(task);
             (seat, tree)
         }
@@ -87,9 +85,7 @@ pub fn share<
             let _left = left.count();
             let shares = right.count();
             let other = seat.split(table, shares);
-            let (first, second) = both(
-                rt, alloc, tries, pause, way, table, seat, left, other, right,
-            );
+            let (first, second) = both(rt, tries, pause, way, table, seat, left, other, right);
             let (mut seat, left) = first;
             let (other, right) = second;
             seat.join(table, other);
@@ -108,7 +104,6 @@ fn both<
     P: Pause + Sync,
 >(
     rt: &R,
-    alloc: Global,
     tries: u64,
     pause: &P,
     way: &Way,
@@ -157,22 +152,19 @@ fn both<
                     if refused.load(Ordering::SeqCst) {
                         give_back(table, other, right)
                     } else {
-                        share(rt, alloc, tries, pause, way, table, other, right)
+                        share(rt, tries, pause, way, table, other, right)
                     }
                 },
             );
             match child {
                 Ok(child) => {
-                    let first = share(rt, alloc, tries, pause, way, table, seat, left);
+                    let first = share(rt, tries, pause, way, table, seat, left);
                     (first, child.join(rt))
                 }
                 Err(not_started) => {
                     refused.store(true, Ordering::SeqCst);
                     let second = (not_started.value)();
-                    (
-                        share(rt, alloc, tries, pause, way, table, seat, left),
-                        second,
-                    )
+                    (share(rt, tries, pause, way, table, seat, left), second)
                 }
             }
         },

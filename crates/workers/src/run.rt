@@ -68,7 +68,7 @@ pub fn run_workers<
     match prepare(alloc, lists) {
         Ok((draft, tree)) => {
             let way = Way::new();
-            let (mut seat, tree) = share(rt, alloc, tries, pause, &way, table, seat, tree);
+            let (mut seat, tree) = share(rt, tries, pause, &way, table, seat, tree);
             seat.abort(table);
             (seat, Ok(draft.filled(tree)))
         }

@@ -9,7 +9,6 @@ use crate::tries::retry_in;
 use crate::way::{Courtesy, Way};
 use attempts::Pause;
 use seq_model::{Record, Value};
-use std::alloc::Global;
 use transactions::TxSeat;
 use tx_engine::Job;
 use tx_table::TxTable;
@@ -45,7 +44,6 @@ impl<V: Value, J: Job<V>> Task<V, J> {
     /// Each job in turn, by this seat.
     pub fn work<P: Pause>(
         &mut self,
-        alloc: Global,
         table: &TxTable<V>,
         seat: &mut TxSeat<V>,
         tries: u64,
@@ -61,8 +59,6 @@ impl<V: Value, J: Job<V>> Task<V, J> {
         ensures joined { GetsJoined seat.old seat.new [] }
         ensures gains { Gains seat.old seat.new self.new.receipts.items }
     {
-        // One list for all jobs: where one grows that another thread's memory came into, that thread may wait for the allocator.
-        let mut replies = Vec::new(alloc);
         let mut courtesy = Courtesy::of(self.worker);
         'jobs: for i in 0..self.jobs.len() {
             let outcome = retry_in(
@@ -74,7 +70,6 @@ impl<V: Value, J: Job<V>> Task<V, J> {
                 pause,
                 way,
                 &mut courtesy,
-                &mut replies,
             );
             way.leave(&mut courtesy);
             self.note(i, outcome);

@@ -7,9 +7,8 @@ ghost use Rattle.workers.specs.Tries.{HasReceipt, HasNoReceipt, IsTransient};
 
 use crate::causes::LastAbort;
 use crate::way::{Courtesy, Way};
-use attempts::{Attempt, Pause, attempt_in};
-use seq_model::{Record, Refusal, Reply, Value};
-use std::alloc::Global;
+use attempts::{Attempt, Pause, attempt_with};
+use seq_model::{Record, Refusal, Value};
 use std::hint::spin_loop;
 use std::thread::yield_now;
 use transactions::TxSeat;
@@ -49,8 +48,7 @@ fn wait(attempts: u64) {
     }
 }
 
-/// The attempts of a job, as `retry` has them. Other workers give way to it, and it to them. `replies` lends its room, as `attempt_in` has
-/// it, so that no attempt takes any.
+/// The attempts of a job, as `retry` has them. Other workers give way to it, and it to them.
 pub(crate) fn retry_in<V: Value, J: Job<V>, P: Pause>(
     table: &TxTable<V>,
     seat: &mut TxSeat<V>,
@@ -60,7 +58,6 @@ pub(crate) fn retry_in<V: Value, J: Job<V>, P: Pause>(
     pause: &P,
     way: &Way,
     courtesy: &mut Courtesy,
-    replies: &mut Vec<Reply<V>>,
 ) -> Result<Record<V>, LastAbort>
     requires some { 1 ≤ tries }
     requires ready { IsReady table.now seat.old }
@@ -73,7 +70,7 @@ pub(crate) fn retry_in<V: Value, J: Job<V>, P: Pause>(
     'tries: for i in 0..tries {
         wait(i);
         way.give(courtesy, i);
-        match attempt_in(table, seat, job, worker, pause, replies) {
+        match attempt_with(table, seat, job, worker, pause) {
             Ok(Attempt::Committed(receipt)) => {
                 pause.after_receipt(worker, receipt.number);
                 return Ok(receipt);
@@ -96,7 +93,6 @@ pub(crate) fn retry_in<V: Value, J: Job<V>, P: Pause>(
 /// `Refused` as the last attempt was: after an attempt that others stood in the way of comes the next, any other refusal is the last.
 /// `GivenUp` where the job gave up; never `NotStarted`. The seat gains no receipt then. In the end it has no transaction.
 pub fn retry<V: Value, J: Job<V>, P: Pause>(
-    alloc: Global,
     table: &TxTable<V>,
     seat: &mut TxSeat<V>,
     job: &J,
@@ -111,18 +107,7 @@ pub fn retry<V: Value, J: Job<V>, P: Pause>(
     ensures receipt { IfOk result (HasReceipt (J.asks job.now) table.now tries seat.old.seat seat.new.seat) }
     ensures none { IfErr result (HasNoReceipt (J.asks job.now) table.now tries seat.old.seat seat.new.seat) }
 {
-    let mut replies = Vec::new(alloc);
     let way = Way::new();
     let mut courtesy = Courtesy::of(worker);
-    retry_in(
-        table,
-        seat,
-        job,
-        tries,
-        worker,
-        pause,
-        &way,
-        &mut courtesy,
-        &mut replies,
-    )
+    retry_in(table, seat, job, tries, worker, pause, &way, &mut courtesy)
 }

@@ -4,7 +4,6 @@ ghost use Rattle.table_tests.specs.Fit.{IsFit};
 use crate::shared::{Listed, Meeting, Page};
 use attempts::{Attempt, Pause, attempt_with};
 use seq_model::{Call, Refusal, Request};
-use std::alloc::Global;
 use step_script::Line;
 use transactions::TxSeat;
 use tx_table::TxTable;
@@ -88,7 +87,7 @@ pub fn try_job(
     requires fit { IsFit table.now seat.old }
     ensures fit { IsFit table.now seat.new }
 {
-    let attempted = attempt(page.alloc(), table, seat, job, worker, meeting, is_held);
+    let attempted = attempt(table, seat, job, worker, meeting, is_held);
     hear_attempt(page, attempted, worker, meeting);
 }
 
@@ -113,7 +112,6 @@ fn hear_attempt(
 
 #[tactic(auto, using(crate::proofs::FitLemmas::rests_fit))]
 fn attempt(
-    alloc: Global,
     table: &TxTable<u64>,
     seat: &mut TxSeat<u64>,
     job: &Listed,
@@ -125,9 +123,9 @@ fn attempt(
     ensures fit { IsFit table.now seat.new }
 {
     if is_held {
-        attempt_with(alloc, table, seat, job, worker, meeting)
+        attempt_with(table, seat, job, worker, meeting)
     } else {
-        attempts::attempt(alloc, table, seat, job)
+        attempts::attempt(table, seat, job)
     }
 }
 

@@ -96,7 +96,7 @@ fn retry_job(
     requires ready { IsReady table.now seat.old }
     ensures ready { IsReady table.now seat.new }
 {
-    match retry(page.alloc(), table, seat, job, tries, 1, &NoPause) {
+    match retry(table, seat, job, tries, 1, &NoPause) {
         Ok(receipt) => page.keep(receipt),
         Err(LastAbort::Refused(refusal)) => page.refuse(refusal),
         Err(LastAbort::GivenUp) => page.say("given up"),
