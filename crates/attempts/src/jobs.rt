@@ -141,7 +141,6 @@ pub fn attempt_with<V: Value, J: Job<V>, P: Pause>(
 {
     let mut replies = seat.take_replies(table);
     let attempted = attempt_in(table, seat, job, worker, pause, &mut replies);
-    replies.clear();
     seat.keep_replies(table, replies);
     attempted
 }

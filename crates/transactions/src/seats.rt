@@ -48,8 +48,7 @@ impl<V: Value> TxSeat<V> {
         }
     }
 
-    /// A list for the replies to a job, with what is in it, and with the room that the one before had, once that was handed back
-    /// (`keep_replies`).
+    /// A list for the replies to a job, which has the room that the one before had, once that was handed back (`keep_replies`).
     pub fn take_replies(&mut self, table: &TxTable<V>) -> Vec<Reply<V>>
         requires ready { IsReady table.now self.old }
         ensures ready { IsReady table.now self.new }
@@ -59,7 +58,7 @@ impl<V: Value> TxSeat<V> {
         mem::replace(&mut self.replies, Vec::new(self.alloc))
     }
 
-    /// Keeps a list for the next job.
+    /// Keeps the list of an attempt for the next one. What is in it goes.
     pub fn keep_replies(&mut self, table: &TxTable<V>, replies: Vec<Reply<V>>)
         requires ready { IsReady table.now self.old }
         ensures ready { IsReady table.now self.new }
@@ -67,6 +66,7 @@ impl<V: Value> TxSeat<V> {
     {
         let _ = table;
         self.replies = replies;
+        self.replies.clear();
     }
 
     /// Whether a transaction is open.
