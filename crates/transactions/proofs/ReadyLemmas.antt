@@ -6,6 +6,7 @@ use Rattle.seq_model.specs.declared.call.Reply.{Reply}
 use Rattle.seq_model.specs.declared.event.Answer.TheVariants as answer
 use Rattle.seq_model.specs.declared.record.Record.{Record}
 use Rattle.seq_model.specs.declared.refusal.Refusal.{Refusal}
+use Rattle.seq_model.specs.declared.refusal.Refusal.TheVariants.{NoTransaction}
 use Rattle.word_machine.specs.World.{blank}
 use Rattle.step_core.specs.Blank.{IsBlank}
 use Rattle.replay_log.specs.Seats.{World, Seat, no_one}
@@ -28,7 +29,7 @@ use Rattle.tx_phases.specs.Phases.{Rests, phase}
 use Rattle.transactions.proofs.RequestLemmas.{is_idle, is_open}
 use Rattle.driven_turns.specs.Begins.{begins_asked, begins_of, begins_taken}
 use Rattle.driven_turns.specs.Driven.{HasTold, IsNumberOf, seat_in, standing}
-use Rattle.transactions.specs.Ready.{HasBegunSince, HasOpened, IsNew, IsReady}
+use Rattle.transactions.specs.Ready.{HasBegunSince, HasCalled, HasOpened, IsNew, IsReady}
 use Rattle.transactions.specs.Requests.{CallLeaves, CallsTo, HasCommitted, IsBegun, IsNotBegun, IsOpen, OnlyKnows}
 use Rattle.transactions.specs.declared.seats.TxSeat.{TxSeat}
 use Rattle.tx_turns.specs.Ties.{Ties, laid_in}
@@ -120,6 +121,29 @@ module _ {V : Type 0} where
       let high = h.1 in
       let rises = C.keeps.rises in
       (omega (arith, low, e, last), omega (arith, high, e, rises))
+
+  -- there is no transaction where one is open
+  not_both : (o : World V) (s : table.Seat V) → standing o s ≡ Rests → IsOpen o s → ⊥
+  not_both o s rests opened = (let e = sym rests ∙ opened.1 in let z : ⊥ = cc in z)
+
+  pub has_called : (t : TxTable V) (s u : TxSeat V) (call : Call V) (r : Result (Reply V) Refusal) → IsReady t s → HasBegunSince t s
+      → IsOpen (opening_of t) s.seat → Ties t u.seat u.actor → HasOwn t u.seat u.actor [] → CallsTo (opening_of t) s.seat call u.seat r
+      → HasCalled t s u call r
+  has_called t s u call r ready since opened ties own C = record {
+    ready = call_ready t s u call r ready opened ties own C;
+    since = call_since t s u call r since opened C;
+    calls = λ _. C;
+    none = λ rests. absurd (not_both (opening_of t) s.seat rests opened);
+  }
+
+  pub none_called : (t : TxTable V) (s : TxSeat V) (call : Call V) → IsReady t s → HasBegunSince t s → (s.actor.stage ≡ stage.Open → ⊥)
+      → HasCalled t s s call (Err NoTransaction)
+  none_called t s call ready since isnt = record {
+    ready = ready;
+    since = since;
+    calls = λ opened. absurd (isnt (is_open t s.seat s.actor ready.ties opened.0 opened.1));
+    none = λ _. (refl, refl);
+  }
 
   -- where there is no transaction there is nothing to be said of one
   pub rests_since : (t : TxTable V) (s : TxSeat V) → standing (opening_of t) s.seat ≡ Rests → HasBegunSince t s

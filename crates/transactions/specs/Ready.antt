@@ -1,5 +1,9 @@
--- A seat with the actor that runs there, between its requests.
-use Rattle.std.specs.Prelude.{◌≡◌, ◌⊎◌, ℕ, ◌<◌, ◌≤◌, []}
+-- A seat with the actor that runs there, between its requests, and what a call leaves of it.
+use Rattle.std.specs.Prelude.{◌≡◌, ◌⊎◌, ℕ, ◌<◌, ◌≤◌, [], Err, Result}
+use Rattle.seq_model.specs.declared.call.Call.{Call}
+use Rattle.seq_model.specs.declared.call.Reply.{Reply}
+use Rattle.seq_model.specs.declared.refusal.Refusal.{Refusal}
+use Rattle.seq_model.specs.declared.refusal.Refusal.TheVariants.{NoTransaction}
 use Rattle.replay_log.specs.WorldProgress.{AreSmall}
 use Rattle.tx_table.specs.declared.seat.Seat.{Seat}
 use Rattle.tx_table.specs.declared.table.TxTable.{TxTable}
@@ -11,7 +15,7 @@ use Rattle.tx_phases.specs.Phases.{Rests}
 use Rattle.transactions.specs.declared.seats.TxSeat.{TxSeat}
 pub use Rattle.driven_turns.specs.Driven.{standing}
 use Rattle.driven_turns.specs.Driven.{seat_in}
-use Rattle.transactions.specs.Requests.{IsOpen}
+use Rattle.transactions.specs.Requests.{CallsTo, IsOpen}
 
 module _ {V : Type 0} where
   -- a live seat of the table whose actor has asked nothing so far
@@ -40,3 +44,11 @@ module _ {V : Type 0} where
   HasBegunSince t s =
       IsOpen (opening_of t) s.seat
       → (s.seat.last ≤ (seat_in (opening_of t) s.seat).rv) × ((seat_in (opening_of t) s.seat).rv ≤ (view s.seat).clock)
+
+  -- The seat s, at which a call was made, is u now: an open transaction has made it, or was refused it; where there is none it is refused
+  -- as such, and the seat is as it was.
+  pub record HasCalled (t : TxTable V) (s u : TxSeat V) (call : Call V) (r : Result (Reply V) Refusal) : Type 0 where
+    pub ready : IsReady t u
+    pub since : HasBegunSince t u
+    pub calls : IsOpen (opening_of t) s.seat → CallsTo (opening_of t) s.seat call u.seat r
+    pub none : standing (opening_of t) s.seat ≡ Rests → (r ≡ Err NoTransaction) × (u ≡ s)

@@ -6,8 +6,8 @@ ghost use Rattle.tx_table.specs.Seated.{opening_of, view};
 ghost use Rattle.tx_phases.specs.Phases.{Rests, Stands};
 ghost use Rattle.driven_turns.specs.Begins.{begins_of};
 ghost use Rattle.driven_turns.specs.Driven.{IsNumberOf, seat_in, standing};
-ghost use Rattle.transactions.specs.Ready.{HasBegunSince, HasOpened, IsNew, IsReady};
-ghost use Rattle.transactions.specs.Requests.{CallsTo, HasCommitted, IsBegun, IsEnded, IsNotBegun, IsOpen, KeepsReceipts};
+ghost use Rattle.transactions.specs.Ready.{HasBegunSince, HasCalled, HasOpened, IsNew, IsReady};
+ghost use Rattle.transactions.specs.Requests.{HasCommitted, IsBegun, IsEnded, IsNotBegun, IsOpen, KeepsReceipts};
 ghost use Rattle.transactions.specs.Requests.{OnlyKnows, has_written};
 
 use boxes::Boxed;
@@ -151,11 +151,7 @@ impl<V: Value> TxSeat<V> {
     pub fn call(&mut self, table: &TxTable<V>, call: Call<V>) -> Result<Reply<V>, Refusal>
         requires ready { IsReady table.now self.old }
         requires since { HasBegunSince table.now self.old }
-        ensures ready { IsReady table.now self.new }
-        ensures since { HasBegunSince table.now self.new }
-        ensures calls { IsOpen (opening_of table.now) self.old.seat →
-            CallsTo (opening_of table.now) self.old.seat call self.new.seat result }
-        ensures none { standing (opening_of table.now) self.old.seat ≡ Rests → (result ≡ Err NoTransaction) × (self.new ≡ self.old) }
+        ensures called { HasCalled table.now self.old self.new call result }
         ensures begins { begins_of self.new.seat ≡ begins_of self.old.seat }
     {
         if !self.is_open() {
@@ -175,11 +171,7 @@ impl<V: Value> TxSeat<V> {
     pub fn read(&mut self, table: &TxTable<V>, word: u32) -> Result<Reply<V>, Refusal>
         requires ready { IsReady table.now self.old }
         requires since { HasBegunSince table.now self.old }
-        ensures ready { IsReady table.now self.new }
-        ensures since { HasBegunSince table.now self.new }
-        ensures calls { IsOpen (opening_of table.now) self.old.seat →
-            CallsTo (opening_of table.now) self.old.seat (record { target = word; op = op.Read }) self.new.seat result }
-        ensures none { standing (opening_of table.now) self.old.seat ≡ Rests → (result ≡ Err NoTransaction) × (self.new ≡ self.old) }
+        ensures called { HasCalled table.now self.old self.new (record { target = word; op = op.Read }) result }
         ensures begins { begins_of self.new.seat ≡ begins_of self.old.seat }
     {
         let call = Call {
@@ -193,11 +185,7 @@ impl<V: Value> TxSeat<V> {
     pub fn write(&mut self, table: &TxTable<V>, word: u32, value: u64) -> Result<Reply<V>, Refusal>
         requires ready { IsReady table.now self.old }
         requires since { HasBegunSince table.now self.old }
-        ensures ready { IsReady table.now self.new }
-        ensures since { HasBegunSince table.now self.new }
-        ensures calls { IsOpen (opening_of table.now) self.old.seat →
-            CallsTo (opening_of table.now) self.old.seat (record { target = word; op = op.Write value }) self.new.seat result }
-        ensures none { standing (opening_of table.now) self.old.seat ≡ Rests → (result ≡ Err NoTransaction) × (self.new ≡ self.old) }
+        ensures called { HasCalled table.now self.old self.new (record { target = word; op = op.Write value }) result }
         ensures begins { begins_of self.new.seat ≡ begins_of self.old.seat }
     {
         let call = Call {

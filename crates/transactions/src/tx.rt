@@ -1,15 +1,15 @@
 //! A transaction that borrows the seat at which it runs.
-ghost use Rattle.std.specs.Prelude.{◌≡◌, ◌<◌, Err, IfErr, IfOk, OnErr, OnOk, false, max, true};
+ghost use Rattle.std.specs.Prelude.{◌≡◌, ◌<◌, IfErr, IfOk, OnErr, OnOk, false, max, true};
 ghost use Rattle.std.specs.Borrow.{RestsIfErr, sem};
 ghost use Rattle.seq_model.specs.declared.call.Op.TheVariants as op;
-ghost use Rattle.seq_model.specs.declared.refusal.Refusal.TheVariants.{Ahead, NoTransaction};
+ghost use Rattle.seq_model.specs.declared.refusal.Refusal.TheVariants.{Ahead};
 ghost use Rattle.tx_table.specs.Seated.{opening_of, view};
 ghost use Rattle.tx_phases.specs.Phases.{Rests};
 ghost use Rattle.transactions.specs.contracts.seats.TxSeat.{the_row};
 ghost use Rattle.transactions.specs.Borrowed.{CommitsTo, IsBegunSince, IsRefusedBegin};
 ghost use Rattle.driven_turns.specs.Driven.{standing};
-ghost use Rattle.transactions.specs.Ready.{HasBegunSince, IsReady};
-ghost use Rattle.transactions.specs.Requests.{CallsTo, IsOpen, KeepsReceipts, OnlyKnows};
+ghost use Rattle.transactions.specs.Ready.{HasBegunSince, HasCalled, IsReady};
+ghost use Rattle.transactions.specs.Requests.{KeepsReceipts, OnlyKnows};
 
 use crate::seats::TxSeat;
 use seq_model::{Call, Op, Record, Refusal, Reply, Value};
@@ -94,13 +94,8 @@ impl<'a, V: Value> Tx<'a, V> {
         requires since { HasBegunSince self.old.table.now self.old.seat.now }
         ensures same_reference { self.new.seat.ghost_name ≡ self.old.seat.ghost_name }
         ensures same_table { self.new.table.now ≡ self.old.table.now }
-        ensures ready { IsReady self.new.table.now self.new.seat.now }
-        ensures since { HasBegunSince self.new.table.now self.new.seat.now }
-        ensures calls { IsOpen (opening_of self.old.table.now) self.old.seat.now.seat →
-            CallsTo (opening_of self.old.table.now) self.old.seat.now.seat (record { target = target; op = op })
-            self.new.seat.now.seat result }
-        ensures none { standing (opening_of self.old.table.now) self.old.seat.now.seat ≡ Rests →
-            (result ≡ Err NoTransaction) × (self.new.seat.now ≡ self.old.seat.now) }
+        ensures called { HasCalled self.old.table.now self.old.seat.now self.new.seat.now
+            (record { target = target; op = op }) result }
     {
         self.seat.call(self.table, Call { target, op })
     }
@@ -111,13 +106,8 @@ impl<'a, V: Value> Tx<'a, V> {
         requires since { HasBegunSince self.old.table.now self.old.seat.now }
         ensures same_reference { self.new.seat.ghost_name ≡ self.old.seat.ghost_name }
         ensures same_table { self.new.table.now ≡ self.old.table.now }
-        ensures ready { IsReady self.new.table.now self.new.seat.now }
-        ensures since { HasBegunSince self.new.table.now self.new.seat.now }
-        ensures calls { IsOpen (opening_of self.old.table.now) self.old.seat.now.seat →
-            CallsTo (opening_of self.old.table.now) self.old.seat.now.seat (record { target = word; op = op.Read })
-            self.new.seat.now.seat result }
-        ensures none { standing (opening_of self.old.table.now) self.old.seat.now.seat ≡ Rests →
-            (result ≡ Err NoTransaction) × (self.new.seat.now ≡ self.old.seat.now) }
+        ensures called { HasCalled self.old.table.now self.old.seat.now self.new.seat.now
+            (record { target = word; op = op.Read }) result }
     {
         self.seat.read(self.table, word)
     }
@@ -128,13 +118,8 @@ impl<'a, V: Value> Tx<'a, V> {
         requires since { HasBegunSince self.old.table.now self.old.seat.now }
         ensures same_reference { self.new.seat.ghost_name ≡ self.old.seat.ghost_name }
         ensures same_table { self.new.table.now ≡ self.old.table.now }
-        ensures ready { IsReady self.new.table.now self.new.seat.now }
-        ensures since { HasBegunSince self.new.table.now self.new.seat.now }
-        ensures calls { IsOpen (opening_of self.old.table.now) self.old.seat.now.seat →
-            CallsTo (opening_of self.old.table.now) self.old.seat.now.seat (record { target = word; op = op.Write value })
-            self.new.seat.now.seat result }
-        ensures none { standing (opening_of self.old.table.now) self.old.seat.now.seat ≡ Rests →
-            (result ≡ Err NoTransaction) × (self.new.seat.now ≡ self.old.seat.now) }
+        ensures called { HasCalled self.old.table.now self.old.seat.now self.new.seat.now
+            (record { target = word; op = op.Write value }) result }
     {
         self.seat.write(self.table, word, value)
     }

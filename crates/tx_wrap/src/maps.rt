@@ -1,8 +1,7 @@
 //! The typed calls on a map.
 ghost use Rattle.std.specs.Prelude.{◌≡◌};
 ghost use Rattle.seq_model.specs.declared.call.Op.TheVariants as op;
-ghost use Rattle.transactions.specs.Ready.{HasBegunSince, IsReady};
-ghost use Rattle.tx_wrap.specs.Called.{HasCalled};
+ghost use Rattle.transactions.specs.Ready.{HasBegunSince, HasCalled, IsReady};
 
 use seq_model::{Op, Refusal, Reply, Value};
 use std::marker::PhantomData;

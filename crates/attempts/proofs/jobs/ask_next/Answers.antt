@@ -14,7 +14,7 @@ returns-in_err-reply-in-Call-clause-refused g c =
     let asked = asked_here asks _ c.args.replies.now.items _ _ c.as_slice.ensures.value c.in-Call.is c.in_ok-ask.ensures in
     let p = err_from_is_err_and c.from_residual-in_err-reply-in-Call.result c.from_residual-in_err-reply-in-Call.ensures.1 in
     rw (p.1, p.2) (inl (call_refused asks (opening_of c.args.table.now) c.args.seat.now.seat c.call.new.self.seat
-    c.args.replies.now.items c.in-Call.call _ so_far asked (c.in_err-reply-in-Call.ensures.calls (so_far.calls, so_far.stands))))
+    c.args.replies.now.items c.in-Call.call _ so_far asked (c.in_err-reply-in-Call.ensures.called.calls (so_far.calls, so_far.stands))))
 
 pub returns-in-Done-clause-reaches : goal.returns-in-Done-clause-reaches
 returns-in-Done-clause-reaches g c =
@@ -36,13 +36,13 @@ returns-in_ok-push-in-Call-clause-so_far g c =
     let asked = asked_here asks _ c.args.replies.now.items _ _ c.as_slice.ensures.value c.in-Call.is c.in_ok-ask.ensures in
     subst (λ rs. IsSoFar asks o c.call.new.self.seat rs) (sym c.in_ok-push-in-Call.ensures.items)
     (call_made asks o c.args.seat.now.seat c.call.new.self.seat c.args.replies.now.items c.in-Call.call c.in_ok-reply-in-Call.reply
-    so_far asked (c.in_ok-reply-in-Call.ensures.calls (so_far.calls, so_far.stands)))
+    so_far asked (c.in_ok-reply-in-Call.ensures.called.calls (so_far.calls, so_far.stands)))
 
 pub returns-in_ok-push-in-Call-clause-room : goal.returns-in_ok-push-in-Call-clause-room
 returns-in_ok-push-in-Call-clause-room g c =
     let asks = g.J.Job.asks c.args.job.now in
     let so_far = c.requires.so_far in (
       call_within asks (opening_of c.args.table.now) c.args.seat.now.seat c.call.new.self.seat c.args.replies.now.items c.in-Call.call
-          c.in_ok-reply-in-Call.reply so_far (c.in_ok-reply-in-Call.ensures.calls (so_far.calls, so_far.stands)),
+          c.in_ok-reply-in-Call.reply so_far (c.in_ok-reply-in-Call.ensures.called.calls (so_far.calls, so_far.stands)),
       ap length c.in_ok-push-in-Call.ensures.items ∙ length-append c.args.replies.now.items (c.in_ok-reply-in-Call.reply ∷ []),
     )
