@@ -29,7 +29,7 @@ use Rattle.tx_phases.specs.Phases.{Rests, phase}
 use Rattle.transactions.proofs.RequestLemmas.{is_idle, is_open}
 use Rattle.driven_turns.specs.Begins.{begins_asked, begins_of, begins_taken}
 use Rattle.driven_turns.specs.Driven.{HasTold, IsNumberOf, seat_in, standing}
-use Rattle.transactions.specs.Ready.{HasBegunSince, HasCalled, HasOpened, IsNew, IsReady}
+use Rattle.transactions.specs.Ready.{CanDrive, HasBegunSince, HasCalled, HasOpened, IsNew, IsReady}
 use Rattle.transactions.specs.Requests.{CallLeaves, CallsTo, HasCommitted, IsBegun, IsNotBegun, IsOpen, OnlyKnows}
 use Rattle.transactions.specs.declared.seats.TxSeat.{TxSeat}
 use Rattle.tx_turns.specs.Ties.{Ties, laid_in}
@@ -75,6 +75,9 @@ module _ {V : Type 0} where
       }
 
   -- ---- between its requests
+  pub can_drive : (t : TxTable V) (s : TxSeat V) → IsReady t s → CanDrive t s.seat s.actor
+  can_drive t s ready = record { ties = ready.ties; own = ready.own; small = ready.table.small }
+
   module _ (t : TxTable V) (s : TxSeat V) (ready : IsReady t s) where
     pub has_open : s.actor.stage ≡ stage.Open → IsOpen (opening_of t) s.seat
     has_open at = by ready.between
@@ -102,12 +105,11 @@ module _ {V : Type 0} where
       by (Err cause) (inr ended) = inl ended.0
 
   pub call_ready : (t : TxTable V) (s u : TxSeat V) (call : Call V) (r : Result (Reply V) Refusal) → IsReady t s
-      → IsOpen (opening_of t) s.seat → Ties t u.seat u.actor → HasOwn t u.seat u.actor [] → CallsTo (opening_of t) s.seat call u.seat r
-      → IsReady t u
-  call_ready t s u call r ready opened ties own C = record {
+      → IsOpen (opening_of t) s.seat → CanDrive t u.seat u.actor → CallsTo (opening_of t) s.seat call u.seat r → IsReady t u
+  call_ready t s u call r ready opened drives C = record {
     table = ready.table;
-    ties = ties;
-    own = own;
+    ties = drives.ties;
+    own = drives.own;
     between = call_between (opening_of t) s.seat u.seat call r opened C;
   }
 
@@ -127,10 +129,9 @@ module _ {V : Type 0} where
   not_both o s rests opened = (let e = sym rests ∙ opened.1 in let z : ⊥ = cc in z)
 
   pub has_called : (t : TxTable V) (s u : TxSeat V) (call : Call V) (r : Result (Reply V) Refusal) → IsReady t s → HasBegunSince t s
-      → IsOpen (opening_of t) s.seat → Ties t u.seat u.actor → HasOwn t u.seat u.actor [] → CallsTo (opening_of t) s.seat call u.seat r
-      → HasCalled t s u call r
-  has_called t s u call r ready since opened ties own C = record {
-    ready = call_ready t s u call r ready opened ties own C;
+      → IsOpen (opening_of t) s.seat → CanDrive t u.seat u.actor → CallsTo (opening_of t) s.seat call u.seat r → HasCalled t s u call r
+  has_called t s u call r ready since opened drives C = record {
+    ready = call_ready t s u call r ready opened drives C;
     since = call_since t s u call r since opened C;
     calls = λ _. C;
     none = λ rests. absurd (not_both (opening_of t) s.seat rests opened);
@@ -149,18 +150,19 @@ module _ {V : Type 0} where
   pub rests_since : (t : TxTable V) (s : TxSeat V) → standing (opening_of t) s.seat ≡ Rests → HasBegunSince t s
   rests_since t s rests still = absurd (let e = sym rests ∙ still.1 in let z : ⊥ = cc in z)
 
-  pub rests_ready : (t : TxTable V) (s u : TxSeat V) → IsReady t s → Ties t u.seat u.actor → HasOwn t u.seat u.actor []
-      → standing (opening_of t) u.seat ≡ Rests → IsReady t u
-  rests_ready t s u ready ties own rests = record { table = ready.table; ties = ties; own = own; between = inl rests }
+  pub rests_ready : (t : TxTable V) (s u : TxSeat V) → IsReady t s → CanDrive t u.seat u.actor → standing (opening_of t) u.seat ≡ Rests
+      → IsReady t u
+  rests_ready t s u ready drives rests =
+      record { table = ready.table; ties = drives.ties; own = drives.own; between = inl rests }
 
   -- one that has just begun, from m on
-  pub begun_ready : (declared : Bool) (t : TxTable V) (s m u : TxSeat V) (r : Result ℕ Refusal) → IsReady t s → Ties t u.seat u.actor
-      → HasOwn t u.seat u.actor [] → IfOk r (IsBegun declared (opening_of t) m.seat u.seat)
+  pub begun_ready : (declared : Bool) (t : TxTable V) (s m u : TxSeat V) (r : Result ℕ Refusal) → IsReady t s
+      → CanDrive t u.seat u.actor → IfOk r (IsBegun declared (opening_of t) m.seat u.seat)
       → IfErr r (IsNotBegun (opening_of t) m.seat u.seat) → IsReady t u
-  begun_ready declared t s m u (Ok rv) ready ties own begun isnt =
-      record { table = ready.table; ties = ties; own = own; between = inr ([], begun.stands) }
-  begun_ready declared t s m u (Err cause) ready ties own begun isnt =
-      record { table = ready.table; ties = ties; own = own; between = inl isnt.0 }
+  begun_ready declared t s m u (Ok rv) ready drives begun isnt =
+      record { table = ready.table; ties = drives.ties; own = drives.own; between = inr ([], begun.stands) }
+  begun_ready declared t s m u (Err cause) ready drives begun isnt =
+      record { table = ready.table; ties = drives.ties; own = drives.own; between = inl isnt.0 }
 
   pub begun_since : (declared : Bool) (t : TxTable V) (m u : TxSeat V) (r : Result ℕ Refusal) → m.seat.last ≤ (view m.seat).clock
       → u.seat.last ≡ m.seat.last → IfOk r (IsBegun declared (opening_of t) m.seat u.seat)
@@ -273,6 +275,14 @@ module _ {V : Type 0} where
   noted_ties t s u r place asked ties =
       stays_tied t s u r (ap (λ p. p.table_id) place ∙ ties.owns) (ap (λ p. p.id) place) (noted_acts (opening_of t) s u place asked)
       (let f : (view u).shares ≡ (view s).shares = ap (λ p. p.me.0.shares) place in let l = ties.live in omega (arith, f, l)) ties
+
+  pub noted_drives : (t : TxTable V) (s u : table.Seat V) (r : TxActor V) → u.place ≡ s.place → u.asked ≡ s.asked → CanDrive t s r
+      → CanDrive t u r
+  noted_drives t s u r place asked drives = record {
+    ties = noted_ties t s u r place asked drives.ties;
+    own = noted_own t s u r place asked drives.own;
+    small = drives.small;
+  }
 
   -- a committed one
   pub commit_numbers : (rv k last : ℕ) (r : Record V) → IsNumberOf rv k r → last ≤ rv → rv ≤ k

@@ -5,6 +5,7 @@ use Rattle.seq_model.specs.declared.call.Reply.{Reply}
 use Rattle.seq_model.specs.declared.refusal.Refusal.{Refusal}
 use Rattle.seq_model.specs.declared.refusal.Refusal.TheVariants.{NoTransaction}
 use Rattle.replay_log.specs.WorldProgress.{AreSmall}
+use Rattle.tx_actor.specs.declared.actor.TxActor.{TxActor}
 use Rattle.tx_table.specs.declared.seat.Seat.{Seat}
 use Rattle.tx_table.specs.declared.table.TxTable.{TxTable}
 use Rattle.tx_table.specs.Seated.{Owns, blocks_in, list_of, opening_of, out, view}
@@ -30,6 +31,13 @@ module _ {V : Type 0} where
   pub record HasOpened (t : TxTable V) : Type 0 where
     pub small : AreSmall (blocks_in t)
     pub opening : (a : ℕ) → IsReached (opening_of t) a (opening_of t)
+
+  -- The seat drives requests of the actor: it runs it, with no base in hand, and none of the table's collections has more locations than a
+  -- set takes.
+  pub record CanDrive (t : TxTable V) (s : Seat V) (r : TxActor V) : Type 0 where
+    pub ties : Ties t s r
+    pub own : HasOwn t s r []
+    pub small : AreSmall (blocks_in t)
 
   -- No request is under way: there is no transaction, or one is open. No gate is held, and no base is out.
   pub record IsReady (t : TxTable V) (s : TxSeat V) : Type 0 where

@@ -1,14 +1,12 @@
 //! The calls of a transaction, on words and on collections.
-ghost use Rattle.std.specs.Prelude.{◌≡◌, [], IfErr, IfOk, OnErr, OnOk};
+ghost use Rattle.std.specs.Prelude.{◌≡◌, IfErr, IfOk, OnErr, OnOk};
 ghost use Rattle.replay_log.specs.WorldAnswers.{IsAdmitted};
-ghost use Rattle.replay_log.specs.WorldProgress.{AreSmall};
-ghost use Rattle.tx_table.specs.Seated.{actor as actor_of, acts, blocks_in, opening_of};
+ghost use Rattle.tx_table.specs.Seated.{actor as actor_of, acts, opening_of};
 ghost use Rattle.tx_phases.specs.Phases.{Rests};
 ghost use Rattle.tx_turns.specs.Asked.{Answers, HasAsked};
-ghost use Rattle.tx_turns.specs.Ties.{Ties};
-ghost use Rattle.gate_turns.specs.Own.{HasOwn};
 ghost use Rattle.driven_turns.specs.Begins.{begins_of};
 ghost use Rattle.driven_turns.specs.Driven.{standing};
+ghost use Rattle.transactions.specs.Ready.{CanDrive};
 ghost use Rattle.transactions.specs.Requests.{CallsTo, IsCallTold, IsCalling, IsDriven, IsOpen, KeepsReceipts, told_of};
 
 use crate::requests::abort;
@@ -41,12 +39,9 @@ fn driven_call<V: Value>(
     actor: &mut TxActor<V>,
     bases: &mut Vec<Boxed<Base<V>>>,
 ) -> Result<Reply<V>, Refusal>
-    requires ties { Ties table.now seat.old actor.old }
-    requires own { HasOwn table.now seat.old actor.old [] }
-    requires small { AreSmall (blocks_in table.now) }
+    requires drives { CanDrive table.now seat.old actor.old }
     requires calls { IsCalling (opening_of table.now) seat.old }
-    ensures ties { Ties table.now seat.new actor.new }
-    ensures own { HasOwn table.now seat.new actor.new [] }
+    ensures drives { CanDrive table.now seat.new actor.new }
     ensures driven { IsDriven (opening_of table.now) seat.old seat.new (told_of result) }
 {
     let (told, _) = drive(alloc, table, seat, actor, bases);
@@ -63,12 +58,9 @@ pub(crate) fn ask_open<V: Value>(
     bases: &mut Vec<Boxed<Base<V>>>,
     request: Request<V>,
 ) -> Result<Told<V>, Refusal>
-    requires ties { Ties table.now seat.old actor.old }
-    requires own { HasOwn table.now seat.old actor.old [] }
-    requires small { AreSmall (blocks_in table.now) }
+    requires drives { CanDrive table.now seat.old actor.old }
     requires open { IsOpen (opening_of table.now) seat.old }
-    ensures ties { Ties table.now seat.new actor.new }
-    ensures own { HasOwn table.now seat.new actor.new [] }
+    ensures drives { CanDrive table.now seat.new actor.new }
     ensures asked { OnOk result (HasAsked seat.old request seat.new) }
     ensures answers { IfOk result (Answers (opening_of table.now) seat.old request) }
     ensures memory { IfErr result (λ cause. cause ≡ Refusal.OutOfMemory) }
@@ -96,12 +88,9 @@ pub(crate) fn call<V: Value>(
     bases: &mut Vec<Boxed<Base<V>>>,
     call: Call<V>,
 ) -> Result<Reply<V>, Refusal>
-    requires ties { Ties table.now seat.old actor.old }
-    requires own { HasOwn table.now seat.old actor.old [] }
-    requires small { AreSmall (blocks_in table.now) }
+    requires drives { CanDrive table.now seat.old actor.old }
     requires open { IsOpen (opening_of table.now) seat.old }
-    ensures ties { Ties table.now seat.new actor.new }
-    ensures own { HasOwn table.now seat.new actor.new [] }
+    ensures drives { CanDrive table.now seat.new actor.new }
     ensures calls { CallsTo (opening_of table.now) seat.old call seat.new result }
     ensures begins { begins_of seat.new ≡ begins_of seat.old }
 {

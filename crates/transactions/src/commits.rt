@@ -1,13 +1,11 @@
 //! The commit of a transaction.
-ghost use Rattle.std.specs.Prelude.{◌≡◌, [], IfErr, IfOk, MatchResult, None, OnErr, Some, not};
-ghost use Rattle.replay_log.specs.WorldProgress.{AreSmall};
-ghost use Rattle.tx_table.specs.Seated.{blocks_in, opening_of, view};
+ghost use Rattle.std.specs.Prelude.{◌≡◌, IfErr, IfOk, MatchResult, None, OnErr, Some, not};
+ghost use Rattle.tx_table.specs.Seated.{opening_of, view};
 ghost use Rattle.tx_phases.specs.Phases.{Commits, Stands};
 ghost use Rattle.driven_turns.specs.Begins.{begins_of};
 ghost use Rattle.driven_turns.specs.Driven.{IsNumberOf, KnowsNumber, is_closing, seat_in, standing};
+ghost use Rattle.transactions.specs.Ready.{CanDrive};
 ghost use Rattle.transactions.specs.Requests.{HasCommitted, IsCommitTold, IsCommitting, IsEnded, IsOpen, KeepsReceipts, has_written};
-ghost use Rattle.tx_turns.specs.Ties.{Ties};
-ghost use Rattle.gate_turns.specs.Own.{HasOwn};
 
 use crate::calls::ask_open;
 use boxes::Boxed;
@@ -40,12 +38,9 @@ fn committed<V: Value>(
     actor: &mut TxActor<V>,
     bases: &mut Vec<Boxed<Base<V>>>,
 ) -> Result<Record<V>, Refusal>
-    requires ties { Ties table.now seat.old actor.old }
-    requires own { HasOwn table.now seat.old actor.old [] }
-    requires small { AreSmall (blocks_in table.now) }
+    requires drives { CanDrive table.now seat.old actor.old }
     requires commits { IsCommitting (opening_of table.now) seat.old }
-    ensures ties { Ties table.now seat.new actor.new }
-    ensures own { HasOwn table.now seat.new actor.new [] }
+    ensures drives { CanDrive table.now seat.new actor.new }
     ensures last { seat.new.last ≡ seat.old.last }
     ensures committed { IfOk result (HasCommitted (opening_of table.now) seat.old seat.new) }
     ensures calls { IfOk result (λ receipt. standing (opening_of table.now) seat.old ≡ Commits receipt.calls) }
@@ -68,12 +63,9 @@ pub(crate) fn commit<V: Value>(
     actor: &mut TxActor<V>,
     bases: &mut Vec<Boxed<Base<V>>>,
 ) -> Result<Record<V>, Refusal>
-    requires ties { Ties table.now seat.old actor.old }
-    requires own { HasOwn table.now seat.old actor.old [] }
-    requires small { AreSmall (blocks_in table.now) }
+    requires drives { CanDrive table.now seat.old actor.old }
     requires open { IsOpen (opening_of table.now) seat.old }
-    ensures ties { Ties table.now seat.new actor.new }
-    ensures own { HasOwn table.now seat.new actor.new [] }
+    ensures drives { CanDrive table.now seat.new actor.new }
     ensures last { seat.new.last ≡ seat.old.last }
     ensures committed { IfOk result (HasCommitted (opening_of table.now) seat.old seat.new) }
     ensures calls { IfOk result (λ receipt. standing (opening_of table.now) seat.old ≡ Stands receipt.calls) }

@@ -1,13 +1,11 @@
 //! Requests of a transaction: one that begins, and one that ends without a commit.
-ghost use Rattle.std.specs.Prelude.{◌≡◌, ◌+◌, [], IfErr, IfOk, false, true};
-ghost use Rattle.replay_log.specs.WorldProgress.{AreSmall};
-ghost use Rattle.tx_table.specs.Seated.{blocks_in, opening_of};
+ghost use Rattle.std.specs.Prelude.{◌≡◌, ◌+◌, IfErr, IfOk, false, true};
+ghost use Rattle.tx_table.specs.Seated.{opening_of};
 ghost use Rattle.tx_phases.specs.Phases.{Rests};
 ghost use Rattle.driven_turns.specs.Begins.{begins_of};
 ghost use Rattle.driven_turns.specs.Driven.{is_declared, standing};
+ghost use Rattle.transactions.specs.Ready.{CanDrive};
 ghost use Rattle.transactions.specs.Requests.{IsBeginTold, IsBegun, IsNotBegun, IsOpen, KeepsReceipts, begin_of};
-ghost use Rattle.tx_turns.specs.Ties.{Ties};
-ghost use Rattle.gate_turns.specs.Own.{HasOwn};
 
 use boxes::Boxed;
 use driven_turns::drive;
@@ -38,12 +36,9 @@ fn begun<V: Value>(
     actor: &mut TxActor<V>,
     bases: &mut Vec<Boxed<Base<V>>>,
 ) -> Result<u64, Refusal>
-    requires ties { Ties table.now seat.old actor.old }
-    requires own { HasOwn table.now seat.old actor.old [] }
-    requires small { AreSmall (blocks_in table.now) }
+    requires drives { CanDrive table.now seat.old actor.old }
     requires stage { actor.old.stage ≡ Stage.Beginning }
-    ensures ties { Ties table.now seat.new actor.new }
-    ensures own { HasOwn table.now seat.new actor.new [] }
+    ensures drives { CanDrive table.now seat.new actor.new }
     ensures keeps { KeepsReceipts seat.old seat.new }
     ensures begun { IfOk result (IsBegun (is_declared (opening_of table.now) seat.old) (opening_of table.now) seat.old seat.new) }
     ensures refused { IfErr result (IsNotBegun (opening_of table.now) seat.old seat.new) }
@@ -62,12 +57,9 @@ pub(crate) fn begin<V: Value>(
     actor: &mut TxActor<V>,
     bases: &mut Vec<Boxed<Base<V>>>,
 ) -> Result<u64, Refusal>
-    requires ties { Ties table.now seat.old actor.old }
-    requires own { HasOwn table.now seat.old actor.old [] }
-    requires small { AreSmall (blocks_in table.now) }
+    requires drives { CanDrive table.now seat.old actor.old }
     requires rests { standing (opening_of table.now) seat.old ≡ Rests }
-    ensures ties { Ties table.now seat.new actor.new }
-    ensures own { HasOwn table.now seat.new actor.new [] }
+    ensures drives { CanDrive table.now seat.new actor.new }
     ensures keeps { KeepsReceipts seat.old seat.new }
     ensures begun { IfOk result (IsBegun false (opening_of table.now) seat.old seat.new) }
     ensures refused { IfErr result (IsNotBegun (opening_of table.now) seat.old seat.new) }
@@ -86,12 +78,9 @@ pub(crate) fn begin_read<V: Value>(
     actor: &mut TxActor<V>,
     bases: &mut Vec<Boxed<Base<V>>>,
 ) -> Result<u64, Refusal>
-    requires ties { Ties table.now seat.old actor.old }
-    requires own { HasOwn table.now seat.old actor.old [] }
-    requires small { AreSmall (blocks_in table.now) }
+    requires drives { CanDrive table.now seat.old actor.old }
     requires rests { standing (opening_of table.now) seat.old ≡ Rests }
-    ensures ties { Ties table.now seat.new actor.new }
-    ensures own { HasOwn table.now seat.new actor.new [] }
+    ensures drives { CanDrive table.now seat.new actor.new }
     ensures keeps { KeepsReceipts seat.old seat.new }
     ensures begun { IfOk result (IsBegun true (opening_of table.now) seat.old seat.new) }
     ensures refused { IfErr result (IsNotBegun (opening_of table.now) seat.old seat.new) }
@@ -110,12 +99,9 @@ pub(crate) fn abort<V: Value>(
     actor: &mut TxActor<V>,
     bases: &mut Vec<Boxed<Base<V>>>,
 )
-    requires ties { Ties table.now seat.old actor.old }
-    requires own { HasOwn table.now seat.old actor.old [] }
-    requires small { AreSmall (blocks_in table.now) }
+    requires drives { CanDrive table.now seat.old actor.old }
     requires open { IsOpen (opening_of table.now) seat.old }
-    ensures ties { Ties table.now seat.new actor.new }
-    ensures own { HasOwn table.now seat.new actor.new [] }
+    ensures drives { CanDrive table.now seat.new actor.new }
     ensures keeps { KeepsReceipts seat.old seat.new }
     ensures rests { standing (opening_of table.now) seat.new ≡ Rests }
     ensures begins { begins_of seat.new ≡ begins_of seat.old }

@@ -1,6 +1,4 @@
-use Rattle.std.proofs.Common.{[], ◌∙◌, ◌≢◌, arith, refl, subst, sym, rules}
-use Rattle.std.proofs.lemmas.Grind.{common_steps}
-use Rattle.gate_turns.specs.Own.{HasOwn}
+use Rattle.std.proofs.Common.{◌∙◌, ◌≢◌, refl, subst, sym, rules}
 use Rattle.std.specs.Prelude.{Err}
 use Rattle.seq_model.specs.declared.event.Request.TheVariants as request
 use Rattle.seq_model.specs.declared.refusal.Refusal.{Refusal}
@@ -20,7 +18,7 @@ driven_call-requires-clause-calls g c = (
   (
     c.args.call,
     calls_on c.args.table.now c.args.seat.now c.ask_open.new.seat c.args.call c.requires.open
-        c.in-Ok-Quiet.ensures.asked c.args.actor.now c.requires.ties c.requires.open.0 c.requires.open.1
+        c.in-Ok-Quiet.ensures.asked c.args.actor.now c.requires.drives.ties c.requires.open.0 c.requires.open.1
         (subst (λ (n : Told _). Answers (opening_of c.args.table.now) c.args.seat.now
         (request.Call c.args.call) n) c.in-Ok-Quiet.field-0-is c.in-Ok-Quiet.ensures.answers),
   ),
@@ -34,13 +32,12 @@ reply_told-requires g c =
 
 pub returns-in-Ok-Quiet-clause-calls : goal.returns-in-Ok-Quiet-clause-calls
 returns-in-Ok-Quiet-clause-calls g c =
-    let own : HasOwn c.args.table.now c.ask_open.new.seat c.ask_open.new.actor [] = first_of (search rules, grind (arith, common_steps)) in
     driven_calls c.args.table.now c.args.seat.now c.ask_open.new.seat c.args.call c.requires.open
-    c.in-Ok-Quiet.ensures.asked c.args.actor.now c.driven_call.new.seat c.driven_call.result c.requires.ties
+    c.in-Ok-Quiet.ensures.asked c.args.actor.now c.driven_call.new.seat c.driven_call.result c.requires.drives.ties
     (subst (λ (n : Told _). Answers (opening_of c.args.table.now) c.args.seat.now
     (request.Call c.args.call) n) c.in-Ok-Quiet.field-0-is c.in-Ok-Quiet.ensures.answers)
-    (bare_out c.args.table.now c.driven_call.new.seat c.driven_call.new.actor c.driven_call.ensures.own
-    ∙ sym (bare_out c.args.table.now c.ask_open.new.seat c.ask_open.new.actor own))
+    (bare_out c.args.table.now c.driven_call.new.seat c.driven_call.new.actor c.driven_call.ensures.drives.own
+    ∙ sym (bare_out c.args.table.now c.ask_open.new.seat c.ask_open.new.actor c.ask_open.ensures.drives.own))
     c.driven_call.ensures.driven
 
 pub returns-in-Ok-clause-calls : goal.returns-in-Ok-clause-calls

@@ -15,7 +15,7 @@ committed-requires-clause-commits g c = (
 pub returns-clause-committed : goal.returns-clause-committed
 returns-clause-committed g c =
     (finishes_since c.args.table.now c.args.seat.now c.ask_open.new.seat c.committed.new.seat c.args.actor.now c.requires.open.0
-    c.committed.result c.requires.ties c.requires.open.1 c.in_ok-ask_open.ensures.asked (record {
+    c.committed.result c.requires.drives.ties c.requires.open.1 c.in_ok-ask_open.ensures.asked (record {
       committed = c.committed.ensures.committed;
       calls = c.committed.ensures.calls;
       writes = c.committed.ensures.writes;
@@ -27,7 +27,7 @@ returns-clause-committed g c =
 pub returns-clause-calls : goal.returns-clause-calls
 returns-clause-calls g c =
     (finishes_since c.args.table.now c.args.seat.now c.ask_open.new.seat c.committed.new.seat c.args.actor.now c.requires.open.0
-    c.committed.result c.requires.ties c.requires.open.1 c.in_ok-ask_open.ensures.asked (record {
+    c.committed.result c.requires.drives.ties c.requires.open.1 c.in_ok-ask_open.ensures.asked (record {
       committed = c.committed.ensures.committed;
       calls = c.committed.ensures.calls;
       writes = c.committed.ensures.writes;
@@ -39,7 +39,7 @@ returns-clause-calls g c =
 pub returns-clause-writes : goal.returns-clause-writes
 returns-clause-writes g c =
     (finishes_since c.args.table.now c.args.seat.now c.ask_open.new.seat c.committed.new.seat c.args.actor.now c.requires.open.0
-    c.committed.result c.requires.ties c.requires.open.1 c.in_ok-ask_open.ensures.asked (record {
+    c.committed.result c.requires.drives.ties c.requires.open.1 c.in_ok-ask_open.ensures.asked (record {
       committed = c.committed.ensures.committed;
       calls = c.committed.ensures.calls;
       writes = c.committed.ensures.writes;
@@ -51,7 +51,7 @@ returns-clause-writes g c =
 pub returns-clause-number : goal.returns-clause-number
 returns-clause-number g c =
     (finishes_since c.args.table.now c.args.seat.now c.ask_open.new.seat c.committed.new.seat c.args.actor.now c.requires.open.0
-    c.committed.result c.requires.ties c.requires.open.1 c.in_ok-ask_open.ensures.asked (record {
+    c.committed.result c.requires.drives.ties c.requires.open.1 c.in_ok-ask_open.ensures.asked (record {
       committed = c.committed.ensures.committed;
       calls = c.committed.ensures.calls;
       writes = c.committed.ensures.writes;
@@ -63,7 +63,7 @@ returns-clause-number g c =
 pub returns-clause-keeps : goal.returns-clause-keeps
 returns-clause-keeps g c =
     (finishes_since c.args.table.now c.args.seat.now c.ask_open.new.seat c.committed.new.seat c.args.actor.now c.requires.open.0
-    c.committed.result c.requires.ties c.requires.open.1 c.in_ok-ask_open.ensures.asked (record {
+    c.committed.result c.requires.drives.ties c.requires.open.1 c.in_ok-ask_open.ensures.asked (record {
       committed = c.committed.ensures.committed;
       calls = c.committed.ensures.calls;
       writes = c.committed.ensures.writes;
@@ -75,7 +75,7 @@ returns-clause-keeps g c =
 pub returns-clause-ended : goal.returns-clause-ended
 returns-clause-ended g c =
     (finishes_since c.args.table.now c.args.seat.now c.ask_open.new.seat c.committed.new.seat c.args.actor.now c.requires.open.0
-    c.committed.result c.requires.ties c.requires.open.1 c.in_ok-ask_open.ensures.asked (record {
+    c.committed.result c.requires.drives.ties c.requires.open.1 c.in_ok-ask_open.ensures.asked (record {
       committed = c.committed.ensures.committed;
       calls = c.committed.ensures.calls;
       writes = c.committed.ensures.writes;

@@ -13,14 +13,14 @@ pub commit_told-requires : goal.commit_told-requires
 commit_told-requires g c =
     commit_told (opening_of c.args.table.now) c.args.seat.now c.drive-told.new.seat c.requires.commits.0 c.requires.commits.1
     (bare_out c.args.table.now c.drive-told.new.seat c.drive-told.new.actor c.drive-told.ensures.own
-    ∙ sym (bare_out c.args.table.now c.args.seat.now c.args.actor.now c.requires.own))
+    ∙ sym (bare_out c.args.table.now c.args.seat.now c.args.actor.now c.requires.drives.own))
     c.drive-told.result.0 c.drive-told.result.1 c.drive-told.ensures.answered c.drive-told.ensures.driven
 
 pub returns-clause-committed : goal.returns-clause-committed
 returns-clause-committed g c =
     (finishes (opening_of c.args.table.now) c.args.seat.now c.drive-told.new.seat c.requires.commits.0 c.requires.commits.1
     (bare_out c.args.table.now c.drive-told.new.seat c.drive-told.new.actor c.drive-told.ensures.own
-    ∙ sym (bare_out c.args.table.now c.args.seat.now c.args.actor.now c.requires.own))
+    ∙ sym (bare_out c.args.table.now c.args.seat.now c.args.actor.now c.requires.drives.own))
     c.drive-told.result.0 c.drive-told.result.1 c.commit_told.result c.drive-told.ensures.answered c.drive-told.ensures.driven
     c.commit_told.ensures).committed
 
@@ -28,7 +28,7 @@ pub returns-clause-calls : goal.returns-clause-calls
 returns-clause-calls g c =
     (finishes (opening_of c.args.table.now) c.args.seat.now c.drive-told.new.seat c.requires.commits.0 c.requires.commits.1
     (bare_out c.args.table.now c.drive-told.new.seat c.drive-told.new.actor c.drive-told.ensures.own
-    ∙ sym (bare_out c.args.table.now c.args.seat.now c.args.actor.now c.requires.own))
+    ∙ sym (bare_out c.args.table.now c.args.seat.now c.args.actor.now c.requires.drives.own))
     c.drive-told.result.0 c.drive-told.result.1 c.commit_told.result c.drive-told.ensures.answered c.drive-told.ensures.driven
     c.commit_told.ensures).calls
 
@@ -36,7 +36,7 @@ pub returns-clause-writes : goal.returns-clause-writes
 returns-clause-writes g c =
     (finishes (opening_of c.args.table.now) c.args.seat.now c.drive-told.new.seat c.requires.commits.0 c.requires.commits.1
     (bare_out c.args.table.now c.drive-told.new.seat c.drive-told.new.actor c.drive-told.ensures.own
-    ∙ sym (bare_out c.args.table.now c.args.seat.now c.args.actor.now c.requires.own))
+    ∙ sym (bare_out c.args.table.now c.args.seat.now c.args.actor.now c.requires.drives.own))
     c.drive-told.result.0 c.drive-told.result.1 c.commit_told.result c.drive-told.ensures.answered c.drive-told.ensures.driven
     c.commit_told.ensures).writes
 
@@ -44,7 +44,7 @@ pub returns-clause-number : goal.returns-clause-number
 returns-clause-number g c =
     (finishes (opening_of c.args.table.now) c.args.seat.now c.drive-told.new.seat c.requires.commits.0 c.requires.commits.1
     (bare_out c.args.table.now c.drive-told.new.seat c.drive-told.new.actor c.drive-told.ensures.own
-    ∙ sym (bare_out c.args.table.now c.args.seat.now c.args.actor.now c.requires.own))
+    ∙ sym (bare_out c.args.table.now c.args.seat.now c.args.actor.now c.requires.drives.own))
     c.drive-told.result.0 c.drive-told.result.1 c.commit_told.result c.drive-told.ensures.answered c.drive-told.ensures.driven
     c.commit_told.ensures).number
 
@@ -52,7 +52,7 @@ pub returns-clause-keeps : goal.returns-clause-keeps
 returns-clause-keeps g c =
     (finishes (opening_of c.args.table.now) c.args.seat.now c.drive-told.new.seat c.requires.commits.0 c.requires.commits.1
     (bare_out c.args.table.now c.drive-told.new.seat c.drive-told.new.actor c.drive-told.ensures.own
-    ∙ sym (bare_out c.args.table.now c.args.seat.now c.args.actor.now c.requires.own))
+    ∙ sym (bare_out c.args.table.now c.args.seat.now c.args.actor.now c.requires.drives.own))
     c.drive-told.result.0 c.drive-told.result.1 c.commit_told.result c.drive-told.ensures.answered c.drive-told.ensures.driven
     c.commit_told.ensures).keeps
 
@@ -60,7 +60,7 @@ pub returns-clause-ended : goal.returns-clause-ended
 returns-clause-ended g c =
     (finishes (opening_of c.args.table.now) c.args.seat.now c.drive-told.new.seat c.requires.commits.0 c.requires.commits.1
     (bare_out c.args.table.now c.drive-told.new.seat c.drive-told.new.actor c.drive-told.ensures.own
-    ∙ sym (bare_out c.args.table.now c.args.seat.now c.args.actor.now c.requires.own))
+    ∙ sym (bare_out c.args.table.now c.args.seat.now c.args.actor.now c.requires.drives.own))
     c.drive-told.result.0 c.drive-told.result.1 c.commit_told.result c.drive-told.ensures.answered c.drive-told.ensures.driven
     c.commit_told.ensures).ended
 

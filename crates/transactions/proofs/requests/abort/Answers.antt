@@ -9,12 +9,12 @@ use Rattle.transactions.proofs.requests.abort.Goals as goal
 
 pub ask_abort-requires-clause-open : goal.ask_abort-requires-clause-open
 ask_abort-requires-clause-open g c =
-    is_open c.args.table.now c.args.seat.now c.args.actor.now c.requires.ties c.requires.open.0 c.requires.open.1
+    is_open c.args.table.now c.args.seat.now c.args.actor.now c.requires.drives.ties c.requires.open.0 c.requires.open.1
 
 pub drive-requires-clause-own : goal.drive-requires-clause-own
 drive-requires-clause-own g c =
     abort_own c.args.table.now c.args.seat.now c.ask_abort.new.seat c.args.actor.now c.ask_abort.new.actor c.requires.open.0
-    c.requires.open.1 c.requires.ties c.requires.own c.ask_abort.ensures.asked c.ask_abort.ensures.ties
+    c.requires.open.1 c.requires.drives.ties c.requires.drives.own c.ask_abort.ensures.asked c.ask_abort.ensures.ties
 
 pub drive-requires-clause-under : goal.drive-requires-clause-under
 drive-requires-clause-under g c =
@@ -32,7 +32,7 @@ returns-clause-keeps g c =
     (bare_out c.args.table.now c.drive.new.seat c.drive.new.actor c.drive.ensures.own
     ∙ sym (bare_out c.args.table.now c.ask_abort.new.seat c.ask_abort.new.actor
     (abort_own c.args.table.now c.args.seat.now c.ask_abort.new.seat c.args.actor.now c.ask_abort.new.actor c.requires.open.0
-    c.requires.open.1 c.requires.ties c.requires.own c.ask_abort.ensures.asked c.ask_abort.ensures.ties)))
+    c.requires.open.1 c.requires.drives.ties c.requires.drives.own c.ask_abort.ensures.asked c.ask_abort.ensures.ties)))
     c.drive.ensures.driven c.drive.ensures.answered).0
 
 pub returns-clause-rests : goal.returns-clause-rests
@@ -43,7 +43,7 @@ returns-clause-rests g c =
     (bare_out c.args.table.now c.drive.new.seat c.drive.new.actor c.drive.ensures.own
     ∙ sym (bare_out c.args.table.now c.ask_abort.new.seat c.ask_abort.new.actor
     (abort_own c.args.table.now c.args.seat.now c.ask_abort.new.seat c.args.actor.now c.ask_abort.new.actor c.requires.open.0
-    c.requires.open.1 c.requires.ties c.requires.own c.ask_abort.ensures.asked c.ask_abort.ensures.ties)))
+    c.requires.open.1 c.requires.drives.ties c.requires.drives.own c.ask_abort.ensures.asked c.ask_abort.ensures.ties)))
     c.drive.ensures.driven c.drive.ensures.answered).1
 
 pub returns-clause-begins : goal.returns-clause-begins

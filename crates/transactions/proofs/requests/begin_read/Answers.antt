@@ -8,14 +8,14 @@ use Rattle.transactions.proofs.RequestLemmas.{asked_begin_read, asked_keeps, ask
 use Rattle.transactions.proofs.requests.begin_read.Goals as goal
 
 pub ask_begin_read-requires-clause-idle : goal.ask_begin_read-requires-clause-idle
-ask_begin_read-requires-clause-idle g c = is_idle c.args.table.now c.args.seat.now c.args.actor.now c.requires.ties c.requires.rests
+ask_begin_read-requires-clause-idle g c = is_idle c.args.table.now c.args.seat.now c.args.actor.now c.requires.drives.ties c.requires.rests
 
 pub begun-requires-clause-own : goal.begun-requires-clause-own
 begun-requires-clause-own g c =
     let at = c.ask_begin_read.ensures.stage in
     free_own c.args.table.now c.ask_begin_read.new.seat c.ask_begin_read.new.actor (subst IsFree (sym at) tt)
     (ap (λ (s : own.Stage _). gates_at s) at)
-    (ap (λ m. m.1) c.ask_begin_read.ensures.asked.1 ∙ bare_out c.args.table.now c.args.seat.now c.args.actor.now c.requires.own)
+    (ap (λ m. m.1) c.ask_begin_read.ensures.asked.1 ∙ bare_out c.args.table.now c.args.seat.now c.args.actor.now c.requires.drives.own)
 
 pub returns-clause-keeps : goal.returns-clause-keeps
 returns-clause-keeps g c =
@@ -28,7 +28,7 @@ returns-clause-begun g c =
     let o = opening_of c.args.table.now in
     let m = c.ask_begin_read.new.seat in
     let has = c.ask_begin_read.ensures.asked in
-    let declared = asked_begin_read c.args.table.now c.args.seat.now m c.args.actor.now c.requires.ties c.requires.rests has in
+    let declared = asked_begin_read c.args.table.now c.args.seat.now m c.args.actor.now c.requires.drives.ties c.requires.rests has in
     (begun_since true o c.args.seat.now m c.begun.new.seat c.begun.result (asked_keeps c.args.seat.now m (has.0, has.1))
     (begun_as true (is_declared o m) o m c.begun.new.seat c.begun.result declared c.begun.ensures.begun) c.begun.ensures.refused).0
 

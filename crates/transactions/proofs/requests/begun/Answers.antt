@@ -8,24 +8,24 @@ use Rattle.transactions.proofs.requests.begun.Goals as goal
 pub drive-told-requires-clause-under : goal.drive-told-requires-clause-under
 drive-told-requires-clause-under g c =
     under_begins (seat_in (opening_of c.args.table.now) c.args.seat.now)
-    (begins c.args.table.now c.args.seat.now c.args.actor.now c.requires.ties c.requires.stage)
+    (begins c.args.table.now c.args.seat.now c.args.actor.now c.requires.drives.ties c.requires.stage)
 
 pub begin_told-requires : goal.begin_told-requires
 begin_told-requires g c =
     let o = opening_of c.args.table.now in
     begin_told (is_declared o c.args.seat.now) o c.args.seat.now c.drive-told.new.seat c.drive-told.result.0
     (begins_to o c.args.seat.now c.drive-told.new.seat c.drive-told.result.0 c.drive-told.result.1
-    (begins c.args.table.now c.args.seat.now c.args.actor.now c.requires.ties c.requires.stage)
+    (begins c.args.table.now c.args.seat.now c.args.actor.now c.requires.drives.ties c.requires.stage)
     (bare_out c.args.table.now c.drive-told.new.seat c.drive-told.new.actor c.drive-told.ensures.own
-    ∙ sym (bare_out c.args.table.now c.args.seat.now c.args.actor.now c.requires.own))
+    ∙ sym (bare_out c.args.table.now c.args.seat.now c.args.actor.now c.requires.drives.own))
     c.drive-told.ensures.driven c.drive-told.ensures.answered).1
 
 pub returns-clause-keeps : goal.returns-clause-keeps
 returns-clause-keeps g c =
     (begins_to (opening_of c.args.table.now) c.args.seat.now c.drive-told.new.seat c.drive-told.result.0 c.drive-told.result.1
-    (begins c.args.table.now c.args.seat.now c.args.actor.now c.requires.ties c.requires.stage)
+    (begins c.args.table.now c.args.seat.now c.args.actor.now c.requires.drives.ties c.requires.stage)
     (bare_out c.args.table.now c.drive-told.new.seat c.drive-told.new.actor c.drive-told.ensures.own
-    ∙ sym (bare_out c.args.table.now c.args.seat.now c.args.actor.now c.requires.own))
+    ∙ sym (bare_out c.args.table.now c.args.seat.now c.args.actor.now c.requires.drives.own))
     c.drive-told.ensures.driven c.drive-told.ensures.answered).0
 
 pub returns-clause-begun : goal.returns-clause-begun
@@ -34,9 +34,9 @@ returns-clause-begun g c =
     (begun_by (is_declared o c.args.seat.now) o c.args.seat.now c.drive-told.new.seat c.drive-told.result.0 c.begin_told.result
     c.begin_told.ensures
     (begins_to o c.args.seat.now c.drive-told.new.seat c.drive-told.result.0 c.drive-told.result.1
-    (begins c.args.table.now c.args.seat.now c.args.actor.now c.requires.ties c.requires.stage)
+    (begins c.args.table.now c.args.seat.now c.args.actor.now c.requires.drives.ties c.requires.stage)
     (bare_out c.args.table.now c.drive-told.new.seat c.drive-told.new.actor c.drive-told.ensures.own
-    ∙ sym (bare_out c.args.table.now c.args.seat.now c.args.actor.now c.requires.own))
+    ∙ sym (bare_out c.args.table.now c.args.seat.now c.args.actor.now c.requires.drives.own))
     c.drive-told.ensures.driven c.drive-told.ensures.answered).1).0
 
 pub returns-clause-refused : goal.returns-clause-refused
@@ -45,9 +45,9 @@ returns-clause-refused g c =
     (begun_by (is_declared o c.args.seat.now) o c.args.seat.now c.drive-told.new.seat c.drive-told.result.0 c.begin_told.result
     c.begin_told.ensures
     (begins_to o c.args.seat.now c.drive-told.new.seat c.drive-told.result.0 c.drive-told.result.1
-    (begins c.args.table.now c.args.seat.now c.args.actor.now c.requires.ties c.requires.stage)
+    (begins c.args.table.now c.args.seat.now c.args.actor.now c.requires.drives.ties c.requires.stage)
     (bare_out c.args.table.now c.drive-told.new.seat c.drive-told.new.actor c.drive-told.ensures.own
-    ∙ sym (bare_out c.args.table.now c.args.seat.now c.args.actor.now c.requires.own))
+    ∙ sym (bare_out c.args.table.now c.args.seat.now c.args.actor.now c.requires.drives.own))
     c.drive-told.ensures.driven c.drive-told.ensures.answered).1).1
 
 pub returns-clause-begins : goal.returns-clause-begins

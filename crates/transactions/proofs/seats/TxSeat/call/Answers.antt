@@ -10,4 +10,4 @@ pub returns-clause-called : goal.returns-clause-called
 returns-clause-called g c =
     has_called c.args.table.now c.args.self.now _ c.args.call c.call.result c.requires.ready c.requires.since
     (has_open c.args.table.now c.args.self.now c.requires.ready (rw c.if-is_open.false at c.is_open.ensures))
-    c.call.ensures.ties c.call.ensures.own c.call.ensures.calls
+    c.call.ensures.drives c.call.ensures.calls
