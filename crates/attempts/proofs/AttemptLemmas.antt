@@ -30,9 +30,10 @@ use Rattle.tx_table.specs.declared.seat.Seat.{Seat}
 use Rattle.tx_table.specs.Seated.{actor, acts}
 use Rattle.tx_phases.specs.Phases.{Stands, phase_at}
 use Rattle.transactions.proofs.CallLemmas.{stands_at}
-use Rattle.transactions.proofs.RequestLemmas.{asked_keeps, then_keeps}
+pub use Rattle.transactions.proofs.RequestLemmas.{keeps_self}
+use Rattle.transactions.proofs.RequestLemmas.{then_keeps}
 use Rattle.transactions.specs.Ready.{standing}
-use Rattle.transactions.specs.Requests.{CallsTo, HasCommitted, IsAnswered, IsEnded, KeepsReceipts, has_written, told_of}
+use Rattle.transactions.specs.Requests.{CallsTo, CommitsTo, IsAnswered, KeepsReceipts, told_of}
 use Rattle.attempts.proofs.JobLemmas.{asked_more, none_asked, replies_more}
 use Rattle.attempts.specs.Attempts.{EndsAs, HasGivenUp, HasMade, IsAt, IsCallRefused, IsSoFar, IsUnmade, Reaches, ask_of}
 use Rattle.attempts.specs.Jobs.{AreAskedBy}
@@ -85,9 +86,6 @@ module _ {V : Type 0} where
             (ltb-false (length calls) CALL_LIMIT e)) C)
 
   -- ---- one request more
-  pub keeps_self : (s : Seat V) → KeepsReceipts s s
-  keeps_self s = asked_keeps s s ((refl, refl, refl), refl)
-
   module _ (asks : List (Reply V) → Ask V → Type 0) (o : World V) where
     -- what is asked after the replies is asked after those to the calls
     asked_so_far : (s : Seat V) (replies : List (Reply V)) (next : Ask V) (k : IsSoFar asks o s replies) → asks replies next
@@ -177,13 +175,13 @@ module _ {V : Type 0} where
     pub at_end : (b m : Seat V) (e end : End) → e ≡ end → Reaches asks o b m e → Reaches asks o b m end
     at_end b m e end is k = subst (λ (f : End). Reaches asks o b m f) is k
 
-    pub has_made : (s b m u : Seat V) (r : Record V) → KeepsReceipts s b → Reaches asks o b m ends.Done → standing o m ≡ Stands r.calls
-        → r.writes ≡ has_written o m → (r.writes ≡ false → is_writer r.calls ≡ false) → HasCommitted o m u r
-        → (r.writes ≡ true → m.last < r.number)
+    pub has_made : (s b m u : Seat V) (r : Record V) → KeepsReceipts s b → Reaches asks o b m ends.Done → CommitsTo o m u (Ok r)
+        → (r.writes ≡ false → is_writer r.calls ≡ false) → (r.writes ≡ true → m.last < r.number)
         → (m.last ≤ r.number) × (u.last ≡ r.number) → HasMade asks o s u r
-    has_made s b m u r kept done stands writes reads C above last =
+    has_made s b m u r kept done made reads above last =
         let k : IsAt asks o s m done.0 ask.Done = at_before s b m done.0 ask.Done kept done.1 in
-        let e : done.0 ≡ r.calls = same_calls done.0 r.calls (sym k.stands ∙ stands) in
+        let e : done.0 ≡ r.calls = same_calls done.0 r.calls (sym k.stands ∙ made.calls) in
+        let C = made.committed in
         let same : m.last ≡ s.last = k.keeps.seat.2 in
         let low = last.0 in record {
           job = record {
@@ -198,17 +196,17 @@ module _ {V : Type 0} where
           last = (omega (arith, low, same), last.1);
           before = m;
           at = subst (λ (cs : List (Call V × Reply V)). IsAt asks o s m cs ask.Done) e k;
-          writes = writes;
+          writes = made.writes;
           reads = reads;
           committed = C;
         }
 
-    pub commit_refused : (s b m u : Seat V) (cause : Refusal) → KeepsReceipts s b → Reaches asks o b m ends.Done → KeepsReceipts m u
-        → IsEnded o m u cause → EndsAs asks o s u (Err cause)
-    commit_refused s b m u cause kept done ends ended =
+    pub commit_refused : (s b m u : Seat V) (cause : Refusal) → KeepsReceipts s b → Reaches asks o b m ends.Done
+        → CommitsTo o m u (Err cause) → EndsAs asks o s u (Err cause)
+    commit_refused s b m u cause kept done C =
         let k : IsAt asks o s m done.0 ask.Done = at_before s b m done.0 ask.Done kept done.1 in (
-          then_keeps s m u k.keeps ends,
-          inr (inl record { calls = done.0; before = m; at = k; ended = ended }),
+          then_keeps s m u k.keeps C.keeps,
+          inr (inl record { calls = done.0; before = m; at = k; ended = C.ended (done.0, k.stands) }),
         )
 
     pub given_up : (s b m u : Seat V) → KeepsReceipts s b → Reaches asks o b m ends.GivenUp → KeepsReceipts m u → HasGivenUp asks o s u

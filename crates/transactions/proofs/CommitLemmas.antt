@@ -2,7 +2,7 @@
 --
 -- Whether it has written is said by the stage to which the ask leads, and by its record after all turns (`Driven.written`).
 use Rattle.std.proofs.Common.{◌≡◌, ◌≢◌, ℕ, Bool, true, false, not, List, [], ◌∷◌, ◌++◌, Option, Some, None, Result, Ok, Err}
-use Rattle.std.proofs.Common.{IfOk, IfErr, MatchResult, OnErr, inl, inr, refl, sym, ap, ◌∙◌, subst, arith}
+use Rattle.std.proofs.Common.{MatchResult, inl, inr, refl, sym, ap, ◌∙◌, subst, arith}
 use Rattle.tx_sets.specs.Entries.{Entries}
 use Rattle.word_machine.specs.Actor as machine
 use Rattle.word_machine.specs.Actor.{Actor}
@@ -17,6 +17,7 @@ use Rattle.seq_model.specs.declared.event.Notice.TheVariants.{Answered, Refused}
 use Rattle.seq_model.specs.declared.event.Request.TheVariants.{Commit}
 use Rattle.seq_model.specs.declared.record.Record.{Record}
 use Rattle.seq_model.specs.declared.refusal.Refusal.{Refusal}
+use Rattle.seq_model.specs.declared.refusal.Refusal.TheVariants.{OutOfMemory}
 use Rattle.replay_log.proofs.ActionLemmas.{ask_goes}
 use Rattle.replay_log.proofs.SeatLemmas.{StageOk}
 use Rattle.replay_log.specs.Contents.{content}
@@ -38,7 +39,7 @@ use Rattle.driven_turns.proofs.KeptLemmas.{Keeps, asks_keep}
 use Rattle.transactions.proofs.RequestLemmas.{asked_keeps, ended_back, found_told, then_keeps, told_back, turns_keep}
 use Rattle.driven_turns.specs.Driven.{Driven, HasTold, IsNumberOf, IsStamped, IsStampedAt, IsTrue, KnowsNumber}
 use Rattle.driven_turns.specs.Driven.{is_closing, seat_in, standing}
-use Rattle.transactions.specs.Requests.{HasCommitted, IsCommitTold, IsEnded, KeepsReceipts, has_some, has_written}
+use Rattle.transactions.specs.Requests.{CommitsTo, HasCommitted, IsCommitTold, IsEnded, KeepsReceipts, has_some, has_written}
 use Rattle.tx_threads.proofs.OwnLemmas.{own_ok}
 use Rattle.tx_turns.proofs.AskedLemmas.{acts_taken}
 use Rattle.tx_turns.specs.Asked.{HasAsked}
@@ -194,35 +195,6 @@ module _ {V : Type 0} where
     commit_told n (Some r) ne D = tt
     commit_told n None ne D = none_told n ne (ends_from n None ne D.comes)
 
-  -- what a commit comes to, by what is handed out
-  pub record Finishes (o : World V) (s u : table.Seat V) (r : Result (Record V) Refusal) : Type 0 where
-    pub committed : IfOk r (HasCommitted o s u)
-    pub calls : IfOk r (λ q. standing o s ≡ Commits q.calls)
-    pub writes : IfOk r (λ q. q.writes ≡ not (is_closing (seat_in o s).stage))
-    pub number : IfOk r (λ q. KnowsNumber o s → IsNumberOf (seat_in o s).rv (view u).clock q)
-    pub keeps : OnErr r (KeepsReceipts s u)
-    pub ended : IfErr r (IsEnded o s u)
-
-  pub finishes : (o : World V) (s u : table.Seat V) (calls : List (Call V × Reply V)) → standing o s ≡ Commits calls → out u ≡ out s
-      → (n : Told V) (d : Option (Record V)) (r : Result (Record V) Refusal) → n ≢ told.Quiet → Driven o s u n d
-      → MatchResult r (λ q. d ≡ Some q) (λ cause. (d ≡ None) × (n ≡ told.Refused cause)) → Finishes o s u r
-  finishes o s u calls on outs n d (Ok q) ne D h =
-      let C = committed o s u calls on outs n q ne (subst (λ (k : Option (Record V)). Driven o s u n k) h D) in
-      record { committed = C.0; calls = C.1; writes = C.2; number = C.3; keeps = tt; ended = tt }
-  finishes o s u calls on outs n d (Err cause) ne D h =
-      let R = refused o s u calls on outs cause
-      (subst (λ (k : Told V × Option (Record V)). Driven o s u k.0 k.1) (λ i. (h.1 i, h.0 i)) D) in
-      record { committed = tt; calls = tt; writes = tt; number = tt; keeps = R.0; ended = R.1 }
-
-  -- and since it was asked
-  pub record FinishesOpen (o : World V) (s u : table.Seat V) (r : Result (Record V) Refusal) : Type 0 where
-    pub committed : IfOk r (HasCommitted o s u)
-    pub calls : IfOk r (λ q. standing o s ≡ Stands q.calls)
-    pub writes : IfOk r (λ q. q.writes ≡ has_written o s)
-    pub number : IfOk r (IsNumberOf (seat_in o s).rv (view u).clock)
-    pub keeps : OnErr r (KeepsReceipts s u)
-    pub ended : IfErr r (IsEnded o s u)
-
   same_stands : (cs calls : List (Call V × Reply V)) → ◌≡◌ {A = Phase V} (Commits cs) (Commits calls)
       → ◌≡◌ {A = Phase V} (Stands cs) (Stands calls)
   same_stands cs calls e = cc
@@ -240,28 +212,45 @@ module _ {V : Type 0} where
     told = told_back o s m u (told.Answered (answer.Committed r.number)) kept h.told;
   }
 
-  pub finishes_since : (t : TxTable V) (s m u : table.Seat V) (q : TxActor V) (calls : List (Call V × Reply V))
-      (r : Result (Record V) Refusal)
-      → Ties t s q → standing (opening_of t) s ≡ Stands calls → HasAsked s Commit m → Finishes (opening_of t) m u r
-      → FinishesOpen (opening_of t) s u r
-  finishes_since t s m u q calls (Ok r) ties on has F =
+  pub commits_to : (t : TxTable V) (s m u : table.Seat V) (q : TxActor V) (calls : List (Call V × Reply V)) → Ties t s q
+      → standing (opening_of t) s ≡ Stands calls → HasAsked s Commit m → out u ≡ out m → (n : Told V) (d : Option (Record V))
+      (r : Result (Record V) Refusal) → n ≢ told.Quiet → Driven (opening_of t) m u n d
+      → MatchResult r (λ q. d ≡ Some q) (λ cause. (d ≡ None) × (n ≡ told.Refused cause)) → CommitsTo (opening_of t) s u r
+  commits_to t s m u q calls ties on has outs n d (Ok r) ne D h =
       let o = opening_of t in
       let A = commit_asked o s m calls on has in
-      let rv = commit_began o s m calls on has in
+      let C = committed o m u calls A.0 outs n r ne (subst (λ (k : Option (Record V)). Driven o m u n k) h D) in
       record {
-        committed = committed_back o s m u r (asked_keeps s m (has.0, has.1)) F.committed;
-        calls = on ∙ same_stands calls r.calls (sym A.0 ∙ F.calls);
-        writes = F.writes ∙ (ap not A.1 ∙ not_twice (has_written o s));
-        number = subst (λ (k : ℕ). IsNumberOf k (view u).clock r) rv (F.number (commit_knows t s m q calls ties on has));
+        committed = committed_back o s m u r (asked_keeps s m (has.0, has.1)) C.0;
+        calls = on ∙ same_stands calls r.calls (sym A.0 ∙ C.1);
+        writes = C.2 ∙ (ap not A.1 ∙ not_twice (has_written o s));
+        number = subst (λ (k : ℕ). IsNumberOf k (view u).clock r) (commit_began o s m calls on has)
+            (C.3 (commit_knows t s m q calls ties on has));
         keeps = tt;
         ended = tt;
       }
-  finishes_since t s m u q calls (Err cause) ties on has F =
-      let kept = asked_keeps s m (has.0, has.1) in record {
+  commits_to t s m u q calls ties on has outs n d (Err cause) ne D h =
+      let o = opening_of t in
+      let kept = asked_keeps s m (has.0, has.1) in
+      let R = refused o m u calls (commit_asked o s m calls on has).0 outs cause
+      (subst (λ (k : Told V × Option (Record V)). Driven o m u k.0 k.1) (λ i. (h.1 i, h.0 i)) D) in
+      record {
         committed = tt;
         calls = tt;
         writes = tt;
         number = tt;
-        keeps = then_keeps s m u kept F.keeps;
-        ended = ended_back (opening_of t) s m u cause kept F.ended;
+        keeps = then_keeps s m u kept R.0;
+        ended = λ _. ended_back o s m u cause kept R.1;
       }
+
+  -- one that was refused memory as it was asked
+  pub starved_commit : (o : World V) (s u : table.Seat V) (cause : Refusal) → KeepsReceipts s u → standing o u ≡ Rests
+      → cause ≡ OutOfMemory → CommitsTo o s u (Err cause)
+  starved_commit o s u cause keeps rests memory = record {
+    committed = tt;
+    calls = tt;
+    writes = tt;
+    number = tt;
+    keeps = keeps;
+    ended = λ _. (rests, inr memory);
+  }

@@ -1,6 +1,6 @@
 -- A seat between its requests: how it begins, and that it is there again after each of them.
 use Rattle.std.proofs.Common.{◌≡◌, ◌⊎◌, ℕ, ◌+◌, ◌<◌, ◌≤◌, Bool, true, false, true≢false, [], ◌∷◌, ◌++◌, Result, Ok, Err, IfOk, IfErr}
-use Rattle.std.proofs.Common.{inl, inr, refl, sym, ap, ◌∙◌, subst, arith}
+use Rattle.std.proofs.Common.{inl, inr, max, refl, sym, ap, ◌∙◌, subst, arith}
 use Rattle.seq_model.specs.declared.call.Call.{Call}
 use Rattle.seq_model.specs.declared.call.Reply.{Reply}
 use Rattle.seq_model.specs.declared.event.Answer.TheVariants as answer
@@ -26,11 +26,11 @@ use Rattle.tx_table.specs.Seated as seated
 use Rattle.tx_table.specs.Shown.{IsReached, looking}
 use Rattle.tx_table.specs.Turns.{asked_all, lone}
 use Rattle.tx_phases.specs.Phases.{Rests, phase}
-use Rattle.transactions.proofs.RequestLemmas.{is_idle, is_open}
+use Rattle.transactions.proofs.RequestLemmas.{is_idle, is_open, keeps_self}
 use Rattle.driven_turns.specs.Begins.{begins_asked, begins_of, begins_taken}
 use Rattle.driven_turns.specs.Driven.{HasTold, IsNumberOf, seat_in, standing}
-use Rattle.transactions.specs.Ready.{CanDrive, HasBegunSince, HasCalled, HasOpened, IsNew, IsReady}
-use Rattle.transactions.specs.Requests.{CallLeaves, CallsTo, HasCommitted, IsBegun, IsNotBegun, IsOpen, OnlyKnows}
+use Rattle.transactions.specs.Ready.{CanDrive, HasBegunSince, HasCalled, HasFinished, HasOpened, IsNew, IsReady}
+use Rattle.transactions.specs.Requests.{CallLeaves, CallsTo, CommitsTo, HasCommitted, IsBegun, IsNotBegun, IsOpen, OnlyKnows}
 use Rattle.transactions.specs.declared.seats.TxSeat.{TxSeat}
 use Rattle.tx_turns.specs.Ties.{Ties, laid_in}
 use Rattle.gate_turns.specs.Bases.{AreBases, gates_at}
@@ -298,3 +298,69 @@ module _ {V : Type 0} where
       by false e =
           let is = h.reader e in
           (λ yes. absurd (true≢false (sym yes ∙ e)), omega (arith, is, low), omega (arith, is, high))
+
+  -- ---- a commit
+  pub none_finished : (t : TxTable V) (s : TxSeat V) → IsReady t s → (s.actor.stage ≡ stage.Open → ⊥)
+      → HasFinished t s s (Err NoTransaction)
+  none_finished t s ready isnt = record {
+    ready = ready;
+    rests = has_none t s ready isnt;
+    commits = record {
+      committed = tt;
+      calls = tt;
+      writes = tt;
+      number = tt;
+      keeps = keeps_self s.seat;
+      ended = λ opened. absurd (isnt (is_open t s.seat s.actor ready.ties opened.0 opened.1));
+    };
+    above = tt;
+    last = tt;
+    none = λ _. (refl, refl);
+  }
+
+  pub refused_finished : (t : TxTable V) (s u : TxSeat V) (cause : Refusal) → IsReady t s → IsOpen (opening_of t) s.seat
+      → CanDrive t u.seat u.actor → CommitsTo (opening_of t) s.seat u.seat (Err cause) → HasFinished t s u (Err cause)
+  refused_finished t s u cause ready opened drives C =
+      let rests : standing (opening_of t) u.seat ≡ Rests = (C.ended opened).0 in
+      record {
+        ready = rests_ready t s u ready drives rests;
+        rests = rests;
+        commits = C;
+        above = tt;
+        last = tt;
+        none = λ was. absurd (not_both (opening_of t) s.seat was opened);
+      }
+
+  -- with a receipt, which its seat is to note
+  module _ (t : TxTable V) (s : TxSeat V) (m : table.Seat V) (r : Record V) (since : HasBegunSince t s)
+      (C : CommitsTo (opening_of t) s.seat m (Ok r)) where
+    pub receipt_numbers : (r.writes ≡ true → s.seat.last < r.number) × (s.seat.last ≤ r.number) × (r.number ≤ (view m).clock)
+    receipt_numbers =
+        let rv = (seat_in (opening_of t) s.seat).rv in
+        let begun = since (r.calls, C.calls) in
+        let high = begun.1 in
+        let rises = C.committed.rises in
+        let known : rv ≤ (view m).clock = omega (arith, high, rises) in
+        commit_numbers rv (view m).clock s.seat.last r C.number begun.0 known
+
+    pub has_finished : (u : TxSeat V) → IsReady t s → CanDrive t m u.actor → m.last ≡ s.seat.last → u.seat.place ≡ m.place
+        → u.seat.asked ≡ m.asked → u.seat.last ≡ max m.last r.number → HasFinished t s u (Ok r)
+    has_finished u ready drives same place asked last =
+        let o = opening_of t in
+        let rests : standing o u.seat ≡ Rests = noted_stands o m u.seat place asked ∙ C.committed.rests in
+        let low = receipt_numbers.1 in
+        record {
+          ready = rests_ready t s u ready (noted_drives t m u.seat u.actor place asked drives) rests;
+          rests = rests;
+          commits = record {
+            committed = noted_committed o m u.seat place asked s.seat r C.committed;
+            calls = C.calls;
+            writes = C.writes;
+            number = subst (λ (k : ℕ). IsNumberOf (seat_in o s.seat).rv k r) (sym (ap (λ p. p.me.0.clock) place)) C.number;
+            keeps = tt;
+            ended = tt;
+          };
+          above = receipt_numbers.0;
+          last = (low, omega (arith, last, same, low));
+          none = λ was. absurd (not_both o s.seat was (r.calls, C.calls));
+        }

@@ -220,6 +220,9 @@ module _ {V : Type 0} where
     turns = ap (λ k. k.0.turns) had.1 ∙ sym (append-nil (view s).turns);
   }
 
+  pub keeps_self : (s : table.Seat V) → KeepsReceipts s s
+  keeps_self s = asked_keeps s s ((refl, refl, refl), refl)
+
   -- and so do turns without a receipt
   pub turns_keep : (o : World V) (s u : table.Seat V) (n : Told V) (d : Option (Record V)) → d ≡ None → out u ≡ out s → Driven o s u n d
       → KeepsReceipts s u

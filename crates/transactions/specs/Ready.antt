@@ -1,7 +1,8 @@
--- A seat with the actor that runs there, between its requests, and what a call leaves of it.
-use Rattle.std.specs.Prelude.{◌≡◌, ◌⊎◌, ℕ, ◌<◌, ◌≤◌, [], Err, Result}
+-- A seat with the actor that runs there, between its requests, and what a call and a commit leave of it.
+use Rattle.std.specs.Prelude.{◌≡◌, ◌⊎◌, ℕ, ◌<◌, ◌≤◌, true, [], Err, IfOk, Result}
 use Rattle.seq_model.specs.declared.call.Call.{Call}
 use Rattle.seq_model.specs.declared.call.Reply.{Reply}
+use Rattle.seq_model.specs.declared.record.Record.{Record}
 use Rattle.seq_model.specs.declared.refusal.Refusal.{Refusal}
 use Rattle.seq_model.specs.declared.refusal.Refusal.TheVariants.{NoTransaction}
 use Rattle.replay_log.specs.WorldProgress.{AreSmall}
@@ -16,7 +17,7 @@ use Rattle.tx_phases.specs.Phases.{Rests}
 use Rattle.transactions.specs.declared.seats.TxSeat.{TxSeat}
 pub use Rattle.driven_turns.specs.Driven.{standing}
 use Rattle.driven_turns.specs.Driven.{seat_in}
-use Rattle.transactions.specs.Requests.{CallsTo, IsOpen}
+use Rattle.transactions.specs.Requests.{CallsTo, CommitsTo, IsOpen}
 
 module _ {V : Type 0} where
   -- a live seat of the table whose actor has asked nothing so far
@@ -59,4 +60,14 @@ module _ {V : Type 0} where
     pub ready : IsReady t u
     pub since : HasBegunSince t u
     pub calls : IsOpen (opening_of t) s.seat → CallsTo (opening_of t) s.seat call u.seat r
+    pub none : standing (opening_of t) s.seat ≡ Rests → (r ≡ Err NoTransaction) × (u ≡ s)
+
+  -- The seat s, which was to commit, is u now, ready and without a transaction. Where it has a receipt more, its number is the last one of
+  -- the seat; where there was no transaction it is refused as such, and the seat is as it was.
+  pub record HasFinished (t : TxTable V) (s u : TxSeat V) (r : Result (Record V) Refusal) : Type 0 where
+    pub ready : IsReady t u
+    pub rests : standing (opening_of t) u.seat ≡ Rests
+    pub commits : CommitsTo (opening_of t) s.seat u.seat r
+    pub above : IfOk r (λ receipt. receipt.writes ≡ true → s.seat.last < receipt.number)
+    pub last : IfOk r (λ receipt. (s.seat.last ≤ receipt.number) × (u.seat.last ≡ receipt.number))
     pub none : standing (opening_of t) s.seat ≡ Rests → (r ≡ Err NoTransaction) × (u ≡ s)

@@ -1,5 +1,5 @@
 -- What a whole request comes to: a begin, a call, a commit, an end.
-use Rattle.std.specs.Prelude.{◌≡◌, ◌⊎◌, ℕ, ◌≤◌, Bool, true, false, List, [], ◌∷◌, ◌++◌, Option, Some, None, Result, Ok, Err}
+use Rattle.std.specs.Prelude.{◌≡◌, ◌⊎◌, ℕ, ◌≤◌, Bool, true, false, List, [], ◌∷◌, ◌++◌, Option, Some, None, Result, Ok, Err, IfOk, IfErr, OnErr}
 use Rattle.tx_sets.specs.Entries.{Entries}
 use Rattle.seq_model.specs.declared.call.Call.{Call}
 use Rattle.seq_model.specs.declared.call.Reply.{Reply}
@@ -17,8 +17,8 @@ use Rattle.tx_table.specs.declared.seat.Seat.{Seat}
 use Rattle.tx_table.specs.Seated.{IsSameSeat, actor, acts, out, view}
 use Rattle.tx_table.specs.declared.view.Turn.{Turn}
 use Rattle.tx_turns.specs.Asked.{Answers}
-use Rattle.tx_phases.specs.Phases.{Rests, Stands, Calls, Commits, IsMistaken}
-use Rattle.driven_turns.specs.Driven.{Driven, HasFound, HasTold, IsExhausted, is_declared, seat_in, standing}
+use Rattle.tx_phases.specs.Phases.{Rests, Stands, Calls, IsMistaken}
+use Rattle.driven_turns.specs.Driven.{Driven, HasFound, HasTold, IsExhausted, IsNumberOf, is_declared, seat_in, standing}
 
 -- there is some entry
 abbrev pub has_some : Entries → Bool
@@ -136,9 +136,6 @@ module _ {V : Type 0} where
   abbrev pub has_written : World V → Seat V → Bool
   has_written o s = has_some (actor_of (acts o s) (actor s)).writes
 
-  abbrev pub IsCommitting : World V → Seat V → Type 0
-  IsCommitting o s = (calls : List (Call V × Reply V)) × (standing o s ≡ Commits calls)
-
   -- a commit without a receipt is refused
   abbrev pub IsCommitTold : Told V → Option (Record V) → Type 0
   IsCommitTold n (Some r) = Unit {0}
@@ -155,3 +152,13 @@ module _ {V : Type 0} where
     pub rises : (view s).clock ≤ (view u).clock
     pub rests : standing o u ≡ Rests
     pub told : HasTold o s u (told.Answered (answer.Committed r.number))
+
+  -- What a commit comes to: the seat has the one receipt more that it gives, with the calls that were made; or it has none more, for a cause
+  -- that has ended the transaction.
+  pub record CommitsTo (o : World V) (s u : Seat V) (r : Result (Record V) Refusal) : Type 0 where
+    pub committed : IfOk r (HasCommitted o s u)
+    pub calls : IfOk r (λ receipt. standing o s ≡ Stands receipt.calls)
+    pub writes : IfOk r (λ receipt. receipt.writes ≡ has_written o s)
+    pub number : IfOk r (IsNumberOf (seat_in o s).rv (view u).clock)
+    pub keeps : OnErr r (KeepsReceipts s u)
+    pub ended : IfErr r (λ cause. IsOpen o s → IsEnded o s u cause)

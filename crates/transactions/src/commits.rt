@@ -1,11 +1,9 @@
 //! The commit of a transaction.
-ghost use Rattle.std.specs.Prelude.{◌≡◌, IfErr, IfOk, MatchResult, None, OnErr, Some, not};
-ghost use Rattle.tx_table.specs.Seated.{opening_of, view};
-ghost use Rattle.tx_phases.specs.Phases.{Commits, Stands};
+ghost use Rattle.std.specs.Prelude.{◌≡◌, MatchResult, None, Some};
+ghost use Rattle.tx_table.specs.Seated.{opening_of};
 ghost use Rattle.driven_turns.specs.Begins.{begins_of};
-ghost use Rattle.driven_turns.specs.Driven.{IsNumberOf, KnowsNumber, is_closing, seat_in, standing};
 ghost use Rattle.transactions.specs.Ready.{CanDrive};
-ghost use Rattle.transactions.specs.Requests.{HasCommitted, IsCommitTold, IsCommitting, IsEnded, IsOpen, KeepsReceipts, has_written};
+ghost use Rattle.transactions.specs.Requests.{CommitsTo, IsCommitTold, IsOpen};
 
 use crate::calls::ask_open;
 use boxes::Boxed;
@@ -30,31 +28,6 @@ fn commit_told<V: Value>(told: Told<V>, receipt: Option<Record<V>>) -> Result<Re
     }
 }
 
-/// The turns of a commit.
-fn committed<V: Value>(
-    alloc: Global,
-    table: &TxTable<V>,
-    seat: &mut Seat<V>,
-    actor: &mut TxActor<V>,
-    bases: &mut Vec<Boxed<Base<V>>>,
-) -> Result<Record<V>, Refusal>
-    requires drives { CanDrive table.now seat.old actor.old }
-    requires commits { IsCommitting (opening_of table.now) seat.old }
-    ensures drives { CanDrive table.now seat.new actor.new }
-    ensures last { seat.new.last ≡ seat.old.last }
-    ensures committed { IfOk result (HasCommitted (opening_of table.now) seat.old seat.new) }
-    ensures calls { IfOk result (λ receipt. standing (opening_of table.now) seat.old ≡ Commits receipt.calls) }
-    ensures writes { IfOk result (λ receipt. receipt.writes ≡ not (is_closing (seat_in (opening_of table.now) seat.old).stage)) }
-    ensures number { IfOk result (λ receipt. KnowsNumber (opening_of table.now) seat.old
-        → IsNumberOf (seat_in (opening_of table.now) seat.old).rv (view seat.new).clock receipt) }
-    ensures keeps { OnErr result (KeepsReceipts seat.old seat.new) }
-    ensures ended { IfErr result (IsEnded (opening_of table.now) seat.old seat.new) }
-    ensures begins { begins_of seat.new ≡ begins_of seat.old }
-{
-    let (told, receipt) = drive(alloc, table, seat, actor, bases);
-    commit_told(told, receipt)
-}
-
 /// A transaction commits, as [`crate::TxSeat::commit`] has it of an open one.
 pub(crate) fn commit<V: Value>(
     alloc: Global,
@@ -67,14 +40,10 @@ pub(crate) fn commit<V: Value>(
     requires open { IsOpen (opening_of table.now) seat.old }
     ensures drives { CanDrive table.now seat.new actor.new }
     ensures last { seat.new.last ≡ seat.old.last }
-    ensures committed { IfOk result (HasCommitted (opening_of table.now) seat.old seat.new) }
-    ensures calls { IfOk result (λ receipt. standing (opening_of table.now) seat.old ≡ Stands receipt.calls) }
-    ensures writes { IfOk result (λ receipt. receipt.writes ≡ has_written (opening_of table.now) seat.old) }
-    ensures number { IfOk result (IsNumberOf (seat_in (opening_of table.now) seat.old).rv (view seat.new).clock) }
-    ensures keeps { OnErr result (KeepsReceipts seat.old seat.new) }
-    ensures ended { IfErr result (IsEnded (opening_of table.now) seat.old seat.new) }
+    ensures commits { CommitsTo (opening_of table.now) seat.old seat.new result }
     ensures begins { begins_of seat.new ≡ begins_of seat.old }
 {
     let _ = ask_open(alloc, table, seat, actor, bases, Request::Commit)?;
-    committed(alloc, table, seat, actor, bases)
+    let (told, receipt) = drive(alloc, table, seat, actor, bases);
+    commit_told(told, receipt)
 }

@@ -1,14 +1,13 @@
 //! A seat of a table, with the actor that runs there.
-ghost use Rattle.std.specs.Prelude.{◌≡◌, ◌≢◌, ◌+◌, ◌<◌, ◌≤◌, Err, IfErr, IfOk, MatchBool, OnErr, OnOk, false, max, true};
+ghost use Rattle.std.specs.Prelude.{◌≡◌, ◌≢◌, ◌+◌, ◌<◌, ◌≤◌, IfErr, IfOk, MatchBool, OnErr, OnOk, false, max, true};
 ghost use Rattle.seq_model.specs.declared.call.Op.TheVariants as op;
-ghost use Rattle.seq_model.specs.declared.refusal.Refusal.TheVariants.{Ahead, NoTransaction};
+ghost use Rattle.seq_model.specs.declared.refusal.Refusal.TheVariants.{Ahead};
 ghost use Rattle.tx_table.specs.Seated.{opening_of, view};
-ghost use Rattle.tx_phases.specs.Phases.{Rests, Stands};
+ghost use Rattle.tx_phases.specs.Phases.{Rests};
 ghost use Rattle.driven_turns.specs.Begins.{begins_of};
-ghost use Rattle.driven_turns.specs.Driven.{IsNumberOf, seat_in, standing};
-ghost use Rattle.transactions.specs.Ready.{HasBegunSince, HasCalled, HasOpened, IsNew, IsReady};
-ghost use Rattle.transactions.specs.Requests.{HasCommitted, IsBegun, IsEnded, IsNotBegun, IsOpen, KeepsReceipts};
-ghost use Rattle.transactions.specs.Requests.{OnlyKnows, has_written};
+ghost use Rattle.driven_turns.specs.Driven.{standing};
+ghost use Rattle.transactions.specs.Ready.{HasBegunSince, HasCalled, HasFinished, HasOpened, IsNew, IsReady};
+ghost use Rattle.transactions.specs.Requests.{IsBegun, IsNotBegun, KeepsReceipts, OnlyKnows};
 
 use boxes::Boxed;
 use replay_log::Base;
@@ -204,18 +203,7 @@ impl<V: Value> TxSeat<V> {
     pub fn commit(&mut self, table: &TxTable<V>) -> Result<Record<V>, Refusal>
         requires ready { IsReady table.now self.old }
         requires since { HasBegunSince table.now self.old }
-        ensures ready { IsReady table.now self.new }
-        ensures rests { standing (opening_of table.now) self.new.seat ≡ Rests }
-        ensures committed { IfOk result (HasCommitted (opening_of table.now) self.old.seat self.new.seat) }
-        ensures calls { IfOk result (λ receipt. standing (opening_of table.now) self.old.seat ≡ Stands receipt.calls) }
-        ensures writes { IfOk result (λ receipt. receipt.writes ≡ has_written (opening_of table.now) self.old.seat) }
-        ensures number { IfOk result (IsNumberOf (seat_in (opening_of table.now) self.old.seat).rv (view self.new.seat).clock) }
-        ensures above { IfOk result (λ receipt. receipt.writes ≡ true → self.old.seat.last < receipt.number) }
-        ensures last { IfOk result (λ receipt. (self.old.seat.last ≤ receipt.number) × (self.new.seat.last ≡ receipt.number)) }
-        ensures keeps { OnErr result (KeepsReceipts self.old.seat self.new.seat) }
-        ensures ended { IfErr result (λ cause. IsOpen (opening_of table.now) self.old.seat →
-            IsEnded (opening_of table.now) self.old.seat self.new.seat cause) }
-        ensures none { standing (opening_of table.now) self.old.seat ≡ Rests → (result ≡ Err NoTransaction) × (self.new ≡ self.old) }
+        ensures finished { HasFinished table.now self.old self.new result }
         ensures begins { begins_of self.new.seat ≡ begins_of self.old.seat }
     {
         if !self.is_open() {

@@ -6,9 +6,9 @@ ghost use Rattle.seq_model.specs.declared.refusal.Refusal.TheVariants.{Ahead};
 ghost use Rattle.tx_table.specs.Seated.{opening_of, view};
 ghost use Rattle.tx_phases.specs.Phases.{Rests};
 ghost use Rattle.transactions.specs.contracts.seats.TxSeat.{the_row};
-ghost use Rattle.transactions.specs.Borrowed.{CommitsTo, IsBegunSince, IsRefusedBegin};
+ghost use Rattle.transactions.specs.Borrowed.{IsBegunSince, IsRefusedBegin};
 ghost use Rattle.driven_turns.specs.Driven.{standing};
-ghost use Rattle.transactions.specs.Ready.{HasBegunSince, HasCalled, IsReady};
+ghost use Rattle.transactions.specs.Ready.{HasBegunSince, HasCalled, HasFinished, IsReady};
 ghost use Rattle.transactions.specs.Requests.{KeepsReceipts, OnlyKnows};
 
 use crate::seats::TxSeat;
@@ -128,7 +128,7 @@ impl<'a, V: Value> Tx<'a, V> {
     pub fn commit(self) -> Result<Receipt<V>, Refusal>
         requires ready { IsReady self.table.now self.seat.now }
         requires since { HasBegunSince self.table.now self.seat.now }
-        ensures commits { CommitsTo self.entry.table.now self.entry.seat.now self.exit.1.0.now result }
+        ensures finished { HasFinished self.entry.table.now self.entry.seat.now self.exit.1.0.now result }
     {
         let Tx { table, seat } = self;
         seat.commit(table)

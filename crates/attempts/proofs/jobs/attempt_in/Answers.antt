@@ -18,9 +18,8 @@ returns-in_err-receipt-in-Ok-Done-clause-attempts g c =
     let left = c.from_residual-in_err-receipt-in-Ok-Done in
     let p = err_from_is_err_and left.result left.ensures.1 in
     rw (p.1, p.2) (
-      (commit_refused asks o c.args.seat.now.seat c.begin.new.self.seat c.ask_all.new.seat.seat c.commit.new.self.seat _
-          c.begin.ensures.keeps done c.in_err-receipt-in-Ok-Done.ensures.keeps
-          (c.in_err-receipt-in-Ok-Done.ensures.ended (done.0, done.1.stands))),
+      commit_refused asks o c.args.seat.now.seat c.begin.new.self.seat c.ask_all.new.seat.seat c.commit.new.self.seat _
+          c.begin.ensures.keeps done c.in_err-receipt-in-Ok-Done.ensures.finished.commits,
       c.commit.ensures.begins ∙ (c.ask_all.ensures.begins ∙ c.begin.ensures.begins),
     )
 
@@ -28,14 +27,15 @@ pub returns-in_ok-receipt-in-Ok-Done-clause-attempts : goal.returns-in_ok-receip
 returns-in_ok-receipt-in-Ok-Done-clause-attempts g c =
     let asks = g.J.Job.asks c.args.job.now in
     let o = opening_of c.args.table.now in
-    let e = c.in_ok-receipt-in-Ok-Done.ensures in (
+    let e = c.in_ok-receipt-in-Ok-Done.ensures.finished in
+    let made = e.commits in (
       has_made asks o c.args.seat.now.seat c.begin.new.self.seat c.ask_all.new.seat.seat c.commit.new.self.seat
           c.in_ok-receipt-in-Ok-Done.receipt c.begin.ensures.keeps
           (at_end asks o c.begin.new.self.seat c.ask_all.new.seat.seat _ _ c.in-Ok-Done.field-0-is c.in-Ok-Done.ensures.reaches)
-          e.calls e.writes
+          made
           (λ none. changes_nothing o c.ask_all.new.seat.seat c.in_ok-receipt-in-Ok-Done.receipt.calls c.ask_all.ensures.ready.ties.reached
-          e.calls (sym e.writes ∙ none))
-          e.committed e.above e.last,
+          made.calls (sym made.writes ∙ none))
+          e.above e.last,
       c.commit.ensures.begins ∙ (c.ask_all.ensures.begins ∙ c.begin.ensures.begins),
     )
 

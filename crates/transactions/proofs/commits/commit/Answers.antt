@@ -1,89 +1,46 @@
-use Rattle.std.proofs.Common.{◌∙◌, refl}
+use Rattle.std.proofs.Common.{◌∙◌, refl, sym}
+use Rattle.std.proofs.lemmas.Result.{err_from_is_err_and}
 use Rattle.seq_model.specs.declared.event.Request.TheVariants.{Commit}
 use Rattle.tx_table.specs.Seated.{opening_of}
 use Rattle.transactions.proofs.RequestLemmas.{asks_none}
-use Rattle.transactions.proofs.CommitLemmas.{commit_asked, finishes_since}
+use Rattle.transactions.proofs.CommitLemmas.{commit_asked, commit_told, commits_to, starved_commit, under_commits}
+use Rattle.driven_turns.proofs.RestLemmas.{bare_out}
+use Rattle.driven_turns.specs.Driven.{seat_in}
 use Rattle.transactions.proofs.commits.commit.Goals as goal
 
-pub committed-requires-clause-commits : goal.committed-requires-clause-commits
-committed-requires-clause-commits g c = (
-  c.requires.open.0,
-  (commit_asked (opening_of c.args.table.now) c.args.seat.now c.ask_open.new.seat c.requires.open.0 c.requires.open.1
-      c.in_ok-ask_open.ensures.asked).0,
-)
+pub returns-in_err-ask_open-clause-commits : goal.returns-in_err-ask_open-clause-commits
+returns-in_err-ask_open-clause-commits g c =
+    let e = c.in_err-ask_open.ensures in
+    let p = err_from_is_err_and c.from_residual.result c.from_residual.ensures.1 in
+    rw (p.1, p.2) (starved_commit (opening_of c.args.table.now) c.args.seat.now c.ask_open.new.seat _ e.keeps e.rests e.memory)
 
-pub returns-clause-committed : goal.returns-clause-committed
-returns-clause-committed g c =
-    (finishes_since c.args.table.now c.args.seat.now c.ask_open.new.seat c.committed.new.seat c.args.actor.now c.requires.open.0
-    c.committed.result c.requires.drives.ties c.requires.open.1 c.in_ok-ask_open.ensures.asked (record {
-      committed = c.committed.ensures.committed;
-      calls = c.committed.ensures.calls;
-      writes = c.committed.ensures.writes;
-      number = c.committed.ensures.number;
-      keeps = c.committed.ensures.keeps;
-      ended = c.committed.ensures.ended;
-    })).committed
+pub drive-told-requires-clause-under : goal.drive-told-requires-clause-under
+drive-told-requires-clause-under g c =
+    under_commits (seat_in (opening_of c.args.table.now) c.ask_open.new.seat) c.requires.open.0
+    (commit_asked (opening_of c.args.table.now) c.args.seat.now c.ask_open.new.seat c.requires.open.0 c.requires.open.1
+    c.in_ok-ask_open.ensures.asked).0
 
-pub returns-clause-calls : goal.returns-clause-calls
-returns-clause-calls g c =
-    (finishes_since c.args.table.now c.args.seat.now c.ask_open.new.seat c.committed.new.seat c.args.actor.now c.requires.open.0
-    c.committed.result c.requires.drives.ties c.requires.open.1 c.in_ok-ask_open.ensures.asked (record {
-      committed = c.committed.ensures.committed;
-      calls = c.committed.ensures.calls;
-      writes = c.committed.ensures.writes;
-      number = c.committed.ensures.number;
-      keeps = c.committed.ensures.keeps;
-      ended = c.committed.ensures.ended;
-    })).calls
+pub commit_told-requires : goal.commit_told-requires
+commit_told-requires g c =
+    commit_told (opening_of c.args.table.now) c.ask_open.new.seat c.drive-told.new.seat c.requires.open.0
+    (commit_asked (opening_of c.args.table.now) c.args.seat.now c.ask_open.new.seat c.requires.open.0 c.requires.open.1
+    c.in_ok-ask_open.ensures.asked).0
+    (bare_out c.args.table.now c.drive-told.new.seat c.drive-told.new.actor c.drive-told.ensures.own
+    ∙ sym (bare_out c.args.table.now c.ask_open.new.seat c.ask_open.new.actor c.ask_open.ensures.drives.own))
+    c.drive-told.result.0 c.drive-told.result.1 c.drive-told.ensures.answered c.drive-told.ensures.driven
 
-pub returns-clause-writes : goal.returns-clause-writes
-returns-clause-writes g c =
-    (finishes_since c.args.table.now c.args.seat.now c.ask_open.new.seat c.committed.new.seat c.args.actor.now c.requires.open.0
-    c.committed.result c.requires.drives.ties c.requires.open.1 c.in_ok-ask_open.ensures.asked (record {
-      committed = c.committed.ensures.committed;
-      calls = c.committed.ensures.calls;
-      writes = c.committed.ensures.writes;
-      number = c.committed.ensures.number;
-      keeps = c.committed.ensures.keeps;
-      ended = c.committed.ensures.ended;
-    })).writes
+pub returns-clause-commits : goal.returns-clause-commits
+returns-clause-commits g c =
+    commits_to c.args.table.now c.args.seat.now c.ask_open.new.seat c.drive-told.new.seat c.args.actor.now c.requires.open.0
+    c.requires.drives.ties c.requires.open.1 c.in_ok-ask_open.ensures.asked
+    (bare_out c.args.table.now c.drive-told.new.seat c.drive-told.new.actor c.drive-told.ensures.own
+    ∙ sym (bare_out c.args.table.now c.ask_open.new.seat c.ask_open.new.actor c.ask_open.ensures.drives.own))
+    c.drive-told.result.0 c.drive-told.result.1 c.commit_told.result c.drive-told.ensures.answered c.drive-told.ensures.driven
+    c.commit_told.ensures
 
-pub returns-clause-number : goal.returns-clause-number
-returns-clause-number g c =
-    (finishes_since c.args.table.now c.args.seat.now c.ask_open.new.seat c.committed.new.seat c.args.actor.now c.requires.open.0
-    c.committed.result c.requires.drives.ties c.requires.open.1 c.in_ok-ask_open.ensures.asked (record {
-      committed = c.committed.ensures.committed;
-      calls = c.committed.ensures.calls;
-      writes = c.committed.ensures.writes;
-      number = c.committed.ensures.number;
-      keeps = c.committed.ensures.keeps;
-      ended = c.committed.ensures.ended;
-    })).number
-
-pub returns-clause-keeps : goal.returns-clause-keeps
-returns-clause-keeps g c =
-    (finishes_since c.args.table.now c.args.seat.now c.ask_open.new.seat c.committed.new.seat c.args.actor.now c.requires.open.0
-    c.committed.result c.requires.drives.ties c.requires.open.1 c.in_ok-ask_open.ensures.asked (record {
-      committed = c.committed.ensures.committed;
-      calls = c.committed.ensures.calls;
-      writes = c.committed.ensures.writes;
-      number = c.committed.ensures.number;
-      keeps = c.committed.ensures.keeps;
-      ended = c.committed.ensures.ended;
-    })).keeps
-
-pub returns-clause-ended : goal.returns-clause-ended
-returns-clause-ended g c =
-    (finishes_since c.args.table.now c.args.seat.now c.ask_open.new.seat c.committed.new.seat c.args.actor.now c.requires.open.0
-    c.committed.result c.requires.drives.ties c.requires.open.1 c.in_ok-ask_open.ensures.asked (record {
-      committed = c.committed.ensures.committed;
-      calls = c.committed.ensures.calls;
-      writes = c.committed.ensures.writes;
-      number = c.committed.ensures.number;
-      keeps = c.committed.ensures.keeps;
-      ended = c.committed.ensures.ended;
-    })).ended
+pub returns-clause-last : goal.returns-clause-last
+returns-clause-last g c = c.drive-told.ensures.driven.seat.2 ∙ c.in_ok-ask_open.ensures.asked.0.2
 
 pub returns-clause-begins : goal.returns-clause-begins
 returns-clause-begins g c =
-    c.committed.ensures.begins ∙ asks_none c.args.seat.now c.ask_open.new.seat Commit refl c.in_ok-ask_open.ensures.asked
+    c.drive-told.ensures.driven.begins ∙ asks_none c.args.seat.now c.ask_open.new.seat Commit refl c.in_ok-ask_open.ensures.asked
