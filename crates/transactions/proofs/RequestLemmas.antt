@@ -1,5 +1,6 @@
 -- Requests from a transaction at rest: where its actor stands, what the request has under way, and what it comes to.
-use Rattle.std.proofs.Common.{◌≡◌, ◌≢◌, ℕ, ◌+◌, Bool, true, false, true≢false, List, [], ◌∷◌, ◌++◌, Option, None, Result, Ok, Err, IfOk, IfErr, refl}
+use Rattle.std.proofs.Common.{◌≡◌, ◌≢◌, ℕ, ◌+◌, Bool, true, false, true≢false, List, [], ◌∷◌, ◌++◌, Option, None}
+use Rattle.std.proofs.Common.{Result, Ok, Err, IfOk, IfErr, refl}
 use Rattle.std.proofs.Common.{inl, inr, sym, ap, ◌∙◌, subst, arith}
 use Rattle.std.proofs.lemmas.List.{append-nil, append_assoc}
 use Rattle.word_machine.specs.Actor as machine

@@ -1,5 +1,6 @@
 -- What a whole request comes to: a begin, a call, a commit, an end.
-use Rattle.std.specs.Prelude.{◌≡◌, ◌⊎◌, ℕ, ◌≤◌, Bool, true, false, List, [], ◌∷◌, ◌++◌, Option, Some, None, Result, Ok, Err, IfOk, IfErr, OnErr}
+use Rattle.std.specs.Prelude.{◌≡◌, ◌⊎◌, ℕ, ◌≤◌, Bool, true, false, List, [], ◌∷◌, ◌++◌, Option, Some, None}
+use Rattle.std.specs.Prelude.{Result, Ok, Err, IfOk, IfErr, OnErr}
 use Rattle.tx_sets.specs.Entries.{Entries}
 use Rattle.seq_model.specs.declared.call.Call.{Call}
 use Rattle.seq_model.specs.declared.call.Reply.{Reply}
@@ -153,8 +154,8 @@ module _ {V : Type 0} where
     pub rests : standing o u ≡ Rests
     pub told : HasTold o s u (told.Answered (answer.Committed r.number))
 
-  -- What a commit comes to: the seat has the one receipt more that it gives, with the calls that were made; or it has none more, for a cause
-  -- that has ended the transaction.
+  -- What a commit comes to: the seat has the one receipt more that it gives, with the calls that were made; or it has none more, for a
+  -- cause that has ended the transaction.
   pub record CommitsTo (o : World V) (s u : Seat V) (r : Result (Record V) Refusal) : Type 0 where
     pub committed : IfOk r (HasCommitted o s u)
     pub calls : IfOk r (λ receipt. standing o s ≡ Stands receipt.calls)

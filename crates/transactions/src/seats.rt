@@ -145,8 +145,9 @@ impl<V: Value> TxSeat<V> {
     /// `NoTransaction` where none is open; then `NoSuch` where there is no such word or collection, or it is of another kind, and for a
     /// change in a declared reader; then `TooLong` past the limit of calls, or where what it reads or writes doesn't fit the sets: the
     /// transaction is as it was. `Moved` where a word or a location of a collection is locked, was changed since the transaction began, or
-    /// changed between the two loads of a read (TL2, DISC 2006), `Stale` where what it copied of a collection has not the edition with which
-    /// it is read, `GateBusy` where another seat held the collection's gate at each of 64 tries, and `OutOfMemory`: the transaction is ended.
+    /// changed between the two loads of a read (TL2, DISC 2006), `Stale` where what it copied of a collection has not the edition with
+    /// which it is read, `GateBusy` where another seat held the collection's gate at each of 64 tries, and `OutOfMemory`: the transaction
+    /// is ended.
     pub fn call(&mut self, table: &TxTable<V>, call: Call<V>) -> Result<Reply<V>, Refusal>
         requires ready { IsReady table.now self.old }
         requires since { HasBegunSince table.now self.old }
@@ -197,9 +198,9 @@ impl<V: Value> TxSeat<V> {
     /// The open transaction commits: all its words are written, its changes to collections are made, and what it read is as it read it, at
     /// one moment. Its receipt has its calls with their replies, and its number is the last number of the seat from then on.
     ///
-    /// `NoTransaction` where none is open. `Busy` where a location to be written is locked or was changed, `Invalid` where one that was read
-    /// is locked by another or was changed (TL2, DISC 2006), `GateBusy` where another seat held the gate of a collection to be written at
-    /// each of 64 tries, and `OutOfMemory`: the transaction is ended, and has written nothing.
+    /// `NoTransaction` where none is open. `Busy` where a location to be written is locked or was changed, `Invalid` where one that was
+    /// read is locked by another or was changed (TL2, DISC 2006), `GateBusy` where another seat held the gate of a collection to be written
+    /// at each of 64 tries, and `OutOfMemory`: the transaction is ended, and has written nothing.
     pub fn commit(&mut self, table: &TxTable<V>) -> Result<Record<V>, Refusal>
         requires ready { IsReady table.now self.old }
         requires since { HasBegunSince table.now self.old }

@@ -140,7 +140,8 @@ impl<'a, V: Value> Tx<'a, V> {
         ensures ready { IsReady self.entry.table.now self.exit.1.0.now }
         ensures rests { standing (opening_of self.entry.table.now) self.exit.1.0.now.seat ≡ Rests }
         ensures keeps { KeepsReceipts self.entry.seat.now.seat self.exit.1.0.now.seat }
-        ensures none { standing (opening_of self.entry.table.now) self.entry.seat.now.seat ≡ Rests → self.exit.1.0.now ≡ self.entry.seat.now }
+        ensures none { standing (opening_of self.entry.table.now) self.entry.seat.now.seat ≡ Rests →
+            self.exit.1.0.now ≡ self.entry.seat.now }
     {
         let Tx { table, seat } = self;
         seat.abort(table);
