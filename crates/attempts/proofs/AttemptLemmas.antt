@@ -42,7 +42,7 @@ use Rattle.attempts.specs.declared.jobs.End.TheVariants as ends
 
 module _ {V : Type 0} where
   -- ---- a call that is answered was within the limit
-  same_calls : (calls cs : List (Call V × Reply V)) → Stands calls ≡ Stands cs → calls ≡ cs
+  pub same_calls : (calls cs : List (Call V × Reply V)) → Stands calls ≡ Stands cs → calls ≡ cs
   same_calls calls cs e = cc
 
   module _ (o : World V) (s u : Seat V) (call : Call V) (reply : Reply V) (calls : List (Call V × Reply V))

@@ -51,6 +51,7 @@ use Rattle.transactions.proofs.CallLemmas.{stands_at}
 use Rattle.transactions.specs.Ready.{standing}
 use Rattle.transactions.specs.Requests.{has_written}
 use Rattle.transactions.specs.Requests as entries
+use Rattle.attempts.proofs.AttemptLemmas.{same_calls}
 
 some_is : {A : Type 0} (a b : A) → Some a ≡ Some b → a ≡ b
 some_is a b e = cc
@@ -188,9 +189,6 @@ module _ {V : Type 0} where
       (λ l. (inv.shadows a).fits l (unwritten l)))
 
   -- ---- at a seat
-  same_calls : (calls cs : List (Call V × Reply V)) → Stands calls ≡ Stands cs → calls ≡ cs
-  same_calls calls cs e = cc
-
   pub changes_nothing : (o : World V) (s : Seat V) (calls : List (Call V × Reply V)) → IsReached o (actor s) (acts o s)
       → standing o s ≡ Stands calls → has_written o s ≡ false → is_writer calls ≡ false
   changes_nothing o s calls h stands none =
