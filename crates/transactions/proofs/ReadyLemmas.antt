@@ -336,12 +336,11 @@ module _ {V : Type 0} where
       (C : CommitsTo (opening_of t) s.seat m (Ok r)) where
     pub receipt_numbers : (r.writes ≡ true → s.seat.last < r.number) × (s.seat.last ≤ r.number) × (r.number ≤ (view m).clock)
     receipt_numbers =
-        let rv = (seat_in (opening_of t) s.seat).rv in
         let begun = since (r.calls, C.calls) in
         let high = begun.1 in
         let rises = C.committed.rises in
-        let known : rv ≤ (view m).clock = omega (arith, high, rises) in
-        commit_numbers rv (view m).clock s.seat.last r C.number begun.0 known
+        let known : (seat_in (opening_of t) s.seat).rv ≤ (view m).clock = omega (arith, high, rises) in
+        commit_numbers (seat_in (opening_of t) s.seat).rv (view m).clock s.seat.last r C.number begun.0 known
 
     pub has_finished : (u : TxSeat V) → IsReady t s → CanDrive t m u.actor → m.last ≡ s.seat.last → u.seat.place ≡ m.place
         → u.seat.asked ≡ m.asked → u.seat.last ≡ max m.last r.number → HasFinished t s u (Ok r)
