@@ -139,8 +139,8 @@ pub fn attempt_with<V: Value, J: Job<V>, P: Pause>(
     ensures rests { standing (opening_of table.now) seat.new.seat ≡ Rests }
     ensures attempts { AttemptsTo (J.asks job.now) (opening_of table.now) seat.old.seat seat.new.seat result }
 {
-    let mut replies = seat.take_replies(table);
+    let mut replies = seat.take_replies();
     let attempted = attempt_in(table, seat, job, worker, pause, &mut replies);
-    seat.keep_replies(table, replies);
+    seat.keep_replies(replies);
     attempted
 }

@@ -241,6 +241,15 @@ module _ {V : Type 0} where
         prepared = h.prepared;
       }
 
+  -- what of a seat lies beside it and its actor doesn't count
+  pub still_ready : (t : TxTable V) (s u : TxSeat V) → u.seat ≡ s.seat → u.actor ≡ s.actor → IsReady t s → IsReady t u
+  still_ready t s u same actor h = record {
+    table = h.table;
+    ties = subst (λ (k : table.Seat V × TxActor V). Ties t k.0 k.1) (λ i. (sym same i, sym actor i)) h.ties;
+    own = subst (λ (k : table.Seat V × TxActor V). HasOwn t k.0 k.1 []) (λ i. (sym same i, sym actor i)) h.own;
+    between = subst (λ (x : table.Seat V). (standing (opening_of t) x ≡ Rests) ⊎ IsOpen (opening_of t) x) (sym same) h.between;
+  }
+
   pub noted_own : (t : TxTable V) (s u : table.Seat V) (r : TxActor V) → u.place ≡ s.place → u.asked ≡ s.asked → HasOwn t s r []
       → HasOwn t u r []
   noted_own t s u r place asked =

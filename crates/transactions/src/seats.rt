@@ -48,22 +48,16 @@ impl<V: Value> TxSeat<V> {
     }
 
     /// A list for the replies to a job, which has the room that the one before had, once that was handed back (`keep_replies`).
-    pub fn take_replies(&mut self, table: &TxTable<V>) -> Vec<Reply<V>>
-        requires ready { IsReady table.now self.old }
-        ensures ready { IsReady table.now self.new }
-        ensures seat { self.new.seat ≡ self.old.seat }
+    pub fn take_replies(&mut self) -> Vec<Reply<V>>
+        ensures same { (self.new.seat ≡ self.old.seat) × (self.new.actor ≡ self.old.actor) }
     {
-        let _ = table;
         mem::replace(&mut self.replies, Vec::new(self.alloc))
     }
 
     /// Keeps the list of an attempt for the next one. What is in it goes.
-    pub fn keep_replies(&mut self, table: &TxTable<V>, replies: Vec<Reply<V>>)
-        requires ready { IsReady table.now self.old }
-        ensures ready { IsReady table.now self.new }
-        ensures seat { self.new.seat ≡ self.old.seat }
+    pub fn keep_replies(&mut self, replies: Vec<Reply<V>>)
+        ensures same { (self.new.seat ≡ self.old.seat) × (self.new.actor ≡ self.old.actor) }
     {
-        let _ = table;
         self.replies = replies;
         self.replies.clear();
     }
