@@ -19,10 +19,10 @@ use Rattle.transactions.specs.Ready.{IsReady}
 use Rattle.transactions.specs.Requests.{KeepsReceipts}
 use Rattle.workers.specs.declared.tasks.Task.{Task}
 use Rattle.workers.specs.Tasks.{AreNotStarted, AreReported, AreTried, AreTriedBy, Gains, GetsJoined, IsDone, IsReported, IsSameTask}
-use Rattle.workers.specs.Tasks.{IsTried, Outcome, Took, missed_in, receipt_in, receipts_in, records_of}
+use Rattle.workers.specs.Tasks.{IsTried, Outcome, Took, missed_in, receipts_in, records_of}
 
 module _ {V : Type 0} where
-  receipts_after : (os : List (Outcome V)) (o : Outcome V) → receipts_in (os ++ o ∷ []) ≡ receipts_in os ++ receipt_in o
+  receipts_after : (os : List (Outcome V)) (o : Outcome V) → receipts_in (os ++ o ∷ []) ≡ receipts_in os ++ receipts_in (o ∷ [])
   receipts_after [] (Ok r) = refl
   receipts_after [] (Err cause) = refl
   receipts_after (Ok r ∷ os) o = ap (λ (rs : List (Record V)). r ∷ rs) (receipts_after os o)
@@ -67,14 +67,14 @@ module _ {V : Type 0} where
   more_reported : (E F : List (Outcome V) → Type 0) (worker n : ℕ) (receipts : List (Record V)) (missed : List (ℕ × ℕ × LastAbort))
       (o : Outcome V) → ((os : List (Outcome V)) → E os → length os ≡ n) → ((os : List (Outcome V)) → E os → F (os ++ o ∷ []))
       → AreReported E worker receipts missed
-      → AreReported F worker (receipts ++ receipt_in o) (missed ++ missed_in worker n (o ∷ []))
+      → AreReported F worker (receipts ++ receipts_in (o ∷ [])) (missed ++ missed_in worker n (o ∷ []))
   more_reported E F worker n receipts missed o many more h =
       let k = many h.outcomes h.each in
       let place : n ≡ 0 + length h.outcomes = omega arith in
       record {
         outcomes = h.outcomes ++ o ∷ [];
         each = more h.outcomes h.each;
-        receipts_are = ap (λ (rs : List (Record V)). rs ++ receipt_in o) h.receipts_are ∙ sym (receipts_after h.outcomes o);
+        receipts_are = ap (λ (rs : List (Record V)). rs ++ receipts_in (o ∷ [])) h.receipts_are ∙ sym (receipts_after h.outcomes o);
         missed_are = ap (λ (ms : List (ℕ × ℕ × LastAbort)). ms ++ missed_in worker n (o ∷ [])) h.missed_are
             ∙ (ap (λ (p : ℕ). missed_in worker 0 h.outcomes ++ missed_in worker p (o ∷ [])) place
             ∙ sym (missed_after worker 0 h.outcomes o));
@@ -155,7 +155,7 @@ module _ {V J : Type 0} (asks : J → List (Reply V) → Ask V → Type 0) (t : 
   pub next_tried : (worker : ℕ) (jobs : List J) (n : ℕ) (receipts : List (Record V)) (missed : List (ℕ × ℕ × LastAbort)) (s m u : TxSeat V)
       (job : J) (o : Outcome V) → n < length jobs → job ≡ get_or jobs n job
       → AreReported (λ os. AreTried asks t tries (take n jobs) os s m) worker receipts missed → IsTried (asks job) t tries m u o
-      → AreReported (λ os. AreTried asks t tries (take (n + 1) jobs) os s u) worker (receipts ++ receipt_in o)
+      → AreReported (λ os. AreTried asks t tries (take (n + 1) jobs) os s u) worker (receipts ++ receipts_in (o ∷ []))
       (missed ++ missed_in worker n (o ∷ []))
   next_tried worker jobs n receipts missed s m u job o lt at h new =
       let next = next_job jobs n job lt at in
@@ -255,7 +255,7 @@ module _ {V : Type 0} where
   }
 
   module _ (asks : List (Reply V) → Ask V → Type 0) (t : TxTable V) where
-    pub tried_gains : (tries : ℕ) (s u : TxSeat V) (o : Outcome V) → IsTried asks t tries s u o → Gains s u (receipt_in o)
+    pub tried_gains : (tries : ℕ) (s u : TxSeat V) (o : Outcome V) → IsTried asks t tries s u o → Gains s u (receipts_in (o ∷ []))
     tried_gains tries s u (Ok r) h = record {
       shares = h.receipt.shares;
       records = ap (λ (es : List (ℕ × Record V)). map (λ e. e.1) es) h.receipt.gains

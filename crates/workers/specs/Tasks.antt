@@ -19,10 +19,6 @@ abbrev pub Outcome : Type 0 → Type 0
 Outcome V = Result (Record V) LastAbort
 
 module _ {V : Type 0} where
-  abbrev pub receipt_in : Outcome V → List (Record V)
-  receipt_in (Ok r) = r ∷ []
-  receipt_in (Err cause) = []
-
   -- the receipts, in the order of the jobs
   abbrev pub receipts_in : List (Outcome V) → List (Record V)
   receipts_in [] = []

@@ -51,8 +51,8 @@ fn give_back<V: Value, J: Job<V>>(
 }
 
 /// All lists of a tree: of two halves the second by a thread with a seat of its own, or not at all where none can be started.
-#[cycle(shares)]
-pub fn share<
+#[cycle(trees)]
+pub fn run_tree<
     R: Threads + Wait + Sync,
     V: Value + Send + Sync,
     J: Job<V> + Drop + Send + Sync,
@@ -96,7 +96,7 @@ pub fn share<
 }
 
 /// Two halves, the second by a thread.
-#[cycle(shares)]
+#[cycle(trees)]
 fn both<
     R: Threads + Wait + Sync,
     V: Value + Send + Sync,
@@ -152,19 +152,19 @@ fn both<
                     if refused.load(Ordering::SeqCst) {
                         give_back(table, other, right)
                     } else {
-                        share(rt, tries, pause, way, table, other, right)
+                        run_tree(rt, tries, pause, way, table, other, right)
                     }
                 },
             );
             match child {
                 Ok(child) => {
-                    let first = share(rt, tries, pause, way, table, seat, left);
+                    let first = run_tree(rt, tries, pause, way, table, seat, left);
                     (first, child.join(rt))
                 }
                 Err(not_started) => {
                     refused.store(true, Ordering::SeqCst);
                     let second = (not_started.value)();
-                    (share(rt, tries, pause, way, table, seat, left), second)
+                    (run_tree(rt, tries, pause, way, table, seat, left), second)
                 }
             }
         },

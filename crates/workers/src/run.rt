@@ -6,7 +6,7 @@ ghost use Rattle.transactions.specs.Ready.{IsReady, standing};
 ghost use Rattle.transactions.specs.Requests.{KeepsReceipts};
 ghost use Rattle.workers.specs.Reports.{HasRoomFor, HasRun, IsReportOf, IsTreeOf, jobs_of};
 
-use crate::halves::share;
+use crate::halves::run_tree;
 use crate::lists::tree_of;
 use crate::report::{Draft, Report};
 use crate::tree::Tree;
@@ -68,7 +68,7 @@ pub fn run_workers<
     match prepare(alloc, lists) {
         Ok((draft, tree)) => {
             let way = Way::new();
-            let (mut seat, tree) = share(rt, tries, pause, &way, table, seat, tree);
+            let (mut seat, tree) = run_tree(rt, tries, pause, &way, table, seat, tree);
             seat.abort(table);
             (seat, Ok(draft.filled(tree)))
         }

@@ -2,7 +2,7 @@
 ghost use Rattle.std.specs.Prelude.{◌≡◌, ◌<◌, ◌≤◌, ◌+◌, ◌++◌, ◌∷◌, [], length};
 ghost use Rattle.tx_table.specs.Seated.{actor, view};
 ghost use Rattle.transactions.specs.Ready.{IsReady};
-ghost use Rattle.workers.specs.Tasks.{Gains, GetsJoined, HasRoom, IsDone, IsFreshTask, IsLeft, IsSameTask, missed_in, receipt_in};
+ghost use Rattle.workers.specs.Tasks.{Gains, GetsJoined, HasRoom, IsDone, IsFreshTask, IsLeft, IsSameTask, missed_in, receipts_in};
 
 use crate::causes::LastAbort;
 use crate::tries::retry_in;
@@ -30,7 +30,7 @@ impl<V: Value, J: Job<V>> Task<V, J> {
         requires room { HasRoom place self.old }
         ensures room { HasRoom (place + 1) self.new }
         ensures same { IsSameTask self.old self.new }
-        ensures receipts { self.new.receipts.items ≡ self.old.receipts.items ++ receipt_in outcome }
+        ensures receipts { self.new.receipts.items ≡ self.old.receipts.items ++ receipts_in (outcome ∷ []) }
         ensures missed { self.new.missed.items ≡ self.old.missed.items ++ missed_in self.old.worker place (outcome ∷ []) }
     {
         match outcome {

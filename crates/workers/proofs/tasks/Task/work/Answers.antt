@@ -1,6 +1,6 @@
-use Rattle.std.proofs.Common.{rules, length, ◌≡◌, []}
+use Rattle.std.proofs.Common.{rules, length, ◌≡◌, [], ◌∷◌}
 use Rattle.workers.proofs.TaskLemmas.{all_tried, next_tried, none_joined, then_gains, then_joined, then_same, tried_gains, tried_joined}
-use Rattle.workers.specs.Tasks.{IsTried, receipt_in}
+use Rattle.workers.specs.Tasks.{IsTried, receipts_in}
 use Rattle.workers.proofs.tasks.Task.work.Goals as goal
 
 pub jobs-preserved : goal.jobs-preserved
@@ -26,7 +26,7 @@ jobs-preserved g c =
       same = then_same c.args.self.now before c.note.new.self c.jobs.invariant.same c.note.ensures.same;
       room = c.note.ensures.room;
       tried = rw (c.note.ensures.same.0, c.note.ensures.same.1, c.note.ensures.receipts, c.note.ensures.missed) more;
-      gains = rw c.note.ensures.receipts (then_gains s m u before.receipts.items (receipt_in o) c.jobs.invariant.gains
+      gains = rw c.note.ensures.receipts (then_gains s m u before.receipts.items (receipts_in (o ∷ [])) c.jobs.invariant.gains
           (tried_gains (asks job) t tries m u o tried));
       joined = then_joined s m u [] [] c.jobs.invariant.joined (tried_joined (asks job) t tries m u o tried);
     }

@@ -4,22 +4,22 @@ use Rattle.workers.proofs.HalfLemmas.{back_gains, back_works, both_joined, first
 use Rattle.workers.proofs.ReportLemmas.{same_works}
 use Rattle.workers.proofs.TaskLemmas.{both_gain}
 use Rattle.workers.specs.Trees.{IsFresh, works}
-use Rattle.workers.proofs.halves.+shares.Goals as goal
+use Rattle.workers.proofs.halves.+trees.Goals as goal
 
 pub both-scope-spawn_with-returns-then-load : goal.both-scope-spawn_with-returns-then-load
 both-scope-spawn_with-returns-then-load g t c = inr c.give_back.ensures
 
 pub both-scope-spawn_with-returns : goal.both-scope-spawn_with-returns
-both-scope-spawn_with-returns g t c = inl c.share.ensures
+both-scope-spawn_with-returns g t c = inl c.run_tree.ensures
 
-pub share-work-requires-clause-ready : goal.share-work-requires-clause-ready
-share-work-requires-clause-ready g t c = c.requires.ready
+pub run_tree-work-requires-clause-ready : goal.run_tree-work-requires-clause-ready
+run_tree-work-requires-clause-ready g t c = c.requires.ready
 
-pub share-split-other-requires-clause-ready : goal.share-split-other-requires-clause-ready
-share-split-other-requires-clause-ready g t c = c.requires.ready
+pub run_tree-split-other-requires-clause-ready : goal.run_tree-split-other-requires-clause-ready
+run_tree-split-other-requires-clause-ready g t c = c.requires.ready
 
-pub share-both-first-requires-clause-first : goal.share-both-first-requires-clause-first
-share-both-first-requires-clause-first g t c κs within = record {
+pub run_tree-both-first-requires-clause-first : goal.run_tree-both-first-requires-clause-first
+run_tree-both-first-requires-clause-first g t c κs within = record {
   ready = c.split-other.ensures.ready.0;
   shares = search rules;
   some = search rules;
@@ -27,8 +27,8 @@ share-both-first-requires-clause-first g t c κs within = record {
   fresh = search rules;
 }
 
-pub share-both-first-requires-clause-second : goal.share-both-first-requires-clause-second
-share-both-first-requires-clause-second g t c κs within = record {
+pub run_tree-both-first-requires-clause-second : goal.run_tree-both-first-requires-clause-second
+run_tree-both-first-requires-clause-second g t c κs within = record {
   ready = c.split-other.ensures.ready.1;
   shares = search rules;
   some = search rules;
@@ -36,13 +36,13 @@ share-both-first-requires-clause-second g t c κs within = record {
   fresh = search rules;
 }
 
-pub share-returns-in-Taken : goal.share-returns-in-Taken
-share-returns-in-Taken g t c =
+pub run_tree-returns-in-Taken : goal.run_tree-returns-in-Taken
+run_tree-returns-in-Taken g t c =
     let tree_is = sym (c.replace.ensures.value ∙ c.deref_mut.ensures.value) ∙ c.in-Taken.is in
     absurd (subst IsFresh tree_is c.requires.fresh)
 
-pub share-returns-in-Leaf : goal.share-returns-in-Leaf
-share-returns-in-Leaf g t c =
+pub run_tree-returns-in-Leaf : goal.run_tree-returns-in-Leaf
+run_tree-returns-in-Leaf g t c =
     let tree_is = sym (c.replace.ensures.value ∙ c.deref_mut.ensures.value) ∙ c.in-Leaf.is in
     record {
       ready = c.work.ensures.ready;
@@ -53,8 +53,8 @@ share-returns-in-Leaf g t c =
       done = (c.work.ensures.done, refl);
     }
 
-pub share-returns-in-Both : goal.share-returns-in-Both
-share-returns-in-Both g t c =
+pub run_tree-returns-in-Both : goal.run_tree-returns-in-Both
+run_tree-returns-in-Both g t c =
     let asks = g.J.Job.asks in
     let table = c.args.table.now in
     let tries = c.args.tries in
