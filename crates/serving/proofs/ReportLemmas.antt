@@ -55,13 +55,13 @@ module _ (t : TxTable Entry) (tries : ℕ) where
   of_left (a ∷ actions) (o ∷ os) h =
       (subst (λ (q : Outcome Entry). IfOk q (λ r. IsWholeJob (asks_of a) r.calls)) (sym h.0) tt, of_left actions os h.1)
 
-  of_outcomes : (worker : ℕ) (actions : List Action) (before : List (Turn Entry)) (os : List (Outcome Entry)) (took : Took)
+  of_outcomes : (worker : ℕ) (actions : List Action) (before : List (Turn Entry)) (os : List (Outcome Entry)) (took : Took Entry)
       → worked.AreOutcomes asks_of t tries worker actions before os took → AreOwnOutcomes actions os
   of_outcomes worker actions before os took (inl (a, after, by, own)) = of_tried actions os by.first by.last by.tried
   of_outcomes worker actions before os took (inr (later, left, unused)) = of_left actions os left
 
   outcomes_from : (first : ℕ) (before : List (Turn Entry)) (lists : List (List Action)) (receipts : List (List (Record Entry)))
-      (missed : List (ℕ × ℕ × LastAbort)) (took : Took)
+      (missed : List (ℕ × ℕ × LastAbort)) (took : Took Entry)
       → Reports asks_of t tries before (numbered first lists) receipts missed took → HasOutcomes first lists receipts missed
   outcomes_from first before [] receipts missed took h = record { outcomes = []; each = tt; receipts_are = h.0; missed_are = h.1 }
   outcomes_from first before (actions ∷ lists) receipts missed took
@@ -103,14 +103,14 @@ module _ (t : TxTable Entry) (tries : ℕ) where
   none_made (a ∷ actions) (Ok r ∷ os) h = absurd (let e : Ok r ≡ Err NotStarted = h.0 in cc)
   none_made (a ∷ actions) (Err cause ∷ os) h = none_made actions os h.1
 
-  of_worker : (worker : ℕ) (actions : List Action) (before : List (Turn Entry)) (os : List (Outcome Entry)) (took : Took)
+  of_worker : (worker : ℕ) (actions : List Action) (before : List (Turn Entry)) (os : List (Outcome Entry)) (took : Took Entry)
       → worked.AreOutcomes asks_of t tries worker actions before os took → All ReadsAsTold (receipts_in os)
   of_worker worker actions before os took (inl (a, after, by, own)) = of_tries actions os by.first by.last by.tried
   of_worker worker actions before os took (inr (later, left, unused)) =
       subst (λ (rs : List (Record Entry)). All ReadsAsTold rs) (sym (none_made actions os left)) (All-nil ReadsAsTold)
 
   of_all : (first : ℕ) (before : List (Turn Entry)) (lists : List (List Action)) (receipts : List (List (Record Entry)))
-      (missed : List (ℕ × ℕ × LastAbort)) (took : Took)
+      (missed : List (ℕ × ℕ × LastAbort)) (took : Took Entry)
       → Reports asks_of t tries before (numbered first lists) receipts missed took
       → All ReadsAsTold (flat_map (λ (rs : List (Record Entry)). rs) receipts)
   of_all first before [] receipts missed took h =

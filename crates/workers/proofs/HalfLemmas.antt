@@ -30,8 +30,8 @@ module _ {V J : Type 0} (asks : J → List (Reply V) → Ask V → Type 0) (t : 
       → AreDone asks t tries tree (actor y.seat) [] (view y.seat).turns (view y.seat).joined
       ⊎ (AreLeft tree × ((view y.seat).turns ≡ []) × ((view y.seat).joined ≡ []))
   back_done turns none (inl ran) =
-      let joined : (view y.seat).joined ≡ ran.others = ran.joined.joined ∙ ap (λ (xs : Took). xs ++ ran.others) none in
-      inl (subst (λ (k : ℕ × List (Turn V) × Took). AreDone asks t tries tree k.0 k.1 (view y.seat).turns k.2)
+      let joined : (view y.seat).joined ≡ ran.others = ran.joined.joined ∙ ap (λ (xs : Took V). xs ++ ran.others) none in
+      inl (subst (λ (k : ℕ × List (Turn V) × Took V). AreDone asks t tries tree k.0 k.1 (view y.seat).turns k.2)
       (λ i. (sym ran.joined.same i, turns i, sym joined i)) ran.done)
   back_done turns none (inr back) = inr (
     back.left,
@@ -43,18 +43,18 @@ module _ {V J : Type 0} (asks : J → List (Reply V) → Ask V → Type 0) (t : 
 module _ {V : Type 0} (s m o x y u : TxSeat V) (n : ℕ) (same : actor m.seat ≡ actor s.seat) (left : view m.seat ≡ left_of n (view s.seat))
     (right : view o.seat ≡ right_of n (view s.seat)) (joins : actor u.seat ≡ actor x.seat)
     (both : view u.seat ≡ both_of (view x.seat) (actor y.seat) (view y.seat)) where
-  pub both_joined : (others : Took) → GetsJoined m x others
+  pub both_joined : (others : Took V) → GetsJoined m x others
       → GetsJoined s u (others ++ (actor y.seat, (view y.seat).turns) ∷ (view y.seat).joined)
   both_joined others h = record {
     same = joins ∙ (h.same ∙ same);
     joined = (λ i. (both i).joined)
-        ∙ (ap (λ (xs : Took). xs ++ (actor y.seat, (view y.seat).turns) ∷ (view y.seat).joined)
-        (h.joined ∙ ap (λ (xs : Took). xs ++ others) (λ i. (left i).joined))
+        ∙ (ap (λ (xs : Took V). xs ++ (actor y.seat, (view y.seat).turns) ∷ (view y.seat).joined)
+        (h.joined ∙ ap (λ (xs : Took V). xs ++ others) (λ i. (left i).joined))
         ∙ append_assoc (view s.seat).joined others ((actor y.seat, (view y.seat).turns) ∷ (view y.seat).joined));
   }
 
   module _ {J : Type 0} (asks : J → List (Reply V) → Ask V → Type 0) (t : TxTable V) (tries : ℕ) where
-    pub first_done : (tree : Tree V J) (others : Took)
+    pub first_done : (tree : Tree V J) (others : Took V)
         → AreDone asks t tries tree (actor m.seat) (view m.seat).turns (view x.seat).turns others
         → AreDone asks t tries tree (actor s.seat) (view s.seat).turns (view u.seat).turns others
     first_done tree others done =

@@ -130,8 +130,8 @@ module _ {V J : Type 0} where
 
 module _ {V J : Type 0} (asks : J → List (Reply V) → Ask V → Type 0) (t : TxTable V) (tries : ℕ) where
   -- ---- a tree and its report, with that of the lists behind it
-  reports_left : (tree : Tree V J) (took : Took) (ws : List (ℕ × List J)) (rs : List (List (Record V))) (ms : List (ℕ × ℕ × LastAbort))
-      (rest : Took) → AreLeft tree → All (λ e. e.1 ≡ []) took → Reports asks t tries [] ws rs ms rest
+  reports_left : (tree : Tree V J) (took : Took V) (ws : List (ℕ × List J)) (rs : List (List (Record V))) (ms : List (ℕ × ℕ × LastAbort))
+      (rest : Took V) → AreLeft tree → All (λ (e : ℕ × List (Turn V)). e.1 ≡ []) took → Reports asks t tries [] ws rs ms rest
       → Reports asks t tries [] (works tree ++ ws) (lists_of tree ++ rs) (missed_of tree ++ ms) (took ++ rest)
   reports_left Taken took ws rs ms rest h unused g = absurd h
   reports_left (Leaf task) took ws rs ms rest h unused g = (
@@ -151,8 +151,8 @@ module _ {V J : Type 0} (asks : J → List (Reply V) → Ask V → Type 0) (t : 
       let both = reports_left l took (works r ++ ws) (lists_of r ++ rs) (missed_of r ++ ms) rest h.0 unused second in
       rw (append_assoc (works l) (works r) ws, append_assoc (lists_of l) (lists_of r) rs, append_assoc (missed_of l) (missed_of r) ms) both
 
-  reports_done : (tree : Tree V J) (a : ℕ) (before after : List (Turn V)) (others : Took) (ws : List (ℕ × List J))
-      (rs : List (List (Record V))) (ms : List (ℕ × ℕ × LastAbort)) (rest : Took) → AreDone asks t tries tree a before after others
+  reports_done : (tree : Tree V J) (a : ℕ) (before after : List (Turn V)) (others : Took V) (ws : List (ℕ × List J))
+      (rs : List (List (Record V))) (ms : List (ℕ × ℕ × LastAbort)) (rest : Took V) → AreDone asks t tries tree a before after others
       → Reports asks t tries [] ws rs ms rest
       → Reports asks t tries before (works tree ++ ws) (lists_of tree ++ rs) (missed_of tree ++ ms) ((a, after) ∷ (others ++ rest))
   reports_done Taken a before after others ws rs ms rest h g = absurd h
@@ -165,7 +165,7 @@ module _ {V J : Type 0} (asks : J → List (Reply V) → Ask V → Type 0) (t : 
     inl (a, after, h.each, refl),
     ap (λ (xs : List (Record V)). xs ∷ rs) h.receipts_are,
     ap (λ (xs : List (ℕ × ℕ × LastAbort)). xs ++ ms) h.missed_are,
-    ap (λ (xs : Took). (a, after) ∷ (xs ++ rest)) none,
+    ap (λ (xs : Took V). (a, after) ∷ (xs ++ rest)) none,
     g,
   )
   reports_done (Both' p l q r) a before after others ws rs ms rest (of_first, of_second, b, turns, first, inl second, all) g =
@@ -180,7 +180,7 @@ module _ {V J : Type 0} (asks : J → List (Reply V) → Ask V → Type 0) (t : 
         append_assoc of_first ((b, turns) ∷ of_second) rest,
       ) both
   reports_done (Both' p l q r) a before after others ws rs ms rest (of_first, of_second, b, turns, first, inr (left, none, no), all) g =
-      let unused : All (λ e. e.1 ≡ []) ((b, turns) ∷ of_second) = subst (λ (xs : Took). All (λ e. e.1 ≡ []) ((b, turns) ∷ xs)) (sym no)
+      let unused : All (λ (e : ℕ × List (Turn V)). e.1 ≡ []) ((b, turns) ∷ of_second) = subst (λ (xs : Took V). All (λ (e : ℕ × List (Turn V)). e.1 ≡ []) ((b, turns) ∷ xs)) (sym no)
       (All-cons (λ (e : ℕ × List (Turn V)). e.1 ≡ []) (b, turns) [] none (All-nil (λ (e : ℕ × List (Turn V)). e.1 ≡ []))) in
       let behind = reports_left r ((b, turns) ∷ of_second) ws rs ms rest left unused g in
       let both = reports_done l a before after of_first (works r ++ ws) (lists_of r ++ rs) (missed_of r ++ ms)
@@ -193,15 +193,15 @@ module _ {V J : Type 0} (asks : J → List (Reply V) → Ask V → Type 0) (t : 
         append_assoc of_first ((b, turns) ∷ of_second) rest,
       ) both
 
-  reports_of : (tree : Tree V J) (a : ℕ) (before after : List (Turn V)) (others : Took) → AreDone asks t tries tree a before after others
+  reports_of : (tree : Tree V J) (a : ℕ) (before after : List (Turn V)) (others : Took V) → AreDone asks t tries tree a before after others
       → Reports asks t tries before (works tree) (lists_of tree) (missed_of tree) ((a, after) ∷ others)
   reports_of tree a before after others h =
-      subst (λ (k : List (ℕ × List J) × List (List (Record V)) × List (ℕ × ℕ × LastAbort) × Took).
+      subst (λ (k : List (ℕ × List J) × List (List (Record V)) × List (ℕ × ℕ × LastAbort) × Took V).
       Reports asks t tries before k.0 k.1 k.2 ((a, after) ∷ k.3))
       (λ i. (append-nil (works tree) i, append-nil (lists_of tree) i, append-nil (missed_of tree) i, append-nil others i))
       (reports_done tree a before after others [] [] [] [] h (refl, refl, refl))
 
-  few_missed_of : (tree : Tree V J) (a : ℕ) (before after : List (Turn V)) (others : Took) → AreDone asks t tries tree a before after others
+  few_missed_of : (tree : Tree V J) (a : ℕ) (before after : List (Turn V)) (others : Took V) → AreDone asks t tries tree a before after others
       → length (missed_of tree) ≤ sum_by (λ w. length w.1) (works tree)
   few_missed_of Taken a before after others h = absurd h
   few_missed_of (Leaf task) a before after others h =
@@ -216,7 +216,7 @@ module _ {V J : Type 0} (asks : J → List (Reply V) → Ask V → Type 0) (t : 
       omega (arith, length-append (missed_of l) (missed_of r), sum_by-append (λ (w : ℕ × List J). length w.1) (works l) (works r))
 
   -- the actor of the first list went on
-  goes_on : (tree : Tree V J) (a : ℕ) (before after more : List (Turn V)) (others : Took) → AreDone asks t tries tree a before after others
+  goes_on : (tree : Tree V J) (a : ℕ) (before after more : List (Turn V)) (others : Took V) → AreDone asks t tries tree a before after others
       → AreDone asks t tries tree a before (after ++ more) others
   goes_on Taken a before after more others h = absurd h
   goes_on (Leaf task) a before after more others (h, none) = (longer asks t tries a before after more task h, none)

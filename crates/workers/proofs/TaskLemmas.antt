@@ -212,10 +212,10 @@ module _ {V : Type 0} where
   pub none_joined : (s : TxSeat V) → GetsJoined s s []
   none_joined s = record { same = refl; joined = sym (append-nil (view s.seat).joined) }
 
-  pub then_joined : (s m u : TxSeat V) (ps qs : Took) → GetsJoined s m ps → GetsJoined m u qs → GetsJoined s u (ps ++ qs)
+  pub then_joined : (s m u : TxSeat V) (ps qs : Took V) → GetsJoined s m ps → GetsJoined m u qs → GetsJoined s u (ps ++ qs)
   then_joined s m u ps qs g h = record {
     same = h.same ∙ g.same;
-    joined = h.joined ∙ (ap (λ (xs : Took). xs ++ qs) g.joined ∙ append_assoc (view s.seat).joined ps qs);
+    joined = h.joined ∙ (ap (λ (xs : Took V). xs ++ qs) g.joined ∙ append_assoc (view s.seat).joined ps qs);
   }
 
   pub keeps_joined : (s u : TxSeat V) → KeepsReceipts s.seat u.seat → GetsJoined s u []

@@ -58,10 +58,10 @@ HasRun s u report = Gains s u (flat_map (λ receipts. receipts) report.receipts)
 module _ {V J : Type 0} (asks : J → List (Reply V) → Ask V → Type 0) (t : TxTable V) (tries : ℕ) where
   -- The receipts of the workers, list by list, what they missed, and what actors took for them: each of the first one's jobs has an
   -- outcome, by an actor that had taken these turns before, and so on; the actors of the others had taken none.
-  abbrev pub Reports : List (Turn V) → List (ℕ × List J) → List (List (Record V)) → List (ℕ × ℕ × LastAbort) → Took → Type 0
+  abbrev pub Reports : List (Turn V) → List (ℕ × List J) → List (List (Record V)) → List (ℕ × ℕ × LastAbort) → Took V → Type 0
   Reports before [] receipts missed took = (receipts ≡ []) × (missed ≡ []) × (took ≡ [])
   Reports before (w ∷ ws) receipts missed took =
-      (outcomes : List (Outcome V)) × (others : List (List (Record V))) × (later : List (ℕ × ℕ × LastAbort)) × (own : Took) × (rest : Took)
+      (outcomes : List (Outcome V)) × (others : List (List (Record V))) × (later : List (ℕ × ℕ × LastAbort)) × (own : Took V) × (rest : Took V)
       × AreOutcomes asks t tries w.0 w.1 before outcomes own
       × (receipts ≡ receipts_in outcomes ∷ others) × (missed ≡ missed_in w.0 0 outcomes ++ later) × (took ≡ own ++ rest)
       × Reports [] ws others later rest
@@ -70,6 +70,6 @@ module _ {V J : Type 0} (asks : J → List (Reply V) → Ask V → Type 0) (t : 
   -- missed, with what so many attempts of it came to. The attempts of the first list are turns of the seat's own actor, which led it from s
   -- to u; those of each other list are turns of an actor whose seat was joined into it.
   pub record IsReportOf (s u : TxSeat V) (lists : List (List J)) (report : Report V) : Type 0 where
-    pub others : Took
+    pub others : Took V
     pub joined : GetsJoined s u others
     pub each : Reports (view s.seat).turns (numbered 1 lists) report.receipts report.missed ((actor u.seat, (view u.seat).turns) ∷ others)

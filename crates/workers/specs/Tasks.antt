@@ -14,6 +14,10 @@ use Rattle.workers.specs.declared.causes.LastAbort.TheVariants.{NotStarted}
 use Rattle.workers.specs.declared.tasks.Task.{Task}
 use Rattle.workers.specs.Tries.{HasNoReceipt, HasReceipt}
 
+-- actors, each with the turns that it took
+abbrev pub Took : Type 0 → Type 0
+Took V = List (ℕ × List (Turn V))
+
 -- a job has this receipt, or none for this cause
 abbrev pub Outcome : Type 0 → Type 0
 Outcome V = Result (Record V) LastAbort
@@ -40,12 +44,8 @@ module _ {V : Type 0} where
     pub shares : (view u.seat).shares ≡ (view s.seat).shares
     pub records : records_of u ≡ records_of s ++ receipts
 
-  -- actors, each with the turns that it took
-  abbrev pub Took : Type 0
-  Took = List (ℕ × List (Turn V))
-
   -- the seat is that of the same actor, and these were joined into it
-  pub record GetsJoined (s u : TxSeat V) (others : Took) : Type 0 where
+  pub record GetsJoined (s u : TxSeat V) (others : Took V) : Type 0 where
     pub same : actor u.seat ≡ actor s.seat
     pub joined : (view u.seat).joined ≡ (view s.seat).joined ++ others
 
@@ -85,10 +85,10 @@ module _ {V J : Type 0} (asks : J → List (Reply V) → Ask V → Type 0) (t : 
 
   -- One outcome for each of a worker's jobs, in their order: by an actor that took these turns, from those before on; or no thread was
   -- started for it, which the first worker doesn't need.
-  abbrev pub AreOutcomes : ℕ → List J → List (Turn V) → List (Outcome V) → Took → Type 0
+  abbrev pub AreOutcomes : ℕ → List J → List (Turn V) → List (Outcome V) → Took V → Type 0
   AreOutcomes worker jobs before outcomes took =
       ((a : ℕ) × (after : List (Turn V)) × AreTriedBy a before after jobs outcomes × (took ≡ (a, after) ∷ []))
-      ⊎ ((1 < worker) × AreNotStarted jobs outcomes × All (λ e. e.1 ≡ []) took)
+      ⊎ ((1 < worker) × AreNotStarted jobs outcomes × All (λ (e : ℕ × List (Turn V)). e.1 ≡ []) took)
 
 module _ {V : Type 0} where
   -- outcomes of a worker's jobs of which this holds, with their receipts and with what was missed

@@ -74,11 +74,11 @@ module _ {V J : Type 0} (asks : J → List (Reply V) → Ask V → Type 0) (tabl
   -- Each job of each worker has one outcome. The first list was run by this actor, which had taken these turns before, and those in the
   -- end; what others took, each from its first turn on, was joined into its seat: first the others of the first half, then the actor
   -- of the second half and the others there. For a second half no thread may have been started.
-  abbrev pub AreDone : Tree V J → ℕ → (before after : List (Turn V)) → Took → Type 0
+  abbrev pub AreDone : Tree V J → ℕ → (before after : List (Turn V)) → Took V → Type 0
   AreDone Taken a before after others = ⊥
   AreDone (Leaf t) a before after others = IsDone asks table tries a before after t × (others ≡ [])
   AreDone (Both' p l q r) a before after others =
-      (of_first : Took) × (of_second : Took) × (b : ℕ) × (turns : List (Turn V)) × AreDone l a before after of_first
+      (of_first : Took V) × (of_second : Took V) × (b : ℕ) × (turns : List (Turn V)) × AreDone l a before after of_first
       × (AreDone r b [] turns of_second ⊎ (AreLeft r × (turns ≡ []) × (of_second ≡ []))) × (others ≡ of_first ++ (b, turns) ∷ of_second)
 
   -- The lists were run from the seat s, which is u then: it is ready, has as many shares, and their receipts more.
@@ -86,7 +86,7 @@ module _ {V J : Type 0} (asks : J → List (Reply V) → Ask V → Type 0) (tabl
     pub ready : IsReady table u
     pub gains : Gains s u (gained after)
     pub works_are : works after ≡ works before
-    pub others : Took
+    pub others : Took V
     pub joined : GetsJoined s u others
     pub done : AreDone after (actor s.seat) (view s.seat).turns (view u.seat).turns others
 
