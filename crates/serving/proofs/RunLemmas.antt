@@ -113,7 +113,8 @@ audited_so tables lists report outcomes t tries m u s told reported run =
 pub served_so : (tables : Holdings) (stripes : ℕ) (lists jobs : List (List Action)) (t : TxTable Entry) (tries : ℕ) (s u : TxSeat Entry)
     (r : Result (Report Entry) Memory) (report : Report Entry) (state : Contents Entry)
     → IsBalanced tables → AreAllowed lists → jobs ≡ lists → OpensOnTables tables stripes t s
-    → IfOk r (IsReportOf asks_of t tries s u jobs) → IfOk r (HasRun s u) → r ≡ Ok report → IsWhatRemains (contents_in t) (view u.seat).receipts state
+    → IfOk r (IsReportOf asks_of t tries s u jobs) → IfOk r (HasRun s u) → r ≡ Ok report
+    → IsWhatRemains (contents_in t) (view u.seat).receipts state
     → (outcomes : List (List (Outcome Entry))) × AreReportedAs lists report outcomes × AreRun tables (all_dealt lists outcomes) state
     × IsReportOf asks_of t tries s u lists report
     × IsRunBetween (state_of tables) (flat_map (λ (rs : List (Record Entry)). rs) report.receipts) state

@@ -16,7 +16,8 @@ use Rattle.workers.specs.Tasks.{Gains, GetsJoined, Took}
 use Rattle.workers.specs.Trees.{AreDone, AreLeft, ComesBack, Ran, gained, works}
 use Rattle.workers.proofs.TaskLemmas.{no_gain}
 
-module _ {V J : Type 0} (asks : J → List (Reply V) → Ask V → Type 0) (t : TxTable V) (tries : ℕ) (o y : TxSeat V) (start tree : Tree V J) where
+module _ {V J : Type 0} (asks : J → List (Reply V) → Ask V → Type 0) (t : TxTable V) (tries : ℕ) (o y : TxSeat V)
+    (start tree : Tree V J) where
   pub back_gains : ComesBack asks t tries o y start tree → Gains o y (gained tree)
   back_gains (inl ran) = ran.gains
   back_gains (inr back) = rw (back.none, back.same) (no_gain o)

@@ -180,7 +180,8 @@ module _ {V J : Type 0} (asks : J → List (Reply V) → Ask V → Type 0) (t : 
         append_assoc of_first ((b, turns) ∷ of_second) rest,
       ) both
   reports_done (Both' p l q r) a before after others ws rs ms rest (of_first, of_second, b, turns, first, inr (left, none, no), all) g =
-      let unused : All (λ (e : ℕ × List (Turn V)). e.1 ≡ []) ((b, turns) ∷ of_second) = subst (λ (xs : Took V). All (λ (e : ℕ × List (Turn V)). e.1 ≡ []) ((b, turns) ∷ xs)) (sym no)
+      let Unused : Took V → Type 0 = All (λ (e : ℕ × List (Turn V)). e.1 ≡ []) in
+      let unused : Unused ((b, turns) ∷ of_second) = subst (λ (xs : Took V). Unused ((b, turns) ∷ xs)) (sym no)
       (All-cons (λ (e : ℕ × List (Turn V)). e.1 ≡ []) (b, turns) [] none (All-nil (λ (e : ℕ × List (Turn V)). e.1 ≡ []))) in
       let behind = reports_left r ((b, turns) ∷ of_second) ws rs ms rest left unused g in
       let both = reports_done l a before after of_first (works r ++ ws) (lists_of r ++ rs) (missed_of r ++ ms)
@@ -201,7 +202,8 @@ module _ {V J : Type 0} (asks : J → List (Reply V) → Ask V → Type 0) (t : 
       (λ i. (append-nil (works tree) i, append-nil (lists_of tree) i, append-nil (missed_of tree) i, append-nil others i))
       (reports_done tree a before after others [] [] [] [] h (refl, refl, refl))
 
-  few_missed_of : (tree : Tree V J) (a : ℕ) (before after : List (Turn V)) (others : Took V) → AreDone asks t tries tree a before after others
+  few_missed_of : (tree : Tree V J) (a : ℕ) (before after : List (Turn V)) (others : Took V)
+      → AreDone asks t tries tree a before after others
       → length (missed_of tree) ≤ sum_by (λ w. length w.1) (works tree)
   few_missed_of Taken a before after others h = absurd h
   few_missed_of (Leaf task) a before after others h =
@@ -216,7 +218,8 @@ module _ {V J : Type 0} (asks : J → List (Reply V) → Ask V → Type 0) (t : 
       omega (arith, length-append (missed_of l) (missed_of r), sum_by-append (λ (w : ℕ × List J). length w.1) (works l) (works r))
 
   -- the actor of the first list went on
-  goes_on : (tree : Tree V J) (a : ℕ) (before after more : List (Turn V)) (others : Took V) → AreDone asks t tries tree a before after others
+  goes_on : (tree : Tree V J) (a : ℕ) (before after more : List (Turn V)) (others : Took V)
+      → AreDone asks t tries tree a before after others
       → AreDone asks t tries tree a before (after ++ more) others
   goes_on Taken a before after more others h = absurd h
   goes_on (Leaf task) a before after more others (h, none) = (longer asks t tries a before after more task h, none)

@@ -23,7 +23,8 @@ run_workers-seat-requires-clause-shares g c κs within =
 pub tables_left-requires : goal.tables_left-requires
 tables_left-requires g c =
     let x =
-    served_so c.args.tables.now c.args.stripes (jobs_of c.args.lists.now) _ c.in_ok-table.table c.args.tries c.in_ok-table.seat _ _ c.in_ok-report.report
+    served_so c.args.tables.now c.args.stripes (jobs_of c.args.lists.now) _ c.in_ok-table.table c.args.tries c.in_ok-table.seat _ _
+    c.in_ok-report.report
     c.in_ok-state.state c.requires.balanced c.requires.allowed c.in_ok-sessions.ensures c.in_ok-table.ensures
     c.run_workers-seat.ensures.report c.run_workers-seat.ensures.gains c.in_ok-report.was c.in_ok-state.ensures in
     holds_some c.args.tables.now _ c.in_ok-state.state x.2
@@ -31,7 +32,8 @@ tables_left-requires g c =
 pub returns : goal.returns
 returns g c =
     let x =
-    served_so c.args.tables.now c.args.stripes (jobs_of c.args.lists.now) _ c.in_ok-table.table c.args.tries c.in_ok-table.seat _ _ c.in_ok-report.report
+    served_so c.args.tables.now c.args.stripes (jobs_of c.args.lists.now) _ c.in_ok-table.table c.args.tries c.in_ok-table.seat _ _
+    c.in_ok-report.report
     c.in_ok-state.state c.requires.balanced c.requires.allowed c.in_ok-sessions.ensures c.in_ok-table.ensures
     c.run_workers-seat.ensures.report c.run_workers-seat.ensures.gains c.in_ok-report.was c.in_ok-state.ensures in
     record {
