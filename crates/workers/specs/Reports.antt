@@ -61,8 +61,8 @@ module _ {V J : Type 0} (asks : J → List (Reply V) → Ask V → Type 0) (t : 
   abbrev pub Reports : List (Turn V) → List (ℕ × List J) → List (List (Record V)) → List (ℕ × ℕ × LastAbort) → Took V → Type 0
   Reports before [] receipts missed took = (receipts ≡ []) × (missed ≡ []) × (took ≡ [])
   Reports before (w ∷ ws) receipts missed took =
-      (outcomes : List (Outcome V)) × (others : List (List (Record V))) × (later : List (ℕ × ℕ × LastAbort)) ×
-      (own : Took V) × (rest : Took V)
+      (outcomes : List (Outcome V)) × (others : List (List (Record V))) × (later : List (ℕ × ℕ × LastAbort))
+      × (own : Took V) × (rest : Took V)
       × AreOutcomes asks t tries w.0 w.1 before outcomes own
       × (receipts ≡ receipts_in outcomes ∷ others) × (missed ≡ missed_in w.0 0 outcomes ++ later) × (took ≡ own ++ rest)
       × Reports [] ws others later rest
