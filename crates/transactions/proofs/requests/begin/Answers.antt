@@ -10,12 +10,16 @@ use Rattle.transactions.proofs.requests.begin.Goals as goal
 pub ask_begin-requires-clause-idle : goal.ask_begin-requires-clause-idle
 ask_begin-requires-clause-idle g c = is_idle c.args.table.now c.args.seat.now c.args.actor.now c.requires.drives.ties c.requires.rests
 
-pub begun-requires-clause-own : goal.begun-requires-clause-own
-begun-requires-clause-own g c =
+pub begun-requires-clause-drives : goal.begun-requires-clause-drives
+begun-requires-clause-drives g c =
     let at = c.ask_begin.ensures.stage in
-    free_own c.args.table.now c.ask_begin.new.seat c.ask_begin.new.actor (subst IsFree (sym at) tt)
-    (ap (λ (s : own.Stage _). gates_at s) at)
-    (ap (λ m. m.1) c.ask_begin.ensures.asked.1 ∙ bare_out c.args.table.now c.args.seat.now c.args.actor.now c.requires.drives.own)
+    record {
+      ties = c.ask_begin.ensures.ties;
+      own = free_own c.args.table.now c.ask_begin.new.seat c.ask_begin.new.actor (subst IsFree (sym at) tt)
+          (ap (λ (s : own.Stage _). gates_at s) at)
+          (ap (λ m. m.1) c.ask_begin.ensures.asked.1 ∙ bare_out c.args.table.now c.args.seat.now c.args.actor.now c.requires.drives.own);
+      small = c.requires.drives.small;
+    }
 
 pub returns-clause-keeps : goal.returns-clause-keeps
 returns-clause-keeps g c =

@@ -1,13 +1,15 @@
+use Rattle.std.proofs.Common.{rules, ◌≡◌}
+use Rattle.tx_actor.specs.declared.actor.Stage.TheVariants as stage
 use Rattle.transactions.proofs.ReadyLemmas.{has_called, has_open, none_called}
 use Rattle.transactions.proofs.seats.TxSeat.call.Goals as goal
 
-pub returns-then-is_open-clause-called : goal.returns-then-is_open-clause-called
-returns-then-is_open-clause-called g c =
-    none_called c.args.table.now c.args.self.now c.args.call c.requires.ready c.requires.since
-    (rw c.if-is_open.true at c.is_open.ensures)
+pub returns-then-not-is_open-clause-called : goal.returns-then-not-is_open-clause-called
+returns-then-not-is_open-clause-called g c =
+    let none : c.args.self.now.actor.stage ≡ stage.Open → ⊥ = search rules in
+    none_called c.args.table.now c.args.self.now c.args.call c.requires.ready c.requires.since none
 
 pub returns-clause-called : goal.returns-clause-called
 returns-clause-called g c =
+    let at : c.args.self.now.actor.stage ≡ stage.Open = search rules in
     has_called c.args.table.now c.args.self.now _ c.args.call c.call.result c.requires.ready c.requires.since
-    (has_open c.args.table.now c.args.self.now c.requires.ready (rw c.if-is_open.false at c.is_open.ensures))
-    c.call.ensures.drives c.call.ensures.calls
+    (has_open c.args.table.now c.args.self.now c.requires.ready at) c.call.ensures.drives c.call.ensures.calls

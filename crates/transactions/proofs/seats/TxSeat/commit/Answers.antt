@@ -1,17 +1,20 @@
-use Rattle.std.proofs.Common.{◌∙◌}
+use Rattle.std.proofs.Common.{rules, ◌≡◌, ◌∙◌}
 use Rattle.std.proofs.lemmas.Result.{err_from_is_err_and}
+use Rattle.tx_actor.specs.declared.actor.Stage.TheVariants as stage
 use Rattle.transactions.proofs.ReadyLemmas.{has_finished, has_open, none_finished, noted_begins, receipt_numbers, refused_finished}
 use Rattle.transactions.proofs.seats.TxSeat.commit.Goals as goal
 
-pub returns-then-is_open-clause-finished : goal.returns-then-is_open-clause-finished
-returns-then-is_open-clause-finished g c =
-    none_finished c.args.table.now c.args.self.now c.requires.ready (rw c.if-is_open.true at c.is_open.ensures)
+pub returns-then-not-is_open-clause-finished : goal.returns-then-not-is_open-clause-finished
+returns-then-not-is_open-clause-finished g c =
+    let none : c.args.self.now.actor.stage ≡ stage.Open → ⊥ = search rules in
+    none_finished c.args.table.now c.args.self.now c.requires.ready none
 
 pub returns-in_err-receipt-clause-finished : goal.returns-in_err-receipt-clause-finished
 returns-in_err-receipt-clause-finished g c =
     let p = err_from_is_err_and c.from_residual.result c.from_residual.ensures.1 in
+    let at : c.args.self.now.actor.stage ≡ stage.Open = search rules in
     rw (p.1, p.2) (refused_finished c.args.table.now c.args.self.now _ _ c.requires.ready
-    (has_open c.args.table.now c.args.self.now c.requires.ready (rw c.if-is_open.false at c.is_open.ensures))
+    (has_open c.args.table.now c.args.self.now c.requires.ready at)
     c.commit.ensures.drives c.in_err-receipt.ensures.commits)
 
 pub note-requires : goal.note-requires
