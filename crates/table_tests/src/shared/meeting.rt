@@ -1,5 +1,6 @@
 //! Workers that wait for one another.
 use attempts::Pause;
+use seq_model::Refusal;
 use std::sync::atomic::{AtomicBool, AtomicU64, Ordering};
 use std::thread::yield_now;
 
@@ -106,5 +107,12 @@ impl Pause for Meeting {
 
     fn after_receipt(&self, _worker: u64, _number: u64) {
         self.received.fetch_add(1, Ordering::SeqCst);
+    }
+
+    // Such a worker may never stand where others wait for it.
+    fn after_refusal(&self, _worker: u64, cause: Refusal) {
+        if matches!(cause, Refusal::OutOfMemory) {
+            self.leave();
+        }
     }
 }
