@@ -23,7 +23,8 @@ fn refuse(
     opening: &State<Rationed>,
     place: u64,
 ) -> Result<bool, Refusal> {
-    let mut receipts = Vec::new(alloc);
+    // With room for both receipts before the table opens, so that none of them is lost.
+    let mut receipts = Vec::with_capacity(alloc, 2)?;
     run_and_audit(alloc, ration, opening, place, &mut receipts)
 }
 
