@@ -1,1 +1,5 @@
 pub mod SeatLemmas
+pub mod TurnLemmas
+pub mod TriedLemmas
+pub mod HeldLemmas
+pub mod RefusedLemmas

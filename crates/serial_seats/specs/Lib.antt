@@ -1,1 +1,3 @@
 pub mod Seats
+pub mod Tries
+pub mod Refused

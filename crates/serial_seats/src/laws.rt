@@ -1,20 +1,26 @@
 //! The laws. Each function computes nothing: its contract is the law.
-ghost use Rattle.std.specs.Prelude.{◌≡◌, List};
+ghost use Rattle.std.specs.Prelude.{◌≡◌, ℕ, List};
 ghost use Rattle.seq_model.specs.declared.event.Event.{Event};
+ghost use Rattle.seq_model.specs.declared.refusal.Refusal.{Refusal};
+ghost use Rattle.seq_model.specs.declared.refusal.Refusal.TheVariants.{GateBusy};
 ghost use Rattle.replay_log.specs.Contents.{HaveStripes};
 ghost use Rattle.replay_log.specs.Seats.{World};
 ghost use Rattle.replay_log.specs.WorldSerial.{IsSerial};
 ghost use Rattle.replay_log.specs.Worlds.{run};
+ghost use Rattle.tx_actor.specs.declared.actor.Told.TheVariants.{Refused};
 ghost use Rattle.tx_phases.specs.Phases.{Rests};
 ghost use Rattle.tx_table.specs.Seated.{opening_of};
 ghost use Rattle.tx_table.specs.Shown.{Opens};
 ghost use Rattle.tx_table.specs.declared.table.TxTable.{TxTable};
-ghost use Rattle.driven_turns.specs.Driven.{standing};
+ghost use Rattle.driven_turns.specs.Driven.{HasTold, standing};
 ghost use Rattle.transactions.specs.Ready.{IsReady};
+ghost use Rattle.transactions.specs.Requests.{IsFoundAndTold};
 ghost use Rattle.transactions.specs.declared.seats.TxSeat.{TxSeat};
+ghost use Rattle.serial_seats.specs.Refused.{GaveUp, IsGivenUpFor};
 ghost use Rattle.serial_seats.specs.Seats.{HoldsNothing, SeesOneState};
+ghost use Rattle.serial_seats.specs.Tries.{WasTriedInVain};
 
-use replay_log::laws::{given_up, serial_worlds};
+use replay_log::laws::{given_up, serial_worlds, tries};
 use seq_model::Value;
 
 /// Whatever steps the seats have taken: the records of the world that the table shows are, in commit order, a run of the sequential model
@@ -41,3 +47,19 @@ pub fn resting_seats_hold_nothing<V: Value>()
 {
     given_up::<V>();
 }
+
+/// A request of a seat that is told that a gate was busy, and found it so by one of its turns, as the calls of `transactions` are refused:
+/// it has tried the gate 64 times, one turn after another, each by one compare_exchange, and found it held each time.
+pub fn busy_gates_were_tried_64_times<V: Value>()
+    ensures { (t : TxTable V) (s u : TxSeat V) (k : ℕ) → IsReady t s → IsFoundAndTold (opening_of t) s.seat u.seat (GateBusy k) →
+        WasTriedInVain (opening_of t) s.seat u.seat k }
+{
+    tries::<V>();
+}
+
+/// A request of a seat that is told a cause for which its transaction is given up: no turn of that transaction stores a value, or takes a
+/// base home with its changes, and each lock that it took goes back with its old version.
+pub fn given_up_seats_change_nothing<V: Value>()
+    ensures { (t : TxTable V) (s u : TxSeat V) (cause : Refusal) → IsReady t s → IsGivenUpFor cause →
+        HasTold (opening_of t) s.seat u.seat (Refused cause) → GaveUp (opening_of t) s.seat u.seat cause }
+{}
