@@ -11,6 +11,7 @@ use Rattle.tx_table.specs.Shown.{both_of, left_of, right_of}
 use Rattle.tx_table.specs.declared.table.TxTable.{TxTable}
 use Rattle.tx_table.specs.declared.view.Turn.{Turn}
 use Rattle.transactions.specs.declared.seats.TxSeat.{TxSeat}
+use Rattle.transactions.specs.Ready.{IsReady}
 use Rattle.workers.specs.declared.tree.Tree.{Tree}
 use Rattle.workers.specs.Tasks.{Gains, GetsJoined, Took}
 use Rattle.workers.specs.Trees.{AreDone, AreLeft, ComesBack, Ran, gained, works}
@@ -18,6 +19,10 @@ use Rattle.workers.proofs.TaskLemmas.{no_gain}
 
 module _ {V J : Type 0} (asks : J → List (Reply V) → Ask V → Type 0) (t : TxTable V) (tries : ℕ) (o y : TxSeat V)
     (start tree : Tree V J) where
+  pub back_ready : ComesBack asks t tries o y start tree → IsReady t y
+  back_ready (inl ran) = ran.ready
+  back_ready (inr back) = back.ready
+
   pub back_gains : ComesBack asks t tries o y start tree → Gains o y (gained tree)
   back_gains (inl ran) = ran.gains
   back_gains (inr back) = rw (back.none, back.same) (no_gain o)

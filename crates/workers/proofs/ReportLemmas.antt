@@ -179,9 +179,9 @@ module _ {V J : Type 0} (asks : J → List (Reply V) → Ask V → Type 0) (t : 
         append_assoc (missed_of l) (missed_of r) ms,
         append_assoc of_first ((b, turns) ∷ of_second) rest,
       ) both
-  reports_done (Both' p l q r) a before after others ws rs ms rest (of_first, of_second, b, turns, first, inr (left, none, no), all) g =
+  reports_done (Both' p l q r) a before after others ws rs ms rest (of_first, of_second, b, turns, first, inr (left, none, nobody), all) g =
       let Unused : Took V → Type 0 = All (λ (e : ℕ × List (Turn V)). e.1 ≡ []) in
-      let unused : Unused ((b, turns) ∷ of_second) = subst (λ (xs : Took V). Unused ((b, turns) ∷ xs)) (sym no)
+      let unused : Unused ((b, turns) ∷ of_second) = subst (λ (xs : Took V). Unused ((b, turns) ∷ xs)) (sym nobody)
       (All-cons (λ (e : ℕ × List (Turn V)). e.1 ≡ []) (b, turns) [] none (All-nil (λ (e : ℕ × List (Turn V)). e.1 ≡ []))) in
       let behind = reports_left r ((b, turns) ∷ of_second) ws rs ms rest left unused g in
       let both = reports_done l a before after of_first (works r ++ ws) (lists_of r ++ rs) (missed_of r ++ ms)

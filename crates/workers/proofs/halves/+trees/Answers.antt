@@ -1,6 +1,6 @@
 use Rattle.std.proofs.Common.{rules, [], ◌∷◌, ◌++◌, ◌∙◌, ap, inl, inr, refl, subst, sym}
 use Rattle.tx_table.specs.Seated.{actor, view}
-use Rattle.workers.proofs.HalfLemmas.{back_gains, back_works, both_joined, first_done, second_done}
+use Rattle.workers.proofs.HalfLemmas.{back_gains, back_ready, back_works, both_joined, first_done, second_done}
 use Rattle.workers.proofs.ReportLemmas.{same_works}
 use Rattle.workers.proofs.TaskLemmas.{both_gain}
 use Rattle.workers.specs.Trees.{IsFresh, works}
@@ -9,8 +9,8 @@ use Rattle.workers.proofs.halves.+trees.Goals as goal
 pub both-scope-spawn_with-returns-then-load : goal.both-scope-spawn_with-returns-then-load
 both-scope-spawn_with-returns-then-load g t c = inr c.give_back.ensures
 
-pub both-scope-spawn_with-returns : goal.both-scope-spawn_with-returns
-both-scope-spawn_with-returns g t c = inl c.run_tree.ensures
+pub both-scope-spawn_with-returns-else-load : goal.both-scope-spawn_with-returns-else-load
+both-scope-spawn_with-returns-else-load g t c = inl c.run_tree.ensures
 
 pub run_tree-work-requires-clause-ready : goal.run_tree-work-requires-clause-ready
 run_tree-work-requires-clause-ready g t c = c.requires.ready
@@ -35,6 +35,11 @@ run_tree-both-first-requires-clause-second g t c κs within = record {
   few = search rules;
   fresh = search rules;
 }
+
+pub run_tree-join-requires-clause-other : goal.run_tree-join-requires-clause-other
+run_tree-join-requires-clause-other g t c =
+    back_ready g.J.Job.asks c.args.table.now c.args.tries c.split-other.result c.both-first.result.1.0 c.in-Both.right.value
+    c.both-first.result.1.1.value c.both-first.ensures.second
 
 pub run_tree-returns-in-Taken : goal.run_tree-returns-in-Taken
 run_tree-returns-in-Taken g t c =

@@ -1,5 +1,5 @@
 use Rattle.std.proofs.Common.{rules, length, ◌≡◌, [], ◌∷◌}
-use Rattle.workers.proofs.TaskLemmas.{all_tried, next_tried, none_joined, then_gains, then_joined, then_same, tried_gains, tried_joined}
+use Rattle.workers.proofs.TaskLemmas.{all_tried, next_tried, then_gains, then_joined, then_same, tried_gains, tried_joined}
 use Rattle.workers.specs.Tasks.{IsTried, receipts_in}
 use Rattle.workers.proofs.tasks.Task.work.Goals as goal
 
