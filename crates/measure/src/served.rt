@@ -48,8 +48,10 @@ fn drawn<R: Runtime + AllocGlobal + Threads + Wait + Sync>(
     let lists = lists_of(alloc, seed, options).map_err(memory)?;
     let sessions = all_sessions(alloc, lists.as_slice()).map_err(refused)?;
     let state = state_of(alloc, &tables).map_err(memory)?;
-    let (table, seat) = open(alloc, state).map_err(refused)?;
-    run(rt, &table, seat, sessions)
+    match open(alloc, state) {
+        Ok((table, seat)) => run(rt, &table, seat, sessions),
+        Err(refusal) => Err(refused(refusal)),
+    }
 }
 
 /// The sessions of the actions of each list.
