@@ -1,2 +1,3 @@
 pub mod EntryLemmas
+mod FilterLemmas
 pub mod PlaceLemmas

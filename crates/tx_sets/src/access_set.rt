@@ -16,6 +16,9 @@ pub const LOCATION_LIMIT: usize = 4096;
 // Up to so many entries a location is sought among all of them.
 const FEW: usize = 32;
 
+// How many flags the filter of a set has. Locations that are a multiple of it apart share one.
+const FLAGS: u32 = 64;
+
 /// Marks the set of what a transaction read.
 #[derive(Clone, Copy, Debug)]
 pub struct Reads;
@@ -34,6 +37,8 @@ pub type WriteSet = AccessSet<Writes>;
 #[derive(Drop)]
 pub struct AccessSet<Role> {
     entries: Vec<(u32, u64)>,
+    // A location whose flag is not set is not there, and `find` searches no entry for it.
+    filter: [bool; FLAGS as usize],
     // Where the location is that was sought last, or where it would go.
     sought: usize,
     role: PhantomData<Role>,
@@ -42,13 +47,13 @@ pub struct AccessSet<Role> {
 impl<Role> Model for AccessSet<Role> {
     ghost use Rattle.std.specs.Prelude.{◌-◌};
     ghost use Rattle.std.specs.Vec.{vec_capacity, vec_len};
-    ghost use Rattle.tx_sets.specs.AccessSet.{AreOrderly, SetView};
+    ghost use Rattle.tx_sets.specs.AccessSet.{HasFilter, SetView};
 
     ghost Value = { SetView };
 
     ghost view = { λ a. record { entries = a.entries.items; room = vec_capacity a.entries - vec_len a.entries } };
 
-    ghost invariant = { λ a. AreOrderly a.entries.items };
+    ghost invariant = { λ a. HasFilter a.filter a.entries.items };
 }
 
 impl<Role> AccessSet<Role> {
@@ -59,6 +64,7 @@ impl<Role> AccessSet<Role> {
     {
         AccessSet {
             entries: Vec::new(alloc),
+            filter: [false; FLAGS as usize],
             sought: 0,
             role: PhantomData,
         }
@@ -83,6 +89,9 @@ impl<Role> AccessSet<Role> {
     pub fn find(&self, location: u32) -> Option<u64>
         ensures { result ≡ lookup self.now.entries location }
     {
+        if !self.filter[(location % FLAGS) as usize] {
+            return None;
+        }
         value_in(&self.entries, location, self.place_of(location))
     }
 
@@ -122,6 +131,7 @@ impl<Role> AccessSet<Role> {
                 }
                 self.entries.reserve(1)?;
                 insert_reserved(&mut self.entries, at, (location, value));
+                self.filter[(location % FLAGS) as usize] = true;
             }
         }
         Ok(())
@@ -144,6 +154,7 @@ impl<Role> AccessSet<Role> {
         ensures room { self.new.room ≡ self.old.room + length self.old.entries }
     {
         self.entries.clear();
+        self.filter = [false; FLAGS as usize];
     }
 
     // Where the location is, or where it would go. Locations often come in rising order, so the

@@ -1,4 +1,4 @@
-use Rattle.std.proofs.Common.{◌≡◌, ℕ, ◌<◌, ◌-◌, length, ap, arith, get_or}
+use Rattle.std.proofs.Common.{ℕ, ◌<◌, ◌-◌, length, ap, arith, get_or}
 use Rattle.std.proofs.lemmas.List.{get_or_default}
 use Rattle.tx_sets.proofs.PlaceLemmas.{between}
 use Rattle.tx_sets.proofs.access_set.goes_to.Goals as goal

@@ -1,7 +1,8 @@
 use Rattle.std.proofs.Common.{◌≡◌, ap, sym, ◌∙◌, subst, refl, arith, Ok, Err, length}
 use Rattle.tx_sets.specs.AccessSet.{IsPlaceOf, SetView}
 use Rattle.tx_sets.specs.Entries.{Entries, IsRising, lookup, with_entry}
-use Rattle.tx_sets.proofs.PlaceLemmas.{lookup_there, lookup_gap, not_there, orderly_there, orderly_new, put_new, write_there}
+use Rattle.tx_sets.proofs.PlaceLemmas.{lookup_there, lookup_gap, not_there, put_new, write_there}
+use Rattle.tx_sets.proofs.FilterLemmas.{filter_there, filter_new}
 use Rattle.tx_sets.proofs.access_set.AccessSet.put.Goals as goal
 
 pub invariant_of-self : goal.invariant_of-self
@@ -9,21 +10,21 @@ invariant_of-self g c =
     let es = c.self.inside.entries.items in
     let same : es ≡ c.args.self.now.entries = ap (λ (v : SetView). v.entries) c.self.view_is in
     let place = subst (λ (z : Entries). IsPlaceOf c.args.location z (Ok c.in-Ok.at)) (sym same) c.in-Ok.ensures in
-    orderly_there es c.args.location c.args.value c.in-Ok.at c.index_mut.result.now c.self.invariant place c.index_mut.ensures.value
+    filter_there es c.self.inside.filter c.args.location c.args.value c.in-Ok.at c.index_mut.result.now c.self.invariant place c.index_mut.ensures.value
 
 pub returns-in-Ok-clause-ok : goal.returns-in-Ok-clause-ok
 returns-in-Ok-clause-ok g c =
     let es = c.self.inside.entries.items in
     let same : es ≡ c.args.self.now.entries = ap (λ (v : SetView). v.entries) c.self.view_is in
     let place = subst (λ (z : Entries). IsPlaceOf c.args.location z (Ok c.in-Ok.at)) (sym same) c.in-Ok.ensures in
-    write_there es c.args.location c.args.value c.in-Ok.at c.index_mut.result.now c.self.invariant.rising place c.index_mut.ensures.value
+    write_there es c.args.location c.args.value c.in-Ok.at c.index_mut.result.now c.self.invariant.orderly.rising place c.index_mut.ensures.value
     ∙ ap (λ (z : Entries). with_entry z c.args.location c.args.value) same
 
 pub returns-in-Ok-clause-too_long : goal.returns-in-Ok-clause-too_long
 returns-in-Ok-clause-too_long g c =
     let es = c.args.self.now.entries in
     let same : c.self.inside.entries.items ≡ es = ap (λ (v : SetView). v.entries) c.self.view_is in
-    let there = lookup_there es c.args.location c.in-Ok.at (0, 0) (subst IsRising same c.self.invariant.rising) c.in-Ok.ensures.0
+    let there = lookup_there es c.args.location c.in-Ok.at (0, 0) (subst IsRising same c.self.invariant.orderly.rising) c.in-Ok.ensures.0
     c.in-Ok.ensures.1 in
     ((λ refused. absurd (let b : ⊥ = cc in b)), (λ beyond. let none = beyond.0 in absurd (let b : ⊥ = cc in b)))
 
@@ -67,7 +68,7 @@ invariant_of-self-in-Err g c =
     let es = c.self.inside.entries.items in
     let same : es ≡ c.args.self.now.entries = ap (λ (v : SetView). v.entries) c.self.view_is in
     let place = subst (λ (z : Entries). IsPlaceOf c.args.location z (Err c.in-Err.at)) (sym same) c.in-Err.ensures in
-    orderly_new es _ _ c.args.location c.args.value c.in-Err.at c.self.invariant place c.in_ok-reserve-in-Err.ensures.items
+    filter_new es _ _ c.self.inside.filter c.args.location c.args.value c.in-Err.at c.self.invariant (omega (arith, c.self.told)) place c.in_ok-reserve-in-Err.ensures.items
     c.insert_reserved.ensures.items
     (omega (arith, c.if-len-ge-LOCATION_LIMIT.false, c.len.ensures, c.self.inside.entries.ok.0))
 
