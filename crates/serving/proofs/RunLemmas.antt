@@ -27,7 +27,7 @@ use Rattle.served_sessions.proofs.ServedLemmas.{receipts_are_actions}
 use Rattle.workers.specs.declared.report.Report.{Report}
 use Rattle.workers.specs.Reports.{HasRun, IsReportOf}
 use Rattle.workers.specs.Tasks.{Outcome, records_of}
-use Rattle.serving.specs.Serving.{AreAllowed, AreReportedAs, AreRun, OpensOnTables, IsWhatRemains, all_dealt, asks_of}
+use Rattle.serving.specs.Serving.{AreAllowed, AreKept, AreReportedAs, AreRun, OpensOnTables, IsWhatRemains, WereTried, all_dealt, asks_of}
 use Rattle.serving.proofs.AuditLemmas.{audited_in_order}
 use Rattle.serving.proofs.ReportLemmas.{IsOwn, all_receipts, all_whole, outcomes_in, read_as_told}
 
@@ -116,8 +116,9 @@ pub served_so : (tables : Holdings) (stripes : ℕ) (lists jobs : List (List Act
     → IfOk r (IsReportOf asks_of t tries s u jobs) → IfOk r (HasRun s u) → r ≡ Ok report
     → IsWhatRemains (contents_in t) (view u.seat).receipts state
     → (outcomes : List (List (Outcome Entry))) × AreReportedAs lists report outcomes × AreRun tables (all_dealt lists outcomes) state
-    × IsReportOf asks_of t tries s u lists report
+    × WereTried t tries lists report
     × IsRunBetween (state_of tables) (flat_map (λ (rs : List (Record Entry)). rs) report.receipts) state
+unfolding WereTried
 served_so tables stripes lists jobs t tries s u r report state balanced allowed same opened reports runs is left =
     let reported : IsReportOf asks_of t tries s u lists report =
     subst (λ (js : List (List Action)). IsReportOf asks_of t tries s u js report) same
@@ -129,7 +130,8 @@ served_so tables stripes lists jobs t tries s u r report state balanced allowed 
     (λ (v : View Entry). records_of u ≡ map (λ e. e.1) v.receipts ++ flat_map (λ (rs : List (Record Entry)). rs) report.receipts)
     opened.seat_is run.records)
     (subst (λ (c : Contents Entry). IsWhatRemains c (view u.seat).receipts state) opened.contents left) in
-    (o.0, o.1, ran, reported, audited_so tables lists report o.0 t tries s u state o.1 reported ran)
+    let kept : AreKept t tries lists report = record { seat = s; seat_is = opened.seat_is; last = u; tried = reported } in
+    (o.0, o.1, ran, kept, audited_so tables lists report o.0 t tries s u state o.1 reported ran)
 
 -- a state by its parts
 pub same_state : (s : Contents Entry) (words : List ℕ) (held : List (Held Entry)) → s.words ≡ words → s.held ≡ held

@@ -84,9 +84,20 @@ pub record AreRun (tables : Holdings) (receipts : List (Action × Record Entry))
   pub served : AreServedInOrder tables own order
   pub left : s ≡ after_run order (state_of tables)
 
+-- The attempts of each list are turns that one seat has kept in the end, of which it had none in the beginning: those of its actor, or of
+-- actors whose seats were joined into it, each from the first turn on.
+pub record AreKept (table : TxTable Entry) (tries : ℕ) (lists : List (List Action)) (report : Report Entry) : Type 0 where
+  pub seat : TxSeat Entry
+  pub seat_is : view seat.seat ≡ first
+  pub last : TxSeat Entry
+  pub tried : IsReportOf asks_of table tries seat last lists report
+
+-- the same, as what is known of a served run: proofs on those who asked for it don't take its seats apart
+unfoldable pub WereTried : TxTable Entry → ℕ → List (List Action) → Report Entry → Type 0
+WereTried table tries lists report = AreKept table tries lists report
+
 -- Each action of each list has one receipt, or stands among the missed with what so many attempts of it came to, on a table that opened on
--- these tables, with clock 0 and so many stripes for each of the five maps and three queues; they are what its actors took from the first
--- turn on. The receipts are a run of their actions in
+-- these tables, with clock 0 and so many stripes for each of the five maps and three queues. The receipts are a run of their actions in
 -- commit order, and for an audit, which is given them one worker's after another's; and the tables are what they leave, balanced.
 pub record IsServed (tables : Holdings) (stripes : ℕ) (lists : List (List Action)) (tries : ℕ) (served : Served) : Type 0 where
   pub outcomes : List (List (Outcome Entry))
@@ -94,10 +105,7 @@ pub record IsServed (tables : Holdings) (stripes : ℕ) (lists : List (List Acti
   pub table : TxTable Entry
   pub opened : opening_of table ≡ world_of (eight stripes) 0 (state_of tables)
   pub contents : contents_in table ≡ state_of tables
-  pub seat : TxSeat Entry
-  pub seat_is : view seat.seat ≡ first
-  pub last : TxSeat Entry
-  pub tried : IsReportOf asks_of table tries seat last lists served.report
+  pub tried : WereTried table tries lists served.report
   pub run : AreRun tables (all_dealt lists outcomes) served.state
   pub audited : IsRunBetween (state_of tables) (flat_map (λ receipts. receipts) served.report.receipts) served.state
   pub left : served.state ≡ state_of served.tables

@@ -8,6 +8,7 @@
 
 mod calls;
 mod commits;
+mod reply_room;
 mod requests;
 mod seats;
 mod shares;

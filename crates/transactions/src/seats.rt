@@ -9,11 +9,11 @@ ghost use Rattle.driven_turns.specs.Driven.{standing};
 ghost use Rattle.transactions.specs.Ready.{HasBegunSince, HasCalled, HasFinished, HasOpened, IsNew, IsReady};
 ghost use Rattle.transactions.specs.Requests.{IsBegun, IsNotBegun, KeepsReceipts, OnlyKnows};
 
+use crate::reply_room::ReplyRoom;
 use boxes::Boxed;
 use replay_log::Base;
 use seq_model::{Call, Op, Record, Refusal, Reply, Value};
 use std::alloc::Global;
-use std::mem;
 use tx_actor::{Stage, TxActor};
 use tx_table::{Seat, TxTable};
 
@@ -25,7 +25,7 @@ pub struct TxSeat<V> {
     /// Where the bases lie that a request takes on its way. Between requests there are none, and the room is kept.
     pub(crate) bases: Vec<Boxed<Base<V>>>,
     // Where the replies to a job lie while it is attempted.
-    pub(crate) replies: Vec<Reply<V>>,
+    pub(crate) replies: ReplyRoom<V>,
     pub(crate) alloc: Global,
 }
 
@@ -42,7 +42,7 @@ impl<V: Value> TxSeat<V> {
             seat,
             actor: TxActor::new(alloc),
             bases: Vec::new(alloc),
-            replies: Vec::new(alloc),
+            replies: ReplyRoom::new(alloc),
             alloc,
         }
     }
@@ -51,15 +51,14 @@ impl<V: Value> TxSeat<V> {
     pub fn take_replies(&mut self) -> Vec<Reply<V>>
         ensures same { (self.new.seat ≡ self.old.seat) × (self.new.actor ≡ self.old.actor) }
     {
-        mem::replace(&mut self.replies, Vec::new(self.alloc))
+        self.replies.take(self.alloc)
     }
 
     /// Keeps the list of an attempt for the next one. What is in it goes.
     pub fn keep_replies(&mut self, replies: Vec<Reply<V>>)
         ensures same { (self.new.seat ≡ self.old.seat) × (self.new.actor ≡ self.old.actor) }
     {
-        self.replies = replies;
-        self.replies.clear();
+        self.replies.keep(replies);
     }
 
     /// Whether a transaction is open.

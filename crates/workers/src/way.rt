@@ -61,7 +61,7 @@ impl Way {
             if first == 0 || first == courtesy.own || first == courtesy.given {
                 return;
             }
-            pause(look);
+            look_later(look);
         }
         courtesy.given = self.first.load(Ordering::SeqCst);
     }
@@ -75,8 +75,8 @@ impl Way {
     }
 }
 
-/// Between two looks.
-fn pause(looks: u64) {
+/// Waits between two looks.
+fn look_later(looks: u64) {
     if looks < SPINS {
         for _ in 0..8 {
             spin_loop();

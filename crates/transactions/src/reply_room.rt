@@ -1,0 +1,39 @@
+//! Where a seat keeps the list of replies to a job between two attempts.
+use seq_model::Reply;
+use std::alloc::Global;
+use std::marker::Model;
+use std::mem;
+
+/// The list in which the replies to a job lie while it is attempted. Contracts see nothing of it.
+#[derive(Drop)]
+pub(crate) struct ReplyRoom<V> {
+    replies: Vec<Reply<V>>,
+}
+
+impl<V> Model for ReplyRoom<V> {
+    ghost use Rattle.std.specs.Prelude.{⊤};
+
+    ghost Value = { ⊤ };
+
+    ghost view = { λ _. tt };
+}
+
+impl<V: Drop> ReplyRoom<V> {
+    /// None yet. It takes no memory.
+    pub(crate) fn new(alloc: Global) -> ReplyRoom<V> {
+        ReplyRoom {
+            replies: Vec::new(alloc),
+        }
+    }
+
+    /// The list, with the room that it had when it was kept. None is there until then.
+    pub(crate) fn take(&mut self, alloc: Global) -> Vec<Reply<V>> {
+        mem::replace(&mut self.replies, Vec::new(alloc))
+    }
+
+    /// Keeps a list. What is in it goes.
+    pub(crate) fn keep(&mut self, replies: Vec<Reply<V>>) {
+        self.replies = replies;
+        self.replies.clear();
+    }
+}
