@@ -1,10 +1,11 @@
 //! The seats of a table: its first one, seats that are split and joined, and the last one, which closes it.
-ghost use Rattle.std.specs.Prelude.{◌≡◌, ◌≢◌, ◌<◌, ◌≤◌, IfErr, IfOk, IsOk, length, max};
+ghost use Rattle.std.specs.Prelude.{◌≡◌, ◌≢◌, ◌<◌, ◌≤◌, IfErr, IfOk, IsOk, length, map, max};
+ghost use mathlib.Core.Option.{some};
 ghost use Rattle.seq_model.specs.Refusals.{IsNoSuchOrTooLong};
 ghost use Rattle.world_table.specs.Openings.{IsWithin, blocks_of, world_of};
-ghost use Rattle.tx_table.specs.Ends.{homes_of};
+ghost use Rattle.tx_table.specs.Ends.{homes_of, row_of};
 ghost use Rattle.tx_table.specs.Seated.{actor, blocks_in, contents_in, locations_in, opening_of, view, words_in};
-ghost use Rattle.tx_table.specs.Shown.{both_of, first as first_view, left_of, right_of};
+ghost use Rattle.tx_table.specs.Shown.{ShowsWorld, both_of, first as first_view, left_of, right_of};
 ghost use Rattle.transactions.specs.Closing.{IsLeftBy};
 ghost use Rattle.transactions.specs.Ready.{IsReady};
 
@@ -80,6 +81,7 @@ impl<V: Value> TxSeat<V> {
         ensures locations { result.locations ≡ locations_in table }
         ensures collections { length (homes_of result) ≡ length (blocks_in table) }
         ensures left { IsLeftBy (contents_in table) (view self.seat).receipts result }
+        ensures shows { ShowsWorld (opening_of table) (view self.seat) (row_of result) (map some (homes_of result)) }
     {
         table.close(self.into_seat())
     }

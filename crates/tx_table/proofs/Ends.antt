@@ -30,7 +30,8 @@ use Rattle.atomic_steps.specs.Own.{Alike}
 use Rattle.atomic_steps.proofs.Alike.{alike_same}
 use Rattle.tx_table.specs.Turns.{stage_of, lone}
 use Rattle.tx_table.specs.Shown.{View, Slot, total, owed, Table, IsOwn, IsSpent, Rule, left_of, right_of, both_of, spent_of, IsOpening}
-use Rattle.tx_table.specs.Shown.{Closes, first}
+use Rattle.seq_model.specs.declared.record.Record.{Record}
+use Rattle.tx_table.specs.Shown.{Closes, ShowsWorld, first}
 use Rattle.tx_table.proofs.Numbers.{total_set, total_snoc, total_append, there, at_end, tally_set, tally_snoc, total_alone, total_two}
 use Rattle.tx_table.proofs.Keeps.{owed_some}
 use Rattle.tx_table.proofs.Left.{shows_left, suit_within}
@@ -138,6 +139,55 @@ module _ {V : Type 0} where
         };
       }
 
+  -- a seat with all shares leaves none to the others
+  spent_at : (o : World V) (id : ℕ) (v : View V) (s : State (Slot V) (View V)) → Rule o s → get_elem? s.views id ≡ some v → v.shares ≡ SHARES
+      → (j : ℕ) (u : View V) → j ≢ id → get_elem? s.views j ≡ some u → u.shares ≡ 0
+  spent_at o id v s rule here all j u ne e =
+      let p = total_two (λ (z : View V). z.shares) s.views id j v u here e ne in let q = rule.shows.shares in omega (arith, p, q, all)
+
+  -- what holds then of the own world of its actor, of those of seats that were joined, and of the opening, holds of every actor
+  every : (o : World V) (id : ℕ) (v : View V) (s : State (Slot V) (View V)) (rule : Rule o s) → get_elem? s.views id ≡ some v
+      → v.shares ≡ SHARES → (P : World V → ℕ → Type 0) → ((a : ℕ) (x y : World V) → Alike a x y → P y a → P x a)
+      → P (lone id o v.turns) id → ((j : ℕ) (u : View V) → IsSpent o j u → P (lone j o u.turns) j) → ((a : ℕ) → P o a) → (a : ℕ)
+      → P (run o rule.events) a
+  every o id v s rule here all P by mine other new a = dite (ℕ_discrete a id)
+      (λ e. subst (P (run o rule.events)) (sym e) (by id (run o rule.events) (lone id o v.turns) (rule.shows.own id v here).alike mine))
+      (λ ne. dite (dec_lt a (length s.views))
+      (λ l. let t = there s.views a l in by a (run o rule.events) (lone a o t.0.turns) (rule.shows.own a t.0 t.1).alike
+      (other a t.0 (rule.shows.spent a t.0 t.1 (spent_at o id v s rule here all a t.0 ne t.1))))
+      (λ no. by a (run o rule.events) o (rule.shows.fresh a (omega (arith, no))) (new a)))
+
+  -- and where it holds no gate, none is held
+  all_free : (o : World V) (id : ℕ) (v : View V) (s : State (Slot V) (View V)) (rule : Rule o s) → IsOpening o
+      → get_elem? s.views id ≡ some v → v.shares ≡ SHARES → ((k : ℕ) → is_actor id ((lone id o v.turns).boosted.gates k) ≡ false)
+      → (k : ℕ) → (run o rule.events).boosted.gates k ≡ None
+  all_free o id v s rule start here all bare k = by_gate ((run o rule.events).boosted.gates k) refl
+    where
+      none_has : (a : ℕ) → is_actor a ((run o rule.events).boosted.gates k) ≡ false
+      none_has = every o id v s rule here all (λ x a. is_actor a (x.boosted.gates k) ≡ false) (λ a x y e h. e.boosted.gates k ∙ h) (bare k)
+          (λ j u h. h.bare k) (λ a. ap (is_actor a) (start.free k))
+
+      by_gate : (p : Maybe ℕ) → (run o rule.events).boosted.gates k ≡ p → (run o rule.events).boosted.gates k ≡ None
+      by_gate None e = e
+      by_gate (Some j) e = absurd (true≢false (sym (eq-eqb j j refl) ∙ (sym (ap (is_actor j) e) ∙ none_has j)))
+
+  -- the receipts of a seat that has all shares are all records
+  all_records : (o : World V) (id : ℕ) (v : View V) (s : State (Slot V) (View V)) (rule : Rule o s) → get_elem? s.views id ≡ some v
+      → v.shares ≡ SHARES → (h : ℕ × Record V → ℕ) → total h v.receipts ≡ total h (run o rule.events).records
+  all_records o id v s rule here all h = sym (total_alone (λ (z : View V). total h z.receipts) s.views id v here
+      (λ j u ne e. ap (total h) (rule.shows.spent j u e (spent_at o id v s rule here all j u ne e)).receipts)) ∙ rule.shows.receipts h
+
+  pub shows_world : (o : World V) (id : ℕ) (v : View V) (s : State (Slot V) (View V)) → Rule o s → IsOpening o
+      → get_elem? s.views id ≡ some v → v.shares ≡ SHARES → ((k : ℕ) → is_actor id ((lone id o v.turns).boosted.gates k) ≡ false)
+      → ShowsWorld o v s.words s.homes
+  shows_world o id v s rule start here all bare = record {
+    events = rule.events;
+    records = all_records o id v s rule here all;
+    clock = rule.shows.table.cells ClockCell tt;
+    known = rule.shows.clocks id v here;
+    bases = λ k low. (rule.shows.table.slots k low).0 (all_free o id v s rule start here all bare k);
+  }
+
   pub closes : (o : World V) (opening : Contents V) (id : ℕ) (v : View V) (s : State (Slot V) (View V)) (rule : Rule o s)
       → HaveStripes o.blocks → IsOpening o
       → IsSerial opening (run o rule.events)
@@ -147,12 +197,15 @@ module _ {V : Type 0} where
   closes o opening id v s rule stripes start serial past here all done bare wide =
       let S = rule.shows in
       let w : World V = run o rule.events in
+      let free : (k : ℕ) → w.boosted.gates k ≡ None = all_free o id v s rule start here all bare in
+      let rests : (a : ℕ) → is_half_done (w.seats a).stage ≡ false =
+      every o id v s rule here all (λ x a. is_half_done (stage_of x a) ≡ false) (λ a x y e h. ap (λ (z : Seat V). is_half_done z.stage) e.seat ∙ h)
+      done (λ j u h. h.done) start.idle in
       let held = serial.left rests in
       let e1 = S.shape.0 in
       let e2 = S.shape.1 in record {
         order = w.records;
-        same = λ h. sym (total_alone (λ (z : View V). total h z.receipts) s.views id v here
-            (λ j u ne e. ap (total h) (S.spent j u e (spent_at j u ne e)).receipts)) ∙ S.receipts h;
+        same = all_records o id v s rule here all;
         in_order = serial.ordered;
         numbers = subst (λ k. AreUpTo k w.records) (sym (S.table.cells ClockCell tt)) past;
         serial = serial.run;
@@ -169,35 +222,6 @@ module _ {V : Type 0} where
             sym (shows_state w (after_run w.records opening) (subst HaveStripes (sym e2) stripes) held)
             ∙ shows_left o.words o.blocks w s.words s.homes ds e1 e2 stripes S.table free long home;
       }
-    where
-      spent_at : (j : ℕ) (u : View V) → j ≢ id → get_elem? s.views j ≡ some u → u.shares ≡ 0
-      spent_at j u ne e = let p = total_two (λ (z : View V). z.shares) s.views id j v u here e ne in let q = rule.shows.shares in
-          omega (arith, p, q, all)
-
-      -- what holds of every actor's own world
-      every : (P : World V → ℕ → Type 0) → ((a : ℕ) (x y : World V) → Alike a x y → P y a → P x a) → P (lone id o v.turns) id
-          → ((j : ℕ) (u : View V) → IsSpent o j u → P (lone j o u.turns) j) → ((a : ℕ) → P o a) → (a : ℕ) → P (run o rule.events) a
-      every P by mine other new a = dite (ℕ_discrete a id)
-          (λ e. subst (P (run o rule.events)) (sym e) (by id (run o rule.events) (lone id o v.turns) (rule.shows.own id v here).alike mine))
-          (λ ne. dite (dec_lt a (length s.views))
-          (λ l. let t = there s.views a l in by a (run o rule.events) (lone a o t.0.turns) (rule.shows.own a t.0 t.1).alike
-          (other a t.0 (rule.shows.spent a t.0 t.1 (spent_at a t.0 ne t.1))))
-          (λ no. by a (run o rule.events) o (rule.shows.fresh a (omega (arith, no))) (new a)))
-
-      rests : (a : ℕ) → is_half_done ((run o rule.events).seats a).stage ≡ false
-      rests = every (λ x a. is_half_done (stage_of x a) ≡ false) (λ a x y e h. ap (λ (z : Seat V). is_half_done z.stage) e.seat ∙ h) done
-          (λ j u h. h.done) start.idle
-
-      free : (k : ℕ) → (run o rule.events).boosted.gates k ≡ None
-      free k = by_gate ((run o rule.events).boosted.gates k) refl
-        where
-          none_has : (a : ℕ) → is_actor a ((run o rule.events).boosted.gates k) ≡ false
-          none_has = every (λ x a. is_actor a (x.boosted.gates k) ≡ false) (λ a x y e h. e.boosted.gates k ∙ h) (bare k)
-              (λ j u h. h.bare k) (λ a. ap (is_actor a) (start.free k))
-
-          by_gate : (p : Maybe ℕ) → (run o rule.events).boosted.gates k ≡ p → (run o rule.events).boosted.gates k ≡ None
-          by_gate None e = e
-          by_gate (Some j) e = absurd (true≢false (sym (eq-eqb j j refl) ∙ (sym (ap (is_actor j) e) ∙ none_has j)))
 
 above : (n : ℕ) (bs : List Block) → n ≤ end_of n bs
 above n [] = omega arith

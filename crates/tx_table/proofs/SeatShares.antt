@@ -17,11 +17,11 @@ use Rattle.replay_log.specs.WorldSerial.{AreUpTo}
 use Rattle.tx_table.specs.declared.view.Opening.{Opening}
 use Rattle.tx_table.specs.Opening.{Holds, blocks_at, locations_at, words_at, world_at}
 use Rattle.tx_table.specs.Turns.{lone}
-use Rattle.tx_table.specs.Shown.{highest_clock, View, Slot, Closes, IsOwn, IsSpent, Shows, total, owed, looking, left_of, right_of, both_of}
+use Rattle.tx_table.specs.Shown.{highest_clock, View, Slot, Closes, ShowsWorld, IsOwn, IsSpent, Shows, total, owed, looking, left_of, right_of, both_of}
 use Rattle.tx_table.specs.Shown.{spent_of}
 use Rattle.tx_table.specs.Seated.{Rests}
 use Rattle.tx_table.proofs.Numbers.{map_at, tally_set, total_set, total_part, inside}
-use Rattle.tx_table.proofs.Ends.{splits, joins, opening_is, world_closes}
+use Rattle.tx_table.proofs.Ends.{splits, joins, opening_is, shows_world, world_closes}
 use Rattle.tx_table.proofs.Left.{same_home}
 
 module _ {A : Type 0} where
@@ -148,6 +148,20 @@ module _ {V : Type 0} where
               words = take (words_at key) (drop (1 + locations_at key) w);
               held = map (λ d. held_of (shown_of d)) ds;
             }) last.2;
+      }
+
+  pub shows_last : (key : Opening V) (id : ℕ) (v : View V) (ws : List ℕ) (xs : List (Slot V)) → v.shares ≡ SHARES
+      → Rests id (lone id (world_at key) v.turns) → Final (Seen (Holds key) id v) ws xs → ShowsWorld (world_at key) v ws (map some xs)
+  shows_last key id v ws xs all rests last =
+      let s = last.0 in
+      let shown = shows_world (world_at key) id v s last.1.0.rule
+      (opening_is (blocks_at key) key.shape.value.clock key.state.value.words key.state.value.held) last.1.1 all rests.1 in
+      record {
+        events = shown.events;
+        records = shown.records;
+        clock = ap (λ (w : List ℕ). get_or w 0 0) (sym last.2) ∙ shown.clock;
+        known = shown.known;
+        bases = λ k low. (let b = shown.bases k low in (b.0, map_at some xs k (Some b.0) (last.4 k (Some b.0) b.1), b.2, b.3));
       }
 
   -- every base is at home

@@ -194,6 +194,19 @@ module _ {V : Type 0} where
     pub rests : (a : ℕ) → stamps_left (actor_of o a).place ≡ 0
     pub idle : (a : ℕ) → is_half_done (stage_of o a) ≡ false
 
+  -- What a closed table shows: some events lead from the opening o to a world that has the receipts of the seat as its records. The table's
+  -- clock is that of this world, which is no less than the seat knows; and each slot has the base of its collection, of its kind and
+  -- shape, with what it holds there and with its editions.
+  pub record ShowsWorld (o : World V) (v : View V) (words : List ℕ) (homes : List (Option (Slot V))) : Type 0 where
+    pub events : List (Event V)
+    pub records : (h : ℕ × Record V → ℕ) → total h v.receipts ≡ total h (run o events).records
+    pub clock : get_or words 0 0 ≡ (run o events).boosted.words.clock
+    pub known : v.clock ≤ (run o events).boosted.words.clock
+    pub bases :
+        (k : ℕ) → k < length o.blocks
+        → (b : Base V) × (get_elem? homes k ≡ some (some (Some b))) × IsBaseAt o.blocks k b
+        × ShowsBase o.words o.blocks (run o events) k b
+
   -- What a closed table leaves: the receipts, in commit order, are a run of the sequential model from the opening, no number of theirs is
   -- above the clock, and words and bases are what it leaves: each by itself, and all of them as the state that they make up, which is
   -- within the limits of states.

@@ -3,7 +3,7 @@ ghost use Rattle.std.specs.Prelude.{◌≡◌, ◌+◌, ◌<◌, All, IfOk, Some
 ghost use Rattle.seq_model.specs.Calls.{IsWithinLimits};
 ghost use mathlib.Core.Option.{some};
 ghost use lib.ListN.{get_elem?};
-ghost use Rattle.tx_table.specs.Shown.{Closes};
+ghost use Rattle.tx_table.specs.Shown.{Closes, ShowsWorld};
 ghost use Rattle.tx_table.specs.Ends.{held_in, homes_of, row_of};
 ghost use Rattle.tx_table.specs.Seated.{Owns, Rests, actor, blocks_in, contents_in, kept, locations_in, opening_of, view, words_in};
 
@@ -26,6 +26,7 @@ impl<V: Value> TxTable<V> {
         ensures collections { length (homes_of result) ≡ length (blocks_in self) }
         ensures closes { Closes (words_in self) (blocks_in self) (contents_in self)
             (view seat) (row_of result) (map some (homes_of result)) }
+        ensures shows { ShowsWorld (opening_of self) (view seat) (row_of result) (map some (homes_of result)) }
     {
         let TxTable {
             whole,

@@ -3,7 +3,7 @@ use Rattle.std.specs.Slots.{slots_items}
 use Rattle.replay_log.proofs.ContentLemmas.{end_above}
 use Rattle.tx_table.specs.Layout.{width}
 use Rattle.tx_table.specs.Opening.{blocks_at, words_at}
-use Rattle.tx_table.proofs.SeatShares.{all_home, closes_all}
+use Rattle.tx_table.proofs.SeatShares.{all_home, closes_all, shows_last}
 use Rattle.tx_table.proofs.table.TxTable.close.Goals as goal
 
 pub invariant_of-result : goal.invariant_of-result
@@ -32,4 +32,11 @@ returns-clause-closes g c =
     let s = c.args.seat in
     let r = c.close_with.result in
     closes_all c.args.self.whole.shared.key s.place.id s.place.me.0 (slots_items r.words) (slots_items r.slots) c.requires.all
+    c.requires.rests c.close_with.ensures.values.2
+
+pub returns-clause-shows : goal.returns-clause-shows
+returns-clause-shows g c =
+    let s = c.args.seat in
+    let r = c.close_with.result in
+    shows_last c.args.self.whole.shared.key s.place.id s.place.me.0 (slots_items r.words) (slots_items r.slots) c.requires.all
     c.requires.rests c.close_with.ensures.values.2
