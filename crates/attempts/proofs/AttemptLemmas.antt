@@ -33,7 +33,7 @@ use Rattle.transactions.proofs.CallLemmas.{stands_at}
 pub use Rattle.transactions.proofs.RequestLemmas.{keeps_self}
 use Rattle.transactions.proofs.RequestLemmas.{then_keeps}
 use Rattle.transactions.specs.Ready.{standing}
-use Rattle.transactions.specs.Requests.{CallsTo, CommitsTo, IsAnswered, KeepsReceipts, told_of}
+use Rattle.transactions.specs.Requests.{CallsTo, CommitsTo, HasAborted, IsAnswered, IsOpen, KeepsReceipts, told_of}
 use Rattle.attempts.proofs.JobLemmas.{asked_more, none_asked, replies_more}
 use Rattle.attempts.specs.Attempts.{EndsAs, HasGivenUp, HasMade, IsAt, IsCallRefused, IsSoFar, IsUnmade, Reaches, ask_of}
 use Rattle.attempts.specs.Jobs.{AreAskedBy}
@@ -209,10 +209,17 @@ module _ {V : Type 0} where
           inr (inl record { calls = done.0; before = m; at = k; ended = C.ended (done.0, k.stands) }),
         )
 
-    pub given_up : (s b m u : Seat V) → KeepsReceipts s b → Reaches asks o b m ends.GivenUp → KeepsReceipts m u → HasGivenUp asks o s u
-    given_up s b m u kept done ended =
+    pub given_up : (s b m u : Seat V) → KeepsReceipts s b → Reaches asks o b m ends.GivenUp → KeepsReceipts m u
+        → (IsOpen o m → HasAborted o m u) → HasGivenUp asks o s u
+    given_up s b m u kept done ended aborted =
         let k : IsAt asks o s m done.0 ask.GiveUp = at_before s b m done.0 ask.GiveUp kept done.1 in
-        record { keeps = then_keeps s m u k.keeps ended; calls = done.0; before = m; at = k }
+        record {
+          keeps = then_keeps s m u k.keeps ended;
+          calls = done.0;
+          before = m;
+          at = k;
+          aborted = aborted (done.0, k.stands);
+        }
 
     pub call_ended : (s b m u : Seat V) (cause : Refusal) → KeepsReceipts s b → KeepsReceipts b m → IsUnmade asks o b m cause
         → KeepsReceipts m u → EndsAs asks o s u (Err cause)

@@ -15,7 +15,7 @@ use Rattle.tx_table.specs.Seated.{actor, view}
 use Rattle.tx_phases.specs.Phases.{Stands}
 use Rattle.driven_turns.specs.Begins.{begins_of}
 use Rattle.transactions.specs.Ready.{standing}
-use Rattle.transactions.specs.Requests.{CallsTo, HasCommitted, IsEnded, IsNotBegun, KeepsReceipts, has_written}
+use Rattle.transactions.specs.Requests.{CallsTo, HasAborted, HasCommitted, IsEnded, IsNotBegun, KeepsReceipts, has_written}
 use Rattle.attempts.specs.Jobs.{AreAskedBy, IsWholeJob}
 use Rattle.attempts.specs.declared.jobs.Attempt.{Attempt}
 use Rattle.attempts.specs.declared.jobs.Attempt.TheVariants.{Committed, GivenUp}
@@ -89,12 +89,13 @@ module _ {V : Type 0} (asks : List (Reply V) → Ask V → Type 0) (o : World V)
     pub reads : r.writes ≡ false → is_writer r.calls ≡ false
     pub committed : HasCommitted o before u r
 
-  -- the job has given up after the replies to its calls, and the seat gains no receipt
+  -- the job has given up after the replies to its calls, and was aborted; the seat gains no receipt
   pub record HasGivenUp (s u : Seat V) : Type 0 where
     pub keeps : KeepsReceipts s u
     pub calls : List (Call V × Reply V)
     pub before : Seat V
     pub at : IsAt s before calls ask.GiveUp
+    pub aborted : HasAborted o before u
 
   -- a receipt, a job that gave up, or a refusal
   abbrev pub EndsAs : Seat V → Seat V → Result (Attempt V) Refusal → Type 0

@@ -4,24 +4,29 @@
 -- where a turn tells a cause, as only the last step of a transaction that is given up does, no turn of this transaction stored a value or
 -- took a base home: its actor would have been at rest in between. And of steps before a commit the lemmas on worlds say what they leave
 -- (`steps_untouched`, `locks_held`, `keeps_locks`).
-use Rattle.std.proofs.Common.{◌≡◌, ◌⊎◌, ℕ, true, false, List, [], ◌∷◌, ◌++◌, inl, inr, refl, sym, ap, ◌∙◌, subst, append_assoc}
+use Rattle.std.proofs.Common.{◌≡◌, ◌⊎◌, ℕ, Bool, true, false, List, [], ◌∷◌, ◌++◌, inl, inr, refl, sym, ap, ◌∙◌, subst, append_assoc}
 use Rattle.std.proofs.Common.{◌<◌, true≢false, arith}
+use Rattle.std.specs.Prelude.{is_some}
 use Rattle.std.proofs.lemmas.Bool.{cases_eq}
 use Rattle.std.proofs.lemmas.List.{append-nil}
 use Rattle.word_machine.specs.Notices as told
 use Rattle.word_machine.specs.Requests as word
 use Rattle.word_machine.proofs.Sets.{put-same}
+use Rattle.seq_model.specs.declared.event.Answer.TheVariants as answer
 use Rattle.seq_model.specs.declared.event.Event.{Event}
 use Rattle.seq_model.specs.declared.event.Event.TheVariants.{Ask, Step, Starve}
 use Rattle.seq_model.specs.declared.event.Notice.{Notice}
+use Rattle.seq_model.specs.declared.event.Notice.TheVariants as notice
 use Rattle.seq_model.specs.declared.event.Request.{Request}
 use Rattle.seq_model.specs.declared.event.Request.TheVariants as request
 use Rattle.seq_model.specs.declared.refusal.Refusal.{Refusal}
-use Rattle.collection_machine.specs.Boosted.{GoHome}
+use Rattle.collection_machine.specs.Boosted.{GoHome, PutGate}
 use Rattle.replay_log.specs.WorldAnswers.{IsRefusedAt, RefusedBy, changes_at}
-use Rattle.replay_log.specs.WorldTraces.{is_half_done}
-use Rattle.replay_log.specs.Worlds.{World, Seat, Stage, Idle, Open, Beginning, Copying, Ready, Storing, Homing, Releasing, Leaving}
-use Rattle.replay_log.specs.Worlds.{acted, ask_at, asks, at_stage, goes_home, happens, has_released, has_stored, moves}
+use Rattle.replay_log.specs.WorldRefusals.{is_ending}
+use Rattle.replay_log.specs.WorldTraces.{committed_by, is_half_done}
+use Rattle.replay_log.specs.Worlds.{World, Seat, Stage, Idle, Open, Beginning, Copying, Ready, Storing, Homing, Releasing, Returning}
+use Rattle.replay_log.specs.Worlds.{Cancelling, Leaving, acted, ask_at, asks, at_stage, gives_up, goes_home, happens, has_cancelled}
+use Rattle.replay_log.specs.Worlds.{has_released, has_stored, moves}
 use Rattle.replay_log.specs.Worlds.{no_one, recorded, run, seated, starve_at, step_at, word_notice}
 use Rattle.replay_log.proofs.AnswerLemmas.{refused_step}
 use Rattle.replay_log.proofs.EndingLemmas.{locks_held, steps_untouched}
@@ -29,7 +34,12 @@ use Rattle.replay_log.proofs.EventLemmas.{run_linked}
 use Rattle.replay_log.proofs.RecordLemmas.{IsCommitting}
 use Rattle.replay_log.proofs.SeatLemmas.{Linked}
 use Rattle.atomic_steps.proofs.Alike.{alike_same}
+use Rattle.tx_actor.specs.Running.{notice_of}
+use Rattle.tx_actor.specs.declared.actor.Told.{Told}
 use Rattle.tx_actor.specs.declared.actor.Told.TheVariants as said
+use Rattle.tx_phases.proofs.CourseLemmas.{ends_at}
+use Rattle.tx_phases.proofs.PhaseLemmas.{steps_move}
+use Rattle.tx_phases.specs.Phases.{Ends, Phase, StepMoves, phase}
 use Rattle.tx_table.specs.Seated as seats
 use Rattle.tx_table.specs.Seated.{view}
 use Rattle.tx_table.specs.Turns.{asked_all, found_at, lone, own, spot, stage_of, took}
@@ -40,7 +50,7 @@ use Rattle.driven_turns.specs.Begins.{begins_asked, begins_taken}
 use Rattle.driven_turns.specs.Driven.{HasTold}
 use Rattle.serial_seats.proofs.HeldLemmas.{keeps_locks, leaves_bare}
 use Rattle.serial_seats.proofs.TurnLemmas.{lone_append}
-use Rattle.serial_seats.specs.Refused.{AllGiveBack, GaveUp, GivesBack, IsGivenUpFor}
+use Rattle.serial_seats.specs.Refused.{AllGiveBack, GaveUp, GivesBack, IsEndTold, IsGivenUpFor}
 
 module _ {V : Type 0} where
   abbrev IsHalf : World V → ℕ → Type 0
@@ -242,7 +252,7 @@ module _ {V : Type 0} where
     all_give_back o a linked is (took a w i) h.1,
   )
 
-  -- ---- where a cause is told
+  -- ---- where a cause is told, or that the transaction was aborted
   leaving_at : (v u : World V) (a : ℕ) (st : Stage V) (cause : Refusal) → IsGivenUpFor cause → IsRefusedAt v a st u cause → st ≡ Leaving
   leaving_at v u a Leaving cause up h = refl
   leaving_at v u a Idle cause up h = absurd (subst IsGivenUpFor h.0 up)
@@ -251,17 +261,56 @@ module _ {V : Type 0} where
   leaving_at v u a (Copying asked) cause up h = absurd (subst IsGivenUpFor h.0 up)
   leaving_at v u a st cause up h = absurd h
 
-  pub gave_up : (o : World V) (s u : table.Seat V) (cause : Refusal) → Linked o → IsGivenUpFor cause → HasTold o s u (said.Refused cause)
-      → GaveUp o s u cause
-  gave_up o s u cause linked up (v, turn, told_here) =
+  aborted_ends : (p : Phase V) (commits : Bool) (a : ℕ) (later : Phase V) → StepMoves p commits (notice.Answered a answer.Aborted) later
+      → p ≡ Ends
+  aborted_ends Ends commits a later h = refl
+  aborted_ends p true a later h = absurd h
+  aborted_ends p false a later h = absurd h
+
+  cancelled_quiet : (u : World V) (a : ℕ) (x : Seat V) (n : told.Notice) → (has_cancelled u a x n).1 ≡ notice.Quiet
+  cancelled_quiet u a x told.Cancelled = refl
+  cancelled_quiet u a x n = refl
+
+  back_quiet : (u : World V) (a : ℕ) (x : Seat V) (ks : List ℕ) → (gives_up u a x ks).1 ≡ notice.Quiet
+  back_quiet u a x [] = refl
+  back_quiet u a x (k ∷ ks) = refl
+
+  unsaid : (a : ℕ) (n : Notice V) → n ≡ notice.Quiet → n ≡ notice.Answered a answer.Aborted → ⊥
+  unsaid a n quiet e = (let f : notice.Quiet ≡ notice.Answered a answer.Aborted = sym quiet ∙ e in cc)
+
+  aborted_leaving : (v : World V) (a : ℕ) (x : Seat V) (st : Stage V) → is_ending st ≡ true
+      → (step_at v a x st).1 ≡ notice.Answered a answer.Aborted → st ≡ Leaving
+  aborted_leaving v a x Leaving h e = refl
+  aborted_leaving v a x Cancelling h e =
+      absurd (unsaid a _ (cancelled_quiet (acted v (moves a ∷ [])) a x (word_notice v a)) e)
+  aborted_leaving v a x (Returning []) h e = absurd (unsaid a _ refl e)
+  aborted_leaving v a x (Returning (k ∷ ks)) h e =
+      absurd (unsaid a _ (back_quiet (acted v (PutGate a k (λ l. false) ∷ [])) a x ks) e)
+  aborted_leaving v a x st h e = absurd (true≢false (sym h))
+
+  aborted_at : (v : World V) (a : ℕ) → (happens v (Step a)).1 ≡ notice.Answered a answer.Aborted → stage_of v a ≡ Leaving
+  aborted_at v a e =
+      let x = v.seats a in
+      let later = phase ((happens v (Step a)).0.seats a) in
+      let commits = is_some (committed_by x x.stage) in
+      let moved = subst (λ (n : Notice V). StepMoves (phase x) commits n later) e (steps_move v a) in
+      aborted_leaving v a x x.stage (ends_at x (aborted_ends (phase x) commits a later moved)) e
+
+  told_at : (v : World V) (a : ℕ) (n : Told V) → Linked v → IsEndTold n → (happens v (Step a)).1 ≡ notice_of a n → stage_of v a ≡ Leaving
+  told_at v a (said.Refused cause) linked up is =
+      let u = (happens v (Step a)).0 in
+      leaving_at v u a (stage_of v a) cause up
+      (subst (λ (n : Notice V). RefusedBy a (IsRefusedAt v a (stage_of v a) u) n) is (refused_step v a linked)).1
+  told_at v a (said.Answered answer.Aborted) linked up is = aborted_at v a is
+  told_at v a n linked up is = absurd up
+
+  pub gave_up : (o : World V) (s u : table.Seat V) (n : Told V) → Linked o → IsEndTold n → HasTold o s u n → GaveUp o s u n
+  gave_up o s u n linked up (v, turn, told_here) =
       let a = seats.actor s in
       let ts = (view s).turns in
       let w = lone a o ts in
       let there : Linked v = subst Linked turn.reached (run_linked turn.events o linked) in
-      let refused : IsRefusedAt v a (stage_of v a) (happens v (Step a)).0 cause =
-      (subst (λ (n : Notice V). RefusedBy a (IsRefusedAt v a (stage_of v a) (happens v (Step a)).0) n) told_here
-      (refused_step v a there)).1 in
-      let leaving : stage_of v a ≡ Leaving = leaving_at v (happens v (Step a)).0 a (stage_of v a) cause up refused in
+      let leaving : stage_of v a ≡ Leaving = told_at v a n there up told_here in
       let here = lone a o (ts ++ turn.before) in
       let asked : World V = asked_all a here turn.turn.asks in
       let at : stage_of asked a ≡ Leaving = ap (λ (x : Seat V). x.stage) (sym turn.alike.seat) ∙ leaving in

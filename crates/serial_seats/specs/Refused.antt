@@ -3,15 +3,18 @@ use Rattle.std.specs.Prelude.{◌≡◌, ◌⊎◌, ℕ, ◌<◌, List, [], ◌�
 use Rattle.vlock_word.specs.declared.lock_word.LockWord.TheVariants.{Free, Locked}
 use Rattle.tx_sets.specs.Entries.{lookup}
 use Rattle.word_machine.specs.World.{put}
+use Rattle.seq_model.specs.declared.event.Answer.TheVariants.{Aborted}
 use Rattle.seq_model.specs.declared.event.Event.{Event}
 use Rattle.seq_model.specs.declared.event.Event.TheVariants.{Step}
-use Rattle.seq_model.specs.declared.event.Notice.TheVariants as notice
 use Rattle.seq_model.specs.declared.refusal.Refusal.{Refusal}
 use Rattle.seq_model.specs.declared.refusal.Refusal.TheVariants.{Moved, Busy, Stale, GateBusy, Invalid, OutOfMemory}
 use Rattle.replay_log.specs.Seats.{World, Idle, actor_of}
 use Rattle.replay_log.specs.Worlds.{happens, run}
 use Rattle.replay_log.specs.WorldAnswers.{Untouched}
 use Rattle.atomic_steps.specs.Own.{Alike}
+use Rattle.tx_actor.specs.Running.{notice_of}
+use Rattle.tx_actor.specs.declared.actor.Told.{Told}
+use Rattle.tx_actor.specs.declared.actor.Told.TheVariants.{Answered, Refused}
 use Rattle.tx_table.specs.declared.seat.Seat.{Seat}
 use Rattle.tx_table.specs.Seated.{actor, view}
 use Rattle.tx_table.specs.Turns.{asked_all, lone, stage_of, took}
@@ -30,6 +33,12 @@ IsGivenUpFor OutOfMemory = Unit {0}
 IsGivenUpFor cause = ⊥
 
 module _ {V : Type 0} where
+  -- such a cause was told, or that the transaction was aborted
+  abbrev pub IsEndTold : Told V → Type 0
+  IsEndTold (Refused cause) = IsGivenUpFor cause
+  IsEndTold (Answered Aborted) = Unit {0}
+  IsEndTold n = ⊥
+
   -- The step of a from the world v changes no value and no base. Each lock that a holds is locked there at its old version; the step leaves
   -- it to a, or frees it at that version and changes no other lock.
   pub record GivesBack (a : ℕ) (v : World V) : Type 0 where
@@ -48,12 +57,12 @@ module _ {V : Type 0} where
       ((events : List (Event V)) → Alike a (run o events) (asked_all a w turn.asks) → GivesBack a (run o events))
       × AllGiveBack o a (took a w turn) turns
 
-  -- One of the turns between the seats s and u told this cause, and its actor held no lock any more. It and the turns before it, from s on,
-  -- or since the actor was at rest and asked to begin, change no value and no base, and give each lock back as it was.
-  pub record GaveUp (o : World V) (s u : Seat V) (cause : Refusal) : Type 0 where
+  -- One of the turns between the seats s and u told this, and its actor held no lock any more. It and the turns before it, from s on, or
+  -- since the actor was at rest and asked to begin, change no value and no base, and give each lock back as it was.
+  pub record GaveUp (o : World V) (s u : Seat V) (n : Told V) : Type 0 where
     pub world : World V
     pub last : IsTurnFrom o s u world
-    pub told : (happens world (Step (actor s))).1 ≡ notice.Refused (actor s) cause
+    pub told : (happens world (Step (actor s))).1 ≡ notice_of (actor s) n
     pub bare : (actor_of world (actor s)).held ≡ []
     pub earlier : List (Turn V)
     pub turns : List (Turn V)
@@ -62,3 +71,7 @@ module _ {V : Type 0} where
         (earlier ≡ [])
         ⊎ ((stage_of (lone (actor s) o ((view s).turns ++ earlier)) (actor s) ≡ Idle) × (0 < begins_taken (turns ++ last.turn ∷ [])))
     pub gave_back : AllGiveBack o (actor s) (lone (actor s) o ((view s).turns ++ earlier)) (turns ++ last.turn ∷ [])
+
+  -- so it was of a transaction that was refused for this cause; where memory was wanting as its request was asked, it was aborted
+  abbrev pub GaveUpFor : World V → Seat V → Seat V → Refusal → Type 0
+  GaveUpFor o s u cause = GaveUp o s u (Refused cause) ⊎ ((cause ≡ OutOfMemory) × GaveUp o s u (Answered Aborted))

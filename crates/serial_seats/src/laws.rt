@@ -7,7 +7,7 @@ ghost use Rattle.replay_log.specs.Contents.{HaveStripes};
 ghost use Rattle.replay_log.specs.Seats.{World};
 ghost use Rattle.replay_log.specs.WorldSerial.{IsSerial};
 ghost use Rattle.replay_log.specs.Worlds.{run};
-ghost use Rattle.tx_actor.specs.declared.actor.Told.TheVariants.{Refused};
+ghost use Rattle.tx_actor.specs.declared.actor.Told.{Told};
 ghost use Rattle.tx_phases.specs.Phases.{Rests};
 ghost use Rattle.tx_table.specs.Seated.{opening_of};
 ghost use Rattle.tx_table.specs.Shown.{Opens};
@@ -16,7 +16,7 @@ ghost use Rattle.driven_turns.specs.Driven.{HasTold, standing};
 ghost use Rattle.transactions.specs.Ready.{IsReady};
 ghost use Rattle.transactions.specs.Requests.{IsFoundAndTold};
 ghost use Rattle.transactions.specs.declared.seats.TxSeat.{TxSeat};
-ghost use Rattle.serial_seats.specs.Refused.{GaveUp, IsGivenUpFor};
+ghost use Rattle.serial_seats.specs.Refused.{GaveUp, GaveUpFor, IsEndTold, IsGivenUpFor};
 ghost use Rattle.serial_seats.specs.Seats.{HoldsNothing, SeesOneState};
 ghost use Rattle.serial_seats.specs.Tries.{WasTriedInVain};
 
@@ -57,9 +57,12 @@ pub fn busy_gates_were_tried_64_times<V: Value>()
     tries::<V>();
 }
 
-/// A request of a seat that is told a cause for which its transaction is given up: no turn of that transaction stores a value, or takes a
-/// base home with its changes, and each lock that it took goes back with its old version.
+/// A request of a seat that is told a cause for which its transaction is given up, or that it was aborted, as a call or a commit is told
+/// that is refused for such a cause: no turn of that transaction stores a value, or takes a base home with its changes, and each lock that
+/// it took goes back with its old version.
 pub fn given_up_seats_change_nothing<V: Value>()
-    ensures { (t : TxTable V) (s u : TxSeat V) (cause : Refusal) → IsReady t s → IsGivenUpFor cause →
-        HasTold (opening_of t) s.seat u.seat (Refused cause) → GaveUp (opening_of t) s.seat u.seat cause }
+    ensures told { (t : TxTable V) (s u : TxSeat V) (n : Told V) → IsReady t s → IsEndTold n → HasTold (opening_of t) s.seat u.seat n →
+        GaveUp (opening_of t) s.seat u.seat n }
+    ensures refused { (t : TxTable V) (s u : TxSeat V) (cause : Refusal) → IsReady t s → IsGivenUpFor cause →
+        IsFoundAndTold (opening_of t) s.seat u.seat cause → GaveUpFor (opening_of t) s.seat u.seat cause }
 {}

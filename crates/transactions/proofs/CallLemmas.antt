@@ -38,7 +38,7 @@ use Rattle.tx_phases.specs.Phases.{AskMoves, CallMoves, Phase, Rests, Begins, St
 use Rattle.driven_turns.proofs.KeptLemmas.{Keeps, asks_keep}
 use Rattle.transactions.proofs.RequestLemmas.{asked_keeps, ended_back, found_told, then_keeps, told_back, turns_keep}
 use Rattle.driven_turns.specs.Driven.{Driven, IsReason, IsTrue, seat_in, standing}
-use Rattle.transactions.specs.Requests.{CallLeaves, CallsTo, IsCallTold, IsDriven, IsOpen, KeepsReceipts, told_of}
+use Rattle.transactions.specs.Requests.{CallLeaves, CallsTo, HasAborted, IsCallTold, IsDriven, IsOpen, KeepsReceipts, told_of}
 use Rattle.tx_turns.proofs.AskedLemmas.{acts_taken}
 use Rattle.tx_turns.specs.Asked.{Answers, HasAsked}
 use Rattle.tx_turns.specs.Ties.{Ties}
@@ -194,11 +194,11 @@ module _ {V : Type 0} where
         }
 
   -- ---- where memory was refused
-  pub call_starved : (o : World V) (s u : table.Seat V) (call : Call V) → KeepsReceipts s u → standing o u ≡ Rests
+  pub call_starved : (o : World V) (s u : table.Seat V) (call : Call V) → KeepsReceipts s u → standing o u ≡ Rests → HasAborted o s u
       → IsAdmitted (acts o s) (seated.actor s) (request.Call call) → CallsTo o s call u (Err OutOfMemory)
-  call_starved o s u call kept rests admitted = record {
+  call_starved o s u call kept rests aborted admitted = record {
     keeps = kept;
-    leaves = λ calls on. inr (rests, inr refl);
+    leaves = λ calls on. inr (rests, inr (refl, inr aborted));
     answered = inr (inr (refl, admitted));
     began = λ still. absurd (stands_busy (standing o u) still.0 still.1 rests);
   }

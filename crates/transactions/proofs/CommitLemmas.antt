@@ -39,7 +39,7 @@ use Rattle.driven_turns.proofs.KeptLemmas.{Keeps, asks_keep}
 use Rattle.transactions.proofs.RequestLemmas.{asked_keeps, ended_back, found_told, then_keeps, told_back, turns_keep}
 use Rattle.driven_turns.specs.Driven.{Driven, HasTold, IsNumberOf, IsStamped, IsStampedAt, IsTrue, KnowsNumber}
 use Rattle.driven_turns.specs.Driven.{is_closing, seat_in, standing}
-use Rattle.transactions.specs.Requests.{CommitsTo, HasCommitted, IsCommitTold, IsEnded, KeepsReceipts, has_some, has_written}
+use Rattle.transactions.specs.Requests.{CommitsTo, HasAborted, HasCommitted, IsCommitTold, IsEnded, KeepsReceipts, has_some, has_written}
 use Rattle.tx_threads.proofs.OwnLemmas.{own_ok}
 use Rattle.tx_turns.proofs.AskedLemmas.{acts_taken}
 use Rattle.tx_turns.specs.Asked.{HasAsked}
@@ -245,12 +245,12 @@ module _ {V : Type 0} where
 
   -- one that was refused memory as it was asked
   pub starved_commit : (o : World V) (s u : table.Seat V) (cause : Refusal) → KeepsReceipts s u → standing o u ≡ Rests
-      → cause ≡ OutOfMemory → CommitsTo o s u (Err cause)
-  starved_commit o s u cause keeps rests memory = record {
+      → cause ≡ OutOfMemory → HasAborted o s u → CommitsTo o s u (Err cause)
+  starved_commit o s u cause keeps rests memory aborted = record {
     committed = tt;
     calls = tt;
     writes = tt;
     number = tt;
     keeps = keeps;
-    ended = λ _. (rests, inr memory);
+    ended = λ _. (rests, inr (memory, inr aborted));
   }

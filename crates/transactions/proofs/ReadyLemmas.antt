@@ -129,11 +129,13 @@ module _ {V : Type 0} where
   not_both o s rests opened = (let e = sym rests ∙ opened.1 in let z : ⊥ = cc in z)
 
   pub has_called : (t : TxTable V) (s u : TxSeat V) (call : Call V) (r : Result (Reply V) Refusal) → IsReady t s → HasBegunSince t s
-      → IsOpen (opening_of t) s.seat → CanDrive t u.seat u.actor → CallsTo (opening_of t) s.seat call u.seat r → HasCalled t s u call r
-  has_called t s u call r ready since opened drives C = record {
+      → IsOpen (opening_of t) s.seat → CanDrive t u.seat u.actor → CallsTo (opening_of t) s.seat call u.seat r
+      → begins_of u.seat ≡ begins_of s.seat → HasCalled t s u call r
+  has_called t s u call r ready since opened drives C begins = record {
     ready = call_ready t s u call r ready opened drives C;
     since = call_since t s u call r since opened C;
     calls = λ _. C;
+    begins = begins;
     none = λ rests. absurd (not_both (opening_of t) s.seat rests opened);
   }
 
@@ -143,6 +145,7 @@ module _ {V : Type 0} where
     ready = ready;
     since = since;
     calls = λ opened. absurd (isnt (is_open t s.seat s.actor ready.ties opened.0 opened.1));
+    begins = refl;
     none = λ _. (refl, refl);
   }
 
@@ -215,7 +218,7 @@ module _ {V : Type 0} where
       told = noted_told before (told.Answered (answer.Committed r.number)) h.told;
     }
 
-  pub noted_begins : (s u : table.Seat V) → u.place ≡ s.place → u.asked ≡ s.asked → begins_of u ≡ begins_of s
+  noted_begins : (s u : table.Seat V) → u.place ≡ s.place → u.asked ≡ s.asked → begins_of u ≡ begins_of s
   noted_begins s u place asked i = begins_taken (place i).me.0.turns + begins_asked (list_of (asked i))
 
   -- a seat whose own world is the same stays tied
@@ -324,12 +327,14 @@ module _ {V : Type 0} where
     };
     above = tt;
     last = tt;
+    begins = refl;
     none = λ _. (refl, refl);
   }
 
   pub refused_finished : (t : TxTable V) (s u : TxSeat V) (cause : Refusal) → IsReady t s → IsOpen (opening_of t) s.seat
-      → CanDrive t u.seat u.actor → CommitsTo (opening_of t) s.seat u.seat (Err cause) → HasFinished t s u (Err cause)
-  refused_finished t s u cause ready opened drives C =
+      → CanDrive t u.seat u.actor → CommitsTo (opening_of t) s.seat u.seat (Err cause) → begins_of u.seat ≡ begins_of s.seat
+      → HasFinished t s u (Err cause)
+  refused_finished t s u cause ready opened drives C begins =
       let rests : standing (opening_of t) u.seat ≡ Rests = (C.ended opened).0 in
       record {
         ready = rests_ready t s u ready drives rests;
@@ -337,6 +342,7 @@ module _ {V : Type 0} where
         commits = C;
         above = tt;
         last = tt;
+        begins = begins;
         none = λ was. absurd (not_both (opening_of t) s.seat was opened);
       }
 
@@ -351,9 +357,9 @@ module _ {V : Type 0} where
         let known : (seat_in (opening_of t) s.seat).rv ≤ (view m).clock = omega (arith, high, rises) in
         commit_numbers (seat_in (opening_of t) s.seat).rv (view m).clock s.seat.last r C.number begun.0 known
 
-    pub has_finished : (u : TxSeat V) → IsReady t s → CanDrive t m u.actor → m.last ≡ s.seat.last → u.seat.place ≡ m.place
-        → u.seat.asked ≡ m.asked → u.seat.last ≡ max m.last r.number → HasFinished t s u (Ok r)
-    has_finished u ready drives same place asked last =
+    pub has_finished : (u : TxSeat V) → IsReady t s → CanDrive t m u.actor → m.last ≡ s.seat.last → begins_of m ≡ begins_of s.seat
+        → u.seat.place ≡ m.place → u.seat.asked ≡ m.asked → u.seat.last ≡ max m.last r.number → HasFinished t s u (Ok r)
+    has_finished u ready drives same begins place asked last =
         let o = opening_of t in
         let rests : standing o u.seat ≡ Rests = noted_stands o m u.seat place asked ∙ C.committed.rests in
         let low = receipt_numbers.1 in
@@ -370,5 +376,6 @@ module _ {V : Type 0} where
           };
           above = receipt_numbers.0;
           last = (low, omega (arith, last, same, low));
+          begins = noted_begins m u.seat place asked ∙ begins;
           none = λ was. absurd (not_both o s.seat was (r.calls, C.calls));
         }

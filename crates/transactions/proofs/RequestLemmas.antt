@@ -1,7 +1,7 @@
 -- Requests from a transaction at rest: where its actor stands, what the request has under way, and what it comes to.
 use Rattle.std.proofs.Common.{◌≡◌, ◌≢◌, ℕ, ◌+◌, Bool, true, false, true≢false, List, [], ◌∷◌, ◌++◌, Option, None}
 use Rattle.std.proofs.Common.{Result, Ok, Err, IfOk, IfErr, refl}
-use Rattle.std.proofs.Common.{inl, inr, sym, ap, ◌∙◌, subst, arith}
+use Rattle.std.proofs.Common.{cond, inl, inr, sym, ap, ◌∙◌, subst, arith}
 use Rattle.std.proofs.lemmas.List.{append-nil, append_assoc}
 use Rattle.word_machine.specs.Actor as machine
 use Rattle.word_machine.specs.Actor.{Actor}
@@ -19,13 +19,14 @@ use Rattle.seq_model.specs.declared.event.Request.{Request}
 use Rattle.seq_model.specs.declared.event.Request.TheVariants.{Abort, Begin, BeginRead}
 use Rattle.seq_model.specs.declared.record.Record.{Record}
 use Rattle.seq_model.specs.declared.refusal.Refusal.{Refusal}
+use Rattle.seq_model.specs.declared.refusal.Refusal.TheVariants.{OutOfMemory}
 use Rattle.replay_log.proofs.SeatLemmas.{StageOk}
 use Rattle.replay_log.specs.Seats as worlds
-use Rattle.replay_log.specs.Seats.{World, Seat, Stage, actor_of}
-use Rattle.replay_log.specs.Worlds.{ask_at, happens}
+use Rattle.replay_log.specs.Seats.{World, Seat, Stage, Cancelling, Leaving, actor_of, acted, asks, at_stage}
+use Rattle.replay_log.specs.Worlds.{ask_at, happens, is_leaving, why}
 use Rattle.actor_words.specs.Dispatch.{is_loading}
 use Rattle.actor_turns.proofs.SeatLemmas.{loading_as}
-use Rattle.tx_actor.specs.Running.{stage_of}
+use Rattle.tx_actor.specs.Running.{notice_of, stage_of}
 use Rattle.tx_actor.specs.declared.actor.Stage as own
 use Rattle.tx_actor.specs.declared.actor.Stage.TheVariants as stage
 use Rattle.tx_actor.specs.declared.actor.Told.{Told}
@@ -47,7 +48,8 @@ use Rattle.driven_turns.proofs.RestLemmas.{IsFree, bare_out, free_own, taken_bar
 use Rattle.driven_turns.proofs.SinceLemmas as since
 use Rattle.driven_turns.specs.Begins.{begins_asked, begins_of}
 use Rattle.driven_turns.specs.Driven.{Driven, HasFound, HasTold, IsReason, IsTrue, as_receipts, is_declared, seat_in, standing}
-use Rattle.transactions.specs.Requests.{BeginsTo, IsBeginTold, IsBegun, IsEnded, IsFoundAndTold, IsNotBegun, KeepsReceipts, begin_of}
+use Rattle.transactions.specs.Requests.{BeginsTo, HasAborted, IsBeginTold, IsBegun, IsEnded, IsFoundAndTold, IsNotBegun, KeepsReceipts}
+use Rattle.transactions.specs.Requests.{begin_of}
 use Rattle.tx_threads.proofs.OwnLemmas.{own_ok}
 use Rattle.tx_turns.proofs.AskedLemmas.{acts_taken}
 use Rattle.tx_turns.proofs.TurnLemmas.{own_stage}
@@ -245,15 +247,36 @@ module _ {V : Type 0} where
   pub told_back : (o : World V) (s m u : table.Seat V) (n : Told V) → KeepsReceipts s m → HasTold o m u n → HasTold o s u n
   told_back o s m u n kept = since.told_back o s m kept.seat.1 kept.more kept.turns u n
 
+  -- and what was told by then is told still
+  pub told_on : (o : World V) (s m u : table.Seat V) (n : Told V) → KeepsReceipts m u → HasTold o s m n → HasTold o s u n
+  told_on o s m u n kept h = (
+    h.0,
+    record {
+      before = h.1.before;
+      turn = h.1.turn;
+      after = h.1.after ++ kept.more;
+      turns = kept.turns ∙ (ap (λ (is : List (Turn V)). is ++ kept.more) h.1.turns
+          ∙ append_assoc ((view s).turns ++ h.1.before) (h.1.turn ∷ h.1.after) kept.more);
+      events = h.1.events;
+      reached = h.1.reached;
+      alike = h.1.alike;
+    },
+    h.2,
+  )
+
   pub found_told : (o : World V) (s u : table.Seat V) (cause : Refusal) → IsReason o s u cause → HasTold o s u (told.Refused cause)
       → IsFoundAndTold o s u cause
   found_told o s u cause (inl found) tells = inl (found, tells)
-  found_told o s u cause (inr memory) tells = inr memory
+  found_told o s u cause (inr memory) tells =
+      inr (memory, inl (subst (λ (c : Refusal). HasTold o s u (told.Refused c)) memory tells))
 
   pub ended_back : (o : World V) (s m u : table.Seat V) (cause : Refusal) → KeepsReceipts s m → IsEnded o m u cause → IsEnded o s u cause
   ended_back o s m u cause kept (rests, inl both) =
       (rests, inl (found_back o s m u cause kept both.0, told_back o s m u (told.Refused cause) kept both.1))
-  ended_back o s m u cause kept (rests, inr memory) = (rests, inr memory)
+  ended_back o s m u cause kept (rests, inr (memory, inl said)) =
+      (rests, inr (memory, inl (told_back o s m u (told.Refused OutOfMemory) kept said)))
+  ended_back o s m u cause kept (rests, inr (memory, inr aborted)) =
+      (rests, inr (memory, inr (told_back o s m u (told.Answered answer.Aborted) kept aborted)))
 
   pub not_begun_back : (o : World V) (s m u : table.Seat V) (cause : Refusal) → KeepsReceipts s m → IsNotBegun o m u cause
       → IsNotBegun o s u cause
@@ -320,6 +343,34 @@ module _ {V : Type 0} where
       let moved : AskMoves (Stands calls) Abort Quiet (phase (after.0.seats a)) =
       subst (λ (k : Phase V × Notice V). AskMoves k.0 Abort k.1 (phase (after.0.seats a))) (λ i. (on i, said i)) (asks_move w a Abort) in
       (λ i. phase ((own_is i).seats (has.0.1 i))) ∙ moved
+
+  -- of which its actor noted no cause
+  none_noted : (w : World V) (a : ℕ) (x : Seat V) (st : Stage V) (calls : List (Call V × Reply V)) → phase_at x.calls st ≡ Stands calls
+      → ((ask_at w a x st Abort).0.seats a).cause ≡ None
+  none_noted w a x worlds.Open calls h =
+      let t = acted w (asks a word.AskCancel ∷ asks a word.AskAbort ∷ []) in
+      ap (λ (y : Seat V). y.cause)
+      (put-same t.seats a (at_stage (record x { cause = None }) (cond (is_leaving (actor_of t a).place) Leaving Cancelling)))
+  none_noted w a x st calls h = absurd (let z : ⊥ = cc in z)
+
+  is_aborted : (a : ℕ) (n : Told V) → notice_of a n ≡ Answered a answer.Aborted → n ≡ told.Answered answer.Aborted
+  is_aborted a told.Quiet e = absurd (let z : ⊥ = cc in z)
+  is_aborted a (told.Answered q) e = (let f : q ≡ answer.Aborted = cc in ap told.Answered f)
+  is_aborted a (told.Refused cause) e = absurd (let z : ⊥ = cc in z)
+
+  -- and so it is told
+  pub abort_told : (o : World V) (s m u : table.Seat V) (calls : List (Call V × Reply V)) → standing o s ≡ Stands calls → HasAsked s Abort m
+      → (n : Told V) (d : Option (Record V)) → Driven o m u n d → n ≢ told.Quiet → HasAborted o s u
+  abort_told o s m u calls on has n d D ne =
+      let a = seated.actor s in
+      let w = acts o s in
+      let own_is = acts_taken o s m (Ask 0 Abort) has in
+      let none : (seat_in o m).cause ≡ None =
+      (λ i. ((own_is i).seats (has.0.1 i)).cause) ∙ none_noted w a (w.seats a) (w.seats a).stage calls on in
+      let why_is = (none_ends o m u n d (abort_ends o s m calls on has) D ne).2 in
+      let said : n ≡ told.Answered answer.Aborted = is_aborted (seated.actor m) n (why_is ∙ ap (why (seated.actor m)) none) in
+      told_back o s m u (told.Answered answer.Aborted) (asked_keeps s m (has.0, has.1))
+      (subst (λ (k : Told V). HasTold o m u k) said (D.tells ne))
 
   -- it has nothing in hand
   pub abort_own : (t : TxTable V) (s m : table.Seat V) (r q : TxActor V) (calls : List (Call V × Reply V))

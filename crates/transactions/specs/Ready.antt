@@ -16,6 +16,7 @@ use Rattle.gate_turns.specs.Own.{HasOwn}
 use Rattle.tx_phases.specs.Phases.{Rests}
 use Rattle.transactions.specs.declared.seats.TxSeat.{TxSeat}
 pub use Rattle.driven_turns.specs.Driven.{standing}
+use Rattle.driven_turns.specs.Begins.{begins_of}
 use Rattle.driven_turns.specs.Driven.{seat_in}
 use Rattle.transactions.specs.Requests.{CallsTo, CommitsTo, IsOpen}
 
@@ -55,19 +56,21 @@ module _ {V : Type 0} where
       → (s.seat.last ≤ (seat_in (opening_of t) s.seat).rv) × ((seat_in (opening_of t) s.seat).rv ≤ (view s.seat).clock)
 
   -- The seat s, at which a call was made, is u now: an open transaction has made it, or was refused it; where there is none it is refused
-  -- as such, and the seat is as it was.
+  -- as such, and the seat is as it was. None is begun.
   pub record HasCalled (t : TxTable V) (s u : TxSeat V) (call : Call V) (r : Result (Reply V) Refusal) : Type 0 where
     pub ready : IsReady t u
     pub since : HasBegunSince t u
     pub calls : IsOpen (opening_of t) s.seat → CallsTo (opening_of t) s.seat call u.seat r
+    pub begins : begins_of u.seat ≡ begins_of s.seat
     pub none : standing (opening_of t) s.seat ≡ Rests → (r ≡ Err NoTransaction) × (u ≡ s)
 
   -- The seat s, which was to commit, is u now, ready and without a transaction. Where it has a receipt more, its number is the last one of
-  -- the seat; where there was no transaction it is refused as such, and the seat is as it was.
+  -- the seat; where there was no transaction it is refused as such, and the seat is as it was. None is begun.
   pub record HasFinished (t : TxTable V) (s u : TxSeat V) (r : Result (Record V) Refusal) : Type 0 where
     pub ready : IsReady t u
     pub rests : standing (opening_of t) u.seat ≡ Rests
     pub commits : CommitsTo (opening_of t) s.seat u.seat r
     pub above : IfOk r (λ receipt. receipt.writes ≡ true → s.seat.last < receipt.number)
     pub last : IfOk r (λ receipt. (s.seat.last ≤ receipt.number) × (u.seat.last ≡ receipt.number))
+    pub begins : begins_of u.seat ≡ begins_of s.seat
     pub none : standing (opening_of t) s.seat ≡ Rests → (r ≡ Err NoTransaction) × (u ≡ s)

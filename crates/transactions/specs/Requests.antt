@@ -84,10 +84,19 @@ module _ {V : Type 0} where
   BeginsTo declared o s u (told.Refused cause) = IsNotBegun o s u cause
   BeginsTo declared o s u n = ⊥
 
+  -- ---- an abort
+  -- one of its turns told that it was aborted, as its actor asked
+  abbrev pub HasAborted : World V → Seat V → Seat V → Type 0
+  HasAborted o s u = HasTold o s u (told.Answered answer.Aborted)
+
   -- ---- a call, or a commit, that ends its transaction
+  -- Memory was wanting: one of its own turns told so; or it was wanting as the request was asked, and the transaction was aborted.
+  abbrev pub WantedMemory : World V → Seat V → Seat V → Refusal → Type 0
+  WantedMemory o s u cause = (cause ≡ OutOfMemory) × (HasTold o s u (told.Refused OutOfMemory) ⊎ HasAborted o s u)
+
   -- one of its own turns found this cause, and one of them told it; or memory was wanting
   abbrev pub IsFoundAndTold : World V → Seat V → Seat V → Refusal → Type 0
-  IsFoundAndTold o s u cause = (HasFound o s u cause × HasTold o s u (told.Refused cause)) ⊎ (cause ≡ OutOfMemory)
+  IsFoundAndTold o s u cause = (HasFound o s u cause × HasTold o s u (told.Refused cause)) ⊎ WantedMemory o s u cause
 
   -- and there is no transaction any more
   abbrev pub IsEnded : World V → Seat V → Seat V → Refusal → Type 0

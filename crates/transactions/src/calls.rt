@@ -7,7 +7,7 @@ ghost use Rattle.tx_turns.specs.Asked.{Answers, HasAsked};
 ghost use Rattle.driven_turns.specs.Begins.{begins_of};
 ghost use Rattle.driven_turns.specs.Driven.{standing};
 ghost use Rattle.transactions.specs.Ready.{CanDrive};
-ghost use Rattle.transactions.specs.Requests.{CallsTo, IsCallTold, IsCalling, IsDriven, IsOpen, KeepsReceipts, told_of};
+ghost use Rattle.transactions.specs.Requests.{CallsTo, HasAborted, IsCallTold, IsCalling, IsDriven, IsOpen, KeepsReceipts, told_of};
 
 use crate::requests::abort;
 use boxes::Boxed;
@@ -67,6 +67,7 @@ pub(crate) fn ask_open<V: Value>(
     ensures admits { OnErr result (IsAdmitted (acts (opening_of table.now) seat.old) (actor_of seat.old) request) }
     ensures keeps { OnErr result (KeepsReceipts seat.old seat.new) }
     ensures rests { OnErr result (standing (opening_of table.now) seat.new ≡ Rests) }
+    ensures aborted { OnErr result (HasAborted (opening_of table.now) seat.old seat.new) }
     ensures begins { OnErr result (begins_of seat.new ≡ begins_of seat.old) }
 {
     let none = Vec::new(alloc);

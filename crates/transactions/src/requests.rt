@@ -5,7 +5,7 @@ ghost use Rattle.tx_phases.specs.Phases.{Rests};
 ghost use Rattle.driven_turns.specs.Begins.{begins_of};
 ghost use Rattle.driven_turns.specs.Driven.{is_declared, standing};
 ghost use Rattle.transactions.specs.Ready.{CanDrive};
-ghost use Rattle.transactions.specs.Requests.{IsBeginTold, IsBegun, IsNotBegun, IsOpen, KeepsReceipts, begin_of};
+ghost use Rattle.transactions.specs.Requests.{HasAborted, IsBeginTold, IsBegun, IsNotBegun, IsOpen, KeepsReceipts, begin_of};
 
 use boxes::Boxed;
 use driven_turns::drive;
@@ -104,6 +104,7 @@ pub(crate) fn abort<V: Value>(
     ensures drives { CanDrive table.now seat.new actor.new }
     ensures keeps { KeepsReceipts seat.old seat.new }
     ensures rests { standing (opening_of table.now) seat.new ≡ Rests }
+    ensures aborted { HasAborted (opening_of table.now) seat.old seat.new }
     ensures begins { begins_of seat.new ≡ begins_of seat.old }
 {
     ask_abort(table, seat, actor);

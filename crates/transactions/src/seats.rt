@@ -7,7 +7,7 @@ ghost use Rattle.tx_phases.specs.Phases.{Rests};
 ghost use Rattle.driven_turns.specs.Begins.{begins_of};
 ghost use Rattle.driven_turns.specs.Driven.{standing};
 ghost use Rattle.transactions.specs.Ready.{HasBegunSince, HasCalled, HasFinished, HasOpened, IsNew, IsReady};
-ghost use Rattle.transactions.specs.Requests.{IsBegun, IsNotBegun, KeepsReceipts, OnlyKnows};
+ghost use Rattle.transactions.specs.Requests.{HasAborted, IsBegun, IsNotBegun, IsOpen, KeepsReceipts, OnlyKnows};
 
 use crate::reply_room::ReplyRoom;
 use boxes::Boxed;
@@ -74,6 +74,7 @@ impl<V: Value> TxSeat<V> {
         ensures ready { IsReady table.now self.new }
         ensures rests { standing (opening_of table.now) self.new.seat ≡ Rests }
         ensures keeps { KeepsReceipts self.old.seat self.new.seat }
+        ensures aborted { IsOpen (opening_of table.now) self.old.seat → HasAborted (opening_of table.now) self.old.seat self.new.seat }
         ensures none { standing (opening_of table.now) self.old.seat ≡ Rests → self.new ≡ self.old }
         ensures begins { begins_of self.new.seat ≡ begins_of self.old.seat }
     {
@@ -99,6 +100,7 @@ impl<V: Value> TxSeat<V> {
         ensures begun { IfOk result (IsBegun false (opening_of table.now) self.old.seat self.new.seat) }
         ensures last { IfOk result (λ rv. self.old.seat.last ≤ rv) }
         ensures refused { IfErr result (IsNotBegun (opening_of table.now) self.old.seat self.new.seat) }
+        ensures aborted { IsOpen (opening_of table.now) self.old.seat → HasAborted (opening_of table.now) self.old.seat self.new.seat }
         ensures begins { begins_of self.new.seat ≡ begins_of self.old.seat + 1 }
     {
         self.abort(table);
@@ -121,6 +123,7 @@ impl<V: Value> TxSeat<V> {
         ensures begun { IfOk result (IsBegun true (opening_of table.now) self.old.seat self.new.seat) }
         ensures last { IfOk result (λ rv. self.old.seat.last ≤ rv) }
         ensures refused { IfErr result (IsNotBegun (opening_of table.now) self.old.seat self.new.seat) }
+        ensures aborted { IsOpen (opening_of table.now) self.old.seat → HasAborted (opening_of table.now) self.old.seat self.new.seat }
         ensures begins { begins_of self.new.seat ≡ begins_of self.old.seat + 1 }
     {
         self.abort(table);
@@ -145,7 +148,6 @@ impl<V: Value> TxSeat<V> {
         requires ready { IsReady table.now self.old }
         requires since { HasBegunSince table.now self.old }
         ensures called { HasCalled table.now self.old self.new call result }
-        ensures begins { begins_of self.new.seat ≡ begins_of self.old.seat }
     {
         if !self.is_open() {
             return Err(Refusal::NoTransaction);
@@ -165,7 +167,6 @@ impl<V: Value> TxSeat<V> {
         requires ready { IsReady table.now self.old }
         requires since { HasBegunSince table.now self.old }
         ensures called { HasCalled table.now self.old self.new (record { target = word; op = op.Read }) result }
-        ensures begins { begins_of self.new.seat ≡ begins_of self.old.seat }
     {
         let call = Call {
             target: word,
@@ -179,7 +180,6 @@ impl<V: Value> TxSeat<V> {
         requires ready { IsReady table.now self.old }
         requires since { HasBegunSince table.now self.old }
         ensures called { HasCalled table.now self.old self.new (record { target = word; op = op.Write value }) result }
-        ensures begins { begins_of self.new.seat ≡ begins_of self.old.seat }
     {
         let call = Call {
             target: word,
@@ -198,7 +198,6 @@ impl<V: Value> TxSeat<V> {
         requires ready { IsReady table.now self.old }
         requires since { HasBegunSince table.now self.old }
         ensures finished { HasFinished table.now self.old self.new result }
-        ensures begins { begins_of self.new.seat ≡ begins_of self.old.seat }
     {
         if !self.is_open() {
             return Err(Refusal::NoTransaction);

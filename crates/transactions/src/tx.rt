@@ -7,9 +7,10 @@ ghost use Rattle.tx_table.specs.Seated.{opening_of, view};
 ghost use Rattle.tx_phases.specs.Phases.{Rests};
 ghost use Rattle.transactions.specs.contracts.seats.TxSeat.{the_row};
 ghost use Rattle.transactions.specs.Borrowed.{IsBegunSince, IsRefusedBegin};
+ghost use Rattle.driven_turns.specs.Begins.{begins_of};
 ghost use Rattle.driven_turns.specs.Driven.{standing};
 ghost use Rattle.transactions.specs.Ready.{HasBegunSince, HasCalled, HasFinished, IsReady};
-ghost use Rattle.transactions.specs.Requests.{KeepsReceipts, OnlyKnows};
+ghost use Rattle.transactions.specs.Requests.{HasAborted, IsOpen, KeepsReceipts, OnlyKnows};
 
 use crate::seats::TxSeat;
 use seq_model::{Call, Op, Record, Refusal, Reply, Value};
@@ -140,8 +141,11 @@ impl<'a, V: Value> Tx<'a, V> {
         ensures ready { IsReady self.entry.table.now self.exit.1.0.now }
         ensures rests { standing (opening_of self.entry.table.now) self.exit.1.0.now.seat ≡ Rests }
         ensures keeps { KeepsReceipts self.entry.seat.now.seat self.exit.1.0.now.seat }
+        ensures aborted { IsOpen (opening_of self.entry.table.now) self.entry.seat.now.seat →
+            HasAborted (opening_of self.entry.table.now) self.entry.seat.now.seat self.exit.1.0.now.seat }
         ensures none { standing (opening_of self.entry.table.now) self.entry.seat.now.seat ≡ Rests →
             self.exit.1.0.now ≡ self.entry.seat.now }
+        ensures begins { begins_of self.exit.1.0.now.seat ≡ begins_of self.entry.seat.now.seat }
     {
         let Tx { table, seat } = self;
         seat.abort(table);

@@ -20,7 +20,7 @@ returns-in_err-receipt-in-Ok-Done-clause-attempts g c =
     rw (p.1, p.2) (
       commit_refused asks o c.args.seat.now.seat c.begin.new.self.seat c.ask_all.new.seat.seat c.commit.new.self.seat _
           c.begin.ensures.keeps done c.in_err-receipt-in-Ok-Done.ensures.finished.commits,
-      c.commit.ensures.begins ∙ (c.ask_all.ensures.begins ∙ c.begin.ensures.begins),
+      c.commit.ensures.finished.begins ∙ (c.ask_all.ensures.begins ∙ c.begin.ensures.begins),
     )
 
 pub returns-in_ok-receipt-in-Ok-Done-clause-attempts : goal.returns-in_ok-receipt-in-Ok-Done-clause-attempts
@@ -36,7 +36,7 @@ returns-in_ok-receipt-in-Ok-Done-clause-attempts g c =
           (λ none. changes_nothing o c.ask_all.new.seat.seat c.in_ok-receipt-in-Ok-Done.receipt.calls c.ask_all.ensures.ready.ties.reached
           made.calls (sym made.writes ∙ none))
           e.above e.last,
-      c.commit.ensures.begins ∙ (c.ask_all.ensures.begins ∙ c.begin.ensures.begins),
+      c.commit.ensures.finished.begins ∙ (c.ask_all.ensures.begins ∙ c.begin.ensures.begins),
     )
 
 pub returns-in-Ok-GivenUp-clause-attempts : goal.returns-in-Ok-GivenUp-clause-attempts
@@ -45,7 +45,7 @@ returns-in-Ok-GivenUp-clause-attempts g c =
     let o = opening_of c.args.table.now in (
       given_up asks o c.args.seat.now.seat c.begin.new.self.seat c.ask_all.new.seat.seat c.abort.new.self.seat c.begin.ensures.keeps
           (at_end asks o c.begin.new.self.seat c.ask_all.new.seat.seat _ _ c.in-Ok-GivenUp.field-0-is c.in-Ok-GivenUp.ensures.reaches)
-          c.abort.ensures.keeps,
+          c.abort.ensures.keeps c.abort.ensures.aborted,
       c.abort.ensures.begins ∙ (c.ask_all.ensures.begins ∙ c.begin.ensures.begins),
     )
 

@@ -25,5 +25,5 @@ returns g c t s u k ready why = elim why [
       → (m : ℕ) × (m + 1 + n ≡ gate_tries) × InVain w events a i m) opens.world
       (c.tries.ensures.before o.blocks opens.clock opens.contents.words opens.contents.held events a i n stripes)) (opening_of t) s.seat
       u.seat k ready.ties.reached (calm (opening_of t) s.seat ready.between) found.0
-  | inr memory ↦ absurd (let z : ⊥ = cc in z)
+  | inr wanted ↦ absurd (let memory = wanted.0 in let z : ⊥ = cc in z)
 ]

@@ -4,7 +4,7 @@ use Rattle.tx_table.specs.Seated.{opening_of}
 use Rattle.driven_turns.proofs.GivenUpLemmas.{under_ends}
 use Rattle.driven_turns.proofs.RestLemmas.{bare_out}
 use Rattle.driven_turns.specs.Driven.{seat_in}
-use Rattle.transactions.proofs.RequestLemmas.{abort_ends, abort_own, asked_keeps, asks_none, ends_to, is_open, then_keeps}
+use Rattle.transactions.proofs.RequestLemmas.{abort_ends, abort_own, abort_told, asked_keeps, asks_none, ends_to, is_open, then_keeps}
 use Rattle.transactions.proofs.requests.abort.Goals as goal
 
 pub ask_abort-requires-clause-open : goal.ask_abort-requires-clause-open
@@ -45,6 +45,11 @@ returns-clause-rests g c =
     (abort_own c.args.table.now c.args.seat.now c.ask_abort.new.seat c.args.actor.now c.ask_abort.new.actor c.requires.open.0
     c.requires.open.1 c.requires.drives.ties c.requires.drives.own c.ask_abort.ensures.asked c.ask_abort.ensures.ties)))
     c.drive.ensures.driven c.drive.ensures.answered).1
+
+pub returns-clause-aborted : goal.returns-clause-aborted
+returns-clause-aborted g c =
+    abort_told (opening_of c.args.table.now) c.args.seat.now c.ask_abort.new.seat c.drive.new.seat c.requires.open.0 c.requires.open.1
+    c.ask_abort.ensures.asked c.drive.result.0 c.drive.result.1 c.drive.ensures.driven c.drive.ensures.answered
 
 pub returns-clause-begins : goal.returns-clause-begins
 returns-clause-begins g c =

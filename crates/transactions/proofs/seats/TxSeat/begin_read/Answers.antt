@@ -1,6 +1,9 @@
 use Rattle.std.proofs.Common.{arith, true}
+use Rattle.seq_model.specs.declared.event.Answer.TheVariants as answer
+use Rattle.tx_actor.specs.declared.actor.Told.TheVariants as told
 use Rattle.tx_table.specs.Seated.{opening_of}
-use Rattle.transactions.proofs.RequestLemmas.{begun_since}
+use Rattle.transactions.proofs.ReadyLemmas.{begun_ready}
+use Rattle.transactions.proofs.RequestLemmas.{begun_since, told_on}
 use Rattle.transactions.proofs.seats.TxSeat.begin_read.Goals as goal
 
 pub returns-clause-begun : goal.returns-clause-begun
@@ -15,3 +18,13 @@ returns-clause-refused g c =
 
 pub returns-clause-begins : goal.returns-clause-begins
 returns-clause-begins g c = (let more = c.begin_read.ensures.begins in let same = c.abort.ensures.begins in omega (arith, more, same))
+
+pub returns-clause-aborted : goal.returns-clause-aborted
+returns-clause-aborted g c opened =
+    told_on (opening_of c.args.table.now) c.args.self.now.seat c.abort.new.self.seat c.begin_read.new.seat (told.Answered answer.Aborted)
+    c.begin_read.ensures.keeps (c.abort.ensures.aborted opened)
+
+pub returns-clause-ready : goal.returns-clause-ready
+returns-clause-ready g c =
+    begun_ready true c.args.table.now c.args.self.now c.abort.new.self _ c.begin_read.result c.requires.ready c.begin_read.ensures.drives c.begin_read.ensures.begun
+    c.begin_read.ensures.refused

@@ -3,13 +3,15 @@ use Rattle.tx_actor.specs.declared.actor.Stage.TheVariants as stage
 use Rattle.transactions.proofs.ReadyLemmas.{has_called, has_open, none_called}
 use Rattle.transactions.proofs.seats.TxSeat.call.Goals as goal
 
-pub returns-then-not-is_open-clause-called : goal.returns-then-not-is_open-clause-called
-returns-then-not-is_open-clause-called g c =
+pub returns-then-not-is_open : goal.returns-then-not-is_open
+returns-then-not-is_open g c =
     let none : c.args.self.now.actor.stage ≡ stage.Open → ⊥ = search rules in
-    none_called c.args.table.now c.args.self.now c.args.call c.requires.ready c.requires.since none
+    record { called = none_called c.args.table.now c.args.self.now c.args.call c.requires.ready c.requires.since none }
 
-pub returns-clause-called : goal.returns-clause-called
-returns-clause-called g c =
+pub returns : goal.returns
+returns g c =
     let at : c.args.self.now.actor.stage ≡ stage.Open = search rules in
-    has_called c.args.table.now c.args.self.now _ c.args.call c.call.result c.requires.ready c.requires.since
-    (has_open c.args.table.now c.args.self.now c.requires.ready at) c.call.ensures.drives c.call.ensures.calls
+    record {
+      called = has_called c.args.table.now c.args.self.now _ c.args.call c.call.result c.requires.ready c.requires.since
+          (has_open c.args.table.now c.args.self.now c.requires.ready at) c.call.ensures.drives c.call.ensures.calls c.call.ensures.begins;
+    }
