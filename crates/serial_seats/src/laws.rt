@@ -8,11 +8,10 @@ ghost use Rattle.replay_log.specs.Seats.{World};
 ghost use Rattle.replay_log.specs.WorldSerial.{IsSerial};
 ghost use Rattle.replay_log.specs.Worlds.{run};
 ghost use Rattle.tx_actor.specs.declared.actor.Told.{Told};
-ghost use Rattle.tx_phases.specs.Phases.{Rests};
 ghost use Rattle.tx_table.specs.Seated.{opening_of};
 ghost use Rattle.tx_table.specs.Shown.{Opens};
 ghost use Rattle.tx_table.specs.declared.table.TxTable.{TxTable};
-ghost use Rattle.driven_turns.specs.Driven.{HasTold, standing};
+ghost use Rattle.driven_turns.specs.Driven.{HasTold};
 ghost use Rattle.transactions.specs.Ready.{IsReady};
 ghost use Rattle.transactions.specs.Requests.{IsFoundAndTold};
 ghost use Rattle.transactions.specs.declared.seats.TxSeat.{TxSeat};
@@ -20,7 +19,7 @@ ghost use Rattle.serial_seats.specs.Refused.{GaveUp, GaveUpFor, IsEndTold, IsGiv
 ghost use Rattle.serial_seats.specs.Seats.{HoldsNothing, SeesOneState};
 ghost use Rattle.serial_seats.specs.Tries.{WasTriedInVain};
 
-use replay_log::laws::{given_up, serial_worlds, tries};
+use replay_log::laws::{serial_worlds, tries};
 use seq_model::Value;
 
 /// Whatever steps the seats have taken: the records of the world that the table shows are, in commit order, a run of the sequential model
@@ -40,13 +39,11 @@ pub fn seats_see_one_state<V: Value>()
     worlds_are_serial::<V>();
 }
 
-/// A seat without a transaction, whether its last one was committed, aborted or refused: in such a world its actor holds no lock and no
-/// gate.
-pub fn resting_seats_hold_nothing<V: Value>()
-    ensures { (t : TxTable V) (u : TxSeat V) → IsReady t u → standing (opening_of t) u.seat ≡ Rests → HoldsNothing (opening_of t) u.seat }
-{
-    given_up::<V>();
-}
+/// A seat between its requests, without a transaction or with an open one, be it dropped since or not: its actor holds no lock and no gate,
+/// neither in such a world nor in what the table shows.
+pub fn ready_seats_hold_nothing<V: Value>()
+    ensures { (t : TxTable V) (u : TxSeat V) → IsReady t u → HoldsNothing (opening_of t) u.seat }
+{}
 
 /// A request of a seat that is told that a gate was busy, and found it so by one of its turns, as the calls of `transactions` are refused:
 /// it has tried the gate 64 times, one turn after another, each by one compare_exchange, and found it held each time.

@@ -6,9 +6,13 @@ use Rattle.std.specs.declared.alloc.Global.{Global}
 use Rattle.seq_model.specs.declared.call.Reply.{Reply}
 use Rattle.seq_model.specs.declared.record.Record.{Record}
 use Rattle.tx_engine.specs.declared.job.Ask.{Ask}
-use Rattle.tx_table.specs.Seated.{actor, view}
+use Rattle.tx_phases.specs.Phases.{Rests}
+use Rattle.tx_table.specs.Seated.{actor, opening_of, view}
 use Rattle.tx_table.specs.declared.table.TxTable.{TxTable}
 use Rattle.tx_table.specs.declared.view.Turn.{Turn}
+use Rattle.driven_turns.specs.Begins.{begins_of}
+use Rattle.transactions.specs.Ready.{standing}
+use Rattle.transactions.specs.Requests.{HasAborted, IsOpen, KeepsReceipts}
 use Rattle.workers.specs.declared.causes.LastAbort.{LastAbort}
 use Rattle.workers.specs.declared.report.Draft.{Draft}
 use Rattle.workers.specs.declared.report.Report.{Report}
@@ -54,6 +58,14 @@ module _ {V J : Type 0} where
 -- the seat has its shares again, and has gained the receipts that are reported, and no others
 abbrev pub HasRun : {V : Type 0} → TxSeat V → TxSeat V → Report V → Type 0
 HasRun s u report = Gains s u (flat_map (λ receipts. receipts) report.receipts)
+
+-- No worker was started: the seat has begun no transaction and gained no receipt. One that was open there was aborted; where there was none,
+-- the seat is as it was.
+pub record HasNotRun {V : Type 0} (t : TxTable V) (s u : TxSeat V) : Type 0 where
+  pub keeps : KeepsReceipts s.seat u.seat
+  pub begins : begins_of u.seat ≡ begins_of s.seat
+  pub aborted : IsOpen (opening_of t) s.seat → HasAborted (opening_of t) s.seat u.seat
+  pub same : standing (opening_of t) s.seat ≡ Rests → u ≡ s
 
 module _ {V J : Type 0} (asks : J → List (Reply V) → Ask V → Type 0) (t : TxTable V) (tries : ℕ) where
   -- The receipts of the workers, list by list, what they missed, and what actors took for them: each of the first one's jobs has an

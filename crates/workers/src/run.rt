@@ -3,8 +3,7 @@ ghost use Rattle.std.specs.Prelude.{◌≡◌, ◌≤◌, IfOk, OnErr, length};
 ghost use Rattle.tx_table.specs.Seated.{opening_of, view};
 ghost use Rattle.tx_phases.specs.Phases.{Rests};
 ghost use Rattle.transactions.specs.Ready.{IsReady, standing};
-ghost use Rattle.transactions.specs.Requests.{KeepsReceipts};
-ghost use Rattle.workers.specs.Reports.{HasRoomFor, HasRun, IsReportOf, IsTreeOf, jobs_of};
+ghost use Rattle.workers.specs.Reports.{HasNotRun, HasRoomFor, HasRun, IsReportOf, IsTreeOf, jobs_of};
 
 use crate::halves::run_tree;
 use crate::lists::tree_of;
@@ -40,7 +39,7 @@ fn prepare<V: Value, J: Job<V> + Drop>(
 /// (`retry`); where no thread can be started for it, they are missed as `NotStarted`. It returns once all workers have ended, with the
 /// seat, which has its shares again, has gained just the receipts that are reported, and has no transaction.
 ///
-/// `Memory` where what the workers fill can't be had, before any of them has started: the seat has gained nothing.
+/// `Memory` where what the workers fill can't be had, before any of them has started: the seat has begun no transaction and gained nothing.
 pub fn run_workers<
     R: Threads + Wait + Sync,
     V: Value + Send + Sync,
@@ -63,7 +62,7 @@ pub fn run_workers<
     ensures rests { standing (opening_of table.now) result.0.seat ≡ Rests }
     ensures report { IfOk result.1 (IsReportOf J.asks table.now tries seat result.0 (jobs_of lists.items)) }
     ensures gains { IfOk result.1 (HasRun seat result.0) }
-    ensures memory { OnErr result.1 (KeepsReceipts seat.seat result.0.seat) }
+    ensures memory { OnErr result.1 (HasNotRun table.now seat result.0) }
 {
     match prepare(alloc, lists) {
         Ok((draft, tree)) => {
