@@ -1,6 +1,6 @@
 -- What an event of an actor leaves of its shadow and of what it has read first: one lemma for each function of the definitions, in their
--- order. What a call comes to (`comes_by`) is told by the world behind the event, as events keep it: where all its locations are judged it is
--- accepted, and one that is read next is in no set, so its read is not answered at once.
+-- order. What a call comes to (`comes_by`) is told by the world behind the event, as events keep it: where all its locations are judged
+-- it is accepted, and one that is read next is in no set, so its read is not answered at once.
 use Rattle.std.proofs.Common.{◌≡◌, ◌⊎◌, ℕ, ◌+◌, ◌<◌, Bool, true, false, cond, ◌&&◌, not, List, [], ◌∷◌, length, Option, Some, None, inl}
 use Rattle.std.proofs.Common.{inr, refl, sym, ap, subst, ◌∙◌}
 use Rattle.std.specs.Prelude.{nat_lt}

@@ -162,8 +162,8 @@ impl<V: Drop> Spares<V> {
 }
 
 impl<V: Value> Spares<V> {
-    /// A memo of a map or a multiset in so many stripes with no key, and no edition, in kept memory where there is some. A number of stripes
-    /// outside 1 to `STRIPE_LIMIT` is refused as TooLong.
+    /// A memo of a map or a multiset in so many stripes with no key, and no edition, in kept memory where there is some. A number of
+    /// stripes outside 1 to `STRIPE_LIMIT` is refused as TooLong.
     pub(crate) fn blank(
         &mut self,
         alloc: Global,

@@ -2,8 +2,8 @@
 --
 -- In a world that events have reached, what a transaction has called is what the machine has of it (`Parts`): its calls on words are the
 -- machine's, and of these none writes where the write set is empty; its calls on collections are its outcomes, of which none writes a
--- location then. An outcome writes one exactly where its call with its reply changes something, by the frame laws of its kind. The own world
--- of a seat that is ready is such a one to its actor.
+-- location then. An outcome writes one exactly where its call with its reply changes something, by the frame laws of its kind. The own
+-- world of a seat that is ready is such a one to its actor.
 use Rattle.std.proofs.Common.{◌≡◌, ℕ, ◌+◌, Bool, true, false, cond, eqb, not, ◌||◌, List, [], ◌∷◌, map, filter, Option, Some, None}
 use Rattle.std.proofs.Common.{inl, refl, sym, ap, ◌∙◌, subst, true≢false, eq-eqb}
 use Rattle.std.specs.Prelude.{nat_lt, option_map}

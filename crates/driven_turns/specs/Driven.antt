@@ -184,8 +184,8 @@ module _ {V : Type 0} where
   abbrev pub left_in : World V → Seat V → ℕ
   left_in o s = left_of (acts o s) (actor s)
 
-  -- The seat u took turns that made no record, each but the last of which told nothing, and is z; the last tells n. Those that led to u lead
-  -- on to z so. Where the last told nothing either the request is nearer to its answer.
+  -- The seat u took turns that made no record, each but the last of which told nothing, and is z; the last tells n. Those that led to u
+  -- lead on to z so. Where the last told nothing either the request is nearer to its answer.
   pub record LeadsOn (o : World V) (u z : Seat V) (n : Told V) : Type 0 where
     pub driven : (s : Seat V) (d : Option (Record V)) → Driven o s u told.Quiet d → Driven o s z n d
     pub nearer : n ≡ told.Quiet → left_in o z < left_in o u

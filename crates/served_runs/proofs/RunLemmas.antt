@@ -104,7 +104,8 @@ file_fault text NotBalanced found = absurd found
 
 -- ---- what was inspected
 abbrev inspects : (tables : Holdings) (lists : List (List Action)) (tries : ℕ) (served : Served) (opening : Contents Entry)
-    → IsServed tables STRIPES lists tries served → opening ≡ state_of tables → IsSound opening (receipts_of served) served.state served.tables
+    → IsServed tables STRIPES lists tries served → opening ≡ state_of tables
+    → IsSound opening (receipts_of served) served.state served.tables
     → IsInspected tables lists tries served
 inspects tables lists tries served opening made opens sound = record {
   made = made;

@@ -261,8 +261,8 @@ module _ {V : Type 0} where
   rising_without (z ∷ xs) ys x o = (all_without (Follows z) xs ys x o.0, rising_without xs ys x o.1)
 
   -- what stands before a record with the least key reads, and so does the record, if anything stands there
-  fronts_read : (front behind : List (Record V)) (y : Record V) → Rising (front ++ y ∷ behind) → All (NotBelow (key y)) (front ++ y ∷ behind)
-      → All ReadsAsTold (front ++ y ∷ behind) → All Reads front × ((front ≡ []) ⊎ Reads y)
+  fronts_read : (front behind : List (Record V)) (y : Record V) → Rising (front ++ y ∷ behind)
+      → All (NotBelow (key y)) (front ++ y ∷ behind) → All ReadsAsTold (front ++ y ∷ behind) → All Reads front × ((front ≡ []) ⊎ Reads y)
   fronts_read [] behind y o least told = (All-nil Reads, inl refl)
   fronts_read (b ∷ bs) behind y o least told =
       let le = All-head (NotBelow (key y)) b (bs ++ y ∷ behind) least in

@@ -111,8 +111,8 @@ impl<V: Value> TxActor<V> {
         }
     }
 
-    /// The gate of its call is held, and this is the base of the call's collection: what the call touches is copied, and the gate may be put
-    /// back. `TooLong` where its locations don't fit the sets, else it is accepted, or a location is read first, or the transaction is
+    /// The gate of its call is held, and this is the base of the call's collection: what the call touches is copied, and the gate may be
+    /// put back. `TooLong` where its locations don't fit the sets, else it is accepted, or a location is read first, or the transaction is
     /// given up, as the copy is stale. With a want of memory the transaction is given up as one that starves, and holds the gate.
     pub fn copied(
         &mut self,

@@ -10,7 +10,8 @@ use Rattle.tx_sets.specs.Entries.{Entries, lookup}
 use Rattle.tx_sets.proofs.PlaceLemmas.{orderly_there, orderly_new, put_new, write_there}
 use Rattle.tx_sets.proofs.EntryLemmas.{lookup_absent, All-with_entry}
 
-pub not_flagged : (l : ℕ) (filter : List Bool) (es : Entries) → HasFilter filter es → get_or filter (l % FLAGS) false ≡ false → lookup es l ≡ None
+pub not_flagged : (l : ℕ) (filter : List Bool) (es : Entries) → HasFilter filter es
+    → get_or filter (l % FLAGS) false ≡ false → lookup es l ≡ None
 not_flagged l filter es are unset =
     lookup_absent es l (λ k d lt same.
     let there : get_or filter ((get_or es k d).0 % FLAGS) false ≡ true = are.flagged k d lt in
@@ -28,8 +29,8 @@ flagged_too filter at inside n is =
     ]
 
 -- an entry whose flag is set
-pub filter_there : (es : Entries) (filter : List Bool) (l v i : ℕ) (d : ℕ × ℕ) → HasFilter filter es → IsPlaceOf l es (Ok i) → d ≡ get_or es i d
-    → HasFilter filter (set es i (d.0, v))
+pub filter_there : (es : Entries) (filter : List Bool) (l v i : ℕ) (d : ℕ × ℕ) → HasFilter filter es
+    → IsPlaceOf l es (Ok i) → d ≡ get_or es i d → HasFilter filter (set es i (d.0, v))
 filter_there es filter l v i d are place is = record {
   orderly = orderly_there es l v i d are.orderly place is;
   flagged =
@@ -39,8 +40,8 @@ filter_there es filter l v i d are place is = record {
 }
 
 -- a new entry, whose flag is then set
-pub filter_new : (es fs gs : Entries) (filter : List Bool) (l v i : ℕ) → HasFilter filter es → l % FLAGS < length filter → IsPlaceOf l es (Err i)
-    → fs ≡ es → gs ≡ insert fs i (l, v) → length es < LOCATION_LIMIT → HasFilter (set filter (l % FLAGS) true) gs
+pub filter_new : (es fs gs : Entries) (filter : List Bool) (l v i : ℕ) → HasFilter filter es
+    → l % FLAGS < length filter → IsPlaceOf l es (Err i) → fs ≡ es → gs ≡ insert fs i (l, v) → length es < LOCATION_LIMIT → HasFilter (set filter (l % FLAGS) true) gs
 filter_new es fs gs filter l v i are inside place same is fewer = record {
   orderly = orderly_new es fs gs l v i are.orderly place same is fewer;
   flagged =

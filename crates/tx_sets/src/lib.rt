@@ -11,8 +11,9 @@
 //! location is the number of entries below it, counted without a branch; among more it is found by
 //! halves. A set keeps the place that was sought last, so a location that is put right after it was
 //! sought is not searched again. And it has TL2's filter: 64 flags, one of which each location that
-//! is put sets. Where that of a location is not set, `find` searches nothing. A set that is cleared keeps its memory for the next transaction, so a worker soon allocates
-//! no more; what a commit must not be refused is reserved beforehand.
+//! is put sets. Where that of a location is not set, `find` searches nothing. A set that is cleared
+//! keeps its memory for the next transaction, so a worker soon allocates no more; what a commit must
+//! not be refused is reserved beforehand.
 //!
 //! Source: TL2, Dice, Shalev and Shavit, DISC 2006.
 #![tactic(auto)]

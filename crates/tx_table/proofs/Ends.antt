@@ -140,8 +140,8 @@ module _ {V : Type 0} where
       }
 
   -- a seat with all shares leaves none to the others
-  spent_at : (o : World V) (id : ℕ) (v : View V) (s : State (Slot V) (View V)) → Rule o s → get_elem? s.views id ≡ some v → v.shares ≡ SHARES
-      → (j : ℕ) (u : View V) → j ≢ id → get_elem? s.views j ≡ some u → u.shares ≡ 0
+  spent_at : (o : World V) (id : ℕ) (v : View V) (s : State (Slot V) (View V)) → Rule o s
+      → get_elem? s.views id ≡ some v → v.shares ≡ SHARES → (j : ℕ) (u : View V) → j ≢ id → get_elem? s.views j ≡ some u → u.shares ≡ 0
   spent_at o id v s rule here all j u ne e =
       let p = total_two (λ (z : View V). z.shares) s.views id j v u here e ne in let q = rule.shows.shares in omega (arith, p, q, all)
 
@@ -199,7 +199,8 @@ module _ {V : Type 0} where
       let w : World V = run o rule.events in
       let free : (k : ℕ) → w.boosted.gates k ≡ None = all_free o id v s rule start here all bare in
       let rests : (a : ℕ) → is_half_done (w.seats a).stage ≡ false =
-      every o id v s rule here all (λ x a. is_half_done (stage_of x a) ≡ false) (λ a x y e h. ap (λ (z : Seat V). is_half_done z.stage) e.seat ∙ h)
+      every o id v s rule here all (λ x a. is_half_done (stage_of x a) ≡ false)
+      (λ a x y e h. ap (λ (z : Seat V). is_half_done z.stage) e.seat ∙ h)
       done (λ j u h. h.done) start.idle in
       let held = serial.left rests in
       let e1 = S.shape.0 in

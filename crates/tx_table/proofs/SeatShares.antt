@@ -17,7 +17,8 @@ use Rattle.replay_log.specs.WorldSerial.{AreUpTo}
 use Rattle.tx_table.specs.declared.view.Opening.{Opening}
 use Rattle.tx_table.specs.Opening.{Holds, blocks_at, locations_at, words_at, world_at}
 use Rattle.tx_table.specs.Turns.{lone}
-use Rattle.tx_table.specs.Shown.{highest_clock, View, Slot, Closes, ShowsWorld, IsOwn, IsSpent, Shows, total, owed, looking, left_of, right_of, both_of}
+use Rattle.tx_table.specs.Shown.{highest_clock, View, Slot, Closes, ShowsWorld, IsOwn, IsSpent, Shows}
+use Rattle.tx_table.specs.Shown.{total, owed, looking, left_of, right_of, both_of}
 use Rattle.tx_table.specs.Shown.{spent_of}
 use Rattle.tx_table.specs.Seated.{Rests}
 use Rattle.tx_table.proofs.Numbers.{map_at, tally_set, total_set, total_part, inside}

@@ -41,8 +41,9 @@ impl<V: Value> TxTable<V> {
             shares: _,
             last: _,
         } = seat;
+        let row = whole.close_with(place);
         Closed {
-            row: whole.close_with(place),
+            row,
             words,
             locations,
             alloc,

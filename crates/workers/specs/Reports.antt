@@ -59,8 +59,8 @@ module _ {V J : Type 0} where
 abbrev pub HasRun : {V : Type 0} → TxSeat V → TxSeat V → Report V → Type 0
 HasRun s u report = Gains s u (flat_map (λ receipts. receipts) report.receipts)
 
--- No worker was started: the seat has begun no transaction and gained no receipt. One that was open there was aborted; where there was none,
--- the seat is as it was.
+-- No worker was started: the seat has begun no transaction and gained no receipt. One that was open there was aborted; where there was
+-- none, the seat is as it was.
 pub record HasNotRun {V : Type 0} (t : TxTable V) (s u : TxSeat V) : Type 0 where
   pub keeps : KeepsReceipts s.seat u.seat
   pub begins : begins_of u.seat ≡ begins_of s.seat

@@ -25,4 +25,5 @@ returns-clause-attempts g c =
     let V = g.row.V.Denot in
     let attempts : Seat V × Seat V → Type 0 =
     λ k. AttemptsTo (g.J.Job.asks c.args.job.now) (opening_of c.args.table.now) k.0 k.1 c.attempt_in-attempted.result in
-    subst attempts (λ i. (c.take_replies-replies.ensures.same.0 i, sym c.keep_replies.ensures.same.0 i)) c.attempt_in-attempted.ensures.attempts
+    subst attempts (λ i. (c.take_replies-replies.ensures.same.0 i, sym c.keep_replies.ensures.same.0 i))
+    c.attempt_in-attempted.ensures.attempts

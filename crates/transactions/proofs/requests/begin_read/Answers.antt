@@ -17,7 +17,8 @@ begun-requires-clause-drives g c =
       ties = c.ask_begin_read.ensures.ties;
       own = free_own c.args.table.now c.ask_begin_read.new.seat c.ask_begin_read.new.actor (subst IsFree (sym at) tt)
           (ap (λ (s : own.Stage _). gates_at s) at)
-          (ap (λ m. m.1) c.ask_begin_read.ensures.asked.1 ∙ bare_out c.args.table.now c.args.seat.now c.args.actor.now c.requires.drives.own);
+          (ap (λ m. m.1) c.ask_begin_read.ensures.asked.1
+          ∙ bare_out c.args.table.now c.args.seat.now c.args.actor.now c.requires.drives.own);
       small = c.requires.drives.small;
     }
 

@@ -30,8 +30,3 @@ returns-in-Ok-clause-gains g c =
     let all = keeps_gains c.args.seat c.run_tree-seat.result.0 c.abort.new.self (gained after) c.run_tree-seat.ensures.gains
     c.abort.ensures.keeps in
     rw (c.filled.ensures.receipts, flat_gained after) all
-
-pub returns-in-Err-clause-memory : goal.returns-in-Err-clause-memory
-returns-in-Err-clause-memory g c =
-    let done = c.abort-in-Err.ensures in
-    record { keeps = done.keeps; begins = done.begins; aborted = done.aborted; same = done.none }

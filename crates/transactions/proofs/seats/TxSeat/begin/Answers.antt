@@ -26,5 +26,6 @@ returns-clause-aborted g c opened =
 
 pub returns-clause-ready : goal.returns-clause-ready
 returns-clause-ready g c =
-    begun_ready false c.args.table.now c.args.self.now c.abort.new.self _ c.begin.result c.requires.ready c.begin.ensures.drives c.begin.ensures.begun
+    begun_ready false c.args.table.now c.args.self.now c.abort.new.self _ c.begin.result c.requires.ready
+    c.begin.ensures.drives c.begin.ensures.begun
     c.begin.ensures.refused

@@ -26,5 +26,6 @@ returns-clause-aborted g c opened =
 
 pub returns-clause-ready : goal.returns-clause-ready
 returns-clause-ready g c =
-    begun_ready true c.args.table.now c.args.self.now c.abort.new.self _ c.begin_read.result c.requires.ready c.begin_read.ensures.drives c.begin_read.ensures.begun
+    begun_ready true c.args.table.now c.args.self.now c.abort.new.self _ c.begin_read.result c.requires.ready
+    c.begin_read.ensures.drives c.begin_read.ensures.begun
     c.begin_read.ensures.refused

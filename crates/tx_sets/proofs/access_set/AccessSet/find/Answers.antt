@@ -8,4 +8,5 @@ pub returns-then-not-self-location : goal.returns-then-not-self-location
 returns-then-not-self-location g c =
     let l = c.args.location in
     let same : c.self.inside.entries.items ≡ c.args.self.now.entries = ap (λ (v : SetView). v.entries) c.self.view_is in
-    sym (ap (λ (es : Entries). lookup es l) (sym same) ∙ not_flagged l c.self.inside.filter c.self.inside.entries.items c.self.invariant c.if-not-self-location.true)
+    sym (ap (λ (es : Entries). lookup es l) (sym same)
+    ∙ not_flagged l c.self.inside.filter c.self.inside.entries.items c.self.invariant c.if-not-self-location.true)

@@ -10,14 +10,16 @@ invariant_of-self g c =
     let es = c.self.inside.entries.items in
     let same : es ≡ c.args.self.now.entries = ap (λ (v : SetView). v.entries) c.self.view_is in
     let place = subst (λ (z : Entries). IsPlaceOf c.args.location z (Ok c.in-Ok.at)) (sym same) c.in-Ok.ensures in
-    filter_there es c.self.inside.filter c.args.location c.args.value c.in-Ok.at c.index_mut.result.now c.self.invariant place c.index_mut.ensures.value
+    filter_there es c.self.inside.filter c.args.location c.args.value c.in-Ok.at c.index_mut.result.now c.self.invariant place
+    c.index_mut.ensures.value
 
 pub returns-in-Ok-clause-ok : goal.returns-in-Ok-clause-ok
 returns-in-Ok-clause-ok g c =
     let es = c.self.inside.entries.items in
     let same : es ≡ c.args.self.now.entries = ap (λ (v : SetView). v.entries) c.self.view_is in
     let place = subst (λ (z : Entries). IsPlaceOf c.args.location z (Ok c.in-Ok.at)) (sym same) c.in-Ok.ensures in
-    write_there es c.args.location c.args.value c.in-Ok.at c.index_mut.result.now c.self.invariant.orderly.rising place c.index_mut.ensures.value
+    write_there es c.args.location c.args.value c.in-Ok.at c.index_mut.result.now c.self.invariant.orderly.rising place
+    c.index_mut.ensures.value
     ∙ ap (λ (z : Entries). with_entry z c.args.location c.args.value) same
 
 pub returns-in-Ok-clause-too_long : goal.returns-in-Ok-clause-too_long
@@ -68,7 +70,8 @@ invariant_of-self-in-Err g c =
     let es = c.self.inside.entries.items in
     let same : es ≡ c.args.self.now.entries = ap (λ (v : SetView). v.entries) c.self.view_is in
     let place = subst (λ (z : Entries). IsPlaceOf c.args.location z (Err c.in-Err.at)) (sym same) c.in-Err.ensures in
-    filter_new es _ _ c.self.inside.filter c.args.location c.args.value c.in-Err.at c.self.invariant (omega (arith, c.self.told)) place c.in_ok-reserve-in-Err.ensures.items
+    filter_new es _ _ c.self.inside.filter c.args.location c.args.value c.in-Err.at c.self.invariant
+    (omega (arith, c.self.told)) place c.in_ok-reserve-in-Err.ensures.items
     c.insert_reserved.ensures.items
     (omega (arith, c.if-len-ge-LOCATION_LIMIT.false, c.len.ensures, c.self.inside.entries.ok.0))
 
