@@ -81,7 +81,7 @@ impl<V: Value> TxSeat<V> {
         ensures locations { result.locations ≡ locations_in table }
         ensures collections { length (homes_of result) ≡ length (blocks_in table) }
         ensures left { IsLeftBy (contents_in table) (view self.seat).receipts result }
-        ensures shows { ShowsWorld (opening_of table) (view self.seat) (row_of result) (map some (homes_of result)) }
+        ensures shows { ShowsWorld (opening_of table) (actor self.seat) (view self.seat) (row_of result) (map some (homes_of result)) }
     {
         table.close(self.into_seat())
     }

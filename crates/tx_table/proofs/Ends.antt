@@ -5,7 +5,10 @@
 -- seat nothing is under way, and the world's serial order says what words and bases hold.
 use Rattle.tx_table.specs.declared.view.TheConstants.{SHARES}
 use Rattle.std.proofs.Common.{◌≡◌, ℕ, subst, zero, suc, ◌+◌, ◌-◌, ◌<◌, ◌≤◌, ◌≢◌, true, false, List, [], ◌∷◌, ◌++◌, length, set}
-use Rattle.std.proofs.Common.{Option as Maybe, Some, None, sym, refl, ap, ◌∙◌, ⊎_elim, arith, length-set, length-append, true≢false, eq-eqb}
+use Rattle.std.proofs.Common.{get_or, Option as Maybe, Some, None, sym, refl, ap, ◌∙◌, ⊎_elim, arith, length-set, length-append}
+use Rattle.std.proofs.Common.{true≢false, eq-eqb}
+use Rattle.std.specs.Prelude.{All}
+use Rattle.std.proofs.lemmas.List.Elements.{All-append, All-cons, All-nil}
 use mathlib.Core.Logic.{dite}
 use mathlib.Core.Option.{Option, some, some-injective, some-ne-none}
 use native.Mathlib.Decide.{ℕ_discrete, dec_lt}
@@ -28,12 +31,14 @@ use Rattle.replay_log.specs.WorldSerial.{AreUpTo, IsSerial}
 use Rattle.replay_log.specs.WorldTraces.{is_half_done}
 use Rattle.atomic_steps.specs.Own.{Alike}
 use Rattle.atomic_steps.proofs.Alike.{alike_same}
-use Rattle.tx_table.specs.Turns.{stage_of, lone}
-use Rattle.tx_table.specs.Shown.{View, Slot, total, owed, Table, IsOwn, IsSpent, Rule, left_of, right_of, both_of, spent_of, IsOpening}
+use Rattle.tx_table.specs.Turns.{Turn, stage_of, lone}
+use Rattle.tx_table.specs.Shown.{View, Slot, total, owed, Table, IsJoined, IsOwn, IsSpent, Rule, Shows, left_of, right_of}
+use Rattle.tx_table.specs.Shown.{both_of, spent_of}
 use Rattle.seq_model.specs.declared.record.Record.{Record}
-use Rattle.tx_table.specs.Shown.{Closes, ShowsWorld, first}
+use Rattle.tx_table.specs.Shown.{Closes, IsOpening, ShowsWorld, first}
 use Rattle.tx_table.proofs.Numbers.{total_set, total_snoc, total_append, there, at_end, tally_set, tally_snoc, total_alone, total_two}
-use Rattle.tx_table.proofs.Keeps.{owed_some}
+use Rattle.tx_table.proofs.Numbers.{at_set_same, in_front}
+use Rattle.tx_table.proofs.Keeps.{owed_some, still_joined}
 use Rattle.tx_table.proofs.Left.{shows_left, suit_within}
 use Rattle.word_machine.specs.Actor.{clock_limit}
 
@@ -41,11 +46,9 @@ module _ {V : Type 0} where
   not_mine : (o w : World V) (a k : ℕ) → IsOpening o → Alike a w o → is_actor a (w.boosted.gates k) ≡ true → ⊥
   not_mine o w a k h e t = true≢false (sym t ∙ (e.boosted.gates k ∙ ap (is_actor a) (h.free k)))
 
-  pub splits : (o : World V) (id k : ℕ) (v : View V) → IsOpening o → 0 < k → k < v.shares → Splits (Rule o) id v (left_of k v)
+  pub splits : (o w : World V) (id k : ℕ) (v : View V) → IsOpening o → 0 < k → k < v.shares → Splits (Shows o w) id v (left_of k v)
       (right_of k v)
-  splits o id k v opening some_shares fewer s rule here =
-      let S = rule.shows in
-      let w : World V = run o rule.events in
+  splits o w id k v opening some_shares fewer s S here =
       let vs : List (View V) = s.views in
       let x : View V = left_of k v in
       let y : View V = right_of k v in
@@ -62,40 +65,39 @@ module _ {V : Type 0} where
       (λ (q : (j ≢ id) × (get_elem? vs j ≡ some u)). old j u q.1) (at_set vs id j x u t))
       (λ (t : (j ≡ length (set vs id x)) × (y ≡ u)). subst (λ (z : ℕ × View V). P z.0 z.1) (λ i. (sym (t.0 ∙ len) i, t.1 i)) py)
       (at_end (set vs id x) y u j e) in
+      let kept : (j : ℕ) (u : View V) → get_elem? vs j ≡ some u → All (IsJoined new) u.joined =
+      λ j u e i d lt. (let q = still_joined vs id v x (get_or u.joined i d) here (λ none. absurd (omega arith)) (S.joined j u e i d lt) in
+      (q.0, in_front (set vs id x) (y ∷ []) (get_or u.joined i d).0 q.0 q.1, q.2, q.3)) in
       record {
-        events = rule.events;
-        shows = record {
-          shape = S.shape;
-          table = S.table;
-          clocks = cases (λ j u. u.clock ≤ w.boosted.words.clock) (S.clocks id v here) (omega arith) S.clocks;
-          room =
-              (let p = tally_set (owed o) 0 vs id v x here in
-              let q = tally_snoc (owed o) 0 (set vs id x) y in
-              let z : 0 + id ≡ id = omega arith in
-              let zv : owed o (0 + id) v ≡ owed o id v = ap (λ (m : ℕ). owed o m v) z in
-              let zx : owed o (0 + id) x ≡ owed o id x = ap (λ (m : ℕ). owed o m x) z in
-              let a = S.room in
-              let b = owed_some v.shares (actor_of (lone id o v.turns) id).place (omega arith) in
-              let c = owed_some (v.shares - k) (actor_of (lone id o v.turns) id).place (omega arith) in
-              let n = 0 + length (set vs id x) in
-              let d = owed_some k (actor_of o n).place some_shares in
-              let e = opening.rests n in omega arith);
-          shares = same (λ u. u.shares) (omega arith) ∙ S.shares;
-          own = cases (λ j u. IsOwn j w (lone j o u.turns)) (S.own id v here)
-              (record { alike = fresh_there; out = λ m g. absurd (not_mine o w (length vs) m opening fresh_there g) }) S.own;
-          fresh = λ a l. (let m = length-append (set vs id x) (y ∷ []) in S.fresh a (omega arith));
-          spent = cases (λ j u. u.shares ≡ 0 → IsSpent o j u) (λ z. absurd (omega arith)) (λ z. absurd (omega arith)) S.spent;
-          receipts = λ h. same (λ u. total h u.receipts) (omega arith) ∙ S.receipts h;
-        };
+        shape = S.shape;
+        table = S.table;
+        clocks = cases (λ j u. u.clock ≤ w.boosted.words.clock) (S.clocks id v here) (omega arith) S.clocks;
+        room =
+            (let p = tally_set (owed o) 0 vs id v x here in
+            let q = tally_snoc (owed o) 0 (set vs id x) y in
+            let z : 0 + id ≡ id = omega arith in
+            let zv : owed o (0 + id) v ≡ owed o id v = ap (λ (m : ℕ). owed o m v) z in
+            let zx : owed o (0 + id) x ≡ owed o id x = ap (λ (m : ℕ). owed o m x) z in
+            let a = S.room in
+            let b = owed_some v.shares (actor_of (lone id o v.turns) id).place (omega arith) in
+            let c = owed_some (v.shares - k) (actor_of (lone id o v.turns) id).place (omega arith) in
+            let n = 0 + length (set vs id x) in
+            let d = owed_some k (actor_of o n).place some_shares in
+            let e = opening.rests n in omega arith);
+        shares = same (λ u. u.shares) (omega arith) ∙ S.shares;
+        own = cases (λ j u. IsOwn j w (lone j o u.turns)) (S.own id v here)
+            (record { alike = fresh_there; out = λ m g. absurd (not_mine o w (length vs) m opening fresh_there g) }) S.own;
+        fresh = λ a l. (let m = length-append (set vs id x) (y ∷ []) in S.fresh a (omega arith));
+        spent = cases (λ j u. u.shares ≡ 0 → IsSpent o j u) (λ z. absurd (omega arith)) (λ z. absurd (omega arith)) S.spent;
+        joined = cases (λ j u. All (IsJoined new) u.joined) (kept id v here) (All-nil (IsJoined new)) kept;
+        receipts = λ h. same (λ u. total h u.receipts) (omega arith) ∙ S.receipts h;
       }
 
-  pub joins : (o : World V) (id other : ℕ) (v u : View V) → 0 < v.shares → 0 < u.shares
+  pub joins : (o w : World V) (id other : ℕ) (v u : View V) → 0 < v.shares → 0 < u.shares
       → is_half_done (stage_of (lone other o u.turns) other) ≡ false
       → ((k : ℕ) → is_actor other ((lone other o u.turns).boosted.gates k) ≡ false)
-      → Joins (Rule o) id v other u (both_of v other u) (spent_of u)
-  joins o id other v u some_shares more done bare s rule here apart there₁ =
-      let S = rule.shows in
-      let w : World V = run o rule.events in
+      → Joins (Shows o w) id v other u (both_of v other u) (spent_of u)
+  joins o w id other v u some_shares more done bare s S here apart there₁ =
       let vs : List (View V) = s.views in
       let x : View V = both_of v other u in
       let y : View V = spent_of u in
@@ -114,29 +116,34 @@ module _ {V : Type 0} where
       (λ (k : (j ≡ id) × (x ≡ q)). subst (λ (z : ℕ × View V). P z.0 z.1) (λ i. (sym k.0 i, k.1 i)) px)
       (λ (k : (j ≢ id) × (get_elem? vs j ≡ some q)). old j q k.1) (at_set vs id j x q t.1))
       (at_set mid other j y q e) in
+      let kept : (j : ℕ) (q : View V) → get_elem? vs j ≡ some q → All (IsJoined new) q.joined =
+      λ j q e i d lt.
+      still_joined mid other u y (get_or q.joined i d) there₁ (λ none. absurd (omega arith))
+      (still_joined vs id v x (get_or q.joined i d) here (λ none. absurd (omega arith)) (S.joined j q e i d lt)) in
       record {
-        events = rule.events;
-        shows = record {
-          shape = S.shape;
-          table = S.table;
-          clocks = cases (λ j q. q.clock ≤ w.boosted.words.clock)
-              (let a = S.clocks id v here in let b = S.clocks other u there₂ in omega arith) (omega arith) S.clocks;
-          room =
-              (let p = tally_set (owed o) 0 vs id v x here in
-              let r = tally_set (owed o) 0 mid other u y there₁ in
-              let z : 0 + id ≡ id = omega arith in
-              let zv : owed o (0 + id) v ≡ owed o id v = ap (λ (m : ℕ). owed o m v) z in
-              let zx : owed o (0 + id) x ≡ owed o id x = ap (λ (m : ℕ). owed o m x) z in
-              let a = S.room in
-              let b = owed_some v.shares (actor_of (lone id o v.turns) id).place some_shares in
-              let c = owed_some (v.shares + u.shares) (actor_of (lone id o v.turns) id).place (omega arith) in omega arith);
-          shares = same (λ q. q.shares) (omega arith) ∙ S.shares;
-          own = cases (λ j q. IsOwn j w (lone j o q.turns)) (S.own id v here) (S.own other u there₂) S.own;
-          fresh = λ a l. S.fresh a (omega arith);
-          spent = cases (λ j q. q.shares ≡ 0 → IsSpent o j q) (λ z. absurd (omega arith))
-              (λ z. record { receipts = refl; done = done; bare = bare }) S.spent;
-          receipts = λ h. same (λ q. total h q.receipts) (let p = total_append h v.receipts u.receipts in omega arith) ∙ S.receipts h;
-        };
+        shape = S.shape;
+        table = S.table;
+        clocks = cases (λ j q. q.clock ≤ w.boosted.words.clock)
+            (let a = S.clocks id v here in let b = S.clocks other u there₂ in omega arith) (omega arith) S.clocks;
+        room =
+            (let p = tally_set (owed o) 0 vs id v x here in
+            let r = tally_set (owed o) 0 mid other u y there₁ in
+            let z : 0 + id ≡ id = omega arith in
+            let zv : owed o (0 + id) v ≡ owed o id v = ap (λ (m : ℕ). owed o m v) z in
+            let zx : owed o (0 + id) x ≡ owed o id x = ap (λ (m : ℕ). owed o m x) z in
+            let a = S.room in
+            let b = owed_some v.shares (actor_of (lone id o v.turns) id).place some_shares in
+            let c = owed_some (v.shares + u.shares) (actor_of (lone id o v.turns) id).place (omega arith) in omega arith);
+        shares = same (λ q. q.shares) (omega arith) ∙ S.shares;
+        own = cases (λ j q. IsOwn j w (lone j o q.turns)) (S.own id v here) (S.own other u there₂) S.own;
+        fresh = λ a l. S.fresh a (omega arith);
+        spent = cases (λ j q. q.shares ≡ 0 → IsSpent o j q) (λ z. absurd (omega arith))
+            (λ z. record { receipts = refl; done = done; bare = bare }) S.spent;
+        joined = cases (λ j q. All (IsJoined new) q.joined)
+            (All-append (IsJoined new) v.joined ((other, u.turns) ∷ u.joined) (kept id v here)
+            (All-cons (IsJoined new) (other, u.turns) u.joined (y, at_set_same mid other u y there₁, refl, refl) (kept other u there₂)))
+            (All-nil (IsJoined new)) kept;
+        receipts = λ h. same (λ q. total h q.receipts) (let p = total_append h v.receipts u.receipts in omega arith) ∙ S.receipts h;
       }
 
   -- a seat with all shares leaves none to the others
@@ -179,9 +186,12 @@ module _ {V : Type 0} where
 
   pub shows_world : (o : World V) (id : ℕ) (v : View V) (s : State (Slot V) (View V)) → Rule o s → IsOpening o
       → get_elem? s.views id ≡ some v → v.shares ≡ SHARES → ((k : ℕ) → is_actor id ((lone id o v.turns).boosted.gates k) ≡ false)
-      → ShowsWorld o v s.words s.homes
+      → ShowsWorld o id v s.words s.homes
   shows_world o id v s rule start here all bare = record {
     events = rule.events;
+    own = rule.shows.own id v here;
+    joined = λ i d lt. (let q = rule.shows.joined id v here i d lt in let a = (get_or v.joined i d).0 in
+        subst (λ (is : List (Turn V)). IsOwn a (run o rule.events) (lone a o is)) q.3 (rule.shows.own a q.0 q.1));
     records = all_records o id v s rule here all;
     clock = rule.shows.table.cells ClockCell tt;
     known = rule.shows.clocks id v here;
@@ -273,6 +283,11 @@ module _ {V : Type 0} where
             | suc i ↦
                 (λ q. absurd (some-ne-none v (sym q)))
           ] e;
+      joined = λ j v e. elim j as (λ k. get_elem? (first ∷ []) k ≡ some v → All (IsJoined (first ∷ [])) v.joined) [
+        | zero ↦ (λ q. subst (λ (z : View V). All (IsJoined (first ∷ [])) z.joined) (some-injective first v q)
+            (All-nil (IsJoined (first ∷ []))))
+        | suc i ↦ (λ q. absurd (some-ne-none v (sym q)))
+      ] e;
       receipts = λ h. ap (total h) (sym no_records);
     };
   }

@@ -9,9 +9,9 @@ use Rattle.std.proofs.Common.{length-set, get_or-set_other, get_or-set_same, tru
 use Rattle.std.specs.Prelude.{if◌then◌else◌, ◌==◌}
 use Rattle.std.proofs.lemmas.Bool.{cond_both, cond-true, cond-false, cases_eq}
 use prog.Atomic.{either}
-use mathlib.Core.Option.{Option, none, some, some-ne-none}
+use mathlib.Core.Option.{Option, none, some}
 use lib.ListN.{get_elem?}
-use Rattle.atomic_table.specs.Table.{State, Me, Act, keeps, takes, gives, Valid, carried_after, stepped, Allows, rest as rest_of}
+use Rattle.atomic_table.specs.Table.{State, Me, Act, keeps, takes, gives, Valid, carried_after, stepped, rest as rest_of}
 use Rattle.word_machine.specs.Actor.{Actor, clock_limit}
 use Rattle.word_machine.specs.Cells.{ClockCell}
 use Rattle.word_machine.proofs.Sets.{put-same}
@@ -40,24 +40,14 @@ use Rattle.atomic_steps.proofs.Spots.{Keeps, one_spot, after_calm}
 use Rattle.atomic_steps.proofs.Turned.{try_turned, put_turned, home_turned, home_same}
 use Rattle.tx_table.specs.Layout.{address, gate_address, width}
 use Rattle.tx_table.specs.Turns.{Turn, asked_all, stage_of, spot, parts_found, editions_found, found_at, moved, ends, took, lone}
+use Rattle.tx_table.specs.Turns.{turn_events}
 use Rattle.tx_table.specs.Shown.{View, Slot, total, acting, HasHappened, IsBaseAt, OneBase, SameBases, HomeOk, Table, Shows, Rule, Told}
-use Rattle.tx_table.specs.Shown.{Took}
+use Rattle.tx_table.specs.Shown.{Steps, Took}
+use Rattle.tx_table.proofs.Numbers.{at_set_same, at_set_other}
 use Rattle.tx_table.proofs.Turned.{asked_calm, asked_alike, found_alike, records_grow}
 use Rattle.tx_table.proofs.Keeps.{asked_bases, gate_apart, base_trans, base_sym, calm_base, has_happened, keeps_base, ends_same}
 use Rattle.tx_table.proofs.Keeps.{shows_after}
-use Rattle.tx_table.proofs.Keeps.{own_all, run_append, run_own}
-
-pub at_set_same : {A : Type 0} → (l : List A) (k : ℕ) (x y : A) → get_elem? l k ≡ some x → get_elem? (set l k y) k ≡ some y
-at_set_same [] k x y e = absurd (some-ne-none x (sym e))
-at_set_same (z ∷ l) zero x y e = refl
-at_set_same (z ∷ l) (suc k) x y e = at_set_same l k x y e
-
-at_set_other : {A : Type 0} → (l : List A) (k j : ℕ) (y : A) → j ≢ k → get_elem? (set l k y) j ≡ get_elem? l j
-at_set_other [] k j y ne = refl
-at_set_other (z ∷ l) zero zero y ne = absurd (ne refl)
-at_set_other (z ∷ l) zero (suc j) y ne = refl
-at_set_other (z ∷ l) (suc k) zero y ne = refl
-at_set_other (z ∷ l) (suc k) (suc j) y ne = at_set_other l k j y (λ e. ne (ap suc e))
+use Rattle.tx_table.proofs.Keeps.{run_append, run_own}
 
 gate_ne : (k j : ℕ) → j ≢ k → Gate k ≢ Gate j
 gate_ne k j ne e = ne (let q : k ≡ j = cc in sym q)
@@ -196,7 +186,11 @@ module _ {V : Type 0} where
     out_of s rule here =
         let mine = rule.shows.own id m.0 here in asked_bases id qs (run o rule.events) (lone id o m.0.turns) mine.alike mine.out
 
-    -- a turn at a gate keeps the rule
+    -- the events that reach the world behind a turn
+    abbrev after_turn : (s : State (Slot V) (View V)) → Rule o s → World V
+    after_turn s rule = run o (rule.events ++ turn_events id qs)
+
+    -- a turn at a gate
     gate_at : (s : State (Slot V) (View V)) (rule : Rule o s) (k found new : ℕ) (b : Maybe (Base V)) (hs : List (Option (Slot V)))
         → get_elem? s.views id ≡ some m.0 → 0 < m.0.shares → k < length o.blocks
         → spot id alone ≡ Gate k
@@ -205,7 +199,7 @@ module _ {V : Type 0} where
         Alike id u after → Grows id w1 u → (is_actor id (u.boosted.gates k) ≡ true → OneBase k u after)
         → ((OneBase k w1 u) ⊎ (is_actor id (w1.boosted.gates k) ≡ true))
         → new ≡ gate_word (u.boosted.gates k) → HomeOk o.words o.blocks u k hs → ((j : ℕ) → j ≢ k → get_elem? hs j ≡ get_elem? s.homes j)
-        → Rule o record {
+        → Shows o (after_turn s rule) record {
           words = set s.words (gate_address (end_of o.words o.blocks) k) new;
           homes = hs;
           views = set s.views id
@@ -284,15 +278,12 @@ module _ {V : Type 0} where
         grown
         (omega arith)
         (λ h. records_grow h id w1 ∙ (λ j. total h (g.records j) + total h (ends_same id w1 alone al1 j))) in
-        record {
-          events = rule.events ++ own_all id qs;
-          shows = subst (λ (z : World V). Shows o z record {
-            words = set s.words (gate_address N k) new;
-            homes = hs;
-            views = set s.views id (acting m.0 i (ends id alone) m.0.clock);
-          })
-              (sym (run_append rule.events (own_all id qs) o ∙ run_own id qs w)) now;
-        }
+        subst (λ (z : World V). Shows o z record {
+          words = set s.words (gate_address N k) new;
+          homes = hs;
+          views = set s.views id (acting m.0 i (ends id alone) m.0.clock);
+        })
+        (sym (run_append rule.events (turn_events id qs) o ∙ run_own id qs w)) now
       where
         two : (a c : ℕ) (p : Maybe ℕ) → is_actor a p ≡ true → is_actor c p ≡ true → c ≢ a → ⊥
         two a c None x y ne = true≢false (sym x)
@@ -306,7 +297,7 @@ module _ {V : Type 0} where
         let after = (happens (found_at id alone (Gate k) 1 None) (Step id)).0 in
         Alike id u after → Grows id w1 u → u.boosted.gates k ≡ None → OneBase k u after → IsBaseAt o.blocks k b
         → ShowsBase o.words o.blocks after k b
-        → Rule o record {
+        → Shows o (after_turn s rule) record {
           words = set s.words (gate_address (end_of o.words o.blocks) k) 0;
           homes = set s.homes k (some (Some b));
           views = set s.views id (acting m.0 (record { asks = qs; found = 1; base = None }) (ends id alone) m.0.clock);
@@ -350,9 +341,10 @@ module _ {V : Type 0} where
         → k < length o.blocks → m.1 ≡ (k, Some b) ∷ others → Puts alone id k
         → is_actor id (alone.boosted.gates k) ≡ true → is_committing (actor_of alone id).place ≡ false → IsBaseAt o.blocks k b
         → ShowsBase o.words o.blocks (happens (found_at id alone (Gate k) 1 None) (Step id)).0 k b
-        → Allows (Rule o) slots id m (gate_address (end_of o.words o.blocks) k) (λ _. 0)
+        → Steps o slots id m qs (gate_address (end_of o.words o.blocks) k) (λ _. 0)
         (λ _ t. Told o id qs m.0.clock m 1 None t.0 × (t.1 ≡ others))
-    put_allowed slots k b others stripes live lt top puts gate calm sort shown s rule len here small =
+    put_allowed slots k b others stripes live lt top puts gate calm sort shown s es S len here small =
+        let rule : Rule o s = record { events = es; shows = S } in
         let w1 : World V = world s rule in
         let u : World V = (happens w1 (Step id)).0 in
         let planted : World V = found_at id alone (Gate k) 1 None in
@@ -380,13 +372,13 @@ module _ {V : Type 0} where
           acting m.0 (record { asks = qs; found = 1; base = None }) (ends id alone) m.0.clock,
           gives,
           tt,
-          subst (λ (c : List (ℕ × Slot V)). Rule o
+          subst (λ (c : List (ℕ × Slot V)). Shows o (after_turn s rule)
               (stepped s (gate_address (end_of o.words o.blocks) k) 0 id c
               (acting m.0 (record { asks = qs; found = 1; base = None }) (ends id alone) m.0.clock) gives)) (sym top) r,
           (
             (
               refl,
-              has_happened o id alone rule.events qs 1 None al1 (out_of s rule here)
+              has_happened o id alone es qs 1 None al1 (out_of s rule here)
                   (ap (number_at w1) (puts_spot id alone k puts) ∙ held_word id (w1.boosted.gates k) gate1)
                   (at_gate id w1 alone k 1 None (puts_spot id alone k puts) own2),
             ),
@@ -402,9 +394,10 @@ module _ {V : Type 0} where
         → k < length o.blocks → m.1 ≡ (k, Some b) ∷ others → GoesHome alone id k
         → is_actor id (alone.boosted.gates k) ≡ true → is_stored (actor_of alone id).place ≡ true → IsBaseAt o.blocks k b
         → ShowsBase o.words o.blocks (happens (found_at id alone (Gate k) 1 None) (Step id)).0 k b
-        → Allows (Rule o) slots id m (gate_address (end_of o.words o.blocks) k) (λ _. 0)
+        → Steps o slots id m qs (gate_address (end_of o.words o.blocks) k) (λ _. 0)
         (λ _ t. Told o id qs m.0.clock m 1 None t.0 × (t.1 ≡ others))
-    home_allowed slots k b others stripes live lt top goes gate stored sort shown s rule len here small =
+    home_allowed slots k b others stripes live lt top goes gate stored sort shown s es S len here small =
+        let rule : Rule o s = record { events = es; shows = S } in
         let w1 : World V = world s rule in
         let u : World V = (happens w1 (Step id)).0 in
         let planted : World V = found_at id alone (Gate k) 1 None in
@@ -431,13 +424,13 @@ module _ {V : Type 0} where
           acting m.0 (record { asks = qs; found = 1; base = None }) (ends id alone) m.0.clock,
           gives,
           tt,
-          subst (λ (c : List (ℕ × Slot V)). Rule o
+          subst (λ (c : List (ℕ × Slot V)). Shows o (after_turn s rule)
               (stepped s (gate_address (end_of o.words o.blocks) k) 0 id c
               (acting m.0 (record { asks = qs; found = 1; base = None }) (ends id alone) m.0.clock) gives)) (sym top) r,
           (
             (
               refl,
-              has_happened o id alone rule.events qs 1 None al1 (out_of s rule here)
+              has_happened o id alone es qs 1 None al1 (out_of s rule here)
                   (ap (number_at w1) (home_spot id alone k goes) ∙ held_word id (w1.boosted.gates k) gate1)
                   (at_gate id w1 alone k 1 None (home_spot id alone k goes) own2),
             ),
@@ -448,11 +441,14 @@ module _ {V : Type 0} where
     -- a gate is tried: where it was free, its base goes out
     pub take_allowed : (slots k : ℕ) → 0 < m.0.shares → k < length o.blocks → Tries alone id k → is_committing (actor_of alone id).place
         ≡ false
-        → Allows (Rule o) slots id m (gate_address (end_of o.words o.blocks) k) (λ n. either (eqb n 0) 1 n) (Took o id qs m k)
-    take_allowed slots k live lt tries calm s rule len here small = by_gate (w.boosted.gates k) refl
+        → Steps o slots id m qs (gate_address (end_of o.words o.blocks) k) (λ n. either (eqb n 0) 1 n) (Took o id qs m k)
+    take_allowed slots k live lt tries calm s es S len here small = by_gate (w.boosted.gates k) refl
       where
+        rule : Rule o s
+        rule = record { events = es; shows = S }
+
         w : World V
-        w = run o rule.events
+        w = run o es
 
         w1 : World V
         w1 = world s rule
@@ -479,7 +475,7 @@ module _ {V : Type 0} where
         P = try_turned id w1 k tries1 (ap (λ (x : Actor). is_committing x.place) al1.boosted.actor ∙ calm)
 
         is_found : found ≡ gate_word (w.boosted.gates k)
-        is_found = rule.shows.table.gates k lt
+        is_found = S.table.gates k lt
 
         planted : Maybe (Base V) → World V
         planted b = found_at id alone (Gate k) found b
@@ -503,7 +499,7 @@ module _ {V : Type 0} where
 
         told_of : (b : Maybe (Base V)) → HasHappened o id alone found b
         told_of b =
-            has_happened o id alone rule.events qs found b al1 (out_of s rule here)
+            has_happened o id alone es qs found b al1 (out_of s rule here)
             (ap (number_at w1) (tries_spot id alone k tries) ∙ (ap gate_word gates1 ∙ sym is_found))
             (at_gate id w1 alone k found b (tries_spot id alone k tries) (own2 b))
 
@@ -524,10 +520,10 @@ module _ {V : Type 0} where
 
         by_gate : (p : Maybe ℕ) → w.boosted.gates k ≡ p
             → (v : View V) × (a : Act (Slot V)) × Valid s.homes m.1 a
-            × Rule o (stepped s (gate_address N k) (either (eqb found 0) 1 found) id m.1 v a) × Took o id qs m k found
+            × Shows o (after_turn s rule) (stepped s (gate_address N k) (either (eqb found 0) 1 found) id m.1 v a) × Took o id qs m k found
             (v, carried_after m.1 a)
         by_gate None e =
-            let q = (rule.shows.table.slots k lt).0 e in
+            let q = (S.table.slots k lt).0 e in
             let b : Base V = q.0 in
             let zero_is : found ≡ 0 = is_found ∙ ap gate_word e in
             let gate_u : u.boosted.gates k ≡ Some id = P.gate ∙ cond-true {A = Maybe ℕ} (is_none (w1.boosted.gates k)) (Some id)
@@ -567,7 +563,7 @@ module _ {V : Type 0} where
             let gate_u : u.boosted.gates k ≡ w.boosted.gates k = P.gate
             ∙ (cond-false {A = Maybe ℕ} (is_none (w1.boosted.gates k)) (Some id) (w1.boosted.gates k) (ap is_none (gates1 ∙ e))
             ∙ gates1) in
-            let T = rule.shows.table.slots k lt in (
+            let T = S.table.slots k lt in (
               view_of None,
               keeps,
               tt,

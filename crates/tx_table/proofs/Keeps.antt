@@ -1,12 +1,12 @@
 -- A step on a word keeps the rule.
 --
--- A turn appends to the events what the seat's actor asked and its step. The seat's own world takes the same turn with the number found
--- (`word_own`), the other seats' worlds stand with the other actors, the table changes at one word, and the clock grows by what the seat
--- owed. `shows_after` puts these together; it serves the steps on gates as well.
+-- A turn appends to the events what the seat's actor asked and its step (`Steps`). The seat's own world takes the same turn with the number
+-- found (`word_own`), the other seats' worlds stand with the other actors, the table changes at one word, and the clock grows by what the
+-- seat owed. `shows_after` puts these together; it serves the steps on gates as well.
 use Rattle.std.proofs.Common.{◌≡◌, ◌≢◌, ◌⊎◌, ℕ, zero, suc, ◌+◌, ◌≤◌, ◌<◌, true, List, [], ◌∷◌, ◌++◌, length, get_or, set, None, inl, inr}
 use Rattle.std.proofs.Common.{⊎_elim, refl, sym, ap, ◌∙◌, subst, arith, length-set, get_or-set_other, get_or-set_same}
 use mathlib.Core.Logic.{dite}
-use mathlib.Core.Option.{Option, some}
+use mathlib.Core.Option.{Option, some, some-injective}
 use native.Mathlib.Decide.{ℕ_discrete}
 use lib.ListN.{get_elem?}
 use Rattle.atomic_table.specs.Table.{State, Me, keeps, stepped, Allows}
@@ -32,10 +32,10 @@ use Rattle.atomic_steps.proofs.Others.{others, calm_alike}
 use Rattle.atomic_steps.proofs.Spots.{Keeps, one_spot, after_calm}
 use Rattle.atomic_steps.proofs.Turned.{word_turned}
 use Rattle.tx_table.specs.Layout.{address, gate_address, IsInside, width}
-use Rattle.tx_table.specs.Turns.{Turn, own, asked_all, stage_of, spot, found_at, moved, ends, ends_of, took, lone}
+use Rattle.tx_table.specs.Turns.{Turn, own, asked_all, stage_of, spot, found_at, moved, ends, ends_of, took, lone, turn_events}
 use Rattle.tx_table.specs.Shown.{highest_clock, View, Slot, total, owed, owed_of, acting, HasHappened, OneBase, SameBases, Table, IsOwn}
-use Rattle.tx_table.specs.Shown.{Shows, Rule, Told}
-use Rattle.tx_table.proofs.Numbers.{total_set, total_append, inside, tally_set, tally_below}
+use Rattle.tx_table.specs.Shown.{IsJoined, Shows, Rule, Steps, Told}
+use Rattle.tx_table.proofs.Numbers.{total_set, total_append, inside, tally_set, tally_below, at_set_same, at_set_other}
 use Rattle.tx_table.proofs.Turned.{lone_snoc, asked_calm, asked_alike, found_alike, word_own, records_grow}
 
 pub owed_some : (k : ℕ) (p : Place) → 0 < k → owed_of k p ≡ stamps_left p
@@ -110,6 +110,20 @@ module _ {V : Type 0} where
   pub ends_same : (a : ℕ) (v w : World V) → Alike a v w → ends a v ≡ ends a w
   ends_same a v w e = ap (λ (x : Seat V). ends_of a x x.stage) e.seat
 
+  -- ---- a seat that was joined keeps its turns, whatever becomes of one that has shares
+  pub still_joined : (vs : List (View V)) (id : ℕ) (v y : View V) (p : ℕ × List (Turn V)) → get_elem? vs id ≡ some v
+      → (v.shares ≡ 0 → (y.shares ≡ 0) × (y.turns ≡ v.turns)) → IsJoined vs p → IsJoined (set vs id y) p
+  still_joined vs id v y p here stays is = dite (ℕ_discrete p.0 id)
+      (λ e.
+      let same : v ≡ is.0 = some-injective v is.0 (sym here ∙ ((λ i. get_elem? vs (sym e i)) ∙ is.1)) in
+      let k = stays (ap (λ (z : View V). z.shares) same ∙ is.2) in (
+        y,
+        (λ i. get_elem? (set vs id y) (e i)) ∙ at_set_same vs id v y here,
+        k.0,
+        k.1 ∙ (ap (λ (z : View V). z.turns) same ∙ is.3),
+      ))
+      (λ ne. (is.0, at_set_other vs id p.0 y ne ∙ is.1, is.2, is.3))
+
   -- ---- a seat has taken a turn
   pub shows_after : (o w u : World V) (s : State (Slot V) (View V)) (id : ℕ) (v : View V) (i : Turn V) (rs : List (ℕ × Record V)) (k : ℕ)
       (ws : List ℕ) (hs : List (Option (Slot V)))
@@ -168,6 +182,14 @@ module _ {V : Type 0} where
         spent = λ j z e none. ⊎_elim
             (λ (t : (j ≡ id) × (y ≡ z)). absurd (let q : v.shares ≡ z.shares = ap (λ (p : View V). p.shares) t.1 in omega arith))
             (λ (t : (j ≢ id) × (get_elem? vs j ≡ some z)). S.spent j z t.1 none) (at_set vs id j y z e);
+        joined = λ j z e i d lt.
+            (let old : (k : ℕ) (x : View V) → get_elem? vs k ≡ some x → i < length x.joined → IsJoined (set vs id y) (get_or x.joined i d) =
+            λ k x at low. still_joined vs id v y (get_or x.joined i d) here (λ none. absurd (omega arith)) (S.joined k x at i d low) in
+            ⊎_elim
+            (λ (t : (j ≡ id) × (y ≡ z)). let q : y.joined ≡ z.joined = ap (λ (x : View V). x.joined) t.1 in
+            subst (λ (ps : List (ℕ × List (Turn V))). IsJoined (set vs id y) (get_or ps i d)) q
+            (old id v here (let c = ap (λ (ps : List (ℕ × List (Turn V))). length ps) q in omega arith)))
+            (λ (t : (j ≢ id) × (get_elem? vs j ≡ some z)). old j z t.1 lt) (at_set vs id j y z e));
         receipts = λ h. (let t = total_set (λ (x : View V). total h x.receipts) vs id v y here in
             let g = total_append h v.receipts rs in
             let a = S.receipts h in
@@ -178,11 +200,7 @@ module _ {V : Type 0} where
   run_append [] fs w = refl
   run_append (e ∷ es) fs w = run_append es fs (happens w e).0
 
-  abbrev pub own_all : ℕ → List (Event V) → List (Event V)
-  own_all a [] = Step a ∷ []
-  own_all a (e ∷ es) = own a e ∷ own_all a es
-
-  pub run_own : (a : ℕ) (es : List (Event V)) (w : World V) → run w (own_all a es) ≡ (happens (asked_all a w es) (Step a)).0
+  pub run_own : (a : ℕ) (es : List (Event V)) (w : World V) → run w (turn_events a es) ≡ (happens (asked_all a w es) (Step a)).0
   run_own a [] w = refl
   run_own a (e ∷ es) w = run_own a es (happens w (own a e)).0
 
@@ -236,6 +254,13 @@ module _ {V : Type 0} where
         ));
       }
 
+  -- a step that appends to the events keeps the rule
+  pub keeps_rule : (o : World V) (slots id : ℕ) (m : Me (Slot V) (View V)) (qs : List (Event V)) (i : ℕ) (f : ℕ → ℕ)
+      (tells : ℕ → Me (Slot V) (View V) → Type 0) → Steps o slots id m qs i f tells → Allows (Rule o) slots id m i f tells
+  keeps_rule o slots id m qs i f tells may s rule len here small =
+      let r = may s rule.events rule.shows len here small in
+      (r.0, r.1, r.2, record { events = rule.events ++ turn_events id qs; shows = r.3 }, r.4)
+
   module _ (o : World V) (slots id : ℕ) (m : Me (Slot V) (View V)) (qs : List (Event V)) where
     abbrev alone : World V
     alone = asked_all id (lone id o m.0.turns) qs
@@ -247,12 +272,12 @@ module _ {V : Type 0} where
         → ((s : State (Slot V) (View V)) (rule : Rule o s) (u : World V) → let w = run o rule.events in
         m.0.clock ≤ w.boosted.words.clock → w.boosted.words.clock ≤ u.boosted.words.clock
         → f (cell w.boosted.words c) ≡ cell u.boosted.words c → kf (cell w.boosted.words c) ≤ u.boosted.words.clock)
-        → Allows (Rule o) slots id m (address (end_of o.words o.blocks) c) f
+        → Steps o slots id m qs (address (end_of o.words o.blocks) c) f
         (λ found t. Told o id qs (kf found) m found None t.0 × (t.1 ≡ m.1))
-    word_at c f kf live touches inner is knows s rule len here small =
-        let S = rule.shows in
+    word_at c f kf live touches inner is knows s es S len here small =
+        let rule : Rule o s = record { events = es; shows = S } in
         let N = end_of o.words o.blocks in
-        let w : World V = run o rule.events in
+        let w : World V = run o es in
         let w1 : World V = asked_all id w qs in
         let u : World V = (happens w1 (Step id)).0 in
         let l : World V = lone id o m.0.turns in
@@ -319,15 +344,12 @@ module _ {V : Type 0} where
           v,
           keeps,
           tt,
-          record {
-            events = rule.events ++ own_all id qs;
-            shows = subst (λ (k : World V). Shows o k (stepped s (address N c) (f found) id m.1 v keeps))
-                (sym (run_append rule.events (own_all id qs) o ∙ run_own id qs w)) now;
-          },
+          subst (λ (k : World V). Shows o k (stepped s (address N c) (f found) id m.1 v keeps))
+              (sym (run_append es (turn_events id qs) o ∙ run_own id qs w)) now,
           (
             (
               refl,
-              has_happened o id alone rule.events qs found None al1 (asked_bases id qs w l mine.alike mine.out)
+              has_happened o id alone es qs found None al1 (asked_bases id qs w l mine.alike mine.out)
                   (ap (number_at w1) touches ∙ sym found1)
                   (subst (λ (z : Spot × ℕ). SameAfter id (happens w1 (Step id)) (happens (found_at id alone z.0 z.1 None) (Step id)))
                   (λ j. (sym touches j, sym found1 j)) own2),
@@ -339,7 +361,7 @@ module _ {V : Type 0} where
     -- a step on a word that becomes what the machine says
     pub word_allowed : (c : Cell) (f : ℕ → ℕ) → 0 < m.0.shares → spot id alone ≡ Word c → IsInside (end_of o.words o.blocks) c
         → ((k : ℕ) → becomes (deed_of (ready_at id alone (stage_of alone id)) id) k ≡ f k)
-        → Allows (Rule o) slots id m (address (end_of o.words o.blocks) c) f
+        → Steps o slots id m qs (address (end_of o.words o.blocks) c) f
         (λ found t. Told o id qs m.0.clock m found None t.0 × (t.1 ≡ m.1))
     word_allowed c f live touches inner is = word_at c f (λ _. m.0.clock) live touches inner
         (λ s rule. is (get_or s.words (address (end_of o.words o.blocks) c) 0)) (λ s rule u k rises new. omega arith)
@@ -348,17 +370,17 @@ module _ {V : Type 0} where
     pub clock_allowed : (f kf : ℕ → ℕ) → 0 < m.0.shares → spot id alone ≡ Word ClockCell
         → ((k : ℕ) → k ≤ highest_clock → becomes (deed_of (ready_at id alone (stage_of alone id)) id) k ≡ f k)
         → ((k : ℕ) → k ≤ highest_clock → kf k ≡ f k)
-        → Allows (Rule o) slots id m 0 f
+        → Steps o slots id m qs 0 f
         (λ found t. Told o id qs (kf found) m found None t.0 × (t.1 ≡ m.1) × (m.0.clock ≤ found) × (found ≤ highest_clock))
-    clock_allowed f kf live touches is leaves s rule len here small =
-        let room = rule.shows.room in
-        let word_is : get_or s.words 0 0 ≡ (run o rule.events).boosted.words.clock = rule.shows.table.cells ClockCell tt in
+    clock_allowed f kf live touches is leaves s es S len here small =
+        let room = S.room in
+        let word_is : get_or s.words 0 0 ≡ (run o es).boosted.words.clock = S.table.cells ClockCell tt in
         let r = word_at ClockCell f kf live touches tt
         (λ t other. let a = other.shows.room in let b : get_or t.words 0 0
         ≡ (run o other.events).boosted.words.clock = other.shows.table.cells ClockCell tt in is (get_or t.words 0 0) (omega arith))
         (λ t other u k rises new. let a = other.shows.room in
         let w : World V = run o other.events in
         let b : kf w.boosted.words.clock ≡ f w.boosted.words.clock = leaves w.boosted.words.clock (omega arith) in
-        let c : f w.boosted.words.clock ≡ u.boosted.words.clock = new in omega arith) s rule len here small in
-        let c = rule.shows.clocks id m.0 here in
+        let c : f w.boosted.words.clock ≡ u.boosted.words.clock = new in omega arith) s es S len here small in
+        let c = S.clocks id m.0 here in
         (r.0, r.1, r.2, r.3, (r.4.0, r.4.1, omega arith, omega arith))

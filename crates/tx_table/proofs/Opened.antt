@@ -6,7 +6,7 @@ use Rattle.std.proofs.Common.{◌≡◌, ℕ, ◌<◌, eqb, List, ◌∷◌, ◌
 use prog.Atomic.{either}
 use mathlib.Core.Option.{some}
 use lib.ListN.{get_elem?}
-use Rattle.atomic_table.specs.Table.{State, Me, Allows}
+use Rattle.atomic_table.specs.Table.{State, Me}
 use Rattle.seq_model.specs.declared.held.Held.{Held}
 use Rattle.seq_model.specs.declared.event.Event.{Event}
 use Rattle.seq_model.specs.declared.event.Event.TheVariants.{Step}
@@ -24,7 +24,7 @@ use Rattle.atomic_steps.proofs.Bases.{goes_home}
 use Rattle.atomic_steps.proofs.Guards as guards
 use Rattle.tx_table.specs.Layout.{gate_address}
 use Rattle.tx_table.specs.Turns.{asked_all, found_at, lone}
-use Rattle.tx_table.specs.Shown.{View, Slot, IsBaseAt, Rule, Told, Took}
+use Rattle.tx_table.specs.Shown.{View, Slot, IsBaseAt, Rule, Steps, Told, Took}
 use Rattle.tx_table.proofs.Turned.{found_alike}
 use Rattle.tx_table.proofs.Keeps.{asked_events, run_append, run_asked}
 use Rattle.tx_table.proofs.Gates.{alike_of, shape_of, none_base, take_allowed, put_allowed, home_allowed}
@@ -49,29 +49,32 @@ module _ {V : Type 0} where
         (alike_of o id m qs s rule here)
 
     pub take : (k : ℕ) → 0 < m.0.shares → k < length blocks → Tries alone id k
-        → Allows (Rule o) slots id m (gate_address (end_of o.words blocks) k) (λ n. either (eqb n 0) 1 n) (Took o id qs m k)
-    take k live lt tries s rule len here small =
+        → Steps o slots id m qs (gate_address (end_of o.words blocks) k) (λ n. either (eqb n 0) 1 n) (Took o id qs m k)
+    take k live lt tries s es S len here small =
+        let rule : Rule o s = record { events = es; shows = S } in
         take_allowed o id m qs slots k live lt tries
         (guards.try_allowed blocks clock values held (events_of s rule) id k alone stripes
-        (reached s rule here) tries) s rule len here small
+        (reached s rule here) tries) s es S len here small
 
     pub put : (k : ℕ) (b : Base V) (others : List (ℕ × Slot V)) → 0 < m.0.shares → k < length blocks → m.1 ≡ (k, Some b) ∷ others
         → Puts alone id k
         → IsBaseAt blocks k b → ShowsBase o.words blocks (happens (found_at id alone (Gate k) 1 None) (Step id)).0 k b
-        → Allows (Rule o) slots id m (gate_address (end_of o.words blocks) k) (λ _. 0)
+        → Steps o slots id m qs (gate_address (end_of o.words blocks) k) (λ _. 0)
         (λ _ t. Told o id qs m.0.clock m 1 None t.0 × (t.1 ≡ others))
-    put k b others live lt top puts sort shown s rule len here small =
+    put k b others live lt top puts sort shown s es S len here small =
+        let rule : Rule o s = record { events = es; shows = S } in
         let h = guards.put_allowed blocks clock values held (events_of s rule) id k alone stripes (reached s rule here) puts in
-        put_allowed o id m qs slots k b others stripes live lt top puts h.0 h.1 sort shown s rule len here small
+        put_allowed o id m qs slots k b others stripes live lt top puts h.0 h.1 sort shown s es S len here small
 
     pub home : (k : ℕ) (block : Block) (before now : Base V) (others : List (ℕ × Slot V)) → 0 < m.0.shares → k < length blocks
         → m.1 ≡ (k, Some now) ∷ others → GoesHome alone id k → block_of blocks k ≡ Some block → IsBaseOf block before
         → ShowsBase o.words blocks alone k before
         → IsFolded (log_changes k block (alone.boosted.shadows id).outcomes)
         (log_locations k block (alone.boosted.shadows id).outcomes) before now
-        → Allows (Rule o) slots id m (gate_address (end_of o.words blocks) k) (λ _. 0)
+        → Steps o slots id m qs (gate_address (end_of o.words blocks) k) (λ _. 0)
         (λ _ t. Told o id qs m.0.clock m 1 None t.0 × (t.1 ≡ others))
-    home k block before now others live lt top goes is sort shown folded s rule len here small =
+    home k block before now others live lt top goes is sort shown folded s es S len here small =
+        let rule : Rule o s = record { events = es; shows = S } in
         let events = events_of s rule in
         let al = reached s rule here in
         let planted : World V = found_at id alone (Gate k) 1 None in
@@ -96,4 +99,4 @@ module _ {V : Type 0} where
         subst (λ (n : ℕ). ShowsBase n blocks (happens planted (Step id)).0 k now) (sym n_is)
         (subst (λ (bs : List Block). ShowsBase planted.words bs (happens planted (Step id)).0 k now) (sym b_is) gone.1) in
         let sort_now : IsBaseAt blocks k now = λ c e. subst (λ (b : Block). IsBaseOf b now) (same_block block c (sym is ∙ e)) gone.0 in
-        home_allowed o id m qs slots k now others stripes live lt top goes h.0 h.1 sort_now back s rule len here small
+        home_allowed o id m qs slots k now others stripes live lt top goes h.0 h.1 sort_now back s es S len here small

@@ -16,12 +16,13 @@ use Rattle.replay_log.specs.Worlds.{run}
 use Rattle.replay_log.specs.WorldSerial.{AreUpTo}
 use Rattle.tx_table.specs.declared.view.Opening.{Opening}
 use Rattle.tx_table.specs.Opening.{Holds, blocks_at, locations_at, words_at, world_at}
-use Rattle.tx_table.specs.Turns.{lone}
-use Rattle.tx_table.specs.Shown.{highest_clock, View, Slot, Closes, ShowsWorld, IsOwn, IsSpent, Shows}
+use Rattle.tx_table.specs.Turns.{Turn, lone}
+use Rattle.tx_table.specs.Shown.{highest_clock, View, Slot, Closes, ShowsWorld, IsJoined, IsOwn, IsSpent, Shows}
 use Rattle.tx_table.specs.Shown.{total, owed, looking, left_of, right_of, both_of}
 use Rattle.tx_table.specs.Shown.{spent_of}
 use Rattle.tx_table.specs.Seated.{Rests}
 use Rattle.tx_table.proofs.Numbers.{map_at, tally_set, total_set, total_part, inside}
+use Rattle.tx_table.proofs.Keeps.{still_joined}
 use Rattle.tx_table.proofs.Ends.{splits, joins, opening_is, shows_world, world_closes}
 use Rattle.tx_table.proofs.Left.{same_home}
 
@@ -42,8 +43,11 @@ module _ {V : Type 0} where
   cuts key id k v more fewer s h here = record {
     stripes = h.stripes;
     suits = h.suits;
-    rule = splits (world_at key) id k v (opening_is (blocks_at key) key.shape.value.clock key.state.value.words key.state.value.held) more
-        fewer s h.rule here;
+    rule = record {
+      events = h.rule.events;
+      shows = splits (world_at key) (run (world_at key) h.rule.events) id k v
+          (opening_is (blocks_at key) key.shape.value.clock key.state.value.words key.state.value.held) more fewer s h.rule.shows here;
+    };
   }
 
   pub merges : (key : Opening V) (id other : ℕ) (v u : View V) → 0 < v.shares → 0 < u.shares
@@ -52,7 +56,11 @@ module _ {V : Type 0} where
   merges key id other v u live alive rests s h here apart there = record {
     stripes = h.stripes;
     suits = h.suits;
-    rule = joins (world_at key) id other v u live alive rests.0 rests.1 s h.rule here apart there;
+    rule = record {
+      events = h.rule.events;
+      shows = joins (world_at key) (run (world_at key) h.rule.events) id other v u live alive rests.0 rests.1 s h.rule.shows here apart
+          there;
+    };
   }
 
   -- a load that is no step of the actor: there are `SHARES` shares
@@ -71,14 +79,11 @@ module _ {V : Type 0} where
         (refl, omega arith),
       )
 
-  -- a load of the clock that is no step of the actor: the seat knows the clock from then on
-  pub looks : (key : Opening V) (slots id : ℕ) (m : Me (Slot V) (View V))
-      → Allows (Holds key) slots id m 0 (λ k. k)
+  -- a load of the clock that is no step of the actor: the world stands, and the seat knows the clock from then on
+  pub looks_on : (o w : World V) (slots id : ℕ) (m : Me (Slot V) (View V))
+      → Allows (Shows o w) slots id m 0 (λ k. k)
       (λ found t. (t ≡ (looking m.0 found, m.1)) × (m.0.clock ≤ found) × (found ≤ highest_clock))
-  looks key slots id m s h len here small =
-      let S = h.rule.shows in
-      let o : World V = world_at key in
-      let w : World V = run o h.rule.events in
+  looks_on o w slots id m s S len here small =
       let vs : List (View V) = s.views in
       let found : ℕ = get_or s.words 0 0 in
       let word : found ≡ w.boosted.words.clock = S.table.cells ClockCell tt in
@@ -89,36 +94,50 @@ module _ {V : Type 0} where
         v,
         keeps,
         tt,
-        record {
-          stripes = h.stripes;
-          suits = h.suits;
-          rule = record {
-            events = h.rule.events;
-            shows = subst (λ (ws : List ℕ). Shows o w record { words = ws; homes = s.homes; views = set vs id v }) (sym same) record {
-              shape = S.shape;
-              table = S.table;
-              clocks = λ j z e. ⊎_elim
-                  (λ (t : (j ≡ id) × (v ≡ z)). let q : found ≡ z.clock = ap (λ (p : View V). p.clock) t.1 in omega arith)
-                  (λ (t : (j ≢ id) × (get_elem? vs j ≡ some z)). S.clocks j z t.1) (at_set vs id j v z e);
-              room = (let t = tally_set (owed o) 0 vs id m.0 v here in
-                  let q : owed o (0 + id) v ≡ owed o (0 + id) m.0 = refl in omega arith);
-              shares = (let t = total_set (λ (z : View V). z.shares) vs id m.0 v here in let a = S.shares in omega arith);
-              own = λ j z e. ⊎_elim
-                  (λ (t : (j ≡ id) × (v ≡ z)). subst (λ (p : ℕ × View V). IsOwn p.0 w (lone p.0 o p.1.turns)) (λ i. (sym t.0 i, t.1 i))
-                  (S.own id m.0 here))
-                  (λ (t : (j ≢ id) × (get_elem? vs j ≡ some z)). S.own j z t.1) (at_set vs id j v z e);
-              fresh = λ a l. (let len = length-set vs id v in S.fresh a (omega arith));
-              spent = λ j z e none. ⊎_elim
-                  (λ (t : (j ≡ id) × (v ≡ z)). let q = S.spent id m.0 here (ap (λ (p : View V). p.shares) t.1 ∙ none) in
-                  subst (λ (p : ℕ × View V). IsSpent o p.0 p.1) (λ i. (sym t.0 i, t.1 i))
-                  (record { receipts = q.receipts; done = q.done; bare = q.bare }))
-                  (λ (t : (j ≢ id) × (get_elem? vs j ≡ some z)). S.spent j z t.1 none) (at_set vs id j v z e);
-              receipts = λ f. (let t = total_set (λ (z : View V). total f z.receipts) vs id m.0 v here in
-                  let a = S.receipts f in omega arith);
-            };
-          };
+        subst (λ (ws : List ℕ). Shows o w record { words = ws; homes = s.homes; views = set vs id v }) (sym same) record {
+          shape = S.shape;
+          table = S.table;
+          clocks = λ j z e. ⊎_elim
+              (λ (t : (j ≡ id) × (v ≡ z)). let q : found ≡ z.clock = ap (λ (p : View V). p.clock) t.1 in omega arith)
+              (λ (t : (j ≢ id) × (get_elem? vs j ≡ some z)). S.clocks j z t.1) (at_set vs id j v z e);
+          room = (let t = tally_set (owed o) 0 vs id m.0 v here in
+              let q : owed o (0 + id) v ≡ owed o (0 + id) m.0 = refl in omega arith);
+          shares = (let t = total_set (λ (z : View V). z.shares) vs id m.0 v here in let a = S.shares in omega arith);
+          own = λ j z e. ⊎_elim
+              (λ (t : (j ≡ id) × (v ≡ z)). subst (λ (p : ℕ × View V). IsOwn p.0 w (lone p.0 o p.1.turns)) (λ i. (sym t.0 i, t.1 i))
+              (S.own id m.0 here))
+              (λ (t : (j ≢ id) × (get_elem? vs j ≡ some z)). S.own j z t.1) (at_set vs id j v z e);
+          fresh = λ a l. (let len = length-set vs id v in S.fresh a (omega arith));
+          spent = λ j z e none. ⊎_elim
+              (λ (t : (j ≡ id) × (v ≡ z)). let q = S.spent id m.0 here (ap (λ (p : View V). p.shares) t.1 ∙ none) in
+              subst (λ (p : ℕ × View V). IsSpent o p.0 p.1) (λ i. (sym t.0 i, t.1 i))
+              (record { receipts = q.receipts; done = q.done; bare = q.bare }))
+              (λ (t : (j ≢ id) × (get_elem? vs j ≡ some z)). S.spent j z t.1 none) (at_set vs id j v z e);
+          joined = λ j z e i d lt.
+              (let old : (k : ℕ) (x : View V) → get_elem? vs k ≡ some x → i < length x.joined
+              → IsJoined (set vs id v) (get_or x.joined i d) =
+              λ k x at low. still_joined vs id m.0 v (get_or x.joined i d) here (λ none. (none, refl)) (S.joined k x at i d low) in
+              ⊎_elim
+              (λ (t : (j ≡ id) × (v ≡ z)). let q : v.joined ≡ z.joined = ap (λ (x : View V). x.joined) t.1 in
+              subst (λ (ps : List (ℕ × List (Turn V))). IsJoined (set vs id v) (get_or ps i d)) q
+              (old id m.0 here (let c = ap (λ (ps : List (ℕ × List (Turn V))). length ps) q in omega arith)))
+              (λ (t : (j ≢ id) × (get_elem? vs j ≡ some z)). old j z t.1 lt) (at_set vs id j v z e));
+          receipts = λ f. (let t = total_set (λ (z : View V). total f z.receipts) vs id m.0 v here in
+              let a = S.receipts f in omega arith);
         },
         (refl, omega arith, omega arith),
+      )
+
+  pub looks : (key : Opening V) (slots id : ℕ) (m : Me (Slot V) (View V))
+      → Allows (Holds key) slots id m 0 (λ k. k)
+      (λ found t. (t ≡ (looking m.0 found, m.1)) × (m.0.clock ≤ found) × (found ≤ highest_clock))
+  looks key slots id m s h len here small =
+      let r = looks_on (world_at key) (run (world_at key) h.rule.events) slots id m s h.rule.shows len here small in (
+        r.0,
+        r.1,
+        r.2,
+        record { stripes = h.stripes; suits = h.suits; rule = record { events = h.rule.events; shows = r.3 } },
+        r.4,
       )
 
   pub closes_all : (key : Opening V) (id : ℕ) (v : View V) (ws : List ℕ) (xs : List (Slot V)) → v.shares ≡ SHARES
@@ -152,13 +171,16 @@ module _ {V : Type 0} where
       }
 
   pub shows_last : (key : Opening V) (id : ℕ) (v : View V) (ws : List ℕ) (xs : List (Slot V)) → v.shares ≡ SHARES
-      → Rests id (lone id (world_at key) v.turns) → Final (Seen (Holds key) id v) ws xs → ShowsWorld (world_at key) v ws (map some xs)
+      → Rests id (lone id (world_at key) v.turns) → Final (Seen (Holds key) id v) ws xs
+      → ShowsWorld (world_at key) id v ws (map some xs)
   shows_last key id v ws xs all rests last =
       let s = last.0 in
       let shown = shows_world (world_at key) id v s last.1.0.rule
       (opening_is (blocks_at key) key.shape.value.clock key.state.value.words key.state.value.held) last.1.1 all rests.1 in
       record {
         events = shown.events;
+        own = shown.own;
+        joined = shown.joined;
         records = shown.records;
         clock = ap (λ (w : List ℕ). get_or w 0 0) (sym last.2) ∙ shown.clock;
         known = shown.known;

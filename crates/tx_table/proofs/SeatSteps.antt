@@ -20,11 +20,11 @@ use Rattle.tx_table.specs.Layout.{address, gate_address, IsInside}
 use Rattle.tx_table.specs.declared.view.Opening.{Opening}
 use Rattle.tx_table.specs.Opening.{Holds, blocks_at, locations_at, world_at}
 use Rattle.tx_table.specs.Turns.{Turn, asked_all, lone, spot, moved, ends}
-use Rattle.tx_table.specs.Shown.{highest_clock, View, Slot, HasHappened, IsBaseAt, IsReached, Rule, Told, Took, Went, acting}
+use Rattle.tx_table.specs.Shown.{highest_clock, View, Slot, HasHappened, IsBaseAt, IsReached, Steps, Told, Took, Went, acting}
 use Rattle.tx_table.specs.Seated.{Adds, Exchanges, IsHome, IsSameSeat, Loads, Stores, Takes, acts, list_of, out, turned, view}
 use Rattle.tx_table.proofs.Turned.{lone_snoc}
-use Rattle.tx_table.proofs.Gates.{at_set_same}
-use Rattle.tx_table.proofs.Keeps.{word_allowed, clock_allowed}
+use Rattle.tx_table.proofs.Numbers.{at_set_same}
+use Rattle.tx_table.proofs.Keeps.{keeps_rule, word_allowed, clock_allowed}
 use Rattle.tx_table.proofs.Opened as gates
 
 -- the slot in front
@@ -83,10 +83,10 @@ module _ {V : Type 0} where
 
   -- a step that keeps the rule of the world keeps that of the table; some events lead to where it leaves the seat
   lifted : (key : Opening V) (slots id : ℕ) (m : Me (Slot V) (View V)) (i : ℕ) (f : ℕ → ℕ) (tells : ℕ → Me (Slot V) (View V) → Type 0)
-      → (HaveStripes (blocks_at key) → Allows (Rule (world_at key)) slots id m i f tells)
+      → (asks : List (Event V)) → (HaveStripes (blocks_at key) → Steps (world_at key) slots id m asks i f tells)
       → Allows (Holds key) slots id m i f (λ k t. tells k t × Went (world_at key) id t)
-  lifted key slots id m i f tells may s h len here small =
-      let r = may h.stripes s h.rule len here small in
+  lifted key slots id m i f tells asks may s h len here small =
+      let r = keeps_rule (world_at key) slots id m asks i f tells (may h.stripes) s h.rule len here small in
       let own = r.3.shows.own id r.0 (at_set_same s.views id m.0 r.0 here) in
       let mine = own.alike in (
         r.0,
@@ -135,7 +135,7 @@ module _ {V : Type 0} where
         (sym place)
         (weaker (Holds key) slots id m (address (end_of o.words o.blocks) c) f (λ k t. tells k t × Went o id t) Turned
         (λ k t told. (told.0.0, told.0.1, told.1))
-        (lifted key slots id m (address (end_of o.words o.blocks) c) f tells
+        (lifted key slots id m (address (end_of o.words o.blocks) c) f tells asks
         (λ stripes. word_allowed o slots id m asks c f live there.0 inner there.1)))
 
     pub loads : (c : Cell) (i : ℕ) → Loads id mine c → IsInside (end_of o.words o.blocks) c → i ≡ address (end_of o.words o.blocks) c
@@ -177,7 +177,7 @@ module _ {V : Type 0} where
         Told o id asks (left found) m found None t.0 × (t.1 ≡ m.1) × (m.0.clock ≤ found) × (found ≤ highest_clock) in
         weaker (Holds key) slots id m 0 f (λ k t. tells k t × Went o id t) (Clocked left)
         (λ k t told. (told.0.0, told.0.1, told.0.2, told.0.3, told.1))
-        (lifted key slots id m 0 f tells (λ stripes. clock_allowed o slots id m asks f left live there.0 there.1 leaves))
+        (lifted key slots id m 0 f tells asks (λ stripes. clock_allowed o slots id m asks f left live there.0 there.1 leaves))
 
     pub loads_clock : Loads id mine ClockCell → Allows (Holds key) slots id m 0 (λ k. k) (Clocked (λ k. k))
     loads_clock due = clocked (λ k. k) (λ k. k) due.0 (λ k low. due.1 k) (λ k low. refl)
@@ -249,7 +249,7 @@ module _ {V : Type 0} where
         (λ found t. Took start id asks m k found t × Went start id t)
     tries due = subst (λ (j : ℕ). Allows (Holds key) slots id m j (λ n. either (eqb n 0) 1 n)
         (λ found t. Took start id asks m k found t × Went start id t)) (sym place)
-        (lifted key slots id m (gate_address (locations_at key) k) (λ n. either (eqb n 0) 1 n) (Took start id asks m k)
+        (lifted key slots id m (gate_address (locations_at key) k) (λ n. either (eqb n 0) 1 n) (Took start id asks m k) asks
         (λ stripes. gates.take (blocks_at key) key.shape.value.clock key.state.value.words key.state.value.held stripes slots id m asks k
         live
         low (subst (λ (q : List (Event V)). Tries (alone q) id k) (sym are) due)))
@@ -262,7 +262,7 @@ module _ {V : Type 0} where
         (λ _ t. (Told start id asks m.0.clock m 1 None t.0 × (t.1 ≡ rest m.1)) × Went start id t)
         (λ _ t. Told start id asks m.0.clock m 1 None t.0 × (t.1 ≡ rest m.1) × Went start id t) (λ _ t told. (told.0.0, told.0.1, told.1))
         (lifted key slots id m (gate_address (locations_at key) k) (λ _. 0)
-        (λ _ t. Told start id asks m.0.clock m 1 None t.0 × (t.1 ≡ rest m.1))
+        (λ _ t. Told start id asks m.0.clock m 1 None t.0 × (t.1 ≡ rest m.1)) asks
         (λ stripes. ⊎_elim
         (λ p. gates.put (blocks_at key) key.shape.value.clock key.state.value.words key.state.value.held stripes slots id m asks k b
         (rest m.1) live low top p.0 p.1 p.2)

@@ -2,11 +2,11 @@
 --
 -- A gate and the base of its collection go together: the base lies in its slot while the gate is free, and is out with the seat that has
 -- the gate. Each seat's actor knows the world in which it is alone with what it found.
-use Rattle.std.specs.Prelude.{◌≡◌, ◌⊎◌, ℕ, zero, suc, ◌+◌, ◌-◌, ◌<◌, ◌≤◌, true, false, max, All, List, [], ◌∷◌, ◌++◌, drop, map, take}
-use Rattle.std.specs.Prelude.{length, get_or, slice_get, Option as Maybe, Some, None}
+use Rattle.std.specs.Prelude.{◌≡◌, ◌⊎◌, ℕ, zero, suc, ◌+◌, ◌-◌, ◌^◌, ◌<◌, ◌≤◌, true, false, max, All, List, [], ◌∷◌, ◌++◌, drop, map}
+use Rattle.std.specs.Prelude.{take, length, get_or, slice_get, Option as Maybe, Some, None}
 use mathlib.Core.Option.{Option, none, some}
 use lib.ListN.{get_elem?}
-use Rattle.atomic_table.specs.Table.{State, Me}
+use Rattle.atomic_table.specs.Table.{Act, Me, State, Valid, carried_after, stepped}
 use Rattle.word_machine.specs.Actor.{Place, clock_limit}
 use Rattle.word_machine.specs.Cells.{Cell, cell}
 use Rattle.seq_model.specs.declared.limits.TheConstants.{ACTOR_LIMIT}
@@ -32,7 +32,7 @@ use Rattle.atomic_steps.specs.Machine.{SameBase}
 use Rattle.atomic_steps.specs.Own.{Alike, SameAfter}
 use Rattle.atomic_steps.specs.Spots.{gate_word, number_at}
 use Rattle.tx_table.specs.Layout.{address, gate_address, IsInside, width}
-use Rattle.tx_table.specs.Turns.{Turn, asked_all, lone, moved, ends, spot, stage_of}
+use Rattle.tx_table.specs.Turns.{Turn, asked_all, lone, moved, ends, spot, stage_of, turn_events}
 use Rattle.tx_table.specs.declared.view.TheConstants.{SHARES}
 pub use Rattle.tx_table.specs.declared.view.View.{View}
 
@@ -109,7 +109,12 @@ module _ {V : Type 0} where
     pub done : is_half_done (stage_of (lone j o v.turns) j) ≡ false
     pub bare : (k : ℕ) → is_actor j ((lone j o v.turns).boosted.gates k) ≡ false
 
-  -- the table, opened with o, shows w in s: its words, gates and bases, each actor as its seat's own world has it, and all records
+  -- the seat of this actor was joined into another once it had taken these turns
+  abbrev pub IsJoined : List (View V) → ℕ × List (Turn V) → Type 0
+  IsJoined views p = (u : View V) × (get_elem? views p.0 ≡ some u) × (u.shares ≡ 0) × (u.turns ≡ p.1)
+
+  -- The table, opened with o, shows w in s: its words, gates and bases, each actor as its seat's own world has it, and all records. A seat
+  -- has the turns of those that were joined into it.
   pub record Shows (o w : World V) (s : State (Slot V) (View V)) : Type 0 where
     pub shape : (w.words ≡ o.words) × (w.blocks ≡ o.blocks)
     pub table : Table o.words o.blocks w s.words s.homes
@@ -119,6 +124,7 @@ module _ {V : Type 0} where
     pub own : (j : ℕ) (v : View V) → get_elem? s.views j ≡ some v → IsOwn j w (lone j o v.turns)
     pub fresh : (a : ℕ) → length s.views ≤ a → Alike a w o
     pub spent : (j : ℕ) (v : View V) → get_elem? s.views j ≡ some v → v.shares ≡ 0 → IsSpent o j v
+    pub joined : (j : ℕ) (v : View V) → get_elem? s.views j ≡ some v → All (IsJoined s.views) v.joined
     pub receipts : (h : ℕ × Record V → ℕ) → total (λ v. total h v.receipts) s.views ≡ total h w.records
 
   -- some list of events reaches, from the opening o, a world that the table shows
@@ -169,6 +175,15 @@ module _ {V : Type 0} where
       ((found ≡ 0) × (b : Base V) × IsBaseAt o.blocks k b × Told o id qs m.0.clock m found (Some b) t.0 × (t.1 ≡ (k, Some b) ∷ m.1))
       ⊎ ((found ≡ 1) × Told o id qs m.0.clock m found None t.0 × (t.1 ≡ m.1))
 
+  -- A step of a seat on the word at i, which becomes f of what it was. If these events reach a world that the table shows, then what the
+  -- seat has asked and its step behind them reach the one that it shows then, and this is told of what was found.
+  abbrev pub Steps : World V → ℕ → ℕ → Me (Slot V) (View V) → List (Event V) → ℕ → (ℕ → ℕ) → (ℕ → Me (Slot V) (View V) → Type 0) → Type 0
+  Steps o slots id m asks i f tells = (s : State (Slot V) (View V)) (es : List (Event V)) → Shows o (run o es) s → length s.homes ≡ slots
+      → get_elem? s.views id ≡ some m.0 → get_or s.words i 0 < 2 ^ 64
+      → (v : View V) × (a : Act (Slot V)) × Valid s.homes m.1 a
+      × Shows o (run o (es ++ turn_events id asks)) (stepped s i (f (get_or s.words i 0)) id m.1 v a)
+      × tells (get_or s.words i 0) (v, carried_after m.1 a)
+
   abbrev pub left_of : ℕ → View V → View V
   left_of k v = record { shares = v.shares - k; clock = v.clock; turns = v.turns; receipts = v.receipts; joined = v.joined }
 
@@ -194,11 +209,14 @@ module _ {V : Type 0} where
     pub rests : (a : ℕ) → stamps_left (actor_of o a).place ≡ 0
     pub idle : (a : ℕ) → is_half_done (stage_of o a) ≡ false
 
-  -- What a closed table shows: some events lead from the opening o to a world that has the receipts of the seat as its records. The table's
-  -- clock is that of this world, which is no less than the seat knows; and each slot has the base of its collection, of its kind and
-  -- shape, with what it holds there and with its editions.
-  pub record ShowsWorld (o : World V) (v : View V) (words : List ℕ) (homes : List (Option (Slot V))) : Type 0 where
+  -- What a closed table shows, whose last seat is that of actor j: some events lead from the opening o to a world that has the receipts of
+  -- the seat as its records. In it j, and each actor whose seat was joined into that of j, is as its own world has it after its turns. The
+  -- table's clock is that of this world, which is no less than the seat knows; and each slot has the base of its collection, of its kind
+  -- and shape, with what it holds there and with its editions.
+  pub record ShowsWorld (o : World V) (j : ℕ) (v : View V) (words : List ℕ) (homes : List (Option (Slot V))) : Type 0 where
     pub events : List (Event V)
+    pub own : IsOwn j (run o events) (lone j o v.turns)
+    pub joined : All (λ p. IsOwn p.0 (run o events) (lone p.0 o p.1)) v.joined
     pub records : (h : ℕ × Record V → ℕ) → total h v.receipts ≡ total h (run o events).records
     pub clock : get_or words 0 0 ≡ (run o events).boosted.words.clock
     pub known : v.clock ≤ (run o events).boosted.words.clock

@@ -23,6 +23,11 @@ module _ {V : Type 0} where
   asked_all a w [] = w
   asked_all a w (e ∷ es) = asked_all a (happens w (own a e)).0 es
 
+  -- the events of a turn: what a has asked, and its step
+  abbrev pub turn_events : ℕ → List (Event V) → List (Event V)
+  turn_events a [] = Step a ∷ []
+  turn_events a (e ∷ es) = own a e ∷ turn_events a es
+
   abbrev pub stage_of : World V → ℕ → Stage V
   stage_of w a = (w.seats a).stage
 

@@ -26,7 +26,7 @@ impl<V: Value> TxTable<V> {
         ensures collections { length (homes_of result) ≡ length (blocks_in self) }
         ensures closes { Closes (words_in self) (blocks_in self) (contents_in self)
             (view seat) (row_of result) (map some (homes_of result)) }
-        ensures shows { ShowsWorld (opening_of self) (view seat) (row_of result) (map some (homes_of result)) }
+        ensures shows { ShowsWorld (opening_of self) (actor seat) (view seat) (row_of result) (map some (homes_of result)) }
     {
         let TxTable {
             whole,

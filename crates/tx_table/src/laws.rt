@@ -1,5 +1,5 @@
-//! The laws of the table's rule, in the form in which `atomic_table` asks for them: what a step, a split or a join makes of a table that
-//! meets the rule meets it again.
+//! The laws of the table's rule. Each step has one event appended to those that reach the table's world, behind what its seat has asked;
+//! a split, a join and a look at the clock leave the world as it is.
 ghost use Rattle.tx_table.specs.declared.view.TheConstants.{SHARES};
 ghost use Rattle.std.specs.Prelude.{◌≡◌, ◌+◌, ◌<◌, ◌≤◌, ◌==◌, ◌∷◌, ℕ, List, Option, [], Some, None, false, length};
 ghost use mathlib.Core.Option.{some, Option as Home};
@@ -30,6 +30,9 @@ ghost use Rattle.tx_table.specs.Shown.{
   highest_clock,
   total,
   Rule,
+  Shows,
+  Steps,
+  looking,
   Told,
   Took,
   IsBaseAt,
@@ -54,25 +57,25 @@ pub fn turns<V>()
         total h (happens v (Step a)).0.records ≡ total h v.records + total h (ends a v) }
 {}
 
-/// A step on a word of the table keeps its rule, whatever the table is by then: a word becomes what the machine says, and the
-/// seat takes note of what it found. On the clock it finds room, and the seat knows what it left there.
+/// A step on a word of the table, whatever the table is by then: the word becomes what the machine says, the seat takes note of what it
+/// found, and what it has asked and the step follow the events. On the clock it finds room, and the seat knows what it left there.
 pub fn word_steps<V>()
     ensures any { (o : World V) (slots id : ℕ) (m : Me (Slot V) (View V)) (asks : List (Event V)) (c : Cell) (f : ℕ → ℕ) →
         let alone = asked_all id (lone id o m.0.turns) asks in
         0 < m.0.shares → spot id alone ≡ Word c → IsInside (end_of o.words o.blocks) c →
         ((k : ℕ) → becomes (deed_of (ready_at id alone (stage_of alone id)) id) k ≡ f k) →
-        Allows (Rule o) slots id m (address (end_of o.words o.blocks) c) f
+        Steps o slots id m asks (address (end_of o.words o.blocks) c) f
         (λ found t. Told o id asks m.0.clock m found None t.0 × (t.1 ≡ m.1)) }
     ensures clock { (o : World V) (slots id : ℕ) (m : Me (Slot V) (View V)) (asks : List (Event V)) (f left : ℕ → ℕ) →
         let alone = asked_all id (lone id o m.0.turns) asks in
         0 < m.0.shares → spot id alone ≡ Word ClockCell →
         ((k : ℕ) → k ≤ highest_clock → becomes (deed_of (ready_at id alone (stage_of alone id)) id) k ≡ f k) →
         ((k : ℕ) → k ≤ highest_clock → left k ≡ f k) →
-        Allows (Rule o) slots id m 0 f
+        Steps o slots id m asks 0 f
         (λ found t. Told o id asks (left found) m found None t.0 × (t.1 ≡ m.1) × (m.0.clock ≤ found) × (found ≤ highest_clock)) }
 {}
 
-/// A step on a gate of a table that was opened keeps the rule, whatever the table is by then. A gate that is tried and found free goes
+/// A step on a gate of a table that was opened, likewise. A gate that is tried and found free goes
 /// to the seat with its base. One that is put back takes its base home: as the actor's own world has it then, or with the log of the
 /// transaction folded into what the own world had. Which step is due in the own world is all that a seat has to know; the machine's
 /// guards hold.
@@ -81,14 +84,14 @@ pub fn gate_steps<V>()
         let o = opened blocks clock values held in
         (slots id : ℕ) (m : Me (Slot V) (View V)) (asks : List (Event V)) (k : ℕ) → 0 < m.0.shares → k < length blocks →
         Tries (asked_all id (lone id o m.0.turns) asks) id k →
-        Allows (Rule o) slots id m (gate_address (end_of o.words blocks) k) (λ n. either (n == 0) 1 n) (Took o id asks m k) }
+        Steps o slots id m asks (gate_address (end_of o.words blocks) k) (λ n. either (n == 0) 1 n) (Took o id asks m k) }
     ensures put { (blocks : List Block) (clock : ℕ) (values : List ℕ) (held : List (Held V)) → HaveStripes blocks →
         let o = opened blocks clock values held in
         (slots id : ℕ) (m : Me (Slot V) (View V)) (asks : List (Event V)) (k : ℕ) (b : Base V) (others : List ((i : ℕ) × Slot V)) →
         let alone = asked_all id (lone id o m.0.turns) asks in
         0 < m.0.shares → k < length blocks → m.1 ≡ (k, Some b) ∷ others → Puts alone id k → IsBaseAt blocks k b →
         ShowsBase o.words blocks (happens (found_at id alone (Gate k) 1 None) (Step id)).0 k b →
-        Allows (Rule o) slots id m (gate_address (end_of o.words blocks) k) (λ _. 0)
+        Steps o slots id m asks (gate_address (end_of o.words blocks) k) (λ _. 0)
         (λ _ t. Told o id asks m.0.clock m 1 None t.0 × (t.1 ≡ others)) }
     ensures home { (blocks : List Block) (clock : ℕ) (values : List ℕ) (held : List (Held V)) → HaveStripes blocks →
         let o = opened blocks clock values held in
@@ -99,20 +102,24 @@ pub fn gate_steps<V>()
         0 < m.0.shares → k < length blocks → m.1 ≡ (k, Some now) ∷ others → GoesHome alone id k → block_of blocks k ≡ Some b →
         IsBaseOf b before → ShowsBase o.words blocks alone k before →
         IsFolded (log_changes k b outcomes) (log_locations k b outcomes) before now →
-        Allows (Rule o) slots id m (gate_address (end_of o.words blocks) k) (λ _. 0)
+        Steps o slots id m asks (gate_address (end_of o.words blocks) k) (λ _. 0)
         (λ _ t. Told o id asks m.0.clock m 1 None t.0 × (t.1 ≡ others)) }
 {}
 
-/// A table that shows the opening meets the rule. A seat that is cut in two, and two that become one, keep it.
+/// A table that shows the opening meets the rule. A seat that is cut in two, two that become one, and one that looks at the clock leave
+/// the world that the table shows.
 pub fn shares<V>()
     ensures opened { (o : World V) (words : List ℕ) (homes : List (Home (Slot V))) → IsOpening o → o.boosted.words.clock ≤ clock_limit →
         o.records ≡ [] → Table o.words o.blocks o words homes → Rule o (record { words = words; homes = homes; views = first_view ∷ [] }) }
-    ensures split { (o : World V) (id k : ℕ) (v : View V) → IsOpening o → 0 < k → k < v.shares →
-        Splits (Rule o) id v (left_of k v) (right_of k v) }
-    ensures join { (o : World V) (id other : ℕ) (v u : View V) → 0 < v.shares → 0 < u.shares →
+    ensures split { (o w : World V) (id k : ℕ) (v : View V) → IsOpening o → 0 < k → k < v.shares →
+        Splits (Shows o w) id v (left_of k v) (right_of k v) }
+    ensures look { (o w : World V) (slots id : ℕ) (m : Me (Slot V) (View V)) →
+        Allows (Shows o w) slots id m 0 (λ k. k)
+        (λ found t. (t ≡ (looking m.0 found, m.1)) × (m.0.clock ≤ found) × (found ≤ highest_clock)) }
+    ensures join { (o w : World V) (id other : ℕ) (v u : View V) → 0 < v.shares → 0 < u.shares →
         is_half_done (stage_of (lone other o u.turns) other) ≡ false →
         ((k : ℕ) → is_actor other ((lone other o u.turns).boosted.gates k) ≡ false) →
-        Joins (Rule o) id v other u (both_of v other u) (spent_of u) }
+        Joins (Shows o w) id v other u (both_of v other u) (spent_of u) }
 {}
 
 /// What a table leaves whose seat has all shares: its receipts, in commit order, are a run of the sequential model from the opening,

@@ -23,4 +23,5 @@ pub returns-clause-shows : goal.returns-clause-shows
 returns-clause-shows g c =
     let t = c.args.table in
     let e = c.close.ensures in
-    subst (λ s. ShowsWorld (opening_of t) (view s) (row_of c.close.result) (map some (homes_of c.close.result))) c.into_seat.ensures e.shows
+    subst (λ s. ShowsWorld (opening_of t) (actor s) (view s) (row_of c.close.result) (map some (homes_of c.close.result)))
+    c.into_seat.ensures e.shows
