@@ -17,6 +17,7 @@ use Rattle.seq_model.specs.declared.event.Request.TheVariants as request
 use Rattle.seq_model.specs.declared.limits.TheConstants.{CALL_LIMIT}
 use Rattle.seq_model.specs.declared.record.Record.{Record}
 use Rattle.seq_model.specs.declared.refusal.Refusal.{Refusal}
+use Rattle.seq_model.specs.declared.refusal.Refusal.TheVariants.{OutOfMemory}
 use Rattle.seq_model.specs.Runs.{is_writer}
 use Rattle.replay_log.proofs.AskLemmas.{no_such, too_long}
 use Rattle.replay_log.specs.Seats as worlds
@@ -35,7 +36,7 @@ use Rattle.transactions.proofs.RequestLemmas.{then_keeps}
 use Rattle.transactions.specs.Ready.{standing}
 use Rattle.transactions.specs.Requests.{CallsTo, CommitsTo, HasAborted, IsAnswered, IsOpen, KeepsReceipts, told_of}
 use Rattle.attempts.proofs.JobLemmas.{asked_more, none_asked, replies_more}
-use Rattle.attempts.specs.Attempts.{EndsAs, HasGivenUp, HasMade, IsAt, IsCallRefused, IsSoFar, IsUnmade, Reaches, ask_of}
+use Rattle.attempts.specs.Attempts.{EndsAs, HasGivenUp, HasMade, IsAt, IsCallRefused, IsSoFar, IsStarved, IsUnmade, Reaches, ask_of}
 use Rattle.attempts.specs.Jobs.{AreAskedBy}
 use Rattle.attempts.specs.declared.jobs.End.{End}
 use Rattle.attempts.specs.declared.jobs.End.TheVariants as ends
@@ -115,10 +116,13 @@ module _ {V : Type 0} where
       call = call;
       before = s;
       at = at_now s replies (ask.Call call) k h;
-      after = u;
       refused = C;
-      keeps = keeps_self u;
     }
+
+    -- memory is wanting, for the job or for these replies or more
+    pub starved : (s m : Seat V) (replies : List (Reply V)) → KeepsReceipts s m → IsSoFar asks o m replies
+        → IsStarved asks o s m OutOfMemory
+    starved s m replies kept k = record { memory = refl; keeps = kept; calls = k.calls; stands = k.stands; each = k.each }
 
     pub call_made : (s u : Seat V) (replies : List (Reply V)) (call : Call V) (reply : Reply V) → IsSoFar asks o s replies
         → asks replies (ask.Call call) → CallsTo o s call u (Ok reply) → IsSoFar asks o u (replies ++ reply ∷ [])
@@ -151,24 +155,15 @@ module _ {V : Type 0} where
       call = k.call;
       before = k.before;
       at = at_before s m k.before k.calls (ask.Call k.call) kept k.at;
-      after = k.after;
       refused = k.refused;
-      keeps = k.keeps;
     }
-    unmade_before s m u cause kept (inr none) = inr none
-
-    -- and to where it ended
-    pub unmade_after : (s m u : Seat V) (cause : Refusal) → KeepsReceipts m u → IsUnmade asks o s m cause → IsUnmade asks o s u cause
-    unmade_after s m u cause kept (inl k) = inl record {
+    unmade_before s m u cause kept (inr k) = inr record {
+      memory = k.memory;
+      keeps = then_keeps s m u kept k.keeps;
       calls = k.calls;
-      call = k.call;
-      before = k.before;
-      at = k.at;
-      after = k.after;
-      refused = k.refused;
-      keeps = then_keeps k.after m u k.keeps kept;
+      stands = k.stands;
+      each = k.each;
     }
-    unmade_after s m u cause kept (inr none) = inr none
 
     -- ---- its end
     -- the job has come to this end
@@ -221,9 +216,9 @@ module _ {V : Type 0} where
           aborted = aborted (done.0, k.stands);
         }
 
-    pub call_ended : (s b m u : Seat V) (cause : Refusal) → KeepsReceipts s b → KeepsReceipts b m → IsUnmade asks o b m cause
-        → KeepsReceipts m u → EndsAs asks o s u (Err cause)
-    call_ended s b m u cause kept keeps unmade ended = (
+    pub broken_off : (s b m u : Seat V) (cause : Refusal) → KeepsReceipts s b → KeepsReceipts b m → IsUnmade asks o b m cause
+        → KeepsReceipts m u → (IsOpen o m → HasAborted o m u) → EndsAs asks o s u (Err cause)
+    broken_off s b m u cause kept keeps unmade ended aborted = (
       then_keeps s b u kept (then_keeps b m u keeps ended),
-      inr (inr (unmade_after s m u cause ended (unmade_before s b m cause kept unmade))),
+      inr (inr record { left = m; unmade = unmade_before s b m cause kept unmade; keeps = ended; aborted = aborted }),
     )

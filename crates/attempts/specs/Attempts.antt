@@ -15,7 +15,7 @@ use Rattle.tx_table.specs.Seated.{actor, view}
 use Rattle.tx_phases.specs.Phases.{Stands}
 use Rattle.driven_turns.specs.Begins.{begins_of}
 use Rattle.transactions.specs.Ready.{standing}
-use Rattle.transactions.specs.Requests.{CallsTo, HasAborted, HasCommitted, IsEnded, IsNotBegun, KeepsReceipts, has_written}
+use Rattle.transactions.specs.Requests.{CallsTo, HasAborted, HasCommitted, IsEnded, IsNotBegun, IsOpen, KeepsReceipts, has_written}
 use Rattle.attempts.specs.Jobs.{AreAskedBy, IsWholeJob}
 use Rattle.attempts.specs.declared.jobs.Attempt.{Attempt}
 use Rattle.attempts.specs.declared.jobs.Attempt.TheVariants.{Committed, GivenUp}
@@ -48,19 +48,33 @@ module _ {V : Type 0} (asks : List (Reply V) → Ask V → Type 0) (o : World V)
   Reaches s m e = (calls : List (Call V × Reply V)) × IsAt s m calls (ask_of e)
 
   -- ---- what is refused
-  -- a call that the job asked was refused so
-  pub record IsCallRefused (s u : Seat V) (cause : Refusal) : Type 0 where
+  -- a call that the job asked was refused so, which left the seat m
+  pub record IsCallRefused (s m : Seat V) (cause : Refusal) : Type 0 where
     pub calls : List (Call V × Reply V)
     pub call : Call V
     pub before : Seat V
     pub at : IsAt s before calls (ask.Call call)
-    pub after : Seat V
-    pub refused : CallsTo o before call after (Err cause)
-    pub keeps : KeepsReceipts after u
+    pub refused : CallsTo o before call m (Err cause)
+
+  -- Memory was wanting for the job, or for its replies. The seat s has led to the seat m, and gained no receipt. Its transaction is open
+  -- there, with these calls, each of which the job has asked.
+  pub record IsStarved (s m : Seat V) (cause : Refusal) : Type 0 where
+    pub memory : cause ≡ OutOfMemory
+    pub keeps : KeepsReceipts s m
+    pub calls : List (Call V × Reply V)
+    pub stands : standing o m ≡ Stands calls
+    pub each : AreAskedBy asks calls
 
   -- a call, or memory for the job or for its replies
   abbrev pub IsUnmade : Seat V → Seat V → Refusal → Type 0
-  IsUnmade s u cause = IsCallRefused s u cause ⊎ (cause ≡ OutOfMemory)
+  IsUnmade s m cause = IsCallRefused s m cause ⊎ IsStarved s m cause
+
+  -- So it was, and this seat was left; a transaction that was open there was aborted, as one of its turns told.
+  pub record IsBrokenOff (s u : Seat V) (cause : Refusal) : Type 0 where
+    pub left : Seat V
+    pub unmade : IsUnmade s left cause
+    pub keeps : KeepsReceipts left u
+    pub aborted : IsOpen o left → HasAborted o left u
 
   -- the commit was refused so, once the job was done
   pub record IsCommitRefused (s u : Seat V) (cause : Refusal) : Type 0 where
@@ -71,7 +85,7 @@ module _ {V : Type 0} (asks : List (Reply V) → Ask V → Type 0) (o : World V)
 
   -- the begin, the commit, or what is between them
   abbrev pub IsRefusedOf : Seat V → Seat V → Refusal → Type 0
-  IsRefusedOf s u cause = IsNotBegun o s u cause ⊎ (IsCommitRefused s u cause ⊎ IsUnmade s u cause)
+  IsRefusedOf s u cause = IsNotBegun o s u cause ⊎ (IsCommitRefused s u cause ⊎ IsBrokenOff s u cause)
 
   -- ---- what an attempt comes to
   -- The receipt has all calls of the job, with their replies, and the seat gains it, and no other. Its number is the last one of the seat

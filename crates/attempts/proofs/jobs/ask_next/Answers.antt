@@ -1,11 +1,18 @@
-use Rattle.std.proofs.Common.{◌∷◌, [], length, inl, ap, ◌∙◌, sym, subst, length-append}
+use Rattle.std.proofs.Common.{◌∷◌, ◌++◌, [], length, inl, inr, ap, ◌∙◌, sym, subst, length-append}
 use Rattle.std.proofs.lemmas.Result.{err_from_is_err_and}
 use Rattle.tx_table.specs.Seated.{opening_of}
-use Rattle.attempts.proofs.AttemptLemmas.{call_made, call_refused, call_within, reaches_now}
+use Rattle.attempts.proofs.AttemptLemmas.{call_made, call_refused, call_within, keeps_self, reaches_now, starved}
 use Rattle.attempts.proofs.JobLemmas.{asked_here}
 use Rattle.attempts.specs.Attempts.{IsSoFar}
 use Rattle.attempts.specs.declared.jobs.End.TheVariants as ends
 use Rattle.attempts.proofs.jobs.ask_next.Goals as goal
+
+pub returns-in_err-ask-clause-refused : goal.returns-in_err-ask-clause-refused
+returns-in_err-ask-clause-refused g c =
+    let s = c.args.seat.now.seat in
+    let p = err_from_is_err_and c.from_residual.result c.from_residual.ensures.1 in
+    rw (p.1, p.2) (inr (starved (g.J.Job.asks c.args.job.now) (opening_of c.args.table.now) s s c.args.replies.now.items (keeps_self s)
+    c.requires.so_far))
 
 pub returns-in_err-reply-in-Call-clause-refused : goal.returns-in_err-reply-in-Call-clause-refused
 returns-in_err-reply-in-Call-clause-refused g c =
@@ -37,6 +44,21 @@ returns-in_ok-push-in-Call-clause-so_far g c =
     subst (λ rs. IsSoFar asks o c.call.new.self.seat rs) (sym c.in_ok-push-in-Call.ensures.items)
     (call_made asks o c.args.seat.now.seat c.call.new.self.seat c.args.replies.now.items c.in-Call.call c.in_ok-reply-in-Call.reply
     so_far asked (c.in_ok-reply-in-Call.ensures.called.calls (so_far.calls, so_far.stands)))
+
+pub returns-in_err-push-in-Call-clause-refused : goal.returns-in_err-push-in-Call-clause-refused
+returns-in_err-push-in-Call-clause-refused g c =
+    let asks = g.J.Job.asks c.args.job.now in
+    let o = opening_of c.args.table.now in
+    let s = c.args.seat.now.seat in
+    let m = c.call.new.self.seat in
+    let replies = c.args.replies.now.items in
+    let reply = c.in_ok-reply-in-Call.reply in
+    let so_far = c.requires.so_far in
+    let asked = asked_here asks _ replies _ _ c.as_slice.ensures.value c.in-Call.is c.in_ok-ask.ensures in
+    let called = c.in_ok-reply-in-Call.ensures.called.calls (so_far.calls, so_far.stands) in
+    let p = err_from_is_err_and c.from_residual-in_err-push-in-Call.result c.from_residual-in_err-push-in-Call.ensures.1 in
+    rw (p.1, p.2) (inr (starved asks o s m (replies ++ reply ∷ []) called.keeps
+    (call_made asks o s m replies c.in-Call.call reply so_far asked called)))
 
 pub returns-in_ok-push-in-Call-clause-room : goal.returns-in_ok-push-in-Call-clause-room
 returns-in_ok-push-in-Call-clause-room g c =

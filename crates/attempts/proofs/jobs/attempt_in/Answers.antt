@@ -1,7 +1,7 @@
 use Rattle.std.proofs.Common.{inl, sym, ◌∙◌}
 use Rattle.std.proofs.lemmas.Result.{err_from_is_err_and}
 use Rattle.tx_table.specs.Seated.{opening_of}
-use Rattle.attempts.proofs.AttemptLemmas.{at_end, call_ended, commit_refused, given_up, has_made}
+use Rattle.attempts.proofs.AttemptLemmas.{at_end, broken_off, commit_refused, given_up, has_made}
 use Rattle.attempts.proofs.ReaderLemmas.{changes_nothing}
 use Rattle.attempts.proofs.jobs.attempt_in.Goals as goal
 
@@ -51,8 +51,8 @@ returns-in-Ok-GivenUp-clause-attempts g c =
 
 pub returns-in-Err-clause-attempts : goal.returns-in-Err-clause-attempts
 returns-in-Err-clause-attempts g c = (
-  call_ended (g.J.Job.asks c.args.job.now) (opening_of c.args.table.now) c.args.seat.now.seat c.begin.new.self.seat
+  broken_off (g.J.Job.asks c.args.job.now) (opening_of c.args.table.now) c.args.seat.now.seat c.begin.new.self.seat
       c.ask_all.new.seat.seat c.abort-in-Err.new.self.seat c.in-Err.cause c.begin.ensures.keeps c.ask_all.ensures.keeps
-      c.in-Err.ensures.refused c.abort-in-Err.ensures.keeps,
+      c.in-Err.ensures.refused c.abort-in-Err.ensures.keeps c.abort-in-Err.ensures.aborted,
   c.abort-in-Err.ensures.begins ∙ (c.ask_all.ensures.begins ∙ c.begin.ensures.begins),
 )
