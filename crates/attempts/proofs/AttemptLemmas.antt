@@ -119,7 +119,7 @@ module _ {V : Type 0} where
       refused = C;
     }
 
-    -- memory is wanting, for the job or for these replies or more
+    -- memory is wanting, after these replies to the calls so far
     pub starved : (s m : Seat V) (replies : List (Reply V)) → KeepsReceipts s m → IsSoFar asks o m replies
         → IsStarved asks o s m OutOfMemory
     starved s m replies kept k = record { memory = refl; keeps = kept; calls = k.calls; stands = k.stands; each = k.each }

@@ -65,11 +65,11 @@ module _ {V : Type 0} (asks : List (Reply V) → Ask V → Type 0) (o : World V)
     pub stands : standing o m ≡ Stands calls
     pub each : AreAskedBy asks calls
 
-  -- a call, or memory for the job or for its replies
+  -- a call was refused so, or memory for the job or for its replies
   abbrev pub IsUnmade : Seat V → Seat V → Refusal → Type 0
   IsUnmade s m cause = IsCallRefused s m cause ⊎ IsStarved s m cause
 
-  -- So it was, and this seat was left; a transaction that was open there was aborted, as one of its turns told.
+  -- So it was, which left a seat; a transaction that was open there was then aborted, as one of its turns told.
   pub record IsBrokenOff (s u : Seat V) (cause : Refusal) : Type 0 where
     pub left : Seat V
     pub unmade : IsUnmade s left cause
