@@ -2,11 +2,11 @@
 --
 -- Each request keeps the receipts, and leaves the transaction open with the calls so far, or there is none; so what the attempt comes to
 -- is put together at its end. A call past the limit of calls is refused as it is asked, so a job is answered no more calls than that.
-use Rattle.std.proofs.Common.{◌≡◌, ℕ, ◌<◌, ◌≤◌, Bool, true, false, List, [], ◌∷◌, ◌++◌, length, Ok, Err}
+use Rattle.std.proofs.Common.{◌≡◌, ℕ, ◌+◌, ◌<◌, ◌≤◌, Bool, true, false, List, [], ◌∷◌, ◌++◌, length, Ok, Err}
 use Rattle.std.proofs.Common.{inl, inr, refl, sym, ap, ◌∙◌, subst, arith}
 use Rattle.std.proofs.Math.Dec.{ltb}
 use Rattle.std.proofs.lemmas.Bool.{ltb-false, ltb-true}
-use Rattle.std.proofs.lemmas.List.{length-map}
+use Rattle.std.proofs.lemmas.List.{append_assoc, length-map}
 use Rattle.seq_model.specs.declared.call.Call.{Call}
 use Rattle.seq_model.specs.declared.call.Reply.{Reply}
 use Rattle.seq_model.specs.declared.event.Answer.TheVariants as answer
@@ -28,13 +28,14 @@ use Rattle.tx_engine.specs.declared.job.Ask.{Ask}
 use Rattle.tx_engine.specs.declared.job.Ask.TheVariants as ask
 use Rattle.tx_engine.specs.Programs.{replies_of}
 use Rattle.tx_table.specs.declared.seat.Seat.{Seat}
-use Rattle.tx_table.specs.Seated.{actor, acts}
+use Rattle.tx_table.specs.Seated.{actor, acts, view}
 use Rattle.tx_phases.specs.Phases.{Stands, phase_at}
 use Rattle.transactions.proofs.CallLemmas.{stands_at}
 pub use Rattle.transactions.proofs.RequestLemmas.{keeps_self}
-use Rattle.transactions.proofs.RequestLemmas.{then_keeps}
+use Rattle.transactions.proofs.RequestLemmas.{then_keeps, told_later, told_on}
 use Rattle.transactions.specs.Ready.{standing}
-use Rattle.transactions.specs.Requests.{CallsTo, CommitsTo, HasAborted, IsAnswered, IsOpen, KeepsReceipts, told_of}
+use Rattle.driven_turns.specs.Begins.{begins_of}
+use Rattle.transactions.specs.Requests.{CallsTo, CommitsTo, HasAborted, HasCommitted, IsAnswered, IsOpen, KeepsReceipts, told_of}
 use Rattle.attempts.proofs.JobLemmas.{asked_more, none_asked, replies_more}
 use Rattle.attempts.specs.Attempts.{EndsAs, HasGivenUp, HasMade, IsAt, IsCallRefused, IsSoFar, IsStarved, IsUnmade, Reaches, ask_of}
 use Rattle.attempts.specs.Jobs.{AreAskedBy}
@@ -172,8 +173,8 @@ module _ {V : Type 0} where
 
     pub has_made : (s b m u : Seat V) (r : Record V) → KeepsReceipts s b → Reaches asks o b m ends.Done → CommitsTo o m u (Ok r)
         → (r.writes ≡ false → is_writer r.calls ≡ false) → (r.writes ≡ true → m.last < r.number)
-        → (m.last ≤ r.number) × (u.last ≡ r.number) → HasMade asks o s u r
-    has_made s b m u r kept done made reads above last =
+        → (m.last ≤ r.number) × (u.last ≡ r.number) → begins_of m ≡ begins_of s + 1 → HasMade asks o s u r
+    has_made s b m u r kept done made reads above last begun =
         let k : IsAt asks o s m done.0 ask.Done = at_before s b m done.0 ask.Done kept done.1 in
         let e : done.0 ≡ r.calls = same_calls done.0 r.calls (sym k.stands ∙ made.calls) in
         let C = made.committed in
@@ -191,34 +192,47 @@ module _ {V : Type 0} where
           last = (omega (arith, low, same), last.1);
           before = m;
           at = subst (λ (cs : List (Call V × Reply V)). IsAt asks o s m cs ask.Done) e k;
+          begun = begun;
           writes = made.writes;
           reads = reads;
           committed = C;
         }
 
     pub commit_refused : (s b m u : Seat V) (cause : Refusal) → KeepsReceipts s b → Reaches asks o b m ends.Done
-        → CommitsTo o m u (Err cause) → EndsAs asks o s u (Err cause)
-    commit_refused s b m u cause kept done C =
+        → CommitsTo o m u (Err cause) → begins_of m ≡ begins_of s + 1 → EndsAs asks o s u (Err cause)
+    commit_refused s b m u cause kept done C begun =
         let k : IsAt asks o s m done.0 ask.Done = at_before s b m done.0 ask.Done kept done.1 in (
           then_keeps s m u k.keeps C.keeps,
-          inr (inl record { calls = done.0; before = m; at = k; ended = C.ended (done.0, k.stands) }),
+          inr (inl record { calls = done.0; before = m; at = k; begun = begun; ended = C.ended (done.0, k.stands) }),
         )
 
     pub given_up : (s b m u : Seat V) → KeepsReceipts s b → Reaches asks o b m ends.GivenUp → KeepsReceipts m u
-        → (IsOpen o m → HasAborted o m u) → HasGivenUp asks o s u
-    given_up s b m u kept done ended aborted =
+        → (IsOpen o m → HasAborted o m u) → begins_of m ≡ begins_of s + 1 → HasGivenUp asks o s u
+    given_up s b m u kept done ended aborted begun =
         let k : IsAt asks o s m done.0 ask.GiveUp = at_before s b m done.0 ask.GiveUp kept done.1 in
         record {
           keeps = then_keeps s m u k.keeps ended;
           calls = done.0;
           before = m;
           at = k;
+          begun = begun;
           aborted = aborted (done.0, k.stands);
         }
 
     pub broken_off : (s b m u : Seat V) (cause : Refusal) → KeepsReceipts s b → KeepsReceipts b m → IsUnmade asks o b m cause
-        → KeepsReceipts m u → (IsOpen o m → HasAborted o m u) → EndsAs asks o s u (Err cause)
-    broken_off s b m u cause kept keeps unmade ended aborted = (
+        → KeepsReceipts m u → (IsOpen o m → HasAborted o m u) → begins_of m ≡ begins_of s + 1 → EndsAs asks o s u (Err cause)
+    broken_off s b m u cause kept keeps unmade ended aborted begun = (
       then_keeps s b u kept (then_keeps b m u keeps ended),
-      inr (inr record { left = m; unmade = unmade_before s b m cause kept unmade; keeps = ended; aborted = aborted }),
+      inr (inr record { left = m; begun = begun; unmade = unmade_before s b m cause kept unmade; keeps = ended; aborted = aborted }),
     )
+
+    -- ---- what was open before was aborted
+    pub aborted_first : (s b u : Seat V) → KeepsReceipts b u → (IsOpen o s → HasAborted o s b) → IsOpen o s → HasAborted o s u
+    aborted_first s b u kept was stood = told_on o s b u _ kept (was stood)
+
+    pub aborted_and_made : (s b m u : Seat V) (r : Record V) → KeepsReceipts b m → HasCommitted o m u r → (IsOpen o s → HasAborted o s b)
+        → IsOpen o s → HasAborted o s u
+    aborted_and_made s b m u r kept made was stood =
+        let d = made.told.1 in
+        told_later o s m u _ (d.before ++ d.turn ∷ d.after)
+        (d.turns ∙ append_assoc (view m).turns d.before (d.turn ∷ d.after)) (aborted_first s b m kept was stood)

@@ -72,6 +72,7 @@ module _ {V : Type 0} (asks : List (Reply V) → Ask V → Type 0) (o : World V)
   -- So it was, which left a seat; a transaction that was open there was then aborted, as one of its turns told.
   pub record IsBrokenOff (s u : Seat V) (cause : Refusal) : Type 0 where
     pub left : Seat V
+    pub begun : begins_of left ≡ begins_of s + 1
     pub unmade : IsUnmade s left cause
     pub keeps : KeepsReceipts left u
     pub aborted : IsOpen o left → HasAborted o left u
@@ -81,6 +82,7 @@ module _ {V : Type 0} (asks : List (Reply V) → Ask V → Type 0) (o : World V)
     pub calls : List (Call V × Reply V)
     pub before : Seat V
     pub at : IsAt s before calls ask.Done
+    pub begun : begins_of before ≡ begins_of s + 1
     pub ended : IsEnded o before u cause
 
   -- the begin, the commit, or what is between them
@@ -99,6 +101,7 @@ module _ {V : Type 0} (asks : List (Reply V) → Ask V → Type 0) (o : World V)
     pub last : (s.last ≤ r.number) × (u.last ≡ r.number)
     pub before : Seat V
     pub at : IsAt s before r.calls ask.Done
+    pub begun : begins_of before ≡ begins_of s + 1
     pub writes : r.writes ≡ has_written o before
     pub reads : r.writes ≡ false → is_writer r.calls ≡ false
     pub committed : HasCommitted o before u r
@@ -109,6 +112,7 @@ module _ {V : Type 0} (asks : List (Reply V) → Ask V → Type 0) (o : World V)
     pub calls : List (Call V × Reply V)
     pub before : Seat V
     pub at : IsAt s before calls ask.GiveUp
+    pub begun : begins_of before ≡ begins_of s + 1
     pub aborted : HasAborted o before u
 
   -- a receipt, a job that gave up, or a refusal
@@ -117,6 +121,7 @@ module _ {V : Type 0} (asks : List (Reply V) → Ask V → Type 0) (o : World V)
   EndsAs s u (Ok GivenUp) = HasGivenUp s u
   EndsAs s u (Err cause) = KeepsReceipts s u × IsRefusedOf s u cause
 
-  -- an attempt came to this, and led the seat from s to u, which asked one transaction to begin, and no more
+  -- An attempt came to this, and led the seat from s to u, which asked one transaction to begin, and no more. One that was open before was
+  -- aborted, as one of these turns told.
   abbrev pub AttemptsTo : Seat V → Seat V → Result (Attempt V) Refusal → Type 0
-  AttemptsTo s u r = EndsAs s u r × (begins_of u ≡ begins_of s + 1)
+  AttemptsTo s u r = EndsAs s u r × (begins_of u ≡ begins_of s + 1) × (IsOpen o s → HasAborted o s u)

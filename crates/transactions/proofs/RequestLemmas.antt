@@ -247,22 +247,26 @@ module _ {V : Type 0} where
   pub told_back : (o : World V) (s m u : table.Seat V) (n : Told V) → KeepsReceipts s m → HasTold o m u n → HasTold o s u n
   told_back o s m u n kept = since.told_back o s m kept.seat.1 kept.more kept.turns u n
 
-  -- and what was told by then is told still
-  pub told_on : (o : World V) (s m u : table.Seat V) (n : Told V) → KeepsReceipts m u → HasTold o s m n → HasTold o s u n
-  told_on o s m u n kept h = (
+  -- and what was told by then is told still, whatever turns come later
+  pub told_later : (o : World V) (s m u : table.Seat V) (n : Told V) (more : List (Turn V)) → (view u).turns ≡ (view m).turns ++ more
+      → HasTold o s m n → HasTold o s u n
+  told_later o s m u n more turns h = (
     h.0,
     record {
       before = h.1.before;
       turn = h.1.turn;
-      after = h.1.after ++ kept.more;
-      turns = kept.turns ∙ (ap (λ (is : List (Turn V)). is ++ kept.more) h.1.turns
-          ∙ append_assoc ((view s).turns ++ h.1.before) (h.1.turn ∷ h.1.after) kept.more);
+      after = h.1.after ++ more;
+      turns = turns ∙ (ap (λ (is : List (Turn V)). is ++ more) h.1.turns
+          ∙ append_assoc ((view s).turns ++ h.1.before) (h.1.turn ∷ h.1.after) more);
       events = h.1.events;
       reached = h.1.reached;
       alike = h.1.alike;
     },
     h.2,
   )
+
+  pub told_on : (o : World V) (s m u : table.Seat V) (n : Told V) → KeepsReceipts m u → HasTold o s m n → HasTold o s u n
+  told_on o s m u n kept = told_later o s m u n kept.more kept.turns
 
   pub found_told : (o : World V) (s u : table.Seat V) (cause : Refusal) → IsReason o s u cause → HasTold o s u (told.Refused cause)
       → IsFoundAndTold o s u cause
