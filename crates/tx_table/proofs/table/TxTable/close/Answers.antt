@@ -11,9 +11,9 @@ invariant_of-result g c =
     let table = c.args.self in
     let key = table.whole.shared.key in
     let s = c.args.seat in
-    let r = c.close_with.result in
-    let counts = c.close_with.ensures.counts in
-    let values = c.close_with.ensures.values in
+    let r = c.close_with-row.result in
+    let counts = c.close_with-row.ensures.counts in
+    let values = c.close_with-row.ensures.values in
     let long : length (slots_items r.slots) ≡ length (blocks_at key) = sym r.slots.ok.0 ∙ (counts.1 ∙ table.slots) in
     let above = end_above (words_at key) (blocks_at key) in
     let words = table.words_are in
@@ -30,13 +30,13 @@ invariant_of-result g c =
 pub returns-clause-closes : goal.returns-clause-closes
 returns-clause-closes g c =
     let s = c.args.seat in
-    let r = c.close_with.result in
+    let r = c.close_with-row.result in
     closes_all c.args.self.whole.shared.key s.place.id s.place.me.0 (slots_items r.words) (slots_items r.slots) c.requires.all
-    c.requires.rests c.close_with.ensures.values.2
+    c.requires.rests c.close_with-row.ensures.values.2
 
 pub returns-clause-shows : goal.returns-clause-shows
 returns-clause-shows g c =
     let s = c.args.seat in
-    let r = c.close_with.result in
+    let r = c.close_with-row.result in
     shows_last c.args.self.whole.shared.key s.place.id s.place.me.0 (slots_items r.words) (slots_items r.slots) c.requires.all
-    c.requires.rests c.close_with.ensures.values.2
+    c.requires.rests c.close_with-row.ensures.values.2
