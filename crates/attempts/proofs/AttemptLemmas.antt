@@ -27,6 +27,7 @@ use Rattle.replay_log.specs.Worlds.{happens}
 use Rattle.tx_engine.specs.declared.job.Ask.{Ask}
 use Rattle.tx_engine.specs.declared.job.Ask.TheVariants as ask
 use Rattle.tx_engine.specs.Programs.{replies_of}
+use Rattle.tx_actor.specs.declared.actor.Told.TheVariants as told
 use Rattle.tx_table.specs.declared.seat.Seat.{Seat}
 use Rattle.tx_table.specs.Seated.{actor, acts, view}
 use Rattle.tx_phases.specs.Phases.{Stands, phase_at}
@@ -228,11 +229,11 @@ module _ {V : Type 0} where
 
     -- ---- what was open before was aborted
     pub aborted_first : (s b u : Seat V) → KeepsReceipts b u → (IsOpen o s → HasAborted o s b) → IsOpen o s → HasAborted o s u
-    aborted_first s b u kept was stood = told_on o s b u _ kept (was stood)
+    aborted_first s b u kept was stood = told_on o s b u (told.Answered answer.Aborted) kept (was stood)
 
     pub aborted_and_made : (s b m u : Seat V) (r : Record V) → KeepsReceipts b m → HasCommitted o m u r → (IsOpen o s → HasAborted o s b)
         → IsOpen o s → HasAborted o s u
     aborted_and_made s b m u r kept made was stood =
         let d = made.told.1 in
-        told_later o s m u _ (d.before ++ d.turn ∷ d.after)
+        told_later o s m u (told.Answered answer.Aborted) (d.before ++ d.turn ∷ d.after)
         (d.turns ∙ append_assoc (view m).turns d.before (d.turn ∷ d.after)) (aborted_first s b m kept was stood)
