@@ -1,6 +1,7 @@
 //! Audits of long runs, in milliseconds.
 ghost use Rattle.std.specs.Prelude.{◌<◌};
 
+use crate::clock::seconds_since;
 use crate::worlds::four_kinds;
 use rand::seq::SliceRandom;
 use rand_core::{Rng, SeedableRng};
@@ -44,11 +45,22 @@ fn timed(
     last: &State<u64>,
 ) -> io::Result<f64> {
     let opening = opening(rt.alloc()).map_err(refused)?;
-    let start = Instant::now(rt)?;
-    if audit(rt.alloc(), &opening, records, last).is_err() {
+    let millis = audited(rt, &opening, records, last);
+    drop(opening);
+    millis
+}
+
+fn audited(
+    rt: &(impl Runtime + AllocGlobal),
+    opening: &State<u64>,
+    records: &[Record<u64>],
+    last: &State<u64>,
+) -> io::Result<f64> {
+    let start = Instant::now(rt);
+    if audit(rt.alloc(), opening, records, last).is_err() {
         return Err(io::Error::other("the records are no run, or memory was refused"));
     }
-    Ok(start.elapsed(rt)?.as_secs_f64() * 1e3)
+    Ok(seconds_since(rt, start)? * 1e3)
 }
 
 fn refused(_refusal: Refusal) -> io::Error {

@@ -2,6 +2,7 @@
 ghost use Rattle.generated_sessions.specs.Options.{AreWithin};
 ghost use Rattle.vac_model.specs.Balanced.{IsBalanced};
 
+use crate::clock::seconds_since;
 use crate::sessions::{lists_of, memory, no_such_sessions};
 use generated_sessions::{Options, opening};
 use std::io;
@@ -65,7 +66,7 @@ fn act_all<R: Runtime + AllocGlobal + Threads + Wait + Sync>(
     tables: &Mutex<Balanced>,
     lists: &[Vec<Action>],
 ) -> io::Result<f64> {
-    let start = Instant::now(rt)?;
+    let start = Instant::now(rt);
     let allowed = map_indices(
         rt,
         rt.alloc(),
@@ -77,11 +78,11 @@ fn act_all<R: Runtime + AllocGlobal + Threads + Wait + Sync>(
             }
         },
     )?;
-    let seconds = start.elapsed(rt)?.as_secs_f64();
+    let seconds = seconds_since(rt, start);
     if allowed.as_slice().contains(&false) {
         return Err(io::Error::other("an action was refused"));
     }
-    Ok(seconds)
+    seconds
 }
 
 /// Whether none of the actions is refused.

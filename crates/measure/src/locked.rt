@@ -1,4 +1,5 @@
 //! The same calls on a state under one lock.
+use crate::clock::seconds_since;
 use crate::outcomes::Outcomes;
 use crate::work::{Work, drawn, opening, refused};
 use rand_core::SeedableRng;
@@ -28,19 +29,15 @@ fn run<R: Runtime + AllocGlobal + Threads + Wait + Sync>(
     threads: u32,
     transactions: u32,
 ) -> io::Result<(Outcomes, f64)> {
-    let start = Instant::now(rt)?;
+    let start = Instant::now(rt);
     let each = map_indices(
         rt,
         rt.alloc(),
         threads as usize,
         &|thread| { transact_all(rt, state, work, transactions, seed_of(thread)) },
     )?;
-    let seconds = start.elapsed(rt)?.as_secs_f64();
-    let mut outcomes = Outcomes::NONE;
-    for one in each.as_slice() {
-        outcomes = outcomes.and(*one);
-    }
-    Ok((outcomes, seconds))
+    let seconds = seconds_since(rt, start)?;
+    Ok((Outcomes::all(each.as_slice()), seconds))
 }
 
 // As the seat of this thread has it.

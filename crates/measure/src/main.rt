@@ -19,6 +19,7 @@ use std::{env, io};
 use work::{On, Work};
 
 mod audit;
+mod clock;
 mod engine;
 mod lock;
 mod locked;

@@ -35,6 +35,15 @@ impl Outcomes {
         *count = count.saturating_add(1);
     }
 
+    /// Those of all threads.
+    pub fn all(each: &[Outcomes]) -> Outcomes {
+        let mut outcomes = Outcomes::NONE;
+        for one in each {
+            outcomes = outcomes.and(*one);
+        }
+        outcomes
+    }
+
     /// These and those of another thread.
     pub fn and(self, other: Outcomes) -> Outcomes {
         Outcomes {

@@ -2,6 +2,7 @@
 ghost use Rattle.std.specs.Prelude.{◌<◌, OnOk};
 ghost use Rattle.vac_model.specs.Balanced.{IsBalanced};
 
+use crate::clock::seconds_since;
 use rand_core::{Rng, SeedableRng};
 use rand_xoshiro::Xoshiro256PlusPlus;
 use seq_model::{Items, Memory};
@@ -36,7 +37,9 @@ fn seconds_of(rt: &(impl Runtime + AllocGlobal), items: u64) -> io::Result<f64>
     requires { 0 < items }
 {
     let mut tables = Tables::new(rt.alloc());
-    timed(rt, items, &mut tables)
+    let seconds = timed(rt, items, &mut tables);
+    drop(tables);
+    seconds
 }
 
 /// The time of the second half of the actions.
@@ -47,9 +50,9 @@ fn timed(rt: &(impl Runtime + AllocGlobal), items: u64, tables: &mut Tables) -> 
     let mut random = Xoshiro256PlusPlus::seed_from_u64(1);
     open(rt.alloc(), items, tables).map_err(refused)?;
     run(rt.alloc(), items, &mut random, tables).map_err(refused)?;
-    let start = Instant::now(rt)?;
+    let start = Instant::now(rt);
     run(rt.alloc(), items, &mut random, tables).map_err(refused)?;
-    Ok(start.elapsed(rt)?.as_secs_f64())
+    seconds_since(rt, start)
 }
 
 fn refused(_refusal: ActionRefusal) -> io::Error {

@@ -4,6 +4,7 @@ ghost use Rattle.std.specs.Thread.{IsSync};
 ghost use Rattle.tx_table.specs.Seated.{view};
 ghost use Rattle.transactions.specs.Ready.{HasBegunSince, IsReady};
 
+use crate::clock::seconds_since;
 use crate::outcomes::Outcomes;
 use crate::work::{Calls, Work, drawn, opening, refused, shape};
 use rand_core::SeedableRng;
@@ -24,10 +25,30 @@ pub fn time<R: Runtime + AllocGlobal + Threads + Sync>(
     threads: u32,
     transactions: u32,
 ) -> io::Result<(Outcomes, f64)> {
-    let (table, seat) = open(rt.alloc(), work).map_err(refused)?;
+    match open(rt.alloc(), work) {
+        Ok((table, seat)) => {
+            let timed = timed(rt, &table, seat, work, threads, transactions);
+            drop(table);
+            timed
+        }
+        Err(refusal) => Err(refused(refusal)),
+    }
+}
+
+fn timed<R: Runtime + AllocGlobal + Threads + Sync>(
+    rt: &R,
+    table: &TxTable<u64>,
+    seat: TxSeat<u64>,
+    work: Work,
+    threads: u32,
+    transactions: u32,
+) -> io::Result<(Outcomes, f64)>
+    requires ready { IsReady table.now seat }
+    requires shares { (view seat.seat).shares ≡ 64 }
+{
     let start = Instant::now(rt);
-    let outcomes = run(rt, &table, seat, work, threads, transactions)?;
-    let seconds = start?.elapsed(rt)?.as_secs_f64();
+    let outcomes = run(rt, table, seat, work, threads, transactions)?;
+    let seconds = seconds_since(rt, start)?;
     Ok((outcomes, seconds))
 }
 
@@ -55,7 +76,10 @@ fn run<R: Threads + Sync>(
         1 => Ok(on_one(table, seat, work, transactions, 1)),
         2 => Ok(on_two(rt, table, seat, work, transactions, 1)),
         4 => Ok(on_four(rt, table, seat, work, transactions)),
-        _ => Err(io::Error::other("there are one, two or four threads")),
+        _ => {
+            drop(seat);
+            Err(io::Error::other("there are one, two or four threads"))
+        }
     }
 }
 
@@ -126,6 +150,7 @@ fn on_one(
     'transactions: for _ in 0..transactions {
         outcomes.note(transact(table, &mut seat, work, &mut random));
     }
+    drop(seat);
     outcomes
 }
 

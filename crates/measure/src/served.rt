@@ -1,13 +1,15 @@
 //! Drawn sessions by workers on a shared table.
-ghost use Rattle.std.specs.Prelude.{◌≡◌, IfOk};
+ghost use Rattle.std.specs.Prelude.{◌≡◌, ◌≤◌, IfOk, length};
 ghost use Rattle.generated_sessions.specs.Options.{AreWithin};
+ghost use Rattle.vac_model.specs.Balanced.{IsBalanced};
 ghost use Rattle.tx_table.specs.Seated.{view};
 ghost use Rattle.transactions.specs.Ready.{IsReady};
 
+use crate::clock::seconds_since;
 use crate::sessions::{STRIPES, lists_of, memory, no_such_sessions};
 use crate::tries::Tries;
 use generated_sessions::{Options, opening};
-use seq_model::{ACTOR_LIMIT, Items, Refusal, Shape, State};
+use seq_model::{ACTOR_LIMIT, Items, Memory, Refusal, Shape, State};
 use std::alloc::Global;
 use std::io;
 use std::rt::Runtime;
@@ -16,9 +18,9 @@ use std::thread::Threads;
 use std::time::Instant;
 use transactions::TxSeat;
 use tx_table::TxTable;
-use vac_model::Action;
+use vac_model::{Action, Tables};
 use vacation_core::{Entry, Session, state_of};
-use workers::run_workers;
+use workers::{Report, run_workers};
 
 /// The most attempts of a session.
 const TRIES: u64 = 1_000_000;
@@ -43,13 +45,53 @@ fn drawn<R: Runtime + AllocGlobal + Threads + Wait + Sync>(
 ) -> io::Result<(f64, u64)>
     requires { AreWithin options.now }
 {
-    let alloc = rt.alloc();
-    let tables = opening(alloc, seed, options).map_err(memory)?;
-    let lists = lists_of(alloc, seed, options).map_err(memory)?;
-    let sessions = all_sessions(alloc, lists.as_slice()).map_err(refused)?;
-    let state = state_of(alloc, &tables).map_err(memory)?;
-    match open(alloc, state) {
-        Ok((table, seat)) => run(rt, &table, seat, sessions),
+    let tables = opening(rt.alloc(), seed, options).map_err(memory)?;
+    let made = from_tables(rt, options, seed, &tables);
+    drop(tables);
+    made
+}
+
+fn from_tables<R: Runtime + AllocGlobal + Threads + Wait + Sync>(
+    rt: &R,
+    options: &Options,
+    seed: u64,
+    tables: &Tables,
+) -> io::Result<(f64, u64)>
+    requires within { AreWithin options.now }
+    requires balanced { IsBalanced tables.now }
+{
+    let lists = lists_of(rt.alloc(), seed, options).map_err(memory)?;
+    of_lists(rt, tables, lists.as_slice())
+}
+
+fn of_lists<R: Runtime + AllocGlobal + Threads + Wait + Sync>(
+    rt: &R,
+    tables: &Tables,
+    lists: &[Vec<Action>],
+) -> io::Result<(f64, u64)>
+    requires { IsBalanced tables.now }
+{
+    let sessions = all_sessions(rt.alloc(), lists).map_err(refused)?;
+    if sessions.is_empty() || sessions.len() > ACTOR_LIMIT as usize {
+        return Err(no_such_sessions());
+    }
+    let state = state_of(rt.alloc(), tables).map_err(memory)?;
+    at_table(rt, state, sessions)
+}
+
+fn at_table<R: Runtime + AllocGlobal + Threads + Wait + Sync>(
+    rt: &R,
+    state: State<Entry>,
+    sessions: Vec<Vec<Session>>,
+) -> io::Result<(f64, u64)>
+    requires { (1 ≤ length sessions.items) × (length sessions.items ≤ ACTOR_LIMIT) }
+{
+    match open(rt.alloc(), state) {
+        Ok((table, seat)) => {
+            let made = run(rt, &table, seat, sessions);
+            drop(table);
+            made
+        }
         Err(refusal) => Err(refused(refusal)),
     }
 }
@@ -90,17 +132,45 @@ fn run<R: Runtime + AllocGlobal + Threads + Wait + Sync>(
 ) -> io::Result<(f64, u64)>
     requires ready { IsReady table.now seat }
     requires shares { (view seat.seat).shares ≡ 64 }
+    requires some { (1 ≤ length sessions.items) × (length sessions.items ≤ ACTOR_LIMIT) }
 {
-    let workers = sessions.len();
-    if workers == 0 || workers > ACTOR_LIMIT as usize {
-        return Err(no_such_sessions());
+    match Tries::new(rt.alloc(), sessions.len()) {
+        Ok(tries) => timed(rt, table, seat, sessions, &tries),
+        Err(refusal) => {
+            drop(seat);
+            Err(memory(refusal))
+        }
     }
-    let tries = Tries::new(rt.alloc(), workers).map_err(memory)?;
+}
+
+fn timed<R: Runtime + AllocGlobal + Threads + Wait + Sync>(
+    rt: &R,
+    table: &TxTable<Entry>,
+    seat: TxSeat<Entry>,
+    sessions: Vec<Vec<Session>>,
+    tries: &Tries,
+) -> io::Result<(f64, u64)>
+    requires ready { IsReady table.now seat }
+    requires shares { (view seat.seat).shares ≡ 64 }
+    requires some { (1 ≤ length sessions.items) × (length sessions.items ≤ ACTOR_LIMIT) }
+{
     let start = Instant::now(rt);
-    let (_seat, report) = run_workers(rt, rt.alloc(), table, seat, sessions, TRIES, &tries);
-    let seconds = start?.elapsed(rt)?.as_secs_f64();
+    let (seat, report) = run_workers(rt, rt.alloc(), table, seat, sessions, TRIES, tries);
+    let seconds = seconds_since(rt, start);
+    drop(seat);
+    let whole = is_whole(&report);
+    drop(report);
+    if whole {
+        Ok((seconds?, tries.all()))
+    } else {
+        Err(io::Error::other("a session was missed"))
+    }
+}
+
+/// Whether no session was missed.
+fn is_whole(report: &Result<Report<Entry>, Memory>) -> bool {
     match report {
-        Ok(report) if report.missed.is_empty() => Ok((seconds, tries.all())),
-        _ => Err(io::Error::other("a session was missed")),
+        Ok(report) => report.missed.is_empty(),
+        Err(_) => false,
     }
 }

@@ -19,11 +19,18 @@ const ROUNDS: u32 = 1000;
 /// Prints the times at few locations a set and at as many as it may have, rising and in random order.
 pub fn measure(rt: &(impl Runtime + AllocGlobal)) -> io::Result<()> {
     let mut locations = all_locations(rt.alloc())?;
-    report(rt, "rising", 10, &locations)?;
-    report(rt, "rising", 4096, &locations)?;
+    report_both(rt, "rising", locations.as_slice())?;
     locations.shuffle(&mut Xoshiro256PlusPlus::seed_from_u64(1));
-    report(rt, "random", 10, &locations)?;
-    report(rt, "random", 4096, &locations)
+    report_both(rt, "random", locations.as_slice())
+}
+
+fn report_both(
+    rt: &(impl Runtime + AllocGlobal),
+    order: &str,
+    locations: &[u32],
+) -> io::Result<()> {
+    report(rt, order, 10, locations)?;
+    report(rt, order, 4096, locations)
 }
 
 fn all_locations(alloc: Global) -> Result<Vec<u32>, AllocError> {

@@ -175,12 +175,12 @@ fn held(alloc: Global, work: Work) -> Result<Vec<Held<u64>>, Memory> {
 /// An empty map, an empty multiset, an empty priority queue and an empty queue.
 pub fn four_kinds(alloc: Global) -> Result<Vec<Held<u64>>, Memory> {
     let items = QueueItems::new(alloc);
-    let mut held = Vec::new(alloc);
-    held.push(Held::Map(Entries::new(alloc)))?;
-    held.push(Held::Bag(Counts::new(alloc)))?;
-    held.push(Held::Pq(Counts::new(alloc)))?;
-    held.push(Held::Queue { head: 0, items })?;
-    Ok(held)
+    Ok(vec![in alloc;
+        Held::Map(Entries::new(alloc)),
+        Held::Bag(Counts::new(alloc)),
+        Held::Pq(Counts::new(alloc)),
+        Held::Queue { head: 0, items },
+    ]?)
 }
 
 /// The next event of a client: a step of the request that is under way, or a new request.
