@@ -8,9 +8,7 @@ use Rattle.std.specs.Prelude.{All, Ok, Err}
 use Rattle.std.proofs.lemmas.List.{length-append, get_or_append_left}
 use Rattle.std.proofs.Math.Seq.{get_or-append_seam}
 use Rattle.std.proofs.lemmas.List.Elements.{All-cons, All-head, All-nil, All-tail}
-use Rattle.std.specs.declared.alloc.Global.{Global}
-use Rattle.std.specs.declared.vec.Vec.{Vec}
-use Rattle.dealing.specs.Deals.{AreDealt, every, in_lists}
+use Rattle.dealing.specs.Deals.{AreDealt, every}
 use Rattle.seq_model.proofs.LawLemmas.{runs_have_no_fault}
 use Rattle.seq_model.specs.Audit.{IsAuditFault}
 use Rattle.seq_model.specs.Contents.{Contents}
@@ -79,12 +77,6 @@ dealt_same {A} n items others own seen lists shown same one two =
     let first = subst (λ (xs : List A). AreDealt n xs own) same one in
     shown ∙ same_lists own lists (first.many ∙ sym two.many)
     (λ k lt. let within : k < n = subst (λ m. k < m) first.many lt in first.each k within ∙ sym (two.each k within))
-
--- lists that are served as a slice
-pub of_slice : (tables : Holdings) (tries : ℕ) (served : Served) (slice lists : List (Vec Action Global)) → slice ≡ lists
-    → IsServed tables STRIPES (in_lists slice) tries served → IsServed tables STRIPES (in_lists lists) tries served
-of_slice tables tries served slice lists same made =
-    subst (λ (ls : List (Vec Action Global)). IsServed tables STRIPES (in_lists ls) tries served) same made
 
 -- ---- why it was refused
 -- what an inspection finds in sessions that were served: their receipts are a run, and the tables are balanced

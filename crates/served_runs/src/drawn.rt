@@ -15,7 +15,7 @@ use crate::inspection::inspected;
 use crate::progress::Progress;
 use crate::tally::{Tally, Times, causes_of};
 use generated_sessions::{Options, generate, opening};
-use seq_model::{Memory, State};
+use seq_model::{Memory, Refusal, State};
 use serving::{Served, serve_allowed};
 use session_output::{RunFault, STRIPES, with_ending};
 use std::alloc::Global;
@@ -77,9 +77,29 @@ pub fn run_drawn<R: Threads + Wait + Clock + Sync, P: Progress + Sync>(
     ensures refused { IfErr result IsWantOfMemory }
 {
     let tables = opening(alloc, drawn.seed, &drawn.options)?;
+    let run = run_opened(rt, alloc, drawn, &tables, progress);
+    drop(tables);
+    run
+}
+
+fn run_opened<R: Threads + Wait + Clock + Sync, P: Progress + Sync>(
+    rt: &R,
+    alloc: Global,
+    drawn: &Drawn,
+    tables: &Tables,
+    progress: &P,
+) -> Result<DrawnRun, RunFault>
+    requires drawable { IsDrawable drawn.now }
+    requires tables { tables.now ≡ opening_of drawn.now.seed drawn.now.options }
+    requires balanced { IsBalanced tables.now }
+    ensures run { IfOk result (λ run. IsDrawnRun drawn.now run.missed) }
+    ensures refused { IfErr result IsWantOfMemory }
+{
     let lists = drawn_lists(alloc, drawn)?;
-    let first = state_of(alloc, &tables)?;
-    run_lists(rt, alloc, drawn, &first, tables, lists, progress)
+    let first = state_of(alloc, tables)?;
+    let run = run_lists(rt, alloc, drawn, &first, tables, lists.as_slice(), progress);
+    drop(first);
+    run
 }
 
 /// Has workers run these lists from these tables, and inspects what came of it.
@@ -88,30 +108,43 @@ fn run_lists<R: Threads + Wait + Clock + Sync, P: Progress + Sync>(
     alloc: Global,
     drawn: &Drawn,
     first: &State<Entry>,
-    tables: Tables,
-    lists: Vec<Vec<Action>>,
+    tables: &Tables,
+    lists: &[Vec<Action>],
     progress: &P,
 ) -> Result<DrawnRun, RunFault>
     requires drawable { IsDrawable drawn.now }
-    requires tables { tables ≡ opening_of drawn.now.seed drawn.now.options }
-    requires balanced { IsBalanced tables }
-    requires first { first.now ≡ state_that_holds tables }
-    requires lists { AreDrawn drawn.now (in_lists lists.items) }
-    requires allowed { AreAllowed (in_lists lists.items) }
+    requires tables { tables.now ≡ opening_of drawn.now.seed drawn.now.options }
+    requires balanced { IsBalanced tables.now }
+    requires first { first.now ≡ state_that_holds tables.now }
+    requires lists { AreDrawn drawn.now (in_lists lists.now) }
+    requires allowed { AreAllowed (in_lists lists.now) }
     ensures run { IfOk result (λ run. IsDrawnRun drawn.now run.missed) }
     ensures refused { IfErr result IsWantOfMemory }
 {
     let tally = Tally::new(alloc, lists.len(), drawn.tries, progress)?;
+    run_tallied(rt, alloc, drawn, first, tables, lists, &tally)
+}
+
+fn run_tallied<R: Threads + Wait + Clock + Sync, P: Progress + Sync>(
+    rt: &R,
+    alloc: Global,
+    drawn: &Drawn,
+    first: &State<Entry>,
+    tables: &Tables,
+    lists: &[Vec<Action>],
+    tally: &Tally<P>,
+) -> Result<DrawnRun, RunFault>
+    requires drawable { IsDrawable drawn.now }
+    requires tables { tables.now ≡ opening_of drawn.now.seed drawn.now.options }
+    requires balanced { IsBalanced tables.now }
+    requires first { first.now ≡ state_that_holds tables.now }
+    requires lists { AreDrawn drawn.now (in_lists lists.now) }
+    requires allowed { AreAllowed (in_lists lists.now) }
+    ensures run { IfOk result (λ run. IsDrawnRun drawn.now run.missed) }
+    ensures refused { IfErr result IsWantOfMemory }
+{
     let begun = time_of(rt);
-    let served = serve_allowed(
-        rt,
-        alloc,
-        &tables,
-        STRIPES,
-        lists.as_slice(),
-        drawn.tries,
-        &tally,
-    )?;
+    let served = serve_allowed(rt, alloc, tables, STRIPES, lists, drawn.tries, tally)?;
     let run = time_of(rt).saturating_sub(begun);
     let missed = served.report.missed.len() as u64;
     let (causes, audit) = audited(rt, alloc, first, served)?;
@@ -140,10 +173,29 @@ fn audited<R: Clock>(
     ensures sound { OnOk result (IsSound first.now (receipts_of served) served.state served.tables) }
     ensures finding { IfErr result (IsFinding first.now (receipts_of served) served.state served.tables) }
 {
-    let causes = causes_of(alloc, served.report.missed.as_slice())?;
+    match causes_of(alloc, served.report.missed.as_slice()) {
+        Ok(causes) => Ok((causes, time_of_audit(rt, alloc, first, served)?)),
+        Err(_) => {
+            drop(served);
+            Err(RunFault::Refused(Refusal::OutOfMemory))
+        }
+    }
+}
+
+/// How long the inspection took.
+fn time_of_audit<R: Clock>(
+    rt: &R,
+    alloc: Global,
+    first: &State<Entry>,
+    served: Served,
+) -> Result<Duration, RunFault>
+    ensures sound { OnOk result (IsSound first.now (receipts_of served) served.state served.tables) }
+    ensures finding { IfErr result (IsFinding first.now (receipts_of served) served.state served.tables) }
+{
     let begun = time_of(rt);
-    inspected(alloc, first, served)?;
-    Ok((causes, time_of(rt).saturating_sub(begun)))
+    let tables = inspected(alloc, first, served)?;
+    drop(tables);
+    Ok(time_of(rt).saturating_sub(begun))
 }
 
 /// What is printed of drawn sessions: how many workers and sessions there were, how many were missed, and that the receipts were audited

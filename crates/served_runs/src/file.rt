@@ -13,7 +13,7 @@ use crate::inspection::inspected;
 use crate::lines::lines_of_report;
 use crate::progress::{Progress, Receipts};
 use dealing::deal;
-use seq_model::{ACTOR_LIMIT, Memory, State};
+use seq_model::{ACTOR_LIMIT, Memory, Refusal, State};
 use served_sessions::sessions_of;
 use serving::serve_allowed;
 use session_output::{RunFault, STRIPES, SessionRun, text_of};
@@ -44,22 +44,26 @@ pub fn output_of<R: Threads + Wait + Sync, P: Progress + Sync>(
     ensures refused { IfErr result (IsFault text.now) }
 {
     let (tables, actions) = parse_sessions(alloc, text)?;
-    let run = run_dealt(rt, alloc, tables, actions.into_vec(), workers, progress)?;
-    Ok(text_of(alloc, &run)?)
+    let run = run_dealt(rt, alloc, &tables, actions.into_vec(), workers, progress);
+    drop(tables);
+    let run = run?;
+    let output = text_of(alloc, &run);
+    drop(run);
+    Ok(output?)
 }
 
 fn run_dealt<R: Threads + Wait + Sync, P: Progress + Sync>(
     rt: &R,
     alloc: Global,
-    tables: Tables,
+    tables: &Tables,
     actions: Vec<Action>,
     workers: usize,
     progress: &P,
 ) -> Result<SessionRun, RunFault>
     requires workers { (1 ≤ workers) × (workers ≤ ACTOR_LIMIT) }
-    requires balanced { IsBalanced tables }
+    requires balanced { IsBalanced tables.now }
     requires allowed { All IsAllowed actions.items }
-    ensures run { IfOk result (IsServedRun workers tables actions.items) }
+    ensures run { IfOk result (IsServedRun workers tables.now actions.items) }
     ensures refused { IfErr result IsWantOfMemory }
 {
     let total = actions.len();
@@ -69,7 +73,7 @@ fn run_dealt<R: Threads + Wait + Sync, P: Progress + Sync>(
         rt,
         alloc,
         tables,
-        lists,
+        lists.as_slice(),
         sessions.as_slice(),
         total,
         progress,
@@ -94,58 +98,59 @@ fn dealt_sessions(
 fn run_lists<R: Threads + Wait + Sync, P: Progress + Sync>(
     rt: &R,
     alloc: Global,
-    tables: Tables,
-    lists: Vec<Vec<Action>>,
+    tables: &Tables,
+    lists: &[Vec<Action>],
     sessions: &[Vec<Session>],
     total: usize,
     progress: &P,
 ) -> Result<SessionRun, RunFault>
-    requires balanced { IsBalanced tables }
-    requires lists { (1 ≤ length lists.items) × (length lists.items ≤ ACTOR_LIMIT) }
-    requires allowed { AreAllowed (in_lists lists.items) }
-    requires same { in_lists sessions.now ≡ in_lists lists.items }
+    requires balanced { IsBalanced tables.now }
+    requires lists { (1 ≤ length lists.now) × (length lists.now ≤ ACTOR_LIMIT) }
+    requires allowed { AreAllowed (in_lists lists.now) }
+    requires same { in_lists sessions.now ≡ in_lists lists.now }
     requires some { (1 ≤ length sessions.now) × (length sessions.now ≤ ACTOR_LIMIT) }
     requires like { AreDealtLike (length sessions.now) total (in_lists sessions.now) }
-    ensures run { IfOk result (IsToldRun tables (in_lists lists.items) total) }
+    ensures run { IfOk result (IsToldRun tables.now (in_lists lists.now) total) }
     ensures refused { IfErr result IsWantOfMemory }
 {
-    let opening = state_of(alloc, &tables)?;
-    run_from(
+    let opening = state_of(alloc, tables)?;
+    let run = run_from(
         rt, alloc, &opening, tables, lists, sessions, total, progress,
-    )
+    );
+    drop(opening);
+    run
 }
 
 fn run_from<R: Threads + Wait + Sync, P: Progress + Sync>(
     rt: &R,
     alloc: Global,
     opening: &State<Entry>,
-    tables: Tables,
-    lists: Vec<Vec<Action>>,
+    tables: &Tables,
+    lists: &[Vec<Action>],
     sessions: &[Vec<Session>],
     total: usize,
     progress: &P,
 ) -> Result<SessionRun, RunFault>
-    requires balanced { IsBalanced tables }
-    requires opening { opening.now ≡ state_that_holds tables }
-    requires lists { (1 ≤ length lists.items) × (length lists.items ≤ ACTOR_LIMIT) }
-    requires allowed { AreAllowed (in_lists lists.items) }
-    requires same { in_lists sessions.now ≡ in_lists lists.items }
+    requires balanced { IsBalanced tables.now }
+    requires opening { opening.now ≡ state_that_holds tables.now }
+    requires lists { (1 ≤ length lists.now) × (length lists.now ≤ ACTOR_LIMIT) }
+    requires allowed { AreAllowed (in_lists lists.now) }
+    requires same { in_lists sessions.now ≡ in_lists lists.now }
     requires some { (1 ≤ length sessions.now) × (length sessions.now ≤ ACTOR_LIMIT) }
     requires like { AreDealtLike (length sessions.now) total (in_lists sessions.now) }
-    ensures run { IfOk result (IsToldRun tables (in_lists lists.items) total) }
+    ensures run { IfOk result (IsToldRun tables.now (in_lists lists.now) total) }
     ensures refused { IfErr result IsWantOfMemory }
 {
     let receipts = Receipts::new(progress);
-    let served = serve_allowed(
-        rt,
-        alloc,
-        &tables,
-        STRIPES,
-        lists.as_slice(),
-        TRIES,
-        &receipts,
-    )?;
-    let lines = lines_of_report(alloc, sessions, total, &served.report)?;
-    let tables = inspected(alloc, opening, served)?;
-    Ok(SessionRun { lines, tables })
+    let served = serve_allowed(rt, alloc, tables, STRIPES, lists, TRIES, &receipts)?;
+    match lines_of_report(alloc, sessions, total, &served.report) {
+        Ok(lines) => {
+            let tables = inspected(alloc, opening, served)?;
+            Ok(SessionRun { lines, tables })
+        }
+        Err(_) => {
+            drop(served);
+            Err(RunFault::Refused(Refusal::OutOfMemory))
+        }
+    }
 }

@@ -56,6 +56,13 @@ pub(crate) fn inspected(
         tables,
         state,
     } = served;
-    look_through(alloc, opening, report, &state, &tables)?;
-    Ok(tables)
+    let found = look_through(alloc, opening, report, &state, &tables);
+    drop(state);
+    match found {
+        Ok(()) => Ok(tables),
+        Err(fault) => {
+            drop(tables);
+            Err(fault)
+        }
+    }
 }

@@ -231,18 +231,30 @@ fn attempted_in(times: &Times) -> u64 {
 /// The times as text, a line for each.
 pub fn print_times(alloc: Global, times: &Times) -> Result<String, Memory> {
     let mut text = String::new(alloc);
-    print_seconds(&mut text, "run", times.run)?;
-    print_seconds(&mut text, "audit", times.audit)?;
+    print_speed(&mut text, times)?;
+    print_counts(&mut text, "refused", times.refused.as_slice())?;
+    print_counts(&mut text, "missed", times.causes.as_slice())?;
+    Ok(text)
+}
+
+fn print_speed(text: &mut String, times: &Times) -> Result<(), Memory> {
+    print_seconds(text, "run", times.run)?;
+    print_seconds(text, "audit", times.audit)?;
     let speed = times.receipts.saturating_mul(1_000) / milliseconds(times.run).max(1);
     writeln!(text, "sessions a second: {speed}")?;
     let hundredths = times.tries.saturating_mul(100) / attempted_in(times).max(1);
     let (mean, part, most) = (hundredths / 100, hundredths % 100, times.most);
     writeln!(text, "tries a session: mean {mean}.{part:02}, most {most}")?;
-    for (name, count) in times.refused.as_slice() {
-        writeln!(text, "refused, {name}: {count}")?;
+    Ok(())
+}
+
+fn print_counts(
+    text: &mut String,
+    what: &str,
+    counts: &[(&'static str, u64)],
+) -> Result<(), Memory> {
+    for (name, count) in counts {
+        writeln!(text, "{what}, {name}: {count}")?;
     }
-    for (name, count) in times.causes.as_slice() {
-        writeln!(text, "missed, {name}: {count}")?;
-    }
-    Ok(text)
+    Ok(())
 }

@@ -16,5 +16,5 @@ returns-clause-output g c = record {
   spelled = c.in_ok-tables.ensures.sessions;
   made = subst (λ (actions : List Action). IsServedRun c.args.workers c.in_ok-tables.tables actions c.in_ok-run.run') c.into_vec.ensures
       c.in_ok-run.ensures.run;
-  written = c.in_ok-text_of.ensures;
+  written = c.in_ok-output.ensures;
 }
