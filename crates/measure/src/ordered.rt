@@ -1,6 +1,7 @@
 //! Drawn sessions of one client, one after another on a running world, in microseconds a session.
 ghost use Rattle.generated_sessions.specs.Options.{AreWithin};
 
+use crate::clock::seconds_since;
 use crate::sessions::{Mix, SEED, STRIPES, memory, no_such_sessions, options};
 use generated_sessions::{Options, generate, opening};
 use ordered_sessions::run_in_order;
@@ -52,8 +53,11 @@ fn timed(
 {
     let tables = opening(rt.alloc(), SEED, options).map_err(memory)?;
     let start = Instant::now(rt);
-    if run_in_order(rt.alloc(), tables, STRIPES, actions).is_err() {
+    let run = run_in_order(rt.alloc(), tables, STRIPES, actions);
+    let is_refused = run.is_err();
+    drop(run);
+    if is_refused {
         return Err(io::Error::other("a session was refused"));
     }
-    Ok(start?.elapsed(rt)?.as_secs_f64())
+    seconds_since(rt, start)
 }
