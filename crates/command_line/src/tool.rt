@@ -69,8 +69,8 @@ pub fn refuse_memory<E: Write>(err: &mut E) -> u8
     fault(err, MEMORY, "Memory")
 }
 
-/// Runs the words over the file that they name, as it was opened: `run_tool` over its text, or the fault that it can't be
-/// read.
+/// Runs the words over the file that they name, as it was opened: `run_tool` over its text, with each status as that has it, or
+/// the fault that it can't be read.
 pub fn run_file<
     H: Threads + Wait + Clock + Sync,
     R: Read + Drop,
@@ -92,6 +92,12 @@ pub fn run_file<
         → IfOk opened (λ reader. HasWorked (map string_bytes words.now) (R.remaining reader) (W.contents out.old) (W.contents out.new)) }
     ensures quiet { result ≡ DONE → AsksForTimes (task_named (map string_bytes words.now)) ⊎ (err.new ≡ err.old) }
     ensures memory { result ≡ MEMORY → out.new ≡ out.old }
+    ensures refused { result ≡ REFUSED → IfOk opened (λ reader. (out.new ≡ out.old)
+        ⊎ (AskForInformation (map string_bytes words.now) ⊎ IsRead (map string_bytes words.now) (R.remaining reader))) }
+    ensures fault { AreTaken (map string_bytes words.now) → result ≡ REFUSED → IfOk opened (λ reader.
+        HasToldFault (task_named (map string_bytes words.now)) REFUSED (R.remaining reader) (E.contents err.old) (E.contents err.new)
+        ⊎ ((err.new ≡ err.old) × HasOutput (task_named (map string_bytes words.now)) (R.remaining reader))) }
+    ensures starved { result ≡ MEMORY → IfOk opened (λ _. HasBegun (E.contents err.old) (E.contents err.new) (line_of memory_text)) }
     ensures unopened { IsErr opened → (result ≡ REFUSED) × (out.new ≡ out.old) }
     ensures told { IsErr opened → HasBegun (E.contents err.old) (E.contents err.new) (line_of unreadable_text) }
 {
