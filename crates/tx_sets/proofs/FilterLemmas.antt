@@ -41,7 +41,8 @@ filter_there es filter l v i d are place is = record {
 
 -- a new entry, whose flag is then set
 pub filter_new : (es fs gs : Entries) (filter : List Bool) (l v i : ℕ) → HasFilter filter es
-    → l % FLAGS < length filter → IsPlaceOf l es (Err i) → fs ≡ es → gs ≡ insert fs i (l, v) → length es < LOCATION_LIMIT → HasFilter (set filter (l % FLAGS) true) gs
+    → l % FLAGS < length filter → IsPlaceOf l es (Err i) → fs ≡ es → gs ≡ insert fs i (l, v) → length es < LOCATION_LIMIT
+    → HasFilter (set filter (l % FLAGS) true) gs
 filter_new es fs gs filter l v i are inside place same is fewer = record {
   orderly = orderly_new es fs gs l v i are.orderly place same is fewer;
   flagged =
