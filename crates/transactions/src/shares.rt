@@ -4,7 +4,7 @@ ghost use mathlib.Core.Option.{some};
 ghost use Rattle.seq_model.specs.Refusals.{IsNoSuchOrTooLong};
 ghost use Rattle.world_table.specs.Openings.{IsWithin, blocks_of, world_of};
 ghost use Rattle.tx_table.specs.Ends.{homes_of, row_of};
-ghost use Rattle.tx_table.specs.Seated.{actor, blocks_in, contents_in, locations_in, opening_of, view, words_in};
+ghost use Rattle.tx_table.specs.Seated.{actor, acts, blocks_in, contents_in, locations_in, opening_of, view, words_in};
 ghost use Rattle.tx_table.specs.Shown.{ShowsWorld, both_of, first as first_view, left_of, right_of};
 ghost use Rattle.transactions.specs.Closing.{IsLeftBy};
 ghost use Rattle.transactions.specs.Ready.{IsReady};
@@ -45,13 +45,15 @@ impl<V: Value> TxSeat<V> {
         self.seat.shares()
     }
 
-    /// A new seat, which gets so many of this one's shares. It has no receipts, and its last number is 0.
+    /// A new seat, which gets so many of this one's shares. It has no receipts, and its last number is 0. A transaction that is open here
+    /// stays as it is.
     pub fn split(&mut self, table: &TxTable<V>, shares: u64) -> TxSeat<V>
         requires ready { IsReady table.now self.old }
         requires some { 1 ≤ shares }
         requires fewer { shares < (view self.old.seat).shares }
         ensures ready { IsReady table.now self.new × IsReady table.now result }
         ensures same { actor self.new.seat ≡ actor self.old.seat }
+        ensures own { acts (opening_of table.now) self.new.seat ≡ acts (opening_of table.now) self.old.seat }
         ensures left { (view self.new.seat ≡ left_of shares (view self.old.seat)) × (self.new.seat.last ≡ self.old.seat.last) }
         ensures right { (view result.seat ≡ right_of shares (view self.old.seat)) × (result.seat.last ≡ 0) }
     {
@@ -59,13 +61,14 @@ impl<V: Value> TxSeat<V> {
         TxSeat::new(self.alloc, table, seat)
     }
 
-    /// The other seat's shares and receipts become this one's, and the greater last number. A transaction that was left open there is not
-    /// committed any more.
+    /// The other seat's shares and receipts become this one's, and the greater last number. A transaction that is open here stays as it is;
+    /// one that was left open there is not committed any more.
     pub fn join(&mut self, table: &TxTable<V>, other: TxSeat<V>)
         requires ready { IsReady table.now self.old }
         requires other { IsReady table.now other }
         ensures ready { IsReady table.now self.new }
         ensures same { actor self.new.seat ≡ actor self.old.seat }
+        ensures own { acts (opening_of table.now) self.new.seat ≡ acts (opening_of table.now) self.old.seat }
         ensures both { view self.new.seat ≡ both_of (view self.old.seat) (actor other.seat) (view other.seat) }
         ensures last { self.new.seat.last ≡ max self.old.seat.last other.seat.last }
     {

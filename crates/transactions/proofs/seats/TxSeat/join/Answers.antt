@@ -20,3 +20,6 @@ returns-clause-ready g c =
     ap (λ m. m.0.shares) e.both in
     let low = c.requires.ready.ties.live in omega (arith, more, low)) in
     stays_ready c.args.table.now c.args.self.now _ c.requires.ready refl e.same.0 e.same.1 e.acts live (ap (λ m. m.1) e.both)
+
+pub returns-clause-own : goal.returns-clause-own
+returns-clause-own g c = c.join.ensures.acts

@@ -14,3 +14,6 @@ returns-clause-ready g c =
           (ap (λ m. m.1) e.left),
       c.new.ensures.ready,
     )
+
+pub returns-clause-own : goal.returns-clause-own
+returns-clause-own g c = c.split-seat.ensures.acts
