@@ -8,6 +8,7 @@ ghost use Rattle.vacation_core.specs.Sessions.{SessionProgram};
 ghost use Rattle.vacation_core.specs.Walks.{Comes};
 ghost use Rattle.vacation_core.specs.Serving.{deletes, serves_on, waiter, IsServed};
 
+use crate::shared::SharedCustomer;
 use crate::walk::{Stop, Walk, put_customer};
 use seq_model::Memory;
 use std::alloc::Global;
@@ -102,7 +103,8 @@ impl<'a> Walk<'a> {
             return Ok(());
         }
         let who = served(self.allocator(), found, ticket, booking)?;
-        Err(put_customer(customer, who))
+        let shared = SharedCustomer::new(self.allocator(), who)?;
+        Err(put_customer(customer, shared))
     }
 
     /// Serves a ticket that is in the map: how many it books, `None` where serving ends.

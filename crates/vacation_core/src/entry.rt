@@ -1,13 +1,14 @@
 //! What the maps hold.
 
+use crate::shared::SharedCustomer;
 use seq_model::{Memory, Value};
-use vac_model::{Customer, Item, Ticket};
+use vac_model::{Item, Ticket};
 
 /// An entry of one of the maps.
 #[derive(Drop)]
 pub enum Entry {
     Item(Item),
-    Customer(Customer),
+    Customer(SharedCustomer),
     Ticket(Ticket),
 }
 

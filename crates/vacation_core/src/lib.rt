@@ -11,10 +11,12 @@ mod entry;
 pub mod laws;
 mod reserve;
 mod session;
+mod shared;
 mod state;
 mod update;
 mod walk;
 
 pub use entry::Entry;
 pub use session::Session;
+pub use shared::SharedCustomer;
 pub use state::{state_of, tables_of};

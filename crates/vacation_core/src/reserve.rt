@@ -19,6 +19,7 @@ ghost use Rattle.vacation_core.specs.Gets.{get_due, tells_item, item_told};
 ghost use Rattle.vac_model.specs.Actions.{take_units};
 
 use crate::entry::Entry;
+use crate::shared::SharedCustomer;
 use crate::walk::{Stop, Walk, asks_get, asks_put, map_of, put_customer, tell_items};
 use seq_model::{Items, Memory, Reply, Value};
 use std::alloc::Global;
@@ -404,7 +405,8 @@ impl<'a> Walk<'a> {
             return Ok(());
         }
         let who = draft.customer(self.allocator())?;
-        Err(put_customer(draft.number, who))
+        let shared = SharedCustomer::new(self.allocator(), who)?;
+        Err(put_customer(draft.number, shared))
     }
 
     fn decide_all(

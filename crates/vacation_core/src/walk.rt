@@ -20,6 +20,7 @@ ghost use Rattle.vacation_core.specs.Left.{replies_in};
 ghost use Rattle.vacation_core.specs.Walks.{Comes, IsStop};
 
 use crate::entry::Entry;
+use crate::shared::SharedCustomer;
 use seq_model::{Call, Memory, Op, Reply};
 use std::alloc::{AllocError, Global};
 use std::marker::Model;
@@ -182,8 +183,8 @@ fn customer_in(reply: &Reply<Entry>) -> Result<Option<&Customer>, Stop>
     match reply {
         Reply::Nothing => Ok(None),
         Reply::Value(Entry::Customer(who)) => {
-            if is_customer_within(who) {
-                Ok(Some(who))
+            if is_customer_within(who.get()) {
+                Ok(Some(who.get()))
             } else {
                 Err(Stop::GivesUp)
             }
@@ -264,7 +265,7 @@ pub(crate) fn asks_put(kind: Kind, id: u64, item: Item) -> Stop
 }
 
 /// A customer is to be put.
-pub(crate) fn put_customer(customer: u64, who: Customer) -> Stop
+pub(crate) fn put_customer(customer: u64, who: SharedCustomer) -> Stop
     ensures { (next : SessionProgram) → IsStop result (programs.put_customer customer who next) }
 {
     let op = Op::Put(customer, Entry::Customer(who));
