@@ -1,5 +1,6 @@
 pub mod Holding
 pub mod Parts
+pub mod Within
 pub mod Sessions
 pub mod Runs
 pub mod Laws

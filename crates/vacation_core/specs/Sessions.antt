@@ -1,7 +1,7 @@
 -- The session of an action, as a program of calls.
 use Rattle.std.specs.Prelude.{ℕ, zero, suc, ◌+◌, List, [], ◌∷◌, ◌++◌, Option, Some, None, option_map, unwrap_or, is_none, Bool, true, false}
 use Rattle.std.specs.Prelude.{◌&&◌, ◌||◌, ◌==◌, nat_lt, nat_le, if◌then◌else◌}
-use Rattle.std.specs.List.{list_all, list_any}
+use Rattle.std.specs.List.{list_any}
 use Rattle.seq_model.specs.declared.call.Call.{Call}
 use Rattle.seq_model.specs.declared.call.Op.{Op}
 use Rattle.seq_model.specs.declared.call.Op.TheVariants.{Read, Write, Get, Put, Remove, Enqueue, Dequeue, Peek}
@@ -24,11 +24,12 @@ use Rattle.vac_model.specs.declared.action.Action.{Action}
 use Rattle.vac_model.specs.declared.action.Action.TheVariants.{Reserve, Delete, Update, QueryItem, QueryBill}
 use Rattle.vac_model.specs.declared.action.ActionReply.{ActionReply}
 use Rattle.vac_model.specs.declared.action.ActionReply.TheVariants.{Reserved, Deleted, Updated, Absent}
-use Rattle.vac_model.specs.declared.limits.TheConstants.{AMOUNT_LIMIT, PLACE_LIMIT, SERVE_LIMIT, TICKET_LIMIT}
+use Rattle.vac_model.specs.declared.limits.TheConstants.{SERVE_LIMIT, TICKET_LIMIT}
 use Rattle.vac_model.specs.Holdings.{same_kind, newcomer, everywhere}
-use Rattle.vac_model.specs.Actions.{dearer, has, is_full, places, take_units, give_units, without_wait, bill, changed, kind_of, id_of}
+use Rattle.vac_model.specs.Actions.{dearer, has, is_full, take_units, give_units, without_wait, bill, changed, kind_of, id_of}
 use Rattle.vac_model.specs.Actions.{item_reply, bill_reply}
-use Rattle.vac_model.specs.Tests.{is_item_sound, are_units}
+use Rattle.vac_model.specs.Tests.{is_item_sound}
+pub use Rattle.vacation_core.specs.Within.{is_booking_within, is_customer_within}
 use Rattle.vacation_core.specs.declared.entry.Entry.{Entry}
 use Rattle.vacation_core.specs.declared.entry.Entry.TheVariants.{Item as Stock, Customer as Client, Ticket as Slip}
 use Rattle.tx_engine.specs.Programs.{Program, Asks, Answers, GivesUp}
@@ -58,13 +59,6 @@ abbrev pub item_in : Reply Entry → (Option Item → SessionProgram) → Sessio
 item_in Nothing next = next None
 item_in (Value (Stock i)) next = if is_item_sound i then next (Some i) else GivesUp
 item_in _ next = GivesUp
-
--- as many bookings and waits, units and prices as there may be, so that no bill is too great
-abbrev pub is_booking_within : Booking → Bool
-is_booking_within b = are_units b.units && nat_le b.price AMOUNT_LIMIT
-
-abbrev pub is_customer_within : Customer → Bool
-is_customer_within who = nat_le (places who) PLACE_LIMIT && list_all is_booking_within who.bookings
 
 abbrev pub customer_in : Reply Entry → (Option Customer → SessionProgram) → SessionProgram
 customer_in Nothing next = next None

@@ -24,10 +24,7 @@ use crate::shared::SharedCustomer;
 use seq_model::{Call, Memory, Op, Reply};
 use std::alloc::{AllocError, Global};
 use std::marker::Model;
-use vac_model::{
-    AMOUNT_LIMIT, Ask, Booking, Customer, Item, Kind, TICKET_LIMIT, Ticket, are_units,
-    is_item_sound,
-};
+use vac_model::{Ask, Customer, Item, Kind, TICKET_LIMIT, Ticket, is_item_sound};
 
 /// Why a walk does not come to the end of its program.
 #[derive(Drop)]
@@ -152,29 +149,6 @@ pub(crate) fn tell_items(replies: &[Reply<Entry>]) -> bool
     true
 }
 
-fn is_booking_within(booking: &Booking) -> bool
-    ensures { result ≡ programs.is_booking_within booking.now }
-{
-    are_units(booking.units) && booking.price <= AMOUNT_LIMIT
-}
-
-fn are_bookings_within(bookings: &[Booking]) -> bool
-    ensures { result ≡ list_all programs.is_booking_within bookings.now }
-{
-    for booking in bookings {
-        if !is_booking_within(booking) {
-            return false;
-        }
-    }
-    true
-}
-
-fn is_customer_within(who: &Customer) -> bool
-    ensures { result ≡ programs.is_customer_within who.now }
-{
-    who.has_few_places() && are_bookings_within(who.bookings.as_slice())
-}
-
 fn customer_in(reply: &Reply<Entry>) -> Result<Option<&Customer>, Stop>
     ensures comes { (next : Option ACustomer → SessionProgram) (left : List (AReply AnEntry))
         → Comes (after (programs.customer_in reply.now next) left) result (λ who. after (next (option_copied who)) left) }
@@ -183,7 +157,7 @@ fn customer_in(reply: &Reply<Entry>) -> Result<Option<&Customer>, Stop>
     match reply {
         Reply::Nothing => Ok(None),
         Reply::Value(Entry::Customer(who)) => {
-            if is_customer_within(who.get()) {
+            if who.is_within() {
                 Ok(Some(who.get()))
             } else {
                 Err(Stop::GivesUp)
