@@ -36,9 +36,10 @@ pub use Rattle.transactions.proofs.RequestLemmas.{keeps_self}
 use Rattle.transactions.proofs.RequestLemmas.{then_keeps, told_later, told_on}
 use Rattle.transactions.specs.Ready.{standing}
 use Rattle.driven_turns.specs.Begins.{begins_of}
-use Rattle.transactions.specs.Requests.{CallsTo, CommitsTo, HasAborted, HasCommitted, IsAnswered, IsOpen, KeepsReceipts, told_of}
+use Rattle.transactions.specs.Requests.{CallsTo, CommitsTo, HasAborted, HasCommitted, IsAnswered, IsBegun, IsOpen, KeepsReceipts, told_of}
 use Rattle.attempts.proofs.JobLemmas.{asked_more, none_asked, replies_more}
-use Rattle.attempts.specs.Attempts.{EndsAs, HasGivenUp, HasMade, IsAt, IsCallRefused, IsSoFar, IsStarved, IsUnmade, Reaches, ask_of}
+use Rattle.attempts.specs.Attempts.{EndsAs, HasBegun, HasGivenUp, HasMade, IsAt, IsCallRefused, IsSoFar, IsStarved, IsUnmade, Reaches}
+use Rattle.attempts.specs.Attempts.{ask_of}
 use Rattle.attempts.specs.Jobs.{AreAskedBy}
 use Rattle.attempts.specs.declared.jobs.End.{End}
 use Rattle.attempts.specs.declared.jobs.End.TheVariants as ends
@@ -87,6 +88,12 @@ module _ {V : Type 0} where
         by false e =
             absurd (past_never (subst (λ (cs : List (Call V × Reply V)). CALL_LIMIT ≤ length cs) (sym calls_are)
             (ltb-false (length calls) CALL_LIMIT e)) C)
+
+  -- ---- the one transaction that has begun
+  pub has_begun : (o : World V) (s b m : Seat V) (number : ℕ) → IsBegun false o s b number → begins_of b ≡ begins_of s + 1
+      → KeepsReceipts b m → begins_of m ≡ begins_of b → HasBegun o s m
+  has_begun o s b m number begun asked since begins =
+      record { once = begins ∙ asked; first = b; number = number; begun = begun; asked = asked; since = since }
 
   -- ---- one request more
   module _ (asks : List (Reply V) → Ask V → Type 0) (o : World V) where
@@ -174,7 +181,7 @@ module _ {V : Type 0} where
 
     pub has_made : (s b m u : Seat V) (r : Record V) → KeepsReceipts s b → Reaches asks o b m ends.Done → CommitsTo o m u (Ok r)
         → (r.writes ≡ false → is_writer r.calls ≡ false) → (r.writes ≡ true → m.last < r.number)
-        → (m.last ≤ r.number) × (u.last ≡ r.number) → begins_of m ≡ begins_of s + 1 → HasMade asks o s u r
+        → (m.last ≤ r.number) × (u.last ≡ r.number) → HasBegun o s m → HasMade asks o s u r
     has_made s b m u r kept done made reads above last begun =
         let k : IsAt asks o s m done.0 ask.Done = at_before s b m done.0 ask.Done kept done.1 in
         let e : done.0 ≡ r.calls = same_calls done.0 r.calls (sym k.stands ∙ made.calls) in
@@ -200,7 +207,7 @@ module _ {V : Type 0} where
         }
 
     pub commit_refused : (s b m u : Seat V) (cause : Refusal) → KeepsReceipts s b → Reaches asks o b m ends.Done
-        → CommitsTo o m u (Err cause) → begins_of m ≡ begins_of s + 1 → EndsAs asks o s u (Err cause)
+        → CommitsTo o m u (Err cause) → HasBegun o s m → EndsAs asks o s u (Err cause)
     commit_refused s b m u cause kept done C begun =
         let k : IsAt asks o s m done.0 ask.Done = at_before s b m done.0 ask.Done kept done.1 in (
           then_keeps s m u k.keeps C.keeps,
@@ -208,7 +215,7 @@ module _ {V : Type 0} where
         )
 
     pub given_up : (s b m u : Seat V) → KeepsReceipts s b → Reaches asks o b m ends.GivenUp → KeepsReceipts m u
-        → (IsOpen o m → HasAborted o m u) → begins_of m ≡ begins_of s + 1 → HasGivenUp asks o s u
+        → (IsOpen o m → HasAborted o m u) → HasBegun o s m → HasGivenUp asks o s u
     given_up s b m u kept done ended aborted begun =
         let k : IsAt asks o s m done.0 ask.GiveUp = at_before s b m done.0 ask.GiveUp kept done.1 in
         record {
@@ -221,7 +228,7 @@ module _ {V : Type 0} where
         }
 
     pub broken_off : (s b m u : Seat V) (cause : Refusal) → KeepsReceipts s b → KeepsReceipts b m → IsUnmade asks o b m cause
-        → KeepsReceipts m u → (IsOpen o m → HasAborted o m u) → begins_of m ≡ begins_of s + 1 → EndsAs asks o s u (Err cause)
+        → KeepsReceipts m u → (IsOpen o m → HasAborted o m u) → HasBegun o s m → EndsAs asks o s u (Err cause)
     broken_off s b m u cause kept keeps unmade ended aborted begun = (
       then_keeps s b u kept (then_keeps b m u keeps ended),
       inr (inr record { left = m; begun = begun; unmade = unmade_before s b m cause kept unmade; keeps = ended; aborted = aborted }),

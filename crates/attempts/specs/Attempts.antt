@@ -1,5 +1,5 @@
 -- What an attempt of a job comes to.
-use Rattle.std.specs.Prelude.{◌≡◌, ◌⊎◌, ◌+◌, ◌<◌, ◌≤◌, true, false, List, [], ◌∷◌, ◌++◌, Result, Ok, Err}
+use Rattle.std.specs.Prelude.{◌≡◌, ◌⊎◌, ℕ, ◌+◌, ◌<◌, ◌≤◌, true, false, List, [], ◌∷◌, ◌++◌, Result, Ok, Err}
 use Rattle.seq_model.specs.declared.call.Call.{Call}
 use Rattle.seq_model.specs.declared.call.Reply.{Reply}
 use Rattle.seq_model.specs.declared.record.Record.{Record}
@@ -15,12 +15,24 @@ use Rattle.tx_table.specs.Seated.{actor, view}
 use Rattle.tx_phases.specs.Phases.{Stands}
 use Rattle.driven_turns.specs.Begins.{begins_of}
 use Rattle.transactions.specs.Ready.{standing}
-use Rattle.transactions.specs.Requests.{CallsTo, HasAborted, HasCommitted, IsEnded, IsNotBegun, IsOpen, KeepsReceipts, has_written}
+use Rattle.transactions.specs.Requests.{CallsTo, HasAborted, HasCommitted, IsBegun, IsEnded, IsNotBegun, IsOpen, KeepsReceipts}
+use Rattle.transactions.specs.Requests.{has_written}
 use Rattle.attempts.specs.Jobs.{AreAskedBy, IsWholeJob}
 use Rattle.attempts.specs.declared.jobs.Attempt.{Attempt}
 use Rattle.attempts.specs.declared.jobs.Attempt.TheVariants.{Committed, GivenUp}
 use Rattle.attempts.specs.declared.jobs.End.{End}
 use Rattle.attempts.specs.declared.jobs.End.TheVariants as ends
+
+module _ {V : Type 0} (o : World V) where
+  -- Between the seat s and the seat m one transaction has begun, and it may write: its begin led to the first of these seats, and was
+  -- answered with this number. All turns since then are its own.
+  pub record HasBegun (s m : Seat V) : Type 0 where
+    pub once : begins_of m ≡ begins_of s + 1
+    pub first : Seat V
+    pub number : ℕ
+    pub begun : IsBegun false o s first number
+    pub asked : begins_of first ≡ begins_of s + 1
+    pub since : KeepsReceipts first m
 
 module _ {V : Type 0} (asks : List (Reply V) → Ask V → Type 0) (o : World V) where
   -- ---- on the way
@@ -72,7 +84,7 @@ module _ {V : Type 0} (asks : List (Reply V) → Ask V → Type 0) (o : World V)
   -- So it was, which left a seat; a transaction that was open there was then aborted, as one of its turns told.
   pub record IsBrokenOff (s u : Seat V) (cause : Refusal) : Type 0 where
     pub left : Seat V
-    pub begun : begins_of left ≡ begins_of s + 1
+    pub begun : HasBegun o s left
     pub unmade : IsUnmade s left cause
     pub keeps : KeepsReceipts left u
     pub aborted : IsOpen o left → HasAborted o left u
@@ -82,7 +94,7 @@ module _ {V : Type 0} (asks : List (Reply V) → Ask V → Type 0) (o : World V)
     pub calls : List (Call V × Reply V)
     pub before : Seat V
     pub at : IsAt s before calls ask.Done
-    pub begun : begins_of before ≡ begins_of s + 1
+    pub begun : HasBegun o s before
     pub ended : IsEnded o before u cause
 
   -- the begin, the commit, or what is between them
@@ -101,7 +113,7 @@ module _ {V : Type 0} (asks : List (Reply V) → Ask V → Type 0) (o : World V)
     pub last : (s.last ≤ r.number) × (u.last ≡ r.number)
     pub before : Seat V
     pub at : IsAt s before r.calls ask.Done
-    pub begun : begins_of before ≡ begins_of s + 1
+    pub begun : HasBegun o s before
     pub writes : r.writes ≡ has_written o before
     pub reads : r.writes ≡ false → is_writer r.calls ≡ false
     pub committed : HasCommitted o before u r
@@ -112,7 +124,7 @@ module _ {V : Type 0} (asks : List (Reply V) → Ask V → Type 0) (o : World V)
     pub calls : List (Call V × Reply V)
     pub before : Seat V
     pub at : IsAt s before calls ask.GiveUp
-    pub begun : begins_of before ≡ begins_of s + 1
+    pub begun : HasBegun o s before
     pub aborted : HasAborted o before u
 
   -- a receipt, a job that gave up, or a refusal

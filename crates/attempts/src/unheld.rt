@@ -12,7 +12,7 @@ use transactions::TxSeat;
 use tx_engine::Job;
 use tx_table::TxTable;
 
-/// One attempt of a job, as `attempt_with` makes it, by a worker that is held nowhere.
+/// One attempt of a job, by a transaction that may write, as `attempt_with` makes it, and by a worker that is held nowhere.
 pub fn attempt<V: Value, J: Job<V>>(
     table: &TxTable<V>,
     seat: &mut TxSeat<V>,

@@ -3,8 +3,9 @@
 -- its cause last among the missed ones, with the number of the jobs before it as its place.
 use Rattle.std.proofs.Common.{◌≡◌, ℕ, suc, ◌+◌, ◌-◌, ◌<◌, ◌≤◌, List, [], ◌∷◌, ◌++◌, length, Ok, Err, inl, inr}
 use Rattle.std.proofs.Common.{refl, sym, ap, ◌∙◌, subst, arith}
-use Rattle.std.specs.Prelude.{get_or, map, take}
+use Rattle.std.specs.Prelude.{All, get_or, map, max, take}
 use Rattle.std.proofs.lemmas.List.{append-nil, append_assoc, length-take-le, map-append, take_more}
+use Rattle.std.proofs.lemmas.List.Elements.{All-append, All-cons, All-nil, All-weaker}
 use Rattle.std.proofs.Math.Seq.{take-length}
 use Rattle.seq_model.specs.declared.call.Reply.{Reply}
 use Rattle.seq_model.specs.declared.record.Record.{Record}
@@ -221,50 +222,86 @@ module _ {V : Type 0} where
   pub keeps_joined : (s u : TxSeat V) → KeepsReceipts s.seat u.seat → GetsJoined s u []
   keeps_joined s u k = record { same = k.seat.1; joined = k.joined ∙ sym (append-nil (view s.seat).joined) }
 
-  pub no_gain : (s : TxSeat V) → Gains s s []
-  no_gain s = record { shares = refl; records = sym (append-nil (records_of s)) }
+  -- these receipts have numbers up to this one
+  abbrev AreUpTo : ℕ → List (Record V) → Type 0
+  AreUpTo n rs = All (λ (r : Record V). r.number ≤ n) rs
 
-  pub then_gains : (s m u : TxSeat V) (rs ps : List (Record V)) → Gains s m rs → Gains m u ps → Gains s u (rs ++ ps)
-  then_gains s m u rs ps g h = record {
-    shares = h.shares ∙ g.shares;
-    records = h.records ∙ (ap (λ (xs : List (Record V)). xs ++ ps) g.records ∙ append_assoc (records_of s) rs ps);
+  up_to_more : (n m : ℕ) (rs : List (Record V)) → n ≤ m → AreUpTo n rs → AreUpTo m rs
+  up_to_more n m rs le all =
+      All-weaker (λ (r : Record V). r.number ≤ n) (λ (r : Record V). r.number ≤ m) (λ r few. omega (arith, few, le)) rs all
+
+  up_to_both : (n : ℕ) (rs ps : List (Record V)) → AreUpTo n rs → AreUpTo n ps → AreUpTo n (rs ++ ps)
+  up_to_both n rs ps of_rs of_ps = All-append (λ (r : Record V). r.number ≤ n) rs ps of_rs of_ps
+
+  pub no_gain : (s : TxSeat V) → Gains s s []
+  no_gain s = record {
+    shares = refl;
+    records = sym (append-nil (records_of s));
+    last = omega arith;
+    known = All-nil (λ (r : Record V). r.number ≤ s.seat.last);
   }
 
-  -- a seat that was split, and its halves joined again, each with receipts more: it has the receipts of both besides
+  pub then_gains : (s m u : TxSeat V) (rs ps : List (Record V)) → Gains s m rs → Gains m u ps → Gains s u (rs ++ ps)
+  then_gains s m u rs ps g h =
+      let low = g.last in
+      let more = h.last in
+      record {
+        shares = h.shares ∙ g.shares;
+        records = h.records ∙ (ap (λ (xs : List (Record V)). xs ++ ps) g.records ∙ append_assoc (records_of s) rs ps);
+        last = omega (arith, low, more);
+        known = up_to_both u.seat.last rs ps (up_to_more m.seat.last u.seat.last rs more g.known) h.known;
+      }
+
+  -- a seat that was split, and its halves joined again, each with receipts more: it has the receipts of both besides, and knows them
   pub both_gain : (n : ℕ) (s m o x y u : TxSeat V) (ps qs : List (Record V)) → n ≤ (view s.seat).shares
       → (view m.seat).shares ≡ (view s.seat).shares - n → (view m.seat).receipts ≡ (view s.seat).receipts → (view o.seat).shares ≡ n
       → (view o.seat).receipts ≡ [] → Gains m x ps → Gains o y qs → (view u.seat).shares ≡ (view x.seat).shares + (view y.seat).shares
-      → (view u.seat).receipts ≡ (view x.seat).receipts ++ (view y.seat).receipts → Gains s u (ps ++ qs)
-  both_gain n s m o x y u ps qs fits of_m same of_o none first second of_u both =
+      → (view u.seat).receipts ≡ (view x.seat).receipts ++ (view y.seat).receipts → m.seat.last ≡ s.seat.last
+      → u.seat.last ≡ max x.seat.last y.seat.last → Gains s u (ps ++ qs)
+  both_gain n s m o x y u ps qs fits of_m same of_o none first second of_u both kept last =
       let records : List (ℕ × Record V) → List (Record V) = map (λ (e : ℕ × Record V). e.1) in
       let of_x = first.shares in
       let of_y = second.shares in
       let by_first : records_of x ≡ records_of s ++ ps = first.records ∙ ap (λ (es : List (ℕ × Record V)). records es ++ ps) same in
       let by_second : records_of y ≡ qs = second.records ∙ ap (λ (es : List (ℕ × Record V)). records es ++ qs) none in
+      let low = first.last in
+      let of_first : x.seat.last ≤ u.seat.last = omega (arith, last) in
+      let of_second : y.seat.last ≤ u.seat.last = omega (arith, last) in
       record {
         shares = omega (arith, of_m, of_o, of_u, of_x, of_y, fits);
         records = ap records both
             ∙ (map-append (λ (e : ℕ × Record V). e.1) (view x.seat).receipts (view y.seat).receipts
             ∙ ((λ i. by_first i ++ by_second i) ∙ append_assoc (records_of s) ps qs));
+        last = omega (arith, low, kept, of_first);
+        known = up_to_both u.seat.last ps qs (up_to_more x.seat.last u.seat.last ps of_first first.known)
+            (up_to_more y.seat.last u.seat.last qs of_second second.known);
       }
 
   pub keeps_gains : (s m u : TxSeat V) (rs : List (Record V)) → Gains s m rs → KeepsReceipts m.seat u.seat → Gains s u rs
-  keeps_gains s m u rs g k = record {
-    shares = k.shares ∙ g.shares;
-    records = ap (λ (es : List (ℕ × Record V)). map (λ e. e.1) es) k.receipts ∙ g.records;
-  }
+  keeps_gains s m u rs g k =
+      let same : u.seat.last ≡ m.seat.last = k.seat.2 in
+      let low = g.last in
+      record {
+        shares = k.shares ∙ g.shares;
+        records = ap (λ (es : List (ℕ × Record V)). map (λ e. e.1) es) k.receipts ∙ g.records;
+        last = omega (arith, low, same);
+        known = up_to_more m.seat.last u.seat.last rs (omega (arith, same)) g.known;
+      }
 
   module _ (asks : List (Reply V) → Ask V → Type 0) (t : TxTable V) where
     pub tried_gains : (tries : ℕ) (s u : TxSeat V) (o : Outcome V) → IsTried asks t tries s u o → Gains s u (receipts_in (o ∷ []))
-    tried_gains tries s u (Ok r) h = record {
-      shares = h.receipt.shares;
-      records = ap (λ (es : List (ℕ × Record V)). map (λ e. e.1) es) h.receipt.gains
-          ∙ map-append (λ (e : ℕ × Record V). e.1) (view s.seat).receipts ((actor s.seat, r) ∷ []);
-    }
-    tried_gains tries s u (Err cause) h = record {
-      shares = h.none.keeps.shares;
-      records = ap (λ (es : List (ℕ × Record V)). map (λ e. e.1) es) h.none.keeps.receipts ∙ sym (append-nil (records_of s));
-    }
+    tried_gains tries s u (Ok r) h =
+        let low = h.receipt.number.0 in
+        let here = h.receipt.number.1 in
+        let Known : Record V → Type 0 = λ q. q.number ≤ u.seat.last in
+        record {
+          shares = h.receipt.shares;
+          records = ap (λ (es : List (ℕ × Record V)). map (λ e. e.1) es) h.receipt.gains
+              ∙ map-append (λ (e : ℕ × Record V). e.1) (view s.seat).receipts ((actor s.seat, r) ∷ []);
+          last = omega (arith, low, here);
+          known = All-cons Known r [] (omega (arith, here)) (All-nil Known);
+        }
+    tried_gains tries s u (Err cause) h = keeps_gains s s u [] (no_gain s) h.none.keeps
 
     pub tried_joined : (tries : ℕ) (s u : TxSeat V) (o : Outcome V) → IsTried asks t tries s u o → GetsJoined s u []
     tried_joined tries s u (Ok r) h = record {

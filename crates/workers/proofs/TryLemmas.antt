@@ -69,15 +69,19 @@ module _ {V : Type 0} (asks : List (Reply V) → Ask V → Type 0) (t : TxTable 
 
   pub has_receipt : (n tries : ℕ) (s m u : Seat V) (r : Record V) → n < tries → InVain n s m
       → AttemptsTo asks (opening_of t) m u (Ok (Committed r)) → HasReceipt asks t tries s u r
-  has_receipt n tries s m u r few h comes = record {
-    job = comes.0.job;
-    same = comes.0.committed.seat.1 ∙ (comes.0.at.keeps.seat.1 ∙ h.keeps.seat.1);
-    gains = comes.0.gains ∙ (ap (λ (e : List (ℕ × Record V)). e ++ (actor m, r) ∷ []) h.keeps.receipts
-        ∙ ap (λ (a : ℕ). (view s).receipts ++ (a, r) ∷ []) h.keeps.seat.1);
-    shares = comes.0.shares ∙ h.keeps.shares;
-    joined = comes.0.joined ∙ h.keeps.joined;
-    before = n;
-    few = few;
-    at = m;
-    last = record { causes = h.causes; many = h.many; vain = h.vain; comes = comes };
-  }
+  has_receipt n tries s m u r few h comes =
+      let low = comes.0.last.0 in
+      let same : m.last ≡ s.last = h.keeps.seat.2 in
+      record {
+        job = comes.0.job;
+        same = comes.0.committed.seat.1 ∙ (comes.0.at.keeps.seat.1 ∙ h.keeps.seat.1);
+        gains = comes.0.gains ∙ (ap (λ (e : List (ℕ × Record V)). e ++ (actor m, r) ∷ []) h.keeps.receipts
+            ∙ ap (λ (a : ℕ). (view s).receipts ++ (a, r) ∷ []) h.keeps.seat.1);
+        shares = comes.0.shares ∙ h.keeps.shares;
+        joined = comes.0.joined ∙ h.keeps.joined;
+        number = (omega (arith, low, same), comes.0.last.1);
+        before = n;
+        few = few;
+        at = m;
+        last = record { causes = h.causes; many = h.many; vain = h.vain; comes = comes };
+      }

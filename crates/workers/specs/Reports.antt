@@ -55,7 +55,8 @@ module _ {V J : Type 0} where
     pub many : leaves t ≡ length lists
     pub fresh : IsFresh t
 
--- the seat has its shares again, and has gained the receipts that are reported, and no others
+-- The seat has its shares again, and has gained the receipts that are reported, and no others. Its last number is no lower than it was, nor
+-- than that of any of these.
 abbrev pub HasRun : {V : Type 0} → TxSeat V → TxSeat V → Report V → Type 0
 HasRun s u report = Gains s u (flat_map (λ receipts. receipts) report.receipts)
 

@@ -39,10 +39,12 @@ module _ {V : Type 0} where
   abbrev pub records_of : TxSeat V → List (Record V)
   records_of s = map (λ e. e.1) (view s.seat).receipts
 
-  -- the seat has as many shares, and these receipts more
+  -- The seat has as many shares, and these receipts more. Its last number is no lower than it was, nor than that of any of them.
   pub record Gains (s u : TxSeat V) (receipts : List (Record V)) : Type 0 where
     pub shares : (view u.seat).shares ≡ (view s.seat).shares
     pub records : records_of u ≡ records_of s ++ receipts
+    pub last : s.seat.last ≤ u.seat.last
+    pub known : All (λ (r : Record V). r.number ≤ u.seat.last) receipts
 
   -- the seat is that of the same actor, and these were joined into it
   pub record GetsJoined (s u : TxSeat V) (others : Took V) : Type 0 where

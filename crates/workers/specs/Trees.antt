@@ -81,7 +81,7 @@ module _ {V J : Type 0} (asks : J → List (Reply V) → Ask V → Type 0) (tabl
       (of_first : Took V) × (of_second : Took V) × (b : ℕ) × (turns : List (Turn V)) × AreDone l a before after of_first
       × (AreDone r b [] turns of_second ⊎ (AreLeft r × (turns ≡ []) × (of_second ≡ []))) × (others ≡ of_first ++ (b, turns) ∷ of_second)
 
-  -- The lists were run from the seat s, which is u then: it is ready, has as many shares, and their receipts more.
+  -- The lists were run from the seat s, which is u then: it is ready, has as many shares, and their receipts more, whose numbers it knows.
   pub record Ran (s u : TxSeat V) (before after : Tree V J) : Type 0 where
     pub ready : IsReady table u
     pub gains : Gains s u (gained after)

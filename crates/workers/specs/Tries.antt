@@ -1,5 +1,5 @@
 -- What comes of so many attempts of a job.
-use Rattle.std.specs.Prelude.{◌≡◌, ℕ, ◌+◌, ◌<◌, List, [], ◌∷◌, ◌++◌, length, Result, Ok, Err}
+use Rattle.std.specs.Prelude.{◌≡◌, ℕ, ◌+◌, ◌<◌, ◌≤◌, List, [], ◌∷◌, ◌++◌, length, Result, Ok, Err}
 use Rattle.seq_model.specs.declared.call.Reply.{Reply}
 use Rattle.seq_model.specs.declared.record.Record.{Record}
 use Rattle.seq_model.specs.declared.refusal.Refusal.{Refusal}
@@ -40,13 +40,15 @@ module _ {V : Type 0} (asks : List (Reply V) → Ask V → Type 0) (t : TxTable 
     pub vain : AreInVain s causes m
     pub comes : AttemptsTo asks (opening_of t) m u r
 
-  -- One of so many attempts had this receipt, which the seat gains, and no other.
+  -- One of so many attempts had this receipt, which the seat gains, and no other. Its number is the last one of the seat then, and not
+  -- below the one before.
   pub record HasReceipt (tries : ℕ) (s u : Seat V) (r : Record V) : Type 0 where
     pub job : IsWholeJob asks r.calls
     pub same : actor u ≡ actor s
     pub gains : (view u).receipts ≡ (view s).receipts ++ (actor s, r) ∷ []
     pub shares : (view u).shares ≡ (view s).shares
     pub joined : (view u).joined ≡ (view s).joined
+    pub number : (s.last ≤ r.number) × (u.last ≡ r.number)
     pub before : ℕ
     pub few : before < tries
     pub at : Seat V

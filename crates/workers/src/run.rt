@@ -37,7 +37,8 @@ fn prepare<V: Value, J: Job<V> + Drop>(
 /// Runs each list of jobs by a worker of its own, at this table: the worker 1 by the seat that is handed in, each other one by a thread and
 /// by a seat that gets one of its shares and is joined again. A worker takes its jobs in order, each with at most so many attempts
 /// (`retry`); where no thread can be started for it, they are missed as `NotStarted`. It returns once all workers have ended, with the
-/// seat, which has its shares again, has gained just the receipts that are reported, and has no transaction.
+/// seat, which has its shares again, has gained just the receipts that are reported, and has no transaction. Its last number is no lower
+/// than it was, nor than that of any of these receipts, and so is the number at which its next transaction begins.
 ///
 /// `Memory` where what the workers fill can't be had, before any of them has started: the seat has begun no transaction and gained nothing.
 pub fn run_workers<

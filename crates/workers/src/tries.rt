@@ -88,7 +88,8 @@ pub(crate) fn retry_in<V: Value, J: Job<V>, P: Pause>(
     Err(last)
 }
 
-/// At most so many attempts of a job, until one has a receipt. The seat gains that one, and no other.
+/// At most so many attempts of a job, until one has a receipt. The seat gains that one, and no other, and its number is the last one of the
+/// seat from then on.
 ///
 /// `Refused` as the last attempt was: after an attempt that others stood in the way of comes the next, any other refusal is the last.
 /// `GivenUp` where the job gave up; never `NotStarted`. The seat gains no receipt then. In the end it has no transaction.

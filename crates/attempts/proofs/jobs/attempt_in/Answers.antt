@@ -2,7 +2,8 @@ use Rattle.std.proofs.Common.{inl, sym, ◌∙◌}
 use Rattle.std.proofs.lemmas.Result.{err_from_is_err_and}
 use Rattle.tx_table.specs.Seated.{opening_of}
 use Rattle.transactions.proofs.RequestLemmas.{then_keeps}
-use Rattle.attempts.proofs.AttemptLemmas.{aborted_and_made, aborted_first, at_end, broken_off, commit_refused, given_up, has_made}
+use Rattle.attempts.proofs.AttemptLemmas.{aborted_and_made, aborted_first, at_end, broken_off, commit_refused, given_up, has_begun}
+use Rattle.attempts.proofs.AttemptLemmas.{has_made}
 use Rattle.attempts.proofs.ReaderLemmas.{changes_nothing}
 use Rattle.attempts.proofs.jobs.attempt_in.Goals as goal
 
@@ -21,7 +22,8 @@ returns-in_err-receipt-in-Ok-Done-clause-attempts g c =
     rw (p.1, p.2) (
       commit_refused asks o c.args.seat.now.seat c.begin.new.self.seat c.ask_all.new.seat.seat c.commit.new.self.seat _
           c.begin.ensures.keeps done c.in_err-receipt-in-Ok-Done.ensures.finished.commits
-          (c.ask_all.ensures.begins ∙ c.begin.ensures.begins),
+          (has_begun o c.args.seat.now.seat c.begin.new.self.seat c.ask_all.new.seat.seat _ c.in_ok-begin.ensures.begun
+          c.begin.ensures.begins c.ask_all.ensures.keeps c.ask_all.ensures.begins),
       c.commit.ensures.finished.begins ∙ (c.ask_all.ensures.begins ∙ c.begin.ensures.begins),
       aborted_first asks o c.args.seat.now.seat c.begin.new.self.seat c.commit.new.self.seat
           (then_keeps c.begin.new.self.seat c.ask_all.new.seat.seat c.commit.new.self.seat c.ask_all.ensures.keeps
@@ -40,7 +42,9 @@ returns-in_ok-receipt-in-Ok-Done-clause-attempts g c =
           made
           (λ none. changes_nothing o c.ask_all.new.seat.seat c.in_ok-receipt-in-Ok-Done.receipt.calls c.ask_all.ensures.ready.ties.reached
           made.calls (sym made.writes ∙ none))
-          e.above e.last (c.ask_all.ensures.begins ∙ c.begin.ensures.begins),
+          e.above e.last
+          (has_begun o c.args.seat.now.seat c.begin.new.self.seat c.ask_all.new.seat.seat _ c.in_ok-begin.ensures.begun
+          c.begin.ensures.begins c.ask_all.ensures.keeps c.ask_all.ensures.begins),
       c.commit.ensures.finished.begins ∙ (c.ask_all.ensures.begins ∙ c.begin.ensures.begins),
       aborted_and_made asks o c.args.seat.now.seat c.begin.new.self.seat c.ask_all.new.seat.seat c.commit.new.self.seat
           c.in_ok-receipt-in-Ok-Done.receipt c.ask_all.ensures.keeps made.committed c.begin.ensures.aborted,
@@ -52,7 +56,9 @@ returns-in-Ok-GivenUp-clause-attempts g c =
     let o = opening_of c.args.table.now in (
       given_up asks o c.args.seat.now.seat c.begin.new.self.seat c.ask_all.new.seat.seat c.abort.new.self.seat c.begin.ensures.keeps
           (at_end asks o c.begin.new.self.seat c.ask_all.new.seat.seat _ _ c.in-Ok-GivenUp.field-0-is c.in-Ok-GivenUp.ensures.reaches)
-          c.abort.ensures.keeps c.abort.ensures.aborted (c.ask_all.ensures.begins ∙ c.begin.ensures.begins),
+          c.abort.ensures.keeps c.abort.ensures.aborted
+          (has_begun o c.args.seat.now.seat c.begin.new.self.seat c.ask_all.new.seat.seat _ c.in_ok-begin.ensures.begun
+          c.begin.ensures.begins c.ask_all.ensures.keeps c.ask_all.ensures.begins),
       c.abort.ensures.begins ∙ (c.ask_all.ensures.begins ∙ c.begin.ensures.begins),
       aborted_first asks o c.args.seat.now.seat c.begin.new.self.seat c.abort.new.self.seat
           (then_keeps c.begin.new.self.seat c.ask_all.new.seat.seat c.abort.new.self.seat c.ask_all.ensures.keeps c.abort.ensures.keeps)
@@ -64,7 +70,8 @@ returns-in-Err-clause-attempts g c = (
   broken_off (g.J.Job.asks c.args.job.now) (opening_of c.args.table.now) c.args.seat.now.seat c.begin.new.self.seat
       c.ask_all.new.seat.seat c.abort-in-Err.new.self.seat c.in-Err.cause c.begin.ensures.keeps c.ask_all.ensures.keeps
       c.in-Err.ensures.refused c.abort-in-Err.ensures.keeps c.abort-in-Err.ensures.aborted
-      (c.ask_all.ensures.begins ∙ c.begin.ensures.begins),
+      (has_begun (opening_of c.args.table.now) c.args.seat.now.seat c.begin.new.self.seat c.ask_all.new.seat.seat _
+      c.in_ok-begin.ensures.begun c.begin.ensures.begins c.ask_all.ensures.keeps c.ask_all.ensures.begins),
   c.abort-in-Err.ensures.begins ∙ (c.ask_all.ensures.begins ∙ c.begin.ensures.begins),
   aborted_first (g.J.Job.asks c.args.job.now) (opening_of c.args.table.now) c.args.seat.now.seat c.begin.new.self.seat
       c.abort-in-Err.new.self.seat

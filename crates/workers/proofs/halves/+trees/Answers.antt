@@ -84,7 +84,7 @@ run_tree-returns-in-Both g t c =
       ready = c.join.ensures.ready;
       gains = both_gain n s m o x y u _ _ (search rules) (λ i. (left i).shares) (λ i. (left i).receipts) (λ i. (right i).shares)
           (λ i. (right i).receipts) first.gains (back_gains asks table tries o y c.in-Both.right.value of_second second)
-          (λ i. (both i).shares) (λ i. (both i).receipts);
+          (λ i. (both i).shares) (λ i. (both i).receipts) c.split-other.ensures.left.1 c.join.ensures.last;
       works_are = (λ i. first.works_are i ++ back_works asks table tries o y c.in-Both.right.value of_second second i)
           ∙ sym (ap works tree_is);
       others = first.others ++ (actor y.seat, (view y.seat).turns) ∷ (view y.seat).joined;
