@@ -1,7 +1,8 @@
 //! The halves of the lists, each by a seat of its own, and the second by a thread.
-ghost use Rattle.std.specs.Prelude.{◌≤◌};
+ghost use Rattle.std.specs.Prelude.{◌≡◌, ◌<◌, ◌≤◌, max};
 ghost use Rattle.std.specs.Thread.{IsSend, IsSync};
-ghost use Rattle.tx_table.specs.Seated.{view};
+ghost use Rattle.tx_table.specs.Seated.{actor, view};
+ghost use Rattle.tx_table.specs.Shown.{both_of, left_of, right_of};
 ghost use Rattle.transactions.specs.Ready.{IsReady};
 ghost use Rattle.workers.specs.Trees.{AreOthers, CanRun, ComesBack, IsFresh, Ran, WasLeft, leaves};
 
@@ -50,6 +51,32 @@ fn give_back<V: Value, J: Job<V>>(
     (seat, tree)
 }
 
+/// A seat with so many shares, for the second half. It says what the halves need of `TxSeat::split`, and no more: the proofs of functions
+/// that call each other would not come to an end over all of it.
+fn split_off<V: Value>(table: &TxTable<V>, seat: &mut TxSeat<V>, shares: u64) -> TxSeat<V>
+    requires ready { IsReady table.now seat.old }
+    requires some { 1 ≤ shares }
+    requires fewer { shares < (view seat.old.seat).shares }
+    ensures ready { IsReady table.now seat.new × IsReady table.now result }
+    ensures same { actor seat.new.seat ≡ actor seat.old.seat }
+    ensures left { (view seat.new.seat ≡ left_of shares (view seat.old.seat)) × (seat.new.seat.last ≡ seat.old.seat.last) }
+    ensures right { view result.seat ≡ right_of shares (view seat.old.seat) }
+{
+    seat.split(table, shares)
+}
+
+/// The seat of the second half is joined again, as `split_off` has it of `TxSeat::join`.
+fn join_again<V: Value>(table: &TxTable<V>, seat: &mut TxSeat<V>, other: TxSeat<V>)
+    requires ready { IsReady table.now seat.old }
+    requires other { IsReady table.now other }
+    ensures ready { IsReady table.now seat.new }
+    ensures same { actor seat.new.seat ≡ actor seat.old.seat }
+    ensures both { view seat.new.seat ≡ both_of (view seat.old.seat) (actor other.seat) (view other.seat) }
+    ensures last { seat.new.seat.last ≡ max seat.old.seat.last other.seat.last }
+{
+    seat.join(table, other);
+}
+
 /// All lists of a tree: of two halves the second by a thread with a seat of its own, or not at all where none can be started.
 #[cycle(trees)]
 pub fn run_tree<
@@ -84,11 +111,11 @@ pub fn run_tree<
             // Called for its contract alone: there is a list in the first half, too.
             let _left = left.count();
             let shares = right.count();
-            let other = seat.split(table, shares);
+            let other = split_off(table, &mut seat, shares);
             let (first, second) = both(rt, tries, pause, way, table, seat, left, other, right);
             let (mut seat, left) = first;
             let (other, right) = second;
-            seat.join(table, other);
+            join_again(table, &mut seat, other);
             *tree = Tree::Both(left, right);
             (seat, tree)
         }

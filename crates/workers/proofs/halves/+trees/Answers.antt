@@ -15,12 +15,12 @@ both-scope-spawn_with-returns-else-load g t c = inl c.run_tree.ensures
 pub run_tree-work-requires-clause-ready : goal.run_tree-work-requires-clause-ready
 run_tree-work-requires-clause-ready g t c = c.requires.ready
 
-pub run_tree-split-other-requires-clause-ready : goal.run_tree-split-other-requires-clause-ready
-run_tree-split-other-requires-clause-ready g t c = c.requires.ready
+pub run_tree-split_off-other-requires-clause-ready : goal.run_tree-split_off-other-requires-clause-ready
+run_tree-split_off-other-requires-clause-ready g t c = c.requires.ready
 
 pub run_tree-both-first-requires-clause-first : goal.run_tree-both-first-requires-clause-first
 run_tree-both-first-requires-clause-first g t c κs within = record {
-  ready = c.split-other.ensures.ready.0;
+  ready = c.split_off-other.ensures.ready.0;
   shares = search rules;
   some = search rules;
   few = search rules;
@@ -29,16 +29,16 @@ run_tree-both-first-requires-clause-first g t c κs within = record {
 
 pub run_tree-both-first-requires-clause-second : goal.run_tree-both-first-requires-clause-second
 run_tree-both-first-requires-clause-second g t c κs within = record {
-  ready = c.split-other.ensures.ready.1;
+  ready = c.split_off-other.ensures.ready.1;
   shares = search rules;
   some = search rules;
   few = search rules;
   fresh = search rules;
 }
 
-pub run_tree-join-requires-clause-other : goal.run_tree-join-requires-clause-other
-run_tree-join-requires-clause-other g t c =
-    back_ready g.J.Job.asks c.args.table.now c.args.tries c.split-other.result c.both-first.result.1.0 c.in-Both.right.value
+pub run_tree-join_again-requires-clause-other : goal.run_tree-join_again-requires-clause-other
+run_tree-join_again-requires-clause-other g t c =
+    back_ready g.J.Job.asks c.args.table.now c.args.tries c.split_off-other.result c.both-first.result.1.0 c.in-Both.right.value
     c.both-first.result.1.1.value c.both-first.ensures.second
 
 pub run_tree-returns-in-Taken : goal.run_tree-returns-in-Taken
@@ -65,26 +65,26 @@ run_tree-returns-in-Both g t c =
     let tries = c.args.tries in
     let tree_is = sym (c.replace.ensures.value ∙ c.deref_mut.ensures.value) ∙ c.in-Both.is in
     let s = c.args.seat in
-    let m = c.split-other.new.self in
-    let o = c.split-other.result in
+    let m = c.split_off-other.new.seat in
+    let o = c.split_off-other.result in
     let x = c.both-first.result.0.0 in
     let y = c.both-first.result.1.0 in
-    let u = c.join.new.self in
+    let u = c.join_again.new.seat in
     let n = c.count-shares.result in
     let of_first = c.both-first.result.0.1.value in
     let of_second = c.both-first.result.1.1.value in
     let first = c.both-first.ensures.first in
     let second = c.both-first.ensures.second in
-    let same = c.split-other.ensures.same in
-    let left = c.split-other.ensures.left.0 in
-    let right = c.split-other.ensures.right.0 in
-    let joins = c.join.ensures.same in
-    let both = c.join.ensures.both in
+    let same = c.split_off-other.ensures.same in
+    let left = c.split_off-other.ensures.left.0 in
+    let right = c.split_off-other.ensures.right in
+    let joins = c.join_again.ensures.same in
+    let both = c.join_again.ensures.both in
     record {
-      ready = c.join.ensures.ready;
+      ready = c.join_again.ensures.ready;
       gains = both_gain n s m o x y u _ _ (search rules) (λ i. (left i).shares) (λ i. (left i).receipts) (λ i. (right i).shares)
           (λ i. (right i).receipts) first.gains (back_gains asks table tries o y c.in-Both.right.value of_second second)
-          (λ i. (both i).shares) (λ i. (both i).receipts) c.split-other.ensures.left.1 c.join.ensures.last;
+          (λ i. (both i).shares) (λ i. (both i).receipts) c.split_off-other.ensures.left.1 c.join_again.ensures.last;
       works_are = (λ i. first.works_are i ++ back_works asks table tries o y c.in-Both.right.value of_second second i)
           ∙ sym (ap works tree_is);
       others = first.others ++ (actor y.seat, (view y.seat).turns) ∷ (view y.seat).joined;
