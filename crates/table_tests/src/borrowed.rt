@@ -5,6 +5,7 @@
 //! - `1 reads 1 do read 0`: a declared reader makes these calls, and commits. `1 aborts ..`, `1 drops ..`: a transaction is aborted, or is
 //!   dropped while it is open.
 //! - `1 learns 2`, `1 last number`: what the seat learns, and its last number.
+pub mod alone;
 pub mod calls;
 mod ends;
 mod hearing;

@@ -1,31 +1,45 @@
-//! Values one of whose copies is refused, at a seat of a shared table and in a running world.
+//! Values one of whose copies is refused, at a seat of a shared table and in a running world; or one of which waits as it is dropped, in a
+//! worker's commit.
 //!
 //! A transaction puts values into a map and gets them. In its first run the first copy of a value is refused, in the next run the second
 //! one, and so on up to a run to whose end none is.
 mod rations;
 mod seats;
+mod tables;
+mod waits;
 mod worlds;
 
 use seq_model::Refusal;
 use std::alloc::Global;
+use std::sync::Wait;
+use std::thread::Threads;
+use tables::{Work, on_table};
 
 /// A run makes fewer copies than so many.
 const COPIES: u64 = 1_000;
 
-/// The runs in this place, `at a seat` or `in a world`, and what came of them.
-pub fn answer_copies(text: &mut String, place: &str) -> Result<(), Refusal> {
+/// The runs in this place, `at a seat`, `in a world` or `in a commit`, and what came of them.
+pub fn answer_copies<R: Threads + Wait + Sync>(
+    rt: &R,
+    text: &mut String,
+    place: &str,
+) -> Result<(), Refusal> {
     let answer = match place {
-        "at a seat" => refuse_at_seats(*text.allocator())?,
+        "at a seat" => refuse_at_seats(rt, text)?,
         "in a world" => refuse_in_worlds(*text.allocator())?,
+        "in a commit" => hold_commit(rt, text)?,
         _ => return Err(Refusal::NoSuch),
     };
     text.push_str(answer)?;
     Ok(())
 }
 
-fn refuse_at_seats(alloc: Global) -> Result<&'static str, Refusal> {
+fn refuse_at_seats<R: Threads + Wait + Sync>(
+    rt: &R,
+    text: &mut String,
+) -> Result<&'static str, Refusal> {
     for place in 0..COPIES {
-        if !seats::is_refused(alloc, place)? {
+        if !on_table(rt, text, Work::Refused(place))? {
             is_some(place)?;
             return Ok(
                 "at a seat: each refused copy is a want of memory, and the seat commits after it\n",
@@ -43,6 +57,14 @@ fn refuse_in_worlds(alloc: Global) -> Result<&'static str, Refusal> {
         }
     }
     Err(Refusal::TooLong)
+}
+
+fn hold_commit<R: Threads + Wait + Sync>(
+    rt: &R,
+    text: &mut String,
+) -> Result<&'static str, Refusal> {
+    let _ = on_table(rt, text, Work::Held)?;
+    Ok("in a commit: the other worker is refused, and commits after it\n")
 }
 
 // So many copies were refused, one in each run.

@@ -12,6 +12,8 @@
 //!   behind it has its receipt. `1 waits for a receipt`: until each other seat has one of an attempt.
 //! - `1 leaves 1 do write 0 5`: a transaction begins, makes these calls, and is left open. `1 repeats 4095 1 do read 0`: the open
 //!   transaction makes these calls so often.
+//! - `1 commits 1 do read 0; 1 do write 0 5`, `1 reads ..`, `1 aborts ..`, `1 drops ..`: a transaction borrows the seat, makes these calls,
+//!   and ends so.
 //! - `1 learn 4`, `1 last number`: what the seat learns, and its last number.
 pub mod requests;
 pub mod rows;

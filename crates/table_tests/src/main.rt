@@ -1,5 +1,5 @@
 //! Tests of what runs on a shared table, on its public calls: transactions at seats, transactions that borrow them, attempts of jobs,
-//! workers, and sessions that workers serve; and of values one of whose copies is refused.
+//! workers, and sessions that workers serve; and of values one of whose copies is refused, or one of which waits as it is dropped.
 //!
 //! They are sections of the file `stdin`, each closed by `----`: rows of text, each of which is printed with its answer; what all must
 //! answer stands in the file `stdout`. So the crate is proved once, however many sections there are. What a section may say is told at

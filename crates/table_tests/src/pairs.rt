@@ -5,7 +5,7 @@ ghost use Rattle.transactions.specs.Ready.{IsReady};
 
 use crate::borrowed::calls::Way;
 use crate::borrowed::rows::answer_borrowed;
-use crate::engine::turns::{Both, at_once, four_at_once, in_turn};
+use crate::engine::turns::{at_once, four_at_once, in_turn};
 use crate::shared::{Order, Page, commit_after};
 use std::thread::Threads;
 use transactions::TxSeat;
@@ -35,8 +35,8 @@ pub fn run_pair<R: Threads + Sync>(
     requires shares { (view first.seat).shares ≡ 64 }
     ensures ready { IsReady table.now result }
 {
-    let second = first.split(table, SECOND_SHARES);
-    let (mut first, second) = run_both(rt, page, pair, table, first, second, rows);
+    let mut second = first.split(table, SECOND_SHARES);
+    run_both(rt, page, pair, table, &mut first, &mut second, rows);
     first.join(table, second);
     first
 }
@@ -47,19 +47,18 @@ fn run_both<R: Threads + Sync>(
     page: &mut Page,
     pair: Pair,
     table: &TxTable<u64>,
-    first: TxSeat<u64>,
-    second: TxSeat<u64>,
+    first: &mut TxSeat<u64>,
+    second: &mut TxSeat<u64>,
     rows: &str,
-) -> Both
-    requires first { IsReady table.now first }
-    requires second { IsReady table.now second }
-    ensures first { IsReady table.now result.0 }
-    ensures second { IsReady table.now result.1 }
+)
+    requires first { IsReady table.now first.old }
+    requires second { IsReady table.now second.old }
+    ensures first { IsReady table.now first.new }
+    ensures second { IsReady table.now second.new }
 {
-    let (mut first, mut second) = answer_both(rt, page, pair, table, first, second, rows);
-    commit_after(page, table, &mut first);
-    commit_after(page, table, &mut second);
-    (first, second)
+    answer_both(rt, page, pair, table, first, second, rows);
+    commit_after(page, table, first);
+    commit_after(page, table, second);
 }
 
 fn answer_both<R: Threads + Sync>(
@@ -67,14 +66,14 @@ fn answer_both<R: Threads + Sync>(
     page: &mut Page,
     pair: Pair,
     table: &TxTable<u64>,
-    first: TxSeat<u64>,
-    second: TxSeat<u64>,
+    first: &mut TxSeat<u64>,
+    second: &mut TxSeat<u64>,
     rows: &str,
-) -> Both
-    requires first { IsReady table.now first }
-    requires second { IsReady table.now second }
-    ensures first { IsReady table.now result.0 }
-    ensures second { IsReady table.now result.1 }
+)
+    requires first { IsReady table.now first.old }
+    requires second { IsReady table.now second.old }
+    ensures first { IsReady table.now first.new }
+    ensures second { IsReady table.now second.new }
 {
     match pair {
         Pair::Borrowed(way) => answer_borrowed(page, table, first, second, way, rows),
@@ -86,14 +85,14 @@ fn answer_requests<R: Threads + Sync>(
     rt: &R,
     page: &mut Page,
     table: &TxTable<u64>,
-    first: TxSeat<u64>,
-    second: TxSeat<u64>,
+    first: &mut TxSeat<u64>,
+    second: &mut TxSeat<u64>,
     rows: &str,
-) -> Both
-    requires first { IsReady table.now first }
-    requires second { IsReady table.now second }
-    ensures first { IsReady table.now result.0 }
-    ensures second { IsReady table.now result.1 }
+)
+    requires first { IsReady table.now first.old }
+    requires second { IsReady table.now second.old }
+    ensures first { IsReady table.now first.new }
+    ensures second { IsReady table.now second.new }
 {
     let (threads, order, rows) = threads_of(rows);
     match threads {

@@ -14,7 +14,7 @@ use std::thread::Threads;
 /// - `plain map 1`, `typed map 1`: transactions that borrow such seats, as [`crate::borrowed`] has them.
 /// - `workers 1 2 on words 0 0`, `retries 3 on words 0 0`: jobs, as [`crate::worker`] has them.
 /// - `sessions 2 64 1000 2`: a session file, as [`crate::sessions`] has it.
-/// - `copies at a seat`, `copies in a world`: no rows; [`crate::copies`] tells what is run.
+/// - `copies at a seat`, `copies in a world`, `copies in a commit`: no rows; [`crate::copies`] tells what is run.
 ///
 /// What opens a table are lines of a script's header with `; ` between. Behind the rows on a table stands its clock when it was closed, and
 /// what the audit of all receipts says: that what the table holds is what they leave, one after another. `closed 1 do read 0`, in any such
@@ -57,7 +57,7 @@ fn answer_section<R: Threads + Wait + Sync>(
     writeln!(text, "{header}")?;
     match header.split_once(' ') {
         Some(("sessions", options)) => answer_sessions(rt, text, options, rows),
-        Some(("copies", place)) => answer_copies(text, place),
+        Some(("copies", place)) => answer_copies(rt, text, place),
         Some((kind, words)) => answer_table(rt, text, kind, words, rows),
         None => Err(Refusal::NoSuch),
     }

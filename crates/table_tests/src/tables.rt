@@ -76,7 +76,9 @@ fn answer_header<R: Threads + Wait + Sync>(
     rows: &str,
 ) -> Result<(), Refusal> {
     let script = script_of(*text.allocator(), header)?;
-    answer_script(rt, text, kind, &script, rows)
+    let answered = answer_script(rt, text, kind, &script, rows);
+    drop(script);
+    answered
 }
 
 fn answer_script<R: Threads + Wait + Sync>(
@@ -87,7 +89,9 @@ fn answer_script<R: Threads + Wait + Sync>(
     rows: &str,
 ) -> Result<(), Refusal> {
     let opening = opening_of(*text.allocator(), script)?;
-    answer_opening(rt, text, kind, script, &opening, rows)
+    let answered = answer_opening(rt, text, kind, script, &opening, rows);
+    drop(opening);
+    answered
 }
 
 fn answer_opening<R: Threads + Wait + Sync>(
@@ -99,7 +103,9 @@ fn answer_opening<R: Threads + Wait + Sync>(
     rows: &str,
 ) -> Result<(), Refusal> {
     let mut page = Page::new(*text.allocator())?;
-    answer_page(rt, text, &mut page, kind, script, opening, rows)
+    let answered = answer_page(rt, text, &mut page, kind, script, opening, rows);
+    drop(page);
+    answered
 }
 
 fn answer_page<R: Threads + Wait + Sync>(

@@ -13,6 +13,6 @@
 //!   it is told how many receipts there are; nor is the clock told.
 //! - `retries 3 on words 0 0`: the jobs are run by one seat, each in up to so many attempts.
 pub mod lists;
-mod reports;
+pub mod reports;
 pub mod retries;
 pub mod runs;

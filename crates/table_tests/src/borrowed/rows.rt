@@ -17,23 +17,6 @@ use tx_table::TxTable;
 pub fn answer_borrowed(
     page: &mut Page,
     table: &TxTable<u64>,
-    mut first: TxSeat<u64>,
-    mut second: TxSeat<u64>,
-    way: Way,
-    rows: &str,
-) -> (TxSeat<u64>, TxSeat<u64>)
-    requires first { IsReady table.now first }
-    requires second { IsReady table.now second }
-    ensures first { IsReady table.now result.0 }
-    ensures second { IsReady table.now result.1 }
-{
-    answer_rows(page, table, &mut first, &mut second, way, rows);
-    (first, second)
-}
-
-fn answer_rows(
-    page: &mut Page,
-    table: &TxTable<u64>,
     first: &mut TxSeat<u64>,
     second: &mut TxSeat<u64>,
     way: Way,
@@ -110,7 +93,10 @@ fn answer_calls(
     ensures other { IsReady table.now other.new }
 {
     match calls_of(page.alloc(), calls) {
-        Ok(calls) => run_calls(page, table, seat, other, caller, verb, calls.as_slice()),
+        Ok(calls) => {
+            run_calls(page, table, seat, other, caller, verb, calls.as_slice());
+            drop(calls);
+        }
         Err(refusal) => page.fail(refusal),
     }
 }
@@ -139,7 +125,8 @@ fn run_calls(
     }
 }
 
-fn end_of(verb: &str) -> Option<End> {
+/// How a transaction ends by this verb.
+pub fn end_of(verb: &str) -> Option<End> {
     match verb {
         "commits" => Some(End::Commits),
         "aborts" => Some(End::Aborts),
@@ -148,12 +135,23 @@ fn end_of(verb: &str) -> Option<End> {
     }
 }
 
-// The calls of a script's lines with `; ` between.
-fn calls_of(alloc: Global, row: &str) -> Result<Vec<Placed<u64>>, Refusal> {
+/// The calls of a script's lines with `; ` between.
+pub fn calls_of(alloc: Global, row: &str) -> Result<Vec<Placed<u64>>, Refusal> {
     let script = script_of(alloc, row)?;
+    let calls = calls_in(alloc, script.lines.as_slice());
+    drop(script);
+    calls
+}
+
+fn calls_in(alloc: Global, lines: &[Line]) -> Result<Vec<Placed<u64>>, Refusal> {
     let mut calls = Vec::new(alloc);
-    add_calls(&mut calls, script.lines.as_slice())?;
-    Ok(calls)
+    match add_calls(&mut calls, lines) {
+        Ok(()) => Ok(calls),
+        Err(refusal) => {
+            drop(calls);
+            Err(refusal)
+        }
+    }
 }
 
 fn add_calls(calls: &mut Vec<Placed<u64>>, lines: &[Line]) -> Result<(), Refusal> {

@@ -103,7 +103,8 @@ fn make_placed<V: Value, H: Hearer<V>>(
     }
 }
 
-fn make<V: Value, H: Hearer<V>>(hearer: &mut H, tx: &mut Tx<'_, V>, way: Way, call: &Call<V>)
+/// A call of the transaction.
+pub fn make<V: Value, H: Hearer<V>>(hearer: &mut H, tx: &mut Tx<'_, V>, way: Way, call: &Call<V>)
     requires ready { IsReady tx.old.table.now tx.old.seat.now }
     requires since { HasBegunSince tx.old.table.now tx.old.seat.now }
     ensures same_reference { tx.new.seat.ghost_name ≡ tx.old.seat.ghost_name }

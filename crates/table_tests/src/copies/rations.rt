@@ -1,6 +1,7 @@
-//! Values one of whose copies is refused.
+//! Values one of whose copies is refused, or one of which waits as it is dropped.
 ghost use Rattle.std.specs.Prelude.{◌≡◌, ℕ, IfOk};
 
+use crate::shared::{Meeting, Order};
 use seq_model::{Call, Entries, Held, Memory, Op, Refusal, State, Value};
 use std::alloc::Global;
 use std::marker::Model;
@@ -10,22 +11,23 @@ use std::sync::atomic::{AtomicBool, AtomicU64, Ordering};
 /// The place of a copy that no run makes.
 const NEVER: u64 = u64::MAX;
 
-/// Which copy is the refused one, of all that are made from some moment on.
+/// Which copy is the refused one, of all that are made from some moment on; and for how many steps a value waits as it is dropped.
 #[derive(Drop)]
 struct Copies {
     made: AtomicU64,
     refused: AtomicU64,
     has_refused: AtomicBool,
+    waits: AtomicU64,
+    steps: Meeting,
 }
 
-/// Where values come from one of whose copies is refused.
+/// Where values come from one of whose copies is refused, or one of which waits as it is dropped.
 #[derive(Drop)]
 pub struct Ration {
     copies: Arc<Copies>,
 }
 
 /// A number, one of whose copies may be refused.
-#[derive(Drop)]
 pub struct Rationed {
     number: u64,
     ration: Ration,
@@ -37,6 +39,8 @@ impl Ration {
             made: AtomicU64::new(0),
             refused: AtomicU64::new(NEVER),
             has_refused: AtomicBool::new(false),
+            waits: AtomicU64::new(0),
+            steps: Meeting::new(2, Order::RowByRow),
         };
         Ok(Ration {
             copies: Arc::new(alloc, copies)?,
@@ -55,14 +59,27 @@ impl Ration {
         self.copies.has_refused.load(Ordering::SeqCst)
     }
 
+    /// The next drop of a value is a step, and then waits until there are so many.
+    pub fn hold(&self, steps: u64) {
+        self.copies.waits.store(steps, Ordering::SeqCst);
+    }
+
+    /// The steps of workers.
+    pub fn steps(&self) -> &Meeting {
+        &self.copies.steps
+    }
+
+    /// The same ration, for another owner.
+    pub fn share(&self) -> Result<Ration, Memory> {
+        let copies = Arc::try_clone(&self.copies)?;
+        Ok(Ration { copies })
+    }
+
     pub fn value(&self, number: u64) -> Result<Rationed, Memory>
         ensures { IfOk result (λ value. value ≡ number) }
     {
-        let copies = Arc::try_clone(&self.copies)?;
-        Ok(Rationed {
-            number,
-            ration: Ration { copies },
-        })
+        let ration = self.share()?;
+        Ok(Rationed { number, ration })
     }
 
     /// `put KEY 60` on the first collection.
@@ -73,11 +90,20 @@ impl Ration {
         })
     }
 
-    /// A map that holds such a value at the key 5.
+    /// A word, and a map that holds such a value at the key 5.
     pub fn opening(&self, alloc: Global) -> Result<State<Rationed>, Refusal> {
         let mut map = Entries::new(alloc);
         let _ = map.insert(5, self.value(50)?)?;
-        State::new(Vec::new(alloc), vec![in alloc; Held::Map(map)]?)
+        State::new(vec![in alloc; 0u64]?, vec![in alloc; Held::Map(map)]?)
+    }
+
+    // Where a value that is dropped is held, it is a step, and waits for others.
+    fn wait(&self) {
+        let steps = self.copies.waits.swap(0, Ordering::SeqCst);
+        if steps > 0 {
+            self.steps().end_row();
+            self.steps().wait_for_row(steps);
+        }
     }
 
     fn take(&self) -> Result<(), Memory> {
@@ -87,6 +113,14 @@ impl Ration {
             return Err(Memory);
         }
         Ok(())
+    }
+}
+
+impl Drop for Rationed {
+    fn drop(self) {
+        self.ration.wait();
+        let Rationed { number: _, ration } = self;
+        drop(ration);
     }
 }
 

@@ -134,10 +134,8 @@ pub fn leave_open(page: &mut Page, table: &TxTable<u64>, seat: &mut TxSeat<u64>,
     requires fit { IsFit table.now seat.old }
     ensures fit { IsFit table.now seat.new }
 {
-    match make_lines(table, seat, lines) {
-        Ok(()) => page.say("left open"),
-        Err(refusal) => page.refuse(refusal),
-    }
+    let made = make_lines(table, seat, lines);
+    page.hear_done("left open", made);
 }
 
 fn make_lines(table: &TxTable<u64>, seat: &mut TxSeat<u64>, lines: &[Line]) -> Result<(), Refusal>
@@ -169,10 +167,8 @@ pub fn repeat(
     requires fit { IsFit table.now seat.old }
     ensures fit { IsFit table.now seat.new }
 {
-    match make_often(table, seat, lines, times) {
-        Ok(()) => page.say("made"),
-        Err(refusal) => page.refuse(refusal),
-    }
+    let made = make_often(table, seat, lines, times);
+    page.hear_done("made", made);
 }
 
 fn make_often(
@@ -204,6 +200,6 @@ fn make_call(table: &TxTable<u64>, seat: &mut TxSeat<u64>, call: Call<u64>) -> R
     requires fit { IsFit table.now seat.old }
     ensures fit { IsFit table.now seat.new }
 {
-    let _ = seat.call(table, call)?;
+    drop(seat.call(table, call)?);
     Ok(())
 }

@@ -2,6 +2,7 @@
 ghost use Rattle.table_tests.specs.Fit.{IsFit};
 
 use super::requests::{ask, leave_open, repeat, try_job};
+use crate::borrowed::alone::answer_alone;
 use crate::shared::{Meeting, Order, Page, job_of, learn, say_last};
 use row_parts::script_of;
 use seq_model::Refusal;
@@ -29,6 +30,7 @@ pub fn answer_rows(
         answer_at(page, table, first, 1, &meeting, 0, row);
         answer_at(page, table, second, 2, &meeting, 0, row);
     }
+    drop(meeting);
 }
 
 /// Answers the rows of one seat, one after another.
@@ -97,6 +99,9 @@ fn answer(
         Some(("leaves", calls)) => answer_left(page, table, seat, calls),
         Some(("repeats", words)) => answer_repeated(page, table, seat, words),
         Some(("last", _)) => say_last(page, seat),
+        Some((verb @ ("commits" | "reads" | "aborts" | "drops"), calls)) => {
+            answer_borrowed(page, table, seat, verb, calls)
+        }
         Some(("waits", _)) => answer_wait(page, meeting),
         _ => page.refuse(Refusal::NoSuch),
     }
@@ -107,7 +112,10 @@ fn answer_request(page: &mut Page, table: &TxTable<u64>, seat: &mut TxSeat<u64>,
     ensures fit { IsFit table.now seat.new }
 {
     match script_of(page.alloc(), row) {
-        Ok(script) => answer_line(page, table, seat, script.lines.as_slice().first()),
+        Ok(script) => {
+            answer_line(page, table, seat, script.lines.as_slice().first());
+            drop(script);
+        }
         Err(refusal) => page.refuse(refusal),
     }
 }
@@ -129,6 +137,22 @@ fn answer_learn(page: &mut Page, table: &TxTable<u64>, seat: &mut TxSeat<u64>, d
     ensures fit { IsFit table.now seat.new }
 {
     learn(page, table, seat, digits);
+    seat.abort(table);
+}
+
+// No transaction is left open.
+#[tactic(auto, using(crate::proofs::FitLemmas::rests_fit))]
+fn answer_borrowed(
+    page: &mut Page,
+    table: &TxTable<u64>,
+    seat: &mut TxSeat<u64>,
+    verb: &str,
+    calls: &str,
+)
+    requires fit { IsFit table.now seat.old }
+    ensures fit { IsFit table.now seat.new }
+{
+    answer_alone(page, table, seat, verb, calls);
     seat.abort(table);
 }
 
@@ -154,7 +178,10 @@ fn answer_attempt(
     ensures fit { IsFit table.now seat.new }
 {
     match job_of(page.alloc(), words) {
-        Ok(job) => try_job(page, table, seat, &job, worker, meeting, is_held),
+        Ok(job) => {
+            try_job(page, table, seat, &job, worker, meeting, is_held);
+            drop(job);
+        }
         Err(refusal) => page.refuse(refusal),
     }
 }
@@ -164,7 +191,10 @@ fn answer_left(page: &mut Page, table: &TxTable<u64>, seat: &mut TxSeat<u64>, ca
     ensures fit { IsFit table.now seat.new }
 {
     match script_of(page.alloc(), calls) {
-        Ok(script) => leave_open(page, table, seat, script.lines.as_slice()),
+        Ok(script) => {
+            leave_open(page, table, seat, script.lines.as_slice());
+            drop(script);
+        }
         Err(refusal) => page.refuse(refusal),
     }
 }
@@ -174,7 +204,10 @@ fn answer_repeated(page: &mut Page, table: &TxTable<u64>, seat: &mut TxSeat<u64>
     ensures fit { IsFit table.now seat.new }
 {
     match repeated_of(page.alloc(), words) {
-        Ok((times, script)) => repeat(page, table, seat, script.lines.as_slice(), times),
+        Ok((times, script)) => {
+            repeat(page, table, seat, script.lines.as_slice(), times);
+            drop(script);
+        }
         Err(refusal) => page.refuse(refusal),
     }
 }

@@ -1,7 +1,7 @@
 //! What is printed of sessions that workers served.
 use crate::shared::print_receipt;
 use seq_model::{Items, Memory, Record, Refusal};
-use session_script::{Line, print_sessions};
+use session_script::print_sessions;
 use std::fmt::Write;
 use vac_model::Tables;
 use vacation_core::Entry;
@@ -38,9 +38,10 @@ fn print_own(text: &mut String, worker: u64, receipts: &[Record<Entry>]) -> Resu
 // As they stand behind a session file without sessions.
 fn print_tables(text: &mut String, tables: &Tables) -> Result<(), Refusal> {
     let alloc = *text.allocator();
-    let lines: Vec<Line> = Vec::new(alloc);
-    let printed = print_sessions(alloc, lines.as_slice(), tables)?;
-    print_bytes(text, printed.as_slice())
+    let bytes = print_sessions(alloc, &[], tables)?;
+    let printed = print_bytes(text, bytes.as_slice());
+    drop(bytes);
+    printed
 }
 
 fn print_bytes(text: &mut String, bytes: &[u8]) -> Result<(), Refusal> {

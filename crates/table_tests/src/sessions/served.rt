@@ -5,7 +5,7 @@ ghost use Rattle.vac_model.specs.Balanced.{IsBalanced};
 use super::printed::{is_refused, print_served};
 use crate::shared::{Meeting, Order, audit_receipts};
 use dealing::deal;
-use seq_model::{Items, Memory, Record, Refusal, State};
+use seq_model::{Items, Record, Refusal, State};
 use serving::{Served, serve};
 use session_script::parse_sessions;
 use std::alloc::Global;
@@ -31,43 +31,57 @@ pub fn serve_sessions<R: Threads + Wait + Sync>(
     options: Options,
     file: &str,
 ) -> Result<(), Refusal> {
-    let opening = opening_of(*text.allocator(), file)?;
-    answer_file(rt, text, options, &opening, file)
-}
-
-fn opening_of(alloc: Global, file: &str) -> Result<State<Entry>, Refusal> {
-    let (tables, _actions) = parse_sessions(alloc, file.as_bytes())?;
-    let opening = state_of(alloc, &tables)?;
-    Ok(opening)
-}
-
-fn answer_file<R: Threads + Wait + Sync>(
-    rt: &R,
-    text: &mut String,
-    options: Options,
-    opening: &State<Entry>,
-    file: &str,
-) -> Result<(), Refusal> {
-    let meeting = Meeting::new(options.meet, Order::LastIsFirst);
-    match serve_file(rt, *text.allocator(), options, file, &meeting) {
-        Ok(served) => answer_served(text, opening, served, meeting.is_missed()),
-        Err(Refusal::TooLong) => {
-            text.push_str("TooLong\n")?;
-            Ok(())
-        }
+    if options.workers == 0 {
+        return Err(Refusal::NoSuch);
+    }
+    match parse_sessions(*text.allocator(), file.as_bytes()) {
+        Ok((tables, actions)) => serve_tables(rt, text, options, tables, actions),
         Err(refusal) => Err(refusal),
     }
 }
 
-fn serve_file<R: Threads + Wait + Sync>(
+fn serve_tables<R: Threads + Wait + Sync>(
     rt: &R,
-    alloc: Global,
+    text: &mut String,
     options: Options,
-    file: &str,
-    meeting: &Meeting,
-) -> Result<Served, Refusal> {
-    match parse_sessions(alloc, file.as_bytes()) {
-        Ok((tables, actions)) => serve_actions(rt, alloc, tables, options, actions, meeting),
+    tables: Tables,
+    actions: Items<Action>,
+) -> Result<(), Refusal>
+    requires workers { 1 ≤ options.workers }
+    requires balanced { IsBalanced tables }
+{
+    match state_of(*text.allocator(), &tables) {
+        Ok(opening) => {
+            let answered = serve_opening(rt, text, options, &opening, tables, actions);
+            drop(opening);
+            answered
+        }
+        Err(_) => {
+            drop(tables);
+            drop(actions);
+            Err(Refusal::OutOfMemory)
+        }
+    }
+}
+
+fn serve_opening<R: Threads + Wait + Sync>(
+    rt: &R,
+    text: &mut String,
+    options: Options,
+    opening: &State<Entry>,
+    tables: Tables,
+    actions: Items<Action>,
+) -> Result<(), Refusal>
+    requires workers { 1 ≤ options.workers }
+    requires balanced { IsBalanced tables }
+{
+    let meeting = Meeting::new(options.meet, Order::LastIsFirst);
+    let served = serve_actions(rt, *text.allocator(), tables, options, actions, &meeting);
+    let is_held_in_vain = meeting.is_missed();
+    drop(meeting);
+    match served {
+        Ok(served) => answer_served(text, opening, served, is_held_in_vain),
+        Err(Refusal::TooLong) => Ok(text.push_str("TooLong\n")?),
         Err(refusal) => Err(refusal),
     }
 }
@@ -80,14 +94,15 @@ fn serve_actions<R: Threads + Wait + Sync>(
     actions: Items<Action>,
     meeting: &Meeting,
 ) -> Result<Served, Refusal>
-    requires { IsBalanced tables }
+    requires workers { 1 ≤ options.workers }
+    requires balanced { IsBalanced tables }
 {
-    if options.workers == 0 {
-        return Err(Refusal::NoSuch);
-    }
     match deal(alloc, actions.into_vec(), options.workers) {
         Ok(lists) => serve_lists(rt, alloc, tables, options, lists, meeting),
-        Err(_) => Err(Refusal::OutOfMemory),
+        Err(_) => {
+            drop(tables);
+            Err(Refusal::OutOfMemory)
+        }
     }
 }
 
@@ -103,6 +118,8 @@ fn serve_lists<R: Threads + Wait + Sync>(
 {
     let count = lists.len();
     if count == 0 || count > 64 || options.tries == 0 {
+        drop(tables);
+        drop(lists);
         return Err(Refusal::NoSuch);
     }
     serve(
@@ -128,8 +145,10 @@ fn answer_served(
         state,
     } = served;
     let printed = print_served(text, &report, &tables);
+    drop(tables);
     let is_wanted = is_refused(&report);
     let audited = audit_report(*text.allocator(), opening, report, &state);
+    drop(state);
     end(text, printed, audited, is_wanted, is_held_in_vain)
 }
 
@@ -159,39 +178,25 @@ fn audit_report(
     report: Report<Entry>,
     last: &State<Entry>,
 ) -> Result<(), Refusal> {
-    let receipts = receipts_of(alloc, report.receipts)?;
-    audit_receipts(alloc, opening, receipts.as_slice(), last)
-}
-
-fn receipts_of(
-    alloc: Global,
-    lists: Items<Items<Record<Entry>>>,
-) -> Result<Vec<Record<Entry>>, Memory> {
+    let Report { receipts, missed } = report;
+    drop(missed);
     let mut all = Vec::new(alloc);
-    if have_room(&mut all, lists) {
-        Ok(all)
+    let audited = if have_room(&mut all, receipts) {
+        audit_receipts(alloc, opening, all.as_slice(), last)
     } else {
-        Err(Memory)
-    }
+        Err(Refusal::OutOfMemory)
+    };
+    drop(all);
+    audited
 }
 
 // All receipts are gathered; whether there was room.
 fn have_room(all: &mut Vec<Record<Entry>>, lists: Items<Items<Record<Entry>>>) -> bool {
     let mut is_held = true;
     for list in lists.into_vec() {
-        if !has_room(all, list) {
-            is_held = false;
-        }
-    }
-    is_held
-}
-
-fn has_room(all: &mut Vec<Record<Entry>>, list: Items<Record<Entry>>) -> bool {
-    let mut is_held = true;
-    for receipt in list.into_vec() {
-        if all.push(receipt).is_err() {
-            is_held = false;
-        }
+        let mut list = list.into_vec();
+        is_held = all.append(&mut list).is_ok() && is_held;
+        drop(list);
     }
     is_held
 }

@@ -19,6 +19,8 @@ pub fn close<V: Value>(table: TxTable<V>, seat: TxSeat<V>) -> Result<(u64, State
     requires ready { IsReady table seat }
 {
     if seat.shares() != ALL_SHARES {
+        drop(seat);
+        drop(table);
         return Err(Refusal::NoSuch);
     }
     let closed = seat.close(table);
@@ -37,6 +39,8 @@ pub fn close_told(
     requires ready { IsReady table seat }
 {
     if seat.shares() != ALL_SHARES {
+        drop(seat);
+        drop(table);
         return Err(Refusal::NoSuch);
     }
     let closed = seat.close(table);
@@ -74,7 +78,7 @@ pub fn print_receipt<V>(text: &mut String, receipt: &Record<V>) -> Result<(), Me
 pub fn print_closed(
     text: &mut String,
     clock: Option<u64>,
-    mut last: State<u64>,
+    last: &mut State<u64>,
     rows: &str,
 ) -> Result<(), Refusal> {
     match clock {
@@ -83,7 +87,7 @@ pub fn print_closed(
     }
     for row in rows.lines() {
         if let Some(call) = row.strip_prefix("closed ") {
-            answer_call(text, &mut last, row, call)?;
+            answer_call(text, last, row, call)?;
         }
     }
     Ok(())
@@ -96,10 +100,12 @@ fn answer_call(
     call: &str,
 ) -> Result<(), Refusal> {
     let script = script_of(*text.allocator(), call)?;
-    match script.lines.as_slice().first() {
+    let answered = match script.lines.as_slice().first() {
         Some(Line::Do(_, Request::Call(call))) => make_call(text, last, row, call),
         _ => Err(Refusal::NoSuch),
-    }
+    };
+    drop(script);
+    answered
 }
 
 fn make_call(
@@ -109,8 +115,9 @@ fn make_call(
     call: &Call<u64>,
 ) -> Result<(), Refusal> {
     let reply = last.apply(call)?;
-    print_answer(text, row, &reply)?;
-    Ok(())
+    let printed = print_answer(text, row, &reply);
+    drop(reply);
+    Ok(printed?)
 }
 
 fn print_answer(text: &mut String, row: &str, reply: &Reply<u64>) -> Result<(), Memory> {

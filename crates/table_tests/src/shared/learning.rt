@@ -22,10 +22,8 @@ fn learn_number(page: &mut Page, table: &TxTable<u64>, seat: &mut TxSeat<u64>, l
     requires ready { IsReady table.now seat.old }
     ensures ready { IsReady table.now seat.new }
 {
-    match transactions::learn(table, seat, learnt) {
-        Ok(()) => page.say("learnt"),
-        Err(refusal) => page.refuse(refusal),
-    }
+    let done = transactions::learn(table, seat, learnt);
+    page.hear_done("learnt", done);
 }
 
 /// The last number of the seat.

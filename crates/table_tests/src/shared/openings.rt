@@ -18,8 +18,13 @@ pub fn opening_of(alloc: Global, script: &Script) -> Result<State<u64>, Refusal>
 
 fn held_of(alloc: Global, script: &Script) -> Result<Vec<Held<u64>>, Memory> {
     let mut held = Vec::new(alloc);
-    add_held(&mut held, script)?;
-    Ok(held)
+    match add_held(&mut held, script) {
+        Ok(()) => Ok(held),
+        Err(memory) => {
+            drop(held);
+            Err(memory)
+        }
+    }
 }
 
 fn add_held(held: &mut Vec<Held<u64>>, script: &Script) -> Result<(), Memory> {
@@ -51,6 +56,19 @@ pub fn open(
     ensures shares { IfOk result (λ opened. (view opened.1.seat).shares ≡ 64) }
 {
     let shape = shape_of(alloc, script)?;
+    let opened = open_as(alloc, &shape, opening);
+    drop(shape);
+    opened
+}
+
+fn open_as(
+    alloc: Global,
+    shape: &Shape,
+    opening: &State<u64>,
+) -> Result<(TxTable<u64>, TxSeat<u64>), Refusal>
+    ensures ready { IfOk result (λ opened. IsReady opened.0 opened.1) }
+    ensures shares { IfOk result (λ opened. (view opened.1.seat).shares ≡ 64) }
+{
     let state = opening.try_copy(alloc)?;
-    TxSeat::open(alloc, &shape, state)
+    TxSeat::open(alloc, shape, state)
 }

@@ -1,5 +1,6 @@
 //! What is printed of a table's rows, and the receipts so far.
 use super::ends::{audit_receipts, print_closed, print_receipt};
+use super::meeting::Meeting;
 use row_parts::print_reply;
 use seq_model::{Memory, Record, Refusal, Reply, State};
 use std::alloc::Global;
@@ -20,9 +21,10 @@ pub struct Page {
 
 impl Page {
     pub fn new(alloc: Global) -> Result<Page, Memory> {
+        let receipts = Vec::with_capacity(alloc, ROOM)?;
         Ok(Page {
             text: String::new(alloc),
-            receipts: Vec::with_capacity(alloc, ROOM)?,
+            receipts,
             fault: None,
         })
     }
@@ -45,28 +47,26 @@ impl Page {
     }
 
     /// What could not be printed is a want of memory.
-    pub fn note(&mut self, printed: Result<(), Memory>) {
-        if printed.is_err() {
+    pub fn note(&mut self, is_printed: bool) {
+        if !is_printed {
             self.fail(Refusal::OutOfMemory);
         }
     }
 
     /// What is told from now on answers this row.
     pub fn begin_row(&mut self, row: &str) {
-        let printed = self.print(row, " = ");
-        self.note(printed);
+        self.print(row);
+        self.print(" = ");
     }
 
     pub fn end_row(&mut self) {
-        let printed = self.print("", "\n");
-        self.note(printed);
+        self.print("\n");
     }
 
     /// What is told in a row goes behind what was told before.
     pub fn say(&mut self, told: &str) {
-        let part = self.part();
-        let printed = self.print(part, told);
-        self.note(printed);
+        self.begin_part();
+        self.print(told);
     }
 
     /// A refusal is told, but for a want of memory.
@@ -74,20 +74,27 @@ impl Page {
         if matches!(refusal, Refusal::OutOfMemory) {
             return self.fail(refusal);
         }
-        let printed = self.print_refusal(refusal);
-        self.note(printed);
+        self.begin_part();
+        let is_printed = write!(self.text, "{refusal}").is_ok();
+        self.note(is_printed);
     }
 
     /// A number goes behind these words.
     pub fn say_number(&mut self, words: &str, number: u64) {
-        let printed = self.print_number(words, number);
-        self.note(printed);
+        self.begin_part();
+        let is_printed = write!(self.text, "{words}{number}").is_ok();
+        self.note(is_printed);
     }
 
     /// The place of a collection is told.
     pub fn say_block(&mut self, block: Block) {
-        let printed = self.print_block(block);
-        self.note(printed);
+        let Block {
+            kind,
+            stripes,
+            first,
+        } = block;
+        let is_printed = write!(self.text, "{kind:?}, {stripes} stripes, from {first}").is_ok();
+        self.note(is_printed);
     }
 
     pub fn hear_begin(&mut self, answered: Result<u64, Refusal>) {
@@ -100,8 +107,10 @@ impl Page {
     pub fn hear(&mut self, answered: Result<Reply<u64>, Refusal>) {
         match answered {
             Ok(reply) => {
-                let printed = self.print_reply(&reply);
-                self.note(printed);
+                self.begin_part();
+                let is_printed = print_reply(&mut self.text, &reply).is_ok();
+                drop(reply);
+                self.note(is_printed);
             }
             Err(refusal) => self.refuse(refusal),
         }
@@ -114,16 +123,44 @@ impl Page {
         }
     }
 
+    /// What was done is told, or a refusal.
+    pub fn hear_done(&mut self, told: &str, done: Result<(), Refusal>) {
+        match done {
+            Ok(()) => self.say(told),
+            Err(refusal) => self.refuse(refusal),
+        }
+    }
+
+    /// A write is told, if there was one to commit.
+    pub fn hear_write(&mut self, written: Result<Option<Record<u64>>, Refusal>) {
+        match written {
+            Ok(Some(receipt)) => self.keep(receipt),
+            Ok(None) => {}
+            Err(refusal) => self.fail(refusal),
+        }
+    }
+
+    /// Where memory was wanted, those who meet are held in vain.
+    pub fn hear_meeting(&mut self, meeting: Meeting) {
+        let is_missed = meeting.is_missed();
+        drop(meeting);
+        if is_missed && !self.wants_memory() {
+            self.fail(Refusal::NotIdle);
+        }
+    }
+
     /// A receipt is told, and joins the others.
     pub fn keep(&mut self, receipt: Record<u64>) {
-        let printed = self.print_receipt(&receipt);
-        self.note(printed);
+        self.begin_part();
+        let is_printed = print_receipt(&mut self.text, &receipt).is_ok();
+        self.note(is_printed);
         self.receive(receipt);
     }
 
     /// A receipt joins the others.
     pub fn receive(&mut self, receipt: Record<u64>) {
-        if self.receipts.push(receipt).is_err() {
+        if let Err(failed) = self.receipts.push(receipt) {
+            drop(failed);
             self.fail(Refusal::TooLong);
         }
     }
@@ -132,66 +169,29 @@ impl Page {
     pub fn append(&mut self, other: Page) {
         let Page {
             text,
-            receipts,
+            mut receipts,
             fault,
         } = other;
-        for receipt in receipts {
-            self.receive(receipt);
+        self.print(text.as_str());
+        drop(text);
+        if self.receipts.append(&mut receipts).is_err() {
+            self.fail(Refusal::TooLong);
         }
-        let printed = self.print(text.as_str(), "");
-        self.note(printed);
+        drop(receipts);
         if let Some(refusal) = fault {
             self.fail(refusal);
         }
     }
 
-    fn print_number(&mut self, words: &str, number: u64) -> Result<(), Memory> {
-        let part = self.part();
-        write!(self.text, "{part}{words}{number}")?;
-        Ok(())
-    }
-
-    fn print_block(&mut self, block: Block) -> Result<(), Memory> {
-        let Block {
-            kind,
-            stripes,
-            first,
-        } = block;
-        write!(self.text, "{kind:?}, {stripes} stripes, from {first}")?;
-        Ok(())
-    }
-
-    fn print_refusal(&mut self, refusal: Refusal) -> Result<(), Memory> {
-        let part = self.part();
-        write!(self.text, "{part}{refusal}")?;
-        Ok(())
-    }
-
-    fn print_reply(&mut self, reply: &Reply<u64>) -> Result<(), Memory> {
-        let part = self.part();
-        self.text.push_str(part)?;
-        print_reply(&mut self.text, reply)?;
-        Ok(())
-    }
-
-    fn print_receipt(&mut self, receipt: &Record<u64>) -> Result<(), Memory> {
-        let part = self.part();
-        self.text.push_str(part)?;
-        print_receipt(&mut self.text, receipt)
-    }
-
-    fn print(&mut self, part: &str, told: &str) -> Result<(), Memory> {
-        self.text.push_str(part)?;
-        self.text.push_str(told)?;
-        Ok(())
+    fn print(&mut self, told: &str) {
+        let is_printed = self.text.push_str(told).is_ok();
+        self.note(is_printed);
     }
 
     // What is told in a row has `; ` between.
-    fn part(&self) -> &'static str {
-        if self.text.as_str().ends_with("= ") {
-            ""
-        } else {
-            "; "
+    fn begin_part(&mut self) {
+        if !self.text.as_str().ends_with("= ") {
+            self.print("; ");
         }
     }
 }
@@ -203,11 +203,12 @@ pub fn end_page(
     page: &mut Page,
     opening: &State<u64>,
     clock: Option<u64>,
-    last: State<u64>,
+    mut last: State<u64>,
     rows: &str,
 ) -> Result<(), Refusal> {
     let audited = audit_receipts(page.alloc(), opening, page.receipts.as_slice(), &last);
-    let printed = print_closed(&mut page.text, clock, last, rows);
+    let printed = print_closed(&mut page.text, clock, &mut last, rows);
+    drop(last);
     audited?;
     if let Some(refusal) = page.fault {
         return Err(refusal);

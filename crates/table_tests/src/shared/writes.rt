@@ -22,8 +22,7 @@ pub fn commit_write(
         Err(cause) => Err(cause),
         Ok(_) => {
             write_any(table, seat)?;
-            let receipt = seat.commit(table)?;
-            Ok(Some(receipt))
+            Ok(Some(seat.commit(table)?))
         }
     }
 }
@@ -34,11 +33,8 @@ pub fn commit_after(page: &mut Page, table: &TxTable<u64>, seat: &mut TxSeat<u64
     ensures ready { IsReady table.now seat.new }
 {
     if page.wants_memory() {
-        match commit_write(table, seat) {
-            Ok(Some(receipt)) => page.keep(receipt),
-            Ok(None) => {}
-            Err(refusal) => page.fail(refusal),
-        }
+        let written = commit_write(table, seat);
+        page.hear_write(written);
     }
 }
 
@@ -50,7 +46,10 @@ fn write_any(table: &TxTable<u64>, seat: &mut TxSeat<u64>) -> Result<(), Refusal
 {
     'kinds: for kind in 0..KINDS {
         match seat.call(table, write_of(kind)) {
-            Ok(_) => return Ok(()),
+            Ok(reply) => {
+                drop(reply);
+                return Ok(());
+            }
             Err(Refusal::NoSuch) => {}
             Err(cause) => return Err(cause),
         }

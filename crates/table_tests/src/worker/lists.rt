@@ -33,8 +33,13 @@ pub fn limits_of(words: &str) -> Option<Limits> {
 /// The list of each worker, which stand in the order of the workers.
 pub fn lists_of(alloc: Global, rows: &str) -> Result<Vec<Vec<Listed>>, Refusal> {
     let mut lists = Vec::new(alloc);
-    add_rows(&mut lists, rows)?;
-    Ok(lists)
+    match add_rows(&mut lists, rows) {
+        Ok(()) => Ok(lists),
+        Err(refusal) => {
+            drop(lists);
+            Err(refusal)
+        }
+    }
 }
 
 fn add_rows(lists: &mut Vec<Vec<Listed>>, rows: &str) -> Result<(), Refusal> {
@@ -67,9 +72,9 @@ fn add_list(lists: &mut Vec<Vec<Listed>>) -> Result<(), Memory> {
 }
 
 fn add_job(lists: &mut Vec<Vec<Listed>>, words: &str) -> Result<(), Refusal> {
-    let job = job_of(*lists.allocator(), words)?;
+    let alloc = *lists.allocator();
     if let Some(list) = lists.last_mut() {
-        list.push(job)?;
+        list.push(job_of(alloc, words)?)?;
     }
     Ok(())
 }

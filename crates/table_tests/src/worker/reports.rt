@@ -6,9 +6,9 @@ use std::fmt::Write;
 use workers::{LastAbort, Report};
 
 /// How many jobs were refused memory.
-pub fn memory_missed(report: &Report<u64>) -> u64 {
+pub fn memory_missed(missed: &[(u64, u64, LastAbort)]) -> u64 {
     let mut count = 0u64;
-    for (_, _, cause) in report.missed.as_slice() {
+    for (_, _, cause) in missed {
         if matches!(cause, LastAbort::Refused(Refusal::OutOfMemory)) {
             count = count.saturating_add(1);
         }
@@ -24,7 +24,12 @@ pub fn print_report(text: &mut String, report: &Report<u64>, limits: Limits) -> 
         print_first(text, lists)?;
     }
     print_numbers(text, lists, limits.is_crowd)?;
-    for (worker, place, cause) in report.missed.as_slice() {
+    print_all_missed(text, report.missed.as_slice())
+}
+
+/// The jobs that were missed, each with its cause.
+pub fn print_all_missed(text: &mut String, missed: &[(u64, u64, LastAbort)]) -> Result<(), Memory> {
+    for (worker, place, cause) in missed {
         print_missed(text, *worker, *place, *cause)?;
     }
     Ok(())

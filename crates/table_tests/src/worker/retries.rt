@@ -80,7 +80,10 @@ fn answer_words(
     ensures ready { IsReady table.now seat.new }
 {
     match job_of(page.alloc(), words) {
-        Ok(job) => retry_job(page, tries, table, seat, &job),
+        Ok(job) => {
+            retry_job(page, tries, table, seat, &job);
+            drop(job);
+        }
         Err(refusal) => page.fail(refusal),
     }
 }

@@ -50,6 +50,7 @@ fn run_some<R: Threads + Wait + Sync>(
 {
     let count = lists.len();
     if count == 0 || count > 64 || limits.tries == 0 {
+        drop(lists);
         page.fail(Refusal::NoSuch);
         return seat;
     }
@@ -75,9 +76,7 @@ fn run_seat<R: Threads + Wait + Sync>(
     let alloc = page.alloc();
     let (seat, report) = run_workers(rt, alloc, table, seat, lists, limits.tries, &meeting);
     let is_refused = hear(page, report, limits, wants_of(rows));
-    if meeting.is_missed() && !page.wants_memory() {
-        page.fail(Refusal::NotIdle);
-    }
+    page.hear_meeting(meeting);
     go_on(page, table, seat, is_refused)
 }
 
@@ -93,13 +92,15 @@ fn hear(page: &mut Page, report: Result<Report<u64>, Memory>, limits: Limits, wa
 }
 
 fn hear_report(page: &mut Page, report: Report<u64>, limits: Limits, wants: u64) -> bool {
-    let printed = print_report(&mut page.text, &report, limits);
-    page.note(printed);
-    let refused = memory_missed(&report);
+    let is_printed = print_report(&mut page.text, &report, limits).is_ok();
+    page.note(is_printed);
+    let refused = memory_missed(report.missed.as_slice());
     if refused != wants {
         page.fail(Refusal::OutOfMemory);
     }
-    receive_all(page, report.receipts);
+    let Report { receipts, missed } = report;
+    drop(missed);
+    receive_all(page, receipts);
     refused > 0
 }
 
@@ -124,10 +125,7 @@ fn commit_one(page: &mut Page, table: &TxTable<u64>, seat: &mut TxSeat<u64>)
     ensures ready { IsReady table.now seat.new }
 {
     page.begin_row("after");
-    match commit_write(table, seat) {
-        Ok(Some(receipt)) => page.keep(receipt),
-        Ok(None) => {}
-        Err(refusal) => page.fail(refusal),
-    }
+    let written = commit_write(table, seat);
+    page.hear_write(written);
     page.end_row();
 }
