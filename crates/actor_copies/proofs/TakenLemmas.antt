@@ -2,7 +2,7 @@
 -- with that edition (`Live`), and where its base has the edition still, the part is the base's (`same_part`); so the lemmas on what is
 -- copied for a call speak of the actor's shadow, which has copied what the call touches but for what was read.
 use Rattle.std.proofs.Common.{◌≡◌, ◌⊎◌, ℕ, ◌+◌, ◌-◌, ◌<◌, ◌==◌, ◌&&◌, Bool, true, false, true≢false, eq-eqb, not, List, [], ◌∷◌, Option}
-use Rattle.std.proofs.Common.{Some, None, inl, inr, Contains, refl, sym, ap, subst, ◌∙◌, arith, cond, eqb, ◌||◌}
+use Rattle.std.proofs.Common.{Some, None, inl, inr, Contains, refl, sym, ap, subst, ◌∙◌, arith, cond, ◌||◌}
 use Rattle.std.specs.Prelude.{slice_index, is_some, unwrap_or, nat_lt}
 use Rattle.std.proofs.lemmas.Bool.{cond-false}
 use Rattle.std.specs.Cmp.{nat_cmp_total}

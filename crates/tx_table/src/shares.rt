@@ -59,7 +59,7 @@ fn merge<V: Value>(board: &Board<V>, seat: &mut Seat<V>, other: Seat<V>)
 }
 
 impl<V: Value> TxTable<V> {
-    /// A new seat, which gets so many of this one's shares. It has no receipts, its last number is 0, and its actor is a new one.
+    /// A new seat, which gets so many of this one's shares. It has no receipts, and its last number is 0.
     pub fn split(&self, seat: &mut Seat<V>, shares: u64) -> Seat<V>
         requires own { Owns self.now seat.old }
         requires some { 1 ≤ shares }

@@ -5,7 +5,7 @@ use replay_log::Base;
 use seq_model::{ACTOR_LIMIT, Event, Items, Record, Shape, State};
 use std::snapshot::Snapshot;
 
-/// So many shares the seats of a table have together: one for each actor.
+/// So many shares the seats of a table have together, as many as a world has actors.
 pub const SHARES: u64 = ACTOR_LIMIT as u64;
 
 /// What a table opened with, as clauses see it.

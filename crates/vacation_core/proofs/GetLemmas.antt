@@ -17,7 +17,7 @@ use Rattle.vacation_core.specs.Gets.{get_due, tells_item, item_told}
 use Rattle.vac_model.specs.Holdings.{same_kind}
 use Rattle.vac_model.specs.Actions.{dearer}
 use Rattle.vacation_core.specs.Sessions.{SessionProgram, better, gather, item_in}
-use Rattle.vacation_core.proofs.WalkLemmas.{gather_on, gather_next, replied, drop_next}
+use Rattle.vacation_core.proofs.WalkLemmas.{gather_on, gather_next, replied}
 
 both_true : (a b : Bool) → (a && b) ≡ true → (a ≡ true) × (b ≡ true)
 both_true true b e = (refl, e)

@@ -2,7 +2,7 @@
 -- A seat is split for the second half, runs the first one, and the other is joined again: it has the receipts of both halves then. What
 -- the first half had joined comes first, then the other seat's actor with its turns, which all were taken since it was split, and what the
 -- second half had joined. Lists that came back as they went left their seat as it was split.
-use Rattle.std.proofs.Common.{◌≡◌, ◌⊎◌, ℕ, List, [], ◌∷◌, ◌++◌, inl, inr, refl, sym, ap, ◌∙◌, subst}
+use Rattle.std.proofs.Common.{◌≡◌, ◌⊎◌, ℕ, List, [], ◌∷◌, ◌++◌, inl, inr, sym, ap, ◌∙◌, subst}
 use Rattle.std.proofs.lemmas.List.{append_assoc}
 use Rattle.seq_model.specs.declared.call.Reply.{Reply}
 use Rattle.tx_engine.specs.declared.job.Ask.{Ask}
@@ -14,7 +14,7 @@ use Rattle.transactions.specs.declared.seats.TxSeat.{TxSeat}
 use Rattle.transactions.specs.Ready.{IsReady}
 use Rattle.workers.specs.declared.tree.Tree.{Tree}
 use Rattle.workers.specs.Tasks.{Gains, GetsJoined, Took}
-use Rattle.workers.specs.Trees.{AreDone, AreLeft, ComesBack, Ran, gained, works}
+use Rattle.workers.specs.Trees.{AreDone, AreLeft, ComesBack, gained, works}
 use Rattle.workers.proofs.TaskLemmas.{no_gain}
 
 module _ {V J : Type 0} (asks : J → List (Reply V) → Ask V → Type 0) (t : TxTable V) (tries : ℕ) (o y : TxSeat V)

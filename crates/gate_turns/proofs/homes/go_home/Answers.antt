@@ -1,4 +1,4 @@
-use Rattle.std.proofs.Common.{◌≡◌, ◌<◌, ◌^◌, ℕ, All, List, ap, length, slice_index, subst, sym, ◌∙◌}
+use Rattle.std.proofs.Common.{◌≡◌, ◌<◌, ◌^◌, All, List, ap, length, slice_index, subst, sym, ◌∙◌}
 use Rattle.conflict.specs.declared.change.Change.{Change}
 use Rattle.replay_log.specs.declared.base.Base.{Base}
 use Rattle.replay_log.specs.Base.{IsPreparedFor, after, editions_of, locations_of, shown_of, stripes_of}

@@ -26,4 +26,5 @@ returns c =
     (λ o. programs.put_customer c.args.customer (waiter c.args.ticket c.args.booking o) next)
     ∙ ap (λ (l : List (Reply Entry)). after (programs.put_customer c.args.customer
     (waiter c.args.ticket c.args.booking (option_copied c.in_ok-found.found)) next) l) none
-    ∙ ap (λ w. programs.put_customer c.args.customer w next) (sym (c.in_ok-shared.ensures ∙ c.in_ok-who.ensures))) (c.put_customer.ensures next)
+    ∙ ap (λ w. programs.put_customer c.args.customer w next) (sym (c.in_ok-shared.ensures ∙ c.in_ok-who.ensures)))
+    (c.put_customer.ensures next)
