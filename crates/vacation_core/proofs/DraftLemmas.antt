@@ -12,14 +12,13 @@ use Rattle.vac_model.specs.declared.action.Part.{Part}
 use Rattle.vac_model.specs.declared.action.Part.TheVariants.{Booked, Waits}
 use Rattle.vac_model.specs.Holdings.{same_kind}
 use Rattle.vac_model.specs.Actions.{dearer, has, places, is_of, is_for}
-use Rattle.vacation_core.specs.Sessions.{is_change}
 use Rattle.vacation_core.specs.Walks.{with_part}
 use Rattle.std.specs.Option.{option_copied}
 use Rattle.std.specs.Prelude.{unwrap_or}
 use Rattle.vac_model.specs.declared.item.Kind.TheVariants.{Car, Flight, Room}
 use Rattle.vac_model.specs.Holdings.{newcomer}
 use Rattle.vacation_core.specs.declared.reserve.Draft.{Draft}
-use Rattle.vacation_core.specs.Drafts.{IsSound, adds, drafted, part_for}
+use Rattle.vacation_core.specs.Drafts.{IsSound, added as places_added, adds, drafted, part_for, place_of}
 
 added : (a b x : Bool) → ((a || (x || false)) || b) ≡ ((a || b) || x)
 added true b x = refl
@@ -75,16 +74,18 @@ has_drafted d Car id = all_parts d Car id ∙ none_more _ ∙ none_more _
 has_drafted d Flight id = all_parts d Flight id ∙ none_more _ ∙ ap (λ a. a || adds id d.flight) (none_more _)
 has_drafted d Room id = all_parts d Room id ∙ ap (λ a. a || adds id d.room) (none_more _ ∙ none_more _)
 
--- how many places a part takes
-abbrev pub place_of : Part → ℕ
-place_of p = cond (is_change p) 1 0
-
 pub places_part : (units : ℕ) (j : Kind) (p : Part) (who : Customer) → places (with_part units j p who) ≡ places who + place_of p
 places_part units j (Booked b n price) who =
     omega (arith, length-append who.bookings (record { kind = j; id = b; units = units; price = price } ∷ []))
 places_part units j (Waits b t) who =
     omega (arith, length-append who.waits (record { kind = j; id = b; units = units; ticket = t } ∷ []))
 places_part units j _ who = omega arith
+
+pub places_drafted : (d : Draft) → places (drafted d) ≡ places (before d) + places_added d
+places_drafted d =
+    let one : Customer = with_part d.units Car d.car (before d) in
+    let two : Customer = with_part d.units Flight d.flight one in
+    omega (arith, places_part d.units Room d.room two, places_part d.units Flight d.flight one, places_part d.units Car d.car (before d))
 
 pub dearer_sound : (x y : Option (ℕ × Item)) → IsSound x → IsSound y → IsSound (dearer x y)
 dearer_sound None y hx hy = hy

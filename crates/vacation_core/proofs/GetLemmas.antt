@@ -19,7 +19,7 @@ use Rattle.vac_model.specs.Actions.{dearer}
 use Rattle.vacation_core.specs.Sessions.{SessionProgram, better, gather, item_in}
 use Rattle.vacation_core.proofs.WalkLemmas.{gather_on, gather_next, replied}
 
-both_true : (a b : Bool) → (a && b) ≡ true → (a ≡ true) × (b ≡ true)
+pub both_true : (a b : Bool) → (a && b) ≡ true → (a ≡ true) × (b ≡ true)
 both_true true b e = (refl, e)
 both_true false b e = absurd (cc)
 

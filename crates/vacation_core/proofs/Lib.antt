@@ -5,3 +5,5 @@ pub mod RunLemmas
 pub mod WalkLemmas
 pub mod DraftLemmas
 pub mod GetLemmas
+pub mod GivenBackLemmas
+pub mod JoinedLemmas

@@ -1,5 +1,5 @@
 -- A customer with what a reservation decided so far.
-use Rattle.std.specs.Prelude.{ℕ, Option, Some, None, unwrap_or, Bool, false, ◌||◌, ◌==◌, ⊤}
+use Rattle.std.specs.Prelude.{ℕ, ◌+◌, Option, Some, None, unwrap_or, Bool, false, ◌||◌, ◌==◌, if◌then◌else◌, ⊤}
 use Rattle.std.specs.Option.{option_copied}
 use Rattle.vac_model.specs.declared.item.Item.{Item}
 use Rattle.vac_model.specs.declared.item.Kind.{Kind}
@@ -41,3 +41,10 @@ drafted d = with_part d.units Room d.room
 
 abbrev pub is_changed : Draft → Bool
 is_changed d = is_change d.car || (is_change d.flight || is_change d.room)
+
+-- how many places a part takes
+abbrev pub place_of : Part → ℕ
+place_of p = if is_change p then 1 else 0
+
+abbrev pub added : Draft → ℕ
+added d = place_of d.car + place_of d.flight + place_of d.room

@@ -7,6 +7,7 @@ pub mod Laws
 pub mod Walks
 pub mod Left
 pub mod Gets
+pub mod GivenBack
 pub mod Drafts
 pub mod Serving
 pub mod Refusals

@@ -1,13 +1,10 @@
 -- How the serving of a queue goes on after a step.
-use Rattle.std.specs.Prelude.{ℕ, ◌≤◌, List, [], ◌∷◌, ◌++◌, Option, Some, None, unwrap_or, ⊤}
+use Rattle.std.specs.Prelude.{ℕ, ◌≤◌, [], ◌∷◌, ◌++◌, Option, Some, None, unwrap_or, ⊤}
 use Rattle.vac_model.specs.declared.item.Booking.{Booking}
 use Rattle.vac_model.specs.declared.item.Customer.{Customer}
 use Rattle.vac_model.specs.Holdings.{newcomer}
-use Rattle.vac_model.specs.Actions.{without_wait, bill}
-use Rattle.vac_model.specs.declared.item.Wait.{Wait}
-use Rattle.vac_model.specs.declared.action.ActionReply.TheVariants.{Deleted}
-use Rattle.tx_engine.specs.Programs.{Answers}
-use Rattle.vacation_core.specs.Sessions.{SessionProgram, give_all_back, forget_all, remove_customer, serve_all}
+use Rattle.vac_model.specs.Actions.{without_wait}
+use Rattle.vacation_core.specs.Sessions.{SessionProgram}
 
 -- a step that booked so many tickets goes on with the later ones; none: serving ends
 abbrev pub serves_on : Option ℕ → (ℕ → SessionProgram) → SessionProgram → SessionProgram
@@ -26,8 +23,3 @@ with_own (Some b) who = record who { bookings = who.bookings ++ b ∷ [] }
 -- the customer of a ticket, without the wait, and with a booking where there is one
 abbrev pub waiter : ℕ → Option Booking → Option Customer → Customer
 waiter t b o = with_own b (without_wait t (unwrap_or o newcomer))
-
--- a customer with these bookings and waits is deleted
-abbrev pub deletes : ℕ → List Booking → List Wait → SessionProgram
-deletes c bookings waits =
-    give_all_back bookings (forget_all waits (remove_customer c (serve_all bookings (λ served. Answers (Deleted (bill bookings) served)))))

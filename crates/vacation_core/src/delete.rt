@@ -1,40 +1,67 @@
 //! The program of a deletion, walked.
-ghost use Rattle.std.specs.Prelude.{◌≡◌, ◌≤◌, ℕ, Option, Some, IfOk, true};
+ghost use Rattle.std.specs.Prelude.{◌≡◌, ◌≤◌, ◌*◌, ℕ, Option, Some, IfOk, true, false, length, drop};
 ghost use Rattle.std.specs.Option.{option_copied};
-ghost use Rattle.tx_engine.specs.Programs.{after, Answers};
+ghost use Rattle.tx_engine.specs.Programs.{after, asked, Answers};
+ghost use Rattle.tx_engine.specs.declared.job.Ask.TheVariants.{GiveUp};
 ghost use Rattle.vac_model.specs.Balanced.{IsItemSound};
 ghost use Rattle.vacation_core.specs.Sessions as programs;
 ghost use Rattle.vacation_core.specs.Sessions.{SessionProgram};
 ghost use Rattle.vacation_core.specs.Walks.{Comes};
-ghost use Rattle.vacation_core.specs.Serving.{deletes, serves_on, waiter, IsServed};
+ghost use Rattle.vacation_core.specs.Serving.{serves_on, waiter, IsServed};
+ghost use Rattle.vacation_core.specs.GivenBack.{is_given_back};
 
+use crate::entry::Entry;
 use crate::shared::SharedCustomer;
+use crate::split::SplitCustomer;
 use crate::walk::{Stop, Walk, put_customer};
-use seq_model::Memory;
+use seq_model::{Memory, Reply};
 use std::alloc::Global;
-use vac_model::{
-    ActionReply, Booking, Customer, Item, Kind, SERVE_LIMIT, Ticket, Wait, bill, has_kind,
-    waits_without,
-};
+use vac_model::{ActionReply, Booking, Item, Kind, SERVE_LIMIT, Ticket, Wait, is_item_sound};
 
 /// A customer whose wait ended, with a booking in its place where the item is there.
 fn served(
     alloc: Global,
-    found: Option<&Customer>,
+    found: Option<&SplitCustomer>,
     ticket: u64,
     booking: Option<Booking>,
-) -> Result<Customer, Memory>
+) -> Result<SplitCustomer, Memory>
     ensures { IfOk result (λ who. who ≡ waiter ticket booking (option_copied found.entry)) }
 {
-    let mut who = Customer::new(alloc);
-    if let Some(found) = found {
-        who.bookings = found.bookings.try_copy()?;
-        who.waits = waits_without(alloc, found.waits.as_slice(), ticket)?;
-    }
+    let mut who = match found {
+        Some(found) => found.to_change(alloc, 1)?,
+        None => SplitCustomer::new(alloc, 1)?,
+    };
+    who.end_wait(alloc, ticket)?;
     if let Some(booking) = booking {
-        who.bookings.push(booking)?;
+        who.book(booking)?;
     }
     Ok(who)
+}
+
+/// Whether the reply tells the item that a booking is of, with at least as many units used.
+fn is_given_back(booking: &Booking, reply: &Reply<Entry>) -> bool
+    ensures { result ≡ is_given_back booking.now reply.now }
+{
+    match reply {
+        Reply::Value(Entry::Item(item)) => is_item_sound(item) && booking.units <= item.used,
+        _ => false,
+    }
+}
+
+/// The same of the first bookings, each of which has two calls and their replies: its item is got, and put.
+fn are_given_back(bookings: &[Booking], replies: &[Reply<Entry>], count: usize) -> bool
+    requires few { count ≤ length bookings.now }
+    requires told { 2 * count ≤ length replies.now }
+    ensures given { result ≡ true → (next : SessionProgram) → after (programs.give_all_back bookings.now next) replies.now
+        ≡ after (programs.give_all_back (drop count bookings.now) next) (drop (2 * count) replies.now) }
+    ensures gives_up { result ≡ false → (next : SessionProgram) → asked (after (programs.give_all_back bookings.now next) replies.now) ≡ GiveUp }
+{
+    for i in 0..count {
+        if !is_given_back(&bookings[i], &replies[2 * i]) {
+            return false;
+        }
+    }
+    true
 }
 
 impl<'a> Walk<'a> {
@@ -59,14 +86,41 @@ impl<'a> Walk<'a> {
         self.put_item(booking.kind, booking.id, more)
     }
 
-    fn give_all_back(&mut self, bookings: &[Booking]) -> Result<(), Stop>
+    /// Passes the replies to the calls that make the units of bookings free again, in one pass along both, and says of how many bookings
+    /// both calls have theirs.
+    fn pass_back(&mut self, bookings: &[Booking]) -> Result<usize, Stop>
+        ensures few { IfOk result (λ passed. passed ≤ length bookings.now) }
+        ensures comes { (next : SessionProgram) → Comes (after (programs.give_all_back bookings.now next) self.old) result
+            (λ passed. after (programs.give_all_back (drop passed bookings.now) next) self.new) }
+    {
+        let Some((count, replies)) = self.take_pairs(bookings.len()) else {
+            return Ok(0);
+        };
+        if are_given_back(bookings, replies, count) {
+            Ok(count)
+        } else {
+            Err(Stop::GivesUp)
+        }
+    }
+
+    fn give_list_back(&mut self, bookings: &[Booking]) -> Result<(), Stop>
         ensures { (next : SessionProgram)
             → Comes (after (programs.give_all_back bookings.now next) self.old) result (λ _. after next self.new) }
     {
-        for booking in bookings {
-            self.give_back(*booking)?;
+        let passed = self.pass_back(bookings)?;
+        for i in passed..bookings.len() {
+            self.give_back(bookings[i])?;
         }
         Ok(())
+    }
+
+    fn give_all_back(&mut self, who: &SplitCustomer) -> Result<(), Stop>
+        ensures { (next : SessionProgram)
+            → Comes (after (programs.give_all_back who.now.bookings next) self.old) result (λ _. after next self.new) }
+    {
+        let (earlier, later) = who.bookings();
+        self.give_list_back(earlier)?;
+        self.give_list_back(later)
     }
 
     fn forget_all(&mut self, waits: &[Wait]) -> Result<(), Stop>
@@ -205,25 +259,25 @@ impl<'a> Walk<'a> {
         }
     }
 
-    fn serve_freed(&mut self, bookings: &[Booking], kind: Kind) -> Result<u64, Stop>
+    fn serve_freed(&mut self, who: &SplitCustomer, kind: Kind) -> Result<u64, Stop>
         ensures comes { (next : ℕ → SessionProgram)
-            → Comes (after (programs.serve_freed bookings.now kind next) self.old) result (λ served. after (next served) self.new) }
+            → Comes (after (programs.serve_freed who.now.bookings kind next) self.old) result (λ served. after (next served) self.new) }
         ensures few { IfOk result (λ served. served ≤ SERVE_LIMIT) }
     {
-        if has_kind(bookings, kind) {
+        if who.has_kind(kind) {
             self.serve(kind, SERVE_LIMIT)
         } else {
             Ok(0)
         }
     }
 
-    fn serve_all(&mut self, bookings: &[Booking]) -> Result<u64, Stop>
+    fn serve_all(&mut self, who: &SplitCustomer) -> Result<u64, Stop>
         ensures { (next : ℕ → SessionProgram)
-            → Comes (after (programs.serve_all bookings.now next) self.old) result (λ served. after (next served) self.new) }
+            → Comes (after (programs.serve_all who.now.bookings next) self.old) result (λ served. after (next served) self.new) }
     {
-        let car = self.serve_freed(bookings, Kind::Car)?;
-        let flight = self.serve_freed(bookings, Kind::Flight)?;
-        let room = self.serve_freed(bookings, Kind::Room)?;
+        let car = self.serve_freed(who, Kind::Car)?;
+        let flight = self.serve_freed(who, Kind::Flight)?;
+        let room = self.serve_freed(who, Kind::Room)?;
         Ok(car + flight + room)
     }
 
@@ -231,28 +285,21 @@ impl<'a> Walk<'a> {
         ensures { Comes (after (programs.delete customer) self.old) result (λ reply. Answers reply) }
     {
         match self.get_customer(customer)? {
-            Some(who) => {
-                self.delete_found(customer, who.bookings.as_slice(), who.waits.as_slice())
-            }
+            Some(who) => self.delete_found(customer, who),
             None => Ok(ActionReply::Absent),
         }
     }
 
-    fn delete_found(
-        &mut self,
-        customer: u64,
-        bookings: &[Booking],
-        waits: &[Wait],
-    ) -> Result<ActionReply, Stop>
-        requires { programs.is_customer_within (record { bookings = bookings.now; waits = waits.now }) ≡ true }
-        ensures { Comes (after (deletes customer bookings.now waits.now) self.old) result (λ reply. Answers reply) }
+    fn delete_found(&mut self, customer: u64, who: &SplitCustomer) -> Result<ActionReply, Stop>
+        requires { programs.is_customer_within who.now ≡ true }
+        ensures { Comes (after (programs.delete_found customer (Some who.now)) self.old) result (λ reply. Answers reply) }
     {
-        self.give_all_back(bookings)?;
-        self.forget_all(waits)?;
+        self.give_all_back(who)?;
+        self.forget_all(who.waits())?;
         self.remove_customer(customer)?;
-        let served = self.serve_all(bookings)?;
+        let served = self.serve_all(who)?;
         Ok(ActionReply::Deleted {
-            bill: bill(bookings),
+            bill: who.bill(),
             served,
         })
     }

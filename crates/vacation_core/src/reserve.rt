@@ -1,5 +1,5 @@
 //! The program of a reservation, walked.
-ghost use Rattle.std.specs.Prelude.{◌≡◌, ◌≤◌, ℕ, Option, Some, None, IfOk, IfSome, OnOk, ◌||◌, unwrap_or, is_none, ◌&&◌};
+ghost use Rattle.std.specs.Prelude.{◌≡◌, ◌≤◌, ℕ, Option, Some, None, IfOk, IfSome, OnOk, ◌||◌, unwrap_or, is_none, ◌&&◌, if◌then◌else◌};
 ghost use Rattle.std.specs.Prelude.{length, drop, true, false};
 ghost use Rattle.std.specs.Option.{option_copied};
 ghost use Rattle.tx_engine.specs.Programs.{after, asked, Answers};
@@ -13,19 +13,19 @@ ghost use Rattle.vac_model.specs.Holdings.{newcomer};
 ghost use Rattle.vacation_core.specs.Sessions as programs;
 ghost use Rattle.vacation_core.specs.Sessions.{SessionProgram};
 ghost use Rattle.vacation_core.specs.Walks.{Comes, IsStop, with_part};
-ghost use Rattle.vacation_core.specs.Drafts.{drafted, adds, is_changed, part_for, AreSound, IsSound};
+ghost use Rattle.vacation_core.specs.Drafts.{drafted, added, adds, is_changed, part_for, AreSound, IsSound};
 ghost use Rattle.vac_model.specs.Balanced.{IsItemSound};
 ghost use Rattle.vacation_core.specs.Gets.{get_due, tells_item, item_told};
 ghost use Rattle.vac_model.specs.Actions.{take_units};
 
 use crate::entry::Entry;
 use crate::shared::SharedCustomer;
+use crate::split::SplitCustomer;
 use crate::walk::{Stop, Walk, asks_get, asks_put, map_of, put_customer, tell_items};
-use seq_model::{Items, Memory, Reply, Value};
+use seq_model::{Memory, Reply};
 use std::alloc::Global;
 use vac_model::{
-    ActionReply, Ask, Booking, Customer, Each, Item, Kind, PLACE_LIMIT, Part, TICKET_LIMIT, Ticket,
-    Wait, is_item_sound,
+    ActionReply, Ask, Booking, Each, Item, Kind, Part, TICKET_LIMIT, Ticket, Wait, is_item_sound,
 };
 
 /// A customer with what was decided so far, which is not put yet.
@@ -33,7 +33,7 @@ use vac_model::{
 struct Draft<'a> {
     number: u64,
     units: u64,
-    found: Option<&'a Customer>,
+    found: Option<&'a SplitCustomer>,
     car: Part,
     flight: Part,
     room: Part,
@@ -58,7 +58,7 @@ fn adds(part: Part, id: u64) -> bool
 }
 
 /// Whether the customer held or awaited the item.
-fn has_found(found: Option<&Customer>, kind: Kind, id: u64) -> bool
+fn has_found(found: Option<&SplitCustomer>, kind: Kind, id: u64) -> bool
     ensures { result ≡ actions.has (unwrap_or (option_copied found.entry) newcomer) kind id }
 {
     match found {
@@ -67,17 +67,17 @@ fn has_found(found: Option<&Customer>, kind: Kind, id: u64) -> bool
     }
 }
 
-fn add_part(who: &mut Customer, units: u64, kind: Kind, part: Part) -> Result<(), Memory>
+fn add_part(who: &mut SplitCustomer, units: u64, kind: Kind, part: Part) -> Result<(), Memory>
     ensures { OnOk result (who.new ≡ with_part units kind part who.old) }
 {
     match part {
-        Part::Booked { id, price, .. } => who.bookings.push(Booking {
+        Part::Booked { id, price, .. } => who.book(Booking {
             kind,
             id,
             units,
             price,
         }),
-        Part::Waits { id, ticket } => who.waits.push(Wait {
+        Part::Waits { id, ticket } => who.wait(Wait {
             kind,
             id,
             units,
@@ -85,19 +85,6 @@ fn add_part(who: &mut Customer, units: u64, kind: Kind, part: Part) -> Result<()
         }),
         _ => Ok(()),
     }
-}
-
-/// A copy with room for further bookings, so that these don't move its list.
-fn copy_with_room(alloc: Global, who: &Customer, more: usize) -> Result<Customer, Memory>
-    ensures { IfOk result (λ copy. copy ≡ who.now) }
-{
-    let had = who.bookings.as_slice();
-    let mut bookings = Vec::with_capacity(alloc, had.len().saturating_add(more))?;
-    bookings.extend_from_slice(had)?;
-    Ok(Customer {
-        bookings: Items::from_vec(bookings),
-        waits: who.waits.try_copy()?,
-    })
 }
 
 impl Draft<'_> {
@@ -128,15 +115,8 @@ impl Draft<'_> {
     fn is_full(&self) -> bool
         ensures { result ≡ actions.is_full (drafted self.now) }
     {
-        let added = is_change(self.car) as u64
-            + is_change(self.flight) as u64
-            + is_change(self.room) as u64;
-        let places = PLACE_LIMIT - added;
         match self.found {
-            Some(who) => {
-                let waits = who.waits.len() as u64;
-                waits >= places || who.bookings.len() as u64 >= places - waits
-            }
+            Some(who) => !who.has_places(self.added() as u64 + 1),
             None => false,
         }
     }
@@ -148,20 +128,31 @@ impl Draft<'_> {
         is_change(self.car) || is_change(self.flight) || is_change(self.room)
     }
 
+    /// Whether the customer is put, as one that is new or changed is.
+    fn is_put(&self) -> bool
+        ensures { (next : SessionProgram)
+            → programs.put_changed self.now.number (option_copied self.now.found) (is_changed self.now) (drafted self.now) next
+            ≡ (if result then programs.put_customer self.now.number (drafted self.now) next else next) }
+    {
+        self.found.is_none() || self.is_changed()
+    }
+
     /// How many bookings and waits were decided.
-    fn added(&self) -> usize {
+    fn added(&self) -> usize
+        ensures { result ≡ added self.now }
+    {
         is_change(self.car) as usize
             + is_change(self.flight) as usize
             + is_change(self.room) as usize
     }
 
     /// The customer, to be put.
-    fn customer(&self, alloc: Global) -> Result<Customer, Memory>
+    fn customer(&self, alloc: Global) -> Result<SplitCustomer, Memory>
         ensures { IfOk result (λ who. who ≡ drafted self.now) }
     {
         let mut who = match self.found {
-            Some(who) => copy_with_room(alloc, who, self.added())?,
-            None => Customer::new(alloc),
+            Some(who) => who.to_change(alloc, self.added())?,
+            None => SplitCustomer::new(alloc, self.added())?,
         };
         add_part(&mut who, self.units, Kind::Car, self.car)?;
         add_part(&mut who, self.units, Kind::Flight, self.flight)?;
@@ -398,10 +389,7 @@ impl<'a> Walk<'a> {
             → Comes (after (programs.put_changed draft.now.number (option_copied draft.now.found) (is_changed draft.now)
             (drafted draft.now) next) self.old) result (λ _. after next self.new) }
     {
-        if draft.found.is_some() && !draft.is_changed() {
-            return Ok(());
-        }
-        if self.passes() {
+        if !draft.is_put() || self.passes() {
             return Ok(());
         }
         let who = draft.customer(self.allocator())?;
@@ -414,7 +402,7 @@ impl<'a> Walk<'a> {
         number: u64,
         units: u64,
         best: &Each<Option<(u64, Item)>>,
-        found: Option<&Customer>,
+        found: Option<&SplitCustomer>,
     ) -> Result<ActionReply, Stop>
         requires { AreSound best.now }
         ensures { Comes (after (programs.decide_all number units best.now.car best.now.flight best.now.room

@@ -16,7 +16,7 @@ use seq_model::{Items, Memory, Record, Refusal, Reply};
 use std::alloc::Global;
 use std::marker::Model;
 use tx_engine::{Ask, Job};
-use vac_model::{Action, ActionReply, Ask as ItemAsk, Kind, bill};
+use vac_model::{Action, ActionReply, Ask as ItemAsk, Kind};
 
 /// The transaction of one action, which is within its limits. It keeps nothing between its calls.
 #[derive(Drop)]
@@ -79,9 +79,7 @@ impl<'a> Walk<'a> {
         ensures { Comes (after (programs.query_bill customer) self.old) result (λ reply. Answers reply) }
     {
         match self.get_customer(customer)? {
-            Some(who) => Ok(ActionReply::Bill {
-                sum: bill(who.bookings.as_slice()),
-            }),
+            Some(who) => Ok(ActionReply::Bill { sum: who.bill() }),
             None => Ok(ActionReply::Absent),
         }
     }

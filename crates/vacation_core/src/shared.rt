@@ -1,43 +1,19 @@
 //! Customers that maps, calls and replies share.
 ghost use Rattle.std.specs.Prelude.{◌≡◌, IfOk};
-ghost use Rattle.std.specs.List.{list_all};
 ghost use Rattle.std.specs.Arc.{arc_value};
 ghost use Rattle.vac_model.specs.declared.item.Customer.{Customer as ACustomer};
-ghost use Rattle.vacation_core.specs.Within.{is_booking_within, is_customer_within};
+ghost use Rattle.vacation_core.specs.Within.{is_customer_within};
 
+use crate::split::SplitCustomer;
 use seq_model::{Memory, Value};
 use std::alloc::Global;
 use std::marker::Model;
 use std::sync::Arc;
-use vac_model::{AMOUNT_LIMIT, Booking, Customer, are_units};
-
-fn is_booking_within(booking: &Booking) -> bool
-    ensures { result ≡ is_booking_within booking.now }
-{
-    are_units(booking.units) && booking.price <= AMOUNT_LIMIT
-}
-
-fn are_bookings_within(bookings: &[Booking]) -> bool
-    ensures { result ≡ list_all is_booking_within bookings.now }
-{
-    for booking in bookings {
-        if !is_booking_within(booking) {
-            return false;
-        }
-    }
-    true
-}
-
-fn is_customer_within(who: &Customer) -> bool
-    ensures { result ≡ is_customer_within who.now }
-{
-    who.has_few_places() && are_bookings_within(who.bookings.as_slice())
-}
 
 /// A customer that is changed no more. A copy is one owner more of the same list of bookings, and takes no memory.
 #[derive(Drop)]
 pub struct SharedCustomer {
-    customer: Arc<Customer>,
+    customer: Arc<SplitCustomer>,
     is_within: bool,
 }
 
@@ -50,10 +26,10 @@ impl Model for SharedCustomer {
 }
 
 impl SharedCustomer {
-    pub fn new(alloc: Global, customer: Customer) -> Result<SharedCustomer, Memory>
+    pub fn new(alloc: Global, customer: SplitCustomer) -> Result<SharedCustomer, Memory>
         ensures { IfOk result (λ shared. shared ≡ customer) }
     {
-        let is_within = is_customer_within(&customer);
+        let is_within = customer.is_within();
         let customer = Arc::new(alloc, customer)?;
         Ok(SharedCustomer {
             customer,
@@ -61,7 +37,7 @@ impl SharedCustomer {
         })
     }
 
-    pub fn get(&self) -> &Customer
+    pub fn get(&self) -> &SplitCustomer
         ensures { result.now ≡ self.now }
     {
         &self.customer
@@ -85,6 +61,6 @@ impl Value for SharedCustomer {
     }
 
     fn same(&self, other: &SharedCustomer) -> bool {
-        self.customer.same(&other.customer)
+        self.customer.is_same(&other.customer)
     }
 }

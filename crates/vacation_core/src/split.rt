@@ -1,5 +1,5 @@
 //! Customers whose earlier bookings stand in a list that copies share.
-ghost use Rattle.std.specs.Prelude.{◌≡◌, ◌++◌, ◌∷◌, [], ◌||◌, ◌≤◌, ◌↔◌, IsTrue, IfOk, OnOk, length, nat_le, true};
+ghost use Rattle.std.specs.Prelude.{◌≡◌, ◌+◌, ◌++◌, ◌∷◌, ◌≤◌, ◌↔◌, [], IsTrue, IfOk, OnOk, length, nat_le, true};
 ghost use Rattle.std.specs.List.{list_all, list_any};
 ghost use Rattle.std.specs.Arc.{arc_value};
 ghost use Rattle.vac_model.specs.Actions as actions;
@@ -60,8 +60,10 @@ struct Earlier {
 }
 
 impl Model for Earlier {
-    ghost use Rattle.std.specs.Prelude.{List};
+    ghost use Rattle.std.specs.Prelude.{◌≡◌, List};
+    ghost use Rattle.std.specs.List.{list_all};
     ghost use Rattle.vac_model.specs.declared.item.Booking.{Booking as ABooking};
+    ghost use Rattle.vacation_core.specs.Within.{is_booking_within};
 
     ghost Value = { List ABooking };
 
@@ -104,6 +106,10 @@ pub struct SplitCustomer {
 }
 
 impl Model for SplitCustomer {
+    ghost use Rattle.std.specs.Prelude.{◌++◌};
+    ghost use Rattle.std.specs.Arc.{arc_value};
+    ghost use Rattle.vac_model.specs.declared.item.Customer.{Customer as ACustomer};
+
     ghost Value = { ACustomer };
 
     ghost view = { λ who. record { bookings = arc_value who.earlier ++ who.later; waits = who.waits } };
@@ -124,7 +130,7 @@ impl SplitCustomer {
     }
 
     /// The same customer, all of whose bookings are shared from now on.
-    pub(crate) fn of(alloc: Global, customer: Customer) -> Result<SplitCustomer, Memory>
+    pub fn of(alloc: Global, customer: Customer) -> Result<SplitCustomer, Memory>
         ensures { IfOk result (λ who. who ≡ customer) }
     {
         let Customer { bookings, waits } = customer;
@@ -137,11 +143,12 @@ impl SplitCustomer {
     }
 
     /// The same customer, with all bookings in one list.
-    pub(crate) fn whole(&self, alloc: Global) -> Result<Customer, Memory>
+    pub fn whole(&self, alloc: Global) -> Result<Customer, Memory>
         ensures { IfOk result (λ whole. whole ≡ self.now) }
     {
+        let (earlier, later) = self.bookings();
         Ok(Customer {
-            bookings: joined(alloc, self.earlier(), self.later(), 0)?,
+            bookings: joined(alloc, earlier, later, 0)?,
             waits: self.waits.try_copy()?,
         })
     }
@@ -154,11 +161,11 @@ impl SplitCustomer {
         if self.later.len() < LATER {
             return Ok(SplitCustomer {
                 earlier: Arc::try_clone(&self.earlier)?,
-                later: joined(alloc, self.later(), &[], more)?,
+                later: joined(alloc, self.later.as_slice(), &[], more)?,
                 waits,
             });
         }
-        let all = joined(alloc, self.earlier(), self.later(), 0)?;
+        let all = joined(alloc, self.earlier.as_slice(), self.later.as_slice(), 0)?;
         Ok(SplitCustomer {
             earlier: Arc::new(alloc, Earlier::new(all))?,
             later: Items::from_vec(Vec::with_capacity(alloc, more)?),
@@ -173,16 +180,6 @@ impl SplitCustomer {
         (self.earlier.as_slice(), self.later.as_slice())
     }
 
-    fn earlier(&self) -> &[Booking]
-    {
-        self.earlier.as_slice()
-    }
-
-    fn later(&self) -> &[Booking]
-    {
-        self.later.as_slice()
-    }
-
     pub fn waits(&self) -> &[Wait]
         ensures { result.now ≡ self.now.waits }
     {
@@ -190,16 +187,16 @@ impl SplitCustomer {
     }
 
     /// Whether the customer holds or awaits the item.
-    pub(crate) fn has(&self, kind: Kind, id: u64) -> bool
+    pub fn has(&self, kind: Kind, id: u64) -> bool
         ensures { result ≡ actions.has self.now kind id }
     {
-        holds(self.earlier(), kind, id)
-            || holds(self.later(), kind, id)
-            || awaits(self.waits(), kind, id)
+        let (earlier, later) = self.bookings();
+        holds(earlier, kind, id) || holds(later, kind, id) || awaits(self.waits(), kind, id)
     }
 
     /// Whether as many bookings and waits are still to be had.
     pub(crate) fn has_places(&self, count: u64) -> bool
+        ensures { result ≡ nat_le (actions.places self.now + count) PLACE_LIMIT }
     {
         let earlier = self.earlier.as_slice().len() as u64;
         let later = self.later.len() as u64;
@@ -214,14 +211,17 @@ impl SplitCustomer {
     pub(crate) fn is_within(&self) -> bool
         ensures { result ≡ is_customer_within self.now }
     {
-        self.has_places(0) && self.earlier.are_within() && are_bookings_within(self.later())
+        self.has_places(0)
+            && self.earlier.are_within()
+            && are_bookings_within(self.later.as_slice())
     }
 
     /// Whether there is a booking of this kind.
     pub(crate) fn has_kind(&self, kind: Kind) -> bool
         ensures { result ≡ list_any (λ booking. same_kind booking.kind kind) self.now.bookings }
     {
-        has_kind(self.earlier(), kind) || has_kind(self.later(), kind)
+        let (earlier, later) = self.bookings();
+        has_kind(earlier, kind) || has_kind(later, kind)
     }
 
     /// What the bookings cost.
@@ -229,15 +229,18 @@ impl SplitCustomer {
         requires { is_customer_within self.now ≡ true }
         ensures { result ≡ actions.bill self.now.bookings }
     {
-        bill(self.earlier()) + bill(self.later())
+        let (earlier, later) = self.bookings();
+        bill(earlier) + bill(later)
     }
 
     pub(crate) fn book(&mut self, booking: Booking) -> Result<(), Memory>
+        ensures { OnOk result (self.new ≡ record self.old { bookings = self.old.bookings ++ booking ∷ [] }) }
     {
         self.later.push(booking)
     }
 
     pub(crate) fn wait(&mut self, wait: Wait) -> Result<(), Memory>
+        ensures { OnOk result (self.new ≡ record self.old { waits = self.old.waits ++ wait ∷ [] }) }
     {
         self.waits.push(wait)
     }
@@ -251,34 +254,29 @@ impl SplitCustomer {
     }
 }
 
-/// An item of two lists that stand one behind the other.
-fn at_joined<'a>(first: &'a [Booking], then: &'a [Booking], at: usize) -> &'a Booking
+/// Whether a list is two lists, one behind the other.
+fn is_joined(all: &[Booking], first: &[Booking], then: &[Booking]) -> bool
+    ensures { IsTrue result ↔ (all.now ≡ first.now ++ then.now) }
 {
-    if at < first.len() {
-        return &first[at];
+    if all.len() < first.len() {
+        return false;
     }
-    &then[at - first.len()]
+    let (begins, ends) = all.split_at(first.len());
+    are_same(begins, first) && are_same(ends, then)
 }
 
-fn are_same_joined(
+/// Whether two lists that stand one behind the other are two others that do.
+fn are_joined_same(
     first: &[Booking],
     then: &[Booking],
     other_first: &[Booking],
     other_then: &[Booking],
 ) -> bool
+    requires { length first.now ≤ length other_first.now }
     ensures { IsTrue result ↔ (first.now ++ then.now ≡ other_first.now ++ other_then.now) }
 {
-    let count = first.len().saturating_add(then.len());
-    if count != other_first.len().saturating_add(other_then.len()) {
-        return false;
-    }
-    for at in 0..count {
-        let mine = at_joined(first, then, at);
-        if *mine != *at_joined(other_first, other_then, at) {
-            return false;
-        }
-    }
-    true
+    let (begins, ends) = other_first.split_at(first.len());
+    are_same(first, begins) && is_joined(then, ends, other_then)
 }
 
 impl SplitCustomer {
@@ -286,7 +284,18 @@ impl SplitCustomer {
     pub(crate) fn is_same(&self, other: &SplitCustomer) -> bool
         ensures { IsTrue result ↔ (self.now ≡ other.now) }
     {
-        are_same_joined(self.earlier(), self.later(), other.earlier(), other.later())
-            && are_same(self.waits(), other.waits())
+        are_same(self.waits(), other.waits()) && self.has_same_bookings(other)
+    }
+
+    fn has_same_bookings(&self, other: &SplitCustomer) -> bool
+        ensures { IsTrue result ↔ (self.now.bookings ≡ other.now.bookings) }
+    {
+        let (first, then) = self.bookings();
+        let (other_first, other_then) = other.bookings();
+        if first.len() <= other_first.len() {
+            are_joined_same(first, then, other_first, other_then)
+        } else {
+            are_joined_same(other_first, other_then, first, then)
+        }
     }
 }

@@ -14,6 +14,7 @@ ghost use Rattle.vacation_core.specs.Holding as holding;
 
 use crate::entry::Entry;
 use crate::shared::SharedCustomer;
+use crate::split::SplitCustomer;
 use seq_model::{Entries, Held, Memory, Refusal, State, Value};
 use std::alloc::Global;
 use vac_model::{Customer, Each, Item, Kind, Queue, Tables, Ticket};
@@ -35,7 +36,8 @@ fn customers_held(alloc: Global, tables: &Tables) -> Result<Entries<Entry>, Memo
 {
     let mut held = Entries::new(alloc);
     for (number, customer) in tables.customers() {
-        let shared = SharedCustomer::new(alloc, customer.try_copy()?)?;
+        let split = SplitCustomer::of(alloc, customer.try_copy()?)?;
+        let shared = SharedCustomer::new(alloc, split)?;
         held.insert(*number, Entry::Customer(shared))?;
     }
     Ok(held)
@@ -179,7 +181,7 @@ fn customers_of(alloc: Global, held: &Held<Entry>) -> Result<Entries<Customer>, 
     };
     for (number, entry) in entries.iter() {
         if let Entry::Customer(customer) = entry {
-            customers.insert(*number, customer.get().try_copy()?)?;
+            customers.insert(*number, customer.get().whole(alloc)?)?;
         }
     }
     Ok(customers)

@@ -1,5 +1,5 @@
 //! The walk along a session's program by the replies so far: each call of the program takes its reply off, or is what is asked next.
-ghost use Rattle.std.specs.Prelude.{◌≡◌, ◌≤◌, ◌∷◌, ℕ, List, [], Option, true, false, length, drop};
+ghost use Rattle.std.specs.Prelude.{◌≡◌, ◌≤◌, ◌*◌, ◌∷◌, ℕ, List, [], Option, true, false, length, drop};
 ghost use Rattle.std.specs.Prelude.{IsTrue, IfOk, IfNone, IfSome, MatchOption};
 ghost use Rattle.std.specs.List.{list_all};
 ghost use Rattle.std.specs.Option.{option_copied};
@@ -21,10 +21,11 @@ ghost use Rattle.vacation_core.specs.Walks.{Comes, IsStop};
 
 use crate::entry::Entry;
 use crate::shared::SharedCustomer;
+use crate::split::SplitCustomer;
 use seq_model::{Call, Memory, Op, Reply};
 use std::alloc::{AllocError, Global};
 use std::marker::Model;
-use vac_model::{Ask, Customer, Item, Kind, TICKET_LIMIT, Ticket, is_item_sound};
+use vac_model::{Ask, Item, Kind, TICKET_LIMIT, Ticket, is_item_sound};
 
 /// Why a walk does not come to the end of its program.
 #[derive(Drop)]
@@ -149,7 +150,7 @@ pub(crate) fn tell_items(replies: &[Reply<Entry>]) -> bool
     true
 }
 
-fn customer_in(reply: &Reply<Entry>) -> Result<Option<&Customer>, Stop>
+fn customer_in(reply: &Reply<Entry>) -> Result<Option<&SplitCustomer>, Stop>
     ensures comes { (next : Option ACustomer → SessionProgram) (left : List (AReply AnEntry))
         → Comes (after (programs.customer_in reply.now next) left) result (λ who. after (next (option_copied who)) left) }
     ensures within { IfOk result (λ who. (w : ACustomer) → option_copied who ≡ Some w → programs.is_customer_within w ≡ true) }
@@ -204,6 +205,18 @@ fn next_in(reply: &Reply<Entry>) -> Result<u64, Stop>
         }
         _ => Err(Stop::GivesUp),
     }
+}
+
+/// How many pairs there are among the replies, up to this many, and what is left behind these.
+fn behind_pairs(replies: &[Reply<Entry>], most: usize) -> (usize, &[Reply<Entry>])
+    ensures few { result.0 ≤ most }
+    ensures count { 2 * result.0 ≤ length replies.now }
+    ensures left { result.1.now ≡ drop (2 * result.0) replies.now }
+{
+    let half = replies.len() / 2;
+    let pairs = if half < most { half } else { most };
+    let (_, left) = replies.split_at(2 * pairs);
+    (pairs, left)
 }
 
 /// The call that gets an item.
@@ -277,6 +290,22 @@ impl<'a> Walk<'a> {
         None
     }
 
+    /// Takes off the replies that stand two by two, so many pairs at most, where they stand alone: how many pairs, and all replies.
+    pub(crate) fn take_pairs(&mut self, most: usize) -> Option<(usize, &'a [Reply<Entry>])>
+        ensures none { IfNone result (self.new ≡ self.old) }
+        ensures told { IfSome result (λ told. told.1.now ≡ self.old) }
+        ensures few { IfSome result (λ told. told.0 ≤ most) }
+        ensures count { IfSome result (λ told. 2 * told.0 ≤ length told.1.now) }
+        ensures taken { IfSome result (λ told. self.new ≡ drop (2 * told.0) told.1.now) }
+    {
+        let Left::Replies(replies) = self.left else {
+            return None;
+        };
+        let (pairs, left) = behind_pairs(replies, most);
+        self.left = Left::Replies(left);
+        Some((pairs, replies))
+    }
+
     /// Takes the next reply off, where there is one.
     pub(crate) fn next(&mut self) -> Option<&'a Reply<Entry>>
         ensures { MatchOption result ((self.old ≡ []) × (self.new ≡ [])) (λ reply. self.old ≡ reply.now ∷ self.new) }
@@ -337,7 +366,7 @@ impl<'a> Walk<'a> {
 
     // ---- customers
 
-    pub(crate) fn get_customer(&mut self, customer: u64) -> Result<Option<&'a Customer>, Stop>
+    pub(crate) fn get_customer(&mut self, customer: u64) -> Result<Option<&'a SplitCustomer>, Stop>
         ensures comes { (next : Option ACustomer → SessionProgram)
             → Comes (after (programs.get_customer customer next) self.old) result (λ who. after (next (option_copied who)) self.new) }
         ensures within { IfOk result (λ who. (w : ACustomer) → option_copied who ≡ Some w → programs.is_customer_within w ≡ true) }

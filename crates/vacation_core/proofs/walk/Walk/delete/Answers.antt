@@ -1,9 +1,8 @@
-use Rattle.std.proofs.Common.{◌∙◌, ap, sym}
+use Rattle.std.proofs.Common.{◌∙◌, ap}
 use Rattle.std.specs.Option.{option_copied}
 use Rattle.std.proofs.lemmas.Result.{err_from_is_err_and}
 use Rattle.tx_engine.specs.Programs.{after}
 use Rattle.vacation_core.specs.Sessions as programs
-use Rattle.vacation_core.specs.Serving.{deletes}
 use Rattle.vacation_core.proofs.WalkLemmas.{along}
 use Rattle.vacation_core.proofs.walk.Walk.delete.Goals as goal
 
@@ -14,8 +13,7 @@ returns-in_err-who c = let p = err_from_is_err_and c.from_residual.result c.from
 pub returns-in-Some : goal.returns-in-Some
 returns-in-Some c =
     along _ _ _ _ (c.in_ok-who.ensures.comes (programs.delete_found c.args.customer)
-    ∙ ap (λ o. after (programs.delete_found c.args.customer (option_copied o)) c.get_customer.new.self) c.in-Some.is
-    ∙ (λ j. after (deletes c.args.customer (sym c.as_slice.ensures j) (sym c.as_slice-in-Some.ensures j)) c.get_customer.new.self))
+    ∙ ap (λ o. after (programs.delete_found c.args.customer (option_copied o)) c.get_customer.new.self) c.in-Some.is)
     c.delete_found.ensures
 
 pub returns-in-None : goal.returns-in-None

@@ -6,5 +6,5 @@ use Rattle.vacation_core.proofs.walk.Walk.serve_freed.Goals as goal
 pub returns-then-has_kind-clause-comes : goal.returns-then-has_kind-clause-comes
 returns-then-has_kind-clause-comes c =
     λ next. along _ _ _ _
-    (ap (λ p. after p c.args.self.now) (freed_served c.args.bookings.now c.args.kind next (sym c.has_kind.ensures ∙ (search rules))))
+    (ap (λ p. after p c.args.self.now) (freed_served c.args.who.now.bookings c.args.kind next (sym c.has_kind.ensures ∙ (search rules))))
     (c.serve.ensures.comes next)
