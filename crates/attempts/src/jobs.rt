@@ -1,11 +1,11 @@
 //! One attempt of a job.
-ghost use Rattle.std.specs.Prelude.{◌≡◌, ◌+◌, ◌<◌, IfErr, IfNone, IfOk, IfSome, [], length};
+ghost use Rattle.std.specs.Prelude.{◌≡◌, ◌+◌, ◌<◌, IfErr, IfNone, IfOk, IfSome, [], false, length};
 ghost use Rattle.seq_model.specs.declared.limits.TheConstants.{CALL_LIMIT as AsCallLimit};
 ghost use Rattle.tx_table.specs.Seated.{opening_of};
 ghost use Rattle.tx_phases.specs.Phases.{Rests, Stands};
 ghost use Rattle.driven_turns.specs.Begins.{begins_of};
 ghost use Rattle.transactions.specs.Ready.{HasBegunSince, IsReady, standing};
-ghost use Rattle.transactions.specs.Requests.{KeepsReceipts};
+ghost use Rattle.transactions.specs.Requests.{HasAborted, IsBegun, IsNotBegun, IsOpen, KeepsReceipts};
 ghost use Rattle.attempts.specs.Attempts.{AttemptsTo, IsSoFar, IsUnmade, Reaches};
 
 use crate::pause::Pause;
@@ -28,6 +28,20 @@ pub enum Attempt<V> {
 enum End {
     Done,
     GivenUp,
+}
+
+/// The transaction of an attempt begins, which may write; an open one is aborted first.
+fn begin<V: Value>(table: &TxTable<V>, seat: &mut TxSeat<V>) -> Result<u64, Refusal>
+    requires ready { IsReady table.now seat.old }
+    ensures ready { IsReady table.now seat.new }
+    ensures since { HasBegunSince table.now seat.new }
+    ensures keeps { KeepsReceipts seat.old.seat seat.new.seat }
+    ensures begun { IfOk result (IsBegun false (opening_of table.now) seat.old.seat seat.new.seat) }
+    ensures refused { IfErr result (IsNotBegun (opening_of table.now) seat.old.seat seat.new.seat) }
+    ensures aborted { IsOpen (opening_of table.now) seat.old.seat → HasAborted (opening_of table.now) seat.old.seat seat.new.seat }
+    ensures begins { begins_of seat.new.seat ≡ begins_of seat.old.seat + 1 }
+{
+    seat.begin(table)
 }
 
 /// The job's next call is made, and its reply joins those before it; or the job is done, or gives up.
@@ -104,7 +118,7 @@ fn attempt_in<V: Value, J: Job<V>, P: Pause>(
     ensures rests { standing (opening_of table.now) seat.new.seat ≡ Rests }
     ensures attempts { AttemptsTo (J.asks job.now) (opening_of table.now) seat.old.seat seat.new.seat result }
 {
-    seat.begin(table)?;
+    begin(table, seat)?;
     match ask_all(table, seat, job, replies) {
         Ok(End::Done) => {
             pause.before_commit(worker);

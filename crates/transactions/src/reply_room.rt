@@ -1,4 +1,6 @@
 //! Where a seat keeps the list of replies to a job between two attempts.
+ghost use Rattle.std.specs.Prelude.{◌≡◌, []};
+
 use seq_model::Reply;
 use std::alloc::Global;
 use std::marker::Model;
@@ -26,9 +28,13 @@ impl<V: Drop> ReplyRoom<V> {
         }
     }
 
-    /// The list, with the room that it had when it was kept. None is there until then.
-    pub(crate) fn take(&mut self, alloc: Global) -> Vec<Reply<V>> {
-        mem::replace(&mut self.replies, Vec::new(alloc))
+    /// The list, with the room that it had when it was kept, and nothing in it. None is there until then.
+    pub(crate) fn take(&mut self, alloc: Global) -> Vec<Reply<V>>
+        ensures { result.items ≡ [] }
+    {
+        let mut replies = mem::replace(&mut self.replies, Vec::new(alloc));
+        replies.clear();
+        replies
     }
 
     /// Keeps a list. What is in it goes.

@@ -1,5 +1,5 @@
 //! A seat of a table, with the actor that runs there.
-ghost use Rattle.std.specs.Prelude.{◌≡◌, ◌≢◌, ◌+◌, ◌<◌, ◌≤◌, IfErr, IfOk, MatchBool, OnErr, OnOk, false, max, true};
+ghost use Rattle.std.specs.Prelude.{◌≡◌, ◌≢◌, ◌+◌, ◌<◌, ◌≤◌, [], IfErr, IfOk, MatchBool, OnErr, OnOk, false, max, true};
 ghost use Rattle.seq_model.specs.declared.call.Op.TheVariants as op;
 ghost use Rattle.seq_model.specs.declared.refusal.Refusal.TheVariants.{Ahead};
 ghost use Rattle.tx_table.specs.Seated.{opening_of, view};
@@ -47,8 +47,9 @@ impl<V: Value> TxSeat<V> {
         }
     }
 
-    /// A list for the replies to a job, which has the room that the one before had, once that was handed back (`keep_replies`).
+    /// An empty list for the replies to a job, which has the room that the one before had, once that was handed back (`keep_replies`).
     pub fn take_replies(&mut self) -> Vec<Reply<V>>
+        ensures empty { result.items ≡ [] }
         ensures same { (self.new.seat ≡ self.old.seat) × (self.new.actor ≡ self.old.actor) }
     {
         self.replies.take(self.alloc)
@@ -214,7 +215,8 @@ impl<V: Value> TxSeat<V> {
     }
 
     /// The seat knows of a commit with this number, which others told it of: its next transaction begins at that number, or above it.
-    /// `Ahead` where the clock is below the number, and nothing is learnt.
+    /// The clock is loaded first. `Ahead` where what the seat knows of it then is below the number, and the number is not learnt; that the
+    /// load was made, no contract says.
     pub fn learn(&mut self, table: &TxTable<V>, number: u64) -> Result<(), Refusal>
         requires ready { IsReady table.now self.old }
         ensures ready { IsReady table.now self.new }

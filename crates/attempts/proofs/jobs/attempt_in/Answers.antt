@@ -16,17 +16,17 @@ pub returns-in_err-receipt-in-Ok-Done-clause-attempts : goal.returns-in_err-rece
 returns-in_err-receipt-in-Ok-Done-clause-attempts g c =
     let asks = g.J.Job.asks c.args.job.now in
     let o = opening_of c.args.table.now in
-    let done = at_end asks o c.begin.new.self.seat c.ask_all.new.seat.seat _ _ c.in-Ok-Done.field-0-is c.in-Ok-Done.ensures.reaches in
+    let done = at_end asks o c.begin.new.seat.seat c.ask_all.new.seat.seat _ _ c.in-Ok-Done.field-0-is c.in-Ok-Done.ensures.reaches in
     let left = c.from_residual-in_err-receipt-in-Ok-Done in
     let p = err_from_is_err_and left.result left.ensures.1 in
     rw (p.1, p.2) (
-      commit_refused asks o c.args.seat.now.seat c.begin.new.self.seat c.ask_all.new.seat.seat c.commit.new.self.seat _
+      commit_refused asks o c.args.seat.now.seat c.begin.new.seat.seat c.ask_all.new.seat.seat c.commit.new.self.seat _
           c.begin.ensures.keeps done c.in_err-receipt-in-Ok-Done.ensures.finished.commits
-          (has_begun o c.args.seat.now.seat c.begin.new.self.seat c.ask_all.new.seat.seat _ c.in_ok-begin.ensures.begun
+          (has_begun o c.args.seat.now.seat c.begin.new.seat.seat c.ask_all.new.seat.seat _ c.in_ok-begin.ensures.begun
           c.begin.ensures.begins c.ask_all.ensures.keeps c.ask_all.ensures.begins),
       c.commit.ensures.finished.begins ∙ (c.ask_all.ensures.begins ∙ c.begin.ensures.begins),
-      aborted_first asks o c.args.seat.now.seat c.begin.new.self.seat c.commit.new.self.seat
-          (then_keeps c.begin.new.self.seat c.ask_all.new.seat.seat c.commit.new.self.seat c.ask_all.ensures.keeps
+      aborted_first asks o c.args.seat.now.seat c.begin.new.seat.seat c.commit.new.self.seat
+          (then_keeps c.begin.new.seat.seat c.ask_all.new.seat.seat c.commit.new.self.seat c.ask_all.ensures.keeps
           c.in_err-receipt-in-Ok-Done.ensures.finished.commits.keeps) c.begin.ensures.aborted,
     )
 
@@ -36,17 +36,17 @@ returns-in_ok-receipt-in-Ok-Done-clause-attempts g c =
     let o = opening_of c.args.table.now in
     let e = c.in_ok-receipt-in-Ok-Done.ensures.finished in
     let made = e.commits in (
-      has_made asks o c.args.seat.now.seat c.begin.new.self.seat c.ask_all.new.seat.seat c.commit.new.self.seat
+      has_made asks o c.args.seat.now.seat c.begin.new.seat.seat c.ask_all.new.seat.seat c.commit.new.self.seat
           c.in_ok-receipt-in-Ok-Done.receipt c.begin.ensures.keeps
-          (at_end asks o c.begin.new.self.seat c.ask_all.new.seat.seat _ _ c.in-Ok-Done.field-0-is c.in-Ok-Done.ensures.reaches)
+          (at_end asks o c.begin.new.seat.seat c.ask_all.new.seat.seat _ _ c.in-Ok-Done.field-0-is c.in-Ok-Done.ensures.reaches)
           made
           (λ none. changes_nothing o c.ask_all.new.seat.seat c.in_ok-receipt-in-Ok-Done.receipt.calls c.ask_all.ensures.ready.ties.reached
           made.calls (sym made.writes ∙ none))
           e.above e.last
-          (has_begun o c.args.seat.now.seat c.begin.new.self.seat c.ask_all.new.seat.seat _ c.in_ok-begin.ensures.begun
+          (has_begun o c.args.seat.now.seat c.begin.new.seat.seat c.ask_all.new.seat.seat _ c.in_ok-begin.ensures.begun
           c.begin.ensures.begins c.ask_all.ensures.keeps c.ask_all.ensures.begins),
       c.commit.ensures.finished.begins ∙ (c.ask_all.ensures.begins ∙ c.begin.ensures.begins),
-      aborted_and_made asks o c.args.seat.now.seat c.begin.new.self.seat c.ask_all.new.seat.seat c.commit.new.self.seat
+      aborted_and_made asks o c.args.seat.now.seat c.begin.new.seat.seat c.ask_all.new.seat.seat c.commit.new.self.seat
           c.in_ok-receipt-in-Ok-Done.receipt c.ask_all.ensures.keeps made.committed c.begin.ensures.aborted,
     )
 
@@ -54,27 +54,27 @@ pub returns-in-Ok-GivenUp-clause-attempts : goal.returns-in-Ok-GivenUp-clause-at
 returns-in-Ok-GivenUp-clause-attempts g c =
     let asks = g.J.Job.asks c.args.job.now in
     let o = opening_of c.args.table.now in (
-      given_up asks o c.args.seat.now.seat c.begin.new.self.seat c.ask_all.new.seat.seat c.abort.new.self.seat c.begin.ensures.keeps
-          (at_end asks o c.begin.new.self.seat c.ask_all.new.seat.seat _ _ c.in-Ok-GivenUp.field-0-is c.in-Ok-GivenUp.ensures.reaches)
+      given_up asks o c.args.seat.now.seat c.begin.new.seat.seat c.ask_all.new.seat.seat c.abort.new.self.seat c.begin.ensures.keeps
+          (at_end asks o c.begin.new.seat.seat c.ask_all.new.seat.seat _ _ c.in-Ok-GivenUp.field-0-is c.in-Ok-GivenUp.ensures.reaches)
           c.abort.ensures.keeps c.abort.ensures.aborted
-          (has_begun o c.args.seat.now.seat c.begin.new.self.seat c.ask_all.new.seat.seat _ c.in_ok-begin.ensures.begun
+          (has_begun o c.args.seat.now.seat c.begin.new.seat.seat c.ask_all.new.seat.seat _ c.in_ok-begin.ensures.begun
           c.begin.ensures.begins c.ask_all.ensures.keeps c.ask_all.ensures.begins),
       c.abort.ensures.begins ∙ (c.ask_all.ensures.begins ∙ c.begin.ensures.begins),
-      aborted_first asks o c.args.seat.now.seat c.begin.new.self.seat c.abort.new.self.seat
-          (then_keeps c.begin.new.self.seat c.ask_all.new.seat.seat c.abort.new.self.seat c.ask_all.ensures.keeps c.abort.ensures.keeps)
+      aborted_first asks o c.args.seat.now.seat c.begin.new.seat.seat c.abort.new.self.seat
+          (then_keeps c.begin.new.seat.seat c.ask_all.new.seat.seat c.abort.new.self.seat c.ask_all.ensures.keeps c.abort.ensures.keeps)
           c.begin.ensures.aborted,
     )
 
 pub returns-in-Err-clause-attempts : goal.returns-in-Err-clause-attempts
 returns-in-Err-clause-attempts g c = (
-  broken_off (g.J.Job.asks c.args.job.now) (opening_of c.args.table.now) c.args.seat.now.seat c.begin.new.self.seat
+  broken_off (g.J.Job.asks c.args.job.now) (opening_of c.args.table.now) c.args.seat.now.seat c.begin.new.seat.seat
       c.ask_all.new.seat.seat c.abort-in-Err.new.self.seat c.in-Err.cause c.begin.ensures.keeps c.ask_all.ensures.keeps
       c.in-Err.ensures.refused c.abort-in-Err.ensures.keeps c.abort-in-Err.ensures.aborted
-      (has_begun (opening_of c.args.table.now) c.args.seat.now.seat c.begin.new.self.seat c.ask_all.new.seat.seat _
+      (has_begun (opening_of c.args.table.now) c.args.seat.now.seat c.begin.new.seat.seat c.ask_all.new.seat.seat _
       c.in_ok-begin.ensures.begun c.begin.ensures.begins c.ask_all.ensures.keeps c.ask_all.ensures.begins),
   c.abort-in-Err.ensures.begins ∙ (c.ask_all.ensures.begins ∙ c.begin.ensures.begins),
-  aborted_first (g.J.Job.asks c.args.job.now) (opening_of c.args.table.now) c.args.seat.now.seat c.begin.new.self.seat
+  aborted_first (g.J.Job.asks c.args.job.now) (opening_of c.args.table.now) c.args.seat.now.seat c.begin.new.seat.seat
       c.abort-in-Err.new.self.seat
-      (then_keeps c.begin.new.self.seat c.ask_all.new.seat.seat c.abort-in-Err.new.self.seat c.ask_all.ensures.keeps
+      (then_keeps c.begin.new.seat.seat c.ask_all.new.seat.seat c.abort-in-Err.new.self.seat c.ask_all.ensures.keeps
       c.abort-in-Err.ensures.keeps) c.begin.ensures.aborted,
 )
