@@ -6,9 +6,11 @@ use Rattle.std.proofs.Common.{◌≡◌, ℕ, List, [], ◌∷◌, ◌++◌, ref
 use Rattle.std.proofs.lemmas.List.Elements.{All-cons, All-head, All-nil, All-tail}
 use Rattle.std.proofs.lemmas.List.Recursion.{is_sum_by}
 use Rattle.std.specs.Prelude.{All, IfOk, Ok, Result, flat_map, map, sum_by}
+use mathlib.Core.Option.{some}
 use Rattle.seq_model.specs.declared.record.Record.{Record}
 use Rattle.seq_model.specs.Audit.{IsRunBetween}
 use Rattle.seq_model.specs.Contents.{Contents}
+use Rattle.seq_model.specs.Runs.{IsInCommitOrder, IsRun, after_run}
 use Rattle.vac_model.specs.declared.action.Action.{Action}
 use Rattle.vac_model.specs.Balanced.{IsBalanced}
 use Rattle.vac_model.specs.Holdings.{Holdings}
@@ -17,20 +19,70 @@ use Rattle.vacation_core.specs.Holding.{HoldsTables, state_of}
 use Rattle.vacation_core.specs.Runs.{after_deals}
 use Rattle.seq_model.specs.declared.held.Held.{Held}
 use Rattle.seq_model.specs.declared.refusal.Memory.{Memory}
+use Rattle.tx_table.specs.declared.closed.Closed.{Closed}
 use Rattle.tx_table.specs.declared.table.TxTable.{TxTable}
-use Rattle.tx_table.specs.Seated.{contents_in, view}
-use Rattle.tx_table.specs.Shown.{total}
+use Rattle.tx_table.specs.Ends.{homes_of, row_of}
+use Rattle.tx_table.specs.Seated.{actor, contents_in, opening_of, view}
+use Rattle.tx_table.specs.Shown.{ShowsWorld, total}
 use Rattle.tx_table.specs.declared.view.View.{View}
+use Rattle.transactions.specs.Closing.{IsLeftBy, state_of as held_by}
+use Rattle.transactions.specs.Ready.{IsReady}
 use Rattle.transactions.specs.declared.seats.TxSeat.{TxSeat}
 use Rattle.served_sessions.specs.Served.{HaveSame, IsWhole, Receipt, records_in}
 use Rattle.served_sessions.proofs.ServedLemmas.{receipts_are_actions}
 use Rattle.workers.specs.declared.report.Report.{Report}
 use Rattle.workers.specs.Reports.{HasRun, IsReportOf}
 use Rattle.workers.specs.Tasks.{Outcome, records_of}
-use Rattle.serving.specs.Serving.{AreAllowed, AreKept, AreReportedAs, AreRun, OpensOnTables, IsWhatRemains, WereTried, all_dealt, asks_of}
+use Rattle.serving.specs.Serving.{AreAllowed, AreReportedAs, AreRun, ClosesWith, IsClosedWith, OpensOnTables, RanAndClosed, WereRun}
+use Rattle.serving.specs.Serving.{all_dealt, asks_of}
 use Rattle.serving.proofs.AuditLemmas.{audited_in_order}
 use Rattle.serving.proofs.ReportLemmas.{IsOwn, all_receipts, all_whole, outcomes_in, read_as_told}
 
+-- ---- what a close leaves
+-- these receipts, in commit order, are a run that leaves this
+record IsWhatRemains (opening : Contents Entry) (receipts : List (ℕ × Record Entry)) (s : Contents Entry) : Type 0 where
+  order : List (ℕ × Record Entry)
+  same : HaveSame receipts order
+  in_order : IsInCommitOrder order
+  run : IsRun order opening
+  left : s ≡ after_run order opening
+
+-- a state by its parts
+same_state : (s : Contents Entry) (words : List ℕ) (held : List (Held Entry)) → s.words ≡ words → s.held ≡ held
+    → s ≡ record { words = words; held = held }
+same_state s words held same_words same_held =
+    subst (λ (hs : List (Held Entry)). s ≡ record { words = words; held = hs }) same_held
+    (subst (λ (ws : List ℕ). s ≡ record { words = ws; held = s.held }) same_words refl)
+
+pub closes_with : (t : TxTable Entry) (seat : TxSeat Entry) (s : Contents Entry) (closed : Closed Entry)
+    → IsLeftBy (contents_in t) (view seat.seat).receipts closed
+    → ShowsWorld (opening_of t) (actor seat.seat) (view seat.seat) (row_of closed) (map some (homes_of closed))
+    → s.words ≡ (held_by closed).words → s.held ≡ (held_by closed).held → IsClosedWith t seat s
+unfolding IsClosedWith
+closes_with t seat s closed left shows same_words same_held =
+    let state : s ≡ held_by closed = same_state s (held_by closed).words (held_by closed).held same_words same_held in
+    let closes : ClosesWith t seat s = record { closed = closed; left = left; shows = shows; state = state } in
+    closes
+
+-- what is added up over receipts
+total_is_sum : (h : ℕ × Record Entry → ℕ) (receipts : List (ℕ × Record Entry)) → total h receipts ≡ sum_by h receipts
+total_is_sum h receipts = is_sum_by (λ xs. total h xs) h refl (λ x xs. refl) receipts
+
+same_total : (receipts order : List (ℕ × Record Entry)) → ((h : ℕ × Record Entry → ℕ) → total h receipts ≡ total h order)
+    → HaveSame receipts order
+same_total receipts order same h = sym (total_is_sum h receipts) ∙ same h ∙ total_is_sum h order
+
+remains : (t : TxTable Entry) (seat : TxSeat Entry) (s : Contents Entry) → ClosesWith t seat s
+    → IsWhatRemains (contents_in t) (view seat.seat).receipts s
+remains t seat s closes = record {
+  order = closes.left.order;
+  same = same_total (view seat.seat).receipts closes.left.order closes.left.same;
+  in_order = closes.left.in_order;
+  run = closes.left.serial;
+  left = closes.state ∙ sym closes.left.state;
+}
+
+-- ---- the receipts as a run
 -- receipts of a seat, each with the action of the reported receipt that it is
 record ArePaired (receipts : List (ℕ × Record Entry)) (reported : List (Action × Record Entry)) : Type 0 where
   own : List Receipt
@@ -71,7 +123,7 @@ own_each (x ∷ xs) all =
     All-cons IsOwnReceipt x xs (All-head IsOwn (x.0, x.1.1) rest all) (own_each xs (All-tail IsOwn (x.0, x.1.1) rest all))
 
 -- what the seat leaves is a run of the actions that are reported with a receipt
-pub run_of : (tables : Holdings) (lists : List (List Action)) (report : Report Entry) (receipts : List (ℕ × Record Entry))
+run_of : (tables : Holdings) (lists : List (List Action)) (report : Report Entry) (receipts : List (ℕ × Record Entry))
     (s : Contents Entry) (t : TxTable Entry) (tries : ℕ) (m u : TxSeat Entry) (reported : IsReportOf asks_of t tries m u lists report)
     → IsBalanced tables → AreAllowed lists → map (λ e. e.1) receipts ≡ flat_map (λ (rs : List (Record Entry)). rs) report.receipts
     → IsWhatRemains (state_of tables) receipts s
@@ -112,14 +164,14 @@ audited_so tables lists report outcomes t tries m u s told reported run =
 -- and so are the receipts of a table that opened on the tables
 pub served_so : (tables : Holdings) (stripes : ℕ) (lists jobs : List (List Action)) (t : TxTable Entry) (tries : ℕ) (s u : TxSeat Entry)
     (r : Result (Report Entry) Memory) (report : Report Entry) (state : Contents Entry)
-    → IsBalanced tables → AreAllowed lists → jobs ≡ lists → OpensOnTables tables stripes t s
-    → IfOk r (IsReportOf asks_of t tries s u jobs) → IfOk r (HasRun s u) → r ≡ Ok report
-    → IsWhatRemains (contents_in t) (view u.seat).receipts state
+    → IsBalanced tables → AreAllowed lists → jobs ≡ lists → OpensOnTables tables stripes t s → IsReady t u
+    → IfOk r (IsReportOf asks_of t tries s u jobs) → IfOk r (HasRun s u) → r ≡ Ok report → IsClosedWith t u state
     → (outcomes : List (List (Outcome Entry))) × AreReportedAs lists report outcomes × AreRun tables (all_dealt lists outcomes) state
-    × WereTried t tries lists report
+    × WereRun t tries lists report state
     × IsRunBetween (state_of tables) (flat_map (λ (rs : List (Record Entry)). rs) report.receipts) state
-unfolding WereTried
-served_so tables stripes lists jobs t tries s u r report state balanced allowed same opened reports runs is left =
+unfolding IsClosedWith WereRun
+served_so tables stripes lists jobs t tries s u r report state balanced allowed same opened ready reports runs is closed =
+    let closes : ClosesWith t u state = closed in
     let reported : IsReportOf asks_of t tries s u lists report =
     subst (λ (js : List (List Action)). IsReportOf asks_of t tries s u js report) same
     (subst (λ (q : Result (Report Entry) Memory). IfOk q (IsReportOf asks_of t tries s u jobs)) is reports) in
@@ -129,24 +181,18 @@ served_so tables stripes lists jobs t tries s u r report state balanced allowed 
     (subst
     (λ (v : View Entry). records_of u ≡ map (λ e. e.1) v.receipts ++ flat_map (λ (rs : List (Record Entry)). rs) report.receipts)
     opened.seat_is run.records)
-    (subst (λ (c : Contents Entry). IsWhatRemains c (view u.seat).receipts state) opened.contents left) in
-    let kept : AreKept t tries lists report = record { seat = s; seat_is = opened.seat_is; last = u; tried = reported } in
-    (o.0, o.1, ran, kept, audited_so tables lists report o.0 t tries s u state o.1 reported ran)
-
--- a state by its parts
-pub same_state : (s : Contents Entry) (words : List ℕ) (held : List (Held Entry)) → s.words ≡ words → s.held ≡ held
-    → s ≡ record { words = words; held = held }
-same_state s words held same_words same_held =
-    subst (λ (hs : List (Held Entry)). s ≡ record { words = words; held = hs }) same_held
-    (subst (λ (ws : List ℕ). s ≡ record { words = ws; held = s.held }) same_words refl)
-
--- what is added up over receipts
-total_is_sum : (h : ℕ × Record Entry → ℕ) (receipts : List (ℕ × Record Entry)) → total h receipts ≡ sum_by h receipts
-total_is_sum h receipts = is_sum_by (λ xs. total h xs) h refl (λ x xs. refl) receipts
-
-pub same_total : (receipts order : List (ℕ × Record Entry)) → ((h : ℕ × Record Entry → ℕ) → total h receipts ≡ total h order)
-    → HaveSame receipts order
-same_total receipts order same h = sym (total_is_sum h receipts) ∙ same h ∙ total_is_sum h order
+    (subst (λ (c : Contents Entry). IsWhatRemains c (view u.seat).receipts state) opened.contents (remains t u state closes)) in
+    let were : RanAndClosed t tries lists report state =
+    record {
+      seat = s;
+      opens = (opened.ready, opened.seat_is);
+      last = u;
+      ready = ready;
+      gains = run;
+      tried = reported;
+      closes = closes;
+    } in
+    (o.0, o.1, ran, were, audited_so tables lists report o.0 t tries s u state o.1 reported ran)
 
 -- so it is the state of balanced tables
 pub holds_some : (tables : Holdings) (receipts : List (Action × Record Entry)) (s : Contents Entry) → AreRun tables receipts s

@@ -1,11 +1,12 @@
 -- Sessions that workers run on a shared table: each receipt is one of its action's session, and in commit order the receipts are the
 -- actions, one after another.
 use Rattle.std.specs.Prelude.{◌≡◌, ℕ, ◌+◌, List, [], ◌∷◌, ◌++◌, All, IfOk, Ok, Err, flat_map, map}
+use mathlib.Core.Option.{some}
 use Rattle.seq_model.specs.declared.call.Reply.{Reply}
 use Rattle.seq_model.specs.declared.record.Record.{Record}
 use Rattle.seq_model.specs.Audit.{IsRunBetween}
 use Rattle.seq_model.specs.Contents.{Contents}
-use Rattle.seq_model.specs.Runs.{IsInCommitOrder, IsRun, after_run}
+use Rattle.seq_model.specs.Runs.{after_run}
 use Rattle.vac_model.specs.declared.action.Action.{Action}
 use Rattle.vac_model.specs.Actions.{IsAllowed}
 use Rattle.vac_model.specs.Balanced.{IsBalanced}
@@ -15,18 +16,21 @@ use Rattle.tx_engine.specs.Programs.{after, asked}
 use Rattle.vacation_core.specs.declared.entry.Entry.{Entry}
 use Rattle.vacation_core.specs.Holding.{state_of}
 use Rattle.vacation_core.specs.Sessions.{session}
-use Rattle.served_sessions.specs.Served.{AreServedInOrder, HaveSame, Receipt}
+use Rattle.served_sessions.specs.Served.{AreServedInOrder, Receipt}
 use Rattle.world_table.specs.Openings.{world_of}
 use Rattle.session_runs.specs.Openings.{eight}
 use Rattle.attempts.specs.Jobs.{IsWholeJob}
+use Rattle.tx_table.specs.declared.closed.Closed.{Closed}
 use Rattle.tx_table.specs.declared.table.TxTable.{TxTable}
-use Rattle.tx_table.specs.Seated.{contents_in, opening_of, view}
-use Rattle.tx_table.specs.Shown.{first}
+use Rattle.tx_table.specs.Ends.{homes_of, row_of}
+use Rattle.tx_table.specs.Seated.{actor, contents_in, opening_of, view}
+use Rattle.tx_table.specs.Shown.{ShowsWorld, first}
+use Rattle.transactions.specs.Closing.{IsLeftBy, state_of as held_by}
 use Rattle.transactions.specs.declared.seats.TxSeat.{TxSeat}
 use Rattle.transactions.specs.Ready.{IsReady}
 use Rattle.workers.specs.declared.causes.LastAbort.{LastAbort}
 use Rattle.workers.specs.declared.report.Report.{Report}
-use Rattle.workers.specs.Reports.{IsReportOf}
+use Rattle.workers.specs.Reports.{HasRun, IsReportOf}
 use Rattle.workers.specs.Tasks.{Outcome, missed_in, receipts_in}
 use Rattle.serving.specs.declared.served.Served.{Served}
 
@@ -84,17 +88,34 @@ pub record AreRun (tables : Holdings) (receipts : List (Action × Record Entry))
   pub served : AreServedInOrder tables own order
   pub left : s ≡ after_run order (state_of tables)
 
--- The attempts of each list are turns that one seat has kept in the end, of which it had none in the beginning: those of its actor, or of
--- actors whose seats were joined into it, each from the first turn on.
-pub record AreKept (table : TxTable Entry) (tries : ℕ) (lists : List (List Action)) (report : Report Entry) : Type 0 where
+-- The table was closed with this seat, and s is what it held then: what the receipts of the seat leave. They are all records of a world
+-- that events have reached, in which the seat's actor, and each actor whose seat was joined into it, is as its turns have it.
+pub record ClosesWith (table : TxTable Entry) (seat : TxSeat Entry) (s : Contents Entry) : Type 0 where
+  pub closed : Closed Entry
+  pub left : IsLeftBy (contents_in table) (view seat.seat).receipts closed
+  pub shows : ShowsWorld (opening_of table) (actor seat.seat) (view seat.seat) (row_of closed) (map some (homes_of closed))
+  pub state : s ≡ held_by closed
+
+-- the same, as it is known between the close and what is told of it
+unfoldable pub IsClosedWith : TxTable Entry → TxSeat Entry → Contents Entry → Type 0
+IsClosedWith table seat s = ClosesWith table seat s
+
+-- Workers ran these lists: their first seat had all shares, no turn and no receipt, and has its shares again in the end, and just the
+-- receipts that are reported. The attempts of each list are turns that it has kept, of its actor, or of an actor whose seat was joined into
+-- it, each from the first turn on. The table was closed with it, and held s.
+pub record RanAndClosed (table : TxTable Entry) (tries : ℕ) (lists : List (List Action)) (report : Report Entry) (s : Contents Entry)
+    : Type 0 where
   pub seat : TxSeat Entry
-  pub seat_is : view seat.seat ≡ first
+  pub opens : IsReady table seat × (view seat.seat ≡ first)
   pub last : TxSeat Entry
+  pub ready : IsReady table last
+  pub gains : HasRun seat last report
   pub tried : IsReportOf asks_of table tries seat last lists report
+  pub closes : ClosesWith table last s
 
 -- the same, as what is known of a served run: proofs on those who asked for it don't take its seats apart
-unfoldable pub WereTried : TxTable Entry → ℕ → List (List Action) → Report Entry → Type 0
-WereTried table tries lists report = AreKept table tries lists report
+unfoldable pub WereRun : TxTable Entry → ℕ → List (List Action) → Report Entry → Contents Entry → Type 0
+WereRun table tries lists report s = RanAndClosed table tries lists report s
 
 -- Each action of each list has one receipt, or stands among the missed with what so many attempts of it came to, on a table that opened on
 -- these tables, with clock 0 and so many stripes for each of the five maps and three queues. The receipts are a run of their actions in
@@ -105,7 +126,7 @@ pub record IsServed (tables : Holdings) (stripes : ℕ) (lists : List (List Acti
   pub table : TxTable Entry
   pub opened : opening_of table ≡ world_of (eight stripes) 0 (state_of tables)
   pub contents : contents_in table ≡ state_of tables
-  pub tried : WereTried table tries lists served.report
+  pub ran : WereRun table tries lists served.report served.state
   pub run : AreRun tables (all_dealt lists outcomes) served.state
   pub audited : IsRunBetween (state_of tables) (flat_map (λ receipts. receipts) served.report.receipts) served.state
   pub left : served.state ≡ state_of served.tables
@@ -119,11 +140,3 @@ pub record OpensOnTables (tables : Holdings) (stripes : ℕ) (table : TxTable En
   pub opened : opening_of table ≡ world_of (eight stripes) 0 (state_of tables)
   pub contents : contents_in table ≡ state_of tables
   pub seat_is : view seat.seat ≡ first
-
--- the receipts of the seat, in commit order, are a run that leaves this
-pub record IsWhatRemains (opening : Contents Entry) (receipts : List (ℕ × Record Entry)) (s : Contents Entry) : Type 0 where
-  pub order : List (ℕ × Record Entry)
-  pub same : HaveSame receipts order
-  pub in_order : IsInCommitOrder order
-  pub run : IsRun order opening
-  pub left : s ≡ after_run order opening

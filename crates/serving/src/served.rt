@@ -1,12 +1,12 @@
 //! The sessions of lists of actions, each list by a worker of its own.
-ghost use Rattle.std.specs.Prelude.{◌≡◌, ◌↔◌, ◌≤◌, IfErr, IfOk, IsTrue, length};
+ghost use Rattle.std.specs.Prelude.{◌≡◌, ◌↔◌, ◌≤◌, IfErr, IfOk, IsOk, IsTrue, length};
 ghost use Rattle.conflict.specs.Refusals.{IsStripeCount};
 ghost use Rattle.seq_model.specs.Refusals.{IsTooLong};
 ghost use Rattle.vac_model.specs.Balanced.{IsBalanced};
-ghost use Rattle.tx_table.specs.Seated.{contents_in, view};
+ghost use Rattle.tx_table.specs.Seated.{view};
 ghost use Rattle.transactions.specs.Ready.{IsReady};
 ghost use Rattle.workers.specs.Reports.{jobs_of};
-ghost use Rattle.serving.specs.Serving.{AreAllowed, OpensOnTables, IsWhatRemains, IsServed};
+ghost use Rattle.serving.specs.Serving.{AreAllowed, IsClosedWith, IsServed, OpensOnTables};
 
 use attempts::Pause;
 use conflict::is_stripe_count;
@@ -85,7 +85,7 @@ fn open(
 fn close(table: TxTable<Entry>, seat: TxSeat<Entry>) -> Result<State<Entry>, Memory>
     requires ready { IsReady table seat }
     requires all { (view seat.seat).shares ≡ SHARES }
-    ensures { IfOk result (IsWhatRemains (contents_in table) (view seat.seat).receipts) }
+    ensures { IfOk result (IsClosedWith table seat) }
 {
     let closed = seat.close(table);
     let state = closed.state()?;
@@ -143,6 +143,7 @@ pub fn serve<R: Threads + Wait + Sync, P: Pause + Sync>(
     requires lists { (1 ≤ length lists.items) × (length lists.items ≤ ACTOR_LIMIT) }
     requires some { 1 ≤ tries }
     ensures served { IfOk result (IsServed tables stripes (jobs_of lists.items) tries) }
+    ensures fits { IsOk result → IsStripeCount stripes × AreAllowed (jobs_of lists.items) }
     ensures refused { IfErr result (λ refusal. IsTooLong refusal (IsStripeCount stripes × AreAllowed (jobs_of lists.items))) }
 {
     if !is_stripe_count(stripes) {

@@ -26,7 +26,8 @@ tables_left-requires g c =
     served_so c.args.tables.now c.args.stripes (jobs_of c.args.lists.now) _ c.in_ok-table.table c.args.tries c.in_ok-table.seat _ _
     c.in_ok-report.report
     c.in_ok-state.state c.requires.balanced c.requires.allowed c.in_ok-sessions.ensures c.in_ok-table.ensures
-    c.run_workers-seat.ensures.report c.run_workers-seat.ensures.gains c.in_ok-report.was c.in_ok-state.ensures in
+    c.run_workers-seat.ensures.ready c.run_workers-seat.ensures.report c.run_workers-seat.ensures.gains c.in_ok-report.was
+    c.in_ok-state.ensures in
     holds_some c.args.tables.now _ c.in_ok-state.state x.2
 
 pub returns : goal.returns
@@ -35,14 +36,15 @@ returns g c =
     served_so c.args.tables.now c.args.stripes (jobs_of c.args.lists.now) _ c.in_ok-table.table c.args.tries c.in_ok-table.seat _ _
     c.in_ok-report.report
     c.in_ok-state.state c.requires.balanced c.requires.allowed c.in_ok-sessions.ensures c.in_ok-table.ensures
-    c.run_workers-seat.ensures.report c.run_workers-seat.ensures.gains c.in_ok-report.was c.in_ok-state.ensures in
+    c.run_workers-seat.ensures.ready c.run_workers-seat.ensures.report c.run_workers-seat.ensures.gains c.in_ok-report.was
+    c.in_ok-state.ensures in
     record {
       outcomes = x.0;
       reported = x.1;
       table = c.in_ok-table.table;
       opened = c.in_ok-table.ensures.opened;
       contents = c.in_ok-table.ensures.contents;
-      tried = x.3;
+      ran = x.3;
       run = x.2;
       audited = x.4;
       left = c.in_ok-tables.ensures.held;
