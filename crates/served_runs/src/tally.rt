@@ -12,13 +12,16 @@ use std::time::Duration;
 use workers::LastAbort;
 
 /// The names of what refuses an attempt.
-const NAMES: [&str; 7] = [
+const NAMES: [&str; 10] = [
     "Moved",
     "Busy",
     "Stale",
     "GateBusy",
     "Invalid",
     "Memory",
+    "Exhausted",
+    "TooLong",
+    "NoSuch",
     "other refusals",
 ];
 
@@ -27,7 +30,7 @@ const NOT_STARTED: &str = "not started";
 
 /// The place of a refusal's name among these.
 fn place_of(refusal: Refusal) -> usize
-    ensures { result < 7 }
+    ensures { result < 10 }
 {
     match refusal {
         Refusal::Moved { .. } => 0,
@@ -36,7 +39,18 @@ fn place_of(refusal: Refusal) -> usize
         Refusal::GateBusy { .. } => 3,
         Refusal::Invalid { .. } => 4,
         Refusal::OutOfMemory => 5,
-        _ => 6,
+        _ => place_of_rarer(refusal),
+    }
+}
+
+fn place_of_rarer(refusal: Refusal) -> usize
+    ensures { result < 10 }
+{
+    match refusal {
+        Refusal::Exhausted { .. } => 6,
+        Refusal::TooLong => 7,
+        Refusal::NoSuch => 8,
+        _ => 9,
     }
 }
 
@@ -49,7 +63,7 @@ struct Attempts {
     /// The most for one job.
     most: AtomicU64,
     /// Those that were refused, by name.
-    refused: [AtomicU64; 7],
+    refused: [AtomicU64; 10],
     /// So that no two workers write to one line of the cache.
     apart: [u64; 14],
 }
@@ -61,6 +75,9 @@ impl Attempts {
             since: AtomicU64::new(0),
             most: AtomicU64::new(0),
             refused: [
+                AtomicU64::new(0),
+                AtomicU64::new(0),
+                AtomicU64::new(0),
                 AtomicU64::new(0),
                 AtomicU64::new(0),
                 AtomicU64::new(0),
