@@ -1,8 +1,8 @@
--- What is said of a fault. A line is written piece by piece: what has been written is always a beginning of it, and the next
--- piece makes it a longer one; a line that was begun behind a whole text is a beginning of both. Want of memory
+-- What is said of a fault, and what is printed. Bytes are written piece by piece: what has been written is always a beginning of them,
+-- and the next piece makes it a longer one; a line that was begun behind a whole text is a beginning of both. Want of memory
 -- is why nothing is printed, whatever is known of the file.
-use Rattle.std.proofs.Common.{◌∙◌, refl, sym, ap, ℕ, ◌+◌, ◌-◌, subst, List, [], ◌∷◌, ◌++◌, length, take, take_all, drop, length-drop}
-use Rattle.std.proofs.Common.{take-append-drop, append_assoc, Option, Some, None, arith}
+use Rattle.std.proofs.Common.{◌∙◌, refl, sym, ap, ℕ, ◌+◌, ◌-◌, ◌≡◌, ◌<◌, subst, List, [], ◌∷◌, ◌++◌, length, take, take_all, drop}
+use Rattle.std.proofs.Common.{length-drop, take-append-drop, append_assoc, Option, Some, None, arith}
 use Rattle.std.proofs.Math.Seq.{take-add}
 use Rattle.std.proofs.KnownBytes.{Appends-trans}
 use Rattle.std.specs.Io.KnownBytes.{Appends}
@@ -12,7 +12,7 @@ use Rattle.command_line.specs.declared.work.Cause.TheVariants.{Ended}
 use Rattle.command_line.specs.declared.work.Task.TheVariants.{OnFile}
 use Rattle.command_line.specs.declared.work.Work.{Work}
 use Rattle.command_line.specs.declared.work.Work.TheVariants.{Served, Step, Vacation}
-use Rattle.command_line.specs.Ends.{HasBegun, IsCause, IsFaultOf, IsTextOf, line_of}
+use Rattle.command_line.specs.Ends.{HasBegun, HasBrokenOff, IsCause, IsFaultOf, IsTextOf, line_of}
 
 pub written_on : (old now new : Option (List ℕ)) (w n : ℕ) (bytes : List ℕ)
     → Appends old now (take w bytes) → Appends now new (take n (take (length bytes - w) (drop w bytes)))
@@ -29,6 +29,17 @@ begun_with old new k bytes grown = record {
   left = drop k bytes;
   whole = sym (take-append-drop k bytes);
   grown = grown;
+}
+
+pub broken_off : (old new : Option (List ℕ)) (k : ℕ) (bytes : List ℕ) → Appends old new (take k bytes) → k < length bytes
+    → HasBrokenOff old new bytes
+unfolding begun_with
+broken_off old new k bytes grown within = record {
+  begun = begun_with old new k bytes grown;
+  some_left = λ none.
+      let sized = length-drop k bytes in
+      let empty : length (drop k bytes) ≡ 0 = ap (λ (xs : List ℕ). length xs) none in
+      omega (arith, sized, empty);
 }
 
 pub line_begun : (old now new : Option (List ℕ)) (text : List ℕ) → Appends old now text → HasBegun now new (10 ∷ [])

@@ -1,5 +1,5 @@
 -- How a run ends.
-use Rattle.std.specs.Prelude.{◌≡◌, ◌<◌, ◌≤◌, ◌⊎◌, ℕ, List, [], ◌∷◌, ◌++◌, codes, length, Option, IfSome, IsTrue, ⊤}
+use Rattle.std.specs.Prelude.{◌≡◌, ◌≢◌, ◌<◌, ◌≤◌, ◌⊎◌, ℕ, List, [], ◌∷◌, ◌++◌, codes, length, Option, IfSome, IsTrue, ⊤}
 use Rattle.std.specs.Io.KnownBytes.{Appends}
 use Rattle.clap.specs.Words.{Text}
 use Rattle.seq_model.specs.declared.limits.TheConstants.{ACTOR_LIMIT}
@@ -175,6 +175,14 @@ pub record HasToldFault (task : Task) (status : ℕ) (known old new : Option (Li
   pub of_status : status_of cause ≡ status
   pub said : HasBegun old new (line_of (cause_text cause))
 
--- something is to be printed
-abbrev pub HasOutput : Task → Option (List ℕ) → Type 0
-HasOutput task known = (bytes : List ℕ) × IsKnownOutput task known bytes
+-- a write failed: known bytes have grown by a beginning of the text, and not by all of it
+pub record HasBrokenOff (old new : Option (List ℕ)) (text : List ℕ) : Type 0 where
+  pub begun : HasBegun old new text
+  pub some_left : begun.left ≢ []
+
+-- status 1 where no fault is told: the task has an output, and a write of it failed
+pub record HasStopped (words : List Text) (known old new : Option (List ℕ)) : Type 0 where
+  pub read : IsRead words known
+  pub bytes : List ℕ
+  pub output : IsKnownOutput (task_named words) known bytes
+  pub broken : HasBrokenOff old new bytes

@@ -1,10 +1,11 @@
 //! The program over a reader and two writers.
-ghost use Rattle.std.specs.Prelude.{◌≡◌, ◌≢◌, ◌≤◌, ◌⊎◌, ◌↔◌, [], map, IsOk, IsErr, IfOk, IsTrue};
+ghost use Rattle.std.specs.Prelude.{◌≡◌, ◌≢◌, ◌≤◌, ◌⊎◌, ◌↔◌, false, [], map, IsOk, IsErr, IfOk, IsTrue};
 ghost use Rattle.std.specs.String.{string_bytes};
-ghost use Rattle.std.specs.Io.KnownBytes.{Appends};
+ghost use Rattle.std.specs.Io.{WritesAtMost};
+ghost use Rattle.std.specs.Io.KnownBytes.{Appends, WriteAppends};
 ghost use Rattle.clap.specs.Words.{kind_of};
 ghost use Rattle.command_line.specs.Words.{AreTaken, AskForInformation, IsInformation, task_named};
-ghost use Rattle.command_line.specs.Ends.{AsksForTimes, HasBegun, HasOutput, HasToldFault, HasWorked, IsOnDrawn, IsRead};
+ghost use Rattle.command_line.specs.Ends.{AsksForTimes, HasBegun, HasBrokenOff, HasStopped, HasToldFault, HasWorked, IsOnDrawn};
 ghost use Rattle.command_line.specs.Ends.{cause_text, line_of, status_of, unreadable_text};
 ghost use Rattle.seq_model.specs.Texts.{memory_text, refusal_text};
 
@@ -35,14 +36,29 @@ pub const MEMORY: u8 = 2;
 /// tables that are found not to be balanced. All is looked at, and neither is ever found: see `run_tool`.
 pub const AUDIT_FAULT: u8 = 3;
 
+/// Writes some of the bytes; a write that was interrupted is tried again.
+fn write_some<W: Write>(to: &mut W, bytes: &[u8]) -> io::Result<usize>
+    ensures bound { WritesAtMost result bytes.now }
+    ensures bytes { WriteAppends (W.contents to.old) (W.contents to.new) result bytes.now }
+{
+    for _try in 0..u64::MAX {
+        match to.write(bytes) {
+            Err(error) if error.kind() == io::ErrorKind::Interrupted => {}
+            written => return written,
+        }
+    }
+    Err(io::Error::from(io::ErrorKind::Interrupted))
+}
+
 /// Whether all the bytes were written.
-fn tell<E: Write>(err: &mut E, bytes: &[u8]) -> bool
-    ensures whole { IsTrue result → Appends (E.contents err.old) (E.contents err.new) bytes.now }
-    ensures begun { HasBegun (E.contents err.old) (E.contents err.new) bytes.now }
+fn tell<W: Write>(to: &mut W, bytes: &[u8]) -> bool
+    ensures whole { IsTrue result → Appends (W.contents to.old) (W.contents to.new) bytes.now }
+    ensures begun { HasBegun (W.contents to.old) (W.contents to.new) bytes.now }
+    ensures broken { result ≡ false → HasBrokenOff (W.contents to.old) (W.contents to.new) bytes.now }
 {
     let mut written = 0;
     while written < bytes.len() {
-        match err.write(&bytes[written..]) {
+        match write_some(to, &bytes[written..]) {
             Ok(count) if count > 0 => written += count,
             _ => return false,
         }
@@ -92,11 +108,12 @@ pub fn run_file<
         → IfOk opened (λ reader. HasWorked (map string_bytes words.now) (R.remaining reader) (W.contents out.old) (W.contents out.new)) }
     ensures quiet { result ≡ DONE → AsksForTimes (task_named (map string_bytes words.now)) ⊎ (err.new ≡ err.old) }
     ensures memory { result ≡ MEMORY → out.new ≡ out.old }
-    ensures refused { result ≡ REFUSED → IfOk opened (λ reader. (out.new ≡ out.old)
-        ⊎ (AskForInformation (map string_bytes words.now) ⊎ IsRead (map string_bytes words.now) (R.remaining reader))) }
-    ensures fault { AreTaken (map string_bytes words.now) → result ≡ REFUSED → IfOk opened (λ reader.
-        HasToldFault (task_named (map string_bytes words.now)) REFUSED (R.remaining reader) (E.contents err.old) (E.contents err.new)
-        ⊎ ((err.new ≡ err.old) × HasOutput (task_named (map string_bytes words.now)) (R.remaining reader))) }
+    ensures refused { result ≡ REFUSED → IfOk opened (λ reader. (out.new ≡ out.old) ⊎ (AskForInformation (map string_bytes words.now)
+        ⊎ HasStopped (map string_bytes words.now) (R.remaining reader) (W.contents out.old) (W.contents out.new))) }
+    ensures fault { AreTaken (map string_bytes words.now) → result ≡ REFUSED → IfOk opened (λ reader. ((out.new ≡ out.old)
+        × HasToldFault (task_named (map string_bytes words.now)) REFUSED (R.remaining reader) (E.contents err.old) (E.contents err.new))
+        ⊎ ((err.new ≡ err.old)
+        × HasStopped (map string_bytes words.now) (R.remaining reader) (W.contents out.old) (W.contents out.new))) }
     ensures starved { result ≡ MEMORY → IfOk opened (λ _. HasBegun (E.contents err.old) (E.contents err.new) (line_of memory_text)) }
     ensures unopened { IsErr opened → (result ≡ REFUSED) × (out.new ≡ out.old) }
     ensures told { IsErr opened → HasBegun (E.contents err.old) (E.contents err.new) (line_of unreadable_text) }
@@ -113,12 +130,13 @@ pub fn run_file<
 /// Runs the words, without the program's own name, over what the reader gives, and answers the exit status. How far workers have come is
 /// told meanwhile.
 ///
-/// What it prints goes to `out`, and a fault, one line, to `err`: then nothing goes to `out`, but where a write to it failed. Faults are
-/// found in the order words, file, size, text, opening. `sound`: no audit of what was run finds a fault, and all tables that are left are
-/// balanced. `done`: with status 0 the words ask for help or the version, or they and the text are taken and `out` has grown by what the
-/// task that they name prints, once that was audited; what a run took goes to `err` where that is asked for. `unread`, `drawn`: nothing is
-/// read for refused words, nor where sessions are drawn. `told`, `starved`: what `err` grows by, but where a write to it fails, is the line
-/// of the fault; it stays as it was only where the output could not be written.
+/// What it prints goes to `out`, and a fault, one line, to `err`: then nothing goes to `out`. Where a write to `out` fails, nothing goes to
+/// `err`. Faults are found in the order words, file, size, text, opening. `sound`: no audit of what was run finds a fault, and all tables
+/// that are left are balanced. `done`: with status 0 the words ask for help or the version, or they and the text are taken and `out` has
+/// grown by what the task that they name prints, once that was audited; what a run took goes to `err` where that is asked for. `unread`,
+/// `drawn`: nothing is read for refused words, nor where sessions are drawn. `told`, `starved`: what `err` grows by, but where a write to
+/// it fails, is the line of the fault, and `out` stays as it was (`memory`); or `err` stays as it was, and `out` has grown by a beginning of
+/// what the task prints, but not by all of it.
 pub fn run_tool<H: Threads + Wait + Clock + Sync, R: Read, W: Write, E: Write, P: Progress + Sync>(
     rt: &H,
     alloc: Global,
@@ -135,13 +153,16 @@ pub fn run_tool<H: Threads + Wait + Clock + Sync, R: Read, W: Write, E: Write, P
     ensures quiet { result ≡ DONE → AsksForTimes (task_named (map string_bytes words.now)) ⊎ (err.new ≡ err.old) }
     ensures refused { result ≡ REFUSED
         → (out.new ≡ out.old)
-        ⊎ (AskForInformation (map string_bytes words.now) ⊎ IsRead (map string_bytes words.now) (R.remaining reader.old)) }
+        ⊎ (AskForInformation (map string_bytes words.now)
+        ⊎ HasStopped (map string_bytes words.now) (R.remaining reader.old) (W.contents out.old) (W.contents out.new)) }
     ensures memory { result ≡ MEMORY → out.new ≡ out.old }
     ensures unread { ¬ AreTaken (map string_bytes words.now) → reader.new ≡ reader.old }
     ensures drawn { IsOnDrawn (task_named (map string_bytes words.now)) → reader.new ≡ reader.old }
     ensures told { AreTaken (map string_bytes words.now) → result ≡ REFUSED
-        → HasToldFault (task_named (map string_bytes words.now)) REFUSED (R.remaining reader.old) (E.contents err.old) (E.contents err.new)
-        ⊎ ((err.new ≡ err.old) × HasOutput (task_named (map string_bytes words.now)) (R.remaining reader.old)) }
+        → ((out.new ≡ out.old) × HasToldFault (task_named (map string_bytes words.now)) REFUSED (R.remaining reader.old)
+        (E.contents err.old) (E.contents err.new))
+        ⊎ ((err.new ≡ err.old)
+        × HasStopped (map string_bytes words.now) (R.remaining reader.old) (W.contents out.old) (W.contents out.new)) }
     ensures starved { result ≡ MEMORY → HasBegun (E.contents err.old) (E.contents err.new) (line_of memory_text) }
 {
     let task = match matches_of(alloc, words) {
@@ -160,12 +181,15 @@ fn print<W: Write, E: Write>(out: &mut W, err: &mut E, output: &Output) -> u8
     ensures done { result ≡ DONE → Appends (W.contents out.old) (W.contents out.new) output.now.bytes.items }
     ensures quiet { string_bytes output.now.times ≡ [] → err.new ≡ err.old }
     ensures failed { result ≡ REFUSED → err.new ≡ err.old }
+    ensures broken { result ≡ REFUSED → HasBrokenOff (W.contents out.old) (W.contents out.new) output.now.bytes.items }
 {
-    let written = out.write_all(output.bytes.as_slice());
-    if written.is_ok() && !output.times.is_empty() {
+    if !tell(out, output.bytes.as_slice()) {
+        return REFUSED;
+    }
+    if !output.times.is_empty() {
         tell(err, output.times.as_bytes());
     }
-    status_of_write(written)
+    DONE
 }
 
 /// A wish for help or the version is no fault: its text goes to `out`.
