@@ -3,7 +3,7 @@ ghost use Rattle.std.specs.Prelude.{◌≡◌};
 ghost use Rattle.tx_table.specs.Seated.{view};
 ghost use Rattle.transactions.specs.Ready.{IsReady};
 
-use crate::borrowed::calls::Way;
+use crate::borrowed::calls::Style;
 use crate::borrowed::rows::answer_borrowed;
 use crate::engine::turns::{at_once, four_at_once, in_turn};
 use crate::shared::{Order, Page, commit_after};
@@ -18,8 +18,8 @@ const SECOND_SHARES: u64 = 32;
 #[derive(Clone, Copy)]
 pub enum Pair {
     Requests,
-    /// Transactions whose calls are made this way.
-    Borrowed(Way),
+    /// Transactions whose calls are made in this style.
+    Borrowed(Style),
 }
 
 /// The rows of two seats, into which this one is split. It is the first of them, and has all shares in the end.
@@ -76,7 +76,7 @@ fn answer_both<R: Threads + Sync>(
     ensures second { IsReady table.now second.new }
 {
     match pair {
-        Pair::Borrowed(way) => answer_borrowed(page, table, first, second, way, rows),
+        Pair::Borrowed(style) => answer_borrowed(page, table, first, second, style, rows),
         Pair::Requests => answer_requests(rt, page, table, first, second, rows),
     }
 }

@@ -3,7 +3,7 @@ ghost use Rattle.std.specs.Prelude.{◌≡◌};
 ghost use Rattle.tx_table.specs.Seated.{view};
 ghost use Rattle.transactions.specs.Ready.{IsReady};
 
-use crate::borrowed::calls::Way;
+use crate::borrowed::calls::Style;
 use crate::pairs::{Pair, run_pair};
 use crate::shared::{Page, close_told, end_page, open, opening_of, say_places};
 use crate::worker::lists::{Limits, limits_of};
@@ -59,9 +59,9 @@ pub fn answer_table<R: Threads + Wait + Sync>(
 fn kind_of(word: &str, limits: &str, table: &str) -> Option<Kind> {
     match word {
         "seats" => Some(Kind::Pair(Pair::Requests)),
-        "plain" => Some(Kind::Pair(Pair::Borrowed(Way::Plain))),
-        "typed" if table.starts_with("map") => Some(Kind::Pair(Pair::Borrowed(Way::TypedMap))),
-        "typed" => Some(Kind::Pair(Pair::Borrowed(Way::Typed))),
+        "plain" => Some(Kind::Pair(Pair::Borrowed(Style::Plain))),
+        "typed" if table.starts_with("map") => Some(Kind::Pair(Pair::Borrowed(Style::TypedMap))),
+        "typed" => Some(Kind::Pair(Pair::Borrowed(Style::Typed))),
         "workers" => Some(Kind::Workers(limits_of(limits)?)),
         "retries" => Some(Kind::Retries(number(limits)?)),
         _ => None,

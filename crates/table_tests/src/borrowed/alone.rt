@@ -2,7 +2,7 @@
 ghost use Rattle.std.specs.Prelude.{◌≡◌};
 ghost use Rattle.transactions.specs.Ready.{HasBegunSince, IsReady};
 
-use super::calls::{Placed, Way};
+use super::calls::{Placed, Style};
 use super::ends::{End, Ended, end_as};
 use super::hearing::Hearer;
 use super::rows::{calls_of, end_of};
@@ -94,6 +94,6 @@ fn make_own<V: Value, H: Hearer<V>>(hearer: &mut H, tx: &mut Tx<'_, V>, calls: &
     ensures since { HasBegunSince tx.new.table.now tx.new.seat.now }
 {
     'calls: for placed in calls {
-        make(hearer, tx, Way::Plain, &placed.call);
+        make(hearer, tx, Style::Plain, &placed.call);
     }
 }

@@ -6,9 +6,9 @@ use seq_model::{Call, Op, Refusal, Reply, Value};
 use transactions::Tx;
 use tx_wrap::{TBag, TMap, TPq, TQueue, TWord};
 
-/// How the calls of a transaction are made. What is asked for its length is a map in the last way, and else a queue.
+/// How the calls of a transaction are made. What is asked for its length is a map with the last one, and else a queue.
 #[derive(Clone, Copy)]
-pub enum Way {
+pub enum Style {
     Plain,
     Typed,
     TypedMap,
@@ -25,11 +25,11 @@ pub struct Placed<V> {
 #[derive(Clone, Copy)]
 pub struct Caller {
     pub seat: u32,
-    pub way: Way,
+    pub style: Style,
 }
 
 /// A call, and what it is answered.
-pub fn ask<V: Value>(tx: &mut Tx<'_, V>, way: Way, call: &Call<V>) -> Result<Reply<V>, Refusal>
+pub fn ask<V: Value>(tx: &mut Tx<'_, V>, style: Style, call: &Call<V>) -> Result<Reply<V>, Refusal>
     requires ready { IsReady tx.old.table.now tx.old.seat.now }
     requires since { HasBegunSince tx.old.table.now tx.old.seat.now }
     ensures same_reference { tx.new.seat.ghost_name ≡ tx.old.seat.ghost_name }
@@ -37,10 +37,10 @@ pub fn ask<V: Value>(tx: &mut Tx<'_, V>, way: Way, call: &Call<V>) -> Result<Rep
     ensures ready { IsReady tx.old.table.now tx.new.seat.now }
     ensures since { HasBegunSince tx.old.table.now tx.new.seat.now }
 {
-    match way {
-        Way::Plain => plain(tx, call),
-        Way::Typed => on_word(tx, call, false),
-        Way::TypedMap => on_word(tx, call, true),
+    match style {
+        Style::Plain => plain(tx, call),
+        Style::Typed => on_word(tx, call, false),
+        Style::TypedMap => on_word(tx, call, true),
     }
 }
 

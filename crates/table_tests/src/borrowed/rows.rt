@@ -1,7 +1,7 @@
 //! Rows on a table with two seats, each a transaction that borrows its seat.
 ghost use Rattle.transactions.specs.Ready.{IsReady};
 
-use super::calls::{Caller, Placed, Way};
+use super::calls::{Caller, Placed, Style};
 use super::ends::End;
 use super::transacted::{read_all, transact};
 use crate::shared::{Page, learn, say_last};
@@ -19,7 +19,7 @@ pub fn answer_borrowed(
     table: &TxTable<u64>,
     first: &mut TxSeat<u64>,
     second: &mut TxSeat<u64>,
-    way: Way,
+    style: Style,
     rows: &str,
 )
     requires first { IsReady table.now first.old }
@@ -28,8 +28,8 @@ pub fn answer_borrowed(
     ensures second { IsReady table.now second.new }
 {
     'rows: for row in rows.lines() {
-        answer_at(page, table, first, second, Caller { seat: 1, way }, row);
-        answer_at(page, table, second, first, Caller { seat: 2, way }, row);
+        answer_at(page, table, first, second, Caller { seat: 1, style }, row);
+        answer_at(page, table, second, first, Caller { seat: 2, style }, row);
     }
 }
 

@@ -2,7 +2,7 @@
 ghost use Rattle.std.specs.Prelude.{◌≡◌};
 ghost use Rattle.transactions.specs.Ready.{HasBegunSince, IsReady};
 
-use super::calls::{Caller, Placed, Way, ask};
+use super::calls::{Caller, Placed, Style, ask};
 use super::ends::{End, Ended, end_as};
 use super::hearing::Hearer;
 use seq_model::{Call, Value};
@@ -97,14 +97,19 @@ fn make_placed<V: Value, H: Hearer<V>>(
     ensures other { IsReady table.now other.new }
 {
     if placed.seat == caller.seat {
-        make(hearer, tx, caller.way, &placed.call);
+        make(hearer, tx, caller.style, &placed.call);
     } else {
-        commit_one(hearer, table, other, caller.way, &placed.call);
+        commit_one(hearer, table, other, caller.style, &placed.call);
     }
 }
 
 /// A call of the transaction.
-pub fn make<V: Value, H: Hearer<V>>(hearer: &mut H, tx: &mut Tx<'_, V>, way: Way, call: &Call<V>)
+pub fn make<V: Value, H: Hearer<V>>(
+    hearer: &mut H,
+    tx: &mut Tx<'_, V>,
+    style: Style,
+    call: &Call<V>,
+)
     requires ready { IsReady tx.old.table.now tx.old.seat.now }
     requires since { HasBegunSince tx.old.table.now tx.old.seat.now }
     ensures same_reference { tx.new.seat.ghost_name ≡ tx.old.seat.ghost_name }
@@ -112,7 +117,7 @@ pub fn make<V: Value, H: Hearer<V>>(hearer: &mut H, tx: &mut Tx<'_, V>, way: Way
     ensures ready { IsReady tx.new.table.now tx.new.seat.now }
     ensures since { HasBegunSince tx.new.table.now tx.new.seat.now }
 {
-    let answered = ask(tx, way, call);
+    let answered = ask(tx, style, call);
     hearer.hear_answer(answered);
 }
 
@@ -120,7 +125,7 @@ fn commit_one<V: Value, H: Hearer<V>>(
     hearer: &mut H,
     table: &TxTable<V>,
     seat: &mut TxSeat<V>,
-    way: Way,
+    style: Style,
     call: &Call<V>,
 )
     requires ready { IsReady table.now seat.old }
@@ -128,7 +133,7 @@ fn commit_one<V: Value, H: Hearer<V>>(
 {
     match begin(seat, table) {
         Ok(mut tx) => {
-            make(hearer, &mut tx, way, call);
+            make(hearer, &mut tx, style, call);
             hearer.hear_end(end_as(tx, End::Commits));
         }
         Err(refusal) => hearer.hear_end(Ended::Refused(refusal)),

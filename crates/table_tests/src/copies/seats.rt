@@ -7,8 +7,8 @@ use seq_model::{Call, Record, Refusal};
 use transactions::TxSeat;
 use tx_table::TxTable;
 
-/// The transaction is run with the copy at this place refused; whether one was. It is answered as a want of memory then, and else it commits;
-/// the same seat commits the next one.
+/// The transaction is run with the copy at this place refused; whether one was. It is answered as a want of memory then, and else it
+/// commits; the same seat commits the next one.
 pub fn refuse(
     table: &TxTable<Rationed>,
     mut seat: TxSeat<Rationed>,
