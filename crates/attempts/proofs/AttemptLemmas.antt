@@ -211,7 +211,14 @@ module _ {V : Type 0} where
     commit_refused s b m u cause kept done C begun =
         let k : IsAt asks o s m done.0 ask.Done = at_before s b m done.0 ask.Done kept done.1 in (
           then_keeps s m u k.keeps C.keeps,
-          inr (inl record { calls = done.0; before = m; at = k; begun = begun; ended = C.ended (done.0, k.stands) }),
+          inr (inl record {
+            calls = done.0;
+            before = m;
+            at = k;
+            begun = begun;
+            ended = C.ended (done.0, k.stands);
+            kind = C.kinds;
+          }),
         )
 
     pub given_up : (s b m u : Seat V) → KeepsReceipts s b → Reaches asks o b m ends.GivenUp → KeepsReceipts m u

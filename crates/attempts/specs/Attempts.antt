@@ -15,8 +15,8 @@ use Rattle.tx_table.specs.Seated.{actor, view}
 use Rattle.tx_phases.specs.Phases.{Stands}
 use Rattle.driven_turns.specs.Begins.{begins_of}
 use Rattle.transactions.specs.Ready.{standing}
-use Rattle.transactions.specs.Requests.{CallsTo, HasAborted, HasCommitted, IsBegun, IsEnded, IsNotBegun, IsOpen, KeepsReceipts}
-use Rattle.transactions.specs.Requests.{has_written}
+use Rattle.transactions.specs.Requests.{CallsTo, HasAborted, HasCommitted, IsBegun, IsCommitRefusal, IsEnded, IsNotBegun, IsOpen}
+use Rattle.transactions.specs.Requests.{KeepsReceipts, has_written}
 use Rattle.attempts.specs.Jobs.{AreAskedBy, IsWholeJob}
 use Rattle.attempts.specs.declared.jobs.Attempt.{Attempt}
 use Rattle.attempts.specs.declared.jobs.Attempt.TheVariants.{Committed, GivenUp}
@@ -96,6 +96,7 @@ module _ {V : Type 0} (asks : List (Reply V) → Ask V → Type 0) (o : World V)
     pub at : IsAt s before calls ask.Done
     pub begun : HasBegun o s before
     pub ended : IsEnded o before u cause
+    pub kind : IsCommitRefusal cause
 
   -- the begin, the commit, or what is between them
   abbrev pub IsRefusedOf : Seat V → Seat V → Refusal → Type 0

@@ -40,6 +40,7 @@ use Rattle.tx_phases.proofs.CourseLemmas.{on_call, on_commit, on_done, steps_com
 use Rattle.tx_phases.proofs.PhaseLemmas.{steps_move}
 use Rattle.tx_phases.specs.Courses.{ComesTo, IsUnderWay, IsUnderWayFrom, latest}
 use Rattle.tx_phases.specs.Phases.{Phase, Rests, Begins, Stands, Calls, Commits, Committed, Ends, IsMistaken, StepMoves, phase, phase_at}
+use Rattle.driven_turns.proofs.CauseLemmas.{IsOfCommit, call_cause, commit_cause}
 use Rattle.driven_turns.proofs.DeclaredLemmas.{begin_declared}
 use Rattle.driven_turns.proofs.KeptLemmas.{Keeps, steps_keep}
 use Rattle.driven_turns.proofs.BeginLemmas.{turn_begins}
@@ -228,15 +229,19 @@ module _ {V : Type 0} where
     still cause (inr memory) = inr memory
 
     -- a cause that is noted now is true
-    found : (cause : Refusal) → is_ending x.stage ≡ false → standing o z ≡ Ends → (seat_in o z).cause ≡ Some cause → HasFound o s z cause
+    found : (cause : Refusal) → is_ending x.stage ≡ false → standing o z ≡ Ends → (seat_in o z).cause ≡ Some cause
+        → HasFound o s z cause × IsCause v a x.stage after.0 cause
     found cause on ends is =
         let c = world_causes (blocks_at t.whole.shared.key) t.whole.shared.key.shape.value.clock t.whole.shared.key.state.value.words
         t.whole.shared.key.state.value.held T.takes.happened.events a ties.reached.stripes on
         (ends_at (after.0.seats a) (ap phase y_is ∙ ends)) in
         let one : c.0 ≡ cause = (let q : Some c.0 ≡ Some cause = sym c.1 ∙ (ap (λ (k : Seat V). k.cause) y_is ∙ is) in cc) in (
-          v,
-          this,
-          subst (λ (k : ℕ × Refusal). IsCause v k.0 (v.seats k.0).stage (happens v (Step k.0)).0 k.1) (λ i. (same i, one i)) c.2,
+          (
+            v,
+            this,
+            subst (λ (k : ℕ × Refusal). IsCause v k.0 (v.seats k.0).stage (happens v (Step k.0)).0 k.1) (λ i. (same i, one i)) c.2,
+          ),
+          subst (λ (k : Refusal). IsCause v a x.stage after.0 k) one c.2,
         )
 
     -- one that was noted before stays
@@ -291,22 +296,28 @@ module _ {V : Type 0} where
         exhausted_clock (acts o u) a T.found T.base T.clock cause on (begin_place on) T.clocks (sym T.tells ∙ ap (notice_of a) e) in
         (v, this, h.0, h.1, shown ∙ sym (ap (λ (k : View V). refusal.Exhausted k.clock) T.takes.turn))
     truth (Calls calls call) told.Quiet e (inl at, none) was =
-        λ cause ends is. inl (found cause (on_call x calls call (ap phase x_is ∙ at)) ends is)
+        λ cause ends is. (let on = ap phase x_is ∙ at in let f = found cause (on_call x calls call on) ends is in
+        (inl f.0, call_cause v after.0 a linked calls call on cause f.1))
     truth (Calls calls call) told.Quiet e (inr up, none) was =
-        λ cause ends is. still cause (was cause up.0 (kept cause up.0 ends is))
+        λ cause ends is. (let h = was cause up.0 (kept cause up.0 ends is) in (still cause h.0, h.1))
     truth (Calls calls call) (told.Answered q) e under was = tt
     truth (Calls calls call) (told.Refused cause) e (inl at, none) was =
         let h = call_refused calls call _ a cause _ (moves (Calls calls call) cause e at) in inr (sym (ap phase y_is) ∙ h.0, h.1)
-    truth (Calls calls call) (told.Refused cause) e (inr up, none) was = inl (still cause (was cause up.0 (told_up cause e up.0)))
+    truth (Calls calls call) (told.Refused cause) e (inr up, none) was =
+        (let h = was cause up.0 (told_up cause e up.0) in inl (still cause h.0, h.1))
     truth (Commits calls) told.Quiet e (inl (inl at, none)) was =
-        λ cause ends is. inl (found cause (on_commit x calls (ap phase x_is ∙ at)) ends is)
+        λ cause ends is. (let on = ap phase x_is ∙ at in let f = found cause (on_commit x calls on) ends is in
+        (inl f.0, commit_cause v after.0 a linked (subst IsOfCommit (sym on) tt) cause f.1))
     truth (Commits calls) told.Quiet e (inl (inr up, none)) was =
-        λ cause ends is. still cause (was cause up.0 (kept cause up.0 ends is))
-    truth (Commits calls) told.Quiet e (inr has) was = λ cause ends is. inl (found cause (on_done x (ap phase x_is ∙ has.0)) ends is)
+        λ cause ends is. (let h = was cause up.0 (kept cause up.0 ends is) in (still cause h.0, h.1))
+    truth (Commits calls) told.Quiet e (inr has) was =
+        λ cause ends is. (let on = ap phase x_is ∙ has.0 in let f = found cause (on_done x on) ends is in
+        (inl f.0, commit_cause v after.0 a linked (subst IsOfCommit (sym on) tt) cause f.1))
     truth (Commits calls) (told.Answered q) e under was = tt
     truth (Commits calls) (told.Refused cause) e (inl (inl at, none)) was =
         absurd (commit_refused calls _ a cause _ (moves (Commits calls) cause e at))
-    truth (Commits calls) (told.Refused cause) e (inl (inr up, none)) was = still cause (was cause up.0 (told_up cause e up.0))
+    truth (Commits calls) (told.Refused cause) e (inl (inr up, none)) was =
+        (let h = was cause up.0 (told_up cause e up.0) in (still cause h.0, h.1))
     truth (Commits calls) (told.Refused cause) e (inr has) was = absurd (done_refused _ a cause _ (moves Committed cause e has.0))
     truth Rests m e under was = tt
     truth (Stands calls) m e under was = tt

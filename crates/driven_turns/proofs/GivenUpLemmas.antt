@@ -108,8 +108,8 @@ module _ {V : Type 0} where
   halfway_ends a s x p half rests = absurd half
 
   halfway_true : (o : World V) (s u : table.Seat V) (p : Phase V) → IsHalfway p → IsTrue o s u p (told.Refused OutOfMemory)
-  halfway_true o s u (Calls calls call) half = inl (inr refl)
-  halfway_true o s u (Commits calls) half = inr refl
+  halfway_true o s u (Calls calls call) half = inl (inr refl, tt)
+  halfway_true o s u (Commits calls) half = (inr refl, tt)
   halfway_true o s u p half = absurd half
 
   is_memory : (a : ℕ) (n : Told V) → notice_of a n ≡ Refused a OutOfMemory → n ≡ told.Refused OutOfMemory

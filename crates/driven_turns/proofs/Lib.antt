@@ -4,6 +4,7 @@ pub mod KeptLemmas
 pub mod StampLemmas
 pub mod DeclaredLemmas
 pub mod NextLemmas
+pub mod CauseLemmas
 pub mod DrivenLemmas
 pub mod SinceLemmas
 pub mod QuietLemmas

@@ -8,7 +8,7 @@ use Rattle.seq_model.specs.declared.event.Event.{Event}
 use Rattle.seq_model.specs.declared.event.Event.TheVariants.{Step}
 use Rattle.seq_model.specs.declared.record.Record.{Record}
 use Rattle.seq_model.specs.declared.refusal.Refusal.{Refusal}
-use Rattle.seq_model.specs.declared.refusal.Refusal.TheVariants.{Exhausted, OutOfMemory}
+use Rattle.seq_model.specs.declared.refusal.Refusal.TheVariants.{Moved, Busy, Stale, GateBusy, Invalid, OutOfMemory, Exhausted}
 use Rattle.replay_log.specs.Seats as worlds
 use Rattle.replay_log.specs.Seats.{World, Stage, Closing, Loading, actor_of}
 use Rattle.replay_log.specs.Worlds.{happens, run}
@@ -75,6 +75,22 @@ abbrev pub MayWant : {V : Type 0} → Stage V → Type 0
 MayWant (Loading o left) = Unit {0}
 MayWant st = WantsMemory (next_of st)
 
+-- for this a call is given up
+abbrev pub IsCallCause : Refusal → Type 0
+IsCallCause (Moved l word) = Unit {0}
+IsCallCause (Stale l base word) = Unit {0}
+IsCallCause (GateBusy k) = Unit {0}
+IsCallCause OutOfMemory = Unit {0}
+IsCallCause cause = ⊥
+
+-- and for this a commit
+abbrev pub IsCommitCause : Refusal → Type 0
+IsCommitCause (Busy l word) = Unit {0}
+IsCommitCause (Invalid l word) = Unit {0}
+IsCommitCause (GateBusy k) = Unit {0}
+IsCommitCause OutOfMemory = Unit {0}
+IsCommitCause cause = ⊥
+
 -- A writer's number is above the one at which it has begun, and no higher than this clock; a reader's is that one.
 pub record IsNumberOf {V : Type 0} (rv k : ℕ) (r : Record V) : Type 0 where
   pub writer : r.writes ≡ true → (rv < r.number) × (r.number ≤ k)
@@ -132,17 +148,18 @@ module _ {V : Type 0} where
   MakesReceipt a r before now = (d : Option (Record V)) × (commits a r ≡ as_receipts a d) × (now ≡ latest d before)
 
   -- What is told of a request that stood so is true: a begin tells the clock that its seat knows by then, and a cause was found by one of
-  -- its own turns, or is want of memory. While nothing is told, a transaction that is being given up has noted such a cause. One that was
+  -- its own turns, or is want of memory, and is one for which such a request is given up. While nothing is told, a transaction that is being given up has noted such a cause. One that was
   -- given up before is told the cause that it had.
   abbrev pub IsTrue : World V → Seat V → Seat V → Phase V → Told V → Type 0
   IsTrue o s u Begins (told.Answered (answer.Begun rv)) = rv ≡ (view u).clock
   IsTrue o s u Begins (told.Refused cause) = IsExhausted o s u cause
   IsTrue o s u (Calls calls call) told.Quiet =
-      (cause : Refusal) → standing o u ≡ Ends → (seat_in o u).cause ≡ Some cause → IsReason o s u cause
-  IsTrue o s u (Calls calls call) (told.Refused cause) = IsReason o s u cause ⊎ ((standing o u ≡ Stands calls) × IsMistaken cause)
+      (cause : Refusal) → standing o u ≡ Ends → (seat_in o u).cause ≡ Some cause → IsReason o s u cause × IsCallCause cause
+  IsTrue o s u (Calls calls call) (told.Refused cause) =
+      (IsReason o s u cause × IsCallCause cause) ⊎ ((standing o u ≡ Stands calls) × IsMistaken cause)
   IsTrue o s u (Commits calls) told.Quiet =
-      (cause : Refusal) → standing o u ≡ Ends → (seat_in o u).cause ≡ Some cause → IsReason o s u cause
-  IsTrue o s u (Commits calls) (told.Refused cause) = IsReason o s u cause
+      (cause : Refusal) → standing o u ≡ Ends → (seat_in o u).cause ≡ Some cause → IsReason o s u cause × IsCommitCause cause
+  IsTrue o s u (Commits calls) (told.Refused cause) = IsReason o s u cause × IsCommitCause cause
   IsTrue o s u before n = Unit {0}
 
   -- a transaction without writes commits by a load of the clock

@@ -2,7 +2,7 @@
 --
 -- What the ask tells in the own world says where the transaction stands (`asks_move`); that it is not given up there is a law on worlds
 -- that events have reached, and the own world is one of these to its actor. What the turns come to is the law on courses (`Driven.comes`).
-use Rattle.std.proofs.Common.{◌≡◌, ◌≢◌, ◌⊎◌, ℕ, false, List, Option, None, Result, Ok, Err, inl, inr, refl, sym, ap, ◌∙◌, subst}
+use Rattle.std.proofs.Common.{◌≡◌, ◌≢◌, ◌⊎◌, ℕ, false, List, Option, None, Result, Ok, Err, IfErr, inl, inr, refl, sym, ap, ◌∙◌, subst}
 use Rattle.seq_model.specs.declared.call.Call.{Call}
 use Rattle.seq_model.specs.declared.call.Reply.{Reply}
 use Rattle.seq_model.specs.declared.event.Answer.TheVariants as answer
@@ -13,7 +13,7 @@ use Rattle.seq_model.specs.declared.event.Request.{Request}
 use Rattle.seq_model.specs.declared.event.Request.TheVariants as request
 use Rattle.seq_model.specs.declared.record.Record.{Record}
 use Rattle.seq_model.specs.declared.refusal.Refusal.{Refusal}
-use Rattle.seq_model.specs.declared.refusal.Refusal.TheVariants.{OutOfMemory}
+use Rattle.seq_model.specs.declared.refusal.Refusal.TheVariants.{GateBusy, Moved, NoSuch, OutOfMemory, Stale, TooLong}
 use Rattle.replay_log.proofs.AskLemmas.{only_abort}
 use Rattle.replay_log.proofs.EventLemmas.{opened_linked, run_linked}
 use Rattle.replay_log.specs.Seats as worlds
@@ -37,8 +37,8 @@ use Rattle.tx_phases.specs.Courses.{ComesTo, EndsFrom, IsUnderWay, IsUnderWayFro
 use Rattle.tx_phases.specs.Phases.{AskMoves, CallMoves, Phase, Rests, Begins, Stands, Calls, Ends, IsMistaken, phase, phase_at}
 use Rattle.driven_turns.proofs.KeptLemmas.{Keeps, asks_keep}
 use Rattle.transactions.proofs.RequestLemmas.{asked_keeps, ended_back, found_told, then_keeps, told_back, turns_keep}
-use Rattle.driven_turns.specs.Driven.{Driven, IsReason, IsTrue, seat_in, standing}
-use Rattle.transactions.specs.Requests.{CallLeaves, CallsTo, HasAborted, IsCallTold, IsDriven, IsOpen, KeepsReceipts, told_of}
+use Rattle.driven_turns.specs.Driven.{Driven, IsCallCause, IsReason, IsTrue, seat_in, standing}
+use Rattle.transactions.specs.Requests.{CallLeaves, CallsTo, HasAborted, IsCallRefusal, IsCallTold, IsDriven, IsOpen, KeepsReceipts, told_of}
 use Rattle.tx_turns.proofs.AskedLemmas.{acts_taken}
 use Rattle.tx_turns.specs.Asked.{Answers, HasAsked}
 use Rattle.tx_turns.specs.Ties.{Ties}
@@ -54,6 +54,12 @@ module _ {V : Type 0} where
 
   stands_busy : (p : Phase V) (calls : List (Call V × Reply V)) → p ≡ Stands calls → p ≡ Rests → ⊥
   stands_busy p calls e h = (let k : Stands calls ≡ Rests = sym e ∙ h in cc)
+
+  -- one that is mistaken is refused so
+  of_mistake : (cause : Refusal) → IsMistaken cause → IsCallRefusal cause
+  of_mistake NoSuch h = tt
+  of_mistake TooLong h = tt
+  of_mistake cause h = absurd h
 
   -- ---- a call that is driven
   pub under_call : (x : Seat V) (calls : List (Call V × Reply V)) (call : Call V) → phase x ≡ Calls calls call → IsUnderWay x x None
@@ -87,6 +93,22 @@ module _ {V : Type 0} where
     call_keeps : (n : Told V) (d : Option (Record V)) → n ≢ told.Quiet → out u ≡ out m → Driven o m u n d → KeepsReceipts m u
     call_keeps n d ne outs D = turns_keep o m u n d (made_none n d (call_ends n d ne D.comes)).0 outs D
 
+    -- for which it may be
+    of_cause : (cause : Refusal) → IsCallCause cause → IsCallRefusal cause
+    of_cause (Moved l word) h = tt
+    of_cause (Stale l base word) h = tt
+    of_cause (GateBusy k) h = tt
+    of_cause OutOfMemory h = tt
+    of_cause cause h = absurd h
+
+    call_kinds : (r : Result (Reply V) Refusal) (d : Option (Record V)) → Driven o m u (told_of r) d → IfErr r IsCallRefusal
+    call_kinds (Ok r) d D = tt
+    call_kinds (Err cause) d D = by_truth (subst (λ (k : Phase V). IsTrue o m u k (told.Refused cause)) at D.is_true)
+      where
+        by_truth : (IsReason o m u cause × IsCallCause cause) ⊎ ((standing o u ≡ Stands calls) × IsMistaken cause) → IsCallRefusal cause
+        by_truth (inl reason) = of_cause cause reason.1
+        by_truth (inr stays) = of_mistake cause stays.1
+
     call_left : (r : Result (Reply V) Refusal) (d : Option (Record V)) → Driven o m u (told_of r) d → CallLeaves o m calls call u r
     call_left (Ok r) d D = (call_ends (told.Answered (answer.Replied r)) d (told_some (Ok r)) D.comes).0
     call_left (Err cause) d D =
@@ -94,9 +116,10 @@ module _ {V : Type 0} where
         (subst (λ (k : Phase V). IsTrue o m u k (told.Refused cause)) at D.is_true)
       where
         by_truth : ((standing o u ≡ Stands calls) × IsMistaken cause) ⊎ (standing o u ≡ Rests)
-            → IsReason o m u cause ⊎ ((standing o u ≡ Stands calls) × IsMistaken cause) → CallLeaves o m calls call u (Err cause)
+            → (IsReason o m u cause × IsCallCause cause) ⊎ ((standing o u ≡ Stands calls) × IsMistaken cause)
+            → CallLeaves o m calls call u (Err cause)
         by_truth (inl stays) truth = inl stays
-        by_truth (inr rests) (inl reason) = inr (rests, found_told o m u cause reason (D.tells (told_some (Err cause))))
+        by_truth (inr rests) (inl reason) = inr (rests, found_told o m u cause reason.0 (D.tells (told_some (Err cause))))
         by_truth (inr rests) (inr stays) = inl stays
 
   leaves_back : (o : World V) (s m u : table.Seat V) (calls : List (Call V × Reply V)) (call : Call V) (r : Result (Reply V) Refusal)
@@ -143,6 +166,10 @@ module _ {V : Type 0} where
     leaves_now calls on (Ok reply) is = moves calls on (told.Answered (answer.Replied reply)) is
     leaves_now calls on (Err cause) is = inl (moves calls on (told.Refused cause) is)
 
+    kinds_now : (r : Result (Reply V) Refusal) → Answers o s q (told_of r) → IfErr r IsCallRefusal
+    kinds_now (Ok reply) is = tt
+    kinds_now (Err cause) is = of_mistake cause (moves opened.0 opened.1 (told.Refused cause) is).1
+
     began_asked : (standing o m ≡ Rests → ⊥) → (seat_in o m).rv ≡ (seat_in o s).rv
     began_asked busy = kept (asks_keep (acts o s) a q at_open)
       where
@@ -155,6 +182,7 @@ module _ {V : Type 0} where
       keeps = asked_keeps s m (has.0, has.1);
       leaves = λ calls on. leaves_now calls on r (subst (λ k. Answers o s q k) e is);
       answered = inl (subst (λ k. Answers o s q k) e is);
+      kinds = kinds_now r (subst (λ k. Answers o s q k) e is);
       began = λ still. began_asked (stands_busy (standing o m) still.0 still.1);
     }
 
@@ -188,6 +216,7 @@ module _ {V : Type 0} where
           keeps = then_keeps s m u kept (call_keeps o m u opened.0 call at (told_of k) d (told_some k) outs D);
           leaves = λ calls on. leaves_back o s m u calls call k kept (call_left o m u calls call (calls_on r ties calls on is) k d D);
           answered = inr (inl (is, told_back o s m u (told_of k) kept (D.tells (told_some k))));
+          kinds = call_kinds o m u opened.0 call at k d D;
           began = λ still. D.began (λ e. (let z : Calls opened.0 call ≡ Begins = sym at ∙ e in cc))
               (stands_busy (standing o u) still.0 still.1)
               ∙ began_asked (λ e. (let z : Calls opened.0 call ≡ Rests = sym at ∙ e in cc));
@@ -200,5 +229,6 @@ module _ {V : Type 0} where
     keeps = kept;
     leaves = λ calls on. inr (rests, inr (refl, inr aborted));
     answered = inr (inr (refl, admitted));
+    kinds = tt;
     began = λ still. absurd (stands_busy (standing o u) still.0 still.1 rests);
   }

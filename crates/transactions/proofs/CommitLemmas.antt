@@ -17,7 +17,7 @@ use Rattle.seq_model.specs.declared.event.Notice.TheVariants.{Answered, Refused}
 use Rattle.seq_model.specs.declared.event.Request.TheVariants.{Commit}
 use Rattle.seq_model.specs.declared.record.Record.{Record}
 use Rattle.seq_model.specs.declared.refusal.Refusal.{Refusal}
-use Rattle.seq_model.specs.declared.refusal.Refusal.TheVariants.{OutOfMemory}
+use Rattle.seq_model.specs.declared.refusal.Refusal.TheVariants.{Busy, GateBusy, Invalid, OutOfMemory}
 use Rattle.replay_log.proofs.ActionLemmas.{ask_goes}
 use Rattle.replay_log.proofs.SeatLemmas.{StageOk}
 use Rattle.replay_log.specs.Contents.{content}
@@ -37,9 +37,10 @@ use Rattle.tx_phases.specs.Phases.{Phase, Rests, Stands, Commits, phase, phase_a
 use Rattle.transactions.proofs.CallLemmas.{stands_at}
 use Rattle.driven_turns.proofs.KeptLemmas.{Keeps, asks_keep}
 use Rattle.transactions.proofs.RequestLemmas.{asked_keeps, ended_back, found_told, then_keeps, told_back, turns_keep}
-use Rattle.driven_turns.specs.Driven.{Driven, HasTold, IsNumberOf, IsStamped, IsStampedAt, IsTrue, KnowsNumber}
+use Rattle.driven_turns.specs.Driven.{Driven, HasTold, IsCommitCause, IsNumberOf, IsStamped, IsStampedAt, IsTrue, KnowsNumber}
 use Rattle.driven_turns.specs.Driven.{is_closing, seat_in, standing}
-use Rattle.transactions.specs.Requests.{CommitsTo, HasAborted, HasCommitted, IsCommitTold, IsEnded, KeepsReceipts, has_some, has_written}
+use Rattle.transactions.specs.Requests.{CommitsTo, HasAborted, HasCommitted, IsCommitRefusal, IsCommitTold, IsEnded, KeepsReceipts}
+use Rattle.transactions.specs.Requests.{has_some, has_written}
 use Rattle.tx_threads.proofs.OwnLemmas.{own_ok}
 use Rattle.tx_turns.proofs.AskedLemmas.{acts_taken}
 use Rattle.tx_turns.specs.Asked.{HasAsked}
@@ -129,6 +130,14 @@ module _ {V : Type 0} where
       ∙ ap (λ (st : Stage V). actor_of (ask_at w a x st Commit).0 a) at))
       (unstamped w a (view m).clock x (actor_of w a).writes place)
 
+  -- for which it may be given up
+  of_cause : (cause : Refusal) → IsCommitCause cause → IsCommitRefusal cause
+  of_cause (Busy l word) h = tt
+  of_cause (Invalid l word) h = tt
+  of_cause (GateBusy k) h = tt
+  of_cause OutOfMemory h = tt
+  of_cause cause h = absurd h
+
   pub under_commits : (x : Seat V) (calls : List (Call V × Reply V)) → phase x ≡ Commits calls → IsUnderWay x x None
   under_commits x calls on = subst (λ (p : Phase V). IsUnderWayFrom x p x None) (sym on) (inl (inl on, refl))
 
@@ -176,12 +185,13 @@ module _ {V : Type 0} where
           λ knows. D.numbered knows r refl,
         )
 
-    pub refused : (cause : Refusal) → Driven o s u (told.Refused cause) None → KeepsReceipts s u × IsEnded o s u cause
+    pub refused : (cause : Refusal) → Driven o s u (told.Refused cause) None
+        → KeepsReceipts s u × IsEnded o s u cause × IsCommitRefusal cause
     refused cause D =
         let h = subst (λ (p : Phase V). EndsFrom a (seat_in o s) p (Refused a cause) (seat_in o u) None) on D.comes in
         let truth = subst (λ (p : Phase V). IsTrue o s u p (told.Refused cause)) on D.is_true in
         let tells = D.tells (λ e. cc) in
-        (turns_keep o s u (told.Refused cause) None refl outs D, (h.0, found_told o s u cause truth tells))
+        (turns_keep o s u (told.Refused cause) None refl outs D, (h.0, found_told o s u cause truth.0 tells), of_cause cause truth.1)
 
     -- without a record it was refused
     none_told : (n : Told V) → n ≢ told.Quiet → EndsFrom a (seat_in o s) (Commits calls) (notice_of a n) (seat_in o u) None
@@ -228,6 +238,7 @@ module _ {V : Type 0} where
             (C.3 (commit_knows t s m q calls ties on has));
         keeps = tt;
         ended = tt;
+        kinds = tt;
       }
   commits_to t s m u q calls ties on has outs n d (Err cause) ne D h =
       let o = opening_of t in
@@ -241,6 +252,7 @@ module _ {V : Type 0} where
         number = tt;
         keeps = then_keeps s m u kept R.0;
         ended = λ _. ended_back o s m u cause kept R.1;
+        kinds = R.2;
       }
 
   -- one that was refused memory as it was asked
@@ -253,4 +265,5 @@ module _ {V : Type 0} where
     number = tt;
     keeps = keeps;
     ended = λ _. (rests, inr (memory, inr aborted));
+    kinds = subst IsCommitRefusal (sym memory) tt;
   }

@@ -135,6 +135,7 @@ module _ {V : Type 0} where
     ready = call_ready t s u call r ready opened drives C;
     since = call_since t s u call r since opened C;
     calls = λ _. C;
+    kinds = C.kinds;
     begins = begins;
     none = λ rests. absurd (not_both (opening_of t) s.seat rests opened);
   }
@@ -145,6 +146,7 @@ module _ {V : Type 0} where
     ready = ready;
     since = since;
     calls = λ opened. absurd (isnt (is_open t s.seat s.actor ready.ties opened.0 opened.1));
+    kinds = tt;
     begins = refl;
     none = λ _. (refl, refl);
   }
@@ -324,6 +326,7 @@ module _ {V : Type 0} where
       number = tt;
       keeps = keeps_self s.seat;
       ended = λ opened. absurd (isnt (is_open t s.seat s.actor ready.ties opened.0 opened.1));
+      kinds = tt;
     };
     above = tt;
     last = tt;
@@ -373,6 +376,7 @@ module _ {V : Type 0} where
             number = subst (λ (k : ℕ). IsNumberOf (seat_in o s.seat).rv k r) (sym (ap (λ p. p.me.0.clock) place)) C.number;
             keeps = tt;
             ended = tt;
+            kinds = tt;
           };
           above = receipt_numbers.0;
           last = (low, omega (arith, last, same, low));

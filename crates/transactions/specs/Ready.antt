@@ -1,5 +1,5 @@
 -- A seat with the actor that runs there, between its requests, and what a call and a commit leave of it.
-use Rattle.std.specs.Prelude.{◌≡◌, ◌⊎◌, ℕ, ◌<◌, ◌≤◌, true, [], Err, IfOk, Result}
+use Rattle.std.specs.Prelude.{◌≡◌, ◌⊎◌, ℕ, ◌<◌, ◌≤◌, true, [], Err, IfErr, IfOk, Result}
 use Rattle.seq_model.specs.declared.call.Call.{Call}
 use Rattle.seq_model.specs.declared.call.Reply.{Reply}
 use Rattle.seq_model.specs.declared.record.Record.{Record}
@@ -18,7 +18,7 @@ use Rattle.transactions.specs.declared.seats.TxSeat.{TxSeat}
 pub use Rattle.driven_turns.specs.Driven.{standing}
 use Rattle.driven_turns.specs.Begins.{begins_of}
 use Rattle.driven_turns.specs.Driven.{seat_in}
-use Rattle.transactions.specs.Requests.{CallsTo, CommitsTo, IsOpen}
+use Rattle.transactions.specs.Requests.{CallsTo, CommitsTo, IsCallRefusal, IsOpen}
 
 module _ {V : Type 0} where
   -- a live seat of the table whose actor has asked nothing so far
@@ -61,6 +61,7 @@ module _ {V : Type 0} where
     pub ready : IsReady t u
     pub since : HasBegunSince t u
     pub calls : IsOpen (opening_of t) s.seat → CallsTo (opening_of t) s.seat call u.seat r
+    pub kinds : IfErr r IsCallRefusal
     pub begins : begins_of u.seat ≡ begins_of s.seat
     pub none : standing (opening_of t) s.seat ≡ Rests → (r ≡ Err NoTransaction) × (u ≡ s)
 

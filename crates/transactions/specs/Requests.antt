@@ -9,7 +9,8 @@ use Rattle.seq_model.specs.declared.event.Request.{Request}
 use Rattle.seq_model.specs.declared.event.Request.TheVariants as request
 use Rattle.seq_model.specs.declared.record.Record.{Record}
 use Rattle.seq_model.specs.declared.refusal.Refusal.{Refusal}
-use Rattle.seq_model.specs.declared.refusal.Refusal.TheVariants.{OutOfMemory}
+use Rattle.seq_model.specs.declared.refusal.Refusal.TheVariants.{Moved, Busy, Stale, GateBusy, Invalid, OutOfMemory, NoSuch, TooLong}
+use Rattle.seq_model.specs.declared.refusal.Refusal.TheVariants.{NoTransaction}
 use Rattle.replay_log.specs.Seats.{World, actor_of}
 use Rattle.replay_log.specs.WorldAnswers.{IsAdmitted}
 use Rattle.tx_actor.specs.declared.actor.Told.{Told}
@@ -25,6 +26,26 @@ use Rattle.driven_turns.specs.Driven.{Driven, HasFound, HasTold, IsExhausted, Is
 abbrev pub has_some : Entries → Bool
 has_some [] = false
 has_some (e ∷ es) = true
+
+-- so a call may be refused
+abbrev pub IsCallRefusal : Refusal → Type 0
+IsCallRefusal NoTransaction = Unit {0}
+IsCallRefusal NoSuch = Unit {0}
+IsCallRefusal TooLong = Unit {0}
+IsCallRefusal (Moved l word) = Unit {0}
+IsCallRefusal (Stale l base word) = Unit {0}
+IsCallRefusal (GateBusy k) = Unit {0}
+IsCallRefusal OutOfMemory = Unit {0}
+IsCallRefusal cause = ⊥
+
+-- and so a commit
+abbrev pub IsCommitRefusal : Refusal → Type 0
+IsCommitRefusal NoTransaction = Unit {0}
+IsCommitRefusal (Busy l word) = Unit {0}
+IsCommitRefusal (Invalid l word) = Unit {0}
+IsCommitRefusal (GateBusy k) = Unit {0}
+IsCommitRefusal OutOfMemory = Unit {0}
+IsCommitRefusal cause = ⊥
 
 module _ {V : Type 0} where
   -- a transaction is open, and has made some calls
@@ -139,6 +160,7 @@ module _ {V : Type 0} where
     pub keeps : KeepsReceipts s u
     pub leaves : (calls : List (Call V × Reply V)) → standing o s ≡ Stands calls → CallLeaves o s calls call u r
     pub answered : IsAnswered o s (request.Call call) u (told_of r)
+    pub kinds : IfErr r IsCallRefusal
     pub began : IsOpen o u → (seat_in o u).rv ≡ (seat_in o s).rv
 
   -- ---- a commit
@@ -172,3 +194,4 @@ module _ {V : Type 0} where
     pub number : IfOk r (IsNumberOf (seat_in o s).rv (view u).clock)
     pub keeps : OnErr r (KeepsReceipts s u)
     pub ended : IfErr r (λ cause. IsOpen o s → IsEnded o s u cause)
+    pub kinds : IfErr r IsCommitRefusal
