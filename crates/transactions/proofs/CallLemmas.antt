@@ -43,6 +43,21 @@ use Rattle.tx_turns.proofs.AskedLemmas.{acts_taken}
 use Rattle.tx_turns.specs.Asked.{Answers, HasAsked}
 use Rattle.tx_turns.specs.Ties.{Ties}
 
+-- ---- how a call may be refused
+-- one that is mistaken is refused so
+of_mistake : (cause : Refusal) → IsMistaken cause → IsCallRefusal cause
+of_mistake NoSuch h = tt
+of_mistake TooLong h = tt
+of_mistake cause h = absurd h
+
+-- or it is given up
+of_cause : (cause : Refusal) → IsCallCause cause → IsCallRefusal cause
+of_cause (Moved l word) h = tt
+of_cause (Stale l base word) h = tt
+of_cause (GateBusy k) h = tt
+of_cause OutOfMemory h = tt
+of_cause cause h = absurd h
+
 module _ {V : Type 0} where
   -- an open transaction
   pub stands_at : (cs calls : List (Call V × Reply V)) (st : Stage V) → phase_at cs st ≡ Stands calls → st ≡ worlds.Open
@@ -54,12 +69,6 @@ module _ {V : Type 0} where
 
   stands_busy : (p : Phase V) (calls : List (Call V × Reply V)) → p ≡ Stands calls → p ≡ Rests → ⊥
   stands_busy p calls e h = (let k : Stands calls ≡ Rests = sym e ∙ h in cc)
-
-  -- one that is mistaken is refused so
-  of_mistake : (cause : Refusal) → IsMistaken cause → IsCallRefusal cause
-  of_mistake NoSuch h = tt
-  of_mistake TooLong h = tt
-  of_mistake cause h = absurd h
 
   -- ---- a call that is driven
   pub under_call : (x : Seat V) (calls : List (Call V × Reply V)) (call : Call V) → phase x ≡ Calls calls call → IsUnderWay x x None
@@ -92,14 +101,6 @@ module _ {V : Type 0} where
 
     call_keeps : (n : Told V) (d : Option (Record V)) → n ≢ told.Quiet → out u ≡ out m → Driven o m u n d → KeepsReceipts m u
     call_keeps n d ne outs D = turns_keep o m u n d (made_none n d (call_ends n d ne D.comes)).0 outs D
-
-    -- for which it may be
-    of_cause : (cause : Refusal) → IsCallCause cause → IsCallRefusal cause
-    of_cause (Moved l word) h = tt
-    of_cause (Stale l base word) h = tt
-    of_cause (GateBusy k) h = tt
-    of_cause OutOfMemory h = tt
-    of_cause cause h = absurd h
 
     call_kinds : (r : Result (Reply V) Refusal) (d : Option (Record V)) → Driven o m u (told_of r) d → IfErr r IsCallRefusal
     call_kinds (Ok r) d D = tt

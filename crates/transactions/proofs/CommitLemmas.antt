@@ -59,6 +59,14 @@ not_twice : (b : Bool) → not (not b) ≡ b
 not_twice true = refl
 not_twice false = refl
 
+-- for which it may be given up
+of_cause : (cause : Refusal) → IsCommitCause cause → IsCommitRefusal cause
+of_cause (Busy l word) h = tt
+of_cause (Invalid l word) h = tt
+of_cause (GateBusy k) h = tt
+of_cause OutOfMemory h = tt
+of_cause cause h = absurd h
+
 module _ {V : Type 0} where
   -- ---- the ask
   commits_at : (w : World V) (a : ℕ) (x : Seat V) (es : Entries) → let y = (commits w a x es).0.seats a in
@@ -129,14 +137,6 @@ module _ {V : Type 0} where
       subst (IsStamped (view m).clock) (sym ((λ i. actor_of (acts_taken o s m (Ask 0 Commit) has i) (has.0.1 i))
       ∙ ap (λ (st : Stage V). actor_of (ask_at w a x st Commit).0 a) at))
       (unstamped w a (view m).clock x (actor_of w a).writes place)
-
-  -- for which it may be given up
-  of_cause : (cause : Refusal) → IsCommitCause cause → IsCommitRefusal cause
-  of_cause (Busy l word) h = tt
-  of_cause (Invalid l word) h = tt
-  of_cause (GateBusy k) h = tt
-  of_cause OutOfMemory h = tt
-  of_cause cause h = absurd h
 
   pub under_commits : (x : Seat V) (calls : List (Call V × Reply V)) → phase x ≡ Commits calls → IsUnderWay x x None
   under_commits x calls on = subst (λ (p : Phase V). IsUnderWayFrom x p x None) (sym on) (inl (inl on, refl))
