@@ -135,8 +135,8 @@ pub fn run_file<
 /// that are left are balanced. `done`: with status 0 the words ask for help or the version, or they and the text are taken and `out` has
 /// grown by what the task that they name prints, once that was audited; what a run took goes to `err` where that is asked for. `unread`,
 /// `drawn`: nothing is read for refused words, nor where sessions are drawn. `told`, `starved`: what `err` grows by, but where a write to
-/// it fails, is the line of the fault, and `out` stays as it was (`memory`); or `err` stays as it was, and `out` has grown by a beginning of
-/// what the task prints, but not by all of it.
+/// it fails, is the line of the fault, and `out` stays as it was (`memory`); or `err` stays as it was, and `out` has grown by a beginning
+/// of what the task prints, but not by all of it.
 pub fn run_tool<H: Threads + Wait + Clock + Sync, R: Read, W: Write, E: Write, P: Progress + Sync>(
     rt: &H,
     alloc: Global,

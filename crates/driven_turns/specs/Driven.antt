@@ -148,8 +148,8 @@ module _ {V : Type 0} where
   MakesReceipt a r before now = (d : Option (Record V)) × (commits a r ≡ as_receipts a d) × (now ≡ latest d before)
 
   -- What is told of a request that stood so is true: a begin tells the clock that its seat knows by then, and a cause was found by one of
-  -- its own turns, or is want of memory, and is one for which such a request is given up. While nothing is told, a transaction that is being
-  -- given up has noted such a cause. One that was given up before is told the cause that it had.
+  -- its own turns, or is want of memory, and is one for which such a request is given up. While nothing is told, a transaction that is
+  -- being given up has noted such a cause. One that was given up before is told the cause that it had.
   abbrev pub IsTrue : World V → Seat V → Seat V → Phase V → Told V → Type 0
   IsTrue o s u Begins (told.Answered (answer.Begun rv)) = rv ≡ (view u).clock
   IsTrue o s u Begins (told.Refused cause) = IsExhausted o s u cause

@@ -38,7 +38,8 @@ use Rattle.tx_phases.specs.Phases.{AskMoves, CallMoves, Phase, Rests, Begins, St
 use Rattle.driven_turns.proofs.KeptLemmas.{Keeps, asks_keep}
 use Rattle.transactions.proofs.RequestLemmas.{asked_keeps, ended_back, found_told, then_keeps, told_back, turns_keep}
 use Rattle.driven_turns.specs.Driven.{Driven, IsCallCause, IsReason, IsTrue, seat_in, standing}
-use Rattle.transactions.specs.Requests.{CallLeaves, CallsTo, HasAborted, IsCallRefusal, IsCallTold, IsDriven, IsOpen, KeepsReceipts, told_of}
+use Rattle.transactions.specs.Requests.{CallLeaves, CallsTo, HasAborted, IsCallRefusal, IsCallTold, IsDriven, IsOpen, KeepsReceipts}
+use Rattle.transactions.specs.Requests.{told_of}
 use Rattle.tx_turns.proofs.AskedLemmas.{acts_taken}
 use Rattle.tx_turns.specs.Asked.{Answers, HasAsked}
 use Rattle.tx_turns.specs.Ties.{Ties}

@@ -1,3 +1,3 @@
 pub mod EntryLemmas
-mod FilterLemmas
+mod LinkLemmas
 pub mod PlaceLemmas

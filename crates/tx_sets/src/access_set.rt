@@ -1,9 +1,9 @@
 //! The values that a transaction read or is to write, by location.
-ghost use Rattle.std.specs.Prelude.{◌≡◌, ◌↔◌, ◌+◌, ◌<◌, ◌≤◌, [], Err, IsOk, Ok, IsSome, OnErr, OnOk, count_by, insert, length, nat_lt};
-ghost use Rattle.std.specs.Prelude.{true};
+ghost use Rattle.std.specs.Prelude.{◌≡◌, ◌↔◌, ◌+◌, ◌%◌, ◌<◌, ◌≤◌, [], false, true, count_by, insert, length, nat_lt};
+ghost use Rattle.std.specs.Prelude.{Err, IsOk, IsSome, None, Ok, OnErr, OnOk};
 ghost use Rattle.std.specs.Vec.{vec_capacity, vec_len};
 ghost use Rattle.tx_sets.specs.Entries.{IsRising, lookup, with_entry};
-ghost use Rattle.tx_sets.specs.AccessSet.{AreOrderly, IsBeyondLimit, IsPlaceOf, LacksRoom};
+ghost use Rattle.tx_sets.specs.AccessSet.{AreLinked, AreOrderly, IsBeyondLimit, IsHead, IsLast, IsPlaceOf, LacksLink, LacksRoom};
 ghost use Rattle.tx_sets.specs.declared.set_refusal.SetRefusal.TheVariants.{OutOfMemory, TooLong};
 
 use crate::set_refusal::SetRefusal;
@@ -16,8 +16,11 @@ pub const LOCATION_LIMIT: usize = 4096;
 // Up to so many entries a location is sought among all of them.
 const FEW: usize = 32;
 
-// How many flags the filter of a set has. Locations that are a multiple of it apart share one.
-const FLAGS: u32 = 64;
+// By how many entries a set grows at least.
+const LEAST: usize = 8;
+
+// By how many remainders the locations of a set are linked.
+const CHAINS: u32 = 256;
 
 /// Marks the set of what a transaction read.
 #[derive(Clone, Copy, Debug)]
@@ -37,23 +40,28 @@ pub type WriteSet = AccessSet<Writes>;
 #[derive(Drop)]
 pub struct AccessSet<Role> {
     entries: Vec<(u32, u64)>,
-    // A location whose flag is not set is not there, and `find` searches no entry for it.
-    filter: [bool; FLAGS as usize],
+    // The locations as they were put, each with one more than the place of the one before it that
+    // has its remainder, or 0. `find` searches the entries for these alone.
+    links: Vec<(u32, u16)>,
+    // For each remainder that a location has, one more than the place of the last one that has it.
+    // What stands at the other remainders says nothing, so `clear` leaves it.
+    heads: [u16; CHAINS as usize],
     // Where the location is that was sought last, or where it would go.
     sought: usize,
     role: PhantomData<Role>,
 }
 
 impl<Role> Model for AccessSet<Role> {
-    ghost use Rattle.std.specs.Prelude.{◌-◌};
+    ghost use Rattle.std.specs.Prelude.{◌≡◌, ◌≤◌, ◌-◌};
     ghost use Rattle.std.specs.Vec.{vec_capacity, vec_len};
-    ghost use Rattle.tx_sets.specs.AccessSet.{HasFilter, SetView};
+    ghost use Rattle.tx_sets.specs.AccessSet.{HasLinks, SetView};
 
     ghost Value = { SetView };
 
     ghost view = { λ a. record { entries = a.entries.items; room = vec_capacity a.entries - vec_len a.entries } };
 
-    ghost invariant = { λ a. HasFilter a.filter a.entries.items };
+    ghost invariant = { λ a. HasLinks a.heads a.links.items a.entries.items
+        × (vec_len a.links ≡ vec_len a.entries) × (vec_capacity a.entries ≤ vec_capacity a.links) };
 }
 
 impl<Role> AccessSet<Role> {
@@ -64,7 +72,8 @@ impl<Role> AccessSet<Role> {
     {
         AccessSet {
             entries: Vec::new(alloc),
-            filter: [false; FLAGS as usize],
+            links: Vec::new(alloc),
+            heads: [0; CHAINS as usize],
             sought: 0,
             role: PhantomData,
         }
@@ -89,7 +98,7 @@ impl<Role> AccessSet<Role> {
     pub fn find(&self, location: u32) -> Option<u64>
         ensures { result ≡ lookup self.now.entries location }
     {
-        if !self.filter[(location % FLAGS) as usize] {
+        if !self.has(location) {
             return None;
         }
         value_in(&self.entries, location, self.place_of(location))
@@ -129,9 +138,12 @@ impl<Role> AccessSet<Role> {
                 if self.entries.len() >= LOCATION_LIMIT {
                     return Err(SetRefusal::TooLong);
                 }
-                self.entries.reserve(1)?;
+                reserve_both(&mut self.links, &mut self.entries, 1)?;
                 insert_reserved(&mut self.entries, at, (location, value));
-                self.filter[(location % FLAGS) as usize] = true;
+                let remainder = location % CHAINS;
+                let before = last_of(&self.links, remainder, self.heads[remainder as usize]);
+                self.links.push_reserved((location, before));
+                self.heads[remainder as usize] = self.links.len() as u16;
             }
         }
         Ok(())
@@ -145,7 +157,7 @@ impl<Role> AccessSet<Role> {
         ensures reserved { more ≤ self.old.room → IsOk result }
         ensures err { OnErr result (self.new ≡ self.old) }
     {
-        self.entries.reserve(more)
+        reserve_both(&mut self.links, &mut self.entries, more)
     }
 
     /// Takes all entries out, for the next transaction. The memory stays.
@@ -154,7 +166,16 @@ impl<Role> AccessSet<Role> {
         ensures room { self.new.room ≡ self.old.room + length self.old.entries }
     {
         self.entries.clear();
-        self.filter = [false; FLAGS as usize];
+        self.links.clear();
+    }
+
+    // Whether a location is there, by the links alone.
+    fn has(&self, location: u32) -> bool
+        ensures { (result ≡ false) ↔ (lookup self.now.entries location ≡ None) }
+    {
+        let remainder = location % CHAINS;
+        let last = last_of(&self.links, remainder, self.heads[remainder as usize]);
+        is_linked(&self.links, location, last)
     }
 
     // Where the location is, or where it would go. Locations often come in rising order, so the
@@ -259,4 +280,77 @@ fn insert_reserved(entries: &mut Vec<(u32, u64)>, at: usize, entry: (u32, u64))
     } else {
         entries.insert(at, entry).unwrap();
     }
+}
+
+// One more than the place of the last location that has this remainder, or 0.
+fn last_of(links: &[(u32, u16)], remainder: u32, head: u16) -> u16
+    requires { IsHead links.now remainder head }
+    ensures { IsLast links.now remainder (length links.now) result }
+{
+    let place = head as usize;
+    if place == 0 || place > links.len() {
+        return 0;
+    }
+    if links[place - 1].0 % CHAINS != remainder {
+        return 0;
+    }
+    head
+}
+
+// Whether a location is linked. It is sought from the last one that has its remainder.
+fn is_linked(links: &[(u32, u16)], location: u32, last: u16) -> bool
+    requires linked { AreLinked links.now }
+    requires last { IsLast links.now (location % CHAINS) (length links.now) last }
+    ensures { (result ≡ false) ↔ LacksLink location links.now }
+{
+    let mut next = last as usize;
+    while next > 0 {
+        let link = links[next - 1];
+        if link.0 == location {
+            return true;
+        }
+        next = link.1 as usize;
+    }
+    false
+}
+
+// Makes room for as many links as entries.
+fn reserve_both(
+    links: &mut Vec<(u32, u16)>,
+    entries: &mut Vec<(u32, u64)>,
+    more: usize,
+) -> Result<(), AllocError>
+    requires lens { vec_len links.old ≡ vec_len entries.old }
+    requires capacities { vec_capacity entries.old ≤ vec_capacity links.old }
+    ensures links { links.new.items ≡ links.old.items }
+    ensures links_len { vec_len links.new ≡ vec_len links.old }
+    ensures items { entries.new.items ≡ entries.old.items }
+    ensures len { vec_len entries.new ≡ vec_len entries.old }
+    ensures ok { OnOk result (vec_len entries.new + more ≤ vec_capacity entries.new) }
+    ensures capacity { vec_capacity entries.old ≤ vec_capacity entries.new }
+    ensures both { vec_capacity entries.new ≤ vec_capacity links.new }
+    ensures succeeds { vec_len entries.old + more ≤ vec_capacity entries.old → IsOk result }
+    ensures full { OnErr result (vec_capacity entries.old < vec_len entries.old + more) }
+    ensures err { OnErr result (vec_capacity entries.new ≡ vec_capacity entries.old) }
+{
+    let len = entries.len();
+    if more <= entries.capacity() - len {
+        return Ok(());
+    }
+    let growth = growth(len, more);
+    links.reserve_exact(growth)?;
+    entries.reserve_exact(growth)
+}
+
+// By how many entries a set of so many grows: it doubles at least.
+fn growth(len: usize, more: usize) -> usize
+    ensures { more ≤ result }
+{
+    if more < LEAST && len < LEAST {
+        return LEAST;
+    }
+    if more < len {
+        return len;
+    }
+    more
 }

@@ -54,7 +54,8 @@ fn are_given_back(bookings: &[Booking], replies: &[Reply<Entry>], count: usize) 
     requires told { 2 * count ≤ length replies.now }
     ensures given { result ≡ true → (next : SessionProgram) → after (programs.give_all_back bookings.now next) replies.now
         ≡ after (programs.give_all_back (drop count bookings.now) next) (drop (2 * count) replies.now) }
-    ensures gives_up { result ≡ false → (next : SessionProgram) → asked (after (programs.give_all_back bookings.now next) replies.now) ≡ GiveUp }
+    ensures gives_up { result ≡ false → (next : SessionProgram)
+        → asked (after (programs.give_all_back bookings.now next) replies.now) ≡ GiveUp }
 {
     for i in 0..count {
         if !is_given_back(&bookings[i], &replies[2 * i]) {

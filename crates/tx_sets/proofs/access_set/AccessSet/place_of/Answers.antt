@@ -17,7 +17,7 @@ returns-then-count-eq0 g c =
       | then-count-eq0-via-then-count-eq0 w ↦ empty_place l c.self.inside.entries.items n
           (c.len-count.ensures ∙ c.self.inside.entries.ok.0) w.if-count-eq0.true
       | then-count-eq0-via-else-count-eq0+then-index-location w ↦
-          last_place l c.self.inside.entries.items n w.index.result.now c.self.invariant.orderly.rising
+          last_place l c.self.inside.entries.items n w.index.result.now c.self.invariant.0.orderly.rising
           (c.len-count.ensures ∙ c.self.inside.entries.ok.0)
           (subst (λ (e : ℕ × ℕ). e.0 < l) w.index.ensures w.if-index-location.true)
     ])
@@ -28,4 +28,4 @@ returns g c =
     let by_key = facts.position (λ entry. entry.0) (answers_always _ _ _ (λ f a r g called. search rules)) in
     let same : c.deref-2.result.now ≡ c.args.self.now.entries = c.deref-2.ensures.value ∙ ap (λ (v : SetView). v.entries) c.self.view_is in
     subst (λ es. IsPlaceOf c.args.location es c.binary_search_by_key.result) same
-    (searched c.args.location _ (subst IsRising (sym c.deref-2.ensures.value) c.self.invariant.orderly.rising) _ facts.bound by_key)
+    (searched c.args.location _ (subst IsRising (sym c.deref-2.ensures.value) c.self.invariant.0.orderly.rising) _ facts.bound by_key)
