@@ -13,7 +13,7 @@ use Rattle.seq_model.specs.declared.event.Request.{Request}
 use Rattle.seq_model.specs.declared.event.Request.TheVariants as request
 use Rattle.seq_model.specs.declared.record.Record.{Record}
 use Rattle.seq_model.specs.declared.refusal.Refusal.{Refusal}
-use Rattle.seq_model.specs.declared.refusal.Refusal.TheVariants.{GateBusy, Moved, NoSuch, OutOfMemory, Stale, TooLong}
+use Rattle.seq_model.specs.declared.refusal.Refusal.TheVariants.{OutOfMemory}
 use Rattle.replay_log.proofs.AskLemmas.{only_abort}
 use Rattle.replay_log.proofs.EventLemmas.{opened_linked, run_linked}
 use Rattle.replay_log.specs.Seats as worlds
@@ -36,6 +36,7 @@ use Rattle.tx_phases.proofs.PhaseLemmas.{asks_move}
 use Rattle.tx_phases.specs.Courses.{ComesTo, EndsFrom, IsUnderWay, IsUnderWayFrom}
 use Rattle.tx_phases.specs.Phases.{AskMoves, CallMoves, Phase, Rests, Begins, Stands, Calls, Ends, IsMistaken, phase, phase_at}
 use Rattle.driven_turns.proofs.KeptLemmas.{Keeps, asks_keep}
+use Rattle.transactions.proofs.KindLemmas.{call_given_up, call_mistaken, call_without_memory}
 use Rattle.transactions.proofs.RequestLemmas.{asked_keeps, ended_back, found_told, then_keeps, told_back, turns_keep}
 use Rattle.driven_turns.specs.Driven.{Driven, IsCallCause, IsReason, IsTrue, seat_in, standing}
 use Rattle.transactions.specs.Requests.{CallLeaves, CallsTo, HasAborted, IsCallRefusal, IsCallTold, IsDriven, IsOpen, KeepsReceipts}
@@ -43,21 +44,6 @@ use Rattle.transactions.specs.Requests.{told_of}
 use Rattle.tx_turns.proofs.AskedLemmas.{acts_taken}
 use Rattle.tx_turns.specs.Asked.{Answers, HasAsked}
 use Rattle.tx_turns.specs.Ties.{Ties}
-
--- ---- how a call may be refused
--- one that is mistaken is refused so
-of_mistake : (cause : Refusal) → IsMistaken cause → IsCallRefusal cause
-of_mistake NoSuch h = tt
-of_mistake TooLong h = tt
-of_mistake cause h = absurd h
-
--- or it is given up
-of_cause : (cause : Refusal) → IsCallCause cause → IsCallRefusal cause
-of_cause (Moved l word) h = tt
-of_cause (Stale l base word) h = tt
-of_cause (GateBusy k) h = tt
-of_cause OutOfMemory h = tt
-of_cause cause h = absurd h
 
 module _ {V : Type 0} where
   -- an open transaction
@@ -108,8 +94,8 @@ module _ {V : Type 0} where
     call_kinds (Err cause) d D = by_truth (subst (λ (k : Phase V). IsTrue o m u k (told.Refused cause)) at D.is_true)
       where
         by_truth : (IsReason o m u cause × IsCallCause cause) ⊎ ((standing o u ≡ Stands calls) × IsMistaken cause) → IsCallRefusal cause
-        by_truth (inl reason) = of_cause cause reason.1
-        by_truth (inr stays) = of_mistake cause stays.1
+        by_truth (inl reason) = call_given_up cause reason.1
+        by_truth (inr stays) = call_mistaken cause stays.1
 
     call_left : (r : Result (Reply V) Refusal) (d : Option (Record V)) → Driven o m u (told_of r) d → CallLeaves o m calls call u r
     call_left (Ok r) d D = (call_ends (told.Answered (answer.Replied r)) d (told_some (Ok r)) D.comes).0
@@ -170,7 +156,7 @@ module _ {V : Type 0} where
 
     kinds_now : (r : Result (Reply V) Refusal) → Answers o s q (told_of r) → IfErr r IsCallRefusal
     kinds_now (Ok reply) is = tt
-    kinds_now (Err cause) is = of_mistake cause (moves opened.0 opened.1 (told.Refused cause) is).1
+    kinds_now (Err cause) is = call_mistaken cause (moves opened.0 opened.1 (told.Refused cause) is).1
 
     began_asked : (standing o m ≡ Rests → ⊥) → (seat_in o m).rv ≡ (seat_in o s).rv
     began_asked busy = kept (asks_keep (acts o s) a q at_open)
@@ -231,6 +217,6 @@ module _ {V : Type 0} where
     keeps = kept;
     leaves = λ calls on. inr (rests, inr (refl, inr aborted));
     answered = inr (inr (refl, admitted));
-    kinds = tt;
+    kinds = call_without_memory;
     began = λ still. absurd (stands_busy (standing o u) still.0 still.1 rests);
   }

@@ -17,7 +17,7 @@ use Rattle.seq_model.specs.declared.event.Notice.TheVariants.{Answered, Refused}
 use Rattle.seq_model.specs.declared.event.Request.TheVariants.{Commit}
 use Rattle.seq_model.specs.declared.record.Record.{Record}
 use Rattle.seq_model.specs.declared.refusal.Refusal.{Refusal}
-use Rattle.seq_model.specs.declared.refusal.Refusal.TheVariants.{Busy, GateBusy, Invalid, OutOfMemory}
+use Rattle.seq_model.specs.declared.refusal.Refusal.TheVariants.{OutOfMemory}
 use Rattle.replay_log.proofs.ActionLemmas.{ask_goes}
 use Rattle.replay_log.proofs.SeatLemmas.{StageOk}
 use Rattle.replay_log.specs.Contents.{content}
@@ -36,8 +36,9 @@ use Rattle.tx_phases.specs.Courses.{ComesTo, EndsFrom, IsUnderWay, IsUnderWayFro
 use Rattle.tx_phases.specs.Phases.{Phase, Rests, Stands, Commits, phase, phase_at}
 use Rattle.transactions.proofs.CallLemmas.{stands_at}
 use Rattle.driven_turns.proofs.KeptLemmas.{Keeps, asks_keep}
+use Rattle.transactions.proofs.KindLemmas.{commit_given_up, commit_without_memory}
 use Rattle.transactions.proofs.RequestLemmas.{asked_keeps, ended_back, found_told, then_keeps, told_back, turns_keep}
-use Rattle.driven_turns.specs.Driven.{Driven, HasTold, IsCommitCause, IsNumberOf, IsStamped, IsStampedAt, IsTrue, KnowsNumber}
+use Rattle.driven_turns.specs.Driven.{Driven, HasTold, IsNumberOf, IsStamped, IsStampedAt, IsTrue, KnowsNumber}
 use Rattle.driven_turns.specs.Driven.{is_closing, seat_in, standing}
 use Rattle.transactions.specs.Requests.{CommitsTo, HasAborted, HasCommitted, IsCommitRefusal, IsCommitTold, IsEnded, KeepsReceipts}
 use Rattle.transactions.specs.Requests.{has_some, has_written}
@@ -58,14 +59,6 @@ closes_first k y (e ∷ es) at = subst (IsStampedAt k y) (sym at) tt
 not_twice : (b : Bool) → not (not b) ≡ b
 not_twice true = refl
 not_twice false = refl
-
--- for which it may be given up
-of_cause : (cause : Refusal) → IsCommitCause cause → IsCommitRefusal cause
-of_cause (Busy l word) h = tt
-of_cause (Invalid l word) h = tt
-of_cause (GateBusy k) h = tt
-of_cause OutOfMemory h = tt
-of_cause cause h = absurd h
 
 module _ {V : Type 0} where
   -- ---- the ask
@@ -191,7 +184,7 @@ module _ {V : Type 0} where
         let h = subst (λ (p : Phase V). EndsFrom a (seat_in o s) p (Refused a cause) (seat_in o u) None) on D.comes in
         let truth = subst (λ (p : Phase V). IsTrue o s u p (told.Refused cause)) on D.is_true in
         let tells = D.tells (λ e. cc) in
-        (turns_keep o s u (told.Refused cause) None refl outs D, (h.0, found_told o s u cause truth.0 tells), of_cause cause truth.1)
+        (turns_keep o s u (told.Refused cause) None refl outs D, (h.0, found_told o s u cause truth.0 tells), commit_given_up cause truth.1)
 
     -- without a record it was refused
     none_told : (n : Told V) → n ≢ told.Quiet → EndsFrom a (seat_in o s) (Commits calls) (notice_of a n) (seat_in o u) None
@@ -265,5 +258,5 @@ module _ {V : Type 0} where
     number = tt;
     keeps = keeps;
     ended = λ _. (rests, inr (memory, inr aborted));
-    kinds = subst IsCommitRefusal (sym memory) tt;
+    kinds = commit_without_memory cause memory;
   }

@@ -1,4 +1,5 @@
 pub mod RequestLemmas
+pub mod KindLemmas
 pub mod CallLemmas
 pub mod CommitLemmas
 pub mod ReadyLemmas

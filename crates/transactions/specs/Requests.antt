@@ -28,7 +28,7 @@ has_some [] = false
 has_some (e ∷ es) = true
 
 -- so a call may be refused
-abbrev pub IsCallRefusal : Refusal → Type 0
+unfoldable pub IsCallRefusal : Refusal → Type 0
 IsCallRefusal NoTransaction = Unit {0}
 IsCallRefusal NoSuch = Unit {0}
 IsCallRefusal TooLong = Unit {0}
@@ -39,7 +39,7 @@ IsCallRefusal OutOfMemory = Unit {0}
 IsCallRefusal cause = ⊥
 
 -- and so a commit
-abbrev pub IsCommitRefusal : Refusal → Type 0
+unfoldable pub IsCommitRefusal : Refusal → Type 0
 IsCommitRefusal NoTransaction = Unit {0}
 IsCommitRefusal (Busy l word) = Unit {0}
 IsCommitRefusal (Invalid l word) = Unit {0}
