@@ -54,7 +54,7 @@ fn key_place_in<V: Value>(base: &Base<V>, op: &Op<V>) -> Option<u32>
 fn is_unread(words: &Actor, location: u32) -> bool
     ensures { result ≡ true → lookup words.now.reads.entries location ≡ None }
 {
-    words.reads.find(location).is_none()
+    !words.reads.contains(location)
 }
 
 impl<V: Value> TxActor<V> {

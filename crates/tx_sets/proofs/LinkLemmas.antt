@@ -1,11 +1,11 @@
 -- The links of a set: the locations that are linked are those that have an entry. What is put anew is linked to the last location that has
--- its remainder, and the links of the others stay.
-use Rattle.std.proofs.Common.{◌≡◌, ℕ, ◌+◌, ◌-◌, ◌<◌, ◌≤◌, ◌%◌, List, [], ◌∷◌, ◌++◌, get_or, set, length, None, ap, sym, ◌∙◌, subst}
+-- its chain, and the links of the others stay.
+use Rattle.std.proofs.Common.{◌≡◌, ℕ, ◌+◌, ◌-◌, ◌<◌, ◌≤◌, List, [], ◌∷◌, ◌++◌, get_or, set, length, None, ap, sym, ◌∙◌, subst}
 use Rattle.std.proofs.Common.{arith, inl, inr, Ok, Err}
 use Rattle.std.specs.List.{insert}
 use Rattle.std.proofs.lemmas.Bool.{cases_eq}
 use Rattle.std.proofs.lemmas.List.{get_or-set_same, get_or-set_other, get_or_append_left, get_or_at, length-append}
-use Rattle.tx_sets.specs.AccessSet.{AreLinked, HasLinks, HaveSameLocations, IsHead, IsLast, IsPlaceOf}
+use Rattle.tx_sets.specs.AccessSet.{AreLinked, HasLinks, HaveSameLocations, IsHead, IsLast, IsPlaceOf, chain_of}
 use Rattle.tx_sets.specs.declared.access_set.TheConstants.{LOCATION_LIMIT, CHAINS}
 use Rattle.tx_sets.specs.Entries.{Entries, lookup, with_entry, IsRising}
 use Rattle.tx_sets.proofs.PlaceLemmas.{lookup_there, orderly_there, orderly_new, put_new, write_there}
@@ -31,9 +31,9 @@ last_stays : (links : Entries) (x : ℕ × ℕ) (r n p : ℕ) → n ≤ length l
 last_stays links x r n p within is = (
   is.0,
   (λ k d inside same. is.1 k d inside
-      (ap (λ (e : ℕ × ℕ). e.0 % CHAINS) (sym (get_or_append_left links (x ∷ []) d k (omega (arith, inside, within)))) ∙ same)),
+      (ap (λ (e : ℕ × ℕ). chain_of e.0) (sym (get_or_append_left links (x ∷ []) d k (omega (arith, inside, within)))) ∙ same)),
   (λ d some.
-      ap (λ (e : ℕ × ℕ). e.0 % CHAINS) (get_or_append_left links (x ∷ []) d (p - 1) (omega (arith, some, is.0, within)))
+      ap (λ (e : ℕ × ℕ). chain_of e.0) (get_or_append_left links (x ∷ []) d (p - 1) (omega (arith, some, is.0, within)))
       ∙ is.2 d some),
 )
 
@@ -41,29 +41,29 @@ length_more : (links : Entries) (x : ℕ × ℕ) → length (links ++ x ∷ []) 
 length_more links x = length-append links (x ∷ [])
 
 -- the heads once one more is linked
-heads_more : (heads : List ℕ) (links : Entries) (l b m : ℕ) → l % CHAINS < length heads → m ≡ length links + 1
+heads_more : (heads : List ℕ) (links : Entries) (l b m : ℕ) → chain_of l < length heads → m ≡ length links + 1
     → ((r : ℕ) → r < CHAINS → IsHead links r (get_or heads r 0)) → (r : ℕ) → r < CHAINS
-    → IsHead (links ++ (l, b) ∷ []) r (get_or (set heads (l % CHAINS) m) r 0)
+    → IsHead (links ++ (l, b) ∷ []) r (get_or (set heads (chain_of l) m) r 0)
 heads_more heads links l b m inside is before r lt k d within like =
     let all = length_more links (l, b) in
-    elim (cases_eq r (l % CHAINS)) [
+    elim (cases_eq r (chain_of l)) [
       | inl q ↦
-          let head : get_or (set heads (l % CHAINS) m) r 0 ≡ m =
-          ap (λ (k : ℕ). get_or (set heads (l % CHAINS) m) k 0) q ∙ get_or-set_same heads (l % CHAINS) m 0 inside in (
+          let head : get_or (set heads (chain_of l) m) r 0 ≡ m =
+          ap (λ (k : ℕ). get_or (set heads (chain_of l) m) k 0) q ∙ get_or-set_same heads (chain_of l) m 0 inside in (
             omega (arith, head, is, all),
             (λ k d below same. omega (arith, below, head, is, all)),
             (λ d some.
-                ap (λ (e : ℕ × ℕ). e.0 % CHAINS)
-                (get_or_at links (l, b) [] d (get_or (set heads (l % CHAINS) m) r 0 - 1) (omega (arith, head, is)))
+                ap (λ (e : ℕ × ℕ). chain_of e.0)
+                (get_or_at links (l, b) [] d (get_or (set heads (chain_of l) m) r 0 - 1) (omega (arith, head, is)))
                 ∙ sym q),
           )
       | inr ne ↦
-          let head : get_or (set heads (l % CHAINS) m) r 0 ≡ get_or heads r 0 = get_or-set_other heads (l % CHAINS) r m 0 ne in
-          let apart : (j : ℕ) (c : ℕ × ℕ) → (get_or (links ++ (l, b) ∷ []) j c).0 % CHAINS ≡ r → j ≡ length links → ⊥ =
-          λ j c same end. ne (sym same ∙ ap (λ (e : ℕ × ℕ). e.0 % CHAINS) (get_or_at links (l, b) [] c j (sym end))) in
+          let head : get_or (set heads (chain_of l) m) r 0 ≡ get_or heads r 0 = get_or-set_other heads (chain_of l) r m 0 ne in
+          let apart : (j : ℕ) (c : ℕ × ℕ) → chain_of (get_or (links ++ (l, b) ∷ []) j c).0 ≡ r → j ≡ length links → ⊥ =
+          λ j c same end. ne (sym same ∙ ap (λ (e : ℕ × ℕ). chain_of e.0) (get_or_at links (l, b) [] c j (sym end))) in
           let below : k < length links = omega (arith, within, all, apart k d like) in
           let old = before r lt k d below
-          (ap (λ (e : ℕ × ℕ). e.0 % CHAINS) (sym (get_or_append_left links ((l, b) ∷ []) d k below)) ∙ like) in
+          (ap (λ (e : ℕ × ℕ). chain_of e.0) (sym (get_or_append_left links ((l, b) ∷ []) d k below)) ∙ like) in
           let stays = last_stays links (l, b) r (length links) (get_or heads r 0) (omega arith) old in
           subst (λ (p : ℕ). IsLast (links ++ (l, b) ∷ []) r (length (links ++ (l, b) ∷ [])) p) (sym head) (
             omega (arith, stays.0, all),
@@ -72,20 +72,20 @@ heads_more heads links l b m inside is before r lt k d within like =
           )
     ]
 
-linked_more : (links : Entries) (l b : ℕ) → AreLinked links → IsLast links (l % CHAINS) (length links) b → AreLinked (links ++ (l, b) ∷ [])
+linked_more : (links : Entries) (l b : ℕ) → AreLinked links → IsLast links (chain_of l) (length links) b → AreLinked (links ++ (l, b) ∷ [])
 linked_more links l b linked last i d inside =
     let all = length_more links (l, b) in
     elim (cases_eq i (length links)) [
       | inl q ↦
           let x : get_or (links ++ (l, b) ∷ []) i d ≡ (l, b) = get_or_at links (l, b) [] d i (sym q) in
-          subst (λ (e : ℕ × ℕ). IsLast (links ++ (l, b) ∷ []) (e.0 % CHAINS) i e.1) (sym x)
-          (subst (λ (n : ℕ). IsLast (links ++ (l, b) ∷ []) (l % CHAINS) n b) (sym q)
-          (last_stays links (l, b) (l % CHAINS) (length links) b (omega arith) last))
+          subst (λ (e : ℕ × ℕ). IsLast (links ++ (l, b) ∷ []) (chain_of e.0) i e.1) (sym x)
+          (subst (λ (n : ℕ). IsLast (links ++ (l, b) ∷ []) (chain_of l) n b) (sym q)
+          (last_stays links (l, b) (chain_of l) (length links) b (omega arith) last))
       | inr ne ↦
           let x : get_or (links ++ (l, b) ∷ []) i d ≡ get_or links i d =
           get_or_append_left links ((l, b) ∷ []) d i (omega (arith, inside, all, ne)) in
-          subst (λ (e : ℕ × ℕ). IsLast (links ++ (l, b) ∷ []) (e.0 % CHAINS) i e.1) (sym x)
-          (last_stays links (l, b) ((get_or links i d).0 % CHAINS) i (get_or links i d).1 (omega (arith, inside, all, ne))
+          subst (λ (e : ℕ × ℕ). IsLast (links ++ (l, b) ∷ []) (chain_of e.0) i e.1) (sym x)
+          (last_stays links (l, b) (chain_of (get_or links i d).0) i (get_or links i d).1 (omega (arith, inside, all, ne))
           (linked i d (omega (arith, inside, all, ne))))
     ]
 
@@ -143,17 +143,18 @@ links_there es heads links l v i d are place is =
     }
 
 -- a new entry, whose location is then linked
-pub links_new : (es fs gs : Entries) (heads : List ℕ) (links more : Entries) (l v i b m : ℕ) → HasLinks heads links es
-    → l % CHAINS < length heads → IsPlaceOf l es (Err i) → fs ≡ es → gs ≡ insert fs i (l, v) → length es < LOCATION_LIMIT
-    → IsLast links (l % CHAINS) (length links) b → m ≡ length links + 1 → more ≡ links ++ (l, b) ∷ []
-    → HasLinks (set heads (l % CHAINS) m) more gs
-links_new es fs gs heads links more l v i b m are inside place same is fewer last end put =
-    subst (λ (z : Entries). HasLinks (set heads (l % CHAINS) m) z gs) (sym put)
+pub links_new : (es fs gs : Entries) (heads : List ℕ) (links more : Entries) (l v i q b m : ℕ) → HasLinks heads links es
+    → q ≡ chain_of l → q < length heads → IsPlaceOf l es (Err i) → fs ≡ es → gs ≡ insert fs i (l, v) → length es < LOCATION_LIMIT
+    → IsLast links q (length links) b → m ≡ length links + 1 → more ≡ links ++ (l, b) ∷ [] → HasLinks (set heads q m) more gs
+links_new es fs gs heads links more l v i q b m are at inside place same is fewer last end put =
+    let within : chain_of l < length heads = omega (arith, inside, at) in
+    subst (λ (z : Entries). HasLinks (set heads q m) z gs) (sym put)
+    (subst (λ (c : ℕ). HasLinks (set heads c m) (links ++ (l, b) ∷ []) gs) (sym at)
     (record {
       orderly = orderly_new es fs gs l v i are.orderly place same is fewer;
-      headed = heads_more heads links l b m inside end are.headed;
-      linked = linked_more links l b are.linked last;
+      headed = heads_more heads links l b m within end are.headed;
+      linked = linked_more links l b are.linked (subst (λ (c : ℕ). IsLast links c (length links) b) at last);
       same =
           subst (HaveSameLocations (links ++ (l, b) ∷ [])) (sym (put_new es fs gs l v i place same is))
           (newly_same es links l v b are.same);
-    })
+    }))

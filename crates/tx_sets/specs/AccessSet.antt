@@ -1,9 +1,9 @@
 -- What a set of accesses holds, and what a put needs.
-use Rattle.std.specs.Prelude.{◌≡◌, ℕ, ◌<◌, ◌≤◌, ◌-◌, ◌%◌, ◌↔◌, List, get_or, length, None, Result, MatchResult}
+use Rattle.std.specs.Prelude.{◌≡◌, ℕ, ◌<◌, ◌≤◌, ◌-◌, ◌*◌, ◌/◌, ◌%◌, ◌↔◌, List, get_or, length, None, Result, MatchResult}
 use Rattle.std.specs.List.{HoldsAt}
 use Rattle.std.specs.List.Sorted.{IsPartitionPoint}
 use Rattle.tx_sets.specs.Entries.{Entries, IsRising, lookup}
-use Rattle.tx_sets.specs.declared.access_set.TheConstants.{LOCATION_LIMIT, CHAINS}
+use Rattle.tx_sets.specs.declared.access_set.TheConstants.{LOCATION_LIMIT, CHAINS, SPREAD}
 
 -- the entries, and how many more there is memory for
 pub record SetView : Type 0 where
@@ -15,19 +15,23 @@ pub record AreOrderly (es : Entries) : Type 0 where
   pub rising : IsRising es
   pub within : length es ≤ LOCATION_LIMIT
 
--- one more than the last place below `n` of a location with this remainder, or 0 where there is none
+-- the chain in which a location is linked
+unfoldable pub chain_of : ℕ → ℕ
+chain_of location = location * SPREAD % 4294967296 / 16777216
+
+-- one more than the last place below `n` of a location of this chain, or 0 where there is none
 abbrev pub IsLast : Entries → ℕ → ℕ → ℕ → Type 0
-IsLast links r n p =
-    (p ≤ n) × ((k : ℕ) (d : ℕ × ℕ) → k < n → (get_or links k d).0 % CHAINS ≡ r → k < p)
-    × ((d : ℕ × ℕ) → 0 < p → (get_or links (p - 1) d).0 % CHAINS ≡ r)
+IsLast links c n p =
+    (p ≤ n) × ((k : ℕ) (d : ℕ × ℕ) → k < n → chain_of (get_or links k d).0 ≡ c → k < p)
+    × ((d : ℕ × ℕ) → 0 < p → chain_of (get_or links (p - 1) d).0 ≡ c)
 
--- the same of all locations, where one has this remainder
+-- the same of all locations, where one is of this chain
 abbrev pub IsHead : Entries → ℕ → ℕ → Type 0
-IsHead links r p = (k : ℕ) (d : ℕ × ℕ) → k < length links → (get_or links k d).0 % CHAINS ≡ r → IsLast links r (length links) p
+IsHead links c p = (k : ℕ) (d : ℕ × ℕ) → k < length links → chain_of (get_or links k d).0 ≡ c → IsLast links c (length links) p
 
--- each location is linked to the last one before it with its remainder
+-- each location is linked to the last one before it in its chain
 abbrev pub AreLinked : Entries → Type 0
-AreLinked links = (i : ℕ) (d : ℕ × ℕ) → i < length links → IsLast links ((get_or links i d).0 % CHAINS) i (get_or links i d).1
+AreLinked links = (i : ℕ) (d : ℕ × ℕ) → i < length links → IsLast links (chain_of (get_or links i d).0) i (get_or links i d).1
 
 -- a location that is not among the linked ones
 abbrev pub LacksLink : ℕ → Entries → Type 0
@@ -37,10 +41,10 @@ LacksLink location links = (k : ℕ) (d : ℕ × ℕ) → k < length links → (
 abbrev pub HaveSameLocations : Entries → Entries → Type 0
 HaveSameLocations links es = (location : ℕ) → LacksLink location links ↔ (lookup es location ≡ None)
 
--- each location that is there, and no other, is linked, and reached from the head of its remainder
+-- each location that is there, and no other, is linked, and reached from the head of its chain
 pub record HasLinks (heads : List ℕ) (links : Entries) (es : Entries) : Type 0 where
   pub orderly : AreOrderly es
-  pub headed : (r : ℕ) → r < CHAINS → IsHead links r (get_or heads r 0)
+  pub headed : (c : ℕ) → c < CHAINS → IsHead links c (get_or heads c 0)
   pub linked : AreLinked links
   pub same : HaveSameLocations links es
 

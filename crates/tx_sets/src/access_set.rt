@@ -1,9 +1,10 @@
 //! The values that a transaction read or is to write, by location.
-ghost use Rattle.std.specs.Prelude.{◌≡◌, ◌↔◌, ◌+◌, ◌%◌, ◌<◌, ◌≤◌, [], false, true, count_by, insert, length, nat_lt};
+ghost use Rattle.std.specs.Prelude.{◌≡◌, ◌↔◌, ◌+◌, ◌<◌, ◌≤◌, [], false, true, count_by, insert, length, nat_lt};
 ghost use Rattle.std.specs.Prelude.{Err, IsOk, IsSome, None, Ok, OnErr, OnOk};
 ghost use Rattle.std.specs.Vec.{vec_capacity, vec_len};
 ghost use Rattle.tx_sets.specs.Entries.{IsRising, lookup, with_entry};
 ghost use Rattle.tx_sets.specs.AccessSet.{AreLinked, AreOrderly, IsBeyondLimit, IsHead, IsLast, IsPlaceOf, LacksLink, LacksRoom};
+ghost use Rattle.tx_sets.specs.AccessSet.{chain_of};
 ghost use Rattle.tx_sets.specs.declared.set_refusal.SetRefusal.TheVariants.{OutOfMemory, TooLong};
 
 use crate::set_refusal::SetRefusal;
@@ -19,8 +20,11 @@ const FEW: usize = 32;
 // By how many entries a set grows at least.
 const LEAST: usize = 8;
 
-// By how many remainders the locations of a set are linked.
-const CHAINS: u32 = 256;
+// By how many chains the locations of a set are linked.
+const CHAINS: usize = 256;
+
+// 2^32 by the golden ratio: its multiples lie apart from one another.
+const SPREAD: u32 = 2_654_435_769;
 
 /// Marks the set of what a transaction read.
 #[derive(Clone, Copy, Debug)]
@@ -40,12 +44,12 @@ pub type WriteSet = AccessSet<Writes>;
 #[derive(Drop)]
 pub struct AccessSet<Role> {
     entries: Vec<(u32, u64)>,
-    // The locations as they were put, each with one more than the place of the one before it that
-    // has its remainder, or 0. `find` searches the entries for these alone.
+    // The locations as they were put, each with one more than the place of the one before it in its
+    // chain, or 0. `find` searches the entries for these alone.
     links: Vec<(u32, u16)>,
-    // For each remainder that a location has, one more than the place of the last one that has it.
-    // What stands at the other remainders says nothing, so `clear` leaves it.
-    heads: [u16; CHAINS as usize],
+    // Of each chain that has a location, one more than the place of its last one. What stands for
+    // the other chains says nothing, so `clear` leaves it.
+    heads: [u16; CHAINS],
     // Where the location is that was sought last, or where it would go.
     sought: usize,
     role: PhantomData<Role>,
@@ -73,7 +77,7 @@ impl<Role> AccessSet<Role> {
         AccessSet {
             entries: Vec::new(alloc),
             links: Vec::new(alloc),
-            heads: [0; CHAINS as usize],
+            heads: [0; CHAINS],
             sought: 0,
             role: PhantomData,
         }
@@ -94,11 +98,20 @@ impl<Role> AccessSet<Role> {
         self.entries.as_slice()
     }
 
+    /// Whether a location is there. No entry is searched for it.
+    pub fn contains(&self, location: u32) -> bool
+        ensures { (result ≡ false) ↔ (lookup self.now.entries location ≡ None) }
+    {
+        let chain = chain_of(location);
+        let last = last_of(&self.links, chain, self.heads[chain]);
+        is_linked(&self.links, location, last)
+    }
+
     /// The value of a location.
     pub fn find(&self, location: u32) -> Option<u64>
         ensures { result ≡ lookup self.now.entries location }
     {
-        if !self.has(location) {
+        if !self.contains(location) {
             return None;
         }
         value_in(&self.entries, location, self.place_of(location))
@@ -140,10 +153,10 @@ impl<Role> AccessSet<Role> {
                 }
                 reserve_both(&mut self.links, &mut self.entries, 1)?;
                 insert_reserved(&mut self.entries, at, (location, value));
-                let remainder = location % CHAINS;
-                let before = last_of(&self.links, remainder, self.heads[remainder as usize]);
+                let chain = chain_of(location);
+                let before = last_of(&self.links, chain, self.heads[chain]);
                 self.links.push_reserved((location, before));
-                self.heads[remainder as usize] = self.links.len() as u16;
+                self.heads[chain] = self.links.len() as u16;
             }
         }
         Ok(())
@@ -167,15 +180,6 @@ impl<Role> AccessSet<Role> {
     {
         self.entries.clear();
         self.links.clear();
-    }
-
-    // Whether a location is there, by the links alone.
-    fn has(&self, location: u32) -> bool
-        ensures { (result ≡ false) ↔ (lookup self.now.entries location ≡ None) }
-    {
-        let remainder = location % CHAINS;
-        let last = last_of(&self.links, remainder, self.heads[remainder as usize]);
-        is_linked(&self.links, location, last)
     }
 
     // Where the location is, or where it would go. Locations often come in rising order, so the
@@ -282,25 +286,34 @@ fn insert_reserved(entries: &mut Vec<(u32, u64)>, at: usize, entry: (u32, u64))
     }
 }
 
-// One more than the place of the last location that has this remainder, or 0.
-fn last_of(links: &[(u32, u16)], remainder: u32, head: u16) -> u16
-    requires { IsHead links.now remainder head }
-    ensures { IsLast links.now remainder (length links.now) result }
+// The chain of a location. Locations at equal distances are spread over all chains.
+#[tactic(auto, unfolding(crate::specs::AccessSet::chain_of))]
+fn chain_of(location: u32) -> usize
+    ensures chain { result ≡ chain_of location }
+    ensures within { result < CHAINS }
+{
+    (location.wrapping_mul(SPREAD) / 0x100_0000) as usize
+}
+
+// One more than the place of the last location of this chain, or 0.
+fn last_of(links: &[(u32, u16)], chain: usize, head: u16) -> u16
+    requires { IsHead links.now chain head }
+    ensures { IsLast links.now chain (length links.now) result }
 {
     let place = head as usize;
     if place == 0 || place > links.len() {
         return 0;
     }
-    if links[place - 1].0 % CHAINS != remainder {
+    if chain_of(links[place - 1].0) != chain {
         return 0;
     }
     head
 }
 
-// Whether a location is linked. It is sought from the last one that has its remainder.
+// Whether a location is linked. It is sought from the last one of its chain.
 fn is_linked(links: &[(u32, u16)], location: u32, last: u16) -> bool
     requires linked { AreLinked links.now }
-    requires last { IsLast links.now (location % CHAINS) (length links.now) last }
+    requires last { IsLast links.now (chain_of location) (length links.now) last }
     ensures { (result ≡ false) ↔ LacksLink location links.now }
 {
     let mut next = last as usize;

@@ -10,11 +10,11 @@
 //! and no search is made. Else, among a few entries, as most transactions have, the place of a
 //! location is the number of entries below it, counted without a branch; among more it is found by
 //! halves. A set keeps the place that was sought last, so a location that is put right after it was
-//! sought is not searched again. And it keeps its locations once more, as they were put, linked to
-//! those that have the same remainder by 256: `find` walks these links, and searches the entries
-//! for a location that is there and for no other. TL2 has a filter there, which takes some locations
-//! for others. A set that is cleared keeps its memory for the next transaction, so a worker soon
-//! allocates no more; what a commit must not be refused is reserved beforehand.
+//! sought is not searched again. And it keeps its locations once more, as they were put, in 256 chains of
+//! links: `contains` walks along one, and `find` searches the entries for a location that is there
+//! and for no other. TL2 has a filter there, which takes some locations for others. A set that is
+//! cleared keeps its memory for the next transaction, so a worker soon allocates no more; what a
+//! commit must not be refused is reserved beforehand.
 //!
 //! Source: TL2, Dice, Shalev and Shavit, DISC 2006.
 #![tactic(auto)]

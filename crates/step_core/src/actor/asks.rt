@@ -198,7 +198,7 @@ impl Actor {
             self.calls.push_reserved(WordCall::Read(location, value));
             return Ok(Some(WordAnswer::Number(value)));
         }
-        if let Some(value) = self.reads.find(location) {
+        if let Some(value) = self.reads.seek(location) {
             self.calls.push_reserved(WordCall::Read(location, value));
             return Ok(Some(WordAnswer::Number(value)));
         }

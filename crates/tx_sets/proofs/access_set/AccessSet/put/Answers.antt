@@ -1,5 +1,4 @@
-use Rattle.std.proofs.Common.{◌≡◌, ◌%◌, ◌++◌, ◌∷◌, [], ap, sym, ◌∙◌, subst, refl, arith, rules, Ok, Err, length}
-use Rattle.tx_sets.specs.declared.access_set.TheConstants.{CHAINS}
+use Rattle.std.proofs.Common.{◌≡◌, ◌++◌, ◌∷◌, [], ap, sym, ◌∙◌, subst, refl, arith, rules, Ok, Err, length}
 use Rattle.tx_sets.specs.AccessSet.{IsLast, IsPlaceOf, SetView}
 use Rattle.tx_sets.specs.Entries.{Entries, IsRising, lookup, with_entry}
 use Rattle.tx_sets.proofs.PlaceLemmas.{lookup_there, lookup_gap, not_there, put_new, write_there}
@@ -75,11 +74,14 @@ invariant_of-self-in-Err g c =
     let same : es ≡ c.args.self.now.entries = ap (λ (v : SetView). v.entries) c.self.view_is in
     let place = subst (λ (z : Entries). IsPlaceOf c.args.location z (Err c.in-Err.at)) (sym same) c.in-Err.ensures in
     let linked = c.in_ok-reserve_both-in-Err.ensures.links in
-    let before = c.last_of-before.result in (
-      links_new es _ _ c.self.inside.heads c.self.inside.links.items _ c.args.location c.args.value c.in-Err.at before c.len-in-Err.result
-          c.self.invariant.0 (omega (arith, c.self.told)) place c.in_ok-reserve_both-in-Err.ensures.items c.insert_reserved.ensures.items
+    let before = c.last_of-before.result in
+    let chain = c.chain_of-chain.result in (
+      links_new es _ _ c.self.inside.heads c.self.inside.links.items _ c.args.location c.args.value c.in-Err.at chain before
+          c.len-in-Err.result c.self.invariant.0 c.chain_of-chain.ensures.chain
+          (omega (arith, c.chain_of-chain.ensures.within, c.self.told)) place c.in_ok-reserve_both-in-Err.ensures.items
+          c.insert_reserved.ensures.items
           (omega (arith, c.if-len-ge-LOCATION_LIMIT.false, c.len.ensures, c.self.inside.entries.ok.0))
-          (subst (λ (z : Entries). IsLast z (c.args.location % CHAINS) (length z) before) (c.deref.ensures.value ∙ linked) c.last_of-before.ensures)
+          (subst (λ (z : Entries). IsLast z chain (length z) before) (c.deref.ensures.value ∙ linked) c.last_of-before.ensures)
           (omega (
             arith,
             c.len-in-Err.ensures,
