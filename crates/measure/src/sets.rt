@@ -1,5 +1,5 @@
 //! Puts into sets of a transaction and finds in them, in nanoseconds a call.
-ghost use Rattle.std.specs.Prelude.{◌<◌};
+ghost use Rattle.std.specs.Prelude.{◌<◌, ◌≤◌};
 
 use rand::seq::SliceRandom;
 use rand_core::SeedableRng;
@@ -13,12 +13,17 @@ use tx_sets::{ReadSet, SetRefusal};
 /// All locations. They go into sets of one size, in one order, so that each set has its own.
 const LOCATIONS: u32 = 8192;
 
+/// How far apart the stripes with one key may lie in collections that follow one another.
+const APART: u32 = 256;
+
 /// How often each location is put and found.
 const ROUNDS: u32 = 1000;
 
-/// Prints the times at few locations a set and at as many as it may have, rising and in random order.
+/// Prints the times at few locations a set and at as many as it may have, rising, rising at equal distances, and in random order.
 pub fn measure(rt: &(impl Runtime + AllocGlobal)) -> io::Result<()> {
-    let mut locations = all_locations(rt.alloc())?;
+    let apart = all_locations(rt.alloc(), APART)?;
+    report_both(rt, "256 apart", apart.as_slice())?;
+    let mut locations = all_locations(rt.alloc(), 1)?;
     report_both(rt, "rising", locations.as_slice())?;
     locations.shuffle(&mut Xoshiro256PlusPlus::seed_from_u64(1));
     report_both(rt, "random", locations.as_slice())
@@ -33,10 +38,12 @@ fn report_both(
     report(rt, order, 4096, locations)
 }
 
-fn all_locations(alloc: Global) -> Result<Vec<u32>, AllocError> {
+fn all_locations(alloc: Global, distance: u32) -> Result<Vec<u32>, AllocError>
+    requires { distance ≤ APART }
+{
     let mut locations = Vec::new(alloc);
     for location in 0..LOCATIONS {
-        locations.push(location)?;
+        locations.push(location * distance)?;
     }
     Ok(locations)
 }

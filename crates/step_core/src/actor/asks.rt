@@ -117,23 +117,23 @@ impl Actor {
         ensures { result ≡ if_new (lookup self.now.writes.entries location) (lookup self.now.reads.entries location)
             self.now.reads.entries }
     {
-        match self.writes.find(location) {
-            Some(_) => None,
-            None => match self.reads.find(location) {
-                Some(_) => None,
-                None => if_full(&self.reads),
-            },
+        if self.writes.contains(location) {
+            return None;
         }
+        if self.reads.contains(location) {
+            return None;
+        }
+        if_full(&self.reads)
     }
 
     /// Why a write to a location is refused, if it is not in the write set and that is full.
     fn write_refusal(&self, location: u32) -> Option<WordRefusal>
         ensures { result ≡ if_new (lookup self.now.writes.entries location) None self.now.writes.entries }
     {
-        match self.writes.find(location) {
-            Some(_) => None,
-            None => if_full(&self.writes),
+        if self.writes.contains(location) {
+            return None;
         }
+        if_full(&self.writes)
     }
 
     /// Why a request is refused for its location, where there are so many locations.
