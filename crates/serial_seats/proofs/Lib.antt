@@ -3,3 +3,4 @@ pub mod TurnLemmas
 pub mod TriedLemmas
 pub mod HeldLemmas
 pub mod RefusedLemmas
+pub mod StepLemmas

@@ -1,3 +1,4 @@
 pub mod Seats
 pub mod Tries
 pub mod Refused
+pub mod Steps

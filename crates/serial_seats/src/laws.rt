@@ -1,5 +1,6 @@
 //! The laws. Each function computes nothing: its contract is the law.
 ghost use Rattle.std.specs.Prelude.{◌≡◌, ℕ, List};
+ghost use Rattle.atomic_table.specs.Table.{State};
 ghost use Rattle.seq_model.specs.declared.event.Event.{Event};
 ghost use Rattle.seq_model.specs.declared.refusal.Refusal.{Refusal};
 ghost use Rattle.seq_model.specs.declared.refusal.Refusal.TheVariants.{GateBusy};
@@ -8,27 +9,42 @@ ghost use Rattle.replay_log.specs.Seats.{World};
 ghost use Rattle.replay_log.specs.WorldSerial.{IsSerial};
 ghost use Rattle.replay_log.specs.Worlds.{run};
 ghost use Rattle.tx_actor.specs.declared.actor.Told.{Told};
+ghost use Rattle.tx_table.specs.Opening.{Holds};
 ghost use Rattle.tx_table.specs.Seated.{opening_of};
-ghost use Rattle.tx_table.specs.Shown.{Opens};
+ghost use Rattle.tx_table.specs.Shown.{Opens, Slot};
 ghost use Rattle.tx_table.specs.declared.table.TxTable.{TxTable};
+ghost use Rattle.tx_table.specs.declared.view.Opening.{Opening};
+ghost use Rattle.tx_table.specs.declared.view.View.{View};
 ghost use Rattle.driven_turns.specs.Driven.{HasTold};
 ghost use Rattle.transactions.specs.Ready.{IsReady};
 ghost use Rattle.transactions.specs.Requests.{IsFoundAndTold};
 ghost use Rattle.transactions.specs.declared.seats.TxSeat.{TxSeat};
 ghost use Rattle.serial_seats.specs.Refused.{GaveUp, GaveUpFor, IsEndTold, IsGivenUpFor};
 ghost use Rattle.serial_seats.specs.Seats.{HoldsNothing, SeesOneState};
+ghost use Rattle.serial_seats.specs.Steps.{IsSerialBetweenSteps};
 ghost use Rattle.serial_seats.specs.Tries.{WasTriedInVain};
 
 use replay_log::laws::{serial_worlds, tries};
 use seq_model::Value;
 
-/// Whatever steps the seats have taken: the records of the world that the table shows are, in commit order, a run of the sequential model
-/// from the opening; its open and aborted transactions saw only the state at the number that they began with; and where no commit is half
+/// Whatever events have happened: the records of the world that they reach are, in commit order, a run of the sequential model from the
+/// opening; its open and aborted transactions saw only the state at the number that they began with; and where no commit is half
 /// done, its words and collections are what the run leaves.
 pub fn worlds_are_serial<V: Value>()
     ensures { (o : World V) (opens : Opens o) (events : List (Event V)) → HaveStripes o.blocks → IsSerial opens.contents (run o events) }
 {
     serial_worlds::<V>();
+}
+
+/// Between any two atomic steps of a table, where its rule holds of its words, its slots and the views of its seats: they show the world
+/// that the events of the rule reach from its opening, and this world is in serial order. So the receipts of the seats are, in commit
+/// order, a run of the sequential model; and where no seat has a commit half done, the words of the table, and the bases in its slots,
+/// are what the run leaves.
+pub fn tables_are_serial<V: Value>()
+    ensures { (opening : Opening V) (s : State (Slot V) (View V)) (rule : Holds opening s) →
+        IsSerialBetweenSteps opening rule.rule.events s }
+{
+    worlds_are_serial::<V>();
 }
 
 /// A seat between its requests, beside others that commit meanwhile: such a world is to its actor as the seat has it, and the calls of an
