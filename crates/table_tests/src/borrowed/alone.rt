@@ -12,11 +12,12 @@ use seq_model::Value;
 use transactions::{Tx, TxSeat, begin, begin_read};
 use tx_table::TxTable;
 
-/// A transaction makes these calls, and ends as its verb says.
+/// A transaction makes these calls in this style, and ends as its verb says.
 pub fn answer_alone(
     page: &mut Page,
     table: &TxTable<u64>,
     seat: &mut TxSeat<u64>,
+    style: Style,
     verb: &str,
     calls: &str,
 )
@@ -25,7 +26,7 @@ pub fn answer_alone(
 {
     match calls_of(page.alloc(), calls) {
         Ok(calls) => {
-            run_alone(page, table, seat, verb, calls.as_slice());
+            run_alone(page, table, seat, style, verb, calls.as_slice());
             drop(calls);
         }
         Err(refusal) => page.refuse(refusal),
@@ -36,6 +37,7 @@ fn run_alone<V: Value, H: Hearer<V>>(
     hearer: &mut H,
     table: &TxTable<V>,
     seat: &mut TxSeat<V>,
+    style: Style,
     verb: &str,
     calls: &[Placed<V>],
 )
@@ -43,8 +45,8 @@ fn run_alone<V: Value, H: Hearer<V>>(
     ensures ready { IsReady table.now seat.new }
 {
     match end_of(verb) {
-        Some(end) => transact_alone(hearer, table, seat, end, calls),
-        None => read_alone(hearer, table, seat, calls),
+        Some(end) => transact_alone(hearer, table, seat, style, end, calls),
+        None => read_alone(hearer, table, seat, style, calls),
     }
 }
 
@@ -52,6 +54,7 @@ fn transact_alone<V: Value, H: Hearer<V>>(
     hearer: &mut H,
     table: &TxTable<V>,
     seat: &mut TxSeat<V>,
+    style: Style,
     end: End,
     calls: &[Placed<V>],
 )
@@ -60,7 +63,7 @@ fn transact_alone<V: Value, H: Hearer<V>>(
 {
     match begin(seat, table) {
         Ok(mut tx) => {
-            make_own(hearer, &mut tx, calls);
+            make_own(hearer, &mut tx, style, calls);
             hearer.hear_end(end_as(tx, end));
         }
         Err(refusal) => hearer.hear_end(Ended::Refused(refusal)),
@@ -71,6 +74,7 @@ fn read_alone<V: Value, H: Hearer<V>>(
     hearer: &mut H,
     table: &TxTable<V>,
     seat: &mut TxSeat<V>,
+    style: Style,
     calls: &[Placed<V>],
 )
     requires ready { IsReady table.now seat.old }
@@ -78,14 +82,19 @@ fn read_alone<V: Value, H: Hearer<V>>(
 {
     match begin_read(seat, table) {
         Ok(mut tx) => {
-            make_own(hearer, &mut tx, calls);
+            make_own(hearer, &mut tx, style, calls);
             hearer.hear_end(end_as(tx, End::Commits));
         }
         Err(refusal) => hearer.hear_end(Ended::Refused(refusal)),
     }
 }
 
-fn make_own<V: Value, H: Hearer<V>>(hearer: &mut H, tx: &mut Tx<'_, V>, calls: &[Placed<V>])
+fn make_own<V: Value, H: Hearer<V>>(
+    hearer: &mut H,
+    tx: &mut Tx<'_, V>,
+    style: Style,
+    calls: &[Placed<V>],
+)
     requires ready { IsReady tx.old.table.now tx.old.seat.now }
     requires since { HasBegunSince tx.old.table.now tx.old.seat.now }
     ensures same_reference { tx.new.seat.ghost_name ≡ tx.old.seat.ghost_name }
@@ -94,6 +103,6 @@ fn make_own<V: Value, H: Hearer<V>>(hearer: &mut H, tx: &mut Tx<'_, V>, calls: &
     ensures since { HasBegunSince tx.new.table.now tx.new.seat.now }
 {
     'calls: for placed in calls {
-        make(hearer, tx, Style::Plain, &placed.call);
+        make(hearer, tx, style, &placed.call);
     }
 }

@@ -3,6 +3,7 @@ ghost use Rattle.table_tests.specs.Fit.{IsFit};
 
 use super::requests::{ask, leave_open, repeat, try_job};
 use crate::borrowed::alone::answer_alone;
+use crate::borrowed::calls::Style;
 use crate::shared::{Meeting, Order, Page, job_of, learn, say_last};
 use row_parts::script_of;
 use seq_model::Refusal;
@@ -99,8 +100,10 @@ fn answer(
         Some(("leaves", calls)) => answer_left(page, table, seat, calls),
         Some(("repeats", words)) => answer_repeated(page, table, seat, words),
         Some(("last", _)) => say_last(page, seat),
+        Some(("typed", words)) => answer_typed(page, table, seat, Style::Typed, words),
+        Some(("typed_map", words)) => answer_typed(page, table, seat, Style::TypedMap, words),
         Some((verb @ ("commits" | "reads" | "aborts" | "drops"), calls)) => {
-            answer_borrowed(page, table, seat, verb, calls)
+            answer_borrowed(page, table, seat, Style::Plain, verb, calls)
         }
         Some(("waits", _)) => answer_wait(page, meeting),
         _ => page.refuse(Refusal::NoSuch),
@@ -140,19 +143,36 @@ fn answer_learn(page: &mut Page, table: &TxTable<u64>, seat: &mut TxSeat<u64>, d
     seat.abort(table);
 }
 
+fn answer_typed(
+    page: &mut Page,
+    table: &TxTable<u64>,
+    seat: &mut TxSeat<u64>,
+    style: Style,
+    words: &str,
+)
+    requires fit { IsFit table.now seat.old }
+    ensures fit { IsFit table.now seat.new }
+{
+    match words.split_once(' ') {
+        Some((verb, calls)) => answer_borrowed(page, table, seat, style, verb, calls),
+        None => page.refuse(Refusal::NoSuch),
+    }
+}
+
 // No transaction is left open.
 #[tactic(auto, using(crate::proofs::FitLemmas::rests_fit))]
 fn answer_borrowed(
     page: &mut Page,
     table: &TxTable<u64>,
     seat: &mut TxSeat<u64>,
+    style: Style,
     verb: &str,
     calls: &str,
 )
     requires fit { IsFit table.now seat.old }
     ensures fit { IsFit table.now seat.new }
 {
-    answer_alone(page, table, seat, verb, calls);
+    answer_alone(page, table, seat, style, verb, calls);
     seat.abort(table);
 }
 

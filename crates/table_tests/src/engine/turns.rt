@@ -2,7 +2,7 @@
 ghost use Rattle.transactions.specs.Ready.{IsReady};
 
 use super::rows::{answer_own, answer_rows};
-use crate::shared::{Meeting, Order, Page};
+use crate::shared::{Meeting, Order, Page, commit_after};
 use seq_model::{Memory, Refusal};
 use std::alloc::Global;
 use std::thread::{Threads, join_mut};
@@ -237,6 +237,26 @@ fn answer_half<R: Threads>(
         return;
     }
     let mut other = seat.split(table, QUARTER);
-    pair_at_once(rt, page, table, seat, &mut other, worker, meeting, rows);
+    answer_quarters(rt, page, table, seat, &mut other, worker, meeting, rows);
     seat.join(table, other);
+}
+
+// Where memory was refused, the seat that was split off commits a write before it is joined again.
+fn answer_quarters<R: Threads>(
+    rt: &R,
+    page: &mut Page,
+    table: &TxTable<u64>,
+    seat: &mut TxSeat<u64>,
+    other: &mut TxSeat<u64>,
+    worker: u64,
+    meeting: &Meeting,
+    rows: &str,
+)
+    requires seat { IsReady table.now seat.old }
+    requires other { IsReady table.now other.old }
+    ensures seat { IsReady table.now seat.new }
+    ensures other { IsReady table.now other.new }
+{
+    pair_at_once(rt, page, table, seat, other, worker, meeting, rows);
+    commit_after(page, table, other);
 }

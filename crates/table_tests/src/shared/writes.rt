@@ -3,11 +3,15 @@ ghost use Rattle.transactions.specs.Ready.{HasBegunSince, IsReady};
 
 use super::pages::Page;
 use seq_model::{Call, Op, Record, Refusal};
+use std::thread::yield_now;
 use transactions::TxSeat;
 use tx_table::TxTable;
 
 /// So many kinds of what can be written: words, and four of collections.
 const KINDS: u64 = 5;
+
+/// A write that others stand in the way of is tried so often.
+const TRIES: u64 = 1_000_000;
 
 /// A transaction of one write: on the first word, or else on the first collection, whatever its kind. None at the limit of the clock.
 pub fn commit_write(
@@ -27,15 +31,43 @@ pub fn commit_write(
     }
 }
 
-/// Where memory was wanted, the seat commits a write after it.
+/// Where memory was wanted, the seat commits a write after it. Other seats may be at work.
 pub fn commit_after(page: &mut Page, table: &TxTable<u64>, seat: &mut TxSeat<u64>)
     requires ready { IsReady table.now seat.old }
     ensures ready { IsReady table.now seat.new }
 {
     if page.wants_memory() {
-        let written = commit_write(table, seat);
+        let written = commit_among(table, seat);
         page.hear_write(written);
     }
+}
+
+fn commit_among(
+    table: &TxTable<u64>,
+    seat: &mut TxSeat<u64>,
+) -> Result<Option<Record<u64>>, Refusal>
+    requires ready { IsReady table.now seat.old }
+    ensures ready { IsReady table.now seat.new }
+{
+    'tries: for _ in 0..TRIES {
+        match commit_write(table, seat) {
+            Ok(written) => return Ok(written),
+            Err(cause) if is_of_others(cause) => yield_now(),
+            Err(cause) => return Err(cause),
+        }
+    }
+    Err(Refusal::NotIdle)
+}
+
+fn is_of_others(cause: Refusal) -> bool {
+    matches!(
+        cause,
+        Refusal::Moved { .. }
+            | Refusal::Busy { .. }
+            | Refusal::Stale { .. }
+            | Refusal::GateBusy { .. }
+            | Refusal::Invalid { .. }
+    )
 }
 
 fn write_any(table: &TxTable<u64>, seat: &mut TxSeat<u64>) -> Result<(), Refusal>
