@@ -24,8 +24,8 @@ pub fn fits_one<Role>(set: &mut AccessSet<Role>, location: u32) -> bool
     found.is_some() || entries.len() < LOCATION_LIMIT
 }
 
-/// What the sets have of a location that is to be read, or nothing where the read set has no room for it. Each is searched once, and not
-/// again when what is read is kept.
+/// What the sets have of a location that is to be read, or nothing where the read set has no room for it. One of them is searched, once:
+/// the write set where it has the location, else the read set, which is not searched again when what is read is kept.
 pub fn seek_word(words: &mut Actor, location: u32) -> Option<Option<u64>>
     ensures room { IsSome result ↔ (may_read (actor_of words.old) location ≡ true) }
     ensures found { IfSome result (λ found. number_told found

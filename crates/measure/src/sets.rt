@@ -13,7 +13,7 @@ use tx_sets::{ReadSet, SetRefusal};
 /// All locations. They go into sets of one size, in one order, so that each set has its own.
 const LOCATIONS: u32 = 8192;
 
-/// How far apart the stripes with one key may lie in collections that follow one another.
+/// The stride of one order: collections of 256 stripes have the stripe of one key so far apart.
 const APART: u32 = 256;
 
 /// How often each location is put and found.

@@ -26,9 +26,9 @@ call_given_up (GateBusy k) h = tt
 call_given_up OutOfMemory h = tt
 call_given_up cause h = absurd h
 
-pub call_alone : IsCallRefusal NoTransaction
+pub call_without_transaction : IsCallRefusal NoTransaction
 unfolding IsCallRefusal
-call_alone = tt
+call_without_transaction = tt
 
 pub call_without_memory : IsCallRefusal OutOfMemory
 unfolding IsCallRefusal
@@ -43,9 +43,9 @@ commit_given_up (GateBusy k) h = tt
 commit_given_up OutOfMemory h = tt
 commit_given_up cause h = absurd h
 
-pub commit_alone : IsCommitRefusal NoTransaction
+pub commit_without_transaction : IsCommitRefusal NoTransaction
 unfolding IsCommitRefusal
-commit_alone = tt
+commit_without_transaction = tt
 
 pub commit_without_memory : (cause : Refusal) → cause ≡ OutOfMemory → IsCommitRefusal cause
 unfolding IsCommitRefusal

@@ -26,7 +26,7 @@ use Rattle.tx_table.specs.Seated as seated
 use Rattle.tx_table.specs.Shown.{IsReached, looking}
 use Rattle.tx_table.specs.Turns.{asked_all, lone}
 use Rattle.tx_phases.specs.Phases.{Rests, phase}
-use Rattle.transactions.proofs.KindLemmas.{call_alone, commit_alone}
+use Rattle.transactions.proofs.KindLemmas.{call_without_transaction, commit_without_transaction}
 use Rattle.transactions.proofs.RequestLemmas.{is_idle, is_open, keeps_self}
 use Rattle.driven_turns.specs.Begins.{begins_asked, begins_of, begins_taken}
 use Rattle.driven_turns.specs.Driven.{HasTold, IsNumberOf, seat_in, standing}
@@ -147,7 +147,7 @@ module _ {V : Type 0} where
     ready = ready;
     since = since;
     calls = λ opened. absurd (isnt (is_open t s.seat s.actor ready.ties opened.0 opened.1));
-    kinds = call_alone;
+    kinds = call_without_transaction;
     begins = refl;
     none = λ _. (refl, refl);
   }
@@ -327,7 +327,7 @@ module _ {V : Type 0} where
       number = tt;
       keeps = keeps_self s.seat;
       ended = λ opened. absurd (isnt (is_open t s.seat s.actor ready.ties opened.0 opened.1));
-      kinds = commit_alone;
+      kinds = commit_without_transaction;
     };
     above = tt;
     last = tt;

@@ -25,7 +25,7 @@ IsLast links c n p =
     (p ≤ n) × ((k : ℕ) (d : ℕ × ℕ) → k < n → chain_of (get_or links k d).0 ≡ c → k < p)
     × ((d : ℕ × ℕ) → 0 < p → chain_of (get_or links (p - 1) d).0 ≡ c)
 
--- the same of all locations, where one is of this chain
+-- this is such a place among all locations, if any is of this chain; else nothing is said of it
 abbrev pub IsHead : Entries → ℕ → ℕ → Type 0
 IsHead links c p = (k : ℕ) (d : ℕ × ℕ) → k < length links → chain_of (get_or links k d).0 ≡ c → IsLast links c (length links) p
 

@@ -20,10 +20,10 @@ const FEW: usize = 32;
 // By how many entries a set grows at least.
 const LEAST: usize = 8;
 
-// By how many chains the locations of a set are linked.
+// In how many chains the locations of a set are linked.
 const CHAINS: usize = 256;
 
-// 2^32 by the golden ratio: its multiples lie apart from one another.
+// 2^32 divided by the golden ratio, as in Fibonacci hashing: its multiples lie apart from one another.
 const SPREAD: u32 = 2_654_435_769;
 
 /// Marks the set of what a transaction read.
@@ -99,6 +99,7 @@ impl<Role> AccessSet<Role> {
     }
 
     /// Whether a location is there. No entry is searched for it.
+    #[inline(always)]
     pub fn contains(&self, location: u32) -> bool
         ensures { (result ≡ false) ↔ (lookup self.now.entries location ≡ None) }
     {
@@ -108,6 +109,7 @@ impl<Role> AccessSet<Role> {
     }
 
     /// The value of a location.
+    #[inline(always)]
     pub fn find(&self, location: u32) -> Option<u64>
         ensures { result ≡ lookup self.now.entries location }
     {
@@ -287,6 +289,7 @@ fn insert_reserved(entries: &mut Vec<(u32, u64)>, at: usize, entry: (u32, u64))
 }
 
 // The chain of a location. Locations at equal distances are spread over all chains.
+#[inline(always)]
 #[tactic(auto, unfolding(crate::specs::AccessSet::chain_of))]
 fn chain_of(location: u32) -> usize
     ensures chain { result ≡ chain_of location }
@@ -295,7 +298,9 @@ fn chain_of(location: u32) -> usize
     (location.wrapping_mul(SPREAD) / 0x100_0000) as usize
 }
 
-// One more than the place of the last location of this chain, or 0.
+// One more than the place of the last location of this chain, or 0. The head of the chain may be
+// that of an earlier transaction.
+#[inline(always)]
 fn last_of(links: &[(u32, u16)], chain: usize, head: u16) -> u16
     requires { IsHead links.now chain head }
     ensures { IsLast links.now chain (length links.now) result }
@@ -327,7 +332,8 @@ fn is_linked(links: &[(u32, u16)], location: u32, last: u16) -> bool
     false
 }
 
-// Makes room for as many links as entries.
+// Makes room for `more` further entries, and for as many links at least.
+#[inline(always)]
 fn reserve_both(
     links: &mut Vec<(u32, u16)>,
     entries: &mut Vec<(u32, u64)>,
@@ -350,9 +356,29 @@ fn reserve_both(
     if more <= entries.capacity() - len {
         return Ok(());
     }
-    let growth = growth(len, more);
-    links.reserve_exact(growth)?;
-    entries.reserve_exact(growth)
+    grow_both(links, entries, growth(len, more))
+}
+
+// Makes room for so many more. It is seldom called, so it is kept out of what each put does.
+#[inline(never)]
+fn grow_both(
+    links: &mut Vec<(u32, u16)>,
+    entries: &mut Vec<(u32, u64)>,
+    more: usize,
+) -> Result<(), AllocError>
+    requires lens { vec_len links.old ≡ vec_len entries.old }
+    requires capacities { vec_capacity entries.old ≤ vec_capacity links.old }
+    ensures links { links.new.items ≡ links.old.items }
+    ensures links_len { vec_len links.new ≡ vec_len links.old }
+    ensures items { entries.new.items ≡ entries.old.items }
+    ensures len { vec_len entries.new ≡ vec_len entries.old }
+    ensures ok { OnOk result (vec_len entries.new + more ≤ vec_capacity entries.new) }
+    ensures capacity { vec_capacity entries.old ≤ vec_capacity entries.new }
+    ensures both { vec_capacity entries.new ≤ vec_capacity links.new }
+    ensures err { OnErr result (vec_capacity entries.new ≡ vec_capacity entries.old) }
+{
+    links.reserve_exact(more)?;
+    entries.reserve_exact(more)
 }
 
 // By how many entries a set of so many grows: it doubles at least.

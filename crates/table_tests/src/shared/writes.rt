@@ -10,7 +10,7 @@ use tx_table::TxTable;
 /// So many kinds of what can be written: words, and four of collections.
 const KINDS: u64 = 5;
 
-/// A write that others stand in the way of is tried so often.
+/// So often a write is tried that others stand in the way of; then it is answered `NotIdle`.
 const TRIES: u64 = 1_000_000;
 
 /// A transaction of one write: on the first word, or else on the first collection, whatever its kind. None at the limit of the clock.
