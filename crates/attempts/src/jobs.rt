@@ -95,7 +95,6 @@ fn ask_all<V: Value, J: Job<V>>(
     ensures refused { IfErr result (IsUnmade (J.asks job.now) (opening_of table.now) seat.old.seat seat.new.seat) }
 {
     replies.clear();
-    replies.reserve(seat.usual_calls())?;
     'calls: loop {
         match ask_next(table, seat, job, replies)? {
             Some(end) => return Ok(end),

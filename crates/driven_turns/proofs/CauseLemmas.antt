@@ -1,21 +1,26 @@
 -- What a step of a call, and one of a commit, can find for which its transaction is given up.
 --
--- A call reads words, and a commit locks and checks them: at no place of the one does a word stop what the other asks of it.
-use Rattle.std.proofs.Common.{◌≡◌, ℕ, List, [], ◌∷◌, sym, subst}
+-- A call reads words, and a commit locks and checks them: at no place of the one does a word stop what the other asks of it. While the
+-- word of a read is loaded nothing is copied, and no gate is tried; what is copied, and tried, is a collection's.
+use Rattle.std.proofs.Common.{◌≡◌, ℕ, false, true≢false, List, [], ◌∷◌, sym, ap, subst}
 use Rattle.vlock_word.specs.declared.lock_word.LockWord.{LockWord}
 use Rattle.word_machine.specs.Actor as machine
 use Rattle.word_machine.specs.Actor.{Actor, Place}
 use Rattle.word_machine.specs.Refusals.{StopsRead, StopsLock, StopsCheck}
 use Rattle.seq_model.specs.declared.call.Call.{Call}
+use Rattle.seq_model.specs.declared.call.Op.{Op}
+use Rattle.seq_model.specs.declared.call.Op.TheVariants.{Read, Write}
 use Rattle.seq_model.specs.declared.call.Reply.{Reply}
 use Rattle.seq_model.specs.declared.refusal.Refusal.{Refusal}
 use Rattle.seq_model.specs.declared.refusal.Refusal.TheVariants.{Moved, Busy, Stale, GateBusy, Invalid}
-use Rattle.replay_log.proofs.SeatLemmas.{AtLocking, AtReading, AtStoring, Linked, StageOk}
+use Rattle.replay_log.proofs.MixedLemmas.{is_word_op}
+use Rattle.replay_log.proofs.SeatLemmas.{AtLocking, AtReading, AtStoring, KnownAsk, Linked, StageOk}
+use Rattle.replay_log.specs.Contents.{Asked, Block}
 use Rattle.replay_log.specs.Seats.{World, Stage, Closing, Copying, Gating, Homing, Loading, Locking, Reading, Ready, Releasing, Storing}
 use Rattle.replay_log.specs.Seats.{Trying, actor_of}
-use Rattle.replay_log.specs.WorldRefusals.{IsCause, IsCopied}
+use Rattle.replay_log.specs.WorldRefusals.{IsCause, IsCopied, IsLastTry}
 use Rattle.tx_phases.specs.Phases.{Phase, Calls, Commits, Committed, phase, phase_at}
-use Rattle.driven_turns.specs.Driven.{IsCallCause, IsCommitCause}
+use Rattle.driven_turns.specs.Driven.{IsCallCause, IsCommitCause, IsLoading, IsOnCollection}
 
 -- ---- places
 reads_only : (y : Actor) (l i : ℕ) (p : Place) (w : LockWord) → AtReading l p → (StopsLock p w → ⊥) × (StopsCheck y p i w → ⊥)
@@ -35,6 +40,20 @@ stores_only y (machine.Store (l ∷ ls)) w at h = h
 stores_only y p w at h = absurd at
 
 module _ {V : Type 0} where
+  -- ---- kinds of calls
+  held_kind : (op : Op V) → is_word_op op ≡ false → IsLoading op × IsOnCollection op
+  held_kind Read h = absurd (true≢false h)
+  held_kind (Write value) h = absurd (true≢false h)
+  held_kind op h = (tt, tt)
+
+  known_kind : (bs : List Block) (y : Actor) (asked : Asked V) → KnownAsk bs y asked → IsLoading asked.op × IsOnCollection asked.op
+  known_kind bs y asked h = held_kind asked.op h.0
+
+  -- the call that is under way
+  op_in : Phase V → Op V
+  op_in (Calls calls call) = call.op
+  op_in p = Read
+
   -- ---- stages
   abbrev IsOfCall : Phase V → Type 0
   IsOfCall (Calls calls call) = Unit {0}
@@ -64,11 +83,37 @@ module _ {V : Type 0} where
     call_stops (Loading o (d ∷ es)) on p ok i w = reads_only y d.0 i p w ok.0
     call_stops st on p ok i w = absurd on
 
+    -- a write is answered as it is asked
+    call_loads : (st : Stage V) → IsOfCall (phase_at cs st) → (p : Place) → IsOkAt st p → IsLoading (op_in (phase_at cs st))
+    unfolding op_in
+    call_loads (Reading l) on p ok = tt
+    call_loads (Trying asked tries) on p ok = (known_kind v.blocks y asked ok.2).0
+    call_loads (Copying asked) on p ok = (known_kind v.blocks y asked ok.2).0
+    call_loads (Loading o []) on p ok = absurd ok
+    call_loads (Loading o (d ∷ es)) on p ok = (held_kind o.asked.op ok.2.kind).0
+    call_loads st on p ok = absurd on
+
+    -- a collection is copied, and its gate is tried
+    call_copies : (st : Stage V) → (p : Place) → IsOkAt st p → (l edition : ℕ) → IsCopied v st l edition
+        → IsOnCollection (op_in (phase_at cs st))
+    unfolding op_in
+    call_copies (Copying asked) p ok l edition h = (known_kind v.blocks y asked ok.2).1
+    call_copies (Loading o []) p ok l edition h = absurd ok
+    call_copies (Loading o (d ∷ es)) p ok l edition h = (held_kind o.asked.op ok.2.kind).1
+    call_copies st p ok l edition h = absurd h
+
+    call_tries : (st : Stage V) → IsOfCall (phase_at cs st) → (p : Place) → IsOkAt st p → (k : ℕ) → IsLastTry st k
+        → IsOnCollection (op_in (phase_at cs st))
+    unfolding op_in
+    call_tries (Trying asked tries) on p ok k h = (known_kind v.blocks y asked ok.2).1
+    call_tries (Gating got ks tries) on p ok k h = absurd on
+    call_tries st on p ok k h = absurd h
+
     call_found : (st : Stage V) → IsOfCall (phase_at cs st) → IsOkAt st y.place → (cause : Refusal) → IsCause v a st u cause
-        → IsCallCause cause
-    call_found st on ok (Moved l word) h = tt
-    call_found st on ok (Stale l base word) h = tt
-    call_found st on ok (GateBusy k) h = tt
+        → IsCallCause (op_in (phase_at cs st)) cause
+    call_found st on ok (Moved l word) h = call_loads st on y.place ok
+    call_found st on ok (Stale l base word) h = call_copies st y.place ok l base h.1
+    call_found st on ok (GateBusy k) h = call_tries st on y.place ok k h.0
     call_found st on ok (Busy l word) h = absurd ((call_stops st on y.place ok l (v.boosted.words.locks l)).0 h.1)
     call_found st on ok (Invalid l word) h = absurd ((call_stops st on y.place ok l (v.boosted.words.locks l)).1 h.1)
     call_found st on ok cause h = absurd h
@@ -102,9 +147,11 @@ module _ {V : Type 0} where
 
   -- ---- where events have led
   pub call_cause : (v u : World V) (a : ℕ) → Linked v → (calls : List (Call V × Reply V)) (call : Call V)
-      → phase (v.seats a) ≡ Calls calls call → (cause : Refusal) → IsCause v a (v.seats a).stage u cause → IsCallCause cause
+      → phase (v.seats a) ≡ Calls calls call → (cause : Refusal) → IsCause v a (v.seats a).stage u cause → IsCallCause call.op cause
+  unfolding op_in
   call_cause v u a k calls call on cause h =
-      call_found v u a (v.seats a).calls (v.seats a).stage (subst IsOfCall (sym on) tt) (k.seats a).stage cause h
+      subst (λ (op : Op V). IsCallCause op cause) (ap op_in on)
+      (call_found v u a (v.seats a).calls (v.seats a).stage (subst IsOfCall (sym on) tt) (k.seats a).stage cause h)
 
   pub commit_cause : (v u : World V) (a : ℕ) → Linked v → IsOfCommit (phase (v.seats a)) → (cause : Refusal)
       → IsCause v a (v.seats a).stage u cause → IsCommitCause cause

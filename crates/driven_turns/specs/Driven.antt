@@ -2,6 +2,8 @@
 use Rattle.std.specs.Prelude.{◌≡◌, ◌≢◌, ◌⊎◌, ℕ, ◌<◌, ◌≤◌, Bool, true, false, not, List, [], ◌∷◌, ◌++◌, Option, Some, None}
 use Rattle.word_machine.specs.Actor.{Actor, Place, Check, clock_limit}
 use Rattle.seq_model.specs.declared.call.Call.{Call}
+use Rattle.seq_model.specs.declared.call.Op.{Op}
+use Rattle.seq_model.specs.declared.call.Op.TheVariants.{Read, Write}
 use Rattle.seq_model.specs.declared.call.Reply.{Reply}
 use Rattle.seq_model.specs.declared.event.Answer.TheVariants as answer
 use Rattle.seq_model.specs.declared.event.Event.{Event}
@@ -75,13 +77,24 @@ abbrev pub MayWant : {V : Type 0} → Stage V → Type 0
 MayWant (Loading o left) = Unit {0}
 MayWant st = WantsMemory (next_of st)
 
--- for this a call is given up
-abbrev pub IsCallCause : Refusal → Type 0
-IsCallCause (Moved l word) = Unit {0}
-IsCallCause (Stale l base word) = Unit {0}
-IsCallCause (GateBusy k) = Unit {0}
-IsCallCause OutOfMemory = Unit {0}
-IsCallCause cause = ⊥
+-- a call that loads a location: all but the write of a word
+abbrev pub IsLoading : {V : Type 0} → Op V → Type 0
+IsLoading (Write v) = ⊥
+IsLoading op = Unit {0}
+
+-- a call on a collection
+abbrev pub IsOnCollection : {V : Type 0} → Op V → Type 0
+IsOnCollection Read = ⊥
+IsOnCollection (Write v) = ⊥
+IsOnCollection op = Unit {0}
+
+-- for this such a call is given up
+abbrev pub IsCallCause : {V : Type 0} → Op V → Refusal → Type 0
+IsCallCause op (Moved l word) = IsLoading op
+IsCallCause op (Stale l base word) = IsOnCollection op
+IsCallCause op (GateBusy k) = IsOnCollection op
+IsCallCause op OutOfMemory = Unit {0}
+IsCallCause op cause = ⊥
 
 -- and for this a commit
 abbrev pub IsCommitCause : Refusal → Type 0
@@ -154,9 +167,9 @@ module _ {V : Type 0} where
   IsTrue o s u Begins (told.Answered (answer.Begun rv)) = rv ≡ (view u).clock
   IsTrue o s u Begins (told.Refused cause) = IsExhausted o s u cause
   IsTrue o s u (Calls calls call) told.Quiet =
-      (cause : Refusal) → standing o u ≡ Ends → (seat_in o u).cause ≡ Some cause → IsReason o s u cause × IsCallCause cause
+      (cause : Refusal) → standing o u ≡ Ends → (seat_in o u).cause ≡ Some cause → IsReason o s u cause × IsCallCause call.op cause
   IsTrue o s u (Calls calls call) (told.Refused cause) =
-      (IsReason o s u cause × IsCallCause cause) ⊎ ((standing o u ≡ Stands calls) × IsMistaken cause)
+      (IsReason o s u cause × IsCallCause call.op cause) ⊎ ((standing o u ≡ Stands calls) × IsMistaken cause)
   IsTrue o s u (Commits calls) told.Quiet =
       (cause : Refusal) → standing o u ≡ Ends → (seat_in o u).cause ≡ Some cause → IsReason o s u cause × IsCommitCause cause
   IsTrue o s u (Commits calls) (told.Refused cause) = IsReason o s u cause × IsCommitCause cause

@@ -89,13 +89,14 @@ module _ {V : Type 0} where
     call_keeps : (n : Told V) (d : Option (Record V)) → n ≢ told.Quiet → out u ≡ out m → Driven o m u n d → KeepsReceipts m u
     call_keeps n d ne outs D = turns_keep o m u n d (made_none n d (call_ends n d ne D.comes)).0 outs D
 
-    call_kinds : (r : Result (Reply V) Refusal) (d : Option (Record V)) → Driven o m u (told_of r) d → IfErr r IsCallRefusal
+    call_kinds : (r : Result (Reply V) Refusal) (d : Option (Record V)) → Driven o m u (told_of r) d → IfErr r (IsCallRefusal call.op)
     call_kinds (Ok r) d D = tt
     call_kinds (Err cause) d D = by_truth (subst (λ (k : Phase V). IsTrue o m u k (told.Refused cause)) at D.is_true)
       where
-        by_truth : (IsReason o m u cause × IsCallCause cause) ⊎ ((standing o u ≡ Stands calls) × IsMistaken cause) → IsCallRefusal cause
-        by_truth (inl reason) = call_given_up cause reason.1
-        by_truth (inr stays) = call_mistaken cause stays.1
+        by_truth : (IsReason o m u cause × IsCallCause call.op cause) ⊎ ((standing o u ≡ Stands calls) × IsMistaken cause)
+            → IsCallRefusal call.op cause
+        by_truth (inl reason) = call_given_up call.op cause reason.1
+        by_truth (inr stays) = call_mistaken call.op cause stays.1
 
     call_left : (r : Result (Reply V) Refusal) (d : Option (Record V)) → Driven o m u (told_of r) d → CallLeaves o m calls call u r
     call_left (Ok r) d D = (call_ends (told.Answered (answer.Replied r)) d (told_some (Ok r)) D.comes).0
@@ -104,7 +105,7 @@ module _ {V : Type 0} where
         (subst (λ (k : Phase V). IsTrue o m u k (told.Refused cause)) at D.is_true)
       where
         by_truth : ((standing o u ≡ Stands calls) × IsMistaken cause) ⊎ (standing o u ≡ Rests)
-            → (IsReason o m u cause × IsCallCause cause) ⊎ ((standing o u ≡ Stands calls) × IsMistaken cause)
+            → (IsReason o m u cause × IsCallCause call.op cause) ⊎ ((standing o u ≡ Stands calls) × IsMistaken cause)
             → CallLeaves o m calls call u (Err cause)
         by_truth (inl stays) truth = inl stays
         by_truth (inr rests) (inl reason) = inr (rests, found_told o m u cause reason.0 (D.tells (told_some (Err cause))))
@@ -154,9 +155,9 @@ module _ {V : Type 0} where
     leaves_now calls on (Ok reply) is = moves calls on (told.Answered (answer.Replied reply)) is
     leaves_now calls on (Err cause) is = inl (moves calls on (told.Refused cause) is)
 
-    kinds_now : (r : Result (Reply V) Refusal) → Answers o s q (told_of r) → IfErr r IsCallRefusal
+    kinds_now : (r : Result (Reply V) Refusal) → Answers o s q (told_of r) → IfErr r (IsCallRefusal call.op)
     kinds_now (Ok reply) is = tt
-    kinds_now (Err cause) is = call_mistaken cause (moves opened.0 opened.1 (told.Refused cause) is).1
+    kinds_now (Err cause) is = call_mistaken call.op cause (moves opened.0 opened.1 (told.Refused cause) is).1
 
     began_asked : (standing o m ≡ Rests → ⊥) → (seat_in o m).rv ≡ (seat_in o s).rv
     began_asked busy = kept (asks_keep (acts o s) a q at_open)
@@ -217,6 +218,6 @@ module _ {V : Type 0} where
     keeps = kept;
     leaves = λ calls on. inr (rests, inr (refl, inr aborted));
     answered = inr (inr (refl, admitted));
-    kinds = call_without_memory;
+    kinds = call_without_memory call.op;
     began = λ still. absurd (stands_busy (standing o u) still.0 still.1 rests);
   }

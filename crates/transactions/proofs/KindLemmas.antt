@@ -2,6 +2,7 @@
 --
 -- These kinds do not unfold by themselves: a search that meets them would go through all refusals.
 use Rattle.std.proofs.Common.{◌≡◌, sym, subst}
+use Rattle.seq_model.specs.declared.call.Op.{Op}
 use Rattle.seq_model.specs.declared.refusal.Refusal.{Refusal}
 use Rattle.seq_model.specs.declared.refusal.Refusal.TheVariants.{Busy, GateBusy, Invalid, Moved, NoSuch, NoTransaction, OutOfMemory, Stale}
 use Rattle.seq_model.specs.declared.refusal.Refusal.TheVariants.{TooLong}
@@ -10,29 +11,30 @@ use Rattle.driven_turns.specs.Driven.{IsCallCause, IsCommitCause}
 use Rattle.transactions.specs.Requests.{IsCallRefusal, IsCommitRefusal}
 
 -- ---- a call
--- one that is mistaken is refused so
-pub call_mistaken : (cause : Refusal) → IsMistaken cause → IsCallRefusal cause
-unfolding IsCallRefusal
-call_mistaken NoSuch h = tt
-call_mistaken TooLong h = tt
-call_mistaken cause h = absurd h
+module _ {V : Type 0} (op : Op V) where
+  -- one that is mistaken is refused so
+  pub call_mistaken : (cause : Refusal) → IsMistaken cause → IsCallRefusal op cause
+  unfolding IsCallRefusal
+  call_mistaken NoSuch h = tt
+  call_mistaken TooLong h = tt
+  call_mistaken cause h = absurd h
 
--- or it is given up
-pub call_given_up : (cause : Refusal) → IsCallCause cause → IsCallRefusal cause
-unfolding IsCallRefusal
-call_given_up (Moved l word) h = tt
-call_given_up (Stale l base word) h = tt
-call_given_up (GateBusy k) h = tt
-call_given_up OutOfMemory h = tt
-call_given_up cause h = absurd h
+  -- or it is given up
+  pub call_given_up : (cause : Refusal) → IsCallCause op cause → IsCallRefusal op cause
+  unfolding IsCallRefusal
+  call_given_up (Moved l word) h = h
+  call_given_up (Stale l base word) h = h
+  call_given_up (GateBusy k) h = h
+  call_given_up OutOfMemory h = tt
+  call_given_up cause h = absurd h
 
-pub call_without_transaction : IsCallRefusal NoTransaction
-unfolding IsCallRefusal
-call_without_transaction = tt
+  pub call_without_transaction : IsCallRefusal op NoTransaction
+  unfolding IsCallRefusal
+  call_without_transaction = tt
 
-pub call_without_memory : IsCallRefusal OutOfMemory
-unfolding IsCallRefusal
-call_without_memory = tt
+  pub call_without_memory : IsCallRefusal op OutOfMemory
+  unfolding IsCallRefusal
+  call_without_memory = tt
 
 -- ---- a commit
 pub commit_given_up : (cause : Refusal) → IsCommitCause cause → IsCommitRefusal cause

@@ -147,7 +147,7 @@ module _ {V : Type 0} where
     ready = ready;
     since = since;
     calls = λ opened. absurd (isnt (is_open t s.seat s.actor ready.ties opened.0 opened.1));
-    kinds = call_without_transaction;
+    kinds = call_without_transaction call.op;
     begins = refl;
     none = λ _. (refl, refl);
   }
@@ -277,6 +277,7 @@ module _ {V : Type 0} where
         joined = ap (λ v. v.0.joined) are;
         turns = ap (λ v. v.0.turns) are;
         outs = ap (λ v. v.1) are;
+        looks = ap (λ v. v.0.looks) are ∙ ap (λ (n : ℕ). (view s).looks ++ n ∷ []) (sym clock);
         rises = omega (arith, known, clock);
         own = noted_acts o m u place asked ∙ own;
       }

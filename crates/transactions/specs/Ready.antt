@@ -61,7 +61,7 @@ module _ {V : Type 0} where
     pub ready : IsReady t u
     pub since : HasBegunSince t u
     pub calls : IsOpen (opening_of t) s.seat → CallsTo (opening_of t) s.seat call u.seat r
-    pub kinds : IfErr r IsCallRefusal
+    pub kinds : IfErr r (IsCallRefusal call.op)
     pub begins : begins_of u.seat ≡ begins_of s.seat
     pub none : standing (opening_of t) s.seat ≡ Rests → (r ≡ Err NoTransaction) × (u ≡ s)
 

@@ -3,6 +3,7 @@ use Rattle.std.specs.Prelude.{◌≡◌, ◌⊎◌, ℕ, ◌≤◌, Bool, true, 
 use Rattle.std.specs.Prelude.{Result, Ok, Err, IfOk, IfErr, OnErr}
 use Rattle.tx_sets.specs.Entries.{Entries}
 use Rattle.seq_model.specs.declared.call.Call.{Call}
+use Rattle.seq_model.specs.declared.call.Op.{Op}
 use Rattle.seq_model.specs.declared.call.Reply.{Reply}
 use Rattle.seq_model.specs.declared.event.Answer.TheVariants as answer
 use Rattle.seq_model.specs.declared.event.Request.{Request}
@@ -20,23 +21,24 @@ use Rattle.tx_table.specs.Seated.{IsSameSeat, actor, acts, out, view}
 use Rattle.tx_table.specs.declared.view.Turn.{Turn}
 use Rattle.tx_turns.specs.Asked.{Answers}
 use Rattle.tx_phases.specs.Phases.{Rests, Stands, Calls, IsMistaken}
-use Rattle.driven_turns.specs.Driven.{Driven, HasFound, HasTold, IsExhausted, IsNumberOf, is_declared, seat_in, standing}
+use Rattle.driven_turns.specs.Driven.{Driven, HasFound, HasTold, IsExhausted, IsLoading, IsNumberOf, IsOnCollection, is_declared, seat_in}
+use Rattle.driven_turns.specs.Driven.{standing}
 
 -- there is some entry
 abbrev pub has_some : Entries → Bool
 has_some [] = false
 has_some (e ∷ es) = true
 
--- so a call may be refused
-unfoldable pub IsCallRefusal : Refusal → Type 0
-IsCallRefusal NoTransaction = Unit {0}
-IsCallRefusal NoSuch = Unit {0}
-IsCallRefusal TooLong = Unit {0}
-IsCallRefusal (Moved l word) = Unit {0}
-IsCallRefusal (Stale l base word) = Unit {0}
-IsCallRefusal (GateBusy k) = Unit {0}
-IsCallRefusal OutOfMemory = Unit {0}
-IsCallRefusal cause = ⊥
+-- So a call may be refused. The write of a word loads nothing; and what is stale, or has a gate, is a collection.
+unfoldable pub IsCallRefusal : {V : Type 0} → Op V → Refusal → Type 0
+IsCallRefusal op NoTransaction = Unit {0}
+IsCallRefusal op NoSuch = Unit {0}
+IsCallRefusal op TooLong = Unit {0}
+IsCallRefusal op (Moved l word) = IsLoading op
+IsCallRefusal op (Stale l base word) = IsOnCollection op
+IsCallRefusal op (GateBusy k) = IsOnCollection op
+IsCallRefusal op OutOfMemory = Unit {0}
+IsCallRefusal op cause = ⊥
 
 -- and so a commit
 unfoldable pub IsCommitRefusal : Refusal → Type 0
@@ -64,7 +66,8 @@ module _ {V : Type 0} where
     pub more : List (Turn V)
     pub turns : (view u).turns ≡ (view s).turns ++ more
 
-  -- The seat knows a clock that is no lower, and nothing else of it or of its actor's own world has changed, but perhaps its last number.
+  -- The seat has loaded the clock once beside its turns, and knows it. It is no lower, and nothing else of the seat or of its actor's own
+  -- world has changed, but perhaps its last number.
   pub record OnlyKnows (o : World V) (s u : Seat V) : Type 0 where
     pub seat : (u.place.table_id ≡ s.place.table_id) × (actor u ≡ actor s)
     pub shares : (view u).shares ≡ (view s).shares
@@ -72,6 +75,7 @@ module _ {V : Type 0} where
     pub joined : (view u).joined ≡ (view s).joined
     pub turns : (view u).turns ≡ (view s).turns
     pub outs : out u ≡ out s
+    pub looks : (view u).looks ≡ (view s).looks ++ (view u).clock ∷ []
     pub rises : (view s).clock ≤ (view u).clock
     pub own : acts o u ≡ acts o s
 
@@ -160,7 +164,7 @@ module _ {V : Type 0} where
     pub keeps : KeepsReceipts s u
     pub leaves : (calls : List (Call V × Reply V)) → standing o s ≡ Stands calls → CallLeaves o s calls call u r
     pub answered : IsAnswered o s (request.Call call) u (told_of r)
-    pub kinds : IfErr r IsCallRefusal
+    pub kinds : IfErr r (IsCallRefusal call.op)
     pub began : IsOpen o u → (seat_in o u).rv ≡ (seat_in o s).rv
 
   -- ---- a commit

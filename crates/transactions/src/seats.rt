@@ -163,7 +163,7 @@ impl<V: Value> TxSeat<V> {
         )
     }
 
-    /// A word is read, as `call` has it.
+    /// A word is read, as `call` has it: refused as `NoTransaction`, `NoSuch`, `TooLong`, `OutOfMemory` or `Moved`.
     pub fn read(&mut self, table: &TxTable<V>, word: u32) -> Result<Reply<V>, Refusal>
         requires ready { IsReady table.now self.old }
         requires since { HasBegunSince table.now self.old }
@@ -176,7 +176,7 @@ impl<V: Value> TxSeat<V> {
         self.call(table, call)
     }
 
-    /// A word is written, once the transaction commits, as `call` has it.
+    /// A word is written, once the transaction commits, as `call` has it: refused as `NoTransaction`, `NoSuch`, `TooLong` or `OutOfMemory`.
     pub fn write(&mut self, table: &TxTable<V>, word: u32, value: u64) -> Result<Reply<V>, Refusal>
         requires ready { IsReady table.now self.old }
         requires since { HasBegunSince table.now self.old }
@@ -215,8 +215,7 @@ impl<V: Value> TxSeat<V> {
     }
 
     /// The seat knows of a commit with this number, which others told it of: its next transaction begins at that number, or above it.
-    /// The clock is loaded first. `Ahead` where what the seat knows of it then is below the number, and the number is not learnt; that the
-    /// load was made, no contract says.
+    /// The clock is loaded first, once. `Ahead` where it is below the number, and the number is not learnt.
     pub fn learn(&mut self, table: &TxTable<V>, number: u64) -> Result<(), Refusal>
         requires ready { IsReady table.now self.old }
         ensures ready { IsReady table.now self.new }
@@ -232,14 +231,6 @@ impl<V: Value> TxSeat<V> {
         }
         self.seat.note(number);
         Ok(())
-    }
-
-    /// How many calls are usual at this seat: as many as the transaction had that committed or ended last, or, up to sixteen, one fewer
-    /// than were usual before it, where that is more; 0 at first. It is there to make room by: no contract says that it is so many.
-    pub fn usual_calls(&self) -> usize
-        ensures { result ≡ self.now.actor.usual_calls }
-    {
-        self.actor.usual_calls
     }
 
     /// The greatest number that this seat committed or learnt; 0 at first.

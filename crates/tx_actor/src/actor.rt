@@ -79,8 +79,6 @@ pub struct TxActor<V> {
     pub calls: Vec<(Call<V>, Reply<V>)>,
     /// The calls of the transaction that was recorded or ended last, for its record to be taken from here.
     pub made: Vec<(Call<V>, Reply<V>)>,
-    /// How many calls are usual here: the next transaction gets room for as many at once. Nothing is promised of it.
-    pub usual_calls: usize,
     /// What it has of the collections that its calls touched, each of which stands here once.
     pub copies: Vec<CopyOf<V>>,
     /// Memory that earlier calls and transactions took.

@@ -13,7 +13,7 @@ ghost use Rattle.actor_words.specs.Dispatch.{is_loading};
 ghost use Rattle.tx_actor.specs.Running.{Does, seat_of, stage_of};
 
 use crate::actor::{Stage, Told, TxActor};
-use crate::room::reserve_call;
+use crate::room::{move_calls, reserve_call, reserve_made};
 use actor_words::{
     Blocks, close_words, fits_one, lock_words, read_word, seek_word, store_words, write_word,
     written_homes,
@@ -41,7 +41,7 @@ impl<V: Drop> TxActor<V> {
         let Some(found) = seek_word(&mut self.words, word) else {
             return Ok(Told::Refused(Refusal::TooLong));
         };
-        reserve_call(&mut self.calls, self.usual_calls)?;
+        reserve_call(&mut self.calls)?;
         match read_word(&mut self.words, word, found)? {
             Some(value) => Ok(self.read(word, value)),
             None => {
@@ -79,7 +79,7 @@ impl<V: Drop> TxActor<V> {
         if !fits_one(&mut self.words.writes, word) {
             return Ok(Told::Refused(Refusal::TooLong));
         }
-        reserve_call(&mut self.calls, self.usual_calls)?;
+        reserve_call(&mut self.calls)?;
         write_word(&mut self.words, word, value)?;
         let call = Call {
             target: word,
@@ -90,7 +90,8 @@ impl<V: Drop> TxActor<V> {
         Ok(Told::Answered(Answer::Replied(Reply::Done)))
     }
 
-    /// Its transaction is to commit. Where it has written, the collections with a written location are found now.
+    /// Its transaction is to commit. Where it has written, the collections with a written location are found now. Its calls move into a
+    /// list that has room for them alone, which its receipt is going to keep; theirs serves the next transaction.
     #[inline(always)]
     pub fn asks_to_commit(&mut self, alloc: Global, blocks: &Blocks) -> Result<Told<V>, Memory>
         ensures ok { IfOk result (λ told. Asks blocks.now self.old self.new told
@@ -99,14 +100,17 @@ impl<V: Drop> TxActor<V> {
         ensures keeps { is_loading (stage_of self.old.stage) ≡ false → KeepsIn blocks.now self.old self.new }
         ensures copies { self.new.copies ≡ self.old.copies }
     {
+        reserve_made(&mut self.made, &self.calls)?;
         if self.words.writes.len() == 0 {
             close_words(&mut self.words, blocks.end() as usize)?;
+            move_calls(&mut self.calls, &mut self.made);
             self.stage = Stage::Closing;
             return Ok(Told::Quiet);
         }
         let list = self.spares.homes(alloc);
         let homes = written_homes(list, blocks, &self.words.writes)?;
         lock_words(&mut self.words, blocks.end() as usize)?;
+        move_calls(&mut self.calls, &mut self.made);
         self.stage = Stage::Locking(homes);
         Ok(Told::Quiet)
     }

@@ -15,7 +15,6 @@ ghost use Rattle.tx_actor.specs.declared.actor.Asked.{Asked};
 
 use crate::actor::{Stage, Told, TxActor};
 use crate::hand::Asking;
-use crate::room::usual_after;
 use crate::steps::has_none;
 use actor_words::{WordNotice, of_told};
 use seq_model::Refusal;
@@ -103,7 +102,6 @@ impl<V: Drop> TxActor<V> {
         ensures made { self.new.made.items ≡ self.old.calls.items }
     {
         mem::swap(&mut self.made, &mut self.calls);
-        self.usual_calls = usual_after(self.usual_calls, self.made.len());
         match heard {
             WordNotice::Stored => self.goes_home(homes),
             _ => self.stored_one(homes),

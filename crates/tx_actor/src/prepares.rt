@@ -33,7 +33,7 @@ impl<V: Value> TxActor<V> {
         ensures alike { IsAlike self.old self.new }
         ensures room { OnOk result (HasRoomFor self.new place outcome.now reads writes) }
     {
-        reserve_call(&mut self.calls, self.usual_calls)?;
+        reserve_call(&mut self.calls)?;
         reserve_words(&mut self.words, reads, writes)?;
         self.copies[place].copied.ready(outcome)?;
         Ok(())

@@ -24,7 +24,7 @@ ghost use Rattle.tx_actor.specs.Running.{stage_in, stage_of};
 
 use crate::actor::{Stage, Told, TxActor};
 use crate::hand::{Asking, Kept};
-use crate::room::usual_after;
+use crate::room::keep_larger;
 use actor_words::{abort, cancel, release};
 use seq_model::{Answer, Call, Op, Refusal, Reply};
 use std::alloc::Global;
@@ -118,7 +118,6 @@ impl<V: Drop> TxActor<V> {
             cause: None,
             calls: Vec::new(alloc),
             made: Vec::new(alloc),
-            usual_calls: 0,
             copies: Vec::new(alloc),
             spares: Kept::new(alloc),
         }
@@ -148,6 +147,7 @@ impl<V: Drop> TxActor<V> {
         ensures keeps { (v : BlocksView) → KeepsIn v (at self.old Stage.Idle) self.new }
         ensures leaves { KeepsCopies (at self.old Stage.Beginning) self.new }
     {
+        keep_larger(&mut self.calls, &mut self.made);
         self.clear(Stage::Open, rv);
         Told::Answered(Answer::Begun(rv))
     }
@@ -187,7 +187,6 @@ impl<V: Drop> TxActor<V> {
     {
         let number = self.rv;
         mem::swap(&mut self.made, &mut self.calls);
-        self.usual_calls = usual_after(self.usual_calls, self.made.len());
         self.clear(Stage::Idle, 0);
         Told::Answered(Answer::Committed(number))
     }
@@ -202,7 +201,6 @@ impl<V: Drop> TxActor<V> {
     {
         let cause = self.cause;
         mem::swap(&mut self.made, &mut self.calls);
-        self.usual_calls = usual_after(self.usual_calls, self.made.len());
         self.clear(Stage::Idle, 0);
         match cause {
             None => Told::Answered(Answer::Aborted),

@@ -53,7 +53,7 @@ tally f i [] = 0
 tally f i (x ∷ xs) = f i x + tally f (suc i) xs
 
 abbrev pub first : {V : Type 0} → View V
-first = record { shares = SHARES; clock = 0; turns = []; receipts = []; joined = [] }
+first = record { shares = SHARES; clock = 0; turns = []; receipts = []; joined = []; looks = [] }
 
 abbrev pub owed_of : ℕ → Place → ℕ
 owed_of zero p = 0
@@ -62,12 +62,25 @@ owed_of (suc k) p = stamps_left p
 module _ {V : Type 0} where
   -- the seat, once its actor has taken this turn, has committed these, and knows this clock
   abbrev pub acting : View V → Turn V → List (ℕ × Record V) → ℕ → View V
-  acting v i rs k =
-      record { shares = v.shares; clock = k; turns = v.turns ++ i ∷ []; receipts = v.receipts ++ rs; joined = v.joined }
+  acting v i rs k = record {
+    shares = v.shares;
+    clock = k;
+    turns = v.turns ++ i ∷ [];
+    receipts = v.receipts ++ rs;
+    joined = v.joined;
+    looks = v.looks;
+  }
 
-  -- the seat, once it knows this clock
+  -- the seat, once it has loaded the clock beside its turns, and found this
   abbrev pub looking : View V → ℕ → View V
-  looking v k = record { shares = v.shares; clock = k; turns = v.turns; receipts = v.receipts; joined = v.joined }
+  looking v k = record {
+    shares = v.shares;
+    clock = k;
+    turns = v.turns;
+    receipts = v.receipts;
+    joined = v.joined;
+    looks = v.looks ++ k ∷ [];
+  }
 
   -- what the seat of actor j may still add to the clock; one without shares steps no more
   abbrev pub owed : World V → ℕ → View V → ℕ
@@ -185,10 +198,17 @@ module _ {V : Type 0} where
       × tells (get_or s.words i 0) (v, carried_after m.1 a)
 
   abbrev pub left_of : ℕ → View V → View V
-  left_of k v = record { shares = v.shares - k; clock = v.clock; turns = v.turns; receipts = v.receipts; joined = v.joined }
+  left_of k v = record {
+    shares = v.shares - k;
+    clock = v.clock;
+    turns = v.turns;
+    receipts = v.receipts;
+    joined = v.joined;
+    looks = v.looks;
+  }
 
   abbrev pub right_of : ℕ → View V → View V
-  right_of k v = record { shares = k; clock = 0; turns = []; receipts = []; joined = [] }
+  right_of k v = record { shares = k; clock = 0; turns = []; receipts = []; joined = []; looks = [] }
 
   -- v, with the seat of this actor joined into it, which had u
   abbrev pub both_of : View V → ℕ → View V → View V
@@ -198,10 +218,11 @@ module _ {V : Type 0} where
     turns = v.turns;
     receipts = v.receipts ++ u.receipts;
     joined = v.joined ++ (other, u.turns) ∷ u.joined;
+    looks = v.looks;
   }
 
   abbrev pub spent_of : View V → View V
-  spent_of u = record { shares = 0; clock = 0; turns = u.turns; receipts = []; joined = [] }
+  spent_of u = record { shares = 0; clock = 0; turns = u.turns; receipts = []; joined = []; looks = [] }
 
   -- nothing is under way
   pub record IsOpening (o : World V) : Type 0 where

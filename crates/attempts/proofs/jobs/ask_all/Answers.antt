@@ -1,17 +1,9 @@
-use Rattle.std.proofs.Common.{[], inr, ◌∙◌}
+use Rattle.std.proofs.Common.{◌∙◌}
 use Rattle.std.proofs.lemmas.Result.{err_from_is_err_and}
 use Rattle.tx_table.specs.Seated.{opening_of}
-use Rattle.attempts.proofs.AttemptLemmas.{fresh_so_far, keeps_self, reaches_before, starved, unmade_before}
+use Rattle.attempts.proofs.AttemptLemmas.{reaches_before, unmade_before}
 use Rattle.transactions.proofs.RequestLemmas.{then_keeps}
 use Rattle.attempts.proofs.jobs.ask_all.Goals as goal
-
-pub returns-in_err-reserve-clause-refused : goal.returns-in_err-reserve-clause-refused
-returns-in_err-reserve-clause-refused g c =
-    let asks = g.J.Job.asks c.args.job.now in
-    let o = opening_of c.args.table.now in
-    let s = c.args.seat.now.seat in
-    let p = err_from_is_err_and c.from_residual.result c.from_residual.ensures.1 in
-    rw (p.1, p.2) (inr (starved asks o s s [] (keeps_self s) (fresh_so_far asks o s c.requires.fresh)))
 
 pub returns-in_err-end-clause-keeps : goal.returns-in_err-end-clause-keeps
 returns-in_err-end-clause-keeps g c =

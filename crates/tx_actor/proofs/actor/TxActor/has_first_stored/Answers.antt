@@ -36,14 +36,14 @@ returns-in_default-clause-made g c =
 pub returns-in-Stored-clause-keeps : goal.returns-in-Stored-clause-keeps
 returns-in-Stored-clause-keeps g c v =
     keeps_from v c.args.self.now
-    (record c.args.self.now { made = c.swap.new.x; calls = c.swap.new.y; usual_calls = c.usual_after-self.result })
+    (record c.args.self.now { made = c.swap.new.x; calls = c.swap.new.y })
     c.goes_home.new.self (stage.Ready c.args.homes) (stage.Homing c.args.homes) refl
     (c.goes_home.ensures.keeps v) (λ n h. h) (λ z. tt)
 
 pub returns-in_default-clause-keeps : goal.returns-in_default-clause-keeps
 returns-in_default-clause-keeps g c v =
     keeps_from v c.args.self.now
-    (record c.args.self.now { made = c.swap.new.x; calls = c.swap.new.y; usual_calls = c.usual_after-self.result })
+    (record c.args.self.now { made = c.swap.new.x; calls = c.swap.new.y })
     c.stored_one.new.self (stage.Ready c.args.homes) (stage.Storing c.args.homes) refl
     (c.stored_one.ensures.keeps v) (λ n h. h) (λ z. tt)
 
