@@ -147,6 +147,7 @@ module _ {V : Type 0} where
     turns = sym (append-nil (view s).turns);
     shares = refl;
     joined = refl;
+    looks = refl;
     gains = sym (append-nil (view s).receipts);
     rises = omega arith;
     comes = under;
@@ -414,6 +415,7 @@ module _ {V : Type 0} where
               ∙ append_assoc (view s).turns D.more (record { asks = list_of u.asked; found = T.found; base = T.base } ∷ []));
           shares = ap (λ (k : View V). k.shares) T.takes.turn ∙ D.shares;
           joined = ap (λ (k : View V). k.joined) T.takes.turn ∙ D.joined;
+          looks = ap (λ (k : View V). k.looks) T.takes.turn ∙ D.looks;
           gains = T.gains ∙ ((λ i. D.gains i ++ (makes ∙ ap (λ (b : ℕ). as_receipts b e) same) i)
               ∙ gained (seated.actor s) e d (view s).receipts new);
           rises = (let p = D.rises in let q = rises_to in omega (arith, p, q));

@@ -187,6 +187,7 @@ module _ {V : Type 0} where
           turns = D.turns ∙ (ap (λ (is : List (Turn V)). is ++ D.more) turns_to ∙ append_assoc (view s).turns S.driven.more D.more);
           shares = D.shares ∙ (ap (λ k. k.0.shares) S.starved.taken.1 ∙ S.driven.shares);
           joined = D.joined ∙ (ap (λ k. k.0.joined) S.starved.taken.1 ∙ S.driven.joined);
+          looks = D.looks ∙ (ap (λ k. k.0.looks) S.starved.taken.1 ∙ S.driven.looks);
           gains = D.gains ∙ (append-nil (view u).receipts ∙ (ap (λ k. k.0.receipts) S.starved.taken.1 ∙ S.driven.gains));
           rises = (let p = S.driven.rises in let q = D.rises in
               let e : (view u).clock ≡ (view m).clock = ap (λ k. k.0.clock) S.starved.taken.1 in omega (arith, p, q, e));

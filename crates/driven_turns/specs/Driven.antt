@@ -191,13 +191,15 @@ module _ {V : Type 0} where
       → IsStamped (view u).clock (actor_of (acts o u) (actor u))
 
   -- The seat s took turns and is u, each but the last of which told nothing; the last tells n. It has these turns more, and the receipt
-  -- that they made, if any; the definitions say what the request comes to, and what is told is true.
+  -- that they made, if any, and has loaded the clock at none but its turns; the definitions say what the request comes to, and what is told
+  -- is true.
   pub record Driven (o : World V) (s u : Seat V) (n : Told V) (d : Option (Record V)) : Type 0 where
     pub seat : IsSameSeat s u
     pub more : List (Turn V)
     pub turns : (view u).turns ≡ (view s).turns ++ more
     pub shares : (view u).shares ≡ (view s).shares
     pub joined : (view u).joined ≡ (view s).joined
+    pub looks : (view u).looks ≡ (view s).looks
     pub gains : (view u).receipts ≡ (view s).receipts ++ as_receipts (actor s) d
     pub rises : (view s).clock ≤ (view u).clock
     pub comes : ComesTo (actor s) (seat_in o s) (notice_of (actor s) n) (seat_in o u) d

@@ -168,6 +168,7 @@ module _ {V : Type 0} where
             shares = D.shares;
             receipts = D.gains;
             joined = D.joined;
+            looks = D.looks;
             outs = outs;
             rises = D.rises;
             rests = h.0;
@@ -209,6 +210,7 @@ module _ {V : Type 0} where
     shares = h.shares ∙ kept.shares;
     receipts = h.receipts ∙ (λ i. kept.receipts i ++ (kept.seat.1 i, r) ∷ []);
     joined = h.joined ∙ kept.joined;
+    looks = h.looks ∙ kept.looks;
     outs = h.outs ∙ kept.outs;
     rises = (let p = h.rises in let q = kept.rises in omega (arith, p, q));
     rests = h.rests;

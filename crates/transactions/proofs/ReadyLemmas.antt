@@ -215,6 +215,7 @@ module _ {V : Type 0} where
       shares = ap (λ p. p.me.0.shares) place ∙ h.shares;
       receipts = ap (λ p. p.me.0.receipts) place ∙ h.receipts;
       joined = ap (λ p. p.me.0.joined) place ∙ h.joined;
+      looks = ap (λ p. p.me.0.looks) place ∙ h.looks;
       outs = ap (λ p. p.me.1) place ∙ h.outs;
       rises = (let e : (view u).clock ≡ (view s).clock = ap (λ p. p.me.0.clock) place in let q = h.rises in omega (arith, e, q));
       rests = noted_stands ∙ h.rests;

@@ -204,6 +204,7 @@ module _ {V : Type 0} where
     shares = h.shares ∙ g.shares;
     receipts = h.receipts ∙ g.receipts;
     joined = h.joined ∙ g.joined;
+    looks = h.looks ∙ g.looks;
     outs = h.outs ∙ g.outs;
     rises = (let p = g.rises in let q = h.rises in omega (arith, p, q));
     more = g.more ++ h.more;
@@ -217,6 +218,7 @@ module _ {V : Type 0} where
     shares = ap (λ k. k.0.shares) had.1;
     receipts = ap (λ k. k.0.receipts) had.1;
     joined = ap (λ k. k.0.joined) had.1;
+    looks = ap (λ k. k.0.looks) had.1;
     outs = ap (λ k. k.1) had.1;
     rises = (let e : (view m).clock ≡ (view s).clock = ap (λ k. k.0.clock) had.1 in omega (arith, e));
     more = [];
@@ -234,6 +236,7 @@ module _ {V : Type 0} where
     shares = D.shares;
     receipts = D.gains ∙ ((λ i. (view s).receipts ++ as_receipts (seated.actor s) (none i)) ∙ append-nil (view s).receipts);
     joined = D.joined;
+    looks = D.looks;
     outs = outs;
     rises = D.rises;
     more = D.more;

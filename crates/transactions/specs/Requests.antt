@@ -55,12 +55,13 @@ module _ {V : Type 0} where
   IsOpen o s = (calls : List (Call V × Reply V)) × (standing o s ≡ Stands calls)
 
   -- The seat is the same one, with the same shares, and neither receipts nor bases were gained, nor was a seat joined into it. It has taken
-  -- these turns, and knows no lower clock.
+  -- these turns, has loaded the clock at no others, and knows no lower one.
   pub record KeepsReceipts (s u : Seat V) : Type 0 where
     pub seat : IsSameSeat s u
     pub shares : (view u).shares ≡ (view s).shares
     pub receipts : (view u).receipts ≡ (view s).receipts
     pub joined : (view u).joined ≡ (view s).joined
+    pub looks : (view u).looks ≡ (view s).looks
     pub outs : out u ≡ out s
     pub rises : (view s).clock ≤ (view u).clock
     pub more : List (Turn V)
@@ -184,6 +185,7 @@ module _ {V : Type 0} where
     pub shares : (view u).shares ≡ (view s).shares
     pub receipts : (view u).receipts ≡ (view s).receipts ++ (actor s, r) ∷ []
     pub joined : (view u).joined ≡ (view s).joined
+    pub looks : (view u).looks ≡ (view s).looks
     pub outs : out u ≡ out s
     pub rises : (view s).clock ≤ (view u).clock
     pub rests : standing o u ≡ Rests
