@@ -215,7 +215,8 @@ impl<V: Value> TxSeat<V> {
     }
 
     /// The seat knows of a commit with this number, which others told it of: its next transaction begins at that number, or above it.
-    /// The clock is loaded first, once. `Ahead` where it is below the number, and the number is not learnt.
+    /// The clock is loaded first, once. `Ahead` where it is below the number, and the number is not learnt. A transaction that is open stays
+    /// open; one that began below a number that was learnt may only be aborted.
     pub fn learn(&mut self, table: &TxTable<V>, number: u64) -> Result<(), Refusal>
         requires ready { IsReady table.now self.old }
         ensures ready { IsReady table.now self.new }

@@ -27,7 +27,8 @@ pub struct Tx<'a, V> {
     pub(crate) seat: &'a mut TxSeat<V>,
 }
 
-/// A transaction begins; one that was left open at the seat is aborted first. `Exhausted` at the limit of the clock, and none is open then.
+/// A transaction begins; one that was left open at the seat is aborted first. `Exhausted` at the limit of the clock: none is open then, and
+/// the seat has its receipts and its last number.
 pub fn begin<'a, V: Value>(
     seat: &'a mut TxSeat<V>,
     table: &'a TxTable<V>,

@@ -22,7 +22,8 @@ impl<V> Seat<V> {
         self.last
     }
 
-    /// The seat committed this number, or learnt it; it is no higher than the clock that the seat knows.
+    /// The seat has committed this number, or is to know of it; it is no higher than the clock that the seat knows. That it was a commit's is
+    /// the caller's to say: `last_number` tells what was noted here.
     pub fn note(&mut self, number: u64)
         requires { number ≤ (view self.old).clock }
         ensures last { self.new.last ≡ max self.old.last number }
