@@ -77,7 +77,8 @@ pub struct TxActor<V> {
     /// Why it is being aborted; none where its actor asked for it.
     pub cause: Option<Refusal>,
     pub calls: Vec<(Call<V>, Reply<V>)>,
-    /// The calls of the transaction that was recorded or ended last, for its record to be taken from here.
+    /// The calls of the transaction that was recorded or ended last, for its record to be taken from here; while a commit is under way, the
+    /// emptied list in which its calls gathered.
     pub made: Vec<(Call<V>, Reply<V>)>,
     /// What it has of the collections that its calls touched, each of which stands here once.
     pub copies: Vec<CopyOf<V>>,

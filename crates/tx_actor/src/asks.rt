@@ -90,8 +90,8 @@ impl<V: Drop> TxActor<V> {
         Ok(Told::Answered(Answer::Replied(Reply::Done)))
     }
 
-    /// Its transaction is to commit. Where it has written, the collections with a written location are found now. Its calls move into a
-    /// list that has room for them alone, which its receipt is going to keep; theirs serves the next transaction.
+    /// Its transaction is to commit. Where it has written, the collections with a written location are found now. Its calls move into
+    /// the list that its receipt is going to keep; theirs serves the next transaction.
     #[inline(always)]
     pub fn asks_to_commit(&mut self, alloc: Global, blocks: &Blocks) -> Result<Told<V>, Memory>
         ensures ok { IfOk result (λ told. Asks blocks.now self.old self.new told

@@ -17,7 +17,8 @@ pub(crate) fn reserve_call<V>(calls: &mut Vec<(Call<V>, Reply<V>)>) -> Result<()
     calls.reserve(1)
 }
 
-/// Empties the list that a receipt is going to keep, and makes room in it for these calls: for no more, where it has less.
+/// Empties the list that a receipt is going to keep, and makes room in it for these calls, and for no more. What room it has already, of a
+/// commit that was refused, stays.
 pub(crate) fn reserve_made<V: Drop>(
     made: &mut Vec<(Call<V>, Reply<V>)>,
     calls: &Vec<(Call<V>, Reply<V>)>,
