@@ -43,7 +43,7 @@ use Rattle.tx_phases.specs.Phases.{Phase, Rests, Begins, Stands, Calls, Commits,
 use Rattle.driven_turns.proofs.CauseLemmas.{IsOfCommit, call_cause, commit_cause}
 use Rattle.driven_turns.proofs.DeclaredLemmas.{begin_declared}
 use Rattle.driven_turns.proofs.KeptLemmas.{Keeps, steps_keep}
-use Rattle.driven_turns.proofs.BeginLemmas.{turn_begins}
+use Rattle.driven_turns.proofs.RequestedLemmas.{turn_requests}
 use Rattle.driven_turns.proofs.StampLemmas.{begun_clock, exhausted_clock, numbered, stamped_step}
 use Rattle.driven_turns.proofs.WritingLemmas.{commits_first, is_commit, is_one, written_on}
 use Rattle.driven_turns.specs.Driven.{Driven, HasFound, IsNumberOf, IsReason, IsStamped, IsTrue, IsTurnFrom, IsWritten, KnowsNumber}
@@ -158,7 +158,7 @@ module _ {V : Type 0} where
     declared = λ _ _. refl;
     stamped = λ knows. knows;
     numbered = λ knows r none. absurd (let z : ⊥ = cc in z);
-    begins = refl;
+    asks = refl;
   }
 
   -- ---- one turn more
@@ -430,7 +430,7 @@ module _ {V : Type 0} where
           declared = declared_stays;
           stamped = stamped_on;
           numbered = λ knows r is. numbered_on knows e r made_u new is;
-          begins = turn_begins u z (record { asks = list_of u.asked; found = T.found; base = T.base })
+          asks = turn_requests u z (record { asks = list_of u.asked; found = T.found; base = T.base })
               (ap (λ (k : View V). k.turns) T.takes.turn) refl T.takes.none
-              ∙ D.begins;
+              ∙ D.asks;
         }

@@ -3,7 +3,7 @@
 -- It is being given up in the own world of its seat by then, and what it is told at its end is that want (`is_memory`). So its turns up to
 -- there, and those by which its gates and its locks went back, are together the turns of the request: it has no transaction any more, and
 -- made no record.
-use Rattle.std.proofs.Common.{◌≡◌, ◌≢◌, ℕ, ◌+◌, true, true≢false, List, [], ◌∷◌, ◌++◌, Option, Some, None, inl, inr, refl, sym, ap, ◌∙◌}
+use Rattle.std.proofs.Common.{◌≡◌, ◌≢◌, ℕ, true, true≢false, List, [], ◌∷◌, ◌++◌, Option, Some, None, inl, inr, refl, sym, ap, ◌∙◌}
 use Rattle.std.proofs.Common.{subst}
 use Rattle.std.proofs.Common.{arith}
 use Rattle.std.proofs.lemmas.List.{append-nil, append_assoc}
@@ -34,12 +34,12 @@ use Rattle.tx_phases.specs.Courses.{ComesTo, EndsFrom, IsUnderWay, IsUnderWayFro
 use Rattle.tx_phases.specs.Phases.{Phase, Rests, Begins, Stands, Calls, Commits, Committed, Ends, phase, phase_at}
 use Rattle.tx_turns.specs.Asked.{Starved}
 use Rattle.tx_turns.specs.Ties.{Ties}
-use Rattle.driven_turns.proofs.BeginLemmas.{taken_begins}
+use Rattle.driven_turns.proofs.RequestedLemmas.{taken_requests}
 use Rattle.driven_turns.proofs.DrivenLemmas.{driven_on}
 use Rattle.driven_turns.proofs.NextLemmas.{IsHalfway, load_wants, turn_wants, wants_halfway}
 use Rattle.driven_turns.proofs.SinceLemmas.{told_back}
 use Rattle.gate_turns.specs.Refused.{IsGivenUp}
-use Rattle.driven_turns.specs.Begins.{begins_of}
+use Rattle.driven_turns.specs.Requested.{requests_of}
 use Rattle.driven_turns.specs.Driven.{Driven, IsTrue, MayWant, Stops, WantsMemory, seat_in, standing}
 
 module _ {V : Type 0} where
@@ -200,6 +200,5 @@ module _ {V : Type 0} where
           declared = λ _ going. absurd (going rests);
           stamped = λ _ calls e. absurd (no_commit (phase (seat_in o z)) calls rests e);
           numbered = λ _ r none. absurd (let f : ⊥ = cc in f);
-          begins = (let p = D.begins in let q : begins_of u ≡ begins_of m + 0 = taken_begins m u (Starve 0) S.starved.taken in
-              let r = S.driven.begins in omega (arith, p, q, r));
+          asks = D.asks ∙ (taken_requests m u (Starve 0) S.starved.taken ∙ (append-nil (requests_of m) ∙ S.driven.asks));
         }

@@ -1,4 +1,4 @@
-pub mod BeginLemmas
+pub mod RequestedLemmas
 pub mod WritingLemmas
 pub mod KeptLemmas
 pub mod StampLemmas

@@ -34,7 +34,7 @@ use Rattle.tx_turns.specs.Ties.{commits}
 use Rattle.tx_actor.specs.declared.actor.TxActor.{TxActor}
 use Rattle.tx_phases.specs.Courses.{ComesTo, latest}
 use Rattle.tx_phases.specs.Phases.{Phase, Rests, Begins, Stands, Calls, Commits, Ends, IsMistaken, phase}
-use Rattle.driven_turns.specs.Begins.{begins_of}
+use Rattle.driven_turns.specs.Requested.{requests_of}
 
 -- a commit that has its number checks what it has read, or has done so: the number is no higher than this clock
 abbrev pub IsStampedAt : ℕ → Actor → Place → Type 0
@@ -191,8 +191,8 @@ module _ {V : Type 0} where
       → IsStamped (view u).clock (actor_of (acts o u) (actor u))
 
   -- The seat s took turns and is u, each but the last of which told nothing; the last tells n. It has these turns more, and the receipt
-  -- that they made, if any, and has loaded the clock at none but its turns; the definitions say what the request comes to, and what is told
-  -- is true.
+  -- that they made, if any, and has loaded the clock at none but its turns, and its actor was asked nothing more; the definitions say what
+  -- the request comes to, and what is told is true.
   pub record Driven (o : World V) (s u : Seat V) (n : Told V) (d : Option (Record V)) : Type 0 where
     pub seat : IsSameSeat s u
     pub more : List (Turn V)
@@ -210,7 +210,7 @@ module _ {V : Type 0} where
     pub declared : standing o s ≡ Begins → (standing o u ≡ Rests → ⊥) → is_declared o u ≡ is_declared o s
     pub stamped : KnowsNumber o s → KnowsNumber o u
     pub numbered : KnowsNumber o s → (r : Record V) → d ≡ Some r → IsNumberOf (seat_in o s).rv (view u).clock r
-    pub begins : begins_of u ≡ begins_of s
+    pub asks : requests_of u ≡ requests_of s
 
   -- how many steps the request of a seat takes at most
   abbrev pub left_in : World V → Seat V → ℕ

@@ -1,2 +1,3 @@
+pub mod Requested
 pub mod Begins
 pub mod Driven

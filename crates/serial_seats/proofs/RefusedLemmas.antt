@@ -46,6 +46,7 @@ use Rattle.tx_table.specs.Turns.{asked_all, found_at, lone, own, spot, stage_of,
 use Rattle.tx_table.specs.declared.view.Turn.{Turn}
 use Rattle.tx_table.specs.declared.seat.Seat as table
 use Rattle.tx_table.proofs.Turned.{found_alike, lone_snoc}
+use Rattle.driven_turns.proofs.RequestedLemmas.{first_begins}
 use Rattle.driven_turns.specs.Begins.{begins_asked, begins_taken}
 use Rattle.driven_turns.specs.Driven.{HasTold}
 use Rattle.serial_seats.proofs.HeldLemmas.{keeps_locks, leaves_bare}
@@ -219,9 +220,10 @@ module _ {V : Type 0} where
 
   rests_on : (a : ℕ) (is : List (Turn V)) (i : Turn V) (w : World V) → begins_taken (is ++ i ∷ []) ≡ 0 → stage_of w a ≡ Idle
       → stage_of (asked_all a (lone a w is) i.asks) a ≡ Idle
-  rests_on a [] i w none e = all_idle a i.asks w (omega (arith, none)) e
+  rests_on a [] i w none e = (let all = first_begins i [] in all_idle a i.asks w (omega (arith, none, all)) e)
   rests_on a (j ∷ is) i w none e =
-      rests_on a is i (took a w j) (omega (arith, none)) (took_idle w a j (omega (arith, none)) e)
+      let all = first_begins j (is ++ i ∷ []) in
+      rests_on a is i (took a w j) (omega (arith, none, all)) (took_idle w a j (omega (arith, none, all)) e)
 
   has_begun : (a : ℕ) (is : List (Turn V)) (i : Turn V) (w : World V) → stage_of w a ≡ Idle
       → stage_of (asked_all a (lone a w is) i.asks) a ≡ Leaving → 0 < begins_taken (is ++ i ∷ [])

@@ -1,5 +1,6 @@
 pub mod RequestLemmas
 pub mod KindLemmas
+pub mod AskLemmas
 pub mod CallLemmas
 pub mod CommitLemmas
 pub mod ReadyLemmas

@@ -4,6 +4,7 @@ use Rattle.std.proofs.Common.{inl, inr, max, refl, sym, ap, ◌∙◌, subst, ar
 use Rattle.seq_model.specs.declared.call.Call.{Call}
 use Rattle.seq_model.specs.declared.call.Reply.{Reply}
 use Rattle.seq_model.specs.declared.event.Answer.TheVariants as answer
+use Rattle.seq_model.specs.declared.event.Request.TheVariants as request
 use Rattle.seq_model.specs.declared.record.Record.{Record}
 use Rattle.seq_model.specs.declared.refusal.Refusal.{Refusal}
 use Rattle.seq_model.specs.declared.refusal.Refusal.TheVariants.{NoTransaction}
@@ -26,12 +27,15 @@ use Rattle.tx_table.specs.Seated as seated
 use Rattle.tx_table.specs.Shown.{IsReached, looking}
 use Rattle.tx_table.specs.Turns.{asked_all, lone}
 use Rattle.tx_phases.specs.Phases.{Rests, phase}
+use Rattle.transactions.proofs.AskLemmas.{asked_still}
 use Rattle.transactions.proofs.KindLemmas.{call_without_transaction, commit_without_transaction}
 use Rattle.transactions.proofs.RequestLemmas.{is_idle, is_open, keeps_self}
-use Rattle.driven_turns.specs.Begins.{begins_asked, begins_of, begins_taken}
+use Rattle.driven_turns.proofs.RequestedLemmas.{same_begins}
+use Rattle.driven_turns.specs.Begins.{begins_of}
 use Rattle.driven_turns.specs.Driven.{HasTold, IsNumberOf, seat_in, standing}
+use Rattle.driven_turns.specs.Requested.{requests_asked, requests_of, requests_taken}
 use Rattle.transactions.specs.Ready.{CanDrive, HasBegunSince, HasCalled, HasFinished, HasOpened, IsNew, IsReady}
-use Rattle.transactions.specs.Requests.{CallLeaves, CallsTo, CommitsTo, HasCommitted, IsBegun, IsNotBegun, IsOpen, OnlyKnows}
+use Rattle.transactions.specs.Requests.{CallLeaves, CallsTo, CommitsTo, HasAskedFor, HasCommitted, IsBegun, IsNotBegun, IsOpen, OnlyKnows}
 use Rattle.transactions.specs.declared.seats.TxSeat.{TxSeat}
 use Rattle.tx_turns.specs.Ties.{Ties, laid_in}
 use Rattle.gate_turns.specs.Bases.{AreBases, gates_at}
@@ -131,13 +135,14 @@ module _ {V : Type 0} where
 
   pub has_called : (t : TxTable V) (s u : TxSeat V) (call : Call V) (r : Result (Reply V) Refusal) → IsReady t s → HasBegunSince t s
       → IsOpen (opening_of t) s.seat → CanDrive t u.seat u.actor → CallsTo (opening_of t) s.seat call u.seat r
-      → begins_of u.seat ≡ begins_of s.seat → HasCalled t s u call r
-  has_called t s u call r ready since opened drives C begins = record {
+      → begins_of u.seat ≡ begins_of s.seat → HasAskedFor s.seat (request.Call call) r u.seat → HasCalled t s u call r
+  has_called t s u call r ready since opened drives C begins asks = record {
     ready = call_ready t s u call r ready opened drives C;
     since = call_since t s u call r since opened C;
     calls = λ _. C;
     kinds = C.kinds;
     begins = begins;
+    asks = λ _. asks;
     none = λ rests. absurd (not_both (opening_of t) s.seat rests opened);
   }
 
@@ -149,6 +154,7 @@ module _ {V : Type 0} where
     calls = λ opened. absurd (isnt (is_open t s.seat s.actor ready.ties opened.0 opened.1));
     kinds = call_without_transaction call.op;
     begins = refl;
+    asks = λ opened. absurd (isnt (is_open t s.seat s.actor ready.ties opened.0 opened.1));
     none = λ _. (refl, refl);
   }
 
@@ -222,8 +228,9 @@ module _ {V : Type 0} where
       told = noted_told before (told.Answered (answer.Committed r.number)) h.told;
     }
 
-  noted_begins : (s u : table.Seat V) → u.place ≡ s.place → u.asked ≡ s.asked → begins_of u ≡ begins_of s
-  noted_begins s u place asked i = begins_taken (place i).me.0.turns + begins_asked (list_of (asked i))
+  noted_requests : (s u : table.Seat V) → u.place ≡ s.place → u.asked ≡ s.asked → requests_of u ≡ requests_of s
+  unfolding requests_of
+  noted_requests s u place asked i = requests_taken (place i).me.0.turns ++ requests_asked (list_of (asked i))
 
   -- a seat whose own world is the same stays tied
   pub stays_tied : (t : TxTable V) (s u : table.Seat V) (r : TxActor V) → Owns t u → seated.actor u ≡ seated.actor s
@@ -334,13 +341,14 @@ module _ {V : Type 0} where
     above = tt;
     last = tt;
     begins = refl;
+    asks = λ opened. absurd (isnt (is_open t s.seat s.actor ready.ties opened.0 opened.1));
     none = λ _. (refl, refl);
   }
 
   pub refused_finished : (t : TxTable V) (s u : TxSeat V) (cause : Refusal) → IsReady t s → IsOpen (opening_of t) s.seat
       → CanDrive t u.seat u.actor → CommitsTo (opening_of t) s.seat u.seat (Err cause) → begins_of u.seat ≡ begins_of s.seat
-      → HasFinished t s u (Err cause)
-  refused_finished t s u cause ready opened drives C begins =
+      → HasAskedFor {A = Record V} s.seat request.Commit (Err cause) u.seat → HasFinished t s u (Err cause)
+  refused_finished t s u cause ready opened drives C begins asks =
       let rests : standing (opening_of t) u.seat ≡ Rests = (C.ended opened).0 in
       record {
         ready = rests_ready t s u ready drives rests;
@@ -349,6 +357,7 @@ module _ {V : Type 0} where
         above = tt;
         last = tt;
         begins = begins;
+        asks = λ _. asks;
         none = λ was. absurd (not_both (opening_of t) s.seat was opened);
       }
 
@@ -364,11 +373,13 @@ module _ {V : Type 0} where
         commit_numbers (seat_in (opening_of t) s.seat).rv (view m).clock s.seat.last r C.number begun.0 known
 
     pub has_finished : (u : TxSeat V) → IsReady t s → CanDrive t m u.actor → m.last ≡ s.seat.last → begins_of m ≡ begins_of s.seat
-        → u.seat.place ≡ m.place → u.seat.asked ≡ m.asked → u.seat.last ≡ max m.last r.number → HasFinished t s u (Ok r)
-    has_finished u ready drives same begins place asked last =
+        → HasAskedFor s.seat request.Commit (Ok r) m → u.seat.place ≡ m.place → u.seat.asked ≡ m.asked
+        → u.seat.last ≡ max m.last r.number → HasFinished t s u (Ok r)
+    has_finished u ready drives same begins asks place asked last =
         let o = opening_of t in
         let rests : standing o u.seat ≡ Rests = noted_stands o m u.seat place asked ∙ C.committed.rests in
         let low = receipt_numbers.1 in
+        let still = noted_requests m u.seat place asked in
         record {
           ready = rests_ready t s u ready (noted_drives t m u.seat u.actor place asked drives) rests;
           rests = rests;
@@ -383,6 +394,7 @@ module _ {V : Type 0} where
           };
           above = receipt_numbers.0;
           last = (low, omega (arith, last, same, low));
-          begins = noted_begins m u.seat place asked ∙ begins;
+          begins = same_begins m u.seat still ∙ begins;
+          asks = λ _. asked_still s.seat m u.seat request.Commit (Ok r) still asks;
           none = λ was. absurd (not_both o s.seat was (r.calls, C.calls));
         }

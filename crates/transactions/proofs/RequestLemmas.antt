@@ -42,12 +42,13 @@ use Rattle.tx_phases.specs.Courses.{EndsFrom, IsUnderWay, IsUnderWayFrom}
 use Rattle.tx_phases.specs.Phases.{AskMoves, Phase, Rests, Begins, Stands, Calls, Ends, phase, phase_at}
 use Rattle.gate_turns.specs.Bases.{gates_at}
 use Rattle.gate_turns.specs.Own.{HasOwn}
-use Rattle.driven_turns.proofs.BeginLemmas.{taken_begins}
+use Rattle.driven_turns.proofs.RequestedLemmas.{more_begins, taken_requests}
 use Rattle.driven_turns.proofs.GivenUpLemmas.{none_ends}
 use Rattle.driven_turns.proofs.RestLemmas.{IsFree, bare_out, free_own, taken_bare}
 use Rattle.driven_turns.proofs.SinceLemmas as since
-use Rattle.driven_turns.specs.Begins.{begins_asked, begins_of}
+use Rattle.driven_turns.specs.Begins.{begins_in, begins_of}
 use Rattle.driven_turns.specs.Driven.{Driven, HasFound, HasTold, IsReason, IsTrue, as_receipts, is_declared, seat_in, standing}
+use Rattle.driven_turns.specs.Requested.{requests_of}
 use Rattle.transactions.specs.Requests.{BeginsTo, HasAborted, IsBeginTold, IsBegun, IsEnded, IsFoundAndTold, IsNotBegun, KeepsReceipts}
 use Rattle.transactions.specs.Requests.{begin_of}
 use Rattle.tx_threads.proofs.OwnLemmas.{own_ok}
@@ -187,15 +188,15 @@ module _ {V : Type 0} where
       let h = subst (λ (p : Phase V). EndsFrom a (seat_in o s) p (Refused a cause) (seat_in o u) d) on D.comes in
       (h.1, (h.0, subst (λ (p : Phase V). IsTrue o s u p (told.Refused cause)) on D.is_true))
 
-  -- how many it has begun then
-  pub asks_begin : (s m : table.Seat V) → HasAsked s Begin m → begins_of m ≡ begins_of s + 1
-  asks_begin s m has = taken_begins s m (Ask 0 Begin) has
+  -- what was asked then, and how many begins
+  pub asks_one : (s m : table.Seat V) (q : Request V) → HasAsked s q m → requests_of m ≡ requests_of s ++ q ∷ []
+  asks_one s m q has = taken_requests s m (Ask 0 q) has
 
-  pub asks_begin_read : (s m : table.Seat V) → HasAsked s BeginRead m → begins_of m ≡ begins_of s + 1
-  asks_begin_read s m has = taken_begins s m (Ask 0 BeginRead) has
+  pub begins_more : (s m : table.Seat V) (q : Request V) → HasAsked s q m → begins_of m ≡ begins_of s + begins_in (q ∷ [])
+  begins_more s m q has = more_begins s m (q ∷ []) (asks_one s m q has)
 
-  pub asks_none : (s m : table.Seat V) (q : Request V) → begins_asked (Ask 0 q ∷ []) ≡ 0 → HasAsked s q m → begins_of m ≡ begins_of s
-  asks_none s m q none has = (let p = taken_begins s m (Ask 0 q) has in omega (arith, p, none))
+  pub begins_none : (s m : table.Seat V) (q : Request V) → begins_in (q ∷ []) ≡ 0 → HasAsked s q m → begins_of m ≡ begins_of s
+  begins_none s m q none has = (let p = begins_more s m q has in omega (arith, p, none))
 
   -- what keeps the receipts, one after the other
   pub then_keeps : (s m u : table.Seat V) → KeepsReceipts s m → KeepsReceipts m u → KeepsReceipts s u

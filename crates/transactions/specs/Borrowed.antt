@@ -7,22 +7,26 @@ use Rattle.tx_table.specs.Seated.{opening_of}
 use Rattle.driven_turns.specs.Begins.{begins_of}
 use Rattle.transactions.specs.declared.seats.TxSeat.{TxSeat}
 use Rattle.transactions.specs.Ready.{IsReady}
-use Rattle.transactions.specs.Requests.{HasAborted, IsBegun, IsNotBegun, IsOpen, KeepsReceipts}
+use Rattle.transactions.specs.Requests.{HasAborted, HasAskedToBegin, IsBegun, IsNotBegun, IsOpen, KeepsReceipts}
 
 module _ {V : Type 0} where
   -- It is open, has no calls, and is a declared reader's or not; it has begun at the clock that its seat knows by then, which is no lower
-  -- than the seat's last number. The seat asked no other to begin; one that was left open was aborted.
+  -- than the seat's last number. The seat asked no other to begin; one that was left open was aborted. Nothing else was asked.
   pub record IsBegunSince (declared : Bool) (o : World V) (s u : TxSeat V) : Type 0 where
     pub rv : ℕ
     pub begun : IsBegun declared o s.seat u.seat rv
     pub last : s.seat.last ≤ rv
     pub begins : begins_of u.seat ≡ begins_of s.seat + 1
+    pub asks : HasAskedToBegin declared o s.seat u.seat
     pub aborted : IsOpen o s.seat → HasAborted o s.seat u.seat
 
-  -- There is none, and the seat that was lent is ready again, with its receipts. It asked one to begin; one that was left open was aborted.
-  pub record IsRefusedBegin {A : Type 0} (t : TxTable V) (s : TxSeat V) (r : Result A Refusal) (u : TxSeat V) : Type 0 where
+  -- There is none, and the seat that was lent is ready again, with its receipts. It asked one to begin, a declared reader or not; one that
+  -- was left open was aborted. Nothing else was asked.
+  pub record IsRefusedBegin {A : Type 0} (declared : Bool) (t : TxTable V) (s : TxSeat V) (r : Result A Refusal) (u : TxSeat V)
+      : Type 0 where
     pub ready : IsReady t u
     pub keeps : KeepsReceipts s.seat u.seat
     pub refused : IfErr r (IsNotBegun (opening_of t) s.seat u.seat)
     pub begins : begins_of u.seat ≡ begins_of s.seat + 1
+    pub asks : HasAskedToBegin declared (opening_of t) s.seat u.seat
     pub aborted : IsOpen (opening_of t) s.seat → HasAborted (opening_of t) s.seat u.seat

@@ -2,6 +2,7 @@
 use Rattle.std.specs.Prelude.{◌≡◌, ◌⊎◌, ℕ, ◌<◌, ◌≤◌, true, [], Err, IfErr, IfOk, Result}
 use Rattle.seq_model.specs.declared.call.Call.{Call}
 use Rattle.seq_model.specs.declared.call.Reply.{Reply}
+use Rattle.seq_model.specs.declared.event.Request.TheVariants as request
 use Rattle.seq_model.specs.declared.record.Record.{Record}
 use Rattle.seq_model.specs.declared.refusal.Refusal.{Refusal}
 use Rattle.seq_model.specs.declared.refusal.Refusal.TheVariants.{NoTransaction}
@@ -18,7 +19,7 @@ use Rattle.transactions.specs.declared.seats.TxSeat.{TxSeat}
 pub use Rattle.driven_turns.specs.Driven.{standing}
 use Rattle.driven_turns.specs.Begins.{begins_of}
 use Rattle.driven_turns.specs.Driven.{seat_in}
-use Rattle.transactions.specs.Requests.{CallsTo, CommitsTo, IsCallRefusal, IsOpen}
+use Rattle.transactions.specs.Requests.{CallsTo, CommitsTo, HasAskedFor, IsCallRefusal, IsOpen}
 
 module _ {V : Type 0} where
   -- a live seat of the table whose actor has asked nothing so far
@@ -55,18 +56,20 @@ module _ {V : Type 0} where
       IsOpen (opening_of t) s.seat
       → (s.seat.last ≤ (seat_in (opening_of t) s.seat).rv) × ((seat_in (opening_of t) s.seat).rv ≤ (view s.seat).clock)
 
-  -- The seat s, at which a call was made, is u now: an open transaction has made it, or was refused it; where there is none it is refused
-  -- as such, and the seat is as it was. None is begun.
+  -- The seat s, at which a call was made, is u now: an open transaction has made it, or was refused it, and nothing else was asked of its
+  -- actor; where there is none it is refused as such, and the seat is as it was. None is begun.
   pub record HasCalled (t : TxTable V) (s u : TxSeat V) (call : Call V) (r : Result (Reply V) Refusal) : Type 0 where
     pub ready : IsReady t u
     pub since : HasBegunSince t u
     pub calls : IsOpen (opening_of t) s.seat → CallsTo (opening_of t) s.seat call u.seat r
     pub kinds : IfErr r (IsCallRefusal call.op)
     pub begins : begins_of u.seat ≡ begins_of s.seat
+    pub asks : IsOpen (opening_of t) s.seat → HasAskedFor s.seat (request.Call call) r u.seat
     pub none : standing (opening_of t) s.seat ≡ Rests → (r ≡ Err NoTransaction) × (u ≡ s)
 
   -- The seat s, which was to commit, is u now, ready and without a transaction. Where it has a receipt more, its number is the last one of
-  -- the seat; where there was no transaction it is refused as such, and the seat is as it was. None is begun.
+  -- the seat; where there was no transaction it is refused as such, and the seat is as it was. None is begun, and of the actor of an open
+  -- one nothing but the commit was asked.
   pub record HasFinished (t : TxTable V) (s u : TxSeat V) (r : Result (Record V) Refusal) : Type 0 where
     pub ready : IsReady t u
     pub rests : standing (opening_of t) u.seat ≡ Rests
@@ -74,4 +77,5 @@ module _ {V : Type 0} where
     pub above : IfOk r (λ receipt. receipt.writes ≡ true → s.seat.last < receipt.number)
     pub last : IfOk r (λ receipt. (s.seat.last ≤ receipt.number) × (u.seat.last ≡ receipt.number))
     pub begins : begins_of u.seat ≡ begins_of s.seat
+    pub asks : IsOpen (opening_of t) s.seat → HasAskedFor s.seat request.Commit r u.seat
     pub none : standing (opening_of t) s.seat ≡ Rests → (r ≡ Err NoTransaction) × (u ≡ s)

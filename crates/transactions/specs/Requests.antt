@@ -23,6 +23,7 @@ use Rattle.tx_turns.specs.Asked.{Answers}
 use Rattle.tx_phases.specs.Phases.{Rests, Stands, Calls, IsMistaken}
 use Rattle.driven_turns.specs.Driven.{Driven, HasFound, HasTold, IsExhausted, IsLoading, IsNumberOf, IsOnCollection, is_declared, seat_in}
 use Rattle.driven_turns.specs.Driven.{standing}
+use Rattle.driven_turns.specs.Requested.{requests_of}
 
 -- there is some entry
 abbrev pub has_some : Entries → Bool
@@ -79,6 +80,24 @@ module _ {V : Type 0} where
     pub looks : (view u).looks ≡ (view s).looks ++ (view u).clock ∷ []
     pub rises : (view s).clock ≤ (view u).clock
     pub own : acts o u ≡ acts o s
+
+  -- ---- what its actor is asked
+  -- Between the seats s and u it was asked this and nothing else; or memory was wanting for it, and it was asked to abort in its place.
+  unfoldable pub HasAskedFor : {A : Type 0} → Seat V → Request V → Result A Refusal → Seat V → Type 0
+  HasAskedFor s q r u =
+      (requests_of u ≡ requests_of s ++ q ∷ [])
+      ⊎ ((r ≡ Err OutOfMemory) × (requests_of u ≡ requests_of s ++ request.Abort ∷ []))
+
+  -- a declared reader begins by the one, and any other by the other
+  abbrev pub begin_request : Bool → Request V
+  begin_request true = request.BeginRead
+  begin_request false = request.Begin
+
+  -- It was asked to begin and nothing else, but where a transaction was open, to abort that first.
+  unfoldable pub HasAskedToBegin : Bool → World V → Seat V → Seat V → Type 0
+  HasAskedToBegin declared o s u =
+      (IsOpen o s → requests_of u ≡ requests_of s ++ request.Abort ∷ begin_request declared ∷ [])
+      × (standing o s ≡ Rests → requests_of u ≡ requests_of s ++ begin_request declared ∷ [])
 
   -- ---- a begin
   -- It tells the number at which the transaction has begun, which is open and has no calls, and is a declared reader's or not. It is the

@@ -1,13 +1,15 @@
 //! The calls of a transaction, on words and on collections.
-ghost use Rattle.std.specs.Prelude.{◌≡◌, IfErr, IfOk, OnErr, OnOk};
+ghost use Rattle.std.specs.Prelude.{◌≡◌, [], ◌∷◌, ◌++◌, IfErr, IfOk, OnErr, OnOk};
 ghost use Rattle.replay_log.specs.WorldAnswers.{IsAdmitted};
 ghost use Rattle.tx_table.specs.Seated.{actor as actor_of, acts, opening_of};
 ghost use Rattle.tx_phases.specs.Phases.{Rests};
 ghost use Rattle.tx_turns.specs.Asked.{Answers, HasAsked};
 ghost use Rattle.driven_turns.specs.Begins.{begins_of};
 ghost use Rattle.driven_turns.specs.Driven.{standing};
+ghost use Rattle.driven_turns.specs.Requested.{requests_of};
 ghost use Rattle.transactions.specs.Ready.{CanDrive};
-ghost use Rattle.transactions.specs.Requests.{CallsTo, HasAborted, IsCallTold, IsCalling, IsDriven, IsOpen, KeepsReceipts, told_of};
+ghost use Rattle.transactions.specs.Requests.{CallsTo, HasAborted, HasAskedFor, IsCallTold, IsCalling, IsDriven, IsOpen, KeepsReceipts};
+ghost use Rattle.transactions.specs.Requests.{told_of};
 
 use crate::requests::abort;
 use boxes::Boxed;
@@ -69,6 +71,7 @@ pub(crate) fn ask_open<V: Value>(
     ensures rests { OnErr result (standing (opening_of table.now) seat.new ≡ Rests) }
     ensures aborted { OnErr result (HasAborted (opening_of table.now) seat.old seat.new) }
     ensures begins { OnErr result (begins_of seat.new ≡ begins_of seat.old) }
+    ensures asks { OnErr result (requests_of seat.new ≡ requests_of seat.old ++ Request.Abort ∷ []) }
 {
     let none = Vec::new(alloc);
     match ask(alloc, table, seat, actor, none.as_slice(), request) {
@@ -94,6 +97,7 @@ pub(crate) fn call<V: Value>(
     ensures drives { CanDrive table.now seat.new actor.new }
     ensures calls { CallsTo (opening_of table.now) seat.old call seat.new result }
     ensures begins { begins_of seat.new ≡ begins_of seat.old }
+    ensures asks { HasAskedFor seat.old (Request.Call call) result seat.new }
 {
     match ask_open(alloc, table, seat, actor, bases, Request::Call(call)) {
         Ok(Told::Quiet) => driven_call(alloc, table, seat, actor, bases),

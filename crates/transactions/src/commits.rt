@@ -3,7 +3,7 @@ ghost use Rattle.std.specs.Prelude.{◌≡◌, MatchResult, None, Some};
 ghost use Rattle.tx_table.specs.Seated.{opening_of};
 ghost use Rattle.driven_turns.specs.Begins.{begins_of};
 ghost use Rattle.transactions.specs.Ready.{CanDrive};
-ghost use Rattle.transactions.specs.Requests.{CommitsTo, IsCommitTold, IsOpen};
+ghost use Rattle.transactions.specs.Requests.{CommitsTo, HasAskedFor, IsCommitTold, IsOpen};
 
 use crate::calls::ask_open;
 use boxes::Boxed;
@@ -42,6 +42,7 @@ pub(crate) fn commit<V: Value>(
     ensures last { seat.new.last ≡ seat.old.last }
     ensures commits { CommitsTo (opening_of table.now) seat.old seat.new result }
     ensures begins { begins_of seat.new ≡ begins_of seat.old }
+    ensures asks { HasAskedFor seat.old Request.Commit result seat.new }
 {
     let _ = ask_open(alloc, table, seat, actor, bases, Request::Commit)?;
     let (told, receipt) = drive(alloc, table, seat, actor, bases);

@@ -1,16 +1,17 @@
 //! Requests of a transaction: one that begins, and one that ends without a commit.
-ghost use Rattle.std.specs.Prelude.{◌≡◌, ◌+◌, IfErr, IfOk, false, true};
+ghost use Rattle.std.specs.Prelude.{◌≡◌, ◌+◌, [], ◌∷◌, ◌++◌, IfErr, IfOk, false, true};
 ghost use Rattle.tx_table.specs.Seated.{opening_of};
 ghost use Rattle.tx_phases.specs.Phases.{Rests};
 ghost use Rattle.driven_turns.specs.Begins.{begins_of};
 ghost use Rattle.driven_turns.specs.Driven.{is_declared, standing};
+ghost use Rattle.driven_turns.specs.Requested.{requests_of};
 ghost use Rattle.transactions.specs.Ready.{CanDrive};
 ghost use Rattle.transactions.specs.Requests.{HasAborted, IsBeginTold, IsBegun, IsNotBegun, IsOpen, KeepsReceipts, begin_of};
 
 use boxes::Boxed;
 use driven_turns::drive;
 use replay_log::Base;
-use seq_model::{Answer, Refusal, Value};
+use seq_model::{Answer, Refusal, Request, Value};
 use std::alloc::Global;
 use tx_actor::{Stage, Told, TxActor};
 use tx_table::{Seat, TxTable};
@@ -43,6 +44,7 @@ fn begun<V: Value>(
     ensures begun { IfOk result (IsBegun (is_declared (opening_of table.now) seat.old) (opening_of table.now) seat.old seat.new) }
     ensures refused { IfErr result (IsNotBegun (opening_of table.now) seat.old seat.new) }
     ensures begins { begins_of seat.new ≡ begins_of seat.old }
+    ensures asks { requests_of seat.new ≡ requests_of seat.old }
 {
     let (told, _) = drive(alloc, table, seat, actor, bases);
     begin_told(told)
@@ -64,6 +66,7 @@ pub(crate) fn begin<V: Value>(
     ensures begun { IfOk result (IsBegun false (opening_of table.now) seat.old seat.new) }
     ensures refused { IfErr result (IsNotBegun (opening_of table.now) seat.old seat.new) }
     ensures begins { begins_of seat.new ≡ begins_of seat.old + 1 }
+    ensures asks { requests_of seat.new ≡ requests_of seat.old ++ Request.Begin ∷ [] }
 {
     ask_begin(table, seat, actor);
     begun(alloc, table, seat, actor, bases)
@@ -85,6 +88,7 @@ pub(crate) fn begin_read<V: Value>(
     ensures begun { IfOk result (IsBegun true (opening_of table.now) seat.old seat.new) }
     ensures refused { IfErr result (IsNotBegun (opening_of table.now) seat.old seat.new) }
     ensures begins { begins_of seat.new ≡ begins_of seat.old + 1 }
+    ensures asks { requests_of seat.new ≡ requests_of seat.old ++ Request.BeginRead ∷ [] }
 {
     ask_begin_read(table, seat, actor);
     begun(alloc, table, seat, actor, bases)
@@ -106,6 +110,7 @@ pub(crate) fn abort<V: Value>(
     ensures rests { standing (opening_of table.now) seat.new ≡ Rests }
     ensures aborted { HasAborted (opening_of table.now) seat.old seat.new }
     ensures begins { begins_of seat.new ≡ begins_of seat.old }
+    ensures asks { requests_of seat.new ≡ requests_of seat.old ++ Request.Abort ∷ [] }
 {
     ask_abort(table, seat, actor);
     let _ = drive(alloc, table, seat, actor, bases);

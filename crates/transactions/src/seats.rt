@@ -1,18 +1,19 @@
 //! A seat of a table, with the actor that runs there.
-ghost use Rattle.std.specs.Prelude.{◌≡◌, ◌≢◌, ◌+◌, ◌<◌, ◌≤◌, [], IfErr, IfOk, MatchBool, OnErr, OnOk, false, max, true};
+ghost use Rattle.std.specs.Prelude.{◌≡◌, ◌≢◌, ◌+◌, ◌<◌, ◌≤◌, [], ◌∷◌, ◌++◌, IfErr, IfOk, MatchBool, OnErr, OnOk, false, max, true};
 ghost use Rattle.seq_model.specs.declared.call.Op.TheVariants as op;
 ghost use Rattle.seq_model.specs.declared.refusal.Refusal.TheVariants.{Ahead};
 ghost use Rattle.tx_table.specs.Seated.{opening_of, view};
 ghost use Rattle.tx_phases.specs.Phases.{Rests};
 ghost use Rattle.driven_turns.specs.Begins.{begins_of};
 ghost use Rattle.driven_turns.specs.Driven.{standing};
+ghost use Rattle.driven_turns.specs.Requested.{requests_of};
 ghost use Rattle.transactions.specs.Ready.{HasBegunSince, HasCalled, HasFinished, HasOpened, IsNew, IsReady};
-ghost use Rattle.transactions.specs.Requests.{HasAborted, IsBegun, IsNotBegun, IsOpen, KeepsReceipts, OnlyKnows};
+ghost use Rattle.transactions.specs.Requests.{HasAborted, HasAskedToBegin, IsBegun, IsNotBegun, IsOpen, KeepsReceipts, OnlyKnows};
 
 use crate::reply_room::ReplyRoom;
 use boxes::Boxed;
 use replay_log::Base;
-use seq_model::{Call, Op, Record, Refusal, Reply, Value};
+use seq_model::{Call, Op, Record, Refusal, Reply, Request, Value};
 use std::alloc::Global;
 use tx_actor::{Stage, TxActor};
 use tx_table::{Seat, TxTable};
@@ -78,6 +79,8 @@ impl<V: Value> TxSeat<V> {
         ensures aborted { IsOpen (opening_of table.now) self.old.seat → HasAborted (opening_of table.now) self.old.seat self.new.seat }
         ensures none { standing (opening_of table.now) self.old.seat ≡ Rests → self.new ≡ self.old }
         ensures begins { begins_of self.new.seat ≡ begins_of self.old.seat }
+        ensures asks { IsOpen (opening_of table.now) self.old.seat →
+            requests_of self.new.seat ≡ requests_of self.old.seat ++ Request.Abort ∷ [] }
     {
         if self.is_open() {
             crate::requests::abort(
@@ -103,6 +106,7 @@ impl<V: Value> TxSeat<V> {
         ensures refused { IfErr result (IsNotBegun (opening_of table.now) self.old.seat self.new.seat) }
         ensures aborted { IsOpen (opening_of table.now) self.old.seat → HasAborted (opening_of table.now) self.old.seat self.new.seat }
         ensures begins { begins_of self.new.seat ≡ begins_of self.old.seat + 1 }
+        ensures asks { HasAskedToBegin false (opening_of table.now) self.old.seat self.new.seat }
     {
         self.abort(table);
         crate::requests::begin(
@@ -126,6 +130,7 @@ impl<V: Value> TxSeat<V> {
         ensures refused { IfErr result (IsNotBegun (opening_of table.now) self.old.seat self.new.seat) }
         ensures aborted { IsOpen (opening_of table.now) self.old.seat → HasAborted (opening_of table.now) self.old.seat self.new.seat }
         ensures begins { begins_of self.new.seat ≡ begins_of self.old.seat + 1 }
+        ensures asks { HasAskedToBegin true (opening_of table.now) self.old.seat self.new.seat }
     {
         self.abort(table);
         crate::requests::begin_read(

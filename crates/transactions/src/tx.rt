@@ -1,5 +1,5 @@
 //! A transaction that borrows the seat at which it runs.
-ghost use Rattle.std.specs.Prelude.{◌≡◌, ◌<◌, IfErr, IfOk, OnErr, OnOk, false, max, true};
+ghost use Rattle.std.specs.Prelude.{◌≡◌, ◌<◌, [], ◌∷◌, ◌++◌, IfErr, IfOk, OnErr, OnOk, false, max, true};
 ghost use Rattle.std.specs.Borrow.{RestsIfErr, sem};
 ghost use Rattle.seq_model.specs.declared.call.Op.TheVariants as op;
 ghost use Rattle.seq_model.specs.declared.refusal.Refusal.TheVariants.{Ahead};
@@ -9,11 +9,12 @@ ghost use Rattle.transactions.specs.contracts.seats.TxSeat.{the_row};
 ghost use Rattle.transactions.specs.Borrowed.{IsBegunSince, IsRefusedBegin};
 ghost use Rattle.driven_turns.specs.Begins.{begins_of};
 ghost use Rattle.driven_turns.specs.Driven.{standing};
+ghost use Rattle.driven_turns.specs.Requested.{requests_of};
 ghost use Rattle.transactions.specs.Ready.{HasBegunSince, HasCalled, HasFinished, IsReady};
 ghost use Rattle.transactions.specs.Requests.{HasAborted, IsOpen, KeepsReceipts, OnlyKnows};
 
 use crate::seats::TxSeat;
-use seq_model::{Call, Op, Record, Refusal, Reply, Value};
+use seq_model::{Call, Op, Record, Refusal, Reply, Request, Value};
 use tx_table::TxTable;
 
 /// What a commit gives: the record of its transaction, which is called so where it stands among others.
@@ -35,7 +36,7 @@ pub fn begin<'a, V: Value>(
 ) -> Result<Tx<'a, V>, Refusal>
     requires ready { IsReady table.now seat.old }
     ensures* refused { sem 𝓛 (RestsIfErr (the_row V.row) seat.entry (λ tx. tx.seat.ghost_name) result
-        (IsRefusedBegin table.now seat.old result)) }
+        (IsRefusedBegin false table.now seat.old result)) }
     ensures same_reference { IfOk result (λ tx. tx.seat.ghost_name ≡ seat.entry.ghost_name) }
     ensures same_table { IfOk result (λ tx. tx.table.now ≡ table.now) }
     ensures ready { IfOk result (λ tx. IsReady table.now tx.seat.now) }
@@ -55,7 +56,7 @@ pub fn begin_read<'a, V: Value>(
 ) -> Result<Tx<'a, V>, Refusal>
     requires ready { IsReady table.now seat.old }
     ensures* refused { sem 𝓛 (RestsIfErr (the_row V.row) seat.entry (λ tx. tx.seat.ghost_name) result
-        (IsRefusedBegin table.now seat.old result)) }
+        (IsRefusedBegin true table.now seat.old result)) }
     ensures same_reference { IfOk result (λ tx. tx.seat.ghost_name ≡ seat.entry.ghost_name) }
     ensures same_table { IfOk result (λ tx. tx.table.now ≡ table.now) }
     ensures ready { IfOk result (λ tx. IsReady table.now tx.seat.now) }
@@ -147,6 +148,8 @@ impl<'a, V: Value> Tx<'a, V> {
         ensures none { standing (opening_of self.entry.table.now) self.entry.seat.now.seat ≡ Rests →
             self.exit.1.0.now ≡ self.entry.seat.now }
         ensures begins { begins_of self.exit.1.0.now.seat ≡ begins_of self.entry.seat.now.seat }
+        ensures asks { IsOpen (opening_of self.entry.table.now) self.entry.seat.now.seat →
+            requests_of self.exit.1.0.now.seat ≡ requests_of self.entry.seat.now.seat ++ Request.Abort ∷ [] }
     {
         let Tx { table, seat } = self;
         seat.abort(table);

@@ -5,9 +5,11 @@ use Rattle.seq_model.specs.declared.refusal.Refusal.{Refusal}
 use Rattle.tx_actor.specs.declared.actor.Told.{Told}
 use Rattle.tx_actor.specs.declared.actor.Told.TheVariants as told
 use Rattle.tx_table.specs.Seated.{opening_of}
-use Rattle.transactions.proofs.RequestLemmas.{asks_none}
+use Rattle.transactions.proofs.AskLemmas.{aborted_for, asked_for}
+use Rattle.transactions.proofs.RequestLemmas.{asks_one, begins_none}
 use Rattle.transactions.proofs.CallLemmas.{at_once, call_starved, call_told, calls_on, driven_calls}
 use Rattle.transactions.specs.Requests.{CallsTo}
+use Rattle.driven_turns.proofs.RequestedLemmas.{same_begins}
 use Rattle.driven_turns.proofs.RestLemmas.{bare_out}
 use Rattle.tx_turns.specs.Asked.{Answers}
 use Rattle.transactions.proofs.calls.call.Goals as goal
@@ -54,12 +56,27 @@ returns-in-Err-clause-calls g c =
 
 pub returns-in-Ok-Quiet-clause-begins : goal.returns-in-Ok-Quiet-clause-begins
 returns-in-Ok-Quiet-clause-begins g c =
-    c.driven_call.ensures.driven.1.begins
-    ∙ asks_none c.args.seat.now c.ask_open.new.seat (request.Call c.args.call) refl c.in-Ok-Quiet.ensures.asked
+    same_begins c.ask_open.new.seat c.driven_call.new.seat c.driven_call.ensures.driven.1.asks
+    ∙ begins_none c.args.seat.now c.ask_open.new.seat (request.Call c.args.call) refl c.in-Ok-Quiet.ensures.asked
 
 pub returns-in-Ok-clause-begins : goal.returns-in-Ok-clause-begins
 returns-in-Ok-clause-begins g c =
-    asks_none c.args.seat.now c.ask_open.new.seat (request.Call c.args.call) refl c.in-Ok.ensures.asked
+    begins_none c.args.seat.now c.ask_open.new.seat (request.Call c.args.call) refl c.in-Ok.ensures.asked
 
 pub returns-in-Err-clause-begins : goal.returns-in-Err-clause-begins
 returns-in-Err-clause-begins g c = c.in-Err.ensures.begins
+
+pub returns-in-Ok-Quiet-clause-asks : goal.returns-in-Ok-Quiet-clause-asks
+returns-in-Ok-Quiet-clause-asks g c =
+    asked_for c.args.seat.now c.driven_call.new.seat (request.Call c.args.call) c.driven_call.result
+    (c.driven_call.ensures.driven.1.asks
+    ∙ asks_one c.args.seat.now c.ask_open.new.seat (request.Call c.args.call) c.in-Ok-Quiet.ensures.asked)
+
+pub returns-in-Ok-clause-asks : goal.returns-in-Ok-clause-asks
+returns-in-Ok-clause-asks g c =
+    asked_for c.args.seat.now c.ask_open.new.seat (request.Call c.args.call) c.reply_told.result
+    (asks_one c.args.seat.now c.ask_open.new.seat (request.Call c.args.call) c.in-Ok.ensures.asked)
+
+pub returns-in-Err-clause-asks : goal.returns-in-Err-clause-asks
+returns-in-Err-clause-asks g c =
+    aborted_for c.args.seat.now c.ask_open.new.seat (request.Call c.args.call) _ c.in-Err.ensures.memory c.in-Err.ensures.asks

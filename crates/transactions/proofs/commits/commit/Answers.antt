@@ -2,8 +2,10 @@ use Rattle.std.proofs.Common.{◌∙◌, refl, sym}
 use Rattle.std.proofs.lemmas.Result.{err_from_is_err_and}
 use Rattle.seq_model.specs.declared.event.Request.TheVariants.{Commit}
 use Rattle.tx_table.specs.Seated.{opening_of}
-use Rattle.transactions.proofs.RequestLemmas.{asks_none}
+use Rattle.transactions.proofs.AskLemmas.{aborted_for, asked_for}
+use Rattle.transactions.proofs.RequestLemmas.{asks_one, begins_none}
 use Rattle.transactions.proofs.CommitLemmas.{commit_asked, commit_told, commits_to, starved_commit, under_commits}
+use Rattle.driven_turns.proofs.RequestedLemmas.{same_begins}
 use Rattle.driven_turns.proofs.RestLemmas.{bare_out}
 use Rattle.driven_turns.specs.Driven.{seat_in}
 use Rattle.transactions.proofs.commits.commit.Goals as goal
@@ -13,6 +15,12 @@ returns-in_err-ask_open-clause-commits g c =
     let e = c.in_err-ask_open.ensures in
     let p = err_from_is_err_and c.from_residual.result c.from_residual.ensures.1 in
     rw (p.1, p.2) (starved_commit (opening_of c.args.table.now) c.args.seat.now c.ask_open.new.seat _ e.keeps e.rests e.memory e.aborted)
+
+pub returns-in_err-ask_open-clause-asks : goal.returns-in_err-ask_open-clause-asks
+returns-in_err-ask_open-clause-asks g c =
+    let e = c.in_err-ask_open.ensures in
+    let p = err_from_is_err_and c.from_residual.result c.from_residual.ensures.1 in
+    rw (p.1, p.2) (aborted_for c.args.seat.now c.ask_open.new.seat Commit _ e.memory e.asks)
 
 pub drive-told-requires-clause-under : goal.drive-told-requires-clause-under
 drive-told-requires-clause-under g c =
@@ -43,4 +51,10 @@ returns-clause-last g c = c.drive-told.ensures.driven.seat.2 ∙ c.in_ok-ask_ope
 
 pub returns-clause-begins : goal.returns-clause-begins
 returns-clause-begins g c =
-    c.drive-told.ensures.driven.begins ∙ asks_none c.args.seat.now c.ask_open.new.seat Commit refl c.in_ok-ask_open.ensures.asked
+    same_begins c.ask_open.new.seat c.drive-told.new.seat c.drive-told.ensures.driven.asks
+    ∙ begins_none c.args.seat.now c.ask_open.new.seat Commit refl c.in_ok-ask_open.ensures.asked
+
+pub returns-clause-asks : goal.returns-clause-asks
+returns-clause-asks g c =
+    asked_for c.args.seat.now c.drive-told.new.seat Commit c.commit_told.result
+    (c.drive-told.ensures.driven.asks ∙ asks_one c.args.seat.now c.ask_open.new.seat Commit c.in_ok-ask_open.ensures.asked)

@@ -2,9 +2,11 @@ use Rattle.std.proofs.Common.{◌∙◌, refl, sym}
 use Rattle.seq_model.specs.declared.event.Request.TheVariants.{Abort}
 use Rattle.tx_table.specs.Seated.{opening_of}
 use Rattle.driven_turns.proofs.GivenUpLemmas.{under_ends}
+use Rattle.driven_turns.proofs.RequestedLemmas.{same_begins}
 use Rattle.driven_turns.proofs.RestLemmas.{bare_out}
 use Rattle.driven_turns.specs.Driven.{seat_in}
-use Rattle.transactions.proofs.RequestLemmas.{abort_ends, abort_own, abort_told, asked_keeps, asks_none, ends_to, is_open, then_keeps}
+use Rattle.transactions.proofs.RequestLemmas.{abort_ends, abort_own, abort_told, asked_keeps, asks_one, begins_none, ends_to, is_open}
+use Rattle.transactions.proofs.RequestLemmas.{then_keeps}
 use Rattle.transactions.proofs.requests.abort.Goals as goal
 
 pub ask_abort-requires-clause-open : goal.ask_abort-requires-clause-open
@@ -53,4 +55,9 @@ returns-clause-aborted g c =
 
 pub returns-clause-begins : goal.returns-clause-begins
 returns-clause-begins g c =
-    c.drive.ensures.driven.begins ∙ asks_none c.args.seat.now c.ask_abort.new.seat Abort refl c.ask_abort.ensures.asked
+    same_begins c.ask_abort.new.seat c.drive.new.seat c.drive.ensures.driven.asks
+    ∙ begins_none c.args.seat.now c.ask_abort.new.seat Abort refl c.ask_abort.ensures.asked
+
+pub returns-clause-asks : goal.returns-clause-asks
+returns-clause-asks g c =
+    c.drive.ensures.driven.asks ∙ asks_one c.args.seat.now c.ask_abort.new.seat Abort c.ask_abort.ensures.asked

@@ -1,10 +1,11 @@
 use Rattle.std.proofs.Common.{◌∙◌, ap, false, subst, sym}
+use Rattle.seq_model.specs.declared.event.Request.TheVariants.{Begin}
 use Rattle.tx_actor.specs.declared.actor.Stage as own
 use Rattle.tx_table.specs.Seated.{opening_of}
 use Rattle.gate_turns.specs.Bases.{gates_at}
 use Rattle.driven_turns.specs.Driven.{is_declared}
 use Rattle.driven_turns.proofs.RestLemmas.{IsFree, bare_out, free_own}
-use Rattle.transactions.proofs.RequestLemmas.{asked_begin, asked_keeps, asks_begin, begun_as, begun_since, is_idle, then_keeps}
+use Rattle.transactions.proofs.RequestLemmas.{asked_begin, asked_keeps, asks_one, begins_more, begun_as, begun_since, is_idle, then_keeps}
 use Rattle.transactions.proofs.requests.begin.Goals as goal
 
 pub ask_begin-requires-clause-idle : goal.ask_begin-requires-clause-idle
@@ -45,4 +46,7 @@ returns-clause-refused g c =
 
 pub returns-clause-begins : goal.returns-clause-begins
 returns-clause-begins g c =
-    let asked = asks_begin c.args.seat.now c.ask_begin.new.seat c.ask_begin.ensures.asked in c.begun.ensures.begins ∙ asked
+    c.begun.ensures.begins ∙ begins_more c.args.seat.now c.ask_begin.new.seat Begin c.ask_begin.ensures.asked
+
+pub returns-clause-asks : goal.returns-clause-asks
+returns-clause-asks g c = c.begun.ensures.asks ∙ asks_one c.args.seat.now c.ask_begin.new.seat Begin c.ask_begin.ensures.asked

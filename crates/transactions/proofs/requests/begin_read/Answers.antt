@@ -1,10 +1,12 @@
 use Rattle.std.proofs.Common.{◌∙◌, ap, true, subst, sym}
+use Rattle.seq_model.specs.declared.event.Request.TheVariants.{BeginRead}
 use Rattle.tx_actor.specs.declared.actor.Stage as own
 use Rattle.tx_table.specs.Seated.{opening_of}
 use Rattle.gate_turns.specs.Bases.{gates_at}
 use Rattle.driven_turns.specs.Driven.{is_declared}
 use Rattle.driven_turns.proofs.RestLemmas.{IsFree, bare_out, free_own}
-use Rattle.transactions.proofs.RequestLemmas.{asked_begin_read, asked_keeps, asks_begin_read, begun_as, begun_since, is_idle, then_keeps}
+use Rattle.transactions.proofs.RequestLemmas.{asked_begin_read, asked_keeps, asks_one, begins_more, begun_as, begun_since, is_idle}
+use Rattle.transactions.proofs.RequestLemmas.{then_keeps}
 use Rattle.transactions.proofs.requests.begin_read.Goals as goal
 
 pub ask_begin_read-requires-clause-idle : goal.ask_begin_read-requires-clause-idle
@@ -47,4 +49,7 @@ returns-clause-refused g c =
 
 pub returns-clause-begins : goal.returns-clause-begins
 returns-clause-begins g c =
-    let asked = asks_begin_read c.args.seat.now c.ask_begin_read.new.seat c.ask_begin_read.ensures.asked in c.begun.ensures.begins ∙ asked
+    c.begun.ensures.begins ∙ begins_more c.args.seat.now c.ask_begin_read.new.seat BeginRead c.ask_begin_read.ensures.asked
+
+pub returns-clause-asks : goal.returns-clause-asks
+returns-clause-asks g c = c.begun.ensures.asks ∙ asks_one c.args.seat.now c.ask_begin_read.new.seat BeginRead c.ask_begin_read.ensures.asked

@@ -1,5 +1,6 @@
 use Rattle.std.proofs.Common.{◌∙◌, sym}
 use Rattle.tx_table.specs.Seated.{opening_of}
+use Rattle.driven_turns.proofs.RequestedLemmas.{same_begins}
 use Rattle.driven_turns.proofs.RestLemmas.{bare_out}
 use Rattle.driven_turns.specs.Driven.{is_declared, seat_in}
 use Rattle.transactions.proofs.RequestLemmas.{begin_told, begins, begins_to, begun_by, under_begins}
@@ -51,4 +52,7 @@ returns-clause-refused g c =
     c.drive-told.ensures.driven c.drive-told.ensures.answered).1).1
 
 pub returns-clause-begins : goal.returns-clause-begins
-returns-clause-begins g c = c.drive-told.ensures.driven.begins
+returns-clause-begins g c = same_begins c.args.seat.now c.drive-told.new.seat c.drive-told.ensures.driven.asks
+
+pub returns-clause-asks : goal.returns-clause-asks
+returns-clause-asks g c = c.drive-told.ensures.driven.asks

@@ -25,6 +25,7 @@ returns g c =
           begun = begun.begun;
           last = begun.last;
           begins = begun.begins;
+          asks = begun.asks;
           aborted = begun.aborted;
         };
       },

@@ -1,7 +1,8 @@
-use Rattle.std.proofs.Common.{arith, true}
+use Rattle.std.proofs.Common.{ap, arith, true}
 use Rattle.seq_model.specs.declared.event.Answer.TheVariants as answer
 use Rattle.tx_actor.specs.declared.actor.Told.TheVariants as told
 use Rattle.tx_table.specs.Seated.{opening_of}
+use Rattle.transactions.proofs.AskLemmas.{asked_to_begin}
 use Rattle.transactions.proofs.ReadyLemmas.{begun_ready}
 use Rattle.transactions.proofs.RequestLemmas.{begun_since, told_on}
 use Rattle.transactions.proofs.seats.TxSeat.begin_read.Goals as goal
@@ -18,6 +19,11 @@ returns-clause-refused g c =
 
 pub returns-clause-begins : goal.returns-clause-begins
 returns-clause-begins g c = (let more = c.begin_read.ensures.begins in let same = c.abort.ensures.begins in omega (arith, more, same))
+
+pub returns-clause-asks : goal.returns-clause-asks
+returns-clause-asks g c =
+    asked_to_begin true (opening_of c.args.table.now) c.args.self.now.seat c.abort.new.self.seat c.begin_read.new.seat c.abort.ensures.asks
+    (λ rests. ap (λ k. k.seat) (c.abort.ensures.none rests)) c.begin_read.ensures.asks
 
 pub returns-clause-aborted : goal.returns-clause-aborted
 returns-clause-aborted g c opened =

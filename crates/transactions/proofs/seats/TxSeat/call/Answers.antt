@@ -13,5 +13,6 @@ returns g c =
     let at : c.args.self.now.actor.stage ≡ stage.Open = search rules in
     record {
       called = has_called c.args.table.now c.args.self.now _ c.args.call c.call.result c.requires.ready c.requires.since
-          (has_open c.args.table.now c.args.self.now c.requires.ready at) c.call.ensures.drives c.call.ensures.calls c.call.ensures.begins;
+          (has_open c.args.table.now c.args.self.now c.requires.ready at) c.call.ensures.drives c.call.ensures.calls c.call.ensures.begins
+          c.call.ensures.asks;
     }

@@ -16,7 +16,7 @@ returns-in_err-receipt g c =
     record {
       finished = rw (p.1, p.2) (refused_finished c.args.table.now c.args.self.now _ _ c.requires.ready
           (has_open c.args.table.now c.args.self.now c.requires.ready at) c.commit.ensures.drives c.in_err-receipt.ensures.commits
-          c.commit.ensures.begins);
+          c.commit.ensures.begins c.in_err-receipt.ensures.asks);
     }
 
 pub note-requires : goal.note-requires
@@ -28,5 +28,5 @@ pub returns : goal.returns
 returns g c = record {
   finished = has_finished c.args.table.now c.args.self.now c.commit.new.seat c.in_ok-receipt.receipt c.requires.since
       c.in_ok-receipt.ensures.commits _ c.requires.ready c.commit.ensures.drives c.commit.ensures.last c.commit.ensures.begins
-      c.note.ensures.same c.note.ensures.asked c.note.ensures.last;
+      c.in_ok-receipt.ensures.asks c.note.ensures.same c.note.ensures.asked c.note.ensures.last;
 }
