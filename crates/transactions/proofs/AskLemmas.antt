@@ -21,10 +21,10 @@ module _ {V : Type 0} where
   unfolding HasAskedFor
   asked_for s u q r asks = inl asks
 
-  pub aborted_for : {A : Type 0} → (s u : Seat V) (q : Request V) (cause : Refusal) → cause ≡ OutOfMemory
+  pub aborted_for : (A : Type 0) (s u : Seat V) (q : Request V) (cause : Refusal) → cause ≡ OutOfMemory
       → requests_of u ≡ requests_of s ++ Abort ∷ [] → HasAskedFor {A = A} s q (Err cause) u
   unfolding HasAskedFor
-  aborted_for s u q cause memory asks = inr (λ i. Err (memory i), asks)
+  aborted_for A s u q cause memory asks = inr (λ i. Err (memory i), asks)
 
   -- nothing was asked from m to u
   pub asked_still : {A : Type 0} → (s m u : Seat V) (q : Request V) (r : Result A Refusal) → requests_of u ≡ requests_of m

@@ -79,4 +79,4 @@ returns-in-Ok-clause-asks g c =
 
 pub returns-in-Err-clause-asks : goal.returns-in-Err-clause-asks
 returns-in-Err-clause-asks g c =
-    aborted_for c.args.seat.now c.ask_open.new.seat (request.Call c.args.call) _ c.in-Err.ensures.memory c.in-Err.ensures.asks
+    aborted_for _ c.args.seat.now c.ask_open.new.seat (request.Call c.args.call) _ c.in-Err.ensures.memory c.in-Err.ensures.asks

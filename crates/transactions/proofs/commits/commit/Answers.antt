@@ -20,7 +20,7 @@ pub returns-in_err-ask_open-clause-asks : goal.returns-in_err-ask_open-clause-as
 returns-in_err-ask_open-clause-asks g c =
     let e = c.in_err-ask_open.ensures in
     let p = err_from_is_err_and c.from_residual.result c.from_residual.ensures.1 in
-    rw (p.1, p.2) (aborted_for c.args.seat.now c.ask_open.new.seat Commit _ e.memory e.asks)
+    rw (p.1, p.2) (aborted_for _ c.args.seat.now c.ask_open.new.seat Commit _ e.memory e.asks)
 
 pub drive-told-requires-clause-under : goal.drive-told-requires-clause-under
 drive-told-requires-clause-under g c =
