@@ -11,7 +11,7 @@ returns-in_err-end-clause-keeps g c =
 
 pub returns-in_err-end-clause-refused : goal.returns-in_err-end-clause-refused
 returns-in_err-end-clause-refused g c =
-    let p = err_from_is_err_and c.from_residual-in_err-end.result c.from_residual-in_err-end.ensures.1 in
+    let p = err_from_is_err_and c.from_residual.result c.from_residual.ensures.1 in
     rw (p.1, p.2) (unmade_before (g.J.Job.asks c.args.job.now) (opening_of c.args.table.now) c.args.seat.now.seat c.calls.seat.seat
     c.ask_next.new.seat.seat _ c.calls.invariant.keeps c.in_err-end.ensures.refused)
 
