@@ -47,7 +47,7 @@ fn weigh_key<V: Value>(
     Ok(())
 }
 
-/// What any call reads and writes.
+/// What any call reads and writes, where that fits the sets. It is judged before memory is asked for the lists.
 #[inline(never)]
 fn weigh_sets<V: Value>(
     left: &mut VecDeque<(u32, u64)>,
@@ -63,12 +63,15 @@ fn weigh_sets<V: Value>(
 {
     let read = copied.reads(outcome)?;
     let written = copied.writes(outcome)?;
+    if !has_room(words, first, &read, &written) {
+        return Ok(false);
+    }
     with_known(left, copied, first, &read)?;
     with_next(writes, copied, first, &written)?;
-    Ok(has_room(words, first, &read, &written))
+    Ok(true)
 }
 
-/// What a call that reads the first `count` locations reads and writes.
+/// What a call that reads the first `count` locations reads and writes, where that fits the sets.
 #[inline(never)]
 fn weigh_below<V: Value>(
     left: &mut VecDeque<(u32, u64)>,
@@ -85,9 +88,12 @@ fn weigh_below<V: Value>(
     ensures { IfOk result (λ fits. IsWeighed (actor_of words.now) copied.now first outcome.now left.new.items writes.new.items fits) }
 {
     let written = copied.writes(outcome)?;
+    if !has_room_below(words, first, count, &written) {
+        return Ok(false);
+    }
     with_known_below(left, copied, first, count)?;
     with_next(writes, copied, first, &written)?;
-    Ok(has_room_below(words, first, count, &written))
+    Ok(true)
 }
 
 /// What a call with its outcome reads and writes.
@@ -115,10 +121,10 @@ fn weigh_outcome<V: Value>(
     weigh_sets(left, writes, words, copied, first, outcome)
 }
 
-/// The call's outcome after the accepted ones, and what it reads and writes, are put into these places, whatever they hold: the locations
-/// that it reads, with the editions with which they were copied, and those that it writes, each with the edition after the copied one. The
-/// collection begins at location `first`. Answers whether they fit the sets of the transaction. A call of another kind of collection is
-/// refused.
+/// Answers whether what a call reads and writes fits the sets of the transaction, before memory is asked for lists of it. The call's outcome
+/// after the accepted ones is put into its place; and where they fit, so are the locations that it reads, with the editions with which they
+/// were copied, and those that it writes, each with the edition after the copied one, whatever these places hold. The collection begins at
+/// location `first`. A call of another kind of collection is refused.
 pub fn weigh<V: Value>(
     outcome: &mut Option<Outcome<V>>,
     left: &mut VecDeque<(u32, u64)>,

@@ -46,12 +46,12 @@ returns-clause-ok g c copy at =
     let fit_here : fits r f here.copied o ≡ true = sym weighed.2.fits ∙ c.if-not-fits.false in
     let fit : fits r f copy.copied o ≡ true = subst (λ (z : CopyOf g.row.V.Denot). fits r f z.copied o ≡ true) e fit_here in
     let writes : c.weigh.new.writes.items ≡ with_next copy.copied f (writes_in copy.copied o) =
-    weighed.2.writes ∙ ap (λ (z : CopyOf g.row.V.Denot). with_next z.copied f (writes_in z.copied o)) e in
+    weighed.2.writes c.if-not-fits.false ∙ ap (λ (z : CopyOf g.row.V.Denot). with_next z.copied f (writes_in z.copied o)) e in
     let ready = c.in_ok-readies_reply.ensures.ok o weighed.1 in
     let room : HasRoomFor u c.args.place o c.len.result (length c.weigh.new.writes.items) =
     let same : c.len-2.result ≡ length c.weigh.new.writes.items = c.len-2.ensures.value in
     subst (λ m. HasRoomFor u c.args.place o c.len.result m) same ready.0 in
-    let left = weighed.2.left ∙ ap (λ (z : CopyOf g.row.V.Denot). with_known z.copied f (reads_in z.copied o)) e in
+    let left = weighed.2.left c.if-not-fits.false ∙ ap (λ (z : CopyOf g.row.V.Denot). with_known z.copied f (reads_in z.copied o)) e in
     let many : c.len.result ≡ length (reads_in copy.copied o) =
     let count : length c.weigh.new.left.items ≡ length (reads_in copy.copied o) =
     ap length left ∙ known_length copy.copied f (reads_in copy.copied o) in
