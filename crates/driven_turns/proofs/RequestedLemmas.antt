@@ -27,6 +27,16 @@ module _ {V : Type 0} where
       ap (λ (qs : List (Request V)). requests_asked first.asks ++ qs) (taken_then turns turn)
       ∙ sym (append_assoc (requests_asked first.asks) (requests_taken turns) (requests_asked turn.asks))
 
+  -- the same turns, and the same asked since
+  pub same_requests : (s u : Seat V) → (view u).turns ≡ (view s).turns → list_of u.asked ≡ list_of s.asked → requests_of u ≡ requests_of s
+  unfolding requests_of
+  same_requests s u turns asked i = requests_taken (turns i) ++ requests_asked (asked i)
+
+  -- no turns, and nothing asked
+  pub none_requested : (s : Seat V) → (view s).turns ≡ [] → list_of s.asked ≡ [] → requests_of s ≡ []
+  unfolding requests_of
+  none_requested s turns asked i = requests_taken (turns i) ++ requests_asked (asked i)
+
   -- one turn more
   pub turn_requests : (u z : Seat V) (turn : Turn V) → (view z).turns ≡ (view u).turns ++ turn ∷ [] → turn.asks ≡ list_of u.asked
       → list_of z.asked ≡ [] → requests_of z ≡ requests_of u

@@ -30,10 +30,10 @@ use Rattle.tx_phases.specs.Phases.{Rests, phase}
 use Rattle.transactions.proofs.AskLemmas.{asked_still}
 use Rattle.transactions.proofs.KindLemmas.{call_without_transaction, commit_without_transaction}
 use Rattle.transactions.proofs.RequestLemmas.{is_idle, is_open, keeps_self}
-use Rattle.driven_turns.proofs.RequestedLemmas.{same_begins}
+use Rattle.driven_turns.proofs.RequestedLemmas.{same_begins, same_requests}
 use Rattle.driven_turns.specs.Begins.{begins_of}
 use Rattle.driven_turns.specs.Driven.{HasTold, IsNumberOf, seat_in, standing}
-use Rattle.driven_turns.specs.Requested.{requests_asked, requests_of, requests_taken}
+use Rattle.driven_turns.specs.Requested.{requests_of}
 use Rattle.transactions.specs.Ready.{CanDrive, HasBegunSince, HasCalled, HasFinished, HasOpened, IsNew, IsReady}
 use Rattle.transactions.specs.Requests.{CallLeaves, CallsTo, CommitsTo, HasAskedFor, HasCommitted, IsBegun, IsNotBegun, IsOpen, OnlyKnows}
 use Rattle.transactions.specs.declared.seats.TxSeat.{TxSeat}
@@ -229,8 +229,7 @@ module _ {V : Type 0} where
     }
 
   noted_requests : (s u : table.Seat V) → u.place ≡ s.place → u.asked ≡ s.asked → requests_of u ≡ requests_of s
-  unfolding requests_of
-  noted_requests s u place asked i = requests_taken (place i).me.0.turns ++ requests_asked (list_of (asked i))
+  noted_requests s u place asked = same_requests s u (ap (λ p. p.me.0.turns) place) (ap (λ es. list_of es) asked)
 
   -- a seat whose own world is the same stays tied
   pub stays_tied : (t : TxTable V) (s u : table.Seat V) (r : TxActor V) → Owns t u → seated.actor u ≡ seated.actor s
@@ -275,8 +274,9 @@ module _ {V : Type 0} where
 
   -- a seat m that has looked at the clock, and u that is m but for its last number, know no more
   pub only_knows : (o : World V) (s m u : table.Seat V) (k : ℕ) → m.place.me ≡ (looking (view s) k, out s) → IsSameSeat s m
-      → acts o m ≡ acts o s → (view s).clock ≤ k → u.place ≡ m.place → u.asked ≡ m.asked → OnlyKnows o s u
-  only_knows o s m u k me same own known place asked =
+      → acts o m ≡ acts o s → list_of m.asked ≡ list_of s.asked → (view s).clock ≤ k → u.place ≡ m.place → u.asked ≡ m.asked
+      → OnlyKnows o s u
+  only_knows o s m u k me same own asks known place asked =
       let are : u.place.me ≡ (looking (view s) k, out s) = ap (λ p. p.me) place ∙ me in
       let clock : (view u).clock ≡ k = ap (λ v. v.0.clock) are in record {
         seat = (ap (λ p. p.table_id) place ∙ same.0, ap (λ p. p.id) place ∙ same.1);
@@ -288,6 +288,7 @@ module _ {V : Type 0} where
         looks = ap (λ v. v.0.looks) are ∙ ap (λ (n : ℕ). (view s).looks ++ n ∷ []) (sym clock);
         rises = omega (arith, known, clock);
         own = noted_acts o m u place asked ∙ own;
+        asks = same_requests s u (ap (λ v. v.0.turns) are) (ap (λ es. list_of es) asked ∙ asks);
       }
 
   pub stays_between : (o : World V) (s u : table.Seat V) → standing o u ≡ standing o s → (standing o s ≡ Rests) ⊎ IsOpen o s

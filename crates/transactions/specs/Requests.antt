@@ -69,7 +69,7 @@ module _ {V : Type 0} where
     pub turns : (view u).turns ≡ (view s).turns ++ more
 
   -- The seat has loaded the clock once beside its turns, and knows it. It is no lower, and nothing else of the seat or of its actor's own
-  -- world has changed, but perhaps its last number.
+  -- world has changed, but perhaps its last number; and nothing was asked.
   pub record OnlyKnows (o : World V) (s u : Seat V) : Type 0 where
     pub seat : (u.place.table_id ≡ s.place.table_id) × (actor u ≡ actor s)
     pub shares : (view u).shares ≡ (view s).shares
@@ -80,6 +80,7 @@ module _ {V : Type 0} where
     pub looks : (view u).looks ≡ (view s).looks ++ (view u).clock ∷ []
     pub rises : (view s).clock ≤ (view u).clock
     pub own : acts o u ≡ acts o s
+    pub asks : requests_of u ≡ requests_of s
 
   -- ---- what its actor is asked
   -- Between the seats s and u it was asked this and nothing else; or memory was wanting for it, and it was asked to abort in its place.

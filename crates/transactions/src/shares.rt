@@ -1,11 +1,12 @@
 //! The seats of a table: its first one, seats that are split and joined, and the last one, which closes it.
-ghost use Rattle.std.specs.Prelude.{◌≡◌, ◌≢◌, ◌<◌, ◌≤◌, IfErr, IfOk, IsOk, length, map, max};
+ghost use Rattle.std.specs.Prelude.{◌≡◌, ◌≢◌, ◌<◌, ◌≤◌, [], IfErr, IfOk, IsOk, length, map, max};
 ghost use mathlib.Core.Option.{some};
 ghost use Rattle.seq_model.specs.Refusals.{IsNoSuchOrTooLong};
 ghost use Rattle.world_table.specs.Openings.{IsWithin, blocks_of, world_of};
 ghost use Rattle.tx_table.specs.Ends.{homes_of, row_of};
 ghost use Rattle.tx_table.specs.Seated.{actor, acts, blocks_in, contents_in, locations_in, opening_of, view, words_in};
 ghost use Rattle.tx_table.specs.Shown.{ShowsWorld, both_of, first as first_view, left_of, right_of};
+ghost use Rattle.driven_turns.specs.Requested.{requests_of};
 ghost use Rattle.transactions.specs.Closing.{IsLeftBy};
 ghost use Rattle.transactions.specs.Ready.{IsReady};
 
@@ -27,6 +28,7 @@ impl<V: Value> TxSeat<V> {
         ensures blocks { IfOk result (λ opened. blocks_in opened.0 ≡ blocks_of shape.now.stripes state.held) }
         ensures contents { IfOk result (λ opened. contents_in opened.0 ≡ state) }
         ensures first { IfOk result (λ opened. (view opened.1.seat ≡ first_view) × (opened.1.seat.last ≡ 0)) }
+        ensures asks { IfOk result (λ opened. requests_of opened.1.seat ≡ []) }
         ensures refused { IfErr result (λ refusal. IsNoSuchOrTooLong refusal (length shape.now.stripes ≢ length state.held)
             (IsWithin shape.now.stripes shape.now.clock state)) }
         ensures fits { IsOk result → (length shape.now.stripes ≡ length state.held) × IsWithin shape.now.stripes shape.now.clock state }
@@ -45,8 +47,8 @@ impl<V: Value> TxSeat<V> {
         self.seat.shares()
     }
 
-    /// A new seat, which gets so many of this one's shares. It has no receipts, and its last number is 0. A transaction that is open here
-    /// stays as it is.
+    /// A new seat, which gets so many of this one's shares. It has no receipts, its last number is 0, and its actor was asked nothing. A
+    /// transaction that is open here stays as it is.
     pub fn split(&mut self, table: &TxTable<V>, shares: u64) -> TxSeat<V>
         requires ready { IsReady table.now self.old }
         requires some { 1 ≤ shares }
@@ -54,6 +56,7 @@ impl<V: Value> TxSeat<V> {
         ensures ready { IsReady table.now self.new × IsReady table.now result }
         ensures same { actor self.new.seat ≡ actor self.old.seat }
         ensures own { acts (opening_of table.now) self.new.seat ≡ acts (opening_of table.now) self.old.seat }
+        ensures asks { (requests_of self.new.seat ≡ requests_of self.old.seat) × (requests_of result.seat ≡ []) }
         ensures left { (view self.new.seat ≡ left_of shares (view self.old.seat)) × (self.new.seat.last ≡ self.old.seat.last) }
         ensures right { (view result.seat ≡ right_of shares (view self.old.seat)) × (result.seat.last ≡ 0) }
     {
@@ -69,6 +72,7 @@ impl<V: Value> TxSeat<V> {
         ensures ready { IsReady table.now self.new }
         ensures same { actor self.new.seat ≡ actor self.old.seat }
         ensures own { acts (opening_of table.now) self.new.seat ≡ acts (opening_of table.now) self.old.seat }
+        ensures asks { requests_of self.new.seat ≡ requests_of self.old.seat }
         ensures both { view self.new.seat ≡ both_of (view self.old.seat) (actor other.seat) (view other.seat) }
         ensures last { self.new.seat.last ≡ max self.old.seat.last other.seat.last }
     {

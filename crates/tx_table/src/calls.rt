@@ -18,6 +18,7 @@ ghost use Rattle.tx_table.specs.Seated.{
   actor,
   acts,
   blocks_in,
+  list_of,
   locations_in,
   opening_of,
   out,
@@ -51,6 +52,7 @@ impl<V: Value> TxTable<V> {
         ensures seat { seat.new.place.me ≡ (looking (view seat.old) result, out seat.old) }
         ensures same { IsSameSeat seat.old seat.new }
         ensures acts { acts (opening_of self.now) seat.new ≡ acts (opening_of self.now) seat.old }
+        ensures asked { list_of seat.new.asked ≡ list_of seat.old.asked }
     {
         self.whole.shared.load::<Brand>(&mut seat.place, 0)
     }

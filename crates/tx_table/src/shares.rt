@@ -66,6 +66,7 @@ impl<V: Value> TxTable<V> {
         requires fewer { shares < (view seat.old).shares }
         ensures same { IsSameSeat seat.old seat.new }
         ensures acts { acts (opening_of self.now) seat.new ≡ acts (opening_of self.now) seat.old }
+        ensures asked { list_of seat.new.asked ≡ list_of seat.old.asked }
         ensures left { seat.new.place.me ≡ (left_of shares (view seat.old), out seat.old) }
         ensures right { (Owns self.now result) × (result.place.me ≡ (right_of shares (view seat.old), [])) }
         ensures new { (list_of result.asked ≡ []) × (result.last ≡ 0) }
@@ -82,6 +83,7 @@ impl<V: Value> TxTable<V> {
         requires bare { out other ≡ [] }
         ensures same { Owns self.now seat.new × (actor seat.new ≡ actor seat.old) }
         ensures acts { acts (opening_of self.now) seat.new ≡ acts (opening_of self.now) seat.old }
+        ensures asked { list_of seat.new.asked ≡ list_of seat.old.asked }
         ensures both { seat.new.place.me ≡ (both_of (view seat.old) (actor other) (view other), out seat.old) }
         ensures last { seat.new.last ≡ max seat.old.last other.last }
     {

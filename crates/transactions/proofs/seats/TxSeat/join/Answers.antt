@@ -1,5 +1,6 @@
 use Rattle.std.proofs.Common.{◌≡◌, ◌+◌, ◌<◌, ◌∙◌, ap, arith, refl, subst, sym}
 use Rattle.tx_table.specs.Seated.{Rests, actor, kept, opening_of, out, view}
+use Rattle.driven_turns.proofs.RequestedLemmas.{same_requests}
 use Rattle.driven_turns.proofs.RestLemmas.{bare_out}
 use Rattle.transactions.proofs.ShareLemmas.{rests_kept, stays_ready}
 use Rattle.transactions.proofs.seats.TxSeat.join.Goals as goal
@@ -23,3 +24,7 @@ returns-clause-ready g c =
 
 pub returns-clause-own : goal.returns-clause-own
 returns-clause-own g c = c.join.ensures.acts
+
+pub returns-clause-asks : goal.returns-clause-asks
+returns-clause-asks g c =
+    let e = c.join.ensures in same_requests c.args.self.now.seat c.join.new.seat (ap (λ m. m.0.turns) e.both) e.asked

@@ -11,7 +11,8 @@ returns-then-clock-number-clause-stays g c =
 pub returns-then-clock-number-clause-knows : goal.returns-then-clock-number-clause-knows
 returns-then-clock-number-clause-knows g c =
     only_knows (opening_of c.args.table.now) c.args.self.now.seat c.look-clock.new.seat c.look-clock.new.seat c.look-clock.result
-    c.look-clock.ensures.seat c.look-clock.ensures.same c.look-clock.ensures.acts c.look-clock.ensures.room.0 refl refl
+    c.look-clock.ensures.seat c.look-clock.ensures.same c.look-clock.ensures.acts c.look-clock.ensures.asked
+    c.look-clock.ensures.room.0 refl refl
 
 pub returns-clause-stays : goal.returns-clause-stays
 returns-clause-stays g c =
@@ -22,5 +23,5 @@ returns-clause-stays g c =
 pub returns-clause-knows : goal.returns-clause-knows
 returns-clause-knows g c =
     only_knows (opening_of c.args.table.now) c.args.self.now.seat c.look-clock.new.seat c.note.new.self c.look-clock.result
-    c.look-clock.ensures.seat c.look-clock.ensures.same c.look-clock.ensures.acts c.look-clock.ensures.room.0 c.note.ensures.same
-    c.note.ensures.asked
+    c.look-clock.ensures.seat c.look-clock.ensures.same c.look-clock.ensures.acts c.look-clock.ensures.asked
+    c.look-clock.ensures.room.0 c.note.ensures.same c.note.ensures.asked

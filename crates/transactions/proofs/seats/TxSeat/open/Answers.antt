@@ -1,8 +1,10 @@
-use Rattle.std.proofs.Common.{refl, subst, sym}
+use Rattle.std.proofs.Common.{◌∙◌, ap, refl, subst, sym}
 use Rattle.std.specs.Prelude.{All}
 use Rattle.seq_model.specs.Calls.{IsWithinLimits}
 use Rattle.replay_log.specs.Contents.{HaveStripes}
 use Rattle.replay_log.specs.WorldProgress.{AreSmall}
+use Rattle.driven_turns.proofs.RequestedLemmas.{none_requested}
+use Rattle.driven_turns.specs.Requested.{requests_of}
 use Rattle.transactions.proofs.OpeningLemmas.{few_locations, opens_reached}
 use Rattle.transactions.proofs.seats.TxSeat.open.Goals as goal
 
@@ -17,3 +19,8 @@ new-seat-requires-clause-opened g c =
           (subst (All IsWithinLimits) c.held.ensures.held c.held.ensures.within)
           (subst HaveStripes e.blocks e.stripes);
     }
+
+pub returns-clause-asks : goal.returns-clause-asks
+returns-clause-asks g c =
+    let e = c.in_ok-table.ensures in
+    ap (λ s. requests_of s) c.new-seat.ensures.seat ∙ none_requested c.in_ok-table.seat (ap (λ m. m.0.turns) e.seat) e.new.0

@@ -1,5 +1,7 @@
 use Rattle.std.proofs.Common.{◌≡◌, ◌-◌, ◌<◌, ◌∙◌, ap, arith, refl}
 use Rattle.tx_table.specs.Seated.{view}
+use Rattle.driven_turns.proofs.RequestedLemmas.{none_requested, same_requests}
+use Rattle.driven_turns.specs.Requested.{requests_of}
 use Rattle.transactions.proofs.ShareLemmas.{stays_ready}
 use Rattle.transactions.proofs.seats.TxSeat.split.Goals as goal
 
@@ -17,3 +19,10 @@ returns-clause-ready g c =
 
 pub returns-clause-own : goal.returns-clause-own
 returns-clause-own g c = c.split-seat.ensures.acts
+
+pub returns-clause-asks : goal.returns-clause-asks
+returns-clause-asks g c =
+    let e = c.split-seat.ensures in (
+      same_requests c.args.self.now.seat c.split-seat.new.seat (ap (λ m. m.0.turns) e.left) e.asked,
+      ap (λ s. requests_of s) c.new.ensures.seat ∙ none_requested c.split-seat.result (ap (λ m. m.0.turns) e.right.1) e.new.0,
+    )
