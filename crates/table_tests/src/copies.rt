@@ -1,8 +1,9 @@
-//! Values one of whose copies is refused, at a seat of a shared table and in a running world; or one of which waits as it is dropped, in a
-//! worker's commit.
+//! Values one of whose copies is refused, at a seat of a shared table, of two and of four workers there, and in a running world; or one of
+//! which waits as it is dropped, in a worker's commit.
 //!
-//! A transaction puts values into a map and gets them. In its first run the first copy of a value is refused, in the next run the second
-//! one, and so on up to a run to whose end none is.
+//! Transactions put values into a map and get them. In the first run the first copy of a value is refused, in the next run the second one,
+//! and so on up to a run to whose end none is.
+mod races;
 mod rations;
 mod seats;
 mod tables;
@@ -18,7 +19,7 @@ use tables::{Work, on_table};
 /// A run makes fewer copies than so many.
 const COPIES: u64 = 1_000;
 
-/// The runs in this place, `at a seat`, `in a world` or `in a commit`, and what came of them.
+/// The runs in this place, `at a seat`, `of two workers`, `of four workers`, `in a world` or `in a commit`, and what came of them.
 pub fn answer_copies<R: Threads + Wait + Sync>(
     rt: &R,
     text: &mut String,
@@ -26,6 +27,8 @@ pub fn answer_copies<R: Threads + Wait + Sync>(
 ) -> Result<(), Refusal> {
     let answer = match place {
         "at a seat" => refuse_at_seats(rt, text)?,
+        "of two workers" => refuse_in_threads(rt, text, 2)?,
+        "of four workers" => refuse_in_threads(rt, text, 4)?,
         "in a world" => refuse_in_worlds(*text.allocator())?,
         "in a commit" => hold_commit(rt, text)?,
         _ => return Err(Refusal::NoSuch),
@@ -43,6 +46,22 @@ fn refuse_at_seats<R: Threads + Wait + Sync>(
             is_some(place)?;
             return Ok(
                 "at a seat: each refused copy is a want of memory, and the seat commits after it\n",
+            );
+        }
+    }
+    Err(Refusal::TooLong)
+}
+
+fn refuse_in_threads<R: Threads + Wait + Sync>(
+    rt: &R,
+    text: &mut String,
+    workers: u64,
+) -> Result<&'static str, Refusal> {
+    for place in 0..COPIES {
+        if !on_table(rt, text, Work::Raced(place, workers))? {
+            is_some(place)?;
+            return Ok(
+                "of workers: for each refused copy one of them misses its job, and the seat commits after it\n",
             );
         }
     }

@@ -12,8 +12,10 @@
 //!   behind it has its receipt. `1 waits for a receipt`: until each other seat has one of an attempt.
 //! - `1 leaves 1 do write 0 5`: a transaction begins, makes these calls, and is left open. `1 repeats 4095 1 do read 0`: the open
 //!   transaction makes these calls so often.
-//! - `1 commits 1 do read 0; 1 do write 0 5`, `1 reads ..`, `1 aborts ..`, `1 drops ..`: a transaction borrows the seat, makes these calls,
-//!   and ends so. `1 typed commits ..`: likewise by typed calls; what is asked for its length is a queue, and behind `typed_map` a map.
+//! - `1 commits 1 do read 0; 1 do write 0 5`, `1 aborts ..`, `1 drops ..`: a transaction borrows the seat, makes these calls, and ends so,
+//!   be it dropped while it is open. `1 reads ..`: a declared reader, which commits. `1 typed commits ..`: likewise by typed calls; what is
+//!   asked for its length is a queue, and behind `typed_map` a map. Where rows go one by one, a call of another seat among them lets the
+//!   next row by, which is that seat's, before the transaction goes on.
 //! - `1 learn 4`, `1 last number`: what the seat learns, and its last number.
 pub mod requests;
 pub mod rows;

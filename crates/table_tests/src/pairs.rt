@@ -1,10 +1,8 @@
-//! Two seats of a table, whose rows are requests or transactions that borrow them.
+//! Two seats of a table, whose rows are answered in turn or in threads.
 ghost use Rattle.std.specs.Prelude.{◌≡◌};
 ghost use Rattle.tx_table.specs.Seated.{view};
 ghost use Rattle.transactions.specs.Ready.{IsReady};
 
-use crate::borrowed::calls::Style;
-use crate::borrowed::rows::answer_borrowed;
 use crate::engine::turns::{at_once, four_at_once, in_turn};
 use crate::shared::{Order, Page, commit_after};
 use std::thread::Threads;
@@ -14,19 +12,10 @@ use tx_table::TxTable;
 /// How many of the table's shares the second seat has.
 const SECOND_SHARES: u64 = 32;
 
-/// What the rows at two seats are.
-#[derive(Clone, Copy)]
-pub enum Pair {
-    Requests,
-    /// Transactions whose calls are made in this style.
-    Borrowed(Style),
-}
-
 /// The rows of two seats, into which this one is split. It is the first of them, and has all shares in the end.
 pub fn run_pair<R: Threads + Sync>(
     rt: &R,
     page: &mut Page,
-    pair: Pair,
     table: &TxTable<u64>,
     mut first: TxSeat<u64>,
     rows: &str,
@@ -36,7 +25,7 @@ pub fn run_pair<R: Threads + Sync>(
     ensures ready { IsReady table.now result }
 {
     let mut second = first.split(table, SECOND_SHARES);
-    run_both(rt, page, pair, table, &mut first, &mut second, rows);
+    run_both(rt, page, table, &mut first, &mut second, rows);
     first.join(table, second);
     first
 }
@@ -45,7 +34,6 @@ pub fn run_pair<R: Threads + Sync>(
 fn run_both<R: Threads + Sync>(
     rt: &R,
     page: &mut Page,
-    pair: Pair,
     table: &TxTable<u64>,
     first: &mut TxSeat<u64>,
     second: &mut TxSeat<u64>,
@@ -56,32 +44,12 @@ fn run_both<R: Threads + Sync>(
     ensures first { IsReady table.now first.new }
     ensures second { IsReady table.now second.new }
 {
-    answer_both(rt, page, pair, table, first, second, rows);
+    answer_rows(rt, page, table, first, second, rows);
     commit_after(page, table, first);
     commit_after(page, table, second);
 }
 
-fn answer_both<R: Threads + Sync>(
-    rt: &R,
-    page: &mut Page,
-    pair: Pair,
-    table: &TxTable<u64>,
-    first: &mut TxSeat<u64>,
-    second: &mut TxSeat<u64>,
-    rows: &str,
-)
-    requires first { IsReady table.now first.old }
-    requires second { IsReady table.now second.old }
-    ensures first { IsReady table.now first.new }
-    ensures second { IsReady table.now second.new }
-{
-    match pair {
-        Pair::Borrowed(style) => answer_borrowed(page, table, first, second, style, rows),
-        Pair::Requests => answer_requests(rt, page, table, first, second, rows),
-    }
-}
-
-fn answer_requests<R: Threads + Sync>(
+fn answer_rows<R: Threads + Sync>(
     rt: &R,
     page: &mut Page,
     table: &TxTable<u64>,

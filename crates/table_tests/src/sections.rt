@@ -11,7 +11,6 @@ use std::thread::Threads;
 /// The sections, each with what comes of it. A section has a name, and then a row whose first word says what the other rows are.
 ///
 /// - `seats words 7 8; clock 3`: rows at two seats of a table, as [`crate::engine`] has them.
-/// - `plain map 1`, `typed map 1`: transactions that borrow such seats, as [`crate::borrowed`] has them.
 /// - `workers 1 2 on words 0 0`, `retries 3 on words 0 0`: jobs, as [`crate::worker`] has them.
 /// - `sessions 2 64 1000 2`: a session file, as [`crate::sessions`] has it.
 /// - `copies at a seat`, `copies in a world`, `copies in a commit`: no rows; [`crate::copies`] tells what is run.

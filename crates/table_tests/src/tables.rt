@@ -3,8 +3,7 @@ ghost use Rattle.std.specs.Prelude.{◌≡◌};
 ghost use Rattle.tx_table.specs.Seated.{view};
 ghost use Rattle.transactions.specs.Ready.{IsReady};
 
-use crate::borrowed::calls::Style;
-use crate::pairs::{Pair, run_pair};
+use crate::pairs::run_pair;
 use crate::shared::{Page, close_told, end_page, open, opening_of, say_places};
 use crate::worker::lists::{Limits, limits_of};
 use crate::worker::retries::retry_rows;
@@ -21,7 +20,8 @@ use tx_table::TxTable;
 /// What the rows on a table are.
 #[derive(Clone, Copy)]
 enum Kind {
-    Pair(Pair),
+    /// Rows at two seats.
+    Seats,
     /// Jobs of workers.
     Workers(Limits),
     /// Jobs of one seat, each in up to so many attempts.
@@ -50,18 +50,15 @@ pub fn answer_table<R: Threads + Wait + Sync>(
         Some((limits, table)) => (limits, table),
         None => ("", words),
     };
-    match kind_of(kind, limits, table) {
+    match kind_of(kind, limits) {
         Some(kind) => answer_header(rt, text, kind, table, rows),
         None => Err(Refusal::NoSuch),
     }
 }
 
-fn kind_of(word: &str, limits: &str, table: &str) -> Option<Kind> {
+fn kind_of(word: &str, limits: &str) -> Option<Kind> {
     match word {
-        "seats" => Some(Kind::Pair(Pair::Requests)),
-        "plain" => Some(Kind::Pair(Pair::Borrowed(Style::Plain))),
-        "typed" if table.starts_with("map") => Some(Kind::Pair(Pair::Borrowed(Style::TypedMap))),
-        "typed" => Some(Kind::Pair(Pair::Borrowed(Style::Typed))),
+        "seats" => Some(Kind::Seats),
         "workers" => Some(Kind::Workers(limits_of(limits)?)),
         "retries" => Some(Kind::Retries(number(limits)?)),
         _ => None,
@@ -162,7 +159,7 @@ fn run_seat<R: Threads + Wait + Sync>(
     ensures ready { IsReady table.now result }
 {
     match kind {
-        Kind::Pair(pair) => run_pair(rt, page, pair, table, seat, rows),
+        Kind::Seats => run_pair(rt, page, table, seat, rows),
         Kind::Workers(limits) => run_lists(rt, page, limits, table, seat, rows),
         Kind::Retries(tries) => retry_rows(page, tries, table, seat, rows),
     }

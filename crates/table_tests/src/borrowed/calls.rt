@@ -21,10 +21,11 @@ pub struct Placed<V> {
     pub call: Call<V>,
 }
 
-/// Which of the seats makes the calls of a row, and how.
+/// Whose seat makes the calls of a row, below how many others it stands, and how they are made.
 #[derive(Clone, Copy)]
 pub struct Caller {
-    pub seat: u32,
+    pub worker: u64,
+    pub above: u64,
     pub style: Style,
 }
 

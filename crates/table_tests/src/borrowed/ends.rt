@@ -13,6 +13,16 @@ pub enum End {
     Drops,
 }
 
+/// How a transaction ends by this verb, unless it is a declared reader.
+pub fn end_of(verb: &str) -> Option<End> {
+    match verb {
+        "commits" => Some(End::Commits),
+        "aborts" => Some(End::Aborts),
+        "drops" => Some(End::Drops),
+        _ => None,
+    }
+}
+
 /// How a transaction has ended.
 #[derive(Drop)]
 pub enum Ended<V> {

@@ -1,141 +1,137 @@
-//! Transactions that borrow their seats, at any type of values.
+//! Transactions that borrow the seat whose rows are answered, at any type of values.
 ghost use Rattle.std.specs.Prelude.{◌≡◌};
 ghost use Rattle.transactions.specs.Ready.{HasBegunSince, IsReady};
 
-use super::calls::{Caller, Placed, Style, ask};
-use super::ends::{End, Ended, end_as};
+use super::calls::{Caller, Placed, ask};
+use super::ends::{End, Ended, end_as, end_of};
 use super::hearing::Hearer;
-use seq_model::{Call, Value};
+use super::lists::calls_of;
+use crate::shared::{Meeting, Page};
+use seq_model::Value;
 use transactions::{Tx, TxSeat, begin, begin_read};
 use tx_table::TxTable;
 
-/// A transaction makes these calls, and ends.
-pub fn transact<V: Value, H: Hearer<V>>(
+/// A transaction makes these calls, and ends as its verb says.
+pub fn answer_transaction(
+    page: &mut Page,
+    table: &TxTable<u64>,
+    seat: &mut TxSeat<u64>,
+    caller: Caller,
+    meeting: &Meeting,
+    verb: &str,
+    calls: &str,
+)
+    requires ready { IsReady table.now seat.old }
+    ensures ready { IsReady table.now seat.new }
+{
+    match calls_of(page.alloc(), calls) {
+        Ok(calls) => {
+            run(page, table, seat, caller, meeting, verb, calls.as_slice());
+            drop(calls);
+        }
+        Err(refusal) => page.refuse(refusal),
+    }
+}
+
+fn run<V: Value, H: Hearer<V>>(
     hearer: &mut H,
     table: &TxTable<V>,
     seat: &mut TxSeat<V>,
-    other: &mut TxSeat<V>,
     caller: Caller,
+    meeting: &Meeting,
+    verb: &str,
+    calls: &[Placed<V>],
+)
+    requires ready { IsReady table.now seat.old }
+    ensures ready { IsReady table.now seat.new }
+{
+    match end_of(verb) {
+        Some(end) => transact(hearer, table, seat, caller, meeting, end, calls),
+        None => read_all(hearer, table, seat, caller, meeting, calls),
+    }
+}
+
+fn transact<V: Value, H: Hearer<V>>(
+    hearer: &mut H,
+    table: &TxTable<V>,
+    seat: &mut TxSeat<V>,
+    caller: Caller,
+    meeting: &Meeting,
     end: End,
     calls: &[Placed<V>],
-)
-    requires seat { IsReady table.now seat.old }
-    requires other { IsReady table.now other.old }
-    ensures seat { IsReady table.now seat.new }
-    ensures other { IsReady table.now other.new }
-{
-    match begin(seat, table) {
-        Ok(mut tx) => {
-            make_all(hearer, &mut tx, table, other, caller, calls);
-            hearer.hear_end(end_as(tx, end));
-        }
-        Err(refusal) => hearer.hear_end(Ended::Refused(refusal)),
-    }
-}
-
-/// A declared reader makes these calls, and commits.
-pub fn read_all<V: Value, H: Hearer<V>>(
-    hearer: &mut H,
-    table: &TxTable<V>,
-    seat: &mut TxSeat<V>,
-    other: &mut TxSeat<V>,
-    caller: Caller,
-    calls: &[Placed<V>],
-)
-    requires seat { IsReady table.now seat.old }
-    requires other { IsReady table.now other.old }
-    ensures seat { IsReady table.now seat.new }
-    ensures other { IsReady table.now other.new }
-{
-    match begin_read(seat, table) {
-        Ok(mut tx) => {
-            make_all(hearer, &mut tx, table, other, caller, calls);
-            hearer.hear_end(end_as(tx, End::Commits));
-        }
-        Err(refusal) => hearer.hear_end(Ended::Refused(refusal)),
-    }
-}
-
-// A call of the other seat is a whole transaction there.
-fn make_all<V: Value, H: Hearer<V>>(
-    hearer: &mut H,
-    tx: &mut Tx<'_, V>,
-    table: &TxTable<V>,
-    other: &mut TxSeat<V>,
-    caller: Caller,
-    calls: &[Placed<V>],
-)
-    requires ready { IsReady tx.old.table.now tx.old.seat.now }
-    requires since { HasBegunSince tx.old.table.now tx.old.seat.now }
-    requires other { IsReady table.now other.old }
-    ensures same_reference { tx.new.seat.ghost_name ≡ tx.old.seat.ghost_name }
-    ensures same_table { tx.new.table.now ≡ tx.old.table.now }
-    ensures ready { IsReady tx.new.table.now tx.new.seat.now }
-    ensures since { HasBegunSince tx.new.table.now tx.new.seat.now }
-    ensures other { IsReady table.now other.new }
-{
-    'calls: for placed in calls {
-        make_placed(hearer, tx, table, other, caller, placed);
-    }
-}
-
-fn make_placed<V: Value, H: Hearer<V>>(
-    hearer: &mut H,
-    tx: &mut Tx<'_, V>,
-    table: &TxTable<V>,
-    other: &mut TxSeat<V>,
-    caller: Caller,
-    placed: &Placed<V>,
-)
-    requires ready { IsReady tx.old.table.now tx.old.seat.now }
-    requires since { HasBegunSince tx.old.table.now tx.old.seat.now }
-    requires other { IsReady table.now other.old }
-    ensures same_reference { tx.new.seat.ghost_name ≡ tx.old.seat.ghost_name }
-    ensures same_table { tx.new.table.now ≡ tx.old.table.now }
-    ensures ready { IsReady tx.new.table.now tx.new.seat.now }
-    ensures since { HasBegunSince tx.new.table.now tx.new.seat.now }
-    ensures other { IsReady table.now other.new }
-{
-    if placed.seat == caller.seat {
-        make(hearer, tx, caller.style, &placed.call);
-    } else {
-        commit_one(hearer, table, other, caller.style, &placed.call);
-    }
-}
-
-/// A call of the transaction.
-pub fn make<V: Value, H: Hearer<V>>(
-    hearer: &mut H,
-    tx: &mut Tx<'_, V>,
-    style: Style,
-    call: &Call<V>,
-)
-    requires ready { IsReady tx.old.table.now tx.old.seat.now }
-    requires since { HasBegunSince tx.old.table.now tx.old.seat.now }
-    ensures same_reference { tx.new.seat.ghost_name ≡ tx.old.seat.ghost_name }
-    ensures same_table { tx.new.table.now ≡ tx.old.table.now }
-    ensures ready { IsReady tx.new.table.now tx.new.seat.now }
-    ensures since { HasBegunSince tx.new.table.now tx.new.seat.now }
-{
-    let answered = ask(tx, style, call);
-    hearer.hear_answer(answered);
-}
-
-fn commit_one<V: Value, H: Hearer<V>>(
-    hearer: &mut H,
-    table: &TxTable<V>,
-    seat: &mut TxSeat<V>,
-    style: Style,
-    call: &Call<V>,
 )
     requires ready { IsReady table.now seat.old }
     ensures ready { IsReady table.now seat.new }
 {
     match begin(seat, table) {
         Ok(mut tx) => {
-            make(hearer, &mut tx, style, call);
+            make_all(hearer, &mut tx, caller, meeting, calls);
+            hearer.hear_end(end_as(tx, end));
+        }
+        Err(refusal) => hearer.hear_end(Ended::Refused(refusal)),
+    }
+}
+
+// A declared reader, which commits.
+fn read_all<V: Value, H: Hearer<V>>(
+    hearer: &mut H,
+    table: &TxTable<V>,
+    seat: &mut TxSeat<V>,
+    caller: Caller,
+    meeting: &Meeting,
+    calls: &[Placed<V>],
+)
+    requires ready { IsReady table.now seat.old }
+    ensures ready { IsReady table.now seat.new }
+{
+    match begin_read(seat, table) {
+        Ok(mut tx) => {
+            make_all(hearer, &mut tx, caller, meeting, calls);
             hearer.hear_end(end_as(tx, End::Commits));
         }
         Err(refusal) => hearer.hear_end(Ended::Refused(refusal)),
     }
+}
+
+// A call of another seat lets the next row by, which is that seat's.
+fn make_all<V: Value, H: Hearer<V>>(
+    hearer: &mut H,
+    tx: &mut Tx<'_, V>,
+    caller: Caller,
+    meeting: &Meeting,
+    calls: &[Placed<V>],
+)
+    requires ready { IsReady tx.old.table.now tx.old.seat.now }
+    requires since { HasBegunSince tx.old.table.now tx.old.seat.now }
+    ensures same_reference { tx.new.seat.ghost_name ≡ tx.old.seat.ghost_name }
+    ensures same_table { tx.new.table.now ≡ tx.old.table.now }
+    ensures ready { IsReady tx.new.table.now tx.new.seat.now }
+    ensures since { HasBegunSince tx.new.table.now tx.new.seat.now }
+{
+    let mut row = caller.above;
+    'calls: for placed in calls {
+        if u64::from(placed.seat) == caller.worker {
+            make(hearer, tx, caller, placed);
+        } else {
+            row = row.saturating_add(1);
+            meeting.let_by(row);
+        }
+    }
+}
+
+fn make<V: Value, H: Hearer<V>>(
+    hearer: &mut H,
+    tx: &mut Tx<'_, V>,
+    caller: Caller,
+    placed: &Placed<V>,
+)
+    requires ready { IsReady tx.old.table.now tx.old.seat.now }
+    requires since { HasBegunSince tx.old.table.now tx.old.seat.now }
+    ensures same_reference { tx.new.seat.ghost_name ≡ tx.old.seat.ghost_name }
+    ensures same_table { tx.new.table.now ≡ tx.old.table.now }
+    ensures ready { IsReady tx.new.table.now tx.new.seat.now }
+    ensures since { HasBegunSince tx.new.table.now tx.new.seat.now }
+{
+    let answered = ask(tx, caller.style, &placed.call);
+    hearer.hear_answer(answered);
 }

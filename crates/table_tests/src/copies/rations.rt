@@ -101,7 +101,7 @@ impl Ration {
     fn wait(&self) {
         let steps = self.copies.waits.swap(0, Ordering::SeqCst);
         if steps > 0 {
-            self.steps().end_row();
+            self.steps().end_step();
             self.steps().wait_for_row(steps);
         }
     }

@@ -3,6 +3,7 @@ ghost use Rattle.std.specs.Prelude.{◌≡◌, IfOk};
 ghost use Rattle.tx_table.specs.Seated.{view};
 ghost use Rattle.transactions.specs.Ready.{IsReady};
 
+use super::races::race;
 use super::rations::{Ration, Rationed};
 use super::seats::refuse;
 use super::waits::hold;
@@ -15,7 +16,7 @@ use transactions::TxSeat;
 use tx_table::TxTable;
 
 /// No work comes to more receipts.
-const RECEIPTS: usize = 4;
+const RECEIPTS: usize = 5;
 
 /// What came of a work: whether a copy was refused.
 pub type Made = Result<bool, Refusal>;
@@ -23,8 +24,10 @@ pub type Made = Result<bool, Refusal>;
 /// What is done at a table.
 #[derive(Clone, Copy)]
 pub enum Work {
-    /// The copy at this place is refused.
+    /// The copy at this place is refused, of all that are made at a seat.
     Refused(u64),
+    /// The copy at this place is refused, of all that so many workers make, two or four.
+    Raced(u64, u64),
     /// A worker's commit is held.
     Held,
 }
@@ -129,6 +132,16 @@ fn work_at<R: Threads + Wait + Sync>(
 {
     match work {
         Work::Refused(place) => refuse(table, seat, ration, place, receipts),
+        Work::Raced(place, workers) => race(
+            rt,
+            *text.allocator(),
+            ration,
+            table,
+            seat,
+            place,
+            workers,
+            receipts,
+        ),
         Work::Held => hold(rt, text, ration, table, seat, receipts),
     }
 }

@@ -30,7 +30,7 @@ enum Asks {
 
 /// A job that asks nothing before so many steps of the other worker.
 #[derive(Drop)]
-struct Step {
+pub struct Step {
     ration: Ration,
     after: u64,
     asks: Asks,
@@ -65,14 +65,14 @@ impl Pause for Ration {
     }
 
     fn after_receipt(&self, _worker: u64, _number: u64) {
-        self.steps().end_row();
+        self.steps().end_step();
     }
 
     fn after_refusal(&self, _worker: u64, cause: Refusal) {
         if matches!(cause, Refusal::OutOfMemory) {
             self.steps().leave();
         }
-        self.steps().end_row();
+        self.steps().end_step();
     }
 }
 
@@ -110,6 +110,11 @@ fn seconds(alloc: Global, ration: &Ration) -> Result<Vec<Step>, Memory> {
         steps.push(step_of(ration, after, asks)?)?;
     }
     Ok(steps)
+}
+
+/// A list of one job, which puts a value.
+pub fn put_of(alloc: Global, ration: &Ration) -> Result<Vec<Step>, Memory> {
+    Ok(vec![in alloc; step_of(ration, 0, Asks::Puts)?]?)
 }
 
 fn step_of(ration: &Ration, after: u64, asks: Asks) -> Result<Step, Memory> {

@@ -2,8 +2,8 @@
 ghost use Rattle.table_tests.specs.Fit.{IsFit};
 
 use super::requests::{ask, leave_open, repeat, try_job};
-use crate::borrowed::alone::answer_alone;
-use crate::borrowed::calls::Style;
+use crate::borrowed::calls::{Caller, Style};
+use crate::borrowed::transacted::answer_transaction;
 use crate::shared::{Meeting, Order, Page, job_of, learn, say_last};
 use row_parts::script_of;
 use seq_model::Refusal;
@@ -12,6 +12,28 @@ use step_script::{Line, Script};
 use text_lines::number;
 use transactions::TxSeat;
 use tx_table::TxTable;
+
+/// Where a row stands: whose it is, and below how many others.
+#[derive(Clone, Copy)]
+struct Stand {
+    worker: u64,
+    above: u64,
+}
+
+impl Stand {
+    fn of(worker: u64, above: u64) -> Stand {
+        Stand { worker, above }
+    }
+
+    fn caller(self, style: Style) -> Caller {
+        let Stand { worker, above } = self;
+        Caller {
+            worker,
+            above,
+            style,
+        }
+    }
+}
 
 /// Answers the rows of two seats, one after another.
 pub fn answer_rows(
@@ -28,10 +50,10 @@ pub fn answer_rows(
 {
     let meeting = Meeting::new(2, Order::LastIsFirst);
     'rows: for row in rows.lines() {
-        answer_at(page, table, first, 1, &meeting, 0, row);
-        answer_at(page, table, second, 2, &meeting, 0, row);
+        answer_at(page, table, first, Stand::of(1, 0), &meeting, row);
+        answer_at(page, table, second, Stand::of(2, 0), &meeting, row);
     }
-    drop(meeting);
+    page.hear_meeting(meeting);
 }
 
 /// Answers the rows of one seat, one after another.
@@ -48,32 +70,30 @@ pub fn answer_own(
 {
     let mut above = 0u64;
     'rows: for row in rows.lines() {
-        answer_at(page, table, seat, worker, meeting, above, row);
+        answer_at(page, table, seat, Stand::of(worker, above), meeting, row);
         above = above.saturating_add(1);
     }
 }
 
-/// Answers the row, above which so many others stand, if it is one of this seat; unless memory was wanted before: then no other seat is
-/// to wait for this one.
+/// Answers the row if it is one of this seat; unless memory was wanted before: then no other seat is to wait for this one.
 fn answer_at(
     page: &mut Page,
     table: &TxTable<u64>,
     seat: &mut TxSeat<u64>,
-    worker: u64,
+    stand: Stand,
     meeting: &Meeting,
-    above: u64,
     row: &str,
 )
     requires fit { IsFit table.now seat.old }
     ensures fit { IsFit table.now seat.new }
 {
     match row.split_once(' ') {
-        Some((who, words)) if number(who) == Some(worker) && !page.wants_memory() => {
-            meeting.wait_for_row(above);
+        Some((who, words)) if number(who) == Some(stand.worker) && !page.wants_memory() => {
+            meeting.wait_for_row(stand.above);
             page.begin_row(row);
-            answer(page, table, seat, worker, meeting, row, words);
+            answer(page, table, seat, stand, meeting, row, words);
             page.end_row();
-            meeting.end_row();
+            meeting.end_row(stand.above);
         }
         _ => {}
     }
@@ -83,7 +103,7 @@ fn answer(
     page: &mut Page,
     table: &TxTable<u64>,
     seat: &mut TxSeat<u64>,
-    worker: u64,
+    stand: Stand,
     meeting: &Meeting,
     row: &str,
     words: &str,
@@ -94,16 +114,56 @@ fn answer(
     match words.split_once(' ') {
         Some(("do", _)) => answer_request(page, table, seat, row),
         Some(("learn", digits)) => answer_learn(page, table, seat, digits),
-        Some(("meets", _)) => answer_attempt(page, table, seat, worker, meeting, words, true),
-        Some(("attempts", _)) => answer_attempt(page, table, seat, worker, meeting, words, false),
-        Some(("gives", _)) => answer_attempt(page, table, seat, worker, meeting, words, false),
+        Some(("meets", _)) => answer_attempt(page, table, seat, stand.worker, meeting, words, true),
+        Some(("attempts", _)) => answer_attempt(
+            page,
+            table,
+            seat,
+            stand.worker,
+            meeting,
+            words,
+            false,
+        ),
+        Some(("gives", _)) => answer_attempt(
+            page,
+            table,
+            seat,
+            stand.worker,
+            meeting,
+            words,
+            false,
+        ),
         Some(("leaves", calls)) => answer_left(page, table, seat, calls),
         Some(("repeats", words)) => answer_repeated(page, table, seat, words),
         Some(("last", _)) => say_last(page, seat),
-        Some(("typed", words)) => answer_typed(page, table, seat, Style::Typed, words),
-        Some(("typed_map", words)) => answer_typed(page, table, seat, Style::TypedMap, words),
+        Some(("typed", words)) => answer_typed(
+            page,
+            table,
+            seat,
+            stand,
+            meeting,
+            Style::Typed,
+            words,
+        ),
+        Some(("typed_map", words)) => answer_typed(
+            page,
+            table,
+            seat,
+            stand,
+            meeting,
+            Style::TypedMap,
+            words,
+        ),
         Some((verb @ ("commits" | "reads" | "aborts" | "drops"), calls)) => {
-            answer_borrowed(page, table, seat, Style::Plain, verb, calls)
+            answer_borrowed(
+                page,
+                table,
+                seat,
+                stand.caller(Style::Plain),
+                meeting,
+                verb,
+                calls,
+            )
         }
         Some(("waits", _)) => answer_wait(page, meeting),
         _ => page.refuse(Refusal::NoSuch),
@@ -147,6 +207,8 @@ fn answer_typed(
     page: &mut Page,
     table: &TxTable<u64>,
     seat: &mut TxSeat<u64>,
+    stand: Stand,
+    meeting: &Meeting,
     style: Style,
     words: &str,
 )
@@ -154,7 +216,15 @@ fn answer_typed(
     ensures fit { IsFit table.now seat.new }
 {
     match words.split_once(' ') {
-        Some((verb, calls)) => answer_borrowed(page, table, seat, style, verb, calls),
+        Some((verb, calls)) => answer_borrowed(
+            page,
+            table,
+            seat,
+            stand.caller(style),
+            meeting,
+            verb,
+            calls,
+        ),
         None => page.refuse(Refusal::NoSuch),
     }
 }
@@ -165,14 +235,15 @@ fn answer_borrowed(
     page: &mut Page,
     table: &TxTable<u64>,
     seat: &mut TxSeat<u64>,
-    style: Style,
+    caller: Caller,
+    meeting: &Meeting,
     verb: &str,
     calls: &str,
 )
     requires fit { IsFit table.now seat.old }
     ensures fit { IsFit table.now seat.new }
 {
-    answer_alone(page, table, seat, style, verb, calls);
+    answer_transaction(page, table, seat, caller, meeting, verb, calls);
     seat.abort(table);
 }
 

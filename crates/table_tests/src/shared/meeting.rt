@@ -14,7 +14,7 @@ pub enum Order {
     FirstIsLast,
     /// Before a commit each is held until all behind it have a receipt.
     LastIsFirst,
-    /// Each row of a worker is held until all rows above it are answered.
+    /// Each row of a worker is held until all rows above it are answered, or the one that is under way lets it by.
     RowByRow,
 }
 
@@ -27,6 +27,7 @@ pub struct Meeting {
     standing: AtomicU64,
     received: AtomicU64,
     answered: AtomicU64,
+    admitted: AtomicU64,
     has_left: AtomicBool,
     is_missed: AtomicBool,
 }
@@ -39,6 +40,7 @@ impl Meeting {
             standing: AtomicU64::new(0),
             received: AtomicU64::new(0),
             answered: AtomicU64::new(0),
+            admitted: AtomicU64::new(0),
             has_left: AtomicBool::new(false),
             is_missed: AtomicBool::new(false),
         }
@@ -61,14 +63,32 @@ impl Meeting {
 
     /// Holds a worker before the row that stands below so many others, where rows go one by one.
     pub fn wait_for_row(&self, above: u64) {
-        if matches!(self.order, Order::RowByRow) && !self.is_reached(&self.answered, above) {
+        if matches!(self.order, Order::RowByRow) && !self.is_reached(&self.admitted, above) {
             self.is_missed.store(true, Ordering::SeqCst);
         }
     }
 
-    /// A row is answered.
-    pub fn end_row(&self) {
-        self.answered.fetch_add(1, Ordering::SeqCst);
+    /// The row below so many others is answered. Behind one that was let by, the row goes on that let it by.
+    pub fn end_row(&self, above: u64) {
+        let before = self.answered.fetch_add(1, Ordering::SeqCst);
+        if above <= before {
+            self.admitted
+                .store(before.saturating_add(1), Ordering::SeqCst);
+        }
+    }
+
+    /// Something is done that stands for a row, and was not let by.
+    pub fn end_step(&self) {
+        self.end_row(0);
+    }
+
+    /// A row that is under way lets the one by that stands below so many others, and is held until that is answered. It was not let by
+    /// itself.
+    pub fn let_by(&self, above: u64) {
+        self.admitted.store(above, Ordering::SeqCst);
+        if !matches!(self.order, Order::RowByRow) || !self.is_reached(&self.answered, above) {
+            self.is_missed.store(true, Ordering::SeqCst);
+        }
     }
 
     // How many receipts this worker is to wait for.
