@@ -13,7 +13,7 @@ use std::thread::Threads;
 /// - `seats words 7 8; clock 3`: rows at two seats of a table, as [`crate::engine`] has them.
 /// - `workers 1 2 on words 0 0`, `retries 3 on words 0 0`: jobs, as [`crate::worker`] has them.
 /// - `sessions 2 64 1000 2`: a session file, as [`crate::sessions`] has it.
-/// - `copies at a seat`, `copies in a world`, `copies in a commit`: no rows; [`crate::copies`] tells what is run.
+/// - `copies at a seat`, `copies of two workers`, `copies in a world`, `copies in a commit`: no rows; [`crate::copies`] tells what is run.
 ///
 /// What opens a table are lines of a script's header with `; ` between. Behind the rows on a table stands its clock when it was closed, and
 /// what the audit of all receipts says: that what the table holds is what they leave, one after another. `closed 1 do read 0`, in any such

@@ -114,59 +114,14 @@ fn answer(
     match words.split_once(' ') {
         Some(("do", _)) => answer_request(page, table, seat, row),
         Some(("learn", digits)) => answer_learn(page, table, seat, digits),
-        Some(("meets", _)) => answer_attempt(page, table, seat, stand.worker, meeting, words, true),
-        Some(("attempts", _)) => answer_attempt(
-            page,
-            table,
-            seat,
-            stand.worker,
-            meeting,
-            words,
-            false,
-        ),
-        Some(("gives", _)) => answer_attempt(
-            page,
-            table,
-            seat,
-            stand.worker,
-            meeting,
-            words,
-            false,
-        ),
+        Some(("meets" | "attempts" | "gives", _)) => {
+            answer_attempt(page, table, seat, stand.worker, meeting, words)
+        }
         Some(("leaves", calls)) => answer_left(page, table, seat, calls),
         Some(("repeats", words)) => answer_repeated(page, table, seat, words),
         Some(("last", _)) => say_last(page, seat),
-        Some(("typed", words)) => answer_typed(
-            page,
-            table,
-            seat,
-            stand,
-            meeting,
-            Style::Typed,
-            words,
-        ),
-        Some(("typed_map", words)) => answer_typed(
-            page,
-            table,
-            seat,
-            stand,
-            meeting,
-            Style::TypedMap,
-            words,
-        ),
-        Some((verb @ ("commits" | "reads" | "aborts" | "drops"), calls)) => {
-            answer_borrowed(
-                page,
-                table,
-                seat,
-                stand.caller(Style::Plain),
-                meeting,
-                verb,
-                calls,
-            )
-        }
         Some(("waits", _)) => answer_wait(page, meeting),
-        _ => page.refuse(Refusal::NoSuch),
+        _ => answer_borrowed(page, table, seat, stand, meeting, words),
     }
 }
 
@@ -203,35 +158,29 @@ fn answer_learn(page: &mut Page, table: &TxTable<u64>, seat: &mut TxSeat<u64>, d
     seat.abort(table);
 }
 
-fn answer_typed(
+fn answer_borrowed(
     page: &mut Page,
     table: &TxTable<u64>,
     seat: &mut TxSeat<u64>,
     stand: Stand,
     meeting: &Meeting,
-    style: Style,
     words: &str,
 )
     requires fit { IsFit table.now seat.old }
     ensures fit { IsFit table.now seat.new }
 {
+    let (style, words) = style_of(words);
     match words.split_once(' ') {
-        Some((verb, calls)) => answer_borrowed(
-            page,
-            table,
-            seat,
-            stand.caller(style),
-            meeting,
-            verb,
-            calls,
-        ),
-        None => page.refuse(Refusal::NoSuch),
+        Some((verb @ ("commits" | "reads" | "aborts" | "drops"), calls)) => {
+            run_borrowed(page, table, seat, stand.caller(style), meeting, verb, calls)
+        }
+        _ => page.refuse(Refusal::NoSuch),
     }
 }
 
 // No transaction is left open.
 #[tactic(auto, using(crate::proofs::FitLemmas::rests_fit))]
-fn answer_borrowed(
+fn run_borrowed(
     page: &mut Page,
     table: &TxTable<u64>,
     seat: &mut TxSeat<u64>,
@@ -245,6 +194,15 @@ fn answer_borrowed(
 {
     answer_transaction(page, table, seat, caller, meeting, verb, calls);
     seat.abort(table);
+}
+
+// How the calls of a transaction are made, and the words behind what says so.
+fn style_of(words: &str) -> (Style, &str) {
+    match words.split_once(' ') {
+        Some(("typed", words)) => (Style::Typed, words),
+        Some(("typed_map", words)) => (Style::TypedMap, words),
+        _ => (Style::Plain, words),
+    }
 }
 
 // Held until each other worker has a receipt.
@@ -263,11 +221,11 @@ fn answer_attempt(
     worker: u64,
     meeting: &Meeting,
     words: &str,
-    is_held: bool,
 )
     requires fit { IsFit table.now seat.old }
     ensures fit { IsFit table.now seat.new }
 {
+    let is_held = words.starts_with("meets ");
     match job_of(page.alloc(), words) {
         Ok(job) => {
             try_job(page, table, seat, &job, worker, meeting, is_held);
