@@ -35,12 +35,20 @@ fn parsed(alloc: Global, bytes: &[u8]) -> Result<(Tables, Items<Action>), Refusa
     parse_sessions(alloc, bytes)
 }
 
+fn actions_in(alloc: Global, bytes: &[u8]) -> Result<Vec<Action>, Refusal> {
+    let (tables, actions) = parsed(alloc, bytes)?;
+    drop(tables);
+    Ok(actions.into_vec())
+}
+
 /// The action of a line.
 pub fn action_of(alloc: Global, line: &str) -> Result<Action, Refusal> {
     let mut bytes = bytes_of(alloc, line)?;
     bytes.push(b'\n')?;
-    let (_, actions) = parsed(alloc, bytes.as_slice())?;
-    actions.into_vec().pop().ok_or(Refusal::NoSuch)
+    let mut actions = actions_in(alloc, bytes.as_slice())?;
+    let action = actions.pop();
+    drop(actions);
+    action.ok_or(Refusal::NoSuch)
 }
 
 /// Makes the action. Tables that are out of balance have none.
@@ -59,7 +67,7 @@ pub fn act(tables: &mut Tables, action: &Action) -> Result<ActionReply, Refusal>
 pub fn answer_file(text: &mut String, file: &str) -> Result<(), Refusal> {
     let alloc = *text.allocator();
     let bytes = bytes_of(alloc, file)?;
-    parsed(alloc, bytes.as_slice())?;
+    drop(actions_in(alloc, bytes.as_slice())?);
     say(text, "read")
 }
 
@@ -68,7 +76,10 @@ pub fn answer_printed(text: &mut String, numbers: &[u64], file: &str) -> Result<
     let alloc = *text.allocator();
     let bytes = bytes_of(alloc, file)?;
     let (mut tables, actions) = parsed(alloc, bytes.as_slice())?;
-    print_made(text, &mut tables, numbers, actions.as_slice())
+    let printed = print_made(text, &mut tables, numbers, actions.as_slice());
+    drop(tables);
+    drop(actions);
+    printed
 }
 
 fn print_made(

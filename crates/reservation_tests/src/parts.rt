@@ -84,5 +84,7 @@ fn rebuilt(alloc: Global, tables: &Tables) -> Result<Tables, Memory> {
 /// Prints what tables of these tables' parts hold.
 pub fn print_rebuilt(text: &mut String, tables: &Tables) -> Result<(), Refusal> {
     let again = rebuilt(*text.allocator(), tables)?;
-    print_left(text, &again)
+    let printed = print_left(text, &again);
+    drop(again);
+    printed
 }

@@ -48,7 +48,9 @@ pub fn print_missed(text: &mut String) -> Result<(), Refusal> {
         Line::NotStarted,
     ];
     let tables = Tables::new(*text.allocator());
-    print_lines(text, &lines, &tables)
+    let printed = print_lines(text, &lines, &tables);
+    drop(tables);
+    printed
 }
 
 /// Prints the reply as a session's, without the numbers before it.

@@ -7,6 +7,7 @@ use crate::prints::{print_left, print_missed, print_reply, say};
 use seq_model::{Memory, Refusal};
 use std::alloc::Global;
 use std::fmt::Write;
+use std::mem;
 use vac_model::{ActionRefusal, Tables};
 
 /// The rows, each with its answer. An empty row and one that begins with `#` have none. What is refused is answered by the refusal.
@@ -35,8 +36,14 @@ pub fn answer_all(alloc: Global, rows: &str) -> Result<String, Memory> {
 
 fn answer_each(text: &mut String, rows: &str) -> Result<(), Memory> {
     let mut tables = Tables::new(*text.allocator());
+    let answered = answer_lines(text, &mut tables, rows);
+    drop(tables);
+    answered
+}
+
+fn answer_lines(text: &mut String, tables: &mut Tables, rows: &str) -> Result<(), Memory> {
     for row in rows.lines() {
-        answer_line(text, &mut tables, row)?;
+        answer_line(text, tables, row)?;
     }
     Ok(())
 }
@@ -105,7 +112,7 @@ fn answer_numbers(
 }
 
 fn open(text: &mut String, tables: &mut Tables, opened: Tables) -> Result<(), Refusal> {
-    *tables = opened;
+    drop(mem::replace(tables, opened));
     say(text, "opened")
 }
 
