@@ -93,7 +93,6 @@ fn read_all<V: Value, H: Hearer<V>>(
     }
 }
 
-// A call of another seat lets the next row by, which is that seat's.
 fn make_all<V: Value, H: Hearer<V>>(
     hearer: &mut H,
     tx: &mut Tx<'_, V>,
@@ -108,15 +107,35 @@ fn make_all<V: Value, H: Hearer<V>>(
     ensures ready { IsReady tx.new.table.now tx.new.seat.now }
     ensures since { HasBegunSince tx.new.table.now tx.new.seat.now }
 {
-    let mut row = caller.above;
+    let mut above = caller.above;
     'calls: for placed in calls {
-        if u64::from(placed.seat) == caller.worker {
-            make(hearer, tx, caller, placed);
-        } else {
-            row = row.saturating_add(1);
-            meeting.let_by(row);
-        }
+        above = make_placed(hearer, tx, caller, meeting, above, placed);
     }
+}
+
+// A call of another seat lets the next row by, which is that seat's. The row that was let by last, or this one, stands below so many.
+fn make_placed<V: Value, H: Hearer<V>>(
+    hearer: &mut H,
+    tx: &mut Tx<'_, V>,
+    caller: Caller,
+    meeting: &Meeting,
+    above: u64,
+    placed: &Placed<V>,
+) -> u64
+    requires ready { IsReady tx.old.table.now tx.old.seat.now }
+    requires since { HasBegunSince tx.old.table.now tx.old.seat.now }
+    ensures same_reference { tx.new.seat.ghost_name ≡ tx.old.seat.ghost_name }
+    ensures same_table { tx.new.table.now ≡ tx.old.table.now }
+    ensures ready { IsReady tx.new.table.now tx.new.seat.now }
+    ensures since { HasBegunSince tx.new.table.now tx.new.seat.now }
+{
+    if u64::from(placed.seat) == caller.worker {
+        make(hearer, tx, caller, placed);
+        return above;
+    }
+    let next = above.saturating_add(1);
+    meeting.let_by(next);
+    next
 }
 
 fn make<V: Value, H: Hearer<V>>(
