@@ -38,3 +38,5 @@ pub mod RoomLemmas
 pub mod CountLemmas
 pub mod ReplyLemmas
 pub mod TouchLemmas
+pub mod StarveLemmas
+pub mod AnsweredLemmas

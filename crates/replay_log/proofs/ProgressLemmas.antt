@@ -163,7 +163,7 @@ first_nears : (s : Words) (y : Actor) (d : ℕ × ℕ) (es : Entries)
     × ((learns s y (world.first_store y (d ∷ es))).held ≡ y.held)
 first_nears s y d es = let e = length-locations es in (omega (arith, e), refl)
 
-reading_held : (s : Words) (y : Actor) (l : ℕ) (p : Place) → AtReading l p → PlaceOk s y p → y.held ≡ []
+pub reading_held : (s : Words) (y : Actor) (l : ℕ) (p : Place) → AtReading l p → PlaceOk s y p → y.held ≡ []
 reading_held s y l (machine.Look k) h pl = pl.0
 reading_held s y l (machine.Fetch k j) h pl = pl.0.0
 reading_held s y l (machine.Again k j v) h pl = pl.0.0
@@ -186,7 +186,7 @@ module _ {V : Type 0} where
       subst (λ (q : Seat V). measure.left_at q.stage (u.boosted.words.actors a) < m) (sym (put-same u.seats a x))
       (subst (λ (q : Actor). measure.left_at x.stage q < m) (sym e) h)
 
-  cancels_near : (w : World V) (a : ℕ) (x : Seat V) (y : Actor) (z : Copy V) (g : ℕ → Bool) (m : ℕ) → At w a y z g → CanLeave y.place
+  pub cancels_near : (w : World V) (a : ℕ) (x : Seat V) (y : Actor) (z : Copy V) (g : ℕ → Bool) (m : ℕ) → At w a y z g → CanLeave y.place
       → length y.held + 1 < m → left_of (cancels w a x) a < m
   cancels_near w a x y z g m k leave h =
       let q = left_at y y.place refl leave in
@@ -207,7 +207,7 @@ module _ {V : Type 0} where
             (seated_nears w2 a (at_stage x Cancelling) y2 m k2.own.actor (omega (arith, h, same)))
       ]
 
-  gives_up_nears : (w : World V) (a : ℕ) (x : Seat V) (y : Actor) (z : Copy V) (g : ℕ → Bool) (ks : List ℕ) (m : ℕ) → At w a y z g
+  pub gives_up_nears : (w : World V) (a : ℕ) (x : Seat V) (y : Actor) (z : Copy V) (g : ℕ → Bool) (ks : List ℕ) (m : ℕ) → At w a y z g
       → CanLeave y.place
       → length ks + length y.held + 2 < m → Nears a m (gives_up w a x ks)
   gives_up_nears w a x y z g [] m k leave h q = cancels_near w a x y z g m k leave (omega (arith, h))

@@ -1,5 +1,5 @@
 -- How far a request of a world is from its answer.
-use Rattle.std.specs.Prelude.{ℕ, suc, ◌+◌, ◌*◌, ◌<◌, ◌≤◌, List, [], ◌∷◌, length}
+use Rattle.std.specs.Prelude.{◌≡◌, ◌⊎◌, ◌==◌, ℕ, suc, ◌+◌, ◌*◌, ◌<◌, ◌≤◌, List, [], ◌∷◌, length, if◌then◌else◌}
 use Rattle.tx_sets.specs.Entries.{locations}
 use Rattle.tx_sets.specs.declared.access_set.TheConstants.{LOCATION_LIMIT}
 use Rattle.word_machine.specs.Actor.{Place, Lock, Take, Actor}
@@ -11,7 +11,7 @@ use Rattle.seq_model.specs.declared.event.Notice.TheVariants.{Quiet}
 use Rattle.replay_log.specs.Parts.{Kind, MapKind, BagKind, PqKind, QueueKind}
 use Rattle.replay_log.specs.Contents.{Block}
 use Rattle.replay_log.specs.Worlds.{World, Stage, Idle, Open, Beginning, Reading, Trying, Copying, Loading, Locking, Gating, Ready, Storing}
-use Rattle.replay_log.specs.Worlds.{Homing, Releasing, Closing, Returning, Cancelling, Leaving, After, gate_tries, new_in}
+use Rattle.replay_log.specs.Worlds.{Homing, Releasing, Closing, Returning, Cancelling, Leaving, After, gate_tries, new_in, happens}
 
 -- the locks that are still to be taken
 abbrev pub unlocked : Place → ℕ
@@ -71,3 +71,21 @@ module _ {V : Type 0} where
   -- what came of a step answers the request, or brings it nearer to its answer than m
   abbrev pub Nears : ℕ → ℕ → After V → Type 0
   Nears a m r = IsQuiet r.1 → left_of r.0 a < m
+
+  -- how many steps of a there are
+  abbrev pub steps_of : ℕ → List (Event V) → ℕ
+  steps_of a [] = 0
+  steps_of a (Step b ∷ es) = if b == a then steps_of a es + 1 else steps_of a es
+  steps_of a (e ∷ es) = steps_of a es
+
+  -- What this event tells answers the request of a that is under way, or refuses it: a step or a want of memory of a tells it. What a asks
+  -- for meanwhile is another request.
+  abbrev pub IsAnswer : ℕ → Event V → Notice V → Type 0
+  IsAnswer a (Ask b q) n = ⊥
+  IsAnswer a (Step b) n = (b ≡ a) × (IsQuiet n → ⊥)
+  IsAnswer a (Starve b) n = (b ≡ a) × (IsQuiet n → ⊥)
+
+  -- some event of these answers the request of a, or refuses it
+  abbrev pub IsAnsweredWithin : ℕ → List (Event V) → World V → Type 0
+  IsAnsweredWithin a [] w = ⊥
+  IsAnsweredWithin a (e ∷ es) w = IsAnswer a e (happens w e).1 ⊎ IsAnsweredWithin a es (happens w e).0

@@ -40,7 +40,7 @@ ghost use Rattle.replay_log.specs.WorldAnswers.{is_there, IsRefusal, IsRefusedAt
 ghost use Rattle.replay_log.specs.WorldAnswers.{IsStale, IsTooLongUnless, copied_outcome};
 ghost use Rattle.replay_log.specs.WorldReplies.{IsKept, IsMade, call_at};
 ghost use Rattle.replay_log.specs.WorldAlone.{IsAlone, IsFree, TellsConflict, IsUnstarved, TellsMemory};
-ghost use Rattle.replay_log.specs.WorldProgress.{AreSmall, IsQuiet, Nears, left_of, whose};
+ghost use Rattle.replay_log.specs.WorldProgress.{AreSmall, IsAnswer, IsAnsweredWithin, IsQuiet, Nears, left_of, steps_of, whose};
 ghost use Rattle.replay_log.specs.WorldTries.{InVain, tried_at};
 ghost use Rattle.replay_log.specs.WorldSerial.{AreHalfDone, AreUpTo, HasWritten, IsSerial, SawAt, commits_at};
 ghost use Rattle.seq_model.specs.Runs.{IsLegal, state_at};
@@ -195,10 +195,11 @@ pub fn guards<V: Value>()
         IsAllowed w (w.seats a).stage (step_action w a (w.seats a).stage) }
 {}
 
-/// Each own step of a request answers it, or brings it nearer to its answer, and what others do leaves it where it is. Both sets of
-/// a transaction have at most 4,096 locations at every moment, and as a request is asked it is fewer than 1,000,000 own steps from
-/// its answer, where no call reads more locations than a set may have. What answers nothing leaves a step due. So each request is
-/// answered within 1,000,000 of its own steps, whatever the others do.
+/// Each own step of a request answers it, or brings it nearer to its answer; a want of memory of its actor, if it does not refuse it,
+/// takes it no further from its answer; and what others do leaves it where it is. Both sets of a transaction have at most 4,096
+/// locations at every moment, and no request is ever 1,000,000 own steps from its answer, where no call reads more locations than a
+/// set may have. What answers nothing leaves a step due, and what a step or a want of memory tells leaves none. So a request that is
+/// under way at any moment is answered within 1,000,000 of its actor's steps, whatever the others do, and whoever wants memory.
 pub fn progress<V: Value>()
     ensures nearer { (blocks : List Block) (clock : ℕ) (values : List ℕ) (held : List (Held V)) (events : List (Event V)) (a : ℕ) →
         HaveStripes blocks → AreSmall blocks →
@@ -214,6 +215,18 @@ pub fn progress<V: Value>()
         let w = run (opened blocks clock values held) events in
         Nears a step_limit (happens w (Ask a q)) }
     ensures due { (w : World V) (e : Event V) → IsQuiet (happens w e).1 → IsAtRest ((happens w e).0.seats (whose e)).stage → ⊥ }
+    ensures rests { (w : World V) (e : Event V) (a : ℕ) → IsAnswer a e (happens w e).1 → IsAtRest ((happens w e).0.seats a).stage }
+    ensures starved { (blocks : List Block) (clock : ℕ) (values : List ℕ) (held : List (Held V)) (events : List (Event V)) (a : ℕ) →
+        HaveStripes blocks →
+        let w = run (opened blocks clock values held) events in
+        let r = happens w (Starve a) in
+        IsQuiet r.1 → left_of r.0 a ≤ left_of w a }
+    ensures always { (blocks : List Block) (clock : ℕ) (values : List ℕ) (held : List (Held V)) (events : List (Event V)) (a : ℕ) →
+        HaveStripes blocks → AreSmall blocks → left_of (run (opened blocks clock values held) events) a < step_limit }
+    ensures answered { (blocks : List Block) (clock : ℕ) (values : List ℕ) (held : List (Held V)) (events later : List (Event V))
+        (a : ℕ) → HaveStripes blocks → AreSmall blocks →
+        let w = run (opened blocks clock values held) events in
+        (IsAtRest (w.seats a).stage → ⊥) → step_limit ≤ steps_of a later → IsAnsweredWithin a later w }
 {}
 
 /// A refusal is true. A step that begins to give a transaction up has found the cause that it notes: the word of which it loads or
