@@ -40,3 +40,4 @@ pub mod ReplyLemmas
 pub mod TouchLemmas
 pub mod StarveLemmas
 pub mod AnsweredLemmas
+pub mod EditionLemmas

@@ -254,7 +254,7 @@ module _ {V : Type 0} where
       by (Some r) = refl
 
   -- its reply and what it leaves are those of the collections
-  on_collection : (op : Op V) (t : ℕ) (s : Contents V) → is_word_op op ≡ false
+  pub on_collection : (op : Op V) (t : ℕ) (s : Contents V) → is_word_op op ≡ false
       → (reply_of (record { target = t; op = op }) s ≡ reply_at s.held t op)
       × (after_call (record { target = t; op = op }) s ≡ record s { held = collections.after_call s.held t op })
   on_collection op t s h = (

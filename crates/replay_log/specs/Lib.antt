@@ -23,3 +23,4 @@ pub mod WorldAlone
 pub mod WorldAnswers
 pub mod WorldTries
 pub mod WorldReplies
+pub mod WorldEditions

@@ -44,6 +44,8 @@ ghost use Rattle.replay_log.specs.WorldProgress.{AreSmall, IsAnswer, IsAnsweredW
 ghost use Rattle.replay_log.specs.WorldTries.{InVain, tried_at};
 ghost use Rattle.replay_log.specs.WorldSerial.{AreHalfDone, AreUpTo, HasWritten, IsSerial, SawAt, commits_at};
 ghost use Rattle.seq_model.specs.Runs.{IsLegal, state_at};
+ghost use Rattle.seq_model.specs.Contents.{Contents};
+ghost use Rattle.replay_log.specs.WorldEditions.{IsReadBy, edition_at, is_undecided, part_at};
 ghost use Rattle.replay_log.specs.Touches.{summed, summed_by, touched_by};
 ghost use Rattle.replay_log.specs.Guards.{IsAllowed, IsAtRest, step_action};
 
@@ -385,6 +387,45 @@ pub fn bounds<V: Value>()
         HaveStripes blocks → Suit blocks held →
         let w = run (opened blocks clock values held) events in
         is_plain (length values) blocks l ≡ false → w.boosted.editions l ≤ w.boosted.words.clock }
+{}
+
+/// Editions. Each location that a call of an open transaction reads, at its place in the transaction, was read with the edition that the
+/// location has at the number at which the transaction began: how many records up to that number have calls that write it, each
+/// at its place in the run. So has whatever else it has read of a collection. Where a base has the edition that was read, it has the part
+/// that the location has in the state which the records up to that number leave; and so has what the transaction copied there. All of
+/// it stays so whatever happens later.
+pub fn editions<V: Value>()
+    ensures read { (blocks : List Block) (clock : ℕ) (values : List ℕ) (held : List (Held V)) (events later : List (Event V)) (a l : ℕ) →
+        HaveStripes blocks → Suit blocks held →
+        let w = run (opened blocks clock values held) events in
+        let x = w.seats a in
+        let opening : Contents V = record { words = values; held = held } in
+        let records = (run w later).records in
+        is_undecided x.stage ≡ true → IsReadBy (length values) blocks l x.calls (state_at x.rv records opening) →
+        first_read (actor_of w a).calls l ≡ Some (edition_at (length values) blocks x.rv l records opening) }
+    ensures counted { (blocks : List Block) (clock : ℕ) (values : List ℕ) (held : List (Held V)) (events later : List (Event V))
+        (a l e : ℕ) → HaveStripes blocks → Suit blocks held →
+        let w = run (opened blocks clock values held) events in
+        let x = w.seats a in
+        let opening : Contents V = record { words = values; held = held } in
+        is_undecided x.stage ≡ true → is_plain (length values) blocks l ≡ false → first_read (actor_of w a).calls l ≡ Some e →
+        e ≡ edition_at (length values) blocks x.rv l (run w later).records opening }
+    ensures part { (blocks : List Block) (clock : ℕ) (values : List ℕ) (held : List (Held V)) (events later : List (Event V))
+        (a l e : ℕ) → HaveStripes blocks → Suit blocks held →
+        let w = run (opened blocks clock values held) events in
+        let u = run w later in
+        let x = w.seats a in
+        let opening : Contents V = record { words = values; held = held } in
+        is_undecided x.stage ≡ true → is_plain (length values) blocks l ≡ false → first_read (actor_of w a).calls l ≡ Some e →
+        u.boosted.editions l ≡ e → u.boosted.parts l ≡ part_at (length values) blocks (state_at x.rv u.records opening) l }
+    ensures copied { (blocks : List Block) (clock : ℕ) (values : List ℕ) (held : List (Held V)) (events later : List (Event V)) (a l : ℕ) →
+        HaveStripes blocks → Suit blocks held →
+        let w = run (opened blocks clock values held) events in
+        let x = w.seats a in
+        let opening : Contents V = record { words = values; held = held } in
+        let seen = state_at x.rv (run w later).records opening in
+        is_undecided x.stage ≡ true → IsReadBy (length values) blocks l x.calls seen →
+        (w.boosted.shadows a).parts l ≡ part_at (length values) blocks seen l }
 {}
 
 /// A change that a declared reader asks for is NoSuch at once, whatever else would refuse it, and changes nothing. A declared
