@@ -13,8 +13,8 @@ use Rattle.seq_model.specs.declared.call.Op.TheVariants.{Dequeue, Peek}
 use Rattle.seq_model.specs.Counts.{Multiset}
 use Rattle.conflict.specs.declared.change.Change.{Change}
 use Rattle.conflict.specs.declared.outcome.Outcome.{Outcome}
-use Rattle.conflict.specs.Rules.{Rules, FrameLaws, applied}
-use Rattle.conflict.specs.Commute.{changes_by_part}
+use Rattle.conflict.specs.Rules.{Rules, FrameLaws, SamePart, applied}
+use Rattle.conflict.specs.Commute.{changes_by_part, disjoint_changes_commute}
 use Rattle.conflict.specs.Footprints.{key_place, least_place, stripe_place, head_place, tail_place, cell_place}
 use Rattle.base_map.specs.Conflicts as map
 use Rattle.base_map.specs.FrameLemmas as map_laws
@@ -26,7 +26,7 @@ use Rattle.base_queue.specs.Conflicts as queue
 use Rattle.base_queue.specs.FrameLemmas as queue_laws
 use Rattle.replay_log.specs.Base.{Shown, OfMap, OfBag, OfPq, OfQueue}
 use Rattle.replay_log.specs.Parts.{kept, joined, MapKind, BagKind, PqKind, QueueKind, Kind, as_map, as_bag, as_pq, as_queue, whole, IsWhole}
-use Rattle.replay_log.specs.Parts.{AnswersByParts, KnowsItsCalls, LeavesOtherParts, ChangesByPart}
+use Rattle.replay_log.specs.Parts.{AnswersByParts, KnowsItsCalls, LeavesOtherParts, ChangesByPart, DisjointChangesCommute}
 use Rattle.replay_log.specs.Contents.{size_by}
 use Rattle.replay_log.proofs.JoinLemmas.{get_kept, get_joined}
 
@@ -49,6 +49,10 @@ module _ {V C Q A : Type 0} (r : Rules V C Q A) (laws : FrameLaws r) (p : Partin
         | inr off ↦ cond-false (eqb (r.place n q) l) (r.look s q) (p.none q) (ne_eqb (r.place n q) l off)
             ∙ sym (cond-false (eqb (r.place n q) l) (r.look t q) (p.none q) (ne_eqb (r.place n q) l off))
       ] ∙ sym (p.look_one n l t q))
+
+  -- what is one part shows the same on its location
+  pub one_same : (n l : ℕ) (s t : C) → p.one n l s ≡ p.one n l t → SamePart r n l s t
+  one_same n l s t same q on = sym (look_here n l s q on) ∙ ap (λ (z : C). r.look z q) same ∙ look_here n l t q on
 
   pub whole_of_parts : (n : ℕ) (s : C) → 0 < n → p.all n (λ l. p.one n l s) ≡ s
   whole_of_parts n s pos = laws.parts_decide _ _ (λ q. p.look_all n (λ l. p.one n l s) q pos ∙ look_here n (r.place n q) s q refl)
@@ -229,3 +233,26 @@ module _ {V : Type 0} where
   whole_local n QueueKind v w pos same = ap OfQueue
       (all_local (queue.rules V) queue_laws.laws (queue_parting V) n (λ l. as_queue (v l)) (λ l. as_queue (w l)) pos
       (λ l lt. ap as_queue (same l (omega (arith, lt)))))
+
+  pub disjoint_commute : DisjointChangesCommute V
+  disjoint_commute n ws vs cs ds (OfMap s) in_ws in_vs apart =
+      ap OfMap
+      (disjoint_changes_commute (map.rules V) map_laws.laws n ws vs cs ds s
+      (λ l t out. one_same (map.rules V) map_laws.laws (map_parting V) n l t _ (sym (ap as_map (in_ws l (OfMap t) refl out))))
+      (λ l t out. one_same (map.rules V) map_laws.laws (map_parting V) n l t _ (sym (ap as_map (in_vs l (OfMap t) refl out)))) apart)
+  disjoint_commute n ws vs cs ds (OfBag s) in_ws in_vs apart =
+      ap OfBag
+      (disjoint_changes_commute (bag.rules V) bag_laws.laws n ws vs cs ds s
+      (λ l t out. one_same (bag.rules V) bag_laws.laws (bag_parting V) n l t _ (sym (ap as_bag (in_ws l (OfBag t) refl out))))
+      (λ l t out. one_same (bag.rules V) bag_laws.laws (bag_parting V) n l t _ (sym (ap as_bag (in_vs l (OfBag t) refl out)))) apart)
+  disjoint_commute n ws vs cs ds (OfPq s) in_ws in_vs apart =
+      ap OfPq
+      (disjoint_changes_commute (pq.rules V) pq_laws.laws n ws vs cs ds s
+      (λ l t out. one_same (pq.rules V) pq_laws.laws (pq_parting V) n l t _ (sym (ap as_pq (in_ws l (OfPq t) refl out))))
+      (λ l t out. one_same (pq.rules V) pq_laws.laws (pq_parting V) n l t _ (sym (ap as_pq (in_vs l (OfPq t) refl out)))) apart)
+  disjoint_commute n ws vs cs ds (OfQueue s) in_ws in_vs apart =
+      ap OfQueue
+      (disjoint_changes_commute (queue.rules V) queue_laws.laws n ws vs cs ds s
+      (λ l t out. one_same (queue.rules V) queue_laws.laws (queue_parting V) n l t _ (sym (ap as_queue (in_ws l (OfQueue t) refl out))))
+      (λ l t out. one_same (queue.rules V) queue_laws.laws (queue_parting V) n l t _ (sym (ap as_queue (in_vs l (OfQueue t) refl out))))
+      apart)

@@ -1,6 +1,6 @@
 -- What a location covers of a base, and the base that its parts make up. A part is a collection of the same kind that shows nothing
 -- elsewhere.
-use Rattle.std.specs.Prelude.{◌≡◌, ℕ, zero, suc, ◌<◌, List, [], ◌∷◌, Some, None, Contains, ◌==◌, if◌then◌else◌}
+use Rattle.std.specs.Prelude.{◌≡◌, ℕ, zero, suc, ◌<◌, List, [], ◌∷◌, Some, None, Any, Contains, ◌==◌, if◌then◌else◌}
 use Rattle.std.specs.Ordering.{nat_cmp}
 use Rattle.std.specs.FinMap.{FinMap, empty, entries, insert, retain_keys}
 use Rattle.seq_model.specs.declared.call.Op.{Op}
@@ -103,3 +103,15 @@ abbrev pub ChangesByPart : Type 0 → Type 0
 ChangesByPart V =
     (n l : ℕ) (k : Kind) (changes : List (Change V)) (v w : ℕ → Shown V) → 0 < n → v l ≡ w l
     → part n l (after changes (whole n k v)) ≡ part n l (after changes (whole n k w))
+
+-- changes that leave, of every collection of this kind, the part of each location but these
+abbrev pub AreWithin : {V : Type 0} → ℕ → Kind → List ℕ → List (Change V) → Type 0
+AreWithin {V} n k writes changes = (l : ℕ) (s : Shown V) → kind_of s ≡ k → ¬ Contains writes l → part n l (after changes s) ≡ part n l s
+
+-- changes within disjoint locations commute on all that is shown
+abbrev pub DisjointChangesCommute : Type 0 → Type 0
+DisjointChangesCommute V =
+    (n : ℕ) (writes other_writes : List ℕ) (changes other_changes : List (Change V)) (s : Shown V)
+    → AreWithin n (kind_of s) writes changes → AreWithin n (kind_of s) other_writes other_changes
+    → ¬ Any (Contains other_writes) writes
+    → after other_changes (after changes s) ≡ after changes (after other_changes s)
