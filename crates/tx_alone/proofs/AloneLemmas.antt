@@ -49,10 +49,10 @@ use Rattle.tx_alone.specs.Alone.{ArePlain, HasRoomFor, IsAnswered, IsNeverRefuse
 use Rattle.tx_alone.proofs.BoundLemmas.{BoundAt, run_bound}
 use Rattle.tx_alone.proofs.FewLemmas.{IsFew, Sized, SizedAt, fits_one, has_room_for, run_sized}
 
-less : (m n : ℕ) → m < n → nat_lt m n ≡ true
+pub less : (m n : ℕ) → m < n → nat_lt m n ≡ true
 less m n h = grind (arith, nat_tests)
 
-or_true : (a b c : Bool) → c ≡ true → (a || (b || c)) ≡ true
+pub or_true : (a b c : Bool) → c ≡ true → (a || (b || c)) ≡ true
 or_true a b c e = ap (λ (d : Bool). a || (b || d)) e ∙ by a b
   where
     by : (a b : Bool) → (a || (b || true)) ≡ true
@@ -60,8 +60,11 @@ or_true a b c e = ap (λ (d : Bool). a || (b || d)) e ∙ by a b
     by false true = refl
     by false false = refl
 
-same_cause : (c d : Refusal) → Some c ≡ Some d → c ≡ d
+pub same_cause : (c d : Refusal) → Some c ≡ Some d → c ≡ d
 same_cause c d e = cc
+
+abbrev AnyWeight : ℕ → Type 0
+AnyWeight n = Unit {0}
 
 module _ {V : Type 0} where
   -- ---- notices
@@ -79,8 +82,8 @@ module _ {V : Type 0} where
       let z = u.boosted.shadows a in
       cond_both (is_stale (actor_of u a).reads (with_editions u.boosted.editions (c.reads (outcome_at u a asked)))) (outcome_now u asked)
       (outcome_at u a asked) (λ (o : Answered V). has_room (actor_of u a) (c.reads o) (c.writes o) ≡ true)
-      (λ _. has_room_for a u n u.boosted.parts asked h small few)
-      (λ _. has_room_for a u n (changes c z.outcomes z.parts) asked h small few)
+      (λ _. has_room_for AnyWeight a u n u.boosted.parts asked h small few)
+      (λ _. has_room_for AnyWeight a u n (changes c z.outcomes z.parts) asked h small few)
 
   answers_no : (u : World V) (a : ℕ) (before x : Seat V) (sized o : Answered V) (editions : ℕ → ℕ)
       → (let c = content u.words u.blocks in has_room (actor_of u a) (c.reads sized) (c.writes sized) ≡ true)
@@ -91,7 +94,7 @@ module _ {V : Type 0} where
       (seated u a (at_stage before Open), Refused a refusal.TooLong) room
       (loads_no (with_editions editions (c.reads o)) u a x o)
 
-  copying_no : (w : World V) (a : ℕ) (x : Seat V) (asked : Asked V) → IsFew (weights x.calls) (actor_of w a) → IsSmall asked.op
+  pub copying_no : (w : World V) (a : ℕ) (x : Seat V) (asked : Asked V) → IsFew (weights x.calls) (actor_of w a) → IsSmall asked.op
       → weights x.calls + weight asked.op ≤ 4096 → NoRefusal (step_at w a x (Copying asked))
   copying_no w a x asked h small few =
       let which = covers_at w.words w.blocks asked in
@@ -101,23 +104,23 @@ module _ {V : Type 0} where
       answers_no t a x (with_piece x asked.collection (piece_at w.blocks asked)) (sized_by t a asked (outcome_at t a asked))
       (outcome_at t a asked) t.boosted.editions (sized_room t a (weights x.calls) asked now small few)
 
-  calls_on_no : (w : World V) (a : ℕ) (x : Seat V) (asked : Asked V) → IsFew (weights x.calls) (actor_of w a) → IsSmall asked.op
+  pub calls_on_no : (w : World V) (a : ℕ) (x : Seat V) (asked : Asked V) → IsFew (weights x.calls) (actor_of w a) → IsSmall asked.op
       → weights x.calls + weight asked.op ≤ 4096 → NoRefusal (calls_on w a x asked)
   calls_on_no w a x asked h small few =
       let c = content w.words w.blocks in
       let z = w.boosted.shadows a in
       let o = outcome_at w a asked in
       choose_no (x.copied asked.collection (piece_at w.blocks asked)) (answers w a x x o o z.editions) _
-      (answers_no w a x x o o z.editions (has_room_for a w (weights x.calls) (changes c z.outcomes z.parts) asked h small few)) (λ q. q)
+      (answers_no w a x x o o z.editions (has_room_for AnyWeight a w (weights x.calls) (changes c z.outcomes z.parts) asked h small few)) (λ q. q)
 
-  allowed_no : (w : World V) (a : ℕ) (x : Seat V) (known room : Bool) (next : After V) → known ≡ true → length x.calls < CALL_LIMIT
+  pub allowed_no : (w : World V) (a : ℕ) (x : Seat V) (known room : Bool) (next : After V) → known ≡ true → length x.calls < CALL_LIMIT
       → room ≡ true → NoRefusal next → NoRefusal (if_allowed w a x known room next)
   allowed_no w a x known room next is short fits h =
       true_no known _ (w, Refused a refusal.NoSuch) is
       (true_no (nat_lt (length x.calls) CALL_LIMIT && room) next (w, Refused a refusal.TooLong)
       (ap (λ (b : Bool). b && room) (less (length x.calls) CALL_LIMIT short) ∙ fits) h)
 
-  reads_no : (w : World V) (a : ℕ) (x : Seat V) (l : ℕ) (n : told.Notice) → NoRefusal (reads w a x l n)
+  pub reads_no : (w : World V) (a : ℕ) (x : Seat V) (l : ℕ) (n : told.Notice) → NoRefusal (reads w a x l n)
   reads_no w a x l (told.Number v) = λ q. q
   reads_no w a x l n = λ q. q
 
@@ -153,12 +156,12 @@ module _ {V : Type 0} where
   op_no w a x t op d h small there short few = held_no w a x (record { collection = t; op = op }) _ d h small there short few
 
   -- ---- what a refused step says
-  by_notice : (a : ℕ) (P : Refusal → Type 0) (n : Notice V) → RefusedBy a P n → IsRefusal n
+  pub by_notice : (a : ℕ) (P : Refusal → Type 0) (n : Notice V) → RefusedBy a P n → IsRefusal n
       → (c : Refusal) × (P c) × (n ≡ Refused a c)
   by_notice a P (Refused b c) h is = (c, h.1, ap (λ i. Refused i c) h.0)
   by_notice a P n h is = absurd is
 
-  ending_goes : (st : Stage V) → is_ending st ≡ true → IsAtRest st → ⊥
+  pub ending_goes : (st : Stage V) → is_ending st ≡ true → IsAtRest st → ⊥
   ending_goes Idle e h = true≢false (sym e)
   ending_goes Open e h = true≢false (sym e)
   ending_goes st e h = h
@@ -287,11 +290,11 @@ module _ {V : Type 0} where
       bound : BoundAt (clock + commits_in events) a w
       bound = run_bound a events clock o plain (record { undeclared = refl; clock = omega arith })
 
-      sized : SizedAt a w
-      sized = run_sized a events o plain (opened_linked blocks clock values held stripes) tt
+      sized : SizedAt AnyWeight a w
+      sized = run_sized AnyWeight a events o (λ n. tt) plain (opened_linked blocks clock values held stripes) tt
 
       refused_at : (st : Stage V) (u : World V) (c : Refusal) → clock + commits_in events < clock_limit → (IsAtRest st → ⊥)
-          → HasRoomFor (w.seats a) st → Sized (w.seats a) st (actor_of w a) → (w.seats a).stage ≡ st
+          → HasRoomFor (w.seats a) st → Sized AnyWeight (w.seats a) st (actor_of w a) → (w.seats a).stage ≡ st
           → IsRefusedAt w a st u c → (happens w (Step a)).1 ≡ Refused a c → ⊥
       refused_at Idle u c small due room h at is n = due tt
       refused_at Open u c small due room h at is n = due tt
@@ -322,7 +325,7 @@ module _ {V : Type 0} where
           → IsRefusal (happens w (Ask a (request.Call call))).1 → ⊥
       calls call at small there short few =
           let x = w.seats a in
-          let h : IsFew (weights x.calls) (actor_of w a) = subst (λ (st : Stage V). Sized x st (actor_of w a)) at sized in
+          let h : IsFew (weights x.calls) (actor_of w a) = subst (λ (st : Stage V). Sized AnyWeight x st (actor_of w a)) at sized in
           subst NoRefusal (sym (asked_at w a (request.Call call) Open at))
           (op_no w a x call.target call.op bound.undeclared h small there short few)
 

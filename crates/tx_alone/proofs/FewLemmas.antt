@@ -362,13 +362,14 @@ module _ {V : Type 0} where
     pub writes : length y.writes ≤ weights x.calls
     pub small : IsSmall o.asked.op
 
-  abbrev pub Sized : Seat V → Stage V → Actor → Type 0
-  Sized x Open y = IsFew (weights x.calls) y
-  Sized x (Reading l) y = IsFew (weights x.calls) y
-  Sized x (Trying asked tries) y = IsFew (weights x.calls) y × IsSmall asked.op
-  Sized x (Copying asked) y = IsFew (weights x.calls) y × IsSmall asked.op
-  Sized x (Loading o es) y = IsJudged x o (length es) y
-  Sized x st y = Unit {0}
+  -- what is so of the weight of all calls with one that is still to be copied for is P
+  abbrev pub Sized : (P : ℕ → Type 0) → Seat V → Stage V → Actor → Type 0
+  Sized P x Open y = IsFew (weights x.calls) y
+  Sized P x (Reading l) y = IsFew (weights x.calls) y
+  Sized P x (Trying asked tries) y = IsFew (weights x.calls) y × IsSmall asked.op × P (weights x.calls + weight asked.op)
+  Sized P x (Copying asked) y = IsFew (weights x.calls) y × IsSmall asked.op × P (weights x.calls + weight asked.op)
+  Sized P x (Loading o es) y = IsJudged x o (length es) y
+  Sized P x st y = Unit {0}
 
   judged_same : (x : Seat V) (o : Answered V) (n : ℕ) (y z : Actor) → SameSets y z → IsJudged x o n y → IsJudged x o n z
   judged_same x o n y z e h = record {
@@ -382,19 +383,19 @@ module _ {V : Type 0} where
       → IsFew (weights (with_call x call r).calls) y
   joins_few x call r y h = subst (λ n. IsFew n y) (sym (weights_push x.calls (call, r))) h
 
-module _ {V : Type 0} (a : ℕ) where
+module _ {V : Type 0} (P : ℕ → Type 0) (a : ℕ) where
   abbrev pub SizedAt : World V → Type 0
-  SizedAt w = Sized (w.seats a) (w.seats a).stage (actor_of w a)
+  SizedAt w = Sized P (w.seats a) (w.seats a).stage (actor_of w a)
 
-  abbrev SizedIn : After V → Type 0
+  abbrev pub SizedIn : After V → Type 0
   SizedIn r = SizedAt r.0
 
-  sits : (u : World V) (x : Seat V) → Sized x x.stage (actor_of u a) → SizedAt (seated u a x)
-  sits u x h = subst (λ (q : Seat V). Sized q q.stage (actor_of u a)) (sym (put-same u.seats a x)) h
+  pub sits : (u : World V) (x : Seat V) → Sized P x x.stage (actor_of u a) → SizedAt (seated u a x)
+  sits u x h = subst (λ (q : Seat V). Sized P q q.stage (actor_of u a)) (sym (put-same u.seats a x)) h
 
-  stays : (u : World V) (x : Seat V) (st : Stage V) → u.seats a ≡ x → x.stage ≡ st → Sized x st (actor_of u a) → SizedAt u
+  pub stays : (u : World V) (x : Seat V) (st : Stage V) → u.seats a ≡ x → x.stage ≡ st → Sized P x st (actor_of u a) → SizedAt u
   stays u x st seat at h =
-      subst (λ (q : Seat V). Sized q q.stage (actor_of u a)) (sym seat) (subst (λ (s : Stage V). Sized x s (actor_of u a)) (sym at) h)
+      subst (λ (q : Seat V). Sized P q q.stage (actor_of u a)) (sym seat) (subst (λ (s : Stage V). Sized P x s (actor_of u a)) (sym at) h)
 
   choose : (b : Bool) (r s : After V) → (b ≡ true → SizedIn r) → (b ≡ false → SizedIn s) → SizedIn (cond b r s)
   choose true r s h g = h refl
@@ -404,7 +405,7 @@ module _ {V : Type 0} (a : ℕ) where
   asked_same u q f = asked_sets (content u.words u.blocks) u.boosted a q f
 
   -- ---- where a transaction is given up
-  cancels_sized : (u : World V) (x : Seat V) → SizedAt (cancels u a x)
+  pub cancels_sized : (u : World V) (x : Seat V) → SizedAt (cancels u a x)
   cancels_sized u x =
       let v = acted u (asks a word.AskCancel ∷ asks a word.AskAbort ∷ []) in
       elim (is_leaving (actor_of v a).place) as (λ b. SizedAt (seated v a (at_stage x (cond b Leaving Cancelling)))) [
@@ -412,7 +413,7 @@ module _ {V : Type 0} (a : ℕ) where
         | false ↦ sits v (at_stage x Cancelling) tt
       ]
 
-  gives_up_sized : (u : World V) (x : Seat V) (ks : List ℕ) → SizedIn (gives_up u a x ks)
+  pub gives_up_sized : (u : World V) (x : Seat V) (ks : List ℕ) → SizedIn (gives_up u a x ks)
   gives_up_sized u x [] = cancels_sized u x
   gives_up_sized u x (k ∷ ks) = sits u (at_stage x (Returning (k ∷ ks))) tt
 
@@ -478,14 +479,14 @@ module _ {V : Type 0} (a : ℕ) where
       (λ _. sits u (at_stage before Open) h)
 
   calls_on_sized : (u : World V) (x : Seat V) (asked : Asked V) → IsFew (weights x.calls) (actor_of u a) → IsSmall asked.op
-      → SizedIn (calls_on u a x asked)
-  calls_on_sized u x asked h small =
+      → P (weights x.calls + weight asked.op) → SizedIn (calls_on u a x asked)
+  calls_on_sized u x asked h small room =
       let c = content u.words u.blocks in
       let z = u.boosted.shadows a in
       choose (x.copied asked.collection (piece_at u.blocks asked))
       (answers u a x x (outcome_at u a asked) (outcome_at u a asked) z.editions) _
       (λ _. answers_sized u x x (outcome_at u a asked) (changes c z.outcomes z.parts) asked z.editions h refl small)
-      (λ _. sits u (at_stage x (Trying asked more_tries)) (h, small))
+      (λ _. sits u (at_stage x (Trying asked more_tries)) (h, small, room))
 
   -- a load of a call
   has_loaded_sized : (u : World V) (x : Seat V) (y z : Actor) (o : Answered V) (d : ℕ × ℕ) (es : Entries) (n : told.Notice)
@@ -559,29 +560,31 @@ module _ {V : Type 0} (a : ℕ) where
   allowed_sized w x known room next h n =
       choose known _ _ (λ _. choose (nat_lt (length x.calls) CALL_LIMIT && room) next _ (λ _. n) (λ _. h)) (λ _. h)
 
-  op_sized : (w : World V) (x : Seat V) (t : ℕ) (op : Op V) → IsSmall op → SizedAt w → IsFew (weights x.calls) (actor_of w a)
+  op_sized : (w : World V) (x : Seat V) (t : ℕ) (op : Op V) → IsSmall op → P (weights x.calls + weight op) → SizedAt w
+      → IsFew (weights x.calls) (actor_of w a)
       → SizedIn (ask_op w a x t op)
-  op_sized w x t Read small h few = allowed_sized w x _ _ _ h (reads_sized w x t _ few)
-  op_sized w x t (Write v) small h few = allowed_sized w x _ _ _ h (write_sized w x t v few)
-  op_sized w x t op small h few = allowed_sized w x _ _ _ h (calls_on_sized w x (record { collection = t; op = op }) few small)
+  op_sized w x t Read small room h few = allowed_sized w x _ _ _ h (reads_sized w x t _ few)
+  op_sized w x t (Write v) small room h few = allowed_sized w x _ _ _ h (write_sized w x t v few)
+  op_sized w x t op small room h few = allowed_sized w x _ _ _ h (calls_on_sized w x (record { collection = t; op = op }) few small room)
 
   commits_sized : (w : World V) (x : Seat V) (es : Entries) → SizedIn (commits w a x es)
   commits_sized w x [] = sits (acted w (asks a word.AskClose ∷ [])) (at_stage x Closing) tt
   commits_sized w x (e ∷ es) = sits (acted w (asks a word.AskLock ∷ [])) (at_stage x Locking) tt
 
   -- ---- requests
-  begin_sized : (w : World V) (x : Seat V) (st : Stage V) → SizedAt w → SizedIn (ask_at w a x st request.Begin)
+  pub begin_sized : (w : World V) (x : Seat V) (st : Stage V) → SizedAt w → SizedIn (ask_at w a x st request.Begin)
   begin_sized w x Idle h = sits (acted w (asks a word.AskBegin ∷ [])) (at_stage x Beginning) tt
   begin_sized w x Open h = h
   begin_sized w x st h = h
 
-  call_sized : (w : World V) (x : Seat V) (st : Stage V) (call : Call V) → IsSmall call.op → SizedAt w → Sized x st (actor_of w a)
+  pub call_sized : (w : World V) (x : Seat V) (st : Stage V) (call : Call V)
+      → (st ≡ Open → IsSmall call.op × P (weights x.calls + weight call.op)) → SizedAt w → Sized P x st (actor_of w a)
       → SizedIn (ask_at w a x st (request.Call call))
-  call_sized w x Idle call small h few = h
-  call_sized w x Open call small h few = op_sized w x call.target call.op small h few
-  call_sized w x st call small h few = h
+  call_sized w x Idle call fit h few = h
+  call_sized w x Open call fit h few = (let both = fit refl in op_sized w x call.target call.op both.0 both.1 h few)
+  call_sized w x st call fit h few = h
 
-  commit_sized : (w : World V) (x : Seat V) (st : Stage V) → SizedAt w → SizedIn (ask_at w a x st request.Commit)
+  pub commit_sized : (w : World V) (x : Seat V) (st : Stage V) → SizedAt w → SizedIn (ask_at w a x st request.Commit)
   commit_sized w x Idle h = h
   commit_sized w x Open h = commits_sized w x (actor_of w a).writes
   commit_sized w x st h = h
@@ -596,8 +599,8 @@ module _ {V : Type 0} (a : ℕ) where
   begun_sized u x y clock false seat st e = sits u no_one tt
 
   tried_sized : (u : World V) (x : Seat V) (free : Bool) (k : ℕ) (got : List ℕ) (again : ℕ → Stage V) (next : Stage V) (tries : ℕ)
-      → Sized x next (actor_of u a) → ((m : ℕ) → Sized x (again m) (actor_of u a))
-      → ((st : Stage V) → Sized x st (actor_of u a) → Sized (at_stage x st) st (actor_of u a))
+      → Sized P x next (actor_of u a) → ((m : ℕ) → Sized P x (again m) (actor_of u a))
+      → ((st : Stage V) → Sized P x st (actor_of u a) → Sized P (at_stage x st) st (actor_of u a))
       → SizedIn (has_tried u a x free k got again next tries)
   tried_sized u x free k got again next zero h m keep =
       choose free _ _ (λ _. sits u (at_stage x next) (keep next h)) (λ _. gives_up_sized u (because x (refusal.GateBusy k)) got)
@@ -605,7 +608,7 @@ module _ {V : Type 0} (a : ℕ) where
       choose free _ _ (λ _. sits u (at_stage x next) (keep next h)) (λ _. sits u (at_stage x (again j)) (keep (again j) (m j)))
 
   -- the calls alone count
-  at_stage_sized : (x : Seat V) (y : Actor) (st : Stage V) → Sized x st y → Sized (at_stage x st) st y
+  at_stage_sized : (x : Seat V) (y : Actor) (st : Stage V) → Sized P x st y → Sized P (at_stage x st) st y
   at_stage_sized x y (Loading o es) h = record { reads = h.reads; writes = h.writes; small = h.small }
   at_stage_sized x y Open h = h
   at_stage_sized x y (Reading l) h = h
@@ -624,7 +627,7 @@ module _ {V : Type 0} (a : ℕ) where
   at_stage_sized x y Cancelling h = tt
   at_stage_sized x y Leaving h = tt
 
-  takes_sized : (x : Seat V) (got ks : List ℕ) (y : Actor) → Sized x (takes_gates {V = V} got ks) y
+  takes_sized : (x : Seat V) (got ks : List ℕ) (y : Actor) → Sized P x (takes_gates {V = V} got ks) y
   takes_sized x got [] y = tt
   takes_sized x got (k ∷ ks) y = tt
 
@@ -654,7 +657,7 @@ module _ {V : Type 0} (a : ℕ) where
   has_cancelled_sized u x told.Cancelled seat st = sits (acted u (asks a word.AskAbort ∷ [])) (at_stage x Leaving) tt
   has_cancelled_sized u x n seat st = stays u x Cancelling seat st tt
 
-  step_sized : (w : World V) (x : Seat V) (st : Stage V) → w.seats a ≡ x → x.stage ≡ st → Sized x st (actor_of w a)
+  pub step_sized : (w : World V) (x : Seat V) (st : Stage V) → w.seats a ≡ x → x.stage ≡ st → Sized P x st (actor_of w a)
       → StageOk w.words w.blocks x (actor_of w a) (w.boosted.shadows a) st (actor_of w a).place → SizedIn (step_at w a x st)
   step_sized w x st seat at h ok = by st at h ok
     where
@@ -667,7 +670,7 @@ module _ {V : Type 0} (a : ℕ) where
       moved : actor_of u a ≡ learns w.boosted.words y (plan y y.place)
       moved = moved_is w.boosted a y y.place refl
 
-      by : (st : Stage V) → x.stage ≡ st → Sized x st y → StageOk w.words w.blocks x y (w.boosted.shadows a) st y.place
+      by : (st : Stage V) → x.stage ≡ st → Sized P x st y → StageOk w.words w.blocks x y (w.boosted.shadows a) st y.place
           → SizedIn (step_at w a x st)
       by Idle at h ok = stays w x Idle seat at tt
       by Open at h ok = stays w x Open seat at h
@@ -683,7 +686,7 @@ module _ {V : Type 0} (a : ℕ) where
           let t = acted w (TakeGate a asked.collection ∷ []) in
           let same = take_words (content w.words w.blocks) w.boosted a asked.collection in
           let few : IsFew (weights x.calls) (actor_of t a) = subst (λ (s : Words). IsFew (weights x.calls) (s.actors a)) (sym same) h.0 in
-          tried_sized t x _ asked.collection [] (λ n. Trying asked n) (Copying asked) tries (few, h.1) (λ m. (few, h.1))
+          tried_sized t x _ asked.collection [] (λ n. Trying asked n) (Copying asked) tries (few, h.1, h.2) (λ m. (few, h.1, h.2))
           (at_stage_sized x (actor_of t a))
       by (Copying asked) at h ok =
           let which = covers_at w.words w.blocks asked in
@@ -719,22 +722,22 @@ module _ {V : Type 0} (a : ℕ) where
           sits (record u { aborted = w.aborted ++ record { actor = a; rv = x.rv; calls = x.calls; cause = x.cause } ∷ [] }) no_one tt
 
   -- ---- events
-  own_sized : (w : World V) (e : Event V) → IsPlain a e → Linked w → SizedAt w → SizedIn (happens w e)
-  own_sized w (Ask b request.Begin) m k h =
+  own_sized : (w : World V) (e : Event V) → ((n : ℕ) → P n) → IsPlain a e → Linked w → SizedAt w → SizedIn (happens w e)
+  own_sized w (Ask b request.Begin) any m k h =
       subst (λ i. SizedIn (happens w (Ask i request.Begin))) (sym m) (begin_sized w (w.seats a) (w.seats a).stage h)
-  own_sized w (Ask b (request.Call call)) m k h =
+  own_sized w (Ask b (request.Call call)) any m k h =
       subst (λ i. SizedIn (happens w (Ask i (request.Call call)))) (sym m.0)
-      (call_sized w (w.seats a) (w.seats a).stage call m.1 h h)
-  own_sized w (Ask b request.Commit) m k h =
+      (call_sized w (w.seats a) (w.seats a).stage call (λ _. (m.1, any (weights (w.seats a).calls + weight call.op))) h h)
+  own_sized w (Ask b request.Commit) any m k h =
       subst (λ i. SizedIn (happens w (Ask i request.Commit))) (sym m) (commit_sized w (w.seats a) (w.seats a).stage h)
-  own_sized w (Step b) m k h =
+  own_sized w (Step b) any m k h =
       subst (λ i. SizedIn (happens w (Step i))) (sym m)
       (step_sized w (w.seats a) (w.seats a).stage refl refl h (k.seats a).stage)
-  own_sized w e m k h = absurd m
+  own_sized w e any m k h = absurd m
 
-  pub run_sized : (es : List (Event V)) (w : World V) → ArePlain a es → Linked w → SizedAt w → SizedAt (run w es)
-  run_sized [] w m k h = h
-  run_sized (e ∷ es) w m k h = run_sized es (happens w e).0 m.1 (happens_linked w e k) (own_sized w e m.0 k h)
+  pub run_sized : (es : List (Event V)) (w : World V) → ((n : ℕ) → P n) → ArePlain a es → Linked w → SizedAt w → SizedAt (run w es)
+  run_sized [] w any m k h = h
+  run_sized (e ∷ es) w any m k h = run_sized es (happens w e).0 any m.1 (happens_linked w e k) (own_sized w e any m.0 k h)
 
   -- ---- room for a call
   -- a small call behind these has room in the sets

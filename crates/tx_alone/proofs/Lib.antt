@@ -1,3 +1,4 @@
 pub mod BoundLemmas
 pub mod FewLemmas
 pub mod AloneLemmas
+pub mod BesideLemmas

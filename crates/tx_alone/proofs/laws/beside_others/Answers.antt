@@ -1,0 +1,9 @@
+use Rattle.tx_alone.proofs.BesideLemmas.{few_open, never_misfit}
+use Rattle.tx_alone.proofs.laws.beside_others.Goals as goal
+
+pub returns-clause-sets : goal.returns-clause-sets
+returns-clause-sets g c blocks clock values held events a stripes fit at = few_open blocks clock values held stripes a events fit at
+
+pub returns-clause-never : goal.returns-clause-never
+returns-clause-never g c blocks clock values held events a stripes fit e own fits tells =
+    never_misfit blocks clock values held stripes a events fit e own fits tells
