@@ -2,6 +2,7 @@
 -- seat and its record, and its own are those that `FewLemmas` goes through, with what an actor that is alone does not do. So a call that
 -- fits by its weights finds room, as it is asked and once it is copied for. What else is told is no call's fault: the causes that are found
 -- are conflicts, and that of a want of memory is OutOfMemory.
+use Rattle.std.proofs.Common.{arith}
 use Rattle.std.proofs.Common.{◌≡◌, inl, inr, ℕ, ◌+◌, ◌<◌, ◌≤◌, true, false, cond, not, ◌&&◌, ◌||◌, List, [], ◌∷◌, ◌++◌, length}
 use Rattle.std.proofs.Common.{Option, Some, None, refl, sym, ◌∙◌, ap, subst, true≢false}
 use Rattle.std.specs.Prelude.{nat_lt}
@@ -29,7 +30,7 @@ use Rattle.replay_log.specs.WorldProgress.{whose}
 use Rattle.replay_log.specs.WorldRefusals.{IsCause, is_ending}
 use Rattle.replay_log.specs.Worlds.{World, Seat, Stage, After, Idle, Beginning, Open, Locking, Releasing, Closing, Cancelling, Leaving, Reading}
 use Rattle.replay_log.specs.Worlds.{Trying, Copying, Loading, Gating, Ready, Storing, Homing, Returning, acted, actor_of, asks, at_stage, because}
-use Rattle.replay_log.specs.Worlds.{ask_at, ask_op, calls_on, cancels, commits, fits, happens, is_leaving, no_one, opened, run}
+use Rattle.replay_log.specs.Worlds.{ask_at, ask_op, calls_on, cancels, gives_up, commits, fits, happens, is_leaving, no_one, opened, run}
 use Rattle.replay_log.specs.Worlds.{starve_at, step_at}
 use Rattle.replay_log.proofs.AnswerLemmas.{NoRefusal, refused_step, starved_end, starves}
 use Rattle.replay_log.proofs.AskLemmas.{only_abort, under_way}
@@ -38,7 +39,10 @@ use Rattle.replay_log.proofs.RefusalLemmas.{keeps_cause, world_causes}
 use Rattle.replay_log.proofs.RequestLemmas.{happens_by}
 use Rattle.replay_log.proofs.SeatLemmas.{Linked}
 use Rattle.tx_alone.specs.Alone.{IsSmall, weight, weights}
-use Rattle.tx_alone.specs.Beside.{AreFitting, IsFitting, IsMisfit, TellsMisfit}
+use Rattle.tx_alone.specs.Beside.{AreFitting, BeginsNoReader, IsFitting, IsMisfit, TellsMisfit}
+use Rattle.tx_alone.proofs.BoundLemmas.{BoundAt, acts_on, begins_bound, bound_more, calls_bound, cancels_on, commits_bound, due, gives_up_on}
+use Rattle.tx_alone.proofs.BoundLemmas.{op_on, step_on}
+use Rattle.seq_model.specs.declared.call.Call.{Call}
 use Rattle.tx_alone.proofs.AloneLemmas.{allowed_no, by_notice, calls_on_no, copying_no, ending_goes, or_true, reads_no, same_cause}
 use Rattle.tx_alone.proofs.FewLemmas.{IsFew, Sized, SizedAt, SizedIn, begin_sized, call_sized, cancels_sized, commit_sized, fits_one}
 use Rattle.tx_alone.proofs.FewLemmas.{gives_up_sized, sits, step_sized}
@@ -322,3 +326,88 @@ module _ {V : Type 0} where
 
       pub never_misfit : (e : Event V) → whose e ≡ a → IsFitting w a e → TellsMisfit (happens w e).1 → ⊥
       never_misfit e m f t = own_tells e m f t
+
+-- ---- no declared reader
+module _ {V : Type 0} (a : ℕ) where
+  abbrev pub IsNone : World V → Type 0
+  IsNone w = (actor_of w a).declared ≡ false
+
+  -- how far the clock and what is due are now is enough to say it
+  now : World V → ℕ
+  now w = w.boosted.words.clock + due (actor_of w a).place
+
+  bound_now : (w : World V) → IsNone w → BoundAt (now w) a w
+  unfolding now
+  bound_now w d = record { undeclared = d; clock = omega arith }
+
+  begins_none : (w : World V) → IsNone w → IsNone (happens w (Ask a request.Begin)).0
+  begins_none w d = (begins_bound a (now w) w (w.seats a) (w.seats a).stage (bound_now w d)).undeclared
+
+  calls_none : (w : World V) (call : Call V) → IsNone w → IsNone (happens w (Ask a (request.Call call))).0
+  calls_none w call d =
+      let h = bound_now w d in
+      (calls_bound a (now w) w (w.seats a) (w.seats a).stage (request.Call call) h
+      (λ k. op_on (now w) a w (w.seats a) call.target call.op k) h).undeclared
+
+  commits_none : (w : World V) → IsNone w → IsNone (happens w (Ask a request.Commit)).0
+  commits_none w d =
+      let n = now w in
+      let h = bound_now w d in
+      let more = bound_more n (n + 1) a w.boosted.words (omega arith) h in
+      (calls_bound a (n + 1) w (w.seats a) (w.seats a).stage request.Commit more
+      (λ k. commits_bound a n w (w.seats a) (actor_of w a).writes h) more).undeclared
+
+  abort_none_at : (w : World V) (st : Stage V) → IsNone w → IsNone (ask_at w a (w.seats a) st request.Abort).0
+  abort_none_at w Open d = (cancels_on (now w) a w (record (w.seats a) { cause = None }) (bound_now w d)).undeclared
+  abort_none_at w Idle d = d
+  abort_none_at w st d = d
+
+  gives_up_none : (w : World V) (x : Seat V) (ks : List ℕ) → IsNone w → IsNone (gives_up w a x ks).0
+  gives_up_none w x ks d = (gives_up_on (now w) a w x ks (bound_now w d)).undeclared
+
+  starve_none_at : (w : World V) (x : Seat V) (st : Stage V) → IsNone w → IsNone (starve_at w a x st).0
+  starve_none_at w x Beginning d = (acts_on (now w) a w (asks a word.AskAbort) (refl, tt) (bound_now w d)).undeclared
+  starve_none_at w x (Reading l) d = gives_up_none w (because x refusal.OutOfMemory) [] d
+  starve_none_at w x (Trying asked tries) d = gives_up_none w (because x refusal.OutOfMemory) [] d
+  starve_none_at w x (Copying asked) d = gives_up_none w (because x refusal.OutOfMemory) (asked.collection ∷ []) d
+  starve_none_at w x (Loading o es) d = gives_up_none w (because x refusal.OutOfMemory) [] d
+  starve_none_at w x Locking d = gives_up_none w (because x refusal.OutOfMemory) [] d
+  starve_none_at w x (Gating got ks tries) d = gives_up_none w (because x refusal.OutOfMemory) got d
+  starve_none_at w x (Ready ks) d = gives_up_none w (because x refusal.OutOfMemory) ks d
+  starve_none_at w x Closing d = gives_up_none w (because x refusal.OutOfMemory) [] d
+  starve_none_at w x st d = d
+
+  ask_none : (w : World V) (q : Request V) → BeginsNoReader a (Ask a q ∷ []) → IsNone w → IsNone (happens w (Ask a q)).0
+  ask_none w request.Begin free d = begins_none w d
+  ask_none w request.BeginRead free d = absurd (free.0 refl)
+  ask_none w (request.Call call) free d = calls_none w call d
+  ask_none w request.Commit free d = commits_none w d
+  ask_none w request.Abort free d = abort_none_at w (w.seats a).stage d
+
+  own_none : (w : World V) (e : Event V) → whose e ≡ a → BeginsNoReader a (e ∷ []) → IsNone w → IsNone (happens w e).0
+  own_none w (Ask b q) m free d =
+      subst (λ i. IsNone (happens w (Ask i q)).0) (sym m) (ask_none w q (subst (λ i. BeginsNoReader a (Ask i q ∷ [])) m free) d)
+  own_none w (Step b) m free d =
+      subst (λ i. IsNone (happens w (Step i)).0) (sym m) (step_on (now w) a w (w.seats a) (w.seats a).stage (bound_now w d)).undeclared
+  own_none w (Starve b) m free d =
+      subst (λ i. IsNone (happens w (Starve i)).0) (sym m) (starve_none_at w (w.seats a) (w.seats a).stage d)
+
+  pub one_none : (w : World V) (e : Event V) → BeginsNoReader a (e ∷ []) → IsNone w → IsNone (happens w e).0
+  one_none w e free d =
+      elim (cases_eq a (whose e)) [
+        | inl same ↦ own_none w e (sym same) free d
+        | inr ne ↦ ap (λ (y : Actor). y.declared) ((happens_by w e).actors a ne) ∙ d
+      ]
+
+  pub split_none : (e : Event V) (es : List (Event V)) → BeginsNoReader a (e ∷ es) → BeginsNoReader a (e ∷ []) × BeginsNoReader a es
+  split_none (Ask b request.Begin) es h = (tt, h)
+  split_none (Ask b request.BeginRead) es h = ((h.0, tt), h.1)
+  split_none (Ask b (request.Call call)) es h = (tt, h)
+  split_none (Ask b request.Commit) es h = (tt, h)
+  split_none (Ask b request.Abort) es h = (tt, h)
+  split_none (Step b) es h = (tt, h)
+  split_none (Starve b) es h = (tt, h)
+
+  pub all_none : (es : List (Event V)) (w : World V) → BeginsNoReader a es → IsNone w → IsNone (run w es)
+  all_none [] w free d = d
+  all_none (e ∷ es) w free d = (let s = split_none e es free in all_none es (happens w e).0 s.1 (one_none w e s.0 d))

@@ -363,14 +363,14 @@ module _ {V : Type 0} (n a : ℕ) where
   abbrev Bound : After V → Type 0
   Bound r = BoundAt r.0
 
-  acts_on : (u : World V) (e : Action (Asked V)) → IsMildAction a e → BoundAt u → BoundAt (acted u (e ∷ []))
+  pub acts_on : (u : World V) (e : Action (Asked V)) → IsMildAction a e → BoundAt u → BoundAt (acted u (e ∷ []))
   acts_on u e m h = act_bound (content u.words u.blocks) n a u.boosted e m h
 
-  cancels_on : (u : World V) (x : Seat V) → BoundAt u → BoundAt (cancels u a x)
+  pub cancels_on : (u : World V) (x : Seat V) → BoundAt u → BoundAt (cancels u a x)
   cancels_on u x h =
       acts_on (acted u (asks a word.AskCancel ∷ [])) (asks a word.AskAbort) (refl, tt) (acts_on u (asks a word.AskCancel) (refl, tt) h)
 
-  gives_up_on : (u : World V) (x : Seat V) (ks : List ℕ) → BoundAt u → Bound (gives_up u a x ks)
+  pub gives_up_on : (u : World V) (x : Seat V) (ks : List ℕ) → BoundAt u → Bound (gives_up u a x ks)
   gives_up_on u x [] h = cancels_on u x h
   gives_up_on u x (k ∷ ks) h = h
 
@@ -414,7 +414,7 @@ module _ {V : Type 0} (n a : ℕ) where
       (λ _. cond_both {A = After V} (ltb (length x.calls) CALL_LIMIT && room) next (u, Refused a refusal.TooLong) Bound (λ _. m) (λ _. h))
       (λ _. h)
 
-  op_on : (u : World V) (x : Seat V) (t : ℕ) (op : Op V) → BoundAt u → Bound (ask_op u a x t op)
+  pub op_on : (u : World V) (x : Seat V) (t : ℕ) (op : Op V) → BoundAt u → Bound (ask_op u a x t op)
   op_on u x t Read h = if_allowed_on u x _ _ _ h (reads_on u x t _ h)
   op_on u x t (Write i) h = if_allowed_on u x _ _ _ h (acts_on u (asks a (word.AskWrite t i)) (refl, tt) h)
   op_on u x t op h = if_allowed_on u x _ _ _ h (calls_on_on u x (record { collection = t; op = op }) h)
@@ -465,7 +465,7 @@ module _ {V : Type 0} (n a : ℕ) where
   cancelled_on u x told.Cancelled h = acts_on u (asks a word.AskAbort) (refl, tt) h
   cancelled_on u x m h = h
 
-  step_on : (w : World V) (x : Seat V) (st : Stage V) → BoundAt w → Bound (step_at w a x st)
+  pub step_on : (w : World V) (x : Seat V) (st : Stage V) → BoundAt w → Bound (step_at w a x st)
   step_on w x Idle h = h
   step_on w x Open h = h
   step_on w x Beginning h = begun_on _ x (word_notice w a) (acts_on w (moves a) refl h)
@@ -500,19 +500,19 @@ module _ {V : Type 0} (n a : ℕ) where
 
 module _ {V : Type 0} (a : ℕ) where
   -- a begin and a call
-  begins_bound : (n : ℕ) (w : World V) (x : Seat V) (st : Stage V) → BoundAt n a w → BoundAt n a (ask_at w a x st request.Begin).0
+  pub begins_bound : (n : ℕ) (w : World V) (x : Seat V) (st : Stage V) → BoundAt n a w → BoundAt n a (ask_at w a x st request.Begin).0
   begins_bound n w x Idle h = acts_on n a w (asks a word.AskBegin) (refl, tt) h
   begins_bound n w x Open h = h
   begins_bound n w x st h = h
 
-  calls_bound : (n : ℕ) (w : World V) (x : Seat V) (st : Stage V) (q : Request V) → BoundAt n a w
+  pub calls_bound : (n : ℕ) (w : World V) (x : Seat V) (st : Stage V) (q : Request V) → BoundAt n a w
       → ((h : BoundAt n a w) → BoundAt n a (ask_at w a x Open q).0) → BoundAt n a (ask_at w a x Idle q).0
       → BoundAt n a (ask_at w a x st q).0
   calls_bound n w x Idle q h at_open at_idle = at_idle
   calls_bound n w x Open q h at_open at_idle = at_open h
   calls_bound n w x st q h at_open at_idle = h
 
-  commits_bound : (n : ℕ) (w : World V) (x : Seat V) (es : Entries) → BoundAt n a w → BoundAt (n + 1) a (commits w a x es).0
+  pub commits_bound : (n : ℕ) (w : World V) (x : Seat V) (es : Entries) → BoundAt n a w → BoundAt (n + 1) a (commits w a x es).0
   commits_bound n w x [] h =
       bound_more n (n + 1) a _ (omega arith) (acts_on n a w (asks a word.AskClose) (refl, tt) h)
   commits_bound n w x (e ∷ es) h = locked_bound (content w.words w.blocks) n a w.boosted h

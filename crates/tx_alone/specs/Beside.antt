@@ -1,5 +1,5 @@
 -- An actor beside others, whose calls find room by their weights.
-use Rattle.std.specs.Prelude.{◌≡◌, ℕ, ◌+◌, ◌<◌, ◌≤◌, true, List, [], ◌∷◌, length}
+use Rattle.std.specs.Prelude.{◌≡◌, ◌≢◌, ℕ, ◌+◌, ◌<◌, ◌≤◌, true, List, [], ◌∷◌, length}
 use Rattle.tx_sets.specs.declared.access_set.TheConstants.{LOCATION_LIMIT}
 use Rattle.seq_model.specs.declared.call.Call.{Call}
 use Rattle.seq_model.specs.declared.event.Event.{Event}
@@ -42,3 +42,9 @@ module _ {V : Type 0} where
   abbrev pub TellsMisfit : Notice V → Type 0
   TellsMisfit (Refused a cause) = IsMisfit cause
   TellsMisfit n = ⊥
+
+  -- a begins no declared reader
+  abbrev pub BeginsNoReader : ℕ → List (Event V) → Type 0
+  BeginsNoReader a [] = Unit {0}
+  BeginsNoReader a (Ask b request.BeginRead ∷ es) = (b ≢ a) × BeginsNoReader a es
+  BeginsNoReader a (e ∷ es) = BeginsNoReader a es

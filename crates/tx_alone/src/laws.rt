@@ -1,13 +1,13 @@
 //! The laws of an actor whose calls are on words, on keys of maps and at the ends of queues. The functions compute nothing: their
 //! contracts are the laws.
-ghost use Rattle.std.specs.Prelude.{◌≡◌, ◌≤◌, ℕ, List, length};
+ghost use Rattle.std.specs.Prelude.{◌≡◌, ◌≤◌, ℕ, List, length, false};
 ghost use Rattle.seq_model.specs.declared.event.Event.{Event};
 ghost use Rattle.seq_model.specs.declared.held.Held.{Held};
 ghost use Rattle.replay_log.specs.Contents.{Block, HaveStripes};
 ghost use Rattle.replay_log.specs.WorldProgress.{whose};
 ghost use Rattle.replay_log.specs.Worlds.{Open, actor_of, happens, opened, run};
 ghost use Rattle.tx_alone.specs.Alone.{IsNeverRefused, weights};
-ghost use Rattle.tx_alone.specs.Beside.{AreFitting, IsFitting, TellsMisfit};
+ghost use Rattle.tx_alone.specs.Beside.{AreFitting, BeginsNoReader, IsFitting, TellsMisfit};
 
 use seq_model::Value;
 
@@ -23,7 +23,7 @@ pub fn alone<V: Value>()
 /// Beside others too, whatever they do, an actor whose calls are on words, on keys of maps and at the ends of queues has no more
 /// locations in a set than the weights of its calls come to, also where it begins declared readers, gives transactions up or wants
 /// memory. So where each call that it asks for is of what is there, and is behind no more calls and on no more locations than there
-/// may be, none of its requests is ever told NoSuch or TooLong.
+/// may be, none of its requests is ever told NoSuch or TooLong. One that begins no declared reader is none.
 pub fn beside_others<V: Value>()
     ensures sets { (blocks : List Block) (clock : ℕ) (values : List ℕ) (held : List (Held V)) (events : List (Event V)) (a : ℕ) →
         HaveStripes blocks → AreFitting (opened blocks clock values held) a events →
@@ -34,4 +34,6 @@ pub fn beside_others<V: Value>()
         HaveStripes blocks → AreFitting (opened blocks clock values held) a events →
         let w = run (opened blocks clock values held) events in
         (e : Event V) → whose e ≡ a → IsFitting w a e → TellsMisfit (happens w e).1 → ⊥ }
+    ensures undeclared { (blocks : List Block) (clock : ℕ) (values : List ℕ) (held : List (Held V)) (events : List (Event V)) (a : ℕ) →
+        BeginsNoReader a events → (actor_of (run (opened blocks clock values held) events) a).declared ≡ false }
 {}
