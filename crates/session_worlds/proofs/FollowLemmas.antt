@@ -341,7 +341,7 @@ module _ {V A : Type 0} (P : ℕ → Type 0) (p : Program V A) where
       → N × IsWhole p calls
   asked_whole N calls f is = (f.0, whole_of calls f.1.0 f.1.1 (ap asked (sym (follows_after calls p f.1.0 f.1.1)) ∙ is))
 
-  asked_next : (N : Type 0) (calls : List (Call V × Reply V)) (call : Call V) → FollowsAt N p calls Open
+  pub asked_next : (N : Type 0) (calls : List (Call V × Reply V)) (call : Call V) → FollowsAt N p calls Open
       → asked (after p (replies_of calls)) ≡ ask.Call call → N × AsksNext p calls call
   asked_next N calls call f is = (f.0, next_of calls f.1.0 call f.1.1 (ap asked (sym (follows_after calls p f.1.0 f.1.1)) ∙ is))
 

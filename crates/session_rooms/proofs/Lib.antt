@@ -1,0 +1,2 @@
+pub mod ThereLemmas
+pub mod RoomLemmas

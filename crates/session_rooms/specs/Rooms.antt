@@ -1,0 +1,23 @@
+-- What sessions that interleave are never told.
+use Rattle.std.specs.Prelude.{◌≡◌, ℕ, List}
+use Rattle.replay_log.specs.Collections.{Suit}
+use Rattle.replay_log.specs.Contents.{Block, HaveStripes}
+use Rattle.replay_log.specs.WorldProgress.{whose}
+use Rattle.replay_log.specs.Worlds.{happens, opened, run}
+use Rattle.session_worlds.specs.Asking.{Actions, AskAsSessions, MayHappen, Turn, events_of}
+use Rattle.session_worlds.specs.Serial.{begun_all}
+use Rattle.tx_alone.specs.Beside.{BeginsNoReader, TellsMisfit}
+use Rattle.vac_model.specs.Actions.{IsAllowed}
+use Rattle.vac_model.specs.Holdings.{Holdings}
+use Rattle.vacation_core.specs.Holding.{state_of}
+
+-- Clients ask as sessions of allowed actions do, over a state of tables. Then nothing that client a may do next is told NoSuch or TooLong,
+-- where it has begun no declared reader.
+abbrev pub SessionsFindRoom : Type 0
+SessionsFindRoom =
+    (blocks : List Block) (clock : ℕ) (tables : Holdings) (actions : Actions) (turns : List Turn) (a : ℕ)
+    → ((b : ℕ) → IsAllowed (actions b)) → HaveStripes blocks → Suit blocks (state_of tables).held
+    → let first = opened blocks clock (state_of tables).words (state_of tables).held in
+    let w = run first (events_of turns) in
+    AskAsSessions actions first turns → BeginsNoReader a (events_of turns)
+    → (t : Turn) → whose t.0 ≡ a → MayHappen (begun_all actions first turns) w t → TellsMisfit (happens w t.0).1 → ⊥
