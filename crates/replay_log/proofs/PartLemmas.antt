@@ -26,7 +26,7 @@ use Rattle.base_queue.specs.Conflicts as queue
 use Rattle.base_queue.specs.FrameLemmas as queue_laws
 use Rattle.replay_log.specs.Base.{Shown, OfMap, OfBag, OfPq, OfQueue}
 use Rattle.replay_log.specs.Parts.{kept, joined, MapKind, BagKind, PqKind, QueueKind, Kind, as_map, as_bag, as_pq, as_queue, whole, IsWhole}
-use Rattle.replay_log.specs.Parts.{AnswersByParts, KnowsItsCalls, LeavesOtherParts, ChangesByPart, DisjointChangesCommute}
+use Rattle.replay_log.specs.Parts.{AnswersByParts, KnowsItsCalls, LeavesOtherParts, ChangesByPart, DisjointChangesCommute, ChangesAreWithinWrites}
 use Rattle.replay_log.specs.Contents.{size_by}
 use Rattle.replay_log.proofs.JoinLemmas.{get_kept, get_joined}
 
@@ -157,6 +157,24 @@ queue_parting V = record { one = queue_one; all = queue_all; none = queue_none; 
 some_none : {A : Type 0} (x : A) → Some x ≡ None → ⊥
 some_none x e = cc
 
+no_bag_map : BagKind ≡ MapKind → ⊥
+no_bag_map e = cc
+
+no_pq_map : PqKind ≡ MapKind → ⊥
+no_pq_map e = cc
+
+no_queue_map : QueueKind ≡ MapKind → ⊥
+no_queue_map e = cc
+
+no_pq_bag : PqKind ≡ BagKind → ⊥
+no_pq_bag e = cc
+
+no_queue_bag : QueueKind ≡ BagKind → ⊥
+no_queue_bag e = cc
+
+no_queue_pq : QueueKind ≡ PqKind → ⊥
+no_queue_pq e = cc
+
 module _ {V : Type 0} where
   knows_map : (op : Op V) (s t : FinMap nat_cmp V) → map.outcome_of op s ≡ None → map.outcome_of op t ≡ None
   knows_map (Get k) s t e = absurd (some_none _ e)
@@ -256,3 +274,21 @@ module _ {V : Type 0} where
       (λ l t out. one_same (queue.rules V) queue_laws.laws (queue_parting V) n l t _ (sym (ap as_queue (in_ws l (OfQueue t) refl out))))
       (λ l t out. one_same (queue.rules V) queue_laws.laws (queue_parting V) n l t _ (sym (ap as_queue (in_vs l (OfQueue t) refl out))))
       apart)
+
+  pub changes_within : ChangesAreWithinWrites V
+  changes_within n o (OfMap s) l (OfMap t) e out = leaves_other_parts n l o (OfMap t) out
+  changes_within n o (OfBag s) l (OfBag t) e out = leaves_other_parts n l o (OfBag t) out
+  changes_within n o (OfPq s) l (OfPq t) e out = leaves_other_parts n l o (OfPq t) out
+  changes_within n o (OfQueue s) l (OfQueue t) e out = leaves_other_parts n l o (OfQueue t) out
+  changes_within n o (OfMap s) l (OfBag t) e out = absurd (no_bag_map e)
+  changes_within n o (OfMap s) l (OfPq t) e out = absurd (no_pq_map e)
+  changes_within n o (OfMap s) l (OfQueue t) e out = absurd (no_queue_map e)
+  changes_within n o (OfBag s) l (OfMap t) e out = absurd (no_bag_map (sym e))
+  changes_within n o (OfBag s) l (OfPq t) e out = absurd (no_pq_bag e)
+  changes_within n o (OfBag s) l (OfQueue t) e out = absurd (no_queue_bag e)
+  changes_within n o (OfPq s) l (OfMap t) e out = absurd (no_pq_map (sym e))
+  changes_within n o (OfPq s) l (OfBag t) e out = absurd (no_pq_bag (sym e))
+  changes_within n o (OfPq s) l (OfQueue t) e out = absurd (no_queue_pq e)
+  changes_within n o (OfQueue s) l (OfMap t) e out = absurd (no_queue_map (sym e))
+  changes_within n o (OfQueue s) l (OfBag t) e out = absurd (no_queue_bag (sym e))
+  changes_within n o (OfQueue s) l (OfPq t) e out = absurd (no_queue_pq (sym e))

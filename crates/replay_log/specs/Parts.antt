@@ -115,3 +115,7 @@ DisjointChangesCommute V =
     → AreWithin n (kind_of s) writes changes → AreWithin n (kind_of s) other_writes other_changes
     → ¬ Any (Contains other_writes) writes
     → after other_changes (after changes s) ≡ after changes (after other_changes s)
+
+-- the changes of an outcome are within the locations that it writes
+abbrev pub ChangesAreWithinWrites : Type 0 → Type 0
+ChangesAreWithinWrites V = (n : ℕ) (o : Outcome V) (s : Shown V) → AreWithin n (kind_of s) (writes_of n o s) (changes_of o s)

@@ -29,7 +29,8 @@ ghost use Rattle.collection_machine.specs.Serial.{after_actions};
 ghost use Rattle.replay_log.specs.Contents.{Block, Asked, HaveStripes, content, is_plain};
 ghost use Rattle.replay_log.specs.Collections.{Suit, shown_at};
 ghost use Rattle.replay_log.specs.Log.{RaisesEach, KeepsOthers};
-ghost use Rattle.replay_log.specs.Parts.{IsWhole, AnswersByParts, KnowsItsCalls, LeavesOtherParts, ChangesByPart, DisjointChangesCommute};
+ghost use Rattle.replay_log.specs.Parts.{AnswersByParts, ChangesAreWithinWrites, ChangesByPart, DisjointChangesCommute, IsWhole};
+ghost use Rattle.replay_log.specs.Parts.{KnowsItsCalls, LeavesOtherParts};
 ghost use Rattle.replay_log.specs.Worlds.{World, Idle, Open, Beginning, Cancelling, Leaving, is_change, actor_of, why, happens, half, run};
 ghost use Rattle.replay_log.specs.Worlds.{Copying, gate_tries, has_room, opened};
 ghost use Rattle.replay_log.specs.WorldTraces.{trace, is_half_done, committed_by, with_record, ended_by};
@@ -53,7 +54,8 @@ use seq_model::Value;
 
 /// What a call on a base answers depends on the locations that it reads alone, and what it changes lies in those that it writes,
 /// for each kind. So calls on one base that do not conflict commute, and changes that leave all parts but those of some locations
-/// commute with changes that leave all but those of others, on whatever a base shows.
+/// commute with changes that leave all but those of others, on whatever a base shows. The changes of an outcome leave all but those of the
+/// locations that it writes.
 pub fn frame_laws<V: Value>()
     ensures map { FrameLaws (map.rules V) }
     ensures bag { FrameLaws (bag.rules V) }
@@ -61,6 +63,7 @@ pub fn frame_laws<V: Value>()
     ensures queue { FrameLaws (queue.rules V) }
     ensures commute { (stripes : ℕ) (s : Shown V) → Commute stripes s }
     ensures changes { DisjointChangesCommute V }
+    ensures within { ChangesAreWithinWrites V }
 {}
 
 /// A log folded is its changes one after another: what is folded in two parts is folded as one. Of the editions, each location
