@@ -9,3 +9,4 @@ pub mod OpeningLemmas
 pub mod PastLemmas
 pub mod HalfDoneLemmas
 pub mod TraceLemmas
+pub mod RoomLemmas

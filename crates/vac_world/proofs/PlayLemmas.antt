@@ -118,10 +118,10 @@ pub record IsSound (p : Play) : Type 0 where
 abbrev pub May : Play → Event Entry → Action → Type 0
 May p e action = MayHappen (begun_all p.history.actions (opening_of p.history) p.history.turns) (world_in p.history) (e, action)
 
-sound_turn : (p : Play) (e : Event Entry) (action : Action) → May p e action → IsSound p → IsSound (turned e action p)
+pub sound_turn : (p : Play) (e : Event Entry) (action : Action) → May p e action → IsSound p → IsSound (turned e action p)
 sound_turn p e action may s = record { lawful = lawful_next p.history (e, action) s.lawful may; goes_on = s.goes_on }
 
-sound_ends : (a : ℕ) (cause : Refusal) (p : Play) → IsSound p → IsSound (ends a cause p)
+pub sound_ends : (a : ℕ) (cause : Refusal) (p : Play) → IsSound p → IsSound (ends a cause p)
 sound_ends a cause p s = record { lawful = s.lawful; goes_on = s.goes_on }
 
 sound_ends_for : (a : ℕ) (o : Option Refusal) (p : Play) → IsSound p → IsSound (ends_for a o p)

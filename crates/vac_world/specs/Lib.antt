@@ -5,3 +5,4 @@ pub mod Running
 pub mod Openings
 pub mod Told
 pub mod Traces
+pub mod Rooms
