@@ -38,7 +38,7 @@ module _ {V : Type 0} where
       let half = λ (x : Seat V). is_half_done x.stage in
       dite (dec_lt a (length s.views))
       (λ seated. let at = there s.views a seated in ap half (shows.own a at.0 at.1).alike.seat ∙ done a at.0 at.1)
-      (λ no. ap half (shows.fresh a (omega (arith, no))).seat ∙ idle a)
+      (λ no. ap half (shows.fresh a (omega (arith, no))).alike.seat ∙ idle a)
 
   home_shows : (n : ℕ) (bs : List Block) (w : World V) (k : ℕ) (homes : List (Option (Slot V))) (b : Base V) (gate : Maybe ℕ)
       → w.boosted.gates k ≡ gate → HomeOk n bs w k homes → get_elem? homes k ≡ some (some (Some b))

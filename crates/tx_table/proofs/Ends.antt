@@ -4,7 +4,7 @@
 -- as numbers. A new seat knows the opening. A seat that was joined away has no commit half done and no gate, so with all shares in one
 -- seat nothing is under way, and the world's serial order says what words and bases hold.
 use Rattle.tx_table.specs.declared.view.TheConstants.{SHARES}
-use Rattle.std.proofs.Common.{◌≡◌, ℕ, subst, zero, suc, ◌+◌, ◌-◌, ◌<◌, ◌≤◌, ◌≢◌, true, false, List, [], ◌∷◌, ◌++◌, length, set}
+use Rattle.std.proofs.Common.{◌≡◌, ℕ, subst, zero, suc, ◌+◌, ◌-◌, ◌<◌, ◌≤◌, ◌≢◌, false, List, [], ◌∷◌, ◌++◌, length, set}
 use Rattle.std.proofs.Common.{get_or, Option as Maybe, Some, None, sym, refl, ap, ◌∙◌, ⊎_elim, arith, length-set, length-append}
 use Rattle.std.proofs.Common.{true≢false, eq-eqb}
 use Rattle.std.specs.Prelude.{All}
@@ -33,7 +33,7 @@ use Rattle.atomic_steps.specs.Own.{Alike}
 use Rattle.atomic_steps.proofs.Alike.{alike_same}
 use Rattle.tx_table.specs.Turns.{Turn, stage_of, lone}
 use Rattle.tx_table.specs.Shown.{View, Slot, total, owed, Table, IsJoined, IsOwn, IsSpent, Rule, Shows, left_of, right_of}
-use Rattle.tx_table.specs.Shown.{both_of, spent_of}
+use Rattle.tx_table.specs.Shown.{HasReceipts, aborted_by, both_of, only_by, spent_of}
 use Rattle.seq_model.specs.declared.record.Record.{Record}
 use Rattle.tx_table.specs.Shown.{Closes, IsOpening, ShowsWorld, first}
 use Rattle.tx_table.proofs.Numbers.{total_set, total_snoc, total_append, there, at_end, tally_set, tally_snoc, total_alone, total_two}
@@ -43,9 +43,6 @@ use Rattle.tx_table.proofs.Left.{shows_left, suit_within}
 use Rattle.word_machine.specs.Actor.{clock_limit}
 
 module _ {V : Type 0} where
-  not_mine : (o w : World V) (a k : ℕ) → IsOpening o → Alike a w o → is_actor a (w.boosted.gates k) ≡ true → ⊥
-  not_mine o w a k h e t = true≢false (sym t ∙ (e.boosted.gates k ∙ ap (is_actor a) (h.free k)))
-
   pub splits : (o w : World V) (id k : ℕ) (v : View V) → IsOpening o → 0 < k → k < v.shares → Splits (Shows o w) id v (left_of k v)
       (right_of k v)
   splits o w id k v opening some_shares fewer s S here =
@@ -54,7 +51,7 @@ module _ {V : Type 0} where
       let y : View V = right_of k v in
       let new : List (View V) = set vs id x ++ y ∷ [] in
       let len : length (set vs id x) ≡ length vs = length-set vs id x in
-      let fresh_there : Alike (length vs) w o = S.fresh (length vs) (omega arith) in
+      let fresh_there : IsOwn (length vs) w o = S.fresh (length vs) (omega arith) in
       let same : (f : View V → ℕ) → f x + f y ≡ f v → total f new ≡ total f vs =
       λ f e. (let p = total_set f vs id v x here in let q = total_snoc f (set vs id x) y in omega arith) in
       let cases : (P : ℕ → View V → Type 0) → P id x → P (length vs) y → ((j : ℕ) (u : View V) → get_elem? vs j ≡ some u → P j u)
@@ -86,11 +83,13 @@ module _ {V : Type 0} where
             let e = opening.rests n in omega arith);
         shares = same (λ u. u.shares) (omega arith) ∙ S.shares;
         own = cases (λ j u. IsOwn j w (lone j o u.turns)) (S.own id v here)
-            (record { alike = fresh_there; out = λ m g. absurd (not_mine o w (length vs) m opening fresh_there g) }) S.own;
+            fresh_there S.own;
         fresh = λ a l. (let m = length-append (set vs id x) (y ∷ []) in S.fresh a (omega arith));
         spent = cases (λ j u. u.shares ≡ 0 → IsSpent o j u) (λ z. absurd (omega arith)) (λ z. absurd (omega arith)) S.spent;
         joined = cases (λ j u. All (IsJoined new) u.joined) (kept id v here) (All-nil (IsJoined new)) kept;
         receipts = λ h. same (λ u. total h u.receipts) (omega arith) ∙ S.receipts h;
+        earned = cases (λ j u. 0 < u.shares → HasReceipts o j u) (λ _. S.earned id v here (omega arith))
+            (λ _ h. (let none : total h o.records ≡ 0 = ap (total h) opening.records in omega arith)) S.earned;
       }
 
   pub joins : (o w : World V) (id other : ℕ) (v u : View V) → 0 < v.shares → 0 < u.shares
@@ -144,6 +143,12 @@ module _ {V : Type 0} where
             (All-cons (IsJoined new) (other, u.turns) u.joined (y, at_set_same mid other u y there₁, refl, refl) (kept other u there₂)))
             (All-nil (IsJoined new)) kept;
         receipts = λ h. same (λ q. total h q.receipts) (let p = total_append h v.receipts u.receipts in omega arith) ∙ S.receipts h;
+        earned = cases (λ j q. 0 < q.shares → HasReceipts o j q)
+            (λ _ h. (let p = total_append h v.receipts u.receipts in
+            let q = total_append (λ (p : ℕ × List (Turn V)). total h (lone p.0 o p.1).records) v.joined ((other, u.turns) ∷ u.joined) in
+            let mine = S.earned id v here some_shares h in
+            let theirs = S.earned other u there₂ more h in omega arith))
+            (λ z. absurd (omega arith)) S.earned;
       }
 
   -- a seat with all shares leaves none to the others
@@ -162,7 +167,7 @@ module _ {V : Type 0} where
       (λ ne. dite (dec_lt a (length s.views))
       (λ l. let t = there s.views a l in by a (run o rule.events) (lone a o t.0.turns) (rule.shows.own a t.0 t.1).alike
       (other a t.0 (rule.shows.spent a t.0 t.1 (spent_at o id v s rule here all a t.0 ne t.1))))
-      (λ no. by a (run o rule.events) o (rule.shows.fresh a (omega (arith, no))) (new a)))
+      (λ no. by a (run o rule.events) o (rule.shows.fresh a (omega (arith, no))).alike (new a)))
 
   -- and where it holds no gate, none is held
   all_free : (o : World V) (id : ℕ) (v : View V) (s : State (Slot V) (View V)) (rule : Rule o s) → IsOpening o
@@ -240,7 +245,13 @@ above n (b ∷ bs) = let z = above (n + contents.size b) bs in omega (arith, z)
 
 module _ {V : Type 0} where
   pub opening_is : (blocks : List Block) (clock : ℕ) (values : List ℕ) (held : List (Held V)) → IsOpening (opened blocks clock values held)
-  opening_is blocks clock values held = record { free = λ k. refl; rests = λ a. refl; idle = λ a. refl }
+  opening_is blocks clock values held = record {
+    records = refl;
+    aborted = refl;
+    free = λ k. refl;
+    rests = λ a. refl;
+    idle = λ a. refl;
+  }
 
   pub world_closes : (blocks : List Block) (clock : ℕ) (values : List ℕ) (held : List (Held V)) → HaveStripes blocks → Suit blocks held
       → let o = opened blocks clock values held in
@@ -252,6 +263,14 @@ module _ {V : Type 0} where
       (opening_is blocks clock values held)
       (serial_world blocks stripes clock values held suit rule.events) (numbers_past blocks stripes clock values held suit rule.events)
       here all done bare (above (length values) blocks)
+
+  opening_own : (o : World V) (a : ℕ) → IsOpening o → IsOwn a o o
+  opening_own o a start = record {
+    alike = alike_same a o;
+    out = λ k g l p at. (refl, refl);
+    aborted = ap (aborted_by a) start.aborted ∙ sym start.aborted;
+    committed = λ h. ap (total (only_by a h)) start.records ∙ sym (ap (total h) start.records);
+  }
 
   pub opens_rule : (o : World V) (ws : List ℕ) (hs : List (Option (Slot V))) → IsOpening o → o.boosted.words.clock ≤ clock_limit
       → o.records ≡ [] → Table o.words o.blocks o ws hs
@@ -272,10 +291,10 @@ module _ {V : Type 0} where
       shares = refl;
       own = λ j v e. elim j as (λ k. get_elem? (first ∷ []) k ≡ some v → IsOwn k o (lone k o v.turns)) [
         | zero ↦ (λ q. subst (λ (z : View V). IsOwn 0 o (lone 0 o z.turns)) (some-injective first v q)
-            (record { alike = alike_same 0 o; out = λ k g l p at. (refl, refl) }))
+            (opening_own o 0 start))
         | suc i ↦ (λ q. absurd (some-ne-none v (sym q)))
       ] e;
-      fresh = λ a l. alike_same a o;
+      fresh = λ a l. opening_own o a start;
       spent = λ j v e z. elim j as
           (λ k. get_elem? (first ∷ []) k ≡ some v → IsSpent o k v) [
             | zero ↦
@@ -289,5 +308,10 @@ module _ {V : Type 0} where
         | suc i ↦ (λ q. absurd (some-ne-none v (sym q)))
       ] e;
       receipts = λ h. ap (total h) (sym no_records);
+      earned = λ j v e. elim j as (λ k. get_elem? (first ∷ []) k ≡ some v → 0 < v.shares → HasReceipts o k v) [
+        | zero ↦ (λ q. subst (λ (z : View V). 0 < z.shares → HasReceipts o 0 z) (some-injective first v q)
+            (λ _ h. (let none : total h o.records ≡ 0 = ap (total h) no_records in omega arith)))
+        | suc i ↦ (λ q. absurd (some-ne-none v (sym q)))
+      ] e;
     };
   }

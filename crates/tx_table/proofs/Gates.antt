@@ -3,7 +3,7 @@
 -- A gate that is found free gives its base to the seat, whose own world takes its parts and editions from it; so the two worlds have one
 -- base of the collection from then on, as long as the seat has the gate, since nobody else changes it. A base that comes home is the one
 -- that the own world has then.
-use Rattle.std.proofs.Common.{◌≡◌, ◌≢◌, ◌⊎◌, ℕ, zero, suc, ◌+◌, ◌-◌, ◌≤◌, ◌<◌, true, false, eqb, eq-eqb, ne_eqb, eqb-true, List, [], ◌∷◌}
+use Rattle.std.proofs.Common.{◌≡◌, ◌≢◌, ◌⊎◌, ℕ, suc, ◌+◌, ◌-◌, ◌≤◌, ◌<◌, true, false, eqb, eq-eqb, ne_eqb, eqb-true, List, ◌∷◌}
 use Rattle.std.proofs.Common.{◌++◌, length, get_or, set, Option as Maybe, Some, None, inl, inr, ⊎_elim, refl, sym, ap, ◌∙◌, subst, arith}
 use Rattle.std.proofs.Common.{length-set, get_or-set_other, get_or-set_same, true≢false}
 use Rattle.std.specs.Prelude.{if◌then◌else◌, ◌==◌}
@@ -18,6 +18,7 @@ use Rattle.word_machine.proofs.Sets.{put-same}
 use Rattle.seq_model.specs.declared.event.Event.{Event}
 use Rattle.seq_model.specs.declared.event.Event.TheVariants.{Step}
 use Rattle.collection_machine.specs.Boosted.{Action, TakeGate, PutGate, GoHome, is_actor, is_none, is_committing, is_stored}
+use Rattle.seq_model.specs.declared.record.Record.{Record}
 use Rattle.replay_log.specs.declared.base.Base.{Base}
 use Rattle.replay_log.specs.Base.{Shown, editions_of, shown_of, stripes_of}
 use Rattle.replay_log.specs.Parts.{part}
@@ -42,9 +43,9 @@ use Rattle.tx_table.specs.Layout.{address, gate_address, width}
 use Rattle.tx_table.specs.Turns.{Turn, asked_all, stage_of, spot, parts_found, editions_found, found_at, moved, ends, took, lone}
 use Rattle.tx_table.specs.Turns.{turn_events}
 use Rattle.tx_table.specs.Shown.{View, Slot, total, acting, HasHappened, IsBaseAt, OneBase, SameBases, HomeOk, Table, Shows, Rule, Told}
-use Rattle.tx_table.specs.Shown.{Steps, Took}
+use Rattle.tx_table.specs.Shown.{Steps, Took, aborted_by, only_by}
 use Rattle.tx_table.proofs.Numbers.{at_set_same, at_set_other}
-use Rattle.tx_table.proofs.Turned.{asked_calm, asked_alike, found_alike, records_grow}
+use Rattle.tx_table.proofs.Turned.{asked_alike, asked_calm, ends_theirs, found_alike, others_notes, records_grow, turn_notes}
 use Rattle.tx_table.proofs.Keeps.{asked_bases, gate_apart, base_trans, base_sym, calm_base, has_happened, keeps_base, ends_same}
 use Rattle.tx_table.proofs.Keeps.{shows_after}
 use Rattle.tx_table.proofs.Keeps.{run_append, run_own}
@@ -241,6 +242,8 @@ module _ {V : Type 0} where
               let q = h.1 in inr (omega arith, omega arith))
               grow.pays;
         } in
+        let after_notes = turn_notes id w l qs (Gate k) found b mine.alike
+        (record { aborted = mine.aborted; committed = mine.committed }) in
         let now : Shows o u record {
           words = set s.words (gate_address N k) new;
           homes = hs;
@@ -263,8 +266,12 @@ module _ {V : Type 0} where
               (base_trans j alone planted after refl refl (found_base id alone k found b j ne)
               (keeps_base (Gate k) j planted after KP (gate_ne k j ne))))))
               (cases_eq j k));
+          aborted = subst (λ (x : World V). aborted_by id u.aborted ≡ x.aborted) took_is after_notes.aborted;
+          committed = subst (λ (x : World V). (h : ℕ × Record V → ℕ) → total (only_by id h) u.records ≡ total h x.records) took_is
+              after_notes.committed;
         })
         (λ c ne. alike_trans c w w1 u (calm_alike id c ne w w1 g) (others w1 (Step id) c ne))
+        (λ c x ne n. others_notes id c w x qs ne n) (λ h. ends_theirs h id alone)
         (λ c j ne gate. ⊎_elim
         (λ (e : j ≡ k). ⊎_elim
         (λ (sb : OneBase k w1 u). subst (λ (z : ℕ). OneBase z w u) (sym e)

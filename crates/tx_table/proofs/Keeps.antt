@@ -34,9 +34,10 @@ use Rattle.atomic_steps.proofs.Turned.{word_turned}
 use Rattle.tx_table.specs.Layout.{address, gate_address, IsInside, width}
 use Rattle.tx_table.specs.Turns.{Turn, own, asked_all, stage_of, spot, found_at, moved, ends, ends_of, took, lone, turn_events}
 use Rattle.tx_table.specs.Shown.{highest_clock, View, Slot, total, owed, owed_of, acting, HasHappened, OneBase, SameBases, Table, IsOwn}
-use Rattle.tx_table.specs.Shown.{IsJoined, Shows, Rule, Steps, Told}
+use Rattle.tx_table.specs.Shown.{HasReceipts, IsJoined, Shows, Rule, Steps, Told, aborted_by, only_by}
 use Rattle.tx_table.proofs.Numbers.{total_set, total_append, inside, tally_set, tally_below, at_set_same, at_set_other}
-use Rattle.tx_table.proofs.Turned.{lone_snoc, asked_calm, asked_alike, found_alike, word_own, records_grow}
+use Rattle.tx_table.proofs.Turned.{Notes, asked_alike, asked_calm, ends_theirs, found_alike, lone_snoc, others_notes, records_grow}
+use Rattle.tx_table.proofs.Turned.{turn_notes, word_own}
 
 pub owed_some : (k : ℕ) (p : Place) → 0 < k → owed_of k p ≡ stamps_left p
 owed_some zero p h = absurd (omega arith)
@@ -130,16 +131,27 @@ module _ {V : Type 0} where
       → Shows o w s → get_elem? s.views id ≡ some v → 0 < v.shares → (u.words ≡ w.words) × (u.blocks ≡ w.blocks)
       → Table o.words o.blocks u ws hs
       → IsOwn id u (took id (lone id o v.turns) i) → ((b : ℕ) → b ≢ id → Alike b w u)
+      → ((b : ℕ) (l : World V) → b ≢ id → Notes b w l → Notes b u l) → ((h : ℕ × Record V → ℕ) → total (only_by id h) rs ≡ total h rs)
       → ((b j : ℕ) → b ≢ id → is_actor b (w.boosted.gates j) ≡ true → OneBase j w u)
       → Grows id w u → k ≤ u.boosted.words.clock → ((h : ℕ × Record V → ℕ) → total h u.records ≡ total h w.records + total h rs)
       → Shows o u record { words = ws; homes = hs; views = set s.views id (acting v i rs k) }
-  shows_after o w u s id v i rs k ws hs S here live shaped T mine stand based grown known notes =
+  shows_after o w u s id v i rs k ws hs S here live shaped T mine stand noted theirs based grown known notes =
       let vs : List (View V) = s.views in
       let y : View V = acting v i rs k in
       let before = S.own id v here in
       let rises = grown.rises in
       let last : lone id o (v.turns ++ i ∷ []) ≡ took id (lone id o v.turns) i = lone_snoc id v.turns o i in
       let mine_now : IsOwn id u (lone id o (v.turns ++ i ∷ [])) = subst (IsOwn id u) (sym last) mine in
+      let still : (j : ℕ) (x : World V) → j ≢ id → IsOwn j w x → IsOwn j u x =
+      λ j x ne q.
+      (let al = stand j ne in
+      let n = noted j x ne (record { aborted = q.aborted; committed = q.committed }) in record {
+        alike = alike_trans j u w x (alike_sym j w u al) q.alike;
+        out = λ m g. (let g' = al.boosted.gates m ∙ g in base_trans m u w x (sym shaped.0) (sym shaped.1)
+            (base_sym m w u shaped.0 shaped.1 (based j m ne g')) (q.out m g'));
+        aborted = n.aborted;
+        committed = n.committed;
+      }) in
       record {
         shape = (shaped.0 ∙ S.shape.0, shaped.1 ∙ S.shape.1);
         table = T;
@@ -171,14 +183,10 @@ module _ {V : Type 0} where
         own = λ j z e. ⊎_elim
             (λ (t : (j ≡ id) × (y ≡ z)). subst (λ (m : ℕ). IsOwn m u (lone m o z.turns)) (sym t.0)
             (subst (λ (q : View V). IsOwn id u (lone id o q.turns)) t.1 mine_now))
-            (λ (t : (j ≢ id) × (get_elem? vs j ≡ some z)). let q = S.own j z t.1 in let al = stand j t.0 in record {
-              alike = alike_trans j u w (lone j o z.turns) (alike_sym j w u al) q.alike;
-              out = λ m g. (let g' = al.boosted.gates m ∙ g in base_trans m u w (lone j o z.turns) (sym shaped.0) (sym shaped.1)
-                  (base_sym m w u shaped.0 shaped.1 (based j m t.0 g')) (q.out m g'));
-            })
+            (λ (t : (j ≢ id) × (get_elem? vs j ≡ some z)). still j (lone j o z.turns) t.0 (S.own j z t.1))
             (at_set vs id j y z e);
-        fresh = λ a l. (let len = length-set vs id y in let at_id = inside vs id v here in alike_trans a u w o
-            (alike_sym a w u (stand a (λ e. omega arith))) (S.fresh a (omega arith)));
+        fresh = λ a l. (let len = length-set vs id y in let at_id = inside vs id v here in
+            still a o (λ e. omega arith) (S.fresh a (omega arith)));
         spent = λ j z e none. ⊎_elim
             (λ (t : (j ≡ id) × (y ≡ z)). absurd (let q : v.shares ≡ z.shares = ap (λ (p : View V). p.shares) t.1 in omega arith))
             (λ (t : (j ≢ id) × (get_elem? vs j ≡ some z)). S.spent j z t.1 none) (at_set vs id j y z e);
@@ -194,6 +202,16 @@ module _ {V : Type 0} where
             let g = total_append h v.receipts rs in
             let a = S.receipts h in
             let b = notes h in omega arith);
+        earned = λ j z e some_shares. ⊎_elim
+            (λ (t : (j ≡ id) × (y ≡ z)). subst (λ (m : ℕ). HasReceipts o m z) (sym t.0)
+            (subst (HasReceipts o id) t.1 (λ h.
+            (let old = S.earned id v here live h in
+            let append = total_append h v.receipts rs in
+            let seen = mine_now.committed h in
+            let was = before.committed h in
+            let grew = notes (only_by id h) in
+            let own = theirs h in omega arith))))
+            (λ (t : (j ≢ id) × (get_elem? vs j ≡ some z)). S.earned j z t.1 some_shares) (at_set vs id j y z e);
       }
 
   pub run_append : (es fs : List (Event V)) (w : World V) → run w (es ++ fs) ≡ run (run w es) fs
@@ -320,6 +338,8 @@ module _ {V : Type 0} where
               let q = h.1 in inr (omega arith, omega arith))
               pays;
         } in
+        let after_notes = turn_notes id w l qs (Word c) (cell w1.boosted.words c) None mine.alike
+        (record { aborted = mine.aborted; committed = mine.committed }) in
         let new_is : f found ≡ cell u.boosted.words c =
         sym (is s rule) ∙ ((λ j. becomes (sym (deed_same id w1 alone al1) j) (found1 j)) ∙ sym turn.0) in
         let now : Shows o u (stepped s (address N c) (f found) id m.1 v keeps) =
@@ -334,8 +354,12 @@ module _ {V : Type 0} where
               (base_trans k w l after (sym mine.alike.words) (sym mine.alike.blocks) (mine.out k gate_w)
               (base_trans k l alone after gl.words gl.blocks (calm_base id k l alone gl)
               (keeps_base (Word c) k planted after KP (λ e. cc)))));
+          aborted = subst (λ (x : World V). aborted_by id u.aborted ≡ x.aborted) took_is after_notes.aborted;
+          committed = subst (λ (x : World V). (h : ℕ × Record V → ℕ) → total (only_by id h) u.records ≡ total h x.records) took_is
+              after_notes.committed;
         })
         (λ b ne. alike_trans b w w1 u (calm_alike id b ne w w1 g) (others w1 (Step id) b ne))
+        (λ b x ne n. others_notes id b w x qs ne n) (λ h. ends_theirs h id alone)
         (λ b j ne gate. keeps_base (Word c) j w u K (λ e. cc))
         grown
         (subst (λ (k : ℕ). kf k ≤ u.boosted.words.clock) (sym word_is)

@@ -17,7 +17,7 @@ use Rattle.replay_log.specs.WorldSerial.{AreUpTo}
 use Rattle.tx_table.specs.declared.view.Opening.{Opening}
 use Rattle.tx_table.specs.Opening.{Holds, blocks_at, locations_at, words_at, world_at}
 use Rattle.tx_table.specs.Turns.{Turn, lone}
-use Rattle.tx_table.specs.Shown.{highest_clock, View, Slot, Closes, ShowsWorld, IsJoined, IsOwn, IsSpent, Shows}
+use Rattle.tx_table.specs.Shown.{highest_clock, View, Slot, Closes, ShowsWorld, HasReceipts, IsJoined, IsOwn, IsSpent, Shows}
 use Rattle.tx_table.specs.Shown.{total, owed, looking, left_of, right_of, both_of}
 use Rattle.tx_table.specs.Shown.{spent_of}
 use Rattle.tx_table.specs.Seated.{Rests}
@@ -124,6 +124,10 @@ module _ {V : Type 0} where
               (λ (t : (j ≢ id) × (get_elem? vs j ≡ some z)). old j z t.1 lt) (at_set vs id j v z e));
           receipts = λ f. (let t = total_set (λ (z : View V). total f z.receipts) vs id m.0 v here in
               let a = S.receipts f in omega arith);
+          earned = λ j z e some_shares. ⊎_elim
+              (λ (t : (j ≡ id) × (v ≡ z)). subst (λ (p : ℕ × View V). HasReceipts o p.0 p.1) (λ i. (sym t.0 i, t.1 i))
+              (S.earned id m.0 here (let q : m.0.shares ≡ z.shares = ap (λ (p : View V). p.shares) t.1 in omega arith)))
+              (λ (t : (j ≢ id) × (get_elem? vs j ≡ some z)). S.earned j z t.1 some_shares) (at_set vs id j v z e);
         },
         (refl, omega arith, omega arith),
       )

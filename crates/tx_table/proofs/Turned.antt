@@ -4,7 +4,9 @@
 -- in the own world the number that was planted there, so it leaves and tells the same in both (`own_event`). The records grow by what
 -- the step commits.
 use Rattle.std.proofs.Common.{◌≡◌, ℕ, ◌+◌, true, false, List, [], ◌∷◌, ◌++◌, Option, Some, None, refl, sym, ap, ◌∙◌, subst, arith}
-use Rattle.std.proofs.lemmas.Bool.{cond_both}
+use Rattle.std.proofs.Common.{◌≢◌, append-nil, eq-eqb, ne_eqb}
+use Rattle.std.specs.Prelude.{◌==◌}
+use Rattle.std.proofs.lemmas.Bool.{cond_both, cond-false, cond-true}
 use Rattle.word_machine.specs.Requests as word
 use Rattle.word_machine.specs.World as machine
 use Rattle.word_machine.specs.Cells.{Cell, cell, word_of}
@@ -15,18 +17,19 @@ use Rattle.seq_model.specs.Runs.{comes_before, insert_record}
 use Rattle.collection_machine.specs.Boosted.{Action, OnWords, TakeGate, PutGate, Accept, GoHome}
 use Rattle.replay_log.specs.declared.base.Base.{Base}
 use Rattle.replay_log.specs.Contents.{Asked}
-use Rattle.replay_log.specs.Seats.{World, Seat, Stage, Closing, Copying, Leaving, Ready, acted, asks}
+use Rattle.replay_log.specs.Seats.{World, Ended, Seat, Stage, Closing, Copying, Leaving, Ready, acted, asks}
+use Rattle.replay_log.specs.WorldTraces.{ended_by}
 use Rattle.replay_log.specs.Worlds.{happens}
 use Rattle.atomic_steps.specs.Machine.{SameWord}
 use Rattle.atomic_steps.specs.Own.{Alike, SameAfter, FindsBy, FindsAt}
-use Rattle.atomic_steps.specs.Spots.{Spot, Word, spot_of, deed_of, word_spot, spot_by, spot_at}
+use Rattle.atomic_steps.specs.Spots.{Spot, Nowhere, Word, Gate, spot_of, deed_of, word_spot, spot_by, spot_at}
 use Rattle.atomic_steps.specs.Steps.{OnlyOwn, Does, atomic_action, ready_at, ended_at}
 use Rattle.atomic_steps.proofs.Alone.{planted_word, planted_alike}
 use Rattle.atomic_steps.proofs.OneStep.{one_step, nothing, through, ask_calm}
 use Rattle.atomic_steps.proofs.OwnEvents.{own_event}
 use Rattle.tx_table.specs.Turns.{Turn, own, asked_all, stage_of, spot, first_at, parts_found, editions_found, found_at, took, lone, ends_of}
 use Rattle.tx_table.specs.Turns.{ends}
-use Rattle.tx_table.specs.Shown.{total}
+use Rattle.tx_table.specs.Shown.{aborted_by, only_by, total}
 
 module _ {V : Type 0} where
   pub lone_snoc : (a : ℕ) (is : List (Turn V)) (w : World V) (i : Turn V) → lone a w (is ++ i ∷ []) ≡ took a (lone a w is) i
@@ -139,3 +142,129 @@ module _ {V : Type 0} where
       step_records h a (ready_at a v (stage_of v a)) v (happens v (Step a)).0 (v.seats a) (stage_of v a)
       (atomic_action a v (stage_of v a)) refl (one_step v (Step a))
       ∙ ap (λ (rs : List (ℕ × Record V)). total h rs + total h (ends a v)) (ready_records a v (stage_of v a))
+
+  -- ---- aborted transactions
+  -- a stage at which no action is due ends nothing
+  none_aborted : (a : ℕ) (v : World V) (x : Seat V) (p : Stage V) → atomic_action a v p ≡ None → ended_by a x p ≡ []
+  none_aborted a v x Leaving e = absurd (let z : ⊥ = cc in z)
+  none_aborted a v x p e = refl
+
+  ended_aborted : (a : ℕ) (t : World V) (x : Seat V) (p : Stage V) → (ended_at a x p t).aborted ≡ t.aborted ++ ended_by a x p
+  ended_aborted a t x (Ready ks) = sym (append-nil t.aborted)
+  ended_aborted a t x Closing = sym (append-nil t.aborted)
+  ended_aborted a t x Leaving = refl
+  ended_aborted a t x p = sym (append-nil t.aborted)
+
+  step_aborted : (a : ℕ) (r v u : World V) (x : Seat V) (p : Stage V) (d : Option (Action (Asked V))) → atomic_action a v p ≡ d
+      → Does a r x p d u → u.aborted ≡ r.aborted ++ ended_by a x p
+  step_aborted a r v u x p None e g =
+      g.aborted ∙ (sym (append-nil r.aborted) ∙ ap (λ (es : List (Ended V)). r.aborted ++ es) (sym (none_aborted a v x p e)))
+  step_aborted a r v u x p (Some d) e (at, g) = g.aborted ∙ ended_aborted a (acted r (d ∷ [])) x p
+
+  ready_aborted : (a : ℕ) (v : World V) (p : Stage V) → (ready_at a v p).aborted ≡ v.aborted
+  ready_aborted a v (Ready ks) = refl
+  ready_aborted a v p = refl
+
+  pub aborted_grow : (a : ℕ) (v : World V) → (happens v (Step a)).0.aborted ≡ v.aborted ++ ended_by a (v.seats a) (stage_of v a)
+  aborted_grow a v =
+      step_aborted a (ready_at a v (stage_of v a)) v (happens v (Step a)).0 (v.seats a) (stage_of v a)
+      (atomic_action a v (stage_of v a)) refl (one_step v (Step a))
+      ∙ ap (λ (es : List (Ended V)). es ++ ended_by a (v.seats a) (stage_of v a)) (ready_aborted a v (stage_of v a))
+
+  -- ---- which are whose
+  aborted_append : (a : ℕ) (es fs : List (Ended V)) → aborted_by a (es ++ fs) ≡ aborted_by a es ++ aborted_by a fs
+  aborted_append a [] fs = refl
+  aborted_append a (e ∷ es) fs =
+      cond_both (e.actor == a) (e ∷ aborted_by a (es ++ fs)) (aborted_by a (es ++ fs))
+      (λ (z : List (Ended V)). z ≡ aborted_by a (e ∷ es) ++ aborted_by a fs)
+      (λ t. sym (ap (λ (z : List (Ended V)). z ++ aborted_by a fs)
+      (cond-true {A = List (Ended V)} (e.actor == a) (e ∷ aborted_by a es) (aborted_by a es) t)
+      ∙ ap (λ (z : List (Ended V)). e ∷ z) (sym (aborted_append a es fs))))
+      (λ f. sym (ap (λ (z : List (Ended V)). z ++ aborted_by a fs)
+      (cond-false {A = List (Ended V)} (e.actor == a) (e ∷ aborted_by a es) (aborted_by a es) f)
+      ∙ sym (aborted_append a es fs)))
+
+  ended_mine : (a : ℕ) (x : Seat V) (p : Stage V) → aborted_by a (ended_by a x p) ≡ ended_by a x p
+  ended_mine a x Leaving =
+      cond-true {A = List (Ended V)} (a == a) (ended_by a x Leaving) [] (eq-eqb a a refl)
+  ended_mine a x p = refl
+
+  ended_others : (a b : ℕ) (x : Seat V) (p : Stage V) → b ≢ a → aborted_by b (ended_by a x p) ≡ []
+  ended_others a b x Leaving ne =
+      cond-false {A = List (Ended V)} (a == b) (ended_by a x Leaving) [] (ne_eqb a b (λ e. ne (sym e)))
+  ended_others a b x p ne = refl
+
+  ends_mine : (h : ℕ × Record V → ℕ) (a : ℕ) (x : Seat V) (p : Stage V) → total (only_by a h) (ends_of a x p) ≡ total h (ends_of a x p)
+  ends_mine h a x (Ready ks) =
+      let r : ℕ × Record V = (a, record { number = x.wv; writes = true; calls = x.calls }) in
+      let e : only_by a h r ≡ h r = cond-true {A = ℕ} (a == a) (h r) 0 (eq-eqb a a refl) in omega arith
+  ends_mine h a x Closing =
+      let r : ℕ × Record V = (a, record { number = x.rv; writes = false; calls = x.calls }) in
+      let e : only_by a h r ≡ h r = cond-true {A = ℕ} (a == a) (h r) 0 (eq-eqb a a refl) in omega arith
+  ends_mine h a x p = refl
+
+  ends_others : (h : ℕ × Record V → ℕ) (a b : ℕ) (x : Seat V) (p : Stage V) → b ≢ a → total (only_by b h) (ends_of a x p) ≡ 0
+  ends_others h a b x (Ready ks) ne =
+      let r : ℕ × Record V = (a, record { number = x.wv; writes = true; calls = x.calls }) in
+      let e : only_by b h r ≡ 0 = cond-false {A = ℕ} (a == b) (h r) 0 (ne_eqb a b (λ e. ne (sym e))) in omega arith
+  ends_others h a b x Closing ne =
+      let r : ℕ × Record V = (a, record { number = x.rv; writes = false; calls = x.calls }) in
+      let e : only_by b h r ≡ 0 = cond-false {A = ℕ} (a == b) (h r) 0 (ne_eqb a b (λ e. ne (sym e))) in omega arith
+  ends_others h a b x p ne = refl
+
+  -- what is found leaves the records and the aborted transactions
+  planted_notes : (a : ℕ) (w : World V) (s : Spot) (n : ℕ) (b : Option (Base V))
+      → ((found_at a w s n b).records ≡ w.records) × ((found_at a w s n b).aborted ≡ w.aborted)
+  planted_notes a w Nowhere n b = (refl, refl)
+  planted_notes a w (Word c) n b = (refl, refl)
+  planted_notes a w (Gate k) n b = (refl, refl)
+
+  -- ---- what is noted of the actor whose turn it is, in the world and in its own, and what of the others
+  pub record Notes (a : ℕ) (w l : World V) : Type 0 where
+    pub aborted : aborted_by a w.aborted ≡ l.aborted
+    pub committed : (h : ℕ × Record V → ℕ) → total (only_by a h) w.records ≡ total h l.records
+
+  pub turn_notes : (a : ℕ) (w l : World V) (qs : List (Event V)) (s : Spot) (n : ℕ) (b : Option (Base V)) → Alike a w l → Notes a w l
+      → Notes a (happens (asked_all a w qs) (Step a)).0 (happens (found_at a (asked_all a l qs) s n b) (Step a)).0
+  turn_notes a w l qs s n b alike notes =
+      let w1 = asked_all a w qs in
+      let l1 = asked_all a l qs in
+      let p = found_at a l1 s n b in
+      let g = asked_calm a qs w in
+      let gl = asked_calm a qs l in
+      let q = planted_notes a l1 s n b in
+      let same : Alike a w1 p = found_alike a w1 l1 s n b (asked_alike a qs w l alike) in
+      let x = w1.seats a in record {
+        aborted = ap (aborted_by a) (aborted_grow a w1)
+            ∙ (aborted_append a w1.aborted (ended_by a x x.stage)
+            ∙ ((λ i. ((ap (aborted_by a) g.aborted ∙ (notes.aborted ∙ (sym gl.aborted ∙ sym q.1))) i) ++ ended_mine a x x.stage i)
+            ∙ (ap (λ (y : Seat V). p.aborted ++ ended_by a y y.stage) same.seat ∙ sym (aborted_grow a p))));
+        committed = λ h.
+            (let c = records_grow (only_by a h) a w1 in
+            let d = records_grow h a p in
+            let e = ends_mine h a x x.stage in
+            let f : total (only_by a h) w1.records ≡ total (only_by a h) w.records = ap (total (only_by a h)) g.records in
+            let k : total h p.records ≡ total h l.records = ap (total h) (q.0 ∙ gl.records) in
+            let m : total h (ends_of a x x.stage) ≡ total h (ends a p) = ap (λ (y : Seat V). total h (ends_of a y y.stage)) same.seat in
+            let z = notes.committed h in omega arith);
+      }
+
+  pub others_notes : (a b : ℕ) (w l : World V) (qs : List (Event V)) → b ≢ a → Notes b w l
+      → Notes b (happens (asked_all a w qs) (Step a)).0 l
+  others_notes a b w l qs ne notes =
+      let w1 = asked_all a w qs in
+      let g = asked_calm a qs w in
+      let x = w1.seats a in record {
+        aborted = ap (aborted_by b) (aborted_grow a w1)
+            ∙ (aborted_append b w1.aborted (ended_by a x x.stage)
+            ∙ ((λ i. (ap (aborted_by b) g.aborted ∙ notes.aborted) i ++ ended_others a b x x.stage ne i) ∙ append-nil l.aborted));
+        committed = λ h.
+            (let c = records_grow (only_by b h) a w1 in
+            let e = ends_others h a b x x.stage ne in
+            let f : total (only_by b h) w1.records ≡ total (only_by b h) w.records = ap (total (only_by b h)) g.records in
+            let z = notes.committed h in omega arith);
+      }
+
+  -- a turn's commits are its actor's
+  pub ends_theirs : (h : ℕ × Record V → ℕ) (a : ℕ) (v : World V) → total (only_by a h) (ends a v) ≡ total h (ends a v)
+  ends_theirs h a v = ends_mine h a (v.seats a) (stage_of v a)

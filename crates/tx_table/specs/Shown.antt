@@ -3,7 +3,7 @@
 -- A gate and the base of its collection go together: the base lies in its slot while the gate is free, and is out with the seat that has
 -- the gate. Each seat's actor knows the world in which it is alone with what it found.
 use Rattle.std.specs.Prelude.{◌≡◌, ◌⊎◌, ℕ, zero, suc, ◌+◌, ◌-◌, ◌^◌, ◌<◌, ◌≤◌, true, false, max, All, List, [], ◌∷◌, ◌++◌, drop, map}
-use Rattle.std.specs.Prelude.{take, length, get_or, slice_get, Option as Maybe, Some, None}
+use Rattle.std.specs.Prelude.{take, length, get_or, slice_get, Option as Maybe, Some, None, ◌==◌, if◌then◌else◌}
 use mathlib.Core.Option.{Option, none, some}
 use lib.ListN.{get_elem?}
 use Rattle.atomic_table.specs.Table.{Act, Me, State, Valid, carried_after, stepped}
@@ -22,7 +22,7 @@ use Rattle.replay_log.specs.Collections.{Suit, shown_at}
 use Rattle.seq_model.specs.Calls.{IsWithinLimits}
 use Rattle.seq_model.specs.Contents.{Contents}
 use Rattle.seq_model.specs.Runs.{IsInCommitOrder, IsRun, after_run}
-use Rattle.replay_log.specs.Seats.{World, actor_of}
+use Rattle.replay_log.specs.Seats.{Ended, World, actor_of}
 use Rattle.replay_log.specs.Worlds.{happens, opened, run}
 use Rattle.replay_log.specs.WorldSerial.{AreUpTo}
 use Rattle.replay_log.specs.WorldTraces.{is_half_done}
@@ -111,10 +111,27 @@ module _ {V : Type 0} where
   abbrev pub SameBases : ℕ → World V → World V → Type 0
   SameBases a w u = (k : ℕ) → is_actor a (w.boosted.gates k) ≡ true → OneBase k w u
 
-  -- the record of actor j is that of the world o, in which it is alone with what it found: also the bases that it took out
+  -- the aborted transactions of actor j among these, in their order
+  abbrev pub aborted_by : ℕ → List (Ended V) → List (Ended V)
+  aborted_by j [] = []
+  aborted_by j (e ∷ es) = if e.actor == j then e ∷ aborted_by j es else aborted_by j es
+
+  -- a weight of records that counts those of actor j alone
+  abbrev pub only_by : ℕ → (ℕ × Record V → ℕ) → ℕ × Record V → ℕ
+  only_by j h r = if r.0 == j then h r else 0
+
+  -- The record of actor j is that of the world o, in which it is alone with what it found: also the bases that it took out, and the
+  -- transactions that it has aborted and committed, each once.
   pub record IsOwn (j : ℕ) (w o : World V) : Type 0 where
     pub alike : Alike j w o
     pub out : SameBases j w o
+    pub aborted : aborted_by j w.aborted ≡ o.aborted
+    pub committed : (h : ℕ × Record V → ℕ) → total (only_by j h) w.records ≡ total h o.records
+
+  -- the receipts of the seat of j are what the actors for which it stands have committed: its own, and those whose seats were joined into it
+  abbrev pub HasReceipts : World V → ℕ → View V → Type 0
+  HasReceipts o j v = (h : ℕ × Record V → ℕ)
+      → total h v.receipts ≡ total h (lone j o v.turns).records + total (λ p. total h (lone p.0 o p.1).records) v.joined
 
   -- what is left of a seat that was joined into another
   pub record IsSpent (o : World V) (j : ℕ) (v : View V) : Type 0 where
@@ -126,8 +143,8 @@ module _ {V : Type 0} where
   abbrev pub IsJoined : List (View V) → ℕ × List (Turn V) → Type 0
   IsJoined views p = (u : View V) × (get_elem? views p.0 ≡ some u) × (u.shares ≡ 0) × (u.turns ≡ p.1)
 
-  -- The table, opened with o, shows w in s: its words, gates and bases, each actor as its seat's own world has it, and all records. A seat
-  -- has the turns of those that were joined into it.
+  -- The table, opened with o, shows w in s: its words, gates and bases, each actor as its seat's own world has it, with the transactions that
+  -- it has committed and aborted, and all records. A seat has the turns of those that were joined into it, and their receipts.
   pub record Shows (o w : World V) (s : State (Slot V) (View V)) : Type 0 where
     pub shape : (w.words ≡ o.words) × (w.blocks ≡ o.blocks)
     pub table : Table o.words o.blocks w s.words s.homes
@@ -135,10 +152,11 @@ module _ {V : Type 0} where
     pub room : w.boosted.words.clock + tally (owed o) 0 s.views ≤ highest_clock
     pub shares : total (λ v. v.shares) s.views ≡ SHARES
     pub own : (j : ℕ) (v : View V) → get_elem? s.views j ≡ some v → IsOwn j w (lone j o v.turns)
-    pub fresh : (a : ℕ) → length s.views ≤ a → Alike a w o
+    pub fresh : (a : ℕ) → length s.views ≤ a → IsOwn a w o
     pub spent : (j : ℕ) (v : View V) → get_elem? s.views j ≡ some v → v.shares ≡ 0 → IsSpent o j v
     pub joined : (j : ℕ) (v : View V) → get_elem? s.views j ≡ some v → All (IsJoined s.views) v.joined
     pub receipts : (h : ℕ × Record V → ℕ) → total (λ v. total h v.receipts) s.views ≡ total h w.records
+    pub earned : (j : ℕ) (v : View V) → get_elem? s.views j ≡ some v → 0 < v.shares → HasReceipts o j v
 
   -- some list of events reaches, from the opening o, a world that the table shows
   pub record Rule (o : World V) (s : State (Slot V) (View V)) : Type 0 where
@@ -224,8 +242,10 @@ module _ {V : Type 0} where
   abbrev pub spent_of : View V → View V
   spent_of u = record { shares = 0; clock = 0; turns = u.turns; receipts = []; joined = []; looks = [] }
 
-  -- nothing is under way
+  -- nothing has happened yet
   pub record IsOpening (o : World V) : Type 0 where
+    pub records : o.records ≡ []
+    pub aborted : o.aborted ≡ []
     pub free : (k : ℕ) → o.boosted.gates k ≡ None
     pub rests : (a : ℕ) → stamps_left (actor_of o a).place ≡ 0
     pub idle : (a : ℕ) → is_half_done (stage_of o a) ≡ false
