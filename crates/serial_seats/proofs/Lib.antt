@@ -4,3 +4,5 @@ pub mod TriedLemmas
 pub mod HeldLemmas
 pub mod RefusedLemmas
 pub mod StepLemmas
+pub mod WeightLemmas
+pub mod ShownLemmas

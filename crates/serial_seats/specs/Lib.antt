@@ -2,3 +2,4 @@ pub mod Seats
 pub mod Tries
 pub mod Refused
 pub mod Steps
+pub mod Records

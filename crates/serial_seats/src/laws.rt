@@ -19,6 +19,7 @@ ghost use Rattle.driven_turns.specs.Driven.{HasTold};
 ghost use Rattle.transactions.specs.Ready.{IsReady};
 ghost use Rattle.transactions.specs.Requests.{IsFoundAndTold};
 ghost use Rattle.transactions.specs.declared.seats.TxSeat.{TxSeat};
+ghost use Rattle.serial_seats.specs.Records.{ShowsSeats};
 ghost use Rattle.serial_seats.specs.Refused.{GaveUp, GaveUpFor, IsEndTold, IsGivenUpFor};
 ghost use Rattle.serial_seats.specs.Seats.{HoldsNothing, SeesOneState};
 ghost use Rattle.serial_seats.specs.Steps.{IsSerialBetweenSteps};
@@ -43,6 +44,16 @@ pub fn worlds_are_serial<V: Value>()
 pub fn tables_are_serial<V: Value>()
     ensures { (opening : Opening V) (s : State (Slot V) (View V)) (rule : Holds opening s) →
         IsSerialBetweenSteps opening rule.rule.events s }
+{
+    worlds_are_serial::<V>();
+}
+
+/// Between any two atomic steps of a table: the aborted transactions of each actor for which a seat stands are, in the world that the table
+/// shows, those of the actor's own world, and each saw only the state there at the number that it began with; the receipts of a seat are
+/// what these actors have committed there, each once; and what its actor has asked since its last step is answered there at once, by the
+/// state at the number of its transaction.
+pub fn tables_show_their_seats<V: Value>()
+    ensures { (opening : Opening V) (s : State (Slot V) (View V)) (rule : Holds opening s) → ShowsSeats opening rule.rule.events s }
 {
     worlds_are_serial::<V>();
 }
