@@ -19,7 +19,7 @@ use Rattle.replay_log.proofs.EventLemmas.{opened_linked, run_linked}
 use Rattle.replay_log.proofs.RefusalLemmas.{keeps_cause, world_causes}
 use Rattle.replay_log.proofs.SeatLemmas.{Linked, StageOk}
 use Rattle.replay_log.specs.Seats.{World, After, Stage, Seat, Beginning, Cancelling, Closing, Leaving, Ready, Returning, actor_of}
-use Rattle.replay_log.specs.Worlds.{happens, run}
+use Rattle.replay_log.specs.Worlds.{happens, run, why}
 use Rattle.replay_log.specs.WorldAnswers.{IsRefusedAt, RefusedBy}
 use Rattle.replay_log.specs.WorldRefusals.{IsCause, is_ending}
 use Rattle.replay_log.specs.WorldTraces.{committed_by}
@@ -42,11 +42,12 @@ use Rattle.tx_phases.specs.Courses.{ComesTo, IsUnderWay, IsUnderWayFrom, latest}
 use Rattle.tx_phases.specs.Phases.{Phase, Rests, Begins, Stands, Calls, Commits, Committed, Ends, IsMistaken, StepMoves, phase, phase_at}
 use Rattle.driven_turns.proofs.CauseLemmas.{IsOfCommit, call_cause, commit_cause}
 use Rattle.driven_turns.proofs.DeclaredLemmas.{begin_declared}
+use Rattle.driven_turns.proofs.EndedLemmas.{IsGoing, ends_from, none_added, one_added, quiet_going, why_told}
 use Rattle.driven_turns.proofs.KeptLemmas.{Keeps, steps_keep}
 use Rattle.driven_turns.proofs.RequestedLemmas.{turn_requests}
 use Rattle.driven_turns.proofs.StampLemmas.{begun_clock, exhausted_clock, numbered, stamped_step}
 use Rattle.driven_turns.proofs.WritingLemmas.{commits_first, is_commit, is_one, written_on}
-use Rattle.driven_turns.specs.Driven.{Driven, HasFound, IsNumberOf, IsReason, IsStamped, IsTrue, IsTurnFrom, IsWritten, KnowsNumber}
+use Rattle.driven_turns.specs.Driven.{AddsAborted, Driven, HasFound, IsNumberOf, IsReason, IsStamped, IsTrue, IsTurnFrom, IsWritten, KnowsNumber}
 use Rattle.driven_turns.specs.Driven.{as_receipts, is_declared, seat_in, standing}
 use Rattle.tx_threads.proofs.OwnLemmas.{own_ok}
 use Rattle.tx_turns.proofs.TurnLemmas.{ends_as as commits_as}
@@ -159,6 +160,11 @@ module _ {V : Type 0} where
     stamped = λ knows. knows;
     numbered = λ knows r none. absurd (let z : ⊥ = cc in z);
     asks = refl;
+    aborted = record {
+      calls = λ _ _. refl;
+      quiet = λ _. refl;
+      ended = λ cause is _ _. absurd (why_told (seated.actor s) cause (sym is));
+    };
   }
 
   -- ---- one turn more
@@ -335,9 +341,55 @@ module _ {V : Type 0} where
         let kept = steps_keep v a (λ e. goes.0 (ap phase (sym x_is) ∙ e)) in
         kept_by kept ∙ (ap (λ (k : Seat V). k.rv) x_is ∙ D.began isnt goes.1)
       where
-        kept_by : Keeps x.rv (after.0.seats a) → (seat_in o z).rv ≡ x.rv
-        kept_by (inl e) = ap (λ (k : Seat V). k.rv) (sym y_is) ∙ e
-        kept_by (inr e) = absurd (rest (ap phase (sym y_is) ∙ e))
+        kept_by : Keeps x (after.0.seats a) → (seat_in o z).rv ≡ x.rv
+        kept_by (inl e) = ap (λ (k : Seat V). k.rv) (sym y_is) ∙ e.0
+        kept_by (inr (inl e)) = ap (λ (k : Seat V). k.rv) (sym y_is) ∙ e.0
+        kept_by (inr (inr e)) = absurd (rest (ap phase (sym y_is) ∙ e))
+
+    -- ---- its calls, and the aborted transactions
+    goes : (standing o s ≡ Begins → ⊥) → (standing o u ≡ Begins → ⊥) × (standing o u ≡ Rests → ⊥)
+    goes isnt = under_goes (seat_in o s) (seat_in o u) d (phase (seat_in o s)) D.comes isnt
+
+    calls_stay : n ≡ told.Quiet → (standing o s ≡ Begins → ⊥) → (seat_in o z).calls ≡ (seat_in o s).calls
+    calls_stay quiet isnt =
+        kept_by (steps_keep v a (λ e. (goes isnt).0 (ap phase (sym x_is) ∙ e)))
+      where
+        going : IsGoing (phase (after.0.seats a))
+        going =
+            quiet_going (standing o u) (is_some (committed_by x x.stage)) (phase (after.0.seats a))
+            (subst (λ (k : Phase V × Notice V). StepMoves k.0 (is_some (committed_by x x.stage)) k.1 (phase (after.0.seats a)))
+            (λ i. (ap phase x_is i, (told_is ∙ ap (notice_of a) quiet) i)) (steps_move v a))
+            (goes isnt).0 (goes isnt).1
+
+        before : (seat_in o u).calls ≡ (seat_in o s).calls
+        before = D.aborted.calls refl isnt
+
+        kept_by : Keeps x (after.0.seats a) → (seat_in o z).calls ≡ (seat_in o s).calls
+        kept_by (inl e) = ap (λ (k : Seat V). k.calls) (sym y_is) ∙ (e.1 ∙ (ap (λ (k : Seat V). k.calls) x_is ∙ before))
+        kept_by (inr (inl e)) = absurd (subst IsGoing (ap (phase_at (after.0.seats a).calls) e.1) going)
+        kept_by (inr (inr e)) = absurd (subst IsGoing e going)
+
+    adds_aborted : AddsAborted o s z n
+    adds_aborted = record {
+      calls = calls_stay;
+      quiet = λ q. ap (λ (w : World V). w.aborted) T.takes.own
+          ∙ (none_added v (acts o u) a T.found T.base x_is (told_is ∙ ap (notice_of a) q) ∙ D.aborted.quiet refl);
+      ended = λ cause is rests isnt.
+          (let tells : after.1 ≡ why a cause =
+          subst (λ (k : ℕ). after.1 ≡ why k cause) (sym same) (told_is ∙ (ap (λ (k : ℕ). notice_of k n) same ∙ is)) in
+          let on = goes isnt in
+          let ends : standing o u ≡ Ends =
+          ends_from (standing o u) (is_some (committed_by x x.stage)) a cause (phase (after.0.seats a))
+          (subst (λ (k : Phase V × Notice V). StepMoves k.0 (is_some (committed_by x x.stage)) k.1 (phase (after.0.seats a)))
+          (λ i. (ap phase x_is i, tells i)) (steps_move v a))
+          (ap phase y_is ∙ rests) on.0 on.1 in
+          let added = one_added v (acts o u) a T.found T.base cause x_is (ends_at x (ap phase x_is ∙ ends)) tells in
+          let began = D.began isnt on.1 in
+          let calls = D.aborted.calls refl isnt in
+          ap (λ (w : World V). w.aborted) T.takes.own
+          ∙ (added
+          ∙ (λ i. D.aborted.quiet refl i ++ record { actor = same i; rv = began i; calls = calls i; cause = cause } ∷ [])));
+    }
 
     -- and so does what its begin has asked
     declared_stays : standing o s ≡ Begins → (standing o z ≡ Rests → ⊥) → is_declared o z ≡ is_declared o s
@@ -433,4 +485,5 @@ module _ {V : Type 0} where
           asks = turn_requests u z (record { asks = list_of u.asked; found = T.found; base = T.base })
               (ap (λ (k : View V). k.turns) T.takes.turn) refl T.takes.none
               ∙ D.asks;
+          aborted = adds_aborted;
         }

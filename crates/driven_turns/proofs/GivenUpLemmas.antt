@@ -24,6 +24,7 @@ use Rattle.actor_turns.proofs.SeatLemmas.{next_as}
 use Rattle.tx_actor.specs.Running.{notice_of, stage_of}
 use Rattle.tx_actor.specs.declared.actor.Told.{Told}
 use Rattle.tx_actor.specs.declared.actor.Told.TheVariants as told
+use Rattle.atomic_steps.proofs.OneStep.{one_step}
 use Rattle.tx_table.specs.declared.seat.Seat as table
 use Rattle.tx_actor.specs.declared.actor.TxActor.{TxActor}
 use Rattle.tx_table.specs.declared.table.TxTable.{TxTable}
@@ -36,6 +37,7 @@ use Rattle.tx_turns.specs.Asked.{Starved}
 use Rattle.tx_turns.specs.Ties.{Ties}
 use Rattle.driven_turns.proofs.RequestedLemmas.{taken_requests}
 use Rattle.driven_turns.proofs.DrivenLemmas.{driven_on}
+use Rattle.driven_turns.proofs.KeptLemmas.{Keeps, Same, starves_keep}
 use Rattle.driven_turns.proofs.NextLemmas.{IsHalfway, load_wants, turn_wants, wants_halfway}
 use Rattle.driven_turns.proofs.SinceLemmas.{told_back}
 use Rattle.gate_turns.specs.Refused.{IsGivenUp}
@@ -201,4 +203,39 @@ module _ {V : Type 0} where
           stamped = λ _ calls e. absurd (no_commit (phase (seat_in o z)) calls rests e);
           numbered = λ _ r none. absurd (let f : ⊥ = cc in f);
           asks = D.asks ∙ (taken_requests m u (Starve 0) S.starved.taken ∙ (append-nil (requests_of m) ∙ S.driven.asks));
+          aborted = record {
+            calls = λ quiet. absurd (ne quiet);
+            quiet = λ quiet. absurd (ne quiet);
+            ended = λ cause is over isnt.
+                (let added = D.aborted.ended cause (subst (λ (k : ℕ). notice_of k n ≡ why k cause) (sym same) is) over
+                (λ e. (let f : Ends ≡ Begins = sym stopped_ends ∙ e in cc)) in
+                let began : (seat_in o u).rv ≡ (seat_in o s).rv = starved_same.0 ∙ S.driven.began isnt goes_on in
+                let calls : (seat_in o u).calls ≡ (seat_in o s).calls = starved_same.1 ∙ S.driven.aborted.calls refl isnt in
+                added ∙ (λ i. (starved_aborted ∙ S.driven.aborted.quiet refl) i
+                ++ record { actor = same i; rv = began i; calls = calls i; cause = cause } ∷ []));
+          };
         }
+      where
+        goes_on : standing o m ≡ Rests → ⊥
+        goes_on e = subst IsHalfway e (wants_halfway (seat_in o m).calls (seat_in o m).stage S.wants)
+
+        starved_aborted : (acts o u).aborted ≡ (acts o m).aborted
+        starved_aborted = ap (λ (w : World V). w.aborted) S.starved.own ∙ (one_step (acts o m) (Starve (seated.actor m))).aborted
+
+        starved_same : Same (seat_in o m) (seat_in o u)
+        starved_same =
+            subst (Same (seat_in o m)) (λ i. (sym S.starved.own i).seats (sym S.starved.taken.0.1 i))
+            (kept_by (starves_keep (acts o m) (seated.actor m) S.wants))
+          where
+            up_in : is_ending ((happens (acts o m) (Starve (seated.actor m))).0.seats (seated.actor m)).stage ≡ true
+            up_in =
+                (starved_up (acts o m) (seated.actor m) (seat_in o m).stage (happens (acts o m) (Starve (seated.actor m))) S.wants
+                (starves (acts o m) (seated.actor m))).0
+
+            kept_by : Keeps (seat_in o m) ((happens (acts o m) (Starve (seated.actor m))).0.seats (seated.actor m))
+                → Same (seat_in o m) ((happens (acts o m) (Starve (seated.actor m))).0.seats (seated.actor m))
+            kept_by (inl e) = e
+            kept_by (inr (inl e)) = absurd (true≢false (sym up_in ∙ ap is_ending e.1))
+            kept_by (inr (inr e)) = absurd
+                (let y = (happens (acts o m) (Starve (seated.actor m))).0.seats (seated.actor m) in
+                let f : Ends ≡ Rests = sym (ending_ends y.calls y.stage up_in) ∙ e in let z : ⊥ = cc in z)

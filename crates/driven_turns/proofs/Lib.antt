@@ -5,6 +5,7 @@ pub mod StampLemmas
 pub mod DeclaredLemmas
 pub mod NextLemmas
 pub mod CauseLemmas
+pub mod EndedLemmas
 pub mod DrivenLemmas
 pub mod SinceLemmas
 pub mod QuietLemmas

@@ -12,8 +12,8 @@ use Rattle.seq_model.specs.declared.record.Record.{Record}
 use Rattle.seq_model.specs.declared.refusal.Refusal.{Refusal}
 use Rattle.seq_model.specs.declared.refusal.Refusal.TheVariants.{Moved, Busy, Stale, GateBusy, Invalid, OutOfMemory, Exhausted}
 use Rattle.replay_log.specs.Seats as worlds
-use Rattle.replay_log.specs.Seats.{World, Stage, Closing, Loading, actor_of}
-use Rattle.replay_log.specs.Worlds.{happens, run}
+use Rattle.replay_log.specs.Seats.{Ended, World, Stage, Closing, Loading, actor_of}
+use Rattle.replay_log.specs.Worlds.{happens, run, why}
 use Rattle.replay_log.specs.WorldProgress.{left_of}
 use Rattle.replay_log.specs.WorldRefusals.{IsCause}
 use Rattle.atomic_steps.specs.Own.{Alike}
@@ -190,6 +190,19 @@ module _ {V : Type 0} where
   KnowsNumber o u = (calls : List (Call V × Reply V)) → standing o u ≡ Commits calls
       → IsStamped (view u).clock (actor_of (acts o u) (actor u))
 
+  -- the transaction of a seat, as one that was aborted for this cause, or as its actor asked
+  abbrev pub aborted_for : World V → Seat V → Option Refusal → Ended V
+  aborted_for o s cause = record { actor = actor s; rv = (seat_in o s).rv; calls = (seat_in o s).calls; cause = cause }
+
+  -- The turns of a request from s on to u, the last of which tells n, leave the calls of its transaction while nothing is told, and add no
+  -- aborted transaction to those of the own world. Where the last one tells why the transaction has ended, they add this one.
+  pub record AddsAborted (o : World V) (s u : Seat V) (n : Told V) : Type 0 where
+    pub calls : n ≡ told.Quiet → (standing o s ≡ Begins → ⊥) → (seat_in o u).calls ≡ (seat_in o s).calls
+    pub quiet : n ≡ told.Quiet → (acts o u).aborted ≡ (acts o s).aborted
+    pub ended : (cause : Option Refusal) → notice_of (actor s) n ≡ why (actor s) cause → standing o u ≡ Rests
+        → (standing o s ≡ Begins → ⊥)
+        → (acts o u).aborted ≡ (acts o s).aborted ++ aborted_for o s cause ∷ []
+
   -- The seat s took turns and is u, each but the last of which told nothing; the last tells n. It has these turns more, and the receipt
   -- that they made, if any, and has loaded the clock at none but its turns, and its actor was asked nothing more; the definitions say what
   -- the request comes to, and what is told is true.
@@ -211,6 +224,7 @@ module _ {V : Type 0} where
     pub stamped : KnowsNumber o s → KnowsNumber o u
     pub numbered : KnowsNumber o s → (r : Record V) → d ≡ Some r → IsNumberOf (seat_in o s).rv (view u).clock r
     pub asks : requests_of u ≡ requests_of s
+    pub aborted : AddsAborted o s u n
 
   -- how many steps the request of a seat takes at most
   abbrev pub left_in : World V → Seat V → ℕ

@@ -213,7 +213,7 @@ module _ {V : Type 0} where
   ends_others h a b x p ne = refl
 
   -- what is found leaves the records and the aborted transactions
-  planted_notes : (a : ℕ) (w : World V) (s : Spot) (n : ℕ) (b : Option (Base V))
+  pub planted_notes : (a : ℕ) (w : World V) (s : Spot) (n : ℕ) (b : Option (Base V))
       → ((found_at a w s n b).records ≡ w.records) × ((found_at a w s n b).aborted ≡ w.aborted)
   planted_notes a w Nowhere n b = (refl, refl)
   planted_notes a w (Word c) n b = (refl, refl)
