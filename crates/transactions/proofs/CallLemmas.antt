@@ -3,6 +3,7 @@
 -- What the ask tells in the own world says where the transaction stands (`asks_move`); that it is not given up there is a law on worlds
 -- that events have reached, and the own world is one of these to its actor. What the turns come to is the law on courses (`Driven.comes`).
 use Rattle.std.proofs.Common.{◌≡◌, ◌≢◌, ◌⊎◌, ℕ, false, List, Option, None, Result, Ok, Err, IfErr, inl, inr, refl, sym, ap, ◌∙◌, subst}
+use Rattle.std.proofs.Common.{[], ◌∷◌, ◌++◌, Some}
 use Rattle.seq_model.specs.declared.call.Call.{Call}
 use Rattle.seq_model.specs.declared.call.Reply.{Reply}
 use Rattle.seq_model.specs.declared.event.Answer.TheVariants as answer
@@ -35,11 +36,13 @@ use Rattle.tx_phases.proofs.CourseLemmas.{ends_at}
 use Rattle.tx_phases.proofs.PhaseLemmas.{asks_move}
 use Rattle.tx_phases.specs.Courses.{ComesTo, EndsFrom, IsUnderWay, IsUnderWayFrom}
 use Rattle.tx_phases.specs.Phases.{AskMoves, CallMoves, Phase, Rests, Begins, Stands, Calls, Ends, IsMistaken, phase, phase_at}
+use Rattle.driven_turns.proofs.EndedLemmas.{IsGoing}
 use Rattle.driven_turns.proofs.KeptLemmas.{Keeps, asks_keep}
 use Rattle.transactions.proofs.KindLemmas.{call_given_up, call_mistaken, call_without_memory}
-use Rattle.transactions.proofs.RequestLemmas.{asked_keeps, ended_back, found_told, then_keeps, told_back, turns_keep}
+use Rattle.transactions.proofs.RequestLemmas.{asked_keeps, ended_back, found_told, noted_for, then_keeps, told_back, turns_keep}
 use Rattle.driven_turns.specs.Driven.{Driven, IsCallCause, IsReason, IsTrue, seat_in, standing}
 use Rattle.transactions.specs.Requests.{CallLeaves, CallsTo, HasAborted, IsCallRefusal, IsCallTold, IsDriven, IsOpen, KeepsReceipts}
+use Rattle.transactions.specs.Requests.{IsAbortedFor, IsLastAborted}
 use Rattle.transactions.specs.Requests.{told_of}
 use Rattle.tx_turns.proofs.AskedLemmas.{acts_taken}
 use Rattle.tx_turns.specs.Asked.{Answers, HasAsked}
@@ -162,9 +165,15 @@ module _ {V : Type 0} where
     began_asked : (standing o m ≡ Rests → ⊥) → (seat_in o m).rv ≡ (seat_in o s).rv
     began_asked busy = kept (asks_keep (acts o s) a q at_open)
       where
-        kept : Keeps (seat_in o s).rv ((happens (acts o s) (Ask a q)).0.seats a) → (seat_in o m).rv ≡ (seat_in o s).rv
-        kept (inl e) = ap (λ (x : Seat V). x.rv) seat_is ∙ e
-        kept (inr e) = absurd (busy (ap phase seat_is ∙ e))
+        kept : Keeps (seat_in o s) ((happens (acts o s) (Ask a q)).0.seats a) → (seat_in o m).rv ≡ (seat_in o s).rv
+        kept (inl e) = ap (λ (x : Seat V). x.rv) seat_is ∙ e.0
+        kept (inr (inl e)) = ap (λ (x : Seat V). x.rv) seat_is ∙ e.0
+        kept (inr (inr e)) = absurd (busy (ap phase seat_is ∙ e))
+
+    still_open : (r : Result (Reply V) Refusal) → Answers o s q (told_of r) → standing o m ≡ Rests → ⊥
+    still_open (Ok reply) is rests =
+        stands_busy (standing o m) (opened.0 ++ (call, reply) ∷ []) (moves opened.0 opened.1 (told.Answered (answer.Replied reply)) is) rests
+    still_open (Err cause) is rests = stands_busy (standing o m) opened.0 (moves opened.0 opened.1 (told.Refused cause) is).0 rests
 
     pub at_once : (n : Told V) (r : Result (Reply V) Refusal) → n ≡ told_of r → Answers o s q n → CallsTo o s call m r
     at_once n r e is = record {
@@ -172,6 +181,7 @@ module _ {V : Type 0} where
       leaves = λ calls on. leaves_now calls on r (subst (λ k. Answers o s q k) e is);
       answered = inl (subst (λ k. Answers o s q k) e is);
       kinds = kinds_now r (subst (λ k. Answers o s q k) e is);
+      aborted = λ rests. absurd (still_open r (subst (λ k. Answers o s q k) e is) rests);
       began = λ still. began_asked (stands_busy (standing o m) still.0 still.1);
     }
 
@@ -194,6 +204,12 @@ module _ {V : Type 0} where
         → standing o m ≡ Calls calls call
     calls_on r ties calls on is = elim (moves calls on told.Quiet is) [ inl h ↦ h | inr h ↦ absurd (not_given_up r ties calls on h) ]
 
+    noted_call : (u : table.Seat V) → standing o m ≡ Calls opened.0 call → (k : Result (Reply V) Refusal) (d : Option (Record V))
+        → Driven o m u (told_of k) d → standing o u ≡ Rests → IfErr k (IsAbortedFor o s u)
+    noted_call u at (Ok reply) d D rests = tt
+    noted_call u at (Err cause) d D rests =
+        inl (noted_for o s m u q at_open has (subst IsGoing (sym at) tt) (told.Refused cause) d (Some cause) D refl rests)
+
     pub driven_calls : (r : TxActor V) (u : table.Seat V) (k : Result (Reply V) Refusal) → Ties t s r → Answers o s q told.Quiet
         → out u ≡ out m → IsDriven o m u (told_of k) → CallsTo o s call u k
     driven_calls r u k ties is outs driven =
@@ -206,6 +222,7 @@ module _ {V : Type 0} where
           leaves = λ calls on. leaves_back o s m u calls call k kept (call_left o m u calls call (calls_on r ties calls on is) k d D);
           answered = inr (inl (is, told_back o s m u (told_of k) kept (D.tells (told_some k))));
           kinds = call_kinds o m u opened.0 call at k d D;
+          aborted = noted_call u at k d D;
           began = λ still. D.began (λ e. (let z : Calls opened.0 call ≡ Begins = sym at ∙ e in cc))
               (stands_busy (standing o u) still.0 still.1)
               ∙ began_asked (λ e. (let z : Calls opened.0 call ≡ Rests = sym at ∙ e in cc));
@@ -213,11 +230,13 @@ module _ {V : Type 0} where
 
   -- ---- where memory was refused
   pub call_starved : (o : World V) (s u : table.Seat V) (call : Call V) → KeepsReceipts s u → standing o u ≡ Rests → HasAborted o s u
+      → IsLastAborted o s u None
       → IsAdmitted (acts o s) (seated.actor s) (request.Call call) → CallsTo o s call u (Err OutOfMemory)
-  call_starved o s u call kept rests aborted admitted = record {
+  call_starved o s u call kept rests aborted noted admitted = record {
     keeps = kept;
     leaves = λ calls on. inr (rests, inr (refl, inr aborted));
     answered = inr (inr (refl, admitted));
     kinds = call_without_memory call.op;
+    aborted = λ _. inr (refl, noted);
     began = λ still. absurd (stands_busy (standing o u) still.0 still.1 rests);
   }

@@ -35,13 +35,14 @@ use Rattle.tx_table.specs.Seated as seated
 use Rattle.tx_phases.specs.Courses.{ComesTo, EndsFrom, IsUnderWay, IsUnderWayFrom}
 use Rattle.tx_phases.specs.Phases.{Phase, Rests, Stands, Commits, phase, phase_at}
 use Rattle.transactions.proofs.CallLemmas.{stands_at}
+use Rattle.driven_turns.proofs.EndedLemmas.{IsGoing}
 use Rattle.driven_turns.proofs.KeptLemmas.{Keeps, asks_keep}
 use Rattle.transactions.proofs.KindLemmas.{commit_given_up, commit_without_memory}
-use Rattle.transactions.proofs.RequestLemmas.{asked_keeps, ended_back, found_told, then_keeps, told_back, turns_keep}
+use Rattle.transactions.proofs.RequestLemmas.{asked_keeps, ended_back, found_told, noted_for, then_keeps, told_back, turns_keep}
 use Rattle.driven_turns.specs.Driven.{Driven, HasTold, IsNumberOf, IsStamped, IsStampedAt, IsTrue, KnowsNumber}
 use Rattle.driven_turns.specs.Driven.{is_closing, seat_in, standing}
 use Rattle.transactions.specs.Requests.{CommitsTo, HasAborted, HasCommitted, IsCommitRefusal, IsCommitTold, IsEnded, KeepsReceipts}
-use Rattle.transactions.specs.Requests.{has_some, has_written}
+use Rattle.transactions.specs.Requests.{IsLastAborted, has_some, has_written}
 use Rattle.tx_threads.proofs.OwnLemmas.{own_ok}
 use Rattle.tx_turns.proofs.AskedLemmas.{acts_taken}
 use Rattle.tx_turns.specs.Asked.{HasAsked}
@@ -98,10 +99,11 @@ module _ {V : Type 0} where
       seat_is : seat_in o m ≡ (happens (acts o s) (Ask (seated.actor s) Commit)).0.seats (seated.actor s)
       seat_is i = (acts_taken o s m (Ask 0 Commit) has i).seats (has.0.1 i)
 
-      kept : Keeps (seat_in o s).rv ((happens (acts o s) (Ask (seated.actor s) Commit)).0.seats (seated.actor s))
+      kept : Keeps (seat_in o s) ((happens (acts o s) (Ask (seated.actor s) Commit)).0.seats (seated.actor s))
           → (seat_in o m).rv ≡ (seat_in o s).rv
-      kept (inl e) = ap (λ (x : Seat V). x.rv) seat_is ∙ e
-      kept (inr e) =
+      kept (inl e) = ap (λ (x : Seat V). x.rv) seat_is ∙ e.0
+      kept (inr (inl e)) = ap (λ (x : Seat V). x.rv) seat_is ∙ e.0
+      kept (inr (inr e)) =
           absurd (let k = sym (commit_asked o s m calls on has).0 ∙ (ap phase seat_is ∙ e) in let j : Commits calls ≡ Rests = k in cc)
 
   -- as it is asked, it has none yet
@@ -233,6 +235,7 @@ module _ {V : Type 0} where
             (C.3 (commit_knows t s m q calls ties on has));
         keeps = tt;
         ended = tt;
+        aborted = tt;
         kinds = tt;
       }
   commits_to t s m u q calls ties on has outs n d (Err cause) ne D h =
@@ -247,18 +250,21 @@ module _ {V : Type 0} where
         number = tt;
         keeps = then_keeps s m u kept R.0;
         ended = λ _. ended_back o s m u cause kept R.1;
+        aborted = λ _. inl (noted_for o s m u Commit (stands_at (seat_in o s).calls calls (seat_in o s).stage on) has
+            (subst IsGoing (sym (commit_asked o s m calls on has).0) tt) n d (Some cause) D (ap (notice_of (seated.actor m)) h.1) R.1.0);
         kinds = R.2;
       }
 
   -- one that was refused memory as it was asked
   pub starved_commit : (o : World V) (s u : table.Seat V) (cause : Refusal) → KeepsReceipts s u → standing o u ≡ Rests
-      → cause ≡ OutOfMemory → HasAborted o s u → CommitsTo o s u (Err cause)
-  starved_commit o s u cause keeps rests memory aborted = record {
+      → cause ≡ OutOfMemory → HasAborted o s u → IsLastAborted o s u None → CommitsTo o s u (Err cause)
+  starved_commit o s u cause keeps rests memory aborted noted = record {
     committed = tt;
     calls = tt;
     writes = tt;
     number = tt;
     keeps = keeps;
     ended = λ _. (rests, inr (memory, inr aborted));
+    aborted = λ _. inr (memory, noted);
     kinds = commit_without_memory cause memory;
   }

@@ -337,6 +337,7 @@ module _ {V : Type 0} where
       number = tt;
       keeps = keeps_self s.seat;
       ended = λ opened. absurd (isnt (is_open t s.seat s.actor ready.ties opened.0 opened.1));
+      aborted = λ opened. absurd (isnt (is_open t s.seat s.actor ready.ties opened.0 opened.1));
       kinds = commit_without_transaction;
     };
     above = tt;
@@ -391,6 +392,7 @@ module _ {V : Type 0} where
             number = subst (λ (k : ℕ). IsNumberOf (seat_in o s.seat).rv k r) (sym (ap (λ p. p.me.0.clock) place)) C.number;
             keeps = tt;
             ended = tt;
+            aborted = tt;
             kinds = tt;
           };
           above = receipt_numbers.0;

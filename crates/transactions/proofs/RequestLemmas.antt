@@ -24,6 +24,7 @@ use Rattle.replay_log.proofs.SeatLemmas.{StageOk}
 use Rattle.replay_log.specs.Seats as worlds
 use Rattle.replay_log.specs.Seats.{World, Seat, Stage, Cancelling, Leaving, actor_of, acted, asks, at_stage}
 use Rattle.replay_log.specs.Worlds.{ask_at, happens, is_leaving, why}
+use Rattle.atomic_steps.proofs.OneStep.{one_step}
 use Rattle.actor_words.specs.Dispatch.{is_loading}
 use Rattle.actor_turns.proofs.SeatLemmas.{loading_as}
 use Rattle.tx_actor.specs.Running.{notice_of, stage_of}
@@ -43,14 +44,16 @@ use Rattle.tx_phases.specs.Phases.{AskMoves, Phase, Rests, Begins, Stands, Calls
 use Rattle.gate_turns.specs.Bases.{gates_at}
 use Rattle.gate_turns.specs.Own.{HasOwn}
 use Rattle.driven_turns.proofs.RequestedLemmas.{more_begins, taken_requests}
+use Rattle.driven_turns.proofs.EndedLemmas.{IsGoing}
 use Rattle.driven_turns.proofs.GivenUpLemmas.{none_ends}
+use Rattle.driven_turns.proofs.KeptLemmas.{Keeps, Same, asks_keep}
 use Rattle.driven_turns.proofs.RestLemmas.{IsFree, bare_out, free_own, taken_bare}
 use Rattle.driven_turns.proofs.SinceLemmas as since
 use Rattle.driven_turns.specs.Begins.{begins_in, begins_of}
 use Rattle.driven_turns.specs.Driven.{Driven, HasFound, HasTold, IsReason, IsTrue, as_receipts, is_declared, seat_in, standing}
 use Rattle.driven_turns.specs.Requested.{requests_of}
 use Rattle.transactions.specs.Requests.{BeginsTo, HasAborted, IsBeginTold, IsBegun, IsEnded, IsFoundAndTold, IsNotBegun, KeepsReceipts}
-use Rattle.transactions.specs.Requests.{begin_of}
+use Rattle.transactions.specs.Requests.{IsLastAborted, begin_of}
 use Rattle.tx_threads.proofs.OwnLemmas.{own_ok}
 use Rattle.tx_turns.proofs.AskedLemmas.{acts_taken}
 use Rattle.tx_turns.proofs.TurnLemmas.{own_stage}
@@ -379,6 +382,56 @@ module _ {V : Type 0} where
       let said : n ≡ told.Answered answer.Aborted = is_aborted (seated.actor m) n (why_is ∙ ap (why (seated.actor m)) none) in
       told_back o s m u (told.Answered answer.Aborted) (asked_keeps s m (has.0, has.1))
       (subst (λ (k : Told V). HasTold o m u k) said (D.tells ne))
+
+  -- ---- what the own world notes of it
+  asked_aborted : (o : World V) (s m : table.Seat V) (q : Request V) → HasAsked s q m → (acts o m).aborted ≡ (acts o s).aborted
+  asked_aborted o s m q has =
+      ap (λ (w : World V). w.aborted) (acts_taken o s m (Ask 0 q) has) ∙ (one_step (acts o s) (Ask (seated.actor s) q)).aborted
+
+  pub asked_same : (o : World V) (s m : table.Seat V) (q : Request V) → (seat_in o s).stage ≡ worlds.Open → HasAsked s q m
+      → IsGoing (standing o m) → Same (seat_in o s) (seat_in o m)
+  asked_same o s m q at has going = kept (asks_keep (acts o s) (seated.actor s) q at)
+    where
+      after : Seat V
+      after = (happens (acts o s) (Ask (seated.actor s) q)).0.seats (seated.actor s)
+
+      seat_is : seat_in o m ≡ after
+      seat_is i = (acts_taken o s m (Ask 0 q) has i).seats (has.0.1 i)
+
+      kept : Keeps (seat_in o s) after → Same (seat_in o s) (seat_in o m)
+      kept (inl e) = (ap (λ (x : Seat V). x.rv) seat_is ∙ e.0, ap (λ (x : Seat V). x.calls) seat_is ∙ e.1)
+      kept (inr (inl e)) = absurd (subst IsGoing (ap phase seat_is ∙ ap (phase_at after.calls) e.1) going)
+      kept (inr (inr e)) = absurd (subst IsGoing (ap phase seat_is ∙ e) going)
+
+  -- a request of an open transaction that is under way, and ends so
+  pub noted_for : (o : World V) (s m u : table.Seat V) (q : Request V) → (seat_in o s).stage ≡ worlds.Open → HasAsked s q m
+      → IsGoing (standing o m)
+      → (n : Told V) (d : Option (Record V)) (cause : Option Refusal) → Driven o m u n d
+      → notice_of (seated.actor m) n ≡ why (seated.actor m) cause
+      → standing o u ≡ Rests → IsLastAborted o s u cause
+  noted_for o s m u q at has going n d cause D is rests =
+      let same = asked_same o s m q at has going in
+      D.aborted.ended cause is rests (λ e. subst IsGoing e going)
+      ∙ (λ i. asked_aborted o s m q has i
+      ++ record { actor = has.0.1 i; rv = same.0 i; calls = same.1 i; cause = cause } ∷ [])
+
+  is_at_open : (cs calls : List (Call V × Reply V)) (st : Stage V) → phase_at cs st ≡ Stands calls → st ≡ worlds.Open
+  is_at_open cs calls worlds.Open h = refl
+  is_at_open cs calls st h = absurd (let z : ⊥ = cc in z)
+
+  pub abort_noted : (o : World V) (s m u : table.Seat V) (calls : List (Call V × Reply V)) → standing o s ≡ Stands calls
+      → HasAsked s Abort m
+      → (n : Told V) (d : Option (Record V)) → Driven o m u n d → n ≢ told.Quiet → IsLastAborted o s u None
+  abort_noted o s m u calls on has n d D ne =
+      let a = seated.actor s in
+      let w = acts o s in
+      let own_is = acts_taken o s m (Ask 0 Abort) has in
+      let none : (seat_in o m).cause ≡ None =
+      (λ i. ((own_is i).seats (has.0.1 i)).cause) ∙ none_noted w a (w.seats a) (w.seats a).stage calls on in
+      let ends = abort_ends o s m calls on has in
+      let h = none_ends o m u n d ends D ne in
+      noted_for o s m u Abort (is_at_open (seat_in o s).calls calls (seat_in o s).stage on) has (subst IsGoing (sym ends) tt) n d None D
+      (h.2 ∙ ap (why (seated.actor m)) none) h.1
 
   -- it has nothing in hand
   pub abort_own : (t : TxTable V) (s m : table.Seat V) (r q : TxActor V) (calls : List (Call V × Reply V))

@@ -22,7 +22,7 @@ use Rattle.tx_table.specs.declared.view.Turn.{Turn}
 use Rattle.tx_turns.specs.Asked.{Answers}
 use Rattle.tx_phases.specs.Phases.{Rests, Stands, Calls, IsMistaken}
 use Rattle.driven_turns.specs.Driven.{Driven, HasFound, HasTold, IsExhausted, IsLoading, IsNumberOf, IsOnCollection, is_declared, seat_in}
-use Rattle.driven_turns.specs.Driven.{standing}
+use Rattle.driven_turns.specs.Driven.{aborted_for, standing}
 use Rattle.driven_turns.specs.Requested.{requests_of}
 
 -- there is some entry
@@ -144,6 +144,14 @@ module _ {V : Type 0} where
   abbrev pub IsFoundAndTold : World V → Seat V → Seat V → Refusal → Type 0
   IsFoundAndTold o s u cause = (HasFound o s u cause × HasTold o s u (told.Refused cause)) ⊎ WantedMemory o s u cause
 
+  -- The own world of u has one aborted transaction more than that of s: that of s, for this cause, or as its actor asked.
+  abbrev pub IsLastAborted : World V → Seat V → Seat V → Option Refusal → Type 0
+  IsLastAborted o s u cause = (acts o u).aborted ≡ (acts o s).aborted ++ aborted_for o s cause ∷ []
+
+  -- for this cause; or memory was wanting as the request was asked, and the transaction was aborted
+  abbrev pub IsAbortedFor : World V → Seat V → Seat V → Refusal → Type 0
+  IsAbortedFor o s u cause = IsLastAborted o s u (Some cause) ⊎ ((cause ≡ OutOfMemory) × IsLastAborted o s u None)
+
   -- and there is no transaction any more
   abbrev pub IsEnded : World V → Seat V → Seat V → Refusal → Type 0
   IsEnded o s u cause = (standing o u ≡ Rests) × IsFoundAndTold o s u cause
@@ -186,6 +194,7 @@ module _ {V : Type 0} where
     pub leaves : (calls : List (Call V × Reply V)) → standing o s ≡ Stands calls → CallLeaves o s calls call u r
     pub answered : IsAnswered o s (request.Call call) u (told_of r)
     pub kinds : IfErr r (IsCallRefusal call.op)
+    pub aborted : standing o u ≡ Rests → IfErr r (IsAbortedFor o s u)
     pub began : IsOpen o u → (seat_in o u).rv ≡ (seat_in o s).rv
 
   -- ---- a commit
@@ -220,4 +229,5 @@ module _ {V : Type 0} where
     pub number : IfOk r (IsNumberOf (seat_in o s).rv (view u).clock)
     pub keeps : OnErr r (KeepsReceipts s u)
     pub ended : IfErr r (λ cause. IsOpen o s → IsEnded o s u cause)
+    pub aborted : IfErr r (λ cause. IsOpen o s → IsAbortedFor o s u cause)
     pub kinds : IfErr r IsCommitRefusal

@@ -1,5 +1,5 @@
 //! The calls of a transaction, on words and on collections.
-ghost use Rattle.std.specs.Prelude.{◌≡◌, [], ◌∷◌, ◌++◌, IfErr, IfOk, OnErr, OnOk};
+ghost use Rattle.std.specs.Prelude.{◌≡◌, [], ◌∷◌, ◌++◌, IfErr, IfOk, None, OnErr, OnOk};
 ghost use Rattle.replay_log.specs.WorldAnswers.{IsAdmitted};
 ghost use Rattle.tx_table.specs.Seated.{actor as actor_of, acts, opening_of};
 ghost use Rattle.tx_phases.specs.Phases.{Rests};
@@ -9,7 +9,7 @@ ghost use Rattle.driven_turns.specs.Driven.{standing};
 ghost use Rattle.driven_turns.specs.Requested.{requests_of};
 ghost use Rattle.transactions.specs.Ready.{CanDrive};
 ghost use Rattle.transactions.specs.Requests.{CallsTo, HasAborted, HasAskedFor, IsCallTold, IsCalling, IsDriven, IsOpen, KeepsReceipts};
-ghost use Rattle.transactions.specs.Requests.{told_of};
+ghost use Rattle.transactions.specs.Requests.{IsLastAborted, told_of};
 
 use crate::requests::abort;
 use boxes::Boxed;
@@ -70,6 +70,7 @@ pub(crate) fn ask_open<V: Value>(
     ensures keeps { OnErr result (KeepsReceipts seat.old seat.new) }
     ensures rests { OnErr result (standing (opening_of table.now) seat.new ≡ Rests) }
     ensures aborted { OnErr result (HasAborted (opening_of table.now) seat.old seat.new) }
+    ensures noted { OnErr result (IsLastAborted (opening_of table.now) seat.old seat.new None) }
     ensures begins { OnErr result (begins_of seat.new ≡ begins_of seat.old) }
     ensures asks { OnErr result (requests_of seat.new ≡ requests_of seat.old ++ Request.Abort ∷ []) }
 {

@@ -1,12 +1,13 @@
 //! Requests of a transaction: one that begins, and one that ends without a commit.
-ghost use Rattle.std.specs.Prelude.{◌≡◌, ◌+◌, [], ◌∷◌, ◌++◌, IfErr, IfOk, false, true};
+ghost use Rattle.std.specs.Prelude.{◌≡◌, ◌+◌, [], ◌∷◌, ◌++◌, IfErr, IfOk, None, false, true};
 ghost use Rattle.tx_table.specs.Seated.{opening_of};
 ghost use Rattle.tx_phases.specs.Phases.{Rests};
 ghost use Rattle.driven_turns.specs.Begins.{begins_of};
 ghost use Rattle.driven_turns.specs.Driven.{is_declared, standing};
 ghost use Rattle.driven_turns.specs.Requested.{requests_of};
 ghost use Rattle.transactions.specs.Ready.{CanDrive};
-ghost use Rattle.transactions.specs.Requests.{HasAborted, IsBeginTold, IsBegun, IsNotBegun, IsOpen, KeepsReceipts, begin_of};
+ghost use Rattle.transactions.specs.Requests.{HasAborted, IsBeginTold, IsBegun, IsLastAborted, IsNotBegun, IsOpen, KeepsReceipts};
+ghost use Rattle.transactions.specs.Requests.{begin_of};
 
 use boxes::Boxed;
 use driven_turns::drive;
@@ -109,6 +110,7 @@ pub(crate) fn abort<V: Value>(
     ensures keeps { KeepsReceipts seat.old seat.new }
     ensures rests { standing (opening_of table.now) seat.new ≡ Rests }
     ensures aborted { HasAborted (opening_of table.now) seat.old seat.new }
+    ensures noted { IsLastAborted (opening_of table.now) seat.old seat.new None }
     ensures begins { begins_of seat.new ≡ begins_of seat.old }
     ensures asks { requests_of seat.new ≡ requests_of seat.old ++ Request.Abort ∷ [] }
 {

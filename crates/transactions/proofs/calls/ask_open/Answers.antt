@@ -1,13 +1,17 @@
-use Rattle.std.proofs.Common.{◌≡◌, [], ◌∷◌, ◌++◌, subst}
+use Rattle.std.proofs.Common.{◌≡◌, [], ◌∷◌, ◌++◌, None, subst}
 use Rattle.seq_model.specs.declared.event.Request.TheVariants.{Abort}
 use Rattle.tx_table.specs.Seated.{opening_of}
 use Rattle.driven_turns.specs.Requested.{requests_of}
-use Rattle.transactions.specs.Requests.{HasAborted}
+use Rattle.transactions.specs.Requests.{HasAborted, IsLastAborted}
 use Rattle.transactions.proofs.calls.ask_open.Goals as goal
 
 pub returns-clause-aborted : goal.returns-clause-aborted
 returns-clause-aborted g c =
     subst (λ s. HasAborted (opening_of c.args.table.now) s c.abort.new.seat) c.in-Err.ensures.seat c.abort.ensures.aborted
+
+pub returns-clause-noted : goal.returns-clause-noted
+returns-clause-noted g c =
+    subst (λ s. IsLastAborted (opening_of c.args.table.now) s c.abort.new.seat None) c.in-Err.ensures.seat c.abort.ensures.noted
 
 pub returns-clause-asks : goal.returns-clause-asks
 returns-clause-asks g c =

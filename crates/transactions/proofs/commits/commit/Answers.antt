@@ -14,7 +14,8 @@ pub returns-in_err-ask_open-clause-commits : goal.returns-in_err-ask_open-clause
 returns-in_err-ask_open-clause-commits g c =
     let e = c.in_err-ask_open.ensures in
     let p = err_from_is_err_and c.from_residual.result c.from_residual.ensures.1 in
-    rw (p.1, p.2) (starved_commit (opening_of c.args.table.now) c.args.seat.now c.ask_open.new.seat _ e.keeps e.rests e.memory e.aborted)
+    rw (p.1, p.2) (starved_commit (opening_of c.args.table.now) c.args.seat.now c.ask_open.new.seat _ e.keeps e.rests e.memory e.aborted
+    e.noted)
 
 pub returns-in_err-ask_open-clause-asks : goal.returns-in_err-ask_open-clause-asks
 returns-in_err-ask_open-clause-asks g c =

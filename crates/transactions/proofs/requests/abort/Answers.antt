@@ -5,8 +5,8 @@ use Rattle.driven_turns.proofs.GivenUpLemmas.{under_ends}
 use Rattle.driven_turns.proofs.RequestedLemmas.{same_begins}
 use Rattle.driven_turns.proofs.RestLemmas.{bare_out}
 use Rattle.driven_turns.specs.Driven.{seat_in}
-use Rattle.transactions.proofs.RequestLemmas.{abort_ends, abort_own, abort_told, asked_keeps, asks_one, begins_none, ends_to, is_open}
-use Rattle.transactions.proofs.RequestLemmas.{then_keeps}
+use Rattle.transactions.proofs.RequestLemmas.{abort_ends, abort_noted, abort_own, abort_told, asked_keeps, asks_one, begins_none, ends_to}
+use Rattle.transactions.proofs.RequestLemmas.{is_open, then_keeps}
 use Rattle.transactions.proofs.requests.abort.Goals as goal
 
 pub ask_abort-requires-clause-open : goal.ask_abort-requires-clause-open
@@ -51,6 +51,11 @@ returns-clause-rests g c =
 pub returns-clause-aborted : goal.returns-clause-aborted
 returns-clause-aborted g c =
     abort_told (opening_of c.args.table.now) c.args.seat.now c.ask_abort.new.seat c.drive.new.seat c.requires.open.0 c.requires.open.1
+    c.ask_abort.ensures.asked c.drive.result.0 c.drive.result.1 c.drive.ensures.driven c.drive.ensures.answered
+
+pub returns-clause-noted : goal.returns-clause-noted
+returns-clause-noted g c =
+    abort_noted (opening_of c.args.table.now) c.args.seat.now c.ask_abort.new.seat c.drive.new.seat c.requires.open.0 c.requires.open.1
     c.ask_abort.ensures.asked c.drive.result.0 c.drive.result.1 c.drive.ensures.driven c.drive.ensures.answered
 
 pub returns-clause-begins : goal.returns-clause-begins
