@@ -6,3 +6,4 @@ pub mod RefusedLemmas
 pub mod StepLemmas
 pub mod WeightLemmas
 pub mod ShownLemmas
+pub mod EndedLemmas

@@ -3,10 +3,10 @@
 -- The world's aborted transactions of an actor are those of its own world (`IsOwn`), and all of the world's saw their states. Each actor's
 -- records weigh what its own world's do, and a seat's receipts what those of its actors do. So the receipts of one seat, which weigh no
 -- more than all records, count no actor twice that has a record. What an actor asks is an event, and leaves the records.
-use Rattle.std.proofs.Common.{◌≡◌, ◌⊎◌, ℕ, zero, suc, ◌+◌, ◌<◌, ◌≤◌, true, false, List, [], ◌∷◌, length, get_or, inl, inr, refl, sym, ap, ◌∙◌, ◌++◌}
-use Rattle.std.proofs.Common.{subst, arith, ⊎_elim, eqb-true, eq-eqb}
-use Rattle.std.specs.Prelude.{All, map, ◌==◌, if◌then◌else◌}
-use Rattle.std.proofs.lemmas.Bool.{cases_Bool, cond-false, cond-true, cond_both}
+use Rattle.std.proofs.Common.{◌≡◌, ℕ, zero, suc, ◌<◌, ◌≤◌, List, [], ◌∷◌, get_or, refl, sym, ◌∙◌, ◌++◌}
+use Rattle.std.proofs.Common.{subst, arith}
+use Rattle.std.specs.Prelude.{All, ◌==◌}
+use Rattle.std.proofs.lemmas.Bool.{cond_both}
 use Rattle.std.proofs.lemmas.List.Elements.{All-cons}
 use mathlib.Core.Option.{some, some-injective, some-ne-none}
 use lib.ListN.{get_elem?}
@@ -14,7 +14,6 @@ use Rattle.atomic_table.specs.Table.{State}
 use Rattle.seq_model.specs.Contents.{Contents}
 use Rattle.seq_model.specs.declared.event.Event.{Event}
 use Rattle.seq_model.specs.declared.record.Record.{Record}
-use Rattle.collection_machine.specs.Content.{has}
 use Rattle.replay_log.specs.Contents.{HaveStripes}
 use Rattle.replay_log.specs.Seats.{Ended, Seat, World}
 use Rattle.replay_log.specs.WorldSerial.{AllSaw, IsSerial, SawAt}

@@ -1,0 +1,50 @@
+-- What a running table shows of a transaction that was refused, and of what an open one has been answered by now.
+use Rattle.std.specs.Prelude.{◌≡◌, ◌⊎◌, List, ◌∷◌, ◌++◌, Option, Some, None}
+use mathlib.Core.Option.{some}
+use lib.ListN.{get_elem?}
+use Rattle.atomic_table.specs.Table.{State}
+use Rattle.seq_model.specs.Contents.{Contents}
+use Rattle.seq_model.specs.Runs.{IsLegal, state_at}
+use Rattle.seq_model.specs.declared.call.Call.{Call}
+use Rattle.seq_model.specs.declared.call.Reply.{Reply}
+use Rattle.seq_model.specs.declared.refusal.Refusal.{Refusal}
+use Rattle.seq_model.specs.declared.refusal.Refusal.TheVariants.{OutOfMemory}
+use Rattle.replay_log.specs.Seats.{Ended, World}
+use Rattle.replay_log.specs.Worlds.{run}
+use Rattle.atomic_steps.specs.Own.{Alike}
+use Rattle.tx_phases.specs.Phases.{Stands}
+use Rattle.tx_table.specs.Opening.{Holds}
+use Rattle.tx_table.specs.Seated.{actor, acts, list_of, opening_of, view}
+use Rattle.tx_table.specs.Shown.{Slot}
+use Rattle.tx_table.specs.Turns.{asked_all}
+use Rattle.tx_table.specs.declared.seat.Seat.{Seat}
+use Rattle.tx_table.specs.declared.table.TxTable.{TxTable}
+use Rattle.tx_table.specs.declared.view.View.{View}
+use Rattle.transactions.specs.Ready.{standing}
+use Rattle.driven_turns.specs.Driven.{seat_in}
+
+module _ {V : Type 0} where
+  -- The table t, between any two of its steps at which its rule holds and the seat u stands in it with what it knows, shows a world of
+  -- which this is so.
+  abbrev pub ShownBy : TxTable V → Seat V → (World V → Type 0) → Type 0
+  ShownBy t u P =
+      (x : State (Slot V) (View V)) (rule : Holds t.whole.shared.key x) → get_elem? x.views (actor u) ≡ some (view u)
+      → P (run (opening_of t) rule.rule.events)
+
+  -- The transaction of these calls that was open at s is an aborted one of the world w, for this cause; where memory was wanting as its
+  -- last request was asked, as one that was given up so. Its calls have the replies of one state: that of w, from the opening c on, at the
+  -- number at which it began.
+  pub record WasAborted (c : Contents V) (o : World V) (s : Seat V) (calls : List (Call V × Reply V)) (cause : Refusal) (w : World V)
+      : Type 0 where
+    pub noted : Option Refusal
+    pub why : (noted ≡ Some cause) ⊎ ((cause ≡ OutOfMemory) × (noted ≡ None))
+    pub before : List (Ended V)
+    pub after : List (Ended V)
+    pub there : w.aborted ≡ before ++ record { actor = actor s; rv = (seat_in o s).rv; calls = calls; cause = noted } ∷ after
+    pub saw : IsLegal calls (state_at (seat_in o s).rv w.records c)
+
+  -- What the actor of u has asked since its last step leads from w to a world that is to it as its own world is now; and the calls of an
+  -- open transaction have the replies of one state: that of w, from the opening c on, at the number at which it began.
+  pub record SeesOneStateOf (c : Contents V) (o : World V) (u : Seat V) (w : World V) : Type 0 where
+    pub alike : Alike (actor u) (asked_all (actor u) w (list_of u.asked)) (acts o u)
+    pub saw : (calls : List (Call V × Reply V)) → standing o u ≡ Stands calls → IsLegal calls (state_at (seat_in o u).rv w.records c)
