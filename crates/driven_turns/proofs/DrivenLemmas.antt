@@ -42,7 +42,7 @@ use Rattle.tx_phases.specs.Courses.{ComesTo, IsUnderWay, IsUnderWayFrom, latest}
 use Rattle.tx_phases.specs.Phases.{Phase, Rests, Begins, Stands, Calls, Commits, Committed, Ends, IsMistaken, StepMoves, phase, phase_at}
 use Rattle.driven_turns.proofs.CauseLemmas.{IsOfCommit, call_cause, commit_cause}
 use Rattle.driven_turns.proofs.DeclaredLemmas.{begin_declared}
-use Rattle.driven_turns.proofs.EndedLemmas.{IsGoing, ends_from, none_added, one_added, quiet_going, why_told}
+use Rattle.driven_turns.proofs.EndedLemmas.{IsGoing, begin_added, ends_from, none_added, one_added, quiet_going, why_told}
 use Rattle.driven_turns.proofs.KeptLemmas.{Keeps, steps_keep}
 use Rattle.driven_turns.proofs.RequestedLemmas.{turn_requests}
 use Rattle.driven_turns.proofs.StampLemmas.{begun_clock, exhausted_clock, numbered, stamped_step}
@@ -163,6 +163,7 @@ module _ {V : Type 0} where
     aborted = record {
       calls = λ _ _. refl;
       quiet = λ _. refl;
+      begin = λ _. refl;
       ended = λ cause is _ _. absurd (why_told (seated.actor s) cause (sym is));
     };
   }
@@ -374,6 +375,12 @@ module _ {V : Type 0} where
       calls = calls_stay;
       quiet = λ q. ap (λ (w : World V). w.aborted) T.takes.own
           ∙ (none_added v (acts o u) a T.found T.base x_is (told_is ∙ ap (notice_of a) q) ∙ D.aborted.quiet refl);
+      begin = λ on.
+          (let begins : phase (seat_in o u) ≡ Begins =
+          (subst (λ (p : Phase V). IsUnderWayFrom (seat_in o s) p (seat_in o u) d) on D.comes).0 in
+          ap (λ (w : World V). w.aborted) T.takes.own
+          ∙ (begin_added (acts o u) a T.found T.base (begins_at (seat_in o u).calls (seat_in o u).stage begins)
+          ∙ D.aborted.begin on));
       ended = λ cause is rests isnt.
           (let tells : after.1 ≡ why a cause =
           subst (λ (k : ℕ). after.1 ≡ why k cause) (sym same) (told_is ∙ (ap (λ (k : ℕ). notice_of k n) same ∙ is)) in

@@ -11,7 +11,7 @@ use Rattle.collection_machine.specs.Boosted.{PutGate}
 use Rattle.replay_log.specs.Seats.{Ended, Seat, Stage, World}
 use Rattle.replay_log.specs.WorldRefusals.{is_ending}
 use Rattle.replay_log.specs.WorldTraces.{ended_by}
-use Rattle.replay_log.specs.Worlds.{Cancelling, Leaving, Returning, acted, gives_up, happens, has_cancelled, moves, step_at, why, word_notice}
+use Rattle.replay_log.specs.Worlds.{Beginning, Cancelling, Leaving, Returning, acted, gives_up, happens, has_cancelled, moves, step_at, why, word_notice}
 use Rattle.replay_log.specs.declared.base.Base.{Base}
 use Rattle.atomic_steps.proofs.Alike.{alike_same}
 use Rattle.tx_phases.specs.Phases.{Begins, Calls, Commits, Committed, Ends, Phase, Rests, Stands, StepMoves}
@@ -127,6 +127,12 @@ module _ {V : Type 0} where
       ∙ (ap (λ (es : List (Ended V)). w.aborted ++ es)
       (ap (λ (x : Seat V). ended_by a x x.stage) (sym seat) ∙ quiet_none v a (v.seats a) (stage_of v a) quiet)
       ∙ append-nil w.aborted)
+
+  pub begin_added : (w : World V) (a : ℕ) (found : ℕ) (base : Option (Base V)) → stage_of w a ≡ Beginning
+      → (moved a w found base).0.aborted ≡ w.aborted
+  begin_added w a found base at =
+      moved_aborted a w found base
+      ∙ (ap (λ (st : Stage V). w.aborted ++ ended_by a (w.seats a) st) at ∙ append-nil w.aborted)
 
   pub one_added : (v w : World V) (a : ℕ) (found : ℕ) (base : Option (Base V)) (cause : Option Refusal) → v.seats a ≡ w.seats a
       → is_ending (stage_of v a) ≡ true → (happens v (Step a)).1 ≡ why a cause

@@ -206,6 +206,7 @@ module _ {V : Type 0} where
           aborted = record {
             calls = λ quiet. absurd (ne quiet);
             quiet = λ quiet. absurd (ne quiet);
+            begin = λ on. absurd (subst IsHalfway on halfway);
             ended = λ cause is over isnt.
                 (let added = D.aborted.ended cause (subst (λ (k : ℕ). notice_of k n ≡ why k cause) (sym same) is) over
                 (λ e. (let f : Ends ≡ Begins = sym stopped_ends ∙ e in cc)) in

@@ -384,7 +384,7 @@ module _ {V : Type 0} where
       (subst (λ (k : Told V). HasTold o m u k) said (D.tells ne))
 
   -- ---- what the own world notes of it
-  asked_aborted : (o : World V) (s m : table.Seat V) (q : Request V) → HasAsked s q m → (acts o m).aborted ≡ (acts o s).aborted
+  pub asked_aborted : (o : World V) (s m : table.Seat V) (q : Request V) → HasAsked s q m → (acts o m).aborted ≡ (acts o s).aborted
   asked_aborted o s m q has =
       ap (λ (w : World V). w.aborted) (acts_taken o s m (Ask 0 q) has) ∙ (one_step (acts o s) (Ask (seated.actor s) q)).aborted
 

@@ -148,6 +148,10 @@ module _ {V : Type 0} where
   abbrev pub IsLastAborted : World V → Seat V → Seat V → Option Refusal → Type 0
   IsLastAborted o s u cause = (acts o u).aborted ≡ (acts o s).aborted ++ aborted_for o s cause ∷ []
 
+  -- or it has the same
+  abbrev pub HasSameAborted : World V → Seat V → Seat V → Type 0
+  HasSameAborted o s u = (acts o u).aborted ≡ (acts o s).aborted
+
   -- for this cause; or memory was wanting as the request was asked, and the transaction was aborted
   abbrev pub IsAbortedFor : World V → Seat V → Seat V → Refusal → Type 0
   IsAbortedFor o s u cause = IsLastAborted o s u (Some cause) ⊎ ((cause ≡ OutOfMemory) × IsLastAborted o s u None)

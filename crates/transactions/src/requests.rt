@@ -7,7 +7,7 @@ ghost use Rattle.driven_turns.specs.Driven.{is_declared, standing};
 ghost use Rattle.driven_turns.specs.Requested.{requests_of};
 ghost use Rattle.transactions.specs.Ready.{CanDrive};
 ghost use Rattle.transactions.specs.Requests.{HasAborted, IsBeginTold, IsBegun, IsLastAborted, IsNotBegun, IsOpen, KeepsReceipts};
-ghost use Rattle.transactions.specs.Requests.{begin_of};
+ghost use Rattle.transactions.specs.Requests.{HasSameAborted, begin_of};
 
 use boxes::Boxed;
 use driven_turns::drive;
@@ -44,6 +44,7 @@ fn begun<V: Value>(
     ensures keeps { KeepsReceipts seat.old seat.new }
     ensures begun { IfOk result (IsBegun (is_declared (opening_of table.now) seat.old) (opening_of table.now) seat.old seat.new) }
     ensures refused { IfErr result (IsNotBegun (opening_of table.now) seat.old seat.new) }
+    ensures same { HasSameAborted (opening_of table.now) seat.old seat.new }
     ensures begins { begins_of seat.new ≡ begins_of seat.old }
     ensures asks { requests_of seat.new ≡ requests_of seat.old }
 {
@@ -66,6 +67,7 @@ pub(crate) fn begin<V: Value>(
     ensures keeps { KeepsReceipts seat.old seat.new }
     ensures begun { IfOk result (IsBegun false (opening_of table.now) seat.old seat.new) }
     ensures refused { IfErr result (IsNotBegun (opening_of table.now) seat.old seat.new) }
+    ensures same { HasSameAborted (opening_of table.now) seat.old seat.new }
     ensures begins { begins_of seat.new ≡ begins_of seat.old + 1 }
     ensures asks { requests_of seat.new ≡ requests_of seat.old ++ Request.Begin ∷ [] }
 {
@@ -88,6 +90,7 @@ pub(crate) fn begin_read<V: Value>(
     ensures keeps { KeepsReceipts seat.old seat.new }
     ensures begun { IfOk result (IsBegun true (opening_of table.now) seat.old seat.new) }
     ensures refused { IfErr result (IsNotBegun (opening_of table.now) seat.old seat.new) }
+    ensures same { HasSameAborted (opening_of table.now) seat.old seat.new }
     ensures begins { begins_of seat.new ≡ begins_of seat.old + 1 }
     ensures asks { requests_of seat.new ≡ requests_of seat.old ++ Request.BeginRead ∷ [] }
 {

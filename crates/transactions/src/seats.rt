@@ -1,5 +1,5 @@
 //! A seat of a table, with the actor that runs there.
-ghost use Rattle.std.specs.Prelude.{◌≡◌, ◌≢◌, ◌+◌, ◌<◌, ◌≤◌, [], ◌∷◌, ◌++◌, IfErr, IfOk, MatchBool, OnErr, OnOk, false, max, true};
+ghost use Rattle.std.specs.Prelude.{◌≡◌, ◌≢◌, ◌+◌, ◌<◌, ◌≤◌, [], ◌∷◌, ◌++◌, IfErr, IfOk, MatchBool, None, OnErr, OnOk, false, max, true};
 ghost use Rattle.seq_model.specs.declared.call.Op.TheVariants as op;
 ghost use Rattle.seq_model.specs.declared.refusal.Refusal.TheVariants.{Ahead};
 ghost use Rattle.tx_table.specs.Seated.{opening_of, view};
@@ -8,7 +8,8 @@ ghost use Rattle.driven_turns.specs.Begins.{begins_of};
 ghost use Rattle.driven_turns.specs.Driven.{standing};
 ghost use Rattle.driven_turns.specs.Requested.{requests_of};
 ghost use Rattle.transactions.specs.Ready.{HasBegunSince, HasCalled, HasFinished, HasOpened, IsNew, IsReady};
-ghost use Rattle.transactions.specs.Requests.{HasAborted, HasAskedToBegin, IsBegun, IsNotBegun, IsOpen, KeepsReceipts, OnlyKnows};
+ghost use Rattle.transactions.specs.Requests.{HasAborted, HasAskedToBegin, IsBegun, IsLastAborted, IsNotBegun, IsOpen, KeepsReceipts};
+ghost use Rattle.transactions.specs.Requests.{OnlyKnows};
 
 use crate::reply_room::ReplyRoom;
 use boxes::Boxed;
@@ -77,6 +78,8 @@ impl<V: Value> TxSeat<V> {
         ensures rests { standing (opening_of table.now) self.new.seat ≡ Rests }
         ensures keeps { KeepsReceipts self.old.seat self.new.seat }
         ensures aborted { IsOpen (opening_of table.now) self.old.seat → HasAborted (opening_of table.now) self.old.seat self.new.seat }
+        ensures noted { IsOpen (opening_of table.now) self.old.seat →
+            IsLastAborted (opening_of table.now) self.old.seat self.new.seat None }
         ensures none { standing (opening_of table.now) self.old.seat ≡ Rests → self.new ≡ self.old }
         ensures begins { begins_of self.new.seat ≡ begins_of self.old.seat }
         ensures asks { IsOpen (opening_of table.now) self.old.seat →
@@ -105,6 +108,8 @@ impl<V: Value> TxSeat<V> {
         ensures last { IfOk result (λ rv. self.old.seat.last ≤ rv) }
         ensures refused { IfErr result (IsNotBegun (opening_of table.now) self.old.seat self.new.seat) }
         ensures aborted { IsOpen (opening_of table.now) self.old.seat → HasAborted (opening_of table.now) self.old.seat self.new.seat }
+        ensures noted { IsOpen (opening_of table.now) self.old.seat →
+            IsLastAborted (opening_of table.now) self.old.seat self.new.seat None }
         ensures begins { begins_of self.new.seat ≡ begins_of self.old.seat + 1 }
         ensures asks { HasAskedToBegin false (opening_of table.now) self.old.seat self.new.seat }
     {
@@ -129,6 +134,8 @@ impl<V: Value> TxSeat<V> {
         ensures last { IfOk result (λ rv. self.old.seat.last ≤ rv) }
         ensures refused { IfErr result (IsNotBegun (opening_of table.now) self.old.seat self.new.seat) }
         ensures aborted { IsOpen (opening_of table.now) self.old.seat → HasAborted (opening_of table.now) self.old.seat self.new.seat }
+        ensures noted { IsOpen (opening_of table.now) self.old.seat →
+            IsLastAborted (opening_of table.now) self.old.seat self.new.seat None }
         ensures begins { begins_of self.new.seat ≡ begins_of self.old.seat + 1 }
         ensures asks { HasAskedToBegin true (opening_of table.now) self.old.seat self.new.seat }
     {

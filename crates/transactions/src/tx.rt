@@ -1,5 +1,5 @@
 //! A transaction that borrows the seat at which it runs.
-ghost use Rattle.std.specs.Prelude.{◌≡◌, ◌<◌, [], ◌∷◌, ◌++◌, IfErr, IfOk, OnErr, OnOk, false, max, true};
+ghost use Rattle.std.specs.Prelude.{◌≡◌, ◌<◌, [], ◌∷◌, ◌++◌, IfErr, IfOk, None, OnErr, OnOk, false, max, true};
 ghost use Rattle.std.specs.Borrow.{RestsIfErr, sem};
 ghost use Rattle.seq_model.specs.declared.call.Op.TheVariants as op;
 ghost use Rattle.seq_model.specs.declared.refusal.Refusal.TheVariants.{Ahead};
@@ -11,7 +11,7 @@ ghost use Rattle.driven_turns.specs.Begins.{begins_of};
 ghost use Rattle.driven_turns.specs.Driven.{standing};
 ghost use Rattle.driven_turns.specs.Requested.{requests_of};
 ghost use Rattle.transactions.specs.Ready.{HasBegunSince, HasCalled, HasFinished, IsReady};
-ghost use Rattle.transactions.specs.Requests.{HasAborted, IsOpen, KeepsReceipts, OnlyKnows};
+ghost use Rattle.transactions.specs.Requests.{HasAborted, IsLastAborted, IsOpen, KeepsReceipts, OnlyKnows};
 
 use crate::seats::TxSeat;
 use seq_model::{Call, Op, Record, Refusal, Reply, Request, Value};
@@ -145,6 +145,8 @@ impl<'a, V: Value> Tx<'a, V> {
         ensures keeps { KeepsReceipts self.entry.seat.now.seat self.exit.1.0.now.seat }
         ensures aborted { IsOpen (opening_of self.entry.table.now) self.entry.seat.now.seat →
             HasAborted (opening_of self.entry.table.now) self.entry.seat.now.seat self.exit.1.0.now.seat }
+        ensures noted { IsOpen (opening_of self.entry.table.now) self.entry.seat.now.seat →
+            IsLastAborted (opening_of self.entry.table.now) self.entry.seat.now.seat self.exit.1.0.now.seat None }
         ensures none { standing (opening_of self.entry.table.now) self.entry.seat.now.seat ≡ Rests →
             self.exit.1.0.now ≡ self.entry.seat.now }
         ensures begins { begins_of self.exit.1.0.now.seat ≡ begins_of self.entry.seat.now.seat }

@@ -7,6 +7,7 @@ use Rattle.driven_turns.specs.Driven.{is_declared}
 use Rattle.driven_turns.proofs.RestLemmas.{IsFree, bare_out, free_own}
 use Rattle.transactions.proofs.RequestLemmas.{asked_begin_read, asked_keeps, asks_one, begins_more, begun_as, begun_since, is_idle}
 use Rattle.transactions.proofs.RequestLemmas.{then_keeps}
+use Rattle.transactions.proofs.RequestLemmas.{asked_aborted}
 use Rattle.transactions.proofs.requests.begin_read.Goals as goal
 
 pub ask_begin_read-requires-clause-idle : goal.ask_begin_read-requires-clause-idle
@@ -53,3 +54,8 @@ returns-clause-begins g c =
 
 pub returns-clause-asks : goal.returns-clause-asks
 returns-clause-asks g c = c.begun.ensures.asks ∙ asks_one c.args.seat.now c.ask_begin_read.new.seat BeginRead c.ask_begin_read.ensures.asked
+
+pub returns-clause-same : goal.returns-clause-same
+returns-clause-same g c =
+    c.begun.ensures.same
+    ∙ asked_aborted (opening_of c.args.table.now) c.args.seat.now c.ask_begin_read.new.seat BeginRead c.ask_begin_read.ensures.asked

@@ -56,3 +56,8 @@ returns-clause-begins g c = same_begins c.args.seat.now c.drive-told.new.seat c.
 
 pub returns-clause-asks : goal.returns-clause-asks
 returns-clause-asks g c = c.drive-told.ensures.driven.asks
+
+pub returns-clause-same : goal.returns-clause-same
+returns-clause-same g c =
+    c.drive-told.ensures.driven.aborted.begin
+    (begins c.args.table.now c.args.seat.now c.args.actor.now c.requires.drives.ties c.requires.stage)

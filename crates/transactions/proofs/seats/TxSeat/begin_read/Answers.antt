@@ -1,4 +1,4 @@
-use Rattle.std.proofs.Common.{ap, arith, true}
+use Rattle.std.proofs.Common.{◌∙◌, ap, arith, true}
 use Rattle.seq_model.specs.declared.event.Answer.TheVariants as answer
 use Rattle.tx_actor.specs.declared.actor.Told.TheVariants as told
 use Rattle.tx_table.specs.Seated.{opening_of}
@@ -35,3 +35,6 @@ returns-clause-ready g c =
     begun_ready true c.args.table.now c.args.self.now c.abort.new.self _ c.begin_read.result c.requires.ready
     c.begin_read.ensures.drives c.begin_read.ensures.begun
     c.begin_read.ensures.refused
+
+pub returns-clause-noted : goal.returns-clause-noted
+returns-clause-noted g c opened = c.begin_read.ensures.same ∙ c.abort.ensures.noted opened
