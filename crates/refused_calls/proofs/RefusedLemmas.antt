@@ -1,5 +1,5 @@
 -- What a law says of a refusal is so of whatever was answered.
-use Rattle.std.proofs.Common.{◌≡◌, List, Result, Ok, Err, IfErr}
+use Rattle.std.proofs.Common.{Result, Ok, Err, IfErr}
 use Rattle.seq_model.specs.declared.call.Call.{Call}
 use Rattle.seq_model.specs.declared.call.Reply.{Reply}
 use Rattle.seq_model.specs.declared.record.Record.{Record}

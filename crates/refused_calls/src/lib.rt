@@ -2,32 +2,37 @@
 //!
 //! Nothing here computes anything new: it shows that the contracts of `transactions` and the laws of `serial_seats` chain at a call.
 #![tactic(auto)]
-ghost use Rattle.std.specs.Prelude.{◌≡◌, List, IfErr};
+
+ghost use Rattle.std.specs.Prelude.{◌≡◌, IfErr, List, None};
 ghost use Rattle.seq_model.specs.declared.call.Call.{Call as Asked};
 ghost use Rattle.seq_model.specs.declared.call.Reply.{Reply as Replied};
 ghost use Rattle.tx_phases.specs.Phases.{Rests, Stands};
 ghost use Rattle.tx_table.specs.Seated.{contents_in, opening_of};
 ghost use Rattle.transactions.specs.Ready.{HasBegunSince, IsReady, standing};
-ghost use Rattle.serial_seats.specs.Ended.{SeesOneStateOf, ShownBy, WasAborted};
+ghost use Rattle.serial_seats.specs.Ended.{SeesOneStateOf, ShownBy, WasAborted, WasRefused};
 
 use seq_model::{Call, Record, Refusal, Reply, Value};
-use serial_seats::laws::{open_transactions_see_one_state, refused_transactions_saw_one_state};
+use serial_seats::laws::{ended_transactions_saw_one_state, open_transactions_see_one_state};
 use transactions::TxSeat;
 use tx_table::TxTable;
 
 /// A call. Where it is refused and has ended its transaction, the table shows it as an aborted one that saw one state; where the
 /// transaction is open still, all that it has been answered so far is what one state answers.
-pub fn call<V: Value>(table: &TxTable<V>, seat: &mut TxSeat<V>, call: Call<V>) -> Result<Reply<V>, Refusal>
+pub fn call<V: Value>(
+    table: &TxTable<V>,
+    seat: &mut TxSeat<V>,
+    call: Call<V>,
+) -> Result<Reply<V>, Refusal>
     requires ready { IsReady table.now seat.old }
     requires since { HasBegunSince table.now seat.old }
     ensures ready { IsReady table.now seat.new }
     ensures since { HasBegunSince table.now seat.new }
     ensures refused { IfErr result (λ cause. (calls : List (Asked V × Replied V)) → standing (opening_of table.now) seat.old.seat ≡ Stands calls →
         standing (opening_of table.now) seat.new.seat ≡ Rests →
-        ShownBy table.now seat.new.seat (WasAborted (contents_in table.now) (opening_of table.now) seat.old.seat calls cause)) }
+        ShownBy table.now seat.new.seat (WasRefused (contents_in table.now) (opening_of table.now) seat.old.seat calls cause)) }
     ensures open { ShownBy table.now seat.new.seat (SeesOneStateOf (contents_in table.now) (opening_of table.now) seat.new.seat) }
 {
-    refused_transactions_saw_one_state::<V>();
+    ended_transactions_saw_one_state::<V>();
     open_transactions_see_one_state::<V>();
     seat.call(table, call)
 }
@@ -38,8 +43,19 @@ pub fn commit<V: Value>(table: &TxTable<V>, seat: &mut TxSeat<V>) -> Result<Reco
     requires since { HasBegunSince table.now seat.old }
     ensures ready { IsReady table.now seat.new }
     ensures refused { IfErr result (λ cause. (calls : List (Asked V × Replied V)) → standing (opening_of table.now) seat.old.seat ≡ Stands calls →
-        ShownBy table.now seat.new.seat (WasAborted (contents_in table.now) (opening_of table.now) seat.old.seat calls cause)) }
+        ShownBy table.now seat.new.seat (WasRefused (contents_in table.now) (opening_of table.now) seat.old.seat calls cause)) }
 {
-    refused_transactions_saw_one_state::<V>();
+    ended_transactions_saw_one_state::<V>();
     seat.commit(table)
+}
+
+/// An abort. The table shows the transaction that was open as an aborted one that saw one state.
+pub fn abort<V: Value>(table: &TxTable<V>, seat: &mut TxSeat<V>)
+    requires ready { IsReady table.now seat.old }
+    ensures ready { IsReady table.now seat.new }
+    ensures shown { (calls : List (Asked V × Replied V)) → standing (opening_of table.now) seat.old.seat ≡ Stands calls →
+        ShownBy table.now seat.new.seat (WasAborted (contents_in table.now) (opening_of table.now) seat.old.seat calls None) }
+{
+    ended_transactions_saw_one_state::<V>();
+    seat.abort(table);
 }

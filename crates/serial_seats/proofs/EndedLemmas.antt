@@ -2,7 +2,7 @@
 --
 -- The own world of its seat has it as the last of its aborted ones (`IsAbortedFor`), and what is asked later leaves these. They are those
 -- that the table's world has of the actor, each of which saw one state (`HasAborted`).
-use Rattle.std.proofs.Common.{◌≡◌, ◌⊎◌, ℕ, true, false, List, [], ◌∷◌, ◌++◌, Option, Some, None, inl, inr, ⊎_elim, refl, sym, ap, ◌∙◌, subst, arith}
+use Rattle.std.proofs.Common.{◌≡◌, ℕ, true, false, List, [], ◌∷◌, ◌++◌, Option, Some, None, inl, inr, ⊎_elim, sym, ap, ◌∙◌, subst, arith}
 use Rattle.std.specs.Prelude.{◌==◌}
 use Rattle.std.proofs.lemmas.Bool.{cases_Bool, cond-false, cond-true}
 use Rattle.atomic_table.specs.Table.{State}
@@ -12,7 +12,6 @@ use Rattle.seq_model.specs.declared.call.Call.{Call}
 use Rattle.seq_model.specs.declared.call.Reply.{Reply}
 use Rattle.seq_model.specs.declared.record.Record.{Record}
 use Rattle.seq_model.specs.declared.refusal.Refusal.{Refusal}
-use Rattle.seq_model.specs.declared.refusal.Refusal.TheVariants as refusal
 use Rattle.replay_log.specs.Seats as worlds
 use Rattle.replay_log.specs.Seats.{Ended, Seat, World}
 use Rattle.replay_log.specs.WorldSerial.{AllSaw, SawAt}
@@ -28,7 +27,7 @@ use Rattle.tx_table.specs.declared.view.View.{View}
 use Rattle.tx_table.proofs.Turned.{asked_calm}
 use Rattle.driven_turns.specs.Driven.{aborted_for, seat_in, standing}
 use Rattle.transactions.specs.Requests.{IsAbortedFor, IsLastAborted}
-use Rattle.serial_seats.specs.Ended.{SeesOneStateOf, ShownBy, WasAborted}
+use Rattle.serial_seats.specs.Ended.{SeesOneStateOf, ShownBy, WasAborted, WasRefused}
 use Rattle.serial_seats.specs.Records.{HasAborted, ShowsSeats}
 
 module _ {V : Type 0} where
@@ -74,25 +73,22 @@ module _ {V : Type 0} where
   kept_aborted : (o : World V) (u : table.Seat V) → (kept o u).aborted ≡ (acts o u).aborted
   kept_aborted o u = sym (asked_calm (seated.actor u) (list_of u.asked) (kept o u)).aborted
 
-  was_aborted : (t : TxTable V) (s u : table.Seat V) (calls : List (Call V × Reply V)) (cause : Refusal) (noted : Option Refusal)
-      → (noted ≡ Some cause) ⊎ ((cause ≡ refusal.OutOfMemory) × (noted ≡ None))
-      → seated.actor u ≡ seated.actor s → standing (opening_of t) s ≡ Stands calls → IsLastAborted (opening_of t) s u noted
+  was_aborted : (t : TxTable V) (s u : table.Seat V) (calls : List (Call V × Reply V)) (cause : Option Refusal)
+      → seated.actor u ≡ seated.actor s → standing (opening_of t) s ≡ Stands calls → IsLastAborted (opening_of t) s u cause
       → (w : World V) → HasAborted (contents_in t) (opening_of t) w (seated.actor u, (view u).turns)
       → WasAborted (contents_in t) (opening_of t) s calls cause w
-  was_aborted t s u calls cause noted why same on last w has =
+  was_aborted t s u calls cause same on last w has =
       let o = opening_of t in
       let cs : (seat_in o s).calls ≡ calls = stands_as (seat_in o s).calls calls (seat_in o s).stage on in
-      let all : (kept o u).aborted ≡ (acts o s).aborted ++ aborted_for o s noted ∷ [] = kept_aborted o u ∙ last in
-      let here = among (seated.actor u) w.aborted (acts o s).aborted (aborted_for o s noted) (has.own ∙ all) in
-      let saw = last_saw (contents_in t) w.records (acts o s).aborted (aborted_for o s noted)
+      let all : (kept o u).aborted ≡ (acts o s).aborted ++ aborted_for o s cause ∷ [] = kept_aborted o u ∙ last in
+      let here = among (seated.actor u) w.aborted (acts o s).aborted (aborted_for o s cause) (has.own ∙ all) in
+      let saw = last_saw (contents_in t) w.records (acts o s).aborted (aborted_for o s cause)
       (subst (AllSaw (contents_in t) w.records) all has.saw) in
       record {
-        noted = noted;
-        why = why;
         before = here.before;
         after = here.after;
         there = here.there ∙ (λ i. here.before
-            ++ record { actor = seated.actor s; rv = (seat_in o s).rv; calls = cs i; cause = noted } ∷ here.after);
+            ++ record { actor = seated.actor s; rv = (seat_in o s).rv; calls = cs i; cause = cause } ∷ here.after);
         saw = subst (λ (k : List (Call V × Reply V)). IsLegal k (state_at (seat_in o s).rv w.records (contents_in t))) cs saw;
       }
 
@@ -100,20 +96,20 @@ module _ {V : Type 0} where
   abbrev pub SeatLaw : TxTable V → Type 0
   SeatLaw t = (x : State (Slot V) (View V)) (rule : Holds t.whole.shared.key x) → ShowsSeats t.whole.shared.key rule.rule.events x
 
-  pub shown_aborted : (t : TxTable V) → SeatLaw t → (s u : table.Seat V) (calls : List (Call V × Reply V)) (cause : Refusal)
-      → seated.actor u ≡ seated.actor s → standing (opening_of t) s ≡ Stands calls → IsAbortedFor (opening_of t) s u cause
+  pub shown_aborted : (t : TxTable V) → SeatLaw t → (s u : table.Seat V) (calls : List (Call V × Reply V)) (cause : Option Refusal)
+      → seated.actor u ≡ seated.actor s → standing (opening_of t) s ≡ Stands calls → IsLastAborted (opening_of t) s u cause
       → ShownBy t u (WasAborted (contents_in t) (opening_of t) s calls cause)
-  shown_aborted t law s u calls cause same on noted x rule at = by noted
-    where
-      w : World V
-      w = run (opening_of t) rule.rule.events
+  shown_aborted t law s u calls cause same on last x rule at =
+      was_aborted t s u calls cause same on last (run (opening_of t) rule.rule.events)
+      ((law x rule).aborted (seated.actor u) (view u) at 0 (seated.actor u, (view u).turns) (omega arith))
 
-      has : HasAborted (contents_in t) (opening_of t) w (seated.actor u, (view u).turns)
-      has = (law x rule).aborted (seated.actor u) (view u) at 0 (seated.actor u, (view u).turns) (omega arith)
-
-      by : IsAbortedFor (opening_of t) s u cause → WasAborted (contents_in t) (opening_of t) s calls cause w
-      by (inl last) = was_aborted t s u calls cause (Some cause) (inl refl) same on last w has
-      by (inr memory) = was_aborted t s u calls cause None (inr (memory.0, refl)) same on memory.1 w has
+  pub shown_refused : (t : TxTable V) → SeatLaw t → (s u : table.Seat V) (calls : List (Call V × Reply V)) (cause : Refusal)
+      → seated.actor u ≡ seated.actor s → standing (opening_of t) s ≡ Stands calls → IsAbortedFor (opening_of t) s u cause
+      → ShownBy t u (WasRefused (contents_in t) (opening_of t) s calls cause)
+  shown_refused t law s u calls cause same on (inl last) x rule at =
+      inl (shown_aborted t law s u calls (Some cause) same on last x rule at)
+  shown_refused t law s u calls cause same on (inr memory) x rule at =
+      inr (memory.0, shown_aborted t law s u calls None same on memory.1 x rule at)
 
   -- ---- an open transaction
   open_saw : (c : Contents V) (rs : List (ℕ × Record V)) (y : Seat V) (st : worlds.Stage V) (calls : List (Call V × Reply V))

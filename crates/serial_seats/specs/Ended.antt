@@ -31,17 +31,18 @@ module _ {V : Type 0} where
       (x : State (Slot V) (View V)) (rule : Holds t.whole.shared.key x) → get_elem? x.views (actor u) ≡ some (view u)
       → P (run (opening_of t) rule.rule.events)
 
-  -- The transaction of these calls that was open at s is an aborted one of the world w, for this cause; where memory was wanting as its
-  -- last request was asked, as one that was given up so. Its calls have the replies of one state: that of w, from the opening c on, at the
-  -- number at which it began.
-  pub record WasAborted (c : Contents V) (o : World V) (s : Seat V) (calls : List (Call V × Reply V)) (cause : Refusal) (w : World V)
+  -- The transaction of these calls that was open at s is an aborted one of the world w, for this cause, or as its actor asked. Its calls
+  -- have the replies of one state: that of w, from the opening c on, at the number at which it began.
+  pub record WasAborted (c : Contents V) (o : World V) (s : Seat V) (calls : List (Call V × Reply V)) (cause : Option Refusal) (w : World V)
       : Type 0 where
-    pub noted : Option Refusal
-    pub why : (noted ≡ Some cause) ⊎ ((cause ≡ OutOfMemory) × (noted ≡ None))
     pub before : List (Ended V)
     pub after : List (Ended V)
-    pub there : w.aborted ≡ before ++ record { actor = actor s; rv = (seat_in o s).rv; calls = calls; cause = noted } ∷ after
+    pub there : w.aborted ≡ before ++ record { actor = actor s; rv = (seat_in o s).rv; calls = calls; cause = cause } ∷ after
     pub saw : IsLegal calls (state_at (seat_in o s).rv w.records c)
+
+  -- it was refused for this cause; or memory was wanting as its last request was asked, and it was aborted
+  abbrev pub WasRefused : Contents V → World V → Seat V → List (Call V × Reply V) → Refusal → World V → Type 0
+  WasRefused c o s calls cause w = WasAborted c o s calls (Some cause) w ⊎ ((cause ≡ OutOfMemory) × WasAborted c o s calls None w)
 
   -- What the actor of u has asked since its last step leads from w to a world that is to it as its own world is now; and the calls of an
   -- open transaction have the replies of one state: that of w, from the opening c on, at the number at which it began.

@@ -1,5 +1,5 @@
 //! The laws. Each function computes nothing: its contract is the law.
-ghost use Rattle.std.specs.Prelude.{◌≡◌, ℕ, Err, List};
+ghost use Rattle.std.specs.Prelude.{◌≡◌, ℕ, Err, List, None};
 ghost use Rattle.atomic_table.specs.Table.{State};
 ghost use Rattle.seq_model.specs.declared.call.Call.{Call};
 ghost use Rattle.seq_model.specs.declared.call.Reply.{Reply};
@@ -13,16 +13,16 @@ ghost use Rattle.replay_log.specs.Worlds.{run};
 ghost use Rattle.tx_actor.specs.declared.actor.Told.{Told};
 ghost use Rattle.tx_table.specs.Opening.{Holds};
 ghost use Rattle.tx_phases.specs.Phases.{Rests, Stands};
-ghost use Rattle.tx_table.specs.Seated.{contents_in, opening_of};
+ghost use Rattle.tx_table.specs.Seated.{actor, contents_in, opening_of};
 ghost use Rattle.tx_table.specs.Shown.{Opens, Slot};
 ghost use Rattle.tx_table.specs.declared.table.TxTable.{TxTable};
 ghost use Rattle.tx_table.specs.declared.view.Opening.{Opening};
 ghost use Rattle.tx_table.specs.declared.view.View.{View};
 ghost use Rattle.driven_turns.specs.Driven.{HasTold};
 ghost use Rattle.transactions.specs.Ready.{HasCalled, HasFinished, IsReady, standing};
-ghost use Rattle.transactions.specs.Requests.{IsFoundAndTold};
+ghost use Rattle.transactions.specs.Requests.{IsFoundAndTold, IsLastAborted};
 ghost use Rattle.transactions.specs.declared.seats.TxSeat.{TxSeat};
-ghost use Rattle.serial_seats.specs.Ended.{SeesOneStateOf, ShownBy, WasAborted};
+ghost use Rattle.serial_seats.specs.Ended.{SeesOneStateOf, ShownBy, WasAborted, WasRefused};
 ghost use Rattle.serial_seats.specs.Records.{ShowsSeats};
 ghost use Rattle.serial_seats.specs.Refused.{GaveUp, GaveUpFor, IsEndTold, IsGivenUpFor};
 ghost use Rattle.serial_seats.specs.Seats.{HoldsNothing, SeesOneState};
@@ -95,16 +95,19 @@ pub fn given_up_seats_change_nothing<V: Value>()
         IsFoundAndTold (opening_of t) s.seat u.seat cause → GaveUpFor (opening_of t) s.seat u.seat cause }
 {}
 
-/// An open transaction that is refused a call, and has ended so, or a commit: whatever the table shows from then on, until the seat takes a
+/// An open transaction that is refused a call, and has ended so, or a commit, or that its actor aborts: whatever the table shows from then on, until the seat takes a
 /// step again, has it as an aborted transaction of the seat's actor, for this cause, with the calls that it had made; and these have the
 /// replies of one state, that of what the table shows, at the number at which the transaction began.
-pub fn refused_transactions_saw_one_state<V: Value>()
+pub fn ended_transactions_saw_one_state<V: Value>()
     ensures called { (t : TxTable V) (s u : TxSeat V) (call : Call V) (calls : List (Call V × Reply V)) (cause : Refusal) →
         HasCalled t s u call (Err cause) → standing (opening_of t) s.seat ≡ Stands calls → standing (opening_of t) u.seat ≡ Rests →
-        ShownBy t u.seat (WasAborted (contents_in t) (opening_of t) s.seat calls cause) }
+        ShownBy t u.seat (WasRefused (contents_in t) (opening_of t) s.seat calls cause) }
     ensures finished { (t : TxTable V) (s u : TxSeat V) (calls : List (Call V × Reply V)) (cause : Refusal) →
         HasFinished t s u (Err cause) → standing (opening_of t) s.seat ≡ Stands calls →
-        ShownBy t u.seat (WasAborted (contents_in t) (opening_of t) s.seat calls cause) }
+        ShownBy t u.seat (WasRefused (contents_in t) (opening_of t) s.seat calls cause) }
+    ensures aborted { (t : TxTable V) (s u : TxSeat V) (calls : List (Call V × Reply V)) → actor u.seat ≡ actor s.seat →
+        standing (opening_of t) s.seat ≡ Stands calls → IsLastAborted (opening_of t) s.seat u.seat None →
+        ShownBy t u.seat (WasAborted (contents_in t) (opening_of t) s.seat calls None) }
 {
     tables_show_their_seats::<V>();
 }
