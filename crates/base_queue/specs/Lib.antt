@@ -1,2 +1,3 @@
 pub mod Conflicts
 pub mod FrameLemmas
+pub mod SharedList

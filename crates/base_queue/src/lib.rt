@@ -9,7 +9,9 @@
 #![tactic(auto)]
 
 mod cells;
+mod chunk;
 pub mod laws;
 mod queue_base;
+mod shared_list;
 
 pub use queue_base::{QueueBase, change_in};

@@ -59,7 +59,7 @@ impl QueueBase {
         }
         let editions = Editions::new(alloc, stripes + 2)?;
         Ok(QueueBase {
-            cells: Cells::new(alloc),
+            cells: Cells::new(alloc)?,
             stripes,
             editions,
         })
