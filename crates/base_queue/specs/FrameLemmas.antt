@@ -32,7 +32,7 @@ use Rattle.base_queue.specs.Conflicts.{Shown, outcome_of, reads_of, changes_by, 
 use Rattle.base_queue.specs.Conflicts.{rules}
 
 -- ---- cells
-below_cells : (h q : ℕ) (items : List ℕ) → q < h → get (cells_from h items) q ≡ None
+pub below_cells : (h q : ℕ) (items : List ℕ) → q < h → get (cells_from h items) q ≡ None
 below_cells h q [] lt = get-empty nat_cmp q
 below_cells h q (x ∷ items) lt =
     let other : eq_by_cmp nat_cmp q h ≡ false = grind (arith, nat_tests) in
@@ -43,7 +43,7 @@ first_cell : (h x : ℕ) (items : List ℕ) → get (cells_from h (x ∷ items))
 first_cell h x items = get-insert nat_cmp_total (cells_from (suc h) items) h x h
     ∙ ap (λ b. cond b (Some x) (get (cells_from (suc h) items) h)) (key_itself h)
 
-remove_new : (m : FinMap nat_cmp ℕ) (k v : ℕ) → get m k ≡ None → remove (insert m k v) k ≡ m
+pub remove_new : (m : FinMap nat_cmp ℕ) (k v : ℕ) → get m k ≡ None → remove (insert m k v) k ≡ m
 remove_new m k v none = same_map nat_cmp_total nat_cmp-IsAntisymmetric _ _ (λ q.
     get-remove nat_cmp_total (insert m k v) k q ∙ elim (eq_by_cmp nat_cmp q k) as
     (λ b. eq_by_cmp nat_cmp q k ≡ b → cond b None (get (insert m k v) q) ≡ get m q) [

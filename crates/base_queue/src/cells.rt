@@ -1,6 +1,6 @@
 //! The items of a queue by their indexes. An item keeps its index for as long as it stands in the queue, and no index returns.
 ghost use Rattle.std.specs.Prelude.{◌≡◌, ◌+◌, ◌-◌, ◌<◌, ◌≤◌, [], Some, None, IsOk, IfOk, OnOk, length, drop};
-ghost use Rattle.std.specs.FinMap.{get, values};
+ghost use Rattle.std.specs.FinMap.{get, insert, remove, values};
 ghost use Rattle.seq_model.specs.Calls.{found_reply};
 ghost use Rattle.base_queue.specs.Conflicts.{cells_from, change_shown, queue_view};
 ghost use Rattle.base_queue.specs.SharedList.{with_odd};
@@ -139,7 +139,14 @@ impl Cells {
         }
     }
 
-    fn put_in(&mut self, index: u64, item: u64) {
+    // Puts an item into the cell of an index.
+    fn put_in(&mut self, index: u64, item: u64)
+        requires room { 0 < self.old.room }
+        requires below { index < INDEX_LIMIT }
+        ensures cells { self.new.shown.cells ≡ insert self.old.shown.cells index item }
+        ensures ends { (self.new.shown.head ≡ self.old.shown.head) × (self.new.shown.tail ≡ self.old.shown.tail) }
+        ensures room { self.old.room ≤ self.new.room + 1 }
+    {
         let left = (self.items.len() - self.gone) as u64;
         if self.odd.is_empty() && index == self.first + left {
             self.items.push(item);
@@ -148,7 +155,13 @@ impl Cells {
         }
     }
 
-    fn take_out(&mut self, index: u64) {
+    // Empties the cell of an index.
+    fn take_out(&mut self, index: u64)
+        requires room { 0 < self.old.room }
+        ensures cells { self.new.shown.cells ≡ remove self.old.shown.cells index }
+        ensures ends { (self.new.shown.head ≡ self.old.shown.head) × (self.new.shown.tail ≡ self.old.shown.tail) }
+        ensures room { self.old.room ≤ self.new.room + 1 }
+    {
         if self.odd.is_empty() && index == self.first && self.gone < self.items.len() {
             self.gone += 1;
             self.first += 1;

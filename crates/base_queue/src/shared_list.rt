@@ -49,9 +49,8 @@ impl SharedList {
         ensures { IfOk result (λ list. list.items ≡ items.now) }
     {
         let mut chunks = Vec::with_capacity(alloc, items.len() / CHUNK)?;
-        let rest = freeze(alloc, &mut chunks, items)?;
-        let chunked = items.len() - rest.len();
-        let back = Vec::from_slice(alloc, rest)?;
+        let chunked = freeze(alloc, &mut chunks, items)?;
+        let back = Vec::from_slice(alloc, &items[chunked..])?;
         Ok(SharedList {
             chunks: Arc::new(alloc, chunks)?,
             chunked,
@@ -175,22 +174,22 @@ fn rebuilt(
     for at in from..chunks.len() {
         list.push(chunks[at].share()?)?;
     }
-    let rest = freeze(alloc, &mut list, back)?;
-    Ok((list, back.len() - rest.len()))
+    let moved = freeze(alloc, &mut list, back)?;
+    Ok((list, moved))
 }
 
-// Adds as many chunks as the items fill, and answers the items that are left.
-fn freeze<'a>(alloc: Global, list: &mut Vec<Chunk>, items: &'a [u64]) -> Result<&'a [u64], Memory>
-    ensures items { IfOk result (λ rest. flat list.new.items ++ rest.now ≡ flat list.old.items ++ items.now) }
-    ensures full { AreOf CHUNK list.old.items → AreOf CHUNK list.new.items }
+// Adds as many chunks as the items fill, and answers how many items these are.
+fn freeze(alloc: Global, list: &mut Vec<Chunk>, items: &[u64]) -> Result<usize, Memory>
+    ensures items { IfOk result (λ moved. flat list.new.items ++ drop moved items.now ≡ flat list.old.items ++ items.now) }
+    ensures moved { IfOk result (λ moved. moved ≤ length items.now) }
+    ensures full { AreOf CHUNK list.old.items → OnOk result (AreOf CHUNK list.new.items) }
 {
-    let mut rest = items;
-    while rest.len() >= CHUNK {
-        let (next, after) = rest.split_at(CHUNK);
-        list.push(Chunk::of_slice(alloc, next)?)?;
-        rest = after;
+    let mut at = 0;
+    while items.len() - at >= CHUNK {
+        list.push(Chunk::of_slice(alloc, &items[at..at + CHUNK])?)?;
+        at += CHUNK;
     }
-    Ok(rest)
+    Ok(at)
 }
 
 fn cut_front(items: &mut Vec<u64>, count: usize)
