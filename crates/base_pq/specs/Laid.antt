@@ -1,0 +1,12 @@
+-- Numbers of copies that are laid over a multiset.
+use Rattle.std.specs.Prelude.{ℕ, List, [], ◌∷◌, Option, Some, None, fold, ◌==◌, if◌then◌else◌}
+use Rattle.seq_model.specs.Counts.{Multiset, with_copies}
+
+-- the multiset, with as many copies of these elements as the entries say
+abbrev pub laid : Multiset → List (ℕ × ℕ) → Multiset
+laid m es = fold (λ n e. with_copies n e.0 e.1) m es
+
+-- the first of the keys of which something is kept
+abbrev pub first_kept : (ℕ → ℕ) → List (ℕ × ℕ) → Option ℕ
+first_kept f [] = None
+first_kept f (e ∷ es) = if f e.0 == 0 then first_kept f es else Some e.0

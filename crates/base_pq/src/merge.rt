@@ -1,0 +1,57 @@
+//! Two lists of numbers of copies, laid one over the other.
+ghost use Rattle.std.specs.Prelude.{◌≡◌, ◌<◌, ◌≤◌, ◌++◌, All, IfOk, OnOk, drop, length};
+ghost use Rattle.std.specs.FinMap as map;
+ghost use Rattle.seq_model.specs.Entries.{IsRising};
+ghost use Rattle.seq_model.specs.Counts.{with_copies};
+ghost use Rattle.base_pq.specs.Laid.{laid};
+
+use crate::sorted::place_of;
+use seq_model::Memory;
+use std::alloc::Global;
+
+/// The entries of one list with those of another laid over them, where 0 copies are none.
+pub fn merged(
+    alloc: Global,
+    list: &[(u64, u64)],
+    over: &[(u64, u64)],
+) -> Result<Vec<(u64, u64)>, Memory>
+    requires list { IsRising list.now }
+    requires over { IsRising over.now }
+    ensures rising { IfOk result (λ made. IsRising made.items) }
+    ensures made { IfOk result (λ made. map.from_sorted made.items ≡ laid (map.from_sorted list.now) over.now) }
+{
+    let mut made = Vec::with_capacity(alloc, list.len() + over.len())?;
+    let mut from = 0;
+    for (element, count) in over {
+        from += lay_one(&mut made, &list[from..], *element, *count)?;
+    }
+    made.extend_from_slice(&list[from..])?;
+    Ok(made)
+}
+
+// Adds what stands before the element in the rest, and the element with its copies, if there are any. It answers how much of the rest
+// is used.
+fn lay_one(
+    made: &mut Vec<(u64, u64)>,
+    rest: &[(u64, u64)],
+    element: u64,
+    count: u64,
+) -> Result<usize, Memory>
+    requires rising { IsRising (made.old.items ++ rest.now) }
+    requires below { All (λ e. e.0 < element) made.old.items }
+    ensures used { IfOk result (λ used. used ≤ length rest.now) }
+    ensures rising { IfOk result (λ used. IsRising (made.new.items ++ drop used rest.now)) }
+    ensures made { IfOk result (λ used. map.from_sorted (made.new.items ++ drop used rest.now)
+        ≡ with_copies (map.from_sorted (made.old.items ++ rest.now)) element count) }
+    ensures below { OnOk result (All (λ e. e.0 ≤ element) made.new.items) }
+{
+    let (at, used) = match place_of(rest, element) {
+        Ok(at) => (at, at + 1),
+        Err(at) => (at, at),
+    };
+    made.extend_from_slice(&rest[..at])?;
+    if count != 0 {
+        made.push((element, count))?;
+    }
+    Ok(used)
+}
