@@ -1,5 +1,7 @@
 -- Numbers of copies that are laid over a multiset.
 use Rattle.std.specs.Prelude.{ℕ, List, [], ◌∷◌, Option, Some, None, fold, ◌==◌, if◌then◌else◌}
+use Rattle.std.specs.Prelude.{◌+◌}
+use Rattle.seq_model.specs.Entries.{rank, has_key}
 use Rattle.seq_model.specs.Counts.{Multiset, with_copies}
 
 -- the multiset, with as many copies of these elements as the entries say
@@ -10,3 +12,7 @@ laid m es = fold (λ n e. with_copies n e.0 e.1) m es
 abbrev pub first_kept : (ℕ → ℕ) → List (ℕ × ℕ) → Option ℕ
 first_kept f [] = None
 first_kept f (e ∷ es) = if f e.0 == 0 then first_kept f es else Some e.0
+
+-- how many entries stand up to the place of the key, with the one that has it
+abbrev pub through : {V : Type 0} → ℕ → List (ℕ × V) → ℕ
+through k es = rank k es + (if has_key k es then 1 else 0)

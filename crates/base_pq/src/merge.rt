@@ -1,9 +1,9 @@
 //! Two lists of numbers of copies, laid one over the other.
 ghost use Rattle.std.specs.Prelude.{◌≡◌, ◌<◌, ◌≤◌, ◌++◌, All, IfOk, OnOk, drop, length};
 ghost use Rattle.std.specs.FinMap as map;
-ghost use Rattle.seq_model.specs.Entries.{IsRising};
+ghost use Rattle.seq_model.specs.Entries.{IsRising, rank};
 ghost use Rattle.seq_model.specs.Counts.{with_copies};
-ghost use Rattle.base_pq.specs.Laid.{laid};
+ghost use Rattle.base_pq.specs.Laid.{laid, through};
 
 use crate::sorted::place_of;
 use seq_model::Memory;
@@ -45,13 +45,23 @@ fn lay_one(
         ≡ with_copies (map.from_sorted (made.old.items ++ rest.now)) element count) }
     ensures below { OnOk result (All (λ e. e.0 ≤ element) made.new.items) }
 {
-    let (at, used) = match place_of(rest, element) {
-        Ok(at) => (at, at + 1),
-        Err(at) => (at, at),
-    };
+    let (at, used) = parted(rest, element);
     made.extend_from_slice(&rest[..at])?;
     if count != 0 {
         made.push((element, count))?;
     }
     Ok(used)
+}
+
+// How many entries of the list stand before the element, and how many up to it.
+fn parted(list: &[(u64, u64)], element: u64) -> (usize, usize)
+    requires { IsRising list.now }
+    ensures before { result.0 ≡ rank element list.now }
+    ensures used { result.1 ≡ through element list.now }
+    ensures within { (result.0 ≤ length list.now) × (result.1 ≤ length list.now) }
+{
+    match place_of(list, element) {
+        Ok(at) => (at, at + 1),
+        Err(at) => (at, at),
+    }
 }
