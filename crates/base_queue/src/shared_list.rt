@@ -20,6 +20,8 @@ pub struct SharedList {
     /// How many items stand in the chunks.
     chunked: usize,
     back: Vec<u64>,
+    /// Whether it is a copy. A copy lives for one transaction, so it never makes chunks.
+    copied: bool,
 }
 
 impl Model for SharedList {
@@ -55,6 +57,7 @@ impl SharedList {
             chunks: Arc::new(alloc, chunks)?,
             chunked,
             back,
+            copied: false,
         })
     }
 
@@ -106,6 +109,9 @@ impl SharedList {
         ensures items { self.new.items ≡ drop result self.old.items }
         ensures room { self.old.room ≤ self.new.room }
     {
+        if self.copied {
+            return 0;
+        }
         let gone = dead.min(self.chunked) / CHUNK;
         if self.chunked == 0 && dead >= self.back.len() - dead {
             cut_front(&mut self.back, dead);
@@ -140,6 +146,7 @@ impl SharedList {
             chunks: Arc::try_clone(&self.chunks)?,
             chunked: self.chunked,
             back,
+            copied: true,
         })
     }
 
@@ -152,6 +159,7 @@ impl SharedList {
         self.back.reserve(other.back.len())?;
         self.chunks = chunks;
         self.chunked = other.chunked;
+        self.copied = true;
         self.back.clear();
         self.back.extend_from_slice(other.back.as_slice())?;
         Ok(())
