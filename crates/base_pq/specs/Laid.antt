@@ -1,8 +1,16 @@
 -- Numbers of copies that are laid over a multiset.
 use Rattle.std.specs.Prelude.{ℕ, List, [], ◌∷◌, Option, Some, None, fold, ◌==◌, if◌then◌else◌}
 use Rattle.std.specs.Prelude.{◌+◌}
+use Rattle.std.specs.Arc.{arc_value}
+use Rattle.std.proofs.Common.{Vec}
+use Rattle.std.specs.declared.sync.Arc.{Arc}
 use Rattle.seq_model.specs.Entries.{rank, has_key}
 use Rattle.seq_model.specs.Counts.{Multiset, with_copies}
+
+-- the entries of a list that is shared, if there is one
+abbrev pub listed : {Z W : Type 0} → Option (Arc (Vec (ℕ × ℕ) Z) W) → List (ℕ × ℕ)
+listed None = []
+listed (Some list) = (arc_value list).items
 
 -- the multiset, with as many copies of these elements as the entries say
 abbrev pub laid : Multiset → List (ℕ × ℕ) → Multiset

@@ -64,6 +64,10 @@ impl Sorted {
         }
     }
 
+    pub fn allocator(&self) -> Global {
+        *self.items.allocator()
+    }
+
     /// Makes room for this many more elements. Where there is room for them, it takes no memory.
     pub fn reserve(&mut self, more: usize) -> Result<(), Memory>
         ensures elements { self.new.elements ≡ self.old.elements }

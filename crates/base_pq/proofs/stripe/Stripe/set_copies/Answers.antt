@@ -1,6 +1,5 @@
 use Rattle.std.proofs.Common.{◌≡◌, ◌+◌, ◌<◌, drop, length, Ok, sym, ap, subst, ◌∙◌, arith}
 use Rattle.std.proofs.lemmas.List.{length-drop}
-use Rattle.std.specs.Arc.{arc_value}
 use Rattle.std.specs.FinMap as map
 use Rattle.std.specs.Ordering.{nat_cmp}
 use Rattle.seq_model.specs.Counts.{HasNoZero, with_copies}
@@ -13,13 +12,13 @@ use Rattle.base_pq.proofs.stripe.Stripe.set_copies.Goals as goal
 
 pub returns-then-count-ne0-clause-elements : goal.returns-then-count-ne0-clause-elements
 returns-then-count-ne0-clause-elements c =
-    let m = map.from_sorted {R = nat_cmp} (drop c.self.inside.gone (arc_value c.self.inside.shared).items) in
+    let m = map.from_sorted {R = nat_cmp} (drop c.self.inside.gone c.self.inside.shared) in
     ap (λ o. laid m (map.entries o)) c.put.ensures.elements ∙ put_over m c.self.inside.own.elements c.args.element c.args.count
     ∙ ap (λ s. with_copies s.elements c.args.element c.args.count) c.self.view_is
 
 pub invariant_of-self : goal.invariant_of-self
 invariant_of-self c =
-    let m = map.from_sorted {R = nat_cmp} (drop c.self.inside.gone (arc_value c.self.inside.shared).items) in
+    let m = map.from_sorted {R = nat_cmp} (drop c.self.inside.gone c.self.inside.shared) in
     let is = ap (λ o. laid m (map.entries o)) c.put.ensures.elements ∙ put_over m c.self.inside.own.elements c.args.element c.args.count in (
       c.self.invariant.0,
       c.self.invariant.1,
@@ -28,11 +27,19 @@ invariant_of-self c =
 
 pub place_of-requires : goal.place_of-requires
 place_of-requires c =
-    subst IsRising (sym c.left.ensures) (rising_drop c.self.inside.gone (arc_value c.self.inside.shared).items c.self.invariant.0)
+    subst IsRising (sym c.left.ensures) (rising_drop c.self.inside.gone c.self.inside.shared c.self.invariant.0)
+
+pub overflow_add-self : goal.overflow_add-self
+overflow_add-self c =
+    let es = c.self.inside.shared in
+    let gone = c.self.inside.gone in
+    let first = subst (λ i. IsPlaceOf c.args.element c.left.result.now (Ok i)) c.in-Ok-eq0.field-0-test c.in-Ok-eq0.ensures in
+    let some : 0 < length (drop gone es) = subst (λ t. 0 < length t) c.left.ensures first.0 in
+    omega (arith, some, length-drop gone es, c.len-total.ensures, c.len-total.type_inv)
 
 pub invariant_of-self-in-Ok-eq0 : goal.invariant_of-self-in-Ok-eq0
 invariant_of-self-in-Ok-eq0 c =
-    let es = (arc_value c.self.inside.shared).items in
+    let es = c.self.inside.shared in
     let gone = c.self.inside.gone in
     let m = map.from_sorted {R = nat_cmp} (drop gone es) in
     let o = c.self.inside.own.elements in
@@ -48,7 +55,7 @@ invariant_of-self-in-Ok-eq0 c =
 
 pub returns-in-Ok-eq0-clause-elements : goal.returns-in-Ok-eq0-clause-elements
 returns-in-Ok-eq0-clause-elements c =
-    let es = (arc_value c.self.inside.shared).items in
+    let es = c.self.inside.shared in
     let gone = c.self.inside.gone in
     let m = map.from_sorted {R = nat_cmp} (drop gone es) in
     let o = c.self.inside.own.elements in
@@ -61,7 +68,7 @@ returns-in-Ok-eq0-clause-elements c =
 
 pub invariant_of-self-in-Ok : goal.invariant_of-self-in-Ok
 invariant_of-self-in-Ok c =
-    let m = map.from_sorted {R = nat_cmp} (drop c.self.inside.gone (arc_value c.self.inside.shared).items) in
+    let m = map.from_sorted {R = nat_cmp} (drop c.self.inside.gone c.self.inside.shared) in
     let o = c.self.inside.own.elements in
     let is = ap (λ t. laid m (map.entries t)) c.put-in-Ok.ensures.elements ∙ put_over m o c.args.element 0 in (
       c.self.invariant.0,
@@ -71,14 +78,14 @@ invariant_of-self-in-Ok c =
 
 pub returns-in-Ok-clause-elements : goal.returns-in-Ok-clause-elements
 returns-in-Ok-clause-elements c =
-    let m = map.from_sorted {R = nat_cmp} (drop c.self.inside.gone (arc_value c.self.inside.shared).items) in
+    let m = map.from_sorted {R = nat_cmp} (drop c.self.inside.gone c.self.inside.shared) in
     let none : 0 ≡ c.args.count = omega (arith, c.if-count-ne0.false) in
     ap (λ t. laid m (map.entries t)) c.put-in-Ok.ensures.elements ∙ put_over m c.self.inside.own.elements c.args.element 0
     ∙ (λ i. with_copies (c.self.view_is i).elements c.args.element (none i))
 
 pub invariant_of-self-in-Err : goal.invariant_of-self-in-Err
 invariant_of-self-in-Err c =
-    let es = (arc_value c.self.inside.shared).items in
+    let es = c.self.inside.shared in
     let m = map.from_sorted {R = nat_cmp} (drop c.self.inside.gone es) in
     let o = c.self.inside.own.elements in
     let out = not_there c.self.inside.gone c.args.element c.in-Err.field-0 es c.left.result.now c.self.invariant.0 c.left.ensures c.in-Err.ensures in
@@ -90,7 +97,7 @@ invariant_of-self-in-Err c =
 
 pub returns-in-Err-clause-elements : goal.returns-in-Err-clause-elements
 returns-in-Err-clause-elements c =
-    let es = (arc_value c.self.inside.shared).items in
+    let es = c.self.inside.shared in
     let m = map.from_sorted {R = nat_cmp} (drop c.self.inside.gone es) in
     let none : 0 ≡ c.args.count = omega (arith, c.if-count-ne0.false) in
     let out = not_there c.self.inside.gone c.args.element c.in-Err.field-0 es c.left.result.now c.self.invariant.0 c.left.ensures c.in-Err.ensures in

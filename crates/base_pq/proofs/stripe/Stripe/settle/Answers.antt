@@ -1,5 +1,4 @@
 use Rattle.std.proofs.Common.{◌≡◌, sym, ap, subst, ◌∙◌, arith}
-use Rattle.std.specs.Arc.{arc_value}
 use Rattle.std.specs.FinMap as map
 use Rattle.seq_model.specs.Counts.{HasNoZero}
 use Rattle.seq_model.specs.Entries.{IsRising}
@@ -11,7 +10,7 @@ use Rattle.base_pq.proofs.stripe.Stripe.settle.Goals as goal
 pub invariant_of-self : goal.invariant_of-self
 invariant_of-self c =
     let m = c.args.self.now.elements in
-    let items : (arc_value c.in-Ok-new.shared).items ≡ map.entries m = ap (λ v. v.items) c.in-Ok-new.ensures.ok ∙ c.in-Ok.ensures in
+    let items : c.in-Ok-of.shared ≡ map.entries m = c.in-Ok-of.ensures ∙ c.in-Ok.ensures in
     let is = (λ i. laid (map.from_sorted (items i)) (map.entries (c.clear.ensures.elements i))) ∙ none_over (map.from_sorted (map.entries m))
     ∙ map.same_entries_map _ _ (entries_of (map.entries m) (map.entries_sorted m)) in (
       subst IsRising (sym items) (map.entries_sorted m),
@@ -19,9 +18,9 @@ invariant_of-self c =
       subst HasNoZero (sym (is ∙ sym (ap (λ s. s.elements) c.self.view_is))) c.self.invariant.2,
     )
 
-pub returns-in-Ok-new-clause-elements : goal.returns-in-Ok-new-clause-elements
-returns-in-Ok-new-clause-elements c =
+pub returns-in-Ok-of-clause-elements : goal.returns-in-Ok-of-clause-elements
+returns-in-Ok-of-clause-elements c =
     let m = c.args.self.now.elements in
-    let items : (arc_value c.in-Ok-new.shared).items ≡ map.entries m = ap (λ v. v.items) c.in-Ok-new.ensures.ok ∙ c.in-Ok.ensures in
+    let items : c.in-Ok-of.shared ≡ map.entries m = c.in-Ok-of.ensures ∙ c.in-Ok.ensures in
     (λ i. laid (map.from_sorted (items i)) (map.entries (c.clear.ensures.elements i))) ∙ none_over (map.from_sorted (map.entries m))
     ∙ map.same_entries_map _ _ (entries_of (map.entries m) (map.entries_sorted m))

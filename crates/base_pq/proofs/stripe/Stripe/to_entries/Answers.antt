@@ -1,5 +1,4 @@
 use Rattle.std.proofs.Common.{Result, Ok, Err, IfOk, sym, ap, subst, ◌∙◌}
-use Rattle.std.specs.Arc.{arc_value}
 use Rattle.std.specs.FinMap as map
 use Rattle.seq_model.specs.Entries.{IsRising}
 use Rattle.seq_model.proofs.EntryLemmas.{entries_of}
@@ -13,7 +12,7 @@ if_both P Q R (Err e) p q f = tt
 
 pub merged-requires-clause-list : goal.merged-requires-clause-list
 merged-requires-clause-list c =
-    subst IsRising (sym c.left.ensures) (rising_drop c.self.inside.gone (arc_value c.self.inside.shared).items c.self.invariant.0)
+    subst IsRising (sym c.left.ensures) (rising_drop c.self.inside.gone c.self.inside.shared c.self.invariant.0)
 
 pub merged-requires-clause-over : goal.merged-requires-clause-over
 merged-requires-clause-over c = subst IsRising (sym c.as_slice.ensures) (map.entries_sorted c.self.inside.own.elements)
