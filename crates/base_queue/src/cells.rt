@@ -18,7 +18,7 @@ pub struct Cells {
     items: SharedList,
     gone: usize,
     first: u64,
-    /// What has become of single cells since a change came that no call makes: of an item at another index than the next, or of one
+    /// What has become of single cells, in order, since a change came that no call makes: an item at another index than the next, or one
     /// taken out elsewhere than at the front.
     odd: Vec<(u64, Option<u64>)>,
     head: u64,
@@ -103,7 +103,7 @@ impl Cells {
         standing(&self.items, self.gone, self.first, index)
     }
 
-    /// Makes room for this many changes. Where there is room for them, it takes no memory.
+    /// Makes room for this many changes. Where there is room for them, it is never refused.
     pub fn reserve(&mut self, more: usize) -> Result<(), Memory>
         ensures shown { self.new.shown ≡ self.old.shown }
         ensures ok { OnOk result (more ≤ self.new.room) }
