@@ -8,10 +8,10 @@ use Rattle.wolimevar.specs.Ends.{ClientShown}
 use Rattle.wolimevar.specs.Frames.{Frame, IsClient}
 
 module _ {V : Type 0} where
-  abbrev pub shown : Seat V → ClientShown {V}
+  abbrev pub shown : Seat V → ClientShown V
   shown s = record { actor = actor s; last = s.last; receipts = (view s).receipts }
 
-  abbrev pub shown_at : Option (TxSeat V) → ClientShown {V}
+  abbrev pub shown_at : Option (TxSeat V) → ClientShown V
   shown_at (Some s) = shown s.seat
   shown_at None = record { actor = 0; last = 0; receipts = [] }
 

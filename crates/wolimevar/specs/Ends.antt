@@ -7,6 +7,13 @@ use Rattle.seq_model.specs.declared.refusal.Refusal.{Refusal}
 use Rattle.tx_table.specs.declared.seat.Seat.{Seat}
 use Rattle.tx_table.specs.Seated.{actor, view}
 
+module _ (V : Type 0) where
+  -- what a client shows: its number among the actors, the last number that it committed or learnt, and its receipts
+  pub record ClientShown : Type 0 where
+    pub actor : ℕ
+    pub last : ℕ
+    pub receipts : List (ℕ × Record V)
+
 module _ {V : Type 0} where
   -- The seat has this receipt more, whose number is its last one.
   pub record HasGained (s u : Seat V) (r : Record V) : Type 0 where
@@ -27,9 +34,3 @@ module _ {V : Type 0} where
   unfoldable pub EndsAs : {A : Type 0} → (A → List (Call V × Reply V) → Type 0) → Seat V → Seat V → Result (A × Record V) Refusal → Type 0
   EndsAs made s u (Ok done) = HasGained s u done.1 × made done.0 done.1.calls
   EndsAs made s u (Err cause) = HasGainedNone s u
-
-  -- what a client shows: its number among the actors, the last number that it committed or learnt, and its receipts
-  pub record ClientShown : Type 0 where
-    pub actor : ℕ
-    pub last : ℕ
-    pub receipts : List (ℕ × Record V)

@@ -7,7 +7,7 @@ use Rattle.transactions.specs.Ready.{IsReady}
 use Rattle.wolimevar.specs.Stores.{StoreShown}
 
 module _ {V : Type 0} where
-  abbrev pub store_at : TxTable V → Option (TxSeat V) → StoreShown {V}
+  abbrev pub store_at : TxTable V → Option (TxSeat V) → StoreShown V
   store_at t (Some s) = record { opening = contents_in t; receipts = (view s.seat).receipts }
   store_at t None = record { opening = contents_in t; receipts = [] }
 

@@ -5,14 +5,15 @@ use Rattle.seq_model.specs.Runs.{IsInCommitOrder, IsRun, after_run}
 use Rattle.seq_model.specs.declared.record.Record.{Record}
 use Rattle.tx_table.specs.Shown.{total}
 
-module _ {V : Type 0} where
+module _ (V : Type 0) where
   -- what it opened with, and the receipts of its transactions, each with the number of its actor
   pub record StoreShown : Type 0 where
     pub opening : Contents V
     pub receipts : List (ℕ × Record V)
 
+module _ {V : Type 0} where
   -- the receipts, in commit order, are a run from the opening that leaves this
-  pub record IsLeftBy (s : StoreShown) (left : Contents V) : Type 0 where
+  pub record IsLeftBy (s : StoreShown V) (left : Contents V) : Type 0 where
     pub order : List (ℕ × Record V)
     pub same : (h : ℕ × Record V → ℕ) → total h s.receipts ≡ total h order
     pub in_order : IsInCommitOrder order

@@ -121,10 +121,11 @@ fn finish<V: Value, T: Drop>(
     ensures ends { EndsAs (λ out calls. (Ok out ≡ ran.gave) × (calls ≡ calls_made (opening_of table.now) seat.old.seat))
         seat.old.seat seat.new.seat result }
 {
-    match ran.gave {
+    let Ran { refused, gave } = ran;
+    match gave {
         Ok(value) => match seat.commit(table) {
             Ok(receipt) => Ok((value, receipt)),
-            Err(Refusal::NoTransaction) => Err(ran.refused.unwrap_or(Refusal::NoTransaction)),
+            Err(Refusal::NoTransaction) => Err(refused.unwrap_or(Refusal::NoTransaction)),
             Err(cause) => Err(cause),
         },
         Err(cause) => {

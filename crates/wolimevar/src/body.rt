@@ -16,7 +16,7 @@ pub trait Body<V> {
 
     type Out: Drop;
 
-    ghost makes: { Self → Out → List (ACall V × AReply V) → Type 0 } = { λ _ _ _. ⊤ };
+    ghost makes: { Self → Self.Out → List (ACall V × AReply V) → Type 0 } = { λ _ _ _. ⊤ };
 
     fn run<S: Scope<V>>(&self, tx: &mut Transaction<'_, V, S>) -> Result<Self::Out, Refusal>
         ensures { IfOk result (λ out. makes self.now out tx.new) };

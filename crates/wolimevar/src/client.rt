@@ -24,7 +24,7 @@ pub struct Client<'t, V, S: Scope<V>> {
 impl<'t, V, S: Scope<V>> Model for Client<'t, V, S> {
     ghost use Rattle.wolimevar.specs.Ends.{ClientShown};
 
-    ghost Value = { ClientShown {V} };
+    ghost Value = { ClientShown V };
 
     ghost use Rattle.wolimevar.specs.Clients.{IsAtClient, shown_at};
 
@@ -48,7 +48,7 @@ impl<'t, V: Value, S: Scope<V>> Client<'t, V, S> {
 
     pub(crate) fn into_seat(self) -> TxSeat<V>
         ensures ready { IfSome S.frame (λ f. IsReady f.table result) }
-        ensures shows { self ≡ shown result.seat }
+        ensures shows { self.entry ≡ shown result.seat }
     {
         let Client {
             table: _,

@@ -34,9 +34,13 @@ pub struct Store<V> {
 }
 
 impl<V> Model for Store<V> {
+    ghost use Rattle.std.specs.Coded.{codes};
+    ghost use Rattle.seq_model.specs.Contents.{contents_code};
     ghost use Rattle.wolimevar.specs.Stores.{StoreShown};
 
-    ghost Value = { StoreShown {V} };
+    ghost Value = { StoreShown V };
+
+    ghost coded = { Prim.hlevel (codes, contents_code V.code) };
 
     ghost use Rattle.wolimevar.specs.StoreSeats.{IsAtStore, store_at};
 

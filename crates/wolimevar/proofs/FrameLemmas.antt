@@ -1,0 +1,79 @@
+-- Calls of a transaction, by the frame that its scope knows.
+use Rattle.std.proofs.Common.{◌≡◌, ◌⊎◌, ◌≤◌, List, [], ◌∷◌, ◌++◌, Option, Some, None, Ok, Err, inl, inr, refl, sym, ap, ◌∙◌, subst}
+use Rattle.std.specs.Prelude.{IfSome, Result}
+use Rattle.seq_model.specs.declared.call.Call.{Call}
+use Rattle.seq_model.specs.declared.call.Reply.{Reply}
+use Rattle.seq_model.specs.declared.refusal.Refusal.{Refusal}
+use Rattle.replay_log.specs.Seats.{World}
+use Rattle.tx_phases.specs.Phases.{Phase, Rests, Stands}
+use Rattle.tx_table.specs.declared.seat.Seat.{Seat}
+use Rattle.tx_table.specs.declared.table.TxTable.{TxTable}
+use Rattle.tx_table.specs.Seated.{opening_of}
+use Rattle.transactions.specs.declared.seats.TxSeat.{TxSeat}
+use Rattle.transactions.specs.Ready.{HasBegunSince, HasCalled, IsReady, standing}
+use Rattle.transactions.specs.Requests.{IsOpen, KeepsReceipts}
+use Rattle.transactions.proofs.RequestLemmas.{keeps_self, then_keeps}
+use Rattle.wolimevar.specs.Frames.{Frame, IsClient, IsIn, IsOfTable, IsUnderWay, calls_made, calls_of}
+use Rattle.wolimevar.specs.Clients.{IsAtClient}
+
+ok_is_no_err : {A E : Type 0} (a : A) (e : E) → Ok a ≡ Err e → ⊥
+ok_is_no_err a e h = cc
+
+module _ {V : Type 0} where
+  -- a call keeps the receipts
+  pub call_keeps : (t : TxTable V) (s u : TxSeat V) (call : Call V) (r : Result (Reply V) Refusal)
+      → (standing (opening_of t) s.seat ≡ Rests) ⊎ IsOpen (opening_of t) s.seat → HasCalled t s u call r → KeepsReceipts s.seat u.seat
+  call_keeps t s u call r (inl rests) has = subst (λ (v : TxSeat V). KeepsReceipts s.seat v.seat) (sym (has.none rests).1) (keeps_self s.seat)
+  call_keeps t s u call r (inr at) has = (has.calls at).keeps
+
+  since_on : (m : Option (TxSeat V)) (s u : Seat V) → IfSome m (λ b. KeepsReceipts b.seat s) → KeepsReceipts s u
+      → IfSome m (λ b. KeepsReceipts b.seat u)
+  since_on None s u h k = h
+  since_on (Some m) s u h k = then_keeps m.seat s u h k
+
+  framed_on : (f : Option (Frame V)) (t : TxTable V) (s u : TxSeat V) → IfSome f (IsIn t s) → KeepsReceipts s.seat u.seat
+      → IfSome f (IsIn t u)
+  framed_on None t s u h k = h
+  framed_on (Some b) t s u h k = record { table = h.table; since = since_on b.begun s.seat u.seat h.since k }
+
+  -- after a call, the transaction is under way
+  pub called_on : (f : Option (Frame V)) (t : TxTable V) (s u : TxSeat V) (call : Call V) (r : Result (Reply V) Refusal)
+      → IsUnderWay f t s → HasCalled t s u call r → IsUnderWay f t u
+  called_on f t s u call r was has = record {
+    ready = has.ready;
+    since = has.since;
+    framed = framed_on f t s u was.framed (call_keeps t s u call r was.ready.between has);
+  }
+
+  -- a call that is answered joins those that were made
+  pub call_made : (t : TxTable V) (s u : TxSeat V) (call : Call V) (reply : Reply V)
+      → (standing (opening_of t) s.seat ≡ Rests) ⊎ IsOpen (opening_of t) s.seat → HasCalled t s u call (Ok reply)
+      → calls_made (opening_of t) u.seat ≡ calls_made (opening_of t) s.seat ++ (call, reply) ∷ []
+  call_made t s u call reply (inl rests) has = absurd (ok_is_no_err _ _ (has.none rests).0)
+  call_made t s u call reply (inr (calls, at)) has =
+      ap calls_of ((has.calls (calls, at)).leaves calls at)
+      ∙ ap (λ (made : List (Call V × Reply V)). made ++ (call, reply) ∷ []) (sym (ap calls_of at))
+
+  -- what a frame tells of a transaction
+  pub in_frame : (f : Option (Frame V)) (t u : TxTable V) (m : TxSeat V) (s : TxSeat V)
+      → f ≡ Some (record { table = t; begun = Some m }) → IsUnderWay f u s → (u ≡ t) × KeepsReceipts m.seat s.seat
+  in_frame f t u m s is h =
+      let at : IfSome (Some (record { table = t; begun = Some m })) (IsIn u s) = subst (λ (g : Option (Frame V)). IfSome g (IsIn u s)) is h.framed in
+      (at.table, at.since)
+
+  pub begin_frame : (f : Option (Frame V)) (t : TxTable V) (s : TxSeat V)
+      → f ≡ Some (record { table = t; begun = Some s }) → IsReady t s → HasBegunSince t s → IsUnderWay f t s
+  begin_frame f t s is ready since = record {
+    ready = ready;
+    since = since;
+    framed = subst (λ (g : Option (Frame V)). IfSome g (IsIn t s)) (sym is) (record { table = refl; since = keeps_self s.seat });
+  }
+
+  -- a client by its seat
+  pub at_client : (f : Option (Frame V)) (t : TxTable V) (s : TxSeat V) → IsReady t s → IfSome f (IsOfTable t) → IsAtClient f t (Some s)
+  at_client f t s ready framed = record { own = s; is = refl; client = record { ready = ready; framed = framed } }
+
+  pub new_client : (f : Option (Frame V)) (t : TxTable V) (s : TxSeat V) → f ≡ Some (record { table = t; begun = None }) → IsReady t s
+      → IsAtClient f t (Some s)
+  new_client f t s is ready =
+      at_client f t s ready (subst (λ (g : Option (Frame V)). IfSome g (IsOfTable t)) (sym is) (record { table = refl; none = refl }))

@@ -1,0 +1,6 @@
+use Rattle.wolimevar.proofs.FrameLemmas.{called_on}
+use Rattle.wolimevar.proofs.transaction.Transaction.call.Goals as goal
+
+pub invariant_of-self-in-Err : goal.invariant_of-self-in-Err
+invariant_of-self-in-Err g c =
+    called_on g.S.Scope.frame c.self.inside.table.now c.self.inside.seat c.call.new.self _ _ c.self.invariant c.call.ensures.called
