@@ -4,27 +4,17 @@
 use std::alloc::Global;
 use std::io;
 use std::thread::Threads;
-use wolimevar::{
-    Body, Client, Counts, Entries, Layout, Map, Memory, PriorityQueue, Queue, QueueItems, Refusal,
-    Scope, Session, Transaction, Value,
-};
-
-const COUNT: u64 = 8;
-const OPENING: u64 = 100;
-const LOW: u64 = 70;
-const TRIES: u64 = 1_000;
+use wolimevar::{Body, Client, Counts, Entries, Layout, Map, Memory, PriorityQueue, Queue, QueueItems};
+use wolimevar::{Refusal, Scope, Session, Text, Transaction, Value};
 
 #[derive(Drop)]
-struct Account { owner: String, balance: u64 }
+struct Account { owner: Text, balance: u64 }
 
 impl Value for Account {
     fn try_copy(&self) -> Result<Account, Memory> {
-        Ok(Account { owner: self.owner.clone()?, balance: self.balance })
+        Ok(Account { owner: self.owner.try_copy()?, balance: self.balance })
     }
-
-    fn same(&self, other: &Account) -> bool {
-        self.owner.as_str() == other.owner.as_str() && self.balance == other.balance
-    }
+    fn same(&self, other: &Account) -> bool { self.owner.same(&other.owner) && self.balance == other.balance }
 }
 
 #[derive(Clone, Copy)]
@@ -35,7 +25,6 @@ struct Transfer { bank: Bank, id: u64, from: u64, to: u64, amount: u64 }
 
 impl Body<Account> for Transfer {
     type Out = bool;
-
     fn run<S: Scope<Account>>(&self, tx: &mut Transaction<'_, Account, S>) -> Result<bool, Refusal> {
         let Bank { accounts, audit, alerts } = self.bank;
         let Some(mut giver) = accounts.get(tx, self.from)? else { return Ok(false) };
@@ -46,25 +35,20 @@ impl Body<Account> for Transfer {
         accounts.put(tx, self.from, giver)?;
         accounts.put(tx, self.to, taker)?;
         audit.enqueue(tx, self.id)??;
-        if left < LOW {
-            alerts.insert(tx, self.from)??;
-        }
+        if left < 70 { alerts.insert(tx, self.from)??; }
         Ok(true)
     }
 }
 
 #[derive(Drop)]
-struct Total { bank: Bank }
+struct Total(Bank);
 
 impl Body<Account> for Total {
     type Out = u64;
-
     fn run<S: Scope<Account>>(&self, tx: &mut Transaction<'_, Account, S>) -> Result<u64, Refusal> {
         let mut total = 0u64;
-        for number in 0..COUNT {
-            if let Some(account) = self.bank.accounts.get(tx, number)? {
-                total = total.saturating_add(account.balance);
-            }
+        for number in 0..8u64 {
+            if let Some(account) = self.0.accounts.get(tx, number)? { total = total.saturating_add(account.balance); }
         }
         Ok(total)
     }
@@ -75,23 +59,16 @@ enum Desk { Teller(Bank, u64), Reader(Bank) }
 
 impl Session<Account> for Desk {
     type Out = u64;
-
     fn serve<S: Scope<Account>>(self, client: &mut Client<'_, Account, S>) -> u64 {
         let mut done = 0u64;
         match self {
-            Desk::Teller(bank, worker) => for i in 0..25u64 {
-                let from = i.wrapping_add(worker) % COUNT;
-                let to = from.wrapping_add(worker) % COUNT;
-                let id = worker.wrapping_mul(100).wrapping_add(i);
-                let transfer = Transfer { bank, id, from, to, amount: i % 7 + 1 };
-                if let Ok((true, _)) = client.atomically(TRIES, &transfer) {
-                    done = done.saturating_add(1);
-                }
+            Desk::Teller(bank, step) => for i in 0..25u64 {
+                let from = i.wrapping_add(step) % 8;
+                let transfer = Transfer { bank, id: i, from, to: from.wrapping_add(step) % 8, amount: i % 7 + 1 };
+                if let Ok((true, _)) = client.atomically(1_000, &transfer) { done = done.saturating_add(1); }
             },
             Desk::Reader(bank) => for _ in 0..50u64 {
-                if let Ok((total, _)) = client.look(TRIES, &Total { bank }) {
-                    done = done.saturating_add(total / (COUNT * OPENING));
-                }
+                if let Ok((800, _)) = client.look(1_000, &Total(bank)) { done = done.saturating_add(1); }
             },
         }
         done
@@ -100,9 +77,8 @@ impl Session<Account> for Desk {
 
 fn serve<R: Threads + Sync>(rt: &R, alloc: Global) -> Result<(Vec<u64>, u64, usize), Refusal> {
     let mut accounts = Entries::new(alloc);
-    for number in 0..COUNT {
-        let owner = format!(in alloc; "owner {number}")?;
-        accounts.insert(number, Account { owner, balance: OPENING })?;
+    for number in 0..8u64 {
+        accounts.insert(number, Account { owner: Text::of(alloc, "owner")?, balance: 100 })?;
     }
     let mut layout = Layout::new(alloc);
     let bank = Bank {
@@ -111,12 +87,11 @@ fn serve<R: Threads + Sync>(rt: &R, alloc: Global) -> Result<(Vec<u64>, u64, usi
         alerts: layout.priority_queue(1, Counts::new(alloc))?,
     };
     let mut store = layout.open()?;
-    let tell = |worker| Desk::Teller(bank, worker);
+    let tell = |step| Desk::Teller(bank, step);
     let done = store.run(rt, vec![in alloc; tell(1), tell(2), tell(3), tell(4), Desk::Reader(bank)]?)?;
-    let (total, _) = store.look(TRIES, &Total { bank })?;
+    let (total, _) = store.look(1_000, &Total(bank))?;
     let contents = store.close()?;
-    let entries = contents.queue(bank.audit).map_or(0, |items| items.len());
-    Ok((done, total, entries))
+    Ok((done, total, contents.queue(bank.audit).map_or(0, |items| items.len())))
 }
 
 fn main(rt: HostRuntime) -> io::Result<()> {

@@ -1,2 +1,5 @@
 pub mod FrameLemmas
 pub mod EndLemmas
+pub mod CloseLemmas
+pub mod ClientLemmas
+pub mod StoreLemmas

@@ -1,0 +1,62 @@
+-- What a client, or a store, has of the attempts of a body.
+use Rattle.std.proofs.Common.{◌≡◌, ℕ, ◌≤◌, List, [], ◌∷◌, ◌++◌, Option, Some, Ok, Err, refl, sym, ap, ◌∙◌, subst}
+use Rattle.std.specs.Prelude.{IfOk, OnErr, Result}
+use Rattle.seq_model.specs.declared.call.Call.{Call}
+use Rattle.seq_model.specs.declared.call.Reply.{Reply}
+use Rattle.seq_model.specs.declared.record.Record.{Record}
+use Rattle.seq_model.specs.declared.refusal.Refusal.{Refusal}
+use Rattle.tx_table.specs.declared.seat.Seat.{Seat}
+use Rattle.tx_table.specs.declared.table.TxTable.{TxTable}
+use Rattle.tx_table.specs.Seated.{actor, view}
+use Rattle.transactions.specs.declared.seats.TxSeat.{TxSeat}
+use Rattle.transactions.specs.Ready.{IsReady}
+use Rattle.wolimevar.specs.Clients.{IsAtClient, shown, shown_at}
+use Rattle.wolimevar.specs.Ends.{ClientShown, EndsAs, HasGained, HasGainedNone}
+use Rattle.wolimevar.specs.Frames.{Frame, IsClient}
+use Rattle.wolimevar.specs.Stores.{StoreShown}
+use Rattle.wolimevar.specs.StoreSeats.{IsAtStore, store_at}
+use Rattle.wolimevar.proofs.EndLemmas.{gained, gained_none, same_shown}
+use Rattle.wolimevar.proofs.FrameLemmas.{at_client}
+
+module _ {V : Type 0} where
+  -- the seat of a client, and the client that it is with another
+  pub client_on : (f : Option (Frame V)) (t : TxTable V) (seat : Option (TxSeat V)) (s u : TxSeat V) → IsAtClient f t seat
+      → seat ≡ Some s → IsReady t u → IsAtClient f t (Some u)
+  client_on f t seat s u h e ready = at_client f t u ready h.client.framed
+
+  pub store_on : (t : TxTable V) (u : TxSeat V) → IsReady t u → IsAtStore t (Some u)
+  store_on t u ready = record { own = u; is = refl; ready = ready }
+
+  pub shows_as : (seat : Option (TxSeat V)) (s : TxSeat V) (d : ClientShown V) → shown_at seat ≡ d → seat ≡ Some s → shown s.seat ≡ d
+  shows_as seat s d v e = subst (λ (x : Option (TxSeat V)). shown_at x ≡ d) e v
+
+  pub store_shows : (t : TxTable V) (seat : Option (TxSeat V)) (s : TxSeat V) (d : StoreShown V) → store_at t seat ≡ d → seat ≡ Some s
+      → store_at t (Some s) ≡ d
+  store_shows t seat s d v e = subst (λ (x : Option (TxSeat V)). store_at t x ≡ d) e v
+
+  module _ {A : Type 0} (makes : A → List (Call V × Reply V) → Type 0) (s u : Seat V) where
+    pub ends_same : (r : Result (A × Record V) Refusal) → EndsAs makes s u r → actor u ≡ actor s
+    ends_same (Ok done) h = (gained makes s u (Ok done) h).0.same
+    ends_same (Err cause) h = (gained_none makes s u (Err cause) h).same
+
+    pub ends_made : (r : Result (A × Record V) Refusal) → EndsAs makes s u r → IfOk r (λ done. makes done.0 done.1.calls)
+    ends_made (Ok done) h = (gained makes s u (Ok done) h).1
+    ends_made (Err cause) h = tt
+
+    pub ends_one : (r : Result (A × Record V) Refusal) (d : ClientShown V) → shown s ≡ d → EndsAs makes s u r
+        → IfOk r (λ done. (view u).receipts ≡ d.receipts ++ (d.actor, done.1) ∷ [])
+    ends_one (Ok done) d v h =
+        subst (λ (x : ClientShown V). (view u).receipts ≡ x.receipts ++ (x.actor, done.1) ∷ []) v (gained makes s u (Ok done) h).0.gains
+    ends_one (Err cause) d v h = tt
+
+    pub ends_last : (r : Result (A × Record V) Refusal) (d : ClientShown V) → shown s ≡ d → EndsAs makes s u r
+        → IfOk r (λ done. (d.last ≤ done.1.number) × (u.last ≡ done.1.number))
+    ends_last (Ok done) d v h = (
+      subst (λ (x : ClientShown V). x.last ≤ done.1.number) v (gained makes s u (Ok done) h).0.above,
+      (gained makes s u (Ok done) h).0.last,
+    )
+    ends_last (Err cause) d v h = tt
+
+    pub ends_none : (r : Result (A × Record V) Refusal) (d : ClientShown V) → shown s ≡ d → EndsAs makes s u r → OnErr r (shown u ≡ d)
+    ends_none (Ok done) d v h = tt
+    ends_none (Err cause) d v h = same_shown s u (gained_none makes s u (Err cause) h) ∙ v

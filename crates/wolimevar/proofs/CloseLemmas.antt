@@ -1,0 +1,34 @@
+-- What a store leaves.
+use Rattle.std.proofs.Common.{◌≡◌, ℕ, List, Option, Some, refl, subst, sym}
+use Rattle.seq_model.specs.Contents.{Contents}
+use Rattle.seq_model.specs.declared.held.Held.{Held}
+use Rattle.tx_table.specs.declared.closed.Closed.{Closed}
+use Rattle.tx_table.specs.declared.table.TxTable.{TxTable}
+use Rattle.tx_table.specs.Seated.{contents_in, view}
+use Rattle.transactions.specs.declared.seats.TxSeat.{TxSeat}
+use Rattle.transactions.specs.Closing as closing
+use Rattle.wolimevar.specs.Stores.{IsLeftBy, StoreShown}
+use Rattle.wolimevar.specs.StoreSeats.{store_at}
+
+module _ {V : Type 0} where
+  contents_alike : (st : Contents V) (ws : List ℕ) (hs : List (Held V)) → st.words ≡ ws → st.held ≡ hs
+      → st ≡ record { words = ws; held = hs }
+  contents_alike st ws hs e f =
+      subst (λ (w : List ℕ). st ≡ record { words = w; held = hs }) e
+          (subst (λ (h : List (Held V)). st ≡ record { words = st.words; held = h }) f refl)
+
+  pub close_left : (t : TxTable V) (seat : Option (TxSeat V)) (s : TxSeat V) (shown : StoreShown V) (c : Closed V) (st : Contents V)
+      → store_at t seat ≡ shown → seat ≡ Some s → closing.IsLeftBy (contents_in t) (view s.seat).receipts c
+      → st.words ≡ (closing.state_of c).words → st.held ≡ (closing.state_of c).held → IsLeftBy shown st
+  close_left t seat s shown c st v is left e f =
+      let at : store_at t (Some s) ≡ shown = subst (λ (x : Option (TxSeat V)). store_at t x ≡ shown) is v in
+      let same : st ≡ closing.state_of c = contents_alike st (closing.state_of c).words (closing.state_of c).held e f in
+      let here : IsLeftBy (store_at t (Some s)) (closing.state_of c) = record {
+        order = left.order;
+        same = left.same;
+        in_order = left.in_order;
+        serial = left.serial;
+        leaves = left.state;
+      } in
+      subst (λ (d : StoreShown V). IsLeftBy d st) at
+          (subst (λ (x : Contents V). IsLeftBy (store_at t (Some s)) x) (sym same) here)

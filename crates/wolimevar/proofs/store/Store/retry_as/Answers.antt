@@ -1,0 +1,31 @@
+use Rattle.std.proofs.Common.{rules, ◌≡◌, Some, ap}
+use Rattle.wolimevar.proofs.ClientLemmas.{ends_made, store_on, store_shows}
+use Rattle.wolimevar.proofs.StoreLemmas.{store_none, store_one}
+use Rattle.wolimevar.proofs.store.Store.retry_as.Goals as goal
+
+pub invariant_of-self : goal.invariant_of-self
+invariant_of-self g c = store_on c.self.inside.table c.retry-seat.result.0 c.retry-seat.ensures.ready
+
+pub returns-clause-opening : goal.returns-clause-opening
+returns-clause-opening g c =
+    let is : c.self.inside.seat ≡ Some c.in-Some.seat = search rules in
+    ap (λ d. d.opening) (store_shows c.self.inside.table c.self.inside.seat c.in-Some.seat c.args.self.now c.self.view_is is)
+
+pub returns-clause-one : goal.returns-clause-one
+returns-clause-one g c =
+    let is : c.self.inside.seat ≡ Some c.in-Some.seat = search rules in
+    let v = store_shows c.self.inside.table c.self.inside.seat c.in-Some.seat c.args.self.now c.self.view_is is in
+    store_one (g.B.Body.makes c.args.body.now) c.self.inside.table c.in-Some.seat c.retry-seat.result.0 c.retry-seat.result.1
+        c.args.self.now v c.retry-seat.ensures.ends
+
+pub returns-clause-made : goal.returns-clause-made
+returns-clause-made g c =
+    ends_made (g.B.Body.makes c.args.body.now) c.in-Some.seat.seat c.retry-seat.result.0.seat c.retry-seat.result.1
+        c.retry-seat.ensures.ends
+
+pub returns-clause-none : goal.returns-clause-none
+returns-clause-none g c =
+    let is : c.self.inside.seat ≡ Some c.in-Some.seat = search rules in
+    let v = store_shows c.self.inside.table c.self.inside.seat c.in-Some.seat c.args.self.now c.self.view_is is in
+    store_none (g.B.Body.makes c.args.body.now) c.self.inside.table c.in-Some.seat c.retry-seat.result.0 c.retry-seat.result.1
+        c.args.self.now v c.retry-seat.ensures.ends
