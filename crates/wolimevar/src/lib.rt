@@ -38,4 +38,5 @@ pub use seq_model::{Counts, Entries, Memory, QueueItems, Refusal, Value};
 pub use store::{Session, Store};
 pub use transaction::Transaction;
 pub use transactions::Receipt;
+pub use value_types::{Shared, Text};
 pub use words::Word;
