@@ -1,6 +1,7 @@
 -- What a store has of the attempts of a body.
-use Rattle.std.proofs.Common.{◌≡◌, ℕ, List, [], ◌∷◌, ◌++◌, Option, Some, Ok, Err, refl, ap, ◌∙◌, subst}
+use Rattle.std.proofs.Common.{◌≡◌, ℕ, List, [], ◌∷◌, ◌++◌, Option, Some, Ok, Err, ap, sym, ◌∙◌, subst}
 use Rattle.std.specs.Prelude.{IfOk, OnErr, Result}
+use Rattle.std.proofs.lemmas.List.{append-nil, append_assoc}
 use Rattle.seq_model.specs.declared.call.Call.{Call}
 use Rattle.seq_model.specs.declared.call.Reply.{Reply}
 use Rattle.seq_model.specs.declared.record.Record.{Record}
@@ -12,6 +13,15 @@ use Rattle.wolimevar.specs.Ends.{EndsAs}
 use Rattle.wolimevar.specs.Stores.{StoreShown}
 use Rattle.wolimevar.specs.StoreSeats.{store_at}
 use Rattle.wolimevar.proofs.EndLemmas.{gained, gained_none}
+
+-- lists that go on
+pub none_more : {A : Type 0} (xs ys : List A) → xs ≡ ys → (more : List A) × (xs ≡ ys ++ more)
+none_more xs ys e = ([], e ∙ sym (append-nil ys))
+
+pub then_more : {A : Type 0} (xs ys zs : List A) → (more : List A) × (xs ≡ ys ++ more) → (more : List A) × (zs ≡ xs ++ more)
+    → (more : List A) × (zs ≡ ys ++ more)
+then_more {A = A} xs ys zs h k =
+    (h.0 ++ k.0, k.1 ∙ (ap (λ (l : List A). l ++ k.0) h.1 ∙ append_assoc ys h.0 k.0))
 
 module _ {V : Type 0} {A : Type 0} (makes : A → List (Call V × Reply V) → Type 0) (t : TxTable V) (s u : TxSeat V) where
   pub store_one : (r : Result (A × Record V) Refusal) (d : StoreShown V) → store_at t (Some s) ≡ d → EndsAs makes s.seat u.seat r

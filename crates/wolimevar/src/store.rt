@@ -1,5 +1,5 @@
 //! A store, which lends clients to sessions.
-ghost use Rattle.std.specs.Prelude.{◌≡◌, ◌≤◌, ◌++◌, ◌∷◌, [], IfOk, OnErr, Some, None};
+ghost use Rattle.std.specs.Prelude.{◌≡◌, ◌<◌, ◌++◌, ◌∷◌, [], IfOk, OnErr, Some, None};
 ghost use Rattle.tx_table.specs.Seated.{view};
 ghost use Rattle.transactions.specs.Ready.{IsReady};
 ghost use Rattle.wolimevar.specs.Stores.{IsLeftBy};
@@ -160,6 +160,53 @@ impl<V: Value> Store<V> {
     }
 }
 
+/// A client with one share of the seat's.
+fn client_of<'t, V: Value, S: Scope<V>>(
+    table: &'t TxTable<V>,
+    seat: &mut TxSeat<V>,
+) -> Client<'t, V, S>
+    requires ready { IsReady table.now seat.old }
+    requires fewer { 1 < (view seat.old.seat).shares }
+    requires frame { S.frame ≡ Some (record { table = table.now; begun = None }) }
+    ensures ready { IsReady table.now seat.new }
+    ensures same { (view seat.new.seat).receipts ≡ (view seat.old.seat).receipts }
+{
+    let own = seat.split(table, 1);
+    Client::of(table, own)
+}
+
+/// The share of a client goes back to the seat, with its receipts.
+fn give_back<V: Value, S: Scope<V>>(
+    table: &TxTable<V>,
+    seat: &mut TxSeat<V>,
+    client: Client<'_, V, S>,
+)
+    requires ready { IsReady table.now seat.old }
+    requires frame { S.frame ≡ Some (record { table = table.now; begun = None }) }
+    ensures ready { IsReady table.now seat.new }
+    ensures more { (more : _) × ((view seat.new.seat).receipts ≡ (view seat.old.seat).receipts ++ more) }
+{
+    let other = client.into_seat();
+    seat.join(table, other);
+}
+
+/// Each session is served, in a thread of its own where one can be started.
+fn serve_all<
+    R: Threads + Sync,
+    V: Value + Send + Sync,
+    S: Scope<V> + Send,
+    N: Session<V> + Drop + Send,
+>(
+    rt: &R,
+    desks: &mut [Desk<'_, V, S, N>],
+)
+where
+    N::Out: Send,
+{
+    let count = desks.len().max(1);
+    thread::for_each_mut(rt, desks, count, &|_, desk: &mut Desk<'_, V, S, N>| desk.serve());
+}
+
 /// Serves the sessions, each with a seat of one share, which is joined again.
 fn serve_in<
     R: Threads + Sync,
@@ -195,9 +242,8 @@ where
         if seat.shares() < 2 {
             return (seat, Err(Refusal::TooLong));
         }
-        let own = seat.split(table, 1);
-        let client = Client::of(table, own);
-        let desk = Desk {
+        let client = client_of(table, &mut seat);
+        let desk: Desk<'_, V, S, N> = Desk {
             client,
             session: Some(session),
             out: None,
@@ -206,19 +252,14 @@ where
             return (seat, Err(Refusal::OutOfMemory));
         }
     }
-    thread::for_each_mut(
-        rt,
-        desks.as_mut_slice(),
-        count,
-        &|_, desk: &mut Desk<'_, V, S, N>| desk.serve(),
-    );
+    serve_all(rt, desks.as_mut_slice());
     'join: for desk in desks {
         let Desk {
             client,
             session: _,
             out,
         } = desk;
-        seat.join(table, client.into_seat());
+        give_back(table, &mut seat, client);
         if let Some(out) = out {
             if outs.push(out).is_err() {
                 return (seat, Err(Refusal::OutOfMemory));
