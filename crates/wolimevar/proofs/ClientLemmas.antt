@@ -1,6 +1,6 @@
 -- What a client, or a store, has of the attempts of a body.
 use Rattle.std.proofs.Common.{◌≡◌, ℕ, ◌≤◌, List, [], ◌∷◌, ◌++◌, Option, Some, Ok, Err, refl, sym, ap, ◌∙◌, subst}
-use Rattle.std.specs.Prelude.{IfOk, OnErr, Result}
+use Rattle.std.specs.Prelude.{IfOk, IfSome, OnErr, Result}
 use Rattle.seq_model.specs.declared.call.Call.{Call}
 use Rattle.seq_model.specs.declared.call.Reply.{Reply}
 use Rattle.seq_model.specs.declared.record.Record.{Record}
@@ -12,20 +12,29 @@ use Rattle.transactions.specs.declared.seats.TxSeat.{TxSeat}
 use Rattle.transactions.specs.Ready.{IsReady}
 use Rattle.wolimevar.specs.Clients.{IsAtClient, shown, shown_at}
 use Rattle.wolimevar.specs.Ends.{ClientShown, EndsAs, HasGained, HasGainedNone}
-use Rattle.wolimevar.specs.Frames.{Frame, IsClient}
+use Rattle.tx_table.specs.declared.view.TheConstants.{SHARES}
+use Rattle.wolimevar.specs.Frames.{Frame, GoesOn, IsOfSeat}
 use Rattle.wolimevar.specs.Stores.{StoreShown}
 use Rattle.wolimevar.specs.StoreSeats.{IsAtStore, store_at}
 use Rattle.wolimevar.proofs.EndLemmas.{gained, gained_none, same_shown}
-use Rattle.wolimevar.proofs.FrameLemmas.{at_client}
+use Rattle.wolimevar.proofs.FrameLemmas.{at_client, of_seat_on, own_is}
 
 module _ {V : Type 0} where
   -- the seat of a client, and the client that it is with another
   pub client_on : (f : Option (Frame V)) (t : TxTable V) (seat : Option (TxSeat V)) (s u : TxSeat V) → IsAtClient f t seat
-      → seat ≡ Some s → IsReady t u → IsAtClient f t (Some u)
-  client_on f t seat s u h e ready = at_client f t u ready h.client.framed
+      → seat ≡ Some s → IsReady t u → GoesOn s.seat u.seat → IsAtClient f t (Some u)
+  client_on f t seat s u h e ready goes =
+      at_client f t u ready
+          (of_seat_on f t s u (subst (λ (x : TxSeat V). IfSome f (IsOfSeat t x)) (own_is seat h.own s h.is e) h.client.framed) goes)
 
-  pub store_on : (t : TxTable V) (u : TxSeat V) → IsReady t u → IsAtStore t (Some u)
-  store_on t u ready = record { own = u; is = refl; ready = ready }
+  pub store_on : (t : TxTable V) (seat : Option (TxSeat V)) (s u : TxSeat V) → IsAtStore t seat → seat ≡ Some s → IsReady t u
+      → (view u.seat).shares ≡ (view s.seat).shares → IsAtStore t (Some u)
+  store_on t seat s u h e ready same = record {
+    own = u;
+    is = refl;
+    ready = ready;
+    whole = same ∙ subst (λ (x : TxSeat V). (view x.seat).shares ≡ SHARES) (own_is seat h.own s h.is e) h.whole;
+  }
 
   pub shows_as : (seat : Option (TxSeat V)) (s : TxSeat V) (d : ClientShown V) → shown_at seat ≡ d → seat ≡ Some s → shown s.seat ≡ d
   shows_as seat s d v e = subst (λ (x : Option (TxSeat V)). shown_at x ≡ d) e v
@@ -38,6 +47,12 @@ module _ {V : Type 0} where
     pub ends_same : (r : Result (A × Record V) Refusal) → EndsAs makes s u r → actor u ≡ actor s
     ends_same (Ok done) h = (gained makes s u (Ok done) h).0.same
     ends_same (Err cause) h = (gained_none makes s u (Err cause) h).same
+
+    pub ends_goes : (r : Result (A × Record V) Refusal) → EndsAs makes s u r → GoesOn s u
+    ends_goes (Ok done) h =
+        record { same = (gained makes s u (Ok done) h).0.same; shares = (gained makes s u (Ok done) h).0.shares }
+    ends_goes (Err cause) h =
+        record { same = (gained_none makes s u (Err cause) h).same; shares = (gained_none makes s u (Err cause) h).shares }
 
     pub ends_made : (r : Result (A × Record V) Refusal) → EndsAs makes s u r → IfOk r (λ done. makes done.0 done.1.calls)
     ends_made (Ok done) h = (gained makes s u (Ok done) h).1

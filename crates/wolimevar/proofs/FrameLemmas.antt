@@ -13,7 +13,7 @@ use Rattle.transactions.specs.declared.seats.TxSeat.{TxSeat}
 use Rattle.transactions.specs.Ready.{HasBegunSince, HasCalled, IsReady, standing}
 use Rattle.transactions.specs.Requests.{IsOpen, KeepsReceipts}
 use Rattle.transactions.proofs.RequestLemmas.{keeps_self, then_keeps}
-use Rattle.wolimevar.specs.Frames.{Frame, IsClient, IsIn, IsOfTable, IsUnderWay, calls_made, calls_of}
+use Rattle.wolimevar.specs.Frames.{ComesBack, Frame, GoesOn, IsClient, IsIn, IsOfSeat, IsUnderWay, calls_made, calls_of}
 use Rattle.wolimevar.specs.Clients.{IsAtClient}
 
 ok_is_no_err : {A E : Type 0} (a : A) (e : E) → Ok a ≡ Err e → ⊥
@@ -70,10 +70,40 @@ module _ {V : Type 0} where
   }
 
   -- a client by its seat
-  pub at_client : (f : Option (Frame V)) (t : TxTable V) (s : TxSeat V) → IsReady t s → IfSome f (IsOfTable t) → IsAtClient f t (Some s)
+  pub at_client : (f : Option (Frame V)) (t : TxTable V) (s : TxSeat V) → IsReady t s → IfSome f (IsOfSeat t s) → IsAtClient f t (Some s)
   at_client f t s ready framed = record { own = s; is = refl; client = record { ready = ready; framed = framed } }
 
-  pub new_client : (f : Option (Frame V)) (t : TxTable V) (s : TxSeat V) → f ≡ Some (record { table = t; begun = None }) → IsReady t s
+  pub new_client : (f : Option (Frame V)) (t : TxTable V) (s : TxSeat V) → f ≡ Some (record { table = t; begun = Some s }) → IsReady t s
       → IsAtClient f t (Some s)
   new_client f t s is ready =
-      at_client f t s ready (subst (λ (g : Option (Frame V)). IfSome g (IsOfTable t)) (sym is) (record { table = refl; none = refl }))
+      at_client f t s ready
+          (subst (λ (g : Option (Frame V)). IfSome g (IsOfSeat t s)) (sym is)
+              (record { table = refl; since = record { same = refl; shares = refl } }))
+
+  goes_on : (m : Option (TxSeat V)) (s u : Seat V) → IfSome m (λ b. GoesOn b.seat s) → GoesOn s u → IfSome m (λ b. GoesOn b.seat u)
+  goes_on None s u h k = h
+  goes_on (Some m) s u h k = record { same = k.same ∙ h.same; shares = k.shares ∙ h.shares }
+
+  pub of_seat_on : (f : Option (Frame V)) (t : TxTable V) (s u : TxSeat V) → IfSome f (IsOfSeat t s) → GoesOn s.seat u.seat
+      → IfSome f (IsOfSeat t u)
+  of_seat_on None t s u h k = h
+  of_seat_on (Some b) t s u h k = record { table = h.table; since = goes_on b.begun s.seat u.seat h.since k }
+
+  -- what is there is one
+  pub own_is : (o : Option (TxSeat V)) (a s : TxSeat V) → o ≡ Some a → o ≡ Some s → a ≡ s
+  own_is o a s p q = subst (λ (x : Option (TxSeat V)). IfSome x (λ y. a ≡ y)) (sym p ∙ q) refl
+
+  come_back : (f : Option (Frame V)) (t : TxTable V) (s : TxSeat V) → IsClient f t s → IfSome f (ComesBack s)
+  come_back None t s h = tt
+  come_back (Some b) t s h = record { ready = subst (λ (x : TxTable V). IsReady x s) h.framed.table h.ready; since = h.framed.since }
+
+  -- what a client gives back
+  pub gives_back : (f : Option (Frame V)) (t : TxTable V) (seat : Option (TxSeat V)) (s : TxSeat V) → IsAtClient f t seat → seat ≡ Some s
+      → IfSome f (ComesBack s)
+  gives_back f t seat s h e = come_back f t s (subst (IsClient f t) (own_is seat h.own s h.is e) h.client)
+
+  pub in_hand : (f : Option (Frame V)) (t : TxTable V) (m s : TxSeat V) → f ≡ Some (record { table = t; begun = Some m })
+      → IfSome f (ComesBack s) → IsReady t s × GoesOn m.seat s.seat
+  in_hand f t m s is h =
+      let at : IfSome (Some (record { table = t; begun = Some m })) (ComesBack s) = subst (λ (g : Option (Frame V)). IfSome g (ComesBack s)) is h in
+      (at.ready, at.since)

@@ -3,3 +3,4 @@ pub mod EndLemmas
 pub mod CloseLemmas
 pub mod ClientLemmas
 pub mod StoreLemmas
+pub mod SessionLemmas

@@ -1,18 +1,18 @@
--- What is known of a transaction by its scope: its table, and the seat as it was when it began.
-use Rattle.std.specs.Prelude.{◌≡◌, ℕ, List, [], Option, None, IfSome}
+-- What is known of a transaction, or of a client, by its scope: its table, and the seat as it was when it began.
+use Rattle.std.specs.Prelude.{◌≡◌, ℕ, List, [], Option, IfSome}
 use Rattle.seq_model.specs.declared.call.Call.{Call}
 use Rattle.seq_model.specs.declared.call.Reply.{Reply}
 use Rattle.replay_log.specs.Seats.{World}
 use Rattle.tx_phases.specs.Phases.{Phase, Rests, Begins, Stands, Calls, Commits, Committed, Ends}
 use Rattle.tx_table.specs.declared.seat.Seat.{Seat}
 use Rattle.tx_table.specs.declared.table.TxTable.{TxTable}
-use Rattle.tx_table.specs.Seated.{opening_of}
+use Rattle.tx_table.specs.Seated.{actor, opening_of, view}
 use Rattle.transactions.specs.declared.seats.TxSeat.{TxSeat}
 use Rattle.transactions.specs.Ready.{HasBegunSince, IsReady, standing}
 use Rattle.transactions.specs.Requests.{KeepsReceipts}
 
 module _ (V : Type 0) where
-  -- a table, and of a transaction also the seat as it was when it began
+  -- a table, and the seat as it was when the transaction, or the client, began
   pub record Frame : Type 0 where
     pub table : TxTable V
     pub begun : Option (TxSeat V)
@@ -43,12 +43,22 @@ module _ {V : Type 0} where
     pub since : HasBegunSince t s
     pub framed : IfSome f (IsIn t s)
 
-  -- a frame of a table alone
-  pub record IsOfTable (t : TxTable V) (f : Frame V) : Type 0 where
+  -- a seat of the same actor, with as many shares
+  pub record GoesOn (m s : Seat V) : Type 0 where
+    pub same : actor s ≡ actor m
+    pub shares : (view s).shares ≡ (view m).shares
+
+  -- at the table of the frame, by the seat that it began with
+  pub record IsOfSeat (t : TxTable V) (s : TxSeat V) (f : Frame V) : Type 0 where
     pub table : t ≡ f.table
-    pub none : f.begun ≡ None
+    pub since : IfSome f.begun (λ m. GoesOn m.seat s.seat)
 
   -- a client, between two of its transactions
   pub record IsClient (f : Option (Frame V)) (t : TxTable V) (s : TxSeat V) : Type 0 where
     pub ready : IsReady t s
-    pub framed : IfSome f (IsOfTable t)
+    pub framed : IfSome f (IsOfSeat t s)
+
+  -- what a client gives back is the seat that it began with, ready at its table
+  pub record ComesBack (s : TxSeat V) (f : Frame V) : Type 0 where
+    pub ready : IsReady f.table s
+    pub since : IfSome f.begun (λ m. GoesOn m.seat s.seat)

@@ -4,3 +4,4 @@ pub mod Ends
 pub mod Clients
 pub mod Stores
 pub mod StoreSeats
+pub mod Sessions

@@ -2,6 +2,7 @@
 use Rattle.std.specs.Prelude.{◌≡◌, ℕ, [], Option, Some, None}
 use Rattle.tx_table.specs.declared.table.TxTable.{TxTable}
 use Rattle.tx_table.specs.Seated.{contents_in, view}
+use Rattle.tx_table.specs.declared.view.TheConstants.{SHARES}
 use Rattle.transactions.specs.declared.seats.TxSeat.{TxSeat}
 use Rattle.transactions.specs.Ready.{IsReady}
 use Rattle.wolimevar.specs.Stores.{StoreShown}
@@ -11,8 +12,9 @@ module _ {V : Type 0} where
   store_at t (Some s) = record { opening = contents_in t; receipts = (view s.seat).receipts }
   store_at t None = record { opening = contents_in t; receipts = [] }
 
-  -- its seat is there, and is ready
+  -- its seat is there, and is ready, and has all shares
   pub record IsAtStore (t : TxTable V) (seat : Option (TxSeat V)) : Type 0 where
     pub own : TxSeat V
     pub is : seat ≡ Some own
     pub ready : IsReady t own
+    pub whole : (view own.seat).shares ≡ SHARES

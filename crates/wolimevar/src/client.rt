@@ -1,7 +1,8 @@
 //! A client of a store.
-ghost use Rattle.std.specs.Prelude.{◌≡◌, ◌≤◌, ◌∷◌, ◌++◌, [], IfOk, IfSome, None, OnErr, Some};
+ghost use Rattle.std.specs.Prelude.{◌≡◌, ◌≤◌, ◌∷◌, ◌++◌, [], IfOk, IfSome, OnErr, Some};
 ghost use Rattle.transactions.specs.Ready.{IsReady};
 ghost use Rattle.wolimevar.specs.Clients.{shown};
+ghost use Rattle.wolimevar.specs.Frames.{ComesBack};
 
 use crate::attempts::retry;
 use crate::body::Body;
@@ -36,7 +37,7 @@ impl<'t, V, S: Scope<V>> Model for Client<'t, V, S> {
 impl<'t, V: Value, S: Scope<V>> Client<'t, V, S> {
     pub(crate) fn of(table: &'t TxTable<V>, seat: TxSeat<V>) -> Client<'t, V, S>
         requires ready { IsReady table.now seat }
-        requires frame { S.frame ≡ Some (record { table = table.now; begun = None }) }
+        requires frame { S.frame ≡ Some (record { table = table.now; begun = Some seat }) }
         ensures { result ≡ shown seat.seat }
     {
         Client {
@@ -47,7 +48,7 @@ impl<'t, V: Value, S: Scope<V>> Client<'t, V, S> {
     }
 
     pub(crate) fn into_seat(self) -> TxSeat<V>
-        ensures ready { IfSome S.frame (λ f. IsReady f.table result) }
+        ensures back { IfSome S.frame (ComesBack result) }
         ensures shows { self.entry ≡ shown result.seat }
     {
         let Client {

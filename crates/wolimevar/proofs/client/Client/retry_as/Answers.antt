@@ -1,5 +1,5 @@
 use Rattle.std.proofs.Common.{rules, ◌≡◌, Some, ap, ◌∙◌}
-use Rattle.wolimevar.proofs.ClientLemmas.{client_on, ends_last, ends_made, ends_none, ends_one, ends_same, shows_as}
+use Rattle.wolimevar.proofs.ClientLemmas.{client_on, ends_goes, ends_last, ends_made, ends_none, ends_one, ends_same, shows_as}
 use Rattle.wolimevar.proofs.client.Client.retry_as.Goals as goal
 
 pub invariant_of-self : goal.invariant_of-self
@@ -7,6 +7,8 @@ invariant_of-self g c =
     let is : c.self.inside.seat ≡ Some c.in-Some.seat = search rules in
     client_on g.S.Scope.frame c.self.inside.table.now c.self.inside.seat c.in-Some.seat c.retry-seat.result.0 c.self.invariant is
         c.retry-seat.ensures.ready
+        (ends_goes (g.B.Body.makes c.args.body.now) c.in-Some.seat.seat c.retry-seat.result.0.seat c.retry-seat.result.1
+            c.retry-seat.ensures.ends)
 
 pub returns-clause-same : goal.returns-clause-same
 returns-clause-same g c =

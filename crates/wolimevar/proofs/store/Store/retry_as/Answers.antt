@@ -1,10 +1,14 @@
 use Rattle.std.proofs.Common.{rules, ◌≡◌, Some, ap}
-use Rattle.wolimevar.proofs.ClientLemmas.{ends_made, store_on, store_shows}
+use Rattle.wolimevar.proofs.ClientLemmas.{ends_goes, ends_made, store_on, store_shows}
 use Rattle.wolimevar.proofs.StoreLemmas.{store_none, store_one}
 use Rattle.wolimevar.proofs.store.Store.retry_as.Goals as goal
 
 pub invariant_of-self : goal.invariant_of-self
-invariant_of-self g c = store_on c.self.inside.table c.retry-seat.result.0 c.retry-seat.ensures.ready
+invariant_of-self g c =
+    let is : c.self.inside.seat ≡ Some c.in-Some.seat = search rules in
+    store_on c.self.inside.table c.self.inside.seat c.in-Some.seat c.retry-seat.result.0 c.self.invariant is c.retry-seat.ensures.ready
+        (ends_goes (g.B.Body.makes c.args.body.now) c.in-Some.seat.seat c.retry-seat.result.0.seat c.retry-seat.result.1
+            c.retry-seat.ensures.ends).shares
 
 pub returns-clause-opening : goal.returns-clause-opening
 returns-clause-opening g c =

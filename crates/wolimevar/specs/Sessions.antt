@@ -1,0 +1,69 @@
+-- What sessions come to, each with a seat of its own.
+use Rattle.std.specs.Prelude.{◌≡◌, ◌⊎◌, ℕ, ◌≤◌, List, [], ◌∷◌, ◌++◌, Option, Some, None}
+use Rattle.seq_model.specs.declared.record.Record.{Record}
+use Rattle.seq_model.specs.declared.refusal.Refusal.{Refusal}
+use Rattle.seq_model.specs.declared.refusal.Refusal.TheVariants.{OutOfMemory, TooLong}
+use Rattle.tx_table.specs.declared.table.TxTable.{TxTable}
+use Rattle.tx_table.specs.declared.view.TheConstants.{SHARES}
+use Rattle.tx_table.specs.Seated.{view}
+use Rattle.transactions.specs.declared.seats.TxSeat.{TxSeat}
+use Rattle.transactions.specs.Ready.{IsReady}
+use Rattle.wolimevar.specs.declared.sessions.Place.{Place}
+
+-- Why sessions are not served: they are too many, or memory was wanting.
+abbrev pub IsWhy : ℕ → Refusal → Type 0
+IsWhy count cause = ((cause ≡ TooLong) × (SHARES ≤ count)) ⊎ (cause ≡ OutOfMemory)
+
+-- lists, one after another
+abbrev pub joined : {A : Type 0} → List (List A) → List A
+joined [] = []
+joined (xs ∷ xss) = xs ++ joined xss
+
+module _ {V : Type 0} where
+  -- the receipts of a seat
+  abbrev pub receipts_at : Option (TxSeat V) → List (ℕ × Record V)
+  receipts_at (Some s) = (view s.seat).receipts
+  receipts_at None = []
+
+  module _ {N O : Type 0} (serves : N → O → List (ℕ × Record V) → Type 0) where
+    -- Each session has given one thing, and its client has these receipts.
+    abbrev pub AreServed : List N → List O → List (List (ℕ × Record V)) → Type 0
+    AreServed [] [] [] = Unit {0}
+    AreServed (n ∷ ns) (o ∷ os) (rs ∷ rss) = serves n o rs × AreServed ns os rss
+    AreServed [] [] (rs ∷ rss) = ⊥
+    AreServed [] (o ∷ os) rss = ⊥
+    AreServed (n ∷ ns) [] rss = ⊥
+    AreServed (n ∷ ns) (o ∷ os) [] = ⊥
+
+    -- The receipts were these, and are those of the sessions behind them.
+    pub record HaveServed (ns : List N) (os : List O) (before after : List (ℕ × Record V)) : Type 0 where
+      pub lists : List (List (ℕ × Record V))
+      pub each : AreServed ns os lists
+      pub gains : after ≡ before ++ joined lists
+
+  module _ {N O : Type 0} (t : TxTable V) where
+    -- A session that waits: its seat is ready, with one share and no receipts.
+    pub record Waits (p : Place V N O) : Type 0 where
+      pub own : TxSeat V
+      pub seat : p.seat ≡ Some own
+      pub ready : IsReady t own
+      pub share : (view own.seat).shares ≡ 1
+      pub none : (view own.seat).receipts ≡ []
+      pub waiting : N
+      pub session : p.session ≡ Some waiting
+
+    -- One that was served: its seat is ready, with one share.
+    pub record HasCome (q : Place V N O) : Type 0 where
+      pub own : TxSeat V
+      pub seat : q.seat ≡ Some own
+      pub ready : IsReady t own
+      pub share : (view own.seat).shares ≡ 1
+      pub given : O
+      pub out : q.out ≡ Some given
+
+    -- The session that waited so has given this, and these are its receipts.
+    pub record IsServed (serves : N → O → List (ℕ × Record V) → Type 0) (p q : Place V N O) : Type 0 where
+      pub come : HasCome q
+      pub session : N
+      pub waited : p.session ≡ Some session
+      pub served : serves session come.given (view come.own.seat).receipts
