@@ -25,6 +25,7 @@ struct Transfer { bank: Bank, id: u64, from: u64, to: u64, amount: u64 }
 
 impl Body<Account> for Transfer {
     type Out = bool;
+    type Error = Refusal;
     fn run<S: Scope<Account>>(&self, tx: &mut Transaction<'_, Account, S>) -> Result<bool, Refusal> {
         let Bank { accounts, audit, alerts } = self.bank;
         let Some(mut giver) = accounts.get(tx, self.from)? else { return Ok(false) };
@@ -45,6 +46,7 @@ struct Total(Bank);
 
 impl Body<Account> for Total {
     type Out = u64;
+    type Error = Refusal;
     fn run<S: Scope<Account>>(&self, tx: &mut Transaction<'_, Account, S>) -> Result<u64, Refusal> {
         let mut total = 0u64;
         for number in 0..8u64 {

@@ -16,7 +16,9 @@ use Rattle.tx_table.specs.declared.view.TheConstants.{SHARES}
 use Rattle.wolimevar.specs.Frames.{Frame, GoesOn, IsOfSeat}
 use Rattle.wolimevar.specs.Stores.{StoreShown}
 use Rattle.wolimevar.specs.StoreSeats.{IsAtStore, store_at}
-use Rattle.wolimevar.proofs.EndLemmas.{gained, gained_none, same_shown}
+use Rattle.wolimevar.specs.declared.failures.Failure.{Failure}
+use Rattle.wolimevar.specs.declared.tally.Tally.{Tally}
+use Rattle.wolimevar.proofs.EndLemmas.{gained, gained_none}
 use Rattle.wolimevar.proofs.FrameLemmas.{at_client, of_seat_on, own_is}
 
 module _ {V : Type 0} where
@@ -36,42 +38,50 @@ module _ {V : Type 0} where
     whole = same ∙ subst (λ (x : TxSeat V). (view x.seat).shares ≡ SHARES) (own_is seat h.own s h.is e) h.whole;
   }
 
-  pub shows_as : (seat : Option (TxSeat V)) (s : TxSeat V) (d : ClientShown V) → shown_at seat ≡ d → seat ≡ Some s → shown s.seat ≡ d
-  shows_as seat s d v e = subst (λ (x : Option (TxSeat V)). shown_at x ≡ d) e v
+  pub shows_as : (seat : Option (TxSeat V)) (s : TxSeat V) (tally : Tally) (d : ClientShown V) → shown_at seat tally ≡ d → seat ≡ Some s
+      → shown s.seat tally ≡ d
+  shows_as seat s tally d v e = subst (λ (x : Option (TxSeat V)). shown_at x tally ≡ d) e v
 
-  pub store_shows : (t : TxTable V) (seat : Option (TxSeat V)) (s : TxSeat V) (d : StoreShown V) → store_at t seat ≡ d → seat ≡ Some s
-      → store_at t (Some s) ≡ d
-  store_shows t seat s d v e = subst (λ (x : Option (TxSeat V)). store_at t x ≡ d) e v
+  pub store_shows : (t : TxTable V) (seat : Option (TxSeat V)) (s : TxSeat V) (tally : Tally) (d : StoreShown V)
+      → store_at t seat tally ≡ d → seat ≡ Some s → store_at t (Some s) tally ≡ d
+  store_shows t seat s tally d v e = subst (λ (x : Option (TxSeat V)). store_at t x tally ≡ d) e v
 
-  module _ {A : Type 0} (makes : A → List (Call V × Reply V) → Type 0) (s u : Seat V) where
-    pub ends_same : (r : Result (A × Record V) Refusal) → EndsAs makes s u r → actor u ≡ actor s
-    ends_same (Ok done) h = (gained makes s u (Ok done) h).0.same
-    ends_same (Err cause) h = (gained_none makes s u (Err cause) h).same
+  module _ {A E : Type 0} (makes : A → List (Call V × Reply V) → Type 0) (gives_up : E → List (Call V × Reply V) → Type 0) (s u : Seat V)
+      where
+    pub ends_same : (r : Result (A × Record V) (Failure E)) → EndsAs makes gives_up s u r → actor u ≡ actor s
+    ends_same (Ok done) h = (gained makes gives_up s u (Ok done) h).0.same
+    ends_same (Err failure) h = (gained_none makes gives_up s u (Err failure) h).same
 
-    pub ends_goes : (r : Result (A × Record V) Refusal) → EndsAs makes s u r → GoesOn s u
+    pub ends_goes : (r : Result (A × Record V) (Failure E)) → EndsAs makes gives_up s u r → GoesOn s u
     ends_goes (Ok done) h =
-        record { same = (gained makes s u (Ok done) h).0.same; shares = (gained makes s u (Ok done) h).0.shares }
-    ends_goes (Err cause) h =
-        record { same = (gained_none makes s u (Err cause) h).same; shares = (gained_none makes s u (Err cause) h).shares }
+        record { same = (gained makes gives_up s u (Ok done) h).0.same; shares = (gained makes gives_up s u (Ok done) h).0.shares }
+    ends_goes (Err failure) h = record {
+      same = (gained_none makes gives_up s u (Err failure) h).same;
+      shares = (gained_none makes gives_up s u (Err failure) h).shares;
+    }
 
-    pub ends_made : (r : Result (A × Record V) Refusal) → EndsAs makes s u r → IfOk r (λ done. makes done.0 done.1.calls)
-    ends_made (Ok done) h = (gained makes s u (Ok done) h).1
-    ends_made (Err cause) h = tt
+    pub ends_made : (r : Result (A × Record V) (Failure E)) → EndsAs makes gives_up s u r → IfOk r (λ done. makes done.0 done.1.calls)
+    ends_made (Ok done) h = (gained makes gives_up s u (Ok done) h).1
+    ends_made (Err failure) h = tt
 
-    pub ends_one : (r : Result (A × Record V) Refusal) (d : ClientShown V) → shown s ≡ d → EndsAs makes s u r
-        → IfOk r (λ done. (view u).receipts ≡ d.receipts ++ (d.actor, done.1) ∷ [])
-    ends_one (Ok done) d v h =
-        subst (λ (x : ClientShown V). (view u).receipts ≡ x.receipts ++ (x.actor, done.1) ∷ []) v (gained makes s u (Ok done) h).0.gains
-    ends_one (Err cause) d v h = tt
+    pub ends_one : (r : Result (A × Record V) (Failure E)) (tally : Tally) (d : ClientShown V) → shown s tally ≡ d
+        → EndsAs makes gives_up s u r → IfOk r (λ done. (view u).receipts ≡ d.receipts ++ (d.actor, done.1) ∷ [])
+    ends_one (Ok done) tally d v h =
+        subst (λ (x : ClientShown V). (view u).receipts ≡ x.receipts ++ (x.actor, done.1) ∷ []) v
+            (gained makes gives_up s u (Ok done) h).0.gains
+    ends_one (Err failure) tally d v h = tt
 
-    pub ends_last : (r : Result (A × Record V) Refusal) (d : ClientShown V) → shown s ≡ d → EndsAs makes s u r
-        → IfOk r (λ done. (d.last ≤ done.1.number) × (u.last ≡ done.1.number))
-    ends_last (Ok done) d v h = (
-      subst (λ (x : ClientShown V). x.last ≤ done.1.number) v (gained makes s u (Ok done) h).0.above,
-      (gained makes s u (Ok done) h).0.last,
+    pub ends_last : (r : Result (A × Record V) (Failure E)) (tally : Tally) (d : ClientShown V) → shown s tally ≡ d
+        → EndsAs makes gives_up s u r → IfOk r (λ done. (d.last ≤ done.1.number) × (u.last ≡ done.1.number))
+    ends_last (Ok done) tally d v h = (
+      subst (λ (x : ClientShown V). x.last ≤ done.1.number) v (gained makes gives_up s u (Ok done) h).0.above,
+      (gained makes gives_up s u (Ok done) h).0.last,
     )
-    ends_last (Err cause) d v h = tt
+    ends_last (Err failure) tally d v h = tt
 
-    pub ends_none : (r : Result (A × Record V) Refusal) (d : ClientShown V) → shown s ≡ d → EndsAs makes s u r → OnErr r (shown u ≡ d)
-    ends_none (Ok done) d v h = tt
-    ends_none (Err cause) d v h = same_shown s u (gained_none makes s u (Err cause) h) ∙ v
+    pub ends_none : (r : Result (A × Record V) (Failure E)) (tally : Tally) (d : ClientShown V) → shown s tally ≡ d
+        → EndsAs makes gives_up s u r → OnErr r (((view u).receipts ≡ d.receipts) × (u.last ≡ d.last))
+    ends_none (Ok done) tally d v h = tt
+    ends_none (Err failure) tally d v h =
+        let none = gained_none makes gives_up s u (Err failure) h in
+        (none.receipts ∙ ap (λ (x : ClientShown V). x.receipts) v, none.last ∙ ap (λ (x : ClientShown V). x.last) v)

@@ -7,6 +7,7 @@ use Rattle.tx_table.specs.declared.table.TxTable.{TxTable}
 use Rattle.tx_table.specs.Seated.{contents_in, view}
 use Rattle.transactions.specs.declared.seats.TxSeat.{TxSeat}
 use Rattle.transactions.specs.Closing as closing
+use Rattle.wolimevar.specs.declared.tally.Tally.{Tally}
 use Rattle.wolimevar.specs.Stores.{IsLeftBy, StoreShown}
 use Rattle.wolimevar.specs.StoreSeats.{store_at}
 
@@ -17,13 +18,13 @@ module _ {V : Type 0} where
       subst (λ (w : List ℕ). st ≡ record { words = w; held = hs }) e
           (subst (λ (h : List (Held V)). st ≡ record { words = st.words; held = h }) f refl)
 
-  pub close_left : (t : TxTable V) (seat : Option (TxSeat V)) (s : TxSeat V) (shown : StoreShown V) (c : Closed V) (st : Contents V)
-      → store_at t seat ≡ shown → seat ≡ Some s → closing.IsLeftBy (contents_in t) (view s.seat).receipts c
+  pub close_left : (t : TxTable V) (seat : Option (TxSeat V)) (s : TxSeat V) (tally : Tally) (shown : StoreShown V) (c : Closed V)
+      (st : Contents V) → store_at t seat tally ≡ shown → seat ≡ Some s → closing.IsLeftBy (contents_in t) (view s.seat).receipts c
       → st.words ≡ (closing.state_of c).words → st.held ≡ (closing.state_of c).held → IsLeftBy shown st
-  close_left t seat s shown c st v is left e f =
-      let at : store_at t (Some s) ≡ shown = subst (λ (x : Option (TxSeat V)). store_at t x ≡ shown) is v in
+  close_left t seat s tally shown c st v is left e f =
+      let at : store_at t (Some s) tally ≡ shown = subst (λ (x : Option (TxSeat V)). store_at t x tally ≡ shown) is v in
       let same : st ≡ closing.state_of c = contents_alike st (closing.state_of c).words (closing.state_of c).held e f in
-      let here : IsLeftBy (store_at t (Some s)) (closing.state_of c) = record {
+      let here : IsLeftBy (store_at t (Some s) tally) (closing.state_of c) = record {
         order = left.order;
         same = left.same;
         in_order = left.in_order;
@@ -31,4 +32,4 @@ module _ {V : Type 0} where
         leaves = left.state;
       } in
       subst (λ (d : StoreShown V). IsLeftBy d st) at
-          (subst (λ (x : Contents V). IsLeftBy (store_at t (Some s)) x) (sym same) here)
+          (subst (λ (x : Contents V). IsLeftBy (store_at t (Some s) tally) x) (sym same) here)

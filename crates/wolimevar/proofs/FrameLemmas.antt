@@ -1,8 +1,10 @@
 -- Calls of a transaction, by the frame that its scope knows.
-use Rattle.std.proofs.Common.{◌≡◌, ◌⊎◌, ◌≤◌, List, [], ◌∷◌, ◌++◌, Option, Some, None, Ok, Err, inl, inr, refl, sym, ap, ◌∙◌, subst}
+use Rattle.std.proofs.Common.{◌≡◌, ◌⊎◌, ◌≤◌, Bool, List, [], ◌∷◌, ◌++◌, Option, Some, None, Ok, Err, inl, inr, refl, sym, ap, ◌∙◌, subst}
 use Rattle.std.specs.Prelude.{IfSome, Result}
 use Rattle.seq_model.specs.declared.call.Call.{Call}
 use Rattle.seq_model.specs.declared.call.Reply.{Reply}
+use Rattle.seq_model.specs.declared.event.Request.TheVariants as request
+use Rattle.driven_turns.specs.Requested.{requests_of}
 use Rattle.seq_model.specs.declared.refusal.Refusal.{Refusal}
 use Rattle.replay_log.specs.Seats.{World}
 use Rattle.tx_phases.specs.Phases.{Phase, Rests, Stands}
@@ -13,8 +15,10 @@ use Rattle.transactions.specs.declared.seats.TxSeat.{TxSeat}
 use Rattle.transactions.specs.Ready.{HasBegunSince, HasCalled, IsReady, standing}
 use Rattle.transactions.specs.Requests.{IsOpen, KeepsReceipts}
 use Rattle.transactions.proofs.RequestLemmas.{keeps_self, then_keeps}
-use Rattle.wolimevar.specs.Frames.{ComesBack, Frame, GoesOn, IsClient, IsIn, IsOfSeat, IsUnderWay, calls_made, calls_of}
+use Rattle.wolimevar.specs.Frames.{ComesBack, Frame, GoesOn, HasMadeCalls, IsClient, IsIn, IsOfSeat, IsUnderWay, calls_made, calls_of}
+use Rattle.wolimevar.specs.Asked.{HasAsked}
 use Rattle.wolimevar.specs.Clients.{IsAtClient}
+use Rattle.wolimevar.proofs.AskedLemmas.{asks_for, asks_none, then_asks}
 
 ok_is_no_err : {A E : Type 0} (a : A) (e : E) → Ok a ≡ Err e → ⊥
 ok_is_no_err a e h = cc
@@ -26,12 +30,28 @@ module _ {V : Type 0} where
   call_keeps t s u call r (inl rests) has = subst (λ (v : TxSeat V). KeepsReceipts s.seat v.seat) (sym (has.none rests).1) (keeps_self s.seat)
   call_keeps t s u call r (inr at) has = (has.calls at).keeps
 
-  since_on : (m : Option (TxSeat V)) (s u : Seat V) → IfSome m (λ b. KeepsReceipts b.seat s) → KeepsReceipts s u
-      → IfSome m (λ b. KeepsReceipts b.seat u)
-  since_on None s u h k = h
-  since_on (Some m) s u h k = then_keeps m.seat s u h k
+  -- and asks for itself alone
+  pub call_asks : (d : Bool) (t : TxTable V) (s u : TxSeat V) (call : Call V) (r : Result (Reply V) Refusal)
+      → (standing (opening_of t) s.seat ≡ Rests) ⊎ IsOpen (opening_of t) s.seat → HasCalled t s u call r
+      → HasAsked d (requests_of s.seat) (requests_of u.seat)
+  call_asks d t s u call r (inl rests) has = asks_none d _ _ (ap (λ (v : TxSeat V). requests_of v.seat) (has.none rests).1)
+  call_asks d t s u call r (inr at) has = asks_for d s.seat u.seat (request.Call call) r tt (has.asks at)
 
-  framed_on : (f : Option (Frame V)) (t : TxTable V) (s u : TxSeat V) → IfSome f (IsIn t s) → KeepsReceipts s.seat u.seat
+  pub no_calls : (s : Seat V) → HasMadeCalls s s
+  no_calls s = record { keeps = keeps_self s; asks = λ d. asks_none d _ _ refl }
+
+  then_calls : (m s u : Seat V) → HasMadeCalls m s → HasMadeCalls s u → HasMadeCalls m u
+  then_calls m s u h k = record {
+    keeps = then_keeps m s u h.keeps k.keeps;
+    asks = λ d. then_asks d _ _ _ (h.asks d) (k.asks d);
+  }
+
+  since_on : (m : Option (TxSeat V)) (s u : Seat V) → IfSome m (λ b. HasMadeCalls b.seat s) → HasMadeCalls s u
+      → IfSome m (λ b. HasMadeCalls b.seat u)
+  since_on None s u h k = h
+  since_on (Some m) s u h k = then_calls m.seat s u h k
+
+  framed_on : (f : Option (Frame V)) (t : TxTable V) (s u : TxSeat V) → IfSome f (IsIn t s) → HasMadeCalls s.seat u.seat
       → IfSome f (IsIn t u)
   framed_on None t s u h k = h
   framed_on (Some b) t s u h k = record { table = h.table; since = since_on b.begun s.seat u.seat h.since k }
@@ -42,7 +62,10 @@ module _ {V : Type 0} where
   called_on f t s u call r was has = record {
     ready = has.ready;
     since = has.since;
-    framed = framed_on f t s u was.framed (call_keeps t s u call r was.ready.between has);
+    framed = framed_on f t s u was.framed (record {
+      keeps = call_keeps t s u call r was.ready.between has;
+      asks = λ d. call_asks d t s u call r was.ready.between has;
+    });
   }
 
   -- a call that is answered joins those that were made
@@ -56,7 +79,7 @@ module _ {V : Type 0} where
 
   -- what a frame tells of a transaction
   pub in_frame : (f : Option (Frame V)) (t u : TxTable V) (m : TxSeat V) (s : TxSeat V)
-      → f ≡ Some (record { table = t; begun = Some m }) → IsUnderWay f u s → (u ≡ t) × KeepsReceipts m.seat s.seat
+      → f ≡ Some (record { table = t; begun = Some m }) → IsUnderWay f u s → (u ≡ t) × HasMadeCalls m.seat s.seat
   in_frame f t u m s is h =
       let at : IfSome (Some (record { table = t; begun = Some m })) (IsIn u s) = subst (λ (g : Option (Frame V)). IfSome g (IsIn u s)) is h.framed in
       (at.table, at.since)
@@ -66,7 +89,7 @@ module _ {V : Type 0} where
   begin_frame f t s is ready since = record {
     ready = ready;
     since = since;
-    framed = subst (λ (g : Option (Frame V)). IfSome g (IsIn t s)) (sym is) (record { table = refl; since = keeps_self s.seat });
+    framed = subst (λ (g : Option (Frame V)). IfSome g (IsIn t s)) (sym is) (record { table = refl; since = no_calls s.seat });
   }
 
   -- a client by its seat

@@ -1,5 +1,7 @@
+pub mod AskedLemmas
 pub mod FrameLemmas
 pub mod EndLemmas
+pub mod TallyLemmas
 pub mod CloseLemmas
 pub mod ClientLemmas
 pub mod StoreLemmas

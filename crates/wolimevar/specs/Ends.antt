@@ -3,16 +3,22 @@ use Rattle.std.specs.Prelude.{◌≡◌, ℕ, ◌≤◌, List, [], ◌∷◌, �
 use Rattle.seq_model.specs.declared.call.Call.{Call}
 use Rattle.seq_model.specs.declared.call.Reply.{Reply}
 use Rattle.seq_model.specs.declared.record.Record.{Record}
-use Rattle.seq_model.specs.declared.refusal.Refusal.{Refusal}
+use Rattle.seq_model.specs.declared.event.Request.{Request}
+use Rattle.wolimevar.specs.declared.failures.Failure.{Failure}
+use Rattle.wolimevar.specs.declared.failures.Failure.TheVariants.{Refused, GaveUp}
+use Rattle.wolimevar.specs.declared.tally.Tally.{Tally}
 use Rattle.tx_table.specs.declared.seat.Seat.{Seat}
 use Rattle.tx_table.specs.Seated.{actor, view}
 
 module _ (V : Type 0) where
-  -- what a client shows: its number among the actors, the last number that it committed or learnt, and its receipts
+  -- what a client shows: its number among the actors, the last number that it committed or learnt, its receipts, what its actor was asked,
+  -- and how its attempts ended
   pub record ClientShown : Type 0 where
     pub actor : ℕ
     pub last : ℕ
     pub receipts : List (ℕ × Record V)
+    pub asked : List (Request V)
+    pub tally : Tally
 
 module _ {V : Type 0} where
   -- The seat has this receipt more, whose number is its last one.
@@ -30,7 +36,13 @@ module _ {V : Type 0} where
     pub receipts : (view u).receipts ≡ (view s).receipts
     pub last : u.last ≡ s.last
 
-  -- one receipt more, whose calls are such as led the body to what it gave; or, refused, none
-  unfoldable pub EndsAs : {A : Type 0} → (A → List (Call V × Reply V) → Type 0) → Seat V → Seat V → Result (A × Record V) Refusal → Type 0
-  EndsAs made s u (Ok done) = HasGained s u done.1 × made done.0 done.1.calls
-  EndsAs made s u (Err cause) = HasGainedNone s u
+  -- a body that gave up by itself made such calls as led it to that
+  abbrev pub IsTold : {E : Type 0} → (E → List (Call V × Reply V) → Type 0) → Failure E → Type 0
+  IsTold gives_up (Refused cause) = Unit {0}
+  IsTold gives_up (GaveUp e) = (calls : List (Call V × Reply V)) × gives_up e calls
+
+  -- one receipt more, whose calls are such as led the body to what it gave; or none
+  unfoldable pub EndsAs : {A E : Type 0} → (A → List (Call V × Reply V) → Type 0) → (E → List (Call V × Reply V) → Type 0)
+      → Seat V → Seat V → Result (A × Record V) (Failure E) → Type 0
+  EndsAs made gives_up s u (Ok done) = HasGained s u done.1 × made done.0 done.1.calls
+  EndsAs made gives_up s u (Err failure) = HasGainedNone s u × IsTold gives_up failure

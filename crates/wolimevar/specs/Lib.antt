@@ -1,6 +1,8 @@
+pub mod Asked
 pub mod Frames
 pub mod Made
 pub mod Ends
+pub mod Tallies
 pub mod Clients
 pub mod Stores
 pub mod StoreSeats

@@ -3,14 +3,21 @@ use Rattle.std.specs.Prelude.{◌≡◌, ℕ, [], Option, Some, None}
 use Rattle.tx_table.specs.declared.table.TxTable.{TxTable}
 use Rattle.tx_table.specs.Seated.{contents_in, view}
 use Rattle.tx_table.specs.declared.view.TheConstants.{SHARES}
+use Rattle.driven_turns.specs.Requested.{requests_of}
+use Rattle.wolimevar.specs.declared.tally.Tally.{Tally}
 use Rattle.transactions.specs.declared.seats.TxSeat.{TxSeat}
 use Rattle.transactions.specs.Ready.{IsReady}
 use Rattle.wolimevar.specs.Stores.{StoreShown}
 
 module _ {V : Type 0} where
-  abbrev pub store_at : TxTable V → Option (TxSeat V) → StoreShown V
-  store_at t (Some s) = record { opening = contents_in t; receipts = (view s.seat).receipts }
-  store_at t None = record { opening = contents_in t; receipts = [] }
+  abbrev pub store_at : TxTable V → Option (TxSeat V) → Tally → StoreShown V
+  store_at t (Some s) tally = record {
+    opening = contents_in t;
+    receipts = (view s.seat).receipts;
+    asked = requests_of s.seat;
+    tally = tally;
+  }
+  store_at t None tally = record { opening = contents_in t; receipts = []; asked = []; tally = tally }
 
   -- its seat is there, and is ready, and has all shares
   pub record IsAtStore (t : TxTable V) (seat : Option (TxSeat V)) : Type 0 where

@@ -2,14 +2,19 @@
 use Rattle.std.specs.Prelude.{◌≡◌, ℕ, List}
 use Rattle.seq_model.specs.Contents.{Contents}
 use Rattle.seq_model.specs.Runs.{IsInCommitOrder, IsRun, after_run}
+use Rattle.seq_model.specs.declared.event.Request.{Request}
 use Rattle.seq_model.specs.declared.record.Record.{Record}
+use Rattle.wolimevar.specs.declared.tally.Tally.{Tally}
 use Rattle.tx_table.specs.Shown.{total}
 
 module _ (V : Type 0) where
-  -- what it opened with, and the receipts of its transactions, each with the number of its actor
+  -- what it opened with, the receipts of its transactions, each with the number of its actor, and of those of its own what its actor was
+  -- asked, and how its attempts ended
   pub record StoreShown : Type 0 where
     pub opening : Contents V
     pub receipts : List (ℕ × Record V)
+    pub asked : List (Request V)
+    pub tally : Tally
 
 module _ {V : Type 0} where
   -- the receipts, in commit order, are a run from the opening that leaves this

@@ -7,6 +7,7 @@ use crate::maps::Map;
 use crate::priority_queues::PriorityQueue;
 use crate::queues::Queue;
 use crate::store::Store;
+use crate::tally::Tally;
 use crate::words::Word;
 use seq_model::{Counts, Entries, Held, Items, Memory, QueueItems, Refusal, Shape, State, Value};
 use std::alloc::Global;
@@ -106,6 +107,7 @@ impl<V: Value> Layout<V> {
             alloc,
             table,
             seat: Some(seat),
+            tally: Tally::new(),
         })
     }
 }

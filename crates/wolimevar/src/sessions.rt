@@ -206,7 +206,7 @@ where
     ensures ready { IsReady table.now result.0 }
     ensures whole { (view result.0.seat).shares ≡ SHARES }
     ensures all { IfOk result.1 (λ outs. HaveServed N.serves sessions.items outs.items (view seat.seat).receipts (view result.0.seat).receipts) }
-    ensures none { OnErr result.1 ((view result.0.seat).receipts ≡ (view seat.seat).receipts) }
+    ensures none { OnErr result.1 (result.0 ≡ seat) }
     ensures why { IfErr result.1 (IsWhy (length sessions.items)) }
 {
     let mut seat = seat;

@@ -1,12 +1,17 @@
 //! A store, which lends clients to sessions.
-ghost use Rattle.std.specs.Prelude.{◌≡◌, ◌++◌, ◌∷◌, [], IfErr, IfOk, OnErr, length};
+ghost use Rattle.std.specs.Prelude.{◌≡◌, ◌++◌, ◌∷◌, [], IfErr, IfOk, OnErr, false, length, true};
+ghost use Rattle.wolimevar.specs.Asked.{HasAsked};
+ghost use Rattle.wolimevar.specs.Ends.{IsTold};
 ghost use Rattle.wolimevar.specs.Sessions.{HaveServed, IsWhy};
 ghost use Rattle.wolimevar.specs.Stores.{IsLeftBy};
+ghost use Rattle.wolimevar.specs.Tallies.{AreCounted};
 
 use crate::attempts::retry;
 use crate::body::Body;
 use crate::contents::Contents;
+use crate::failures::Failure;
 use crate::sessions::{Session, serve};
+use crate::tally::Tally;
 use seq_model::{Memory, Refusal, Value};
 use std::alloc::Global;
 use std::marker::Model;
@@ -21,6 +26,7 @@ pub struct Store<V> {
     pub(crate) table: TxTable<V>,
     /// It is out only while a transaction runs.
     pub(crate) seat: Option<TxSeat<V>>,
+    pub(crate) tally: Tally,
 }
 
 impl<V> Model for Store<V> {
@@ -34,7 +40,7 @@ impl<V> Model for Store<V> {
 
     ghost use Rattle.wolimevar.specs.StoreSeats.{IsAtStore, store_at};
 
-    ghost view = { λ a. store_at a.table a.seat };
+    ghost view = { λ a. store_at a.table a.seat a.tally };
 
     ghost invariant = { λ a. IsAtStore a.table a.seat };
 }
@@ -45,13 +51,23 @@ impl<V: Value> Store<V> {
         &mut self,
         tries: u64,
         body: &B,
-    ) -> Result<(B::Out, Receipt<V>), Refusal>
+    ) -> Result<(B::Out, Receipt<V>), Failure<B::Error>>
         ensures opening { self.new.opening ≡ self.old.opening }
         ensures one { IfOk result (λ done. (a : _) × (self.new.receipts ≡ self.old.receipts ++ (a, done.1) ∷ [])) }
         ensures made { IfOk result (λ done. B.makes body.now done.0 done.1.calls) }
-        ensures none { OnErr result (self.new ≡ self.old) }
+        ensures none { OnErr result (self.new.receipts ≡ self.old.receipts) }
+        ensures gives_up { IfErr result (IsTold (B.gives_up body.now)) }
+        ensures asks { HasAsked false self.old.asked self.new.asked }
+        ensures counted { AreCounted tries self.old.tally self.new.tally result }
     {
         self.retry_as(tries, body, false)
+    }
+
+    /// How the attempts of the store itself ended; those of its sessions are their clients'.
+    pub fn tally(&self) -> Tally
+        ensures { result ≡ self.now.tally }
+    {
+        self.tally
     }
 
     /// The body as one declared reader, as `Client::look` has it.
@@ -59,11 +75,14 @@ impl<V: Value> Store<V> {
         &mut self,
         tries: u64,
         body: &B,
-    ) -> Result<(B::Out, Receipt<V>), Refusal>
+    ) -> Result<(B::Out, Receipt<V>), Failure<B::Error>>
         ensures opening { self.new.opening ≡ self.old.opening }
         ensures one { IfOk result (λ done. (a : _) × (self.new.receipts ≡ self.old.receipts ++ (a, done.1) ∷ [])) }
         ensures made { IfOk result (λ done. B.makes body.now done.0 done.1.calls) }
-        ensures none { OnErr result (self.new ≡ self.old) }
+        ensures none { OnErr result (self.new.receipts ≡ self.old.receipts) }
+        ensures gives_up { IfErr result (IsTold (B.gives_up body.now)) }
+        ensures asks { HasAsked true self.old.asked self.new.asked }
+        ensures counted { AreCounted tries self.old.tally self.new.tally result }
     {
         self.retry_as(tries, body, true)
     }
@@ -73,16 +92,20 @@ impl<V: Value> Store<V> {
         tries: u64,
         body: &B,
         declared: bool,
-    ) -> Result<(B::Out, Receipt<V>), Refusal>
+    ) -> Result<(B::Out, Receipt<V>), Failure<B::Error>>
         ensures opening { self.new.opening ≡ self.old.opening }
         ensures one { IfOk result (λ done. (a : _) × (self.new.receipts ≡ self.old.receipts ++ (a, done.1) ∷ [])) }
         ensures made { IfOk result (λ done. B.makes body.now done.0 done.1.calls) }
-        ensures none { OnErr result (self.new ≡ self.old) }
+        ensures none { OnErr result (self.new.receipts ≡ self.old.receipts) }
+        ensures gives_up { IfErr result (IsTold (B.gives_up body.now)) }
+        ensures asks { HasAsked declared self.old.asked self.new.asked }
+        ensures counted { AreCounted tries self.old.tally self.new.tally result }
     {
         match self.seat.take() {
             Some(seat) => {
-                let (seat, ended) = retry(&self.table, seat, body, declared, tries);
+                let (seat, tally, ended) = retry(&self.table, seat, self.tally, body, declared, tries);
                 self.seat = Some(seat);
+                self.tally = tally;
                 ended
             }
             None => unreachable!(),
@@ -124,6 +147,7 @@ impl<V: Value> Store<V> {
             alloc: _,
             table,
             seat,
+            tally: _,
         } = self;
         match seat {
             Some(seat) => {

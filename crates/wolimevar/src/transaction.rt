@@ -13,7 +13,7 @@ use tx_table::TxTable;
 pub struct Transaction<'t, V, S: Scope<V>> {
     pub(crate) table: &'t TxTable<V>,
     pub(crate) seat: TxSeat<V>,
-    /// What refused a call last.
+    /// What refused the last call, where it was refused.
     pub(crate) refused: Option<Refusal>,
     pub(crate) scope: PhantomData<S>,
 }
@@ -33,6 +33,14 @@ impl<'t, V, S: Scope<V>> Model for Transaction<'t, V, S> {
     ghost invariant = { λ a. IsUnderWay S.frame a.table.now a.seat };
 }
 
+/// What refused the last call: where a call before has ended the transaction, that one's refusal.
+fn last_refusal(refused: Option<Refusal>, cause: Refusal) -> Option<Refusal> {
+    match cause {
+        Refusal::NoTransaction => refused,
+        _ => Some(cause),
+    }
+}
+
 impl<'t, V: Value, S: Scope<V>> Transaction<'t, V, S> {
     /// A call on a word or on a collection, as `transactions::TxSeat::call` has it: `target` is the number of a word for `Read` and `Write`,
     /// and else of a collection. Where it is answered, it joins the calls that were made.
@@ -40,9 +48,12 @@ impl<'t, V: Value, S: Scope<V>> Transaction<'t, V, S> {
         ensures { IfOk result (λ reply. HasMade self.old target op reply self.new) }
     {
         match self.seat.call(self.table, Call { target, op }) {
-            Ok(reply) => Ok(reply),
+            Ok(reply) => {
+                self.refused = None;
+                Ok(reply)
+            }
             Err(cause) => {
-                self.refused = Some(cause);
+                self.refused = last_refusal(self.refused, cause);
                 Err(cause)
             }
         }

@@ -1,0 +1,11 @@
+use Rattle.std.proofs.Common.{rules, ◌≡◌, Some}
+use Rattle.wolimevar.proofs.ClientLemmas.{store_shows}
+use Rattle.wolimevar.proofs.StoreLemmas.{run_none}
+use Rattle.wolimevar.proofs.store.Store.run.Goals as goal
+
+pub returns-clause-none : goal.returns-clause-none
+returns-clause-none g c =
+    let is : c.self.inside.seat ≡ Some c.in-Some.seat = search rules in
+    let v = store_shows c.self.inside.table c.self.inside.seat c.in-Some.seat c.self.inside.tally c.args.self.now c.self.view_is is in
+    run_none c.serve-seat.result.1 c.self.inside.table c.in-Some.seat c.serve-seat.result.0 c.self.inside.tally c.args.self.now v
+        c.serve-seat.ensures.none

@@ -1,0 +1,90 @@
+//! Attempts, counted by how they ended.
+ghost use Rattle.std.specs.Prelude.{◌≡◌};
+ghost use Rattle.wolimevar.specs.Tallies.{one_more, with_end, with_refusal};
+
+use crate::failures::Failure;
+use seq_model::Refusal;
+
+/// How many attempts ended in each way. None of the counts goes beyond the greatest `u64`.
+#[derive(Clone, Copy, Debug, PartialEq, Eq)]
+pub struct Tally {
+    pub committed: u64,
+    /// The body gave up by itself.
+    pub given_up: u64,
+    pub moved: u64,
+    pub busy: u64,
+    pub stale: u64,
+    pub gate_busy: u64,
+    pub invalid: u64,
+    pub out_of_memory: u64,
+    /// Refused in any other way.
+    pub others: u64,
+}
+
+fn one_more(count: u64) -> u64
+    ensures { result ≡ one_more count }
+{
+    count.saturating_add(1)
+}
+
+impl Tally {
+    /// No attempts.
+    pub fn new() -> Tally {
+        Tally {
+            committed: 0,
+            given_up: 0,
+            moved: 0,
+            busy: 0,
+            stale: 0,
+            gate_busy: 0,
+            invalid: 0,
+            out_of_memory: 0,
+            others: 0,
+        }
+    }
+
+    /// How many attempts there were in all.
+    pub fn attempts(&self) -> u64 {
+        self.committed
+            .saturating_add(self.given_up)
+            .saturating_add(self.refusals())
+    }
+
+    /// How many of them were refused.
+    pub fn refusals(&self) -> u64 {
+        self.moved
+            .saturating_add(self.busy)
+            .saturating_add(self.stale)
+            .saturating_add(self.gate_busy)
+            .saturating_add(self.invalid)
+            .saturating_add(self.out_of_memory)
+            .saturating_add(self.others)
+    }
+
+    fn with_refusal(mut self, cause: Refusal) -> Tally
+        ensures { result ≡ with_refusal self cause }
+    {
+        match cause {
+            Refusal::Moved { .. } => self.moved = one_more(self.moved),
+            Refusal::Busy { .. } => self.busy = one_more(self.busy),
+            Refusal::Stale { .. } => self.stale = one_more(self.stale),
+            Refusal::GateBusy { .. } => self.gate_busy = one_more(self.gate_busy),
+            Refusal::Invalid { .. } => self.invalid = one_more(self.invalid),
+            Refusal::OutOfMemory => self.out_of_memory = one_more(self.out_of_memory),
+            _ => self.others = one_more(self.others),
+        }
+        self
+    }
+
+    /// With an attempt that ended so.
+    pub(crate) fn with_end<T, E>(mut self, ended: &Result<T, Failure<E>>) -> Tally
+        ensures { result ≡ with_end self ended.now }
+    {
+        match ended {
+            Ok(_) => self.committed = one_more(self.committed),
+            Err(Failure::Refused(cause)) => return self.with_refusal(*cause),
+            Err(Failure::GaveUp(_)) => self.given_up = one_more(self.given_up),
+        }
+        self
+    }
+}
