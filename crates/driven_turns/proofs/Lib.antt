@@ -12,3 +12,4 @@ pub mod QuietLemmas
 pub mod StepsLemmas
 pub mod GivenUpLemmas
 pub mod RestLemmas
+pub mod StraightLemmas

@@ -1,3 +1,4 @@
 pub mod Requested
 pub mod Begins
 pub mod Driven
+pub mod Straight

@@ -10,7 +10,7 @@ ghost use Rattle.tx_turns.specs.Ties.{Ties};
 ghost use Rattle.gate_turns.specs.Own.{HasOwn};
 ghost use Rattle.driven_turns.specs.Driven.{Driven, IsOnGate, Stops, seat_in, standing};
 
-use crate::steps::steps_on;
+use crate::reads::steps_on;
 use crate::turns::{turn_apart, turn_on_gate};
 use actor_words::Next;
 use boxes::Boxed;

@@ -1,0 +1,255 @@
+-- Steps on the words that are taken straight on.
+--
+-- What a step on the words makes of an actor is a term, of which the next step asks only that it is due in the own world of the seat: so no
+-- value has to hold it. Each step is one lemma here, by what it found; it leads on from those before it (`led_on`), and the last one, of
+-- which the actor hears, is as any turn on the words (`led_last`).
+use Rattle.std.proofs.Common.{◌≡◌, ℕ, ◌<◌, ◌≤◌, true, false, cond, List, Option, Some, None, Result, Ok, refl, sym, ap, ◌∙◌, subst, arith}
+use Rattle.std.specs.Prelude.{nat_le, if◌then◌else◌}
+use Rattle.std.proofs.lemmas.Bool.{cond-true}
+use Rattle.vlock_word.specs.LockWord.{unbits}
+use Rattle.vlock_word.specs.declared.lock_word.LockWord.{LockWord}
+use Rattle.vlock_word.specs.declared.lock_word.LockWord.TheVariants.{Free}
+use Rattle.word_machine.specs.Actor as machine
+use Rattle.word_machine.specs.Actor.{goes, seen}
+use Rattle.word_machine.specs.Cells.{learns}
+use Rattle.word_machine.specs.Notices as notice
+use Rattle.word_machine.specs.Notices.{look_notice}
+use Rattle.word_machine.specs.World.{plan}
+use Rattle.replay_log.specs.declared.base.Base.{Base}
+use Rattle.replay_log.specs.Seats.{World}
+use Rattle.replay_log.specs.WorldProgress.{AreSmall}
+use Rattle.step_core.specs.Answers.{result_of}
+use Rattle.step_core.specs.Shown as words
+use Rattle.step_core.specs.Sound.{Fits}
+use Rattle.step_core.specs.declared.actor.Actor.{Actor}
+use Rattle.step_core.specs.declared.actor.Place.{Place}
+use Rattle.step_core.specs.declared.actor.Place.TheVariants.{Look, Fetch, Again}
+use Rattle.step_core.specs.declared.answer.WordAnswer.{WordAnswer}
+use Rattle.step_core.specs.declared.answer.WordRefusal.{WordRefusal}
+use Rattle.actor_words.specs.Dispatch.{AreSteps, is_loading, next_of, notice_told}
+use Rattle.actor_words.specs.declared.next.Next.TheVariants as next
+use Rattle.atomic_steps.specs.Tells.{tells}
+use Rattle.tx_actor.specs.Dispatch.{IsToldWord, waits_at}
+use Rattle.tx_actor.specs.Having.{KeepsCopies}
+use Rattle.tx_actor.specs.Keeping.{IsRunning}
+use Rattle.tx_actor.specs.Running.{stage_of}
+use Rattle.tx_actor.specs.declared.actor.Stage as own
+use Rattle.tx_actor.specs.declared.actor.Stage.TheVariants as stage
+use Rattle.tx_actor.specs.declared.actor.Told.{Told}
+use Rattle.tx_actor.specs.declared.actor.Told.TheVariants as told
+use Rattle.tx_actor.specs.declared.actor.TxActor.{TxActor}
+use Rattle.actor_turns.proofs.StepLemmas.{running_moved}
+use Rattle.tx_table.specs.declared.seat.Seat.{Seat}
+use Rattle.tx_table.specs.declared.table.TxTable.{TxTable}
+use Rattle.tx_table.specs.Seated.{Loads, Stepped, acts, actor, blocks_in, opening_of, view}
+use Rattle.word_machine.specs.Cells.{LockCell, ValueCell}
+use Rattle.tx_threads.specs.Touches.{StepsWords}
+use Rattle.tx_threads.specs.declared.due.Due.TheVariants as due
+use Rattle.tx_turns.proofs.TurnLemmas.{word_is_next, word_turned}
+use Rattle.tx_turns.specs.Ties.{Ties, laid_in}
+use Rattle.gate_turns.specs.Laws.{WordsKeep}
+use Rattle.gate_turns.specs.Own.{HasOwn}
+use Rattle.driven_turns.proofs.StepsLemmas.{comes_on, leads_on, starts, word_onward}
+use Rattle.driven_turns.specs.Driven.{LeadsOn}
+use Rattle.driven_turns.specs.Straight.{HasLed, at_place}
+
+-- the word actor moves on, and keeps its bounds
+look_fits : (x : Actor) (l k : ℕ) (n : ℕ) → Fits n (record x { place = Look l }) → Fits n (record x { place = Fetch l k })
+look_fits x l k n h = record {
+  reads = h.reads;
+  writes = h.writes;
+  reads_rise = h.reads_rise;
+  writes_rise = h.writes_rise;
+  reads_few = h.reads_few;
+  writes_few = h.writes_few;
+  held = h.held;
+  wv = h.wv;
+  place = h.place;
+}
+
+fetch_fits : (x : Actor) (l k v : ℕ) (n : ℕ) → Fits n (record x { place = Fetch l k }) → Fits n (record x { place = Again l k v })
+fetch_fits x l k v n h = record {
+  reads = h.reads;
+  writes = h.writes;
+  reads_rise = h.reads_rise;
+  writes_rise = h.writes_rise;
+  reads_few = h.reads_few;
+  writes_few = h.writes_few;
+  held = h.held;
+  wv = h.wv;
+  place = h.place;
+}
+
+module _ {V : Type 0} where
+  -- ---- any steps
+  -- turns that lead on from turns
+  pub leads_then : (o : World V) (s u z : Seat V) (n : Told V) → LeadsOn o s u told.Quiet → LeadsOn o u z n → LeadsOn o s z n
+  leads_then o s u z n h k = record {
+    driven = λ f d was. k.driven f d (h.driven f d was);
+    nearer = λ e. (let p = h.nearer refl in let q = k.nearer e in omega (arith, p, q));
+  }
+
+  pub led_then : (t : TxTable V) (s u z : Seat V) (r : TxActor V) (n : Told V) (bs : List (Base V)) → LeadsOn (opening_of t) s u told.Quiet
+      → HasLed t u z r n bs → HasLed t s z r n bs
+  led_then t s u z r n bs h k = record { ties = k.ties; own = k.own; leads = leads_then (opening_of t) s u z n h k.leads }
+
+  -- a step that told nothing, where the stage of the actor waits for what is told
+  pub led_on : AreSteps V → WordsKeep V → (t : TxTable V) (s u : Seat V) (r : TxActor V) (y : Actor) (bs : List (Base V))
+      → is_loading (stage_of r.stage) ≡ false → waits_at r.stage ≡ true → next_of (stage_of r.stage) ≡ next.Word
+      → (r.stage ≡ stage.Closing → ⊥) → AreSmall (blocks_in t) → Ties t s r → HasOwn t s r bs
+      → StepsWords (opening_of t) s r.words u y (Ok None) → ((n : ℕ) → Fits n r.words → Fits n y)
+      → HasLed t s u (record r { words = y }) told.Quiet bs
+  led_on steps keep t s u r y bs quiet waits on going small ties has step fits =
+      let g = word_onward steps keep t s u r y (Ok None) bs quiet waits on refl ties has step fits in
+      record {
+        ties = g.0;
+        own = g.2;
+        leads = leads_on t s s u r told.Quiet (starts (opening_of t) s) ties g.1 on going small;
+      }
+
+  -- the step of which the actor hears
+  pub led_last : AreSteps V → WordsKeep V → (t : TxTable V) (s u : Seat V) (r q : TxActor V) (y : Actor)
+      (m : Result (Option WordAnswer) WordRefusal) (n : Told V) (bs : List (Base V)) → is_loading (stage_of r.stage) ≡ false
+      → next_of (stage_of r.stage) ≡ next.Word → (r.stage ≡ stage.Closing → ⊥) → AreSmall (blocks_in t) → Ties t s r → HasOwn t s r bs
+      → StepsWords (opening_of t) s r.words u y m → IsToldWord (record r { words = y }) q n (notice_told m) → IsRunning (laid_in t) q
+      → KeepsCopies r q → HasLed t s u q n bs
+  led_last steps keep t s u r q y m n bs quiet on going small ties has step heard running leaves =
+      let h = word_turned steps t s u r q y m n on quiet ties step heard running in
+      record {
+        ties = h.0;
+        own = keep t s u r q n bs ties has h.1 h.0 leaves on quiet;
+        leads = leads_on t s s u r n (starts (opening_of t) s) ties h.1 on going small;
+      }
+
+  -- ---- a word that is read
+  pub quiet_reading : (s : own.Stage V) (l : ℕ) → s ≡ stage.Reading l → is_loading (stage_of s) ≡ false
+  quiet_reading s l e = ap (λ (k : own.Stage V). is_loading (stage_of k)) e
+
+  pub waits_reading : (s : own.Stage V) (l : ℕ) → s ≡ stage.Reading l → waits_at s ≡ true
+  waits_reading s l e = ap (λ (k : own.Stage V). waits_at k) e
+
+  pub next_reading : (s : own.Stage V) (l : ℕ) → s ≡ stage.Reading l → next_of (stage_of s) ≡ next.Word
+  next_reading s l e = ap (λ (k : own.Stage V). next_of (stage_of k)) e
+
+  pub open_reading : (s : own.Stage V) (l : ℕ) → s ≡ stage.Reading l → s ≡ stage.Closing → ⊥
+  open_reading s l e f = (let k : stage.Reading l ≡ stage.Closing = sym e ∙ f in let z : ⊥ = cc in z)
+
+  -- an actor that stands at a place stands there
+  pub at_own_place : (r : TxActor V) (p : Place) → r.words.place ≡ p → r ≡ at_place r p
+  at_own_place r p e i = record r { words = record r.words { place = e i } }
+
+  -- its loads are due
+  pub look_due : (t : TxTable V) (s : Seat V) (r : TxActor V) (l : ℕ) → r.stage ≡ stage.Reading l → Ties t s (at_place r (Look l))
+      → Loads (actor s) (acts (opening_of t) s) (LockCell l)
+  look_due t s r l e ties =
+      let x = words.actor_of (at_place r (Look l)).words in
+      let h = word_is_next t s (at_place r (Look l)) (next_reading r.stage l e) ties (due.LoadLock l) (seen x l, refl) in
+      (h.spot, h.becomes)
+
+  pub fetch_due : (t : TxTable V) (s : Seat V) (r : TxActor V) (l k : ℕ) → r.stage ≡ stage.Reading l → Ties t s (at_place r (Fetch l k))
+      → Loads (actor s) (acts (opening_of t) s) (ValueCell l)
+  fetch_due t s r l k e ties =
+      let x = words.actor_of (at_place r (Fetch l k)).words in
+      let h = word_is_next t s (at_place r (Fetch l k)) (next_reading r.stage l e) ties (due.LoadValue l)
+      ((λ v. goes x (machine.Again l k v)), refl) in
+      (h.spot, h.becomes)
+
+  pub again_due : (t : TxTable V) (s : Seat V) (r : TxActor V) (l k v : ℕ) → r.stage ≡ stage.Reading l
+      → Ties t s (at_place r (Again l k v)) → Loads (actor s) (acts (opening_of t) s) (LockCell l)
+  again_due t s r l k v e ties =
+      let x = words.actor_of (at_place r (Again l k v)).words in
+      let h = word_is_next t s (at_place r (Again l k v)) (next_reading r.stage l e) ties (due.LoadLock l)
+      (machine.seen_again x l k v, refl) in
+      (h.spot, h.becomes)
+
+  -- the load of its lock word, by what the actor is then
+  pub look_steps : (o : World V) (s u : Seat V) (x y : Actor) (l found : ℕ) (m : Result (Option WordAnswer) WordRefusal)
+      → Stepped o s found u → let a = words.actor_of (record x { place = Look l }) in
+      words.actor_of y ≡ seen a l (unbits found) → m ≡ result_of (look_notice a.rv l (unbits found))
+      → StepsWords o s (record x { place = Look l }) u y m
+  look_steps o s u x y l found m step is says =
+      let a = words.actor_of (record x { place = Look l }) in
+      record {
+        due = due.LoadLock l;
+        number = found;
+        deed = (seen a l, refl);
+        touches = record { clock = (view s).clock; found = found; takes = step; finds = refl; rises = omega arith; clocks = tt };
+        learns = record { actor = is; told = says };
+      }
+
+  pub fetch_steps : (o : World V) (s u : Seat V) (x : Actor) (l k found : ℕ) → Stepped o s found u
+      → StepsWords o s (record x { place = Fetch l k }) u (record x { place = Again l k found }) (Ok None)
+  fetch_steps o s u x l k found step =
+      let a = words.actor_of (record x { place = Fetch l k }) in
+      record {
+        due = due.LoadValue l;
+        number = found;
+        deed = ((λ v. goes a (machine.Again l k v)), refl);
+        touches = record { clock = (view s).clock; found = found; takes = step; finds = refl; rises = omega arith; clocks = tt };
+        learns = record { actor = refl; told = refl };
+      }
+
+  pub again_steps : (o : World V) (s u : Seat V) (x y : Actor) (l k v found : ℕ) (m : Result (Option WordAnswer) WordRefusal)
+      → Stepped o s found u → let a = words.actor_of (record x { place = Again l k v }) in
+      words.actor_of y ≡ machine.seen_again a l k v (unbits found) → m ≡ result_of (notice.again_notice l k v (unbits found))
+      → StepsWords o s (record x { place = Again l k v }) u y m
+  again_steps o s u x y l k v found m step is says =
+      let a = words.actor_of (record x { place = Again l k v }) in
+      record {
+        due = due.LoadLock l;
+        number = found;
+        deed = (machine.seen_again a l k v, refl);
+        touches = record { clock = (view s).clock; found = found; takes = step; finds = refl; rises = omega arith; clocks = tt };
+        learns = record { actor = is; told = says };
+      }
+
+  -- it was free, and no newer than the transaction
+  pub look_led : AreSteps V → WordsKeep V → (t : TxTable V) (s u : Seat V) (r : TxActor V) (l k found : ℕ) (bs : List (Base V))
+      → r.stage ≡ stage.Reading l → AreSmall (blocks_in t) → Ties t s (at_place r (Look l)) → HasOwn t s (at_place r (Look l)) bs
+      → Stepped (opening_of t) s found u → unbits found ≡ Free k → nat_le k r.words.rv ≡ true
+      → HasLed t s u (at_place r (Fetch l k)) told.Quiet bs
+  look_led steps keep t s u r l k found bs e small ties has step free le =
+      let a = words.actor_of (record r.words { place = Look l }) in
+      let is : goes a (machine.Fetch l k) ≡ seen a l (unbits found) =
+      sym (ap (seen a l) free ∙ cond-true (nat_le k r.words.rv) (goes a (machine.Fetch l k)) (goes a machine.Undo) le) in
+      let says : notice.Quiet ≡ look_notice a.rv l (unbits found) =
+      sym (ap (look_notice a.rv l) free ∙ cond-true (nat_le k r.words.rv) notice.Quiet _ le) in
+      led_on steps keep t s u (at_place r (Look l)) (record r.words { place = Fetch l k }) bs (quiet_reading r.stage l e)
+      (waits_reading r.stage l e) (next_reading r.stage l e) (open_reading r.stage l e) small ties has
+      (look_steps (opening_of t) s u r.words (record r.words { place = Fetch l k }) l found (Ok None) step is (ap result_of says))
+      (look_fits r.words l k)
+
+  pub fetch_led : AreSteps V → WordsKeep V → (t : TxTable V) (s u : Seat V) (r : TxActor V) (l k found : ℕ) (bs : List (Base V))
+      → r.stage ≡ stage.Reading l → AreSmall (blocks_in t) → Ties t s (at_place r (Fetch l k)) → HasOwn t s (at_place r (Fetch l k)) bs
+      → Stepped (opening_of t) s found u → HasLed t s u (at_place r (Again l k found)) told.Quiet bs
+  fetch_led steps keep t s u r l k found bs e small ties has step =
+      led_on steps keep t s u (at_place r (Fetch l k)) (record r.words { place = Again l k found }) bs (quiet_reading r.stage l e)
+      (waits_reading r.stage l e) (next_reading r.stage l e) (open_reading r.stage l e) small ties has
+      (fetch_steps (opening_of t) s u r.words l k found step) (fetch_fits r.words l k found)
+
+  -- and what the actor hears of the first load, or of the last
+  pub look_last : AreSteps V → WordsKeep V → (t : TxTable V) (s u : Seat V) (r q : TxActor V) (y : Actor)
+      (m : Result (Option WordAnswer) WordRefusal) (n : Told V) (l found : ℕ) (bs : List (Base V)) → r.stage ≡ stage.Reading l
+      → AreSmall (blocks_in t) → Ties t s (at_place r (Look l)) → HasOwn t s (at_place r (Look l)) bs → Stepped (opening_of t) s found u
+      → let a = words.actor_of (record r.words { place = Look l }) in
+      words.actor_of y ≡ seen a l (unbits found) → m ≡ result_of (look_notice a.rv l (unbits found))
+      → ((j : ℕ) → Fits j (record r.words { place = Look l }) → Fits j y)
+      → IsToldWord (record r { words = y }) q n (notice_told m) → (IsRunning (laid_in t) (record r { words = y }) → IsRunning (laid_in t) q)
+      → KeepsCopies r q → HasLed t s u q n bs
+  look_last steps keep t s u r q y m n l found bs e small ties has step is says fits heard running leaves =
+      led_last steps keep t s u (at_place r (Look l)) q y m n bs (quiet_reading r.stage l e) (next_reading r.stage l e)
+      (open_reading r.stage l e) small ties has (look_steps (opening_of t) s u r.words y l found m step is says) heard
+      (running (running_moved (laid_in t) (at_place r (Look l)) y fits (quiet_reading r.stage l e) ties.running)) leaves
+
+  pub again_last : AreSteps V → WordsKeep V → (t : TxTable V) (s u : Seat V) (r q : TxActor V) (y : Actor)
+      (m : Result (Option WordAnswer) WordRefusal) (n : Told V) (l k v found : ℕ) (bs : List (Base V)) → r.stage ≡ stage.Reading l
+      → AreSmall (blocks_in t) → Ties t s (at_place r (Again l k v)) → HasOwn t s (at_place r (Again l k v)) bs
+      → Stepped (opening_of t) s found u → let a = words.actor_of (record r.words { place = Again l k v }) in
+      words.actor_of y ≡ machine.seen_again a l k v (unbits found) → m ≡ result_of (notice.again_notice l k v (unbits found))
+      → ((j : ℕ) → Fits j (record r.words { place = Again l k v }) → Fits j y)
+      → IsToldWord (record r { words = y }) q n (notice_told m) → (IsRunning (laid_in t) (record r { words = y }) → IsRunning (laid_in t) q)
+      → KeepsCopies r q → HasLed t s u q n bs
+  again_last steps keep t s u r q y m n l k v found bs e small ties has step is says fits heard running leaves =
+      led_last steps keep t s u (at_place r (Again l k v)) q y m n bs (quiet_reading r.stage l e) (next_reading r.stage l e)
+      (open_reading r.stage l e) small ties has (again_steps (opening_of t) s u r.words y l k v found m step is says) heard
+      (running (running_moved (laid_in t) (at_place r (Again l k v)) y fits (quiet_reading r.stage l e) ties.running)) leaves

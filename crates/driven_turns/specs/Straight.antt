@@ -1,0 +1,23 @@
+-- Steps that are taken straight on, between which the actor is a term and no value.
+use Rattle.replay_log.specs.declared.base.Base.{Base}
+use Rattle.std.specs.Prelude.{List}
+use Rattle.step_core.specs.declared.actor.Place.{Place}
+use Rattle.tx_actor.specs.declared.actor.Told.{Told}
+use Rattle.tx_actor.specs.declared.actor.TxActor.{TxActor}
+use Rattle.tx_table.specs.declared.seat.Seat.{Seat}
+use Rattle.tx_table.specs.declared.table.TxTable.{TxTable}
+use Rattle.tx_table.specs.Seated.{opening_of}
+use Rattle.tx_turns.specs.Ties.{Ties}
+use Rattle.gate_turns.specs.Own.{HasOwn}
+use Rattle.driven_turns.specs.Driven.{LeadsOn}
+
+module _ {V : Type 0} where
+  -- r, whose word actor stands at this place
+  abbrev pub at_place : TxActor V → Place → TxActor V
+  at_place r p = record r { words = record r.words { place = p } }
+
+  -- The seat s took turns that made no record, and is u now, which runs r; the last of them told n, and none before it told anything.
+  pub record HasLed (t : TxTable V) (s u : Seat V) (r : TxActor V) (n : Told V) (bs : List (Base V)) : Type 0 where
+    pub ties : Ties t u r
+    pub own : HasOwn t u r bs
+    pub leads : LeadsOn (opening_of t) s u n
