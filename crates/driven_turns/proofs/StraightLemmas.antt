@@ -3,7 +3,7 @@
 -- What a step on the words makes of an actor is a term, of which the next step asks only that it is due in the own world of the seat: so no
 -- value has to hold it. Each step is one lemma here, by what it found; it leads on from those before it (`led_on`), and the last one, of
 -- which the actor hears, is as any turn on the words (`led_last`).
-use Rattle.std.proofs.Common.{◌≡◌, ℕ, ◌<◌, ◌≤◌, true, false, cond, List, Option, Some, None, Result, Ok, refl, sym, ap, ◌∙◌, subst, arith}
+use Rattle.std.proofs.Common.{◌≡◌, ℕ, ◌<◌, ◌≤◌, true, false, true≢false, cond, List, Option, Some, None, Result, Ok, refl, sym, ap, ◌∙◌, subst, arith}
 use Rattle.std.specs.Prelude.{nat_le, if◌then◌else◌}
 use Rattle.std.proofs.lemmas.Bool.{cond-true}
 use Rattle.vlock_word.specs.LockWord.{unbits}
@@ -20,7 +20,7 @@ use Rattle.replay_log.specs.Seats.{World}
 use Rattle.replay_log.specs.WorldProgress.{AreSmall}
 use Rattle.step_core.specs.Answers.{result_of}
 use Rattle.step_core.specs.Shown as words
-use Rattle.step_core.specs.Sound.{Fits}
+use Rattle.step_core.specs.Sound.{Fits, IsLoad, KeepsRoom}
 use Rattle.step_core.specs.declared.actor.Actor.{Actor}
 use Rattle.step_core.specs.declared.actor.Place.{Place}
 use Rattle.step_core.specs.declared.actor.Place.TheVariants.{Look, Fetch, Again}
@@ -30,14 +30,21 @@ use Rattle.actor_words.specs.Dispatch.{AreSteps, is_loading, next_of, notice_tol
 use Rattle.actor_words.specs.declared.next.Next.TheVariants as next
 use Rattle.atomic_steps.specs.Tells.{tells}
 use Rattle.tx_actor.specs.Dispatch.{IsToldWord, waits_at}
-use Rattle.tx_actor.specs.Having.{KeepsCopies}
-use Rattle.tx_actor.specs.Keeping.{IsRunning}
+use Rattle.tx_actor.specs.Having.{HasLoaded, KeepsCopies}
+use Rattle.tx_actor.specs.Keeping.{HasHeard, IsRunning}
+use Rattle.tx_actor.specs.Loading.{MayHear}
+use Rattle.tx_actor.specs.Loads.{IsLoadable, IsToldLoad}
+use Rattle.tx_actor.specs.Reading.{LoadsKeep}
+use Rattle.tx_actor.specs.Seated.{SeatsActors}
+use Rattle.tx_actor.specs.Staying.{LoadsStayOwn}
 use Rattle.tx_actor.specs.Running.{stage_of}
 use Rattle.tx_actor.specs.declared.actor.Stage as own
 use Rattle.tx_actor.specs.declared.actor.Stage.TheVariants as stage
 use Rattle.tx_actor.specs.declared.actor.Told.{Told}
 use Rattle.tx_actor.specs.declared.actor.Told.TheVariants as told
 use Rattle.tx_actor.specs.declared.actor.TxActor.{TxActor}
+use Rattle.actor_turns.proofs.LoadLemmas.{loads_word}
+use Rattle.actor_turns.proofs.OwnLemmas.{OthersLaw}
 use Rattle.actor_turns.proofs.StepLemmas.{running_moved}
 use Rattle.tx_table.specs.declared.seat.Seat.{Seat}
 use Rattle.tx_table.specs.declared.table.TxTable.{TxTable}
@@ -47,9 +54,10 @@ use Rattle.tx_threads.specs.Touches.{StepsWords}
 use Rattle.tx_threads.specs.declared.due.Due.TheVariants as due
 use Rattle.tx_turns.proofs.TurnLemmas.{word_is_next, word_turned}
 use Rattle.tx_turns.specs.Ties.{Ties, laid_in}
+use Rattle.gate_turns.proofs.WordLemmas.{load_hears, load_tied}
 use Rattle.gate_turns.specs.Laws.{WordsKeep}
 use Rattle.gate_turns.specs.Own.{HasOwn}
-use Rattle.driven_turns.proofs.StepsLemmas.{comes_on, leads_on, starts, word_onward}
+use Rattle.driven_turns.proofs.StepsLemmas.{leads_on, load_onward, starts, word_onward}
 use Rattle.driven_turns.specs.Driven.{LeadsOn}
 use Rattle.driven_turns.specs.Straight.{HasLed, at_place}
 
@@ -79,6 +87,21 @@ fetch_fits x l k v n h = record {
   wv = h.wv;
   place = h.place;
 }
+
+look_room : (x : Actor) (l k : ℕ) → KeepsRoom (record x { place = Look l }) (record x { place = Fetch l k })
+look_room x l k = record { calls = refl; count = omega arith; writes = refl; reads = omega arith }
+
+fetch_room : (x : Actor) (l k v : ℕ) → KeepsRoom (record x { place = Fetch l k }) (record x { place = Again l k v })
+fetch_room x l k v = record { calls = refl; count = omega arith; writes = refl; reads = omega arith }
+
+-- what is known of loads for a call
+pub record LoadLaws (V : Type 0) : Type 0 where
+  pub steps : AreSteps V
+  pub hear : MayHear V
+  pub seats : SeatsActors V
+  pub stay : LoadsStayOwn V
+  pub others : OthersLaw V
+  pub keep : LoadsKeep V
 
 module _ {V : Type 0} where
   -- ---- any steps
@@ -139,26 +162,26 @@ module _ {V : Type 0} where
   at_own_place r p e i = record r { words = record r.words { place = e i } }
 
   -- its loads are due
-  pub look_due : (t : TxTable V) (s : Seat V) (r : TxActor V) (l : ℕ) → r.stage ≡ stage.Reading l → Ties t s (at_place r (Look l))
-      → Loads (actor s) (acts (opening_of t) s) (LockCell l)
-  look_due t s r l e ties =
+  pub look_due : (t : TxTable V) (s : Seat V) (r : TxActor V) (l : ℕ) → next_of (stage_of r.stage) ≡ next.Word
+      → Ties t s (at_place r (Look l)) → Loads (actor s) (acts (opening_of t) s) (LockCell l)
+  look_due t s r l on ties =
       let x = words.actor_of (at_place r (Look l)).words in
-      let h = word_is_next t s (at_place r (Look l)) (next_reading r.stage l e) ties (due.LoadLock l) (seen x l, refl) in
+      let h = word_is_next t s (at_place r (Look l)) on ties (due.LoadLock l) (seen x l, refl) in
       (h.spot, h.becomes)
 
-  pub fetch_due : (t : TxTable V) (s : Seat V) (r : TxActor V) (l k : ℕ) → r.stage ≡ stage.Reading l → Ties t s (at_place r (Fetch l k))
-      → Loads (actor s) (acts (opening_of t) s) (ValueCell l)
-  fetch_due t s r l k e ties =
+  pub fetch_due : (t : TxTable V) (s : Seat V) (r : TxActor V) (l k : ℕ) → next_of (stage_of r.stage) ≡ next.Word
+      → Ties t s (at_place r (Fetch l k)) → Loads (actor s) (acts (opening_of t) s) (ValueCell l)
+  fetch_due t s r l k on ties =
       let x = words.actor_of (at_place r (Fetch l k)).words in
-      let h = word_is_next t s (at_place r (Fetch l k)) (next_reading r.stage l e) ties (due.LoadValue l)
+      let h = word_is_next t s (at_place r (Fetch l k)) on ties (due.LoadValue l)
       ((λ v. goes x (machine.Again l k v)), refl) in
       (h.spot, h.becomes)
 
-  pub again_due : (t : TxTable V) (s : Seat V) (r : TxActor V) (l k v : ℕ) → r.stage ≡ stage.Reading l
+  pub again_due : (t : TxTable V) (s : Seat V) (r : TxActor V) (l k v : ℕ) → next_of (stage_of r.stage) ≡ next.Word
       → Ties t s (at_place r (Again l k v)) → Loads (actor s) (acts (opening_of t) s) (LockCell l)
-  again_due t s r l k v e ties =
+  again_due t s r l k v on ties =
       let x = words.actor_of (at_place r (Again l k v)).words in
-      let h = word_is_next t s (at_place r (Again l k v)) (next_reading r.stage l e) ties (due.LoadLock l)
+      let h = word_is_next t s (at_place r (Again l k v)) on ties (due.LoadLock l)
       (machine.seen_again x l k v, refl) in
       (h.spot, h.becomes)
 
@@ -253,3 +276,68 @@ module _ {V : Type 0} where
       led_last steps keep t s u (at_place r (Again l k v)) q y m n bs (quiet_reading r.stage l e) (next_reading r.stage l e)
       (open_reading r.stage l e) small ties has (again_steps (opening_of t) s u r.words y l k v found m step is says) heard
       (running (running_moved (laid_in t) (at_place r (Again l k v)) y fits (quiet_reading r.stage l e) ties.running)) leaves
+
+  -- ---- a location that a call reads
+  pub closing_not : (s : own.Stage V) → is_loading (stage_of s) ≡ true → s ≡ stage.Closing → ⊥
+  closing_not s e f = true≢false (sym e ∙ ap (λ (k : own.Stage V). is_loading (stage_of k)) f)
+
+  pub loading_on : LoadLaws V → (t : TxTable V) (s u : Seat V) (r : TxActor V) (y : Actor) (bs : List (Base V))
+      → is_loading (stage_of r.stage) ≡ true → AreSmall (blocks_in t) → Ties t s r → HasOwn t s r bs
+      → StepsWords (opening_of t) s r.words u y (Ok None) → (IsLoad r.words.place → KeepsRoom r.words y)
+      → ((n : ℕ) → Fits n r.words → Fits n y) → HasLed t s u (record r { words = y }) told.Quiet bs
+  loading_on laws t s u r y bs loading small ties has step room fits =
+      let g = load_onward laws.steps laws.hear laws.seats laws.stay laws.others laws.keep t s u r y (Ok None) bs loading refl ties has step
+      room fits in
+      record {
+        ties = g.0;
+        own = g.2;
+        leads = leads_on t s s u r told.Quiet (starts (opening_of t) s) ties g.1 (loads_word r r.stage loading ties.running.room)
+            (closing_not r.stage loading) small;
+      }
+
+  pub loading_hears : LoadLaws V → (t : TxTable V) (s u : Seat V) (r : TxActor V) (y : Actor) (m : Result (Option WordAnswer) WordRefusal)
+      → is_loading (stage_of r.stage) ≡ true → Ties t s r → StepsWords (opening_of t) s r.words u y m
+      → (IsLoad r.words.place → KeepsRoom r.words y) → ((n : ℕ) → Fits n r.words → Fits n y)
+      → let q : TxActor V = record r { words = y } in IsLoadable q q.stage (notice_told m) × HasHeard (laid_in t) q (notice_told m)
+  loading_hears laws t s u r y m loading ties step room fits =
+      load_hears laws.steps laws.keep t s u r y m loading ties step room fits
+
+  pub loading_last : LoadLaws V → (t : TxTable V) (s u : Seat V) (r q : TxActor V) (y : Actor) (m : Result (Option WordAnswer) WordRefusal)
+      (n : Told V) (bs : List (Base V)) → is_loading (stage_of r.stage) ≡ true → AreSmall (blocks_in t) → Ties t s r → HasOwn t s r bs
+      → StepsWords (opening_of t) s r.words u y m → (IsLoad r.words.place → KeepsRoom r.words y)
+      → ((j : ℕ) → Fits j r.words → Fits j y) → let p : TxActor V = record r { words = y } in
+      IsToldLoad p q n (notice_told m) → (HasHeard (laid_in t) p (notice_told m) → IsRunning (laid_in t) q)
+      → HasLoaded p q n p.stage (notice_told m) → HasLed t s u q n bs
+  loading_last laws t s u r q y m n bs loading small ties has step room fits heard running goes =
+      let hears = loading_hears laws t s u r y m loading ties step room fits in
+      let h = load_tied laws.steps laws.hear laws.seats laws.stay laws.others t s u r q y m n bs loading ties has step heard
+      (running hears.1) goes in
+      record {
+        ties = h.0;
+        own = h.2;
+        leads = leads_on t s s u r n (starts (opening_of t) s) ties h.1 (loads_word r r.stage loading ties.running.room)
+            (closing_not r.stage loading) small;
+      }
+
+  -- by its loads
+  pub look_loads : LoadLaws V → (t : TxTable V) (s u : Seat V) (r : TxActor V) (l k found : ℕ) (bs : List (Base V))
+      → is_loading (stage_of r.stage) ≡ true → AreSmall (blocks_in t) → Ties t s (at_place r (Look l)) → HasOwn t s (at_place r (Look l)) bs
+      → Stepped (opening_of t) s found u → unbits found ≡ Free k → nat_le k r.words.rv ≡ true
+      → HasLed t s u (at_place r (Fetch l k)) told.Quiet bs
+  look_loads laws t s u r l k found bs e small ties has step free le =
+      let a = words.actor_of (record r.words { place = Look l }) in
+      let is : goes a (machine.Fetch l k) ≡ seen a l (unbits found) =
+      sym (ap (seen a l) free ∙ cond-true (nat_le k r.words.rv) (goes a (machine.Fetch l k)) (goes a machine.Undo) le) in
+      let says : notice.Quiet ≡ look_notice a.rv l (unbits found) =
+      sym (ap (look_notice a.rv l) free ∙ cond-true (nat_le k r.words.rv) notice.Quiet _ le) in
+      loading_on laws t s u (at_place r (Look l)) (record r.words { place = Fetch l k }) bs e small ties has
+      (look_steps (opening_of t) s u r.words (record r.words { place = Fetch l k }) l found (Ok None) step is (ap result_of says))
+      (λ _. look_room r.words l k) (look_fits r.words l k)
+
+  pub fetch_loads : LoadLaws V → (t : TxTable V) (s u : Seat V) (r : TxActor V) (l k found : ℕ) (bs : List (Base V))
+      → is_loading (stage_of r.stage) ≡ true → AreSmall (blocks_in t) → Ties t s (at_place r (Fetch l k))
+      → HasOwn t s (at_place r (Fetch l k)) bs → Stepped (opening_of t) s found u
+      → HasLed t s u (at_place r (Again l k found)) told.Quiet bs
+  fetch_loads laws t s u r l k found bs e small ties has step =
+      loading_on laws t s u (at_place r (Fetch l k)) (record r.words { place = Again l k found }) bs e small ties has
+      (fetch_steps (opening_of t) s u r.words l k found step) (λ _. fetch_room r.words l k found) (fetch_fits r.words l k found)

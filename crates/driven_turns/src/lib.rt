@@ -7,6 +7,7 @@
 #![tactic(auto)]
 
 mod driving;
+mod loads;
 mod reads;
 mod steps;
 mod turns;

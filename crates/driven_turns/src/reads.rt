@@ -10,6 +10,7 @@ ghost use Rattle.gate_turns.specs.Own.{HasOwn};
 ghost use Rattle.driven_turns.specs.Driven.{LeadsOn, told_in};
 ghost use Rattle.driven_turns.specs.Straight.{HasLed, at_place};
 
+use crate::loads::{load_on, location_to_load};
 use crate::steps;
 use crate::turns::says;
 use actor_words::Next;
@@ -155,7 +156,7 @@ pub(crate) fn read_on<V: Value>(
     }
 }
 
-/// As [`steps::steps_on`], of which it takes the place: a word that is read is read straight on.
+/// As [`steps::steps_on`], of which it takes the place: a word that is read, and a location that a call reads, is read straight on.
 #[inline(always)]
 pub(crate) fn steps_on<V: Value>(
     table: &TxTable<V>,
@@ -174,8 +175,11 @@ pub(crate) fn steps_on<V: Value>(
     ensures ties { Ties table.now seat.new actor.new }
     ensures own { HasOwn table.now seat.new actor.new bases.now }
 {
-    match word_to_read(actor) {
-        Some(word) => read_on(table, seat, actor, bases, word, said),
-        None => steps::steps_on(table, seat, actor, bases, said),
+    if let Some(word) = word_to_read(actor) {
+        return read_on(table, seat, actor, bases, word, said);
     }
+    if let Some(location) = location_to_load(actor) {
+        return load_on(table, seat, actor, bases, location, said);
+    }
+    steps::steps_on(table, seat, actor, bases, said)
 }

@@ -1,4 +1,4 @@
-use Rattle.driven_turns.proofs.StraightLemmas.{fetch_due, fetch_led}
+use Rattle.driven_turns.proofs.StraightLemmas.{fetch_due, fetch_led, next_reading}
 use Rattle.driven_turns.proofs.reads.fetch_on.Goals as goal
 
 pub load_value-requires-clause-own : goal.load_value-requires-clause-own
@@ -12,7 +12,8 @@ load_value-requires-clause-location g c = c.requires.ties.running.fits.place.0
 
 pub load_value-requires-clause-due : goal.load_value-requires-clause-due
 load_value-requires-clause-due g c =
-    fetch_due c.args.table.now c.args.seat.now c.args.actor.now c.args.word c.args.version c.requires.stage c.requires.ties
+    fetch_due c.args.table.now c.args.seat.now c.args.actor.now c.args.word c.args.version
+    (next_reading c.args.actor.now.stage c.args.word c.requires.stage) c.requires.ties
 
 pub returns : goal.returns
 returns g c =

@@ -3,7 +3,7 @@ use Rattle.step_core.specs.declared.actor.Place.TheVariants.{Look}
 use Rattle.actor_turns.proofs.StepLemmas.{running_moved}
 use Rattle.tx_turns.specs.Ties.{laid_in}
 use Rattle.driven_turns.specs.Straight.{at_place}
-use Rattle.driven_turns.proofs.StraightLemmas.{look_due, look_last, look_led, quiet_reading}
+use Rattle.driven_turns.proofs.StraightLemmas.{look_due, look_last, look_led, next_reading, quiet_reading}
 use Rattle.driven_turns.proofs.reads.look_on.Goals as goal
 
 pub load_lock-found-requires-clause-own : goal.load_lock-found-requires-clause-own
@@ -17,7 +17,8 @@ load_lock-found-requires-clause-location g c = c.requires.ties.running.fits.plac
 
 pub load_lock-found-requires-clause-due : goal.load_lock-found-requires-clause-due
 load_lock-found-requires-clause-due g c =
-    look_due c.args.table.now c.args.seat.now c.args.actor.now c.args.word c.requires.stage c.requires.ties
+    look_due c.args.table.now c.args.seat.now c.args.actor.now c.args.word
+    (next_reading c.args.actor.now.stage c.args.word c.requires.stage) c.requires.ties
 
 pub returns-then-version-actor-clause-actor : goal.returns-then-version-actor-clause-actor
 returns-then-version-actor-clause-actor g c = refl
