@@ -3,12 +3,13 @@
 -- What a step on the words makes of an actor is a term, of which the next step asks only that it is due in the own world of the seat: so no
 -- value has to hold it. Each step is one lemma here, by what it found; it leads on from those before it (`led_on`), and the last one, of
 -- which the actor hears, is as any turn on the words (`led_last`).
-use Rattle.std.proofs.Common.{◌≡◌, ℕ, ◌<◌, ◌≤◌, true, false, true≢false, cond, List, Option, Some, None, Result, Ok, refl, sym, ap, ◌∙◌, subst, arith}
+use Rattle.std.proofs.Common.{◌≡◌, ℕ, ◌<◌, ◌≤◌, true, false, true≢false, Bool, cond, eqb, List, Option, Some, None, Result, Ok, refl, sym, ap, ◌∙◌, subst, arith}
 use Rattle.std.specs.Prelude.{nat_le, if◌then◌else◌}
 use Rattle.std.proofs.lemmas.Bool.{cond-true}
-use Rattle.vlock_word.specs.LockWord.{unbits}
+use Rattle.std.specs.Vec.{vec_len, vec_capacity}
+use Rattle.vlock_word.specs.LockWord.{bits, unbits}
 use Rattle.vlock_word.specs.declared.lock_word.LockWord.{LockWord}
-use Rattle.vlock_word.specs.declared.lock_word.LockWord.TheVariants.{Free}
+use Rattle.vlock_word.specs.declared.lock_word.LockWord.TheVariants.{Free, Locked}
 use Rattle.word_machine.specs.Actor as machine
 use Rattle.word_machine.specs.Actor.{goes, seen}
 use Rattle.word_machine.specs.Cells.{learns}
@@ -16,7 +17,9 @@ use Rattle.word_machine.specs.Notices as notice
 use Rattle.word_machine.specs.Notices.{look_notice}
 use Rattle.word_machine.specs.World.{plan}
 use Rattle.replay_log.specs.declared.base.Base.{Base}
-use Rattle.replay_log.specs.Seats.{World}
+use Rattle.replay_log.specs.Seats as worlds
+use Rattle.replay_log.specs.Seats.{World, After}
+use Rattle.replay_log.specs.Worlds.{has_read}
 use Rattle.replay_log.specs.WorldProgress.{AreSmall}
 use Rattle.step_core.specs.Answers.{result_of}
 use Rattle.step_core.specs.Shown as words
@@ -26,10 +29,11 @@ use Rattle.step_core.specs.declared.actor.Place.{Place}
 use Rattle.step_core.specs.declared.actor.Place.TheVariants.{Look, Fetch, Again}
 use Rattle.step_core.specs.declared.answer.WordAnswer.{WordAnswer}
 use Rattle.step_core.specs.declared.answer.WordRefusal.{WordRefusal}
-use Rattle.actor_words.specs.Dispatch.{AreSteps, is_loading, next_of, notice_told}
+use Rattle.actor_words.specs.Blocks.{BlocksView}
+use Rattle.actor_words.specs.Dispatch.{AreSteps, after_word, is_loading, next_of, notice_told}
 use Rattle.actor_words.specs.declared.next.Next.TheVariants as next
 use Rattle.atomic_steps.specs.Tells.{tells}
-use Rattle.tx_actor.specs.Dispatch.{IsToldWord, waits_at}
+use Rattle.tx_actor.specs.Dispatch.{HasRoom, IsToldWord, waits_at}
 use Rattle.tx_actor.specs.Having.{HasLoaded, KeepsCopies}
 use Rattle.tx_actor.specs.Keeping.{HasHeard, IsRunning}
 use Rattle.tx_actor.specs.Loading.{MayHear}
@@ -37,7 +41,7 @@ use Rattle.tx_actor.specs.Loads.{IsLoadable, IsToldLoad}
 use Rattle.tx_actor.specs.Reading.{LoadsKeep}
 use Rattle.tx_actor.specs.Seated.{SeatsActors}
 use Rattle.tx_actor.specs.Staying.{LoadsStayOwn}
-use Rattle.tx_actor.specs.Running.{stage_of}
+use Rattle.tx_actor.specs.Running.{Reseats, Runs, at, notice_of, seat_at, seat_of, stage_of}
 use Rattle.tx_actor.specs.declared.actor.Stage as own
 use Rattle.tx_actor.specs.declared.actor.Stage.TheVariants as stage
 use Rattle.tx_actor.specs.declared.actor.Told.{Told}
@@ -93,6 +97,17 @@ look_room x l k = record { calls = refl; count = omega arith; writes = refl; rea
 
 fetch_room : (x : Actor) (l k v : ℕ) → KeepsRoom (record x { place = Fetch l k }) (record x { place = Again l k v })
 fetch_room x l k v = record { calls = refl; count = omega arith; writes = refl; reads = omega arith }
+
+-- where the second load was answered, it told the value
+told_if : (l v j : ℕ) (x : Option WordAnswer) (b : Bool) → Ok x ≡ result_of (if b then notice.Number v else notice.Moved l (bits (Free j)))
+    → notice_told (Ok x) ≡ notice.Number v
+told_if l v j x true e = ap notice_told e
+told_if l v j x false e = absurd (let z : ⊥ = cc in z)
+
+told_number : (l k v : ℕ) (word : LockWord) (x : Option WordAnswer) → Ok x ≡ result_of (notice.again_notice l k v word)
+    → notice_told (Ok x) ≡ notice.Number v
+told_number l k v (Free j) x e = told_if l v j x (eqb j k) e
+told_number l k v (Locked j) x e = absurd (let z : ⊥ = cc in z)
 
 -- what is known of loads for a call
 pub record LoadLaws (V : Type 0) : Type 0 where
@@ -276,6 +291,30 @@ module _ {V : Type 0} where
       led_last steps keep t s u (at_place r (Again l k v)) q y m n bs (quiet_reading r.stage l e) (next_reading r.stage l e)
       (open_reading r.stage l e) small ties has (again_steps (opening_of t) s u r.words y l k v found m step is says) heard
       (running (running_moved (laid_in t) (at_place r (Again l k v)) y fits (quiet_reading r.stage l e) ties.running)) leaves
+
+  -- the value that it tells is what the actor reads
+  reads_as : (w : World V) (a : ℕ) (x : worlds.Seat V) (p : TxActor V) (l v : ℕ) → p.stage ≡ stage.Reading l
+      → after_word w a (seat_at x p) (stage_of p.stage) (notice.Number v) ≡ has_read w a (seat_of p) l (notice.Number v)
+  reads_as w a x p l v e =
+      ap (λ (s : own.Stage V). after_word w a (seat_at x (record p { stage = s })) (stage_of s) (notice.Number v)) e
+      ∙ sym (ap (λ (s : own.Stage V). has_read w a (seat_of (record p { stage = s })) l (notice.Number v)) e)
+
+  pub number_heard : (p q : TxActor V) (l k v : ℕ) (word : LockWord) (x : Option WordAnswer) (n : Told V) → p.stage ≡ stage.Reading l
+      → Ok x ≡ result_of (notice.again_notice l k v word) → Reseats p q n (λ a w. has_read w a (seat_of p) l (notice.Number v))
+      → IsToldWord p q n (notice_told (Ok x))
+  number_heard p q l k v word x n e answer does =
+      subst (λ (m : notice.Notice). IsToldWord p q n m) (sym (told_number l k v word x answer))
+      (λ a w may runs. subst (λ (z : After V). Runs a q z.0 × (notice_of a n ≡ z.1)) (sym (reads_as w a (w.seats a) p l v e))
+      (does a w runs.1))
+
+  pub room_reading : (p : TxActor V) (s : own.Stage V) (l : ℕ) → s ≡ stage.Reading l → HasRoom p s → vec_len p.calls < vec_capacity p.calls
+  room_reading p s l e h = subst (λ (k : own.Stage V). HasRoom p k) e h
+
+  pub running_idle : (v : BlocksView) (p : TxActor V) → IsRunning v p → IsRunning v (at p stage.Idle)
+  running_idle v p h = record { fits = h.fits; room = tt; names = tt; call = tt }
+
+  pub leaves_reading : (p q : TxActor V) (l : ℕ) → p.stage ≡ stage.Reading l → KeepsCopies (at p (stage.Reading l)) q → KeepsCopies p q
+  leaves_reading p q l e h = subst (λ (s : own.Stage V). KeepsCopies (record p { stage = s }) q) (sym e) h
 
   -- ---- a location that a call reads
   pub closing_not : (s : own.Stage V) → is_loading (stage_of s) ≡ true → s ≡ stage.Closing → ⊥

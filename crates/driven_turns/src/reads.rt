@@ -122,8 +122,13 @@ fn again_on<V: Value>(
     let _ = bases;
     let found = table.load_lock(seat, word);
     actor.words.place = Place::Again(word, version, value);
-    let told = actor.words.again(word, version, value, found);
-    actor.stepped(told)
+    match actor.words.again(word, version, value, found) {
+        Ok(told) => {
+            let _ = told;
+            actor.read(word, value)
+        }
+        Err(cause) => actor.stepped(Err(cause)),
+    }
 }
 
 /// The three loads of a word that is read, one after the other, each of which is one atomic step, and its answer: whether they were quiet,
