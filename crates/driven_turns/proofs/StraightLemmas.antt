@@ -3,7 +3,7 @@
 -- What a step on the words makes of an actor is a term, of which the next step asks only that it is due in the own world of the seat: so no
 -- value has to hold it. Each step is one lemma here, by what it found; it leads on from those before it (`led_on`), and the last one, of
 -- which the actor hears, is as any turn on the words (`led_last`).
-use Rattle.std.proofs.Common.{◌≡◌, ℕ, ◌<◌, ◌≤◌, true, false, true≢false, Bool, cond, eqb, List, Option, Some, None, Result, Ok, refl, sym, ap, ◌∙◌, subst, arith}
+use Rattle.std.proofs.Common.{◌≡◌, ℕ, ◌<◌, ◌≤◌, true, false, true≢false, Bool, cond, eqb, List, Option, Some, None, Result, Ok, inl, inr, refl, sym, ap, ◌∙◌, subst, arith}
 use Rattle.std.specs.Prelude.{nat_le, if◌then◌else◌}
 use Rattle.std.proofs.lemmas.Bool.{cond-true}
 use Rattle.std.specs.Vec.{vec_len, vec_capacity}
@@ -62,6 +62,9 @@ use Rattle.gate_turns.proofs.WordLemmas.{load_hears, load_tied}
 use Rattle.gate_turns.specs.Laws.{WordsKeep}
 use Rattle.gate_turns.specs.Own.{HasOwn}
 use Rattle.driven_turns.proofs.StepsLemmas.{leads_on, load_onward, starts, word_onward}
+use Rattle.tx_phases.specs.Courses.{IsUnderWay, IsUnderWayFrom}
+use Rattle.tx_phases.specs.Phases.{Phase, Begins, Calls, Commits, Ends}
+use Rattle.driven_turns.proofs.GivenUpLemmas.{under_ends}
 use Rattle.driven_turns.specs.Driven.{LeadsOn}
 use Rattle.driven_turns.specs.Straight.{HasLed, at_place}
 
@@ -158,6 +161,17 @@ module _ {V : Type 0} where
         own = keep t s u r q n bs ties has h.1 h.0 leaves on quiet;
         leads = leads_on t s s u r n (starts (opening_of t) s) ties h.1 on going small;
       }
+
+  -- a request that is under way is so from where it stands by then
+  pub under_self : (s x : worlds.Seat V) (p : Phase V) → IsUnderWayFrom s p x None → IsUnderWay x x None
+  under_self s x Begins h = subst (λ (p : Phase V). IsUnderWayFrom x p x None) (sym h.0) (h.0, refl)
+  under_self s x (Calls calls call) (inl at, e) = subst (λ (p : Phase V). IsUnderWayFrom x p x None) (sym at) (inl at, refl)
+  under_self s x (Calls calls call) (inr up, e) = under_ends x up.0
+  under_self s x (Commits calls) (inl (inl at, e)) = subst (λ (p : Phase V). IsUnderWayFrom x p x None) (sym at) (inl (inl at, refl))
+  under_self s x (Commits calls) (inl (inr up, e)) = under_ends x up.0
+  under_self s x (Commits calls) (inr has) = absurd has.1
+  under_self s x Ends h = under_ends x h.0
+  under_self s x p h = absurd h
 
   -- ---- a word that is read
   pub quiet_reading : (s : own.Stage V) (l : ℕ) → s ≡ stage.Reading l → is_loading (stage_of s) ≡ false

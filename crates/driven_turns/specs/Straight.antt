@@ -1,6 +1,6 @@
 -- Steps that are taken straight on, between which the actor is a term and no value.
 use Rattle.replay_log.specs.declared.base.Base.{Base}
-use Rattle.std.specs.Prelude.{List}
+use Rattle.std.specs.Prelude.{List, Option, None}
 use Rattle.step_core.specs.declared.actor.Place.{Place}
 use Rattle.tx_actor.specs.declared.actor.Told.{Told}
 use Rattle.tx_actor.specs.declared.actor.TxActor.{TxActor}
@@ -9,7 +9,10 @@ use Rattle.tx_table.specs.declared.table.TxTable.{TxTable}
 use Rattle.tx_table.specs.Seated.{opening_of}
 use Rattle.tx_turns.specs.Ties.{Ties}
 use Rattle.gate_turns.specs.Own.{HasOwn}
-use Rattle.driven_turns.specs.Driven.{LeadsOn}
+use Rattle.driven_turns.specs.Driven.{Driven, LeadsOn, Stops}
+use Rattle.seq_model.specs.declared.record.Record.{Record}
+use Rattle.replay_log.specs.Seats.{World}
+use Rattle.tx_actor.specs.declared.actor.Told.TheVariants as told
 
 module _ {V : Type 0} where
   -- r, whose word actor stands at this place
@@ -21,3 +24,11 @@ module _ {V : Type 0} where
     pub ties : Ties t u r
     pub own : HasOwn t u r bs
     pub leads : LeadsOn (opening_of t) s u n
+
+  -- Turns that led to the seat u, and told nothing and made no record, lead on to z so.
+  abbrev pub LeadsTo : World V → Seat V → Seat V → Told V → Option (Record V) → Type 0
+  LeadsTo o u z n d = (s : Seat V) → Driven o s u told.Quiet None → Driven o s z n d
+
+  -- or stop there for want of memory
+  abbrev pub WantsOn : World V → Seat V → Seat V → Type 0
+  WantsOn o u z = (s : Seat V) → Driven o s u told.Quiet None → Stops o s z

@@ -2,6 +2,7 @@
 ghost use Rattle.std.specs.Prelude.{◌≡◌, ◌≢◌, [], None, OnErr, OnOk, true};
 ghost use Rattle.actor_words.specs.Dispatch.{next_of};
 ghost use Rattle.replay_log.specs.WorldProgress.{AreSmall};
+ghost use Rattle.step_core.specs.declared.actor.Place.TheVariants.{Look};
 ghost use Rattle.tx_table.specs.Seated.{blocks_in, opening_of};
 ghost use Rattle.tx_phases.specs.Courses.{IsUnderWay};
 ghost use Rattle.tx_actor.specs.Running.{stage_of};
@@ -9,8 +10,9 @@ ghost use Rattle.tx_phases.specs.Phases.{Ends};
 ghost use Rattle.tx_turns.specs.Ties.{Ties};
 ghost use Rattle.gate_turns.specs.Own.{HasOwn};
 ghost use Rattle.driven_turns.specs.Driven.{Driven, IsOnGate, Stops, seat_in, standing};
+ghost use Rattle.driven_turns.specs.Straight.{LeadsTo, WantsOn};
 
-use crate::reads::steps_on;
+use crate::reads::{read_on, steps_on, word_to_read};
 use crate::turns::{turn_apart, turn_on_gate};
 use actor_words::Next;
 use boxes::Boxed;
@@ -63,6 +65,8 @@ fn advance<V: Value>(
     ensures ties { Ties table.now seat.new actor.new }
     ensures own { HasOwn table.now seat.new actor.new bases.new.items }
     ensures stops { OnErr result (Stops (opening_of table.now) seat.old seat.new) }
+    ensures leads { OnOk result (LeadsTo (opening_of table.now) seat.old seat.new said.new kept.new) }
+    ensures wants { OnErr result (WantsOn (opening_of table.now) seat.old seat.new) }
 {
     'turns: loop {
         let next = actor.next();
@@ -144,6 +148,39 @@ fn finish<V: Value>(
     }
 }
 
+/// A word is read straight on. Where it has moved, the turns by which its transaction is given up come then.
+#[inline(always)]
+fn read_through<V: Value>(
+    alloc: Global,
+    table: &TxTable<V>,
+    seat: &mut Seat<V>,
+    actor: &mut TxActor<V>,
+    bases: &mut Vec<Boxed<Base<V>>>,
+    word: u32,
+) -> (Told<V>, Option<Record<V>>)
+    requires ties { Ties table.now seat.old actor.old }
+    requires own { HasOwn table.now seat.old actor.old bases.old.items }
+    requires small { AreSmall (blocks_in table.now) }
+    requires under { IsUnderWay (seat_in (opening_of table.now) seat.old) (seat_in (opening_of table.now) seat.old) None }
+    requires stage { actor.old.stage ≡ Stage.Reading word }
+    requires place { actor.old.words.place ≡ Look word }
+    ensures driven { Driven (opening_of table.now) seat.old seat.new result.0 result.1 }
+    ensures answered { result.0 ≢ Told.Quiet }
+    ensures ties { Ties table.now seat.new actor.new }
+    ensures own { HasOwn table.now seat.new actor.new [] }
+{
+    let mut said = Told::Quiet;
+    if !read_on(table, seat, actor, bases.as_slice(), word, &mut said) {
+        return (said, None);
+    }
+    let mut told = Told::Quiet;
+    let mut kept = None;
+    match advance(alloc, table, seat, actor, bases, &mut told, &mut kept) {
+        Ok(()) => (told, kept),
+        Err(_) => (give_up(alloc, table, seat, actor, bases), None),
+    }
+}
+
 /// The turns of the request that is under way, up to its answer, with the receipt that they make. They end, whatever the other seats do.
 /// Where memory is wanting, the request is given up, and told so. When it is answered, no gate is held and no base is in hand. The bases
 /// that it takes on the way lie in `bases`, which keeps the room for the next request: what lies there at first is dropped.
@@ -166,4 +203,29 @@ pub fn drive<V: Value>(
 {
     bases.clear();
     finish(alloc, table, seat, actor, bases)
+}
+
+/// As [`drive`], of a call: a word is read straight on.
+#[inline(always)]
+pub fn drive_call<V: Value>(
+    alloc: Global,
+    table: &TxTable<V>,
+    seat: &mut Seat<V>,
+    actor: &mut TxActor<V>,
+    bases: &mut Vec<Boxed<Base<V>>>,
+) -> (Told<V>, Option<Record<V>>)
+    requires ties { Ties table.now seat.old actor.old }
+    requires own { HasOwn table.now seat.old actor.old [] }
+    requires small { AreSmall (blocks_in table.now) }
+    requires under { IsUnderWay (seat_in (opening_of table.now) seat.old) (seat_in (opening_of table.now) seat.old) None }
+    ensures driven { Driven (opening_of table.now) seat.old seat.new result.0 result.1 }
+    ensures answered { result.0 ≢ Told.Quiet }
+    ensures ties { Ties table.now seat.new actor.new }
+    ensures own { HasOwn table.now seat.new actor.new [] }
+{
+    bases.clear();
+    match word_to_read(actor) {
+        Some(word) => read_through(alloc, table, seat, actor, bases, word),
+        None => finish(alloc, table, seat, actor, bases),
+    }
 }

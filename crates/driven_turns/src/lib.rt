@@ -12,5 +12,5 @@ mod reads;
 mod steps;
 mod turns;
 
-pub use driving::drive;
+pub use driving::{drive, drive_call};
 pub use turns::turn;

@@ -13,7 +13,7 @@ ghost use Rattle.transactions.specs.Requests.{IsLastAborted, told_of};
 
 use crate::requests::abort;
 use boxes::Boxed;
-use driven_turns::drive;
+use driven_turns::drive_call;
 use gate_turns::ask;
 use replay_log::Base;
 use seq_model::{Answer, Call, Refusal, Reply, Request, Value};
@@ -46,7 +46,7 @@ fn driven_call<V: Value>(
     ensures drives { CanDrive table.now seat.new actor.new }
     ensures driven { IsDriven (opening_of table.now) seat.old seat.new (told_of result) }
 {
-    let (told, _) = drive(alloc, table, seat, actor, bases);
+    let (told, _) = drive_call(alloc, table, seat, actor, bases);
     reply_told(told)
 }
 

@@ -17,8 +17,7 @@ turns-init g c =
     let o = opening_of c.args.table.now in (
       c.requires.ties,
       c.requires.own,
-      subst (λ (d : Option (Record _)). Driven o c.args.seat.now c.args.seat.now told.Quiet d) (sym c.requires.none)
-          (driven_first o c.args.seat.now c.requires.under),
+      λ s h. subst (λ (d : Option (Record _)). Driven o s c.args.seat.now told.Quiet d) (sym c.requires.none) h,
     )
 
 -- steps on the words that make no receipt
@@ -35,16 +34,22 @@ turns-preserved-else-not-steps_on g c =
       c.steps_on.ensures.ties,
       subst (λ (bs : List (Base _)). HasOwn c.args.table.now c.steps_on.new.seat c.steps_on.new.actor bs) c.as_slice.ensures.value
           c.steps_on.ensures.own,
-      subst (λ (k : Told _). Driven o c.args.seat.now c.steps_on.new.seat k c.turns.kept)
+      λ s h. subst (λ (k : Told _). Driven o s c.steps_on.new.seat k c.turns.kept)
           (ap (λ (b : Bool). told_in b c.steps_on.new.said) c.if-not-steps_on.false)
-          (c.steps_on.ensures.leads.driven c.args.seat.now c.turns.kept c.turns.invariant.2),
+          (c.steps_on.ensures.leads.driven s c.turns.kept (c.turns.invariant.2 s h)),
     )
 
 pub returns-then-not-steps_on-clause-driven : goal.returns-then-not-steps_on-clause-driven
 returns-then-not-steps_on-clause-driven g c =
     subst (λ (k : Told _). Driven (opening_of c.args.table.now) c.args.seat.now c.steps_on.new.seat k c.turns.kept)
     (ap (λ (b : Bool). told_in b c.steps_on.new.said) c.if-not-steps_on.true)
-    (c.steps_on.ensures.leads.driven c.args.seat.now c.turns.kept c.turns.invariant.2)
+    (c.steps_on.ensures.leads.driven c.args.seat.now c.turns.kept (c.turns.invariant.2 c.args.seat.now (driven_first (opening_of c.args.table.now) c.args.seat.now c.requires.under)))
+
+pub returns-then-not-steps_on-clause-leads : goal.returns-then-not-steps_on-clause-leads
+returns-then-not-steps_on-clause-leads g c = λ s h.
+    subst (λ (k : Told _). Driven (opening_of c.args.table.now) s c.steps_on.new.seat k c.turns.kept)
+    (ap (λ (b : Bool). told_in b c.steps_on.new.said) c.if-not-steps_on.true)
+    (c.steps_on.ensures.leads.driven s c.turns.kept (c.turns.invariant.2 s h))
 
 -- a turn on a gate
 pub turn_on_gate-requires-clause-due : goal.turn_on_gate-requires-clause-due
@@ -60,11 +65,11 @@ pub turns-preserved-else-not-quiet : goal.turns-preserved-else-not-quiet
 turns-preserved-else-not-quiet g c = (
   c.turn_on_gate.ensures.ties,
   c.turn_on_gate.ensures.own,
-  subst (λ (k : Told _). Driven (opening_of c.args.table.now) c.args.seat.now c.turn_on_gate.new.seat k c.turns.kept)
+  λ s h. subst (λ (k : Told _). Driven (opening_of c.args.table.now) s c.turn_on_gate.new.seat k c.turns.kept)
       (ap (λ (b : Bool). told_in b c.turn_on_gate.new.said) c.if-not-quiet.false)
-      (driven_on c.args.table.now c.args.seat.now c.turns.seat c.turn_on_gate.new.seat c.turns.actor
+      (driven_on c.args.table.now s c.turns.seat c.turn_on_gate.new.seat c.turns.actor
       (told_in c.in-Ok.quiet c.turn_on_gate.new.said) c.turns.kept
-      c.turns.invariant.0 c.turns.invariant.2 c.in-Ok.ensures.turned None c.turn_on_gate.ensures.receipt),
+      c.turns.invariant.0 (c.turns.invariant.2 s h) c.in-Ok.ensures.turned None c.turn_on_gate.ensures.receipt),
 )
 
 pub returns-then-not-quiet-clause-driven : goal.returns-then-not-quiet-clause-driven
@@ -73,19 +78,33 @@ returns-then-not-quiet-clause-driven g c =
     (ap (λ (b : Bool). told_in b c.turn_on_gate.new.said) c.if-not-quiet.true)
     (driven_on c.args.table.now c.args.seat.now c.turns.seat c.turn_on_gate.new.seat c.turns.actor
     (told_in c.in-Ok.quiet c.turn_on_gate.new.said) c.turns.kept
-    c.turns.invariant.0 c.turns.invariant.2 c.in-Ok.ensures.turned None c.turn_on_gate.ensures.receipt)
+    c.turns.invariant.0 (c.turns.invariant.2 c.args.seat.now (driven_first (opening_of c.args.table.now) c.args.seat.now c.requires.under)) c.in-Ok.ensures.turned None c.turn_on_gate.ensures.receipt)
+
+pub returns-then-not-quiet-clause-leads : goal.returns-then-not-quiet-clause-leads
+returns-then-not-quiet-clause-leads g c = λ s h.
+    subst (λ (k : Told _). Driven (opening_of c.args.table.now) s c.turn_on_gate.new.seat k c.turns.kept)
+    (ap (λ (b : Bool). told_in b c.turn_on_gate.new.said) c.if-not-quiet.true)
+    (driven_on c.args.table.now s c.turns.seat c.turn_on_gate.new.seat c.turns.actor
+    (told_in c.in-Ok.quiet c.turn_on_gate.new.said) c.turns.kept
+    c.turns.invariant.0 (c.turns.invariant.2 s h) c.in-Ok.ensures.turned None c.turn_on_gate.ensures.receipt)
 
 pub returns-in-Err-clause-stops : goal.returns-in-Err-clause-stops
 returns-in-Err-clause-stops g c =
     stops_at c.args.table.now c.args.seat.now c.turns.seat c.turn_on_gate.new.seat c.turns.actor
-    c.in-Err.ensures.starved.0 c.turns.kept c.turns.invariant.0 c.turns.invariant.2 c.in-Err.ensures.wants
+    c.in-Err.ensures.starved.0 c.turns.kept c.turns.invariant.0 (c.turns.invariant.2 c.args.seat.now (driven_first (opening_of c.args.table.now) c.args.seat.now c.requires.under)) c.in-Err.ensures.wants
+    c.in-Err.ensures.starved.1
+
+pub returns-in-Err-clause-wants : goal.returns-in-Err-clause-wants
+returns-in-Err-clause-wants g c = λ s h.
+    stops_at c.args.table.now s c.turns.seat c.turn_on_gate.new.seat c.turns.actor
+    c.in-Err.ensures.starved.0 c.turns.kept c.turns.invariant.0 (c.turns.invariant.2 s h) c.in-Err.ensures.wants
     c.in-Err.ensures.starved.1
 
 -- any other turn
 pub turn_apart-requires-clause-due : goal.turn_apart-requires-clause-due
 turn_apart-requires-clause-due g c =
     due_turn c.args.table.now c.turns.seat c.turns.actor
-    (seat_in (opening_of c.args.table.now) c.args.seat.now) c.turns.kept c.turns.invariant.0 c.turns.invariant.2.comes
+    (seat_in (opening_of c.args.table.now) c.args.seat.now) c.turns.kept c.turns.invariant.0 (c.turns.invariant.2 c.args.seat.now (driven_first (opening_of c.args.table.now) c.args.seat.now c.requires.under)).comes
 
 pub turns-smaller : goal.turns-smaller
 turns-smaller g c =
@@ -100,11 +119,11 @@ turns-preserved g c =
     let made = c.in-Ok-turn_apart.ensures.receipt in (
       c.turn_apart.ensures.ties,
       c.turn_apart.ensures.own,
-      subst (λ (k : Told _ × Option (Record _)). Driven o c.args.seat.now c.turn_apart.new.seat k.0 k.1)
+      λ s h. subst (λ (k : Told _ × Option (Record _)). Driven o s c.turn_apart.new.seat k.0 k.1)
           (λ i. (quiet i, sym made.2 i))
-          (driven_on c.args.table.now c.args.seat.now c.turns.seat c.turn_apart.new.seat c.turns.actor
+          (driven_on c.args.table.now s c.turns.seat c.turn_apart.new.seat c.turns.actor
           (told_in c.in-Ok-turn_apart.silent c.turn_apart.new.said) c.turns.kept
-          c.turns.invariant.0 c.turns.invariant.2 c.in-Ok-turn_apart.ensures.turned made.0 made.1),
+          c.turns.invariant.0 (c.turns.invariant.2 s h) c.in-Ok-turn_apart.ensures.turned made.0 made.1),
     )
 
 pub returns-then-not-silent-clause-driven : goal.returns-then-not-silent-clause-driven
@@ -115,10 +134,25 @@ returns-then-not-silent-clause-driven g c =
     (λ i. (said i, sym made.2 i))
     (driven_on c.args.table.now c.args.seat.now c.turns.seat c.turn_apart.new.seat c.turns.actor
     (told_in c.in-Ok-turn_apart.silent c.turn_apart.new.said) c.turns.kept
-    c.turns.invariant.0 c.turns.invariant.2 c.in-Ok-turn_apart.ensures.turned made.0 made.1)
+    c.turns.invariant.0 (c.turns.invariant.2 c.args.seat.now (driven_first (opening_of c.args.table.now) c.args.seat.now c.requires.under)) c.in-Ok-turn_apart.ensures.turned made.0 made.1)
+
+pub returns-then-not-silent-clause-leads : goal.returns-then-not-silent-clause-leads
+returns-then-not-silent-clause-leads g c = λ s h.
+    let said = ap (λ (b : Bool). told_in b c.turn_apart.new.said) c.if-not-silent.true in
+    let made = c.in-Ok-turn_apart.ensures.receipt in
+    subst (λ (k : Told _ × Option (Record _)). Driven (opening_of c.args.table.now) s c.turn_apart.new.seat k.0 k.1)
+    (λ i. (said i, sym made.2 i))
+    (driven_on c.args.table.now s c.turns.seat c.turn_apart.new.seat c.turns.actor
+    (told_in c.in-Ok-turn_apart.silent c.turn_apart.new.said) c.turns.kept
+    c.turns.invariant.0 (c.turns.invariant.2 s h) c.in-Ok-turn_apart.ensures.turned made.0 made.1)
 
 pub returns-in-Err-turn_apart-clause-stops : goal.returns-in-Err-turn_apart-clause-stops
 returns-in-Err-turn_apart-clause-stops g c =
     stops_at c.args.table.now c.args.seat.now c.turns.seat c.turn_apart.new.seat c.turns.actor
-    c.in-Err-turn_apart.ensures.starved.0 c.turns.kept c.turns.invariant.0 c.turns.invariant.2 c.in-Err-turn_apart.ensures.wants
+    c.in-Err-turn_apart.ensures.starved.0 c.turns.kept c.turns.invariant.0 (c.turns.invariant.2 c.args.seat.now (driven_first (opening_of c.args.table.now) c.args.seat.now c.requires.under)) c.in-Err-turn_apart.ensures.wants
+    c.in-Err-turn_apart.ensures.starved.1
+pub returns-in-Err-turn_apart-clause-wants : goal.returns-in-Err-turn_apart-clause-wants
+returns-in-Err-turn_apart-clause-wants g c = λ s h.
+    stops_at c.args.table.now s c.turns.seat c.turn_apart.new.seat c.turns.actor
+    c.in-Err-turn_apart.ensures.starved.0 c.turns.kept c.turns.invariant.0 (c.turns.invariant.2 s h) c.in-Err-turn_apart.ensures.wants
     c.in-Err-turn_apart.ensures.starved.1
