@@ -13,3 +13,4 @@ pub mod StepsLemmas
 pub mod GivenUpLemmas
 pub mod RestLemmas
 pub mod StraightLemmas
+pub mod StoreLemmas

@@ -1,7 +1,9 @@
 -- Steps that are taken straight on, between which the actor is a term and no value.
 use Rattle.replay_log.specs.declared.base.Base.{Base}
-use Rattle.std.specs.Prelude.{List, Option, None}
+use Rattle.std.specs.Prelude.{List, Option, None, Bool, true, false}
 use Rattle.step_core.specs.declared.actor.Place.{Place}
+use Rattle.tx_actor.specs.declared.actor.Stage as own
+use Rattle.tx_actor.specs.declared.actor.Stage.TheVariants as stage
 use Rattle.tx_actor.specs.declared.actor.Told.{Told}
 use Rattle.tx_actor.specs.declared.actor.TxActor.{TxActor}
 use Rattle.tx_table.specs.declared.seat.Seat.{Seat}
@@ -13,6 +15,11 @@ use Rattle.driven_turns.specs.Driven.{Driven, LeadsOn, Stops}
 use Rattle.seq_model.specs.declared.record.Record.{Record}
 use Rattle.replay_log.specs.Seats.{World}
 use Rattle.tx_actor.specs.declared.actor.Told.TheVariants as told
+
+-- the values of a commit are stored, behind the first
+abbrev pub is_storing : {V : Type 0} → own.Stage V → Bool
+is_storing (stage.Storing homes) = true
+is_storing s = false
 
 module _ {V : Type 0} where
   -- r, whose word actor stands at this place

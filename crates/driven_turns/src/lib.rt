@@ -10,6 +10,7 @@ mod driving;
 mod loads;
 mod reads;
 mod steps;
+mod stores;
 mod turns;
 
 pub use driving::{drive, drive_call};

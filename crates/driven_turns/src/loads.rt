@@ -156,7 +156,10 @@ pub(crate) fn load_on<V: Value>(
     match look_for(table, seat, actor, bases, location) {
         Ok(version) => {
             let value = fetch_for(table, seat, actor, bases, location, version);
-            says(again_for(table, seat, actor, bases, location, version, value), said)
+            says(
+                again_for(table, seat, actor, bases, location, version, value),
+                said,
+            )
         }
         Err(told) => says(told, said),
     }

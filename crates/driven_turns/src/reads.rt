@@ -155,7 +155,10 @@ pub(crate) fn read_on<V: Value>(
     match look_on(table, seat, actor, bases, word) {
         Ok(version) => {
             let value = fetch_on(table, seat, actor, bases, word, version);
-            says(again_on(table, seat, actor, bases, word, version, value), said)
+            says(
+                again_on(table, seat, actor, bases, word, version, value),
+                said,
+            )
         }
         Err(told) => says(told, said),
     }

@@ -151,6 +151,7 @@ returns-in-Err-turn_apart-clause-stops g c =
     stops_at c.args.table.now c.args.seat.now c.turns.seat c.turn_apart.new.seat c.turns.actor
     c.in-Err-turn_apart.ensures.starved.0 c.turns.kept c.turns.invariant.0 (c.turns.invariant.2 c.args.seat.now (driven_first (opening_of c.args.table.now) c.args.seat.now c.requires.under)) c.in-Err-turn_apart.ensures.wants
     c.in-Err-turn_apart.ensures.starved.1
+
 pub returns-in-Err-turn_apart-clause-wants : goal.returns-in-Err-turn_apart-clause-wants
 returns-in-Err-turn_apart-clause-wants g c = λ s h.
     stops_at c.args.table.now s c.turns.seat c.turn_apart.new.seat c.turns.actor

@@ -36,18 +36,18 @@ again-told-requires-clause-calls g c = c.requires.ties.running.fits.place.3
 pub loaded-requires : goal.loaded-requires
 loaded-requires g c = record {
   prepared = (loading_hears (record {
-      steps = c.steps_as_worlds.ensures;
-      hear = c.loads_as_worlds.ensures.heard;
-      seats = c.seats_as_actors.ensures;
-      stay = c.loads_stay_own.ensures;
-      others = c.copies_by_stage.ensures.others;
-      keep = c.loads_keep_running.ensures;
-    }) c.args.table.now c.args.seat.now c.load_lock-found.new.seat
-    (at_place c.args.actor.now (Again c.args.location c.args.version c.args.value)) c.again-told.new.self c.again-told.result
-    c.requires.loading c.requires.ties
-    (again_steps (opening_of c.args.table.now) c.args.seat.now c.load_lock-found.new.seat c.args.actor.now.words c.again-told.new.self
-    c.args.location c.args.version c.args.value c.load_lock-found.result c.again-told.result c.load_lock-found.ensures
-    c.again-told.ensures.actor c.again-told.ensures.answer) (λ _. c.again-told.ensures.room) c.again-told.ensures.keeps.fits).0;
+    steps = c.steps_as_worlds.ensures;
+    hear = c.loads_as_worlds.ensures.heard;
+    seats = c.seats_as_actors.ensures;
+    stay = c.loads_stay_own.ensures;
+    others = c.copies_by_stage.ensures.others;
+    keep = c.loads_keep_running.ensures;
+  }) c.args.table.now c.args.seat.now c.load_lock-found.new.seat
+      (at_place c.args.actor.now (Again c.args.location c.args.version c.args.value)) c.again-told.new.self c.again-told.result
+      c.requires.loading c.requires.ties
+      (again_steps (opening_of c.args.table.now) c.args.seat.now c.load_lock-found.new.seat c.args.actor.now.words c.again-told.new.self
+      c.args.location c.args.version c.args.value c.load_lock-found.result c.again-told.result c.load_lock-found.ensures
+      c.again-told.ensures.actor c.again-told.ensures.answer) (λ _. c.again-told.ensures.room) c.again-told.ensures.keeps.fits).0;
 }
 
 pub returns : goal.returns

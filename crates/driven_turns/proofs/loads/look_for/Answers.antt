@@ -44,17 +44,17 @@ look-told-requires g c = record { place = refl }
 pub loaded-requires : goal.loaded-requires
 loaded-requires g c = record {
   prepared = (loading_hears (record {
-      steps = c.steps_as_worlds.ensures;
-      hear = c.loads_as_worlds.ensures.heard;
-      seats = c.seats_as_actors.ensures;
-      stay = c.loads_stay_own.ensures;
-      others = c.copies_by_stage.ensures.others;
-      keep = c.loads_keep_running.ensures;
-    }) c.args.table.now c.args.seat.now c.load_lock-found.new.seat
-    (at_place c.args.actor.now (Look c.args.location)) c.look-told.new.self c.look-told.result c.requires.loading c.requires.ties
-    (look_steps (opening_of c.args.table.now) c.args.seat.now c.load_lock-found.new.seat c.args.actor.now.words c.look-told.new.self
-    c.args.location c.load_lock-found.result c.look-told.result c.load_lock-found.ensures c.look-told.ensures.actor
-    c.look-told.ensures.answer) (λ _. c.look-told.ensures.room) c.look-told.ensures.keeps.fits).0;
+    steps = c.steps_as_worlds.ensures;
+    hear = c.loads_as_worlds.ensures.heard;
+    seats = c.seats_as_actors.ensures;
+    stay = c.loads_stay_own.ensures;
+    others = c.copies_by_stage.ensures.others;
+    keep = c.loads_keep_running.ensures;
+  }) c.args.table.now c.args.seat.now c.load_lock-found.new.seat
+      (at_place c.args.actor.now (Look c.args.location)) c.look-told.new.self c.look-told.result c.requires.loading c.requires.ties
+      (look_steps (opening_of c.args.table.now) c.args.seat.now c.load_lock-found.new.seat c.args.actor.now.words c.look-told.new.self
+      c.args.location c.load_lock-found.result c.look-told.result c.load_lock-found.ensures c.look-told.ensures.actor
+      c.look-told.ensures.answer) (λ _. c.look-told.ensures.room) c.look-told.ensures.keeps.fits).0;
 }
 
 pub returns-clause-moved : goal.returns-clause-moved

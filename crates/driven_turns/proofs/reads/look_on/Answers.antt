@@ -27,7 +27,7 @@ pub returns-then-version-actor-clause-led : goal.returns-then-version-actor-clau
 returns-then-version-actor-clause-led g c =
     look_led c.steps_as_worlds.ensures c.turns_keep_own.ensures.words c.args.table.now c.args.seat.now c.load_lock-found.new.seat
     c.args.actor.now c.args.word c.in-Free.version c.load_lock-found.result c.args.bases.now c.requires.stage c.requires.small
-    c.requires.ties c.requires.own c.load_lock-found.ensures (sym c.in-Free.ensures.is) 
+    c.requires.ties c.requires.own c.load_lock-found.ensures (sym c.in-Free.ensures.is)
     (le-leb c.in-Free.version c.args.actor.now.words.rv c.if-version-actor.true)
 
 pub look-told-requires : goal.look-told-requires
