@@ -14,3 +14,4 @@ pub mod GivenUpLemmas
 pub mod RestLemmas
 pub mod StraightLemmas
 pub mod StoreLemmas
+pub mod ReleaseLemmas

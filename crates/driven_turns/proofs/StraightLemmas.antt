@@ -61,7 +61,7 @@ use Rattle.tx_turns.specs.Ties.{Ties, laid_in}
 use Rattle.gate_turns.proofs.WordLemmas.{load_hears, load_tied}
 use Rattle.gate_turns.specs.Laws.{WordsKeep}
 use Rattle.gate_turns.specs.Own.{HasOwn}
-use Rattle.driven_turns.proofs.StepsLemmas.{leads_on, load_onward, starts, word_onward}
+use Rattle.driven_turns.proofs.StepsLemmas.{HasCome, leads_on, load_onward, starts, word_onward}
 use Rattle.tx_phases.specs.Courses.{IsUnderWay, IsUnderWayFrom}
 use Rattle.tx_phases.specs.Phases.{Phase, Begins, Calls, Commits, Ends}
 use Rattle.driven_turns.proofs.GivenUpLemmas.{under_ends}
@@ -128,6 +128,19 @@ module _ {V : Type 0} where
   leads_then o s u z n h k = record {
     driven = λ f d was. k.driven f d (h.driven f d was);
     nearer = λ e. (let p = h.nearer refl in let q = k.nearer e in omega (arith, p, q));
+  }
+
+  -- or from where they have come to
+  pub leads_from : (o : World V) (s u z : Seat V) (n : Told V) → HasCome o s u → LeadsOn o u z n → LeadsOn o s z n
+  leads_from o s u z n h k = record {
+    driven = λ f d was. k.driven f d (h.driven f d was);
+    nearer = λ e. (let p = h.near in let q = k.nearer e in omega (arith, p, q));
+  }
+
+  pub come_then : (o : World V) (s u z : Seat V) → HasCome o s u → LeadsOn o u z told.Quiet → HasCome o s z
+  come_then o s u z h k = record {
+    driven = λ f d was. k.driven f d (h.driven f d was);
+    near = (let p = h.near in let q = k.nearer refl in omega (arith, p, q));
   }
 
   pub led_then : (t : TxTable V) (s u z : Seat V) (r : TxActor V) (n : Told V) (bs : List (Base V)) → LeadsOn (opening_of t) s u told.Quiet

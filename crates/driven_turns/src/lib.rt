@@ -9,6 +9,7 @@
 mod driving;
 mod loads;
 mod reads;
+mod releases;
 mod steps;
 mod stores;
 mod turns;
