@@ -15,3 +15,4 @@ pub mod RestLemmas
 pub mod StraightLemmas
 pub mod StoreLemmas
 pub mod ReleaseLemmas
+pub mod LockLemmas

@@ -3,7 +3,7 @@
 -- What a step on the words makes of an actor is a term, of which the next step asks only that it is due in the own world of the seat: so no
 -- value has to hold it. Each step is one lemma here, by what it found; it leads on from those before it (`led_on`), and the last one, of
 -- which the actor hears, is as any turn on the words (`led_last`).
-use Rattle.std.proofs.Common.{◌≡◌, ℕ, ◌<◌, ◌≤◌, true, false, true≢false, Bool, cond, eqb, List, Option, Some, None, Result, Ok, inl, inr, refl, sym, ap, ◌∙◌, subst, arith}
+use Rattle.std.proofs.Common.{◌≡◌, ℕ, ◌<◌, ◌≤◌, true, false, true≢false, Bool, cond, eqb, List, Option, Some, None, Result, Ok, Err, OnOk, IfErr, inl, inr, refl, sym, ap, ◌∙◌, subst, arith}
 use Rattle.std.specs.Prelude.{nat_le, if◌then◌else◌}
 use Rattle.std.proofs.lemmas.Bool.{cond-true}
 use Rattle.std.specs.Vec.{vec_len, vec_capacity}
@@ -62,7 +62,8 @@ use Rattle.gate_turns.proofs.WordLemmas.{load_hears, load_tied}
 use Rattle.gate_turns.specs.Laws.{WordsKeep}
 use Rattle.gate_turns.specs.Own.{HasOwn}
 use Rattle.driven_turns.proofs.StepsLemmas.{HasCome, leads_on, load_onward, starts, word_onward}
-use Rattle.tx_phases.specs.Courses.{IsUnderWay, IsUnderWayFrom}
+use Rattle.seq_model.specs.declared.record.Record.{Record}
+use Rattle.tx_phases.specs.Courses.{IsUnderWay, IsUnderWayFrom, latest}
 use Rattle.tx_phases.specs.Phases.{Phase, Begins, Calls, Commits, Ends}
 use Rattle.driven_turns.proofs.GivenUpLemmas.{under_ends}
 use Rattle.driven_turns.specs.Driven.{LeadsOn}
@@ -121,7 +122,21 @@ pub record LoadLaws (V : Type 0) : Type 0 where
   pub others : OthersLaw V
   pub keep : LoadsKeep V
 
+-- a fact of what was answered, and of why it was not
+pub ok_then : {A E : Type 0} {P Q : Type 0} → (r : Result A E) → (P → Q) → OnOk r P → OnOk r Q
+ok_then (Ok v) f h = f h
+ok_then (Err e) f h = tt
+
+pub err_then : {A E : Type 0} {P Q : E → Type 0} → (r : Result A E) → ((e : E) → P e → Q e) → IfErr r P → IfErr r Q
+err_then (Ok v) f h = tt
+err_then (Err e) f h = f e h
+
 module _ {V : Type 0} where
+  -- what is made first is made last
+  pub latest_none : (d : Option (Record V)) → latest d None ≡ d
+  latest_none (Some r) = refl
+  latest_none None = refl
+
   -- ---- any steps
   -- turns that lead on from turns
   pub leads_then : (o : World V) (s u z : Seat V) (n : Told V) → LeadsOn o s u told.Quiet → LeadsOn o u z n → LeadsOn o s z n

@@ -16,6 +16,11 @@ use Rattle.seq_model.specs.declared.record.Record.{Record}
 use Rattle.replay_log.specs.Seats.{World}
 use Rattle.tx_actor.specs.declared.actor.Told.TheVariants as told
 
+-- the locks of a commit are taken, and what it has read is checked
+abbrev pub is_locking : {V : Type 0} → own.Stage V → Bool
+is_locking (stage.Locking homes) = true
+is_locking s = false
+
 -- the values of a commit are stored, behind the first
 abbrev pub is_storing : {V : Type 0} → own.Stage V → Bool
 is_storing (stage.Storing homes) = true
@@ -32,10 +37,22 @@ module _ {V : Type 0} where
     pub own : HasOwn t u r bs
     pub leads : LeadsOn (opening_of t) s u n
 
-  -- Turns that led to the seat u, and told nothing and made no record, lead on to z so.
-  abbrev pub LeadsTo : World V → Seat V → Seat V → Told V → Option (Record V) → Type 0
-  LeadsTo o u z n d = (s : Seat V) → Driven o s u told.Quiet None → Driven o s z n d
+  -- Turns that led to the seat u, told m and made this record, if any, lead on to z so.
+  abbrev pub LeadsFrom : World V → Seat V → Seat V → (m n : Told V) → (before now : Option (Record V)) → Type 0
+  LeadsFrom o u z m n before now = (s : Seat V) → Driven o s u m before → Driven o s z n now
 
-  -- or stop there for want of memory
-  abbrev pub WantsOn : World V → Seat V → Seat V → Type 0
-  WantsOn o u z = (s : Seat V) → Driven o s u told.Quiet None → Stops o s z
+  -- and those that told nothing
+  abbrev pub LeadsBy : World V → Seat V → Seat V → Told V → (before now : Option (Record V)) → Type 0
+  LeadsBy o u z n before now = LeadsFrom o u z told.Quiet n before now
+
+  -- and so whatever record they made, which stays
+  abbrev pub LeadsAll : World V → Seat V → Seat V → Told V → Type 0
+  LeadsAll o u z n = (d : Option (Record V)) → LeadsBy o u z n d d
+
+  -- or they stop there for want of memory
+  abbrev pub WantsBy : World V → Seat V → Seat V → Option (Record V) → Type 0
+  WantsBy o u z before = (s : Seat V) → Driven o s u told.Quiet before → Stops o s z
+
+  -- Turns have led to the seat u that told n and made this record.
+  abbrev pub IsLedTo : World V → Seat V → Told V → Option (Record V) → Type 0
+  IsLedTo o u n d = (s : Seat V) × Driven o s u n d

@@ -1,19 +1,22 @@
 //! A request, up to its answer.
-ghost use Rattle.std.specs.Prelude.{◌≡◌, ◌≢◌, [], None, OnErr, OnOk, true};
+ghost use Rattle.std.specs.Prelude.{◌≡◌, ◌≢◌, [], None, OnErr, OnOk, false, true};
 ghost use Rattle.actor_words.specs.Dispatch.{next_of};
 ghost use Rattle.replay_log.specs.WorldProgress.{AreSmall};
-ghost use Rattle.step_core.specs.declared.actor.Place.TheVariants.{Look};
+ghost use Rattle.step_core.specs.declared.actor.Place.TheVariants.{Lock, Look};
 ghost use Rattle.tx_table.specs.Seated.{blocks_in, opening_of};
 ghost use Rattle.tx_phases.specs.Courses.{IsUnderWay};
 ghost use Rattle.tx_actor.specs.Running.{stage_of};
 ghost use Rattle.tx_phases.specs.Phases.{Ends};
 ghost use Rattle.tx_turns.specs.Ties.{Ties};
 ghost use Rattle.gate_turns.specs.Own.{HasOwn};
-ghost use Rattle.driven_turns.specs.Driven.{Driven, IsOnGate, Stops, seat_in, standing};
-ghost use Rattle.driven_turns.specs.Straight.{LeadsTo, WantsOn};
+ghost use Rattle.driven_turns.specs.Driven.{Driven, IsOnGate, seat_in, standing, told_in};
+ghost use Rattle.driven_turns.specs.Straight.{IsLedTo, LeadsAll, LeadsBy, LeadsFrom, WantsBy, is_locking};
 
+use crate::locks::{lock_to_take, locks_on};
 use crate::reads::{read_on, steps_on, word_to_read};
-use crate::turns::{turn_apart, turn_on_gate};
+use crate::releases::{has_locks, releases_on};
+use crate::stores::{stores_on, value_to_store};
+use crate::turns::{says, store_next, turn_apart, turn_on_gate};
 use actor_words::Next;
 use boxes::Boxed;
 use replay_log::Base;
@@ -58,15 +61,12 @@ fn advance<V: Value>(
     requires ties { Ties table.now seat.old actor.old }
     requires own { HasOwn table.now seat.old actor.old bases.old.items }
     requires small { AreSmall (blocks_in table.now) }
-    requires under { IsUnderWay (seat_in (opening_of table.now) seat.old) (seat_in (opening_of table.now) seat.old) None }
-    requires none { kept.old ≡ None }
-    ensures driven { OnOk result (Driven (opening_of table.now) seat.old seat.new said.new kept.new) }
+    requires come { IsLedTo (opening_of table.now) seat.old Told.Quiet kept.old }
+    ensures leads { OnOk result (LeadsBy (opening_of table.now) seat.old seat.new said.new kept.old kept.new) }
     ensures answered { OnOk result (said.new ≢ Told.Quiet) }
     ensures ties { Ties table.now seat.new actor.new }
     ensures own { HasOwn table.now seat.new actor.new bases.new.items }
-    ensures stops { OnErr result (Stops (opening_of table.now) seat.old seat.new) }
-    ensures leads { OnOk result (LeadsTo (opening_of table.now) seat.old seat.new said.new kept.new) }
-    ensures wants { OnErr result (WantsOn (opening_of table.now) seat.old seat.new) }
+    ensures wants { OnErr result (WantsBy (opening_of table.now) seat.old seat.new kept.old) }
 {
     'turns: loop {
         let next = actor.next();
@@ -122,7 +122,34 @@ fn give_up<V: Value>(
     }
 }
 
-/// The turns of the request that is under way, up to its answer. Where memory is wanting it is given up.
+/// The turns that are left of a request, up to its answer. Where memory is wanting it is given up.
+#[inline(always)]
+fn finish_from<V: Value>(
+    alloc: Global,
+    table: &TxTable<V>,
+    seat: &mut Seat<V>,
+    actor: &mut TxActor<V>,
+    bases: &mut Vec<Boxed<Base<V>>>,
+    made: Option<Record<V>>,
+) -> (Told<V>, Option<Record<V>>)
+    requires ties { Ties table.now seat.old actor.old }
+    requires own { HasOwn table.now seat.old actor.old bases.old.items }
+    requires small { AreSmall (blocks_in table.now) }
+    requires come { IsLedTo (opening_of table.now) seat.old Told.Quiet made }
+    ensures leads { LeadsBy (opening_of table.now) seat.old seat.new result.0 made result.1 }
+    ensures answered { result.0 ≢ Told.Quiet }
+    ensures ties { Ties table.now seat.new actor.new }
+    ensures own { HasOwn table.now seat.new actor.new [] }
+{
+    let mut said = Told::Quiet;
+    let mut kept = made;
+    match advance(alloc, table, seat, actor, bases, &mut said, &mut kept) {
+        Ok(()) => (said, kept),
+        Err(_) => (give_up(alloc, table, seat, actor, bases), None),
+    }
+}
+
+/// The turns of the request that is under way, up to its answer.
 #[inline(always)]
 fn finish<V: Value>(
     alloc: Global,
@@ -140,12 +167,7 @@ fn finish<V: Value>(
     ensures ties { Ties table.now seat.new actor.new }
     ensures own { HasOwn table.now seat.new actor.new [] }
 {
-    let mut said = Told::Quiet;
-    let mut kept = None;
-    match advance(alloc, table, seat, actor, bases, &mut said, &mut kept) {
-        Ok(()) => (said, kept),
-        Err(_) => (give_up(alloc, table, seat, actor, bases), None),
-    }
+    finish_from(alloc, table, seat, actor, bases, None)
 }
 
 /// A word is read straight on. Where it has moved, the turns by which its transaction is given up come then.
@@ -173,12 +195,175 @@ fn read_through<V: Value>(
     if !read_on(table, seat, actor, bases.as_slice(), word, &mut said) {
         return (said, None);
     }
-    let mut told = Told::Quiet;
-    let mut kept = None;
-    match advance(alloc, table, seat, actor, bases, &mut told, &mut kept) {
-        Ok(()) => (told, kept),
+    finish_from(alloc, table, seat, actor, bases, None)
+}
+
+/// The values that are left to store, straight on, where there are some: whether all was quiet.
+#[inline(always)]
+fn stored_on<V: Value>(
+    table: &TxTable<V>,
+    seat: &mut Seat<V>,
+    actor: &mut TxActor<V>,
+    bases: &[Boxed<Base<V>>],
+    said: &mut Told<V>,
+) -> bool
+    requires ties { Ties table.now seat.old actor.old }
+    requires own { HasOwn table.now seat.old actor.old bases.now }
+    requires small { AreSmall (blocks_in table.now) }
+    ensures leads { LeadsAll (opening_of table.now) seat.old seat.new (told_in result said.new) }
+    ensures answered { result ≡ false → said.new ≢ Told.Quiet }
+    ensures ties { Ties table.now seat.new actor.new }
+    ensures own { HasOwn table.now seat.new actor.new bases.now }
+{
+    match value_to_store(actor) {
+        Some(i) => stores_on(table, seat, actor, bases, i, said),
+        None => true,
+    }
+}
+
+/// The locks that a commit holds are given back, straight on, where it holds some: whether all was quiet.
+#[inline(always)]
+fn released_on<V: Value>(
+    table: &TxTable<V>,
+    seat: &mut Seat<V>,
+    actor: &mut TxActor<V>,
+    bases: &[Boxed<Base<V>>],
+    said: &mut Told<V>,
+) -> bool
+    requires ties { Ties table.now seat.old actor.old }
+    requires own { HasOwn table.now seat.old actor.old bases.now }
+    requires small { AreSmall (blocks_in table.now) }
+    ensures leads { LeadsAll (opening_of table.now) seat.old seat.new (told_in result said.new) }
+    ensures answered { result ≡ false → said.new ≢ Told.Quiet }
+    ensures ties { Ties table.now seat.new actor.new }
+    ensures own { HasOwn table.now seat.new actor.new bases.now }
+{
+    if has_locks(actor) {
+        return releases_on(table, seat, actor, bases, said);
+    }
+    true
+}
+
+/// The turns of a commit behind its stores, which made its receipt.
+#[inline(always)]
+fn release_back<V: Value>(
+    alloc: Global,
+    table: &TxTable<V>,
+    seat: &mut Seat<V>,
+    actor: &mut TxActor<V>,
+    bases: &mut Vec<Boxed<Base<V>>>,
+    made: Option<Record<V>>,
+) -> (Told<V>, Option<Record<V>>)
+    requires ties { Ties table.now seat.old actor.old }
+    requires own { HasOwn table.now seat.old actor.old bases.old.items }
+    requires small { AreSmall (blocks_in table.now) }
+    requires come { IsLedTo (opening_of table.now) seat.old Told.Quiet made }
+    ensures leads { LeadsBy (opening_of table.now) seat.old seat.new result.0 made result.1 }
+    ensures answered { result.0 ≢ Told.Quiet }
+    ensures ties { Ties table.now seat.new actor.new }
+    ensures own { HasOwn table.now seat.new actor.new [] }
+{
+    let mut said = Told::Quiet;
+    if !released_on(table, seat, actor, bases.as_slice(), &mut said) {
+        return (said, made);
+    }
+    finish_from(alloc, table, seat, actor, bases, made)
+}
+
+/// The turns of a commit behind its first store, which told this and made its receipt.
+#[inline(always)]
+fn write_back<V: Value>(
+    alloc: Global,
+    table: &TxTable<V>,
+    seat: &mut Seat<V>,
+    actor: &mut TxActor<V>,
+    bases: &mut Vec<Boxed<Base<V>>>,
+    told: Told<V>,
+    made: Option<Record<V>>,
+) -> (Told<V>, Option<Record<V>>)
+    requires ties { Ties table.now seat.old actor.old }
+    requires own { HasOwn table.now seat.old actor.old bases.old.items }
+    requires small { AreSmall (blocks_in table.now) }
+    requires come { IsLedTo (opening_of table.now) seat.old told made }
+    ensures leads { LeadsFrom (opening_of table.now) seat.old seat.new told result.0 made result.1 }
+    ensures answered { result.0 ≢ Told.Quiet }
+    ensures ties { Ties table.now seat.new actor.new }
+    ensures own { HasOwn table.now seat.new actor.new [] }
+{
+    let mut first = Told::Quiet;
+    if !says(told, &mut first) {
+        return (first, made);
+    }
+    let mut stored = Told::Quiet;
+    if !stored_on(table, seat, actor, bases.as_slice(), &mut stored) {
+        return (stored, made);
+    }
+    release_back(alloc, table, seat, actor, bases, made)
+}
+
+/// Whether the first value store is next.
+#[inline(always)]
+fn is_ready<V>(actor: &TxActor<V>) -> bool
+    ensures { result ≡ true → next_of (stage_of actor.now.stage) ≡ Next.FirstStore }
+{
+    matches!(&actor.stage, Stage::Ready(_))
+}
+
+/// The first value store of a commit, and the turns behind it.
+#[inline(always)]
+fn store_through<V: Value>(
+    alloc: Global,
+    table: &TxTable<V>,
+    seat: &mut Seat<V>,
+    actor: &mut TxActor<V>,
+    bases: &mut Vec<Boxed<Base<V>>>,
+) -> (Told<V>, Option<Record<V>>)
+    requires ties { Ties table.now seat.old actor.old }
+    requires own { HasOwn table.now seat.old actor.old bases.old.items }
+    requires small { AreSmall (blocks_in table.now) }
+    requires due { next_of (stage_of actor.old.stage) ≡ Next.FirstStore }
+    requires come { IsLedTo (opening_of table.now) seat.old Told.Quiet None }
+    ensures leads { LeadsBy (opening_of table.now) seat.old seat.new result.0 None result.1 }
+    ensures answered { result.0 ≢ Told.Quiet }
+    ensures ties { Ties table.now seat.new actor.new }
+    ensures own { HasOwn table.now seat.new actor.new [] }
+{
+    match store_next(alloc, table, seat, actor, bases) {
+        Ok((told, made)) => write_back(alloc, table, seat, actor, bases, told, made),
         Err(_) => (give_up(alloc, table, seat, actor, bases), None),
     }
+}
+
+/// A commit, straight on: its locks and its number, its values, and its locks again. Where something is found that is rare, the turns by
+/// which the transaction is given up come then, and so do the checks of what it has read, and its collections.
+#[inline(always)]
+fn commit_through<V: Value>(
+    alloc: Global,
+    table: &TxTable<V>,
+    seat: &mut Seat<V>,
+    actor: &mut TxActor<V>,
+    bases: &mut Vec<Boxed<Base<V>>>,
+    first: usize,
+) -> (Told<V>, Option<Record<V>>)
+    requires ties { Ties table.now seat.old actor.old }
+    requires own { HasOwn table.now seat.old actor.old bases.old.items }
+    requires small { AreSmall (blocks_in table.now) }
+    requires under { IsUnderWay (seat_in (opening_of table.now) seat.old) (seat_in (opening_of table.now) seat.old) None }
+    requires stage { is_locking actor.old.stage ≡ true }
+    requires place { actor.old.words.place ≡ Lock first }
+    ensures driven { Driven (opening_of table.now) seat.old seat.new result.0 result.1 }
+    ensures answered { result.0 ≢ Told.Quiet }
+    ensures ties { Ties table.now seat.new actor.new }
+    ensures own { HasOwn table.now seat.new actor.new [] }
+{
+    let mut said = Told::Quiet;
+    if !locks_on(table, seat, actor, bases.as_slice(), first, &mut said) {
+        return (said, None);
+    }
+    if is_ready(actor) {
+        return store_through(alloc, table, seat, actor, bases);
+    }
+    finish_from(alloc, table, seat, actor, bases, None)
 }
 
 /// The turns of the request that is under way, up to its answer, with the receipt that they make. They end, whatever the other seats do.
@@ -226,6 +411,31 @@ pub fn drive_call<V: Value>(
     bases.clear();
     match word_to_read(actor) {
         Some(word) => read_through(alloc, table, seat, actor, bases, word),
+        None => finish(alloc, table, seat, actor, bases),
+    }
+}
+
+/// As [`drive`], of a commit: it goes straight on.
+#[inline(always)]
+pub fn drive_commit<V: Value>(
+    alloc: Global,
+    table: &TxTable<V>,
+    seat: &mut Seat<V>,
+    actor: &mut TxActor<V>,
+    bases: &mut Vec<Boxed<Base<V>>>,
+) -> (Told<V>, Option<Record<V>>)
+    requires ties { Ties table.now seat.old actor.old }
+    requires own { HasOwn table.now seat.old actor.old [] }
+    requires small { AreSmall (blocks_in table.now) }
+    requires under { IsUnderWay (seat_in (opening_of table.now) seat.old) (seat_in (opening_of table.now) seat.old) None }
+    ensures driven { Driven (opening_of table.now) seat.old seat.new result.0 result.1 }
+    ensures answered { result.0 ≢ Told.Quiet }
+    ensures ties { Ties table.now seat.new actor.new }
+    ensures own { HasOwn table.now seat.new actor.new [] }
+{
+    bases.clear();
+    match lock_to_take(actor) {
+        Some(first) => commit_through(alloc, table, seat, actor, bases, first),
         None => finish(alloc, table, seat, actor, bases),
     }
 }

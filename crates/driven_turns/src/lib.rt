@@ -8,11 +8,12 @@
 
 mod driving;
 mod loads;
+mod locks;
 mod reads;
 mod releases;
 mod steps;
 mod stores;
 mod turns;
 
-pub use driving::{drive, drive_call};
+pub use driving::{drive, drive_call, drive_commit};
 pub use turns::turn;

@@ -191,7 +191,7 @@ fn put_next<V: Value>(
 }
 
 /// The first value store of a commit, with its receipt. Where memory is refused no step is taken, and the request is given up.
-fn store_next<V: Value>(
+pub(crate) fn store_next<V: Value>(
     alloc: Global,
     table: &TxTable<V>,
     seat: &mut Seat<V>,

@@ -7,7 +7,7 @@ ghost use Rattle.transactions.specs.Requests.{CommitsTo, HasAskedFor, IsCommitTo
 
 use crate::calls::ask_open;
 use boxes::Boxed;
-use driven_turns::drive;
+use driven_turns::drive_commit;
 use replay_log::Base;
 use seq_model::{Record, Refusal, Request, Value};
 use std::alloc::Global;
@@ -45,6 +45,6 @@ pub(crate) fn commit<V: Value>(
     ensures asks { HasAskedFor seat.old Request.Commit result seat.new }
 {
     let _ = ask_open(alloc, table, seat, actor, bases, Request::Commit)?;
-    let (told, receipt) = drive(alloc, table, seat, actor, bases);
+    let (told, receipt) = drive_commit(alloc, table, seat, actor, bases);
     commit_told(told, receipt)
 }

@@ -5,7 +5,7 @@ use Rattle.tx_actor.specs.declared.actor.Told.{Told}
 use Rattle.tx_actor.specs.declared.actor.Told.TheVariants as told
 use Rattle.tx_table.specs.Seated.{opening_of}
 use Rattle.gate_turns.specs.Own.{HasOwn}
-use Rattle.driven_turns.proofs.DrivenLemmas.{driven_first, driven_on}
+use Rattle.driven_turns.proofs.DrivenLemmas.{driven_on}
 use Rattle.driven_turns.proofs.StepsLemmas.{nearer}
 use Rattle.driven_turns.proofs.GivenUpLemmas.{stops_at}
 use Rattle.driven_turns.proofs.NextLemmas.{due_turn}
@@ -13,12 +13,7 @@ use Rattle.driven_turns.specs.Driven.{Driven, seat_in, told_in}
 use Rattle.driven_turns.proofs.driving.advance.Goals as goal
 
 pub turns-init : goal.turns-init
-turns-init g c =
-    let o = opening_of c.args.table.now in (
-      c.requires.ties,
-      c.requires.own,
-      λ s h. subst (λ (d : Option (Record _)). Driven o s c.args.seat.now told.Quiet d) (sym c.requires.none) h,
-    )
+turns-init g c = (c.requires.ties, c.requires.own, λ s h. h)
 
 -- steps on the words that make no receipt
 pub steps_on-requires-clause-due : goal.steps_on-requires-clause-due
@@ -38,12 +33,6 @@ turns-preserved-else-not-steps_on g c =
           (ap (λ (b : Bool). told_in b c.steps_on.new.said) c.if-not-steps_on.false)
           (c.steps_on.ensures.leads.driven s c.turns.kept (c.turns.invariant.2 s h)),
     )
-
-pub returns-then-not-steps_on-clause-driven : goal.returns-then-not-steps_on-clause-driven
-returns-then-not-steps_on-clause-driven g c =
-    subst (λ (k : Told _). Driven (opening_of c.args.table.now) c.args.seat.now c.steps_on.new.seat k c.turns.kept)
-    (ap (λ (b : Bool). told_in b c.steps_on.new.said) c.if-not-steps_on.true)
-    (c.steps_on.ensures.leads.driven c.args.seat.now c.turns.kept (c.turns.invariant.2 c.args.seat.now (driven_first (opening_of c.args.table.now) c.args.seat.now c.requires.under)))
 
 pub returns-then-not-steps_on-clause-leads : goal.returns-then-not-steps_on-clause-leads
 returns-then-not-steps_on-clause-leads g c = λ s h.
@@ -72,14 +61,6 @@ turns-preserved-else-not-quiet g c = (
       c.turns.invariant.0 (c.turns.invariant.2 s h) c.in-Ok.ensures.turned None c.turn_on_gate.ensures.receipt),
 )
 
-pub returns-then-not-quiet-clause-driven : goal.returns-then-not-quiet-clause-driven
-returns-then-not-quiet-clause-driven g c =
-    subst (λ (k : Told _). Driven (opening_of c.args.table.now) c.args.seat.now c.turn_on_gate.new.seat k c.turns.kept)
-    (ap (λ (b : Bool). told_in b c.turn_on_gate.new.said) c.if-not-quiet.true)
-    (driven_on c.args.table.now c.args.seat.now c.turns.seat c.turn_on_gate.new.seat c.turns.actor
-    (told_in c.in-Ok.quiet c.turn_on_gate.new.said) c.turns.kept
-    c.turns.invariant.0 (c.turns.invariant.2 c.args.seat.now (driven_first (opening_of c.args.table.now) c.args.seat.now c.requires.under)) c.in-Ok.ensures.turned None c.turn_on_gate.ensures.receipt)
-
 pub returns-then-not-quiet-clause-leads : goal.returns-then-not-quiet-clause-leads
 returns-then-not-quiet-clause-leads g c = λ s h.
     subst (λ (k : Told _). Driven (opening_of c.args.table.now) s c.turn_on_gate.new.seat k c.turns.kept)
@@ -87,12 +68,6 @@ returns-then-not-quiet-clause-leads g c = λ s h.
     (driven_on c.args.table.now s c.turns.seat c.turn_on_gate.new.seat c.turns.actor
     (told_in c.in-Ok.quiet c.turn_on_gate.new.said) c.turns.kept
     c.turns.invariant.0 (c.turns.invariant.2 s h) c.in-Ok.ensures.turned None c.turn_on_gate.ensures.receipt)
-
-pub returns-in-Err-clause-stops : goal.returns-in-Err-clause-stops
-returns-in-Err-clause-stops g c =
-    stops_at c.args.table.now c.args.seat.now c.turns.seat c.turn_on_gate.new.seat c.turns.actor
-    c.in-Err.ensures.starved.0 c.turns.kept c.turns.invariant.0 (c.turns.invariant.2 c.args.seat.now (driven_first (opening_of c.args.table.now) c.args.seat.now c.requires.under)) c.in-Err.ensures.wants
-    c.in-Err.ensures.starved.1
 
 pub returns-in-Err-clause-wants : goal.returns-in-Err-clause-wants
 returns-in-Err-clause-wants g c = λ s h.
@@ -104,7 +79,8 @@ returns-in-Err-clause-wants g c = λ s h.
 pub turn_apart-requires-clause-due : goal.turn_apart-requires-clause-due
 turn_apart-requires-clause-due g c =
     due_turn c.args.table.now c.turns.seat c.turns.actor
-    (seat_in (opening_of c.args.table.now) c.args.seat.now) c.turns.kept c.turns.invariant.0 (c.turns.invariant.2 c.args.seat.now (driven_first (opening_of c.args.table.now) c.args.seat.now c.requires.under)).comes
+    (seat_in (opening_of c.args.table.now) c.requires.come.0) c.turns.kept c.turns.invariant.0
+    (c.turns.invariant.2 c.requires.come.0 c.requires.come.1).comes
 
 pub turns-smaller : goal.turns-smaller
 turns-smaller g c =
@@ -126,16 +102,6 @@ turns-preserved g c =
           c.turns.invariant.0 (c.turns.invariant.2 s h) c.in-Ok-turn_apart.ensures.turned made.0 made.1),
     )
 
-pub returns-then-not-silent-clause-driven : goal.returns-then-not-silent-clause-driven
-returns-then-not-silent-clause-driven g c =
-    let said = ap (λ (b : Bool). told_in b c.turn_apart.new.said) c.if-not-silent.true in
-    let made = c.in-Ok-turn_apart.ensures.receipt in
-    subst (λ (k : Told _ × Option (Record _)). Driven (opening_of c.args.table.now) c.args.seat.now c.turn_apart.new.seat k.0 k.1)
-    (λ i. (said i, sym made.2 i))
-    (driven_on c.args.table.now c.args.seat.now c.turns.seat c.turn_apart.new.seat c.turns.actor
-    (told_in c.in-Ok-turn_apart.silent c.turn_apart.new.said) c.turns.kept
-    c.turns.invariant.0 (c.turns.invariant.2 c.args.seat.now (driven_first (opening_of c.args.table.now) c.args.seat.now c.requires.under)) c.in-Ok-turn_apart.ensures.turned made.0 made.1)
-
 pub returns-then-not-silent-clause-leads : goal.returns-then-not-silent-clause-leads
 returns-then-not-silent-clause-leads g c = λ s h.
     let said = ap (λ (b : Bool). told_in b c.turn_apart.new.said) c.if-not-silent.true in
@@ -145,12 +111,6 @@ returns-then-not-silent-clause-leads g c = λ s h.
     (driven_on c.args.table.now s c.turns.seat c.turn_apart.new.seat c.turns.actor
     (told_in c.in-Ok-turn_apart.silent c.turn_apart.new.said) c.turns.kept
     c.turns.invariant.0 (c.turns.invariant.2 s h) c.in-Ok-turn_apart.ensures.turned made.0 made.1)
-
-pub returns-in-Err-turn_apart-clause-stops : goal.returns-in-Err-turn_apart-clause-stops
-returns-in-Err-turn_apart-clause-stops g c =
-    stops_at c.args.table.now c.args.seat.now c.turns.seat c.turn_apart.new.seat c.turns.actor
-    c.in-Err-turn_apart.ensures.starved.0 c.turns.kept c.turns.invariant.0 (c.turns.invariant.2 c.args.seat.now (driven_first (opening_of c.args.table.now) c.args.seat.now c.requires.under)) c.in-Err-turn_apart.ensures.wants
-    c.in-Err-turn_apart.ensures.starved.1
 
 pub returns-in-Err-turn_apart-clause-wants : goal.returns-in-Err-turn_apart-clause-wants
 returns-in-Err-turn_apart-clause-wants g c = λ s h.
