@@ -16,3 +16,4 @@ pub mod StraightLemmas
 pub mod StoreLemmas
 pub mod ReleaseLemmas
 pub mod LockLemmas
+pub mod CheckLemmas

@@ -1,6 +1,8 @@
 -- Steps that are taken straight on, between which the actor is a term and no value.
 use Rattle.replay_log.specs.declared.base.Base.{Base}
-use Rattle.std.specs.Prelude.{List, Option, None, Bool, true, false}
+use Rattle.std.specs.Prelude.{ℕ, ◌≤◌, List, Option, Some, None, Bool, true, false}
+use Rattle.vlock_word.specs.declared.lock_word.LockWord.{LockWord}
+use Rattle.vlock_word.specs.declared.lock_word.LockWord.TheVariants.{Free, Locked}
 use Rattle.step_core.specs.declared.actor.Place.{Place}
 use Rattle.tx_actor.specs.declared.actor.Stage as own
 use Rattle.tx_actor.specs.declared.actor.Stage.TheVariants as stage
@@ -15,6 +17,13 @@ use Rattle.driven_turns.specs.Driven.{Driven, LeadsOn, Stops}
 use Rattle.seq_model.specs.declared.record.Record.{Record}
 use Rattle.replay_log.specs.Seats.{World}
 use Rattle.tx_actor.specs.declared.actor.Told.TheVariants as told
+
+-- A location that was read passes the check of a transaction that began at rv: its lock word is no newer, and it is free, or locked by the
+-- transaction itself, which has it in its write set.
+abbrev pub Passes : ℕ → LockWord → Option ℕ → Type 0
+Passes rv (Free k) own = k ≤ rv
+Passes rv (Locked k) (Some value) = k ≤ rv
+Passes rv (Locked k) None = ⊥
 
 -- the locks of a commit are taken, and what it has read is checked
 abbrev pub is_locking : {V : Type 0} → own.Stage V → Bool

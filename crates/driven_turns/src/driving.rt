@@ -12,6 +12,7 @@ ghost use Rattle.gate_turns.specs.Own.{HasOwn};
 ghost use Rattle.driven_turns.specs.Driven.{Driven, IsOnGate, seat_in, standing, told_in};
 ghost use Rattle.driven_turns.specs.Straight.{IsLedTo, LeadsAll, LeadsBy, LeadsFrom, WantsBy, is_locking};
 
+use crate::checks::{check_to_make, checks_on};
 use crate::locks::{lock_to_take, locks_on};
 use crate::reads::{read_on, steps_on, word_to_read};
 use crate::releases::{has_locks, releases_on};
@@ -334,8 +335,59 @@ fn store_through<V: Value>(
     }
 }
 
-/// A commit, straight on: its locks and its number, its values, and its locks again. Where something is found that is rare, the turns by
-/// which the transaction is given up come then, and so do the checks of what it has read, and its collections.
+/// The checks that are left to make, straight on, where there are some: whether all was quiet.
+#[inline(always)]
+fn checked_on<V: Value>(
+    table: &TxTable<V>,
+    seat: &mut Seat<V>,
+    actor: &mut TxActor<V>,
+    bases: &[Boxed<Base<V>>],
+    said: &mut Told<V>,
+) -> bool
+    requires ties { Ties table.now seat.old actor.old }
+    requires own { HasOwn table.now seat.old actor.old bases.now }
+    requires small { AreSmall (blocks_in table.now) }
+    ensures leads { LeadsAll (opening_of table.now) seat.old seat.new (told_in result said.new) }
+    ensures answered { result ≡ false → said.new ≢ Told.Quiet }
+    ensures ties { Ties table.now seat.new actor.new }
+    ensures own { HasOwn table.now seat.new actor.new bases.now }
+{
+    match check_to_make(actor) {
+        Some(i) => checks_on(table, seat, actor, bases, i, said),
+        None => true,
+    }
+}
+
+/// The turns of a commit behind its number.
+#[inline(always)]
+fn check_through<V: Value>(
+    alloc: Global,
+    table: &TxTable<V>,
+    seat: &mut Seat<V>,
+    actor: &mut TxActor<V>,
+    bases: &mut Vec<Boxed<Base<V>>>,
+) -> (Told<V>, Option<Record<V>>)
+    requires ties { Ties table.now seat.old actor.old }
+    requires own { HasOwn table.now seat.old actor.old bases.old.items }
+    requires small { AreSmall (blocks_in table.now) }
+    requires come { IsLedTo (opening_of table.now) seat.old Told.Quiet None }
+    ensures leads { LeadsBy (opening_of table.now) seat.old seat.new result.0 None result.1 }
+    ensures answered { result.0 ≢ Told.Quiet }
+    ensures ties { Ties table.now seat.new actor.new }
+    ensures own { HasOwn table.now seat.new actor.new [] }
+{
+    let mut said = Told::Quiet;
+    if !checked_on(table, seat, actor, bases.as_slice(), &mut said) {
+        return (said, None);
+    }
+    if is_ready(actor) {
+        return store_through(alloc, table, seat, actor, bases);
+    }
+    finish_from(alloc, table, seat, actor, bases, None)
+}
+
+/// A commit, straight on: its locks and its number, the checks of what it has read, its values, and its locks again. Where a lock is taken
+/// or a word has changed, the turns by which the transaction is given up come then, and the gates of its collections do so too.
 #[inline(always)]
 fn commit_through<V: Value>(
     alloc: Global,
@@ -360,10 +412,7 @@ fn commit_through<V: Value>(
     if !locks_on(table, seat, actor, bases.as_slice(), first, &mut said) {
         return (said, None);
     }
-    if is_ready(actor) {
-        return store_through(alloc, table, seat, actor, bases);
-    }
-    finish_from(alloc, table, seat, actor, bases, None)
+    check_through(alloc, table, seat, actor, bases)
 }
 
 /// The turns of the request that is under way, up to its answer, with the receipt that they make. They end, whatever the other seats do.

@@ -6,6 +6,7 @@
 //! back or go home: when a request is answered, none is. Where memory is wanting, the request is given up as the definitions give it up.
 #![tactic(auto)]
 
+mod checks;
 mod driving;
 mod loads;
 mod locks;

@@ -27,13 +27,13 @@ returns-then-not-locks_on-clause-own g c =
     (subst (λ (bs : List (Base _)). HasOwn c.args.table.now c.locks_on.new.seat c.locks_on.new.actor bs) c.as_slice.ensures.value
     c.locks_on.ensures.own)
 
-pub finish_from-requires-clause-own : goal.finish_from-requires-clause-own
-finish_from-requires-clause-own g c =
+pub check_through-requires-clause-own : goal.check_through-requires-clause-own
+check_through-requires-clause-own g c =
     subst (λ (bs : List (Base _)). HasOwn c.args.table.now c.locks_on.new.seat c.locks_on.new.actor bs) c.as_slice.ensures.value
     c.locks_on.ensures.own
 
-pub finish_from-requires-clause-come : goal.finish_from-requires-clause-come
-finish_from-requires-clause-come g c =
+pub check_through-requires-clause-come : goal.check_through-requires-clause-come
+check_through-requires-clause-come g c =
     let o = opening_of c.args.table.now in (
       c.args.seat.now,
       subst (λ (k : Told _). Driven o c.args.seat.now c.locks_on.new.seat k None)
@@ -44,29 +44,7 @@ finish_from-requires-clause-come g c =
 pub returns-clause-driven : goal.returns-clause-driven
 returns-clause-driven g c =
     let o = opening_of c.args.table.now in
-    c.finish_from.ensures.leads c.args.seat.now
-    (subst (λ (k : Told _). Driven o c.args.seat.now c.locks_on.new.seat k None)
-    (ap (λ (b : Bool). told_in b c.locks_on.new.said) c.if-not-locks_on.false)
-    (c.locks_on.ensures.leads.driven c.args.seat.now None (driven_first o c.args.seat.now c.requires.under)))
-
-pub store_through-requires-clause-own : goal.store_through-requires-clause-own
-store_through-requires-clause-own g c =
-    subst (λ (bs : List (Base _)). HasOwn c.args.table.now c.locks_on.new.seat c.locks_on.new.actor bs) c.as_slice.ensures.value
-    c.locks_on.ensures.own
-
-pub store_through-requires-clause-come : goal.store_through-requires-clause-come
-store_through-requires-clause-come g c =
-    let o = opening_of c.args.table.now in (
-      c.args.seat.now,
-      subst (λ (k : Told _). Driven o c.args.seat.now c.locks_on.new.seat k None)
-          (ap (λ (b : Bool). told_in b c.locks_on.new.said) c.if-not-locks_on.false)
-          (c.locks_on.ensures.leads.driven c.args.seat.now None (driven_first o c.args.seat.now c.requires.under)),
-    )
-
-pub returns-then-is_ready-clause-driven : goal.returns-then-is_ready-clause-driven
-returns-then-is_ready-clause-driven g c =
-    let o = opening_of c.args.table.now in
-    c.store_through.ensures.leads c.args.seat.now
+    c.check_through.ensures.leads c.args.seat.now
     (subst (λ (k : Told _). Driven o c.args.seat.now c.locks_on.new.seat k None)
     (ap (λ (b : Bool). told_in b c.locks_on.new.said) c.if-not-locks_on.false)
     (c.locks_on.ensures.leads.driven c.args.seat.now None (driven_first o c.args.seat.now c.requires.under)))
