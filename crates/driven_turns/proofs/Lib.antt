@@ -17,3 +17,4 @@ pub mod StoreLemmas
 pub mod ReleaseLemmas
 pub mod LockLemmas
 pub mod CheckLemmas
+pub mod BeginLemmas

@@ -2,7 +2,7 @@
 ghost use Rattle.std.specs.Prelude.{◌≡◌, ◌≢◌, [], None, OnErr, OnOk, false, true};
 ghost use Rattle.actor_words.specs.Dispatch.{next_of};
 ghost use Rattle.replay_log.specs.WorldProgress.{AreSmall};
-ghost use Rattle.step_core.specs.declared.actor.Place.TheVariants.{Lock, Look};
+ghost use Rattle.step_core.specs.declared.actor.Place.TheVariants.{Begin, Lock, Look};
 ghost use Rattle.tx_table.specs.Seated.{blocks_in, opening_of};
 ghost use Rattle.tx_phases.specs.Courses.{IsUnderWay};
 ghost use Rattle.tx_actor.specs.Running.{stage_of};
@@ -12,12 +12,13 @@ ghost use Rattle.gate_turns.specs.Own.{HasOwn};
 ghost use Rattle.driven_turns.specs.Driven.{Driven, IsOnGate, seat_in, standing, told_in};
 ghost use Rattle.driven_turns.specs.Straight.{IsLedTo, LeadsAll, LeadsBy, LeadsFrom, WantsBy, is_locking};
 
+use crate::begins::{begins_on, is_to_begin};
 use crate::checks::{check_to_make, checks_on};
 use crate::locks::{lock_to_take, locks_on};
 use crate::reads::{read_on, steps_on, word_to_read};
 use crate::releases::{has_locks, releases_on};
 use crate::stores::{stores_on, value_to_store};
-use crate::turns::{says, store_next, turn_apart, turn_on_gate};
+use crate::turns::{says, step, store_next, turn_apart, turn_on_gate};
 use actor_words::Next;
 use boxes::Boxed;
 use replay_log::Base;
@@ -415,6 +416,64 @@ fn commit_through<V: Value>(
     check_through(alloc, table, seat, actor, bases)
 }
 
+/// The one step of a transaction that begins, straight on.
+#[inline(always)]
+fn begin_through<V: Value>(
+    alloc: Global,
+    table: &TxTable<V>,
+    seat: &mut Seat<V>,
+    actor: &mut TxActor<V>,
+    bases: &mut Vec<Boxed<Base<V>>>,
+) -> (Told<V>, Option<Record<V>>)
+    requires ties { Ties table.now seat.old actor.old }
+    requires own { HasOwn table.now seat.old actor.old bases.old.items }
+    requires small { AreSmall (blocks_in table.now) }
+    requires under { IsUnderWay (seat_in (opening_of table.now) seat.old) (seat_in (opening_of table.now) seat.old) None }
+    requires stage { actor.old.stage ≡ Stage.Beginning }
+    requires place { actor.old.words.place ≡ Begin }
+    ensures driven { Driven (opening_of table.now) seat.old seat.new result.0 result.1 }
+    ensures answered { result.0 ≢ Told.Quiet }
+    ensures ties { Ties table.now seat.new actor.new }
+    ensures own { HasOwn table.now seat.new actor.new [] }
+{
+    let mut said = Told::Quiet;
+    if !begins_on(table, seat, actor, bases.as_slice(), &mut said) {
+        return (said, None);
+    }
+    finish_from(alloc, table, seat, actor, bases, None)
+}
+
+/// Whether a transaction without writes is to commit, by a step on the words.
+#[inline(always)]
+fn is_to_close<V>(actor: &TxActor<V>) -> bool
+    ensures { result ≡ true → next_of (stage_of actor.now.stage) ≡ Next.Word }
+{
+    matches!(&actor.stage, Stage::Closing)
+}
+
+/// A step on the words, at once, with the receipt that it makes, and the turns behind it.
+#[inline(always)]
+fn close_through<V: Value>(
+    alloc: Global,
+    table: &TxTable<V>,
+    seat: &mut Seat<V>,
+    actor: &mut TxActor<V>,
+    bases: &mut Vec<Boxed<Base<V>>>,
+) -> (Told<V>, Option<Record<V>>)
+    requires ties { Ties table.now seat.old actor.old }
+    requires own { HasOwn table.now seat.old actor.old bases.old.items }
+    requires small { AreSmall (blocks_in table.now) }
+    requires under { IsUnderWay (seat_in (opening_of table.now) seat.old) (seat_in (opening_of table.now) seat.old) None }
+    requires due { next_of (stage_of actor.old.stage) ≡ Next.Word }
+    ensures driven { Driven (opening_of table.now) seat.old seat.new result.0 result.1 }
+    ensures answered { result.0 ≢ Told.Quiet }
+    ensures ties { Ties table.now seat.new actor.new }
+    ensures own { HasOwn table.now seat.new actor.new [] }
+{
+    let (told, made) = step(alloc, table, seat, actor, bases.as_slice());
+    write_back(alloc, table, seat, actor, bases, told, made)
+}
+
 /// The turns of the request that is under way, up to its answer, with the receipt that they make. They end, whatever the other seats do.
 /// Where memory is wanting, the request is given up, and told so. When it is answered, no gate is held and no base is in hand. The bases
 /// that it takes on the way lie in `bases`, which keeps the room for the next request: what lies there at first is dropped.
@@ -485,6 +544,36 @@ pub fn drive_commit<V: Value>(
     bases.clear();
     match lock_to_take(actor) {
         Some(first) => commit_through(alloc, table, seat, actor, bases, first),
-        None => finish(alloc, table, seat, actor, bases),
+        None => {
+            if is_to_close(actor) {
+                return close_through(alloc, table, seat, actor, bases);
+            }
+            finish(alloc, table, seat, actor, bases)
+        }
     }
+}
+
+/// As [`drive`], of a begin: it goes straight on.
+#[inline(always)]
+pub fn drive_begin<V: Value>(
+    alloc: Global,
+    table: &TxTable<V>,
+    seat: &mut Seat<V>,
+    actor: &mut TxActor<V>,
+    bases: &mut Vec<Boxed<Base<V>>>,
+) -> (Told<V>, Option<Record<V>>)
+    requires ties { Ties table.now seat.old actor.old }
+    requires own { HasOwn table.now seat.old actor.old [] }
+    requires small { AreSmall (blocks_in table.now) }
+    requires under { IsUnderWay (seat_in (opening_of table.now) seat.old) (seat_in (opening_of table.now) seat.old) None }
+    ensures driven { Driven (opening_of table.now) seat.old seat.new result.0 result.1 }
+    ensures answered { result.0 ≢ Told.Quiet }
+    ensures ties { Ties table.now seat.new actor.new }
+    ensures own { HasOwn table.now seat.new actor.new [] }
+{
+    bases.clear();
+    if is_to_begin(actor) {
+        return begin_through(alloc, table, seat, actor, bases);
+    }
+    finish(alloc, table, seat, actor, bases)
 }

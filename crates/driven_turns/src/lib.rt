@@ -6,6 +6,7 @@
 //! back or go home: when a request is answered, none is. Where memory is wanting, the request is given up as the definitions give it up.
 #![tactic(auto)]
 
+mod begins;
 mod checks;
 mod driving;
 mod loads;
@@ -16,5 +17,5 @@ mod steps;
 mod stores;
 mod turns;
 
-pub use driving::{drive, drive_call, drive_commit};
+pub use driving::{drive, drive_begin, drive_call, drive_commit};
 pub use turns::turn;

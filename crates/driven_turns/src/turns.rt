@@ -67,7 +67,7 @@ fn step_on<V: Value>(
 }
 
 /// A step on the words, with the receipt of a transaction without writes where it commits one.
-fn step<V: Value>(
+pub(crate) fn step<V: Value>(
     alloc: Global,
     table: &TxTable<V>,
     seat: &mut Seat<V>,

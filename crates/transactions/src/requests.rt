@@ -10,7 +10,7 @@ ghost use Rattle.transactions.specs.Requests.{HasAborted, IsBeginTold, IsBegun, 
 ghost use Rattle.transactions.specs.Requests.{HasSameAborted, begin_of};
 
 use boxes::Boxed;
-use driven_turns::drive;
+use driven_turns::{drive, drive_begin};
 use replay_log::Base;
 use seq_model::{Answer, Refusal, Request, Value};
 use std::alloc::Global;
@@ -48,7 +48,7 @@ fn begun<V: Value>(
     ensures begins { begins_of seat.new ≡ begins_of seat.old }
     ensures asks { requests_of seat.new ≡ requests_of seat.old }
 {
-    let (told, _) = drive(alloc, table, seat, actor, bases);
+    let (told, _) = drive_begin(alloc, table, seat, actor, bases);
     begin_told(told)
 }
 
