@@ -1,6 +1,6 @@
 -- Why what was asked is refused, where more than one cause is known to the caller.
 use Rattle.seq_model.specs.declared.refusal.Refusal.{Refusal}
-use Rattle.seq_model.specs.declared.refusal.Refusal.TheVariants.{NoSuch, TooLong, OutOfMemory}
+use Rattle.seq_model.specs.declared.refusal.Refusal.TheVariants.{Moved, Busy, Stale, GateBusy, Invalid, NoSuch, TooLong, OutOfMemory}
 
 -- it is TooLong exactly where what was asked does not fit, and else a growth was refused
 abbrev pub IsTooLong : Refusal → Type 0 → Type 0
@@ -15,3 +15,12 @@ IsNoSuchOrTooLong NoSuch other fits = other
 IsNoSuchOrTooLong TooLong other fits = (¬ other) × (¬ fits)
 IsNoSuchOrTooLong OutOfMemory other fits = (¬ other) × fits
 IsNoSuchOrTooLong _ other fits = ⊥
+
+-- another transaction stood in the way, so another attempt may succeed
+abbrev pub IsConflict : Refusal → Type 0
+IsConflict (Moved _ _) = Unit {0}
+IsConflict (Busy _ _) = Unit {0}
+IsConflict (Stale _ _ _) = Unit {0}
+IsConflict (GateBusy _) = Unit {0}
+IsConflict (Invalid _ _) = Unit {0}
+IsConflict _ = ⊥

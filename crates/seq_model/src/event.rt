@@ -7,7 +7,7 @@ use crate::refusal::{Memory, Refusal};
 use crate::value::Value;
 
 /// How a world is laid out.
-#[derive(Drop)]
+#[derive(Debug, Drop)]
 pub struct Shape {
     /// The number of stripes of each collection.
     pub stripes: Items<u32>,
@@ -16,7 +16,7 @@ pub struct Shape {
 }
 
 /// What an actor asks.
-#[derive(Drop)]
+#[derive(Debug, Drop)]
 pub enum Request<V> {
     Begin,
     /// A transaction that writes nothing is to begin: it keeps no read set.
@@ -27,7 +27,7 @@ pub enum Request<V> {
 }
 
 /// What happens in a world: one actor asks, one atomic step of one actor's request, or a want of memory.
-#[derive(Drop)]
+#[derive(Debug, Drop)]
 pub enum Event<V> {
     Ask(u32, Request<V>),
     Step(u32),
@@ -36,7 +36,7 @@ pub enum Event<V> {
 }
 
 /// What a request is answered.
-#[derive(Drop)]
+#[derive(Debug, Drop)]
 pub enum Answer<V> {
     /// The clock that the transaction began with.
     Begun(u64),
@@ -47,7 +47,7 @@ pub enum Answer<V> {
 }
 
 /// What an event tells.
-#[derive(Drop)]
+#[derive(Debug, Drop)]
 pub enum Notice<V> {
     Quiet,
     Answered(u32, Answer<V>),
