@@ -65,6 +65,7 @@ impl Bench {
     fn answer_words(&mut self, text: &mut String, row: &str) -> Result<(), Refusal> {
         match row.split_once(' ') {
             Some(("copied", calls)) => self.answer_copied(text, calls),
+            Some(("beside", calls)) => self.answer_beside(text, calls),
             Some(("shadowed", calls)) => answer_shadowed(text, &self.base, calls),
             Some(("remembered", calls)) => answer_remembered(text, &self.base, calls),
             Some(("conflict", calls)) => answer_conflict(text, &self.base, calls),
@@ -87,7 +88,12 @@ impl Bench {
     }
 
     fn tell_all(&mut self, text: &mut String, lines: &[Line]) -> Result<(), Refusal> {
+        let mut first = true;
         for line in lines {
+            if !first {
+                text.push_str("; ")?;
+            }
+            first = false;
             self.tell(text, line)?;
         }
         Ok(())
@@ -122,6 +128,28 @@ impl Bench {
     fn answer_copied(&self, text: &mut String, calls: &str) -> Result<(), Refusal> {
         let mut copy = self.copy(*text.allocator())?;
         copy.make_and_hold(text, calls)
+    }
+
+    // While there is a copy, both are changed.
+    fn answer_beside(&mut self, text: &mut String, calls: &str) -> Result<(), Refusal> {
+        let mut copy = self.copy(*text.allocator())?;
+        self.change_both(text, &mut copy, calls)
+    }
+
+    fn change_both(
+        &mut self,
+        text: &mut String,
+        copy: &mut Bench,
+        calls: &str,
+    ) -> Result<(), Refusal> {
+        let Some((of_copy, own)) = calls.split_once(" | ") else {
+            return Err(Refusal::NoSuch);
+        };
+        copy.make_all(text, of_copy)?;
+        text.push_str("; ")?;
+        self.make_and_hold(text, own)?;
+        text.push_str(", the copy ")?;
+        print_base(text, &copy.base)
     }
 
     fn make_and_hold(&mut self, text: &mut String, calls: &str) -> Result<(), Refusal> {

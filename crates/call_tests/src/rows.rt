@@ -13,6 +13,7 @@ use std::fmt::Write;
 /// - `1 call 0 peek` is looked at: its reply, what it reads and writes, and its changes. `1 do call 0 dequeue` is made, too, on
 ///   the collection and on the sequential model, which is to reply the same.
 /// - `holds`, `model`: what the collection holds, and what the model does.
+/// - `beside CALLS | CALLS` makes the first calls on a copy, then the others on the collection, and shows what either holds.
 /// - `copied CALLS` makes the calls on a copy; `shadowed CALLS` on the shadow of a copy, which then shows its log; `remembered CALLS`
 ///   on a memo in two stripes, likewise.
 /// - `replay CHANGES` replays changes, which raise no edition; `reopened STRIPES` opens a copy anew.
