@@ -19,6 +19,7 @@ use std::{env, io};
 use work::{On, Work};
 
 mod audit;
+mod bases;
 mod clock;
 mod engine;
 mod lock;
@@ -73,6 +74,7 @@ fn measure_all<R: Runtime + AllocGlobal + Threads + Wait + Sync>(
 ) -> io::Result<()> {
     match name {
         "audit" => audit::measure(rt),
+        "bases" => bases::measure(rt),
         "engine" => engine::measure(rt),
         "ordered" => ordered::measure(rt),
         "reservations" => reservations::measure(rt),

@@ -1,0 +1,133 @@
+//! Transactions that take one item out of a queue, or the least element out of a priority queue, and put one in, by how much it holds.
+use crate::clock::seconds_since;
+use seq_model::{Counts, QueueItems, Refusal};
+use std::alloc::Global;
+use std::io;
+use std::rt::Runtime;
+use std::time::Instant;
+use wolimevar::{Body, Layout, PriorityQueue, Queue, Scope, Store, Transaction};
+
+/// How many transactions each row makes, one after another.
+const TRANSACTIONS: u32 = 20_000;
+
+/// What a transaction takes from and puts into.
+#[derive(Clone, Copy)]
+enum Turn {
+    Queue(Queue),
+    PriorityQueue(PriorityQueue),
+}
+
+impl Body<u64> for Turn {
+    type Out = ();
+
+    type Error = Refusal;
+
+    fn run<S: Scope<u64>>(&self, tx: &mut Transaction<'_, u64, S>) -> Result<(), Refusal> {
+        match self {
+            Turn::Queue(queue) => {
+                let item = queue.dequeue(tx)?;
+                queue.enqueue(tx, item.unwrap_or(0))??;
+            }
+            Turn::PriorityQueue(queue) => {
+                let element = queue.take_least(tx)?;
+                queue.insert(tx, element.unwrap_or(0))??;
+            }
+        }
+        Ok(())
+    }
+}
+
+/// Prints what a transaction takes on 1,000 to 1,000,000 items or elements, and then on 1,024 elements in 1 to 1,024 stripes; and how
+/// long the store took to open and to close.
+pub fn measure(rt: &(impl Runtime + AllocGlobal)) -> io::Result<()> {
+    for items in [1_000, 10_000, 100_000, 1_000_000] {
+        report_queue(rt, items)?;
+    }
+    for elements in [1_000, 10_000, 100_000, 1_000_000] {
+        report_priority_queue(rt, 1, elements)?;
+    }
+    for stripes in [16, 256, 1_024] {
+        report_priority_queue(rt, stripes, 1_024)?;
+    }
+    Ok(())
+}
+
+fn report_queue(rt: &(impl Runtime + AllocGlobal), items: u64) -> io::Result<()> {
+    let (layout, turn) = queue_of(rt.alloc(), items).map_err(refused)?;
+    let (opened, turned, closed) = timed(rt, layout, turn)?;
+    println!(rt;
+        "a queue of {items}: {turned:.1} microseconds a transaction, opened in {opened:.3} s, closed in {closed:.3} s"
+    )
+}
+
+fn report_priority_queue(
+    rt: &(impl Runtime + AllocGlobal),
+    stripes: u32,
+    elements: u64,
+) -> io::Result<()> {
+    let (layout, turn) = priority_queue_of(rt.alloc(), stripes, elements).map_err(refused)?;
+    let (opened, turned, closed) = timed(rt, layout, turn)?;
+    println!(rt;
+        "a priority queue of {elements}, stripes {stripes}: {turned:.1} microseconds a transaction, opened in {opened:.3} s, closed in {closed:.3} s"
+    )
+}
+
+fn refused(_refusal: Refusal) -> io::Error {
+    io::Error::other("what the calls are made on can't be opened")
+}
+
+fn queue_of(alloc: Global, items: u64) -> Result<(Layout<u64>, Turn), Refusal> {
+    let mut held = QueueItems::new(alloc);
+    for item in 0..items {
+        held.push(item)?;
+    }
+    let mut layout = Layout::new(alloc);
+    let queue = layout.queue(1, held)?;
+    Ok((layout, Turn::Queue(queue)))
+}
+
+fn priority_queue_of(
+    alloc: Global,
+    stripes: u32,
+    elements: u64,
+) -> Result<(Layout<u64>, Turn), Refusal> {
+    let mut held = Counts::new(alloc);
+    for element in 0..elements {
+        held.set_copies(element, 1)?;
+    }
+    let mut layout = Layout::new(alloc);
+    let queue = layout.priority_queue(stripes, held)?;
+    Ok((layout, Turn::PriorityQueue(queue)))
+}
+
+/// The seconds in which the store opens, the microseconds of a transaction, and the seconds in which it closes.
+fn timed(
+    rt: &(impl Runtime + AllocGlobal),
+    layout: Layout<u64>,
+    turn: Turn,
+) -> io::Result<(f64, f64, f64)> {
+    let start = Instant::now(rt);
+    let mut store = layout.open().map_err(refused)?;
+    let opened = seconds_since(rt, start)?;
+    let start = Instant::now(rt);
+    let ended = turn_all(&mut store, turn);
+    let turned = seconds_since(rt, start)?;
+    let start = Instant::now(rt);
+    close(store).map_err(refused)?;
+    let closed = seconds_since(rt, start)?;
+    ended.map_err(refused)?;
+    Ok((opened, turned * 1e6 / f64::from(TRANSACTIONS), closed))
+}
+
+fn turn_all(store: &mut Store<u64>, turn: Turn) -> Result<(), Refusal> {
+    for _ in 0..TRANSACTIONS {
+        let _ = store.atomically(1, &turn)?;
+    }
+    Ok(())
+}
+
+fn close(store: Store<u64>) -> Result<(), Refusal> {
+    let contents = store.close()?;
+    drop(contents);
+    Ok(())
+}
