@@ -22,8 +22,8 @@ use tx_table::{Seat, TxTable};
 /// A seat of a table, with the actor that runs its transactions there, one at a time.
 #[derive(Drop)]
 pub struct TxSeat<V> {
-    pub seat: Seat<V>,
-    pub actor: TxActor<V>,
+    pub(crate) seat: Seat<V>,
+    pub(crate) actor: TxActor<V>,
     /// Where the bases lie that a request takes on its way. Between requests there are none, and the room is kept.
     pub(crate) bases: Vec<Boxed<Base<V>>>,
     // Where the replies to a job lie while it is attempted.
@@ -33,7 +33,7 @@ pub struct TxSeat<V> {
 
 impl<V: Value> TxSeat<V> {
     /// A seat that opened with its table, or was split from another, gets its actor. It takes no memory.
-    pub fn new(alloc: Global, table: &TxTable<V>, seat: Seat<V>) -> TxSeat<V>
+    pub(crate) fn new(alloc: Global, table: &TxTable<V>, seat: Seat<V>) -> TxSeat<V>
         requires opened { HasOpened table.now }
         requires new { IsNew table.now seat }
         ensures ready { IsReady table.now result }
