@@ -1,5 +1,5 @@
 -- A transaction that borrows its seat: how it begins there.
-use Rattle.std.specs.Prelude.{◌≡◌, ℕ, ◌+◌, ◌≤◌, Bool, IfErr, Result}
+use Rattle.std.specs.Prelude.{◌≡◌, ℕ, ◌+◌, ◌≤◌, Bool, IfErr, None, Result}
 use Rattle.seq_model.specs.declared.refusal.Refusal.{Refusal}
 use Rattle.replay_log.specs.Seats.{World}
 use Rattle.tx_table.specs.declared.table.TxTable.{TxTable}
@@ -7,11 +7,12 @@ use Rattle.tx_table.specs.Seated.{opening_of}
 use Rattle.driven_turns.specs.Begins.{begins_of}
 use Rattle.transactions.specs.declared.seats.TxSeat.{TxSeat}
 use Rattle.transactions.specs.Ready.{IsReady}
-use Rattle.transactions.specs.Requests.{HasAborted, HasAskedToBegin, IsBegun, IsNotBegun, IsOpen, KeepsReceipts}
+use Rattle.transactions.specs.Requests.{HasAborted, HasAskedToBegin, IsBegun, IsLastAborted, IsNotBegun, IsOpen, KeepsReceipts}
 
 module _ {V : Type 0} where
   -- It is open, has no calls, and is a declared reader's or not; it has begun at the clock that its seat knows by then, which is no lower
-  -- than the seat's last number. The seat asked no other to begin; one that was left open was aborted. Nothing else was asked.
+  -- than the seat's last number. The seat asked no other to begin; one that was left open was aborted, and is the last aborted one of the
+  -- seat's own world. Nothing else was asked.
   pub record IsBegunSince (declared : Bool) (o : World V) (s u : TxSeat V) : Type 0 where
     pub rv : ℕ
     pub begun : IsBegun declared o s.seat u.seat rv
@@ -19,6 +20,7 @@ module _ {V : Type 0} where
     pub begins : begins_of u.seat ≡ begins_of s.seat + 1
     pub asks : HasAskedToBegin declared o s.seat u.seat
     pub aborted : IsOpen o s.seat → HasAborted o s.seat u.seat
+    pub noted : IsOpen o s.seat → IsLastAborted o s.seat u.seat None
 
   -- There is none, and the seat that was lent is ready again, with its receipts. It asked one to begin, a declared reader or not; one that
   -- was left open was aborted. Nothing else was asked.
@@ -30,3 +32,4 @@ module _ {V : Type 0} where
     pub begins : begins_of u.seat ≡ begins_of s.seat + 1
     pub asks : HasAskedToBegin declared (opening_of t) s.seat u.seat
     pub aborted : IsOpen (opening_of t) s.seat → HasAborted (opening_of t) s.seat u.seat
+    pub noted : IsOpen (opening_of t) s.seat → IsLastAborted (opening_of t) s.seat u.seat None

@@ -27,6 +27,7 @@ returns g c =
           begins = begun.begins;
           asks = begun.asks;
           aborted = begun.aborted;
+          noted = begun.noted;
         };
       },
     )
