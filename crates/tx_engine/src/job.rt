@@ -14,13 +14,14 @@ pub enum Ask<V> {
     GiveUp,
 }
 
-/// What runs as one transaction.
+/// What runs as one transaction. Each job states what it asks (`asks`): contracts of its receipts speak of that relation, and say as much
+/// as it does.
 pub trait Job<V> {
-    ghost use Rattle.std.specs.Prelude.{List, ⊤};
+    ghost use Rattle.std.specs.Prelude.{List};
     ghost use Rattle.seq_model.specs.declared.call.Reply.{Reply as AReply};
     ghost use Rattle.tx_engine.specs.declared.job.Ask.{Ask as AnAsk};
 
-    ghost asks: { Self → List (AReply V) → AnAsk V → Type 0 } = { λ _ _ _. ⊤ };
+    ghost asks: { Self → List (AReply V) → AnAsk V → Type 0 };
 
     /// What the job asks after these replies, one for each call that it asked before. It depends on them alone.
     fn ask(&self, replies: &[Reply<V>]) -> Result<Ask<V>, Memory>

@@ -17,6 +17,10 @@ pub enum Listed {
 }
 
 impl Job<u64> for Listed {
+    ghost use Rattle.std.specs.Prelude.{⊤};
+
+    ghost asks = { λ _ _ _. ⊤ };
+
     fn ask(&self, replies: &[Reply<u64>]) -> Result<Ask<u64>, Memory> {
         match self {
             Listed::Asks(script) => next_call(script.lines.as_slice().get(replies.len())),
