@@ -9,10 +9,10 @@ ghost use Rattle.seq_model.specs.declared.call.Reply.{Reply as Replied};
 ghost use Rattle.tx_phases.specs.Phases.{Rests, Stands};
 ghost use Rattle.tx_table.specs.Seated.{contents_in, opening_of};
 ghost use Rattle.transactions.specs.Ready.{HasBegunSince, IsReady, standing};
-ghost use Rattle.serial_seats.specs.Ended.{SeesOneStateOf, ShownBy, WasAborted, WasRefused};
+ghost use Rattle.serial_seats.specs.Aborted.{SeesOneState, ShownBy, WasAborted, WasAbortedFor};
 
 use seq_model::{Call, Record, Refusal, Reply, Value};
-use serial_seats::laws::{ended_transactions_saw_one_state, open_transactions_see_one_state};
+use serial_seats::laws::{aborted_transactions_saw_one_state, open_transactions_see_one_state};
 use transactions::TxSeat;
 use tx_table::TxTable;
 
@@ -29,10 +29,10 @@ pub fn call<V: Value>(
     ensures since { HasBegunSince table.now seat.new }
     ensures refused { IfErr result (λ cause. (calls : List (Asked V × Replied V)) → standing (opening_of table.now) seat.old.seat ≡ Stands calls →
         standing (opening_of table.now) seat.new.seat ≡ Rests →
-        ShownBy table.now seat.new.seat (WasRefused (contents_in table.now) (opening_of table.now) seat.old.seat calls cause)) }
-    ensures open { ShownBy table.now seat.new.seat (SeesOneStateOf (contents_in table.now) (opening_of table.now) seat.new.seat) }
+        ShownBy table.now seat.new.seat (WasAbortedFor (contents_in table.now) (opening_of table.now) seat.old.seat calls cause)) }
+    ensures open { ShownBy table.now seat.new.seat (SeesOneState (contents_in table.now) (opening_of table.now) seat.new.seat) }
 {
-    ended_transactions_saw_one_state::<V>();
+    aborted_transactions_saw_one_state::<V>();
     open_transactions_see_one_state::<V>();
     seat.call(table, call)
 }
@@ -43,9 +43,9 @@ pub fn commit<V: Value>(table: &TxTable<V>, seat: &mut TxSeat<V>) -> Result<Reco
     requires since { HasBegunSince table.now seat.old }
     ensures ready { IsReady table.now seat.new }
     ensures refused { IfErr result (λ cause. (calls : List (Asked V × Replied V)) → standing (opening_of table.now) seat.old.seat ≡ Stands calls →
-        ShownBy table.now seat.new.seat (WasRefused (contents_in table.now) (opening_of table.now) seat.old.seat calls cause)) }
+        ShownBy table.now seat.new.seat (WasAbortedFor (contents_in table.now) (opening_of table.now) seat.old.seat calls cause)) }
 {
-    ended_transactions_saw_one_state::<V>();
+    aborted_transactions_saw_one_state::<V>();
     seat.commit(table)
 }
 
@@ -56,6 +56,6 @@ pub fn abort<V: Value>(table: &TxTable<V>, seat: &mut TxSeat<V>)
     ensures shown { (calls : List (Asked V × Replied V)) → standing (opening_of table.now) seat.old.seat ≡ Stands calls →
         ShownBy table.now seat.new.seat (WasAborted (contents_in table.now) (opening_of table.now) seat.old.seat calls None) }
 {
-    ended_transactions_saw_one_state::<V>();
+    aborted_transactions_saw_one_state::<V>();
     seat.abort(table);
 }

@@ -6,4 +6,4 @@ pub mod RefusedLemmas
 pub mod StepLemmas
 pub mod WeightLemmas
 pub mod ShownLemmas
-pub mod EndedLemmas
+pub mod AbortedLemmas

@@ -1,9 +1,9 @@
--- What a seat has seen, and what it holds.
+-- What a seat holds.
 --
--- Events have reached a world that is to the seat's actor as its own (`IsReached`), and such a world is in serial order. So what an open
--- transaction saw there is what it saw by its own world. Between its requests an actor is at rest there, or its transaction is open, and
--- neither holds a lock or a gate (`StageOk`, `PlaceOk`). Before what it has asked since its last step it was so too, or was to begin: a
--- request leads to neither from elsewhere, and a want of memory that gives a transaction up leaves its last step to be done.
+-- Events have reached a world that is to the seat's actor as its own (`IsReached`). Between its requests an actor is idle there, or its
+-- transaction is open, and neither holds a lock or a gate (`StageOk`, `PlaceOk`). Before what it has asked since its last step it was so
+-- too, or was to begin: a request leads to neither from elsewhere, and a failed allocation that aborts a transaction leaves its last step
+-- to be done.
 use Rattle.std.proofs.Common.{◌≡◌, ◌⊎◌, ℕ, true, false, List, [], ◌∷◌, inl, inr, refl, sym, ap, ◌∙◌, subst, true≢false, eq-eqb}
 use Rattle.std.specs.Prelude.{if◌then◌else◌}
 use Rattle.word_machine.specs.Actor.{Actor, Place}
@@ -11,26 +11,23 @@ use Rattle.word_machine.specs.Requests as word
 use Rattle.word_machine.specs.World.{World as Words}
 use Rattle.word_machine.proofs.Invariant.{PlaceOk}
 use Rattle.word_machine.proofs.Sets.{put-same}
-use Rattle.seq_model.specs.Contents.{Contents}
-use Rattle.seq_model.specs.Runs.{IsLegal, state_at}
 use Rattle.seq_model.specs.declared.call.Call.{Call}
 use Rattle.seq_model.specs.declared.call.Reply.{Reply}
 use Rattle.seq_model.specs.declared.event.Event.{Event}
 use Rattle.seq_model.specs.declared.event.Event.TheVariants.{Ask, Step, Starve}
 use Rattle.seq_model.specs.declared.event.Request.{Request}
-use Rattle.seq_model.specs.declared.record.Record.{Record}
 use Rattle.seq_model.specs.declared.refusal.Refusal.TheVariants as refusal
 use Rattle.collection_machine.specs.Boosted.{is_actor}
 use Rattle.collection_machine.specs.Content.{has}
 use Rattle.replay_log.specs.Contents.{Block, HaveStripes}
 use Rattle.replay_log.specs.Seats as worlds
-use Rattle.replay_log.specs.WorldSerial.{IsSerial, SawAt}
+use Rattle.replay_log.specs.WorldSerial.{IsSerial}
 use Rattle.replay_log.specs.Worlds.{World, Seat, Stage, Idle, Beginning, Open, Locking, Closing, Cancelling, Leaving, Reading, Trying}
 use Rattle.replay_log.specs.Worlds.{Copying, Loading, Gating, Ready, Returning, acted, actor_of, ask_at, asks, at_stage, because}
 use Rattle.replay_log.specs.Worlds.{gives_up, happens, is_leaving, run, starve_at}
 use Rattle.replay_log.proofs.EventLemmas.{opened_linked, run_linked}
 use Rattle.replay_log.proofs.SeatLemmas.{Copy, Linked, StageOk, gates_of}
-use Rattle.tx_phases.specs.Phases.{Rests, Stands, phase, phase_at}
+use Rattle.tx_phases.specs.Phases.{Rests, phase_at}
 use Rattle.tx_table.specs.Seated as seated
 use Rattle.tx_table.specs.Seated.{acts, kept, list_of}
 use Rattle.tx_table.specs.Shown.{IsReached, Opens}
@@ -39,34 +36,13 @@ use Rattle.tx_table.specs.declared.seat.Seat as table
 use Rattle.driven_turns.proofs.RestLemmas.{IsCalm}
 use Rattle.driven_turns.specs.Driven.{standing}
 use Rattle.transactions.specs.Requests.{IsOpen}
-use Rattle.serial_seats.specs.Seats.{HasNothing, HoldsNothing, SeesOneState}
+use Rattle.serial_seats.specs.Seats.{HasNothing, HoldsNothing}
 
 -- whatever events lead to is in serial order
 abbrev pub SerialLaw : Type 0 → Type 0
 SerialLaw V = (o : World V) (opens : Opens o) (events : List (Event V)) → HaveStripes o.blocks → IsSerial opens.contents (run o events)
 
 module _ {V : Type 0} where
-  saw_open : (c : Contents V) (rs : List (ℕ × Record V)) (x : Seat V) (st : Stage V) (calls : List (Call V × Reply V))
-      → phase_at x.calls st ≡ Stands calls → SawAt c rs x st → IsLegal calls (state_at x.rv rs c)
-  saw_open c rs x worlds.Open calls e saw =
-      let same : x.calls ≡ calls = cc in
-      subst (λ (cs : List (Call V × Reply V)). IsLegal cs (state_at x.rv rs c)) same saw
-  saw_open c rs x st calls e saw = absurd (let z : ⊥ = cc in z)
-
-  pub sees : SerialLaw V → (o : World V) (s : table.Seat V) → IsReached o (seated.actor s) (acts o s) → SeesOneState o s
-  sees law o s h =
-      let a = seated.actor s in
-      let w = run o h.events in
-      let serial : IsSerial h.opens.contents w = law o h.opens h.events h.stripes in
-      record {
-        opens = h.opens;
-        events = h.events;
-        serial = serial;
-        alike = h.alike;
-        saw = λ calls on. subst (λ (y : Seat V). IsLegal calls (state_at y.rv w.records h.opens.contents)) h.alike.seat
-            (saw_open h.opens.contents w.records (w.seats a) (w.seats a).stage calls (ap phase h.alike.seat ∙ on) (serial.open_saw a));
-      }
-
   -- ---- an actor that holds nothing
   -- at rest, about to begin, or open
   abbrev IsBare : Stage V → Type 0

@@ -3,4 +3,4 @@ pub mod Tries
 pub mod Refused
 pub mod Steps
 pub mod Records
-pub mod Ended
+pub mod Aborted

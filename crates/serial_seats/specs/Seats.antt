@@ -1,29 +1,11 @@
--- What a seat of the shared table has seen by now.
+-- What a seat of the shared table holds between its requests.
 use Rattle.std.specs.Prelude.{◌≡◌, ◌≢◌, ℕ, List, [], Some}
-use Rattle.seq_model.specs.Runs.{IsLegal, state_at}
-use Rattle.seq_model.specs.declared.call.Call.{Call}
-use Rattle.seq_model.specs.declared.call.Reply.{Reply}
 use Rattle.seq_model.specs.declared.event.Event.{Event}
 use Rattle.atomic_steps.specs.Own.{Alike}
 use Rattle.replay_log.specs.Seats.{World, actor_of}
-use Rattle.replay_log.specs.WorldSerial.{IsSerial}
 use Rattle.replay_log.specs.Worlds.{run}
-use Rattle.tx_phases.specs.Phases.{Stands}
 use Rattle.tx_table.specs.Seated.{actor, acts, kept}
-use Rattle.tx_table.specs.Shown.{Opens}
 use Rattle.tx_table.specs.declared.seat.Seat.{Seat}
-use Rattle.transactions.specs.Ready.{standing}
-use Rattle.driven_turns.specs.Driven.{seat_in}
-
--- Events lead from the opening to a world in serial order, which is to the actor of the seat as its own. Where its transaction is open, its
--- calls have the replies of the state at the number that it began with.
-pub record SeesOneState {V : Type 0} (o : World V) (s : Seat V) : Type 0 where
-  pub opens : Opens o
-  pub events : List (Event V)
-  pub serial : IsSerial opens.contents (run o events)
-  pub alike : Alike (actor s) (run o events) (acts o s)
-  pub saw : (calls : List (Call V × Reply V)) → standing o s ≡ Stands calls
-      → IsLegal calls (state_at (seat_in o s).rv (run o events).records opens.contents)
 
 -- the actor holds no lock and no gate in this world
 pub record HasNothing {V : Type 0} (a : ℕ) (w : World V) : Type 0 where

@@ -22,10 +22,10 @@ ghost use Rattle.driven_turns.specs.Driven.{HasTold};
 ghost use Rattle.transactions.specs.Ready.{HasCalled, HasFinished, IsReady, standing};
 ghost use Rattle.transactions.specs.Requests.{IsFoundAndTold, IsLastAborted};
 ghost use Rattle.transactions.specs.declared.seats.TxSeat.{TxSeat};
-ghost use Rattle.serial_seats.specs.Ended.{SeesOneStateOf, ShownBy, WasAborted, WasRefused};
+ghost use Rattle.serial_seats.specs.Aborted.{SeesOneState, ShownBy, WasAborted, WasAbortedFor};
 ghost use Rattle.serial_seats.specs.Records.{ShowsSeats};
 ghost use Rattle.serial_seats.specs.Refused.{GaveUp, GaveUpFor, IsEndTold, IsGivenUpFor};
-ghost use Rattle.serial_seats.specs.Seats.{HoldsNothing, SeesOneState};
+ghost use Rattle.serial_seats.specs.Seats.{HoldsNothing};
 ghost use Rattle.serial_seats.specs.Steps.{IsSerialBetweenSteps};
 ghost use Rattle.serial_seats.specs.Tries.{WasTriedInVain};
 
@@ -62,14 +62,6 @@ pub fn tables_show_their_seats<V: Value>()
     worlds_are_serial::<V>();
 }
 
-/// A seat between its requests, beside others that commit meanwhile: such a world is to its actor as the seat has it, and the calls of an
-/// open transaction have the replies of the state at the number that it began with.
-pub fn seats_see_one_state<V: Value>()
-    ensures { (t : TxTable V) (u : TxSeat V) → IsReady t u → SeesOneState (opening_of t) u.seat }
-{
-    worlds_are_serial::<V>();
-}
-
 /// A seat between its requests, without a transaction or with an open one, be it dropped since or not: its actor holds no lock and no gate,
 /// neither in such a world nor in what the table shows.
 pub fn ready_seats_hold_nothing<V: Value>()
@@ -95,27 +87,27 @@ pub fn given_up_seats_change_nothing<V: Value>()
         IsFoundAndTold (opening_of t) s.seat u.seat cause → GaveUpFor (opening_of t) s.seat u.seat cause }
 {}
 
-/// An open transaction that is refused a call, and has ended so, or a commit, or that its actor aborts: whatever the table shows from then on, until the seat takes a
-/// step again, has it as an aborted transaction of the seat's actor, for this cause, with the calls that it had made; and these have the
-/// replies of one state, that of what the table shows, at the number at which the transaction began.
-pub fn ended_transactions_saw_one_state<V: Value>()
-    ensures called { (t : TxTable V) (s u : TxSeat V) (call : Call V) (calls : List (Call V × Reply V)) (cause : Refusal) →
+/// A transaction that a refused call or a refused commit has aborted, or that its actor aborts: from then on, until its seat takes a step
+/// again, the table shows it as an aborted transaction of the seat's actor, with this cause and with the calls that it had made. Their
+/// replies are those of one state of the world that the table shows, the one at the number at which the transaction began.
+pub fn aborted_transactions_saw_one_state<V: Value>()
+    ensures call { (t : TxTable V) (s u : TxSeat V) (call : Call V) (calls : List (Call V × Reply V)) (cause : Refusal) →
         HasCalled t s u call (Err cause) → standing (opening_of t) s.seat ≡ Stands calls → standing (opening_of t) u.seat ≡ Rests →
-        ShownBy t u.seat (WasRefused (contents_in t) (opening_of t) s.seat calls cause) }
-    ensures finished { (t : TxTable V) (s u : TxSeat V) (calls : List (Call V × Reply V)) (cause : Refusal) →
+        ShownBy t u.seat (WasAbortedFor (contents_in t) (opening_of t) s.seat calls cause) }
+    ensures commit { (t : TxTable V) (s u : TxSeat V) (calls : List (Call V × Reply V)) (cause : Refusal) →
         HasFinished t s u (Err cause) → standing (opening_of t) s.seat ≡ Stands calls →
-        ShownBy t u.seat (WasRefused (contents_in t) (opening_of t) s.seat calls cause) }
-    ensures aborted { (t : TxTable V) (s u : TxSeat V) (calls : List (Call V × Reply V)) → actor u.seat ≡ actor s.seat →
+        ShownBy t u.seat (WasAbortedFor (contents_in t) (opening_of t) s.seat calls cause) }
+    ensures abort { (t : TxTable V) (s u : TxSeat V) (calls : List (Call V × Reply V)) → actor u.seat ≡ actor s.seat →
         standing (opening_of t) s.seat ≡ Stands calls → IsLastAborted (opening_of t) s.seat u.seat None →
         ShownBy t u.seat (WasAborted (contents_in t) (opening_of t) s.seat calls None) }
 {
     tables_show_their_seats::<V>();
 }
 
-/// A seat at any moment: what its actor has been answered since its last step is so at once in what the table shows, and the calls of its
-/// open transaction have the replies of one state of that, now and whatever the table shows until the seat takes a step again.
+/// A seat at any moment: what its actor was answered since its last step holds at once in the world that the table shows, and the calls of
+/// its open transaction have the replies of one state of that world, now and whatever the table shows until the seat takes a step again.
 pub fn open_transactions_see_one_state<V: Value>()
-    ensures { (t : TxTable V) (u : TxSeat V) → ShownBy t u.seat (SeesOneStateOf (contents_in t) (opening_of t) u.seat) }
+    ensures { (t : TxTable V) (u : TxSeat V) → ShownBy t u.seat (SeesOneState (contents_in t) (opening_of t) u.seat) }
 {
     tables_show_their_seats::<V>();
 }

@@ -4,7 +4,7 @@ use Rattle.refused_calls.proofs.call.Goals as goal
 pub returns-clause-refused : goal.returns-clause-refused
 returns-clause-refused g c =
     if_called c.args.table.now c.args.seat.now c.call.new.self _ c.args.call
-    (λ cause h calls on rests. c.ended_transactions_saw_one_state.ensures.called c.args.table.now c.args.seat.now c.call.new.self
+    (λ cause h calls on rests. c.aborted_transactions_saw_one_state.ensures.call c.args.table.now c.args.seat.now c.call.new.self
     c.args.call calls cause h on rests) c.call.result c.call.ensures.called
 
 pub returns-clause-open : goal.returns-clause-open

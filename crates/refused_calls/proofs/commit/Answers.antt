@@ -4,5 +4,5 @@ use Rattle.refused_calls.proofs.commit.Goals as goal
 pub returns-clause-refused : goal.returns-clause-refused
 returns-clause-refused g c =
     if_finished c.args.table.now c.args.seat.now c.commit.new.self _
-    (λ cause h calls on. c.ended_transactions_saw_one_state.ensures.finished c.args.table.now c.args.seat.now c.commit.new.self
+    (λ cause h calls on. c.aborted_transactions_saw_one_state.ensures.commit c.args.table.now c.args.seat.now c.commit.new.self
     calls cause h on) c.commit.result c.commit.ensures.finished

@@ -1,4 +1,4 @@
-use Rattle.serial_seats.proofs.EndedLemmas.{sees_one_state}
+use Rattle.serial_seats.proofs.AbortedLemmas.{sees_one_state}
 use Rattle.serial_seats.proofs.laws.open_transactions_see_one_state.Goals as goal
 
 pub returns : goal.returns

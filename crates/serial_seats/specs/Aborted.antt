@@ -1,4 +1,4 @@
--- What a running table shows of a transaction that was refused, and of what an open one has been answered by now.
+-- What a running table shows of a transaction that was aborted, and of what an open one was answered so far.
 use Rattle.std.specs.Prelude.{◌≡◌, ◌⊎◌, List, ◌∷◌, ◌++◌, Option, Some, None}
 use mathlib.Core.Option.{some}
 use lib.ListN.{get_elem?}
@@ -24,28 +24,28 @@ use Rattle.transactions.specs.Ready.{standing}
 use Rattle.driven_turns.specs.Driven.{seat_in}
 
 module _ {V : Type 0} where
-  -- The table t, between any two of its steps at which its rule holds and the seat u stands in it with what it knows, shows a world of
-  -- which this is so.
+  -- Whenever the rule of the table t holds between two of its steps and the seat u stands in it with what it knows, the table shows a world
+  -- of which this holds.
   abbrev pub ShownBy : TxTable V → Seat V → (World V → Type 0) → Type 0
   ShownBy t u P =
       (x : State (Slot V) (View V)) (rule : Holds t.whole.shared.key x) → get_elem? x.views (actor u) ≡ some (view u)
       → P (run (opening_of t) rule.rule.events)
 
-  -- The transaction of these calls that was open at s is an aborted one of the world w, for this cause, or as its actor asked. Its calls
-  -- have the replies of one state: that of w, from the opening c on, at the number at which it began.
+  -- The transaction with these calls that was open at s is an aborted one of the world w, for this cause, or with none where its actor
+  -- asked for it. Its calls have the replies of one state: that of w, from the opening c on, at the number at which it began.
   pub record WasAborted (c : Contents V) (o : World V) (s : Seat V) (calls : List (Call V × Reply V)) (cause : Option Refusal) (w : World V)
       : Type 0 where
     pub before : List (Ended V)
     pub after : List (Ended V)
-    pub there : w.aborted ≡ before ++ record { actor = actor s; rv = (seat_in o s).rv; calls = calls; cause = cause } ∷ after
+    pub listed : w.aborted ≡ before ++ record { actor = actor s; rv = (seat_in o s).rv; calls = calls; cause = cause } ∷ after
     pub saw : IsLegal calls (state_at (seat_in o s).rv w.records c)
 
-  -- it was refused for this cause; or memory was wanting as its last request was asked, and it was aborted
-  abbrev pub WasRefused : Contents V → World V → Seat V → List (Call V × Reply V) → Refusal → World V → Type 0
-  WasRefused c o s calls cause w = WasAborted c o s calls (Some cause) w ⊎ ((cause ≡ OutOfMemory) × WasAborted c o s calls None w)
+  -- it was aborted for this cause; or an allocation failed as its last request was asked, and it was aborted in place of that
+  abbrev pub WasAbortedFor : Contents V → World V → Seat V → List (Call V × Reply V) → Refusal → World V → Type 0
+  WasAbortedFor c o s calls cause w = WasAborted c o s calls (Some cause) w ⊎ ((cause ≡ OutOfMemory) × WasAborted c o s calls None w)
 
   -- What the actor of u has asked since its last step leads from w to a world that is to it as its own world is now; and the calls of an
   -- open transaction have the replies of one state: that of w, from the opening c on, at the number at which it began.
-  pub record SeesOneStateOf (c : Contents V) (o : World V) (u : Seat V) (w : World V) : Type 0 where
+  pub record SeesOneState (c : Contents V) (o : World V) (u : Seat V) (w : World V) : Type 0 where
     pub alike : Alike (actor u) (asked_all (actor u) w (list_of u.asked)) (acts o u)
     pub saw : (calls : List (Call V × Reply V)) → standing o u ≡ Stands calls → IsLegal calls (state_at (seat_in o u).rv w.records c)

@@ -1,4 +1,4 @@
--- What the table shows of a refused transaction.
+-- What the table shows of an aborted transaction.
 --
 -- The own world of its seat has it as the last of its aborted ones (`IsAbortedFor`), and what is asked later leaves these. They are those
 -- that the table's world has of the actor, each of which saw one state (`HasAborted`).
@@ -27,7 +27,7 @@ use Rattle.tx_table.specs.declared.view.View.{View}
 use Rattle.tx_table.proofs.Turned.{asked_calm}
 use Rattle.driven_turns.specs.Driven.{aborted_for, seat_in, standing}
 use Rattle.transactions.specs.Requests.{IsAbortedFor, IsLastAborted}
-use Rattle.serial_seats.specs.Ended.{SeesOneStateOf, ShownBy, WasAborted, WasRefused}
+use Rattle.serial_seats.specs.Aborted.{SeesOneState, ShownBy, WasAborted, WasAbortedFor}
 use Rattle.serial_seats.specs.Records.{HasAborted, ShowsSeats}
 
 module _ {V : Type 0} where
@@ -87,7 +87,7 @@ module _ {V : Type 0} where
       record {
         before = here.before;
         after = here.after;
-        there = here.there ∙ (λ i. here.before
+        listed = here.there ∙ (λ i. here.before
             ++ record { actor = seated.actor s; rv = (seat_in o s).rv; calls = cs i; cause = cause } ∷ here.after);
         saw = subst (λ (k : List (Call V × Reply V)). IsLegal k (state_at (seat_in o s).rv w.records (contents_in t))) cs saw;
       }
@@ -105,7 +105,7 @@ module _ {V : Type 0} where
 
   pub shown_refused : (t : TxTable V) → SeatLaw t → (s u : table.Seat V) (calls : List (Call V × Reply V)) (cause : Refusal)
       → seated.actor u ≡ seated.actor s → standing (opening_of t) s ≡ Stands calls → IsAbortedFor (opening_of t) s u cause
-      → ShownBy t u (WasRefused (contents_in t) (opening_of t) s calls cause)
+      → ShownBy t u (WasAbortedFor (contents_in t) (opening_of t) s calls cause)
   shown_refused t law s u calls cause same on (inl last) x rule at =
       inl (shown_aborted t law s u calls (Some cause) same on last x rule at)
   shown_refused t law s u calls cause same on (inr memory) x rule at =
@@ -120,7 +120,7 @@ module _ {V : Type 0} where
   open_saw c rs y st calls on saw = absurd (let z : ⊥ = cc in z)
 
   pub sees_one_state : (t : TxTable V) → SeatLaw t → (u : table.Seat V)
-      → ShownBy t u (SeesOneStateOf (contents_in t) (opening_of t) u)
+      → ShownBy t u (SeesOneState (contents_in t) (opening_of t) u)
   sees_one_state t law u x rule at =
       let now = (law x rule).at_once (seated.actor u) (view u) at (list_of u.asked) in
       let y = seat_in (opening_of t) u in record {
