@@ -1,3 +1,4 @@
 pub mod Faults
 pub mod Findings
 pub mod Prints
+pub mod Texts
