@@ -15,7 +15,7 @@ use tx_engine::{Ask, Job};
 use tx_table::TxTable;
 
 /// What became of an attempt.
-#[derive(Drop)]
+#[derive(Debug, Drop)]
 pub enum Attempt<V> {
     /// The job's transaction has committed, with this receipt.
     Committed(Record<V>),

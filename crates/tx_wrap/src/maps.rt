@@ -8,7 +8,7 @@ use std::marker::PhantomData;
 use transactions::Tx;
 
 /// The map of this number.
-#[derive(Drop)]
+#[derive_where(Clone, Copy)]
 pub struct TMap<V> {
     number: u32,
     values: PhantomData<V>,

@@ -2,3 +2,4 @@ pub mod Tries
 pub mod Tasks
 pub mod Trees
 pub mod Reports
+pub mod Texts

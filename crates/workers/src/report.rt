@@ -11,7 +11,7 @@ use std::alloc::Global;
 use tx_engine::Job;
 
 /// What comes of a run of workers.
-#[derive(Drop)]
+#[derive(Debug, Drop)]
 pub struct Report<V> {
     /// Of each worker, in the order of its jobs.
     pub receipts: Items<Items<Record<V>>>,

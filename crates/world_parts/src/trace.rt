@@ -10,7 +10,7 @@ use std::alloc::{AllocError, Global};
 use tx_actor::{Stage, TxActor};
 
 /// A transaction that was aborted.
-#[derive(Drop)]
+#[derive(Debug, Drop)]
 pub struct Ended<V> {
     pub actor: u32,
     /// The version clock as it began.
@@ -21,8 +21,9 @@ pub struct Ended<V> {
     pub cause: Option<Refusal>,
 }
 
-/// What has come of a world's events.
+/// What has come of a world's events. `Debug` prints it without its state.
 #[derive(Drop)]
+#[derive_where(Debug; V)]
 pub struct Trace<V> {
     /// The committed transactions with their actors, in commit order: by number; at one number the writer first, then
     /// readers by actor, then as they were committed.
@@ -30,6 +31,7 @@ pub struct Trace<V> {
     /// The aborted transactions, in the order of their ending.
     pub aborted: Items<Ended<V>>,
     /// What words and collections hold.
+    #[derive_where(skip(Debug))]
     pub state: State<V>,
     /// The numbers of the commits whose last release hasn't been done, rising.
     pub half: Items<u64>,
