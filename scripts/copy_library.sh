@@ -5,7 +5,7 @@
 #
 # Into FOLDER go the crates that `wolimevar` stands on, and it itself, with their lines of crates.txt, and HANDLES and .gitignore where
 # FOLDER has none. A crates.txt that is there keeps its other lines. With NAMEs these crates go too, as `bank`. What stands there under
-# one of these names is replaced, so a later call brings the library up to date.
+# one of these names is replaced, so a later call brings the library up to date. The edits that its proofs refuse stay here.
 set -eu
 
 [ $# -ge 1 ] || { sed -n '2,8s/^# \{0,1\}//p' "$0" >&2; exit 2; }
@@ -17,10 +17,10 @@ cd "$(dirname "$0")/.."
 
 names=$(for name in wolimevar "$@"; do scripts/crates_below.sh "$name"; done | awk '!seen[$0]++')
 mkdir -p "$to/crates"
-touch "$to/crates.txt"
+[ -e "$to/crates.txt" ] || echo '# one line a crate: the libraries that it stands on' > "$to/crates.txt"
 for name in $names; do
     rm -rf "$to/crates/$name"
-    (cd crates && tar --exclude=out --exclude=BUILD.bazel -cf - "$name") | (cd "$to/crates" && tar -xf -)
+    (cd crates && tar --exclude=out --exclude=must-fail --exclude=wrong-bodies --exclude=BUILD.bazel -cf - "$name") | (cd "$to/crates" && tar -xf -)
     grep -v -E "^$name( [^:]*)?:" "$to/crates.txt" > "$to/crates.txt.new" || true
     grep -E "^$name( [^:]*)?:" crates.txt >> "$to/crates.txt.new"
     mv "$to/crates.txt.new" "$to/crates.txt"
