@@ -57,9 +57,15 @@ take_input() {
 
 # refuse_sections: refuses each allocation of the run on each section of the stored input.
 refuse_sections() {
-    local count place
+    local count place end=
     awk -v to="$folder/in" 'BEGIN { n = 1 } { print > (to n) } /----$/ { n++ }' stdin
-    awk -v to="$folder/out" '/^# / { n++ } { print > (to n) }' stdout
+    # Where the last line has the number of the sections, a run of one ends so, too.
+    cp stdout "$folder/sections"
+    if tail -n 1 stdout | grep -qx 'sections [0-9]*'; then
+        sed -i '$d' "$folder/sections"
+        end='sections 1'
+    fi
+    awk -v to="$folder/out" '/^# / { n++ } { print > (to n) }' "$folder/sections"
     count=$(find "$folder" -name 'in[0-9]*' | wc -l)
     if [ "$count" -ne "$(find "$folder" -name 'out[0-9]*' | wc -l)" ]; then
         echo "$crate: stdin and stdout have not as many sections"
@@ -68,7 +74,7 @@ refuse_sections() {
     [ "$sections" = all ] && sections=$(seq "$count")
     for place in $sections; do
         stdin=$folder/in$place
-        wanted=$(cat "$folder/out$place")
+        wanted=$(cat "$folder/out$place"; echo "$end")
         refuse_each "$crate, section $place"
     done
     echo "$crate: $(wc -w <<<"$sections") of $count sections, $total refusals"
