@@ -3,7 +3,7 @@
 -- are all of one kind is that of the values among them. Entries that were made of values are all of their kind, since a map keeps
 -- what was put in, and a look-up tells the values apart: so those among them are those that they were made of.
 use Rattle.std.proofs.Common.{◌≡◌, ℕ, ◌<◌, ◌≤◌, Bool, true, false, cond, ◌&&◌, List, [], ◌∷◌, length, get_or, Option, Some, None, Result}
-use Rattle.std.proofs.Common.{Ok, Err, refl, sym, ◌∙◌, ap, subst, arith}
+use Rattle.std.proofs.Common.{zero, suc, Ok, Err, refl, sym, ◌∙◌, ap, subst, arith}
 use Rattle.std.specs.Prelude.{is_some, map, option_map, option_and_then, unwrap_or, IfOk, IfErr}
 use Rattle.std.specs.Result.{IsErrAnd}
 use Rattle.std.specs.List.{All, cons_option, list_all}
@@ -317,6 +317,18 @@ have_indexes : (t : Holdings) → All IsWithinLimits (state_of t).held → HaveI
 have_indexes t within Car = within 5 (Map empty) (omega arith)
 have_indexes t within Flight = within 6 (Map empty) (omega arith)
 have_indexes t within Room = within 7 (Map empty) (omega arith)
+
+-- and back: the queues alone have a limit
+pub all_within : (t : Holdings) → HaveIndexes t → All IsWithinLimits (state_of t).held
+all_within t h zero d lt = tt
+all_within t h (suc zero) d lt = tt
+all_within t h (suc (suc zero)) d lt = tt
+all_within t h (suc (suc (suc zero))) d lt = tt
+all_within t h (suc (suc (suc (suc zero)))) d lt = tt
+all_within t h (suc (suc (suc (suc (suc zero))))) d lt = h Car
+all_within t h (suc (suc (suc (suc (suc (suc zero)))))) d lt = h Flight
+all_within t h (suc (suc (suc (suc (suc (suc (suc zero))))))) d lt = h Room
+all_within t h (suc (suc (suc (suc (suc (suc (suc (suc i)))))))) d lt = absurd (omega (arith, lt))
 
 module _ (s : Contents Entry) (words : List ℕ) (held : List (Held Entry)) (are_words : words ≡ s.words) (are_held : held ≡ s.held) where
   same_state : tables_in words held ≡ tables_held s

@@ -151,7 +151,8 @@ impl Session {
     {
         match self.play(Left::Calls(receipt.calls.as_slice())) {
             Ok(reply) => Ok(reply),
-            Err(_) => Err(Memory),
+            Err(Stop::OutOfMemory) => Err(Memory),
+            Err(_) => unreachable!(),
         }
     }
 }

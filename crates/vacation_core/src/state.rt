@@ -63,13 +63,10 @@ fn queue_held(queue: &Queue) -> Result<Held<Entry>, Memory>
     })
 }
 
-/// The state that holds the tables: the next ticket as word 0; maps 0 to 4 are those of cars, flights, rooms, customers and tickets, and
-/// queues 5 to 7 those of cars, flights and rooms. No queue's index may be past the limit of a state, as none is in balanced tables.
-pub fn state_of(alloc: Global, tables: &Tables) -> Result<State<Entry>, Memory>
-    requires { HaveIndexes tables.now }
-    ensures { IfOk result (λ state. state ≡ holding.state_of tables.now) }
+/// What the maps and the queues of the state hold, in their order.
+fn held_of(alloc: Global, tables: &Tables) -> Result<Vec<Held<Entry>>, Memory>
+    ensures { IfOk result (λ held. held.items ≡ (holding.state_of tables.now).held) }
 {
-    let words = vec![in alloc; tables.next_ticket()]?;
     let mut held = Vec::with_capacity(alloc, 8)?;
     held.push(Held::Map(items_held(alloc, tables, Kind::Car)?))?;
     held.push(Held::Map(items_held(alloc, tables, Kind::Flight)?))?;
@@ -79,9 +76,20 @@ pub fn state_of(alloc: Global, tables: &Tables) -> Result<State<Entry>, Memory>
     held.push(queue_held(tables.waiting(Kind::Car))?)?;
     held.push(queue_held(tables.waiting(Kind::Flight))?)?;
     held.push(queue_held(tables.waiting(Kind::Room))?)?;
+    Ok(held)
+}
+
+/// The state that holds the tables: the next ticket as word 0; maps 0 to 4 are those of cars, flights, rooms, customers and tickets, and
+/// queues 5 to 7 those of cars, flights and rooms. No queue's index may be past the limit of a state, as none is in balanced tables.
+pub fn state_of(alloc: Global, tables: &Tables) -> Result<State<Entry>, Memory>
+    requires { HaveIndexes tables.now }
+    ensures { IfOk result (λ state. state ≡ holding.state_of tables.now) }
+{
+    let words = vec![in alloc; tables.next_ticket()]?;
+    let held = held_of(alloc, tables)?;
     match State::new(words, held) {
         Ok(state) => Ok(state),
-        Err(_) => Err(Memory),
+        Err(_) => unreachable!(),
     }
 }
 
