@@ -2,7 +2,7 @@
 --
 -- Each request keeps the receipts, and leaves the transaction open with the calls so far, or there is none; so what the attempt comes to
 -- is put together at its end. A call past the limit of calls is refused as it is asked, so a job is answered no more calls than that.
-use Rattle.std.proofs.Common.{◌≡◌, ℕ, ◌+◌, ◌<◌, ◌≤◌, Bool, true, false, List, [], ◌∷◌, ◌++◌, length, Ok, Err}
+use Rattle.std.proofs.Common.{◌≡◌, ℕ, ◌+◌, ◌<◌, ◌≤◌, Bool, true, false, List, [], ◌∷◌, ◌++◌, length, None, Ok, Err}
 use Rattle.std.proofs.Common.{inl, inr, refl, sym, ap, ◌∙◌, subst, arith}
 use Rattle.std.proofs.Math.Dec.{ltb}
 use Rattle.std.proofs.lemmas.Bool.{ltb-false, ltb-true}
@@ -30,13 +30,15 @@ use Rattle.tx_engine.specs.Programs.{replies_of}
 use Rattle.tx_actor.specs.declared.actor.Told.TheVariants as told
 use Rattle.tx_table.specs.declared.seat.Seat.{Seat}
 use Rattle.tx_table.specs.Seated.{actor, acts, view}
-use Rattle.tx_phases.specs.Phases.{Stands, phase_at}
+use Rattle.tx_phases.specs.Phases.{Rests, Stands, phase_at}
 use Rattle.transactions.proofs.CallLemmas.{stands_at}
 pub use Rattle.transactions.proofs.RequestLemmas.{keeps_self}
 use Rattle.transactions.proofs.RequestLemmas.{then_keeps, told_later, told_on}
 use Rattle.transactions.specs.Ready.{standing}
 use Rattle.driven_turns.specs.Begins.{begins_of}
-use Rattle.transactions.specs.Requests.{CallsTo, CommitsTo, HasAborted, HasCommitted, IsAnswered, IsBegun, IsOpen, KeepsReceipts, told_of}
+use Rattle.transactions.specs.Requests.{CallsTo, CommitsTo, HasAborted, HasCommitted, IsAnswered, IsBegun, IsLastAborted, IsOpen}
+use Rattle.transactions.specs.Requests.{KeepsReceipts, told_of}
+use Rattle.attempts.proofs.GainLemmas.{gains, gains_broken, gains_for}
 use Rattle.attempts.proofs.JobLemmas.{asked_more, none_asked, replies_more}
 use Rattle.attempts.specs.Attempts.{EndsAs, HasBegun, HasGivenUp, HasMade, IsAt, IsCallRefused, IsSoFar, IsStarved, IsUnmade, Reaches}
 use Rattle.attempts.specs.Attempts.{ask_of}
@@ -218,12 +220,13 @@ module _ {V : Type 0} where
             begun = begun;
             ended = C.ended (done.0, k.stands);
             kind = C.kinds;
+            gains = gains_for o s m u done.0 cause k.keeps k.stands (C.aborted (done.0, k.stands));
           }),
         )
 
     pub given_up : (s b m u : Seat V) → KeepsReceipts s b → Reaches asks o b m ends.GivenUp → KeepsReceipts m u
-        → (IsOpen o m → HasAborted o m u) → HasBegun o s m → HasGivenUp asks o s u
-    given_up s b m u kept done ended aborted begun =
+        → (IsOpen o m → HasAborted o m u) → (IsOpen o m → IsLastAborted o m u None) → HasBegun o s m → HasGivenUp asks o s u
+    given_up s b m u kept done ended aborted noted begun =
         let k : IsAt asks o s m done.0 ask.GiveUp = at_before s b m done.0 ask.GiveUp kept done.1 in
         record {
           keeps = then_keeps s m u k.keeps ended;
@@ -232,14 +235,24 @@ module _ {V : Type 0} where
           at = k;
           begun = begun;
           aborted = aborted (done.0, k.stands);
+          gains = gains o s m u done.0 None k.keeps k.stands (noted (done.0, k.stands));
         }
 
     pub broken_off : (s b m u : Seat V) (cause : Refusal) → KeepsReceipts s b → KeepsReceipts b m → IsUnmade asks o b m cause
-        → KeepsReceipts m u → (IsOpen o m → HasAborted o m u) → HasBegun o s m → EndsAs asks o s u (Err cause)
-    broken_off s b m u cause kept keeps unmade ended aborted begun = (
-      then_keeps s b u kept (then_keeps b m u keeps ended),
-      inr (inr record { left = m; begun = begun; unmade = unmade_before s b m cause kept unmade; keeps = ended; aborted = aborted }),
-    )
+        → KeepsReceipts m u → (IsOpen o m → HasAborted o m u) → (IsOpen o m → IsLastAborted o m u None)
+        → (standing o m ≡ Rests → u ≡ m) → HasBegun o s m → EndsAs asks o s u (Err cause)
+    broken_off s b m u cause kept keeps unmade ended aborted noted none begun =
+        let whole = unmade_before s b m cause kept unmade in (
+          then_keeps s b u kept (then_keeps b m u keeps ended),
+          inr (inr record {
+            left = m;
+            begun = begun;
+            unmade = whole;
+            keeps = ended;
+            aborted = aborted;
+            gains = gains_broken asks o s m u cause whole noted none;
+          }),
+        )
 
     -- ---- what was open before was aborted
     pub aborted_first : (s b u : Seat V) → KeepsReceipts b u → (IsOpen o s → HasAborted o s b) → IsOpen o s → HasAborted o s u

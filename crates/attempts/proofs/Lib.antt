@@ -1,3 +1,4 @@
 mod ReaderLemmas
 pub mod JobLemmas
+pub mod GainLemmas
 pub mod AttemptLemmas

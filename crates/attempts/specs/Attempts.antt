@@ -1,18 +1,18 @@
 -- What an attempt of a job comes to.
-use Rattle.std.specs.Prelude.{◌≡◌, ◌⊎◌, ℕ, ◌+◌, ◌<◌, ◌≤◌, true, false, List, [], ◌∷◌, ◌++◌, Result, Ok, Err}
+use Rattle.std.specs.Prelude.{◌≡◌, ◌⊎◌, ℕ, ◌+◌, ◌<◌, ◌≤◌, true, false, List, [], ◌∷◌, ◌++◌, Option, Some, None, Result, Ok, Err}
 use Rattle.seq_model.specs.declared.call.Call.{Call}
 use Rattle.seq_model.specs.declared.call.Reply.{Reply}
 use Rattle.seq_model.specs.declared.record.Record.{Record}
 use Rattle.seq_model.specs.declared.refusal.Refusal.{Refusal}
 use Rattle.seq_model.specs.declared.refusal.Refusal.TheVariants.{OutOfMemory}
 use Rattle.seq_model.specs.Runs.{is_writer}
-use Rattle.replay_log.specs.Seats.{World}
+use Rattle.replay_log.specs.Seats.{Ended, World}
 use Rattle.tx_engine.specs.declared.job.Ask.{Ask}
 use Rattle.tx_engine.specs.declared.job.Ask.TheVariants as ask
 use Rattle.tx_engine.specs.Programs.{replies_of}
 use Rattle.tx_table.specs.declared.seat.Seat.{Seat}
-use Rattle.tx_table.specs.Seated.{actor, view}
-use Rattle.tx_phases.specs.Phases.{Stands}
+use Rattle.tx_table.specs.Seated.{actor, acts, view}
+use Rattle.tx_phases.specs.Phases.{IsMistaken, Stands}
 use Rattle.driven_turns.specs.Begins.{begins_of}
 use Rattle.transactions.specs.Ready.{standing}
 use Rattle.transactions.specs.Requests.{CallsTo, HasAborted, HasCommitted, IsBegun, IsCommitRefusal, IsEnded, IsNotBegun, IsOpen}
@@ -33,6 +33,20 @@ module _ {V : Type 0} (o : World V) where
     pub begun : IsBegun false o s first number
     pub asked : begins_of first ≡ begins_of s + 1
     pub since : KeepsReceipts first m
+
+  -- The own world of u has at least one aborted transaction more than that of s. The last of them is the seat's own, with these calls, and
+  -- with this cause, or none where its actor asked for the abort.
+  pub record GainsAborted (s u : Seat V) (calls : List (Call V × Reply V)) (cause : Option Refusal) : Type 0 where
+    pub earlier : List (Ended V)
+    pub number : ℕ
+    pub gained : (acts o u).aborted
+        ≡ (acts o s).aborted ++ (earlier ++ record { actor = actor s; rv = number; calls = calls; cause = cause } ∷ [])
+
+  -- It was aborted for this cause. Or its actor asked for the abort: after a refusal that leaves a transaction open, or where an allocation
+  -- failed.
+  abbrev pub GainsAbortedFor : Seat V → Seat V → List (Call V × Reply V) → Refusal → Type 0
+  GainsAbortedFor s u calls cause =
+      GainsAborted s u calls (Some cause) ⊎ ((IsMistaken cause ⊎ (cause ≡ OutOfMemory)) × GainsAborted s u calls None)
 
 module _ {V : Type 0} (asks : List (Reply V) → Ask V → Type 0) (o : World V) where
   -- ---- on the way
@@ -88,6 +102,7 @@ module _ {V : Type 0} (asks : List (Reply V) → Ask V → Type 0) (o : World V)
     pub unmade : IsUnmade s left cause
     pub keeps : KeepsReceipts left u
     pub aborted : IsOpen o left → HasAborted o left u
+    pub gains : (calls : List (Call V × Reply V)) × GainsAbortedFor o s u calls cause
 
   -- the commit was refused so, once the job was done
   pub record IsCommitRefused (s u : Seat V) (cause : Refusal) : Type 0 where
@@ -97,6 +112,7 @@ module _ {V : Type 0} (asks : List (Reply V) → Ask V → Type 0) (o : World V)
     pub begun : HasBegun o s before
     pub ended : IsEnded o before u cause
     pub kind : IsCommitRefusal cause
+    pub gains : GainsAbortedFor o s u calls cause
 
   -- the begin, the commit, or what is between them
   abbrev pub IsRefusedOf : Seat V → Seat V → Refusal → Type 0
@@ -127,6 +143,7 @@ module _ {V : Type 0} (asks : List (Reply V) → Ask V → Type 0) (o : World V)
     pub at : IsAt s before calls ask.GiveUp
     pub begun : HasBegun o s before
     pub aborted : HasAborted o before u
+    pub gains : GainsAborted o s u calls None
 
   -- a receipt, a job that gave up, or a refusal
   abbrev pub EndsAs : Seat V → Seat V → Result (Attempt V) Refusal → Type 0

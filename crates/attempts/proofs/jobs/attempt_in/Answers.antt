@@ -1,4 +1,4 @@
-use Rattle.std.proofs.Common.{inl, sym, ◌∙◌}
+use Rattle.std.proofs.Common.{ap, inl, sym, ◌∙◌}
 use Rattle.std.proofs.lemmas.Result.{err_from_is_err_and}
 use Rattle.tx_table.specs.Seated.{opening_of}
 use Rattle.transactions.proofs.RequestLemmas.{then_keeps}
@@ -56,7 +56,7 @@ returns-in-Ok-GivenUp-clause-attempts g c =
     let o = opening_of c.args.table.now in (
       given_up asks o c.args.seat.now.seat c.begin.new.seat.seat c.ask_all.new.seat.seat c.abort.new.self.seat c.begin.ensures.keeps
           (at_end asks o c.begin.new.seat.seat c.ask_all.new.seat.seat _ _ c.in-Ok-GivenUp.field-0-is c.in-Ok-GivenUp.ensures.reaches)
-          c.abort.ensures.keeps c.abort.ensures.aborted
+          c.abort.ensures.keeps c.abort.ensures.aborted c.abort.ensures.noted
           (has_begun o c.args.seat.now.seat c.begin.new.seat.seat c.ask_all.new.seat.seat _ c.in_ok-begin.ensures.begun
           c.begin.ensures.begins c.ask_all.ensures.keeps c.ask_all.ensures.begins),
       c.abort.ensures.begins ∙ (c.ask_all.ensures.begins ∙ c.begin.ensures.begins),
@@ -69,7 +69,8 @@ pub returns-in-Err-clause-attempts : goal.returns-in-Err-clause-attempts
 returns-in-Err-clause-attempts g c = (
   broken_off (g.J.Job.asks c.args.job.now) (opening_of c.args.table.now) c.args.seat.now.seat c.begin.new.seat.seat
       c.ask_all.new.seat.seat c.abort-in-Err.new.self.seat c.in-Err.cause c.begin.ensures.keeps c.ask_all.ensures.keeps
-      c.in-Err.ensures.refused c.abort-in-Err.ensures.keeps c.abort-in-Err.ensures.aborted
+      c.in-Err.ensures.refused c.abort-in-Err.ensures.keeps c.abort-in-Err.ensures.aborted c.abort-in-Err.ensures.noted
+      (λ rests. ap (λ k. k.seat) (c.abort-in-Err.ensures.none rests))
       (has_begun (opening_of c.args.table.now) c.args.seat.now.seat c.begin.new.seat.seat c.ask_all.new.seat.seat _
       c.in_ok-begin.ensures.begun c.begin.ensures.begins c.ask_all.ensures.keeps c.ask_all.ensures.begins),
   c.abort-in-Err.ensures.begins ∙ (c.ask_all.ensures.begins ∙ c.begin.ensures.begins),
