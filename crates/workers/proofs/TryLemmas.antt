@@ -8,10 +8,11 @@ use Rattle.seq_model.specs.declared.refusal.Refusal.{Refusal}
 use Rattle.tx_engine.specs.declared.job.Ask.{Ask}
 use Rattle.tx_table.specs.declared.seat.Seat.{Seat}
 use Rattle.tx_table.specs.declared.table.TxTable.{TxTable}
-use Rattle.tx_table.specs.Seated.{actor, opening_of, view}
+use Rattle.tx_table.specs.Seated.{actor, acts, opening_of, view}
 use Rattle.transactions.specs.Requests.{KeepsReceipts}
 use Rattle.transactions.proofs.RequestLemmas.{then_keeps}
 use Rattle.attempts.proofs.AttemptLemmas.{keeps_self}
+use Rattle.attempts.proofs.GainLemmas.{refused_gains}
 use Rattle.attempts.specs.Attempts.{AttemptsTo}
 use Rattle.attempts.specs.declared.jobs.Attempt.TheVariants.{Committed, GivenUp}
 use Rattle.workers.specs.declared.causes.LastAbort.{LastAbort}
@@ -25,9 +26,10 @@ module _ {V : Type 0} (asks : List (Reply V) → Ask V → Type 0) (t : TxTable 
     pub many : length causes ≡ n
     pub vain : AreInVain asks t s causes m
     pub keeps : KeepsReceipts s m
+    pub gains : length (acts (opening_of t) s).aborted + n ≤ length (acts (opening_of t) m).aborted
 
   pub none_yet : (s : Seat V) → InVain 0 s s
-  none_yet s = record { causes = []; many = refl; vain = refl; keeps = keeps_self s }
+  none_yet s = record { causes = []; many = refl; vain = refl; keeps = keeps_self s; gains = omega arith }
 
   -- one more was
   pub one_more : (n : ℕ) (s m u : Seat V) (cause : Refusal) → InVain n s m → IsTransient cause
@@ -37,6 +39,9 @@ module _ {V : Type 0} (asks : List (Reply V) → Ask V → Type 0) (t : TxTable 
     many = (let k = h.many in omega arith);
     vain = (m, h.vain, comes, transient);
     keeps = then_keeps s m u h.keeps comes.0.0;
+    gains = (let before = h.gains in
+        let one = refused_gains (opening_of t) m u asks cause (λ h. subst (λ (k : Refusal). IsTransient k) h.2 transient) comes.0.1 in
+        omega (arith, before, one));
   }
 
   -- a refusal that is the last
@@ -50,7 +55,7 @@ module _ {V : Type 0} (asks : List (Reply V) → Ask V → Type 0) (t : TxTable 
       few = few;
       all = all;
       at = m;
-      last = record { causes = h.causes; many = h.many; vain = h.vain; comes = comes };
+      last = record { causes = h.causes; many = h.many; vain = h.vain; gains = h.gains; comes = comes };
     };
   }
 
@@ -64,7 +69,12 @@ module _ {V : Type 0} (asks : List (Reply V) → Ask V → Type 0) (t : TxTable 
       → HasNoReceipt asks t tries s u last.GivenUp
   gives_up n tries s m u few h comes = record {
     keeps = then_keeps s m u h.keeps comes.0.keeps;
-    ends = record { before = n; few = few; at = m; last = record { causes = h.causes; many = h.many; vain = h.vain; comes = comes } };
+    ends = record {
+      before = n;
+      few = few;
+      at = m;
+      last = record { causes = h.causes; many = h.many; vain = h.vain; gains = h.gains; comes = comes };
+    };
   }
 
   pub has_receipt : (n tries : ℕ) (s m u : Seat V) (r : Record V) → n < tries → InVain n s m
@@ -83,5 +93,5 @@ module _ {V : Type 0} (asks : List (Reply V) → Ask V → Type 0) (t : TxTable 
         before = n;
         few = few;
         at = m;
-        last = record { causes = h.causes; many = h.many; vain = h.vain; comes = comes };
+        last = record { causes = h.causes; many = h.many; vain = h.vain; gains = h.gains; comes = comes };
       }
