@@ -1,8 +1,8 @@
 //! What an event makes of the parts of a world.
-ghost use Rattle.std.specs.Prelude.{◌≡◌, ◌+◌, ◌<◌, [], length, IfOk, OnErr};
+ghost use Rattle.std.specs.Prelude.{◌≡◌, ◌+◌, ◌<◌, [], length, IfOk, IsOk, OnErr};
 ghost use Rattle.seq_model.specs.declared.event.Event.TheVariants.{Ask, Starve, Step};
 ghost use Rattle.tx_actor.specs.Running.{notice_of};
-ghost use Rattle.world_parts.specs.Feeds.{Feeds, IsPlaceOf};
+ghost use Rattle.world_parts.specs.Feeds.{AllocatesNothing, Feeds, IsPlaceOf, MayAllocate};
 ghost use Rattle.world_parts.specs.Parts.{Happens, HasWorld, IsDue, IsStarved};
 
 use crate::opening::ACTORS;
@@ -40,6 +40,7 @@ impl<V: Value> Parts<V> {
         requires due { IsDue self.old i Next.Word }
         ensures ok { IfOk result (λ told. Happens self.old (Step (i + 1)) self.new told) }
         ensures err { OnErr result (IsStarved self.old i self.new) }
+        ensures wants { OnErr result (MayAllocate self.old i) }
     {
         match self.actors[i].stage {
             Stage::Closing => self.close(i),
@@ -55,6 +56,7 @@ impl<V: Value> Parts<V> {
         requires world { HasWorld self.old }
         ensures ok { IfOk result (λ told. Happens self.old (Step (i + 1)) self.new told) }
         ensures err { OnErr result (IsStarved self.old i self.new) }
+        ensures wants { OnErr result (MayAllocate self.old i) }
     {
         match self.actors[i].next() {
             Next::Nothing => Ok(Told::Refused(Refusal::NoTransaction)),
@@ -80,7 +82,8 @@ impl<V: Value> Parts<V> {
 
     fn feed_step(&mut self, actor: u32) -> Result<Notice<V>, Memory>
         requires world { HasWorld self.old }
-        ensures { IfOk result (Feeds self.old (Step actor) self.new) }
+        ensures ok { IfOk result (Feeds self.old (Step actor) self.new) }
+        ensures served { AllocatesNothing self.old (Step actor) → IsOk result }
     {
         let Some(i) = place_of(actor) else {
             return Ok(Notice::Refused(actor, Refusal::NoSuch));
@@ -100,10 +103,12 @@ impl<V: Value> Parts<V> {
         notice(actor, told)
     }
 
-    /// An event, and what it tells. `NoSuch` where its actor is not one of the actors 1 to 64, which changes nothing.
+    /// An event, and its notice. `NoSuch` where its actor is not one of the actors 1 to 64, which changes nothing. `Memory` only for an
+    /// event that takes some.
     pub fn feed(&mut self, event: Event<V>) -> Result<Notice<V>, Memory>
         requires world { HasWorld self.old }
-        ensures { IfOk result (Feeds self.old event self.new) }
+        ensures ok { IfOk result (Feeds self.old event self.new) }
+        ensures served { AllocatesNothing self.old event → IsOk result }
     {
         match event {
             Event::Ask(actor, request) => self.feed_ask(actor, request),

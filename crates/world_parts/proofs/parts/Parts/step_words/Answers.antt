@@ -4,7 +4,8 @@ use Rattle.step_core.proofs.Lists.{same_at}
 use Rattle.actor_words.specs.Dispatch.{is_loading}
 use Rattle.tx_actor.specs.Running.{stage_of}
 use Rattle.tx_actor.specs.declared.actor.Stage.{Stage}
-use Rattle.world_parts.proofs.FeedLemmas.{quiet_unless}
+use Rattle.world_parts.specs.Feeds.{allocates_at}
+use Rattle.world_parts.proofs.FeedLemmas.{may_allocate, on_err, quiet_unless}
 use Rattle.world_parts.proofs.parts.Parts.step_words.Goals as goal
 
 pub load-requires : goal.load-requires
@@ -32,3 +33,17 @@ move_on-requires g c = record {
         quiet_unless r.stage (λ o left e. c.in_default.not-Loading o left (ap (λ x. x.stage) is ∙ e)),
       ));
 }
+
+pub returns-in-Closing-clause-wants : goal.returns-in-Closing-clause-wants
+returns-in-Closing-clause-wants g c =
+    let r = c.index.result.now in
+    let got = slice_get_read c.args.self.now.actors.items _ c.args.i r refl c.requires.inside c.index.ensures in
+    on_err c.close.result (may_allocate c.args.self.now c.args.i r got
+    (ap (λ (s : Stage g.row.V.Denot). allocates_at (stage_of s)) c.in-Closing.is))
+
+pub returns-in-Leaving-clause-wants : goal.returns-in-Leaving-clause-wants
+returns-in-Leaving-clause-wants g c =
+    let r = c.index.result.now in
+    let got = slice_get_read c.args.self.now.actors.items _ c.args.i r refl c.requires.inside c.index.ensures in
+    on_err c.leave.result (may_allocate c.args.self.now c.args.i r got
+    (ap (λ (s : Stage g.row.V.Denot). allocates_at (stage_of s)) c.in-Leaving.is))
