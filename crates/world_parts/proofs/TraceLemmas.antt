@@ -8,17 +8,18 @@ use Rattle.std.proofs.Math.Seq.{take-suc}
 use Rattle.std.proofs.lemmas.Bool.{cases_Bool, cases_lt}
 use Rattle.std.proofs.lemmas.Bool.Decides.{nat_tests}
 use Rattle.world_parts.specs.declared.opening.TheConstants.{ACTORS}
+use Rattle.seq_model.specs.declared.event.Event.{Event}
+use Rattle.seq_model.specs.declared.held.Held.{Held}
 use Rattle.seq_model.specs.declared.record.Record.{Record}
 use Rattle.seq_model.specs.Contents.{Contents}
 use Rattle.seq_model.specs.Runs.{IsInCommitOrder, IsRun, after_run}
 use Rattle.collection_machine.specs.Content.{has}
 use Rattle.replay_log.specs.Seats as seats
 use Rattle.replay_log.specs.Worlds.{World, Seat, no_one, half, is_half_done, opened, run, state}
-use Rattle.replay_log.specs.WorldTraces.{half_in}
+use Rattle.replay_log.specs.Collections.{Suit}
+use Rattle.replay_log.specs.Contents.{Block, HaveStripes}
+use Rattle.replay_log.specs.WorldTraces.{half_in, trace}
 use Rattle.replay_log.specs.WorldSerial.{AllSaw, AreHalfDone, IsSerial}
-use Rattle.replay_log.proofs.RecordLemmas.{all_own, half_done}
-use Rattle.replay_log.proofs.SerialLemmas.{serial_world}
-use Rattle.replay_log.proofs.TraceLemmas.{shows_state}
 use Rattle.step_core.specs.Shown.{is_actor}
 use Rattle.step_core.proofs.Lists.{some_at}
 use Rattle.tx_actor.specs.Running.{seat_of, stage_of}
@@ -30,7 +31,6 @@ use Rattle.world_parts.specs.Parts.{IsWorld, ended_of}
 use Rattle.world_parts.specs.Reached.{IsReached}
 use Rattle.world_parts.specs.Traces.{IsSerialTrace, IsTraceOf, is_half, seat_at, seat_found, with_number}
 use Rattle.actor_turns.proofs.SeatLemmas.{IsLike, like_as}
-use Rattle.actor_turns.proofs.StepLemmas.{reached_linked}
 
 -- one number more behind the others, and one in front
 swapped : (b c : Bool) (n m : ℕ) (ns : List ℕ)
@@ -53,6 +53,25 @@ and_none false c = refl
 not_in_none : (ns : List ℕ) (n : ℕ) → ns ≡ [] → has ns n ≡ true → ⊥
 not_in_none [] n e h = true≢false (sym h)
 not_in_none (m ∷ ns) n e h = let z : ⊥ = cc in z
+
+-- ---- the laws of worlds, each as its function states it
+abbrev pub SerialLaw : Type 0 → Type 0
+SerialLaw V =
+    (blocks : List Block) (clock : ℕ) (values : List ℕ) (held : List (Held V)) (events : List (Event V)) → HaveStripes blocks
+    → Suit blocks held → IsSerial (record { words = values; held = held }) (run (opened blocks clock values held) events)
+
+abbrev pub StateLaw : Type 0 → Type 0
+StateLaw V =
+    (blocks : List Block) (clock : ℕ) (values : List ℕ) (held : List (Held V)) (events : List (Event V)) → HaveStripes blocks
+    → Suit blocks held
+    → let w = run (opened blocks clock values held) events in
+    ((a : ℕ) → is_half_done (w.seats a).stage ≡ false)
+    → (trace w).state ≡ after_run (trace w).records (record { words = values; held = held })
+
+abbrev pub HalfLaw : Type 0 → Type 0
+HalfLaw V =
+    (blocks : List Block) (clock : ℕ) (values : List ℕ) (held : List (Held V)) (events : List (Event V)) → HaveStripes blocks
+    → Suit blocks held → let w = run (opened blocks clock values held) events in AreHalfDone w (half w)
 
 module _ {V : Type 0} where
   half_push : (seats : ℕ → Seat V) (rs : List (ℕ × Record V)) (r : ℕ × Record V)
@@ -146,33 +165,36 @@ module _ {V : Type 0} where
     half = half_of c w t.half h ns;
   }
 
-  pub serial_at : (o : Contents V) (w : World V) → IsReached o w → IsSerial o w
-  serial_at o w h =
-      subst (λ (z : World V). IsSerial o z) h.world (serial_world h.blocks h.stripes h.clock o.words o.held h.suits h.events)
+  pub serial_at : SerialLaw V → (o : Contents V) (w : World V) → IsReached o w → IsSerial o w
+  serial_at law o w h =
+      subst (λ (z : World V). IsSerial o z) h.world (law h.blocks h.clock o.words o.held h.events h.stripes h.suits)
 
-  half_at : (o : Contents V) (w : World V) → IsReached o w → AreHalfDone w (half w)
-  half_at o w h =
-      let start = opened h.blocks h.clock o.words o.held in
-      subst (λ (z : World V). AreHalfDone z (half z)) h.world
-      (half_done (run start h.events) (serial_world h.blocks h.stripes h.clock o.words o.held h.suits h.events).ordered
-      (all_own h.blocks h.clock o.words o.held h.events))
+  pub state_left : StateLaw V → (o : Contents V) (w : World V) → IsReached o w → ((a : ℕ) → is_half_done (w.seats a).stage ≡ false)
+      → state w ≡ after_run w.records o
+  state_left law o w h =
+      subst (λ (z : World V). ((a : ℕ) → is_half_done (z.seats a).stage ≡ false) → state z ≡ after_run z.records o) h.world
+      (law h.blocks h.clock o.words o.held h.events h.stripes h.suits)
+
+  half_at : HalfLaw V → (o : Contents V) (w : World V) → IsReached o w → AreHalfDone w (half w)
+  half_at law o w h =
+      subst (λ (z : World V). AreHalfDone z (half z)) h.world (law h.blocks h.clock o.words o.held h.events h.stripes h.suits)
 
   -- where none is half done, no actor is
-  none_half : (o : Contents V) (w : World V) → IsReached o w → half w ≡ [] → (a : ℕ) → is_half_done (w.seats a).stage ≡ false
-  none_half o w h e a = elim (cases_Bool (is_half_done (w.seats a).stage)) [
-    | inl is ↦ absurd (not_in_none (half w) (w.seats a).wv e ((half_at o w h).all a is))
+  none_half : HalfLaw V → (o : Contents V) (w : World V) → IsReached o w → half w ≡ [] → (a : ℕ) → is_half_done (w.seats a).stage ≡ false
+  none_half law o w h e a = elim (cases_Bool (is_half_done (w.seats a).stage)) [
+    | inl is ↦ absurd (not_in_none (half w) (w.seats a).wv e ((half_at law o w h).all a is))
     | inr isnt ↦ isnt
   ]
 
-  pub serial_trace : (o : Contents V) (w : World V) (t : Trace V) → IsReached o w → IsTraceOf w t → IsSerialTrace o t
-  serial_trace o w t h is =
-      let s = serial_at o w h in
+  pub serial_trace : SerialLaw V → StateLaw V → HalfLaw V → (o : Contents V) (w : World V) (t : Trace V) → IsReached o w → IsTraceOf w t
+      → IsSerialTrace o t
+  serial_trace law left halves o w t h is =
+      let s = serial_at law o w h in
       record {
         ordered = subst (λ (rs : List (ℕ × Record V)). IsInCommitOrder rs) (sym is.records) s.ordered;
         run = subst (λ (rs : List (ℕ × Record V)). IsRun rs o) (sym is.records) s.run;
         left = λ none.
-            is.state ∙ (shows_state w (after_run w.records o) (reached_linked o w h).base.stripes
-            (s.left (none_half o w h (sym is.half ∙ none)))
+            is.state ∙ (state_left left o w h (none_half halves o w h (sym is.half ∙ none))
             ∙ ap (λ (rs : List (ℕ × Record V)). after_run rs o) (sym is.records));
         saw = subst (λ (es : List (seats.Ended V)). AllSaw o t.records es) (sym is.aborted)
             (subst (λ (rs : List (ℕ × Record V)). AllSaw o rs w.aborted) (sym is.records) s.aborted_saw);

@@ -12,6 +12,7 @@ ghost use Rattle.world_parts.specs.Traces.{IsSerialTrace, IsTraceOf};
 use crate::opening::actors;
 use crate::trace::{Ended, Trace, copy_of_aborted, copy_of_records, half_done};
 use actor_words::Blocks;
+use replay_log::laws::{numbers, serial_worlds, traces};
 use seq_model::{Items, Memory, Record, Refusal, Shape, State, Value};
 use std::alloc::Global;
 use tx_actor::TxActor;
@@ -82,6 +83,9 @@ impl<V: Value> Parts<V> {
         ensures serial { IfOk result (λ trace. (opening : Contents V) (w : World V) → IsReached opening w → IsWorld self.now w →
             IsSerialTrace opening trace) }
     {
+        serial_worlds::<V>();
+        traces::<V>();
+        numbers::<V>();
         let alloc = *self.records.allocator();
         let state = self.state()?;
         let half = half_done(alloc, &self.actors, &self.records)?;
@@ -103,6 +107,9 @@ impl<V: Value> Parts<V> {
         ensures serial { IfOk result (λ trace. (opening : Contents V) (w : World V) → IsReached opening w → IsWorld self w →
             IsSerialTrace opening trace) }
     {
+        serial_worlds::<V>();
+        traces::<V>();
+        numbers::<V>();
         let alloc = *self.records.allocator();
         let state = self.state()?;
         let half = half_done(alloc, &self.actors, &self.records)?;

@@ -15,6 +15,7 @@ use actor_copies::copies_stay;
 use actor_copies::laws::{begins_with_nothing, calls_as_worlds};
 use actor_words::Next;
 use actor_words::laws::steps_as_worlds;
+use replay_log::laws::serial_worlds;
 use seq_model::{Memory, Request, Value, insert_record};
 use tx_actor::laws::{copies_by_stage, copies_stay_own};
 use tx_actor::{Stage, Told};
@@ -157,6 +158,7 @@ impl<V: Value> Parts<V> {
         let Ok(()) = prepare(&mut self.table, &self.actors[i]) else {
             return Err(self.starved(i));
         };
+        serial_worlds::<V>();
         copies_by_stage::<V>();
         copies_stay::<V>();
         begins_with_nothing::<V>();
@@ -182,6 +184,7 @@ impl<V: Value> Parts<V> {
         let Ok(()) = self.records.reserve(1) else {
             return Err(self.starved(i));
         };
+        serial_worlds::<V>();
         copies_by_stage::<V>();
         copies_stay::<V>();
         begins_with_nothing::<V>();

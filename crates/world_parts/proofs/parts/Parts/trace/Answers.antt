@@ -19,4 +19,6 @@ returns-clause-trace g c =
     c.in_ok-state.ensures
 
 pub returns-clause-serial : goal.returns-clause-serial
-returns-clause-serial g c = λ o w reached h. serial_trace o w _ reached (returns-clause-trace g c o w reached h)
+returns-clause-serial g c = λ o w reached h.
+    serial_trace c.serial_worlds.ensures.serial c.traces.ensures.state c.numbers.ensures.half_done o w _ reached
+    (returns-clause-trace g c o w reached h)
