@@ -110,7 +110,7 @@ impl Session<u64> for Role {
                 for _ in 0..u64::MAX {
                     match client.atomically(1_000_000, &Take(jobs)) {
                         Ok((work, _)) => sum = sum.saturating_add(work),
-                        Err(Failure::GaveUp(Idle::NoneYet)) => yield_now(),
+                        Err(Failure::Aborted(Idle::NoneYet)) => yield_now(),
                         Err(_) => return (sum, client.tally()),
                     }
                 }

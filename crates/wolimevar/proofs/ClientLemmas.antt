@@ -1,15 +1,18 @@
 -- What a client, or a store, has of the attempts of a body.
-use Rattle.std.proofs.Common.{◌≡◌, ℕ, ◌≤◌, List, [], ◌∷◌, ◌++◌, Option, Some, Ok, Err, refl, sym, ap, ◌∙◌, subst}
-use Rattle.std.specs.Prelude.{IfOk, IfSome, OnErr, Result}
+use Rattle.std.proofs.Common.{◌≡◌, ℕ, ◌<◌, ◌≤◌, List, [], ◌∷◌, ◌++◌, Option, Some, Ok, Err, refl, sym, ap, ◌∙◌, subst}
+use Rattle.std.specs.Prelude.{IfErr, IfOk, IfSome, OnErr, Result}
 use Rattle.seq_model.specs.declared.call.Call.{Call}
 use Rattle.seq_model.specs.declared.call.Reply.{Reply}
 use Rattle.seq_model.specs.declared.record.Record.{Record}
 use Rattle.seq_model.specs.declared.refusal.Refusal.{Refusal}
+use Rattle.seq_model.specs.declared.refusal.Refusal.TheVariants.{Ahead}
+use Rattle.replay_log.specs.Seats.{World}
 use Rattle.tx_table.specs.declared.seat.Seat.{Seat}
 use Rattle.tx_table.specs.declared.table.TxTable.{TxTable}
 use Rattle.tx_table.specs.Seated.{actor, view}
 use Rattle.transactions.specs.declared.seats.TxSeat.{TxSeat}
 use Rattle.transactions.specs.Ready.{IsReady}
+use Rattle.transactions.specs.Requests.{OnlyKnows}
 use Rattle.wolimevar.specs.Clients.{IsAtClient, shown, shown_at}
 use Rattle.wolimevar.specs.Ends.{ClientShown, EndsAs, HasGained, HasGainedNone}
 use Rattle.tx_table.specs.declared.view.TheConstants.{SHARES}
@@ -21,13 +24,19 @@ use Rattle.wolimevar.specs.declared.tally.Tally.{Tally}
 use Rattle.wolimevar.proofs.EndLemmas.{gained, gained_none}
 use Rattle.wolimevar.proofs.FrameLemmas.{at_client, of_seat_on, own_is}
 
+-- a clock below the number
+pub some_clock : {A : Type 0} (r : Result A Refusal) (clock number : ℕ) → IfErr r (λ cause. (cause ≡ Ahead clock) × (clock < number))
+    → IfErr r (λ cause. (c : ℕ) × ((cause ≡ Ahead c) × (c < number)))
+some_clock (Ok a) clock number h = tt
+some_clock (Err cause) clock number h = (clock, h)
+
 module _ {V : Type 0} where
   -- the seat of a client, and the client that it is with another
   pub client_on : (f : Option (Frame V)) (t : TxTable V) (seat : Option (TxSeat V)) (s u : TxSeat V) → IsAtClient f t seat
       → seat ≡ Some s → IsReady t u → GoesOn s.seat u.seat → IsAtClient f t (Some u)
   client_on f t seat s u h e ready goes =
       at_client f t u ready
-          (of_seat_on f t s u (subst (λ (x : TxSeat V). IfSome f (IsOfSeat t x)) (own_is seat h.own s h.is e) h.client.framed) goes)
+      (of_seat_on f t s u (subst (λ (x : TxSeat V). IfSome f (IsOfSeat t x)) (own_is seat h.own s h.is e) h.client.framed) goes)
 
   pub store_on : (t : TxTable V) (seat : Option (TxSeat V)) (s u : TxSeat V) → IsAtStore t seat → seat ≡ Some s → IsReady t u
       → (view u.seat).shares ≡ (view s.seat).shares → IsAtStore t (Some u)
@@ -42,46 +51,50 @@ module _ {V : Type 0} where
       → shown s.seat tally ≡ d
   shows_as seat s tally d v e = subst (λ (x : Option (TxSeat V)). shown_at x tally ≡ d) e v
 
-  pub store_shows : (t : TxTable V) (seat : Option (TxSeat V)) (s : TxSeat V) (tally : Tally) (d : StoreShown V)
-      → store_at t seat tally ≡ d → seat ≡ Some s → store_at t (Some s) tally ≡ d
-  store_shows t seat s tally d v e = subst (λ (x : Option (TxSeat V)). store_at t x tally ≡ d) e v
+  pub store_shows : (n : ℕ) (t : TxTable V) (seat : Option (TxSeat V)) (s : TxSeat V) (tally : Tally) (d : StoreShown V)
+      → store_at n t seat tally ≡ d → seat ≡ Some s → store_at n t (Some s) tally ≡ d
+  store_shows n t seat s tally d v e = subst (λ (x : Option (TxSeat V)). store_at n t x tally ≡ d) e v
 
-  module _ {A E : Type 0} (makes : A → List (Call V × Reply V) → Type 0) (gives_up : E → List (Call V × Reply V) → Type 0) (s u : Seat V)
-      where
-    pub ends_same : (r : Result (A × Record V) (Failure E)) → EndsAs makes gives_up s u r → actor u ≡ actor s
-    ends_same (Ok done) h = (gained makes gives_up s u (Ok done) h).0.same
-    ends_same (Err failure) h = (gained_none makes gives_up s u (Err failure) h).same
+  -- what is learnt keeps the client
+  pub learn_goes : (o : World V) (s u : Seat V) → OnlyKnows o s u → GoesOn s u
+  learn_goes o s u k = record { same = k.seat.1; shares = k.shares }
 
-    pub ends_goes : (r : Result (A × Record V) (Failure E)) → EndsAs makes gives_up s u r → GoesOn s u
-    ends_goes (Ok done) h =
-        record { same = (gained makes gives_up s u (Ok done) h).0.same; shares = (gained makes gives_up s u (Ok done) h).0.shares }
-    ends_goes (Err failure) h = record {
-      same = (gained_none makes gives_up s u (Err failure) h).same;
-      shares = (gained_none makes gives_up s u (Err failure) h).shares;
-    }
+  module _ {A E : Type 0} (makes : A → List (Call V × Reply V) → Type 0) (aborts : E → List (Call V × Reply V) → Type 0) (s u : Seat V)
+    where
+      pub ends_same : (r : Result (A × Record V) (Failure E)) → EndsAs makes aborts s u r → actor u ≡ actor s
+      ends_same (Ok done) h = (gained makes aborts s u (Ok done) h).0.same
+      ends_same (Err failure) h = (gained_none makes aborts s u (Err failure) h).same
 
-    pub ends_made : (r : Result (A × Record V) (Failure E)) → EndsAs makes gives_up s u r → IfOk r (λ done. makes done.0 done.1.calls)
-    ends_made (Ok done) h = (gained makes gives_up s u (Ok done) h).1
-    ends_made (Err failure) h = tt
+      pub ends_goes : (r : Result (A × Record V) (Failure E)) → EndsAs makes aborts s u r → GoesOn s u
+      ends_goes (Ok done) h =
+          record { same = (gained makes aborts s u (Ok done) h).0.same; shares = (gained makes aborts s u (Ok done) h).0.shares }
+      ends_goes (Err failure) h = record {
+        same = (gained_none makes aborts s u (Err failure) h).same;
+        shares = (gained_none makes aborts s u (Err failure) h).shares;
+      }
 
-    pub ends_one : (r : Result (A × Record V) (Failure E)) (tally : Tally) (d : ClientShown V) → shown s tally ≡ d
-        → EndsAs makes gives_up s u r → IfOk r (λ done. (view u).receipts ≡ d.receipts ++ (d.actor, done.1) ∷ [])
-    ends_one (Ok done) tally d v h =
-        subst (λ (x : ClientShown V). (view u).receipts ≡ x.receipts ++ (x.actor, done.1) ∷ []) v
-            (gained makes gives_up s u (Ok done) h).0.gains
-    ends_one (Err failure) tally d v h = tt
+      pub ends_made : (r : Result (A × Record V) (Failure E)) → EndsAs makes aborts s u r → IfOk r (λ done. makes done.0 done.1.calls)
+      ends_made (Ok done) h = (gained makes aborts s u (Ok done) h).1
+      ends_made (Err failure) h = tt
 
-    pub ends_last : (r : Result (A × Record V) (Failure E)) (tally : Tally) (d : ClientShown V) → shown s tally ≡ d
-        → EndsAs makes gives_up s u r → IfOk r (λ done. (d.last ≤ done.1.number) × (u.last ≡ done.1.number))
-    ends_last (Ok done) tally d v h = (
-      subst (λ (x : ClientShown V). x.last ≤ done.1.number) v (gained makes gives_up s u (Ok done) h).0.above,
-      (gained makes gives_up s u (Ok done) h).0.last,
-    )
-    ends_last (Err failure) tally d v h = tt
+      pub ends_one : (r : Result (A × Record V) (Failure E)) (tally : Tally) (d : ClientShown V) → shown s tally ≡ d
+          → EndsAs makes aborts s u r → IfOk r (λ done. (view u).receipts ≡ d.receipts ++ (d.actor, done.1) ∷ [])
+      ends_one (Ok done) tally d v h =
+          subst (λ (x : ClientShown V). (view u).receipts ≡ x.receipts ++ (x.actor, done.1) ∷ []) v
+          (gained makes aborts s u (Ok done) h).0.gains
+      ends_one (Err failure) tally d v h = tt
 
-    pub ends_none : (r : Result (A × Record V) (Failure E)) (tally : Tally) (d : ClientShown V) → shown s tally ≡ d
-        → EndsAs makes gives_up s u r → OnErr r (((view u).receipts ≡ d.receipts) × (u.last ≡ d.last))
-    ends_none (Ok done) tally d v h = tt
-    ends_none (Err failure) tally d v h =
-        let none = gained_none makes gives_up s u (Err failure) h in
-        (none.receipts ∙ ap (λ (x : ClientShown V). x.receipts) v, none.last ∙ ap (λ (x : ClientShown V). x.last) v)
+      pub ends_last : (r : Result (A × Record V) (Failure E)) (tally : Tally) (d : ClientShown V) → shown s tally ≡ d
+          → EndsAs makes aborts s u r → IfOk r (λ done. (d.last ≤ done.1.number) × (u.last ≡ done.1.number))
+      ends_last (Ok done) tally d v h = (
+        subst (λ (x : ClientShown V). x.last ≤ done.1.number) v (gained makes aborts s u (Ok done) h).0.above,
+        (gained makes aborts s u (Ok done) h).0.last,
+      )
+      ends_last (Err failure) tally d v h = tt
+
+      pub ends_none : (r : Result (A × Record V) (Failure E)) (tally : Tally) (d : ClientShown V) → shown s tally ≡ d
+          → EndsAs makes aborts s u r → OnErr r (((view u).receipts ≡ d.receipts) × (u.last ≡ d.last))
+      ends_none (Ok done) tally d v h = tt
+      ends_none (Err failure) tally d v h =
+          let none = gained_none makes aborts s u (Err failure) h in
+          (none.receipts ∙ ap (λ (x : ClientShown V). x.receipts) v, none.last ∙ ap (λ (x : ClientShown V). x.last) v)

@@ -16,15 +16,15 @@ module _ {V : Type 0} where
       → st ≡ record { words = ws; held = hs }
   contents_alike st ws hs e f =
       subst (λ (w : List ℕ). st ≡ record { words = w; held = hs }) e
-          (subst (λ (h : List (Held V)). st ≡ record { words = st.words; held = h }) f refl)
+      (subst (λ (h : List (Held V)). st ≡ record { words = st.words; held = h }) f refl)
 
-  pub close_left : (t : TxTable V) (seat : Option (TxSeat V)) (s : TxSeat V) (tally : Tally) (shown : StoreShown V) (c : Closed V)
-      (st : Contents V) → store_at t seat tally ≡ shown → seat ≡ Some s → closing.IsLeftBy (contents_in t) (view s.seat).receipts c
+  pub close_left : (n : ℕ) (t : TxTable V) (seat : Option (TxSeat V)) (s : TxSeat V) (tally : Tally) (shown : StoreShown V) (c : Closed V)
+      (st : Contents V) → store_at n t seat tally ≡ shown → seat ≡ Some s → closing.IsLeftBy (contents_in t) (view s.seat).receipts c
       → st.words ≡ (closing.state_of c).words → st.held ≡ (closing.state_of c).held → IsLeftBy shown st
-  close_left t seat s tally shown c st v is left e f =
-      let at : store_at t (Some s) tally ≡ shown = subst (λ (x : Option (TxSeat V)). store_at t x tally ≡ shown) is v in
+  close_left n t seat s tally shown c st v is left e f =
+      let at : store_at n t (Some s) tally ≡ shown = subst (λ (x : Option (TxSeat V)). store_at n t x tally ≡ shown) is v in
       let same : st ≡ closing.state_of c = contents_alike st (closing.state_of c).words (closing.state_of c).held e f in
-      let here : IsLeftBy (store_at t (Some s) tally) (closing.state_of c) = record {
+      let here : IsLeftBy (store_at n t (Some s) tally) (closing.state_of c) = record {
         order = left.order;
         same = left.same;
         in_order = left.in_order;
@@ -32,4 +32,4 @@ module _ {V : Type 0} where
         leaves = left.state;
       } in
       subst (λ (d : StoreShown V). IsLeftBy d st) at
-          (subst (λ (x : Contents V). IsLeftBy (store_at t (Some s) tally) x) (sym same) here)
+      (subst (λ (x : Contents V). IsLeftBy (store_at n t (Some s) tally) x) (sym same) here)

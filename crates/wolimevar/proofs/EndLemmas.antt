@@ -13,9 +13,9 @@ use Rattle.transactions.specs.declared.seats.TxSeat.{TxSeat}
 use Rattle.transactions.specs.Ready.{HasFinished}
 use Rattle.transactions.specs.Requests.{KeepsReceipts}
 use Rattle.wolimevar.specs.declared.failures.Failure.{Failure}
-use Rattle.wolimevar.specs.declared.failures.Failure.TheVariants.{Refused, GaveUp}
+use Rattle.wolimevar.specs.declared.failures.Failure.TheVariants.{Refused, Aborted}
 use Rattle.wolimevar.specs.Frames.{calls_made, calls_of}
-use Rattle.wolimevar.specs.Ends.{EndsAs, HasGained, HasGainedNone, IsTold}
+use Rattle.wolimevar.specs.Ends.{EndsAs, HasGained, HasGainedNone, IsAbortBy}
 
 module _ {V : Type 0} where
   pub gains_none : (s u : Seat V) → KeepsReceipts s u → HasGainedNone s u
@@ -33,7 +33,7 @@ module _ {V : Type 0} where
   pub committed : {A E : Type 0} (t : TxTable V) (s u : TxSeat V) (out : A) (r : Record V) (gave : Result A E) → Ok out ≡ gave
       → HasFinished t s u (Ok r)
       → EndsAs (λ out calls. (Ok out ≡ gave) × (calls ≡ calls_made (opening_of t) s.seat))
-          (λ e calls. (Err e ≡ gave) × (calls ≡ calls_made (opening_of t) s.seat)) s.seat u.seat (Ok (out, r))
+      (λ e calls. (Err e ≡ gave) × (calls ≡ calls_made (opening_of t) s.seat)) s.seat u.seat (Ok (out, r))
   unfolding EndsAs
   committed t s u out r gave is has = (
     record {
@@ -46,30 +46,30 @@ module _ {V : Type 0} where
     (is, sym (ap calls_of has.commits.calls)),
   )
 
-  module _ {A E : Type 0} (makes : A → List (Call V × Reply V) → Type 0) (gives_up : E → List (Call V × Reply V) → Type 0) where
+  module _ {A E : Type 0} (makes : A → List (Call V × Reply V) → Type 0) (aborts : E → List (Call V × Reply V) → Type 0) where
     -- a refusal
-    pub refused : (s u : Seat V) (cause : Refusal) → KeepsReceipts s u → EndsAs makes gives_up s u (Err (Refused cause))
+    pub refused : (s u : Seat V) (cause : Refusal) → KeepsReceipts s u → EndsAs makes aborts s u (Err (Refused cause))
     unfolding EndsAs
     refused s u cause k = (gains_none s u k, tt)
 
     -- a body that gave up
-    pub gave_up : (s u : Seat V) (e : E) (calls : List (Call V × Reply V)) → KeepsReceipts s u → gives_up e calls
-        → EndsAs makes gives_up s u (Err (GaveUp e))
+    pub aborted : (s u : Seat V) (e : E) (calls : List (Call V × Reply V)) → KeepsReceipts s u → aborts e calls
+        → EndsAs makes aborts s u (Err (Aborted e))
     unfolding EndsAs
-    gave_up s u e calls k h = (gains_none s u k, (calls, h))
+    aborted s u e calls k h = (gains_none s u k, (calls, h))
 
     -- the transaction began, and its calls were made, from s to m, and it ended from m to u
     pub attempted : (o : World V) (s m u : Seat V) (gave : Result A E) (r : Result (A × Record V) (Failure E))
-        → KeepsReceipts s m → IfOk gave (λ out. makes out (calls_made o m)) → IfErr gave (λ e. gives_up e (calls_made o m))
+        → KeepsReceipts s m → IfOk gave (λ out. makes out (calls_made o m)) → IfErr gave (λ e. aborts e (calls_made o m))
         → EndsAs (λ out calls. (Ok out ≡ gave) × (calls ≡ calls_made o m)) (λ e calls. (Err e ≡ gave) × (calls ≡ calls_made o m)) m u r
-        → EndsAs makes gives_up s u r
+        → EndsAs makes aborts s u r
     unfolding EndsAs
     attempted o s m u gave (Err (Refused cause)) k made fails ends = (none_since s m u k ends.0, tt)
-    attempted o s m u gave (Err (GaveUp e)) k made fails ends = (
+    attempted o s m u gave (Err (Aborted e)) k made fails ends = (
       none_since s m u k ends.0,
       (
         calls_made o m,
-        subst (λ (g : Result A E). IfErr g (λ x. gives_up x (calls_made o m))) (sym ends.1.1.0) fails,
+        subst (λ (g : Result A E). IfErr g (λ x. aborts x (calls_made o m))) (sym ends.1.1.0) fails,
       ),
     )
     attempted o s m u gave (Ok done) k made fails ends = (
@@ -81,15 +81,15 @@ module _ {V : Type 0} where
         last = ends.0.last;
       },
       (
-        let at : makes done.0 (calls_made o m) =
-            subst (λ (g : Result A E). IfOk g (λ out. makes out (calls_made o m))) (sym ends.1.0) made in
-        subst (makes done.0) (sym ends.1.1) at
-      ),
+          let at : makes done.0 (calls_made o m) =
+          subst (λ (g : Result A E). IfOk g (λ out. makes out (calls_made o m))) (sym ends.1.0) made in
+          subst (makes done.0) (sym ends.1.1) at
+          ),
     )
 
     -- an attempt in vain, and then another
     pub then_ends : (s m u : Seat V) (r : Result (A × Record V) (Failure E))
-        → HasGainedNone s m → EndsAs makes gives_up m u r → EndsAs makes gives_up s u r
+        → HasGainedNone s m → EndsAs makes aborts m u r → EndsAs makes aborts s u r
     unfolding EndsAs
     then_ends s m u (Err failure) k ends = (
       record {
@@ -112,18 +112,18 @@ module _ {V : Type 0} where
     )
 
     -- what an attempt came to, by its cases
-    pub gained : (s u : Seat V) (r : Result (A × Record V) (Failure E)) → EndsAs makes gives_up s u r
+    pub gained : (s u : Seat V) (r : Result (A × Record V) (Failure E)) → EndsAs makes aborts s u r
         → IfOk r (λ done. HasGained s u done.1 × makes done.0 done.1.calls)
     unfolding EndsAs
     gained s u (Ok done) h = h
     gained s u (Err failure) h = tt
 
-    pub gained_none : (s u : Seat V) (r : Result (A × Record V) (Failure E)) → EndsAs makes gives_up s u r → OnErr r (HasGainedNone s u)
+    pub gained_none : (s u : Seat V) (r : Result (A × Record V) (Failure E)) → EndsAs makes aborts s u r → OnErr r (HasGainedNone s u)
     unfolding EndsAs
     gained_none s u (Ok done) h = tt
     gained_none s u (Err failure) h = h.0
 
-    pub is_told : (s u : Seat V) (r : Result (A × Record V) (Failure E)) → EndsAs makes gives_up s u r → IfErr r (IsTold gives_up)
+    pub is_abort : (s u : Seat V) (r : Result (A × Record V) (Failure E)) → EndsAs makes aborts s u r → IfErr r (IsAbortBy aborts)
     unfolding EndsAs
-    is_told s u (Ok done) h = tt
-    is_told s u (Err failure) h = h.1
+    is_abort s u (Ok done) h = tt
+    is_abort s u (Err failure) h = h.1

@@ -100,8 +100,8 @@ module _ {V : Type 0} where
       → IsAtClient f t (Some s)
   new_client f t s is ready =
       at_client f t s ready
-          (subst (λ (g : Option (Frame V)). IfSome g (IsOfSeat t s)) (sym is)
-              (record { table = refl; since = record { same = refl; shares = refl } }))
+      (subst (λ (g : Option (Frame V)). IfSome g (IsOfSeat t s)) (sym is)
+      (record { table = refl; since = record { same = refl; shares = refl } }))
 
   goes_on : (m : Option (TxSeat V)) (s u : Seat V) → IfSome m (λ b. GoesOn b.seat s) → GoesOn s u → IfSome m (λ b. GoesOn b.seat u)
   goes_on None s u h k = h

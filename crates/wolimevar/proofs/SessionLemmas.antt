@@ -8,11 +8,11 @@ use Rattle.seq_model.specs.declared.record.Record.{Record}
 use Rattle.tx_table.specs.declared.table.TxTable.{TxTable}
 use Rattle.tx_table.specs.Seated.{view}
 use Rattle.transactions.specs.declared.seats.TxSeat.{TxSeat}
-use Rattle.wolimevar.specs.declared.sessions.Place.{Place}
-use Rattle.wolimevar.specs.Sessions.{AreServed, HasCome, IsServed, Waits, joined, receipts_at}
+use Rattle.wolimevar.specs.declared.sessions.Task.{Task}
+use Rattle.wolimevar.specs.Sessions.{AreServed, IsFinished, IsServed, IsWaiting, joined, receipts_at}
 use Rattle.wolimevar.proofs.FrameLemmas.{own_is}
 
--- what holds at each place holds place by place
+-- what holds at each task holds item by item
 pub zip_of : {A : Type 0} (R : A → A → Type 0) (xs ys : List A) → length ys ≡ length xs
     → ((i : ℕ) (d : A) → i < length xs → R (slice_index_or xs i d) (slice_index_or ys i d)) → AllZip R xs ys
 zip_of R [] [] e h = tt
@@ -63,67 +63,67 @@ whole_slice xs ys n e f = take_front xs (drop (length xs) ys) n (e ∙ sym f)
 
 module _ {V : Type 0} where
   -- the share of a seat that waits
-  pub one_share : {N O : Type 0} (t : TxTable V) (p : Place V N O) (s : TxSeat V) → Waits t p → p.seat ≡ Some s → (view s.seat).shares ≡ 1
+  pub one_share : {N O : Type 0} (t : TxTable V) (p : Task V N O) (s : TxSeat V) → IsWaiting t p → p.seat ≡ Some s → (view s.seat).shares ≡ 1
   one_share t p s h is = subst (λ (x : TxSeat V). (view x.seat).shares ≡ 1) (own_is p.seat h.own s h.seat is) h.share
 
 module _ {V N O : Type 0} (t : TxTable V) where
   -- the seats that are left to be joined, without the first
-  pub joined_first : (before after old : List (ℕ × Record V)) (p : Place V N O) (rest items all : List (Place V N O))
+  pub joined_first : (before after old : List (ℕ × Record V)) (p : Task V N O) (rest items all : List (Task V N O))
       → after ≡ before ++ receipts_at p.seat → items ≡ p ∷ rest
       → before ++ joined (map (λ q. receipts_at q.seat) items) ≡ old ++ joined (map (λ q. receipts_at q.seat) all)
       → after ++ joined (map (λ q. receipts_at q.seat) rest) ≡ old ++ joined (map (λ q. receipts_at q.seat) all)
   joined_first before after old p rest items all e is h =
-      let left : List (ℕ × Record V) = joined (map (λ (q : Place V N O). receipts_at q.seat) rest) in
+      let left : List (ℕ × Record V) = joined (map (λ (q : Task V N O). receipts_at q.seat) rest) in
       ap (λ (rs : List (ℕ × Record V)). rs ++ left) e
-          ∙ append_assoc before (receipts_at p.seat) left
-          ∙ ap (λ (ps : List (Place V N O)). before ++ joined (map (λ (q : Place V N O). receipts_at q.seat) ps)) (sym is)
-          ∙ h
+      ∙ append_assoc before (receipts_at p.seat) left
+      ∙ ap (λ (ps : List (Task V N O)). before ++ joined (map (λ (q : Task V N O). receipts_at q.seat) ps)) (sym is)
+      ∙ h
 
-  pub joined_behind : (old before after : List (ℕ × Record V)) (ps : List (Place V N O))
+  pub joined_behind : (old before after : List (ℕ × Record V)) (ps : List (Task V N O))
       → after ≡ before ++ joined (map (λ q. receipts_at q.seat) ps) → before ≡ old
       → after ≡ old ++ joined (map (λ q. receipts_at q.seat) ps)
   joined_behind old before after ps e is =
-      e ∙ ap (λ (rs : List (ℕ × Record V)). rs ++ joined (map (λ (q : Place V N O). receipts_at q.seat) ps)) is
+      e ∙ ap (λ (rs : List (ℕ × Record V)). rs ++ joined (map (λ (q : Task V N O). receipts_at q.seat) ps)) is
 
-  waits_more : (items : List (Place V N O)) (p : Place V N O) → Waits t p → All (Waits t) items → All (Waits t) (items ++ p ∷ [])
-  waits_more items p w h = All-append (Waits t) items (p ∷ []) h (All-cons (Waits t) p [] w (All-nil (Waits t)))
+  waits_more : (items : List (Task V N O)) (p : Task V N O) → IsWaiting t p → All (IsWaiting t) items → All (IsWaiting t) (items ++ p ∷ [])
+  waits_more items p w h = All-append (IsWaiting t) items (p ∷ []) h (All-cons (IsWaiting t) p [] w (All-nil (IsWaiting t)))
 
   -- what the first of them gave
-  pub given_first : (outs now : List O) (o : O) (p : Place V N O) (rest all : List (Place V N O)) → now ≡ outs ++ o ∷ [] → p.out ≡ Some o
+  pub given_first : (outs now : List O) (o : O) (p : Task V N O) (rest all : List (Task V N O)) → now ≡ outs ++ o ∷ [] → p.out ≡ Some o
       → map Some outs ++ map (λ q. q.out) (p ∷ rest) ≡ map (λ q. q.out) all → map Some now ++ map (λ q. q.out) rest ≡ map (λ q. q.out) all
   given_first outs now o p rest all is e h =
-      let ends : List (Option O) = map (λ (q : Place V N O). q.out) rest in
+      let ends : List (Option O) = map (λ (q : Task V N O). q.out) rest in
       ap (λ (l : List O). map Some l ++ ends) is
-          ∙ ap (λ (l : List (Option O)). l ++ ends) (map-append Some outs (o ∷ []))
-          ∙ append_assoc (map Some outs) (Some o ∷ []) ends
-          ∙ ap (λ (x : Option O). map Some outs ++ x ∷ ends) (sym e)
-          ∙ h
+      ∙ ap (λ (l : List (Option O)). l ++ ends) (map-append Some outs (o ∷ []))
+      ∙ append_assoc (map Some outs) (Some o ∷ []) ends
+      ∙ ap (λ (x : Option O). map Some outs ++ x ∷ ends) (sym e)
+      ∙ h
 
   -- one more waits
-  pub placed_more : (items now : List (Place V N O)) (ys : List N) (p : Place V N O) (y : N) → now ≡ items ++ p ∷ [] → Waits t p
-      → p.session ≡ Some y → All (Waits t) items → map (λ q. q.session) items ≡ map Some ys
-      → All (Waits t) now × (map (λ q. q.session) now ≡ map Some (ys ++ y ∷ []))
-  placed_more items now ys p y is w e h k = (
-    subst (All (Waits t)) (sym is) (waits_more items p w h),
-    ap (λ (qs : List (Place V N O)). map (λ q. q.session) qs) is
-        ∙ map-append (λ (q : Place V N O). q.session) items (p ∷ [])
+  pub prepared_more : (items now : List (Task V N O)) (ys : List N) (p : Task V N O) (y : N) → now ≡ items ++ p ∷ [] → IsWaiting t p
+      → p.session ≡ Some y → All (IsWaiting t) items → map (λ q. q.session) items ≡ map Some ys
+      → All (IsWaiting t) now × (map (λ q. q.session) now ≡ map Some (ys ++ y ∷ []))
+  prepared_more items now ys p y is w e h k = (
+    subst (All (IsWaiting t)) (sym is) (waits_more items p w h),
+    ap (λ (qs : List (Task V N O)). map (λ q. q.session) qs) is
+        ∙ map-append (λ (q : Task V N O). q.session) items (p ∷ [])
         ∙ (λ i. k i ++ e i ∷ [])
         ∙ sym (map-append Some ys (y ∷ [])),
   )
 
 module _ {V N O : Type 0} (t : TxTable V) (serves : N → O → List (ℕ × Record V) → Type 0) where
-  pub come : (p q : Place V N O) → IsServed t serves p q → HasCome t q
-  come p q h = h.come
+  pub finished : (p q : Task V N O) → IsServed t serves p q → IsFinished t q
+  finished p q h = h.finished
 
-  pub one_served : (p q : Place V N O) (n : N) (o : O) → IsServed t serves p q → p.session ≡ Some n → q.out ≡ Some o
+  pub one_served : (p q : Task V N O) (n : N) (o : O) → IsServed t serves p q → p.session ≡ Some n → q.out ≡ Some o
       → serves n o (receipts_at q.seat)
   one_served p q n o h is given =
-      let at : serves n o (view h.come.own.seat).receipts =
-          subst (λ x. serves x o (view h.come.own.seat).receipts) (some_same p.session h.session n h.waited is)
-              (subst (λ y. serves h.session y (view h.come.own.seat).receipts) (some_same q.out h.come.given o h.come.out given) h.served) in
-      subst (λ (s : Option (TxSeat V)). serves n o (receipts_at s)) (sym h.come.seat) at
+      let at : serves n o (view h.finished.own.seat).receipts =
+      subst (λ x. serves x o (view h.finished.own.seat).receipts) (some_same p.session h.session n h.waited is)
+      (subst (λ y. serves h.session y (view h.finished.own.seat).receipts) (some_same q.out h.finished.given o h.finished.out given) h.served) in
+      subst (λ (s : Option (TxSeat V)). serves n o (receipts_at s)) (sym h.finished.seat) at
 
-  pub all_served : (ps qs : List (Place V N O)) (ns : List N) (os : List O) → AllZip (IsServed t serves) ps qs
+  pub all_served : (ps qs : List (Task V N O)) (ns : List N) (os : List O) → AllZip (IsServed t serves) ps qs
       → map (λ p. p.session) ps ≡ map Some ns → map (λ q. q.out) qs ≡ map Some os
       → AreServed serves ns os (map (λ q. receipts_at q.seat) qs)
   all_served [] [] [] [] h is given = tt
@@ -139,5 +139,5 @@ module _ {V N O : Type 0} (t : TxTable V) (serves : N → O → List (ℕ × Rec
   )
 
   -- once all are served
-  pub come_all : (ps qs : List (Place V N O)) → AllZip (IsServed t serves) ps qs → All (HasCome t) qs
-  come_all ps qs h = zip_second (IsServed t serves) (HasCome t) ps qs come h
+  pub finished_all : (ps qs : List (Task V N O)) → AllZip (IsServed t serves) ps qs → All (IsFinished t) qs
+  finished_all ps qs h = zip_second (IsServed t serves) (IsFinished t) ps qs finished h

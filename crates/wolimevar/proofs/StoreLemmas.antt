@@ -1,5 +1,5 @@
 -- What a store has of the attempts of a body.
-use Rattle.std.proofs.Common.{◌≡◌, ℕ, List, [], ◌∷◌, ◌++◌, Some, Ok, Err, ap, ◌∙◌, subst}
+use Rattle.std.proofs.Common.{◌≡◌, ℕ, ◌≤◌, List, [], ◌∷◌, ◌++◌, Some, Ok, Err, ap, ◌∙◌, subst}
 use Rattle.std.specs.Prelude.{IfOk, OnErr, Result}
 use Rattle.seq_model.specs.declared.call.Call.{Call}
 use Rattle.seq_model.specs.declared.call.Reply.{Reply}
@@ -15,25 +15,34 @@ use Rattle.wolimevar.specs.Stores.{StoreShown}
 use Rattle.wolimevar.specs.StoreSeats.{store_at}
 use Rattle.wolimevar.proofs.EndLemmas.{gained, gained_none}
 
-module _ {V A E : Type 0} (makes : A → List (Call V × Reply V) → Type 0) (gives_up : E → List (Call V × Reply V) → Type 0) (t : TxTable V)
-    (s u : TxSeat V) (tally : Tally) where
-  pub store_one : (r : Result (A × Record V) (Failure E)) (d : StoreShown V) → store_at t (Some s) tally ≡ d
-      → EndsAs makes gives_up s.seat u.seat r → IfOk r (λ done. (a : ℕ) × ((view u.seat).receipts ≡ d.receipts ++ (a, done.1) ∷ []))
+module _ {V A E : Type 0} (makes : A → List (Call V × Reply V) → Type 0) (aborts : E → List (Call V × Reply V) → Type 0) (n : ℕ)
+    (t : TxTable V) (s u : TxSeat V) (tally : Tally) where
+  pub store_one : (r : Result (A × Record V) (Failure E)) (d : StoreShown V) → store_at n t (Some s) tally ≡ d
+      → EndsAs makes aborts s.seat u.seat r → IfOk r (λ done. (a : ℕ) × ((view u.seat).receipts ≡ d.receipts ++ (a, done.1) ∷ []))
   store_one (Ok done) d v h = (
     actor s.seat,
     subst (λ (x : StoreShown V). (view u.seat).receipts ≡ x.receipts ++ (actor s.seat, done.1) ∷ []) v
-        (gained makes gives_up s.seat u.seat (Ok done) h).0.gains,
+        (gained makes aborts s.seat u.seat (Ok done) h).0.gains,
   )
   store_one (Err failure) d v h = tt
 
-  pub store_none : (r : Result (A × Record V) (Failure E)) (d : StoreShown V) → store_at t (Some s) tally ≡ d
-      → EndsAs makes gives_up s.seat u.seat r → OnErr r ((view u.seat).receipts ≡ d.receipts)
+  pub store_none : (r : Result (A × Record V) (Failure E)) (d : StoreShown V) → store_at n t (Some s) tally ≡ d
+      → EndsAs makes aborts s.seat u.seat r → OnErr r (((view u.seat).receipts ≡ d.receipts) × (u.seat.last ≡ d.last))
   store_none (Ok done) d v h = tt
   store_none (Err failure) d v h =
-      (gained_none makes gives_up s.seat u.seat (Err failure) h).receipts ∙ ap (λ (x : StoreShown V). x.receipts) v
+      let none = gained_none makes aborts s.seat u.seat (Err failure) h in
+      (none.receipts ∙ ap (λ (x : StoreShown V). x.receipts) v, none.last ∙ ap (λ (x : StoreShown V). x.last) v)
+
+  pub store_last : (r : Result (A × Record V) (Failure E)) (d : StoreShown V) → store_at n t (Some s) tally ≡ d
+      → EndsAs makes aborts s.seat u.seat r → IfOk r (λ done. (d.last ≤ done.1.number) × (u.seat.last ≡ done.1.number))
+  store_last (Ok done) d v h = (
+    subst (λ (x : StoreShown V). x.last ≤ done.1.number) v (gained makes aborts s.seat u.seat (Ok done) h).0.above,
+    (gained makes aborts s.seat u.seat (Ok done) h).0.last,
+  )
+  store_last (Err failure) d v h = tt
 
 -- a run that is refused leaves the store as it was
-pub run_none : {V A E : Type 0} (r : Result A E) (t : TxTable V) (s u : TxSeat V) (tally : Tally) (d : StoreShown V)
-    → store_at t (Some s) tally ≡ d → OnErr r (u ≡ s) → OnErr r (store_at t (Some u) tally ≡ d)
-run_none (Ok a) t s u tally d v h = tt
-run_none (Err e) t s u tally d v h = ap (λ x. store_at t (Some x) tally) h ∙ v
+pub run_none : {V A E : Type 0} (r : Result A E) (n : ℕ) (t : TxTable V) (s u : TxSeat V) (tally : Tally) (d : StoreShown V)
+    → store_at n t (Some s) tally ≡ d → OnErr r (u ≡ s) → OnErr r (store_at n t (Some u) tally ≡ d)
+run_none (Ok a) n t s u tally d v h = tt
+run_none (Err e) n t s u tally d v h = ap (λ x. store_at n t (Some x) tally) h ∙ v

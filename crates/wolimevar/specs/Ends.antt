@@ -1,11 +1,11 @@
--- What the transactions of a body come to.
+-- How the transactions of a body end.
 use Rattle.std.specs.Prelude.{◌≡◌, ℕ, ◌≤◌, List, [], ◌∷◌, ◌++◌, Result, Ok, Err}
 use Rattle.seq_model.specs.declared.call.Call.{Call}
 use Rattle.seq_model.specs.declared.call.Reply.{Reply}
 use Rattle.seq_model.specs.declared.record.Record.{Record}
 use Rattle.seq_model.specs.declared.event.Request.{Request}
 use Rattle.wolimevar.specs.declared.failures.Failure.{Failure}
-use Rattle.wolimevar.specs.declared.failures.Failure.TheVariants.{Refused, GaveUp}
+use Rattle.wolimevar.specs.declared.failures.Failure.TheVariants.{Refused, Aborted}
 use Rattle.wolimevar.specs.declared.tally.Tally.{Tally}
 use Rattle.tx_table.specs.declared.seat.Seat.{Seat}
 use Rattle.tx_table.specs.Seated.{actor, view}
@@ -36,13 +36,13 @@ module _ {V : Type 0} where
     pub receipts : (view u).receipts ≡ (view s).receipts
     pub last : u.last ≡ s.last
 
-  -- a body that gave up by itself made such calls as led it to that
-  abbrev pub IsTold : {E : Type 0} → (E → List (Call V × Reply V) → Type 0) → Failure E → Type 0
-  IsTold gives_up (Refused cause) = Unit {0}
-  IsTold gives_up (GaveUp e) = (calls : List (Call V × Reply V)) × gives_up e calls
+  -- a body that aborts returns this error after such calls
+  abbrev pub IsAbortBy : {E : Type 0} → (E → List (Call V × Reply V) → Type 0) → Failure E → Type 0
+  IsAbortBy aborts (Refused cause) = Unit {0}
+  IsAbortBy aborts (Aborted e) = (calls : List (Call V × Reply V)) × aborts e calls
 
-  -- one receipt more, whose calls are such as led the body to what it gave; or none
+  -- one receipt more, after whose calls the body returned this value; or none
   unfoldable pub EndsAs : {A E : Type 0} → (A → List (Call V × Reply V) → Type 0) → (E → List (Call V × Reply V) → Type 0)
       → Seat V → Seat V → Result (A × Record V) (Failure E) → Type 0
-  EndsAs made gives_up s u (Ok done) = HasGained s u done.1 × made done.0 done.1.calls
-  EndsAs made gives_up s u (Err failure) = HasGainedNone s u × IsTold gives_up failure
+  EndsAs made aborts s u (Ok done) = HasGained s u done.1 × made done.0 done.1.calls
+  EndsAs made aborts s u (Err failure) = HasGainedNone s u × IsAbortBy aborts failure

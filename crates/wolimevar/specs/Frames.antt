@@ -12,6 +12,7 @@ use Rattle.transactions.specs.Ready.{HasBegunSince, IsReady, standing}
 use Rattle.driven_turns.specs.Requested.{requests_of}
 use Rattle.transactions.specs.Requests.{KeepsReceipts}
 use Rattle.wolimevar.specs.Asked.{HasAsked}
+use Rattle.wolimevar.specs.Made.{TransactionShown}
 
 module _ (V : Type 0) where
   -- a table, and the seat as it was when the transaction, or the client, began
@@ -33,6 +34,10 @@ module _ {V : Type 0} where
   -- the calls that the open transaction of a seat has made; where none is open, none
   abbrev pub calls_made : World V → Seat V → List (Call V × Reply V)
   calls_made o s = calls_of (standing o s)
+
+  -- what contracts see of a transaction at a store with this number
+  abbrev pub transaction_at : ℕ → World V → Seat V → TransactionShown V
+  transaction_at store o s = record { store = store; calls = calls_made o s }
 
   -- by calls alone, none of which has gained a receipt
   pub record HasMadeCalls (m s : Seat V) : Type 0 where

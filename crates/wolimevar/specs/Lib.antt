@@ -1,6 +1,6 @@
 pub mod Asked
-pub mod Frames
 pub mod Made
+pub mod Frames
 pub mod Ends
 pub mod Tallies
 pub mod Clients

@@ -1,4 +1,4 @@
--- What sessions come to, each with a seat of its own.
+-- What sessions finished to, each with a seat of its own.
 use Rattle.std.specs.Prelude.{◌≡◌, ◌⊎◌, ℕ, ◌≤◌, List, [], ◌∷◌, ◌++◌, Option, Some, None}
 use Rattle.seq_model.specs.declared.record.Record.{Record}
 use Rattle.seq_model.specs.declared.refusal.Refusal.{Refusal}
@@ -8,7 +8,7 @@ use Rattle.tx_table.specs.declared.view.TheConstants.{SHARES}
 use Rattle.tx_table.specs.Seated.{view}
 use Rattle.transactions.specs.declared.seats.TxSeat.{TxSeat}
 use Rattle.transactions.specs.Ready.{IsReady}
-use Rattle.wolimevar.specs.declared.sessions.Place.{Place}
+use Rattle.wolimevar.specs.declared.sessions.Task.{Task}
 
 -- Why sessions are not served: they are too many, or memory was wanting.
 abbrev pub IsWhy : ℕ → Refusal → Type 0
@@ -43,7 +43,7 @@ module _ {V : Type 0} where
 
   module _ {N O : Type 0} (t : TxTable V) where
     -- A session that waits: its seat is ready, with one share and no receipts.
-    pub record Waits (p : Place V N O) : Type 0 where
+    pub record IsWaiting (p : Task V N O) : Type 0 where
       pub own : TxSeat V
       pub seat : p.seat ≡ Some own
       pub ready : IsReady t own
@@ -53,7 +53,7 @@ module _ {V : Type 0} where
       pub session : p.session ≡ Some waiting
 
     -- One that was served: its seat is ready, with one share.
-    pub record HasCome (q : Place V N O) : Type 0 where
+    pub record IsFinished (q : Task V N O) : Type 0 where
       pub own : TxSeat V
       pub seat : q.seat ≡ Some own
       pub ready : IsReady t own
@@ -62,8 +62,8 @@ module _ {V : Type 0} where
       pub out : q.out ≡ Some given
 
     -- The session that waited so has given this, and these are its receipts.
-    pub record IsServed (serves : N → O → List (ℕ × Record V) → Type 0) (p q : Place V N O) : Type 0 where
-      pub come : HasCome q
+    pub record IsServed (serves : N → O → List (ℕ × Record V) → Type 0) (p q : Task V N O) : Type 0 where
+      pub finished : IsFinished q
       pub session : N
       pub waited : p.session ≡ Some session
-      pub served : serves session come.given (view come.own.seat).receipts
+      pub served : serves session finished.given (view finished.own.seat).receipts

@@ -10,14 +10,17 @@ use Rattle.transactions.specs.Ready.{IsReady}
 use Rattle.wolimevar.specs.Stores.{StoreShown}
 
 module _ {V : Type 0} where
-  abbrev pub store_at : TxTable V → Option (TxSeat V) → Tally → StoreShown V
-  store_at t (Some s) tally = record {
+  abbrev pub store_at : ℕ → TxTable V → Option (TxSeat V) → Tally → StoreShown V
+  store_at n t (Some s) tally = record {
+    number = n;
     opening = contents_in t;
     receipts = (view s.seat).receipts;
+    last = s.seat.last;
     asked = requests_of s.seat;
     tally = tally;
   }
-  store_at t None tally = record { opening = contents_in t; receipts = []; asked = []; tally = tally }
+  store_at n t None tally =
+      record { number = n; opening = contents_in t; receipts = []; last = 0; asked = []; tally = tally }
 
   -- its seat is there, and is ready, and has all shares
   pub record IsAtStore (t : TxTable V) (seat : Option (TxSeat V)) : Type 0 where

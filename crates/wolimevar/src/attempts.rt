@@ -1,4 +1,8 @@
 //! Attempts of a body, up to a commit.
+//!
+//! One attempt begins a transaction, runs the body in it, and commits it, or aborts it where the body returns an error. After a conflict it
+//! waits, and attempts the body again. The transaction owns the client's seat while it runs: so its type alone says to which transaction it
+//! belongs ([`crate::Scope`]).
 ghost use Rattle.std.specs.Prelude.{◌≡◌, IfErr, IfOk, Err, Ok, Some};
 ghost use Rattle.tx_table.specs.Seated.{opening_of};
 ghost use Rattle.driven_turns.specs.Requested.{requests_of};
@@ -10,7 +14,6 @@ ghost use Rattle.wolimevar.specs.Frames.{HasMadeCalls, calls_made};
 ghost use Rattle.wolimevar.specs.Tallies.{AreCounted};
 
 use crate::body::Body;
-use crate::conflicts::is_conflict;
 use crate::failures::Failure;
 use crate::scope::Scope;
 use crate::tally::Tally;
@@ -22,20 +25,20 @@ use std::thread::yield_now;
 use transactions::{Receipt, TxSeat};
 use tx_table::TxTable;
 
-/// After so many attempts a client yields where it spun before.
+/// From so many attempts on a client yields its thread between two of them; before, it spins.
 const SPINS: u64 = 10;
 
-/// Between two attempts it yields at most so often.
+/// It yields at most so often between two attempts.
 const YIELDS: u64 = 64;
 
-/// How a body has ended: with what refused its last call, and what the body gave.
+/// How a body ended: the refusal of its last call, and what the body returned.
 #[derive(Drop)]
 struct Ran<T, E> {
     refused: Option<Refusal>,
     gave: Result<T, E>,
 }
 
-/// Waits after so many attempts, longer after each up to a limit.
+/// Waits after so many attempts, longer after each, up to a limit.
 fn wait(attempts: u64) {
     if attempts < SPINS {
         for _ in 0..attempts * attempts {
@@ -48,12 +51,8 @@ fn wait(attempts: u64) {
     }
 }
 
-/// A transaction begins, a declared reader or one that may write.
-fn begin<V: Value>(
-    table: &TxTable<V>,
-    seat: &mut TxSeat<V>,
-    declared: bool,
-) -> Result<u64, Refusal>
+/// Begins a transaction: a declared reader, or one that may write.
+fn begin<V: Value>(table: &TxTable<V>, seat: &mut TxSeat<V>, declared: bool) -> Result<u64, Refusal>
     requires ready { IsReady table.now seat.old }
     ensures ready { IsReady table.now seat.new }
     ensures since { HasBegunSince table.now seat.new }
@@ -67,9 +66,10 @@ fn begin<V: Value>(
     }
 }
 
-/// The body runs in the open transaction of the seat, which comes back with the calls made.
+/// Runs the body in the open transaction of the seat, and returns the seat after the body's calls.
 fn run_in<V: Value, S: Scope<V>, B: Body<V>>(
     table: &TxTable<V>,
+    store: u32,
     seat: TxSeat<V>,
     body: &B,
 ) -> (TxSeat<V>, Ran<B::Out, B::Error>)
@@ -80,11 +80,12 @@ fn run_in<V: Value, S: Scope<V>, B: Body<V>>(
     ensures since { HasBegunSince table.now result.0 }
     ensures calls { HasMadeCalls seat.seat result.0.seat }
     ensures made { IfOk result.1.gave (λ out. B.makes body.now out (calls_made (opening_of table.now) result.0.seat)) }
-    ensures gives_up { IfErr result.1.gave (λ error. B.gives_up body.now error (calls_made (opening_of table.now) result.0.seat)) }
+    ensures aborts { IfErr result.1.gave (λ error. B.aborts body.now error (calls_made (opening_of table.now) result.0.seat)) }
 {
     let mut tx: Transaction<'_, V, S> = Transaction {
         table,
         seat,
+        store,
         refused: None,
         scope: PhantomData,
     };
@@ -92,15 +93,17 @@ fn run_in<V: Value, S: Scope<V>, B: Body<V>>(
     let Transaction {
         table: _,
         seat,
+        store: _,
         refused,
         scope: _,
     } = tx;
     (seat, Ran { refused, gave })
 }
 
-/// The body runs in the open transaction of the seat, as `run_in` has it.
+/// Runs the body in the open transaction of the seat, see `run_in`.
 fn run<V: Value, B: Body<V>>(
     table: &TxTable<V>,
+    store: u32,
     seat: TxSeat<V>,
     body: &B,
 ) -> (TxSeat<V>, Ran<B::Out, B::Error>)
@@ -110,13 +113,13 @@ fn run<V: Value, B: Body<V>>(
     ensures since { HasBegunSince table.now result.0 }
     ensures calls { HasMadeCalls seat.seat result.0.seat }
     ensures made { IfOk result.1.gave (λ out. B.makes body.now out (calls_made (opening_of table.now) result.0.seat)) }
-    ensures gives_up { IfErr result.1.gave (λ error. B.gives_up body.now error (calls_made (opening_of table.now) result.0.seat)) }
+    ensures aborts { IfErr result.1.gave (λ error. B.aborts body.now error (calls_made (opening_of table.now) result.0.seat)) }
 {
-    run_in::<V, Brand, B>(table, seat, body)
+    run_in::<V, Brand, B>(table, store, seat, body)
 }
 
-/// The transaction commits, or, where its body was refused or gave up, ends without a commit. One that a call has ended although its body
-/// went on is refused as that call was.
+/// Commits the transaction, or aborts it where its body returned an error. Where a call ended the transaction and the body went on, the
+/// answer is that call's refusal.
 fn finish<V: Value, T: Drop, E: Drop>(
     table: &TxTable<V>,
     seat: &mut TxSeat<V>,
@@ -141,13 +144,13 @@ fn finish<V: Value, T: Drop, E: Drop>(
             seat.abort(table);
             match refused {
                 Some(cause) => Err(Failure::Refused(cause)),
-                None => Err(Failure::GaveUp(error)),
+                None => Err(Failure::Aborted(error)),
             }
         }
     }
 }
 
-/// What refused a commit: where a call has ended the transaction before, that call's refusal.
+/// The refusal of a commit. Where an earlier call has ended the transaction, it is that call's refusal.
 fn first_refusal(refused: Option<Refusal>, cause: Refusal) -> Refusal {
     match cause {
         Refusal::NoTransaction => refused.unwrap_or(cause),
@@ -155,50 +158,56 @@ fn first_refusal(refused: Option<Refusal>, cause: Refusal) -> Refusal {
     }
 }
 
-/// One attempt of a body, as one transaction.
+/// One attempt of a body.
 fn attempt<V: Value, B: Body<V>>(
     table: &TxTable<V>,
+    store: u32,
     seat: TxSeat<V>,
     body: &B,
     declared: bool,
 ) -> (TxSeat<V>, Result<(B::Out, Receipt<V>), Failure<B::Error>>)
     requires ready { IsReady table.now seat }
     ensures ready { IsReady table.now result.0 }
-    ensures ends { EndsAs (B.makes body.now) (B.gives_up body.now) seat.seat result.0.seat result.1 }
+    ensures ends { EndsAs (B.makes body.now) (B.aborts body.now) seat.seat result.0.seat result.1 }
     ensures asks { HasAsked declared (requests_of seat.seat) (requests_of result.0.seat) }
 {
     let mut seat = seat;
     if let Err(cause) = begin(table, &mut seat, declared) {
         return (seat, Err(Failure::Refused(cause)));
     }
-    let (mut seat, ran) = run(table, seat, body);
+    let (mut seat, ran) = run(table, store, seat, body);
     let ended = finish(table, &mut seat, ran, declared);
     (seat, ended)
 }
 
-/// Attempts of a body up to a commit: at most so many, and one at least. After one that others stood in the way of comes the next; any
-/// other refusal is the last, and so is a body that gives up. Each attempt is counted.
+/// Attempts a body until it commits: at most so many times, and once at least. Only a conflict is followed by another attempt. Each attempt
+/// is counted.
 pub(crate) fn retry<V: Value, B: Body<V>>(
     table: &TxTable<V>,
+    store: u32,
     seat: TxSeat<V>,
     tally: Tally,
     body: &B,
     declared: bool,
     tries: u64,
-) -> (TxSeat<V>, Tally, Result<(B::Out, Receipt<V>), Failure<B::Error>>)
+) -> (
+    TxSeat<V>,
+    Tally,
+    Result<(B::Out, Receipt<V>), Failure<B::Error>>,
+)
     requires ready { IsReady table.now seat }
     ensures ready { IsReady table.now result.0 }
-    ensures ends { EndsAs (B.makes body.now) (B.gives_up body.now) seat.seat result.0.seat result.2 }
+    ensures ends { EndsAs (B.makes body.now) (B.aborts body.now) seat.seat result.0.seat result.2 }
     ensures asks { HasAsked declared (requests_of seat.seat) (requests_of result.0.seat) }
     ensures counted { AreCounted tries tally result.1 result.2 }
 {
-    let (mut seat, mut ended) = attempt(table, seat, body, declared);
+    let (mut seat, mut ended) = attempt(table, store, seat, body, declared);
     let mut counted = tally.with_end(&ended);
     'tries: for i in 1..tries {
         match ended {
-            Err(Failure::Refused(cause)) if is_conflict(cause) => {
+            Err(Failure::Refused(cause)) if cause.is_conflict() => {
                 wait(i);
-                (seat, ended) = attempt(table, seat, body, declared);
+                (seat, ended) = attempt(table, store, seat, body, declared);
                 counted = counted.with_end(&ended);
             }
             _ => return (seat, counted, ended),

@@ -1,4 +1,4 @@
-//! A multiset, as transactions call it.
+//! The handle of a multiset.
 ghost use Rattle.std.specs.Prelude.{◌≡◌, IfOk};
 ghost use Rattle.seq_model.specs.declared.call.Op.TheVariants as op;
 ghost use Rattle.seq_model.specs.declared.call.Reply.TheVariants as replies;
@@ -10,17 +10,19 @@ use crate::scope::Scope;
 use crate::transaction::Transaction;
 use seq_model::{Op, Refusal, Value};
 
-/// A multiset of numbers.
+/// A multiset of `u64` elements.
 #[derive(Clone, Copy)]
 pub struct Bag {
+    pub(crate) store: u32,
     pub(crate) number: u32,
 }
 
 impl Bag {
-    pub(crate) fn of(number: u32) -> Bag
-        ensures { result.number ≡ number }
+    pub(crate) fn of(store: u32, number: u32) -> Bag
+        ensures store { result.store ≡ store }
+        ensures number { result.number ≡ number }
     {
-        Bag { number }
+        Bag { store, number }
     }
 
     /// How many copies of the element the multiset has.
@@ -29,33 +31,33 @@ impl Bag {
         tx: &mut Transaction<'_, V, S>,
         element: u64,
     ) -> Result<u64, Refusal>
-        ensures { IfOk result (λ told. HasMade tx.old self.now.number (op.Count element) (replies.Number told) tx.new) }
+        ensures { IfOk result (λ count. HasMade tx.old self.now.store self.now.number (op.Count element) (replies.Number count) tx.new) }
     {
-        let reply = tx.call(Op::Count(element), self.number)?;
+        let reply = tx.call(self.store, self.number, Op::Count(element))?;
         number_in(reply)
     }
 
-    /// One more copy of the element, where there is room.
+    /// Adds one copy of the element. [`Full`] where it has 4,294,967,295 copies already.
     pub fn add<V: Value, S: Scope<V>>(
         &self,
         tx: &mut Transaction<'_, V, S>,
         element: u64,
     ) -> Result<Result<(), Full>, Refusal>
-        ensures { IfOk result (λ told. HasMade tx.old self.now.number (op.Add element) (room_reply told) tx.new) }
+        ensures { IfOk result (λ added. HasMade tx.old self.now.store self.now.number (op.Add element) (room_reply added) tx.new) }
     {
-        let reply = tx.call(Op::Add(element), self.number)?;
+        let reply = tx.call(self.store, self.number, Op::Add(element))?;
         room_in(reply)
     }
 
-    /// One copy less of the element, and whether there was one.
+    /// Takes one copy of the element out, and returns whether there was one.
     pub fn take<V: Value, S: Scope<V>>(
         &self,
         tx: &mut Transaction<'_, V, S>,
         element: u64,
     ) -> Result<bool, Refusal>
-        ensures { IfOk result (λ told. HasMade tx.old self.now.number (op.Take element) (yes_reply told) tx.new) }
+        ensures { IfOk result (λ taken. HasMade tx.old self.now.store self.now.number (op.Take element) (yes_reply taken) tx.new) }
     {
-        let reply = tx.call(Op::Take(element), self.number)?;
+        let reply = tx.call(self.store, self.number, Op::Take(element))?;
         yes_in(reply)
     }
 }

@@ -5,26 +5,33 @@ use crate::scope::Scope;
 use crate::transaction::Transaction;
 use seq_model::Refusal;
 
-/// What runs as one transaction, again and again until it commits. It may run more often than once, so all that it changes should be the
-/// transaction's. A refusal of a call goes on by `?`; a body that ends so is begun anew where the refusal is a conflict. A body that gives up
-/// by itself does so by an error of its own, which is told apart from a refusal ([`crate::Failure`]); one that never does has
-/// `type Error = Refusal`.
+/// What runs as one transaction: straight code over its calls, with loops and helper functions.
 ///
-/// Who wants a proof of what the transaction was says so by `makes`: what the body gave, and the calls that the transaction has made; and by
-/// `gives_up` of the error that it gave.
+/// - A refusal of a call is passed on by `?`. After a conflict the body is attempted again, from its beginning: so it may run more than once,
+///   and should change nothing but what the transaction changes.
+/// - A body aborts by returning an error of its own (`Error`), which reaches the caller as [`crate::Failure::Aborted`]; what it changed is
+///   undone. A body that never does so has `type Error = Refusal`.
+/// - What it returns (`Out`) reaches the caller once the transaction has committed.
+///
+/// A helper function over the transaction takes any scope: `fn total<S: Scope<V>>(tx: &mut Transaction<'_, V, S>) -> Result<u64, Refusal>`.
+///
+/// For a proof of what transactions do, define `makes` (the body, what it returned, and the calls that the transaction made, each with its
+/// reply) or `aborts` (the same of an error that it returned). Left out, they say nothing.
 pub trait Body<V> {
     ghost use Rattle.std.specs.Prelude.{List, ⊤};
     ghost use Rattle.seq_model.specs.declared.call.Call.{Call as ACall};
     ghost use Rattle.seq_model.specs.declared.call.Reply.{Reply as AReply};
 
+    /// What the body returns.
     type Out: Drop;
+    /// Why it may abort.
     type Error: From<Refusal> + Drop;
 
     ghost makes: { Self → Self.Out → List (ACall V × AReply V) → Type 0 } = { λ _ _ _. ⊤ };
 
-    ghost gives_up: { Self → Self.Error → List (ACall V × AReply V) → Type 0 } = { λ _ _ _. ⊤ };
+    ghost aborts: { Self → Self.Error → List (ACall V × AReply V) → Type 0 } = { λ _ _ _. ⊤ };
 
     fn run<S: Scope<V>>(&self, tx: &mut Transaction<'_, V, S>) -> Result<Self::Out, Self::Error>
-        ensures makes { IfOk result (λ out. makes self.now out tx.new) }
-        ensures gives_up { IfErr result (λ error. gives_up self.now error tx.new) };
+        ensures makes { IfOk result (λ out. makes self.now out tx.new.calls) }
+        ensures aborts { IfErr result (λ error. aborts self.now error tx.new.calls) };
 }

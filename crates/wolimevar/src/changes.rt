@@ -1,10 +1,13 @@
-//! Changes that may find no room.
+//! Changes that may find a collection full.
 ghost use Rattle.std.specs.Prelude.{◌≡◌};
 ghost use Rattle.seq_model.specs.declared.refusal.Refusal.TheVariants.{TooLong};
 
 use seq_model::Refusal;
 
-/// One more would pass the limit of the collection: nothing was changed.
+/// One more would pass the limit of the collection: nothing was changed, and the transaction continues.
+///
+/// So a change returns a result in a result: `queue.enqueue(tx, item)??` aborts with `TooLong` where the queue is full, and
+/// `if queue.enqueue(tx, item)?.is_err() { .. }` continues otherwise.
 #[derive(Clone, Copy, Debug, PartialEq, Eq)]
 pub struct Full;
 

@@ -1,9 +1,10 @@
 //! A client of a store.
-ghost use Rattle.std.specs.Prelude.{◌≡◌, ◌≤◌, ◌∷◌, ◌++◌, [], IfErr, IfOk, IfSome, OnErr, Some, false, true};
+ghost use Rattle.std.specs.Prelude.{◌≡◌, ◌<◌, ◌≤◌, ◌∷◌, ◌++◌, [], IfErr, IfOk, IfSome, OnErr, OnOk, Some, false, max, true};
+ghost use Rattle.seq_model.specs.declared.refusal.Refusal.TheVariants.{Ahead};
 ghost use Rattle.tx_table.specs.Seated.{view};
 ghost use Rattle.transactions.specs.Ready.{IsReady};
 ghost use Rattle.wolimevar.specs.Asked.{HasAsked};
-ghost use Rattle.wolimevar.specs.Ends.{IsTold};
+ghost use Rattle.wolimevar.specs.Ends.{IsAbortBy};
 ghost use Rattle.wolimevar.specs.Frames.{ComesBack};
 ghost use Rattle.wolimevar.specs.Tallies.{AreCounted};
 
@@ -12,17 +13,21 @@ use crate::body::Body;
 use crate::failures::Failure;
 use crate::scope::Scope;
 use crate::tally::Tally;
-use seq_model::Value;
+use seq_model::{Refusal, Value};
 use std::marker::{Model, PhantomData};
 use transactions::{Receipt, TxSeat};
 use tx_table::TxTable;
 
-/// A client of a store: it runs one transaction after another. Contracts see its number among the actors, its last number, and its
-/// receipts.
+/// A client of a store, which runs one transaction after another. Each session of [`crate::Store::run`] has one.
+///
+/// Contracts see the number of its actor (each client has its own), the last number that it committed or learnt, its receipts (the first
+/// one first), the requests of its actor, and the counts of its attempts.
 #[derive(Drop)]
 pub struct Client<'t, V, S: Scope<V>> {
     pub(crate) table: &'t TxTable<V>,
-    /// It is out only while a transaction runs.
+    /// The number of its store.
+    pub(crate) store: u32,
+    /// It is `None` only while a transaction runs.
     pub(crate) seat: Option<TxSeat<V>>,
     pub(crate) tally: Tally,
     pub(crate) scope: PhantomData<S>,
@@ -41,13 +46,14 @@ impl<'t, V, S: Scope<V>> Model for Client<'t, V, S> {
 }
 
 impl<'t, V: Value, S: Scope<V>> Client<'t, V, S> {
-    pub(crate) fn of(table: &'t TxTable<V>, seat: TxSeat<V>) -> Client<'t, V, S>
+    pub(crate) fn of(table: &'t TxTable<V>, store: u32, seat: TxSeat<V>) -> Client<'t, V, S>
         requires ready { IsReady table.now seat }
         requires frame { S.frame ≡ Some (record { table = table.now; begun = Some seat }) }
         ensures { result.receipts ≡ (view seat.seat).receipts }
     {
         Client {
             table,
+            store,
             seat: Some(seat),
             tally: Tally::new(),
             scope: PhantomData,
@@ -60,6 +66,7 @@ impl<'t, V: Value, S: Scope<V>> Client<'t, V, S> {
     {
         let Client {
             table: _,
+            store: _,
             seat,
             tally: _,
             scope: _,
@@ -70,9 +77,11 @@ impl<'t, V: Value, S: Scope<V>> Client<'t, V, S> {
         }
     }
 
-    /// The body as one transaction, which may write: at most so many attempts, and one at least, until it commits. It gives what the body
-    /// gave, and the receipt, which is the one that the client gains. Where it is refused, as the last attempt was, or gives up by itself,
-    /// the client gains none: by a conflict once the attempts are used up, by anything else at once.
+    /// Runs the body as one transaction, which may write, and returns what the body returned, with the transaction's receipt.
+    ///
+    /// After a conflict ([`Refusal::is_conflict`]) it waits and attempts the body again, `tries` times in all, and once at least. Any other
+    /// refusal, and an error of the body's own, is returned at once ([`Failure`]). Then the transaction has changed nothing, and the client
+    /// has no receipt more.
     pub fn atomically<B: Body<V>>(
         &mut self,
         tries: u64,
@@ -83,14 +92,16 @@ impl<'t, V: Value, S: Scope<V>> Client<'t, V, S> {
         ensures made { IfOk result (λ done. B.makes body.now done.0 done.1.calls) }
         ensures last { IfOk result (λ done. (self.old.last ≤ done.1.number) × (self.new.last ≡ done.1.number)) }
         ensures none { OnErr result ((self.new.receipts ≡ self.old.receipts) × (self.new.last ≡ self.old.last)) }
-        ensures gives_up { IfErr result (IsTold (B.gives_up body.now)) }
+        ensures aborts { IfErr result (IsAbortBy (B.aborts body.now)) }
         ensures asks { HasAsked false self.old.asked self.new.asked }
         ensures counted { AreCounted tries self.old.tally self.new.tally result }
     {
         self.retry_as(tries, body, false)
     }
 
-    /// The body as one declared reader, as `atomically` has it: a change is `NoSuch` in it, and its reads are as many as its calls may be.
+    /// Runs the body as one declared reader, see [`Client::atomically`]. A call that changes something is `NoSuch` in it. It keeps no read
+    /// set, so it may read as much as its calls allow, and it commits without a lock; but a location that others change meanwhile refuses it
+    /// (`Moved`), so a long reader beside many writers needs more tries.
     pub fn look<B: Body<V>>(
         &mut self,
         tries: u64,
@@ -101,7 +112,7 @@ impl<'t, V: Value, S: Scope<V>> Client<'t, V, S> {
         ensures made { IfOk result (λ done. B.makes body.now done.0 done.1.calls) }
         ensures last { IfOk result (λ done. (self.old.last ≤ done.1.number) × (self.new.last ≡ done.1.number)) }
         ensures none { OnErr result ((self.new.receipts ≡ self.old.receipts) × (self.new.last ≡ self.old.last)) }
-        ensures gives_up { IfErr result (IsTold (B.gives_up body.now)) }
+        ensures aborts { IfErr result (IsAbortBy (B.aborts body.now)) }
         ensures asks { HasAsked true self.old.asked self.new.asked }
         ensures counted { AreCounted tries self.old.tally self.new.tally result }
     {
@@ -119,13 +130,15 @@ impl<'t, V: Value, S: Scope<V>> Client<'t, V, S> {
         ensures made { IfOk result (λ done. B.makes body.now done.0 done.1.calls) }
         ensures last { IfOk result (λ done. (self.old.last ≤ done.1.number) × (self.new.last ≡ done.1.number)) }
         ensures none { OnErr result ((self.new.receipts ≡ self.old.receipts) × (self.new.last ≡ self.old.last)) }
-        ensures gives_up { IfErr result (IsTold (B.gives_up body.now)) }
+        ensures aborts { IfErr result (IsAbortBy (B.aborts body.now)) }
         ensures asks { HasAsked declared self.old.asked self.new.asked }
         ensures counted { AreCounted tries self.old.tally self.new.tally result }
     {
         match self.seat.take() {
             Some(seat) => {
-                let (seat, tally, ended) = retry(self.table, seat, self.tally, body, declared, tries);
+                let (seat, tally, ended) = retry(
+                    self.table, self.store, seat, self.tally, body, declared, tries,
+                );
                 self.seat = Some(seat);
                 self.tally = tally;
                 ended
@@ -134,19 +147,42 @@ impl<'t, V: Value, S: Scope<V>> Client<'t, V, S> {
         }
     }
 
-    /// How the attempts of this client ended.
+    /// How the attempts of this client ended, counted.
     pub fn tally(&self) -> Tally
         ensures { result ≡ self.now.tally }
     {
         self.tally
     }
 
-    /// The greatest number that this client committed; 0 at first.
+    /// The greatest number that this client committed or learnt; 0 at first. Numbers are in commit order: what has this number, or a lower
+    /// one, is seen by the client's next transaction.
     pub fn last_number(&self) -> u64
         ensures { result ≡ self.now.last }
     {
         match &self.seat {
             Some(seat) => seat.last_number(),
+            None => unreachable!(),
+        }
+    }
+
+    /// Learns the number of a commit of another client of this store: the client's next transaction begins at it or above, so it sees that
+    /// commit. `Ahead` where the store's clock is below the number, which is of no commit here; then nothing is learnt.
+    pub fn learn(&mut self, number: u64) -> Result<(), Refusal>
+        ensures same { self.new.actor ≡ self.old.actor }
+        ensures receipts { self.new.receipts ≡ self.old.receipts }
+        ensures asks { self.new.asked ≡ self.old.asked }
+        ensures counts { self.new.tally ≡ self.old.tally }
+        ensures learns { OnOk result (self.new.last ≡ max self.old.last number) }
+        ensures none { OnErr result (self.new.last ≡ self.old.last) }
+        ensures ahead { IfErr result (λ cause. (clock : _) × ((cause ≡ Ahead clock) × (clock < number))) }
+    {
+        match self.seat.take() {
+            Some(seat) => {
+                let mut seat = seat;
+                let learnt = seat.learn(self.table, number);
+                self.seat = Some(seat);
+                learnt
+            }
             None => unreachable!(),
         }
     }

@@ -1,4 +1,4 @@
-//! What a store is to open with.
+//! What a store opens with.
 ghost use Rattle.std.specs.Prelude.{◌≡◌, IfOk, Some, map, slice_get};
 ghost use Rattle.seq_model.specs.declared.held.Held.TheVariants as held;
 
@@ -13,91 +13,124 @@ use seq_model::{Counts, Entries, Held, Items, Memory, QueueItems, Refusal, Shape
 use std::alloc::Global;
 use transactions::TxSeat;
 
-/// A collection, and how many stripes it is in. Calls on different stripes don't conflict.
+/// A collection: how many stripes it is in, and what it holds at first.
 #[derive(Drop)]
-pub(crate) struct Placed<V> {
+pub(crate) struct Collection<V> {
     pub(crate) stripes: u32,
     pub(crate) held: Held<V>,
 }
 
-/// What a store is to open with. Each word and each collection that is laid out gives a handle, by which transactions call it.
+/// What a store opens with. Each word and each collection that is added returns its handle, by which transactions call it.
+///
+/// A collection is in one stripe or more, a power of two. Calls on different stripes of it don't conflict, so more stripes let more
+/// transactions commit beside each other; each stripe is one location more to lock where a call needs them all.
 #[derive(Drop)]
 pub struct Layout<V> {
     pub(crate) alloc: Global,
+    pub(crate) store: u32,
     pub(crate) words: Vec<u64>,
-    pub(crate) placed: Vec<Placed<V>>,
+    pub(crate) collections: Vec<Collection<V>>,
 }
 
 impl<V: Value> Layout<V> {
-    pub fn new(alloc: Global) -> Layout<V> {
+    /// An empty layout, whose store has the number 0.
+    pub fn new(alloc: Global) -> Layout<V>
+        ensures store { result.store ≡ 0 }
+    {
+        Layout::numbered(alloc, 0)
+    }
+
+    /// An empty layout, whose store has this number. A program with several stores gives each another number: a handle is `NoSuch` at a store
+    /// of another number.
+    pub fn numbered(alloc: Global, number: u32) -> Layout<V>
+        ensures store { result.store ≡ number }
+    {
         Layout {
             alloc,
+            store: number,
             words: Vec::new(alloc),
-            placed: Vec::new(alloc),
+            collections: Vec::new(alloc),
         }
     }
 
-    fn place(&mut self, stripes: u32, held: Held<V>) -> Result<u32, Refusal>
-        ensures { IfOk result (λ number. slice_get (map (λ p. p.held) self.new.placed.items) number ≡ Some held) }
+    fn add(&mut self, stripes: u32, held: Held<V>) -> Result<u32, Refusal>
+        ensures same { self.new.store ≡ self.old.store }
+        ensures holds { IfOk result (λ number. slice_get (map (λ c. c.held) self.new.collections.items) number ≡ Some held) }
     {
-        let Ok(number) = u32::try_from(self.placed.len()) else {
+        let Ok(number) = u32::try_from(self.collections.len()) else {
             return Err(Refusal::TooLong);
         };
-        self.placed.push(Placed { stripes, held })?;
+        self.collections.push(Collection { stripes, held })?;
         Ok(number)
     }
 
-    /// A word that holds this number at first. `TooLong` beyond 4,294,967,295 words.
+    /// Adds a word that holds this number at first. `TooLong` beyond 4,294,967,295 words; `OutOfMemory` where an allocation fails.
     pub fn word(&mut self, number: u64) -> Result<Word, Refusal>
-        ensures { IfOk result (λ word. slice_get self.new.words.items word.number ≡ Some number) }
+        ensures same { self.new.store ≡ self.old.store }
+        ensures store { IfOk result (λ handle. handle.store ≡ self.new.store) }
+        ensures holds { IfOk result (λ handle. slice_get self.new.words.items handle.number ≡ Some number) }
     {
-        let Ok(place) = u32::try_from(self.words.len()) else {
+        let Ok(next) = u32::try_from(self.words.len()) else {
             return Err(Refusal::TooLong);
         };
         self.words.push(number)?;
-        Ok(Word::of(place))
+        Ok(Word::of(self.store, next))
     }
 
-    /// A map that holds these entries at first.
+    /// Adds a map that holds these entries at first. Refused as `word` is.
     pub fn map(&mut self, stripes: u32, entries: Entries<V>) -> Result<Map<V>, Refusal>
-        ensures { IfOk result (λ handle. slice_get (map (λ p. p.held) self.new.placed.items) handle.number ≡ Some (held.Map entries)) }
+        ensures same { self.new.store ≡ self.old.store }
+        ensures store { IfOk result (λ handle. handle.store ≡ self.new.store) }
+        ensures holds { IfOk result (λ handle. slice_get (map (λ c. c.held) self.new.collections.items) handle.number ≡ Some (held.Map entries)) }
     {
-        Ok(Map::of(self.place(stripes, Held::Map(entries))?))
+        let number = self.add(stripes, Held::Map(entries))?;
+        Ok(Map::of(self.store, number))
     }
 
-    /// A multiset that holds these counts at first.
+    /// Adds a multiset that holds these counts at first. Refused as `word` is.
     pub fn bag(&mut self, stripes: u32, counts: Counts) -> Result<Bag, Refusal>
-        ensures { IfOk result (λ handle. slice_get (map (λ p. p.held) self.new.placed.items) handle.number ≡ Some (held.Bag counts)) }
+        ensures same { self.new.store ≡ self.old.store }
+        ensures store { IfOk result (λ handle. handle.store ≡ self.new.store) }
+        ensures holds { IfOk result (λ handle. slice_get (map (λ c. c.held) self.new.collections.items) handle.number ≡ Some (held.Bag counts)) }
     {
-        Ok(Bag::of(self.place(stripes, Held::Bag(counts))?))
+        let number = self.add(stripes, Held::Bag(counts))?;
+        Ok(Bag::of(self.store, number))
     }
 
-    /// A priority queue that holds these counts at first.
+    /// Adds a priority queue that holds these counts at first. Refused as `word` is.
     pub fn priority_queue(&mut self, stripes: u32, counts: Counts) -> Result<PriorityQueue, Refusal>
-        ensures { IfOk result (λ handle. slice_get (map (λ p. p.held) self.new.placed.items) handle.number ≡ Some (held.Pq counts)) }
+        ensures same { self.new.store ≡ self.old.store }
+        ensures store { IfOk result (λ handle. handle.store ≡ self.new.store) }
+        ensures holds { IfOk result (λ handle. slice_get (map (λ c. c.held) self.new.collections.items) handle.number ≡ Some (held.Pq counts)) }
     {
-        Ok(PriorityQueue::of(self.place(stripes, Held::Pq(counts))?))
+        let number = self.add(stripes, Held::Pq(counts))?;
+        Ok(PriorityQueue::of(self.store, number))
     }
 
-    /// A queue that holds these items at first.
+    /// Adds a queue that holds these items at first. Refused as `word` is.
     pub fn queue(&mut self, stripes: u32, items: QueueItems) -> Result<Queue, Refusal>
-        ensures { IfOk result (λ handle. slice_get (map (λ p. p.held) self.new.placed.items) handle.number ≡ Some (held.Queue 0 items)) }
+        ensures same { self.new.store ≡ self.old.store }
+        ensures store { IfOk result (λ handle. handle.store ≡ self.new.store) }
+        ensures holds { IfOk result (λ handle. slice_get (map (λ c. c.held) self.new.collections.items) handle.number ≡ Some (held.Queue 0 items)) }
     {
-        Ok(Queue::of(self.place(stripes, Held::Queue { head: 0, items })?))
+        let number = self.add(stripes, Held::Queue { head: 0, items })?;
+        Ok(Queue::of(self.store, number))
     }
 
-    /// A store that holds all this. `TooLong` where there are more than 256 collections or more than 1,048,576 locations, a collection
-    /// can't have so many stripes, or has more copies than 4,294,967,295 of an element.
+    /// Opens a store that holds all this. `TooLong` where there are more than 256 collections or more than 1,048,576 locations, a collection
+    /// can't have so many stripes, or has more than 4,294,967,295 copies of an element; `OutOfMemory` where an allocation fails.
     pub fn open(self) -> Result<Store<V>, Refusal>
+        ensures number { IfOk result (λ store. store.number ≡ self.store) }
         ensures words { IfOk result (λ store. store.opening.words ≡ self.words.items) }
-        ensures held { IfOk result (λ store. store.opening.held ≡ map (λ p. p.held) self.placed.items) }
+        ensures held { IfOk result (λ store. store.opening.held ≡ map (λ c. c.held) self.collections.items) }
     {
         let Layout {
             alloc,
+            store: number,
             words,
-            placed,
+            collections,
         } = self;
-        let (stripes, held) = parts(alloc, placed)?;
+        let (stripes, held) = parts(alloc, collections)?;
         let shape = Shape {
             stripes: Items::from_vec(stripes),
             clock: 0,
@@ -105,6 +138,7 @@ impl<V: Value> Layout<V> {
         let (table, seat) = TxSeat::open(alloc, &shape, State::new(words, held)?)?;
         Ok(Store {
             alloc,
+            number,
             table,
             seat: Some(seat),
             tally: Tally::new(),
@@ -115,15 +149,15 @@ impl<V: Value> Layout<V> {
 /// The stripes of each collection, and what it holds.
 fn parts<V: Value>(
     alloc: Global,
-    placed: Vec<Placed<V>>,
+    collections: Vec<Collection<V>>,
 ) -> Result<(Vec<u32>, Vec<Held<V>>), Memory>
-    ensures { IfOk result (λ parts. parts.1.items ≡ map (λ p. p.held) placed.items) }
+    ensures { IfOk result (λ parts. parts.1.items ≡ map (λ c. c.held) collections.items) }
 {
-    let mut stripes = Vec::with_capacity(alloc, placed.len())?;
-    let mut held = Vec::with_capacity(alloc, placed.len())?;
-    'placed: for place in placed {
-        stripes.push(place.stripes)?;
-        held.push(place.held)?;
+    let mut stripes = Vec::with_capacity(alloc, collections.len())?;
+    let mut held = Vec::with_capacity(alloc, collections.len())?;
+    'collections: for collection in collections {
+        stripes.push(collection.stripes)?;
+        held.push(collection.held)?;
     }
     Ok((stripes, held))
 }

@@ -1,9 +1,30 @@
-//! Transactions on words, maps, multisets, priority queues and queues that threads share: what a service names.
+//! Transactions on words, maps, multisets, priority queues and queues that threads share: the one crate that a service names.
 //!
-//! A [`Layout`] lays the collections out and hands out a typed handle on each. It opens a [`Store`], at which a [`Body`] runs as one
-//! transaction, again and again until it commits ([`Store::atomically`], [`Client::atomically`]), or as a declared reader (`look`). The
-//! sessions of [`Store::run`] run on threads, each with a [`Client`] of its own. No function here asks anything of its caller that the
-//! types don't keep.
+//! A service has five steps:
+//!
+//! 1. A [`Layout`] lists the words and the collections. Adding one returns its handle: [`Word`], [`Map`], [`Bag`], [`PriorityQueue`] or
+//!    [`Queue`]. Handles are `Copy`, so each thread has them.
+//! 2. [`Layout::open`] opens a [`Store`].
+//! 3. A [`Body`] is what runs as one transaction: straight code over the handles' calls. It is all done or nothing is, and it sees one state
+//!    of the store.
+//! 4. [`Store::run`] serves a list of [`Session`]s, each in a thread of its own with a [`Client`]. A client runs bodies:
+//!    [`Client::atomically`] attempts a body until it commits, and [`Client::look`] does so with one that only reads. Each commit returns its
+//!    [`Receipt`]: the transaction's number in commit order, and its calls with their replies. Outside of `run`, the store runs bodies itself.
+//! 5. [`Store::close`] returns the [`Contents`], read by the same handles.
+//!
+//! Answers are typed: `map.get(tx, key)?` is an `Option` of a value, `queue.dequeue(tx)?` an `Option<u64>`. A change that may find its
+//! collection full returns `Result<(), Full>` inside ([`Full`]).
+//!
+//! What goes wrong is a [`Refusal`]. [`Refusal::is_conflict`] says whether another transaction stood in the way, so that another attempt may
+//! succeed; `atomically` and `look` make it. [`Refusal::explain`] says in a sentence what to do. A handle of a store with another number, of
+//! another kind, or beyond the layout is `NoSuch`. A body aborts with an error of its own, which the caller gets apart from refusals
+//! ([`Failure`]). [`Tally`] counts how attempts ended.
+//!
+//! A map holds values of any type that is a [`Value`]: numbers, `bool`, pairs, `Option`, [`Text`], [`Shared`], and structs of these by an
+//! `impl` of two functions.
+//!
+//! No function here asks its caller for anything that the types don't keep: no contract of a service has to mention transactions. A service
+//! that wants to prove something of its own defines `makes` of a body, and `serves` of a session.
 #![tactic(auto)]
 
 mod attempts;
@@ -11,7 +32,6 @@ mod bags;
 mod body;
 mod changes;
 mod client;
-mod conflicts;
 mod contents;
 mod failures;
 mod layout;
@@ -21,8 +41,10 @@ mod queues;
 mod replies;
 mod scope;
 mod sessions;
+mod shared;
 mod store;
 mod tally;
+mod text;
 mod transaction;
 mod words;
 
@@ -30,7 +52,6 @@ pub use bags::Bag;
 pub use body::Body;
 pub use changes::Full;
 pub use client::Client;
-pub use conflicts::is_conflict;
 pub use contents::Contents;
 pub use failures::Failure;
 pub use layout::Layout;
@@ -40,9 +61,10 @@ pub use queues::Queue;
 pub use scope::Scope;
 pub use seq_model::{Counts, Entries, Memory, QueueItems, Refusal, Value};
 pub use sessions::Session;
+pub use shared::Shared;
 pub use store::Store;
 pub use tally::Tally;
+pub use text::Text;
 pub use transaction::Transaction;
 pub use transactions::Receipt;
-pub use value_types::{Shared, Text};
 pub use words::Word;

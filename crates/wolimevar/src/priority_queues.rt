@@ -1,4 +1,4 @@
-//! A priority queue, as transactions call it.
+//! The handle of a priority queue.
 ghost use Rattle.std.specs.Prelude.{◌≡◌, IfOk};
 ghost use Rattle.seq_model.specs.Calls.{found_reply};
 ghost use Rattle.seq_model.specs.declared.call.Op.TheVariants as op;
@@ -10,50 +10,52 @@ use crate::scope::Scope;
 use crate::transaction::Transaction;
 use seq_model::{Op, Refusal, Value};
 
-/// A priority queue of numbers, the least first.
+/// A priority queue of `u64` elements, the least first. An element may be in it more than once.
 #[derive(Clone, Copy)]
 pub struct PriorityQueue {
+    pub(crate) store: u32,
     pub(crate) number: u32,
 }
 
 impl PriorityQueue {
-    pub(crate) fn of(number: u32) -> PriorityQueue
-        ensures { result.number ≡ number }
+    pub(crate) fn of(store: u32, number: u32) -> PriorityQueue
+        ensures store { result.store ≡ store }
+        ensures number { result.number ≡ number }
     {
-        PriorityQueue { number }
+        PriorityQueue { store, number }
     }
 
-    /// The least element.
+    /// The least element, which stays.
     pub fn least<V: Value, S: Scope<V>>(
         &self,
         tx: &mut Transaction<'_, V, S>,
     ) -> Result<Option<u64>, Refusal>
-        ensures { IfOk result (λ told. HasMade tx.old self.now.number op.Least (found_reply told) tx.new) }
+        ensures { IfOk result (λ found. HasMade tx.old self.now.store self.now.number op.Least (found_reply found) tx.new) }
     {
-        let reply = tx.call(Op::Least, self.number)?;
+        let reply = tx.call(self.store, self.number, Op::Least)?;
         found_in(reply)
     }
 
-    /// One more copy of the element, where there is room.
+    /// Inserts one copy of the element. [`Full`] where it has 4,294,967,295 copies already.
     pub fn insert<V: Value, S: Scope<V>>(
         &self,
         tx: &mut Transaction<'_, V, S>,
         element: u64,
     ) -> Result<Result<(), Full>, Refusal>
-        ensures { IfOk result (λ told. HasMade tx.old self.now.number (op.Insert element) (room_reply told) tx.new) }
+        ensures { IfOk result (λ inserted. HasMade tx.old self.now.store self.now.number (op.Insert element) (room_reply inserted) tx.new) }
     {
-        let reply = tx.call(Op::Insert(element), self.number)?;
+        let reply = tx.call(self.store, self.number, Op::Insert(element))?;
         room_in(reply)
     }
 
-    /// One copy of the least element is taken.
+    /// Takes one copy of the least element out, and returns it.
     pub fn take_least<V: Value, S: Scope<V>>(
         &self,
         tx: &mut Transaction<'_, V, S>,
     ) -> Result<Option<u64>, Refusal>
-        ensures { IfOk result (λ told. HasMade tx.old self.now.number op.TakeLeast (found_reply told) tx.new) }
+        ensures { IfOk result (λ found. HasMade tx.old self.now.store self.now.number op.TakeLeast (found_reply found) tx.new) }
     {
-        let reply = tx.call(Op::TakeLeast, self.number)?;
+        let reply = tx.call(self.store, self.number, Op::TakeLeast)?;
         found_in(reply)
     }
 }

@@ -1,4 +1,4 @@
-//! A queue, as transactions call it.
+//! The handle of a queue.
 ghost use Rattle.std.specs.Prelude.{◌≡◌, IfOk};
 ghost use Rattle.seq_model.specs.Calls.{found_reply};
 ghost use Rattle.seq_model.specs.declared.call.Op.TheVariants as op;
@@ -11,61 +11,60 @@ use crate::scope::Scope;
 use crate::transaction::Transaction;
 use seq_model::{Op, Refusal, Value};
 
-/// A queue of numbers.
+/// A queue of `u64` items, first in, first out.
 #[derive(Clone, Copy)]
 pub struct Queue {
+    pub(crate) store: u32,
     pub(crate) number: u32,
 }
 
 impl Queue {
-    pub(crate) fn of(number: u32) -> Queue
-        ensures { result.number ≡ number }
+    pub(crate) fn of(store: u32, number: u32) -> Queue
+        ensures store { result.store ≡ store }
+        ensures number { result.number ≡ number }
     {
-        Queue { number }
+        Queue { store, number }
     }
 
-    /// The item is the last one, where there is room.
+    /// Adds an item at the end. [`Full`] once the queue's positions are used up.
     pub fn enqueue<V: Value, S: Scope<V>>(
         &self,
         tx: &mut Transaction<'_, V, S>,
         item: u64,
     ) -> Result<Result<(), Full>, Refusal>
-        ensures { IfOk result (λ told. HasMade tx.old self.now.number (op.Enqueue item) (room_reply told) tx.new) }
+        ensures { IfOk result (λ added. HasMade tx.old self.now.store self.now.number (op.Enqueue item) (room_reply added) tx.new) }
     {
-        let reply = tx.call(Op::Enqueue(item), self.number)?;
+        let reply = tx.call(self.store, self.number, Op::Enqueue(item))?;
         room_in(reply)
     }
 
-    /// The first item is taken off.
+    /// Takes the first item out, and returns it.
     pub fn dequeue<V: Value, S: Scope<V>>(
         &self,
         tx: &mut Transaction<'_, V, S>,
     ) -> Result<Option<u64>, Refusal>
-        ensures { IfOk result (λ told. HasMade tx.old self.now.number op.Dequeue (found_reply told) tx.new) }
+        ensures { IfOk result (λ found. HasMade tx.old self.now.store self.now.number op.Dequeue (found_reply found) tx.new) }
     {
-        let reply = tx.call(Op::Dequeue, self.number)?;
+        let reply = tx.call(self.store, self.number, Op::Dequeue)?;
         found_in(reply)
     }
 
-    /// The first item.
+    /// The first item, which stays.
     pub fn peek<V: Value, S: Scope<V>>(
         &self,
         tx: &mut Transaction<'_, V, S>,
     ) -> Result<Option<u64>, Refusal>
-        ensures { IfOk result (λ told. HasMade tx.old self.now.number op.Peek (found_reply told) tx.new) }
+        ensures { IfOk result (λ found. HasMade tx.old self.now.store self.now.number op.Peek (found_reply found) tx.new) }
     {
-        let reply = tx.call(Op::Peek, self.number)?;
+        let reply = tx.call(self.store, self.number, Op::Peek)?;
         found_in(reply)
     }
 
     /// How many items the queue has.
-    pub fn len<V: Value, S: Scope<V>>(
-        &self,
-        tx: &mut Transaction<'_, V, S>,
-    ) -> Result<u64, Refusal>
-        ensures { IfOk result (λ told. HasMade tx.old self.now.number op.Len (replies.Number told) tx.new) }
+    pub fn len<V: Value, S: Scope<V>>(&self, tx: &mut Transaction<'_, V, S>) -> Result<u64, Refusal>
+        ensures { IfOk result (λ count. HasMade tx.old self.now.store self.now.number op.Len (replies.Number count) tx.new) }
     {
-        let reply = tx.call(Op::Len, self.number)?;
+        let reply = tx.call(self.store, self.number, Op::Len)?;
         number_in(reply)
     }
 }

@@ -1,4 +1,4 @@
-//! What replies tell. A reply of another kind than the call's doesn't come: where it did, the call would be answered by `NotIdle`.
+//! The typed answers of calls. A call never has a reply of another kind; if it had, the answer would be `NotIdle`.
 ghost use Rattle.std.specs.Prelude.{◌≡◌, IfOk};
 ghost use Rattle.seq_model.specs.Calls.{found_reply, value_reply};
 ghost use Rattle.seq_model.specs.declared.call.Reply.TheVariants as replies;
@@ -7,7 +7,7 @@ ghost use Rattle.wolimevar.specs.Made.{room_reply, yes_reply};
 use crate::changes::Full;
 use seq_model::{Refusal, Reply};
 
-/// What a map holds, or held.
+/// What a map holds, or held, at a key.
 pub(crate) fn value_in<V: Drop>(reply: Reply<V>) -> Result<Option<V>, Refusal>
     ensures { IfOk result (λ found. reply ≡ value_reply found) }
 {
@@ -50,7 +50,7 @@ pub(crate) fn yes_in<V: Drop>(reply: Reply<V>) -> Result<bool, Refusal>
     }
 }
 
-/// That it was done.
+/// The call was done.
 pub(crate) fn done_in<V: Drop>(reply: Reply<V>) -> Result<(), Refusal>
     ensures { IfOk result (λ _. reply ≡ replies.Done) }
 {

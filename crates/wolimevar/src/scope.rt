@@ -1,9 +1,11 @@
-//! What a client or a transaction is known to be, by its type.
+//! Which transaction, or which client, a type stands for.
 use std::marker::Brand;
 
-/// Which table a client or a transaction is at, and which transaction it is. Only proofs know it: a function over a [`crate::Transaction`]
-/// or a [`crate::Client`] takes any scope, as `fn total<S: Scope<V>>(tx: &mut Transaction<'_, V, S>)`, so that it may rely on none, and
-/// can't put one transaction in the place of another.
+/// Which transaction, or which client, a type stands for: proofs know its store, and where it began.
+///
+/// A function over a [`crate::Transaction`] or a [`crate::Client`] takes any scope, as
+/// `fn total<S: Scope<V>>(tx: &mut Transaction<'_, V, S>)`. So it can't exchange one transaction for another, and needs no clause for that.
+/// It costs nothing when the program runs.
 pub trait Scope<V> {
     ghost use Rattle.std.specs.Prelude.{Option};
     ghost use Rattle.wolimevar.specs.Frames.{Frame};

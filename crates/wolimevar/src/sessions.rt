@@ -1,9 +1,14 @@
-//! Sessions, each served in a thread of its own, with a client of its own.
+//! Sessions, each served in a thread of its own with a client of its own.
+//!
+//! Before the threads start, a share is split off the store's seat for each session; after they end, the shares are joined again. All memory
+//! is allocated before, so nothing fails in between. A thread is handed a [`Task`] (the session, its seat, the place for its result) and
+//! makes the client itself.
 ghost use Rattle.std.specs.Prelude.{◌≡◌, ℕ, ◌+◌, ◌<◌, ◌≤◌, ◌++◌, [], All, IfErr, IfOk, OnErr, Some, length, map, slice_index_or};
 ghost use Rattle.std.specs.Vec.{vec_capacity};
 ghost use Rattle.tx_table.specs.Seated.{view};
+ghost use Rattle.driven_turns.specs.Requested.{requests_of};
 ghost use Rattle.transactions.specs.Ready.{IsReady};
-ghost use Rattle.wolimevar.specs.Sessions.{HasCome, HaveServed, IsServed, IsWhy, Waits, joined, receipts_at};
+ghost use Rattle.wolimevar.specs.Sessions.{IsFinished, HaveServed, IsServed, IsWhy, IsWaiting, joined, receipts_at};
 
 use crate::client::Client;
 use crate::scope::Scope;
@@ -17,32 +22,35 @@ use tx_table::{SHARES, TxTable};
 
 /// What a thread does with a client of its own.
 ///
-/// Who wants a proof of what comes of it says so by `serves`: what the session gave, and the receipts that its client has then, the first
-/// one first.
+/// For a proof of its results, define `serves`: the session, what it returned, and the receipts of its client at its end, the first one
+/// first. Left out, it says nothing.
 pub trait Session<V> {
     ghost use Rattle.std.specs.Prelude.{◌≡◌, ℕ, List, [], ⊤};
     ghost use Rattle.seq_model.specs.declared.record.Record.{Record as ARecord};
 
+    /// What a session returns.
     type Out: Drop;
 
     ghost serves: { Self → Self.Out → List (ℕ × ARecord V) → Type 0 } = { λ _ _ _. ⊤ };
 
+    /// Runs in a thread of its own, for as long as it likes.
     fn serve<S: Scope<V>>(self, client: &mut Client<'_, V, S>) -> Self::Out
         requires new { client.old.receipts ≡ [] }
         ensures served { serves self result client.new.receipts };
 }
 
-/// A session, the seat that it is served by, and what came of it.
+/// A session, its seat, and what it returned.
 #[derive(Drop)]
-pub(crate) struct Place<V, N, O> {
+pub(crate) struct Task<V, N, O> {
     pub(crate) seat: Option<TxSeat<V>>,
     pub(crate) session: Option<N>,
     pub(crate) out: Option<O>,
 }
 
-/// A session is served by a client at this seat, which comes back.
+/// Serves a session by a client with this seat, and returns the seat.
 fn serve_as<V: Value, S: Scope<V>, N: Session<V> + Drop>(
     table: &TxTable<V>,
+    store: u32,
     seat: TxSeat<V>,
     session: N,
 ) -> (TxSeat<V>, N::Out)
@@ -53,14 +61,15 @@ fn serve_as<V: Value, S: Scope<V>, N: Session<V> + Drop>(
     ensures shares { (view result.0.seat).shares ≡ (view seat.seat).shares }
     ensures served { N.serves session result.1 (view result.0.seat).receipts }
 {
-    let mut client: Client<'_, V, S> = Client::of(table, seat);
+    let mut client: Client<'_, V, S> = Client::of(table, store, seat);
     let out = session.serve(&mut client);
     (client.into_seat(), out)
 }
 
-/// A session is served, as `serve_as` has it.
+/// Serves a session, see `serve_as`.
 fn serve_one<V: Value, N: Session<V> + Drop>(
     table: &TxTable<V>,
+    store: u32,
     seat: TxSeat<V>,
     session: N,
 ) -> (TxSeat<V>, N::Out)
@@ -70,71 +79,75 @@ fn serve_one<V: Value, N: Session<V> + Drop>(
     ensures shares { (view result.0.seat).shares ≡ (view seat.seat).shares }
     ensures served { N.serves session result.1 (view result.0.seat).receipts }
 {
-    serve_as::<V, Brand, N>(table, seat, session)
+    serve_as::<V, Brand, N>(table, store, seat, session)
 }
 
-/// The session that waits here is served.
-fn serve_place<V: Value, N: Session<V> + Drop>(
+/// Serves the session of a task.
+fn serve_task<V: Value, N: Session<V> + Drop>(
     table: &TxTable<V>,
-    place: &mut Place<V, N, N::Out>,
+    store: u32,
+    task: &mut Task<V, N, N::Out>,
 )
-    requires waits { Waits table.now place.old }
-    ensures served { IsServed table.now N.serves place.old place.new }
+    requires waits { IsWaiting table.now task.old }
+    ensures served { IsServed table.now N.serves task.old task.new }
 {
-    match (place.seat.take(), place.session.take()) {
+    match (task.seat.take(), task.session.take()) {
         (Some(seat), Some(session)) => {
-            let (seat, out) = serve_one(table, seat, session);
-            place.seat = Some(seat);
-            place.out = Some(out);
+            let (seat, out) = serve_one(table, store, seat, session);
+            task.seat = Some(seat);
+            task.out = Some(out);
         }
         _ => unreachable!(),
     }
 }
 
-/// Each session is served, in a thread of its own where one can be started.
+/// Serves each session, in a thread of its own where one can be started.
 fn serve_all<R: Threads + Sync, V: Value + Send + Sync, N: Session<V> + Drop + Send>(
     rt: &R,
     table: &TxTable<V>,
-    places: &mut [Place<V, N, N::Out>],
+    store: u32,
+    tasks: &mut [Task<V, N, N::Out>],
 )
 where
     N::Out: Send,
-    requires wait { All (Waits table.now) places.old }
-    ensures served { (i : ℕ) (d : _) → i < length places.old
-        → IsServed table.now N.serves (slice_index_or places.old i d) (slice_index_or places.new i d) }
+    requires wait { All (IsWaiting table.now) tasks.old }
+    ensures served { (i : ℕ) (d : _) → i < length tasks.old
+        → IsServed table.now N.serves (slice_index_or tasks.old i d) (slice_index_or tasks.new i d) }
 {
-    let count = places.len().max(1);
+    let count = tasks.len().max(1);
     thread::for_each_mut(
         rt,
-        places,
+        tasks,
         count,
-        &|_: usize, place: &mut Place<V, N, N::Out>|
-            requires { Waits table.now place.now }
-            ensures { IsServed table.entry.now N.serves place.entry.now place.exit.now }
-        { serve_place(table, place) },
+        &|_: usize, task: &mut Task<V, N, N::Out>|
+            requires { IsWaiting table.now task.now }
+            ensures { IsServed table.entry.now N.serves task.entry.now task.exit.now }
+        { serve_task(table, store, task) },
     );
 }
 
-/// Each session gets a seat of one share.
-fn place_all<V: Value, N: Drop, O: Drop>(
+/// Splits a seat of one share off for each session.
+fn prepare_all<V: Value, N: Drop, O: Drop>(
     table: &TxTable<V>,
     seat: &mut TxSeat<V>,
     sessions: Vec<N>,
-    places: &mut Vec<Place<V, N, O>>,
+    tasks: &mut Vec<Task<V, N, O>>,
 )
     requires ready { IsReady table.now seat.old }
     requires few { length sessions.items < (view seat.old.seat).shares }
-    requires empty { places.old.items ≡ [] }
-    requires room { length sessions.items ≤ vec_capacity places.old }
+    requires empty { tasks.old.items ≡ [] }
+    requires room { length sessions.items ≤ vec_capacity tasks.old }
     ensures ready { IsReady table.now seat.new }
     ensures shares { (view seat.new.seat).shares + length sessions.items ≡ (view seat.old.seat).shares }
     ensures receipts { (view seat.new.seat).receipts ≡ (view seat.old.seat).receipts }
-    ensures wait { All (Waits table.now) places.new.items }
-    ensures sessions { map (λ p. p.session) places.new.items ≡ map Some sessions.items }
+    ensures asks { requests_of seat.new.seat ≡ requests_of seat.old.seat }
+    ensures last { seat.new.seat.last ≡ seat.old.seat.last }
+    ensures wait { All (IsWaiting table.now) tasks.new.items }
+    ensures sessions { map (λ p. p.session) tasks.new.items ≡ map Some sessions.items }
 {
     'sessions: for session in sessions {
         let own = seat.split(table, 1);
-        places.push_reserved(Place {
+        tasks.push_reserved(Task {
             seat: Some(own),
             session: Some(session),
             out: None,
@@ -142,20 +155,22 @@ fn place_all<V: Value, N: Drop, O: Drop>(
     }
 }
 
-/// What a session gave; its seat is joined again.
-fn take_back<V: Value, N: Drop, O: Drop>(
+/// Joins the seat of a session again, and returns what the session returned.
+fn join_one<V: Value, N: Drop, O: Drop>(
     table: &TxTable<V>,
     seat: &mut TxSeat<V>,
-    place: Place<V, N, O>,
+    task: Task<V, N, O>,
 ) -> O
     requires ready { IsReady table.now seat.old }
-    requires come { HasCome table.now place }
+    requires finished { IsFinished table.now task }
     ensures ready { IsReady table.now seat.new }
     ensures shares { (view seat.new.seat).shares ≡ (view seat.old.seat).shares + 1 }
-    ensures receipts { (view seat.new.seat).receipts ≡ (view seat.old.seat).receipts ++ receipts_at place.seat }
-    ensures given { place.out ≡ Some result }
+    ensures receipts { (view seat.new.seat).receipts ≡ (view seat.old.seat).receipts ++ receipts_at task.seat }
+    ensures asks { requests_of seat.new.seat ≡ requests_of seat.old.seat }
+    ensures last { seat.old.seat.last ≤ seat.new.seat.last }
+    ensures given { task.out ≡ Some result }
 {
-    match (place.seat, place.out) {
+    match (task.seat, task.out) {
         (Some(own), Some(out)) => {
             seat.join(table, own);
             out
@@ -164,38 +179,37 @@ fn take_back<V: Value, N: Drop, O: Drop>(
     }
 }
 
-/// What each session gave; their seats are joined again.
-fn take_all<V: Value, N: Drop, O: Drop>(
+/// Joins the seats of all sessions again, and keeps what they returned, in order.
+fn join_all<V: Value, N: Drop, O: Drop>(
     table: &TxTable<V>,
     seat: &mut TxSeat<V>,
-    places: Vec<Place<V, N, O>>,
+    tasks: Vec<Task<V, N, O>>,
     outs: &mut Vec<O>,
 )
     requires ready { IsReady table.now seat.old }
-    requires come { All (HasCome table.now) places.items }
+    requires finished { All (IsFinished table.now) tasks.items }
     requires empty { outs.old.items ≡ [] }
-    requires room { length places.items ≤ vec_capacity outs.old }
+    requires room { length tasks.items ≤ vec_capacity outs.old }
     ensures ready { IsReady table.now seat.new }
-    ensures shares { (view seat.new.seat).shares ≡ (view seat.old.seat).shares + length places.items }
+    ensures shares { (view seat.new.seat).shares ≡ (view seat.old.seat).shares + length tasks.items }
     ensures receipts { (view seat.new.seat).receipts
-        ≡ (view seat.old.seat).receipts ++ joined (map (λ p. receipts_at p.seat) places.items) }
-    ensures outs { map (λ p. p.out) places.items ≡ map Some outs.new.items }
+        ≡ (view seat.old.seat).receipts ++ joined (map (λ p. receipts_at p.seat) tasks.items) }
+    ensures asks { requests_of seat.new.seat ≡ requests_of seat.old.seat }
+    ensures last { seat.old.seat.last ≤ seat.new.seat.last }
+    ensures outs { map (λ p. p.out) tasks.items ≡ map Some outs.new.items }
 {
-    'places: for place in places {
-        let out = take_back(table, seat, place);
+    'tasks: for task in tasks {
+        let out = join_one(table, seat, task);
         outs.push_reserved(out);
     }
 }
 
-/// Serves the sessions, each with a seat of one share, which is joined again.
-pub(crate) fn serve<
-    R: Threads + Sync,
-    V: Value + Send + Sync,
-    N: Session<V> + Drop + Send,
->(
+/// Serves the sessions, each with a seat of one share, and returns the store's seat with all shares.
+pub(crate) fn serve<R: Threads + Sync, V: Value + Send + Sync, N: Session<V> + Drop + Send>(
     rt: &R,
     alloc: Global,
     table: &TxTable<V>,
+    store: u32,
     seat: TxSeat<V>,
     sessions: Vec<N>,
 ) -> (TxSeat<V>, Result<Vec<N::Out>, Refusal>)
@@ -205,6 +219,8 @@ where
     requires whole { (view seat.seat).shares ≡ SHARES }
     ensures ready { IsReady table.now result.0 }
     ensures whole { (view result.0.seat).shares ≡ SHARES }
+    ensures asks { requests_of result.0.seat ≡ requests_of seat.seat }
+    ensures last { seat.seat.last ≤ result.0.seat.last }
     ensures all { IfOk result.1 (λ outs. HaveServed N.serves sessions.items outs.items (view seat.seat).receipts (view result.0.seat).receipts) }
     ensures none { OnErr result.1 (result.0 ≡ seat) }
     ensures why { IfErr result.1 (IsWhy (length sessions.items)) }
@@ -214,14 +230,14 @@ where
     if count as u64 >= SHARES {
         return (seat, Err(Refusal::TooLong));
     }
-    let Ok(mut places) = Vec::with_capacity(alloc, count) else {
+    let Ok(mut tasks) = Vec::with_capacity(alloc, count) else {
         return (seat, Err(Refusal::OutOfMemory));
     };
     let Ok(mut outs) = Vec::with_capacity(alloc, count) else {
         return (seat, Err(Refusal::OutOfMemory));
     };
-    place_all(table, &mut seat, sessions, &mut places);
-    serve_all(rt, table, places.as_mut_slice());
-    take_all(table, &mut seat, places, &mut outs);
+    prepare_all(table, &mut seat, sessions, &mut tasks);
+    serve_all(rt, table, store, tasks.as_mut_slice());
+    join_all(table, &mut seat, tasks, &mut outs);
     (seat, Ok(outs))
 }

@@ -1,7 +1,8 @@
-//! A store, which lends clients to sessions.
-ghost use Rattle.std.specs.Prelude.{◌≡◌, ◌++◌, ◌∷◌, [], IfErr, IfOk, OnErr, false, length, true};
+//! A store, which runs transactions itself and lends clients to sessions.
+ghost use Rattle.std.specs.Prelude.{◌≡◌, ◌<◌, ◌≤◌, ◌++◌, ◌∷◌, [], IfErr, IfOk, OnErr, OnOk, false, length, max, true};
+ghost use Rattle.seq_model.specs.declared.refusal.Refusal.TheVariants.{Ahead};
 ghost use Rattle.wolimevar.specs.Asked.{HasAsked};
-ghost use Rattle.wolimevar.specs.Ends.{IsTold};
+ghost use Rattle.wolimevar.specs.Ends.{IsAbortBy};
 ghost use Rattle.wolimevar.specs.Sessions.{HaveServed, IsWhy};
 ghost use Rattle.wolimevar.specs.Stores.{IsLeftBy};
 ghost use Rattle.wolimevar.specs.Tallies.{AreCounted};
@@ -19,12 +20,16 @@ use std::thread::Threads;
 use transactions::{Receipt, TxSeat};
 use tx_table::TxTable;
 
-/// Words and collections, at which transactions run. Contracts see what it opened with, and its receipts.
+/// Words and collections, on which transactions run. [`crate::Layout::open`] opens it, [`Store::close`] ends it.
+///
+/// Contracts see its number, what it opened with, the receipts of all its transactions, and of those that it runs itself the last number that
+/// it committed or learnt, the requests, and the counts of attempts. Between two calls it has all its shares, so it can always be closed.
 #[derive(Drop)]
 pub struct Store<V> {
     pub(crate) alloc: Global,
+    pub(crate) number: u32,
     pub(crate) table: TxTable<V>,
-    /// It is out only while a transaction runs.
+    /// It is `None` only while a transaction or sessions run.
     pub(crate) seat: Option<TxSeat<V>>,
     pub(crate) tally: Tally,
 }
@@ -40,47 +45,44 @@ impl<V> Model for Store<V> {
 
     ghost use Rattle.wolimevar.specs.StoreSeats.{IsAtStore, store_at};
 
-    ghost view = { λ a. store_at a.table a.seat a.tally };
+    ghost view = { λ a. store_at a.number a.table a.seat a.tally };
 
     ghost invariant = { λ a. IsAtStore a.table a.seat };
 }
 
 impl<V: Value> Store<V> {
-    /// The body as one transaction, as `Client::atomically` has it.
+    /// Runs the body as one transaction, which may write, see [`crate::Client::atomically`].
     pub fn atomically<B: Body<V>>(
         &mut self,
         tries: u64,
         body: &B,
     ) -> Result<(B::Out, Receipt<V>), Failure<B::Error>>
+        ensures number { self.new.number ≡ self.old.number }
         ensures opening { self.new.opening ≡ self.old.opening }
         ensures one { IfOk result (λ done. (a : _) × (self.new.receipts ≡ self.old.receipts ++ (a, done.1) ∷ [])) }
         ensures made { IfOk result (λ done. B.makes body.now done.0 done.1.calls) }
-        ensures none { OnErr result (self.new.receipts ≡ self.old.receipts) }
-        ensures gives_up { IfErr result (IsTold (B.gives_up body.now)) }
+        ensures last { IfOk result (λ done. (self.old.last ≤ done.1.number) × (self.new.last ≡ done.1.number)) }
+        ensures none { OnErr result ((self.new.receipts ≡ self.old.receipts) × (self.new.last ≡ self.old.last)) }
+        ensures aborts { IfErr result (IsAbortBy (B.aborts body.now)) }
         ensures asks { HasAsked false self.old.asked self.new.asked }
         ensures counted { AreCounted tries self.old.tally self.new.tally result }
     {
         self.retry_as(tries, body, false)
     }
 
-    /// How the attempts of the store itself ended; those of its sessions are their clients'.
-    pub fn tally(&self) -> Tally
-        ensures { result ≡ self.now.tally }
-    {
-        self.tally
-    }
-
-    /// The body as one declared reader, as `Client::look` has it.
+    /// Runs the body as one declared reader, see [`crate::Client::look`].
     pub fn look<B: Body<V>>(
         &mut self,
         tries: u64,
         body: &B,
     ) -> Result<(B::Out, Receipt<V>), Failure<B::Error>>
+        ensures number { self.new.number ≡ self.old.number }
         ensures opening { self.new.opening ≡ self.old.opening }
         ensures one { IfOk result (λ done. (a : _) × (self.new.receipts ≡ self.old.receipts ++ (a, done.1) ∷ [])) }
         ensures made { IfOk result (λ done. B.makes body.now done.0 done.1.calls) }
-        ensures none { OnErr result (self.new.receipts ≡ self.old.receipts) }
-        ensures gives_up { IfErr result (IsTold (B.gives_up body.now)) }
+        ensures last { IfOk result (λ done. (self.old.last ≤ done.1.number) × (self.new.last ≡ done.1.number)) }
+        ensures none { OnErr result ((self.new.receipts ≡ self.old.receipts) × (self.new.last ≡ self.old.last)) }
+        ensures aborts { IfErr result (IsAbortBy (B.aborts body.now)) }
         ensures asks { HasAsked true self.old.asked self.new.asked }
         ensures counted { AreCounted tries self.old.tally self.new.tally result }
     {
@@ -93,17 +95,27 @@ impl<V: Value> Store<V> {
         body: &B,
         declared: bool,
     ) -> Result<(B::Out, Receipt<V>), Failure<B::Error>>
+        ensures number { self.new.number ≡ self.old.number }
         ensures opening { self.new.opening ≡ self.old.opening }
         ensures one { IfOk result (λ done. (a : _) × (self.new.receipts ≡ self.old.receipts ++ (a, done.1) ∷ [])) }
         ensures made { IfOk result (λ done. B.makes body.now done.0 done.1.calls) }
-        ensures none { OnErr result (self.new.receipts ≡ self.old.receipts) }
-        ensures gives_up { IfErr result (IsTold (B.gives_up body.now)) }
+        ensures last { IfOk result (λ done. (self.old.last ≤ done.1.number) × (self.new.last ≡ done.1.number)) }
+        ensures none { OnErr result ((self.new.receipts ≡ self.old.receipts) × (self.new.last ≡ self.old.last)) }
+        ensures aborts { IfErr result (IsAbortBy (B.aborts body.now)) }
         ensures asks { HasAsked declared self.old.asked self.new.asked }
         ensures counted { AreCounted tries self.old.tally self.new.tally result }
     {
         match self.seat.take() {
             Some(seat) => {
-                let (seat, tally, ended) = retry(&self.table, seat, self.tally, body, declared, tries);
+                let (seat, tally, ended) = retry(
+                    &self.table,
+                    self.number,
+                    seat,
+                    self.tally,
+                    body,
+                    declared,
+                    tries,
+                );
                 self.seat = Some(seat);
                 self.tally = tally;
                 ended
@@ -112,9 +124,51 @@ impl<V: Value> Store<V> {
         }
     }
 
-    /// Serves each session in a thread of its own where one can be started, with a client of its own, and gives what came of them, in order.
-    /// The receipts that follow those that the store had are the sessions', one after another. Where it is refused, none was served:
-    /// `TooLong` beyond 63 sessions, and `OutOfMemory` where there is no room for them.
+    /// How the attempts of the store itself ended, counted. Those of a session are counted by its client.
+    pub fn tally(&self) -> Tally
+        ensures { result ≡ self.now.tally }
+    {
+        self.tally
+    }
+
+    /// The greatest number that the store, or a session of a `run`, committed or learnt; 0 at first.
+    pub fn last_number(&self) -> u64
+        ensures { result ≡ self.now.last }
+    {
+        match &self.seat {
+            Some(seat) => seat.last_number(),
+            None => unreachable!(),
+        }
+    }
+
+    /// Learns the number of a commit at this store, see [`crate::Client::learn`].
+    pub fn learn(&mut self, number: u64) -> Result<(), Refusal>
+        ensures number { self.new.number ≡ self.old.number }
+        ensures opening { self.new.opening ≡ self.old.opening }
+        ensures receipts { self.new.receipts ≡ self.old.receipts }
+        ensures asks { self.new.asked ≡ self.old.asked }
+        ensures counts { self.new.tally ≡ self.old.tally }
+        ensures learns { OnOk result (self.new.last ≡ max self.old.last number) }
+        ensures none { OnErr result (self.new.last ≡ self.old.last) }
+        ensures ahead { IfErr result (λ cause. (clock : _) × ((cause ≡ Ahead clock) × (clock < number))) }
+    {
+        match self.seat.take() {
+            Some(seat) => {
+                let mut seat = seat;
+                let learnt = seat.learn(&self.table, number);
+                self.seat = Some(seat);
+                learnt
+            }
+            None => unreachable!(),
+        }
+    }
+
+    /// Serves each session in a thread of its own where one can be started, with a client of its own, and returns what they returned, in
+    /// order, once all have ended. The receipts of the sessions are added to the store's, those of one session after those of another.
+    ///
+    /// `TooLong` beyond 63 sessions, and `OutOfMemory` where an allocation fails: then no session was served, and the store is unchanged.
+    /// Where a thread can't be started, its session is served after others; so a session that waits for another one to do something may wait
+    /// forever.
     pub fn run<R: Threads + Sync, N: Session<V> + Drop + Send>(
         &mut self,
         rt: &R,
@@ -123,14 +177,25 @@ impl<V: Value> Store<V> {
     where
         V: Send + Sync,
         N::Out: Send,
+        ensures number { self.new.number ≡ self.old.number }
         ensures opening { self.new.opening ≡ self.old.opening }
         ensures all { IfOk result (λ outs. HaveServed N.serves sessions.items outs.items self.old.receipts self.new.receipts) }
+        ensures last { self.old.last ≤ self.new.last }
+        ensures asks { self.new.asked ≡ self.old.asked }
+        ensures counts { self.new.tally ≡ self.old.tally }
         ensures none { OnErr result (self.new ≡ self.old) }
         ensures why { IfErr result (IsWhy (length sessions.items)) }
     {
         match self.seat.take() {
             Some(seat) => {
-                let (seat, served) = serve(rt, self.alloc, &self.table, seat, sessions);
+                let (seat, served) = serve(
+                    rt,
+                    self.alloc,
+                    &self.table,
+                    self.number,
+                    seat,
+                    sessions,
+                );
                 self.seat = Some(seat);
                 served
             }
@@ -138,13 +203,15 @@ impl<V: Value> Store<V> {
         }
     }
 
-    /// What the store holds in the end, which is what its receipts leave, one transaction after another in commit order. `OutOfMemory` where
-    /// there is no room for the copies.
+    /// Ends the store, and returns what it holds: what its receipts leave, one transaction after another in commit order. `OutOfMemory` where
+    /// an allocation fails.
     pub fn close(self) -> Result<Contents<V>, Memory>
-        ensures { IfOk result (λ contents. IsLeftBy self contents.state) }
+        ensures number { IfOk result (λ contents. contents.store ≡ self.number) }
+        ensures left { IfOk result (λ contents. IsLeftBy self contents.state) }
     {
         let Store {
             alloc: _,
+            number,
             table,
             seat,
             tally: _,
@@ -152,7 +219,10 @@ impl<V: Value> Store<V> {
         match seat {
             Some(seat) => {
                 let state = seat.close(table).state()?;
-                Ok(Contents { state })
+                Ok(Contents {
+                    store: number,
+                    state,
+                })
             }
             None => unreachable!(),
         }

@@ -1,23 +1,24 @@
-//! Attempts, counted by how they ended.
+//! Counts of attempts, by how they ended.
 ghost use Rattle.std.specs.Prelude.{◌≡◌};
 ghost use Rattle.wolimevar.specs.Tallies.{one_more, with_end, with_refusal};
 
 use crate::failures::Failure;
 use seq_model::Refusal;
 
-/// How many attempts ended in each way. None of the counts goes beyond the greatest `u64`.
+/// How many attempts ended in each way. A count stays at the greatest `u64` once it is there.
 #[derive(Clone, Copy, Debug, PartialEq, Eq)]
 pub struct Tally {
     pub committed: u64,
-    /// The body gave up by itself.
-    pub given_up: u64,
+    /// The body returned an error of its own.
+    pub aborted: u64,
+    /// Refused as `Moved`; and so on.
     pub moved: u64,
     pub busy: u64,
     pub stale: u64,
     pub gate_busy: u64,
     pub invalid: u64,
     pub out_of_memory: u64,
-    /// Refused in any other way.
+    /// Refused as anything else.
     pub others: u64,
 }
 
@@ -32,7 +33,7 @@ impl Tally {
     pub fn new() -> Tally {
         Tally {
             committed: 0,
-            given_up: 0,
+            aborted: 0,
             moved: 0,
             busy: 0,
             stale: 0,
@@ -46,7 +47,7 @@ impl Tally {
     /// How many attempts there were in all.
     pub fn attempts(&self) -> u64 {
         self.committed
-            .saturating_add(self.given_up)
+            .saturating_add(self.aborted)
             .saturating_add(self.refusals())
     }
 
@@ -76,14 +77,14 @@ impl Tally {
         self
     }
 
-    /// With an attempt that ended so.
+    /// With one attempt more, which ended so.
     pub(crate) fn with_end<T, E>(mut self, ended: &Result<T, Failure<E>>) -> Tally
         ensures { result ≡ with_end self ended.now }
     {
         match ended {
             Ok(_) => self.committed = one_more(self.committed),
             Err(Failure::Refused(cause)) => return self.with_refusal(*cause),
-            Err(Failure::GaveUp(_)) => self.given_up = one_more(self.given_up),
+            Err(Failure::Aborted(_)) => self.aborted = one_more(self.aborted),
         }
         self
     }

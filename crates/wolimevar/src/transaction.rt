@@ -1,6 +1,6 @@
-//! A transaction, as a body has it.
+//! A transaction, as a body sees it.
 ghost use Rattle.std.specs.Prelude.{◌≡◌, IfOk};
-ghost use Rattle.wolimevar.specs.Made.{HasMade};
+ghost use Rattle.wolimevar.specs.Made.{HasMade, RefusesForeign, with_call};
 
 use crate::scope::Scope;
 use seq_model::{Call, Op, Refusal, Reply, Value};
@@ -8,32 +8,35 @@ use std::marker::{Model, PhantomData};
 use transactions::TxSeat;
 use tx_table::TxTable;
 
-/// The transaction that a body runs in. Contracts see the calls that it has made, each with its reply; where a call has ended it, none.
+/// The transaction in which a body runs. Its calls are made by the handles of the store's layout.
+///
+/// Contracts see the number of its store, and the calls that it has made, each with its reply; once a call has ended the transaction, there
+/// are none.
 #[derive(Drop)]
 pub struct Transaction<'t, V, S: Scope<V>> {
     pub(crate) table: &'t TxTable<V>,
     pub(crate) seat: TxSeat<V>,
-    /// What refused the last call, where it was refused.
+    /// The number of its store, which the handles of the store's layout have too.
+    pub(crate) store: u32,
+    /// The refusal of the last call, if it was refused.
     pub(crate) refused: Option<Refusal>,
     pub(crate) scope: PhantomData<S>,
 }
 
 impl<'t, V, S: Scope<V>> Model for Transaction<'t, V, S> {
-    ghost use Rattle.std.specs.Prelude.{List};
-    ghost use Rattle.seq_model.specs.declared.call.Call.{Call as ACall};
-    ghost use Rattle.seq_model.specs.declared.call.Reply.{Reply as AReply};
+    ghost use Rattle.wolimevar.specs.Made.{TransactionShown};
 
-    ghost Value = { List (ACall V × AReply V) };
+    ghost Value = { TransactionShown V };
 
     ghost use Rattle.tx_table.specs.Seated.{opening_of};
-    ghost use Rattle.wolimevar.specs.Frames.{IsUnderWay, calls_made};
+    ghost use Rattle.wolimevar.specs.Frames.{IsUnderWay, transaction_at};
 
-    ghost view = { λ a. calls_made (opening_of a.table.now) a.seat.seat };
+    ghost view = { λ a. transaction_at a.store (opening_of a.table.now) a.seat.seat };
 
     ghost invariant = { λ a. IsUnderWay S.frame a.table.now a.seat };
 }
 
-/// What refused the last call: where a call before has ended the transaction, that one's refusal.
+/// The refusal of the last call. Where an earlier call has ended the transaction, it is that call's refusal.
 fn last_refusal(refused: Option<Refusal>, cause: Refusal) -> Option<Refusal> {
     match cause {
         Refusal::NoTransaction => refused,
@@ -41,11 +44,32 @@ fn last_refusal(refused: Option<Refusal>, cause: Refusal) -> Option<Refusal> {
     }
 }
 
+/// The same after a call by a handle of another store.
+fn foreign_refusal(refused: Option<Refusal>, is_open: bool) -> Option<Refusal> {
+    if is_open {
+        Some(Refusal::NoSuch)
+    } else {
+        refused
+    }
+}
+
 impl<'t, V: Value, S: Scope<V>> Transaction<'t, V, S> {
-    /// A call on a word or on a collection, as `transactions::TxSeat::call` has it: `target` is the number of a word for `Read` and `Write`,
-    /// and else of a collection. Where it is answered, it joins the calls that were made.
-    pub fn call(&mut self, op: Op<V>, target: u32) -> Result<Reply<V>, Refusal>
-        ensures { IfOk result (λ reply. HasMade self.old target op reply self.new) }
+    /// A call by a handle on the word or the collection with this number. `NoSuch` where the handle's store has another number than the
+    /// transaction's; the transaction is unchanged then.
+    pub(crate) fn call(&mut self, store: u32, number: u32, op: Op<V>) -> Result<Reply<V>, Refusal>
+        ensures made { IfOk result (λ reply. HasMade self.old store number op reply self.new) }
+        ensures foreign { RefusesForeign self.old store result self.new }
+    {
+        if self.store != store {
+            self.refused = foreign_refusal(self.refused, self.seat.is_open());
+            return Err(Refusal::NoSuch);
+        }
+        self.request(number, op)
+    }
+
+    /// A call on the word or the collection with this number. A call that is answered is added to the calls that were made.
+    fn request(&mut self, target: u32, op: Op<V>) -> Result<Reply<V>, Refusal>
+        ensures { IfOk result (λ reply. self.new ≡ with_call self.old target op reply) }
     {
         match self.seat.call(self.table, Call { target, op }) {
             Ok(reply) => {

@@ -1,4 +1,4 @@
-//! A word, as transactions call it.
+//! The handle of a word.
 ghost use Rattle.std.specs.Prelude.{◌≡◌, IfOk};
 ghost use Rattle.seq_model.specs.declared.call.Op.TheVariants as op;
 ghost use Rattle.seq_model.specs.declared.call.Reply.TheVariants as replies;
@@ -9,17 +9,19 @@ use crate::scope::Scope;
 use crate::transaction::Transaction;
 use seq_model::{Op, Refusal, Value};
 
-/// A word: one number.
+/// A word: one `u64`.
 #[derive(Clone, Copy)]
 pub struct Word {
+    pub(crate) store: u32,
     pub(crate) number: u32,
 }
 
 impl Word {
-    pub(crate) fn of(number: u32) -> Word
-        ensures { result.number ≡ number }
+    pub(crate) fn of(store: u32, number: u32) -> Word
+        ensures store { result.store ≡ store }
+        ensures number { result.number ≡ number }
     {
-        Word { number }
+        Word { store, number }
     }
 
     /// What the word holds.
@@ -27,21 +29,21 @@ impl Word {
         &self,
         tx: &mut Transaction<'_, V, S>,
     ) -> Result<u64, Refusal>
-        ensures { IfOk result (λ told. HasMade tx.old self.now.number op.Read (replies.Number told) tx.new) }
+        ensures { IfOk result (λ held. HasMade tx.old self.now.store self.now.number op.Read (replies.Number held) tx.new) }
     {
-        let reply = tx.call(Op::Read, self.number)?;
+        let reply = tx.call(self.store, self.number, Op::Read)?;
         number_in(reply)
     }
 
-    /// The word holds this number, once the transaction commits.
+    /// Writes the word. Other transactions see it once this one commits.
     pub fn write<V: Value, S: Scope<V>>(
         &self,
         tx: &mut Transaction<'_, V, S>,
         word: u64,
     ) -> Result<(), Refusal>
-        ensures { IfOk result (λ told. HasMade tx.old self.now.number (op.Write word) replies.Done tx.new) }
+        ensures { IfOk result (λ _. HasMade tx.old self.now.store self.now.number (op.Write word) replies.Done tx.new) }
     {
-        let reply = tx.call(Op::Write(word), self.number)?;
+        let reply = tx.call(self.store, self.number, Op::Write(word))?;
         done_in(reply)
     }
 }

@@ -9,12 +9,12 @@ returns-in-Err-clause-ends g c = refused _ _ c.args.seat.seat c.begin.new.seat.s
 
 pub returns-clause-ends : goal.returns-clause-ends
 returns-clause-ends g c =
-    attempted (g.B.Body.makes c.args.body.now) (g.B.Body.gives_up c.args.body.now) (opening_of c.args.table.now) c.args.seat.seat
-        c.run-seat.result.0.seat c.finish-ended.new.seat.seat c.run-seat.result.1.gave c.finish-ended.result
-        (then_keeps c.args.seat.seat c.begin.new.seat.seat c.run-seat.result.0.seat c.begin.ensures.keeps c.run-seat.ensures.calls.keeps)
-        c.run-seat.ensures.made c.run-seat.ensures.gives_up c.finish-ended.ensures.ends
+    attempted (g.B.Body.makes c.args.body.now) (g.B.Body.aborts c.args.body.now) (opening_of c.args.table.now) c.args.seat.seat
+    c.run-seat.result.0.seat c.finish-ended.new.seat.seat c.run-seat.result.1.gave c.finish-ended.result
+    (then_keeps c.args.seat.seat c.begin.new.seat.seat c.run-seat.result.0.seat c.begin.ensures.keeps c.run-seat.ensures.calls.keeps)
+    c.run-seat.ensures.made c.run-seat.ensures.aborts c.finish-ended.ensures.ends
 
 pub returns-clause-asks : goal.returns-clause-asks
 returns-clause-asks g c =
     then_asks c.args.declared _ _ _ c.begin.ensures.asks
-        (then_asks c.args.declared _ _ _ (c.run-seat.ensures.calls.asks c.args.declared) c.finish-ended.ensures.asks)
+    (then_asks c.args.declared _ _ _ (c.run-seat.ensures.calls.asks c.args.declared) c.finish-ended.ensures.asks)

@@ -9,12 +9,12 @@ pub returns-then-declared-clause-asks : goal.returns-then-declared-clause-asks
 returns-then-declared-clause-asks g c =
     let is : c.args.declared ≡ true = search rules in
     subst (λ d. HasAsked d (requests_of c.args.seat.now.seat) (requests_of c.begin_read.new.self.seat)) (sym is)
-        (asks_to_begin true (opening_of c.args.table.now) c.args.seat.now.seat c.begin_read.new.self.seat c.requires.ready.between
-            c.begin_read.ensures.asks)
+    (asks_to_begin true (opening_of c.args.table.now) c.args.seat.now.seat c.begin_read.new.self.seat c.requires.ready.between
+    c.begin_read.ensures.asks)
 
 pub returns-else-declared-clause-asks : goal.returns-else-declared-clause-asks
 returns-else-declared-clause-asks g c =
     let is : c.args.declared ≡ false = search rules in
     subst (λ d. HasAsked d (requests_of c.args.seat.now.seat) (requests_of c.begin.new.self.seat)) (sym is)
-        (asks_to_begin false (opening_of c.args.table.now) c.args.seat.now.seat c.begin.new.self.seat c.requires.ready.between
-            c.begin.ensures.asks)
+    (asks_to_begin false (opening_of c.args.table.now) c.args.seat.now.seat c.begin.new.self.seat c.requires.ready.between
+    c.begin.ensures.asks)

@@ -11,7 +11,7 @@ use Rattle.wolimevar.proofs.attempts.retry.Given as goal
 abbrev pub invariant-tries : goal.invariant-tries
 invariant-tries g l = record {
   ready : IsReady l.table l.seat;
-  ends : EndsAs (g.B.Body.makes l.body) (g.B.Body.gives_up l.body) l.fn.seat.seat l.seat.seat l.ended;
+  ends : EndsAs (g.B.Body.makes l.body) (g.B.Body.aborts l.body) l.fn.seat.seat l.seat.seat l.ended;
   asks : HasAsked l.declared (requests_of l.fn.seat.seat) (requests_of l.seat.seat);
   counted : AreSoFar l.i l.fn.tally l.counted l.ended;
   few : l.i ≤ max l.tries 1;

@@ -1,6 +1,6 @@
 use Rattle.std.proofs.Common.{◌≡◌, map}
 use Rattle.wolimevar.proofs.layout.parts.Given as goal
 
--- what the places so far hold
-abbrev pub invariant-placed : goal.invariant-placed
-invariant-placed g l = l.held.items ≡ map (λ p. p.held) l.yielded
+-- what the collections so far hold
+abbrev pub invariant-collections : goal.invariant-collections
+invariant-collections g l = l.held.items ≡ map (λ c. c.held) l.yielded

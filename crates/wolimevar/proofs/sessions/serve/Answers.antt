@@ -2,64 +2,64 @@ use Rattle.std.proofs.Common.{rules, ◌≡◌, ◌+◌, ◌++◌, ◌∙◌, So
 use Rattle.std.specs.Prelude.{All, drop, take}
 use Rattle.std.specs.List.{AllZip}
 use Rattle.tx_table.specs.Seated.{view}
-use Rattle.wolimevar.specs.Sessions.{HasCome, IsServed, receipts_at}
-use Rattle.wolimevar.proofs.SessionLemmas.{all_served, as_long, come_all, joined_behind, whole_slice, zip_of}
+use Rattle.wolimevar.specs.Sessions.{IsFinished, IsServed, receipts_at}
+use Rattle.wolimevar.proofs.SessionLemmas.{all_served, as_long, finished_all, joined_behind, whole_slice, zip_of}
 use Rattle.wolimevar.proofs.sessions.serve.Goals as goal
 
-pub take_all-requires-clause-come : goal.take_all-requires-clause-come
-take_all-requires-clause-come g c =
-    let old = c.place_all.new.places.items in
-    let now = c.serve_all.new.places in
+pub join_all-requires-clause-finished : goal.join_all-requires-clause-finished
+join_all-requires-clause-finished g c =
+    let old = c.prepare_all.new.tasks.items in
+    let now = c.serve_all.new.tasks in
     let long : length now ≡ length old = search rules in
-    let len : c.place_all.new.places.len ≡ length old = search rules in
-    let whole = whole_slice now old c.place_all.new.places.len len long in
+    let len : c.prepare_all.new.tasks.len ≡ length old = search rules in
+    let whole = whole_slice now old c.prepare_all.new.tasks.len len long in
     let Served = IsServed c.args.table.now g.N.Session.serves in
     let same = c.as_mut_slice.ensures.value in
     let zip = subst (λ ps. AllZip Served ps now) same
-        (zip_of Served c.as_mut_slice.result.now now (long ∙ ap (λ ps. length ps) (sym same)) c.serve_all.ensures.served) in
-    subst (All (HasCome c.args.table.now)) (sym whole) (come_all c.args.table.now g.N.Session.serves old now zip)
+    (zip_of Served c.as_mut_slice.result.now now (long ∙ ap (λ ps. length ps) (sym same)) c.serve_all.ensures.served) in
+    subst (All (IsFinished c.args.table.now)) (sym whole) (finished_all c.args.table.now g.N.Session.serves old now zip)
 
-pub take_all-requires-clause-room : goal.take_all-requires-clause-room
-take_all-requires-clause-room g c =
-    let old = c.place_all.new.places.items in
-    let now = c.serve_all.new.places in
+pub join_all-requires-clause-room : goal.join_all-requires-clause-room
+join_all-requires-clause-room g c =
+    let old = c.prepare_all.new.tasks.items in
+    let now = c.serve_all.new.tasks in
     let long : length now ≡ length old = search rules in
-    let len : c.place_all.new.places.len ≡ length old = search rules in
-    let whole = ap (λ ps. length ps) (whole_slice now old c.place_all.new.places.len len long) in
-    let many = as_long _ _ old c.args.sessions.items c.place_all.ensures.sessions in
+    let len : c.prepare_all.new.tasks.len ≡ length old = search rules in
+    let whole = ap (λ ps. length ps) (whole_slice now old c.prepare_all.new.tasks.len len long) in
+    let many = as_long _ _ old c.args.sessions.items c.prepare_all.ensures.sessions in
     let room = c.in-Ok-with_capacity.ensures.capacity in
     let count = c.len-count.ensures in
     omega (arith, long, whole, many, room, count)
 
 pub returns-clause-whole : goal.returns-clause-whole
 returns-clause-whole g c =
-    let old = c.place_all.new.places.items in
-    let now = c.serve_all.new.places in
+    let old = c.prepare_all.new.tasks.items in
+    let now = c.serve_all.new.tasks in
     let long : length now ≡ length old = search rules in
-    let len : c.place_all.new.places.len ≡ length old = search rules in
-    let whole = ap (λ ps. length ps) (whole_slice now old c.place_all.new.places.len len long) in
-    let many = as_long _ _ old c.args.sessions.items c.place_all.ensures.sessions in
-    let split = c.place_all.ensures.shares in
-    let joins = c.take_all.ensures.shares in
+    let len : c.prepare_all.new.tasks.len ≡ length old = search rules in
+    let whole = ap (λ ps. length ps) (whole_slice now old c.prepare_all.new.tasks.len len long) in
+    let many = as_long _ _ old c.args.sessions.items c.prepare_all.ensures.sessions in
+    let split = c.prepare_all.ensures.shares in
+    let joins = c.join_all.ensures.shares in
     let all = c.requires.whole in
     omega (arith, long, whole, many, split, joins, all)
 
 pub returns-clause-all : goal.returns-clause-all
 returns-clause-all g c =
-    let old = c.place_all.new.places.items in
-    let now = c.serve_all.new.places in
+    let old = c.prepare_all.new.tasks.items in
+    let now = c.serve_all.new.tasks in
     let long : length now ≡ length old = search rules in
-    let len : c.place_all.new.places.len ≡ length old = search rules in
-    let whole = whole_slice now old c.place_all.new.places.len len long in
+    let len : c.prepare_all.new.tasks.len ≡ length old = search rules in
+    let whole = whole_slice now old c.prepare_all.new.tasks.len len long in
     let Served = IsServed c.args.table.now g.N.Session.serves in
     let same = c.as_mut_slice.ensures.value in
     let zip = subst (λ ps. AllZip Served ps now) same
-        (zip_of Served c.as_mut_slice.result.now now (long ∙ ap (λ ps. length ps) (sym same)) c.serve_all.ensures.served) in
-    let left = take c.place_all.new.places.len (now ++ drop (length now) old) in
+    (zip_of Served c.as_mut_slice.result.now now (long ∙ ap (λ ps. length ps) (sym same)) c.serve_all.ensures.served) in
+    let left = take c.prepare_all.new.tasks.len (now ++ drop (length now) old) in
     record {
       lists = map (λ p. receipts_at p.seat) left;
-      each = all_served c.args.table.now g.N.Session.serves old left c.args.sessions.items c.take_all.new.outs.items
-          (subst (AllZip Served old) (sym whole) zip) c.place_all.ensures.sessions c.take_all.ensures.outs;
-      gains = joined_behind {N = g.row.N.Denot} {O = g.row.N-Out.Denot} c.args.table.now (view c.args.seat.seat).receipts (view c.place_all.new.seat.seat).receipts
-          (view c.take_all.new.seat.seat).receipts left c.take_all.ensures.receipts c.place_all.ensures.receipts;
+      each = all_served c.args.table.now g.N.Session.serves old left c.args.sessions.items c.join_all.new.outs.items
+          (subst (AllZip Served old) (sym whole) zip) c.prepare_all.ensures.sessions c.join_all.ensures.outs;
+      gains = joined_behind {N = g.row.N.Denot} {O = g.row.N-Out.Denot} c.args.table.now (view c.args.seat.seat).receipts (view c.prepare_all.new.seat.seat).receipts
+          (view c.join_all.new.seat.seat).receipts left c.join_all.ensures.receipts c.prepare_all.ensures.receipts;
     }
