@@ -1,8 +1,11 @@
 -- Calls of a transaction, by the frame that its scope knows.
-use Rattle.std.proofs.Common.{◌≡◌, ◌⊎◌, ◌≤◌, Bool, List, [], ◌∷◌, ◌++◌, Option, Some, None, Ok, Err, inl, inr, refl, sym, ap, ◌∙◌, subst}
+use Rattle.std.proofs.Common.{◌≡◌, ◌⊎◌, ℕ, ◌≤◌, Bool, List, [], ◌∷◌, ◌++◌, Option, Some, None, Ok, Err, inl, inr, refl, sym, ap, ◌∙◌, subst}
 use Rattle.std.specs.Prelude.{IfSome, Result}
+use Rattle.std.proofs.lemmas.List.Elements.{All-nil}
 use Rattle.seq_model.specs.declared.call.Call.{Call}
+use Rattle.seq_model.specs.declared.call.Op.{Op}
 use Rattle.seq_model.specs.declared.call.Reply.{Reply}
+use Rattle.seq_model.specs.declared.record.Record.{Record}
 use Rattle.seq_model.specs.declared.event.Request.TheVariants as request
 use Rattle.driven_turns.specs.Requested.{requests_of}
 use Rattle.seq_model.specs.declared.refusal.Refusal.{Refusal}
@@ -10,12 +13,13 @@ use Rattle.replay_log.specs.Seats.{World}
 use Rattle.tx_phases.specs.Phases.{Phase, Rests, Stands}
 use Rattle.tx_table.specs.declared.seat.Seat.{Seat}
 use Rattle.tx_table.specs.declared.table.TxTable.{TxTable}
-use Rattle.tx_table.specs.Seated.{opening_of}
+use Rattle.tx_table.specs.Seated.{actor, opening_of, view}
 use Rattle.transactions.specs.declared.seats.TxSeat.{TxSeat}
 use Rattle.transactions.specs.Ready.{HasBegunSince, HasCalled, IsReady, standing}
 use Rattle.transactions.specs.Requests.{IsOpen, KeepsReceipts}
 use Rattle.transactions.proofs.RequestLemmas.{keeps_self, then_keeps}
-use Rattle.wolimevar.specs.Frames.{ComesBack, Frame, GoesOn, HasMadeCalls, IsClient, IsIn, IsOfSeat, IsUnderWay, calls_made, calls_of}
+use Rattle.wolimevar.specs.Frames.{AreBy, ComesBack, Frame, GoesOn, HasMadeCalls, IsClient, IsIn, IsOfSeat, IsUnderWay, calls_made, calls_of, transaction_at}
+use Rattle.wolimevar.specs.Made.{TransactionShown, with_call}
 use Rattle.wolimevar.specs.Asked.{HasAsked}
 use Rattle.wolimevar.specs.Clients.{IsAtClient}
 use Rattle.wolimevar.proofs.AskedLemmas.{asks_for, asks_none, then_asks}
@@ -77,7 +81,17 @@ module _ {V : Type 0} where
       ap calls_of ((has.calls (calls, at)).leaves calls at)
       ∙ ap (λ (made : List (Call V × Reply V)). made ++ (call, reply) ∷ []) (sym (ap calls_of at))
 
-  -- what a frame tells of a transaction
+  -- and so contracts see it
+  pub call_shown : (n : ℕ) (t : TxTable V) (s u : TxSeat V) (target : ℕ) (op : Op V) (reply : Reply V) (d : TransactionShown V)
+      → (standing (opening_of t) s.seat ≡ Rests) ⊎ IsOpen (opening_of t) s.seat
+      → HasCalled t s u (record { target = target; op = op }) (Ok reply) → transaction_at n (opening_of t) s.seat ≡ d
+      → transaction_at n (opening_of t) u.seat ≡ with_call d target op reply
+  call_shown n t s u target op reply d at has v =
+      let made = call_made t s u (record { target = target; op = op }) reply at has in
+      subst (λ (x : TransactionShown V). transaction_at n (opening_of t) u.seat ≡ with_call x target op reply) v
+      (subst (λ (calls : List (Call V × Reply V)). transaction_at n (opening_of t) u.seat ≡ record { store = n; calls = calls }) made refl)
+
+  -- what a frame says of a transaction
   pub in_frame : (f : Option (Frame V)) (t u : TxTable V) (m : TxSeat V) (s : TxSeat V)
       → f ≡ Some (record { table = t; begun = Some m }) → IsUnderWay f u s → (u ≡ t) × HasMadeCalls m.seat s.seat
   in_frame f t u m s is h =
@@ -93,15 +107,17 @@ module _ {V : Type 0} where
   }
 
   -- a client by its seat
-  pub at_client : (f : Option (Frame V)) (t : TxTable V) (s : TxSeat V) → IsReady t s → IfSome f (IsOfSeat t s) → IsAtClient f t (Some s)
-  at_client f t s ready framed = record { own = s; is = refl; client = record { ready = ready; framed = framed } }
+  pub at_client : (f : Option (Frame V)) (t : TxTable V) (s : TxSeat V) → IsReady t s → IfSome f (IsOfSeat t s)
+      → AreBy (actor s.seat) (view s.seat).receipts → IsAtClient f t (Some s)
+  at_client f t s ready framed own = record { own = s; is = refl; client = record { ready = ready; framed = framed; own = own } }
 
   pub new_client : (f : Option (Frame V)) (t : TxTable V) (s : TxSeat V) → f ≡ Some (record { table = t; begun = Some s }) → IsReady t s
-      → IsAtClient f t (Some s)
-  new_client f t s is ready =
+      → (view s.seat).receipts ≡ [] → IsAtClient f t (Some s)
+  new_client f t s is ready none =
       at_client f t s ready
       (subst (λ (g : Option (Frame V)). IfSome g (IsOfSeat t s)) (sym is)
       (record { table = refl; since = record { same = refl; shares = refl } }))
+      (subst (AreBy (actor s.seat)) (sym none) (All-nil (λ (r : ℕ × Record V). r.0 ≡ actor s.seat)))
 
   goes_on : (m : Option (TxSeat V)) (s u : Seat V) → IfSome m (λ b. GoesOn b.seat s) → GoesOn s u → IfSome m (λ b. GoesOn b.seat u)
   goes_on None s u h k = h
@@ -115,6 +131,12 @@ module _ {V : Type 0} where
   -- what is there is one
   pub own_is : (o : Option (TxSeat V)) (a s : TxSeat V) → o ≡ Some a → o ≡ Some s → a ≡ s
   own_is o a s p q = subst (λ (x : Option (TxSeat V)). IfSome x (λ y. a ≡ y)) (sym p ∙ q) refl
+
+  -- its receipts are its own
+  pub own_back : (f : Option (Frame V)) (t : TxTable V) (seat : Option (TxSeat V)) (s : TxSeat V) → IsAtClient f t seat → seat ≡ Some s
+      → AreBy (actor s.seat) (view s.seat).receipts
+  own_back f t seat s h e =
+      subst (λ (x : TxSeat V). AreBy (actor x.seat) (view x.seat).receipts) (own_is seat h.own s h.is e) h.client.own
 
   come_back : (f : Option (Frame V)) (t : TxTable V) (s : TxSeat V) → IsClient f t s → IfSome f (ComesBack s)
   come_back None t s h = tt

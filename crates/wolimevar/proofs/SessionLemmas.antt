@@ -6,10 +6,11 @@ use Rattle.std.proofs.lemmas.List.{append_assoc, map-append}
 use Rattle.std.proofs.lemmas.List.Elements.{All-append, All-cons, All-nil}
 use Rattle.seq_model.specs.declared.record.Record.{Record}
 use Rattle.tx_table.specs.declared.table.TxTable.{TxTable}
-use Rattle.tx_table.specs.Seated.{view}
+use Rattle.tx_table.specs.Seated.{actor, view}
 use Rattle.transactions.specs.declared.seats.TxSeat.{TxSeat}
 use Rattle.wolimevar.specs.declared.sessions.Task.{Task}
-use Rattle.wolimevar.specs.Sessions.{AreServed, IsFinished, IsServed, IsWaiting, joined, receipts_at}
+use Rattle.wolimevar.specs.Sessions.{AreServed, IsFinished, IsOfOne, IsServed, IsWaiting, joined, receipts_at}
+use Rattle.wolimevar.specs.Frames.{AreBy}
 use Rattle.wolimevar.proofs.FrameLemmas.{own_is}
 
 -- what holds at each task holds item by item
@@ -137,6 +138,20 @@ module _ {V N O : Type 0} (t : TxTable V) (serves : N → O → List (ℕ × Rec
     one_served p q n o h.0 (same_head _ _ _ _ is) (same_head _ _ _ _ given),
     all_served ps qs ns os h.1 (same_tail _ _ _ _ is) (same_tail _ _ _ _ given),
   )
+
+  one_own : (p q : Task V N O) → IsServed t serves p q → IsOfOne (receipts_at q.seat)
+  one_own p q h = (
+    actor h.finished.own.seat,
+    subst (λ (s : Option (TxSeat V)). AreBy (actor h.finished.own.seat) (receipts_at s)) (sym h.finished.seat) h.own,
+  )
+
+  -- the receipts of each are of one actor
+  pub all_own : (ps qs : List (Task V N O)) → AllZip (IsServed t serves) ps qs → All IsOfOne (map (λ q. receipts_at q.seat) qs)
+  all_own [] [] h = All-nil IsOfOne
+  all_own [] (q ∷ qs) h = absurd h
+  all_own (p ∷ ps) [] h = absurd h
+  all_own (p ∷ ps) (q ∷ qs) h =
+      All-cons IsOfOne (receipts_at q.seat) (map (λ (x : Task V N O). receipts_at x.seat) qs) (one_own p q h.0) (all_own ps qs h.1)
 
   -- once all are served
   pub finished_all : (ps qs : List (Task V N O)) → AllZip (IsServed t serves) ps qs → All (IsFinished t) qs

@@ -1,7 +1,8 @@
 -- What is known of a transaction, or of a client, by its scope: its table, and the seat as it was when it began.
-use Rattle.std.specs.Prelude.{◌≡◌, ℕ, Bool, List, [], Option, IfSome}
+use Rattle.std.specs.Prelude.{◌≡◌, ℕ, All, Bool, List, [], Option, IfSome}
 use Rattle.seq_model.specs.declared.call.Call.{Call}
 use Rattle.seq_model.specs.declared.call.Reply.{Reply}
+use Rattle.seq_model.specs.declared.record.Record.{Record}
 use Rattle.replay_log.specs.Seats.{World}
 use Rattle.tx_phases.specs.Phases.{Phase, Rests, Begins, Stands, Calls, Commits, Committed, Ends}
 use Rattle.tx_table.specs.declared.seat.Seat.{Seat}
@@ -65,10 +66,15 @@ module _ {V : Type 0} where
     pub table : t ≡ f.table
     pub since : IfSome f.begun (λ m. GoesOn m.seat s.seat)
 
-  -- a client, between two of its transactions
+  -- receipts of this actor
+  abbrev pub AreBy : ℕ → List (ℕ × Record V) → Type 0
+  AreBy a rs = All (λ (r : ℕ × Record V). r.0 ≡ a) rs
+
+  -- a client, between two of its transactions; its receipts are its own
   pub record IsClient (f : Option (Frame V)) (t : TxTable V) (s : TxSeat V) : Type 0 where
     pub ready : IsReady t s
     pub framed : IfSome f (IsOfSeat t s)
+    pub own : AreBy (actor s.seat) (view s.seat).receipts
 
   -- what a client gives back is the seat that it began with, ready at its table
   pub record ComesBack (s : TxSeat V) (f : Frame V) : Type 0 where

@@ -1,16 +1,17 @@
--- What sessions finished to, each with a seat of its own.
-use Rattle.std.specs.Prelude.{◌≡◌, ◌⊎◌, ℕ, ◌≤◌, List, [], ◌∷◌, ◌++◌, Option, Some, None}
+-- How sessions end, each with a seat of its own.
+use Rattle.std.specs.Prelude.{◌≡◌, ◌⊎◌, ℕ, All, ◌≤◌, List, [], ◌∷◌, ◌++◌, Option, Some, None}
 use Rattle.seq_model.specs.declared.record.Record.{Record}
 use Rattle.seq_model.specs.declared.refusal.Refusal.{Refusal}
 use Rattle.seq_model.specs.declared.refusal.Refusal.TheVariants.{OutOfMemory, TooLong}
 use Rattle.tx_table.specs.declared.table.TxTable.{TxTable}
 use Rattle.tx_table.specs.declared.view.TheConstants.{SHARES}
-use Rattle.tx_table.specs.Seated.{view}
+use Rattle.tx_table.specs.Seated.{actor, view}
 use Rattle.transactions.specs.declared.seats.TxSeat.{TxSeat}
 use Rattle.transactions.specs.Ready.{IsReady}
 use Rattle.wolimevar.specs.declared.sessions.Task.{Task}
+use Rattle.wolimevar.specs.Frames.{AreBy}
 
--- Why sessions are not served: they are too many, or memory was wanting.
+-- Why sessions are not served: they are too many, or an allocation fails.
 abbrev pub IsWhy : ℕ → Refusal → Type 0
 IsWhy count cause = ((cause ≡ TooLong) × (SHARES ≤ count)) ⊎ (cause ≡ OutOfMemory)
 
@@ -25,8 +26,12 @@ module _ {V : Type 0} where
   receipts_at (Some s) = (view s.seat).receipts
   receipts_at None = []
 
+  -- receipts of one actor
+  abbrev pub IsOfOne : List (ℕ × Record V) → Type 0
+  IsOfOne rs = (a : ℕ) × AreBy a rs
+
   module _ {N O : Type 0} (serves : N → O → List (ℕ × Record V) → Type 0) where
-    -- Each session has given one thing, and its client has these receipts.
+    -- Each session has returned one thing, and its client has these receipts.
     abbrev pub AreServed : List N → List O → List (List (ℕ × Record V)) → Type 0
     AreServed [] [] [] = Unit {0}
     AreServed (n ∷ ns) (o ∷ os) (rs ∷ rss) = serves n o rs × AreServed ns os rss
@@ -35,10 +40,11 @@ module _ {V : Type 0} where
     AreServed (n ∷ ns) [] rss = ⊥
     AreServed (n ∷ ns) (o ∷ os) [] = ⊥
 
-    -- The receipts were these, and are those of the sessions behind them.
+    -- The receipts were these, and those of the sessions come after them: those of each session are of one actor, its client's.
     pub record HaveServed (ns : List N) (os : List O) (before after : List (ℕ × Record V)) : Type 0 where
       pub lists : List (List (ℕ × Record V))
       pub each : AreServed ns os lists
+      pub own : All IsOfOne lists
       pub gains : after ≡ before ++ joined lists
 
   module _ {N O : Type 0} (t : TxTable V) where
@@ -61,9 +67,11 @@ module _ {V : Type 0} where
       pub given : O
       pub out : q.out ≡ Some given
 
-    -- The session that waited so has given this, and these are its receipts.
+    -- The session that waited so has returned this, and these are its receipts, which are its own.
     pub record IsServed (serves : N → O → List (ℕ × Record V) → Type 0) (p q : Task V N O) : Type 0 where
       pub finished : IsFinished q
       pub session : N
       pub waited : p.session ≡ Some session
       pub served : serves session finished.given (view finished.own.seat).receipts
+      pub own : AreBy (actor finished.own.seat) (view finished.own.seat).receipts
+      pub own : AreBy (actor finished.own.seat) (view finished.own.seat).receipts

@@ -1,11 +1,11 @@
 //! A client of a store.
 ghost use Rattle.std.specs.Prelude.{◌≡◌, ◌<◌, ◌≤◌, ◌∷◌, ◌++◌, [], IfErr, IfOk, IfSome, OnErr, OnOk, Some, false, max, true};
 ghost use Rattle.seq_model.specs.declared.refusal.Refusal.TheVariants.{Ahead};
-ghost use Rattle.tx_table.specs.Seated.{view};
+ghost use Rattle.tx_table.specs.Seated.{actor, view};
 ghost use Rattle.transactions.specs.Ready.{IsReady};
 ghost use Rattle.wolimevar.specs.Asked.{HasAsked};
 ghost use Rattle.wolimevar.specs.Ends.{IsAbortBy};
-ghost use Rattle.wolimevar.specs.Frames.{ComesBack};
+ghost use Rattle.wolimevar.specs.Frames.{AreBy, ComesBack};
 ghost use Rattle.wolimevar.specs.Tallies.{AreCounted};
 
 use crate::attempts::retry;
@@ -49,6 +49,7 @@ impl<'t, V: Value, S: Scope<V>> Client<'t, V, S> {
     pub(crate) fn of(table: &'t TxTable<V>, store: u32, seat: TxSeat<V>) -> Client<'t, V, S>
         requires ready { IsReady table.now seat }
         requires frame { S.frame ≡ Some (record { table = table.now; begun = Some seat }) }
+        requires none { (view seat.seat).receipts ≡ [] }
         ensures { result.receipts ≡ (view seat.seat).receipts }
     {
         Client {
@@ -63,6 +64,7 @@ impl<'t, V: Value, S: Scope<V>> Client<'t, V, S> {
     pub(crate) fn into_seat(self) -> TxSeat<V>
         ensures back { IfSome S.frame (ComesBack result) }
         ensures receipts { self.entry.receipts ≡ (view result.seat).receipts }
+        ensures own { AreBy (actor result.seat) (view result.seat).receipts }
     {
         let Client {
             table: _,

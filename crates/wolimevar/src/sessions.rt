@@ -5,9 +5,10 @@
 //! makes the client itself.
 ghost use Rattle.std.specs.Prelude.{◌≡◌, ℕ, ◌+◌, ◌<◌, ◌≤◌, ◌++◌, [], All, IfErr, IfOk, OnErr, Some, length, map, slice_index_or};
 ghost use Rattle.std.specs.Vec.{vec_capacity};
-ghost use Rattle.tx_table.specs.Seated.{view};
+ghost use Rattle.tx_table.specs.Seated.{actor, view};
 ghost use Rattle.driven_turns.specs.Requested.{requests_of};
 ghost use Rattle.transactions.specs.Ready.{IsReady};
+ghost use Rattle.wolimevar.specs.Frames.{AreBy};
 ghost use Rattle.wolimevar.specs.Sessions.{IsFinished, HaveServed, IsServed, IsWhy, IsWaiting, joined, receipts_at};
 
 use crate::client::Client;
@@ -60,6 +61,7 @@ fn serve_as<V: Value, S: Scope<V>, N: Session<V> + Drop>(
     ensures ready { IsReady table.now result.0 }
     ensures shares { (view result.0.seat).shares ≡ (view seat.seat).shares }
     ensures served { N.serves session result.1 (view result.0.seat).receipts }
+    ensures own { AreBy (actor result.0.seat) (view result.0.seat).receipts }
 {
     let mut client: Client<'_, V, S> = Client::of(table, store, seat);
     let out = session.serve(&mut client);
@@ -78,6 +80,7 @@ fn serve_one<V: Value, N: Session<V> + Drop>(
     ensures ready { IsReady table.now result.0 }
     ensures shares { (view result.0.seat).shares ≡ (view seat.seat).shares }
     ensures served { N.serves session result.1 (view result.0.seat).receipts }
+    ensures own { AreBy (actor result.0.seat) (view result.0.seat).receipts }
 {
     serve_as::<V, Brand, N>(table, store, seat, session)
 }

@@ -3,7 +3,7 @@ use Rattle.std.specs.Prelude.{All, drop, take}
 use Rattle.std.specs.List.{AllZip}
 use Rattle.tx_table.specs.Seated.{view}
 use Rattle.wolimevar.specs.Sessions.{IsFinished, IsServed, receipts_at}
-use Rattle.wolimevar.proofs.SessionLemmas.{all_served, as_long, finished_all, joined_behind, whole_slice, zip_of}
+use Rattle.wolimevar.proofs.SessionLemmas.{all_own, all_served, as_long, finished_all, joined_behind, whole_slice, zip_of}
 use Rattle.wolimevar.proofs.sessions.serve.Goals as goal
 
 pub join_all-requires-clause-finished : goal.join_all-requires-clause-finished
@@ -60,6 +60,7 @@ returns-clause-all g c =
       lists = map (λ p. receipts_at p.seat) left;
       each = all_served c.args.table.now g.N.Session.serves old left c.args.sessions.items c.join_all.new.outs.items
           (subst (AllZip Served old) (sym whole) zip) c.prepare_all.ensures.sessions c.join_all.ensures.outs;
+      own = all_own c.args.table.now g.N.Session.serves old left (subst (AllZip Served old) (sym whole) zip);
       gains = joined_behind {N = g.row.N.Denot} {O = g.row.N-Out.Denot} c.args.table.now (view c.args.seat.seat).receipts (view c.prepare_all.new.seat.seat).receipts
           (view c.join_all.new.seat.seat).receipts left c.join_all.ensures.receipts c.prepare_all.ensures.receipts;
     }

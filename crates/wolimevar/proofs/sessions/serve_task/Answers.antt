@@ -20,5 +20,6 @@ returns g c =
         session = c.in-Some-Some.session;
         waited = session_is;
         served = c.serve_one-seat.ensures.served;
+        own = c.serve_one-seat.ensures.own;
       };
     }

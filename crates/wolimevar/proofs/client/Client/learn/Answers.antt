@@ -1,7 +1,7 @@
 use Rattle.std.proofs.Common.{rules, ◌≡◌, Some, ap, subst, ◌∙◌}
 use Rattle.std.specs.Prelude.{OnErr, OnOk, max}
 use Rattle.wolimevar.specs.Ends.{ClientShown}
-use Rattle.wolimevar.proofs.ClientLemmas.{client_on, learn_goes, shows_as, some_clock}
+use Rattle.wolimevar.proofs.ClientLemmas.{client_on, learn_goes, learn_own, shows_as, some_clock}
 use Rattle.wolimevar.proofs.client.Client.learn.Goals as goal
 
 pub invariant_of-self : goal.invariant_of-self
@@ -9,6 +9,7 @@ invariant_of-self g c =
     let is : c.self.inside.seat ≡ Some c.in-Some.seat = search rules in
     client_on g.S.Scope.frame c.self.inside.table.now c.self.inside.seat c.in-Some.seat c.learn-learnt.new.self c.self.invariant is
     c.learn-learnt.ensures.ready (learn_goes _ c.in-Some.seat.seat c.learn-learnt.new.self.seat c.learn-learnt.ensures.knows)
+    (learn_own _ c.in-Some.seat.seat c.learn-learnt.new.self.seat c.learn-learnt.ensures.knows)
 
 pub returns-clause-same : goal.returns-clause-same
 returns-clause-same g c =

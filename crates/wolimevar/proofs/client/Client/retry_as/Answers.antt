@@ -4,7 +4,7 @@ use Rattle.wolimevar.specs.Asked.{HasAsked}
 use Rattle.wolimevar.specs.Ends.{ClientShown}
 use Rattle.wolimevar.specs.Tallies.{AreCounted}
 use Rattle.wolimevar.proofs.EndLemmas.{is_abort}
-use Rattle.wolimevar.proofs.ClientLemmas.{client_on, ends_goes, ends_last, ends_made, ends_none, ends_one, ends_same, shows_as}
+use Rattle.wolimevar.proofs.ClientLemmas.{client_on, ends_goes, ends_last, ends_made, ends_none, ends_one, ends_own, ends_same, shows_as}
 use Rattle.wolimevar.proofs.client.Client.retry_as.Goals as goal
 
 pub invariant_of-self : goal.invariant_of-self
@@ -13,6 +13,8 @@ invariant_of-self g c =
     client_on g.S.Scope.frame c.self.inside.table.now c.self.inside.seat c.in-Some.seat c.retry-seat.result.0 c.self.invariant is
     c.retry-seat.ensures.ready
     (ends_goes (g.B.Body.makes c.args.body.now) (g.B.Body.aborts c.args.body.now) c.in-Some.seat.seat c.retry-seat.result.0.seat c.retry-seat.result.2
+    c.retry-seat.ensures.ends)
+    (ends_own (g.B.Body.makes c.args.body.now) (g.B.Body.aborts c.args.body.now) c.in-Some.seat.seat c.retry-seat.result.0.seat c.retry-seat.result.2
     c.retry-seat.ensures.ends)
 
 pub returns-clause-same : goal.returns-clause-same
