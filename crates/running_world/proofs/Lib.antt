@@ -1,2 +1,3 @@
 pub mod FedLemmas
+pub mod PromiseLemmas
 pub mod SerialLemmas

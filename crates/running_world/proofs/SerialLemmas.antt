@@ -11,7 +11,6 @@ use Rattle.seq_model.specs.Runs.{IsInCommitOrder, IsRun, after_run}
 use Rattle.replay_log.specs.Seats as seats
 use Rattle.replay_log.specs.Worlds.{World, is_half_done}
 use Rattle.replay_log.specs.WorldSerial.{AllSaw, SawAt}
-use Rattle.replay_log.proofs.TraceLemmas as worlds
 use Rattle.tx_actor.specs.Running.{seat_of, stage_of}
 use Rattle.tx_actor.specs.declared.actor.TxActor.{TxActor}
 use Rattle.world_table.specs.States.{held_in}
@@ -25,7 +24,7 @@ use Rattle.running_world.specs.Serial.{IsFrom, IsSerialFrom, NoneIsHalf}
 use Rattle.world_parts.specs.Traces.{IsSerialTrace, seat_at, seat_found}
 use Rattle.running_world.proofs.FedLemmas.{reached_fed}
 use Rattle.actor_turns.proofs.SeatLemmas.{saw_as}
-use Rattle.world_parts.proofs.TraceLemmas.{seat_like, serial_at}
+use Rattle.world_parts.proofs.TraceLemmas.{SerialLaw, StateLaw, seat_like, serial_at, state_left}
 use Rattle.actor_turns.proofs.StepLemmas.{reached_linked}
 
 module _ {V : Type 0} where
@@ -39,29 +38,28 @@ module _ {V : Type 0} where
   place_free c none (suc i) = found_free (slice_get c.actors.items i) (none i)
 
   -- what the table holds where no commit is half done
-  left_in : (o : Contents V) (c : Parts V) (h : IsFrom o c) → NoneIsHalf c
+  left_in : StateLaw V → (o : Contents V) (c : Parts V) (h : IsFrom o c) → NoneIsHalf c
       → (let kept : Contents V = record { words = take c.blocks.words c.table.cells.values.items; held = held_in c.table } in
       kept ≡ after_run c.records.items o)
-  left_in o c h none =
+  left_in law o c h none =
       let w = h.world in
       let p = h.parts in
       let pos = (reached_linked o w h.reached).base.stripes in
       let first = ap (λ (n : ℕ). take n c.table.cells.values.items) (sym p.laid.0) in
       sym (tables.shows_state c.table w (take c.blocks.words c.table.cells.values.items) p.table p.shape pos first)
-      ∙ (worlds.shows_state w (after_run w.records o) pos
-      ((serial_at o w h.reached).left (λ a. (seat_like c w a p).0 ∙ place_free c none a))
+      ∙ (state_left law o w h.reached (λ a. (seat_like c w a p).0 ∙ place_free c none a)
       ∙ ap (λ (rs : List (ℕ × Record V)). after_run rs o) (sym p.records))
 
-  pub serial_from : (o : Contents V) (c : Parts V) → IsFrom o c → IsSerialFrom o c
-  serial_from o c h =
+  pub serial_from : SerialLaw V → StateLaw V → (o : Contents V) (c : Parts V) → IsFrom o c → IsSerialFrom o c
+  serial_from law left o c h =
       let w = h.world in
       let p = h.parts in
-      let s = serial_at o w h.reached in
+      let s = serial_at law o w h.reached in
       record {
         ordered = subst (λ (rs : List (ℕ × Record V)). IsInCommitOrder rs) (sym p.records) s.ordered;
         run = subst (λ (rs : List (ℕ × Record V)). IsRun rs o) (sym p.records) s.run;
-        words = λ none. ap (λ (x : Contents V). x.words) (left_in o c h none);
-        held = λ none. ap (λ (x : Contents V). x.held) (left_in o c h none);
+        words = λ none. ap (λ (x : Contents V). x.words) (left_in left o c h none);
+        held = λ none. ap (λ (x : Contents V). x.held) (left_in left o c h none);
         open_saw = λ i r got.
             subst (λ (rs : List (ℕ × Record V)). SawAt o rs (seat_of r) (stage_of r.stage)) (sym p.records)
             (saw_as o w.records w (i + 1) r (p.seats i r got).runs (s.open_saw (i + 1)));

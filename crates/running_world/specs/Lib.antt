@@ -1,3 +1,4 @@
+pub mod Events
 pub mod Serial
 pub mod Worlds
 pub use Rattle.world_parts.specs.Feeds

@@ -3,14 +3,18 @@ ghost use Rattle.std.specs.Prelude.{◌≡◌, ◌≢◌, false, true, length, I
 ghost use Rattle.seq_model.specs.Contents.{Contents};
 ghost use Rattle.seq_model.specs.Refusals.{IsNoSuchOrTooLong};
 ghost use Rattle.replay_log.specs.Seats.{World as PureWorld};
+ghost use Rattle.replay_log.specs.WorldProgress.{AreSmall};
 ghost use Rattle.replay_log.specs.WorldSerial.{IsSerial};
 ghost use Rattle.world_table.specs.Openings.{IsWithin, world_of};
-ghost use Rattle.world_parts.specs.Feeds.{Feeds, fed_all};
+ghost use Rattle.world_parts.specs.Feeds.{AllocatesNothing, Feeds, fed_all};
 ghost use Rattle.world_parts.specs.Parts.{IsWorld};
 ghost use Rattle.world_parts.specs.Reached.{IsReached};
+ghost use Rattle.running_world.specs.Events.{IsFedTo};
 ghost use Rattle.running_world.specs.Serial.{IsFrom, IsSerialFrom};
 ghost use Rattle.world_parts.specs.Traces.{IsSerialTrace, IsTraceOf};
 
+use atomic_steps::laws::others_stand;
+use replay_log::laws::{calls, progress, refusals, serial_worlds, traces};
 use seq_model::{Event, Memory, Notice, Refusal, Shape, State, Value};
 use std::alloc::Global;
 use std::marker::Model;
@@ -63,10 +67,13 @@ impl<V: Value> World<V> {
         ensures from { IfOk result (λ world. IsFrom state world.parts) }
         ensures serial { IfOk result (λ world. IsSerialFrom state world.parts) }
         ensures lasting { IfOk result (λ world. world.failed ≡ false) }
+        ensures small { IfOk result (λ world. AreSmall world.parts.blocks.blocks) }
         ensures refused { IfErr result (λ refusal. IsNoSuchOrTooLong refusal (length shape.now.stripes ≢ length state.held)
             (IsWithin shape.now.stripes shape.now.clock state)) }
         ensures fits { IsOk result → (length shape.now.stripes ≡ length state.held) × IsWithin shape.now.stripes shape.now.clock state }
     {
+        serial_worlds::<V>();
+        traces::<V>();
         let parts = Parts::open(alloc, shape, state)?;
         Ok(World {
             parts,
@@ -74,19 +81,29 @@ impl<V: Value> World<V> {
         })
     }
 
-    /// One event, and what it tells.
+    /// One event, and its notice.
     ///
-    /// `Memory` where a growth was refused, and to each later event.
+    /// `Memory` where a growth was refused, and to each later event. A step of a half-done commit takes no memory, nor does an event that
+    /// refuses memory to a request.
     pub fn feed(&mut self, event: Event<V>) -> Result<Notice<V>, Memory>
         ensures ok { IfOk result (Feeds self.old.parts event self.new.parts) }
         ensures from { OnOk result ((opening : Contents V) → IsFrom opening self.old.parts → IsFrom opening self.new.parts) }
         ensures serial { OnOk result ((opening : Contents V) → IsFrom opening self.old.parts → IsSerialFrom opening self.new.parts) }
+        ensures promised { IfOk result (IsFedTo self.old.parts event self.new.parts) }
+        ensures small { OnOk result (AreSmall self.old.parts.blocks.blocks → AreSmall self.new.parts.blocks.blocks) }
+        ensures served { self.old.failed ≡ false → AllocatesNothing self.old.parts event → IsOk result }
         ensures lasting { OnOk result ((self.old.failed ≡ false) × (self.new.failed ≡ false)) }
         ensures failed { OnErr result (self.new.failed ≡ true) }
     {
         if self.failed {
             return Err(Memory);
         }
+        others_stand::<V>();
+        calls::<V>();
+        progress::<V>();
+        refusals::<V>();
+        serial_worlds::<V>();
+        traces::<V>();
         self.failed = true;
         let notice = self.parts.feed(event)?;
         self.failed = false;
@@ -135,6 +152,7 @@ pub fn run_world<V: Value>(
     ensures refused { IfErr result (λ refusal. IsNoSuchOrTooLong refusal (length shape.now.stripes ≢ length state.held)
         (IsWithin shape.now.stripes shape.now.clock state)) }
 {
+    serial_worlds::<V>();
     let mut world = World::open(alloc, shape, state)?;
     for event in events {
         let _notice = world.feed(event.try_copy()?)?;

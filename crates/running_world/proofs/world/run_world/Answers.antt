@@ -49,4 +49,4 @@ returns-clause-law g c = λ _. (
     let w = world_of c.args.shape.now.stripes c.args.shape.now.clock c.args.state in
     let h = has_all c.args.state w c.args.events.now c.loop-event.event-index c.loop-event.world.parts c.loop-event-test.false
     c.loop-event.invariant in
-    serial_at c.args.state (fed_all w c.args.events.now) h.0)
+    serial_at c.serial_worlds.ensures.serial c.args.state (fed_all w c.args.events.now) h.0)

@@ -1,6 +1,7 @@
 use Rattle.std.proofs.Common.{refl}
 use Rattle.world_table.specs.Openings.{world_of}
 use Rattle.running_world.proofs.FedLemmas.{opened_well}
+use Rattle.running_world.proofs.PromiseLemmas.{few_locations, small_opened}
 use Rattle.running_world.proofs.SerialLemmas.{serial_from}
 use Rattle.running_world.proofs.world.World.open.Goals as goal
 
@@ -17,4 +18,9 @@ returns-clause-from g c = record {
 }
 
 pub returns-clause-serial : goal.returns-clause-serial
-returns-clause-serial g c = serial_from c.args.state c.in_ok-parts.parts (returns-clause-from g c)
+returns-clause-serial g c = serial_from c.serial_worlds.ensures.serial c.traces.ensures.state c.args.state c.in_ok-parts.parts (returns-clause-from g c)
+
+pub returns-clause-small : goal.returns-clause-small
+returns-clause-small g c =
+    small_opened c.in_ok-parts.parts (world_of c.args.shape.now.stripes c.args.shape.now.clock c.args.state) c.in_ok-parts.ensures.world
+    (few_locations c.args.shape.now.stripes c.args.state.held (c.in_ok-parts.ensures.fits refl).1.stripes)
