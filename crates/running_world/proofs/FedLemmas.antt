@@ -19,8 +19,6 @@ use Rattle.world_parts.specs.declared.parts.Parts.{Parts}
 use Rattle.world_parts.specs.Feeds.{Feeds, fed, fed_all}
 use Rattle.world_parts.specs.Parts.{HasWorld, IsWorld}
 use Rattle.world_parts.specs.Reached.{IsReached}
-use Rattle.actor_words.proofs.BlocksLemmas.{end_behind}
-use Rattle.world_parts.proofs.WorldLemmas.{shape_laid}
 use Rattle.world_parts.proofs.TraceLemmas.{take_all}
 use Rattle.world_parts.proofs.FeedLemmas.{fed_none, fed_one}
 
@@ -62,13 +60,6 @@ module _ {V : Type 0} where
   pub opened_well : (c : Parts V) (ns : List ℕ) (clock : ℕ) (s : Contents V) → IsReached s (world_of ns clock s)
       → IsWorld c (world_of ns clock s) → HasWorld c
   opened_well c ns clock s reached h = record { opening = s; world = world_of ns clock s; reached = reached; parts = h }
-
-  -- the words are among the values of the table
-  pub words_fit : (c : Parts V) → HasWorld c → c.blocks.words ≤ length c.table.cells.values.items
-  words_fit c h =
-      let all = (shape_laid c h.world h.parts).values in
-      let behind = end_behind c.blocks.words c.blocks.blocks in
-      omega (arith, all, behind)
 
   -- ---- a list of events
   -- c are the parts of the world that these events lead to from w, which opened on o

@@ -2,8 +2,8 @@
 -- what is serial of the world is serial of the trace, and where no number is half done no actor is.
 use Rattle.std.proofs.Common.{◌≡◌, ℕ, zero, suc, ◌+◌, ◌-◌, ◌<◌, ◌≤◌, Bool, true, false, ◌&&◌, ◌==◌, List, [], ◌∷◌, ◌++◌, map, Option, Some}
 use Rattle.std.proofs.Common.{None}
-use Rattle.std.proofs.Common.{length, get_or, take, refl, sym, ap, ◌∙◌, subst, inl, inr, arith, true≢false}
-use Rattle.std.specs.Prelude.{if◌then◌else◌, slice_get}
+use Rattle.std.proofs.Common.{length, get_or, take, refl, sym, ap, ◌∙◌, subst, inl, inr, ◌⊎◌, arith, true≢false}
+use Rattle.std.specs.Prelude.{All, if◌then◌else◌, slice_get}
 use Rattle.std.proofs.Math.Seq.{take-suc}
 use Rattle.std.proofs.lemmas.Bool.{cases_Bool, cases_lt}
 use Rattle.std.proofs.lemmas.Bool.Decides.{nat_tests}
@@ -11,6 +11,9 @@ use Rattle.world_parts.specs.declared.opening.TheConstants.{ACTORS}
 use Rattle.seq_model.specs.declared.event.Event.{Event}
 use Rattle.seq_model.specs.declared.held.Held.{Held}
 use Rattle.seq_model.specs.declared.record.Record.{Record}
+use Rattle.seq_model.specs.declared.refusal.Refusal.{Refusal}
+use Rattle.seq_model.specs.declared.refusal.Refusal.TheVariants.{OutOfMemory, TooLong}
+use Rattle.seq_model.specs.Calls.{IsWithinLimits}
 use Rattle.seq_model.specs.Contents.{Contents}
 use Rattle.seq_model.specs.Runs.{IsInCommitOrder, IsRun, after_run}
 use Rattle.collection_machine.specs.Content.{has}
@@ -27,10 +30,16 @@ use Rattle.tx_actor.specs.declared.actor.TxActor.{TxActor}
 use Rattle.world_parts.specs.declared.parts.Parts.{Parts}
 use Rattle.world_parts.specs.declared.trace.Ended.{Ended}
 use Rattle.world_parts.specs.declared.trace.Trace.{Trace}
-use Rattle.world_parts.specs.Parts.{IsWorld, ended_of}
+use Rattle.world_parts.specs.Parts.{HasWorld, IsWorld, ended_of}
 use Rattle.world_parts.specs.Reached.{IsReached}
 use Rattle.world_parts.specs.Traces.{IsSerialTrace, IsTraceOf, is_half, seat_at, seat_found, with_number}
+use Rattle.actor_words.proofs.BlocksLemmas.{end_behind}
 use Rattle.actor_turns.proofs.SeatLemmas.{IsLike, like_as}
+use Rattle.actor_turns.proofs.StepLemmas.{reached_linked}
+use Rattle.within_limits.specs.Limits.{HoldsWithinLimits}
+use Rattle.world_table.specs.States.{held_in}
+use Rattle.world_table.proofs.StateLemmas as tables
+use Rattle.world_parts.proofs.WorldLemmas.{shape_laid}
 
 -- one number more behind the others, and one in front
 swapped : (b c : Bool) (n m : ℕ) (ns : List ℕ)
@@ -72,6 +81,11 @@ abbrev pub HalfLaw : Type 0 → Type 0
 HalfLaw V =
     (blocks : List Block) (clock : ℕ) (values : List ℕ) (held : List (Held V)) (events : List (Event V)) → HaveStripes blocks
     → Suit blocks held → let w = run (opened blocks clock values held) events in AreHalfDone w (half w)
+
+abbrev pub LimitsLaw : Type 0 → Type 0
+LimitsLaw V =
+    (blocks : List Block) (clock : ℕ) (values : List ℕ) (held : List (Held V)) (events : List (Event V)) → HaveStripes blocks
+    → Suit blocks held → HoldsWithinLimits (run (opened blocks clock values held) events)
 
 module _ {V : Type 0} where
   half_push : (seats : ℕ → Seat V) (rs : List (ℕ × Record V)) (r : ℕ × Record V)
@@ -199,3 +213,29 @@ module _ {V : Type 0} where
         saw = subst (λ (es : List (seats.Ended V)). AllSaw o t.records es) (sym is.aborted)
             (subst (λ (rs : List (ℕ × Record V)). AllSaw o rs w.aborted) (sym is.records) s.aborted_saw);
       }
+
+  -- ---- the state that is shown
+  -- the words are among the values of the table
+  pub words_fit : (c : Parts V) → HasWorld c → c.blocks.words ≤ length c.table.cells.values.items
+  words_fit c h =
+      let all = (shape_laid c h.world h.parts).values in
+      let behind = end_behind c.blocks.words c.blocks.blocks in
+      omega (arith, all, behind)
+
+  -- what the bases hold is within the limits
+  held_within : LimitsLaw V → (c : Parts V) → HasWorld c → All IsWithinLimits (held_in c.table)
+  held_within law c h =
+      let w = h.world in
+      let r = h.reached in
+      let p = h.parts in
+      let first = ap (λ (n : ℕ). take n c.table.cells.values.items) (sym p.laid.0) in
+      let shown = tables.shows_state c.table w (take c.blocks.words c.table.cells.values.items) p.table p.shape
+      (reached_linked h.opening w r).base.stripes first in
+      subst (λ (hs : List (Held V)). All IsWithinLimits hs) (ap (λ (x : Contents V). x.held) shown)
+      (subst (λ (z : World V). HoldsWithinLimits z) r.world
+      (law r.blocks r.clock h.opening.words h.opening.held r.events r.stripes r.suits))
+
+  pub never_too_long : LimitsLaw V → (c : Parts V) (e : Refusal) → HasWorld c → (e ≡ OutOfMemory → ⊥)
+      → (e ≡ OutOfMemory) ⊎ ((e ≡ TooLong) × ((All IsWithinLimits (held_in c.table)) → ⊥)) → ⊥
+  never_too_long law c e h other (inl is) = other is
+  never_too_long law c e h other (inr beyond) = beyond.1 (held_within law c h)

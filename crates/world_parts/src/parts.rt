@@ -1,8 +1,8 @@
 //! The parts of a world.
-ghost use Rattle.std.specs.Prelude.{◌≡◌, ◌≢◌, ◌≤◌, IfErr, IfOk, IsOk, length};
+ghost use Rattle.std.specs.Prelude.{◌≡◌, ◌≢◌, IfErr, IfOk, IsOk, length};
 ghost use Rattle.seq_model.specs.Refusals.{IsNoSuchOrTooLong};
 ghost use Rattle.world_table.specs.Openings.{IsWithin, world_of};
-ghost use Rattle.world_parts.specs.Parts.{IsWorld};
+ghost use Rattle.world_parts.specs.Parts.{HasWorld, IsWorld};
 ghost use Rattle.seq_model.specs.Contents.{Contents};
 ghost use Rattle.replay_log.specs.Seats.{World};
 ghost use Rattle.replay_log.specs.Worlds.{state};
@@ -16,6 +16,7 @@ use replay_log::laws::{numbers, serial_worlds, traces};
 use seq_model::{Items, Memory, Record, Refusal, Shape, State, Value};
 use std::alloc::Global;
 use tx_actor::TxActor;
+use within_limits::laws::bases_are_within_limits;
 use world_table::{Table, lay};
 
 /// The parts of a world.
@@ -66,18 +67,22 @@ impl<V: Value> Parts<V> {
 
     /// What words and collections hold.
     fn state(&self) -> Result<State<V>, Memory>
-        requires { self.now.blocks.words ≤ length self.now.table.cells.values.items }
+        requires { HasWorld self.now }
         ensures { IfOk result (λ shown. (opening : Contents V) (w : World V) → IsReached opening w → IsWorld self.now w → state w ≡ shown) }
     {
+        bases_are_within_limits::<V>();
         match self.table.state(self.blocks.words() as usize) {
             Ok(state) => Ok(state),
-            Err(_) => Err(Memory),
+            Err(refusal) => match refusal {
+                Refusal::OutOfMemory => Err(Memory),
+                _ => unreachable!(),
+            },
         }
     }
 
     /// What has come of the events so far.
     pub fn trace(&self) -> Result<Trace<V>, Memory>
-        requires { self.now.blocks.words ≤ length self.now.table.cells.values.items }
+        requires { HasWorld self.now }
         ensures trace { IfOk result (λ trace. (opening : Contents V) (w : World V) → IsReached opening w → IsWorld self.now w →
             IsTraceOf w trace) }
         ensures serial { IfOk result (λ trace. (opening : Contents V) (w : World V) → IsReached opening w → IsWorld self.now w →
@@ -101,7 +106,7 @@ impl<V: Value> Parts<V> {
 
     /// What has come of all events. The records and the aborted transactions are moved, not copied.
     pub fn into_trace(self) -> Result<Trace<V>, Memory>
-        requires { self.blocks.words ≤ length self.table.cells.values.items }
+        requires { HasWorld self }
         ensures trace { IfOk result (λ trace. (opening : Contents V) (w : World V) → IsReached opening w → IsWorld self w →
             IsTraceOf w trace) }
         ensures serial { IfOk result (λ trace. (opening : Contents V) (w : World V) → IsReached opening w → IsWorld self w →

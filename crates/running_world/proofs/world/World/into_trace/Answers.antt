@@ -4,12 +4,11 @@ use Rattle.world_parts.specs.Reached.{IsReached}
 use Rattle.running_world.specs.Serial.{IsFrom}
 use Rattle.world_parts.specs.Traces.{IsSerialTrace, IsTraceOf}
 use Rattle.running_world.specs.Worlds.{WorldShown}
-use Rattle.running_world.proofs.FedLemmas.{words_fit}
 use Rattle.running_world.proofs.SerialLemmas.{serial_traced}
 use Rattle.running_world.proofs.world.World.into_trace.Goals as goal
 
 pub into_trace-requires : goal.into_trace-requires
-into_trace-requires g c = words_fit c.self.inside.parts (c.self.invariant c.if-self.false)
+into_trace-requires g c = c.self.invariant c.if-self.false
 
 pub returns-clause-trace : goal.returns-clause-trace
 returns-clause-trace g c =
