@@ -6,7 +6,7 @@ ghost use Rattle.vac_model.specs.Actions.{IsAllowed};
 ghost use Rattle.vacation_core.specs.Sessions.{session as plan_of};
 ghost use Rattle.session_lines.specs.Receipts.{AreLines, AreReceipts, IsLine};
 
-use seq_model::{Memory, Record};
+use seq_model::{Memory, Record, Refusal};
 use session_script::Line;
 use std::alloc::Global;
 use vac_model::Action;
@@ -26,7 +26,7 @@ pub fn lines_of(
     let (mut left, mut unread) = (actions, receipts);
     while let Some((action, later)) = left.split_first() {
         let Some((receipt, behind)) = unread.split_first() else {
-            return Err(Memory);
+            unreachable!()
         };
         lines.push(line_for(alloc, action, receipt)?)?;
         left = later;
@@ -42,7 +42,8 @@ fn line_for(alloc: Global, action: &Action, receipt: &Record<Entry>) -> Result<L
 {
     match Session::new(alloc, action) {
         Ok(session) => line_of(&session, receipt),
-        Err(_) => Err(Memory),
+        Err(Refusal::OutOfMemory) => Err(Memory),
+        Err(_) => unreachable!(),
     }
 }
 
