@@ -1,43 +1,92 @@
-//! A bank: four tellers transfer money, each in a thread of its own, and a reader beside them sums what there is.
+//! A bank: four tellers transfer money, each in a thread of its own, while a reader beside them sums all accounts.
 #![tactic(auto)]
 
 use std::alloc::Global;
-use std::io;
 use std::thread::Threads;
-use wolimevar::{Body, Client, Counts, Entries, Layout, Map, Memory, PriorityQueue, Queue, QueueItems};
-use wolimevar::{Refusal, Scope, Session, Text, Transaction, Value};
+use wolimevar::{
+    Body, Client, Counts, Entries, Full, Layout, Map, Memory, PriorityQueue, Queue, QueueItems,
+    Refusal, Scope, Session, Text, Transaction, Value,
+};
+
+/// How often a transaction is attempted at most.
+const TRIES: u64 = 1_000_000;
 
 #[derive(Drop)]
-struct Account { owner: Text, balance: u64 }
+struct Account {
+    owner: Text,
+    balance: u64,
+}
 
 impl Value for Account {
     fn try_copy(&self) -> Result<Account, Memory> {
-        Ok(Account { owner: self.owner.try_copy()?, balance: self.balance })
+        let (owner, balance) = (self.owner.try_copy()?, self.balance);
+        Ok(Account { owner, balance })
     }
-    fn same(&self, other: &Account) -> bool { self.owner.same(&other.owner) && self.balance == other.balance }
+
+    fn same(&self, other: &Account) -> bool {
+        self.owner.same(&other.owner) && self.balance == other.balance
+    }
 }
 
+/// The accounts by number, the transfers that were made, and the accounts that fell low.
 #[derive(Clone, Copy)]
-struct Bank { accounts: Map<Account>, audit: Queue, alerts: PriorityQueue }
+struct Bank {
+    accounts: Map<Account>,
+    audit: Queue,
+    alerts: PriorityQueue,
+}
+
+/// Why a transfer is not made.
+#[derive(Drop)]
+enum Declined {
+    Absent,
+    NoMoney,
+    Refused(Refusal),
+}
+
+impl From<Refusal> for Declined {
+    fn from(refusal: Refusal) -> Declined {
+        Declined::Refused(refusal)
+    }
+}
+
+impl From<Full> for Declined {
+    fn from(full: Full) -> Declined {
+        Declined::Refused(full.into())
+    }
+}
 
 #[derive(Drop)]
-struct Transfer { bank: Bank, id: u64, from: u64, to: u64, amount: u64 }
+struct Transfer {
+    bank: Bank,
+    id: u64,
+    from: u64,
+    to: u64,
+    amount: u64,
+}
 
 impl Body<Account> for Transfer {
-    type Out = bool;
-    type Error = Refusal;
-    fn run<S: Scope<Account>>(&self, tx: &mut Transaction<'_, Account, S>) -> Result<bool, Refusal> {
-        let Bank { accounts, audit, alerts } = self.bank;
-        let Some(mut giver) = accounts.get(tx, self.from)? else { return Ok(false) };
-        let Some(mut taker) = accounts.get(tx, self.to)? else { return Ok(false) };
-        let Some(left) = giver.balance.checked_sub(self.amount) else { return Ok(false) };
+    type Out = ();
+
+    type Error = Declined;
+
+    fn run<S: Scope<Account>>(&self, tx: &mut Transaction<'_, Account, S>) -> Result<(), Declined> {
+        let bank = self.bank;
+        let mut giver = bank.accounts.get(tx, self.from)?.ok_or(Declined::Absent)?;
+        let left = giver
+            .balance
+            .checked_sub(self.amount)
+            .ok_or(Declined::NoMoney)?;
+        if left < 60 && giver.balance >= 60 {
+            bank.alerts.insert(tx, self.from)??;
+        }
         giver.balance = left;
+        bank.accounts.put(tx, self.from, giver)?;
+        let mut taker = bank.accounts.get(tx, self.to)?.ok_or(Declined::Absent)?;
         taker.balance = taker.balance.saturating_add(self.amount);
-        accounts.put(tx, self.from, giver)?;
-        accounts.put(tx, self.to, taker)?;
-        audit.enqueue(tx, self.id)??;
-        if left < 70 { alerts.insert(tx, self.from)??; }
-        Ok(true)
+        bank.accounts.put(tx, self.to, taker)?;
+        bank.audit.enqueue(tx, self.id)??;
+        Ok(())
     }
 }
 
@@ -46,41 +95,58 @@ struct Total(Bank);
 
 impl Body<Account> for Total {
     type Out = u64;
+
     type Error = Refusal;
+
     fn run<S: Scope<Account>>(&self, tx: &mut Transaction<'_, Account, S>) -> Result<u64, Refusal> {
         let mut total = 0u64;
-        for number in 0..8u64 {
-            if let Some(account) = self.0.accounts.get(tx, number)? { total = total.saturating_add(account.balance); }
+        for number in 0..6u64 {
+            let account = self.0.accounts.get(tx, number)?;
+            total = total.saturating_add(account.map_or(0, |account| account.balance));
         }
         Ok(total)
     }
 }
 
 #[derive(Drop)]
-enum Desk { Teller(Bank, u64), Reader(Bank) }
+enum Desk {
+    Teller(Bank, u64),
+    Reader(Bank),
+}
 
 impl Session<Account> for Desk {
+    /// How many transfers were made, or how many sums were right.
     type Out = u64;
+
     fn serve<S: Scope<Account>>(self, client: &mut Client<'_, Account, S>) -> u64 {
         let mut done = 0u64;
         match self {
-            Desk::Teller(bank, step) => for i in 0..25u64 {
-                let from = i.wrapping_add(step) % 8;
-                let transfer = Transfer { bank, id: i, from, to: from.wrapping_add(step) % 8, amount: i % 7 + 1 };
-                if let Ok((true, _)) = client.atomically(1_000, &transfer) { done = done.saturating_add(1); }
+            // Accounts 0 to 2 give, 3 to 5 take, and account 6 isn't there.
+            Desk::Teller(bank, teller) => for i in 0..24u64 {
+                let transfer = Transfer {
+                    bank,
+                    id: teller.wrapping_mul(100).wrapping_add(i),
+                    from: i % 3,
+                    to: i % 4 + 3,
+                    amount: i % 5,
+                };
+                done = done.saturating_add(u64::from(client.atomically(TRIES, &transfer).is_ok()));
             },
             Desk::Reader(bank) => for _ in 0..50u64 {
-                if let Ok((800, _)) = client.look(1_000, &Total(bank)) { done = done.saturating_add(1); }
+                let right = matches!(client.look(TRIES, &Total(bank)), Ok((600, _)));
+                done = done.saturating_add(u64::from(right));
             },
         }
         done
     }
 }
 
-fn serve<R: Threads + Sync>(rt: &R, alloc: Global) -> Result<(Vec<u64>, u64, usize), Refusal> {
+/// What the desks did, and how many transfers and alerts there are in the end.
+fn serve<R: Threads + Sync>(rt: &R, alloc: Global) -> Result<(Vec<u64>, usize, usize), Refusal> {
     let mut accounts = Entries::new(alloc);
-    for number in 0..8u64 {
-        accounts.insert(number, Account { owner: Text::of(alloc, "owner")?, balance: 100 })?;
+    for number in 0..6u64 {
+        let (owner, balance) = (Text::from(format!(in alloc; "owner {number}")?), 100);
+        accounts.insert(number, Account { owner, balance })?;
     }
     let mut layout = Layout::new(alloc);
     let bank = Bank {
@@ -89,16 +155,18 @@ fn serve<R: Threads + Sync>(rt: &R, alloc: Global) -> Result<(Vec<u64>, u64, usi
         alerts: layout.priority_queue(1, Counts::new(alloc))?,
     };
     let mut store = layout.open()?;
-    let tell = |step| Desk::Teller(bank, step);
-    let done = store.run(rt, vec![in alloc; tell(1), tell(2), tell(3), tell(4), Desk::Reader(bank)]?)?;
-    let (total, _) = store.look(1_000, &Total(bank))?;
+    let tell = |teller| Desk::Teller(bank, teller);
+    let desks = vec![in alloc; tell(1), tell(2), tell(3), tell(4), Desk::Reader(bank)]?;
+    let done = store.run(rt, desks)?;
     let contents = store.close()?;
-    Ok((done, total, contents.queue(bank.audit).map_or(0, |items| items.len())))
+    let made = contents.queue(bank.audit).map_or(0, |items| items.len());
+    let low = contents.priority_queue(bank.alerts);
+    Ok((done, made, low.map_or(0, |alerts| alerts.iter().count())))
 }
 
-fn main(rt: HostRuntime) -> io::Result<()> {
+fn main(rt: HostRuntime) -> std::io::Result<()> {
     match serve(&rt, rt.alloc()) {
-        Ok((done, total, entries)) => println!(rt; "{done:?}, total {total}, audit entries {entries}"),
+        Ok((done, made, low)) => println!(rt; "{done:?}, {made} transfers, {low} alerts"),
         Err(refusal) => println!(rt; "{refusal}"),
     }
 }
