@@ -1,27 +1,33 @@
-//! A queue of jobs: producers submit jobs by urgency, and workers take them, the most urgent first, each in a thread of its own.
+//! A queue of jobs: producers submit them, workers do the most urgent first, and a job that fails goes back with one try less.
 #![tactic(auto)]
 
 use std::alloc::Global;
-use std::io;
 use std::thread::{Threads, yield_now};
-use wolimevar::{Body, Client, Counts, Entries, Failure, Layout, Map, PriorityQueue, Queue, QueueItems};
-use wolimevar::{Refusal, Scope, Session, Store, Tally, Transaction, Word};
+use wolimevar::{
+    Body, Client, Counts, Entries, Failure, Layout, Map, PriorityQueue, Queue, QueueItems, Refusal,
+    Scope, Session, Transaction, Word,
+};
 
-/// Where jobs wait by urgency, what each of them is to add up to, those that were done, and how many producers go on.
+/// How often a transaction is attempted, and how often a job is tried, at most.
+const ATTEMPTS: u64 = 1_000_000;
+
+const TRIES: u64 = 3;
+
+/// The numbers of jobs that are ready, the least one the most urgent; how often each job that isn't finished may still be tried; the jobs
+/// that were done, and those whose every try failed; and how many producers go on.
 #[derive(Clone, Copy)]
 struct Jobs {
     ready: PriorityQueue,
-    work: Map<u64>,
+    tries: Map<u64>,
     done: Queue,
+    dead: Queue,
     producers: Word,
 }
 
-/// Why a worker has no job.
+/// Why a worker has no job: there is none so far, or there will be none any more.
 #[derive(Drop)]
 enum Idle {
-    /// There is none so far, but there may be.
     NoneYet,
-    /// There will be none any more.
     Closed,
     Refused(Refusal),
 }
@@ -32,55 +38,64 @@ impl From<Refusal> for Idle {
     }
 }
 
-/// A job is submitted.
+/// A job is submitted, the producer's last one or not.
 #[derive(Drop)]
-struct Submit {
-    jobs: Jobs,
-    urgency: u64,
-    work: u64,
-}
+struct Submit(Jobs, u64, bool);
 
 impl Body<u64> for Submit {
     type Out = ();
+
     type Error = Refusal;
 
     fn run<S: Scope<u64>>(&self, tx: &mut Transaction<'_, u64, S>) -> Result<(), Refusal> {
-        self.jobs.work.put(tx, self.urgency, self.work)?;
-        self.jobs.ready.insert(tx, self.urgency)??;
-        Ok(())
+        let Submit(jobs, number, is_last) = *self;
+        jobs.tries.put(tx, number, TRIES)?;
+        jobs.ready.insert(tx, number)??;
+        let producers = jobs.producers.read(tx)?;
+        let left = producers.saturating_sub(u64::from(is_last));
+        jobs.producers.write(tx, left)
     }
 }
 
-/// A producer goes.
-#[derive(Drop)]
-struct Leave(Jobs);
-
-impl Body<u64> for Leave {
-    type Out = ();
-    type Error = Refusal;
-
-    fn run<S: Scope<u64>>(&self, tx: &mut Transaction<'_, u64, S>) -> Result<(), Refusal> {
-        let left = self.0.producers.read(tx)?;
-        self.0.producers.write(tx, left.saturating_sub(1))
-    }
-}
-
-/// The most urgent job is done.
+/// The most urgent job is taken by a worker, which learns how often it may be tried.
 #[derive(Drop)]
 struct Take(Jobs);
 
 impl Body<u64> for Take {
-    type Out = u64;
+    type Out = (u64, u64);
+
     type Error = Idle;
 
-    fn run<S: Scope<u64>>(&self, tx: &mut Transaction<'_, u64, S>) -> Result<u64, Idle> {
-        let Some(urgency) = self.0.ready.take_least(tx)? else {
-            let producers = self.0.producers.read(tx)?;
-            return Err(if producers == 0 { Idle::Closed } else { Idle::NoneYet });
-        };
-        let work = self.0.work.remove(tx, urgency)?.unwrap_or(0);
-        self.0.done.enqueue(tx, urgency)?.map_err(|full| Idle::Refused(full.into()))?;
-        Ok(work)
+    fn run<S: Scope<u64>>(&self, tx: &mut Transaction<'_, u64, S>) -> Result<(u64, u64), Idle> {
+        if let Some(number) = self.0.ready.take_least(tx)? {
+            return Ok((number, self.0.tries.get(tx, number)?.unwrap_or(0)));
+        }
+        let closed = self.0.producers.read(tx)? == 0 && self.0.tries.len(tx)? == 0;
+        Err(if closed { Idle::Closed } else { Idle::NoneYet })
+    }
+}
+
+/// A try of a job has ended, well or not.
+#[derive(Drop)]
+struct End(Jobs, u64, bool);
+
+impl Body<u64> for End {
+    type Out = ();
+
+    type Error = Refusal;
+
+    fn run<S: Scope<u64>>(&self, tx: &mut Transaction<'_, u64, S>) -> Result<(), Refusal> {
+        let End(jobs, number, well) = *self;
+        let tries = jobs.tries.remove(tx, number)?.unwrap_or(0);
+        if well {
+            jobs.done.enqueue(tx, number)??;
+        } else if tries <= 1 {
+            jobs.dead.enqueue(tx, number)??;
+        } else {
+            jobs.tries.put(tx, number, tries - 1)?;
+            jobs.ready.insert(tx, number)??;
+        }
+        Ok(())
     }
 }
 
@@ -91,64 +106,67 @@ enum Role {
 }
 
 impl Session<u64> for Role {
-    type Out = (u64, Tally);
+    /// How many tries were made.
+    type Out = Result<u64, Refusal>;
 
-    fn serve<S: Scope<u64>>(self, client: &mut Client<'_, u64, S>) -> (u64, Tally) {
-        let mut sum = 0u64;
+    fn serve<S: Scope<u64>>(self, client: &mut Client<'_, u64, S>) -> Result<u64, Refusal> {
+        let mut made = 0u64;
         match self {
-            Role::Producer(jobs, first) => {
-                for i in 0..100u64 {
-                    let urgency = first.saturating_add(i.saturating_mul(4));
-                    let submit = Submit { jobs, urgency, work: urgency };
-                    if client.atomically(1_000_000, &submit).is_ok() {
-                        sum = sum.saturating_add(urgency);
+            Role::Producer(jobs, first) => for i in 0..100u64 {
+                client.atomically(ATTEMPTS, &Submit(jobs, first.wrapping_add(i), i == 99))?;
+            },
+            // A worker that finds no job so often goes, too.
+            Role::Worker(jobs) => for _ in 0..10_000_000u64 {
+                match client.atomically(ATTEMPTS, &Take(jobs)) {
+                    Ok(((number, tries), _)) => {
+                        // Jobs fail at their first tries: none of them, one, two, or all three.
+                        let well = TRIES.saturating_sub(tries) >= number % 4;
+                        client.atomically(ATTEMPTS, &End(jobs, number, well))?;
+                        made = made.saturating_add(1);
                     }
+                    Err(Failure::Refused(refusal)) => return Err(refusal),
+                    Err(Failure::Aborted(Idle::NoneYet)) => yield_now(),
+                    Err(Failure::Aborted(_)) => return Ok(made),
                 }
-                let _ = client.atomically(1_000_000, &Leave(jobs));
-            }
-            Role::Worker(jobs) => {
-                for _ in 0..u64::MAX {
-                    match client.atomically(1_000_000, &Take(jobs)) {
-                        Ok((work, _)) => sum = sum.saturating_add(work),
-                        Err(Failure::Aborted(Idle::NoneYet)) => yield_now(),
-                        Err(_) => return (sum, client.tally()),
-                    }
-                }
-            }
+            },
         }
-        (sum, client.tally())
+        Ok(made)
     }
 }
 
-fn serve<R: Threads + Sync>(rt: &R, alloc: Global) -> Result<(u64, u64, usize, usize), Refusal> {
+fn serve<R: Threads + Sync>(rt: &R, alloc: Global) -> Result<String, Refusal> {
     let mut layout = Layout::new(alloc);
     let jobs = Jobs {
         ready: layout.priority_queue(4, Counts::new(alloc))?,
-        work: layout.map(4, Entries::new(alloc))?,
+        tries: layout.map(4, Entries::new(alloc))?,
         done: layout.queue(1, QueueItems::new(alloc))?,
+        dead: layout.queue(1, QueueItems::new(alloc))?,
         producers: layout.word(2)?,
     };
-    let mut store: Store<u64> = layout.open()?;
-    let roles = vec![in alloc; Role::Producer(jobs, 0), Role::Producer(jobs, 1), Role::Worker(jobs), Role::Worker(jobs), Role::Worker(jobs)]?;
-    let outs = store.run(rt, roles)?;
-    let mut made = 0u64;
-    let mut worked = 0u64;
-    for i in 0..outs.len() {
-        if i < 2 {
-            made = made.saturating_add(outs[i].0);
-        } else {
-            worked = worked.saturating_add(outs[i].0);
-        }
+    let mut store = layout.open()?;
+    let (give, work) = (|first| Role::Producer(jobs, first), || Role::Worker(jobs));
+    let roles = vec![in alloc; give(0), give(100), work(), work(), work()]?;
+    let mut tries = 0u64;
+    for made in store.run(rt, roles)? {
+        tries = tries.saturating_add(made?);
     }
     let contents = store.close()?;
-    let done = contents.queue(jobs.done).map_or(0, |items| items.len());
-    let left = contents.map(jobs.work).map_or(0, |entries| entries.len());
-    Ok((made, worked, done, left))
+    let mut ends = Counts::new(alloc);
+    for queue in [jobs.done, jobs.dead] {
+        let items = contents.queue(queue).ok_or(Refusal::NoSuch)?;
+        for place in 0..items.len() {
+            let number = items.get(place).ok_or(Refusal::NoSuch)?;
+            ends.set_copies(number, ends.copies(number).saturating_add(1))?;
+        }
+    }
+    let once = ends.iter().filter(|entry| *entry.1 == 1).count();
+    let dead = contents.queue(jobs.dead).map_or(0, |items| items.len());
+    Ok(format!(in alloc; "{tries} tries, {once} jobs ended just once, {dead} of them dead")?)
 }
 
-fn main(rt: HostRuntime) -> io::Result<()> {
+fn main(rt: HostRuntime) -> std::io::Result<()> {
     match serve(&rt, rt.alloc()) {
-        Ok((made, worked, done, left)) => println!(rt; "submitted {made}, worked {worked}, done {done}, left {left}"),
+        Ok(text) => println!(rt; "{text}"),
         Err(refusal) => println!(rt; "{refusal}"),
     }
 }
