@@ -74,4 +74,3 @@ module _ {V : Type 0} where
       pub waited : p.session ≡ Some session
       pub served : serves session finished.given (view finished.own.seat).receipts
       pub own : AreBy (actor finished.own.seat) (view finished.own.seat).receipts
-      pub own : AreBy (actor finished.own.seat) (view finished.own.seat).receipts
