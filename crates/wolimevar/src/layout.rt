@@ -22,8 +22,8 @@ pub(crate) struct Collection<V> {
 
 /// What a store opens with. Each word and each collection that is added returns its handle, by which transactions call it.
 ///
-/// A collection is in one stripe or more, a power of two. Calls on different stripes of it don't conflict, so more stripes let more
-/// transactions commit beside each other; each stripe is one location more to lock where a call needs them all.
+/// A collection is in 1 to 4,096 stripes, a priority queue in at most 4,095. Calls on different stripes of it don't conflict, so more
+/// stripes let more transactions commit beside each other; each stripe is one location more to read where a call needs them all.
 #[derive(Drop)]
 pub struct Layout<V> {
     pub(crate) alloc: Global,
