@@ -141,8 +141,8 @@ impl Session<Account> for Desk {
     }
 }
 
-/// What the desks did, and how many transfers and alerts there are in the end.
-fn serve<R: Threads + Sync>(rt: &R, alloc: Global) -> Result<(Vec<u64>, usize, usize), Refusal> {
+/// What the desks did, how many transfers were made, and the first account that fell low.
+fn serve<R: Threads + Sync>(rt: &R, alloc: Global) -> Result<(Vec<u64>, usize, u64), Refusal> {
     let mut accounts = Entries::new(alloc);
     for number in 0..6u64 {
         let (owner, balance) = (Text::from(format!(in alloc; "owner {number}")?), 100);
@@ -161,12 +161,16 @@ fn serve<R: Threads + Sync>(rt: &R, alloc: Global) -> Result<(Vec<u64>, usize, u
     let contents = store.close()?;
     let made = contents.queue(bank.audit).map_or(0, |items| items.len());
     let low = contents.priority_queue(bank.alerts);
-    Ok((done, made, low.map_or(0, |alerts| alerts.iter().count())))
+    Ok((
+        done,
+        made,
+        low.and_then(|alerts| alerts.least()).unwrap_or(6),
+    ))
 }
 
 fn main(rt: HostRuntime) -> std::io::Result<()> {
     match serve(&rt, rt.alloc()) {
-        Ok((done, made, low)) => println!(rt; "{done:?}, {made} transfers, {low} alerts"),
+        Ok((done, made, low)) => println!(rt; "{done:?}, {made} transfers, {low} is low"),
         Err(refusal) => println!(rt; "{refusal}"),
     }
 }
