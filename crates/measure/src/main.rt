@@ -1,7 +1,6 @@
-//! Benchmarks of each layer, by name: `measure NAME` prints what one took.
+//! Benchmarks of each layer, by name: `measure NAME` prints what one took, and `measure` alone lists the names ([`NAMES`]).
 //!
-//! With no name it prints nothing, so that it can be run with all other programs of the repository. Behind some names may stand numbers,
-//! which ask for one row alone:
+//! Behind some names may stand numbers, which ask for one row alone:
 //!
 //! - `engine KIND WRITES THREADS TRANSACTIONS`: of transactions on words (KIND 0), a map (1), a map whose number of keys is read (2), a
 //!   priority queue (3) or a queue (4), of whose calls WRITES of ten change something, in 1, 2 or 4 threads;
@@ -36,11 +35,32 @@ mod tries;
 mod work;
 mod worlds;
 
+/// What is printed where no name is given.
+const NAMES: &str = "Usage: measure NAME [NUMBERS]
+
+Each name runs a benchmark, for seconds up to some minutes, and prints what it took:
+
+  audit          audits of 100,000 records of four calls, in milliseconds
+  engine         transactions at seats of a shared table, in 1, 2 and 4 threads, beside the same calls under one lock
+  ordered        drawn sessions of one client, one after another on a world, in microseconds a session
+  reservations   actions on the reservation tables, in thousands a second
+  sessions       drawn sessions by workers on a shared table, beside the same sessions under one lock
+  sets           puts into sets of a transaction and finds in them, in nanoseconds a call
+  world          events on a world of 64 actors, in thousands a second
+
+With numbers behind it, a name runs one row alone:
+
+  engine KIND WRITES THREADS TRANSACTIONS     KIND: 0 words, 1 a map, 2 a map whose number of keys is read, 3 a priority queue, 4 a queue
+                                              WRITES: how many of ten calls change something; THREADS: 1, 2 or 4
+  sessions MIX RELATIONS CLIENTS SESSIONS     MIX: 0 low contention, 1 high contention, 2 long sessions; CLIENTS: 1 to 64
+  lock MIX RELATIONS CLIENTS SESSIONS         the same sessions under one lock
+";
+
 fn main(rt: HostRuntime) -> io::Result<()> {
     let mut words = env::args(&rt)?;
     let _program = words.next();
     let Some(name) = words.next() else {
-        return Ok(());
+        return rt.print(NAMES);
     };
     let numbers = numbers_of(rt.alloc(), words)?;
     measure(&rt, name.as_str(), numbers.as_slice())
