@@ -9,6 +9,8 @@ use crate::numbers::{number_in, with_number};
 use crate::options::{
     CLIENTS, PERCENT_QUERIED, PERCENT_USER, QUERIES, RELATIONS, SEED, TRANSACTIONS, TRIES,
 };
+use crate::texts;
+use crate::words::explained;
 use clap::{Arg, ArgAction, ArgMatches, Command};
 use generated_sessions::Options;
 use served_runs::Drawn;
@@ -19,39 +21,37 @@ pub(crate) fn bench_command<'a>(alloc: Global) -> Result<Command<'a>, AllocError
     ensures app { IfOk result (λ command. app_of command ≡ bench_app) }
     ensures local { IfOk result (λ command. (fields_of command).has_globals ≡ false) }
 {
-    let named = Command::new(alloc, "bench").about("Draws sessions, and has workers run them");
-    let with_clients = with_number(alloc, named, CLIENTS, "2", "Workers")?;
-    let with_queries = with_number(
-        alloc,
-        with_clients,
-        QUERIES,
-        "10",
-        "Asks of a reservation, and changes of an update",
-    )?;
+    let named = explained(
+        Command::new(alloc, "bench"),
+        texts::BENCH,
+        texts::BENCH_ENDING,
+    );
+    let with_clients = with_number(alloc, named, CLIENTS, "2", texts::CLIENTS)?;
+    let with_queries = with_number(alloc, with_clients, QUERIES, "10", texts::QUERIES)?;
     let with_share = with_number(
         alloc,
         with_queries,
         PERCENT_QUERIED,
         "60",
-        "The share of the ids that sessions name",
+        texts::PERCENT_QUERIED,
     )?;
-    let with_relations = with_number(alloc, with_share, RELATIONS, "100", "Ids of each kind")?;
+    let with_relations = with_number(alloc, with_share, RELATIONS, "100", texts::RELATIONS)?;
     let with_transactions = with_number(
         alloc,
         with_relations,
         TRANSACTIONS,
         "1000",
-        "Sessions of all workers together",
+        texts::TRANSACTIONS,
     )?;
     let with_users = with_number(
         alloc,
         with_transactions,
         PERCENT_USER,
         "90",
-        "The share of reservations among them",
+        texts::PERCENT_USER,
     )?;
-    let with_seed = with_number(alloc, with_users, SEED, "1", "What they are drawn from")?;
-    let with_tries = with_number(alloc, with_seed, TRIES, "1000", "Attempts of a session")?;
+    let with_seed = with_number(alloc, with_users, SEED, "1", texts::SEED)?;
+    let with_tries = with_number(alloc, with_seed, TRIES, "1000", texts::TRIES)?;
     with_tries.arg(times(alloc))
 }
 
@@ -61,7 +61,7 @@ fn times<'a>(alloc: Global) -> Arg<'a>
 {
     Arg::new(alloc, "times")
         .long("times")
-        .help("Also tells what it took, on standard error")
+        .help(texts::TIMES)
         .action(ArgAction::SetTrue)
 }
 

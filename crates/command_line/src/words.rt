@@ -11,14 +11,13 @@ ghost use Rattle.command_line.specs.Words.{task_of, vacation_work};
 use crate::bench::{bench_command, drawn_in, has_times_in};
 use crate::numbers::{number_in, with_number};
 use crate::options::WORKERS;
+use crate::texts;
+use crate::texts::{NAME, VERSION};
 use crate::work::{Task, Work};
 use clap::error::ErrorKind;
 use clap::{Arg, ArgAction, ArgMatches, Command, Error};
 use seq_model::{ACTOR_LIMIT, Memory};
 use std::alloc::{AllocError, Global};
-
-/// What `--version` prints behind the program's name.
-const VERSION: &str = "0.1.0";
 
 fn command<'a>(alloc: Global) -> Result<Command<'a>, AllocError>
     ensures { IfOk result (λ command. app_of command ≡ tool_app) }
@@ -26,36 +25,52 @@ fn command<'a>(alloc: Global) -> Result<Command<'a>, AllocError>
     let step = step_command(alloc)?;
     let vacation = vacation_command(alloc)?;
     let bench = bench_command(alloc)?;
-    let bare = Command::new(alloc, "proust_tool")
+    let bare = Command::new(alloc, NAME)
         .version(VERSION)
         .no_binary_name(true)
         .subcommand_required(true);
-    let with_step = bare.subcommand(step)?;
+    let described = with_name(explained(bare, texts::TOOL, texts::TOOL_ENDING))?;
+    let with_step = described.subcommand(step)?;
     let with_vacation = with_step.subcommand(vacation)?;
     with_vacation.subcommand(bench)
+}
+
+/// The command, whose usage lines call the program by its name.
+fn with_name<'a>(command: Command<'a>) -> Result<Command<'a>, AllocError>
+    ensures { IfOk result (λ named. app_of named ≡ app_of command.entry) }
+{
+    command.bin_name(NAME)
+}
+
+/// The command, of which help says what it does, and at the end a text.
+pub(crate) fn explained<'a>(
+    command: Command<'a>,
+    about: &'static str,
+    ending: &'static str,
+) -> Command<'a>
+    ensures app { app_of result ≡ app_of command.entry }
+    ensures local { (fields_of result).has_globals ≡ (fields_of command.entry).has_globals }
+{
+    command.about(about).after_help(ending)
 }
 
 fn step_command<'a>(alloc: Global) -> Result<Command<'a>, AllocError>
     ensures app { IfOk result (λ command. app_of command ≡ step_app) }
     ensures local { IfOk result (λ command. (fields_of command).has_globals ≡ false) }
 {
-    Command::new(alloc, "step")
-        .about("Runs a step script")
-        .arg(file(alloc))
+    explained(Command::new(alloc, "step"), texts::STEP, texts::STEP_ENDING).arg(file(alloc))
 }
 
 fn vacation_command<'a>(alloc: Global) -> Result<Command<'a>, AllocError>
     ensures app { IfOk result (λ command. app_of command ≡ vacation_app) }
     ensures local { IfOk result (λ command. (fields_of command).has_globals ≡ false) }
 {
-    let named = Command::new(alloc, "vacation").about("Runs the sessions of a session file");
-    let with_workers = with_number(
-        alloc,
-        named,
-        WORKERS,
-        "0",
-        "On how many workers; with 0 one session runs after another",
-    )?;
+    let named = explained(
+        Command::new(alloc, "vacation"),
+        texts::VACATION,
+        texts::VACATION_ENDING,
+    );
+    let with_workers = with_number(alloc, named, WORKERS, "0", texts::WORKERS)?;
     with_workers.arg(file(alloc))
 }
 
@@ -64,7 +79,7 @@ fn file<'a>(alloc: Global) -> Arg<'a>
     ensures local { result.global ≡ false }
 {
     Arg::new(alloc, "FILE")
-        .help("The file, or - for standard input")
+        .help(texts::FILE)
         .required(true)
         .action(ArgAction::Set)
 }

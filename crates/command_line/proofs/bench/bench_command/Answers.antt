@@ -1,14 +1,13 @@
 use Rattle.std.proofs.Common.{◌≡◌, ◌∙◌, ap, ap₂, codes}
 use Rattle.std.proofs.lemmas.Result.{IfOk-weaker}
 use Rattle.clap.specs.Words.{App, app_of, new_app, with_rule}
-use Rattle.clap.specs.Simple.{app_of_fields}
 use Rattle.command_line.specs.Bench.{clients, percent_queried, percent_user, queries, relations, seed, transactions, tries}
 use Rattle.command_line.specs.Numbers.{rule_of_number}
 use Rattle.command_line.proofs.bench.bench_command.Goals as goal
 
 pub returns-clause-app : goal.returns-clause-app
 returns-clause-app c =
-    let named : app_of c.about-named.result ≡ new_app (codes "bench") = ap app_of_fields c.about-named.ensures ∙ c.new.ensures.app in
+    let named : app_of c.explained-named.result ≡ new_app (codes "bench") = c.explained-named.ensures.app ∙ c.new.ensures.app in
     let one = c.in_ok-with_clients.ensures.app ∙ ap (λ (a : App). with_rule a (rule_of_number clients (codes "2"))) named in
     let two = c.in_ok-with_queries.ensures.app ∙ ap (λ (a : App). with_rule a (rule_of_number queries (codes "10"))) one in
     let three = c.in_ok-with_share.ensures.app ∙ ap (λ (a : App). with_rule a (rule_of_number percent_queried (codes "60"))) two in
