@@ -139,6 +139,9 @@ line_of text = text ++ (10 ∷ [])
 abbrev pub unreadable_text : List ℕ
 unreadable_text = codes "cannot read the file"
 
+abbrev pub unwritten_text : List ℕ
+unwritten_text = codes "cannot write the output"
+
 abbrev pub fault_text : RunFault → List ℕ
 fault_text (Refused refusal) = refusal_text refusal
 fault_text Audit = codes "audit fault"
@@ -180,7 +183,7 @@ pub record HasBrokenOff (old new : Option (List ℕ)) (text : List ℕ) : Type 0
   pub begun : HasBegun old new text
   pub some_left : begun.left ≢ []
 
--- status 1 where no fault is told: the task has an output, and a write of it failed
+-- status 1 where no fault of the words, the file or the text is told: the task has an output, and a write of it failed
 pub record HasStopped (words : List Text) (known old new : Option (List ℕ)) : Type 0 where
   pub read : IsRead words known
   pub bytes : List ℕ

@@ -1,12 +1,12 @@
 //! The program over a reader and two writers.
-ghost use Rattle.std.specs.Prelude.{◌≡◌, ◌≢◌, ◌≤◌, ◌⊎◌, ◌↔◌, false, [], map, IsOk, IsErr, IfOk, IsTrue};
+ghost use Rattle.std.specs.Prelude.{◌≡◌, ◌≢◌, ◌≤◌, ◌⊎◌, ◌↔◌, false, [], map, IsErr, IfOk, IsTrue};
 ghost use Rattle.std.specs.String.{string_bytes};
 ghost use Rattle.std.specs.Io.{WritesAtMost};
 ghost use Rattle.std.specs.Io.KnownBytes.{Appends, WriteAppends};
 ghost use Rattle.clap.specs.Words.{kind_of};
 ghost use Rattle.command_line.specs.Words.{AreTaken, AskForInformation, IsInformation, task_named};
 ghost use Rattle.command_line.specs.Ends.{AsksForTimes, HasBegun, HasBrokenOff, HasStopped, HasToldFault, HasWorked, IsOnDrawn};
-ghost use Rattle.command_line.specs.Ends.{cause_text, line_of, status_of, unreadable_text};
+ghost use Rattle.command_line.specs.Ends.{cause_text, line_of, status_of, unreadable_text, unwritten_text};
 ghost use Rattle.seq_model.specs.Texts.{memory_text, refusal_text};
 
 use crate::words::{matches_of, task_in};
@@ -85,6 +85,14 @@ pub fn refuse_memory<E: Write>(err: &mut E) -> u8
     fault(err, MEMORY, "Memory")
 }
 
+/// Says that what was to be printed can't be written.
+fn refuse_output<E: Write>(err: &mut E) -> u8
+    ensures status { result ≡ REFUSED }
+    ensures told { HasBegun (E.contents err.old) (E.contents err.new) (line_of unwritten_text) }
+{
+    fault(err, REFUSED, "cannot write the output")
+}
+
 /// Runs the words over the file that they name, as it was opened: `run_tool` over its text, with each status as that has it, or
 /// the fault that it can't be read.
 pub fn run_file<
@@ -112,8 +120,10 @@ pub fn run_file<
         ⊎ HasStopped (map string_bytes words.now) (R.remaining reader) (W.contents out.old) (W.contents out.new))) }
     ensures fault { AreTaken (map string_bytes words.now) → result ≡ REFUSED → IfOk opened (λ reader. ((out.new ≡ out.old)
         × HasToldFault (task_named (map string_bytes words.now)) REFUSED (R.remaining reader) (E.contents err.old) (E.contents err.new))
-        ⊎ ((err.new ≡ err.old)
+        ⊎ (HasBegun (E.contents err.old) (E.contents err.new) (line_of unwritten_text)
         × HasStopped (map string_bytes words.now) (R.remaining reader) (W.contents out.old) (W.contents out.new))) }
+    ensures unwritten { result ≡ REFUSED
+        → (out.new ≡ out.old) ⊎ HasBegun (E.contents err.old) (E.contents err.new) (line_of unwritten_text) }
     ensures starved { result ≡ MEMORY → IfOk opened (λ _. HasBegun (E.contents err.old) (E.contents err.new) (line_of memory_text)) }
     ensures unopened { IsErr opened → (result ≡ REFUSED) × (out.new ≡ out.old) }
     ensures told { IsErr opened → HasBegun (E.contents err.old) (E.contents err.new) (line_of unreadable_text) }
@@ -130,13 +140,14 @@ pub fn run_file<
 /// Runs the words, without the program's own name, over what the reader gives, and answers the exit status. How far workers have come is
 /// told meanwhile.
 ///
-/// What it prints goes to `out`, and a fault, one line, to `err`: then nothing goes to `out`. Where a write to `out` fails, nothing goes to
-/// `err`. Faults are found in the order words, file, size, text, opening. `sound`: no audit of what was run finds a fault, and all tables
+/// What it prints goes to `out`, and a fault, one line, to `err`: then nothing goes to `out`. Where a write to `out` fails, `err` says so.
+/// Faults are found in the order words, file, size, text, opening. `sound`: no audit of what was run finds a fault, and all tables
 /// that are left are balanced. `done`: with status 0 the words ask for help or the version, or they and the text are taken and `out` has
 /// grown by what the task that they name prints, once that was audited; what a run took goes to `err` where that is asked for. `unread`,
 /// `drawn`: nothing is read for refused words, nor where sessions are drawn. `told`, `starved`: what `err` grows by, but where a write to
-/// it fails, is the line of the fault, and `out` stays as it was (`memory`); or `err` stays as it was, and `out` has grown by a beginning
-/// of what the task prints, but not by all of it.
+/// it fails, is the line of the fault, and `out` stays as it was (`memory`); or it is the line that the output can't be written, and `out`
+/// has grown by a beginning of what the task prints, but not by all of it. `unwritten`: with status 1 `out` has changed, by help and the
+/// version too, only where that line was written.
 pub fn run_tool<H: Threads + Wait + Clock + Sync, R: Read, W: Write, E: Write, P: Progress + Sync>(
     rt: &H,
     alloc: Global,
@@ -161,8 +172,10 @@ pub fn run_tool<H: Threads + Wait + Clock + Sync, R: Read, W: Write, E: Write, P
     ensures told { AreTaken (map string_bytes words.now) → result ≡ REFUSED
         → ((out.new ≡ out.old) × HasToldFault (task_named (map string_bytes words.now)) REFUSED (R.remaining reader.old)
         (E.contents err.old) (E.contents err.new))
-        ⊎ ((err.new ≡ err.old)
+        ⊎ (HasBegun (E.contents err.old) (E.contents err.new) (line_of unwritten_text)
         × HasStopped (map string_bytes words.now) (R.remaining reader.old) (W.contents out.old) (W.contents out.new)) }
+    ensures unwritten { result ≡ REFUSED
+        → (out.new ≡ out.old) ⊎ HasBegun (E.contents err.old) (E.contents err.new) (line_of unwritten_text) }
     ensures starved { result ≡ MEMORY → HasBegun (E.contents err.old) (E.contents err.new) (line_of memory_text) }
 {
     let task = match matches_of(alloc, words) {
@@ -179,12 +192,12 @@ pub fn run_tool<H: Threads + Wait + Clock + Sync, R: Read, W: Write, E: Write, P
 fn print<W: Write, E: Write>(out: &mut W, err: &mut E, output: &Output) -> u8
     ensures status { (result ≡ DONE) ⊎ (result ≡ REFUSED) }
     ensures done { result ≡ DONE → Appends (W.contents out.old) (W.contents out.new) output.now.bytes.items }
-    ensures quiet { string_bytes output.now.times ≡ [] → err.new ≡ err.old }
-    ensures failed { result ≡ REFUSED → err.new ≡ err.old }
+    ensures quiet { result ≡ DONE → string_bytes output.now.times ≡ [] → err.new ≡ err.old }
+    ensures failed { result ≡ REFUSED → HasBegun (E.contents err.old) (E.contents err.new) (line_of unwritten_text) }
     ensures broken { result ≡ REFUSED → HasBrokenOff (W.contents out.old) (W.contents out.new) output.now.bytes.items }
 {
     if !tell(out, output.bytes.as_slice()) {
-        return REFUSED;
+        return refuse_output(err);
     }
     if !output.times.is_empty() {
         tell(err, output.times.as_bytes());
@@ -197,15 +210,16 @@ fn refuse_words<W: Write, E: Write>(out: &mut W, err: &mut E, error: Error) -> u
     ensures status { result ≤ MEMORY }
     ensures done { result ≡ DONE → IsInformation error × (err.new ≡ err.old) }
     ensures kept { (out.new ≡ out.old) ⊎ IsInformation error }
+    ensures unwritten { result ≡ REFUSED
+        → (out.new ≡ out.old) ⊎ HasBegun (E.contents err.old) (E.contents err.new) (line_of unwritten_text) }
     ensures memory { (result ≡ MEMORY) ↔ (kind_of error ≡ ErrorKind.OutOfMemory) }
     ensures starved { result ≡ MEMORY → HasBegun (E.contents err.old) (E.contents err.new) (line_of memory_text) }
 {
     match error.kind() {
         ErrorKind::OutOfMemory => refuse_memory(err),
-        ErrorKind::DisplayHelp | ErrorKind::DisplayVersion => status_of_write(write!(
-            out,
-            "{error}"
-        )),
+        ErrorKind::DisplayHelp | ErrorKind::DisplayVersion => {
+            status_of_write(err, write!(out, "{error}"))
+        }
         _ => {
             let _ = write!(err, "{error}");
             REFUSED
@@ -213,13 +227,14 @@ fn refuse_words<W: Write, E: Write>(out: &mut W, err: &mut E, error: Error) -> u
     }
 }
 
-fn status_of_write(written: io::Result<()>) -> u8
-    ensures done { IsOk written → result ≡ DONE }
-    ensures failed { IsErr written → result ≡ REFUSED }
+fn status_of_write<E: Write>(err: &mut E, written: io::Result<()>) -> u8
+    ensures status { (result ≡ DONE) ⊎ (result ≡ REFUSED) }
+    ensures quiet { result ≡ DONE → err.new ≡ err.old }
+    ensures failed { result ≡ REFUSED → HasBegun (E.contents err.old) (E.contents err.new) (line_of unwritten_text) }
 {
     match written {
         Ok(()) => DONE,
-        Err(_) => REFUSED,
+        Err(_) => refuse_output(err),
     }
 }
 
