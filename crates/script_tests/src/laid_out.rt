@@ -21,6 +21,18 @@ pub fn print_laid_out(text: &mut String, laid_out: &str) -> Result<(), Refusal> 
     print_run(text, &run)
 }
 
+/// Prints a trace, with nothing that was told before it.
+pub fn print_trace_alone(text: &mut String, trace: Trace<u64>) -> Result<(), Refusal> {
+    let alloc = *text.allocator();
+    let opening = state_of(alloc, "")?;
+    let run = ScriptRun {
+        notices: Items::new(alloc),
+        opening,
+        trace,
+    };
+    print_run(text, &run)
+}
+
 fn print_run(text: &mut String, run: &ScriptRun) -> Result<(), Refusal> {
     let printed = print_trace(*text.allocator(), run)?;
     text.push_str(std::str::from_utf8(printed.as_slice()).unwrap_or("no text\n"))?;
@@ -47,7 +59,8 @@ fn state_of(alloc: Global, header: &str) -> Result<State<u64>, Refusal> {
     state_in(alloc, &script)
 }
 
-fn state_in(alloc: Global, script: &Script) -> Result<State<u64>, Refusal> {
+/// What the words and collections of a script's header hold.
+pub fn state_in(alloc: Global, script: &Script) -> Result<State<u64>, Refusal> {
     let words = Vec::from_slice(alloc, script.words.as_slice())?;
     let held = held_in(alloc, script)?;
     State::new(words, held)

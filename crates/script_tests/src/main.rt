@@ -2,7 +2,8 @@
 //! texts that no run spells.
 //!
 //! They are sections of the file `stdin`, each closed by `----`: a name, and behind it the text. Each is printed by its name, with
-//! what came of it; what all must print stands in the file `stdout`. So the crate is proved once, however many sections there are.
+//! what came of it, and at the end how many there are; what all must print stands in the file `stdout`. So the crate is proved once,
+//! however many sections there are.
 //! What a section may say is told at [`sections::run_all`].
 #![tactic(auto)]
 
@@ -12,6 +13,7 @@ mod notices;
 mod reading;
 mod sections;
 mod times;
+mod worlds;
 
 use command_line::{DONE, MEMORY};
 use sections::run_all;

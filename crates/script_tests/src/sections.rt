@@ -3,6 +3,7 @@ use crate::files::{Input, Output, bytes_of, ending_of};
 use crate::laid_out::print_laid_out;
 use crate::reading::print_script;
 use crate::times::print_missed;
+use crate::worlds::print_worlds;
 use command_line::{DONE, MEMORY, NoProgress, file_of, run_tool};
 use seq_model::{Memory, Refusal};
 use std::alloc::{AllocError, Global};
@@ -20,10 +21,12 @@ const TIMES: u64 = 99;
 /// The sections, each by its name and what came of it. What is made of one stands at the end of its name.
 ///
 /// - Behind ` | ` stand the words by which the program is run over the text, and `step -` where nothing stands there. With ` > full` it
-///   writes to what takes nothing. What it printed is told, a line that came more than 99 times with its number; then its fault, its status
+///   writes to what takes nothing; with ` > races`, where workers race for the same items, how many sessions were missed isn't told. What
+///   it printed is told, a line that came more than 99 times with its number; then its fault, its status
 ///   where that is not 0, and of what a run took the first word and the last line. In the text `\xff` is a byte, and a line behind
 ///   `\times 9 ` stands so many times; a text that ends with `\fails` can't be read further, and one with `\endless` has no end.
 /// - ` = script`: the text is a script, of which each line is told as it was read.
+/// - ` = world`: the text is a script, whose events are fed to a world, as `worlds` reads it. What has come of them is told.
 /// - ` = trace`: the text lays out a trace, line by line, as `laid_out` reads it. What is printed of it is told.
 /// - ` = files`: each line has words; the file that they name is told.
 /// - ` = times`: what is told of the times of a run that missed sessions.
@@ -33,22 +36,26 @@ pub fn run_all<H: Threads + Wait + Clock + Sync>(
     sections: &str,
 ) -> Result<String, AllocError> {
     let mut text = String::new(alloc);
-    run_each(rt, &mut text, sections)?;
+    let count = run_each(rt, &mut text, sections)?;
+    writeln!(text, "sections {count}")?;
     Ok(text)
 }
 
+/// How many there are.
 fn run_each<H: Threads + Wait + Clock + Sync>(
     rt: &H,
     text: &mut String,
     sections: &str,
-) -> Result<(), AllocError> {
+) -> Result<u64, AllocError> {
+    let mut count = 0u64;
     for section in sections.split("----\n") {
         if let Some((name, file)) = section.split_once('\n') {
             writeln!(text, "# {name}")?;
             run_section(rt, text, name, file)?;
+            count = count.saturating_add(1);
         }
     }
-    Ok(())
+    Ok(count)
 }
 
 fn run_section<H: Threads + Wait + Clock + Sync>(
@@ -60,6 +67,10 @@ fn run_section<H: Threads + Wait + Clock + Sync>(
     match name.split_once(" = ") {
         Some((_, "script")) => {
             let outcome = print_script(text, file);
+            told(text, outcome)
+        }
+        Some((_, "world")) => {
+            let outcome = print_worlds(text, file);
             told(text, outcome)
         }
         Some((_, "trace")) => {
@@ -117,10 +128,8 @@ fn run_words<H: Threads + Wait + Clock + Sync>(
 ) -> Result<(), AllocError> {
     let alloc = *text.allocator();
     let (_, asked) = name.split_once(" |").unwrap_or((name, "step -"));
-    let (asked, is_full) = match asked.strip_suffix(" > full") {
-        Some(asked) => (asked, true),
-        None => (asked, false),
-    };
+    let (asked, is_full) = without(asked, " > full");
+    let (asked, races) = without(asked, " > races");
     let (file, end) = ending_of(file);
     let words = words_of(alloc, asked)?;
     let bytes = bytes_of(alloc, file)?;
@@ -129,7 +138,15 @@ fn run_words<H: Threads + Wait + Clock + Sync>(
         rest: bytes.as_slice(),
         end,
     };
-    run_over(rt, text, words.as_slice(), &mut input, &mut out)
+    run_over(rt, text, words.as_slice(), &mut input, &mut out, races)
+}
+
+// The words without this ending, and whether they have it.
+fn without<'a>(asked: &'a str, ending: &str) -> (&'a str, bool) {
+    match asked.strip_suffix(ending) {
+        Some(asked) => (asked, true),
+        None => (asked, false),
+    }
 }
 
 fn output(alloc: Global, is_full: bool) -> Result<Output, AllocError> {
@@ -143,18 +160,38 @@ fn run_over<H: Threads + Wait + Clock + Sync>(
     words: &[String],
     input: &mut Input<'_>,
     out: &mut Output,
+    races: bool,
 ) -> Result<(), AllocError> {
     let alloc = *text.allocator();
     let mut err = output(alloc, false)?;
     let status = run_tool(rt, alloc, words, input, out, &mut err, &NoProgress);
-    print_run(text, status, out.bytes.as_slice(), err.bytes.as_slice())
-}
-
-fn print_run(text: &mut String, status: u8, out: &[u8], err: &[u8]) -> Result<(), AllocError> {
     if status == MEMORY {
         return Err(AllocError);
     }
-    print_lines(text, text_of(out))?;
+    print_output(text, text_of(out.bytes.as_slice()), races)?;
+    print_end(text, status, err.bytes.as_slice())
+}
+
+fn print_output(text: &mut String, lines: &str, races: bool) -> Result<(), AllocError> {
+    if races {
+        print_raced(text, lines)
+    } else {
+        print_lines(text, lines)
+    }
+}
+
+fn print_raced(text: &mut String, lines: &str) -> Result<(), AllocError> {
+    for line in lines.split_inclusive('\n') {
+        text.push_str(if line.starts_with("missed ") {
+            "missed ..\n"
+        } else {
+            line
+        })?;
+    }
+    Ok(())
+}
+
+fn print_end(text: &mut String, status: u8, err: &[u8]) -> Result<(), AllocError> {
     if status == DONE {
         return print_times(text, text_of(err));
     }

@@ -1,0 +1,81 @@
+//! A world that is fed the events of a script.
+use crate::laid_out::{print_trace_alone, state_in};
+use running_world::{World, run_world};
+use seq_model::{Event, Items, Memory, Refusal, Shape};
+use std::alloc::Global;
+use step_script::{Line, Script, parse_steps};
+
+/// Prints what has come of the events of a script, of which `A REQUEST` is a request, `A step K` is K steps, whatever they tell, and
+/// `A starve` is a want of memory: by `run_world`, and of a world that is fed them, by `trace` and then by `into_trace`.
+pub fn print_worlds(text: &mut String, lines: &str) -> Result<(), Refusal> {
+    let script = parse_steps(*text.allocator(), lines.as_bytes())?;
+    print_by_run(text, &script)?;
+    print_by_world(text, &script)
+}
+
+fn print_by_run(text: &mut String, script: &Script) -> Result<(), Refusal> {
+    let alloc = *text.allocator();
+    let shape = shape_of(alloc, script)?;
+    let events = events_of(alloc, script)?;
+    let state = state_in(alloc, script)?;
+    let trace = run_world(alloc, &shape, state, events.as_slice())?;
+    text.push_str("run_world\n")?;
+    print_trace_alone(text, trace)
+}
+
+fn print_by_world(text: &mut String, script: &Script) -> Result<(), Refusal> {
+    let world = fed(*text.allocator(), script)?;
+    let trace = world.trace()?;
+    text.push_str("trace\n")?;
+    print_trace_alone(text, trace)?;
+    let trace = world.into_trace()?;
+    text.push_str("into_trace\n")?;
+    print_trace_alone(text, trace)
+}
+
+fn fed(alloc: Global, script: &Script) -> Result<World<u64>, Refusal> {
+    let shape = shape_of(alloc, script)?;
+    let events = events_of(alloc, script)?;
+    let mut world = World::open(alloc, &shape, state_in(alloc, script)?)?;
+    for event in events {
+        let _notice = world.feed(event)?;
+    }
+    Ok(world)
+}
+
+fn shape_of(alloc: Global, script: &Script) -> Result<Shape, Memory> {
+    let mut stripes = Vec::new(alloc);
+    for collection in script.collections.as_slice() {
+        stripes.push(collection.stripes)?;
+    }
+    Ok(Shape {
+        stripes: Items::from_vec(stripes),
+        clock: script.clock,
+    })
+}
+
+fn events_of(alloc: Global, script: &Script) -> Result<Vec<Event<u64>>, Memory> {
+    let mut events = Vec::new(alloc);
+    for line in script.lines.as_slice() {
+        push_events(&mut events, line)?;
+    }
+    Ok(events)
+}
+
+// How many steps the other lines come to shows in a run alone.
+fn push_events(events: &mut Vec<Event<u64>>, line: &Line) -> Result<(), Memory> {
+    match line {
+        Line::Ask(actor, request) => events.push(Event::Ask(*actor, request.try_copy()?))?,
+        Line::Steps(actor, count) => push_steps(events, *actor, *count)?,
+        Line::Starve(actor) => events.push(Event::Starve(*actor))?,
+        Line::Do(_, _) | Line::Alternate(_, _) => {}
+    }
+    Ok(())
+}
+
+fn push_steps(events: &mut Vec<Event<u64>>, actor: u32, count: u64) -> Result<(), Memory> {
+    for _step in 0..count {
+        events.push(Event::Step(actor))?;
+    }
+    Ok(())
+}
