@@ -1,30 +1,72 @@
 //! The program: runs step scripts, session files and drawn sessions.
 //!
 //! The work is done over any reader and writers: `main` hands the opened file to `run_file`, or standard input to `run_tool`, with the
-//! standard streams. Where standard error is a terminal it also says how far workers have come.
+//! standard streams. Where standard error is a terminal it also says how far workers have come, in one line, which is gone at the end.
 #![tactic(auto)]
 
-use command_line::{Progress, REFUSED, fault, file_of, refuse_memory, run_file, run_tool};
+use command_line::{Pace, Progress, REFUSED, fault, file_of, refuse_memory, run_file, run_tool};
 use std::io::{IsTerminal, Write};
 use std::process::ExitCode;
 use std::sync::Wait;
+use std::sync::atomic::{AtomicU64, Ordering};
 use std::thread::Threads;
-use std::time::Clock;
+use std::time::{Clock, Duration};
 use std::{env, io};
 
-/// Standard error, where it is a terminal.
+/// So many milliseconds lie at least between two writes of the line.
+const APART: u64 = 500;
+
+/// Longer than the line ever is.
+const BLANK: &str =
+    "                                                                                ";
+
+/// Standard error, where it is a terminal. It has one line, which is written anew.
 #[derive(Drop)]
 struct Terminal<'a> {
     rt: &'a HostRuntime,
     is_there: bool,
+    begun: Duration,
+    /// When the line was written last, in milliseconds from then on; 0 where it was not.
+    told: AtomicU64,
+}
+
+impl Terminal<'_> {
+    /// Whether the line is to be written now, by whoever asks.
+    fn is_due(&self, time: Duration) -> bool {
+        let since = time
+            .as_secs()
+            .saturating_mul(1_000)
+            .saturating_add(u64::from(time.subsec_millis()));
+        let told = self.told.load(Ordering::SeqCst);
+        since.saturating_sub(told) >= APART
+            && self
+                .told
+                .compare_exchange(told, since, Ordering::SeqCst, Ordering::SeqCst)
+                .is_ok()
+    }
 }
 
 impl Progress for Terminal<'_> {
-    fn receipts(&self, count: u64) {
+    fn receipts(&self, count: u64, all: u64) {
         if self.is_there {
-            let _ = writeln!(self.rt.stderr(), "{count} sessions committed");
+            let time = now(self.rt).saturating_sub(self.begun);
+            if self.is_due(time) {
+                let pace = Pace { count, all, time };
+                let _ = write!(self.rt.stderr(), "\r{pace}    ");
+            }
         }
     }
+
+    fn end(&self) {
+        if self.told.load(Ordering::SeqCst) > 0 {
+            let _ = write!(self.rt.stderr(), "\r{BLANK}\r");
+        }
+    }
+}
+
+/// The clock, or nothing where it can't be read.
+fn now(rt: &HostRuntime) -> Duration {
+    rt.monotonic().unwrap_or(Duration::ZERO)
 }
 
 fn main(rt: HostRuntime) -> ExitCode {
@@ -57,6 +99,8 @@ fn run<H: Threads + Wait + Clock + Sync>(threads: &H, rt: &HostRuntime, words: &
     let told = Terminal {
         rt,
         is_there: err.is_terminal(),
+        begun: now(rt),
+        told: AtomicU64::new(0),
     };
     match file_of(alloc, words) {
         Ok(Some(file)) => {

@@ -12,7 +12,7 @@ ghost use Rattle.served_runs.specs.Runs.{IsWantOfMemory, receipts_of};
 ghost use Rattle.served_runs.specs.Drawn.{AreDrawn, IsDrawable, IsDrawnRun, drawn_text};
 
 use crate::inspection::inspected;
-use crate::progress::Progress;
+use crate::progress::{Progress, Receipts};
 use crate::tally::{Tally, Times, causes_of};
 use generated_sessions::{Options, generate, opening};
 use seq_model::{Memory, Refusal, State};
@@ -79,6 +79,7 @@ pub fn run_drawn<R: Threads + Wait + Clock + Sync, P: Progress + Sync>(
     let tables = opening(alloc, drawn.seed, &drawn.options)?;
     let run = run_opened(rt, alloc, drawn, &tables, progress);
     drop(tables);
+    progress.end();
     run
 }
 
@@ -121,7 +122,8 @@ fn run_lists<R: Threads + Wait + Clock + Sync, P: Progress + Sync>(
     ensures run { IfOk result (λ run. IsDrawnRun drawn.now run.missed) }
     ensures refused { IfErr result IsWantOfMemory }
 {
-    let tally = Tally::new(alloc, lists.len(), drawn.tries, progress)?;
+    let receipts = Receipts::new(progress, u64::from(drawn.options.transactions));
+    let tally = Tally::new(alloc, lists.len(), drawn.tries, receipts)?;
     run_tallied(rt, alloc, drawn, first, tables, lists, &tally)
 }
 

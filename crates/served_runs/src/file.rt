@@ -46,6 +46,7 @@ pub fn output_of<R: Threads + Wait + Sync, P: Progress + Sync>(
     let (tables, actions) = parse_sessions(alloc, text)?;
     let run = run_dealt(rt, alloc, &tables, actions.into_vec(), workers, progress);
     drop(tables);
+    progress.end();
     let run = run?;
     let output = text_of(alloc, &run);
     drop(run);
@@ -141,7 +142,7 @@ fn run_from<R: Threads + Wait + Sync, P: Progress + Sync>(
     ensures run { IfOk result (IsToldRun tables.now (in_lists lists.now) total) }
     ensures refused { IfErr result IsWantOfMemory }
 {
-    let receipts = Receipts::new(progress);
+    let receipts = Receipts::new(progress, total as u64);
     let served = serve_allowed(rt, alloc, tables, STRIPES, lists, TRIES, &receipts)?;
     match lines_of_report(alloc, sessions, total, &served.report) {
         Ok(lines) => {

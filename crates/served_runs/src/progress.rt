@@ -1,14 +1,17 @@
 //! How far workers have come.
+use crate::tally::milliseconds;
 use attempts::Pause;
+use std::fmt;
 use std::sync::atomic::{AtomicU64, Ordering};
+use std::time::Duration;
 
-/// How many receipts lie between two calls of [`Progress::receipts`].
-const APART: u64 = 4_096;
-
-/// Who is told how far the workers have come, by one of them. Nothing that is promised of a run depends on it.
+/// Who is told how far the workers have come. Nothing that is promised of a run depends on it.
 pub trait Progress {
-    /// So many sessions have their receipts by now: each time that 4,096 more have them.
-    fn receipts(&self, count: u64);
+    /// So many sessions of all have their receipts by now: told at each receipt, by the worker that has it.
+    fn receipts(&self, count: u64, all: u64);
+
+    /// The run is over, and what came of it was audited, or it was refused.
+    fn end(&self);
 }
 
 /// Nobody is told.
@@ -16,20 +19,57 @@ pub trait Progress {
 pub struct NoProgress;
 
 impl Progress for NoProgress {
-    fn receipts(&self, _count: u64) {}
+    fn receipts(&self, _count: u64, _all: u64) {}
+
+    fn end(&self) {}
 }
 
-/// The receipts so far, and who is told of them. Workers are held nowhere.
+/// So many sessions of all have their receipts, after this time. As text it says how many a second that is, and when the others have
+/// theirs, if it goes on so.
+#[derive(Clone, Copy, Debug)]
+pub struct Pace {
+    pub count: u64,
+    pub all: u64,
+    pub time: Duration,
+}
+
+impl Pace {
+    fn per_second(&self) -> u64 {
+        self.count.saturating_mul(1_000) / milliseconds(self.time).max(1)
+    }
+
+    /// Rounded up.
+    fn seconds_left(&self) -> u64 {
+        let left = self.all.saturating_sub(self.count);
+        let time = left.saturating_mul(milliseconds(self.time)) / self.count.max(1);
+        time.saturating_add(999) / 1_000
+    }
+}
+
+impl fmt::Display for Pace {
+    fn fmt<W: fmt::Write>(&self, f: &mut fmt::Formatter<W>) -> fmt::Result {
+        let (count, all) = (self.count, self.all);
+        let (speed, left) = (self.per_second(), self.seconds_left());
+        write!(
+            f,
+            "{count} of {all} sessions, {speed} a second, {left} seconds left"
+        )
+    }
+}
+
+/// The receipts so far of so many sessions, and who is told of them. Workers are held nowhere.
 #[derive(Drop)]
 pub(crate) struct Receipts<'a, P> {
     told: &'a P,
+    all: u64,
     count: AtomicU64,
 }
 
 impl<'a, P: Progress> Receipts<'a, P> {
-    pub(crate) fn new(told: &'a P) -> Receipts<'a, P> {
+    pub(crate) fn new(told: &'a P, all: u64) -> Receipts<'a, P> {
         Receipts {
             told,
+            all,
             count: AtomicU64::new(0),
         }
     }
@@ -37,9 +77,7 @@ impl<'a, P: Progress> Receipts<'a, P> {
     /// One more.
     pub(crate) fn note(&self) {
         let count = self.count.fetch_add(1, Ordering::SeqCst).saturating_add(1);
-        if count % APART == 0 {
-            self.told.receipts(count);
-        }
+        self.told.receipts(count, self.all);
     }
 }
 

@@ -116,7 +116,7 @@ impl<'a, P: Progress> Tally<'a, P> {
         alloc: Global,
         count: usize,
         tries: u64,
-        told: &'a P,
+        receipts: Receipts<'a, P>,
     ) -> Result<Tally<'a, P>, Memory> {
         let mut workers = Vec::with_capacity(alloc, count)?;
         for _ in 0..count {
@@ -125,7 +125,7 @@ impl<'a, P: Progress> Tally<'a, P> {
         Ok(Tally {
             workers,
             tries,
-            receipts: Receipts::new(told),
+            receipts,
         })
     }
 
@@ -222,7 +222,7 @@ pub(crate) fn causes_of(
     Ok(causes)
 }
 
-fn milliseconds(time: Duration) -> u64 {
+pub(crate) fn milliseconds(time: Duration) -> u64 {
     time.as_secs()
         .saturating_mul(1_000)
         .saturating_add(u64::from(time.subsec_millis()))
