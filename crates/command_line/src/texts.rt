@@ -8,7 +8,7 @@ pub(crate) const VERSION: &str = "0.1.0";
 
 pub(crate) const TOOL: &str =
     "Runs transactions of Wolimevar, a software transactional memory: step by step as a script says, reservations of a
-file, or drawn reservations as a benchmark. Each run is audited before anything is printed.";
+file, or drawn reservations as a benchmark.";
 
 pub(crate) const TOOL_ENDING: &str = "Examples:
   proust_tool step examples/first.steps
@@ -67,7 +67,7 @@ pub(crate) const FILE: &str = "The file, or - for standard input";
 pub(crate) const BENCH: &str = "Draws reservations, and has workers run them in threads";
 
 pub(crate) const BENCH_ENDING: &str =
-    "A session is a reservation of one unit of each kind, the deletion of a customer, or an update of items. It prints
+    "A session is a reservation of one unit of each kind it asks for, the deletion of a customer, or an update of items. It prints
 how many workers and sessions there were, and how many sessions were missed, as no attempt of theirs committed.
 docs/formats.md says how sessions are drawn.
 
@@ -82,7 +82,7 @@ pub(crate) const QUERIES: &str =
     "How many items a reservation asks for, and how many changes an update makes: 1 to 100";
 
 pub(crate) const PERCENT_QUERIED: &str =
-    "Of all items, the percentage that sessions name: 1 to 100. The fewer they are, the more sessions conflict";
+    "The percentage of the items that sessions name: 1 to 100. With fewer, more sessions conflict";
 
 pub(crate) const RELATIONS: &str =
     "How many cars there are, how many flights, and how many rooms: 1 to 10000";
@@ -90,7 +90,7 @@ pub(crate) const RELATIONS: &str =
 pub(crate) const TRANSACTIONS: &str = "How many sessions all workers run together: 1 to 100000";
 
 pub(crate) const PERCENT_USER: &str =
-    "Of all sessions, the percentage of reservations: 0 to 100. Half of the others are deletions, half updates";
+    "The percentage of reservations: 0 to 100. Half of the other sessions are deletions, half updates";
 
 pub(crate) const SEED: &str =
     "The number that items and sessions are drawn from, of 64 bits. The same number gives the same ones";

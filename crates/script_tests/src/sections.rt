@@ -2,7 +2,7 @@
 use crate::files::{Input, Output, bytes_of, ending_of};
 use crate::laid_out::print_laid_out;
 use crate::reading::print_script;
-use crate::times::print_missed;
+use crate::times::{print_missed, print_paces};
 use crate::worlds::print_worlds;
 use command_line::{DONE, MEMORY, NoProgress, file_of, run_tool};
 use seq_model::{Memory, Refusal};
@@ -22,14 +22,15 @@ const TIMES: u64 = 99;
 ///
 /// - Behind ` | ` stand the words by which the program is run over the text, and `step -` where nothing stands there. With ` > full` it
 ///   writes to what takes nothing; with ` > races`, where workers race for the same items, how many sessions were missed isn't told. What
-///   it printed is told, a line that came more than 99 times with its number; then its fault, its status
-///   where that is not 0, and of what a run took the first word and the last line. In the text `\xff` is a byte, and a line behind
+///   it printed is told, a line that came more than 99 times with its number; then its fault, its status where that is not 0, and of what
+///   a run took the first word and the last line. In the text `\xff` is a byte, and a line behind
 ///   `\times 9 ` stands so many times; a text that ends with `\fails` can't be read further, and one with `\endless` has no end.
 /// - ` = script`: the text is a script, of which each line is told as it was read.
 /// - ` = world`: the text is a script, whose events are fed to a world, as `worlds` reads it. What has come of them is told.
 /// - ` = trace`: the text lays out a trace, line by line, as `laid_out` reads it. What is printed of it is told.
 /// - ` = files`: each line has words; the file that they name is told.
 /// - ` = times`: what is told of the times of a run that missed sessions.
+/// - ` = paces`: what is told of how far runs have come.
 pub fn run_all<H: Threads + Wait + Clock + Sync>(
     rt: &H,
     alloc: Global,
@@ -79,6 +80,7 @@ fn run_section<H: Threads + Wait + Clock + Sync>(
         }
         Some((_, "files")) => print_files(text, file),
         Some((_, "times")) => print_missed(text),
+        Some((_, "paces")) => print_paces(text),
         _ => run_words(rt, text, name, file),
     }
 }

@@ -1,7 +1,8 @@
-//! What is told of a run that missed sessions.
+//! What is told of the times of a run, and of how far one has come.
 use seq_model::Memory;
-use served_runs::{Times, print_times};
+use served_runs::{Pace, Times, print_times};
 use std::alloc::AllocError;
+use std::fmt::Write;
 use std::time::Duration;
 
 /// Of six sessions three have a receipt, each after one attempt, one was missed after five, and no attempt was made of two.
@@ -20,4 +21,21 @@ pub(crate) fn print_missed(text: &mut String) -> Result<(), AllocError> {
         Ok(told) => text.push_str(told.as_str()),
         Err(Memory) => Err(AllocError),
     }
+}
+
+/// How far runs have come: none, one, the first of many, and all.
+pub(crate) fn print_paces(text: &mut String) -> Result<(), AllocError> {
+    print_pace(text, 0, 10, 0)?;
+    print_pace(text, 1, 3, 1_000)?;
+    print_pace(text, 4_096, 100_000, 2_500)?;
+    print_pace(text, 3, 3, 700)
+}
+
+fn print_pace(text: &mut String, count: u64, all: u64, millis: u64) -> Result<(), AllocError> {
+    let pace = Pace {
+        count,
+        all,
+        time: Duration::from_millis(millis),
+    };
+    writeln!(text, "{pace}")
 }
