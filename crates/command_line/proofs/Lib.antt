@@ -1,3 +1,4 @@
+mod FormLemmas
 pub mod NumberLemmas
 mod ReadLemmas
 mod ToldLemmas

@@ -1,9 +1,12 @@
 -- The words of `bench`, and what they name.
-use Rattle.std.specs.Prelude.{◌-◌, ◌^◌, Bool, false, List, Some, codes}
+use Rattle.std.specs.Prelude.{◌-◌, ◌^◌, ◌||◌, List, [], ◌∷◌, Option, Some, None, codes, if◌then◌else◌}
 use Rattle.std.specs.Option.{option_map_or}
 use Rattle.std.specs.Str.{bytes_eq}
-use Rattle.clap.specs.Words.{App, Row, Rule, first_of, new_app, new_rule, with_rule}
-use Rattle.clap.specs.declared.builder.action.ArgAction.TheVariants.{SetTrue}
+use Rattle.clap.specs.Words.{App, Kinds, Row, Rule, Text, first_of, new_app, new_rule, with_rule}
+use Rattle.clap.specs.declared.builder.action.ArgAction.TheVariants.{Set}
+use Rattle.clap.specs.declared.error.kind.ErrorKind.TheVariants as kind
+use Rattle.command_line.specs.declared.work.TimesForm.{TimesForm}
+use Rattle.command_line.specs.declared.work.TimesForm.TheVariants.{Prose, Unasked, Values}
 use Rattle.served_runs.specs.declared.drawn.Drawn.{Drawn}
 use Rattle.command_line.specs.Numbers.{Numbered, number_of, rule_of_number}
 
@@ -31,8 +34,18 @@ seed = record { name = codes "seed"; low = 0; high = 2 ^ 64 - 1 }
 abbrev pub tries : Numbered
 tries = record { name = codes "tries"; low = 1; high = 1000000 }
 
+-- an option whose value may be left out
+abbrev pub with_optional : Rule → Rule
+with_optional rule = record rule { range = Some (record { start_inclusive = 0; end_inclusive = 1 }) }
+
+-- `--times [FORM]`
 abbrev pub times_rule : Rule
-times_rule = record (new_rule (codes "times")) { long = Some (codes "times"); action = Some SetTrue }
+times_rule = record (with_optional (new_rule (codes "times"))) {
+  long = Some (codes "times");
+  action = Some Set;
+  value_names = 1;
+  missing = codes "prose" ∷ [];
+}
 
 abbrev pub bench_app : App
 bench_app =
@@ -61,6 +74,17 @@ drawn_of rows = record {
   tries = number_of tries rows;
 }
 
--- what the run takes is asked for
-abbrev pub has_times : List Row → Bool
-has_times rows = option_map_or (λ text. bytes_eq text (codes "true")) (first_of (codes "times") rows) false
+-- how what the run takes is asked for
+abbrev pub form_named : Text → TimesForm
+form_named word = if bytes_eq word (codes "csv") then Values else Prose
+
+abbrev pub form_of : List Row → TimesForm
+form_of rows = option_map_or form_named (first_of (codes "times") rows) Unasked
+
+-- what is wrong with a word that is to name a form, if there is one
+abbrev pub word_faults : Option Text → Kinds
+word_faults None = []
+word_faults (Some word) = if bytes_eq word (codes "prose") || bytes_eq word (codes "csv") then [] else kind.InvalidValue ∷ []
+
+abbrev pub form_faults : List Row → Kinds
+form_faults rows = word_faults (first_of (codes "times") rows)

@@ -1,5 +1,5 @@
 -- How a run ends.
-use Rattle.std.specs.Prelude.{◌≡◌, ◌≢◌, ◌<◌, ◌≤◌, ◌⊎◌, ℕ, List, [], ◌∷◌, ◌++◌, codes, length, Option, IfSome, IsTrue, ⊤}
+use Rattle.std.specs.Prelude.{◌≡◌, ◌≢◌, ◌<◌, ◌≤◌, ◌⊎◌, ℕ, List, [], ◌∷◌, ◌++◌, codes, length, Option, IfSome, ⊤}
 use Rattle.std.specs.Io.KnownBytes.{Appends}
 use Rattle.clap.specs.Words.{Text}
 use Rattle.seq_model.specs.declared.limits.TheConstants.{ACTOR_LIMIT}
@@ -26,6 +26,8 @@ use Rattle.command_line.specs.declared.work.Cause.{Cause}
 use Rattle.command_line.specs.declared.work.Cause.TheVariants.{Ended, TooLong, Unreadable}
 use Rattle.command_line.specs.declared.work.Task.{Task}
 use Rattle.command_line.specs.declared.work.Task.TheVariants.{OnDrawn, OnFile}
+use Rattle.command_line.specs.declared.work.TimesForm.{TimesForm}
+use Rattle.command_line.specs.declared.work.TimesForm.TheVariants.{Unasked}
 use Rattle.command_line.specs.declared.work.Work.{Work}
 use Rattle.command_line.specs.declared.work.Work.TheVariants.{Served, Step, Vacation}
 use Rattle.command_line.specs.Words.{AreTaken, AskForInformation, task_named}
@@ -85,9 +87,13 @@ IsOnDrawn (OnFile work) = ⊥
 IsOnDrawn (OnDrawn drawn times) = ⊤
 
 -- what the run takes is to be told
+abbrev pub IsAsked : TimesForm → Type 0
+IsAsked Unasked = ⊥
+IsAsked form = ⊤
+
 abbrev pub AsksForTimes : Task → Type 0
 AsksForTimes (OnFile work) = ⊥
-AsksForTimes (OnDrawn drawn times) = IsTrue times
+AsksForTimes (OnDrawn drawn form) = IsAsked form
 
 -- these bytes came from a reader of whose text this is known
 abbrev pub IsTextOf : Option (List ℕ) → List ℕ → Type 0

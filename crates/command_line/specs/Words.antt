@@ -1,7 +1,8 @@
 -- The words that the program takes: `step FILE`, `vacation FILE` and `bench`, the latter two with options, and `--help` and `--version`.
-use Rattle.std.specs.Prelude.{◌≡◌, ◌⊎◌, ◌==◌, ℕ, true, List, [], ◌∷◌, Option, Some, None, codes, option_and_then, if◌then◌else◌}
+use Rattle.std.specs.Prelude.{◌≡◌, ◌⊎◌, ◌==◌, ℕ, true, List, [], ◌∷◌, Option, Some, None, codes, option_and_then, option_map, if◌then◌else◌}
 use Rattle.std.specs.Str.{bytes_eq}
 use Rattle.clap.specs.Words.{App, IsAmong, Kinds, Row, Rule, Text, fault_of, first_of, kind_of, new_app, new_rule, subcommand_of, with_rule}
+use Rattle.clap.specs.Kinds.{or_else}
 use Rattle.clap.specs.Words.{with_subcommand}
 use Rattle.clap.specs.declared.builder.action.ArgAction.TheVariants.{Set}
 use Rattle.clap.specs.declared.error.Error.{Error}
@@ -10,7 +11,7 @@ use Rattle.command_line.specs.declared.work.Task.{Task}
 use Rattle.command_line.specs.declared.work.Task.TheVariants.{OnDrawn, OnFile}
 use Rattle.command_line.specs.declared.work.Work.{Work}
 use Rattle.command_line.specs.declared.work.Work.TheVariants.{Served, Step, Vacation}
-use Rattle.command_line.specs.Bench.{bench_app, drawn_of, has_times}
+use Rattle.command_line.specs.Bench.{bench_app, drawn_of, form_of, word_faults}
 use Rattle.command_line.specs.Numbers.{Numbered, number_of, rule_of_number}
 
 abbrev pub file_rule : Rule
@@ -35,9 +36,13 @@ bare_app = record (new_app (codes "proust_tool")) {
 abbrev pub tool_app : App
 tool_app = with_subcommand (with_subcommand (with_subcommand bare_app step_app.top) vacation_app.top) bench_app.top
 
+-- what is wrong with the form that they ask the times in
+abbrev pub faults_of_forms : Option (Text × List Row) → Kinds
+faults_of_forms met = word_faults (option_and_then (first_of (codes "times")) (option_map (λ p. p.1) met))
+
 -- what is wrong with the words: of which kinds the fault may be
 abbrev pub faults : List Text → Kinds
-faults words = fault_of tool_app words
+faults words = or_else (fault_of tool_app words) (faults_of_forms (subcommand_of tool_app words))
 
 abbrev pub AreTaken : List Text → Type 0
 AreTaken words = faults words ≡ []
@@ -58,7 +63,7 @@ vacation_work n = if n == 0 then Vacation else Served n
 abbrev pub task_by : Text → List Row → Task
 task_by name rows =
     if bytes_eq name (codes "vacation") then OnFile (vacation_work (number_of workers rows))
-    else (if bytes_eq name (codes "bench") then OnDrawn (drawn_of rows) (has_times rows) else OnFile Step)
+    else (if bytes_eq name (codes "bench") then OnDrawn (drawn_of rows) (form_of rows) else OnFile Step)
 
 abbrev pub task_of : Option (Text × List Row) → Task
 task_of None = OnFile Step

@@ -1,9 +1,12 @@
 //! `bench`, and what is read of its words.
-ghost use Rattle.std.specs.Prelude.{◌≡◌, false, IfOk};
-ghost use Rattle.clap.specs.Words.{app_of, found_of, rows_of, rule_of};
+ghost use Rattle.std.specs.Prelude.{◌≡◌, ◌∷◌, [], false, option_map, IfOk};
+ghost use Rattle.std.specs.Option.{option_map_or};
+ghost use Rattle.clap.specs.Words.{app_of, found_of, kind_of, rows_of, rule_of};
+ghost use Rattle.clap.specs.declared.error.kind.ErrorKind.TheVariants.{InvalidValue};
 ghost use Rattle.clap.specs.declared.builder.command.Command.TheViews.{out-Command as fields_of};
 ghost use Rattle.served_runs.specs.Drawn.{IsDrawable};
-ghost use Rattle.command_line.specs.Bench.{bench_app, drawn_of, has_times, times_rule};
+ghost use Rattle.command_line.specs.Bench.{bench_app, drawn_of, form_faults, form_of, times_rule, with_optional, word_faults};
+ghost use Rattle.command_line.specs.Bench.{form_named as spec_form_named};
 
 use crate::numbers::{number_in, with_number};
 use crate::options::{
@@ -11,10 +14,18 @@ use crate::options::{
 };
 use crate::texts;
 use crate::words::explained;
-use clap::{Arg, ArgAction, ArgMatches, Command};
+use crate::work::TimesForm;
+use clap::error::ErrorKind;
+use clap::{Arg, ArgAction, ArgMatches, Command, Error};
 use generated_sessions::Options;
 use served_runs::Drawn;
 use std::alloc::{AllocError, Global};
+use std::fmt::Write;
+
+/// The words that `--times` takes, of which the first stands for none.
+const PROSE: &str = "prose";
+
+const VALUES: &str = "csv";
 
 /// The subcommand, with all its options.
 pub(crate) fn bench_command<'a>(alloc: Global) -> Result<Command<'a>, AllocError>
@@ -59,10 +70,20 @@ fn times<'a>(alloc: Global) -> Arg<'a>
     ensures rule { rule_of result ≡ times_rule }
     ensures local { result.global ≡ false }
 {
-    Arg::new(alloc, "times")
+    with_optional_value(Arg::new(alloc, "times"))
         .long("times")
         .help(texts::TIMES)
-        .action(ArgAction::SetTrue)
+        .value_name("FORM")
+        .default_missing_value(PROSE)
+        .action(ArgAction::Set)
+}
+
+/// The option, whose value may be left out.
+fn with_optional_value<'a>(option: Arg<'a>) -> Arg<'a>
+    ensures rule { rule_of result ≡ with_optional (rule_of option.entry) }
+    ensures local { result.global ≡ option.entry.global }
+{
+    option.num_args(..=1usize)
 }
 
 /// The sessions that are to be drawn and run.
@@ -85,12 +106,55 @@ pub(crate) fn drawn_in(words: &ArgMatches<'_>) -> Drawn
     }
 }
 
-/// Whether what the run took is asked for.
-pub(crate) fn has_times_in(words: &ArgMatches<'_>) -> bool
-    ensures { result ≡ has_times (rows_of (found_of words.now)) }
+/// How what the run took is asked for.
+pub(crate) fn form_in(words: &ArgMatches<'_>) -> TimesForm
+    ensures { result ≡ form_of (rows_of (found_of words.now)) }
 {
     match words.get_str("times") {
-        Some(text) => text == "true",
-        None => false,
+        Some(word) => form_named(word),
+        None => TimesForm::Unasked,
     }
+}
+
+fn form_named(word: &str) -> TimesForm
+    ensures { result ≡ spec_form_named word.now }
+{
+    if word == VALUES {
+        TimesForm::Values
+    } else {
+        TimesForm::Prose
+    }
+}
+
+/// The word behind `--times` that names no form.
+pub(crate) fn unknown_form<'a>(words: &ArgMatches<'a>) -> Option<&'a str>
+    ensures { form_faults (rows_of (found_of words.now)) ≡ option_map_or (λ _. InvalidValue ∷ []) result [] }
+{
+    unknown_among(words.get_str("times"))
+}
+
+fn unknown_among<'a>(word: Option<&'a str>) -> Option<&'a str>
+    ensures { word_faults (option_map (λ s. s.now) word.entry) ≡ option_map_or (λ _. InvalidValue ∷ []) result [] }
+{
+    match word {
+        Some(word) if word != PROSE && word != VALUES => Some(word),
+        _ => None,
+    }
+}
+
+/// What is wrong with a word that names no form.
+pub(crate) fn form_fault(alloc: Global, word: &str) -> Result<Error, AllocError>
+    ensures { IfOk result (λ error. kind_of error ≡ InvalidValue) }
+{
+    let mut text = String::new(alloc);
+    write!(
+        text,
+        "invalid value '{word}' for '--times [<FORM>]'\n  [possible values: {PROSE}, {VALUES}]"
+    )?;
+    let mut bench = with_whole_name(bench_command(alloc)?)?;
+    bench.error(ErrorKind::InvalidValue, text.as_str())
+}
+
+fn with_whole_name<'a>(command: Command<'a>) -> Result<Command<'a>, AllocError> {
+    command.bin_name("proust_tool bench")
 }

@@ -73,6 +73,7 @@ docs/formats.md says how sessions are drawn.
 
 Examples:
   proust_tool bench --clients 4 --times
+  proust_tool bench --clients 4 --times csv
   proust_tool bench --relations 10000 --queries 2 --percent-user 98 --transactions 100000";
 
 pub(crate) const CLIENTS: &str =
@@ -100,4 +101,5 @@ pub(crate) const TRIES: &str =
 
 pub(crate) const TIMES: &str =
     "Also prints on standard error how long the run and its audit took, how many sessions committed a second,
-and how many attempts were refused, for what";
+and how many attempts were refused, for what. FORM is prose, which is meant where it is left out,
+or csv: a line of names and a line of numbers";

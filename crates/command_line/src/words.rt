@@ -1,14 +1,16 @@
 //! How words are read: the task and the file that they name.
-ghost use Rattle.std.specs.Prelude.{◌≡◌, ◌≢◌, ◌≤◌, false, map, option_map, option_and_then, IsErr, IfOk};
+ghost use Rattle.std.specs.Prelude.{◌≡◌, ◌≢◌, ◌≤◌, ◌∷◌, [], false, map, option_map, option_and_then, IsErr, IfOk};
+ghost use Rattle.std.specs.Option.{option_map_or};
 ghost use Rattle.std.specs.String.{string_bytes};
 ghost use Rattle.clap.specs.Words.{FailsBy, app_of, found_of, kind_of, rows_of, rule_of, subcommand_of, subcommand_rows_of};
 ghost use Rattle.clap.specs.declared.builder.command.Command.TheViews.{out-Command as fields_of};
 ghost use Rattle.command_line.specs.declared.work.Task.TheVariants.{OnFile};
 ghost use Rattle.command_line.specs.Ends.{IsDoable};
 ghost use Rattle.command_line.specs.Words.{faults, file_word, named_file, not_dash, tool_app, step_app, vacation_app, file_rule, task_by};
-ghost use Rattle.command_line.specs.Words.{task_of, vacation_work};
+ghost use Rattle.command_line.specs.Words.{faults_of_forms, task_of, vacation_work};
+ghost use Rattle.clap.specs.declared.error.kind.ErrorKind.TheVariants.{InvalidValue};
 
-use crate::bench::{bench_command, drawn_in, has_times_in};
+use crate::bench::{bench_command, drawn_in, form_fault, form_in, unknown_form};
 use crate::numbers::{number_in, with_number};
 use crate::options::WORKERS;
 use crate::texts;
@@ -90,7 +92,37 @@ pub(crate) fn matches_of<'a>(alloc: Global, words: &'a [String]) -> Result<ArgMa
     ensures subcommand { IfOk result (λ matches. subcommand_rows_of matches ≡ subcommand_of tool_app (map string_bytes words.entry.now)) }
 {
     let command = command(alloc)?;
-    command.try_get_matches_from(words)
+    match command.try_get_matches_from(words) {
+        Ok(matches) => with_known_form(alloc, matches),
+        Err(error) => Err(error),
+    }
+}
+
+/// The words, unless one behind `--times` names no form.
+fn with_known_form<'a>(alloc: Global, matches: ArgMatches<'a>) -> Result<ArgMatches<'a>, Error>
+    ensures faults { FailsBy (faults_of_forms (subcommand_rows_of matches.entry)) result }
+    ensures same { IfOk result (λ known. known ≡ matches.entry) }
+{
+    match unknown_form_in(&matches) {
+        Some(word) => refuse_form(alloc, word),
+        None => Ok(matches),
+    }
+}
+
+fn refuse_form<'a>(alloc: Global, word: &str) -> Result<ArgMatches<'a>, Error>
+    ensures faults { FailsBy (InvalidValue ∷ []) result }
+    ensures err { IsErr result }
+{
+    Err(form_fault(alloc, word)?)
+}
+
+fn unknown_form_in<'a>(matches: &ArgMatches<'a>) -> Option<&'a str>
+    ensures { faults_of_forms (subcommand_rows_of matches.now) ≡ option_map_or (λ _. InvalidValue ∷ []) result [] }
+{
+    match matches.subcommand() {
+        Some((_, words)) => unknown_form(words),
+        None => None,
+    }
 }
 
 /// The task that they name.
@@ -111,7 +143,7 @@ fn task_of_words(name: &str, words: &ArgMatches<'_>) -> Task
     if name == "vacation" {
         Task::OnFile(work_on_sessions(number_in(words, WORKERS)))
     } else if name == "bench" {
-        Task::OnDrawn(drawn_in(words), has_times_in(words))
+        Task::OnDrawn(drawn_in(words), form_in(words))
     } else {
         Task::OnFile(Work::Step)
     }

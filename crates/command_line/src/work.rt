@@ -1,18 +1,20 @@
 //! What is to be printed of the text of a file, or of drawn sessions, or why nothing is.
-ghost use Rattle.std.specs.Prelude.{◌≡◌, ◌≤◌, ◌⊎◌, [], IsOk, IfOk, IfErr, IfSome, IsTrue};
+ghost use Rattle.std.specs.Prelude.{◌≡◌, ◌≤◌, ◌⊎◌, [], IsOk, IfOk, IfErr, IfSome};
 ghost use Rattle.std.specs.String.{string_bytes};
 ghost use Rattle.std.specs.Vec.{vec_len};
 ghost use Rattle.served_runs.specs.Drawn.{IsDrawable, IsDrawnOutput};
 ghost use Rattle.served_runs.specs.Runs.{IsWantOfMemory};
 ghost use Rattle.command_line.specs.declared.work.Cause.TheVariants.{Ended};
 ghost use Rattle.command_line.specs.declared.work.Task.TheVariants.{OnFile};
-ghost use Rattle.command_line.specs.Ends.{AsksForTimes, IsCause, IsDoable, IsFault, IsFaultOf, IsKnownOutput, IsOnDrawn, IsOutput};
-ghost use Rattle.command_line.specs.Ends.{IsOutputOf, IsWithin};
+ghost use Rattle.command_line.specs.Ends.{AsksForTimes, IsAsked, IsCause, IsDoable, IsFault, IsFaultOf, IsKnownOutput, IsOnDrawn};
+ghost use Rattle.command_line.specs.Ends.{IsOutput, IsOutputOf, IsWithin};
 ghost use Rattle.seq_model.specs.declared.refusal.Refusal.TheVariants.{OutOfMemory};
 ghost use Rattle.session_output.specs.declared.fault.RunFault.TheVariants.{Refused};
 
-use seq_model::Refusal;
-use served_runs::{Drawn, Progress, print_drawn, print_times, run_drawn};
+use seq_model::{Memory, Refusal};
+use served_runs::{
+    Drawn, Progress, Times, print_drawn, print_times, print_times_as_values, run_drawn,
+};
 use session_output::RunFault;
 use session_text::{audit_run, print_trace, run_script};
 use std::alloc::{AllocError, Global};
@@ -36,12 +38,23 @@ pub(crate) enum Work {
     Served(usize),
 }
 
+/// How it is told what a run took.
+#[derive(Clone, Copy)]
+pub(crate) enum TimesForm {
+    /// Not at all.
+    Unasked,
+    /// In lines for a person.
+    Prose,
+    /// In a line of names and a line of numbers.
+    Values,
+}
+
 /// What is to be done.
 #[derive(Clone, Copy)]
 pub(crate) enum Task {
     OnFile(Work),
     /// Sessions are drawn and run by workers; what that takes may be asked for.
-    OnDrawn(Drawn, bool),
+    OnDrawn(Drawn, TimesForm),
 }
 
 /// What is to be printed.
@@ -103,7 +116,7 @@ pub(crate) fn output_of<H: Threads + Wait + Clock + Sync, R: Read, P: Progress +
                 times: String::new(alloc),
             })
         }
-        Task::OnDrawn(drawn, times) => Ok(drawn_output(rt, alloc, &drawn, times, progress)?),
+        Task::OnDrawn(drawn, form) => Ok(drawn_output(rt, alloc, &drawn, form, progress)?),
     }
 }
 
@@ -131,22 +144,29 @@ fn drawn_output<H: Threads + Wait + Clock + Sync, P: Progress + Sync>(
     rt: &H,
     alloc: Global,
     drawn: &Drawn,
-    times: bool,
+    form: TimesForm,
     progress: &P,
 ) -> Result<Output, RunFault>
     requires { IsDrawable drawn.now }
     ensures output { IfOk result (λ output. IsDrawnOutput drawn.now output.bytes.items) }
-    ensures quiet { IfOk result (λ output. IsTrue times ⊎ (string_bytes output.times ≡ [])) }
+    ensures quiet { IfOk result (λ output. IsAsked form ⊎ (string_bytes output.times ≡ [])) }
     ensures refused { IfErr result IsWantOfMemory }
 {
     let run = run_drawn(rt, alloc, drawn, progress)?;
     let bytes = print_drawn(alloc, drawn, run.missed)?;
-    let times = if times {
-        print_times(alloc, &run.times)?
-    } else {
-        String::new(alloc)
-    };
+    let times = times_text(alloc, form, &run.times)?;
     Ok(Output { bytes, times })
+}
+
+/// What a run took, as it is asked for.
+fn times_text(alloc: Global, form: TimesForm, times: &Times) -> Result<String, Memory>
+    ensures quiet { IfOk result (λ text. IsAsked form ⊎ (string_bytes text ≡ [])) }
+{
+    match form {
+        TimesForm::Unasked => Ok(String::new(alloc)),
+        TimesForm::Prose => Ok(print_times(alloc, times)?),
+        TimesForm::Values => Ok(print_times_as_values(alloc, times)?),
+    }
 }
 
 /// At most one byte past the limit is read. A file can't be read, or is too long, whatever is to be made of it.

@@ -23,7 +23,7 @@ const TIMES: u64 = 99;
 /// - Behind ` | ` stand the words by which the program is run over the text, and `step -` where nothing stands there. With ` > full` it
 ///   writes to what takes nothing; with ` > races`, where workers race for the same items, how many sessions were missed isn't told. What
 ///   it printed is told, a line that came more than 99 times with its number; then its fault, its status where that is not 0, and of what
-///   a run took the first word and the last line. In the text `\xff` is a byte, and a line behind
+///   a run took the first word and the last line, or the names of its values. In the text `\xff` is a byte, and a line behind
 ///   `\times 9 ` stands so many times; a text that ends with `\fails` can't be read further, and one with `\endless` has no end.
 /// - ` = script`: the text is a script, of which each line is told as it was read.
 /// - ` = world`: the text is a script, whose events are fed to a world, as `worlds` reads it. What has come of them is told.
@@ -230,10 +230,10 @@ fn print_line(text: &mut String, line: &str, times: u64) -> Result<(), AllocErro
     Ok(())
 }
 
-// What a run took is never the same: its first word and its last line are.
+// What a run took is never the same: its first word and its last line are, or the names of its values.
 fn print_times(text: &mut String, times: &str) -> Result<(), AllocError> {
     match times.split_once(' ') {
         Some((first, rest)) => writeln!(text, "{first} .. {}", rest.lines().last().unwrap_or("")),
-        None => Ok(()),
+        None => text.push_str(times.split_inclusive('\n').next().unwrap_or("")),
     }
 }

@@ -1,14 +1,28 @@
 //! What is told of the times of a run, and of how far one has come.
 use seq_model::Memory;
-use served_runs::{Pace, Times, print_times};
-use std::alloc::AllocError;
+use served_runs::{Pace, Times, print_times, print_times_as_values};
+use std::alloc::{AllocError, Global};
 use std::fmt::Write;
 use std::time::Duration;
 
-/// Of six sessions three have a receipt, each after one attempt, one was missed after five, and no attempt was made of two.
+/// In prose, and as comma-separated values.
 pub(crate) fn print_missed(text: &mut String) -> Result<(), AllocError> {
     let alloc = *text.allocator();
-    let times = Times {
+    let times = times_of(alloc)?;
+    push(text, print_times(alloc, &times))?;
+    push(text, print_times_as_values(alloc, &times))
+}
+
+fn push(text: &mut String, told: Result<String, Memory>) -> Result<(), AllocError> {
+    match told {
+        Ok(told) => text.push_str(told.as_str()),
+        Err(Memory) => Err(AllocError),
+    }
+}
+
+/// Of six sessions three have a receipt, each after one attempt, one was missed after five, and no attempt was made of two.
+fn times_of(alloc: Global) -> Result<Times, AllocError> {
+    Ok(Times {
         run: Duration::from_millis(1_500),
         audit: Duration::from_millis(250),
         receipts: 3,
@@ -16,11 +30,7 @@ pub(crate) fn print_missed(text: &mut String) -> Result<(), AllocError> {
         most: 5,
         refused: vec![in alloc; ("Moved", 5)]?,
         causes: vec![in alloc; ("Moved", 1), ("not started", 2)]?,
-    };
-    match print_times(alloc, &times) {
-        Ok(told) => text.push_str(told.as_str()),
-        Err(Memory) => Err(AllocError),
-    }
+    })
 }
 
 /// How far runs have come: none, one, the first of many, and all.

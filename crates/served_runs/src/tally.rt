@@ -11,6 +11,23 @@ use std::sync::atomic::{AtomicU64, Ordering};
 use std::time::Duration;
 use workers::LastAbort;
 
+/// The first columns of the times as comma-separated values, and the names of those of what refuses an attempt.
+const COLUMNS: &str =
+    "run_seconds,audit_seconds,sessions,missed,sessions_per_second,attempts,most_attempts";
+
+const REFUSED_COLUMNS: [&str; 10] = [
+    "moved",
+    "busy",
+    "stale",
+    "gate_busy",
+    "invalid",
+    "memory",
+    "exhausted",
+    "too_long",
+    "no_such",
+    "other_refusals",
+];
+
 /// The names of what refuses an attempt.
 const NAMES: [&str; 10] = [
     "Moved",
@@ -234,6 +251,11 @@ fn print_seconds(text: &mut String, name: &str, time: Duration) -> Result<(), Me
     Ok(())
 }
 
+/// How many sessions had their receipts a second.
+fn speed_in(times: &Times) -> u64 {
+    times.receipts.saturating_mul(1_000) / milliseconds(times.run).max(1)
+}
+
 /// How many sessions had an attempt: those with a receipt, and those that were missed after one.
 fn attempted_in(times: &Times) -> u64 {
     let mut count = times.receipts;
@@ -257,7 +279,7 @@ pub fn print_times(alloc: Global, times: &Times) -> Result<String, Memory> {
 fn print_speed(text: &mut String, times: &Times) -> Result<(), Memory> {
     print_seconds(text, "run", times.run)?;
     print_seconds(text, "audit", times.audit)?;
-    let speed = times.receipts.saturating_mul(1_000) / milliseconds(times.run).max(1);
+    let speed = speed_in(times);
     writeln!(text, "sessions a second: {speed}")?;
     let hundredths = times.tries.saturating_mul(100) / attempted_in(times).max(1);
     let (mean, part, most) = (hundredths / 100, hundredths % 100, times.most);
@@ -274,4 +296,55 @@ fn print_counts(
         writeln!(text, "{what}, {name}: {count}")?;
     }
     Ok(())
+}
+
+/// The times as comma-separated values: a line of names, and a line of numbers.
+pub fn print_times_as_values(alloc: Global, times: &Times) -> Result<String, Memory> {
+    let mut text = String::new(alloc);
+    text.push_str(COLUMNS)?;
+    for name in REFUSED_COLUMNS.iter() {
+        write!(text, ",{name}")?;
+    }
+    text.push_str("\n")?;
+    print_values(&mut text, times)?;
+    for name in NAMES.iter() {
+        let count = count_in(times.refused.as_slice(), name);
+        write!(text, ",{count}")?;
+    }
+    text.push_str("\n")?;
+    Ok(text)
+}
+
+fn print_values(text: &mut String, times: &Times) -> Result<(), Memory> {
+    print_decimal(text, times.run)?;
+    print_decimal(text, times.audit)?;
+    let (sessions, missed) = (times.receipts, missed_in(times));
+    let (speed, tries, most) = (speed_in(times), times.tries, times.most);
+    write!(text, "{sessions},{missed},{speed},{tries},{most}")?;
+    Ok(())
+}
+
+fn print_decimal(text: &mut String, time: Duration) -> Result<(), Memory> {
+    let (whole, part) = (time.as_secs(), time.subsec_millis());
+    write!(text, "{whole}.{part:03},")?;
+    Ok(())
+}
+
+fn missed_in(times: &Times) -> u64 {
+    let mut count = 0u64;
+    for (_, missed) in times.causes.as_slice() {
+        count = count.saturating_add(*missed);
+    }
+    count
+}
+
+/// How many there are of this name.
+fn count_in(counts: &[(&'static str, u64)], name: &str) -> u64 {
+    let mut count = 0u64;
+    for (other, more) in counts {
+        if *other == name {
+            count = count.saturating_add(*more);
+        }
+    }
+    count
 }
