@@ -41,6 +41,7 @@ const NAMES: &str = "Usage: measure NAME [NUMBERS]
 Each name runs a benchmark, for seconds up to some minutes, and prints what it took:
 
   audit          audits of 100,000 records of four calls, in milliseconds
+  bases          a take and a put on a queue or a priority queue, by how much it holds, in microseconds a transaction
   engine         transactions at seats of a shared table, in 1, 2 and 4 threads, beside the same calls under one lock
   ordered        drawn sessions of one client, one after another on a world, in microseconds a session
   reservations   actions on the reservation tables, in thousands a second
