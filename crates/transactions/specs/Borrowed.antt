@@ -1,10 +1,14 @@
--- A transaction that borrows its seat: how it begins there.
-use Rattle.std.specs.Prelude.{◌≡◌, ℕ, ◌+◌, ◌≤◌, Bool, IfErr, None, Result}
+-- A transaction that borrows its seat: how it begins there, and how an abort leaves the seat.
+use Rattle.std.specs.Prelude.{◌≡◌, ℕ, ◌+◌, ◌≤◌, [], ◌∷◌, ◌++◌, Bool, IfErr, None, Result}
+use Rattle.seq_model.specs.declared.event.Request.TheVariants as request
 use Rattle.seq_model.specs.declared.refusal.Refusal.{Refusal}
 use Rattle.replay_log.specs.Seats.{World}
 use Rattle.tx_table.specs.declared.table.TxTable.{TxTable}
 use Rattle.tx_table.specs.Seated.{opening_of}
+use Rattle.tx_phases.specs.Phases.{Rests}
 use Rattle.driven_turns.specs.Begins.{begins_of}
+use Rattle.driven_turns.specs.Driven.{standing}
+use Rattle.driven_turns.specs.Requested.{requests_of}
 use Rattle.transactions.specs.declared.seats.TxSeat.{TxSeat}
 use Rattle.transactions.specs.Ready.{IsReady}
 use Rattle.transactions.specs.Requests.{HasAborted, HasAskedToBegin, IsBegun, IsLastAborted, IsNotBegun, IsOpen, KeepsReceipts}
@@ -33,3 +37,15 @@ module _ {V : Type 0} where
     pub asks : HasAskedToBegin declared (opening_of t) s.seat u.seat
     pub aborted : IsOpen (opening_of t) s.seat → HasAborted (opening_of t) s.seat u.seat
     pub noted : IsOpen (opening_of t) s.seat → IsLastAborted (opening_of t) s.seat u.seat None
+
+  -- The seat is ready again, has its receipts, and no transaction is open there. One that was open was aborted, and is the last aborted one
+  -- of the seat's own world; that it abort was asked, and nothing else. Where none was open, the seat is as it was.
+  pub record IsAborted (t : TxTable V) (s u : TxSeat V) : Type 0 where
+    pub ready : IsReady t u
+    pub rests : standing (opening_of t) u.seat ≡ Rests
+    pub keeps : KeepsReceipts s.seat u.seat
+    pub aborted : IsOpen (opening_of t) s.seat → HasAborted (opening_of t) s.seat u.seat
+    pub noted : IsOpen (opening_of t) s.seat → IsLastAborted (opening_of t) s.seat u.seat None
+    pub none : standing (opening_of t) s.seat ≡ Rests → u ≡ s
+    pub begins : begins_of u.seat ≡ begins_of s.seat
+    pub asks : IsOpen (opening_of t) s.seat → requests_of u.seat ≡ requests_of s.seat ++ request.Abort ∷ []

@@ -1,17 +1,14 @@
 //! A transaction that borrows the seat at which it runs.
-ghost use Rattle.std.specs.Prelude.{◌≡◌, ◌<◌, [], ◌∷◌, ◌++◌, IfErr, IfOk, None, OnErr, OnOk, false, max, true};
+ghost use Rattle.std.specs.Prelude.{◌≡◌, ◌<◌, IfErr, IfOk, OnErr, OnOk, false, max, true};
 ghost use Rattle.std.specs.Borrow.{RestsIfErr, sem};
 ghost use Rattle.seq_model.specs.declared.call.Op.TheVariants as op;
 ghost use Rattle.seq_model.specs.declared.refusal.Refusal.TheVariants.{Ahead};
 ghost use Rattle.tx_table.specs.Seated.{opening_of, view};
-ghost use Rattle.tx_phases.specs.Phases.{Rests};
 ghost use Rattle.transactions.specs.contracts.seats.TxSeat.{the_row};
-ghost use Rattle.transactions.specs.Borrowed.{IsBegunSince, IsRefusedBegin};
-ghost use Rattle.driven_turns.specs.Begins.{begins_of};
+ghost use Rattle.transactions.specs.Borrowed.{IsAborted, IsBegunSince, IsRefusedBegin};
 ghost use Rattle.driven_turns.specs.Driven.{standing};
-ghost use Rattle.driven_turns.specs.Requested.{requests_of};
 ghost use Rattle.transactions.specs.Ready.{HasBegunSince, HasCalled, HasFinished, IsReady};
-ghost use Rattle.transactions.specs.Requests.{HasAborted, IsLastAborted, IsOpen, KeepsReceipts, OnlyKnows};
+ghost use Rattle.transactions.specs.Requests.{KeepsReceipts, OnlyKnows};
 
 use crate::seats::TxSeat;
 use seq_model::{Call, Op, Record, Refusal, Reply, Request, Value};
@@ -140,18 +137,7 @@ impl<'a, V: Value> Tx<'a, V> {
     /// The transaction ends without a commit. Where it has ended already, nothing is done.
     pub fn abort(self)
         requires ready { IsReady self.table.now self.seat.now }
-        ensures ready { IsReady self.entry.table.now self.exit.1.0.now }
-        ensures rests { standing (opening_of self.entry.table.now) self.exit.1.0.now.seat ≡ Rests }
-        ensures keeps { KeepsReceipts self.entry.seat.now.seat self.exit.1.0.now.seat }
-        ensures aborted { IsOpen (opening_of self.entry.table.now) self.entry.seat.now.seat →
-            HasAborted (opening_of self.entry.table.now) self.entry.seat.now.seat self.exit.1.0.now.seat }
-        ensures noted { IsOpen (opening_of self.entry.table.now) self.entry.seat.now.seat →
-            IsLastAborted (opening_of self.entry.table.now) self.entry.seat.now.seat self.exit.1.0.now.seat None }
-        ensures none { standing (opening_of self.entry.table.now) self.entry.seat.now.seat ≡ Rests →
-            self.exit.1.0.now ≡ self.entry.seat.now }
-        ensures begins { begins_of self.exit.1.0.now.seat ≡ begins_of self.entry.seat.now.seat }
-        ensures asks { IsOpen (opening_of self.entry.table.now) self.entry.seat.now.seat →
-            requests_of self.exit.1.0.now.seat ≡ requests_of self.entry.seat.now.seat ++ Request.Abort ∷ [] }
+        ensures { IsAborted self.entry.table.now self.entry.seat.now self.exit.1.0.now }
     {
         let Tx { table, seat } = self;
         seat.abort(table);

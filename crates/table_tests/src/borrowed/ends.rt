@@ -40,10 +40,7 @@ pub fn end_as<V: Value>(tx: Tx<'_, V>, end: End) -> Ended<V>
 {
     match end {
         End::Commits => commit(tx),
-        End::Aborts => {
-            tx.abort();
-            Ended::Aborted
-        }
+        End::Aborts => abort(tx),
         End::Drops => Ended::Dropped,
     }
 }
@@ -57,4 +54,13 @@ fn commit<V: Value>(tx: Tx<'_, V>) -> Ended<V>
         Ok(receipt) => Ended::Committed(receipt),
         Err(refusal) => Ended::Refused(refusal),
     }
+}
+
+fn abort<V: Value>(tx: Tx<'_, V>) -> Ended<V>
+    requires ready { IsReady tx.table.now tx.seat.now }
+    requires since { HasBegunSince tx.table.now tx.seat.now }
+    ensures ready { IsReady tx.entry.table.now tx.exit.1.0.now }
+{
+    tx.abort();
+    Ended::Aborted
 }
