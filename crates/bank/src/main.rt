@@ -36,7 +36,6 @@ struct Bank {
     alerts: PriorityQueue,
 }
 
-/// Why a transfer is not made.
 #[derive(Drop)]
 enum Declined {
     Absent,
@@ -160,12 +159,9 @@ fn serve<R: Threads + Sync>(rt: &R, alloc: Global) -> Result<(Vec<u64>, usize, u
     let done = store.run(rt, desks)?;
     let contents = store.close()?;
     let made = contents.queue(bank.audit).map_or(0, |items| items.len());
-    let low = contents.priority_queue(bank.alerts);
-    Ok((
-        done,
-        made,
-        low.and_then(|alerts| alerts.least()).unwrap_or(6),
-    ))
+    let alerts = contents.priority_queue(bank.alerts);
+    let low = alerts.and_then(|alerts| alerts.least()).unwrap_or(6);
+    Ok((done, made, low))
 }
 
 fn main(rt: HostRuntime) -> std::io::Result<()> {
