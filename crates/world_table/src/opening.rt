@@ -10,7 +10,7 @@ ghost use Rattle.world_table.specs.Openings.{AreOpened, AreStripeCounts, blocks_
 use actor_words::{COLLECTION_LIMIT, TABLE_LIMIT};
 use conflict::is_stripe_count_of;
 use replay_log::Base;
-use seq_model::{Held, Memory, Value};
+use seq_model::{Held, Memory, Refusal, Value};
 use std::alloc::Global;
 
 // How many locations a collection has in so many stripes.
@@ -59,7 +59,8 @@ fn open_base<V: Value>(alloc: Global, stripes: u32, held: Held<V>) -> Result<Bas
 {
     match Base::open(alloc, stripes, held) {
         Ok(base) => Ok(base),
-        Err(_) => Err(Memory),
+        Err(Refusal::OutOfMemory) => Err(Memory),
+        Err(_) => unreachable!(),
     }
 }
 
