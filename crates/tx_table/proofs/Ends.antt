@@ -21,7 +21,7 @@ use Rattle.seq_model.specs.Contents.{Contents}
 use Rattle.collection_machine.specs.Boosted.{is_actor}
 use Rattle.replay_log.specs.Collections.{Suit, shown_at}
 use Rattle.seq_model.specs.Runs.{after_run}
-use Rattle.replay_log.proofs.SerialLemmas.{numbers_past, serial_world}
+use Rattle.seq_model.specs.declared.event.Event.{Event}
 use Rattle.replay_log.proofs.TraceLemmas.{shows_state}
 use Rattle.replay_log.specs.Contents as contents
 use Rattle.replay_log.specs.Contents.{Block, HaveStripes, end_of, is_plain}
@@ -239,6 +239,25 @@ module _ {V : Type 0} where
             ∙ shows_left o.words o.blocks w s.words s.homes ds e1 e2 stripes S.table free long home;
       }
 
+-- ---- laws, each as its function states it
+abbrev pub SerialLaw : Type 0 → Type 0
+SerialLaw V =
+    (blocks : List Block) (clock : ℕ) (values : List ℕ) (held : List (Held V)) (events : List (Event V)) → HaveStripes blocks
+    → Suit blocks held → IsSerial (record { words = values; held = held }) (run (opened blocks clock values held) events)
+
+abbrev pub NumberLaw : Type 0 → Type 0
+NumberLaw V =
+    (blocks : List Block) (clock : ℕ) (values : List ℕ) (held : List (Held V)) (events : List (Event V)) → HaveStripes blocks
+    → Suit blocks held → let w = run (opened blocks clock values held) events in AreUpTo w.boosted.words.clock w.records
+
+abbrev pub ClosingLaw : Type 0 → Type 0
+ClosingLaw V =
+    (blocks : List Block) (clock : ℕ) (values : List ℕ) (held : List (Held V)) → HaveStripes blocks → Suit blocks held
+    → let o = opened blocks clock values held in
+    (id : ℕ) (v : View V) (s : State (Slot V) (View V)) → Rule o s → get_elem? s.views id ≡ some v → v.shares ≡ SHARES
+    → is_half_done (stage_of (lone id o v.turns) id) ≡ false → ((k : ℕ) → is_actor id ((lone id o v.turns).boosted.gates k) ≡ false)
+    → Closes (length values) blocks (record { words = values; held = held }) v s.words s.homes
+
 above : (n : ℕ) (bs : List Block) → n ≤ end_of n bs
 above n [] = omega arith
 above n (b ∷ bs) = let z = above (n + contents.size b) bs in omega (arith, z)
@@ -253,15 +272,11 @@ module _ {V : Type 0} where
     idle = λ a. refl;
   }
 
-  pub world_closes : (blocks : List Block) (clock : ℕ) (values : List ℕ) (held : List (Held V)) → HaveStripes blocks → Suit blocks held
-      → let o = opened blocks clock values held in
-      (id : ℕ) (v : View V) (s : State (Slot V) (View V)) → Rule o s → get_elem? s.views id ≡ some v → v.shares ≡ SHARES
-      → is_half_done (stage_of (lone id o v.turns) id) ≡ false → ((k : ℕ) → is_actor id ((lone id o v.turns).boosted.gates k) ≡ false)
-      → Closes (length values) blocks (record { words = values; held = held }) v s.words s.homes
-  world_closes blocks clock values held stripes suit id v s rule here all done bare =
+  pub world_closes : SerialLaw V → NumberLaw V → ClosingLaw V
+  world_closes serial past blocks clock values held stripes suit id v s rule here all done bare =
       closes (opened blocks clock values held) (record { words = values; held = held }) id v s rule stripes
       (opening_is blocks clock values held)
-      (serial_world blocks stripes clock values held suit rule.events) (numbers_past blocks stripes clock values held suit rule.events)
+      (serial blocks clock values held rule.events stripes suit) (past blocks clock values held rule.events stripes suit)
       here all done bare (above (length values) blocks)
 
   opening_own : (o : World V) (a : ℕ) → IsOpening o → IsOwn a o o

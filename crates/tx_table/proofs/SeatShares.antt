@@ -23,7 +23,7 @@ use Rattle.tx_table.specs.Shown.{spent_of}
 use Rattle.tx_table.specs.Seated.{Rests}
 use Rattle.tx_table.proofs.Numbers.{map_at, tally_set, total_set, total_part, inside}
 use Rattle.tx_table.proofs.Keeps.{still_joined}
-use Rattle.tx_table.proofs.Ends.{splits, joins, opening_is, shows_world, world_closes}
+use Rattle.tx_table.proofs.Ends.{ClosingLaw, splits, joins, opening_is, shows_world}
 use Rattle.tx_table.proofs.Left.{same_home}
 
 module _ {A : Type 0} where
@@ -144,13 +144,13 @@ module _ {V : Type 0} where
         r.4,
       )
 
-  pub closes_all : (key : Opening V) (id : ℕ) (v : View V) (ws : List ℕ) (xs : List (Slot V)) → v.shares ≡ SHARES
+  pub closes_all : ClosingLaw V → (key : Opening V) (id : ℕ) (v : View V) (ws : List ℕ) (xs : List (Slot V)) → v.shares ≡ SHARES
       → Rests id (lone id (world_at key) v.turns) → Final (Seen (Holds key) id v) ws xs
       → Closes (words_at key) (blocks_at key) key.state.value v ws (map some xs)
-  closes_all key id v ws xs all rests last =
+  closes_all law key id v ws xs all rests last =
       let s = last.0 in
       let h = last.1.0 in
-      let c = world_closes (blocks_at key) key.shape.value.clock key.state.value.words key.state.value.held h.stripes h.suits id v s h.rule
+      let c = law (blocks_at key) key.shape.value.clock key.state.value.words key.state.value.held h.stripes h.suits id v s h.rule
       last.1.1 all rests.0 rests.1 in
       record {
         order = c.order;

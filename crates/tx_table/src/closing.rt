@@ -8,6 +8,7 @@ ghost use Rattle.tx_table.specs.Ends.{held_in, homes_of, row_of};
 ghost use Rattle.tx_table.specs.Seated.{Owns, Rests, actor, blocks_in, contents_in, kept, locations_in, opening_of, view, words_in};
 
 use crate::closed::Closed;
+use crate::laws::closed;
 use crate::seat::Seat;
 use crate::table::TxTable;
 use crate::view::SHARES;
@@ -28,6 +29,7 @@ impl<V: Value> TxTable<V> {
             (view seat) (row_of result) (map some (homes_of result)) }
         ensures shows { ShowsWorld (opening_of self) (actor seat) (view seat) (row_of result) (map some (homes_of result)) }
     {
+        closed::<V>();
         let TxTable {
             whole,
             words,

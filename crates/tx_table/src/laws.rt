@@ -48,6 +48,9 @@ ghost use Rattle.tx_table.specs.Shown.{
   first as first_view,
 };
 
+use replay_log::laws::{bounds, serial_worlds};
+use seq_model::Value;
+
 /// A step on a word leaves an actor what it leaves it alone, with the number that it found, and tells the same. The records grow by
 /// what the step commits, by any weight.
 pub fn turns<V>()
@@ -124,10 +127,13 @@ pub fn shares<V>()
 
 /// What a table leaves whose seat has all shares: its receipts, in commit order, are a run of the sequential model from the opening,
 /// words and bases are what that run leaves.
-pub fn closed<V>()
+pub fn closed<V: Value>()
     ensures { (blocks : List Block) (clock : ℕ) (values : List ℕ) (held : List (Held V)) → HaveStripes blocks → Suit blocks held →
         let o = opened blocks clock values held in
         (id : ℕ) (v : View V) (s : State (Slot V) (View V)) → Rule o s → get_elem? s.views id ≡ some v → v.shares ≡ SHARES →
         is_half_done (stage_of (lone id o v.turns) id) ≡ false → ((k : ℕ) → is_actor id ((lone id o v.turns).boosted.gates k) ≡ false) →
         Closes (length values) blocks (record { words = values; held = held }) v s.words s.homes }
-{}
+{
+    serial_worlds::<V>();
+    bounds::<V>();
+}
