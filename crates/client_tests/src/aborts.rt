@@ -1,8 +1,9 @@
 //! Bodies that abort, with an error of their own or with a refusal, and bodies that may not write.
-use crate::bodies::{Increase, Read};
+use crate::bodies::{Increase, held};
+use crate::stores::{Handles, handles_of};
 use std::alloc::Global;
 use std::fmt::Write;
-use wolimevar::{Body, Failure, Layout, Map, Refusal, Scope, Store, Transaction, Word};
+use wolimevar::{Body, Failure, Map, Refusal, Scope, Store, Transaction, Word};
 
 /// An error of an application.
 #[derive(Drop)]
@@ -32,12 +33,12 @@ impl Body<u64> for Abort {
     }
 }
 
-/// A map that isn't there is called, and then the body aborts: by the refusal, or by an error of its own.
+/// A word is written, a map called that isn't there, and then the body aborts: by the refusal, or by an error of its own.
 #[derive(Drop)]
 struct Miss {
     word: Word,
-    map: Map<u64>,
-    own: bool,
+    absent: Map<u64>,
+    hides: bool,
 }
 
 impl Body<u64> for Miss {
@@ -47,81 +48,108 @@ impl Body<u64> for Miss {
 
     fn run<S: Scope<u64>>(&self, tx: &mut Transaction<'_, u64, S>) -> Result<(), Unwanted> {
         self.word.write(tx, 6)?;
-        match self.map.get(tx, 1) {
+        match self.absent.get(tx, 1) {
             Ok(_) => Ok(()),
-            Err(_) if self.own => Err(Unwanted::Number(6)),
+            Err(_) if self.hides => Err(Unwanted::Number(6)),
             Err(refusal) => Err(refusal.into()),
         }
     }
 }
 
-/// What the caller gets, and what the word holds then.
-fn tell<T: Drop>(
-    text: &mut String,
+fn run<B: Body<u64, Error = Unwanted>>(
     store: &mut Store<u64>,
+    body: &B,
+) -> Result<(), Failure<Unwanted>> {
+    store.atomically(9, body)?;
+    Ok(())
+}
+
+fn look<B: Body<u64, Error = Unwanted>>(
+    store: &mut Store<u64>,
+    body: &B,
+) -> Result<(), Failure<Unwanted>> {
+    store.look(9, body)?;
+    Ok(())
+}
+
+/// What the caller gets, and what the word holds then.
+fn say(
+    text: &mut String,
     name: &str,
-    word: Word,
-    ended: Result<T, Failure<Unwanted>>,
+    ended: Result<(), Failure<Unwanted>>,
+    held: u64,
 ) -> Result<(), Refusal> {
-    write!(text, "{name} = ")?;
     match ended {
-        Ok(_) => write!(text, "Ok")?,
-        Err(Failure::Refused(refusal)) => write!(text, "refused {refusal}")?,
-        Err(Failure::Aborted(Unwanted::Number(number))) => write!(text, "aborted by {number}")?,
-        Err(Failure::Aborted(Unwanted::Refused(refusal))) => write!(text, "aborted by {refusal}")?,
+        Ok(()) => write!(text, "{name} = Ok")?,
+        Err(Failure::Refused(refusal)) => write!(text, "{name} = refused {refusal}")?,
+        Err(Failure::Aborted(Unwanted::Number(number))) => write!(
+            text,
+            "{name} = aborted by {number}"
+        )?,
+        Err(Failure::Aborted(Unwanted::Refused(refusal))) => write!(
+            text,
+            "{name} = aborted by {refusal}"
+        )?,
     }
-    let (held, _) = store.look(1, &Read(word))?;
     writeln!(text, ", word {held}")?;
     Ok(())
 }
 
-/// A map that a store of one word doesn't have.
-fn absent_map(alloc: Global) -> Result<Map<u64>, Refusal> {
-    let mut layout = Layout::new(alloc);
-    layout.map(1, wolimevar::Entries::new(alloc))
-}
-
-pub fn test(alloc: Global, text: &mut String) -> Result<(), Refusal> {
-    let mut layout: Layout<u64> = Layout::new(alloc);
-    let word = layout.word(3)?;
-    let mut store = layout.open()?;
-    let map = absent_map(alloc)?;
-    let ended = store.atomically(9, &Abort(word));
-    tell(text, &mut store, "a body that aborts", word, ended)?;
-    let ended = store.atomically(
-        9,
-        &Miss {
-            word,
-            map,
-            own: false,
-        },
-    );
-    tell(
-        text,
-        &mut store,
-        "a body that hands on a refusal",
-        word,
-        ended,
-    )?;
-    let ended = store.atomically(
-        9,
-        &Miss {
-            word,
-            map,
-            own: true,
-        },
-    );
-    tell(text, &mut store, "a body that hides a refusal", word, ended)?;
-    let ended = store.look(9, &Abort(word));
-    tell(text, &mut store, "a reader that writes", word, ended)?;
+fn say_attempts(text: &mut String, store: &mut Store<u64>, word: Word) -> Result<(), Refusal> {
     store.atomically(0, &Increase(word))?;
-    let (held, _) = store.look(0, &Read(word))?;
-    writeln!(text, "no attempts asked for = one, word {held}")?;
-    let tally = store.tally();
-    let (committed, aborted, others) = (tally.committed, tally.aborted, tally.others);
     writeln!(
         text,
-        "attempts = {committed} committed, {aborted} aborted, {others} refused"
+        "no attempts asked for = one, word {}",
+        held(store, word)?
+    )?;
+    let tally = store.tally();
+    let (aborted, others) = (tally.aborted, tally.others);
+    writeln!(
+        text,
+        "attempts = {aborted} aborted, {others} refused by no conflict"
     )?;
     Ok(())
+}
+
+pub fn test(
+    alloc: Global,
+    text: &mut String,
+    store: &mut Store<u64>,
+    handles: Handles,
+) -> Result<(), Refusal> {
+    let word = handles.aborted;
+    let absent = handles_of(alloc, 1)?.map;
+    let ended = run(store, &Abort(word));
+    say(text, "a body that aborts", ended, held(store, word)?)?;
+    let ended = run(
+        store,
+        &Miss {
+            word,
+            absent,
+            hides: false,
+        },
+    );
+    say(
+        text,
+        "a body that hands on a refusal",
+        ended,
+        held(store, word)?,
+    )?;
+    let ended = run(
+        store,
+        &Miss {
+            word,
+            absent,
+            hides: true,
+        },
+    );
+    say(
+        text,
+        "a body that hides a refusal",
+        ended,
+        held(store, word)?,
+    )?;
+    let ended = look(store, &Abort(word));
+    say(text, "a reader that writes", ended, held(store, word)?)?;
+    say_attempts(text, store, word)
 }

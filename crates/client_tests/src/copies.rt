@@ -3,8 +3,8 @@ use std::alloc::Global;
 use std::fmt::Write;
 use std::thread::Threads;
 use wolimevar::{
-    Body, Client, Entries, Failure, Layout, Map, Memory, Refusal, Scope, Session, Transaction,
-    Value,
+    Body, Client, Contents, Entries, Failure, Layout, Map, Memory, Refusal, Scope, Session, Store,
+    Transaction, Value,
 };
 
 /// A number that can't be copied where it is 13.
@@ -43,23 +43,6 @@ impl Body<Brittle> for Get {
     }
 }
 
-/// A key is put, one is got that can't be copied, and the body goes on as if nothing had been.
-#[derive(Drop)]
-struct Careless(Map<Brittle>);
-
-impl Body<Brittle> for Careless {
-    type Out = ();
-
-    type Error = Refusal;
-
-    fn run<S: Scope<Brittle>>(&self, tx: &mut Transaction<'_, Brittle, S>) -> Result<(), Refusal> {
-        self.0.put(tx, 3, Brittle { number: 4 })?;
-        let _ = self.0.get(tx, 1);
-        let _ = self.0.get(tx, 2);
-        Ok(())
-    }
-}
-
 impl Session<Brittle> for Get {
     type Out = Result<u64, Failure<Refusal>>;
 
@@ -69,11 +52,32 @@ impl Session<Brittle> for Get {
     }
 }
 
-fn tell(
-    text: &mut String,
-    name: &str,
-    ended: Result<u64, Failure<Refusal>>,
-) -> Result<(), Refusal> {
+/// A key is put, one is got that can't be copied, and the body goes on as if nothing had been.
+#[derive(Drop)]
+struct Careless(Map<Brittle>);
+
+impl Body<Brittle> for Careless {
+    type Out = u64;
+
+    type Error = Refusal;
+
+    fn run<S: Scope<Brittle>>(&self, tx: &mut Transaction<'_, Brittle, S>) -> Result<u64, Refusal> {
+        self.0.put(tx, 3, Brittle { number: 4 })?;
+        let _ = self.0.get(tx, 1);
+        let _ = self.0.get(tx, 2);
+        Ok(0)
+    }
+}
+
+fn run<B: Body<Brittle, Out = u64, Error = Refusal>>(
+    store: &mut Store<Brittle>,
+    body: &B,
+) -> Result<u64, Failure<Refusal>> {
+    let (found, _) = store.atomically(9, body)?;
+    Ok(found)
+}
+
+fn say(text: &mut String, name: &str, ended: Result<u64, Failure<Refusal>>) -> Result<(), Refusal> {
     match ended {
         Ok(number) => writeln!(text, "{name} = {number}")?,
         Err(Failure::Refused(refusal)) => writeln!(text, "{name} = refused {refusal}")?,
@@ -82,36 +86,86 @@ fn tell(
     Ok(())
 }
 
-pub fn test<R: Threads + Sync>(rt: &R, alloc: Global, text: &mut String) -> Result<(), Refusal> {
+fn brittle_entries(alloc: Global) -> Result<Entries<Brittle>, Memory> {
     let mut entries = Entries::new(alloc);
     entries.insert(1, Brittle { number: 13 })?;
     entries.insert(2, Brittle { number: 5 })?;
-    let mut layout: Layout<Brittle> = Layout::new(alloc);
-    let map = layout.map(4, entries)?;
-    let mut store = layout.open()?;
-    tell(
+    Ok(entries)
+}
+
+fn lay_out(alloc: Global, layout: &mut Layout<Brittle>) -> Result<Map<Brittle>, Refusal> {
+    layout.map(4, brittle_entries(alloc)?)
+}
+
+fn open(alloc: Global) -> Result<(Store<Brittle>, Map<Brittle>), Refusal> {
+    let mut layout = Layout::new(alloc);
+    let map = lay_out(alloc, &mut layout)?;
+    let store = layout.open()?;
+    Ok((store, map))
+}
+
+/// What two sessions get, each in a thread.
+fn run_both<R: Threads + Sync>(
+    rt: &R,
+    alloc: Global,
+    store: &mut Store<Brittle>,
+    map: Map<Brittle>,
+) -> Result<Vec<Result<u64, Failure<Refusal>>>, Refusal> {
+    let both = vec![in alloc; Get(map, 1), Get(map, 2)]?;
+    store.run(rt, both)
+}
+
+fn say_both(text: &mut String, outs: &[Result<u64, Failure<Refusal>>]) -> Result<(), Refusal> {
+    for ended in outs {
+        say(text, "a session", *ended)?;
+    }
+    Ok(())
+}
+
+fn test_sessions<R: Threads + Sync>(
+    rt: &R,
+    alloc: Global,
+    text: &mut String,
+    store: &mut Store<Brittle>,
+    map: Map<Brittle>,
+) -> Result<(), Refusal> {
+    let outs = run_both(rt, alloc, store, map)?;
+    let said = say_both(text, outs.as_slice());
+    drop(outs);
+    said
+}
+
+fn test_store(
+    text: &mut String,
+    store: &mut Store<Brittle>,
+    map: Map<Brittle>,
+) -> Result<(), Refusal> {
+    say(
         text,
         "a value that can't be copied",
-        store.atomically(9, &Get(map, 1)).map(|done| done.0),
+        run(store, &Get(map, 1)),
     )?;
-    tell(
+    say(text, "a value beside it", run(store, &Get(map, 2)))?;
+    say(
         text,
-        "a value beside it",
-        store.atomically(9, &Get(map, 2)).map(|done| done.0),
+        "a body that goes on after its end",
+        run(store, &Careless(map)),
     )?;
-    let ended = store.atomically(9, &Careless(map)).map(|_| 0);
-    tell(text, "a body that goes on after its end", ended)?;
-    tell(
-        text,
-        "what it put",
-        store.look(9, &Get(map, 3)).map(|done| done.0),
-    )?;
-    for ended in store.run(rt, vec![in alloc; Get(map, 1), Get(map, 2)]?)? {
-        tell(text, "a session", ended)?;
-    }
-    match store.close() {
-        Ok(_) => writeln!(text, "closed = Ok")?,
-        Err(Memory) => writeln!(text, "closed = {Memory}")?,
-    }
+    say(text, "what it put", run(store, &Get(map, 3)))
+}
+
+/// Whether a store could be closed: what it held is dropped.
+fn closes(closed: Result<Contents<Brittle>, Memory>) -> bool {
+    closed.is_ok()
+}
+
+pub fn test<R: Threads + Sync>(rt: &R, alloc: Global, text: &mut String) -> Result<(), Refusal> {
+    let (mut store, map) = open(alloc)?;
+    let tested = test_store(text, &mut store, map);
+    let served = test_sessions(rt, alloc, text, &mut store, map);
+    let closed = closes(store.close());
+    tested?;
+    served?;
+    writeln!(text, "closes with a value that can't be copied = {closed}")?;
     Ok(())
 }

@@ -1,53 +1,74 @@
 //! Limits: of a layout, of a transaction, and of the copies of an element.
 use crate::bodies::TRIES;
+use crate::stores::Handles;
 use std::alloc::Global;
 use std::fmt::Write;
 use wolimevar::{
-    Bag, Body, Counts, Entries, Full, Layout, PriorityQueue, QueueItems, Refusal, Scope,
+    Bag, Body, Counts, Entries, Full, Layout, PriorityQueue, QueueItems, Refusal, Scope, Store,
     Transaction, Word,
 };
 
-/// The most copies of an element.
-const COPIES: u64 = 4_294_967_295;
+/// What a layout has.
+#[derive(Clone, Copy)]
+enum Opening {
+    Bags(u64),
+    MapStripes(u32),
+    QueueStripes(u32),
+    Copies(u64),
+}
 
-/// What opening such a layout answers.
-fn tell(text: &mut String, name: &str, layout: Layout<u64>) -> Result<(), Refusal> {
-    match layout.open() {
-        Ok(_) => writeln!(text, "{name} = opens")?,
-        Err(refusal) => writeln!(text, "{name} = {refusal}")?,
+const OPENINGS: [(&str, Opening); 7] = [
+    ("256 collections", Opening::Bags(256)),
+    ("257 collections", Opening::Bags(257)),
+    ("no stripes", Opening::MapStripes(0)),
+    ("3 stripes", Opening::MapStripes(3)),
+    ("1,048,577 stripes", Opening::MapStripes(1_048_577)),
+    ("a queue of 2 stripes", Opening::QueueStripes(2)),
+    ("4,294,967,296 copies", Opening::Copies(4_294_967_296)),
+];
+
+fn add_bags(alloc: Global, layout: &mut Layout<u64>, count: u64) -> Result<(), Refusal> {
+    for _ in 0..count {
+        layout.bag(1, Counts::new(alloc))?;
     }
     Ok(())
 }
 
-fn bags(alloc: Global, count: u64) -> Result<Layout<u64>, Refusal> {
-    let mut layout: Layout<u64> = Layout::new(alloc);
-    for _ in 0..count {
-        layout.bag(1, Counts::new(alloc))?;
-    }
-    Ok(layout)
-}
-
-fn striped(alloc: Global, stripes: u32) -> Result<Layout<u64>, Refusal> {
-    let mut layout: Layout<u64> = Layout::new(alloc);
-    layout.map(stripes, Entries::new(alloc))?;
-    Ok(layout)
-}
-
-fn striped_queue(alloc: Global, stripes: u32) -> Result<Layout<u64>, Refusal> {
-    let mut layout: Layout<u64> = Layout::new(alloc);
-    layout.queue(stripes, QueueItems::new(alloc))?;
-    Ok(layout)
-}
-
-fn copies(alloc: Global, count: u64) -> Result<Layout<u64>, Refusal> {
+fn copies(alloc: Global, count: u64) -> Result<Counts, Refusal> {
     let mut counts = Counts::new(alloc);
     counts.set_copies(7, count)?;
-    let mut layout: Layout<u64> = Layout::new(alloc);
-    layout.bag(1, counts)?;
-    Ok(layout)
+    Ok(counts)
 }
 
-/// A word is read as often as it can be, and then written. It gives how often it was read, and what refused one read more.
+fn lay_out(alloc: Global, layout: &mut Layout<u64>, opening: Opening) -> Result<(), Refusal> {
+    match opening {
+        Opening::Bags(count) => add_bags(alloc, layout, count),
+        Opening::MapStripes(stripes) => layout.map(stripes, Entries::new(alloc)).map(|_| ()),
+        Opening::QueueStripes(stripes) => layout.queue(stripes, QueueItems::new(alloc)).map(|_| ()),
+        Opening::Copies(count) => layout.bag(1, copies(alloc, count)?).map(|_| ()),
+    }
+}
+
+/// What refuses to open such a layout.
+fn refused(alloc: Global, opening: Opening) -> Result<Option<Refusal>, Refusal> {
+    let mut layout = Layout::new(alloc);
+    let laid = lay_out(alloc, &mut layout, opening);
+    let refused = layout.open().err();
+    laid?;
+    Ok(refused)
+}
+
+pub fn test(alloc: Global, text: &mut String) -> Result<(), Refusal> {
+    for (name, opening) in OPENINGS {
+        match refused(alloc, opening)? {
+            Some(refusal) => writeln!(text, "{name} = {refusal}")?,
+            None => writeln!(text, "{name} = opens")?,
+        }
+    }
+    Ok(())
+}
+
+/// A word is read as often as it can be. It gives how often that was, and what refused one read more.
 #[derive(Drop)]
 struct Long(Word);
 
@@ -66,18 +87,9 @@ impl Body<u64> for Long {
     }
 }
 
-fn test_long(alloc: Global, text: &mut String) -> Result<(), Refusal> {
-    let mut layout: Layout<u64> = Layout::new(alloc);
-    let word = layout.word(0)?;
-    let mut store = layout.open()?;
-    match store.atomically(1, &Long(word))?.0 {
-        (reads, Some(refusal)) => writeln!(
-            text,
-            "a long transaction = {reads} calls, then {refusal}"
-        )?,
-        (reads, None) => writeln!(text, "a long transaction = {reads} calls")?,
-    }
-    Ok(())
+fn read_long(store: &mut Store<u64>, word: Word) -> Result<(u64, Option<Refusal>), Refusal> {
+    let (long, _) = store.look(TRIES, &Long(word))?;
+    Ok(long)
 }
 
 /// One copy more than there is room for, in a multiset and in a priority queue; then one is taken, and there is room.
@@ -98,26 +110,24 @@ impl Body<u64> for Fill {
     }
 }
 
-fn test_full(alloc: Global, text: &mut String) -> Result<(), Refusal> {
-    let (mut some, mut others) = (Counts::new(alloc), Counts::new(alloc));
-    some.set_copies(7, COPIES)?;
-    others.set_copies(7, COPIES)?;
-    let mut layout: Layout<u64> = Layout::new(alloc);
-    let fill = Fill(layout.bag(1, some)?, layout.priority_queue(1, others)?);
-    let mut store = layout.open()?;
-    let (rooms, _) = store.atomically(TRIES, &fill)?;
-    writeln!(text, "one copy more than fit = {rooms:?}")?;
-    Ok(())
+fn fill_both(store: &mut Store<u64>, handles: Handles) -> Result<[Result<(), Full>; 4], Refusal> {
+    let (rooms, _) = store.atomically(TRIES, &Fill(handles.full_bag, handles.full_least))?;
+    Ok(rooms)
 }
 
-pub fn test(alloc: Global, text: &mut String) -> Result<(), Refusal> {
-    tell(text, "256 collections", bags(alloc, 256)?)?;
-    tell(text, "257 collections", bags(alloc, 257)?)?;
-    tell(text, "no stripes", striped(alloc, 0)?)?;
-    tell(text, "3 stripes", striped(alloc, 3)?)?;
-    tell(text, "1,048,577 stripes", striped(alloc, 1_048_577)?)?;
-    tell(text, "a queue of 2 stripes", striped_queue(alloc, 2)?)?;
-    tell(text, "4,294,967,296 copies", copies(alloc, 4_294_967_296)?)?;
-    test_long(alloc, text)?;
-    test_full(alloc, text)
+pub fn test_calls(
+    text: &mut String,
+    store: &mut Store<u64>,
+    handles: Handles,
+) -> Result<(), Refusal> {
+    match read_long(store, handles.numbered)? {
+        (calls, Some(refusal)) => writeln!(text, "a long reader = {calls} calls, then {refusal}")?,
+        (calls, None) => writeln!(text, "a long reader = {calls} calls")?,
+    }
+    writeln!(
+        text,
+        "one copy more than fits = {:?}",
+        fill_both(store, handles)?
+    )?;
+    Ok(())
 }

@@ -1,12 +1,13 @@
 //! Sessions on threads: too many of them, as many as there can be, and two that wait for each other.
-use crate::bodies::{Increase, Read, TRIES};
+use crate::bodies::{Increase, Read, TRIES, held};
+use crate::stores::Handles;
 use std::alloc::Global;
 use std::fmt::Write;
 use std::thread::{Threads, yield_now};
-use wolimevar::{Client, Layout, Refusal, Scope, Session, Store, Word};
+use wolimevar::{Client, Memory, Refusal, Scope, Session, Store, Word};
 
-/// Increases a word, and then waits until it holds so many. It gives whether it came to that, and whether its last number grew.
-#[derive(Drop)]
+/// Increases a word, and then waits until it holds so many. It gives whether it came to that.
+#[derive(Clone, Copy)]
 struct Guest {
     word: Word,
     waits_for: u64,
@@ -16,7 +17,7 @@ impl Session<u64> for Guest {
     type Out = bool;
 
     fn serve<S: Scope<u64>>(self, client: &mut Client<'_, u64, S>) -> bool {
-        if client.atomically(TRIES, &Increase(self.word)).is_err() || client.last_number() == 0 {
+        if client.atomically(TRIES, &Increase(self.word)).is_err() {
             return false;
         }
         for _ in 0..10_000_000u64 {
@@ -30,40 +31,59 @@ impl Session<u64> for Guest {
     }
 }
 
+fn guests(alloc: Global, guest: Guest, count: u64) -> Result<Vec<Guest>, Memory> {
+    let mut guests = Vec::new(alloc);
+    for _ in 0..count {
+        guests.push(guest)?;
+    }
+    Ok(guests)
+}
+
+/// How many of these sessions ended well.
+fn serve<R: Threads + Sync>(
+    rt: &R,
+    store: &mut Store<u64>,
+    guests: Vec<Guest>,
+) -> Result<usize, Refusal> {
+    let outs = store.run(rt, guests)?;
+    Ok(outs.iter().filter(|well| **well).count())
+}
+
 /// So many sessions: how many of them ended well, and what the word holds then.
-fn tell<R: Threads + Sync>(
+fn say<R: Threads + Sync>(
     rt: &R,
     alloc: Global,
     text: &mut String,
     store: &mut Store<u64>,
-    word: Word,
+    guest: Guest,
     count: u64,
-    waits_for: u64,
 ) -> Result<(), Refusal> {
-    let mut guests = Vec::new(alloc);
-    for _ in 0..count {
-        guests.push(Guest { word, waits_for })?;
-    }
-    match store.run(rt, guests) {
-        Ok(outs) => write!(
-            text,
-            "{count} sessions = {} well",
-            outs.iter().filter(|well| **well).count()
-        )?,
+    let served = serve(rt, store, guests(alloc, guest, count)?);
+    match served {
+        Ok(well) => write!(text, "{count} sessions = {well} well")?,
         Err(refusal) => write!(text, "{count} sessions = {refusal}")?,
     }
-    let (held, _) = store.look(TRIES, &Read(word))?;
-    writeln!(text, ", word {held}")?;
+    writeln!(text, ", word {}", held(store, guest.word)?)?;
     Ok(())
 }
 
-pub fn test<R: Threads + Sync>(rt: &R, alloc: Global, text: &mut String) -> Result<(), Refusal> {
-    let mut layout: Layout<u64> = Layout::new(alloc);
-    let word = layout.word(0)?;
-    let mut store = layout.open()?;
-    tell(rt, alloc, text, &mut store, word, 64, 0)?;
-    tell(rt, alloc, text, &mut store, word, 2, 2)?;
-    tell(rt, alloc, text, &mut store, word, 0, 0)?;
-    tell(rt, alloc, text, &mut store, word, 63, 0)?;
-    Ok(())
+pub fn test<R: Threads + Sync>(
+    rt: &R,
+    alloc: Global,
+    text: &mut String,
+    store: &mut Store<u64>,
+    handles: Handles,
+) -> Result<(), Refusal> {
+    let alone = Guest {
+        word: handles.met,
+        waits_for: 0,
+    };
+    let meeting = Guest {
+        word: handles.met,
+        waits_for: 2,
+    };
+    say(rt, alloc, text, store, alone, 64)?;
+    say(rt, alloc, text, store, meeting, 2)?;
+    say(rt, alloc, text, store, alone, 0)?;
+    say(rt, alloc, text, store, alone, 63)
 }
