@@ -1,5 +1,5 @@
-//! The collection of a queue: its items by their indexes, an edition for its head, its tail and each stripe of its cells, what
-//! calls on it read and write, and the replay of the changes that a transaction commits.
+//! The collection of a queue: its items by their indexes, an edition for its head, its tail and each stripe of its cells, what calls on
+//! it read and write, and the replay of committed changes. Copies share the items, in chunks that are never written again.
 //!
 //! An item is put into the *cell* of its index, and indexes never return: the head is the index of the first item, the tail the
 //! index that the next one gets. Location 0 is the head, location 1 the tail, and the cell of index `i` lies on stripe
