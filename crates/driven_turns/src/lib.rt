@@ -1,9 +1,9 @@
 //! A request of a transaction on the shared table, driven to its answer.
 //!
-//! The turns of a seat and its actor (`tx_turns`, `gate_turns`) are taken one after another, one atomic step on the table each, until one
-//! tells something. What the request comes to is what the definitions say of it in the own world of the seat, which to its actor is one
-//! that events have reached (`specs/Driven.antt`). The bases of the gates that the actor takes on the way are in hand until they are put
-//! back or go home: when a request is answered, none is. Where memory is wanting, the request is given up as the definitions give it up.
+//! A read of a word, the loads of a call, a begin and a commit of words are straight code, one atomic step on the table a function. All
+//! else, and what such code finds in its way, is done by turns of the seat and its actor (`tx_turns`, `gate_turns`), one step each. The
+//! result is what the definitions say of it in the own world of the seat (`specs/Driven.antt`), which to its actor is one that events have
+//! reached. Bases of gates that are taken are in hand until they are put back; where an allocation fails, the request is aborted.
 #![tactic(auto)]
 
 mod begins;
