@@ -5,7 +5,7 @@ use seq_model::{Memory, Refusal};
 use std::alloc::Global;
 use std::fmt::Write;
 
-/// The rows, each with its answer. An empty row and one that begins with `#` have none. A call, and what opens a collection, are
+/// The rows, each with its answer. How many have one is said at the end. An empty row and one that begins with `#` have none. A call, and what opens a collection, are
 /// lines of a step script, of which several stand in one row with `; ` between; the script's clock is the index of a queue's first
 /// item. What is refused is answered by the refusal.
 ///
@@ -21,7 +21,20 @@ use std::fmt::Write;
 pub fn answer_all(alloc: Global, rows: &str) -> Result<String, Memory> {
     let mut text = String::new(alloc);
     answer_each(&mut text, rows)?;
+    let count = count_of(rows);
+    writeln!(text, "rows {count}")?;
     Ok(text)
+}
+
+// How many of the rows have an answer.
+fn count_of(rows: &str) -> u64 {
+    let mut count = 0u64;
+    for row in rows.lines() {
+        if is_asked(row) {
+            count = count.saturating_add(1);
+        }
+    }
+    count
 }
 
 fn answer_each(text: &mut String, rows: &str) -> Result<(), Memory> {

@@ -10,7 +10,7 @@ use std::fmt::Write;
 use std::mem;
 use vac_model::{ActionRefusal, Tables};
 
-/// The rows, each with its answer. An empty row and one that begins with `#` have none. What is refused is answered by the refusal.
+/// The rows, each with its answer. How many have one is said at the end. An empty row and one that begins with `#` have none. What is refused is answered by the refusal.
 ///
 /// - `empty` opens tables that hold nothing, in the place of those before. `next 9` opens tables with one car of one unit, where 9 is
 ///   the next ticket; `line 1 0` such in whose queue of cars these tickets stand, for which nobody waits; `opening SEED OPTIONS` those
@@ -31,7 +31,20 @@ use vac_model::{ActionRefusal, Tables};
 pub fn answer_all(alloc: Global, rows: &str) -> Result<String, Memory> {
     let mut text = String::new(alloc);
     answer_each(&mut text, rows)?;
+    let count = count_of(rows);
+    writeln!(text, "rows {count}")?;
     Ok(text)
+}
+
+// How many of the rows have an answer.
+fn count_of(rows: &str) -> u64 {
+    let mut count = 0u64;
+    for row in rows.lines() {
+        if is_asked(row) {
+            count = count.saturating_add(1);
+        }
+    }
+    count
 }
 
 fn answer_each(text: &mut String, rows: &str) -> Result<(), Memory> {

@@ -7,7 +7,7 @@ use std::alloc::Global;
 use std::fmt::Write;
 use vac_world::VacWorld;
 
-/// What the sections come to, each behind its name. A section has a name, then a row `64 stripes`, then the items that there are, as a
+/// What the sections come to, each behind its name, and how many they are. A section has a name, then a row `64 stripes`, then the items that there are, as a
 /// session file has them, and then what happens, row by row. What is refused is answered by the refusal.
 ///
 /// - `1 starts reserve 7 car 1`: a client begins the session of an action, which a session file has as a line. `nothing` is an update
@@ -28,7 +28,19 @@ pub fn answer_all(alloc: Global, sections: &str) -> Result<String, Refusal> {
     for section in sections.split("----\n") {
         answer_named(&mut text, section)?;
     }
+    let count = count_of(sections);
+    writeln!(text, "sections {count}")?;
     Ok(text)
+}
+
+fn count_of(sections: &str) -> u64 {
+    let mut count = 0u64;
+    for section in sections.split("----\n") {
+        if section.contains('\n') {
+            count = count.saturating_add(1);
+        }
+    }
+    count
 }
 
 fn answer_named(text: &mut String, section: &str) -> Result<(), Refusal> {

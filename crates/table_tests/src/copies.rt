@@ -3,6 +3,7 @@
 //!
 //! Transactions put values into a map and get them. In the first run the first copy of a value is refused, in the next run the second one,
 //! and so on up to a run to whose end none is.
+mod borrowers;
 mod races;
 mod rations;
 mod seats;

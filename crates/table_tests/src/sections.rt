@@ -8,7 +8,7 @@ use std::fmt::Write;
 use std::sync::Wait;
 use std::thread::Threads;
 
-/// The sections, each with what comes of it. A section has a name, and then a row whose first word says what the other rows are.
+/// The sections, each with what comes of it, and how many they are. A section has a name, and then a row whose first word says what the other rows are.
 ///
 /// - `seats words 7 8; clock 3`: rows at two seats of a table, as [`crate::engine`] has them.
 /// - `workers 1 2 on words 0 0`, `retries 3 on words 0 0`: jobs, as [`crate::worker`] has them.
@@ -28,7 +28,19 @@ pub fn answer_all<R: Threads + Wait + Sync>(
 ) -> Result<String, Refusal> {
     let mut text = String::new(alloc);
     answer_each(rt, &mut text, sections)?;
+    let count = count_of(sections);
+    writeln!(text, "sections {count}")?;
     Ok(text)
+}
+
+fn count_of(sections: &str) -> u64 {
+    let mut count = 0u64;
+    for section in sections.split("----\n") {
+        if section.contains('\n') {
+            count = count.saturating_add(1);
+        }
+    }
+    count
 }
 
 fn answer_each<R: Threads + Wait + Sync>(

@@ -3,9 +3,10 @@ use crate::calls::RowError;
 use crate::sets::{answer_lock, answer_reads, answer_writes};
 use crate::words::{answer_on, open, print_refusal};
 use std::alloc::{AllocError, Global};
+use std::fmt::Write;
 use step_core::Words;
 
-/// The rows, each with its answer. An empty row and one that begins with `#` have none. What is refused is answered by the refusal.
+/// The rows, each with its answer. How many have one is said at the end. An empty row and one that begins with `#` have none. What is refused is answered by the refusal.
 ///
 /// - `table 3 1 5*0` opens a table of words, which takes the place of the one before: its clock, and then its words, of which
 ///   `5*0` are five. The rows that speak of a table speak of the last one.
@@ -24,7 +25,20 @@ use step_core::Words;
 pub fn answer_all(alloc: Global, rows: &str) -> Result<String, AllocError> {
     let mut text = String::new(alloc);
     answer_each(&mut text, rows)?;
+    let count = count_of(rows);
+    writeln!(text, "rows {count}")?;
     Ok(text)
+}
+
+// How many of the rows have an answer.
+fn count_of(rows: &str) -> u64 {
+    let mut count = 0u64;
+    for row in rows.lines() {
+        if is_asked(row) {
+            count = count.saturating_add(1);
+        }
+    }
+    count
 }
 
 fn answer_each(text: &mut String, rows: &str) -> Result<(), AllocError> {

@@ -1,9 +1,10 @@
 //! A transaction at a seat of a shared table, one of whose copies is refused.
-ghost use Rattle.transactions.specs.Ready.{HasBegunSince, IsReady};
+ghost use Rattle.transactions.specs.Ready.{IsReady};
 
+use super::borrowers::commit_calls;
 use super::rations::{Ration, Rationed, get};
 use super::tables::Made;
-use seq_model::{Call, Record, Refusal};
+use seq_model::{Record, Refusal};
 use transactions::TxSeat;
 use tx_table::TxTable;
 
@@ -73,7 +74,7 @@ fn keep(
     Ok(())
 }
 
-/// Puts a value at two keys and gets them, and commits.
+/// Puts a value at two keys and gets them, in a transaction that borrows the seat, and commits.
 pub fn commit_puts(
     table: &TxTable<Rationed>,
     seat: &mut TxSeat<Rationed>,
@@ -82,37 +83,6 @@ pub fn commit_puts(
     requires ready { IsReady table.now seat.old }
     ensures ready { IsReady table.now seat.new }
 {
-    seat.begin(table)?;
-    put_and_get(table, seat, ration, 5)?;
-    put_and_get(table, seat, ration, 6)?;
-    seat.commit(table)
-}
-
-fn put_and_get(
-    table: &TxTable<Rationed>,
-    seat: &mut TxSeat<Rationed>,
-    ration: &Ration,
-    key: u64,
-) -> Result<(), Refusal>
-    requires ready { IsReady table.now seat.old }
-    requires since { HasBegunSince table.now seat.old }
-    ensures ready { IsReady table.now seat.new }
-    ensures since { HasBegunSince table.now seat.new }
-{
-    make(table, seat, ration.put(key)?)?;
-    make(table, seat, get(key))
-}
-
-fn make(
-    table: &TxTable<Rationed>,
-    seat: &mut TxSeat<Rationed>,
-    call: Call<Rationed>,
-) -> Result<(), Refusal>
-    requires ready { IsReady table.now seat.old }
-    requires since { HasBegunSince table.now seat.old }
-    ensures ready { IsReady table.now seat.new }
-    ensures since { HasBegunSince table.now seat.new }
-{
-    let _ = seat.call(table, call)?;
-    Ok(())
+    let calls = [ration.put(5)?, get(5), ration.put(6)?, get(6)];
+    commit_calls(table, seat, calls)
 }
