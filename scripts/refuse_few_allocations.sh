@@ -5,7 +5,7 @@
 #
 # It is the short form of refuse_each_allocation.sh, for every day: four programs are built side by side without a proof, and the sections
 # below run with the first allocation refused, then with the second, and so on. Each run must print what is stored, or nothing but
-# `Memory`. It is meant to take at most five minutes of four processors. RT names the command, `rt` by default.
+# `Memory`. It takes some three minutes of four processors. RT names the command, `rt` by default.
 set -u
 
 cd "$(dirname "$0")/.." || exit 2
