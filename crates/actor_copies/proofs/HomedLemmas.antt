@@ -268,14 +268,14 @@ module _ {V : Type 0} where
 
   starved_homed : (w : World V) (a : ℕ) (x : Seat V) (st : Stage V) → HomedAt w a → HomedAt (starve_at w a x st).0 a
   starved_homed w a x Beginning h = seated_homed (acted w (asks a word.AskAbort ∷ [])) a no_one tt
-  starved_homed w a x (Reading l) h = gives_up_homed w a (because x refusal.OutOfMemory) []
-  starved_homed w a x (Trying asked tries) h = gives_up_homed w a (because x refusal.OutOfMemory) []
-  starved_homed w a x (Copying asked) h = gives_up_homed w a (because x refusal.OutOfMemory) (asked.collection ∷ [])
-  starved_homed w a x (Loading o es) h = gives_up_homed w a (because x refusal.OutOfMemory) []
-  starved_homed w a x Locking h = gives_up_homed w a (because x refusal.OutOfMemory) []
-  starved_homed w a x (Gating got ks tries) h = gives_up_homed w a (because x refusal.OutOfMemory) got
-  starved_homed w a x (Ready ks) h = gives_up_homed w a (because x refusal.OutOfMemory) ks
-  starved_homed w a x Closing h = gives_up_homed w a (because x refusal.OutOfMemory) []
+  starved_homed w a x (Reading l) h = gives_up_homed w a (because x refusal.Memory) []
+  starved_homed w a x (Trying asked tries) h = gives_up_homed w a (because x refusal.Memory) []
+  starved_homed w a x (Copying asked) h = gives_up_homed w a (because x refusal.Memory) (asked.collection ∷ [])
+  starved_homed w a x (Loading o es) h = gives_up_homed w a (because x refusal.Memory) []
+  starved_homed w a x Locking h = gives_up_homed w a (because x refusal.Memory) []
+  starved_homed w a x (Gating got ks tries) h = gives_up_homed w a (because x refusal.Memory) got
+  starved_homed w a x (Ready ks) h = gives_up_homed w a (because x refusal.Memory) ks
+  starved_homed w a x Closing h = gives_up_homed w a (because x refusal.Memory) []
   starved_homed w a x st h = h
 
   -- ---- events

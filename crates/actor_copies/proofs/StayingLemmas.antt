@@ -246,12 +246,12 @@ module _ {V : Type 0} where
   -- ---- wants of memory
   pub starved : (n : ℕ) (w : World V) (a : ℕ) (x : Seat V) (st : Stage V) → SameIn n a w (starve_at w a x st).0
   starved n w a x Beginning = ask_stays n w w a word.AskAbort tt (same n a w.boosted)
-  starved n w a x (Reading l) = gives_up_stays n w w a (because x refusal.OutOfMemory) [] (same n a w.boosted)
-  starved n w a x (Trying asked tries) = gives_up_stays n w w a (because x refusal.OutOfMemory) [] (same n a w.boosted)
-  starved n w a x (Copying asked) = gives_up_stays n w w a (because x refusal.OutOfMemory) (asked.collection ∷ []) (same n a w.boosted)
-  starved n w a x (Loading o es) = gives_up_stays n w w a (because x refusal.OutOfMemory) [] (same n a w.boosted)
-  starved n w a x Locking = gives_up_stays n w w a (because x refusal.OutOfMemory) [] (same n a w.boosted)
-  starved n w a x (Gating got ks tries) = gives_up_stays n w w a (because x refusal.OutOfMemory) got (same n a w.boosted)
-  starved n w a x (Ready ks) = gives_up_stays n w w a (because x refusal.OutOfMemory) ks (same n a w.boosted)
-  starved n w a x Closing = gives_up_stays n w w a (because x refusal.OutOfMemory) [] (same n a w.boosted)
+  starved n w a x (Reading l) = gives_up_stays n w w a (because x refusal.Memory) [] (same n a w.boosted)
+  starved n w a x (Trying asked tries) = gives_up_stays n w w a (because x refusal.Memory) [] (same n a w.boosted)
+  starved n w a x (Copying asked) = gives_up_stays n w w a (because x refusal.Memory) (asked.collection ∷ []) (same n a w.boosted)
+  starved n w a x (Loading o es) = gives_up_stays n w w a (because x refusal.Memory) [] (same n a w.boosted)
+  starved n w a x Locking = gives_up_stays n w w a (because x refusal.Memory) [] (same n a w.boosted)
+  starved n w a x (Gating got ks tries) = gives_up_stays n w w a (because x refusal.Memory) got (same n a w.boosted)
+  starved n w a x (Ready ks) = gives_up_stays n w w a (because x refusal.Memory) ks (same n a w.boosted)
+  starved n w a x Closing = gives_up_stays n w w a (because x refusal.Memory) [] (same n a w.boosted)
   starved n w a x st = same n a w.boosted

@@ -202,14 +202,14 @@ module _ {V : Type 0} where
   pub starve_gates : (w : World V) (a : ℕ) (x : Seat V) (s : Stage V) → (w.seats a).stage ≡ s
       → gates_in (starve_at w a x s).0 a ≡ gates_of s
   starve_gates w a x Beginning e = seated_gates (acted w (asks a word.AskAbort ∷ [])) a no_one
-  starve_gates w a x (Reading l) e = up_gates w a (because x refusal.OutOfMemory) []
-  starve_gates w a x (Trying asked tries) e = up_gates w a (because x refusal.OutOfMemory) []
-  starve_gates w a x (Copying asked) e = up_gates w a (because x refusal.OutOfMemory) (asked.collection ∷ [])
-  starve_gates w a x (Loading o es) e = up_gates w a (because x refusal.OutOfMemory) []
-  starve_gates w a x Locking e = up_gates w a (because x refusal.OutOfMemory) []
-  starve_gates w a x (Gating got ks tries) e = up_gates w a (because x refusal.OutOfMemory) got
-  starve_gates w a x (Ready ks) e = up_gates w a (because x refusal.OutOfMemory) ks
-  starve_gates w a x Closing e = up_gates w a (because x refusal.OutOfMemory) []
+  starve_gates w a x (Reading l) e = up_gates w a (because x refusal.Memory) []
+  starve_gates w a x (Trying asked tries) e = up_gates w a (because x refusal.Memory) []
+  starve_gates w a x (Copying asked) e = up_gates w a (because x refusal.Memory) (asked.collection ∷ [])
+  starve_gates w a x (Loading o es) e = up_gates w a (because x refusal.Memory) []
+  starve_gates w a x Locking e = up_gates w a (because x refusal.Memory) []
+  starve_gates w a x (Gating got ks tries) e = up_gates w a (because x refusal.Memory) got
+  starve_gates w a x (Ready ks) e = up_gates w a (because x refusal.Memory) ks
+  starve_gates w a x Closing e = up_gates w a (because x refusal.Memory) []
   starve_gates w a x s e = ap gates_of e
 
   -- ---- the actor, and the step as a whole

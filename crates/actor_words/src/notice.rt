@@ -51,7 +51,7 @@ fn of_refusal(refusal: WordRefusal) -> WordNotice
         WordRefusal::TooLong => WordNotice::NoTransaction,
         WordRefusal::NotIdle => WordNotice::NoTransaction,
         WordRefusal::NoTransaction => WordNotice::NoTransaction,
-        WordRefusal::OutOfMemory => WordNotice::NoTransaction,
+        WordRefusal::Memory => WordNotice::NoTransaction,
     }
 }
 

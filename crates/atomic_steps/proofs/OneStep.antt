@@ -363,14 +363,14 @@ module _ {V : Type 0} (a : ℕ) where
 
   starve_by : (v : World V) (x : Seat V) (p : Stage V) → OnlyOwn a v (starve_at v a x p).0
   starve_by v x Beginning = asks_by v v _ (word.AskAbort) (nothing v)
-  starve_by v x (Reading l) = gives_up_by v v (because x refusal.OutOfMemory) [] (nothing v)
-  starve_by v x (Trying asked tries) = gives_up_by v v (because x refusal.OutOfMemory) [] (nothing v)
-  starve_by v x (Copying asked) = gives_up_by v v (because x refusal.OutOfMemory) (asked.collection ∷ []) (nothing v)
-  starve_by v x (Loading o ls) = gives_up_by v v (because x refusal.OutOfMemory) [] (nothing v)
-  starve_by v x Locking = gives_up_by v v (because x refusal.OutOfMemory) [] (nothing v)
-  starve_by v x (Gating got ks tries) = gives_up_by v v (because x refusal.OutOfMemory) got (nothing v)
-  starve_by v x (Ready ks) = gives_up_by v v (because x refusal.OutOfMemory) ks (nothing v)
-  starve_by v x Closing = gives_up_by v v (because x refusal.OutOfMemory) [] (nothing v)
+  starve_by v x (Reading l) = gives_up_by v v (because x refusal.Memory) [] (nothing v)
+  starve_by v x (Trying asked tries) = gives_up_by v v (because x refusal.Memory) [] (nothing v)
+  starve_by v x (Copying asked) = gives_up_by v v (because x refusal.Memory) (asked.collection ∷ []) (nothing v)
+  starve_by v x (Loading o ls) = gives_up_by v v (because x refusal.Memory) [] (nothing v)
+  starve_by v x Locking = gives_up_by v v (because x refusal.Memory) [] (nothing v)
+  starve_by v x (Gating got ks tries) = gives_up_by v v (because x refusal.Memory) got (nothing v)
+  starve_by v x (Ready ks) = gives_up_by v v (because x refusal.Memory) ks (nothing v)
+  starve_by v x Closing = gives_up_by v v (because x refusal.Memory) [] (nothing v)
   starve_by v x p = nothing v
 
 pub one_step : {V : Type 0} → (v : World V) (event : Event V) → IsOneAction v event

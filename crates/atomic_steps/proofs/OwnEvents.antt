@@ -387,14 +387,14 @@ module _ {V : Type 0} (a : ℕ) where
 
   starve_alike : (v u : World V) (x : Seat V) (p : Stage V) → Alike a v u → SameAfter a (starve_at v a x p) (starve_at u a x p)
   starve_alike v u x Beginning e = quietly _ _ _ _ _ refl (asks_alike v u word.AskAbort e)
-  starve_alike v u x (Reading l) e = gives_up_alike v u (because x refusal.OutOfMemory) [] e
-  starve_alike v u x (Trying q tries) e = gives_up_alike v u (because x refusal.OutOfMemory) [] e
-  starve_alike v u x (Copying q) e = gives_up_alike v u (because x refusal.OutOfMemory) (q.collection ∷ []) e
-  starve_alike v u x (Loading o ls) e = gives_up_alike v u (because x refusal.OutOfMemory) [] e
-  starve_alike v u x Locking e = gives_up_alike v u (because x refusal.OutOfMemory) [] e
-  starve_alike v u x (Gating got ks tries) e = gives_up_alike v u (because x refusal.OutOfMemory) got e
-  starve_alike v u x (Ready ks) e = gives_up_alike v u (because x refusal.OutOfMemory) ks e
-  starve_alike v u x Closing e = gives_up_alike v u (because x refusal.OutOfMemory) [] e
+  starve_alike v u x (Reading l) e = gives_up_alike v u (because x refusal.Memory) [] e
+  starve_alike v u x (Trying q tries) e = gives_up_alike v u (because x refusal.Memory) [] e
+  starve_alike v u x (Copying q) e = gives_up_alike v u (because x refusal.Memory) (q.collection ∷ []) e
+  starve_alike v u x (Loading o ls) e = gives_up_alike v u (because x refusal.Memory) [] e
+  starve_alike v u x Locking e = gives_up_alike v u (because x refusal.Memory) [] e
+  starve_alike v u x (Gating got ks tries) e = gives_up_alike v u (because x refusal.Memory) got e
+  starve_alike v u x (Ready ks) e = gives_up_alike v u (because x refusal.Memory) ks e
+  starve_alike v u x Closing e = gives_up_alike v u (because x refusal.Memory) [] e
   starve_alike v u x p e = (e, refl)
 
 pub own_event : {V : Type 0} → (a : ℕ) (v u : World V) (event : Event V) → Alike a v u → Finds a v u event → SameAfter a (happens v event)

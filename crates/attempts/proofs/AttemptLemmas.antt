@@ -17,7 +17,7 @@ use Rattle.seq_model.specs.declared.event.Request.TheVariants as request
 use Rattle.seq_model.specs.declared.limits.TheConstants.{CALL_LIMIT}
 use Rattle.seq_model.specs.declared.record.Record.{Record}
 use Rattle.seq_model.specs.declared.refusal.Refusal.{Refusal}
-use Rattle.seq_model.specs.declared.refusal.Refusal.TheVariants.{OutOfMemory}
+use Rattle.seq_model.specs.declared.refusal.Refusal.TheVariants.{Memory as OutOfMemory}
 use Rattle.seq_model.specs.Runs.{is_writer}
 use Rattle.replay_log.proofs.AskLemmas.{no_such, too_long}
 use Rattle.replay_log.specs.Seats as worlds

@@ -138,7 +138,7 @@ fn attempt_in<V: Value, J: Job<V>, P: Pause>(
 /// One attempt of a job by this worker: a transaction begins that may write, an open one being aborted first; the job's calls are made; it
 /// commits once the job is done, `pause` being told before the first step of that, and ends without a commit where the job gives up. The
 /// receipt that is answered is the one that the seat gains. A refusal is that of the request that was refused: `Exhausted` of the begin; of
-/// a call, or of the commit, as these have it; `OutOfMemory` also where the job is refused memory, or there is none for its replies, as its
+/// a call, or of the commit, as these have it; `Memory` also where the job is refused memory, or there is none for its replies, as its
 /// calls so far stand. A transaction that stands then is aborted: none is left, and the seat gains no receipt.
 pub fn attempt_with<V: Value, J: Job<V>, P: Pause>(
     table: &TxTable<V>,

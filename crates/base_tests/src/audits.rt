@@ -89,7 +89,7 @@ fn fault_of(
     let last = word_of(alloc, last)?;
     match audit(alloc, &opening, records, &last) {
         Ok(()) => Ok(None),
-        Err(AuditFault::OutOfMemory) => Err(Refusal::OutOfMemory),
+        Err(AuditFault::Memory) => Err(Refusal::Memory),
         Err(fault) => Ok(Some(fault)),
     }
 }
@@ -100,7 +100,7 @@ fn print_fault(text: &mut String, fault: AuditFault) -> Result<(), Memory> {
         AuditFault::DoubleNumber(number) => write!(text, "DoubleNumber {number}")?,
         AuditFault::WrongReply { entry, call } => write!(text, "WrongReply {entry} {call}")?,
         AuditFault::WrongState => text.push_str("WrongState")?,
-        AuditFault::OutOfMemory => return Err(Memory),
+        AuditFault::Memory => return Err(Memory),
     }
     Ok(())
 }

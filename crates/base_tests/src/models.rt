@@ -183,7 +183,7 @@ fn location_in(token: &str) -> Option<u32> {
 
 fn plain_refusal(name: &str) -> Option<Refusal> {
     match name {
-        "memory" => Some(Refusal::OutOfMemory),
+        "memory" => Some(Refusal::Memory),
         "no_such" => Some(Refusal::NoSuch),
         "too_long" => Some(Refusal::TooLong),
         "not_idle" => Some(Refusal::NotIdle),

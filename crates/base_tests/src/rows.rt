@@ -67,7 +67,7 @@ fn answer(text: &mut String, row: &str) -> Result<(), Memory> {
     text.push_str(" = ")?;
     match answer_row(text, row) {
         Ok(()) => Ok(()),
-        Err(Refusal::OutOfMemory) => Err(Memory),
+        Err(Refusal::Memory) => Err(Memory),
         Err(refusal) => {
             write!(text, "{refusal}")?;
             Ok(())

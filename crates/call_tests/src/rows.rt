@@ -62,7 +62,7 @@ fn answer(text: &mut String, bench: &mut Option<Bench>, row: &str) -> Result<(),
     text.push_str(" = ")?;
     match answer_row(text, bench, row) {
         Ok(()) => Ok(()),
-        Err(Refusal::OutOfMemory) => Err(Memory),
+        Err(Refusal::Memory) => Err(Memory),
         Err(refusal) => {
             write!(text, "{refusal}")?;
             Ok(())

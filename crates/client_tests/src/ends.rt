@@ -133,6 +133,6 @@ pub fn test_closed(
             drop(contents);
             said
         }
-        Err(_) => Err(Refusal::OutOfMemory),
+        Err(_) => Err(Refusal::Memory),
     }
 }

@@ -21,7 +21,7 @@ const REFUSALS: [Refusal; 13] = [
         location: 1,
         word: 2,
     },
-    Refusal::OutOfMemory,
+    Refusal::Memory,
     Refusal::Exhausted { clock: 1 },
     Refusal::NoSuch,
     Refusal::TooLong,

@@ -4,7 +4,7 @@ use Rattle.std.specs.Io.KnownBytes.{Appends}
 use Rattle.clap.specs.Words.{Text}
 use Rattle.seq_model.specs.declared.limits.TheConstants.{ACTOR_LIMIT}
 use Rattle.seq_model.specs.declared.refusal.Refusal.{Refusal}
-use Rattle.seq_model.specs.declared.refusal.Refusal.TheVariants.{BadText, OutOfMemory}
+use Rattle.seq_model.specs.declared.refusal.Refusal.TheVariants.{BadText, Memory as OutOfMemory}
 use Rattle.seq_model.specs.Texts.{refusal_text, too_long_text}
 use Rattle.running_world.specs.Traces.{IsSerialTrace}
 use Rattle.step_script.specs.declared.script.Script.{Script}

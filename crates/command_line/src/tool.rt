@@ -212,11 +212,11 @@ fn refuse_words<W: Write, E: Write>(out: &mut W, err: &mut E, error: Error) -> u
     ensures kept { (out.new ≡ out.old) ⊎ IsInformation error }
     ensures unwritten { result ≡ REFUSED
         → (out.new ≡ out.old) ⊎ HasBegun (E.contents err.old) (E.contents err.new) (line_of unwritten_text) }
-    ensures memory { (result ≡ MEMORY) ↔ (kind_of error ≡ ErrorKind.OutOfMemory) }
+    ensures memory { (result ≡ MEMORY) ↔ (kind_of error ≡ ErrorKind.Memory) }
     ensures starved { result ≡ MEMORY → HasBegun (E.contents err.old) (E.contents err.new) (line_of memory_text) }
 {
     match error.kind() {
-        ErrorKind::OutOfMemory => refuse_memory(err),
+        ErrorKind::Memory => refuse_memory(err),
         ErrorKind::DisplayHelp | ErrorKind::DisplayVersion => {
             status_of_write(err, write!(out, "{error}"))
         }
@@ -256,12 +256,12 @@ fn refuse<E: Write>(alloc: Global, err: &mut E, cause: Cause) -> u8
 /// Where there is no memory for the refusal's text, that is the fault.
 fn refuse_text<E: Write>(alloc: Global, err: &mut E, refusal: Refusal) -> u8
     ensures status { (result ≡ MEMORY) ⊎ (result ≡ REFUSED) }
-    ensures memory { refusal ≡ Refusal.OutOfMemory → result ≡ MEMORY }
+    ensures memory { refusal ≡ Refusal.Memory → result ≡ MEMORY }
     ensures told { result ≡ REFUSED → HasBegun (E.contents err.old) (E.contents err.new) (line_of (refusal_text refusal)) }
     ensures starved { result ≡ MEMORY → HasBegun (E.contents err.old) (E.contents err.new) (line_of memory_text) }
 {
     match refusal {
-        Refusal::OutOfMemory => refuse_memory(err),
+        Refusal::Memory => refuse_memory(err),
         _ => match refusal.to_string(alloc) {
             Ok(text) => fault(err, REFUSED, text.as_str()),
             Err(_) => refuse_memory(err),

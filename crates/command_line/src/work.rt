@@ -8,7 +8,7 @@ ghost use Rattle.command_line.specs.declared.work.Cause.TheVariants.{Ended};
 ghost use Rattle.command_line.specs.declared.work.Task.TheVariants.{OnFile};
 ghost use Rattle.command_line.specs.Ends.{AsksForTimes, IsAsked, IsCause, IsDoable, IsFault, IsFaultOf, IsKnownOutput, IsOnDrawn};
 ghost use Rattle.command_line.specs.Ends.{IsOutput, IsOutputOf, IsWithin};
-ghost use Rattle.seq_model.specs.declared.refusal.Refusal.TheVariants.{OutOfMemory};
+ghost use Rattle.seq_model.specs.declared.refusal.Refusal.TheVariants.{Memory as OutOfMemory};
 ghost use Rattle.session_output.specs.declared.fault.RunFault.TheVariants.{Refused};
 
 use seq_model::{Memory, Refusal};
@@ -88,7 +88,7 @@ impl From<AllocError> for Cause {
     ghost from_gives = { λ _ cause. cause ≡ Ended (Refused OutOfMemory) };
 
     fn from(_error: AllocError) -> Cause {
-        Cause::Ended(RunFault::Refused(Refusal::OutOfMemory))
+        Cause::Ended(RunFault::Refused(Refusal::Memory))
     }
 }
 

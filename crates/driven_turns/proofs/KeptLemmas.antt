@@ -206,7 +206,7 @@ module _ {V : Type 0} where
   starved w a st wants = by st wants
     where
       x : Seat V
-      x = because (w.seats a) refusal.OutOfMemory
+      x = because (w.seats a) refusal.Memory
 
       by : (st : Stage V) → MayWant st → Keeps (w.seats a) ((starve_at w a (w.seats a) st).0.seats a)
       by (Trying asked tries) h = given_up a (w.seats a) w x [] (refl, refl)

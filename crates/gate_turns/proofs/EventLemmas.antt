@@ -115,7 +115,7 @@ module _ {V : Type 0} where
   starve_going : (w : World V) (a : ℕ) (x : Seat V) (s : Stage V) (ks : List ℕ) → s ≡ Ready ks
       → is_going ((starve_at w a x s).0.seats a).stage ≡ false
   starve_going w a x s ks e =
-      ap (λ (p : Stage V). is_going ((starve_at w a x p).0.seats a).stage) e ∙ up_going w a (because x refusal.OutOfMemory) ks
+      ap (λ (p : Stage V). is_going ((starve_at w a x p).0.seats a).stage) e ∙ up_going w a (because x refusal.Memory) ks
 
   starve_prepared : (t s : own.Stage V) (before now : List (CopyOf V)) (bs : List (Base V)) → KeepsFrom t s before now
       → gates_at t ≡ gates_at s → ArePreparedAt before s bs → ((homes : List ℕ) → stage_of s ≡ Ready homes → ⊥) → ArePreparedAt now t bs

@@ -180,7 +180,7 @@ Ends (refusal.Busy l w) = Unit {0}
 Ends (refusal.Stale l b w) = Unit {0}
 Ends (refusal.GateBusy k) = Unit {0}
 Ends (refusal.Invalid l w) = Unit {0}
-Ends refusal.OutOfMemory = Unit {0}
+Ends refusal.Memory = Unit {0}
 Ends r = ⊥
 
 with_now : (now editions : ℕ → ℕ) (ls : List ℕ) → ((l : ℕ) → IsIn l ls → now l ≡ editions l) → AllNow now (with_editions editions ls)
@@ -360,16 +360,16 @@ module _ {V : Type 0} (P : Refusal → Type 0) (a : ℕ) where
   ask_fine w x Open request.Abort now k h ok = (cancels_fine w (record x { cause = None }) tt, tt)
   ask_fine w x st q now k h ok = (now, λ r. absurd r)
 
-  starve_fine : (w : World V) (x : Seat V) (st : Stage V) → FineAt w → P refusal.OutOfMemory → Fine (starve_at w a x st)
+  starve_fine : (w : World V) (x : Seat V) (st : Stage V) → FineAt w → P refusal.Memory → Fine (starve_at w a x st)
   starve_fine w x Beginning now p = (seated_fine (acted w (asks a word.AskAbort ∷ [])) no_one tt, λ _. p)
-  starve_fine w x (Reading l) now p = gives_up_fine w (because x refusal.OutOfMemory) [] p
-  starve_fine w x (Trying asked tries) now p = gives_up_fine w (because x refusal.OutOfMemory) [] p
-  starve_fine w x (Copying asked) now p = gives_up_fine w (because x refusal.OutOfMemory) (asked.collection ∷ []) p
-  starve_fine w x (Loading o es) now p = gives_up_fine w (because x refusal.OutOfMemory) [] p
-  starve_fine w x Locking now p = gives_up_fine w (because x refusal.OutOfMemory) [] p
-  starve_fine w x (Gating got ks tries) now p = gives_up_fine w (because x refusal.OutOfMemory) got p
-  starve_fine w x (Ready ks) now p = gives_up_fine w (because x refusal.OutOfMemory) ks p
-  starve_fine w x Closing now p = gives_up_fine w (because x refusal.OutOfMemory) [] p
+  starve_fine w x (Reading l) now p = gives_up_fine w (because x refusal.Memory) [] p
+  starve_fine w x (Trying asked tries) now p = gives_up_fine w (because x refusal.Memory) [] p
+  starve_fine w x (Copying asked) now p = gives_up_fine w (because x refusal.Memory) (asked.collection ∷ []) p
+  starve_fine w x (Loading o es) now p = gives_up_fine w (because x refusal.Memory) [] p
+  starve_fine w x Locking now p = gives_up_fine w (because x refusal.Memory) [] p
+  starve_fine w x (Gating got ks tries) now p = gives_up_fine w (because x refusal.Memory) got p
+  starve_fine w x (Ready ks) now p = gives_up_fine w (because x refusal.Memory) ks p
+  starve_fine w x Closing now p = gives_up_fine w (because x refusal.Memory) [] p
   starve_fine w x Idle now p = (now, λ r. absurd r)
   starve_fine w x Open now p = (now, λ r. absurd r)
   starve_fine w x st now p = (now, tt)
@@ -536,7 +536,7 @@ module _ {V : Type 0} (P : Refusal → Type 0) (a : ℕ) where
 
   -- where a wants memory it may be given up for that
   abbrev MayStarve : Event V → Type 0
-  MayStarve (Starve b) = b ≡ a → P refusal.OutOfMemory
+  MayStarve (Starve b) = b ≡ a → P refusal.Memory
   MayStarve e = Unit {0}
 
   abbrev AllMayStarve : List (Event V) → Type 0
@@ -643,7 +643,7 @@ module _ {V : Type 0} (blocks : List Block) (clock : ℕ) (values : List ℕ) (h
       (opened_linked blocks clock values held stripes)) e free)
 
   abbrev IsMemory : Refusal → Type 0
-  IsMemory r = r ≡ refusal.OutOfMemory
+  IsMemory r = r ≡ refusal.Memory
 
   all_may : (es : List (Event V)) → AllMayStarve IsMemory a es
   all_may [] = tt
@@ -681,7 +681,7 @@ module _ {V : Type 0} (blocks : List Block) (clock : ℕ) (values : List ℕ) (h
   unstarved (Starve b ∷ es) h = (h.0, unstarved es h.1)
 
   no_memory : (n : Notice V) → FineNotice (λ r. ⊥) a n → TellsMemory n → ⊥
-  no_memory (Refused b refusal.OutOfMemory) fine h = fine tt
+  no_memory (Refused b refusal.Memory) fine h = fine tt
   no_memory n fine h = h
 
   pub world_unstarved : (start.seats a).stage ≡ Beginning → IsFree start → IsAlone a later → IsUnstarved a later → (e : Event V)

@@ -263,25 +263,25 @@ module _ {V : Type 0} where
 
   -- ---- wants of memory
   abbrev IsGivenUp : ℕ → Seat V → Type 0
-  IsGivenUp a x = (is_ending x.stage ≡ true) × (x.cause ≡ Some refusal.OutOfMemory)
+  IsGivenUp a x = (is_ending x.stage ≡ true) × (x.cause ≡ Some refusal.Memory)
 
   seated_given_up : (u : World V) (a : ℕ) (x : Seat V) → IsGivenUp a x → IsGivenUp a ((seated u a x).seats a)
   seated_given_up u a x h = subst (IsGivenUp a) (sym (put-same u.seats a x)) h
 
   starve_gives_up : (w : World V) (a : ℕ) (x : Seat V) (ks : List ℕ)
-      → let r = gives_up w a (because x refusal.OutOfMemory) ks in IsGivenUp a (r.0.seats a) × (r.1 ≡ Quiet)
+      → let r = gives_up w a (because x refusal.Memory) ks in IsGivenUp a (r.0.seats a) × (r.1 ≡ Quiet)
   starve_gives_up w a x [] =
       let t = acted w (asks a word.AskCancel ∷ asks a word.AskAbort ∷ []) in
       (seated_given_up t a _ (by (is_leaving (actor_of t a).place)), refl)
     where
-      by : (b : Bool) → IsGivenUp a (at_stage (because x refusal.OutOfMemory) (cond b Leaving Cancelling))
+      by : (b : Bool) → IsGivenUp a (at_stage (because x refusal.Memory) (cond b Leaving Cancelling))
       by true = (refl, refl)
       by false = (refl, refl)
-  starve_gives_up w a x (k ∷ ks) = (seated_given_up w a (at_stage (because x refusal.OutOfMemory) (Returning (k ∷ ks))) (refl, refl), refl)
+  starve_gives_up w a x (k ∷ ks) = (seated_given_up w a (at_stage (because x refusal.Memory) (Returning (k ∷ ks))) (refl, refl), refl)
 
   starve_comes : (w : World V) (a : ℕ) (x : Seat V) (ks : List ℕ)
-      → let r = gives_up w a (because x refusal.OutOfMemory) ks in
-      (is_ending (r.0.seats a).stage ≡ true) × ((r.0.seats a).cause ≡ Some refusal.OutOfMemory) × (r.1 ≡ Quiet)
+      → let r = gives_up w a (because x refusal.Memory) ks in
+      (is_ending (r.0.seats a).stage ≡ true) × ((r.0.seats a).cause ≡ Some refusal.Memory) × (r.1 ≡ Quiet)
   starve_comes w a x ks = let h = starve_gives_up w a x ks in (h.0.0, h.0.1, h.1)
 
   starve_says : (w : World V) (a : ℕ) (x : Seat V) (st : Stage V) → IsStarved w a st (starve_at w a x st)

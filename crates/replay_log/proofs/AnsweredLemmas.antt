@@ -210,14 +210,14 @@ module _ {V : Type 0} where
   starve_rests w a x Idle seat at = same_rests w a x Idle (Refused a refusal.NoTransaction) seat at tt
   starve_rests w a x Open seat at = same_rests w a x Open (Refused a refusal.NoTransaction) seat at tt
   starve_rests w a x Beginning seat at = λ q. put_rests w.seats a no_one tt
-  starve_rests w a x (Reading l) seat at = gives_up_rests w a (because x refusal.OutOfMemory) []
-  starve_rests w a x (Trying asked tries) seat at = gives_up_rests w a (because x refusal.OutOfMemory) []
-  starve_rests w a x (Copying asked) seat at = gives_up_rests w a (because x refusal.OutOfMemory) (asked.collection ∷ [])
-  starve_rests w a x (Loading o es) seat at = gives_up_rests w a (because x refusal.OutOfMemory) []
-  starve_rests w a x Locking seat at = gives_up_rests w a (because x refusal.OutOfMemory) []
-  starve_rests w a x (Gating got ks tries) seat at = gives_up_rests w a (because x refusal.OutOfMemory) got
-  starve_rests w a x (Ready ks) seat at = gives_up_rests w a (because x refusal.OutOfMemory) ks
-  starve_rests w a x Closing seat at = gives_up_rests w a (because x refusal.OutOfMemory) []
+  starve_rests w a x (Reading l) seat at = gives_up_rests w a (because x refusal.Memory) []
+  starve_rests w a x (Trying asked tries) seat at = gives_up_rests w a (because x refusal.Memory) []
+  starve_rests w a x (Copying asked) seat at = gives_up_rests w a (because x refusal.Memory) (asked.collection ∷ [])
+  starve_rests w a x (Loading o es) seat at = gives_up_rests w a (because x refusal.Memory) []
+  starve_rests w a x Locking seat at = gives_up_rests w a (because x refusal.Memory) []
+  starve_rests w a x (Gating got ks tries) seat at = gives_up_rests w a (because x refusal.Memory) got
+  starve_rests w a x (Ready ks) seat at = gives_up_rests w a (because x refusal.Memory) ks
+  starve_rests w a x Closing seat at = gives_up_rests w a (because x refusal.Memory) []
   starve_rests w a x st seat at = λ q. absurd (q tt)
 
   -- ---- events

@@ -301,8 +301,8 @@ module _ {V : Type 0} where
   -- ---- wants of memory
   starved : (w : World V) (a : ℕ) (x : Seat V) (ks : List ℕ) → Linked w → Held-by w a ks → Differ ks → CanLeave (y_of w a).place
       → InTx w.words x (y_of w a) (z_of w a)
-      → Linked (gives_up w a (because x refusal.OutOfMemory) ks).0
-  starved w a x ks k held differ leave tx = gives_up_linked w a (because x refusal.OutOfMemory) (y_of w a) (z_of w a) (g_of w a) ks
+      → Linked (gives_up w a (because x refusal.Memory) ks).0
+  starved w a x ks k held differ leave tx = gives_up_linked w a (because x refusal.Memory) (y_of w a) (z_of w a) (g_of w a) ks
       (at_of w a k) held differ leave tx
 
   starve_linked : (w : World V) (a : ℕ) (x : Seat V) (st : Stage V) → Linked w → Held-by w a (gates_of st) → StageIn w a x st

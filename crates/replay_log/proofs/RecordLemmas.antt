@@ -164,14 +164,14 @@ module _ {V : Type 0} where
 
   starve_kept : (w : World V) (a : ℕ) (x : Seat V) (st : Stage V) → Kept a w (starve_at w a x st).0
   starve_kept w a x Beginning = inr (sits (acted w (asks a word.AskAbort ∷ [])) a AtAhead no_one tt)
-  starve_kept w a x (Reading l) = inr (gives_up_begins w a (because x refusal.OutOfMemory) [])
-  starve_kept w a x (Trying asked tries) = inr (gives_up_begins w a (because x refusal.OutOfMemory) [])
-  starve_kept w a x (Copying asked) = inr (gives_up_begins w a (because x refusal.OutOfMemory) (asked.collection ∷ []))
-  starve_kept w a x (Loading o es) = inr (gives_up_begins w a (because x refusal.OutOfMemory) [])
-  starve_kept w a x Locking = inr (gives_up_begins w a (because x refusal.OutOfMemory) [])
-  starve_kept w a x (Gating got ks tries) = inr (gives_up_begins w a (because x refusal.OutOfMemory) got)
-  starve_kept w a x (Ready ks) = inr (gives_up_begins w a (because x refusal.OutOfMemory) ks)
-  starve_kept w a x Closing = inr (gives_up_begins w a (because x refusal.OutOfMemory) [])
+  starve_kept w a x (Reading l) = inr (gives_up_begins w a (because x refusal.Memory) [])
+  starve_kept w a x (Trying asked tries) = inr (gives_up_begins w a (because x refusal.Memory) [])
+  starve_kept w a x (Copying asked) = inr (gives_up_begins w a (because x refusal.Memory) (asked.collection ∷ []))
+  starve_kept w a x (Loading o es) = inr (gives_up_begins w a (because x refusal.Memory) [])
+  starve_kept w a x Locking = inr (gives_up_begins w a (because x refusal.Memory) [])
+  starve_kept w a x (Gating got ks tries) = inr (gives_up_begins w a (because x refusal.Memory) got)
+  starve_kept w a x (Ready ks) = inr (gives_up_begins w a (because x refusal.Memory) ks)
+  starve_kept w a x Closing = inr (gives_up_begins w a (because x refusal.Memory) [])
   starve_kept w a x st = inl refl
 
   pub starved_kept : (w : World V) (a : ℕ) → Kept a w (happens w (Starve a)).0

@@ -337,16 +337,16 @@ module _ {V : Type 0} where
   starve_kept w a x Idle seat = kept_refused w a Idle x refusal.NoTransaction seat
   starve_kept w a x Open seat = kept_refused w a Open x refusal.NoTransaction seat
   starve_kept w a x Beginning seat =
-      kept_seated (acted w (asks a word.AskAbort ∷ [])) a Beginning x no_one (Refused a refusal.OutOfMemory) (inr (refl, refl))
-  starve_kept w a x (Reading l) seat = kept_given_up w a (Reading l) x (because x refusal.OutOfMemory) [] refl
-  starve_kept w a x (Trying asked tries) seat = kept_given_up w a (Trying asked tries) x (because x refusal.OutOfMemory) [] refl
+      kept_seated (acted w (asks a word.AskAbort ∷ [])) a Beginning x no_one (Refused a refusal.Memory) (inr (refl, refl))
+  starve_kept w a x (Reading l) seat = kept_given_up w a (Reading l) x (because x refusal.Memory) [] refl
+  starve_kept w a x (Trying asked tries) seat = kept_given_up w a (Trying asked tries) x (because x refusal.Memory) [] refl
   starve_kept w a x (Copying asked) seat =
-      kept_given_up w a (Copying asked) x (because x refusal.OutOfMemory) (asked.collection ∷ []) refl
-  starve_kept w a x (Loading o es) seat = kept_given_up w a (Loading o es) x (because x refusal.OutOfMemory) [] refl
-  starve_kept w a x Locking seat = kept_given_up w a Locking x (because x refusal.OutOfMemory) [] refl
-  starve_kept w a x (Gating got ks tries) seat = kept_given_up w a (Gating got ks tries) x (because x refusal.OutOfMemory) got refl
-  starve_kept w a x (Ready ks) seat = kept_given_up w a (Ready ks) x (because x refusal.OutOfMemory) ks refl
-  starve_kept w a x Closing seat = kept_given_up w a Closing x (because x refusal.OutOfMemory) [] refl
+      kept_given_up w a (Copying asked) x (because x refusal.Memory) (asked.collection ∷ []) refl
+  starve_kept w a x (Loading o es) seat = kept_given_up w a (Loading o es) x (because x refusal.Memory) [] refl
+  starve_kept w a x Locking seat = kept_given_up w a Locking x (because x refusal.Memory) [] refl
+  starve_kept w a x (Gating got ks tries) seat = kept_given_up w a (Gating got ks tries) x (because x refusal.Memory) got refl
+  starve_kept w a x (Ready ks) seat = kept_given_up w a (Ready ks) x (because x refusal.Memory) ks refl
+  starve_kept w a x Closing seat = kept_given_up w a Closing x (because x refusal.Memory) [] refl
   starve_kept w a x st seat = kept_stays w a st x seat
 
   pub starved_kept : (w : World V) (a : ℕ)

@@ -370,14 +370,14 @@ module _ {V : Type 0} where
 
   starve_by : (v : World V) (a : ℕ) (x : Seat V) (p : Stage V) → ReachedBy a v (starve_at v a x p).0
   starve_by v a x Beginning = one_by v v a _ (asks a word.AskAbort) refl (nothing a v)
-  starve_by v a x (Reading l) = gives_up_by v v a (because x refusal.OutOfMemory) [] (nothing a v)
-  starve_by v a x (Trying asked tries) = gives_up_by v v a (because x refusal.OutOfMemory) [] (nothing a v)
-  starve_by v a x (Copying asked) = gives_up_by v v a (because x refusal.OutOfMemory) (asked.collection ∷ []) (nothing a v)
-  starve_by v a x (Loading o es) = gives_up_by v v a (because x refusal.OutOfMemory) [] (nothing a v)
-  starve_by v a x Locking = gives_up_by v v a (because x refusal.OutOfMemory) [] (nothing a v)
-  starve_by v a x (Gating got ks tries) = gives_up_by v v a (because x refusal.OutOfMemory) got (nothing a v)
-  starve_by v a x (Ready ks) = gives_up_by v v a (because x refusal.OutOfMemory) ks (nothing a v)
-  starve_by v a x Closing = gives_up_by v v a (because x refusal.OutOfMemory) [] (nothing a v)
+  starve_by v a x (Reading l) = gives_up_by v v a (because x refusal.Memory) [] (nothing a v)
+  starve_by v a x (Trying asked tries) = gives_up_by v v a (because x refusal.Memory) [] (nothing a v)
+  starve_by v a x (Copying asked) = gives_up_by v v a (because x refusal.Memory) (asked.collection ∷ []) (nothing a v)
+  starve_by v a x (Loading o es) = gives_up_by v v a (because x refusal.Memory) [] (nothing a v)
+  starve_by v a x Locking = gives_up_by v v a (because x refusal.Memory) [] (nothing a v)
+  starve_by v a x (Gating got ks tries) = gives_up_by v v a (because x refusal.Memory) got (nothing a v)
+  starve_by v a x (Ready ks) = gives_up_by v v a (because x refusal.Memory) ks (nothing a v)
+  starve_by v a x Closing = gives_up_by v v a (because x refusal.Memory) [] (nothing a v)
   starve_by v a x p = nothing a v
 
   pub happens_by : (v : World V) (e : Event V) → ReachedBy (whose e) v (happens v e).0

@@ -459,14 +459,14 @@ module _ {V : Type 0} where
 
   starve_sized : (w : World V) (a : ℕ) (x : Seat V) (st : Stage V) → SizedAt w a → SmallAt w a → SizedAt (starve_at w a x st).0 a
   starve_sized w a x Beginning k h = seated_sized (acted w (asks a word.AskAbort ∷ [])) a no_one (ask_small w a word.AskAbort tt h)
-  starve_sized w a x (Reading l) k h = gives_up_sized w a (because x refusal.OutOfMemory) [] h
-  starve_sized w a x (Trying asked tries) k h = gives_up_sized w a (because x refusal.OutOfMemory) [] h
-  starve_sized w a x (Copying asked) k h = gives_up_sized w a (because x refusal.OutOfMemory) (asked.collection ∷ []) h
-  starve_sized w a x (Loading o es) k h = gives_up_sized w a (because x refusal.OutOfMemory) [] h
-  starve_sized w a x Locking k h = gives_up_sized w a (because x refusal.OutOfMemory) [] h
-  starve_sized w a x (Gating got ks tries) k h = gives_up_sized w a (because x refusal.OutOfMemory) got h
-  starve_sized w a x (Ready ks) k h = gives_up_sized w a (because x refusal.OutOfMemory) ks h
-  starve_sized w a x Closing k h = gives_up_sized w a (because x refusal.OutOfMemory) [] h
+  starve_sized w a x (Reading l) k h = gives_up_sized w a (because x refusal.Memory) [] h
+  starve_sized w a x (Trying asked tries) k h = gives_up_sized w a (because x refusal.Memory) [] h
+  starve_sized w a x (Copying asked) k h = gives_up_sized w a (because x refusal.Memory) (asked.collection ∷ []) h
+  starve_sized w a x (Loading o es) k h = gives_up_sized w a (because x refusal.Memory) [] h
+  starve_sized w a x Locking k h = gives_up_sized w a (because x refusal.Memory) [] h
+  starve_sized w a x (Gating got ks tries) k h = gives_up_sized w a (because x refusal.Memory) got h
+  starve_sized w a x (Ready ks) k h = gives_up_sized w a (because x refusal.Memory) ks h
+  starve_sized w a x Closing k h = gives_up_sized w a (because x refusal.Memory) [] h
   starve_sized w a x st k h = k
 
   -- ---- steps

@@ -24,16 +24,16 @@ module _ {V : Type 0} where
 
   -- it is given up, and these gates go back
   ends : (w : World V) (a : ℕ) (x : Seat V) (ks : List ℕ) (m : ℕ) → Linked w → CanLeave (w.boosted.words.actors a).place
-      → length ks + length (w.boosted.words.actors a).held + 2 < m → Nears a m (gives_up w a (because x refusal.OutOfMemory) ks)
+      → length ks + length (w.boosted.words.actors a).held + 2 < m → Nears a m (gives_up w a (because x refusal.Memory) ks)
   ends w a x ks m k leave less =
-      gives_up_nears w a (because x refusal.OutOfMemory) (w.boosted.words.actors a) (w.boosted.shadows a) (mine w.boosted a) ks m
+      gives_up_nears w a (because x refusal.Memory) (w.boosted.words.actors a) (w.boosted.shadows a) (mine w.boosted a) ks m
       (at_of w a k) leave less
 
   -- it holds no gate
   cancels : (w : World V) (a : ℕ) (x : Seat V) (m : ℕ) → Linked w → CanLeave (w.boosted.words.actors a).place
-      → length (w.boosted.words.actors a).held + 1 < m → Nears a m (gives_up w a (because x refusal.OutOfMemory) [])
+      → length (w.boosted.words.actors a).held + 1 < m → Nears a m (gives_up w a (because x refusal.Memory) [])
   cancels w a x m k leave less = λ q.
-      cancels_near w a (because x refusal.OutOfMemory) (w.boosted.words.actors a) (w.boosted.shadows a) (mine w.boosted a) m
+      cancels_near w a (because x refusal.Memory) (w.boosted.words.actors a) (w.boosted.shadows a) (mine w.boosted a) m
       (at_of w a k) leave less
 
   starve_nears : (w : World V) (a : ℕ) (x : Seat V) (st : Stage V) → Linked w → w.seats a ≡ x → x.stage ≡ st

@@ -181,12 +181,12 @@ module _ {V : Type 0} where
 
   pub starve_still : (v : World V) (a : ℕ) (x : Seat V) (st : Stage V) → StillIn a v (starve_at v a x st).0
   starve_still v a x Beginning = ask_still v v a word.AskAbort (still a v.boosted)
-  starve_still v a x (Reading l) = gives_up_still v v a (because x refusal.OutOfMemory) [] (still a v.boosted)
-  starve_still v a x (Trying asked tries) = gives_up_still v v a (because x refusal.OutOfMemory) [] (still a v.boosted)
-  starve_still v a x (Copying asked) = gives_up_still v v a (because x refusal.OutOfMemory) (asked.collection ∷ []) (still a v.boosted)
-  starve_still v a x (Loading o es) = gives_up_still v v a (because x refusal.OutOfMemory) [] (still a v.boosted)
-  starve_still v a x Locking = gives_up_still v v a (because x refusal.OutOfMemory) [] (still a v.boosted)
-  starve_still v a x (Gating got ks tries) = gives_up_still v v a (because x refusal.OutOfMemory) got (still a v.boosted)
-  starve_still v a x (Ready ks) = gives_up_still v v a (because x refusal.OutOfMemory) ks (still a v.boosted)
-  starve_still v a x Closing = gives_up_still v v a (because x refusal.OutOfMemory) [] (still a v.boosted)
+  starve_still v a x (Reading l) = gives_up_still v v a (because x refusal.Memory) [] (still a v.boosted)
+  starve_still v a x (Trying asked tries) = gives_up_still v v a (because x refusal.Memory) [] (still a v.boosted)
+  starve_still v a x (Copying asked) = gives_up_still v v a (because x refusal.Memory) (asked.collection ∷ []) (still a v.boosted)
+  starve_still v a x (Loading o es) = gives_up_still v v a (because x refusal.Memory) [] (still a v.boosted)
+  starve_still v a x Locking = gives_up_still v v a (because x refusal.Memory) [] (still a v.boosted)
+  starve_still v a x (Gating got ks tries) = gives_up_still v v a (because x refusal.Memory) got (still a v.boosted)
+  starve_still v a x (Ready ks) = gives_up_still v v a (because x refusal.Memory) ks (still a v.boosted)
+  starve_still v a x Closing = gives_up_still v v a (because x refusal.Memory) [] (still a v.boosted)
   starve_still v a x st = still a v.boosted

@@ -187,8 +187,8 @@ module _ {V : Type 0} where
 
   starve_adds : (w : World V) (a : ℕ) (x : Seat V) (stage : Stage V) → Adds w (starve_at w a x stage).0
   starve_adds w a x (Copying asked) = (refl, refl)
-  starve_adds w a x (Gating got ks tries) = gives_up_adds w a (because x refusal.OutOfMemory) got
-  starve_adds w a x (Ready ks) = gives_up_adds w a (because x refusal.OutOfMemory) ks
+  starve_adds w a x (Gating got ks tries) = gives_up_adds w a (because x refusal.Memory) got
+  starve_adds w a x (Ready ks) = gives_up_adds w a (because x refusal.Memory) ks
   starve_adds w a x stage = (refl, refl)
 
   pub starved_adds : (w : World V) (a : ℕ) → Adds w (happens w (Starve a)).0

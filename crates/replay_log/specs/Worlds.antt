@@ -94,15 +94,15 @@ module _ {V : Type 0} where
   abbrev pub starve_at : World V → ℕ → Seat V → Stage V → After V
   starve_at w a x Idle = (w, Refused a refusal.NoTransaction)
   starve_at w a x Open = (w, Refused a refusal.NoTransaction)
-  starve_at w a x Beginning = (seated (acted w (asks a word.AskAbort ∷ [])) a no_one, Refused a refusal.OutOfMemory)
-  starve_at w a x (Reading l) = gives_up w a (because x refusal.OutOfMemory) []
-  starve_at w a x (Trying asked tries) = gives_up w a (because x refusal.OutOfMemory) []
-  starve_at w a x (Copying asked) = gives_up w a (because x refusal.OutOfMemory) (asked.collection ∷ [])
-  starve_at w a x (Loading o es) = gives_up w a (because x refusal.OutOfMemory) []
-  starve_at w a x Locking = gives_up w a (because x refusal.OutOfMemory) []
-  starve_at w a x (Gating got ks tries) = gives_up w a (because x refusal.OutOfMemory) got
-  starve_at w a x (Ready ks) = gives_up w a (because x refusal.OutOfMemory) ks
-  starve_at w a x Closing = gives_up w a (because x refusal.OutOfMemory) []
+  starve_at w a x Beginning = (seated (acted w (asks a word.AskAbort ∷ [])) a no_one, Refused a refusal.Memory)
+  starve_at w a x (Reading l) = gives_up w a (because x refusal.Memory) []
+  starve_at w a x (Trying asked tries) = gives_up w a (because x refusal.Memory) []
+  starve_at w a x (Copying asked) = gives_up w a (because x refusal.Memory) (asked.collection ∷ [])
+  starve_at w a x (Loading o es) = gives_up w a (because x refusal.Memory) []
+  starve_at w a x Locking = gives_up w a (because x refusal.Memory) []
+  starve_at w a x (Gating got ks tries) = gives_up w a (because x refusal.Memory) got
+  starve_at w a x (Ready ks) = gives_up w a (because x refusal.Memory) ks
+  starve_at w a x Closing = gives_up w a (because x refusal.Memory) []
   starve_at w a x stage = (w, Quiet)
 
   -- ---- events, of any number of actors

@@ -59,7 +59,7 @@ pub fn act(tables: &mut Tables, action: &Action) -> Result<ActionReply, Refusal>
     match tables.act(action) {
         Ok(reply) => Ok(reply),
         Err(ActionRefusal::TooLong) => Err(Refusal::TooLong),
-        Err(ActionRefusal::OutOfMemory) => Err(Refusal::OutOfMemory),
+        Err(ActionRefusal::Memory) => Err(Refusal::Memory),
     }
 }
 

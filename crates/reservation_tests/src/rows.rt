@@ -78,7 +78,7 @@ fn answer(text: &mut String, tables: &mut Tables, row: &str) -> Result<(), Memor
     text.push_str(" =")?;
     match answer_row(text, tables, row) {
         Ok(()) => Ok(()),
-        Err(Refusal::OutOfMemory) => Err(Memory),
+        Err(Refusal::Memory) => Err(Memory),
         Err(refusal) => {
             write!(text, " {refusal}")?;
             Ok(())
@@ -148,7 +148,7 @@ fn answer_action(text: &mut String, tables: &mut Tables, row: &str) -> Result<()
 }
 
 fn print_refusals(text: &mut String) -> Result<(), Refusal> {
-    let (long, memory) = (ActionRefusal::TooLong, ActionRefusal::OutOfMemory);
+    let (long, memory) = (ActionRefusal::TooLong, ActionRefusal::Memory);
     write!(text, " {long} {memory}")?;
     Ok(())
 }

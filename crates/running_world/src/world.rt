@@ -139,7 +139,7 @@ impl<V: Value> World<V> {
 
 /// Opens a world, feeds it the events in their order, and answers what has come of them.
 ///
-/// Refused as `World::open`, and `OutOfMemory` where a growth was refused.
+/// Refused as `World::open`, and `Memory` where a growth was refused.
 pub fn run_world<V: Value>(
     alloc: Global,
     shape: &Shape,

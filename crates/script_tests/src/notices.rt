@@ -40,7 +40,7 @@ fn reply_of(tokens: &[&str]) -> Option<Reply<u64>> {
 
 fn refusal_of(tokens: &[&str]) -> Option<Refusal> {
     match tokens {
-        ["OutOfMemory"] => Some(Refusal::OutOfMemory),
+        ["Memory"] => Some(Refusal::Memory),
         ["NoSuch"] => Some(Refusal::NoSuch),
         ["TooLong"] => Some(Refusal::TooLong),
         ["NotIdle"] => Some(Refusal::NotIdle),

@@ -89,7 +89,7 @@ fn run_section<H: Threads + Wait + Clock + Sync>(
 fn told(text: &mut String, outcome: Result<(), Refusal>) -> Result<(), AllocError> {
     match outcome {
         Ok(()) => Ok(()),
-        Err(Refusal::OutOfMemory) => Err(AllocError),
+        Err(Refusal::Memory) => Err(AllocError),
         Err(refusal) => writeln!(text, "refused: {refusal}"),
     }
 }

@@ -12,7 +12,7 @@ use Rattle.seq_model.specs.Contents.{Contents}
 use Rattle.seq_model.specs.Runs.{reply_of, after_call, IsLegal, after_calls, IsRun, after_run}
 use Rattle.seq_model.specs.Turns.{Turn, turn_of, turns_from, AreInTurn, writes_at}
 use Rattle.seq_model.specs.declared.auditing.AuditFault.{AuditFault}
-use Rattle.seq_model.specs.declared.auditing.AuditFault.TheVariants.{DoubleNumber, WrongReply, WrongState, OutOfMemory}
+use Rattle.seq_model.specs.declared.auditing.AuditFault.TheVariants.{DoubleNumber, WrongReply, WrongState, Memory as OutOfMemory}
 use Rattle.seq_model.specs.Audit.{run_order, writers_at, IsLeastDouble, IsFirstWrong, IsFirstWrongAt, IsReplayFault, IsAuditFault}
 use Rattle.seq_model.proofs.TurnLemmas.{in_turn_sorted}
 use Rattle.seq_model.proofs.AuditLemmas.{turns_from-more, turns_run_order, counted_sorted, counted_records, least_alike, handed_in}

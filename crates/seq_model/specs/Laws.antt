@@ -4,7 +4,7 @@ use Rattle.seq_model.specs.declared.call.Call.{Call}
 use Rattle.seq_model.specs.declared.call.Reply.{Reply}
 use Rattle.seq_model.specs.declared.record.Record.{Record}
 use Rattle.seq_model.specs.declared.auditing.AuditFault.{AuditFault}
-use Rattle.seq_model.specs.declared.auditing.AuditFault.TheVariants.{OutOfMemory}
+use Rattle.seq_model.specs.declared.auditing.AuditFault.TheVariants.{Memory as OutOfMemory}
 use Rattle.seq_model.specs.Contents.{Contents}
 use Rattle.seq_model.specs.Runs.{IsLegal, after_calls, is_writer, comes_before, insert_record, IsInCommitOrder, IsRun, after_run}
 use Rattle.seq_model.specs.Audit.{IsRunBetween, IsAuditFault}

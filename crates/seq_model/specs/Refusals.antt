@@ -1,6 +1,6 @@
 -- Why what was asked is refused, where more than one cause is known to the caller.
 use Rattle.seq_model.specs.declared.refusal.Refusal.{Refusal}
-use Rattle.seq_model.specs.declared.refusal.Refusal.TheVariants.{Moved, Busy, Stale, GateBusy, Invalid, NoSuch, TooLong, OutOfMemory}
+use Rattle.seq_model.specs.declared.refusal.Refusal.TheVariants.{Moved, Busy, Stale, GateBusy, Invalid, NoSuch, TooLong, Memory as OutOfMemory}
 
 -- it is TooLong exactly where what was asked does not fit, and else a growth was refused
 abbrev pub IsTooLong : Refusal → Type 0 → Type 0

@@ -4,7 +4,7 @@ use Rattle.std.specs.Fmt.{decimal}
 use Rattle.seq_model.specs.declared.auditing.AuditFault.{AuditFault}
 use Rattle.seq_model.specs.declared.auditing.AuditFault.TheVariants as fault
 use Rattle.seq_model.specs.declared.refusal.Refusal.{Refusal}
-use Rattle.seq_model.specs.declared.refusal.Refusal.TheVariants.{Moved, Busy, Stale, GateBusy, Invalid, OutOfMemory, Exhausted, NoSuch}
+use Rattle.seq_model.specs.declared.refusal.Refusal.TheVariants.{Moved, Busy, Stale, GateBusy, Invalid, Memory as OutOfMemory, Exhausted, NoSuch}
 use Rattle.seq_model.specs.declared.refusal.Refusal.TheVariants.{TooLong, Ahead, NotIdle, NoTransaction, BadText}
 
 abbrev pub memory_text : List ℕ
@@ -15,7 +15,7 @@ too_long_text = codes "TooLong"
 
 -- a fault of the records is told as one; its numbers are for the caller
 abbrev pub audit_fault_text : AuditFault → List ℕ
-audit_fault_text fault.OutOfMemory = memory_text
+audit_fault_text fault.Memory = memory_text
 audit_fault_text _ = codes "audit fault"
 
 abbrev pub refusal_text : Refusal → List ℕ

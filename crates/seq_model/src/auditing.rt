@@ -23,7 +23,7 @@ pub enum AuditFault {
     WrongReply { entry: u64, call: u64 },
     /// The run leaves another state.
     WrongState,
-    OutOfMemory,
+    Memory,
 }
 
 impl fmt::Display for AuditFault {
@@ -31,7 +31,7 @@ impl fmt::Display for AuditFault {
 
     fn fmt<W: fmt::Write>(&self, f: &mut fmt::Formatter<W>) -> fmt::Result {
         match self {
-            AuditFault::OutOfMemory => write!(f, "{Memory}"),
+            AuditFault::Memory => write!(f, "{Memory}"),
             _ => f.write_str("audit fault"),
         }
     }
@@ -40,12 +40,12 @@ impl fmt::Display for AuditFault {
 impl Error for AuditFault {}
 
 impl From<Memory> for AuditFault {
-    ghost use Rattle.seq_model.specs.declared.auditing.AuditFault.TheVariants.{OutOfMemory};
+    ghost use Rattle.seq_model.specs.declared.auditing.AuditFault.TheVariants.{Memory as OutOfMemory};
 
     ghost from_gives = { λ _ fault. fault ≡ OutOfMemory };
 
     fn from(_error: Memory) -> AuditFault {
-        AuditFault::OutOfMemory
+        AuditFault::Memory
     }
 }
 
@@ -55,7 +55,7 @@ impl From<Memory> for AuditFault {
 /// handed in. The faults, in the order in which they are looked for: `DoubleNumber` with the least number that two
 /// writers share; `WrongReply` with the first call, in the order of the run, whose reply is not the sequential call's or
 /// that has none, by the places (from 0) of its record in `records` and of the call in the record; `WrongState` where
-/// the run leaves another state. `OutOfMemory` may come at any point.
+/// the run leaves another state. `Memory` may come at any point.
 pub fn audit<V: Value>(
     alloc: Global,
     opening: &State<V>,

@@ -56,7 +56,7 @@ impl<V: Value> Entries<V> {
         ensures ok { IfOk result (λ reply. map_call op.now self.old ≡ Some (reply, self.new)) }
         ensures refused { IfErr result (λ refusal. IsRefusal refusal (map_call op.now self.old ≡ None)) }
         ensures err { OnErr result (self.new ≡ self.old) }
-        ensures memory { result ≡ Err Refusal.OutOfMemory → TakesMemory op.now (Map self.old) }
+        ensures memory { result ≡ Err Refusal.Memory → TakesMemory op.now (Map self.old) }
     {
         match op {
             Op::Get(key) => match self.get(*key) {
@@ -82,7 +82,7 @@ impl Counts {
         ensures ok { IfOk result (λ reply. add_call element self.old ≡ (reply, self.new)) }
         ensures refused { IfErr result (λ refusal. IsRefusal refusal ⊥) }
         ensures err { OnErr result (self.new ≡ self.old) }
-        ensures memory { result ≡ Err Refusal.OutOfMemory → map.get self.old element ≡ None }
+        ensures memory { result ≡ Err Refusal.Memory → map.get self.old element ≡ None }
     {
         let count = self.copies(element);
         if count >= COPY_LIMIT {
@@ -98,7 +98,7 @@ impl Counts {
         ensures ok { IfOk result (λ reply. multiset_call op.now self.old ≡ Some (reply, self.new)) }
         ensures refused { IfErr result (λ refusal. IsRefusal refusal (multiset_call op.now self.old ≡ None)) }
         ensures err { OnErr result (self.new ≡ self.old) }
-        ensures memory { result ≡ Err Refusal.OutOfMemory → TakesMemory op.now (Bag self.old) }
+        ensures memory { result ≡ Err Refusal.Memory → TakesMemory op.now (Bag self.old) }
     {
         match op {
             Op::Count(element) => Ok(Reply::Number(self.copies(*element))),
@@ -121,7 +121,7 @@ impl Counts {
         ensures ok { IfOk result (λ reply. priority_queue_call op.now self.old ≡ Some (reply, self.new)) }
         ensures refused { IfErr result (λ refusal. IsRefusal refusal (priority_queue_call op.now self.old ≡ None)) }
         ensures err { OnErr result (self.new ≡ self.old) }
-        ensures memory { result ≡ Err Refusal.OutOfMemory → TakesMemory op.now (Pq self.old) }
+        ensures memory { result ≡ Err Refusal.Memory → TakesMemory op.now (Pq self.old) }
     {
         match op {
             Op::Least => Ok(Reply::of_element(self.least())),
@@ -146,7 +146,7 @@ fn apply_queue<V>(head: &mut u64, items: &mut QueueItems, op: &Op<V>) -> Result<
     ensures refused { IfErr result (λ refusal. IsRefusal refusal (queue_call op.now head.old items.old ≡ None)) }
     ensures err { OnErr result ((head.new ≡ head.old) × (items.new ≡ items.old)) }
     ensures within { head.new + length items.new ≤ INDEX_LIMIT }
-    ensures memory { result ≡ Err Refusal.OutOfMemory → TakesMemory op.now (Queue head.old items.old) }
+    ensures memory { result ≡ Err Refusal.Memory → TakesMemory op.now (Queue head.old items.old) }
 {
     match op {
         Op::Enqueue(item) => {
@@ -208,7 +208,7 @@ impl<V: Value> Held<V> {
         ensures ok { IfOk result (λ reply. held_call op.now self.old ≡ Some (reply, self.new)) }
         ensures refused { IfErr result (λ refusal. IsRefusal refusal (held_call op.now self.old ≡ None)) }
         ensures err { OnErr result (self.new ≡ self.old) }
-        ensures memory { result ≡ Err Refusal.OutOfMemory → TakesMemory op.now self.old }
+        ensures memory { result ≡ Err Refusal.Memory → TakesMemory op.now self.old }
     {
         match self {
             Held::Map(map) => map.apply(op),

@@ -99,7 +99,7 @@ module _ {V : Type 0} where
   starved_bare u a st e bare = by st e bare
     where
       x : Seat V
-      x = because (u.seats a) refusal.OutOfMemory
+      x = because (u.seats a) refusal.Memory
 
       by : (st : Stage V) → stage_of u a ≡ st → IsBare (stage_of (starve_at u a (u.seats a) st).0 a) → IsBare st
       by Idle e bare = tt

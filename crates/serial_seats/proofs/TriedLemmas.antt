@@ -13,7 +13,7 @@ use Rattle.seq_model.specs.declared.call.Reply.{Reply}
 use Rattle.seq_model.specs.declared.event.Event.{Event}
 use Rattle.seq_model.specs.declared.event.Event.TheVariants.{Ask, Step, Starve}
 use Rattle.seq_model.specs.declared.event.Request.{Request}
-use Rattle.seq_model.specs.declared.refusal.Refusal.TheVariants.{GateBusy, OutOfMemory}
+use Rattle.seq_model.specs.declared.refusal.Refusal.TheVariants.{GateBusy, Memory as OutOfMemory}
 use Rattle.collection_machine.specs.Boosted.{is_actor}
 use Rattle.replay_log.specs.Contents.{HaveStripes}
 use Rattle.replay_log.specs.WorldRefusals.{IsLastTry}

@@ -8,7 +8,7 @@ use Rattle.seq_model.specs.Runs.{IsLegal, state_at}
 use Rattle.seq_model.specs.declared.call.Call.{Call}
 use Rattle.seq_model.specs.declared.call.Reply.{Reply}
 use Rattle.seq_model.specs.declared.refusal.Refusal.{Refusal}
-use Rattle.seq_model.specs.declared.refusal.Refusal.TheVariants.{OutOfMemory}
+use Rattle.seq_model.specs.declared.refusal.Refusal.TheVariants.{Memory as OutOfMemory}
 use Rattle.replay_log.specs.Seats.{Ended, World}
 use Rattle.replay_log.specs.Worlds.{run}
 use Rattle.atomic_steps.specs.Own.{Alike}

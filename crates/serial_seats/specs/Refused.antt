@@ -7,7 +7,7 @@ use Rattle.seq_model.specs.declared.event.Answer.TheVariants.{Aborted}
 use Rattle.seq_model.specs.declared.event.Event.{Event}
 use Rattle.seq_model.specs.declared.event.Event.TheVariants.{Step}
 use Rattle.seq_model.specs.declared.refusal.Refusal.{Refusal}
-use Rattle.seq_model.specs.declared.refusal.Refusal.TheVariants.{Moved, Busy, Stale, GateBusy, Invalid, OutOfMemory}
+use Rattle.seq_model.specs.declared.refusal.Refusal.TheVariants.{Moved, Busy, Stale, GateBusy, Invalid, Memory as OutOfMemory}
 use Rattle.replay_log.specs.Seats.{World, Idle, actor_of}
 use Rattle.replay_log.specs.Worlds.{happens, run}
 use Rattle.replay_log.specs.WorldAnswers.{Untouched}

@@ -65,7 +65,7 @@ fn drawn_lists(alloc: Global, drawn: &Drawn) -> Result<Vec<Vec<Action>>, Memory>
 /// Draws tables and the sessions of each worker, much as Vacation of STAMP draws them (IISWC 2008), has the workers run them, and inspects
 /// what came of it. How far they have come is told meanwhile.
 ///
-/// `OutOfMemory` where a growth was refused; nothing else is found.
+/// `Memory` where a growth was refused; nothing else is found.
 pub fn run_drawn<R: Threads + Wait + Clock + Sync, P: Progress + Sync>(
     rt: &R,
     alloc: Global,
@@ -179,7 +179,7 @@ fn audited<R: Clock>(
         Ok(causes) => Ok((causes, time_of_audit(rt, alloc, first, served)?)),
         Err(_) => {
             drop(served);
-            Err(RunFault::Refused(Refusal::OutOfMemory))
+            Err(RunFault::Refused(Refusal::Memory))
         }
     }
 }

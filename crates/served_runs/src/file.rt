@@ -31,7 +31,7 @@ pub const TRIES: u64 = 1_000;
 /// the tables hold, and that the receipts were audited and the tables are balanced. The first session is the first worker's, the next one
 /// the next worker's, and so on in turn. Each has at most 1,000 attempts. How far they have come is told meanwhile.
 ///
-/// `BadText` names the first line outside the grammar, counted from 1; `OutOfMemory` where a growth was refused; nothing else is found.
+/// `BadText` names the first line outside the grammar, counted from 1; `Memory` where a growth was refused; nothing else is found.
 pub fn output_of<R: Threads + Wait + Sync, P: Progress + Sync>(
     rt: &R,
     alloc: Global,
@@ -151,7 +151,7 @@ fn run_from<R: Threads + Wait + Sync, P: Progress + Sync>(
         }
         Err(_) => {
             drop(served);
-            Err(RunFault::Refused(Refusal::OutOfMemory))
+            Err(RunFault::Refused(Refusal::Memory))
         }
     }
 }

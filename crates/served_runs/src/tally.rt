@@ -55,7 +55,7 @@ fn place_of(refusal: Refusal) -> usize
         Refusal::Stale { .. } => 2,
         Refusal::GateBusy { .. } => 3,
         Refusal::Invalid { .. } => 4,
-        Refusal::OutOfMemory => 5,
+        Refusal::Memory => 5,
         _ => place_of_rarer(refusal),
     }
 }

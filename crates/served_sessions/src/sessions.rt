@@ -27,7 +27,7 @@ pub fn session_of(alloc: Global, action: &Action) -> Result<Session, Memory>
     match Session::new(alloc, action) {
         Ok(session) => Ok(session),
         Err(refusal) => match refusal {
-            Refusal::OutOfMemory => Err(Memory),
+            Refusal::Memory => Err(Memory),
             _ => unreachable!(),
         },
     }

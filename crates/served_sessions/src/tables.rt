@@ -17,7 +17,7 @@ pub fn tables_left(alloc: Global, state: &State<Entry>) -> Result<Tables, Memory
 {
     match tables_of(alloc, state) {
         Ok(tables) => Ok(tables),
-        Err(Refusal::OutOfMemory) => Err(Memory),
+        Err(Refusal::Memory) => Err(Memory),
         Err(_) => unreachable!(),
     }
 }

@@ -7,7 +7,7 @@ use Rattle.std.proofs.Common.{◌≡◌, ◌∙◌, ap, sym, subst, refl, ℕ, L
 use Rattle.std.specs.Prelude.{map, Err}
 use Rattle.seq_model.specs.declared.record.Record.{Record}
 use Rattle.seq_model.specs.declared.refusal.Refusal.{Refusal}
-use Rattle.seq_model.specs.declared.refusal.Refusal.TheVariants.{Moved, Busy, Stale, GateBusy, Invalid, OutOfMemory, Exhausted}
+use Rattle.seq_model.specs.declared.refusal.Refusal.TheVariants.{Moved, Busy, Stale, GateBusy, Invalid, Memory as OutOfMemory, Exhausted}
 use Rattle.seq_model.specs.declared.refusal.Refusal.TheVariants.{NoSuch, TooLong, Ahead, NotIdle, NoTransaction, BadText}
 use Rattle.seq_model.specs.Runs.{IsRun, after_run}
 use Rattle.seq_model.specs.Contents.{Contents}

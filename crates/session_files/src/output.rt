@@ -11,7 +11,7 @@ use std::alloc::Global;
 /// What the sessions of a file print: a line for each session, then what the tables hold, and that the receipts were audited and the
 /// tables are balanced.
 ///
-/// `BadText` names the first line outside the grammar, counted from 1; `OutOfMemory` where a growth was refused.
+/// `BadText` names the first line outside the grammar, counted from 1; `Memory` where a growth was refused.
 pub fn output_of(alloc: Global, text: &[u8]) -> Result<Vec<u8>, RunFault>
     ensures output { IfOk result (λ bytes. IsOutput text.now bytes.items) }
     ensures refused { IfErr result (IsFault text.now) }

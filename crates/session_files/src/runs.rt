@@ -1,6 +1,6 @@
 //! The sessions of a file, one after another.
 ghost use Rattle.std.specs.Prelude.{◌≡◌, All, IfErr, IfOk};
-ghost use Rattle.seq_model.specs.declared.refusal.Refusal.TheVariants.{OutOfMemory};
+ghost use Rattle.seq_model.specs.declared.refusal.Refusal.TheVariants.{Memory as OutOfMemory};
 ghost use Rattle.vac_model.specs.Actions.{IsAllowed};
 ghost use Rattle.vac_model.specs.Balanced.{IsBalanced};
 ghost use Rattle.session_output.specs.declared.fault.RunFault.TheVariants.{Refused};
@@ -16,7 +16,7 @@ use vacation_core::{state_of, tables_of};
 
 /// Runs the sessions of these actions, one after another, on a world that opens on these tables, and inspects what came of them.
 ///
-/// Refused as `OutOfMemory` where a growth was refused, and for nothing else: the inspection finds nothing.
+/// Refused as `Memory` where a growth was refused, and for nothing else: the inspection finds nothing.
 pub fn run_sessions(
     alloc: Global,
     tables: Tables,

@@ -42,7 +42,7 @@ fn line_for(alloc: Global, action: &Action, receipt: &Record<Entry>) -> Result<L
 {
     match Session::new(alloc, action) {
         Ok(session) => line_of(&session, receipt),
-        Err(Refusal::OutOfMemory) => Err(Memory),
+        Err(Refusal::Memory) => Err(Memory),
         Err(_) => unreachable!(),
     }
 }

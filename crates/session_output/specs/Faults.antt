@@ -2,14 +2,14 @@
 use Rattle.std.specs.Prelude.{ℕ, List}
 use Rattle.seq_model.specs.declared.auditing.AuditFault.{AuditFault}
 use Rattle.seq_model.specs.declared.auditing.AuditFault.TheVariants as audit
-use Rattle.seq_model.specs.declared.refusal.Refusal.TheVariants.{OutOfMemory}
+use Rattle.seq_model.specs.declared.refusal.Refusal.TheVariants.{Memory as OutOfMemory}
 use Rattle.session_script.specs.Sessions.{IsUnreadable}
 use Rattle.session_output.specs.declared.fault.RunFault.{RunFault}
 use Rattle.session_output.specs.declared.fault.RunFault.TheVariants.{Refused, Audit}
 
 -- want of memory is no finding of an audit
 abbrev pub audit_fault : AuditFault → RunFault
-audit_fault audit.OutOfMemory = Refused OutOfMemory
+audit_fault audit.Memory = Refused OutOfMemory
 audit_fault fault = Audit
 
 -- A line is outside the grammar, or a growth was refused; nothing else.

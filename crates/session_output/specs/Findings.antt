@@ -3,7 +3,7 @@ use Rattle.std.specs.Prelude.{◌≡◌, ◌≢◌, List}
 use Rattle.seq_model.specs.declared.auditing.AuditFault.{AuditFault}
 use Rattle.seq_model.specs.declared.auditing.AuditFault.TheVariants as audit
 use Rattle.seq_model.specs.declared.record.Record.{Record}
-use Rattle.seq_model.specs.declared.refusal.Refusal.TheVariants.{OutOfMemory}
+use Rattle.seq_model.specs.declared.refusal.Refusal.TheVariants.{Memory as OutOfMemory}
 use Rattle.seq_model.specs.Audit.{IsAuditFault, IsRunBetween}
 use Rattle.seq_model.specs.Contents.{Contents}
 use Rattle.vac_model.specs.Balanced.{IsBalanced}
@@ -20,6 +20,6 @@ pub record IsSound (opening : Contents Entry) (receipts : List (Record Entry)) (
 -- there is a fault in the receipts, or the tables are not balanced, or memory was refused
 abbrev pub IsFinding : Contents Entry → List (Record Entry) → Contents Entry → Holdings → RunFault → Type 0
 IsFinding opening receipts last tables Audit =
-    (fault : AuditFault) × ((fault ≢ audit.OutOfMemory) × IsAuditFault opening receipts last fault)
+    (fault : AuditFault) × ((fault ≢ audit.Memory) × IsAuditFault opening receipts last fault)
 IsFinding opening receipts last tables NotBalanced = ¬ IsBalanced tables
 IsFinding opening receipts last tables (Refused refusal) = refusal ≡ OutOfMemory

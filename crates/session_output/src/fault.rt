@@ -1,7 +1,7 @@
 //! Why a text has no output.
 ghost use Rattle.std.specs.Prelude.{◌≡◌, Some};
 ghost use Rattle.session_output.specs.declared.fault.RunFault.TheVariants.{Refused};
-ghost use Rattle.seq_model.specs.declared.refusal.Refusal.TheVariants.{OutOfMemory};
+ghost use Rattle.seq_model.specs.declared.refusal.Refusal.TheVariants.{Memory as OutOfMemory};
 ghost use Rattle.session_output.specs.Faults.{audit_fault};
 ghost use Rattle.session_output.specs.Texts.{run_fault_text};
 
@@ -50,7 +50,7 @@ impl From<Memory> for RunFault {
     ghost from_gives = { λ _ fault. fault ≡ Refused OutOfMemory };
 
     fn from(_memory: Memory) -> RunFault {
-        RunFault::Refused(Refusal::OutOfMemory)
+        RunFault::Refused(Refusal::Memory)
     }
 }
 
@@ -59,7 +59,7 @@ impl From<AuditFault> for RunFault {
 
     fn from(cause: AuditFault) -> RunFault {
         match cause {
-            AuditFault::OutOfMemory => RunFault::Refused(Refusal::OutOfMemory),
+            AuditFault::Memory => RunFault::Refused(Refusal::Memory),
             _ => RunFault::Audit,
         }
     }

@@ -14,7 +14,7 @@ use Rattle.world_table.specs.Openings.{blocks_of}
 use Rattle.seq_model.specs.Contents.{Contents}
 use Rattle.seq_model.specs.Refusals.{IsNoSuchOrTooLong}
 use Rattle.seq_model.specs.declared.refusal.Refusal.{Refusal}
-use Rattle.seq_model.specs.declared.refusal.Refusal.TheVariants.{NoSuch, OutOfMemory, TooLong}
+use Rattle.seq_model.specs.declared.refusal.Refusal.TheVariants.{NoSuch, Memory as OutOfMemory, TooLong}
 use Rattle.vacation_core.specs.declared.entry.Entry.{Entry}
 use Rattle.world_table.specs.Openings.{IsWithin}
 use Rattle.session_runs.specs.Openings.{eight}

@@ -28,7 +28,7 @@ pub fn open(alloc: Global, tables: &Tables, stripes: u32) -> Result<World<Entry>
     match World::open(alloc, &shape, state) {
         Ok(world) => Ok(world),
         Err(refusal) => match refusal {
-            Refusal::OutOfMemory => Err(Memory),
+            Refusal::Memory => Err(Memory),
             _ => unreachable!(),
         },
     }

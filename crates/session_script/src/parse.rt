@@ -1,7 +1,7 @@
 //! Reads a session file.
 ghost use Rattle.std.specs.Prelude.{◌≡◌, ◌↔◌, IsTrue, IfOk, IfErr, IfSome, OnOk, Some, List, MatchResult, All, is_some};
 ghost use Rattle.std.specs.FinMap as map;
-ghost use Rattle.seq_model.specs.declared.refusal.Refusal.TheVariants.{OutOfMemory};
+ghost use Rattle.seq_model.specs.declared.refusal.Refusal.TheVariants.{Memory as OutOfMemory};
 ghost use Rattle.vac_model.specs.declared.action.Action.{Action as AnAction};
 ghost use Rattle.vac_model.specs.Balanced.{IsBalanced};
 ghost use Rattle.vac_model.specs.Actions.{IsAllowed};

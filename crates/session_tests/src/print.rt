@@ -30,7 +30,7 @@ fn print_parts(
     tables: &Tables,
 ) -> Result<(), Refusal> {
     if is_wanting(aborted) {
-        return Err(Refusal::OutOfMemory);
+        return Err(Refusal::Memory);
     }
     let lines = print_done(text, done)?;
     print_ended(text, aborted, half)?;
@@ -41,7 +41,7 @@ fn print_parts(
 fn is_wanting(aborted: &[(u32, Refusal)]) -> bool {
     let mut refused = 0;
     for (client, cause) in aborted {
-        if matches!(cause, Refusal::OutOfMemory) && *client != refused {
+        if matches!(cause, Refusal::Memory) && *client != refused {
             return true;
         }
         refused = if matches!(cause, Refusal::NotIdle) {

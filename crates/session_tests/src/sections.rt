@@ -67,7 +67,7 @@ fn answer_section(text: &mut String, section: &str) -> Result<(), Refusal> {
 // A refusal is what the section comes to, but for a want of memory.
 fn tell(text: &mut String, answered: Result<(), Refusal>) -> Result<(), Refusal> {
     match answered {
-        Err(Refusal::OutOfMemory) => return Err(Refusal::OutOfMemory),
+        Err(Refusal::Memory) => return Err(Refusal::Memory),
         Err(refusal) => writeln!(text, "{refusal}")?,
         Ok(()) => {}
     }

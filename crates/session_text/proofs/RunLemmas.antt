@@ -5,7 +5,7 @@ use Rattle.std.specs.Prelude.{IfErr, OnOk, Result, Ok, Err}
 use Rattle.seq_model.specs.declared.event.Notice.{Notice}
 use Rattle.seq_model.specs.declared.refusal.Refusal.{Refusal}
 use Rattle.seq_model.specs.declared.refusal.Refusal.TheVariants.{Ahead, BadText, Busy, Exhausted, GateBusy, Invalid, Moved, NoSuch}
-use Rattle.seq_model.specs.declared.refusal.Refusal.TheVariants.{NoTransaction, NotIdle, OutOfMemory, Stale, TooLong}
+use Rattle.seq_model.specs.declared.refusal.Refusal.TheVariants.{NoTransaction, NotIdle, Memory as OutOfMemory, Stale, TooLong}
 use Rattle.seq_model.specs.Calls.{IsWithinLimits}
 use Rattle.seq_model.specs.Contents.{Contents}
 use Rattle.seq_model.specs.Refusals.{IsNoSuchOrTooLong, IsTooLong}

@@ -1,7 +1,7 @@
 -- What a script opens, and why its opening is refused.
 use Rattle.std.specs.Prelude.{◌≡◌, ◌⊎◌, ℕ, List, map, All, ⊤}
 use Rattle.seq_model.specs.declared.refusal.Refusal.{Refusal}
-use Rattle.seq_model.specs.declared.refusal.Refusal.TheVariants.{TooLong, OutOfMemory}
+use Rattle.seq_model.specs.declared.refusal.Refusal.TheVariants.{TooLong, Memory as OutOfMemory}
 use Rattle.seq_model.specs.Calls.{IsWithinLimits}
 use Rattle.seq_model.specs.Refusals.{IsTooLong}
 use Rattle.seq_model.specs.Contents.{Contents}

@@ -15,7 +15,7 @@ use world_table::audit_records;
 pub fn audit_run(alloc: Global, run: &ScriptRun) -> Result<(), AuditFault>
     ensures ok { OnOk result (IsAudited run.now) }
     ensures fault { IfErr result (HasAuditFault run.now) }
-    ensures none { IsSerialTrace run.now.opening run.now.trace → IfErr result (λ fault. fault ≡ AuditFault.OutOfMemory) }
+    ensures none { IsSerialTrace run.now.opening run.now.trace → IfErr result (λ fault. fault ≡ AuditFault.Memory) }
 {
     if !run.trace.half.is_empty() {
         return Ok(());

@@ -29,7 +29,7 @@ pub struct ScriptRun {
 
 /// Opens the script's world, and feeds it the script's events.
 ///
-/// `TooLong` where a collection of the header is beyond a limit, else as `World::open`, and `OutOfMemory` where a growth was
+/// `TooLong` where a collection of the header is beyond a limit, else as `World::open`, and `Memory` where a growth was
 /// refused.
 pub fn run_script(alloc: Global, script: &Script) -> Result<ScriptRun, Refusal>
     ensures opening { IfOk result (λ run. IsOpeningOf script.now run.opening) }

@@ -377,15 +377,15 @@ module _ {V A : Type 0} (P : ℕ → Type 0) (p : Program V A) where
       → Goes a (starve_at w a x st)
   starved w a x Idle seat at f = stays w a x Idle (Refused a refusal.NoTransaction) seat at tt tt
   starved w a x Open seat at f = stays w a x Open (Refused a refusal.NoTransaction) seat at f tt
-  starved w a x Beginning seat at f = sits (acted w (asks a word.AskAbort ∷ [])) a no_one (Refused a refusal.OutOfMemory) tt tt
-  starved w a x (Reading l) seat at f = given_up w a (because x refusal.OutOfMemory) []
-  starved w a x (Trying asked tries) seat at f = given_up w a (because x refusal.OutOfMemory) []
-  starved w a x (Copying asked) seat at f = given_up w a (because x refusal.OutOfMemory) (asked.collection ∷ [])
-  starved w a x (Loading o es) seat at f = given_up w a (because x refusal.OutOfMemory) []
-  starved w a x Locking seat at f = given_up w a (because x refusal.OutOfMemory) []
-  starved w a x (Gating got ks tries) seat at f = given_up w a (because x refusal.OutOfMemory) got
-  starved w a x (Ready ks) seat at f = given_up w a (because x refusal.OutOfMemory) ks
-  starved w a x Closing seat at f = given_up w a (because x refusal.OutOfMemory) []
+  starved w a x Beginning seat at f = sits (acted w (asks a word.AskAbort ∷ [])) a no_one (Refused a refusal.Memory) tt tt
+  starved w a x (Reading l) seat at f = given_up w a (because x refusal.Memory) []
+  starved w a x (Trying asked tries) seat at f = given_up w a (because x refusal.Memory) []
+  starved w a x (Copying asked) seat at f = given_up w a (because x refusal.Memory) (asked.collection ∷ [])
+  starved w a x (Loading o es) seat at f = given_up w a (because x refusal.Memory) []
+  starved w a x Locking seat at f = given_up w a (because x refusal.Memory) []
+  starved w a x (Gating got ks tries) seat at f = given_up w a (because x refusal.Memory) got
+  starved w a x (Ready ks) seat at f = given_up w a (because x refusal.Memory) ks
+  starved w a x Closing seat at f = given_up w a (because x refusal.Memory) []
   starved w a x st seat at f = stays w a x st Quiet seat at f tt
 
   pub starves_follow : (w : World V) (a : ℕ) → IsFollowing (w.seats a) → Goes a (happens w (Starve a))

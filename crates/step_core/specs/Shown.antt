@@ -17,7 +17,7 @@ use Rattle.step_core.specs.declared.record.WordCall.TheVariants.{Read, Write}
 use Rattle.step_core.specs.declared.record.WordRecord.{WordRecord}
 use Rattle.step_core.specs.declared.answer.WordAnswer.{WordAnswer}
 use Rattle.step_core.specs.declared.answer.WordRefusal.{WordRefusal}
-use Rattle.step_core.specs.declared.answer.WordRefusal.TheVariants.{NoSuch, OutOfMemory}
+use Rattle.step_core.specs.declared.answer.WordRefusal.TheVariants.{NoSuch, Memory as OutOfMemory}
 use Rattle.step_core.specs.declared.actor.Actor.{Actor}
 use Rattle.step_core.specs.declared.machine.Machine.{Machine}
 use Rattle.step_core.specs.declared.machine.TheConstants.{LAST_ACTOR}

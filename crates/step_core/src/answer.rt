@@ -78,5 +78,5 @@ pub enum WordRefusal {
     NoTransaction,
     /// A growth was refused.
     #[error("Memory")]
-    OutOfMemory,
+    Memory,
 }

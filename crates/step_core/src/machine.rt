@@ -10,7 +10,7 @@ ghost use Rattle.step_core.specs.Shown.{shown, Steps, Asks, actor_in, snapshot_o
 ghost use Rattle.step_core.specs.Blank.{AreBlank, AreZero};
 ghost use Rattle.step_core.specs.Sound.{Sound, At};
 ghost use Rattle.step_core.specs.declared.actor.Actor.{Actor};
-ghost use Rattle.step_core.specs.declared.answer.WordRefusal.TheVariants.{OutOfMemory};
+ghost use Rattle.step_core.specs.declared.answer.WordRefusal.TheVariants.{Memory as OutOfMemory};
 ghost use Rattle.step_core.specs.declared.actor.Place.TheVariants.{First, Close};
 
 use crate::actor::{Actor, Place};
@@ -168,7 +168,7 @@ impl Machine {
         ensures sound { Sound self.new }
     {
         if let Err(_) = make_room(&mut self.history, request) {
-            return Err(WordRefusal::OutOfMemory);
+            return Err(WordRefusal::Memory);
         }
         let locations = self.cells.values.len();
         let actor = &mut self.actors[a];

@@ -57,11 +57,11 @@ impl Words {
         }
         let locks = match zeros(alloc, values.len()) {
             Ok(locks) => locks,
-            Err(_) => return Err(WordRefusal::OutOfMemory),
+            Err(_) => return Err(WordRefusal::Memory),
         };
         let actors = match seats(alloc) {
             Ok(actors) => actors,
-            Err(_) => return Err(WordRefusal::OutOfMemory),
+            Err(_) => return Err(WordRefusal::Memory),
         };
         Ok(Words {
             machine: Machine {
@@ -81,7 +81,7 @@ impl Words {
     /// `NoSuch` for an actor that is not 1 to 64, `NotIdle` where a request is unanswered or a begin
     /// is asked inside a transaction, `NoTransaction` for another request that the phase lacks,
     /// `NoSuch` for a location that there is not and for a write of a declared reader, `TooLong` for
-    /// one more than 4,096 in a set, in this order, and `OutOfMemory` where none of these holds and a
+    /// one more than 4,096 in a set, in this order, and `Memory` where none of these holds and a
     /// growth was refused. A refused request changes nothing. Release, Cancel and Abort take no memory, so what has stored a value
     /// can always go on, and what holds a lock can always give it back.
     pub fn ask(

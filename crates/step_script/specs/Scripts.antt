@@ -2,7 +2,7 @@
 use Rattle.std.specs.Prelude.{◌≡◌, ℕ, List, [], ◌∷◌, ◌++◌, Option, Some, None, ⊤}
 use Rattle.std.specs.Str.{IsUtf8}
 use Rattle.seq_model.specs.declared.refusal.Refusal.{Refusal}
-use Rattle.seq_model.specs.declared.refusal.Refusal.TheVariants.{BadText, OutOfMemory}
+use Rattle.seq_model.specs.declared.refusal.Refusal.TheVariants.{BadText, Memory as OutOfMemory}
 use Rattle.step_script.specs.declared.script.Script.{Script}
 use Rattle.step_script.specs.declared.line.ScriptLine.{ScriptLine}
 use Rattle.step_script.specs.declared.line.ScriptLine.TheVariants as line

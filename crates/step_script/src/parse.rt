@@ -1,6 +1,6 @@
 //! Reads a script.
 ghost use Rattle.std.specs.Prelude.{◌≡◌, IfOk, IfErr, IfSome, OnOk, Some, MatchResult};
-ghost use Rattle.seq_model.specs.declared.refusal.Refusal.TheVariants.{OutOfMemory};
+ghost use Rattle.seq_model.specs.declared.refusal.Refusal.TheVariants.{Memory as OutOfMemory};
 ghost use Rattle.step_script.specs.declared.script.Script.{Script};
 ghost use Rattle.step_script.specs.declared.line.ScriptLine.{ScriptLine};
 ghost use Rattle.step_script.specs.declared.parse.Part.{Part};

@@ -4,7 +4,7 @@
 use Rattle.std.proofs.Common.{◌≡◌, sym, subst}
 use Rattle.seq_model.specs.declared.call.Op.{Op}
 use Rattle.seq_model.specs.declared.refusal.Refusal.{Refusal}
-use Rattle.seq_model.specs.declared.refusal.Refusal.TheVariants.{Busy, GateBusy, Invalid, Moved, NoSuch, NoTransaction, OutOfMemory, Stale}
+use Rattle.seq_model.specs.declared.refusal.Refusal.TheVariants.{Busy, GateBusy, Invalid, Moved, NoSuch, NoTransaction, Memory as OutOfMemory, Stale}
 use Rattle.seq_model.specs.declared.refusal.Refusal.TheVariants.{TooLong}
 use Rattle.tx_phases.specs.Phases.{IsMistaken}
 use Rattle.driven_turns.specs.Driven.{IsCallCause, IsCommitCause}

@@ -65,7 +65,7 @@ pub(crate) fn ask_open<V: Value>(
     ensures drives { CanDrive table.now seat.new actor.new }
     ensures asked { OnOk result (HasAsked seat.old request seat.new) }
     ensures answers { IfOk result (Answers (opening_of table.now) seat.old request) }
-    ensures memory { IfErr result (λ cause. cause ≡ Refusal.OutOfMemory) }
+    ensures memory { IfErr result (λ cause. cause ≡ Refusal.Memory) }
     ensures admits { OnErr result (IsAdmitted (acts (opening_of table.now) seat.old) (actor_of seat.old) request) }
     ensures keeps { OnErr result (KeepsReceipts seat.old seat.new) }
     ensures rests { OnErr result (standing (opening_of table.now) seat.new ≡ Rests) }
@@ -79,7 +79,7 @@ pub(crate) fn ask_open<V: Value>(
         Ok(told) => Ok(told),
         Err(_) => {
             abort(alloc, table, seat, actor, bases);
-            Err(Refusal::OutOfMemory)
+            Err(Refusal::Memory)
         }
     }
 }

@@ -155,7 +155,7 @@ impl<V: Value> TxSeat<V> {
     /// change in a declared reader; then `TooLong` past the limit of calls, or where what it reads or writes doesn't fit the sets: the
     /// transaction is as it was. `Moved` where a word or a location of a collection is locked, was changed since the transaction began, or
     /// changed between the two loads of a read (TL2, DISC 2006), `Stale` where what it copied of a collection has not the edition with
-    /// which it is read, `GateBusy` where another seat held the collection's gate at each of 64 tries, and `OutOfMemory`: the transaction
+    /// which it is read, `GateBusy` where another seat held the collection's gate at each of 64 tries, and `Memory`: the transaction
     /// is ended.
     pub fn call(&mut self, table: &TxTable<V>, call: Call<V>) -> Result<Reply<V>, Refusal>
         requires ready { IsReady table.now self.old }
@@ -175,7 +175,7 @@ impl<V: Value> TxSeat<V> {
         )
     }
 
-    /// A word is read, as `call` has it: refused as `NoTransaction`, `NoSuch`, `TooLong`, `OutOfMemory` or `Moved`.
+    /// A word is read, as `call` has it: refused as `NoTransaction`, `NoSuch`, `TooLong`, `Memory` or `Moved`.
     pub fn read(&mut self, table: &TxTable<V>, word: u32) -> Result<Reply<V>, Refusal>
         requires ready { IsReady table.now self.old }
         requires since { HasBegunSince table.now self.old }
@@ -188,7 +188,7 @@ impl<V: Value> TxSeat<V> {
         self.call(table, call)
     }
 
-    /// A word is written, once the transaction commits, as `call` has it: refused as `NoTransaction`, `NoSuch`, `TooLong` or `OutOfMemory`.
+    /// A word is written, once the transaction commits, as `call` has it: refused as `NoTransaction`, `NoSuch`, `TooLong` or `Memory`.
     pub fn write(&mut self, table: &TxTable<V>, word: u32, value: u64) -> Result<Reply<V>, Refusal>
         requires ready { IsReady table.now self.old }
         requires since { HasBegunSince table.now self.old }
@@ -206,7 +206,7 @@ impl<V: Value> TxSeat<V> {
     ///
     /// `NoTransaction` where none is open. `Busy` where a location to be written is locked or was changed, `Invalid` where one that was
     /// read is locked by another or was changed (TL2, DISC 2006), `GateBusy` where another seat held the gate of a collection to be written
-    /// at each of 64 tries, and `OutOfMemory`: the transaction is ended, and has written nothing.
+    /// at each of 64 tries, and `Memory`: the transaction is ended, and has written nothing.
     pub fn commit(&mut self, table: &TxTable<V>) -> Result<Record<V>, Refusal>
         requires ready { IsReady table.now self.old }
         requires since { HasBegunSince table.now self.old }

@@ -14,7 +14,7 @@ use Rattle.word_machine.proofs.Sets.{put-same}
 use Rattle.seq_model.specs.declared.call.Op.{Op}
 use Rattle.seq_model.specs.declared.call.Op.TheVariants.{Get, Put, Remove, Count, Add, Take}
 use Rattle.seq_model.specs.declared.event.Notice.TheVariants.{Quiet}
-use Rattle.seq_model.specs.declared.refusal.Refusal.TheVariants.{OutOfMemory}
+use Rattle.seq_model.specs.declared.refusal.Refusal.TheVariants.{Memory as OutOfMemory}
 use Rattle.collection_machine.specs.Boosted.{changes}
 use Rattle.conflict.specs.declared.outcome.Outcome.{Outcome}
 use Rattle.replay_log.specs.declared.base.Base.{Base}

@@ -160,13 +160,13 @@ module _ {V : Type 0} where
 
   pub starves_as : (r u n : TxActor V) (asked : Asked V) → IsUnmoved r u
       → ((a : ℕ) (w : World V) → actor_of w a ≡ words.actor_of u.words
-      → Runs a n (gives_up w a (because (seat_of u) refusal.OutOfMemory) (asked.collection ∷ [])).0)
+      → Runs a n (gives_up w a (because (seat_of u) refusal.Memory) (asked.collection ∷ [])).0)
       → Starves (at r (stage.Copying asked)) n told.Quiet
   starves_as r u n asked h does a w s =
       let s0 = worlds.Copying (asked_of asked) in
-      let e : gives_up w a (because (at_stage (seat_of u) s0) refusal.OutOfMemory) (asked.collection ∷ [])
-      ≡ gives_up w a (because (at_stage (seat_of r) s0) refusal.OutOfMemory) (asked.collection ∷ []) =
-      ap (λ (x : Seat V). gives_up w a (because x refusal.OutOfMemory) (asked.collection ∷ [])) (unmoved_seat r u s0 h) in
+      let e : gives_up w a (because (at_stage (seat_of u) s0) refusal.Memory) (asked.collection ∷ [])
+      ≡ gives_up w a (because (at_stage (seat_of r) s0) refusal.Memory) (asked.collection ∷ []) =
+      ap (λ (x : Seat V). gives_up w a (because x refusal.Memory) (asked.collection ∷ [])) (unmoved_seat r u s0 h) in
       (subst (λ (p : After V). Runs a n p.0) e (does a w (s.1 ∙ sym h.words)), refl)
 
   -- ---- what the world makes of it

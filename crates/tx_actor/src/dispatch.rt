@@ -302,11 +302,11 @@ impl<V: Drop> TxActor<V> {
     /// A call is given up while the gate of its collection is held.
     pub(crate) fn starves_copying(&mut self, collection: u32) -> Told<V>
         ensures does { Reseats self.old self.new result
-            (λ a w. gives_up w a (because (seat_of self.old) refusal.OutOfMemory) (collection ∷ [])) }
+            (λ a w. gives_up w a (because (seat_of self.old) refusal.Memory) (collection ∷ [])) }
         ensures keeps { (v : BlocksView) → KeepsIn v (at self.old (Stage.ReturningOne collection)) self.new }
         ensures leaves { KeepsCopies (at self.old Stage.Idle) self.new }
     {
-        self.cause = Some(Refusal::OutOfMemory);
+        self.cause = Some(Refusal::Memory);
         self.stage = Stage::ReturningOne(collection);
         Told::Quiet
     }
@@ -318,7 +318,7 @@ impl<V: Drop> TxActor<V> {
     {
         let mut held = homes;
         held.truncate(got);
-        self.gives_up_with(Refusal::OutOfMemory, held)
+        self.gives_up_with(Refusal::Memory, held)
     }
 
     fn starves_ready(&mut self, homes: VecDeque<u32>) -> Told<V>
@@ -326,7 +326,7 @@ impl<V: Drop> TxActor<V> {
         ensures keeps { (v : BlocksView) → KeepsIn v (at self.old (Stage.Ready homes)) self.new }
         ensures leaves { KeepsCopies (at self.old Stage.Idle) self.new }
     {
-        self.gives_up_with(Refusal::OutOfMemory, homes)
+        self.gives_up_with(Refusal::Memory, homes)
     }
 
     /// Its request is refused memory, where it may still be.
@@ -346,14 +346,14 @@ impl<V: Drop> TxActor<V> {
                 Told::Refused(Refusal::NoTransaction)
             }
             Stage::Beginning => self.begin_starves(),
-            Stage::Reading(_) => self.gives_up(Refusal::OutOfMemory),
-            Stage::Trying(_, _) => self.gives_up(Refusal::OutOfMemory),
+            Stage::Reading(_) => self.gives_up(Refusal::Memory),
+            Stage::Trying(_, _) => self.gives_up(Refusal::Memory),
             Stage::Copying(asked) => self.starves_copying(asked.get().collection),
-            Stage::Loading(_, _) => self.gives_up(Refusal::OutOfMemory),
-            Stage::Locking(_) => self.gives_up(Refusal::OutOfMemory),
+            Stage::Loading(_, _) => self.gives_up(Refusal::Memory),
+            Stage::Locking(_) => self.gives_up(Refusal::Memory),
             Stage::Gating(homes, got, _) => self.starves_gating(homes, got),
             Stage::Ready(homes) => self.starves_ready(homes),
-            Stage::Closing => self.gives_up(Refusal::OutOfMemory),
+            Stage::Closing => self.gives_up(Refusal::Memory),
             other => self.stays(other),
         }
     }

@@ -360,7 +360,7 @@ impl<V: Drop> TxActor<V> {
     {
         abort(&mut self.words, 0);
         self.clear(Stage::Idle, 0);
-        Told::Refused(Refusal::OutOfMemory)
+        Told::Refused(Refusal::Memory)
     }
 
     /// All is locked and checked, at this number; a location of each of these collections was written.

@@ -208,7 +208,7 @@ impl<V: Value> TxActor<V> {
         match self.readies(alloc, place, first, call.get_mut()) {
             Ok(Some(left)) => Ok(self.goes_on(call, left)),
             _ => {
-                let _ = self.gives_up(Refusal::OutOfMemory);
+                let _ = self.gives_up(Refusal::Memory);
                 Err(Memory)
             }
         }

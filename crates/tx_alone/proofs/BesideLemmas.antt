@@ -51,8 +51,8 @@ use Rattle.tx_alone.proofs.FewLemmas.{gives_up_sized, sits, step_sized}
 abbrev HasRoom : ℕ → Type 0
 HasRoom n = n ≤ 4096
 
-memory_well : (o : Option Refusal) → o ≡ Some refusal.OutOfMemory → (c : Refusal) → o ≡ Some c → IsMisfit c → ⊥
-memory_well o e c is m = subst IsMisfit (same_cause c refusal.OutOfMemory (sym is ∙ e)) m
+memory_well : (o : Option Refusal) → o ≡ Some refusal.Memory → (c : Refusal) → o ≡ Some c → IsMisfit c → ⊥
+memory_well o e c is m = subst IsMisfit (same_cause c refusal.Memory (sym is ∙ e)) m
 
 none_some : (c : Refusal) → None ≡ Some c → ⊥
 none_some c e = cc
@@ -75,14 +75,14 @@ module _ {V : Type 0} where
     starve_sized w x Idle h = h
     starve_sized w x Open h = h
     starve_sized w x Beginning h = sits HasRoom a (acted w (asks a word.AskAbort ∷ [])) no_one tt
-    starve_sized w x (Reading l) h = gives_up_sized HasRoom a w (because x refusal.OutOfMemory) []
-    starve_sized w x (Trying asked tries) h = gives_up_sized HasRoom a w (because x refusal.OutOfMemory) []
-    starve_sized w x (Copying asked) h = gives_up_sized HasRoom a w (because x refusal.OutOfMemory) (asked.collection ∷ [])
-    starve_sized w x (Loading o es) h = gives_up_sized HasRoom a w (because x refusal.OutOfMemory) []
-    starve_sized w x Locking h = gives_up_sized HasRoom a w (because x refusal.OutOfMemory) []
-    starve_sized w x (Gating got ks tries) h = gives_up_sized HasRoom a w (because x refusal.OutOfMemory) got
-    starve_sized w x (Ready ks) h = gives_up_sized HasRoom a w (because x refusal.OutOfMemory) ks
-    starve_sized w x Closing h = gives_up_sized HasRoom a w (because x refusal.OutOfMemory) []
+    starve_sized w x (Reading l) h = gives_up_sized HasRoom a w (because x refusal.Memory) []
+    starve_sized w x (Trying asked tries) h = gives_up_sized HasRoom a w (because x refusal.Memory) []
+    starve_sized w x (Copying asked) h = gives_up_sized HasRoom a w (because x refusal.Memory) (asked.collection ∷ [])
+    starve_sized w x (Loading o es) h = gives_up_sized HasRoom a w (because x refusal.Memory) []
+    starve_sized w x Locking h = gives_up_sized HasRoom a w (because x refusal.Memory) []
+    starve_sized w x (Gating got ks tries) h = gives_up_sized HasRoom a w (because x refusal.Memory) got
+    starve_sized w x (Ready ks) h = gives_up_sized HasRoom a w (because x refusal.Memory) ks
+    starve_sized w x Closing h = gives_up_sized HasRoom a w (because x refusal.Memory) []
     starve_sized w x st h = h
 
     ask_sized : (w : World V) (q : Request V) → IsFitting w a (Ask a q) → SizedAt HasRoom a w → SizedIn HasRoom a (happens w (Ask a q))
@@ -367,14 +367,14 @@ module _ {V : Type 0} (a : ℕ) where
 
   starve_none_at : (w : World V) (x : Seat V) (st : Stage V) → IsNone w → IsNone (starve_at w a x st).0
   starve_none_at w x Beginning d = (acts_on (now w) a w (asks a word.AskAbort) (refl, tt) (bound_now w d)).undeclared
-  starve_none_at w x (Reading l) d = gives_up_none w (because x refusal.OutOfMemory) [] d
-  starve_none_at w x (Trying asked tries) d = gives_up_none w (because x refusal.OutOfMemory) [] d
-  starve_none_at w x (Copying asked) d = gives_up_none w (because x refusal.OutOfMemory) (asked.collection ∷ []) d
-  starve_none_at w x (Loading o es) d = gives_up_none w (because x refusal.OutOfMemory) [] d
-  starve_none_at w x Locking d = gives_up_none w (because x refusal.OutOfMemory) [] d
-  starve_none_at w x (Gating got ks tries) d = gives_up_none w (because x refusal.OutOfMemory) got d
-  starve_none_at w x (Ready ks) d = gives_up_none w (because x refusal.OutOfMemory) ks d
-  starve_none_at w x Closing d = gives_up_none w (because x refusal.OutOfMemory) [] d
+  starve_none_at w x (Reading l) d = gives_up_none w (because x refusal.Memory) [] d
+  starve_none_at w x (Trying asked tries) d = gives_up_none w (because x refusal.Memory) [] d
+  starve_none_at w x (Copying asked) d = gives_up_none w (because x refusal.Memory) (asked.collection ∷ []) d
+  starve_none_at w x (Loading o es) d = gives_up_none w (because x refusal.Memory) [] d
+  starve_none_at w x Locking d = gives_up_none w (because x refusal.Memory) [] d
+  starve_none_at w x (Gating got ks tries) d = gives_up_none w (because x refusal.Memory) got d
+  starve_none_at w x (Ready ks) d = gives_up_none w (because x refusal.Memory) ks d
+  starve_none_at w x Closing d = gives_up_none w (because x refusal.Memory) [] d
   starve_none_at w x st d = d
 
   ask_none : (w : World V) (q : Request V) → BeginsNoReader a (Ask a q ∷ []) → IsNone w → IsNone (happens w (Ask a q)).0

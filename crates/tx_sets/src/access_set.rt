@@ -5,7 +5,7 @@ ghost use Rattle.std.specs.Vec.{vec_capacity, vec_len};
 ghost use Rattle.tx_sets.specs.Entries.{IsRising, lookup, with_entry};
 ghost use Rattle.tx_sets.specs.AccessSet.{AreLinked, AreOrderly, IsBeyondLimit, IsHead, IsLast, IsPlaceOf, LacksLink, LacksRoom};
 ghost use Rattle.tx_sets.specs.AccessSet.{chain_of};
-ghost use Rattle.tx_sets.specs.declared.set_refusal.SetRefusal.TheVariants.{OutOfMemory, TooLong};
+ghost use Rattle.tx_sets.specs.declared.set_refusal.SetRefusal.TheVariants.{Memory as OutOfMemory, TooLong};
 
 use crate::set_refusal::SetRefusal;
 use std::alloc::{AllocError, Global};
@@ -133,7 +133,7 @@ impl<Role> AccessSet<Role> {
     }
 
     /// Sets the value of a location. Only a new location can be refused: `TooLong` beyond
-    /// `LOCATION_LIMIT` of them, and `OutOfMemory` where none was reserved. A refusal leaves the set
+    /// `LOCATION_LIMIT` of them, and `Memory` where none was reserved. A refusal leaves the set
     /// as it was.
     pub fn put(&mut self, location: u32, value: u64) -> Result<(), SetRefusal>
         ensures ok { OnOk result (self.new.entries ≡ with_entry self.old.entries location value) }

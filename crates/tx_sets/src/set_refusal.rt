@@ -1,6 +1,6 @@
 //! Why an entry is not put.
 ghost use Rattle.std.specs.Prelude.{◌≡◌};
-ghost use Rattle.tx_sets.specs.declared.set_refusal.SetRefusal.TheVariants.{OutOfMemory};
+ghost use Rattle.tx_sets.specs.declared.set_refusal.SetRefusal.TheVariants.{Memory as OutOfMemory};
 
 use std::alloc::{AllocError, AllocFailed};
 use thiserror::Error;
@@ -13,14 +13,14 @@ pub enum SetRefusal {
     TooLong,
     /// The location is new, there is no room, and no more memory was given.
     #[error("Memory")]
-    OutOfMemory,
+    Memory,
 }
 
 impl From<AllocError> for SetRefusal {
     ghost from_gives = { λ _ refusal. refusal ≡ OutOfMemory };
 
     fn from(_error: AllocError) -> SetRefusal {
-        SetRefusal::OutOfMemory
+        SetRefusal::Memory
     }
 }
 
@@ -28,6 +28,6 @@ impl<T: Drop> From<AllocFailed<T>> for SetRefusal {
     ghost from_gives = { λ _ refusal. refusal ≡ OutOfMemory };
 
     fn from(_error: AllocFailed<T>) -> SetRefusal {
-        SetRefusal::OutOfMemory
+        SetRefusal::Memory
     }
 }

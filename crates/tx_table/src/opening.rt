@@ -98,13 +98,13 @@ impl<V: Value> TxTable<V> {
         let blocks = blocks_for(alloc, shape, &state);
         let laid = world_table::Table::open(alloc, shape, state)?;
         let Some(blocks) = blocks else {
-            return Err(Refusal::OutOfMemory);
+            return Err(Refusal::Memory);
         };
         let locations = laid.cells.locks.len();
         let row = laid_out(alloc, &laid.cells, laid.gates.len())?;
         let homes = at_home(alloc, laid.bases)?;
         let Ok((whole, place)) = Whole::new(alloc, row.as_slice(), homes, &about) else {
-            return Err(Refusal::OutOfMemory);
+            return Err(Refusal::Memory);
         };
         let table = TxTable {
             whole,

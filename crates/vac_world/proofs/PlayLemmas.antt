@@ -41,7 +41,7 @@ use Rattle.vac_world.specs.Plays.{AreAllowed, Play, aborts, asks_on, at_open, be
 use Rattle.vac_world.specs.Plays.{played, played_all, seat_in, takes, told, turned, unplayed}
 use Rattle.tx_phases.specs.Phases.{phase_at}
 use Rattle.replay_log.specs.Worlds.{Copying, Gating, Ready, because}
-use Rattle.seq_model.specs.declared.refusal.Refusal.TheVariants.{OutOfMemory}
+use Rattle.seq_model.specs.declared.refusal.Refusal.TheVariants.{Memory as OutOfMemory}
 
 -- ---- programs
 

@@ -277,7 +277,7 @@ starve_finds a w Idle r q busy o h s at f = absurd (busy refl)
 starve_finds a w Open r q busy o h s at f = absurd o
 starve_finds a w Beginning r q busy o h s at f =
     subst (λ (n : Notice Entry). Finds (hears a n q)) (sym s.1)
-    (refused_find a a refusal.OutOfMemory q Rests (at ∙ ap (phase_at (r.0.seats a).calls) s.0) tt (λ m. m) f)
+    (refused_find a a refusal.Memory q Rests (at ∙ ap (phase_at (r.0.seats a).calls) s.0) tt (λ m. m) f)
 starve_finds a w (Storing ks) r q busy o h s at f = starve_stays a w r q s h at f
 starve_finds a w (Homing ks) r q busy o h s at f = starve_stays a w r q s h at f
 starve_finds a w Releasing r q busy o h s at f = starve_stays a w r q s h at f

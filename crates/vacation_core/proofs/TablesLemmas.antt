@@ -17,7 +17,7 @@ use Rattle.seq_model.proofs.EntryLemmas.{by_cases, inserts_all}
 use Rattle.seq_model.specs.Calls.{IsRefusal, IsWithinLimits}
 use Rattle.seq_model.specs.Contents.{Contents}
 use Rattle.seq_model.specs.declared.refusal.Refusal.{Refusal}
-use Rattle.seq_model.specs.declared.refusal.Refusal.TheVariants.{NoSuch, OutOfMemory}
+use Rattle.seq_model.specs.declared.refusal.Refusal.TheVariants.{NoSuch, Memory as OutOfMemory}
 use Rattle.seq_model.specs.declared.held.Held.{Held}
 use Rattle.seq_model.specs.declared.held.Held.TheVariants.{Map, Bag, Pq, Queue}
 use Rattle.vac_model.specs.declared.item.Kind.TheVariants.{Car, Flight, Room}

@@ -1,6 +1,6 @@
 -- Why there is no session, and why there are no tables.
 use Rattle.seq_model.specs.declared.refusal.Refusal.{Refusal}
-use Rattle.seq_model.specs.declared.refusal.Refusal.TheVariants.{NoSuch, TooLong, OutOfMemory}
+use Rattle.seq_model.specs.declared.refusal.Refusal.TheVariants.{NoSuch, TooLong, Memory as OutOfMemory}
 
 -- a refused action is TooLong exactly where P, and else a growth was refused
 abbrev pub IsSessionRefusal : Refusal → Type 0 → Type 0

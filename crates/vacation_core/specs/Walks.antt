@@ -7,7 +7,7 @@ use Rattle.vac_model.specs.declared.item.Customer.{Customer}
 use Rattle.vac_model.specs.declared.action.Part.{Part}
 use Rattle.vac_model.specs.declared.action.Part.TheVariants.{Booked, Waits}
 use Rattle.vacation_core.specs.declared.walk.Stop.{Stop}
-use Rattle.vacation_core.specs.declared.walk.Stop.TheVariants.{Asks, GivesUp, OutOfMemory}
+use Rattle.vacation_core.specs.declared.walk.Stop.TheVariants.{Asks, GivesUp, Memory as OutOfMemory}
 use Rattle.vacation_core.specs.Sessions.{SessionProgram, with_booking, with_wait}
 
 -- a walk stops at what is left of a program: this call is asked next, the program gives up, or a growth was refused

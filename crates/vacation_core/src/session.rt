@@ -88,7 +88,7 @@ impl<'a> Walk<'a> {
 impl Session {
     /// The session of this action.
     ///
-    /// `TooLong` where the action isn't allowed, and `OutOfMemory` where a growth was refused.
+    /// `TooLong` where the action isn't allowed, and `Memory` where a growth was refused.
     pub fn new(alloc: Global, action: &Action) -> Result<Session, Refusal>
         ensures ok { IfOk result (λ session. session ≡ action.now) }
         ensures refused { IfErr result (λ refusal. IsSessionRefusal refusal (¬ IsAllowed action.now)) }
@@ -130,7 +130,7 @@ impl Session {
             Ok(_) => Ok(Ask::Done),
             Err(Stop::Asks(call)) => Ok(Ask::Call(call)),
             Err(Stop::GivesUp) => Ok(Ask::GiveUp),
-            Err(Stop::OutOfMemory) => Err(Memory),
+            Err(Stop::Memory) => Err(Memory),
         }
     }
 
@@ -151,7 +151,7 @@ impl Session {
     {
         match self.play(Left::Calls(receipt.calls.as_slice())) {
             Ok(reply) => Ok(reply),
-            Err(Stop::OutOfMemory) => Err(Memory),
+            Err(Stop::Memory) => Err(Memory),
             Err(_) => unreachable!(),
         }
     }

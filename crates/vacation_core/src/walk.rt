@@ -12,7 +12,7 @@ ghost use Rattle.vac_model.specs.declared.item.Item.{Item as AnItem};
 ghost use Rattle.vac_model.specs.declared.item.Customer.{Customer as ACustomer};
 ghost use Rattle.vac_model.specs.declared.item.Ticket.{Ticket as ATicket};
 ghost use Rattle.vacation_core.specs.declared.entry.Entry.{Entry as AnEntry};
-ghost use Rattle.vacation_core.specs.declared.walk.Stop.TheVariants.{OutOfMemory};
+ghost use Rattle.vacation_core.specs.declared.walk.Stop.TheVariants.{Memory as OutOfMemory};
 ghost use Rattle.vacation_core.specs.Sessions as programs;
 ghost use Rattle.vacation_core.specs.Sessions.{SessionProgram};
 ghost use Rattle.vacation_core.specs.Gets.{get_due, tells_item};
@@ -35,14 +35,14 @@ pub(crate) enum Stop {
     /// No balanced tables answer so.
     GivesUp,
     /// A growth was refused.
-    OutOfMemory,
+    Memory,
 }
 
 impl From<Memory> for Stop {
     ghost from_gives = { λ _ stop. stop ≡ OutOfMemory };
 
     fn from(_error: Memory) -> Stop {
-        Stop::OutOfMemory
+        Stop::Memory
     }
 }
 
@@ -50,7 +50,7 @@ impl From<AllocError> for Stop {
     ghost from_gives = { λ _ stop. stop ≡ OutOfMemory };
 
     fn from(_error: AllocError) -> Stop {
-        Stop::OutOfMemory
+        Stop::Memory
     }
 }
 

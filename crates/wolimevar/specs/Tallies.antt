@@ -36,7 +36,7 @@ with_refusal t (refusal.GateBusy k) =
     counts t.committed t.aborted t.moved t.busy t.stale (one_more t.gate_busy) t.invalid t.out_of_memory t.others
 with_refusal t (refusal.Invalid l w) =
     counts t.committed t.aborted t.moved t.busy t.stale t.gate_busy (one_more t.invalid) t.out_of_memory t.others
-with_refusal t refusal.OutOfMemory =
+with_refusal t refusal.Memory =
     counts t.committed t.aborted t.moved t.busy t.stale t.gate_busy t.invalid (one_more t.out_of_memory) t.others
 with_refusal t cause =
     counts t.committed t.aborted t.moved t.busy t.stale t.gate_busy t.invalid t.out_of_memory (one_more t.others)

@@ -64,7 +64,7 @@ impl<V: Value> Layout<V> {
         Ok(number)
     }
 
-    /// Adds a word that holds this number at first. `TooLong` beyond 4,294,967,295 words; `OutOfMemory` where an allocation fails.
+    /// Adds a word that holds this number at first. `TooLong` beyond 4,294,967,295 words; `Memory` where an allocation fails.
     pub fn word(&mut self, number: u64) -> Result<Word, Refusal>
         ensures same { self.new.store ≡ self.old.store }
         ensures store { IfOk result (λ handle. handle.store ≡ self.new.store) }
@@ -118,7 +118,7 @@ impl<V: Value> Layout<V> {
     }
 
     /// Opens a store that holds all this. `TooLong` where there are more than 256 collections or more than 1,048,576 locations, a collection
-    /// can't have so many stripes, or has more than 4,294,967,295 copies of an element; `OutOfMemory` where an allocation fails.
+    /// can't have so many stripes, or has more than 4,294,967,295 copies of an element; `Memory` where an allocation fails.
     pub fn open(self) -> Result<Store<V>, Refusal>
         ensures number { IfOk result (λ store. store.number ≡ self.store) }
         ensures words { IfOk result (λ store. store.opening.words ≡ self.words.items) }

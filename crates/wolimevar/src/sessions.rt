@@ -234,10 +234,10 @@ where
         return (seat, Err(Refusal::TooLong));
     }
     let Ok(mut tasks) = Vec::with_capacity(alloc, count) else {
-        return (seat, Err(Refusal::OutOfMemory));
+        return (seat, Err(Refusal::Memory));
     };
     let Ok(mut outs) = Vec::with_capacity(alloc, count) else {
-        return (seat, Err(Refusal::OutOfMemory));
+        return (seat, Err(Refusal::Memory));
     };
     prepare_all(table, &mut seat, sessions, &mut tasks);
     serve_all(rt, table, store, tasks.as_mut_slice());

@@ -166,7 +166,7 @@ impl<V: Value> Store<V> {
     /// Serves each session in a thread of its own where one can be started, with a client of its own, and returns what they returned, in
     /// order, once all have ended. The receipts of the sessions are added to the store's, those of one session after those of another.
     ///
-    /// `TooLong` beyond 63 sessions, and `OutOfMemory` where an allocation fails: then no session was served, and the store is unchanged.
+    /// `TooLong` beyond 63 sessions, and `Memory` where an allocation fails: then no session was served, and the store is unchanged.
     /// Where a thread can't be started, its session is served after others; so a session that waits for another one to do something may wait
     /// forever.
     pub fn run<R: Threads + Sync, N: Session<V> + Drop + Send>(
@@ -203,7 +203,7 @@ impl<V: Value> Store<V> {
         }
     }
 
-    /// Ends the store, and returns what it holds: what its receipts leave, one transaction after another in commit order. `OutOfMemory` where
+    /// Ends the store, and returns what it holds: what its receipts leave, one transaction after another in commit order. `Memory` where
     /// an allocation fails.
     pub fn close(self) -> Result<Contents<V>, Memory>
         ensures number { IfOk result (λ contents. contents.store ≡ self.number) }

@@ -71,7 +71,7 @@ impl Tally {
             Refusal::Stale { .. } => self.stale = one_more(self.stale),
             Refusal::GateBusy { .. } => self.gate_busy = one_more(self.gate_busy),
             Refusal::Invalid { .. } => self.invalid = one_more(self.invalid),
-            Refusal::OutOfMemory => self.out_of_memory = one_more(self.out_of_memory),
+            Refusal::Memory => self.out_of_memory = one_more(self.out_of_memory),
             _ => self.others = one_more(self.others),
         }
         self

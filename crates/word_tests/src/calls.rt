@@ -8,18 +8,18 @@ pub enum RowError {
     /// It is outside the grammar.
     NoRow,
     /// A growth was refused.
-    OutOfMemory,
+    Memory,
 }
 
 impl From<AllocError> for RowError {
     fn from(_error: AllocError) -> RowError {
-        RowError::OutOfMemory
+        RowError::Memory
     }
 }
 
 impl<T: Drop> From<AllocFailed<T>> for RowError {
     fn from(_error: AllocFailed<T>) -> RowError {
-        RowError::OutOfMemory
+        RowError::Memory
     }
 }
 

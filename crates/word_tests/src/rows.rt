@@ -66,7 +66,7 @@ fn answer(text: &mut String, words: &mut Option<Words>, row: &str) -> Result<(),
     match answer_row(text, words, row) {
         Ok(()) => Ok(()),
         Err(RowError::NoRow) => text.push_str("not a row"),
-        Err(RowError::OutOfMemory) => Err(AllocError),
+        Err(RowError::Memory) => Err(AllocError),
     }
 }
 

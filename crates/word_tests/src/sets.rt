@@ -94,7 +94,7 @@ fn put_first<Role>(set: &mut AccessSet<Role>, call: Call<'_>) -> Result<(), SetR
 fn tell(text: &mut String, answer: Result<(), SetRefusal>) -> Result<(), RowError> {
     match answer {
         Ok(()) => text.push_str("done")?,
-        Err(SetRefusal::OutOfMemory) => return Err(RowError::OutOfMemory),
+        Err(SetRefusal::Memory) => return Err(RowError::Memory),
         Err(SetRefusal::TooLong) => text.push_str("TooLong")?,
     }
     Ok(())

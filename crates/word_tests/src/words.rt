@@ -60,7 +60,7 @@ pub fn open(text: &mut String, words: &mut Option<Words>, opening: &str) -> Resu
 
 fn tell(text: &mut String, answer: Answer) -> Result<(), RowError> {
     match answer {
-        Err(WordRefusal::OutOfMemory) => return Err(RowError::OutOfMemory),
+        Err(WordRefusal::Memory) => return Err(RowError::Memory),
         Err(refusal) => write!(text, "{refusal}")?,
         Ok(Some(answer)) => write!(text, "{answer:?}")?,
         Ok(None) => text.push_str("..")?,
@@ -205,7 +205,7 @@ fn refusal_of(call: Call<'_>) -> Result<WordRefusal, RowError> {
         "too_long" => Ok(WordRefusal::TooLong),
         "not_idle" => Ok(WordRefusal::NotIdle),
         "no_transaction" => Ok(WordRefusal::NoTransaction),
-        "memory" => Ok(WordRefusal::OutOfMemory),
+        "memory" => Ok(WordRefusal::Memory),
         _ => Err(RowError::NoRow),
     }
 }

@@ -17,7 +17,7 @@ use Rattle.seq_model.specs.Contents.{Contents}
 use Rattle.seq_model.specs.declared.event.Event.{Event}
 use Rattle.seq_model.specs.declared.event.Event.TheVariants.{Ask, Starve, Step}
 use Rattle.seq_model.specs.declared.event.Request.{Request}
-use Rattle.seq_model.specs.declared.refusal.Refusal.TheVariants.{OutOfMemory}
+use Rattle.seq_model.specs.declared.refusal.Refusal.TheVariants.{Memory as OutOfMemory}
 use Rattle.collection_machine.specs.Boosted.{is_actor}
 use Rattle.collection_machine.specs.Content.{has}
 use Rattle.replay_log.specs.declared.base.Base.{Base}

@@ -12,7 +12,7 @@ use Rattle.seq_model.specs.declared.event.Event.{Event}
 use Rattle.seq_model.specs.declared.held.Held.{Held}
 use Rattle.seq_model.specs.declared.record.Record.{Record}
 use Rattle.seq_model.specs.declared.refusal.Refusal.{Refusal}
-use Rattle.seq_model.specs.declared.refusal.Refusal.TheVariants.{OutOfMemory, TooLong}
+use Rattle.seq_model.specs.declared.refusal.Refusal.TheVariants.{Memory as OutOfMemory, TooLong}
 use Rattle.seq_model.specs.Calls.{IsWithinLimits}
 use Rattle.seq_model.specs.Contents.{Contents}
 use Rattle.seq_model.specs.Runs.{IsInCommitOrder, IsRun, after_run}

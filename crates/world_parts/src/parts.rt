@@ -53,7 +53,7 @@ impl<V: Value> Parts<V> {
         let laid = lay(alloc, state.words().len(), stripes, state.held());
         let table = Table::open(alloc, shape, state)?;
         let Ok(blocks) = laid else {
-            return Err(Refusal::OutOfMemory);
+            return Err(Refusal::Memory);
         };
         let actors = actors(alloc)?;
         Ok(Parts {
@@ -74,7 +74,7 @@ impl<V: Value> Parts<V> {
         match self.table.state(self.blocks.words() as usize) {
             Ok(state) => Ok(state),
             Err(refusal) => match refusal {
-                Refusal::OutOfMemory => Err(Memory),
+                Refusal::Memory => Err(Memory),
                 _ => unreachable!(),
             },
         }

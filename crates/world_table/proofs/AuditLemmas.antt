@@ -12,7 +12,7 @@ use Rattle.seq_model.specs.declared.call.Call.{Call}
 use Rattle.seq_model.specs.declared.call.Reply.{Reply}
 use Rattle.seq_model.specs.declared.record.Record.{Record}
 use Rattle.seq_model.specs.declared.auditing.AuditFault.{AuditFault}
-use Rattle.seq_model.specs.declared.auditing.AuditFault.TheVariants.{DoubleNumber, WrongReply, WrongState, OutOfMemory}
+use Rattle.seq_model.specs.declared.auditing.AuditFault.TheVariants.{DoubleNumber, WrongReply, WrongState, Memory as OutOfMemory}
 use Rattle.seq_model.specs.Audit.{IsAuditFault, IsFirstWrong, IsFirstWrongAt, in_run_order, writers_at}
 use Rattle.seq_model.specs.Contents.{Contents}
 use Rattle.seq_model.specs.Runs.{IsInCommitOrder, IsLegal, IsRun, NoneComesBefore, after_calls, after_run, comes_before, insert_record}

@@ -9,7 +9,7 @@ use Rattle.std.proofs.lemmas.List.{ext_get_or, get_or-take, length-take-le}
 use Rattle.std.proofs.lemmas.List.FromFn.{get_or-map-range_with_len, length-map-range_with_len}
 use Rattle.seq_model.specs.declared.held.Held.{Held}
 use Rattle.seq_model.specs.declared.refusal.Refusal.{Refusal}
-use Rattle.seq_model.specs.declared.refusal.Refusal.TheVariants.{OutOfMemory, TooLong}
+use Rattle.seq_model.specs.declared.refusal.Refusal.TheVariants.{Memory as OutOfMemory, TooLong}
 use Rattle.seq_model.specs.Calls.{IsWithinLimits}
 use Rattle.seq_model.specs.Contents.{Contents}
 use Rattle.conflict.specs.Footprints.{all_below}

@@ -24,11 +24,11 @@ pub fn audit_records<V: Value>(
     ensures ok { OnOk result (IsRunBetween opening.now (without_actors records.now) last.now) }
     ensures fault { IfErr result (IsAuditFault opening.now (without_actors records.now) last.now) }
     ensures none { IsInCommitOrder records.now → IsRun records.now opening.now → after_run records.now opening.now ≡ last.now →
-        IfErr result (λ fault. fault ≡ AuditFault.OutOfMemory) }
+        IfErr result (λ fault. fault ≡ AuditFault.Memory) }
     ensures reached { (blocks : List Block) (clock : ℕ) (events : List (Event V)) → HaveStripes blocks → Suit blocks opening.now.held →
         let w = run (opened blocks clock opening.now.words opening.now.held) events in
         ((a : ℕ) → is_half_done (w.seats a).stage ≡ false) → records.now ≡ w.records → last.now ≡ state w →
-        IfErr result (λ fault. fault ≡ AuditFault.OutOfMemory) }
+        IfErr result (λ fault. fault ≡ AuditFault.Memory) }
 {
     let copies = copies_of(alloc, records)?;
     audit(alloc, opening, copies.as_slice(), last)

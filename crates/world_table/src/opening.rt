@@ -59,7 +59,7 @@ fn open_base<V: Value>(alloc: Global, stripes: u32, held: Held<V>) -> Result<Bas
 {
     match Base::open(alloc, stripes, held) {
         Ok(base) => Ok(base),
-        Err(Refusal::OutOfMemory) => Err(Memory),
+        Err(Refusal::Memory) => Err(Memory),
         Err(_) => unreachable!(),
     }
 }

@@ -102,11 +102,11 @@ impl<V: Value> Table<V> {
         ensures shows { IfOk result (λ shown. (w : World V) → HasTable self.now w → HasShape self.now w.words w.blocks →
             HaveStripes w.blocks → w.words ≡ words → state w ≡ shown) }
         ensures within { IsOk result → All IsWithinLimits (held_in self.now) }
-        ensures refused { IfErr result (λ refusal. (refusal ≡ Refusal.OutOfMemory)
+        ensures refused { IfErr result (λ refusal. (refusal ≡ Refusal.Memory)
             ⊎ ((refusal ≡ Refusal.TooLong) × ¬ All IsWithinLimits (held_in self.now))) }
     {
         let Ok(parts) = self.parts(words) else {
-            return Err(Refusal::OutOfMemory);
+            return Err(Refusal::Memory);
         };
         State::new(parts.0, parts.1)
     }

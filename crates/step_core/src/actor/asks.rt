@@ -7,7 +7,7 @@ ghost use Rattle.step_core.specs.Phases.{phase_of, opens, takes_memory, if_full,
 ghost use Rattle.tx_sets.specs.Entries.{lookup};
 ghost use Rattle.step_core.specs.Shown.{actor_of, asked, snapshot_of, IsAllowed, Replies};
 ghost use Rattle.step_core.specs.Sound.{Fits, IsWithin, owed, due};
-ghost use Rattle.step_core.specs.declared.answer.WordRefusal.TheVariants.{OutOfMemory};
+ghost use Rattle.step_core.specs.declared.answer.WordRefusal.TheVariants.{Memory as OutOfMemory};
 
 use crate::actor::{Actor, Place};
 use crate::answer::{WordAnswer, WordRefusal, WordRequest};
@@ -192,7 +192,7 @@ impl Actor {
         ensures due { due self.new.place ≤ due self.old.place }
     {
         if let Err(_) = self.calls.reserve(1) {
-            return Err(WordRefusal::OutOfMemory);
+            return Err(WordRefusal::Memory);
         }
         if let Some(value) = self.writes.find(location) {
             self.calls.push_reserved(WordCall::Read(location, value));
@@ -203,7 +203,7 @@ impl Actor {
             return Ok(Some(WordAnswer::Number(value)));
         }
         if let Err(_) = reserve_read(&mut self.reads, self.declared) {
-            return Err(WordRefusal::OutOfMemory);
+            return Err(WordRefusal::Memory);
         }
         self.place = Place::Look(location);
         Ok(None)
@@ -223,10 +223,10 @@ impl Actor {
         ensures due { due self.new.place ≤ due self.old.place }
     {
         if let Err(_) = self.calls.reserve(1) {
-            return Err(WordRefusal::OutOfMemory);
+            return Err(WordRefusal::Memory);
         }
         if let Err(_) = self.writes.put(location, value) {
-            return Err(WordRefusal::OutOfMemory);
+            return Err(WordRefusal::Memory);
         }
         self.calls.push_reserved(WordCall::Write(location, value));
         Ok(Some(WordAnswer::Done))
@@ -244,7 +244,7 @@ impl Actor {
         ensures due { due self.new.place ≤ due self.old.place }
     {
         if let Err(_) = self.held.reserve(self.writes.len()) {
-            return Err(WordRefusal::OutOfMemory);
+            return Err(WordRefusal::Memory);
         }
         self.place = Place::Lock(0);
         Ok(None)
@@ -263,7 +263,7 @@ impl Actor {
     {
         self.ready.clear();
         if let Err(_) = self.ready.extend_from_slice(&self.calls) {
-            return Err(WordRefusal::OutOfMemory);
+            return Err(WordRefusal::Memory);
         }
         self.place = Place::First;
         Ok(None)
@@ -282,7 +282,7 @@ impl Actor {
     {
         self.ready.clear();
         if let Err(_) = self.ready.extend_from_slice(&self.calls) {
-            return Err(WordRefusal::OutOfMemory);
+            return Err(WordRefusal::Memory);
         }
         self.place = Place::Close;
         Ok(None)

@@ -43,7 +43,7 @@ pub fn race<R: Threads + Wait + Sync>(
     };
     match lists {
         Ok(lists) => race_lists(rt, alloc, ration, table, seat, place, lists, receipts),
-        Err(_) => (seat, Err(Refusal::OutOfMemory)),
+        Err(_) => (seat, Err(Refusal::Memory)),
     }
 }
 
@@ -127,6 +127,6 @@ fn go_on(
         (false, 0) => Ok(false),
         (true, 1) => Ok(true),
         (true, 0) => Err(Refusal::NotIdle),
-        _ => Err(Refusal::OutOfMemory),
+        _ => Err(Refusal::Memory),
     }
 }

@@ -65,7 +65,7 @@ fn keep(
 ) -> Result<(), Refusal> {
     match committed {
         Ok(receipt) => receipts.push(receipt)?,
-        Err(Refusal::OutOfMemory) if was_refused => return Ok(()),
+        Err(Refusal::Memory) if was_refused => return Ok(()),
         Err(refusal) => return Err(refusal),
     }
     if was_refused {

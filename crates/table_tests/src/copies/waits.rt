@@ -73,7 +73,7 @@ impl Pause for Ration {
     }
 
     fn after_refusal(&self, _worker: u64, cause: Refusal) {
-        if matches!(cause, Refusal::OutOfMemory) {
+        if matches!(cause, Refusal::Memory) {
             self.steps().leave();
         }
         self.steps().end_step();
@@ -95,7 +95,7 @@ pub fn hold<R: Threads + Wait + Sync>(
 {
     match lists_of(*text.allocator(), ration) {
         Ok(lists) => run(rt, text, ration, table, seat, lists, receipts),
-        Err(_) => (seat, Err(Refusal::OutOfMemory)),
+        Err(_) => (seat, Err(Refusal::Memory)),
     }
 }
 
@@ -167,7 +167,7 @@ fn hear(
     printed?;
     print_all_missed(text, missed.as_slice())?;
     if memory_missed(missed.as_slice()) > 0 {
-        return Err(Refusal::OutOfMemory);
+        return Err(Refusal::Memory);
     }
     Ok(())
 }

@@ -68,7 +68,7 @@ fn put_all(world: &mut World<Rationed>, ration: &Ration, place: u64) -> Result<b
     let was_refused = ration.lift();
     match committed {
         Ok(()) if !was_refused => Ok(false),
-        Err(Refusal::OutOfMemory) if was_refused => has_failed(world),
+        Err(Refusal::Memory) if was_refused => has_failed(world),
         Err(refusal) => Err(refusal),
         Ok(()) => Err(Refusal::NotIdle),
     }

@@ -44,7 +44,7 @@ fn copy_and_make(page: &mut Page, table: &TxTable<u64>, seat: &mut TxSeat<u64>, 
 {
     match call.try_copy() {
         Ok(call) => make(page, table, seat, call),
-        Err(_) => page.fail(Refusal::OutOfMemory),
+        Err(_) => page.fail(Refusal::Memory),
     }
 }
 

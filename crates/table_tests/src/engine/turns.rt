@@ -126,7 +126,7 @@ fn halves_at_once<R: Threads + Sync>(
 }
 
 fn leave_wanting(page: &mut Page, meeting: &Meeting) {
-    page.fail(Refusal::OutOfMemory);
+    page.fail(Refusal::Memory);
     meeting.leave();
 }
 

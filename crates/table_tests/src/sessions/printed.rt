@@ -57,7 +57,7 @@ fn print_bytes(text: &mut String, bytes: &[u8]) -> Result<(), Refusal> {
 /// Whether a session was refused memory.
 pub fn is_refused(report: &Report<Entry>) -> bool {
     for (_, _, cause) in report.missed.as_slice() {
-        if matches!(cause, LastAbort::Refused(Refusal::OutOfMemory)) {
+        if matches!(cause, LastAbort::Refused(Refusal::Memory)) {
             return true;
         }
     }

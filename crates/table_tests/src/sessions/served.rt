@@ -59,7 +59,7 @@ fn serve_tables<R: Threads + Wait + Sync>(
         Err(_) => {
             drop(tables);
             drop(actions);
-            Err(Refusal::OutOfMemory)
+            Err(Refusal::Memory)
         }
     }
 }
@@ -101,7 +101,7 @@ fn serve_actions<R: Threads + Wait + Sync>(
         Ok(lists) => serve_lists(rt, alloc, tables, options, lists, meeting),
         Err(_) => {
             drop(tables);
-            Err(Refusal::OutOfMemory)
+            Err(Refusal::Memory)
         }
     }
 }
@@ -162,7 +162,7 @@ fn end(
 ) -> Result<(), Refusal> {
     audited?;
     if is_wanted {
-        return Err(Refusal::OutOfMemory);
+        return Err(Refusal::Memory);
     }
     printed?;
     if is_held_in_vain {
@@ -184,7 +184,7 @@ fn audit_report(
     let audited = if have_room(&mut all, receipts) {
         audit_receipts(alloc, opening, all.as_slice(), last)
     } else {
-        Err(Refusal::OutOfMemory)
+        Err(Refusal::Memory)
     };
     drop(all);
     audited

@@ -59,7 +59,7 @@ pub fn audit_receipts<V: Value>(
 ) -> Result<(), Refusal> {
     match audit(alloc, opening, receipts, last) {
         Ok(()) => Ok(()),
-        Err(AuditFault::OutOfMemory) => Err(Refusal::OutOfMemory),
+        Err(AuditFault::Memory) => Err(Refusal::Memory),
         Err(_) => Err(Refusal::NotIdle),
     }
 }

@@ -131,7 +131,7 @@ impl Pause for Meeting {
 
     // Such a worker may never stand where others wait for it.
     fn after_refusal(&self, _worker: u64, cause: Refusal) {
-        if matches!(cause, Refusal::OutOfMemory) {
+        if matches!(cause, Refusal::Memory) {
             self.leave();
         }
     }

@@ -35,13 +35,13 @@ impl Page {
 
     /// Whether memory was wanted, and nothing worse has happened.
     pub fn wants_memory(&self) -> bool {
-        matches!(self.fault, Some(Refusal::OutOfMemory))
+        matches!(self.fault, Some(Refusal::Memory))
     }
 
     /// The run of this table fails. A want of memory comes behind any other fault.
     pub fn fail(&mut self, refusal: Refusal) {
         match (self.fault, refusal) {
-            (Some(_), Refusal::OutOfMemory) => {}
+            (Some(_), Refusal::Memory) => {}
             _ => self.fault = Some(refusal),
         }
     }
@@ -49,7 +49,7 @@ impl Page {
     /// What could not be printed is a want of memory.
     pub fn note(&mut self, is_printed: bool) {
         if !is_printed {
-            self.fail(Refusal::OutOfMemory);
+            self.fail(Refusal::Memory);
         }
     }
 
@@ -71,7 +71,7 @@ impl Page {
 
     /// A refusal is told, but for a want of memory.
     pub fn refuse(&mut self, refusal: Refusal) {
-        if matches!(refusal, Refusal::OutOfMemory) {
+        if matches!(refusal, Refusal::Memory) {
             return self.fail(refusal);
         }
         self.begin_part();

@@ -9,7 +9,7 @@ use workers::{LastAbort, Report};
 pub fn memory_missed(missed: &[(u64, u64, LastAbort)]) -> u64 {
     let mut count = 0u64;
     for (_, _, cause) in missed {
-        if matches!(cause, LastAbort::Refused(Refusal::OutOfMemory)) {
+        if matches!(cause, LastAbort::Refused(Refusal::Memory)) {
             count = count.saturating_add(1);
         }
     }

@@ -85,7 +85,7 @@ fn hear(page: &mut Page, report: Result<Report<u64>, Memory>, limits: Limits, wa
     match report {
         Ok(report) => hear_report(page, report, limits, wants),
         Err(_) => {
-            page.fail(Refusal::OutOfMemory);
+            page.fail(Refusal::Memory);
             true
         }
     }
@@ -96,7 +96,7 @@ fn hear_report(page: &mut Page, report: Report<u64>, limits: Limits, wants: u64)
     page.note(is_printed);
     let refused = memory_missed(report.missed.as_slice());
     if refused != wants {
-        page.fail(Refusal::OutOfMemory);
+        page.fail(Refusal::Memory);
     }
     let Report { receipts, missed } = report;
     drop(missed);

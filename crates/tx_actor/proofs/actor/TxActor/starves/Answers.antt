@@ -42,7 +42,7 @@ returns-in-Copying-clause-does g c =
     does_at_stage starve_at c.args.self.now c.starves_copying.new.self c.starves_copying.result (stage.Copying c.in-Copying.asked)
     (sym c.replace-stage.ensures.value ∙ c.in-Copying.is)
     (λ a w s. subst
-    (λ (k : Asked g.row.V.Denot). let f = gives_up w a (because (seat_of c.args.self.now) refusal.OutOfMemory) (k.collection ∷ []) in
+    (λ (k : Asked g.row.V.Denot). let f = gives_up w a (because (seat_of c.args.self.now) refusal.Memory) (k.collection ∷ []) in
     Runs a c.starves_copying.new.self f.0 × (notice_of a c.starves_copying.result ≡ f.1)) c.get.ensures
     (c.starves_copying.ensures.does a w s.1))
 

@@ -1,7 +1,7 @@
 use Rattle.std.proofs.lemmas.List.Elements.{All-take}
 use Rattle.std.specs.List.{All}
 use Rattle.std.proofs.Common.{sym, ap, ◌∙◌, refl, subst, ℕ, ◌<◌}
-use Rattle.seq_model.specs.declared.refusal.Refusal.TheVariants.{OutOfMemory}
+use Rattle.seq_model.specs.declared.refusal.Refusal.TheVariants.{Memory as OutOfMemory}
 use Rattle.replay_log.specs.Worlds.{because, gives_up}
 use Rattle.tx_actor.specs.Running.{at, seat_of, stage_of}
 use Rattle.tx_actor.specs.declared.actor.Stage.TheVariants as stage

@@ -1,5 +1,5 @@
 use Rattle.std.proofs.Common.{refl}
-use Rattle.seq_model.specs.declared.refusal.Refusal.TheVariants.{OutOfMemory}
+use Rattle.seq_model.specs.declared.refusal.Refusal.TheVariants.{Memory as OutOfMemory}
 use Rattle.replay_log.specs.Worlds.{because}
 use Rattle.tx_actor.specs.Running.{at, seat_of, stage_of}
 use Rattle.tx_actor.specs.declared.actor.Stage.TheVariants as stage

@@ -13,5 +13,5 @@ state-requires g c = subst (λ (n : ℕ). n ≤ length c.args.self.now.table.cel
 
 pub unreachable-requires : goal.unreachable-requires
 unreachable-requires g c =
-    never_too_long c.bases_are_within_limits.ensures c.args.self.now c.in-Err.refusal c.requires c.in_default.not-OutOfMemory
+    never_too_long c.bases_are_within_limits.ensures c.args.self.now c.in-Err.refusal c.requires c.in_default.not-Memory
     c.in-Err.ensures.refused
