@@ -33,7 +33,7 @@ use Rattle.served_runs.specs.declared.file.TheConstants.{TRIES}
 use Rattle.served_runs.specs.Drawn.{AreDrawn, IsDrawnRun}
 use Rattle.served_runs.specs.Lines.{AreLinesOf, AreToldOf}
 use Rattle.session_output.specs.declared.output.SessionRun.{SessionRun}
-use Rattle.session_output.specs.declared.TheConstants.{STRIPES}
+use Rattle.session_output.specs.declared.output.TheConstants.{STRIPES}
 use Rattle.served_runs.specs.Runs.{IsInspected, IsServedRun, IsWantOfMemory, receipts_of}
 use Rattle.served_runs.specs.Unread.{AreAllOwn, AreAllUnread, AreOwn, IsTold, IsToldRun}
 use Rattle.served_runs.proofs.LineLemmas.{lines_at}

@@ -11,7 +11,7 @@ use Rattle.session_script.specs.Sessions.{IsSessionText}
 use Rattle.session_output.specs.declared.fault.RunFault.{RunFault}
 use Rattle.session_output.specs.declared.fault.RunFault.TheVariants.{Refused}
 use Rattle.session_output.specs.declared.output.SessionRun.{SessionRun}
-use Rattle.session_output.specs.declared.TheConstants.{STRIPES}
+use Rattle.session_output.specs.declared.output.TheConstants.{STRIPES}
 use Rattle.session_output.specs.Findings.{IsSound}
 use Rattle.session_output.specs.Prints.{run_text}
 use Rattle.serving.specs.declared.served.Served.{Served}

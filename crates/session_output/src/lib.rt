@@ -10,7 +10,4 @@ mod output;
 
 pub use fault::RunFault;
 pub use inspection::inspect;
-pub use output::{SessionRun, text_of, with_ending};
-
-/// The stripes of each collection on which sessions of a file, or drawn ones, run.
-pub const STRIPES: u32 = 64;
+pub use output::{STRIPES, SessionRun, text_of, with_ending};

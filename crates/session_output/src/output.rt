@@ -7,6 +7,9 @@ use session_script::{Line, print_sessions};
 use std::alloc::Global;
 use vac_model::Tables;
 
+/// The stripes of each collection on which sessions of a file, or drawn ones, run.
+pub const STRIPES: u32 = 64;
+
 /// What has come of sessions.
 #[derive(Drop)]
 pub struct SessionRun {
